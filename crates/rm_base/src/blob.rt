@@ -1,0 +1,72 @@
+ghost use Rattle.std.specs.Prelude.{◌≡◌, ℕ, [], ◌++◌, List, length, IsTrue, ◌↔◌, IfOk, OnOk, OnErr};
+
+use crate::want::Memory;
+use std::alloc::Global;
+use std::marker::Model;
+
+/// Bytes of any kind.
+#[derive(Debug, Drop)]
+pub struct Blob {
+    bytes: Vec<u8>,
+}
+
+impl Model for Blob {
+    ghost Value = { List ℕ };
+
+    ghost view = { λ b. b.bytes.items };
+}
+
+impl Blob {
+    /// No bytes. It takes no memory.
+    pub fn new(alloc: Global) -> Self
+        ensures { result ≡ [] }
+    {
+        Blob {
+            bytes: Vec::new(alloc),
+        }
+    }
+
+    pub fn from_slice(alloc: Global, bytes: &[u8]) -> Result<Self, Memory>
+        ensures { IfOk result (λ blob. blob ≡ bytes.now) }
+    {
+        Ok(Blob {
+            bytes: Vec::from_slice(alloc, bytes)?,
+        })
+    }
+
+    pub fn as_slice(&self) -> &[u8]
+        ensures { result.now ≡ self.now }
+    {
+        self.bytes.as_slice()
+    }
+
+    pub fn len(&self) -> usize
+        ensures { result ≡ length self.now }
+    {
+        self.bytes.len()
+    }
+
+    pub fn is_empty(&self) -> bool
+        ensures { IsTrue result ↔ (self.now ≡ []) }
+    {
+        self.bytes.is_empty()
+    }
+
+    /// The same bytes again.
+    pub fn copy(&self) -> Result<Self, Memory>
+        ensures { IfOk result (λ blob. blob ≡ self.now) }
+    {
+        Ok(Blob {
+            bytes: self.bytes.clone()?,
+        })
+    }
+
+    /// Appends bytes.
+    pub fn push_all(&mut self, bytes: &[u8]) -> Result<(), Memory>
+        ensures ok { OnOk result (self.new ≡ self.old ++ bytes.now) }
+        ensures err { OnErr result (self.new ≡ self.old) }
+    {
+        self.bytes.extend_from_slice(bytes)?;
+        Ok(())
+    }
+}
