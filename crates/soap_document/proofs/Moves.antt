@@ -1,0 +1,100 @@
+-- How the reader moves over bytes: from a state at a place to one at the place behind them.
+use Rattle.std.proofs.Common.{◌≡◌, ℕ, ◌+◌, List, [], ◌∷◌, ◌++◌, Bool, true, false, cond, length, refl, sym, ap, ◌∙◌, arith, append_assoc, append-nil, length-append}
+use Rattle.std.specs.List.{AllByRecursion}
+use Rattle.soap_document.specs.Tree.{Attribute}
+use Rattle.soap_document.specs.Machine.{Mode, chars, less, referring, marking, commenting, quoting, declaring, tagging, naming, named, valuing, value_run, value_referring, slashed, ending, Frame, State, stops, step, run}
+
+-- the places of two runs of bytes, one behind the other
+pub place_append : (at : ℕ) (b d : List ℕ) → at + length b + length d ≡ at + length (b ++ d)
+place_append at b d = omega (arith, length-append b d)
+
+pub place_one : (at c : ℕ) (d : List ℕ) → at + 1 + length d ≡ at + length (c ∷ d)
+place_one at c d = omega arith
+
+pub place_nil : (at : ℕ) → at ≡ at + length {A = ℕ} []
+place_nil at = omega arith
+
+abbrev pub At : Type 0
+At = ℕ → State
+
+-- over the bytes from a place on, the reader goes from one state to the other
+abbrev pub Moves : ℕ → List ℕ → At → At → Type 0
+Moves at b from to = (rest : List ℕ) → run (from at) (b ++ rest) ≡ run (to (at + length b)) rest
+
+pub stay : (at : ℕ) (s : At) → Moves at [] s s
+stay at s rest = ap (λ p. run (s p) rest) (place_nil at)
+
+pub then : (at : ℕ) (b d : List ℕ) (s t u : At) → Moves at b s t → Moves (at + length b) d t u → Moves at (b ++ d) s u
+then at b d s t u m n rest =
+    ap (run (s at)) (append_assoc b d rest) ∙ m (d ++ rest) ∙ n rest ∙ ap (λ p. run (u p) rest) (place_append at b d)
+
+pub byte : (at c : ℕ) (d : List ℕ) (s t u : At) → step (s at) c ≡ t (at + 1) → Moves (at + 1) d t u → Moves at (c ∷ d) s u
+byte at c d s t u m n rest =
+    ap (λ x. run x (d ++ rest)) m ∙ n rest ∙ ap (λ p. run (u p) rest) (place_one at c d)
+
+pub one : (at c : ℕ) (s t : At) → step (s at) c ≡ t (at + 1) → Moves at (c ∷ []) s t
+one at c s t m rest = ap (λ x. run x rest) m
+
+-- the same bytes, grouped otherwise
+pub regroup : (at : ℕ) (b d : List ℕ) (s t : At) → b ≡ d → Moves at b s t → Moves at d s t
+regroup at b d s t e m = rw e at m
+
+-- no byte ends the token
+abbrev pub NoStops : Mode → ℕ → List ℕ → Type 0
+NoStops mode quote bytes = AllByRecursion (λ c. stops mode quote c ≡ false) bytes
+
+abbrev pub at_place : State → At
+at_place s at = record s { at = at }
+
+abbrev pub longer : State → List ℕ → State
+longer s bytes = record s { token = s.token ++ bytes }
+
+kept_step : (s : State) (c : ℕ) → stops s.mode s.quote c ≡ false → step s c ≡ record s { at = s.at + 1; token = s.token ++ c ∷ [] }
+kept_step s c e = rw e
+
+pub retarget : (at : ℕ) (b : List ℕ) (s t u : At) → ((p : ℕ) → t p ≡ u p) → Moves at b s t → Moves at b s u
+retarget at b s t u e m rest = m rest ∙ ap (λ x. run x rest) (e (at + length b))
+
+-- bytes that end no token lengthen it
+pub kept : (s : State) (bytes : List ℕ) (at : ℕ) → NoStops s.mode s.quote bytes → Moves at bytes (at_place s) (at_place (longer s bytes))
+kept s [] at h = retarget at [] (at_place s) (at_place s) (at_place (longer s [])) (λ p. ap (λ t. record s { at = p; token = t }) (sym (append-nil s.token))) (stay at (at_place s))
+kept s (c ∷ bytes) at h =
+    let next = longer s (c ∷ []) in
+    byte at c bytes (at_place s) (at_place next) (at_place (longer s (c ∷ bytes))) (kept_step (at_place s at) c h.0)
+    (retarget (at + 1) bytes (at_place next) (at_place (longer next bytes)) (at_place (longer s (c ∷ bytes)))
+      (λ p. ap (λ t. record s { at = p; token = t }) (append_assoc s.token (c ∷ []) bytes)) (kept next bytes (at + 1) h.1))
+
+-- ---- states
+
+-- outside of tags
+abbrev pub plain_at : Mode → Bool → ℕ → Frame → List Frame → List ℕ → List ℕ → At
+plain_at mode fresh mark top below text token at = record {
+    mode = mode; fresh = fresh; at = at; mark = mark; token = token; text = text; name = []; attributes = [];
+    attribute = []; value = []; quote = 0; top = top; below = below }
+
+abbrev pub chars_at : Frame → List Frame → List ℕ → List ℕ → At
+chars_at top below text token = plain_at chars false 0 top below text token
+
+abbrev pub less_at : Bool → ℕ → Frame → List Frame → List ℕ → List ℕ → At
+less_at fresh mark top below text token = plain_at less fresh mark top below text token
+
+-- in a start tag
+pub record Tag : Type 0 where
+  pub fresh : Bool
+  pub mark : ℕ
+  pub top : Frame
+  pub below : List Frame
+  pub name : List ℕ
+
+abbrev pub tag_at : Mode → Tag → List Attribute → List ℕ → List ℕ → ℕ → List ℕ → At
+tag_at mode tag attributes attribute value quote token at = record {
+    mode = mode; fresh = tag.fresh; at = at; mark = tag.mark; token = token; text = []; name = tag.name;
+    attributes = attributes; attribute = attribute; value = value; quote = quote; top = tag.top; below = tag.below }
+
+-- where an attribute may follow, with white space before it or not
+abbrev pub between : Bool → Mode
+between false = tagging
+between true = naming
+
+abbrev pub between_at : Bool → Tag → List Attribute → At
+between_at spaced tag attributes = tag_at (between spaced) tag attributes [] [] 0 []

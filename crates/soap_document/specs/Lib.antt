@@ -1,0 +1,5 @@
+pub mod Declaration
+pub mod Grammar
+pub mod Machine
+pub mod Tokens
+pub mod Tree

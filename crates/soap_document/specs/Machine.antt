@@ -1,0 +1,287 @@
+-- The reader of documents, a byte at a time. It says how a document is read, and nothing of what a document is: that stands
+-- in Grammar. Bytes that end a token have their meaning, and all others only lengthen it.
+use Rattle.std.specs.Prelude.{ℕ, ◌+◌, List, [], ◌∷◌, ◌++◌, Bool, true, false, not, ◌&&◌, ◌||◌, ◌==◌, nat_lt, if◌then◌else◌, Option, Some, None, codes, length, encode_utf8}
+use Rattle.std.specs.Str.{bytes_eq}
+use Rattle.xml_chars.specs.Classes.{is_space}
+use Rattle.soap_lex.specs.Text.{with_line_ends}
+use Rattle.soap_lex.specs.Value.{with_spaces}
+use Rattle.soap_document.specs.Tree.{Attribute, Element, element, Parts, none, text, child, onto}
+use Rattle.soap_document.specs.Grammar.{max_depth}
+use Rattle.soap_document.specs.Tokens.{is_nil, is_white, is_qname, is_char_data, is_cdata, is_comment, is_plain, reference}
+use Rattle.soap_document.specs.Declaration.{is_declaration}
+
+pub data Mode : Type 0 where
+  -- before the first < or white space; in an XML declaration
+  beginning declaring : Mode
+  -- in text; in a reference there; just after a <, or in a name there; just after <!; in a comment, in a CDATA section
+  chars referring less marking commenting quoting : Mode
+  -- in a start tag: where an attribute or white space may follow; in an attribute's name; behind one; behind =; in a
+  -- value; in a reference there; behind /
+  tagging naming named valuing value_run value_referring slashed : Mode
+  -- in an end tag; the bytes are no document
+  ending refused : Mode
+
+-- an element whose end tag has not come, with its parts so far; the lowest is the document itself, without a name
+pub record Frame : Type 0 where
+  pub name : List ℕ
+  pub attributes : List Attribute
+  pub start : ℕ
+  pub parts : Parts
+
+pub record State : Type 0 where
+  pub mode : Mode
+  -- whether no text, comment or tag was read
+  pub fresh : Bool
+  -- how many bytes were read; where the < of the markup stands
+  pub at : ℕ
+  pub mark : ℕ
+  -- the bytes of the token that is not ended, the text so far, and what was read of a start tag
+  pub token : List ℕ
+  pub text : List ℕ
+  pub name : List ℕ
+  pub attributes : List Attribute
+  pub attribute : List ℕ
+  pub value : List ℕ
+  pub quote : ℕ
+  -- the elements that are open, the innermost first
+  pub top : Frame
+  pub below : List Frame
+
+abbrev pub join : Parts → Parts → Parts
+join none parts = parts
+join (text bytes more) parts = text bytes (join more parts)
+join (child first more) parts = child first (join more parts)
+
+abbrev pub with_parts : Frame → Parts → Frame
+with_parts frame more = record frame { parts = join frame.parts more }
+
+abbrev pub refuse : State → State
+refuse s = record s { mode = refused; token = [] }
+
+-- back in text
+abbrev pub calm : State → State
+calm s = record s { mode = chars; fresh = false; mark = 0; token = [] }
+
+-- the text so far becomes a part
+abbrev pub settle : State → State
+settle s = record s { top = with_parts s.top (onto s.text none); text = [] }
+
+abbrev pub is_name_end : ℕ → Bool
+is_name_end c = is_space c || ((c == 62) || ((c == 47) || (c == 61)))
+
+-- whether a byte ends the token
+abbrev pub stops : Mode → ℕ → ℕ → Bool
+stops beginning quote c = is_space c || (c == 60)
+stops declaring quote c = c == 62
+stops chars quote c = (c == 60) || (c == 38)
+stops referring quote c = c == 59
+stops less quote c = is_name_end c || ((c == 33) || (c == 63))
+stops marking quote c = (c == 45) || (c == 91)
+stops commenting quote c = c == 62
+stops quoting quote c = c == 62
+stops tagging quote c = true
+stops naming quote c = is_name_end c
+stops named quote c = true
+stops valuing quote c = true
+stops value_run quote c = (c == quote) || (c == 38)
+stops value_referring quote c = c == 59
+stops slashed quote c = true
+stops ending quote c = c == 62
+stops refused quote c = true
+
+-- the front of the bytes, where they end in the word
+abbrev pub without : List ℕ → List ℕ → Option (List ℕ)
+without word [] = if is_nil word then Some [] else None
+without word (b ∷ bytes) = if bytes_eq word (b ∷ bytes) then Some [] else
+    elim (without word bytes) [ None ↦ None | Some front ↦ Some (b ∷ front) ]
+
+abbrev pub is_mark : List ℕ → Bool
+is_mark bytes = is_nil bytes || bytes_eq bytes (0xEF ∷ 0xBB ∷ 0xBF ∷ [])
+
+abbrev pub at_beginning : State → ℕ → State
+at_beginning s c =
+    if is_mark s.token then (if c == 60 then record s { mode = less; mark = s.at; token = [] } else calm s) else refuse s
+
+abbrev pub at_declaring : State → State
+at_declaring s = if is_declaration s.token then calm s else refuse s
+
+-- text ends here: outside the root there is only white space
+abbrev pub at_chars : List Frame → State → ℕ → State
+at_chars [] s c =
+    if is_white s.token && (c == 60) then record s { mode = less; mark = s.at; token = [] } else refuse s
+at_chars (frame ∷ frames) s c =
+    if is_char_data s.token then
+      (if c == 60 then record s { mode = less; mark = s.at; token = []; text = s.text ++ with_line_ends s.token }
+        else record s { mode = referring; token = 38 ∷ []; text = s.text ++ with_line_ends s.token })
+    else refuse s
+
+abbrev pub at_referring : State → Option ℕ → State
+at_referring s None = refuse s
+at_referring s (Some c) = record s { mode = chars; token = []; text = s.text ++ encode_utf8 c }
+
+abbrev pub at_marking : State → List ℕ → State
+at_marking s token =
+    if bytes_eq token (codes "-") || bytes_eq token (codes "[") then record s { token = token }
+    else if bytes_eq token (codes "--") then record s { mode = commenting; token = [] }
+    else if bytes_eq token (codes "[CDATA[") && not (is_nil s.below) then record s { mode = quoting; token = [] }
+    else refuse s
+
+abbrev pub at_commenting : State → Option (List ℕ) → State
+at_commenting s None = record s { token = s.token ++ 62 ∷ [] }
+at_commenting s (Some comment) = if is_comment comment then calm s else refuse s
+
+abbrev pub at_quoting : State → Option (List ℕ) → State
+at_quoting s None = record s { token = s.token ++ 62 ∷ [] }
+at_quoting s (Some bytes) =
+    if is_cdata bytes then calm (record s { text = s.text ++ with_line_ends bytes }) else refuse s
+
+-- the start tag ends: an element is open
+abbrev pub opened : State → State
+opened s = calm (record s {
+    name = []; attributes = [];
+    top = record { name = s.name; attributes = s.attributes; start = s.at + 1; parts = none };
+    below = s.top ∷ s.below })
+
+-- the empty-element tag ends
+abbrev pub emptied : State → State
+emptied s = calm (record s {
+    name = []; attributes = [];
+    top = with_parts s.top (child (element s.name s.attributes (s.at + 1) (s.at + 1) none) none) })
+
+-- within a start tag, where no token is begun
+abbrev pub at_tagging : State → ℕ → State
+at_tagging s c =
+    if is_space c then record s { mode = naming; token = [] }
+    else if c == 62 then opened s
+    else if c == 47 then record s { mode = slashed; token = [] }
+    else refuse s
+
+-- whether an element may begin
+abbrev pub has_room : List Frame → Parts → Bool
+has_room [] none = true
+has_room [] (text bytes parts) = false
+has_room [] (child first parts) = false
+has_room (frame ∷ frames) parts = nat_lt (length (frame ∷ frames)) max_depth
+
+abbrev pub at_less : State → ℕ → State
+at_less s c =
+    if is_nil s.token then
+      (if (c == 47) && not (is_nil s.below) then record (settle s) { mode = ending }
+        else if c == 33 then record s { mode = marking }
+        else if (c == 63) && s.fresh then record s { mode = declaring }
+        else refuse s)
+    else if is_qname s.token && has_room s.below s.top.parts then
+      at_tagging (record (settle s) { name = s.token }) c
+    else refuse s
+
+abbrev pub at_named : State → ℕ → State
+at_named s c =
+    if is_space c then record s { mode = named } else if c == 61 then record s { mode = valuing } else refuse s
+
+abbrev pub at_naming : State → ℕ → State
+at_naming s c =
+    if is_nil s.token then at_tagging s c
+    else if is_qname s.token then at_named (record s { attribute = s.token; token = [] }) c
+    else refuse s
+
+abbrev pub at_valuing : State → ℕ → State
+at_valuing s c =
+    if is_space c then s
+    else if (c == 34) || (c == 39) then record s { mode = value_run; quote = c }
+    else refuse s
+
+abbrev pub at_value_run : State → ℕ → State
+at_value_run s c =
+    if is_plain s.quote s.token then
+      (if c == 38 then record s { mode = value_referring; token = 38 ∷ []; value = s.value ++ with_spaces s.token }
+        else record s {
+          mode = tagging; token = []; attribute = []; value = []; quote = 0;
+          attributes = s.attributes ++ record { name = s.attribute; value = s.value ++ with_spaces s.token } ∷ [] })
+    else refuse s
+
+abbrev pub at_value_referring : State → Option ℕ → State
+at_value_referring s None = refuse s
+at_value_referring s (Some c) = record s { mode = value_run; token = []; value = s.value ++ encode_utf8 c }
+
+-- the end tag ends, which names the innermost element; after its name there may be white space
+abbrev pub is_end : List ℕ → List ℕ → Bool
+is_end [] token = is_white token
+is_end (b ∷ name) [] = false
+is_end (b ∷ name) (c ∷ token) = (b == c) && is_end name token
+
+abbrev pub closed : List Frame → State → State
+closed [] s = refuse s
+closed (frame ∷ frames) s =
+    if is_end s.top.name s.token then calm (record s {
+        top = with_parts frame (child (element s.top.name s.top.attributes s.top.start s.mark s.top.parts) none);
+        below = frames })
+    else refuse s
+
+-- what a byte that ends the token does
+abbrev pub finish : Mode → State → ℕ → State
+finish beginning s c = at_beginning s c
+finish declaring s c = at_declaring s
+finish chars s c = at_chars s.below s c
+finish referring s c = at_referring s (reference (s.token ++ 59 ∷ []))
+finish less s c = at_less s c
+finish marking s c = at_marking s (s.token ++ c ∷ [])
+finish commenting s c = at_commenting s (without (codes "--") s.token)
+finish quoting s c = at_quoting s (without (codes "]]") s.token)
+finish tagging s c = at_tagging s c
+finish naming s c = at_naming s c
+finish named s c = at_named s c
+finish valuing s c = at_valuing s c
+finish value_run s c = at_value_run s c
+finish value_referring s c = at_value_referring s (reference (s.token ++ 59 ∷ []))
+finish slashed s c = if c == 62 then emptied s else refuse s
+finish ending s c = closed s.below s
+finish refused s c = s
+
+abbrev pub counted : State → State
+counted s = record s { at = s.at + 1 }
+
+abbrev pub step : State → ℕ → State
+step s c = counted (if stops s.mode s.quote c then finish s.mode s c else record s { token = s.token ++ c ∷ [] })
+
+abbrev pub run : State → List ℕ → State
+run s [] = s
+run s (c ∷ bytes) = run (step s c) bytes
+
+abbrev pub nothing_open : Frame
+nothing_open = record { name = []; attributes = []; start = 0; parts = none }
+
+abbrev pub start : State
+start = record {
+    mode = beginning; fresh = true; at = 0; mark = 0; token = []; text = []; name = []; attributes = []; attribute = []; value = [];
+    quote = 0; top = nothing_open; below = [] }
+
+abbrev pub only_child : Parts → Option Element
+only_child none = None
+only_child (text bytes parts) = None
+only_child (child first none) = Some first
+only_child (child first (text bytes parts)) = None
+only_child (child first (child second parts)) = None
+
+abbrev pub is_chars_mode : Mode → Bool
+is_chars_mode chars = true
+is_chars_mode beginning = false
+is_chars_mode declaring = false
+is_chars_mode referring = false
+is_chars_mode less = false
+is_chars_mode marking = false
+is_chars_mode commenting = false
+is_chars_mode quoting = false
+is_chars_mode tagging = false
+is_chars_mode naming = false
+is_chars_mode named = false
+is_chars_mode valuing = false
+is_chars_mode value_run = false
+is_chars_mode value_referring = false
+is_chars_mode slashed = false
+is_chars_mode ending = false
+is_chars_mode refused = false
+
+-- the root, where what was read is a document
+abbrev pub root_of : State → Option Element
+root_of s =
+    if is_chars_mode s.mode && (is_nil s.below && is_white s.token) then only_child s.top.parts else None

@@ -1,0 +1,23 @@
+-- The tree of a document as it is written: names keep their prefixes, and declarations stand among the attributes.
+use Rattle.std.specs.Prelude.{ℕ, List, [], ◌∷◌}
+
+pub record Attribute : Type 0 where
+  pub name : List ℕ
+  pub value : List ℕ
+
+mutual
+  -- an element: its name, its attributes in order, the places in the document where its content begins and where that
+  -- ends, and its parts
+  pub data Element : Type 0 where
+    element : List ℕ → List Attribute → ℕ → ℕ → Parts → Element
+
+  -- text and elements, in order
+  pub data Parts : Type 0 where
+    none : Parts
+    text : List ℕ → Parts → Parts
+    child : Element → Parts → Parts
+
+-- text before parts; empty text is not kept
+abbrev pub onto : List ℕ → Parts → Parts
+onto [] parts = parts
+onto (byte ∷ bytes) parts = text (byte ∷ bytes) parts
