@@ -75,3 +75,13 @@ comment_open bytes a b h e = ?
 
 pub cdata_open : (bytes a b : List ℕ) → IsCdata bytes → bytes ++ codes "]]" ≡ a ++ 62 ∷ b → without (codes "]]") a ≡ None
 cdata_open bytes a b h e = ?
+
+-- an XML declaration between <? and >
+pub record Declares (bytes : List ℕ) : Type 0 where
+  pub inner : List ℕ
+  pub there : bytes ≡ 60 ∷ 63 ∷ (inner ++ 62 ∷ [])
+  pub text : NoStops declaring 0 inner
+  pub passes : is_declaration inner ≡ true
+
+pub declaration_passes : (bytes : List ℕ) → IsDeclaration bytes → (bytes ≡ []) ⊎ Declares bytes
+declaration_passes bytes h = ?
