@@ -1,4 +1,7 @@
+pub mod Declarations
+pub mod Held
 pub mod Moves
+pub mod Names
 pub mod OnlyDocument
 pub mod OnlyElements
 pub mod OnlyTags

@@ -6,10 +6,12 @@ use Rattle.soap_document.specs.Grammar.{IsWhite, IsMisc, white, comment, IsMark,
 use Rattle.soap_document.specs.Machine.{Mode, beginning, declaring, Frame, State, step, run, start, nothing_open, root_of, is_mark, with_parts}
 use Rattle.soap_document.specs.Declaration.{is_declaration}
 use Rattle.soap_document.specs.Tokens.{is_white}
+use Rattle.soap_document.proofs.Held.{other}
 use Rattle.soap_document.proofs.Moves.{At, Moves, NoStops, then, byte, one, regroup, retarget, stay, kept, plain_at, chars_at, less_at}
 use Rattle.soap_document.proofs.OnlyElements.{element_only}
 use Rattle.soap_document.proofs.OnlyText.{comment_moves}
-use Rattle.soap_document.proofs.TokenLaws.{Declares, declaration_passes, white_passes, white_chars}
+use Rattle.soap_document.proofs.TokenLaws.{white_passes, white_chars}
+use Rattle.soap_document.proofs.Declarations.{Declares, declaration_passes}
 
 -- outside of the root, text ends in white space
 record MiscEnds (top : Frame) (bytes : List ℕ) (at : ℕ) : Type 0 where
@@ -58,15 +60,15 @@ mark_passes : {mark : List ℕ} → IsMark mark → is_mark mark ≡ true
 mark_passes unmarked = refl
 mark_passes marked = refl
 
-first_white : (mark : List ℕ) (c at : ℕ) → is_mark mark ≡ true → is_space c ≡ true → (c ≡ 60 → ⊥) → step (beginning_at mark at) c ≡ outer_at [] (at + 1)
-first_white mark c at e w other = ?
+first_white : (mark : List ℕ) (c at : ℕ) → is_mark mark ≡ true → is_space c ≡ true → step (beginning_at mark at) c ≡ outer_at [] (at + 1)
+first_white mark c at e w = rw (w, e, other is_space c 60 w refl)
 
 after_white : {bytes : List ℕ} (mark : List ℕ) (c at : ℕ) → is_mark mark ≡ true → is_space c ≡ true → IsMisc bytes → Starts mark (c ∷ bytes) at
 after_white {bytes} mark c at e w m =
     let ends = misc_only m nothing_open (at + 1) in
     record {
       fresh = false; before = outer_at ends.token; enters = λ p. outer_less nothing_open ends.token p ends.is;
-      moves = byte at c bytes (beginning_at mark) (outer_at []) (outer_at ends.token) (first_white mark c at e w ?) ends.moves }
+      moves = byte at c bytes (beginning_at mark) (outer_at []) (outer_at ends.token) (first_white mark c at e w) ends.moves }
 
 misc_first : {bytes : List ℕ} → IsMisc bytes → (mark : List ℕ) (at : ℕ) → is_mark mark ≡ true → Starts mark bytes at
 misc_first (white [] h) mark at e = record { fresh = true; before = beginning_at mark; enters = λ p. first_less mark p e; moves = stay at (beginning_at mark) }
@@ -126,7 +128,7 @@ document_bytes mark declaration before bytes after = ap (λ (x : List ℕ). mark
 pub document_only : {bytes : List ℕ} {root : Element} → IsDocument bytes root → root_of (run start bytes) ≡ Some root
 document_only (document mark declaration before bytes root after m d b e a) =
     let at : ℕ = length mark + length declaration + length before in
-    let s = starts mark declaration before (0 + length mark) (mark_passes m) (declaration_passes declaration d) b in
+    let s = starts mark declaration before (0 + length mark) (mark_passes m) (declaration_passes d) b in
     let ends = misc_only a (rooted root) (at + length bytes) in
     let through = element_only e nothing_open [] [] s.fresh s.before (λ _. refl) refl (s.enters at) in
     ap (λ x. root_of (run start x)) (sym (document_bytes mark declaration before bytes after))
