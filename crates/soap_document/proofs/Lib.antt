@@ -1,4 +1,7 @@
+pub mod Accepts
 pub mod Declarations
+pub mod FoundTags
+pub mod FoundText
 pub mod Held
 pub mod Moves
 pub mod Names
@@ -6,4 +9,5 @@ pub mod OnlyDocument
 pub mod OnlyElements
 pub mod OnlyTags
 pub mod OnlyText
+pub mod TokenFacts
 pub mod TokenLaws

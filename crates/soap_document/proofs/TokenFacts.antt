@@ -1,0 +1,204 @@
+-- What passes the tests of tokens is what the grammar of characters has.
+use Rattle.std.proofs.Common.{◌≡◌, ◌≢◌, ℕ, suc, ◌+◌, ◌⊎◌, inl, inr, List, [], ◌∷◌, ◌++◌, Bool, true, false, not, ◌&&◌, ◌||◌, nat_eq, cond, Option, Some, None, length, drop, codes, refl, sym, ap, ap₂, subst, ◌∙◌, arith, append_assoc, append-nil}
+use Rattle.std.specs.List.{AllByRecursion, list_all}
+use Rattle.std.specs.Str.{bytes_eq}
+use Rattle.std.specs.Char.{is_ascii_digit, is_ascii_hexdigit}
+use Rattle.std.specs.Str.Parse.{digits_value}
+use Rattle.std.proofs.lemmas.Bool.{eqb-true, and_parts, true≢false, not-true}
+use Rattle.xml_chars.specs.Classes.{is_space, is_char}
+use Rattle.soap_lex.specs.Characters.{IsName}
+use Rattle.soap_lex.specs.References.{IsReference, ampersand, less as less_than, greater, apostrophe, quote, decimal, hexadecimal}
+use Rattle.soap_lex.specs.Text.{IsCharData, IsCdata, IsComment}
+use Rattle.soap_lex.specs.Value.{IsPlainValue}
+use Rattle.soap_document.specs.Grammar.{IsWhite, IsQName, unprefixed, prefixed}
+use Rattle.soap_document.specs.Machine.{is_end}
+use Rattle.soap_document.specs.Tokens.{is_nil, is_white, is_chars, is_name, is_qname, colon_split, is_char_data, is_cdata, is_comment, is_plain, reference, begins, holds, before_semicolon, character, numbered}
+use Rattle.soap_document.proofs.Held.{all_from_passes, same, lacks_from, front_from_begins}
+use Rattle.soap_document.proofs.Names.{IsChars-from, IsName-from}
+
+pub white_from : (bytes : List ℕ) → is_white bytes ≡ true → IsWhite bytes
+white_from bytes e = all_from_passes is_space bytes e
+
+-- ---- names
+
+colon_more : (b : ℕ) (bytes : List ℕ) (p : List ℕ × List ℕ) (t : Bool) (o : Option (List ℕ × List ℕ)) → nat_eq b 58 ≡ t → colon_split bytes ≡ o → colon_split (b ∷ bytes) ≡ Some p
+    → ((b ≡ 58) × (p ≡ ([], bytes))) ⊎ ((q : List ℕ × List ℕ) × (o ≡ Some q) × (p ≡ (b ∷ q.0, q.1)))
+colon_more b bytes p true o e f h = let x = rw e at h in inl (eqb-true b 58 e, cc)
+colon_more b bytes p false None e f h = let x = rw (e, f) at h in cc
+colon_more b bytes p false (Some q) e f h = let x = rw (e, f) at h in inr (q, refl, cc)
+
+colon_from : (bytes : List ℕ) (p : List ℕ × List ℕ) → colon_split bytes ≡ Some p → bytes ≡ p.0 ++ 58 ∷ p.1
+colon_from [] p e = cc
+colon_from (b ∷ bytes) p e =
+    elim (colon_more b bytes p (nat_eq b 58) (colon_split bytes) refl refl e) [
+      | inl h ↦ ap (λ x. x ∷ bytes) h.0 ∙ ap (λ (q : List ℕ × List ℕ). q.0 ++ 58 ∷ q.1) (sym h.1)
+      | inr h ↦ ap (λ x. b ∷ x) (colon_from bytes h.0 h.1) ∙ ap (λ (q : List ℕ × List ℕ). q.0 ++ 58 ∷ q.1) (sym h.2)
+    ]
+
+qname_of : (bytes : List ℕ) (o : Option (List ℕ × List ℕ)) → colon_split bytes ≡ o → is_qname bytes ≡ true → IsQName bytes
+unfolding is_qname
+qname_of bytes None e h = unprefixed bytes (IsName-from bytes (rw (is_qname, e) at h))
+qname_of bytes (Some p) e h =
+    let both : (is_name p.0 && is_name p.1) ≡ true = rw (is_qname, e) at h in
+    let (front, back) = and_parts (is_name p.0) (is_name p.1) both in
+    subst IsQName (sym (colon_from bytes p e)) (prefixed p.0 p.1 (IsName-from p.0 front) (IsName-from p.1 back))
+
+pub qname_from : (bytes : List ℕ) → is_qname bytes ≡ true → IsQName bytes
+qname_from bytes h = qname_of bytes (colon_split bytes) refl h
+
+-- ---- runs of characters
+
+pub data_from : (bytes : List ℕ) → is_char_data bytes ≡ true → IsCharData bytes
+unfolding is_char_data
+data_from bytes e =
+    let (a, e1) = and_parts (is_chars bytes) (not (holds bytes (codes "<")) && (not (holds bytes (codes "&")) && not (holds bytes (codes "]]>")))) e in
+    let (b, e2) = and_parts (not (holds bytes (codes "<"))) (not (holds bytes (codes "&")) && not (holds bytes (codes "]]>"))) e1 in
+    let (c, d) = and_parts (not (holds bytes (codes "&"))) (not (holds bytes (codes "]]>"))) e2 in
+    record {
+      chars = IsChars-from bytes a;
+      no_less = lacks_from bytes (codes "<") (λ x. cc) b;
+      no_ampersand = lacks_from bytes (codes "&") (λ x. cc) c;
+      no_close = lacks_from bytes (codes "]]>") (λ x. cc) d }
+
+pub plain_from : (mark : ℕ) (bytes : List ℕ) → is_plain mark bytes ≡ true → IsPlainValue mark bytes
+unfolding is_plain
+plain_from mark bytes e =
+    let (a, e1) = and_parts (is_chars bytes) (not (holds bytes (codes "<")) && (not (holds bytes (codes "&")) && not (holds bytes (mark ∷ [])))) e in
+    let (b, e2) = and_parts (not (holds bytes (codes "<"))) (not (holds bytes (codes "&")) && not (holds bytes (mark ∷ []))) e1 in
+    let (c, d) = and_parts (not (holds bytes (codes "&"))) (not (holds bytes (mark ∷ []))) e2 in
+    record {
+      chars = IsChars-from bytes a;
+      no_less = lacks_from bytes (codes "<") (λ x. cc) b;
+      no_ampersand = lacks_from bytes (codes "&") (λ x. cc) c;
+      no_quote = lacks_from bytes (mark ∷ []) (λ x. cc) d }
+
+pub comment_from : (bytes : List ℕ) → is_comment bytes ≡ true → IsComment bytes
+unfolding is_comment
+comment_from bytes e =
+    let (a, b) = and_parts (is_chars bytes) (not (holds (bytes ++ codes "-") (codes "--"))) e in
+    record { chars = IsChars-from bytes a; no_dashes = lacks_from (bytes ++ codes "-") (codes "--") (λ x. cc) b }
+
+pub cdata_from : (bytes : List ℕ) → is_cdata bytes ≡ true → IsCdata bytes
+unfolding is_cdata
+cdata_from bytes e =
+    let (a, b) = and_parts (is_chars bytes) (not (holds bytes (codes "]]>"))) e in
+    record { chars = IsChars-from bytes a; no_close = lacks_from bytes (codes "]]>") (λ x. cc) b }
+
+-- ---- references
+
+picked : (t : Bool) (x y : Option ℕ) (c : ℕ) → cond t x y ≡ Some c → ((t ≡ true) × (x ≡ Some c)) ⊎ ((t ≡ false) × (y ≡ Some c))
+picked true x y c h = inl (refl, h)
+picked false x y c h = inr (refl, h)
+
+named_from : (word bytes : List ℕ) (k c : ℕ) → IsReference word k → bytes_eq bytes word ≡ true → Some k ≡ Some c → IsReference bytes c
+named_from word bytes k c r e h =
+    let value : k ≡ c = cc in
+    subst (λ (p : List ℕ × ℕ). IsReference p.0 p.1) (ap₂ (λ (x : List ℕ) (y : ℕ). (x, y)) (sym (same bytes word e)) value) r
+
+semicolon_more : (b : ℕ) (bytes front : List ℕ) (o : Option (List ℕ)) → before_semicolon bytes ≡ o → before_semicolon (b ∷ bytes) ≡ Some front
+    → ((o ≡ None) × (cond (nat_eq b 59 && is_nil bytes) (Some []) None ≡ Some front)) ⊎ ((later : List ℕ) × (o ≡ Some later) × (front ≡ b ∷ later))
+semicolon_more b bytes front None e h = inl (refl, rw (before_semicolon, e) at h)
+semicolon_more b bytes front (Some later) e h = let x : Some (b ∷ later) ≡ Some front = rw (before_semicolon, e) at h in inr (later, refl, cc)
+
+nil_from : (bytes : List ℕ) → is_nil bytes ≡ true → bytes ≡ []
+nil_from [] e = refl
+nil_from (b ∷ bytes) e = cc
+
+semicolon_last : (t : Bool) (front : List ℕ) → cond t (Some []) None ≡ Some front → (t ≡ true) × (front ≡ [])
+semicolon_last true front e = (refl, cc)
+semicolon_last false front e = cc
+
+semicolon_from : (bytes front : List ℕ) → before_semicolon bytes ≡ Some front → bytes ≡ front ++ 59 ∷ []
+semicolon_from [] front e = cc
+semicolon_from (b ∷ bytes) front e =
+    elim (semicolon_more b bytes front (before_semicolon bytes) refl e) [
+      | inl h ↦
+          let l = semicolon_last (nat_eq b 59 && is_nil bytes) front h.1 in
+          let (is, empty) = and_parts (nat_eq b 59) (is_nil bytes) l.0 in
+          ap₂ (λ (x : ℕ) (xs : List ℕ). x ∷ xs) (eqb-true b 59 is) (nil_from bytes empty) ∙ ap (λ (x : List ℕ). x ++ 59 ∷ []) (sym l.1)
+      | inr h ↦ ap (λ x. b ∷ x) (semicolon_from bytes h.0 h.1) ∙ ap (λ (x : List ℕ). x ++ 59 ∷ []) (sym h.2)
+    ]
+
+-- digits, and the character that they number
+record Numbers (is_digit : ℕ → Bool) (base : ℕ) (bytes : List ℕ) (c : ℕ) : Type 0 where
+  digits : List ℕ
+  there : bytes ≡ digits ++ 59 ∷ []
+  some : digits ≢ []
+  each : AllByRecursion (λ d. is_digit d ≡ true) digits
+  is : is_char (digits_value base digits) ≡ true
+  value : digits_value base digits ≡ c
+
+some_from : (bytes : List ℕ) → not (is_nil bytes) ≡ true → bytes ≢ []
+some_from [] e = cc
+some_from (b ∷ bytes) e = λ x. cc
+
+character_of : (is_digit : ℕ → Bool) (base : ℕ) (bytes : List ℕ) (c : ℕ) (o : Option (List ℕ)) → before_semicolon bytes ≡ o → character is_digit base o ≡ Some c → Numbers is_digit base bytes c
+character_of is_digit base bytes c None e h = cc
+character_of is_digit base bytes c (Some digits) e h =
+    elim (picked (not (is_nil digits) && (list_all is_digit digits && is_char (digits_value base digits))) (Some (digits_value base digits)) None c h) [
+      | inl k ↦
+          let (some, k1) = and_parts (not (is_nil digits)) (list_all is_digit digits && is_char (digits_value base digits)) k.0 in
+          let (each, is) = and_parts (list_all is_digit digits) (is_char (digits_value base digits)) k1 in
+          record { digits = digits; there = semicolon_from bytes digits e; some = some_from digits some; each = all_from_passes is_digit digits each; is = is; value = cc }
+      | inr k ↦ cc (k.1)
+    ]
+
+decimal_from : (bytes : List ℕ) (c : ℕ) → begins (codes "&#") bytes ≡ true → character is_ascii_digit 10 (before_semicolon (drop 2 bytes)) ≡ Some c → IsReference bytes c
+decimal_from bytes c e h =
+    let n = character_of is_ascii_digit 10 (drop 2 bytes) c (before_semicolon (drop 2 bytes)) refl h in
+    subst (λ (p : List ℕ × ℕ). IsReference p.0 p.1)
+      (ap₂ (λ (x : List ℕ) (y : ℕ). (x, y)) (ap (λ (x : List ℕ). codes "&#" ++ x) (sym n.there) ∙ sym (front_from_begins (codes "&#") bytes e)) n.value)
+      (decimal n.digits n.some n.each n.is)
+
+hexadecimal_from : (bytes : List ℕ) (c : ℕ) → begins (codes "&#x") bytes ≡ true → character is_ascii_hexdigit 16 (before_semicolon (drop 3 bytes)) ≡ Some c → IsReference bytes c
+hexadecimal_from bytes c e h =
+    let n = character_of is_ascii_hexdigit 16 (drop 3 bytes) c (before_semicolon (drop 3 bytes)) refl h in
+    subst (λ (p : List ℕ × ℕ). IsReference p.0 p.1)
+      (ap₂ (λ (x : List ℕ) (y : ℕ). (x, y)) (ap (λ (x : List ℕ). codes "&#x" ++ x) (sym n.there) ∙ sym (front_from_begins (codes "&#x") bytes e)) n.value)
+      (hexadecimal n.digits n.some n.each n.is)
+
+numbered_from : (bytes : List ℕ) (c : ℕ) → numbered bytes ≡ Some c → IsReference bytes c
+numbered_from bytes c h =
+    let hex = character is_ascii_hexdigit 16 (before_semicolon (drop 3 bytes)) in
+    let dec = character is_ascii_digit 10 (before_semicolon (drop 2 bytes)) in
+    elim (picked (begins (codes "&#x") bytes) hex (cond (begins (codes "&#") bytes) dec None) c h) [
+      | inl k ↦ hexadecimal_from bytes c k.0 k.1
+      | inr k ↦ elim (picked (begins (codes "&#") bytes) dec None c k.1) [
+          | inl j ↦ decimal_from bytes c j.0 j.1
+          | inr j ↦ cc (j.1)
+        ]
+    ]
+
+pub reference_from : (bytes : List ℕ) (c : ℕ) → reference bytes ≡ Some c → IsReference bytes c
+unfolding reference
+reference_from bytes c h =
+    let after_apos = cond (bytes_eq bytes (codes "&quot;")) (Some 34) (numbered bytes) in
+    let after_gt = cond (bytes_eq bytes (codes "&apos;")) (Some 39) after_apos in
+    let after_lt = cond (bytes_eq bytes (codes "&gt;")) (Some 62) after_gt in
+    let after_amp = cond (bytes_eq bytes (codes "&lt;")) (Some 60) after_lt in
+    elim (picked (bytes_eq bytes (codes "&amp;")) (Some 38) after_amp c h) [
+      | inl k ↦ named_from (codes "&amp;") bytes 38 c ampersand k.0 k.1
+      | inr k1 ↦ elim (picked (bytes_eq bytes (codes "&lt;")) (Some 60) after_lt c k1.1) [
+        | inl k ↦ named_from (codes "&lt;") bytes 60 c less_than k.0 k.1
+        | inr k2 ↦ elim (picked (bytes_eq bytes (codes "&gt;")) (Some 62) after_gt c k2.1) [
+          | inl k ↦ named_from (codes "&gt;") bytes 62 c greater k.0 k.1
+          | inr k3 ↦ elim (picked (bytes_eq bytes (codes "&apos;")) (Some 39) after_apos c k3.1) [
+            | inl k ↦ named_from (codes "&apos;") bytes 39 c apostrophe k.0 k.1
+            | inr k4 ↦ elim (picked (bytes_eq bytes (codes "&quot;")) (Some 34) (numbered bytes) c k4.1) [
+              | inl k ↦ named_from (codes "&quot;") bytes 34 c quote k.0 k.1
+              | inr k5 ↦ numbered_from bytes c k5.1
+            ]
+          ]
+        ]
+      ]
+    ]
+
+-- ---- end tags
+
+pub end_from : (name token : List ℕ) → is_end name token ≡ true → (space : List ℕ) × (token ≡ name ++ space) × IsWhite space
+end_from [] token e = (token, refl, white_from token e)
+end_from (b ∷ name) [] e = cc
+end_from (b ∷ name) (c ∷ token) e =
+    let (here, later) = and_parts (nat_eq b c) (is_end name token) e in
+    let r = end_from name token later in
+    (r.0, ap₂ (λ (x : ℕ) (xs : List ℕ). x ∷ xs) (sym (eqb-true b c here)) r.1, r.2)
