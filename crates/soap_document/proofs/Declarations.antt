@@ -1,5 +1,5 @@
 -- The test of an XML declaration, against its grammar.
-use Rattle.std.proofs.Common.{◌≡◌, ◌≢◌, ℕ, ◌+◌, ◌⊎◌, inl, inr, List, [], ◌∷◌, ◌++◌, Bool, true, false, ◌&&◌, ◌||◌, nat_eq, cond, Option, Some, None, length, drop, map, codes, refl, sym, ap, ap₂, ◌∙◌, arith, append_assoc, append-nil}
+use Rattle.std.proofs.Common.{◌≡◌, ◌≢◌, ℕ, ◌+◌, ◌⊎◌, inl, inr, List, [], ◌∷◌, ◌++◌, Bool, true, false, ◌&&◌, ◌||◌, nat_eq, cond, Option, Some, None, length, drop, map, codes, refl, sym, ap, ap₂, subst, ◌∙◌, arith, append_assoc, append-nil}
 use Rattle.std.specs.List.{AllByRecursion}
 use Rattle.std.specs.Char.{to_ascii_lowercase}
 use Rattle.std.specs.Str.{bytes_eq, str_to_ascii_lowercase}
@@ -174,3 +174,166 @@ declaration_passes (declared version encoding standalone space v e s w) = inr (r
       (open_append standalone (space ++ codes "?") (standalone_open s)
       (open_append space (codes "?") (white_open space w) (refl, tt)))))));
     passes = declaration_test v e s space w })
+
+-- ---- what passes is a declaration
+
+abbrev SkipParts : List ℕ → Type 0
+SkipParts bytes = (space : List ℕ) × IsWhite space × (bytes ≡ space ++ skip bytes)
+
+skip_white : (b : ℕ) (bytes : List ℕ) → is_space b ≡ true → skip (b ∷ bytes) ≡ skip bytes
+skip_white b bytes e = rw e
+
+skip_dark : (b : ℕ) (bytes : List ℕ) → is_space b ≡ false → skip (b ∷ bytes) ≡ b ∷ bytes
+skip_dark b bytes e = rw e
+
+skip_more : (b : ℕ) (bytes : List ℕ) (t : Bool) → is_space b ≡ t → SkipParts bytes → SkipParts (b ∷ bytes)
+skip_more b bytes true e r = (b ∷ r.0, (e, r.1), ap (λ (x : List ℕ). b ∷ x) r.2 ∙ ap (λ (x : List ℕ). (b ∷ r.0) ++ x) (sym (skip_white b bytes e)))
+skip_more b bytes false e r = ([], tt, sym (skip_dark b bytes e))
+
+skip_parts : (bytes : List ℕ) → SkipParts bytes
+skip_parts [] = ([], tt, refl)
+skip_parts (b ∷ bytes) = skip_more b bytes (is_space b) refl (skip_parts bytes)
+
+given : {X : Type 0} (t : Bool) (x y : X) → cond t (Some x) None ≡ Some y → (t ≡ true) × (x ≡ y)
+given true x y h = (refl, cc)
+given false x y h = cc
+
+after_from : (word bytes rest : List ℕ) → after word bytes ≡ Some rest → bytes ≡ word ++ rest
+after_from word bytes rest h =
+    let g = given (begins word bytes) (drop (length word) bytes) rest h in
+    front_from_begins word bytes g.0 ∙ ap (λ (x : List ℕ). word ++ x) g.1
+
+cut_more : (k b : ℕ) (bytes : List ℕ) (p : List ℕ × List ℕ) (t : Bool) (o : Option (List ℕ × List ℕ)) → nat_eq b k ≡ t → cut k bytes ≡ o → cut k (b ∷ bytes) ≡ Some p
+    → ((b ≡ k) × (p ≡ ([], bytes))) ⊎ ((q : List ℕ × List ℕ) × (o ≡ Some q) × (p ≡ (b ∷ q.0, q.1)))
+cut_more k b bytes p true o e f h = let x = rw e at h in inl (eqb-true b k e, cc)
+cut_more k b bytes p false None e f h = let x = rw (e, f) at h in cc
+cut_more k b bytes p false (Some q) e f h = let x = rw (e, f) at h in inr (q, refl, cc)
+
+cut_from : (k : ℕ) (bytes : List ℕ) (p : List ℕ × List ℕ) → cut k bytes ≡ Some p → bytes ≡ p.0 ++ k ∷ p.1
+cut_from k [] p e = cc
+cut_from k (b ∷ bytes) p e =
+    elim (cut_more k b bytes p (nat_eq b k) (cut k bytes) refl refl e) [
+      | inl h ↦ ap (λ x. x ∷ bytes) h.0 ∙ ap (λ (q : List ℕ × List ℕ). q.0 ++ k ∷ q.1) (sym h.1)
+      | inr h ↦ ap (λ x. b ∷ x) (cut_from k bytes h.0 h.1) ∙ ap (λ (q : List ℕ × List ℕ). q.0 ++ k ∷ q.1) (sym h.2)
+    ]
+
+tested : {X : Type 0} (t : Bool) (o : Option X) (x : X) → cond t o None ≡ Some x → (t ≡ true) × (o ≡ Some x)
+tested true o x h = (refl, h)
+tested false o x h = cc
+
+record QuotedFrom (bytes : List ℕ) (p : List ℕ × List ℕ) : Type 0 where
+  mine : List ℕ
+  is : IsQuoted p.0 mine
+  there : bytes ≡ mine ++ p.1
+
+quoted_from : (bytes : List ℕ) (p : List ℕ × List ℕ) → quoted bytes ≡ Some p → QuotedFrom bytes p
+quoted_from [] p h = cc
+quoted_from (b ∷ bytes) p h =
+    let t = tested (nat_eq b 34 || nat_eq b 39) (cut b bytes) p h in
+    let there : b ∷ bytes ≡ (b ∷ (p.0 ++ b ∷ [])) ++ p.1 = ap (λ (x : List ℕ). b ∷ x) (cut_from b bytes p t.1 ∙ sym (append_assoc p.0 (b ∷ []) p.1)) in
+    record { mine = b ∷ (p.0 ++ b ∷ []); there = there;
+      is = elim (or_cases (nat_eq b 34) (nat_eq b 39) t.0) [
+        | inl k ↦ subst (λ q. IsQuoted p.0 (q ∷ (p.0 ++ q ∷ []))) (sym (eqb-true b 34 k)) double
+        | inr k ↦ subst (λ q. IsQuoted p.0 (q ∷ (p.0 ++ q ∷ []))) (sym (eqb-true b 39 k)) single
+      ] }
+
+record ValuedFrom (bytes : List ℕ) (p : List ℕ × List ℕ) : Type 0 where
+  left : List ℕ
+  right : List ℕ
+  mine : List ℕ
+  before : IsWhite left
+  behind : IsWhite right
+  is : IsQuoted p.0 mine
+  there : bytes ≡ left ++ (61 ∷ (right ++ (mine ++ p.1)))
+
+valued_of : (bytes : List ℕ) (p : List ℕ × List ℕ) (o : Option (List ℕ)) → after (codes "=") (skip bytes) ≡ o → valued (Some bytes) ≡ Some p → ValuedFrom bytes p
+valued_of bytes p None e h = let x : None ≡ Some p = rw (valued, e) at h in cc
+valued_of bytes p (Some rest) e h =
+    let l = skip_parts bytes in
+    let r = skip_parts rest in
+    let q = quoted_from (skip rest) p (rw (valued, e) at h) in
+    record { left = l.0; right = r.0; mine = q.mine; before = l.1; behind = r.1; is = q.is;
+      there = l.2 ∙ ap (λ (x : List ℕ). l.0 ++ x) (after_from (codes "=") (skip bytes) rest e ∙ ap (λ (x : List ℕ). 61 ∷ x) (r.2 ∙ ap (λ (x : List ℕ). r.0 ++ x) q.there)) }
+
+record SettingFrom (name bytes : List ℕ) (p : List ℕ × List ℕ) : Type 0 where
+  mine : List ℕ
+  is : IsSetting name p.0 mine
+  there : bytes ≡ mine ++ p.1
+
+named_value : (name bytes : List ℕ) (p : List ℕ × List ℕ) (o : Option (List ℕ)) → after name bytes ≡ o → valued o ≡ Some p → (rest : List ℕ) × (bytes ≡ name ++ rest) × ValuedFrom rest p
+named_value name bytes p None e h = cc
+named_value name bytes p (Some rest) e h = (rest, after_from name bytes rest e, valued_of rest p (after (codes "=") (skip rest)) refl h)
+
+setting_from : (name bytes : List ℕ) (p : List ℕ × List ℕ) → setting name bytes ≡ Some p → SettingFrom name bytes p
+setting_from name [] p h = cc
+setting_from name (b ∷ bytes) p h =
+    let t = tested (is_space b) (valued (after name (skip bytes))) p h in
+    let s = skip_parts bytes in
+    let n = named_value name (skip bytes) p (after name (skip bytes)) refl t.1 in
+    let v = n.2 in
+    let space : List ℕ = b ∷ s.0 in
+    record { mine = space ++ (name ++ (v.left ++ (codes "=" ++ (v.right ++ v.mine))));
+      is = is_setting space v.left v.right v.mine (record { white = (t.0, s.1); some = λ x. cc }) v.before v.behind v.is;
+      there = ap (λ (x : List ℕ). b ∷ x) (s.2 ∙ ap (λ (x : List ℕ). s.0 ++ x) (n.1 ∙ ap (λ (x : List ℕ). name ++ x) v.there)) ∙ sym (setting_spread space name v.left v.right v.mine p.1) }
+
+ends_from : (bytes : List ℕ) → ends bytes ≡ true → (space : List ℕ) × IsWhite space × (bytes ≡ space ++ codes "?")
+ends_from bytes h = let s = skip_parts bytes in (s.0, s.1, s.2 ∙ ap (λ (x : List ℕ). s.0 ++ x) (same (skip bytes) (codes "?") h))
+
+record EndFrom (bytes : List ℕ) : Type 0 where
+  standalone : List ℕ
+  space : List ℕ
+  is : IsStandalone standalone
+  white : IsWhite space
+  there : bytes ≡ standalone ++ (space ++ codes "?")
+
+standalone_of : (bytes : List ℕ) (o : Option (List ℕ × List ℕ)) → setting (codes "standalone") bytes ≡ o → stands_alone bytes ≡ true → EndFrom bytes
+standalone_of bytes None e h =
+    let t = ends_from bytes (rw (stands_alone, e) at h) in
+    record { standalone = []; space = t.0; is = no_standalone; white = t.1; there = t.2 }
+standalone_of bytes (Some p) e h =
+    let both : ((bytes_eq p.0 (codes "yes") || bytes_eq p.0 (codes "no")) && ends p.1) ≡ true = rw (stands_alone, e) at h in
+    let (word, last) = and_parts (bytes_eq p.0 (codes "yes") || bytes_eq p.0 (codes "no")) (ends p.1) both in
+    let s = setting_from (codes "standalone") bytes p e in
+    let t = ends_from p.1 last in
+    record { standalone = s.mine; space = t.0; white = t.1; there = s.there ∙ ap (λ (x : List ℕ). s.mine ++ x) t.2;
+      is = elim (or_cases (bytes_eq p.0 (codes "yes")) (bytes_eq p.0 (codes "no")) word) [
+        | inl k ↦ yes s.mine (subst (λ (v : List ℕ). IsSetting (codes "standalone") v s.mine) (same p.0 (codes "yes") k) s.is)
+        | inr k ↦ no s.mine (subst (λ (v : List ℕ). IsSetting (codes "standalone") v s.mine) (same p.0 (codes "no") k) s.is)
+      ] }
+
+record RestFrom (bytes : List ℕ) : Type 0 where
+  encoding : List ℕ
+  tail : List ℕ
+  is : IsEncoding encoding
+  later : EndFrom tail
+  there : bytes ≡ encoding ++ tail
+
+encoding_of : (bytes : List ℕ) (o : Option (List ℕ × List ℕ)) → setting (codes "encoding") bytes ≡ o → is_encoded bytes ≡ true → RestFrom bytes
+encoding_of bytes None e h = record { encoding = []; tail = bytes; is = no_encoding; there = refl; later = standalone_of bytes (setting (codes "standalone") bytes) refl (rw (is_encoded, e) at h) }
+encoding_of bytes (Some p) e h =
+    let both : (bytes_eq (str_to_ascii_lowercase p.0) (codes "utf-8") && stands_alone p.1) ≡ true = rw (is_encoded, e) at h in
+    let (word, last) = and_parts (bytes_eq (str_to_ascii_lowercase p.0) (codes "utf-8")) (stands_alone p.1) both in
+    let s = setting_from (codes "encoding") bytes p e in
+    record { encoding = s.mine; tail = p.1; there = s.there; is = utf8 p.0 s.mine (same (str_to_ascii_lowercase p.0) (codes "utf-8") word) s.is;
+      later = standalone_of p.1 (setting (codes "standalone") p.1) refl last }
+
+versioned_of : (bytes : List ℕ) (o : Option (List ℕ × List ℕ)) → setting (codes "version") bytes ≡ o → is_versioned o ≡ true → (version : List ℕ) × (tail : List ℕ) × IsSetting (codes "version") (codes "1.0") version × (bytes ≡ version ++ tail) × RestFrom tail
+versioned_of bytes None e h = cc
+versioned_of bytes (Some p) e h =
+    let (word, last) = and_parts (bytes_eq p.0 (codes "1.0")) (is_encoded p.1) h in
+    let s = setting_from (codes "version") bytes p e in
+    (s.mine, p.1, subst (λ (v : List ℕ). IsSetting (codes "version") v s.mine) (same p.0 (codes "1.0") word) s.is, s.there, encoding_of p.1 (setting (codes "encoding") p.1) refl last)
+
+xml_of : (bytes : List ℕ) (o : Option (List ℕ)) → after (codes "xml") bytes ≡ o → names_xml o ≡ true → IsDeclaration (60 ∷ 63 ∷ (bytes ++ 62 ∷ []))
+xml_of bytes None e h = cc
+xml_of bytes (Some rest) e h =
+    let v = versioned_of rest (setting (codes "version") rest) refl h in
+    let r = v.4 in
+    let t = r.later in
+    let whole : bytes ≡ codes "xml" ++ (v.0 ++ (r.encoding ++ (t.standalone ++ (t.space ++ codes "?")))) =
+          after_from (codes "xml") bytes rest e ∙ ap (λ (x : List ℕ). codes "xml" ++ x) (v.3 ∙ ap (λ (x : List ℕ). v.0 ++ x) (r.there ∙ ap (λ (x : List ℕ). r.encoding ++ x) t.there)) in
+    subst IsDeclaration (declared_bytes v.0 r.encoding t.standalone t.space ∙ ap (λ (x : List ℕ). 60 ∷ 63 ∷ (x ++ 62 ∷ [])) (sym whole)) (declared v.0 r.encoding t.standalone t.space v.2 r.is t.is t.white)
+
+pub declaration_from : (bytes : List ℕ) → is_declaration bytes ≡ true → IsDeclaration (60 ∷ 63 ∷ (bytes ++ 62 ∷ []))
+unfolding is_declaration
+declaration_from bytes h = xml_of bytes (after (codes "xml") bytes) refl h

@@ -1,5 +1,7 @@
 pub mod Accepts
 pub mod Declarations
+pub mod FoundDocument
+pub mod FoundElements
 pub mod FoundTags
 pub mod FoundText
 pub mod Held
