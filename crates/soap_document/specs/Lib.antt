@@ -3,3 +3,4 @@ pub mod Grammar
 pub mod Machine
 pub mod Tokens
 pub mod Tree
+pub mod View

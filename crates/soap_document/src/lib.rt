@@ -1,9 +1,15 @@
-//! Documents as they are written: from bytes to a tree whose names keep their prefixes.
+//! Documents as they are written: from bytes to a tree whose names keep their prefixes, by a reader that is fed pieces.
+//! It stands on the tests of tokens, `soap_lex`. The layer above resolves the names; what it may use is the tree and the
+//! contract of `read_document`, by the grammar in `specs/Grammar`.
 #![tactic(auto)]
 
 ghost use Rattle.std.specs.Prelude.{◌≡◌, List, ℕ};
 ghost use Rattle.soap_document.specs.Tree.{Element};
 ghost use Rattle.soap_document.specs.Grammar.{IsDocument};
+
+pub mod tree;
+
+pub use tree::{WrittenAttribute, WrittenElement, WrittenPart};
 
 /// Bytes have at most one tree.
 pub fn one_tree()
