@@ -6,11 +6,11 @@ use Rattle.std.specs.Str.{bytes_eq, str_to_ascii_lowercase}
 use Rattle.std.proofs.Math.Seq.{drop-append_seam}
 use Rattle.std.proofs.lemmas.Bool.{eqb-true, eq-eqb, ne_eqb, and_parts, or_cases, true≢false}
 use Rattle.xml_chars.specs.Classes.{is_space}
-use Rattle.soap_document.specs.Declaration.{skip, after, cut, quoted, valued, setting, ends, stands_alone, is_encoded, is_versioned, names_xml, is_declaration}
+use Rattle.soap_document.specs.Declaration.{skip, after, quoted, valued, setting, ends, stands_alone, is_encoded, is_versioned, names_xml, is_declaration}
 use Rattle.soap_document.specs.Grammar.{IsWhite, IsSpace, IsQuoted, double, single, IsSetting, setting as is_setting, IsEncoding, unsaid as no_encoding, utf8, IsStandalone, unsaid as no_standalone, yes, no, IsDeclaration, without, declared}
 use Rattle.soap_document.specs.Machine.{Mode, declaring, stops}
-use Rattle.soap_document.specs.Tokens.{begins}
-use Rattle.soap_document.proofs.Held.{all_weaker, all_append, other, same, equal, begins-append, front_from_begins}
+use Rattle.soap_document.specs.Tokens.{begins, cut}
+use Rattle.soap_document.proofs.Held.{all_weaker, all_append, other, same, equal, begins-append, front_from_begins, cut-append, cut_from}
 use Rattle.soap_document.proofs.Moves.{NoStops}
 
 -- ---- what the grammar has passes
@@ -19,15 +19,11 @@ skip-append : (space : List ℕ) (b : ℕ) (rest : List ℕ) → IsWhite space �
 skip-append [] b rest w e = rw e
 skip-append (c ∷ space) b rest w e = rw (w.0, skip-append space b rest w.1 e)
 
-after-append : (word rest : List ℕ) → after word (word ++ rest) ≡ Some rest
+pub after-append : (word rest : List ℕ) → after word (word ++ rest) ≡ Some rest
 after-append word rest = rw (begins-append word rest, drop-append_seam word rest)
 
 abbrev NoByte : ℕ → List ℕ → Type 0
 NoByte k bytes = AllByRecursion (λ c. nat_eq c k ≡ false) bytes
-
-cut-append : (k : ℕ) (word rest : List ℕ) → NoByte k word → cut k (word ++ k ∷ rest) ≡ Some (word, rest)
-cut-append k [] rest h = rw (eq-eqb k k refl)
-cut-append k (c ∷ word) rest h = rw (h.0, cut-append k word rest h.1)
 
 quoted-append : {value bytes : List ℕ} → IsQuoted value bytes → (rest : List ℕ) → NoByte 34 value → NoByte 39 value → quoted (bytes ++ rest) ≡ Some (value, rest)
 quoted-append {value} double rest g h = ap (cut 34) (append_assoc value (34 ∷ []) rest) ∙ cut-append 34 value rest g
@@ -202,20 +198,6 @@ after_from : (word bytes rest : List ℕ) → after word bytes ≡ Some rest →
 after_from word bytes rest h =
     let g = given (begins word bytes) (drop (length word) bytes) rest h in
     front_from_begins word bytes g.0 ∙ ap (λ (x : List ℕ). word ++ x) g.1
-
-cut_more : (k b : ℕ) (bytes : List ℕ) (p : List ℕ × List ℕ) (t : Bool) (o : Option (List ℕ × List ℕ)) → nat_eq b k ≡ t → cut k bytes ≡ o → cut k (b ∷ bytes) ≡ Some p
-    → ((b ≡ k) × (p ≡ ([], bytes))) ⊎ ((q : List ℕ × List ℕ) × (o ≡ Some q) × (p ≡ (b ∷ q.0, q.1)))
-cut_more k b bytes p true o e f h = let x = rw e at h in inl (eqb-true b k e, cc)
-cut_more k b bytes p false None e f h = let x = rw (e, f) at h in cc
-cut_more k b bytes p false (Some q) e f h = let x = rw (e, f) at h in inr (q, refl, cc)
-
-cut_from : (k : ℕ) (bytes : List ℕ) (p : List ℕ × List ℕ) → cut k bytes ≡ Some p → bytes ≡ p.0 ++ k ∷ p.1
-cut_from k [] p e = cc
-cut_from k (b ∷ bytes) p e =
-    elim (cut_more k b bytes p (nat_eq b k) (cut k bytes) refl refl e) [
-      | inl h ↦ ap (λ x. x ∷ bytes) h.0 ∙ ap (λ (q : List ℕ × List ℕ). q.0 ++ k ∷ q.1) (sym h.1)
-      | inr h ↦ ap (λ x. b ∷ x) (cut_from k bytes h.0 h.1) ∙ ap (λ (q : List ℕ × List ℕ). q.0 ++ k ∷ q.1) (sym h.2)
-    ]
 
 tested : {X : Type 0} (t : Bool) (o : Option X) (x : X) → cond t o None ≡ Some x → (t ≡ true) × (o ≡ Some x)
 tested true o x h = (refl, h)

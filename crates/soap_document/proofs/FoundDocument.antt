@@ -40,7 +40,7 @@ module _ (u : Element) where
         | inr k ↦ inr (k.0, ap (λ (x : List ℕ). c ∷ x) k.1, subst (λ p. Accepts (less_at false p top [] [] [] (p + 1)) k.0 u) (omega arith) k.2)
       ] }
 
-  outer_stop : (top : Frame) (token : List ℕ) (c : ℕ) (bytes : List ℕ) (at : ℕ) → Accepts (counted (at_chars [] (chars_at top [] [] token at) c)) bytes u → OuterFound top token (c ∷ bytes) at
+  outer_stop : (top : Frame) (token : List ℕ) (c : ℕ) (bytes : List ℕ) (at : ℕ) → Accepts (counted (at_chars (chars_at top [] [] token at) c)) bytes u → OuterFound top token (c ∷ bytes) at
   outer_stop top token c bytes at h =
       let s : State = chars_at top [] [] token at in
       let less_state : State = plain_at less false at top [] [] [] at in
@@ -55,7 +55,7 @@ module _ (u : Element) where
       record { front = []; white = subst IsWhite (sym (append-nil token)) (white_from token e.0); ends = inl (refl, e.1) }
   outer_found top token (c ∷ bytes) at h =
       let s : State = chars_at top [] [] token at in
-      elim (chosen (nat_eq c 60 || nat_eq c 38) (at_chars [] s c) (chars_at top [] [] (token ++ c ∷ []) at) bytes u h) [
+      elim (chosen (nat_eq c 60 || nat_eq c 38) (at_chars s c) (chars_at top [] [] (token ++ c ∷ []) at) bytes u h) [
         | inl k ↦ outer_stop top token c bytes at k.1
         | inr k ↦ outer_more top token c bytes at (outer_found top (token ++ c ∷ []) bytes (at + 1) k.1)
       ]

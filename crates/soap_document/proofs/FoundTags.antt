@@ -9,11 +9,11 @@ use Rattle.soap_document.specs.Tree.{Attribute, Element}
 use Rattle.soap_document.specs.Grammar.{IsWhite, IsSpace, IsQName, IsAttributes, end, more}
 use Rattle.soap_document.specs.Machine.{Mode, tagging, naming, named, valuing, value_run, value_referring, slashed, Frame, State, stops, finish, step, run, refuse, counted, opened, at_tagging, at_named, at_value_referring}
 use Rattle.soap_document.specs.Tokens
-use Rattle.soap_document.specs.Tokens.{is_nil, is_qname, is_plain}
+use Rattle.soap_document.specs.Tokens.{is_nil, is_qname, is_run}
 use Rattle.soap_document.proofs.Accepts.{Accepts, refused_never, passed, chosen, Next, next}
 use Rattle.soap_document.proofs.FoundText.{shorter}
 use Rattle.soap_document.proofs.Moves.{At, Tag, tag_at, between, between_at}
-use Rattle.soap_document.proofs.TokenFacts.{plain_from, qname_from, reference_from}
+use Rattle.soap_document.proofs.TokenFacts.{run_from, qname_from, reference_from}
 
 module _ (tag : Tag) (u : Element) where
   module _ (attributes : List Attribute) (name : List ℕ) where
@@ -45,7 +45,7 @@ module _ (tag : Tag) (u : Element) where
     abbrev RecurValue : ℕ → ℕ → Type 0
     RecurValue fuel quote = (value : List ℕ) (at : ℕ) (bytes : List ℕ) → length bytes ≤ fuel → Accepts (value_at quote value [] at) bytes u → ValueFound quote value bytes at
 
-    value_reference : (quote : ℕ) (value bytes : List ℕ) (at : ℕ) (m rest : List ℕ) (fuel : ℕ) → RecurValue fuel quote → bytes ≡ m ++ 38 ∷ rest → is_plain quote m ≡ true → length bytes ≤ suc fuel
+    value_reference : (quote : ℕ) (value bytes : List ℕ) (at : ℕ) (m rest : List ℕ) (fuel : ℕ) → RecurValue fuel quote → bytes ≡ m ++ 38 ∷ rest → is_run quote m ≡ true → length bytes ≤ suc fuel
       → Accepts (refers quote (value ++ with_spaces m) (38 ∷ []) (at + length m + 1)) rest u → ValueFound quote value bytes at
     value_reference quote value bytes at m rest fuel recur e passes short h =
         let so_far : List ℕ = value ++ with_spaces m in
@@ -57,12 +57,12 @@ module _ (tag : Tag) (u : Element) where
         value_joined quote value bytes at m (38 ∷ (n.token ++ 59 ∷ [])) n.rest r.0 (p1 + length n.token + 1)
           (e ∙ ap (λ (x : List ℕ). m ++ 38 ∷ x) (inner_there ∙ sym (append_assoc n.token (59 ∷ []) n.rest))) passes r.1 (omega (arith, length-append n.token (59 ∷ []))) v
       where
-        value_joined : (quote : ℕ) (value bytes : List ℕ) (at : ℕ) (m reference b : List ℕ) (c p : ℕ) → bytes ≡ m ++ (reference ++ b) → is_plain quote m ≡ true → IsReference reference c
+        value_joined : (quote : ℕ) (value bytes : List ℕ) (at : ℕ) (m reference b : List ℕ) (c p : ℕ) → bytes ≡ m ++ (reference ++ b) → is_run quote m ≡ true → IsReference reference c
           → p ≡ at + length m + length reference → ValueFound quote ((value ++ with_spaces m) ++ encode_utf8 c) b p → ValueFound quote value bytes at
         value_joined quote value bytes at m reference b c p e passes is place r = record {
             inner = m ++ (reference ++ r.inner); meaning = with_spaces m ++ (encode_utf8 c ++ r.meaning); rest = r.rest;
             there = e ∙ ap (λ (x : List ℕ). m ++ (reference ++ x)) r.there ∙ spread;
-            is = then_reference m reference c r.inner r.meaning (plain_from quote m passes) is r.is;
+            is = then_reference m reference c r.inner r.meaning (run_from quote m passes) is r.is;
             later = subst (λ (q : ℕ × List ℕ). Accepts (between_at false tag (added q.1) (q.0 + 1)) r.rest u) (ap₂ (λ (x : ℕ) (y : List ℕ). (x, y)) all_place sum) r.later }
           where
             spread : m ++ (reference ++ (r.inner ++ quote ∷ r.rest)) ≡ (m ++ (reference ++ r.inner)) ++ quote ∷ r.rest
@@ -84,12 +84,12 @@ module _ (tag : Tag) (u : Element) where
         let s : State = value_at quote value n.token place in
         let refer_state : State = refers quote (value ++ with_spaces n.token) (38 ∷ []) place in
         let end_state : State = between_at false tag (added (value ++ with_spaces n.token)) place in
-        let p = passed (is_plain quote n.token) (cond (nat_eq n.last 38) refer_state end_state) s n.rest u n.later in
+        let p = passed (is_run quote n.token) (cond (nat_eq n.last 38) refer_state end_state) s n.rest u n.later in
         elim (chosen (nat_eq n.last 38) refer_state end_state n.rest u p.1) [
           | inl k ↦ value_reference quote value bytes at n.token n.rest fuel recur (n.there ∙ ap (λ c. n.token ++ c ∷ n.rest) (eqb-true n.last 38 k.0)) p.0 short k.1
           | inr k ↦ record { inner = n.token; meaning = with_spaces n.token; rest = n.rest;
               there = n.there ∙ ap (λ c. n.token ++ c ∷ n.rest) (first_of_two n.last quote n.stop k.0);
-              is = plain n.token (plain_from quote n.token p.0); later = k.1 }
+              is = plain n.token (run_from quote n.token p.0); later = k.1 }
         ]
 
     value_found : (quote fuel : ℕ) → RecurValue fuel quote

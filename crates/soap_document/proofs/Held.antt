@@ -6,7 +6,7 @@ use Rattle.std.specs.Str.{bytes_eq}
 use Rattle.std.proofs.lemmas.Bool.{eqb-true, eqb-false, eq-eqb, ne_eqb, and_parts, or_cases, or_parts, true≢false, false_from_ne_true}
 use Rattle.std.proofs.lemmas.Slice.Eq.{bytes_eq-Decides}
 use Rattle.soap_lex.specs.Characters.{Holds}
-use Rattle.soap_document.specs.Tokens.{is_nil, begins, holds}
+use Rattle.soap_document.specs.Tokens.{is_nil, begins, cut, holds}
 
 -- each element passes, as a test
 pub all_passes : (p : ℕ → Bool) (xs : List ℕ) → AllByRecursion (λ c. p c ≡ true) xs → list_all p xs ≡ true
@@ -92,3 +92,28 @@ lacks_byte k [] h = tt
 lacks_byte k (c ∷ bytes) h =
     (ne_eqb c k (λ e. h (record { before = []; after = bytes; there = ap (λ x. x ∷ bytes) e })),
      lacks_byte k bytes (λ later. h (record { before = c ∷ later.before; after = later.after; there = ap (λ x. c ∷ x) later.there })))
+
+-- ---- the first of a byte
+
+pub cut_none : (k : ℕ) (bytes : List ℕ) → AllByRecursion (λ c. nat_eq c k ≡ false) bytes → cut k bytes ≡ None
+cut_none k [] h = refl
+cut_none k (c ∷ bytes) h = rw (h.0, cut_none k bytes h.1)
+
+pub cut-append : (k : ℕ) (word rest : List ℕ) → AllByRecursion (λ c. nat_eq c k ≡ false) word → cut k (word ++ k ∷ rest) ≡ Some (word, rest)
+cut-append k [] rest h = rw (eq-eqb k k refl)
+cut-append k (c ∷ word) rest h = rw (h.0, cut-append k word rest h.1)
+
+cut_more : (k b : ℕ) (bytes : List ℕ) (p : List ℕ × List ℕ) (t : Bool) (o : Option (List ℕ × List ℕ)) → nat_eq b k ≡ t → cut k bytes ≡ o → cut k (b ∷ bytes) ≡ Some p
+    → ((b ≡ k) × (p ≡ ([], bytes))) ⊎ ((q : List ℕ × List ℕ) × (o ≡ Some q) × (p ≡ (b ∷ q.0, q.1)))
+cut_more k b bytes p true o e f h = let x = rw e at h in inl (eqb-true b k e, cc)
+cut_more k b bytes p false None e f h = let x = rw (e, f) at h in cc
+cut_more k b bytes p false (Some q) e f h = let x = rw (e, f) at h in inr (q, refl, cc)
+
+pub cut_from : (k : ℕ) (bytes : List ℕ) (p : List ℕ × List ℕ) → cut k bytes ≡ Some p → bytes ≡ p.0 ++ k ∷ p.1
+cut_from k [] p e = cc
+cut_from k (b ∷ bytes) p e =
+    elim (cut_more k b bytes p (nat_eq b k) (cut k bytes) refl refl e) [
+      | inl h ↦ ap (λ x. x ∷ bytes) h.0 ∙ ap (λ (q : List ℕ × List ℕ). q.0 ++ k ∷ q.1) (sym h.1)
+      | inr h ↦ ap (λ x. b ∷ x) (cut_from k bytes h.0 h.1) ∙ ap (λ (q : List ℕ × List ℕ). q.0 ++ k ∷ q.1) (sym h.2)
+    ]
+

@@ -1,4 +1,5 @@
 pub mod Accepts
+pub mod Answer
 pub mod Declarations
 pub mod FoundDocument
 pub mod FoundElements
@@ -11,5 +12,8 @@ pub mod OnlyDocument
 pub mod OnlyElements
 pub mod OnlyTags
 pub mod OnlyText
+pub mod Places
+pub mod Steps
 pub mod TokenFacts
 pub mod TokenLaws
+pub mod Trees

@@ -9,9 +9,9 @@ use Rattle.soap_document.specs.Tree.{Attribute}
 use Rattle.soap_document.specs.Grammar.{IsWhite, IsSpace, IsQName, IsAttributes, end, more}
 use Rattle.soap_document.specs.Machine.{Mode, tagging, naming, named, valuing, value_run, value_referring, slashed, Frame, State, stops, step, run}
 use Rattle.soap_document.specs.Tokens
-use Rattle.soap_document.specs.Tokens.{is_plain}
+use Rattle.soap_document.specs.Tokens.{is_run}
 use Rattle.soap_document.proofs.Moves.{At, Moves, then, byte, one, regroup, retarget, stay, kept, NoStops, Tag, tag_at, between, between_at}
-use Rattle.soap_document.proofs.TokenLaws.{Referred, reference_passes, plain_passes, plain_run, qname_passes, qname_some, qname_naming}
+use Rattle.soap_document.proofs.TokenLaws.{Referred, reference_passes, run_passes, plain_run, qname_passes, qname_some, qname_naming}
 
 -- where white space changes nothing
 pub white_moves : (s : At) → ((c at : ℕ) → is_space c ≡ true → step (s at) c ≡ s (at + 1)) → (space : List ℕ) (at : ℕ) → IsWhite space → Moves at space s s
@@ -72,13 +72,13 @@ module _ (tag : Tag) (attributes : List Attribute) where
     abbrev refers : ℕ → List ℕ → List ℕ → At
     refers quote value token = tag_at value_referring tag attributes name value quote token
 
-    reference_step : (quote : ℕ) (value token : List ℕ) (at : ℕ) → is_plain quote token ≡ true → step (value_at quote value token at) 38 ≡ refers quote (value ++ with_spaces token) (38 ∷ []) (at + 1)
+    reference_step : (quote : ℕ) (value token : List ℕ) (at : ℕ) → is_run quote token ≡ true → step (value_at quote value token at) 38 ≡ refers quote (value ++ with_spaces token) (38 ∷ []) (at + 1)
     reference_step quote value token at e = rw (or-true (nat_eq 38 quote), e)
 
     reference_end : (quote : ℕ) (value inner : List ℕ) (c at : ℕ) → Tokens.reference (38 ∷ (inner ++ 59 ∷ [])) ≡ Some c → step (refers quote value (38 ∷ inner) at) 59 ≡ value_at quote (value ++ encode_utf8 c) [] (at + 1)
     reference_end quote value inner c at e = rw e
 
-    reference_moves : (quote : ℕ) (value token bytes : List ℕ) (c at : ℕ) → is_plain quote token ≡ true → Referred bytes c → Moves at bytes (value_at quote value token) (value_at quote ((value ++ with_spaces token) ++ encode_utf8 c) [])
+    reference_moves : (quote : ℕ) (value token bytes : List ℕ) (c at : ℕ) → is_run quote token ≡ true → Referred bytes c → Moves at bytes (value_at quote value token) (value_at quote ((value ++ with_spaces token) ++ encode_utf8 c) [])
     reference_moves quote value token bytes c at e r =
         let so_far : List ℕ = value ++ with_spaces token in
         let end = value_at quote (so_far ++ encode_utf8 c) [] in
@@ -92,17 +92,17 @@ module _ (tag : Tag) (attributes : List Attribute) where
     record ValueEnds (quote : ℕ) (value bytes meaning : List ℕ) (at : ℕ) : Type 0 where
       before : List ℕ
       token : List ℕ
-      passes : is_plain quote token ≡ true
+      passes : is_run quote token ≡ true
       sum : before ++ with_spaces token ≡ value ++ meaning
       moves : Moves at bytes (value_at quote value []) (value_at quote before token)
 
-    value_only : {quote : ℕ} {bytes meaning : List ℕ} → IsInner quote bytes meaning → (value : List ℕ) (at : ℕ) → ValueEnds quote value bytes meaning at
-    value_only {quote} (plain bytes h) value at = record {
-        before = value; token = bytes; passes = plain_passes quote bytes h; sum = refl;
+    value_only : {quote : ℕ} {bytes meaning : List ℕ} → IsInner quote bytes meaning → (nat_eq quote 34 || nat_eq quote 39) ≡ true → (value : List ℕ) (at : ℕ) → ValueEnds quote value bytes meaning at
+    value_only {quote} (plain bytes h) q value at = record {
+        before = value; token = bytes; passes = run_passes quote bytes q h; sum = refl;
         moves = kept (value_at quote value [] at) bytes at (plain_run quote bytes h) }
-    value_only {quote} (then_reference bytes reference c rest later h r t) value at =
+    value_only {quote} (then_reference bytes reference c rest later h r t) q value at =
         let so_far : List ℕ = (value ++ with_spaces bytes) ++ encode_utf8 c in
-        let after = value_only t so_far (at + length bytes + length reference) in
+        let after = value_only t q so_far (at + length bytes + length reference) in
         let start = value_at quote value [] in
         record {
           before = after.before; token = after.token; passes = after.passes;
@@ -110,29 +110,29 @@ module _ (tag : Tag) (attributes : List Attribute) where
           moves = then at bytes (reference ++ rest) start (value_at quote value bytes) (value_at quote after.before after.token)
             (kept (value_at quote value [] at) bytes at (plain_run quote bytes h))
             (then (at + length bytes) reference rest (value_at quote value bytes) (value_at quote so_far []) (value_at quote after.before after.token)
-              (reference_moves quote value bytes reference c (at + length bytes) (plain_passes quote bytes h) (reference_passes reference c r)) after.moves);
+              (reference_moves quote value bytes reference c (at + length bytes) (run_passes quote bytes q h) (reference_passes reference c r)) after.moves);
         }
 
     abbrev added : List ℕ → List Attribute
     added value = attributes ++ record { name = name; value = value } ∷ []
 
-    double_end : (before token value : List ℕ) (at : ℕ) → is_plain 34 token ≡ true → before ++ with_spaces token ≡ value
+    double_end : (before token value : List ℕ) (at : ℕ) → is_run 34 token ≡ true → before ++ with_spaces token ≡ value
       → step (value_at 34 before token at) 34 ≡ between_at false tag (added value) (at + 1)
     double_end before token value at e sum = rw (e, sum)
 
-    single_end : (before token value : List ℕ) (at : ℕ) → is_plain 39 token ≡ true → before ++ with_spaces token ≡ value
+    single_end : (before token value : List ℕ) (at : ℕ) → is_run 39 token ≡ true → before ++ with_spaces token ≡ value
       → step (value_at 39 before token at) 39 ≡ between_at false tag (added value) (at + 1)
     single_end before token value at e sum = rw (e, sum)
 
     quoted_only : {quoted value : List ℕ} → IsValue quoted value → (at : ℕ) → Moves at quoted valuing_at (between_at false tag (added value))
     quoted_only (double inner value h) at =
-        let ends = value_only h [] (at + 1) in
+        let ends = value_only h refl [] (at + 1) in
         let after = between_at false tag (added value) in
         byte at 34 (inner ++ 34 ∷ []) valuing_at (value_at 34 [] []) after refl
         (then (at + 1) inner (34 ∷ []) (value_at 34 [] []) (value_at 34 ends.before ends.token) after ends.moves
           (one (at + 1 + length inner) 34 (value_at 34 ends.before ends.token) after (double_end ends.before ends.token value (at + 1 + length inner) ends.passes ends.sum)))
     quoted_only (single inner value h) at =
-        let ends = value_only h [] (at + 1) in
+        let ends = value_only h refl [] (at + 1) in
         let after = between_at false tag (added value) in
         byte at 39 (inner ++ 39 ∷ []) valuing_at (value_at 39 [] []) after refl
         (then (at + 1) inner (39 ∷ []) (value_at 39 [] []) (value_at 39 ends.before ends.token) after ends.moves

@@ -12,8 +12,8 @@ use Rattle.soap_lex.specs.Text.{IsCharData, IsCdata, IsComment}
 use Rattle.soap_lex.specs.Value.{IsPlainValue}
 use Rattle.soap_document.specs.Grammar.{IsWhite, IsQName, unprefixed, prefixed}
 use Rattle.soap_document.specs.Machine.{is_end}
-use Rattle.soap_document.specs.Tokens.{is_nil, is_white, is_chars, is_name, is_qname, colon_split, is_char_data, is_cdata, is_comment, is_plain, reference, begins, holds, before_semicolon, character, numbered}
-use Rattle.soap_document.proofs.Held.{all_from_passes, same, lacks_from, front_from_begins}
+use Rattle.soap_document.specs.Tokens.{is_nil, is_white, is_chars, is_name, is_qname, cut, is_char_data, is_cdata, is_comment, is_plain, is_run, reference, begins, holds, before_semicolon, character, numbered}
+use Rattle.soap_document.proofs.Held.{all_from_passes, same, lacks_from, front_from_begins, cut_from}
 use Rattle.soap_document.proofs.Names.{IsChars-from, IsName-from}
 
 pub white_from : (bytes : List ℕ) → is_white bytes ≡ true → IsWhite bytes
@@ -21,30 +21,16 @@ white_from bytes e = all_from_passes is_space bytes e
 
 -- ---- names
 
-colon_more : (b : ℕ) (bytes : List ℕ) (p : List ℕ × List ℕ) (t : Bool) (o : Option (List ℕ × List ℕ)) → nat_eq b 58 ≡ t → colon_split bytes ≡ o → colon_split (b ∷ bytes) ≡ Some p
-    → ((b ≡ 58) × (p ≡ ([], bytes))) ⊎ ((q : List ℕ × List ℕ) × (o ≡ Some q) × (p ≡ (b ∷ q.0, q.1)))
-colon_more b bytes p true o e f h = let x = rw e at h in inl (eqb-true b 58 e, cc)
-colon_more b bytes p false None e f h = let x = rw (e, f) at h in cc
-colon_more b bytes p false (Some q) e f h = let x = rw (e, f) at h in inr (q, refl, cc)
-
-colon_from : (bytes : List ℕ) (p : List ℕ × List ℕ) → colon_split bytes ≡ Some p → bytes ≡ p.0 ++ 58 ∷ p.1
-colon_from [] p e = cc
-colon_from (b ∷ bytes) p e =
-    elim (colon_more b bytes p (nat_eq b 58) (colon_split bytes) refl refl e) [
-      | inl h ↦ ap (λ x. x ∷ bytes) h.0 ∙ ap (λ (q : List ℕ × List ℕ). q.0 ++ 58 ∷ q.1) (sym h.1)
-      | inr h ↦ ap (λ x. b ∷ x) (colon_from bytes h.0 h.1) ∙ ap (λ (q : List ℕ × List ℕ). q.0 ++ 58 ∷ q.1) (sym h.2)
-    ]
-
-qname_of : (bytes : List ℕ) (o : Option (List ℕ × List ℕ)) → colon_split bytes ≡ o → is_qname bytes ≡ true → IsQName bytes
+qname_of : (bytes : List ℕ) (o : Option (List ℕ × List ℕ)) → cut 58 bytes ≡ o → is_qname bytes ≡ true → IsQName bytes
 unfolding is_qname
 qname_of bytes None e h = unprefixed bytes (IsName-from bytes (rw (is_qname, e) at h))
 qname_of bytes (Some p) e h =
     let both : (is_name p.0 && is_name p.1) ≡ true = rw (is_qname, e) at h in
     let (front, back) = and_parts (is_name p.0) (is_name p.1) both in
-    subst IsQName (sym (colon_from bytes p e)) (prefixed p.0 p.1 (IsName-from p.0 front) (IsName-from p.1 back))
+    subst IsQName (sym (cut_from 58 bytes p e)) (prefixed p.0 p.1 (IsName-from p.0 front) (IsName-from p.1 back))
 
 pub qname_from : (bytes : List ℕ) → is_qname bytes ≡ true → IsQName bytes
-qname_from bytes h = qname_of bytes (colon_split bytes) refl h
+qname_from bytes h = qname_of bytes (cut 58 bytes) refl h
 
 -- ---- runs of characters
 
@@ -71,6 +57,9 @@ plain_from mark bytes e =
       no_less = lacks_from bytes (codes "<") (λ x. cc) b;
       no_ampersand = lacks_from bytes (codes "&") (λ x. cc) c;
       no_quote = lacks_from bytes (mark ∷ []) (λ x. cc) d }
+
+pub run_from : (mark : ℕ) (bytes : List ℕ) → is_run mark bytes ≡ true → IsPlainValue mark bytes
+run_from mark bytes e = plain_from mark bytes (and_parts (nat_eq mark 34 || nat_eq mark 39) (is_plain mark bytes) e).1
 
 pub comment_from : (bytes : List ℕ) → is_comment bytes ≡ true → IsComment bytes
 unfolding is_comment

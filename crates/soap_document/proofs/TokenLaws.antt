@@ -14,8 +14,8 @@ use Rattle.soap_lex.specs.Value.{IsPlainValue}
 use Rattle.soap_document.specs.Declaration.{is_declaration}
 use Rattle.soap_document.specs.Grammar.{IsWhite, IsSpace, IsQName, unprefixed, prefixed, IsDeclaration}
 use Rattle.soap_document.specs.Machine.{Mode, chars, less, referring, declaring, naming, value_run, value_referring, ending, stops, without, is_end}
-use Rattle.soap_document.specs.Tokens.{is_nil, is_white, is_chars, is_name, is_qname, colon_split, is_char_data, is_cdata, is_comment, is_plain, reference, before_semicolon, character}
-use Rattle.soap_document.proofs.Held.{all_passes, all_from_passes, all_weaker, all_append, other, same, differ, equal, lacks, lacks_from, lacks_byte}
+use Rattle.soap_document.specs.Tokens.{is_nil, is_white, is_chars, is_name, is_qname, is_char_data, is_cdata, is_comment, is_plain, is_run, reference, before_semicolon, character}
+use Rattle.soap_document.proofs.Held.{all_passes, all_from_passes, all_weaker, all_append, other, same, differ, equal, cut_none, cut-append, lacks, lacks_from, lacks_byte}
 use Rattle.soap_document.proofs.Moves.{NoStops}
 use Rattle.soap_document.proofs.Names.{chars_passes, IsChars-from, name_passes, IsName-from, IsNameByte, name_bytes, name_some}
 
@@ -34,25 +34,17 @@ is_space-name c h = false_from_ne_true (is_space c) (λ e. elim (space_among c e
     ])
 
 naming_byte : (c : ℕ) → IsNameByte c → stops naming 0 c ≡ false
-naming_byte c h = or_from _ _ (is_space-name c h) (or_from _ _ (h 62 (omega arith) refl) (or_from _ _ (h 47 (omega arith) refl) (h 61 (omega arith) refl)))
+naming_byte c h =
+    or_from _ _ (is_space-name c h) (or_from _ _ (h 62 (omega arith) refl) (or_from _ _ (h 47 (omega arith) refl)
+      (or_from _ _ (h 61 (omega arith) refl) (or_from _ _ (h 33 (omega arith) refl) (h 63 (omega arith) refl)))))
 
-less_byte : (c : ℕ) → IsNameByte c → stops less 0 c ≡ false
-less_byte c h = or_from _ _ (naming_byte c h) (or_from _ _ (h 33 (omega arith) refl) (h 63 (omega arith) refl))
-
--- ---- what the grammar has passes the tests, and no byte of it ends a token
-
-colon_none : (name : List ℕ) → AllByRecursion IsNameByte name → colon_split name ≡ None
-colon_none [] h = refl
-colon_none (c ∷ name) h = rw (h.0 58 (omega arith) refl, colon_none name h.1)
-
-colon_at : (prefix name : List ℕ) → AllByRecursion IsNameByte prefix → colon_split (prefix ++ 58 ∷ name) ≡ Some (prefix, name)
-colon_at [] name h = refl
-colon_at (c ∷ prefix) name h = rw (h.0 58 (omega arith) refl, colon_at prefix name h.1)
+no_colon : (name : List ℕ) → AllByRecursion IsNameByte name → AllByRecursion (λ c. nat_eq c 58 ≡ false) name
+no_colon name h = all_weaker IsNameByte (λ c. nat_eq c 58 ≡ false) (λ c b. b 58 (omega arith) refl) name h
 
 pub qname_passes : (name : List ℕ) → IsQName name → is_qname name ≡ true
 unfolding is_qname
-qname_passes name (unprefixed n h) = rw (is_qname, colon_none n (name_bytes n h)) (name_passes n h)
-qname_passes name (prefixed p n h k) = rw (is_qname, colon_at p n (name_bytes p h), name_passes p h) (name_passes n k)
+qname_passes name (unprefixed n h) = rw (is_qname, cut_none 58 n (no_colon n (name_bytes n h))) (name_passes n h)
+qname_passes name (prefixed p n h k) = rw (is_qname, cut-append 58 p n (no_colon p (name_bytes p h)), name_passes p h) (name_passes n k)
 
 not_nil : (name : List ℕ) → name ≢ [] → is_nil name ≡ false
 not_nil [] h = absurd (h refl)
@@ -71,7 +63,7 @@ qname_bytes P f colon name (unprefixed n h) = all_weaker IsNameByte P f n (name_
 qname_bytes P f colon name (prefixed p n h k) = all_append P p (58 ∷ n) (all_weaker IsNameByte P f p (name_bytes p h)) (colon, all_weaker IsNameByte P f n (name_bytes n k))
 
 pub qname_less : (name : List ℕ) → IsQName name → NoStops less 0 name
-qname_less name h = qname_bytes (λ c. stops less 0 c ≡ false) less_byte refl name h
+qname_less name h = qname_bytes (λ c. stops less 0 c ≡ false) naming_byte refl name h
 
 pub qname_naming : (name : List ℕ) → IsQName name → NoStops naming 0 name
 qname_naming name h = qname_bytes (λ c. stops naming 0 c ≡ false) naming_byte refl name h
@@ -102,6 +94,10 @@ data_chars bytes h = all_or (λ c. nat_eq c 60) (λ c. nat_eq c 38) bytes (lacks
 pub plain_passes : (mark : ℕ) (bytes : List ℕ) → IsPlainValue mark bytes → is_plain mark bytes ≡ true
 unfolding is_plain
 plain_passes mark bytes h = rw (chars_passes bytes h.chars, lacks bytes (codes "<") (λ e. cc) h.no_less, lacks bytes (codes "&") (λ e. cc) h.no_ampersand) (lacks bytes (mark ∷ []) (λ e. cc) h.no_quote)
+
+-- between quotes of one kind
+pub run_passes : (mark : ℕ) (bytes : List ℕ) → (nat_eq mark 34 || nat_eq mark 39) ≡ true → IsPlainValue mark bytes → is_run mark bytes ≡ true
+run_passes mark bytes q h = rw (q, plain_passes mark bytes h)
 
 pub plain_run : (mark : ℕ) (bytes : List ℕ) → IsPlainValue mark bytes → NoStops value_run mark bytes
 plain_run mark bytes h = all_or (λ c. nat_eq c mark) (λ c. nat_eq c 38) bytes (lacks_byte mark bytes h.no_quote) (lacks_byte 38 bytes h.no_ampersand)

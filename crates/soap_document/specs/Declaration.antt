@@ -2,7 +2,7 @@
 use Rattle.std.specs.Prelude.{ℕ, List, [], ◌∷◌, Bool, false, ◌&&◌, ◌||◌, ◌==◌, if◌then◌else◌, Option, Some, None, codes, drop, length}
 use Rattle.std.specs.Str.{bytes_eq, str_to_ascii_lowercase}
 use Rattle.xml_chars.specs.Classes.{is_space}
-use Rattle.soap_document.specs.Tokens.{is_white, begins, is_nil}
+use Rattle.soap_document.specs.Tokens.{begins, cut}
 
 -- the bytes from the first that is no white space
 abbrev pub skip : List ℕ → List ℕ
@@ -12,12 +12,6 @@ skip (b ∷ bytes) = if is_space b then skip bytes else b ∷ bytes
 -- what follows the word
 abbrev pub after : List ℕ → List ℕ → Option (List ℕ)
 after word bytes = if begins word bytes then Some (drop (length word) bytes) else None
-
--- what stands before the first such byte, and what after it
-abbrev pub cut : ℕ → List ℕ → Option (List ℕ × List ℕ)
-cut quote [] = None
-cut quote (b ∷ bytes) = if b == quote then Some ([], bytes) else
-    elim (cut quote bytes) [ None ↦ None | Some p ↦ Some (b ∷ p.0, p.1) ]
 
 -- the word between quotes, and what follows
 abbrev pub quoted : List ℕ → Option (List ℕ × List ℕ)

@@ -7,7 +7,7 @@ use Rattle.soap_lex.specs.Text.{with_line_ends}
 use Rattle.soap_lex.specs.Value.{with_spaces}
 use Rattle.soap_document.specs.Tree.{Attribute, Element, element, Parts, none, text, child, onto}
 use Rattle.soap_document.specs.Grammar.{max_depth}
-use Rattle.soap_document.specs.Tokens.{is_nil, is_white, is_qname, is_char_data, is_cdata, is_comment, is_plain, reference}
+use Rattle.soap_document.specs.Tokens.{is_nil, is_white, is_qname, is_char_data, is_cdata, is_comment, is_run, reference}
 use Rattle.soap_document.specs.Declaration.{is_declaration}
 
 pub data Mode : Type 0 where
@@ -67,7 +67,7 @@ abbrev pub settle : State → State
 settle s = record s { top = with_parts s.top (onto s.text none); text = [] }
 
 abbrev pub is_name_end : ℕ → Bool
-is_name_end c = is_space c || ((c == 62) || ((c == 47) || (c == 61)))
+is_name_end c = is_space c || ((c == 62) || ((c == 47) || ((c == 61) || ((c == 33) || (c == 63)))))
 
 -- whether a byte ends the token
 abbrev pub stops : Mode → ℕ → ℕ → Bool
@@ -75,7 +75,7 @@ stops beginning quote c = is_space c || (c == 60)
 stops declaring quote c = c == 62
 stops chars quote c = (c == 60) || (c == 38)
 stops referring quote c = c == 59
-stops less quote c = is_name_end c || ((c == 33) || (c == 63))
+stops less quote c = is_name_end c
 stops marking quote c = (c == 45) || (c == 91)
 stops commenting quote c = c == 62
 stops quoting quote c = c == 62
@@ -106,11 +106,11 @@ abbrev pub at_declaring : State → State
 at_declaring s = if is_declaration s.token then calm s else refuse s
 
 -- text ends here: outside the root there is only white space
-abbrev pub at_chars : List Frame → State → ℕ → State
-at_chars [] s c =
-    if is_white s.token && (c == 60) then record s { mode = less; mark = s.at; token = [] } else refuse s
-at_chars (frame ∷ frames) s c =
-    if is_char_data s.token then
+abbrev pub at_chars : State → ℕ → State
+at_chars s c =
+    if is_nil s.below then
+      (if is_white s.token && (c == 60) then record s { mode = less; mark = s.at; token = [] } else refuse s)
+    else if is_char_data s.token then
       (if c == 60 then record s { mode = less; mark = s.at; token = []; text = s.text ++ with_line_ends s.token }
         else record s { mode = referring; token = 38 ∷ []; text = s.text ++ with_line_ends s.token })
     else refuse s
@@ -156,12 +156,14 @@ at_tagging s c =
     else if c == 47 then record s { mode = slashed; token = [] }
     else refuse s
 
+abbrev pub is_none : Parts → Bool
+is_none none = true
+is_none (text bytes parts) = false
+is_none (child first parts) = false
+
 -- whether an element may begin
 abbrev pub has_room : List Frame → Parts → Bool
-has_room [] none = true
-has_room [] (text bytes parts) = false
-has_room [] (child first parts) = false
-has_room (frame ∷ frames) parts = nat_lt (length (frame ∷ frames)) max_depth
+has_room frames parts = if is_nil frames then is_none parts else nat_lt (length frames) max_depth
 
 abbrev pub at_less : State → ℕ → State
 at_less s c =
@@ -192,7 +194,7 @@ at_valuing s c =
 
 abbrev pub at_value_run : State → ℕ → State
 at_value_run s c =
-    if is_plain s.quote s.token then
+    if is_run s.quote s.token then
       (if c == 38 then record s { mode = value_referring; token = 38 ∷ []; value = s.value ++ with_spaces s.token }
         else record s {
           mode = tagging; token = []; attribute = []; value = []; quote = 0;
@@ -221,7 +223,7 @@ closed (frame ∷ frames) s =
 abbrev pub finish : Mode → State → ℕ → State
 finish beginning s c = at_beginning s c
 finish declaring s c = at_declaring s
-finish chars s c = at_chars s.below s c
+finish chars s c = at_chars s c
 finish referring s c = at_referring s (reference (s.token ++ 59 ∷ []))
 finish less s c = at_less s c
 finish marking s c = at_marking s (s.token ++ c ∷ [])

@@ -34,14 +34,14 @@ is_chars bytes = is_utf8 bytes && list_all is_char (chars bytes)
 unfoldable pub is_name : List ℕ → Bool
 is_name bytes = is_utf8 bytes && starts_name (chars bytes)
 
--- what stands before the first colon, and what after it
-abbrev pub colon_split : List ℕ → Option (List ℕ × List ℕ)
-colon_split [] = None
-colon_split (b ∷ bytes) = if b == 58 then Some ([], bytes) else
-    elim (colon_split bytes) [ None ↦ None | Some p ↦ Some (b ∷ p.0, p.1) ]
+-- what stands before the first such byte, and what after it
+abbrev pub cut : ℕ → List ℕ → Option (List ℕ × List ℕ)
+cut k [] = None
+cut k (b ∷ bytes) = if b == k then Some ([], bytes) else
+    elim (cut k bytes) [ None ↦ None | Some p ↦ Some (b ∷ p.0, p.1) ]
 
 unfoldable pub is_qname : List ℕ → Bool
-is_qname bytes = elim (colon_split bytes) [ None ↦ is_name bytes | Some p ↦ is_name p.0 && is_name p.1 ]
+is_qname bytes = elim (cut 58 bytes) [ None ↦ is_name bytes | Some p ↦ is_name p.0 && is_name p.1 ]
 
 unfoldable pub is_char_data : List ℕ → Bool
 is_char_data bytes = is_chars bytes && (not (holds bytes (codes "<")) && (not (holds bytes (codes "&"))
@@ -56,6 +56,10 @@ is_comment bytes = is_chars bytes && not (holds (bytes ++ codes "-") (codes "--"
 unfoldable pub is_plain : ℕ → List ℕ → Bool
 is_plain quote bytes = is_chars bytes && (not (holds bytes (codes "<")) && (not (holds bytes (codes "&"))
     && not (holds bytes (quote ∷ []))))
+
+-- characters of a value between these quotes
+abbrev pub is_run : ℕ → List ℕ → Bool
+is_run quote bytes = ((quote == 34) || (quote == 39)) && is_plain quote bytes
 
 -- the bytes without the semicolon at their end
 abbrev pub before_semicolon : List ℕ → Option (List ℕ)

@@ -7,8 +7,14 @@ ghost use Rattle.std.specs.Prelude.{◌≡◌, List, ℕ};
 ghost use Rattle.soap_document.specs.Tree.{Element};
 ghost use Rattle.soap_document.specs.Grammar.{IsDocument};
 
+mod declaration;
+pub mod document;
+pub mod reader;
+mod tokens;
 pub mod tree;
 
+pub use document::read_document;
+pub use reader::Reader;
 pub use tree::{WrittenAttribute, WrittenElement, WrittenPart};
 
 /// Bytes have at most one tree.

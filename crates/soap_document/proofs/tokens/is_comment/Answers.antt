@@ -1,0 +1,11 @@
+use Rattle.soap_lex.specs.Text.{IsComment}
+use Rattle.soap_document.specs.Tokens.{is_comment}
+use Rattle.soap_document.proofs.Answer.{same_test}
+use Rattle.soap_document.proofs.TokenFacts.{comment_from}
+use Rattle.soap_document.proofs.TokenLaws.{comment_passes}
+use Rattle.soap_document.proofs.tokens.is_comment.Goals as goal
+
+pub returns : goal.returns
+returns c =
+    let bytes = c.args.bytes.now in
+    same_test (IsComment bytes) c.is_comment.result (is_comment bytes) c.is_comment.ensures.0 c.is_comment.ensures.1 (comment_from bytes) (comment_passes bytes)

@@ -1,0 +1,116 @@
+// The test of an XML declaration: XML 1.0, section 2.8, production 23.
+ghost use Rattle.std.specs.Prelude.{◌≡◌, option_map, Some, codes};
+ghost use Rattle.soap_document.specs.Declaration.{
+  is_declaration as declaration_test,
+  skip as skipped,
+  after as after_word,
+  quoted as quoted_at,
+  valued,
+  setting as setting_at,
+  ends as ends_test,
+  stands_alone as alone_test,
+  is_encoded as encoded_test,
+  is_versioned as versioned_test,
+};
+
+use crate::tokens::cut;
+use xml_chars::is_space;
+
+/// What stands between `<?` and `>` is an XML declaration.
+#[tactic(auto, unfolding(crate::specs::Declaration::is_declaration))]
+pub(crate) fn is_declaration(bytes: &[u8]) -> bool
+    ensures { result ≡ declaration_test bytes.now }
+{
+    match after(b"xml", bytes) {
+        Some(rest) => is_versioned(rest),
+        None => false,
+    }
+}
+
+fn is_versioned(bytes: &[u8]) -> bool
+    ensures { result ≡ versioned_test (setting_at (codes "version") bytes.now) }
+{
+    match setting(b"version", bytes) {
+        Some((value, rest)) => value == b"1.0".as_slice() && is_encoded(rest),
+        None => false,
+    }
+}
+
+fn is_encoded(bytes: &[u8]) -> bool
+    ensures { result ≡ encoded_test bytes.now }
+{
+    match setting(b"encoding", bytes) {
+        Some((value, rest)) => value.eq_ignore_ascii_case(b"utf-8") && stands_alone(rest),
+        None => stands_alone(bytes),
+    }
+}
+
+fn stands_alone(bytes: &[u8]) -> bool
+    ensures { result ≡ alone_test bytes.now }
+{
+    match setting(b"standalone", bytes) {
+        Some((value, rest)) => (value == b"yes".as_slice() || value == b"no".as_slice()) && ends(rest),
+        None => ends(bytes),
+    }
+}
+
+fn ends(bytes: &[u8]) -> bool
+    ensures { result ≡ ends_test bytes.now }
+{
+    skip(bytes) == b"?".as_slice()
+}
+
+// the value of a setting of this name, and what follows
+fn setting<'a>(name: &[u8], bytes: &'a [u8]) -> Option<(&'a [u8], &'a [u8])>
+    ensures { option_map (λ p. (p.0.now, p.1.now)) result ≡ setting_at name.now bytes.now }
+{
+    let [first, rest @ ..] = bytes else {
+        return None;
+    };
+    if !is_space(*first) {
+        return None;
+    }
+    match after(name, skip(rest)) {
+        Some(rest) => value(rest),
+        None => None,
+    }
+}
+
+fn value(bytes: &[u8]) -> Option<(&[u8], &[u8])>
+    ensures { option_map (λ p. (p.0.now, p.1.now)) result ≡ valued (Some bytes.now) }
+{
+    match after(b"=", skip(bytes)) {
+        Some(rest) => quoted(skip(rest)),
+        None => None,
+    }
+}
+
+// what follows the word
+fn after<'a>(word: &[u8], bytes: &'a [u8]) -> Option<&'a [u8]>
+    ensures { option_map (λ x. x.now) result ≡ after_word word.now bytes.now }
+{
+    bytes.strip_prefix(word)
+}
+
+fn quoted(bytes: &[u8]) -> Option<(&[u8], &[u8])>
+    ensures { option_map (λ p. (p.0.now, p.1.now)) result ≡ quoted_at bytes.now }
+{
+    match bytes {
+        [quote, rest @ ..] if *quote == b'"' || *quote == b'\'' => cut(*quote, rest),
+        _ => None,
+    }
+}
+
+// the bytes from the first that is no white space
+fn skip(bytes: &[u8]) -> &[u8]
+    ensures { result.now ≡ skipped bytes.now }
+{
+    let mut rest = bytes;
+    while let [first, others @ ..] = rest {
+        if !is_space(*first) {
+            return rest;
+        }
+        rest = others;
+    }
+    rest
+}
