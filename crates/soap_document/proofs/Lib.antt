@@ -1,6 +1,7 @@
 pub mod Accepts
 pub mod Answer
 pub mod Declarations
+pub mod Fed
 pub mod FoundDocument
 pub mod FoundElements
 pub mod FoundTags
