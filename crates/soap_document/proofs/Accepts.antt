@@ -48,12 +48,24 @@ pub next : (s : State) (bytes : List ℕ) (u : Element) → Unended s → Accept
 next s [] u unended h = absurd (none_some (root_of s) (unended s.at s.token) h)
 next s (c ∷ bytes) u unended h =
     elim (next_at s c bytes u (stops s.mode s.quote c) refl h) [
-      | inl k ↦ record { token = []; last = c; rest = bytes; there = refl; stop = k.0;
-          later = subst (λ (p : ℕ × List ℕ). Accepts (counted (finish s.mode (record s { at = p.0; token = p.1 }) c)) bytes u)
-            (ap₂ (λ (x : ℕ) (y : List ℕ). (x, y)) (omega arith) (sym (append-nil s.token))) k.1 }
+      | inl k ↦ record {
+        token = [];
+        last = c;
+        rest = bytes;
+        there = refl;
+        stop = k.0;
+        later = subst (λ (p : ℕ × List ℕ). Accepts (counted (finish s.mode (record s { at = p.0; token = p.1 }) c)) bytes u)
+            (ap₂ (λ (x : ℕ) (y : List ℕ). (x, y)) (omega arith) (sym (append-nil s.token))) k.1;
+      }
       | inr k ↦
           let n = next (record s { at = s.at + 1; token = s.token ++ c ∷ [] }) bytes u unended k.1 in
-          record { token = c ∷ n.token; last = n.last; rest = n.rest; there = ap (λ (x : List ℕ). c ∷ x) n.there; stop = n.stop;
+          record {
+            token = c ∷ n.token;
+            last = n.last;
+            rest = n.rest;
+            there = ap (λ (x : List ℕ). c ∷ x) n.there;
+            stop = n.stop;
             later = subst (λ (p : ℕ × List ℕ). Accepts (counted (finish s.mode (record s { at = p.0; token = p.1 }) n.last)) n.rest u)
-              (ap₂ (λ (x : ℕ) (y : List ℕ). (x, y)) (omega arith) (append_assoc s.token (c ∷ []) n.token)) n.later }
+                (ap₂ (λ (x : ℕ) (y : List ℕ). (x, y)) (omega arith) (append_assoc s.token (c ∷ []) n.token)) n.later;
+          }
     ]

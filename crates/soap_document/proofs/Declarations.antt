@@ -104,10 +104,13 @@ lower_lacks k fixed (c ∷ value) (d ∷ lower) e h =
 encoding_passes : {bytes more : List ℕ} → IsEncoding bytes → IsStandalone more → (space : List ℕ) → IsWhite space → is_encoded (bytes ++ (more ++ (space ++ codes "?"))) ≡ true
 encoding_passes no_encoding m space w = rw (is_encoded, no_encoding_before m space w) (standalone_passes m space w)
 encoding_passes {more = more} (utf8 value bytes lower s) m space w =
-    rw (is_encoded, setting_takes s (more ++ (space ++ codes "?")) encoding_word
-        (lower_lacks 34 refl value (codes "utf-8") lower (refl, (refl, (refl, (refl, (refl, tt))))))
-        (lower_lacks 39 refl value (codes "utf-8") lower (refl, (refl, (refl, (refl, (refl, tt)))))),
-      lower) (standalone_passes m space w)
+    rw (
+      is_encoded,
+      setting_takes s (more ++ (space ++ codes "?")) encoding_word
+          (lower_lacks 34 refl value (codes "utf-8") lower (refl, (refl, (refl, (refl, (refl, tt))))))
+          (lower_lacks 39 refl value (codes "utf-8") lower (refl, (refl, (refl, (refl, (refl, tt)))))),
+      lower,
+    ) (standalone_passes m space w)
 
 pub declaration_test : {version encoding standalone : List ℕ} → IsSetting (codes "version") (codes "1.0") version → IsEncoding encoding → IsStandalone standalone → (space : List ℕ) → IsWhite space
     → is_declaration (codes "xml" ++ (version ++ (encoding ++ (standalone ++ (space ++ codes "?"))))) ≡ true
@@ -162,14 +165,23 @@ declared_bytes version encoding standalone space = simp append_assoc
 pub declaration_passes : {bytes : List ℕ} → IsDeclaration bytes → (bytes ≡ []) ⊎ Declares bytes
 declaration_passes without = inl refl
 declaration_passes (declared version encoding standalone space v e s w) = inr (record {
-    inner = codes "xml" ++ (version ++ (encoding ++ (standalone ++ (space ++ codes "?"))));
-    there = declared_bytes version encoding standalone space;
-    text = (refl, (refl, (refl,
-      open_append version (encoding ++ (standalone ++ (space ++ codes "?"))) (setting_open v (refl, (refl, (refl, (refl, (refl, (refl, (refl, tt))))))) (refl, (refl, (refl, tt))))
-      (open_append encoding (standalone ++ (space ++ codes "?")) (encoding_open e)
-      (open_append standalone (space ++ codes "?") (standalone_open s)
-      (open_append space (codes "?") (white_open space w) (refl, tt)))))));
-    passes = declaration_test v e s space w })
+  inner = codes "xml" ++ (version ++ (encoding ++ (standalone ++ (space ++ codes "?"))));
+  there = declared_bytes version encoding standalone space;
+  text = (
+    refl,
+    (
+      refl,
+      (
+        refl,
+        open_append version (encoding ++ (standalone ++ (space ++ codes "?"))) (setting_open v (refl, (refl, (refl, (refl, (refl, (refl, (refl, tt))))))) (refl, (refl, (refl, tt))))
+            (open_append encoding (standalone ++ (space ++ codes "?")) (encoding_open e)
+            (open_append standalone (space ++ codes "?") (standalone_open s)
+            (open_append space (codes "?") (white_open space w) (refl, tt)))),
+      ),
+    ),
+  );
+  passes = declaration_test v e s space w;
+})
 
 -- ---- what passes is a declaration
 
@@ -213,11 +225,14 @@ quoted_from [] p h = cc
 quoted_from (b ∷ bytes) p h =
     let t = tested (nat_eq b 34 || nat_eq b 39) (cut b bytes) p h in
     let there : b ∷ bytes ≡ (b ∷ (p.0 ++ b ∷ [])) ++ p.1 = ap (λ (x : List ℕ). b ∷ x) (cut_from b bytes p t.1 ∙ sym (append_assoc p.0 (b ∷ []) p.1)) in
-    record { mine = b ∷ (p.0 ++ b ∷ []); there = there;
+    record {
+      mine = b ∷ (p.0 ++ b ∷ []);
+      there = there;
       is = elim (or_cases (nat_eq b 34) (nat_eq b 39) t.0) [
         | inl k ↦ subst (λ q. IsQuoted p.0 (q ∷ (p.0 ++ q ∷ []))) (sym (eqb-true b 34 k)) double
         | inr k ↦ subst (λ q. IsQuoted p.0 (q ∷ (p.0 ++ q ∷ []))) (sym (eqb-true b 39 k)) single
-      ] }
+      ];
+    }
 
 record ValuedFrom (bytes : List ℕ) (p : List ℕ × List ℕ) : Type 0 where
   left : List ℕ
@@ -234,8 +249,15 @@ valued_of bytes p (Some rest) e h =
     let l = skip_parts bytes in
     let r = skip_parts rest in
     let q = quoted_from (skip rest) p (rw (valued, e) at h) in
-    record { left = l.0; right = r.0; mine = q.mine; before = l.1; behind = r.1; is = q.is;
-      there = l.2 ∙ ap (λ (x : List ℕ). l.0 ++ x) (after_from (codes "=") (skip bytes) rest e ∙ ap (λ (x : List ℕ). 61 ∷ x) (r.2 ∙ ap (λ (x : List ℕ). r.0 ++ x) q.there)) }
+    record {
+      left = l.0;
+      right = r.0;
+      mine = q.mine;
+      before = l.1;
+      behind = r.1;
+      is = q.is;
+      there = l.2 ∙ ap (λ (x : List ℕ). l.0 ++ x) (after_from (codes "=") (skip bytes) rest e ∙ ap (λ (x : List ℕ). 61 ∷ x) (r.2 ∙ ap (λ (x : List ℕ). r.0 ++ x) q.there));
+    }
 
 record SettingFrom (name bytes : List ℕ) (p : List ℕ × List ℕ) : Type 0 where
   mine : List ℕ
@@ -254,9 +276,11 @@ setting_from name (b ∷ bytes) p h =
     let n = named_value name (skip bytes) p (after name (skip bytes)) refl t.1 in
     let v = n.2 in
     let space : List ℕ = b ∷ s.0 in
-    record { mine = space ++ (name ++ (v.left ++ (codes "=" ++ (v.right ++ v.mine))));
+    record {
+      mine = space ++ (name ++ (v.left ++ (codes "=" ++ (v.right ++ v.mine))));
       is = is_setting space v.left v.right v.mine (record { white = (t.0, s.1); some = λ x. cc }) v.before v.behind v.is;
-      there = ap (λ (x : List ℕ). b ∷ x) (s.2 ∙ ap (λ (x : List ℕ). s.0 ++ x) (n.1 ∙ ap (λ (x : List ℕ). name ++ x) v.there)) ∙ sym (setting_spread space name v.left v.right v.mine p.1) }
+      there = ap (λ (x : List ℕ). b ∷ x) (s.2 ∙ ap (λ (x : List ℕ). s.0 ++ x) (n.1 ∙ ap (λ (x : List ℕ). name ++ x) v.there)) ∙ sym (setting_spread space name v.left v.right v.mine p.1);
+    }
 
 ends_from : (bytes : List ℕ) → ends bytes ≡ true → (space : List ℕ) × IsWhite space × (bytes ≡ space ++ codes "?")
 ends_from bytes h = let s = skip_parts bytes in (s.0, s.1, s.2 ∙ ap (λ (x : List ℕ). s.0 ++ x) (same (skip bytes) (codes "?") h))
@@ -277,11 +301,16 @@ standalone_of bytes (Some p) e h =
     let (word, last) = and_parts (bytes_eq p.0 (codes "yes") || bytes_eq p.0 (codes "no")) (ends p.1) both in
     let s = setting_from (codes "standalone") bytes p e in
     let t = ends_from p.1 last in
-    record { standalone = s.mine; space = t.0; white = t.1; there = s.there ∙ ap (λ (x : List ℕ). s.mine ++ x) t.2;
+    record {
+      standalone = s.mine;
+      space = t.0;
+      white = t.1;
+      there = s.there ∙ ap (λ (x : List ℕ). s.mine ++ x) t.2;
       is = elim (or_cases (bytes_eq p.0 (codes "yes")) (bytes_eq p.0 (codes "no")) word) [
         | inl k ↦ yes s.mine (subst (λ (v : List ℕ). IsSetting (codes "standalone") v s.mine) (same p.0 (codes "yes") k) s.is)
         | inr k ↦ no s.mine (subst (λ (v : List ℕ). IsSetting (codes "standalone") v s.mine) (same p.0 (codes "no") k) s.is)
-      ] }
+      ];
+    }
 
 record RestFrom (bytes : List ℕ) : Type 0 where
   encoding : List ℕ
@@ -296,8 +325,13 @@ encoding_of bytes (Some p) e h =
     let both : (bytes_eq (str_to_ascii_lowercase p.0) (codes "utf-8") && stands_alone p.1) ≡ true = rw (is_encoded, e) at h in
     let (word, last) = and_parts (bytes_eq (str_to_ascii_lowercase p.0) (codes "utf-8")) (stands_alone p.1) both in
     let s = setting_from (codes "encoding") bytes p e in
-    record { encoding = s.mine; tail = p.1; there = s.there; is = utf8 p.0 s.mine (same (str_to_ascii_lowercase p.0) (codes "utf-8") word) s.is;
-      later = standalone_of p.1 (setting (codes "standalone") p.1) refl last }
+    record {
+      encoding = s.mine;
+      tail = p.1;
+      there = s.there;
+      is = utf8 p.0 s.mine (same (str_to_ascii_lowercase p.0) (codes "utf-8") word) s.is;
+      later = standalone_of p.1 (setting (codes "standalone") p.1) refl last;
+    }
 
 versioned_of : (bytes : List ℕ) (o : Option (List ℕ × List ℕ)) → setting (codes "version") bytes ≡ o → is_versioned o ≡ true → (version : List ℕ) × (tail : List ℕ) × IsSetting (codes "version") (codes "1.0") version × (bytes ≡ version ++ tail) × RestFrom tail
 versioned_of bytes None e h = cc
@@ -313,7 +347,7 @@ xml_of bytes (Some rest) e h =
     let r = v.4 in
     let t = r.later in
     let whole : bytes ≡ codes "xml" ++ (v.0 ++ (r.encoding ++ (t.standalone ++ (t.space ++ codes "?")))) =
-          after_from (codes "xml") bytes rest e ∙ ap (λ (x : List ℕ). codes "xml" ++ x) (v.3 ∙ ap (λ (x : List ℕ). v.0 ++ x) (r.there ∙ ap (λ (x : List ℕ). r.encoding ++ x) t.there)) in
+    after_from (codes "xml") bytes rest e ∙ ap (λ (x : List ℕ). codes "xml" ++ x) (v.3 ∙ ap (λ (x : List ℕ). v.0 ++ x) (r.there ∙ ap (λ (x : List ℕ). r.encoding ++ x) t.there)) in
     subst IsDeclaration (declared_bytes v.0 r.encoding t.standalone t.space ∙ ap (λ (x : List ℕ). 60 ∷ 63 ∷ (x ++ 62 ∷ [])) (sym whole)) (declared v.0 r.encoding t.standalone t.space v.2 r.is t.is t.white)
 
 pub declaration_from : (bytes : List ℕ) → is_declaration bytes ≡ true → IsDeclaration (60 ∷ 63 ∷ (bytes ++ 62 ∷ []))

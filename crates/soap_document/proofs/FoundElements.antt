@@ -36,21 +36,21 @@ module _ (fresh : Bool) (mark : ℕ) (top : Frame) (below : List Frame) (x : Lis
     pub is : IsAttributes tag attributes
     pub room : has_room below top.parts ≡ true
     pub kind : ((bytes ≡ name ++ (tag ++ 62 ∷ rest)) × Accepts (chars_at (frame_of name attributes (at + length name + length tag + 1)) (settled ∷ below) [] [] (at + length name + length tag + 1)) rest u)
-      ⊎ ((bytes ≡ name ++ (tag ++ 47 ∷ 62 ∷ rest)) × Accepts (chars_at (hollow name attributes (at + length name + length tag + 1 + 1)) below [] [] (at + length name + length tag + 1 + 1)) rest u)
+        ⊎ ((bytes ≡ name ++ (tag ++ 47 ∷ 62 ∷ rest)) × Accepts (chars_at (hollow name attributes (at + length name + length tag + 1 + 1)) below [] [] (at + length name + length tag + 1 + 1)) rest u)
 
   -- what stands behind the <
   pub record LessFound (bytes : List ℕ) (at : ℕ) : Type 0 where
     pub rest : List ℕ
     pub is : ((bytes ≡ 47 ∷ rest) × (is_nil below ≡ false) × Accepts (plain_at ending fresh mark settled below [] [] (at + 1)) rest u)
-      ⊎ ((bytes ≡ 33 ∷ rest) × Accepts (plain_at marking fresh mark top below x [] (at + 1)) rest u)
-      ⊎ ((bytes ≡ 63 ∷ rest) × (fresh ≡ true) × Accepts (plain_at declaring fresh mark top below x [] (at + 1)) rest u)
-      ⊎ TagFound bytes at
+        ⊎ ((bytes ≡ 33 ∷ rest) × Accepts (plain_at marking fresh mark top below x [] (at + 1)) rest u)
+        ⊎ ((bytes ≡ 63 ∷ rest) × (fresh ≡ true) × Accepts (plain_at declaring fresh mark top below x [] (at + 1)) rest u)
+        ⊎ TagFound bytes at
 
   abbrev tag_here : List ℕ → Tag
   tag_here name = record { fresh = fresh; mark = mark; top = settled; below = below; name = name }
 
   slash_found : (name : List ℕ) (attributes : List Attribute) (at : ℕ) (bytes : List ℕ) → Accepts (tag_at slashed (tag_here name) attributes [] [] 0 [] at) bytes u
-    → (rest : List ℕ) × (bytes ≡ 62 ∷ rest) × Accepts (chars_at (hollow name attributes (at + 1)) below [] [] (at + 1)) rest u
+      → (rest : List ℕ) × (bytes ≡ 62 ∷ rest) × Accepts (chars_at (hollow name attributes (at + 1)) below [] [] (at + 1)) rest u
   slash_found name attributes at [] h = cc
   slash_found name attributes at (c ∷ bytes) h =
       let s : State = tag_at slashed (tag_here name) attributes [] [] 0 [] at in
@@ -59,33 +59,57 @@ module _ (fresh : Bool) (mark : ℕ) (top : Frame) (below : List Frame) (x : Lis
 
   tag_ended : (bytes name rest : List ℕ) (c at : ℕ) → bytes ≡ name ++ c ∷ rest → is_qname name ≡ true → has_room below top.parts ≡ true → AttributesFound (tag_here name) u [] [] (c ∷ rest) (at + length name) → TagFound bytes at
   tag_ended bytes name rest c at e passes room a = elim a.ends [
-      | inl k ↦
-          record { name = name; tag = a.front; attributes = a.attributes; rest = a.rest; is_name = qname_from name passes; is = a.is; room = room;
-            kind = inl (e ∙ ap (λ (y : List ℕ). name ++ y) (a.there ∙ ap (λ k. a.front ++ k ∷ a.rest) k),
-              subst (λ k. Accepts (counted (at_tagging (between_at false (tag_here name) a.attributes (at + length name + length a.front)) k)) a.rest u) k a.later) }
-      | inr k ↦
-          let r = slash_found name a.attributes (at + length name + length a.front + 1) a.rest
-                (subst (λ k. Accepts (counted (at_tagging (between_at false (tag_here name) a.attributes (at + length name + length a.front)) k)) a.rest u) k a.later) in
-          record { name = name; tag = a.front; attributes = a.attributes; rest = r.0; is_name = qname_from name passes; is = a.is; room = room;
-            kind = inr (e ∙ ap (λ (y : List ℕ). name ++ y) (a.there ∙ ap₂ (λ (k : ℕ) (y : List ℕ). a.front ++ k ∷ y) k r.1), r.2) }
-    ]
+    | inl k ↦
+        record {
+          name = name;
+          tag = a.front;
+          attributes = a.attributes;
+          rest = a.rest;
+          is_name = qname_from name passes;
+          is = a.is;
+          room = room;
+          kind = inl (
+            e ∙ ap (λ (y : List ℕ). name ++ y) (a.there ∙ ap (λ k. a.front ++ k ∷ a.rest) k),
+            subst (λ k. Accepts (counted (at_tagging (between_at false (tag_here name) a.attributes (at + length name + length a.front)) k)) a.rest u) k a.later,
+          );
+        }
+    | inr k ↦
+        let r = slash_found name a.attributes (at + length name + length a.front + 1) a.rest
+        (subst (λ k. Accepts (counted (at_tagging (between_at false (tag_here name) a.attributes (at + length name + length a.front)) k)) a.rest u) k a.later) in
+        record {
+          name = name;
+          tag = a.front;
+          attributes = a.attributes;
+          rest = r.0;
+          is_name = qname_from name passes;
+          is = a.is;
+          room = room;
+          kind = inr (e ∙ ap (λ (y : List ℕ). name ++ y) (a.there ∙ ap₂ (λ (k : ℕ) (y : List ℕ). a.front ++ k ∷ y) k r.1), r.2);
+        }
+  ]
 
   less_step : (bytes m rest : List ℕ) (c at : ℕ) → bytes ≡ m ++ c ∷ rest → Accepts (counted (finish less (less_at fresh mark top below x m (at + length m)) c)) rest u → LessFound bytes at
   less_step bytes [] rest c at e h = subst (λ (y : List ℕ). LessFound y at) (sym e) found
     where
       s : State
       s = less_at fresh mark top below x [] at
+
       h1 : Accepts (counted (finish less s c)) rest u
       h1 = subst (λ p. Accepts (counted (finish less (less_at fresh mark top below x [] p) c)) rest u) (omega arith) h
+
       end_state : State
       end_state = plain_at ending fresh mark settled below [] [] at
+
       mark_state : State
       mark_state = plain_at marking fresh mark top below x [] at
+
       declare_state : State
       declare_state = plain_at declaring fresh mark top below x [] at
+
       false_from : (b : Bool) → not b ≡ true → b ≡ false
       false_from true f = cc
       false_from false f = refl
+
       found : LessFound (c ∷ rest) at
       found =
           let after2 : State = cond (nat_eq c 63 && fresh) declare_state (refuse s) in
@@ -95,12 +119,12 @@ module _ (fresh : Bool) (mark : ℕ) (top : Frame) (below : List Frame) (x : Lis
                 let (is, inside) = and_parts (nat_eq c 47) (not (is_nil below)) k.0 in
                 record { rest = rest; is = inl (ap (λ d. d ∷ rest) (eqb-true c 47 is), false_from (is_nil below) inside, k.1) }
             | inr k ↦ elim (chosen (nat_eq c 33) mark_state after2 rest u k.1) [
-                | inl j ↦ record { rest = rest; is = inr (inl (ap (λ d. d ∷ rest) (eqb-true c 33 j.0), j.1)) }
-                | inr j ↦
-                    let p = passed (nat_eq c 63 && fresh) declare_state s rest u j.1 in
-                    let (is, first) = and_parts (nat_eq c 63) fresh p.0 in
-                    record { rest = rest; is = inr (inr (inl (ap (λ d. d ∷ rest) (eqb-true c 63 is), first, p.1))) }
-              ]
+              | inl j ↦ record { rest = rest; is = inr (inl (ap (λ d. d ∷ rest) (eqb-true c 33 j.0), j.1)) }
+              | inr j ↦
+                  let p = passed (nat_eq c 63 && fresh) declare_state s rest u j.1 in
+                  let (is, first) = and_parts (nat_eq c 63) fresh p.0 in
+                  record { rest = rest; is = inr (inr (inl (ap (λ d. d ∷ rest) (eqb-true c 63 is), first, p.1))) }
+            ]
           ]
   less_step bytes (b ∷ m) rest c at e h =
       let name : List ℕ = b ∷ m in
@@ -132,7 +156,7 @@ module _ (u : Element) where
 
   abbrev RecurContent : ℕ → Type 0
   RecurContent fuel = (top frame : Frame) (frames : List Frame) (at : ℕ) (bytes : List ℕ) → length bytes ≤ fuel → Accepts (chars_at top (frame ∷ frames) [] [] at) bytes u
-    → ContentFound top frame frames bytes at
+      → ContentFound top frame frames bytes at
 
   pub record EndTagFound (top frame : Frame) (frames : List Frame) (mark : ℕ) (bytes : List ℕ) (at : ℕ) : Type 0 where
     pub space : List ℕ
@@ -147,10 +171,13 @@ module _ (u : Element) where
       let over : Frame = with_parts frame (child (element top.name top.attributes top.start mark top.parts) none) in
       let p = passed (is_end top.name n.token) (chars_at over frames [] [] (at + length n.token)) (plain_at ending false mark top (frame ∷ frames) [] n.token (at + length n.token)) n.rest u n.later in
       let e = end_from top.name n.token p.0 in
-      record { space = e.0; rest = n.rest;
+      record {
+        space = e.0;
+        rest = n.rest;
         there = n.there ∙ ap₂ (λ (y : List ℕ) (k : ℕ). y ++ k ∷ n.rest) e.1 (eqb-true n.last 62 n.stop) ∙ append_assoc top.name e.0 (62 ∷ n.rest);
         white = e.2;
-        later = subst (λ q. Accepts (chars_at over frames [] [] (q + 1)) n.rest u) (ap (λ (y : List ℕ). at + length y) e.1 ∙ end_place top.name e.0) p.1 }
+        later = subst (λ q. Accepts (chars_at over frames [] [] (q + 1)) n.rest u) (ap (λ (y : List ℕ). at + length y) e.1 ∙ end_place top.name e.0) p.1;
+      }
     where
       end_place : (name space : List ℕ) → at + length (name ++ space) ≡ at + length name + length space
       end_place name space = omega (arith, length-append name space)
@@ -184,8 +211,8 @@ module _ (u : Element) where
     settled_here = with_parts top (onto x none)
 
     full_found : (name tag : List ℕ) (attributes : List Attribute) (rest : List ℕ) → IsQName name → IsAttributes tag attributes → length below < max_depth → bytes ≡ name ++ (tag ++ 62 ∷ rest) → length bytes ≤ suc fuel
-      → Accepts (chars_at (record { name = name; attributes = attributes; start = at + length (start_tag name tag); parts = none }) (settled_here ∷ below) [] [] (at + length (start_tag name tag))) rest u
-      → ElementFound fresh top below x bytes at
+        → Accepts (chars_at (record { name = name; attributes = attributes; start = at + length (start_tag name tag); parts = none }) (settled_here ∷ below) [] [] (at + length (start_tag name tag))) rest u
+        → ElementFound fresh top below x bytes at
     full_found name tag attributes rest q a deep e short h =
         let start : ℕ = at + length (start_tag name tag) in
         let frame : Frame = record { name = name; attributes = attributes; start = start; parts = none } in
@@ -201,55 +228,66 @@ module _ (u : Element) where
           there = ap (λ (y : List ℕ). 60 ∷ y) (e ∙ ap (λ (y : List ℕ). name ++ (tag ++ 62 ∷ y)) (c.there ∙ ap (λ (y : List ℕ). c.content ++ 60 ∷ 47 ∷ y) t.there)) ∙ full_bytes name tag c.content t.space t.rest;
           is = full (length below) at name tag attributes c.content c.parts t.space deep q a c.is t.white;
           later = subst (λ p. Accepts (chars_at (with_parts settled_here (child (element name attributes start mark c.parts) none)) below [] [] p) t.rest u)
-            (full_place (start_tag name tag) c.content name t.space tag at) t.later }
+              (full_place (start_tag name tag) c.content name t.space tag at) t.later;
+        }
 
     pub element_from : TagFound fresh at top below x u bytes (at + 1) → length bytes ≤ suc fuel → ElementFound fresh top below x bytes at
     element_from t short = elim t.kind [
-        | inl k ↦ full_found t.name t.tag t.attributes t.rest t.is_name t.is (room_depth below top.parts t.room) k.0 short
-            (subst (λ p. Accepts (chars_at (record { name = t.name; attributes = t.attributes; start = p; parts = none }) (settled_here ∷ below) [] [] p) t.rest u) (start_place at t.name t.tag) k.1)
-        | inr k ↦
-            let place : ℕ = at + length (empty_tag t.name t.tag) in
-            record {
-              inner = empty_tag t.name t.tag; first = element t.name t.attributes place place none; rest = t.rest;
-              there = ap (λ (y : List ℕ). 60 ∷ y) k.0 ∙ hollow_bytes t.name t.tag t.rest;
-              is = empty (length below) at t.name t.tag t.attributes (room_depth below top.parts t.room) t.is_name t.is;
-              later = subst (λ p. Accepts (chars_at (with_parts settled_here (child (element t.name t.attributes p p none) none)) below [] [] p) t.rest u) (hollow_place at t.name t.tag) k.1 }
-      ]
+      | inl k ↦ full_found t.name t.tag t.attributes t.rest t.is_name t.is (room_depth below top.parts t.room) k.0 short
+          (subst (λ p. Accepts (chars_at (record { name = t.name; attributes = t.attributes; start = p; parts = none }) (settled_here ∷ below) [] [] p) t.rest u) (start_place at t.name t.tag) k.1)
+      | inr k ↦
+          let place : ℕ = at + length (empty_tag t.name t.tag) in
+          record {
+            inner = empty_tag t.name t.tag;
+            first = element t.name t.attributes place place none;
+            rest = t.rest;
+            there = ap (λ (y : List ℕ). 60 ∷ y) k.0 ∙ hollow_bytes t.name t.tag t.rest;
+            is = empty (length below) at t.name t.tag t.attributes (room_depth below top.parts t.room) t.is_name t.is;
+            later = subst (λ p. Accepts (chars_at (with_parts settled_here (child (element t.name t.attributes p p none) none)) below [] [] p) t.rest u) (hollow_place at t.name t.tag) k.1;
+          }
+    ]
 
   abbrev Inside : Frame → Frame → List Frame → ℕ → List ℕ → Type 0
   Inside top frame frames at bytes = Accepts (chars_at top (frame ∷ frames) [] [] at) bytes u
 
   then_content : (top frame : Frame) (frames : List Frame) (at : ℕ) (bytes front meaning rest : List ℕ) → IsText front meaning → bytes ≡ front ++ 60 ∷ rest
-    → (e : ElementFound false top (frame ∷ frames) meaning rest (at + length front))
-    → ContentFound (with_parts (with_parts top (onto meaning none)) (child e.first none)) frame frames e.rest (at + length front + length e.inner) → ContentFound top frame frames bytes at
+      → (e : ElementFound false top (frame ∷ frames) meaning rest (at + length front))
+      → ContentFound (with_parts (with_parts top (onto meaning none)) (child e.first none)) frame frames e.rest (at + length front + length e.inner) → ContentFound top frame frames bytes at
   then_content top frame frames at bytes front meaning rest t there e c = record {
-      content = front ++ (e.inner ++ c.content); parts = onto meaning (child e.first c.parts); rest = c.rest;
-      there = there ∙ ap (λ (y : List ℕ). front ++ y) (e.there ∙ ap (λ (y : List ℕ). e.inner ++ y) c.there) ∙ spread;
-      is = then_child (length (frame ∷ frames)) at front meaning e.inner e.first c.content c.parts t e.is c.is;
-      later = subst (λ (p : ℕ × Frame). Accepts (plain_at ending false p.0 p.1 (frame ∷ frames) [] [] (p.0 + 1 + 1)) c.rest u)
-        (ap₂ (λ (y : ℕ) (z : Frame). (y, z)) place (grown top meaning e.first c.parts)) c.later }
+    content = front ++ (e.inner ++ c.content);
+    parts = onto meaning (child e.first c.parts);
+    rest = c.rest;
+    there = there ∙ ap (λ (y : List ℕ). front ++ y) (e.there ∙ ap (λ (y : List ℕ). e.inner ++ y) c.there) ∙ spread;
+    is = then_child (length (frame ∷ frames)) at front meaning e.inner e.first c.content c.parts t e.is c.is;
+    later = subst (λ (p : ℕ × Frame). Accepts (plain_at ending false p.0 p.1 (frame ∷ frames) [] [] (p.0 + 1 + 1)) c.rest u)
+        (ap₂ (λ (y : ℕ) (z : Frame). (y, z)) place (grown top meaning e.first c.parts)) c.later;
+  }
     where
       spread : front ++ (e.inner ++ (c.content ++ 60 ∷ 47 ∷ c.rest)) ≡ (front ++ (e.inner ++ c.content)) ++ 60 ∷ 47 ∷ c.rest
       spread = simp append_assoc
+
       place : at + length front + length e.inner + length c.content ≡ at + length (front ++ (e.inner ++ c.content))
       place = omega (arith, length-append front (e.inner ++ c.content), length-append e.inner c.content)
 
   content_step : (fuel : ℕ) → RecurContent fuel → (top frame : Frame) (frames : List Frame) (at : ℕ) (bytes : List ℕ) → length bytes ≤ suc fuel
-    → (t : TextFound frame frames u top [] bytes at) → LessFound false (at + length t.front) top (frame ∷ frames) t.meaning u t.rest (at + length t.front + 1) → ContentFound top frame frames bytes at
+      → (t : TextFound frame frames u top [] bytes at) → LessFound false (at + length t.front) top (frame ∷ frames) t.meaning u t.rest (at + length t.front + 1) → ContentFound top frame frames bytes at
   content_step fuel recur top frame frames at bytes short t l = elim l.is [
-      | inl k ↦ record {
-          content = t.front; parts = onto t.meaning none; rest = l.rest;
-          there = t.there ∙ ap (λ (y : List ℕ). t.front ++ 60 ∷ y) k.0;
-          is = last_text (length (frame ∷ frames)) at t.front t.meaning t.is;
-          later = k.2 }
-      | inr (inl k) ↦ absurd (t.plain_rest l.rest k.0)
-      | inr (inr (inl k)) ↦ absurd (true≢false (sym k.1))
-      | inr (inr (inr k)) ↦
-          let e = element_from false top (frame ∷ frames) t.meaning (at + length t.front) t.rest fuel recur k (omega (arith, ap length t.there, length-append t.front (60 ∷ t.rest))) in
-          let less : length e.rest ≤ fuel = omega (arith, ap length t.there, length-append t.front (60 ∷ t.rest), ap length e.there, length-append e.inner e.rest, element_some e.is) in
-          then_content top frame frames at bytes t.front t.meaning t.rest t.is t.there e
-            (recur (with_parts (with_parts top (onto t.meaning none)) (child e.first none)) frame frames (at + length t.front + length e.inner) e.rest less e.later)
-    ]
+    | inl k ↦ record {
+      content = t.front;
+      parts = onto t.meaning none;
+      rest = l.rest;
+      there = t.there ∙ ap (λ (y : List ℕ). t.front ++ 60 ∷ y) k.0;
+      is = last_text (length (frame ∷ frames)) at t.front t.meaning t.is;
+      later = k.2;
+    }
+    | inr (inl k) ↦ absurd (t.plain_rest l.rest k.0)
+    | inr (inr (inl k)) ↦ absurd (true≢false (sym k.1))
+    | inr (inr (inr k)) ↦
+        let e = element_from false top (frame ∷ frames) t.meaning (at + length t.front) t.rest fuel recur k (omega (arith, ap length t.there, length-append t.front (60 ∷ t.rest))) in
+        let less : length e.rest ≤ fuel = omega (arith, ap length t.there, length-append t.front (60 ∷ t.rest), ap length e.there, length-append e.inner e.rest, element_some e.is) in
+        then_content top frame frames at bytes t.front t.meaning t.rest t.is t.there e
+        (recur (with_parts (with_parts top (onto t.meaning none)) (child e.first none)) frame frames (at + length t.front + length e.inner) e.rest less e.later)
+  ]
     where
       element_some : {depth at : ℕ} {bytes : List ℕ} {first : Element} → IsElement depth at bytes first → 1 ≤ length bytes
       element_some (full depth at name tag attributes content parts space d q a c w) = omega arith

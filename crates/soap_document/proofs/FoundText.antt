@@ -30,13 +30,13 @@ pub record ReferenceFound (bytes : List ℕ) (P : ℕ → ℕ → List ℕ → T
 
 module _ (top : Frame) (below : List Frame) (text : List ℕ) (u : Element) where
   referred : (at : ℕ) (inner rest : List ℕ) (o : Option ℕ) → Tokens.reference (38 ∷ (inner ++ 59 ∷ [])) ≡ o
-    → Accepts (counted (at_referring (plain_at referring false 0 top below text (38 ∷ inner) (at + length inner)) o)) rest u
-    → (c : ℕ) × IsReference (38 ∷ (inner ++ 59 ∷ [])) c × Accepts (chars_at top below (text ++ encode_utf8 c) [] (at + length inner + 1)) rest u
+      → Accepts (counted (at_referring (plain_at referring false 0 top below text (38 ∷ inner) (at + length inner)) o)) rest u
+      → (c : ℕ) × IsReference (38 ∷ (inner ++ 59 ∷ [])) c × Accepts (chars_at top below (text ++ encode_utf8 c) [] (at + length inner + 1)) rest u
   referred at inner rest None e h = absurd (refused_never (plain_at referring false 0 top below text (38 ∷ inner) (at + length inner)) rest u h)
   referred at inner rest (Some c) e h = (c, reference_from (38 ∷ (inner ++ 59 ∷ [])) c e, h)
 
   pub reference_found : (at : ℕ) (bytes : List ℕ) → Accepts (plain_at referring false 0 top below text (38 ∷ []) at) bytes u
-    → ReferenceFound bytes (λ c n rest. Accepts (chars_at top below (text ++ encode_utf8 c) [] (at + n + 1)) rest u)
+      → ReferenceFound bytes (λ c n rest. Accepts (chars_at top below (text ++ encode_utf8 c) [] (at + n + 1)) rest u)
   reference_found at bytes h =
       let n = next (plain_at referring false 0 top below text (38 ∷ []) at) bytes u (λ _ _. refl) h in
       let r = referred at n.token n.rest (Tokens.reference (38 ∷ (n.token ++ 59 ∷ []))) refl n.later in
@@ -57,10 +57,13 @@ EndFound-more : (word token bytes m rest : List ℕ) (P Q : List ℕ → ℕ →
     → ((inner : List ℕ) (n : ℕ) (later : List ℕ) → Q inner n later → P inner (length m + 1 + n) later)
     → EndFound word ((token ++ m) ++ 62 ∷ []) rest Q → EndFound word token bytes P
 EndFound-more word token bytes m rest P Q e f h = record {
-    front = m ++ 62 ∷ h.front; inner = h.inner; rest = h.rest;
-    there = e ∙ ap (λ (x : List ℕ). m ++ 62 ∷ x) h.there ∙ sym (append_assoc m (62 ∷ h.front) (62 ∷ h.rest));
-    is = spread token m h.front ∙ h.is;
-    later = subst (λ n. P h.inner n h.rest) (omega (arith, length-append m (62 ∷ h.front))) (f h.inner (length h.front) h.rest h.later) }
+  front = m ++ 62 ∷ h.front;
+  inner = h.inner;
+  rest = h.rest;
+  there = e ∙ ap (λ (x : List ℕ). m ++ 62 ∷ x) h.there ∙ sym (append_assoc m (62 ∷ h.front) (62 ∷ h.rest));
+  is = spread token m h.front ∙ h.is;
+  later = subst (λ n. P h.inner n h.rest) (omega (arith, length-append m (62 ∷ h.front))) (f h.inner (length h.front) h.rest h.later);
+}
   where
     spread : (token m front : List ℕ) → token ++ (m ++ 62 ∷ front) ≡ ((token ++ m) ++ 62 ∷ []) ++ front
     spread token m front = simp append_assoc
@@ -73,8 +76,8 @@ module _ (fresh : Bool) (mark : ℕ) (top : Frame) (below : List Frame) (text : 
   AfterComment at inner n rest = IsComment inner × Accepts (chars_at top below text [] (at + n + 1)) rest u
 
   comment_end : (at : ℕ) (token rest : List ℕ) (o : Option (List ℕ)) → without (codes "--") token ≡ o
-    → Accepts (counted (at_commenting (in_comment token at) o)) rest u
-    → ((inner : List ℕ) × (token ≡ inner ++ codes "--") × IsComment inner × Accepts (chars_at top below text [] (at + 1)) rest u)
+      → Accepts (counted (at_commenting (in_comment token at) o)) rest u
+      → ((inner : List ℕ) × (token ≡ inner ++ codes "--") × IsComment inner × Accepts (chars_at top below text [] (at + 1)) rest u)
       ⊎ Accepts (in_comment (token ++ 62 ∷ []) (at + 1)) rest u
   comment_end at token rest None e h = inr h
   comment_end at token rest (Some inner) e h =
@@ -82,7 +85,7 @@ module _ (fresh : Bool) (mark : ℕ) (top : Frame) (below : List Frame) (text : 
       inl (inner, without_from (codes "--") token inner e, comment_from inner p.0, p.1)
 
   pub comment_found : (fuel : ℕ) (token : List ℕ) (at : ℕ) (bytes : List ℕ) → length bytes ≤ fuel → Accepts (in_comment token at) bytes u
-    → EndFound (codes "--") token bytes (AfterComment at)
+      → EndFound (codes "--") token bytes (AfterComment at)
   comment_found zero token at bytes short h =
       let n = next (in_comment token at) bytes u (λ _ _. refl) h in
       absurd (omega (arith, shorter bytes n.token n.rest n.last n.there))
@@ -104,8 +107,8 @@ module _ (fresh : Bool) (mark : ℕ) (top : Frame) (below : List Frame) (text : 
   AfterCdata at inner n rest = IsCdata inner × Accepts (chars_at top below (text ++ with_line_ends inner) [] (at + n + 1)) rest u
 
   cdata_end : (at : ℕ) (token rest : List ℕ) (o : Option (List ℕ)) → without (codes "]]") token ≡ o
-    → Accepts (counted (at_quoting (in_cdata token at) o)) rest u
-    → ((inner : List ℕ) × (token ≡ inner ++ codes "]]") × IsCdata inner × Accepts (chars_at top below (text ++ with_line_ends inner) [] (at + 1)) rest u)
+      → Accepts (counted (at_quoting (in_cdata token at) o)) rest u
+      → ((inner : List ℕ) × (token ≡ inner ++ codes "]]") × IsCdata inner × Accepts (chars_at top below (text ++ with_line_ends inner) [] (at + 1)) rest u)
       ⊎ Accepts (in_cdata (token ++ 62 ∷ []) (at + 1)) rest u
   cdata_end at token rest None e h = inr h
   cdata_end at token rest (Some inner) e h =
@@ -113,7 +116,7 @@ module _ (fresh : Bool) (mark : ℕ) (top : Frame) (below : List Frame) (text : 
       inl (inner, without_from (codes "]]") token inner e, cdata_from inner p.0, p.1)
 
   pub cdata_found : (fuel : ℕ) (token : List ℕ) (at : ℕ) (bytes : List ℕ) → length bytes ≤ fuel → Accepts (in_cdata token at) bytes u
-    → EndFound (codes "]]") token bytes (AfterCdata at)
+      → EndFound (codes "]]") token bytes (AfterCdata at)
   cdata_found zero token at bytes short h =
       let n = next (in_cdata token at) bytes u (λ _ _. refl) h in
       absurd (omega (arith, shorter bytes n.token n.rest n.last n.there))
@@ -139,7 +142,7 @@ module _ (fresh : Bool) (mark : ℕ) (top : Frame) (below : List Frame) (text : 
     rest : List ℕ
     there : bytes ≡ front ++ rest
     begun : ((token ++ front ≡ codes "--") × Accepts (in_comment [] (at + length front)) rest u)
-      ⊎ ((token ++ front ≡ codes "[CDATA[") × (is_nil below ≡ false) × Accepts (in_cdata [] (at + length front)) rest u)
+        ⊎ ((token ++ front ≡ codes "[CDATA[") × (is_nil below ≡ false) × Accepts (in_cdata [] (at + length front)) rest u)
 
   false_from : (b : Bool) → not b ≡ true → b ≡ false
   false_from true e = cc
@@ -150,15 +153,18 @@ module _ (fresh : Bool) (mark : ℕ) (top : Frame) (below : List Frame) (text : 
 
   MarkupFound-more : (token bytes : List ℕ) (at : ℕ) (m rest : List ℕ) (c : ℕ) → bytes ≡ m ++ c ∷ rest → MarkupFound ((token ++ m) ++ c ∷ []) rest (at + length m + 1) → MarkupFound token bytes at
   MarkupFound-more token bytes at m rest c e r = record {
-      front = m ++ c ∷ r.front; rest = r.rest;
-      there = e ∙ ap (λ (x : List ℕ). m ++ c ∷ x) r.there ∙ sym (append_assoc m (c ∷ r.front) r.rest);
-      begun = elim r.begun [
-        | inl k ↦ inl (spread ∙ k.0, subst (λ p. Accepts (in_comment [] p) r.rest u) place k.1)
-        | inr k ↦ inr (spread ∙ k.0, k.1, subst (λ p. Accepts (in_cdata [] p) r.rest u) place k.2)
-      ] }
+    front = m ++ c ∷ r.front;
+    rest = r.rest;
+    there = e ∙ ap (λ (x : List ℕ). m ++ c ∷ x) r.there ∙ sym (append_assoc m (c ∷ r.front) r.rest);
+    begun = elim r.begun [
+      | inl k ↦ inl (spread ∙ k.0, subst (λ p. Accepts (in_comment [] p) r.rest u) place k.1)
+      | inr k ↦ inr (spread ∙ k.0, k.1, subst (λ p. Accepts (in_cdata [] p) r.rest u) place k.2)
+    ];
+  }
     where
       spread : token ++ (m ++ c ∷ r.front) ≡ ((token ++ m) ++ c ∷ []) ++ r.front
       spread = simp append_assoc
+
       place : at + length m + 1 + length r.front ≡ at + length (m ++ c ∷ r.front)
       place = omega (arith, length-append m (c ∷ r.front))
 
@@ -182,14 +188,22 @@ module _ (fresh : Bool) (mark : ℕ) (top : Frame) (below : List Frame) (text : 
             let r = markup_found fuel t (at + length n.token + 1) n.rest (omega (arith, shorter bytes n.token n.rest n.last n.there)) k.1 in
             MarkupFound-more token bytes at n.token n.rest n.last n.there r
         | inr k ↦ elim (chosen (bytes_eq t (codes "--")) comments rest1 n.rest u k.1) [
-            | inl j ↦ record { front = n.token ++ n.last ∷ []; rest = n.rest; there = there;
-                begun = inl (whole ∙ same t (codes "--") j.0, subst (λ p. Accepts (in_comment [] p) n.rest u) place j.1) }
-            | inr j ↦
-                let p = passed (bytes_eq t (codes "[CDATA[") && not (is_nil below)) quotes s n.rest u j.1 in
-                let (is, inside) = and_parts (bytes_eq t (codes "[CDATA[")) (not (is_nil below)) p.0 in
-                record { front = n.token ++ n.last ∷ []; rest = n.rest; there = there;
-                  begun = inr (whole ∙ same t (codes "[CDATA[") is, false_from (is_nil below) inside, subst (λ q. Accepts (in_cdata [] q) n.rest u) place p.1) }
-          ]
+          | inl j ↦ record {
+            front = n.token ++ n.last ∷ [];
+            rest = n.rest;
+            there = there;
+            begun = inl (whole ∙ same t (codes "--") j.0, subst (λ p. Accepts (in_comment [] p) n.rest u) place j.1);
+          }
+          | inr j ↦
+              let p = passed (bytes_eq t (codes "[CDATA[") && not (is_nil below)) quotes s n.rest u j.1 in
+              let (is, inside) = and_parts (bytes_eq t (codes "[CDATA[")) (not (is_nil below)) p.0 in
+              record {
+                front = n.token ++ n.last ∷ [];
+                rest = n.rest;
+                there = there;
+                begun = inr (whole ∙ same t (codes "[CDATA[") is, false_from (is_nil below) inside, subst (λ q. Accepts (in_cdata [] q) n.rest u) place p.1);
+              }
+        ]
       ]
 
   -- a comment, or a CDATA section within an element
@@ -197,7 +211,7 @@ module _ (fresh : Bool) (mark : ℕ) (top : Frame) (below : List Frame) (text : 
     pub inner : List ℕ
     pub rest : List ℕ
     pub is : ((bytes ≡ codes "--" ++ (inner ++ (codes "-->" ++ rest))) × IsComment inner × Accepts (chars_at top below text [] (at + length (codes "--" ++ (inner ++ codes "-->")))) rest u)
-      ⊎ ((bytes ≡ codes "[CDATA[" ++ (inner ++ (codes "]]>" ++ rest))) × (is_nil below ≡ false) × IsCdata inner
+        ⊎ ((bytes ≡ codes "[CDATA[" ++ (inner ++ (codes "]]>" ++ rest))) × (is_nil below ≡ false) × IsCdata inner
         × Accepts (chars_at top below (text ++ with_line_ends inner) [] (at + length (codes "[CDATA[" ++ (inner ++ codes "]]>")))) rest u)
 
   comment_place : (at : ℕ) (front inner : List ℕ) → front ≡ inner ++ codes "--" → at + 2 + length front + 1 ≡ at + length (codes "--" ++ (inner ++ codes "-->"))
@@ -208,19 +222,26 @@ module _ (fresh : Bool) (mark : ℕ) (top : Frame) (below : List Frame) (text : 
 
   is_comment_at : (at : ℕ) (bytes front rest : List ℕ) → bytes ≡ front ++ rest → front ≡ codes "--" → EndFound (codes "--") [] rest (AfterComment (at + length front)) → Marked bytes at
   is_comment_at at bytes front rest e f r = record {
-      inner = r.inner; rest = r.rest;
-      is = inl (
-        e ∙ ap₂ (λ (x y : List ℕ). x ++ y) f (r.there ∙ ap (λ (x : List ℕ). x ++ 62 ∷ r.rest) r.is ∙ append_assoc r.inner (codes "--") (62 ∷ r.rest)),
-        r.later.0,
-        subst (λ p. Accepts (chars_at top below text [] p) r.rest u) (ap (λ (x : List ℕ). at + length x + length r.front + 1) f ∙ comment_place at r.front r.inner r.is) r.later.1) }
+    inner = r.inner;
+    rest = r.rest;
+    is = inl (
+      e ∙ ap₂ (λ (x y : List ℕ). x ++ y) f (r.there ∙ ap (λ (x : List ℕ). x ++ 62 ∷ r.rest) r.is ∙ append_assoc r.inner (codes "--") (62 ∷ r.rest)),
+      r.later.0,
+      subst (λ p. Accepts (chars_at top below text [] p) r.rest u) (ap (λ (x : List ℕ). at + length x + length r.front + 1) f ∙ comment_place at r.front r.inner r.is) r.later.1,
+    );
+  }
 
   is_cdata_at : (at : ℕ) (bytes front rest : List ℕ) → bytes ≡ front ++ rest → front ≡ codes "[CDATA[" → is_nil below ≡ false → EndFound (codes "]]") [] rest (AfterCdata (at + length front)) → Marked bytes at
   is_cdata_at at bytes front rest e f inside r = record {
-      inner = r.inner; rest = r.rest;
-      is = inr (
-        e ∙ ap₂ (λ (x y : List ℕ). x ++ y) f (r.there ∙ ap (λ (x : List ℕ). x ++ 62 ∷ r.rest) r.is ∙ append_assoc r.inner (codes "]]") (62 ∷ r.rest)),
-        inside, r.later.0,
-        subst (λ p. Accepts (chars_at top below (text ++ with_line_ends r.inner) [] p) r.rest u) (ap (λ (x : List ℕ). at + length x + length r.front + 1) f ∙ cdata_place at r.front r.inner r.is) r.later.1) }
+    inner = r.inner;
+    rest = r.rest;
+    is = inr (
+      e ∙ ap₂ (λ (x y : List ℕ). x ++ y) f (r.there ∙ ap (λ (x : List ℕ). x ++ 62 ∷ r.rest) r.is ∙ append_assoc r.inner (codes "]]") (62 ∷ r.rest)),
+      inside,
+      r.later.0,
+      subst (λ p. Accepts (chars_at top below (text ++ with_line_ends r.inner) [] p) r.rest u) (ap (λ (x : List ℕ). at + length x + length r.front + 1) f ∙ cdata_place at r.front r.inner r.is) r.later.1,
+    );
+  }
 
   -- behind <!, at this place
   pub marked_found : (at : ℕ) (bytes : List ℕ) → Accepts (marked [] at) bytes u → Marked bytes at
@@ -250,16 +271,21 @@ module _ (frame : Frame) (frames : List Frame) (u : Element) where
   TextFound-more : (top : Frame) (text bytes : List ℕ) (at : ℕ) (m markup meaning b : List ℕ) (p : ℕ) → bytes ≡ m ++ (markup ++ b) → is_char_data m ≡ true → IsMarkup markup meaning
       → p ≡ at + length m + length markup → TextFound top ((text ++ with_line_ends m) ++ meaning) b p → TextFound top text bytes at
   TextFound-more top text bytes at m markup meaning b p e passes is place r = record {
-      front = m ++ (markup ++ r.front); meaning = with_line_ends m ++ (meaning ++ r.meaning); rest = r.rest;
-      there = e ∙ ap (λ (x : List ℕ). m ++ (markup ++ x)) r.there ∙ spread;
-      is = more m markup meaning r.front r.meaning (data_from m passes) is r.is;
-      plain_rest = r.plain_rest;
-      later = subst (λ (q : ℕ × List ℕ). Accepts (less_at false q.0 top below q.1 [] (q.0 + 1)) r.rest u) (ap₂ (λ (x : ℕ) (y : List ℕ). (x, y)) all_place sum) r.later }
+    front = m ++ (markup ++ r.front);
+    meaning = with_line_ends m ++ (meaning ++ r.meaning);
+    rest = r.rest;
+    there = e ∙ ap (λ (x : List ℕ). m ++ (markup ++ x)) r.there ∙ spread;
+    is = more m markup meaning r.front r.meaning (data_from m passes) is r.is;
+    plain_rest = r.plain_rest;
+    later = subst (λ (q : ℕ × List ℕ). Accepts (less_at false q.0 top below q.1 [] (q.0 + 1)) r.rest u) (ap₂ (λ (x : ℕ) (y : List ℕ). (x, y)) all_place sum) r.later;
+  }
     where
       spread : m ++ (markup ++ (r.front ++ 60 ∷ r.rest)) ≡ (m ++ (markup ++ r.front)) ++ 60 ∷ r.rest
       spread = simp append_assoc
+
       sum : ((text ++ with_line_ends m) ++ meaning) ++ r.meaning ≡ text ++ (with_line_ends m ++ (meaning ++ r.meaning))
       sum = append_assoc (text ++ with_line_ends m) meaning r.meaning ∙ append_assoc text (with_line_ends m) (meaning ++ r.meaning)
+
       all_place : p + length r.front ≡ at + length (m ++ (markup ++ r.front))
       all_place = omega (arith, place, length-append m (markup ++ r.front), length-append markup r.front)
 
@@ -279,8 +305,8 @@ module _ (frame : Frame) (frames : List Frame) (u : Element) where
         let r = reference_found top below so_far u (place + 1) rest h in
         let markup : List ℕ = 38 ∷ (r.inner ++ 59 ∷ []) in
         TextFound-more top text bytes at m markup (encode_utf8 r.c) r.rest (place + 1 + length r.inner + 1) (e ∙ ap (λ (x : List ℕ). m ++ 38 ∷ x) (r.there ∙ sym (append_assoc r.inner (59 ∷ []) r.rest))) passes
-          (reference markup r.c r.is) (omega (arith, length-append r.inner (59 ∷ [])))
-          (recur (so_far ++ encode_utf8 r.c) (place + 1 + length r.inner + 1) r.rest (omega (arith, shorter bytes m rest 38 e, shorter rest r.inner r.rest 59 r.there)) r.later)
+        (reference markup r.c r.is) (omega (arith, length-append r.inner (59 ∷ [])))
+        (recur (so_far ++ encode_utf8 r.c) (place + 1 + length r.inner + 1) r.rest (omega (arith, shorter bytes m rest 38 e, shorter rest r.inner r.rest 59 r.there)) r.later)
 
     at_markup : (rest : List ℕ) → bytes ≡ m ++ 60 ∷ 33 ∷ rest → length bytes ≤ suc fuel → Accepts (plain_at marking false place top below so_far [] (place + 1 + 1)) rest u → TextFound top text bytes at
     at_markup rest e short h =
@@ -289,30 +315,30 @@ module _ (frame : Frame) (frames : List Frame) (u : Element) where
           | inl k ↦
               let inner_place : ℕ = place + 1 + 1 + length (codes "--" ++ (r.inner ++ codes "-->")) in
               TextFound-more top text bytes at m (codes "<!--" ++ (r.inner ++ codes "-->")) [] r.rest inner_place
-                (e ∙ ap (λ (x : List ℕ). m ++ 60 ∷ 33 ∷ x) (k.0 ∙ ap (λ (x : List ℕ). codes "--" ++ x) (sym (append_assoc r.inner (codes "-->") r.rest)))) passes
-                (comment r.inner k.1) (omega arith)
-                (recur (so_far ++ []) inner_place r.rest (omega (arith, shorter bytes m (33 ∷ rest) 60 e, ap length k.0, length-append r.inner (codes "-->" ++ r.rest)))
-                  (subst (λ (t : List ℕ). Accepts (chars_at top below t [] inner_place) r.rest u) (sym (append-nil so_far)) k.2))
+              (e ∙ ap (λ (x : List ℕ). m ++ 60 ∷ 33 ∷ x) (k.0 ∙ ap (λ (x : List ℕ). codes "--" ++ x) (sym (append_assoc r.inner (codes "-->") r.rest)))) passes
+              (comment r.inner k.1) (omega arith)
+              (recur (so_far ++ []) inner_place r.rest (omega (arith, shorter bytes m (33 ∷ rest) 60 e, ap length k.0, length-append r.inner (codes "-->" ++ r.rest)))
+              (subst (λ (t : List ℕ). Accepts (chars_at top below t [] inner_place) r.rest u) (sym (append-nil so_far)) k.2))
           | inr k ↦
               let inner_place : ℕ = place + 1 + 1 + length (codes "[CDATA[" ++ (r.inner ++ codes "]]>")) in
               TextFound-more top text bytes at m (codes "<![CDATA[" ++ (r.inner ++ codes "]]>")) (with_line_ends r.inner) r.rest inner_place
-                (e ∙ ap (λ (x : List ℕ). m ++ 60 ∷ 33 ∷ x) (k.0 ∙ ap (λ (x : List ℕ). codes "[CDATA[" ++ x) (sym (append_assoc r.inner (codes "]]>") r.rest)))) passes
-                (cdata r.inner k.2) (omega arith)
-                (recur (so_far ++ with_line_ends r.inner) inner_place r.rest (omega (arith, shorter bytes m (33 ∷ rest) 60 e, ap length k.0, length-append r.inner (codes "]]>" ++ r.rest))) k.3)
+              (e ∙ ap (λ (x : List ℕ). m ++ 60 ∷ 33 ∷ x) (k.0 ∙ ap (λ (x : List ℕ). codes "[CDATA[" ++ x) (sym (append_assoc r.inner (codes "]]>") r.rest)))) passes
+              (cdata r.inner k.2) (omega arith)
+              (recur (so_far ++ with_line_ends r.inner) inner_place r.rest (omega (arith, shorter bytes m (33 ∷ rest) 60 e, ap length k.0, length-append r.inner (codes "]]>" ++ r.rest))) k.3)
         ]
 
     at_less : (rest : List ℕ) → bytes ≡ m ++ 60 ∷ rest → length bytes ≤ suc fuel → Accepts (less_at false place top below so_far [] (place + 1)) rest u → TextFound top text bytes at
     at_less [] e short h = cc
     at_less (d ∷ rest) e short h = elim (cases_eq d 33) [
-        | inl is ↦ at_markup rest (e ∙ ap (λ k. m ++ 60 ∷ k ∷ rest) is) short (subst (λ k. Accepts (less_at false place top below so_far [] (place + 1)) (k ∷ rest) u) is h)
-        | inr other ↦ record { front = m; meaning = with_line_ends m; rest = d ∷ rest; there = e; is = plain m (data_from m passes); plain_rest = λ after f. other cc; later = h }
-      ]
+      | inl is ↦ at_markup rest (e ∙ ap (λ k. m ++ 60 ∷ k ∷ rest) is) short (subst (λ k. Accepts (less_at false place top below so_far [] (place + 1)) (k ∷ rest) u) is h)
+      | inr other ↦ record { front = m; meaning = with_line_ends m; rest = d ∷ rest; there = e; is = plain m (data_from m passes); plain_rest = λ after f. other cc; later = h }
+    ]
 
   second : (c : ℕ) → (nat_eq c 60 || nat_eq c 38) ≡ true → nat_eq c 60 ≡ false → c ≡ 38
   second c e f = elim (or_cases (nat_eq c 60) (nat_eq c 38) e) [
-      | inl k ↦ absurd (true≢false (sym k ∙ f))
-      | inr k ↦ eqb-true c 38 k
-    ]
+    | inl k ↦ absurd (true≢false (sym k ∙ f))
+    | inr k ↦ eqb-true c 38 k
+  ]
 
   text_step : (top : Frame) (text : List ℕ) (at : ℕ) (bytes : List ℕ) (fuel : ℕ) → Recur fuel top → length bytes ≤ suc fuel → Next (chars_at top below text [] at) bytes u → TextFound top text bytes at
   text_step top text at bytes fuel recur short n =

@@ -89,9 +89,10 @@ lacks_from bytes word some e h = not_both (holds bytes word) e (holds-Holds byte
 -- bytes that hold no such byte have none
 pub lacks_byte : (k : ℕ) (bytes : List ℕ) → ¬ (Holds bytes (k ∷ [])) → AllByRecursion (λ c. nat_eq c k ≡ false) bytes
 lacks_byte k [] h = tt
-lacks_byte k (c ∷ bytes) h =
-    (ne_eqb c k (λ e. h (record { before = []; after = bytes; there = ap (λ x. x ∷ bytes) e })),
-     lacks_byte k bytes (λ later. h (record { before = c ∷ later.before; after = later.after; there = ap (λ x. c ∷ x) later.there })))
+lacks_byte k (c ∷ bytes) h = (
+  ne_eqb c k (λ e. h (record { before = []; after = bytes; there = ap (λ x. x ∷ bytes) e })),
+  lacks_byte k bytes (λ later. h (record { before = c ∷ later.before; after = later.after; there = ap (λ x. c ∷ x) later.there })),
+)
 
 -- ---- the first of a byte
 
@@ -116,4 +117,3 @@ cut_from k (b ∷ bytes) p e =
       | inl h ↦ ap (λ x. x ∷ bytes) h.0 ∙ ap (λ (q : List ℕ × List ℕ). q.0 ++ k ∷ q.1) (sym h.1)
       | inr h ↦ ap (λ x. b ∷ x) (cut_from k bytes h.0 h.1) ∙ ap (λ (q : List ℕ × List ℕ). q.0 ++ k ∷ q.1) (sym h.2)
     ]
-

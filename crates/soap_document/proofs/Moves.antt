@@ -62,15 +62,27 @@ kept s (c ∷ bytes) at h =
     let next = longer s (c ∷ []) in
     byte at c bytes (at_place s) (at_place next) (at_place (longer s (c ∷ bytes))) (kept_step (at_place s at) c h.0)
     (retarget (at + 1) bytes (at_place next) (at_place (longer next bytes)) (at_place (longer s (c ∷ bytes)))
-      (λ p. ap (λ t. record s { at = p; token = t }) (append_assoc s.token (c ∷ []) bytes)) (kept next bytes (at + 1) h.1))
+    (λ p. ap (λ t. record s { at = p; token = t }) (append_assoc s.token (c ∷ []) bytes)) (kept next bytes (at + 1) h.1))
 
 -- ---- states
 
 -- outside of tags
 abbrev pub plain_at : Mode → Bool → ℕ → Frame → List Frame → List ℕ → List ℕ → At
 plain_at mode fresh mark top below text token at = record {
-    mode = mode; fresh = fresh; at = at; mark = mark; token = token; text = text; name = []; attributes = [];
-    attribute = []; value = []; quote = 0; top = top; below = below }
+  mode = mode;
+  fresh = fresh;
+  at = at;
+  mark = mark;
+  token = token;
+  text = text;
+  name = [];
+  attributes = [];
+  attribute = [];
+  value = [];
+  quote = 0;
+  top = top;
+  below = below;
+}
 
 abbrev pub chars_at : Frame → List Frame → List ℕ → List ℕ → At
 chars_at top below text token = plain_at chars false 0 top below text token
@@ -88,8 +100,20 @@ pub record Tag : Type 0 where
 
 abbrev pub tag_at : Mode → Tag → List Attribute → List ℕ → List ℕ → ℕ → List ℕ → At
 tag_at mode tag attributes attribute value quote token at = record {
-    mode = mode; fresh = tag.fresh; at = at; mark = tag.mark; token = token; text = []; name = tag.name;
-    attributes = attributes; attribute = attribute; value = value; quote = quote; top = tag.top; below = tag.below }
+  mode = mode;
+  fresh = tag.fresh;
+  at = at;
+  mark = tag.mark;
+  token = token;
+  text = [];
+  name = tag.name;
+  attributes = attributes;
+  attribute = attribute;
+  value = value;
+  quote = quote;
+  top = tag.top;
+  below = tag.below;
+}
 
 -- where an attribute may follow, with white space before it or not
 abbrev pub between : Bool → Mode

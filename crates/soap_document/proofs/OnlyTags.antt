@@ -62,7 +62,7 @@ module _ (tag : Tag) (attributes : List Attribute) where
     equals_moves (c ∷ left) at q w =
         byte at c (left ++ codes "=") (name_at name) named_at valuing_at (name_space c at (qname_some name q) (qname_passes name q) w.0)
         (then (at + 1) left (codes "=") named_at named_at valuing_at (white_moves named_at named_space left (at + 1) w.1)
-          (one (at + 1 + length left) 61 named_at valuing_at refl))
+        (one (at + 1 + length left) 61 named_at valuing_at refl))
 
     -- ---- a value
 
@@ -85,8 +85,8 @@ module _ (tag : Tag) (attributes : List Attribute) where
         regroup at (38 ∷ (r.inner ++ 59 ∷ [])) bytes (value_at quote value token) end (sym r.there)
         (byte at 38 (r.inner ++ 59 ∷ []) (value_at quote value token) (refers quote so_far (38 ∷ [])) end (reference_step quote value token at e)
         (then (at + 1) r.inner (59 ∷ []) (refers quote so_far (38 ∷ [])) (refers quote so_far (38 ∷ r.inner)) end
-          (kept (refers quote so_far (38 ∷ []) 0) r.inner (at + 1) r.text)
-          (one (at + 1 + length r.inner) 59 (refers quote so_far (38 ∷ r.inner)) end (reference_end quote so_far r.inner c (at + 1 + length r.inner) (rw r.there at r.passes)))))
+        (kept (refers quote so_far (38 ∷ []) 0) r.inner (at + 1) r.text)
+        (one (at + 1 + length r.inner) 59 (refers quote so_far (38 ∷ r.inner)) end (reference_end quote so_far r.inner c (at + 1 + length r.inner) (rw r.there at r.passes)))))
 
     -- where a value ends: a token that is a run of its characters, which is not yet made part of it
     record ValueEnds (quote : ℕ) (value bytes meaning : List ℕ) (at : ℕ) : Type 0 where
@@ -98,18 +98,24 @@ module _ (tag : Tag) (attributes : List Attribute) where
 
     value_only : {quote : ℕ} {bytes meaning : List ℕ} → IsInner quote bytes meaning → (nat_eq quote 34 || nat_eq quote 39) ≡ true → (value : List ℕ) (at : ℕ) → ValueEnds quote value bytes meaning at
     value_only {quote} (plain bytes h) q value at = record {
-        before = value; token = bytes; passes = run_passes quote bytes q h; sum = refl;
-        moves = kept (value_at quote value [] at) bytes at (plain_run quote bytes h) }
+      before = value;
+      token = bytes;
+      passes = run_passes quote bytes q h;
+      sum = refl;
+      moves = kept (value_at quote value [] at) bytes at (plain_run quote bytes h);
+    }
     value_only {quote} (then_reference bytes reference c rest later h r t) q value at =
         let so_far : List ℕ = (value ++ with_spaces bytes) ++ encode_utf8 c in
         let after = value_only t q so_far (at + length bytes + length reference) in
         let start = value_at quote value [] in
         record {
-          before = after.before; token = after.token; passes = after.passes;
+          before = after.before;
+          token = after.token;
+          passes = after.passes;
           sum = after.sum ∙ append_assoc (value ++ with_spaces bytes) (encode_utf8 c) later ∙ append_assoc value (with_spaces bytes) (encode_utf8 c ++ later);
           moves = then at bytes (reference ++ rest) start (value_at quote value bytes) (value_at quote after.before after.token)
-            (kept (value_at quote value [] at) bytes at (plain_run quote bytes h))
-            (then (at + length bytes) reference rest (value_at quote value bytes) (value_at quote so_far []) (value_at quote after.before after.token)
+              (kept (value_at quote value [] at) bytes at (plain_run quote bytes h))
+              (then (at + length bytes) reference rest (value_at quote value bytes) (value_at quote so_far []) (value_at quote after.before after.token)
               (reference_moves quote value bytes reference c (at + length bytes) (run_passes quote bytes q h) (reference_passes reference c r)) after.moves);
         }
 
@@ -117,11 +123,11 @@ module _ (tag : Tag) (attributes : List Attribute) where
     added value = attributes ++ record { name = name; value = value } ∷ []
 
     double_end : (before token value : List ℕ) (at : ℕ) → is_run 34 token ≡ true → before ++ with_spaces token ≡ value
-      → step (value_at 34 before token at) 34 ≡ between_at false tag (added value) (at + 1)
+        → step (value_at 34 before token at) 34 ≡ between_at false tag (added value) (at + 1)
     double_end before token value at e sum = rw (e, sum)
 
     single_end : (before token value : List ℕ) (at : ℕ) → is_run 39 token ≡ true → before ++ with_spaces token ≡ value
-      → step (value_at 39 before token at) 39 ≡ between_at false tag (added value) (at + 1)
+        → step (value_at 39 before token at) 39 ≡ between_at false tag (added value) (at + 1)
     single_end before token value at e sum = rw (e, sum)
 
     quoted_only : {quoted value : List ℕ} → IsValue quoted value → (at : ℕ) → Moves at quoted valuing_at (between_at false tag (added value))
@@ -130,17 +136,17 @@ module _ (tag : Tag) (attributes : List Attribute) where
         let after = between_at false tag (added value) in
         byte at 34 (inner ++ 34 ∷ []) valuing_at (value_at 34 [] []) after refl
         (then (at + 1) inner (34 ∷ []) (value_at 34 [] []) (value_at 34 ends.before ends.token) after ends.moves
-          (one (at + 1 + length inner) 34 (value_at 34 ends.before ends.token) after (double_end ends.before ends.token value (at + 1 + length inner) ends.passes ends.sum)))
+        (one (at + 1 + length inner) 34 (value_at 34 ends.before ends.token) after (double_end ends.before ends.token value (at + 1 + length inner) ends.passes ends.sum)))
     quoted_only (single inner value h) at =
         let ends = value_only h refl [] (at + 1) in
         let after = between_at false tag (added value) in
         byte at 39 (inner ++ 39 ∷ []) valuing_at (value_at 39 [] []) after refl
         (then (at + 1) inner (39 ∷ []) (value_at 39 [] []) (value_at 39 ends.before ends.token) after ends.moves
-          (one (at + 1 + length inner) 39 (value_at 39 ends.before ends.token) after (single_end ends.before ends.token value (at + 1 + length inner) ends.passes ends.sum)))
+        (one (at + 1 + length inner) 39 (value_at 39 ends.before ends.token) after (single_end ends.before ends.token value (at + 1 + length inner) ends.passes ends.sum)))
 
   -- an attribute, and the white space before it
   attribute_only : (spaced : Bool) (space name left right quoted value : List ℕ) (at : ℕ) → IsSpace space → IsQName name → IsWhite left → IsWhite right → IsValue quoted value
-    → Moves at (space ++ (name ++ ((left ++ codes "=") ++ (right ++ quoted)))) (between_at spaced tag attributes) (between_at false tag (attributes ++ record { name = name; value = value } ∷ []))
+      → Moves at (space ++ (name ++ ((left ++ codes "=") ++ (right ++ quoted)))) (between_at spaced tag attributes) (between_at false tag (attributes ++ record { name = name; value = value } ∷ []))
   attribute_only spaced space name left right quoted value at s q l r v =
       let naming_at = between_at true tag attributes in
       let after = between_at false tag (attributes ++ record { name = name; value = value } ∷ []) in
@@ -151,7 +157,7 @@ module _ (tag : Tag) (attributes : List Attribute) where
       (then p1 name ((left ++ codes "=") ++ (right ++ quoted)) naming_at (name_at name) after (kept (naming_at 0) name p1 (qname_naming name q))
       (then p2 (left ++ codes "=") (right ++ quoted) (name_at name) (valuing_at name) after (equals_moves name left p2 q l)
       (then p3 right quoted (valuing_at name) (valuing_at name) after (white_moves (valuing_at name) (valuing_space name) right p3 r)
-        (quoted_only name v (p3 + length right)))))
+      (quoted_only name v (p3 + length right)))))
 
 -- the attributes of a tag, up to what ends it
 pub record AttributesEnd (tag : Tag) (spaced : Bool) (before : List Attribute) (bytes : List ℕ) (attributes : List Attribute) (at : ℕ) : Type 0 where
@@ -160,14 +166,16 @@ pub record AttributesEnd (tag : Tag) (spaced : Bool) (before : List Attribute) (
 
 pub attributes_only : {bytes : List ℕ} {attributes : List Attribute} → IsAttributes bytes attributes → (tag : Tag) (spaced : Bool) (before : List Attribute) (at : ℕ) → AttributesEnd tag spaced before bytes attributes at
 attributes_only (end [] h) tag spaced before at = record {
-    ends_spaced = spaced;
-    moves = retarget at [] (between_at spaced tag before) (between_at spaced tag before) (between_at spaced tag (before ++ []))
-      (λ p. ap (λ (xs : List Attribute). between_at spaced tag xs p) (sym (append-nil before))) (stay at (between_at spaced tag before)) }
+  ends_spaced = spaced;
+  moves = retarget at [] (between_at spaced tag before) (between_at spaced tag before) (between_at spaced tag (before ++ []))
+      (λ p. ap (λ (xs : List Attribute). between_at spaced tag xs p) (sym (append-nil before))) (stay at (between_at spaced tag before));
+}
 attributes_only (end (c ∷ space) h) tag spaced before at = record {
-    ends_spaced = true;
-    moves = retarget at (c ∷ space) (between_at spaced tag before) (between_at true tag before) (between_at true tag (before ++ []))
+  ends_spaced = true;
+  moves = retarget at (c ∷ space) (between_at spaced tag before) (between_at true tag before) (between_at true tag (before ++ []))
       (λ p. ap (λ (xs : List Attribute). between_at true tag xs p) (sym (append-nil before)))
-      (space_moves tag before spaced (c ∷ space) at (record { white = h; some = λ e. cc })) }
+      (space_moves tag before spaced (c ∷ space) at (record { white = h; some = λ e. cc }));
+}
 attributes_only (more space name left right quoted value rest attributes s q l r v h) tag spaced before at =
     let mine : Attribute = record { name = name; value = value } in
     let front : List ℕ = space ++ (name ++ ((left ++ codes "=") ++ (right ++ quoted))) in
@@ -176,9 +184,9 @@ attributes_only (more space name left right quoted value rest attributes s q l r
     record {
       ends_spaced = after.ends_spaced;
       moves = regroup at (front ++ rest) (space ++ (name ++ (left ++ (codes "=" ++ (right ++ (quoted ++ rest)))))) (between_at spaced tag before) target
-        (grouped space name left right quoted rest)
-        (then at front rest (between_at spaced tag before) (between_at false tag (before ++ mine ∷ [])) target
+          (grouped space name left right quoted rest)
+          (then at front rest (between_at spaced tag before) (between_at false tag (before ++ mine ∷ [])) target
           (attribute_only tag before spaced space name left right quoted value at s q l r v)
           (retarget (at + length front) rest (between_at false tag (before ++ mine ∷ [])) (between_at after.ends_spaced tag ((before ++ mine ∷ []) ++ attributes)) target
-            (λ p. ap (λ (xs : List Attribute). between_at after.ends_spaced tag xs p) (append_assoc before (mine ∷ []) attributes)) after.moves));
+          (λ p. ap (λ (xs : List Attribute). between_at after.ends_spaced tag xs p) (append_assoc before (mine ∷ []) attributes)) after.moves));
     }

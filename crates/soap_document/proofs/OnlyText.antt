@@ -35,8 +35,8 @@ module _ (fresh : Bool) (mark : ℕ) (top : Frame) (below : List Frame) (text : 
       let here : c ≡ 62 → without (codes "--") token ≡ None = λ e. ap (without (codes "--")) (sym (append-nil token)) ∙ h [] bytes (ap (λ x. x ∷ bytes) e) in
       byte at c bytes (in_comment token) (in_comment (token ++ c ∷ [])) (in_comment (token ++ (c ∷ bytes))) (comment_step token c (nat_eq c 62) at refl here)
       (retarget (at + 1) bytes (in_comment (token ++ c ∷ [])) (in_comment ((token ++ c ∷ []) ++ bytes)) (in_comment (token ++ (c ∷ bytes)))
-        (λ p. ap (λ t. in_comment t p) (append_assoc token (c ∷ []) bytes))
-        (comment_run (token ++ c ∷ []) bytes (at + 1) (IsOpen-tail (codes "--") token c bytes h)))
+      (λ p. ap (λ t. in_comment t p) (append_assoc token (c ∷ []) bytes))
+      (comment_run (token ++ c ∷ []) bytes (at + 1) (IsOpen-tail (codes "--") token c bytes h)))
 
   cdata_step : (token : List ℕ) (c : ℕ) (b : Bool) (at : ℕ) → nat_eq c 62 ≡ b → (c ≡ 62 → without (codes "]]") token ≡ None) → step (in_cdata token at) c ≡ in_cdata (token ++ c ∷ []) (at + 1)
   cdata_step token c true at e h = let same = eqb-true c 62 e in rw (e, h same) (ap (λ x. in_cdata (token ++ x ∷ []) (at + 1)) (sym same))
@@ -48,8 +48,8 @@ module _ (fresh : Bool) (mark : ℕ) (top : Frame) (below : List Frame) (text : 
       let here : c ≡ 62 → without (codes "]]") token ≡ None = λ e. ap (without (codes "]]")) (sym (append-nil token)) ∙ h [] bytes (ap (λ x. x ∷ bytes) e) in
       byte at c bytes (in_cdata token) (in_cdata (token ++ c ∷ [])) (in_cdata (token ++ (c ∷ bytes))) (cdata_step token c (nat_eq c 62) at refl here)
       (retarget (at + 1) bytes (in_cdata (token ++ c ∷ [])) (in_cdata ((token ++ c ∷ []) ++ bytes)) (in_cdata (token ++ (c ∷ bytes)))
-        (λ p. ap (λ t. in_cdata t p) (append_assoc token (c ∷ []) bytes))
-        (cdata_run (token ++ c ∷ []) bytes (at + 1) (IsOpen-tail (codes "]]") token c bytes h)))
+      (λ p. ap (λ t. in_cdata t p) (append_assoc token (c ∷ []) bytes))
+      (cdata_run (token ++ c ∷ []) bytes (at + 1) (IsOpen-tail (codes "]]") token c bytes h)))
 
   comment_end : (bytes : List ℕ) (at : ℕ) → IsComment bytes → step (in_comment (bytes ++ codes "--") at) 62 ≡ chars_at top below text [] (at + 1)
   comment_end bytes at h = rw (without-append (codes "--") bytes, comment_passes bytes h)
@@ -66,7 +66,7 @@ module _ (fresh : Bool) (mark : ℕ) (top : Frame) (below : List Frame) (text : 
       (byte (at + 1) 45 (codes "-" ++ (bytes ++ codes "-->")) (plain_at marking fresh mark top below text []) (plain_at marking fresh mark top below text (codes "-")) (chars_at top below text []) refl
       (byte (at + 1 + 1) 45 (bytes ++ codes "-->") (plain_at marking fresh mark top below text (codes "-")) (in_comment []) (chars_at top below text []) refl
       (regroup (at + 1 + 1 + 1) ((bytes ++ codes "--") ++ codes ">") (bytes ++ codes "-->") (in_comment []) (chars_at top below text []) (append_assoc bytes (codes "--") (codes ">"))
-        (then (at + 1 + 1 + 1) (bytes ++ codes "--") (codes ">") (in_comment []) (in_comment (bytes ++ codes "--")) (chars_at top below text []) inside last))))
+      (then (at + 1 + 1 + 1) (bytes ++ codes "--") (codes ">") (in_comment []) (in_comment (bytes ++ codes "--")) (chars_at top below text []) inside last))))
 
 -- ---- within an element
 
@@ -88,7 +88,7 @@ module _ (top frame : Frame) (frames : List Frame) where
       let inside = cdata_run false mark top below text [] (bytes ++ codes "]]") p8 (λ a b e. cdata_open bytes a b h e) in
       let last = one (p8 + length (bytes ++ codes "]]")) 62 (inner (bytes ++ codes "]]")) end (cdata_end false mark top below text bytes (p8 + length (bytes ++ codes "]]")) h) in
       let tail = regroup p8 ((bytes ++ codes "]]") ++ codes ">") (bytes ++ codes "]]>") (inner []) end (append_assoc bytes (codes "]]") (codes ">"))
-            (then p8 (bytes ++ codes "]]") (codes ">") (inner []) (inner (bytes ++ codes "]]")) end inside last) in
+      (then p8 (bytes ++ codes "]]") (codes ">") (inner []) (inner (bytes ++ codes "]]")) end inside last) in
       byte at 33 (codes "[CDATA[" ++ (bytes ++ codes "]]>")) (less_at false mark top below text []) (marked mark text []) end refl
       (byte (at + 1) 91 (codes "CDATA[" ++ (bytes ++ codes "]]>")) (marked mark text []) (marked mark text (codes "[")) end refl
       (byte p2 67 (codes "DATA[" ++ (bytes ++ codes "]]>")) (marked mark text (codes "[")) (marked mark text (codes "[C")) end refl
@@ -118,11 +118,11 @@ module _ (top frame : Frame) (frames : List Frame) where
       regroup at (38 ∷ (r.inner ++ 59 ∷ [])) bytes (chars_at top below text token) end (sym r.there)
       (byte at 38 (r.inner ++ 59 ∷ []) (chars_at top below text token) (refers so_far (38 ∷ [])) end (reference_step text token at e)
       (then (at + 1) r.inner (59 ∷ []) (refers so_far (38 ∷ [])) (refers so_far (38 ∷ r.inner)) end
-        (kept (refers so_far (38 ∷ []) 0) r.inner (at + 1) r.text)
-        (one (at + 1 + length r.inner) 59 (refers so_far (38 ∷ r.inner)) end (reference_end so_far r.inner c (at + 1 + length r.inner) (rw r.there at r.passes)))))
+      (kept (refers so_far (38 ∷ []) 0) r.inner (at + 1) r.text)
+      (one (at + 1 + length r.inner) 59 (refers so_far (38 ∷ r.inner)) end (reference_end so_far r.inner c (at + 1 + length r.inner) (rw r.there at r.passes)))))
 
   markup_only : {markup meaning : List ℕ} → IsMarkup markup meaning → (text token : List ℕ) (at : ℕ) → is_char_data token ≡ true
-    → Moves at markup (chars_at top below text token) (chars_at top below ((text ++ with_line_ends token) ++ meaning) [])
+      → Moves at markup (chars_at top below text token) (chars_at top below ((text ++ with_line_ends token) ++ meaning) [])
   markup_only (reference bytes c h) text token at e = reference_moves text token bytes c at e (reference_passes bytes c h)
   markup_only (cdata bytes h) text token at e =
       byte at 60 (codes "![CDATA[" ++ (bytes ++ codes "]]>")) (chars_at top below text token) (less_at false at top below (text ++ with_line_ends token) [])
@@ -133,7 +133,7 @@ module _ (top frame : Frame) (frames : List Frame) where
       byte at 60 (codes "!--" ++ (bytes ++ codes "-->")) (chars_at top below text token) (less_at false at top below so_far [])
       (chars_at top below (so_far ++ []) []) (less_step text token at e)
       (retarget (at + 1) (codes "!--" ++ (bytes ++ codes "-->")) (less_at false at top below so_far []) (chars_at top below so_far []) (chars_at top below (so_far ++ []) [])
-        (λ p. ap (λ t. chars_at top below t [] p) (sym (append-nil so_far))) (comment_moves false at top below so_far bytes (at + 1) h))
+      (λ p. ap (λ t. chars_at top below t [] p) (sym (append-nil so_far))) (comment_moves false at top below so_far bytes (at + 1) h))
 
   -- where text ends: a token that is character data, which is not yet made text
   pub record TextEnds (text bytes meaning : List ℕ) (at : ℕ) : Type 0 where
@@ -145,21 +145,27 @@ module _ (top frame : Frame) (frames : List Frame) where
 
   pub text_only : {bytes meaning : List ℕ} → IsText bytes meaning → (text : List ℕ) (at : ℕ) → TextEnds text bytes meaning at
   text_only (plain bytes h) text at = record {
-      before = text; token = bytes; passes = data_passes bytes h; sum = refl;
-      moves = kept (chars_at top below text [] at) bytes at (data_chars bytes h) }
+    before = text;
+    token = bytes;
+    passes = data_passes bytes h;
+    sum = refl;
+    moves = kept (chars_at top below text [] at) bytes at (data_chars bytes h);
+  }
   text_only (more bytes markup meaning rest later h m t) text at =
       let so_far : List ℕ = (text ++ with_line_ends bytes) ++ meaning in
       let after = text_only t so_far (at + length bytes + length markup) in
       let start = chars_at top below text [] in
       record {
-        before = after.before; token = after.token; passes = after.passes;
+        before = after.before;
+        token = after.token;
+        passes = after.passes;
         sum = after.sum ∙ append_assoc (text ++ with_line_ends bytes) meaning later ∙ append_assoc text (with_line_ends bytes) (meaning ++ later);
         moves = then at bytes (markup ++ rest) start (chars_at top below text bytes) (chars_at top below after.before after.token)
-          (kept (chars_at top below text [] at) bytes at (data_chars bytes h))
-          (then (at + length bytes) markup rest (chars_at top below text bytes) (chars_at top below so_far []) (chars_at top below after.before after.token)
+            (kept (chars_at top below text [] at) bytes at (data_chars bytes h))
+            (then (at + length bytes) markup rest (chars_at top below text bytes) (chars_at top below so_far []) (chars_at top below after.before after.token)
             (markup_only m text bytes (at + length bytes) (data_passes bytes h)) after.moves);
       }
 
   pub text_less : (text meaning : List ℕ) (bytes : List ℕ) (at : ℕ) (ends : TextEnds text bytes meaning at) (p : ℕ)
-    → step (chars_at top below ends.before ends.token p) 60 ≡ less_at false p top below (text ++ meaning) [] (p + 1)
+      → step (chars_at top below ends.before ends.token p) 60 ≡ less_at false p top below (text ++ meaning) [] (p + 1)
   text_less text meaning bytes at ends p = less_step ends.before ends.token p ends.passes ∙ ap (λ t. less_at false p top below t [] (p + 1)) ends.sum

@@ -44,7 +44,8 @@ data_from bytes e =
       chars = IsChars-from bytes a;
       no_less = lacks_from bytes (codes "<") (λ x. cc) b;
       no_ampersand = lacks_from bytes (codes "&") (λ x. cc) c;
-      no_close = lacks_from bytes (codes "]]>") (λ x. cc) d }
+      no_close = lacks_from bytes (codes "]]>") (λ x. cc) d;
+    }
 
 pub plain_from : (mark : ℕ) (bytes : List ℕ) → is_plain mark bytes ≡ true → IsPlainValue mark bytes
 unfolding is_plain
@@ -56,7 +57,8 @@ plain_from mark bytes e =
       chars = IsChars-from bytes a;
       no_less = lacks_from bytes (codes "<") (λ x. cc) b;
       no_ampersand = lacks_from bytes (codes "&") (λ x. cc) c;
-      no_quote = lacks_from bytes (mark ∷ []) (λ x. cc) d }
+      no_quote = lacks_from bytes (mark ∷ []) (λ x. cc) d;
+    }
 
 pub run_from : (mark : ℕ) (bytes : List ℕ) → is_run mark bytes ≡ true → IsPlainValue mark bytes
 run_from mark bytes e = plain_from mark bytes (and_parts (nat_eq mark 34 || nat_eq mark 39) (is_plain mark bytes) e).1
@@ -136,15 +138,15 @@ decimal_from : (bytes : List ℕ) (c : ℕ) → begins (codes "&#") bytes ≡ tr
 decimal_from bytes c e h =
     let n = character_of is_ascii_digit 10 (drop 2 bytes) c (before_semicolon (drop 2 bytes)) refl h in
     subst (λ (p : List ℕ × ℕ). IsReference p.0 p.1)
-      (ap₂ (λ (x : List ℕ) (y : ℕ). (x, y)) (ap (λ (x : List ℕ). codes "&#" ++ x) (sym n.there) ∙ sym (front_from_begins (codes "&#") bytes e)) n.value)
-      (decimal n.digits n.some n.each n.is)
+    (ap₂ (λ (x : List ℕ) (y : ℕ). (x, y)) (ap (λ (x : List ℕ). codes "&#" ++ x) (sym n.there) ∙ sym (front_from_begins (codes "&#") bytes e)) n.value)
+    (decimal n.digits n.some n.each n.is)
 
 hexadecimal_from : (bytes : List ℕ) (c : ℕ) → begins (codes "&#x") bytes ≡ true → character is_ascii_hexdigit 16 (before_semicolon (drop 3 bytes)) ≡ Some c → IsReference bytes c
 hexadecimal_from bytes c e h =
     let n = character_of is_ascii_hexdigit 16 (drop 3 bytes) c (before_semicolon (drop 3 bytes)) refl h in
     subst (λ (p : List ℕ × ℕ). IsReference p.0 p.1)
-      (ap₂ (λ (x : List ℕ) (y : ℕ). (x, y)) (ap (λ (x : List ℕ). codes "&#x" ++ x) (sym n.there) ∙ sym (front_from_begins (codes "&#x") bytes e)) n.value)
-      (hexadecimal n.digits n.some n.each n.is)
+    (ap₂ (λ (x : List ℕ) (y : ℕ). (x, y)) (ap (λ (x : List ℕ). codes "&#x" ++ x) (sym n.there) ∙ sym (front_from_begins (codes "&#x") bytes e)) n.value)
+    (hexadecimal n.digits n.some n.each n.is)
 
 numbered_from : (bytes : List ℕ) (c : ℕ) → numbered bytes ≡ Some c → IsReference bytes c
 numbered_from bytes c h =
@@ -153,9 +155,9 @@ numbered_from bytes c h =
     elim (picked (begins (codes "&#x") bytes) hex (cond (begins (codes "&#") bytes) dec None) c h) [
       | inl k ↦ hexadecimal_from bytes c k.0 k.1
       | inr k ↦ elim (picked (begins (codes "&#") bytes) dec None c k.1) [
-          | inl j ↦ decimal_from bytes c j.0 j.1
-          | inr j ↦ cc (j.1)
-        ]
+        | inl j ↦ decimal_from bytes c j.0 j.1
+        | inr j ↦ cc (j.1)
+      ]
     ]
 
 pub reference_from : (bytes : List ℕ) (c : ℕ) → reference bytes ≡ Some c → IsReference bytes c

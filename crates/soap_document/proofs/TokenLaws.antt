@@ -27,16 +27,16 @@ space_among c e = grind (arith, nat_tests)
 
 is_space-name : (c : ℕ) → IsNameByte c → is_space c ≡ false
 is_space-name c h = false_from_ne_true (is_space c) (λ e. elim (space_among c e) as (λ _. ⊥) [
-      | inl a ↦ true≢false (sym (eq-eqb c 9 a) ∙ h 9 (omega arith) refl)
-      | inr (inl a) ↦ true≢false (sym (eq-eqb c 10 a) ∙ h 10 (omega arith) refl)
-      | inr (inr (inl a)) ↦ true≢false (sym (eq-eqb c 13 a) ∙ h 13 (omega arith) refl)
-      | inr (inr (inr a)) ↦ true≢false (sym (eq-eqb c 32 a) ∙ h 32 (omega arith) refl)
-    ])
+  | inl a ↦ true≢false (sym (eq-eqb c 9 a) ∙ h 9 (omega arith) refl)
+  | inr (inl a) ↦ true≢false (sym (eq-eqb c 10 a) ∙ h 10 (omega arith) refl)
+  | inr (inr (inl a)) ↦ true≢false (sym (eq-eqb c 13 a) ∙ h 13 (omega arith) refl)
+  | inr (inr (inr a)) ↦ true≢false (sym (eq-eqb c 32 a) ∙ h 32 (omega arith) refl)
+])
 
 naming_byte : (c : ℕ) → IsNameByte c → stops naming 0 c ≡ false
 naming_byte c h =
     or_from _ _ (is_space-name c h) (or_from _ _ (h 62 (omega arith) refl) (or_from _ _ (h 47 (omega arith) refl)
-      (or_from _ _ (h 61 (omega arith) refl) (or_from _ _ (h 33 (omega arith) refl) (h 63 (omega arith) refl)))))
+    (or_from _ _ (h 61 (omega arith) refl) (or_from _ _ (h 33 (omega arith) refl) (h 63 (omega arith) refl)))))
 
 no_colon : (name : List ℕ) → AllByRecursion IsNameByte name → AllByRecursion (λ c. nat_eq c 58 ≡ false) name
 no_colon name h = all_weaker IsNameByte (λ c. nat_eq c 58 ≡ false) (λ c b. b 58 (omega arith) refl) name h
@@ -147,13 +147,17 @@ reference_passes bytes c greater = record { inner = codes "gt"; there = refl; te
 reference_passes bytes c apostrophe = record { inner = codes "apos"; there = refl; text = (refl, (refl, (refl, (refl, tt)))); passes = refl }
 reference_passes bytes c quote = record { inner = codes "quot"; there = refl; text = (refl, (refl, (refl, (refl, tt)))); passes = refl }
 reference_passes bytes c (decimal digits some each is) = record {
-    inner = 35 ∷ digits; there = refl;
-    text = (refl, all_weaker (λ d. is_ascii_digit d ≡ true) (λ d. stops referring 0 d ≡ false) (λ d e. other is_ascii_digit d 59 e refl) digits each);
-    passes = decimal_passes digits some each is }
+  inner = 35 ∷ digits;
+  there = refl;
+  text = (refl, all_weaker (λ d. is_ascii_digit d ≡ true) (λ d. stops referring 0 d ≡ false) (λ d e. other is_ascii_digit d 59 e refl) digits each);
+  passes = decimal_passes digits some each is;
+}
 reference_passes bytes c (hexadecimal digits some each is) = record {
-    inner = 35 ∷ 120 ∷ digits; there = refl;
-    text = (refl, (refl, all_weaker (λ d. is_ascii_hexdigit d ≡ true) (λ d. stops referring 0 d ≡ false) (λ d e. other is_ascii_hexdigit d 59 e refl) digits each));
-    passes = hexadecimal_passes digits some each is }
+  inner = 35 ∷ 120 ∷ digits;
+  there = refl;
+  text = (refl, (refl, all_weaker (λ d. is_ascii_hexdigit d ≡ true) (λ d. stops referring 0 d ≡ false) (λ d e. other is_ascii_hexdigit d 59 e refl) digits each));
+  passes = hexadecimal_passes digits some each is;
+}
 
 pub end_passes : (name space : List ℕ) → IsWhite space → is_end name (name ++ space) ≡ true
 end_passes [] space h = white_passes space h
@@ -186,9 +190,9 @@ without_from word (b ∷ bytes) front e =
 last_of : (bytes : List ℕ) → (bytes ≡ []) ⊎ ((init : List ℕ) × (last : ℕ) × (bytes ≡ init ++ last ∷ []))
 last_of [] = inl refl
 last_of (c ∷ bytes) = elim (last_of bytes) [
-      | inl e ↦ inr ([], c, ap (λ x. c ∷ x) e)
-      | inr r ↦ inr (c ∷ r.0, r.1, ap (λ x. c ∷ x) r.2)
-    ]
+  | inl e ↦ inr ([], c, ap (λ x. c ∷ x) e)
+  | inr r ↦ inr (c ∷ r.0, r.1, ap (λ x. c ∷ x) r.2)
+]
 
 snoc_same : (xs ys : List ℕ) (x y : ℕ) → xs ++ x ∷ [] ≡ ys ++ y ∷ [] → (xs ≡ ys) × (x ≡ y)
 snoc_same [] [] x y e = (refl, cc)
@@ -233,9 +237,9 @@ cdata_early bytes front b e =
     elim (drop_last (bytes ++ codes "]") (front ++ codes "]]") 93 62 b (append_assoc bytes (codes "]") (codes "]") ∙ e)) [
       | inl h ↦ absurd (unlike 62 93 refl h.0)
       | inr h ↦ elim (drop_last bytes (front ++ codes "]]") 93 62 h.0 h.1) [
-          | inl k ↦ absurd (unlike 62 93 refl k.0)
-          | inr k ↦ record { before = front; after = k.0; there = k.1 ∙ append_assoc front (codes "]]") (62 ∷ k.0) }
-        ]
+        | inl k ↦ absurd (unlike 62 93 refl k.0)
+        | inr k ↦ record { before = front; after = k.0; there = k.1 ∙ append_assoc front (codes "]]") (62 ∷ k.0) }
+      ]
     ]
 
 pub cdata_open : (bytes a b : List ℕ) → IsCdata bytes → bytes ++ codes "]]" ≡ a ++ 62 ∷ b → without (codes "]]") a ≡ None

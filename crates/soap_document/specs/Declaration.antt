@@ -33,13 +33,15 @@ ends bytes = bytes_eq (skip bytes) (codes "?")
 
 abbrev pub stands_alone : List ℕ → Bool
 stands_alone bytes = elim (setting (codes "standalone") bytes) [
-    None ↦ ends bytes
-  | Some p ↦ (bytes_eq p.0 (codes "yes") || bytes_eq p.0 (codes "no")) && ends p.1 ]
+  | None ↦ ends bytes
+  | Some p ↦ (bytes_eq p.0 (codes "yes") || bytes_eq p.0 (codes "no")) && ends p.1
+]
 
 abbrev pub is_encoded : List ℕ → Bool
 is_encoded bytes = elim (setting (codes "encoding") bytes) [
-    None ↦ stands_alone bytes
-  | Some p ↦ bytes_eq (str_to_ascii_lowercase p.0) (codes "utf-8") && stands_alone p.1 ]
+  | None ↦ stands_alone bytes
+  | Some p ↦ bytes_eq (str_to_ascii_lowercase p.0) (codes "utf-8") && stands_alone p.1
+]
 
 abbrev pub is_versioned : Option (List ℕ × List ℕ) → Bool
 is_versioned None = false

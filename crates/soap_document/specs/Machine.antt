@@ -109,10 +109,10 @@ at_declaring s = if is_declaration s.token then calm s else refuse s
 abbrev pub at_chars : State → ℕ → State
 at_chars s c =
     if is_nil s.below then
-      (if is_white s.token && (c == 60) then record s { mode = less; mark = s.at; token = [] } else refuse s)
+    (if is_white s.token && (c == 60) then record s { mode = less; mark = s.at; token = [] } else refuse s)
     else if is_char_data s.token then
-      (if c == 60 then record s { mode = less; mark = s.at; token = []; text = s.text ++ with_line_ends s.token }
-        else record s { mode = referring; token = 38 ∷ []; text = s.text ++ with_line_ends s.token })
+    (if c == 60 then record s { mode = less; mark = s.at; token = []; text = s.text ++ with_line_ends s.token }
+    else record s { mode = referring; token = 38 ∷ []; text = s.text ++ with_line_ends s.token })
     else refuse s
 
 abbrev pub at_referring : State → Option ℕ → State
@@ -138,15 +138,19 @@ at_quoting s (Some bytes) =
 -- the start tag ends: an element is open
 abbrev pub opened : State → State
 opened s = calm (record s {
-    name = []; attributes = [];
-    top = record { name = s.name; attributes = s.attributes; start = s.at + 1; parts = none };
-    below = s.top ∷ s.below })
+  name = [];
+  attributes = [];
+  top = record { name = s.name; attributes = s.attributes; start = s.at + 1; parts = none };
+  below = s.top ∷ s.below;
+})
 
 -- the empty-element tag ends
 abbrev pub emptied : State → State
 emptied s = calm (record s {
-    name = []; attributes = [];
-    top = with_parts s.top (child (element s.name s.attributes (s.at + 1) (s.at + 1) none) none) })
+  name = [];
+  attributes = [];
+  top = with_parts s.top (child (element s.name s.attributes (s.at + 1) (s.at + 1) none) none);
+})
 
 -- within a start tag, where no token is begun
 abbrev pub at_tagging : State → ℕ → State
@@ -168,12 +172,12 @@ has_room frames parts = if is_nil frames then is_none parts else nat_lt (length 
 abbrev pub at_less : State → ℕ → State
 at_less s c =
     if is_nil s.token then
-      (if (c == 47) && not (is_nil s.below) then record (settle s) { mode = ending }
-        else if c == 33 then record s { mode = marking }
-        else if (c == 63) && s.fresh then record s { mode = declaring }
-        else refuse s)
+    (if (c == 47) && not (is_nil s.below) then record (settle s) { mode = ending }
+    else if c == 33 then record s { mode = marking }
+    else if (c == 63) && s.fresh then record s { mode = declaring }
+    else refuse s)
     else if is_qname s.token && has_room s.below s.top.parts then
-      at_tagging (record (settle s) { name = s.token }) c
+    at_tagging (record (settle s) { name = s.token }) c
     else refuse s
 
 abbrev pub at_named : State → ℕ → State
@@ -195,10 +199,15 @@ at_valuing s c =
 abbrev pub at_value_run : State → ℕ → State
 at_value_run s c =
     if is_run s.quote s.token then
-      (if c == 38 then record s { mode = value_referring; token = 38 ∷ []; value = s.value ++ with_spaces s.token }
-        else record s {
-          mode = tagging; token = []; attribute = []; value = []; quote = 0;
-          attributes = s.attributes ++ record { name = s.attribute; value = s.value ++ with_spaces s.token } ∷ [] })
+    (if c == 38 then record s { mode = value_referring; token = 38 ∷ []; value = s.value ++ with_spaces s.token }
+    else record s {
+      mode = tagging;
+      token = [];
+      attribute = [];
+      value = [];
+      quote = 0;
+      attributes = s.attributes ++ record { name = s.attribute; value = s.value ++ with_spaces s.token } ∷ [];
+    })
     else refuse s
 
 abbrev pub at_value_referring : State → Option ℕ → State
@@ -215,8 +224,9 @@ abbrev pub closed : List Frame → State → State
 closed [] s = refuse s
 closed (frame ∷ frames) s =
     if is_end s.top.name s.token then calm (record s {
-        top = with_parts frame (child (element s.top.name s.top.attributes s.top.start s.mark s.top.parts) none);
-        below = frames })
+      top = with_parts frame (child (element s.top.name s.top.attributes s.top.start s.mark s.top.parts) none);
+      below = frames;
+    })
     else refuse s
 
 -- what a byte that ends the token does
@@ -254,8 +264,20 @@ nothing_open = record { name = []; attributes = []; start = 0; parts = none }
 
 abbrev pub start : State
 start = record {
-    mode = beginning; fresh = true; at = 0; mark = 0; token = []; text = []; name = []; attributes = []; attribute = []; value = [];
-    quote = 0; top = nothing_open; below = [] }
+  mode = beginning;
+  fresh = true;
+  at = 0;
+  mark = 0;
+  token = [];
+  text = [];
+  name = [];
+  attributes = [];
+  attribute = [];
+  value = [];
+  quote = 0;
+  top = nothing_open;
+  below = [];
+}
 
 abbrev pub only_child : Parts → Option Element
 only_child none = None

@@ -28,8 +28,11 @@ mode_of Refused = refused
 
 abbrev pub frame_of : OpenElement → Frame
 frame_of open_element = record {
-    name = open_element.name; attributes = open_element.attributes.items; start = open_element.start;
-    parts = parts_view open_element.parts.items }
+  name = open_element.name;
+  attributes = open_element.attributes.items;
+  start = open_element.start;
+  parts = parts_view open_element.parts.items;
+}
 
 -- the innermost open element comes first
 abbrev pub frames_of : List OpenElement → List Frame
@@ -37,6 +40,17 @@ frames_of elements = reverse (map frame_of elements)
 
 abbrev pub seen : Reader → State
 seen r = record {
-    mode = mode_of r.mode; fresh = r.fresh; at = r.at; mark = r.mark; token = r.token.items; text = r.text.items;
-    name = r.name; attributes = r.attributes.items; attribute = r.attribute; value = r.value.items; quote = r.quote;
-    top = frame_of r.top; below = frames_of r.below.items }
+  mode = mode_of r.mode;
+  fresh = r.fresh;
+  at = r.at;
+  mark = r.mark;
+  token = r.token.items;
+  text = r.text.items;
+  name = r.name;
+  attributes = r.attributes.items;
+  attribute = r.attribute;
+  value = r.value.items;
+  quote = r.quote;
+  top = frame_of r.top;
+  below = frames_of r.below.items;
+}

@@ -65,8 +65,9 @@ is_run quote bytes = ((quote == 34) || (quote == 39)) && is_plain quote bytes
 abbrev pub before_semicolon : List ℕ → Option (List ℕ)
 before_semicolon [] = None
 before_semicolon (b ∷ bytes) = elim (before_semicolon bytes) [
-    None ↦ (if (b == 59) && is_nil bytes then Some [] else None)
-  | Some front ↦ Some (b ∷ front) ]
+  | None ↦ (if (b == 59) && is_nil bytes then Some [] else None)
+  | Some front ↦ Some (b ∷ front)
+]
 
 -- the character with this number, written in these digits
 abbrev pub character : (ℕ → Bool) → ℕ → Option (List ℕ) → Option ℕ

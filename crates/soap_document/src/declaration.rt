@@ -49,7 +49,8 @@ fn stands_alone(bytes: &[u8]) -> bool
     ensures { result ≡ alone_test bytes.now }
 {
     match setting(b"standalone", bytes) {
-        Some((value, rest)) => (value == b"yes".as_slice() || value == b"no".as_slice()) && ends(rest),
+        Some((value, rest)) => (value == b"yes".as_slice() || value == b"no".as_slice())
+            && ends(rest),
         None => ends(bytes),
     }
 }

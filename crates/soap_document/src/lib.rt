@@ -15,10 +15,10 @@ pub mod tree;
 
 pub use document::read_document;
 pub use reader::Reader;
+pub use tokens::cut;
 pub use tree::{WrittenAttribute, WrittenElement, WrittenPart};
 
 /// Bytes have at most one tree.
 pub fn one_tree()
     ensures { (bytes : List ℕ) (one other : Element) → IsDocument bytes one → IsDocument bytes other → one ≡ other }
-{
-}
+{}

@@ -40,8 +40,8 @@ ghost use Rattle.soap_document.specs.Seen.{seen, mode_of};
 
 use crate::declaration::is_declaration;
 use crate::tokens::{
-  add_character, add_line_ends, add_spaces, before, is_cdata, is_char_data, is_comment, is_end,
-  is_mark, is_qname, is_run, is_white, reference,
+    add_character, add_line_ends, add_spaces, before, is_cdata, is_char_data, is_comment, is_end,
+    is_mark, is_qname, is_run, is_white, reference,
 };
 use crate::tree::{WrittenAttribute, WrittenElement, WrittenPart};
 use memchr::{memchr, memchr2};

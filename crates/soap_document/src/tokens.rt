@@ -50,7 +50,7 @@ fn is_name(bytes: &[u8]) -> bool
 }
 
 /// What stands before the first such byte, and what after it.
-pub(crate) fn cut(byte: u8, bytes: &[u8]) -> Option<(&[u8], &[u8])>
+pub fn cut(byte: u8, bytes: &[u8]) -> Option<(&[u8], &[u8])>
     ensures { option_map (λ p. (p.0.now, p.1.now)) result ≡ cut_at byte bytes.now }
 {
     match memchr(byte, bytes) {

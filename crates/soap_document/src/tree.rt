@@ -34,8 +34,20 @@ pub struct WrittenElement {
     pub parts: Vec<WrittenPart>,
 }
 
-fn built(name: Blob, attributes: Vec<WrittenAttribute>, start: usize, end: usize, parts: Vec<WrittenPart>) -> WrittenElement
+fn built(
+    name: Blob,
+    attributes: Vec<WrittenAttribute>,
+    start: usize,
+    end: usize,
+    parts: Vec<WrittenPart>,
+) -> WrittenElement
     ensures { element_view result ≡ element name attributes.items start end (parts_view parts.items) }
 {
-    WrittenElement { name, attributes, start, end, parts }
+    WrittenElement {
+        name,
+        attributes,
+        start,
+        end,
+        parts,
+    }
 }

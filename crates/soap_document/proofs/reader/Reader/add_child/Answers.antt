@@ -9,4 +9,4 @@ pub returns : goal.returns
 returns c =
     let self = c.args.self.now in
     ap (λ (k : Parts). record (seen self) { top = record (frame_of self.top) { parts = k } })
-      (ap parts_view c.in_ok-push.ensures.items ∙ parts-push_child self.top.parts.items c.args.element)
+    (ap parts_view c.in_ok-push.ensures.items ∙ parts-push_child self.top.parts.items c.args.element)

@@ -19,6 +19,6 @@ returns c =
     let some = some_from_len self.text.items _ self.text.ok.0 (sym c.is_empty.ensures ∙ c.if-is_empty.false) in
     let is : c.in_ok-text.text ≡ self.text.items = c.in_ok-text.ensures ∙ c.deref.ensures.value in
     let grown : parts_view c.push.new.self.items ≡ join (parts_view before) (onto self.text.items none) =
-          ap parts_view c.in_ok-push.ensures.items ∙ ap (λ (y : List ℕ). parts_view (before ++ Text y ∷ [])) is
-          ∙ settled_text before self.text.items some.0 some.1 some.2 in
+    ap parts_view c.in_ok-push.ensures.items ∙ ap (λ (y : List ℕ). parts_view (before ++ Text y ∷ [])) is
+    ∙ settled_text before self.text.items some.0 some.1 some.2 in
     ap₂ (λ (k : Parts) (x : List ℕ). record (seen self) { top = record (frame_of self.top) { parts = k }; text = x }) grown c.clear.ensures.items

@@ -1,0 +1,95 @@
+-- What parts stand for, one behind the other.
+use Rattle.std.proofs.Common.{◌≡◌, ℕ, List, [], ◌∷◌, ◌++◌, Bool, true, false, Option, Some, None, option_map, map, refl, sym, ap, ◌∙◌}
+use Rattle.soap_document.specs.Tree as written
+use Rattle.soap_document.specs.View.{part_view as written_part, parts_view as written_parts, element_view as written_view, part_step as written_part_step, element_step as written_element_step}
+use Rattle.soap_document.specs.declared.tree.WrittenElement.{WrittenElement}
+use Rattle.soap_document.specs.declared.tree.WrittenPart.{WrittenPart, WrittenPart-F, fold-roll-WrittenPart}
+use Rattle.soap_document.specs.declared.tree.WrittenPart.TheOpen as TheWrittenOpen
+use Rattle.soap_document.specs.declared.tree.WrittenPart.TheVariants.{Text as WrittenText, Child as WrittenChild, rolls-Text as rolls-WrittenText, rolls-Child as rolls-WrittenChild}
+use Rattle.soap_profile.specs.Namespaces.{resolve, resolve_parts, joined}
+use Rattle.soap_profile.specs.Steps.{join, Resolves}
+use Rattle.soap_profile.specs.Tree.{Element, Parts, none, text, child, Binding}
+use Rattle.soap_profile.specs.View.{gather, part_step, element_step, parts_step, part_view, element_view, parts_view}
+use Rattle.soap_profile.specs.declared.tree.Element.{Element as CodeElement}
+use Rattle.soap_profile.specs.declared.tree.Part.{Part, Part-F, out-Part, fold-roll-Part, fold_out-Part}
+use Rattle.soap_profile.specs.declared.tree.Part.TheFolds.{map-Part}
+use Rattle.soap_profile.specs.declared.tree.Part.TheOpen
+use Rattle.soap_profile.specs.declared.tree.Part.TheVariants.{Text, Child, rolls-Text, rolls-Child}
+use Rattle.soap_profile.specs.declared.tree.Parts.{Parts as CodeParts}
+
+join-assoc : (a b c : Parts) → join (join a b) c ≡ join a (join b c)
+join-assoc none b c = refl
+join-assoc (text x a) b c = ap (text x) (join-assoc a b c)
+join-assoc (child u a) b c = ap (child u) (join-assoc a b c)
+
+pub join-none : (a : Parts) → join a none ≡ a
+join-none none = refl
+join-none (text x a) = ap (text x) (join-none a)
+join-none (child u a) = ap (child u) (join-none a)
+
+abbrev Layer : Type 0
+Layer = Part-F Part CodeElement CodeParts
+
+abbrev seen_layer : Layer → Parts → Parts
+seen_layer l = part_step (map-Part Part CodeElement CodeParts (Parts → Parts) Element Parts part_view element_view (λ p. parts_view p.items.items) l)
+
+part_out : (x : Part) → part_view x ≡ seen_layer (out-Part x)
+part_out x = fold_out-Part (Parts → Parts) Element Parts part_step element_step parts_step x
+
+layer_join : (l : Layer) (a b : Parts) → seen_layer l (join a b) ≡ join (seen_layer l a) b
+layer_join (TheOpen.Text x) a b = refl
+layer_join (TheOpen.Child x) a b = refl
+
+part_join : (x : Part) (a b : Parts) → part_view x (join a b) ≡ join (part_view x a) b
+part_join x a b = ap (λ (f : Parts → Parts). f (join a b)) (part_out x) ∙ layer_join (out-Part x) a b ∙ ap (λ (f : Parts → Parts). join (f a) b) (sym (part_out x))
+
+part_text : (x : List ℕ) → part_view (Text x) ≡ text x
+part_text x = ap part_view (sym (rolls-Text x)) ∙ fold-roll-Part (Parts → Parts) Element Parts part_step element_step parts_step (TheOpen.Text x)
+
+part_child : (e : CodeElement) → part_view (Child e) ≡ child (element_view e)
+part_child e = ap part_view (sym (rolls-Child e)) ∙ fold-roll-Part (Parts → Parts) Element Parts part_step element_step parts_step (TheOpen.Child e)
+
+parts-push : (xs : List Part) (x : Part) → parts_view (xs ++ x ∷ []) ≡ join (parts_view xs) (part_view x none)
+parts-push [] x = refl
+parts-push (y ∷ xs) x = ap (part_view y) (parts-push xs x) ∙ part_join y (parts_view xs) (part_view x none)
+
+pub parts-push_text : (xs : List Part) (x : List ℕ) → parts_view (xs ++ Text x ∷ []) ≡ join (parts_view xs) (text x none)
+parts-push_text xs x = parts-push xs (Text x) ∙ ap (λ (f : Parts → Parts). join (parts_view xs) (f none)) (part_text x)
+
+pub parts-push_child : (xs : List Part) (e : CodeElement) → parts_view (xs ++ Child e ∷ []) ≡ join (parts_view xs) (child (element_view e) none)
+parts-push_child xs e = parts-push xs (Child e) ∙ ap (λ (f : Parts → Parts). join (parts_view xs) (f none)) (part_child e)
+
+-- ---- one part more
+
+written_text : (x : List ℕ) → written_part (WrittenText x) ≡ written.text x
+written_text x = ap written_part (sym (rolls-WrittenText x)) ∙ fold-roll-WrittenPart (written.Parts → written.Parts) written.Element written_part_step written_element_step (TheWrittenOpen.Text x)
+
+written_child : (e : WrittenElement) → written_part (WrittenChild e) ≡ written.child (written_view e)
+written_child e = ap written_part (sym (rolls-WrittenChild e)) ∙ fold-roll-WrittenPart (written.Parts → written.Parts) written.Element written_part_step written_element_step (TheWrittenOpen.Child e)
+
+text_joined : (x : List ℕ) (old : Parts) (o : Option Parts) → option_map (join old) (option_map (text x) o) ≡ option_map (join (join old (text x none))) o
+text_joined x old None = refl
+text_joined x old (Some ps) = ap (λ (p : Parts). Some p) (sym (join-assoc old (text x none) ps))
+
+child_joined : (u : Element) (old : Parts) (o : Option Parts) → option_map (join old) (option_map (child u) o) ≡ option_map (join (join old (child u none))) o
+child_joined u old None = refl
+child_joined u old (Some ps) = ap (λ (p : Parts). Some p) (sym (join-assoc old (child u none) ps))
+
+-- a text
+pub Resolves-text : (scope : List Binding) (x : List ℕ) (old new : Parts) → new ≡ join old (text x none) → Resolves scope (written_part (WrittenText x)) old new true
+Resolves-text scope x old new e rest =
+    ap (λ (f : written.Parts → written.Parts). option_map (join old) (resolve_parts scope (f rest))) (written_text x)
+    ∙ text_joined x old (resolve_parts scope rest) ∙ ap (λ (k : Parts). option_map (join k) (resolve_parts scope rest)) (sym e)
+
+-- an element
+pub Resolves-child : (scope : List Binding) (e : WrittenElement) (u : Element) (old new : Parts) → Some u ≡ resolve scope (written_view e) → new ≡ join old (child u none)
+    → Resolves scope (written_part (WrittenChild e)) old new true
+Resolves-child scope e u old new r n rest =
+    ap (λ (f : written.Parts → written.Parts). option_map (join old) (resolve_parts scope (f rest))) (written_child e)
+    ∙ ap (λ (o : Option Element). option_map (join old) (joined o (resolve_parts scope rest))) (sym r)
+    ∙ child_joined u old (resolve_parts scope rest) ∙ ap (λ (k : Parts). option_map (join k) (resolve_parts scope rest)) (sym n)
+
+pub Resolves-none : (scope : List Binding) (e : WrittenElement) (old new : Parts) → None ≡ resolve scope (written_view e) → Resolves scope (written_part (WrittenChild e)) old new false
+Resolves-none scope e old new r rest =
+    ap (λ (f : written.Parts → written.Parts). option_map (join old) (resolve_parts scope (f rest))) (written_child e)
+    ∙ ap (λ (o : Option Element). option_map (join old) (joined o (resolve_parts scope rest))) (sym r)

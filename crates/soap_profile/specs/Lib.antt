@@ -1,0 +1,6 @@
+pub mod Document
+pub mod Namespaces
+pub mod Scope
+pub mod Steps
+pub mod Tree
+pub mod View

@@ -1,0 +1,27 @@
+-- The tree of a document with expanded names: the declarations of an element stand apart from its attributes.
+use Rattle.std.specs.Prelude.{ℕ, List, []}
+-- a prefix, which is empty for the default namespace, and what it is bound to
+pub use Rattle.rm_base.specs.declared.message.Binding.{Binding}
+-- a namespace, empty where there is none, and a local name
+pub use Rattle.soap_profile.specs.declared.tree.Name.{Name}
+-- an expanded name and a value
+pub use Rattle.soap_profile.specs.declared.tree.Attr.{Attr}
+
+mutual
+  pub data Element : Type 0 where
+    element : Name → List Binding → List Attr → Parts → Element
+
+  pub data Parts : Type 0 where
+    none : Parts
+    text : List ℕ → Parts → Parts
+    child : Element → Parts → Parts
+
+-- the same with no declarations, at every level
+abbrev mutual
+  pub without_declarations : Element → Element
+  without_declarations (element name decls attrs parts) = element name [] attrs (parts_without parts)
+
+  pub parts_without : Parts → Parts
+  parts_without none = none
+  parts_without (text bytes parts) = text bytes (parts_without parts)
+  parts_without (child first parts) = child (without_declarations first) (parts_without parts)
