@@ -1,5 +1,6 @@
 -- What parts stand for, one behind the other.
-use Rattle.std.proofs.Common.{◌≡◌, ℕ, List, [], ◌∷◌, ◌++◌, Bool, true, false, Option, Some, None, option_map, map, refl, sym, ap, ◌∙◌}
+use Rattle.std.proofs.Common.{◌≡◌, ℕ, List, [], ◌∷◌, ◌++◌, Bool, true, false, Option, Some, None, option_map, map, length, drop, ◌≤◌, suc, refl, sym, ap, ◌∙◌, arith}
+use Prim.Native.Nat.{zero}
 use Rattle.soap_document.specs.Tree as written
 use Rattle.soap_document.specs.View.{part_view as written_part, parts_view as written_parts, element_view as written_view, part_step as written_part_step, element_step as written_element_step}
 use Rattle.soap_document.specs.declared.tree.WrittenElement.{WrittenElement}
@@ -93,3 +94,16 @@ pub Resolves-none : (scope : List Binding) (e : WrittenElement) (old new : Parts
 Resolves-none scope e old new r rest =
     ap (λ (f : written.Parts → written.Parts). option_map (join old) (resolve_parts scope (f rest))) (written_child e)
     ∙ ap (λ (o : Option Element). option_map (join old) (joined o (resolve_parts scope rest))) (sym r)
+
+drop_past : {A : Type 0} (n : ℕ) (xs : List A) → length xs ≤ n → drop n xs ≡ []
+drop_past zero [] h = refl
+drop_past (suc n) [] h = refl
+drop_past zero (x ∷ xs) h = absurd (omega arith)
+drop_past (suc n) (x ∷ xs) h = drop_past n xs (omega arith)
+
+-- no part is left
+pub none_left : (scope : List Binding) (parts : List WrittenPart) (n : ℕ) (made : Parts) → length parts ≤ n
+    → option_map (join made) (resolve_parts scope (written_parts (drop n parts))) ≡ resolve_parts scope (written_parts parts) → Some made ≡ resolve_parts scope (written_parts parts)
+none_left scope parts n made h e =
+    ap (λ (p : Parts). Some p) (sym (join-none made))
+    ∙ ap (λ (xs : List WrittenPart). option_map (join made) (resolve_parts scope (written_parts xs))) (sym (drop_past n parts h)) ∙ e

@@ -3,9 +3,13 @@
 //! `specs/Document`.
 #![tactic(auto)]
 
+pub mod error;
 mod names;
+pub mod read;
 mod resolve;
 mod scope;
 pub mod tree;
 
+pub use error::EnvelopeError;
+pub use read::{MAX_LENGTH, read_element};
 pub use tree::{Attr, Attrs, Element, Name, Part, Parts};
