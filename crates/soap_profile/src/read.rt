@@ -6,10 +6,10 @@ ghost use Rattle.soap_profile.specs.View.{element_view};
 
 use crate::error::EnvelopeError;
 use crate::resolve::resolve;
-use crate::scope::Scope;
+use crate::scope::nothing_bound;
 use crate::tree::Element;
 use rm_base::Memory;
-use soap_document::read_document;
+use soap_document::{one_tree, read_document};
 use soap_lex::utf8_prefix;
 use std::alloc::Global;
 
@@ -52,9 +52,6 @@ fn read_tree(alloc: Global, bytes: &[u8]) -> Result<Option<Element>, Memory>
     let Some(written) = read_document(alloc, bytes)? else {
         return Ok(None);
     };
-    let scope = Scope {
-        decls: &[],
-        outer: None,
-    };
-    resolve(alloc, &written, &scope)
+    one_tree();
+    resolve(alloc, &written, &nothing_bound())
 }

@@ -1,5 +1,5 @@
 // The bindings in force.
-ghost use Rattle.std.specs.Prelude.{◌≡◌, option_map};
+ghost use Rattle.std.specs.Prelude.{◌≡◌, [], option_map};
 ghost use Rattle.soap_profile.specs.Namespaces.{bound as bound_by};
 ghost use Rattle.soap_profile.specs.Scope.{bindings_of};
 
@@ -10,6 +10,16 @@ use rm_base::Binding;
 pub(crate) struct Scope<'a> {
     pub(crate) decls: &'a [Binding],
     pub(crate) outer: Option<&'a Scope<'a>>,
+}
+
+/// Around the root.
+pub(crate) fn nothing_bound() -> Scope<'static>
+    ensures { bindings_of result ≡ [] }
+{
+    Scope {
+        decls: &[],
+        outer: None,
+    }
 }
 
 /// What a prefix is bound to.
