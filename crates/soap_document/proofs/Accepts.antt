@@ -1,9 +1,7 @@
 -- What the reader answers was a document: the bytes up to the next one that ends a token.
-use Rattle.std.proofs.Common.{◌≡◌, ◌≢◌, ℕ, suc, ◌+◌, ◌⊎◌, inl, inr, List, [], ◌∷◌, ◌++◌, Bool, true, false, cond, Option, Some, None, length, refl, sym, ap, subst, ap₂, ◌∙◌, arith, append_assoc, append-nil}
-use Rattle.std.proofs.lemmas.Bool.{true≢false}
+use Rattle.std.proofs.Common.{◌≡◌, ℕ, ◌+◌, ◌⊎◌, inl, inr, List, [], ◌∷◌, ◌++◌, Bool, true, false, cond, Option, Some, None, length, refl, sym, ap, subst, ap₂, arith, append_assoc, append-nil}
 use Rattle.soap_document.specs.Tree.{Element}
-use Rattle.soap_document.specs.Machine.{Mode, refused, State, stops, finish, step, run, refuse, counted, root_of}
-use Rattle.soap_document.proofs.Moves.{At, NoStops, at_place, longer}
+use Rattle.soap_document.specs.Machine.{State, stops, finish, run, refuse, counted, root_of}
 
 -- from a state on, the bytes are read to the end, and the root is u
 abbrev pub Accepts : State → List ℕ → Element → Type 0

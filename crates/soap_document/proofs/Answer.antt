@@ -1,18 +1,17 @@
 -- What the code's tests answer, as the tests of specs/.
-use Rattle.std.proofs.Common.{◌≡◌, ◌≢◌, ℕ, suc, ◌+◌, ◌-◌, ◌≤◌, ◌<◌, ◌⊎◌, inl, inr, List, [], ◌∷◌, ◌++◌, Bool, true, false, ◌&&◌, nat_eq, cond, Option, Some, None, option_map, MatchOption, IfSome, IfNone, Bor, length, get_or, take, drop, refl, sym, ap, ap₂, subst, ◌∙◌, arith, append_assoc, append-nil, length-take, length-drop, length-append, drop-cons}
+use Rattle.std.proofs.Common.{◌≡◌, ◌≢◌, ℕ, suc, ◌+◌, ◌-◌, ◌≤◌, ◌<◌, List, [], ◌∷◌, ◌++◌, Bool, true, false, ◌&&◌, nat_eq, cond, Option, Some, None, option_map, MatchOption, IfSome, IfNone, Bor, length, get_or, take, drop, refl, sym, ap, ap₂, subst, ◌∙◌, arith, append-nil, length-drop, drop-cons}
 use Prim.Native.Nat.{zero}
 use Rattle.std.specs.List.{AllByRecursion}
-use Rattle.std.specs.Bool.{IsTrue}
 use Rattle.std.proofs.Math.Numerals.{add-one}
 use Rattle.std.proofs.lemmas.List.{take-append-drop}
-use Rattle.std.proofs.lemmas.Bool.{eqb-true, ne_eqb, cases_Bool, eq-eqb, and_parts, true≢false, false_from_ne_true}
-use Rattle.memchr.specs.Find.{IsFirstByte, Passes, is_byte}
-use Rattle.soap_document.specs.Machine.{Mode, State, stops, finish, step, run, counted, without, is_end}
+use Rattle.std.proofs.lemmas.Bool.{eqb-true, eq-eqb, and_parts, false_from_ne_true}
+use Rattle.memchr.specs.Find.{IsFirstByte, is_byte}
+use Rattle.soap_document.specs.Machine.{State, stops, finish, run, counted, without, is_end}
 use Rattle.soap_document.specs.Declaration.{after}
 use Rattle.soap_document.specs.Tokens.{is_white, is_name, is_qname, begins, cut}
 use Rattle.soap_document.proofs.Declarations.{after-append}
 use Rattle.soap_document.proofs.Held.{cut_none, cut-append, front_from_begins}
-use Rattle.soap_document.proofs.Moves.{NoStops, at_place, longer, kept}
+use Rattle.soap_document.proofs.Moves.{kept}
 use Rattle.soap_document.proofs.TokenLaws.{without-append, without_from}
 
 -- two tests of one fact

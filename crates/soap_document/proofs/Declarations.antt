@@ -1,5 +1,5 @@
 -- The test of an XML declaration, against its grammar.
-use Rattle.std.proofs.Common.{◌≡◌, ◌≢◌, ℕ, ◌+◌, ◌⊎◌, inl, inr, List, [], ◌∷◌, ◌++◌, Bool, true, false, ◌&&◌, ◌||◌, nat_eq, cond, Option, Some, None, length, drop, map, codes, refl, sym, ap, ap₂, subst, ◌∙◌, arith, append_assoc, append-nil}
+use Rattle.std.proofs.Common.{◌≡◌, ℕ, ◌⊎◌, inl, inr, List, [], ◌∷◌, ◌++◌, Bool, true, false, ◌&&◌, ◌||◌, nat_eq, cond, Option, Some, None, length, drop, codes, refl, sym, ap, subst, ◌∙◌, append_assoc}
 use Rattle.std.specs.List.{AllByRecursion}
 use Rattle.std.specs.Char.{to_ascii_lowercase}
 use Rattle.std.specs.Str.{bytes_eq, str_to_ascii_lowercase}
@@ -8,9 +8,9 @@ use Rattle.std.proofs.lemmas.Bool.{eqb-true, eq-eqb, ne_eqb, and_parts, or_cases
 use Rattle.xml_chars.specs.Classes.{is_space}
 use Rattle.soap_document.specs.Declaration.{skip, after, quoted, valued, setting, ends, stands_alone, is_encoded, is_versioned, names_xml, is_declaration}
 use Rattle.soap_document.specs.Grammar.{IsWhite, IsSpace, IsQuoted, double, single, IsSetting, setting as is_setting, IsEncoding, unsaid as no_encoding, utf8, IsStandalone, unsaid as no_standalone, yes, no, IsDeclaration, without, declared}
-use Rattle.soap_document.specs.Machine.{Mode, declaring, stops}
+use Rattle.soap_document.specs.Machine.{declaring}
 use Rattle.soap_document.specs.Tokens.{begins, cut}
-use Rattle.soap_document.proofs.Held.{all_weaker, all_append, other, same, equal, begins-append, front_from_begins, cut-append, cut_from}
+use Rattle.soap_document.proofs.Held.{all_weaker, all_append, other, same, begins-append, front_from_begins, cut-append, cut_from}
 use Rattle.soap_document.proofs.Moves.{NoStops}
 
 -- ---- what the grammar has passes

@@ -1,5 +1,5 @@
 -- What feeding a piece does, and what the reader answers at the end.
-use Rattle.std.proofs.Common.{◌≡◌, ℕ, suc, ◌+◌, ◌-◌, ◌<◌, List, [], ◌∷◌, ◌++◌, Option, Some, None, Result, Ok, Err, OnOk, IfSome, IfNone, option_map, length, get_or, take, drop, refl, sym, ap, subst, ◌∙◌, arith, length-take, length-drop}
+use Rattle.std.proofs.Common.{◌≡◌, ℕ, ◌+◌, ◌-◌, ◌<◌, List, ◌++◌, Option, Some, None, Result, Ok, Err, OnOk, IfSome, IfNone, option_map, length, get_or, take, drop, sym, ap, subst, ◌∙◌, arith, length-take, length-drop}
 use Rattle.memchr.specs.Find.{IsFirstByte}
 use Rattle.soap_document.specs.Tree.{Element}
 use Rattle.soap_document.specs.Grammar.{IsDocument}

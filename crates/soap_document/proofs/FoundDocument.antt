@@ -1,21 +1,20 @@
 -- What the reader answers is the tree of a document.
-use Rattle.std.proofs.Common.{◌≡◌, ◌≢◌, ℕ, suc, ◌+◌, ◌≤◌, ◌<◌, ◌⊎◌, inl, inr, List, [], ◌∷◌, ◌++◌, Bool, true, false, not, ◌&&◌, ◌||◌, nat_eq, cond, Option, Some, None, length, codes, refl, sym, ap, ap₂, subst, ◌∙◌, arith, append_assoc, append-nil, length-append}
+use Rattle.std.proofs.Common.{◌≡◌, ℕ, suc, ◌+◌, ◌<◌, ◌⊎◌, inl, inr, List, [], ◌∷◌, ◌++◌, Bool, true, false, ◌&&◌, ◌||◌, nat_eq, cond, Option, Some, None, length, codes, refl, sym, ap, subst, ◌∙◌, arith, append_assoc, append-nil, length-append}
 use Prim.Native.Nat.{zero}
-use Rattle.std.specs.Str.{bytes_eq}
-use Rattle.std.proofs.lemmas.Bool.{eqb-true, and_parts, or_cases, cases_eq, true≢false}
+use Rattle.std.proofs.lemmas.Bool.{eqb-true, and_parts, or_cases, true≢false}
 use Rattle.xml_chars.specs.Classes.{is_space}
 use Rattle.soap_lex.specs.Text.{IsComment}
-use Rattle.soap_document.specs.Tree.{Element, Parts, none, text, child, onto}
+use Rattle.soap_document.specs.Tree.{Element, none, child}
 use Rattle.soap_document.specs.Declaration.{is_declaration}
 use Rattle.soap_document.specs.Grammar.{IsWhite, IsMisc, white, comment, IsMark, unmarked, marked, IsDeclaration, without as undeclared, IsElement, IsDocument, document}
-use Rattle.soap_document.specs.Machine.{Mode, beginning, chars, less, marking, declaring, Frame, State, stops, finish, step, run, refuse, counted, calm, start, nothing_open, root_of, only_child, is_mark, with_parts, has_room, at_chars, at_beginning}
+use Rattle.soap_document.specs.Machine.{beginning, less, marking, declaring, Frame, State, run, counted, calm, start, nothing_open, root_of, only_child, is_mark, has_room, at_chars, at_beginning}
 use Rattle.soap_document.specs.Tokens.{is_nil, is_white}
-use Rattle.soap_document.proofs.Accepts.{Accepts, refused_never, passed, chosen, Next, next}
+use Rattle.soap_document.proofs.Accepts.{Accepts, passed, chosen, next}
 use Rattle.soap_document.proofs.Declarations.{declaration_from}
-use Rattle.soap_document.proofs.FoundElements.{LessFound, less_found, TagFound, ElementFound, element_from, content_found}
-use Rattle.soap_document.proofs.FoundText.{shorter, Marked, marked_found}
+use Rattle.soap_document.proofs.FoundElements.{LessFound, less_found, TagFound, element_from, content_found}
+use Rattle.soap_document.proofs.FoundText.{marked_found}
 use Rattle.soap_document.proofs.Held.{same}
-use Rattle.soap_document.proofs.Moves.{At, plain_at, chars_at, less_at}
+use Rattle.soap_document.proofs.Moves.{plain_at, chars_at, less_at}
 use Rattle.soap_document.proofs.TokenFacts.{white_from}
 
 module _ (u : Element) where

@@ -1,16 +1,16 @@
 -- Elements and content that the reader took are those of the grammar.
-use Rattle.std.proofs.Common.{◌≡◌, ◌≢◌, ℕ, suc, ◌+◌, ◌≤◌, ◌<◌, ◌⊎◌, inl, inr, List, [], ◌∷◌, ◌++◌, Bool, true, false, not, ◌&&◌, ◌||◌, nat_eq, nat_lt, cond, Option, Some, None, length, codes, refl, sym, ap, ap₂, subst, ◌∙◌, arith, append_assoc, append-nil, length-append}
+use Rattle.std.proofs.Common.{◌≡◌, ℕ, suc, ◌+◌, ◌≤◌, ◌<◌, ◌⊎◌, inl, inr, List, [], ◌∷◌, ◌++◌, Bool, true, false, not, ◌&&◌, nat_eq, cond, length, codes, refl, sym, ap, ap₂, subst, ◌∙◌, arith, append_assoc, length-append}
 use Prim.Native.Nat.{zero}
-use Rattle.std.proofs.lemmas.Bool.{eqb-true, ltb-true, and_parts, or_cases, cases_eq, true≢false}
+use Rattle.std.proofs.lemmas.Bool.{eqb-true, ltb-true, and_parts, true≢false}
 use Rattle.soap_lex.specs.Text.{IsText}
-use Rattle.soap_document.specs.Tree.{Attribute, Element, element, Parts, none, text, child, onto}
+use Rattle.soap_document.specs.Tree.{Attribute, Element, element, Parts, none, child, onto}
 use Rattle.soap_document.specs.Grammar.{IsWhite, IsQName, IsAttributes, IsElement, full, empty, IsContent, last as last_text, more as then_child, start_tag, end_tag, empty_tag, max_depth}
-use Rattle.soap_document.specs.Machine.{Mode, chars, less, ending, slashed, marking, declaring, tagging, Frame, State, stops, finish, step, run, refuse, counted, settle, opened, emptied, at_tagging, closed, join, with_parts, has_room, is_end}
+use Rattle.soap_document.specs.Machine.{less, ending, slashed, marking, declaring, Frame, State, finish, refuse, counted, settle, emptied, at_tagging, with_parts, has_room, is_end}
 use Rattle.soap_document.specs.Tokens.{is_nil, is_qname}
-use Rattle.soap_document.proofs.Accepts.{Accepts, refused_never, passed, chosen, Next, next}
+use Rattle.soap_document.proofs.Accepts.{Accepts, passed, chosen, next}
 use Rattle.soap_document.proofs.FoundTags.{AttributesFound, attributes_found}
-use Rattle.soap_document.proofs.FoundText.{shorter, TextFound, text_found}
-use Rattle.soap_document.proofs.Moves.{At, Tag, tag_at, between_at, plain_at, chars_at, less_at}
+use Rattle.soap_document.proofs.FoundText.{TextFound, text_found}
+use Rattle.soap_document.proofs.Moves.{Tag, tag_at, between_at, plain_at, chars_at, less_at}
 use Rattle.soap_document.proofs.OnlyElements.{grown}
 use Rattle.soap_document.proofs.TokenFacts.{qname_from, end_from}
 

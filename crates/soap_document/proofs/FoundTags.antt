@@ -1,18 +1,18 @@
 -- Tags that the reader took are tags of the grammar.
-use Rattle.std.proofs.Common.{◌≡◌, ◌≢◌, ℕ, suc, ◌+◌, ◌≤◌, ◌<◌, ◌⊎◌, inl, inr, List, [], ◌∷◌, ◌++◌, Bool, true, false, not, ◌&&◌, ◌||◌, nat_eq, cond, Option, Some, None, length, codes, encode_utf8, refl, sym, ap, ap₂, subst, ◌∙◌, arith, append_assoc, append-nil, length-append}
+use Rattle.std.proofs.Common.{◌≡◌, ◌≢◌, ℕ, suc, ◌+◌, ◌≤◌, ◌⊎◌, inl, inr, List, [], ◌∷◌, ◌++◌, Bool, true, false, ◌||◌, nat_eq, cond, Option, Some, None, length, encode_utf8, refl, sym, ap, ap₂, subst, ◌∙◌, arith, append_assoc, append-nil, length-append}
 use Prim.Native.Nat.{zero}
-use Rattle.std.proofs.lemmas.Bool.{eqb-true, and_parts, or_cases, cases_eq, true≢false}
+use Rattle.std.proofs.lemmas.Bool.{eqb-true, or_cases, true≢false}
 use Rattle.xml_chars.specs.Classes.{is_space}
 use Rattle.soap_lex.specs.References.{IsReference}
 use Rattle.soap_lex.specs.Value.{IsValue, double, single, IsInner, run as plain, more as then_reference, with_spaces}
 use Rattle.soap_document.specs.Tree.{Attribute, Element}
 use Rattle.soap_document.specs.Grammar.{IsWhite, IsSpace, IsQName, IsAttributes, end, more}
-use Rattle.soap_document.specs.Machine.{Mode, tagging, naming, named, valuing, value_run, value_referring, slashed, Frame, State, stops, finish, step, run, refuse, counted, opened, at_tagging, at_named, at_value_referring}
+use Rattle.soap_document.specs.Machine.{naming, named, valuing, value_run, value_referring, slashed, State, finish, refuse, counted, opened, at_tagging, at_named, at_value_referring}
 use Rattle.soap_document.specs.Tokens
 use Rattle.soap_document.specs.Tokens.{is_nil, is_qname, is_run}
 use Rattle.soap_document.proofs.Accepts.{Accepts, refused_never, passed, chosen, Next, next}
 use Rattle.soap_document.proofs.FoundText.{shorter}
-use Rattle.soap_document.proofs.Moves.{At, Tag, tag_at, between, between_at}
+use Rattle.soap_document.proofs.Moves.{At, Tag, tag_at, between_at}
 use Rattle.soap_document.proofs.TokenFacts.{run_from, qname_from, reference_from}
 
 module _ (tag : Tag) (u : Element) where

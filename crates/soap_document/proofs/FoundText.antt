@@ -1,12 +1,12 @@
 -- Text that the reader took is text of the grammar.
-use Rattle.std.proofs.Common.{◌≡◌, ◌≢◌, ℕ, suc, ◌+◌, ◌≤◌, ◌<◌, ◌⊎◌, inl, inr, List, [], ◌∷◌, ◌++◌, Bool, true, false, not, ◌&&◌, ◌||◌, nat_eq, cond, Option, Some, None, length, codes, encode_utf8, refl, sym, ap, ap₂, subst, ◌∙◌, arith, append_assoc, append-nil, length-append}
+use Rattle.std.proofs.Common.{◌≡◌, ℕ, suc, ◌+◌, ◌≤◌, ◌⊎◌, inl, inr, List, [], ◌∷◌, ◌++◌, Bool, true, false, not, ◌&&◌, ◌||◌, nat_eq, cond, Option, Some, None, length, codes, encode_utf8, refl, sym, ap, ap₂, subst, ◌∙◌, arith, append_assoc, append-nil, length-append}
 use Prim.Native.Nat.{zero}
 use Rattle.std.specs.Str.{bytes_eq}
 use Rattle.std.proofs.lemmas.Bool.{eqb-true, and_parts, or_cases, cases_eq, true≢false}
 use Rattle.soap_lex.specs.References.{IsReference}
 use Rattle.soap_lex.specs.Text.{IsText, run as plain, more, IsMarkup, reference, cdata, comment, IsComment, IsCdata, with_line_ends}
 use Rattle.soap_document.specs.Tree.{Element}
-use Rattle.soap_document.specs.Machine.{Mode, chars, less, referring, marking, commenting, quoting, Frame, State, stops, finish, step, run, refuse, counted, root_of, at_referring, at_commenting, at_quoting, without, calm}
+use Rattle.soap_document.specs.Machine.{less, referring, marking, commenting, quoting, Frame, State, refuse, counted, at_referring, at_commenting, at_quoting, without, calm}
 use Rattle.soap_document.specs.Tokens
 use Rattle.soap_document.specs.Tokens.{is_nil, is_char_data, is_comment, is_cdata}
 use Rattle.soap_document.proofs.Accepts.{Accepts, refused_never, passed, chosen, Next, next}

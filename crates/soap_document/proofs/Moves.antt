@@ -1,8 +1,8 @@
 -- How the reader moves over bytes: from a state at a place to one at the place behind them.
-use Rattle.std.proofs.Common.{◌≡◌, ℕ, ◌+◌, List, [], ◌∷◌, ◌++◌, Bool, true, false, cond, length, refl, sym, ap, ◌∙◌, arith, append_assoc, append-nil, length-append}
+use Rattle.std.proofs.Common.{◌≡◌, ℕ, ◌+◌, List, [], ◌∷◌, ◌++◌, Bool, true, false, length, sym, ap, ◌∙◌, arith, append_assoc, append-nil, length-append}
 use Rattle.std.specs.List.{AllByRecursion}
 use Rattle.soap_document.specs.Tree.{Attribute}
-use Rattle.soap_document.specs.Machine.{Mode, chars, less, referring, marking, commenting, quoting, declaring, tagging, naming, named, valuing, value_run, value_referring, slashed, ending, Frame, State, stops, step, run}
+use Rattle.soap_document.specs.Machine.{Mode, chars, less, tagging, naming, Frame, State, stops, step, run}
 
 -- the places of two runs of bytes, one behind the other
 pub place_append : (at : ℕ) (b d : List ℕ) → at + length b + length d ≡ at + length (b ++ d)

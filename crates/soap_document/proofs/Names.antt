@@ -1,17 +1,17 @@
 -- Names and characters, as bytes.
-use Rattle.std.proofs.Common.{◌≡◌, ◌≢◌, ℕ, suc, ◌+◌, ◌<◌, ◌≤◌, ◌⊎◌, inl, inr, Bool, true, false, not, ◌&&◌, ◌||◌, nat_eq, nat_lt, nat_le, Option, Some, None, List, [], ◌∷◌, ◌++◌, length, get_or, encode_utf8, encode_utf8_all, refl, sym, ap, subst, ◌∙◌, arith, append_assoc, append-nil, length-append}
-use Rattle.std.specs.List.{All, AllByRecursion, list_all}
+use Rattle.std.proofs.Common.{◌≡◌, ◌≢◌, ℕ, ◌<◌, inl, inr, Bool, true, false, ◌&&◌, ◌||◌, nat_eq, nat_lt, nat_le, List, [], ◌∷◌, ◌++◌, length, get_or, encode_utf8, encode_utf8_all, refl, sym, ap, subst, ◌∙◌, arith, append-nil, length-append}
+use Rattle.std.specs.List.{AllByRecursion, list_all}
 use Rattle.std.specs.Str.{chars, is_utf8, IsUtf8}
 use Rattle.std.proofs.Math.Utf8.{scalar, scalars}
-use Rattle.std.proofs.lemmas.Bool.{eqb-true, and_parts, or_cases, or_from, cases_lt, ne_eqb, true≢false, false_from_ne_true}
+use Rattle.std.proofs.lemmas.Bool.{and_parts, or_cases, ne_eqb, true≢false}
 use Rattle.std.proofs.lemmas.Bool.Decides.{nat_tests}
 use Rattle.std.proofs.lemmas.List.Elements.{recursion_from_All}
 use Rattle.std.proofs.lemmas.List.{get_or_default}
-use Rattle.std.proofs.lemmas.Str.{chars-encodes, encodes-chars, encodes-append, inside_one, length-encode, len_utf8_bounds, IsUtf8-from_is_utf8, is_utf8-from_IsUtf8}
-use Rattle.xml_chars.specs.Classes.{is_within, is_char, is_space, is_name_start, is_name_char, char_ranges, name_start_ranges, name_more_ranges, space_ranges}
+use Rattle.std.proofs.lemmas.Str.{chars-encodes, encodes-chars, inside_one, length-encode, len_utf8_bounds, IsUtf8-from_is_utf8, is_utf8-from_IsUtf8}
+use Rattle.xml_chars.specs.Classes.{is_within, is_char, is_name_start, is_name_char, char_ranges, name_start_ranges, name_more_ranges}
 use Rattle.soap_lex.specs.Characters.{IsChars, IsName}
-use Rattle.soap_document.specs.Tokens.{is_nil, is_chars, is_name, starts_name}
-use Rattle.soap_document.proofs.Held.{all_passes, all_from_passes, all_weaker, all_append}
+use Rattle.soap_document.specs.Tokens.{is_chars, is_name, starts_name}
+use Rattle.soap_document.proofs.Held.{all_passes, all_from_passes, all_append}
 
 -- ---- scalar values
 

@@ -1,15 +1,14 @@
 -- The reader takes elements and their content as the grammar has them.
-use Rattle.std.proofs.Common.{◌≡◌, ℕ, suc, ◌+◌, ◌<◌, ◌⊎◌, inl, inr, List, [], ◌∷◌, ◌++◌, Bool, true, false, length, codes, nat_lt, refl, sym, ap, ap₂, ◌∙◌, arith, append_assoc, append-nil, length-append}
+use Rattle.std.proofs.Common.{◌≡◌, ℕ, suc, ◌+◌, ◌<◌, ◌⊎◌, inl, inr, List, [], ◌∷◌, ◌++◌, Bool, true, false, length, codes, refl, sym, ap, ap₂, ◌∙◌, arith, append_assoc, length-append}
 use Rattle.std.proofs.lemmas.Bool.{lt-ltb}
 use Rattle.xml_chars.specs.Classes.{is_space}
-use Rattle.soap_lex.specs.Text.{IsText}
 use Rattle.soap_document.specs.Tree.{Attribute, Element, element, Parts, none, text, child, onto}
-use Rattle.soap_document.specs.Grammar.{IsWhite, IsSpace, IsQName, IsAttributes, end, more, IsElement, full, empty, IsContent, last, start_tag, end_tag, empty_tag, max_depth}
-use Rattle.soap_document.specs.Machine.{Mode, chars, less, ending, slashed, Frame, State, stops, step, run, join, with_parts, has_room}
+use Rattle.soap_document.specs.Grammar.{IsWhite, IsQName, IsAttributes, end, more, IsElement, full, empty, IsContent, last, start_tag, end_tag, empty_tag, max_depth}
+use Rattle.soap_document.specs.Machine.{ending, slashed, Frame, step, run, join, with_parts, has_room}
 use Rattle.soap_document.specs.Tokens
-use Rattle.soap_document.proofs.Moves.{At, Moves, then, byte, one, regroup, retarget, stay, kept, NoStops, Tag, tag_at, between, between_at, plain_at, chars_at, less_at, place_append}
-use Rattle.soap_document.proofs.OnlyTags.{attributes_only, AttributesEnd}
-use Rattle.soap_document.proofs.OnlyText.{TextEnds, text_only, text_less}
+use Rattle.soap_document.proofs.Moves.{At, Moves, then, byte, one, regroup, retarget, kept, Tag, tag_at, between_at, plain_at, chars_at, less_at}
+use Rattle.soap_document.proofs.OnlyTags.{attributes_only}
+use Rattle.soap_document.proofs.OnlyText.{text_only, text_less}
 use Rattle.soap_document.proofs.TokenLaws.{qname_passes, qname_some, qname_less, qname_ending, white_ending, end_passes}
 
 -- ---- parts

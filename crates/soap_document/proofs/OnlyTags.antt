@@ -1,16 +1,14 @@
 -- The reader takes tags as the grammar has them.
-use Rattle.std.proofs.Common.{◌≡◌, ◌≢◌, ℕ, ◌+◌, ◌⊎◌, inl, inr, List, [], ◌∷◌, ◌++◌, Bool, true, false, ◌||◌, Option, Some, None, IsTrue, length, codes, encode_utf8, nat_eq, refl, sym, ap, ◌∙◌, arith, append_assoc, append-nil}
+use Rattle.std.proofs.Common.{◌≡◌, ℕ, ◌+◌, List, [], ◌∷◌, ◌++◌, Bool, true, false, ◌||◌, Some, length, codes, encode_utf8, nat_eq, refl, sym, ap, ◌∙◌, append_assoc, append-nil}
 use Rattle.std.proofs.Math.Bool.{or-true}
-use Rattle.std.specs.List.{AllByRecursion}
 use Rattle.xml_chars.specs.Classes.{is_space}
-use Rattle.soap_lex.specs.References.{IsReference}
 use Rattle.soap_lex.specs.Value.{IsValue, double, single, IsInner, run as plain, more as then_reference, with_spaces}
 use Rattle.soap_document.specs.Tree.{Attribute}
 use Rattle.soap_document.specs.Grammar.{IsWhite, IsSpace, IsQName, IsAttributes, end, more}
-use Rattle.soap_document.specs.Machine.{Mode, tagging, naming, named, valuing, value_run, value_referring, slashed, Frame, State, stops, step, run}
+use Rattle.soap_document.specs.Machine.{naming, named, valuing, value_run, value_referring, step}
 use Rattle.soap_document.specs.Tokens
 use Rattle.soap_document.specs.Tokens.{is_run}
-use Rattle.soap_document.proofs.Moves.{At, Moves, then, byte, one, regroup, retarget, stay, kept, NoStops, Tag, tag_at, between, between_at}
+use Rattle.soap_document.proofs.Moves.{At, Moves, then, byte, one, regroup, retarget, stay, kept, Tag, tag_at, between_at}
 use Rattle.soap_document.proofs.TokenLaws.{Referred, reference_passes, run_passes, plain_run, qname_passes, qname_some, qname_naming}
 
 -- where white space changes nothing

@@ -1,12 +1,11 @@
 -- The reader takes text as the grammar has it.
-use Rattle.std.proofs.Common.{◌≡◌, ℕ, ◌+◌, List, [], ◌∷◌, ◌++◌, Bool, true, false, Option, Some, None, length, codes, encode_utf8, nat_eq, refl, sym, ap, ◌∙◌, arith, append_assoc, append-nil}
+use Rattle.std.proofs.Common.{◌≡◌, ℕ, ◌+◌, List, [], ◌∷◌, ◌++◌, Bool, true, false, Some, None, length, codes, encode_utf8, nat_eq, refl, sym, ap, ◌∙◌, append_assoc, append-nil}
 use Rattle.std.proofs.lemmas.Bool.{eqb-true}
-use Rattle.soap_lex.specs.References.{IsReference}
 use Rattle.soap_lex.specs.Text.{IsText, run as plain, more, IsMarkup, reference, cdata, comment, IsComment, IsCdata, with_line_ends}
-use Rattle.soap_document.specs.Machine.{Mode, chars, less, referring, marking, commenting, quoting, Frame, State, stops, step, run, without}
+use Rattle.soap_document.specs.Machine.{referring, marking, commenting, quoting, Frame, step, without}
 use Rattle.soap_document.specs.Tokens
 use Rattle.soap_document.specs.Tokens.{is_char_data, is_comment, is_cdata}
-use Rattle.soap_document.proofs.Moves.{At, Moves, then, byte, one, regroup, retarget, stay, kept, NoStops, plain_at, chars_at, less_at}
+use Rattle.soap_document.proofs.Moves.{At, Moves, then, byte, one, regroup, retarget, stay, kept, plain_at, chars_at, less_at}
 use Rattle.soap_document.proofs.TokenLaws.{Referred, reference_passes, data_passes, data_chars, comment_passes, cdata_passes, without-append, comment_open, cdata_open}
 
 -- ---- up to the word that ends a comment or a CDATA section

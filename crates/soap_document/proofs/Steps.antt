@@ -1,7 +1,7 @@
 -- What the code's steps do to the state that it stands for.
-use Rattle.std.proofs.Common.{◌≡◌, ℕ, suc, ◌+◌, List, [], ◌∷◌, ◌++◌, Bool, true, false, cond, nat_eq, nat_lt, length, refl, sym, ap, ap₂, ◌∙◌, arith}
+use Rattle.std.proofs.Common.{◌≡◌, ℕ, suc, List, [], ◌∷◌, ◌++◌, true, false, cond, nat_eq, nat_lt, length, refl, sym, ap, ◌∙◌, arith}
 use Rattle.std.proofs.lemmas.Bool.{eqb-true, eqb-false, ne_eqb}
-use Rattle.soap_document.specs.Tree.{Element, Parts, none, text, child, onto}
+use Rattle.soap_document.specs.Tree.{Parts, none, onto}
 use Rattle.soap_document.specs.Machine.{Frame, State, join, with_parts, settle, is_none, has_room}
 use Rattle.soap_document.specs.Grammar.{max_depth}
 use Rattle.soap_document.specs.Tokens.{is_nil}

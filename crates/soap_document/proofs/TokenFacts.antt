@@ -1,12 +1,11 @@
 -- What passes the tests of tokens is what the grammar of characters has.
-use Rattle.std.proofs.Common.{◌≡◌, ◌≢◌, ℕ, suc, ◌+◌, ◌⊎◌, inl, inr, List, [], ◌∷◌, ◌++◌, Bool, true, false, not, ◌&&◌, ◌||◌, nat_eq, cond, Option, Some, None, length, drop, codes, refl, sym, ap, ap₂, subst, ◌∙◌, arith, append_assoc, append-nil}
+use Rattle.std.proofs.Common.{◌≡◌, ◌≢◌, ℕ, ◌⊎◌, inl, inr, List, [], ◌∷◌, ◌++◌, Bool, true, false, not, ◌&&◌, ◌||◌, nat_eq, cond, Option, Some, None, drop, codes, refl, sym, ap, ap₂, subst, ◌∙◌}
 use Rattle.std.specs.List.{AllByRecursion, list_all}
 use Rattle.std.specs.Str.{bytes_eq}
 use Rattle.std.specs.Char.{is_ascii_digit, is_ascii_hexdigit}
 use Rattle.std.specs.Str.Parse.{digits_value}
-use Rattle.std.proofs.lemmas.Bool.{eqb-true, and_parts, true≢false, not-true}
+use Rattle.std.proofs.lemmas.Bool.{eqb-true, and_parts}
 use Rattle.xml_chars.specs.Classes.{is_space, is_char}
-use Rattle.soap_lex.specs.Characters.{IsName}
 use Rattle.soap_lex.specs.References.{IsReference, ampersand, less as less_than, greater, apostrophe, quote, decimal, hexadecimal}
 use Rattle.soap_lex.specs.Text.{IsCharData, IsCdata, IsComment}
 use Rattle.soap_lex.specs.Value.{IsPlainValue}

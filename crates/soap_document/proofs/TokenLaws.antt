@@ -1,23 +1,22 @@
 -- The tests of tokens, against the grammar of characters.
-use Rattle.std.proofs.Common.{◌≡◌, ◌≢◌, ℕ, suc, ◌+◌, ◌<◌, ◌≤◌, ◌⊎◌, inl, inr, List, [], ◌∷◌, ◌++◌, Bool, true, false, not, ◌&&◌, ◌||◌, nat_eq, Option, Some, None, length, codes, refl, sym, ap, ap₂, ◌∙◌, arith, append_assoc, append-nil, length-append}
-use Rattle.std.specs.List.{AllByRecursion, list_all}
+use Rattle.std.proofs.Common.{◌≡◌, ◌≢◌, ℕ, ◌⊎◌, inl, inr, List, [], ◌∷◌, ◌++◌, Bool, true, false, ◌||◌, nat_eq, Option, Some, None, length, codes, refl, sym, ap, ap₂, ◌∙◌, arith, append_assoc, length-append}
+use Rattle.std.specs.List.{AllByRecursion}
 use Rattle.std.specs.Str.{bytes_eq}
 use Rattle.std.specs.Char.{is_ascii_digit, is_ascii_hexdigit}
 use Rattle.std.specs.Str.Parse.{digits_value}
-use Rattle.std.proofs.lemmas.Bool.{eqb-true, eq-eqb, ne_eqb, and_parts, or_cases, or_from, true≢false, false_from_ne_true}
+use Rattle.std.proofs.lemmas.Bool.{eq-eqb, ne_eqb, or_from, true≢false, false_from_ne_true}
 use Rattle.std.proofs.lemmas.Bool.Decides.{nat_tests}
-use Rattle.xml_chars.specs.Classes.{is_space, is_char, is_name_char}
-use Rattle.soap_lex.specs.Characters.{IsChars, IsName, Holds}
+use Rattle.xml_chars.specs.Classes.{is_space, is_char}
+use Rattle.soap_lex.specs.Characters.{Holds}
 use Rattle.soap_lex.specs.References.{IsReference, ampersand, less as less_than, greater, apostrophe, quote, decimal, hexadecimal}
 use Rattle.soap_lex.specs.Text.{IsCharData, IsCdata, IsComment}
 use Rattle.soap_lex.specs.Value.{IsPlainValue}
-use Rattle.soap_document.specs.Declaration.{is_declaration}
-use Rattle.soap_document.specs.Grammar.{IsWhite, IsSpace, IsQName, unprefixed, prefixed, IsDeclaration}
-use Rattle.soap_document.specs.Machine.{Mode, chars, less, referring, declaring, naming, value_run, value_referring, ending, stops, without, is_end}
-use Rattle.soap_document.specs.Tokens.{is_nil, is_white, is_chars, is_name, is_qname, is_char_data, is_cdata, is_comment, is_plain, is_run, reference, before_semicolon, character}
-use Rattle.soap_document.proofs.Held.{all_passes, all_from_passes, all_weaker, all_append, other, same, differ, equal, cut_none, cut-append, lacks, lacks_from, lacks_byte}
+use Rattle.soap_document.specs.Grammar.{IsWhite, IsQName, unprefixed, prefixed}
+use Rattle.soap_document.specs.Machine.{chars, less, referring, naming, value_run, ending, stops, without, is_end}
+use Rattle.soap_document.specs.Tokens.{is_nil, is_white, is_qname, is_char_data, is_cdata, is_comment, is_plain, is_run, reference, before_semicolon, character}
+use Rattle.soap_document.proofs.Held.{all_passes, all_weaker, all_append, other, same, differ, equal, cut_none, cut-append, lacks, lacks_byte}
 use Rattle.soap_document.proofs.Moves.{NoStops}
-use Rattle.soap_document.proofs.Names.{chars_passes, IsChars-from, name_passes, IsName-from, IsNameByte, name_bytes, name_some}
+use Rattle.soap_document.proofs.Names.{chars_passes, name_passes, IsNameByte, name_bytes, name_some}
 
 -- ---- what the grammar has passes the tests, and no byte of it ends a token
 

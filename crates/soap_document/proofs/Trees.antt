@@ -1,12 +1,12 @@
 -- What the code's trees and open elements stand for.
-use Rattle.std.proofs.Common.{◌≡◌, ℕ, List, [], ◌∷◌, ◌++◌, Bool, true, false, Option, None, map, length, refl, sym, ap, ◌∙◌, append-nil}
+use Rattle.std.proofs.Common.{◌≡◌, ℕ, List, [], ◌∷◌, ◌++◌, false, None, map, length, refl, sym, ap, ◌∙◌}
 use Rattle.std.specs.Prelude.{reverse}
 use Rattle.std.proofs.lemmas.List.{reverse-append, length-reverse, length-map}
-use Rattle.soap_document.specs.Tree.{Element, element, Parts, none, text, child, onto}
+use Rattle.soap_document.specs.Tree.{Element, Parts, none, text, child, onto}
 use Rattle.soap_document.specs.Machine.{Frame, join, is_none, only_child}
 use Rattle.soap_document.specs.Seen.{frame_of, frames_of}
 use Rattle.soap_document.specs.Tokens.{is_nil}
-use Rattle.soap_document.specs.View.{gather, part_step, element_step, part_view, element_view, parts_view}
+use Rattle.soap_document.specs.View.{part_step, element_step, part_view, element_view, parts_view}
 use Rattle.soap_document.specs.declared.reader.OpenElement.{OpenElement}
 use Rattle.soap_document.specs.declared.tree.WrittenElement.{WrittenElement}
 use Rattle.soap_document.specs.declared.tree.WrittenPart.{WrittenPart, WrittenPart-F, out-WrittenPart, fold-roll-WrittenPart, fold_out-WrittenPart}

@@ -3,7 +3,7 @@ use Rattle.std.specs.Prelude.{ℕ, List, [], ◌∷◌, ◌++◌, Bool, true, fa
 use Rattle.std.specs.Char.{is_ascii_digit, is_ascii_hexdigit}
 use Rattle.std.specs.Str.Parse.{digits_value}
 use Rattle.std.specs.List.{list_all}
-use Rattle.std.specs.Str.{is_utf8, chars, bytes_eq, str_to_ascii_lowercase}
+use Rattle.std.specs.Str.{is_utf8, chars, bytes_eq}
 use Rattle.xml_chars.specs.Classes.{is_char, is_space, is_name_start, is_name_char}
 
 abbrev pub is_nil : {X : Type 0} → List X → Bool

@@ -1,5 +1,5 @@
 -- The tree that a written element stands for, and the state that a reader stands for.
-use Rattle.std.specs.Prelude.{ℕ, List, [], ◌∷◌, map}
+use Rattle.std.specs.Prelude.{List, [], ◌∷◌, map}
 use Rattle.soap_document.specs.Tree.{Element, element, Parts, none, text, child}
 use Rattle.soap_document.specs.declared.tree.WrittenElement.{WrittenElement, WrittenElement-F, fold-WrittenElement}
 use Rattle.soap_document.specs.declared.tree.WrittenPart.{WrittenPart, WrittenPart-F, fold-WrittenPart}

@@ -8,8 +8,8 @@ use Rattle.soap_document.specs.declared.tree.WrittenPart.{WrittenPart, WrittenPa
 use Rattle.soap_document.specs.declared.tree.WrittenPart.TheOpen as TheWrittenOpen
 use Rattle.soap_document.specs.declared.tree.WrittenPart.TheVariants.{Text as WrittenText, Child as WrittenChild, rolls-Text as rolls-WrittenText, rolls-Child as rolls-WrittenChild}
 use Rattle.soap_profile.specs.Namespaces.{resolve, resolve_parts, joined}
-use Rattle.soap_profile.specs.Steps.{join, Resolves}
-use Rattle.soap_profile.specs.Tree.{Element, Parts, none, text, child, Binding}
+use Rattle.soap_profile.specs.Steps.{join, Resolves, Strips}
+use Rattle.soap_profile.specs.Tree.{Element, Parts, none, text, child, Binding, without_declarations, parts_without}
 use Rattle.soap_profile.specs.View.{gather, part_step, element_step, parts_step, part_view, element_view, parts_view}
 use Rattle.soap_profile.specs.declared.tree.Element.{Element as CodeElement}
 use Rattle.soap_profile.specs.declared.tree.Part.{Part, Part-F, out-Part, fold-roll-Part, fold_out-Part}
@@ -107,3 +107,18 @@ pub none_left : (scope : List Binding) (parts : List WrittenPart) (n : ℕ) (mad
 none_left scope parts n made h e =
     ap (λ (p : Parts). Some p) (sym (join-none made))
     ∙ ap (λ (xs : List WrittenPart). option_map (join made) (resolve_parts scope (written_parts xs))) (sym (drop_past n parts h)) ∙ e
+
+-- ---- parts without declarations
+
+pub Strips-text : (x : List ℕ) (old new : Parts) → new ≡ join old (text x none) → Strips (part_view (Text x)) old new
+Strips-text x old new e rest =
+    ap (λ (f : Parts → Parts). join old (parts_without (f rest))) (part_text x) ∙ sym (join-assoc old (text x none) (parts_without rest)) ∙ ap (λ (k : Parts). join k (parts_without rest)) (sym e)
+
+pub Strips-child : (e : CodeElement) (u : Element) (old new : Parts) → u ≡ without_declarations (element_view e) → new ≡ join old (child u none) → Strips (part_view (Child e)) old new
+Strips-child e u old new s n rest =
+    ap (λ (f : Parts → Parts). join old (parts_without (f rest))) (part_child e) ∙ ap (λ (v : Element). join old (child v (parts_without rest))) (sym s)
+    ∙ sym (join-assoc old (child u none) (parts_without rest)) ∙ ap (λ (k : Parts). join k (parts_without rest)) (sym n)
+
+pub stripped_all : (parts : List Part) (n : ℕ) (made : Parts) → length parts ≤ n → join made (parts_without (parts_view (drop n parts))) ≡ parts_without (parts_view parts) → made ≡ parts_without (parts_view parts)
+stripped_all parts n made h e =
+    sym (join-none made) ∙ ap (λ (xs : List Part). join made (parts_without (parts_view xs))) (sym (drop_past n parts h)) ∙ e

@@ -2,7 +2,7 @@
 use Rattle.std.specs.Prelude.{◌≡◌, ℕ, List, ◌++◌, Bool, if◌then◌else◌, Option, None, option_map}
 use Rattle.soap_document.specs.Tree as written
 use Rattle.soap_profile.specs.Namespaces.{unless_declared, resolve_parts}
-use Rattle.soap_profile.specs.Tree.{Name, Attr, Binding, Parts, none, text, child}
+use Rattle.soap_profile.specs.Tree.{Name, Attr, Binding, Parts, none, text, child, parts_without}
 
 abbrev pub Expands : Option (List ℕ) → Option Name → List ℕ → List Attr → List Attr → Bool → Type 0
 Expands declared name value old new taken =
@@ -18,3 +18,7 @@ abbrev pub Resolves : List Binding → (written.Parts → written.Parts) → Par
 Resolves scope part old new taken =
     (rest : written.Parts) → option_map (join old) (resolve_parts scope (part rest))
       ≡ (if taken then option_map (join new) (resolve_parts scope rest) else None)
+
+-- one part without declarations, before those behind it
+abbrev pub Strips : (Parts → Parts) → Parts → Parts → Type 0
+Strips part old new = (rest : Parts) → join old (parts_without (part rest)) ≡ join new (parts_without rest)

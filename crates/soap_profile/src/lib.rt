@@ -8,8 +8,13 @@ mod names;
 pub mod read;
 mod resolve;
 mod scope;
+mod stripped;
 pub mod tree;
 
 pub use error::EnvelopeError;
 pub use read::{MAX_LENGTH, read_element};
+pub use stripped::strip;
 pub use tree::{Attr, Attrs, Element, Name, Part, Parts};
+
+#[cfg(test)]
+mod tests;

@@ -1,4 +1,4 @@
-use Rattle.std.proofs.Common.{◌≡◌, Bool, true, false, ◌&&◌, sym, ap, ◌∙◌}
+use Rattle.std.proofs.Common.{◌≡◌, true, false, ◌&&◌, sym, ap, ◌∙◌}
 use Rattle.soap_document.specs.Tokens.{is_name}
 use Rattle.soap_document.proofs.Answer.{qname_some, qname_none}
 use Rattle.soap_document.proofs.tokens.is_qname.Goals as goal

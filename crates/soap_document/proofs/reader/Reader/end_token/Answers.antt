@@ -1,5 +1,4 @@
 use Rattle.std.proofs.Common.{◌≡◌, ap, ◌∙◌, arith}
-use Rattle.soap_document.specs.Machine.{finish}
 use Rattle.soap_document.specs.Seen.{seen}
 use Rattle.soap_document.proofs.Places.{finish-at}
 use Rattle.soap_document.proofs.reader.Reader.end_token.Goals as goal

@@ -1,0 +1,87 @@
+use crate::{EnvelopeError, Part, read_element};
+use std::test::Fail;
+
+#[test]
+fn takes(rt: HostRuntime) -> Result<(), Fail> {
+    let documents = [
+        "<a/>",
+        "\u{feff}<a/>",
+        "<?xml version=\"1.0\"?><a/>",
+        "<?xml version='1.0' encoding='UTF-8' standalone='no' ?>\n<!-- c --><a></a > <!-- d -->",
+        "<p:a xmlns:p='u'/>",
+        "<a xmlns='u'><b xmlns=''><c xmlns='v'/></b></a>",
+        "<a xml:lang='en'/>",
+        "<a xmlns:xml='http://www.w3.org/XML/1998/namespace'/>",
+        "<e xmlns:a='u' xmlns:b='v' a:x='1' b:x='2' x='3'/>",
+        "<a>t&amp;&#65;&#x42;<![CDATA[<]]>u<!-- c -->v</a>",
+        "<a b=\"x&quot;y'\" c='d\n'/>",
+        "<\u{e9}l\u{e9}ment/>",
+    ];
+    for i in 0..documents.len() {
+        assert!(rt; read_element(rt.alloc(), documents[i].as_bytes()).is_ok(), "{i}");
+    }
+    Ok(())
+}
+
+#[test]
+fn refuses(rt: HostRuntime) -> Result<(), Fail> {
+    let documents = [
+        "",
+        "<a>",
+        "<a/><b/>",
+        "<a></b>",
+        "<a/>x",
+        "<!DOCTYPE a><a/>",
+        "<?pi x?><a/>",
+        "<a><?pi x?></a>",
+        " <?xml version='1.0'?><a/>",
+        "<?xml version='1.1'?><a/>",
+        "<?xml version='1.0' encoding='latin1'?><a/>",
+        "<a>]]></a>",
+        "<a><!-- -- --></a>",
+        "<a><!-- ---></a>",
+        "<a b='<'/>",
+        "<a b=c/>",
+        "<a b='1'c='2'/>",
+        "<a b='1' b='2'/>",
+        "<a>&nbsp;</a>",
+        "<a>&#0;</a>",
+        "<1/>",
+        "<p:a/>",
+        "<a p:b='1'/>",
+        "<a xmlns:p=''/>",
+        "<a xmlns:xml='u'/>",
+        "<a xmlns:p='http://www.w3.org/XML/1998/namespace'/>",
+        "<a xmlns:p='http://www.w3.org/2000/xmlns/'/>",
+        "<a xmlns:xmlns='u'/>",
+        "<e xmlns:a='u' xmlns:b='u' a:x='1' b:x='2'/>",
+        "<a xmlns:p='u'><p:b/></a><p:c/>",
+        "<a><b xmlns:p='u'/><p:c/></a>",
+        "<a:b:c xmlns:a='u'/>",
+    ];
+    for i in 0..documents.len() {
+        let read = read_element(rt.alloc(), documents[i].as_bytes());
+        assert!(rt; read.is_err_and(|e| e == EnvelopeError::NotProfile), "{i}");
+    }
+    Ok(())
+}
+
+#[test]
+fn joins_text(rt: HostRuntime) -> Result<(), Fail> {
+    let tree = read_element(rt.alloc(), b"<a>t\r\n&#13;<![CDATA[<]]>u<!-- c -->v<b/><!-- d --></a>")?;
+    assert_eq!(rt; tree.parts.items.len(), 2);
+    let first = tree.parts.items.first().ok_or("no part")?;
+    let text = match first {
+        Part::Text(text) => text.as_slice(),
+        Part::Child(_) => b"".as_slice(),
+    };
+    assert_eq!(rt; text, b"t\n\r<uv".as_slice());
+    Ok(())
+}
+
+#[test]
+fn tells_errors(rt: HostRuntime) -> Result<(), Fail> {
+    let read = read_element(rt.alloc(), b"<a>\xff</a>");
+    assert!(rt; read.is_err_and(|e| e == EnvelopeError::NotUtf8 { valid_up_to: 3 }));
+    Ok(())
+}
