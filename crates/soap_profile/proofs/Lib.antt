@@ -1,3 +1,4 @@
 pub mod Answer
+pub mod Distinct
 pub mod Scopes
 pub mod Trees

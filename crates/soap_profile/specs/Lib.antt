@@ -1,4 +1,5 @@
 pub mod Document
+pub mod Keys
 pub mod Namespaces
 pub mod Scope
 pub mod Steps

@@ -4,6 +4,7 @@
 #![tactic(auto)]
 
 pub mod error;
+mod keys;
 mod names;
 pub mod read;
 mod resolve;

@@ -11,15 +11,13 @@ ghost use Rattle.soap_profile.specs.Namespaces.{
   element_name as element_name_of,
   attribute_name as attribute_name_of,
   expanded as expanded_by,
-  is_new as new_test,
   are_distinct as distinct_test,
-  is_other as other_test,
-  is_new_name as new_name_test,
   are_distinct_names as distinct_names_test,
 };
 ghost use Rattle.soap_profile.specs.Scope.{bindings_of};
 ghost use Rattle.soap_profile.specs.Steps.{Expands};
 
+use crate::keys::all_differ;
 use crate::scope::{Scope, bound};
 use crate::tree::{Attr, Attrs, Name};
 use rm_base::{Binding, Bindings, Blob, Items, Memory};
@@ -186,48 +184,24 @@ fn expand_onto(
     Ok(true)
 }
 
-fn is_new(name: &[u8], attributes: &[WrittenAttribute]) -> bool
-    ensures { result ≡ new_test name.now attributes.now }
-{
-    attributes.iter().all(|a| a.name.as_slice() != name)
-}
-
 /// No two attributes have the same written name.
-pub(crate) fn are_distinct(attributes: &[WrittenAttribute]) -> bool
-    ensures { result ≡ distinct_test attributes.now }
+pub(crate) fn are_distinct(alloc: Global, attributes: &[WrittenAttribute]) -> Result<bool, Memory>
+    ensures { IfOk result (λ answer. answer ≡ distinct_test attributes.now) }
 {
-    let mut rest = attributes;
-    while let [first, others @ ..] = rest {
-        if !is_new(first.name.as_slice(), others) {
-            return false;
-        }
-        rest = others;
+    let mut keys = Vec::new(alloc);
+    for attribute in attributes {
+        keys.push((attribute.name.as_slice(), b"".as_slice()))?;
     }
-    true
-}
-
-fn is_other(name: &Name, a: &Attr) -> bool
-    ensures { result ≡ other_test name.now a.now }
-{
-    !(a.name.local.as_slice() == name.local.as_slice() && a.name.space.as_slice() == name.space.as_slice())
-}
-
-fn is_new_name(name: &Name, attrs: &[Attr]) -> bool
-    ensures { result ≡ new_name_test name.now attrs.now }
-{
-    attrs.iter().all(|a| is_other(name, a))
+    all_differ(alloc, &keys)
 }
 
 /// No two attributes have the same expanded name.
-pub(crate) fn are_distinct_names(attrs: &[Attr]) -> bool
-    ensures { result ≡ distinct_names_test attrs.now }
+pub(crate) fn are_distinct_names(alloc: Global, attrs: &[Attr]) -> Result<bool, Memory>
+    ensures { IfOk result (λ answer. answer ≡ distinct_names_test attrs.now) }
 {
-    let mut rest = attrs;
-    while let [first, others @ ..] = rest {
-        if !is_new_name(&first.name, others) {
-            return false;
-        }
-        rest = others;
+    let mut keys = Vec::new(alloc);
+    for attr in attrs {
+        keys.push((attr.name.local.as_slice(), attr.name.space.as_slice()))?;
     }
-    true
+    all_differ(alloc, &keys)
 }

@@ -29,7 +29,7 @@ fn resolved_tag(
 ) -> Result<Option<Tag>, Memory>
     ensures { IfOk result (λ found. option_map tag_view found ≡ tag_of (bindings_of outer.now) name.now attributes.now) }
 {
-    if !are_distinct(attributes) {
+    if !are_distinct(alloc, attributes)? {
         return Ok(None);
     }
     let Some(decls) = declarations(alloc, attributes)? else {
@@ -57,7 +57,7 @@ fn tag_within(
     let Some(attrs) = expanded(alloc, attributes, &scope)? else {
         return Ok(None);
     };
-    if !are_distinct_names(attrs.as_slice()) {
+    if !are_distinct_names(alloc, attrs.as_slice())? {
         return Ok(None);
     }
     Ok(Some(Tag { name, decls, attrs }))

@@ -1,9 +1,7 @@
-use Rattle.std.proofs.Common.{◌≡◌, length}
-use Rattle.soap_profile.specs.Namespaces.{are_distinct}
+use Rattle.std.proofs.Common.{◌≡◌, [], map, take}
+use Rattle.soap_document.specs.declared.tree.WrittenAttribute.{WrittenAttribute as Attribute}
+use Rattle.soap_profile.specs.Keys.{keys_of}
 use Rattle.soap_profile.proofs.names.are_distinct.Given as goal
 
-abbrev pub invariant-loop-rest : goal.invariant-loop-rest
-invariant-loop-rest l = are_distinct l.rest ≡ are_distinct l.attributes
-
-abbrev pub decreases-loop-rest : goal.decreases-loop-rest
-decreases-loop-rest l = length l.rest
+abbrev pub invariant-loop-attribute : goal.invariant-loop-attribute
+invariant-loop-attribute l = keys_of l.keys.items ≡ map (λ (a : Attribute). (a.name, [])) (take l.attribute-index l.attributes)

@@ -1,9 +1,7 @@
-use Rattle.std.proofs.Common.{◌≡◌, length}
-use Rattle.soap_profile.specs.Namespaces.{are_distinct_names}
+use Rattle.std.proofs.Common.{◌≡◌, [], map, take}
+use Rattle.soap_profile.specs.Tree.{Attr}
+use Rattle.soap_profile.specs.Keys.{keys_of}
 use Rattle.soap_profile.proofs.names.are_distinct_names.Given as goal
 
-abbrev pub invariant-loop-rest : goal.invariant-loop-rest
-invariant-loop-rest l = are_distinct_names l.rest ≡ are_distinct_names l.attrs
-
-abbrev pub decreases-loop-rest : goal.decreases-loop-rest
-decreases-loop-rest l = length l.rest
+abbrev pub invariant-loop-attr : goal.invariant-loop-attr
+invariant-loop-attr l = keys_of l.keys.items ≡ map (λ (a : Attr). (a.name.local, a.name.space)) (take l.attr-index l.attrs)
