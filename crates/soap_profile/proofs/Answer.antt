@@ -1,5 +1,5 @@
 -- What the reader of documents answers.
-use Rattle.std.proofs.Common.{◌≡◌, ℕ, ◌≤◌, ◌<◌, List, [], Option, Some, None, option_map, Result, Ok, Err, IfOk, IfSome, IfNone, length, refl, sym, ap, subst, ◌∙◌, arith}
+use Rattle.std.proofs.Common.{◌≡◌, ℕ, ◌≤◌, List, [], Option, Some, None, option_map, Result, Ok, Err, IfOk, IfSome, IfNone, length, ap, subst, ◌∙◌, arith}
 use Rattle.soap_document.specs.Grammar.{IsDocument}
 use Rattle.soap_document.specs.Tree as written
 use Rattle.soap_document.specs.View.{element_view as written_view}

@@ -1,5 +1,5 @@
 -- Keys that all differ.
-use Rattle.std.proofs.Common.{◌≡◌, ◌≢◌, ◌⊎◌, inl, inr, ℕ, suc, ◌+◌, ◌<◌, ◌≤◌, Result, Ok, Err, IfOk, List, [], ◌∷◌, ◌++◌, Bool, true, false, not, ◌&&◌, ◌||◌, cond, map, take, drop, length, get_or, Ordering, Less, Equal, Greater, nat_cmp, is_eq, refl, sym, ap, ap₂, ◌∙◌, arith, drop-cons}
+use Rattle.std.proofs.Common.{◌≡◌, inl, inr, ℕ, ◌+◌, ◌<◌, ◌≤◌, Result, Ok, Err, IfOk, List, [], ◌∷◌, ◌++◌, Bool, true, false, not, ◌&&◌, ◌||◌, cond, map, take, drop, length, get_or, Ordering, Less, Equal, Greater, nat_cmp, is_eq, refl, sym, ap, ap₂, ◌∙◌, drop-cons}
 use Rattle.std.proofs.Math.Numerals.{add-one}
 use Rattle.std.proofs.lemmas.List.{take-append-drop, take_more, take_all}
 use Rattle.std.specs.Cmp.Lexicographic.{slice_cmp}
@@ -7,7 +7,7 @@ use Rattle.std.specs.List.{list_all, list_any}
 use Rattle.std.specs.Ordering.{ordering_then}
 use Rattle.std.specs.Str.{bytes_eq}
 use Rattle.std.proofs.Math.Bool.{and-true}
-use Rattle.std.proofs.lemmas.Bool.{and_parts, and_from, or_cases, true≢false, false_from_ne_true}
+use Rattle.std.proofs.lemmas.Bool.{and_parts, and_from, or_cases, true≢false}
 use Rattle.std.proofs.lemmas.Map.Text.{is_eq-slice_cmp}
 use Rattle.std.proofs.lemmas.Slice.Eq.{bytes_eq-Decides}
 use Rattle.soap_document.specs.declared.tree.WrittenAttribute.{WrittenAttribute as Attribute}
@@ -79,9 +79,9 @@ all_fails p (y ∷ xs) ys x e = rw (all_fails p xs ys x e) (and_none (p y))
 pub differ_not : (xs ys : List Key) (x : Key) → list_any (λ k. same_key k x) xs ≡ true → differ (xs ++ x ∷ ys) ≡ false
 differ_not [] ys x e = cc
 differ_not (y ∷ xs) ys x e = elim (or_cases (same_key y x) (list_any (λ k. same_key k x) xs) e) [
-    | inl here ↦ ap (λ b. b && differ (xs ++ x ∷ ys)) (all_fails (λ o. not (same_key y o)) xs ys x (ap not here))
-    | inr later ↦ rw (differ_not xs ys x later) (and_none (list_all (λ o. not (same_key y o)) (xs ++ x ∷ ys)))
-  ]
+  | inl here ↦ ap (λ b. b && differ (xs ++ x ∷ ys)) (all_fails (λ o. not (same_key y o)) xs ys x (ap not here))
+  | inr later ↦ rw (differ_not xs ys x later) (and_none (list_all (λ o. not (same_key y o)) (xs ++ x ∷ ys)))
+]
   where
     and_none : (b : Bool) → (b && false) ≡ false
     and_none true = refl

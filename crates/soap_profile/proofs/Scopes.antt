@@ -2,7 +2,7 @@
 use Rattle.std.proofs.Common.{◌≡◌, ℕ, List, [], ◌∷◌, ◌++◌, Bool, true, false, Option, Some, None, option_map, Bor, refl, sym, ap, ◌∙◌}
 use Rattle.std.specs.Str.{bytes_eq}
 use Rattle.soap_profile.specs.Namespaces.{bound}
-use Rattle.soap_profile.specs.Scope.{around, scope_step, bindings_of}
+use Rattle.soap_profile.specs.Scope.{scope_step, bindings_of}
 use Rattle.soap_profile.specs.Tree.{Binding}
 use Rattle.soap_profile.specs.declared.scope.Scope.{Scope, Scope-F, out-Scope, fold_out-Scope}
 use Rattle.soap_profile.specs.declared.scope.Scope.TheFolds.{map-Scope}

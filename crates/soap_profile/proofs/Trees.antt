@@ -1,16 +1,16 @@
 -- What parts stand for, one behind the other.
-use Rattle.std.proofs.Common.{◌≡◌, ℕ, List, [], ◌∷◌, ◌++◌, Bool, true, false, Option, Some, None, option_map, map, length, drop, ◌≤◌, suc, refl, sym, ap, ◌∙◌, arith}
+use Rattle.std.proofs.Common.{◌≡◌, ℕ, List, [], ◌∷◌, ◌++◌, true, false, Option, Some, None, option_map, length, drop, ◌≤◌, suc, refl, sym, ap, ◌∙◌, arith}
 use Prim.Native.Nat.{zero}
 use Rattle.soap_document.specs.Tree as written
 use Rattle.soap_document.specs.View.{part_view as written_part, parts_view as written_parts, element_view as written_view, part_step as written_part_step, element_step as written_element_step}
 use Rattle.soap_document.specs.declared.tree.WrittenElement.{WrittenElement}
-use Rattle.soap_document.specs.declared.tree.WrittenPart.{WrittenPart, WrittenPart-F, fold-roll-WrittenPart}
+use Rattle.soap_document.specs.declared.tree.WrittenPart.{WrittenPart, fold-roll-WrittenPart}
 use Rattle.soap_document.specs.declared.tree.WrittenPart.TheOpen as TheWrittenOpen
 use Rattle.soap_document.specs.declared.tree.WrittenPart.TheVariants.{Text as WrittenText, Child as WrittenChild, rolls-Text as rolls-WrittenText, rolls-Child as rolls-WrittenChild}
 use Rattle.soap_profile.specs.Namespaces.{resolve, resolve_parts, joined}
 use Rattle.soap_profile.specs.Steps.{join, Resolves, Strips}
 use Rattle.soap_profile.specs.Tree.{Element, Parts, none, text, child, Binding, without_declarations, parts_without}
-use Rattle.soap_profile.specs.View.{gather, part_step, element_step, parts_step, part_view, element_view, parts_view}
+use Rattle.soap_profile.specs.View.{part_step, element_step, parts_step, part_view, element_view, parts_view}
 use Rattle.soap_profile.specs.declared.tree.Element.{Element as CodeElement}
 use Rattle.soap_profile.specs.declared.tree.Part.{Part, Part-F, out-Part, fold-roll-Part, fold_out-Part}
 use Rattle.soap_profile.specs.declared.tree.Part.TheFolds.{map-Part}

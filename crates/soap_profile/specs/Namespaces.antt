@@ -1,5 +1,5 @@
 -- How names are resolved: Namespaces in XML 1.0. The section of each rule stands beside it.
-use Rattle.std.specs.Prelude.{ℕ, List, [], ◌∷◌, ◌++◌, Bool, true, false, not, ◌&&◌, ◌||◌, if◌then◌else◌, Option, Some, None, option_map, codes}
+use Rattle.std.specs.Prelude.{ℕ, List, [], ◌∷◌, ◌++◌, Bool, true, not, ◌&&◌, ◌||◌, if◌then◌else◌, Option, Some, None, option_map, codes}
 use Rattle.std.specs.List.{list_all}
 use Rattle.std.specs.Str.{bytes_eq}
 use Rattle.soap_document.specs.Tokens.{cut, is_nil}
@@ -30,7 +30,7 @@ abbrev pub may_bind : List ℕ → List ℕ → Bool
 may_bind prefix space =
     if bytes_eq prefix (codes "xml") then bytes_eq space xml_space
     else not (bytes_eq space xml_space) && (not (bytes_eq space xmlns_space)
-      && (is_nil prefix || (not (is_nil space) && not (bytes_eq prefix (codes "xmlns")))))
+    && (is_nil prefix || (not (is_nil space) && not (bytes_eq prefix (codes "xmlns")))))
 
 -- a declaration, or another attribute, before the declarations of those behind it
 abbrev pub with_declaration : Option (List ℕ) → List ℕ → Option (List Binding) → Option (List Binding)
@@ -136,8 +136,9 @@ abbrev mutual
   pub resolve : List Binding → written.Element → Option Element
   resolve scope (written.element name attributes start end parts) =
       elim (tag_of scope name attributes) [
-        None ↦ None
-      | Some tag ↦ option_map (element tag.name tag.decls tag.attrs) (resolve_parts (tag.decls ++ scope) parts) ]
+        | None ↦ None
+        | Some tag ↦ option_map (element tag.name tag.decls tag.attrs) (resolve_parts (tag.decls ++ scope) parts)
+      ]
 
   pub resolve_parts : List Binding → written.Parts → Option Parts
   resolve_parts scope written.none = Some none

@@ -7,7 +7,7 @@ use Rattle.soap_profile.specs.Tree.{Name, Attr, Binding, Parts, none, text, chil
 abbrev pub Expands : Option (List ℕ) → Option Name → List ℕ → List Attr → List Attr → Bool → Type 0
 Expands declared name value old new taken =
     (later : Option (List Attr)) → option_map (λ attrs. old ++ attrs) (unless_declared declared name value later)
-      ≡ (if taken then option_map (λ attrs. new ++ attrs) later else None)
+    ≡ (if taken then option_map (λ attrs. new ++ attrs) later else None)
 
 abbrev pub join : Parts → Parts → Parts
 join none parts = parts
@@ -17,7 +17,7 @@ join (child first more) parts = child first (join more parts)
 abbrev pub Resolves : List Binding → (written.Parts → written.Parts) → Parts → Parts → Bool → Type 0
 Resolves scope part old new taken =
     (rest : written.Parts) → option_map (join old) (resolve_parts scope (part rest))
-      ≡ (if taken then option_map (join new) (resolve_parts scope rest) else None)
+    ≡ (if taken then option_map (join new) (resolve_parts scope rest) else None)
 
 -- one part without declarations, before those behind it
 abbrev pub Strips : (Parts → Parts) → Parts → Parts → Type 0

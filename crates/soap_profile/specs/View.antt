@@ -1,12 +1,12 @@
 -- The tree that an element stands for.
-use Rattle.std.specs.Prelude.{ℕ, List, [], ◌∷◌, map}
+use Rattle.std.specs.Prelude.{List, [], ◌∷◌, map}
 use Rattle.soap_profile.specs.Namespaces.{Resolved}
 use Rattle.soap_profile.specs.declared.resolve.Tag.{Tag}
 use Rattle.soap_profile.specs.Tree.{Element, element, Parts, none, text, child}
 use Rattle.soap_profile.specs.declared.tree.Element.{Element as CodeElement, Element-F, fold-Element}
 use Rattle.soap_profile.specs.declared.tree.Part.{Part, Part-F, fold-Part}
 use Rattle.soap_profile.specs.declared.tree.Part.TheOpen
-use Rattle.soap_profile.specs.declared.tree.Parts.{Parts as CodeParts, Parts-F, fold-Parts}
+use Rattle.soap_profile.specs.declared.tree.Parts.{Parts-F}
 
 -- parts, each of which goes before others
 abbrev pub gather : List (Parts → Parts) → Parts

@@ -25,6 +25,7 @@ use soap_document::{WrittenAttribute, cut};
 use std::alloc::Global;
 
 const XML_SPACE: &[u8] = b"http://www.w3.org/XML/1998/namespace";
+
 const XMLNS_SPACE: &[u8] = b"http://www.w3.org/2000/xmlns/";
 
 // the prefix, empty where there is none, and the local name

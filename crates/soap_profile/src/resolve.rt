@@ -72,7 +72,13 @@ pub(crate) fn resolve(
 ) -> Result<Option<Element>, Memory>
     ensures { IfOk result (λ found. option_map element_view found ≡ resolve_by (bindings_of outer.now) (written_view element.now)) }
 {
-    let Some(tag) = resolved_tag(alloc, element.name.as_slice(), element.attributes.as_slice(), outer)? else {
+    let Some(tag) = resolved_tag(
+        alloc,
+        element.name.as_slice(),
+        element.attributes.as_slice(),
+        outer,
+    )?
+    else {
         return Ok(None);
     };
     let Tag { name, decls, attrs } = tag;

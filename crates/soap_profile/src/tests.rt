@@ -18,7 +18,10 @@ fn takes(rt: HostRuntime) -> Result<(), Fail> {
         "<\u{e9}l\u{e9}ment/>",
     ];
     for i in 0..documents.len() {
-        assert!(rt; read_element(rt.alloc(), documents[i].as_bytes()).is_ok(), "{i}");
+        assert!(rt;
+            read_element(rt.alloc(), documents[i].as_bytes()).is_ok(),
+            "{i}"
+        );
     }
     Ok(())
 }
@@ -68,7 +71,10 @@ fn refuses(rt: HostRuntime) -> Result<(), Fail> {
 
 #[test]
 fn joins_text(rt: HostRuntime) -> Result<(), Fail> {
-    let tree = read_element(rt.alloc(), b"<a>t\r\n&#13;<![CDATA[<]]>u<!-- c -->v<b/><!-- d --></a>")?;
+    let tree = read_element(
+        rt.alloc(),
+        b"<a>t\r\n&#13;<![CDATA[<]]>u<!-- c -->v<b/><!-- d --></a>",
+    )?;
     assert_eq!(rt; tree.parts.items.len(), 2);
     let first = tree.parts.items.first().ok_or("no part")?;
     let text = match first {

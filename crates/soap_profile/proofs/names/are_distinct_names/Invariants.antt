@@ -1,4 +1,4 @@
-use Rattle.std.proofs.Common.{◌≡◌, [], map, take}
+use Rattle.std.proofs.Common.{◌≡◌, map, take}
 use Rattle.soap_profile.specs.Tree.{Attr}
 use Rattle.soap_profile.specs.Keys.{keys_of}
 use Rattle.soap_profile.proofs.names.are_distinct_names.Given as goal

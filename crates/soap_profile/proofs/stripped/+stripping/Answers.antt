@@ -11,10 +11,10 @@ strip_onto-returns-in_ok-push-in-Text t c =
     let old = c.args.items.now.items in
     let new = c.push.new.self.items in
     let grown : parts_view new ≡ join (parts_view old) (text c.in-Text.text none) =
-          ap parts_view c.in_ok-push-in-Text.ensures.items ∙ parts-push_text old c.in_ok-copy-in-Text.field-0
-          ∙ ap (λ x. join (parts_view old) (text x none)) c.in_ok-copy-in-Text.ensures in
+    ap parts_view c.in_ok-push-in-Text.ensures.items ∙ parts-push_text old c.in_ok-copy-in-Text.field-0
+    ∙ ap (λ x. join (parts_view old) (text x none)) c.in_ok-copy-in-Text.ensures in
     subst (λ (p : Part). Strips (part_view p) (parts_view old) (parts_view new)) (sym c.in-Text.is)
-      (Strips-text c.in-Text.text (parts_view old) (parts_view new) grown)
+    (Strips-text c.in-Text.text (parts_view old) (parts_view new) grown)
 
 pub strip_onto-returns-in_ok-push-in-Child : goal.strip_onto-returns-in_ok-push-in-Child
 strip_onto-returns-in_ok-push-in-Child t c =
@@ -22,9 +22,9 @@ strip_onto-returns-in_ok-push-in-Child t c =
     let new = c.push-in-Child.new.self.items in
     let stripped = c.in_ok-strip-in-Child.field-0 in
     let grown : parts_view new ≡ join (parts_view old) (child (element_view stripped) none) =
-          ap parts_view c.in_ok-push-in-Child.ensures.items ∙ parts-push_child old stripped in
+    ap parts_view c.in_ok-push-in-Child.ensures.items ∙ parts-push_child old stripped in
     subst (λ (p : Part). Strips (part_view p) (parts_view old) (parts_view new)) (sym c.in-Child.is)
-      (Strips-child c.in-Child.element (element_view stripped) (parts_view old) (parts_view new) c.in_ok-strip-in-Child.ensures grown)
+    (Strips-child c.in-Child.element (element_view stripped) (parts_view old) (parts_view new) c.in_ok-strip-in-Child.ensures grown)
 
 pub strip_parts-returns : goal.strip_parts-returns
 strip_parts-returns t c =
