@@ -6,8 +6,12 @@
 
 pub mod blob;
 pub mod items;
+pub mod message;
+pub mod numbers;
 pub mod want;
 
 pub use blob::Blob;
 pub use items::Items;
+pub use message::{Behaviour, Binding, Bindings, Payload};
+pub use numbers::Numbers;
 pub use want::{Failed, Memory};
