@@ -6,4 +6,4 @@ use Rattle.rm_base.specs.Numbers.{IsRising, front_of}
 -- a payload beside each number, and the front of the numbers
 pub record IsKept (numbers : List ℕ) (payloads : List Payload) (front : ℕ) : Type 0 where
   pub beside : length payloads ≡ length numbers
-  pub front : front ≡ front_of numbers
+  pub reached : front ≡ front_of numbers
