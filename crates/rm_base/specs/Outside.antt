@@ -19,13 +19,15 @@ pub record Writing : Type 0 where
   pub calls : ℕ
   pub faults : ℕ
 
--- a source over a reader: how many of its calls failed, how many bytes were taken
-pub record Reader : Type 0 where
+-- a source over a reader, how many of its calls failed, how many bytes were taken
+pub record Reader (R : Type 0) : Type 0 where
+  pub reader : R
   pub faults : ℕ
   pub taken : ℕ
 
--- a sink over a writer: how many of its calls failed, or took nothing of a piece that isn't empty
-pub record Writer : Type 0 where
+-- a sink over a writer, how many of its calls failed, or took nothing of a piece that isn't empty
+pub record Writer (W : Type 0) : Type 0 where
+  pub writer : W
   pub faults : ℕ
 
 -- the call after so many calls is one of those that fail

@@ -20,14 +20,14 @@ pub struct StdSource<R> {
 impl<R> Model for StdSource<R> {
     ghost use Rattle.rm_base.specs.Outside.{Reader};
 
-    ghost Value = { Reader };
+    ghost Value = { Reader R };
 
-    ghost view = { λ s. record { faults = s.faults; taken = s.taken } };
+    ghost view = { λ s. record { reader = s.reader; faults = s.faults; taken = s.taken } };
 }
 
 impl<R> StdSource<R> {
     pub fn new(reader: R) -> Self
-        ensures { result ≡ record { faults = 0; taken = 0 } }
+        ensures { result ≡ record { reader = reader; faults = 0; taken = 0 } }
     {
         StdSource {
             reader,
@@ -51,6 +51,7 @@ impl<R: Read> Source for StdSource<R> {
         ensures never_falls { self.old.faults ≤ self.new.faults }
         ensures failed { OnErr result (Rose self.old.faults self.new.faults) }
         ensures faults { self.new.faults ≡ counted_if (is_err result) self.old.faults }
+        ensures reads { ReadConsumes (R.remaining self.old.reader) (R.remaining self.new.reader) result buf.new }
     {
         match self.reader.read(buf) {
             Ok(count) => {
@@ -75,14 +76,14 @@ pub struct StdSink<W> {
 impl<W> Model for StdSink<W> {
     ghost use Rattle.rm_base.specs.Outside.{Writer};
 
-    ghost Value = { Writer };
+    ghost Value = { Writer W };
 
-    ghost view = { λ s. record { faults = s.faults } };
+    ghost view = { λ s. record { writer = s.writer; faults = s.faults } };
 }
 
 impl<W> StdSink<W> {
     pub fn new(writer: W) -> Self
-        ensures { result ≡ record { faults = 0 } }
+        ensures { result ≡ record { writer = writer; faults = 0 } }
     {
         StdSink { writer, faults: 0 }
     }
@@ -102,6 +103,7 @@ impl<W: Write> Sink for StdSink<W> {
         ensures nothing { result ≡ Ok 0 → 0 < length bytes.now → Rose self.old.faults self.new.faults }
         ensures never_memory { result ≢ Err SinkError.Memory }
         ensures faults { self.new.faults ≡ counted_if (is_write_fault result bytes.now) self.old.faults }
+        ensures writes { WriteAppends (W.contents self.old.writer) (W.contents self.new.writer) result bytes.now }
     {
         match self.writer.write(bytes) {
             Ok(count) => {
