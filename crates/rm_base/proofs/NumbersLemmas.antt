@@ -1,10 +1,10 @@
 -- Rising lists of numbers: membership, and where a number goes in.
-use Rattle.std.proofs.Common.{◌≡◌, ℕ, zero, suc, ◌+◌, ◌<◌, ◌≤◌, true, false, cond, ◌==◌, nat_lt, ◌||◌, List, [], ◌∷◌, ◌++◌, length, get_or, refl, arith, ◌⊎◌, inl, inr}
+use Rattle.std.proofs.Common.{◌≡◌, ℕ, zero, suc, ◌+◌, ◌<◌, ◌≤◌, true, false, cond, ◌==◌, nat_lt, ◌||◌, List, [], ◌∷◌, ◌++◌, length, get_or, refl, arith, ◌⊎◌, inl, inr, ◌↔◌}
 use Rattle.std.specs.Prelude.{Result, Ok, Err, MatchResult}
 use Rattle.std.specs.List.{insert}
-use Rattle.std.proofs.lemmas.Bool.{ltb-true, ltb-false}
+use Rattle.std.proofs.lemmas.Bool.{ltb-true, ltb-false, lt-ltb}
 use Rattle.std.proofs.lemmas.Bool.Decides.{nat_tests}
-use Rattle.rm_base.specs.Numbers.{Rises, IsRising, IsPlace, has_number, with_number, united, brings_new, greatest_of}
+use Rattle.rm_base.specs.Numbers.{Rises, IsRising, IsPlace, has_number, with_number, united, brings_new, HasNew, greatest_of}
 
 -- what rises above b rises above a smaller a
 pub Rises-weaker : (a b : ℕ) (xs : List ℕ) → a ≤ b → Rises b xs → Rises a xs
@@ -158,3 +158,48 @@ length-with_number low n (x ∷ xs) r =
     let rest : length (with_number xs n) ≡ length xs + cond (has_number xs n) 0 1 = length-with_number x n xs r.1 in
     let none : n ≤ x → has_number xs n ≡ false = has_number-below x n xs r.1 in
     grind (arith, nat_tests, rest, none)
+
+-- more numbers make no fewer
+pub united-longer : (low : ℕ) (xs ys : List ℕ) → IsRising xs → Rises low ys → length xs ≤ length (united xs ys)
+united-longer low xs [] r s = omega arith
+united-longer low xs (y ∷ ys) r s =
+    let rest : length (with_number xs y) ≤ length (united (with_number xs y) ys) =
+        united-longer y (with_number xs y) ys (Rises-with_number 0 y xs r (omega (arith, s.0))) s.1 in
+    let more : length (with_number xs y) ≡ length xs + cond (has_number xs y) 0 1 = length-with_number 0 y xs r in
+    grind (arith, rest, more)
+
+-- where both together are more, one of ys is new
+pub new-of-longer : (low : ℕ) (xs ys : List ℕ) → IsRising xs → Rises low ys → length xs < length (united xs ys) → HasNew xs ys
+new-of-longer low xs [] r s h = absurd (omega arith)
+new-of-longer low xs (y ∷ ys) r s h = elim (has_number xs y) as (λ b. has_number xs y ≡ b → HasNew xs (y ∷ ys)) [
+  | false ↦ λ e. (y, has_number-at (y ∷ ys) 0 y (omega arith) refl, e)
+  | true ↦ λ e.
+      let same : with_number xs y ≡ xs = with_number-there 0 y xs r e in
+      let found : HasNew xs ys = new-of-longer y xs ys r s.1 (rw same at h) in
+      let there : has_number ys found.0 ≡ true = found.1 in
+      (found.0, grind (arith, nat_tests, there), found.2)
+] refl
+
+-- where one of ys is new, both together are more
+pub longer-of-new : (low n : ℕ) (xs ys : List ℕ) → IsRising xs → Rises low ys → has_number ys n ≡ true → has_number xs n ≡ false
+    → length xs < length (united xs ys)
+longer-of-new low n xs [] r s there new = absurd (cc)
+longer-of-new low n xs (y ∷ ys) r s there new =
+    let more : length (with_number xs y) ≡ length xs + cond (has_number xs y) 0 1 = length-with_number 0 y xs r in
+    let rises : IsRising (with_number xs y) = Rises-with_number 0 y xs r (omega (arith, s.0)) in
+    elim (has_number xs y) as (λ b. has_number xs y ≡ b → length xs < length (united (with_number xs y) ys)) [
+      | false ↦ λ e.
+          let longer : length (with_number xs y) ≤ length (united (with_number xs y) ys) = united-longer y (with_number xs y) ys rises s.1 in
+          grind (arith, e, more, longer)
+      | true ↦ λ e.
+          let same : with_number xs y ≡ xs = with_number-there 0 y xs r e in
+          let rest : has_number ys n ≡ true → length xs < length (united xs ys) = λ t. longer-of-new y n xs ys r s.1 t new in
+          rw same (rest (grind (arith, nat_tests, e, there, new)))
+    ] refl
+
+-- both together are more exactly where one of ys is new
+pub brings_new-new : (xs ys : List ℕ) → IsRising xs → IsRising ys → (brings_new xs ys ≡ true) ↔ HasNew xs ys
+brings_new-new xs ys r s = (
+  λ e. new-of-longer 0 xs ys r s (ltb-true (length xs) (length (united xs ys)) e),
+  λ (n, there, new). lt-ltb (length xs) (length (united xs ys)) (longer-of-new 0 n xs ys r s there new),
+)
