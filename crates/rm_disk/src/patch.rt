@@ -1,0 +1,33 @@
+ghost use Rattle.std.specs.Prelude.{◌≡◌, ℕ, ◌+◌, ◌<◌, ◌≤◌, length, slice_index, vec_len, vec_capacity, if◌then◌else◌};
+ghost use Rattle.rm_disk.specs.Call.{is_written, overwritten};
+
+/// Copies the ranges from the source, as far as the target goes.
+pub fn patch(target: &mut [u8], ranges: &[(usize, usize)], source: &[u8])
+    requires { length target.old ≤ length source.now }
+    ensures {
+        (i : ℕ) → i < length target.old →
+        slice_index target.new i ≡ (if is_written ranges.now i then slice_index source.now i else slice_index target.old i)
+    }
+{
+    for &(at, count) in ranges {
+        let end = at.saturating_add(count).min(target.len());
+        if at < end {
+            target[at..end].copy_from_slice(&source[at..end]);
+        }
+    }
+}
+
+/// Writes over what is there, and past the end, in the room that there is.
+pub fn overwrite(file: &mut Vec<u8>, at: usize, bytes: &[u8])
+    requires within { at ≤ vec_len file.old }
+    requires room { vec_len file.old + length bytes.now ≤ vec_capacity file.old }
+    ensures bytes { file.new.items ≡ overwritten file.old.items at bytes.now }
+    ensures capacity { vec_capacity file.old ≤ vec_capacity file.new }
+{
+    if bytes.len() <= file.len() - at {
+        file[at..at + bytes.len()].copy_from_slice(bytes);
+        return;
+    }
+    file.truncate(at);
+    file.extend_from_slice(bytes).unwrap();
+}
