@@ -1,4 +1,4 @@
-ghost use Rattle.std.specs.Prelude.{◌≡◌, ℕ, ◌+◌, ◌<◌, ◌≤◌, [], true, None, refl, length, sum_by, vec_len, vec_capacity, is_ok, IsTrue, IfOk};
+ghost use Rattle.std.specs.Prelude.{◌≡◌, ℕ, ◌+◌, ◌<◌, ◌≤◌, [], ◌∷◌, ◌++◌, true, None, refl, length, sum_by, vec_len, vec_capacity, is_ok, IsTrue, IfOk};
 ghost use Rattle.rm_disk.specs.Call.{state, left_by, is_written};
 ghost use Rattle.rm_disk.specs.Mem.{AgreeOutside};
 ghost use Rattle.rm_disk.specs.Count.{HasCause};
@@ -58,17 +58,35 @@ fn burn(fuse: &mut Option<u64>, faults: &mut u64) -> Result<(), Failed>
     Err(Failed)
 }
 
+/// One more item, in the room that there is.
+fn push<T: Drop>(items: &mut Vec<T>, item: T)
+    requires { vec_len items.old < vec_capacity items.old }
+    ensures items { items.new.items ≡ items.old.items ++ item ∷ [] }
+    ensures capacity { vec_capacity items.old ≤ vec_capacity items.new }
+{
+    items.push(item).unwrap();
+}
+
+/// More bytes, in the room that there is.
+fn append(items: &mut Vec<u8>, more: &[u8])
+    requires { vec_len items.old + length more.now ≤ vec_capacity items.old }
+    ensures items { items.new.items ≡ items.old.items ++ more.now }
+    ensures capacity { vec_capacity items.old ≤ vec_capacity items.new }
+{
+    items.extend_from_slice(more).unwrap();
+}
+
 /// Makes `synced` the same as the file, where they differ only in the ranges and from a length on.
 fn settle(synced: &mut Vec<u8>, file: &[u8], ranges: &[(usize, usize)], low: usize)
     requires file { low ≤ length file.now }
-    requires synced { low ≤ vec_len synced.old }
+    requires synced { low ≤ length synced.old.items }
     requires room { length file.now ≤ vec_capacity synced.old }
     requires alike { AgreeOutside ranges.now low synced.old.items file.now }
     ensures bytes { synced.new.items ≡ file.now }
     ensures capacity { vec_capacity synced.old ≤ vec_capacity synced.new }
 {
     synced.truncate(low);
-    synced.extend_from_slice(&file[low..]).unwrap();
+    append(synced, &file[low..]);
     patch(synced, ranges, file);
 }
 
@@ -159,47 +177,44 @@ impl Disk for MemDisk {
     fn write_at(&mut self, at: u64, bytes: &[u8]) -> Result<(), Failed> {
         let at = at as usize;
         let count = bytes.len();
-        let done = burn(&mut self.fuse, &mut self.faults);
         self.spare_calls -= 1;
         self.high = self.high.max(at + count);
-        self.ranges.push((at, count)).unwrap();
-        if done.is_err() {
-            self.notes.push(Note::FailedWrite { at, count }).unwrap();
-            return done;
+        push(&mut self.ranges, (at, count));
+        if let Err(failed) = burn(&mut self.fuse, &mut self.faults) {
+            push(&mut self.notes, Note::FailedWrite { at, count });
+            return Err(failed);
         }
         self.spare_bytes -= count;
-        self.notes.push(Note::Write { at, count }).unwrap();
-        self.wrote.extend_from_slice(bytes).unwrap();
+        push(&mut self.notes, Note::Write { at, count });
+        append(&mut self.wrote, bytes);
         overwrite(&mut self.file, at, bytes);
         Ok(())
     }
 
     fn cut(&mut self, len: u64) -> Result<(), Failed> {
         let len = len as usize;
-        let done = burn(&mut self.fuse, &mut self.faults);
         self.spare_calls -= 1;
         self.low = self.low.min(len);
-        if done.is_err() {
-            self.notes.push(Note::FailedCut { len }).unwrap();
-            return done;
+        if let Err(failed) = burn(&mut self.fuse, &mut self.faults) {
+            push(&mut self.notes, Note::FailedCut { len });
+            return Err(failed);
         }
-        self.notes.push(Note::Cut { len }).unwrap();
+        push(&mut self.notes, Note::Cut { len });
         self.file.truncate(len);
         Ok(())
     }
 
     fn sync(&mut self) -> Result<(), Failed> {
-        let done = burn(&mut self.fuse, &mut self.faults);
         self.spare_calls -= 1;
-        if done.is_err() {
-            self.notes.push(Note::FailedSync).unwrap();
-            return done;
+        if let Err(failed) = burn(&mut self.fuse, &mut self.faults) {
+            push(&mut self.notes, Note::FailedSync);
+            return Err(failed);
         }
-        self.notes.push(Note::Sync).unwrap();
+        push(&mut self.notes, Note::Sync);
         settle(&mut self.synced, &self.file, &self.ranges, self.low);
+        self.ranges.clear();
         self.low = self.file.len();
         self.high = self.file.len();
-        self.ranges.clear();
         Ok(())
     }
 }

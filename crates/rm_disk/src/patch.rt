@@ -1,5 +1,18 @@
 ghost use Rattle.std.specs.Prelude.{◌≡◌, ℕ, ◌+◌, ◌<◌, ◌≤◌, length, slice_index, vec_len, vec_capacity, if◌then◌else◌};
-ghost use Rattle.rm_disk.specs.Call.{is_written, overwritten};
+ghost use Rattle.rm_disk.specs.Call.{is_within, is_written, overwritten};
+
+fn copy_range(target: &mut [u8], at: usize, count: usize, source: &[u8])
+    requires { length target.old ≤ length source.now }
+    ensures {
+        (i : ℕ) → i < length target.old →
+        slice_index target.new i ≡ (if is_within i (at, count) then slice_index source.now i else slice_index target.old i)
+    }
+{
+    let end = at.saturating_add(count).min(target.len());
+    if at < end {
+        target[at..end].copy_from_slice(&source[at..end]);
+    }
+}
 
 /// Copies the ranges from the source, as far as the target goes.
 pub fn patch(target: &mut [u8], ranges: &[(usize, usize)], source: &[u8])
@@ -10,10 +23,7 @@ pub fn patch(target: &mut [u8], ranges: &[(usize, usize)], source: &[u8])
     }
 {
     for &(at, count) in ranges {
-        let end = at.saturating_add(count).min(target.len());
-        if at < end {
-            target[at..end].copy_from_slice(&source[at..end]);
-        }
+        copy_range(target, at, count, source);
     }
 }
 
