@@ -1,8 +1,8 @@
 -- What contracts see of a disk in memory.
 use Rattle.std.specs.Prelude.{ℕ, List, Option}
-use Rattle.rm_disk.specs.Call.{Call}
+use Rattle.rm_disk.specs.Call.{Call, State}
 use Rattle.rm_disk.specs.Spare.{Spare}
-use Rattle.rm_disk.specs.Mem.{calls_of}
+use Rattle.rm_disk.specs.Mem.{calls_of, content}
 use Rattle.rm_disk.specs.declared.mem.MemDisk.{MemDisk}
 
 -- its calls, newest first
@@ -20,3 +20,7 @@ faults_of d = d.faults
 -- the room that is there
 abbrev pub spare_of : MemDisk → Spare
 spare_of d = record { calls = d.spare_calls; bytes = d.spare_bytes }
+
+-- what its calls come to
+abbrev pub state_of : MemDisk → State
+state_of d = content d.file.items d.synced.items d.low d.high d.ranges.items

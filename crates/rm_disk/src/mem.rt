@@ -1,5 +1,5 @@
 ghost use Rattle.std.specs.Prelude.{◌≡◌, ℕ, ◌+◌, ◌<◌, ◌≤◌, [], ◌∷◌, ◌++◌, true, None, refl, length, sum_by, vec_len, vec_capacity, is_ok, IsTrue, IfOk};
-ghost use Rattle.rm_disk.specs.Call.{state, left_by, is_written};
+ghost use Rattle.rm_disk.specs.Call.{state, filled, left_by};
 ghost use Rattle.rm_disk.specs.Mem.{AgreeOutside};
 ghost use Rattle.rm_disk.specs.Count.{HasCause};
 ghost use Rattle.rm_disk.specs.Fuse.{Burns};
@@ -91,7 +91,7 @@ fn settle(synced: &mut Vec<u8>, file: &[u8], ranges: &[(usize, usize)], low: usi
 }
 
 impl MemDisk {
-    ghost use Rattle.rm_disk.specs.MemDisk.{past_of, fuse_of, faults_of};
+    ghost use Rattle.rm_disk.specs.MemDisk.{past_of, fuse_of, faults_of, state_of};
 
     /// A disk of no bytes. It takes no memory.
     pub fn new(alloc: Global) -> Self
@@ -116,7 +116,10 @@ impl MemDisk {
     }
 
     // So many bytes: this one in each place that may hold anything, and in each other what a read gives.
-    fn filled(&self, byte: u8, len: usize) -> Result<Vec<u8>, AllocError> {
+    fn filled(&self, byte: u8, len: usize) -> Result<Vec<u8>, AllocError>
+        requires { self.now.low ≤ len }
+        ensures { IfOk result (λ left. left.items ≡ filled (state_of self.now) byte len) }
+    {
         let mut left = Vec::from_slice(self.alloc, &self.file[..self.low])?;
         let source = vec![in self.alloc; byte; self.low]?;
         patch(&mut left, &self.ranges, &source);
@@ -125,7 +128,9 @@ impl MemDisk {
     }
 
     // What a crash of this choice leaves.
-    fn left_by(&self, choice: u8) -> Result<Vec<u8>, AllocError> {
+    fn left_by(&self, choice: u8) -> Result<Vec<u8>, AllocError>
+        ensures { IfOk result (λ left. left.items ≡ left_by choice (state_of self.now)) }
+    {
         match choice {
             0 => Vec::from_slice(self.alloc, &self.synced),
             1 => Vec::from_slice(self.alloc, &self.file),
@@ -231,7 +236,8 @@ impl CrashDisk for MemDisk {
     fn crash(&mut self, choice: u8) -> Result<(), Memory> {
         let file = self.left_by(choice)?;
         let synced = Vec::from_slice(self.alloc, &file)?;
-        self.notes.push(Note::Crash { choice })?;
+        self.notes.reserve(1)?;
+        push(&mut self.notes, Note::Crash { choice });
         self.low = file.len();
         self.high = file.len();
         self.file = file;

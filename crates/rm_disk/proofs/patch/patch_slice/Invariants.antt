@@ -1,6 +1,6 @@
 use Rattle.std.proofs.Common.{◌≡◌, ℕ, ◌<◌, length, take, slice_index, if◌then◌else◌}
 use Rattle.rm_disk.specs.Call.{is_written}
-use Rattle.rm_disk.proofs.patch.patch.Given as goal
+use Rattle.rm_disk.proofs.patch.patch_slice.Given as goal
 
 abbrev pub invariant-loop-at : goal.invariant-loop-at
 invariant-loop-at l =
