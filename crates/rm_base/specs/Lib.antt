@@ -1,0 +1,3 @@
+pub mod Count
+pub mod Numbers
+pub mod Outside

@@ -1,0 +1,4 @@
+pub mod Characters
+pub mod References
+pub mod Text
+pub mod Value
