@@ -1,8 +1,8 @@
 -- What a disk in memory keeps, note by note.
-use Rattle.std.proofs.Common.{◌≡◌, ◌⊎◌, ℕ, ◌+◌, ◌-◌, ◌<◌, ◌≤◌, Bool, true, false, cond, ◌||◌, replicate, List, [], ◌∷◌, ◌++◌, length, take, drop, slice_index, sum_by, refl, inl, inr, length-take, length-append, sym, ◌∙◌, ap, subst, arith}
+use Rattle.std.proofs.Common.{◌≡◌, ℕ, ◌+◌, ◌-◌, ◌<◌, ◌≤◌, Bool, true, false, cond, ◌||◌, replicate, List, [], ◌∷◌, ◌++◌, length, take, drop, slice_index, sum_by, refl, inl, inr, length-take, length-append, sym, ◌∙◌, ap, subst, arith}
 use Rattle.std.proofs.lemmas.List.{append-nil, take_all, ext_get_or, get_or-take, get_or-drop, get_or_append_left, get_or-append_right, get_or-replicate, length-replicate}
 use Rattle.std.proofs.lemmas.Bool.{cases_lt, lt-leb, le-leb}
-use Rattle.rm_disk.specs.Call.{Call, Wrote, State, after, state, is_free, is_written, filled}
+use Rattle.rm_disk.specs.Call.{Wrote, State, after, state, is_free, is_written, filled}
 use Rattle.rm_disk.specs.Mem.{call_of, used_by, calls_of, AgreeOutside}
 use Rattle.rm_disk.specs.declared.note.Note.{Note}
 use Rattle.rm_disk.specs.declared.note.Note.TheVariants.{Write}
@@ -58,17 +58,19 @@ filled_is s byte len count target fits size each = ext_get_or 0 _ (filled s byte
   where
     all : take len target ≡ target
     all = take_all len target (omega (arith, size))
+
     total : length (take len target ++ replicate count byte) ≡ len
     total = omega (arith, length-append (take len target) (replicate count byte), length-replicate count byte, ap length all, size)
+
     at : (i : ℕ) → i < len → slice_index (take len target ++ replicate count byte) i ≡ cond (is_free s i) byte (slice_index s.seen i)
     at i inside = elim (cases_lt i s.low) [
-        | inl before ↦
-            get_or_append_left (take len target) (replicate count byte) 0 i (omega (arith, ap length all, size))
-            ∙ ap (λ (l : List ℕ). slice_index l i) all
-            ∙ each i before
-            ∙ ap (λ (b : Bool). cond (b || is_written s.written i) byte (slice_index s.seen i)) (sym (lt-leb s.low i before))
-        | inr behind ↦
-            get_or-append_right (take len target) (replicate count byte) s.low i 0 (ap length all ∙ size) behind
-            ∙ get_or-replicate count (i - s.low) byte 0 (omega arith)
-            ∙ ap (λ (b : Bool). cond (b || is_written s.written i) byte (slice_index s.seen i)) (sym (le-leb s.low i behind))
-      ]
+      | inl before ↦
+          get_or_append_left (take len target) (replicate count byte) 0 i (omega (arith, ap length all, size))
+          ∙ ap (λ (l : List ℕ). slice_index l i) all
+          ∙ each i before
+          ∙ ap (λ (b : Bool). cond (b || is_written s.written i) byte (slice_index s.seen i)) (sym (lt-leb s.low i before))
+      | inr behind ↦
+          get_or-append_right (take len target) (replicate count byte) s.low i 0 (ap length all ∙ size) behind
+          ∙ get_or-replicate count (i - s.low) byte 0 (omega arith)
+          ∙ ap (λ (b : Bool). cond (b || is_written s.written i) byte (slice_index s.seen i)) (sym (le-leb s.low i behind))
+    ]

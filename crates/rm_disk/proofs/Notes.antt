@@ -1,11 +1,11 @@
 -- One more note is one more call.
-use Rattle.std.proofs.Common.{◌≡◌, ℕ, ◌+◌, ◌≤◌, List, [], ◌∷◌, ◌++◌, length, take, drop, sum_by, refl, sym, ◌∙◌, ap, arith, length-append, length-drop}
+use Rattle.std.proofs.Common.{◌≡◌, ℕ, ◌≤◌, List, [], ◌∷◌, ◌++◌, length, drop, sum_by, refl, ◌∙◌, ap, arith, length-append, length-drop}
 use Rattle.std.proofs.lemmas.List.{take-append-le, drop-append-le}
 use Rattle.std.proofs.lemmas.List.Sums.{sum_by-cons, sum_by-append}
 use Rattle.rm_disk.specs.Call.{Call, Wrote}
 use Rattle.rm_disk.specs.Mem.{call_of, used_by, calls_onto, calls_of}
 use Rattle.rm_disk.specs.declared.note.Note.{Note}
-use Rattle.rm_disk.specs.declared.note.Note.TheVariants.{Write, FailedWrite, Cut, FailedCut, Sync, FailedSync, Crash}
+use Rattle.rm_disk.specs.declared.note.Note.TheVariants.{Write}
 
 -- a call's bytes come first, whatever follows
 call_of-append : (note : Note) (bytes more : List ℕ) → used_by note ≤ length bytes → call_of note (bytes ++ more) ≡ call_of note bytes

@@ -1,6 +1,6 @@
 -- The fuse of a disk: none while the disk isn't armed, else the number of device calls left up to and with the
 -- first that fails, and 0 once that failed.
-use Rattle.std.specs.Prelude.{◌≡◌, ℕ, zero, suc, ◌-◌, Bool, true, nat_lt, Option, Some, None}
+use Rattle.std.specs.Prelude.{◌≡◌, ℕ, zero, ◌-◌, Bool, true, nat_lt, Option, Some}
 use Rattle.std.specs.Option.{option_map, option_map_or}
 
 -- Device calls are made one after the other, so many of them or up to the first that fails. Whether all went well.

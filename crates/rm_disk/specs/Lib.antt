@@ -1,7 +1,7 @@
 pub mod Call
-pub mod Count
+pub mod Cause
 pub mod Fuse
 pub mod Image
 pub mod Mem
-pub mod Spare
 pub mod MemDisk
+pub mod Spare

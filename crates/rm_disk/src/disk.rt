@@ -2,7 +2,7 @@ ghost use Rattle.std.specs.Prelude.{◌≡◌, ◌+◌, ◌≤◌, ℕ, ◌∷�
 ghost use Rattle.rm_disk.specs.Call.{Call, Wrote, WriteFailed, CutTo, CutFailed, Synced, SyncFailed, Crashed, seen_of};
 ghost use Rattle.rm_disk.specs.Fuse.{Burns, armed};
 ghost use Rattle.rm_disk.specs.Spare.{Spare, Covers, Spends};
-ghost use Rattle.rm_disk.specs.Count.{HasCause};
+ghost use Rattle.rm_disk.specs.Cause.{HasCause};
 
 use rm_base::{Failed, Memory};
 

@@ -12,3 +12,6 @@ mod patch;
 
 pub use disk::{CrashDisk, Disk};
 pub use mem::MemDisk;
+
+#[cfg(test)]
+mod tests;

@@ -1,7 +1,7 @@
 ghost use Rattle.std.specs.Prelude.{◌≡◌, ℕ, ◌+◌, ◌<◌, ◌≤◌, [], ◌∷◌, ◌++◌, true, None, refl, length, sum_by, vec_len, vec_capacity, is_ok, IsTrue, IfOk};
 ghost use Rattle.rm_disk.specs.Call.{state, filled, left_by};
 ghost use Rattle.rm_disk.specs.Mem.{AgreeOutside};
-ghost use Rattle.rm_disk.specs.Count.{HasCause};
+ghost use Rattle.rm_disk.specs.Cause.{HasCause};
 ghost use Rattle.rm_disk.specs.Fuse.{Burns};
 ghost use Rattle.rm_disk.specs.Mem.{calls_of, used_by, content};
 

@@ -15,8 +15,9 @@ invariant_of-self-2-clause-content c =
       c.len-self-2.ensures,
       ← c.deref.ensures.len,
       c.deref.ensures.value,
-      c.in_ok-file.ensures) (
-      state-note self.notes.items self.wrote.items (Crash c.args.choice) _ self.all_used self.content)
+      c.in_ok-file.ensures,
+    ) (
+    state-note self.notes.items self.wrote.items (Crash c.args.choice) _ self.all_used self.content)
 
 pub invariant_of-self-2-clause-all_used : goal.invariant_of-self-2-clause-all_used
 invariant_of-self-2-clause-all_used c =

@@ -1,4 +1,4 @@
-use Rattle.std.proofs.Common.{refl, ◌∙◌, ap, subst, length, arith}
+use Rattle.std.proofs.Common.{refl}
 use Rattle.rm_disk.specs.declared.note.Note.TheVariants.{Sync, FailedSync}
 use Rattle.rm_disk.proofs.Kept.{calls_of-note, state-note, used-note, kept_sound}
 use Rattle.rm_disk.proofs.mem.MemDiskDisk.sync.Goals as goal
@@ -41,8 +41,9 @@ invariant_of-self-2-clause-content c =
       c.len-self.ensures,
       c.len-self-2.ensures,
       ← c.deref.ensures.len,
-      c.deref.ensures.value) (
-      state-note self.notes.items self.wrote.items Sync _ self.all_used self.content)
+      c.deref.ensures.value,
+    ) (
+    state-note self.notes.items self.wrote.items Sync _ self.all_used self.content)
 
 pub invariant_of-self-2-clause-all_used : goal.invariant_of-self-2-clause-all_used
 invariant_of-self-2-clause-all_used c =
