@@ -1,5 +1,5 @@
 -- Facts of each item of a list, and items by their numbers.
-use Rattle.std.proofs.Common.{◌≡◌, ℕ, zero, suc, ◌+◌, ◌-◌, ◌<◌, ◌≤◌, ◌==◌, Bool, true, false, cond, List, [], ◌∷◌, ◌++◌, length, drop, refl, sym, ap, ◌∙◌, arith, subst}
+use Rattle.std.proofs.Common.{◌≡◌, ℕ, zero, suc, ◌+◌, ◌-◌, ◌<◌, ◌≤◌, ◌==◌, Bool, true, false, cond, List, [], ◌∷◌, ◌++◌, length, take, drop, refl, sym, ap, ◌∙◌, arith, subst}
 use Rattle.std.specs.Prelude.{Option, Some, None, slice_get}
 use Rattle.std.specs.List.{AllByRecursion}
 use Rattle.std.proofs.lemmas.Bool.Decides.{nat_tests}
@@ -53,7 +53,8 @@ numbered-last xs y =
     let number : length xs + 1 ≡ suc (length xs) = omega arith in
     rw number (numbered-next (xs ++ y ∷ []) (length xs) ∙ slice_get-last xs y)
 
-slice_get-within : {A : Type 0} (xs : List A) (k : ℕ) (x : A) → slice_get xs k ≡ Some x → k < length xs
+-- an item's place is within the list
+pub slice_get-within : {A : Type 0} (xs : List A) (k : ℕ) (x : A) → slice_get xs k ≡ Some x → k < length xs
 slice_get-within [] k x e = absurd (cc)
 slice_get-within (y ∷ ys) zero x e = omega arith
 slice_get-within (y ∷ ys) (suc k) x e = let h : k < length ys = slice_get-within ys k x e in omega arith
@@ -72,3 +73,9 @@ drop-numbered (y ∷ ys) zero x e = let same : y ≡ x = cc in ap (λ z. z ∷ y
 drop-numbered (y ∷ ys) (suc k) x e = 
     let next : suc k + 1 ≡ suc (k + 1) = omega arith in
     rw next (drop-numbered ys k x e)
+
+-- the first items and the next one are one first item more
+pub take-numbered : {A : Type 0} (xs : List A) (k : ℕ) (x : A) → slice_get xs k ≡ Some x → take (suc k) xs ≡ take k xs ++ x ∷ []
+take-numbered [] k x e = absurd (cc)
+take-numbered (y ∷ ys) zero x e = let same : y ≡ x = cc in ap (λ z. z ∷ []) same
+take-numbered (y ∷ ys) (suc k) x e = ap (λ l. y ∷ l) (take-numbered ys k x e)

@@ -1,5 +1,5 @@
 -- What holds in every world that a run can reach: each kind of step keeps it.
-use Rattle.std.proofs.Common.{◌≡◌, ℕ, zero, suc, ◌+◌, ◌-◌, ◌<◌, ◌≤◌, ◌==◌, Bool, true, false, cond, ◌||◌, max, List, [], ◌∷◌, ◌++◌, length, drop, refl, sym, ap, ◌∙◌, arith, subst, length-append}
+use Rattle.std.proofs.Common.{◌≡◌, ℕ, zero, suc, ◌+◌, ◌-◌, ◌<◌, ◌≤◌, ◌==◌, Bool, true, false, cond, ◌||◌, max, List, [], ◌∷◌, ◌++◌, length, take, drop, refl, sym, ap, ◌∙◌, arith, subst, length-append, inl, inr}
 use Rattle.std.specs.Prelude.{Option, Some, None, slice_get, is_none, IfSome}
 use Rattle.std.specs.List.{AllByRecursion}
 use Rattle.std.proofs.lemmas.Bool.{eqb-true}
@@ -18,6 +18,7 @@ use Rattle.rm_world.specs.declared.packet.PlainPacket.{PlainPacket}
 use Rattle.rm_world.specs.declared.packet.PlainPacket.TheVariants.{Data, Ack}
 use Rattle.rm_world.specs.World.{World, plain, accepted, received, learned, arrived, recorded, sent, answered, happens, run, raised_where, is_new}
 use Rattle.rm_world.specs.Word.{preset, IsPrefixOf, bytes_of, KeepsWord}
+use Rattle.rm_world.specs.Replay.{IsCutShort}
 use Rattle.rm_world.specs.Sound.{AreReceived, IsSoundPacket, IsSoundMessage, IsSound}
 use Rattle.rm_world.proofs.ListLemmas.{All-weaker, All-push, All-numbered, numbered-push, numbered-last, numbered-within, numbered-next, drop-numbered}
 use Rattle.rm_world.proofs.NumberLemmas.{has_number-with_number, has_number-united, numbers_of-with_message, All-with_message}
@@ -169,3 +170,9 @@ IsSound-KeepsWord w h = record {
   prefix = inbox_after-prefix 0 w.source.accepted w.dest.received h.messages;
   held = h.acked;
 }
+
+-- so does a run that is cut short
+pub IsCutShort-IsSound : (events : List Event) (old new : World) → IsSound old → IsCutShort events old new → IsSound new
+IsCutShort-IsSound events old new h (k, within, inl e) = subst IsSound (sym e) (run-IsSound (take k events) old h)
+IsCutShort-IsSound events old new h (k, within, inr (event, there, e)) =
+    subst IsSound (sym e) (recorded-IsSound (run (take k events) old) event (run-IsSound (take k events) old h))
