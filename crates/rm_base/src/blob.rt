@@ -70,3 +70,23 @@ impl Blob {
         Ok(())
     }
 }
+
+#[cfg(test)]
+mod tests {
+    use super::*;
+    use std::test::Fail;
+
+    #[test]
+    fn holds_what_was_pushed(rt: HostRuntime) -> Result<(), Fail> {
+        let mut blob = Blob::new(rt.alloc());
+        assert!(rt; blob.is_empty());
+        for piece in ["abc", "", "de"] {
+            blob.push_all(piece.as_bytes())?;
+        }
+        assert_eq!(rt; blob.as_slice(), b"abcde".as_slice());
+        assert_eq!(rt; blob.copy()?.len(), 5);
+        let again = Blob::from_slice(rt.alloc(), blob.as_slice())?;
+        assert_eq!(rt; again.as_slice(), blob.as_slice());
+        Ok(())
+    }
+}
