@@ -8,5 +8,7 @@ ghost use Rattle.rm_destination.specs.Front.{IsFront, IsInbox};
 /// place of its number.
 pub fn inbox_reaches_front()
     ensures front { (numbers : List ℕ) → IsRising numbers → IsFront numbers (front_of numbers) }
-    ensures inbox { (r : Receiving) → IsRising (numbers_of r.received) → IsInbox r.received (received_front r) (inbox_of r) }
+    ensures inbox {
+        (r : Receiving) → IsRising (numbers_of r.received) → IsInbox r.received (received_front r) (inbox_of r)
+    }
 {}
