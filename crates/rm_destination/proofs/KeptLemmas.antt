@@ -16,7 +16,7 @@ use Rattle.rm_destination.proofs.MessageLemmas.{with_message-zip, inbox_after-zi
 
 -- the front is the length of the inbox
 pub length-inbox : (xs : List ℕ) (ps : List Payload) → length ps ≡ length xs
-  → front_of xs ≡ length (inbox_after 0 (zip xs ps))
+    → front_of xs ≡ length (inbox_after 0 (zip xs ps))
 length-inbox xs ps e =
     let ms = zip xs ps in
     let same : numbers_of ms ≡ xs = firsts-zip xs ps e in
@@ -33,7 +33,7 @@ slice_get-take (suc m) (x ∷ xs) (suc k) h = slice_get-take m xs k (omega arith
 
 -- the kept payloads up to the front are the inbox
 pub numbered-inbox : (xs : List ℕ) (ps : List Payload) (i : ℕ) → length ps ≡ length xs → 0 < i → i ≤ front_of xs
-  → slice_get ps (i - 1) ≡ numbered (inbox_after 0 (zip xs ps)) i
+    → slice_get ps (i - 1) ≡ numbered (inbox_after 0 (zip xs ps)) i
 numbered-inbox xs ps i e from to =
     let other : (i == 0) ≡ false = grind (arith, nat_tests) in
     let all : front_of xs - 0 ≡ front_of xs = omega arith in
@@ -48,7 +48,7 @@ numbered-past items i h =
 
 -- a number and its payload go in at the number's place
 pub zip-with_number : (xs : List ℕ) (ps : List Payload) (n : ℕ) (p : Payload) (i : ℕ)
-  → length ps ≡ length xs → GoesAt xs n i → zip (with_number xs n) (insert ps i p) ≡ with_message (zip xs ps) n p
+    → length ps ≡ length xs → GoesAt xs n i → zip (with_number xs n) (insert ps i p) ≡ with_message (zip xs ps) n p
 zip-with_number xs ps n p i e g =
     rw (with_number-at n xs i g.within g.below g.above) (with_message-zip xs ps n p i e g.within g.below g.above)
 
@@ -58,7 +58,7 @@ length-with_number xs n i g = rw (with_number-at n xs i g.within g.below g.above
 
 -- both lists grow alike
 pub length-insert_beside : (xs : List ℕ) (ps : List Payload) (n : ℕ) (p : Payload) (i : ℕ)
-  → length ps ≡ length xs → GoesAt xs n i → length (insert ps i p) ≡ length (with_number xs n)
+    → length ps ≡ length xs → GoesAt xs n i → length (insert ps i p) ≡ length (with_number xs n)
 length-insert_beside xs ps n p i e g =
     let payloads : length (insert ps i p) ≡ length ps + 1 = length-insert ps i p (omega (arith, g.within)) in
     omega (arith, length-with_number xs n i g)

@@ -26,13 +26,11 @@ pub struct Incoming {
 impl Model for Incoming {
     ghost Value = { Receiving };
 
-    ghost view = {
-        λ i. record {
-            behaviour = i.behaviour;
-            deadline = i.deadline;
-            received = zip i.numbers i.payloads.items;
-        }
-    };
+    ghost view = { λ i. record {
+      behaviour = i.behaviour;
+      deadline = i.deadline;
+      received = zip i.numbers i.payloads.items;
+    } };
 
     ghost invariant = { λ i. IsKept i.numbers i.payloads.items i.front };
 }
@@ -138,9 +136,7 @@ impl Incoming {
     fn keep(&mut self, number: u64, payload: Payload) -> Result<(), Memory>
         requires from_one { 0 < number }
         requires is_new { has_number (numbers_of self.old.received) number ≡ false }
-        ensures ok {
-            OnOk result (self.new ≡ record self.old { received = with_message self.old.received number payload })
-        }
+        ensures ok { OnOk result (self.new ≡ record self.old { received = with_message self.old.received number payload }) }
         ensures err { OnErr result (self.new ≡ self.old) }
     {
         let place = place_of(self.numbers.as_slice(), number);

@@ -1,7 +1,7 @@
 use Rattle.std.proofs.Common.{◌≡◌, ℕ, List, false, ap, ◌∙◌}
 use Rattle.rm_base.specs.declared.message.Payload.{Payload}
 use Rattle.rm_base.specs.Numbers.{has_number, front_of}
-use Rattle.rm_destination.specs.Incoming.{Receiving, numbers_of}
+use Rattle.rm_destination.specs.Incoming.{Receiving}
 use Rattle.rm_destination.specs.Kept.{GoesAt}
 use Rattle.rm_destination.proofs.FrontLemmas.{front_of-below, front_of-with_number}
 use Rattle.rm_destination.proofs.MessageLemmas.{numbers_of-zip}
@@ -21,7 +21,7 @@ front_from-self-inside-requires-clause-within c =
     let i = c.place_of-place.result in
     let place : GoesAt xs c.args.number i = rw c.as_slice.ensures.numbers at c.place_of-place.ensures in
     rw (c.as_slice-2.ensures.numbers, c.in_ok-insert.ensures.ok, c.self.invariant.reached)
-      (front_of-within xs c.args.number i place)
+    (front_of-within xs c.args.number i place)
 
 pub front_from-self-inside-requires-clause-known : goal.front_from-self-inside-requires-clause-known
 front_from-self-inside-requires-clause-known c =
@@ -30,7 +30,7 @@ front_from-self-inside-requires-clause-known c =
     let same = numbers_of-zip xs c.self.inside.payloads.items c.args.self.now c.self.invariant.beside seen in
     let none : has_number xs c.args.number ≡ false = rw same at c.requires.is_new in
     rw (c.as_slice-2.ensures.numbers, c.in_ok-insert.ensures.ok, c.self.invariant.reached)
-      (front_of-with_number xs c.args.number (front_of-below xs c.args.number none c.requires.from_one))
+    (front_of-with_number xs c.args.number (front_of-below xs c.args.number none c.requires.from_one))
 
 pub invariant_of-self-2 : goal.invariant_of-self-2
 invariant_of-self-2 c =
@@ -40,7 +40,7 @@ invariant_of-self-2 c =
     let place : GoesAt xs c.args.number i = rw c.as_slice.ensures.numbers at c.place_of-place.ensures in
     record {
       beside = rw (c.in-Ok.ensures.items, c.reserve.ensures.items, c.in_ok-insert.ensures.ok)
-        (length-insert_beside xs ps c.args.number c.args.payload i c.self.invariant.beside place);
+          (length-insert_beside xs ps c.args.number c.args.payload i c.self.invariant.beside place);
       reached = c.front_from-self-inside.ensures ∙ ap front_of c.as_slice-2.ensures.numbers;
     }
 
@@ -51,6 +51,6 @@ returns-clause-ok c =
     let i = c.place_of-place.result in
     let place : GoesAt xs c.args.number i = rw c.as_slice.ensures.numbers at c.place_of-place.ensures in
     let seen : List (ℕ × Payload) → Receiving = λ received.
-      record { behaviour = c.self.inside.behaviour; deadline = c.self.inside.deadline; received = received } in
+    record { behaviour = c.self.inside.behaviour; deadline = c.self.inside.deadline; received = received } in
     rw (c.in_ok-insert.ensures.ok, c.in-Ok.ensures.items, c.reserve.ensures.items, ← c.self.view_is)
-      (ap seen (zip-with_number xs ps c.args.number c.args.payload i c.self.invariant.beside place))
+    (ap seen (zip-with_number xs ps c.args.number c.args.payload i c.self.invariant.beside place))

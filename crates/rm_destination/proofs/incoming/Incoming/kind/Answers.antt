@@ -1,6 +1,6 @@
 use Rattle.std.proofs.Common.{◌≡◌, ◌+◌, true, false, nat_lt, refl, ap, arith}
 use Rattle.rm_base.specs.Numbers.{has_number, front_of}
-use Rattle.rm_destination.specs.Incoming.{Receiving, numbers_of}
+use Rattle.rm_destination.specs.Incoming.{Receiving}
 use Rattle.rm_destination.specs.declared.outcome.Took.TheVariants.{PastWindow}
 use Rattle.rm_destination.proofs.MessageLemmas.{numbers_of-zip}
 use Rattle.rm_destination.proofs.KeptLemmas.{past_window, in_window}
@@ -21,7 +21,7 @@ returns-then-saturating_sub-gt-WINDOW c =
     let same = numbers_of-zip xs c.self.inside.payloads.items c.args.self.now c.self.invariant.beside seen in
     let none : has_number xs c.args.number ≡ false = cc in
     let past : nat_lt (front_of xs + 1024) c.args.number ≡ true =
-      rw c.self.invariant.reached at (past_window c.self.inside.front c.args.number (omega arith)) in
+    rw c.self.invariant.reached at (past_window c.self.inside.front c.args.number (omega arith)) in
     rw (same, none, past) (ap PastWindow c.self.invariant.reached)
 
 pub returns : goal.returns
@@ -31,5 +31,5 @@ returns c =
     let same = numbers_of-zip xs c.self.inside.payloads.items c.args.self.now c.self.invariant.beside seen in
     let none : has_number xs c.args.number ≡ false = cc in
     let near : nat_lt (front_of xs + 1024) c.args.number ≡ false =
-      rw c.self.invariant.reached at (in_window c.self.inside.front c.args.number (omega arith)) in
+    rw c.self.invariant.reached at (in_window c.self.inside.front c.args.number (omega arith)) in
     rw (same, none, near) refl
