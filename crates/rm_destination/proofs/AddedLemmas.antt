@@ -1,12 +1,12 @@
 -- A message more: which messages there are after it.
-use Rattle.std.proofs.Common.{◌≡◌, ℕ, zero, suc, ◌<◌, true, false, cond, ◌==◌, nat_lt, List, [], ◌∷◌, refl, sym, arith, ◌⊎◌, inl, inr}
+use Rattle.std.proofs.Common.{◌≡◌, ℕ, zero, suc, true, false, cond, ◌==◌, nat_lt, List, [], ◌∷◌, refl, sym, arith, ◌⊎◌, inl, inr}
 use Rattle.std.specs.Prelude.{Contains}
 use Rattle.std.proofs.lemmas.Bool.Decides.{nat_tests}
 use Rattle.rm_base.specs.declared.message.Payload.{Payload}
-use Rattle.rm_base.specs.Numbers.{IsRising, has_number, with_number}
+use Rattle.rm_base.specs.Numbers.{has_number, with_number}
 use Rattle.rm_base.proofs.NumbersLemmas.{Rises-with_number}
 use Rattle.rm_destination.specs.Incoming.{numbers_of, with_message}
-use Rattle.rm_destination.specs.Added.{AddsMessage}
+use Rattle.rm_destination.specs.Added.{IsNew, AddsMessage}
 
 -- the first of a list is in it
 pub Contains-first : {A : Type 0} → (x : A) (xs : List A) → Contains (x ∷ xs) x
@@ -82,11 +82,11 @@ with_message-only (m ∷ ms) n p x h =
     ] h
 
 -- a new message is added, and nothing else changes
-pub with_message-AddsMessage : (ms : List (ℕ × Payload)) (n : ℕ) (p : Payload) → IsRising (numbers_of ms) → 0 < n
-    → has_number (numbers_of ms) n ≡ false → AddsMessage ms (with_message ms n p) n p
-with_message-AddsMessage ms n p rises from_one is_new = record {
+pub with_message-AddsMessage : (ms : List (ℕ × Payload)) (n : ℕ) (p : Payload) → IsNew ms n
+    → AddsMessage ms (with_message ms n p) n p
+with_message-AddsMessage ms n p new = record {
   kept = with_message-kept ms n p;
-  added = with_message-added ms n p is_new;
+  added = with_message-added ms n p new.none;
   only = with_message-only ms n p;
-  rising = rw (numbers_of-with_message ms n p) (Rises-with_number 0 n (numbers_of ms) rises from_one);
+  rising = rw (numbers_of-with_message ms n p) (Rises-with_number 0 n (numbers_of ms) new.rising new.from_one);
 }

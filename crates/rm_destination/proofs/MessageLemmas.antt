@@ -100,12 +100,13 @@ inbox_after-item n (m ∷ ms) i (suc k) p r l e g =
     ] refl g
 
 -- the inbox of rising messages holds what was received up to the front
-pub inbox_after-IsInbox : (ms : List (ℕ × Payload)) → IsRising (numbers_of ms)
-    → IsInbox ms (front_of (numbers_of ms)) (inbox_after 0 ms)
-inbox_after-IsInbox ms r = record {
-  len = omega (arith, length-inbox_after 0 ms);
-  item = λ i p there within.
-      let from_one : 0 < i = Rises-item 0 ms i there.0 p r there.1 there.2 in
-      let other : (i == 0) ≡ false = grind (arith, nat_tests) in
-      rw other (inbox_after-item 0 ms i there.0 p r there.1 there.2 within);
-}
+pub inbox_after-IsInbox : (ms : List (ℕ × Payload)) → IsRising (numbers_of ms) → IsInbox ms (inbox_after 0 ms)
+inbox_after-IsInbox ms r =
+    let all : 0 + length (inbox_after 0 ms) ≡ front_of (numbers_of ms) = length-inbox_after 0 ms in
+    record {
+      len = omega arith;
+      item = λ i p there within.
+          let from_one : 0 < i = Rises-item 0 ms i there.0 p r there.1 there.2 in
+          let other : (i == 0) ≡ false = grind (arith, nat_tests) in
+          rw other (inbox_after-item 0 ms i there.0 p r there.1 there.2 (omega arith));
+    }
