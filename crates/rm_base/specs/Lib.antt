@@ -1,3 +1,4 @@
 pub mod Count
+pub mod Numbered
 pub mod Numbers
 pub mod Outside

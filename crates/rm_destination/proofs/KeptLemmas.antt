@@ -9,7 +9,8 @@ use Rattle.std.proofs.lemmas.Slice.Zip.{firsts-zip}
 use Rattle.rm_base.specs.declared.message.Payload.{Payload}
 use Rattle.rm_base.specs.Numbers.{with_number, front_of}
 use Rattle.rm_base.proofs.NumbersLemmas.{with_number-at}
-use Rattle.rm_destination.specs.Incoming.{numbers_of, with_message, inbox_after, numbered}
+use Rattle.rm_destination.specs.Incoming.{numbers_of, with_message, inbox_after}
+use Rattle.rm_base.specs.Numbered.{numbered}
 use Rattle.rm_destination.specs.Kept.{GoesAt}
 use Rattle.rm_destination.proofs.FrontLemmas.{front_after-to}
 use Rattle.rm_destination.proofs.MessageLemmas.{with_message-zip, inbox_after-zip, length-inbox_after}

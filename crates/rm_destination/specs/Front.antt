@@ -2,7 +2,8 @@
 use Rattle.std.specs.Prelude.{◌≡◌, ℕ, ◌<◌, ◌≤◌, List, length, Some, Contains}
 use Rattle.rm_base.specs.declared.message.Payload.{Payload}
 use Rattle.rm_base.specs.Numbers.{front_of}
-use Rattle.rm_destination.specs.Incoming.{numbers_of, numbered}
+use Rattle.rm_destination.specs.Incoming.{numbers_of}
+use Rattle.rm_base.specs.Numbered.{numbered}
 
 -- each number from 1 to m is among the numbers
 abbrev pub HasAllTo : List ℕ → ℕ → Type 0

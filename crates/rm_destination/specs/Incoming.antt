@@ -43,10 +43,6 @@ inbox_after n (m ∷ ms) = if m.0 == n + 1 then m.1 ∷ inbox_after m.0 ms else 
 abbrev pub inbox_of : Receiving → List Payload
 inbox_of r = inbox_after 0 r.received
 
--- the item with a number, counted from 1, where there is one
-abbrev pub numbered : {A : Type 0} → List A → ℕ → Option A
-numbered items number = if number == 0 then None else slice_get items (number - 1)
-
 -- the moment is at or past the deadline
 abbrev pub is_over : Option ℕ → ℕ → Bool
 is_over None now = false

@@ -2,7 +2,8 @@ ghost use Rattle.std.specs.Prelude.{◌≡◌, ◌+◌, ◌≤◌, ◌<◌, [], 
 ghost use Rattle.std.specs.List.{zip};
 ghost use Rattle.std.specs.Option.{option_copied};
 ghost use Rattle.rm_base.specs.Numbers.{IsRising, has_number, front_of, front_after};
-ghost use Rattle.rm_destination.specs.Incoming.{Receiving, numbers_of, inbox_of, numbered, phase_of, kind_of, took_of, after_take, IsTakeError};
+ghost use Rattle.rm_destination.specs.Incoming.{Receiving, numbers_of, inbox_of, phase_of, kind_of, took_of, after_take, IsTakeError};
+ghost use Rattle.rm_base.specs.Numbered.{numbered};
 ghost use Rattle.rm_destination.specs.Kept.{IsKept, GoesAt};
 
 use crate::outcome::{DestError, InPhase, Took};

@@ -1,7 +1,7 @@
 ghost use Rattle.std.specs.Prelude.{◌≡◌, ◌+◌, ◌++◌, ◌≤◌, ◌<◌, [], ◌∷◌, length, unwrap_or, IfOk, IfErr, IfSome, OnOk, OnErr};
 ghost use Rattle.std.specs.Option.{option_copied};
 ghost use Rattle.rm_base.specs.Numbers.{united, brings_new, greatest_of};
-ghost use Rattle.rm_source.specs.Numbered.{numbered};
+ghost use Rattle.rm_base.specs.Numbered.{numbered};
 ghost use Rattle.rm_source.specs.Outgoing.{Sending, unacked_of, room_refusal, accept_refusal, learn_refusal};
 
 use crate::error::SourceError;

@@ -7,7 +7,7 @@ use Rattle.std.proofs.lemmas.Bool.Decides.{nat_tests}
 use Rattle.rm_base.specs.Numbers.{has_number, with_number, front_of, IsRising}
 use Rattle.rm_base.specs.declared.message.Payload.{Payload}
 use Rattle.rm_base.proofs.NumbersLemmas.{Rises-with_number, lt-or-le}
-use Rattle.rm_source.specs.Numbered.{numbered}
+use Rattle.rm_base.specs.Numbered.{numbered}
 use Rattle.rm_destination.specs.Incoming.{Receiving, numbers_of, with_message, received_front, kind_of, after_take, inbox_after, inbox_of}
 use Rattle.rm_destination.specs.declared.outcome.Took.{Took}
 use Rattle.rm_destination.specs.declared.outcome.Took.TheVariants.{New, Duplicate, PastWindow}
@@ -50,7 +50,8 @@ released-next ms n payload r h next =
     let numbers : numbers_of (with_message ms n payload) ≡ with_number (numbers_of ms) n = numbers_of-with_message ms n payload in
     let rising : IsRising (numbers_of (with_message ms n payload)) = rw numbers (Rises-with_number 0 n (numbers_of ms) r (omega arith)) in
     let reached : n ≤ front_of (numbers_of (with_message ms n payload)) = rw numbers (front_of-reaches (numbers_of ms) n r next) in
-    (inbox_after-IsInbox (with_message ms n payload) rising).item n payload (Contains-with_message ms n payload h) reached
+    let inbox = inbox_after-IsInbox (with_message ms n payload) rising in
+    inbox.item n payload (Contains-with_message ms n payload h) (omega (arith, reached, inbox.len))
 
 -- what a sound world does at a line
 pub IsSound-Releases : (w : World) (event : Event) → IsSound w → Releases w event

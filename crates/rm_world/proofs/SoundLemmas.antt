@@ -7,7 +7,7 @@ use Rattle.std.proofs.lemmas.Bool.Decides.{nat_tests}
 use Rattle.rm_base.specs.Numbers.{has_number, with_number, united, greatest_of, IsRising, Rises}
 use Rattle.rm_base.specs.declared.message.Payload.{Payload}
 use Rattle.rm_base.proofs.NumbersLemmas.{Rises-with_number}
-use Rattle.rm_source.specs.Numbered.{numbered}
+use Rattle.rm_base.specs.Numbered.{numbered}
 use Rattle.rm_source.specs.Outgoing.{accept_refusal}
 use Rattle.rm_destination.specs.Incoming.{numbers_of, with_message, kind_of, after_take, inbox_after, inbox_of}
 use Rattle.rm_destination.specs.declared.outcome.Took.{Took}

@@ -3,7 +3,7 @@ use Rattle.std.proofs.Common.{◌≡◌, ℕ, suc, ◌+◌, ◌<◌, List, [], �
 use Rattle.std.specs.Prelude.{Some, slice_get}
 use Rattle.hex.specs.Hex.{encode_lower}
 use Rattle.rm_base.specs.declared.message.Payload.{Payload}
-use Rattle.rm_source.specs.Numbered.{numbered}
+use Rattle.rm_base.specs.Numbered.{numbered}
 use Rattle.rm_world.specs.Report.{items_text}
 use Rattle.rm_world.proofs.ListLemmas.{numbered-next, take-numbered, slice_get-within}
 use Rattle.rm_world.proofs.ReportLemmas.{items_text-push}

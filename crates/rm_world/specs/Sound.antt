@@ -3,7 +3,7 @@ use Rattle.std.specs.Prelude.{◌≡◌, ℕ, ◌≤◌, true, List, length, Som
 use Rattle.std.specs.List.{AllByRecursion}
 use Rattle.rm_base.specs.Numbers.{IsRising, has_number, greatest_of}
 use Rattle.rm_base.specs.declared.message.Payload.{Payload}
-use Rattle.rm_source.specs.Numbered.{numbered}
+use Rattle.rm_base.specs.Numbered.{numbered}
 use Rattle.rm_destination.specs.Incoming.{numbers_of}
 use Rattle.rm_world.specs.declared.packet.PlainPacket.{PlainPacket}
 use Rattle.rm_world.specs.declared.packet.PlainPacket.TheVariants.{Data, Ack}

@@ -1,7 +1,7 @@
 ghost use Rattle.std.specs.Prelude.{◌≡◌, ◌⊎◌, ◌<◌, ◌≤◌, length, Some, None, IfOk, OnOk, OnErr};
 ghost use Rattle.std.specs.Option.{option_copied};
 ghost use Rattle.rm_base.specs.Numbers.{united, brings_new, greatest_of};
-ghost use Rattle.rm_source.specs.Numbered.{numbered};
+ghost use Rattle.rm_base.specs.Numbered.{numbered};
 ghost use Rattle.rm_destination.specs.Incoming.{kind_of, after_take};
 ghost use Rattle.rm_world.specs.Stage.{world_of};
 ghost use Rattle.rm_world.specs.Sound.{IsSound};
