@@ -1,5 +1,5 @@
 -- What sources and sinks show to contracts.
-use Rattle.std.specs.Prelude.{◌≡◌, ℕ, ◌+◌, ◌<◌, ◌≤◌, ◌++◌, Bool, true, false, cond, if◌then◌else◌, ◌&&◌, ◌==◌, nat_lt, min, List, length, take, drop, Option, Result, Ok, Err}
+use Rattle.std.specs.Prelude.{ℕ, ◌≤◌, ◌++◌, Bool, true, if◌then◌else◌, ◌&&◌, ◌==◌, nat_lt, min, List, length, take, drop, Option, Result, Ok, Err}
 use Rattle.std.specs.Io.KnownBytes.{Appends, Consumes}
 use Rattle.rm_base.specs.Count.{raised_by}
 use Rattle.rm_base.specs.Numbers.{has_number}
