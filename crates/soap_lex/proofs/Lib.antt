@@ -1,0 +1,4 @@
+pub mod AnswerLemmas
+pub mod CharsLemmas
+pub mod HoldsLemmas
+pub mod WordLemmas
