@@ -1,6 +1,7 @@
 -- What the searches of tokens answer.
-use Rattle.std.proofs.Common.{◌≡◌, ◌≢◌, ℕ, zero, suc, ◌+◌, ◌<◌, ◌≤◌, Bool, true, false, not, ◌||◌, ◌==◌, List, [], ◌∷◌, ◌++◌, length, get_or, take, drop, Some, None, Option, is_some, refl, sym, ap, ◌∙◌, arith}
-use Rattle.std.specs.Prelude.{IsTrue}
+use Rattle.std.proofs.Common.{◌≡◌, ◌≢◌, ℕ, zero, suc, ◌+◌, ◌<◌, ◌≤◌, Bool, true, false, not, ◌||◌, ◌==◌, List, [], ◌∷◌, ◌++◌, length, get_or, take, drop, Some, None, Option, is_some, refl, sym, ap, ◌∙◌, arith, Bor}
+use Rattle.std.specs.Prelude.{IsTrue, IfSome, IfNone, MatchOption}
+use Rattle.std.proofs.lemmas.List.{append_cancel_left}
 use Rattle.std.specs.Str.{NonePass}
 use Rattle.memchr.specs.Find.{IsFirstByte, FindsNeedle, is_byte, is_byte2, is_byte3}
 use Rattle.soap_lex.specs.Characters.{Holds}
@@ -83,3 +84,15 @@ pub lacks_answer3 : (p q s : ℕ) (bytes : List ℕ) (r : Option ℕ) (b : Bool)
 lacks_answer3 p q s bytes r b e found =
     let both = none_answer (is_byte3 p q s) bytes r b e found in
     (λ is. split3 p q s bytes (both.0 is), λ lacks. both.1 (join3 p q s bytes lacks.0 lacks.1 lacks.2))
+
+-- what stands between two words: a search for the first, then for the last
+pub between_found : (bytes before mid after : List ℕ) (r : Option (Bor (List ℕ))) → bytes ≡ before ++ mid
+    → MatchOption r ((front : List ℕ) → mid ≢ front ++ after) (λ x. mid ≡ x.now ++ after) → IfSome r (λ inner. bytes ≡ before ++ (inner.now ++ after))
+between_found bytes before mid after None there back = tt
+between_found bytes before mid after (Some inner) there back = there ∙ ap (λ l. before ++ l) back
+
+pub between_none : (bytes before mid after : List ℕ) (r : Option (Bor (List ℕ))) → bytes ≡ before ++ mid
+    → MatchOption r ((front : List ℕ) → mid ≢ front ++ after) (λ x. mid ≡ x.now ++ after)
+    → IfNone r ((inner : List ℕ) → bytes ≡ before ++ (inner ++ after) → ⊥)
+between_none bytes before mid after None there back = λ inner e. back inner (append_cancel_left before mid (inner ++ after) (sym there ∙ e))
+between_none bytes before mid after (Some x) there back = tt

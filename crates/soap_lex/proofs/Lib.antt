@@ -1,4 +1,6 @@
 pub mod AnswerLemmas
 pub mod CharsLemmas
 pub mod HoldsLemmas
+pub mod NumberLemmas
+pub mod ReferenceLemmas
 pub mod WordLemmas
