@@ -1,6 +1,7 @@
 pub mod AnswerLemmas
 pub mod CharsLemmas
 pub mod HoldsLemmas
+pub mod LineLemmas
 pub mod NumberLemmas
 pub mod ReferenceLemmas
 pub mod WordLemmas

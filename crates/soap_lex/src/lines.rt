@@ -1,6 +1,6 @@
-ghost use Rattle.std.specs.Prelude.{◌≡◌, ◌++◌, OnOk, OnErr};
-ghost use Rattle.soap_lex.specs.Text.{with_line_ends};
-ghost use Rattle.soap_lex.specs.Value.{with_spaces};
+ghost use Rattle.std.specs.Prelude.{◌≡◌, ◌≤◌, ◌++◌, true, false, length, take, map, OnOk, OnErr};
+ghost use Rattle.soap_lex.specs.Text.{with_line_ends, line_ends_after};
+ghost use Rattle.soap_lex.specs.Value.{with_spaces, space_of};
 
 use crate::Memory;
 use memchr::memchr;
@@ -32,7 +32,10 @@ pub fn push_spaces(bytes: &[u8], out: &mut Vec<u8>) -> Result<(), Memory>
 }
 
 // appends line by line, up to a want of memory
-fn push_lines(bytes: &[u8], out: &mut Vec<u8>) -> Result<(), Memory> {
+fn push_lines(bytes: &[u8], out: &mut Vec<u8>) -> Result<(), Memory>
+    ensures ok { OnOk result (out.new.items ≡ out.old.items ++ with_line_ends bytes.now) }
+    ensures err { OnErr result (take (length out.old.items) out.new.items ≡ out.old.items) }
+{
     let mut rest = bytes;
     while let Some(end) = memchr(b'\r', rest) {
         out.extend_from_slice(&rest[..end])?;
@@ -44,7 +47,10 @@ fn push_lines(bytes: &[u8], out: &mut Vec<u8>) -> Result<(), Memory> {
 }
 
 // what follows a CR, without an LF at its front
-fn after_line_end(bytes: &[u8]) -> &[u8] {
+fn after_line_end(bytes: &[u8]) -> &[u8]
+    ensures same { line_ends_after false result.now ≡ line_ends_after true bytes.now }
+    ensures bound { length result.now ≤ length bytes.now }
+{
     match bytes {
         [b'\n', after @ ..] => after,
         _ => bytes,
@@ -52,10 +58,17 @@ fn after_line_end(bytes: &[u8]) -> &[u8] {
 }
 
 // each tab and LF becomes a space
-fn blank(bytes: &mut [u8]) {
+fn blank(bytes: &mut [u8])
+    ensures { bytes.new ≡ map space_of bytes.old }
+{
     for byte in bytes.iter_mut() {
-        if *byte == b'\t' || *byte == b'\n' {
-            *byte = b' ';
-        }
+        *byte = space_for(*byte);
     }
+}
+
+#[inline]
+fn space_for(byte: u8) -> u8
+    ensures { result ≡ space_of byte }
+{
+    if byte == b'\t' || byte == b'\n' { b' ' } else { byte }
 }
