@@ -1,5 +1,6 @@
 pub mod AnswerLemmas
 pub mod CharsLemmas
+pub mod EscapeLemmas
 pub mod HoldsLemmas
 pub mod LineLemmas
 pub mod NumberLemmas
