@@ -3,6 +3,7 @@ use Rattle.std.proofs.Common.{◌≡◌, ◌≢◌, ℕ, zero, suc, Bool, true, 
 use Rattle.std.specs.Prelude.{◌⊎◌}
 use Rattle.std.specs.Str.{NonePass}
 use Rattle.soap_lex.specs.Characters.{Holds}
+use Rattle.soap_lex.specs.Cut.{Stops}
 use Rattle.soap_lex.proofs.HoldsLemmas.{Holds-cons, Holds-cases}
 
 -- a word of this form stands in front of bytes that hold it further on: then the bytes between hold it as well
@@ -26,11 +27,6 @@ same_before p q ne (c ∷ a) (d ∷ b) x y la lb e =
     let heads : c ≡ d = cc in
     let (left, right) = same_before p q ne a b x y (lacks_tail c a (p ∷ p ∷ q ∷ []) la) (lacks_tail d b (p ∷ p ∷ q ∷ []) lb) tails in
     (cc, right)
-
--- the bytes are none, or the first passes the test
-abbrev pub Stops : (ℕ → Bool) → List ℕ → Type 0
-Stops test [] = Unit {0}
-Stops test (x ∷ rest) = test x ≡ true
 
 -- the bytes before the first that passes
 pub same_run : (test : ℕ → Bool) (a b x y : List ℕ) → NonePass test a → NonePass test b → Stops test x → Stops test y → a ++ x ≡ b ++ y → (a ≡ b) × (x ≡ y)

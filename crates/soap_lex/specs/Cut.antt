@@ -1,5 +1,10 @@
--- Where text ends in the bytes, and an attribute value.
-use Rattle.std.specs.Prelude.{◌≡◌, ◌⊎◌, ℕ, ◌-◌, ◌≤◌, List, [], ◌∷◌, ◌++◌, length, take, drop, codes}
+-- Where text, an attribute value and a name end in the bytes.
+use Rattle.std.specs.Prelude.{
+  ◌≡◌, ◌⊎◌, ℕ, ◌-◌, ◌≤◌, Bool, true, List, [], ◌∷◌, ◌++◌, length, take, drop, codes, encode_utf8, encode_utf8_all, IsTrue, ⊤}
+use Rattle.std.specs.List.{AllByRecursion}
+use Rattle.xml_chars.specs.Classes.{is_name_char}
+use Rattle.soap_lex.specs.declared.error.LexError.{LexError}
+use Rattle.soap_lex.specs.declared.error.LexError.TheVariants.{Memory, NotProfile}
 use Rattle.soap_lex.specs.Text.{IsText}
 use Rattle.soap_lex.specs.Value.{IsValue}
 
@@ -35,3 +40,26 @@ pub record ReadsValue (bytes : List ℕ) (at end : ℕ) (old new : List ℕ) : T
   pub high : end ≤ length bytes
   pub first : IsValueFirst (drop at bytes) (take (end - at) (drop at bytes)) (drop end bytes) meaning
   pub appended : new ≡ old ++ meaning
+
+-- P holds where the error says that the bytes are refused
+abbrev pub OnRefusal : LexError → Type 0 → Type 0
+OnRefusal Memory P = ⊤
+OnRefusal NotProfile P = P
+
+-- the first byte passes the test
+abbrev pub Begins : (ℕ → Bool) → List ℕ → Type 0
+Begins test [] = ⊥
+Begins test (x ∷ bytes) = test x ≡ true
+
+-- there is no byte, or the first passes the test
+abbrev pub Stops : (ℕ → Bool) → List ℕ → Type 0
+Stops test [] = ⊤
+Stops test (x ∷ bytes) = test x ≡ true
+
+-- the first n bytes are characters that may stand in a name, and no such character follows
+pub record IsNameRun (text : List ℕ) (n : ℕ) : Type 0 where
+  pub characters : List ℕ
+  pub each : AllByRecursion (λ c. IsTrue (is_name_char c)) characters
+  pub there : text ≡ encode_utf8_all characters ++ drop n text
+  pub size : length (encode_utf8_all characters) ≡ n
+  pub ends : (c : ℕ) (more : List ℕ) → drop n text ≡ encode_utf8 c ++ more → IsTrue (is_name_char c) → ⊥

@@ -1,32 +1,24 @@
 ghost use Rattle.std.specs.Prelude.{
-  ◌≡◌,
-  ℕ,
-  ◌+◌,
-  ◌≤◌,
-  List,
-  ◌++◌,
-  length,
-  take,
-  drop,
-  ◌-◌,
-  IfOk,
-  IfSome,
-  IfNone,
-  OnErr,
-  MatchResult,
+    ◌≡◌, ◌⊎◌, ℕ, ◌+◌, ◌-◌, ◌<◌, ◌≤◌, List, [], ◌∷◌, ◌++◌, length, take, drop, codes, encode_utf8, IfOk, IfErr, IfSome, IfNone,
+    OnOk, OnErr, MatchResult, IsTrue,
 };
 ghost use Rattle.std.specs.Str.{IsUtf8};
+ghost use Rattle.memchr.specs.Find.{is_byte2, is_byte3};
 ghost use Rattle.soap_lex.specs.Characters.{IsName, IsLongestName};
-ghost use Rattle.soap_lex.specs.Cut.{IsTextFirst, IsValueFirst, ReadsText, ReadsValue};
+ghost use Rattle.soap_lex.specs.Cut.{
+    Begins, EndsText, IsNameRun, IsTextFirst, IsValueFirst, OnRefusal, ReadsText, ReadsValue, Stops,
+};
+ghost use Rattle.soap_lex.specs.References.{IsReference};
+ghost use Rattle.soap_lex.specs.Text.{IsCharData, IsCdata, IsComment, IsMarkup, with_line_ends};
+ghost use Rattle.soap_lex.specs.Value.{IsInner, IsPlainValue, with_spaces};
 ghost use Rattle.soap_lex.specs.declared.error.LexError.TheVariants.{Memory as WantsMemory};
 
 use crate::references::reference_at;
-use crate::{
-    LexError, is_cdata, is_char_data, is_comment, is_plain_value, push_line_ends, push_spaces,
-};
+use crate::tokens::begins_name;
+use crate::{LexError, Memory, is_cdata, is_char_data, is_comment, is_plain_value, push_line_ends, push_spaces};
 use memchr::{memchr2, memchr3, memmem};
 use std::str;
-use xml_chars::{is_name_char, is_name_start};
+use xml_chars::is_name_char;
 
 /// How many bytes the longest front has that is UTF-8.
 pub fn utf8_prefix(bytes: &[u8]) -> usize
@@ -50,19 +42,34 @@ pub fn read_name(bytes: &[u8], at: usize) -> Option<usize>
 {
     // SAFETY: the bytes from there on are UTF-8, as the caller shows; a test would read them all for each name.
     let text = unsafe { str::from_utf8_unchecked(&bytes[at..]) };
-    let mut end = at;
-    for c in text.chars() {
-        let goes_on = if end == at {
-            is_name_start(c)
-        } else {
-            is_name_char(c)
-        };
-        if !goes_on {
-            break;
+    match name_len(text) {
+        Some(len) => Some(at + len),
+        None => None,
+    }
+}
+
+// how many bytes the longest name at the front has
+fn name_len(text: &str) -> Option<usize>
+    ensures bound { IfSome result (λ n. n ≤ length text.now) }
+    ensures found { IfSome result (λ n. IsLongestName text.now (take n text.now) (drop n text.now)) }
+    ensures none { IfNone result ((name rest : List ℕ) → text.now ≡ name ++ rest → IsName name → ⊥) }
+{
+    if begins_name(text) { Some(name_chars_len(text)) } else { None }
+}
+
+// how many bytes the characters at the front have that may stand in a name
+fn name_chars_len(text: &str) -> usize
+    ensures { IsNameRun text.now result }
+{
+    let mut characters = text.chars();
+    let mut end = 0;
+    while let Some(c) = characters.next() {
+        if !is_name_char(c) {
+            return end;
         }
         end += c.len_utf8();
     }
-    if end == at { None } else { Some(end) }
+    end
 }
 
 /// Appends what the text at that place means, and gives its end: the next `<` that begins no CDATA section and no
@@ -102,19 +109,27 @@ pub fn read_attr(bytes: &[u8], at: usize, out: &mut Vec<u8>) -> Result<usize, Le
 }
 
 // appends what the text at the front means, and gives what follows it
-fn push_text<'a>(bytes: &'a [u8], out: &mut Vec<u8>) -> Result<&'a [u8], LexError> {
+fn push_text<'a>(bytes: &'a [u8], out: &mut Vec<u8>) -> Result<&'a [u8], LexError>
+    ensures found { IfOk result (λ rest. (text : List ℕ) × (meaning : List ℕ) × IsTextFirst bytes.now text rest.now meaning × (out.new.items ≡ out.old.items ++ meaning)) }
+    ensures only { IfOk result (λ left. (text rest meaning : List ℕ) → IsTextFirst bytes.now text rest meaning → rest ≡ left.now) }
+    ensures refused { IfErr result (λ error. OnRefusal error ((text rest meaning : List ℕ) → IsTextFirst bytes.now text rest meaning → ⊥)) }
+    ensures err { OnErr result (take (length out.old.items) out.new.items ≡ out.old.items) }
+{
     let mut rest = bytes;
     loop {
-        rest = push_char_data(rest, out)?;
-        if ends_text(rest) {
-            return Ok(rest);
+        let markup = push_char_data(rest, out)?;
+        if ends_text(markup) {
+            return Ok(markup);
         }
-        rest = push_markup(rest, out)?;
+        rest = push_markup(markup, out)?;
     }
 }
 
 // text ends before these bytes
-fn ends_text(bytes: &[u8]) -> bool {
+fn ends_text(bytes: &[u8]) -> bool
+    ensures yes { IsTrue result → EndsText bytes.now }
+    ensures no { EndsText bytes.now → IsTrue result }
+{
     match bytes {
         [] => true,
         [b'<', b'!', b'-', b'-', ..] => false,
@@ -124,59 +139,84 @@ fn ends_text(bytes: &[u8]) -> bool {
 }
 
 // the character data up to the next markup or the end
-fn push_char_data<'a>(bytes: &'a [u8], out: &mut Vec<u8>) -> Result<&'a [u8], LexError> {
-    let end = memchr2(b'<', b'&', bytes).unwrap_or(bytes.len());
-    let run = &bytes[..end];
+fn push_char_data<'a>(bytes: &'a [u8], out: &mut Vec<u8>) -> Result<&'a [u8], LexError>
+    ensures found { IfOk result (λ rest. (run : List ℕ) × (bytes.now ≡ run ++ rest.now) × IsCharData run × Stops (is_byte2 60 38) rest.now × (out.new.items ≡ out.old.items ++ with_line_ends run)) }
+    ensures refused { IfErr result (λ error. OnRefusal error ((run rest : List ℕ) → bytes.now ≡ run ++ rest → IsCharData run → Stops (is_byte2 60 38) rest → ⊥)) }
+    ensures err { OnErr result (out.new.items ≡ out.old.items) }
+{
+    let end = match memchr2(b'<', b'&', bytes) {
+        Some(end) => end,
+        None => bytes.len(),
+    };
+    let (run, rest) = bytes.split_at(end);
     if !is_char_data(run) {
         return Err(LexError::NotProfile);
     }
     push_line_ends(run, out)?;
-    Ok(&bytes[end..])
+    Ok(rest)
 }
 
 // the markup at the front
-fn push_markup<'a>(bytes: &'a [u8], out: &mut Vec<u8>) -> Result<&'a [u8], LexError> {
-    match bytes {
-        [b'<', b'!', b'-', b'-', after @ ..] => after_comment(after),
-        [
-            b'<',
-            b'!',
-            b'[',
-            b'C',
-            b'D',
-            b'A',
-            b'T',
-            b'A',
-            b'[',
-            after @ ..,
-        ] => push_cdata(after, out),
-        _ => push_reference(bytes, out),
+fn push_markup<'a>(bytes: &'a [u8], out: &mut Vec<u8>) -> Result<&'a [u8], LexError>
+    ensures found { IfOk result (λ rest. (markup : List ℕ) × (meaning : List ℕ) × (bytes.now ≡ markup ++ rest.now) × IsMarkup markup meaning × (out.new.items ≡ out.old.items ++ meaning)) }
+    ensures refused { IfErr result (λ error. OnRefusal error ((markup rest meaning : List ℕ) → bytes.now ≡ markup ++ rest → IsMarkup markup meaning → ⊥)) }
+    ensures err { OnErr result (out.new.items ≡ out.old.items) }
+{
+    if let Some(inside) = after(b"<!--", bytes) {
+        return match after_comment(inside) {
+            Some(rest) => Ok(rest),
+            None => Err(LexError::NotProfile),
+        };
     }
+    if let Some(inside) = after(b"<![CDATA[", bytes) {
+        return push_cdata(inside, out);
+    }
+    push_reference(bytes, out)
 }
 
-fn after_comment(bytes: &[u8]) -> Result<&[u8], LexError> {
+// what follows the word at the front
+fn after<'a>(word: &[u8], bytes: &'a [u8]) -> Option<&'a [u8]>
+    ensures found { IfSome result (λ rest. bytes.now ≡ word.now ++ rest.now) }
+    ensures none { IfNone result ((rest : List ℕ) → bytes.now ≡ word.now ++ rest → ⊥) }
+{
+    bytes.strip_prefix(word)
+}
+
+// what follows the comment whose inside is at the front
+fn after_comment(bytes: &[u8]) -> Option<&[u8]>
+    ensures found { IfSome result (λ rest. (inside : List ℕ) × (bytes.now ≡ inside ++ (codes "-->" ++ rest.now)) × IsComment inside) }
+    ensures none { IfNone result ((inside rest : List ℕ) → bytes.now ≡ inside ++ (codes "-->" ++ rest) → IsComment inside → ⊥) }
+{
     let Some(end) = memmem::find(bytes, b"-->") else {
-        return Err(LexError::NotProfile);
+        return None;
     };
-    if !is_comment(&bytes[..end]) {
-        return Err(LexError::NotProfile);
-    }
-    Ok(&bytes[end + 3..])
+    let (inside, rest) = bytes.split_at(end);
+    if is_comment(inside) { Some(&rest[3..]) } else { None }
 }
 
-fn push_cdata<'a>(bytes: &'a [u8], out: &mut Vec<u8>) -> Result<&'a [u8], LexError> {
+// what the CDATA section means whose inside is at the front
+fn push_cdata<'a>(bytes: &'a [u8], out: &mut Vec<u8>) -> Result<&'a [u8], LexError>
+    ensures found { IfOk result (λ rest. (inside : List ℕ) × (bytes.now ≡ inside ++ (codes "]]>" ++ rest.now)) × IsCdata inside × (out.new.items ≡ out.old.items ++ with_line_ends inside)) }
+    ensures refused { IfErr result (λ error. OnRefusal error ((inside rest : List ℕ) → bytes.now ≡ inside ++ (codes "]]>" ++ rest) → IsCdata inside → ⊥)) }
+    ensures err { OnErr result (out.new.items ≡ out.old.items) }
+{
     let Some(end) = memmem::find(bytes, b"]]>") else {
         return Err(LexError::NotProfile);
     };
-    let inside = &bytes[..end];
+    let (inside, rest) = bytes.split_at(end);
     if !is_cdata(inside) {
         return Err(LexError::NotProfile);
     }
     push_line_ends(inside, out)?;
-    Ok(&bytes[end + 3..])
+    Ok(&rest[3..])
 }
 
-fn push_reference<'a>(bytes: &'a [u8], out: &mut Vec<u8>) -> Result<&'a [u8], LexError> {
+// what the reference at the front means
+fn push_reference<'a>(bytes: &'a [u8], out: &mut Vec<u8>) -> Result<&'a [u8], LexError>
+    ensures found { IfOk result (λ rest. (token : List ℕ) × (c : ℕ) × (bytes.now ≡ token ++ rest.now) × IsReference token c × (out.new.items ≡ out.old.items ++ encode_utf8 c)) }
+    ensures refused { IfErr result (λ error. OnRefusal error ((token rest : List ℕ) (c : ℕ) → bytes.now ≡ token ++ rest → IsReference token c → ⊥)) }
+    ensures err { OnErr result (out.new.items ≡ out.old.items) }
+{
     let Some((c, rest)) = reference_at(bytes) else {
         return Err(LexError::NotProfile);
     };
@@ -184,49 +224,74 @@ fn push_reference<'a>(bytes: &'a [u8], out: &mut Vec<u8>) -> Result<&'a [u8], Le
     Ok(rest)
 }
 
-fn push_char(c: char, out: &mut Vec<u8>) -> Result<(), LexError> {
+fn push_char(c: char, out: &mut Vec<u8>) -> Result<(), Memory>
+    ensures ok { OnOk result (out.new.items ≡ out.old.items ++ encode_utf8 c) }
+    ensures err { OnErr result (out.new.items ≡ out.old.items) }
+{
     let mut room = [0; 4];
-    if out
-        .extend_from_slice(c.encode_utf8(&mut room).as_bytes())
-        .is_err()
-    {
-        return Err(LexError::Memory);
-    }
+    out.extend_from_slice(c.encode_utf8(&mut room).as_bytes())?;
     Ok(())
 }
 
 // appends what the value at the front means, and gives what follows it
-fn push_value<'a>(bytes: &'a [u8], out: &mut Vec<u8>) -> Result<&'a [u8], LexError> {
-    match bytes {
-        [b'"', inner @ ..] => push_inner(b'"', inner, out),
-        [b'\'', inner @ ..] => push_inner(b'\'', inner, out),
-        _ => Err(LexError::NotProfile),
+fn push_value<'a>(bytes: &'a [u8], out: &mut Vec<u8>) -> Result<&'a [u8], LexError>
+    ensures found { IfOk result (λ rest. (value : List ℕ) × (meaning : List ℕ) × IsValueFirst bytes.now value rest.now meaning × (out.new.items ≡ out.old.items ++ meaning)) }
+    ensures only { IfOk result (λ left. (value rest meaning : List ℕ) → IsValueFirst bytes.now value rest meaning → rest ≡ left.now) }
+    ensures refused { IfErr result (λ error. OnRefusal error ((value rest meaning : List ℕ) → IsValueFirst bytes.now value rest meaning → ⊥)) }
+    ensures err { OnErr result (take (length out.old.items) out.new.items ≡ out.old.items) }
+{
+    if let Some(inner) = after(b"\"", bytes) {
+        return push_inner(b'"', inner, out);
     }
+    if let Some(inner) = after(b"'", bytes) {
+        return push_inner(b'\'', inner, out);
+    }
+    Err(LexError::NotProfile)
 }
 
 // what stands before the closing quote
-fn push_inner<'a>(quote: u8, bytes: &'a [u8], out: &mut Vec<u8>) -> Result<&'a [u8], LexError> {
+fn push_inner<'a>(quote: u8, bytes: &'a [u8], out: &mut Vec<u8>) -> Result<&'a [u8], LexError>
+    requires { (quote ≡ 34) ⊎ (quote ≡ 39) }
+    ensures found { IfOk result (λ rest. (inner : List ℕ) × (meaning : List ℕ) × (bytes.now ≡ inner ++ (quote ∷ rest.now)) × IsInner quote inner meaning × (out.new.items ≡ out.old.items ++ meaning)) }
+    ensures only { IfOk result (λ left. (inner rest meaning : List ℕ) → bytes.now ≡ inner ++ (quote ∷ rest) → IsInner quote inner meaning → rest ≡ left.now) }
+    ensures refused { IfErr result (λ error. OnRefusal error ((inner rest meaning : List ℕ) → bytes.now ≡ inner ++ (quote ∷ rest) → IsInner quote inner meaning → ⊥)) }
+    ensures err { OnErr result (take (length out.old.items) out.new.items ≡ out.old.items) }
+{
     let mut rest = bytes;
     loop {
-        rest = push_plain(quote, rest, out)?;
-        if let [first, after @ ..] = rest
-            && *first == quote
-        {
-            return Ok(after);
+        let stop = push_plain(quote, rest, out)?;
+        if let Some(left) = after_byte(quote, stop) {
+            return Ok(left);
         }
-        rest = push_reference(rest, out)?;
+        rest = push_reference(stop, out)?;
+    }
+}
+
+// what follows the byte at the front
+fn after_byte(byte: u8, bytes: &[u8]) -> Option<&[u8]>
+    ensures found { IfSome result (λ rest. bytes.now ≡ byte ∷ rest.now) }
+    ensures none { IfNone result ((rest : List ℕ) → bytes.now ≡ byte ∷ rest → ⊥) }
+{
+    match bytes {
+        [first, rest @ ..] if *first == byte => Some(rest),
+        _ => None,
     }
 }
 
 // the characters up to the next quote or markup
-fn push_plain<'a>(quote: u8, bytes: &'a [u8], out: &mut Vec<u8>) -> Result<&'a [u8], LexError> {
+fn push_plain<'a>(quote: u8, bytes: &'a [u8], out: &mut Vec<u8>) -> Result<&'a [u8], LexError>
+    requires { (quote ≡ 34) ⊎ (quote ≡ 39) }
+    ensures found { IfOk result (λ rest. (run : List ℕ) × (bytes.now ≡ run ++ rest.now) × IsPlainValue quote run × Begins (is_byte3 60 38 quote) rest.now × (out.new.items ≡ out.old.items ++ with_spaces run)) }
+    ensures refused { IfErr result (λ error. OnRefusal error ((run rest : List ℕ) → bytes.now ≡ run ++ rest → IsPlainValue quote run → Begins (is_byte3 60 38 quote) rest → ⊥)) }
+    ensures err { OnErr result (out.new.items ≡ out.old.items) }
+{
     let Some(end) = memchr3(b'<', b'&', quote, bytes) else {
         return Err(LexError::NotProfile);
     };
-    let run = &bytes[..end];
+    let (run, rest) = bytes.split_at(end);
     if !is_plain_value(run, quote) {
         return Err(LexError::NotProfile);
     }
     push_spaces(run, out)?;
-    Ok(&bytes[end..])
+    Ok(rest)
 }

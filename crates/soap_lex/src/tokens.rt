@@ -125,7 +125,7 @@ fn has_name_chars(text: &str) -> bool
 }
 
 // the first character may begin a name
-fn begins_name(text: &str) -> bool
+pub(crate) fn begins_name(text: &str) -> bool
     ensures { result ≡ list_any name_start_class (take 1 (chars text.now)) }
 {
     match text.chars().next() {
