@@ -96,3 +96,14 @@ pub between_none : (bytes before mid after : List ℕ) (r : Option (Bor (List �
     → IfNone r ((inner : List ℕ) → bytes ≡ before ++ (inner ++ after) → ⊥)
 between_none bytes before mid after None there back = λ inner e. back inner (append_cancel_left before mid (inner ++ after) (sym there ∙ e))
 between_none bytes before mid after (Some x) there back = tt
+
+-- what follows a word
+pub after_found : (bytes word : List ℕ) (r : Option (Bor (List ℕ))) → MatchOption r ((rest : List ℕ) → bytes ≢ word ++ rest) (λ x. bytes ≡ word ++ x.now)
+    → IfSome r (λ rest. bytes ≡ word ++ rest.now)
+after_found bytes word None found = tt
+after_found bytes word (Some rest) found = found
+
+pub after_none : (bytes word : List ℕ) (r : Option (Bor (List ℕ))) → MatchOption r ((rest : List ℕ) → bytes ≢ word ++ rest) (λ x. bytes ≡ word ++ x.now)
+    → IfNone r ((rest : List ℕ) → bytes ≡ word ++ rest → ⊥)
+after_none bytes word None found = found
+after_none bytes word (Some rest) found = tt

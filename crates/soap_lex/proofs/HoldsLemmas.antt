@@ -27,6 +27,14 @@ Holds-front bytes back word h = record {
   there = ap (λ l. l ++ back) h.there ∙ append_assoc h.before (word ++ h.after) back ∙ ap (λ l. h.before ++ l) (append_assoc word h.after back);
 }
 
+-- what holds a word holds its front
+pub Holds-shorter : (bytes word more : List ℕ) → Holds bytes (word ++ more) → Holds bytes word
+Holds-shorter bytes word more h = record {
+  before = h.before;
+  after = more ++ h.after;
+  there = h.there ∙ ap (λ l. h.before ++ l) (append_assoc word more h.after);
+}
+
 cases_at : (x : ℕ) (bytes word before after : List ℕ) → x ∷ bytes ≡ before ++ (word ++ after) → ((more : List ℕ) × (x ∷ bytes ≡ word ++ more)) ⊎ Holds bytes word
 cases_at x bytes word [] after e = inl (after, e)
 cases_at x bytes word (y ∷ before) after e = inr (record { before = before; after = after; there = cc })
@@ -149,3 +157,7 @@ Holds-dashes d (x ∷ y ∷ bytes) h =
 
 pub Holds-dash_end : (d : ℕ) (front : List ℕ) → Holds ((front ++ d ∷ []) ++ d ∷ []) (d ∷ d ∷ [])
 Holds-dash_end d front = record { before = front; after = []; there = append_assoc front (d ∷ []) (d ∷ []) }
+
+pub lacks-first : (bytes word : List ℕ) (k : ℕ) → 0 < length word → FindsNeedle bytes word 0 (Some k) → ¬ (Holds (take k bytes) word)
+lacks-first bytes [] k some found = absurd (omega arith)
+lacks-first bytes (w ∷ word) k some found = lacks-before bytes w word k found

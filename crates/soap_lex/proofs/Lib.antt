@@ -3,6 +3,8 @@ pub mod CharsLemmas
 pub mod EscapeLemmas
 pub mod HoldsLemmas
 pub mod LineLemmas
+pub mod MarkupLemmas
 pub mod NumberLemmas
 pub mod ReferenceLemmas
+pub mod TextLemmas
 pub mod WordLemmas

@@ -41,7 +41,7 @@ pub record IsNumber (base : ℕ) (digits : List ℕ) (c : ℕ) : Type 0 where
   pub value : c ≡ digits_value base digits
 
 -- two bytes that differ at a place are not the same
-differ_at : (i : ℕ) (a b : List ℕ) → get_or a i 0 ≢ get_or b i 0 → a ≡ b → ⊥
+pub differ_at : (i : ℕ) (a b : List ℕ) → get_or a i 0 ≢ get_or b i 0 → a ≡ b → ⊥
 differ_at i a b ne e = ne (ap (λ l. get_or l i 0) e)
 
 digit_below : (d : ℕ) → is_ascii_digit d ≡ true → d < 58

@@ -1,9 +1,12 @@
 -- Where a token ends: at the first word of three bytes that no end of its own begins, and at the first byte of a kind.
-use Rattle.std.proofs.Common.{◌≡◌, ◌≢◌, ℕ, zero, suc, Bool, true, false, List, [], ◌∷◌, ◌++◌, refl, sym, ap, ◌∙◌, inl, inr}
+use Rattle.std.proofs.Common.{◌≡◌, ◌≢◌, ℕ, zero, suc, ◌+◌, ◌<◌, ◌≤◌, Bool, true, false, List, [], ◌∷◌, ◌++◌, length, get_or, drop, Some, refl, sym, ap, ◌∙◌, subst, inl, inr, arith, drop-cons}
+use Rattle.std.proofs.lemmas.List.{drop_more}
+use Rattle.std.proofs.lemmas.Slice.Eq.{HasBytesAt}
+use Rattle.memchr.specs.Find.{IsFirstByte}
 use Rattle.std.specs.Prelude.{◌⊎◌}
 use Rattle.std.specs.Str.{NonePass}
 use Rattle.soap_lex.specs.Characters.{Holds}
-use Rattle.soap_lex.specs.Cut.{Stops}
+use Rattle.soap_lex.specs.Cut.{Begins, Stops}
 use Rattle.soap_lex.proofs.HoldsLemmas.{Holds-cons, Holds-cases}
 
 -- a word of this form stands in front of bytes that hold it further on: then the bytes between hold it as well
@@ -40,3 +43,22 @@ same_run test (c ∷ a) (d ∷ b) x y na nb sx sy e =
     let tails : a ++ x ≡ b ++ y = cc in
     let (left, right) = same_run test a b x y na.1 nb.1 sx sy tails in
     (cc, right)
+
+-- the bytes of a word stand at a place
+pub front_bytes : (s word : List ℕ) (i : ℕ) → i + length word ≤ length s → HasBytesAt s i word → (rest : List ℕ) × (drop i s ≡ word ++ rest)
+front_bytes s [] i fits has = (drop i s, refl)
+front_bytes s (c ∷ word) i fits has =
+    let later : (rest : List ℕ) × (drop (suc i) s ≡ word ++ rest) = front_bytes s word (suc i) (omega arith) has.1 in
+    let within : i < length s = omega arith in
+    (later.0, drop-cons s i 0 within ∙ ap (λ x. x ∷ drop (suc i) s) has.0 ∙ ap (λ l. c ∷ l) later.1)
+
+-- a search for a byte splits the bytes
+pub Stops-found : (test : ℕ → Bool) (bytes : List ℕ) (k : ℕ) → IsFirstByte test bytes (Some k) → Begins test (drop k bytes)
+Stops-found test bytes k found =
+    let high : k < length bytes = found.0.high in
+    let P : List ℕ → Type 0 = λ l. Begins test l in
+    subst P (sym (drop_more bytes k 0 high)) found.1
+
+pub Stops-begins : (test : ℕ → Bool) (bytes : List ℕ) → Begins test bytes → Stops test bytes
+Stops-begins test [] h = absurd h
+Stops-begins test (x ∷ bytes) h = h

@@ -2,9 +2,9 @@ ghost use Rattle.std.specs.Prelude.{
     ◌≡◌, ◌⊎◌, ℕ, ◌+◌, ◌-◌, ◌<◌, ◌≤◌, List, [], ◌∷◌, ◌++◌, length, take, drop, codes, encode_utf8, IfOk, IfErr, IfSome, IfNone,
     OnOk, OnErr, MatchResult, IsTrue,
 };
-ghost use Rattle.std.specs.Str.{IsUtf8};
+ghost use Rattle.std.specs.Str.{IsUtf8, NonePass};
 ghost use Rattle.memchr.specs.Find.{is_byte2, is_byte3};
-ghost use Rattle.soap_lex.specs.Characters.{IsName, IsLongestName};
+ghost use Rattle.soap_lex.specs.Characters.{Holds, IsName, IsLongestName};
 ghost use Rattle.soap_lex.specs.Cut.{
     Begins, EndsText, IsNameRun, IsTextFirst, IsValueFirst, OnRefusal, ReadsText, ReadsValue, Stops,
 };
@@ -144,16 +144,24 @@ fn push_char_data<'a>(bytes: &'a [u8], out: &mut Vec<u8>) -> Result<&'a [u8], Le
     ensures refused { IfErr result (λ error. OnRefusal error ((run rest : List ℕ) → bytes.now ≡ run ++ rest → IsCharData run → Stops (is_byte2 60 38) rest → ⊥)) }
     ensures err { OnErr result (out.new.items ≡ out.old.items) }
 {
-    let end = match memchr2(b'<', b'&', bytes) {
-        Some(end) => end,
-        None => bytes.len(),
-    };
-    let (run, rest) = bytes.split_at(end);
+    let (run, rest) = split_markup(bytes);
     if !is_char_data(run) {
         return Err(LexError::NotProfile);
     }
     push_line_ends(run, out)?;
     Ok(rest)
+}
+
+// what stands before the first byte that may begin markup, and the rest
+fn split_markup(bytes: &[u8]) -> (&[u8], &[u8])
+    ensures there { bytes.now ≡ result.0.now ++ result.1.now }
+    ensures none { NonePass (is_byte2 60 38) result.0.now }
+    ensures stops { Stops (is_byte2 60 38) result.1.now }
+{
+    match memchr2(b'<', b'&', bytes) {
+        Some(end) => bytes.split_at(end),
+        None => (bytes, &bytes[bytes.len()..]),
+    }
 }
 
 // the markup at the front
@@ -187,11 +195,23 @@ fn after_comment(bytes: &[u8]) -> Option<&[u8]>
     ensures found { IfSome result (λ rest. (inside : List ℕ) × (bytes.now ≡ inside ++ (codes "-->" ++ rest.now)) × IsComment inside) }
     ensures none { IfNone result ((inside rest : List ℕ) → bytes.now ≡ inside ++ (codes "-->" ++ rest) → IsComment inside → ⊥) }
 {
-    let Some(end) = memmem::find(bytes, b"-->") else {
+    let Some((inside, rest)) = split_first(bytes, b"-->") else {
         return None;
     };
-    let (inside, rest) = bytes.split_at(end);
-    if is_comment(inside) { Some(&rest[3..]) } else { None }
+    if is_comment(inside) { Some(rest) } else { None }
+}
+
+// what stands before the first such word, and what follows it
+fn split_first<'a>(bytes: &'a [u8], word: &[u8]) -> Option<(&'a [u8], &'a [u8])>
+    requires { 0 < length word.now }
+    ensures found { IfSome result (λ parts. (bytes.now ≡ parts.0.now ++ (word.now ++ parts.1.now)) × ¬ (Holds parts.0.now word.now)) }
+    ensures none { IfNone result (¬ (Holds bytes.now word.now)) }
+{
+    let Some(end) = memmem::find(bytes, word) else {
+        return None;
+    };
+    let (before, rest) = bytes.split_at(end);
+    Some((before, &rest[word.len()..]))
 }
 
 // what the CDATA section means whose inside is at the front
@@ -200,15 +220,14 @@ fn push_cdata<'a>(bytes: &'a [u8], out: &mut Vec<u8>) -> Result<&'a [u8], LexErr
     ensures refused { IfErr result (λ error. OnRefusal error ((inside rest : List ℕ) → bytes.now ≡ inside ++ (codes "]]>" ++ rest) → IsCdata inside → ⊥)) }
     ensures err { OnErr result (out.new.items ≡ out.old.items) }
 {
-    let Some(end) = memmem::find(bytes, b"]]>") else {
+    let Some((inside, rest)) = split_first(bytes, b"]]>") else {
         return Err(LexError::NotProfile);
     };
-    let (inside, rest) = bytes.split_at(end);
     if !is_cdata(inside) {
         return Err(LexError::NotProfile);
     }
     push_line_ends(inside, out)?;
-    Ok(&rest[3..])
+    Ok(rest)
 }
 
 // what the reference at the front means

@@ -1,0 +1,6 @@
+use Rattle.std.proofs.Common.{◌≤◌, arith, inl, inr}
+use Rattle.std.proofs.lemmas.Bool.{cases_lt}
+use Rattle.soap_lex.proofs.read.utf8_prefix.Goals as goal
+
+pub returns-in-Err-clause-longest : goal.returns-in-Err-clause-longest
+returns-in-Err-clause-longest c = ?
