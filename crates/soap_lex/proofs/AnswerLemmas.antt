@@ -4,7 +4,10 @@ use Rattle.std.specs.Prelude.{IsTrue, IfSome, IfNone, MatchOption}
 use Rattle.std.proofs.lemmas.List.{append_cancel_left}
 use Rattle.std.specs.Str.{NonePass}
 use Rattle.memchr.specs.Find.{IsFirstByte, FindsNeedle, is_byte, is_byte2, is_byte3}
+use Rattle.soap_lex.specs.declared.error.LexError.{LexError}
+use Rattle.soap_lex.specs.declared.error.LexError.TheVariants.{Memory, NotProfile}
 use Rattle.soap_lex.specs.Characters.{Holds}
+use Rattle.soap_lex.specs.Cut.{OnRefusal}
 use Rattle.soap_lex.proofs.HoldsLemmas.{NonePass-searched, NonePass-lacks, lacks-NonePass, NonePass-weaker, NonePass-join, lacks-searched, OccursAt-there}
 
 two_values : false ≡ true → ⊥
@@ -107,3 +110,8 @@ pub after_none : (bytes word : List ℕ) (r : Option (Bor (List ℕ))) → Match
     → IfNone r ((rest : List ℕ) → bytes ≡ word ++ rest → ⊥)
 after_none bytes word None found = found
 after_none bytes word (Some rest) found = tt
+
+-- a refusal for one reason is one for another
+pub OnRefusal-weaker : (error : LexError) (P Q : Type 0) → (P → Q) → OnRefusal error P → OnRefusal error Q
+OnRefusal-weaker Memory P Q f h = tt
+OnRefusal-weaker NotProfile P Q f h = f h

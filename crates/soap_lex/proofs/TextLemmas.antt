@@ -1,5 +1,5 @@
 -- Text: its parts are determined by the bytes, and what the reader of text has done so far.
-use Rattle.std.proofs.Common.{◌≡◌, ◌≢◌, ℕ, ◌+◌, List, [], ◌∷◌, ◌++◌, length, take, drop, get_or, refl, sym, ap, ◌∙◌, subst, arith, inl, inr, append_assoc}
+use Rattle.std.proofs.Common.{◌≡◌, ◌≢◌, ℕ, ◌+◌, List, [], ◌∷◌, ◌++◌, length, take, drop, get_or, refl, sym, ap, ◌∙◌, subst, arith, inl, inr, append_assoc, ◌<◌, length-append}
 use Rattle.std.specs.Prelude.{◌⊎◌, codes, encode_utf8}
 use Rattle.std.specs.Str.{NonePass}
 use Rattle.std.proofs.lemmas.List.{append-nil}
@@ -78,7 +78,7 @@ markup_goes_on _ _ rest (cdata p ip) ends = ends.no_cdata _ refl
 markup_goes_on _ _ rest (comment p ip) ends = ends.no_comment _ refl
 
 -- character data has no < and no &
-data_run : (bytes : List ℕ) → IsCharData bytes → NonePass (is_byte2 60 38) bytes
+pub data_run : (bytes : List ℕ) → IsCharData bytes → NonePass (is_byte2 60 38) bytes
 data_run bytes is = join2 60 38 bytes is.no_less is.no_ampersand
 
 -- behind its first run, text goes on with this markup
@@ -214,3 +214,15 @@ TextSo-no_markup old out bytes rest first stop so there is stops no_end none tex
       | inl same ↦ let P : List ℕ → Type 0 = λ l. EndsText l in no_end (subst P (sym same) cut.ends)
       | inr goes ↦ none goes.markup (goes.later ++ end) goes.meaning goes.there goes.is
     ]
+
+-- markup is not empty
+markup_some : (markup meaning : List ℕ) → IsMarkup markup meaning → 0 < length markup
+markup_some _ _ (reference a c ia) = let closed = IsClosed-reference a c ia in omega (arith, ap length closed.there)
+markup_some _ _ (cdata p ip) = omega arith
+markup_some _ _ (comment p ip) = omega arith
+
+-- so less is left behind it
+pub less_left : (rest first stop markup meaning after : List ℕ) → rest ≡ first ++ stop → stop ≡ markup ++ after → IsMarkup markup meaning → length after < length rest
+less_left rest first stop markup meaning after there follows is =
+    let some : 0 < length markup = markup_some markup meaning is in
+    omega (arith, ap length there, ap length follows, length-append first stop, length-append markup after)
