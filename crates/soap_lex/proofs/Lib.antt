@@ -7,4 +7,5 @@ pub mod MarkupLemmas
 pub mod NumberLemmas
 pub mod ReferenceLemmas
 pub mod TextLemmas
+pub mod ValueLemmas
 pub mod WordLemmas
