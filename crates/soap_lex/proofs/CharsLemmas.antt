@@ -72,7 +72,7 @@ all-IsChars bytes is =
     ∙ all-each is_char is.characters is.each
 
 -- one after another
-each-append : (p : ℕ → Bool) (xs ys : List ℕ) → AllByRecursion (λ c. IsTrue (p c)) xs → AllByRecursion (λ c. IsTrue (p c)) ys → AllByRecursion (λ c. IsTrue (p c)) (xs ++ ys)
+pub each-append : (p : ℕ → Bool) (xs ys : List ℕ) → AllByRecursion (λ c. IsTrue (p c)) xs → AllByRecursion (λ c. IsTrue (p c)) ys → AllByRecursion (λ c. IsTrue (p c)) (xs ++ ys)
 each-append p [] ys a b = b
 each-append p (x ∷ xs) ys a b = (a.0, each-append p xs ys a.1 b)
 

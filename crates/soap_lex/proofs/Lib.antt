@@ -4,7 +4,9 @@ pub mod EscapeLemmas
 pub mod HoldsLemmas
 pub mod LineLemmas
 pub mod MarkupLemmas
+pub mod NameLemmas
 pub mod NumberLemmas
+pub mod PlaceLemmas
 pub mod ReferenceLemmas
 pub mod TextLemmas
 pub mod ValueLemmas
