@@ -141,3 +141,7 @@ no_name text name rest utf8 other there is =
       there ∙ ap (λ l. l ++ rest) is.coded ∙ append_assoc (encode_utf8 is.first) (encode_utf8_all is.others) rest in
     let head : begins (chars text) ≡ (is_name_start is.first || false) = ap begins (chars_past_char text (encode_utf8_all is.others ++ rest) is.first utf8 first) in
     contradiction (is_name_start is.first || false) (ap (λ b. b || false) is.starts) (sym head ∙ other)
+
+pub empty_rest : (rest : List ℕ) → length rest ≡ 0 → rest ≡ []
+empty_rest [] e = refl
+empty_rest (x ∷ rest) e = absurd (omega arith)
