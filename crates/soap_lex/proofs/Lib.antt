@@ -1,4 +1,5 @@
 pub mod AnswerLemmas
+pub mod BackLemmas
 pub mod CharsLemmas
 pub mod EscapeLemmas
 pub mod HoldsLemmas
@@ -9,5 +10,6 @@ pub mod NumberLemmas
 pub mod PlaceLemmas
 pub mod ReferenceLemmas
 pub mod TextLemmas
+pub mod UniqueLemmas
 pub mod ValueLemmas
 pub mod WordLemmas

@@ -50,7 +50,7 @@ same_markup _ _ x y _ _ (comment p ip) (comment q iq) e =
     (ap (λ l. codes "<!--" ++ (l ++ codes "-->")) same, refl, rests)
 
 -- markup begins with < or &
-markup_stops : (markup meaning rest : List ℕ) → IsMarkup markup meaning → Stops (is_byte2 60 38) (markup ++ rest)
+pub markup_stops : (markup meaning rest : List ℕ) → IsMarkup markup meaning → Stops (is_byte2 60 38) (markup ++ rest)
 markup_stops _ _ rest (reference a c ia) =
     let P : List ℕ → Type 0 = λ l. Stops (is_byte2 60 38) (l ++ rest) in
     let closed = IsClosed-reference a c ia in
@@ -59,7 +59,7 @@ markup_stops _ _ rest (cdata p ip) = refl
 markup_stops _ _ rest (comment p ip) = refl
 
 -- and so does what text ends before
-ends_stops : (rest : List ℕ) → EndsText rest → Stops (is_byte2 60 38) rest
+pub ends_stops : (rest : List ℕ) → EndsText rest → Stops (is_byte2 60 38) rest
 ends_stops rest ends =
     let P : List ℕ → Type 0 = λ l. Stops (is_byte2 60 38) l in
     elim ends.less_or_none [ inl none ↦ subst P (sym none) tt | inr less ↦ subst P (sym less.1) refl ]
@@ -68,7 +68,7 @@ no_cons : {x : ℕ} {l : List ℕ} → [] ≡ x ∷ l → ⊥
 no_cons e = cc
 
 -- text doesn't end before markup
-markup_goes_on : (markup meaning rest : List ℕ) → IsMarkup markup meaning → EndsText (markup ++ rest) → ⊥
+pub markup_goes_on : (markup meaning rest : List ℕ) → IsMarkup markup meaning → EndsText (markup ++ rest) → ⊥
 markup_goes_on _ _ rest (reference a c ia) ends =
     elim ends.less_or_none [
       | inl none ↦ (let closed = IsClosed-reference a c ia in no_cons (sym none ∙ ap (λ l. l ++ rest) closed.there))
@@ -91,7 +91,7 @@ record GoesOn (stop rest : List ℕ) : Type 0 where
   pub is : IsMarkup markup meaning
   pub goes : IsText later after
 
-regroup : (a b c d : List ℕ) → (a ++ (b ++ c)) ++ d ≡ a ++ (b ++ (c ++ d))
+pub regroup : (a b c d : List ℕ) → (a ++ (b ++ c)) ++ d ≡ a ++ (b ++ (c ++ d))
 regroup a b c d = append_assoc a (b ++ c) d ∙ ap (λ l. a ++ l) (append_assoc b c d)
 
 parts_of : (first stop text rest meaning : List ℕ) → IsText text meaning → EndsText rest → text ++ rest ≡ first ++ stop → IsCharData first → Stops (is_byte2 60 38) stop

@@ -12,6 +12,7 @@ use Rattle.soap_lex.specs.References.{IsReference}
 use Rattle.soap_lex.specs.Value.{IsInner, run, more, IsPlainValue, IsValue, double, single, with_spaces}
 use Rattle.soap_lex.proofs.AnswerLemmas.{join3}
 use Rattle.soap_lex.proofs.ReferenceLemmas.{IsClosed-reference, same_reference, differ_at}
+use Rattle.soap_lex.proofs.TextLemmas.{regroup}
 use Rattle.soap_lex.proofs.WordLemmas.{same_run, Stops-begins}
 
 -- the bytes are what stands in quotes, the closing quote and a rest
@@ -20,10 +21,10 @@ pub record IsInnerFirst (quote : ℕ) (bytes inner tail meaning : List ℕ) : Ty
   pub is : IsInner quote inner meaning
 
 -- a quote is a byte that a plain value lacks
-quote_passes : (quote : ℕ) → is_byte3 60 38 quote quote ≡ true
+pub quote_passes : (quote : ℕ) → is_byte3 60 38 quote quote ≡ true
 quote_passes quote = ap (λ b. (quote == 60 || quote == 38) || b) (eq-eqb quote quote refl) ∙ or-true (quote == 60 || quote == 38)
 
-reference_begins : (quote c : ℕ) (token rest : List ℕ) → IsReference token c → Begins (is_byte3 60 38 quote) (token ++ rest)
+pub reference_begins : (quote c : ℕ) (token rest : List ℕ) → IsReference token c → Begins (is_byte3 60 38 quote) (token ++ rest)
 reference_begins quote c token rest is =
     let P : List ℕ → Type 0 = λ l. Begins (is_byte3 60 38 quote) (l ++ rest) in
     let closed = IsClosed-reference token c is in
@@ -33,7 +34,7 @@ pub plain_run : (quote : ℕ) (bytes : List ℕ) → IsPlainValue quote bytes �
 plain_run quote bytes is = join3 60 38 quote bytes is.no_less is.no_ampersand is.no_quote
 
 -- a quote is no &
-not_reference : (quote c : ℕ) (token rest tail : List ℕ) → (quote ≡ 34) ⊎ (quote ≡ 39) → IsReference token c → token ++ rest ≡ quote ∷ tail → ⊥
+pub not_reference : (quote c : ℕ) (token rest tail : List ℕ) → (quote ≡ 34) ⊎ (quote ≡ 39) → IsReference token c → token ++ rest ≡ quote ∷ tail → ⊥
 not_reference quote c token rest tail quotes is e =
     let closed = IsClosed-reference token c is in
     differ_at 0 ((38 ∷ (closed.inner ++ 59 ∷ [])) ++ rest) (quote ∷ tail) (λ same. elim quotes [ inl is34 ↦ omega arith | inr is39 ↦ omega arith ])
@@ -47,9 +48,6 @@ record GoesOn (quote : ℕ) (stop tail : List ℕ) : Type 0 where
   pub there : stop ≡ token ++ (later ++ (quote ∷ tail))
   pub is : IsReference token c
   pub goes : IsInner quote later after
-
-regroup : (a b c d : List ℕ) → (a ++ (b ++ c)) ++ d ≡ a ++ (b ++ (c ++ d))
-regroup a b c d = append_assoc a (b ++ c) d ∙ ap (λ l. a ++ l) (append_assoc b c d)
 
 parts_of : (quote : ℕ) (first stop inner tail meaning : List ℕ) → IsInner quote inner meaning → inner ++ (quote ∷ tail) ≡ first ++ stop
     → IsPlainValue quote first → Stops (is_byte3 60 38 quote) stop → (stop ≡ quote ∷ tail) ⊎ GoesOn quote stop tail
@@ -145,7 +143,7 @@ ValueSo-done quote old out next bytes rest first stop tail so there is ends push
     (so.front ++ first, so.done ++ with_spaces first, cut.there, cut.is,
      pushed ∙ ap (λ l. l ++ with_spaces first) so.appended ∙ append_assoc old so.done (with_spaces first))
 
-same_tail : (x y : ℕ) (a b : List ℕ) → x ∷ a ≡ y ∷ b → a ≡ b
+pub same_tail : (x y : ℕ) (a b : List ℕ) → x ∷ a ≡ y ∷ b → a ≡ b
 same_tail x y a b e = cc
 
 pub ValueSo-only : (quote : ℕ) (old out bytes rest first stop tail : List ℕ) → (quote ≡ 34) ⊎ (quote ≡ 39) → ValueSo quote old out bytes rest

@@ -4,6 +4,7 @@
 #![tactic(auto)]
 
 pub mod error;
+pub mod laws;
 pub mod lines;
 pub mod read;
 pub mod references;
