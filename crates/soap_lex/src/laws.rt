@@ -1,6 +1,6 @@
 //! Laws of the grammar, each the contract of a function that does nothing.
 
-ghost use Rattle.std.specs.Prelude.{◌≡◌, ◌×◌, ℕ, List, [], ◌∷◌, ◌++◌};
+ghost use Rattle.std.specs.Prelude.{◌≡◌, ℕ, List, [], ◌∷◌, ◌++◌};
 ghost use Rattle.soap_lex.specs.Characters.{IsChars};
 ghost use Rattle.soap_lex.specs.Cut.{IsTextFirst, IsValueFirst};
 ghost use Rattle.soap_lex.specs.Escapes.{escaped_text, escaped_value};
