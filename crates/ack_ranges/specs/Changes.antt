@@ -32,5 +32,7 @@ pub record AddsExactly (old new : List Range) (added : ℕ → Bool) : Type 0 wh
   pub canonical : IsCanonical new
 
 -- one of the added numbers isn't among the old ones
-abbrev pub BringsNew : List Range → (ℕ → Bool) → Type 0
-BringsNew old added = (n : ℕ) × IsTrue (added n) × (in_ranges old n ≡ false)
+pub record BringsNew (old : List Range) (added : ℕ → Bool) : Type 0 where
+  pub number : ℕ
+  pub among : IsTrue (added number)
+  pub absent : in_ranges old number ≡ false

@@ -12,6 +12,12 @@ pub record IsPlace (ranges : List Range) (n place : ℕ) : Type 0 where
   pub before : (k : ℕ) → k < place → (range_at ranges k).upper < n
   pub after : (k : ℕ) → place ≤ k → k < length ranges → n ≤ (range_at ranges k).upper
 
+-- the ranges before the place begin at n or earlier, and the others don't
+pub record IsEnd (ranges : List Range) (n place : ℕ) : Type 0 where
+  pub within : place ≤ length ranges
+  pub before : (k : ℕ) → k < place → (range_at ranges k).lower ≤ n
+  pub after : (k : ℕ) → place ≤ k → k < length ranges → n < (range_at ranges k).lower
+
 -- the ranges between two places are those that the numbers from lower to upper meet or touch
 pub record IsSpan (ranges : List Range) (lower upper from to : ℕ) : Type 0 where
   pub rises : from ≤ to

@@ -5,6 +5,7 @@
 
 mod laws;
 mod merge;
+mod missing;
 mod range;
 mod set;
 

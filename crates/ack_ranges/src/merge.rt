@@ -1,4 +1,4 @@
-ghost use Rattle.std.specs.Prelude.{◌≡◌, ℕ, [], ◌∷◌, ◌+◌, ◌<◌, ◌≤◌, length, take, drop, MatchBool, OnOk, OnErr, IsOk, vec_len, vec_capacity};
+ghost use Rattle.std.specs.Prelude.{◌≡◌, ℕ, [], ◌∷◌, ◌+◌, ◌<◌, ◌≤◌, ◌⊎◌, length, take, drop, MatchBool, not, IfOk, OnOk, OnErr, IsOk, vec_len, vec_capacity};
 ghost use Rattle.ack_ranges.specs.Ranges.{IsCanonical};
 ghost use Rattle.ack_ranges.specs.Changes.{with_range, united, covers, covers_all};
 ghost use Rattle.ack_ranges.specs.Places.{range_at, StartsBy, IsPlace, IsNextOf, IsNextBefore};
@@ -6,8 +6,26 @@ ghost use Rattle.ack_ranges.specs.Places.{range_at, StartsBy, IsPlace, IsNextOf,
 use crate::range::Range;
 use std::alloc::AllocError;
 
+/// Adds the numbers of the other ranges, and answers whether one of them is new.
+pub(crate) fn unite(ranges: &mut Vec<Range>, others: &[Range]) -> Result<bool, AllocError>
+    requires ranges { IsCanonical ranges.old.items }
+    requires others { IsCanonical others.now }
+    ensures ok { OnOk result (ranges.new.items ≡ united ranges.old.items others.now) }
+    ensures is_new { IfOk result (λ is_new. is_new ≡ not (covers_all ranges.old.items others.now)) }
+    ensures err { OnErr result (ranges.new.items ≡ ranges.old.items) }
+    ensures len { vec_len ranges.new ≤ vec_len ranges.old + length others.now }
+    ensures capacity { vec_capacity ranges.old ≤ vec_capacity ranges.new }
+    ensures succeeds { vec_len ranges.old + length others.now ≤ vec_capacity ranges.old → IsOk result }
+{
+    if has_all(ranges, others) {
+        return Ok(false);
+    }
+    merge(ranges, others)?;
+    Ok(true)
+}
+
 /// Whether each of the other ranges lies in one of the ranges.
-pub(crate) fn has_all(ranges: &[Range], others: &[Range]) -> bool
+fn has_all(ranges: &[Range], others: &[Range]) -> bool
     requires ranges { IsCanonical ranges.now }
     requires others { IsCanonical others.now }
     ensures { result ≡ covers_all ranges.now others.now }
@@ -24,7 +42,7 @@ pub(crate) fn has_all(ranges: &[Range], others: &[Range]) -> bool
 
 /// Adds the numbers of the other ranges, in one merge within the room that is made first: the ranges move behind the
 /// others, and both are read from there in order while the sum grows from the front.
-pub(crate) fn merge(ranges: &mut Vec<Range>, others: &[Range]) -> Result<(), AllocError>
+fn merge(ranges: &mut Vec<Range>, others: &[Range]) -> Result<(), AllocError>
     requires ranges { IsCanonical ranges.old.items }
     requires others { IsCanonical others.now }
     ensures ok { OnOk result (ranges.new.items ≡ united ranges.old.items others.now) }
@@ -67,7 +85,7 @@ fn merge_behind(all: &mut [Range], others: &[Range]) -> usize
     let mut read = others.len();
     let mut next = 0;
     let mut kept = 0;
-    for _ in 0..all.len() {
+    while read < all.len() || next < others.len() {
         if comes_first(all, read, others, next) {
             let range = all[read];
             kept = put_last(all, kept, range);
@@ -84,7 +102,7 @@ fn merge_behind(all: &mut [Range], others: &[Range]) -> usize
 fn comes_first(all: &[Range], read: usize, others: &[Range], next: usize) -> bool
     requires read { read ≤ length all.now }
     requires next { next ≤ length others.now }
-    requires more { read + next < length all.now + length others.now }
+    requires more { (read < length all.now) ⊎ (next < length others.now) }
     ensures { MatchBool result (IsNextOf all.now read others.now next) (IsNextBefore others.now next all.now read) }
 {
     if next == others.len() {

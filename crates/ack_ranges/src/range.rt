@@ -1,7 +1,7 @@
-ghost use Rattle.std.specs.Prelude.{◌≡◌, ℕ, ◌+◌, ◌<◌, ◌≤◌, length, not, ◌↔◌, IsTrue, IfOk, OnOk, OnErr, IsOk, vec_len, vec_capacity};
-ghost use Rattle.ack_ranges.specs.Ranges.{IsCanonical, in_ranges};
+ghost use Rattle.std.specs.Prelude.{◌≡◌, ◌∷◌, ◌++◌, ◌+◌, ◌<◌, ◌≤◌, ◌&&◌, nat_le, not, take, drop, IfOk, OnOk, OnErr, IsOk, vec_len, vec_capacity};
+ghost use Rattle.ack_ranges.specs.Ranges.{IsCanonical, in_ranges, front_of, greatest_of};
 ghost use Rattle.ack_ranges.specs.Changes.{with_range, covers};
-ghost use Rattle.ack_ranges.specs.Places.{IsPlace, IsSpan};
+ghost use Rattle.ack_ranges.specs.Places.{IsPlace, IsEnd, IsSpan};
 
 use crate::MAX_NO;
 use std::alloc::AllocError;
@@ -41,6 +41,41 @@ pub(crate) fn has_number(ranges: &[Range], n: u64) -> bool
     place < ranges.len() && ranges[place].lower <= n
 }
 
+/// The end of the first range, where that begins at 1, and else 0.
+pub(crate) fn front_end(ranges: &[Range]) -> u64
+    ensures { result ≡ front_of ranges.now }
+{
+    if ranges.is_empty() || ranges[0].lower != 1 {
+        return 0;
+    }
+    ranges[0].upper
+}
+
+/// The end of the last range, and 0 where there is none.
+pub(crate) fn last_end(ranges: &[Range]) -> u64
+    ensures { result ≡ greatest_of ranges.now }
+{
+    if ranges.is_empty() {
+        return 0;
+    }
+    ranges[ranges.len() - 1].upper
+}
+
+/// The place of the first range that begins after `n`.
+fn end_of(ranges: &[Range], n: u64) -> usize
+    requires { IsCanonical ranges.now }
+    ensures { IsEnd ranges.now n result }
+{
+    let place = place_of(ranges, n);
+    if place == ranges.len() {
+        return place;
+    }
+    if n < ranges[place].lower {
+        return place;
+    }
+    place + 1
+}
+
 /// The places, from the first to before the second, of the ranges that the numbers from `lower` to `upper` meet or
 /// touch. The last range is looked at first.
 fn span_of(ranges: &[Range], lower: u64, upper: u64) -> (usize, usize)
@@ -50,21 +85,37 @@ fn span_of(ranges: &[Range], lower: u64, upper: u64) -> (usize, usize)
     requires within { upper ≤ MAX_NO }
     ensures { IsSpan ranges.now lower upper result.0 result.1 }
 {
-    let Some(last) = ranges.last() else {
+    let count = ranges.len();
+    if count == 0 {
         return (0, 0);
-    };
-    if last.upper + 1 < lower {
-        return (ranges.len(), ranges.len());
+    }
+    let last = ranges[count - 1];
+    if last.upper < lower - 1 {
+        return (count, count);
     }
     if last.lower <= lower {
-        return (ranges.len() - 1, ranges.len());
+        return (count - 1, count);
     }
-    let end = place_of(ranges, upper + 1);
-    if end < ranges.len() && ranges[end].lower <= upper + 1 {
-        (place_of(ranges, lower - 1), end + 1)
-    } else {
-        (place_of(ranges, lower - 1), end)
-    }
+    (place_of(ranges, lower - 1), end_of(ranges, upper + 1))
+}
+
+/// Whether all numbers from `lower` to `upper` lie in the range.
+fn has_range(range: Range, lower: u64, upper: u64) -> bool
+    ensures { result ≡ (nat_le range.lower lower && nat_le upper range.upper) }
+{
+    range.lower <= lower && upper <= range.upper
+}
+
+/// Puts one range in the place of those from one place to before another.
+fn join(ranges: &mut Vec<Range>, from: usize, to: usize, joined: Range)
+    requires some { from < to }
+    requires within { to ≤ vec_len ranges.old }
+    ensures items { ranges.new.items ≡ take from ranges.old.items ++ joined ∷ drop to ranges.old.items }
+    ensures len { vec_len ranges.new ≤ vec_len ranges.old }
+    ensures capacity { vec_capacity ranges.new ≡ vec_capacity ranges.old }
+{
+    ranges[from] = joined;
+    drop(ranges.drain(from + 1..to));
 }
 
 /// Adds the numbers from `lower` to `upper`, and answers whether one of them is new.
@@ -85,14 +136,14 @@ pub(crate) fn put(ranges: &mut Vec<Range>, lower: u64, upper: u64) -> Result<boo
         ranges.insert(from, Range { lower, upper })?;
         return Ok(true);
     }
-    let (first, last) = (ranges[from], ranges[to - 1]);
-    if first.lower <= lower && upper <= first.upper {
+    let first = ranges[from];
+    if has_range(first, lower, upper) {
         return Ok(false);
     }
-    ranges[from] = Range {
+    let joined = Range {
         lower: first.lower.min(lower),
-        upper: last.upper.max(upper),
+        upper: ranges[to - 1].upper.max(upper),
     };
-    drop(ranges.drain(from + 1..to));
+    join(ranges, from, to, joined);
     Ok(true)
 }

@@ -3,8 +3,9 @@ ghost use Rattle.ack_ranges.specs.Ranges.{in_ranges, in_range, IsCanonical, fron
 ghost use Rattle.ack_ranges.specs.Changes.{with_range, united, covers, covers_all, AddsExactly, BringsNew};
 
 use crate::MAX_NO;
-use crate::merge::{has_all, merge};
-use crate::range::{Range, has_number, put};
+use crate::merge::unite;
+use crate::missing::missing_of;
+use crate::range::{Range, front_end, has_number, last_end, put};
 use rm_base::{Memory, Numbers};
 use std::alloc::Global;
 use std::marker::Model;
@@ -48,10 +49,7 @@ impl RangeSet {
         ensures value { result ≡ front_of self.now.ranges }
         ensures front { IsFront self.now.ranges result }
     {
-        match self.kept.first() {
-            Some(range) if range.lower == 1 => range.upper,
-            _ => 0,
-        }
+        front_end(&self.kept)
     }
 
     /// The greatest number, and 0 where there is none.
@@ -59,10 +57,7 @@ impl RangeSet {
         ensures value { result ≡ greatest_of self.now.ranges }
         ensures greatest { IsGreatest self.now.ranges result }
     {
-        match self.kept.last() {
-            Some(range) => range.upper,
-            None => 0,
-        }
+        last_end(&self.kept)
     }
 
     /// The ranges, which rise.
@@ -129,29 +124,14 @@ impl RangeSet {
         ensures ready { length other.now.ranges ≤ self.old.spare → IsOk result }
         ensures spare { self.old.spare ≤ self.new.spare + length other.now.ranges }
     {
-        if has_all(&self.kept, &other.kept) {
-            return Ok(false);
-        }
-        merge(&mut self.kept, &other.kept)?;
-        Ok(true)
+        Ok(unite(&mut self.kept, &other.kept)?)
     }
 
     /// The first `most` numbers below the greatest that aren't inside.
     pub fn missing(&self, most: usize) -> Result<Numbers, Memory>
         ensures { IfOk result (AreMissing self.now.ranges most) }
     {
-        let mut numbers = Numbers::new(*self.kept.allocator());
-        let mut next = 1;
-        for range in &self.kept {
-            for n in next..range.lower {
-                if numbers.len() == most {
-                    return Ok(numbers);
-                }
-                numbers.push(n)?;
-            }
-            next = range.upper + 1;
-        }
-        Ok(numbers)
+        missing_of(*self.kept.allocator(), &self.kept, most)
     }
 
     /// Makes room, so that the next `more` calls that add a number or a range take no memory.

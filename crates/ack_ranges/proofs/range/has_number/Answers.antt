@@ -1,0 +1,14 @@
+use Rattle.std.proofs.Common.{◌≤◌, ◌<◌, ◌&&◌, nat_le, false, true, length, ◌≡◌, sym, ◌∙◌, arith, inl, inr}
+use Rattle.std.proofs.lemmas.Bool.{cases_lt, le-leb, lt-leb, le-ltb}
+use Rattle.ack_ranges.specs.Ranges.{in_range, in_ranges}
+use Rattle.ack_ranges.specs.Places.{range_at}
+use Rattle.ack_ranges.proofs.RangesLemmas.{in_ranges-at_place, in_ranges-past}
+use Rattle.ack_ranges.proofs.range.has_number.Goals as goal
+
+pub returns-then-place-ranges : goal.returns-then-place-ranges
+returns-then-place-ranges c =
+    sym (in_ranges-at_place c.args.ranges.now c.args.n c.place_of-place.result c.requires c.place_of-place.ensures c.if-place-ranges.true)
+
+pub returns-else-place-ranges : goal.returns-else-place-ranges
+returns-else-place-ranges c =
+    le-ltb _ _ c.if-place-ranges.false ∙ sym (in_ranges-past c.args.ranges.now c.args.n c.place_of-place.result c.place_of-place.ensures c.if-place-ranges.false)
