@@ -6,12 +6,21 @@
 
 pub mod blob;
 pub mod items;
+pub mod laws;
+pub mod memory;
 pub mod message;
 pub mod numbers;
+pub mod outside;
+pub mod streams;
 pub mod want;
+pub mod whole;
 
 pub use blob::Blob;
 pub use items::Items;
+pub use memory::{MemSink, MemSource};
 pub use message::{Behaviour, Binding, Bindings, Payload};
 pub use numbers::Numbers;
+pub use outside::{Sink, SinkError, Source};
+pub use streams::{StdSink, StdSource};
 pub use want::{Failed, Memory};
+pub use whole::{ReadError, read_up_to, write_all};

@@ -1,6 +1,6 @@
-ghost use Rattle.std.specs.Prelude.{◌≡◌, ℕ, [], ◌∷◌, ◌++◌, ◌<◌, ◌≤◌, List, length, IsTrue, ◌↔◌, IfOk, OnOk, OnErr, slice_get, nat_lt, Ok};
+ghost use Rattle.std.specs.Prelude.{◌≡◌, ℕ, [], ◌∷◌, ◌++◌, ◌<◌, ◌≤◌, List, length, IsTrue, ◌↔◌, IfOk, OnOk, OnErr, slice_get, nat_lt, Ok, false, vec_len, vec_capacity, ◌+◌};
 ghost use Rattle.std.specs.Option.{option_copied};
-ghost use Rattle.rm_base.specs.Numbers.{IsRising, has_number, with_number, united, brings_new, greatest_of, front_of};
+ghost use Rattle.rm_base.specs.Numbers.{IsRising, has_number, with_number, united, brings_new, greatest_of, IsPlace};
 
 use crate::want::Memory;
 use std::alloc::Global;
@@ -61,17 +61,14 @@ impl Numbers {
     pub fn has(&self, number: u64) -> bool
         ensures { result ≡ has_number self.now number }
     {
-        self.numbers.binary_search(&number).is_ok()
+        place_of(self.numbers.as_slice(), number).is_ok()
     }
 
     /// The greatest number, and 0 where there is none.
     pub fn greatest(&self) -> u64
         ensures { result ≡ greatest_of self.now }
     {
-        match self.numbers.last() {
-            Some(number) => *number,
-            None => 0,
-        }
+        last_of(self.numbers.as_slice())
     }
 
     /// Puts a number that is above all others at the end.
@@ -91,13 +88,22 @@ impl Numbers {
         ensures is_new { IfOk result (λ is_new. IsTrue is_new ↔ (has_number self.old number ≡ false)) }
         ensures err { OnErr result (self.new ≡ self.old) }
     {
-        match self.numbers.binary_search(&number) {
+        match place_of(self.numbers.as_slice(), number) {
             Ok(_) => Ok(false),
             Err(place) => {
                 self.numbers.insert(place, number)?;
                 Ok(true)
             }
         }
+    }
+
+    /// Adds the numbers of the other set, and answers whether one of them is new.
+    pub fn unite(&mut self, other: &Numbers) -> Result<bool, Memory>
+        ensures ok { OnOk result (self.new ≡ united self.old other.now) }
+        ensures is_new { IfOk result (λ is_new. is_new ≡ brings_new self.old other.now) }
+        ensures err { OnErr result (self.new ≡ self.old) }
+    {
+        unite(&mut self.numbers, other.as_slice())
     }
 
     /// The same numbers again.
@@ -107,5 +113,61 @@ impl Numbers {
         Ok(Numbers {
             numbers: self.numbers.clone()?,
         })
+    }
+}
+
+// Where a number stands among rising ones, or where it goes in.
+fn place_of(numbers: &[u64], number: u64) -> Result<usize, usize>
+    requires { IsRising numbers.now }
+    ensures place { IsPlace numbers.now number result }
+    ensures rising { 0 < number → IsRising (with_number numbers.now number) }
+{
+    numbers.binary_search(&number)
+}
+
+// The greatest of rising numbers.
+fn last_of(numbers: &[u64]) -> u64
+    requires { IsRising numbers.now }
+    ensures { result ≡ greatest_of numbers.now }
+{
+    if numbers.is_empty() {
+        0
+    } else {
+        numbers[numbers.len() - 1]
+    }
+}
+
+// Room is made first, so that either all of the numbers go in or none.
+fn unite(numbers: &mut Vec<u64>, others: &[u64]) -> Result<bool, Memory>
+    requires rising { IsRising numbers.old.items }
+    requires others { IsRising others.now }
+    ensures rising { IsRising numbers.new.items }
+    ensures ok { OnOk result (numbers.new.items ≡ united numbers.old.items others.now) }
+    ensures is_new { IfOk result (λ is_new. is_new ≡ brings_new numbers.old.items others.now) }
+    ensures err { OnErr result (numbers.new.items ≡ numbers.old.items) }
+{
+    numbers.reserve(others.len())?;
+    let before = numbers.len();
+    for number in others {
+        add_reserved(numbers, *number);
+    }
+    Ok(before < numbers.len())
+}
+
+// Adds a number where there is room for one.
+fn add_reserved(numbers: &mut Vec<u64>, number: u64)
+    requires rising { IsRising numbers.old.items }
+    requires positive { 0 < number }
+    requires room { vec_len numbers.old < vec_capacity numbers.old }
+    ensures rising { IsRising numbers.new.items }
+    ensures added { numbers.new.items ≡ with_number numbers.old.items number }
+    ensures room { vec_len numbers.new ≤ vec_len numbers.old + 1 }
+    ensures capacity { vec_capacity numbers.old ≤ vec_capacity numbers.new }
+{
+    if let Err(place) = place_of(numbers.as_slice(), number) {
+        match numbers.insert(place, number) {
+            Ok(()) => {}
+            Err(_) => unreachable!(),
+        }
     }
 }

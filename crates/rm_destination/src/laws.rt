@@ -1,0 +1,12 @@
+ghost use Rattle.std.specs.Prelude.{◌≡◌, ℕ, List};
+ghost use Rattle.rm_base.specs.Numbers.{IsRising, front_of};
+ghost use Rattle.rm_base.specs.declared.message.Payload.{Payload};
+ghost use Rattle.rm_destination.specs.Incoming.{Receiving, numbers_of, received_front, inbox_of};
+ghost use Rattle.rm_destination.specs.Front.{IsFront, IsInbox};
+
+/// The front is the greatest number up to which all are there, and the inbox has the payloads up to it, each at the
+/// place of its number.
+pub fn inbox_reaches_front()
+    ensures front { (numbers : List ℕ) → IsRising numbers → IsFront numbers (front_of numbers) }
+    ensures inbox { (r : Receiving) → IsRising (numbers_of r.received) → IsInbox r.received (received_front r) (inbox_of r) }
+{}
