@@ -1,6 +1,6 @@
 -- What a range put into others makes of them.
-use Rattle.std.proofs.Common.{◌≡◌, ℕ, zero, suc, ◌+◌, ◌-◌, ◌<◌, ◌≤◌, Bool, true, false, cond, not, IsTrue, ◌↔◌, ◌==◌, ◌&&◌, ◌||◌, ◌⊎◌, nat_le, nat_lt, max, min, List, [], ◌∷◌, ◌++◌, length, take, drop, get_or, refl, sym, ap, ap₂, ◌∙◌, arith, inl, inr}
-use Rattle.std.proofs.lemmas.Bool.{cases_lt, cases_order, cond-true, cond-false, lt-ltb, le-ltb, lt-leb, le-leb, or_from, or_parts, or_cases, or_left, or_right, and_parts, cases_Bool, false≢true, not-true, not_from_false, false_from_ne_true, both_ways}
+use Rattle.std.proofs.Common.{◌≡◌, ℕ, zero, suc, ◌+◌, ◌-◌, ◌<◌, ◌≤◌, Bool, true, false, not, IsTrue, ◌↔◌, ◌==◌, ◌&&◌, ◌||◌, ◌⊎◌, nat_le, max, min, List, [], ◌∷◌, ◌++◌, length, take, drop, refl, sym, ap, ap₂, ◌∙◌, arith, inl, inr}
+use Rattle.std.proofs.lemmas.Bool.{cases_lt, cases_order, cond-true, cond-false, lt-ltb, le-ltb, lt-leb, le-leb, or_from, or_parts, or_cases, or_left, or_right, cases_Bool, false≢true, not-true, not_from_false, false_from_ne_true, both_ways}
 use Rattle.std.specs.List.{insert}
 use Rattle.std.proofs.lemmas.List.{drop-drop, get_or-drop, length-drop}
 use Rattle.std.proofs.lemmas.List.Recursion.{or_at, or_from_places}
@@ -8,9 +8,9 @@ use Rattle.std.proofs.lemmas.Bool.Decides.{nat_tests}
 use Rattle.ack_ranges.specs.declared.range.Range.{Range}
 use Rattle.ack_ranges.specs.declared.TheConstants.{MAX_NO}
 use Rattle.ack_ranges.specs.Ranges.{in_range, in_ranges, RisesFrom, IsCanonical}
-use Rattle.ack_ranges.specs.Changes.{with_range, united, covers, covers_all, AddsExactly, BringsNew}
+use Rattle.ack_ranges.specs.Changes.{with_range, covers, AddsExactly, BringsNew}
 use Rattle.ack_ranges.specs.Places.{range_at, IsPlace, IsSpan}
-use Rattle.ack_ranges.proofs.RangesLemmas.{in_range_tells, or_assoc, or-false, or_comm, in_ranges-before, RisesFrom-weaker, RisesFrom-at, RisesFrom-gap, RisesFrom-starts, RisesFrom-ends, same_numbers_same}
+use Rattle.ack_ranges.proofs.RangesLemmas.{in_range_tells, or_assoc, or-false, or_comm, in_ranges-before, RisesFrom-weaker, RisesFrom-at, RisesFrom-gap, RisesFrom-starts, same_numbers_same}
 
 -- past a range that ends too early
 pub with_range-past : (r : Range) (rs : List Range) (l u : ℕ) → r.upper + 1 < l → with_range (r ∷ rs) l u ≡ r ∷ with_range rs l u
@@ -62,7 +62,7 @@ RisesFrom-with_range first (r ∷ rs) l u h from le end = elim (beside r l u) [
   | inr (inl (a, b)) ↦ rw (with_range-ahead r rs l u a b) (from, le, end, (omega arith, h.1, h.2, h.3))
   | inr (inr (a, b)) ↦ rw (with_range-touched r rs l u a b)
       (RisesFrom-with_range first rs (min r.lower l) (max r.upper u) (RisesFrom-weaker first (r.upper + 2) rs (omega (arith, h.0, h.1)) h.3)
-        (omega (arith, h.0)) (omega (arith, h.1)) (omega (arith, h.2)))
+      (omega (arith, h.0)) (omega (arith, h.1)) (omega (arith, h.2)))
 ]
 
 -- past the ranges that end too early
@@ -105,8 +105,8 @@ RisesFrom-drop first (r ∷ rs) (suc i) h =
 pub insert-span : (rs : List Range) (l u from to : ℕ) → IsCanonical rs → l ≤ u → IsSpan rs l u from to → from ≡ to → insert rs from (record { lower = l; upper = u }) ≡ with_range rs l u
 insert-span rs l u from to h le span e =
     let ahead : 0 < length (drop from rs) → u + 1 < (range_at (drop from rs) 0).lower = λ some.
-        let lt : from < length rs = omega (arith, length-drop from rs) in
-        rw (get_or-drop from rs 0 (record { lower = 0; upper = 0 })) (span.after (from + 0) (omega arith) (omega arith)) in
+    let lt : from < length rs = omega (arith, length-drop from rs) in
+    rw (get_or-drop from rs 0 (record { lower = 0; upper = 0 })) (span.after (from + 0) (omega arith) (omega arith)) in
     ap (λ l. take from rs ++ l) (sym (with_range-front 1 (drop from rs) l u (RisesFrom-drop 1 rs from h) le ahead))
     ∙ sym (with_range-after rs from l u (omega (arith, span.rises, span.within)) span.before)
 
@@ -127,10 +127,10 @@ join-span rs l u from to h le span lt =
     let l' : ℕ = min (range_at rs from).lower l in
     let u' : ℕ = max (range_at rs (to - 1)).upper u in
     let ahead : 0 < length (drop to rs) → u' + 1 < (range_at (drop to rs) 0).lower = λ some.
-        let there : to < length rs = omega (arith, length-drop to rs) in
-        let beyond : u + 1 < (range_at rs (to + 0)).lower = span.after (to + 0) (omega arith) (omega arith) in
-        let gap : (range_at rs (to - 1)).upper + 1 < (range_at rs (to + 0)).lower = RisesFrom-gap 1 rs (to - 1) (to + 0) h (omega arith) (omega arith) in
-        rw (get_or-drop to rs 0 none) (omega arith) in
+    let there : to < length rs = omega (arith, length-drop to rs) in
+    let beyond : u + 1 < (range_at rs (to + 0)).lower = span.after (to + 0) (omega arith) (omega arith) in
+    let gap : (range_at rs (to - 1)).upper + 1 < (range_at rs (to + 0)).lower = RisesFrom-gap 1 rs (to - 1) (to + 0) h (omega arith) (omega arith) in
+    rw (get_or-drop to rs 0 none) (omega arith) in
     let hulled : with_range rest l u ≡ with_range (drop to rs) l' u' =
     with_range-hull 1 rest j l u starts within touched
     ∙ ap₂ (λ a b. with_range (drop (suc j) rest) a b) (ap (λ (r : Range). min r.lower l) first) (ap (λ (r : Range). max r.upper u) last)
@@ -192,10 +192,10 @@ uncovered first (r ∷ rs) l u h le t =
     let here : (nat_le r.lower l && nat_le u r.upper) ≡ false = parts.0 in
     elim (cases_lt l r.lower) [
       | inl before ↦ record {
-          number = l;
-          among = grind (arith, nat_tests);
-          absent = in_ranges-before r.lower l (r ∷ rs) (omega arith, h.1, h.2, h.3) before;
-        }
+        number = l;
+        among = grind (arith, nat_tests);
+        absent = in_ranges-before r.lower l (r ∷ rs) (omega arith, h.1, h.2, h.3) before;
+      }
       | inr from ↦ elim (cases_lt r.upper l) [
         | inl past ↦
             let rest = uncovered (r.upper + 2) rs l u h.3 le parts.1 in

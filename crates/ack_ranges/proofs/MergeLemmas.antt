@@ -1,14 +1,13 @@
 -- Two lists of ranges merged from the front on.
-use Rattle.std.proofs.Common.{◌≡◌, ℕ, zero, suc, ◌+◌, ◌-◌, ◌<◌, ◌≤◌, Bool, true, false, not, IsTrue, ◌↔◌, ◌&&◌, ◌||◌, ◌⊎◌, nat_le, max, min, List, [], ◌∷◌, ◌++◌, length, take, drop, get_or, set, refl, sym, ap, ap₂, ◌∙◌, arith, inl, inr}
-use Rattle.std.proofs.lemmas.Bool.{cases_lt, cases_Bool, or_left, or_right, or_from, or_cases, and_parts, and_cases, not-true, not_from_false, false_from_ne_true, both_ways, false≢true}
+use Rattle.std.proofs.Common.{◌≡◌, ℕ, zero, suc, ◌+◌, ◌-◌, ◌<◌, ◌≤◌, Bool, true, false, not, IsTrue, ◌↔◌, ◌||◌, max, min, List, [], ◌∷◌, ◌++◌, length, take, drop, refl, sym, ap, ap₂, ◌∙◌, arith, inl, inr}
+use Rattle.std.proofs.lemmas.Bool.{cases_Bool, or_left, or_right, or_cases, and_parts, and_cases, not-true, not_from_false, false_from_ne_true, both_ways, false≢true}
 use Rattle.std.proofs.lemmas.Bool.Decides.{nat_tests}
 use Rattle.std.proofs.lemmas.List.{take_all, drop_all, take_more, drop-drop, get_or-drop, length-drop}
 use Rattle.ack_ranges.specs.declared.range.Range.{Range}
-use Rattle.ack_ranges.specs.declared.TheConstants.{MAX_NO}
 use Rattle.ack_ranges.specs.Ranges.{in_range, in_ranges, RisesFrom, IsCanonical}
 use Rattle.ack_ranges.specs.Changes.{with_range, united, covers, covers_all, AddsExactly, BringsNew}
 use Rattle.ack_ranges.specs.Places.{range_at, StartsBy, IsNextOf, IsNextBefore}
-use Rattle.ack_ranges.proofs.RangesLemmas.{or_assoc, or-false, or_comm, in_ranges-push, RisesFrom-weaker, RisesFrom-at, RisesFrom-starts, same_numbers_same}
+use Rattle.ack_ranges.proofs.RangesLemmas.{or_assoc, or-false, or_comm, in_ranges-push, RisesFrom-at, RisesFrom-starts, same_numbers_same}
 use Rattle.ack_ranges.proofs.ChangesLemmas.{beside, with_range-past, with_range-ahead, with_range-touched, with_range-after, in_ranges-with_range, RisesFrom-with_range, in_ranges-covered, uncovered}
 
 pub StartsBy-weaker : (rs : List Range) (a b : ℕ) → a ≤ b → StartsBy rs a → StartsBy rs b
@@ -44,9 +43,9 @@ with_range-last first (r ∷ rs) last l u h from near le =
     let apart : r.upper + 2 ≤ last.lower = last-after (r.upper + 2) rs last h.3 in
     with_range-past r (rs ++ last ∷ []) l u (omega arith) ∙ ap (λ xs. r ∷ xs) (with_range-last (r.upper + 2) rs last l u h.3 from near le)
   where
-  last-after : (first : ℕ) (rs : List Range) (last : Range) → RisesFrom first (rs ++ last ∷ []) → first ≤ last.lower
-  last-after first [] last h = h.0
-  last-after first (r ∷ rs) last h = let rest = last-after (r.upper + 2) rs last h.3 in omega (arith, h.0, h.1)
+    last-after : (first : ℕ) (rs : List Range) (last : Range) → RisesFrom first (rs ++ last ∷ []) → first ≤ last.lower
+    last-after first [] last h = h.0
+    last-after first (r ∷ rs) last h = let rest = last-after (r.upper + 2) rs last h.3 in omega (arith, h.0, h.1)
 
 -- the numbers of both
 pub in_ranges-united : (xs ys : List Range) (first n : ℕ) → IsCanonical xs → 0 < first → RisesFrom first ys → in_ranges (united xs ys) n ≡ (in_ranges xs n || in_ranges ys n)

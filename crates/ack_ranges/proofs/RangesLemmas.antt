@@ -1,5 +1,5 @@
 -- Which numbers lie in ranges, and that canonical ranges are determined by their numbers.
-use Rattle.std.proofs.Common.{◌≡◌, ℕ, zero, suc, ◌+◌, ◌-◌, ◌<◌, ◌≤◌, Bool, true, false, cond, ◌&&◌, ◌||◌, ◌⊎◌, ◌==◌, nat_le, List, [], ◌∷◌, ◌++◌, length, take, drop, get_or, refl, sym, ap, ap₂, true≢false, ◌∙◌, arith, inl, inr}
+use Rattle.std.proofs.Common.{◌≡◌, ℕ, zero, suc, ◌+◌, ◌-◌, ◌<◌, ◌≤◌, Bool, true, false, ◌||◌, ◌⊎◌, ◌==◌, nat_le, List, [], ◌∷◌, ◌++◌, length, get_or, refl, sym, ap, ap₂, true≢false, ◌∙◌, arith, inl, inr}
 use Rattle.std.proofs.lemmas.Bool.{cases_lt, cases_eq, cond-true, cond-false, eq-eqb, ne_eqb, or_from, or_left, le-leb, lt-leb, both_ways, false≢true}
 use Rattle.std.proofs.lemmas.Bool.Decides.{nat_tests}
 use Rattle.std.proofs.lemmas.List.{get_or_read}
@@ -97,22 +97,22 @@ in_ranges-before first n (r ∷ rs) h lt =
 first_within : (first : ℕ) (x y : Range) (xs ys : List Range) → RisesFrom first (x ∷ xs) → RisesFrom first (y ∷ ys) →
     ((n : ℕ) → in_ranges (x ∷ xs) n ≡ in_ranges (y ∷ ys) n) → (y.lower ≤ x.lower) × (x.lower ≡ y.lower → y.upper ≤ x.upper)
 first_within first x y xs ys hx hy same = (
-      elim (cases_lt x.lower y.lower) [
-        | inl lt ↦
-            let yes : in_range x x.lower ≡ true = grind (arith, in_range_tells x x.lower, hx.1) in
-            let no : in_ranges (y ∷ ys) x.lower ≡ false = in_ranges-before y.lower x.lower (y ∷ ys) (omega arith, hy.1, hy.2, hy.3) lt in
-            absurd (true≢false (sym (or_left _ _ yes) ∙ same x.lower ∙ no))
-        | inr ge ↦ ge
-      ],
-      λ starts. elim (cases_lt x.upper y.upper) [
-        | inl lt ↦
-            let out : in_range x (x.upper + 1) ≡ false = grind (arith, in_range_tells x (x.upper + 1)) in
-            let rest : in_ranges xs (x.upper + 1) ≡ false = in_ranges-before (x.upper + 2) (x.upper + 1) xs hx.3 (omega arith) in
-            let yes : in_range y (x.upper + 1) ≡ true = grind (arith, in_range_tells y (x.upper + 1), hx.1) in
-            absurd (true≢false (sym (or_left _ _ yes) ∙ sym (same (x.upper + 1)) ∙ or_from _ _ out rest))
-        | inr ge ↦ ge
-      ],
-    )
+  elim (cases_lt x.lower y.lower) [
+    | inl lt ↦
+        let yes : in_range x x.lower ≡ true = grind (arith, in_range_tells x x.lower, hx.1) in
+        let no : in_ranges (y ∷ ys) x.lower ≡ false = in_ranges-before y.lower x.lower (y ∷ ys) (omega arith, hy.1, hy.2, hy.3) lt in
+        absurd (true≢false (sym (or_left _ _ yes) ∙ same x.lower ∙ no))
+    | inr ge ↦ ge
+  ],
+  λ starts. elim (cases_lt x.upper y.upper) [
+    | inl lt ↦
+        let out : in_range x (x.upper + 1) ≡ false = grind (arith, in_range_tells x (x.upper + 1)) in
+        let rest : in_ranges xs (x.upper + 1) ≡ false = in_ranges-before (x.upper + 2) (x.upper + 1) xs hx.3 (omega arith) in
+        let yes : in_range y (x.upper + 1) ≡ true = grind (arith, in_range_tells y (x.upper + 1), hx.1) in
+        absurd (true≢false (sym (or_left _ _ yes) ∙ sym (same (x.upper + 1)) ∙ or_from _ _ out rest))
+    | inr ge ↦ ge
+  ],
+)
 
 first_is_in : (first : ℕ) (x : Range) (xs : List Range) → RisesFrom first (x ∷ xs) → in_ranges (x ∷ xs) x.lower ≡ true
 first_is_in first x xs h = let yes : in_range x x.lower ≡ true = grind (arith, in_range_tells x x.lower, h.1) in or_left _ _ yes

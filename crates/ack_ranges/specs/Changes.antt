@@ -1,7 +1,7 @@
 -- What adding numbers makes of a list of ranges.
-use Rattle.std.specs.Prelude.{◌≡◌, ℕ, ◌+◌, Bool, true, false, not, ◌&&◌, ◌||◌, nat_le, nat_lt, IsTrue, if◌then◌else◌, max, min, List, [], ◌∷◌}
+use Rattle.std.specs.Prelude.{◌≡◌, ℕ, ◌+◌, Bool, true, false, ◌&&◌, ◌||◌, nat_le, nat_lt, IsTrue, if◌then◌else◌, max, min, List, [], ◌∷◌}
 use Rattle.ack_ranges.specs.declared.range.Range.{Range}
-use Rattle.ack_ranges.specs.Ranges.{in_range, in_ranges, IsCanonical}
+use Rattle.ack_ranges.specs.Ranges.{in_ranges, IsCanonical}
 
 -- the numbers from lower to upper put into ranges: they join each range that they meet or touch
 abbrev pub with_range : List Range → ℕ → ℕ → List Range

@@ -1,6 +1,6 @@
 -- Sets of message numbers as lists of ranges: WS-ReliableMessaging 1.2, section 3.9, where an AcknowledgementRange
 -- names the numbers from its Lower to its Upper.
-use Rattle.std.specs.Prelude.{◌≡◌, ℕ, ◌+◌, ◌-◌, ◌<◌, ◌≤◌, ◌⊎◌, Bool, false, true, ◌&&◌, ◌||◌, ◌==◌, nat_le, IsTrue, if◌then◌else◌, List, [], ◌∷◌, length}
+use Rattle.std.specs.Prelude.{◌≡◌, ℕ, ◌+◌, ◌<◌, ◌≤◌, ◌⊎◌, Bool, false, ◌&&◌, ◌||◌, ◌==◌, nat_le, IsTrue, if◌then◌else◌, List, [], ◌∷◌, length}
 use Rattle.rm_base.specs.Numbers.{IsRising, has_number, greatest_of as greatest_number}
 use Rattle.ack_ranges.specs.declared.range.Range.{Range}
 use Rattle.ack_ranges.specs.declared.TheConstants.{MAX_NO}

@@ -1,4 +1,4 @@
-use Rattle.std.proofs.Common.{◌≡◌, ◌∙◌, ◌+◌, ◌<◌, ◌&&◌, nat_le, true, false, sym, ap, length, drop, arith}
+use Rattle.std.proofs.Common.{◌≡◌, ◌∙◌, ◌+◌, ◌&&◌, true, false, sym, ap, drop, arith}
 use Rattle.std.proofs.lemmas.Bool.{le-leb, lt-leb, and_left}
 use Rattle.std.proofs.lemmas.List.{drop_more}
 use Rattle.ack_ranges.specs.Changes.{covers, covers_all}

@@ -1,9 +1,8 @@
-use Rattle.std.proofs.Common.{◌≡◌, ℕ, ◌+◌, ◌-◌, ◌<◌, ◌≤◌, ◌++◌, ◌∷◌, [], List, max, length, take, set, sym, ap, ◌∙◌, arith}
+use Rattle.std.proofs.Common.{◌≡◌, ℕ, ◌+◌, ◌-◌, ◌<◌, ◌≤◌, ◌++◌, ◌∷◌, [], List, length, take, set, sym, ap, ◌∙◌, arith}
 use Rattle.std.proofs.lemmas.List.{take_more, take_more_set, length-take-le, get_or-take}
 use Rattle.ack_ranges.specs.declared.range.Range.{Range}
-use Rattle.ack_ranges.specs.Ranges.{RisesFrom, IsCanonical}
 use Rattle.ack_ranges.specs.Changes.{with_range}
-use Rattle.ack_ranges.specs.Places.{range_at, StartsBy}
+use Rattle.ack_ranges.specs.Places.{range_at}
 use Rattle.ack_ranges.proofs.RangesLemmas.{RisesFrom-at, RisesFrom-ends}
 use Rattle.ack_ranges.proofs.MergeLemmas.{StartsBy-at, with_range-last, with_range-push}
 use Rattle.ack_ranges.proofs.merge.put_last.Goals as goal

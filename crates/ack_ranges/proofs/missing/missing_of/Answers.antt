@@ -1,8 +1,7 @@
-use Rattle.std.proofs.Common.{ℕ, ◌≡◌, ◌+◌, ◌-◌, ◌<◌, ◌≤◌, length, sym, ap, ◌∙◌, arith}
-use Rattle.std.proofs.lemmas.Bool.Decides.{nat_tests}
+use Rattle.std.proofs.Common.{◌≡◌, ◌+◌, sym, ap, ◌∙◌, arith}
 use Rattle.ack_ranges.specs.Places.{range_at}
-use Rattle.ack_ranges.proofs.RangesLemmas.{in_range_tells, in_ranges-at, RisesFrom-at, RisesFrom-ends, greatest-from}
-use Rattle.ack_ranges.proofs.MissingLemmas.{missing-none, missing-push, missing-pass, missing-enough, missing-all, collected-below, goes-on-before, goes-on-gap, goes-on-last}
+use Rattle.ack_ranges.proofs.RangesLemmas.{in_range_tells, in_ranges-at, RisesFrom-at, greatest-from}
+use Rattle.ack_ranges.proofs.MissingLemmas.{missing-push, missing-pass, missing-enough, missing-all, collected-below, goes-on-before, goes-on-gap, goes-on-last}
 use Rattle.ack_ranges.proofs.missing.missing_of.Goals as goal
 
 pub returns-then-len-most : goal.returns-then-len-most
@@ -16,7 +15,7 @@ push-requires c = collected-below _ _ _ _ c.loop-n.invariant
 pub loop-n-preserved : goal.loop-n-preserved
 loop-n-preserved c = rw c.in_ok-push.ensures.ok
     (missing-push _ _ _ _ c.loop-n.invariant (omega (arith, c.loop-n.invariant.at_most))
-      (goes-on-gap _ _ _ _ c.requires c.loop-range.invariant.goes_on c.loop-range-test.true c.loop-n.auto.n c.loop-n-test.true))
+    (goes-on-gap _ _ _ _ c.requires c.loop-range.invariant.goes_on c.loop-range-test.true c.loop-n.auto.n c.loop-n-test.true))
 
 pub overflow_add-next : goal.overflow_add-next
 overflow_add-next c = omega (arith, (RisesFrom-at 1 c.args.ranges.now c.loop-range.range-index c.requires c.loop-range-test.true).2)

@@ -1,7 +1,5 @@
-use Rattle.std.proofs.Common.{◌≤◌, ◌<◌, ◌&&◌, nat_le, false, true, length, ◌≡◌, sym, ◌∙◌, arith, inl, inr}
-use Rattle.std.proofs.lemmas.Bool.{cases_lt, le-leb, lt-leb, le-ltb}
-use Rattle.ack_ranges.specs.Ranges.{in_range, in_ranges}
-use Rattle.ack_ranges.specs.Places.{range_at}
+use Rattle.std.proofs.Common.{sym, ◌∙◌}
+use Rattle.std.proofs.lemmas.Bool.{le-ltb}
 use Rattle.ack_ranges.proofs.RangesLemmas.{in_ranges-at_place, in_ranges-past}
 use Rattle.ack_ranges.proofs.range.has_number.Goals as goal
 

@@ -1,4 +1,4 @@
-use Rattle.std.proofs.Common.{ℕ, ◌+◌, ◌-◌, ◌/◌, ◌<◌, ◌≤◌, length, arith}
+use Rattle.std.proofs.Common.{ℕ, ◌+◌, ◌-◌, ◌/◌, ◌<◌, length, arith}
 use Rattle.ack_ranges.proofs.RangesLemmas.{RisesFrom-ends}
 use Rattle.ack_ranges.proofs.range.place_of.Goals as goal
 

@@ -1,4 +1,4 @@
-use Rattle.std.proofs.Common.{◌≡◌, ◌∙◌, ◌-◌, ◌<◌, ◌&&◌, ◌++◌, ◌∷◌, ℕ, nat_le, true, false, not, sym, ap, ap₂, arith, length, min, max, take, drop, List}
+use Rattle.std.proofs.Common.{◌≡◌, ◌∙◌, ◌-◌, ◌<◌, ◌&&◌, ◌++◌, ◌∷◌, ℕ, nat_le, true, not, sym, ap, ap₂, arith, length, min, max, take, drop}
 use Rattle.ack_ranges.specs.declared.range.Range.{Range}
 use Rattle.ack_ranges.specs.Changes.{covers}
 use Rattle.ack_ranges.specs.Places.{range_at}

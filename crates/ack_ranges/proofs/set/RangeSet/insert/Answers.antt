@@ -1,4 +1,4 @@
-use Rattle.std.proofs.Common.{◌≡◌, ◌∙◌, ap, not, arith}
+use Rattle.std.proofs.Common.{◌∙◌, ap, not, arith}
 use Rattle.ack_ranges.proofs.ChangesLemmas.{RisesFrom-with_range, adds-with_number, covers-one}
 use Rattle.ack_ranges.proofs.set.RangeSet.insert.Goals as goal
 
