@@ -10,7 +10,8 @@ use Rattle.ack_ranges.specs.Ranges.{in_range, in_ranges, RisesFrom, IsCanonical,
 use Rattle.ack_ranges.specs.Places.{range_at, IsPlace}
 
 -- the test of a range, with what it tells
-pub in_range_tells : (r : Range) (n : ℕ) → ((in_range r n ≡ true) × (r.lower ≤ n) × (n ≤ r.upper)) ⊎ ((in_range r n ≡ false) × ((n < r.lower) ⊎ (r.upper < n)))
+pub in_range_tells : (r : Range) (n : ℕ) →
+    ((in_range r n ≡ true) × (r.lower ≤ n) × (n ≤ r.upper)) ⊎ ((in_range r n ≡ false) × ((n < r.lower) ⊎ (r.upper < n)))
 in_range_tells r n = grind (arith, nat_tests)
 
 pub or_assoc : (x y z : Bool) → (x || (y || z)) ≡ ((x || y) || z)
@@ -34,18 +35,22 @@ in_ranges-append (x ∷ xs) ys n =
     ap (λ b. in_range x n || b) (in_ranges-append xs ys n) ∙ or_assoc (in_range x n) (in_ranges xs n) (in_ranges ys n)
 
 -- one more range at the end
-pub in_ranges-push : (xs : List Range) (r : Range) (n : ℕ) → in_ranges (xs ++ r ∷ []) n ≡ (in_ranges xs n || in_range r n)
+pub in_ranges-push : (xs : List Range) (r : Range) (n : ℕ) →
+    in_ranges (xs ++ r ∷ []) n ≡ (in_ranges xs n || in_range r n)
 in_ranges-push xs r n = in_ranges-append xs (r ∷ []) n ∙ ap (λ b. in_ranges xs n || b) (or-false (in_range r n))
 
 -- what an index of a vector reads
 pub read_at : (rs : List Range) (k : ℕ) (r : Range) → k < length rs → r ≡ get_or rs k r → r ≡ range_at rs k
 read_at rs k r h e = get_or_read rs k r h e (record { lower = 0; upper = 0 })
 
-pub in_ranges-at : (rs : List Range) (k n : ℕ) → k < length rs → in_range (range_at rs k) n ≡ true → in_ranges rs n ≡ true
-in_ranges-at rs k n h t = or_at (λ l. in_ranges l n) (λ r. in_range r n) refl (λ _ _. refl) rs k (record { lower = 0; upper = 0 }) h t
+pub in_ranges-at : (rs : List Range) (k n : ℕ) → k < length rs → in_range (range_at rs k) n ≡ true →
+    in_ranges rs n ≡ true
+in_ranges-at rs k n h t =
+    or_at (λ l. in_ranges l n) (λ r. in_range r n) refl (λ _ _. refl) rs k (record { lower = 0; upper = 0 }) h t
 
 -- no range has a number that lies before or after each
-pub in_ranges-outside : (rs : List Range) (n : ℕ) → ((k : ℕ) → k < length rs → (n < (range_at rs k).lower) ⊎ ((range_at rs k).upper < n)) → in_ranges rs n ≡ false
+pub in_ranges-outside : (rs : List Range) (n : ℕ) →
+    ((k : ℕ) → k < length rs → (n < (range_at rs k).lower) ⊎ ((range_at rs k).upper < n)) → in_ranges rs n ≡ false
 in_ranges-outside rs n h =
     or_from_places (λ l. in_ranges l n) (λ r. in_range r n) refl (λ _ _. refl) rs (record { lower = 0; upper = 0 })
     (λ k hk. grind (arith, in_range_tells (range_at rs k) n, h k hk))
@@ -64,22 +69,26 @@ RisesFrom-at first (r ∷ rs) (suc k) h hk =
     (omega (arith, h.0, h.1, rest.0), rest.1, rest.2)
 
 -- between two ranges lies a number
-pub RisesFrom-gap : (first : ℕ) (rs : List Range) (i j : ℕ) → RisesFrom first rs → i < j → j < length rs → (range_at rs i).upper + 1 < (range_at rs j).lower
+pub RisesFrom-gap : (first : ℕ) (rs : List Range) (i j : ℕ) → RisesFrom first rs → i < j → j < length rs →
+    (range_at rs i).upper + 1 < (range_at rs j).lower
 RisesFrom-gap first [] i j h lt hj = absurd (omega arith)
 RisesFrom-gap first (r ∷ rs) i zero h lt hj = absurd (omega arith)
 RisesFrom-gap first (r ∷ rs) zero (suc j) h lt hj =
     let rest = RisesFrom-at (r.upper + 2) rs j h.3 (omega arith) in omega (arith, rest.0)
-RisesFrom-gap first (r ∷ rs) (suc i) (suc j) h lt hj = RisesFrom-gap (r.upper + 2) rs i j h.3 (omega arith) (omega arith)
+RisesFrom-gap first (r ∷ rs) (suc i) (suc j) h lt hj =
+    RisesFrom-gap (r.upper + 2) rs i j h.3 (omega arith) (omega arith)
 
 -- a later range ends no earlier
-pub RisesFrom-ends : (first : ℕ) (rs : List Range) (i j : ℕ) → RisesFrom first rs → i ≤ j → j < length rs → (range_at rs i).upper ≤ (range_at rs j).upper
+pub RisesFrom-ends : (first : ℕ) (rs : List Range) (i j : ℕ) → RisesFrom first rs → i ≤ j → j < length rs →
+    (range_at rs i).upper ≤ (range_at rs j).upper
 RisesFrom-ends first rs i j h le hj = elim (cases_lt i j) [
   | inl lt ↦ omega (arith, RisesFrom-gap first rs i j h lt hj, (RisesFrom-at first rs j h hj).1)
   | inr ge ↦ let e : i ≡ j = omega arith in rw e (omega arith)
 ]
 
 -- a later range begins no earlier
-pub RisesFrom-starts : (first : ℕ) (rs : List Range) (i j : ℕ) → RisesFrom first rs → i ≤ j → j < length rs → (range_at rs i).lower ≤ (range_at rs j).lower
+pub RisesFrom-starts : (first : ℕ) (rs : List Range) (i j : ℕ) → RisesFrom first rs → i ≤ j → j < length rs →
+    (range_at rs i).lower ≤ (range_at rs j).lower
 RisesFrom-starts first rs i j h le hj = elim (cases_lt i j) [
   | inl lt ↦ omega (arith, RisesFrom-gap first rs i j h lt hj, (RisesFrom-at first rs i h (omega arith)).1)
   | inr ge ↦ let e : i ≡ j = omega arith in rw e (omega arith)
@@ -93,21 +102,24 @@ in_ranges-before first n (r ∷ rs) h lt =
     let rest : in_ranges rs n ≡ false = in_ranges-before (r.upper + 2) n rs h.3 (omega (arith, h.0, h.1)) in
     or_from _ _ no rest
 
--- a number of the first range of one list, or the number after that range, tells where the first range of the other lies
+-- a number of the first range of a list, or the number after it, tells where the first range of the other list lies
 first_within : (first : ℕ) (x y : Range) (xs ys : List Range) → RisesFrom first (x ∷ xs) → RisesFrom first (y ∷ ys) →
-    ((n : ℕ) → in_ranges (x ∷ xs) n ≡ in_ranges (y ∷ ys) n) → (y.lower ≤ x.lower) × (x.lower ≡ y.lower → y.upper ≤ x.upper)
+    ((n : ℕ) → in_ranges (x ∷ xs) n ≡ in_ranges (y ∷ ys) n) →
+        (y.lower ≤ x.lower) × (x.lower ≡ y.lower → y.upper ≤ x.upper)
 first_within first x y xs ys hx hy same = (
   elim (cases_lt x.lower y.lower) [
     | inl lt ↦
         let yes : in_range x x.lower ≡ true = grind (arith, in_range_tells x x.lower, hx.1) in
-        let no : in_ranges (y ∷ ys) x.lower ≡ false = in_ranges-before y.lower x.lower (y ∷ ys) (omega arith, hy.1, hy.2, hy.3) lt in
+        let no : in_ranges (y ∷ ys) x.lower ≡ false =
+        in_ranges-before y.lower x.lower (y ∷ ys) (omega arith, hy.1, hy.2, hy.3) lt in
         absurd (true≢false (sym (or_left _ _ yes) ∙ same x.lower ∙ no))
     | inr ge ↦ ge
   ],
   λ starts. elim (cases_lt x.upper y.upper) [
     | inl lt ↦
         let out : in_range x (x.upper + 1) ≡ false = grind (arith, in_range_tells x (x.upper + 1)) in
-        let rest : in_ranges xs (x.upper + 1) ≡ false = in_ranges-before (x.upper + 2) (x.upper + 1) xs hx.3 (omega arith) in
+        let rest : in_ranges xs (x.upper + 1) ≡ false =
+        in_ranges-before (x.upper + 2) (x.upper + 1) xs hx.3 (omega arith) in
         let yes : in_range y (x.upper + 1) ≡ true = grind (arith, in_range_tells y (x.upper + 1), hx.1) in
         absurd (true≢false (sym (or_left _ _ yes) ∙ sym (same (x.upper + 1)) ∙ or_from _ _ out rest))
     | inr ge ↦ ge
@@ -115,9 +127,11 @@ first_within first x y xs ys hx hy same = (
 )
 
 first_is_in : (first : ℕ) (x : Range) (xs : List Range) → RisesFrom first (x ∷ xs) → in_ranges (x ∷ xs) x.lower ≡ true
-first_is_in first x xs h = let yes : in_range x x.lower ≡ true = grind (arith, in_range_tells x x.lower, h.1) in or_left _ _ yes
+first_is_in first x xs h =
+    let yes : in_range x x.lower ≡ true = grind (arith, in_range_tells x x.lower, h.1) in or_left _ _ yes
 
-same_from : (first : ℕ) (xs ys : List Range) → RisesFrom first xs → RisesFrom first ys → ((n : ℕ) → in_ranges xs n ≡ in_ranges ys n) → xs ≡ ys
+same_from : (first : ℕ) (xs ys : List Range) → RisesFrom first xs → RisesFrom first ys →
+    ((n : ℕ) → in_ranges xs n ≡ in_ranges ys n) → xs ≡ ys
 same_from first [] [] hx hy same = refl
 same_from first [] (y ∷ ys) hx hy same = absurd (true≢false (sym (first_is_in first y ys hy) ∙ sym (same y.lower)))
 same_from first (x ∷ xs) [] hx hy same = absurd (true≢false (sym (first_is_in first x xs hx) ∙ same x.lower))
@@ -138,7 +152,8 @@ same_from first (x ∷ xs) (y ∷ ys) hx hy same =
     ap₂ ◌∷◌ heads (same_from (x.upper + 2) xs ys hx.3 after rest)
 
 -- two canonical lists with the same numbers are equal
-pub same_numbers_same : (xs ys : List Range) → IsCanonical xs → IsCanonical ys → ((n : ℕ) → in_ranges xs n ≡ in_ranges ys n) → xs ≡ ys
+pub same_numbers_same : (xs ys : List Range) → IsCanonical xs → IsCanonical ys →
+    ((n : ℕ) → in_ranges xs n ≡ in_ranges ys n) → xs ≡ ys
 same_numbers_same xs ys hx hy same = same_from 1 xs ys hx hy same
 
 -- no range has a number that each ends before
@@ -146,7 +161,8 @@ pub in_ranges-past : (rs : List Range) (n place : ℕ) → IsPlace rs n place �
 in_ranges-past rs n place p h = in_ranges-outside rs n (λ k hk. inr (p.before k (omega arith)))
 
 -- where the first range that ends at n or later begins by n, it has n, and else none has
-pub in_ranges-at_place : (rs : List Range) (n place : ℕ) → IsCanonical rs → IsPlace rs n place → place < length rs → in_ranges rs n ≡ nat_le (range_at rs place).lower n
+pub in_ranges-at_place : (rs : List Range) (n place : ℕ) → IsCanonical rs → IsPlace rs n place → place < length rs →
+    in_ranges rs n ≡ nat_le (range_at rs place).lower n
 in_ranges-at_place rs n place h p lt =
     let ends : n ≤ (range_at rs place).upper = p.after place (omega arith) lt in
     elim (cases_lt n (range_at rs place).lower) [
@@ -155,7 +171,8 @@ in_ranges-at_place rs n place h p lt =
             | inl a ↦ inr (p.before k a)
             | inr b ↦ inl (omega (arith, RisesFrom-starts 1 rs place k h b hk))
           ]) ∙ sym (lt-leb _ _ below)
-      | inr from ↦ in_ranges-at rs place n lt (grind (arith, in_range_tells (range_at rs place) n)) ∙ sym (le-leb _ _ from)
+      | inr from ↦ in_ranges-at rs place n lt (grind (arith, in_range_tells (range_at rs place) n))
+          ∙ sym (le-leb _ _ from)
     ]
 
 -- the greatest number is the last range's end
@@ -197,7 +214,9 @@ IsGreatest-greatest_of (r ∷ rs) h =
     rw e (record {
       inside = λ some. in_ranges-at xs last end.upper (omega arith) (grind (arith, in_range_tells end end.upper, at.1));
       above = λ n t. elim (cases_lt end.upper n) [
-        | inl beyond ↦ absurd (both_ways _ (in_ranges-outside xs n (λ k hk. inr (omega (arith, RisesFrom-ends 1 xs k last h (omega arith) (omega arith))))) t)
+        | inl beyond ↦ absurd (both_ways _
+            (in_ranges-outside xs n (λ k hk. inr
+                (omega (arith, RisesFrom-ends 1 xs k last h (omega arith) (omega arith))))) t)
         | inr le ↦ le
       ];
     })

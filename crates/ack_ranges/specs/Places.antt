@@ -23,7 +23,8 @@ pub record IsSpan (ranges : List Range) (lower upper from to : ℕ) : Type 0 whe
   pub rises : from ≤ to
   pub within : to ≤ length ranges
   pub before : (k : ℕ) → k < from → (range_at ranges k).upper + 1 < lower
-  pub touched : (k : ℕ) → from ≤ k → k < to → ((range_at ranges k).lower ≤ upper + 1) × (lower ≤ (range_at ranges k).upper + 1)
+  pub touched : (k : ℕ) → from ≤ k → k < to →
+      ((range_at ranges k).lower ≤ upper + 1) × (lower ≤ (range_at ranges k).upper + 1)
   pub after : (k : ℕ) → to ≤ k → k < length ranges → upper + 1 < (range_at ranges k).lower
 
 -- each range begins at n or earlier

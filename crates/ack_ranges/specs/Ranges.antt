@@ -10,9 +10,13 @@ pub record Contents : Type 0 where
   pub ranges : List Range
   pub spare : ℕ
 
+-- n is one of the numbers from lower to upper
+abbrev pub is_between : ℕ → ℕ → ℕ → Bool
+is_between lower upper n = nat_le lower n && nat_le n upper
+
 -- n lies in the range
 abbrev pub in_range : Range → ℕ → Bool
-in_range r n = nat_le r.lower n && nat_le n r.upper
+in_range r n = is_between r.lower r.upper n
 
 -- n lies in one of the ranges
 abbrev pub in_ranges : List Range → ℕ → Bool
@@ -23,12 +27,12 @@ in_ranges (r ∷ rs) n = in_range r n || in_ranges rs n
 abbrev pub Has : List Range → ℕ → Type 0
 Has ranges n = IsTrue (in_ranges ranges n)
 
--- n is a message number that the ranges lack
+-- n is a number from 1 on that the ranges lack
 abbrev pub Lacks : List Range → ℕ → Type 0
 Lacks ranges n = (0 < n) × (in_ranges ranges n ≡ false)
 
--- each range begins at first or later, has a number, and ends at the greatest message number at the latest; the next one
--- begins after a number that lies in neither
+-- each range begins at first or later, has a number, and ends at the greatest message number at the latest; the next
+-- one begins after a number that lies in neither
 abbrev pub RisesFrom : ℕ → List Range → Type 0
 RisesFrom first [] = Unit {0}
 RisesFrom first (r ∷ rs) = (first ≤ r.lower) × (r.lower ≤ r.upper) × (r.upper ≤ MAX_NO) × RisesFrom (r.upper + 2) rs

@@ -1,6 +1,6 @@
 //! Sets of message numbers as ranges that rise with gaps between them, as acknowledgements name them.
-//! It stands on the numbers of `rm_base`. The layer above may see a `RangeSet` as its canonical list of ranges, which its
-//! numbers determine, and beside it how many more ranges it has room for.
+//! It stands on the numbers of `rm_base`. The layer above may see a `RangeSet` as its canonical list of ranges, which
+//! its numbers determine, and beside it how many more ranges it has room for.
 #![tactic(auto)]
 
 mod laws;

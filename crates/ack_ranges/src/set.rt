@@ -1,5 +1,14 @@
-ghost use Rattle.std.specs.Prelude.{◌≡◌, ℕ, [], ◌+◌, ◌-◌, ◌<◌, ◌≤◌, ◌==◌, length, not, nat_le, ◌&&◌, IsTrue, ◌↔◌, IfOk, OnOk, OnErr, IsOk};
-ghost use Rattle.ack_ranges.specs.Ranges.{in_ranges, in_range, IsCanonical, front_of, IsFront, greatest_of, IsGreatest, AreMissing};
+ghost use Rattle.std.specs.Prelude.{◌≡◌, [], ◌+◌, ◌<◌, ◌≤◌, ◌==◌, length, not, IsTrue, ◌↔◌, IfOk, OnOk, OnErr, IsOk};
+ghost use Rattle.ack_ranges.specs.Ranges.{
+  is_between,
+  in_ranges,
+  IsCanonical,
+  front_of,
+  IsFront,
+  greatest_of,
+  IsGreatest,
+  AreMissing,
+};
 ghost use Rattle.ack_ranges.specs.Changes.{with_range, united, covers, covers_all, AddsExactly, BringsNew};
 
 use crate::MAX_NO;
@@ -10,8 +19,8 @@ use rm_base::{Memory, Numbers};
 use std::alloc::Global;
 use std::marker::Model;
 
-/// A set of message numbers from 1 to `MAX_NO`, kept and seen as its canonical ranges, with the number of ranges that it
-/// has room for beside them.
+/// A set of message numbers from 1 to `MAX_NO`, kept and seen as its canonical ranges, with the number of ranges that
+/// it has room for beside them.
 #[derive(Debug, Drop)]
 pub struct RangeSet {
     kept: Vec<Range>,
@@ -100,9 +109,9 @@ impl RangeSet {
         requires ordered { lower ≤ upper }
         requires within { upper ≤ MAX_NO }
         ensures ok { OnOk result (self.new.ranges ≡ with_range self.old.ranges lower upper) }
-        ensures adds { OnOk result (AddsExactly self.old.ranges self.new.ranges (λ m. nat_le lower m && nat_le m upper)) }
+        ensures adds { OnOk result (AddsExactly self.old.ranges self.new.ranges (is_between lower upper)) }
         ensures is_new { IfOk result (λ is_new. is_new ≡ not (covers self.old.ranges lower upper)) }
-        ensures brings { IfOk result (λ is_new. IsTrue is_new ↔ BringsNew self.old.ranges (λ m. nat_le lower m && nat_le m upper)) }
+        ensures brings { IfOk result (λ is_new. IsTrue is_new ↔ BringsNew self.old.ranges (is_between lower upper)) }
         ensures err { OnErr result (self.new.ranges ≡ self.old.ranges) }
 
         // It takes memory only where nothing is spare, and of what is spare at most 1.
@@ -117,7 +126,8 @@ impl RangeSet {
         ensures ok { OnOk result (self.new.ranges ≡ united self.old.ranges other.now.ranges) }
         ensures adds { OnOk result (AddsExactly self.old.ranges self.new.ranges (in_ranges other.now.ranges)) }
         ensures is_new { IfOk result (λ is_new. is_new ≡ not (covers_all self.old.ranges other.now.ranges)) }
-        ensures brings { IfOk result (λ is_new. IsTrue is_new ↔ BringsNew self.old.ranges (in_ranges other.now.ranges)) }
+        ensures brings { IfOk result (λ is_new.
+            IsTrue is_new ↔ BringsNew self.old.ranges (in_ranges other.now.ranges)) }
         ensures err { OnErr result (self.new.ranges ≡ self.old.ranges) }
 
         // It takes memory only where less is spare than the other's ranges, and of what is spare at most as many.

@@ -22,11 +22,13 @@ covered c =
     let within : c.span_of-from.result.0 < length c.args.ranges.now.items = omega (arith, span.rises, span.within) in
     let first = read_at _ _ _ within c.index-first.ensures in
     covers-first _ c.args.lower c.args.upper _ within
-    (ap (λ (r : Range). nat_le r.lower c.args.lower && nat_le c.args.upper r.upper) (sym first) ∙ sym c.if-has_range.ensures)
+    (ap (λ (r : Range). nat_le r.lower c.args.lower && nat_le c.args.upper r.upper) (sym first)
+    ∙ sym c.if-has_range.ensures)
 
 pub returns-then-has_range-clause-ok : goal.returns-then-has_range-clause-ok
 returns-then-has_range-clause-ok c =
-    sym (with_range-covered _ _ _ c.requires.canonical c.requires.from_one c.requires.ordered c.requires.within (covered c))
+    sym (with_range-covered _ _ _ c.requires.canonical c.requires.from_one c.requires.ordered c.requires.within
+        (covered c))
 
 pub returns-then-has_range-clause-is_new : goal.returns-then-has_range-clause-is_new
 returns-then-has_range-clause-is_new c = ap not (sym (covered c))
@@ -55,5 +57,7 @@ returns-clause-is_new c =
     let span = rw c.deref.ensures.value at c.span_of-from.ensures in
     let some : from < c.span_of-from.result.1 = omega (arith, span.rises) in
     let first = read_at xs from c.index-first.result.now (omega (arith, span.within)) c.index-first.ensures in
-    ap not (sym (covers-joined xs c.args.lower c.args.upper from c.span_of-from.result.1 c.requires.canonical c.requires.ordered span some
-    (ap (λ (r : Range). nat_le r.lower c.args.lower && nat_le c.args.upper r.upper) (sym first) ∙ sym c.if-has_range.ensures)))
+    ap not (sym (covers-joined xs c.args.lower c.args.upper from c.span_of-from.result.1 c.requires.canonical
+    c.requires.ordered span some
+    (ap (λ (r : Range). nat_le r.lower c.args.lower && nat_le c.args.upper r.upper) (sym first)
+    ∙ sym c.if-has_range.ensures)))
