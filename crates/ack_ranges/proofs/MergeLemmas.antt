@@ -105,7 +105,7 @@ united-covered_all xs ys hx hy t = united-from_numbers xs xs ys hx hx hy (λ n. 
   | inr outside ↦ sym (ap (λ b. in_ranges xs n || b) outside ∙ or-false _)
 ])
 
-uncovered_all : (first : ℕ) (xs ys : List Range) → IsCanonical xs → RisesFrom first ys → covers_all xs ys ≡ false →
+pub uncovered_all : (first : ℕ) (xs ys : List Range) → IsCanonical xs → RisesFrom first ys → covers_all xs ys ≡ false →
     BringsNew xs (in_ranges ys)
 uncovered_all first xs [] hx hy t = absurd (false≢true (sym t))
 uncovered_all first xs (y ∷ ys) hx hy t = elim (and_cases (covers xs y.lower y.upper) (covers_all xs ys) t) [

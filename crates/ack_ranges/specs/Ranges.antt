@@ -41,11 +41,6 @@ RisesFrom first (r ∷ rs) = (first ≤ r.lower) × (r.lower ≤ r.upper) × (r.
 abbrev pub IsCanonical : List Range → Type 0
 IsCanonical ranges = RisesFrom 1 ranges
 
--- two canonical lists with the same numbers are equal
-abbrev pub SameNumbersSameRanges : Type 0
-SameNumbersSameRanges =
-    (xs ys : List Range) → IsCanonical xs → IsCanonical ys → ((n : ℕ) → in_ranges xs n ≡ in_ranges ys n) → xs ≡ ys
-
 -- the greatest m such that 1 to m are all inside, and 0 where 1 isn't
 abbrev pub front_of : List Range → ℕ
 front_of [] = 0

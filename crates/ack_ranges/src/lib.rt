@@ -9,7 +9,9 @@ mod missing;
 mod range;
 mod set;
 
-pub use laws::same_numbers_same_ranges;
+pub use laws::{
+    ends_are_right, new_is_one_not_there, range_is_added, same_numbers_same_ranges, union_has_both,
+};
 pub use range::Range;
 pub use set::RangeSet;
 
