@@ -58,7 +58,7 @@ in_ranges-with_range first (r ∷ rs) l u n h le = elim (beside r l u) [
       ∙ or_comm (nat_le l n && nat_le n u) (in_range r n || in_ranges rs n)
   | inr (inr (a, b)) ↦
       let rest : in_ranges (with_range rs (min r.lower l) (max r.upper u)) n ≡
-          (in_ranges rs n || in_range (record { lower = min r.lower l; upper = max r.upper u }) n) =
+      (in_ranges rs n || in_range (record { lower = min r.lower l; upper = max r.upper u }) n) =
       in_ranges-with_range (r.upper + 2) rs (min r.lower l) (max r.upper u) n h.3 (omega (arith, h.1)) in
       ap (λ l. in_ranges l n) (with_range-touched r rs l u a b) ∙ rest
       ∙ ap (λ b. in_ranges rs n || b) (hull r l u n h.1 le a b)
@@ -75,7 +75,7 @@ RisesFrom-with_range first (r ∷ rs) l u h from le end = elim (beside r l u) [
   | inr (inl (a, b)) ↦ rw (with_range-ahead r rs l u a b) (from, le, end, (omega arith, h.1, h.2, h.3))
   | inr (inr (a, b)) ↦ rw (with_range-touched r rs l u a b)
       (RisesFrom-with_range first rs (min r.lower l) (max r.upper u)
-          (RisesFrom-weaker first (r.upper + 2) rs (omega (arith, h.0, h.1)) h.3)
+      (RisesFrom-weaker first (r.upper + 2) rs (omega (arith, h.0, h.1)) h.3)
       (omega (arith, h.0)) (omega (arith, h.1)) (omega (arith, h.2)))
 ]
 
@@ -132,8 +132,11 @@ insert-span rs l u from to h le span e =
 
 -- a range that touches others takes their place
 pub join-span : (rs : List Range) (l u from to : ℕ) → IsCanonical rs → l ≤ u → IsSpan rs l u from to → from < to →
-    take from rs ++ record { lower = min (range_at rs from).lower l; upper = max
-        (range_at rs (to - 1)).upper u } ∷ drop to rs ≡ with_range rs l u
+    take from rs ++ record {
+      lower = min (range_at rs from).lower l;
+      upper = max
+          (range_at rs (to - 1)).upper u;
+    } ∷ drop to rs ≡ with_range rs l u
 join-span rs l u from to h le span lt =
     let none : Range = record { lower = 0; upper = 0 } in
     let rest : List Range = drop from rs in
@@ -156,11 +159,11 @@ join-span rs l u from to h le span lt =
     let hulled : with_range rest l u ≡ with_range (drop to rs) l' u' =
     with_range-hull 1 rest j l u starts within touched
     ∙ ap₂ (λ a b. with_range (drop (suc j) rest) a b) (ap (λ (r : Range). min r.lower l) first)
-        (ap (λ (r : Range). max r.upper u) last)
+    (ap (λ (r : Range). max r.upper u) last)
     ∙ ap (λ x. with_range x l' u') after in
     ap (λ x. take from rs ++ x) (sym
-        (hulled ∙ with_range-front 1 (drop to rs) l' u' (RisesFrom-drop 1 rs to h)
-            (omega (arith, (RisesFrom-at 1 rs from h (omega (arith, span.within))).1)) ahead))
+    (hulled ∙ with_range-front 1 (drop to rs) l' u' (RisesFrom-drop 1 rs to h)
+    (omega (arith, (RisesFrom-at 1 rs from h (omega (arith, span.within))).1)) ahead))
     ∙ sym (with_range-after rs from l u (omega (arith, span.within)) span.before)
 
 covers-nowhere : (rs : List Range) (l u : ℕ) →
@@ -168,7 +171,7 @@ covers-nowhere : (rs : List Range) (l u : ℕ) →
     covers rs l u ≡ false
 covers-nowhere rs l u h =
     or_from_places (λ x. covers x l u) (λ r. nat_le r.lower l && nat_le u r.upper) refl (λ _ _. refl) rs
-        (record { lower = 0; upper = 0 }) h
+    (record { lower = 0; upper = 0 }) h
 
 -- no range covers numbers that touch none
 pub covers-span : (rs : List Range) (l u from to : ℕ) → IsCanonical rs → l ≤ u → IsSpan rs l u from to → from ≡ to →
@@ -183,7 +186,7 @@ pub covers-first : (rs : List Range) (l u from : ℕ) → from < length rs →
     (nat_le (range_at rs from).lower l && nat_le u (range_at rs from).upper) ≡ true → covers rs l u ≡ true
 covers-first rs l u from h t =
     or_at (λ x. covers x l u) (λ r. nat_le r.lower l && nat_le u r.upper) refl (λ _ _. refl) rs from
-        (record { lower = 0; upper = 0 }) h t
+    (record { lower = 0; upper = 0 }) h t
 
 -- or none does
 pub covers-joined : (rs : List Range) (l u from to : ℕ) → IsCanonical rs → l ≤ u → IsSpan rs l u from to → from < to →
@@ -265,7 +268,7 @@ adds-with_number old new n h e from end =
     let range = adds-with_range old new n n h e from (omega arith) end in
     record {
       numbers = λ m. let one : (nat_le n m && nat_le m n) ≡ (m == n) = grind (arith, nat_tests) in range.numbers m
-      ∙ ap (λ b. in_ranges old m || b) one;
+          ∙ ap (λ b. in_ranges old m || b) one;
       canonical = range.canonical;
     }
 
@@ -280,7 +283,7 @@ brings-covers rs l u is_new h le e = (
   λ t. uncovered 1 rs l u h le (not-true _ (sym e ∙ t)),
   λ b. e ∙ not_from_false _ (false_from_ne_true _
       (λ t. both_ways _ b.absent (in_ranges-covered rs l u b.number t (grind (arith, nat_tests, b.among))
-          (grind (arith, nat_tests, b.among))))),
+      (grind (arith, nat_tests, b.among))))),
 )
 
 -- the first range that ends by the last number tells whether one covers them

@@ -34,7 +34,7 @@ pub with_range-push : (rs : List Range) (l u : ℕ) → ((k : ℕ) → k < lengt
 with_range-push rs l u before =
     with_range-after rs (length rs) l u (omega arith) before
     ∙ ap₂ (λ xs ys. xs ++ with_range ys l u) (take_all (length rs) rs (omega arith))
-        (drop_all (length rs) rs (omega arith))
+    (drop_all (length rs) rs (omega arith))
 
 -- one with the last range
 pub with_range-last : (first : ℕ) (rs : List Range) (last : Range) (l u : ℕ) → RisesFrom first (rs ++ last ∷ []) →
@@ -58,7 +58,7 @@ pub in_ranges-united : (xs ys : List Range) (first n : ℕ) → IsCanonical xs �
 in_ranges-united xs [] first n hx some hy = sym (or-false _)
 in_ranges-united xs (y ∷ ys) first n hx some hy =
     in_ranges-united (with_range xs y.lower y.upper) ys (y.upper + 2) n
-        (RisesFrom-with_range 1 xs y.lower y.upper hx (omega (arith, hy.0)) hy.1 hy.2) (omega arith) hy.3
+    (RisesFrom-with_range 1 xs y.lower y.upper hx (omega (arith, hy.0)) hy.1 hy.2) (omega arith) hy.3
     ∙ ap (λ b. b || in_ranges ys n) (in_ranges-with_range 1 xs y.lower y.upper n hx hy.1)
     ∙ sym (or_assoc (in_ranges xs n) (in_range y n) (in_ranges ys n))
 
@@ -67,7 +67,7 @@ pub IsCanonical-united : (xs ys : List Range) (first : ℕ) → IsCanonical xs �
 IsCanonical-united xs [] first hx some hy = hx
 IsCanonical-united xs (y ∷ ys) first hx some hy =
     IsCanonical-united (with_range xs y.lower y.upper) ys (y.upper + 2)
-        (RisesFrom-with_range 1 xs y.lower y.upper hx (omega (arith, hy.0)) hy.1 hy.2) (omega arith) hy.3
+    (RisesFrom-with_range 1 xs y.lower y.upper hx (omega (arith, hy.0)) hy.1 hy.2) (omega arith) hy.3
 
 -- a set adds exactly its numbers
 pub adds-united : (old new ys : List Range) → IsCanonical old → IsCanonical ys → new ≡ united old ys →
@@ -111,12 +111,18 @@ uncovered_all first xs [] hx hy t = absurd (false≢true (sym t))
 uncovered_all first xs (y ∷ ys) hx hy t = elim (and_cases (covers xs y.lower y.upper) (covers_all xs ys) t) [
   | inl here ↦
       let new = uncovered 1 xs y.lower y.upper hx hy.1 here in
-      record { number = new.number; among = or_left (in_range y new.number) (in_ranges ys new.number) new.among;
-          absent = new.absent }
+      record {
+        number = new.number;
+        among = or_left (in_range y new.number) (in_ranges ys new.number) new.among;
+        absent = new.absent;
+      }
   | inr later ↦
       let new = uncovered_all (y.upper + 2) xs ys hx hy.3 later in
-      record { number = new.number; among = or_right (in_range y new.number) (in_ranges ys new.number) new.among;
-          absent = new.absent }
+      record {
+        number = new.number;
+        among = or_right (in_range y new.number) (in_ranges ys new.number) new.among;
+        absent = new.absent;
+      }
 ]
 
 -- a set brings a new number exactly where its ranges don't all lie in the others
@@ -199,8 +205,8 @@ or_swap x y z = sym (or_assoc x y z) ∙ ap (λ b. x || b) (or_comm y z) ∙ or_
 pub merging-read : (before all others new : List Range) (read next kept count : ℕ) →
     IsCanonical (drop (length others) before) → Merging before all others read next kept →
     IsNextOf all read others next → length all ≡
-        length before → PutsLast all new kept count (range_at before read) →
-            Merging before new others (read + 1) next count
+    length before → PutsLast all new kept count (range_at before read) →
+    Merging before new others (read + 1) next count
 merging-read before all others new read next kept count h m first len put =
     let room : ℕ = length others in
     let xs : List Range = drop room before in
@@ -221,31 +227,31 @@ merging-read before all others new read next kept count h m first len put =
           ∙ drop-further read (read + 1) all before (omega arith) m.rest;
       canonical = rw put.sum (RisesFrom-with_range 1 (take kept all) z.lower z.upper m.canonical at.0 at.1 at.2);
       numbers = λ n. ap (λ x. in_ranges x n) put.sum
-      ∙ in_ranges-with_range 1 (take kept all) z.lower z.upper n m.canonical at.1
+          ∙ in_ranges-with_range 1 (take kept all) z.lower z.upper n m.canonical at.1
           ∙ ap (λ b. b || in_range z n) (m.numbers n)
           ∙ or_swap (in_ranges (take i xs) n) (in_ranges (take next others) n) (in_range z n)
           ∙ ap (λ b. b || in_ranges (take next others) n)
-              (sym (ap (λ x. in_ranges x n) more ∙ in_ranges-push (take i xs) z n));
+          (sym (ap (λ x. in_ranges x n) more ∙ in_ranges-push (take i xs) z n));
       before_read = λ lt.
           let later : z.lower ≤ (range_at before (read + 1)).lower =
           rw (← behind-room before room read m.begun, ← behind-room before room (read + 1) (omega (arith, m.begun)))
           (RisesFrom-starts 1 xs i (read + 1 - room) h (omega arith)
-              (omega (arith, length-drop room before, m.begun))) in
+          (omega (arith, length-drop room before, m.begun))) in
           rw put.sum (StartsBy-weaker _ z.lower _ later
-              (StartsBy-with_range (take kept all) z.lower z.upper z.lower (m.before_read within) (omega arith)));
+          (StartsBy-with_range (take kept all) z.lower z.upper z.lower (m.before_read within) (omega arith)));
       before_next = λ lt.
           let early : z.lower ≤ (range_at others next).lower =
           rw (← read-as_before before all read m.rest) (first.first lt) in
           rw put.sum (StartsBy-with_range (take kept all) z.lower z.upper (range_at others next).lower
-              (m.before_next lt) early);
+          (m.before_next lt) early);
     }
 
 -- the next is one of the others
 pub merging-next : (before all others new : List Range) (read next kept count : ℕ) → IsCanonical others →
     Merging before all others read next kept →
     IsNextBefore others next all read → length all ≡
-        length before → PutsLast all new kept count (range_at others next) →
-            Merging before new others read (next + 1) count
+    length before → PutsLast all new kept count (range_at others next) →
+    Merging before new others read (next + 1) count
 merging-next before all others new read next kept count h m first len put =
     let y : Range = range_at others next in
     let at = RisesFrom-at 1 others next h first.within in
@@ -260,7 +266,7 @@ merging-next before all others new read next kept count h m first len put =
       rest = drop-further (kept + 1) read new all (omega (arith, m.behind, first.within)) put.rest ∙ m.rest;
       canonical = rw put.sum (RisesFrom-with_range 1 (take kept all) y.lower y.upper m.canonical at.0 at.1 at.2);
       numbers = λ n. ap (λ x. in_ranges x n) put.sum
-      ∙ in_ranges-with_range 1 (take kept all) y.lower y.upper n m.canonical at.1
+          ∙ in_ranges-with_range 1 (take kept all) y.lower y.upper n m.canonical at.1
           ∙ ap (λ b. b || in_range y n) (m.numbers n)
           ∙ sym (or_assoc (in_ranges xs n) (in_ranges (take next others) n) (in_range y n))
           ∙ ap (λ b. in_ranges xs n || b) (sym (ap (λ x. in_ranges x n) more ∙ in_ranges-push (take next others) y n));
@@ -268,11 +274,11 @@ merging-next before all others new read next kept count h m first len put =
           let early : y.lower ≤ (range_at before read).lower =
           rw (← read-as_before before all read m.rest) (omega (arith, first.first (omega arith))) in
           rw put.sum (StartsBy-with_range (take kept all) y.lower y.upper (range_at before read).lower
-              (m.before_read lt) early);
+          (m.before_read lt) early);
       before_next = λ lt.
           let later = RisesFrom-starts 1 others next (next + 1) h (omega arith) lt in
           rw put.sum (StartsBy-weaker _ y.lower _ later
-              (StartsBy-with_range (take kept all) y.lower y.upper y.lower (m.before_next first.within) (omega arith)));
+          (StartsBy-with_range (take kept all) y.lower y.upper y.lower (m.before_next first.within) (omega arith)));
     }
 
 -- both are read to their ends

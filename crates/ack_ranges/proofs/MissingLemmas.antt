@@ -128,8 +128,12 @@ goes-on-before ranges place next h g lt = elim (cases_lt 0 place) [
 pub goes-on-gap : (ranges : List Range) (place next n : ℕ) → IsCanonical ranges → GoesOn ranges place next →
     place < length ranges → next ≤ n → n < (range_at ranges place).lower → in_ranges ranges n ≡ false
 goes-on-gap ranges place next n h g lt from before = in_ranges-outside ranges n (λ k hk. elim (cases_lt k place) [
-  | inl a ↦ inr (omega (arith, g.after (omega arith), RisesFrom-ends 1 ranges k (place - 1) h (omega arith)
-      (omega arith)))
+  | inl a ↦ inr (omega (
+    arith,
+    g.after (omega arith),
+    RisesFrom-ends 1 ranges k (place - 1) h (omega arith)
+        (omega arith),
+  ))
   | inr b ↦ inl (omega (arith, RisesFrom-starts 1 ranges place k h b hk))
 ])
 

@@ -105,7 +105,7 @@ in_ranges-before first n (r ∷ rs) h lt =
 -- a number of the first range of a list, or the number after it, tells where the first range of the other list lies
 first_within : (first : ℕ) (x y : Range) (xs ys : List Range) → RisesFrom first (x ∷ xs) → RisesFrom first (y ∷ ys) →
     ((n : ℕ) → in_ranges (x ∷ xs) n ≡ in_ranges (y ∷ ys) n) →
-        (y.lower ≤ x.lower) × (x.lower ≡ y.lower → y.upper ≤ x.upper)
+    (y.lower ≤ x.lower) × (x.lower ≡ y.lower → y.upper ≤ x.upper)
 first_within first x y xs ys hx hy same = (
   elim (cases_lt x.lower y.lower) [
     | inl lt ↦
@@ -216,7 +216,7 @@ IsGreatest-greatest_of (r ∷ rs) h =
       above = λ n t. elim (cases_lt end.upper n) [
         | inl beyond ↦ absurd (both_ways _
             (in_ranges-outside xs n (λ k hk. inr
-                (omega (arith, RisesFrom-ends 1 xs k last h (omega arith) (omega arith))))) t)
+            (omega (arith, RisesFrom-ends 1 xs k last h (omega arith) (omega arith))))) t)
         | inr le ↦ le
       ];
     })

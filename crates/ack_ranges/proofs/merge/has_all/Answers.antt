@@ -19,7 +19,7 @@ returns-then-place-ranges c =
           covers-past xs other.lower other.upper c.next_place-place.result place (omega (arith, w.if-place-ranges.true))
       | then-place-ranges-via-else-place-ranges+then-other-ranges w ↦
           covers-at_place xs other.lower other.upper c.next_place-place.result c.requires.ranges place
-              (omega (arith, w.if-place-ranges.false, place.within))
+          (omega (arith, w.if-place-ranges.false, place.within))
           ∙ lt-leb _ _ w.if-other-ranges.true
     ] in
     sym (sym c.loop-other.invariant.told
@@ -34,14 +34,18 @@ loop-other-preserved c =
     let place = c.next_place-place.ensures.place in
     let first : covers xs other.lower other.upper ≡ true =
     covers-at_place xs other.lower other.upper c.next_place-place.result c.requires.ranges place
-        (omega (arith, c.if-place-ranges.false, place.within))
+    (omega (arith, c.if-place-ranges.false, place.within))
     ∙ le-leb _ _ c.if-other-ranges.false in
     record {
       within = place.within;
-      before = λ k h more. omega (arith, place.before k h, RisesFrom-ends 1 c.args.others.now i
-          (i + 1) c.requires.others (omega arith) more);
+      before = λ k h more. omega (
+        arith,
+        place.before k h,
+        RisesFrom-ends 1 c.args.others.now i
+            (i + 1) c.requires.others (omega arith) more,
+      );
       told = sym (ap (λ b. b && covers_all xs (drop (i + 1) c.args.others.now)) first)
           ∙ sym (ap (covers_all xs) (drop_more c.args.others.now i
-              (record { lower = 0; upper = 0 }) c.loop-other-test.true))
+          (record { lower = 0; upper = 0 }) c.loop-other-test.true))
           ∙ c.loop-other.invariant.told;
     }

@@ -17,8 +17,12 @@ loop-read-preserved-then-comes_first c =
     let put = c.put_last-kept.ensures in
     let same = read-as_before c.args.all.now c.loop-read.all c.loop-read.read m.rest in
     merging-read _ _ _ _ _ _ c.loop-read.kept _ c.requires.ranges m c.if-comes_first.ensures c.loop-read.auto.all
-    (record { few = put.count; sum = put.sum
-    ∙ ap (λ (r : Range). with_range (take c.loop-read.kept c.loop-read.all) r.lower r.upper) same; rest = put.rest })
+    (record {
+      few = put.count;
+      sum = put.sum
+          ∙ ap (λ (r : Range). with_range (take c.loop-read.kept c.loop-read.all) r.lower r.upper) same;
+      rest = put.rest;
+    })
 
 pub put_last-kept-requires-else-comes_first-clause-a_range :
     goal.put_last-kept-requires-else-comes_first-clause-a_range

@@ -8,6 +8,9 @@ returns-else-ranges-place-clause-place c =
     record {
       within = inv.within;
       before = inv.before;
-      after = λ k le h. omega (arith, c.if-ranges-place.false,
-          RisesFrom-ends 1 c.args.ranges.now c.loop-place.place k c.requires.canonical le h);
+      after = λ k le h. omega (
+        arith,
+        c.if-ranges-place.false,
+        RisesFrom-ends 1 c.args.ranges.now c.loop-place.place k c.requires.canonical le h,
+      );
     }

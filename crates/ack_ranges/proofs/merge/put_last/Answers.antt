@@ -25,7 +25,7 @@ overflow_add-last c =
     let e = last-is all c.args.kept c.if-kept-gt0.true (omega (arith, c.requires.within)) in
     let end : (range_at all (c.args.kept - 1)).upper ≤ 9223372036854775807 =
     rw (← e) (RisesFrom-at 1 (take c.args.kept all) (c.args.kept - 1) c.requires.canonical
-        (omega (arith, length-take-le c.args.kept all (omega (arith, c.requires.within))))).2 in
+    (omega (arith, length-take-le c.args.kept all (omega (arith, c.requires.within))))).2 in
     omega arith
 
 pub returns-then-range-last-clause-sum : goal.returns-then-range-last-clause-sum
@@ -39,13 +39,13 @@ returns-then-range-last-clause-sum c =
     let starts : last.lower ≤ c.args.range.lower =
     rw (← last-is all kept c.if-kept-gt0.true (omega (arith, c.requires.within)))
     (StartsBy-at (take kept all) c.args.range.lower i c.requires.behind
-        (omega (arith, length-take-le kept all (omega (arith, c.requires.within))))) in
+    (omega (arith, length-take-le kept all (omega (arith, c.requires.within))))) in
     ap (λ n. take n (set all i joined)) (omega arith)
     ∙ take_more_set all i joined (omega (arith, c.requires.within))
     ∙ ap (λ (u : ℕ). take i all ++ record { lower = last.lower; upper = u } ∷ []) c.max.ensures
     ∙ sym (ap (λ xs. with_range xs c.args.range.lower c.args.range.upper) whole
     ∙ with_range-last 1 (take i all) last c.args.range.lower c.args.range.upper
-        (rw (← whole) c.requires.canonical) starts c.if-range-last.true c.requires.a_range.1)
+    (rw (← whole) c.requires.canonical) starts c.if-range-last.true c.requires.a_range.1)
 
 pub returns-clause-sum : goal.returns-clause-sum
 returns-clause-sum c =
@@ -53,7 +53,7 @@ returns-clause-sum c =
     let kept = c.args.kept in
     let count : length (take kept all) ≡ kept = length-take-le kept all (omega (arith, c.requires.within)) in
     let before : (k : ℕ) → k < length (take kept all) →
-        (range_at (take kept all) k).upper + 1 < c.args.range.lower = λ k h.
+    (range_at (take kept all) k).upper + 1 < c.args.range.lower = λ k h.
     elim c.if-kept-gt0.branch [
       | then-kept-gt0+else-range-last w ↦
           let e = last-is all kept w.if-kept-gt0.true (omega (arith, c.requires.within)) in

@@ -7,8 +7,11 @@ returns-then-place-ranges c =
     let place = c.place_of-place.ensures in
     record {
       within = place.within;
-      before = λ k h. omega (arith, place.before k h,
-          (RisesFrom-at 1 c.args.ranges.now k c.requires (omega (arith, place.within))).1);
+      before = λ k h. omega (
+        arith,
+        place.before k h,
+        (RisesFrom-at 1 c.args.ranges.now k c.requires (omega (arith, place.within))).1,
+      );
       after = λ k le h. absurd (omega arith);
     }
 
@@ -17,8 +20,11 @@ returns-then-n-ranges c =
     let place = c.place_of-place.ensures in
     record {
       within = place.within;
-      before = λ k h. omega (arith, place.before k h,
-          (RisesFrom-at 1 c.args.ranges.now k c.requires (omega (arith, place.within))).1);
+      before = λ k h. omega (
+        arith,
+        place.before k h,
+        (RisesFrom-at 1 c.args.ranges.now k c.requires (omega (arith, place.within))).1,
+      );
       after = λ k le h. omega (arith, RisesFrom-starts 1 c.args.ranges.now c.place_of-place.result k c.requires le h);
     }
 
@@ -28,8 +34,11 @@ returns c =
     let within : c.place_of-place.result < length c.args.ranges.now = omega (arith, place.within) in
     record {
       within = omega arith;
-      before = λ k h. omega (arith, RisesFrom-starts 1 c.args.ranges.now k c.place_of-place.result c.requires
-          (omega arith) within);
+      before = λ k h. omega (
+        arith,
+        RisesFrom-starts 1 c.args.ranges.now k c.place_of-place.result c.requires
+            (omega arith) within,
+      );
       after = λ k le h. omega (
         arith,
         place.after c.place_of-place.result (omega arith) within,

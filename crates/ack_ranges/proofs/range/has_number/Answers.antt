@@ -10,4 +10,4 @@ returns-then-place-ranges c =
 pub returns-else-place-ranges : goal.returns-else-place-ranges
 returns-else-place-ranges c =
     le-ltb _ _ c.if-place-ranges.false
-        ∙ sym (in_ranges-past _ c.args.n _ c.place_of-place.ensures c.if-place-ranges.false)
+    ∙ sym (in_ranges-past _ c.args.n _ c.place_of-place.ensures c.if-place-ranges.false)

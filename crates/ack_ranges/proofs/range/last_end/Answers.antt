@@ -6,4 +6,4 @@ use Rattle.ack_ranges.proofs.range.last_end.Goals as goal
 pub returns : goal.returns
 returns c =
     sym (greatest_of-last c.args.ranges.now (length c.args.ranges.now - 1)
-        (grind (arith, nat_tests, c.if-is_empty.ensures)))
+    (grind (arith, nat_tests, c.if-is_empty.ensures)))

@@ -10,8 +10,12 @@ loop-low-preserved-then-ranges-mid c =
     record {
       ordered = omega (arith, inv.ordered);
       within = inv.within;
-      before = λ k h. omega (arith, c.if-ranges-mid.true, RisesFrom-ends 1 c.args.ranges.now k mid c.requires
-          (omega arith) within);
+      before = λ k h. omega (
+        arith,
+        c.if-ranges-mid.true,
+        RisesFrom-ends 1 c.args.ranges.now k mid c.requires
+            (omega arith) within,
+      );
       after = inv.after;
     }
 

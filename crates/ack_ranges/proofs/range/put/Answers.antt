@@ -28,7 +28,7 @@ covered c =
 pub returns-then-has_range-clause-ok : goal.returns-then-has_range-clause-ok
 returns-then-has_range-clause-ok c =
     sym (with_range-covered _ _ _ c.requires.canonical c.requires.from_one c.requires.ordered c.requires.within
-        (covered c))
+    (covered c))
 
 pub returns-then-has_range-clause-is_new : goal.returns-then-has_range-clause-is_new
 returns-then-has_range-clause-is_new c = ap not (sym (covered c))

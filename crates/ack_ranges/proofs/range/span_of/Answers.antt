@@ -9,8 +9,11 @@ returns-then-last-lower c =
     record {
       rises = omega arith;
       within = omega arith;
-      before = λ k h. omega (arith, RisesFrom-ends 1 c.args.ranges.now k last c.requires.canonical (omega arith)
-          (omega arith));
+      before = λ k h. omega (
+        arith,
+        RisesFrom-ends 1 c.args.ranges.now k last c.requires.canonical (omega arith)
+            (omega arith),
+      );
       touched = λ k le h. absurd (omega arith);
       after = λ k le h. absurd (omega arith);
     }

@@ -5,7 +5,7 @@ use Rattle.ack_ranges.proofs.set.RangeSet.insert.Goals as goal
 pub invariant_of-self-2 : goal.invariant_of-self-2
 invariant_of-self-2 c =
     rw c.in_ok-put.ensures.ok (RisesFrom-with_range 1 _ _ _ c.self.invariant c.requires.from_one
-        (omega arith) c.requires.within)
+    (omega arith) c.requires.within)
 
 pub returns-clause-adds : goal.returns-clause-adds
 returns-clause-adds c =

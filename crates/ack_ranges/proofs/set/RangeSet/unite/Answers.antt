@@ -13,4 +13,4 @@ returns-clause-adds c = rw (← c.self.view_is, ← c.other.view_is)
 pub returns-clause-brings : goal.returns-clause-brings
 returns-clause-brings c = rw (← c.self.view_is, ← c.other.view_is)
     (brings-covers_all _ _ _ c.self.invariant c.other.invariant
-        (rw c.deref.ensures.value at c.in_ok-unite.ensures.is_new))
+    (rw c.deref.ensures.value at c.in_ok-unite.ensures.is_new))
