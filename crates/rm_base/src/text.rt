@@ -180,8 +180,14 @@ mod tests {
             assert_eq!(rt; Ident::from_slice(alloc, bytes).err(), Some(error));
         }
         let text = "urn:\u{20AC} 1";
-        assert_eq!(rt; Uri::from_slice(alloc, text.as_bytes())?.as_slice(), text.as_bytes());
-        assert_eq!(rt; Ident::from_slice(alloc, text.as_bytes())?.as_slice(), text.as_bytes());
+        assert_eq!(rt;
+            Uri::from_slice(alloc, text.as_bytes())?.as_slice(),
+            text.as_bytes()
+        );
+        assert_eq!(rt;
+            Ident::from_slice(alloc, text.as_bytes())?.as_slice(),
+            text.as_bytes()
+        );
         Ok(())
     }
 
@@ -190,10 +196,22 @@ mod tests {
         let alloc = rt.alloc();
         let bytes = vec![in alloc; b'a'; 2049]?;
         assert_eq!(rt; bytes.len(), 2049);
-        assert_eq!(rt; Uri::from_slice(alloc, &bytes).err(), Some(TextError::TooLong { len: 2049 }));
-        assert_eq!(rt; Uri::from_slice(alloc, &bytes[..2048])?.as_slice().len(), 2048);
-        assert_eq!(rt; Ident::from_slice(alloc, &bytes[..513]).err(), Some(TextError::TooLong { len: 513 }));
-        assert_eq!(rt; Ident::from_slice(alloc, &bytes[..512])?.as_slice().len(), 512);
+        assert_eq!(rt;
+            Uri::from_slice(alloc, &bytes).err(),
+            Some(TextError::TooLong { len: 2049 })
+        );
+        assert_eq!(rt;
+            Uri::from_slice(alloc, &bytes[..2048])?.as_slice().len(),
+            2048
+        );
+        assert_eq!(rt;
+            Ident::from_slice(alloc, &bytes[..513]).err(),
+            Some(TextError::TooLong { len: 513 })
+        );
+        assert_eq!(rt;
+            Ident::from_slice(alloc, &bytes[..512])?.as_slice().len(),
+            512
+        );
         Ok(())
     }
 }
