@@ -2,3 +2,4 @@ pub mod Count
 pub mod Numbered
 pub mod Numbers
 pub mod Outside
+pub mod Text

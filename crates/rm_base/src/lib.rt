@@ -12,6 +12,7 @@ pub mod message;
 pub mod numbers;
 pub mod outside;
 pub mod streams;
+pub mod text;
 pub mod want;
 pub mod whole;
 
@@ -22,5 +23,6 @@ pub use message::{Behaviour, Binding, Bindings, Payload};
 pub use numbers::Numbers;
 pub use outside::{Sink, SinkError, Source};
 pub use streams::{StdSink, StdSource};
+pub use text::{Ident, TextError, Uri};
 pub use want::{Failed, Memory};
 pub use whole::{ReadError, read_up_to, write_all};
