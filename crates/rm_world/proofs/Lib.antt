@@ -1,5 +1,5 @@
 pub mod ListLemmas
-pub mod NumberLemmas
+pub mod MessageLemmas
 pub mod ReleaseLemmas
 pub mod ReplayLemmas
 pub mod ReportLemmas

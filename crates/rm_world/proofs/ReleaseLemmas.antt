@@ -6,7 +6,8 @@ use Rattle.std.proofs.lemmas.Bool.{le-ltb}
 use Rattle.std.proofs.lemmas.Bool.Decides.{nat_tests}
 use Rattle.rm_base.specs.Numbers.{has_number, with_number, front_of, IsRising}
 use Rattle.rm_base.specs.declared.message.Payload.{Payload}
-use Rattle.rm_base.proofs.NumbersLemmas.{Rises-with_number, lt-or-le}
+use Rattle.rm_base.proofs.NumbersLemmas.{Rises-with_number, has_number-with, lt-or-le}
+use Rattle.rm_destination.proofs.AddedLemmas.{numbers_of-with_message, with_message-added}
 use Rattle.rm_base.specs.Numbered.{numbered}
 use Rattle.rm_destination.specs.Incoming.{Receiving, numbers_of, with_message, received_front, kind_of, after_take, inbox_after, inbox_of}
 use Rattle.rm_destination.specs.declared.outcome.Took.{Took}
@@ -21,7 +22,6 @@ use Rattle.rm_world.specs.World.{World, plain, received, arrived, answered, happ
 use Rattle.rm_world.specs.Word.{IsNewAt, Releases, EachReleases}
 use Rattle.rm_world.specs.Sound.{IsSound}
 use Rattle.rm_world.proofs.ListLemmas.{numbered-within}
-use Rattle.rm_world.proofs.NumberLemmas.{has_number-with_number, numbers_of-with_message, Contains-with_message}
 use Rattle.rm_world.proofs.SoundLemmas.{run-IsSound, packet-IsSound}
 
 -- a new number within the window is kept
@@ -37,7 +37,7 @@ dest-deliver w p n text h = rw (h.there, kind_of-new w.dest n h.is_new h.near) r
 front_of-reaches : (xs : List ℕ) (n : ℕ) → IsRising xs → n ≡ front_of xs + 1 → n ≤ front_of (with_number xs n)
 front_of-reaches xs n r e =
     (front_of-IsFront (with_number xs n) (Rises-with_number 0 n xs r (omega arith))).greatest n
-      (λ i from to. has_number-Contains (with_number xs n) i (rw has_number-with_number (
+      (λ i from to. has_number-Contains (with_number xs n) i (rw has_number-with (
         elim (lt-or-le (front_of xs) i) [
           inl past ↦ let same : n ≡ i = omega arith in grind (arith, nat_tests)
         | inr within ↦ let there : has_number xs i ≡ true = front_after-has 0 xs i from within in grind (arith, nat_tests)
@@ -51,14 +51,14 @@ released-next ms n payload r h next =
     let rising : IsRising (numbers_of (with_message ms n payload)) = rw numbers (Rises-with_number 0 n (numbers_of ms) r (omega arith)) in
     let reached : n ≤ front_of (numbers_of (with_message ms n payload)) = rw numbers (front_of-reaches (numbers_of ms) n r next) in
     let inbox = inbox_after-IsInbox (with_message ms n payload) rising in
-    inbox.item n payload (Contains-with_message ms n payload h) (omega (arith, reached, inbox.len))
+    inbox.item n payload (with_message-added ms n payload h) (omega (arith, reached, inbox.len))
 
 -- what a sound world does at a line
 pub IsSound-Releases : (w : World) (event : Event) → IsSound w → Releases w event
 IsSound-Releases w event h = record {
   recorded = λ p n text e new.
     subst (λ (v : Event). Contains (happens w v).dest.received (n, plain text)) (sym e)
-      (rw (dest-deliver w p n text new) (Contains-with_message w.dest.received n (plain text) new.is_new));
+      (rw (dest-deliver w p n text new) (with_message-added w.dest.received n (plain text) new.is_new));
   released = λ p n text e new next.
     subst (λ (v : Event). numbered (inbox_of (happens w v).dest) n ≡ Some (plain text)) (sym e)
       (rw (dest-deliver w p n text new) (released-next w.dest.received n (plain text) h.rising new.is_new next));

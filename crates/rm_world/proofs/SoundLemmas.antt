@@ -6,7 +6,8 @@ use Rattle.std.proofs.lemmas.Bool.{eqb-true}
 use Rattle.std.proofs.lemmas.Bool.Decides.{nat_tests}
 use Rattle.rm_base.specs.Numbers.{has_number, with_number, united, greatest_of, IsRising, Rises}
 use Rattle.rm_base.specs.declared.message.Payload.{Payload}
-use Rattle.rm_base.proofs.NumbersLemmas.{Rises-with_number}
+use Rattle.rm_base.proofs.NumbersLemmas.{Rises-with_number, has_number-with, has_number-united}
+use Rattle.rm_destination.proofs.AddedLemmas.{numbers_of-with_message}
 use Rattle.rm_base.specs.Numbered.{numbered}
 use Rattle.rm_source.specs.Outgoing.{accept_refusal}
 use Rattle.rm_destination.specs.Incoming.{numbers_of, with_message, kind_of, after_take, inbox_after, inbox_of}
@@ -21,13 +22,14 @@ use Rattle.rm_world.specs.Word.{preset, IsPrefixOf, bytes_of, KeepsWord}
 use Rattle.rm_world.specs.Replay.{IsCutShort}
 use Rattle.rm_world.specs.Sound.{AreReceived, IsSoundPacket, IsSoundMessage, IsSound}
 use Rattle.rm_world.proofs.ListLemmas.{All-weaker, All-push, All-numbered, numbered-push, numbered-last, numbered-within, numbered-next, drop-numbered}
-use Rattle.rm_world.proofs.NumberLemmas.{has_number-with_number, has_number-united, numbers_of-with_message, All-with_message}
+use Rattle.rm_world.proofs.MessageLemmas.{All-with_message}
 
 -- what is received stays received
 pub AreReceived-with_message : (numbers : List ℕ) (ms : List (ℕ × Payload)) (n : ℕ) (p : Payload) → AreReceived numbers ms → AreReceived numbers (with_message ms n p)
 AreReceived-with_message numbers ms n p h m t =
     let before : has_number (numbers_of ms) m ≡ true = h m t in
-    let after : has_number (with_number (numbers_of ms) n) m ≡ ((n == m) || has_number (numbers_of ms) m) = has_number-with_number (numbers_of ms) n m in
+    let after : has_number (with_number (numbers_of ms) n) m ≡ (has_number (numbers_of ms) m || (n == m)) =
+      has_number-with (numbers_of ms) n m in
     rw numbers_of-with_message (grind (arith, nat_tests))
 
 -- a packet stays sound when a payload is accepted, and when a message is received
