@@ -16,7 +16,8 @@ no_script (Some all) bytes line P whole bad =
     λ short events script. absurd (IsFirstBad-none (lines_of bytes) events line (rw whole script) bad)
 
 -- and known bytes that are a script have no bad line
-pub no_bad : (left : Option (List ℕ)) (bytes : List ℕ) (events : List Event) (P : Type 0) → IfSome left (λ all. bytes ≡ all)
+pub no_bad : (left : Option (List ℕ)) (bytes : List ℕ) (events : List Event) (P : Type 0)
+    → IfSome left (λ all. bytes ≡ all)
   → IsScript (lines_of bytes) events
   → IfSome left (λ all. length all ≤ 65536 → (line : ℕ) → IsFirstBad (lines_of all) line → P)
 no_bad None bytes events P whole script = tt
@@ -24,13 +25,15 @@ no_bad (Some all) bytes events P whole script =
     λ short line bad. absurd (IsFirstBad-none (lines_of bytes) events line script (rw whole bad))
 
 -- the one item of a list of one
-pub single : {A : Type 0} (items : List A) (item : A) → 1 ≤ length items → length items < 2 → item ≡ get_or items 0 item → items ≡ item ∷ []
+pub single : {A : Type 0} (items : List A) (item : A) → 1 ≤ length items → length items < 2
+    → item ≡ get_or items 0 item → items ≡ item ∷ []
 single [] item some few e = absurd (omega arith)
 single (x ∷ []) item some few e = ap (λ y. y ∷ []) (sym e)
 single (x ∷ y ∷ items) item some few e = absurd (omega arith)
 
 -- a list of one word is that of this word where the words are equal
-pub decided : (words : List (List ℕ)) (item word : List ℕ) (equal : Bool) → words ≡ item ∷ [] → equal ≡ bytes_eq item word
+pub decided : (words : List (List ℕ)) (item word : List ℕ) (equal : Bool) → words ≡ item ∷ []
+    → equal ≡ bytes_eq item word
   → IsTrue equal ↔ (words ≡ word ∷ [])
 decided words item word equal one test = (
     λ t. one ∙ ap (λ x. x ∷ []) ((bytes_eq-Decides item word).0 (sym test ∙ t)),

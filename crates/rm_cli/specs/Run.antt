@@ -43,7 +43,8 @@ pub record NotWritten (left : Option (List ℕ)) (old new : World) (held held' :
   pub ran : IsRun events old new
   pub report : AppendsFront held held' (report_of events old)
 
--- a run that found no memory: nothing was run, or some first lines, and of the next one perhaps the record without its packet
+-- a run that found no memory: nothing was run, or some first lines, and of the next one perhaps the record without
+-- its packet
 pub record RanOut (left : Option (List ℕ)) (old new : World) : Type 0 where
   pub bytes : List ℕ
   pub events : List Event

@@ -25,7 +25,8 @@ use Rattle.rm_world.proofs.ListLemmas.{numbered-within}
 use Rattle.rm_world.proofs.SoundLemmas.{run-IsSound, packet-IsSound}
 
 -- a new number within the window is kept
-kind_of-new : (r : Receiving) (n : ℕ) → has_number (numbers_of r.received) n ≡ false → n ≤ received_front r + 1024 → kind_of r n ≡ New
+kind_of-new : (r : Receiving) (n : ℕ) → has_number (numbers_of r.received) n ≡ false → n ≤ received_front r + 1024
+    → kind_of r n ≡ New
 kind_of-new r n h near = rw (h, le-ltb (received_front r + 1024) n near) refl
 
 -- the destination after a line that delivers a new message
@@ -40,16 +41,21 @@ front_of-reaches xs n r e =
       (λ i from to. has_number-Contains (with_number xs n) i (rw has_number-with (
         elim (lt-or-le (front_of xs) i) [
           inl past ↦ let same : n ≡ i = omega arith in grind (arith, nat_tests)
-        | inr within ↦ let there : has_number xs i ≡ true = front_after-has 0 xs i from within in grind (arith, nat_tests)
+        | inr within ↦ let there : has_number xs i ≡ true = front_after-has 0 xs i from within in
+            grind (arith, nat_tests)
         ])))
 
 -- the next message is the inbox's next item
-released-next : (ms : List (ℕ × Payload)) (n : ℕ) (payload : Payload) → IsRising (numbers_of ms) → has_number (numbers_of ms) n ≡ false
+released-next : (ms : List (ℕ × Payload)) (n : ℕ) (payload : Payload) → IsRising (numbers_of ms)
+    → has_number (numbers_of ms) n ≡ false
   → n ≡ front_of (numbers_of ms) + 1 → numbered (inbox_after 0 (with_message ms n payload)) n ≡ Some payload
 released-next ms n payload r h next =
-    let numbers : numbers_of (with_message ms n payload) ≡ with_number (numbers_of ms) n = numbers_of-with_message ms n payload in
-    let rising : IsRising (numbers_of (with_message ms n payload)) = rw numbers (Rises-with_number 0 n (numbers_of ms) r (omega arith)) in
-    let reached : n ≤ front_of (numbers_of (with_message ms n payload)) = rw numbers (front_of-reaches (numbers_of ms) n r next) in
+    let numbers : numbers_of (with_message ms n payload) ≡ with_number (numbers_of ms) n =
+        numbers_of-with_message ms n payload in
+    let rising : IsRising (numbers_of (with_message ms n payload)) =
+        rw numbers (Rises-with_number 0 n (numbers_of ms) r (omega arith)) in
+    let reached : n ≤ front_of (numbers_of (with_message ms n payload)) =
+        rw numbers (front_of-reaches (numbers_of ms) n r next) in
     let inbox = inbox_after-IsInbox (with_message ms n payload) rising in
     inbox.item n payload (with_message-added ms n payload h) (omega (arith, reached, inbox.len))
 

@@ -43,7 +43,8 @@ pub record IsNewAt (w : World) (p n : ℕ) (text : List ℕ) : Type 0 where
   pub is_new : has_number (numbers_of w.dest.received) n ≡ false
   pub near : n ≤ received_front w.dest + WINDOW
 
--- a new message within the window that a line delivers is recorded by that line, and where it closes the gap it is released
+-- a new message within the window that a line delivers is recorded by that line, and where it closes the gap it is
+-- released
 pub record Releases (w : World) (event : Event) : Type 0 where
   pub recorded : (p n : ℕ) (text : List ℕ) → event ≡ Deliver p → IsNewAt w p n text
     → Contains (happens w event).dest.received (n, plain text)
