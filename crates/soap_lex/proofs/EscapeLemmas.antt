@@ -42,11 +42,11 @@ Escaped-plain quoted old bytes out start i so h plain =
       low = omega arith;
       high = omega arith;
       so = ap (λ l. out ++ l) (run_more bytes start i low h)
-        ∙ sym (append_assoc out (take (i - start) (drop start bytes)) (get_or bytes i 0 ∷ []))
-        ∙ ap (λ l. l ++ get_or bytes i 0 ∷ []) so.so
-        ∙ append_assoc old (flat_map (escape_of quoted) (take i bytes)) (get_or bytes i 0 ∷ [])
-        ∙ ap (λ l. old ++ (flat_map (escape_of quoted) (take i bytes) ++ l)) (sym plain)
-        ∙ ap (λ l. old ++ l) (sym (flat_more quoted bytes i h));
+          ∙ sym (append_assoc out (take (i - start) (drop start bytes)) (get_or bytes i 0 ∷ []))
+          ∙ ap (λ l. l ++ get_or bytes i 0 ∷ []) so.so
+          ∙ append_assoc old (flat_map (escape_of quoted) (take i bytes)) (get_or bytes i 0 ∷ [])
+          ∙ ap (λ l. old ++ (flat_map (escape_of quoted) (take i bytes) ++ l)) (sym plain)
+          ∙ ap (λ l. old ++ l) (sym (flat_more quoted bytes i h));
       kept = so.kept;
     }
 
@@ -61,11 +61,11 @@ Escaped-reference quoted old bytes out reference start i so h same =
       low = omega arith;
       high = omega arith;
       so = ap (λ n. ((out ++ run) ++ reference) ++ take n (drop (i + 1) bytes)) none
-        ∙ append-nil ((out ++ run) ++ reference)
-        ∙ ap (λ l. l ++ reference) so.so
-        ∙ append_assoc old (flat_map (escape_of quoted) (take i bytes)) reference
-        ∙ ap (λ l. old ++ (flat_map (escape_of quoted) (take i bytes) ++ l)) same
-        ∙ ap (λ l. old ++ l) (sym (flat_more quoted bytes i h));
+          ∙ append-nil ((out ++ run) ++ reference)
+          ∙ ap (λ l. l ++ reference) so.so
+          ∙ append_assoc old (flat_map (escape_of quoted) (take i bytes)) reference
+          ∙ ap (λ l. old ++ (flat_map (escape_of quoted) (take i bytes) ++ l)) same
+          ∙ ap (λ l. old ++ l) (sym (flat_more quoted bytes i h));
       kept = ap (λ l. take (length old) l) (append_assoc out run reference) ∙ front_kept old out (run ++ reference) so.kept;
     }
 

@@ -18,7 +18,7 @@ placed bytes at front rest within there =
       low = omega arith;
       front_is = sym (take_at front rest (length bytes - length rest - at) size) ∙ ap (λ l. take (length bytes - length rest - at) l) (sym there);
       rest_is = sym (drop_at front rest (length front) refl) ∙ ap (λ l. drop (length front) l) (sym there) ∙ drop-drop (length front) at bytes
-        ∙ ap (λ n. drop n bytes) end;
+          ∙ ap (λ n. drop n bytes) end;
     }
 
 pub reads_text : (bytes : List ℕ) (at : ℕ) (text rest meaning old new : List ℕ) → at ≤ length bytes → IsTextFirst (drop at bytes) text rest meaning
