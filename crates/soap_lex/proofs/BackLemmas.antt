@@ -1,8 +1,8 @@
 -- What is written is read back.
-use Rattle.std.proofs.Common.{◌≡◌, ◌≢◌, ℕ, zero, suc, ◌+◌, ◌<◌, ◌≤◌, Bool, true, false, ◌||◌, ◌==◌, List, [], ◌∷◌, ◌++◌, length, get_or, refl, sym, ap, ◌∙◌, subst, arith, inl, inr, append_assoc, eqb-true}
+use Rattle.std.proofs.Common.{◌≡◌, ℕ, suc, ◌<◌, ◌≤◌, Bool, true, false, ◌==◌, List, [], ◌∷◌, ◌++◌, length, get_or, refl, sym, ap, ◌∙◌, subst, arith, inl, inr, append_assoc, eqb-true}
 use Rattle.std.specs.Prelude.{◌⊎◌, IsTrue, encode_utf8, encode_utf8_all, map}
 use Rattle.std.specs.List.{AllByRecursion, flat_map}
-use Rattle.std.specs.Str.{NonePass, NoCharPasses}
+use Rattle.std.specs.Str.{NonePass}
 use Rattle.std.proofs.lemmas.Bool.{cases_lt}
 use Rattle.std.proofs.lemmas.Bool.Decides.{nat_tests}
 use Rattle.std.proofs.lemmas.List.{append-nil}
@@ -10,10 +10,10 @@ use Rattle.std.proofs.lemmas.List.Concat.{flat_map-append}
 use Rattle.std.proofs.lemmas.Str.{encode_ascii, inside_one, encodes-append, NoCharPasses-byte}
 use Rattle.memchr.specs.Find.{is_byte}
 use Rattle.xml_chars.specs.Classes.{is_char}
-use Rattle.soap_lex.specs.Characters.{Holds, IsChars}
+use Rattle.soap_lex.specs.Characters.{IsChars}
 use Rattle.soap_lex.specs.Escapes.{text_escape, value_escape, escaped_text, escaped_value}
 use Rattle.soap_lex.specs.References.{IsReference, ampersand, less, greater, quote, decimal}
-use Rattle.soap_lex.specs.Text.{IsCharData, IsText, run, more, IsMarkup, reference, with_line_ends}
+use Rattle.soap_lex.specs.Text.{IsCharData, IsText, run, more, reference, with_line_ends}
 use Rattle.soap_lex.specs.Value.{IsPlainValue, IsInner, IsValue, double, with_spaces, space_of, run as inner_run, more as inner_more}
 use Rattle.soap_lex.proofs.HoldsLemmas.{NonePass-from_places, NonePass-lacks}
 use Rattle.soap_lex.proofs.LineLemmas.{line_ends-run}

@@ -1,13 +1,12 @@
 -- Bytes that hold no byte that passes a test, and bytes that hold no word.
-use Rattle.std.proofs.Common.{◌≡◌, ◌≢◌, ℕ, zero, suc, ◌+◌, ◌<◌, ◌≤◌, Bool, true, false, ◌==◌, List, [], ◌∷◌, ◌++◌, length, get_or, take, drop, Some, None, Option, refl, sym, ap, ◌∙◌, subst, inl, inr, arith, append_assoc, length-append, length-take, get_or-take, eqb-true, eq-eqb}
+use Rattle.std.proofs.Common.{◌≡◌, ℕ, suc, ◌+◌, ◌<◌, Bool, true, false, ◌==◌, List, [], ◌∷◌, ◌++◌, length, get_or, take, drop, Some, None, refl, sym, ap, ◌∙◌, inl, inr, arith, append_assoc, length-append, length-take, get_or-take}
 use Rattle.std.specs.Prelude.{◌⊎◌}
 use Rattle.std.specs.Str.{NonePass}
-use Rattle.std.specs.List.{AllByRecursion}
 use Rattle.std.proofs.lemmas.Bool.Decides.{nat_tests}
-use Rattle.std.proofs.lemmas.List.{drop_more, take-append-drop}
+use Rattle.std.proofs.lemmas.List.{take-append-drop}
 use Rattle.std.proofs.lemmas.List.Prefix.{at_from_reads, at_reads}
 use Rattle.std.proofs.lemmas.List.{drop_at}
-use Rattle.memchr.specs.Find.{IsFirstByte, IsFirst, Passes, Nowhere, NoneBefore, OccursAt, FindsNeedle, is_byte}
+use Rattle.memchr.specs.Find.{IsFirstByte, OccursAt, FindsNeedle, is_byte}
 use Rattle.soap_lex.specs.Characters.{Holds}
 
 -- what holds the word in front of a byte

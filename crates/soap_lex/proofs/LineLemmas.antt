@@ -1,12 +1,11 @@
 -- Line ends, and the white space of attribute values.
-use Rattle.std.proofs.Common.{◌≡◌, ◌≢◌, ℕ, ◌+◌, ◌<◌, ◌≤◌, Bool, true, false, ◌==◌, List, [], ◌∷◌, ◌++◌, length, take, drop, get_or, Some, None, refl, sym, ap, ◌∙◌, append_assoc, arith, length-take, eqb-true}
+use Rattle.std.proofs.Common.{◌≡◌, ℕ, ◌+◌, ◌<◌, ◌≤◌, true, false, ◌==◌, List, [], ◌∷◌, ◌++◌, length, take, drop, get_or, Some, None, refl, sym, ap, ◌∙◌, append_assoc, arith, length-take, eqb-true}
 use Rattle.std.specs.Str.{NonePass}
-use Rattle.std.proofs.lemmas.Bool.Decides.{nat_tests}
 use Rattle.std.proofs.lemmas.List.{append-nil, take-append-le, take_all, take-append-drop, drop_more, drop_all}
 use Rattle.std.specs.Prelude.{map}
 use Rattle.memchr.specs.Find.{is_byte, IsFirstByte}
 use Rattle.soap_lex.proofs.HoldsLemmas.{NonePass-before, NonePass-searched}
-use Rattle.soap_lex.specs.Text.{line_ends_after, with_line_ends, line_end}
+use Rattle.soap_lex.specs.Text.{line_ends_after, with_line_ends}
 
 -- bytes without a CR stay
 pub line_ends-run : (run rest : List ℕ) → NonePass (is_byte 13) run → with_line_ends (run ++ rest) ≡ run ++ with_line_ends rest

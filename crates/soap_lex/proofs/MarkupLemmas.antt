@@ -1,5 +1,5 @@
 -- What the reader of markup answers, by the kinds of markup.
-use Rattle.std.proofs.Common.{◌≡◌, ℕ, List, [], ◌∷◌, ◌++◌, Bor, Ok, Err, drop, arith, refl, sym, ap, ◌∙◌, subst, append_assoc}
+use Rattle.std.proofs.Common.{◌≡◌, ℕ, List, [], ◌++◌, Bor, Ok, Err, drop, arith, sym, ap, ◌∙◌, append_assoc}
 use Rattle.std.specs.Prelude.{Result, IfOk, IfErr, codes, encode_utf8}
 use Rattle.std.proofs.lemmas.List.{append-nil}
 use Rattle.soap_lex.specs.declared.error.LexError.{LexError}

@@ -1,5 +1,5 @@
 -- Text: its parts are determined by the bytes, and what the reader of text has done so far.
-use Rattle.std.proofs.Common.{◌≡◌, ◌≢◌, ℕ, ◌+◌, List, [], ◌∷◌, ◌++◌, length, take, drop, get_or, refl, sym, ap, ◌∙◌, subst, arith, inl, inr, append_assoc, ◌<◌, length-append}
+use Rattle.std.proofs.Common.{◌≡◌, ℕ, List, [], ◌∷◌, ◌++◌, length, drop, refl, sym, ap, ◌∙◌, subst, arith, inl, inr, append_assoc, ◌<◌, length-append}
 use Rattle.std.specs.Prelude.{◌⊎◌, codes, encode_utf8}
 use Rattle.std.specs.Str.{NonePass}
 use Rattle.std.proofs.lemmas.List.{append-nil}
@@ -7,7 +7,7 @@ use Rattle.memchr.specs.Find.{is_byte2}
 use Rattle.soap_lex.specs.Characters.{Holds}
 use Rattle.soap_lex.specs.Cut.{EndsText, IsTextFirst, Stops}
 use Rattle.soap_lex.specs.References.{IsReference}
-use Rattle.soap_lex.specs.Text.{IsCharData, IsCdata, IsComment, IsMarkup, reference, cdata, comment, IsText, run, more, with_line_ends}
+use Rattle.soap_lex.specs.Text.{IsCharData, IsComment, IsMarkup, reference, cdata, comment, IsText, run, more, with_line_ends}
 use Rattle.soap_lex.proofs.AnswerLemmas.{join2}
 use Rattle.soap_lex.proofs.HoldsLemmas.{Holds-front, Holds-shorter}
 use Rattle.soap_lex.proofs.ReferenceLemmas.{IsClosed-reference, same_reference, differ_at}

@@ -1,5 +1,5 @@
 -- Attribute values: their parts are determined by the bytes, and what the reader of a value has done so far.
-use Rattle.std.proofs.Common.{◌≡◌, ◌≢◌, ℕ, ◌+◌, ◌<◌, Bool, true, false, ◌||◌, ◌==◌, List, [], ◌∷◌, ◌++◌, length, Bor, Ok, Err, refl, sym, ap, ◌∙◌, subst, arith, inl, inr, append_assoc, length-append, eq-eqb}
+use Rattle.std.proofs.Common.{◌≡◌, ℕ, ◌<◌, true, ◌||◌, ◌==◌, List, [], ◌∷◌, ◌++◌, length, Bor, Ok, Err, refl, sym, ap, ◌∙◌, subst, arith, inl, inr, append_assoc, length-append, eq-eqb}
 use Rattle.std.specs.Prelude.{◌⊎◌, Result, IfOk, IfErr, encode_utf8}
 use Rattle.std.specs.Str.{NonePass}
 use Rattle.std.proofs.Math.Bool.{or-true}

@@ -1,5 +1,5 @@
 -- Text between tags: XML 1.0, section 2.4 (CharData), 2.5 (Comment), 2.7 (CDSect), 2.11 (line ends), 4.1 (references).
-use Rattle.std.specs.Prelude.{◌≡◌, ℕ, List, [], ◌∷◌, ◌++◌, Bool, true, false, ◌&&◌, ◌==◌, if◌then◌else◌, codes, encode_utf8}
+use Rattle.std.specs.Prelude.{ℕ, List, [], ◌∷◌, ◌++◌, Bool, false, ◌&&◌, ◌==◌, if◌then◌else◌, codes, encode_utf8}
 use Rattle.soap_lex.specs.Characters.{IsChars, Holds}
 use Rattle.soap_lex.specs.References.{IsReference}
 

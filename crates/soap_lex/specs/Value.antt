@@ -1,5 +1,5 @@
 -- Attribute values: XML 1.0, section 2.3 (AttValue) and 3.3.3 (how the value of an attribute without a type is normalised).
-use Rattle.std.specs.Prelude.{◌≡◌, ℕ, List, [], ◌∷◌, ◌++◌, ◌||◌, ◌==◌, if◌then◌else◌, map, codes, encode_utf8}
+use Rattle.std.specs.Prelude.{ℕ, List, [], ◌∷◌, ◌++◌, ◌||◌, ◌==◌, if◌then◌else◌, map, codes, encode_utf8}
 use Rattle.soap_lex.specs.Characters.{IsChars, Holds}
 use Rattle.soap_lex.specs.References.{IsReference}
 use Rattle.soap_lex.specs.Text.{with_line_ends}

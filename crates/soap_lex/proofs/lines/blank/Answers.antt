@@ -1,5 +1,4 @@
-use Rattle.std.proofs.Common.{◌<◌, ◌≤◌, length, get_or, set, refl, sym, ◌∙◌, ap, arith, append-nil, take, drop, ◌++◌, ◌≡◌}
-use Rattle.std.specs.Prelude.{map}
+use Rattle.std.proofs.Common.{◌<◌, length, get_or, set, ◌∙◌, ap, arith}
 use Rattle.soap_lex.specs.Value.{space_of}
 use Rattle.std.proofs.lemmas.List.{get_or_default}
 use Rattle.std.proofs.lemmas.List.Edits.{map_over_more}

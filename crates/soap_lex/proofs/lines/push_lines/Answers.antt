@@ -1,4 +1,4 @@
-use Rattle.std.proofs.Common.{ℕ, List, [], ◌∷◌, ◌++◌, length, take, sym, ◌∙◌, ap, append_assoc, ◌≡◌, ◌+◌, true}
+use Rattle.std.proofs.Common.{ℕ, List, [], ◌∷◌, ◌++◌, length, take, ◌∙◌, ap, append_assoc, ◌≡◌, ◌+◌, true}
 use Rattle.std.proofs.lemmas.List.{take_rest}
 use Rattle.soap_lex.specs.Text.{with_line_ends, line_ends_after}
 use Rattle.soap_lex.proofs.LineLemmas.{lines_step, lines_done, front_kept}

@@ -1,5 +1,4 @@
-use Rattle.std.proofs.Common.{ℕ, ◌+◌, List, [], sym, ap, ◌∙◌, subst}
-use Rattle.std.specs.Prelude.{length, encode_utf8}
+use Rattle.std.proofs.Common.{ℕ, ◌+◌, List, sym, ◌∙◌, subst}
 use Rattle.soap_lex.proofs.NameLemmas.{NameSo, NameSo-step, NameSo-stopped, NameSo-ended, empty_rest}
 use Rattle.soap_lex.proofs.read.name_chars_len.Goals as goal
 

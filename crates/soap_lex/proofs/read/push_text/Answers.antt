@@ -1,5 +1,4 @@
-use Rattle.std.proofs.Common.{ℕ, List, ◌++◌, sym, ap, ◌∙◌, subst}
-use Rattle.soap_lex.specs.Text.{with_line_ends}
+use Rattle.std.proofs.Common.{◌++◌, ap, ◌∙◌}
 use Rattle.soap_lex.proofs.TextLemmas.{TextSo-start, TextSo-step, TextSo-done, TextSo-only, TextSo-no_run, TextSo-no_markup, less_left}
 use Rattle.soap_lex.proofs.AnswerLemmas.{OnRefusal-weaker}
 use Rattle.std.proofs.lemmas.Result.{err_from_is_err_and}

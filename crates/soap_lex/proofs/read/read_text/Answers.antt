@@ -1,4 +1,4 @@
-use Rattle.std.proofs.Common.{ℕ, List, sym, subst}
+use Rattle.std.proofs.Common.{ℕ, List, subst}
 use Rattle.std.proofs.lemmas.List.{take_rest}
 use Rattle.soap_lex.specs.Cut.{IsTextFirst}
 use Rattle.soap_lex.proofs.PlaceLemmas.{reads_text}

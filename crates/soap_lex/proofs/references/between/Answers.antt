@@ -1,4 +1,4 @@
-use Rattle.std.proofs.Common.{◌≡◌, ℕ, List, ◌++◌, None, Some, Bor, sym, ◌∙◌, append_assoc}
+use Rattle.std.proofs.Common.{◌++◌, None, Some}
 use Rattle.std.proofs.lemmas.Bool.Decides.{Decides-eqb}
 use Rattle.std.proofs.lemmas.Slice.Eq.{strip_prefix_is, strip_suffix_is}
 use Rattle.soap_lex.proofs.AnswerLemmas.{between_found, between_none}

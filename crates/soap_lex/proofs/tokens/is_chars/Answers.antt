@@ -1,5 +1,4 @@
-use Rattle.std.proofs.Common.{refl, sym, ◌∙◌, ap, subst}
-use Rattle.soap_lex.specs.Characters.{IsChars}
+use Rattle.std.proofs.Common.{refl, sym, ◌∙◌, ap}
 use Rattle.soap_lex.proofs.CharsLemmas.{IsChars-ascii, IsChars-all, all-IsChars, IsUtf8-IsChars}
 use Rattle.std.specs.List.{list_all}
 use Rattle.std.specs.Str.{chars}

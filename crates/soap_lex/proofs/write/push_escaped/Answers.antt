@@ -1,4 +1,4 @@
-use Rattle.std.proofs.Common.{◌≡◌, ◌<◌, ◌+◌, ◌-◌, ℕ, List, ◌++◌, length, take, drop, sym, ap, ◌∙◌}
+use Rattle.std.proofs.Common.{◌≡◌, ◌<◌, ◌-◌, ℕ, List, ◌++◌, length, take, drop, ap, ◌∙◌}
 use Rattle.soap_lex.proofs.EscapeLemmas.{Escaped-plain, Escaped-reference, Escaped-moved}
 use Rattle.soap_lex.proofs.write.push_escaped.Goals.{in-Some+in_ok-extend_from_slice+in_ok-extend_from_slice-2, in_default}
 use Rattle.soap_lex.proofs.write.push_escaped.Goals as goal
