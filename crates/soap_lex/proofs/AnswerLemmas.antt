@@ -1,5 +1,5 @@
 -- What the searches of tokens answer.
-use Rattle.std.proofs.Common.{◌≡◌, ◌≢◌, ℕ, zero, suc, ◌+◌, ◌<◌, ◌≤◌, Bool, true, false, not, ◌||◌, ◌==◌, List, [], ◌∷◌, ◌++◌, length, get_or, take, drop, Some, None, Option, is_some, refl, sym, ap, ◌∙◌, arith, Bor}
+use Rattle.std.proofs.Common.{◌≡◌, ◌≢◌, ℕ, zero, suc, ◌+◌, ◌<◌, Bool, true, false, not, ◌||◌, ◌==◌, List, [], ◌∷◌, ◌++◌, length, get_or, take, drop, Some, None, Option, is_some, refl, sym, ap, ◌∙◌, arith, Bor}
 use Rattle.std.specs.Prelude.{IsTrue, IfSome, IfNone, MatchOption}
 use Rattle.std.proofs.lemmas.List.{append_cancel_left}
 use Rattle.std.specs.Str.{NonePass}
@@ -25,9 +25,10 @@ false_from_not false e h = cc
 pub lacks_answer : (bytes word : List ℕ) (r : Option ℕ) (b : Bool) → is_some r ≡ not b → FindsNeedle bytes word 0 r
     → (IsTrue b → ¬ (Holds bytes word)) × (¬ (Holds bytes word) → IsTrue b)
 lacks_answer bytes word None b e found = (λ _. lacks-searched bytes word found, λ _. true_from_not b e)
-lacks_answer bytes word (Some k) b e found =
-    (λ is. absurd (false_from_not b e is),
-     λ lacks. absurd (lacks (record { before = take k bytes; after = drop (k + length word) bytes; there = OccursAt-there bytes word k found.1 })))
+lacks_answer bytes word (Some k) b e found = (
+  λ is. absurd (false_from_not b e is),
+  λ lacks. absurd (lacks (record { before = take k bytes; after = drop (k + length word) bytes; there = OccursAt-there bytes word k found.1 })),
+)
 
 -- no byte passes, so none does at a place
 pub fails_at : (test : ℕ → Bool) (bytes : List ℕ) (k : ℕ) → NonePass test bytes → k < length bytes → test (get_or bytes k 0) ≡ false
@@ -55,14 +56,15 @@ both_false : (a b : Bool) → a ≡ false → b ≡ false → (a || b) ≡ false
 both_false a b ea eb = ap (λ x. x || b) ea ∙ eb
 
 pub split2 : (p q : ℕ) (bytes : List ℕ) → NonePass (is_byte2 p q) bytes → ¬ (Holds bytes (p ∷ [])) × ¬ (Holds bytes (q ∷ []))
-split2 p q bytes none =
-    (NonePass-lacks p bytes (NonePass-weaker (is_byte2 p q) (is_byte p) (λ x e. left_false (x == p) (x == q) e) bytes none),
-     NonePass-lacks q bytes (NonePass-weaker (is_byte2 p q) (is_byte q) (λ x e. right_false (x == p) (x == q) e) bytes none))
+split2 p q bytes none = (
+  NonePass-lacks p bytes (NonePass-weaker (is_byte2 p q) (is_byte p) (λ x e. left_false (x == p) (x == q) e) bytes none),
+  NonePass-lacks q bytes (NonePass-weaker (is_byte2 p q) (is_byte q) (λ x e. right_false (x == p) (x == q) e) bytes none),
+)
 
 pub join2 : (p q : ℕ) (bytes : List ℕ) → ¬ (Holds bytes (p ∷ [])) → ¬ (Holds bytes (q ∷ [])) → NonePass (is_byte2 p q) bytes
 join2 p q bytes np nq =
     NonePass-join (is_byte p) (is_byte q) (is_byte2 p q) (λ x ep eq. both_false (x == p) (x == q) ep eq) bytes
-      (lacks-NonePass p bytes np) (lacks-NonePass q bytes nq)
+    (lacks-NonePass p bytes np) (lacks-NonePass q bytes nq)
 
 pub split3 : (p q r : ℕ) (bytes : List ℕ) → NonePass (is_byte3 p q r) bytes → ¬ (Holds bytes (p ∷ [])) × ¬ (Holds bytes (q ∷ [])) × ¬ (Holds bytes (r ∷ []))
 split3 p q r bytes none =
@@ -72,7 +74,7 @@ split3 p q r bytes none =
 pub join3 : (p q r : ℕ) (bytes : List ℕ) → ¬ (Holds bytes (p ∷ [])) → ¬ (Holds bytes (q ∷ [])) → ¬ (Holds bytes (r ∷ [])) → NonePass (is_byte3 p q r) bytes
 join3 p q r bytes np nq nr =
     NonePass-join (is_byte2 p q) (is_byte r) (is_byte3 p q r) (λ x epq er. both_false (x == p || x == q) (x == r) epq er) bytes
-      (join2 p q bytes np nq) (lacks-NonePass r bytes nr)
+    (join2 p q bytes np nq) (lacks-NonePass r bytes nr)
 
 -- searches for two and for three bytes
 pub lacks_answer2 : (p q : ℕ) (bytes : List ℕ) (r : Option ℕ) (b : Bool) → is_some r ≡ not b → IsFirstByte (is_byte2 p q) bytes r

@@ -1,8 +1,8 @@
 -- What is written is read back.
-use Rattle.std.proofs.Common.{◌≡◌, ◌≢◌, ℕ, zero, suc, ◌+◌, ◌<◌, ◌≤◌, Bool, true, false, ◌||◌, ◌==◌, List, [], ◌∷◌, ◌++◌, length, get_or, refl, sym, ap, ◌∙◌, subst, arith, inl, inr, append_assoc, eqb-true}
+use Rattle.std.proofs.Common.{◌≡◌, ℕ, suc, ◌<◌, ◌≤◌, Bool, true, false, ◌==◌, List, [], ◌∷◌, ◌++◌, length, get_or, refl, sym, ap, ◌∙◌, subst, arith, inl, inr, append_assoc, eqb-true}
 use Rattle.std.specs.Prelude.{◌⊎◌, IsTrue, encode_utf8, encode_utf8_all, map}
 use Rattle.std.specs.List.{AllByRecursion, flat_map}
-use Rattle.std.specs.Str.{NonePass, NoCharPasses}
+use Rattle.std.specs.Str.{NonePass}
 use Rattle.std.proofs.lemmas.Bool.{cases_lt}
 use Rattle.std.proofs.lemmas.Bool.Decides.{nat_tests}
 use Rattle.std.proofs.lemmas.List.{append-nil}
@@ -10,10 +10,10 @@ use Rattle.std.proofs.lemmas.List.Concat.{flat_map-append}
 use Rattle.std.proofs.lemmas.Str.{encode_ascii, inside_one, encodes-append, NoCharPasses-byte}
 use Rattle.memchr.specs.Find.{is_byte}
 use Rattle.xml_chars.specs.Classes.{is_char}
-use Rattle.soap_lex.specs.Characters.{Holds, IsChars}
+use Rattle.soap_lex.specs.Characters.{IsChars}
 use Rattle.soap_lex.specs.Escapes.{text_escape, value_escape, escaped_text, escaped_value}
 use Rattle.soap_lex.specs.References.{IsReference, ampersand, less, greater, quote, decimal}
-use Rattle.soap_lex.specs.Text.{IsCharData, IsText, run, more, IsMarkup, reference, with_line_ends}
+use Rattle.soap_lex.specs.Text.{IsCharData, IsText, run, more, reference, with_line_ends}
 use Rattle.soap_lex.specs.Value.{IsPlainValue, IsInner, IsValue, double, with_spaces, space_of, run as inner_run, more as inner_more}
 use Rattle.soap_lex.proofs.HoldsLemmas.{NonePass-from_places, NonePass-lacks}
 use Rattle.soap_lex.proofs.LineLemmas.{line_ends-run}
@@ -135,10 +135,10 @@ flat_escaped escape c low = ap (λ l. flat_map escape l) (encode_ascii c low) �
 lacks_byte : (q : ℕ) (cs : List ℕ) → q < 128 → NonePass (is_byte q) cs → NonePass (is_byte q) (encode_utf8_all cs)
 lacks_byte q cs small none =
     NonePass-from_places (is_byte q) (encode_utf8_all cs) (λ k within.
-      elim (cases_lt (get_or (encode_utf8_all cs) k 0) 128) [
-        | inl low ↦ NoCharPasses-byte (is_byte q) (encode_utf8_all cs) k (cs, refl, none) within low
-        | inr high ↦ far (get_or (encode_utf8_all cs) k 0) q high small
-      ])
+    elim (cases_lt (get_or (encode_utf8_all cs) k 0) 128) [
+      | inl low ↦ NoCharPasses-byte (is_byte q) (encode_utf8_all cs) k (cs, refl, none) within low
+      | inr high ↦ far (get_or (encode_utf8_all cs) k 0) q high small
+    ])
 
 none_of : (P : ℕ → Type 0) (q : ℕ) → ((c : ℕ) → P c → (c == q) ≡ false) → (cs : List ℕ) → AllByRecursion P cs → NonePass (is_byte q) cs
 none_of P q each [] all = tt
@@ -162,7 +162,7 @@ free_data cs all = record {
   no_less = NonePass-lacks 60 (encode_utf8_all cs) (lacks_byte 60 cs (omega arith) (none_of IsFree 60 (λ c free. free.less_not) cs all));
   no_ampersand = NonePass-lacks 38 (encode_utf8_all cs) (lacks_byte 38 cs (omega arith) (none_of IsFree 38 (λ c free. free.ampersand_not) cs all));
   no_close = λ close. NonePass-lacks 62 (encode_utf8_all cs) (lacks_byte 62 cs (omega arith) (none_of IsFree 62 (λ c free. free.greater_not) cs all))
-    (record { before = close.before ++ 93 ∷ 93 ∷ []; after = close.after; there = close.there ∙ sym (append_assoc close.before (93 ∷ 93 ∷ []) (62 ∷ close.after)) });
+      (record { before = close.before ++ 93 ∷ 93 ∷ []; after = close.after; there = close.there ∙ sym (append_assoc close.before (93 ∷ 93 ∷ []) (62 ∷ close.after)) });
 }
 
 free_lines : (cs : List ℕ) → NonePass (is_byte 13) cs → with_line_ends (encode_utf8_all cs) ≡ encode_utf8_all cs
@@ -181,30 +181,30 @@ text_behind : (cs front : List ℕ) → AllByRecursion (λ c. IsTrue (is_char c)
     → IsText (encode_utf8_all front ++ flat_map text_escape (encode_utf8_all cs)) (encode_utf8_all front ++ encode_utf8_all cs)
 text_behind [] front chars free =
     moved (sym (append-nil (encode_utf8_all front)))
-      (free_lines front (none_of IsFree 13 (λ c f. f.return_not) front free) ∙ sym (append-nil (encode_utf8_all front)))
-      (run (encode_utf8_all front) (free_data front free))
+    (free_lines front (none_of IsFree 13 (λ c f. f.return_not) front free) ∙ sym (append-nil (encode_utf8_all front)))
+    (run (encode_utf8_all front) (free_data front free))
 text_behind (c ∷ cs) front chars free =
     let written : flat_map text_escape (encode_utf8 c ++ encode_utf8_all cs) ≡ flat_map text_escape (encode_utf8 c) ++ flat_map text_escape (encode_utf8_all cs) =
-      flat_map-append text_escape (encode_utf8 c) (encode_utf8_all cs) in
+    flat_map-append text_escape (encode_utf8 c) (encode_utf8_all cs) in
     elim (text_case c chars.0) [
       | inl escaped ↦
           let later : IsText (flat_map text_escape (encode_utf8_all cs)) (encode_utf8_all cs) = text_behind cs [] chars.1 tt in
           moved
-            (ap (λ l. encode_utf8_all front ++ l)
-              (ap (λ l. l ++ flat_map text_escape (encode_utf8_all cs)) (sym (flat_escaped text_escape c escaped.ascii)) ∙ sym written))
-            (ap (λ l. l ++ (encode_utf8 c ++ encode_utf8_all cs)) (free_lines front (none_of IsFree 13 (λ d f. f.return_not) front free)))
-            (more (encode_utf8_all front) (text_escape c) (encode_utf8 c) (flat_map text_escape (encode_utf8_all cs)) (encode_utf8_all cs)
-              (free_data front free) (reference (text_escape c) c escaped.refers) later)
+          (ap (λ l. encode_utf8_all front ++ l)
+          (ap (λ l. l ++ flat_map text_escape (encode_utf8_all cs)) (sym (flat_escaped text_escape c escaped.ascii)) ∙ sym written))
+          (ap (λ l. l ++ (encode_utf8 c ++ encode_utf8_all cs)) (free_lines front (none_of IsFree 13 (λ d f. f.return_not) front free)))
+          (more (encode_utf8_all front) (text_escape c) (encode_utf8 c) (flat_map text_escape (encode_utf8_all cs)) (encode_utf8_all cs)
+          (free_data front free) (reference (text_escape c) c escaped.refers) later)
       | inr here ↦
           let later : IsText (encode_utf8_all (front ++ c ∷ []) ++ flat_map text_escape (encode_utf8_all cs)) (encode_utf8_all (front ++ c ∷ []) ++ encode_utf8_all cs) =
-            text_behind cs (front ++ c ∷ []) chars.1 (all_push IsFree front c free here) in
+          text_behind cs (front ++ c ∷ []) chars.1 (all_push IsFree front c free here) in
           moved
-            (ap (λ l. l ++ flat_map text_escape (encode_utf8_all cs)) (encodes_push front c)
-              ∙ append_assoc (encode_utf8_all front) (encode_utf8 c) (flat_map text_escape (encode_utf8_all cs))
-              ∙ ap (λ l. encode_utf8_all front ++ l)
-                  (ap (λ l. l ++ flat_map text_escape (encode_utf8_all cs)) (sym (flat_free text_escape text_far c (text_free c here))) ∙ sym written))
-            (ap (λ l. l ++ encode_utf8_all cs) (encodes_push front c) ∙ append_assoc (encode_utf8_all front) (encode_utf8 c) (encode_utf8_all cs))
-            later
+          (ap (λ l. l ++ flat_map text_escape (encode_utf8_all cs)) (encodes_push front c)
+          ∙ append_assoc (encode_utf8_all front) (encode_utf8 c) (flat_map text_escape (encode_utf8_all cs))
+          ∙ ap (λ l. encode_utf8_all front ++ l)
+          (ap (λ l. l ++ flat_map text_escape (encode_utf8_all cs)) (sym (flat_free text_escape text_far c (text_free c here))) ∙ sym written))
+          (ap (λ l. l ++ encode_utf8_all cs) (encodes_push front c) ∙ append_assoc (encode_utf8_all front) (encode_utf8 c) (encode_utf8_all cs))
+          later
     ]
 
 -- text that is written means what was written
@@ -230,7 +230,7 @@ free_spaces : (cs : List ℕ) → AllByRecursion IsFreeValue cs → with_spaces 
 free_spaces cs all =
     ap (λ l. map space_of l) (free_lines cs (none_of IsFreeValue 13 (λ c f. f.text.return_not) cs all))
     ∙ no_blanks (encode_utf8_all cs) (lacks_byte 9 cs (omega arith) (none_of IsFreeValue 9 (λ c f. f.tab_not) cs all))
-        (lacks_byte 10 cs (omega arith) (none_of IsFreeValue 10 (λ c f. f.line_not) cs all))
+    (lacks_byte 10 cs (omega arith) (none_of IsFreeValue 10 (λ c f. f.line_not) cs all))
 
 inner_moved : {a b x y : List ℕ} → a ≡ b → x ≡ y → IsInner 34 a x → IsInner 34 b y
 inner_moved {a} {b} {x} {y} e f is =
@@ -242,29 +242,29 @@ value_behind : (cs front : List ℕ) → AllByRecursion (λ c. IsTrue (is_char c
     → IsInner 34 (encode_utf8_all front ++ flat_map value_escape (encode_utf8_all cs)) (encode_utf8_all front ++ encode_utf8_all cs)
 value_behind [] front chars free =
     inner_moved (sym (append-nil (encode_utf8_all front))) (free_spaces front free ∙ sym (append-nil (encode_utf8_all front)))
-      (inner_run (encode_utf8_all front) (free_value front free))
+    (inner_run (encode_utf8_all front) (free_value front free))
 value_behind (c ∷ cs) front chars free =
     let written : flat_map value_escape (encode_utf8 c ++ encode_utf8_all cs) ≡ flat_map value_escape (encode_utf8 c) ++ flat_map value_escape (encode_utf8_all cs) =
-      flat_map-append value_escape (encode_utf8 c) (encode_utf8_all cs) in
+    flat_map-append value_escape (encode_utf8 c) (encode_utf8_all cs) in
     elim (value_case c chars.0) [
       | inl escaped ↦
           let later : IsInner 34 (flat_map value_escape (encode_utf8_all cs)) (encode_utf8_all cs) = value_behind cs [] chars.1 tt in
           inner_moved
-            (ap (λ l. encode_utf8_all front ++ l)
-              (ap (λ l. l ++ flat_map value_escape (encode_utf8_all cs)) (sym (flat_escaped value_escape c escaped.ascii)) ∙ sym written))
-            (ap (λ l. l ++ (encode_utf8 c ++ encode_utf8_all cs)) (free_spaces front free))
-            (inner_more (encode_utf8_all front) (value_escape c) c (flat_map value_escape (encode_utf8_all cs)) (encode_utf8_all cs)
-              (free_value front free) escaped.refers later)
+          (ap (λ l. encode_utf8_all front ++ l)
+          (ap (λ l. l ++ flat_map value_escape (encode_utf8_all cs)) (sym (flat_escaped value_escape c escaped.ascii)) ∙ sym written))
+          (ap (λ l. l ++ (encode_utf8 c ++ encode_utf8_all cs)) (free_spaces front free))
+          (inner_more (encode_utf8_all front) (value_escape c) c (flat_map value_escape (encode_utf8_all cs)) (encode_utf8_all cs)
+          (free_value front free) escaped.refers later)
       | inr here ↦
           let later : IsInner 34 (encode_utf8_all (front ++ c ∷ []) ++ flat_map value_escape (encode_utf8_all cs)) (encode_utf8_all (front ++ c ∷ []) ++ encode_utf8_all cs) =
-            value_behind cs (front ++ c ∷ []) chars.1 (all_push IsFreeValue front c free here) in
+          value_behind cs (front ++ c ∷ []) chars.1 (all_push IsFreeValue front c free here) in
           inner_moved
-            (ap (λ l. l ++ flat_map value_escape (encode_utf8_all cs)) (encodes_push front c)
-              ∙ append_assoc (encode_utf8_all front) (encode_utf8 c) (flat_map value_escape (encode_utf8_all cs))
-              ∙ ap (λ l. encode_utf8_all front ++ l)
-                  (ap (λ l. l ++ flat_map value_escape (encode_utf8_all cs)) (sym (flat_free value_escape value_far c (value_free c here))) ∙ sym written))
-            (ap (λ l. l ++ encode_utf8_all cs) (encodes_push front c) ∙ append_assoc (encode_utf8_all front) (encode_utf8 c) (encode_utf8_all cs))
-            later
+          (ap (λ l. l ++ flat_map value_escape (encode_utf8_all cs)) (encodes_push front c)
+          ∙ append_assoc (encode_utf8_all front) (encode_utf8 c) (flat_map value_escape (encode_utf8_all cs))
+          ∙ ap (λ l. encode_utf8_all front ++ l)
+          (ap (λ l. l ++ flat_map value_escape (encode_utf8_all cs)) (sym (flat_free value_escape value_far c (value_free c here))) ∙ sym written))
+          (ap (λ l. l ++ encode_utf8_all cs) (encodes_push front c) ∙ append_assoc (encode_utf8_all front) (encode_utf8 c) (encode_utf8_all cs))
+          later
     ]
 
 -- and so does a value between double quotes

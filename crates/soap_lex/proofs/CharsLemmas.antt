@@ -1,6 +1,6 @@
 -- Bytes that are characters of a document, and names.
-use Rattle.std.proofs.Common.{◌≡◌, ℕ, zero, suc, ◌+◌, ◌<◌, ◌≤◌, Bool, true, false, ◌&&◌, ◌||◌, ◌==◌, List, [], ◌∷◌, ◌++◌, length, get_or, take, refl, sym, ap, ◌∙◌, subst, arith, append_assoc, inl, inr}
-use Rattle.std.specs.Prelude.{◌⊎◌, nat_lt, nat_le, IsTrue, encode_utf8_all, encode_utf8}
+use Rattle.std.proofs.Common.{◌≡◌, ℕ, suc, ◌<◌, Bool, true, false, ◌&&◌, ◌||◌, List, [], ◌∷◌, ◌++◌, length, get_or, take, refl, sym, ap, ◌∙◌, arith, inl, inr}
+use Rattle.std.specs.Prelude.{◌⊎◌, nat_lt, nat_le, IsTrue, encode_utf8_all}
 use Rattle.std.specs.List.{All, AllByRecursion, list_all, list_any}
 use Rattle.std.specs.Str.{chars, IsUtf8}
 use Rattle.std.proofs.Math.Utf8.{scalar, scalars}
@@ -8,7 +8,7 @@ use Rattle.std.proofs.lemmas.Bool.{and_parts}
 use Rattle.std.proofs.lemmas.Bool.Decides.{nat_tests}
 use Rattle.std.proofs.lemmas.List.{get_or_past}
 use Rattle.std.proofs.lemmas.Bool.{cases_lt}
-use Rattle.std.proofs.lemmas.Str.{chars-encodes, encodes-chars, scalars-chars, encodes-append, encodes-IsAscii}
+use Rattle.std.proofs.lemmas.Str.{chars-encodes, encodes-chars, encodes-append, encodes-IsAscii}
 use Rattle.xml_chars.specs.Classes.{is_within, is_char, is_name_start, is_name_char, char_ranges, name_start_ranges, name_more_ranges}
 use Rattle.soap_lex.specs.Characters.{IsChars, IsName}
 

@@ -1,7 +1,7 @@
 -- What the writers have appended so far.
-use Rattle.std.proofs.Common.{◌≡◌, ℕ, ◌+◌, ◌-◌, ◌<◌, ◌≤◌, Bool, true, false, List, [], ◌∷◌, ◌++◌, length, take, drop, get_or, refl, sym, ap, subst, ◌∙◌, append_assoc, arith, length-drop, get_or-drop}
+use Rattle.std.proofs.Common.{◌≡◌, ℕ, ◌+◌, ◌-◌, ◌<◌, ◌≤◌, Bool, List, [], ◌∷◌, ◌++◌, length, take, drop, get_or, refl, sym, ap, subst, ◌∙◌, append_assoc, arith, length-drop, get_or-drop}
 use Rattle.std.specs.List.{flat_map}
-use Rattle.std.proofs.lemmas.List.{take_more, append-nil, drop_all, take_all, take_rest}
+use Rattle.std.proofs.lemmas.List.{take_more, append-nil, take_all, take_rest}
 use Rattle.std.proofs.lemmas.List.Concat.{flat_map-append}
 use Rattle.soap_lex.specs.Escapes.{escape_of}
 use Rattle.soap_lex.proofs.LineLemmas.{front_kept, front_start}
@@ -42,11 +42,11 @@ Escaped-plain quoted old bytes out start i so h plain =
       low = omega arith;
       high = omega arith;
       so = ap (λ l. out ++ l) (run_more bytes start i low h)
-        ∙ sym (append_assoc out (take (i - start) (drop start bytes)) (get_or bytes i 0 ∷ []))
-        ∙ ap (λ l. l ++ get_or bytes i 0 ∷ []) so.so
-        ∙ append_assoc old (flat_map (escape_of quoted) (take i bytes)) (get_or bytes i 0 ∷ [])
-        ∙ ap (λ l. old ++ (flat_map (escape_of quoted) (take i bytes) ++ l)) (sym plain)
-        ∙ ap (λ l. old ++ l) (sym (flat_more quoted bytes i h));
+          ∙ sym (append_assoc out (take (i - start) (drop start bytes)) (get_or bytes i 0 ∷ []))
+          ∙ ap (λ l. l ++ get_or bytes i 0 ∷ []) so.so
+          ∙ append_assoc old (flat_map (escape_of quoted) (take i bytes)) (get_or bytes i 0 ∷ [])
+          ∙ ap (λ l. old ++ (flat_map (escape_of quoted) (take i bytes) ++ l)) (sym plain)
+          ∙ ap (λ l. old ++ l) (sym (flat_more quoted bytes i h));
       kept = so.kept;
     }
 
@@ -61,11 +61,11 @@ Escaped-reference quoted old bytes out reference start i so h same =
       low = omega arith;
       high = omega arith;
       so = ap (λ n. ((out ++ run) ++ reference) ++ take n (drop (i + 1) bytes)) none
-        ∙ append-nil ((out ++ run) ++ reference)
-        ∙ ap (λ l. l ++ reference) so.so
-        ∙ append_assoc old (flat_map (escape_of quoted) (take i bytes)) reference
-        ∙ ap (λ l. old ++ (flat_map (escape_of quoted) (take i bytes) ++ l)) same
-        ∙ ap (λ l. old ++ l) (sym (flat_more quoted bytes i h));
+          ∙ append-nil ((out ++ run) ++ reference)
+          ∙ ap (λ l. l ++ reference) so.so
+          ∙ append_assoc old (flat_map (escape_of quoted) (take i bytes)) reference
+          ∙ ap (λ l. old ++ (flat_map (escape_of quoted) (take i bytes) ++ l)) same
+          ∙ ap (λ l. old ++ l) (sym (flat_more quoted bytes i h));
       kept = ap (λ l. take (length old) l) (append_assoc out run reference) ∙ front_kept old out (run ++ reference) so.kept;
     }
 

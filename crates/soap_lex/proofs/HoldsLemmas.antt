@@ -1,13 +1,12 @@
 -- Bytes that hold no byte that passes a test, and bytes that hold no word.
-use Rattle.std.proofs.Common.{◌≡◌, ◌≢◌, ℕ, zero, suc, ◌+◌, ◌<◌, ◌≤◌, Bool, true, false, ◌==◌, List, [], ◌∷◌, ◌++◌, length, get_or, take, drop, Some, None, Option, refl, sym, ap, ◌∙◌, subst, inl, inr, arith, append_assoc, length-append, length-take, get_or-take, eqb-true, eq-eqb}
+use Rattle.std.proofs.Common.{◌≡◌, ℕ, suc, ◌+◌, ◌<◌, Bool, true, false, ◌==◌, List, [], ◌∷◌, ◌++◌, length, get_or, take, drop, Some, None, refl, sym, ap, ◌∙◌, inl, inr, arith, append_assoc, length-append, length-take, get_or-take}
 use Rattle.std.specs.Prelude.{◌⊎◌}
 use Rattle.std.specs.Str.{NonePass}
-use Rattle.std.specs.List.{AllByRecursion}
 use Rattle.std.proofs.lemmas.Bool.Decides.{nat_tests}
-use Rattle.std.proofs.lemmas.List.{drop_more, take-append-drop}
+use Rattle.std.proofs.lemmas.List.{take-append-drop}
 use Rattle.std.proofs.lemmas.List.Prefix.{at_from_reads, at_reads}
 use Rattle.std.proofs.lemmas.List.{drop_at}
-use Rattle.memchr.specs.Find.{IsFirstByte, IsFirst, Passes, Nowhere, NoneBefore, OccursAt, FindsNeedle, is_byte}
+use Rattle.memchr.specs.Find.{IsFirstByte, OccursAt, FindsNeedle, is_byte}
 use Rattle.soap_lex.specs.Characters.{Holds}
 
 -- what holds the word in front of a byte
@@ -87,9 +86,10 @@ NonePass-lacks b (x ∷ bytes) none h =
 
 pub lacks-NonePass : (b : ℕ) (bytes : List ℕ) → ¬ (Holds bytes (b ∷ [])) → NonePass (is_byte b) bytes
 lacks-NonePass b [] lacks = tt
-lacks-NonePass b (x ∷ bytes) lacks =
-    (ne_test x b (λ same. lacks (record { before = []; after = bytes; there = ap (λ y. y ∷ bytes) same })),
-     lacks-NonePass b bytes (λ later. lacks (Holds-cons bytes (b ∷ []) x later)))
+lacks-NonePass b (x ∷ bytes) lacks = (
+  ne_test x b (λ same. lacks (record { before = []; after = bytes; there = ap (λ y. y ∷ bytes) same })),
+  lacks-NonePass b bytes (λ later. lacks (Holds-cons bytes (b ∷ []) x later)),
+)
 
 fails : (b : Bool) → ¬ (b ≡ true) → b ≡ false
 fails true h = absurd (h refl)
@@ -104,8 +104,8 @@ pub NonePass-before : (test : ℕ → Bool) (bytes : List ℕ) (k : ℕ) → IsF
 NonePass-before test bytes k found =
     let bound : k < length bytes = found.0.high in
     NonePass-from_places test (take k bytes) (λ i h.
-      let within : i < k = omega (arith, length-take k bytes) in
-      ap test (get_or-take k bytes i 0 within) ∙ fails (test (get_or bytes i 0)) (found.0.before i (omega arith) within))
+    let within : i < k = omega (arith, length-take k bytes) in
+    ap test (get_or-take k bytes i 0 within) ∙ fails (test (get_or bytes i 0)) (found.0.before i (omega arith) within))
 
 -- a word that occurs at a place is held
 pub OccursAt-there : (bytes word : List ℕ) (k : ℕ) → OccursAt bytes word k → bytes ≡ take k bytes ++ (word ++ drop (k + length word) bytes)
@@ -122,16 +122,16 @@ OccursAt-held bytes word before after there = record {
 pub lacks-searched : (bytes word : List ℕ) → FindsNeedle bytes word 0 None → ¬ (Holds bytes word)
 lacks-searched bytes word none h =
     none (length h.before) (omega arith)
-      (omega (arith, ap length h.there, length-append h.before (word ++ h.after))) (OccursAt-held bytes word h.before h.after h.there)
+    (omega (arith, ap length h.there, length-append h.before (word ++ h.after))) (OccursAt-held bytes word h.before h.after h.there)
 
 -- a search that found one: it is held there, and not before
 pub lacks-before : (bytes : List ℕ) (w : ℕ) (word : List ℕ) (k : ℕ) → FindsNeedle bytes (w ∷ word) 0 (Some k) → ¬ (Holds (take k bytes) (w ∷ word))
 lacks-before bytes w word k found h =
     let there : bytes ≡ h.before ++ ((w ∷ word) ++ (h.after ++ drop k bytes)) =
-      sym (take-append-drop k bytes) ∙ ap (λ l. l ++ drop k bytes) h.there ∙ append_assoc h.before ((w ∷ word) ++ h.after) (drop k bytes)
-      ∙ ap (λ l. h.before ++ l) (append_assoc (w ∷ word) h.after (drop k bytes)) in
+    sym (take-append-drop k bytes) ∙ ap (λ l. l ++ drop k bytes) h.there ∙ append_assoc h.before ((w ∷ word) ++ h.after) (drop k bytes)
+    ∙ ap (λ l. h.before ++ l) (append_assoc (w ∷ word) h.after (drop k bytes)) in
     let short : length h.before < k =
-      omega (arith, length-take k bytes, ap length h.there, length-append h.before ((w ∷ word) ++ h.after)) in
+    omega (arith, length-take k bytes, ap length h.there, length-append h.before ((w ∷ word) ++ h.after)) in
     found.0.before (length h.before) (omega arith) short (OccursAt-held bytes (w ∷ word) h.before (h.after ++ drop k bytes) there)
 
 -- two dashes side by side, with one more behind: they stand in the bytes, or the bytes end with one

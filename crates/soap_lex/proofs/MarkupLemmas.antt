@@ -1,5 +1,5 @@
 -- What the reader of markup answers, by the kinds of markup.
-use Rattle.std.proofs.Common.{◌≡◌, ℕ, List, [], ◌∷◌, ◌++◌, Bor, Ok, Err, drop, arith, refl, sym, ap, ◌∙◌, subst, append_assoc}
+use Rattle.std.proofs.Common.{◌≡◌, ℕ, List, [], ◌++◌, Bor, Ok, Err, drop, arith, sym, ap, ◌∙◌, append_assoc}
 use Rattle.std.specs.Prelude.{Result, IfOk, IfErr, codes, encode_utf8}
 use Rattle.std.proofs.lemmas.List.{append-nil}
 use Rattle.soap_lex.specs.declared.error.LexError.{LexError}
@@ -17,17 +17,25 @@ Found bytes rest old new =
 
 pub comment_found : (bytes inside rest old : List ℕ) → bytes ≡ codes "<!--" ++ inside
     → ((body : List ℕ) × (inside ≡ body ++ (codes "-->" ++ rest)) × IsComment body) → Found bytes rest old old
-comment_found bytes inside rest old there found =
-    (codes "<!--" ++ (found.0 ++ codes "-->"), [],
-     there ∙ ap (λ l. codes "<!--" ++ l) (found.1 ∙ sym (append_assoc found.0 (codes "-->") rest)), comment found.0 found.2, sym (append-nil old))
+comment_found bytes inside rest old there found = (
+  codes "<!--" ++ (found.0 ++ codes "-->"),
+  [],
+  there ∙ ap (λ l. codes "<!--" ++ l) (found.1 ∙ sym (append_assoc found.0 (codes "-->") rest)),
+  comment found.0 found.2,
+  sym (append-nil old),
+)
 
 pub cdata_found : (bytes inside old new : List ℕ) (r : Result (Bor (List ℕ)) LexError) → bytes ≡ codes "<![CDATA[" ++ inside
     → IfOk r (λ rest. (body : List ℕ) × (inside ≡ body ++ (codes "]]>" ++ rest.now)) × IsCdata body × (new ≡ old ++ with_line_ends body))
     → IfOk r (λ rest. Found bytes rest.now old new)
 cdata_found bytes inside old new (Err e) there found = tt
-cdata_found bytes inside old new (Ok rest) there found =
-    (codes "<![CDATA[" ++ (found.0 ++ codes "]]>"), with_line_ends found.0,
-     there ∙ ap (λ l. codes "<![CDATA[" ++ l) (found.1 ∙ sym (append_assoc found.0 (codes "]]>") rest.now)), cdata found.0 found.2, found.3)
+cdata_found bytes inside old new (Ok rest) there found = (
+  codes "<![CDATA[" ++ (found.0 ++ codes "]]>"),
+  with_line_ends found.0,
+  there ∙ ap (λ l. codes "<![CDATA[" ++ l) (found.1 ∙ sym (append_assoc found.0 (codes "]]>") rest.now)),
+  cdata found.0 found.2,
+  found.3,
+)
 
 pub reference_found : (bytes old new : List ℕ) (r : Result (Bor (List ℕ)) LexError)
     → IfOk r (λ rest. (token : List ℕ) × (c : ℕ) × (bytes ≡ token ++ rest.now) × IsReference token c × (new ≡ old ++ encode_utf8 c))

@@ -1,7 +1,6 @@
 -- The longest name at the front of a text.
-use Rattle.std.proofs.Common.{◌≡◌, ◌≢◌, ℕ, ◌+◌, ◌-◌, ◌<◌, ◌≤◌, Bool, true, false, ◌||◌, List, [], ◌∷◌, ◌++◌, length, take, drop, refl, sym, ap, ◌∙◌, subst, arith, append_assoc, length-append}
+use Rattle.std.proofs.Common.{◌≡◌, ◌≢◌, ℕ, ◌+◌, ◌≤◌, Bool, true, false, ◌||◌, List, [], ◌∷◌, ◌++◌, length, take, drop, refl, sym, ap, ◌∙◌, subst, arith, append_assoc, length-append}
 use Rattle.std.specs.Prelude.{IsTrue, encode_utf8, encode_utf8_all}
-use Rattle.std.specs.Char.{len_utf8}
 use Rattle.std.specs.List.{AllByRecursion}
 use Rattle.std.specs.Str.{chars, IsUtf8}
 use Rattle.std.proofs.lemmas.List.{append-nil, take_at, drop_at}
@@ -26,12 +25,12 @@ pub NameSo-step : (text rest after : List ℕ) (end c : ℕ) → NameSo text res
 NameSo-step text rest after end c so there is =
     let one : encode_utf8_all (c ∷ []) ≡ encode_utf8 c = append-nil (encode_utf8 c) in
     let more : encode_utf8_all (so.characters ++ c ∷ []) ≡ encode_utf8_all so.characters ++ encode_utf8 c =
-      encodes-append so.characters (c ∷ []) ∙ ap (λ l. encode_utf8_all so.characters ++ l) one in
+    encodes-append so.characters (c ∷ []) ∙ ap (λ l. encode_utf8_all so.characters ++ l) one in
     record {
       characters = so.characters ++ c ∷ [];
       each = each-append is_name_char so.characters (c ∷ []) so.each (is, tt);
       there = so.there ∙ ap (λ l. encode_utf8_all so.characters ++ l) there ∙ sym (append_assoc (encode_utf8_all so.characters) (encode_utf8 c) after)
-        ∙ ap (λ l. l ++ after) (sym more);
+          ∙ ap (λ l. l ++ after) (sym more);
       size = ap length more ∙ length-append (encode_utf8_all so.characters) (encode_utf8 c) ∙ ap (λ n. n + length (encode_utf8 c)) so.size;
     }
 
@@ -52,10 +51,9 @@ NameSo-stopped text rest after end c so there other = record {
   there = so.there ∙ ap (λ l. encode_utf8_all so.characters ++ l) (sym (rest_is text rest end so));
   size = so.size;
   ends = λ d more e is.
-    let same = encode_same d c more after (sym e ∙ rest_is text rest end so ∙ there) in
-    contradiction (is_name_char c) (sym (ap is_name_char same.0) ∙ is) other;
+      let same = encode_same d c more after (sym e ∙ rest_is text rest end so ∙ there) in
+      contradiction (is_name_char c) (sym (ap is_name_char same.0) ∙ is) other;
 }
-
 
 -- and so does the end
 pub NameSo-ended : (text : List ℕ) (end : ℕ) → NameSo text [] end → IsNameRun text end
@@ -105,7 +103,7 @@ run_name text n (c ∷ cs) [] coded first each there ends =
     absurd (ends c (encode_utf8_all cs) (sym there ∙ sym coded) (name_char c (starts_from (is_name_start c) first)))
 run_name text n (c ∷ cs) (d ∷ characters) coded first each there ends =
     let same = encode_same c d (encode_utf8_all cs) (encode_utf8_all characters ++ drop n text)
-      (coded ∙ there ∙ append_assoc (encode_utf8 d) (encode_utf8_all characters) (drop n text)) in
+    (coded ∙ there ∙ append_assoc (encode_utf8 d) (encode_utf8_all characters) (drop n text)) in
     record {
       first = d;
       others = characters;
@@ -118,15 +116,15 @@ run_name text n (c ∷ cs) (d ∷ characters) coded first each there ends =
 pub longest_run : (text : List ℕ) (n : ℕ) → IsUtf8 text → begins (chars text) ≡ true → IsNameRun text n → IsLongestName text (take n text) (drop n text)
 longest_run text n utf8 first found =
     let front : take n text ≡ encode_utf8_all found.characters =
-      ap (λ l. take n l) found.there ∙ take_at (encode_utf8_all found.characters) (drop n text) n found.size in
+    ap (λ l. take n l) found.there ∙ take_at (encode_utf8_all found.characters) (drop n text) n found.size in
     let P : List ℕ → Type 0 = λ l. IsLongestName text l (drop n text) in
     subst P (sym front) (record {
       is = run_name text n (chars text) found.characters (encodes-chars text utf8) first found.each found.there found.ends;
       there = found.there;
       longest = λ more later some there is.
-        let split = split_encodes found.characters (is.first ∷ is.others) more (sym is.coded) in
-        let Q : List ℕ → Type 0 = λ l. AllByRecursion (λ c. IsTrue (is_name_char c)) l in
-        no_more split.0 more (drop n text) later (each-behind found.characters split.0 (subst Q split.1 (name_all (encode_utf8_all found.characters ++ more) is)))
+          let split = split_encodes found.characters (is.first ∷ is.others) more (sym is.coded) in
+          let Q : List ℕ → Type 0 = λ l. AllByRecursion (λ c. IsTrue (is_name_char c)) l in
+          no_more split.0 more (drop n text) later (each-behind found.characters split.0 (subst Q split.1 (name_all (encode_utf8_all found.characters ++ more) is)))
           split.2 some there found.ends;
     })
 
@@ -138,7 +136,7 @@ run_within text n found =
 pub no_name : (text name rest : List ℕ) → IsUtf8 text → begins (chars text) ≡ false → text ≡ name ++ rest → IsName name → ⊥
 no_name text name rest utf8 other there is =
     let first : text ≡ encode_utf8 is.first ++ (encode_utf8_all is.others ++ rest) =
-      there ∙ ap (λ l. l ++ rest) is.coded ∙ append_assoc (encode_utf8 is.first) (encode_utf8_all is.others) rest in
+    there ∙ ap (λ l. l ++ rest) is.coded ∙ append_assoc (encode_utf8 is.first) (encode_utf8_all is.others) rest in
     let head : begins (chars text) ≡ (is_name_start is.first || false) = ap begins (chars_past_char text (encode_utf8_all is.others ++ rest) is.first utf8 first) in
     contradiction (is_name_start is.first || false) (ap (λ b. b || false) is.starts) (sym head ∙ other)
 

@@ -1,5 +1,5 @@
 -- What was read at a place in the bytes, from what was read at the front of the rest.
-use Rattle.std.proofs.Common.{◌≡◌, ℕ, ◌+◌, ◌-◌, ◌<◌, ◌≤◌, List, [], ◌∷◌, ◌++◌, length, take, drop, refl, sym, ap, ◌∙◌, subst, arith, length-append, length-drop}
+use Rattle.std.proofs.Common.{◌≡◌, ℕ, ◌+◌, ◌-◌, ◌≤◌, List, ◌++◌, length, take, drop, refl, sym, ap, ◌∙◌, subst, arith, length-append, length-drop}
 use Rattle.std.proofs.lemmas.List.{take_at, drop_at, drop-drop}
 use Rattle.soap_lex.specs.Cut.{IsTextFirst, IsValueFirst, ReadsText, ReadsValue}
 
@@ -18,7 +18,7 @@ placed bytes at front rest within there =
       low = omega arith;
       front_is = sym (take_at front rest (length bytes - length rest - at) size) ∙ ap (λ l. take (length bytes - length rest - at) l) (sym there);
       rest_is = sym (drop_at front rest (length front) refl) ∙ ap (λ l. drop (length front) l) (sym there) ∙ drop-drop (length front) at bytes
-        ∙ ap (λ n. drop n bytes) end;
+          ∙ ap (λ n. drop n bytes) end;
     }
 
 pub reads_text : (bytes : List ℕ) (at : ℕ) (text rest meaning old new : List ℕ) → at ≤ length bytes → IsTextFirst (drop at bytes) text rest meaning

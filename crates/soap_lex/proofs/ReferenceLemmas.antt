@@ -1,6 +1,6 @@
 -- References: what stands in them, that each has one end and one meaning.
-use Rattle.std.proofs.Common.{◌≡◌, ◌≢◌, ℕ, zero, suc, ◌+◌, ◌<◌, ◌≤◌, Bool, true, false, ◌==◌, List, [], ◌∷◌, ◌++◌, length, get_or, take, drop, eqb-true, Some, None, Option, refl, sym, ap, ◌∙◌, subst, arith, inl, inr, append_assoc}
-use Rattle.std.specs.Prelude.{◌⊎◌, IsTrue, codes, IfSome, IfNone, if◌then◌else◌}
+use Rattle.std.proofs.Common.{◌≡◌, ◌≢◌, ℕ, ◌+◌, ◌<◌, Bool, true, false, ◌==◌, List, [], ◌∷◌, ◌++◌, length, get_or, take, drop, eqb-true, Some, None, Option, refl, sym, ap, ◌∙◌, subst, arith, append_assoc}
+use Rattle.std.specs.Prelude.{IsTrue, codes, IfSome, IfNone, if◌then◌else◌}
 use Rattle.std.specs.Char.{digit_value, is_ascii_digit, is_ascii_hexdigit}
 use Rattle.std.specs.List.{AllByRecursion}
 use Rattle.std.specs.Str.{NonePass}
@@ -100,7 +100,7 @@ hex_found bytes digits (Some c) there found =
     let P : List ℕ → Type 0 = λ l. IsReference l c in
     let char : IsTrue (is_char (digits_value 16 digits)) = ap is_char (sym found.3) ∙ found.2 in
     subst P (sym there) (from_number 16 digits c (codes "&#x" ++ (digits ++ codes ";")) found.3
-      (hexadecimal digits found.0 (count_all is_ascii_hexdigit 16 counts_hex digits found.1) char))
+    (hexadecimal digits found.0 (count_all is_ascii_hexdigit 16 counts_hex digits found.1) char))
 
 pub hex_none : (bytes digits : List ℕ) (r : Option ℕ) → bytes ≡ codes "&#x" ++ (digits ++ codes ";")
     → IfNone r (digits ≢ [] → AllDigits 16 digits → IsTrue (is_char (digits_value 16 digits)) → ⊥) → IfNone r ((c : ℕ) → IsReference bytes c → ⊥)
@@ -114,7 +114,7 @@ decimal_found bytes digits (Some c) there found =
     let P : List ℕ → Type 0 = λ l. IsReference l c in
     let char : IsTrue (is_char (digits_value 10 digits)) = ap is_char (sym found.3) ∙ found.2 in
     subst P (sym there) (from_number 10 digits c (codes "&#" ++ (digits ++ codes ";")) found.3
-      (decimal digits found.0 (count_all is_ascii_digit 10 counts_decimal digits found.1) char))
+    (decimal digits found.0 (count_all is_ascii_digit 10 counts_decimal digits found.1) char))
 
 pub decimal_none : (bytes digits : List ℕ) (r : Option ℕ) → bytes ≡ codes "&#" ++ (digits ++ codes ";")
     → ((inner : List ℕ) → bytes ≡ codes "&#x" ++ (inner ++ codes ";") → ⊥)
@@ -213,9 +213,9 @@ reference_front bytes token rest c k found there is =
     let high : k < length bytes = found.0.high in
     let at : get_or bytes k 0 ≡ 59 = eqb-true (get_or bytes k 0) 59 found.1 in
     let split : bytes ≡ take k bytes ++ (59 ∷ drop (k + 1) bytes) =
-      sym (take-append-drop k bytes) ∙ ap (λ l. take k bytes ++ l) (drop_more bytes k 0 high ∙ ap (λ x. x ∷ drop (k + 1) bytes) at) in
+    sym (take-append-drop k bytes) ∙ ap (λ l. take k bytes ++ l) (drop_more bytes k 0 high ∙ ap (λ x. x ∷ drop (k + 1) bytes) at) in
     let other : bytes ≡ (38 ∷ closed.inner) ++ (59 ∷ rest) =
-      there ∙ ap (λ l. l ++ rest) closed.there ∙ append_assoc (38 ∷ closed.inner) (59 ∷ []) rest in
+    there ∙ ap (λ l. l ++ rest) closed.there ∙ append_assoc (38 ∷ closed.inner) (59 ∷ []) rest in
     let (inners, rests) = same_run (is_byte 59) (38 ∷ closed.inner) (take k bytes) (59 ∷ rest) (59 ∷ drop (k + 1) bytes)
-      (refl, closed.none) (NonePass-before (is_byte 59) bytes k found) refl refl (sym other ∙ split) in
+    (refl, closed.none) (NonePass-before (is_byte 59) bytes k found) refl refl (sym other ∙ split) in
     closed.there ∙ ap (λ l. l ++ 59 ∷ []) inners ∙ ap (λ x. take k bytes ++ x ∷ []) (sym at) ∙ sym (take_more bytes k 0 high)

@@ -1,5 +1,5 @@
 -- Text: its parts are determined by the bytes, and what the reader of text has done so far.
-use Rattle.std.proofs.Common.{◌≡◌, ◌≢◌, ℕ, ◌+◌, List, [], ◌∷◌, ◌++◌, length, take, drop, get_or, refl, sym, ap, ◌∙◌, subst, arith, inl, inr, append_assoc, ◌<◌, length-append}
+use Rattle.std.proofs.Common.{◌≡◌, ℕ, List, [], ◌∷◌, ◌++◌, length, drop, refl, sym, ap, ◌∙◌, subst, arith, inl, inr, append_assoc, ◌<◌, length-append}
 use Rattle.std.specs.Prelude.{◌⊎◌, codes, encode_utf8}
 use Rattle.std.specs.Str.{NonePass}
 use Rattle.std.proofs.lemmas.List.{append-nil}
@@ -7,7 +7,7 @@ use Rattle.memchr.specs.Find.{is_byte2}
 use Rattle.soap_lex.specs.Characters.{Holds}
 use Rattle.soap_lex.specs.Cut.{EndsText, IsTextFirst, Stops}
 use Rattle.soap_lex.specs.References.{IsReference}
-use Rattle.soap_lex.specs.Text.{IsCharData, IsCdata, IsComment, IsMarkup, reference, cdata, comment, IsText, run, more, with_line_ends}
+use Rattle.soap_lex.specs.Text.{IsCharData, IsComment, IsMarkup, reference, cdata, comment, IsText, run, more, with_line_ends}
 use Rattle.soap_lex.proofs.AnswerLemmas.{join2}
 use Rattle.soap_lex.proofs.HoldsLemmas.{Holds-front, Holds-shorter}
 use Rattle.soap_lex.proofs.ReferenceLemmas.{IsClosed-reference, same_reference, differ_at}
@@ -39,14 +39,14 @@ same_markup _ _ x y _ _ (reference a c ia) (comment q iq) e = absurd (not_less a
 same_markup _ _ x y _ _ (cdata p ip) (reference b d ib) e = absurd (not_less b y _ d ib (sym e))
 same_markup _ _ x y _ _ (cdata p ip) (cdata q iq) e =
     let (same, rests) = same_cdata p q x y ip.no_close iq.no_close
-      (sym (append_assoc p (codes "]]>") x) ∙ ap (λ l. drop 9 l) e ∙ append_assoc q (codes "]]>") y) in
+    (sym (append_assoc p (codes "]]>") x) ∙ ap (λ l. drop 9 l) e ∙ append_assoc q (codes "]]>") y) in
     (ap (λ l. codes "<![CDATA[" ++ (l ++ codes "]]>")) same, ap with_line_ends same, rests)
 same_markup _ _ x y _ _ (cdata p ip) (comment q iq) e = absurd (differ_at 2 _ _ (λ same. omega arith) e)
 same_markup _ _ x y _ _ (comment p ip) (reference b d ib) e = absurd (not_less b y _ d ib (sym e))
 same_markup _ _ x y _ _ (comment p ip) (cdata q iq) e = absurd (differ_at 2 _ _ (λ same. omega arith) e)
 same_markup _ _ x y _ _ (comment p ip) (comment q iq) e =
     let (same, rests) = same_comment p q x y (lacks_comment_end p ip) (lacks_comment_end q iq)
-      (sym (append_assoc p (codes "-->") x) ∙ ap (λ l. drop 4 l) e ∙ append_assoc q (codes "-->") y) in
+    (sym (append_assoc p (codes "-->") x) ∙ ap (λ l. drop 4 l) e ∙ append_assoc q (codes "-->") y) in
     (ap (λ l. codes "<!--" ++ (l ++ codes "-->")) same, refl, rests)
 
 -- markup begins with < or &
@@ -100,7 +100,7 @@ parts_of first stop _ rest _ (run b ib) ends e is stops =
     inl (sym (same_run (is_byte2 60 38) b first rest stop (data_run b ib) (data_run first is) (ends_stops rest ends) stops e).1)
 parts_of first stop _ rest _ (more b markup meaning later after ib im it) ends e is stops =
     let parts = same_run (is_byte2 60 38) b first (markup ++ (later ++ rest)) stop (data_run b ib) (data_run first is)
-      (markup_stops markup meaning (later ++ rest) im) stops (sym (regroup b markup later rest) ∙ e) in
+    (markup_stops markup meaning (later ++ rest) im) stops (sym (regroup b markup later rest) ∙ e) in
     inr (record { markup = markup; meaning = meaning; later = later; after = after; there = sym parts.1; is = im; goes = it })
 
 -- text begins with character data, and then ends or goes on
@@ -155,21 +155,21 @@ pub TextSo-step : (old out next bytes rest first stop markup meaning after : Lis
 TextSo-step old out next bytes rest first stop markup meaning after so there is follows im pushed =
     let whole : rest ≡ first ++ (markup ++ after) = there ∙ ap (λ l. first ++ l) follows in
     let P : List ℕ → Type 0 = λ l. (text ends value : List ℕ) → IsTextFirst l text ends value
-      → (later : List ℕ) × (then : List ℕ) × IsTextFirst after later ends then in
+    → (later : List ℕ) × (then : List ℕ) × IsTextFirst after later ends then in
     let on : P rest = subst P (sym whole) (λ text ends value cut. later_cut first markup meaning after text ends value is im cut) in
     record {
       front = so.front ++ (first ++ markup);
       done = so.done ++ (with_line_ends first ++ meaning);
       appended = pushed ∙ ap (λ l. (l ++ with_line_ends first) ++ meaning) so.appended
-        ∙ append_assoc (old ++ so.done) (with_line_ends first) meaning ∙ append_assoc old so.done (with_line_ends first ++ meaning);
+          ∙ append_assoc (old ++ so.done) (with_line_ends first) meaning ∙ append_assoc old so.done (with_line_ends first ++ meaning);
       there = so.there ∙ ap (λ l. so.front ++ l) (whole ∙ sym (append_assoc first markup after)) ∙ sym (append_assoc so.front (first ++ markup) after);
       back = λ text ends value cut.
-        let one = so.back (first ++ (markup ++ text)) ends (with_line_ends first ++ (meaning ++ value)) (record {
-          there = whole ∙ ap (λ l. first ++ (markup ++ l)) cut.there ∙ sym (regroup first markup text ends);
-          is = more first markup meaning text value is im cut.is;
-          ends = cut.ends;
-        }) in
-        moved bytes ends
+          let one = so.back (first ++ (markup ++ text)) ends (with_line_ends first ++ (meaning ++ value)) (record {
+            there = whole ∙ ap (λ l. first ++ (markup ++ l)) cut.there ∙ sym (regroup first markup text ends);
+            is = more first markup meaning text value is im cut.is;
+            ends = cut.ends;
+          }) in
+          moved bytes ends
           (ap (λ l. so.front ++ l) (sym (append_assoc first markup text)) ∙ sym (append_assoc so.front (first ++ markup) text))
           (ap (λ l. so.done ++ l) (sym (append_assoc (with_line_ends first) meaning value)) ∙ sym (append_assoc so.done (with_line_ends first ++ meaning) value))
           one;
@@ -179,10 +179,12 @@ TextSo-step old out next bytes rest first stop markup meaning after so there is 
 -- the last run
 pub TextSo-done : (old out next bytes rest first stop : List ℕ) → TextSo old out bytes rest → rest ≡ first ++ stop → IsCharData first → EndsText stop
     → next ≡ out ++ with_line_ends first → (text : List ℕ) × (meaning : List ℕ) × IsTextFirst bytes text stop meaning × (next ≡ old ++ meaning)
-TextSo-done old out next bytes rest first stop so there is ends pushed =
-    (so.front ++ first, so.done ++ with_line_ends first,
-     so.back first stop (with_line_ends first) (record { there = there; is = run first is; ends = ends }),
-     pushed ∙ ap (λ l. l ++ with_line_ends first) so.appended ∙ append_assoc old so.done (with_line_ends first))
+TextSo-done old out next bytes rest first stop so there is ends pushed = (
+  so.front ++ first,
+  so.done ++ with_line_ends first,
+  so.back first stop (with_line_ends first) (record { there = there; is = run first is; ends = ends }),
+  pushed ∙ ap (λ l. l ++ with_line_ends first) so.appended ∙ append_assoc old so.done (with_line_ends first),
+)
 
 pub TextSo-only : (old out bytes rest first stop : List ℕ) → TextSo old out bytes rest → rest ≡ first ++ stop → IsCharData first → EndsText stop
     → (text end meaning : List ℕ) → IsTextFirst bytes text end meaning → end ≡ stop

@@ -20,22 +20,23 @@ same_text _ rest _ _ left _ (run b ib) ends (run d id) stops e =
     (same.0, ap with_line_ends same.0, same.1)
 same_text _ rest _ _ left _ (run b ib) ends (more d markup meaning later after id im it) stops e =
     let same = same_run (is_byte2 60 38) b d rest (markup ++ (later ++ left)) (data_run b ib) (data_run d id) (ends_stops rest ends)
-      (markup_stops markup meaning (later ++ left) im) (e ∙ regroup d markup later left) in
+    (markup_stops markup meaning (later ++ left) im) (e ∙ regroup d markup later left) in
     absurd (no_end rest markup meaning (later ++ left) ends im same.1)
 same_text _ rest _ _ left _ (more b markup meaning later after ib im it) ends (run d id) stops e =
     let same = same_run (is_byte2 60 38) b d (markup ++ (later ++ rest)) left (data_run b ib) (data_run d id)
-      (markup_stops markup meaning (later ++ rest) im) (ends_stops left stops) (sym (regroup b markup later rest) ∙ e) in
+    (markup_stops markup meaning (later ++ rest) im) (ends_stops left stops) (sym (regroup b markup later rest) ∙ e) in
     absurd (no_end left markup meaning (later ++ rest) stops im (sym same.1))
 same_text _ rest _ _ left _ (more b markup meaning later after ib im it) ends (more d mark means late then id jm jt) stops e =
     let same = same_run (is_byte2 60 38) b d (markup ++ (later ++ rest)) (mark ++ (late ++ left)) (data_run b ib) (data_run d id)
-      (markup_stops markup meaning (later ++ rest) im) (markup_stops mark means (late ++ left) jm)
-      (sym (regroup b markup later rest) ∙ e ∙ regroup d mark late left) in
+    (markup_stops markup meaning (later ++ rest) im) (markup_stops mark means (late ++ left) jm)
+    (sym (regroup b markup later rest) ∙ e ∙ regroup d mark late left) in
     let marks = same_markup markup mark (later ++ rest) (late ++ left) meaning means im jm same.1 in
-    let behind = same_text later rest after late left then it ends jt stops marks.2 in
-    (ap (λ l. l ++ (markup ++ later)) same.0 ∙ ap (λ l. d ++ (l ++ later)) marks.0 ∙ ap (λ l. d ++ (mark ++ l)) behind.0,
-     ap (λ l. with_line_ends l ++ (meaning ++ after)) same.0 ∙ ap (λ l. with_line_ends d ++ (l ++ after)) marks.1
-       ∙ ap (λ l. with_line_ends d ++ (means ++ l)) behind.1,
-     behind.2)
+    let behind = same_text later rest after late left then it ends jt stops marks.2 in (
+      ap (λ l. l ++ (markup ++ later)) same.0 ∙ ap (λ l. d ++ (l ++ later)) marks.0 ∙ ap (λ l. d ++ (mark ++ l)) behind.0,
+      ap (λ l. with_line_ends l ++ (meaning ++ after)) same.0 ∙ ap (λ l. with_line_ends d ++ (l ++ after)) marks.1
+          ∙ ap (λ l. with_line_ends d ++ (means ++ l)) behind.1,
+      behind.2,
+    )
 
 pub one_text : (bytes text rest meaning other left value : List ℕ) → IsTextFirst bytes text rest meaning → IsTextFirst bytes other left value
     → (text ≡ other) × (meaning ≡ value) × (rest ≡ left)
@@ -46,31 +47,32 @@ same_inner : (quote : ℕ) (inner tail meaning other left value : List ℕ) → 
     → inner ++ (quote ∷ tail) ≡ other ++ (quote ∷ left) → (inner ≡ other) × (meaning ≡ value) × (tail ≡ left)
 same_inner quote _ tail _ _ left _ quotes (inner_run b ib) (inner_run d id) e =
     let same = same_run (is_byte3 60 38 quote) b d (quote ∷ tail) (quote ∷ left) (plain_run quote b ib) (plain_run quote d id) (quote_passes quote)
-      (quote_passes quote) e in
+    (quote_passes quote) e in
     (same.0, ap with_spaces same.0, same_tail quote quote tail left same.1)
 same_inner quote _ tail _ _ left _ quotes (inner_run b ib) (inner_more d token c later after id it jt) e =
     let same = same_run (is_byte3 60 38 quote) b d (quote ∷ tail) (token ++ (later ++ (quote ∷ left))) (plain_run quote b ib) (plain_run quote d id)
-      (quote_passes quote)
-      (Stops-begins (is_byte3 60 38 quote) (token ++ (later ++ (quote ∷ left))) (reference_begins quote c token (later ++ (quote ∷ left)) it))
-      (e ∙ regroup d token later (quote ∷ left)) in
+    (quote_passes quote)
+    (Stops-begins (is_byte3 60 38 quote) (token ++ (later ++ (quote ∷ left))) (reference_begins quote c token (later ++ (quote ∷ left)) it))
+    (e ∙ regroup d token later (quote ∷ left)) in
     absurd (not_reference quote c token (later ++ (quote ∷ left)) tail quotes it (sym same.1))
 same_inner quote _ tail _ _ left _ quotes (inner_more b token c later after ib it jt) (inner_run d id) e =
     let same = same_run (is_byte3 60 38 quote) b d (token ++ (later ++ (quote ∷ tail))) (quote ∷ left) (plain_run quote b ib) (plain_run quote d id)
-      (Stops-begins (is_byte3 60 38 quote) (token ++ (later ++ (quote ∷ tail))) (reference_begins quote c token (later ++ (quote ∷ tail)) it))
-      (quote_passes quote) (sym (regroup b token later (quote ∷ tail)) ∙ e) in
+    (Stops-begins (is_byte3 60 38 quote) (token ++ (later ++ (quote ∷ tail))) (reference_begins quote c token (later ++ (quote ∷ tail)) it))
+    (quote_passes quote) (sym (regroup b token later (quote ∷ tail)) ∙ e) in
     absurd (not_reference quote c token (later ++ (quote ∷ tail)) left quotes it same.1)
 same_inner quote _ tail _ _ left _ quotes (inner_more b token c later after ib it jt) (inner_more d mark m late then id im jm) e =
     let same = same_run (is_byte3 60 38 quote) b d (token ++ (later ++ (quote ∷ tail))) (mark ++ (late ++ (quote ∷ left))) (plain_run quote b ib)
-      (plain_run quote d id)
-      (Stops-begins (is_byte3 60 38 quote) (token ++ (later ++ (quote ∷ tail))) (reference_begins quote c token (later ++ (quote ∷ tail)) it))
-      (Stops-begins (is_byte3 60 38 quote) (mark ++ (late ++ (quote ∷ left))) (reference_begins quote m mark (late ++ (quote ∷ left)) im))
-      (sym (regroup b token later (quote ∷ tail)) ∙ e ∙ regroup d mark late (quote ∷ left)) in
+    (plain_run quote d id)
+    (Stops-begins (is_byte3 60 38 quote) (token ++ (later ++ (quote ∷ tail))) (reference_begins quote c token (later ++ (quote ∷ tail)) it))
+    (Stops-begins (is_byte3 60 38 quote) (mark ++ (late ++ (quote ∷ left))) (reference_begins quote m mark (late ++ (quote ∷ left)) im))
+    (sym (regroup b token later (quote ∷ tail)) ∙ e ∙ regroup d mark late (quote ∷ left)) in
     let marks = same_reference token mark (later ++ (quote ∷ tail)) (late ++ (quote ∷ left)) c m it im same.1 in
-    let behind = same_inner quote later tail after late left then quotes jt jm marks.2 in
-    (ap (λ l. l ++ (token ++ later)) same.0 ∙ ap (λ l. d ++ (l ++ later)) marks.0 ∙ ap (λ l. d ++ (mark ++ l)) behind.0,
-     ap (λ l. with_spaces l ++ (encode_utf8 c ++ after)) same.0 ∙ ap (λ n. with_spaces d ++ (encode_utf8 n ++ after)) marks.1
-       ∙ ap (λ l. with_spaces d ++ (encode_utf8 m ++ l)) behind.1,
-     behind.2)
+    let behind = same_inner quote later tail after late left then quotes jt jm marks.2 in (
+      ap (λ l. l ++ (token ++ later)) same.0 ∙ ap (λ l. d ++ (l ++ later)) marks.0 ∙ ap (λ l. d ++ (mark ++ l)) behind.0,
+      ap (λ l. with_spaces l ++ (encode_utf8 c ++ after)) same.0 ∙ ap (λ n. with_spaces d ++ (encode_utf8 n ++ after)) marks.1
+          ∙ ap (λ l. with_spaces d ++ (encode_utf8 m ++ l)) behind.1,
+      behind.2,
+    )
 
 quoted : (quote : ℕ) (inner other rest left : List ℕ) → (quote ∷ (inner ++ quote ∷ [])) ++ rest ≡ (quote ∷ (other ++ quote ∷ [])) ++ left
     → inner ++ (quote ∷ rest) ≡ other ++ (quote ∷ left)

@@ -1,5 +1,5 @@
 -- Attribute values: their parts are determined by the bytes, and what the reader of a value has done so far.
-use Rattle.std.proofs.Common.{◌≡◌, ◌≢◌, ℕ, ◌+◌, ◌<◌, Bool, true, false, ◌||◌, ◌==◌, List, [], ◌∷◌, ◌++◌, length, Bor, Ok, Err, refl, sym, ap, ◌∙◌, subst, arith, inl, inr, append_assoc, length-append, eq-eqb}
+use Rattle.std.proofs.Common.{◌≡◌, ℕ, ◌<◌, true, ◌||◌, ◌==◌, List, [], ◌∷◌, ◌++◌, length, Bor, Ok, Err, refl, sym, ap, ◌∙◌, subst, arith, inl, inr, append_assoc, length-append, eq-eqb}
 use Rattle.std.specs.Prelude.{◌⊎◌, Result, IfOk, IfErr, encode_utf8}
 use Rattle.std.specs.Str.{NonePass}
 use Rattle.std.proofs.Math.Bool.{or-true}
@@ -38,7 +38,7 @@ pub not_reference : (quote c : ℕ) (token rest tail : List ℕ) → (quote ≡ 
 not_reference quote c token rest tail quotes is e =
     let closed = IsClosed-reference token c is in
     differ_at 0 ((38 ∷ (closed.inner ++ 59 ∷ [])) ++ rest) (quote ∷ tail) (λ same. elim quotes [ inl is34 ↦ omega arith | inr is39 ↦ omega arith ])
-      (ap (λ l. l ++ rest) (sym closed.there) ∙ e)
+    (ap (λ l. l ++ rest) (sym closed.there) ∙ e)
 
 record GoesOn (quote : ℕ) (stop tail : List ℕ) : Type 0 where
   pub token : List ℕ
@@ -55,8 +55,8 @@ parts_of quote first stop _ tail _ (run b ib) e is stops =
     inl (sym (same_run (is_byte3 60 38 quote) b first (quote ∷ tail) stop (plain_run quote b ib) (plain_run quote first is) (quote_passes quote) stops e).1)
 parts_of quote first stop _ tail _ (more b token c later after ib ir it) e is stops =
     let parts = same_run (is_byte3 60 38 quote) b first (token ++ (later ++ (quote ∷ tail))) stop (plain_run quote b ib) (plain_run quote first is)
-      (Stops-begins (is_byte3 60 38 quote) (token ++ (later ++ (quote ∷ tail))) (reference_begins quote c token (later ++ (quote ∷ tail)) ir)) stops
-      (sym (regroup b token later (quote ∷ tail)) ∙ e) in
+    (Stops-begins (is_byte3 60 38 quote) (token ++ (later ++ (quote ∷ tail))) (reference_begins quote c token (later ++ (quote ∷ tail)) ir)) stops
+    (sym (regroup b token later (quote ∷ tail)) ∙ e) in
     inr (record { token = token; c = c; later = later; after = after; there = sym parts.1; is = ir; goes = it })
 
 inner_parts : (quote : ℕ) (bytes first stop inner tail meaning : List ℕ) → bytes ≡ first ++ stop → IsPlainValue quote first
@@ -93,7 +93,7 @@ later_cut : (quote c : ℕ) (first token after inner tail value : List ℕ) → 
     → IsInnerFirst quote (first ++ (token ++ after)) inner tail value → (later : List ℕ) × (value : List ℕ) × IsInnerFirst quote after later tail value
 later_cut quote c first token after inner tail value quotes is ir cut =
     elim (inner_parts quote (first ++ (token ++ after)) first (token ++ after) inner tail value refl is
-      (Stops-begins (is_byte3 60 38 quote) (token ++ after) (reference_begins quote c token after ir)) cut) [
+    (Stops-begins (is_byte3 60 38 quote) (token ++ after) (reference_begins quote c token after ir)) cut) [
       | inl ends ↦ absurd (not_reference quote c token after tail quotes ir ends)
       | inr goes ↦
           let same = same_reference token goes.token after (goes.later ++ (quote ∷ tail)) c goes.c ir goes.is goes.there in
@@ -114,20 +114,20 @@ pub ValueSo-step : (quote c : ℕ) (old out next bytes rest first stop token aft
 ValueSo-step quote c old out next bytes rest first stop token after quotes so there is follows ir pushed =
     let whole : rest ≡ first ++ (token ++ after) = there ∙ ap (λ l. first ++ l) follows in
     let P : List ℕ → Type 0 = λ l. (inner tail value : List ℕ) → IsInnerFirst quote l inner tail value
-      → (later : List ℕ) × (then : List ℕ) × IsInnerFirst quote after later tail then in
+    → (later : List ℕ) × (then : List ℕ) × IsInnerFirst quote after later tail then in
     let on : P rest = subst P (sym whole) (λ inner tail value cut. later_cut quote c first token after inner tail value quotes is ir cut) in
     record {
       front = so.front ++ (first ++ token);
       done = so.done ++ (with_spaces first ++ encode_utf8 c);
       appended = pushed ∙ ap (λ l. (l ++ with_spaces first) ++ encode_utf8 c) so.appended
-        ∙ append_assoc (old ++ so.done) (with_spaces first) (encode_utf8 c) ∙ append_assoc old so.done (with_spaces first ++ encode_utf8 c);
+          ∙ append_assoc (old ++ so.done) (with_spaces first) (encode_utf8 c) ∙ append_assoc old so.done (with_spaces first ++ encode_utf8 c);
       there = so.there ∙ ap (λ l. so.front ++ l) (whole ∙ sym (append_assoc first token after)) ∙ sym (append_assoc so.front (first ++ token) after);
       back = λ inner tail value cut.
-        let one = so.back (first ++ (token ++ inner)) tail (with_spaces first ++ (encode_utf8 c ++ value)) (record {
-          there = whole ∙ ap (λ l. first ++ (token ++ l)) cut.there ∙ sym (regroup first token inner (quote ∷ tail));
-          is = more first token c inner value is ir cut.is;
-        }) in
-        moved quote bytes tail
+          let one = so.back (first ++ (token ++ inner)) tail (with_spaces first ++ (encode_utf8 c ++ value)) (record {
+            there = whole ∙ ap (λ l. first ++ (token ++ l)) cut.there ∙ sym (regroup first token inner (quote ∷ tail));
+            is = more first token c inner value is ir cut.is;
+          }) in
+          moved quote bytes tail
           (ap (λ l. so.front ++ l) (sym (append_assoc first token inner)) ∙ sym (append_assoc so.front (first ++ token) inner))
           (ap (λ l. so.done ++ l) (sym (append_assoc (with_spaces first) (encode_utf8 c) value)) ∙ sym (append_assoc so.done (with_spaces first ++ encode_utf8 c) value))
           one;
@@ -139,9 +139,13 @@ pub ValueSo-done : (quote : ℕ) (old out next bytes rest first stop tail : List
     → IsPlainValue quote first → stop ≡ quote ∷ tail → next ≡ out ++ with_spaces first
     → (inner : List ℕ) × (meaning : List ℕ) × (bytes ≡ inner ++ (quote ∷ tail)) × IsInner quote inner meaning × (next ≡ old ++ meaning)
 ValueSo-done quote old out next bytes rest first stop tail so there is ends pushed =
-    let cut = so.back first tail (with_spaces first) (record { there = there ∙ ap (λ l. first ++ l) ends; is = run first is }) in
-    (so.front ++ first, so.done ++ with_spaces first, cut.there, cut.is,
-     pushed ∙ ap (λ l. l ++ with_spaces first) so.appended ∙ append_assoc old so.done (with_spaces first))
+    let cut = so.back first tail (with_spaces first) (record { there = there ∙ ap (λ l. first ++ l) ends; is = run first is }) in (
+      so.front ++ first,
+      so.done ++ with_spaces first,
+      cut.there,
+      cut.is,
+      pushed ∙ ap (λ l. l ++ with_spaces first) so.appended ∙ append_assoc old so.done (with_spaces first),
+    )
 
 pub same_tail : (x y : ℕ) (a b : List ℕ) → x ∷ a ≡ y ∷ b → a ≡ b
 same_tail x y a b e = cc
@@ -201,16 +205,22 @@ FoundInner quote inside rest old new =
 pub double_found : (bytes inside old new : List ℕ) (r : Result (Bor (List ℕ)) LexError) → bytes ≡ 34 ∷ inside
     → IfOk r (λ rest. FoundInner 34 inside rest.now old new) → IfOk r (λ rest. Found bytes rest.now old new)
 double_found bytes inside old new (Err e) there found = tt
-double_found bytes inside old new (Ok rest) there found =
-    (34 ∷ (found.0 ++ 34 ∷ []), found.1,
-     record { there = closed_value 34 bytes inside found.0 rest.now there found.2; is = double found.0 found.1 found.3 }, found.4)
+double_found bytes inside old new (Ok rest) there found = (
+  34 ∷ (found.0 ++ 34 ∷ []),
+  found.1,
+  record { there = closed_value 34 bytes inside found.0 rest.now there found.2; is = double found.0 found.1 found.3 },
+  found.4,
+)
 
 pub single_found : (bytes inside old new : List ℕ) (r : Result (Bor (List ℕ)) LexError) → bytes ≡ 39 ∷ inside
     → IfOk r (λ rest. FoundInner 39 inside rest.now old new) → IfOk r (λ rest. Found bytes rest.now old new)
 single_found bytes inside old new (Err e) there found = tt
-single_found bytes inside old new (Ok rest) there found =
-    (39 ∷ (found.0 ++ 39 ∷ []), found.1,
-     record { there = closed_value 39 bytes inside found.0 rest.now there found.2; is = single found.0 found.1 found.3 }, found.4)
+single_found bytes inside old new (Ok rest) there found = (
+  39 ∷ (found.0 ++ 39 ∷ []),
+  found.1,
+  record { there = closed_value 39 bytes inside found.0 rest.now there found.2; is = single found.0 found.1 found.3 },
+  found.4,
+)
 
 -- what is known of the inside where no value stands, or no other one
 double_inside : (bytes inside value rest meaning : List ℕ) → bytes ≡ 34 ∷ inside → IsValue value meaning → bytes ≡ value ++ rest

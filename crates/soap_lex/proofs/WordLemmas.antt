@@ -1,13 +1,12 @@
 -- Where a token ends: at the first word of three bytes that no end of its own begins, and at the first byte of a kind.
-use Rattle.std.proofs.Common.{◌≡◌, ◌≢◌, ℕ, zero, suc, ◌+◌, ◌<◌, ◌≤◌, Bool, true, false, List, [], ◌∷◌, ◌++◌, length, get_or, drop, Some, refl, sym, ap, ◌∙◌, subst, inl, inr, arith, drop-cons}
+use Rattle.std.proofs.Common.{◌≡◌, ◌≢◌, ℕ, suc, ◌+◌, ◌<◌, ◌≤◌, Bool, List, [], ◌∷◌, ◌++◌, length, drop, Some, refl, sym, ap, ◌∙◌, subst, arith, drop-cons}
 use Rattle.std.proofs.lemmas.List.{drop_more}
 use Rattle.std.proofs.lemmas.Slice.Eq.{HasBytesAt}
 use Rattle.memchr.specs.Find.{IsFirstByte}
-use Rattle.std.specs.Prelude.{◌⊎◌}
 use Rattle.std.specs.Str.{NonePass}
 use Rattle.soap_lex.specs.Characters.{Holds}
 use Rattle.soap_lex.specs.Cut.{Begins, Stops}
-use Rattle.soap_lex.proofs.HoldsLemmas.{Holds-cons, Holds-cases}
+use Rattle.soap_lex.proofs.HoldsLemmas.{Holds-cons}
 
 -- a word of this form stands in front of bytes that hold it further on: then the bytes between hold it as well
 three_front : (p q : ℕ) → p ≢ q → (b x y : List ℕ) → ¬ (Holds b (p ∷ p ∷ q ∷ [])) → p ∷ p ∷ q ∷ x ≡ b ++ (p ∷ p ∷ q ∷ y) → ([] ≡ b) × (x ≡ y)

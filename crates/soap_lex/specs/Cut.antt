@@ -1,6 +1,25 @@
 -- Where text, an attribute value and a name end in the bytes.
 use Rattle.std.specs.Prelude.{
-  ◌≡◌, ◌⊎◌, ℕ, ◌-◌, ◌≤◌, Bool, true, List, [], ◌∷◌, ◌++◌, length, take, drop, codes, encode_utf8, encode_utf8_all, IsTrue, ⊤}
+  ◌≡◌,
+  ◌⊎◌,
+  ℕ,
+  ◌-◌,
+  ◌≤◌,
+  Bool,
+  true,
+  List,
+  [],
+  ◌∷◌,
+  ◌++◌,
+  length,
+  take,
+  drop,
+  codes,
+  encode_utf8,
+  encode_utf8_all,
+  IsTrue,
+  ⊤,
+}
 use Rattle.std.specs.List.{AllByRecursion}
 use Rattle.xml_chars.specs.Classes.{is_name_char}
 use Rattle.soap_lex.specs.declared.error.LexError.{LexError}

@@ -70,5 +70,9 @@ fn blank(bytes: &mut [u8])
 fn space_for(byte: u8) -> u8
     ensures { result ≡ space_of byte }
 {
-    if byte == b'\t' || byte == b'\n' { b' ' } else { byte }
+    if byte == b'\t' || byte == b'\n' {
+        b' '
+    } else {
+        byte
+    }
 }

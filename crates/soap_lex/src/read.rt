@@ -1,12 +1,42 @@
 ghost use Rattle.std.specs.Prelude.{
-    ◌≡◌, ◌⊎◌, ℕ, ◌+◌, ◌-◌, ◌<◌, ◌≤◌, List, [], ◌∷◌, ◌++◌, length, take, drop, codes, encode_utf8, IfOk, IfErr, IfSome, IfNone,
-    OnOk, OnErr, MatchResult, IsTrue,
+  ◌≡◌,
+  ◌⊎◌,
+  ℕ,
+  ◌+◌,
+  ◌-◌,
+  ◌<◌,
+  ◌≤◌,
+  List,
+  [],
+  ◌∷◌,
+  ◌++◌,
+  length,
+  take,
+  drop,
+  codes,
+  encode_utf8,
+  IfOk,
+  IfErr,
+  IfSome,
+  IfNone,
+  OnOk,
+  OnErr,
+  MatchResult,
+  IsTrue,
 };
 ghost use Rattle.std.specs.Str.{IsUtf8, NonePass};
 ghost use Rattle.memchr.specs.Find.{is_byte2, is_byte3};
 ghost use Rattle.soap_lex.specs.Characters.{Holds, IsName, IsLongestName};
 ghost use Rattle.soap_lex.specs.Cut.{
-    Begins, EndsText, IsNameRun, IsTextFirst, IsValueFirst, OnRefusal, ReadsText, ReadsValue, Stops,
+  Begins,
+  EndsText,
+  IsNameRun,
+  IsTextFirst,
+  IsValueFirst,
+  OnRefusal,
+  ReadsText,
+  ReadsValue,
+  Stops,
 };
 ghost use Rattle.soap_lex.specs.References.{IsReference};
 ghost use Rattle.soap_lex.specs.Text.{IsCharData, IsCdata, IsComment, IsMarkup, with_line_ends};
@@ -15,7 +45,10 @@ ghost use Rattle.soap_lex.specs.declared.error.LexError.TheVariants.{Memory as W
 
 use crate::references::reference_at;
 use crate::tokens::begins_name;
-use crate::{LexError, Memory, is_cdata, is_char_data, is_comment, is_plain_value, push_line_ends, push_spaces};
+use crate::{
+    LexError, Memory, is_cdata, is_char_data, is_comment, is_plain_value, push_line_ends,
+    push_spaces,
+};
 use memchr::{memchr2, memchr3, memmem};
 use std::str;
 use xml_chars::is_name_char;
@@ -54,7 +87,11 @@ fn name_len(text: &str) -> Option<usize>
     ensures found { IfSome result (λ n. IsLongestName text.now (take n text.now) (drop n text.now)) }
     ensures none { IfNone result ((name rest : List ℕ) → text.now ≡ name ++ rest → IsName name → ⊥) }
 {
-    if begins_name(text) { Some(name_chars_len(text)) } else { None }
+    if begins_name(text) {
+        Some(name_chars_len(text))
+    } else {
+        None
+    }
 }
 
 // how many bytes the characters at the front have that may stand in a name

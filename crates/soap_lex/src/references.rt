@@ -1,5 +1,17 @@
 ghost use Rattle.std.specs.Prelude.{
-    ◌≡◌, ◌≢◌, ◌⊎◌, ℕ, ◌≤◌, List, [], ◌++◌, min, IfSome, IfNone, IsTrue, codes,
+  ◌≡◌,
+  ◌≢◌,
+  ◌⊎◌,
+  ℕ,
+  ◌≤◌,
+  List,
+  [],
+  ◌++◌,
+  min,
+  IfSome,
+  IfNone,
+  IsTrue,
+  codes,
 };
 ghost use Rattle.std.specs.Str.Parse.{AllDigits, digits_value};
 ghost use Rattle.xml_chars.specs.Classes.{is_char as char_class};

@@ -13,5 +13,5 @@ pub returns-else-is_comment-clause-none : goal.returns-else-is_comment-clause-no
 returns-else-is_comment-clause-none c = λ inside rest there is.
     let P : List ℕ → Type 0 = λ l. IsComment l in
     let same = same_comment c.in-Some.inside.now inside c.in-Some.rest.now rest c.in-Some.ensures.found.1 (lacks_comment_end inside is)
-      (sym c.in-Some.ensures.found.0 ∙ there) in
+    (sym c.in-Some.ensures.found.0 ∙ there) in
     cc (c.is_comment.ensures.1 (subst P (sym same.0) is))

@@ -1,4 +1,3 @@
-use Rattle.std.proofs.Common.{length}
 use Rattle.soap_lex.proofs.NameLemmas.{NameSo}
 use Rattle.soap_lex.proofs.read.name_chars_len.Given as goal
 

@@ -10,7 +10,7 @@ pub returns-then-not-is_cdata-clause-refused : goal.returns-then-not-is_cdata-cl
 returns-then-not-is_cdata-clause-refused c = λ inside rest there is.
     let P : List ℕ → Type 0 = λ l. IsCdata l in
     let same = same_cdata c.in-Some.inside.now inside c.in-Some.rest.now rest c.in-Some.ensures.found.1 is.no_close
-      (sym c.in-Some.ensures.found.0 ∙ there) in
+    (sym c.in-Some.ensures.found.0 ∙ there) in
     cc (c.is_cdata.ensures.1 (subst P (sym same.0) is))
 
 pub returns-clause-found : goal.returns-clause-found

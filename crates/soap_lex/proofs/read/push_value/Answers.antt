@@ -16,7 +16,7 @@ returns-in-Some-clause-refused c =
 pub returns-in-Some-after-clause-found : goal.returns-in-Some-after-clause-found
 returns-in-Some-after-clause-found c =
     single_found c.args.bytes.now c.in-Some-after.inner.now c.args.out.now.items c.push_inner-in-Some-after.new.out.items c.push_inner-in-Some-after.result c.in-Some-after.ensures.found
-      c.push_inner-in-Some-after.ensures.found
+    c.push_inner-in-Some-after.ensures.found
 
 pub returns-in-Some-after-clause-only : goal.returns-in-Some-after-clause-only
 returns-in-Some-after-clause-only c =
@@ -25,7 +25,7 @@ returns-in-Some-after-clause-only c =
 pub returns-in-Some-after-clause-refused : goal.returns-in-Some-after-clause-refused
 returns-in-Some-after-clause-refused c =
     single_refused c.args.bytes.now c.in-Some-after.inner.now c.push_inner-in-Some-after.result c.in-Some-after.ensures.found
-      c.push_inner-in-Some-after.ensures.refused
+    c.push_inner-in-Some-after.ensures.refused
 
 pub returns-clause-refused : goal.returns-clause-refused
 returns-clause-refused c = unquoted_refused c.args.bytes.now c.in_default.ensures.none c.in_default-after.ensures.none

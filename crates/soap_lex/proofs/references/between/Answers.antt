@@ -1,4 +1,4 @@
-use Rattle.std.proofs.Common.{◌≡◌, ℕ, List, ◌++◌, None, Some, Bor, sym, ◌∙◌, append_assoc}
+use Rattle.std.proofs.Common.{◌++◌, None, Some}
 use Rattle.std.proofs.lemmas.Bool.Decides.{Decides-eqb}
 use Rattle.std.proofs.lemmas.Slice.Eq.{strip_prefix_is, strip_suffix_is}
 use Rattle.soap_lex.proofs.AnswerLemmas.{between_found, between_none}
@@ -7,7 +7,7 @@ use Rattle.soap_lex.proofs.references.between.Goals as goal
 pub returns-in_default-clause-none : goal.returns-in_default-clause-none
 returns-in_default-clause-none c = λ inner there.
     strip_prefix_is Decides-eqb c.args.bytes.now c.args.before.now None c.in_default.ensures.cases
-      (inner ++ c.args.after.now) there
+    (inner ++ c.args.after.now) there
 
 pub returns-clause-found : goal.returns-clause-found
 returns-clause-found c =

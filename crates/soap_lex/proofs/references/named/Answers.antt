@@ -1,4 +1,4 @@
-use Rattle.std.proofs.Common.{rules, ◌≡◌, ℕ, List, sym, subst, arith}
+use Rattle.std.proofs.Common.{rules, ℕ, List, sym, subst, arith}
 use Rattle.std.specs.Prelude.{codes}
 use Rattle.std.proofs.lemmas.Slice.Eq.{text_from_reads}
 use Rattle.soap_lex.specs.References.{IsReference, ampersand, less, greater, apostrophe, quote}

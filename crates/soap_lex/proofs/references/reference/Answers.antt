@@ -12,9 +12,9 @@ returns-in-Some-clause-none c =
 pub returns-in-Some-between-clause-found : goal.returns-in-Some-between-clause-found
 returns-in-Some-between-clause-found c =
     decimal_found c.args.bytes.now c.in-Some-between.digits.now c.character-in-Some-between.result
-      c.in-Some-between.ensures.found c.character-in-Some-between.ensures.found
+    c.in-Some-between.ensures.found c.character-in-Some-between.ensures.found
 
 pub returns-in-Some-between-clause-none : goal.returns-in-Some-between-clause-none
 returns-in-Some-between-clause-none c =
     decimal_none c.args.bytes.now c.in-Some-between.digits.now c.character-in-Some-between.result
-      c.in-Some-between.ensures.found c.in_default.ensures.none c.character-in-Some-between.ensures.none
+    c.in-Some-between.ensures.found c.in_default.ensures.none c.character-in-Some-between.ensures.none

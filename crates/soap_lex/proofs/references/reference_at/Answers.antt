@@ -1,4 +1,4 @@
-use Rattle.std.proofs.Common.{◌≡◌, ℕ, ◌+◌, List, take, drop, get_or, sym, ◌∙◌, subst}
+use Rattle.std.proofs.Common.{ℕ, List, sym, ◌∙◌, subst}
 use Rattle.soap_lex.specs.References.{IsReference}
 use Rattle.soap_lex.proofs.ReferenceLemmas.{no_reference, reference_front}
 use Rattle.soap_lex.proofs.references.reference_at.Goals as goal

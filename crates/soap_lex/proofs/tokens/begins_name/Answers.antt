@@ -1,6 +1,5 @@
-use Rattle.std.proofs.Common.{◌≡◌, ◌∷◌, ◌++◌, take, sym, ◌∙◌, ap}
+use Rattle.std.proofs.Common.{◌≡◌, ◌++◌, take, sym, ◌∙◌, ap}
 use Rattle.std.specs.Prelude.{encode_utf8}
-use Rattle.std.specs.Str.{chars}
 use Rattle.std.specs.List.{list_any}
 use Rattle.std.proofs.lemmas.Str.{chars_past_char}
 use Rattle.std.proofs.Math.Bool.{or-false}

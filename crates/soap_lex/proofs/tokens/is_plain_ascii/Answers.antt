@@ -9,7 +9,7 @@ pub loop-byte-preserved : goal.loop-byte-preserved
 loop-byte-preserved c = λ both.
     let (before, here) = and_parts c.loop-byte.plain c.is_plain-plain.result both in
     All-more IsPlain c.args.bytes.now c.loop-byte.byte-index 0 c.loop-byte-test.true (c.loop-byte.invariant before)
-      (c.is_plain-plain.ensures here)
+    (c.is_plain-plain.ensures here)
 
 pub returns : goal.returns
 returns c = λ is.
