@@ -1,6 +1,9 @@
 -- What the bytes of a source, where they are known, make of a script.
-use Rattle.std.proofs.Common.{◌≡◌, ℕ, ◌+◌, ◌≤◌, ◌<◌, zero, suc, List, [], ◌∷◌, length, get_or, sym, ap, subst, refl, arith, ◌∙◌}
-use Rattle.std.specs.Prelude.{Option, None, Some, IfSome, Bool, IsTrue, ◌↔◌}
+use Rattle.std.proofs.Common.{◌≡◌, ℕ, ◌+◌, ◌≤◌, ◌<◌, zero, suc, List, [], ◌∷◌, length, get_or, sym, ap, subst, refl, arith, ◌∙◌, append-nil}
+use Rattle.std.specs.Prelude.{Option, None, Some, IfSome, Bool, IsTrue, ◌↔◌, Result, Ok, Err, OnOk, OnErr}
+use Rattle.std.specs.Io.KnownBytes.{Appends}
+use Rattle.std.proofs.lemmas.List.{take_all}
+use Rattle.rm_base.specs.Outside.{AppendsFront}
 use Rattle.std.specs.Str.{bytes_eq}
 use Rattle.std.proofs.lemmas.Slice.Eq.{bytes_eq-Decides}
 use Rattle.rm_world.specs.declared.event.Event.{Event}
@@ -39,3 +42,15 @@ decided words item word equal one test = (
     λ t. one ∙ ap (λ x. x ∷ []) ((bytes_eq-Decides item word).0 (sym test ∙ t)),
     λ e. let same : item ≡ word = cc (one, e) in test ∙ (bytes_eq-Decides item word).1 same,
 )
+
+-- what holds the same as before was given the first none of any bytes
+pub AppendsFront-none : (held : Option (List ℕ)) (bytes : List ℕ) → AppendsFront held held bytes
+AppendsFront-none None bytes = (0, omega arith, tt)
+AppendsFront-none (Some xs) bytes = (0, omega arith, sym (append-nil xs))
+
+-- all bytes, or some first ones, are some first ones
+pub AppendsFront-either : {A E : Type 0} (result : Result A E) (old new : Option (List ℕ)) (bytes : List ℕ) → OnOk result (Appends old new bytes)
+  → OnErr result (AppendsFront old new bytes) → AppendsFront old new bytes
+AppendsFront-either (Ok done) old new bytes whole front =
+    (length bytes, omega arith, rw (take_all (length bytes) bytes (omega arith)) whole)
+AppendsFront-either (Err error) old new bytes whole front = front
