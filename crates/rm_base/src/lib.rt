@@ -1,7 +1,8 @@
 //! What every crate of wsrm stands on: bytes and lists that contracts see as lists, the sorted list of message
-//! numbers, payloads, and the two traits through which a program reads and writes, `Source` and `Sink`.
-//! The layer above may use the types as the lists that they are seen as, and of a source or a sink its count of
-//! faults, and what it has left or holds where it tells that. What the definitions of sets mean stands in `laws`.
+//! numbers, payloads, addresses and identifiers, and the two traits through which a program reads and writes, `Source`
+//! and `Sink`. It stands on the classes of characters, `xml_chars`. The layer above may use the types as the lists that
+//! they are seen as, and of a source or a sink its count of faults, and what it has left or holds where it tells that.
+//! What the definitions of sets mean stands in `laws`.
 #![tactic(auto)]
 
 pub mod blob;

@@ -40,7 +40,8 @@ impl From<Memory> for TextError {
     }
 }
 
-/// An address, an action or a message's name: 1 to 2048 bytes of characters that a document may hold, without white space
+/// An address, an action or a message's name: 1 to 2048 bytes of characters that a document may hold, without white
+/// space
 /// at either end. WS-Addressing 1.0 Core, section 2.1 and 3.1.
 #[derive(Debug, Drop)]
 pub struct Uri {
@@ -75,7 +76,8 @@ impl Uri {
     }
 }
 
-/// An identifier of a sequence: 1 to 512 bytes of characters that a document may hold, without white space at either end.
+/// An identifier of a sequence: 1 to 512 bytes of characters that a document may hold, without white space at either
+/// end.
 /// WS-ReliableMessaging 1.2, section 3.4.
 #[derive(Debug, Drop)]
 pub struct Ident {

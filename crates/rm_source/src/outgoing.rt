@@ -106,7 +106,8 @@ impl Outgoing {
         ensures ok { OnOk result (self.new ≡ record self.old { acked = united self.old.acked given.now }) }
         ensures is_new { IfOk result (λ is_new. is_new ≡ brings_new self.old.acked given.now) }
         ensures refused { IfSome (learn_refusal self.old given.now) (λ refusal. result ≡ Err refusal) }
-        ensures error { IfErr result (λ error. error ≡ unwrap_or (learn_refusal self.old given.now) SourceError.Memory) }
+        ensures error { IfErr result (λ error. error
+            ≡ unwrap_or (learn_refusal self.old given.now) SourceError.Memory) }
         ensures err { OnErr result (self.new ≡ self.old) }
     {
         let number = given.greatest();
