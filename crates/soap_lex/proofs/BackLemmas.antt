@@ -1,5 +1,6 @@
 -- What is written is read back.
-use Rattle.std.proofs.Common.{◌≡◌, ℕ, suc, ◌<◌, ◌≤◌, Bool, true, false, ◌==◌, List, [], ◌∷◌, ◌++◌, length, get_or, refl, sym, ap, ◌∙◌, subst, arith, inl, inr, append_assoc, eqb-true}
+use Rattle.std.proofs.Common.{◌≡◌, ℕ, suc, ◌<◌, ◌≤◌, Bool, true, false, ◌==◌, List, [], ◌∷◌, ◌++◌, length, get_or, refl}
+use Rattle.std.proofs.Common.{sym, ap, ◌∙◌, subst, arith, inl, inr, append_assoc, eqb-true}
 use Rattle.std.specs.Prelude.{◌⊎◌, IsTrue, encode_utf8, encode_utf8_all, map}
 use Rattle.std.specs.List.{AllByRecursion, flat_map}
 use Rattle.std.specs.Str.{NonePass}
@@ -14,7 +15,8 @@ use Rattle.soap_lex.specs.Characters.{IsChars}
 use Rattle.soap_lex.specs.Escapes.{text_escape, value_escape, escaped_text, escaped_value}
 use Rattle.soap_lex.specs.References.{IsReference, ampersand, less, greater, quote, decimal}
 use Rattle.soap_lex.specs.Text.{IsCharData, IsText, run, more, reference, with_line_ends}
-use Rattle.soap_lex.specs.Value.{IsPlainValue, IsInner, IsValue, double, with_spaces, space_of, run as inner_run, more as inner_more}
+use Rattle.soap_lex.specs.Value.{IsPlainValue, IsInner, IsValue, double, with_spaces, space_of, run as inner_run}
+use Rattle.soap_lex.specs.Value.{more as inner_more}
 use Rattle.soap_lex.proofs.HoldsLemmas.{NonePass-from_places, NonePass-lacks}
 use Rattle.soap_lex.proofs.LineLemmas.{line_ends-run}
 
@@ -103,29 +105,40 @@ far b n h small = grind (arith, nat_tests)
 
 -- a byte of a character beyond ASCII stands for itself
 text_far : (b : ℕ) → 128 ≤ b → text_escape b ≡ b ∷ []
-text_far b h = rw (far b 38 h (omega arith), far b 60 h (omega arith), far b 62 h (omega arith), far b 13 h (omega arith)) refl
+text_far b h = rw (
+  far b 38 h (omega arith),
+  far b 60 h (omega arith),
+  far b 62 h (omega arith),
+  far b 13 h (omega arith),
+) refl
 
 value_far : (b : ℕ) → 128 ≤ b → value_escape b ≡ b ∷ []
 value_far b h = rw (far b 34 h (omega arith), far b 9 h (omega arith), far b 10 h (omega arith)) (text_far b h)
 
-flat_same : (escape : ℕ → List ℕ) (bytes : List ℕ) → ((k : ℕ) → k < length bytes → escape (get_or bytes k 0) ≡ get_or bytes k 0 ∷ []) → flat_map escape bytes ≡ bytes
+flat_same : (escape : ℕ → List ℕ) (bytes : List ℕ)
+    → ((k : ℕ) → k < length bytes → escape (get_or bytes k 0) ≡ get_or bytes k 0 ∷ []) → flat_map escape bytes ≡ bytes
 flat_same escape [] each = refl
 flat_same escape (x ∷ bytes) each =
-    ap (λ l. l ++ flat_map escape bytes) (each 0 (omega arith)) ∙ ap (λ l. x ∷ l) (flat_same escape bytes (λ k h. each (suc k) (omega arith)))
+    ap (λ l. l ++ flat_map escape bytes) (each 0 (omega arith))
+    ∙ ap (λ l. x ∷ l) (flat_same escape bytes (λ k h. each (suc k) (omega arith)))
 
 high_bytes : (c k : ℕ) → 128 ≤ c → k < length (encode_utf8 c) → 128 ≤ get_or (encode_utf8 c) k 0
 high_bytes c k h within =
     elim (cases_lt (get_or (encode_utf8 c) k 0) 128) [
-      | inl low ↦ let same = inside_one c [] (encode_utf8 c) k (sym (append-nil (encode_utf8 c))) within low in absurd (omega (arith, same))
+      | inl low ↦ let same = inside_one c [] (encode_utf8 c) k (sym (append-nil (encode_utf8 c))) within low in
+          absurd (omega (arith, same))
       | inr high ↦ high
     ]
 
 -- a free character is written as it is, and another as its reference
-flat_free : (escape : ℕ → List ℕ) → ((b : ℕ) → 128 ≤ b → escape b ≡ b ∷ []) → (c : ℕ) → escape c ≡ c ∷ [] → flat_map escape (encode_utf8 c) ≡ encode_utf8 c
+flat_free : (escape : ℕ → List ℕ) → ((b : ℕ) → 128 ≤ b → escape b ≡ b ∷ []) → (c : ℕ) → escape c ≡ c ∷ []
+    → flat_map escape (encode_utf8 c) ≡ encode_utf8 c
 flat_free escape beyond c free =
     elim (cases_lt c 128) [
-      | inl low ↦ ap (λ l. flat_map escape l) (encode_ascii c low) ∙ append-nil (escape c) ∙ free ∙ sym (encode_ascii c low)
-      | inr high ↦ flat_same escape (encode_utf8 c) (λ k within. beyond (get_or (encode_utf8 c) k 0) (high_bytes c k high within))
+      | inl low ↦ ap (λ l. flat_map escape l) (encode_ascii c low) ∙ append-nil (escape c) ∙ free
+          ∙ sym (encode_ascii c low)
+      | inr high ↦ flat_same escape (encode_utf8 c)
+          (λ k within. beyond (get_or (encode_utf8 c) k 0) (high_bytes c k high within))
     ]
 
 flat_escaped : (escape : ℕ → List ℕ) (c : ℕ) → c < 128 → flat_map escape (encode_utf8 c) ≡ escape c
@@ -140,11 +153,13 @@ lacks_byte q cs small none =
       | inr high ↦ far (get_or (encode_utf8_all cs) k 0) q high small
     ])
 
-none_of : (P : ℕ → Type 0) (q : ℕ) → ((c : ℕ) → P c → (c == q) ≡ false) → (cs : List ℕ) → AllByRecursion P cs → NonePass (is_byte q) cs
+none_of : (P : ℕ → Type 0) (q : ℕ) → ((c : ℕ) → P c → (c == q) ≡ false) → (cs : List ℕ) → AllByRecursion P cs
+    → NonePass (is_byte q) cs
 none_of P q each [] all = tt
 none_of P q each (c ∷ cs) all = (each c all.0, none_of P q each cs all.1)
 
-chars_of : (P : ℕ → Type 0) → ((c : ℕ) → P c → IsTrue (is_char c)) → (cs : List ℕ) → AllByRecursion P cs → AllByRecursion (λ c. IsTrue (is_char c)) cs
+chars_of : (P : ℕ → Type 0) → ((c : ℕ) → P c → IsTrue (is_char c)) → (cs : List ℕ) → AllByRecursion P cs
+    → AllByRecursion (λ c. IsTrue (is_char c)) cs
 chars_of P each [] all = tt
 chars_of P each (c ∷ cs) all = (each c all.0, chars_of P each cs all.1)
 
@@ -159,15 +174,24 @@ encodes_push cs c = encodes-append cs (c ∷ []) ∙ ap (λ l. encode_utf8_all c
 free_data : (cs : List ℕ) → AllByRecursion IsFree cs → IsCharData (encode_utf8_all cs)
 free_data cs all = record {
   chars = record { characters = cs; each = chars_of IsFree (λ c free. free.char) cs all; coded = refl };
-  no_less = NonePass-lacks 60 (encode_utf8_all cs) (lacks_byte 60 cs (omega arith) (none_of IsFree 60 (λ c free. free.less_not) cs all));
-  no_ampersand = NonePass-lacks 38 (encode_utf8_all cs) (lacks_byte 38 cs (omega arith) (none_of IsFree 38 (λ c free. free.ampersand_not) cs all));
-  no_close = λ close. NonePass-lacks 62 (encode_utf8_all cs) (lacks_byte 62 cs (omega arith) (none_of IsFree 62 (λ c free. free.greater_not) cs all))
-      (record { before = close.before ++ 93 ∷ 93 ∷ []; after = close.after; there = close.there ∙ sym (append_assoc close.before (93 ∷ 93 ∷ []) (62 ∷ close.after)) });
+  no_less = NonePass-lacks 60 (encode_utf8_all cs)
+      (lacks_byte 60 cs (omega arith) (none_of IsFree 60 (λ c free. free.less_not) cs all));
+  no_ampersand = NonePass-lacks 38 (encode_utf8_all cs)
+      (lacks_byte 38 cs (omega arith) (none_of IsFree 38 (λ c free. free.ampersand_not) cs all));
+  no_close = λ close. NonePass-lacks 62 (encode_utf8_all cs)
+      (lacks_byte 62 cs (omega arith) (none_of IsFree 62 (λ c free. free.greater_not) cs all))
+      (record {
+        before = close.before ++ 93 ∷ 93 ∷ [];
+        after = close.after;
+        there = close.there
+            ∙ sym (append_assoc close.before (93 ∷ 93 ∷ []) (62 ∷ close.after));
+      });
 }
 
 free_lines : (cs : List ℕ) → NonePass (is_byte 13) cs → with_line_ends (encode_utf8_all cs) ≡ encode_utf8_all cs
 free_lines cs none =
-    ap with_line_ends (sym (append-nil (encode_utf8_all cs))) ∙ line_ends-run (encode_utf8_all cs) [] (lacks_byte 13 cs (omega arith) none)
+    ap with_line_ends (sym (append-nil (encode_utf8_all cs)))
+    ∙ line_ends-run (encode_utf8_all cs) [] (lacks_byte 13 cs (omega arith) none)
     ∙ append-nil (encode_utf8_all cs)
 
 moved : {a b x y : List ℕ} → a ≡ b → x ≡ y → IsText a x → IsText b y
@@ -178,32 +202,41 @@ moved {a} {b} {x} {y} e f is =
 
 -- characters behind a run of free ones
 text_behind : (cs front : List ℕ) → AllByRecursion (λ c. IsTrue (is_char c)) cs → AllByRecursion IsFree front
-    → IsText (encode_utf8_all front ++ flat_map text_escape (encode_utf8_all cs)) (encode_utf8_all front ++ encode_utf8_all cs)
+    → IsText (encode_utf8_all front ++ flat_map text_escape (encode_utf8_all cs))
+    (encode_utf8_all front ++ encode_utf8_all cs)
 text_behind [] front chars free =
     moved (sym (append-nil (encode_utf8_all front)))
     (free_lines front (none_of IsFree 13 (λ c f. f.return_not) front free) ∙ sym (append-nil (encode_utf8_all front)))
     (run (encode_utf8_all front) (free_data front free))
 text_behind (c ∷ cs) front chars free =
-    let written : flat_map text_escape (encode_utf8 c ++ encode_utf8_all cs) ≡ flat_map text_escape (encode_utf8 c) ++ flat_map text_escape (encode_utf8_all cs) =
+    let written : flat_map text_escape (encode_utf8 c ++ encode_utf8_all cs) ≡ flat_map text_escape
+    (encode_utf8 c) ++ flat_map text_escape (encode_utf8_all cs) =
     flat_map-append text_escape (encode_utf8 c) (encode_utf8_all cs) in
     elim (text_case c chars.0) [
       | inl escaped ↦
-          let later : IsText (flat_map text_escape (encode_utf8_all cs)) (encode_utf8_all cs) = text_behind cs [] chars.1 tt in
+          let later : IsText (flat_map text_escape (encode_utf8_all cs)) (encode_utf8_all cs) =
+          text_behind cs [] chars.1 tt in
           moved
           (ap (λ l. encode_utf8_all front ++ l)
-          (ap (λ l. l ++ flat_map text_escape (encode_utf8_all cs)) (sym (flat_escaped text_escape c escaped.ascii)) ∙ sym written))
-          (ap (λ l. l ++ (encode_utf8 c ++ encode_utf8_all cs)) (free_lines front (none_of IsFree 13 (λ d f. f.return_not) front free)))
-          (more (encode_utf8_all front) (text_escape c) (encode_utf8 c) (flat_map text_escape (encode_utf8_all cs)) (encode_utf8_all cs)
+          (ap (λ l. l ++ flat_map text_escape (encode_utf8_all cs)) (sym (flat_escaped text_escape c escaped.ascii))
+          ∙ sym written))
+          (ap (λ l. l ++ (encode_utf8 c ++ encode_utf8_all cs))
+          (free_lines front (none_of IsFree 13 (λ d f. f.return_not) front free)))
+          (more (encode_utf8_all front) (text_escape c) (encode_utf8 c) (flat_map text_escape (encode_utf8_all cs))
+          (encode_utf8_all cs)
           (free_data front free) (reference (text_escape c) c escaped.refers) later)
       | inr here ↦
-          let later : IsText (encode_utf8_all (front ++ c ∷ []) ++ flat_map text_escape (encode_utf8_all cs)) (encode_utf8_all (front ++ c ∷ []) ++ encode_utf8_all cs) =
+          let later : IsText (encode_utf8_all (front ++ c ∷ []) ++ flat_map text_escape (encode_utf8_all cs))
+          (encode_utf8_all (front ++ c ∷ []) ++ encode_utf8_all cs) =
           text_behind cs (front ++ c ∷ []) chars.1 (all_push IsFree front c free here) in
           moved
           (ap (λ l. l ++ flat_map text_escape (encode_utf8_all cs)) (encodes_push front c)
           ∙ append_assoc (encode_utf8_all front) (encode_utf8 c) (flat_map text_escape (encode_utf8_all cs))
           ∙ ap (λ l. encode_utf8_all front ++ l)
-          (ap (λ l. l ++ flat_map text_escape (encode_utf8_all cs)) (sym (flat_free text_escape text_far c (text_free c here))) ∙ sym written))
-          (ap (λ l. l ++ encode_utf8_all cs) (encodes_push front c) ∙ append_assoc (encode_utf8_all front) (encode_utf8 c) (encode_utf8_all cs))
+          (ap (λ l. l ++ flat_map text_escape (encode_utf8_all cs))
+          (sym (flat_free text_escape text_far c (text_free c here))) ∙ sym written))
+          (ap (λ l. l ++ encode_utf8_all cs) (encodes_push front c)
+          ∙ append_assoc (encode_utf8_all front) (encode_utf8 c) (encode_utf8_all cs))
           later
     ]
 
@@ -217,9 +250,12 @@ text_back bytes is =
 free_value : (cs : List ℕ) → AllByRecursion IsFreeValue cs → IsPlainValue 34 (encode_utf8_all cs)
 free_value cs all = record {
   chars = record { characters = cs; each = chars_of IsFreeValue (λ c free. free.text.char) cs all; coded = refl };
-  no_less = NonePass-lacks 60 (encode_utf8_all cs) (lacks_byte 60 cs (omega arith) (none_of IsFreeValue 60 (λ c free. free.text.less_not) cs all));
-  no_ampersand = NonePass-lacks 38 (encode_utf8_all cs) (lacks_byte 38 cs (omega arith) (none_of IsFreeValue 38 (λ c free. free.text.ampersand_not) cs all));
-  no_quote = NonePass-lacks 34 (encode_utf8_all cs) (lacks_byte 34 cs (omega arith) (none_of IsFreeValue 34 (λ c free. free.quote_not) cs all));
+  no_less = NonePass-lacks 60 (encode_utf8_all cs)
+      (lacks_byte 60 cs (omega arith) (none_of IsFreeValue 60 (λ c free. free.text.less_not) cs all));
+  no_ampersand = NonePass-lacks 38 (encode_utf8_all cs)
+      (lacks_byte 38 cs (omega arith) (none_of IsFreeValue 38 (λ c free. free.text.ampersand_not) cs all));
+  no_quote = NonePass-lacks 34 (encode_utf8_all cs)
+      (lacks_byte 34 cs (omega arith) (none_of IsFreeValue 34 (λ c free. free.quote_not) cs all));
 }
 
 no_blanks : (bytes : List ℕ) → NonePass (is_byte 9) bytes → NonePass (is_byte 10) bytes → map space_of bytes ≡ bytes
@@ -239,31 +275,40 @@ inner_moved {a} {b} {x} {y} e f is =
     subst P e (subst Q f is)
 
 value_behind : (cs front : List ℕ) → AllByRecursion (λ c. IsTrue (is_char c)) cs → AllByRecursion IsFreeValue front
-    → IsInner 34 (encode_utf8_all front ++ flat_map value_escape (encode_utf8_all cs)) (encode_utf8_all front ++ encode_utf8_all cs)
+    → IsInner 34 (encode_utf8_all front ++ flat_map value_escape (encode_utf8_all cs))
+    (encode_utf8_all front ++ encode_utf8_all cs)
 value_behind [] front chars free =
-    inner_moved (sym (append-nil (encode_utf8_all front))) (free_spaces front free ∙ sym (append-nil (encode_utf8_all front)))
+    inner_moved (sym (append-nil (encode_utf8_all front))) (free_spaces front free
+    ∙ sym (append-nil (encode_utf8_all front)))
     (inner_run (encode_utf8_all front) (free_value front free))
 value_behind (c ∷ cs) front chars free =
-    let written : flat_map value_escape (encode_utf8 c ++ encode_utf8_all cs) ≡ flat_map value_escape (encode_utf8 c) ++ flat_map value_escape (encode_utf8_all cs) =
+    let written : flat_map value_escape (encode_utf8 c ++ encode_utf8_all cs) ≡ flat_map value_escape
+    (encode_utf8 c) ++ flat_map value_escape (encode_utf8_all cs) =
     flat_map-append value_escape (encode_utf8 c) (encode_utf8_all cs) in
     elim (value_case c chars.0) [
       | inl escaped ↦
-          let later : IsInner 34 (flat_map value_escape (encode_utf8_all cs)) (encode_utf8_all cs) = value_behind cs [] chars.1 tt in
+          let later : IsInner 34 (flat_map value_escape (encode_utf8_all cs)) (encode_utf8_all cs) =
+          value_behind cs [] chars.1 tt in
           inner_moved
           (ap (λ l. encode_utf8_all front ++ l)
-          (ap (λ l. l ++ flat_map value_escape (encode_utf8_all cs)) (sym (flat_escaped value_escape c escaped.ascii)) ∙ sym written))
+          (ap (λ l. l ++ flat_map value_escape (encode_utf8_all cs)) (sym (flat_escaped value_escape c escaped.ascii))
+          ∙ sym written))
           (ap (λ l. l ++ (encode_utf8 c ++ encode_utf8_all cs)) (free_spaces front free))
-          (inner_more (encode_utf8_all front) (value_escape c) c (flat_map value_escape (encode_utf8_all cs)) (encode_utf8_all cs)
+          (inner_more (encode_utf8_all front) (value_escape c) c (flat_map value_escape (encode_utf8_all cs))
+          (encode_utf8_all cs)
           (free_value front free) escaped.refers later)
       | inr here ↦
-          let later : IsInner 34 (encode_utf8_all (front ++ c ∷ []) ++ flat_map value_escape (encode_utf8_all cs)) (encode_utf8_all (front ++ c ∷ []) ++ encode_utf8_all cs) =
+          let later : IsInner 34 (encode_utf8_all (front ++ c ∷ []) ++ flat_map value_escape (encode_utf8_all cs))
+          (encode_utf8_all (front ++ c ∷ []) ++ encode_utf8_all cs) =
           value_behind cs (front ++ c ∷ []) chars.1 (all_push IsFreeValue front c free here) in
           inner_moved
           (ap (λ l. l ++ flat_map value_escape (encode_utf8_all cs)) (encodes_push front c)
           ∙ append_assoc (encode_utf8_all front) (encode_utf8 c) (flat_map value_escape (encode_utf8_all cs))
           ∙ ap (λ l. encode_utf8_all front ++ l)
-          (ap (λ l. l ++ flat_map value_escape (encode_utf8_all cs)) (sym (flat_free value_escape value_far c (value_free c here))) ∙ sym written))
-          (ap (λ l. l ++ encode_utf8_all cs) (encodes_push front c) ∙ append_assoc (encode_utf8_all front) (encode_utf8 c) (encode_utf8_all cs))
+          (ap (λ l. l ++ flat_map value_escape (encode_utf8_all cs))
+          (sym (flat_free value_escape value_far c (value_free c here))) ∙ sym written))
+          (ap (λ l. l ++ encode_utf8_all cs) (encodes_push front c)
+          ∙ append_assoc (encode_utf8_all front) (encode_utf8 c) (encode_utf8_all cs))
           later
     ]
 

@@ -1,5 +1,6 @@
 -- What the writers have appended so far.
-use Rattle.std.proofs.Common.{◌≡◌, ℕ, ◌+◌, ◌-◌, ◌<◌, ◌≤◌, Bool, List, [], ◌∷◌, ◌++◌, length, take, drop, get_or, refl, sym, ap, subst, ◌∙◌, append_assoc, arith, length-drop, get_or-drop}
+use Rattle.std.proofs.Common.{◌≡◌, ℕ, ◌+◌, ◌-◌, ◌<◌, ◌≤◌, Bool, List, [], ◌∷◌, ◌++◌, length, take, drop, get_or, refl}
+use Rattle.std.proofs.Common.{sym, ap, subst, ◌∙◌, append_assoc, arith, length-drop, get_or-drop}
 use Rattle.std.specs.List.{flat_map}
 use Rattle.std.proofs.lemmas.List.{take_more, append-nil, take_all, take_rest}
 use Rattle.std.proofs.lemmas.List.Concat.{flat_map-append}
@@ -15,7 +16,8 @@ pub record Escaped (quoted : Bool) (old bytes out : List ℕ) (start i : ℕ) : 
 
 -- the escapes of one byte more
 flat_more : (quoted : Bool) (bytes : List ℕ) (i : ℕ) → i < length bytes
-    → flat_map (escape_of quoted) (take (i + 1) bytes) ≡ flat_map (escape_of quoted) (take i bytes) ++ escape_of quoted (get_or bytes i 0)
+    → flat_map (escape_of quoted) (take (i + 1) bytes) ≡ flat_map (escape_of quoted) (take i bytes) ++ escape_of quoted
+    (get_or bytes i 0)
 flat_more quoted bytes i h =
     ap (λ l. flat_map (escape_of quoted) l) (take_more bytes i 0 h)
     ∙ flat_map-append (escape_of quoted) (take i bytes) (get_or bytes i 0 ∷ [])
@@ -28,13 +30,15 @@ run_more bytes start i low h =
     let place : start + (i - start) ≡ i = omega arith in
     let within : i - start < length (drop start bytes) = omega (arith, length-drop start bytes) in
     ap (λ n. take n (drop start bytes)) count ∙ take_more (drop start bytes) (i - start) 0 within
-    ∙ ap (λ x. take (i - start) (drop start bytes) ++ x ∷ []) (get_or-drop start bytes (i - start) 0 ∙ ap (λ n. get_or bytes n 0) place)
+    ∙ ap (λ x. take (i - start) (drop start bytes) ++ x ∷ []) (get_or-drop start bytes (i - start) 0
+    ∙ ap (λ n. get_or bytes n 0) place)
 
 pub Escaped-start : (quoted : Bool) (old bytes : List ℕ) → Escaped quoted old bytes old 0 0
 Escaped-start quoted old bytes = record { low = omega arith; high = omega arith; so = refl; kept = front_start old }
 
 -- a byte that stands for itself
-pub Escaped-plain : (quoted : Bool) (old bytes out : List ℕ) (start i : ℕ) → Escaped quoted old bytes out start i → i < length bytes
+pub Escaped-plain : (quoted : Bool) (old bytes out : List ℕ) (start i : ℕ) → Escaped quoted old bytes out start i
+    → i < length bytes
     → escape_of quoted (get_or bytes i 0) ≡ get_or bytes i 0 ∷ [] → Escaped quoted old bytes out start (i + 1)
 Escaped-plain quoted old bytes out start i so h plain =
     let low : start ≤ i = so.low in
@@ -51,7 +55,8 @@ Escaped-plain quoted old bytes out start i so h plain =
     }
 
 -- a byte that doesn't
-pub Escaped-reference : (quoted : Bool) (old bytes out reference : List ℕ) (start i : ℕ) → Escaped quoted old bytes out start i → i < length bytes
+pub Escaped-reference : (quoted : Bool) (old bytes out reference : List ℕ) (start i : ℕ)
+    → Escaped quoted old bytes out start i → i < length bytes
     → reference ≡ escape_of quoted (get_or bytes i 0)
     → Escaped quoted old bytes ((out ++ take (i - start) (drop start bytes)) ++ reference) (i + 1) (i + 1)
 Escaped-reference quoted old bytes out reference start i so h same =
@@ -66,19 +71,23 @@ Escaped-reference quoted old bytes out reference start i so h same =
           ∙ append_assoc old (flat_map (escape_of quoted) (take i bytes)) reference
           ∙ ap (λ l. old ++ (flat_map (escape_of quoted) (take i bytes) ++ l)) same
           ∙ ap (λ l. old ++ l) (sym (flat_more quoted bytes i h));
-      kept = ap (λ l. take (length old) l) (append_assoc out run reference) ∙ front_kept old out (run ++ reference) so.kept;
+      kept = ap (λ l. take (length old) l) (append_assoc out run reference)
+          ∙ front_kept old out (run ++ reference) so.kept;
     }
 
 -- all bytes
-pub Escaped-done : (quoted : Bool) (old bytes out : List ℕ) (start i : ℕ) → Escaped quoted old bytes out start i → length bytes ≤ i
+pub Escaped-done : (quoted : Bool) (old bytes out : List ℕ) (start i : ℕ) → Escaped quoted old bytes out start i
+    → length bytes ≤ i
     → out ++ drop start bytes ≡ old ++ flat_map (escape_of quoted) bytes
 Escaped-done quoted old bytes out start i so h =
     let high : i ≤ length bytes = so.high in
     let all : i ≡ length bytes = omega arith in
-    let rest : take (i - start) (drop start bytes) ≡ drop start bytes = ap (λ n. take (n - start) (drop start bytes)) all ∙ take_rest bytes start in
+    let rest : take (i - start) (drop start bytes) ≡ drop start bytes =
+    ap (λ n. take (n - start) (drop start bytes)) all ∙ take_rest bytes start in
     ap (λ l. out ++ l) (sym rest) ∙ so.so ∙ ap (λ l. old ++ flat_map (escape_of quoted) l) (take_all i bytes h)
 
-pub Escaped-moved : (quoted : Bool) (old bytes : List ℕ) {out next : List ℕ} {start place i : ℕ} → next ≡ out → place ≡ start
+pub Escaped-moved : (quoted : Bool) (old bytes : List ℕ) {out next : List ℕ} {start place i : ℕ} → next ≡ out
+    → place ≡ start
     → Escaped quoted old bytes out start i → Escaped quoted old bytes next place i
 Escaped-moved quoted old bytes {out} {next} {start} {place} {i} same there so =
     let P : List ℕ → Type 0 = λ l. Escaped quoted old bytes l place i in

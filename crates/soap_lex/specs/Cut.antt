@@ -1,25 +1,7 @@
 -- Where text, an attribute value and a name end in the bytes.
-use Rattle.std.specs.Prelude.{
-  ◌≡◌,
-  ◌⊎◌,
-  ℕ,
-  ◌-◌,
-  ◌≤◌,
-  Bool,
-  true,
-  List,
-  [],
-  ◌∷◌,
-  ◌++◌,
-  length,
-  take,
-  drop,
-  codes,
-  encode_utf8,
-  encode_utf8_all,
-  IsTrue,
-  ⊤,
-}
+use Rattle.std.specs.Prelude.{◌≡◌, ◌⊎◌, ℕ, ◌-◌, ◌≤◌, Bool, true, List, [], ◌∷◌, ◌++◌, length, take, drop, codes}
+use Rattle.std.specs.Prelude.{encode_utf8, encode_utf8_all, IsTrue, ⊤}
+use Rattle.std.specs.Prelude.{Result, Ok, Err}
 use Rattle.std.specs.List.{AllByRecursion}
 use Rattle.xml_chars.specs.Classes.{is_name_char}
 use Rattle.soap_lex.specs.declared.error.LexError.{LexError}
@@ -59,6 +41,11 @@ pub record ReadsValue (bytes : List ℕ) (at end : ℕ) (old new : List ℕ) : T
   pub high : end ≤ length bytes
   pub first : IsValueFirst (drop at bytes) (take (end - at) (drop at bytes)) (drop end bytes) meaning
   pub appended : new ≡ old ++ meaning
+
+-- a reading that ends there, or wants memory
+abbrev pub EndsOrWants : Result ℕ LexError → ℕ → Type 0
+EndsOrWants (Ok end) n = end ≡ n
+EndsOrWants (Err error) n = error ≡ Memory
 
 -- P holds where the error says that the bytes are refused
 abbrev pub OnRefusal : LexError → Type 0 → Type 0

@@ -1,5 +1,5 @@
--- What is written for text and for an attribute value between double quotes: XML 1.0, section 2.4, and 2.11 and 3.3.3 for
--- the white space that a reader would otherwise change.
+-- What is written for text and for an attribute value between double quotes: XML 1.0, section 2.4, and sections 2.11
+-- and 3.3.3 for the white space that a reader would otherwise change.
 use Rattle.std.specs.Prelude.{ℕ, Bool, List, [], ◌∷◌, ◌==◌, if◌then◌else◌, codes}
 use Rattle.std.specs.List.{flat_map}
 

@@ -1,4 +1,5 @@
--- Attribute values: XML 1.0, section 2.3 (AttValue) and 3.3.3 (how the value of an attribute without a type is normalised).
+-- Attribute values: XML 1.0, section 2.3 (AttValue), and section 3.3.3 (how the value of an attribute without a type is
+-- normalised).
 use Rattle.std.specs.Prelude.{ℕ, List, [], ◌∷◌, ◌++◌, ◌||◌, ◌==◌, if◌then◌else◌, map, codes, encode_utf8}
 use Rattle.soap_lex.specs.Characters.{IsChars, Holds}
 use Rattle.soap_lex.specs.References.{IsReference}

@@ -20,15 +20,18 @@ pub fn value_is_read_back()
 
 /// Bytes begin with one text, which means one thing.
 pub fn text_is_one()
-    ensures { (bytes text rest meaning other left value : List ℕ) → IsTextFirst bytes text rest meaning → IsTextFirst bytes other left value → (text ≡ other) × (meaning ≡ value) × (rest ≡ left) }
+    ensures { (bytes text rest meaning other left value : List ℕ) → IsTextFirst bytes text rest meaning
+        → IsTextFirst bytes other left value → (text ≡ other) × (meaning ≡ value) × (rest ≡ left) }
 {}
 
 /// Bytes begin with one attribute value, which means one thing.
 pub fn value_is_one()
-    ensures { (bytes value rest meaning other left means : List ℕ) → IsValueFirst bytes value rest meaning → IsValueFirst bytes other left means → (value ≡ other) × (meaning ≡ means) × (rest ≡ left) }
+    ensures { (bytes value rest meaning other left means : List ℕ) → IsValueFirst bytes value rest meaning
+        → IsValueFirst bytes other left means → (value ≡ other) × (meaning ≡ means) × (rest ≡ left) }
 {}
 
 /// Bytes begin with one reference, to one character.
 pub fn reference_is_one()
-    ensures { (token rest other left : List ℕ) (c d : ℕ) → IsReference token c → IsReference other d → token ++ rest ≡ other ++ left → (token ≡ other) × (c ≡ d) × (rest ≡ left) }
+    ensures { (token rest other left : List ℕ) (c d : ℕ) → IsReference token c → IsReference other d
+        → token ++ rest ≡ other ++ left → (token ≡ other) × (c ≡ d) × (rest ≡ left) }
 {}

@@ -1,47 +1,13 @@
-ghost use Rattle.std.specs.Prelude.{
-  ◌≡◌,
-  ◌⊎◌,
-  ℕ,
-  ◌+◌,
-  ◌-◌,
-  ◌<◌,
-  ◌≤◌,
-  List,
-  [],
-  ◌∷◌,
-  ◌++◌,
-  length,
-  take,
-  drop,
-  codes,
-  encode_utf8,
-  IfOk,
-  IfErr,
-  IfSome,
-  IfNone,
-  OnOk,
-  OnErr,
-  MatchResult,
-  IsTrue,
-};
+ghost use Rattle.std.specs.Prelude.{◌≡◌, ◌⊎◌, ℕ, ◌+◌, ◌-◌, ◌<◌, ◌≤◌, List, [], ◌∷◌, ◌++◌, length, take, drop, codes};
+ghost use Rattle.std.specs.Prelude.{encode_utf8, IfOk, IfErr, IfSome, IfNone, OnOk, OnErr, IsTrue};
 ghost use Rattle.std.specs.Str.{IsUtf8, NonePass};
 ghost use Rattle.memchr.specs.Find.{is_byte2, is_byte3};
 ghost use Rattle.soap_lex.specs.Characters.{Holds, IsName, IsLongestName};
-ghost use Rattle.soap_lex.specs.Cut.{
-  Begins,
-  EndsText,
-  IsNameRun,
-  IsTextFirst,
-  IsValueFirst,
-  OnRefusal,
-  ReadsText,
-  ReadsValue,
-  Stops,
-};
+ghost use Rattle.soap_lex.specs.Cut.{Begins, EndsText, IsNameRun, IsTextFirst, IsValueFirst, OnRefusal, ReadsText};
+ghost use Rattle.soap_lex.specs.Cut.{ReadsValue, Stops};
 ghost use Rattle.soap_lex.specs.References.{IsReference};
 ghost use Rattle.soap_lex.specs.Text.{IsCharData, IsCdata, IsComment, IsMarkup, with_line_ends};
 ghost use Rattle.soap_lex.specs.Value.{IsInner, IsPlainValue, with_spaces};
-ghost use Rattle.soap_lex.specs.declared.error.LexError.TheVariants.{Memory as WantsMemory};
 
 use crate::references::reference_at;
 use crate::tokens::begins_name;
@@ -70,7 +36,8 @@ pub fn read_name(bytes: &[u8], at: usize) -> Option<usize>
     requires within { at ≤ length bytes.now }
     requires text { IsUtf8 (drop at bytes.now) }
     ensures bound { IfSome result (λ end. (at ≤ end) × (end ≤ length bytes.now)) }
-    ensures found { IfSome result (λ end. IsLongestName (drop at bytes.now) (take (end - at) (drop at bytes.now)) (drop end bytes.now)) }
+    ensures found { IfSome result (λ end. IsLongestName (drop at bytes.now) (take (end - at) (drop at bytes.now))
+        (drop end bytes.now)) }
     ensures none { IfNone result ((name rest : List ℕ) → drop at bytes.now ≡ name ++ rest → IsName name → ⊥) }
 {
     // SAFETY: the bytes from there on are UTF-8, as the caller shows; a test would read them all for each name.
@@ -114,7 +81,8 @@ fn name_chars_len(text: &str) -> usize
 pub fn read_text(bytes: &[u8], at: usize, out: &mut Vec<u8>) -> Result<usize, LexError>
     requires { at ≤ length bytes.now }
     ensures found { IfOk result (λ end. ReadsText bytes.now at end out.old.items out.new.items) }
-    ensures only { (text rest meaning : List ℕ) → IsTextFirst (drop at bytes.now) text rest meaning → MatchResult result (λ end. end ≡ at + length text) (λ error. error ≡ WantsMemory) }
+    ensures only { (text rest meaning : List ℕ) → IsTextFirst (drop at bytes.now) text rest meaning
+        → EndsOrWants result (at + length text) }
     ensures err { OnErr result (out.new.items ≡ out.old.items) }
 {
     let start = out.len();
@@ -132,7 +100,8 @@ pub fn read_text(bytes: &[u8], at: usize, out: &mut Vec<u8>) -> Result<usize, Le
 pub fn read_attr(bytes: &[u8], at: usize, out: &mut Vec<u8>) -> Result<usize, LexError>
     requires { at ≤ length bytes.now }
     ensures found { IfOk result (λ end. ReadsValue bytes.now at end out.old.items out.new.items) }
-    ensures only { (value rest meaning : List ℕ) → IsValueFirst (drop at bytes.now) value rest meaning → MatchResult result (λ end. end ≡ at + length value) (λ error. error ≡ WantsMemory) }
+    ensures only { (value rest meaning : List ℕ) → IsValueFirst (drop at bytes.now) value rest meaning
+        → EndsOrWants result (at + length value) }
     ensures err { OnErr result (out.new.items ≡ out.old.items) }
 {
     let start = out.len();
@@ -147,9 +116,12 @@ pub fn read_attr(bytes: &[u8], at: usize, out: &mut Vec<u8>) -> Result<usize, Le
 
 // appends what the text at the front means, and gives what follows it
 fn push_text<'a>(bytes: &'a [u8], out: &mut Vec<u8>) -> Result<&'a [u8], LexError>
-    ensures found { IfOk result (λ rest. (text : List ℕ) × (meaning : List ℕ) × IsTextFirst bytes.now text rest.now meaning × (out.new.items ≡ out.old.items ++ meaning)) }
-    ensures only { IfOk result (λ left. (text rest meaning : List ℕ) → IsTextFirst bytes.now text rest meaning → rest ≡ left.now) }
-    ensures refused { IfErr result (λ error. OnRefusal error ((text rest meaning : List ℕ) → IsTextFirst bytes.now text rest meaning → ⊥)) }
+    ensures found { IfOk result (λ rest. (text : List ℕ) × (meaning : List ℕ)
+        × IsTextFirst bytes.now text rest.now meaning × (out.new.items ≡ out.old.items ++ meaning)) }
+    ensures only { IfOk result (λ left. (text rest meaning : List ℕ) → IsTextFirst bytes.now text rest meaning
+        → rest ≡ left.now) }
+    ensures refused { IfErr result
+        (λ error. OnRefusal error ((text rest meaning : List ℕ) → IsTextFirst bytes.now text rest meaning → ⊥)) }
     ensures err { OnErr result (take (length out.old.items) out.new.items ≡ out.old.items) }
 {
     let mut rest = bytes;
@@ -177,8 +149,10 @@ fn ends_text(bytes: &[u8]) -> bool
 
 // the character data up to the next markup or the end
 fn push_char_data<'a>(bytes: &'a [u8], out: &mut Vec<u8>) -> Result<&'a [u8], LexError>
-    ensures found { IfOk result (λ rest. (run : List ℕ) × (bytes.now ≡ run ++ rest.now) × IsCharData run × Stops (is_byte2 60 38) rest.now × (out.new.items ≡ out.old.items ++ with_line_ends run)) }
-    ensures refused { IfErr result (λ error. OnRefusal error ((run rest : List ℕ) → bytes.now ≡ run ++ rest → IsCharData run → Stops (is_byte2 60 38) rest → ⊥)) }
+    ensures found { IfOk result (λ rest. (run : List ℕ) × (bytes.now ≡ run ++ rest.now) × IsCharData run
+        × Stops (is_byte2 60 38) rest.now × (out.new.items ≡ out.old.items ++ with_line_ends run)) }
+    ensures refused { IfErr result (λ error. OnRefusal error ((run rest : List ℕ) → bytes.now ≡ run ++ rest
+        → IsCharData run → Stops (is_byte2 60 38) rest → ⊥)) }
     ensures err { OnErr result (out.new.items ≡ out.old.items) }
 {
     let (run, rest) = split_markup(bytes);
@@ -203,8 +177,11 @@ fn split_markup(bytes: &[u8]) -> (&[u8], &[u8])
 
 // the markup at the front
 fn push_markup<'a>(bytes: &'a [u8], out: &mut Vec<u8>) -> Result<&'a [u8], LexError>
-    ensures found { IfOk result (λ rest. (markup : List ℕ) × (meaning : List ℕ) × (bytes.now ≡ markup ++ rest.now) × IsMarkup markup meaning × (out.new.items ≡ out.old.items ++ meaning)) }
-    ensures refused { IfErr result (λ error. OnRefusal error ((markup rest meaning : List ℕ) → bytes.now ≡ markup ++ rest → IsMarkup markup meaning → ⊥)) }
+    ensures found { IfOk result (λ rest. (markup : List ℕ) × (meaning : List ℕ) × (bytes.now ≡ markup ++ rest.now)
+        × IsMarkup markup meaning × (out.new.items ≡ out.old.items ++ meaning)) }
+    ensures refused { IfErr result
+        (λ error. OnRefusal error ((markup rest meaning : List ℕ) → bytes.now ≡ markup ++ rest → IsMarkup markup meaning
+        → ⊥)) }
     ensures err { OnErr result (out.new.items ≡ out.old.items) }
 {
     if let Some(inside) = after(b"<!--", bytes) {
@@ -229,8 +206,10 @@ fn after<'a>(word: &[u8], bytes: &'a [u8]) -> Option<&'a [u8]>
 
 // what follows the comment whose inside is at the front
 fn after_comment(bytes: &[u8]) -> Option<&[u8]>
-    ensures found { IfSome result (λ rest. (inside : List ℕ) × (bytes.now ≡ inside ++ (codes "-->" ++ rest.now)) × IsComment inside) }
-    ensures none { IfNone result ((inside rest : List ℕ) → bytes.now ≡ inside ++ (codes "-->" ++ rest) → IsComment inside → ⊥) }
+    ensures found { IfSome result (λ rest. (inside : List ℕ) × (bytes.now ≡ inside ++ (codes "-->" ++ rest.now))
+        × IsComment inside) }
+    ensures none { IfNone result ((inside rest : List ℕ) → bytes.now ≡ inside ++ (codes "-->" ++ rest)
+        → IsComment inside → ⊥) }
 {
     let Some((inside, rest)) = split_first(bytes, b"-->") else {
         return None;
@@ -241,7 +220,8 @@ fn after_comment(bytes: &[u8]) -> Option<&[u8]>
 // what stands before the first such word, and what follows it
 fn split_first<'a>(bytes: &'a [u8], word: &[u8]) -> Option<(&'a [u8], &'a [u8])>
     requires { 0 < length word.now }
-    ensures found { IfSome result (λ parts. (bytes.now ≡ parts.0.now ++ (word.now ++ parts.1.now)) × ¬ (Holds parts.0.now word.now)) }
+    ensures found { IfSome result (λ parts. (bytes.now ≡ parts.0.now ++ (word.now ++ parts.1.now))
+        × ¬ (Holds parts.0.now word.now)) }
     ensures none { IfNone result (¬ (Holds bytes.now word.now)) }
 {
     let Some(end) = memmem::find(bytes, word) else {
@@ -253,8 +233,11 @@ fn split_first<'a>(bytes: &'a [u8], word: &[u8]) -> Option<(&'a [u8], &'a [u8])>
 
 // what the CDATA section means whose inside is at the front
 fn push_cdata<'a>(bytes: &'a [u8], out: &mut Vec<u8>) -> Result<&'a [u8], LexError>
-    ensures found { IfOk result (λ rest. (inside : List ℕ) × (bytes.now ≡ inside ++ (codes "]]>" ++ rest.now)) × IsCdata inside × (out.new.items ≡ out.old.items ++ with_line_ends inside)) }
-    ensures refused { IfErr result (λ error. OnRefusal error ((inside rest : List ℕ) → bytes.now ≡ inside ++ (codes "]]>" ++ rest) → IsCdata inside → ⊥)) }
+    ensures found { IfOk result (λ rest. (inside : List ℕ) × (bytes.now ≡ inside ++ (codes "]]>" ++ rest.now))
+        × IsCdata inside × (out.new.items ≡ out.old.items ++ with_line_ends inside)) }
+    ensures refused { IfErr result
+        (λ error. OnRefusal error ((inside rest : List ℕ) → bytes.now ≡ inside ++ (codes "]]>" ++ rest) → IsCdata inside
+        → ⊥)) }
     ensures err { OnErr result (out.new.items ≡ out.old.items) }
 {
     let Some((inside, rest)) = split_first(bytes, b"]]>") else {
@@ -269,8 +252,10 @@ fn push_cdata<'a>(bytes: &'a [u8], out: &mut Vec<u8>) -> Result<&'a [u8], LexErr
 
 // what the reference at the front means
 fn push_reference<'a>(bytes: &'a [u8], out: &mut Vec<u8>) -> Result<&'a [u8], LexError>
-    ensures found { IfOk result (λ rest. (token : List ℕ) × (c : ℕ) × (bytes.now ≡ token ++ rest.now) × IsReference token c × (out.new.items ≡ out.old.items ++ encode_utf8 c)) }
-    ensures refused { IfErr result (λ error. OnRefusal error ((token rest : List ℕ) (c : ℕ) → bytes.now ≡ token ++ rest → IsReference token c → ⊥)) }
+    ensures found { IfOk result (λ rest. (token : List ℕ) × (c : ℕ) × (bytes.now ≡ token ++ rest.now)
+        × IsReference token c × (out.new.items ≡ out.old.items ++ encode_utf8 c)) }
+    ensures refused { IfErr result (λ error. OnRefusal error ((token rest : List ℕ) (c : ℕ) → bytes.now ≡ token ++ rest
+        → IsReference token c → ⊥)) }
     ensures err { OnErr result (out.new.items ≡ out.old.items) }
 {
     let Some((c, rest)) = reference_at(bytes) else {
@@ -291,9 +276,12 @@ fn push_char(c: char, out: &mut Vec<u8>) -> Result<(), Memory>
 
 // appends what the value at the front means, and gives what follows it
 fn push_value<'a>(bytes: &'a [u8], out: &mut Vec<u8>) -> Result<&'a [u8], LexError>
-    ensures found { IfOk result (λ rest. (value : List ℕ) × (meaning : List ℕ) × IsValueFirst bytes.now value rest.now meaning × (out.new.items ≡ out.old.items ++ meaning)) }
-    ensures only { IfOk result (λ left. (value rest meaning : List ℕ) → IsValueFirst bytes.now value rest meaning → rest ≡ left.now) }
-    ensures refused { IfErr result (λ error. OnRefusal error ((value rest meaning : List ℕ) → IsValueFirst bytes.now value rest meaning → ⊥)) }
+    ensures found { IfOk result (λ rest. (value : List ℕ) × (meaning : List ℕ)
+        × IsValueFirst bytes.now value rest.now meaning × (out.new.items ≡ out.old.items ++ meaning)) }
+    ensures only { IfOk result (λ left. (value rest meaning : List ℕ) → IsValueFirst bytes.now value rest meaning
+        → rest ≡ left.now) }
+    ensures refused { IfErr result
+        (λ error. OnRefusal error ((value rest meaning : List ℕ) → IsValueFirst bytes.now value rest meaning → ⊥)) }
     ensures err { OnErr result (take (length out.old.items) out.new.items ≡ out.old.items) }
 {
     if let Some(inner) = after(b"\"", bytes) {
@@ -308,9 +296,14 @@ fn push_value<'a>(bytes: &'a [u8], out: &mut Vec<u8>) -> Result<&'a [u8], LexErr
 // what stands before the closing quote
 fn push_inner<'a>(quote: u8, bytes: &'a [u8], out: &mut Vec<u8>) -> Result<&'a [u8], LexError>
     requires { (quote ≡ 34) ⊎ (quote ≡ 39) }
-    ensures found { IfOk result (λ rest. (inner : List ℕ) × (meaning : List ℕ) × (bytes.now ≡ inner ++ (quote ∷ rest.now)) × IsInner quote inner meaning × (out.new.items ≡ out.old.items ++ meaning)) }
-    ensures only { IfOk result (λ left. (inner rest meaning : List ℕ) → bytes.now ≡ inner ++ (quote ∷ rest) → IsInner quote inner meaning → rest ≡ left.now) }
-    ensures refused { IfErr result (λ error. OnRefusal error ((inner rest meaning : List ℕ) → bytes.now ≡ inner ++ (quote ∷ rest) → IsInner quote inner meaning → ⊥)) }
+    ensures found { IfOk result (λ rest. (inner : List ℕ) × (meaning : List ℕ)
+        × (bytes.now ≡ inner ++ (quote ∷ rest.now)) × IsInner quote inner meaning
+        × (out.new.items ≡ out.old.items ++ meaning)) }
+    ensures only { IfOk result (λ left. (inner rest meaning : List ℕ) → bytes.now ≡ inner ++ (quote ∷ rest)
+        → IsInner quote inner meaning → rest ≡ left.now) }
+    ensures refused { IfErr result
+        (λ error. OnRefusal error ((inner rest meaning : List ℕ) → bytes.now ≡ inner ++ (quote ∷ rest)
+        → IsInner quote inner meaning → ⊥)) }
     ensures err { OnErr result (take (length out.old.items) out.new.items ≡ out.old.items) }
 {
     let mut rest = bytes;
@@ -337,8 +330,10 @@ fn after_byte(byte: u8, bytes: &[u8]) -> Option<&[u8]>
 // the characters up to the next quote or markup
 fn push_plain<'a>(quote: u8, bytes: &'a [u8], out: &mut Vec<u8>) -> Result<&'a [u8], LexError>
     requires { (quote ≡ 34) ⊎ (quote ≡ 39) }
-    ensures found { IfOk result (λ rest. (run : List ℕ) × (bytes.now ≡ run ++ rest.now) × IsPlainValue quote run × Begins (is_byte3 60 38 quote) rest.now × (out.new.items ≡ out.old.items ++ with_spaces run)) }
-    ensures refused { IfErr result (λ error. OnRefusal error ((run rest : List ℕ) → bytes.now ≡ run ++ rest → IsPlainValue quote run → Begins (is_byte3 60 38 quote) rest → ⊥)) }
+    ensures found { IfOk result (λ rest. (run : List ℕ) × (bytes.now ≡ run ++ rest.now) × IsPlainValue quote run
+        × Begins (is_byte3 60 38 quote) rest.now × (out.new.items ≡ out.old.items ++ with_spaces run)) }
+    ensures refused { IfErr result (λ error. OnRefusal error ((run rest : List ℕ) → bytes.now ≡ run ++ rest
+        → IsPlainValue quote run → Begins (is_byte3 60 38 quote) rest → ⊥)) }
     ensures err { OnErr result (out.new.items ≡ out.old.items) }
 {
     let Some(end) = memchr3(b'<', b'&', quote, bytes) else {

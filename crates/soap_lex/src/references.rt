@@ -1,18 +1,4 @@
-ghost use Rattle.std.specs.Prelude.{
-  ◌≡◌,
-  ◌≢◌,
-  ◌⊎◌,
-  ℕ,
-  ◌≤◌,
-  List,
-  [],
-  ◌++◌,
-  min,
-  IfSome,
-  IfNone,
-  IsTrue,
-  codes,
-};
+ghost use Rattle.std.specs.Prelude.{◌≡◌, ◌≢◌, ◌⊎◌, ℕ, ◌≤◌, List, [], ◌++◌, min, IfSome, IfNone, IsTrue, codes};
 ghost use Rattle.std.specs.Str.Parse.{AllDigits, digits_value};
 ghost use Rattle.xml_chars.specs.Classes.{is_char as char_class};
 ghost use Rattle.soap_lex.specs.References.{IsReference};
@@ -49,7 +35,8 @@ fn between<'a>(before: &[u8], bytes: &'a [u8], after: &[u8]) -> Option<&'a [u8]>
 // the character of a reference by name
 fn named(bytes: &[u8]) -> Option<char>
     ensures found { IfSome result (IsReference bytes.now) }
-    ensures none { IfNone result ((bytes.now ≢ codes "&amp;") × (bytes.now ≢ codes "&lt;") × (bytes.now ≢ codes "&gt;") × (bytes.now ≢ codes "&apos;") × (bytes.now ≢ codes "&quot;")) }
+    ensures none { IfNone result ((bytes.now ≢ codes "&amp;") × (bytes.now ≢ codes "&lt;") × (bytes.now ≢ codes "&gt;")
+        × (bytes.now ≢ codes "&apos;") × (bytes.now ≢ codes "&quot;")) }
 {
     match bytes {
         b"&amp;" => Some('&'),
@@ -64,8 +51,10 @@ fn named(bytes: &[u8]) -> Option<char>
 // the character with this number
 fn character(digits: &[u8], base: u32) -> Option<char>
     requires { (base ≡ 10) ⊎ (base ≡ 16) }
-    ensures found { IfSome result (λ c. (digits.now ≢ []) × AllDigits base digits.now × IsTrue (char_class c) × (c ≡ digits_value base digits.now)) }
-    ensures none { IfNone result (digits.now ≢ [] → AllDigits base digits.now → IsTrue (char_class (digits_value base digits.now)) → ⊥) }
+    ensures found { IfSome result (λ c. (digits.now ≢ []) × AllDigits base digits.now × IsTrue (char_class c)
+        × (c ≡ digits_value base digits.now)) }
+    ensures none { IfNone result (digits.now ≢ [] → AllDigits base digits.now
+        → IsTrue (char_class (digits_value base digits.now)) → ⊥) }
 {
     if digits.is_empty() {
         return None;
@@ -90,7 +79,8 @@ fn number(digits: &[u8], base: u32) -> Option<u32>
 
 // the reference at the front, and what follows it
 pub(crate) fn reference_at(bytes: &[u8]) -> Option<(char, &[u8])>
-    ensures found { IfSome result (λ found. (token : List ℕ) × (bytes.now ≡ token ++ found.1.now) × IsReference token found.0) }
+    ensures found { IfSome result (λ found. (token : List ℕ) × (bytes.now ≡ token ++ found.1.now)
+        × IsReference token found.0) }
     ensures none { IfNone result ((token rest : List ℕ) (c : ℕ) → bytes.now ≡ token ++ rest → IsReference token c → ⊥) }
 {
     let Some(end) = memchr(b';', bytes) else {

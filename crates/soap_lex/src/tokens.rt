@@ -1,7 +1,8 @@
 ghost use Rattle.std.specs.Prelude.{◌≡◌, ◌↔◌, ◌⊎◌, ℕ, ◌-◌, ◌<◌, List, [], ◌∷◌, ◌++◌, length, take, codes, IsTrue};
 ghost use Rattle.std.specs.List.{All, list_all, list_any};
 ghost use Rattle.std.specs.Str.{chars};
-ghost use Rattle.xml_chars.specs.Classes.{is_char as char_class, is_name_char as name_char_class, is_name_start as name_start_class};
+ghost use Rattle.xml_chars.specs.Classes.{is_char as char_class, is_name_char as name_char_class};
+ghost use Rattle.xml_chars.specs.Classes.{is_name_start as name_start_class};
 ghost use Rattle.soap_lex.specs.Characters.{IsChars, IsName, Holds};
 ghost use Rattle.soap_lex.specs.Text.{IsCharData, IsCdata, IsComment};
 ghost use Rattle.soap_lex.specs.Value.{IsPlainValue};
@@ -96,7 +97,8 @@ fn lacks_markup(bytes: &[u8]) -> bool
 
 // no byte begins markup or is the quote
 fn lacks_quote_and_markup(bytes: &[u8], quote: u8) -> bool
-    ensures { IsTrue result ↔ (¬ (Holds bytes.now (codes "<")) × ¬ (Holds bytes.now (codes "&")) × ¬ (Holds bytes.now (quote ∷ []))) }
+    ensures { IsTrue result ↔ (¬ (Holds bytes.now (codes "<")) × ¬ (Holds bytes.now (codes "&"))
+        × ¬ (Holds bytes.now (quote ∷ []))) }
 {
     memchr3(b'<', b'&', quote, bytes).is_none()
 }

@@ -3,13 +3,8 @@
 #![tactic(auto)]
 
 ghost use Rattle.std.specs.Prelude.{◌≡◌};
-ghost use Rattle.xml_chars.specs.Classes.{
-  is_within as within,
-  is_char as char_class,
-  is_space as space_class,
-  is_name_start as name_start_class,
-  is_name_char as name_char_class,
-};
+ghost use Rattle.xml_chars.specs.Classes.{is_within as within, is_char as char_class, is_space as space_class};
+ghost use Rattle.xml_chars.specs.Classes.{is_name_start as name_start_class, is_name_char as name_char_class};
 
 /// Production 2, Char.
 const CHARS: [(u32, u32); 5] = [

@@ -10,9 +10,11 @@ loop-end-preserved c =
     let pushed : c.push.new.self.items ≡ (c.loop-end.out.items ++ run) ++ 10 ∷ [] =
     c.in_ok-push.ensures.items ∙ ap (λ l. l ++ 10 ∷ []) c.in_ok-extend_from_slice.ensures.items in (
       ap (λ l. l ++ with_line_ends c.after_line_end-rest.result.now) pushed
-          ∙ lines_step c.args.out.now.items c.loop-end.out.items c.loop-end.rest.now c.args.bytes.now c.after_line_end-rest.result.now c.in-Some.end
+          ∙ lines_step c.args.out.now.items c.loop-end.out.items c.loop-end.rest.now c.args.bytes.now
+          c.after_line_end-rest.result.now c.in-Some.end
           c.loop-end.invariant.0 c.in-Some.ensures
-          (c.after_line_end-rest.ensures.same ∙ ap (λ l. line_ends_after true l) (take_rest c.loop-end.rest.now (c.in-Some.end + 1))),
+          (c.after_line_end-rest.ensures.same
+          ∙ ap (λ l. line_ends_after true l) (take_rest c.loop-end.rest.now (c.in-Some.end + 1))),
       ap (λ l. take (length c.args.out.now.items) l) (pushed ∙ append_assoc c.loop-end.out.items run (10 ∷ []))
           ∙ front_kept c.args.out.now.items c.loop-end.out.items (run ++ 10 ∷ []) c.loop-end.invariant.1,
     )
@@ -20,4 +22,5 @@ loop-end-preserved c =
 pub returns-clause-ok : goal.returns-clause-ok
 returns-clause-ok c =
     c.in_ok-extend_from_slice-2.ensures.items
-    ∙ lines_done c.args.out.now.items c.loop-end.out.items c.loop-end.rest.now c.args.bytes.now c.loop-end.invariant.0 c.in_default.ensures
+    ∙ lines_done c.args.out.now.items c.loop-end.out.items c.loop-end.rest.now c.args.bytes.now c.loop-end.invariant.0
+    c.in_default.ensures

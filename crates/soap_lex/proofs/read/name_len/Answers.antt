@@ -7,7 +7,8 @@ returns-then-begins_name-clause-bound c = run_within c.args.text.now c.name_char
 
 pub returns-then-begins_name-clause-found : goal.returns-then-begins_name-clause-found
 returns-then-begins_name-clause-found c =
-    longest_run c.args.text.now c.name_chars_len.result c.utf8.text (sym c.begins_name.ensures ∙ c.if-begins_name.true) c.name_chars_len.ensures
+    longest_run c.args.text.now c.name_chars_len.result c.utf8.text (sym c.begins_name.ensures
+    ∙ c.if-begins_name.true) c.name_chars_len.ensures
 
 pub returns-else-begins_name-clause-none : goal.returns-else-begins_name-clause-none
 returns-else-begins_name-clause-none c = λ name rest there is.

@@ -4,7 +4,8 @@ use Rattle.soap_lex.proofs.TextLemmas.{same_cdata}
 use Rattle.soap_lex.proofs.read.push_cdata.Goals as goal
 
 pub returns-in_default-clause-refused : goal.returns-in_default-clause-refused
-returns-in_default-clause-refused c = λ inside rest there is. c.in_default.ensures.none (record { before = inside; after = rest; there = there })
+returns-in_default-clause-refused c = λ inside rest there is. c.in_default.ensures.none
+    (record { before = inside; after = rest; there = there })
 
 pub returns-then-not-is_cdata-clause-refused : goal.returns-then-not-is_cdata-clause-refused
 returns-then-not-is_cdata-clause-refused c = λ inside rest there is.
@@ -14,5 +15,9 @@ returns-then-not-is_cdata-clause-refused c = λ inside rest there is.
     cc (c.is_cdata.ensures.1 (subst P (sym same.0) is))
 
 pub returns-clause-found : goal.returns-clause-found
-returns-clause-found c =
-    (c.in-Some.inside.now, c.in-Some.ensures.found.0, c.is_cdata.ensures.0 c.if-not-is_cdata.false, c.in_ok-push_line_ends.ensures.ok)
+returns-clause-found c = (
+  c.in-Some.inside.now,
+  c.in-Some.ensures.found.0,
+  c.is_cdata.ensures.0 c.if-not-is_cdata.false,
+  c.in_ok-push_line_ends.ensures.ok,
+)

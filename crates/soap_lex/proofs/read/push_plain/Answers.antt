@@ -13,6 +13,8 @@ returns-then-not-is_plain_value-clause-refused c = λ run rest there is begins.
     let P : List ℕ → Type 0 = λ l. IsPlainValue c.args.quote l in
     let k : ℕ = c.in-Some.end in
     let bytes : List ℕ = c.args.bytes.now in
-    let same = same_run test (take k bytes) run (drop k bytes) rest (NonePass-before test bytes k c.in-Some.ensures) (plain_run c.args.quote run is)
-    (Stops-begins test (drop k bytes) (Stops-found test bytes k c.in-Some.ensures)) (Stops-begins test rest begins) (take-append-drop k bytes ∙ there) in
+    let same = same_run test (take k bytes) run (drop k bytes) rest (NonePass-before test bytes k c.in-Some.ensures)
+    (plain_run c.args.quote run is)
+    (Stops-begins test (drop k bytes) (Stops-found test bytes k c.in-Some.ensures)) (Stops-begins test rest begins)
+    (take-append-drop k bytes ∙ there) in
     cc (c.is_plain_value.ensures.1 (subst P (sym (c.split_at.ensures.front ∙ same.0)) is))

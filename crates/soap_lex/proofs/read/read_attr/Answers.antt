@@ -8,5 +8,6 @@ pub returns-in-Ok-clause-found : goal.returns-in-Ok-clause-found
 returns-in-Ok-clause-found c =
     let found = c.in-Ok.ensures.found in
     let P : List ℕ → Type 0 = λ l. IsValueFirst l found.0 c.in-Ok.rest.now found.1 in
-    reads_value c.args.bytes.now c.args.at found.0 c.in-Ok.rest.now found.1 c.args.out.now.items c.push_value.new.out.items c.requires
+    reads_value c.args.bytes.now c.args.at found.0 c.in-Ok.rest.now found.1 c.args.out.now.items
+    c.push_value.new.out.items c.requires
     (subst P (take_rest c.args.bytes.now c.args.at) found.2) found.3

@@ -13,6 +13,8 @@ loop-digit-preserved c =
     let P : List ℕ → Type 0 = λ l. NumberSo c.args.base c.loop-digit.number c.args.digits.now l in
     let Q : ℕ → Type 0 = λ n. NumberSo c.args.base n c.args.digits.now rest in
     let read = c.in_ok-value.ensures.value in
-    let same : min (c.loop-digit.number * c.args.base + c.in_ok-value.value) 0x110000 ≡ c.min-number.result = sym c.min-number.ensures in
+    let same : min (c.loop-digit.number * c.args.base + c.in_ok-value.value) 0x110000 ≡ c.min-number.result =
+    sym c.min-number.ensures in
     subst Q (ap (λ v. min (c.loop-digit.number * c.args.base + v) 0x110000) (sym read.1) ∙ same)
-    (NumberSo-step c.args.base c.loop-digit.number digit c.args.digits.now rest (base_above c.args.base c.requires) read.0 (subst P more c.loop-digit.invariant))
+    (NumberSo-step c.args.base c.loop-digit.number digit c.args.digits.now rest
+    (base_above c.args.base c.requires) read.0 (subst P more c.loop-digit.invariant))

@@ -6,7 +6,8 @@ use Rattle.xml_chars.specs.Classes.{is_char}
 use Rattle.soap_lex.proofs.tokens.is_chars.Goals as goal
 
 pub returns-then-is_plain_ascii : goal.returns-then-is_plain_ascii
-returns-then-is_plain_ascii c = (λ _. IsChars-ascii c.args.bytes.now (c.is_plain_ascii.ensures c.if-is_plain_ascii.true), λ _. refl)
+returns-then-is_plain_ascii c =
+    (λ _. IsChars-ascii c.args.bytes.now (c.is_plain_ascii.ensures c.if-is_plain_ascii.true), λ _. refl)
 
 pub returns-in-Ok : goal.returns-in-Ok
 returns-in-Ok c =

@@ -9,7 +9,8 @@ pub returns-then-begins_name : goal.returns-then-begins_name
 returns-then-begins_name c =
     let same = ap (λ bs. list_all is_name_char (chars bs)) c.in-Ok.ensures.cases.0 in
     let starts = ap (λ bs. begins (chars bs)) c.in-Ok.ensures.cases.0 in (
-      λ is. IsName-all c.args.bytes.now c.in-Ok.ensures.cases.1 (sym starts ∙ sym c.begins_name.ensures ∙ c.if-begins_name.true)
+      λ is. IsName-all c.args.bytes.now c.in-Ok.ensures.cases.1 (sym starts ∙ sym c.begins_name.ensures
+          ∙ c.if-begins_name.true)
           (sym same ∙ sym c.has_name_chars.ensures ∙ is),
       λ name. c.has_name_chars.ensures ∙ same ∙ all-IsName c.args.bytes.now name,
     )

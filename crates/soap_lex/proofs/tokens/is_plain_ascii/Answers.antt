@@ -14,4 +14,5 @@ loop-byte-preserved c = λ both.
 pub returns : goal.returns
 returns c = λ is.
     let whole = take_all c.loop-byte.byte-index c.args.bytes.now c.loop-byte-test.false in
-    All-same IsPlain c.args.bytes.now (take c.loop-byte.byte-index c.args.bytes.now) (sym whole) (c.loop-byte.invariant is)
+    All-same IsPlain c.args.bytes.now (take c.loop-byte.byte-index c.args.bytes.now) (sym whole)
+    (c.loop-byte.invariant is)

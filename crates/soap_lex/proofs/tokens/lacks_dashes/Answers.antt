@@ -15,5 +15,9 @@ returns-then-not-ends_with_dash c = (
 pub returns-else-not-ends_with_dash : goal.returns-else-not-ends_with_dash
 returns-else-not-ends_with_dash c =
     let P : List ℕ → Type 0 = λ bytes. Holds (bytes ++ 45 ∷ []) (45 ∷ 45 ∷ []) in
-    let front : List ℕ = take (length c.args.bytes.now - 1) c.args.bytes.now in
-    (λ is held. cc, λ lacking. absurd (lacking (subst P (sym (c.ends_with_dash.ensures.yes c.if-not-ends_with_dash.false)) (Holds-dash_end 45 front))))
+    let front : List ℕ = take (length c.args.bytes.now - 1) c.args.bytes.now in (
+      λ is held. cc,
+      λ lacking. absurd
+          (lacking (subst P (sym (c.ends_with_dash.ensures.yes c.if-not-ends_with_dash.false))
+          (Holds-dash_end 45 front))),
+    )

@@ -1,6 +1,7 @@
 use Rattle.std.proofs.Common.{◌≡◌, ◌<◌, ◌-◌, ℕ, List, ◌++◌, length, take, drop, ap, ◌∙◌}
 use Rattle.soap_lex.proofs.EscapeLemmas.{Escaped-plain, Escaped-reference, Escaped-moved}
-use Rattle.soap_lex.proofs.write.push_escaped.Goals.{in-Some+in_ok-extend_from_slice+in_ok-extend_from_slice-2, in_default}
+use Rattle.soap_lex.proofs.write.push_escaped.Goals.{in-Some+in_ok-extend_from_slice+in_ok-extend_from_slice-2}
+use Rattle.soap_lex.proofs.write.push_escaped.Goals.{in_default}
 use Rattle.soap_lex.proofs.write.push_escaped.Goals as goal
 
 pub loop-i-preserved : goal.loop-i-preserved
@@ -16,9 +17,11 @@ loop-i-preserved c =
           ap (λ v. v.items) w.out-is ∙ w.in_ok-extend_from_slice-2.ensures.items
           ∙ ap (λ l. l ++ w.in-Some.reference.now) w.in_ok-extend_from_slice.ensures.items in
           Escaped-moved c.args.quoted old bytes pushed w.start-is
-          (Escaped-reference c.args.quoted old bytes before w.in-Some.reference.now c.loop-i.start c.loop-i.i c.loop-i.invariant within
+          (Escaped-reference c.args.quoted old bytes before w.in-Some.reference.now c.loop-i.start c.loop-i.i
+          c.loop-i.invariant within
           w.in-Some.ensures.some)
       | in_default w ↦
           Escaped-moved c.args.quoted old bytes (ap (λ v. v.items) w.out-is) w.start-is
-          (Escaped-plain c.args.quoted old bytes before c.loop-i.start c.loop-i.i c.loop-i.invariant within w.in_default.ensures.none)
+          (Escaped-plain c.args.quoted old bytes before c.loop-i.start c.loop-i.i c.loop-i.invariant within
+          w.in_default.ensures.none)
     ]
