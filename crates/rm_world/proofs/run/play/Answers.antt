@@ -6,7 +6,7 @@ use Rattle.rm_world.specs.Replay.{IsCutShort}
 use Rattle.rm_world.specs.Sound.{IsSound}
 use Rattle.rm_world.specs.Stage.{world_of}
 use Rattle.rm_world.proofs.ReplayLemmas.{run-push, told-more, taken_front, IsCutShort-at}
-use Rattle.rm_world.proofs.SoundLemmas.{happens-IsSound, IsCutShort-IsSound, IsSound-KeepsWord}
+use Rattle.rm_world.proofs.SoundLemmas.{happens-IsSound, IsCutShort-IsSound}
 use Rattle.rm_world.proofs.run.play.Goals as goal
 
 pub loop-event-preserved : goal.loop-event-preserved
@@ -43,11 +43,6 @@ pub returns-in_err-play_line-clause-err : goal.returns-in_err-play_line-clause-e
 returns-in_err-play_line-clause-err c =
     let p = err_from_is_err_and c.from_residual.result c.from_residual.ensures.1 in rw p.1 (cut c)
 
-pub returns-in_err-play_line-clause-word : goal.returns-in_err-play_line-clause-word
-returns-in_err-play_line-clause-word c =
-    let old = world_of c.args.stage.now in
-    let new = world_of c.play_line.new.stage in
-    IsSound-KeepsWord new (IsCutShort-IsSound c.args.events old new c.requires (cut c))
-
-pub returns-clause-word : goal.returns-clause-word
-returns-clause-word c = IsSound-KeepsWord (world_of c.loop-event.stage) c.loop-event.invariant.sound
+pub returns-in_err-play_line-clause-sound : goal.returns-in_err-play_line-clause-sound
+returns-in_err-play_line-clause-sound c =
+    IsCutShort-IsSound c.args.events (world_of c.args.stage.now) (world_of c.play_line.new.stage) c.requires (cut c)
