@@ -3,8 +3,8 @@ ghost use Rattle.std.specs.Prelude.{encode_utf8, IfOk, IfErr, IfSome, IfNone, On
 ghost use Rattle.std.specs.Str.{IsUtf8, NonePass};
 ghost use Rattle.memchr.specs.Find.{is_byte2, is_byte3};
 ghost use Rattle.soap_lex.specs.Characters.{Holds, IsName, IsLongestName};
-ghost use Rattle.soap_lex.specs.Cut.{Begins, EndsText, IsNameRun, IsTextFirst, IsValueFirst, OnRefusal, ReadsText};
-ghost use Rattle.soap_lex.specs.Cut.{ReadsValue, Stops};
+ghost use Rattle.soap_lex.specs.Cut.{Begins, EndsOrWants, EndsText, IsNameRun, IsTextFirst, IsValueFirst, OnRefusal};
+ghost use Rattle.soap_lex.specs.Cut.{ReadsText, ReadsValue, Stops};
 ghost use Rattle.soap_lex.specs.References.{IsReference};
 ghost use Rattle.soap_lex.specs.Text.{IsCharData, IsCdata, IsComment, IsMarkup, with_line_ends};
 ghost use Rattle.soap_lex.specs.Value.{IsInner, IsPlainValue, with_spaces};
