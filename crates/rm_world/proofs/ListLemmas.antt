@@ -77,7 +77,7 @@ pub drop-numbered : {A : Type 0} (xs : List A) (k : ℕ) (x : A) → slice_get x
     → drop k xs ≡ x ∷ drop (k + 1) xs
 drop-numbered [] k x e = absurd (cc)
 drop-numbered (y ∷ ys) zero x e = let same : y ≡ x = cc in ap (λ z. z ∷ ys) same
-drop-numbered (y ∷ ys) (suc k) x e = 
+drop-numbered (y ∷ ys) (suc k) x e =
     let next : suc k + 1 ≡ suc (k + 1) = omega arith in
     rw next (drop-numbered ys k x e)
 

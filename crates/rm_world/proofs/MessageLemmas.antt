@@ -10,10 +10,10 @@ pub All-with_message : (P : (ℕ × Payload) → Type 0) (ms : List (ℕ × Payl
 All-with_message P [] n p h q = (q, tt)
 All-with_message P (m ∷ ms) n p h q =
     elim (nat_lt n m.0) as (λ b. AllByRecursion P (cond b ((n, p) ∷ m ∷ ms) (cond (n == m.0) (m ∷ ms)
-        (m ∷ with_message ms n p)))) [
-      true ↦ (q, h)
-    | false ↦ elim (n == m.0) as (λ b. AllByRecursion P (cond b (m ∷ ms) (m ∷ with_message ms n p))) [
-        true ↦ h
-      | false ↦ (h.0, All-with_message P ms n p h.1 q)
+    (m ∷ with_message ms n p)))) [
+      | true ↦ (q, h)
+      | false ↦ elim (n == m.0) as (λ b. AllByRecursion P (cond b (m ∷ ms) (m ∷ with_message ms n p))) [
+        | true ↦ h
+        | false ↦ (h.0, All-with_message P ms n p h.1 q)
       ]
     ]

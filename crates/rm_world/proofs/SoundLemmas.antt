@@ -30,7 +30,7 @@ pub AreReceived-with_message : (numbers : List ℕ) (ms : List (ℕ × Payload))
 AreReceived-with_message numbers ms n p h m t =
     let before : has_number (numbers_of ms) m ≡ true = h m t in
     let after : has_number (with_number (numbers_of ms) n) m ≡ (has_number (numbers_of ms) m || (n == m)) =
-      has_number-with (numbers_of ms) n m in
+    has_number-with (numbers_of ms) n m in
     rw numbers_of-with_message (grind (arith, nat_tests))
 
 -- a packet stays sound when a payload is accepted, and when a message is received
@@ -47,12 +47,13 @@ IsSoundPacket-receive accepted ms n p (Ack numbers) h = (h.0, AreReceived-with_m
 -- a payload is accepted
 pub accepted-IsSound : (w : World) (text : List ℕ) → IsSound w → IsSound (accepted w text)
 accepted-IsSound w text h = record {
+  opened = h.opened;
   endless = h.endless;
   packets = All-weaker (IsSoundPacket w.source.accepted w.dest.received) (IsSoundPacket (w.source.accepted
       ++ text ∷ []) w.dest.received)
-    (IsSoundPacket-accept w.source.accepted w.dest.received text) w.packets h.packets;
+      (IsSoundPacket-accept w.source.accepted w.dest.received text) w.packets h.packets;
   messages = All-weaker (IsSoundMessage w.source.accepted) (IsSoundMessage (w.source.accepted ++ text ∷ []))
-    (λ m e. numbered-push w.source.accepted m.0 m.1.bytes text e) w.dest.received h.messages;
+      (λ m e. numbered-push w.source.accepted m.0 m.1.bytes text e) w.dest.received h.messages;
   rising = h.rising;
   acked = h.acked;
 }
@@ -61,6 +62,7 @@ accepted-IsSound w text h = record {
 pub sent-IsSound : (w : World) (packet : PlainPacket) → IsSound w
     → IsSoundPacket w.source.accepted w.dest.received packet → IsSound (sent w packet)
 sent-IsSound w packet h p = record {
+  opened = h.opened;
   endless = h.endless;
   packets = All-push (IsSoundPacket w.source.accepted w.dest.received) w.packets packet h.packets p;
   messages = h.messages;
@@ -70,12 +72,13 @@ sent-IsSound w packet h p = record {
 
 -- a new message is received
 pub kept-IsSound : (w : World) (n : ℕ) (text : List ℕ) (two : ℕ) → IsSound w → numbered w.source.accepted n ≡ Some text
-  → IsSound (record w { dest = record w.dest { received = with_message w.dest.received n (plain text) }; two = two })
+    → IsSound (record w { dest = record w.dest { received = with_message w.dest.received n (plain text) }; two = two })
 kept-IsSound w n text two h e = record {
+  opened = h.opened;
   endless = h.endless;
   packets = All-weaker (IsSoundPacket w.source.accepted w.dest.received)
       (IsSoundPacket w.source.accepted (with_message w.dest.received n (plain text)))
-    (IsSoundPacket-receive w.source.accepted w.dest.received n (plain text)) w.packets h.packets;
+      (IsSoundPacket-receive w.source.accepted w.dest.received n (plain text)) w.packets h.packets;
   messages = All-with_message (IsSoundMessage w.source.accepted) w.dest.received n (plain text) h.messages e;
   rising = rw numbers_of-with_message (Rises-with_number 0 n (numbers_of w.dest.received) h.rising
       (numbered-within w.source.accepted n text e).0);
@@ -84,7 +87,7 @@ kept-IsSound w n text two h e = record {
 
 -- a message comes to the destination, and is taken in one of three ways
 taken-IsSound : (w : World) (n : ℕ) (text : List ℕ) (took : Took) → IsSound w → numbered w.source.accepted n ≡ Some text
-  → IsSound (record w { dest = after_take w.dest n (plain text) took; two = raised_where (is_new took) w.two })
+    → IsSound (record w { dest = after_take w.dest n (plain text) took; two = raised_where (is_new took) w.two })
 taken-IsSound w n text New h e = kept-IsSound w n text (raised_where true w.two) h e
 taken-IsSound w n text Duplicate h e = h
 taken-IsSound w n text (PastWindow front) h e = h
@@ -97,16 +100,17 @@ received-IsSound w n text h e = taken-IsSound w n text (kind_of w.dest n) h e
 pub learned-IsSound : (w : World) (numbers : List ℕ) → IsSound w → AreReceived numbers w.dest.received
     → IsSound (learned w numbers)
 learned-IsSound w numbers h r = record {
+  opened = h.opened;
   endless = h.endless;
   packets = h.packets;
   messages = h.messages;
   rising = h.rising;
   acked = λ m t.
-    let both : has_number (united w.source.acked numbers) m ≡ (has_number w.source.acked m || has_number numbers m) =
-        has_number-united w.source.acked numbers m in
-    let one : has_number w.source.acked m ≡ true → has_number (numbers_of w.dest.received) m ≡ true = h.acked m in
-    let other : has_number numbers m ≡ true → has_number (numbers_of w.dest.received) m ≡ true = r m in
-    grind (arith, nat_tests);
+      let both : has_number (united w.source.acked numbers) m ≡ (has_number w.source.acked m || has_number numbers m) =
+      has_number-united w.source.acked numbers m in
+      let one : has_number w.source.acked m ≡ true → has_number (numbers_of w.dest.received) m ≡ true = h.acked m in
+      let other : has_number numbers m ≡ true → has_number (numbers_of w.dest.received) m ≡ true = r m in
+      grind (arith, nat_tests);
 }
 
 -- the numbers of sound messages are numbers of accepted payloads
@@ -130,7 +134,7 @@ pub answered-IsSound : (w : World) (packet : Option PlainPacket) → IsSound w �
 answered-IsSound w None h = h
 answered-IsSound w (Some (Data n text)) h =
     sent-IsSound w (Ack (numbers_of w.dest.received)) h
-        (greatest_of-messages w.source.accepted w.dest.received h.messages, λ m t. t)
+    (greatest_of-messages w.source.accepted w.dest.received h.messages, λ m t. t)
 answered-IsSound w (Some (Ack numbers)) h = h
 
 -- the packet with a number is sound, where there is one
@@ -138,9 +142,9 @@ pub packet-IsSound : (w : World) (n : ℕ) → IsSound w
     → IfSome (numbered w.packets n) (IsSoundPacket w.source.accepted w.dest.received)
 packet-IsSound w n h =
     elim (numbered w.packets n) as (λ p. numbered w.packets n ≡ p
-        → IfSome p (IsSoundPacket w.source.accepted w.dest.received)) [
-      None ↦ λ _. tt
-    | Some packet ↦ λ e. All-numbered (IsSoundPacket w.source.accepted w.dest.received) w.packets n packet h.packets e
+    → IfSome p (IsSoundPacket w.source.accepted w.dest.received)) [
+      | None ↦ λ _. tt
+      | Some packet ↦ λ e. All-numbered (IsSoundPacket w.source.accepted w.dest.received) w.packets n packet h.packets e
     ] refl
 
 -- each line keeps the world sound, and so does its record without its packet
@@ -148,17 +152,17 @@ pub recorded-IsSound : (w : World) (event : Event) → IsSound w → IsSound (re
 recorded-IsSound w Blank h = h
 recorded-IsSound w (Send text) h =
     elim (is_none (accept_refusal w.source)) as
-        (λ b. IsSound (cond b (accepted w text) w)) [ true ↦ accepted-IsSound w text h | false ↦ h ]
+    (λ b. IsSound (cond b (accepted w text) w)) [ true ↦ accepted-IsSound w text h | false ↦ h ]
 recorded-IsSound w (Deliver n) h = arrived-IsSound w (numbered w.packets n) h (packet-IsSound w n h)
 
 pub happens-IsSound : (w : World) (event : Event) → IsSound w → IsSound (happens w event)
 happens-IsSound w Blank h = h
 happens-IsSound w (Send text) h =
     elim (is_none (accept_refusal w.source)) as
-        (λ b. IsSound (cond b (sent (accepted w text) (Data (length w.source.accepted + 1) text)) w)) [
-      true ↦ sent-IsSound (accepted w text) (Data (length w.source.accepted + 1) text) (accepted-IsSound w text h)
+    (λ b. IsSound (cond b (sent (accepted w text) (Data (length w.source.accepted + 1) text)) w)) [
+      | true ↦ sent-IsSound (accepted w text) (Data (length w.source.accepted + 1) text) (accepted-IsSound w text h)
           (numbered-last w.source.accepted text)
-    | false ↦ h
+      | false ↦ h
     ]
 happens-IsSound w (Deliver n) h = answered-IsSound (arrived w (numbered w.packets n)) (numbered w.packets n)
     (recorded-IsSound w (Deliver n) h)
@@ -169,7 +173,7 @@ run-IsSound [] w h = h
 run-IsSound (event ∷ events) w h = run-IsSound events (happens w event) (happens-IsSound w event h)
 
 pub preset-IsSound : IsSound preset
-preset-IsSound = record { endless = refl; packets = tt; messages = tt; rising = tt; acked = λ n h. absurd (cc) }
+preset-IsSound = record { opened = refl; endless = refl; packets = tt; messages = tt; rising = tt; acked = λ n h. absurd (cc) }
 
 -- from a place on, the inbox of sound messages begins what was accepted
 inbox_after-prefix : (n : ℕ) (accepted : List (List ℕ)) (ms : List (ℕ × Payload))
@@ -177,17 +181,19 @@ inbox_after-prefix : (n : ℕ) (accepted : List (List ℕ)) (ms : List (ℕ × P
 inbox_after-prefix n accepted [] h = (drop n accepted, refl)
 inbox_after-prefix n accepted (m ∷ ms) h =
     elim (m.0 == n + 1) as (λ b. (m.0 == n + 1) ≡ b
-        → IsPrefixOf (bytes_of (cond b (m.1 ∷ inbox_after m.0 ms) [])) (drop n accepted)) [
-      true ↦ λ e.
-        let number : m.0 ≡ n + 1 = eqb-true m.0 (n + 1) e in
-        let rest = inbox_after-prefix m.0 accepted ms h.1 in
-        let there : numbered accepted (suc n) ≡ Some m.1.bytes =
-            subst (λ k. numbered accepted k ≡ Some m.1.bytes) (omega arith) h.0 in
-        let item : drop n accepted ≡ m.1.bytes ∷ drop (n + 1) accepted =
-            drop-numbered accepted n m.1.bytes (sym (numbered-next accepted n) ∙ there) in
-        (rest.0, item ∙ ap (λ l. m.1.bytes ∷ l) (subst (λ k. drop k accepted ≡ bytes_of (inbox_after m.0 ms)
-            ++ rest.0) number rest.1))
-    | false ↦ λ _. (drop n accepted, refl)
+    → IsPrefixOf (bytes_of (cond b (m.1 ∷ inbox_after m.0 ms) [])) (drop n accepted)) [
+      | true ↦ λ e.
+          let number : m.0 ≡ n + 1 = eqb-true m.0 (n + 1) e in
+          let rest = inbox_after-prefix m.0 accepted ms h.1 in
+          let there : numbered accepted (suc n) ≡ Some m.1.bytes =
+          subst (λ k. numbered accepted k ≡ Some m.1.bytes) (omega arith) h.0 in
+          let item : drop n accepted ≡ m.1.bytes ∷ drop (n + 1) accepted =
+          drop-numbered accepted n m.1.bytes (sym (numbered-next accepted n) ∙ there) in (
+            rest.0,
+            item ∙ ap (λ l. m.1.bytes ∷ l) (subst (λ k. drop k accepted ≡ bytes_of (inbox_after m.0 ms)
+                ++ rest.0) number rest.1),
+          )
+      | false ↦ λ _. (drop n accepted, refl)
     ] refl
 
 -- a sound world keeps to the headline

@@ -17,7 +17,7 @@ pub items_text-next : (inbox : List Payload) (k : ℕ) (payload : Payload) (befo
 items_text-next inbox k payload before report more n r h =
     let next : k + 1 ≡ suc k = omega arith in
     let there : slice_get inbox k ≡ Some payload = sym (numbered-next inbox k)
-        ∙ subst (λ (m : ℕ). numbered inbox m ≡ Some payload) next n in
+    ∙ subst (λ (m : ℕ). numbered inbox m ≡ Some payload) next n in
     let taken : take (k + 1) inbox ≡ take k inbox ++ payload ∷ [] = rw next (take-numbered inbox k payload there) in
     let within : k < length inbox = slice_get-within inbox k payload there in
     let line : 0 + length (take k inbox) + 1 ≡ k + 1 = omega (arith, length-take k inbox) in

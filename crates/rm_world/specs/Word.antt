@@ -20,7 +20,9 @@ abbrev pub preset : World
 preset = record {
   source = record { phase = Open; accepted = []; acked = [] };
   dest = record { behaviour = FollowingFirstGap; deadline = None; received = [] };
-  packets = []; one = 0; two = 0;
+  packets = [];
+  one = 0;
+  two = 0;
 }
 
 -- ys begins with xs
@@ -47,9 +49,9 @@ pub record IsNewAt (w : World) (p n : ℕ) (text : List ℕ) : Type 0 where
 -- released
 pub record Releases (w : World) (event : Event) : Type 0 where
   pub recorded : (p n : ℕ) (text : List ℕ) → event ≡ Deliver p → IsNewAt w p n text
-    → Contains (happens w event).dest.received (n, plain text)
+      → Contains (happens w event).dest.received (n, plain text)
   pub released : (p n : ℕ) (text : List ℕ) → event ≡ Deliver p → IsNewAt w p n text → n ≡ received_front w.dest + 1
-    → numbered (inbox_of (happens w event).dest) n ≡ Some (plain text)
+      → numbered (inbox_of (happens w event).dest) n ≡ Some (plain text)
 
 -- so does each line of a script, in the world that the lines before it leave
 abbrev pub EachReleases : List Event → World → Type 0
