@@ -16,7 +16,11 @@ use rm_source::{Outgoing, SourceError};
 use std::alloc::Global;
 
 /// Does what one line says, and answers how it came out.
-pub fn happen(alloc: Global, stage: &mut PlainStage, event: Event) -> Result<Option<Outcome>, Memory>
+pub fn happen(
+    alloc: Global,
+    stage: &mut PlainStage,
+    event: Event,
+) -> Result<Option<Outcome>, Memory>
     requires { IsSound (world_of stage.old) }
     ensures ok { OnOk result (world_of stage.new ≡ happens (world_of stage.old) event) }
     ensures outcome { IfOk result (λ outcome. outcome ≡ outcome_of (world_of stage.old) event) }
@@ -41,7 +45,9 @@ fn send(stage: &mut PlainStage, text: Blob) -> Result<Outcome, Memory>
     match stage.source.accept(text) {
         Ok(number) => {
             stage.one = stage.one.saturating_add(1);
-            stage.packets.push(PlainPacket::Data { number, text: copy })?;
+            stage
+                .packets
+                .push(PlainPacket::Data { number, text: copy })?;
             Ok(Outcome::Done)
         }
         Err(SourceError::Memory) => Err(Memory),
