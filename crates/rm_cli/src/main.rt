@@ -4,10 +4,9 @@
 
 use rm_base::{Blob, Items, StdSink, StdSource};
 use run::run;
-use std::env;
-use std::io;
 use std::io::ErrorKind;
 use std::process::ExitCode;
+use std::{env, io};
 
 mod run;
 #[cfg(test)]
@@ -19,7 +18,13 @@ fn main(rt: HostRuntime) -> ExitCode {
             let mut input = StdSource::new(rt.stdin());
             let mut out = StdSink::new(rt.stdout());
             let mut stage = rm_world::preset_stage(rt.alloc());
-            run(rt.alloc(), words.as_slice(), &mut input, &mut out, &mut stage)
+            run(
+                rt.alloc(),
+                words.as_slice(),
+                &mut input,
+                &mut out,
+                &mut stage,
+            )
         }
         Err(error) => match error.kind() {
             ErrorKind::InvalidData => run::USAGE,

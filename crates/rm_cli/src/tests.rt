@@ -50,9 +50,11 @@ fn repeated(alloc: Global, line: &[u8], count: u32) -> Result<Blob, Memory> {
     Ok(bytes)
 }
 
-const ROW: &[u8] = b"send 1 1 <p>1</p>\nsend 1 1 <p>2</p>\ndeliver 2\ndeliver 1\ndeliver 1\ndeliver 4\ndeliver 3\ndeliver 9\n";
+const ROW: &[u8] =
+    b"send 1 1 <p>1</p>\nsend 1 1 <p>2</p>\ndeliver 2\ndeliver 1\ndeliver 1\ndeliver 4\ndeliver 3\ndeliver 9\n";
 
-const ROW_REPORT: &[u8] = b"1 ok 1 0 1\n2 ok 2 0 2\n3 ok 2 1 3\n4 ok 2 2 4\n5 ok 2 2 5\n6 ok 3 2 5\n7 ok 3 2 5\n8 no-packet 3 2 5\nout 1 1 open accepted 2 acked 1-2\nin 2 1 open dfg received 1-2 inbox 2 discarded 0\nitem 2 1 1 3c703e313c2f703e\nitem 2 1 2 3c703e323c2f703e\n";
+const ROW_REPORT: &[u8] =
+    b"1 ok 1 0 1\n2 ok 2 0 2\n3 ok 2 1 3\n4 ok 2 2 4\n5 ok 2 2 5\n6 ok 3 2 5\n7 ok 3 2 5\n8 no-packet 3 2 5\nout 1 1 open accepted 2 acked 1-2\nin 2 1 open dfg received 1-2 inbox 2 discarded 0\nitem 2 1 1 3c703e313c2f703e\nitem 2 1 2 3c703e323c2f703e\n";
 
 #[test]
 fn reports(rt: HostRuntime) -> Result<(), Fail> {
@@ -169,10 +171,20 @@ fn each_write_fails_in_turn(rt: HostRuntime) -> Result<(), Fail> {
             faults: 0,
         };
         let mut stage = preset_stage(rt.alloc());
-        let status = run(rt.alloc(), words.as_slice(), &mut input, &mut out, &mut stage);
+        let status = run(
+            rt.alloc(),
+            words.as_slice(),
+            &mut input,
+            &mut out,
+            &mut stage,
+        );
         let count = ROW_REPORT.len().min(calls_left as usize * 3);
         assert_eq!(rt; out.written.as_slice(), &ROW_REPORT[..count]);
-        let want = if count < ROW_REPORT.len() { WRITE_FAULT } else { DONE };
+        let want = if count < ROW_REPORT.len() {
+            WRITE_FAULT
+        } else {
+            DONE
+        };
         assert_eq!(rt; status, want, "after {calls_left}");
         assert_eq!(rt; stage.packets.len(), 5);
     }
