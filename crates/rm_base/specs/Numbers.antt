@@ -26,6 +26,10 @@ abbrev pub united : List ℕ → List ℕ → List ℕ
 united xs [] = xs
 united xs (y ∷ ys) = united (with_number xs y) ys
 
+-- a number of ys that is none of xs
+abbrev pub HasNew : List ℕ → List ℕ → Type 0
+HasNew xs ys = (n : ℕ) × (has_number ys n ≡ true) × (has_number xs n ≡ false)
+
 -- a number of ys is none of xs: both together are more numbers
 abbrev pub brings_new : List ℕ → List ℕ → Bool
 brings_new xs ys = nat_lt (length xs) (length (united xs ys))

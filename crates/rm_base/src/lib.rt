@@ -6,6 +6,7 @@
 
 pub mod blob;
 pub mod items;
+pub mod laws;
 pub mod memory;
 pub mod message;
 pub mod numbers;

@@ -1,8 +1,8 @@
-ghost use Rattle.std.specs.Prelude.{◌≡◌, ◌≢◌, ℕ, ◌≤◌, ◌+◌, ◌<◌, List, Bool, true, false, [], length, drop, take, min, Some, None, Err, Ok, ◌==◌, IsTrue, ◌↔◌, OnErr, MatchResult, IfOk};
+ghost use Rattle.std.specs.Prelude.{◌≡◌, ◌≢◌, ℕ, ◌≤◌, ◌+◌, ◌<◌, List, Bool, true, false, [], length, drop, take, min, Some, None, Err, Ok, ◌==◌, IsTrue, ◌↔◌, OnErr, MatchResult, IfOk, is_ok, is_err};
 ghost use Rattle.std.specs.Io.{ReadsAtMost, WritesAtMost};
 ghost use Rattle.std.specs.Io.KnownBytes.{ReadConsumes, WriteAppends};
 ghost use Rattle.rm_base.specs.Count.{Rose, raised_by};
-ghost use Rattle.rm_base.specs.Numbers.{has_number};
+ghost use Rattle.rm_base.specs.Outside.{is_to_fail, moved_by, after_read, after_write};
 
 use crate::blob::Blob;
 use crate::numbers::Numbers;
@@ -58,7 +58,20 @@ impl Source for MemSource {
 
     ghost is_sound = { λ s. length s.fail_at == 0 };
 
-    fn read(&mut self, buf: &mut [u8]) -> Result<usize, Failed> {
+    /// Moves as many of the bytes that are left as there is room for.
+    fn read(&mut self, buf: &mut [u8]) -> Result<usize, Failed>
+        ensures bound { ReadsAtMost result buf.new }
+        ensures moved { ReadConsumes (Some self.old.left) (Some self.new.left) result buf.new }
+        ensures counted { MatchResult result (λ n. self.new.taken ≡ raised_by self.old.taken n)
+            (λ _. self.new.taken ≡ self.old.taken) }
+        ensures never_falls { self.old.faults ≤ self.new.faults }
+        ensures failed { OnErr result (Rose self.old.faults self.new.faults) }
+        ensures sound { (length self.old.fail_at == 0) ≡ true
+            → ((length self.new.fail_at == 0) ≡ true) × (self.new.faults ≡ self.old.faults) }
+        ensures fails { is_err result ≡ is_to_fail self.old.fail_at self.old.calls }
+        ensures count { IfOk result (λ n. n ≡ moved_by self.old (length buf.new)) }
+        ensures after { self.new ≡ after_read self.old (length buf.new) }
+    {
         self.calls = self.calls.saturating_add(1);
         if self.fail_at.has(self.calls) {
             self.faults = self.faults.saturating_add(1);
@@ -126,7 +139,20 @@ impl Sink for MemSink {
 
     ghost is_sound = { λ s. length s.fail_at == 0 };
 
-    fn write(&mut self, bytes: &[u8]) -> Result<usize, SinkError> {
+    /// Takes the whole piece.
+    fn write(&mut self, bytes: &[u8]) -> Result<usize, SinkError>
+        ensures bound { WritesAtMost result bytes.now }
+        ensures moved { WriteAppends (Some self.old.written) (Some self.new.written) result bytes.now }
+        ensures never_falls { self.old.faults ≤ self.new.faults }
+        ensures failed { result ≡ Err SinkError.Failed → Rose self.old.faults self.new.faults }
+        ensures nothing { result ≡ Ok 0 → 0 < length bytes.now → Rose self.old.faults self.new.faults }
+        ensures memory { true ≡ false → result ≢ Err SinkError.Memory }
+        ensures sound { (length self.old.fail_at == 0) ≡ true
+            → ((length self.new.fail_at == 0) ≡ true) × (self.new.faults ≡ self.old.faults) }
+        ensures fails { (result ≡ Err SinkError.Failed) ↔ (is_to_fail self.old.fail_at self.old.calls ≡ true) }
+        ensures whole { IfOk result (λ n. n ≡ length bytes.now) }
+        ensures after { self.new ≡ after_write self.old bytes.now (is_ok result) }
+    {
         self.calls = self.calls.saturating_add(1);
         if self.fail_at.has(self.calls) {
             self.faults = self.faults.saturating_add(1);

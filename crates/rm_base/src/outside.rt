@@ -51,6 +51,9 @@ pub trait Sink {
     /// It never fails.
     ghost is_sound: { Self → Bool } = { λ _. false };
 
+    /// Its calls may want memory.
+    ghost wants_memory: { Bool } = { true };
+
     /// Takes the first bytes of a piece, and answers how many. An `Err` takes none.
     fn write(&mut self, bytes: &[u8]) -> Result<usize, SinkError>
         ensures bound { WritesAtMost result bytes.now }
@@ -58,5 +61,6 @@ pub trait Sink {
         ensures never_falls { faults self.old ≤ faults self.new }
         ensures failed { result ≡ Err SinkError.Failed → Rose (faults self.old) (faults self.new) }
         ensures nothing { result ≡ Ok 0 → 0 < length bytes.now → Rose (faults self.old) (faults self.new) }
+        ensures memory { wants_memory ≡ false → result ≢ Err SinkError.Memory }
         ensures sound { is_sound self.old ≡ true → (is_sound self.new ≡ true) × (faults self.new ≡ faults self.old) };
 }

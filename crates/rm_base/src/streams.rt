@@ -1,11 +1,13 @@
-ghost use Rattle.std.specs.Prelude.{◌≡◌, ◌≢◌, ℕ, ◌≤◌, ◌+◌, ◌<◌, List, Bool, true, false, [], length, Some, None, Err, Ok, IsTrue, OnErr, MatchResult, IfOk};
+ghost use Rattle.std.specs.Prelude.{◌≡◌, ◌≢◌, ℕ, ◌≤◌, ◌+◌, ◌<◌, List, Bool, true, false, [], length, Some, None, Err, Ok, IsTrue, OnErr, MatchResult, IfOk, is_err};
 ghost use Rattle.std.specs.Io.{ReadsAtMost, WritesAtMost};
 ghost use Rattle.std.specs.Io.KnownBytes.{ReadConsumes, WriteAppends};
 ghost use Rattle.rm_base.specs.Count.{Rose, raised_by};
+ghost use Rattle.rm_base.specs.Outside.{counted_if, is_write_fault};
 
 use crate::outside::{Sink, SinkError, Source};
 use crate::want::Failed;
 use std::io::{Read, Write};
+use std::marker::Model;
 
 /// A source over a reader of std, as standard input. It tells no content.
 #[derive(Drop)]
@@ -15,8 +17,18 @@ pub struct StdSource<R> {
     taken: u64,
 }
 
+impl<R> Model for StdSource<R> {
+    ghost use Rattle.rm_base.specs.Outside.{Reader};
+
+    ghost Value = { Reader R };
+
+    ghost view = { λ s. record { reader = s.reader; faults = s.faults; taken = s.taken } };
+}
+
 impl<R> StdSource<R> {
-    pub fn new(reader: R) -> Self {
+    pub fn new(reader: R) -> Self
+        ensures { result ≡ record { reader = reader; faults = 0; taken = 0 } }
+    {
         StdSource {
             reader,
             faults: 0,
@@ -32,7 +44,15 @@ impl<R: Read> Source for StdSource<R> {
 
     ghost taken = { λ s. s.taken };
 
-    fn read(&mut self, buf: &mut [u8]) -> Result<usize, Failed> {
+    fn read(&mut self, buf: &mut [u8]) -> Result<usize, Failed>
+        ensures bound { ReadsAtMost result buf.new }
+        ensures counted { MatchResult result (λ n. self.new.taken ≡ raised_by self.old.taken n)
+            (λ _. self.new.taken ≡ self.old.taken) }
+        ensures never_falls { self.old.faults ≤ self.new.faults }
+        ensures failed { OnErr result (Rose self.old.faults self.new.faults) }
+        ensures faults { self.new.faults ≡ counted_if (is_err result) self.old.faults }
+        ensures reads { ReadConsumes (R.remaining self.old.reader) (R.remaining self.new.reader) result buf.new }
+    {
         match self.reader.read(buf) {
             Ok(count) => {
                 self.taken = self.taken.saturating_add(count as u64);
@@ -53,8 +73,18 @@ pub struct StdSink<W> {
     faults: u64,
 }
 
+impl<W> Model for StdSink<W> {
+    ghost use Rattle.rm_base.specs.Outside.{Writer};
+
+    ghost Value = { Writer W };
+
+    ghost view = { λ s. record { writer = s.writer; faults = s.faults } };
+}
+
 impl<W> StdSink<W> {
-    pub fn new(writer: W) -> Self {
+    pub fn new(writer: W) -> Self
+        ensures { result ≡ record { writer = writer; faults = 0 } }
+    {
         StdSink { writer, faults: 0 }
     }
 }
@@ -64,13 +94,16 @@ impl<W: Write> Sink for StdSink<W> {
 
     ghost faults = { λ s. s.faults };
 
+    ghost wants_memory = { false };
+
     fn write(&mut self, bytes: &[u8]) -> Result<usize, SinkError>
         ensures bound { WritesAtMost result bytes.now }
-        ensures moved { WriteAppends None None result bytes.now }
         ensures never_falls { self.old.faults ≤ self.new.faults }
         ensures failed { result ≡ Err SinkError.Failed → Rose self.old.faults self.new.faults }
         ensures nothing { result ≡ Ok 0 → 0 < length bytes.now → Rose self.old.faults self.new.faults }
         ensures never_memory { result ≢ Err SinkError.Memory }
+        ensures faults { self.new.faults ≡ counted_if (is_write_fault result bytes.now) self.old.faults }
+        ensures writes { WriteAppends (W.contents self.old.writer) (W.contents self.new.writer) result bytes.now }
     {
         match self.writer.write(bytes) {
             Ok(count) => {

@@ -1,7 +1,7 @@
-ghost use Rattle.std.specs.Prelude.{◌≡◌, ◌≢◌, ℕ, ◌≤◌, ◌+◌, ◌<◌, ◌^◌, ◌-◌, List, [], length, take, drop, IfOk, OnOk, IfSome, OnErr, Err};
-ghost use Rattle.std.specs.Io.KnownBytes.{Appends};
-ghost use Rattle.rm_base.specs.Count.{Rose, RoseBy};
-ghost use Rattle.rm_base.specs.Outside.{AppendsFront};
+ghost use Rattle.std.specs.Prelude.{◌≡◌, ◌≢◌, ℕ, ◌≤◌, ◌+◌, ◌<◌, ◌^◌, ◌-◌, List, [], length, take, drop, IfOk, OnOk, IfSome, OnErr, Err, true, false};
+ghost use Rattle.std.specs.Io.KnownBytes.{Appends, IsAtEnd};
+ghost use Rattle.rm_base.specs.Count.{Rose, RoseBy, raised_by};
+ghost use Rattle.rm_base.specs.Outside.{AppendsFront, ConsumesUpTo};
 ghost use Rattle.rm_base.specs.declared.whole.ReadError.TheVariants.{Memory as WantsMemory, Failed as ReadFails};
 
 use crate::blob::Blob;
@@ -43,13 +43,20 @@ const PIECE: usize = 4096;
 /// Reads a source to its end, where it has at most `limit` bytes. At most `limit + 1` bytes are taken from it.
 pub fn read_up_to<S: Source>(alloc: Global, input: &mut S, limit: usize) -> Result<Blob, ReadError>
     requires { limit < 2 ^ 62 }
+    ensures at_end { OnOk result (IsAtEnd (S.left input.new)) }
     ensures within { IfOk result (λ bytes. length bytes ≤ limit) }
     ensures whole { IfOk result (λ bytes. IfSome (S.left input.old) (λ left. bytes ≡ left)) }
     ensures too_long { result ≡ Err ReadError.TooLong → RoseBy (S.taken input.old) (S.taken input.new) (limit + 1) }
     ensures longer { result ≡ Err ReadError.TooLong → IfSome (S.left input.old) (λ left. limit < length left) }
     ensures taken { result ≢ Err ReadError.TooLong → result ≢ Err ReadError.Memory → S.taken input.new ≤ S.taken input.old + limit }
+    ensures all_taken { IfOk result (λ bytes. S.taken input.new ≡ raised_by (S.taken input.old) (length bytes)) }
+    ensures one_more { result ≡ Err ReadError.TooLong → S.taken input.new ≡ raised_by (S.taken input.old) (limit + 1) }
+    ensures stops { S.taken input.new ≤ S.taken input.old + (limit + 1) }
+    ensures front { ConsumesUpTo (S.left input.old) (S.left input.new) (limit + 1) }
     ensures failed { result ≡ Err ReadError.Failed → Rose (S.faults input.old) (S.faults input.new) }
     ensures never_falls { S.faults input.old ≤ S.faults input.new }
+    ensures sound { S.is_sound input.old ≡ true
+        → (S.is_sound input.new ≡ true) × (S.faults input.new ≡ S.faults input.old) }
 {
     let mut bytes = Blob::new(alloc);
     let mut piece = [0; PIECE];
@@ -69,7 +76,10 @@ pub fn write_all<K: Sink>(out: &mut K, bytes: &[u8]) -> Result<(), SinkError>
     ensures ok { OnOk result (Appends (K.held out.old) (K.held out.new) bytes.now) }
     ensures err { OnErr result (AppendsFront (K.held out.old) (K.held out.new) bytes.now) }
     ensures failed { result ≡ Err SinkError.Failed → Rose (K.faults out.old) (K.faults out.new) }
+    ensures memory { K.wants_memory ≡ false → result ≢ Err SinkError.Memory }
     ensures never_falls { K.faults out.old ≤ K.faults out.new }
+    ensures sound { K.is_sound out.old ≡ true
+        → (K.is_sound out.new ≡ true) × (K.faults out.new ≡ K.faults out.old) }
 {
     let mut written = 0;
     while written < bytes.len() {

@@ -1,9 +1,9 @@
-ghost use Rattle.std.specs.Prelude.{◌≡◌, ◌+◌, ◌≤◌, ◌<◌, [], None, false, length, drop, IfOk, IfErr, OnOk, OnErr};
+ghost use Rattle.std.specs.Prelude.{◌≡◌, ◌+◌, ◌≤◌, ◌<◌, [], None, false, length, drop, slice_get, IfOk, IfErr, OnOk, OnErr};
 ghost use Rattle.std.specs.List.{zip};
 ghost use Rattle.std.specs.Option.{option_copied};
 ghost use Rattle.rm_base.specs.Numbers.{IsRising, has_number, front_of, front_after};
 ghost use Rattle.rm_destination.specs.Incoming.{Receiving, numbers_of, with_message, inbox_of, numbered, phase_of, kind_of, took_of, after_take, IsTakeError};
-ghost use Rattle.rm_destination.specs.Kept.{IsKept};
+ghost use Rattle.rm_destination.specs.Kept.{IsKept, GoesAt};
 
 use crate::outcome::{DestError, InPhase, Took};
 use rm_base::{Behaviour, Memory, Numbers, Payload};
@@ -105,10 +105,13 @@ impl Incoming {
     pub fn inbox_item(&self, i: u64) -> Option<&Payload>
         ensures { option_copied result ≡ numbered (inbox_of self.now) i }
     {
-        if i == 0 || i > self.front as u64 {
+        if i == 0 {
             return None;
         }
-        self.payloads.get((i - 1) as usize)
+        if i > self.front as u64 {
+            return None;
+        }
+        payload_at(self.payloads.as_slice(), (i - 1) as usize)
     }
 
     /// What a message with this number is.
@@ -144,13 +147,21 @@ impl Incoming {
     }
 }
 
-/// Where a number that is none of these goes in.
+/// The payload at a place, counted from 0.
+fn payload_at(payloads: &[Payload], place: usize) -> Option<&Payload>
+    ensures { option_copied result ≡ slice_get payloads.now place }
+{
+    payloads.get(place)
+}
+
+/// Where a number goes in that is none of these rising ones.
 fn place_of(numbers: &[u64], number: u64) -> usize
-    requires { IsRising numbers.now }
-    ensures { result ≤ length numbers.now }
+    requires rising { IsRising numbers.now }
+    requires is_new { has_number numbers.now number ≡ false }
+    ensures { GoesAt numbers.now number result }
 {
     match numbers.binary_search(&number) {
-        Ok(place) => place,
+        Ok(_) => unreachable!(),
         Err(place) => place,
     }
 }

@@ -1,5 +1,5 @@
 -- The source's side of one sequence: WS-ReliableMessaging 1.2, sections 3.7 and 3.9.
-use Rattle.std.specs.Prelude.{◌≡◌, ℕ, ◌-◌, ◌≤◌, nat_le, nat_lt, if◌then◌else◌, List, length, Option, Some, None}
+use Rattle.std.specs.Prelude.{ℕ, ◌-◌, nat_le, nat_lt, if◌then◌else◌, List, length, Option, Some, None}
 use Rattle.std.specs.Option.{option_or}
 use Rattle.rm_base.specs.Numbers.{greatest_of}
 use Rattle.rm_source.specs.declared.phase.OutPhase.{OutPhase}

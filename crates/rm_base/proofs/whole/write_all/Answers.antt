@@ -1,4 +1,4 @@
-use Rattle.std.proofs.Common.{arith}
+use Rattle.std.proofs.Common.{arith, ◌∙◌}
 use Rattle.rm_base.proofs.KnownBytes.{Appends-take}
 use Rattle.rm_base.proofs.whole.write_all.Goals as goal
 
@@ -11,4 +11,6 @@ loop-written-preserved g c =
       held = Appends-take (held c.args.out.now) (held c.loop-written.out) (held c.write.new.self) c.args.bytes.now
           c.loop-written.written c.in_ok-count.count c.loop-written.invariant.held moved;
       faults = omega (arith, c.loop-written.invariant.faults, c.write.ensures.never_falls);
+      sound = λ is_sound. let before = c.loop-written.invariant.sound is_sound in
+          let after = c.write.ensures.sound before.0 in (after.0, after.1 ∙ before.1);
     }

@@ -1,4 +1,4 @@
-use Rattle.std.proofs.Common.{◌≤◌, ◌<◌, length, arith}
+use Rattle.std.proofs.Common.{◌≤◌, length, arith}
 use Rattle.rm_base.specs.Numbers.{greatest_of}
 use Rattle.rm_source.proofs.AckedLemmas.{greatest_of-united}
 use Rattle.rm_source.proofs.outgoing.Outgoing.learn.Goals as goal
@@ -7,4 +7,4 @@ pub invariant_of-self-2 : goal.invariant_of-self-2
 invariant_of-self-2 c =
     let within : greatest_of c.args.given.now ≤ length c.self.inside.accepted = omega (arith, c.greatest-number.ensures) in
     rw c.in_ok-unite.ensures.ok
-      (greatest_of-united c.self.inside.acked c.args.given.now (length c.self.inside.accepted) c.self.invariant within)
+    (greatest_of-united c.self.inside.acked c.args.given.now (length c.self.inside.accepted) c.self.invariant within)

@@ -1,0 +1,4 @@
+pub mod ListLemmas
+pub mod NumberLemmas
+pub mod ReleaseLemmas
+pub mod SoundLemmas
