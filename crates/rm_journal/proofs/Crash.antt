@@ -1,0 +1,1 @@
+-- What a crash leaves while an entry is added.
