@@ -15,9 +15,13 @@ head = codes "WSRMJNL1"
 abbrev pub block : List ℕ → List ℕ
 block entry = 1 ∷ (to_be_bytes w32 (length entry) ++ entry)
 
+-- each entry is short enough
+abbrev pub AllFit : List (List ℕ) → Type 0
+AllFit entries = All (λ entry. length entry ≤ longest) entries
+
 -- the blocks of these entries and a gate that isn't open; what follows that means nothing
 pub record EndsBlocks (entries : List (List ℕ)) (bytes : List ℕ) : Type 0 where
-  pub fit : All (λ entry. length entry ≤ longest) entries
+  pub fit : AllFit entries
   pub gate : ℕ
   pub behind : List ℕ
   pub closed : gate ≢ 1

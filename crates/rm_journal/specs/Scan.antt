@@ -1,8 +1,8 @@
 -- The calls that write a block, and what is found at a gate.
-use Rattle.std.specs.Prelude.{◌≡◌, ◌⊎◌, ◌≤◌, ℕ, ◌+◌, Bool, true, false, List, [], ◌∷◌, ◌++◌, length, drop, All}
+use Rattle.std.specs.Prelude.{◌≡◌, ◌⊎◌, ◌≤◌, ℕ, ◌+◌, Bool, true, false, List, [], ◌∷◌, ◌++◌, length, drop}
 use Rattle.std.specs.List.{flat_map}
 use Rattle.rm_disk.specs.Call.{Call, Wrote, WriteFailed, Synced, SyncFailed}
-use Rattle.rm_journal.specs.Entries.{longest, head, block, EndsBlocks, gates_from}
+use Rattle.rm_journal.specs.Entries.{longest, head, block, AllFit, EndsBlocks, gates_from}
 use Rattle.rm_journal.specs.declared.scan.Found.{Found}
 use Rattle.rm_journal.specs.declared.scan.Found.TheVariants.{End, Entry, Bad}
 
@@ -43,4 +43,4 @@ pub record IsWalked (bytes : List ℕ) (found : List ℕ) (place : ℕ) (rest : 
   pub at : place ≡ length head + length (flat_map block entries)
   pub size : place + length rest ≡ length bytes
   pub is : bytes ≡ head ++ flat_map block entries ++ rest
-  pub fit : All (λ entry. length entry ≤ longest) entries
+  pub fit : AllFit entries

@@ -1,5 +1,6 @@
 // The walk over the gates of a journal that is read.
-ghost use Rattle.std.specs.Prelude.{◌≡◌, ◌⊎◌, ℕ, List, length, Err, IfOk, IfErr};
+ghost use Rattle.std.specs.Prelude.{◌≡◌, ◌⊎◌, ◌↔◌, ℕ, List, length, Err, IsTrue, IfOk, IfErr};
+ghost use Rattle.std.specs.Int.{w32, to_be_bytes};
 ghost use Rattle.rm_journal.specs.Entries.{StandsFor, gates_from};
 ghost use Rattle.rm_journal.specs.Scan.{IsFound};
 ghost use Rattle.rm_journal.specs.declared.error.JournalError.TheVariants.{Memory as WantsMemory, NotAJournal};
@@ -21,22 +22,42 @@ pub enum Found {
     Bad,
 }
 
+/// Whether a gate is open.
+pub fn is_open(gate: u8) -> bool
+    ensures { IsTrue result ↔ (gate ≡ 1) }
+{
+    gate == 1
+}
+
+/// The number that four bytes stand for, the first byte highest.
+pub fn number(bytes: &[u8]) -> u32
+    requires { length bytes.now ≡ 4 }
+    ensures { to_be_bytes w32 result ≡ bytes.now }
+{
+    u32::from_be_bytes([bytes[0], bytes[1], bytes[2], bytes[3]])
+}
+
 /// What stands at the gate that comes first.
 pub fn look(rest: &[u8]) -> Found
     ensures { IsFound result rest.now }
 {
-    match rest {
-        [] => Found::Bad,
-        [1, a, b, c, d, after @ ..] => {
-            let len = u32::from_be_bytes([*a, *b, *c, *d]) as usize;
-            if len > LONGEST || len > after.len() {
-                return Found::Bad;
-            }
-            Found::Entry(len)
-        }
-        [1, ..] => Found::Bad,
-        _ => Found::End,
+    if rest.is_empty() {
+        return Found::Bad;
     }
+    if !is_open(rest[0]) {
+        return Found::End;
+    }
+    if rest.len() < 5 {
+        return Found::Bad;
+    }
+    let len = number(&rest[1..5]) as usize;
+    if len > LONGEST {
+        return Found::Bad;
+    }
+    if len > rest.len() - 5 {
+        return Found::Bad;
+    }
+    Found::Entry(len)
 }
 
 /// The place of the gate behind each entry.
