@@ -1,1 +1,148 @@
--- What a crash leaves while an entry is added.
+-- What a crash leaves while an entry is added. Each image of the disk stands for the old entries before the first
+-- call; so what it may hold from the gate on can be exchanged, and a block torn there leaves the same entries.
+use Rattle.std.proofs.Common.{◌≡◌, ◌≢◌, ◌⊎◌, ℕ, zero, suc, ◌+◌, ◌-◌, ◌<◌, ◌≤◌, max, Bool, true, false, ◌||◌, nat_le, List, [], ◌∷◌, ◌++◌, length, take, drop, slice_index, refl, sym, ◌∙◌, ap, subst, inl, inr, arith, append_assoc, length-append, length-take, length-drop, take-append-drop}
+use Rattle.std.specs.List.{flat_map}
+use Rattle.std.proofs.lemmas.Bool.{cases_lt, cases_eq, lt-leb}
+use Rattle.std.proofs.lemmas.List.Folds.{list_any-append}
+use Rattle.std.specs.Int.{w32, to_be_bytes}
+use Rattle.std.proofs.lemmas.List.{ext_get_or, take_at, drop_at, get_or-take, get_or-drop, get_or_append_left, get_or-append_right}
+use Rattle.rm_disk.specs.Call.{Call, is_within, Wrote, WriteFailed, Synced, SyncFailed, State, is_free, is_written, overwritten, state, seen_of, settled, filled, left_by}
+use Rattle.rm_disk.specs.Image.{IsImage, MayLeave, OnlyLeaves}
+use Rattle.rm_disk.proofs.Images.{not_free, reads_as_image, crash_leaves_image, settled_only, only_from, only_more}
+use Rattle.rm_disk.proofs.Ranges.{within_before}
+use Rattle.rm_disk.proofs.States.{length-filled}
+use Rattle.rm_journal.specs.Entries.{longest, head, block, AllFit, EndsBlocks, StandsFor, StandsForEither}
+use Rattle.rm_journal.proofs.Blocks.{blocks-push}
+
+-- the bytes before the gate at which a list ends
+pub front : List (List ℕ) → List ℕ
+front entries = head ++ flat_map block entries
+
+-- bytes that begin with the front and a gate that isn't open
+pub record HasFront (entries : List (List ℕ)) (bytes : List ℕ) : Type 0 where
+  pub gate : ℕ
+  pub behind : List ℕ
+  pub closed : gate ≢ 1
+  pub is : bytes ≡ front entries ++ gate ∷ behind
+
+pub front_of : (entries : List (List ℕ)) (bytes : List ℕ) → StandsFor entries bytes → HasFront entries bytes
+unfolding front
+front_of entries bytes stands = record {
+  gate = stands.ends.gate;
+  behind = stands.ends.behind;
+  closed = stands.ends.closed;
+  is =
+      stands.is
+      ∙ ap (λ (l : List ℕ). head ++ l) stands.ends.is
+      ∙ sym (append_assoc head (flat_map block entries) (stands.ends.gate ∷ stands.ends.behind));
+}
+
+pub stands_by : (entries : List (List ℕ)) (bytes : List ℕ) → AllFit entries → HasFront entries bytes → StandsFor entries bytes
+unfolding front
+stands_by entries bytes fit has = record {
+  rest = flat_map block entries ++ has.gate ∷ has.behind;
+  is = has.is ∙ append_assoc head (flat_map block entries) (has.gate ∷ has.behind);
+  ends = record { fit = fit; gate = has.gate; behind = has.behind; closed = has.closed; is = refl };
+}
+
+pub length-front : (entries : List (List ℕ)) → length (front entries) ≡ 8 + length (flat_map block entries)
+unfolding front
+length-front entries = omega (arith, length-append head (flat_map block entries))
+
+front_and_gate : (entries : List (List ℕ)) (gate : ℕ) → length (front entries ++ gate ∷ []) ≡ length (front entries) + 1
+front_and_gate entries gate = length-append (front entries) (gate ∷ [])
+
+-- An open gate and the body of an entry behind the front are the front with that entry.
+front-push : (entries : List (List ℕ)) (entry rest : List ℕ) → front entries ++ 1 ∷ ((to_be_bytes w32 (length entry) ++ entry ++ 0 ∷ []) ++ rest) ≡ front (entries ++ entry ∷ []) ++ 0 ∷ rest
+unfolding front
+front-push entries entry rest =
+    let number = to_be_bytes w32 (length entry) in
+    let blocks = flat_map block entries in
+    ap (λ (l : List ℕ). (head ++ blocks) ++ 1 ∷ l) (append_assoc (number ++ entry) (0 ∷ []) rest)
+    ∙ sym (append_assoc (head ++ blocks) (block entry) (0 ∷ rest))
+    ∙ ap (λ (l : List ℕ). l ++ 0 ∷ rest) (append_assoc head blocks (block entry) ∙ ap (λ (l : List ℕ). head ++ l) (sym (blocks-push entries entry)))
+
+-- the place where two lists differ alone
+other_places : (before behind : List ℕ) (x y i : ℕ) → i ≢ length before → slice_index (before ++ x ∷ behind) i ≡ slice_index (before ++ y ∷ behind) i
+other_places [] behind x y zero other = absurd (other refl)
+other_places [] behind x y (suc i) other = refl
+other_places (b ∷ before) behind x y zero other = refl
+other_places (b ∷ before) behind x y (suc i) other = other_places before behind x y i λ e. other (ap suc e)
+
+-- The first places of a state are as those of another: no more of them are free, and they read the same.
+record SameUpTo (n : ℕ) (s t : State) : Type 0 where
+  low : t.low ≡ s.low
+  free : (i : ℕ) → i < n → is_free s i ≡ false → is_free t i ≡ false
+  seen : (i : ℕ) → i < n → slice_index t.seen i ≡ slice_index s.seen i
+
+-- one range more doesn't make a place before it free
+still_kept : (s t : State) (at count i : ℕ) → t.low ≡ s.low → t.written ≡ s.written ++ (at, count) ∷ [] → i < at → is_free s i ≡ false → is_free t i ≡ false
+still_kept s t at count i low written before kept =
+    let parts = not_free s i kept in
+    ap (λ (n : ℕ). nat_le n i || is_written t.written i) low
+    ∙ ap (λ (r : List (ℕ × ℕ)). nat_le s.low i || is_written r i) written
+    ∙ ap (λ (b : Bool). nat_le s.low i || b) (list_any-append (is_within i) s.written ((at, count) ∷ []))
+    ∙ ap (λ (b : Bool). nat_le s.low i || (is_written s.written i || (b || false))) (within_before i at count before)
+    ∙ ap (λ (b : Bool). b || (is_written s.written i || false)) (lt-leb s.low i parts.0)
+    ∙ ap (λ (b : Bool). b || false) parts.1
+
+module _ (past : List Call) (entries : List (List ℕ)) (images : (bytes : List ℕ) → MayLeave past bytes → StandsFor entries bytes) where
+  now : State
+  now = state past
+
+  n : ℕ
+  n = length (front entries) + 1
+
+  reads : HasFront entries (seen_of past)
+  reads = front_of entries (seen_of past) (images (seen_of past) (reads_as_image past))
+
+  -- the front and the gate stand in the smallest image
+  low_enough : n ≤ (state past).low
+  unfolding n
+  low_enough =
+      let least = front_of entries _ (images (left_by 3 (state past)) (crash_leaves_image past 3)) in
+      omega (arith, length-filled (state past) 0 (state past).low, ap length least.is, length-append (front entries) (least.gate ∷ least.behind))
+
+  long_enough : n ≤ length (seen_of past)
+  long_enough = omega (arith, low_enough, (reads_as_image past).no_shorter)
+
+  -- What is the same up to the gate stands for the same entries, whatever is behind it.
+  torn_behind : (t : State) → SameUpTo n (state past) t → (bytes : List ℕ) → IsImage t bytes → StandsFor entries bytes
+  torn_behind t same bytes image =
+      let seen = seen_of past in
+      let is = reads_as_image past in
+      let long : n ≤ length bytes = omega (arith, low_enough, image.no_shorter, same.low) in
+      let cut : length (take n bytes) ≡ n = omega (arith, length-take n bytes, long) in
+      let spliced = take n bytes ++ drop n seen in
+      let size : length spliced ≡ length seen =
+        omega (arith, length-append (take n bytes) (drop n seen), cut, length-drop n seen, long_enough) in
+      let old : IsImage (state past) spliced = record {
+        no_shorter = omega (arith, size, is.no_shorter);
+        no_longer = omega (arith, size, is.no_longer);
+        same = λ i low kept. elim (cases_lt i n) [
+          | inl before ↦
+              get_or_append_left (take n bytes) (drop n seen) 0 i (omega (arith, cut))
+              ∙ get_or-take n bytes i 0 before
+              ∙ image.same i (omega (arith, long)) (same.free i before kept)
+              ∙ same.seen i before
+          | inr behind ↦
+              get_or-append_right (take n bytes) (drop n seen) n i 0 cut behind
+              ∙ get_or-drop n seen (i - n) 0
+              ∙ ap (λ (k : ℕ). slice_index seen k) {y = i} (omega arith)
+        ];
+      } in
+      let stands = images spliced old in
+      let has = front_of entries spliced stands in
+      let first : take n bytes ≡ front entries ++ has.gate ∷ [] =
+        sym (take_at (take n bytes) (drop n seen) n cut)
+        ∙ ap (λ (l : List ℕ). take n l) (has.is ∙ sym (append_assoc (front entries) (has.gate ∷ []) has.behind))
+        ∙ take_at (front entries ++ has.gate ∷ []) has.behind n (front_and_gate entries has.gate) in
+      stands_by entries bytes stands.ends.fit (record {
+        gate = has.gate;
+        behind = drop n bytes;
+        closed = has.closed;
+        is =
+            sym (take-append-drop n bytes)
+            ∙ ap (λ (l : List ℕ). l ++ drop n bytes) first
+            ∙ append_assoc (front entries) (has.gate ∷ []) (drop n bytes);
+      })
