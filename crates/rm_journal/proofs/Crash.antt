@@ -5,17 +5,18 @@ use Rattle.std.specs.List.{flat_map}
 use Rattle.std.proofs.lemmas.Bool.{cases_lt, cases_eq, lt-leb}
 use Rattle.std.proofs.lemmas.List.Folds.{list_any-append}
 use Rattle.std.specs.Int.{w32, to_be_bytes}
+use Rattle.std.proofs.Math.Seq.{get_or-append_seam}
 use Rattle.std.proofs.lemmas.List.{ext_get_or, take_at, drop_at, get_or-take, get_or-drop, get_or_append_left, get_or-append_right}
-use Rattle.rm_disk.specs.Call.{Call, is_within, Wrote, WriteFailed, Synced, SyncFailed, State, is_free, is_written, overwritten, state, seen_of, settled, filled, left_by}
+use Rattle.rm_disk.specs.Call.{Call, is_within, Wrote, WriteFailed, Synced, SyncFailed, State, is_free, is_written, overwritten, after, state, seen_of, settled, filled, left_by}
 use Rattle.rm_disk.specs.Image.{IsImage, MayLeave, OnlyLeaves}
 use Rattle.rm_disk.proofs.Images.{not_free, reads_as_image, crash_leaves_image, settled_only, only_from, only_more}
-use Rattle.rm_disk.proofs.Ranges.{within_before}
+use Rattle.rm_disk.proofs.Ranges.{within_before, within_behind, overwritten-outside}
 use Rattle.rm_disk.proofs.States.{length-filled}
 use Rattle.rm_journal.specs.Entries.{longest, head, block, AllFit, EndsBlocks, StandsFor, StandsForEither}
 use Rattle.rm_journal.proofs.Blocks.{blocks-push}
 
 -- the bytes before the gate at which a list ends
-pub front : List (List ℕ) → List ℕ
+abbrev pub front : List (List ℕ) → List ℕ
 front entries = head ++ flat_map block entries
 
 -- bytes that begin with the front and a gate that isn't open
@@ -26,7 +27,6 @@ pub record HasFront (entries : List (List ℕ)) (bytes : List ℕ) : Type 0 wher
   pub is : bytes ≡ front entries ++ gate ∷ behind
 
 pub front_of : (entries : List (List ℕ)) (bytes : List ℕ) → StandsFor entries bytes → HasFront entries bytes
-unfolding front
 front_of entries bytes stands = record {
   gate = stands.ends.gate;
   behind = stands.ends.behind;
@@ -38,7 +38,6 @@ front_of entries bytes stands = record {
 }
 
 pub stands_by : (entries : List (List ℕ)) (bytes : List ℕ) → AllFit entries → HasFront entries bytes → StandsFor entries bytes
-unfolding front
 stands_by entries bytes fit has = record {
   rest = flat_map block entries ++ has.gate ∷ has.behind;
   is = has.is ∙ append_assoc head (flat_map block entries) (has.gate ∷ has.behind);
@@ -46,7 +45,6 @@ stands_by entries bytes fit has = record {
 }
 
 pub length-front : (entries : List (List ℕ)) → length (front entries) ≡ 8 + length (flat_map block entries)
-unfolding front
 length-front entries = omega (arith, length-append head (flat_map block entries))
 
 front_and_gate : (entries : List (List ℕ)) (gate : ℕ) → length (front entries ++ gate ∷ []) ≡ length (front entries) + 1
@@ -54,7 +52,6 @@ front_and_gate entries gate = length-append (front entries) (gate ∷ [])
 
 -- An open gate and the body of an entry behind the front are the front with that entry.
 front-push : (entries : List (List ℕ)) (entry rest : List ℕ) → front entries ++ 1 ∷ ((to_be_bytes w32 (length entry) ++ entry ++ 0 ∷ []) ++ rest) ≡ front (entries ++ entry ∷ []) ++ 0 ∷ rest
-unfolding front
 front-push entries entry rest =
     let number = to_be_bytes w32 (length entry) in
     let blocks = flat_map block entries in
@@ -86,10 +83,70 @@ still_kept s t at count i low written before kept =
     ∙ ap (λ (b : Bool). b || (is_written s.written i || false)) (lt-leb s.low i parts.0)
     ∙ ap (λ (b : Bool). b || false) parts.1
 
-module _ (past : List Call) (entries : List (List ℕ)) (images : (bytes : List ℕ) → MayLeave past bytes → StandsFor entries bytes) where
-  now : State
-  now = state past
+-- the bytes with the gate written over
+gate_over : (before : List ℕ) (gate : ℕ) (behind : List ℕ) (x : ℕ) → overwritten (before ++ gate ∷ behind) (length before) (x ∷ []) ≡ before ++ x ∷ behind
+gate_over before gate behind x =
+    ap (λ (l : List ℕ). l ++ (x ∷ []) ++ drop (length before + 1) (before ++ gate ∷ behind)) (take_at before (gate ∷ behind) (length before) refl)
+    ∙ ap (λ (l : List ℕ). before ++ (x ∷ []) ++ l) (
+      ap (λ (l : List ℕ). drop (length before + 1) l) (sym (append_assoc before (gate ∷ []) behind))
+      ∙ drop_at (before ++ gate ∷ []) behind (length before + 1) (length-append before (gate ∷ [])))
+    ∙ append_assoc before (x ∷ []) behind
 
+-- A state whose bytes are settled but for the gate: an image has any byte there, and the others as they are.
+record SameButGate (before : List ℕ) (gate : ℕ) (behind : List ℕ) (t : State) : Type 0 where
+  low : t.low ≡ length (before ++ gate ∷ behind)
+  high : t.high ≡ length (before ++ gate ∷ behind)
+  free : (i : ℕ) → i < length (before ++ gate ∷ behind) → i ≢ length before → is_free t i ≡ false
+  seen : (i : ℕ) → i ≢ length before → slice_index t.seen i ≡ slice_index (before ++ gate ∷ behind) i
+
+torn_gate : (before : List ℕ) (gate : ℕ) (behind : List ℕ) (t : State) → SameButGate before gate behind t → (bytes : List ℕ) → IsImage t bytes → bytes ≡ before ++ slice_index bytes (length before) ∷ behind
+torn_gate before gate behind t same bytes image =
+    let x = slice_index bytes (length before) in
+    let long : length (before ++ x ∷ behind) ≡ length (before ++ gate ∷ behind) =
+      length-append before (x ∷ behind) ∙ sym (length-append before (gate ∷ behind)) in
+    let size : length bytes ≡ length (before ++ x ∷ behind) = omega (arith, long, image.no_shorter, image.no_longer, same.low, same.high) in
+    ext_get_or 0 bytes (before ++ x ∷ behind) size λ i low. elim (cases_eq i (length before)) [
+      | inl here ↦ ap (λ (k : ℕ). slice_index bytes k) here ∙ sym (ap (λ (k : ℕ). slice_index (before ++ x ∷ behind) k) here ∙ get_or-append_seam before x behind 0)
+      | inr other ↦
+          image.same i low (same.free i (omega (arith, size, long, low)) other)
+          ∙ same.seen i other
+          ∙ other_places before behind gate x i other
+    ]
+
+-- the only place of a range of one byte
+within_gate : (i gate : ℕ) → i ≢ gate → is_within i (gate, 1) ≡ false
+within_gate i gate other = elim (cases_lt i gate) [
+    | inl before ↦ within_before i gate 1 before
+    | inr from ↦ within_behind i gate 1 (omega (arith, from, other))
+  ]
+
+-- settled bytes with the gate written over, or with a write there that failed
+gate_wrote : (before : List ℕ) (gate : ℕ) (behind : List ℕ) (past : List Call) → state past ≡ settled (before ++ gate ∷ behind) → (x : ℕ) → SameButGate before gate behind (state (Wrote (length before) (x ∷ []) ∷ past))
+gate_wrote before gate behind past is x =
+    let bytes = before ++ gate ∷ behind in
+    let size : length bytes ≡ length before + suc (length behind) = length-append before (gate ∷ behind) in
+    subst (λ s. SameButGate before gate behind (after (Wrote (length before) (x ∷ [])) s)) (sym is) (record {
+      low = refl;
+      high = omega (arith, size);
+      free = λ i low other. ap (λ (b : Bool). b || (is_within i (length before, 1) || false)) (lt-leb (length bytes) i low) ∙ ap (λ (b : Bool). b || false) (within_gate i (length before) other);
+      seen = λ i other. written_over before gate behind x i other;
+    })
+  where
+    written_over : (before : List ℕ) (gate : ℕ) (behind : List ℕ) (x i : ℕ) → i ≢ length before → slice_index (overwritten (before ++ gate ∷ behind) (length before) (x ∷ [])) i ≡ slice_index (before ++ gate ∷ behind) i
+    written_over before gate behind x i other = ap (λ (l : List ℕ). slice_index l i) (gate_over before gate behind x) ∙ other_places before behind x gate i other
+
+gate_failed : (before : List ℕ) (gate : ℕ) (behind : List ℕ) (past : List Call) → state past ≡ settled (before ++ gate ∷ behind) → SameButGate before gate behind (state (WriteFailed (length before) 1 ∷ past))
+gate_failed before gate behind past is =
+    let bytes = before ++ gate ∷ behind in
+    let size : length bytes ≡ length before + suc (length behind) = length-append before (gate ∷ behind) in
+    subst (λ s. SameButGate before gate behind (after (WriteFailed (length before) 1) s)) (sym is) (record {
+      low = refl;
+      high = omega (arith, size);
+      free = λ i low other. ap (λ (b : Bool). b || (is_within i (length before, 1) || false)) (lt-leb (length bytes) i low) ∙ ap (λ (b : Bool). b || false) (within_gate i (length before) other);
+      seen = λ i other. refl;
+    })
+
+module _ (past : List Call) (entries : List (List ℕ)) (images : (bytes : List ℕ) → MayLeave past bytes → StandsFor entries bytes) where
   n : ℕ
   n = length (front entries) + 1
 
@@ -108,6 +165,7 @@ module _ (past : List Call) (entries : List (List ℕ)) (images : (bytes : List 
 
   -- What is the same up to the gate stands for the same entries, whatever is behind it.
   torn_behind : (t : State) → SameUpTo n (state past) t → (bytes : List ℕ) → IsImage t bytes → StandsFor entries bytes
+  unfolding n
   torn_behind t same bytes image =
       let seen = seen_of past in
       let is = reads_as_image past in
@@ -146,3 +204,30 @@ module _ (past : List Call) (entries : List (List ℕ)) (images : (bytes : List 
             ∙ ap (λ (l : List ℕ). l ++ drop n bytes) first
             ∙ append_assoc (front entries) (has.gate ∷ []) (drop n bytes);
       })
+
+  -- a block that is torn behind the gate
+  behind_wrote : (body : List ℕ) → SameUpTo n (state past) (state (Wrote n body ∷ past))
+  behind_wrote body = record {
+    low = refl;
+    free = λ i before kept. still_kept (state past) (state (Wrote n body ∷ past)) n (length body) i refl refl before kept;
+    seen = λ i before. overwritten-outside (seen_of past) n body i (omega (arith, long_enough)) (within_before i n (length body) before);
+  }
+
+  behind_failed : (count : ℕ) → SameUpTo n (state past) (state (WriteFailed n count ∷ past))
+  behind_failed count = record {
+    low = refl;
+    free = λ i before kept. still_kept (state past) (state (WriteFailed n count ∷ past)) n count i refl refl before kept;
+    seen = λ i before. refl;
+  }
+
+  -- the bytes once the block stands behind the closed gate
+  body_there : (body : List ℕ) → seen_of (Wrote n body ∷ past) ≡ front entries ++ reads.gate ∷ (body ++ drop (n + length body) (seen_of past))
+  unfolding n
+  body_there body =
+      let rest = drop (n + length body) (seen_of past) in
+      let first : take n (seen_of past) ≡ front entries ++ reads.gate ∷ [] =
+        ap (λ (l : List ℕ). take n l) (reads.is ∙ sym (append_assoc (front entries) (reads.gate ∷ []) reads.behind))
+        ∙ take_at (front entries ++ reads.gate ∷ []) reads.behind n (front_and_gate entries reads.gate) in
+      ap (λ (l : List ℕ). l ++ body ++ rest) first
+      ∙ ap (λ (l : List ℕ). l ++ rest) (append_assoc (front entries) (reads.gate ∷ []) body)
+      ∙ append_assoc (front entries) (reads.gate ∷ body) rest

@@ -1,3 +1,4 @@
+use Rattle.rm_journal.proofs.Crash.{front}
 use Rattle.rm_journal.proofs.Blocks.{stands_for_one}
 use Rattle.rm_journal.proofs.laws.bytes_stand_for_one_list.Goals as goal
 
