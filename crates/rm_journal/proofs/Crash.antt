@@ -9,11 +9,12 @@ use Rattle.std.proofs.Math.Seq.{get_or-append_seam}
 use Rattle.std.proofs.lemmas.List.{ext_get_or, take_at, drop_at, get_or-take, get_or-drop, get_or_append_left, get_or-append_right}
 use Rattle.rm_disk.specs.Call.{Call, is_within, Wrote, WriteFailed, Synced, SyncFailed, State, is_free, is_written, overwritten, after, state, seen_of, settled, filled, left_by}
 use Rattle.rm_disk.specs.Image.{IsImage, MayLeave, OnlyLeaves}
-use Rattle.rm_disk.proofs.Images.{not_free, reads_as_image, crash_leaves_image, settled_only, only_from, only_more}
+use Rattle.rm_disk.proofs.Images.{not_free, reads_as_image, crash_leaves_image, settled_only, synced_only, only_from, only_more}
 use Rattle.rm_disk.proofs.Ranges.{within_before, within_behind, overwritten-outside}
 use Rattle.rm_disk.proofs.States.{length-filled}
 use Rattle.rm_journal.specs.Entries.{longest, head, block, AllFit, EndsBlocks, StandsFor, StandsForEither}
-use Rattle.rm_journal.proofs.Blocks.{blocks-push}
+use Rattle.rm_journal.proofs.Blocks.{blocks-push, fit_push}
+use Rattle.rm_journal.specs.Scan.{WritesBlock}
 
 -- the bytes before the gate at which a list ends
 abbrev pub front : List (List ℕ) → List ℕ
@@ -231,3 +232,114 @@ module _ (past : List Call) (entries : List (List ℕ)) (images : (bytes : List 
       ap (λ (l : List ℕ). l ++ body ++ rest) first
       ∙ ap (λ (l : List ℕ). l ++ rest) (append_assoc (front entries) (reads.gate ∷ []) body)
       ∙ append_assoc (front entries) (reads.gate ∷ body) rest
+
+  module _ (entry : List ℕ) (short : length entry ≤ longest) where
+    body : List ℕ
+    body = to_be_bytes w32 (length entry) ++ entry ++ 0 ∷ []
+
+    rest : List ℕ
+    rest = body ++ drop (n + length body) (seen_of past)
+
+    end : ℕ
+    end = length (front entries)
+
+    fit : AllFit entries
+    fit = (images (seen_of past) (reads_as_image past)).ends.fit
+
+    -- whatever byte the gate is, the list is the old one or the new one
+    with_entry : StandsFor (entries ++ entry ∷ []) (front entries ++ 1 ∷ rest)
+    unfolding rest body
+    with_entry = stands_by (entries ++ entry ∷ []) (front entries ++ 1 ∷ rest) (fit_push entries entry short fit) (record {
+        gate = 0;
+        behind = drop (n + length body) (seen_of past);
+        closed = λ e. omega (arith, e);
+        is = front-push entries entry (drop (n + length body) (seen_of past));
+      })
+
+    either : (x : ℕ) → StandsForEither entries entry (front entries ++ x ∷ rest)
+    either x = elim (cases_eq x 1) [
+        | inl opens ↦ inr (subst (λ (y : ℕ). StandsFor (entries ++ entry ∷ []) (front entries ++ y ∷ rest)) (sym opens) with_entry)
+        | inr closed ↦ inl (stands_by entries (front entries ++ x ∷ rest) fit (record { gate = x; behind = rest; closed = closed; is = refl }))
+      ]
+
+    there : state (Synced ∷ Wrote n body ∷ past) ≡ settled (front entries ++ reads.gate ∷ rest)
+    unfolding rest
+    there = ap settled (body_there body)
+
+    P : List ℕ → Type 0
+    P = StandsForEither entries entry
+
+    start : OnlyLeaves past past P
+    unfolding P
+    start = only_from past P λ bytes may. inl (images bytes may)
+
+    first_failed : OnlyLeaves past (WriteFailed n (length body) ∷ past) P
+    unfolding P
+    first_failed = only_more past past _ P start λ bytes may. inl (torn_behind _ (behind_failed (length body)) bytes may)
+
+    first : OnlyLeaves past (Wrote n body ∷ past) P
+    unfolding P
+    first = only_more past past _ P start λ bytes may. inl (torn_behind _ (behind_wrote body) bytes may)
+
+    first_unsynced : OnlyLeaves past (SyncFailed ∷ Wrote n body ∷ past) P
+    unfolding P
+    first_unsynced = only_more past _ SyncFailed P first λ bytes may. inl (torn_behind _ (behind_wrote body) bytes may)
+
+    staged_only : OnlyLeaves past (Synced ∷ Wrote n body ∷ past) P
+    unfolding P
+    staged_only = only_more past _ Synced P first λ bytes may.
+      subst P (sym (settled_only (front entries ++ reads.gate ∷ rest) bytes (subst (λ s. IsImage s bytes) there may))) (either reads.gate)
+
+    second_failed : OnlyLeaves past (WriteFailed end 1 ∷ Synced ∷ Wrote n body ∷ past) P
+    unfolding P end
+    second_failed = only_more past _ _ P staged_only λ bytes may.
+      subst P (sym (torn_gate (front entries) reads.gate rest _ (gate_failed (front entries) reads.gate rest (Synced ∷ Wrote n body ∷ past) there) bytes may)) (either _)
+
+    second_bytes : (bytes : List ℕ) → MayLeave (Wrote end (1 ∷ []) ∷ Synced ∷ Wrote n body ∷ past) bytes → P bytes
+    unfolding P end
+    second_bytes bytes may =
+        subst P (sym (torn_gate (front entries) reads.gate rest _ (gate_wrote (front entries) reads.gate rest (Synced ∷ Wrote n body ∷ past) there 1) bytes may)) (either _)
+
+    second : OnlyLeaves past (Wrote end (1 ∷ []) ∷ Synced ∷ Wrote n body ∷ past) P
+    second = only_more past _ _ P staged_only second_bytes
+
+    second_unsynced : OnlyLeaves past (SyncFailed ∷ Wrote end (1 ∷ []) ∷ Synced ∷ Wrote n body ∷ past) P
+    second_unsynced = only_more past _ SyncFailed P second second_bytes
+
+    -- once all is synced, the entry is there
+    all_there : (bytes : List ℕ) → MayLeave (Synced ∷ Wrote end (1 ∷ []) ∷ Synced ∷ Wrote n body ∷ past) bytes → StandsFor (entries ++ entry ∷ []) bytes
+    unfolding end
+    all_there bytes may =
+        let is = synced_only (Wrote (length (front entries)) (1 ∷ []) ∷ Synced ∷ Wrote n body ∷ past) bytes may in
+        let over = ap (λ s. overwritten s.seen (length (front entries)) (1 ∷ [])) there ∙ gate_over (front entries) reads.gate rest 1 in
+        subst (StandsFor (entries ++ entry ∷ [])) (sym (is ∙ over)) with_entry
+
+    all_only : OnlyLeaves past (Synced ∷ Wrote end (1 ∷ []) ∷ Synced ∷ Wrote n body ∷ past) P
+    unfolding P
+    all_only = only_more past _ Synced P second λ bytes may. inr (all_there bytes may)
+
+    moments : (new : List Call) (all_well : Bool) → WritesBlock end body past new all_well → OnlyLeaves past new P
+    unfolding n end
+    moments new true calls = subst (λ l. OnlyLeaves past l P) (sym calls) all_only
+    moments new false (inl calls) = subst (λ l. OnlyLeaves past l P) (sym calls) first_failed
+    moments new false (inr (inl calls)) = subst (λ l. OnlyLeaves past l P) (sym calls) first_unsynced
+    moments new false (inr (inr (inl calls))) = subst (λ l. OnlyLeaves past l P) (sym calls) second_failed
+    moments new false (inr (inr (inr calls))) = subst (λ l. OnlyLeaves past l P) (sym calls) second_unsynced
+
+    done : (new : List Call) → WritesBlock end body past new true → (bytes : List ℕ) → MayLeave new bytes → StandsFor (entries ++ entry ∷ []) bytes
+    unfolding n end
+    done new calls bytes may = all_there bytes (subst (λ l. MayLeave l bytes) calls may)
+
+-- What stands behind the gate of an entry: its length, the entry and the next closed gate.
+abbrev pub body_of : List ℕ → List ℕ
+body_of entry = to_be_bytes w32 (length entry) ++ entry ++ 0 ∷ []
+
+-- A crash at any moment of the four calls, or of those up to the first that failed, leaves the old entries or the new.
+pub block_moments : (past : List Call) (entries : List (List ℕ)) → ((bytes : List ℕ) → MayLeave past bytes → StandsFor entries bytes) → (entry : List ℕ) → length entry ≤ longest → (new : List Call) (all_well : Bool) → WritesBlock (length (front entries)) (body_of entry) past new all_well → OnlyLeaves past new (StandsForEither entries entry)
+unfolding end body P
+block_moments past entries images entry short new all_well calls = moments past entries images entry short new all_well calls
+
+-- After all four each image stands for the new list.
+pub block_done : (past : List Call) (entries : List (List ℕ)) → ((bytes : List ℕ) → MayLeave past bytes → StandsFor entries bytes) → (entry : List ℕ) → length entry ≤ longest → (new : List Call) → WritesBlock (length (front entries)) (body_of entry) past new true → (bytes : List ℕ) → MayLeave new bytes → StandsFor (entries ++ entry ∷ []) bytes
+unfolding end body
+block_done past entries images entry short new calls bytes may = done past entries images entry short new calls bytes may

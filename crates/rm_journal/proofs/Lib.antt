@@ -1,3 +1,4 @@
 pub mod Blocks
 pub mod Crash
 pub mod Walk
+pub mod Places
