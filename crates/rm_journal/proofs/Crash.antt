@@ -2,7 +2,7 @@
 -- call; so what it may hold from the gate on can be exchanged, and a block torn there leaves the same entries.
 use Rattle.std.proofs.Common.{◌≡◌, ◌≢◌, ◌⊎◌, ℕ, zero, suc, ◌+◌, ◌-◌, ◌<◌, ◌≤◌, max, Bool, true, false, ◌||◌, nat_le, List, [], ◌∷◌, ◌++◌, length, take, drop, slice_index, refl, sym, ◌∙◌, ap, subst, inl, inr, arith, append_assoc, length-append, length-take, length-drop, take-append-drop}
 use Rattle.std.specs.List.{flat_map}
-use Rattle.std.proofs.lemmas.Bool.{cases_lt, cases_eq, lt-leb}
+use Rattle.std.proofs.lemmas.Bool.{false≢true, cases_lt, cases_eq, lt-leb}
 use Rattle.std.proofs.lemmas.List.Folds.{list_any-append}
 use Rattle.std.specs.Int.{w32, to_be_bytes}
 use Rattle.std.proofs.Math.Seq.{get_or-append_seam}
@@ -340,6 +340,12 @@ unfolding end body P
 block_moments past entries images entry short new all_well calls = moments past entries images entry short new all_well calls
 
 -- After all four each image stands for the new list.
-pub block_done : (past : List Call) (entries : List (List ℕ)) → ((bytes : List ℕ) → MayLeave past bytes → StandsFor entries bytes) → (entry : List ℕ) → length entry ≤ longest → (new : List Call) → WritesBlock (length (front entries)) (body_of entry) past new true → (bytes : List ℕ) → MayLeave new bytes → StandsFor (entries ++ entry ∷ []) bytes
+pub block_done : (past : List Call) (entries : List (List ℕ)) → ((bytes : List ℕ) → MayLeave past bytes → StandsFor entries bytes) → (entry : List ℕ) → length entry ≤ longest → (new : List Call) (all_well : Bool) → all_well ≡ true → WritesBlock (length (front entries)) (body_of entry) past new all_well → (bytes : List ℕ) → MayLeave new bytes → StandsFor (entries ++ entry ∷ []) bytes
 unfolding end body
-block_done past entries images entry short new calls bytes may = done past entries images entry short new calls bytes may
+block_done past entries images entry short new true well calls bytes may = done past entries images entry short new calls bytes may
+block_done past entries images entry short new false well calls bytes may = absurd (false≢true well)
+
+-- No call was made.
+pub nothing_done : (past new : List Call) (entries : List (List ℕ)) → ((bytes : List ℕ) → MayLeave past bytes → StandsFor entries bytes) → (entry : List ℕ) → new ≡ past → OnlyLeaves past new (StandsForEither entries entry)
+nothing_done past new entries images entry same =
+    subst (λ l. OnlyLeaves past l (StandsForEither entries entry)) (sym same) (only_from past (StandsForEither entries entry) λ bytes may. inl (images bytes may))

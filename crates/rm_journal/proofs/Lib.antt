@@ -2,3 +2,4 @@ pub mod Blocks
 pub mod Crash
 pub mod Walk
 pub mod Places
+pub mod Refusals

@@ -5,7 +5,7 @@ use Rattle.std.specs.Int.{w32, to_be_bytes}
 use Rattle.std.proofs.Math.Seq.{take-suc}
 use Rattle.std.proofs.lemmas.Grind.{flat_map-append}
 use Rattle.std.proofs.lemmas.List.{take_all, take_at, drop_at}
-use Rattle.rm_journal.specs.Entries.{head, block, gates_from}
+use Rattle.rm_journal.specs.Entries.{head, block, gates_from, first_of}
 use Rattle.rm_journal.specs.Kept.{Kept, end_of}
 use Rattle.rm_journal.proofs.Blocks.{length-block}
 use Rattle.rm_journal.proofs.Crash.{front, length-front, HasFront}
@@ -77,3 +77,25 @@ entry_there entries bytes k low has =
     ap (λ (l : List ℕ). take (length entry) (drop (13 + length before) l)) is
     ∙ ap (λ (l : List ℕ). take (length entry) l) (drop_at (head ++ before ++ 1 ∷ number) (entry ++ tail) (13 + length before) first)
     ∙ take_at entry tail (length entry) refl
+
+-- an entry lies within the bytes
+pub entry_within : (entries : List (List ℕ)) (bytes : List ℕ) (k : ℕ) → k < length entries → HasFront entries bytes → start_of entries k + length (get_or entries k []) ≤ length bytes
+unfolding start_of
+entry_within entries bytes k low has =
+    let entry = get_or entries k [] in
+    let before = flat_map block (take k entries) in
+    let more = flat_map block (drop (suc k) entries) in
+    omega (
+      arith,
+      ap length has.is,
+      length-append (front entries) (has.gate ∷ has.behind),
+      length-front entries,
+      ap length (blocks_split entries k low),
+      length-append before (block entry ++ more),
+      length-append (block entry) more,
+      length-block entry)
+
+pub first_is : (entries : List (List ℕ)) (k : ℕ) → k < length entries → first_of (gates_from 8 entries) k ≡ start_of entries k
+unfolding start_of
+first_is entries zero low = refl
+first_is entries (suc k) low = omega (arith, gate_at 8 0 entries k (omega (arith, low)))

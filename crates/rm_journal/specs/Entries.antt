@@ -1,5 +1,5 @@
 -- A list of entries as the bytes of a journal: a head, an open gate with each entry, and a closed gate.
-use Rattle.std.specs.Prelude.{◌≡◌, ◌≢◌, ◌⊎◌, ◌≤◌, ℕ, ◌+◌, List, [], ◌∷◌, ◌++◌, length, codes, All}
+use Rattle.std.specs.Prelude.{◌≡◌, ◌≢◌, ◌⊎◌, ◌≤◌, ℕ, ◌+◌, List, [], ◌∷◌, ◌++◌, length, slice_index, codes, All}
 use Rattle.std.specs.List.{flat_map}
 use Rattle.std.specs.Int.{w32, to_be_bytes}
 
@@ -41,3 +41,7 @@ StandsForEither entries entry bytes = StandsFor entries bytes ⊎ StandsFor (ent
 abbrev pub gates_from : ℕ → List (List ℕ) → List ℕ
 gates_from at [] = []
 gates_from at (entry ∷ entries) = let next = at + 5 + length entry in next ∷ gates_from next entries
+
+-- the place of the first byte of an entry, counted from 0: five places behind the gate before it
+abbrev pub first_of : List ℕ → ℕ → ℕ
+first_of gates k = slice_index (8 ∷ gates) k + 5

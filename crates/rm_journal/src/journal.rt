@@ -1,9 +1,9 @@
-ghost use Rattle.std.specs.Prelude.{◌≡◌, ◌≢◌, ◌⊎◌, ◌↔◌, ◌+◌, ◌-◌, ◌≤◌, ℕ, [], ◌∷◌, ◌++◌, List, Bool, true, false, None, Some, Err, length, slice_get, IsTrue, is_ok, is_err, not, IfOk, OnOk, IfErr, IsErrOf};
+ghost use Rattle.std.specs.Prelude.{◌≡◌, ◌≢◌, ◌⊎◌, ◌↔◌, ◌+◌, ◌-◌, ◌<◌, ◌≤◌, ℕ, min, [], ◌∷◌, ◌++◌, List, Bool, true, false, None, Some, Err, length, slice_get, IsTrue, is_ok, is_err, not, IfOk, OnOk, IfErr, IsErrOf};
 ghost use Rattle.rm_base.specs.Count.{Rose};
 ghost use Rattle.rm_disk.specs.Call.{seen_of, crashes_of};
 ghost use Rattle.rm_disk.specs.Fuse.{Burns};
 ghost use Rattle.rm_disk.specs.Image.{MayLeave, OnlyLeaves};
-ghost use Rattle.rm_journal.specs.Entries.{StandsFor, StandsForEither};
+ghost use Rattle.rm_journal.specs.Entries.{StandsFor, StandsForEither, first_of};
 ghost use Rattle.rm_journal.specs.declared.error.JournalError.TheVariants.{Memory as WantsMemory, Disk as DiskFails, NotAJournal, Down as IsDown};
 
 use crate::JournalError;
@@ -15,6 +15,15 @@ use std::alloc::Global;
 use std::marker::Model;
 
 const LIMIT: u64 = 268435456;
+
+// The place of the first byte of an entry, counted from 0: behind a gate and a length.
+fn first_place(gates: &[u64], k: usize) -> u64
+    requires { k < length gates.now }
+    ensures { result ≡ min (first_of gates.now k) u64.MAX }
+{
+    let gate = if k == 0 { 8 } else { gates[k - 1] };
+    gate.saturating_add(5)
+}
 
 /// The list of entries on a disk. It keeps the place of each, and none of their bytes.
 #[derive(Debug, Drop)]
@@ -134,7 +143,7 @@ impl Journal {
             return Err(JournalError::Down);
         }
         let k = i as usize - 1;
-        let start = if k == 0 { 13 } else { self.gates[k - 1].saturating_add(5) };
+        let start = first_place(&self.gates, k);
         let len = self.gates[k].saturating_sub(start);
         let mut bytes = vec![in self.alloc; 0; len as usize]?;
         if disk.read(start, &mut bytes).is_err() {

@@ -1,4 +1,3 @@
-use Rattle.rm_journal.proofs.Places.{end_is, entry_there}
 use Rattle.rm_journal.proofs.Blocks.{stands_for_one}
 use Rattle.rm_journal.proofs.laws.bytes_stand_for_one_list.Goals as goal
 
