@@ -7,7 +7,7 @@ use Rattle.std.proofs.lemmas.List.Folds.{list_any-append}
 use Rattle.std.specs.Int.{w32, to_be_bytes}
 use Rattle.std.proofs.Math.Seq.{get_or-append_seam}
 use Rattle.std.proofs.lemmas.List.{ext_get_or, take_at, drop_at, get_or-take, get_or-drop, get_or_append_left, get_or-append_right}
-use Rattle.rm_disk.specs.Call.{Call, is_within, Wrote, WriteFailed, Synced, SyncFailed, State, is_free, is_written, overwritten, after, state, seen_of, settled, filled, left_by}
+use Rattle.rm_disk.specs.Call.{Call, is_within, Wrote, WriteFailed, CutTo, Synced, SyncFailed, State, is_free, is_written, overwritten, after, state, seen_of, settled, filled, left_by}
 use Rattle.rm_disk.specs.Image.{IsImage, MayLeave, OnlyLeaves}
 use Rattle.rm_disk.proofs.Images.{not_free, reads_as_image, crash_leaves_image, settled_only, synced_only, only_from, only_more}
 use Rattle.rm_disk.proofs.Ranges.{within_before, within_behind, overwritten-outside}
@@ -349,3 +349,23 @@ block_done past entries images entry short new false well calls bytes may = absu
 pub nothing_done : (past new : List Call) (entries : List (List ℕ)) → ((bytes : List ℕ) → MayLeave past bytes → StandsFor entries bytes) → (entry : List ℕ) → new ≡ past → OnlyLeaves past new (StandsForEither entries entry)
 nothing_done past new entries images entry same =
     subst (λ l. OnlyLeaves past l (StandsForEither entries entry)) (sym same) (only_from past (StandsForEither entries entry) λ bytes may. inl (images bytes may))
+
+-- a disk cut to nothing and given a head and a closed gate
+pub empty_journal : (past new : List Call) → new ≡ Synced ∷ Wrote 0 (head ++ 0 ∷ []) ∷ CutTo 0 ∷ past → (bytes : List ℕ) → MayLeave new bytes → StandsFor [] bytes
+empty_journal past new calls bytes may =
+    let is = synced_only (Wrote 0 (head ++ 0 ∷ []) ∷ CutTo 0 ∷ past) bytes (subst (λ l. MayLeave l bytes) calls may) in
+    subst (StandsFor []) (sym is) (record {
+      rest = 0 ∷ [];
+      is = refl;
+      ends = record { fit = λ k d low. absurd (omega arith); gate = 0; behind = []; closed = λ e. omega (arith, e); is = refl };
+    })
+
+-- a sync, or one that failed, or none
+pub synced_moments : (old new : List Call) → (new ≡ old) ⊎ (new ≡ SyncFailed ∷ old) ⊎ (new ≡ Synced ∷ old) → OnlyLeaves old new (MayLeave old)
+synced_moments old new (inl calls) = subst (λ l. OnlyLeaves old l (MayLeave old)) (sym calls) (only_from old (MayLeave old) λ bytes may. may)
+synced_moments old new (inr (inl calls)) =
+    subst (λ l. OnlyLeaves old l (MayLeave old)) (sym calls) (only_more old old SyncFailed (MayLeave old) (only_from old (MayLeave old) λ bytes may. may) λ bytes may. may)
+synced_moments old new (inr (inr calls)) =
+    subst (λ l. OnlyLeaves old l (MayLeave old)) (sym calls) (
+      only_more old old Synced (MayLeave old) (only_from old (MayLeave old) λ bytes may. may) λ bytes may.
+        subst (MayLeave old) (sym (synced_only old bytes may)) (reads_as_image old))

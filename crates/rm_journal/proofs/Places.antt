@@ -1,5 +1,5 @@
 -- The places of a journal's gates and entries.
-use Rattle.std.proofs.Common.{◌≡◌, ℕ, zero, suc, ◌+◌, ◌-◌, ◌<◌, ◌≤◌, List, [], ◌∷◌, ◌++◌, length, take, drop, get_or, refl, sym, ◌∙◌, ap, arith, append_assoc, length-append, length-take, take-append-drop, drop-cons}
+use Rattle.std.proofs.Common.{◌≡◌, ◌≢◌, ℕ, zero, suc, ◌+◌, ◌-◌, ◌^◌, ◌<◌, ◌≤◌, min, List, [], ◌∷◌, ◌++◌, length, take, drop, get_or, refl, sym, ◌∙◌, ap, arith, append_assoc, length-append, length-take, take-append-drop, drop-cons}
 use Rattle.std.specs.List.{flat_map}
 use Rattle.std.specs.Int.{w32, to_be_bytes}
 use Rattle.std.proofs.Math.Seq.{take-suc}
@@ -99,3 +99,16 @@ pub first_is : (entries : List (List ℕ)) (k : ℕ) → k < length entries → 
 unfolding start_of
 first_is entries zero low = refl
 first_is entries (suc k) low = omega (arith, gate_at 8 0 entries k (omega (arith, low)))
+
+-- what is computed from the gates is the entry's place and length
+pub entry_span : (entries : List (List ℕ)) (gates : List ℕ) (k gate start len : ℕ) → gates ≡ gates_from 8 entries → k < length gates → gate ≡ get_or gates k 0 → gate < 2 ^ 64 → start ≡ min (first_of gates k) (2 ^ 64 - 1) → len ≡ gate - start → (start ≡ first_of gates k) × (len ≡ length (get_or entries k []))
+entry_span entries gates k gate start len are low is small from size =
+    let below : k < length entries = omega (arith, low, ap length are, length-gates_from 8 entries) in
+    let first : first_of gates k ≡ start_of entries k = ap (λ (l : List ℕ). first_of l k) are ∙ first_is entries k below in
+    let next : gate ≡ start_of entries k + length (get_or entries k []) = is ∙ ap (λ (l : List ℕ). get_or l k 0) are ∙ gate_behind entries k 0 below in
+    let there : start ≡ start_of entries k = omega (arith, from, first, next, small) in
+    (there ∙ sym first, omega (arith, size, there, next))
+
+pub gate_behind_first : (gates : List ℕ) (k : ℕ) → k ≢ 0 → get_or gates (k - 1) 0 ≡ get_or (8 ∷ gates) k 0
+gate_behind_first gates zero some = absurd (some refl)
+gate_behind_first gates (suc k) some = ap (λ (n : ℕ). get_or gates n 0) (omega arith)

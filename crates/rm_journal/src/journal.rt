@@ -1,29 +1,21 @@
-ghost use Rattle.std.specs.Prelude.{◌≡◌, ◌≢◌, ◌⊎◌, ◌↔◌, ◌+◌, ◌-◌, ◌<◌, ◌≤◌, ℕ, min, [], ◌∷◌, ◌++◌, List, Bool, true, false, None, Some, Err, length, slice_get, IsTrue, is_ok, is_err, not, IfOk, OnOk, IfErr, IsErrOf};
+ghost use Rattle.std.specs.Prelude.{◌≡◌, ◌≢◌, ◌⊎◌, ◌↔◌, ◌+◌, ◌-◌, ◌≤◌, ℕ, [], ◌∷◌, ◌++◌, List, Bool, true, false, None, Some, Err, length, slice_get, IsTrue, is_ok, is_err, not, IfOk, OnOk, IfErr, IsErrOf};
 ghost use Rattle.rm_base.specs.Count.{Rose};
 ghost use Rattle.rm_disk.specs.Call.{seen_of, crashes_of};
 ghost use Rattle.rm_disk.specs.Fuse.{Burns};
 ghost use Rattle.rm_disk.specs.Image.{MayLeave, OnlyLeaves};
-ghost use Rattle.rm_journal.specs.Entries.{StandsFor, StandsForEither, first_of};
+ghost use Rattle.rm_journal.specs.Entries.{StandsFor, StandsForEither};
 ghost use Rattle.rm_journal.specs.declared.error.JournalError.TheVariants.{Memory as WantsMemory, Disk as DiskFails, NotAJournal, Down as IsDown};
 
 use crate::JournalError;
 use crate::block::{body_of, write_block};
-use crate::scan::{HEAD, LONGEST, gates_of};
+use crate::place::{read_bytes, span_of};
+use crate::scan::{LONGEST, gates_of};
 use rm_base::Blob;
 use rm_disk::Disk;
 use std::alloc::Global;
 use std::marker::Model;
 
 const LIMIT: u64 = 268435456;
-
-// The place of the first byte of an entry, counted from 0: behind a gate and a length.
-fn first_place(gates: &[u64], k: usize) -> u64
-    requires { k < length gates.now }
-    ensures { result ≡ min (first_of gates.now k) u64.MAX }
-{
-    let gate = if k == 0 { 8 } else { gates[k - 1] };
-    gate.saturating_add(5)
-}
 
 /// The list of entries on a disk. It keeps the place of each, and none of their bytes.
 #[derive(Debug, Drop)]
@@ -85,13 +77,15 @@ impl Journal {
         disk.reserve(1, 0)?;
         disk.sync()?;
         let len = disk.len()?;
-        let mut bytes = vec![in alloc; 0; len as usize]?;
-        disk.read(0, &mut bytes)?;
-        Ok(Journal {
-            alloc,
-            gates: gates_of(alloc, &bytes)?,
-            down: false,
-        })
+        let bytes = read_bytes(alloc, disk, 0, len)?;
+        match gates_of(alloc, &bytes) {
+            Ok(gates) => Ok(Journal {
+                alloc,
+                gates,
+                down: false,
+            }),
+            Err(error) => Err(error),
+        }
     }
 
     /// Adds an entry, in four device calls: it writes the entry behind the closed gate, syncs, opens the gate, syncs.
@@ -142,15 +136,15 @@ impl Journal {
         if self.down {
             return Err(JournalError::Down);
         }
-        let k = i as usize - 1;
-        let start = first_place(&self.gates, k);
-        let len = self.gates[k].saturating_sub(start);
-        let mut bytes = vec![in self.alloc; 0; len as usize]?;
-        if disk.read(start, &mut bytes).is_err() {
-            self.down = true;
-            return Err(JournalError::Disk);
+        let (start, len) = span_of(&self.gates, i as usize - 1);
+        match read_bytes(self.alloc, disk, start, len) {
+            Ok(bytes) => Ok(Blob::from_slice(self.alloc, &bytes)?),
+            Err(JournalError::Disk) => {
+                self.down = true;
+                Err(JournalError::Disk)
+            }
+            Err(error) => Err(error),
         }
-        Ok(Blob::from_slice(self.alloc, &bytes)?)
     }
 
     /// How many entries it has.

@@ -7,6 +7,7 @@ pub mod error;
 pub mod journal;
 pub mod laws;
 mod block;
+mod place;
 mod scan;
 
 pub use error::JournalError;
