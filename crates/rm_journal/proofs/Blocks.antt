@@ -1,6 +1,5 @@
 -- Entries and the bytes that they stand as.
-use Rattle.std.proofs.Common.{◌≡◌, ◌≢◌, ◌⊎◌, ℕ, zero, suc, ◌+◌, ◌-◌, ◌<◌, ◌≤◌, List, [], ◌∷◌, ◌++◌, length, take, drop, slice_index, refl, sym, ◌∙◌, ap, subst, inl, inr, arith, append_assoc, length-append, length-take, length-drop}
-use Rattle.std.specs.Prelude.{All}
+use Rattle.std.proofs.Common.{◌≡◌, ℕ, zero, suc, ◌+◌, ◌≤◌, List, [], ◌∷◌, ◌++◌, length, take, drop, slice_index, refl, sym, ◌∙◌, ap, subst, arith, append_assoc, length-append}
 use Rattle.std.specs.List.{flat_map}
 use Rattle.std.specs.Int.{w32, to_be_bytes, from_be_bytes}
 use Rattle.std.proofs.lemmas.Nat.{from_be_bytes-to_be_bytes_4}
@@ -16,20 +15,19 @@ length-block entry = omega (arith, length-append (to_be_bytes w32 (length entry)
 
 -- lists of the same length that begin the same list are the same
 pub same_front : (a b s t : List ℕ) → length a ≡ length b → a ++ s ≡ b ++ t → (a ≡ b) × (s ≡ t)
-same_front a b s t size e =
-    (
-      sym (take_at a s (length a) refl) ∙ ap (λ (l : List ℕ). take (length a) l) e ∙ take_at b t (length a) (sym size),
-      sym (drop_at a s (length a) refl) ∙ ap (λ (l : List ℕ). drop (length a) l) e ∙ drop_at b t (length a) (sym size),
-    )
+same_front a b s t size e = (
+  sym (take_at a s (length a) refl) ∙ ap (λ (l : List ℕ). take (length a) l) e ∙ take_at b t (length a) (sym size),
+  sym (drop_at a s (length a) refl) ∙ ap (λ (l : List ℕ). drop (length a) l) e ∙ drop_at b t (length a) (sym size),
+)
 
 -- a block is read in one way
 pub same_block : (a b s t : List ℕ) → length a ≤ longest → length b ≤ longest → block a ++ s ≡ block b ++ t → (a ≡ b) × (s ≡ t)
 same_block a b s t short_a short_b e =
     let number : to_be_bytes w32 (length a) ≡ to_be_bytes w32 (length b) = ap (λ (l : List ℕ). take 4 (drop 1 l)) e in
     let size : length a ≡ length b =
-      sym (from_be_bytes-to_be_bytes_4 (length a) (omega (arith, short_a)))
-      ∙ ap (λ (l : List ℕ). from_be_bytes w32 l) number
-      ∙ from_be_bytes-to_be_bytes_4 (length b) (omega (arith, short_b)) in
+    sym (from_be_bytes-to_be_bytes_4 (length a) (omega (arith, short_a)))
+    ∙ ap (λ (l : List ℕ). from_be_bytes w32 l) number
+    ∙ from_be_bytes-to_be_bytes_4 (length b) (omega (arith, short_b)) in
     same_front a b s t size (ap (λ (l : List ℕ). drop 5 l) e)
 
 -- an open gate ends no list
@@ -85,7 +83,7 @@ pub ends_before : (entries more : List (List ℕ)) (rest : List ℕ) → AllFit 
 ends_before [] more rest fit ends = ends
 ends_before (entry ∷ entries) more rest fit ends =
     subst (EndsBlocks (entry ∷ (entries ++ more))) (sym (append_assoc (block entry) (flat_map block entries) rest)) (
-      ends_cons entry (entries ++ more) _ (fit 0 [] (omega arith)) (ends_before entries more rest (fit_rest entry entries fit) ends))
+    ends_cons entry (entries ++ more) _ (fit 0 [] (omega arith)) (ends_before entries more rest (fit_rest entry entries fit) ends))
 
 ends_one : (a b : List (List ℕ)) (bytes : List ℕ) → EndsBlocks a bytes → EndsBlocks b bytes → a ≡ b
 ends_one a b bytes is_a is_b =
@@ -118,5 +116,5 @@ gates_from-push at (first ∷ entries) entry =
     let next = at + 5 + length first in
     let size = length-append (block first) (flat_map block entries) in
     ap (λ (l : List ℕ). next ∷ l) (
-      gates_from-push next entries entry
-      ∙ ap (λ (n : ℕ). gates_from next entries ++ n ∷ []) (omega (arith, size, length-block first)))
+    gates_from-push next entries entry
+    ∙ ap (λ (n : ℕ). gates_from next entries ++ n ∷ []) (omega (arith, size, length-block first)))

@@ -1,18 +1,18 @@
 -- What a crash leaves while an entry is added. Each image of the disk stands for the old entries before the first
 -- call; so what it may hold from the gate on can be exchanged, and a block torn there leaves the same entries.
-use Rattle.std.proofs.Common.{◌≡◌, ◌≢◌, ◌⊎◌, ℕ, zero, suc, ◌+◌, ◌-◌, ◌<◌, ◌≤◌, max, Bool, true, false, ◌||◌, nat_le, List, [], ◌∷◌, ◌++◌, length, take, drop, slice_index, refl, sym, ◌∙◌, ap, subst, inl, inr, arith, append_assoc, length-append, length-take, length-drop, take-append-drop}
+use Rattle.std.proofs.Common.{◌≡◌, ◌≢◌, ◌⊎◌, ℕ, zero, suc, ◌+◌, ◌-◌, ◌<◌, ◌≤◌, Bool, true, false, ◌||◌, nat_le, List, [], ◌∷◌, ◌++◌, length, take, drop, slice_index, refl, sym, ◌∙◌, ap, subst, inl, inr, arith, append_assoc, length-append, length-take, length-drop, take-append-drop}
 use Rattle.std.specs.List.{flat_map}
 use Rattle.std.proofs.lemmas.Bool.{false≢true, cases_lt, cases_eq, lt-leb}
 use Rattle.std.proofs.lemmas.List.Folds.{list_any-append}
 use Rattle.std.specs.Int.{w32, to_be_bytes}
 use Rattle.std.proofs.Math.Seq.{get_or-append_seam}
 use Rattle.std.proofs.lemmas.List.{ext_get_or, take_at, drop_at, get_or-take, get_or-drop, get_or_append_left, get_or-append_right}
-use Rattle.rm_disk.specs.Call.{Call, is_within, Wrote, WriteFailed, CutTo, Synced, SyncFailed, State, is_free, is_written, overwritten, after, state, seen_of, settled, filled, left_by}
+use Rattle.rm_disk.specs.Call.{Call, is_within, Wrote, WriteFailed, CutTo, Synced, SyncFailed, State, is_free, is_written, overwritten, after, state, seen_of, settled, left_by}
 use Rattle.rm_disk.specs.Image.{IsImage, MayLeave, OnlyLeaves}
 use Rattle.rm_disk.proofs.Images.{not_free, reads_as_image, crash_leaves_image, settled_only, synced_only, only_from, only_more}
 use Rattle.rm_disk.proofs.Ranges.{within_before, within_behind, overwritten-outside}
 use Rattle.rm_disk.proofs.States.{length-filled}
-use Rattle.rm_journal.specs.Entries.{longest, head, block, AllFit, EndsBlocks, StandsFor, StandsForEither}
+use Rattle.rm_journal.specs.Entries.{longest, head, block, AllFit, StandsFor, StandsForEither}
 use Rattle.rm_journal.proofs.Blocks.{blocks-push, fit_push}
 use Rattle.rm_journal.specs.Scan.{WritesBlock}
 
@@ -89,8 +89,8 @@ gate_over : (before : List ℕ) (gate : ℕ) (behind : List ℕ) (x : ℕ) → o
 gate_over before gate behind x =
     ap (λ (l : List ℕ). l ++ (x ∷ []) ++ drop (length before + 1) (before ++ gate ∷ behind)) (take_at before (gate ∷ behind) (length before) refl)
     ∙ ap (λ (l : List ℕ). before ++ (x ∷ []) ++ l) (
-      ap (λ (l : List ℕ). drop (length before + 1) l) (sym (append_assoc before (gate ∷ []) behind))
-      ∙ drop_at (before ++ gate ∷ []) behind (length before + 1) (length-append before (gate ∷ [])))
+    ap (λ (l : List ℕ). drop (length before + 1) l) (sym (append_assoc before (gate ∷ []) behind))
+    ∙ drop_at (before ++ gate ∷ []) behind (length before + 1) (length-append before (gate ∷ [])))
     ∙ append_assoc before (x ∷ []) behind
 
 -- A state whose bytes are settled but for the gate: an image has any byte there, and the others as they are.
@@ -104,7 +104,7 @@ torn_gate : (before : List ℕ) (gate : ℕ) (behind : List ℕ) (t : State) →
 torn_gate before gate behind t same bytes image =
     let x = slice_index bytes (length before) in
     let long : length (before ++ x ∷ behind) ≡ length (before ++ gate ∷ behind) =
-      length-append before (x ∷ behind) ∙ sym (length-append before (gate ∷ behind)) in
+    length-append before (x ∷ behind) ∙ sym (length-append before (gate ∷ behind)) in
     let size : length bytes ≡ length (before ++ x ∷ behind) = omega (arith, long, image.no_shorter, image.no_longer, same.low, same.high) in
     ext_get_or 0 bytes (before ++ x ∷ behind) size λ i low. elim (cases_eq i (length before)) [
       | inl here ↦ ap (λ (k : ℕ). slice_index bytes k) here ∙ sym (ap (λ (k : ℕ). slice_index (before ++ x ∷ behind) k) here ∙ get_or-append_seam before x behind 0)
@@ -117,9 +117,9 @@ torn_gate before gate behind t same bytes image =
 -- the only place of a range of one byte
 within_gate : (i gate : ℕ) → i ≢ gate → is_within i (gate, 1) ≡ false
 within_gate i gate other = elim (cases_lt i gate) [
-    | inl before ↦ within_before i gate 1 before
-    | inr from ↦ within_behind i gate 1 (omega (arith, from, other))
-  ]
+  | inl before ↦ within_before i gate 1 before
+  | inr from ↦ within_behind i gate 1 (omega (arith, from, other))
+]
 
 -- settled bytes with the gate written over, or with a write there that failed
 gate_wrote : (before : List ℕ) (gate : ℕ) (behind : List ℕ) (past : List Call) → state past ≡ settled (before ++ gate ∷ behind) → (x : ℕ) → SameButGate before gate behind (state (Wrote (length before) (x ∷ []) ∷ past))
@@ -174,7 +174,7 @@ module _ (past : List Call) (entries : List (List ℕ)) (images : (bytes : List 
       let cut : length (take n bytes) ≡ n = omega (arith, length-take n bytes, long) in
       let spliced = take n bytes ++ drop n seen in
       let size : length spliced ≡ length seen =
-        omega (arith, length-append (take n bytes) (drop n seen), cut, length-drop n seen, long_enough) in
+      omega (arith, length-append (take n bytes) (drop n seen), cut, length-drop n seen, long_enough) in
       let old : IsImage (state past) spliced = record {
         no_shorter = omega (arith, size, is.no_shorter);
         no_longer = omega (arith, size, is.no_longer);
@@ -193,9 +193,9 @@ module _ (past : List Call) (entries : List (List ℕ)) (images : (bytes : List 
       let stands = images spliced old in
       let has = front_of entries spliced stands in
       let first : take n bytes ≡ front entries ++ has.gate ∷ [] =
-        sym (take_at (take n bytes) (drop n seen) n cut)
-        ∙ ap (λ (l : List ℕ). take n l) (has.is ∙ sym (append_assoc (front entries) (has.gate ∷ []) has.behind))
-        ∙ take_at (front entries ++ has.gate ∷ []) has.behind n (front_and_gate entries has.gate) in
+      sym (take_at (take n bytes) (drop n seen) n cut)
+      ∙ ap (λ (l : List ℕ). take n l) (has.is ∙ sym (append_assoc (front entries) (has.gate ∷ []) has.behind))
+      ∙ take_at (front entries ++ has.gate ∷ []) has.behind n (front_and_gate entries has.gate) in
       stands_by entries bytes stands.ends.fit (record {
         gate = has.gate;
         behind = drop n bytes;
@@ -227,8 +227,8 @@ module _ (past : List Call) (entries : List (List ℕ)) (images : (bytes : List 
   body_there body =
       let rest = drop (n + length body) (seen_of past) in
       let first : take n (seen_of past) ≡ front entries ++ reads.gate ∷ [] =
-        ap (λ (l : List ℕ). take n l) (reads.is ∙ sym (append_assoc (front entries) (reads.gate ∷ []) reads.behind))
-        ∙ take_at (front entries ++ reads.gate ∷ []) reads.behind n (front_and_gate entries reads.gate) in
+      ap (λ (l : List ℕ). take n l) (reads.is ∙ sym (append_assoc (front entries) (reads.gate ∷ []) reads.behind))
+      ∙ take_at (front entries ++ reads.gate ∷ []) reads.behind n (front_and_gate entries reads.gate) in
       ap (λ (l : List ℕ). l ++ body ++ rest) first
       ∙ ap (λ (l : List ℕ). l ++ rest) (append_assoc (front entries) (reads.gate ∷ []) body)
       ∙ append_assoc (front entries) (reads.gate ∷ body) rest
@@ -250,17 +250,17 @@ module _ (past : List Call) (entries : List (List ℕ)) (images : (bytes : List 
     with_entry : StandsFor (entries ++ entry ∷ []) (front entries ++ 1 ∷ rest)
     unfolding rest body
     with_entry = stands_by (entries ++ entry ∷ []) (front entries ++ 1 ∷ rest) (fit_push entries entry short fit) (record {
-        gate = 0;
-        behind = drop (n + length body) (seen_of past);
-        closed = λ e. omega (arith, e);
-        is = front-push entries entry (drop (n + length body) (seen_of past));
-      })
+      gate = 0;
+      behind = drop (n + length body) (seen_of past);
+      closed = λ e. omega (arith, e);
+      is = front-push entries entry (drop (n + length body) (seen_of past));
+    })
 
     either : (x : ℕ) → StandsForEither entries entry (front entries ++ x ∷ rest)
     either x = elim (cases_eq x 1) [
-        | inl opens ↦ inr (subst (λ (y : ℕ). StandsFor (entries ++ entry ∷ []) (front entries ++ y ∷ rest)) (sym opens) with_entry)
-        | inr closed ↦ inl (stands_by entries (front entries ++ x ∷ rest) fit (record { gate = x; behind = rest; closed = closed; is = refl }))
-      ]
+      | inl opens ↦ inr (subst (λ (y : ℕ). StandsFor (entries ++ entry ∷ []) (front entries ++ y ∷ rest)) (sym opens) with_entry)
+      | inr closed ↦ inl (stands_by entries (front entries ++ x ∷ rest) fit (record { gate = x; behind = rest; closed = closed; is = refl }))
+    ]
 
     there : state (Synced ∷ Wrote n body ∷ past) ≡ settled (front entries ++ reads.gate ∷ rest)
     unfolding rest
@@ -288,12 +288,12 @@ module _ (past : List Call) (entries : List (List ℕ)) (images : (bytes : List 
     staged_only : OnlyLeaves past (Synced ∷ Wrote n body ∷ past) P
     unfolding P
     staged_only = only_more past _ Synced P first λ bytes may.
-      subst P (sym (settled_only (front entries ++ reads.gate ∷ rest) bytes (subst (λ s. IsImage s bytes) there may))) (either reads.gate)
+        subst P (sym (settled_only (front entries ++ reads.gate ∷ rest) bytes (subst (λ s. IsImage s bytes) there may))) (either reads.gate)
 
     second_failed : OnlyLeaves past (WriteFailed end 1 ∷ Synced ∷ Wrote n body ∷ past) P
     unfolding P end
     second_failed = only_more past _ _ P staged_only λ bytes may.
-      subst P (sym (torn_gate (front entries) reads.gate rest _ (gate_failed (front entries) reads.gate rest (Synced ∷ Wrote n body ∷ past) there) bytes may)) (either _)
+        subst P (sym (torn_gate (front entries) reads.gate rest _ (gate_failed (front entries) reads.gate rest (Synced ∷ Wrote n body ∷ past) there) bytes may)) (either _)
 
     second_bytes : (bytes : List ℕ) → MayLeave (Wrote end (1 ∷ []) ∷ Synced ∷ Wrote n body ∷ past) bytes → P bytes
     unfolding P end
@@ -367,5 +367,5 @@ synced_moments old new (inr (inl calls)) =
     subst (λ l. OnlyLeaves old l (MayLeave old)) (sym calls) (only_more old old SyncFailed (MayLeave old) (only_from old (MayLeave old) λ bytes may. may) λ bytes may. may)
 synced_moments old new (inr (inr calls)) =
     subst (λ l. OnlyLeaves old l (MayLeave old)) (sym calls) (
-      only_more old old Synced (MayLeave old) (only_from old (MayLeave old) λ bytes may. may) λ bytes may.
-        subst (MayLeave old) (sym (synced_only old bytes may)) (reads_as_image old))
+    only_more old old Synced (MayLeave old) (only_from old (MayLeave old) λ bytes may. may) λ bytes may.
+    subst (MayLeave old) (sym (synced_only old bytes may)) (reads_as_image old))

@@ -1,5 +1,5 @@
 -- The places of a journal's gates and entries.
-use Rattle.std.proofs.Common.{◌≡◌, ◌≢◌, ℕ, zero, suc, ◌+◌, ◌-◌, ◌^◌, ◌<◌, ◌≤◌, min, List, [], ◌∷◌, ◌++◌, length, take, drop, get_or, refl, sym, ◌∙◌, ap, arith, append_assoc, length-append, length-take, take-append-drop, drop-cons}
+use Rattle.std.proofs.Common.{◌≡◌, ◌≢◌, ℕ, zero, suc, ◌+◌, ◌-◌, ◌^◌, ◌<◌, ◌≤◌, min, List, [], ◌∷◌, ◌++◌, length, take, drop, get_or, refl, sym, ◌∙◌, ap, arith, append_assoc, length-append, take-append-drop, drop-cons}
 use Rattle.std.specs.List.{flat_map}
 use Rattle.std.specs.Int.{w32, to_be_bytes}
 use Rattle.std.proofs.Math.Seq.{take-suc}
@@ -23,7 +23,8 @@ gate_at at d (entry ∷ entries) (suc k) low =
       arith,
       gate_at (at + 5 + length entry) d entries k (omega (arith, low)),
       length-append (block entry) (flat_map block (take (suc k) entries)),
-      length-block entry)
+      length-block entry,
+    )
 
 -- the closed gate stands behind the front
 pub end_is : (journal : Kept) (entries : List (List ℕ)) → journal.gates ≡ gates_from 8 entries → end_of journal ≡ length (front entries)
@@ -57,7 +58,8 @@ gate_behind entries k d low =
       ap length (flat_map-append block (take k entries) (get_or entries k [] ∷ [])),
       length-append (flat_map block (take k entries)) (block (get_or entries k []) ++ []),
       length-append (block (get_or entries k [])) [],
-      length-block (get_or entries k []))
+      length-block (get_or entries k []),
+    )
 
 -- the bytes there are the entry
 pub entry_there : (entries : List (List ℕ)) (bytes : List ℕ) (k : ℕ) → k < length entries → HasFront entries bytes → take (length (get_or entries k [])) (drop (start_of entries k) bytes) ≡ get_or entries k []
@@ -69,11 +71,11 @@ entry_there entries bytes k low has =
     let number = to_be_bytes w32 (length entry) in
     let tail = more ++ has.gate ∷ has.behind in
     let is : bytes ≡ (head ++ before ++ 1 ∷ number) ++ (entry ++ tail) =
-      has.is
-      ∙ ap (λ (l : List ℕ). head ++ l ++ has.gate ∷ has.behind) (blocks_split entries k low)
-      ∙ simp append_assoc in
+    has.is
+    ∙ ap (λ (l : List ℕ). head ++ l ++ has.gate ∷ has.behind) (blocks_split entries k low)
+    ∙ simp append_assoc in
     let first : length (head ++ before ++ 1 ∷ number) ≡ 13 + length before =
-      omega (arith, length-append (head ++ before) (1 ∷ number), length-append head before) in
+    omega (arith, length-append (head ++ before) (1 ∷ number), length-append head before) in
     ap (λ (l : List ℕ). take (length entry) (drop (13 + length before) l)) is
     ∙ ap (λ (l : List ℕ). take (length entry) l) (drop_at (head ++ before ++ 1 ∷ number) (entry ++ tail) (13 + length before) first)
     ∙ take_at entry tail (length entry) refl
@@ -93,7 +95,8 @@ entry_within entries bytes k low has =
       ap length (blocks_split entries k low),
       length-append before (block entry ++ more),
       length-append (block entry) more,
-      length-block entry)
+      length-block entry,
+    )
 
 pub first_is : (entries : List (List ℕ)) (k : ℕ) → k < length entries → first_of (gates_from 8 entries) k ≡ start_of entries k
 unfolding start_of

@@ -1,10 +1,10 @@
 -- What stands at a gate, and a walk over the gates.
-use Rattle.std.proofs.Common.{◌≡◌, ◌≢◌, ◌⊎◌, ℕ, zero, suc, ◌+◌, ◌-◌, ◌<◌, ◌≤◌, ◌^◌, List, [], ◌∷◌, ◌++◌, length, take, drop, slice_index, refl, sym, ◌∙◌, ap, subst, inl, inr, arith, append_assoc, length-append, length-take, length-drop}
+use Rattle.std.proofs.Common.{◌≡◌, ◌≢◌, ℕ, ◌+◌, ◌<◌, ◌≤◌, ◌^◌, List, [], ◌∷◌, ◌++◌, length, take, drop, slice_index, refl, sym, ◌∙◌, ap, subst, arith, append_assoc, length-append, length-take, length-drop}
 use Rattle.std.specs.List.{flat_map}
 use Rattle.std.specs.Int.{w32, to_be_bytes, from_be_bytes}
 use Rattle.std.proofs.lemmas.Nat.{from_be_bytes-to_be_bytes_4}
 use Rattle.std.proofs.lemmas.List.{drop-drop, take-append-drop, append_cancel_left}
-use Rattle.rm_journal.specs.Entries.{longest, head, block, AllFit, EndsBlocks, StandsFor, gates_from}
+use Rattle.rm_journal.specs.Entries.{longest, head, block, EndsBlocks, StandsFor, gates_from}
 use Rattle.rm_journal.specs.Scan.{HasBlock, IsWalked}
 use Rattle.rm_journal.proofs.Blocks.{length-block, ends_uncons, ends_after, blocks-push, fit_push, gates_from-push}
 
@@ -22,8 +22,7 @@ ends_nothing entries ends =
 pub entry_needed : (entries : List (List ℕ)) (rest : List ℕ) → slice_index rest 0 ≡ 1 → EndsBlocks entries rest → (entry : List ℕ) × (length entry ≤ longest) × (5 + length entry ≤ length rest) × (take 4 (drop 1 rest) ≡ to_be_bytes w32 (length entry))
 entry_needed [] rest opens ends = absurd (ends.closed (sym (ap (λ (l : List ℕ). slice_index l 0) ends.is) ∙ opens))
 entry_needed (entry ∷ entries) rest opens ends =
-    let first = ends_uncons entry entries rest ends in
-    (
+    let first = ends_uncons entry entries rest ends in (
       entry,
       first.short,
       omega (arith, ap length first.is, length-append (block entry) first.rest, length-block entry),
@@ -84,6 +83,6 @@ pub walked_nowhere : (bytes gates rest : List ℕ) (at : ℕ) → IsWalked bytes
 walked_nowhere bytes gates rest at walked none all stands =
     let blocks = flat_map block walked.entries in
     let behind : stands.rest ≡ blocks ++ rest =
-      append_cancel_left head stands.rest (blocks ++ rest) (sym stands.is ∙ walked.is ∙ append_assoc head blocks rest) in
+    append_cancel_left head stands.rest (blocks ++ rest) (sym stands.is ∙ walked.is ∙ append_assoc head blocks rest) in
     let after = ends_after walked.entries all rest walked.fit (subst (EndsBlocks all) behind stands.ends) in
     none after.0 after.2

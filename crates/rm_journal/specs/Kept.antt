@@ -9,4 +9,3 @@ pub record Kept : Type 0 where
 -- the place of the closed gate
 abbrev pub end_of : Kept → ℕ
 end_of journal = slice_index_or journal.gates (length journal.gates - 1) 8
-

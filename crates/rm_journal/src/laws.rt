@@ -6,5 +6,4 @@ ghost use Rattle.rm_journal.specs.Entries.{StandsFor};
 /// Bytes stand for at most one list of entries.
 pub fn bytes_stand_for_one_list()
     ensures { (a b : List (List ℕ)) (bytes : List ℕ) → StandsFor a bytes → StandsFor b bytes → a ≡ b }
-{
-}
+{}

@@ -3,12 +3,15 @@
 //! a journal and its disk fit an entry list (`Fits`), what each call does to that list, and why it fails.
 #![tactic(auto)]
 
+mod block;
 pub mod error;
 pub mod journal;
 pub mod laws;
-mod block;
 mod place;
 mod scan;
 
 pub use error::JournalError;
 pub use journal::Journal;
+
+#[cfg(test)]
+mod tests;

@@ -22,10 +22,8 @@ fn gate_before(gates: &[u64], k: usize) -> u64
 pub fn span_of(gates: &[u64], k: usize) -> (u64, u64)
     requires { k < length gates.now }
     ensures place { (entries : List (List ℕ)) → gates.now ≡ gates_from 8 entries → result.0 ≡ first_of gates.now k }
-    ensures size {
-        (entries : List (List ℕ)) → gates.now ≡ gates_from 8 entries →
-        result.1 ≡ length (slice_index_or entries k [])
-    }
+    ensures size { (entries : List (List ℕ)) → gates.now ≡ gates_from 8 entries →
+        result.1 ≡ length (slice_index_or entries k []) }
 {
     let start = gate_before(gates, k).saturating_add(5);
     (start, gates[k].saturating_sub(start))
@@ -39,14 +37,10 @@ pub fn read_bytes<D: Disk>(
     len: u64,
 ) -> Result<Vec<u8>, JournalError>
     requires { IsTrue D.tells → at + len ≤ length (seen_of (D.past disk.old)) }
-    ensures gives {
-        IsTrue D.tells → IfOk result (λ bytes. bytes.items ≡ take len (drop at (seen_of (D.past disk.old))))
-    }
+    ensures gives { IsTrue D.tells → IfOk result (λ bytes. bytes.items ≡ take len (drop at (seen_of (D.past disk.old)))) }
     ensures refusals { IfErr result (λ error. (error ≡ WantsMemory) ⊎ (error ≡ DiskFails)) }
     ensures past { IsTrue D.tells → D.past disk.new ≡ D.past disk.old }
-    ensures fuse {
-        IsTrue D.tells → is_memory result ≡ false → Burns 1 (D.fuse disk.old) (D.fuse disk.new) (is_ok result)
-    }
+    ensures fuse { IsTrue D.tells → is_memory result ≡ false → Burns 1 (D.fuse disk.old) (D.fuse disk.new) (is_ok result) }
     ensures cause { HasCause (D.faults disk.old) (D.faults disk.new) result }
 {
     let mut bytes = vec![in alloc; 0; len as usize]?;

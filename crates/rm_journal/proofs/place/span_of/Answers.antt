@@ -1,4 +1,4 @@
-use Rattle.std.proofs.Common.{◌≡◌, ◌∙◌, ℕ, ◌+◌, ◌<◌, ◌^◌, min, get_or, ap, refl, arith}
+use Rattle.std.proofs.Common.{◌∙◌, ℕ, ◌+◌, ◌<◌, ◌^◌, min, get_or, ap, refl, arith}
 use Rattle.rm_journal.proofs.Places.{entry_span}
 use Rattle.rm_journal.proofs.place.span_of.Goals as goal
 

@@ -1,4 +1,4 @@
-use Rattle.std.proofs.Common.{◌≡◌, ◌∙◌, length, arith}
+use Rattle.std.proofs.Common.{◌∙◌, length, arith}
 use Rattle.rm_journal.proofs.Walk.{entry_needed, length_read, has_block}
 use Rattle.rm_journal.proofs.scan.look.Goals as goal
 

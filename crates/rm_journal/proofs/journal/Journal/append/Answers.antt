@@ -1,11 +1,10 @@
-use Rattle.std.proofs.Common.{◌≡◌, ℕ, ◌+◌, ◌<◌, List, [], ◌∷◌, ◌++◌, length, sym, ◌∙◌, ap, subst, true, refl, arith, length-append}
+use Rattle.std.proofs.Common.{◌≡◌, ℕ, ◌+◌, List, [], ◌∷◌, ◌++◌, length, sym, ◌∙◌, ap, true, refl, arith, length-append}
 use Rattle.std.specs.Prelude.{not, is_ok}
 use Rattle.std.specs.List.{flat_map}
 use Rattle.std.specs.Int.{w32, to_be_bytes}
 use Rattle.rm_disk.specs.Call.{seen_of}
 use Rattle.rm_disk.proofs.Images.{reads_as_image}
 use Rattle.rm_journal.specs.Entries.{block, gates_from}
-use Rattle.rm_journal.specs.Scan.{WritesBlock}
 use Rattle.rm_journal.proofs.Blocks.{length-number, gates_from-push}
 use Rattle.rm_journal.proofs.Crash.{front, front_of, length-front, block_moments, block_done, nothing_done}
 use Rattle.rm_journal.proofs.Places.{end_is}
@@ -33,7 +32,7 @@ write_block-requires-clause-within g c tells =
     let has = front_of fits.0 (seen_of past) (fits.1.images (seen_of past) (reads_as_image past)) in
     let end : c.end-end.result ≡ length (front fits.0) = c.end-end.ensures ∙ end_is c.args.self.now fits.0 fits.1.gates in
     rw (c.in_ok-reserve-2.ensures.past tells) (
-      omega (arith, end, ap length has.is, length-append (front fits.0) (has.gate ∷ has.behind)))
+    omega (arith, end, ap length has.is, length-append (front fits.0) (has.gate ∷ has.behind)))
 
 pub returns-then-is_err-clause-moments : goal.returns-then-is_err-clause-moments
 returns-then-is_err-clause-moments g c tells entries fits =
@@ -61,17 +60,18 @@ returns-clause-ok g c tells entries fits =
     let items = rw c.unwrap.ensures at c.push.ensures.items in
     let gates : c.self.inside.gates.items ≡ gates_from 8 entries = ap (λ j. j.gates) c.self.view_is ∙ fits.gates in
     let place : c.end-end.result + c.len-2.result ≡ 8 + length (flat_map block entries) + (5 + length entry) =
-      omega (
-        arith,
-        end,
-        length-front entries,
-        c.len-2.ensures,
-        c.deref.ensures.len,
-        ap length c.deref.ensures.value,
-        ap length c.in_ok-body.ensures,
-        length-append (to_be_bytes w32 (length entry) ++ entry) (0 ∷ []),
-        length-append (to_be_bytes w32 (length entry)) entry,
-        length-number (length entry)) in
+    omega (
+      arith,
+      end,
+      length-front entries,
+      c.len-2.ensures,
+      c.deref.ensures.len,
+      ap length c.deref.ensures.value,
+      ap length c.in_ok-body.ensures,
+      length-append (to_be_bytes w32 (length entry) ++ entry) (0 ∷ []),
+      length-append (to_be_bytes w32 (length entry)) entry,
+      length-number (length entry),
+    ) in
     record {
       gates =
           items
@@ -80,13 +80,13 @@ returns-clause-ok g c tells entries fits =
           ∙ sym (gates_from-push 8 entries entry);
       images =
           block_done
-            (g.D.Disk.past c.args.disk.now)
-            entries
-            fits.images
-            entry
-            up.1
-            (g.D.Disk.past c.write_block.new.disk)
-            (is_ok c.write_block.result)
-            well
-            calls;
+          (g.D.Disk.past c.args.disk.now)
+          entries
+          fits.images
+          entry
+          up.1
+          (g.D.Disk.past c.write_block.new.disk)
+          (is_ok c.write_block.result)
+          well
+          calls;
     }

@@ -1,4 +1,4 @@
-use Rattle.std.proofs.Common.{◌≡◌, ◌∙◌, List, [], ◌∷◌, ◌++◌, ap}
+use Rattle.std.proofs.Common.{◌∙◌, List, [], ◌∷◌, ◌++◌, ap}
 use Rattle.rm_disk.specs.Call.{Call, Synced, Wrote, CutTo}
 use Rattle.rm_journal.specs.Entries.{head}
 use Rattle.rm_journal.proofs.Crash.{empty_journal}
