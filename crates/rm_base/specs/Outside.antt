@@ -1,10 +1,10 @@
 -- What sources and sinks show to contracts.
-use Rattle.std.specs.Prelude.{◌≡◌, ℕ, ◌+◌, ◌<◌, ◌≤◌, ◌++◌, Bool, true, false, cond, if◌then◌else◌, ◌&&◌, ◌==◌, nat_lt, min, List, length, take, drop, Option, Result, Ok, Err}
+use Rattle.std.specs.Prelude.{ℕ, ◌≤◌, ◌++◌, Bool, true, if◌then◌else◌, ◌&&◌, ◌==◌, nat_lt, min, List, length, take, drop, Option, Result, Ok, Err}
 use Rattle.std.specs.Io.KnownBytes.{Appends, Consumes}
 use Rattle.rm_base.specs.Count.{raised_by}
 use Rattle.rm_base.specs.Numbers.{has_number}
 
--- a source over memory: what is left, which of its calls fail, how many were made, how many failed, how many bytes were taken
+-- a source over memory: what is left, which of its calls fail, how many were made and failed, how many bytes were taken
 pub record Reading : Type 0 where
   pub left : List ℕ
   pub fail_at : List ℕ
@@ -12,7 +12,7 @@ pub record Reading : Type 0 where
   pub faults : ℕ
   pub taken : ℕ
 
--- a sink over memory: what was written, which of its calls fail, how many were made, how many failed
+-- a sink over memory: what was written, which of its calls fail, how many were made and failed
 pub record Writing : Type 0 where
   pub written : List ℕ
   pub fail_at : List ℕ

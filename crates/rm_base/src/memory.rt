@@ -28,7 +28,13 @@ impl Model for MemSource {
 
     ghost Value = { Reading };
 
-    ghost view = { λ s. record { left = drop s.at s.bytes; fail_at = s.fail_at; calls = s.calls; faults = s.faults; taken = s.taken } };
+    ghost view = { λ s. record {
+      left = drop s.at s.bytes;
+      fail_at = s.fail_at;
+      calls = s.calls;
+      faults = s.faults;
+      taken = s.taken;
+    } };
 
     ghost invariant = { λ s. s.at ≤ length s.bytes };
 }
@@ -162,5 +168,49 @@ impl Sink for MemSink {
             Ok(()) => Ok(bytes.len()),
             Err(_) => Err(SinkError::Memory),
         }
+    }
+}
+
+#[cfg(test)]
+mod tests {
+    use super::*;
+    use std::test::Fail;
+
+    #[test]
+    fn reads_fail_at_their_numbers(rt: HostRuntime) -> Result<(), Fail> {
+        let mut fail_at = Numbers::new(rt.alloc());
+        fail_at.insert(2)?;
+        let mut source = MemSource::new(Blob::from_slice(rt.alloc(), b"abcde")?, fail_at);
+        let mut piece = [0; 3];
+        for (count, front) in [
+            (Ok(3), "abc"),
+            (Err(Failed), "abc"),
+            (Ok(2), "dec"),
+            (Ok(0), "dec"),
+        ] {
+            assert_eq!(rt; source.read(&mut piece), count, "before {front}");
+            assert_eq!(rt; piece.as_slice(), front.as_bytes());
+        }
+        Ok(())
+    }
+
+    #[test]
+    fn writes_fail_at_their_numbers(rt: HostRuntime) -> Result<(), Fail> {
+        let mut fail_at = Numbers::new(rt.alloc());
+        fail_at.insert(1)?;
+        fail_at.insert(3)?;
+        let mut sink = MemSink::new(rt.alloc(), fail_at);
+        let failed = Err(SinkError::Failed);
+        for (piece, count) in [
+            ("a", failed),
+            ("bc", Ok(2)),
+            ("d", failed),
+            ("", Ok(0)),
+            ("e", Ok(1)),
+        ] {
+            assert_eq!(rt; sink.write(piece.as_bytes()), count, "at {piece}");
+        }
+        assert_eq!(rt; sink.as_slice(), b"bce".as_slice());
+        Ok(())
     }
 }

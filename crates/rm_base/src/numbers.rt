@@ -171,3 +171,58 @@ fn add_reserved(numbers: &mut Vec<u64>, number: u64)
         }
     }
 }
+
+#[cfg(test)]
+mod tests {
+    use super::*;
+    use std::test::Fail;
+
+    #[test]
+    fn holds_each_number_once_and_rising(rt: HostRuntime) -> Result<(), Fail> {
+        let mut numbers = Numbers::new(rt.alloc());
+        assert!(rt; numbers.is_empty());
+        assert_eq!(rt; numbers.greatest(), 0);
+        for (number, is_new) in [
+            (5, true),
+            (2, true),
+            (9, true),
+            (5, false),
+            (1, true),
+            (9, false),
+        ] {
+            assert_eq!(rt; numbers.insert(number)?, is_new, "at {number}");
+        }
+        assert_eq!(rt; numbers.as_slice(), [1, 2, 5, 9].as_slice());
+        assert_eq!(rt; numbers.len(), 4);
+        assert_eq!(rt; numbers.get(2), Some(&5));
+        assert_eq!(rt; numbers.greatest(), 9);
+        for (number, is_there) in [
+            (1, true),
+            (3, false),
+            (9, true),
+            (10, false),
+            (u64::MAX, false),
+        ] {
+            assert_eq!(rt; numbers.has(number), is_there, "at {number}");
+        }
+        Ok(())
+    }
+
+    #[test]
+    fn unites_two_sets(rt: HostRuntime) -> Result<(), Fail> {
+        let mut odd = Numbers::new(rt.alloc());
+        let mut low = Numbers::new(rt.alloc());
+        for number in [1, 3, 5, u64::MAX] {
+            odd.insert(number)?;
+        }
+        for number in [1, 2, 3] {
+            low.insert(number)?;
+        }
+        let mut both = odd.copy()?;
+        assert_eq!(rt; both.unite(&low)?, true);
+        assert_eq!(rt; both.unite(&low)?, false);
+        assert_eq!(rt; both.unite(&odd)?, false);
+        assert_eq!(rt; both.as_slice(), [1, 2, 3, 5, u64::MAX].as_slice());
+        Ok(())
+    }
+}

@@ -48,7 +48,8 @@ pub fn read_up_to<S: Source>(alloc: Global, input: &mut S, limit: usize) -> Resu
     ensures whole { IfOk result (λ bytes. IfSome (S.left input.old) (λ left. bytes ≡ left)) }
     ensures too_long { result ≡ Err ReadError.TooLong → RoseBy (S.taken input.old) (S.taken input.new) (limit + 1) }
     ensures longer { result ≡ Err ReadError.TooLong → IfSome (S.left input.old) (λ left. limit < length left) }
-    ensures taken { result ≢ Err ReadError.TooLong → result ≢ Err ReadError.Memory → S.taken input.new ≤ S.taken input.old + limit }
+    ensures taken { result ≢ Err ReadError.TooLong → result ≢ Err ReadError.Memory
+        → S.taken input.new ≤ S.taken input.old + limit }
     ensures all_taken { IfOk result (λ bytes. S.taken input.new ≡ raised_by (S.taken input.old) (length bytes)) }
     ensures one_more { result ≡ Err ReadError.TooLong → S.taken input.new ≡ raised_by (S.taken input.old) (limit + 1) }
     ensures stops { S.taken input.new ≤ S.taken input.old + (limit + 1) }
@@ -90,4 +91,73 @@ pub fn write_all<K: Sink>(out: &mut K, bytes: &[u8]) -> Result<(), SinkError>
         written += count;
     }
     Ok(())
+}
+
+#[cfg(test)]
+mod tests {
+    use super::*;
+    use crate::memory::{MemSink, MemSource};
+    use crate::numbers::Numbers;
+    use std::test::Fail;
+
+    // Reads so many sevens up to a limit from a source of which one call fails, or none.
+    fn read_sevens(
+        alloc: Global,
+        len: u16,
+        limit: u16,
+        failing: Option<u8>,
+    ) -> Result<Blob, ReadError> {
+        let mut bytes = Blob::new(alloc);
+        for _ in 0..len {
+            bytes.push_all(b"7")?;
+        }
+        let mut fail_at = Numbers::new(alloc);
+        if let Some(before) = failing {
+            fail_at.insert(u64::from(before) + 1)?;
+        }
+        read_up_to(
+            alloc,
+            &mut MemSource::new(bytes, fail_at),
+            usize::from(limit),
+        )
+    }
+
+    #[test]
+    fn reads_up_to_the_limit(rt: HostRuntime) {
+        // how many bytes there are, the limit, how many calls succeed before one fails, and the error
+        let cases = [
+            (0, 0, None, None),
+            (1, 0, None, Some(ReadError::TooLong)),
+            (5, 5, None, None),
+            (5, 4, None, Some(ReadError::TooLong)),
+            (5, 5, Some(0), Some(ReadError::Failed)),
+            (5, 5, Some(1), Some(ReadError::Failed)),
+            (5, 4, Some(1), Some(ReadError::TooLong)),
+            (8193, 8193, None, None),
+            (8193, 8192, None, Some(ReadError::TooLong)),
+            (8193, 8193, Some(2), Some(ReadError::Failed)),
+        ];
+        for (len, limit, failing, error) in cases {
+            match read_sevens(rt.alloc(), len, limit, failing) {
+                Ok(bytes) => {
+                    assert_eq!(rt; bytes.len(), usize::from(len));
+                    assert_eq!(rt; None, error, "of {len} up to {limit}");
+                }
+                Err(e) => assert_eq!(rt; Some(e), error, "of {len} up to {limit}"),
+            }
+        }
+    }
+
+    #[test]
+    fn stops_at_a_write_that_fails(rt: HostRuntime) -> Result<(), Fail> {
+        let mut fail_at = Numbers::new(rt.alloc());
+        fail_at.insert(2)?;
+        let mut sink = MemSink::new(rt.alloc(), fail_at);
+        write_all(&mut sink, b"abc")?;
+        write_all(&mut sink, b"")?;
+        assert_eq!(rt; write_all(&mut sink, b"de"), Err(SinkError::Failed));
+        write_all(&mut sink, b"f")?;
+        assert_eq!(rt; sink.as_slice(), b"abcf".as_slice());
+        Ok(())
+    }
 }

@@ -9,17 +9,20 @@ use Rattle.std.proofs.lemmas.Slice.Zip.{firsts-zip}
 use Rattle.rm_base.specs.declared.message.Payload.{Payload}
 use Rattle.rm_base.specs.Numbers.{with_number, front_of}
 use Rattle.rm_base.proofs.NumbersLemmas.{with_number-at}
-use Rattle.rm_destination.specs.Incoming.{numbers_of, with_message, inbox_after, numbered}
+use Rattle.rm_destination.specs.Incoming.{numbers_of, with_message, inbox_after}
+use Rattle.rm_base.specs.Numbered.{numbered}
 use Rattle.rm_destination.specs.Kept.{GoesAt}
 use Rattle.rm_destination.proofs.FrontLemmas.{front_after-to}
 use Rattle.rm_destination.proofs.MessageLemmas.{with_message-zip, inbox_after-zip, length-inbox_after}
 
 -- the front is the length of the inbox
-pub length-inbox : (xs : List ℕ) (ps : List Payload) → length ps ≡ length xs → front_of xs ≡ length (inbox_after 0 (zip xs ps))
+pub length-inbox : (xs : List ℕ) (ps : List Payload) → length ps ≡ length xs
+    → front_of xs ≡ length (inbox_after 0 (zip xs ps))
 length-inbox xs ps e =
-    let same : numbers_of (zip xs ps) ≡ xs = firsts-zip xs ps e in
-    let all : 0 + length (inbox_after 0 (zip xs ps)) ≡ front_of (numbers_of (zip xs ps)) = length-inbox_after 0 (zip xs ps) in
-    let front : front_of (numbers_of (zip xs ps)) ≡ front_of xs = ap front_of same in
+    let ms = zip xs ps in
+    let same : numbers_of ms ≡ xs = firsts-zip xs ps e in
+    let all : 0 + length (inbox_after 0 ms) ≡ front_of (numbers_of ms) = length-inbox_after 0 ms in
+    let front : front_of (numbers_of ms) ≡ front_of xs = ap front_of same in
     omega arith
 
 -- a list's first items are those of the list
@@ -30,7 +33,8 @@ slice_get-take (suc m) (x ∷ xs) zero h = refl
 slice_get-take (suc m) (x ∷ xs) (suc k) h = slice_get-take m xs k (omega arith)
 
 -- the kept payloads up to the front are the inbox
-pub numbered-inbox : (xs : List ℕ) (ps : List Payload) (i : ℕ) → length ps ≡ length xs → 0 < i → i ≤ front_of xs → slice_get ps (i - 1) ≡ numbered (inbox_after 0 (zip xs ps)) i
+pub numbered-inbox : (xs : List ℕ) (ps : List Payload) (i : ℕ) → length ps ≡ length xs → 0 < i → i ≤ front_of xs
+    → slice_get ps (i - 1) ≡ numbered (inbox_after 0 (zip xs ps)) i
 numbered-inbox xs ps i e from to =
     let other : (i == 0) ≡ false = grind (arith, nat_tests) in
     let all : front_of xs - 0 ≡ front_of xs = omega arith in
@@ -44,27 +48,30 @@ numbered-past items i h =
     rw other (slice_get_past items (i - 1) (omega arith))
 
 -- a number and its payload go in at the number's place
-pub zip-with_number : (xs : List ℕ) (ps : List Payload) (n : ℕ) (p : Payload) (i : ℕ) → length ps ≡ length xs → GoesAt xs n i → zip (with_number xs n) (insert ps i p) ≡ with_message (zip xs ps) n p
+pub zip-with_number : (xs : List ℕ) (ps : List Payload) (n : ℕ) (p : Payload) (i : ℕ)
+    → length ps ≡ length xs → GoesAt xs n i → zip (with_number xs n) (insert ps i p) ≡ with_message (zip xs ps) n p
 zip-with_number xs ps n p i e g =
     rw (with_number-at n xs i g.within g.below g.above) (with_message-zip xs ps n p i e g.within g.below g.above)
 
--- both lists grow alike
-pub length-with_number : (xs : List ℕ) (ps : List Payload) (n : ℕ) (p : Payload) (i : ℕ) → length ps ≡ length xs → GoesAt xs n i → length (insert ps i p) ≡ length (with_number xs n)
-length-with_number xs ps n p i e g =
-    let payloads : length (insert ps i p) ≡ length ps + 1 = length-insert ps i p (omega (arith, g.within)) in
-    let numbers : length (insert xs i n) ≡ length xs + 1 = length-insert xs i n g.within in
-    rw (with_number-at n xs i g.within g.below g.above) (omega arith)
+-- a number more is one more
+pub length-with_number : (xs : List ℕ) (n i : ℕ) → GoesAt xs n i → length (with_number xs n) ≡ length xs + 1
+length-with_number xs n i g = rw (with_number-at n xs i g.within g.below g.above) (length-insert xs i n g.within)
 
--- the front was reached before, and is no further than there are numbers
+-- both lists grow alike
+pub length-insert_beside : (xs : List ℕ) (ps : List Payload) (n : ℕ) (p : Payload) (i : ℕ)
+    → length ps ≡ length xs → GoesAt xs n i → length (insert ps i p) ≡ length (with_number xs n)
+length-insert_beside xs ps n p i e g =
+    let payloads : length (insert ps i p) ≡ length ps + 1 = length-insert ps i p (omega (arith, g.within)) in
+    omega (arith, length-with_number xs n i g)
+
+-- the front is no further than there are numbers, and so after one more
 pub front_of-within : (xs : List ℕ) (n i : ℕ) → GoesAt xs n i → front_of xs ≤ length (with_number xs n)
-front_of-within xs n i g =
-    let numbers : length (insert xs i n) ≡ length xs + 1 = length-insert xs i n g.within in
-    let most : front_of xs ≤ 0 + length xs = front_after-to 0 xs in
-    rw (with_number-at n xs i g.within g.below g.above) (omega arith)
+front_of-within xs n i g = omega (arith, front_after-to 0 xs, length-with_number xs n i g)
 
 -- the test whether a number is past the window
 pub past_window : (front n : ℕ) → 1024 < n - front → nat_lt (front + 1024) n ≡ true
 past_window front n h = grind (arith, nat_tests)
 
+-- the test where it is not
 pub in_window : (front n : ℕ) → n - front ≤ 1024 → nat_lt (front + 1024) n ≡ false
 in_window front n h = grind (arith, nat_tests)

@@ -1,4 +1,4 @@
--- The destination's side of one sequence: WS-ReliableMessaging 1.2, sections 3.4, 3.7 and 3.8.
+-- The destination's side of one sequence: WS-ReliableMessaging 1.2, sections 3.4, 3.7 and 3.9.
 use Rattle.std.specs.Prelude.{◌≡◌, ℕ, ◌+◌, ◌-◌, ◌==◌, nat_le, nat_lt, Bool, false, if◌then◌else◌, List, [], ◌∷◌, map, Option, Some, None, slice_get, Result, Ok, Err}
 use Rattle.rm_base.specs.declared.message.Behaviour.{Behaviour}
 use Rattle.rm_base.specs.declared.message.Payload.{Payload}
@@ -42,10 +42,6 @@ inbox_after n (m ∷ ms) = if m.0 == n + 1 then m.1 ∷ inbox_after m.0 ms else 
 -- under DiscardFollowingFirstGap: the payloads of the messages from 1 on to the first gap
 abbrev pub inbox_of : Receiving → List Payload
 inbox_of r = inbox_after 0 r.received
-
--- the item with a number, counted from 1, where there is one
-abbrev pub numbered : {A : Type 0} → List A → ℕ → Option A
-numbered items number = if number == 0 then None else slice_get items (number - 1)
 
 -- the moment is at or past the deadline
 abbrev pub is_over : Option ℕ → ℕ → Bool

@@ -2,7 +2,8 @@ ghost use Rattle.std.specs.Prelude.{◌≡◌, ◌+◌, ◌≤◌, ◌<◌, [], 
 ghost use Rattle.std.specs.List.{zip};
 ghost use Rattle.std.specs.Option.{option_copied};
 ghost use Rattle.rm_base.specs.Numbers.{IsRising, has_number, front_of, front_after};
-ghost use Rattle.rm_destination.specs.Incoming.{Receiving, numbers_of, with_message, inbox_of, numbered, phase_of, kind_of, took_of, after_take, IsTakeError};
+ghost use Rattle.rm_destination.specs.Incoming.{Receiving, numbers_of, inbox_of, phase_of, kind_of, took_of, after_take, IsTakeError};
+ghost use Rattle.rm_base.specs.Numbered.{numbered};
 ghost use Rattle.rm_destination.specs.Kept.{IsKept, GoesAt};
 
 use crate::outcome::{DestError, InPhase, Took};
@@ -26,7 +27,11 @@ pub struct Incoming {
 impl Model for Incoming {
     ghost Value = { Receiving };
 
-    ghost view = { λ i. record { behaviour = i.behaviour; deadline = i.deadline; received = zip i.numbers i.payloads.items } };
+    ghost view = { λ i. record {
+      behaviour = i.behaviour;
+      deadline = i.deadline;
+      received = zip i.numbers i.payloads.items;
+    } };
 
     ghost invariant = { λ i. IsKept i.numbers i.payloads.items i.front };
 }
@@ -132,7 +137,7 @@ impl Incoming {
     fn keep(&mut self, number: u64, payload: Payload) -> Result<(), Memory>
         requires from_one { 0 < number }
         requires is_new { has_number (numbers_of self.old.received) number ≡ false }
-        ensures ok { OnOk result (self.new ≡ record self.old { received = with_message self.old.received number payload }) }
+        ensures ok { OnOk result (self.new ≡ after_take self.old number payload Took.New) }
         ensures err { OnErr result (self.new ≡ self.old) }
     {
         let place = place_of(self.numbers.as_slice(), number);

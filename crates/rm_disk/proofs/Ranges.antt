@@ -12,28 +12,55 @@ or_parts false b e = (refl, e)
 
 -- a place that isn't in a range lies before it or behind it
 pub outside : (i at count : ℕ) → is_within i (at, count) ≡ false → (i < at) ⊎ (at + count ≤ i)
-outside i at count e = elim (and_cases _ _ e) [ inl before ↦ inl (leb-false at i before) | inr behind ↦ inr (ltb-false i (at + count) behind) ]
+outside i at count e = elim (and_cases _ _ e) [
+  | inl before ↦ inl (leb-false at i before)
+  | inr behind ↦ inr
+      (ltb-false i (at + count) behind)
+]
 
 -- a place that no range has with one more
-pub is_written-push : (ranges : List (ℕ × ℕ)) (range : ℕ × ℕ) (i : ℕ) → is_written (ranges ++ range ∷ []) i ≡ false → (is_written ranges i ≡ false) × (is_within i range ≡ false)
+pub is_written-push : (ranges : List (ℕ × ℕ)) (range : ℕ × ℕ) (i : ℕ) → is_written (ranges ++ range ∷ []) i ≡ false
+    → (is_written ranges i ≡ false) × (is_within i range ≡ false)
 is_written-push ranges range i e =
-    let parts = or_parts (is_written ranges i) (is_written (range ∷ []) i) (sym (list_any-append (is_within i) ranges (range ∷ [])) ∙ e) in
+    let parts = or_parts (is_written ranges i) (is_written (range ∷ []) i)
+    (sym (list_any-append (is_within i) ranges (range ∷ [])) ∙ e) in
     (parts.0, (or_parts (is_within i range) false parts.1).0)
 
-pub length-overwritten : (old : List ℕ) (at : ℕ) (bytes : List ℕ) → at ≤ length old → length (overwritten old at bytes) ≡ max (length old) (at + length bytes)
+pub length-overwritten : (old : List ℕ) (at : ℕ) (bytes : List ℕ) → at ≤ length old
+    → length (overwritten old at bytes) ≡ max (length old) (at + length bytes)
 length-overwritten old at bytes within =
-    omega (arith, length-append (take at old ++ bytes) (drop (at + length bytes) old), length-append (take at old) bytes, length-take at old, length-drop (at + length bytes) old)
+    omega (
+      arith,
+      length-append (take at old ++ bytes) (drop (at + length bytes) old),
+      length-append (take at old) bytes,
+      length-take at old,
+      length-drop (at + length bytes) old,
+    )
 
-pub overwritten-no_longer : (old : List ℕ) (at : ℕ) (bytes : List ℕ) → length (overwritten old at bytes) ≤ max (length old) (at + length bytes)
+pub overwritten-no_longer : (old : List ℕ) (at : ℕ) (bytes : List ℕ)
+    → length (overwritten old at bytes) ≤ max (length old) (at + length bytes)
 overwritten-no_longer old at bytes =
-    omega (arith, length-append (take at old ++ bytes) (drop (at + length bytes) old), length-append (take at old) bytes, length-take at old, length-drop (at + length bytes) old)
+    omega (
+      arith,
+      length-append (take at old ++ bytes) (drop (at + length bytes) old),
+      length-append (take at old) bytes,
+      length-take at old,
+      length-drop (at + length bytes) old,
+    )
 
 pub overwritten-no_shorter : (old : List ℕ) (at : ℕ) (bytes : List ℕ) → length old ≤ length (overwritten old at bytes)
 overwritten-no_shorter old at bytes =
-    omega (arith, length-append (take at old ++ bytes) (drop (at + length bytes) old), length-append (take at old) bytes, length-take at old, length-drop (at + length bytes) old)
+    omega (
+      arith,
+      length-append (take at old ++ bytes) (drop (at + length bytes) old),
+      length-append (take at old) bytes,
+      length-take at old,
+      length-drop (at + length bytes) old,
+    )
 
 -- what is not in the range stays
-pub overwritten-outside : (old : List ℕ) (at : ℕ) (bytes : List ℕ) (i : ℕ) → i < length old → is_within i (at, length bytes) ≡ false → slice_index (overwritten old at bytes) i ≡ slice_index old i
+pub overwritten-outside : (old : List ℕ) (at : ℕ) (bytes : List ℕ) (i : ℕ) → i < length old
+    → is_within i (at, length bytes) ≡ false → slice_index (overwritten old at bytes) i ≡ slice_index old i
 overwritten-outside old at bytes i low e =
     let tail = drop (at + length bytes) old in
     let size = length-append (take at old) bytes in
@@ -43,7 +70,8 @@ overwritten-outside old at bytes i low e =
           ∙ get_or_append_left (take at old) bytes 0 i (omega (arith, length-take at old))
           ∙ get_or-take at old i 0 before
       | inr behind ↦
-          get_or-append_right (take at old ++ bytes) tail (at + length bytes) i 0 (omega (arith, size, length-take at old)) behind
+          get_or-append_right (take at old ++ bytes) tail (at + length bytes) i 0
+          (omega (arith, size, length-take at old)) behind
           ∙ get_or-drop (at + length bytes) old (i - (at + length bytes)) 0
           ∙ ap (λ (n : ℕ). slice_index old n) (omega arith)
     ]
@@ -58,7 +86,8 @@ pub within_behind : (i at count : ℕ) → at + count ≤ i → is_within i (at,
 within_behind i at count behind = and_right (nat_le at i) _ (le-ltb i (at + count) behind)
 
 -- the first ranges, and one more
-pub is_written-more : (ranges : List (ℕ × ℕ)) (k i : ℕ) → k < length ranges → is_written (take (k + 1) ranges) i ≡ (is_written (take k ranges) i || is_within i (get_or ranges k (0, 0)))
+pub is_written-more : (ranges : List (ℕ × ℕ)) (k i : ℕ) → k < length ranges
+    → is_written (take (k + 1) ranges) i ≡ (is_written (take k ranges) i || is_within i (get_or ranges k (0, 0)))
 is_written-more ranges k i low =
     ap (λ (r : List (ℕ × ℕ)). is_written r i) (take_more ranges k (0, 0) low)
     ∙ list_any-append (is_within i) (take k ranges) (get_or ranges k (0, 0) ∷ [])

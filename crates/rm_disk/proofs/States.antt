@@ -64,10 +64,15 @@ sound (call ∷ earlier) = sound_after call (state earlier) (sound earlier)
 pub length-filled : (s : State) (byte n : ℕ) → length (filled s byte n) ≡ n
 length-filled s byte zero = refl
 length-filled s byte (suc n) =
-    omega (arith, length-append (filled s byte n) (cond (is_free s n) byte (slice_index s.seen n) ∷ []), length-filled s byte n)
+    omega (
+      arith,
+      length-append (filled s byte n) (cond (is_free s n) byte (slice_index s.seen n) ∷ []),
+      length-filled s byte n,
+    )
 
 -- each place of a filled list
-pub filled-at : (s : State) (byte n i : ℕ) → i < n → slice_index (filled s byte n) i ≡ cond (is_free s i) byte (slice_index s.seen i)
+pub filled-at : (s : State) (byte n i : ℕ) → i < n
+    → slice_index (filled s byte n) i ≡ cond (is_free s i) byte (slice_index s.seen i)
 filled-at s byte zero i low = absurd (omega arith)
 filled-at s byte (suc n) i low =
     let rest = cond (is_free s n) byte (slice_index s.seen n) ∷ [] in

@@ -46,7 +46,8 @@ filled s byte (suc n) = filled s byte n ++ (if is_free s n then byte else slice_
 -- ones in the free places; the smallest length with zeros there.
 abbrev pub left_by : ℕ → State → List ℕ
 left_by choice s =
-    if choice == 0 then s.synced else if choice == 1 then s.seen else if choice == 2 then filled s 1 s.high else filled s 0 s.low
+    if choice == 0 then s.synced else if choice == 1 then s.seen else if choice == 2 then filled s 1 s.high else
+    filled s 0 s.low
 
 -- old with these bytes at this place
 abbrev pub overwritten : List ℕ → ℕ → List ℕ → List ℕ

@@ -18,7 +18,8 @@ MayLeave past bytes = IsImage (state past) bytes
 -- write or a cut is one after it, and a crash inside a sync is one before it: each leaves no more than those may.
 abbrev pub LeftSince : List Call → ℕ → List ℕ → Type 0
 LeftSince [] t bytes = MayLeave [] bytes
-LeftSince (call ∷ earlier) t bytes = MayLeave (call ∷ earlier) bytes ⊎ ((t ≤ length earlier) × LeftSince earlier t bytes)
+LeftSince (call ∷ earlier) t bytes = MayLeave (call ∷ earlier) bytes ⊎ ((t ≤ length earlier)
+    × LeftSince earlier t bytes)
 
 -- The new history goes on from the old one, and whatever a crash at a moment since might have left has P.
 pub record OnlyLeaves (old new : List Call) (P : List ℕ → Type 0) : Type 0 where

@@ -35,7 +35,8 @@ pub trait Disk {
     /// Fills the buffer with the bytes from a place on. After a failure the buffer holds anything.
     fn read(&mut self, at: u64, buf: &mut [u8]) -> Result<(), Failed>
         requires { IsTrue tells → at + length buf.old ≤ length (seen_of (past self.old)) }
-        ensures gives { IsTrue tells → OnOk result (buf.new ≡ slice_range (seen_of (past self.old)) at (at + length buf.old)) }
+        ensures gives { IsTrue tells → OnOk result (buf.new ≡ slice_range (seen_of (past self.old)) at
+            (at + length buf.old)) }
         ensures past { IsTrue tells → past self.new ≡ past self.old }
         ensures fuse { IsTrue tells → Burns 1 (fuse self.old) (fuse self.new) (is_ok result) }
         ensures cause { HasCause (faults self.old) (faults self.new) result }
@@ -54,7 +55,8 @@ pub trait Disk {
     fn write_at(&mut self, at: u64, bytes: &[u8]) -> Result<(), Failed>
         requires within { IsTrue tells → at ≤ length (seen_of (past self.old)) }
         requires room { Covers (spare self.old) 1 (length bytes.now) }
-        ensures past { IsTrue tells → past self.new ≡ (if is_ok result then Wrote at bytes.now else WriteFailed at (length bytes.now)) ∷ past self.old }
+        ensures past { IsTrue tells → past self.new ≡ (if is_ok result then Wrote at bytes.now else WriteFailed at
+            (length bytes.now)) ∷ past self.old }
         ensures fuse { IsTrue tells → Burns 1 (fuse self.old) (fuse self.new) (is_ok result) }
         ensures cause { HasCause (faults self.old) (faults self.new) result }
         ensures spare { Spends 1 (length bytes.now) (spare self.old) (spare self.new) };
@@ -63,7 +65,8 @@ pub trait Disk {
     fn cut(&mut self, len: u64) -> Result<(), Failed>
         requires within { IsTrue tells → len ≤ length (seen_of (past self.old)) }
         requires room { Covers (spare self.old) 1 0 }
-        ensures past { IsTrue tells → past self.new ≡ (if is_ok result then CutTo len else CutFailed len) ∷ past self.old }
+        ensures past { IsTrue tells → past self.new ≡ (if is_ok result then CutTo len else CutFailed len) ∷ past
+            self.old }
         ensures fuse { IsTrue tells → Burns 1 (fuse self.old) (fuse self.new) (is_ok result) }
         ensures cause { HasCause (faults self.old) (faults self.new) result }
         ensures spare { Spends 1 0 (spare self.old) (spare self.new) };
@@ -93,7 +96,8 @@ pub trait CrashDisk: Disk {
     /// may hold anything, choice 3 the smallest length and zeros there. Nothing is spare afterwards.
     fn crash(&mut self, choice: u8) -> Result<(), Memory>
         requires { choice ≤ 3 }
-        ensures past { Self.past self.new ≡ (if is_ok result then Crashed choice ∷ Self.past self.old else Self.past self.old) }
+        ensures past { Self.past self.new ≡ (if is_ok result then Crashed choice ∷ Self.past self.old else Self.past
+            self.old) }
         ensures fuse { Self.fuse self.new ≡ (if is_ok result then None else Self.fuse self.old) }
         ensures faults { Self.faults self.new ≡ Self.faults self.old };
 

@@ -4,7 +4,8 @@ ghost use Rattle.rm_disk.specs.Call.{is_within, is_written, overwritten};
 fn copy_range(target: &mut [u8], at: usize, count: usize, source: &[u8])
     requires { length target.old ≤ length source.now }
     ensures { (i : ℕ) → i < length target.old →
-        slice_index target.new i ≡ (if is_within i (at, count) then slice_index source.now i else slice_index target.old i) }
+        slice_index target.new i ≡ (if is_within i (at, count) then slice_index source.now i else slice_index
+        target.old i) }
 {
     let end = at.saturating_add(count).min(target.len());
     if at < end {
@@ -15,7 +16,8 @@ fn copy_range(target: &mut [u8], at: usize, count: usize, source: &[u8])
 fn patch_slice(target: &mut [u8], ranges: &[(usize, usize)], source: &[u8])
     requires { length target.old ≤ length source.now }
     ensures { (i : ℕ) → i < length target.old →
-        slice_index target.new i ≡ (if is_written ranges.now i then slice_index source.now i else slice_index target.old i) }
+        slice_index target.new i ≡ (if is_written ranges.now i then slice_index source.now i else slice_index
+        target.old i) }
 {
     for &(at, count) in ranges {
         copy_range(target, at, count, source);
@@ -26,7 +28,8 @@ fn patch_slice(target: &mut [u8], ranges: &[(usize, usize)], source: &[u8])
 pub fn patch(target: &mut Vec<u8>, ranges: &[(usize, usize)], source: &[u8])
     requires { length target.old.items ≤ length source.now }
     ensures each { (i : ℕ) → i < length target.old.items →
-        slice_index target.new.items i ≡ (if is_written ranges.now i then slice_index source.now i else slice_index target.old.items i) }
+        slice_index target.new.items i ≡ (if is_written ranges.now i then slice_index source.now i else slice_index
+        target.old.items i) }
     ensures length { length target.new.items ≡ length target.old.items }
     ensures len { vec_len target.new ≡ vec_len target.old }
     ensures capacity { vec_capacity target.new ≡ vec_capacity target.old }

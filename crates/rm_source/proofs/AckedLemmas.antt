@@ -18,7 +18,8 @@ greatest_of-with_number (x ∷ xs) n =
     grind (arith, nat_tests)
 
 -- more numbers
-pub greatest_of-united : (xs ys : List ℕ) (n : ℕ) → greatest_of xs ≤ n → greatest_of ys ≤ n → greatest_of (united xs ys) ≤ n
+pub greatest_of-united : (xs ys : List ℕ) (n : ℕ) → greatest_of xs ≤ n → greatest_of ys ≤ n
+    → greatest_of (united xs ys) ≤ n
 greatest_of-united xs [] n g h = g
 greatest_of-united xs (y ∷ ys) n g h =
     greatest_of-united (with_number xs y) ys n (omega (arith, greatest_of-with_number xs y)) (omega arith)

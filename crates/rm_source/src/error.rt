@@ -14,7 +14,7 @@ pub enum SourceError {
     NotOpen { phase: OutPhase },
     #[error("{unacked} messages are not acknowledged")]
     WindowFull { unacked: u64 },
-    /// The greatest message number is used: MessageNumberRollover of WS-ReliableMessaging 1.2, section 4.3.
+    /// The greatest message number is used: MessageNumberRollover of WS-ReliableMessaging 1.2, section 4.5.
     #[error("the message numbers are used up")]
     Rollover,
     /// A number is acknowledged that no message has: InvalidAcknowledgement of section 4.4.

@@ -1,7 +1,7 @@
-ghost use Rattle.std.specs.Prelude.{◌≡◌, ◌+◌, ◌++◌, ◌≤◌, [], ◌∷◌, length, unwrap_or, IfOk, IfErr, IfSome, OnOk, OnErr};
+ghost use Rattle.std.specs.Prelude.{◌≡◌, ◌+◌, ◌++◌, ◌≤◌, ◌<◌, [], ◌∷◌, length, unwrap_or, IfOk, IfErr, IfSome, OnOk, OnErr};
 ghost use Rattle.std.specs.Option.{option_copied};
 ghost use Rattle.rm_base.specs.Numbers.{united, brings_new, greatest_of};
-ghost use Rattle.rm_source.specs.Numbered.{numbered};
+ghost use Rattle.rm_base.specs.Numbered.{numbered};
 ghost use Rattle.rm_source.specs.Outgoing.{Sending, unacked_of, room_refusal, accept_refusal, learn_refusal};
 
 use crate::error::SourceError;
@@ -50,10 +50,12 @@ impl Outgoing {
         self.phase
     }
 
+    /// How many payloads were accepted. Memory holds fewer than there are message numbers.
     pub fn accepted_len(&self) -> u64
-        ensures { result ≡ length self.now.accepted }
+        ensures count { result ≡ length self.now.accepted }
+        ensures few { length self.now.accepted < MAX_NO }
     {
-        self.accepted.len() as u64
+        self.accepted.as_slice().len() as u64
     }
 
     /// The payload with a message number, counted from 1.
@@ -104,7 +106,8 @@ impl Outgoing {
         ensures ok { OnOk result (self.new ≡ record self.old { acked = united self.old.acked given.now }) }
         ensures is_new { IfOk result (λ is_new. is_new ≡ brings_new self.old.acked given.now) }
         ensures refused { IfSome (learn_refusal self.old given.now) (λ refusal. result ≡ Err refusal) }
-        ensures error { IfErr result (λ error. error ≡ unwrap_or (learn_refusal self.old given.now) SourceError.Memory) }
+        ensures error { IfErr result (λ error. error
+            ≡ unwrap_or (learn_refusal self.old given.now) SourceError.Memory) }
         ensures err { OnErr result (self.new ≡ self.old) }
     {
         let number = given.greatest();

@@ -1,3 +1,5 @@
+pub mod Lines
+pub mod Ranges
 pub mod Replay
 pub mod Report
 pub mod Script

@@ -30,8 +30,12 @@ summary_text w = out_text w.source ++ in_text w.dest ++ items_text 0 (inbox_of w
 abbrev pub report_of : List Event → World → List ℕ
 report_of events w = lines_text 0 events w ++ summary_text (run events w)
 
+-- what stands where memory ran out at a line: nothing of it, its record without its packet, or all of it
+abbrev pub IsCutIn : Event → World → World → Type 0
+IsCutIn event old new = (new ≡ old) ⊎ ((new ≡ recorded old event) ⊎ (new ≡ happens old event))
+
 -- where memory ran out, some first lines were run, and of the next one perhaps the record, without its packet
 abbrev pub IsCutShort : List Event → World → World → Type 0
 IsCutShort events old new = (k : ℕ) × (k ≤ length events)
     × ((new ≡ run (take k events) old)
-      ⊎ ((event : Event) × (slice_get events k ≡ Some event) × (new ≡ recorded (run (take k events) old) event)))
+    ⊎ ((event : Event) × (slice_get events k ≡ Some event) × (new ≡ recorded (run (take k events) old) event)))

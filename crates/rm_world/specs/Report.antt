@@ -1,5 +1,5 @@
 -- The report of a run: a line for each line of the script that does something, and then what both sides know.
-use Rattle.std.specs.Prelude.{ℕ, ◌+◌, ◌==◌, if◌then◌else◌, List, [], ◌∷◌, ◌++◌, length, Option, Some, None, codes, decimal}
+use Rattle.std.specs.Prelude.{ℕ, ◌+◌, ◌==◌, if◌then◌else◌, List, [], ◌∷◌, ◌++◌, length, codes, decimal}
 use Rattle.hex.specs.Hex.{encode_lower}
 use Rattle.rm_base.specs.declared.message.Payload.{Payload}
 use Rattle.rm_source.specs.declared.phase.OutPhase.{OutPhase}
@@ -27,7 +27,7 @@ outcome_text NoPacket = codes "no-packet"
 abbrev pub line_text : ℕ → Outcome → ℕ → ℕ → ℕ → List ℕ
 line_text number outcome one two packets =
     decimal number ++ codes " " ++ outcome_text outcome ++ codes " " ++ decimal one ++ codes " " ++ decimal two
-      ++ codes " " ++ decimal packets ++ codes "\n"
+    ++ codes " " ++ decimal packets ++ codes "\n"
 
 -- numbers that follow one another, from low to high
 abbrev pub range_text : ℕ → ℕ → List ℕ
@@ -55,7 +55,8 @@ phase_text Failed = codes "failed"
 
 -- out N K PHASE accepted A acked R
 abbrev pub out_text : Sending → List ℕ
-out_text s = codes "out 1 1 " ++ phase_text s.phase ++ codes " accepted " ++ decimal (length s.accepted) ++ codes " acked "
+out_text s =
+    codes "out 1 1 " ++ phase_text s.phase ++ codes " accepted " ++ decimal (length s.accepted) ++ codes " acked "
     ++ ranges_text s.acked ++ codes "\n"
 
 -- item N K I HEX, for the payloads after the first number ones
@@ -63,5 +64,4 @@ abbrev pub items_text : ℕ → List Payload → List ℕ
 items_text number [] = []
 items_text number (payload ∷ payloads) =
     codes "item 2 1 " ++ decimal (number + 1) ++ codes " " ++ encode_lower payload.bytes ++ codes "\n"
-      ++ items_text (number + 1) payloads
-
+    ++ items_text (number + 1) payloads

@@ -3,7 +3,8 @@ use Rattle.std.specs.Prelude.{◌≡◌, ℕ, ◌≤◌, true, List, length, Som
 use Rattle.std.specs.List.{AllByRecursion}
 use Rattle.rm_base.specs.Numbers.{IsRising, has_number, greatest_of}
 use Rattle.rm_base.specs.declared.message.Payload.{Payload}
-use Rattle.rm_source.specs.Numbered.{numbered}
+use Rattle.rm_base.specs.Numbered.{numbered}
+use Rattle.rm_source.specs.declared.phase.OutPhase.TheVariants.{Open}
 use Rattle.rm_destination.specs.Incoming.{numbers_of}
 use Rattle.rm_world.specs.declared.packet.PlainPacket.{PlainPacket}
 use Rattle.rm_world.specs.declared.packet.PlainPacket.TheVariants.{Data, Ack}
@@ -23,6 +24,7 @@ abbrev pub IsSoundMessage : List (List ℕ) → (ℕ × Payload) → Type 0
 IsSoundMessage accepted message = numbered accepted message.0 ≡ Some message.1.bytes
 
 pub record IsSound (w : World) : Type 0 where
+  pub opened : w.source.phase ≡ Open
   pub endless : w.dest.deadline ≡ None
   pub packets : AllByRecursion (IsSoundPacket w.source.accepted w.dest.received) w.packets
   pub messages : AllByRecursion (IsSoundMessage w.source.accepted) w.dest.received

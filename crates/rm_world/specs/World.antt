@@ -3,7 +3,7 @@
 use Rattle.std.specs.Prelude.{◌≡◌, ℕ, ◌+◌, ◌-◌, ◌==◌, Bool, true, false, if◌then◌else◌, List, [], ◌∷◌, ◌++◌, length, Option, Some, None, is_none}
 use Rattle.rm_base.specs.Count.{raised_by}
 use Rattle.rm_base.specs.Numbers.{united, brings_new}
-use Rattle.rm_source.specs.Numbered.{numbered}
+use Rattle.rm_base.specs.Numbered.{numbered}
 use Rattle.rm_base.specs.declared.message.Payload.{Payload}
 use Rattle.rm_source.specs.Outgoing.{Sending, accept_refusal}
 use Rattle.rm_source.specs.declared.error.SourceError.{SourceError}

@@ -4,6 +4,7 @@
 #![tactic(auto)]
 
 pub mod event;
+pub mod laws;
 pub mod packet;
 pub mod report;
 pub mod run;

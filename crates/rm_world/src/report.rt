@@ -1,5 +1,7 @@
-ghost use Rattle.std.specs.Prelude.{◌≡◌, ◌++◌, codes, decimal, OnOk};
+ghost use Rattle.std.specs.Prelude.{◌≡◌, ℕ, List, ◌++◌, codes, decimal, OnOk};
 ghost use Rattle.hex.specs.Hex.{encode_lower};
+ghost use Rattle.rm_base.specs.Numbers.{IsRising};
+ghost use Rattle.rm_world.specs.Ranges.{AreRangesOf, text_of_ranges};
 ghost use Rattle.rm_world.specs.Report.{refusal_name, outcome_text, line_text, range_text, ranges_text, phase_text, out_text};
 
 use crate::event::Outcome;
@@ -22,11 +24,18 @@ pub fn push_line(
     push_decimal(out, number)?;
     out.push_all(b" ")?;
     out.push_all(outcome_name(outcome))?;
-    for count in [one, two, packets] {
-        out.push_all(b" ")?;
-        push_decimal(out, count)?;
-    }
+    push_count(out, one)?;
+    push_count(out, two)?;
+    push_count(out, packets)?;
     out.push_all(b"\n")
+}
+
+// Appends a space and a number.
+fn push_count(out: &mut Blob, count: u64) -> Result<(), Memory>
+    ensures { OnOk result (out.new ≡ out.old ++ (codes " " ++ decimal count)) }
+{
+    out.push_all(b" ")?;
+    push_decimal(out, count)
 }
 
 /// Appends what the source knows of its sequence.
@@ -134,6 +143,12 @@ fn phase_name(phase: OutPhase) -> &'static [u8]
         OutPhase::Failed => b"failed",
     }
 }
+
+/// The text of rising numbers is that of ranges that hold exactly these numbers, and of which no two could be one.
+pub fn ranges_hold_the_numbers()
+    ensures { (numbers : List ℕ) → IsRising numbers
+        → (ranges : List (ℕ × ℕ)) × AreRangesOf ranges numbers × (ranges_text numbers ≡ text_of_ranges ranges) }
+{}
 
 #[cfg(test)]
 mod tests {

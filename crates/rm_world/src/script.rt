@@ -1,4 +1,6 @@
-ghost use Rattle.std.specs.Prelude.{◌≡◌, ℕ, ◌<◌, ◌≤◌, ◌^◌, List, ◌∷◌, ◌++◌, codes, decimal, length, IsTrue, ◌↔◌, IfOk, IfSome, IfNone, Some, Err};
+ghost use Rattle.std.specs.Prelude.{◌≡◌, ◌≢◌, ℕ, ◌<◌, ◌≤◌, ◌^◌, ◌==◌, position, List, [], ◌∷◌, ◌++◌, codes, decimal, length, IsTrue, ◌↔◌, IfOk, IfSome, IfNone, Some, Err};
+ghost use Rattle.std.specs.List.{AllByRecursion, flat_map};
+ghost use Rattle.rm_world.specs.Lines.{ended, HasNoLf};
 ghost use Rattle.rm_world.specs.Script.{lines_of, Says, IsScript, IsFirstBad};
 ghost use Rattle.rm_world.specs.declared.event.Event.{Event};
 ghost use Rattle.rm_world.specs.declared.script.ScriptError.TheVariants.{Memory as WantsMemory};
@@ -58,10 +60,18 @@ fn first_line(bytes: &[u8]) -> (&[u8], &[u8])
     ensures lines { lines_of bytes.now ≡ result.0.now ∷ lines_of result.1.now }
     ensures shorter { length result.1.now < length bytes.now }
 {
-    match bytes.iter().position(|byte| *byte == b'\n') {
+    match line_end(bytes) {
         Some(end) => (&bytes[..end], &bytes[end + 1..]),
-        None => (bytes, &bytes[bytes.len()..]),
+        None => (bytes, &[]),
     }
+}
+
+// Where the first LF stands.
+fn line_end(bytes: &[u8]) -> Option<usize>
+    ensures within { IfSome result (λ end. end < length bytes.now) }
+    ensures end { result ≡ position (λ byte. byte == 10) bytes.now }
+{
+    bytes.iter().position(|byte| *byte == b'\n')
 }
 
 // What a line says, where it says something that a script may say.
@@ -72,19 +82,28 @@ fn event_of(alloc: Global, line: &[u8]) -> Result<Option<Event>, Memory>
     if is_blank(line) {
         return Ok(Some(Event::Blank));
     }
-    if let Some(text) = line.strip_prefix(b"send 1 1 ") {
+    if let Some(text) = behind(line, b"send 1 1 ") {
         if text.is_empty() {
             return Ok(None);
         }
         let text = Blob::from_slice(alloc, text)?;
         return Ok(Some(Event::Send { text }));
     }
-    if let Some(digits) = line.strip_prefix(b"deliver ") {
-        if let Some(packet) = packet_of(digits) {
-            return Ok(Some(Event::Deliver { packet }));
-        }
+    let Some(digits) = behind(line, b"deliver ") else {
+        return Ok(None);
+    };
+    match packet_of(digits) {
+        Some(packet) => Ok(Some(Event::Deliver { packet })),
+        None => Ok(None),
     }
-    Ok(None)
+}
+
+// What stands behind a word at the front of a line.
+fn behind<'a>(line: &'a [u8], word: &[u8]) -> Option<&'a [u8]>
+    ensures found { IfSome result (λ rest. line.now ≡ word.now ++ rest.now) }
+    ensures none { IfNone result ((rest : List ℕ) → line.now ≢ word.now ++ rest) }
+{
+    line.strip_prefix(word)
 }
 
 fn is_blank(line: &[u8]) -> bool
@@ -110,14 +129,43 @@ fn number_of(digits: &[u8]) -> Option<u64>
     ensures found { IfSome result (λ number. digits.now ≡ decimal number) }
     ensures only { (number : ℕ) → number < 2 ^ 64 → digits.now ≡ decimal number → result ≡ Some number }
 {
-    let text = str::from_utf8(digits).ok()?;
-    let number = text.parse::<u64>().ok()?;
-    let mut buffer = Buffer::new();
-    if buffer.format(number).as_bytes() != digits {
+    let Ok(text) = str::from_utf8(digits) else {
         return None;
+    };
+    let Ok(number) = text.parse::<u64>() else {
+        return None;
+    };
+    let mut buffer = Buffer::new();
+    if buffer.format(number).as_bytes() == digits {
+        Some(number)
+    } else {
+        None
     }
-    Some(number)
 }
+
+/// Lines that are written one after another, each with its LF, are read back. So is a last one without LF, if it is not
+/// empty.
+pub fn lines_read_back()
+    ensures all { (lines : List (List ℕ)) → AllByRecursion HasNoLf lines → lines_of (flat_map ended lines) ≡ lines }
+    ensures last { (lines : List (List ℕ)) (last : List ℕ) → AllByRecursion HasNoLf lines → HasNoLf last → last ≢ []
+        → lines_of (flat_map ended lines ++ last) ≡ lines ++ last ∷ [] }
+{}
+
+/// A line says at most one thing.
+pub fn one_event_a_line()
+    ensures { (line : List ℕ) (a b : Event) → Says line a → Says line b → a ≡ b }
+{}
+
+/// A script is read in one way.
+pub fn one_reading()
+    ensures { (lines : List (List ℕ)) (a b : List Event) → IsScript lines a → IsScript lines b → a ≡ b }
+{}
+
+/// A script has no bad line.
+pub fn no_bad_line()
+    ensures { (lines : List (List ℕ)) (events : List Event) (line : ℕ) → IsScript lines events
+        → ¬ (IsFirstBad lines line) }
+{}
 
 #[cfg(test)]
 mod tests {

@@ -1,7 +1,7 @@
 ghost use Rattle.std.specs.Prelude.{◌≡◌, ◌⊎◌, ◌<◌, ◌≤◌, length, Some, None, IfOk, OnOk, OnErr};
 ghost use Rattle.std.specs.Option.{option_copied};
 ghost use Rattle.rm_base.specs.Numbers.{united, brings_new, greatest_of};
-ghost use Rattle.rm_source.specs.Numbered.{numbered};
+ghost use Rattle.rm_base.specs.Numbered.{numbered};
 ghost use Rattle.rm_destination.specs.Incoming.{kind_of, after_take};
 ghost use Rattle.rm_world.specs.Stage.{world_of};
 ghost use Rattle.rm_world.specs.Sound.{IsSound};
@@ -16,7 +16,11 @@ use rm_source::{Outgoing, SourceError};
 use std::alloc::Global;
 
 /// Does what one line says, and answers how it came out.
-pub fn happen(alloc: Global, stage: &mut PlainStage, event: Event) -> Result<Option<Outcome>, Memory>
+pub fn happen(
+    alloc: Global,
+    stage: &mut PlainStage,
+    event: Event,
+) -> Result<Option<Outcome>, Memory>
     requires { IsSound (world_of stage.old) }
     ensures ok { OnOk result (world_of stage.new ≡ happens (world_of stage.old) event) }
     ensures outcome { IfOk result (λ outcome. outcome ≡ outcome_of (world_of stage.old) event) }
@@ -41,7 +45,9 @@ fn send(stage: &mut PlainStage, text: Blob) -> Result<Outcome, Memory>
     match stage.source.accept(text) {
         Ok(number) => {
             stage.one = stage.one.saturating_add(1);
-            stage.packets.push(PlainPacket::Data { number, text: copy })?;
+            stage
+                .packets
+                .push(PlainPacket::Data { number, text: copy })?;
             Ok(Outcome::Done)
         }
         Err(SourceError::Memory) => Err(Memory),

@@ -26,7 +26,8 @@ fn push_in(report: &mut Blob, dest: &Incoming) -> Result<(), Memory>
     push_ranges(report, dest.received().as_slice())?;
     report.push_all(b" inbox ")?;
     push_decimal(report, dest.inbox_len())?;
-    report.push_all(b" discarded 0\n")
+    report.push_all(b" discarded 0\n")?;
+    Ok(())
 }
 
 // Appends the items of the inbox.

@@ -13,6 +13,8 @@ pub data IsReference : List ℕ → ℕ → Type 0 where
   apostrophe : IsReference (codes "&apos;") 39
   quote : IsReference (codes "&quot;") 34
   decimal : (digits : List ℕ) → digits ≢ [] → AllByRecursion (λ d. IsTrue (is_ascii_digit d)) digits
-      → IsTrue (is_char (digits_value 10 digits)) → IsReference (codes "&#" ++ (digits ++ codes ";")) (digits_value 10 digits)
+      → IsTrue (is_char (digits_value 10 digits))
+      → IsReference (codes "&#" ++ (digits ++ codes ";")) (digits_value 10 digits)
   hexadecimal : (digits : List ℕ) → digits ≢ [] → AllByRecursion (λ d. IsTrue (is_ascii_hexdigit d)) digits
-      → IsTrue (is_char (digits_value 16 digits)) → IsReference (codes "&#x" ++ (digits ++ codes ";")) (digits_value 16 digits)
+      → IsTrue (is_char (digits_value 16 digits))
+      → IsReference (codes "&#x" ++ (digits ++ codes ";")) (digits_value 16 digits)

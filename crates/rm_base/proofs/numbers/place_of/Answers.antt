@@ -6,6 +6,8 @@ pub returns : goal.returns
 returns c =
     let xs = c.args.numbers.now in
     record {
-      place = placed xs c.args.number c.binary_search.result c.requires (searched xs c.args.number c.binary_search.result c.binary_search.ensures.position (Rises-places 0 xs c.requires));
+      place = placed xs c.args.number c.binary_search.result c.requires
+          (searched xs c.args.number c.binary_search.result c.binary_search.ensures.position
+          (Rises-places 0 xs c.requires));
       rising = λ positive. Rises-with_number 0 c.args.number xs c.requires positive;
     }

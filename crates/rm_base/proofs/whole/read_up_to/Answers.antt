@@ -8,6 +8,9 @@ returns-in_err-push_all-clause-front g c =
     let left = g.S.Source.left in
     let l = c.loop-piece in
     let k = c.in_ok-count in
-    let piece = take k.count c.read.new.buf in
-    (l.bytes ++ piece, grind (arith, common_steps, k.ensures.bound),
-        Consumes-more (left c.args.input.now) (left l.input) (left c.read.new.self) l.bytes piece l.invariant.left k.ensures.moved.0)
+    let piece = take k.count c.read.new.buf in (
+      l.bytes ++ piece,
+      grind (arith, common_steps, k.ensures.bound),
+      Consumes-more (left c.args.input.now) (left l.input) (left c.read.new.self)
+          l.bytes piece l.invariant.left k.ensures.moved.0,
+    )

@@ -14,7 +14,8 @@ invariant-loop-piece g l =
       some : 0 < length l.bytes → source.taken l.input ≡ raised_by (source.taken l.initial.input) (length l.bytes);
       rose : RoseBy (source.taken l.initial.input) (source.taken l.input) (length l.bytes);
       faults : source.faults l.initial.input ≤ source.faults l.input;
-      sound : source.is_sound l.initial.input ≡ true → (source.is_sound l.input ≡ true) × (source.faults l.input ≡ source.faults l.initial.input);
+      sound : source.is_sound l.initial.input ≡ true
+          → (source.is_sound l.input ≡ true) × (source.faults l.input ≡ source.faults l.initial.input);
     }
 
 abbrev pub decreases-loop-piece : goal.decreases-loop-piece

@@ -9,7 +9,8 @@ invariant-loop-written g l =
       within : l.written ≤ length l.bytes;
       held : Appends (sink.held l.initial.out) (sink.held l.out) (take l.written l.bytes);
       faults : sink.faults l.initial.out ≤ sink.faults l.out;
-      sound : sink.is_sound l.initial.out ≡ true → (sink.is_sound l.out ≡ true) × (sink.faults l.out ≡ sink.faults l.initial.out);
+      sound : sink.is_sound l.initial.out ≡ true
+          → (sink.is_sound l.out ≡ true) × (sink.faults l.out ≡ sink.faults l.initial.out);
     }
 
 abbrev pub decreases-loop-written : goal.decreases-loop-written

@@ -11,4 +11,5 @@ loop-at-preserved c i low =
     c.copy_range.ensures i (omega arith)
     ∙ ap (λ (b : ℕ). cond now (slice_index c.args.source.now i) b) (c.loop-at.invariant i low)
     ∙ cond_or (is_written (take k ranges) i) now (slice_index c.args.source.now i) (slice_index c.args.target.now i)
-    ∙ sym (ap (λ b. cond b (slice_index c.args.source.now i) (slice_index c.args.target.now i)) (is_written-more ranges k i c.loop-at-test.true))
+    ∙ sym (ap (λ b. cond b (slice_index c.args.source.now i) (slice_index c.args.target.now i))
+    (is_written-more ranges k i c.loop-at-test.true))

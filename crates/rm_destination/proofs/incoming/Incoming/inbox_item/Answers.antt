@@ -16,5 +16,6 @@ returns-then-i-self c =
 pub returns : goal.returns
 returns c =
     let within : c.args.i ≤ front_of c.self.inside.numbers = omega (arith, c.self.invariant.reached) in
+    let payloads = c.self.inside.payloads.items in
     rw (c.payload_at.ensures, c.as_slice.ensures.value, ← c.self.view_is)
-    (numbered-inbox c.self.inside.numbers c.self.inside.payloads.items c.args.i c.self.invariant.beside (omega arith) within)
+    (numbered-inbox c.self.inside.numbers payloads c.args.i c.self.invariant.beside (omega arith) within)

@@ -22,9 +22,11 @@ invariant_of-self-2-clause-content c =
 pub invariant_of-self-2-clause-all_used : goal.invariant_of-self-2-clause-all_used
 invariant_of-self-2-clause-all_used c =
     let self = c.args.self.now in
-    rw (c.push.ensures.items, c.in_ok-reserve.ensures.items) (used-note self.notes.items self.wrote.items (Crash c.args.choice) self.all_used refl)
+    rw (c.push.ensures.items, c.in_ok-reserve.ensures.items)
+    (used-note self.notes.items self.wrote.items (Crash c.args.choice) self.all_used refl)
 
 pub returns-clause-past : goal.returns-clause-past
 returns-clause-past c =
     let self = c.args.self.now in
-    rw (c.push.ensures.items, c.in_ok-reserve.ensures.items) (calls_of-note self.notes.items self.wrote.items (Crash c.args.choice) self.all_used)
+    rw (c.push.ensures.items, c.in_ok-reserve.ensures.items)
+    (calls_of-note self.notes.items self.wrote.items (Crash c.args.choice) self.all_used)

@@ -6,7 +6,8 @@ use Rattle.rm_disk.proofs.mem.MemDiskDisk.cut.Goals as goal
 pub invariant_of-self-clause-content : goal.invariant_of-self-clause-content
 invariant_of-self-clause-content c =
     let self = c.args.self.now in
-    rw (c.push.ensures.items, c.min-self.ensures) (state-note self.notes.items self.wrote.items (FailedCut c.args.len) _ self.all_used self.content)
+    rw (c.push.ensures.items, c.min-self.ensures)
+    (state-note self.notes.items self.wrote.items (FailedCut c.args.len) _ self.all_used self.content)
 
 pub returns-in-Err-clause-past : goal.returns-in-Err-clause-past
 returns-in-Err-clause-past c tells =
@@ -16,7 +17,8 @@ returns-in-Err-clause-past c tells =
 pub invariant_of-self-2-clause-content : goal.invariant_of-self-2-clause-content
 invariant_of-self-2-clause-content c =
     let self = c.args.self.now in
-    rw (c.push-2.ensures.items, c.min-self.ensures, c.truncate.ensures.items) (state-note self.notes.items self.wrote.items (Cut c.args.len) _ self.all_used self.content)
+    rw (c.push-2.ensures.items, c.min-self.ensures, c.truncate.ensures.items)
+    (state-note self.notes.items self.wrote.items (Cut c.args.len) _ self.all_used self.content)
 
 pub returns-clause-past : goal.returns-clause-past
 returns-clause-past c tells =

@@ -24,12 +24,14 @@ settle-requires-clause-file c =
     rw c.deref.ensures.value (kept_sound self.notes.items self.wrote.items _ self.content).low_seen
 
 pub settle-requires-clause-synced : goal.settle-requires-clause-synced
-settle-requires-clause-synced c = let self = c.args.self.now in (kept_sound self.notes.items self.wrote.items _ self.content).low_synced
+settle-requires-clause-synced c = let self = c.args.self.now in
+    (kept_sound self.notes.items self.wrote.items _ self.content).low_synced
 
 pub settle-requires-clause-alike : goal.settle-requires-clause-alike
 settle-requires-clause-alike c =
     let self = c.args.self.now in
-    rw (c.deref.ensures.value, c.deref-2.ensures.value) (kept_sound self.notes.items self.wrote.items _ self.content).same
+    rw (c.deref.ensures.value, c.deref-2.ensures.value)
+    (kept_sound self.notes.items self.wrote.items _ self.content).same
 
 pub invariant_of-self-2-clause-content : goal.invariant_of-self-2-clause-content
 invariant_of-self-2-clause-content c =

@@ -5,6 +5,7 @@ use Rattle.rm_source.proofs.outgoing.Outgoing.learn.Goals as goal
 
 pub invariant_of-self-2 : goal.invariant_of-self-2
 invariant_of-self-2 c =
-    let within : greatest_of c.args.given.now ≤ length c.self.inside.accepted = omega (arith, c.greatest-number.ensures) in
+    let count = length c.self.inside.accepted in
+    let within : greatest_of c.args.given.now ≤ count = omega (arith, c.greatest-number.ensures) in
     rw c.in_ok-unite.ensures.ok
-    (greatest_of-united c.self.inside.acked c.args.given.now (length c.self.inside.accepted) c.self.invariant within)
+    (greatest_of-united c.self.inside.acked c.args.given.now count c.self.invariant within)
