@@ -1,6 +1,6 @@
 //! The characters, names, references, text and attribute values of XML 1.0, as bytes: tests of whole tokens, and
 //! readers and writers of text. It stands on the classes of characters, `xml_chars`. The layer above cuts the bytes
-//! into tokens at ASCII delimiters and asks these tests of each; it may use their contracts, and the grammar in `specs/`.
+//! into tokens at ASCII delimiters and asks these tests of each. It may use their contracts, and what `specs/` says.
 #![tactic(auto)]
 
 pub mod error;
