@@ -45,9 +45,8 @@ returns-in-Ok-clause-value g c tells entries fits =
     c.span_of-start.ensures.place entries are ∙ ap (λ (l : List ℕ). first_of l k) are ∙ first_is entries k below in
     let has = front_of entries (seen_of past) (fits.images (seen_of past) (reads_as_image past)) in
     let read = rw c.in-Ok.is at c.read_bytes.ensures.gives tells in
-    let bytes : c.in_ok-from_slice-in-Ok.field-0 ≡ get_or entries k [] =
-    c.in_ok-from_slice-in-Ok.ensures
-    ∙ c.deref-in-Ok.ensures.value
+    let bytes : c.from_vec.result ≡ get_or entries k [] =
+    c.from_vec.ensures
     ∙ read
     ∙ ap (λ (n : ℕ). take n (drop c.span_of-start.result.0 (seen_of past))) (c.span_of-start.ensures.size entries are)
     ∙ ap (λ (n : ℕ). take (length (get_or entries k [])) (drop n (seen_of past))) place
