@@ -21,7 +21,8 @@ same_front a b s t size e = (
 )
 
 -- a block is read in one way
-pub same_block : (a b s t : List ℕ) → length a ≤ longest → length b ≤ longest → block a ++ s ≡ block b ++ t → (a ≡ b) × (s ≡ t)
+pub same_block : (a b s t : List ℕ) → length a ≤ longest → length b ≤ longest → block a ++ s ≡ block b ++ t
+    → (a ≡ b) × (s ≡ t)
 same_block a b s t short_a short_b e =
     let number : to_be_bytes w32 (length a) ≡ to_be_bytes w32 (length b) = ap (λ (l : List ℕ). take 4 (drop 1 l)) e in
     let size : length a ≡ length b =
@@ -35,7 +36,8 @@ pub open_gate : (bytes : List ℕ) → EndsBlocks [] (1 ∷ bytes) → ⊥
 open_gate bytes ends = ends.closed (sym (ap (λ (l : List ℕ). slice_index l 0) ends.is))
 
 -- one entry more before others that are short enough
-pub fit_cons : (entry : List ℕ) (entries : List (List ℕ)) → length entry ≤ longest → AllFit entries → AllFit (entry ∷ entries)
+pub fit_cons : (entry : List ℕ) (entries : List (List ℕ)) → length entry ≤ longest → AllFit entries
+    → AllFit (entry ∷ entries)
 fit_cons entry entries short fit zero d low = short
 fit_cons entry entries short fit (suc k) d low = fit k d (omega arith)
 
@@ -43,13 +45,15 @@ fit_cons entry entries short fit (suc k) d low = fit k d (omega arith)
 pub fit_rest : (entry : List ℕ) (entries : List (List ℕ)) → AllFit (entry ∷ entries) → AllFit entries
 fit_rest entry entries fit k d low = fit (suc k) d (omega arith)
 
-pub ends_cons : (entry : List ℕ) (entries : List (List ℕ)) (rest : List ℕ) → length entry ≤ longest → EndsBlocks entries rest → EndsBlocks (entry ∷ entries) (block entry ++ rest)
+pub ends_cons : (entry : List ℕ) (entries : List (List ℕ)) (rest : List ℕ) → length entry ≤ longest
+    → EndsBlocks entries rest → EndsBlocks (entry ∷ entries) (block entry ++ rest)
 ends_cons entry entries rest short ends = record {
   fit = fit_cons entry entries short ends.fit;
   gate = ends.gate;
   behind = ends.behind;
   closed = ends.closed;
-  is = ap (λ (l : List ℕ). block entry ++ l) ends.is ∙ sym (append_assoc (block entry) (flat_map block entries) (ends.gate ∷ ends.behind));
+  is = ap (λ (l : List ℕ). block entry ++ l) ends.is
+      ∙ sym (append_assoc (block entry) (flat_map block entries) (ends.gate ∷ ends.behind));
 }
 
 -- the bytes behind the first block
@@ -59,31 +63,49 @@ pub record HasFirst (entry : List ℕ) (entries : List (List ℕ)) (bytes : List
   pub is : bytes ≡ block entry ++ rest
   pub ends : EndsBlocks entries rest
 
-pub ends_uncons : (entry : List ℕ) (entries : List (List ℕ)) (bytes : List ℕ) → EndsBlocks (entry ∷ entries) bytes → HasFirst entry entries bytes
+pub ends_uncons : (entry : List ℕ) (entries : List (List ℕ)) (bytes : List ℕ) → EndsBlocks (entry ∷ entries) bytes
+    → HasFirst entry entries bytes
 ends_uncons entry entries bytes ends = record {
   short = ends.fit 0 [] (omega arith);
   rest = flat_map block entries ++ ends.gate ∷ ends.behind;
   is = ends.is ∙ append_assoc (block entry) (flat_map block entries) (ends.gate ∷ ends.behind);
-  ends = record { fit = fit_rest entry entries ends.fit; gate = ends.gate; behind = ends.behind; closed = ends.closed; is = refl };
+  ends = record {
+    fit = fit_rest entry entries ends.fit;
+    gate = ends.gate;
+    behind = ends.behind;
+    closed = ends.closed;
+    is = refl;
+  };
 }
 
 -- The list that bytes end begins with the entries whose blocks they begin with.
-pub ends_after : (entries all : List (List ℕ)) (rest : List ℕ) → AllFit entries → EndsBlocks all (flat_map block entries ++ rest) → (more : List (List ℕ)) × (all ≡ entries ++ more) × EndsBlocks more rest
+pub ends_after : (entries all : List (List ℕ)) (rest : List ℕ) → AllFit entries
+    → EndsBlocks all (flat_map block entries ++ rest)
+    → (more : List (List ℕ)) × (all ≡ entries ++ more) × EndsBlocks more rest
 ends_after [] all rest fit ends = (all, refl, ends)
 ends_after (entry ∷ entries) [] rest fit ends = absurd (open_gate _ ends)
 ends_after (entry ∷ entries) (other ∷ all) rest fit ends =
     let first = ends_uncons other all _ ends in
-    let split : block entry ++ (flat_map block entries ++ rest) ≡ block other ++ first.rest = sym (append_assoc (block entry) (flat_map block entries) rest) ∙ first.is in
-    let same = same_block entry other (flat_map block entries ++ rest) first.rest (fit 0 [] (omega arith)) first.short split in
-    let inner = ends_after entries all rest (fit_rest entry entries fit) (subst (EndsBlocks all) (sym same.1) first.ends) in
-    (inner.0, ap (λ (l : List (List ℕ)). other ∷ l) inner.1 ∙ ap (λ (x : List ℕ). x ∷ (entries ++ inner.0)) (sym same.0), inner.2)
+    let split : block entry ++ (flat_map block entries ++ rest) ≡ block other ++ first.rest =
+    sym (append_assoc (block entry) (flat_map block entries) rest) ∙ first.is in
+    let same = same_block entry other (flat_map block entries ++ rest) first.rest
+    (fit 0 [] (omega arith)) first.short split in
+    let inner = ends_after entries all rest (fit_rest entry entries fit)
+    (subst (EndsBlocks all) (sym same.1) first.ends) in (
+      inner.0,
+      ap (λ (l : List (List ℕ)). other ∷ l) inner.1
+          ∙ ap (λ (x : List ℕ). x ∷ (entries ++ inner.0)) (sym same.0),
+      inner.2,
+    )
 
 -- and the other way round
-pub ends_before : (entries more : List (List ℕ)) (rest : List ℕ) → AllFit entries → EndsBlocks more rest → EndsBlocks (entries ++ more) (flat_map block entries ++ rest)
+pub ends_before : (entries more : List (List ℕ)) (rest : List ℕ) → AllFit entries → EndsBlocks more rest
+    → EndsBlocks (entries ++ more) (flat_map block entries ++ rest)
 ends_before [] more rest fit ends = ends
 ends_before (entry ∷ entries) more rest fit ends =
     subst (EndsBlocks (entry ∷ (entries ++ more))) (sym (append_assoc (block entry) (flat_map block entries) rest)) (
-    ends_cons entry (entries ++ more) _ (fit 0 [] (omega arith)) (ends_before entries more rest (fit_rest entry entries fit) ends))
+    ends_cons entry (entries ++ more) _ (fit 0 [] (omega arith))
+    (ends_before entries more rest (fit_rest entry entries fit) ends))
 
 ends_one : (a b : List (List ℕ)) (bytes : List ℕ) → EndsBlocks a bytes → EndsBlocks b bytes → a ≡ b
 ends_one a b bytes is_a is_b =
@@ -102,15 +124,22 @@ stands_for_one a b bytes is_a is_b =
     ends_one a b is_a.rest is_a.ends (subst (EndsBlocks b) rest is_b.ends)
 
 -- the blocks of one entry more
-pub blocks-push : (entries : List (List ℕ)) (entry : List ℕ) → flat_map block (entries ++ entry ∷ []) ≡ flat_map block entries ++ block entry
-blocks-push entries entry = flat_map-append block entries (entry ∷ []) ∙ ap (λ (l : List ℕ). flat_map block entries ++ l) (append-nil (block entry))
+pub blocks-push : (entries : List (List ℕ)) (entry : List ℕ)
+    → flat_map block (entries ++ entry ∷ []) ≡ flat_map block entries ++ block entry
+blocks-push entries entry = flat_map-append block entries (entry ∷ [])
+    ∙ ap (λ (l : List ℕ). flat_map block entries ++ l) (append-nil (block entry))
 
-pub fit_push : (entries : List (List ℕ)) (entry : List ℕ) → length entry ≤ longest → AllFit entries → AllFit (entries ++ entry ∷ [])
+pub fit_push : (entries : List (List ℕ)) (entry : List ℕ) → length entry ≤ longest → AllFit entries
+    → AllFit (entries ++ entry ∷ [])
 fit_push [] entry short fit = fit_cons entry [] short λ k d low. absurd (omega arith)
-fit_push (first ∷ entries) entry short fit = fit_cons first (entries ++ entry ∷ []) (fit 0 [] (omega arith)) (fit_push entries entry short (fit_rest first entries fit))
+fit_push (first ∷ entries) entry short fit =
+    fit_cons first (entries ++ entry ∷ []) (fit 0 [] (omega arith))
+    (fit_push entries entry short (fit_rest first entries fit))
 
 -- the gate behind one entry more
-pub gates_from-push : (at : ℕ) (entries : List (List ℕ)) (entry : List ℕ) → gates_from at (entries ++ entry ∷ []) ≡ gates_from at entries ++ (at + length (flat_map block entries) + (5 + length entry)) ∷ []
+pub gates_from-push : (at : ℕ) (entries : List (List ℕ)) (entry : List ℕ)
+    → gates_from at (entries ++ entry ∷ []) ≡ gates_from at entries
+    ++ (at + length (flat_map block entries) + (5 + length entry)) ∷ []
 gates_from-push at [] entry = ap (λ (n : ℕ). n ∷ []) (omega arith)
 gates_from-push at (first ∷ entries) entry =
     let next = at + 5 + length first in

@@ -38,7 +38,8 @@ front_of entries bytes stands = record {
       ∙ sym (append_assoc head (flat_map block entries) (stands.ends.gate ∷ stands.ends.behind));
 }
 
-pub stands_by : (entries : List (List ℕ)) (bytes : List ℕ) → AllFit entries → HasFront entries bytes → StandsFor entries bytes
+pub stands_by : (entries : List (List ℕ)) (bytes : List ℕ) → AllFit entries → HasFront entries bytes
+    → StandsFor entries bytes
 stands_by entries bytes fit has = record {
   rest = flat_map block entries ++ has.gate ∷ has.behind;
   is = has.is ∙ append_assoc head (flat_map block entries) (has.gate ∷ has.behind);
@@ -52,16 +53,20 @@ front_and_gate : (entries : List (List ℕ)) (gate : ℕ) → length (front entr
 front_and_gate entries gate = length-append (front entries) (gate ∷ [])
 
 -- An open gate and the body of an entry behind the front are the front with that entry.
-front-push : (entries : List (List ℕ)) (entry rest : List ℕ) → front entries ++ 1 ∷ ((to_be_bytes w32 (length entry) ++ entry ++ 0 ∷ []) ++ rest) ≡ front (entries ++ entry ∷ []) ++ 0 ∷ rest
+front-push : (entries : List (List ℕ)) (entry rest : List ℕ)
+    → front entries ++ 1 ∷ ((to_be_bytes w32 (length entry) ++ entry ++ 0 ∷ []) ++ rest)
+    ≡ front (entries ++ entry ∷ []) ++ 0 ∷ rest
 front-push entries entry rest =
     let number = to_be_bytes w32 (length entry) in
     let blocks = flat_map block entries in
     ap (λ (l : List ℕ). (head ++ blocks) ++ 1 ∷ l) (append_assoc (number ++ entry) (0 ∷ []) rest)
     ∙ sym (append_assoc (head ++ blocks) (block entry) (0 ∷ rest))
-    ∙ ap (λ (l : List ℕ). l ++ 0 ∷ rest) (append_assoc head blocks (block entry) ∙ ap (λ (l : List ℕ). head ++ l) (sym (blocks-push entries entry)))
+    ∙ ap (λ (l : List ℕ). l ++ 0 ∷ rest) (append_assoc head blocks (block entry)
+    ∙ ap (λ (l : List ℕ). head ++ l) (sym (blocks-push entries entry)))
 
 -- the place where two lists differ alone
-other_places : (before behind : List ℕ) (x y i : ℕ) → i ≢ length before → slice_index (before ++ x ∷ behind) i ≡ slice_index (before ++ y ∷ behind) i
+other_places : (before behind : List ℕ) (x y i : ℕ) → i ≢ length before
+    → slice_index (before ++ x ∷ behind) i ≡ slice_index (before ++ y ∷ behind) i
 other_places [] behind x y zero other = absurd (other refl)
 other_places [] behind x y (suc i) other = refl
 other_places (b ∷ before) behind x y zero other = refl
@@ -74,7 +79,8 @@ record SameUpTo (n : ℕ) (s t : State) : Type 0 where
   seen : (i : ℕ) → i < n → slice_index t.seen i ≡ slice_index s.seen i
 
 -- one range more doesn't make a place before it free
-still_kept : (s t : State) (at count i : ℕ) → t.low ≡ s.low → t.written ≡ s.written ++ (at, count) ∷ [] → i < at → is_free s i ≡ false → is_free t i ≡ false
+still_kept : (s t : State) (at count i : ℕ) → t.low ≡ s.low → t.written ≡ s.written ++ (at, count) ∷ [] → i < at
+    → is_free s i ≡ false → is_free t i ≡ false
 still_kept s t at count i low written before kept =
     let parts = not_free s i kept in
     ap (λ (n : ℕ). nat_le n i || is_written t.written i) low
@@ -85,9 +91,11 @@ still_kept s t at count i low written before kept =
     ∙ ap (λ (b : Bool). b || false) parts.1
 
 -- the bytes with the gate written over
-gate_over : (before : List ℕ) (gate : ℕ) (behind : List ℕ) (x : ℕ) → overwritten (before ++ gate ∷ behind) (length before) (x ∷ []) ≡ before ++ x ∷ behind
+gate_over : (before : List ℕ) (gate : ℕ) (behind : List ℕ) (x : ℕ)
+    → overwritten (before ++ gate ∷ behind) (length before) (x ∷ []) ≡ before ++ x ∷ behind
 gate_over before gate behind x =
-    ap (λ (l : List ℕ). l ++ (x ∷ []) ++ drop (length before + 1) (before ++ gate ∷ behind)) (take_at before (gate ∷ behind) (length before) refl)
+    ap (λ (l : List ℕ). l ++ (x ∷ []) ++ drop (length before + 1) (before ++ gate ∷ behind))
+    (take_at before (gate ∷ behind) (length before) refl)
     ∙ ap (λ (l : List ℕ). before ++ (x ∷ []) ++ l) (
     ap (λ (l : List ℕ). drop (length before + 1) l) (sym (append_assoc before (gate ∷ []) behind))
     ∙ drop_at (before ++ gate ∷ []) behind (length before + 1) (length-append before (gate ∷ [])))
@@ -100,14 +108,17 @@ record SameButGate (before : List ℕ) (gate : ℕ) (behind : List ℕ) (t : Sta
   free : (i : ℕ) → i < length (before ++ gate ∷ behind) → i ≢ length before → is_free t i ≡ false
   seen : (i : ℕ) → i ≢ length before → slice_index t.seen i ≡ slice_index (before ++ gate ∷ behind) i
 
-torn_gate : (before : List ℕ) (gate : ℕ) (behind : List ℕ) (t : State) → SameButGate before gate behind t → (bytes : List ℕ) → IsImage t bytes → bytes ≡ before ++ slice_index bytes (length before) ∷ behind
+torn_gate : (before : List ℕ) (gate : ℕ) (behind : List ℕ) (t : State) → SameButGate before gate behind t
+    → (bytes : List ℕ) → IsImage t bytes → bytes ≡ before ++ slice_index bytes (length before) ∷ behind
 torn_gate before gate behind t same bytes image =
     let x = slice_index bytes (length before) in
     let long : length (before ++ x ∷ behind) ≡ length (before ++ gate ∷ behind) =
     length-append before (x ∷ behind) ∙ sym (length-append before (gate ∷ behind)) in
-    let size : length bytes ≡ length (before ++ x ∷ behind) = omega (arith, long, image.no_shorter, image.no_longer, same.low, same.high) in
+    let size : length bytes ≡ length (before ++ x ∷ behind) =
+    omega (arith, long, image.no_shorter, image.no_longer, same.low, same.high) in
     ext_get_or 0 bytes (before ++ x ∷ behind) size λ i low. elim (cases_eq i (length before)) [
-      | inl here ↦ ap (λ (k : ℕ). slice_index bytes k) here ∙ sym (ap (λ (k : ℕ). slice_index (before ++ x ∷ behind) k) here ∙ get_or-append_seam before x behind 0)
+      | inl here ↦ ap (λ (k : ℕ). slice_index bytes k) here
+          ∙ sym (ap (λ (k : ℕ). slice_index (before ++ x ∷ behind) k) here ∙ get_or-append_seam before x behind 0)
       | inr other ↦
           image.same i low (same.free i (omega (arith, size, long, low)) other)
           ∙ same.seen i other
@@ -122,32 +133,42 @@ within_gate i gate other = elim (cases_lt i gate) [
 ]
 
 -- settled bytes with the gate written over, or with a write there that failed
-gate_wrote : (before : List ℕ) (gate : ℕ) (behind : List ℕ) (past : List Call) → state past ≡ settled (before ++ gate ∷ behind) → (x : ℕ) → SameButGate before gate behind (state (Wrote (length before) (x ∷ []) ∷ past))
+gate_wrote : (before : List ℕ) (gate : ℕ) (behind : List ℕ) (past : List Call)
+    → state past ≡ settled (before ++ gate ∷ behind) → (x : ℕ)
+    → SameButGate before gate behind (state (Wrote (length before) (x ∷ []) ∷ past))
 gate_wrote before gate behind past is x =
     let bytes = before ++ gate ∷ behind in
     let size : length bytes ≡ length before + suc (length behind) = length-append before (gate ∷ behind) in
     subst (λ s. SameButGate before gate behind (after (Wrote (length before) (x ∷ [])) s)) (sym is) (record {
       low = refl;
       high = omega (arith, size);
-      free = λ i low other. ap (λ (b : Bool). b || (is_within i (length before, 1) || false)) (lt-leb (length bytes) i low) ∙ ap (λ (b : Bool). b || false) (within_gate i (length before) other);
+      free = λ i low other. ap (λ (b : Bool). b || (is_within i (length before, 1) || false))
+          (lt-leb (length bytes) i low) ∙ ap (λ (b : Bool). b || false) (within_gate i (length before) other);
       seen = λ i other. written_over before gate behind x i other;
     })
   where
-    written_over : (before : List ℕ) (gate : ℕ) (behind : List ℕ) (x i : ℕ) → i ≢ length before → slice_index (overwritten (before ++ gate ∷ behind) (length before) (x ∷ [])) i ≡ slice_index (before ++ gate ∷ behind) i
-    written_over before gate behind x i other = ap (λ (l : List ℕ). slice_index l i) (gate_over before gate behind x) ∙ other_places before behind x gate i other
+    written_over : (before : List ℕ) (gate : ℕ) (behind : List ℕ) (x i : ℕ) → i ≢ length before
+        → slice_index (overwritten (before ++ gate ∷ behind) (length before) (x ∷ [])) i
+        ≡ slice_index (before ++ gate ∷ behind) i
+    written_over before gate behind x i other = ap (λ (l : List ℕ). slice_index l i) (gate_over before gate behind x)
+        ∙ other_places before behind x gate i other
 
-gate_failed : (before : List ℕ) (gate : ℕ) (behind : List ℕ) (past : List Call) → state past ≡ settled (before ++ gate ∷ behind) → SameButGate before gate behind (state (WriteFailed (length before) 1 ∷ past))
+gate_failed : (before : List ℕ) (gate : ℕ) (behind : List ℕ) (past : List Call)
+    → state past ≡ settled (before ++ gate ∷ behind)
+    → SameButGate before gate behind (state (WriteFailed (length before) 1 ∷ past))
 gate_failed before gate behind past is =
     let bytes = before ++ gate ∷ behind in
     let size : length bytes ≡ length before + suc (length behind) = length-append before (gate ∷ behind) in
     subst (λ s. SameButGate before gate behind (after (WriteFailed (length before) 1) s)) (sym is) (record {
       low = refl;
       high = omega (arith, size);
-      free = λ i low other. ap (λ (b : Bool). b || (is_within i (length before, 1) || false)) (lt-leb (length bytes) i low) ∙ ap (λ (b : Bool). b || false) (within_gate i (length before) other);
+      free = λ i low other. ap (λ (b : Bool). b || (is_within i (length before, 1) || false))
+          (lt-leb (length bytes) i low) ∙ ap (λ (b : Bool). b || false) (within_gate i (length before) other);
       seen = λ i other. refl;
     })
 
-module _ (past : List Call) (entries : List (List ℕ)) (images : (bytes : List ℕ) → MayLeave past bytes → StandsFor entries bytes) where
+module _ (past : List Call) (entries : List (List ℕ)) (images : (bytes : List ℕ) → MayLeave past bytes
+    → StandsFor entries bytes) where
   n : ℕ
   n = length (front entries) + 1
 
@@ -159,7 +180,12 @@ module _ (past : List Call) (entries : List (List ℕ)) (images : (bytes : List 
   unfolding n
   low_enough =
       let least = front_of entries _ (images (left_by 3 (state past)) (crash_leaves_image past 3)) in
-      omega (arith, length-filled (state past) 0 (state past).low, ap length least.is, length-append (front entries) (least.gate ∷ least.behind))
+      omega (
+        arith,
+        length-filled (state past) 0 (state past).low,
+        ap length least.is,
+        length-append (front entries) (least.gate ∷ least.behind),
+      )
 
   long_enough : n ≤ length (seen_of past)
   long_enough = omega (arith, low_enough, (reads_as_image past).no_shorter)
@@ -210,19 +236,23 @@ module _ (past : List Call) (entries : List (List ℕ)) (images : (bytes : List 
   behind_wrote : (body : List ℕ) → SameUpTo n (state past) (state (Wrote n body ∷ past))
   behind_wrote body = record {
     low = refl;
-    free = λ i before kept. still_kept (state past) (state (Wrote n body ∷ past)) n (length body) i refl refl before kept;
-    seen = λ i before. overwritten-outside (seen_of past) n body i (omega (arith, long_enough)) (within_before i n (length body) before);
+    free = λ i before kept. still_kept (state past) (state (Wrote n body ∷ past)) n
+        (length body) i refl refl before kept;
+    seen = λ i before. overwritten-outside (seen_of past) n body i (omega (arith, long_enough))
+        (within_before i n (length body) before);
   }
 
   behind_failed : (count : ℕ) → SameUpTo n (state past) (state (WriteFailed n count ∷ past))
   behind_failed count = record {
     low = refl;
-    free = λ i before kept. still_kept (state past) (state (WriteFailed n count ∷ past)) n count i refl refl before kept;
+    free = λ i before kept. still_kept (state past)
+        (state (WriteFailed n count ∷ past)) n count i refl refl before kept;
     seen = λ i before. refl;
   }
 
   -- the bytes once the block stands behind the closed gate
-  body_there : (body : List ℕ) → seen_of (Wrote n body ∷ past) ≡ front entries ++ reads.gate ∷ (body ++ drop (n + length body) (seen_of past))
+  body_there : (body : List ℕ) → seen_of (Wrote n body ∷ past) ≡ front entries ++ reads.gate ∷ (body
+      ++ drop (n + length body) (seen_of past))
   unfolding n
   body_there body =
       let rest = drop (n + length body) (seen_of past) in
@@ -249,17 +279,24 @@ module _ (past : List Call) (entries : List (List ℕ)) (images : (bytes : List 
     -- whatever byte the gate is, the list is the old one or the new one
     with_entry : StandsFor (entries ++ entry ∷ []) (front entries ++ 1 ∷ rest)
     unfolding rest body
-    with_entry = stands_by (entries ++ entry ∷ []) (front entries ++ 1 ∷ rest) (fit_push entries entry short fit) (record {
-      gate = 0;
-      behind = drop (n + length body) (seen_of past);
-      closed = λ e. omega (arith, e);
-      is = front-push entries entry (drop (n + length body) (seen_of past));
-    })
+    with_entry = stands_by (entries ++ entry ∷ []) (front entries ++ 1 ∷ rest) (fit_push entries entry short fit)
+        (record {
+          gate = 0;
+          behind = drop (n + length body) (seen_of past);
+          closed = λ e. omega (arith, e);
+          is = front-push entries entry (drop (n + length body) (seen_of past));
+        })
 
     either : (x : ℕ) → StandsForEither entries entry (front entries ++ x ∷ rest)
     either x = elim (cases_eq x 1) [
-      | inl opens ↦ inr (subst (λ (y : ℕ). StandsFor (entries ++ entry ∷ []) (front entries ++ y ∷ rest)) (sym opens) with_entry)
-      | inr closed ↦ inl (stands_by entries (front entries ++ x ∷ rest) fit (record { gate = x; behind = rest; closed = closed; is = refl }))
+      | inl opens ↦ inr (subst (λ (y : ℕ). StandsFor (entries ++ entry ∷ []) (front entries ++ y ∷ rest))
+          (sym opens) with_entry)
+      | inr closed ↦ inl (stands_by entries (front entries ++ x ∷ rest) fit (record {
+        gate = x;
+        behind = rest;
+        closed = closed;
+        is = refl;
+      }))
     ]
 
     there : state (Synced ∷ Wrote n body ∷ past) ≡ settled (front entries ++ reads.gate ∷ rest)
@@ -275,7 +312,8 @@ module _ (past : List Call) (entries : List (List ℕ)) (images : (bytes : List 
 
     first_failed : OnlyLeaves past (WriteFailed n (length body) ∷ past) P
     unfolding P
-    first_failed = only_more past past _ P start λ bytes may. inl (torn_behind _ (behind_failed (length body)) bytes may)
+    first_failed = only_more past past _ P start λ bytes may. inl
+        (torn_behind _ (behind_failed (length body)) bytes may)
 
     first : OnlyLeaves past (Wrote n body ∷ past) P
     unfolding P
@@ -288,17 +326,20 @@ module _ (past : List Call) (entries : List (List ℕ)) (images : (bytes : List 
     staged_only : OnlyLeaves past (Synced ∷ Wrote n body ∷ past) P
     unfolding P
     staged_only = only_more past _ Synced P first λ bytes may.
-        subst P (sym (settled_only (front entries ++ reads.gate ∷ rest) bytes (subst (λ s. IsImage s bytes) there may))) (either reads.gate)
+        subst P (sym (settled_only (front entries ++ reads.gate ∷ rest) bytes
+        (subst (λ s. IsImage s bytes) there may))) (either reads.gate)
 
     second_failed : OnlyLeaves past (WriteFailed end 1 ∷ Synced ∷ Wrote n body ∷ past) P
     unfolding P end
     second_failed = only_more past _ _ P staged_only λ bytes may.
-        subst P (sym (torn_gate (front entries) reads.gate rest _ (gate_failed (front entries) reads.gate rest (Synced ∷ Wrote n body ∷ past) there) bytes may)) (either _)
+        subst P (sym (torn_gate (front entries) reads.gate rest _
+        (gate_failed (front entries) reads.gate rest (Synced ∷ Wrote n body ∷ past) there) bytes may)) (either _)
 
     second_bytes : (bytes : List ℕ) → MayLeave (Wrote end (1 ∷ []) ∷ Synced ∷ Wrote n body ∷ past) bytes → P bytes
     unfolding P end
     second_bytes bytes may =
-        subst P (sym (torn_gate (front entries) reads.gate rest _ (gate_wrote (front entries) reads.gate rest (Synced ∷ Wrote n body ∷ past) there 1) bytes may)) (either _)
+        subst P (sym (torn_gate (front entries) reads.gate rest _
+        (gate_wrote (front entries) reads.gate rest (Synced ∷ Wrote n body ∷ past) there 1) bytes may)) (either _)
 
     second : OnlyLeaves past (Wrote end (1 ∷ []) ∷ Synced ∷ Wrote n body ∷ past) P
     second = only_more past _ _ P staged_only second_bytes
@@ -307,11 +348,13 @@ module _ (past : List Call) (entries : List (List ℕ)) (images : (bytes : List 
     second_unsynced = only_more past _ SyncFailed P second second_bytes
 
     -- once all is synced, the entry is there
-    all_there : (bytes : List ℕ) → MayLeave (Synced ∷ Wrote end (1 ∷ []) ∷ Synced ∷ Wrote n body ∷ past) bytes → StandsFor (entries ++ entry ∷ []) bytes
+    all_there : (bytes : List ℕ) → MayLeave (Synced ∷ Wrote end (1 ∷ []) ∷ Synced ∷ Wrote n body ∷ past) bytes
+        → StandsFor (entries ++ entry ∷ []) bytes
     unfolding end
     all_there bytes may =
         let is = synced_only (Wrote (length (front entries)) (1 ∷ []) ∷ Synced ∷ Wrote n body ∷ past) bytes may in
-        let over = ap (λ s. overwritten s.seen (length (front entries)) (1 ∷ [])) there ∙ gate_over (front entries) reads.gate rest 1 in
+        let over = ap (λ s. overwritten s.seen (length (front entries)) (1 ∷ [])) there
+        ∙ gate_over (front entries) reads.gate rest 1 in
         subst (StandsFor (entries ++ entry ∷ [])) (sym (is ∙ over)) with_entry
 
     all_only : OnlyLeaves past (Synced ∷ Wrote end (1 ∷ []) ∷ Synced ∷ Wrote n body ∷ past) P
@@ -326,7 +369,8 @@ module _ (past : List Call) (entries : List (List ℕ)) (images : (bytes : List 
     moments new false (inr (inr (inl calls))) = subst (λ l. OnlyLeaves past l P) (sym calls) second_failed
     moments new false (inr (inr (inr calls))) = subst (λ l. OnlyLeaves past l P) (sym calls) second_unsynced
 
-    done : (new : List Call) → WritesBlock end body past new true → (bytes : List ℕ) → MayLeave new bytes → StandsFor (entries ++ entry ∷ []) bytes
+    done : (new : List Call) → WritesBlock end body past new true → (bytes : List ℕ) → MayLeave new bytes
+        → StandsFor (entries ++ entry ∷ []) bytes
     unfolding n end
     done new calls bytes may = all_there bytes (subst (λ l. MayLeave l bytes) calls may)
 
@@ -335,36 +379,58 @@ abbrev pub body_of : List ℕ → List ℕ
 body_of entry = to_be_bytes w32 (length entry) ++ entry ++ 0 ∷ []
 
 -- A crash at any moment of the four calls, or of those up to the first that failed, leaves the old entries or the new.
-pub block_moments : (past : List Call) (entries : List (List ℕ)) → ((bytes : List ℕ) → MayLeave past bytes → StandsFor entries bytes) → (entry : List ℕ) → length entry ≤ longest → (new : List Call) (all_well : Bool) → WritesBlock (length (front entries)) (body_of entry) past new all_well → OnlyLeaves past new (StandsForEither entries entry)
+pub block_moments : (past : List Call) (entries : List (List ℕ))
+    → ((bytes : List ℕ) → MayLeave past bytes → StandsFor entries bytes) → (entry : List ℕ) → length entry ≤ longest
+    → (new : List Call) (all_well : Bool) → WritesBlock (length (front entries)) (body_of entry) past new all_well
+    → OnlyLeaves past new (StandsForEither entries entry)
 unfolding end body P
-block_moments past entries images entry short new all_well calls = moments past entries images entry short new all_well calls
+block_moments past entries images entry short new all_well calls =
+    moments past entries images entry short new all_well calls
 
 -- After all four each image stands for the new list.
-pub block_done : (past : List Call) (entries : List (List ℕ)) → ((bytes : List ℕ) → MayLeave past bytes → StandsFor entries bytes) → (entry : List ℕ) → length entry ≤ longest → (new : List Call) (all_well : Bool) → all_well ≡ true → WritesBlock (length (front entries)) (body_of entry) past new all_well → (bytes : List ℕ) → MayLeave new bytes → StandsFor (entries ++ entry ∷ []) bytes
+pub block_done : (past : List Call) (entries : List (List ℕ))
+    → ((bytes : List ℕ) → MayLeave past bytes → StandsFor entries bytes) → (entry : List ℕ) → length entry ≤ longest
+    → (new : List Call) (all_well : Bool) → all_well ≡ true
+    → WritesBlock (length (front entries)) (body_of entry) past new all_well → (bytes : List ℕ) → MayLeave new bytes
+    → StandsFor (entries ++ entry ∷ []) bytes
 unfolding end body
-block_done past entries images entry short new true well calls bytes may = done past entries images entry short new calls bytes may
+block_done past entries images entry short new true well calls bytes may =
+    done past entries images entry short new calls bytes may
 block_done past entries images entry short new false well calls bytes may = absurd (false≢true well)
 
 -- No call was made.
-pub nothing_done : (past new : List Call) (entries : List (List ℕ)) → ((bytes : List ℕ) → MayLeave past bytes → StandsFor entries bytes) → (entry : List ℕ) → new ≡ past → OnlyLeaves past new (StandsForEither entries entry)
+pub nothing_done : (past new : List Call) (entries : List (List ℕ))
+    → ((bytes : List ℕ) → MayLeave past bytes → StandsFor entries bytes) → (entry : List ℕ) → new ≡ past
+    → OnlyLeaves past new (StandsForEither entries entry)
 nothing_done past new entries images entry same =
-    subst (λ l. OnlyLeaves past l (StandsForEither entries entry)) (sym same) (only_from past (StandsForEither entries entry) λ bytes may. inl (images bytes may))
+    subst (λ l. OnlyLeaves past l (StandsForEither entries entry)) (sym same)
+    (only_from past (StandsForEither entries entry) λ bytes may. inl (images bytes may))
 
 -- a disk cut to nothing and given a head and a closed gate
-pub empty_journal : (past new : List Call) → new ≡ Synced ∷ Wrote 0 (head ++ 0 ∷ []) ∷ CutTo 0 ∷ past → (bytes : List ℕ) → MayLeave new bytes → StandsFor [] bytes
+pub empty_journal : (past new : List Call) → new ≡ Synced ∷ Wrote 0 (head ++ 0 ∷ []) ∷ CutTo 0 ∷ past
+    → (bytes : List ℕ) → MayLeave new bytes → StandsFor [] bytes
 empty_journal past new calls bytes may =
     let is = synced_only (Wrote 0 (head ++ 0 ∷ []) ∷ CutTo 0 ∷ past) bytes (subst (λ l. MayLeave l bytes) calls may) in
     subst (StandsFor []) (sym is) (record {
       rest = 0 ∷ [];
       is = refl;
-      ends = record { fit = λ k d low. absurd (omega arith); gate = 0; behind = []; closed = λ e. omega (arith, e); is = refl };
+      ends = record {
+        fit = λ k d low. absurd (omega arith);
+        gate = 0;
+        behind = [];
+        closed = λ e. omega (arith, e);
+        is = refl;
+      };
     })
 
 -- a sync, or one that failed, or none
-pub synced_moments : (old new : List Call) → (new ≡ old) ⊎ (new ≡ SyncFailed ∷ old) ⊎ (new ≡ Synced ∷ old) → OnlyLeaves old new (MayLeave old)
-synced_moments old new (inl calls) = subst (λ l. OnlyLeaves old l (MayLeave old)) (sym calls) (only_from old (MayLeave old) λ bytes may. may)
+pub synced_moments : (old new : List Call) → (new ≡ old) ⊎ (new ≡ SyncFailed ∷ old) ⊎ (new ≡ Synced ∷ old)
+    → OnlyLeaves old new (MayLeave old)
+synced_moments old new (inl calls) = subst (λ l. OnlyLeaves old l (MayLeave old)) (sym calls) (only_from old
+    (MayLeave old) λ bytes may. may)
 synced_moments old new (inr (inl calls)) =
-    subst (λ l. OnlyLeaves old l (MayLeave old)) (sym calls) (only_more old old SyncFailed (MayLeave old) (only_from old (MayLeave old) λ bytes may. may) λ bytes may. may)
+    subst (λ l. OnlyLeaves old l (MayLeave old)) (sym calls)
+    (only_more old old SyncFailed (MayLeave old) (only_from old (MayLeave old) λ bytes may. may) λ bytes may. may)
 synced_moments old new (inr (inr calls)) =
     subst (λ l. OnlyLeaves old l (MayLeave old)) (sym calls) (
     only_more old old Synced (MayLeave old) (only_from old (MayLeave old) λ bytes may. may) λ bytes may.

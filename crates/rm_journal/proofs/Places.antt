@@ -15,7 +15,8 @@ length-gates_from at [] = refl
 length-gates_from at (entry ∷ entries) = ap suc (length-gates_from (at + 5 + length entry) entries)
 
 -- the gate behind an entry
-pub gate_at : (at d : ℕ) (entries : List (List ℕ)) (k : ℕ) → k < length entries → get_or (gates_from at entries) k d ≡ at + length (flat_map block (take (suc k) entries))
+pub gate_at : (at d : ℕ) (entries : List (List ℕ)) (k : ℕ) → k < length entries
+    → get_or (gates_from at entries) k d ≡ at + length (flat_map block (take (suc k) entries))
 gate_at at d [] k low = absurd (omega arith)
 gate_at at d (entry ∷ entries) zero low = omega (arith, length-append (block entry) [], length-block entry)
 gate_at at d (entry ∷ entries) (suc k) low =
@@ -27,20 +28,30 @@ gate_at at d (entry ∷ entries) (suc k) low =
     )
 
 -- the closed gate stands behind the front
-pub end_is : (journal : Kept) (entries : List (List ℕ)) → journal.gates ≡ gates_from 8 entries → end_of journal ≡ length (front entries)
-end_is journal entries gates = ap (λ (l : List ℕ). get_or l (length l - 1) 8) gates ∙ last entries ∙ sym (length-front entries)
+pub end_is : (journal : Kept) (entries : List (List ℕ)) → journal.gates ≡ gates_from 8 entries
+    → end_of journal ≡ length (front entries)
+end_is journal entries gates = ap (λ (l : List ℕ). get_or l (length l - 1) 8) gates ∙ last entries
+    ∙ sym (length-front entries)
   where
-    last : (entries : List (List ℕ)) → get_or (gates_from 8 entries) (length (gates_from 8 entries) - 1) 8 ≡ 8 + length (flat_map block entries)
+    last : (entries : List (List ℕ)) → get_or (gates_from 8 entries) (length (gates_from 8 entries) - 1) 8
+        ≡ 8 + length (flat_map block entries)
     last [] = refl
     last (entry ∷ entries) =
-        ap (λ (k : ℕ). get_or (gates_from 8 (entry ∷ entries)) k 8) (omega (arith, length-gates_from (8 + 5 + length entry) entries))
+        ap (λ (k : ℕ). get_or (gates_from 8 (entry ∷ entries)) k 8) (omega (
+          arith,
+          length-gates_from (8 + 5 + length entry) entries,
+        ))
         ∙ gate_at 8 8 (entry ∷ entries) (length entries) (omega arith)
-        ∙ ap (λ (l : List (List ℕ)). 8 + length (flat_map block l)) (take_all (suc (length entries)) (entry ∷ entries) (omega arith))
+        ∙ ap (λ (l : List (List ℕ)). 8 + length (flat_map block l))
+        (take_all (suc (length entries)) (entry ∷ entries) (omega arith))
 
 -- the blocks of the entries before one, its block and those behind it
-pub blocks_split : (entries : List (List ℕ)) (k : ℕ) → k < length entries → flat_map block entries ≡ flat_map block (take k entries) ++ (block (get_or entries k []) ++ flat_map block (drop (suc k) entries))
+pub blocks_split : (entries : List (List ℕ)) (k : ℕ) → k < length entries
+    → flat_map block entries ≡ flat_map block (take k entries)
+    ++ (block (get_or entries k []) ++ flat_map block (drop (suc k) entries))
 blocks_split entries k low =
-    ap (λ (l : List (List ℕ)). flat_map block l) (sym (take-append-drop k entries) ∙ ap (λ (l : List (List ℕ)). take k entries ++ l) (drop-cons entries k [] low))
+    ap (λ (l : List (List ℕ)). flat_map block l) (sym (take-append-drop k entries)
+    ∙ ap (λ (l : List (List ℕ)). take k entries ++ l) (drop-cons entries k [] low))
     ∙ flat_map-append block (take k entries) (get_or entries k [] ∷ drop (suc k) entries)
 
 -- where the first byte of an entry stands
@@ -48,7 +59,8 @@ pub start_of : List (List ℕ) → ℕ → ℕ
 start_of entries k = 13 + length (flat_map block (take k entries))
 
 -- the gate behind an entry stands as many bytes further as it has
-pub gate_behind : (entries : List (List ℕ)) (k d : ℕ) → k < length entries → get_or (gates_from 8 entries) k d ≡ start_of entries k + length (get_or entries k [])
+pub gate_behind : (entries : List (List ℕ)) (k d : ℕ) → k < length entries
+    → get_or (gates_from 8 entries) k d ≡ start_of entries k + length (get_or entries k [])
 unfolding start_of
 gate_behind entries k d low =
     gate_at 8 d entries k low
@@ -62,7 +74,8 @@ gate_behind entries k d low =
     )
 
 -- the bytes there are the entry
-pub entry_there : (entries : List (List ℕ)) (bytes : List ℕ) (k : ℕ) → k < length entries → HasFront entries bytes → take (length (get_or entries k [])) (drop (start_of entries k) bytes) ≡ get_or entries k []
+pub entry_there : (entries : List (List ℕ)) (bytes : List ℕ) (k : ℕ) → k < length entries → HasFront entries bytes
+    → take (length (get_or entries k [])) (drop (start_of entries k) bytes) ≡ get_or entries k []
 unfolding start_of
 entry_there entries bytes k low has =
     let entry = get_or entries k [] in
@@ -77,11 +90,13 @@ entry_there entries bytes k low has =
     let first : length (head ++ before ++ 1 ∷ number) ≡ 13 + length before =
     omega (arith, length-append (head ++ before) (1 ∷ number), length-append head before) in
     ap (λ (l : List ℕ). take (length entry) (drop (13 + length before) l)) is
-    ∙ ap (λ (l : List ℕ). take (length entry) l) (drop_at (head ++ before ++ 1 ∷ number) (entry ++ tail) (13 + length before) first)
+    ∙ ap (λ (l : List ℕ). take (length entry) l) (drop_at (head ++ before ++ 1 ∷ number) (entry
+    ++ tail) (13 + length before) first)
     ∙ take_at entry tail (length entry) refl
 
 -- an entry lies within the bytes
-pub entry_within : (entries : List (List ℕ)) (bytes : List ℕ) (k : ℕ) → k < length entries → HasFront entries bytes → start_of entries k + length (get_or entries k []) ≤ length bytes
+pub entry_within : (entries : List (List ℕ)) (bytes : List ℕ) (k : ℕ) → k < length entries → HasFront entries bytes
+    → start_of entries k + length (get_or entries k []) ≤ length bytes
 unfolding start_of
 entry_within entries bytes k low has =
     let entry = get_or entries k [] in
@@ -98,17 +113,22 @@ entry_within entries bytes k low has =
       length-block entry,
     )
 
-pub first_is : (entries : List (List ℕ)) (k : ℕ) → k < length entries → first_of (gates_from 8 entries) k ≡ start_of entries k
+pub first_is : (entries : List (List ℕ)) (k : ℕ) → k < length entries
+    → first_of (gates_from 8 entries) k ≡ start_of entries k
 unfolding start_of
 first_is entries zero low = refl
 first_is entries (suc k) low = omega (arith, gate_at 8 0 entries k (omega (arith, low)))
 
 -- what is computed from the gates is the entry's place and length
-pub entry_span : (entries : List (List ℕ)) (gates : List ℕ) (k gate start len : ℕ) → gates ≡ gates_from 8 entries → k < length gates → gate ≡ get_or gates k 0 → gate < 2 ^ 64 → start ≡ min (first_of gates k) (2 ^ 64 - 1) → len ≡ gate - start → (start ≡ first_of gates k) × (len ≡ length (get_or entries k []))
+pub entry_span : (entries : List (List ℕ)) (gates : List ℕ) (k gate start len : ℕ) → gates ≡ gates_from 8 entries
+    → k < length gates → gate ≡ get_or gates k 0 → gate < 2 ^ 64 → start ≡ min (first_of gates k) (2 ^ 64 - 1)
+    → len ≡ gate - start → (start ≡ first_of gates k) × (len ≡ length (get_or entries k []))
 entry_span entries gates k gate start len are low is small from size =
     let below : k < length entries = omega (arith, low, ap length are, length-gates_from 8 entries) in
-    let first : first_of gates k ≡ start_of entries k = ap (λ (l : List ℕ). first_of l k) are ∙ first_is entries k below in
-    let next : gate ≡ start_of entries k + length (get_or entries k []) = is ∙ ap (λ (l : List ℕ). get_or l k 0) are ∙ gate_behind entries k 0 below in
+    let first : first_of gates k ≡ start_of entries k = ap (λ (l : List ℕ). first_of l k) are
+    ∙ first_is entries k below in
+    let next : gate ≡ start_of entries k + length (get_or entries k []) = is ∙ ap (λ (l : List ℕ). get_or l k 0) are
+    ∙ gate_behind entries k 0 below in
     let there : start ≡ start_of entries k = omega (arith, from, first, next, small) in
     (there ∙ sym first, omega (arith, size, there, next))
 

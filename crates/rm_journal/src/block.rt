@@ -38,6 +38,5 @@ pub fn write_block<D: Disk>(disk: &mut D, gate: u64, body: &[u8]) -> Result<(), 
     // What stands behind the gate has to be on the disk before the gate opens: a crash may leave anything there.
     disk.sync()?;
     disk.write_at(gate, &[1])?;
-    disk.sync()?;
-    Ok(())
+    disk.sync()
 }

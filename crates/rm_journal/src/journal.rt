@@ -44,7 +44,8 @@ impl Journal {
         ensures fits { IsTrue D.tells → IfOk result (Fits [] (D.past disk.new)) }
         ensures up { IfOk result (λ journal. journal.is_down ≡ false) }
         ensures refusals { IfErr result (λ error. (error ≡ WantsMemory) ⊎ (error ≡ DiskFails)) }
-        ensures fuse { IsTrue D.tells → is_memory result ≡ false → Burns 3 (D.fuse disk.old) (D.fuse disk.new) (is_ok result) }
+        ensures fuse { IsTrue D.tells → is_memory result ≡ false →
+            Burns 3 (D.fuse disk.old) (D.fuse disk.new) (is_ok result) }
         ensures cause { HasCause (D.faults disk.old) (D.faults disk.new) result }
         ensures crashes { IsTrue D.tells → crashes_of (D.past disk.new) ≡ crashes_of (D.past disk.old) }
     {
@@ -61,8 +62,10 @@ impl Journal {
 
     /// Finds the journal on a disk. It makes three device calls: it syncs, asks for the length and reads all once.
     pub fn mount<D: Disk>(alloc: Global, disk: &mut D) -> Result<Journal, JournalError>
-        ensures fits { IsTrue D.tells → IfOk result (λ journal. (entries : List (List ℕ)) × StandsFor entries (seen_of (D.past disk.old)) × Fits entries (D.past disk.new) journal) }
-        ensures none { IsTrue D.tells → result ≡ Err NotAJournal → (entries : List (List ℕ)) → StandsFor entries (seen_of (D.past disk.old)) → ⊥ }
+        ensures fits { IsTrue D.tells → IfOk result (λ journal. (entries : List (List ℕ)) ×
+            StandsFor entries (seen_of (D.past disk.old)) × Fits entries (D.past disk.new) journal) }
+        ensures none { IsTrue D.tells → result ≡ Err NotAJournal →
+            (entries : List (List ℕ)) → StandsFor entries (seen_of (D.past disk.old)) → ⊥ }
         ensures up { IfOk result (λ journal. journal.is_down ≡ false) }
         ensures refusals { IfErr result (λ error. (error ≡ WantsMemory) ⊎ (error ≡ DiskFails) ⊎ (error ≡ NotAJournal)) }
 
@@ -70,7 +73,8 @@ impl Journal {
         ensures seen { IsTrue D.tells → seen_of (D.past disk.new) ≡ seen_of (D.past disk.old) }
         ensures moments { IsTrue D.tells → OnlyLeaves (D.past disk.old) (D.past disk.new) (MayLeave (D.past disk.old)) }
 
-        ensures fuse { IsTrue D.tells → is_memory result ≡ false → Burns 3 (D.fuse disk.old) (D.fuse disk.new) (not (is_disk result)) }
+        ensures fuse { IsTrue D.tells → is_memory result ≡ false →
+            Burns 3 (D.fuse disk.old) (D.fuse disk.new) (not (is_disk result)) }
         ensures cause { HasCause (D.faults disk.old) (D.faults disk.new) result }
         ensures crashes { IsTrue D.tells → crashes_of (D.past disk.new) ≡ crashes_of (D.past disk.old) }
     {
@@ -96,12 +100,17 @@ impl Journal {
         ensures refusals { Answers (refusal_of self.old (length entry.now)) result }
         ensures journal { self.new ≡ appended self.old (length entry.now) result }
 
-        // At Ok the entry is there for good. A crash at any moment of the call leaves the old entries, or these with the new one.
-        ensures ok { IsTrue D.tells → (entries : List (List ℕ)) → Fits entries (D.past disk.old) self.old → OnOk result (Fits (entries ++ entry.now ∷ []) (D.past disk.new) self.new) }
-        ensures moments { IsTrue D.tells → (entries : List (List ℕ)) → Fits entries (D.past disk.old) self.old → OnlyLeaves (D.past disk.old) (D.past disk.new) (StandsForEither entries entry.now) }
-        ensures untouched { IsTrue D.tells → IfErr result (λ error. error ≢ DiskFails → (D.past disk.new ≡ D.past disk.old) × (D.fuse disk.new ≡ D.fuse disk.old)) }
+        // At Ok the entry is there for good. A crash at any moment of the call leaves the old entries, or these with
+        // the new one.
+        ensures ok { IsTrue D.tells → (entries : List (List ℕ)) → Fits entries (D.past disk.old) self.old →
+            OnOk result (Fits (entries ++ entry.now ∷ []) (D.past disk.new) self.new) }
+        ensures moments { IsTrue D.tells → (entries : List (List ℕ)) → Fits entries (D.past disk.old) self.old →
+            OnlyLeaves (D.past disk.old) (D.past disk.new) (StandsForEither entries entry.now) }
+        ensures untouched { IsTrue D.tells → IfErr result (λ error. error ≢ DiskFails →
+            (D.past disk.new ≡ D.past disk.old) × (D.fuse disk.new ≡ D.fuse disk.old)) }
 
-        ensures fuse { IsTrue D.tells → (is_ok result ≡ true) ⊎ (is_disk result ≡ true) → Burns 4 (D.fuse disk.old) (D.fuse disk.new) (is_ok result) }
+        ensures fuse { IsTrue D.tells → (is_ok result ≡ true) ⊎ (is_disk result ≡ true) →
+            Burns 4 (D.fuse disk.old) (D.fuse disk.new) (is_ok result) }
         ensures cause { HasCause (D.faults disk.old) (D.faults disk.new) result }
         ensures crashes { IsTrue D.tells → crashes_of (D.past disk.new) ≡ crashes_of (D.past disk.old) }
     {
@@ -125,12 +134,16 @@ impl Journal {
     pub fn entry<D: Disk>(&mut self, disk: &mut D, i: u64) -> Result<Blob, JournalError>
         requires number { (1 ≤ i) × (i ≤ length self.old.gates) }
         requires fits { IsTrue D.tells → FitsUnlessDown (D.past disk.old) self.old }
-        ensures value { IsTrue D.tells → (entries : List (List ℕ)) → Fits entries (D.past disk.old) self.old → IfOk result (λ bytes. slice_get entries (i - 1) ≡ Some bytes) }
+        ensures value { IsTrue D.tells → (entries : List (List ℕ)) → Fits entries (D.past disk.old) self.old →
+            IfOk result (λ bytes. slice_get entries (i - 1) ≡ Some bytes) }
         ensures down { IsErrOf result IsDown ↔ (self.old.is_down ≡ true) }
         ensures refusals { IfErr result (λ error. (error ≡ WantsMemory) ⊎ (error ≡ DiskFails) ⊎ (error ≡ IsDown)) }
         ensures journal { self.new ≡ after_reading self.old result }
         ensures past { IsTrue D.tells → D.past disk.new ≡ D.past disk.old }
-        ensures fuse { IsTrue D.tells → (is_ok result ≡ true) ⊎ (is_disk result ≡ true) → Burns 1 (D.fuse disk.old) (D.fuse disk.new) (is_ok result) }
+        ensures untouched { IsTrue D.tells → IfErr result (λ error. error ≢ DiskFails →
+            D.fuse disk.new ≡ D.fuse disk.old) }
+        ensures fuse { IsTrue D.tells → (is_ok result ≡ true) ⊎ (is_disk result ≡ true) →
+            Burns 1 (D.fuse disk.old) (D.fuse disk.new) (is_ok result) }
         ensures cause { HasCause (D.faults disk.old) (D.faults disk.new) result }
     {
         if self.down {
@@ -138,7 +151,7 @@ impl Journal {
         }
         let (start, len) = span_of(&self.gates, i as usize - 1);
         match read_bytes(self.alloc, disk, start, len) {
-            Ok(bytes) => Ok(Blob::from_slice(self.alloc, &bytes)?),
+            Ok(bytes) => Ok(Blob::from_vec(bytes)),
             Err(JournalError::Disk) => {
                 self.down = true;
                 Err(JournalError::Disk)

@@ -29,7 +29,7 @@ pub fn span_of(gates: &[u64], k: usize) -> (u64, u64)
     (start, gates[k].saturating_sub(start))
 }
 
-/// So many bytes from a place on, in one device call.
+/// So many bytes from a place on, in one device call. Memory comes before it.
 pub fn read_bytes<D: Disk>(
     alloc: Global,
     disk: &mut D,
@@ -37,10 +37,13 @@ pub fn read_bytes<D: Disk>(
     len: u64,
 ) -> Result<Vec<u8>, JournalError>
     requires { IsTrue D.tells → at + len ≤ length (seen_of (D.past disk.old)) }
-    ensures gives { IsTrue D.tells → IfOk result (λ bytes. bytes.items ≡ take len (drop at (seen_of (D.past disk.old)))) }
+    ensures gives { IsTrue D.tells →
+        IfOk result (λ bytes. bytes.items ≡ take len (drop at (seen_of (D.past disk.old)))) }
     ensures refusals { IfErr result (λ error. (error ≡ WantsMemory) ⊎ (error ≡ DiskFails)) }
     ensures past { IsTrue D.tells → D.past disk.new ≡ D.past disk.old }
-    ensures fuse { IsTrue D.tells → is_memory result ≡ false → Burns 1 (D.fuse disk.old) (D.fuse disk.new) (is_ok result) }
+    ensures untouched { IsTrue D.tells → is_memory result ≡ true → D.fuse disk.new ≡ D.fuse disk.old }
+    ensures fuse { IsTrue D.tells → is_memory result ≡ false →
+        Burns 1 (D.fuse disk.old) (D.fuse disk.new) (is_ok result) }
     ensures cause { HasCause (D.faults disk.old) (D.faults disk.new) result }
 {
     let mut bytes = vec![in alloc; 0; len as usize]?;

