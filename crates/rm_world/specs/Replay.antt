@@ -38,4 +38,4 @@ IsCutIn event old new = (new ≡ old) ⊎ ((new ≡ recorded old event) ⊎ (new
 abbrev pub IsCutShort : List Event → World → World → Type 0
 IsCutShort events old new = (k : ℕ) × (k ≤ length events)
     × ((new ≡ run (take k events) old)
-      ⊎ ((event : Event) × (slice_get events k ≡ Some event) × (new ≡ recorded (run (take k events) old) event)))
+    ⊎ ((event : Event) × (slice_get events k ≡ Some event) × (new ≡ recorded (run (take k events) old) event)))

@@ -1,18 +1,15 @@
 -- What the two nodes keep to, whatever the network loses, repeats or reorders.
-use Rattle.std.specs.Prelude.{◌≡◌, ℕ, ◌+◌, ◌≤◌, Bool, true, false, List, [], ◌∷◌, ◌++◌, length, map, Option, Some, None, Contains, slice_get, IfSome, take, ◌<◌}
-use Rattle.std.specs.List.{AllByRecursion}
-use Rattle.rm_base.specs.Numbers.{IsRising, has_number, greatest_of}
+use Rattle.std.specs.Prelude.{◌≡◌, ℕ, ◌+◌, ◌≤◌, true, false, List, [], ◌++◌, length, map, Some, None, Contains, slice_get, IfSome, take, ◌<◌}
+use Rattle.rm_base.specs.Numbers.{has_number}
 use Rattle.rm_base.specs.Numbered.{numbered}
 use Rattle.rm_base.specs.declared.message.Behaviour.TheVariants.{FollowingFirstGap}
 use Rattle.rm_base.specs.declared.message.Payload.{Payload}
-use Rattle.rm_source.specs.Outgoing.{Sending}
 use Rattle.rm_source.specs.declared.phase.OutPhase.TheVariants.{Open}
-use Rattle.rm_destination.specs.Incoming.{Receiving, numbers_of, received_front, inbox_of}
+use Rattle.rm_destination.specs.Incoming.{numbers_of, received_front, inbox_of}
 use Rattle.rm_destination.specs.declared.incoming.TheConstants.{WINDOW}
 use Rattle.rm_world.specs.declared.event.Event.{Event}
 use Rattle.rm_world.specs.declared.event.Event.TheVariants.{Deliver}
-use Rattle.rm_world.specs.declared.packet.PlainPacket.{PlainPacket}
-use Rattle.rm_world.specs.declared.packet.PlainPacket.TheVariants.{Data, Ack}
+use Rattle.rm_world.specs.declared.packet.PlainPacket.TheVariants.{Data}
 use Rattle.rm_world.specs.World.{World, happens, run, plain}
 
 -- the preset sequence: open, with FollowingFirstGap and no deadline, and nothing accepted, received or sent
@@ -20,7 +17,9 @@ abbrev pub preset : World
 preset = record {
   source = record { phase = Open; accepted = []; acked = [] };
   dest = record { behaviour = FollowingFirstGap; deadline = None; received = [] };
-  packets = []; one = 0; two = 0;
+  packets = [];
+  one = 0;
+  two = 0;
 }
 
 -- ys begins with xs
@@ -43,12 +42,13 @@ pub record IsNewAt (w : World) (p n : ℕ) (text : List ℕ) : Type 0 where
   pub is_new : has_number (numbers_of w.dest.received) n ≡ false
   pub near : n ≤ received_front w.dest + WINDOW
 
--- a new message within the window that a line delivers is recorded by that line, and where it closes the gap it is released
+-- a new message within the window that a line delivers is recorded by that line, and where it closes the gap it is
+-- released
 pub record Releases (w : World) (event : Event) : Type 0 where
   pub recorded : (p n : ℕ) (text : List ℕ) → event ≡ Deliver p → IsNewAt w p n text
-    → Contains (happens w event).dest.received (n, plain text)
+      → Contains (happens w event).dest.received (n, plain text)
   pub released : (p n : ℕ) (text : List ℕ) → event ≡ Deliver p → IsNewAt w p n text → n ≡ received_front w.dest + 1
-    → numbered (inbox_of (happens w event).dest) n ≡ Some (plain text)
+      → numbered (inbox_of (happens w event).dest) n ≡ Some (plain text)
 
 -- so does each line of a script, in the world that the lines before it leave
 abbrev pub EachReleases : List Event → World → Type 0

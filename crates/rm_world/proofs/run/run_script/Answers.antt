@@ -11,7 +11,8 @@ returns-in_err-play-clause-releases c = IsSound-EachReleases c.args.events (worl
 pub returns-in_err-summarize-clause-err : goal.returns-in_err-summarize-clause-err
 returns-in_err-summarize-clause-err c =
     let p = err_from_is_err_and c.from_residual-in_err-summarize.result c.from_residual-in_err-summarize.ensures.1 in
-    rw p.1 (run-IsCutShort c.args.events (world_of c.args.stage.now) (world_of c.play.new.stage) c.in_ok-play.ensures.ok)
+    rw p.1 (run-IsCutShort c.args.events (world_of c.args.stage.now) (world_of c.play.new.stage)
+    c.in_ok-play.ensures.ok)
 
 pub returns-in_err-summarize-clause-releases : goal.returns-in_err-summarize-clause-releases
 returns-in_err-summarize-clause-releases c = IsSound-EachReleases c.args.events (world_of c.args.stage.now) c.requires
