@@ -1,18 +1,15 @@
 -- What the two nodes keep to, whatever the network loses, repeats or reorders.
-use Rattle.std.specs.Prelude.{◌≡◌, ℕ, ◌+◌, ◌≤◌, Bool, true, false, List, [], ◌∷◌, ◌++◌, length, map, Option, Some, None, Contains, slice_get, IfSome, take, ◌<◌}
-use Rattle.std.specs.List.{AllByRecursion}
-use Rattle.rm_base.specs.Numbers.{IsRising, has_number, greatest_of}
+use Rattle.std.specs.Prelude.{◌≡◌, ℕ, ◌+◌, ◌≤◌, true, false, List, [], ◌++◌, length, map, Some, None, Contains, slice_get, IfSome, take, ◌<◌}
+use Rattle.rm_base.specs.Numbers.{has_number}
 use Rattle.rm_base.specs.Numbered.{numbered}
 use Rattle.rm_base.specs.declared.message.Behaviour.TheVariants.{FollowingFirstGap}
 use Rattle.rm_base.specs.declared.message.Payload.{Payload}
-use Rattle.rm_source.specs.Outgoing.{Sending}
 use Rattle.rm_source.specs.declared.phase.OutPhase.TheVariants.{Open}
-use Rattle.rm_destination.specs.Incoming.{Receiving, numbers_of, received_front, inbox_of}
+use Rattle.rm_destination.specs.Incoming.{numbers_of, received_front, inbox_of}
 use Rattle.rm_destination.specs.declared.incoming.TheConstants.{WINDOW}
 use Rattle.rm_world.specs.declared.event.Event.{Event}
 use Rattle.rm_world.specs.declared.event.Event.TheVariants.{Deliver}
-use Rattle.rm_world.specs.declared.packet.PlainPacket.{PlainPacket}
-use Rattle.rm_world.specs.declared.packet.PlainPacket.TheVariants.{Data, Ack}
+use Rattle.rm_world.specs.declared.packet.PlainPacket.TheVariants.{Data}
 use Rattle.rm_world.specs.World.{World, happens, run, plain}
 
 -- the preset sequence: open, with FollowingFirstGap and no deadline, and nothing accepted, received or sent

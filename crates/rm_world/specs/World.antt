@@ -1,6 +1,6 @@
 -- One sequence from node 1 to node 2, the packets between them, and what each line of a script does to these facts.
 -- WS-ReliableMessaging 1.2, sections 2.1 (who sends and keeps what), 3.7 (Sequence) and 3.9 (SequenceAcknowledgement).
-use Rattle.std.specs.Prelude.{◌≡◌, ℕ, ◌+◌, ◌-◌, ◌==◌, Bool, true, false, if◌then◌else◌, List, [], ◌∷◌, ◌++◌, length, Option, Some, None, is_none}
+use Rattle.std.specs.Prelude.{ℕ, ◌+◌, Bool, true, false, if◌then◌else◌, List, [], ◌∷◌, ◌++◌, length, Option, Some, None, is_none}
 use Rattle.rm_base.specs.Count.{raised_by}
 use Rattle.rm_base.specs.Numbers.{united, brings_new}
 use Rattle.rm_base.specs.Numbered.{numbered}

@@ -13,8 +13,8 @@ use crate::summary::summarize;
 use rm_base::{Blob, Memory};
 use std::alloc::Global;
 
-/// Plays events over a stage, and answers the report of the run. Want of memory leaves the run of some first events, and of
-/// the next one perhaps its record without its packet. After any answer the stage may play more events.
+/// Plays events over a stage, and answers the report of the run. Want of memory leaves the run of some first events,
+/// and of the next one perhaps its record without its packet. After any answer the stage may play more events.
 pub fn run_script(alloc: Global, stage: &mut PlainStage, events: Events) -> Result<Blob, Memory>
     requires { IsSound (world_of stage.old) }
     ensures ok { OnOk result (world_of stage.new ≡ run events (world_of stage.old)) }

@@ -8,8 +8,8 @@ use rm_destination::Incoming;
 use rm_source::{OutPhase, Outgoing};
 use std::alloc::Global;
 
-/// Two nodes over plain values: the source at node 1, the destination at node 2, every packet that was sent, and how many
-/// records each node made.
+/// Two nodes over plain values: the source at node 1, the destination at node 2, every packet that was sent, and how
+/// many records each node made.
 #[derive(Debug, Drop)]
 pub struct PlainStage {
     pub source: Outgoing,
