@@ -173,7 +173,14 @@ run-IsSound [] w h = h
 run-IsSound (event ∷ events) w h = run-IsSound events (happens w event) (happens-IsSound w event h)
 
 pub preset-IsSound : IsSound preset
-preset-IsSound = record { opened = refl; endless = refl; packets = tt; messages = tt; rising = tt; acked = λ n h. absurd (cc) }
+preset-IsSound = record {
+  opened = refl;
+  endless = refl;
+  packets = tt;
+  messages = tt;
+  rising = tt;
+  acked = λ n h. absurd (cc);
+}
 
 -- from a place on, the inbox of sound messages begins what was accepted
 inbox_after-prefix : (n : ℕ) (accepted : List (List ℕ)) (ms : List (ℕ × Payload))

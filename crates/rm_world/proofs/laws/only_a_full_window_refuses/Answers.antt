@@ -15,7 +15,8 @@ no_refusal : (accepted unacked : ℕ) → accepted < 9223372036854775807 → nat
     → room_refusal accepted unacked ≡ None
 no_refusal accepted unacked few narrow = rw (narrow, lt-leb 9223372036854775807 accepted few) refl
 
-full_window : (accepted unacked : ℕ) → nat_le 1024 unacked ≡ true → room_refusal accepted unacked ≡ Some (WindowFull unacked)
+full_window : (accepted unacked : ℕ) → nat_le 1024 unacked ≡ true
+    → room_refusal accepted unacked ≡ Some (WindowFull unacked)
 full_window accepted unacked full = rw full refl
 
 pub returns : goal.returns
