@@ -12,4 +12,5 @@ IsOutside status = (status ≡ READ_FAULT) ⊎ ((status ≡ WRITE_FAULT) ⊎ (st
 
 -- a status
 abbrev pub IsStatus : ℕ → Type 0
-IsStatus status = (status ≡ DONE) ⊎ ((status ≡ USAGE) ⊎ ((status ≡ BAD_SCRIPT) ⊎ ((status ≡ TOO_LONG) ⊎ IsOutside status)))
+IsStatus status =
+    (status ≡ DONE) ⊎ ((status ≡ USAGE) ⊎ ((status ≡ BAD_SCRIPT) ⊎ ((status ≡ TOO_LONG) ⊎ IsOutside status)))
