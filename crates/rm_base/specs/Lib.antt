@@ -1,0 +1,5 @@
+pub mod Count
+pub mod Numbered
+pub mod Numbers
+pub mod Outside
+pub mod Text

@@ -34,6 +34,20 @@ impl Blob {
         })
     }
 
+    /// A vector's bytes. It takes no memory.
+    pub fn from_vec(bytes: Vec<u8>) -> Self
+        ensures { result ≡ bytes.items }
+    {
+        Blob { bytes }
+    }
+
+    /// The same bytes as a vector. It takes no memory.
+    pub fn into_vec(self) -> Vec<u8>
+        ensures { result.items ≡ self }
+    {
+        self.bytes
+    }
+
     pub fn as_slice(&self) -> &[u8]
         ensures { result.now ≡ self.now }
     {
@@ -67,6 +81,28 @@ impl Blob {
         ensures err { OnErr result (self.new ≡ self.old) }
     {
         self.bytes.extend_from_slice(bytes)?;
+        Ok(())
+    }
+}
+
+#[cfg(test)]
+mod tests {
+    use super::*;
+    use std::test::Fail;
+
+    #[test]
+    fn holds_what_was_pushed(rt: HostRuntime) -> Result<(), Fail> {
+        let mut blob = Blob::new(rt.alloc());
+        assert!(rt; blob.is_empty());
+        for piece in ["abc", "", "de"] {
+            blob.push_all(piece.as_bytes())?;
+        }
+        assert_eq!(rt; blob.as_slice(), b"abcde".as_slice());
+        assert_eq!(rt; blob.copy()?.len(), 5);
+        let again = Blob::from_slice(rt.alloc(), blob.as_slice())?;
+        assert_eq!(rt; again.as_slice(), blob.as_slice());
+        let moved = Blob::from_vec(again.into_vec());
+        assert_eq!(rt; moved.as_slice(), blob.as_slice());
         Ok(())
     }
 }

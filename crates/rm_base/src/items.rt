@@ -77,3 +77,24 @@ impl<T> Items<T> {
         Items { items }
     }
 }
+
+#[cfg(test)]
+mod tests {
+    use super::*;
+    use std::test::Fail;
+
+    #[test]
+    fn holds_what_was_pushed(rt: HostRuntime) -> Result<(), Fail> {
+        let mut items = Items::new(rt.alloc());
+        assert!(rt; items.is_empty());
+        for item in ['a', 'b', 'c'] {
+            items.push(item)?;
+        }
+        assert_eq!(rt; items.len(), 3);
+        assert_eq!(rt; items.get(1), Some(&'b'));
+        assert_eq!(rt; items.get(3), None);
+        let again = Items::from_vec(items.into_vec());
+        assert_eq!(rt; again.as_slice(), ['a', 'b', 'c'].as_slice());
+        Ok(())
+    }
+}

@@ -1,7 +1,7 @@
 -- Runs of characters and names, as UTF-8. XML 1.0, sections 2.2 and 2.3; Namespaces in XML 1.0, section 3.
-use Rattle.std.specs.Prelude.{◌≡◌, ◌≢◌, ℕ, ◌+◌, List, [], ◌∷◌, ◌++◌, IsTrue, encode_utf8_all}
+use Rattle.std.specs.Prelude.{◌≡◌, ◌≢◌, ℕ, List, [], ◌∷◌, ◌++◌, IsTrue, encode_utf8_all}
 use Rattle.std.specs.List.{AllByRecursion}
-use Rattle.xml_chars.specs.Classes.{is_char, is_space, is_name_start, is_name_char}
+use Rattle.xml_chars.specs.Classes.{is_char, is_name_start, is_name_char}
 
 -- the bytes are Char*
 pub record IsChars (bytes : List ℕ) : Type 0 where

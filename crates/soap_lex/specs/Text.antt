@@ -1,5 +1,5 @@
 -- Text between tags: XML 1.0, section 2.4 (CharData), 2.5 (Comment), 2.7 (CDSect), 2.11 (line ends), 4.1 (references).
-use Rattle.std.specs.Prelude.{◌≡◌, ℕ, List, [], ◌∷◌, ◌++◌, Bool, true, false, ◌&&◌, ◌==◌, if◌then◌else◌, codes, encode_utf8}
+use Rattle.std.specs.Prelude.{ℕ, List, [], ◌∷◌, ◌++◌, Bool, false, ◌&&◌, ◌==◌, if◌then◌else◌, codes, encode_utf8}
 use Rattle.soap_lex.specs.Characters.{IsChars, Holds}
 use Rattle.soap_lex.specs.References.{IsReference}
 
@@ -37,11 +37,11 @@ pub record IsComment (bytes : List ℕ) : Type 0 where
 pub data IsMarkup : List ℕ → List ℕ → Type 0 where
   reference : (bytes : List ℕ) (c : ℕ) → IsReference bytes c → IsMarkup bytes (encode_utf8 c)
   cdata : (bytes : List ℕ) → IsCdata bytes
-    → IsMarkup (codes "<![CDATA[" ++ (bytes ++ codes "]]>")) (with_line_ends bytes)
+      → IsMarkup (codes "<![CDATA[" ++ (bytes ++ codes "]]>")) (with_line_ends bytes)
   comment : (bytes : List ℕ) → IsComment bytes → IsMarkup (codes "<!--" ++ (bytes ++ codes "-->")) []
 
 -- text, and what it means: character data, with markup between
 pub data IsText : List ℕ → List ℕ → Type 0 where
   run : (bytes : List ℕ) → IsCharData bytes → IsText bytes (with_line_ends bytes)
   more : (bytes markup meaning rest text : List ℕ) → IsCharData bytes → IsMarkup markup meaning → IsText rest text
-    → IsText (bytes ++ (markup ++ rest)) (with_line_ends bytes ++ (meaning ++ text))
+      → IsText (bytes ++ (markup ++ rest)) (with_line_ends bytes ++ (meaning ++ text))

@@ -2,12 +2,86 @@
 //! It stands on nothing. The layers above may ask of a character whether it is in a class.
 #![tactic(auto)]
 
-ghost use Rattle.std.specs.Prelude.{◌≡◌, ◌↔◌, IsTrue};
-ghost use Rattle.xml_chars.specs.Classes.{is_space};
+ghost use Rattle.std.specs.Prelude.{◌≡◌};
+ghost use Rattle.xml_chars.specs.Classes.{is_within as within, is_char as char_class, is_space as space_class};
+ghost use Rattle.xml_chars.specs.Classes.{is_name_start as name_start_class, is_name_char as name_char_class};
 
-/// White space of XML, section 2.3, production 3.
-pub fn is_space(byte: u8) -> bool
-    ensures { result ≡ is_space byte }
+/// Production 2, Char.
+const CHARS: [(u32, u32); 5] = [
+    (0x9, 0xA),
+    (0xD, 0xD),
+    (0x20, 0xD7FF),
+    (0xE000, 0xFFFD),
+    (0x10000, 0x10FFFF),
+];
+
+/// Production 3, S.
+const SPACES: [(u32, u32); 3] = [(0x9, 0xA), (0xD, 0xD), (0x20, 0x20)];
+
+/// Production 4, NameStartChar, without the colon.
+const NAME_STARTS: [(u32, u32); 15] = [
+    (0x41, 0x5A),
+    (0x5F, 0x5F),
+    (0x61, 0x7A),
+    (0xC0, 0xD6),
+    (0xD8, 0xF6),
+    (0xF8, 0x2FF),
+    (0x370, 0x37D),
+    (0x37F, 0x1FFF),
+    (0x200C, 0x200D),
+    (0x2070, 0x218F),
+    (0x2C00, 0x2FEF),
+    (0x3001, 0xD7FF),
+    (0xF900, 0xFDCF),
+    (0xFDF0, 0xFFFD),
+    (0x10000, 0xEFFFF),
+];
+
+/// What production 4a, NameChar, has besides.
+const NAME_MORE: [(u32, u32); 5] = [
+    (0x2D, 0x2E),
+    (0x30, 0x39),
+    (0xB7, 0xB7),
+    (0x300, 0x36F),
+    (0x203F, 0x2040),
+];
+
+/// A character that a document may hold: XML 1.0, section 2.2, production 2.
+pub fn is_char(c: char) -> bool
+    ensures { result ≡ char_class c }
 {
-    byte == b'\t' || byte == b'\n' || byte == b'\r' || byte == b' '
+    is_within(&CHARS, c as u32)
+}
+
+/// White space: XML 1.0, section 2.3, production 3.
+pub fn is_space(byte: u8) -> bool
+    ensures { result ≡ space_class byte }
+{
+    is_within(&SPACES, byte as u32)
+}
+
+/// The first character of a name without a colon: XML 1.0, section 2.3, production 4.
+pub fn is_name_start(c: char) -> bool
+    ensures { result ≡ name_start_class c }
+{
+    is_within(&NAME_STARTS, c as u32)
+}
+
+/// A further character of a name without a colon: XML 1.0, section 2.3, production 4a.
+pub fn is_name_char(c: char) -> bool
+    ensures { result ≡ name_char_class c }
+{
+    is_name_start(c) || is_within(&NAME_MORE, c as u32)
+}
+
+// one of the ranges has the character; its ends belong to it
+fn is_within(ranges: &[(u32, u32)], c: u32) -> bool
+    ensures { result ≡ within ranges.now c }
+{
+    for range in ranges {
+        if range.0 <= c && c <= range.1 {
+            return true;
+        }
+    }
+    false
 }

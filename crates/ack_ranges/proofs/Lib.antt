@@ -1,0 +1,4 @@
+pub mod ChangesLemmas
+pub mod RangesLemmas
+pub mod MissingLemmas
+pub mod MergeLemmas

@@ -1,0 +1,5 @@
+use Rattle.rm_base.proofs.NumbersLemmas.{Rises-united}
+use Rattle.rm_base.proofs.laws.union_rises.Goals as goal
+
+pub returns : goal.returns
+returns c = Rises-united 0

@@ -1,0 +1,194 @@
+ghost use Rattle.std.specs.Prelude.{◌≡◌, ◌≢◌, ℕ, ◌≤◌, ◌+◌, ◌<◌, List, Bool, true, false, [], length, Some, None, Err, Ok, IsTrue, OnErr, MatchResult, IfOk, is_err};
+ghost use Rattle.std.specs.Io.{ReadsAtMost, WritesAtMost};
+ghost use Rattle.std.specs.Io.KnownBytes.{ReadConsumes, WriteAppends};
+ghost use Rattle.rm_base.specs.Count.{Rose, raised_by};
+ghost use Rattle.rm_base.specs.Outside.{counted_if, is_write_fault};
+
+use crate::outside::{Sink, SinkError, Source};
+use crate::want::Failed;
+use std::io::{Read, Write};
+use std::marker::Model;
+
+/// A source over a reader of std, as standard input. It tells no content.
+#[derive(Drop)]
+pub struct StdSource<R> {
+    reader: R,
+    faults: u64,
+    taken: u64,
+}
+
+impl<R> Model for StdSource<R> {
+    ghost use Rattle.rm_base.specs.Outside.{Reader};
+
+    ghost Value = { Reader R };
+
+    ghost view = { λ s. record { reader = s.reader; faults = s.faults; taken = s.taken } };
+}
+
+impl<R> StdSource<R> {
+    pub fn new(reader: R) -> Self
+        ensures { result ≡ record { reader = reader; faults = 0; taken = 0 } }
+    {
+        StdSource {
+            reader,
+            faults: 0,
+            taken: 0,
+        }
+    }
+}
+
+impl<R: Read> Source for StdSource<R> {
+    ghost left = { λ _. None };
+
+    ghost faults = { λ s. s.faults };
+
+    ghost taken = { λ s. s.taken };
+
+    fn read(&mut self, buf: &mut [u8]) -> Result<usize, Failed>
+        ensures bound { ReadsAtMost result buf.new }
+        ensures counted { MatchResult result (λ n. self.new.taken ≡ raised_by self.old.taken n)
+            (λ _. self.new.taken ≡ self.old.taken) }
+        ensures never_falls { self.old.faults ≤ self.new.faults }
+        ensures failed { OnErr result (Rose self.old.faults self.new.faults) }
+        ensures faults { self.new.faults ≡ counted_if (is_err result) self.old.faults }
+        ensures reads { ReadConsumes (R.remaining self.old.reader) (R.remaining self.new.reader) result buf.new }
+    {
+        match self.reader.read(buf) {
+            Ok(count) => {
+                self.taken = self.taken.saturating_add(count as u64);
+                Ok(count)
+            }
+            Err(_) => {
+                self.faults = self.faults.saturating_add(1);
+                Err(Failed)
+            }
+        }
+    }
+}
+
+/// A sink over a writer of std, as standard output. It tells no content, and never answers Memory.
+#[derive(Drop)]
+pub struct StdSink<W> {
+    writer: W,
+    faults: u64,
+}
+
+impl<W> Model for StdSink<W> {
+    ghost use Rattle.rm_base.specs.Outside.{Writer};
+
+    ghost Value = { Writer W };
+
+    ghost view = { λ s. record { writer = s.writer; faults = s.faults } };
+}
+
+impl<W> StdSink<W> {
+    pub fn new(writer: W) -> Self
+        ensures { result ≡ record { writer = writer; faults = 0 } }
+    {
+        StdSink { writer, faults: 0 }
+    }
+}
+
+impl<W: Write> Sink for StdSink<W> {
+    ghost held = { λ _. None };
+
+    ghost faults = { λ s. s.faults };
+
+    ghost wants_memory = { false };
+
+    fn write(&mut self, bytes: &[u8]) -> Result<usize, SinkError>
+        ensures bound { WritesAtMost result bytes.now }
+        ensures never_falls { self.old.faults ≤ self.new.faults }
+        ensures failed { result ≡ Err SinkError.Failed → Rose self.old.faults self.new.faults }
+        ensures nothing { result ≡ Ok 0 → 0 < length bytes.now → Rose self.old.faults self.new.faults }
+        ensures never_memory { result ≢ Err SinkError.Memory }
+        ensures faults { self.new.faults ≡ counted_if (is_write_fault result bytes.now) self.old.faults }
+        ensures writes { WriteAppends (W.contents self.old.writer) (W.contents self.new.writer) result bytes.now }
+    {
+        match self.writer.write(bytes) {
+            Ok(count) => {
+                if count == 0 && !bytes.is_empty() {
+                    self.faults = self.faults.saturating_add(1);
+                }
+                Ok(count)
+            }
+            Err(_) => {
+                self.faults = self.faults.saturating_add(1);
+                Err(SinkError::Failed)
+            }
+        }
+    }
+}
+
+#[cfg(test)]
+mod tests {
+    use super::*;
+    use crate::whole::{read_up_to, write_all};
+    use std::io::{Error, ErrorKind};
+    use std::test::Fail;
+
+    // A reader and writer that moves two bytes at a time, and whose third call fails.
+    #[derive(Drop)]
+    struct Worn {
+        calls: u8,
+    }
+
+    impl Worn {
+        fn moved(&mut self, len: usize) -> std::io::Result<usize>
+            ensures { IfOk result (λ n. n ≤ len) }
+        {
+            self.calls = self.calls.saturating_add(1);
+            if self.calls == 3 {
+                Err(Error::from(ErrorKind::BrokenPipe))
+            } else {
+                Ok(len.min(2))
+            }
+        }
+    }
+
+    impl Read for Worn {
+        fn read(&mut self, buf: &mut [u8]) -> std::io::Result<usize> {
+            self.moved(buf.len())
+        }
+    }
+
+    impl Write for Worn {
+        fn write(&mut self, buf: &[u8]) -> std::io::Result<usize> {
+            self.moved(buf.len())
+        }
+
+        fn flush(&mut self) -> std::io::Result<()> {
+            Ok(())
+        }
+    }
+
+    #[test]
+    fn hands_on_what_a_reader_and_a_writer_do(rt: HostRuntime) -> Result<(), Fail> {
+        let mut source = StdSource::new(b"abcde".as_slice());
+        assert_eq!(rt;
+            read_up_to(rt.alloc(), &mut source, 5)?.as_slice(),
+            b"abcde".as_slice()
+        );
+        let mut sink = StdSink::new(Vec::new(rt.alloc()));
+        write_all(&mut sink, b"abcde")?;
+        assert_eq!(rt; sink.writer.as_slice(), b"abcde".as_slice());
+        Ok(())
+    }
+
+    #[test]
+    fn answers_a_fault_for_an_error(rt: HostRuntime) {
+        let mut source = StdSource::new(Worn { calls: 0 });
+        let mut sink = StdSink::new(Worn { calls: 0 });
+        let mut piece = [0; 5];
+        for moved in [Some(2), Some(2), None, Some(2)] {
+            assert_eq!(rt; source.read(&mut piece).ok(), moved);
+            assert_eq!(rt; sink.write(&piece).ok(), moved);
+        }
+        let mut whole = StdSink::new(Worn { calls: 0 });
+        assert_eq!(rt; write_all(&mut whole, b"abcd"), Ok(()));
+        assert_eq!(rt;
+            write_all(&mut whole, b"abc").err(),
+            Some(SinkError::Failed)
+        );
+    }
+}

@@ -1,0 +1,4 @@
+pub mod AddedLemmas
+pub mod FrontLemmas
+pub mod KeptLemmas
+pub mod MessageLemmas

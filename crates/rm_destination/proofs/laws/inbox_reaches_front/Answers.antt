@@ -1,0 +1,9 @@
+use Rattle.rm_destination.proofs.FrontLemmas.{front_of-IsFront}
+use Rattle.rm_destination.proofs.MessageLemmas.{inbox_after-IsInbox}
+use Rattle.rm_destination.proofs.laws.inbox_reaches_front.Goals as goal
+
+pub returns-clause-front : goal.returns-clause-front
+returns-clause-front c = front_of-IsFront
+
+pub returns-clause-inbox : goal.returns-clause-inbox
+returns-clause-inbox c = λ r. inbox_after-IsInbox r.received

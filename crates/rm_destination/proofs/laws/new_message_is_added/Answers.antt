@@ -1,0 +1,5 @@
+use Rattle.rm_destination.proofs.AddedLemmas.{with_message-AddsMessage}
+use Rattle.rm_destination.proofs.laws.new_message_is_added.Goals as goal
+
+pub returns : goal.returns
+returns c = with_message-AddsMessage

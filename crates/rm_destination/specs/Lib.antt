@@ -1,0 +1,4 @@
+pub mod Added
+pub mod Front
+pub mod Incoming
+pub mod Kept

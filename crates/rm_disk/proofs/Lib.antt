@@ -1,0 +1,5 @@
+pub mod Ranges
+pub mod States
+pub mod Images
+pub mod Notes
+pub mod Kept

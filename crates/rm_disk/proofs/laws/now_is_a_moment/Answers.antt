@@ -1,0 +1,5 @@
+use Rattle.rm_disk.proofs.Images.{left_now}
+use Rattle.rm_disk.proofs.laws.now_is_a_moment.Goals as goal
+
+pub returns : goal.returns
+returns c = left_now

@@ -1,0 +1,5 @@
+use Rattle.rm_disk.proofs.Images.{left_in_two}
+use Rattle.rm_disk.proofs.laws.spans_join.Goals as goal
+
+pub returns : goal.returns
+returns c = left_in_two

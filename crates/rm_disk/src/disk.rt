@@ -1,0 +1,106 @@
+ghost use Rattle.std.specs.Prelude.{◌≡◌, ◌+◌, ◌≤◌, ℕ, ◌∷◌, Bool, List, Option, length, slice_range, IsTrue, is_ok, IsOk, IfOk, OnOk, OnErr, None, if◌then◌else◌};
+ghost use Rattle.rm_disk.specs.Call.{Call, Wrote, WriteFailed, CutTo, CutFailed, Synced, SyncFailed, Crashed, seen_of};
+ghost use Rattle.rm_disk.specs.Fuse.{Burns, armed};
+ghost use Rattle.rm_disk.specs.Spare.{Spare, Covers, Spends};
+ghost use Rattle.rm_disk.specs.Cause.{HasCause};
+
+use rm_base::{Failed, Memory};
+
+/// A file on a disk: bytes that are read and written in place, and that a crash may lose until they are synced.
+/// `len`, `read`, `write_at`, `cut` and `sync` are the device calls, and none of them takes memory.
+pub trait Disk {
+    /// Whether contracts see what is on the disk. A disk tells for good or never.
+    ghost tells: { Bool };
+
+    /// The calls that changed it or failed to, newest first.
+    ghost past: { Self → List Call };
+
+    /// How many device calls are left up to the first that fails, if it is to fail.
+    ghost fuse: { Self → Option ℕ };
+
+    /// How often a device call has failed.
+    ghost faults: { Self → ℕ };
+
+    /// For how many device calls and bytes there is room.
+    ghost spare: { Self → Spare };
+
+    /// The number of bytes.
+    fn len(&mut self) -> Result<u64, Failed>
+        ensures gives { IsTrue tells → IfOk result (λ len. len ≡ length (seen_of (past self.old))) }
+        ensures past { IsTrue tells → past self.new ≡ past self.old }
+        ensures fuse { IsTrue tells → Burns 1 (fuse self.old) (fuse self.new) (is_ok result) }
+        ensures cause { HasCause (faults self.old) (faults self.new) result }
+        ensures spare { Spends 0 0 (spare self.old) (spare self.new) };
+
+    /// Fills the buffer with the bytes from a place on. After a failure the buffer holds anything.
+    fn read(&mut self, at: u64, buf: &mut [u8]) -> Result<(), Failed>
+        requires { IsTrue tells → at + length buf.old ≤ length (seen_of (past self.old)) }
+        ensures gives { IsTrue tells → OnOk result (buf.new ≡ slice_range (seen_of (past self.old)) at
+            (at + length buf.old)) }
+        ensures past { IsTrue tells → past self.new ≡ past self.old }
+        ensures fuse { IsTrue tells → Burns 1 (fuse self.old) (fuse self.new) (is_ok result) }
+        ensures cause { HasCause (faults self.old) (faults self.new) result }
+        ensures spare { Spends 0 0 (spare self.old) (spare self.new) };
+
+    /// Makes room for so many calls that change the disk, and so many bytes written by them. It is no device call.
+    fn reserve(&mut self, calls: u64, bytes: u64) -> Result<(), Memory>
+        ensures covers { OnOk result (Covers (spare self.new) calls bytes) }
+        ensures spare { Spends 0 0 (spare self.old) (spare self.new) }
+        ensures enough { Covers (spare self.old) calls bytes → IsOk result }
+        ensures past { IsTrue tells → past self.new ≡ past self.old }
+        ensures fuse { IsTrue tells → fuse self.new ≡ fuse self.old }
+        ensures faults { faults self.new ≡ faults self.old };
+
+    /// Writes over what is there, and past the end.
+    fn write_at(&mut self, at: u64, bytes: &[u8]) -> Result<(), Failed>
+        requires within { IsTrue tells → at ≤ length (seen_of (past self.old)) }
+        requires room { Covers (spare self.old) 1 (length bytes.now) }
+        ensures past { IsTrue tells → past self.new ≡ (if is_ok result then Wrote at bytes.now else WriteFailed at
+            (length bytes.now)) ∷ past self.old }
+        ensures fuse { IsTrue tells → Burns 1 (fuse self.old) (fuse self.new) (is_ok result) }
+        ensures cause { HasCause (faults self.old) (faults self.new) result }
+        ensures spare { Spends 1 (length bytes.now) (spare self.old) (spare self.new) };
+
+    /// Cuts the file to a length.
+    fn cut(&mut self, len: u64) -> Result<(), Failed>
+        requires within { IsTrue tells → len ≤ length (seen_of (past self.old)) }
+        requires room { Covers (spare self.old) 1 0 }
+        ensures past { IsTrue tells → past self.new ≡ (if is_ok result then CutTo len else CutFailed len) ∷ past
+            self.old }
+        ensures fuse { IsTrue tells → Burns 1 (fuse self.old) (fuse self.new) (is_ok result) }
+        ensures cause { HasCause (faults self.old) (faults self.new) result }
+        ensures spare { Spends 1 0 (spare self.old) (spare self.new) };
+
+    /// After it a crash leaves what a read gives.
+    fn sync(&mut self) -> Result<(), Failed>
+        requires { Covers (spare self.old) 1 0 }
+        ensures past { IsTrue tells → past self.new ≡ (if is_ok result then Synced else SyncFailed) ∷ past self.old }
+        ensures fuse { IsTrue tells → Burns 1 (fuse self.old) (fuse self.new) (is_ok result) }
+        ensures cause { HasCause (faults self.old) (faults self.new) result }
+        ensures spare { Spends 1 0 (spare self.old) (spare self.new) };
+}
+
+/// A disk that can be told to fail and to crash, and always tells what is on it.
+pub trait CrashDisk: Disk {
+    /// From now on the device call of this number fails, counted from 1, and so does each after it, until a crash.
+    /// It takes the place of an earlier `arm`, unless a call has failed by that already.
+    fn arm(&mut self, calls: u64)
+        requires { 1 ≤ calls }
+        ensures fuse { Self.fuse self.new ≡ armed calls (Self.fuse self.old) }
+        ensures past { Self.past self.new ≡ Self.past self.old }
+        ensures faults { Self.faults self.new ≡ Self.faults self.old }
+        ensures spare { Self.spare self.new ≡ Self.spare self.old };
+
+    /// The machine stops and starts again, and no call fails from then on until an `arm`. Of what wasn't synced
+    /// choice 0 keeps nothing and choice 1 all. Choice 2 leaves the greatest length and ones in the places that
+    /// may hold anything, choice 3 the smallest length and zeros there. Nothing is spare afterwards.
+    fn crash(&mut self, choice: u8) -> Result<(), Memory>
+        requires { choice ≤ 3 }
+        ensures past { Self.past self.new ≡ (if is_ok result then Crashed choice ∷ Self.past self.old else Self.past
+            self.old) }
+        ensures fuse { Self.fuse self.new ≡ (if is_ok result then None else Self.fuse self.old) }
+        ensures faults { Self.faults self.new ≡ Self.faults self.old };
+
+    /// It tells.
+    ghost always_tells: { IsTrue Self.tells };
+}

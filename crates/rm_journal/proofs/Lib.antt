@@ -1,0 +1,5 @@
+pub mod Blocks
+pub mod Crash
+pub mod Walk
+pub mod Places
+pub mod Refusals

@@ -1,0 +1,54 @@
+use Rattle.std.proofs.Common.{◌≡◌, ◌∙◌, ℕ, ◌-◌, ◌<◌, [], List, length, get_or, take, drop, Some, sym, ap, arith}
+use Rattle.std.proofs.lemmas.Option.{slice_get-get_or}
+use Rattle.rm_disk.specs.Call.{seen_of}
+use Rattle.rm_disk.proofs.Images.{reads_as_image}
+use Rattle.rm_journal.specs.Entries.{gates_from, first_of}
+use Rattle.rm_journal.proofs.Crash.{front_of}
+use Rattle.rm_journal.proofs.Places.{length-gates_from, first_is, start_of, entry_there, entry_within}
+use Rattle.rm_journal.proofs.journal.Journal.entry.Goals as goal
+
+pub read_bytes-requires : goal.read_bytes-requires
+read_bytes-requires g c tells =
+    let up = sym (ap (λ j. j.is_down) c.self.view_is) ∙ c.if-self.false in
+    let fits = c.requires.fits tells up in
+    let entries = fits.0 in
+    let k = c.args.i - 1 in
+    let past = g.D.Disk.past c.args.disk.now in
+    let are : c.deref.result.now ≡ gates_from 8 entries = c.deref.ensures.value ∙ ap (λ j. j.gates) c.self.view_is
+    ∙ fits.1.gates in
+    let below : k < length entries = omega (
+      arith,
+      c.requires.number.0,
+      c.requires.number.1,
+      ap length fits.1.gates,
+      length-gates_from 8 entries,
+    ) in
+    let place : c.span_of-start.result.0 ≡ start_of entries k =
+    c.span_of-start.ensures.place entries are ∙ ap (λ (l : List ℕ). first_of l k) are ∙ first_is entries k below in
+    let has = front_of entries (seen_of past) (fits.1.images (seen_of past) (reads_as_image past)) in
+    omega (arith, place, c.span_of-start.ensures.size entries are, entry_within entries (seen_of past) k below has)
+
+pub returns-in-Ok-clause-value : goal.returns-in-Ok-clause-value
+returns-in-Ok-clause-value g c tells entries fits =
+    let k = c.args.i - 1 in
+    let past = g.D.Disk.past c.args.disk.now in
+    let are : c.deref.result.now ≡ gates_from 8 entries = c.deref.ensures.value ∙ ap (λ j. j.gates) c.self.view_is
+    ∙ fits.gates in
+    let below : k < length entries = omega (
+      arith,
+      c.requires.number.0,
+      c.requires.number.1,
+      ap length fits.gates,
+      length-gates_from 8 entries,
+    ) in
+    let place : c.span_of-start.result.0 ≡ start_of entries k =
+    c.span_of-start.ensures.place entries are ∙ ap (λ (l : List ℕ). first_of l k) are ∙ first_is entries k below in
+    let has = front_of entries (seen_of past) (fits.images (seen_of past) (reads_as_image past)) in
+    let read = rw c.in-Ok.is at c.read_bytes.ensures.gives tells in
+    let bytes : c.from_vec.result ≡ get_or entries k [] =
+    c.from_vec.ensures
+    ∙ read
+    ∙ ap (λ (n : ℕ). take n (drop c.span_of-start.result.0 (seen_of past))) (c.span_of-start.ensures.size entries are)
+    ∙ ap (λ (n : ℕ). take (length (get_or entries k [])) (drop n (seen_of past))) place
+    ∙ entry_there entries (seen_of past) k below has in
+    slice_get-get_or entries k [] below ∙ ap (λ (b : List ℕ). Some b) (sym bytes)

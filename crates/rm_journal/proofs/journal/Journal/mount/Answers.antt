@@ -1,0 +1,63 @@
+use Rattle.std.proofs.Common.{◌≡◌, ◌∙◌, ℕ, List, ◌∷◌, length, take, sym, ap, subst, arith, inl, inr, Err}
+use Rattle.std.proofs.lemmas.List.{take_all}
+use Rattle.rm_disk.specs.Call.{Call, Synced, SyncFailed, seen_of}
+use Rattle.rm_journal.specs.Entries.{StandsFor}
+use Rattle.rm_journal.proofs.Crash.{synced_moments}
+use Rattle.rm_journal.specs.declared.error.JournalError.TheVariants.{NotAJournal}
+use Rattle.rm_journal.proofs.journal.Journal.mount.Goals as goal
+
+pub returns-in_err-reserve-clause-moments : goal.returns-in_err-reserve-clause-moments
+returns-in_err-reserve-clause-moments g c tells =
+    synced_moments (g.D.Disk.past c.args.disk.now) (g.D.Disk.past c.reserve.new.self)
+    (inl (c.in_err-reserve.ensures.past tells))
+
+pub returns-in_err-sync-clause-moments : goal.returns-in_err-sync-clause-moments
+returns-in_err-sync-clause-moments g c tells =
+    let failed = c.in_err-sync.ensures.past tells
+    ∙ ap (λ (l : List Call). SyncFailed ∷ l) (c.in_ok-reserve.ensures.past tells) in
+    synced_moments (g.D.Disk.past c.args.disk.now) (g.D.Disk.past c.sync.new.self) (inr (inl failed))
+
+pub returns-in_err-len-clause-moments : goal.returns-in_err-len-clause-moments
+returns-in_err-len-clause-moments g c tells =
+    let synced = c.in_ok-sync.ensures.past tells
+    ∙ ap (λ (l : List Call). Synced ∷ l) (c.in_ok-reserve.ensures.past tells) in
+    synced_moments (g.D.Disk.past c.args.disk.now) (g.D.Disk.past c.len.new.self)
+    (inr (inr (c.in_err-len.ensures.past tells ∙ synced)))
+
+pub returns-in_err-bytes-clause-moments : goal.returns-in_err-bytes-clause-moments
+returns-in_err-bytes-clause-moments g c tells =
+    let synced = c.in_ok-sync.ensures.past tells
+    ∙ ap (λ (l : List Call). Synced ∷ l) (c.in_ok-reserve.ensures.past tells) in
+    let same = c.read_bytes.ensures.past tells ∙ c.in_ok-len.ensures.past tells ∙ synced in
+    synced_moments (g.D.Disk.past c.args.disk.now) (g.D.Disk.past c.read_bytes.new.disk) (inr (inr same))
+
+pub returns-in-Ok-clause-moments : goal.returns-in-Ok-clause-moments
+returns-in-Ok-clause-moments g c tells =
+    let synced = c.in_ok-sync.ensures.past tells
+    ∙ ap (λ (l : List Call). Synced ∷ l) (c.in_ok-reserve.ensures.past tells) in
+    let same = c.read_bytes.ensures.past tells ∙ c.in_ok-len.ensures.past tells ∙ synced in
+    synced_moments (g.D.Disk.past c.args.disk.now) (g.D.Disk.past c.read_bytes.new.disk) (inr (inr same))
+
+pub returns-clause-moments : goal.returns-clause-moments
+returns-clause-moments g c tells =
+    let synced = c.in_ok-sync.ensures.past tells
+    ∙ ap (λ (l : List Call). Synced ∷ l) (c.in_ok-reserve.ensures.past tells) in
+    let same = c.read_bytes.ensures.past tells ∙ c.in_ok-len.ensures.past tells ∙ synced in
+    synced_moments (g.D.Disk.past c.args.disk.now) (g.D.Disk.past c.read_bytes.new.disk) (inr (inr same))
+
+pub returns-clause-none : goal.returns-clause-none
+returns-clause-none g c tells none entries stands =
+    let old = g.D.Disk.past c.args.disk.now in
+    let synced = c.in_ok-sync.ensures.past tells
+    ∙ ap (λ (l : List Call). Synced ∷ l) (c.in_ok-reserve.ensures.past tells) in
+    let seen : seen_of (g.D.Disk.past c.len.new.self) ≡ seen_of old = ap seen_of (c.in_ok-len.ensures.past tells
+    ∙ synced) in
+    let long : c.in_ok-len.len ≡ length (seen_of old) = c.in_ok-len.ensures.gives tells
+    ∙ ap (λ (l : List Call). length (seen_of l)) synced in
+    let bytes : c.deref.result.now ≡ seen_of old =
+    c.deref.ensures.value
+    ∙ c.in_ok-bytes.ensures.gives tells
+    ∙ ap (λ (l : List ℕ). take c.in_ok-len.len l) seen
+    ∙ take_all c.in_ok-len.len (seen_of old) (omega (arith, long)) in
+    let same : c.in-Err.error ≡ NotAJournal = cc in
+    c.gates_of.ensures.none (c.in-Err.is ∙ ap (λ e. Err e) same) entries (subst (StandsFor entries) (sym bytes) stands)

@@ -1,0 +1,211 @@
+ghost use Rattle.std.specs.Prelude.{◌≡◌, ◌≢◌, ◌⊎◌, ◌↔◌, ◌+◌, ◌-◌, ◌≤◌, ℕ, [], ◌∷◌, ◌++◌, List, Bool, true, false, None, Some, Err, length, slice_get, IsTrue, is_ok, is_err, not, IfOk, OnOk, IfErr, IsErrOf};
+ghost use Rattle.rm_base.specs.Count.{Rose};
+ghost use Rattle.rm_disk.specs.Call.{seen_of, crashes_of};
+ghost use Rattle.rm_disk.specs.Fuse.{Burns};
+ghost use Rattle.rm_disk.specs.Image.{MayLeave, OnlyLeaves};
+ghost use Rattle.rm_journal.specs.Entries.{StandsFor, StandsForEither};
+ghost use Rattle.rm_journal.specs.declared.error.JournalError.TheVariants.{Memory as WantsMemory, Disk as DiskFails, NotAJournal, Down as IsDown};
+
+use crate::JournalError;
+use crate::block::{body_of, write_block};
+use crate::place::{read_bytes, span_of};
+use crate::scan::{LONGEST, gates_of};
+use rm_base::Blob;
+use rm_disk::Disk;
+use std::alloc::Global;
+use std::marker::Model;
+
+const LIMIT: u64 = 268435456;
+
+/// The list of entries on a disk. It keeps the place of each, and none of their bytes.
+#[derive(Debug, Drop)]
+pub struct Journal {
+    alloc: Global,
+    // the place of the gate behind each entry
+    gates: Vec<u64>,
+    down: bool,
+}
+
+impl Model for Journal {
+    ghost use Rattle.rm_journal.specs.Kept.{Kept};
+
+    ghost Value = { Kept };
+
+    ghost view = { λ j. record { gates = j.gates.items; is_down = j.down } };
+}
+
+impl Journal {
+    ghost use Rattle.rm_journal.specs.Kept.{Kept, end_of};
+    ghost use Rattle.rm_journal.specs.Journal.{Fits, FitsUnlessDown, HasCause, Answers, refusal_of, is_disk, is_memory, appended, after_reading};
+
+    /// Makes the disk an empty journal. After a refusal the disk holds anything, and must be formatted again.
+    /// It makes three device calls: it cuts, writes and syncs.
+    pub fn format<D: Disk>(alloc: Global, disk: &mut D) -> Result<Journal, JournalError>
+        ensures fits { IsTrue D.tells → IfOk result (Fits [] (D.past disk.new)) }
+        ensures up { IfOk result (λ journal. journal.is_down ≡ false) }
+        ensures refusals { IfErr result (λ error. (error ≡ WantsMemory) ⊎ (error ≡ DiskFails)) }
+        ensures fuse { IsTrue D.tells → is_memory result ≡ false →
+            Burns 3 (D.fuse disk.old) (D.fuse disk.new) (is_ok result) }
+        ensures cause { HasCause (D.faults disk.old) (D.faults disk.new) result }
+        ensures crashes { IsTrue D.tells → crashes_of (D.past disk.new) ≡ crashes_of (D.past disk.old) }
+    {
+        disk.reserve(3, 9)?;
+        disk.cut(0)?;
+        disk.write_at(0, b"WSRMJNL1\0")?;
+        disk.sync()?;
+        Ok(Journal {
+            alloc,
+            gates: Vec::new(alloc),
+            down: false,
+        })
+    }
+
+    /// Finds the journal on a disk. It makes three device calls: it syncs, asks for the length and reads all once.
+    pub fn mount<D: Disk>(alloc: Global, disk: &mut D) -> Result<Journal, JournalError>
+        ensures fits { IsTrue D.tells → IfOk result (λ journal. (entries : List (List ℕ)) ×
+            StandsFor entries (seen_of (D.past disk.old)) × Fits entries (D.past disk.new) journal) }
+        ensures none { IsTrue D.tells → result ≡ Err NotAJournal →
+            (entries : List (List ℕ)) → StandsFor entries (seen_of (D.past disk.old)) → ⊥ }
+        ensures up { IfOk result (λ journal. journal.is_down ≡ false) }
+        ensures refusals { IfErr result (λ error. (error ≡ WantsMemory) ⊎ (error ≡ DiskFails) ⊎ (error ≡ NotAJournal)) }
+
+        // It changes nothing that is read, and a crash leaves no more than before.
+        ensures seen { IsTrue D.tells → seen_of (D.past disk.new) ≡ seen_of (D.past disk.old) }
+        ensures moments { IsTrue D.tells → OnlyLeaves (D.past disk.old) (D.past disk.new) (MayLeave (D.past disk.old)) }
+
+        ensures fuse { IsTrue D.tells → is_memory result ≡ false →
+            Burns 3 (D.fuse disk.old) (D.fuse disk.new) (not (is_disk result)) }
+        ensures cause { HasCause (D.faults disk.old) (D.faults disk.new) result }
+        ensures crashes { IsTrue D.tells → crashes_of (D.past disk.new) ≡ crashes_of (D.past disk.old) }
+    {
+        disk.reserve(1, 0)?;
+        disk.sync()?;
+        let len = disk.len()?;
+        let bytes = read_bytes(alloc, disk, 0, len)?;
+        match gates_of(alloc, &bytes) {
+            Ok(gates) => Ok(Journal {
+                alloc,
+                gates,
+                down: false,
+            }),
+            Err(error) => Err(error),
+        }
+    }
+
+    /// Adds an entry, in four device calls: it writes the entry behind the closed gate, syncs, opens the gate, syncs.
+    /// After Disk the entry is on the disk or isn't, and the journal is down: mount the disk again.
+    pub fn append<D: Disk>(&mut self, disk: &mut D, entry: &[u8]) -> Result<(), JournalError>
+        requires { IsTrue D.tells → FitsUnlessDown (D.past disk.old) self.old }
+
+        ensures refusals { Answers (refusal_of self.old (length entry.now)) result }
+        ensures journal { self.new ≡ appended self.old (length entry.now) result }
+
+        // At Ok the entry is there for good. A crash at any moment of the call leaves the old entries, or these with
+        // the new one.
+        ensures ok { IsTrue D.tells → (entries : List (List ℕ)) → Fits entries (D.past disk.old) self.old →
+            OnOk result (Fits (entries ++ entry.now ∷ []) (D.past disk.new) self.new) }
+        ensures moments { IsTrue D.tells → (entries : List (List ℕ)) → Fits entries (D.past disk.old) self.old →
+            OnlyLeaves (D.past disk.old) (D.past disk.new) (StandsForEither entries entry.now) }
+        ensures untouched { IsTrue D.tells → IfErr result (λ error. error ≢ DiskFails →
+            (D.past disk.new ≡ D.past disk.old) × (D.fuse disk.new ≡ D.fuse disk.old)) }
+
+        ensures fuse { IsTrue D.tells → (is_ok result ≡ true) ⊎ (is_disk result ≡ true) →
+            Burns 4 (D.fuse disk.old) (D.fuse disk.new) (is_ok result) }
+        ensures cause { HasCause (D.faults disk.old) (D.faults disk.new) result }
+        ensures crashes { IsTrue D.tells → crashes_of (D.past disk.new) ≡ crashes_of (D.past disk.old) }
+    {
+        if let Some(refusal) = self.refusal(entry.len() as u64) {
+            return Err(refusal);
+        }
+        let end = self.end();
+        let body = body_of(self.alloc, entry)?;
+        self.gates.reserve(1)?;
+        disk.reserve(4, body.len() as u64 + 1)?;
+        if write_block(disk, end, &body).is_err() {
+            self.down = true;
+            return Err(JournalError::Disk);
+        }
+        self.gates.push(end + body.len() as u64).unwrap();
+        Ok(())
+    }
+
+    /// The entry of this number, counted from 1, in one device call. On a disk that tells nothing the bytes that
+    /// stand in the entry's place are the answer, whatever they are.
+    pub fn entry<D: Disk>(&mut self, disk: &mut D, i: u64) -> Result<Blob, JournalError>
+        requires number { (1 ≤ i) × (i ≤ length self.old.gates) }
+        requires fits { IsTrue D.tells → FitsUnlessDown (D.past disk.old) self.old }
+        ensures value { IsTrue D.tells → (entries : List (List ℕ)) → Fits entries (D.past disk.old) self.old →
+            IfOk result (λ bytes. slice_get entries (i - 1) ≡ Some bytes) }
+        ensures down { IsErrOf result IsDown ↔ (self.old.is_down ≡ true) }
+        ensures refusals { IfErr result (λ error. (error ≡ WantsMemory) ⊎ (error ≡ DiskFails) ⊎ (error ≡ IsDown)) }
+        ensures journal { self.new ≡ after_reading self.old result }
+        ensures past { IsTrue D.tells → D.past disk.new ≡ D.past disk.old }
+        ensures untouched { IsTrue D.tells → IfErr result (λ error. error ≢ DiskFails →
+            D.fuse disk.new ≡ D.fuse disk.old) }
+        ensures fuse { IsTrue D.tells → (is_ok result ≡ true) ⊎ (is_disk result ≡ true) →
+            Burns 1 (D.fuse disk.old) (D.fuse disk.new) (is_ok result) }
+        ensures cause { HasCause (D.faults disk.old) (D.faults disk.new) result }
+    {
+        if self.down {
+            return Err(JournalError::Down);
+        }
+        let (start, len) = span_of(&self.gates, i as usize - 1);
+        match read_bytes(self.alloc, disk, start, len) {
+            Ok(bytes) => Ok(Blob::from_vec(bytes)),
+            Err(JournalError::Disk) => {
+                self.down = true;
+                Err(JournalError::Disk)
+            }
+            Err(error) => Err(error),
+        }
+    }
+
+    /// How many entries it has.
+    pub fn count(&self) -> u64
+        ensures { result ≡ length self.now.gates }
+    {
+        self.gates.len() as u64
+    }
+
+    /// The place of the closed gate.
+    pub fn end(&self) -> u64
+        ensures { result ≡ end_of self.now }
+    {
+        match self.gates.last() {
+            Some(&gate) => gate,
+            None => 8,
+        }
+    }
+
+    /// How long the next entry may be.
+    pub fn room(&self) -> u64
+        ensures { result ≡ 268435456 - end_of self.now - 6 }
+    {
+        LIMIT.saturating_sub(self.end()).saturating_sub(6)
+    }
+
+    /// Whether a call has answered Disk.
+    pub fn is_down(&self) -> bool
+        ensures { result ≡ self.now.is_down }
+    {
+        self.down
+    }
+
+    // The refusal of an entry of this length that comes before any call on the disk.
+    fn refusal(&self, len: u64) -> Option<JournalError>
+        ensures { result ≡ refusal_of self.now len }
+    {
+        if self.down {
+            return Some(JournalError::Down);
+        }
+        if len > LONGEST as u64 {
+            return Some(JournalError::EntryTooLong { len });
+        }
+        let end = self.end();
+        let needed = len + 6;
+        if end > LIMIT - needed {
+            return Some(JournalError::Full { end, needed });
+        }
+        None
+    }
+}

@@ -1,0 +1,52 @@
+// Where an entry stands, and the bytes that stand at a place.
+ghost use Rattle.std.specs.Prelude.{◌≡◌, ◌⊎◌, ◌+◌, ◌<◌, ◌≤◌, ℕ, [], ◌∷◌, List, true, false, length, take, drop, slice_index, slice_index_or, IsTrue, is_ok, IfOk, IfErr};
+ghost use Rattle.rm_disk.specs.Call.{seen_of};
+ghost use Rattle.rm_disk.specs.Fuse.{Burns};
+ghost use Rattle.rm_journal.specs.Entries.{gates_from, first_of};
+ghost use Rattle.rm_journal.specs.Journal.{HasCause, is_memory};
+ghost use Rattle.rm_journal.specs.declared.error.JournalError.TheVariants.{Memory as WantsMemory, Disk as DiskFails};
+
+use crate::JournalError;
+use rm_disk::Disk;
+use std::alloc::Global;
+
+/// The place of the gate before an entry. The entry is counted from 0.
+fn gate_before(gates: &[u64], k: usize) -> u64
+    requires { k < length gates.now }
+    ensures { result ≡ slice_index (8 ∷ gates.now) k }
+{
+    if k == 0 { 8 } else { gates[k - 1] }
+}
+
+/// The place of the first byte of an entry and its length. The entry is counted from 0.
+pub fn span_of(gates: &[u64], k: usize) -> (u64, u64)
+    requires { k < length gates.now }
+    ensures place { (entries : List (List ℕ)) → gates.now ≡ gates_from 8 entries → result.0 ≡ first_of gates.now k }
+    ensures size { (entries : List (List ℕ)) → gates.now ≡ gates_from 8 entries →
+        result.1 ≡ length (slice_index_or entries k []) }
+{
+    let start = gate_before(gates, k).saturating_add(5);
+    (start, gates[k].saturating_sub(start))
+}
+
+/// So many bytes from a place on, in one device call. Memory comes before it.
+pub fn read_bytes<D: Disk>(
+    alloc: Global,
+    disk: &mut D,
+    at: u64,
+    len: u64,
+) -> Result<Vec<u8>, JournalError>
+    requires { IsTrue D.tells → at + len ≤ length (seen_of (D.past disk.old)) }
+    ensures gives { IsTrue D.tells →
+        IfOk result (λ bytes. bytes.items ≡ take len (drop at (seen_of (D.past disk.old)))) }
+    ensures refusals { IfErr result (λ error. (error ≡ WantsMemory) ⊎ (error ≡ DiskFails)) }
+    ensures past { IsTrue D.tells → D.past disk.new ≡ D.past disk.old }
+    ensures untouched { IsTrue D.tells → is_memory result ≡ true → D.fuse disk.new ≡ D.fuse disk.old }
+    ensures fuse { IsTrue D.tells → is_memory result ≡ false →
+        Burns 1 (D.fuse disk.old) (D.fuse disk.new) (is_ok result) }
+    ensures cause { HasCause (D.faults disk.old) (D.faults disk.new) result }
+{
+    let mut bytes = vec![in alloc; 0; len as usize]?;
+    disk.read(at, &mut bytes)?;
+    Ok(bytes)
+}

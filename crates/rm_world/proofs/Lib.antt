@@ -1,0 +1,8 @@
+pub mod ListLemmas
+pub mod MessageLemmas
+pub mod ReleaseLemmas
+pub mod ReplayLemmas
+pub mod ReportLemmas
+pub mod ScriptLemmas
+pub mod SoundLemmas
+pub mod SummaryLemmas

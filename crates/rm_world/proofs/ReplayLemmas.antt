@@ -1,0 +1,94 @@
+-- Runs and reports of one event more.
+use Rattle.std.proofs.Common.{◌≡◌, ℕ, ◌+◌, List, [], ◌∷◌, ◌++◌, length, refl, sym, ap, ◌∙◌, arith, append_assoc, append-nil, zero, suc, inl, inr, ◌⊎◌, take, length-append, subst}
+use Rattle.std.specs.Prelude.{Option, Some, None, slice_get}
+use Rattle.std.specs.Iterator.{Yields}
+use Rattle.std.specs.Vec.Iter.{into_iter_items, into_iter_steps}
+use Rattle.std.specs.declared.vec.IntoIter.{IntoIter}
+use Rattle.std.proofs.Math.Seq.{take-append_seam, take-append-add}
+use Rattle.std.proofs.lemmas.List.{take_all}
+use Rattle.rm_world.specs.declared.event.Event.{Event}
+use Rattle.rm_world.specs.Replay.{lines_text, outcome_line, IsCutIn, IsCutShort}
+use Rattle.rm_world.specs.World.{World, happens, recorded, outcome_of, run}
+
+-- the run of one event more is one step more
+pub run-push : (events : List Event) (event : Event) (w : World)
+    → run (events ++ event ∷ []) w ≡ happens (run events w) event
+run-push [] event w = refl
+run-push (first ∷ events) event w = run-push events event (happens w first)
+
+-- its report has one line more
+pub lines_text-push : (number : ℕ) (events : List Event) (event : Event) (w : World)
+    → lines_text number (events ++ event ∷ []) w
+    ≡ lines_text number events w ++ outcome_line (number + length events + 1) (outcome_of (run events w) event)
+    (happens (run events w) event)
+lines_text-push number [] event w =
+    let here : number + 0 + 1 ≡ number + 1 = omega arith in
+    rw here (append-nil (outcome_line (number + 1) (outcome_of w event) (happens w event)))
+lines_text-push number (first ∷ events) event w =
+    let here : number + suc (length events) + 1 ≡ (number + 1) + length events + 1 = omega arith in
+    rw here (ap (λ l. outcome_line (number + 1) (outcome_of w first) (happens w first) ++ l)
+    (lines_text-push (number + 1) events event (happens w first))
+    ∙ sym (append_assoc (outcome_line (number + 1) (outcome_of w first) (happens w first))
+    (lines_text (number + 1) events (happens w first)) _))
+
+-- what an iterator over a vector has given is a front of its items
+pub taken_front : {X A : Type 0} (s : IntoIter X A) (xs : List X) (t : IntoIter X A) → Yields into_iter_steps s xs t
+    → into_iter_items s ≡ xs ++ into_iter_items t
+taken_front s [] t y = ap into_iter_items y
+taken_front s (x ∷ xs) t y = y.1.0 ∙ ap (λ ys. x ∷ ys) (taken_front y.0 xs t y.2)
+
+-- the item behind a front stands at its length
+slice_get-seam : {A : Type 0} (front later : List A) (item : A)
+    → slice_get (front ++ item ∷ later) (length front) ≡ Some item
+slice_get-seam [] later item = refl
+slice_get-seam (x ∷ front) later item = slice_get-seam front later item
+
+-- where memory ran out at a line, the run is cut short there
+IsCutIn-IsCutShort : (played later : List Event) (event : Event) (old new : World) → IsCutIn event (run played old) new
+    → IsCutShort (played ++ event ∷ later) old new
+IsCutIn-IsCutShort played later event old new (inl h) = (
+  length played,
+  omega (arith, length-append played (event ∷ later)),
+  inl (h ∙ ap (λ l. run l old) (sym (take-append_seam played (event ∷ later)))),
+)
+IsCutIn-IsCutShort played later event old new (inr (inl h)) = (
+  length played,
+  omega (arith, length-append played (event ∷ later)),
+  inr (
+    event,
+    slice_get-seam played later event,
+    h ∙ ap (λ l. recorded (run l old) event) (sym (take-append_seam played (event ∷ later))),
+  ),
+)
+IsCutIn-IsCutShort played later event old new (inr (inr h)) = (
+  length played + 1,
+  omega (arith, length-append played (event ∷ later)),
+  inl (h ∙ (sym (run-push played event old)
+      ∙ ap (λ l. run l old) (sym (take-append-add played (event ∷ later) 1)))),
+)
+
+-- the same, of a list of which these lines come first
+pub IsCutShort-at : (events played later : List Event) (event : Event) (old mid new : World)
+    → events ≡ played ++ event ∷ later
+    → mid ≡ run played old → IsCutIn event mid new → IsCutShort events old new
+IsCutShort-at events played later event old mid new e m h =
+    rw e (IsCutIn-IsCutShort played later event old new (subst (λ w. IsCutIn event w new) m h))
+
+-- a run of all lines is cut short behind the last
+pub run-IsCutShort : (events : List Event) (old new : World) → new ≡ run events old → IsCutShort events old new
+run-IsCutShort events old new h = (
+  length events,
+  omega arith,
+  inl (h
+      ∙ ap (λ l. run l old) (sym (take_all (length events) events (omega arith)))),
+)
+
+-- the report of one event more
+pub told-more : (before report more : List ℕ) (number : ℕ) (played : List Event) (event : Event) (old mid : World)
+    → number ≡ length played
+    → mid ≡ run played old → report ≡ before ++ lines_text 0 played old
+    → more ≡ report ++ outcome_line (number + 1) (outcome_of mid event) (happens mid event)
+    → more ≡ before ++ lines_text 0 (played ++ event ∷ []) old
+told-more before report more number played event old mid n m r h =
+    let place : 0 + length played + 1 ≡ number + 1 = omega arith in
+    rw (lines_text-push 0 played event old, place, ← m, ← append_assoc, ← r) h

@@ -1,0 +1,9 @@
+pub mod Lines
+pub mod Ranges
+pub mod Replay
+pub mod Report
+pub mod Script
+pub mod Sound
+pub mod Stage
+pub mod Word
+pub mod World

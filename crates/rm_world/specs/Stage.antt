@@ -1,0 +1,8 @@
+-- The facts that a stage holds.
+use Rattle.rm_world.specs.declared.stage.PlainStage.{PlainStage}
+use Rattle.rm_world.specs.World.{World}
+
+-- a stage without its spare room
+abbrev pub world_of : PlainStage → World
+world_of stage =
+    record { source = stage.source; dest = stage.dest; packets = stage.packets; one = stage.one; two = stage.two }

@@ -1,0 +1,170 @@
+-- Bytes that are characters of a document, and names.
+use Rattle.std.proofs.Common.{◌≡◌, ℕ, suc, ◌<◌, Bool, true, false, ◌&&◌, ◌||◌, List, [], ◌∷◌, ◌++◌, length, get_or}
+use Rattle.std.proofs.Common.{take, refl, sym, ap, ◌∙◌, arith, inl, inr}
+use Rattle.std.specs.Prelude.{◌⊎◌, nat_lt, nat_le, IsTrue, encode_utf8_all}
+use Rattle.std.specs.List.{All, AllByRecursion, list_all, list_any}
+use Rattle.std.specs.Str.{chars, IsUtf8}
+use Rattle.std.proofs.Math.Utf8.{scalar, scalars}
+use Rattle.std.proofs.lemmas.Bool.{and_parts}
+use Rattle.std.proofs.lemmas.Bool.Decides.{nat_tests}
+use Rattle.std.proofs.lemmas.List.{get_or_past}
+use Rattle.std.proofs.lemmas.Bool.{cases_lt}
+use Rattle.std.proofs.lemmas.Str.{chars-encodes, encodes-chars, encodes-append, encodes-IsAscii}
+use Rattle.xml_chars.specs.Classes.{is_within, is_char, is_name_start, is_name_char, char_ranges, name_start_ranges}
+use Rattle.xml_chars.specs.Classes.{name_more_ranges}
+use Rattle.soap_lex.specs.Characters.{IsChars, IsName}
+
+-- each element passes, as a test
+pub all-each : (p : ℕ → Bool) (xs : List ℕ) → AllByRecursion (λ c. IsTrue (p c)) xs → list_all p xs ≡ true
+all-each p [] each = refl
+all-each p (x ∷ xs) each = ap (λ b. b && list_all p xs) each.0 ∙ all-each p xs each.1
+
+pub each-all : (p : ℕ → Bool) (xs : List ℕ) → list_all p xs ≡ true → AllByRecursion (λ c. IsTrue (p c)) xs
+each-all p [] all = tt
+each-all p (x ∷ xs) all = let (here, more) = and_parts (p x) (list_all p xs) all in (here, each-all p xs more)
+
+-- the range has scalar values alone
+abbrev has_scalars : (ℕ × ℕ) → Bool
+has_scalars range = nat_lt range.1 55296 || (nat_le 57344 range.0 && nat_lt range.1 1114112)
+
+scalar-in : (low high c : ℕ) → (nat_lt high 55296 || (nat_le 57344 low && nat_lt high 1114112)) ≡ true
+    → (nat_le low c && nat_le c high) ≡ true → scalar c ≡ true
+scalar-in low high c fits within = grind (arith, nat_tests)
+
+or_cases : (a b : Bool) → (a || b) ≡ true → (a ≡ true) ⊎ (b ≡ true)
+or_cases true b e = inl refl
+or_cases false b e = inr e
+
+scalar-within : (ranges : List (ℕ × ℕ)) (c : ℕ) → list_all has_scalars ranges ≡ true → is_within ranges c ≡ true
+    → scalar c ≡ true
+scalar-within [] c fits within = cc
+scalar-within (range ∷ ranges) c fits within =
+    let (here, more) = and_parts (has_scalars range) (list_all has_scalars ranges) fits in
+    elim (or_cases (nat_le range.0 c && nat_le c range.1) (is_within ranges c) within) [
+      | inl now ↦ scalar-in range.0 range.1 c here now
+      | inr later ↦ scalar-within ranges c more later
+    ]
+
+-- a character of a document is a scalar value, and so are those of a name
+pub scalar-is_char : (c : ℕ) → is_char c ≡ true → scalar c ≡ true
+scalar-is_char c h = scalar-within char_ranges c refl h
+
+pub scalar-is_name_start : (c : ℕ) → is_name_start c ≡ true → scalar c ≡ true
+scalar-is_name_start c h = scalar-within name_start_ranges c refl h
+
+pub scalar-is_name_char : (c : ℕ) → is_name_char c ≡ true → scalar c ≡ true
+scalar-is_name_char c h =
+    elim (or_cases (is_name_start c) (is_within name_more_ranges c) h) [
+      | inl starts ↦ scalar-is_name_start c starts
+      | inr more ↦ scalar-within name_more_ranges c refl more
+    ]
+
+scalars-all : (p : ℕ → Bool) → ((c : ℕ) → p c ≡ true → scalar c ≡ true) → (cs : List ℕ)
+    → AllByRecursion (λ c. IsTrue (p c)) cs → scalars cs ≡ true
+scalars-all p fits [] each = refl
+scalars-all p fits (c ∷ cs) each = ap (λ b. b && scalars cs) (fits c each.0) ∙ scalars-all p fits cs each.1
+
+-- characters of a document are UTF-8
+pub IsUtf8-IsChars : (bytes : List ℕ) → IsChars bytes → IsUtf8 bytes
+IsUtf8-IsChars bytes is = (is.characters, (scalars-all is_char scalar-is_char is.characters is.each, sym is.coded))
+
+pub IsChars-all : (bytes : List ℕ) → IsUtf8 bytes → list_all is_char (chars bytes) ≡ true → IsChars bytes
+IsChars-all bytes utf8 all = record {
+  characters = chars bytes;
+  each = each-all is_char (chars bytes) all;
+  coded =
+      sym (encodes-chars bytes utf8);
+}
+
+pub all-IsChars : (bytes : List ℕ) → IsChars bytes → list_all is_char (chars bytes) ≡ true
+all-IsChars bytes is =
+    ap (λ cs. list_all is_char cs) (ap chars is.coded
+    ∙ chars-encodes is.characters (scalars-all is_char scalar-is_char is.characters is.each))
+    ∙ all-each is_char is.characters is.each
+
+-- one after another
+pub each-append : (p : ℕ → Bool) (xs ys : List ℕ) → AllByRecursion (λ c. IsTrue (p c)) xs
+    → AllByRecursion (λ c. IsTrue (p c)) ys → AllByRecursion (λ c. IsTrue (p c)) (xs ++ ys)
+each-append p [] ys a b = b
+each-append p (x ∷ xs) ys a b = (a.0, each-append p xs ys a.1 b)
+
+pub IsChars-append : (xs ys : List ℕ) → IsChars xs → IsChars ys → IsChars (xs ++ ys)
+IsChars-append xs ys a b = record {
+  characters = a.characters ++ b.characters;
+  each = each-append is_char a.characters b.characters a.each b.each;
+  coded = ap (λ l. l ++ ys) a.coded ∙ ap (λ l. encode_utf8_all a.characters ++ l) b.coded
+      ∙ sym (encodes-append a.characters b.characters);
+}
+
+each-places : (p : ℕ → Bool) (xs : List ℕ) → ((k : ℕ) → k < length xs → p (get_or xs k 0) ≡ true)
+    → AllByRecursion (λ c. IsTrue (p c)) xs
+each-places p [] each = tt
+each-places p (x ∷ xs) each = (each 0 (omega arith), each-places p xs (λ k h. each (suc k) (omega arith)))
+
+-- an ASCII byte that is a character of a document
+abbrev pub IsPlain : ℕ → Type 0
+IsPlain byte = (byte < 128) × IsTrue (is_char byte)
+
+pub IsChars-ascii : (bytes : List ℕ) → All IsPlain bytes → IsChars bytes
+IsChars-ascii bytes each = record {
+  characters = bytes;
+  each = each-places is_char bytes (λ k h. (each k 0 h).1);
+  coded = sym (encodes-IsAscii bytes (λ i. elim (cases_lt i (length bytes)) [
+    | inl within ↦ (each i 0 within).0
+    | inr past ↦ rw (get_or_past bytes i 0 past) (omega arith)
+  ]));
+}
+
+-- a list of characters begins as a name does
+abbrev pub begins : List ℕ → Bool
+begins cs = list_any is_name_start (take 1 cs)
+
+first-or : (a b : Bool) → a ≡ true → (a || b) ≡ true
+first-or a b e = ap (λ x. x || b) e
+
+starts_from : (b : Bool) → (b || false) ≡ true → b ≡ true
+starts_from true e = refl
+starts_from false e = e
+
+-- a name is characters of which each may stand in it, and the first may begin it
+name_from : (bytes characters : List ℕ) → encode_utf8_all characters ≡ bytes → begins characters ≡ true
+    → list_all is_name_char characters ≡ true → IsName bytes
+name_from bytes [] coded first all = cc
+name_from bytes (c ∷ cs) coded first all =
+    let (here, more) = and_parts (is_name_char c) (list_all is_name_char cs) all in
+    record {
+      first = c;
+      others = cs;
+      starts = starts_from (is_name_start c) first;
+      each =
+          each-all is_name_char cs more;
+      coded = sym coded;
+    }
+
+pub IsName-all : (bytes : List ℕ) → IsUtf8 bytes → begins (chars bytes) ≡ true
+    → list_all is_name_char (chars bytes) ≡ true → IsName bytes
+IsName-all bytes utf8 first all = name_from bytes (chars bytes) (encodes-chars bytes utf8) first all
+
+each-name : (bytes : List ℕ) (is : IsName bytes) → AllByRecursion (λ c. IsTrue (is_name_char c)) (is.first ∷ is.others)
+each-name bytes is = (first-or (is_name_start is.first) (is_within name_more_ranges is.first) is.starts, is.each)
+
+pub IsUtf8-IsName : (bytes : List ℕ) → IsName bytes → IsUtf8 bytes
+IsUtf8-IsName bytes is = (
+  is.first ∷ is.others,
+  (
+    scalars-all is_name_char scalar-is_name_char (is.first ∷ is.others) (each-name bytes is),
+    sym is.coded,
+  ),
+)
+
+pub chars-IsName : (bytes : List ℕ) (is : IsName bytes) → chars bytes ≡ is.first ∷ is.others
+chars-IsName bytes is = ap chars is.coded
+    ∙ chars-encodes (is.first ∷ is.others) (scalars-all is_name_char scalar-is_name_char (is.first ∷ is.others)
+    (each-name bytes is))
+
+pub begins-IsName : (bytes : List ℕ) → IsName bytes → begins (chars bytes) ≡ true
+begins-IsName bytes is = ap begins (chars-IsName bytes is) ∙ first-or (is_name_start is.first) false is.starts
+
+pub all-IsName : (bytes : List ℕ) → IsName bytes → list_all is_name_char (chars bytes) ≡ true
+all-IsName bytes is = ap (λ cs. list_all is_name_char cs) (chars-IsName bytes is)
+    ∙ all-each is_name_char (is.first ∷ is.others) (each-name bytes is)

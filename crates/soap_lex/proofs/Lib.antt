@@ -1,0 +1,15 @@
+pub mod AnswerLemmas
+pub mod BackLemmas
+pub mod CharsLemmas
+pub mod EscapeLemmas
+pub mod HoldsLemmas
+pub mod LineLemmas
+pub mod MarkupLemmas
+pub mod NameLemmas
+pub mod NumberLemmas
+pub mod PlaceLemmas
+pub mod ReferenceLemmas
+pub mod TextLemmas
+pub mod UniqueLemmas
+pub mod ValueLemmas
+pub mod WordLemmas

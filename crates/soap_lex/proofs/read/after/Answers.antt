@@ -1,0 +1,14 @@
+use Rattle.std.proofs.lemmas.Bool.Decides.{Decides-eqb}
+use Rattle.std.proofs.lemmas.Slice.Eq.{strip_prefix_is}
+use Rattle.soap_lex.proofs.AnswerLemmas.{after_found, after_none}
+use Rattle.soap_lex.proofs.read.after.Goals as goal
+
+pub returns-clause-found : goal.returns-clause-found
+returns-clause-found c =
+    after_found c.args.bytes.now c.args.word.now c.strip_prefix.result
+    (strip_prefix_is Decides-eqb c.args.bytes.now c.args.word.now c.strip_prefix.result c.strip_prefix.ensures.cases)
+
+pub returns-clause-none : goal.returns-clause-none
+returns-clause-none c =
+    after_none c.args.bytes.now c.args.word.now c.strip_prefix.result
+    (strip_prefix_is Decides-eqb c.args.bytes.now c.args.word.now c.strip_prefix.result c.strip_prefix.ensures.cases)

@@ -1,0 +1,26 @@
+-- What is written for text and for an attribute value between double quotes: XML 1.0, section 2.4, and sections 2.11
+-- and 3.3.3 for the white space that a reader would otherwise change.
+use Rattle.std.specs.Prelude.{ℕ, Bool, List, [], ◌∷◌, ◌==◌, if◌then◌else◌, codes}
+use Rattle.std.specs.List.{flat_map}
+
+-- a byte in text
+abbrev pub text_escape : ℕ → List ℕ
+text_escape byte =
+    if byte == 38 then codes "&amp;" else if byte == 60 then codes "&lt;" else if byte == 62 then codes "&gt;"
+    else if byte == 13 then codes "&#13;" else byte ∷ []
+
+-- a byte in an attribute value
+abbrev pub value_escape : ℕ → List ℕ
+value_escape byte =
+    if byte == 34 then codes "&quot;" else if byte == 9 then codes "&#9;" else if byte == 10 then codes "&#10;"
+    else text_escape byte
+
+-- a byte in a value where quoted says so, else in text
+abbrev pub escape_of : Bool → ℕ → List ℕ
+escape_of quoted byte = if quoted then value_escape byte else text_escape byte
+
+abbrev pub escaped_text : List ℕ → List ℕ
+escaped_text bytes = flat_map text_escape bytes
+
+abbrev pub escaped_value : List ℕ → List ℕ
+escaped_value bytes = flat_map value_escape bytes
