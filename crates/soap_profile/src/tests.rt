@@ -1,4 +1,5 @@
 use crate::{EnvelopeError, Part, read_element};
+use std::alloc::{AllocError, Global};
 use std::test::Fail;
 
 #[test]
@@ -89,5 +90,28 @@ fn joins_text(rt: HostRuntime) -> Result<(), Fail> {
 fn tells_errors(rt: HostRuntime) -> Result<(), Fail> {
     let read = read_element(rt.alloc(), b"<a>\xff</a>");
     assert!(rt; read.is_err_and(|e| e == EnvelopeError::NotUtf8 { valid_up_to: 3 }));
+    Ok(())
+}
+
+// 20000 attributes, and a last one
+fn many(alloc: Global, last: &str) -> Result<String, AllocError> {
+    let mut text = String::new(alloc);
+    text.push_str("<a")?;
+    for i in 0..20000u32 {
+        text.push_str(" b")?;
+        text.push_str(i.to_string(alloc)?.as_str())?;
+        text.push_str("='c'")?;
+    }
+    text.push_str(last)?;
+    text.push_str("/>")?;
+    Ok(text)
+}
+
+#[test]
+fn takes_many_attributes(rt: HostRuntime) -> Result<(), Fail> {
+    let text = many(rt.alloc(), " last='c'")?;
+    assert!(rt; read_element(rt.alloc(), text.as_bytes()).is_ok());
+    let text = many(rt.alloc(), " b7='c'")?;
+    assert!(rt; read_element(rt.alloc(), text.as_bytes()).is_err_and(|e| e == EnvelopeError::NotProfile));
     Ok(())
 }
