@@ -12,12 +12,14 @@ refused_never s [] u h = cc
 refused_never s (c ∷ bytes) u h = refused_never (counted (refuse s)) bytes u h
 
 -- a test that was made, and passed
-pub passed : (t : Bool) (x s : State) (bytes : List ℕ) (u : Element) → Accepts (counted (cond t x (refuse s))) bytes u → (t ≡ true) × Accepts (counted x) bytes u
+pub passed : (t : Bool) (x s : State) (bytes : List ℕ) (u : Element)
+    → Accepts (counted (cond t x (refuse s))) bytes u → (t ≡ true) × Accepts (counted x) bytes u
 passed true x s bytes u h = (refl, h)
 passed false x s bytes u h = absurd (refused_never s bytes u h)
 
 -- a choice, as it went
-pub chosen : (t : Bool) (x y : State) (bytes : List ℕ) (u : Element) → Accepts (counted (cond t x y)) bytes u → ((t ≡ true) × Accepts (counted x) bytes u) ⊎ ((t ≡ false) × Accepts (counted y) bytes u)
+pub chosen : (t : Bool) (x y : State) (bytes : List ℕ) (u : Element) → Accepts (counted (cond t x y)) bytes u → ((t
+    ≡ true) × Accepts (counted x) bytes u) ⊎ ((t ≡ false) × Accepts (counted y) bytes u)
 chosen true x y bytes u h = inl (refl, h)
 chosen false x y bytes u h = inr (refl, h)
 
@@ -28,16 +30,21 @@ pub record Next (s : State) (bytes : List ℕ) (u : Element) : Type 0 where
   pub rest : List ℕ
   pub there : bytes ≡ token ++ last ∷ rest
   pub stop : stops s.mode s.quote last ≡ true
-  pub later : Accepts (counted (finish s.mode (record s { at = s.at + length token; token = s.token ++ token }) last)) rest u
+  pub later : Accepts (counted (finish s.mode (record s { at = s.at + length token; token = s.token ++ token })
+      last)) rest u
 
 -- bytes cannot end here
 abbrev pub Unended : State → Type 0
 Unended s = (at : ℕ) (token : List ℕ) → root_of (record s { at = at; token = token }) ≡ None
 
-next_at : (s : State) (c : ℕ) (bytes : List ℕ) (u : Element) (t : Bool) → stops s.mode s.quote c ≡ t → Accepts s (c ∷ bytes) u
-    → ((t ≡ true) × Accepts (counted (finish s.mode s c)) bytes u) ⊎ ((t ≡ false) × Accepts (record s { at = s.at + 1; token = s.token ++ c ∷ [] }) bytes u)
-next_at s c bytes u true e h = inl (refl, subst (λ t. Accepts (counted (cond t (finish s.mode s c) (record s { token = s.token ++ c ∷ [] }))) bytes u) e h)
-next_at s c bytes u false e h = inr (refl, subst (λ t. Accepts (counted (cond t (finish s.mode s c) (record s { token = s.token ++ c ∷ [] }))) bytes u) e h)
+next_at : (s : State) (c : ℕ) (bytes : List ℕ) (u : Element) (t : Bool) → stops s.mode s.quote c ≡ t
+    → Accepts s (c ∷ bytes) u
+    → ((t ≡ true) × Accepts (counted (finish s.mode s c)) bytes u) ⊎ ((t
+        ≡ false) × Accepts (record s { at = s.at + 1; token = s.token ++ c ∷ [] }) bytes u)
+next_at s c bytes u true e h = inl (refl, subst (λ t. Accepts (counted (cond t (finish s.mode s c) (record s { token
+    = s.token ++ c ∷ [] }))) bytes u) e h)
+next_at s c bytes u false e h = inr (refl, subst (λ t. Accepts (counted (cond t (finish s.mode s c) (record s {
+    token = s.token ++ c ∷ [] }))) bytes u) e h)
 
 none_some : {u : Element} (o : Option Element) → o ≡ None → o ≡ Some u → ⊥
 none_some o e h = cc
@@ -52,7 +59,8 @@ next s (c ∷ bytes) u unended h =
         rest = bytes;
         there = refl;
         stop = k.0;
-        later = subst (λ (p : ℕ × List ℕ). Accepts (counted (finish s.mode (record s { at = p.0; token = p.1 }) c)) bytes u)
+        later = subst (λ (p : ℕ × List ℕ). Accepts (counted (finish s.mode (record s { at = p.0; token = p.1 }) c))
+            bytes u)
             (ap₂ (λ (x : ℕ) (y : List ℕ). (x, y)) (omega arith) (sym (append-nil s.token))) k.1;
       }
       | inr k ↦
@@ -63,7 +71,8 @@ next s (c ∷ bytes) u unended h =
             rest = n.rest;
             there = ap (λ (x : List ℕ). c ∷ x) n.there;
             stop = n.stop;
-            later = subst (λ (p : ℕ × List ℕ). Accepts (counted (finish s.mode (record s { at = p.0; token = p.1 }) n.last)) n.rest u)
+            later = subst (λ (p : ℕ × List ℕ). Accepts (counted (finish s.mode (record s { at = p.0; token = p.1 })
+                n.last)) n.rest u)
                 (ap₂ (λ (x : ℕ) (y : List ℕ). (x, y)) (omega arith) (append_assoc s.token (c ∷ []) n.token)) n.later;
           }
     ]

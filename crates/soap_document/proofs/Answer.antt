@@ -22,7 +22,8 @@ same_test P false true a b c d = b (c refl)
 same_test P false false a b c d = refl
 
 -- two searches of one thing, which is unique
-pub same_search : (P : ℕ → Type 0) (r t : Option ℕ) → IfSome r P → IfNone r ((c : ℕ) → P c → ⊥) → ((c : ℕ) → P c → t ≡ Some c) → ((c : ℕ) → t ≡ Some c → P c) → r ≡ t
+pub same_search : (P : ℕ → Type 0) (r t : Option ℕ) → IfSome r P → IfNone r ((c : ℕ) → P c → ⊥) → ((c : ℕ) → P c → t
+    ≡ Some c) → ((c : ℕ) → t ≡ Some c → P c) → r ≡ t
 same_search P None None f n b d = refl
 same_search P None (Some c) f n b d = absurd (n c (d c refl))
 same_search P (Some c) t f n b d = sym (b c f)
@@ -30,37 +31,48 @@ same_search P (Some c) t f n b d = sym (b c f)
 -- ---- the first byte that passes a test
 
 -- what stands before it fails
-pub before_first : (p : ℕ → Bool) (bytes : List ℕ) (n : ℕ) → n ≤ length bytes → ((k : ℕ) → k < n → p (get_or bytes k 0) ≡ true → ⊥) → AllByRecursion (λ c. p c ≡ false) (take n bytes)
+pub before_first : (p : ℕ → Bool) (bytes : List ℕ) (n : ℕ) → n ≤ length bytes → ((k : ℕ) → k < n
+    → p (get_or bytes k 0) ≡ true → ⊥) → AllByRecursion (λ c. p c ≡ false) (take n bytes)
 before_first p [] zero h f = tt
 before_first p [] (suc n) h f = absurd (omega arith)
 before_first p (c ∷ bytes) zero h f = tt
-before_first p (c ∷ bytes) (suc n) h f = (false_from_ne_true (p c) (λ e. f 0 (omega arith) e), before_first p bytes n (omega arith) (λ k less e. f (suc k) (omega arith) e))
+before_first p (c ∷ bytes) (suc n) h f = (false_from_ne_true (p c) (λ e. f 0 (omega arith) e), before_first p bytes
+    n (omega arith) (λ k less e. f (suc k) (omega arith) e))
 
 pub all_fail : (p : ℕ → Bool) (bytes : List ℕ) → IsFirstByte p bytes None → AllByRecursion (λ c. p c ≡ false) bytes
-all_fail p bytes none = rw (sym (take_whole bytes)) (before_first p bytes (length bytes) (omega arith) (λ k less e. none k (omega arith) less e))
+all_fail p bytes none = rw (sym (take_whole bytes)) (before_first p bytes (length bytes) (omega arith) (λ k less e.
+    none k (omega arith) less e))
   where
     take_whole : (xs : List ℕ) → take (length xs) xs ≡ xs
     take_whole [] = refl
     take_whole (x ∷ xs) = ap (λ (y : List ℕ). x ∷ y) (take_whole xs)
 
 -- the parts of the bytes around it
-pub around : (p : ℕ → Bool) (bytes : List ℕ) (n : ℕ) → IsFirstByte p bytes (Some n) → bytes ≡ take n bytes ++ get_or bytes n 0 ∷ drop (n + 1) bytes
-around p bytes n found = let h : n < length bytes = found.0.high in sym (take-append-drop n bytes) ∙ ap (λ (x : List ℕ). take n bytes ++ x) (rw add-one (drop-cons bytes n 0 h))
+pub around : (p : ℕ → Bool) (bytes : List ℕ) (n : ℕ) → IsFirstByte p bytes (Some n) → bytes
+    ≡ take n bytes ++ get_or bytes n 0 ∷ drop (n + 1) bytes
+around p bytes n found = let h : n < length bytes = found.0.high in sym (take-append-drop n bytes)
+    ∙ ap (λ (x : List ℕ). take n bytes ++ x) (rw add-one (drop-cons bytes n 0 h))
 
-pub front_fails : (p : ℕ → Bool) (bytes : List ℕ) (n : ℕ) → IsFirstByte p bytes (Some n) → AllByRecursion (λ c. p c ≡ false) (take n bytes)
-front_fails p bytes n found = let h : n < length bytes = found.0.high in before_first p bytes n (omega arith) (λ k less e. found.0.before k (omega arith) less e)
+pub front_fails : (p : ℕ → Bool) (bytes : List ℕ) (n : ℕ) → IsFirstByte p bytes (Some n) → AllByRecursion (λ c. p c
+    ≡ false) (take n bytes)
+front_fails p bytes n found = let h : n < length bytes = found.0.high in before_first p bytes n (omega arith) (λ k
+    less e. found.0.before k (omega arith) less e)
 
-pub cut_first : (k : ℕ) (bytes : List ℕ) (n : ℕ) → IsFirstByte (is_byte k) bytes (Some n) → cut k bytes ≡ Some (take n bytes, drop (n + 1) bytes)
+pub cut_first : (k : ℕ) (bytes : List ℕ) (n : ℕ) → IsFirstByte (is_byte k) bytes (Some n) → cut k bytes
+    ≡ Some (take n bytes, drop (n + 1) bytes)
 cut_first k bytes n found =
     let is : get_or bytes n 0 ≡ k = eqb-true (get_or bytes n 0) k found.1 in
-    ap (cut k) (around (is_byte k) bytes n found ∙ ap (λ c. take n bytes ++ c ∷ drop (n + 1) bytes) is) ∙ cut-append k (take n bytes) (drop (n + 1) bytes) (front_fails (is_byte k) bytes n found)
+    ap (cut k) (around (is_byte k) bytes n found ∙ ap (λ c. take n bytes ++ c ∷ drop (n + 1) bytes) is)
+        ∙ cut-append k (take n bytes) (drop (n + 1) bytes) (front_fails (is_byte k) bytes n found)
 
 pub cut_nowhere : (k : ℕ) (bytes : List ℕ) → IsFirstByte (is_byte k) bytes None → cut k bytes ≡ None
 cut_nowhere k bytes none = cut_none k bytes (all_fail (is_byte k) bytes none)
 
 -- ---- a front and an end
 
-pub without_cases : (word bytes : List ℕ) (r : Option (Bor (List ℕ))) → MatchOption r ((front : List ℕ) → bytes ≢ front ++ word) (λ x. bytes ≡ x.now ++ word) → option_map (λ (x : Bor (List ℕ)). x.now) r ≡ without word bytes
+pub without_cases : (word bytes : List ℕ) (r : Option (Bor (List ℕ))) → MatchOption r ((front : List ℕ)
+    → bytes ≢ front ++ word) (λ x. bytes ≡ x.now ++ word) → option_map (λ (x : Bor (List ℕ)). x.now) r
+    ≡ without word bytes
 without_cases word bytes None h = go (without word bytes) refl
   where
     go : (o : Option (List ℕ)) → without word bytes ≡ o → None ≡ without word bytes
@@ -89,16 +101,20 @@ end_none name token h = sym (false_from_ne_true (is_end name token) (λ e. let r
 -- ---- feeding
 
 pub feed_step : (s : State) (bytes : List ℕ) (n : ℕ) → IsFirstByte (stops s.mode s.quote) bytes (Some n)
-    → run s bytes ≡ run (counted (finish s.mode (record s { at = s.at + length (take n bytes); token = s.token ++ take n bytes }) (get_or bytes n 0))) (drop (n + 1) bytes)
+    → run s bytes ≡ run (counted (finish s.mode (record s { at = s.at + length (take n bytes); token = s.token ++
+        take n bytes }) (get_or bytes n 0))) (drop (n + 1) bytes)
 feed_step s bytes n found =
     let c = get_or bytes n 0 in
     let next = record s { at = s.at + length (take n bytes); token = s.token ++ take n bytes } in
     ap (run s) (around (stops s.mode s.quote) bytes n found)
     ∙ kept s (take n bytes) s.at (front_fails (stops s.mode s.quote) bytes n found) (c ∷ drop (n + 1) bytes)
-    ∙ ap (λ t. run (counted (cond t (finish s.mode next c) (record next { token = next.token ++ c ∷ [] }))) (drop (n + 1) bytes)) found.1
+    ∙ ap (λ t. run (counted (cond t (finish s.mode next c) (record next { token = next.token ++ c ∷ [] }))) (drop (n
+        + 1) bytes)) found.1
 
-pub feed_end : (s : State) (bytes : List ℕ) → IsFirstByte (stops s.mode s.quote) bytes None → record s { at = s.at + length bytes; token = s.token ++ bytes } ≡ run s bytes
-feed_end s bytes none = sym (ap (run s) (sym (append-nil bytes)) ∙ kept s bytes s.at (all_fail (stops s.mode s.quote) bytes none) [])
+pub feed_end : (s : State) (bytes : List ℕ) → IsFirstByte (stops s.mode s.quote) bytes None
+    → record s { at = s.at + length bytes; token = s.token ++ bytes } ≡ run s bytes
+feed_end s bytes none = sym (ap (run s) (sym (append-nil bytes))
+    ∙ kept s bytes s.at (all_fail (stops s.mode s.quote) bytes none) [])
 
 -- ---- the code's own answers
 
@@ -114,27 +130,43 @@ take_rest n xs = take_all_of (length xs - n) (drop n xs) (omega (arith, length-d
 pub cut_answer : (k : ℕ) (bytes : List ℕ) (r : Option ℕ) → IsFirstByte (is_byte k) bytes r → (n : ℕ) → r ≡ Some n
     → Some (take n bytes, take (length bytes - (n + 1)) (drop (n + 1) bytes)) ≡ cut k bytes
 cut_answer k bytes r found n e =
-    ap (λ (x : List ℕ). Some (take n bytes, x)) (take_rest (n + 1) bytes) ∙ sym (cut_first k bytes n (subst (λ (o : Option ℕ). IsFirstByte (is_byte k) bytes o) e found))
+    ap (λ (x : List ℕ). Some (take n bytes, x)) (take_rest (n + 1) bytes)
+        ∙ sym (cut_first k bytes n (subst (λ (o : Option ℕ). IsFirstByte (is_byte k) bytes o) e found))
 
-pub cut_no_answer : (k : ℕ) (bytes : List ℕ) (r : Option ℕ) → IsFirstByte (is_byte k) bytes r → r ≡ None → None ≡ cut k bytes
-cut_no_answer k bytes r found e = sym (cut_nowhere k bytes (subst (λ (o : Option ℕ). IsFirstByte (is_byte k) bytes o) e found))
+pub cut_no_answer : (k : ℕ) (bytes : List ℕ) (r : Option ℕ) → IsFirstByte (is_byte k) bytes r → r ≡ None → None
+    ≡ cut k bytes
+cut_no_answer k bytes r found e = sym (cut_nowhere k bytes (subst (λ (o : Option ℕ). IsFirstByte (is_byte k) bytes
+    o) e found))
 
-pub end_answer : (name token : List ℕ) (r : Option (Bor (List ℕ))) → MatchOption r ((rest : List ℕ) → token ≢ name ++ rest) (λ x. token ≡ name ++ x.now) → (x : Bor (List ℕ)) → r ≡ Some x
+pub end_answer : (name token : List ℕ) (r : Option (Bor (List ℕ))) → MatchOption r ((rest : List ℕ)
+    → token ≢ name ++ rest) (λ x. token ≡ name ++ x.now) → (x : Bor (List ℕ)) → r ≡ Some x
     → is_white x.now ≡ is_end name token
-end_answer name token r h x e = end_some name token x.now (subst (λ (o : Option (Bor (List ℕ))). MatchOption o ((rest : List ℕ) → token ≢ name ++ rest) (λ y. token ≡ name ++ y.now)) e h)
+end_answer name token r h x e = end_some name token x.now (subst (λ (o : Option (Bor (List ℕ))). MatchOption o
+    ((rest : List ℕ) → token ≢ name ++ rest) (λ y. token ≡ name ++ y.now)) e h)
 
-pub end_no_answer : (name token : List ℕ) (r : Option (Bor (List ℕ))) → MatchOption r ((rest : List ℕ) → token ≢ name ++ rest) (λ x. token ≡ name ++ x.now) → r ≡ None → false ≡ is_end name token
-end_no_answer name token r h e = end_none name token (subst (λ (o : Option (Bor (List ℕ))). MatchOption o ((rest : List ℕ) → token ≢ name ++ rest) (λ y. token ≡ name ++ y.now)) e h)
+pub end_no_answer : (name token : List ℕ) (r : Option (Bor (List ℕ))) → MatchOption r ((rest : List ℕ)
+    → token ≢ name ++ rest) (λ x. token ≡ name ++ x.now) → r ≡ None → false ≡ is_end name token
+end_no_answer name token r h e = end_none name token (subst (λ (o : Option (Bor (List ℕ))). MatchOption o ((rest :
+    List ℕ) → token ≢ name ++ rest) (λ y. token ≡ name ++ y.now)) e h)
 
-pub qname_some : (bytes : List ℕ) (r : Option (Bor (List ℕ) × Bor (List ℕ))) (p : Bor (List ℕ) × Bor (List ℕ)) → option_map (λ (q : Bor (List ℕ) × Bor (List ℕ)). (q.0.now, q.1.now)) r ≡ cut 58 bytes → r ≡ Some p
+pub qname_some : (bytes : List ℕ) (r : Option (Bor (List ℕ) × Bor (List ℕ))) (p : Bor (List ℕ) × Bor (List ℕ))
+    → option_map (λ (q : Bor (List ℕ) × Bor (List ℕ)). (q.0.now, q.1.now)) r ≡ cut 58 bytes → r ≡ Some p
     → is_qname bytes ≡ (is_name p.0.now && is_name p.1.now)
 unfolding is_qname
-qname_some bytes r p e f = let g : cut 58 bytes ≡ Some (p.0.now, p.1.now) = sym e ∙ ap (λ (o : Option (Bor (List ℕ) × Bor (List ℕ))). option_map (λ (q : Bor (List ℕ) × Bor (List ℕ)). (q.0.now, q.1.now)) o) f in rw (is_qname, g) refl
+qname_some bytes r p e f = let g : cut 58 bytes ≡ Some (p.0.now, p.1.now) = sym e
+    ∙ ap (λ (o : Option (Bor (List ℕ) × Bor (List ℕ))). option_map (λ (q : Bor (List ℕ) × Bor (List ℕ)). (q.0.now,
+    q.1.now)) o) f in rw (is_qname, g) refl
 
-pub qname_none : (bytes : List ℕ) (r : Option (Bor (List ℕ) × Bor (List ℕ))) → option_map (λ (q : Bor (List ℕ) × Bor (List ℕ)). (q.0.now, q.1.now)) r ≡ cut 58 bytes → r ≡ None → is_qname bytes ≡ is_name bytes
+pub qname_none : (bytes : List ℕ) (r : Option (Bor (List ℕ) × Bor (List ℕ)))
+    → option_map (λ (q : Bor (List ℕ) × Bor (List ℕ)). (q.0.now, q.1.now)) r ≡ cut 58 bytes → r ≡ None
+    → is_qname bytes ≡ is_name bytes
 unfolding is_qname
-qname_none bytes r e f = let g : cut 58 bytes ≡ None = sym e ∙ ap (λ (o : Option (Bor (List ℕ) × Bor (List ℕ))). option_map (λ (q : Bor (List ℕ) × Bor (List ℕ)). (q.0.now, q.1.now)) o) f in rw (is_qname, g) refl
+qname_none bytes r e f = let g : cut 58 bytes ≡ None = sym e ∙ ap (λ (o : Option (Bor (List ℕ) × Bor (List ℕ))).
+    option_map (λ (q : Bor (List ℕ) × Bor (List ℕ)). (q.0.now, q.1.now)) o) f in rw (is_qname, g) refl
 
-pub after_cases : (word bytes : List ℕ) (r : Option (Bor (List ℕ))) → MatchOption r ((rest : List ℕ) → bytes ≢ word ++ rest) (λ x. bytes ≡ word ++ x.now) → option_map (λ (x : Bor (List ℕ)). x.now) r ≡ after word bytes
-after_cases word bytes None h = rw (false_from_ne_true (begins word bytes) (λ e. h (drop (length word) bytes) (front_from_begins word bytes e)))
+pub after_cases : (word bytes : List ℕ) (r : Option (Bor (List ℕ))) → MatchOption r ((rest : List ℕ)
+    → bytes ≢ word ++ rest) (λ x. bytes ≡ word ++ x.now) → option_map (λ (x : Bor (List ℕ)). x.now) r
+    ≡ after word bytes
+after_cases word bytes None h = rw (false_from_ne_true (begins word bytes) (λ e. h (drop (length word) bytes)
+    (front_from_begins word bytes e)))
 after_cases word bytes (Some x) h = sym (ap (after word) h ∙ after-append word x.now)

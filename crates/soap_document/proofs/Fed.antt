@@ -18,10 +18,13 @@ on_ok (Err e) P Q f h = tt
 abbrev pub kept_by : State → List ℕ → State
 kept_by s bytes = record s { at = s.at + length bytes; token = s.token ++ bytes }
 
-pub feed_last : (s new : State) (bytes : List ℕ) (r : Option ℕ) → IsFirstByte (stops s.mode s.quote) bytes r → r ≡ None → new ≡ kept_by s bytes → new ≡ run s bytes
-feed_last s new bytes r found e kept = kept ∙ feed_end s bytes (subst (λ (o : Option ℕ). IsFirstByte (stops s.mode s.quote) bytes o) e found)
+pub feed_last : (s new : State) (bytes : List ℕ) (r : Option ℕ) → IsFirstByte (stops s.mode s.quote) bytes r → r
+    ≡ None → new ≡ kept_by s bytes → new ≡ run s bytes
+feed_last s new bytes r found e kept = kept ∙ feed_end s bytes (subst (λ (o : Option ℕ). IsFirstByte (stops s.mode
+    s.quote) bytes o) e found)
 
-module _ (s s1 s2 : State) (bytes : List ℕ) (r : Option ℕ) (n : ℕ) (found : IsFirstByte (stops s.mode s.quote) bytes r) (e : r ≡ Some n)
+module _ (s s1 s2 : State) (bytes : List ℕ) (r : Option ℕ) (n : ℕ) (found : IsFirstByte (stops s.mode s.quote) bytes
+    r) (e : r ≡ Some n)
     (kept : s1 ≡ kept_by s (take n bytes)) (ended : s2 ≡ counted (finish s1.mode s1 (get_or bytes n 0))) where
   first : IsFirstByte (stops s.mode s.quote) bytes (Some n)
   first = subst (λ (o : Option ℕ). IsFirstByte (stops s.mode s.quote) bytes o) e found
@@ -38,14 +41,17 @@ module _ (s s1 s2 : State) (bytes : List ℕ) (r : Option ℕ) (n : ℕ) (found 
       let within : n < length bytes = first.0.high in
       let at1 : s1.at ≡ s.at + length (take n bytes) = ap (λ x. x.at) kept in
       let at2 : s2.at ≡ (finish s1.mode s1 (get_or bytes n 0)).at + 1 = ap (λ x. x.at) ended in
-      omega (arith, within, at1, at2, finish-at s1.mode s1 (get_or bytes n 0), length-take n bytes, length-take (length bytes - (n + 1)) (drop (n + 1) bytes), length-drop (n + 1) bytes)
+      omega (arith, within, at1, at2, finish-at s1.mode s1 (get_or bytes n 0), length-take n bytes, length-take
+          (length bytes - (n + 1)) (drop (n + 1) bytes), length-drop (n + 1) bytes)
 
 -- ---- the answer
 
-pub found_root : (bytes : List ℕ) (s : State) (r : Option WrittenElement) → option_map element_view r ≡ root_of s → s ≡ run start bytes → IfSome r (λ root. IsDocument bytes (element_view root))
+pub found_root : (bytes : List ℕ) (s : State) (r : Option WrittenElement) → option_map element_view r ≡ root_of s
+    → s ≡ run start bytes → IfSome r (λ root. IsDocument bytes (element_view root))
 found_root bytes s None h e = tt
 found_root bytes s (Some root) h e = document_found bytes (element_view root) (ap root_of (sym e) ∙ sym h)
 
-pub no_root : (bytes : List ℕ) (s : State) (r : Option WrittenElement) → option_map element_view r ≡ root_of s → s ≡ run start bytes → IfNone r ((other : Element) → ¬ (IsDocument bytes other))
+pub no_root : (bytes : List ℕ) (s : State) (r : Option WrittenElement) → option_map element_view r ≡ root_of s → s
+    ≡ run start bytes → IfNone r ((other : Element) → ¬ (IsDocument bytes other))
 no_root bytes s None h e = λ other d. let x : None ≡ Some other = h ∙ ap root_of e ∙ document_only d in cc
 no_root bytes s (Some root) h e = tt

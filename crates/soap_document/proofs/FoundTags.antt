@@ -28,10 +28,13 @@ module _ (tag : Tag) (u : Element) where
     abbrev refers : ℕ → List ℕ → List ℕ → At
     refers quote value token = tag_at value_referring tag attributes name value quote token
 
-    referred : (quote : ℕ) (value : List ℕ) (at : ℕ) (inner rest : List ℕ) (o : Option ℕ) → Tokens.reference (38 ∷ (inner ++ 59 ∷ [])) ≡ o
+    referred : (quote : ℕ) (value : List ℕ) (at : ℕ) (inner rest : List ℕ) (o : Option ℕ)
+        → Tokens.reference (38 ∷ (inner ++ 59 ∷ [])) ≡ o
         → Accepts (counted (at_value_referring (refers quote value (38 ∷ inner) (at + length inner)) o)) rest u
-        → (c : ℕ) × IsReference (38 ∷ (inner ++ 59 ∷ [])) c × Accepts (value_at quote (value ++ encode_utf8 c) [] (at + length inner + 1)) rest u
-    referred quote value at inner rest None e h = absurd (refused_never (refers quote value (38 ∷ inner) (at + length inner)) rest u h)
+        → (c : ℕ) × IsReference (38 ∷ (inner ++ 59 ∷ [])) c × Accepts (value_at quote (value ++ encode_utf8 c) []
+            (at + length inner + 1)) rest u
+    referred quote value at inner rest None e h = absurd (refused_never (refers quote value (38 ∷ inner) (at +
+        length inner)) rest u h)
     referred quote value at inner rest (Some c) e h = (c, reference_from (38 ∷ (inner ++ 59 ∷ [])) c e, h)
 
     record ValueFound (quote : ℕ) (value bytes : List ℕ) (at : ℕ) : Type 0 where
@@ -43,36 +46,47 @@ module _ (tag : Tag) (u : Element) where
       later : Accepts (between_at false tag (added (value ++ meaning)) (at + length inner + 1)) rest u
 
     abbrev RecurValue : ℕ → ℕ → Type 0
-    RecurValue fuel quote = (value : List ℕ) (at : ℕ) (bytes : List ℕ) → length bytes ≤ fuel → Accepts (value_at quote value [] at) bytes u → ValueFound quote value bytes at
+    RecurValue fuel quote = (value : List ℕ) (at : ℕ) (bytes : List ℕ) → length bytes ≤ fuel
+        → Accepts (value_at quote value [] at) bytes u → ValueFound quote value bytes at
 
-    value_reference : (quote : ℕ) (value bytes : List ℕ) (at : ℕ) (m rest : List ℕ) (fuel : ℕ) → RecurValue fuel quote → bytes ≡ m ++ 38 ∷ rest → is_run quote m ≡ true → length bytes ≤ suc fuel
-        → Accepts (refers quote (value ++ with_spaces m) (38 ∷ []) (at + length m + 1)) rest u → ValueFound quote value bytes at
+    value_reference : (quote : ℕ) (value bytes : List ℕ) (at : ℕ) (m rest : List ℕ) (fuel : ℕ)
+        → RecurValue fuel quote → bytes ≡ m ++ 38 ∷ rest → is_run quote m ≡ true → length bytes ≤ suc fuel
+        → Accepts (refers quote (value ++ with_spaces m) (38 ∷ []) (at + length m + 1)) rest u
+            → ValueFound quote value bytes at
     value_reference quote value bytes at m rest fuel recur e passes short h =
         let so_far : List ℕ = value ++ with_spaces m in
         let p1 : ℕ = at + length m + 1 in
         let n = next (refers quote so_far (38 ∷ []) p1) rest u (λ _ _. refl) h in
-        let inner_there : rest ≡ n.token ++ 59 ∷ n.rest = n.there ∙ ap (λ k. n.token ++ k ∷ n.rest) (eqb-true n.last 59 n.stop) in
+        let inner_there : rest ≡ n.token ++ 59 ∷ n.rest = n.there
+            ∙ ap (λ k. n.token ++ k ∷ n.rest) (eqb-true n.last 59 n.stop) in
         let r = referred quote so_far p1 n.token n.rest (Tokens.reference (38 ∷ (n.token ++ 59 ∷ []))) refl n.later in
-        let v = recur (so_far ++ encode_utf8 r.0) (p1 + length n.token + 1) n.rest (omega (arith, shorter bytes m rest 38 e, shorter rest n.token n.rest 59 inner_there)) r.2 in
+        let v = recur (so_far ++ encode_utf8 r.0) (p1 + length n.token + 1) n.rest (omega (arith, shorter bytes m
+            rest 38 e, shorter rest n.token n.rest 59 inner_there)) r.2 in
         value_joined quote value bytes at m (38 ∷ (n.token ++ 59 ∷ [])) n.rest r.0 (p1 + length n.token + 1)
-        (e ∙ ap (λ (x : List ℕ). m ++ 38 ∷ x) (inner_there ∙ sym (append_assoc n.token (59 ∷ []) n.rest))) passes r.1 (omega (arith, length-append n.token (59 ∷ []))) v
+        (e ∙ ap (λ (x : List ℕ). m ++ 38 ∷ x) (inner_there ∙ sym (append_assoc n.token (59 ∷ []) n.rest))) passes
+            r.1 (omega (arith, length-append n.token (59 ∷ []))) v
       where
-        value_joined : (quote : ℕ) (value bytes : List ℕ) (at : ℕ) (m reference b : List ℕ) (c p : ℕ) → bytes ≡ m ++ (reference ++ b) → is_run quote m ≡ true → IsReference reference c
-            → p ≡ at + length m + length reference → ValueFound quote ((value ++ with_spaces m) ++ encode_utf8 c) b p → ValueFound quote value bytes at
+        value_joined : (quote : ℕ) (value bytes : List ℕ) (at : ℕ) (m reference b : List ℕ) (c p : ℕ) → bytes
+            ≡ m ++ (reference ++ b) → is_run quote m ≡ true → IsReference reference c
+            → p ≡ at + length m + length reference → ValueFound quote ((value ++ with_spaces m) ++ encode_utf8 c) b
+                p → ValueFound quote value bytes at
         value_joined quote value bytes at m reference b c p e passes is place r = record {
           inner = m ++ (reference ++ r.inner);
           meaning = with_spaces m ++ (encode_utf8 c ++ r.meaning);
           rest = r.rest;
           there = e ∙ ap (λ (x : List ℕ). m ++ (reference ++ x)) r.there ∙ spread;
           is = then_reference m reference c r.inner r.meaning (run_from quote m passes) is r.is;
-          later = subst (λ (q : ℕ × List ℕ). Accepts (between_at false tag (added q.1) (q.0 + 1)) r.rest u) (ap₂ (λ (x : ℕ) (y : List ℕ). (x, y)) all_place sum) r.later;
+          later = subst (λ (q : ℕ × List ℕ). Accepts (between_at false tag (added q.1) (q.0 + 1)) r.rest u) (ap₂ (λ
+              (x : ℕ) (y : List ℕ). (x, y)) all_place sum) r.later;
         }
           where
             spread : m ++ (reference ++ (r.inner ++ quote ∷ r.rest)) ≡ (m ++ (reference ++ r.inner)) ++ quote ∷ r.rest
             spread = simp append_assoc
 
-            sum : ((value ++ with_spaces m) ++ encode_utf8 c) ++ r.meaning ≡ value ++ (with_spaces m ++ (encode_utf8 c ++ r.meaning))
-            sum = append_assoc (value ++ with_spaces m) (encode_utf8 c) r.meaning ∙ append_assoc value (with_spaces m) (encode_utf8 c ++ r.meaning)
+            sum : ((value ++ with_spaces m) ++ encode_utf8 c) ++ r.meaning
+                ≡ value ++ (with_spaces m ++ (encode_utf8 c ++ r.meaning))
+            sum = append_assoc (value ++ with_spaces m) (encode_utf8 c) r.meaning
+                ∙ append_assoc value (with_spaces m) (encode_utf8 c ++ r.meaning)
 
             all_place : p + length r.inner ≡ at + length (m ++ (reference ++ r.inner))
             all_place = omega (arith, place, length-append m (reference ++ r.inner), length-append reference r.inner)
@@ -83,7 +97,8 @@ module _ (tag : Tag) (u : Element) where
       | inr k ↦ absurd (true≢false (sym k ∙ f))
     ]
 
-    value_step : (quote : ℕ) (value bytes : List ℕ) (at fuel : ℕ) → RecurValue fuel quote → length bytes ≤ suc fuel → Next (value_at quote value [] at) bytes u → ValueFound quote value bytes at
+    value_step : (quote : ℕ) (value bytes : List ℕ) (at fuel : ℕ) → RecurValue fuel quote → length bytes ≤ suc fuel
+        → Next (value_at quote value [] at) bytes u → ValueFound quote value bytes at
     value_step quote value bytes at fuel recur short n =
         let place : ℕ = at + length n.token in
         let s : State = value_at quote value n.token place in
@@ -91,7 +106,8 @@ module _ (tag : Tag) (u : Element) where
         let end_state : State = between_at false tag (added (value ++ with_spaces n.token)) place in
         let p = passed (is_run quote n.token) (cond (nat_eq n.last 38) refer_state end_state) s n.rest u n.later in
         elim (chosen (nat_eq n.last 38) refer_state end_state n.rest u p.1) [
-          | inl k ↦ value_reference quote value bytes at n.token n.rest fuel recur (n.there ∙ ap (λ c. n.token ++ c ∷ n.rest) (eqb-true n.last 38 k.0)) p.0 short k.1
+          | inl k ↦ value_reference quote value bytes at n.token n.rest fuel recur (n.there
+              ∙ ap (λ c. n.token ++ c ∷ n.rest) (eqb-true n.last 38 k.0)) p.0 short k.1
           | inr k ↦ record {
             inner = n.token;
             meaning = with_spaces n.token;
@@ -107,7 +123,8 @@ module _ (tag : Tag) (u : Element) where
         let n = next (value_at quote value [] at) bytes u (λ _ _. refl) h in
         absurd (omega (arith, shorter bytes n.token n.rest n.last n.there))
     value_found quote (suc fuel) value at bytes short h =
-        value_step quote value bytes at fuel (value_found quote fuel) short (next (value_at quote value [] at) bytes u (λ _ _. refl) h)
+        value_step quote value bytes at fuel (value_found quote fuel) short (next (value_at quote value [] at) bytes
+            u (λ _ _. refl) h)
 
     -- ---- behind the =, and behind the name
 
@@ -127,7 +144,8 @@ module _ (tag : Tag) (u : Element) where
       is : IsValue quoted value
       later : Accepts (between_at false tag (added value) (at + length right + length quoted)) rest u
 
-    quoted_at : (c : ℕ) (bytes : List ℕ) (at : ℕ) → (nat_eq c 34 || nat_eq c 39) ≡ true → Accepts (value_at c [] [] (at + 1)) bytes u → QuotedFound (c ∷ bytes) at
+    quoted_at : (c : ℕ) (bytes : List ℕ) (at : ℕ) → (nat_eq c 34 || nat_eq c 39) ≡ true
+        → Accepts (value_at c [] [] (at + 1)) bytes u → QuotedFound (c ∷ bytes) at
     quoted_at c bytes at e h =
         let v = value_found c (length bytes) [] (at + 1) bytes (omega arith) h in
         record {
@@ -138,10 +156,13 @@ module _ (tag : Tag) (u : Element) where
           there = ap (λ (x : List ℕ). c ∷ x) (v.there ∙ sym (append_assoc v.inner (c ∷ []) v.rest));
           white = tt;
           is = elim (or_cases (nat_eq c 34) (nat_eq c 39) e) [
-            | inl k ↦ let q = eqb-true c 34 k in subst (λ k. IsValue (k ∷ (v.inner ++ k ∷ [])) v.meaning) (sym q) (double v.inner v.meaning (subst (λ k. IsInner k v.inner v.meaning) q v.is))
-            | inr k ↦ let q = eqb-true c 39 k in subst (λ k. IsValue (k ∷ (v.inner ++ k ∷ [])) v.meaning) (sym q) (single v.inner v.meaning (subst (λ k. IsInner k v.inner v.meaning) q v.is))
+            | inl k ↦ let q = eqb-true c 34 k in subst (λ k. IsValue (k ∷ (v.inner ++ k ∷ [])) v.meaning) (sym q)
+                (double v.inner v.meaning (subst (λ k. IsInner k v.inner v.meaning) q v.is))
+            | inr k ↦ let q = eqb-true c 39 k in subst (λ k. IsValue (k ∷ (v.inner ++ k ∷ [])) v.meaning) (sym q)
+                (single v.inner v.meaning (subst (λ k. IsInner k v.inner v.meaning) q v.is))
           ];
-          later = subst (λ p. Accepts (between_at false tag (added v.meaning) p) v.rest u) (omega (arith, length-append v.inner (c ∷ []))) v.later;
+          later = subst (λ p. Accepts (between_at false tag (added v.meaning) p) v.rest u) (omega (arith,
+              length-append v.inner (c ∷ []))) v.later;
         }
 
     quoted_found : (bytes : List ℕ) (at : ℕ) → Accepts (valuing_at at) bytes u → QuotedFound bytes at
@@ -199,7 +220,8 @@ module _ (tag : Tag) (u : Element) where
         ]
 
     -- where the name ends
-    equals_at : (c : ℕ) (bytes : List ℕ) (at : ℕ) → Accepts (counted (at_named (named_at at) c)) bytes u → EqualsFound (c ∷ bytes) at
+    equals_at : (c : ℕ) (bytes : List ℕ) (at : ℕ) → Accepts (counted (at_named (named_at at) c)) bytes u
+        → EqualsFound (c ∷ bytes) at
     equals_at c bytes at h = equals_found (c ∷ bytes) at h
 
   -- ---- attributes
@@ -213,22 +235,27 @@ module _ (tag : Tag) (u : Element) where
     pub there : bytes ≡ front ++ last ∷ rest
     pub is : IsAttributes (space ++ front) attributes
     pub ends : (last ≡ 62) ⊎ (last ≡ 47)
-    pub later : Accepts (counted (at_tagging (between_at false tag (before ++ attributes) (at + length front)) last)) rest u
+    pub later : Accepts (counted (at_tagging (between_at false tag (before ++ attributes) (at + length front))
+        last)) rest u
 
-  ends_tag : (c at : ℕ) (attributes : List Attribute) (bytes : List ℕ) → is_space c ≡ false → Accepts (counted (at_tagging (between_at false tag attributes at) c)) bytes u → (c ≡ 62) ⊎ (c ≡ 47)
+  ends_tag : (c at : ℕ) (attributes : List Attribute) (bytes : List ℕ) → is_space c ≡ false
+      → Accepts (counted (at_tagging (between_at false tag attributes at) c)) bytes u → (c ≡ 62) ⊎ (c ≡ 47)
   ends_tag c at attributes bytes dark h =
       let s : State = between_at false tag attributes at in
       let open_state : State = opened s in
       let slash_state : State = tag_at slashed tag attributes [] [] 0 [] at in
       let naming_state : State = between_at true tag attributes at in
-      let h1 = subst (λ t. Accepts (counted (cond t naming_state (cond (nat_eq c 62) open_state (cond (nat_eq c 47) slash_state (refuse s))))) bytes u) dark h in
+      let h1 = subst (λ t. Accepts (counted (cond t naming_state (cond (nat_eq c 62) open_state (cond (nat_eq c 47)
+          slash_state (refuse s))))) bytes u) dark h in
       elim (chosen (nat_eq c 62) open_state (cond (nat_eq c 47) slash_state (refuse s)) bytes u h1) [
         | inl k ↦ inl (eqb-true c 62 k.0)
         | inr k ↦ inr (eqb-true c 47 (passed (nat_eq c 47) slash_state s bytes u k.1).0)
       ]
 
-  no_more : (space : List ℕ) (before : List Attribute) (c : ℕ) (bytes : List ℕ) (at : ℕ) → IsWhite space → is_space c ≡ false
-      → Accepts (counted (at_tagging (between_at false tag before at) c)) bytes u → AttributesFound space before (c ∷ bytes) at
+  no_more : (space : List ℕ) (before : List Attribute) (c : ℕ) (bytes : List ℕ) (at : ℕ) → IsWhite space
+      → is_space c ≡ false
+      → Accepts (counted (at_tagging (between_at false tag before at) c)) bytes u
+          → AttributesFound space before (c ∷ bytes) at
   no_more space before c bytes at w dark h = record {
     front = [];
     attributes = [];
@@ -242,10 +269,12 @@ module _ (tag : Tag) (u : Element) where
   }
 
   abbrev RecurTag : ℕ → Type 0
-  RecurTag fuel = (space : List ℕ) (before : List Attribute) (at : ℕ) (bytes : List ℕ) → IsSpace space → length bytes ≤ fuel → Accepts (between_at true tag before at) bytes u
+  RecurTag fuel = (space : List ℕ) (before : List Attribute) (at : ℕ) (bytes : List ℕ) → IsSpace space
+      → length bytes ≤ fuel → Accepts (between_at true tag before at) bytes u
       → AttributesFound space before bytes at
 
-  more_space : (space : List ℕ) (before : List Attribute) (at c : ℕ) (bytes : List ℕ) → AttributesFound (space ++ c ∷ []) before bytes (at + 1) → AttributesFound space before (c ∷ bytes) at
+  more_space : (space : List ℕ) (before : List Attribute) (at c : ℕ) (bytes : List ℕ)
+      → AttributesFound (space ++ c ∷ []) before bytes (at + 1) → AttributesFound space before (c ∷ bytes) at
   more_space space before at c bytes r = record {
     front = c ∷ r.front;
     attributes = r.attributes;
@@ -254,19 +283,24 @@ module _ (tag : Tag) (u : Element) where
     there = ap (λ (x : List ℕ). c ∷ x) r.there;
     is = subst (λ (x : List ℕ). IsAttributes x r.attributes) (append_assoc space (c ∷ []) r.front) r.is;
     ends = r.ends;
-    later = subst (λ p. Accepts (counted (at_tagging (between_at false tag (before ++ r.attributes) p) r.last)) r.rest u) (omega arith) r.later;
+    later = subst (λ p. Accepts (counted (at_tagging (between_at false tag (before ++ r.attributes) p) r.last))
+        r.rest u) (omega arith) r.later;
   }
 
   -- directly behind a name or a value
-  between_found : (fuel : ℕ) → RecurTag fuel → (before : List Attribute) (at : ℕ) (bytes : List ℕ) → length bytes ≤ suc fuel → Accepts (between_at false tag before at) bytes u
+  between_found : (fuel : ℕ) → RecurTag fuel → (before : List Attribute) (at : ℕ) (bytes : List ℕ)
+      → length bytes ≤ suc fuel → Accepts (between_at false tag before at) bytes u
       → AttributesFound [] before bytes at
   between_found fuel recur before at [] short h = cc
   between_found fuel recur before at (c ∷ bytes) short h = first (is_space c) refl
     where
       first : (t : Bool) → is_space c ≡ t → AttributesFound [] before (c ∷ bytes) at
       first true e =
-          more_space [] before at c bytes (recur (c ∷ []) before (at + 1) bytes (record { white = (e, tt); some = λ x. cc }) (omega arith)
-          (subst (λ t. Accepts (counted (cond t (between_at true tag before at) (cond (nat_eq c 62) (opened (between_at false tag before at)) (cond (nat_eq c 47) (tag_at slashed tag before [] [] 0 [] at) (refuse (between_at false tag before at)))))) bytes u) e h))
+          more_space [] before at c bytes (recur (c ∷ []) before (at + 1) bytes (record { white = (e, tt); some = λ
+              x. cc }) (omega arith)
+          (subst (λ t. Accepts (counted (cond t (between_at true tag before at) (cond (nat_eq c 62) (opened
+              (between_at false tag before at)) (cond (nat_eq c 47) (tag_at slashed tag before [] [] 0 [] at)
+              (refuse (between_at false tag before at)))))) bytes u) e h))
       first false e = no_more [] before c bytes at tt e h
 
   white_snoc : (space : List ℕ) (c : ℕ) → IsWhite space → is_space c ≡ true → IsWhite (space ++ c ∷ [])
@@ -278,9 +312,12 @@ module _ (tag : Tag) (u : Element) where
   snoc_some (b ∷ space) c e = cc
 
   -- one more attribute
-  attribute_joined : (space name left right quoted value : List ℕ) (before : List Attribute) (bytes b : List ℕ) (at p : ℕ) → IsSpace space → IsQName name → IsWhite left → IsWhite right → IsValue quoted value
-      → bytes ≡ name ++ (left ++ (61 ∷ (right ++ (quoted ++ b)))) → p ≡ at + length name + length left + 1 + length right + length quoted
-      → AttributesFound [] (before ++ record { name = name; value = value } ∷ []) b p → AttributesFound space before bytes at
+  attribute_joined : (space name left right quoted value : List ℕ) (before : List Attribute) (bytes b : List ℕ) (at
+      p : ℕ) → IsSpace space → IsQName name → IsWhite left → IsWhite right → IsValue quoted value
+      → bytes ≡ name ++ (left ++ (61 ∷ (right ++ (quoted ++ b)))) → p
+          ≡ at + length name + length left + 1 + length right + length quoted
+      → AttributesFound [] (before ++ record { name = name; value = value } ∷ []) b p
+          → AttributesFound space before bytes at
   attribute_joined space name left right quoted value before bytes b at p s q l r v e place f = record {
     front = name ++ (left ++ (61 ∷ (right ++ (quoted ++ f.front))));
     attributes = mine ∷ f.attributes;
@@ -289,34 +326,47 @@ module _ (tag : Tag) (u : Element) where
     there = e ∙ ap (λ (x : List ℕ). name ++ (left ++ (61 ∷ (right ++ (quoted ++ x))))) f.there ∙ spread;
     is = more space name left right quoted value f.front f.attributes s q l r v f.is;
     ends = f.ends;
-    later = subst (λ (x : ℕ × List Attribute). Accepts (counted (at_tagging (between_at false tag x.1 x.0) f.last)) f.rest u)
+    later = subst (λ (x : ℕ × List Attribute). Accepts (counted (at_tagging (between_at false tag x.1 x.0) f.last))
+        f.rest u)
         (ap₂ (λ (x : ℕ) (y : List Attribute). (x, y)) all_place (append_assoc before (mine ∷ []) f.attributes)) f.later;
   }
     where
       mine : Attribute
       mine = record { name = name; value = value }
 
-      spread : name ++ (left ++ (61 ∷ (right ++ (quoted ++ (f.front ++ f.last ∷ f.rest))))) ≡ (name ++ (left ++ (61 ∷ (right ++ (quoted ++ f.front))))) ++ f.last ∷ f.rest
+      spread : name ++ (left ++ (61 ∷ (right ++ (quoted ++ (f.front ++ f.last ∷ f.rest)))))
+          ≡ (name ++ (left ++ (61 ∷ (right ++ (quoted ++ f.front))))) ++ f.last ∷ f.rest
       spread = simp append_assoc
 
       all_place : p + length f.front ≡ at + length (name ++ (left ++ (61 ∷ (right ++ (quoted ++ f.front)))))
-      all_place = omega (arith, place, length-append name (left ++ (61 ∷ (right ++ (quoted ++ f.front)))), length-append left (61 ∷ (right ++ (quoted ++ f.front))), length-append right (quoted ++ f.front), length-append quoted f.front)
+      all_place = omega (arith, place, length-append name (left ++ (61 ∷ (right ++ (quoted ++ f.front)))),
+          length-append left (61 ∷ (right ++ (quoted ++ f.front))), length-append right (quoted ++ f.front),
+          length-append quoted f.front)
 
-  name_ended : (fuel : ℕ) → RecurTag fuel → (space : List ℕ) (before : List Attribute) (at : ℕ) (bytes m rest : List ℕ) (c : ℕ) → IsSpace space → length bytes ≤ suc fuel → bytes ≡ m ++ c ∷ rest
-      → is_qname m ≡ true → Accepts (counted (at_named (named_at before m (at + length m)) c)) rest u → AttributesFound space before bytes at
+  name_ended : (fuel : ℕ) → RecurTag fuel → (space : List ℕ) (before : List Attribute) (at : ℕ) (bytes m rest : List
+      ℕ) (c : ℕ) → IsSpace space → length bytes ≤ suc fuel → bytes ≡ m ++ c ∷ rest
+      → is_qname m ≡ true → Accepts (counted (at_named (named_at before m (at + length m)) c)) rest u
+          → AttributesFound space before bytes at
   name_ended fuel recur space before at bytes m rest c s short e passes h =
       let r = equals_at before m c rest (at + length m) h in
       let p = at + length m + length r.left + 1 in
       let q = quoted_found before m r.rest p r.later in
-      let size : length r.rest ≤ length (c ∷ rest) = omega (arith, ap length r.there, length-append r.left (61 ∷ r.rest)) in
-      let less : length q.rest ≤ suc fuel = omega (arith, size, ap length q.there, length-append q.right (q.quoted ++ q.rest), length-append q.quoted q.rest, ap length e, length-append m (c ∷ rest)) in
-      attribute_joined space m r.left q.right q.quoted q.value before bytes q.rest at (p + length q.right + length q.quoted) s (qname_from m passes) r.white q.white q.is
+      let size : length r.rest ≤ length (c ∷ rest) = omega (arith, ap length r.there, length-append r.left (61 ∷
+          r.rest)) in
+      let less : length q.rest ≤ suc fuel = omega (arith, size, ap length q.there, length-append q.right (q.quoted
+          ++ q.rest), length-append q.quoted q.rest, ap length e, length-append m (c ∷ rest)) in
+      attribute_joined space m r.left q.right q.quoted q.value before bytes q.rest at (p + length q.right + length
+          q.quoted) s (qname_from m passes) r.white q.white q.is
       (e ∙ ap (λ (x : List ℕ). m ++ x) (r.there ∙ ap (λ (x : List ℕ). r.left ++ 61 ∷ x) q.there)) refl
-      (between_found fuel recur (before ++ record { name = m; value = q.value } ∷ []) (p + length q.right + length q.quoted) q.rest less q.later)
+      (between_found fuel recur (before ++ record { name = m; value = q.value } ∷ []) (p + length q.right + length
+          q.quoted) q.rest less q.later)
 
-  naming_step : (fuel : ℕ) → RecurTag fuel → (space : List ℕ) (before : List Attribute) (at : ℕ) (bytes m rest : List ℕ) (c : ℕ) → IsSpace space → length bytes ≤ suc fuel → bytes ≡ m ++ c ∷ rest
-      → Accepts (counted (finish naming (tag_at naming tag before [] [] 0 m (at + length m)) c)) rest u → AttributesFound space before bytes at
-  naming_step fuel recur space before at bytes [] rest c s short e h = subst (λ (x : List ℕ). AttributesFound space before x at) (sym e) (first (is_space c) refl)
+  naming_step : (fuel : ℕ) → RecurTag fuel → (space : List ℕ) (before : List Attribute) (at : ℕ) (bytes m rest :
+      List ℕ) (c : ℕ) → IsSpace space → length bytes ≤ suc fuel → bytes ≡ m ++ c ∷ rest
+      → Accepts (counted (finish naming (tag_at naming tag before [] [] 0 m (at + length m)) c)) rest u
+          → AttributesFound space before bytes at
+  naming_step fuel recur space before at bytes [] rest c s short e h = subst (λ (x : List ℕ). AttributesFound space
+      before x at) (sym e) (first (is_space c) refl)
     where
       place : ℕ
       place = at + length {A = ℕ} []
@@ -326,8 +376,11 @@ module _ (tag : Tag) (u : Element) where
 
       first : (t : Bool) → is_space c ≡ t → AttributesFound space before (c ∷ rest) at
       first true f =
-          more_space space before at c rest (recur (space ++ c ∷ []) before (at + 1) rest (record { white = white_snoc space c s.white f; some = snoc_some space c }) (omega (arith, ap length e))
-          (subst (λ t. Accepts (counted (cond t (between_at true tag before at) (cond (nat_eq c 62) (opened (between_at false tag before at)) (cond (nat_eq c 47) (tag_at slashed tag before [] [] 0 [] at) (refuse (between_at false tag before at)))))) rest u) f h1))
+          more_space space before at c rest (recur (space ++ c ∷ []) before (at + 1) rest (record { white =
+              white_snoc space c s.white f; some = snoc_some space c }) (omega (arith, ap length e))
+          (subst (λ t. Accepts (counted (cond t (between_at true tag before at) (cond (nat_eq c 62) (opened
+              (between_at false tag before at)) (cond (nat_eq c 47) (tag_at slashed tag before [] [] 0 [] at)
+              (refuse (between_at false tag before at)))))) rest u) f h1))
       first false f = no_more space before c rest at s.white f h1
   naming_step fuel recur space before at bytes (x ∷ m) rest c s short e h =
       let name : List ℕ = x ∷ m in
@@ -344,5 +397,6 @@ module _ (tag : Tag) (u : Element) where
       let n = next (between_at true tag before at) bytes u (λ _ _. refl) h in
       naming_step fuel (naming_found fuel) space before at bytes n.token n.rest n.last s short n.there n.later
 
-  pub attributes_found : (at : ℕ) (bytes : List ℕ) → Accepts (between_at false tag [] at) bytes u → AttributesFound [] [] bytes at
+  pub attributes_found : (at : ℕ) (bytes : List ℕ) → Accepts (between_at false tag [] at) bytes u
+      → AttributesFound [] [] bytes at
   attributes_found at bytes h = between_found (length bytes) (naming_found (length bytes)) [] at bytes (omega arith) h

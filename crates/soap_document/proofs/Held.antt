@@ -15,13 +15,15 @@ all_passes p (x ∷ xs) each = rw (each.0, all_passes p xs each.1)
 
 pub all_from_passes : (p : ℕ → Bool) (xs : List ℕ) → list_all p xs ≡ true → AllByRecursion (λ c. p c ≡ true) xs
 all_from_passes p [] all = tt
-all_from_passes p (x ∷ xs) all = let (here, later) = and_parts (p x) (list_all p xs) all in (here, all_from_passes p xs later)
+all_from_passes p (x ∷ xs) all = let (here, later) = and_parts (p x) (list_all p xs) all in (here, all_from_passes p
+    xs later)
 
 pub all_weaker : (P Q : ℕ → Type 0) → ((c : ℕ) → P c → Q c) → (xs : List ℕ) → AllByRecursion P xs → AllByRecursion Q xs
 all_weaker P Q f [] h = tt
 all_weaker P Q f (x ∷ xs) h = (f x h.0, all_weaker P Q f xs h.1)
 
-pub all_append : (P : ℕ → Type 0) (xs ys : List ℕ) → AllByRecursion P xs → AllByRecursion P ys → AllByRecursion P (xs ++ ys)
+pub all_append : (P : ℕ → Type 0) (xs ys : List ℕ) → AllByRecursion P xs → AllByRecursion P ys
+    → AllByRecursion P (xs ++ ys)
 all_append P [] ys g h = h
 all_append P (x ∷ xs) ys g h = (g.0, all_append P xs ys g.1 h)
 
@@ -62,7 +64,8 @@ front_from_begins (w ∷ word) (b ∷ bytes) e =
 holds_at : (before word after : List ℕ) → word ≢ [] → holds (before ++ (word ++ after)) word ≡ true
 holds_at [] [] after some = absurd (some refl)
 holds_at [] (w ∷ word) after some = rw (eq-eqb w w refl, begins-append word after)
-holds_at (b ∷ before) word after some = rw (holds_at before word after some, or-true (begins word (b ∷ (before ++ (word ++ after)))))
+holds_at (b ∷ before) word after some = rw (holds_at before word after some, or-true (begins word (b ∷ (before ++
+    (word ++ after)))))
 
 pub holds-Holds : (bytes word : List ℕ) → word ≢ [] → Holds bytes word → holds bytes word ≡ true
 holds-Holds bytes word some h = ap (λ x. holds x word) h.there ∙ holds_at h.before word h.after some
@@ -72,8 +75,10 @@ Holds-from [] [] some e = absurd (some refl)
 Holds-from [] (w ∷ word) some e = cc
 Holds-from (b ∷ bytes) word some e =
     elim (or_cases (begins word (b ∷ bytes)) (holds bytes word) e) [
-      | inl here ↦ record { before = []; after = drop (length word) (b ∷ bytes); there = front_from_begins word (b ∷ bytes) here }
-      | inr later ↦ let h = Holds-from bytes word some later in record { before = b ∷ h.before; after = h.after; there = ap (λ x. b ∷ x) h.there }
+      | inl here ↦ record { before = []; after = drop (length word) (b ∷ bytes); there = front_from_begins word (b ∷
+          bytes) here }
+      | inr later ↦ let h = Holds-from bytes word some later in record { before = b ∷ h.before; after = h.after;
+          there = ap (λ x. b ∷ x) h.there }
     ]
 
 pub lacks : (bytes word : List ℕ) → word ≢ [] → ¬ (Holds bytes word) → not (holds bytes word) ≡ true
@@ -91,7 +96,8 @@ pub lacks_byte : (k : ℕ) (bytes : List ℕ) → ¬ (Holds bytes (k ∷ [])) �
 lacks_byte k [] h = tt
 lacks_byte k (c ∷ bytes) h = (
   ne_eqb c k (λ e. h (record { before = []; after = bytes; there = ap (λ x. x ∷ bytes) e })),
-  lacks_byte k bytes (λ later. h (record { before = c ∷ later.before; after = later.after; there = ap (λ x. c ∷ x) later.there })),
+  lacks_byte k bytes (λ later. h (record { before = c ∷ later.before; after = later.after; there = ap (λ x. c ∷ x)
+      later.there })),
 )
 
 -- ---- the first of a byte
@@ -100,11 +106,13 @@ pub cut_none : (k : ℕ) (bytes : List ℕ) → AllByRecursion (λ c. nat_eq c k
 cut_none k [] h = refl
 cut_none k (c ∷ bytes) h = rw (h.0, cut_none k bytes h.1)
 
-pub cut-append : (k : ℕ) (word rest : List ℕ) → AllByRecursion (λ c. nat_eq c k ≡ false) word → cut k (word ++ k ∷ rest) ≡ Some (word, rest)
+pub cut-append : (k : ℕ) (word rest : List ℕ) → AllByRecursion (λ c. nat_eq c k ≡ false) word
+    → cut k (word ++ k ∷ rest) ≡ Some (word, rest)
 cut-append k [] rest h = rw (eq-eqb k k refl)
 cut-append k (c ∷ word) rest h = rw (h.0, cut-append k word rest h.1)
 
-cut_more : (k b : ℕ) (bytes : List ℕ) (p : List ℕ × List ℕ) (t : Bool) (o : Option (List ℕ × List ℕ)) → nat_eq b k ≡ t → cut k bytes ≡ o → cut k (b ∷ bytes) ≡ Some p
+cut_more : (k b : ℕ) (bytes : List ℕ) (p : List ℕ × List ℕ) (t : Bool) (o : Option (List ℕ × List ℕ)) → nat_eq b k
+    ≡ t → cut k bytes ≡ o → cut k (b ∷ bytes) ≡ Some p
     → ((b ≡ k) × (p ≡ ([], bytes))) ⊎ ((q : List ℕ × List ℕ) × (o ≡ Some q) × (p ≡ (b ∷ q.0, q.1)))
 cut_more k b bytes p true o e f h = let x = rw e at h in inl (eqb-true b k e, cc)
 cut_more k b bytes p false None e f h = let x = rw (e, f) at h in cc

@@ -28,7 +28,8 @@ pub then : (at : ℕ) (b d : List ℕ) (s t u : At) → Moves at b s t → Moves
 then at b d s t u m n rest =
     ap (run (s at)) (append_assoc b d rest) ∙ m (d ++ rest) ∙ n rest ∙ ap (λ p. run (u p) rest) (place_append at b d)
 
-pub byte : (at c : ℕ) (d : List ℕ) (s t u : At) → step (s at) c ≡ t (at + 1) → Moves (at + 1) d t u → Moves at (c ∷ d) s u
+pub byte : (at c : ℕ) (d : List ℕ) (s t u : At) → step (s at) c ≡ t (at + 1) → Moves (at + 1) d t u
+    → Moves at (c ∷ d) s u
 byte at c d s t u m n rest =
     ap (λ x. run x (d ++ rest)) m ∙ n rest ∙ ap (λ p. run (u p) rest) (place_one at c d)
 
@@ -49,20 +50,24 @@ at_place s at = record s { at = at }
 abbrev pub longer : State → List ℕ → State
 longer s bytes = record s { token = s.token ++ bytes }
 
-kept_step : (s : State) (c : ℕ) → stops s.mode s.quote c ≡ false → step s c ≡ record s { at = s.at + 1; token = s.token ++ c ∷ [] }
+kept_step : (s : State) (c : ℕ) → stops s.mode s.quote c ≡ false → step s c
+    ≡ record s { at = s.at + 1; token = s.token ++ c ∷ [] }
 kept_step s c e = rw e
 
 pub retarget : (at : ℕ) (b : List ℕ) (s t u : At) → ((p : ℕ) → t p ≡ u p) → Moves at b s t → Moves at b s u
 retarget at b s t u e m rest = m rest ∙ ap (λ x. run x rest) (e (at + length b))
 
 -- bytes that end no token lengthen it
-pub kept : (s : State) (bytes : List ℕ) (at : ℕ) → NoStops s.mode s.quote bytes → Moves at bytes (at_place s) (at_place (longer s bytes))
-kept s [] at h = retarget at [] (at_place s) (at_place s) (at_place (longer s [])) (λ p. ap (λ t. record s { at = p; token = t }) (sym (append-nil s.token))) (stay at (at_place s))
+pub kept : (s : State) (bytes : List ℕ) (at : ℕ) → NoStops s.mode s.quote bytes
+    → Moves at bytes (at_place s) (at_place (longer s bytes))
+kept s [] at h = retarget at [] (at_place s) (at_place s) (at_place (longer s [])) (λ p. ap (λ t. record s { at = p;
+    token = t }) (sym (append-nil s.token))) (stay at (at_place s))
 kept s (c ∷ bytes) at h =
     let next = longer s (c ∷ []) in
     byte at c bytes (at_place s) (at_place next) (at_place (longer s (c ∷ bytes))) (kept_step (at_place s at) c h.0)
     (retarget (at + 1) bytes (at_place next) (at_place (longer next bytes)) (at_place (longer s (c ∷ bytes)))
-    (λ p. ap (λ t. record s { at = p; token = t }) (append_assoc s.token (c ∷ []) bytes)) (kept next bytes (at + 1) h.1))
+    (λ p. ap (λ t. record s { at = p; token = t }) (append_assoc s.token (c ∷ []) bytes)) (kept next bytes (at + 1)
+        h.1))
 
 -- ---- states
 

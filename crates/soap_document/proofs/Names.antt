@@ -18,10 +18,12 @@ use Rattle.soap_document.proofs.Held.{all_passes, all_from_passes, all_append}
 abbrev has_scalars : (ℕ × ℕ) → Bool
 has_scalars range = nat_lt range.1 55296 || (nat_le 57344 range.0 && nat_lt range.1 1114112)
 
-scalar_in : (low high c : ℕ) → (nat_lt high 55296 || (nat_le 57344 low && nat_lt high 1114112)) ≡ true → (nat_le low c && nat_le c high) ≡ true → scalar c ≡ true
+scalar_in : (low high c : ℕ) → (nat_lt high 55296 || (nat_le 57344 low && nat_lt high 1114112)) ≡ true
+    → (nat_le low c && nat_le c high) ≡ true → scalar c ≡ true
 scalar_in low high c fits within = grind (arith, nat_tests)
 
-scalar_within : (ranges : List (ℕ × ℕ)) (c : ℕ) → list_all has_scalars ranges ≡ true → is_within ranges c ≡ true → scalar c ≡ true
+scalar_within : (ranges : List (ℕ × ℕ)) (c : ℕ) → list_all has_scalars ranges ≡ true → is_within ranges c ≡ true
+    → scalar c ≡ true
 scalar_within [] c fits within = cc
 scalar_within (range ∷ ranges) c fits within =
     let (here, later) = and_parts (has_scalars range) (list_all has_scalars ranges) fits in
@@ -43,7 +45,8 @@ name_char-scalar c h =
       | inr others ↦ scalar_within name_more_ranges c refl others
     ]
 
-all_scalar : (p : ℕ → Bool) → ((c : ℕ) → p c ≡ true → scalar c ≡ true) → (cs : List ℕ) → AllByRecursion (λ c. p c ≡ true) cs → scalars cs ≡ true
+all_scalar : (p : ℕ → Bool) → ((c : ℕ) → p c ≡ true → scalar c ≡ true) → (cs : List ℕ) → AllByRecursion (λ c. p c
+    ≡ true) cs → scalars cs ≡ true
 all_scalar p fits [] each = refl
 all_scalar p fits (c ∷ cs) each = rw (fits c each.0, all_scalar p fits cs each.1)
 
@@ -61,7 +64,8 @@ pub IsChars-from : (bytes : List ℕ) → is_chars bytes ≡ true → IsChars by
 unfolding is_chars
 IsChars-from bytes e =
     let (utf8, all) = and_parts (is_utf8 bytes) (list_all is_char (chars bytes)) e in
-    record { characters = chars bytes; each = all_from_passes is_char (chars bytes) all; coded = sym (encodes-chars bytes (IsUtf8-from_is_utf8 bytes utf8)) }
+    record { characters = chars bytes; each = all_from_passes is_char (chars bytes) all; coded = sym (encodes-chars
+        bytes (IsUtf8-from_is_utf8 bytes utf8)) }
 
 name_each : (bytes : List ℕ) (h : IsName bytes) → AllByRecursion (λ c. is_name_char c ≡ true) (h.first ∷ h.others)
 name_each bytes h = (rw h.starts, h.each)
@@ -93,21 +97,27 @@ abbrev pub IsNameByte : ℕ → Type 0
 IsNameByte b = (k : ℕ) → k < 128 → is_name_char k ≡ false → nat_eq b k ≡ false
 
 name_byte : (c b : ℕ) → is_name_char c ≡ true → (b < 128 → c ≡ b) → IsNameByte b
-name_byte c b passes ascii k small fails = ne_eqb b k (λ e. true≢false (sym passes ∙ ap is_name_char (ascii (omega arith) ∙ e) ∙ fails))
+name_byte c b passes ascii k small fails = ne_eqb b k (λ e. true≢false (sym passes
+    ∙ ap is_name_char (ascii (omega arith) ∙ e) ∙ fails))
 
 char_bytes : (c : ℕ) → is_name_char c ≡ true → AllByRecursion IsNameByte (encode_utf8 c)
 char_bytes c passes = recursion_from_All IsNameByte (encode_utf8 c) (λ k d h.
-    rw (get_or_default (encode_utf8 c) k d 0 h) (name_byte c (get_or (encode_utf8 c) k 0) passes (inside_one c [] (encode_utf8 c) k (sym (append-nil (encode_utf8 c))) h)))
+    rw (get_or_default (encode_utf8 c) k d 0 h) (name_byte c (get_or (encode_utf8 c) k 0) passes (inside_one c []
+        (encode_utf8 c) k (sym (append-nil (encode_utf8 c))) h)))
 
-name_bytes_of : (cs : List ℕ) → AllByRecursion (λ c. is_name_char c ≡ true) cs → AllByRecursion IsNameByte (encode_utf8_all cs)
+name_bytes_of : (cs : List ℕ) → AllByRecursion (λ c. is_name_char c ≡ true) cs
+    → AllByRecursion IsNameByte (encode_utf8_all cs)
 name_bytes_of [] h = tt
-name_bytes_of (c ∷ cs) h = all_append IsNameByte (encode_utf8 c) (encode_utf8_all cs) (char_bytes c h.0) (name_bytes_of cs h.1)
+name_bytes_of (c ∷ cs) h = all_append IsNameByte (encode_utf8 c) (encode_utf8_all cs) (char_bytes c h.0)
+    (name_bytes_of cs h.1)
 
 pub name_bytes : (bytes : List ℕ) → IsName bytes → AllByRecursion IsNameByte bytes
-name_bytes bytes h = subst (AllByRecursion IsNameByte) (sym h.coded) (name_bytes_of (h.first ∷ h.others) (name_each bytes h))
+name_bytes bytes h = subst (AllByRecursion IsNameByte) (sym h.coded) (name_bytes_of (h.first ∷ h.others) (name_each
+    bytes h))
 
 encode_some : (c : ℕ) (rest : List ℕ) → encode_utf8 c ++ rest ≡ [] → ⊥
-encode_some c rest e = omega (arith, ap length e, length-append (encode_utf8 c) rest, length-encode c, len_utf8_bounds c)
+encode_some c rest e = omega (arith, ap length e, length-append (encode_utf8 c) rest, length-encode c,
+    len_utf8_bounds c)
 
 pub name_some : (bytes : List ℕ) → IsName bytes → bytes ≢ []
 name_some bytes h e = encode_some h.first (encode_utf8_all h.others) (sym h.coded ∙ e)

@@ -18,7 +18,8 @@ pub nil_from_len : {A : Type 0} (xs : List A) (n : ℕ) → n ≡ length xs → 
 nil_from_len [] n e h = refl
 nil_from_len (x ∷ xs) n e h = absurd (omega (arith, e, eqb-true n 0 h))
 
-pub some_from_len : (xs : List ℕ) (n : ℕ) → n ≡ length xs → nat_eq n 0 ≡ false → (b : ℕ) × (bytes : List ℕ) × (xs ≡ b ∷ bytes)
+pub some_from_len : (xs : List ℕ) (n : ℕ) → n ≡ length xs → nat_eq n 0 ≡ false → (b : ℕ) × (bytes : List ℕ) × (xs
+    ≡ b ∷ bytes)
 some_from_len [] n e h = absurd (eqb-false n 0 h (omega (arith, e)))
 some_from_len (b ∷ bytes) n e h = (b, bytes, refl)
 
@@ -29,10 +30,14 @@ settled_empty s e =
     ∙ ap (λ (x : List ℕ). record s { top = with_parts s.top (onto x none); text = [] }) (sym e)
 
 -- the text becomes a part
-pub settled_text : (xs : List WrittenPart) (x : List ℕ) (b : ℕ) (bytes : List ℕ) → x ≡ b ∷ bytes → parts_view (xs ++ Text x ∷ []) ≡ join (parts_view xs) (onto x none)
+pub settled_text : (xs : List WrittenPart) (x : List ℕ) (b : ℕ) (bytes : List ℕ) → x ≡ b ∷ bytes
+    → parts_view (xs ++ Text x ∷ []) ≡ join (parts_view xs) (onto x none)
 settled_text xs x b bytes e =
-    ap (λ (y : List ℕ). parts_view (xs ++ Text y ∷ [])) e ∙ parts-push_text xs b bytes ∙ ap (λ (y : List ℕ). join (parts_view xs) (onto y none)) (sym e)
+    ap (λ (y : List ℕ). parts_view (xs ++ Text y ∷ [])) e ∙ parts-push_text xs b bytes
+        ∙ ap (λ (y : List ℕ). join (parts_view xs) (onto y none)) (sym e)
 
-pub outer_room : (frames : List Frame) (xs : List WrittenPart) (n : ℕ) → n ≡ length xs → is_nil frames ≡ true → nat_eq n 0 ≡ has_room frames (parts_view xs)
+pub outer_room : (frames : List Frame) (xs : List WrittenPart) (n : ℕ) → n ≡ length xs → is_nil frames ≡ true
+    → nat_eq n 0 ≡ has_room frames (parts_view xs)
 outer_room frames xs n e f =
-    ap (λ k. nat_eq k 0) e ∙ nil_len xs ∙ sym (parts_none xs) ∙ ap (λ t. cond t (is_none (parts_view xs)) (nat_lt (length frames) max_depth)) (sym f)
+    ap (λ k. nat_eq k 0) e ∙ nil_len xs ∙ sym (parts_none xs)
+        ∙ ap (λ t. cond t (is_none (parts_view xs)) (nat_lt (length frames) max_depth)) (sym f)

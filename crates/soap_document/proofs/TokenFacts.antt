@@ -36,8 +36,10 @@ qname_from bytes h = qname_of bytes (cut 58 bytes) refl h
 pub data_from : (bytes : List ℕ) → is_char_data bytes ≡ true → IsCharData bytes
 unfolding is_char_data
 data_from bytes e =
-    let (a, e1) = and_parts (is_chars bytes) (not (holds bytes (codes "<")) && (not (holds bytes (codes "&")) && not (holds bytes (codes "]]>")))) e in
-    let (b, e2) = and_parts (not (holds bytes (codes "<"))) (not (holds bytes (codes "&")) && not (holds bytes (codes "]]>"))) e1 in
+    let (a, e1) = and_parts (is_chars bytes) (not (holds bytes (codes "<")) && (not (holds bytes (codes "&")) && not
+        (holds bytes (codes "]]>")))) e in
+    let (b, e2) = and_parts (not (holds bytes (codes "<"))) (not (holds bytes (codes "&")) && not (holds bytes
+        (codes "]]>"))) e1 in
     let (c, d) = and_parts (not (holds bytes (codes "&"))) (not (holds bytes (codes "]]>"))) e2 in
     record {
       chars = IsChars-from bytes a;
@@ -49,8 +51,10 @@ data_from bytes e =
 pub plain_from : (mark : ℕ) (bytes : List ℕ) → is_plain mark bytes ≡ true → IsPlainValue mark bytes
 unfolding is_plain
 plain_from mark bytes e =
-    let (a, e1) = and_parts (is_chars bytes) (not (holds bytes (codes "<")) && (not (holds bytes (codes "&")) && not (holds bytes (mark ∷ [])))) e in
-    let (b, e2) = and_parts (not (holds bytes (codes "<"))) (not (holds bytes (codes "&")) && not (holds bytes (mark ∷ []))) e1 in
+    let (a, e1) = and_parts (is_chars bytes) (not (holds bytes (codes "<")) && (not (holds bytes (codes "&")) && not
+        (holds bytes (mark ∷ [])))) e in
+    let (b, e2) = and_parts (not (holds bytes (codes "<"))) (not (holds bytes (codes "&")) && not (holds bytes (mark
+        ∷ []))) e1 in
     let (c, d) = and_parts (not (holds bytes (codes "&"))) (not (holds bytes (mark ∷ []))) e2 in
     record {
       chars = IsChars-from bytes a;
@@ -76,19 +80,25 @@ cdata_from bytes e =
 
 -- ---- references
 
-picked : (t : Bool) (x y : Option ℕ) (c : ℕ) → cond t x y ≡ Some c → ((t ≡ true) × (x ≡ Some c)) ⊎ ((t ≡ false) × (y ≡ Some c))
+picked : (t : Bool) (x y : Option ℕ) (c : ℕ) → cond t x y ≡ Some c → ((t ≡ true) × (x ≡ Some c)) ⊎ ((t ≡ false) × (y
+    ≡ Some c))
 picked true x y c h = inl (refl, h)
 picked false x y c h = inr (refl, h)
 
-named_from : (word bytes : List ℕ) (k c : ℕ) → IsReference word k → bytes_eq bytes word ≡ true → Some k ≡ Some c → IsReference bytes c
+named_from : (word bytes : List ℕ) (k c : ℕ) → IsReference word k → bytes_eq bytes word ≡ true → Some k ≡ Some c
+    → IsReference bytes c
 named_from word bytes k c r e h =
     let value : k ≡ c = cc in
-    subst (λ (p : List ℕ × ℕ). IsReference p.0 p.1) (ap₂ (λ (x : List ℕ) (y : ℕ). (x, y)) (sym (same bytes word e)) value) r
+    subst (λ (p : List ℕ × ℕ). IsReference p.0 p.1) (ap₂ (λ (x : List ℕ) (y : ℕ). (x, y)) (sym (same bytes word e))
+        value) r
 
-semicolon_more : (b : ℕ) (bytes front : List ℕ) (o : Option (List ℕ)) → before_semicolon bytes ≡ o → before_semicolon (b ∷ bytes) ≡ Some front
-    → ((o ≡ None) × (cond (nat_eq b 59 && is_nil bytes) (Some []) None ≡ Some front)) ⊎ ((later : List ℕ) × (o ≡ Some later) × (front ≡ b ∷ later))
+semicolon_more : (b : ℕ) (bytes front : List ℕ) (o : Option (List ℕ)) → before_semicolon bytes ≡ o
+    → before_semicolon (b ∷ bytes) ≡ Some front
+    → ((o ≡ None) × (cond (nat_eq b 59 && is_nil bytes) (Some []) None ≡ Some front)) ⊎ ((later : List ℕ) × (o
+        ≡ Some later) × (front ≡ b ∷ later))
 semicolon_more b bytes front None e h = inl (refl, rw (before_semicolon, e) at h)
-semicolon_more b bytes front (Some later) e h = let x : Some (b ∷ later) ≡ Some front = rw (before_semicolon, e) at h in inr (later, refl, cc)
+semicolon_more b bytes front (Some later) e h = let x : Some (b ∷ later)
+    ≡ Some front = rw (before_semicolon, e) at h in inr (later, refl, cc)
 
 nil_from : (bytes : List ℕ) → is_nil bytes ≡ true → bytes ≡ []
 nil_from [] e = refl
@@ -105,7 +115,8 @@ semicolon_from (b ∷ bytes) front e =
       | inl h ↦
           let l = semicolon_last (nat_eq b 59 && is_nil bytes) front h.1 in
           let (is, empty) = and_parts (nat_eq b 59) (is_nil bytes) l.0 in
-          ap₂ (λ (x : ℕ) (xs : List ℕ). x ∷ xs) (eqb-true b 59 is) (nil_from bytes empty) ∙ ap (λ (x : List ℕ). x ++ 59 ∷ []) (sym l.1)
+          ap₂ (λ (x : ℕ) (xs : List ℕ). x ∷ xs) (eqb-true b 59 is) (nil_from bytes empty)
+              ∙ ap (λ (x : List ℕ). x ++ 59 ∷ []) (sym l.1)
       | inr h ↦ ap (λ x. b ∷ x) (semicolon_from bytes h.0 h.1) ∙ ap (λ (x : List ℕ). x ++ 59 ∷ []) (sym h.2)
     ]
 
@@ -122,29 +133,37 @@ some_from : (bytes : List ℕ) → not (is_nil bytes) ≡ true → bytes ≢ []
 some_from [] e = cc
 some_from (b ∷ bytes) e = λ x. cc
 
-character_of : (is_digit : ℕ → Bool) (base : ℕ) (bytes : List ℕ) (c : ℕ) (o : Option (List ℕ)) → before_semicolon bytes ≡ o → character is_digit base o ≡ Some c → Numbers is_digit base bytes c
+character_of : (is_digit : ℕ → Bool) (base : ℕ) (bytes : List ℕ) (c : ℕ) (o : Option (List ℕ))
+    → before_semicolon bytes ≡ o → character is_digit base o ≡ Some c → Numbers is_digit base bytes c
 character_of is_digit base bytes c None e h = cc
 character_of is_digit base bytes c (Some digits) e h =
-    elim (picked (not (is_nil digits) && (list_all is_digit digits && is_char (digits_value base digits))) (Some (digits_value base digits)) None c h) [
+    elim (picked (not (is_nil digits) && (list_all is_digit digits && is_char (digits_value base digits))) (Some
+        (digits_value base digits)) None c h) [
       | inl k ↦
-          let (some, k1) = and_parts (not (is_nil digits)) (list_all is_digit digits && is_char (digits_value base digits)) k.0 in
+          let (some, k1) = and_parts (not (is_nil digits)) (list_all is_digit digits && is_char (digits_value base
+              digits)) k.0 in
           let (each, is) = and_parts (list_all is_digit digits) (is_char (digits_value base digits)) k1 in
-          record { digits = digits; there = semicolon_from bytes digits e; some = some_from digits some; each = all_from_passes is_digit digits each; is = is; value = cc }
+          record { digits = digits; there = semicolon_from bytes digits e; some = some_from digits some; each =
+              all_from_passes is_digit digits each; is = is; value = cc }
       | inr k ↦ cc (k.1)
     ]
 
-decimal_from : (bytes : List ℕ) (c : ℕ) → begins (codes "&#") bytes ≡ true → character is_ascii_digit 10 (before_semicolon (drop 2 bytes)) ≡ Some c → IsReference bytes c
+decimal_from : (bytes : List ℕ) (c : ℕ) → begins (codes "&#") bytes ≡ true
+    → character is_ascii_digit 10 (before_semicolon (drop 2 bytes)) ≡ Some c → IsReference bytes c
 decimal_from bytes c e h =
     let n = character_of is_ascii_digit 10 (drop 2 bytes) c (before_semicolon (drop 2 bytes)) refl h in
     subst (λ (p : List ℕ × ℕ). IsReference p.0 p.1)
-    (ap₂ (λ (x : List ℕ) (y : ℕ). (x, y)) (ap (λ (x : List ℕ). codes "&#" ++ x) (sym n.there) ∙ sym (front_from_begins (codes "&#") bytes e)) n.value)
+    (ap₂ (λ (x : List ℕ) (y : ℕ). (x, y)) (ap (λ (x : List ℕ). codes "&#" ++ x) (sym n.there)
+        ∙ sym (front_from_begins (codes "&#") bytes e)) n.value)
     (decimal n.digits n.some n.each n.is)
 
-hexadecimal_from : (bytes : List ℕ) (c : ℕ) → begins (codes "&#x") bytes ≡ true → character is_ascii_hexdigit 16 (before_semicolon (drop 3 bytes)) ≡ Some c → IsReference bytes c
+hexadecimal_from : (bytes : List ℕ) (c : ℕ) → begins (codes "&#x") bytes ≡ true
+    → character is_ascii_hexdigit 16 (before_semicolon (drop 3 bytes)) ≡ Some c → IsReference bytes c
 hexadecimal_from bytes c e h =
     let n = character_of is_ascii_hexdigit 16 (drop 3 bytes) c (before_semicolon (drop 3 bytes)) refl h in
     subst (λ (p : List ℕ × ℕ). IsReference p.0 p.1)
-    (ap₂ (λ (x : List ℕ) (y : ℕ). (x, y)) (ap (λ (x : List ℕ). codes "&#x" ++ x) (sym n.there) ∙ sym (front_from_begins (codes "&#x") bytes e)) n.value)
+    (ap₂ (λ (x : List ℕ) (y : ℕ). (x, y)) (ap (λ (x : List ℕ). codes "&#x" ++ x) (sym n.there)
+        ∙ sym (front_from_begins (codes "&#x") bytes e)) n.value)
     (hexadecimal n.digits n.some n.each n.is)
 
 numbered_from : (bytes : List ℕ) (c : ℕ) → numbered bytes ≡ Some c → IsReference bytes c
@@ -185,7 +204,8 @@ reference_from bytes c h =
 
 -- ---- end tags
 
-pub end_from : (name token : List ℕ) → is_end name token ≡ true → (space : List ℕ) × (token ≡ name ++ space) × IsWhite space
+pub end_from : (name token : List ℕ) → is_end name token ≡ true → (space : List ℕ) × (token
+    ≡ name ++ space) × IsWhite space
 end_from [] token e = (token, refl, white_from token e)
 end_from (b ∷ name) [] e = cc
 end_from (b ∷ name) (c ∷ token) e =

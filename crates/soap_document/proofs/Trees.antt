@@ -28,28 +28,36 @@ layer_join (TheOpen.Text x) a b = refl
 layer_join (TheOpen.Child x) a b = refl
 
 part_join : (x : WrittenPart) (a b : Parts) → part_view x (join a b) ≡ join (part_view x a) b
-part_join x a b = ap (λ (f : Parts → Parts). f (join a b)) (part_out x) ∙ layer_join (out-WrittenPart x) a b ∙ ap (λ (f : Parts → Parts). join (f a) b) (sym (part_out x))
+part_join x a b = ap (λ (f : Parts → Parts). f (join a b)) (part_out x) ∙ layer_join (out-WrittenPart x) a b
+    ∙ ap (λ (f : Parts → Parts). join (f a) b) (sym (part_out x))
 
 layer_some : (l : Layer) (a : Parts) → is_none (seen_layer l a) ≡ false
 layer_some (TheOpen.Text x) a = refl
 layer_some (TheOpen.Child x) a = refl
 
 pub part_text : (x : List ℕ) → part_view (Text x) ≡ text x
-part_text x = ap part_view (sym (rolls-Text x)) ∙ fold-roll-WrittenPart (Parts → Parts) Element part_step element_step (TheOpen.Text x)
+part_text x = ap part_view (sym (rolls-Text x)) ∙ fold-roll-WrittenPart (Parts
+    → Parts) Element part_step element_step (TheOpen.Text x)
 
 pub part_child : (e : WrittenElement) → part_view (Child e) ≡ child (element_view e)
-part_child e = ap part_view (sym (rolls-Child e)) ∙ fold-roll-WrittenPart (Parts → Parts) Element part_step element_step (TheOpen.Child e)
+part_child e = ap part_view (sym (rolls-Child e)) ∙ fold-roll-WrittenPart (Parts
+    → Parts) Element part_step element_step (TheOpen.Child e)
 
-parts-push : (xs : List WrittenPart) (x : WrittenPart) → parts_view (xs ++ x ∷ []) ≡ join (parts_view xs) (part_view x none)
+parts-push : (xs : List WrittenPart) (x : WrittenPart) → parts_view (xs ++ x ∷ [])
+    ≡ join (parts_view xs) (part_view x none)
 parts-push [] x = refl
 parts-push (y ∷ xs) x = ap (part_view y) (parts-push xs x) ∙ part_join y (parts_view xs) (part_view x none)
 
 -- a part at the end
-pub parts-push_child : (xs : List WrittenPart) (e : WrittenElement) → parts_view (xs ++ Child e ∷ []) ≡ join (parts_view xs) (child (element_view e) none)
-parts-push_child xs e = parts-push xs (Child e) ∙ ap (λ (f : Parts → Parts). join (parts_view xs) (f none)) (part_child e)
+pub parts-push_child : (xs : List WrittenPart) (e : WrittenElement) → parts_view (xs ++ Child e ∷ [])
+    ≡ join (parts_view xs) (child (element_view e) none)
+parts-push_child xs e = parts-push xs (Child e) ∙ ap (λ (f : Parts
+    → Parts). join (parts_view xs) (f none)) (part_child e)
 
-pub parts-push_text : (xs : List WrittenPart) (b : ℕ) (bytes : List ℕ) → parts_view (xs ++ Text (b ∷ bytes) ∷ []) ≡ join (parts_view xs) (onto (b ∷ bytes) none)
-parts-push_text xs b bytes = parts-push xs (Text (b ∷ bytes)) ∙ ap (λ (f : Parts → Parts). join (parts_view xs) (f none)) (part_text (b ∷ bytes))
+pub parts-push_text : (xs : List WrittenPart) (b : ℕ) (bytes : List ℕ) → parts_view (xs ++ Text (b ∷ bytes) ∷ [])
+    ≡ join (parts_view xs) (onto (b ∷ bytes) none)
+parts-push_text xs b bytes = parts-push xs (Text (b ∷ bytes)) ∙ ap (λ (f : Parts
+    → Parts). join (parts_view xs) (f none)) (part_text (b ∷ bytes))
 
 pub join-none : (ps : Parts) → join ps none ≡ ps
 join-none none = refl
@@ -58,7 +66,8 @@ join-none (child u ps) = ap (child u) (join-none ps)
 
 pub parts_none : (xs : List WrittenPart) → is_none (parts_view xs) ≡ is_nil xs
 parts_none [] = refl
-parts_none (x ∷ xs) = ap (λ (f : Parts → Parts). is_none (f (parts_view xs))) (part_out x) ∙ layer_some (out-WrittenPart x) (parts_view xs)
+parts_none (x ∷ xs) = ap (λ (f : Parts → Parts). is_none (f (parts_view xs))) (part_out x)
+    ∙ layer_some (out-WrittenPart x) (parts_view xs)
 
 only_more : (e : Element) (rest : Parts) → is_none rest ≡ false → only_child (child e rest) ≡ None
 only_more e none h = cc
@@ -74,7 +83,8 @@ parts_some [] x = refl
 parts_some (y ∷ xs) x = refl
 
 -- of two parts and more none is the only one
-pub only_many : (xs : List WrittenPart) (x : WrittenPart) → is_nil xs ≡ false → only_child (parts_view (xs ++ x ∷ [])) ≡ None
+pub only_many : (xs : List WrittenPart) (x : WrittenPart) → is_nil xs ≡ false
+    → only_child (parts_view (xs ++ x ∷ [])) ≡ None
 only_many [] x h = cc
 only_many (y ∷ xs) x h =
     ap (λ (f : Parts → Parts). only_child (f (parts_view (xs ++ x ∷ [])))) (part_out y)
@@ -95,7 +105,8 @@ snoc_some (z ∷ r) y = refl
 
 pub frames_nil : (xs : List OpenElement) → is_nil (frames_of xs) ≡ is_nil xs
 frames_nil [] = refl
-frames_nil (x ∷ xs) = ap is_nil (reverse-append (frame_of x ∷ []) (map frame_of xs)) ∙ snoc_some (reverse (map frame_of xs)) (frame_of x)
+frames_nil (x ∷ xs) = ap is_nil (reverse-append (frame_of x ∷ []) (map frame_of xs))
+    ∙ snoc_some (reverse (map frame_of xs)) (frame_of x)
 
 pub length-frames : (xs : List OpenElement) → length (frames_of xs) ≡ length xs
 length-frames xs = length-reverse (map frame_of xs) ∙ length-map xs frame_of

@@ -27,7 +27,8 @@ pub data IsQName : List ℕ → Type 0 where
 pub data IsAttributes : List ℕ → List Attribute → Type 0 where
   end : (space : List ℕ) → IsWhite space → IsAttributes space []
   more : (space name left right quoted value rest : List ℕ) (attributes : List Attribute)
-      → IsSpace space → IsQName name → IsWhite left → IsWhite right → IsValue quoted value → IsAttributes rest attributes
+      → IsSpace space → IsQName name → IsWhite left → IsWhite right → IsValue quoted value
+          → IsAttributes rest attributes
       → IsAttributes (space ++ (name ++ (left ++ (codes "=" ++ (right ++ (quoted ++ rest))))))
       (record { name = name; value = value } ∷ attributes)
 

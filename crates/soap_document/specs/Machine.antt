@@ -100,7 +100,8 @@ is_mark bytes = is_nil bytes || bytes_eq bytes (0xEF ∷ 0xBB ∷ 0xBF ∷ [])
 
 abbrev pub at_beginning : State → ℕ → State
 at_beginning s c =
-    if is_mark s.token then (if c == 60 then record s { mode = less; mark = s.at; token = [] } else calm s) else refuse s
+    if is_mark s.token then (if c == 60 then record s { mode = less; mark = s.at; token = [] } else calm s) else
+        refuse s
 
 abbrev pub at_declaring : State → State
 at_declaring s = if is_declaration s.token then calm s else refuse s

@@ -26,8 +26,10 @@ then_eq Greater b = refl
 both_ways : (a b : List ℕ) (s t : Bool) → bytes_eq a b ≡ s → bytes_eq b a ≡ t → s ≡ t
 both_ways a b true true e f = refl
 both_ways a b false false e f = refl
-both_ways a b true false e f = absurd (true≢false (sym ((bytes_eq-Decides b a).1 (sym ((bytes_eq-Decides a b).0 e))) ∙ f))
-both_ways a b false true e f = absurd (true≢false (sym ((bytes_eq-Decides a b).1 (sym ((bytes_eq-Decides b a).0 f))) ∙ e))
+both_ways a b true false e f = absurd (true≢false (sym ((bytes_eq-Decides b a).1 (sym ((bytes_eq-Decides a b).0 e)))
+    ∙ f))
+both_ways a b false true e f = absurd (true≢false (sym ((bytes_eq-Decides a b).1 (sym ((bytes_eq-Decides b a).0 f)))
+    ∙ e))
 
 turned : (a b : List ℕ) → bytes_eq a b ≡ bytes_eq b a
 turned a b = both_ways a b (bytes_eq a b) (bytes_eq b a) refl refl
@@ -35,7 +37,8 @@ turned a b = both_ways a b (bytes_eq a b) (bytes_eq b a) refl refl
 pub cmp_same : (k q : Lent) → is_eq (lent_cmp k q) ≡ same_key (key_of k) (key_of q)
 cmp_same k q =
     then_eq (slice_cmp nat_cmp k.0.now q.0.now) (slice_cmp nat_cmp k.1.now q.1.now)
-    ∙ ap₂ (λ x y. x && y) (is_eq-slice_cmp k.0.now q.0.now ∙ turned k.0.now q.0.now) (is_eq-slice_cmp k.1.now q.1.now ∙ turned k.1.now q.1.now)
+    ∙ ap₂ (λ x y. x && y) (is_eq-slice_cmp k.0.now q.0.now ∙ turned k.0.now q.0.now) (is_eq-slice_cmp k.1.now
+        q.1.now ∙ turned k.1.now q.1.now)
 
 same_turned : (k q : Key) → same_key k q ≡ same_key q k
 same_turned k q = ap₂ (λ x y. x && y) (turned q.0 k.0) (turned q.1 k.1)
@@ -51,7 +54,8 @@ any_more p (y ∷ xs) x = ap (λ b. p y || b) (any_more p xs x) ∙ swap_or (p y
     swap_or true false c = refl
     swap_or false b c = refl
 
-all_more : (p : Key → Bool) (xs : List Key) (x : Key) → list_all p xs ≡ true → p x ≡ true → list_all p (xs ++ x ∷ []) ≡ true
+all_more : (p : Key → Bool) (xs : List Key) (x : Key) → list_all p xs ≡ true → p x ≡ true
+    → list_all p (xs ++ x ∷ []) ≡ true
 all_more p [] x h e = rw e
 all_more p (y ∷ xs) x h e = let (here, later) = and_parts (p y) (list_all p xs) h in rw (here, all_more p xs x later e)
 
@@ -60,7 +64,8 @@ or_none true b e = cc
 or_none false b e = (refl, e)
 
 -- a key that no earlier one is
-pub differ_more : (xs : List Key) (x : Key) → differ xs ≡ true → list_any (λ k. same_key k x) xs ≡ false → differ (xs ++ x ∷ []) ≡ true
+pub differ_more : (xs : List Key) (x : Key) → differ xs ≡ true → list_any (λ k. same_key k x) xs ≡ false
+    → differ (xs ++ x ∷ []) ≡ true
 differ_more [] x h e = refl
 differ_more (y ∷ xs) x h e =
     let (here, later) = and_parts (list_all (λ o. not (same_key y o)) xs) (differ xs) h in
@@ -89,21 +94,28 @@ differ_not (y ∷ xs) ys x e = elim (or_cases (same_key y x) (list_any (λ k. sa
 
 -- ---- attributes
 
-is_new-keys : (name : List ℕ) (attributes : List Attribute) → is_new name attributes ≡ list_all (λ o. not (same_key (name, []) o)) (map (λ a. (a.name, [])) attributes)
+is_new-keys : (name : List ℕ) (attributes : List Attribute) → is_new name attributes
+    ≡ list_all (λ o. not (same_key (name, []) o)) (map (λ a. (a.name, [])) attributes)
 is_new-keys name [] = refl
-is_new-keys name (a ∷ attributes) = ap₂ (λ x y. x && y) (ap not (sym (and-true (bytes_eq a.name name)))) (is_new-keys name attributes)
+is_new-keys name (a ∷ attributes) = ap₂ (λ x y. x && y) (ap not (sym (and-true (bytes_eq a.name name))))
+    (is_new-keys name attributes)
 
-pub are_distinct-keys : (attributes : List Attribute) → are_distinct attributes ≡ differ (map (λ a. (a.name, [])) attributes)
+pub are_distinct-keys : (attributes : List Attribute) → are_distinct attributes
+    ≡ differ (map (λ a. (a.name, [])) attributes)
 are_distinct-keys [] = refl
 are_distinct-keys (a ∷ attributes) = ap₂ (λ x y. x && y) (is_new-keys a.name attributes) (are_distinct-keys attributes)
 
-is_new_name-keys : (name : Name) (attrs : List Attr) → is_new_name name attrs ≡ list_all (λ o. not (same_key (name.local, name.space) o)) (map (λ a. (a.name.local, a.name.space)) attrs)
+is_new_name-keys : (name : Name) (attrs : List Attr) → is_new_name name attrs
+    ≡ list_all (λ o. not (same_key (name.local, name.space) o)) (map (λ a. (a.name.local, a.name.space)) attrs)
 is_new_name-keys name [] = refl
-is_new_name-keys name (a ∷ attrs) = ap (λ b. not (bytes_eq a.name.local name.local && bytes_eq a.name.space name.space) && b) (is_new_name-keys name attrs)
+is_new_name-keys name (a ∷ attrs) = ap (λ b. not (bytes_eq a.name.local name.local && bytes_eq a.name.space
+    name.space) && b) (is_new_name-keys name attrs)
 
-pub are_distinct_names-keys : (attrs : List Attr) → are_distinct_names attrs ≡ differ (map (λ a. (a.name.local, a.name.space)) attrs)
+pub are_distinct_names-keys : (attrs : List Attr) → are_distinct_names attrs
+    ≡ differ (map (λ a. (a.name.local, a.name.space)) attrs)
 are_distinct_names-keys [] = refl
-are_distinct_names-keys (a ∷ attrs) = ap₂ (λ x y. x && y) (is_new_name-keys a.name attrs) (are_distinct_names-keys attrs)
+are_distinct_names-keys (a ∷ attrs) = ap₂ (λ x y. x && y) (is_new_name-keys a.name attrs) (are_distinct_names-keys
+    attrs)
 
 -- ---- the keys at places
 
@@ -111,10 +123,14 @@ keys-append : (xs ys : List Lent) → keys_of (xs ++ ys) ≡ keys_of xs ++ keys_
 keys-append [] ys = refl
 keys-append (x ∷ xs) ys = ap (λ (l : List Key). key_of x ∷ l) (keys-append xs ys)
 
-around : (keys : List Lent) (i : ℕ) (d : Lent) → i < length keys → keys_of keys ≡ keys_of (take i keys) ++ key_of (get_or keys i d) ∷ keys_of (drop (i + 1) keys)
-around keys i d h = ap keys_of (sym (take-append-drop i keys) ∙ ap (λ (x : List Lent). take i keys ++ x) (rw add-one (drop-cons keys i d h))) ∙ keys-append (take i keys) (get_or keys i d ∷ drop (i + 1) keys)
+around : (keys : List Lent) (i : ℕ) (d : Lent) → i < length keys → keys_of keys
+    ≡ keys_of (take i keys) ++ key_of (get_or keys i d) ∷ keys_of (drop (i + 1) keys)
+around keys i d h = ap keys_of (sym (take-append-drop i keys)
+    ∙ ap (λ (x : List Lent). take i keys ++ x) (rw add-one (drop-cons keys i d h)))
+    ∙ keys-append (take i keys) (get_or keys i d ∷ drop (i + 1) keys)
 
-keys_more : (keys : List Lent) (i : ℕ) (d : Lent) → i < length keys → keys_of (take (i + 1) keys) ≡ keys_of (take i keys) ++ key_of (get_or keys i d) ∷ []
+keys_more : (keys : List Lent) (i : ℕ) (d : Lent) → i < length keys → keys_of (take (i + 1) keys)
+    ≡ keys_of (take i keys) ++ key_of (get_or keys i d) ∷ []
 keys_more keys i d h = ap keys_of (take_more keys i d h) ∙ keys-snoc (take i keys) (get_or keys i d)
   where
     keys-snoc : (xs : List Lent) (x : Lent) → keys_of (xs ++ x ∷ []) ≡ keys_of xs ++ key_of x ∷ []
@@ -132,27 +148,38 @@ not_isnt true c e f = let x : not true ≡ true = sym e ∙ f in cc
 abbrev Met : (Lent → Bool) → List Key → Type 0
 Met has keys = (q : Lent) → has q ≡ list_any (λ k. same_key k (key_of q)) keys
 
-pub met_before : (keys : List Lent) (i : ℕ) (d : Lent) (has : Lent → Bool) (added : Bool) → i < length keys → Met has (keys_of (take i keys)) → added ≡ not (has (get_or keys i d)) → added ≡ false → false ≡ differ (keys_of keys)
+pub met_before : (keys : List Lent) (i : ℕ) (d : Lent) (has : Lent → Bool) (added : Bool) → i < length keys
+    → Met has (keys_of (take i keys)) → added ≡ not (has (get_or keys i d)) → added ≡ false → false
+    ≡ differ (keys_of keys)
 met_before keys i d has added h met e f =
-    sym (ap differ (around keys i d h) ∙ differ_not (keys_of (take i keys)) (keys_of (drop (i + 1) keys)) (key_of (get_or keys i d)) (sym (met (get_or keys i d)) ∙ not_is (has (get_or keys i d)) added e f))
+    sym (ap differ (around keys i d h) ∙ differ_not (keys_of (take i keys)) (keys_of (drop (i + 1) keys)) (key_of
+        (get_or keys i d)) (sym (met (get_or keys i d)) ∙ not_is (has (get_or keys i d)) added e f))
 
-pub apart_more : (keys : List Lent) (i : ℕ) (d : Lent) (has : Lent → Bool) (added : Bool) → i < length keys → Met has (keys_of (take i keys)) → differ (keys_of (take i keys)) ≡ true → added ≡ not (has (get_or keys i d)) → added ≡ true
+pub apart_more : (keys : List Lent) (i : ℕ) (d : Lent) (has : Lent → Bool) (added : Bool) → i < length keys
+    → Met has (keys_of (take i keys)) → differ (keys_of (take i keys)) ≡ true → added ≡ not (has (get_or keys i d))
+    → added ≡ true
     → differ (keys_of (take (i + 1) keys)) ≡ true
 apart_more keys i d has added h met apart e f =
-    ap differ (keys_more keys i d h) ∙ differ_more (keys_of (take i keys)) (key_of (get_or keys i d)) apart (sym (met (get_or keys i d)) ∙ not_isnt (has (get_or keys i d)) added e f)
+    ap differ (keys_more keys i d h) ∙ differ_more (keys_of (take i keys)) (key_of (get_or keys i d)) apart (sym
+        (met (get_or keys i d)) ∙ not_isnt (has (get_or keys i d)) added e f)
 
 or_cond : (b c : Bool) → cond b true c ≡ (b || c)
 or_cond true c = refl
 or_cond false c = refl
 
-pub met_more : (keys : List Lent) (i : ℕ) (d : Lent) (has new : Lent → Bool) → i < length keys → Met has (keys_of (take i keys))
-    → ((q : Lent) → new q ≡ cond (is_eq (lent_cmp (get_or keys i d) q)) true (has q)) → Met new (keys_of (take (i + 1) keys))
+pub met_more : (keys : List Lent) (i : ℕ) (d : Lent) (has new : Lent → Bool) → i < length keys
+    → Met has (keys_of (take i keys))
+    → ((q : Lent) → new q ≡ cond (is_eq (lent_cmp (get_or keys i d) q)) true (has q))
+        → Met new (keys_of (take (i + 1) keys))
 met_more keys i d has new h met updates q =
     let x = get_or keys i d in
-    updates q ∙ ap₂ (λ b c. cond b true c) (cmp_same x q) (met q) ∙ or_cond (same_key (key_of x) (key_of q)) (list_any (λ k. same_key k (key_of q)) (keys_of (take i keys)))
-    ∙ sym (any_more (λ k. same_key k (key_of q)) (keys_of (take i keys)) (key_of x)) ∙ ap (list_any (λ k. same_key k (key_of q))) (sym (keys_more keys i d h))
+    updates q ∙ ap₂ (λ b c. cond b true c) (cmp_same x q) (met q)
+        ∙ or_cond (same_key (key_of x) (key_of q)) (list_any (λ k. same_key k (key_of q)) (keys_of (take i keys)))
+    ∙ sym (any_more (λ k. same_key k (key_of q)) (keys_of (take i keys)) (key_of x))
+        ∙ ap (list_any (λ k. same_key k (key_of q))) (sym (keys_more keys i d h))
 
-pub same_answer : {E : Type 0} (r : Result Bool E) (x y : Bool) → IfOk r (λ answer. answer ≡ x) → x ≡ y → IfOk r (λ answer. answer ≡ y)
+pub same_answer : {E : Type 0} (r : Result Bool E) (x y : Bool) → IfOk r (λ answer. answer ≡ x) → x ≡ y
+    → IfOk r (λ answer. answer ≡ y)
 same_answer (Ok a) x y h e = h ∙ e
 same_answer (Err k) x y h e = tt
 

@@ -32,7 +32,8 @@ abbrev Layer : Type 0
 Layer = Part-F Part CodeElement CodeParts
 
 abbrev seen_layer : Layer → Parts → Parts
-seen_layer l = part_step (map-Part Part CodeElement CodeParts (Parts → Parts) Element Parts part_view element_view (λ p. parts_view p.items.items) l)
+seen_layer l = part_step (map-Part Part CodeElement CodeParts (Parts
+    → Parts) Element Parts part_view element_view (λ p. parts_view p.items.items) l)
 
 part_out : (x : Part) → part_view x ≡ seen_layer (out-Part x)
 part_out x = fold_out-Part (Parts → Parts) Element Parts part_step element_step parts_step x
@@ -42,55 +43,70 @@ layer_join (TheOpen.Text x) a b = refl
 layer_join (TheOpen.Child x) a b = refl
 
 part_join : (x : Part) (a b : Parts) → part_view x (join a b) ≡ join (part_view x a) b
-part_join x a b = ap (λ (f : Parts → Parts). f (join a b)) (part_out x) ∙ layer_join (out-Part x) a b ∙ ap (λ (f : Parts → Parts). join (f a) b) (sym (part_out x))
+part_join x a b = ap (λ (f : Parts → Parts). f (join a b)) (part_out x) ∙ layer_join (out-Part x) a b
+    ∙ ap (λ (f : Parts → Parts). join (f a) b) (sym (part_out x))
 
 part_text : (x : List ℕ) → part_view (Text x) ≡ text x
-part_text x = ap part_view (sym (rolls-Text x)) ∙ fold-roll-Part (Parts → Parts) Element Parts part_step element_step parts_step (TheOpen.Text x)
+part_text x = ap part_view (sym (rolls-Text x)) ∙ fold-roll-Part (Parts
+    → Parts) Element Parts part_step element_step parts_step (TheOpen.Text x)
 
 part_child : (e : CodeElement) → part_view (Child e) ≡ child (element_view e)
-part_child e = ap part_view (sym (rolls-Child e)) ∙ fold-roll-Part (Parts → Parts) Element Parts part_step element_step parts_step (TheOpen.Child e)
+part_child e = ap part_view (sym (rolls-Child e)) ∙ fold-roll-Part (Parts
+    → Parts) Element Parts part_step element_step parts_step (TheOpen.Child e)
 
 parts-push : (xs : List Part) (x : Part) → parts_view (xs ++ x ∷ []) ≡ join (parts_view xs) (part_view x none)
 parts-push [] x = refl
 parts-push (y ∷ xs) x = ap (part_view y) (parts-push xs x) ∙ part_join y (parts_view xs) (part_view x none)
 
-pub parts-push_text : (xs : List Part) (x : List ℕ) → parts_view (xs ++ Text x ∷ []) ≡ join (parts_view xs) (text x none)
+pub parts-push_text : (xs : List Part) (x : List ℕ) → parts_view (xs ++ Text x ∷ [])
+    ≡ join (parts_view xs) (text x none)
 parts-push_text xs x = parts-push xs (Text x) ∙ ap (λ (f : Parts → Parts). join (parts_view xs) (f none)) (part_text x)
 
-pub parts-push_child : (xs : List Part) (e : CodeElement) → parts_view (xs ++ Child e ∷ []) ≡ join (parts_view xs) (child (element_view e) none)
-parts-push_child xs e = parts-push xs (Child e) ∙ ap (λ (f : Parts → Parts). join (parts_view xs) (f none)) (part_child e)
+pub parts-push_child : (xs : List Part) (e : CodeElement) → parts_view (xs ++ Child e ∷ [])
+    ≡ join (parts_view xs) (child (element_view e) none)
+parts-push_child xs e = parts-push xs (Child e) ∙ ap (λ (f : Parts
+    → Parts). join (parts_view xs) (f none)) (part_child e)
 
 -- ---- one part more
 
 written_text : (x : List ℕ) → written_part (WrittenText x) ≡ written.text x
-written_text x = ap written_part (sym (rolls-WrittenText x)) ∙ fold-roll-WrittenPart (written.Parts → written.Parts) written.Element written_part_step written_element_step (TheWrittenOpen.Text x)
+written_text x = ap written_part (sym (rolls-WrittenText x)) ∙ fold-roll-WrittenPart (written.Parts
+    → written.Parts) written.Element written_part_step written_element_step (TheWrittenOpen.Text x)
 
 written_child : (e : WrittenElement) → written_part (WrittenChild e) ≡ written.child (written_view e)
-written_child e = ap written_part (sym (rolls-WrittenChild e)) ∙ fold-roll-WrittenPart (written.Parts → written.Parts) written.Element written_part_step written_element_step (TheWrittenOpen.Child e)
+written_child e = ap written_part (sym (rolls-WrittenChild e)) ∙ fold-roll-WrittenPart (written.Parts
+    → written.Parts) written.Element written_part_step written_element_step (TheWrittenOpen.Child e)
 
-text_joined : (x : List ℕ) (old : Parts) (o : Option Parts) → option_map (join old) (option_map (text x) o) ≡ option_map (join (join old (text x none))) o
+text_joined : (x : List ℕ) (old : Parts) (o : Option Parts) → option_map (join old) (option_map (text x) o)
+    ≡ option_map (join (join old (text x none))) o
 text_joined x old None = refl
 text_joined x old (Some ps) = ap (λ (p : Parts). Some p) (sym (join-assoc old (text x none) ps))
 
-child_joined : (u : Element) (old : Parts) (o : Option Parts) → option_map (join old) (option_map (child u) o) ≡ option_map (join (join old (child u none))) o
+child_joined : (u : Element) (old : Parts) (o : Option Parts) → option_map (join old) (option_map (child u) o)
+    ≡ option_map (join (join old (child u none))) o
 child_joined u old None = refl
 child_joined u old (Some ps) = ap (λ (p : Parts). Some p) (sym (join-assoc old (child u none) ps))
 
 -- a text
-pub Resolves-text : (scope : List Binding) (x : List ℕ) (old new : Parts) → new ≡ join old (text x none) → Resolves scope (written_part (WrittenText x)) old new true
+pub Resolves-text : (scope : List Binding) (x : List ℕ) (old new : Parts) → new ≡ join old (text x none)
+    → Resolves scope (written_part (WrittenText x)) old new true
 Resolves-text scope x old new e rest =
     ap (λ (f : written.Parts → written.Parts). option_map (join old) (resolve_parts scope (f rest))) (written_text x)
-    ∙ text_joined x old (resolve_parts scope rest) ∙ ap (λ (k : Parts). option_map (join k) (resolve_parts scope rest)) (sym e)
+    ∙ text_joined x old (resolve_parts scope rest) ∙ ap (λ (k : Parts). option_map (join k) (resolve_parts scope
+        rest)) (sym e)
 
 -- an element
-pub Resolves-child : (scope : List Binding) (e : WrittenElement) (u : Element) (old new : Parts) → Some u ≡ resolve scope (written_view e) → new ≡ join old (child u none)
+pub Resolves-child : (scope : List Binding) (e : WrittenElement) (u : Element) (old new : Parts) → Some u
+    ≡ resolve scope (written_view e) → new ≡ join old (child u none)
     → Resolves scope (written_part (WrittenChild e)) old new true
 Resolves-child scope e u old new r n rest =
     ap (λ (f : written.Parts → written.Parts). option_map (join old) (resolve_parts scope (f rest))) (written_child e)
     ∙ ap (λ (o : Option Element). option_map (join old) (joined o (resolve_parts scope rest))) (sym r)
-    ∙ child_joined u old (resolve_parts scope rest) ∙ ap (λ (k : Parts). option_map (join k) (resolve_parts scope rest)) (sym n)
+    ∙ child_joined u old (resolve_parts scope rest) ∙ ap (λ (k : Parts). option_map (join k) (resolve_parts scope
+        rest)) (sym n)
 
-pub Resolves-none : (scope : List Binding) (e : WrittenElement) (old new : Parts) → None ≡ resolve scope (written_view e) → Resolves scope (written_part (WrittenChild e)) old new false
+pub Resolves-none : (scope : List Binding) (e : WrittenElement) (old new : Parts) → None
+    ≡ resolve scope (written_view e) → Resolves scope (written_part (WrittenChild e)) old new false
 Resolves-none scope e old new r rest =
     ap (λ (f : written.Parts → written.Parts). option_map (join old) (resolve_parts scope (f rest))) (written_child e)
     ∙ ap (λ (o : Option Element). option_map (join old) (joined o (resolve_parts scope rest))) (sym r)
@@ -103,22 +119,31 @@ drop_past (suc n) (x ∷ xs) h = drop_past n xs (omega arith)
 
 -- no part is left
 pub none_left : (scope : List Binding) (parts : List WrittenPart) (n : ℕ) (made : Parts) → length parts ≤ n
-    → option_map (join made) (resolve_parts scope (written_parts (drop n parts))) ≡ resolve_parts scope (written_parts parts) → Some made ≡ resolve_parts scope (written_parts parts)
+    → option_map (join made) (resolve_parts scope (written_parts (drop n parts)))
+        ≡ resolve_parts scope (written_parts parts) → Some made ≡ resolve_parts scope (written_parts parts)
 none_left scope parts n made h e =
     ap (λ (p : Parts). Some p) (sym (join-none made))
-    ∙ ap (λ (xs : List WrittenPart). option_map (join made) (resolve_parts scope (written_parts xs))) (sym (drop_past n parts h)) ∙ e
+    ∙ ap (λ (xs : List WrittenPart). option_map (join made) (resolve_parts scope (written_parts xs))) (sym
+        (drop_past n parts h)) ∙ e
 
 -- ---- parts without declarations
 
 pub Strips-text : (x : List ℕ) (old new : Parts) → new ≡ join old (text x none) → Strips (part_view (Text x)) old new
 Strips-text x old new e rest =
-    ap (λ (f : Parts → Parts). join old (parts_without (f rest))) (part_text x) ∙ sym (join-assoc old (text x none) (parts_without rest)) ∙ ap (λ (k : Parts). join k (parts_without rest)) (sym e)
+    ap (λ (f : Parts → Parts). join old (parts_without (f rest))) (part_text x)
+        ∙ sym (join-assoc old (text x none) (parts_without rest))
+        ∙ ap (λ (k : Parts). join k (parts_without rest)) (sym e)
 
-pub Strips-child : (e : CodeElement) (u : Element) (old new : Parts) → u ≡ without_declarations (element_view e) → new ≡ join old (child u none) → Strips (part_view (Child e)) old new
+pub Strips-child : (e : CodeElement) (u : Element) (old new : Parts) → u ≡ without_declarations (element_view e)
+    → new ≡ join old (child u none) → Strips (part_view (Child e)) old new
 Strips-child e u old new s n rest =
-    ap (λ (f : Parts → Parts). join old (parts_without (f rest))) (part_child e) ∙ ap (λ (v : Element). join old (child v (parts_without rest))) (sym s)
+    ap (λ (f : Parts → Parts). join old (parts_without (f rest))) (part_child e)
+        ∙ ap (λ (v : Element). join old (child v (parts_without rest))) (sym s)
     ∙ sym (join-assoc old (child u none) (parts_without rest)) ∙ ap (λ (k : Parts). join k (parts_without rest)) (sym n)
 
-pub stripped_all : (parts : List Part) (n : ℕ) (made : Parts) → length parts ≤ n → join made (parts_without (parts_view (drop n parts))) ≡ parts_without (parts_view parts) → made ≡ parts_without (parts_view parts)
+pub stripped_all : (parts : List Part) (n : ℕ) (made : Parts) → length parts ≤ n
+    → join made (parts_without (parts_view (drop n parts))) ≡ parts_without (parts_view parts) → made
+    ≡ parts_without (parts_view parts)
 stripped_all parts n made h e =
-    sym (join-none made) ∙ ap (λ (xs : List Part). join made (parts_without (parts_view xs))) (sym (drop_past n parts h)) ∙ e
+    sym (join-none made) ∙ ap (λ (xs : List Part). join made (parts_without (parts_view xs))) (sym (drop_past n
+        parts h)) ∙ e

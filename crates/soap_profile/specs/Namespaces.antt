@@ -36,7 +36,8 @@ may_bind prefix space =
 abbrev pub with_declaration : Option (List ℕ) → List ℕ → Option (List Binding) → Option (List Binding)
 with_declaration None space later = later
 with_declaration (Some prefix) space later =
-    if may_bind prefix space then option_map (λ bindings. record { prefix = prefix; space = space } ∷ bindings) later else None
+    if may_bind prefix space then option_map (λ bindings. record { prefix = prefix; space = space } ∷ bindings)
+        later else None
 
 -- the declarations among attributes, in order; none where one may not stand
 abbrev pub declarations : List Attribute → Option (List Binding)
@@ -84,7 +85,8 @@ unless_declared (Some prefix) name value later = later
 -- the attributes that are no declarations, with expanded names
 abbrev pub expanded : List Binding → List Attribute → Option (List Attr)
 expanded scope [] = Some []
-expanded scope (a ∷ attributes) = unless_declared (declared_prefix a.name) (attribute_name scope a.name) a.value (expanded scope attributes)
+expanded scope (a ∷ attributes) = unless_declared (declared_prefix a.name) (attribute_name scope a.name) a.value
+    (expanded scope attributes)
 
 -- no name stands twice among attributes as they are written (XML 1.0, 3.1), and none as it is expanded (6.3)
 abbrev pub is_new : List ℕ → List Attribute → Bool
@@ -118,14 +120,16 @@ resolved_with decls (Some name) (Some attrs) =
 
 -- with these declarations, within these bindings
 abbrev pub tag_within : List Binding → List Binding → List ℕ → List Attribute → Option Resolved
-tag_within decls scope name attributes = resolved_with decls (element_name (decls ++ scope) name) (expanded (decls ++ scope) attributes)
+tag_within decls scope name attributes = resolved_with decls (element_name (decls ++ scope) name) (expanded (decls
+    ++ scope) attributes)
 
 abbrev pub declaring : Option (List Binding) → List Binding → List ℕ → List Attribute → Option Resolved
 declaring None scope name attributes = None
 declaring (Some decls) scope name attributes = tag_within decls scope name attributes
 
 abbrev pub tag_of : List Binding → List ℕ → List Attribute → Option Resolved
-tag_of scope name attributes = if are_distinct attributes then declaring (declarations attributes) scope name attributes else None
+tag_of scope name attributes = if are_distinct attributes then declaring (declarations attributes) scope name
+    attributes else None
 
 abbrev pub joined : Option Element → Option Parts → Option Parts
 joined None parts = None

@@ -7,4 +7,5 @@ pub returns : goal.returns
 returns c =
     let word = c.args.word.now in
     let bytes = c.args.bytes.now in
-    after_cases word bytes c.strip_prefix.result (strip_prefix_is Decides-eqb bytes word c.strip_prefix.result c.strip_prefix.ensures.cases)
+    after_cases word bytes c.strip_prefix.result (strip_prefix_is Decides-eqb bytes word c.strip_prefix.result
+        c.strip_prefix.ensures.cases)

@@ -7,9 +7,11 @@ use Rattle.soap_document.proofs.document.read_document.Goals as goal
 pub returns-clause-found : goal.returns-clause-found
 returns-clause-found c =
     let bytes = c.args.bytes.now in
-    found_root bytes (seen c.feed.new.self) c.finish.result c.finish.ensures (c.in_ok-feed.ensures ∙ ap (λ s. run s bytes) c.new-reader.ensures)
+    found_root bytes (seen c.feed.new.self) c.finish.result c.finish.ensures (c.in_ok-feed.ensures
+        ∙ ap (λ s. run s bytes) c.new-reader.ensures)
 
 pub returns-clause-none : goal.returns-clause-none
 returns-clause-none c =
     let bytes = c.args.bytes.now in
-    no_root bytes (seen c.feed.new.self) c.finish.result c.finish.ensures (c.in_ok-feed.ensures ∙ ap (λ s. run s bytes) c.new-reader.ensures)
+    no_root bytes (seen c.feed.new.self) c.finish.result c.finish.ensures (c.in_ok-feed.ensures
+        ∙ ap (λ s. run s bytes) c.new-reader.ensures)

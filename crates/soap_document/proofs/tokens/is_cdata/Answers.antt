@@ -8,4 +8,5 @@ use Rattle.soap_document.proofs.tokens.is_cdata.Goals as goal
 pub returns : goal.returns
 returns c =
     let bytes = c.args.bytes.now in
-    same_test (IsCdata bytes) c.is_cdata.result (is_cdata bytes) c.is_cdata.ensures.0 c.is_cdata.ensures.1 (cdata_from bytes) (cdata_passes bytes)
+    same_test (IsCdata bytes) c.is_cdata.result (is_cdata bytes) c.is_cdata.ensures.0 c.is_cdata.ensures.1
+        (cdata_from bytes) (cdata_passes bytes)

@@ -8,4 +8,5 @@ use Rattle.soap_document.proofs.tokens.is_comment.Goals as goal
 pub returns : goal.returns
 returns c =
     let bytes = c.args.bytes.now in
-    same_test (IsComment bytes) c.is_comment.result (is_comment bytes) c.is_comment.ensures.0 c.is_comment.ensures.1 (comment_from bytes) (comment_passes bytes)
+    same_test (IsComment bytes) c.is_comment.result (is_comment bytes) c.is_comment.ensures.0 c.is_comment.ensures.1
+        (comment_from bytes) (comment_passes bytes)

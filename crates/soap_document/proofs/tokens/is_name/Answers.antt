@@ -7,4 +7,5 @@ use Rattle.soap_document.proofs.tokens.is_name.Goals as goal
 pub returns : goal.returns
 returns c =
     let bytes = c.args.bytes.now in
-    same_test (IsName bytes) c.is_name.result (is_name bytes) c.is_name.ensures.0 c.is_name.ensures.1 (IsName-from bytes) (name_passes bytes)
+    same_test (IsName bytes) c.is_name.result (is_name bytes) c.is_name.ensures.0 c.is_name.ensures.1 (IsName-from
+        bytes) (name_passes bytes)

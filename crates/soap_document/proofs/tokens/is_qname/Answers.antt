@@ -18,4 +18,5 @@ returns-else-is_name c =
     ∙ sym (qname_some c.args.bytes.now c.cut.result (c.in-Some.prefix, c.in-Some.name) c.cut.ensures c.in-Some.is)
 
 pub returns-in-None : goal.returns-in-None
-returns-in-None c = c.is_name-in-None.ensures ∙ sym (qname_none c.args.bytes.now c.cut.result c.cut.ensures c.in-None.is)
+returns-in-None c = c.is_name-in-None.ensures ∙ sym (qname_none c.args.bytes.now c.cut.result c.cut.ensures
+    c.in-None.is)

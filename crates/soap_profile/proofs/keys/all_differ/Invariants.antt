@@ -8,6 +8,7 @@ use Rattle.soap_profile.proofs.keys.all_differ.Given as goal
 -- the set has the keys so far, which differ
 abbrev pub invariant-loop-key : goal.invariant-loop-key
 invariant-loop-key l = record {
-  has : (q : Lent) → contains lent_cmp l.met q ≡ list_any (λ k. same_key k (key_of q)) (keys_of (take l.key-index l.keys));
+  has : (q : Lent) → contains lent_cmp l.met q ≡ list_any (λ k. same_key k (key_of q)) (keys_of (take l.key-index
+      l.keys));
   apart : differ (keys_of (take l.key-index l.keys)) ≡ true;
 }

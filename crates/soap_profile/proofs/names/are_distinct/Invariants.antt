@@ -4,4 +4,5 @@ use Rattle.soap_profile.specs.Keys.{keys_of}
 use Rattle.soap_profile.proofs.names.are_distinct.Given as goal
 
 abbrev pub invariant-loop-attribute : goal.invariant-loop-attribute
-invariant-loop-attribute l = keys_of l.keys.items ≡ map (λ (a : Attribute). (a.name, [])) (take l.attribute-index l.attributes)
+invariant-loop-attribute l = keys_of l.keys.items ≡ map (λ (a : Attribute). (a.name, [])) (take l.attribute-index
+    l.attributes)

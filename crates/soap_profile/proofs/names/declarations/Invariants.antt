@@ -6,4 +6,5 @@ use Rattle.soap_profile.proofs.names.declarations.Given as goal
 -- the declarations so far and those of what is left
 abbrev pub invariant-loop-attribute : goal.invariant-loop-attribute
 invariant-loop-attribute l =
-    option_map (λ (later : List Binding). l.bindings ++ later) (declarations (drop l.attribute-index l.attributes)) ≡ declarations l.attributes
+    option_map (λ (later : List Binding). l.bindings ++ later) (declarations (drop l.attribute-index l.attributes))
+        ≡ declarations l.attributes
