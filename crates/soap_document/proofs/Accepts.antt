@@ -40,11 +40,20 @@ Unended s = (at : ℕ) (token : List ℕ) → root_of (record s { at = at; token
 next_at : (s : State) (c : ℕ) (bytes : List ℕ) (u : Element) (t : Bool) → stops s.mode s.quote c ≡ t
     → Accepts s (c ∷ bytes) u
     → ((t ≡ true) × Accepts (counted (finish s.mode s c)) bytes u) ⊎ ((t
-        ≡ false) × Accepts (record s { at = s.at + 1; token = s.token ++ c ∷ [] }) bytes u)
-next_at s c bytes u true e h = inl (refl, subst (λ t. Accepts (counted (cond t (finish s.mode s c) (record s { token
-    = s.token ++ c ∷ [] }))) bytes u) e h)
-next_at s c bytes u false e h = inr (refl, subst (λ t. Accepts (counted (cond t (finish s.mode s c) (record s {
-    token = s.token ++ c ∷ [] }))) bytes u) e h)
+    ≡ false) × Accepts (record s { at = s.at + 1; token = s.token ++ c ∷ [] }) bytes u)
+next_at s c bytes u true e h = inl (
+  refl,
+  subst (λ t. Accepts (counted (cond t (finish s.mode s c) (record s {
+    token
+        = s.token ++ c ∷ [];
+  }))) bytes u) e h,
+)
+next_at s c bytes u false e h = inr (
+  refl,
+  subst (λ t. Accepts (counted (cond t (finish s.mode s c) (record s {
+    token = s.token ++ c ∷ [];
+  }))) bytes u) e h,
+)
 
 none_some : {u : Element} (o : Option Element) → o ≡ None → o ≡ Some u → ⊥
 none_some o e h = cc

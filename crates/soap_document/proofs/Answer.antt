@@ -36,8 +36,11 @@ pub before_first : (p : ℕ → Bool) (bytes : List ℕ) (n : ℕ) → n ≤ len
 before_first p [] zero h f = tt
 before_first p [] (suc n) h f = absurd (omega arith)
 before_first p (c ∷ bytes) zero h f = tt
-before_first p (c ∷ bytes) (suc n) h f = (false_from_ne_true (p c) (λ e. f 0 (omega arith) e), before_first p bytes
-    n (omega arith) (λ k less e. f (suc k) (omega arith) e))
+before_first p (c ∷ bytes) (suc n) h f = (
+  false_from_ne_true (p c) (λ e. f 0 (omega arith) e),
+  before_first p bytes
+      n (omega arith) (λ k less e. f (suc k) (omega arith) e),
+)
 
 pub all_fail : (p : ℕ → Bool) (bytes : List ℕ) → IsFirstByte p bytes None → AllByRecursion (λ c. p c ≡ false) bytes
 all_fail p bytes none = rw (sym (take_whole bytes)) (before_first p bytes (length bytes) (omega arith) (λ k less e.
@@ -63,7 +66,7 @@ pub cut_first : (k : ℕ) (bytes : List ℕ) (n : ℕ) → IsFirstByte (is_byte 
 cut_first k bytes n found =
     let is : get_or bytes n 0 ≡ k = eqb-true (get_or bytes n 0) k found.1 in
     ap (cut k) (around (is_byte k) bytes n found ∙ ap (λ c. take n bytes ++ c ∷ drop (n + 1) bytes) is)
-        ∙ cut-append k (take n bytes) (drop (n + 1) bytes) (front_fails (is_byte k) bytes n found)
+    ∙ cut-append k (take n bytes) (drop (n + 1) bytes) (front_fails (is_byte k) bytes n found)
 
 pub cut_nowhere : (k : ℕ) (bytes : List ℕ) → IsFirstByte (is_byte k) bytes None → cut k bytes ≡ None
 cut_nowhere k bytes none = cut_none k bytes (all_fail (is_byte k) bytes none)
@@ -101,15 +104,18 @@ end_none name token h = sym (false_from_ne_true (is_end name token) (λ e. let r
 -- ---- feeding
 
 pub feed_step : (s : State) (bytes : List ℕ) (n : ℕ) → IsFirstByte (stops s.mode s.quote) bytes (Some n)
-    → run s bytes ≡ run (counted (finish s.mode (record s { at = s.at + length (take n bytes); token = s.token ++
-        take n bytes }) (get_or bytes n 0))) (drop (n + 1) bytes)
+    → run s bytes ≡ run (counted (finish s.mode (record s {
+      at = s.at + length (take n bytes);
+      token = s.token ++
+          take n bytes;
+    }) (get_or bytes n 0))) (drop (n + 1) bytes)
 feed_step s bytes n found =
     let c = get_or bytes n 0 in
     let next = record s { at = s.at + length (take n bytes); token = s.token ++ take n bytes } in
     ap (run s) (around (stops s.mode s.quote) bytes n found)
     ∙ kept s (take n bytes) s.at (front_fails (stops s.mode s.quote) bytes n found) (c ∷ drop (n + 1) bytes)
     ∙ ap (λ t. run (counted (cond t (finish s.mode next c) (record next { token = next.token ++ c ∷ [] }))) (drop (n
-        + 1) bytes)) found.1
+    + 1) bytes)) found.1
 
 pub feed_end : (s : State) (bytes : List ℕ) → IsFirstByte (stops s.mode s.quote) bytes None
     → record s { at = s.at + length bytes; token = s.token ++ bytes } ≡ run s bytes
@@ -131,7 +137,7 @@ pub cut_answer : (k : ℕ) (bytes : List ℕ) (r : Option ℕ) → IsFirstByte (
     → Some (take n bytes, take (length bytes - (n + 1)) (drop (n + 1) bytes)) ≡ cut k bytes
 cut_answer k bytes r found n e =
     ap (λ (x : List ℕ). Some (take n bytes, x)) (take_rest (n + 1) bytes)
-        ∙ sym (cut_first k bytes n (subst (λ (o : Option ℕ). IsFirstByte (is_byte k) bytes o) e found))
+    ∙ sym (cut_first k bytes n (subst (λ (o : Option ℕ). IsFirstByte (is_byte k) bytes o) e found))
 
 pub cut_no_answer : (k : ℕ) (bytes : List ℕ) (r : Option ℕ) → IsFirstByte (is_byte k) bytes r → r ≡ None → None
     ≡ cut k bytes
@@ -154,8 +160,10 @@ pub qname_some : (bytes : List ℕ) (r : Option (Bor (List ℕ) × Bor (List ℕ
     → is_qname bytes ≡ (is_name p.0.now && is_name p.1.now)
 unfolding is_qname
 qname_some bytes r p e f = let g : cut 58 bytes ≡ Some (p.0.now, p.1.now) = sym e
-    ∙ ap (λ (o : Option (Bor (List ℕ) × Bor (List ℕ))). option_map (λ (q : Bor (List ℕ) × Bor (List ℕ)). (q.0.now,
-    q.1.now)) o) f in rw (is_qname, g) refl
+    ∙ ap (λ (o : Option (Bor (List ℕ) × Bor (List ℕ))). option_map (λ (q : Bor (List ℕ) × Bor (List ℕ)). (
+      q.0.now,
+      q.1.now,
+    )) o) f in rw (is_qname, g) refl
 
 pub qname_none : (bytes : List ℕ) (r : Option (Bor (List ℕ) × Bor (List ℕ)))
     → option_map (λ (q : Bor (List ℕ) × Bor (List ℕ)). (q.0.now, q.1.now)) r ≡ cut 58 bytes → r ≡ None

@@ -50,7 +50,7 @@ valued_takes {bytes = bytes} q left right rest l r g h =
     let f = quoted_first q rest in
     rw (valued, skip-append left 61 (right ++ (bytes ++ rest)) l refl)
     (ap quoted (ap (λ (x : List ℕ). skip (right ++ x)) f.2 ∙ skip-append right f.0 f.1 r f.3 ∙ sym f.2)
-        ∙ quoted-append q rest g h)
+    ∙ quoted-append q rest g h)
 
 setting_spread : (space name left right bytes rest : List ℕ) → (space ++ (name ++ (left ++ (codes "=" ++ (right ++
     bytes))))) ++ rest ≡ space ++ (name ++ (left ++ (61 ∷ (right ++ (bytes ++ rest)))))
@@ -61,15 +61,15 @@ spaced_setting : (space name tail : List ℕ) → IsSpace space → IsWord name 
 spaced_setting [] name tail s w = absurd (s.some refl)
 spaced_setting (c ∷ space) name tail s w =
     rw s.white.0 (ap valued (ap (after name) (ap (λ (n : List ℕ). skip (space ++ (n ++ tail))) w.is
-        ∙ skip-append space w.first (w.others ++ tail) s.white.1 w.dark ∙ ap (λ (n : List ℕ). n ++ tail) (sym w.is))
-        ∙ after-append name tail))
+    ∙ skip-append space w.first (w.others ++ tail) s.white.1 w.dark ∙ ap (λ (n : List ℕ). n ++ tail) (sym w.is))
+    ∙ after-append name tail))
 
 setting_takes : {name value bytes : List ℕ} → IsSetting name value bytes → (rest : List ℕ) → IsWord name
     → NoByte 34 value → NoByte 39 value → setting name (bytes ++ rest) ≡ Some (value, rest)
 setting_takes {name} (is_setting space left right bytes s l r q) rest w g h =
     ap (setting name) (setting_spread space name left right bytes rest)
-        ∙ spaced_setting space name (left ++ (61 ∷ (right ++ (bytes ++ rest)))) s w
-        ∙ valued_takes q left right rest l r g h
+    ∙ spaced_setting space name (left ++ (61 ∷ (right ++ (bytes ++ rest)))) s w
+    ∙ valued_takes q left right rest l r g h
 
 other_setting : (name space : List ℕ) (b : ℕ) (rest : List ℕ) → IsWhite space → is_space b ≡ false
     → begins name (b ∷ rest) ≡ false → setting name (space ++ b ∷ rest) ≡ None
@@ -90,21 +90,32 @@ version_word = record { first = 118; others = codes "ersion"; is = refl; dark = 
 
 standalone_passes : {bytes : List ℕ} → IsStandalone bytes → (space : List ℕ) → IsWhite space
     → stands_alone (bytes ++ (space ++ codes "?")) ≡ true
-standalone_passes no_standalone space w = rw (stands_alone, other_setting (codes "standalone") space 63 [] w refl
-    refl) (ends_passes space w)
+standalone_passes no_standalone space w = rw (
+  stands_alone,
+  other_setting (codes "standalone") space 63 [] w refl
+      refl,
+) (ends_passes space w)
 standalone_passes (yes bytes s) space w =
-    rw (stands_alone, setting_takes s (space ++ codes "?") standalone_word (refl, (refl, (refl, tt))) (refl, (refl,
-        (refl, tt)))) (ends_passes space w)
+    rw (
+      stands_alone,
+      setting_takes s (space ++ codes "?") standalone_word (refl, (refl, (refl, tt))) (
+        refl,
+        (
+          refl,
+          (refl, tt),
+        ),
+      ),
+    ) (ends_passes space w)
 standalone_passes (no bytes s) space w =
     rw (stands_alone, setting_takes s (space ++ codes "?") standalone_word (refl, (refl, tt)) (refl, (refl, tt)))
-        (ends_passes space w)
+    (ends_passes space w)
 
 no_setting : {value bytes : List ℕ} → IsSetting (codes "standalone") value bytes → (rest : List ℕ)
     → setting (codes "encoding") (bytes ++ rest) ≡ None
 no_setting (is_setting space left right bytes s l r q) rest =
     ap (setting (codes "encoding")) (setting_spread space (codes "standalone") left right bytes rest)
     ∙ other_setting (codes "encoding") space 115 (codes "tandalone" ++ (left ++ (61 ∷ (right ++ (bytes ++ rest)))))
-        s.white refl refl
+    s.white refl refl
 
 no_encoding_before : {bytes : List ℕ} → IsStandalone bytes → (space : List ℕ) → IsWhite space
     → setting (codes "encoding") (bytes ++ (space ++ codes "?")) ≡ None
@@ -119,9 +130,11 @@ lower_lacks k fixed [] lower e h = tt
 lower_lacks k fixed (c ∷ value) [] e h = cc
 lower_lacks k fixed (c ∷ value) (d ∷ lower) e h =
     let head : to_ascii_lowercase c ≡ d = cc in
-    let tail : str_to_ascii_lowercase value ≡ lower = cc in
-    (ne_eqb c k (λ same. true≢false (sym (eq-eqb d k (sym head ∙ ap to_ascii_lowercase same ∙ fixed))
-        ∙ h.0)), lower_lacks k fixed value lower tail h.1)
+    let tail : str_to_ascii_lowercase value ≡ lower = cc in (
+      ne_eqb c k (λ same. true≢false (sym (eq-eqb d k (sym head ∙ ap to_ascii_lowercase same ∙ fixed))
+          ∙ h.0)),
+      lower_lacks k fixed value lower tail h.1,
+    )
 
 encoding_passes : {bytes more : List ℕ} → IsEncoding bytes → IsStandalone more → (space : List ℕ) → IsWhite space
     → is_encoded (bytes ++ (more ++ (space ++ codes "?"))) ≡ true
@@ -141,7 +154,7 @@ pub declaration_test : {version encoding standalone : List ℕ} → IsSetting (c
 unfolding is_declaration
 declaration_test {encoding = encoding} {standalone = standalone} v e s space w =
     rw (setting_takes v (encoding ++ (standalone ++ (space ++ codes "?"))) version_word (refl, (refl, (refl, tt)))
-        (refl, (refl, (refl, tt)))) (encoding_passes e s space w)
+    (refl, (refl, (refl, tt)))) (encoding_passes e s space w)
 
 -- ---- no byte of it ends the token
 
@@ -174,10 +187,68 @@ encoding_open (utf8 value bytes lower s) =
 
 standalone_open : {bytes : List ℕ} → IsStandalone bytes → Open bytes
 standalone_open no_standalone = tt
-standalone_open (yes bytes s) = setting_open s (refl, (refl, (refl, (refl, (refl, (refl, (refl, (refl, (refl, (refl,
-    tt)))))))))) (refl, (refl, (refl, tt)))
-standalone_open (no bytes s) = setting_open s (refl, (refl, (refl, (refl, (refl, (refl, (refl, (refl, (refl, (refl,
-    tt)))))))))) (refl, (refl, tt))
+standalone_open (yes bytes s) = setting_open s (
+  refl,
+  (
+    refl,
+    (
+      refl,
+      (
+        refl,
+        (
+          refl,
+          (
+            refl,
+            (
+              refl,
+              (
+                refl,
+                (
+                  refl,
+                  (
+                    refl,
+                    tt,
+                  ),
+                ),
+              ),
+            ),
+          ),
+        ),
+      ),
+    ),
+  ),
+) (refl, (refl, (refl, tt)))
+standalone_open (no bytes s) = setting_open s (
+  refl,
+  (
+    refl,
+    (
+      refl,
+      (
+        refl,
+        (
+          refl,
+          (
+            refl,
+            (
+              refl,
+              (
+                refl,
+                (
+                  refl,
+                  (
+                    refl,
+                    tt,
+                  ),
+                ),
+              ),
+            ),
+          ),
+        ),
+      ),
+    ),
+  ),
+) (refl, (refl, tt))
 
 -- an XML declaration between <? and >
 pub record Declares (bytes : List ℕ) : Type 0 where
@@ -188,7 +259,7 @@ pub record Declares (bytes : List ℕ) : Type 0 where
 
 declared_bytes : (version encoding standalone space : List ℕ)
     → codes "<?xml" ++ (version ++ (encoding ++ (standalone ++ (space ++ codes "?>"))))
-        ≡ 60 ∷ 63 ∷ ((codes "xml" ++ (version ++ (encoding ++ (standalone ++ (space ++ codes "?"))))) ++ 62 ∷ [])
+    ≡ 60 ∷ 63 ∷ ((codes "xml" ++ (version ++ (encoding ++ (standalone ++ (space ++ codes "?"))))) ++ 62 ∷ [])
 declared_bytes version encoding standalone space = simp append_assoc
 
 pub declaration_passes : {bytes : List ℕ} → IsDeclaration bytes → (bytes ≡ []) ⊎ Declares bytes
@@ -202,8 +273,16 @@ declaration_passes (declared version encoding standalone space v e s w) = inr (r
       refl,
       (
         refl,
-        open_append version (encoding ++ (standalone ++ (space ++ codes "?"))) (setting_open v (refl, (refl, (refl,
-            (refl, (refl, (refl, (refl, tt))))))) (refl, (refl, (refl, tt))))
+        open_append version (encoding ++ (standalone ++ (space ++ codes "?"))) (setting_open v (
+          refl,
+          (
+            refl,
+            (
+              refl,
+              (refl, (refl, (refl, (refl, tt)))),
+            ),
+          ),
+        ) (refl, (refl, (refl, tt))))
             (open_append encoding (standalone ++ (space ++ codes "?")) (encoding_open e)
             (open_append standalone (space ++ codes "?") (standalone_open s)
             (open_append space (codes "?") (white_open space w) (refl, tt)))),
@@ -225,8 +304,12 @@ skip_dark : (b : ℕ) (bytes : List ℕ) → is_space b ≡ false → skip (b �
 skip_dark b bytes e = rw e
 
 skip_more : (b : ℕ) (bytes : List ℕ) (t : Bool) → is_space b ≡ t → SkipParts bytes → SkipParts (b ∷ bytes)
-skip_more b bytes true e r = (b ∷ r.0, (e, r.1), ap (λ (x : List ℕ). b ∷ x) r.2
-    ∙ ap (λ (x : List ℕ). (b ∷ r.0) ++ x) (sym (skip_white b bytes e)))
+skip_more b bytes true e r = (
+  b ∷ r.0,
+  (e, r.1),
+  ap (λ (x : List ℕ). b ∷ x) r.2
+      ∙ ap (λ (x : List ℕ). (b ∷ r.0) ++ x) (sym (skip_white b bytes e)),
+)
 skip_more b bytes false e r = ([], tt, sym (skip_dark b bytes e))
 
 skip_parts : (bytes : List ℕ) → SkipParts bytes
@@ -256,7 +339,7 @@ quoted_from [] p h = cc
 quoted_from (b ∷ bytes) p h =
     let t = tested (nat_eq b 34 || nat_eq b 39) (cut b bytes) p h in
     let there : b ∷ bytes ≡ (b ∷ (p.0 ++ b ∷ [])) ++ p.1 = ap (λ (x : List ℕ). b ∷ x) (cut_from b bytes p t.1
-        ∙ sym (append_assoc p.0 (b ∷ []) p.1)) in
+    ∙ sym (append_assoc p.0 (b ∷ []) p.1)) in
     record {
       mine = b ∷ (p.0 ++ b ∷ []);
       there = there;
@@ -301,8 +384,12 @@ record SettingFrom (name bytes : List ℕ) (p : List ℕ × List ℕ) : Type 0 w
 named_value : (name bytes : List ℕ) (p : List ℕ × List ℕ) (o : Option (List ℕ)) → after name bytes ≡ o → valued o
     ≡ Some p → (rest : List ℕ) × (bytes ≡ name ++ rest) × ValuedFrom rest p
 named_value name bytes p None e h = cc
-named_value name bytes p (Some rest) e h = (rest, after_from name bytes rest e, valued_of rest p (after (codes "=")
-    (skip rest)) refl h)
+named_value name bytes p (Some rest) e h = (
+  rest,
+  after_from name bytes rest e,
+  valued_of rest p (after (codes "=")
+      (skip rest)) refl h,
+)
 
 setting_from : (name bytes : List ℕ) (p : List ℕ × List ℕ) → setting name bytes ≡ Some p → SettingFrom name bytes p
 setting_from name [] p h = cc
@@ -321,8 +408,12 @@ setting_from name (b ∷ bytes) p h =
     }
 
 ends_from : (bytes : List ℕ) → ends bytes ≡ true → (space : List ℕ) × IsWhite space × (bytes ≡ space ++ codes "?")
-ends_from bytes h = let s = skip_parts bytes in (s.0, s.1, s.2
-    ∙ ap (λ (x : List ℕ). s.0 ++ x) (same (skip bytes) (codes "?") h))
+ends_from bytes h = let s = skip_parts bytes in (
+  s.0,
+  s.1,
+  s.2
+      ∙ ap (λ (x : List ℕ). s.0 ++ x) (same (skip bytes) (codes "?") h),
+)
 
 record EndFrom (bytes : List ℕ) : Type 0 where
   standalone : List ℕ
@@ -338,7 +429,7 @@ standalone_of bytes None e h =
     record { standalone = []; space = t.0; is = no_standalone; white = t.1; there = t.2 }
 standalone_of bytes (Some p) e h =
     let both : ((bytes_eq p.0 (codes "yes") || bytes_eq p.0 (codes "no")) && ends p.1)
-        ≡ true = rw (stands_alone, e) at h in
+    ≡ true = rw (stands_alone, e) at h in
     let (word, last) = and_parts (bytes_eq p.0 (codes "yes") || bytes_eq p.0 (codes "no")) (ends p.1) both in
     let s = setting_from (codes "standalone") bytes p e in
     let t = ends_from p.1 last in
@@ -364,11 +455,17 @@ record RestFrom (bytes : List ℕ) : Type 0 where
 
 encoding_of : (bytes : List ℕ) (o : Option (List ℕ × List ℕ)) → setting (codes "encoding") bytes ≡ o
     → is_encoded bytes ≡ true → RestFrom bytes
-encoding_of bytes None e h = record { encoding = []; tail = bytes; is = no_encoding; there = refl; later =
-    standalone_of bytes (setting (codes "standalone") bytes) refl (rw (is_encoded, e) at h) }
+encoding_of bytes None e h = record {
+  encoding = [];
+  tail = bytes;
+  is = no_encoding;
+  there = refl;
+  later =
+      standalone_of bytes (setting (codes "standalone") bytes) refl (rw (is_encoded, e) at h);
+}
 encoding_of bytes (Some p) e h =
     let both : (bytes_eq (str_to_ascii_lowercase p.0) (codes "utf-8") && stands_alone p.1)
-        ≡ true = rw (is_encoded, e) at h in
+    ≡ true = rw (is_encoded, e) at h in
     let (word, last) = and_parts (bytes_eq (str_to_ascii_lowercase p.0) (codes "utf-8")) (stands_alone p.1) both in
     let s = setting_from (codes "encoding") bytes p e in
     record {
@@ -385,9 +482,13 @@ versioned_of : (bytes : List ℕ) (o : Option (List ℕ × List ℕ)) → settin
 versioned_of bytes None e h = cc
 versioned_of bytes (Some p) e h =
     let (word, last) = and_parts (bytes_eq p.0 (codes "1.0")) (is_encoded p.1) h in
-    let s = setting_from (codes "version") bytes p e in
-    (s.mine, p.1, subst (λ (v : List ℕ). IsSetting (codes "version") v s.mine) (same p.0 (codes "1.0") word) s.is,
-        s.there, encoding_of p.1 (setting (codes "encoding") p.1) refl last)
+    let s = setting_from (codes "version") bytes p e in (
+      s.mine,
+      p.1,
+      subst (λ (v : List ℕ). IsSetting (codes "version") v s.mine) (same p.0 (codes "1.0") word) s.is,
+      s.there,
+      encoding_of p.1 (setting (codes "encoding") p.1) refl last,
+    )
 
 xml_of : (bytes : List ℕ) (o : Option (List ℕ)) → after (codes "xml") bytes ≡ o → names_xml o ≡ true
     → IsDeclaration (60 ∷ 63 ∷ (bytes ++ 62 ∷ []))
@@ -398,10 +499,10 @@ xml_of bytes (Some rest) e h =
     let t = r.later in
     let whole : bytes ≡ codes "xml" ++ (v.0 ++ (r.encoding ++ (t.standalone ++ (t.space ++ codes "?")))) =
     after_from (codes "xml") bytes rest e ∙ ap (λ (x : List ℕ). codes "xml" ++ x) (v.3
-        ∙ ap (λ (x : List ℕ). v.0 ++ x) (r.there ∙ ap (λ (x : List ℕ). r.encoding ++ x) t.there)) in
+    ∙ ap (λ (x : List ℕ). v.0 ++ x) (r.there ∙ ap (λ (x : List ℕ). r.encoding ++ x) t.there)) in
     subst IsDeclaration (declared_bytes v.0 r.encoding t.standalone t.space
-        ∙ ap (λ (x : List ℕ). 60 ∷ 63 ∷ (x ++ 62 ∷ [])) (sym whole)) (declared v.0 r.encoding t.standalone t.space
-        v.2 r.is t.is t.white)
+    ∙ ap (λ (x : List ℕ). 60 ∷ 63 ∷ (x ++ 62 ∷ [])) (sym whole)) (declared v.0 r.encoding t.standalone t.space
+    v.2 r.is t.is t.white)
 
 pub declaration_from : (bytes : List ℕ) → is_declaration bytes ≡ true → IsDeclaration (60 ∷ 63 ∷ (bytes ++ 62 ∷ []))
 unfolding is_declaration

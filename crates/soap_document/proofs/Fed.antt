@@ -41,8 +41,17 @@ module _ (s s1 s2 : State) (bytes : List ℕ) (r : Option ℕ) (n : ℕ) (found 
       let within : n < length bytes = first.0.high in
       let at1 : s1.at ≡ s.at + length (take n bytes) = ap (λ x. x.at) kept in
       let at2 : s2.at ≡ (finish s1.mode s1 (get_or bytes n 0)).at + 1 = ap (λ x. x.at) ended in
-      omega (arith, within, at1, at2, finish-at s1.mode s1 (get_or bytes n 0), length-take n bytes, length-take
-          (length bytes - (n + 1)) (drop (n + 1) bytes), length-drop (n + 1) bytes)
+      omega (
+        arith,
+        within,
+        at1,
+        at2,
+        finish-at s1.mode s1 (get_or bytes n 0),
+        length-take n bytes,
+        length-take
+            (length bytes - (n + 1)) (drop (n + 1) bytes),
+        length-drop (n + 1) bytes,
+      )
 
 -- ---- the answer
 

@@ -26,7 +26,7 @@ module _ (u : Element) where
     white : IsWhite (token ++ front)
     ends : ((bytes ≡ front) × (only_child top.parts ≡ Some u))
         ⊎ ((rest : List ℕ) × (bytes ≡ front ++ 60 ∷ rest) × Accepts (less_at false (at + length front) top [] [] []
-            (at + length front + 1)) rest u)
+        (at + length front + 1)) rest u)
 
   ended : (t : Bool) (o : Option Element) → cond (true && (true && t)) o None ≡ Some u → (t ≡ true) × (o ≡ Some u)
   ended true o h = (refl, h)
@@ -39,8 +39,12 @@ module _ (u : Element) where
     white = subst IsWhite (append_assoc token (c ∷ []) r.front) r.white;
     ends = elim r.ends [
       | inl k ↦ inl (ap (λ (x : List ℕ). c ∷ x) k.0, k.1)
-      | inr k ↦ inr (k.0, ap (λ (x : List ℕ). c ∷ x) k.1, subst (λ p. Accepts (less_at false p top [] [] [] (p + 1))
-          k.0 u) (omega arith) k.2)
+      | inr k ↦ inr (
+        k.0,
+        ap (λ (x : List ℕ). c ∷ x) k.1,
+        subst (λ p. Accepts (less_at false p top [] [] [] (p + 1))
+            k.0 u) (omega arith) k.2,
+      )
     ];
   }
 
@@ -54,16 +58,26 @@ module _ (u : Element) where
       record {
         front = [];
         white = subst IsWhite (sym (append-nil token)) (white_from token w);
-        ends = inr (bytes, ap (λ k. k ∷ bytes) (eqb-true c 60 is), subst (λ q. Accepts (less_at false q top [] [] []
-            (q + 1)) bytes u) (omega arith) p.1);
+        ends = inr (
+          bytes,
+          ap (λ k. k ∷ bytes) (eqb-true c 60 is),
+          subst (λ q. Accepts (less_at false q top [] [] []
+              (q + 1)) bytes u) (omega arith) p.1,
+        );
       }
 
   outer_found : (top : Frame) (token bytes : List ℕ) (at : ℕ) → Accepts (chars_at top [] [] token at) bytes u
       → OuterFound top token bytes at
   outer_found top token [] at h =
       let e = ended (is_white token) (only_child top.parts) h in
-      record { front = []; white = subst IsWhite (sym (append-nil token)) (white_from token e.0); ends = inl (refl,
-          e.1) }
+      record {
+        front = [];
+        white = subst IsWhite (sym (append-nil token)) (white_from token e.0);
+        ends = inl (
+          refl,
+          e.1,
+        );
+      }
   outer_found top token (c ∷ bytes) at h =
       let s : State = chars_at top [] [] token at in
       elim (chosen (nat_eq c 60 || nat_eq c 38) (at_chars s c) (chars_at top [] [] (token ++ c ∷ []) at) bytes u h) [
@@ -77,12 +91,12 @@ module _ (u : Element) where
     is : IsMisc front
     ends : ((bytes ≡ front) × (only_child top.parts ≡ Some u))
         ⊎ ((rest : List ℕ) × (bytes ≡ front ++ 60 ∷ rest) × TagFound false (at + length front) top [] [] u rest (at
-            + length front + 1))
+        + length front + 1))
 
   misc_more : (top : Frame) (bytes : List ℕ) (at : ℕ) (space : List ℕ) (rest b inner : List ℕ) (p : ℕ)
       → IsWhite space → bytes ≡ space ++ 60 ∷ rest
       → rest ≡ 33 ∷ (codes "--" ++ (inner ++ (codes "-->" ++ b))) → IsComment inner → p
-          ≡ at + length space + 1 + 1 + length (codes "--" ++ (inner ++ codes "-->"))
+      ≡ at + length space + 1 + 1 + length (codes "--" ++ (inner ++ codes "-->"))
       → MiscFound top b p → MiscFound top bytes at
   misc_more top bytes at space rest b inner p w there markup c place r = record {
     front = space ++ (codes "<!--" ++ (inner ++ (codes "-->" ++ r.front)));
@@ -105,8 +119,13 @@ module _ (u : Element) where
       spread later = simp append_assoc
 
       all_place : p + length r.front ≡ at + length (space ++ (codes "<!--" ++ (inner ++ (codes "-->" ++ r.front))))
-      all_place = omega (arith, place, length-append space (codes "<!--" ++ (inner ++ (codes "-->" ++ r.front))),
-          length-append inner (codes "-->" ++ r.front), length-append inner (codes "-->"))
+      all_place = omega (
+        arith,
+        place,
+        length-append space (codes "<!--" ++ (inner ++ (codes "-->" ++ r.front))),
+        length-append inner (codes "-->" ++ r.front),
+        length-append inner (codes "-->"),
+      )
 
   abbrev RecurMisc : ℕ → Frame → Type 0
   RecurMisc fuel top = (at : ℕ) (bytes : List ℕ) → length bytes < fuel → Accepts (chars_at top [] [] [] at) bytes u
@@ -119,7 +138,7 @@ module _ (u : Element) where
   comment_at : (fresh : Bool) (mark : ℕ) (top : Frame) (at : ℕ) (rest : List ℕ)
       → Accepts (plain_at marking fresh mark top [] [] [] at) rest u
       → (inner b : List ℕ) × (rest ≡ codes "--" ++ (inner ++ (codes "-->" ++ b))) × IsComment inner × Accepts
-          (chars_at top [] [] [] (at + length (codes "--" ++ (inner ++ codes "-->")))) b u
+      (chars_at top [] [] [] (at + length (codes "--" ++ (inner ++ codes "-->")))) b u
   comment_at fresh mark top at rest h =
       let m = marked_found fresh mark top [] [] u at rest h in
       elim m.is [
@@ -135,10 +154,17 @@ module _ (u : Element) where
     | inr (inl k) ↦
         let c = comment_at false (at + length space) top (at + length space + 1 + 1) l.rest k.1 in
         let p : ℕ = at + length space + 1 + 1 + length (codes "--" ++ (c.0 ++ codes "-->")) in
-        let less : length c.1 < fuel = omega (arith, ap length there, length-append space (60 ∷ rest), ap length
-            k.0, ap length c.2, length-append c.0 (codes "-->" ++ c.1)) in
+        let less : length c.1 < fuel = omega (
+          arith,
+          ap length there,
+          length-append space (60 ∷ rest),
+          ap length
+              k.0,
+          ap length c.2,
+          length-append c.0 (codes "-->" ++ c.1),
+        ) in
         misc_more top bytes at space rest c.1 c.0 p w there (k.0
-            ∙ ap (λ (x : List ℕ). 33 ∷ x) c.2) c.3 refl (recur p c.1 less c.4)
+        ∙ ap (λ (x : List ℕ). 33 ∷ x) c.2) c.3 refl (recur p c.1 less c.4)
     | inr (inr (inl k)) ↦ absurd (true≢false (sym k.1))
     | inr (inr (inr k)) ↦ record { front = space; is = white space w; ends = inr (rest, there, k) }
   ]
@@ -188,10 +214,15 @@ module _ (u : Element) where
       → RootFound bytes at
   root_at fresh bytes at t =
       let e = element_from u fresh nothing_open [] [] at bytes (length bytes) (content_found u (length bytes)) t
-          (omega arith) in
+      (omega arith) in
       let a = after_found e.first e.rest (at + length e.inner) e.later in
-      record { inner = e.inner; rest = e.rest; there = e.there; is = subst (λ r. IsElement 0 at e.inner r) a.1 e.is;
-          later = a.0 }
+      record {
+        inner = e.inner;
+        rest = e.rest;
+        there = e.there;
+        is = subst (λ r. IsElement 0 at e.inner r) a.1 e.is;
+        later = a.0;
+      }
 
   -- what stands before the root, behind a declaration or none, and the root
   record BodyFound (bytes : List ℕ) (at : ℕ) : Type 0 where
@@ -213,8 +244,16 @@ module _ (u : Element) where
         | inl k ↦ absurd (no_root nothing_open refl k.1)
         | inr k ↦
             let r = root_at false k.0 (at + length m.front) k.2 in
-            record { before = m.front; inner = r.inner; rest = r.rest; there = k.1
-                ∙ ap (λ (x : List ℕ). m.front ++ x) r.there; misc = m.is; is = r.is; later = r.later }
+            record {
+              before = m.front;
+              inner = r.inner;
+              rest = r.rest;
+              there = k.1
+                  ∙ ap (λ (x : List ℕ). m.front ++ x) r.there;
+              misc = m.is;
+              is = r.is;
+              later = r.later;
+            }
       ]
 
   -- ---- from the beginning
@@ -232,8 +271,14 @@ module _ (u : Element) where
     later : BodyFound body (at + length declaration)
 
   undeclared_body : (bytes : List ℕ) (at : ℕ) → BodyFound bytes at → PrologFound bytes at
-  undeclared_body bytes at b = record { declaration = []; body = bytes; there = refl; is = undeclared; later = subst
-      (BodyFound bytes) (omega arith) b }
+  undeclared_body bytes at b = record {
+    declaration = [];
+    body = bytes;
+    there = refl;
+    is = undeclared;
+    later = subst
+        (BodyFound bytes) (omega arith) b;
+  }
 
   declared_body : (bytes : List ℕ) (at : ℕ) → Accepts (plain_at declaring true at nothing_open [] [] [] (at + 1 +
       1)) bytes u → PrologFound (60 ∷ 63 ∷ bytes) at
@@ -281,12 +326,20 @@ module _ (u : Element) where
         let c = comment_at true at nothing_open (at + 1 + 1) l.rest k.1 in
         let p : ℕ = at + 1 + 1 + length (codes "--" ++ (c.0 ++ codes "-->")) in
         undeclared_body (60 ∷ bytes) at (comment_body (60 ∷ bytes) c.0 c.1 at p (ap (λ (x : List ℕ). 60 ∷ x) (k.0
-            ∙ ap (λ (x : List ℕ). 33 ∷ x) c.2)) c.3 (omega arith) (body_found p c.1 c.4))
+        ∙ ap (λ (x : List ℕ). 33 ∷ x) c.2)) c.3 (omega arith) (body_found p c.1 c.4))
     | inr (inr (inl k)) ↦ subst (λ (x : List ℕ). PrologFound (60 ∷ x) at) (sym k.0) (declared_body l.rest at k.2)
     | inr (inr (inr k)) ↦
         let r = root_at true bytes at k in
-        undeclared_body (60 ∷ bytes) at (record { before = []; inner = r.inner; rest = r.rest; there = r.there; misc
-            = white [] tt; is = subst (λ q. IsElement 0 q r.inner u) (omega arith) r.is; later = r.later })
+        undeclared_body (60 ∷ bytes) at (record {
+          before = [];
+          inner = r.inner;
+          rest = r.rest;
+          there = r.there;
+          misc
+              = white [] tt;
+          is = subst (λ q. IsElement 0 q r.inner u) (omega arith) r.is;
+          later = r.later;
+        })
   ]
 
   white_body : (c : ℕ) (bytes : List ℕ) (at : ℕ) → is_space c ≡ true → BodyFound bytes (at + 1)
@@ -330,6 +383,6 @@ document_found bytes u h =
     let p = f.1 in
     let b = p.later in
     subst (λ (x : List ℕ). IsDocument x u) (sym (n.there ∙ ap (λ (x : List ℕ). n.token ++ x) (p.there
-        ∙ ap (λ (x : List ℕ). p.declaration ++ x) b.there)))
+    ∙ ap (λ (x : List ℕ). p.declaration ++ x) b.there)))
     (document n.token p.declaration b.before b.inner u b.rest f.0 p.is b.misc (subst (λ q. IsElement 0 q b.inner u)
-        (omega arith) b.is) b.later)
+    (omega arith) b.is) b.later)

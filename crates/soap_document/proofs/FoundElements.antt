@@ -38,7 +38,7 @@ module _ (fresh : Bool) (mark : ℕ) (top : Frame) (below : List Frame) (x : Lis
     pub kind : ((bytes ≡ name ++ (tag ++ 62 ∷ rest)) × Accepts (chars_at (frame_of name attributes (at + length name
         + length tag + 1)) (settled ∷ below) [] [] (at + length name + length tag + 1)) rest u)
         ⊎ ((bytes ≡ name ++ (tag ++ 47 ∷ 62 ∷ rest)) × Accepts (chars_at (hollow name attributes (at + length name +
-            length tag + 1 + 1)) below [] [] (at + length name + length tag + 1 + 1)) rest u)
+        length tag + 1 + 1)) below [] [] (at + length name + length tag + 1 + 1)) rest u)
 
   -- what stands behind the <
   pub record LessFound (bytes : List ℕ) (at : ℕ) : Type 0 where
@@ -47,7 +47,7 @@ module _ (fresh : Bool) (mark : ℕ) (top : Frame) (below : List Frame) (x : Lis
         (at + 1)) rest u)
         ⊎ ((bytes ≡ 33 ∷ rest) × Accepts (plain_at marking fresh mark top below x [] (at + 1)) rest u)
         ⊎ ((bytes ≡ 63 ∷ rest) × (fresh ≡ true) × Accepts (plain_at declaring fresh mark top below x [] (at + 1))
-            rest u)
+        rest u)
         ⊎ TagFound bytes at
 
   abbrev tag_here : List ℕ → Tag
@@ -56,7 +56,7 @@ module _ (fresh : Bool) (mark : ℕ) (top : Frame) (below : List Frame) (x : Lis
   slash_found : (name : List ℕ) (attributes : List Attribute) (at : ℕ) (bytes : List ℕ)
       → Accepts (tag_at slashed (tag_here name) attributes [] [] 0 [] at) bytes u
       → (rest : List ℕ) × (bytes ≡ 62 ∷ rest) × Accepts (chars_at (hollow name attributes (at + 1)) below [] [] (at
-          + 1)) rest u
+      + 1)) rest u
   slash_found name attributes at [] h = cc
   slash_found name attributes at (c ∷ bytes) h =
       let s : State = tag_at slashed (tag_here name) attributes [] [] 0 [] at in
@@ -85,7 +85,7 @@ module _ (fresh : Bool) (mark : ℕ) (top : Frame) (below : List Frame) (x : Lis
     | inr k ↦
         let r = slash_found name a.attributes (at + length name + length a.front + 1) a.rest
         (subst (λ k. Accepts (counted (at_tagging (between_at false (tag_here name) a.attributes (at + length name +
-            length a.front)) k)) a.rest u) k a.later) in
+        length a.front)) k)) a.rest u) k a.later) in
         record {
           name = name;
           tag = a.front;
@@ -94,8 +94,11 @@ module _ (fresh : Bool) (mark : ℕ) (top : Frame) (below : List Frame) (x : Lis
           is_name = qname_from name passes;
           is = a.is;
           room = room;
-          kind = inr (e ∙ ap (λ (y : List ℕ). name ++ y) (a.there
-              ∙ ap₂ (λ (k : ℕ) (y : List ℕ). a.front ++ k ∷ y) k r.1), r.2);
+          kind = inr (
+            e ∙ ap (λ (y : List ℕ). name ++ y) (a.there
+                ∙ ap₂ (λ (k : ℕ) (y : List ℕ). a.front ++ k ∷ y) k r.1),
+            r.2,
+          );
         }
   ]
 
@@ -130,8 +133,15 @@ module _ (fresh : Bool) (mark : ℕ) (top : Frame) (below : List Frame) (x : Lis
           elim (chosen (nat_eq c 47 && not (is_nil below)) end_state after1 rest u h1) [
             | inl k ↦
                 let (is, inside) = and_parts (nat_eq c 47) (not (is_nil below)) k.0 in
-                record { rest = rest; is = inl (ap (λ d. d ∷ rest) (eqb-true c 47 is), false_from (is_nil below)
-                    inside, k.1) }
+                record {
+                  rest = rest;
+                  is = inl (
+                    ap (λ d. d ∷ rest) (eqb-true c 47 is),
+                    false_from (is_nil below)
+                        inside,
+                    k.1,
+                  );
+                }
             | inr k ↦ elim (chosen (nat_eq c 33) mark_state after2 rest u k.1) [
               | inl j ↦ record { rest = rest; is = inr (inl (ap (λ d. d ∷ rest) (eqb-true c 33 j.0), j.1)) }
               | inr j ↦
@@ -144,10 +154,13 @@ module _ (fresh : Bool) (mark : ℕ) (top : Frame) (below : List Frame) (x : Lis
       let name : List ℕ = b ∷ m in
       let s : State = less_at fresh mark top below x name (at + length name) in
       let p = passed (is_qname name && has_room below top.parts) (at_tagging (record (settle s) { name = name }) c)
-          s rest u h in
+      s rest u h in
       let (passes, room) = and_parts (is_qname name) (has_room below top.parts) p.0 in
-      record { rest = []; is = inr (inr (inr (tag_ended bytes name rest c at e passes room (attributes_found
-          (tag_here name) u (at + length name) (c ∷ rest) p.1)))) }
+      record {
+        rest = [];
+        is = inr (inr (inr (tag_ended bytes name rest c at e passes room (attributes_found
+            (tag_here name) u (at + length name) (c ∷ rest) p.1))));
+      }
 
   pub less_found : (at : ℕ) (bytes : List ℕ) → Accepts (less_at fresh mark top below x [] at) bytes u
       → LessFound bytes at
@@ -192,7 +205,7 @@ module _ (u : Element) where
       let n = next (plain_at ending false mark top (frame ∷ frames) [] [] at) bytes u (λ _ _. refl) h in
       let over : Frame = with_parts frame (child (element top.name top.attributes top.start mark top.parts) none) in
       let p = passed (is_end top.name n.token) (chars_at over frames [] [] (at + length n.token)) (plain_at ending
-          false mark top (frame ∷ frames) [] n.token (at + length n.token)) n.rest u n.later in
+      false mark top (frame ∷ frames) [] n.token (at + length n.token)) n.rest u n.later in
       let e = end_from top.name n.token p.0 in
       record {
         space = e.0;
@@ -234,9 +247,14 @@ module _ (u : Element) where
   full_place : (start content name space tag : List ℕ) (at : ℕ)
       → at + length start + length content + 1 + 1 + length name + length space + 1
       ≡ at + length (start ++ (content ++ end_tag name space))
-  full_place start content name space tag at = omega (arith, length-append start (content ++ end_tag name space),
-      length-append content (end_tag name space), length-append name (space ++ codes ">"), length-append space
-      (codes ">"))
+  full_place start content name space tag at = omega (
+    arith,
+    length-append start (content ++ end_tag name space),
+    length-append content (end_tag name space),
+    length-append name (space ++ codes ">"),
+    length-append space
+        (codes ">"),
+  )
 
   module _ (fresh : Bool) (top : Frame) (below : List Frame) (x : List ℕ) (at : ℕ) (bytes : List ℕ) (fuel : ℕ)
       (recur : RecurContent fuel) where
@@ -246,14 +264,23 @@ module _ (u : Element) where
     full_found : (name tag : List ℕ) (attributes : List Attribute) (rest : List ℕ) → IsQName name
         → IsAttributes tag attributes → length below < max_depth → bytes ≡ name ++ (tag ++ 62 ∷ rest)
         → length bytes ≤ suc fuel
-        → Accepts (chars_at (record { name = name; attributes = attributes; start = at + length (start_tag name
-            tag); parts = none }) (settled_here ∷ below) [] [] (at + length (start_tag name tag))) rest u
+        → Accepts (chars_at (record {
+          name = name;
+          attributes = attributes;
+          start = at + length (start_tag name
+              tag);
+          parts = none;
+        }) (settled_here ∷ below) [] [] (at + length (start_tag name tag))) rest u
         → ElementFound fresh top below x bytes at
     full_found name tag attributes rest q a deep e short h =
         let start : ℕ = at + length (start_tag name tag) in
         let frame : Frame = record { name = name; attributes = attributes; start = start; parts = none } in
-        let less : length rest ≤ fuel = omega (arith, ap length e, length-append name (tag ++ 62 ∷ rest),
-            length-append tag (62 ∷ rest)) in
+        let less : length rest ≤ fuel = omega (
+          arith,
+          ap length e,
+          length-append name (tag ++ 62 ∷ rest),
+          length-append tag (62 ∷ rest),
+        ) in
         let c = recur frame settled_here below start rest less h in
         let mark : ℕ = start + length c.content in
         let done : Frame = record { name = name; attributes = attributes; start = start; parts = c.parts } in
@@ -275,8 +302,12 @@ module _ (u : Element) where
         → ElementFound fresh top below x bytes at
     element_from t short = elim t.kind [
       | inl k ↦ full_found t.name t.tag t.attributes t.rest t.is_name t.is (room_depth below top.parts t.room) k.0 short
-          (subst (λ p. Accepts (chars_at (record { name = t.name; attributes = t.attributes; start = p; parts = none
-              }) (settled_here ∷ below) [] [] p) t.rest u) (start_place at t.name t.tag) k.1)
+          (subst (λ p. Accepts (chars_at (record {
+            name = t.name;
+            attributes = t.attributes;
+            start = p;
+            parts = none;
+          }) (settled_here ∷ below) [] [] p) t.rest u) (start_place at t.name t.tag) k.1)
       | inr k ↦
           let place : ℕ = at + length (empty_tag t.name t.tag) in
           record {
@@ -297,7 +328,7 @@ module _ (u : Element) where
       → IsText front meaning → bytes ≡ front ++ 60 ∷ rest
       → (e : ElementFound false top (frame ∷ frames) meaning rest (at + length front))
       → ContentFound (with_parts (with_parts top (onto meaning none)) (child e.first none)) frame frames e.rest (at
-          + length front + length e.inner) → ContentFound top frame frames bytes at
+      + length front + length e.inner) → ContentFound top frame frames bytes at
   then_content top frame frames at bytes front meaning rest t there e c = record {
     content = front ++ (e.inner ++ c.content);
     parts = onto meaning (child e.first c.parts);
@@ -319,7 +350,7 @@ module _ (u : Element) where
   content_step : (fuel : ℕ) → RecurContent fuel → (top frame : Frame) (frames : List Frame) (at : ℕ) (bytes : List
       ℕ) → length bytes ≤ suc fuel
       → (t : TextFound frame frames u top [] bytes at) → LessFound false (at + length t.front) top (frame ∷ frames)
-          t.meaning u t.rest (at + length t.front + 1) → ContentFound top frame frames bytes at
+      t.meaning u t.rest (at + length t.front + 1) → ContentFound top frame frames bytes at
   content_step fuel recur top frame frames at bytes short t l = elim l.is [
     | inl k ↦ record {
       content = t.front;
@@ -333,12 +364,19 @@ module _ (u : Element) where
     | inr (inr (inl k)) ↦ absurd (true≢false (sym k.1))
     | inr (inr (inr k)) ↦
         let e = element_from false top (frame ∷ frames) t.meaning (at + length t.front) t.rest fuel recur k (omega
-            (arith, ap length t.there, length-append t.front (60 ∷ t.rest))) in
-        let less : length e.rest ≤ fuel = omega (arith, ap length t.there, length-append t.front (60 ∷ t.rest), ap
-            length e.there, length-append e.inner e.rest, element_some e.is) in
+        (arith, ap length t.there, length-append t.front (60 ∷ t.rest))) in
+        let less : length e.rest ≤ fuel = omega (
+          arith,
+          ap length t.there,
+          length-append t.front (60 ∷ t.rest),
+          ap
+              length e.there,
+          length-append e.inner e.rest,
+          element_some e.is,
+        ) in
         then_content top frame frames at bytes t.front t.meaning t.rest t.is t.there e
         (recur (with_parts (with_parts top (onto t.meaning none)) (child e.first none)) frame frames (at + length
-            t.front + length e.inner) e.rest less e.later)
+        t.front + length e.inner) e.rest less e.later)
   ]
     where
       element_some : {depth at : ℕ} {bytes : List ℕ} {first : Element} → IsElement depth at bytes first
@@ -353,4 +391,4 @@ module _ (u : Element) where
   content_found (suc fuel) top frame frames at bytes short h =
       let t = text_found frame frames u (length bytes) top [] at bytes (omega arith) h in
       content_step fuel (content_found fuel) top frame frames at bytes short t (less_found false (at + length
-          t.front) top (frame ∷ frames) t.meaning u (at + length t.front + 1) t.rest t.later)
+      t.front) top (frame ∷ frames) t.meaning u (at + length t.front + 1) t.rest t.later)

@@ -32,7 +32,7 @@ module _ (tag : Tag) (u : Element) where
         → Tokens.reference (38 ∷ (inner ++ 59 ∷ [])) ≡ o
         → Accepts (counted (at_value_referring (refers quote value (38 ∷ inner) (at + length inner)) o)) rest u
         → (c : ℕ) × IsReference (38 ∷ (inner ++ 59 ∷ [])) c × Accepts (value_at quote (value ++ encode_utf8 c) []
-            (at + length inner + 1)) rest u
+        (at + length inner + 1)) rest u
     referred quote value at inner rest None e h = absurd (refused_never (refers quote value (38 ∷ inner) (at +
         length inner)) rest u h)
     referred quote value at inner rest (Some c) e h = (c, reference_from (38 ∷ (inner ++ 59 ∷ [])) c e, h)
@@ -52,24 +52,28 @@ module _ (tag : Tag) (u : Element) where
     value_reference : (quote : ℕ) (value bytes : List ℕ) (at : ℕ) (m rest : List ℕ) (fuel : ℕ)
         → RecurValue fuel quote → bytes ≡ m ++ 38 ∷ rest → is_run quote m ≡ true → length bytes ≤ suc fuel
         → Accepts (refers quote (value ++ with_spaces m) (38 ∷ []) (at + length m + 1)) rest u
-            → ValueFound quote value bytes at
+        → ValueFound quote value bytes at
     value_reference quote value bytes at m rest fuel recur e passes short h =
         let so_far : List ℕ = value ++ with_spaces m in
         let p1 : ℕ = at + length m + 1 in
         let n = next (refers quote so_far (38 ∷ []) p1) rest u (λ _ _. refl) h in
         let inner_there : rest ≡ n.token ++ 59 ∷ n.rest = n.there
-            ∙ ap (λ k. n.token ++ k ∷ n.rest) (eqb-true n.last 59 n.stop) in
+        ∙ ap (λ k. n.token ++ k ∷ n.rest) (eqb-true n.last 59 n.stop) in
         let r = referred quote so_far p1 n.token n.rest (Tokens.reference (38 ∷ (n.token ++ 59 ∷ []))) refl n.later in
-        let v = recur (so_far ++ encode_utf8 r.0) (p1 + length n.token + 1) n.rest (omega (arith, shorter bytes m
-            rest 38 e, shorter rest n.token n.rest 59 inner_there)) r.2 in
+        let v = recur (so_far ++ encode_utf8 r.0) (p1 + length n.token + 1) n.rest (omega (
+          arith,
+          shorter bytes m
+              rest 38 e,
+          shorter rest n.token n.rest 59 inner_there,
+        )) r.2 in
         value_joined quote value bytes at m (38 ∷ (n.token ++ 59 ∷ [])) n.rest r.0 (p1 + length n.token + 1)
         (e ∙ ap (λ (x : List ℕ). m ++ 38 ∷ x) (inner_there ∙ sym (append_assoc n.token (59 ∷ []) n.rest))) passes
-            r.1 (omega (arith, length-append n.token (59 ∷ []))) v
+        r.1 (omega (arith, length-append n.token (59 ∷ []))) v
       where
         value_joined : (quote : ℕ) (value bytes : List ℕ) (at : ℕ) (m reference b : List ℕ) (c p : ℕ) → bytes
             ≡ m ++ (reference ++ b) → is_run quote m ≡ true → IsReference reference c
             → p ≡ at + length m + length reference → ValueFound quote ((value ++ with_spaces m) ++ encode_utf8 c) b
-                p → ValueFound quote value bytes at
+            p → ValueFound quote value bytes at
         value_joined quote value bytes at m reference b c p e passes is place r = record {
           inner = m ++ (reference ++ r.inner);
           meaning = with_spaces m ++ (encode_utf8 c ++ r.meaning);
@@ -124,7 +128,7 @@ module _ (tag : Tag) (u : Element) where
         absurd (omega (arith, shorter bytes n.token n.rest n.last n.there))
     value_found quote (suc fuel) value at bytes short h =
         value_step quote value bytes at fuel (value_found quote fuel) short (next (value_at quote value [] at) bytes
-            u (λ _ _. refl) h)
+        u (λ _ _. refl) h)
 
     -- ---- behind the =, and behind the name
 
@@ -161,8 +165,10 @@ module _ (tag : Tag) (u : Element) where
             | inr k ↦ let q = eqb-true c 39 k in subst (λ k. IsValue (k ∷ (v.inner ++ k ∷ [])) v.meaning) (sym q)
                 (single v.inner v.meaning (subst (λ k. IsInner k v.inner v.meaning) q v.is))
           ];
-          later = subst (λ p. Accepts (between_at false tag (added v.meaning) p) v.rest u) (omega (arith,
-              length-append v.inner (c ∷ []))) v.later;
+          later = subst (λ p. Accepts (between_at false tag (added v.meaning) p) v.rest u) (omega (
+            arith,
+            length-append v.inner (c ∷ []),
+          )) v.later;
         }
 
     quoted_found : (bytes : List ℕ) (at : ℕ) → Accepts (valuing_at at) bytes u → QuotedFound bytes at
@@ -246,7 +252,7 @@ module _ (tag : Tag) (u : Element) where
       let slash_state : State = tag_at slashed tag attributes [] [] 0 [] at in
       let naming_state : State = between_at true tag attributes at in
       let h1 = subst (λ t. Accepts (counted (cond t naming_state (cond (nat_eq c 62) open_state (cond (nat_eq c 47)
-          slash_state (refuse s))))) bytes u) dark h in
+      slash_state (refuse s))))) bytes u) dark h in
       elim (chosen (nat_eq c 62) open_state (cond (nat_eq c 47) slash_state (refuse s)) bytes u h1) [
         | inl k ↦ inl (eqb-true c 62 k.0)
         | inr k ↦ inr (eqb-true c 47 (passed (nat_eq c 47) slash_state s bytes u k.1).0)
@@ -255,7 +261,7 @@ module _ (tag : Tag) (u : Element) where
   no_more : (space : List ℕ) (before : List Attribute) (c : ℕ) (bytes : List ℕ) (at : ℕ) → IsWhite space
       → is_space c ≡ false
       → Accepts (counted (at_tagging (between_at false tag before at) c)) bytes u
-          → AttributesFound space before (c ∷ bytes) at
+      → AttributesFound space before (c ∷ bytes) at
   no_more space before c bytes at w dark h = record {
     front = [];
     attributes = [];
@@ -296,11 +302,14 @@ module _ (tag : Tag) (u : Element) where
     where
       first : (t : Bool) → is_space c ≡ t → AttributesFound [] before (c ∷ bytes) at
       first true e =
-          more_space [] before at c bytes (recur (c ∷ []) before (at + 1) bytes (record { white = (e, tt); some = λ
-              x. cc }) (omega arith)
+          more_space [] before at c bytes (recur (c ∷ []) before (at + 1) bytes (record {
+            white = (e, tt);
+            some = λ
+                x. cc;
+          }) (omega arith)
           (subst (λ t. Accepts (counted (cond t (between_at true tag before at) (cond (nat_eq c 62) (opened
-              (between_at false tag before at)) (cond (nat_eq c 47) (tag_at slashed tag before [] [] 0 [] at)
-              (refuse (between_at false tag before at)))))) bytes u) e h))
+          (between_at false tag before at)) (cond (nat_eq c 47) (tag_at slashed tag before [] [] 0 [] at)
+          (refuse (between_at false tag before at)))))) bytes u) e h))
       first false e = no_more [] before c bytes at tt e h
 
   white_snoc : (space : List ℕ) (c : ℕ) → IsWhite space → is_space c ≡ true → IsWhite (space ++ c ∷ [])
@@ -315,9 +324,9 @@ module _ (tag : Tag) (u : Element) where
   attribute_joined : (space name left right quoted value : List ℕ) (before : List Attribute) (bytes b : List ℕ) (at
       p : ℕ) → IsSpace space → IsQName name → IsWhite left → IsWhite right → IsValue quoted value
       → bytes ≡ name ++ (left ++ (61 ∷ (right ++ (quoted ++ b)))) → p
-          ≡ at + length name + length left + 1 + length right + length quoted
+      ≡ at + length name + length left + 1 + length right + length quoted
       → AttributesFound [] (before ++ record { name = name; value = value } ∷ []) b p
-          → AttributesFound space before bytes at
+      → AttributesFound space before bytes at
   attribute_joined space name left right quoted value before bytes b at p s q l r v e place f = record {
     front = name ++ (left ++ (61 ∷ (right ++ (quoted ++ f.front))));
     attributes = mine ∷ f.attributes;
@@ -339,32 +348,49 @@ module _ (tag : Tag) (u : Element) where
       spread = simp append_assoc
 
       all_place : p + length f.front ≡ at + length (name ++ (left ++ (61 ∷ (right ++ (quoted ++ f.front)))))
-      all_place = omega (arith, place, length-append name (left ++ (61 ∷ (right ++ (quoted ++ f.front)))),
-          length-append left (61 ∷ (right ++ (quoted ++ f.front))), length-append right (quoted ++ f.front),
-          length-append quoted f.front)
+      all_place = omega (
+        arith,
+        place,
+        length-append name (left ++ (61 ∷ (right ++ (quoted ++ f.front)))),
+        length-append left (61 ∷ (right ++ (quoted ++ f.front))),
+        length-append right (quoted ++ f.front),
+        length-append quoted f.front,
+      )
 
   name_ended : (fuel : ℕ) → RecurTag fuel → (space : List ℕ) (before : List Attribute) (at : ℕ) (bytes m rest : List
       ℕ) (c : ℕ) → IsSpace space → length bytes ≤ suc fuel → bytes ≡ m ++ c ∷ rest
       → is_qname m ≡ true → Accepts (counted (at_named (named_at before m (at + length m)) c)) rest u
-          → AttributesFound space before bytes at
+      → AttributesFound space before bytes at
   name_ended fuel recur space before at bytes m rest c s short e passes h =
       let r = equals_at before m c rest (at + length m) h in
       let p = at + length m + length r.left + 1 in
       let q = quoted_found before m r.rest p r.later in
-      let size : length r.rest ≤ length (c ∷ rest) = omega (arith, ap length r.there, length-append r.left (61 ∷
-          r.rest)) in
-      let less : length q.rest ≤ suc fuel = omega (arith, size, ap length q.there, length-append q.right (q.quoted
-          ++ q.rest), length-append q.quoted q.rest, ap length e, length-append m (c ∷ rest)) in
+      let size : length r.rest ≤ length (c ∷ rest) = omega (
+        arith,
+        ap length r.there,
+        length-append r.left (61 ∷
+            r.rest),
+      ) in
+      let less : length q.rest ≤ suc fuel = omega (
+        arith,
+        size,
+        ap length q.there,
+        length-append q.right (q.quoted
+            ++ q.rest),
+        length-append q.quoted q.rest,
+        ap length e,
+        length-append m (c ∷ rest),
+      ) in
       attribute_joined space m r.left q.right q.quoted q.value before bytes q.rest at (p + length q.right + length
-          q.quoted) s (qname_from m passes) r.white q.white q.is
+      q.quoted) s (qname_from m passes) r.white q.white q.is
       (e ∙ ap (λ (x : List ℕ). m ++ x) (r.there ∙ ap (λ (x : List ℕ). r.left ++ 61 ∷ x) q.there)) refl
       (between_found fuel recur (before ++ record { name = m; value = q.value } ∷ []) (p + length q.right + length
-          q.quoted) q.rest less q.later)
+      q.quoted) q.rest less q.later)
 
   naming_step : (fuel : ℕ) → RecurTag fuel → (space : List ℕ) (before : List Attribute) (at : ℕ) (bytes m rest :
       List ℕ) (c : ℕ) → IsSpace space → length bytes ≤ suc fuel → bytes ≡ m ++ c ∷ rest
       → Accepts (counted (finish naming (tag_at naming tag before [] [] 0 m (at + length m)) c)) rest u
-          → AttributesFound space before bytes at
+      → AttributesFound space before bytes at
   naming_step fuel recur space before at bytes [] rest c s short e h = subst (λ (x : List ℕ). AttributesFound space
       before x at) (sym e) (first (is_space c) refl)
     where
@@ -376,11 +402,14 @@ module _ (tag : Tag) (u : Element) where
 
       first : (t : Bool) → is_space c ≡ t → AttributesFound space before (c ∷ rest) at
       first true f =
-          more_space space before at c rest (recur (space ++ c ∷ []) before (at + 1) rest (record { white =
-              white_snoc space c s.white f; some = snoc_some space c }) (omega (arith, ap length e))
+          more_space space before at c rest (recur (space ++ c ∷ []) before (at + 1) rest (record {
+            white =
+                white_snoc space c s.white f;
+            some = snoc_some space c;
+          }) (omega (arith, ap length e))
           (subst (λ t. Accepts (counted (cond t (between_at true tag before at) (cond (nat_eq c 62) (opened
-              (between_at false tag before at)) (cond (nat_eq c 47) (tag_at slashed tag before [] [] 0 [] at)
-              (refuse (between_at false tag before at)))))) rest u) f h1))
+          (between_at false tag before at)) (cond (nat_eq c 47) (tag_at slashed tag before [] [] 0 [] at)
+          (refuse (between_at false tag before at)))))) rest u) f h1))
       first false f = no_more space before c rest at s.white f h1
   naming_step fuel recur space before at bytes (x ∷ m) rest c s short e h =
       let name : List ℕ = x ∷ m in

@@ -31,9 +31,9 @@ pub record ReferenceFound (bytes : List ℕ) (P : ℕ → ℕ → List ℕ → T
 module _ (top : Frame) (below : List Frame) (text : List ℕ) (u : Element) where
   referred : (at : ℕ) (inner rest : List ℕ) (o : Option ℕ) → Tokens.reference (38 ∷ (inner ++ 59 ∷ [])) ≡ o
       → Accepts (counted (at_referring (plain_at referring false 0 top below text (38 ∷ inner) (at + length inner))
-          o)) rest u
+      o)) rest u
       → (c : ℕ) × IsReference (38 ∷ (inner ++ 59 ∷ [])) c × Accepts (chars_at top below (text ++ encode_utf8 c) []
-          (at + length inner + 1)) rest u
+      (at + length inner + 1)) rest u
   referred at inner rest None e h = absurd (refused_never (plain_at referring false 0 top below text (38 ∷ inner)
       (at + length inner)) rest u h)
   referred at inner rest (Some c) e h = (c, reference_from (38 ∷ (inner ++ 59 ∷ [])) c e, h)
@@ -44,8 +44,15 @@ module _ (top : Frame) (below : List Frame) (text : List ℕ) (u : Element) wher
   reference_found at bytes h =
       let n = next (plain_at referring false 0 top below text (38 ∷ []) at) bytes u (λ _ _. refl) h in
       let r = referred at n.token n.rest (Tokens.reference (38 ∷ (n.token ++ 59 ∷ []))) refl n.later in
-      record { inner = n.token; c = r.0; rest = n.rest; there = n.there
-          ∙ ap (λ k. n.token ++ k ∷ n.rest) (eqb-true n.last 59 n.stop); is = r.1; later = r.2 }
+      record {
+        inner = n.token;
+        c = r.0;
+        rest = n.rest;
+        there = n.there
+            ∙ ap (λ k. n.token ++ k ∷ n.rest) (eqb-true n.last 59 n.stop);
+        is = r.1;
+        later = r.2;
+      }
 
 -- ---- comments and CDATA sections
 
@@ -84,7 +91,7 @@ module _ (fresh : Bool) (mark : ℕ) (top : Frame) (below : List Frame) (text : 
   comment_end : (at : ℕ) (token rest : List ℕ) (o : Option (List ℕ)) → without (codes "--") token ≡ o
       → Accepts (counted (at_commenting (in_comment token at) o)) rest u
       → ((inner : List ℕ) × (token ≡ inner ++ codes "--") × IsComment inner × Accepts (chars_at top below text []
-          (at + 1)) rest u)
+      (at + 1)) rest u)
       ⊎ Accepts (in_comment (token ++ 62 ∷ []) (at + 1)) rest u
   comment_end at token rest None e h = inr h
   comment_end at token rest (Some inner) e h =
@@ -100,15 +107,18 @@ module _ (fresh : Bool) (mark : ℕ) (top : Frame) (below : List Frame) (text : 
   comment_found (suc fuel) token at bytes short h =
       let n = next (in_comment token at) bytes u (λ _ _. refl) h in
       let there : bytes ≡ n.token ++ 62 ∷ n.rest = n.there ∙ ap (λ k. n.token ++ k ∷ n.rest) (eqb-true n.last 62
-          n.stop) in
+      n.stop) in
       let place : ℕ = at + length n.token in
       elim (comment_end place (token ++ n.token) n.rest (without (codes "--") (token ++ n.token)) refl n.later) [
         | inl r ↦ record { front = n.token; inner = r.0; rest = n.rest; there = there; is = r.1; later = (r.2, r.3) }
         | inr r ↦ EndFound-more (codes "--") token bytes n.token n.rest (AfterComment at) (AfterComment (place + 1))
             there
             (λ inner k later x. (x.0, subst (λ p. Accepts (chars_at top below text [] p) later u) (omega arith) x.1))
-            (comment_found fuel ((token ++ n.token) ++ 62 ∷ []) (place + 1) n.rest (omega (arith, shorter bytes
-                n.token n.rest n.last n.there)) r)
+            (comment_found fuel ((token ++ n.token) ++ 62 ∷ []) (place + 1) n.rest (omega (
+              arith,
+              shorter bytes
+                  n.token n.rest n.last n.there,
+            )) r)
       ]
 
   abbrev in_cdata : List ℕ → At
@@ -121,12 +131,12 @@ module _ (fresh : Bool) (mark : ℕ) (top : Frame) (below : List Frame) (text : 
   cdata_end : (at : ℕ) (token rest : List ℕ) (o : Option (List ℕ)) → without (codes "]]") token ≡ o
       → Accepts (counted (at_quoting (in_cdata token at) o)) rest u
       → ((inner : List ℕ) × (token ≡ inner ++ codes "]]") × IsCdata inner × Accepts (chars_at top below (text ++
-          with_line_ends inner) [] (at + 1)) rest u)
+      with_line_ends inner) [] (at + 1)) rest u)
       ⊎ Accepts (in_cdata (token ++ 62 ∷ []) (at + 1)) rest u
   cdata_end at token rest None e h = inr h
   cdata_end at token rest (Some inner) e h =
       let p = passed (is_cdata inner) (chars_at top below (text ++ with_line_ends inner) [] at) (in_cdata token at)
-          rest u h in
+      rest u h in
       inl (inner, without_from (codes "]]") token inner e, cdata_from inner p.0, p.1)
 
   pub cdata_found : (fuel : ℕ) (token : List ℕ) (at : ℕ) (bytes : List ℕ) → length bytes ≤ fuel
@@ -138,15 +148,21 @@ module _ (fresh : Bool) (mark : ℕ) (top : Frame) (below : List Frame) (text : 
   cdata_found (suc fuel) token at bytes short h =
       let n = next (in_cdata token at) bytes u (λ _ _. refl) h in
       let there : bytes ≡ n.token ++ 62 ∷ n.rest = n.there ∙ ap (λ k. n.token ++ k ∷ n.rest) (eqb-true n.last 62
-          n.stop) in
+      n.stop) in
       let place : ℕ = at + length n.token in
       elim (cdata_end place (token ++ n.token) n.rest (without (codes "]]") (token ++ n.token)) refl n.later) [
         | inl r ↦ record { front = n.token; inner = r.0; rest = n.rest; there = there; is = r.1; later = (r.2, r.3) }
         | inr r ↦ EndFound-more (codes "]]") token bytes n.token n.rest (AfterCdata at) (AfterCdata (place + 1)) there
-            (λ inner k later x. (x.0, subst (λ p. Accepts (chars_at top below (text ++ with_line_ends inner) [] p)
-                later u) (omega arith) x.1))
-            (cdata_found fuel ((token ++ n.token) ++ 62 ∷ []) (place + 1) n.rest (omega (arith, shorter bytes
-                n.token n.rest n.last n.there)) r)
+            (λ inner k later x. (
+              x.0,
+              subst (λ p. Accepts (chars_at top below (text ++ with_line_ends inner) [] p)
+                  later u) (omega arith) x.1,
+            ))
+            (cdata_found fuel ((token ++ n.token) ++ 62 ∷ []) (place + 1) n.rest (omega (
+              arith,
+              shorter bytes
+                  n.token n.rest n.last n.there,
+            )) r)
       ]
 
   -- ---- behind <!
@@ -161,7 +177,7 @@ module _ (fresh : Bool) (mark : ℕ) (top : Frame) (below : List Frame) (text : 
     there : bytes ≡ front ++ rest
     begun : ((token ++ front ≡ codes "--") × Accepts (in_comment [] (at + length front)) rest u)
         ⊎ ((token ++ front ≡ codes "[CDATA[") × (is_nil below
-            ≡ false) × Accepts (in_cdata [] (at + length front)) rest u)
+        ≡ false) × Accepts (in_cdata [] (at + length front)) rest u)
 
   false_from : (b : Bool) → not b ≡ true → b ≡ false
   false_from true e = cc
@@ -201,15 +217,18 @@ module _ (fresh : Bool) (mark : ℕ) (top : Frame) (below : List Frame) (text : 
       let comments : State = in_comment [] (at + length n.token) in
       let quotes : State = in_cdata [] (at + length n.token) in
       let there : bytes ≡ (n.token ++ n.last ∷ []) ++ n.rest = n.there
-          ∙ sym (append_assoc n.token (n.last ∷ []) n.rest) in
+      ∙ sym (append_assoc n.token (n.last ∷ []) n.rest) in
       let whole : token ++ (n.token ++ n.last ∷ []) ≡ t = sym (append_assoc token n.token (n.last ∷ [])) in
       let place = snoc_place at n.token n.last in
       let rest1 : State = cond (bytes_eq t (codes "[CDATA[") && not (is_nil below)) quotes (refuse s) in
       elim (chosen (bytes_eq t (codes "-") || bytes_eq t (codes "[")) longer (cond (bytes_eq t (codes "--"))
-          comments rest1) n.rest u n.later) [
+      comments rest1) n.rest u n.later) [
         | inl k ↦
-            let r = markup_found fuel t (at + length n.token + 1) n.rest (omega (arith, shorter bytes n.token n.rest
-                n.last n.there)) k.1 in
+            let r = markup_found fuel t (at + length n.token + 1) n.rest (omega (
+              arith,
+              shorter bytes n.token n.rest
+                  n.last n.there,
+            )) k.1 in
             MarkupFound-more token bytes at n.token n.rest n.last n.there r
         | inr k ↦ elim (chosen (bytes_eq t (codes "--")) comments rest1 n.rest u k.1) [
           | inl j ↦ record {
@@ -225,8 +244,12 @@ module _ (fresh : Bool) (mark : ℕ) (top : Frame) (below : List Frame) (text : 
                 front = n.token ++ n.last ∷ [];
                 rest = n.rest;
                 there = there;
-                begun = inr (whole ∙ same t (codes "[CDATA[") is, false_from (is_nil below) inside, subst (λ q.
-                    Accepts (in_cdata [] q) n.rest u) place p.1);
+                begun = inr (
+                  whole ∙ same t (codes "[CDATA[") is,
+                  false_from (is_nil below) inside,
+                  subst (λ q.
+                      Accepts (in_cdata [] q) n.rest u) place p.1,
+                );
               }
         ]
       ]
@@ -239,17 +262,27 @@ module _ (fresh : Bool) (mark : ℕ) (top : Frame) (below : List Frame) (text : 
         below text [] (at + length (codes "--" ++ (inner ++ codes "-->")))) rest u)
         ⊎ ((bytes ≡ codes "[CDATA[" ++ (inner ++ (codes "]]>" ++ rest))) × (is_nil below ≡ false) × IsCdata inner
         × Accepts (chars_at top below (text ++ with_line_ends inner) [] (at + length (codes "[CDATA[" ++ (inner ++
-            codes "]]>")))) rest u)
+        codes "]]>")))) rest u)
 
   comment_place : (at : ℕ) (front inner : List ℕ) → front ≡ inner ++ codes "--" → at + 2 + length front + 1
       ≡ at + length (codes "--" ++ (inner ++ codes "-->"))
-  comment_place at front inner e = omega (arith, ap length e, length-append inner (codes "--"), length-append inner
-      (codes "-->"))
+  comment_place at front inner e = omega (
+    arith,
+    ap length e,
+    length-append inner (codes "--"),
+    length-append inner
+        (codes "-->"),
+  )
 
   cdata_place : (at : ℕ) (front inner : List ℕ) → front ≡ inner ++ codes "]]" → at + 7 + length front + 1
       ≡ at + length (codes "[CDATA[" ++ (inner ++ codes "]]>"))
-  cdata_place at front inner e = omega (arith, ap length e, length-append inner (codes "]]"), length-append inner
-      (codes "]]>"))
+  cdata_place at front inner e = omega (
+    arith,
+    ap length e,
+    length-append inner (codes "]]"),
+    length-append inner
+        (codes "]]>"),
+  )
 
   is_comment_at : (at : ℕ) (bytes front rest : List ℕ) → bytes ≡ front ++ rest → front ≡ codes "--"
       → EndFound (codes "--") [] rest (AfterComment (at + length front)) → Marked bytes at
@@ -311,7 +344,7 @@ module _ (frame : Frame) (frames : List Frame) (u : Element) where
   TextFound-more : (top : Frame) (text bytes : List ℕ) (at : ℕ) (m markup meaning b : List ℕ) (p : ℕ) → bytes
       ≡ m ++ (markup ++ b) → is_char_data m ≡ true → IsMarkup markup meaning
       → p ≡ at + length m + length markup → TextFound top ((text ++ with_line_ends m) ++ meaning) b p
-          → TextFound top text bytes at
+      → TextFound top text bytes at
   TextFound-more top text bytes at m markup meaning b p e passes is place r = record {
     front = m ++ (markup ++ r.front);
     meaning = with_line_ends m ++ (meaning ++ r.meaning);
@@ -353,10 +386,14 @@ module _ (frame : Frame) (frames : List Frame) (u : Element) where
         let r = reference_found top below so_far u (place + 1) rest h in
         let markup : List ℕ = 38 ∷ (r.inner ++ 59 ∷ []) in
         TextFound-more top text bytes at m markup (encode_utf8 r.c) r.rest (place + 1 + length r.inner + 1) (e
-            ∙ ap (λ (x : List ℕ). m ++ 38 ∷ x) (r.there ∙ sym (append_assoc r.inner (59 ∷ []) r.rest))) passes
+        ∙ ap (λ (x : List ℕ). m ++ 38 ∷ x) (r.there ∙ sym (append_assoc r.inner (59 ∷ []) r.rest))) passes
         (reference markup r.c r.is) (omega (arith, length-append r.inner (59 ∷ [])))
-        (recur (so_far ++ encode_utf8 r.c) (place + 1 + length r.inner + 1) r.rest (omega (arith, shorter bytes m
-            rest 38 e, shorter rest r.inner r.rest 59 r.there)) r.later)
+        (recur (so_far ++ encode_utf8 r.c) (place + 1 + length r.inner + 1) r.rest (omega (
+          arith,
+          shorter bytes m
+              rest 38 e,
+          shorter rest r.inner r.rest 59 r.there,
+        )) r.later)
 
     at_markup : (rest : List ℕ) → bytes ≡ m ++ 60 ∷ 33 ∷ rest → length bytes ≤ suc fuel
         → Accepts (plain_at marking false place top below so_far [] (place + 1 + 1)) rest u
@@ -368,22 +405,32 @@ module _ (frame : Frame) (frames : List Frame) (u : Element) where
               let inner_place : ℕ = place + 1 + 1 + length (codes "--" ++ (r.inner ++ codes "-->")) in
               TextFound-more top text bytes at m (codes "<!--" ++ (r.inner ++ codes "-->")) [] r.rest inner_place
               (e ∙ ap (λ (x : List ℕ). m ++ 60 ∷ 33 ∷ x) (k.0
-                  ∙ ap (λ (x : List ℕ). codes "--" ++ x) (sym (append_assoc r.inner (codes "-->") r.rest)))) passes
+              ∙ ap (λ (x : List ℕ). codes "--" ++ x) (sym (append_assoc r.inner (codes "-->") r.rest)))) passes
               (comment r.inner k.1) (omega arith)
-              (recur (so_far ++ []) inner_place r.rest (omega (arith, shorter bytes m (33 ∷ rest) 60 e, ap length
-                  k.0, length-append r.inner (codes "-->" ++ r.rest)))
+              (recur (so_far ++ []) inner_place r.rest (omega (
+                arith,
+                shorter bytes m (33 ∷ rest) 60 e,
+                ap length
+                    k.0,
+                length-append r.inner (codes "-->" ++ r.rest),
+              ))
               (subst (λ (t : List ℕ). Accepts (chars_at top below t [] inner_place) r.rest u) (sym (append-nil
-                  so_far)) k.2))
+              so_far)) k.2))
           | inr k ↦
               let inner_place : ℕ = place + 1 + 1 + length (codes "[CDATA[" ++ (r.inner ++ codes "]]>")) in
               TextFound-more top text bytes at m (codes "<![CDATA[" ++ (r.inner ++ codes "]]>")) (with_line_ends
-                  r.inner) r.rest inner_place
+              r.inner) r.rest inner_place
               (e ∙ ap (λ (x : List ℕ). m ++ 60 ∷ 33 ∷ x) (k.0
-                  ∙ ap (λ (x : List ℕ). codes "[CDATA[" ++ x) (sym (append_assoc r.inner (codes "]]>") r.rest))))
-                  passes
+              ∙ ap (λ (x : List ℕ). codes "[CDATA[" ++ x) (sym (append_assoc r.inner (codes "]]>") r.rest))))
+              passes
               (cdata r.inner k.2) (omega arith)
-              (recur (so_far ++ with_line_ends r.inner) inner_place r.rest (omega (arith, shorter bytes m (33 ∷
-                  rest) 60 e, ap length k.0, length-append r.inner (codes "]]>" ++ r.rest))) k.3)
+              (recur (so_far ++ with_line_ends r.inner) inner_place r.rest (omega (
+                arith,
+                shorter bytes m (33 ∷
+                    rest) 60 e,
+                ap length k.0,
+                length-append r.inner (codes "]]>" ++ r.rest),
+              )) k.3)
         ]
 
     at_less : (rest : List ℕ) → bytes ≡ m ++ 60 ∷ rest → length bytes ≤ suc fuel
@@ -392,8 +439,16 @@ module _ (frame : Frame) (frames : List Frame) (u : Element) where
     at_less (d ∷ rest) e short h = elim (cases_eq d 33) [
       | inl is ↦ at_markup rest (e ∙ ap (λ k. m ++ 60 ∷ k ∷ rest) is) short (subst (λ k. Accepts (less_at false
           place top below so_far [] (place + 1)) (k ∷ rest) u) is h)
-      | inr other ↦ record { front = m; meaning = with_line_ends m; rest = d ∷ rest; there = e; is = plain m
-          (data_from m passes); plain_rest = λ after f. other cc; later = h }
+      | inr other ↦ record {
+        front = m;
+        meaning = with_line_ends m;
+        rest = d ∷ rest;
+        there = e;
+        is = plain m
+            (data_from m passes);
+        plain_rest = λ after f. other cc;
+        later = h;
+      }
     ]
 
   second : (c : ℕ) → (nat_eq c 60 || nat_eq c 38) ≡ true → nat_eq c 60 ≡ false → c ≡ 38
@@ -423,4 +478,4 @@ module _ (frame : Frame) (frames : List Frame) (u : Element) where
       absurd (omega (arith, shorter bytes n.token n.rest n.last n.there))
   text_found (suc fuel) top text at bytes short h =
       text_step top text at bytes fuel (text_found fuel top) short (next (chars_at top below text [] at) bytes u (λ
-          _ _. refl) h)
+      _ _. refl) h)

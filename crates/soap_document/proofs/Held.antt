@@ -15,8 +15,11 @@ all_passes p (x ∷ xs) each = rw (each.0, all_passes p xs each.1)
 
 pub all_from_passes : (p : ℕ → Bool) (xs : List ℕ) → list_all p xs ≡ true → AllByRecursion (λ c. p c ≡ true) xs
 all_from_passes p [] all = tt
-all_from_passes p (x ∷ xs) all = let (here, later) = and_parts (p x) (list_all p xs) all in (here, all_from_passes p
-    xs later)
+all_from_passes p (x ∷ xs) all = let (here, later) = and_parts (p x) (list_all p xs) all in (
+  here,
+  all_from_passes p
+      xs later,
+)
 
 pub all_weaker : (P Q : ℕ → Type 0) → ((c : ℕ) → P c → Q c) → (xs : List ℕ) → AllByRecursion P xs → AllByRecursion Q xs
 all_weaker P Q f [] h = tt
@@ -64,8 +67,11 @@ front_from_begins (w ∷ word) (b ∷ bytes) e =
 holds_at : (before word after : List ℕ) → word ≢ [] → holds (before ++ (word ++ after)) word ≡ true
 holds_at [] [] after some = absurd (some refl)
 holds_at [] (w ∷ word) after some = rw (eq-eqb w w refl, begins-append word after)
-holds_at (b ∷ before) word after some = rw (holds_at before word after some, or-true (begins word (b ∷ (before ++
-    (word ++ after)))))
+holds_at (b ∷ before) word after some = rw (
+  holds_at before word after some,
+  or-true (begins word (b ∷ (before ++
+      (word ++ after)))),
+)
 
 pub holds-Holds : (bytes word : List ℕ) → word ≢ [] → Holds bytes word → holds bytes word ≡ true
 holds-Holds bytes word some h = ap (λ x. holds x word) h.there ∙ holds_at h.before word h.after some
@@ -75,10 +81,17 @@ Holds-from [] [] some e = absurd (some refl)
 Holds-from [] (w ∷ word) some e = cc
 Holds-from (b ∷ bytes) word some e =
     elim (or_cases (begins word (b ∷ bytes)) (holds bytes word) e) [
-      | inl here ↦ record { before = []; after = drop (length word) (b ∷ bytes); there = front_from_begins word (b ∷
-          bytes) here }
-      | inr later ↦ let h = Holds-from bytes word some later in record { before = b ∷ h.before; after = h.after;
-          there = ap (λ x. b ∷ x) h.there }
+      | inl here ↦ record {
+        before = [];
+        after = drop (length word) (b ∷ bytes);
+        there = front_from_begins word (b ∷
+            bytes) here;
+      }
+      | inr later ↦ let h = Holds-from bytes word some later in record {
+        before = b ∷ h.before;
+        after = h.after;
+        there = ap (λ x. b ∷ x) h.there;
+      }
     ]
 
 pub lacks : (bytes word : List ℕ) → word ≢ [] → ¬ (Holds bytes word) → not (holds bytes word) ≡ true
@@ -96,8 +109,12 @@ pub lacks_byte : (k : ℕ) (bytes : List ℕ) → ¬ (Holds bytes (k ∷ [])) �
 lacks_byte k [] h = tt
 lacks_byte k (c ∷ bytes) h = (
   ne_eqb c k (λ e. h (record { before = []; after = bytes; there = ap (λ x. x ∷ bytes) e })),
-  lacks_byte k bytes (λ later. h (record { before = c ∷ later.before; after = later.after; there = ap (λ x. c ∷ x)
-      later.there })),
+  lacks_byte k bytes (λ later. h (record {
+    before = c ∷ later.before;
+    after = later.after;
+    there = ap (λ x. c ∷ x)
+        later.there;
+  })),
 )
 
 -- ---- the first of a byte

@@ -60,14 +60,16 @@ retarget at b s t u e m rest = m rest ∙ ap (λ x. run x rest) (e (at + length 
 -- bytes that end no token lengthen it
 pub kept : (s : State) (bytes : List ℕ) (at : ℕ) → NoStops s.mode s.quote bytes
     → Moves at bytes (at_place s) (at_place (longer s bytes))
-kept s [] at h = retarget at [] (at_place s) (at_place s) (at_place (longer s [])) (λ p. ap (λ t. record s { at = p;
-    token = t }) (sym (append-nil s.token))) (stay at (at_place s))
+kept s [] at h = retarget at [] (at_place s) (at_place s) (at_place (longer s [])) (λ p. ap (λ t. record s {
+  at = p;
+  token = t;
+}) (sym (append-nil s.token))) (stay at (at_place s))
 kept s (c ∷ bytes) at h =
     let next = longer s (c ∷ []) in
     byte at c bytes (at_place s) (at_place next) (at_place (longer s (c ∷ bytes))) (kept_step (at_place s at) c h.0)
     (retarget (at + 1) bytes (at_place next) (at_place (longer next bytes)) (at_place (longer s (c ∷ bytes)))
     (λ p. ap (λ t. record s { at = p; token = t }) (append_assoc s.token (c ∷ []) bytes)) (kept next bytes (at + 1)
-        h.1))
+    h.1))
 
 -- ---- states
 

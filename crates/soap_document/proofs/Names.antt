@@ -64,8 +64,12 @@ pub IsChars-from : (bytes : List ℕ) → is_chars bytes ≡ true → IsChars by
 unfolding is_chars
 IsChars-from bytes e =
     let (utf8, all) = and_parts (is_utf8 bytes) (list_all is_char (chars bytes)) e in
-    record { characters = chars bytes; each = all_from_passes is_char (chars bytes) all; coded = sym (encodes-chars
-        bytes (IsUtf8-from_is_utf8 bytes utf8)) }
+    record {
+      characters = chars bytes;
+      each = all_from_passes is_char (chars bytes) all;
+      coded = sym (encodes-chars
+          bytes (IsUtf8-from_is_utf8 bytes utf8));
+    }
 
 name_each : (bytes : List ℕ) (h : IsName bytes) → AllByRecursion (λ c. is_name_char c ≡ true) (h.first ∷ h.others)
 name_each bytes h = (rw h.starts, h.each)
@@ -103,7 +107,7 @@ name_byte c b passes ascii k small fails = ne_eqb b k (λ e. true≢false (sym p
 char_bytes : (c : ℕ) → is_name_char c ≡ true → AllByRecursion IsNameByte (encode_utf8 c)
 char_bytes c passes = recursion_from_All IsNameByte (encode_utf8 c) (λ k d h.
     rw (get_or_default (encode_utf8 c) k d 0 h) (name_byte c (get_or (encode_utf8 c) k 0) passes (inside_one c []
-        (encode_utf8 c) k (sym (append-nil (encode_utf8 c))) h)))
+    (encode_utf8 c) k (sym (append-nil (encode_utf8 c))) h)))
 
 name_bytes_of : (cs : List ℕ) → AllByRecursion (λ c. is_name_char c ≡ true) cs
     → AllByRecursion IsNameByte (encode_utf8_all cs)
@@ -116,8 +120,13 @@ name_bytes bytes h = subst (AllByRecursion IsNameByte) (sym h.coded) (name_bytes
     bytes h))
 
 encode_some : (c : ℕ) (rest : List ℕ) → encode_utf8 c ++ rest ≡ [] → ⊥
-encode_some c rest e = omega (arith, ap length e, length-append (encode_utf8 c) rest, length-encode c,
-    len_utf8_bounds c)
+encode_some c rest e = omega (
+  arith,
+  ap length e,
+  length-append (encode_utf8 c) rest,
+  length-encode c,
+  len_utf8_bounds c,
+)
 
 pub name_some : (bytes : List ℕ) → IsName bytes → bytes ≢ []
 name_some bytes h e = encode_some h.first (encode_utf8_all h.others) (sym h.coded ∙ e)

@@ -24,8 +24,12 @@ outer_less : (top : Frame) (token : List ℕ) (at : ℕ) → is_white token ≡ 
 outer_less top token at e = rw e
 
 misc_only : {bytes : List ℕ} → IsMisc bytes → (top : Frame) (at : ℕ) → MiscEnds top bytes at
-misc_only (white space h) top at = record { token = space; is = white_passes space h; moves = kept (chars_at top []
-    [] [] at) space at (white_chars space h) }
+misc_only (white space h) top at = record {
+  token = space;
+  is = white_passes space h;
+  moves = kept (chars_at top []
+      [] [] at) space at (white_chars space h);
+}
 misc_only (comment space inner rest h c m) top at =
     let p1 : ℕ = at + length space in
     let after = misc_only m top (p1 + length (codes "<!--" ++ (inner ++ codes "-->"))) in
@@ -37,12 +41,12 @@ misc_only (comment space inner rest h c m) top at =
           [] [] space) target
           (kept (chars_at top [] [] [] at) space at (white_chars space h))
           (regroup p1 ((codes "<!--" ++ (inner ++ codes "-->")) ++ rest) (codes "<!--" ++ (inner ++ (codes "-->" ++
-              rest))) (chars_at top [] [] space) target
+          rest))) (chars_at top [] [] space) target
           (ap (λ (x : List ℕ). codes "<!--" ++ x) (append_assoc inner (codes "-->") rest))
           (then p1 (codes "<!--" ++ (inner ++ codes "-->")) rest (chars_at top [] [] space) (chars_at top [] [] [])
-              target
+          target
           (byte p1 60 (codes "!--" ++ (inner ++ codes "-->")) (chars_at top [] [] space) (less_at false p1 top [] []
-              []) (chars_at top [] [] [])
+          []) (chars_at top [] [] [])
           (outer_less top space p1 (white_passes space h)) (comment_moves false p1 top [] [] inner (p1 + 1) c))
           after.moves));
     }
@@ -85,8 +89,13 @@ after_white {bytes} mark c at e w m =
     }
 
 misc_first : {bytes : List ℕ} → IsMisc bytes → (mark : List ℕ) (at : ℕ) → is_mark mark ≡ true → Starts mark bytes at
-misc_first (white [] h) mark at e = record { fresh = true; before = beginning_at mark; enters = λ p. first_less mark
-    p e; moves = stay at (beginning_at mark) }
+misc_first (white [] h) mark at e = record {
+  fresh = true;
+  before = beginning_at mark;
+  enters = λ p. first_less mark
+      p e;
+  moves = stay at (beginning_at mark);
+}
 misc_first (white (c ∷ space) h) mark at e = after_white mark c at e h.0 (white space h.1)
 misc_first (comment [] inner rest h c m) mark at e =
     let p1 : ℕ = at + length (codes "<!--" ++ (inner ++ codes "-->")) in
@@ -100,7 +109,7 @@ misc_first (comment [] inner rest h c m) mark at e =
           (ap (λ (x : List ℕ). codes "<!--" ++ x) (append_assoc inner (codes "-->") rest))
           (then at (codes "<!--" ++ (inner ++ codes "-->")) rest (beginning_at mark) (outer_at []) (outer_at ends.token)
           (byte at 60 (codes "!--" ++ (inner ++ codes "-->")) (beginning_at mark) (less_at true at nothing_open []
-              [] []) (outer_at [])
+          [] []) (outer_at [])
           (first_less mark at e) (comment_moves true at nothing_open [] [] inner (at + 1) c))
           ends.moves);
     }
@@ -118,12 +127,12 @@ declared_moves : (mark inner : List ℕ) (at : ℕ) → is_mark mark ≡ true �
     → is_declaration inner ≡ true → Moves at (60 ∷ 63 ∷ (inner ++ 62 ∷ [])) (beginning_at mark) (outer_at [])
 declared_moves mark inner at e h passes =
     byte at 60 (63 ∷ (inner ++ 62 ∷ [])) (beginning_at mark) (less_at true at nothing_open [] [] []) (outer_at [])
-        (first_less mark at e)
+    (first_less mark at e)
     (byte (at + 1) 63 (inner ++ 62 ∷ []) (less_at true at nothing_open [] [] []) (declaring_at at []) (outer_at []) refl
     (then (at + 1 + 1) inner (62 ∷ []) (declaring_at at []) (declaring_at at inner) (outer_at []) (kept
-        (declaring_at at [] 0) inner (at + 1 + 1) h)
+    (declaring_at at [] 0) inner (at + 1 + 1) h)
     (one (at + 1 + 1 + length inner) 62 (declaring_at at inner) (outer_at []) (declared_end at inner (at + 1 + 1 +
-        length inner) passes))))
+    length inner) passes))))
 
 starts : (mark declaration before : List ℕ) (at : ℕ) → is_mark mark ≡ true → (declaration
     ≡ []) ⊎ Declares declaration → IsMisc before → Starts mark (declaration ++ before) at
@@ -136,7 +145,7 @@ starts mark declaration before at e (inr d) m =
       enters = λ p. outer_less nothing_open ends.token p ends.is;
       moves = then at declaration before (beginning_at mark) (outer_at []) (outer_at ends.token)
           (regroup at (60 ∷ 63 ∷ (d.inner ++ 62 ∷ [])) declaration (beginning_at mark) (outer_at []) (sym d.there)
-              (declared_moves mark d.inner at e d.text d.passes))
+          (declared_moves mark d.inner at e d.text d.passes))
           ends.moves;
     }
 
@@ -168,9 +177,9 @@ document_only (document mark declaration before bytes root after m d b e a) =
     let through = element_only e nothing_open [] [] s.fresh s.before (λ _. refl) refl (s.enters at) in
     ap (λ x. root_of (run start x)) (sym (document_bytes mark declaration before bytes after))
     ∙ ap root_of (mark_moves m ((declaration ++ before) ++ (bytes ++ after)) ∙ s.moves (bytes ++ after)
-        ∙ ap (λ p. run (s.before p) (bytes ++ after)) (prefix_place mark declaration before)
+    ∙ ap (λ p. run (s.before p) (bytes ++ after)) (prefix_place mark declaration before)
     ∙ through after ∙ ap (run (chars_at (rooted root) [] [] [] (at + length bytes))) (sym (append-nil after))
-        ∙ ends.moves [])
+    ∙ ends.moves [])
     ∙ ended root ends.token (at + length bytes + length after) ends.is
 
 pub one_tree : (bytes : List ℕ) (root other : Element) → IsDocument bytes root → IsDocument bytes other → root ≡ other

@@ -26,7 +26,7 @@ pub grown : (top : Frame) (x : List ℕ) (u : Element) (ps : Parts)
     → with_parts (with_parts (with_parts top (onto x none)) (child u none)) ps ≡ with_parts top (onto x (child u ps))
 grown top x u ps = ap (λ (k : Parts). record top { parts = k })
     (join-assoc (join top.parts (onto x none)) (child u none) ps ∙ join-assoc top.parts (onto x none) (child u ps)
-        ∙ ap (join top.parts) (join-onto x none (child u ps)))
+    ∙ ap (join top.parts) (join-onto x none (child u ps)))
 
 -- ---- start tags
 
@@ -42,8 +42,13 @@ record Begins (bytes : List ℕ) : Type 0 where
 attributes_begin : {bytes : List ℕ} {attributes : List Attribute} → IsAttributes bytes attributes
     → (c : ℕ) (rest : List ℕ) → IsTagByte c → Begins (bytes ++ c ∷ rest)
 attributes_begin (end [] h) c rest e = record { first = c; others = rest; there = refl; is = e }
-attributes_begin (end (b ∷ space) h) c rest e = record { first = b; others = space ++ c ∷ rest; there = refl; is =
-    inl h.0 }
+attributes_begin (end (b ∷ space) h) c rest e = record {
+  first = b;
+  others = space ++ c ∷ rest;
+  there = refl;
+  is =
+      inl h.0;
+}
 attributes_begin (more [] name left right quoted value tail attributes s q l r v h) c rest e = absurd (s.some refl)
 attributes_begin (more (b ∷ space) name left right quoted value tail attributes s q l r v h) c rest e =
     record { first = b; others = _; there = refl; is = inl s.white.0 }
@@ -95,18 +100,18 @@ module _ (fresh : Bool) (top : Frame) (below : List Frame) (text : List ℕ) (na
       (at + length (start_tag name tag))) (with_parts top (onto text none) ∷ below) [] [])
   open_moves =
       let inside = chars_at (frame_at (at + length (start_tag name tag))) (with_parts top (onto text none) ∷ below)
-          [] [] in
+      [] [] in
       let attrs = attributes_only h here false [] (at + 1 + length name) in
       let last_one = one p3 62 (between_at attrs.ends_spaced here attributes) inside
       (open_step attrs.ends_spaced ∙ ap (λ k. chars_at (frame_at k) (with_parts top (onto text none) ∷ below) [] []
-          (p3 + 1)) (open_place at name tag)) in
+      (p3 + 1)) (open_place at name tag)) in
       then (at + 1) name (tag ++ codes ">") (less_at fresh at top below text []) (less_at fresh at top below text
-          name) inside
+      name) inside
       (kept (less_at fresh at top below text [] 0) name (at + 1) (qname_less name q))
       (tag_moves fresh at top below text name (tag ++ codes ">") (at + 1 + length name) inside (attributes_begin h
-          62 [] (inr (inl refl))) q room
+      62 [] (inr (inl refl))) q room
       (then (at + 1 + length name) tag (codes ">") (between_at false here []) (between_at attrs.ends_spaced here
-          attributes) inside attrs.moves last_one))
+      attributes) inside attrs.moves last_one))
 
   slash_step : (spaced : Bool) → step (between_at spaced here attributes p3) 47
       ≡ tag_at slashed here attributes [] [] 0 [] (p3 + 1)
@@ -124,16 +129,16 @@ module _ (fresh : Bool) (top : Frame) (below : List Frame) (text : List ℕ) (na
       let attrs = attributes_only h here false [] (at + 1 + length name) in
       let slash = tag_at slashed here attributes [] [] 0 [] in
       let last_one = one (p3 + 1) 62 slash after (ap (λ k. chars_at (hollow k) below [] [] (p3 + 1 + 1))
-          (empty_place at name tag)) in
+      (empty_place at name tag)) in
       then (at + 1) name (tag ++ codes "/>") (less_at fresh at top below text []) (less_at fresh at top below text
-          name) after
+      name) after
       (kept (less_at fresh at top below text [] 0) name (at + 1) (qname_less name q))
       (tag_moves fresh at top below text name (tag ++ codes "/>") (at + 1 + length name) after (attributes_begin h
-          47 (codes ">") (inr (inr refl))) q room
+      47 (codes ">") (inr (inr refl))) q room
       (then (at + 1 + length name) tag (codes "/>") (between_at false here []) (between_at attrs.ends_spaced here
-          attributes) after attrs.moves
+      attributes) after attrs.moves
       (byte p3 47 (codes ">") (between_at attrs.ends_spaced here attributes) slash after (slash_step
-          attrs.ends_spaced) last_one)))
+      attrs.ends_spaced) last_one)))
 
 -- ---- end tags
 
@@ -154,11 +159,11 @@ module _ (top frame : Frame) (frames : List Frame) (mark : ℕ) where
   close_moves space at q h =
       let after = chars_at over frames [] [] in
       then at top.name (space ++ codes ">") (ending_at []) (ending_at top.name) after (kept (ending_at [] 0)
-          top.name at (qname_ending top.name q))
+      top.name at (qname_ending top.name q))
       (then (at + length top.name) space (codes ">") (ending_at top.name) (ending_at (top.name ++ space)) after
-          (kept (ending_at top.name 0) space (at + length top.name) (white_ending space h))
+      (kept (ending_at top.name 0) space (at + length top.name) (white_ending space h))
       (one (at + length top.name + length space) 62 (ending_at (top.name ++ space)) after (close_step space (at +
-          length top.name + length space) h)))
+      length top.name + length space) h)))
 
 -- ---- elements and content
 
@@ -182,7 +187,7 @@ content_place at bytes inner rest = omega (arith, length-append bytes (inner ++ 
 mutual
   pub element_only : {depth at : ℕ} {bytes : List ℕ} {u : Element} → IsElement depth at bytes u
       → (top : Frame) (below : List Frame) (x : List ℕ) (fresh : Bool) (s : At) → (depth < max_depth
-          → has_room below top.parts ≡ true) → length below ≡ depth
+      → has_room below top.parts ≡ true) → length below ≡ depth
       → step (s at) 60 ≡ less_at fresh at top below x [] (at + 1)
       → Moves at bytes s (chars_at (with_parts (with_parts top (onto x none)) (child u none)) below [] [])
   element_only (full depth at name tag attributes content parts space d q h c w) top below x fresh s room deep enters =
@@ -195,25 +200,25 @@ mutual
       let closing = ending_at done settled below mark [] in
       let after = chars_at (with_parts settled (child (element name attributes start mark parts) none)) below [] [] in
       regroup at (start_tag name tag ++ ((content ++ codes "</") ++ (name ++ (space ++ codes ">")))) (start_tag name
-          tag ++ (content ++ end_tag name space)) s after
+      tag ++ (content ++ end_tag name space)) s after
       (full_bytes (start_tag name tag) content name space)
       (then at (start_tag name tag) ((content ++ codes "</") ++ (name ++ (space ++ codes ">"))) s inside after
       (byte at 60 (name ++ (tag ++ codes ">")) s (less_at fresh at top below x []) inside enters (open_moves fresh
-          top below x name tag attributes at q h (room d)))
+      top below x name tag attributes at q h (room d)))
       (then start (content ++ codes "</") (name ++ (space ++ codes ">")) inside closing after
       (content_only c frame settled below (ap suc deep))
       (close_moves done settled below mark space (start + length (content ++ codes "</")) q w)))
   element_only (empty depth at name tag attributes d q h) top below x fresh s room deep enters =
       let start : ℕ = at + length (empty_tag name tag) in
       let after = chars_at (with_parts (with_parts top (onto x none)) (child (element name attributes start start
-          none) none)) below [] [] in
+      none) none)) below [] [] in
       byte at 60 (name ++ (tag ++ codes "/>")) s (less_at fresh at top below x []) after enters (empty_moves fresh
-          top below x name tag attributes at q h (room d))
+      top below x name tag attributes at q h (room d))
 
   pub content_only : {depth at : ℕ} {bytes : List ℕ} {parts : Parts} → IsContent depth at bytes parts
       → (top frame : Frame) (frames : List Frame) → length (frame ∷ frames) ≡ depth
       → Moves at (bytes ++ codes "</") (chars_at top (frame ∷ frames) [] []) (ending_at (with_parts top parts) frame
-          frames (at + length bytes) [])
+      frames (at + length bytes) [])
   content_only (last depth at bytes meaning t) top frame frames deep =
       let ends = text_only top frame frames t [] at in
       let below = frame ∷ frames in
@@ -222,7 +227,7 @@ mutual
       let after = ending_at (with_parts top (onto meaning none)) frame frames place [] in
       then at bytes (codes "</") (chars_at top below [] []) before after ends.moves
       (byte place 60 (codes "/") before (less_at false place top below meaning []) after (text_less top frame frames
-          [] meaning bytes at ends place)
+      [] meaning bytes at ends place)
       (one (place + 1) 47 (less_at false place top below meaning []) after refl))
   content_only (more depth at bytes meaning inner first rest parts t e c) top frame frames deep =
       let ends = text_only top frame frames t [] at in
@@ -233,15 +238,15 @@ mutual
       let middle = chars_at next below [] [] in
       let mark : ℕ = place + length inner + length rest in
       let after = ending_at (with_parts top (onto meaning (child first parts))) frame frames (at + length (bytes ++
-          (inner ++ rest))) [] in
+      (inner ++ rest))) [] in
       regroup at (bytes ++ (inner ++ (rest ++ codes "</"))) ((bytes ++ (inner ++ rest)) ++ codes "</") (chars_at top
-          below [] []) after (content_bytes bytes inner rest)
+      below [] []) after (content_bytes bytes inner rest)
       (then at bytes (inner ++ (rest ++ codes "</")) (chars_at top below [] []) before after ends.moves
       (then place inner (rest ++ codes "</") before middle after
       (element_only e top below meaning false before (has_room_below frame frames top.parts depth deep) deep
-          (text_less top frame frames [] meaning bytes at ends place))
+      (text_less top frame frames [] meaning bytes at ends place))
       (retarget (place + length inner) (rest ++ codes "</") middle (ending_at (with_parts next parts) frame frames
-          mark []) after
+      mark []) after
       (λ p. ap₂ (λ (f : Frame) (m : ℕ). ending_at f frame frames m [] p) (grown top meaning first parts)
-          (content_place at bytes inner rest))
+      (content_place at bytes inner rest))
       (content_only c next frame frames deep))))

@@ -33,7 +33,7 @@ module _ (tag : Tag) (attributes : List Attribute) where
   space_moves spaced [] at h = absurd (h.some refl)
   space_moves spaced (c ∷ space) at h =
       byte at c space (between_at spaced tag attributes) (between_at true tag attributes) (between_at true tag
-          attributes) (naming_space spaced c at h.white.0)
+      attributes) (naming_space spaced c at h.white.0)
       (white_moves (between_at true tag attributes) (naming_space true) space (at + 1) h.white.1)
 
   -- ---- an attribute's name and the = behind it
@@ -68,9 +68,9 @@ module _ (tag : Tag) (attributes : List Attribute) where
         name q))
     equals_moves (c ∷ left) at q w =
         byte at c (left ++ codes "=") (name_at name) named_at valuing_at (name_space c at (qname_some name q)
-            (qname_passes name q) w.0)
+        (qname_passes name q) w.0)
         (then (at + 1) left (codes "=") named_at named_at valuing_at (white_moves named_at named_space left (at + 1)
-            w.1)
+        w.1)
         (one (at + 1 + length left) 61 named_at valuing_at refl))
 
     -- ---- a value
@@ -97,11 +97,11 @@ module _ (tag : Tag) (attributes : List Attribute) where
         let end = value_at quote (so_far ++ encode_utf8 c) [] in
         regroup at (38 ∷ (r.inner ++ 59 ∷ [])) bytes (value_at quote value token) end (sym r.there)
         (byte at 38 (r.inner ++ 59 ∷ []) (value_at quote value token) (refers quote so_far (38 ∷ [])) end
-            (reference_step quote value token at e)
+        (reference_step quote value token at e)
         (then (at + 1) r.inner (59 ∷ []) (refers quote so_far (38 ∷ [])) (refers quote so_far (38 ∷ r.inner)) end
         (kept (refers quote so_far (38 ∷ []) 0) r.inner (at + 1) r.text)
         (one (at + 1 + length r.inner) 59 (refers quote so_far (38 ∷ r.inner)) end (reference_end quote so_far
-            r.inner c (at + 1 + length r.inner) (rw r.there at r.passes)))))
+        r.inner c (at + 1 + length r.inner) (rw r.there at r.passes)))))
 
     -- where a value ends: a token that is a run of its characters, which is not yet made part of it
     record ValueEnds (quote : ℕ) (value bytes meaning : List ℕ) (at : ℕ) : Type 0 where
@@ -135,9 +135,9 @@ module _ (tag : Tag) (attributes : List Attribute) where
               after.token)
               (kept (value_at quote value [] at) bytes at (plain_run quote bytes h))
               (then (at + length bytes) reference rest (value_at quote value bytes) (value_at quote so_far [])
-                  (value_at quote after.before after.token)
+              (value_at quote after.before after.token)
               (reference_moves quote value bytes reference c (at + length bytes) (run_passes quote bytes q h)
-                  (reference_passes reference c r)) after.moves);
+              (reference_passes reference c r)) after.moves);
         }
 
     abbrev added : List ℕ → List Attribute
@@ -159,20 +159,20 @@ module _ (tag : Tag) (attributes : List Attribute) where
         byte at 34 (inner ++ 34 ∷ []) valuing_at (value_at 34 [] []) after refl
         (then (at + 1) inner (34 ∷ []) (value_at 34 [] []) (value_at 34 ends.before ends.token) after ends.moves
         (one (at + 1 + length inner) 34 (value_at 34 ends.before ends.token) after (double_end ends.before
-            ends.token value (at + 1 + length inner) ends.passes ends.sum)))
+        ends.token value (at + 1 + length inner) ends.passes ends.sum)))
     quoted_only (single inner value h) at =
         let ends = value_only h refl [] (at + 1) in
         let after = between_at false tag (added value) in
         byte at 39 (inner ++ 39 ∷ []) valuing_at (value_at 39 [] []) after refl
         (then (at + 1) inner (39 ∷ []) (value_at 39 [] []) (value_at 39 ends.before ends.token) after ends.moves
         (one (at + 1 + length inner) 39 (value_at 39 ends.before ends.token) after (single_end ends.before
-            ends.token value (at + 1 + length inner) ends.passes ends.sum)))
+        ends.token value (at + 1 + length inner) ends.passes ends.sum)))
 
   -- an attribute, and the white space before it
   attribute_only : (spaced : Bool) (space name left right quoted value : List ℕ) (at : ℕ) → IsSpace space
       → IsQName name → IsWhite left → IsWhite right → IsValue quoted value
       → Moves at (space ++ (name ++ ((left ++ codes "=") ++ (right ++ quoted)))) (between_at spaced tag attributes)
-          (between_at false tag (attributes ++ record { name = name; value = value } ∷ []))
+      (between_at false tag (attributes ++ record { name = name; value = value } ∷ []))
   attribute_only spaced space name left right quoted value at s q l r v =
       let naming_at = between_at true tag attributes in
       let after = between_at false tag (attributes ++ record { name = name; value = value } ∷ []) in
@@ -180,13 +180,13 @@ module _ (tag : Tag) (attributes : List Attribute) where
       let p2 = p1 + length name in
       let p3 = p2 + length (left ++ codes "=") in
       then at space (name ++ ((left ++ codes "=") ++ (right ++ quoted))) (between_at spaced tag attributes)
-          naming_at after (space_moves spaced space at s)
+      naming_at after (space_moves spaced space at s)
       (then p1 name ((left ++ codes "=") ++ (right ++ quoted)) naming_at (name_at name) after (kept (naming_at 0)
-          name p1 (qname_naming name q))
+      name p1 (qname_naming name q))
       (then p2 (left ++ codes "=") (right ++ quoted) (name_at name) (valuing_at name) after (equals_moves name left
-          p2 q l)
+      p2 q l)
       (then p3 right quoted (valuing_at name) (valuing_at name) after (white_moves (valuing_at name) (valuing_space
-          name) right p3 r)
+      name) right p3 r)
       (quoted_only name v (p3 + length right)))))
 
 -- the attributes of a tag, up to what ends it
@@ -203,7 +203,7 @@ attributes_only (end [] h) tag spaced before at = record {
   moves = retarget at [] (between_at spaced tag before) (between_at spaced tag before) (between_at spaced tag
       (before ++ []))
       (λ p. ap (λ (xs : List Attribute). between_at spaced tag xs p) (sym (append-nil before))) (stay at (between_at
-          spaced tag before));
+      spaced tag before));
 }
 attributes_only (end (c ∷ space) h) tag spaced before at = record {
   ends_spaced = true;
@@ -225,7 +225,7 @@ attributes_only (more space name left right quoted value rest attributes s q l r
           (then at front rest (between_at spaced tag before) (between_at false tag (before ++ mine ∷ [])) target
           (attribute_only tag before spaced space name left right quoted value at s q l r v)
           (retarget (at + length front) rest (between_at false tag (before ++ mine ∷ [])) (between_at
-              after.ends_spaced tag ((before ++ mine ∷ []) ++ attributes)) target
+          after.ends_spaced tag ((before ++ mine ∷ []) ++ attributes)) target
           (λ p. ap (λ (xs : List Attribute). between_at after.ends_spaced tag xs p) (append_assoc before (mine ∷ [])
-              attributes)) after.moves));
+          attributes)) after.moves));
     }

@@ -38,11 +38,11 @@ module _ (fresh : Bool) (mark : ℕ) (top : Frame) (below : List Frame) (text : 
       ap (λ t. in_comment t p) (sym (append-nil token))) (stay at (in_comment token))
   comment_run token (c ∷ bytes) at h =
       let here : c ≡ 62 → without (codes "--") token ≡ None = λ e. ap (without (codes "--")) (sym (append-nil
-          token)) ∙ h [] bytes (ap (λ x. x ∷ bytes) e) in
+      token)) ∙ h [] bytes (ap (λ x. x ∷ bytes) e) in
       byte at c bytes (in_comment token) (in_comment (token ++ c ∷ [])) (in_comment (token ++ (c ∷ bytes)))
-          (comment_step token c (nat_eq c 62) at refl here)
+      (comment_step token c (nat_eq c 62) at refl here)
       (retarget (at + 1) bytes (in_comment (token ++ c ∷ [])) (in_comment ((token ++ c ∷ []) ++ bytes)) (in_comment
-          (token ++ (c ∷ bytes)))
+      (token ++ (c ∷ bytes)))
       (λ p. ap (λ t. in_comment t p) (append_assoc token (c ∷ []) bytes))
       (comment_run (token ++ c ∷ []) bytes (at + 1) (IsOpen-tail (codes "--") token c bytes h)))
 
@@ -58,11 +58,11 @@ module _ (fresh : Bool) (mark : ℕ) (top : Frame) (below : List Frame) (text : 
       in_cdata t p) (sym (append-nil token))) (stay at (in_cdata token))
   cdata_run token (c ∷ bytes) at h =
       let here : c ≡ 62 → without (codes "]]") token ≡ None = λ e. ap (without (codes "]]")) (sym (append-nil
-          token)) ∙ h [] bytes (ap (λ x. x ∷ bytes) e) in
+      token)) ∙ h [] bytes (ap (λ x. x ∷ bytes) e) in
       byte at c bytes (in_cdata token) (in_cdata (token ++ c ∷ [])) (in_cdata (token ++ (c ∷ bytes))) (cdata_step
-          token c (nat_eq c 62) at refl here)
+      token c (nat_eq c 62) at refl here)
       (retarget (at + 1) bytes (in_cdata (token ++ c ∷ [])) (in_cdata ((token ++ c ∷ []) ++ bytes)) (in_cdata (token
-          ++ (c ∷ bytes)))
+      ++ (c ∷ bytes)))
       (λ p. ap (λ t. in_cdata t p) (append_assoc token (c ∷ []) bytes))
       (cdata_run (token ++ c ∷ []) bytes (at + 1) (IsOpen-tail (codes "]]") token c bytes h)))
 
@@ -81,17 +81,17 @@ module _ (fresh : Bool) (mark : ℕ) (top : Frame) (below : List Frame) (text : 
   comment_moves bytes at h =
       let inside = comment_run [] (bytes ++ codes "--") (at + 1 + 1 + 1) (λ a b e. comment_open bytes a b h e) in
       let last = one (at + 1 + 1 + 1 + length (bytes ++ codes "--")) 62 (in_comment (bytes ++ codes "--")) (chars_at
-          top below text []) (comment_end bytes (at + 1 + 1 + 1 + length (bytes ++ codes "--")) h) in
+      top below text []) (comment_end bytes (at + 1 + 1 + 1 + length (bytes ++ codes "--")) h) in
       byte at 33 (codes "--" ++ (bytes ++ codes "-->")) (less_at fresh mark top below text []) (plain_at marking
-          fresh mark top below text []) (chars_at top below text []) refl
+      fresh mark top below text []) (chars_at top below text []) refl
       (byte (at + 1) 45 (codes "-" ++ (bytes ++ codes "-->")) (plain_at marking fresh mark top below text [])
-          (plain_at marking fresh mark top below text (codes "-")) (chars_at top below text []) refl
+      (plain_at marking fresh mark top below text (codes "-")) (chars_at top below text []) refl
       (byte (at + 1 + 1) 45 (bytes ++ codes "-->") (plain_at marking fresh mark top below text (codes "-"))
-          (in_comment []) (chars_at top below text []) refl
+      (in_comment []) (chars_at top below text []) refl
       (regroup (at + 1 + 1 + 1) ((bytes ++ codes "--") ++ codes ">") (bytes ++ codes "-->") (in_comment [])
-          (chars_at top below text []) (append_assoc bytes (codes "--") (codes ">"))
+      (chars_at top below text []) (append_assoc bytes (codes "--") (codes ">"))
       (then (at + 1 + 1 + 1) (bytes ++ codes "--") (codes ">") (in_comment []) (in_comment (bytes ++ codes "--"))
-          (chars_at top below text []) inside last))))
+      (chars_at top below text []) inside last))))
 
 -- ---- within an element
 
@@ -113,26 +113,26 @@ module _ (top frame : Frame) (frames : List Frame) where
       let p7 : ℕ = p2 + 1 + 1 + 1 + 1 + 1 in
       let p8 : ℕ = p7 + 1 in
       let inside = cdata_run false mark top below text [] (bytes ++ codes "]]") p8 (λ a b e. cdata_open bytes a b h
-          e) in
+      e) in
       let last = one (p8 + length (bytes ++ codes "]]")) 62 (inner (bytes ++ codes "]]")) end (cdata_end false mark
-          top below text bytes (p8 + length (bytes ++ codes "]]")) h) in
+      top below text bytes (p8 + length (bytes ++ codes "]]")) h) in
       let tail = regroup p8 ((bytes ++ codes "]]") ++ codes ">") (bytes ++ codes "]]>") (inner []) end (append_assoc
-          bytes (codes "]]") (codes ">"))
+      bytes (codes "]]") (codes ">"))
       (then p8 (bytes ++ codes "]]") (codes ">") (inner []) (inner (bytes ++ codes "]]")) end inside last) in
       byte at 33 (codes "[CDATA[" ++ (bytes ++ codes "]]>")) (less_at false mark top below text []) (marked mark
-          text []) end refl
+      text []) end refl
       (byte (at + 1) 91 (codes "CDATA[" ++ (bytes ++ codes "]]>")) (marked mark text []) (marked mark text (codes
-          "[")) end refl
+      "[")) end refl
       (byte p2 67 (codes "DATA[" ++ (bytes ++ codes "]]>")) (marked mark text (codes "[")) (marked mark text (codes
-          "[C")) end refl
+      "[C")) end refl
       (byte (p2 + 1) 68 (codes "ATA[" ++ (bytes ++ codes "]]>")) (marked mark text (codes "[C")) (marked mark text
-          (codes "[CD")) end refl
+      (codes "[CD")) end refl
       (byte (p2 + 1 + 1) 65 (codes "TA[" ++ (bytes ++ codes "]]>")) (marked mark text (codes "[CD")) (marked mark
-          text (codes "[CDA")) end refl
+      text (codes "[CDA")) end refl
       (byte (p2 + 1 + 1 + 1) 84 (codes "A[" ++ (bytes ++ codes "]]>")) (marked mark text (codes "[CDA")) (marked
-          mark text (codes "[CDAT")) end refl
+      mark text (codes "[CDAT")) end refl
       (byte (p2 + 1 + 1 + 1 + 1) 65 (codes "[" ++ (bytes ++ codes "]]>")) (marked mark text (codes "[CDAT")) (marked
-          mark text (codes "[CDATA")) end refl
+      mark text (codes "[CDATA")) end refl
       (byte p7 91 (bytes ++ codes "]]>") (marked mark text (codes "[CDATA")) (inner []) end refl tail)))))))
 
   abbrev refers : List ℕ → List ℕ → At
@@ -160,32 +160,32 @@ module _ (top frame : Frame) (frames : List Frame) where
       let end = chars_at top below (so_far ++ encode_utf8 c) [] in
       regroup at (38 ∷ (r.inner ++ 59 ∷ [])) bytes (chars_at top below text token) end (sym r.there)
       (byte at 38 (r.inner ++ 59 ∷ []) (chars_at top below text token) (refers so_far (38 ∷ [])) end (reference_step
-          text token at e)
+      text token at e)
       (then (at + 1) r.inner (59 ∷ []) (refers so_far (38 ∷ [])) (refers so_far (38 ∷ r.inner)) end
       (kept (refers so_far (38 ∷ []) 0) r.inner (at + 1) r.text)
       (one (at + 1 + length r.inner) 59 (refers so_far (38 ∷ r.inner)) end (reference_end so_far r.inner c (at + 1 +
-          length r.inner) (rw r.there at r.passes)))))
+      length r.inner) (rw r.there at r.passes)))))
 
   markup_only : {markup meaning : List ℕ} → IsMarkup markup meaning → (text token : List ℕ) (at : ℕ)
       → is_char_data token ≡ true
       → Moves at markup (chars_at top below text token) (chars_at top below ((text ++ with_line_ends token) ++
-          meaning) [])
+      meaning) [])
   markup_only (reference bytes c h) text token at e = reference_moves text token bytes c at e (reference_passes
       bytes c h)
   markup_only (cdata bytes h) text token at e =
       byte at 60 (codes "![CDATA[" ++ (bytes ++ codes "]]>")) (chars_at top below text token) (less_at false at top
-          below (text ++ with_line_ends token) [])
+      below (text ++ with_line_ends token) [])
       (chars_at top below ((text ++ with_line_ends token) ++ with_line_ends bytes) []) (less_step text token at e)
       (cdata_moves (text ++ with_line_ends token) bytes at (at + 1) h)
   markup_only (comment bytes h) text token at e =
       let so_far : List ℕ = text ++ with_line_ends token in
       byte at 60 (codes "!--" ++ (bytes ++ codes "-->")) (chars_at top below text token) (less_at false at top below
-          so_far [])
+      so_far [])
       (chars_at top below (so_far ++ []) []) (less_step text token at e)
       (retarget (at + 1) (codes "!--" ++ (bytes ++ codes "-->")) (less_at false at top below so_far []) (chars_at
-          top below so_far []) (chars_at top below (so_far ++ []) [])
+      top below so_far []) (chars_at top below (so_far ++ []) [])
       (λ p. ap (λ t. chars_at top below t [] p) (sym (append-nil so_far))) (comment_moves false at top below so_far
-          bytes (at + 1) h))
+      bytes (at + 1) h))
 
   -- where text ends: a token that is character data, which is not yet made text
   pub record TextEnds (text bytes meaning : List ℕ) (at : ℕ) : Type 0 where
@@ -218,7 +218,7 @@ module _ (top frame : Frame) (frames : List Frame) where
             after.before after.token)
             (kept (chars_at top below text [] at) bytes at (data_chars bytes h))
             (then (at + length bytes) markup rest (chars_at top below text bytes) (chars_at top below so_far [])
-                (chars_at top below after.before after.token)
+            (chars_at top below after.before after.token)
             (markup_only m text bytes (at + length bytes) (data_passes bytes h)) after.moves);
       }
 

@@ -34,10 +34,10 @@ pub settled_text : (xs : List WrittenPart) (x : List ℕ) (b : ℕ) (bytes : Lis
     → parts_view (xs ++ Text x ∷ []) ≡ join (parts_view xs) (onto x none)
 settled_text xs x b bytes e =
     ap (λ (y : List ℕ). parts_view (xs ++ Text y ∷ [])) e ∙ parts-push_text xs b bytes
-        ∙ ap (λ (y : List ℕ). join (parts_view xs) (onto y none)) (sym e)
+    ∙ ap (λ (y : List ℕ). join (parts_view xs) (onto y none)) (sym e)
 
 pub outer_room : (frames : List Frame) (xs : List WrittenPart) (n : ℕ) → n ≡ length xs → is_nil frames ≡ true
     → nat_eq n 0 ≡ has_room frames (parts_view xs)
 outer_room frames xs n e f =
     ap (λ k. nat_eq k 0) e ∙ nil_len xs ∙ sym (parts_none xs)
-        ∙ ap (λ t. cond t (is_none (parts_view xs)) (nat_lt (length frames) max_depth)) (sym f)
+    ∙ ap (λ t. cond t (is_none (parts_view xs)) (nat_lt (length frames) max_depth)) (sym f)

@@ -37,9 +37,9 @@ pub data_from : (bytes : List ℕ) → is_char_data bytes ≡ true → IsCharDat
 unfolding is_char_data
 data_from bytes e =
     let (a, e1) = and_parts (is_chars bytes) (not (holds bytes (codes "<")) && (not (holds bytes (codes "&")) && not
-        (holds bytes (codes "]]>")))) e in
+    (holds bytes (codes "]]>")))) e in
     let (b, e2) = and_parts (not (holds bytes (codes "<"))) (not (holds bytes (codes "&")) && not (holds bytes
-        (codes "]]>"))) e1 in
+    (codes "]]>"))) e1 in
     let (c, d) = and_parts (not (holds bytes (codes "&"))) (not (holds bytes (codes "]]>"))) e2 in
     record {
       chars = IsChars-from bytes a;
@@ -52,9 +52,9 @@ pub plain_from : (mark : ℕ) (bytes : List ℕ) → is_plain mark bytes ≡ tru
 unfolding is_plain
 plain_from mark bytes e =
     let (a, e1) = and_parts (is_chars bytes) (not (holds bytes (codes "<")) && (not (holds bytes (codes "&")) && not
-        (holds bytes (mark ∷ [])))) e in
+    (holds bytes (mark ∷ [])))) e in
     let (b, e2) = and_parts (not (holds bytes (codes "<"))) (not (holds bytes (codes "&")) && not (holds bytes (mark
-        ∷ []))) e1 in
+    ∷ []))) e1 in
     let (c, d) = and_parts (not (holds bytes (codes "&"))) (not (holds bytes (mark ∷ []))) e2 in
     record {
       chars = IsChars-from bytes a;
@@ -90,12 +90,12 @@ named_from : (word bytes : List ℕ) (k c : ℕ) → IsReference word k → byte
 named_from word bytes k c r e h =
     let value : k ≡ c = cc in
     subst (λ (p : List ℕ × ℕ). IsReference p.0 p.1) (ap₂ (λ (x : List ℕ) (y : ℕ). (x, y)) (sym (same bytes word e))
-        value) r
+    value) r
 
 semicolon_more : (b : ℕ) (bytes front : List ℕ) (o : Option (List ℕ)) → before_semicolon bytes ≡ o
     → before_semicolon (b ∷ bytes) ≡ Some front
     → ((o ≡ None) × (cond (nat_eq b 59 && is_nil bytes) (Some []) None ≡ Some front)) ⊎ ((later : List ℕ) × (o
-        ≡ Some later) × (front ≡ b ∷ later))
+    ≡ Some later) × (front ≡ b ∷ later))
 semicolon_more b bytes front None e h = inl (refl, rw (before_semicolon, e) at h)
 semicolon_more b bytes front (Some later) e h = let x : Some (b ∷ later)
     ≡ Some front = rw (before_semicolon, e) at h in inr (later, refl, cc)
@@ -116,7 +116,7 @@ semicolon_from (b ∷ bytes) front e =
           let l = semicolon_last (nat_eq b 59 && is_nil bytes) front h.1 in
           let (is, empty) = and_parts (nat_eq b 59) (is_nil bytes) l.0 in
           ap₂ (λ (x : ℕ) (xs : List ℕ). x ∷ xs) (eqb-true b 59 is) (nil_from bytes empty)
-              ∙ ap (λ (x : List ℕ). x ++ 59 ∷ []) (sym l.1)
+          ∙ ap (λ (x : List ℕ). x ++ 59 ∷ []) (sym l.1)
       | inr h ↦ ap (λ x. b ∷ x) (semicolon_from bytes h.0 h.1) ∙ ap (λ (x : List ℕ). x ++ 59 ∷ []) (sym h.2)
     ]
 
@@ -138,13 +138,20 @@ character_of : (is_digit : ℕ → Bool) (base : ℕ) (bytes : List ℕ) (c : �
 character_of is_digit base bytes c None e h = cc
 character_of is_digit base bytes c (Some digits) e h =
     elim (picked (not (is_nil digits) && (list_all is_digit digits && is_char (digits_value base digits))) (Some
-        (digits_value base digits)) None c h) [
+    (digits_value base digits)) None c h) [
       | inl k ↦
           let (some, k1) = and_parts (not (is_nil digits)) (list_all is_digit digits && is_char (digits_value base
-              digits)) k.0 in
+          digits)) k.0 in
           let (each, is) = and_parts (list_all is_digit digits) (is_char (digits_value base digits)) k1 in
-          record { digits = digits; there = semicolon_from bytes digits e; some = some_from digits some; each =
-              all_from_passes is_digit digits each; is = is; value = cc }
+          record {
+            digits = digits;
+            there = semicolon_from bytes digits e;
+            some = some_from digits some;
+            each =
+                all_from_passes is_digit digits each;
+            is = is;
+            value = cc;
+          }
       | inr k ↦ cc (k.1)
     ]
 
@@ -154,7 +161,7 @@ decimal_from bytes c e h =
     let n = character_of is_ascii_digit 10 (drop 2 bytes) c (before_semicolon (drop 2 bytes)) refl h in
     subst (λ (p : List ℕ × ℕ). IsReference p.0 p.1)
     (ap₂ (λ (x : List ℕ) (y : ℕ). (x, y)) (ap (λ (x : List ℕ). codes "&#" ++ x) (sym n.there)
-        ∙ sym (front_from_begins (codes "&#") bytes e)) n.value)
+    ∙ sym (front_from_begins (codes "&#") bytes e)) n.value)
     (decimal n.digits n.some n.each n.is)
 
 hexadecimal_from : (bytes : List ℕ) (c : ℕ) → begins (codes "&#x") bytes ≡ true
@@ -163,7 +170,7 @@ hexadecimal_from bytes c e h =
     let n = character_of is_ascii_hexdigit 16 (drop 3 bytes) c (before_semicolon (drop 3 bytes)) refl h in
     subst (λ (p : List ℕ × ℕ). IsReference p.0 p.1)
     (ap₂ (λ (x : List ℕ) (y : ℕ). (x, y)) (ap (λ (x : List ℕ). codes "&#x" ++ x) (sym n.there)
-        ∙ sym (front_from_begins (codes "&#x") bytes e)) n.value)
+    ∙ sym (front_from_begins (codes "&#x") bytes e)) n.value)
     (hexadecimal n.digits n.some n.each n.is)
 
 numbered_from : (bytes : List ℕ) (c : ℕ) → numbered bytes ≡ Some c → IsReference bytes c

@@ -43,8 +43,12 @@ no_colon name h = all_weaker IsNameByte (λ c. nat_eq c 58 ≡ false) (λ c b. b
 pub qname_passes : (name : List ℕ) → IsQName name → is_qname name ≡ true
 unfolding is_qname
 qname_passes name (unprefixed n h) = rw (is_qname, cut_none 58 n (no_colon n (name_bytes n h))) (name_passes n h)
-qname_passes name (prefixed p n h k) = rw (is_qname, cut-append 58 p n (no_colon p (name_bytes p h)), name_passes p
-    h) (name_passes n k)
+qname_passes name (prefixed p n h k) = rw (
+  is_qname,
+  cut-append 58 p n (no_colon p (name_bytes p h)),
+  name_passes p
+      h,
+) (name_passes n k)
 
 not_nil : (name : List ℕ) → name ≢ [] → is_nil name ≡ false
 not_nil [] h = absurd (h refl)
@@ -86,8 +90,12 @@ white_ending space h = all_weaker (λ c. is_space c ≡ true) (λ c. stops endin
 
 pub data_passes : (bytes : List ℕ) → IsCharData bytes → is_char_data bytes ≡ true
 unfolding is_char_data
-data_passes bytes h = rw (chars_passes bytes h.chars, lacks bytes (codes "<") (λ e. cc) h.no_less, lacks bytes
-    (codes "&") (λ e. cc) h.no_ampersand) (lacks bytes (codes "]]>") (λ e. cc) h.no_close)
+data_passes bytes h = rw (
+  chars_passes bytes h.chars,
+  lacks bytes (codes "<") (λ e. cc) h.no_less,
+  lacks bytes
+      (codes "&") (λ e. cc) h.no_ampersand,
+) (lacks bytes (codes "]]>") (λ e. cc) h.no_close)
 
 all_or : (p q : ℕ → Bool) (bytes : List ℕ) → AllByRecursion (λ c. p c ≡ false) bytes → AllByRecursion (λ c. q c
     ≡ false) bytes → AllByRecursion (λ c. (p c || q c) ≡ false) bytes
@@ -100,8 +108,12 @@ data_chars bytes h = all_or (λ c. nat_eq c 60) (λ c. nat_eq c 38) bytes (lacks
 
 pub plain_passes : (mark : ℕ) (bytes : List ℕ) → IsPlainValue mark bytes → is_plain mark bytes ≡ true
 unfolding is_plain
-plain_passes mark bytes h = rw (chars_passes bytes h.chars, lacks bytes (codes "<") (λ e. cc) h.no_less, lacks bytes
-    (codes "&") (λ e. cc) h.no_ampersand) (lacks bytes (mark ∷ []) (λ e. cc) h.no_quote)
+plain_passes mark bytes h = rw (
+  chars_passes bytes h.chars,
+  lacks bytes (codes "<") (λ e. cc) h.no_less,
+  lacks bytes
+      (codes "&") (λ e. cc) h.no_ampersand,
+) (lacks bytes (mark ∷ []) (λ e. cc) h.no_quote)
 
 -- between quotes of one kind
 pub run_passes : (mark : ℕ) (bytes : List ℕ) → (nat_eq mark 34 || nat_eq mark 39) ≡ true → IsPlainValue mark bytes
@@ -144,7 +156,7 @@ decimal_passes [] some each is = absurd (some refl)
 decimal_passes (d ∷ digits) some each is =
     rw (ne_eqb 120 d (λ e. true≢false (sym each.0 ∙ ap is_ascii_digit (sym e))))
     (ap (character is_ascii_digit 10) (before_semicolon-append (d ∷ digits))
-        ∙ character_passes is_ascii_digit 10 (d ∷ digits) some each is)
+    ∙ character_passes is_ascii_digit 10 (d ∷ digits) some each is)
 
 hexadecimal_passes : (digits : List ℕ) → digits ≢ [] → AllByRecursion (λ d. is_ascii_hexdigit d ≡ true) digits
     → is_char (digits_value 16 digits) ≡ true
@@ -152,31 +164,78 @@ hexadecimal_passes : (digits : List ℕ) → digits ≢ [] → AllByRecursion (�
 unfolding reference
 hexadecimal_passes digits some each is =
     ap (character is_ascii_hexdigit 16) (before_semicolon-append digits)
-        ∙ character_passes is_ascii_hexdigit 16 digits some each is
+    ∙ character_passes is_ascii_hexdigit 16 digits some each is
 
 pub reference_passes : (bytes : List ℕ) (c : ℕ) → IsReference bytes c → Referred bytes c
 unfolding reference
-reference_passes bytes c ampersand = record { inner = codes "amp"; there = refl; text = (refl, (refl, (refl, tt)));
-    passes = refl }
-reference_passes bytes c less_than = record { inner = codes "lt"; there = refl; text = (refl, (refl, tt)); passes =
-    refl }
+reference_passes bytes c ampersand = record {
+  inner = codes "amp";
+  there = refl;
+  text = (refl, (refl, (refl, tt)));
+  passes = refl;
+}
+reference_passes bytes c less_than = record {
+  inner = codes "lt";
+  there = refl;
+  text = (refl, (refl, tt));
+  passes =
+      refl;
+}
 reference_passes bytes c greater = record { inner = codes "gt"; there = refl; text = (refl, (refl, tt)); passes = refl }
-reference_passes bytes c apostrophe = record { inner = codes "apos"; there = refl; text = (refl, (refl, (refl,
-    (refl, tt)))); passes = refl }
-reference_passes bytes c quote = record { inner = codes "quot"; there = refl; text = (refl, (refl, (refl, (refl,
-    tt)))); passes = refl }
+reference_passes bytes c apostrophe = record {
+  inner = codes "apos";
+  there = refl;
+  text = (
+    refl,
+    (
+      refl,
+      (
+        refl,
+        (refl, tt),
+      ),
+    ),
+  );
+  passes = refl;
+}
+reference_passes bytes c quote = record {
+  inner = codes "quot";
+  there = refl;
+  text = (
+    refl,
+    (
+      refl,
+      (
+        refl,
+        (
+          refl,
+          tt,
+        ),
+      ),
+    ),
+  );
+  passes = refl;
+}
 reference_passes bytes c (decimal digits some each is) = record {
   inner = 35 ∷ digits;
   there = refl;
-  text = (refl, all_weaker (λ d. is_ascii_digit d ≡ true) (λ d. stops referring 0 d
-      ≡ false) (λ d e. other is_ascii_digit d 59 e refl) digits each);
+  text = (
+    refl,
+    all_weaker (λ d. is_ascii_digit d ≡ true) (λ d. stops referring 0 d
+        ≡ false) (λ d e. other is_ascii_digit d 59 e refl) digits each,
+  );
   passes = decimal_passes digits some each is;
 }
 reference_passes bytes c (hexadecimal digits some each is) = record {
   inner = 35 ∷ 120 ∷ digits;
   there = refl;
-  text = (refl, (refl, all_weaker (λ d. is_ascii_hexdigit d ≡ true) (λ d. stops referring 0 d
-      ≡ false) (λ d e. other is_ascii_hexdigit d 59 e refl) digits each));
+  text = (
+    refl,
+    (
+      refl,
+      all_weaker (λ d. is_ascii_hexdigit d ≡ true) (λ d. stops referring 0 d
+          ≡ false) (λ d e. other is_ascii_hexdigit d 59 e refl) digits each,
+    ),
+  );
   passes = hexadecimal_passes digits some each is;
 }
 
@@ -187,8 +246,14 @@ end_passes (b ∷ name) space h = rw (eq-eqb b b refl, end_passes name space h)
 pub without-append : (word front : List ℕ) → without word (front ++ word) ≡ Some front
 without-append [] [] = refl
 without-append (w ∷ word) [] = rw (equal (w ∷ word) (w ∷ word) refl)
-without-append word (c ∷ front) = rw (differ word (c ∷ (front ++ word)) (λ e. omega (arith, ap length e,
-    length-append front word)), without-append word front)
+without-append word (c ∷ front) = rw (
+  differ word (c ∷ (front ++ word)) (λ e. omega (
+    arith,
+    ap length e,
+    length-append front word,
+  )),
+  without-append word front,
+)
 
 without_more : (word : List ℕ) (b : ℕ) (bytes front : List ℕ) (t : Bool) (o : Option (List ℕ))
     → bytes_eq word (b ∷ bytes) ≡ t → without word bytes ≡ o → without word (b ∷ bytes) ≡ Some front
@@ -234,7 +299,7 @@ drop_last xs front x c rest e =
       | inl none ↦ let h = snoc_same xs front x c (e ∙ ap (λ (r : List ℕ). front ++ c ∷ r) none) in inl (sym h.1, h.0)
       | inr r ↦
           let h = snoc_same xs (front ++ c ∷ r.0) x r.1 (e ∙ ap (λ (t : List ℕ). front ++ c ∷ t) r.2
-              ∙ sym (append_assoc front (c ∷ r.0) (r.1 ∷ []))) in
+          ∙ sym (append_assoc front (c ∷ r.0) (r.1 ∷ []))) in
           inr (r.0, h.0, r.2 ∙ ap (λ z. r.0 ++ z ∷ []) (sym h.1))
     ]
 
@@ -250,7 +315,7 @@ comment_early : (bytes front b : List ℕ) → bytes ++ codes "--" ≡ (front ++
     → Holds (bytes ++ codes "-") (codes "--")
 comment_early bytes front b e =
     elim (drop_last (bytes ++ codes "-") (front ++ codes "--") 45 62 b (append_assoc bytes (codes "-") (codes "-")
-        ∙ e)) [
+    ∙ e)) [
       | inl h ↦ absurd (unlike 62 45 refl h.0)
       | inr h ↦ record { before = front; after = 62 ∷ h.0; there = h.1 ∙ append_assoc front (codes "--") (62 ∷ h.0) }
     ]
@@ -259,13 +324,13 @@ pub comment_open : (bytes a b : List ℕ) → IsComment bytes → bytes ++ codes
     → without (codes "--") a ≡ None
 comment_open bytes a b h e =
     none_from (without (codes "--") a) (λ front f. h.no_dashes (comment_early bytes front b (e
-        ∙ ap (λ (x : List ℕ). x ++ 62 ∷ b) (without_from (codes "--") a front f))))
+    ∙ ap (λ (x : List ℕ). x ++ 62 ∷ b) (without_from (codes "--") a front f))))
 
 cdata_early : (bytes front b : List ℕ) → bytes ++ codes "]]" ≡ (front ++ codes "]]") ++ 62 ∷ b
     → Holds bytes (codes "]]>")
 cdata_early bytes front b e =
     elim (drop_last (bytes ++ codes "]") (front ++ codes "]]") 93 62 b (append_assoc bytes (codes "]") (codes "]")
-        ∙ e)) [
+    ∙ e)) [
       | inl h ↦ absurd (unlike 62 93 refl h.0)
       | inr h ↦ elim (drop_last bytes (front ++ codes "]]") 93 62 h.0 h.1) [
         | inl k ↦ absurd (unlike 62 93 refl k.0)
@@ -277,4 +342,4 @@ pub cdata_open : (bytes a b : List ℕ) → IsCdata bytes → bytes ++ codes "]]
     ≡ None
 cdata_open bytes a b h e =
     none_from (without (codes "]]") a) (λ front f. h.no_close (cdata_early bytes front b (e
-        ∙ ap (λ (x : List ℕ). x ++ 62 ∷ b) (without_from (codes "]]") a front f))))
+    ∙ ap (λ (x : List ℕ). x ++ 62 ∷ b) (without_from (codes "]]") a front f))))

@@ -1,4 +1,5 @@
--- Documents, between their bytes and the tree as it is written: XML 1.0 (fifth edition) and Namespaces in XML 1.0, without
+-- Documents, between their bytes and the tree as it is written: XML 1.0 (fifth edition) and Namespaces in XML 1.0,
+-- without
 -- document types and processing instructions. The section of each production stands beside it.
 use Rattle.std.specs.Prelude.{◌≡◌, ◌≢◌, ℕ, suc, ◌+◌, ◌<◌, List, [], ◌∷◌, ◌++◌, IsTrue, length, codes}
 use Rattle.std.specs.List.{AllByRecursion}
@@ -23,12 +24,13 @@ pub data IsQName : List ℕ → Type 0 where
   unprefixed : (name : List ℕ) → IsName name → IsQName name
   prefixed : (prefix name : List ℕ) → IsName prefix → IsName name → IsQName (prefix ++ (codes ":" ++ name))
 
--- the attributes of a tag, white space before each, and the white space after the last (2.3, 3.1: productions 25, 40, 41)
+-- the attributes of a tag, white space before each, and the white space after the last (2.3, 3.1: productions 25, 40,
+-- 41)
 pub data IsAttributes : List ℕ → List Attribute → Type 0 where
   end : (space : List ℕ) → IsWhite space → IsAttributes space []
   more : (space name left right quoted value rest : List ℕ) (attributes : List Attribute)
       → IsSpace space → IsQName name → IsWhite left → IsWhite right → IsValue quoted value
-          → IsAttributes rest attributes
+      → IsAttributes rest attributes
       → IsAttributes (space ++ (name ++ (left ++ (codes "=" ++ (right ++ (quoted ++ rest))))))
       (record { name = name; value = value } ∷ attributes)
 

@@ -1,4 +1,5 @@
--- The reader of documents, a byte at a time. It says how a document is read, and nothing of what a document is: that stands
+-- The reader of documents, a byte at a time. It says how a document is read, and nothing of what a document is: that
+-- stands
 -- in Grammar. Bytes that end a token have their meaning, and all others only lengthen it.
 use Rattle.std.specs.Prelude.{ℕ, ◌+◌, List, [], ◌∷◌, ◌++◌, Bool, true, false, not, ◌&&◌, ◌||◌, ◌==◌, nat_lt, if◌then◌else◌, Option, Some, None, codes, length, encode_utf8}
 use Rattle.std.specs.Str.{bytes_eq}
@@ -101,7 +102,7 @@ is_mark bytes = is_nil bytes || bytes_eq bytes (0xEF ∷ 0xBB ∷ 0xBF ∷ [])
 abbrev pub at_beginning : State → ℕ → State
 at_beginning s c =
     if is_mark s.token then (if c == 60 then record s { mode = less; mark = s.at; token = [] } else calm s) else
-        refuse s
+    refuse s
 
 abbrev pub at_declaring : State → State
 at_declaring s = if is_declaration s.token then calm s else refuse s

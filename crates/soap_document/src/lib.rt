@@ -1,5 +1,6 @@
 //! Documents as they are written: from bytes to a tree whose names keep their prefixes, by a reader that is fed pieces.
-//! It stands on the tests of tokens, `soap_lex`. The layer above resolves the names; what it may use is the tree and the
+//! It stands on the tests of tokens, `soap_lex`. The layer above resolves the names; what it may use is the tree and
+//! the
 //! contract of `read_document`, by the grammar in `specs/Grammar`.
 #![tactic(auto)]
 
@@ -10,6 +11,8 @@ ghost use Rattle.soap_document.specs.Grammar.{IsDocument};
 mod declaration;
 pub mod document;
 pub mod reader;
+#[cfg(test)]
+mod tests;
 mod tokens;
 pub mod tree;
 

@@ -165,7 +165,10 @@ impl Reader {
     // bytes that end no token lengthen it
     fn keep(&mut self, run: &[u8]) -> Result<(), Memory>
         requires { (seen self.old).at + length run.now < 2 ^ 64 }
-        ensures { OnOk result (seen self.new ≡ record (seen self.old) { at = (seen self.old).at + length run.now; token = (seen self.old).token ++ run.now }) }
+        ensures { OnOk result (seen self.new ≡ record (seen self.old) {
+          at = (seen self.old).at + length run.now;
+          token = (seen self.old).token ++ run.now;
+        }) }
     {
         self.token.extend_from_slice(run)?;
         self.at += run.len();
@@ -380,7 +383,8 @@ impl Reader {
 
     // an element becomes a part
     fn add_child(&mut self, element: WrittenElement) -> Result<(), Memory>
-        ensures { OnOk result (seen self.new ≡ record (seen self.old) { top = with_parts (seen self.old).top (child (element_view element) none) }) }
+        ensures { OnOk result (seen self.new
+            ≡ record (seen self.old) { top = with_parts (seen self.old).top (child (element_view element) none) }) }
     {
         self.top.parts.push(WrittenPart::Child(element))?;
         Ok(())

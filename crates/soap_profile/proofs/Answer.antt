@@ -27,7 +27,7 @@ no_tree_at bytes raw one is (Some tree) e = tt
 pub no_tree : {E : Type 0} (bytes : List ℕ) (raw : written.Element) → OneTree → IsDocument bytes raw
     → (scope : List Binding) → scope ≡ [] → (r : Result (Option CodeElement) E)
     → IfOk r (λ found. option_map element_view found ≡ resolve scope raw)
-        → IfOk r (λ tree. IfNone tree ((other : Element) → ¬ (Document bytes other)))
+    → IfOk r (λ tree. IfNone tree ((other : Element) → ¬ (Document bytes other)))
 no_tree bytes raw one is scope e (Ok o) h = no_tree_at bytes raw one is o (h
     ∙ ap (λ (s : List Binding). resolve s raw) e)
 no_tree bytes raw one is scope e (Err x) h = tt

@@ -38,7 +38,7 @@ pub cmp_same : (k q : Lent) → is_eq (lent_cmp k q) ≡ same_key (key_of k) (ke
 cmp_same k q =
     then_eq (slice_cmp nat_cmp k.0.now q.0.now) (slice_cmp nat_cmp k.1.now q.1.now)
     ∙ ap₂ (λ x y. x && y) (is_eq-slice_cmp k.0.now q.0.now ∙ turned k.0.now q.0.now) (is_eq-slice_cmp k.1.now
-        q.1.now ∙ turned k.1.now q.1.now)
+    q.1.now ∙ turned k.1.now q.1.now)
 
 same_turned : (k q : Key) → same_key k q ≡ same_key q k
 same_turned k q = ap₂ (λ x y. x && y) (turned q.0 k.0) (turned q.1 k.1)
@@ -153,7 +153,7 @@ pub met_before : (keys : List Lent) (i : ℕ) (d : Lent) (has : Lent → Bool) (
     ≡ differ (keys_of keys)
 met_before keys i d has added h met e f =
     sym (ap differ (around keys i d h) ∙ differ_not (keys_of (take i keys)) (keys_of (drop (i + 1) keys)) (key_of
-        (get_or keys i d)) (sym (met (get_or keys i d)) ∙ not_is (has (get_or keys i d)) added e f))
+    (get_or keys i d)) (sym (met (get_or keys i d)) ∙ not_is (has (get_or keys i d)) added e f))
 
 pub apart_more : (keys : List Lent) (i : ℕ) (d : Lent) (has : Lent → Bool) (added : Bool) → i < length keys
     → Met has (keys_of (take i keys)) → differ (keys_of (take i keys)) ≡ true → added ≡ not (has (get_or keys i d))
@@ -161,7 +161,7 @@ pub apart_more : (keys : List Lent) (i : ℕ) (d : Lent) (has : Lent → Bool) (
     → differ (keys_of (take (i + 1) keys)) ≡ true
 apart_more keys i d has added h met apart e f =
     ap differ (keys_more keys i d h) ∙ differ_more (keys_of (take i keys)) (key_of (get_or keys i d)) apart (sym
-        (met (get_or keys i d)) ∙ not_isnt (has (get_or keys i d)) added e f)
+    (met (get_or keys i d)) ∙ not_isnt (has (get_or keys i d)) added e f)
 
 or_cond : (b c : Bool) → cond b true c ≡ (b || c)
 or_cond true c = refl
@@ -170,13 +170,13 @@ or_cond false c = refl
 pub met_more : (keys : List Lent) (i : ℕ) (d : Lent) (has new : Lent → Bool) → i < length keys
     → Met has (keys_of (take i keys))
     → ((q : Lent) → new q ≡ cond (is_eq (lent_cmp (get_or keys i d) q)) true (has q))
-        → Met new (keys_of (take (i + 1) keys))
+    → Met new (keys_of (take (i + 1) keys))
 met_more keys i d has new h met updates q =
     let x = get_or keys i d in
     updates q ∙ ap₂ (λ b c. cond b true c) (cmp_same x q) (met q)
-        ∙ or_cond (same_key (key_of x) (key_of q)) (list_any (λ k. same_key k (key_of q)) (keys_of (take i keys)))
+    ∙ or_cond (same_key (key_of x) (key_of q)) (list_any (λ k. same_key k (key_of q)) (keys_of (take i keys)))
     ∙ sym (any_more (λ k. same_key k (key_of q)) (keys_of (take i keys)) (key_of x))
-        ∙ ap (list_any (λ k. same_key k (key_of q))) (sym (keys_more keys i d h))
+    ∙ ap (list_any (λ k. same_key k (key_of q))) (sym (keys_more keys i d h))
 
 pub same_answer : {E : Type 0} (r : Result Bool E) (x y : Bool) → IfOk r (λ answer. answer ≡ x) → x ≡ y
     → IfOk r (λ answer. answer ≡ y)

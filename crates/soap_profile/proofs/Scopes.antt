@@ -46,5 +46,8 @@ pub outer_bound : (s : Scope) (p : List ℕ) (r : Option (Bor (List ℕ))) (o : 
     → bound p (bindings_of o.now) ≡ bound p (bindings_of s)
 outer_bound s p r o h e f =
     let g : bound p (out-Scope s).decls.now ≡ None = sym h ∙ ap (option_map (λ (y : Bor (List ℕ)). y.now)) e in
-    sym (ap (bound p) (scope_is s ∙ ap (λ (w : Option (Bor Scope)). seen_layer (record { decls = (out-Scope
-        s).decls; outer = w })) f) ∙ bound_behind p (out-Scope s).decls.now (bindings_of o.now) g)
+    sym (ap (bound p) (scope_is s ∙ ap (λ (w : Option (Bor Scope)). seen_layer (record {
+      decls = (out-Scope
+          s).decls;
+      outer = w;
+    })) f) ∙ bound_behind p (out-Scope s).decls.now (bindings_of o.now) g)

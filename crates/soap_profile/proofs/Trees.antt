@@ -93,7 +93,7 @@ pub Resolves-text : (scope : List Binding) (x : List ℕ) (old new : Parts) → 
 Resolves-text scope x old new e rest =
     ap (λ (f : written.Parts → written.Parts). option_map (join old) (resolve_parts scope (f rest))) (written_text x)
     ∙ text_joined x old (resolve_parts scope rest) ∙ ap (λ (k : Parts). option_map (join k) (resolve_parts scope
-        rest)) (sym e)
+    rest)) (sym e)
 
 -- an element
 pub Resolves-child : (scope : List Binding) (e : WrittenElement) (u : Element) (old new : Parts) → Some u
@@ -103,7 +103,7 @@ Resolves-child scope e u old new r n rest =
     ap (λ (f : written.Parts → written.Parts). option_map (join old) (resolve_parts scope (f rest))) (written_child e)
     ∙ ap (λ (o : Option Element). option_map (join old) (joined o (resolve_parts scope rest))) (sym r)
     ∙ child_joined u old (resolve_parts scope rest) ∙ ap (λ (k : Parts). option_map (join k) (resolve_parts scope
-        rest)) (sym n)
+    rest)) (sym n)
 
 pub Resolves-none : (scope : List Binding) (e : WrittenElement) (old new : Parts) → None
     ≡ resolve scope (written_view e) → Resolves scope (written_part (WrittenChild e)) old new false
@@ -120,25 +120,25 @@ drop_past (suc n) (x ∷ xs) h = drop_past n xs (omega arith)
 -- no part is left
 pub none_left : (scope : List Binding) (parts : List WrittenPart) (n : ℕ) (made : Parts) → length parts ≤ n
     → option_map (join made) (resolve_parts scope (written_parts (drop n parts)))
-        ≡ resolve_parts scope (written_parts parts) → Some made ≡ resolve_parts scope (written_parts parts)
+    ≡ resolve_parts scope (written_parts parts) → Some made ≡ resolve_parts scope (written_parts parts)
 none_left scope parts n made h e =
     ap (λ (p : Parts). Some p) (sym (join-none made))
     ∙ ap (λ (xs : List WrittenPart). option_map (join made) (resolve_parts scope (written_parts xs))) (sym
-        (drop_past n parts h)) ∙ e
+    (drop_past n parts h)) ∙ e
 
 -- ---- parts without declarations
 
 pub Strips-text : (x : List ℕ) (old new : Parts) → new ≡ join old (text x none) → Strips (part_view (Text x)) old new
 Strips-text x old new e rest =
     ap (λ (f : Parts → Parts). join old (parts_without (f rest))) (part_text x)
-        ∙ sym (join-assoc old (text x none) (parts_without rest))
-        ∙ ap (λ (k : Parts). join k (parts_without rest)) (sym e)
+    ∙ sym (join-assoc old (text x none) (parts_without rest))
+    ∙ ap (λ (k : Parts). join k (parts_without rest)) (sym e)
 
 pub Strips-child : (e : CodeElement) (u : Element) (old new : Parts) → u ≡ without_declarations (element_view e)
     → new ≡ join old (child u none) → Strips (part_view (Child e)) old new
 Strips-child e u old new s n rest =
     ap (λ (f : Parts → Parts). join old (parts_without (f rest))) (part_child e)
-        ∙ ap (λ (v : Element). join old (child v (parts_without rest))) (sym s)
+    ∙ ap (λ (v : Element). join old (child v (parts_without rest))) (sym s)
     ∙ sym (join-assoc old (child u none) (parts_without rest)) ∙ ap (λ (k : Parts). join k (parts_without rest)) (sym n)
 
 pub stripped_all : (parts : List Part) (n : ℕ) (made : Parts) → length parts ≤ n
@@ -146,4 +146,4 @@ pub stripped_all : (parts : List Part) (n : ℕ) (made : Parts) → length parts
     ≡ parts_without (parts_view parts)
 stripped_all parts n made h e =
     sym (join-none made) ∙ ap (λ (xs : List Part). join made (parts_without (parts_view xs))) (sym (drop_past n
-        parts h)) ∙ e
+    parts h)) ∙ e

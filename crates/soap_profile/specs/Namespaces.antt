@@ -24,7 +24,8 @@ declared_prefix name =
     if bytes_eq name (codes "xmlns") then Some []
     else if bytes_eq (split name).0 (codes "xmlns") then Some (split name).1 else None
 
--- whether a prefix may be bound so (2.2, 3, 5): no prefix is undeclared, xml is bound to its namespace and nothing else is,
+-- whether a prefix may be bound so (2.2, 3, 5): no prefix is undeclared, xml is bound to its namespace and nothing
+-- else is,
 -- and xmlns is not bound, nor anything to its namespace
 abbrev pub may_bind : List ℕ → List ℕ → Bool
 may_bind prefix space =
@@ -37,7 +38,7 @@ abbrev pub with_declaration : Option (List ℕ) → List ℕ → Option (List Bi
 with_declaration None space later = later
 with_declaration (Some prefix) space later =
     if may_bind prefix space then option_map (λ bindings. record { prefix = prefix; space = space } ∷ bindings)
-        later else None
+    later else None
 
 -- the declarations among attributes, in order; none where one may not stand
 abbrev pub declarations : List Attribute → Option (List Binding)

@@ -172,7 +172,8 @@ fn expand_onto(
     scope: &Scope,
     attrs: &mut Attrs,
 ) -> Result<bool, Memory>
-    ensures { IfOk result (λ taken. Expands (declared_by attribute.now.name) (attribute_name_of (bindings_of scope.now) attribute.now.name) attribute.now.value attrs.old attrs.new taken) }
+    ensures { IfOk result (λ taken. Expands (declared_by attribute.now.name) (attribute_name_of
+        (bindings_of scope.now) attribute.now.name) attribute.now.value attrs.old attrs.new taken) }
 {
     if declared_prefix(attribute.name.as_slice()).is_some() {
         return Ok(true);

@@ -23,7 +23,8 @@ pub fn read_element(alloc: Global, bytes: &[u8]) -> Result<Element, EnvelopeErro
     ensures fits { IfOk result (λ _. (length bytes.now ≤ MAX_LENGTH) × IsUtf8 bytes.now) }
 
     // When each error comes, the first of them where several may.
-    ensures too_long { (len : ℕ) → (result ≡ Err (EnvelopeError.TooLong len)) ↔ ((MAX_LENGTH < length bytes.now) × (len ≡ length bytes.now)) }
+    ensures too_long { (len : ℕ) → (result ≡ Err (EnvelopeError.TooLong len)) ↔ ((MAX_LENGTH < length bytes.now)
+        × (len ≡ length bytes.now)) }
     ensures not_utf8 { (place : ℕ) → (result ≡ Err (EnvelopeError.NotUtf8 place))
         ↔ ((length bytes.now ≤ MAX_LENGTH) × (place < length bytes.now) × IsLongestText bytes.now place) }
     ensures not_profile { result ≡ Err EnvelopeError.NotProfile

@@ -27,7 +27,8 @@ fn resolved_tag(
     attributes: &[WrittenAttribute],
     outer: &Scope,
 ) -> Result<Option<Tag>, Memory>
-    ensures { IfOk result (λ found. option_map tag_view found ≡ tag_of (bindings_of outer.now) name.now attributes.now) }
+    ensures { IfOk result (λ found. option_map tag_view found
+        ≡ tag_of (bindings_of outer.now) name.now attributes.now) }
 {
     if !are_distinct(alloc, attributes)? {
         return Ok(None);
@@ -45,7 +46,8 @@ fn tag_within(
     decls: Bindings,
     outer: &Scope,
 ) -> Result<Option<Tag>, Memory>
-    ensures { IfOk result (λ found. option_map tag_view found ≡ tag_within_of decls (bindings_of outer.now) name.now attributes.now) }
+    ensures { IfOk result (λ found. option_map tag_view found
+        ≡ tag_within_of decls (bindings_of outer.now) name.now attributes.now) }
 {
     let scope = Scope {
         decls: decls.as_slice(),
@@ -70,7 +72,8 @@ pub(crate) fn resolve(
     element: &WrittenElement,
     outer: &Scope,
 ) -> Result<Option<Element>, Memory>
-    ensures { IfOk result (λ found. option_map element_view found ≡ resolve_by (bindings_of outer.now) (written_view element.now)) }
+    ensures { IfOk result (λ found. option_map element_view found
+        ≡ resolve_by (bindings_of outer.now) (written_view element.now)) }
 {
     let Some(tag) = resolved_tag(
         alloc,
@@ -103,7 +106,8 @@ fn resolve_parts(
     parts: &[WrittenPart],
     scope: &Scope,
 ) -> Result<Option<Parts>, Memory>
-    ensures { IfOk result (λ found. option_map (λ p. parts_view p.items.items) found ≡ resolve_parts_by (bindings_of scope.now) (written_parts parts.now)) }
+    ensures { IfOk result (λ found. option_map (λ p. parts_view p.items.items) found
+        ≡ resolve_parts_by (bindings_of scope.now) (written_parts parts.now)) }
 {
     let mut items = Vec::new(alloc);
     for part in parts {
@@ -122,7 +126,8 @@ fn resolve_onto(
     scope: &Scope,
     items: &mut Vec<Part>,
 ) -> Result<bool, Memory>
-    ensures { IfOk result (λ taken. Resolves (bindings_of scope.now) (written_part part.now) (parts_view items.old.items) (parts_view items.new.items) taken) }
+    ensures { IfOk result (λ taken. Resolves (bindings_of scope.now) (written_part part.now)
+        (parts_view items.old.items) (parts_view items.new.items) taken) }
 {
     match part {
         WrittenPart::Text(text) => {

@@ -1,4 +1,4 @@
-use crate::{EnvelopeError, Part, read_element};
+use crate::{EnvelopeError, MAX_LENGTH, Part, read_element, strip};
 use std::alloc::{AllocError, Global};
 use std::test::Fail;
 
@@ -112,6 +112,64 @@ fn takes_many_attributes(rt: HostRuntime) -> Result<(), Fail> {
     let text = many(rt.alloc(), " last='c'")?;
     assert!(rt; read_element(rt.alloc(), text.as_bytes()).is_ok());
     let text = many(rt.alloc(), " b7='c'")?;
-    assert!(rt; read_element(rt.alloc(), text.as_bytes()).is_err_and(|e| e == EnvelopeError::NotProfile));
+    assert!(rt;
+        read_element(rt.alloc(), text.as_bytes()).is_err_and(|e| e == EnvelopeError::NotProfile)
+    );
+    Ok(())
+}
+
+#[test]
+fn names_are_expanded(rt: HostRuntime) -> Result<(), Fail> {
+    let tree = read_element(
+        rt.alloc(),
+        b"<a xmlns='u' b='1' xml:c='2'><b xmlns=''/></a>",
+    )?;
+    assert_eq!(rt; tree.name.space.as_slice(), b"u".as_slice());
+    assert_eq!(rt; tree.name.local.as_slice(), b"a".as_slice());
+    let [first, second] = tree.attrs.as_slice() else {
+        return Err("not two attributes".into());
+    };
+    assert!(rt; first.name.space.is_empty());
+    assert_eq!(rt;
+        second.name.space.as_slice(),
+        b"http://www.w3.org/XML/1998/namespace".as_slice()
+    );
+    let Some(Part::Child(child)) = tree.parts.items.first() else {
+        return Err("no child".into());
+    };
+    assert!(rt; child.name.space.is_empty());
+    Ok(())
+}
+
+#[test]
+fn declarations_are_stripped(rt: HostRuntime) -> Result<(), Fail> {
+    let tree = read_element(rt.alloc(), b"<p:a xmlns:p='u' b='1'>t<c xmlns='v'/></p:a>")?;
+    assert_eq!(rt; tree.decls.len(), 1);
+    let stripped = strip(rt.alloc(), &tree)?;
+    assert!(rt; stripped.decls.is_empty());
+    assert_eq!(rt; stripped.name.space.as_slice(), b"u".as_slice());
+    assert_eq!(rt; stripped.attrs.len(), 1);
+    assert_eq!(rt; stripped.parts.items.len(), 2);
+    let Some(Part::Child(child)) = stripped.parts.items.last() else {
+        return Err("no child".into());
+    };
+    assert!(rt; child.decls.is_empty());
+    assert_eq!(rt; child.name.space.as_slice(), b"v".as_slice());
+    Ok(())
+}
+
+#[test]
+fn a_document_has_a_greatest_length(rt: HostRuntime) -> Result<(), Fail> {
+    let mut bytes = Vec::new(rt.alloc());
+    bytes.extend_from_slice(b"<a/>")?;
+    for _ in bytes.len()..MAX_LENGTH {
+        bytes.push(b' ')?;
+    }
+    assert!(rt; read_element(rt.alloc(), &bytes).is_ok());
+    bytes.push(b' ')?;
+    assert!(rt;
+        read_element(rt.alloc(), &bytes).is_err_and(|e| e
+            == EnvelopeError::TooLong { len: 2097153 })
+    );
     Ok(())
 }

@@ -8,4 +8,4 @@ returns c =
     let word = c.args.word.now in
     let bytes = c.args.bytes.now in
     after_cases word bytes c.strip_prefix.result (strip_prefix_is Decides-eqb bytes word c.strip_prefix.result
-        c.strip_prefix.ensures.cases)
+    c.strip_prefix.ensures.cases)

@@ -8,10 +8,10 @@ pub returns-clause-found : goal.returns-clause-found
 returns-clause-found c =
     let bytes = c.args.bytes.now in
     found_root bytes (seen c.feed.new.self) c.finish.result c.finish.ensures (c.in_ok-feed.ensures
-        ∙ ap (λ s. run s bytes) c.new-reader.ensures)
+    ∙ ap (λ s. run s bytes) c.new-reader.ensures)
 
 pub returns-clause-none : goal.returns-clause-none
 returns-clause-none c =
     let bytes = c.args.bytes.now in
     no_root bytes (seen c.feed.new.self) c.finish.result c.finish.ensures (c.in_ok-feed.ensures
-        ∙ ap (λ s. run s bytes) c.new-reader.ensures)
+    ∙ ap (λ s. run s bytes) c.new-reader.ensures)

@@ -10,4 +10,4 @@ returns-then-not-is_empty c =
     let rest = c.pop.new.self in
     sym (ap (λ xs. only_child (parts_view xs)) c.in_ok-last.ensures.items
     ∙ only_many rest.items c.in_ok-last.last (sym (nil_len rest.items) ∙ ap (λ n. nat_eq n 0) (sym rest.ok.0)
-        ∙ sym c.is_empty.ensures ∙ c.if-not-is_empty.true))
+    ∙ sym c.is_empty.ensures ∙ c.if-not-is_empty.true))

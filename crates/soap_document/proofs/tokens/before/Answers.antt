@@ -8,4 +8,4 @@ returns c =
     let word = c.args.word.now in
     let bytes = c.args.bytes.now in
     without_cases word bytes c.strip_suffix.result (strip_suffix_is Decides-eqb bytes word c.strip_suffix.result
-        c.strip_suffix.ensures.cases)
+    c.strip_suffix.ensures.cases)

@@ -9,4 +9,4 @@ pub returns : goal.returns
 returns c =
     let bytes = c.args.bytes.now in
     same_test (IsCdata bytes) c.is_cdata.result (is_cdata bytes) c.is_cdata.ensures.0 c.is_cdata.ensures.1
-        (cdata_from bytes) (cdata_passes bytes)
+    (cdata_from bytes) (cdata_passes bytes)

@@ -9,4 +9,4 @@ pub returns : goal.returns
 returns c =
     let bytes = c.args.bytes.now in
     same_test (IsCharData bytes) c.is_char_data.result (is_char_data bytes) c.is_char_data.ensures.0
-        c.is_char_data.ensures.1 (data_from bytes) (data_passes bytes)
+    c.is_char_data.ensures.1 (data_from bytes) (data_passes bytes)

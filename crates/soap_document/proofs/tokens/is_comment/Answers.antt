@@ -9,4 +9,4 @@ pub returns : goal.returns
 returns c =
     let bytes = c.args.bytes.now in
     same_test (IsComment bytes) c.is_comment.result (is_comment bytes) c.is_comment.ensures.0 c.is_comment.ensures.1
-        (comment_from bytes) (comment_passes bytes)
+    (comment_from bytes) (comment_passes bytes)

@@ -9,11 +9,11 @@ returns-in-Some c =
     let name = c.args.name.now in
     let token = c.args.token.now in
     c.is_white.ensures ∙ end_answer name token c.strip_prefix.result (strip_prefix_is Decides-eqb token name
-        c.strip_prefix.result c.strip_prefix.ensures.cases) c.in-Some.space c.in-Some.is
+    c.strip_prefix.result c.strip_prefix.ensures.cases) c.in-Some.space c.in-Some.is
 
 pub returns-in-None : goal.returns-in-None
 returns-in-None c =
     let name = c.args.name.now in
     let token = c.args.token.now in
     end_no_answer name token c.strip_prefix.result (strip_prefix_is Decides-eqb token name c.strip_prefix.result
-        c.strip_prefix.ensures.cases) c.in-None.is
+    c.strip_prefix.ensures.cases) c.in-None.is

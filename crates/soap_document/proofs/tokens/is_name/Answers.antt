@@ -8,4 +8,4 @@ pub returns : goal.returns
 returns c =
     let bytes = c.args.bytes.now in
     same_test (IsName bytes) c.is_name.result (is_name bytes) c.is_name.ensures.0 c.is_name.ensures.1 (IsName-from
-        bytes) (name_passes bytes)
+    bytes) (name_passes bytes)

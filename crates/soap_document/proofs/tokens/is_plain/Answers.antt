@@ -10,4 +10,4 @@ returns c =
     let bytes = c.args.bytes.now in
     let quote = c.args.quote in
     same_test (IsPlainValue quote bytes) c.is_plain_value.result (is_plain quote bytes) c.is_plain_value.ensures.0
-        c.is_plain_value.ensures.1 (plain_from quote bytes) (plain_passes quote bytes)
+    c.is_plain_value.ensures.1 (plain_from quote bytes) (plain_passes quote bytes)

@@ -9,5 +9,5 @@ pub returns : goal.returns
 returns c =
     let bytes = c.args.bytes.now in
     same_search (IsReference bytes) c.reference.result (reference bytes) c.reference.ensures.found
-        c.reference.ensures.none
+    c.reference.ensures.none
     (λ k h. (reference_passes bytes k h).passes) (reference_from bytes)

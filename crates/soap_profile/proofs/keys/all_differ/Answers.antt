@@ -5,7 +5,7 @@ use Rattle.soap_profile.proofs.keys.all_differ.Goals as goal
 pub returns-then-not-branch : goal.returns-then-not-branch
 returns-then-not-branch c =
     met_before c.args.keys.now c.loop-key.key-index _ (contains lent_cmp c.loop-key.met) c.in_ok-insert.field-0
-        c.loop-key-test.true c.loop-key.invariant.has
+    c.loop-key-test.true c.loop-key.invariant.has
     c.in_ok-insert.ensures.added c.if-not-branch.true
 
 pub loop-key-preserved : goal.loop-key-preserved

@@ -10,4 +10,4 @@ returns c =
     same_answer c.all_differ.result _ _ c.all_differ.ensures
     (ap (λ xs. differ (keys_of xs)) c.deref.ensures.value
     ∙ ap differ (c.loop-attribute.invariant ∙ ap (map (λ (a : Attribute). (a.name, []))) (taken_all
-        c.loop-attribute.attribute-index all c.loop-attribute-test.false)) ∙ sym (are_distinct-keys all))
+    c.loop-attribute.attribute-index all c.loop-attribute-test.false)) ∙ sym (are_distinct-keys all))

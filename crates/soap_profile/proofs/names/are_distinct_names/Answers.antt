@@ -10,4 +10,4 @@ returns c =
     same_answer c.all_differ.result _ _ c.all_differ.ensures
     (ap (λ xs. differ (keys_of xs)) c.deref.ensures.value
     ∙ ap differ (c.loop-attr.invariant ∙ ap (map (λ (a : Attr). (a.name.local, a.name.space))) (taken_all
-        c.loop-attr.attr-index all c.loop-attr-test.false)) ∙ sym (are_distinct_names-keys all))
+    c.loop-attr.attr-index all c.loop-attr-test.false)) ∙ sym (are_distinct_names-keys all))

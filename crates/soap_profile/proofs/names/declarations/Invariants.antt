@@ -7,4 +7,4 @@ use Rattle.soap_profile.proofs.names.declarations.Given as goal
 abbrev pub invariant-loop-attribute : goal.invariant-loop-attribute
 invariant-loop-attribute l =
     option_map (λ (later : List Binding). l.bindings ++ later) (declarations (drop l.attribute-index l.attributes))
-        ≡ declarations l.attributes
+    ≡ declarations l.attributes

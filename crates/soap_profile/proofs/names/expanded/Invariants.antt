@@ -8,4 +8,4 @@ use Rattle.soap_profile.proofs.names.expanded.Given as goal
 abbrev pub invariant-loop-attribute : goal.invariant-loop-attribute
 invariant-loop-attribute l =
     option_map (λ (later : List Attr). l.attrs ++ later) (expanded (bindings_of l.scope) (drop l.attribute-index
-        l.attributes)) ≡ expanded (bindings_of l.scope) l.attributes
+    l.attributes)) ≡ expanded (bindings_of l.scope) l.attributes

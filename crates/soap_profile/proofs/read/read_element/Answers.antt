@@ -9,8 +9,11 @@ pub returns-then-valid_up_to-bytes-clause-not_utf8 : goal.returns-then-valid_up_
 returns-then-valid_up_to-bytes-clause-not_utf8 c = λ place.
     let bytes = c.args.bytes.now in
     let n = c.utf8_prefix-valid_up_to.result in
-    let longest : IsLongestText bytes n = record { valid = c.utf8_prefix-valid_up_to.ensures.valid; longest =
-        c.utf8_prefix-valid_up_to.ensures.longest } in
+    let longest : IsLongestText bytes n = record {
+      valid = c.utf8_prefix-valid_up_to.ensures.valid;
+      longest =
+          c.utf8_prefix-valid_up_to.ensures.longest;
+    } in
     let fits : length bytes ≤ MAX_LENGTH = c.if-bytes-gt-MAX_LENGTH.false in
     let inside : n < length bytes = c.if-valid_up_to-bytes.true in (
       λ e. let same : n ≡ place = cc in subst (λ (k : ℕ). (length bytes ≤ MAX_LENGTH) × (k < length bytes) ×

@@ -18,7 +18,7 @@ resolve_onto-returns-in_ok-push-in-Text t c =
     ap parts_view c.in_ok-push-in-Text.ensures.items ∙ parts-push_text old c.in_ok-copy-in-Text.field-0
     ∙ ap (λ x. join (parts_view old) (text x none)) c.in_ok-copy-in-Text.ensures in
     subst (λ (p : WrittenPart). Resolves scope (written_part p) (parts_view old) (parts_view new) true) (sym
-        c.in-Text.is)
+    c.in-Text.is)
     (Resolves-text scope c.in-Text.text (parts_view old) (parts_view new) grown)
 
 pub resolve_onto-returns-in_ok-push-in-Child : goal.resolve_onto-returns-in_ok-push-in-Child
@@ -29,14 +29,14 @@ resolve_onto-returns-in_ok-push-in-Child t c =
     let element = c.in-Child.element in
     let tree = element_view c.in-Some.child in
     let is : Some tree ≡ resolve scope (written_view element) = ap (option_map element_view) (sym c.in-Some.is)
-        ∙ c.in_ok-child-in-Child.ensures in
+    ∙ c.in_ok-child-in-Child.ensures in
     let grown : parts_view new ≡ join (parts_view old) (child tree none) =
     ap parts_view c.in_ok-push-in-Child.ensures.items ∙ parts-push_child old c.in-Some.child in
     subst (λ (p : WrittenPart). Resolves scope (written_part p) (parts_view old) (parts_view new) true) (sym
-        c.in-Child.is)
+    c.in-Child.is)
     (Resolves-child scope element tree (parts_view old) (parts_view new) is grown)
 
 pub resolve_parts-returns : goal.resolve_parts-returns
 resolve_parts-returns t c =
     none_left (bindings_of c.args.scope.now) c.args.parts.now c.loop-part.part-index (parts_view
-        c.loop-part.items.items) c.loop-part-test.false c.loop-part.invariant
+    c.loop-part.items.items) c.loop-part-test.false c.loop-part.invariant

@@ -10,4 +10,4 @@ use Rattle.soap_profile.proofs.resolve.+resolving.Given as goal
 abbrev pub invariant-resolve_parts-loop-part : goal.invariant-resolve_parts-loop-part
 invariant-resolve_parts-loop-part l =
     option_map (join (parts_view l.items.items)) (resolve_parts (bindings_of l.scope) (written_parts (drop
-        l.part-index l.parts))) ≡ resolve_parts (bindings_of l.scope) (written_parts l.parts)
+    l.part-index l.parts))) ≡ resolve_parts (bindings_of l.scope) (written_parts l.parts)

@@ -9,4 +9,4 @@ returns-in-Some t c = own_bound c.args.scope.now c.args.prefix.now c.bound_in.re
 pub returns-in-Some-outer : goal.returns-in-Some-outer
 returns-in-Some-outer t c =
     c.bound.ensures ∙ outer_bound c.args.scope.now c.args.prefix.now c.bound_in.result c.in-Some-outer.outer
-        c.bound_in.ensures c.in-None.is c.in-Some-outer.is
+    c.bound_in.ensures c.in-None.is c.in-Some-outer.is

@@ -25,9 +25,9 @@ strip_onto-returns-in_ok-push-in-Child t c =
     ap parts_view c.in_ok-push-in-Child.ensures.items ∙ parts-push_child old stripped in
     subst (λ (p : Part). Strips (part_view p) (parts_view old) (parts_view new)) (sym c.in-Child.is)
     (Strips-child c.in-Child.element (element_view stripped) (parts_view old) (parts_view new)
-        c.in_ok-strip-in-Child.ensures grown)
+    c.in_ok-strip-in-Child.ensures grown)
 
 pub strip_parts-returns : goal.strip_parts-returns
 strip_parts-returns t c =
     stripped_all c.args.parts.now c.loop-part.part-index (parts_view c.loop-part.items.items) c.loop-part-test.false
-        c.loop-part.invariant
+    c.loop-part.invariant

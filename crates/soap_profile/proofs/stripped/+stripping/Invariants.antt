@@ -8,4 +8,4 @@ use Rattle.soap_profile.proofs.stripped.+stripping.Given as goal
 abbrev pub invariant-strip_parts-loop-part : goal.invariant-strip_parts-loop-part
 invariant-strip_parts-loop-part l =
     join (parts_view l.items.items) (parts_without (parts_view (drop l.part-index l.parts)))
-        ≡ parts_without (parts_view l.parts)
+    ≡ parts_without (parts_view l.parts)

@@ -7,5 +7,5 @@ pub overflow_add-self : goal.overflow_add-self
 overflow_add-self c =
     let before = seen c.args.self.now in
     let same : c.end.new.self.at ≡ before.at = ap (λ s. s.at) c.in_ok-end.ensures
-        ∙ finish-at before.mode before c.args.byte in
+    ∙ finish-at before.mode before c.args.byte in
     omega (arith, same, c.requires)

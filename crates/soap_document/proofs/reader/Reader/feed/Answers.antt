@@ -11,7 +11,7 @@ returns-in-None c =
     let new = seen c.keep.new.self in
     on_ok c.keep.result (new ≡ kept_by s bytes) (new ≡ run (seen c.args.self.now) c.args.piece.now)
     (λ e. feed_last s new bytes c.first_stop.result c.first_stop.ensures c.in-None.is e
-        ∙ c.loop-rest.invariant.meaning) c.keep.ensures
+    ∙ c.loop-rest.invariant.meaning) c.keep.ensures
 
 pub loop-rest-preserved : goal.loop-rest-preserved
 loop-rest-preserved c =

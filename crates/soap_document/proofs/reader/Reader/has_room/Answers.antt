@@ -8,4 +8,4 @@ returns-then-is_outside c =
     let self = c.args.self.now in
     c.is_empty.ensures
     ∙ outer_room (frames_of self.below.items) self.top.parts.items _ self.top.parts.ok.0 (sym c.is_outside.ensures
-        ∙ c.if-is_outside.true)
+    ∙ c.if-is_outside.true)

@@ -11,7 +11,7 @@ pub returns-then-is_empty : goal.returns-then-is_empty
 returns-then-is_empty c =
     let self = c.args.self.now in
     settled_empty (seen self) (nil_from_len self.text.items _ self.text.ok.0 (sym c.is_empty.ensures
-        ∙ c.if-is_empty.true))
+    ∙ c.if-is_empty.true))
 
 pub returns : goal.returns
 returns c =
@@ -22,5 +22,7 @@ returns c =
     let grown : parts_view c.push.new.self.items ≡ join (parts_view before) (onto self.text.items none) =
     ap parts_view c.in_ok-push.ensures.items ∙ ap (λ (y : List ℕ). parts_view (before ++ Text y ∷ [])) is
     ∙ settled_text before self.text.items some.0 some.1 some.2 in
-    ap₂ (λ (k : Parts) (x : List ℕ). record (seen self) { top = record (frame_of self.top) { parts = k }; text = x
-        }) grown c.clear.ensures.items
+    ap₂ (λ (k : Parts) (x : List ℕ). record (seen self) {
+      top = record (frame_of self.top) { parts = k };
+      text = x;
+    }) grown c.clear.ensures.items
