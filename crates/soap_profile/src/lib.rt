@@ -1,8 +1,6 @@
-//! Documents with expanded names: the bytes of a whole document, and of the content of an element, to trees. It
-//! stands on
-//! documents as they are written, `soap_document`. The layers above may use the trees and the contracts of the
-//! readers, by
-//! `specs/Document`.
+//! Documents with expanded names: the bytes of a whole document to a tree, and the tree without its declarations. It stands
+//! on documents as they are written, `soap_document`. The layers above may use the trees and the contracts of the readers,
+//! by `specs/Document`.
 #![tactic(auto)]
 
 pub mod error;
