@@ -1,6 +1,5 @@
 -- Documents, between their bytes and the tree as it is written: XML 1.0 (fifth edition) and Namespaces in XML 1.0,
--- without
--- document types and processing instructions. The section of each production stands beside it.
+-- without document types and processing instructions. The section of each production stands beside it.
 use Rattle.std.specs.Prelude.{◌≡◌, ◌≢◌, ℕ, suc, ◌+◌, ◌<◌, List, [], ◌∷◌, ◌++◌, IsTrue, length, codes}
 use Rattle.std.specs.List.{AllByRecursion}
 use Rattle.std.specs.Str.{str_to_ascii_lowercase}

@@ -1,6 +1,5 @@
 -- The reader of documents, a byte at a time. It says how a document is read, and nothing of what a document is: that
--- stands
--- in Grammar. Bytes that end a token have their meaning, and all others only lengthen it.
+-- stands in Grammar. Bytes that end a token have their meaning, and all others only lengthen it.
 use Rattle.std.specs.Prelude.{ℕ, ◌+◌, List, [], ◌∷◌, ◌++◌, Bool, true, false, not, ◌&&◌, ◌||◌, ◌==◌, nat_lt, if◌then◌else◌, Option, Some, None, codes, length, encode_utf8}
 use Rattle.std.specs.Str.{bytes_eq}
 use Rattle.xml_chars.specs.Classes.{is_space}

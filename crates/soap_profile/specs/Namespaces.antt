@@ -24,9 +24,8 @@ declared_prefix name =
     if bytes_eq name (codes "xmlns") then Some []
     else if bytes_eq (split name).0 (codes "xmlns") then Some (split name).1 else None
 
--- whether a prefix may be bound so (2.2, 3, 5): no prefix is undeclared, xml is bound to its namespace and nothing
--- else is,
--- and xmlns is not bound, nor anything to its namespace
+-- whether a prefix may be bound so (2.2, 3, 5): no prefix is undeclared, xml is bound to its namespace and nothing else
+-- is, and xmlns is not bound, nor anything to its namespace
 abbrev pub may_bind : List ℕ → List ℕ → Bool
 may_bind prefix space =
     if bytes_eq prefix (codes "xml") then bytes_eq space xml_space
