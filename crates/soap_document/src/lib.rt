@@ -1,6 +1,5 @@
 //! Documents as they are written: from bytes to a tree whose names keep their prefixes, by a reader that is fed pieces.
-//! It stands on the tests of tokens, `soap_lex`. The layer above resolves the names; what it may use is the tree and
-//! the
+//! It stands on the tests of tokens, `soap_lex`. The layer above resolves the names; what it may use is the tree and the
 //! contract of `read_document`, by the grammar in `specs/Grammar`.
 #![tactic(auto)]
 
