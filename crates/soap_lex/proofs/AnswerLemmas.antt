@@ -131,20 +131,21 @@ between_none bytes before mid after None there back =
     λ inner e. back inner (append_cancel_left before mid (inner ++ after) (sym there ∙ e))
 between_none bytes before mid after (Some x) there back = tt
 
--- what follows a word
-pub after_found : (bytes word : List ℕ) (r : Option (Bor (List ℕ)))
-    → MatchOption r ((rest : List ℕ) → bytes ≢ word ++ rest) (λ x. bytes ≡ word ++ x.now)
-    → IfSome r (λ rest. bytes ≡ word ++ rest.now)
-after_found bytes word None found = tt
-after_found bytes word (Some rest) found = found
-
-pub after_none : (bytes word : List ℕ) (r : Option (Bor (List ℕ)))
-    → MatchOption r ((rest : List ℕ) → bytes ≢ word ++ rest) (λ x. bytes ≡ word ++ x.now)
-    → IfNone r ((rest : List ℕ) → bytes ≡ word ++ rest → ⊥)
-after_none bytes word None found = found
-after_none bytes word (Some rest) found = tt
-
 -- a refusal for one reason is one for another
 pub OnRefusal-weaker : (error : LexError) (P Q : Type 0) → (P → Q) → OnRefusal error P → OnRefusal error Q
 OnRefusal-weaker Memory P Q f h = tt
 OnRefusal-weaker NotProfile P Q f h = f h
+
+-- two tests of one fact
+pub same_test : (P : Type 0) (r t : Bool) → (r ≡ true → P) → (P → r ≡ true) → (t ≡ true → P) → (P → t ≡ true) → r ≡ t
+same_test P true true a b c d = refl
+same_test P true false a b c d = sym (d (a refl))
+same_test P false true a b c d = b (c refl)
+same_test P false false a b c d = refl
+
+-- two searches of one thing, which is unique
+pub same_search : (P : ℕ → Type 0) (r t : Option ℕ) → IfSome r P → IfNone r ((c : ℕ) → P c → ⊥) → ((c : ℕ) → P c → t
+    ≡ Some c) → ((c : ℕ) → t ≡ Some c → P c) → r ≡ t
+same_search P None None f n b d = refl
+same_search P None (Some c) f n b d = absurd (n c (d c refl))
+same_search P (Some c) t f n b d = sym (b c f)

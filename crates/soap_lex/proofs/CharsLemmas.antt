@@ -96,7 +96,7 @@ IsChars-append xs ys a b = record {
       ∙ sym (encodes-append a.characters b.characters);
 }
 
-each-places : (p : ℕ → Bool) (xs : List ℕ) → ((k : ℕ) → k < length xs → p (get_or xs k 0) ≡ true)
+pub each-places : (p : ℕ → Bool) (xs : List ℕ) → ((k : ℕ) → k < length xs → p (get_or xs k 0) ≡ true)
     → AllByRecursion (λ c. IsTrue (p c)) xs
 each-places p [] each = tt
 each-places p (x ∷ xs) each = (each 0 (omega arith), each-places p xs (λ k h. each (suc k) (omega arith)))

@@ -15,11 +15,6 @@ use Rattle.soap_lex.specs.Characters.{Holds}
 pub Holds-cons : (bytes word : List ℕ) (x : ℕ) → Holds bytes word → Holds (x ∷ bytes) word
 Holds-cons bytes word x h = record { before = x ∷ h.before; after = h.after; there = ap (λ l. x ∷ l) h.there }
 
--- and with bytes in front
-pub Holds-behind : (front bytes word : List ℕ) → Holds bytes word → Holds (front ++ bytes) word
-Holds-behind [] bytes word h = h
-Holds-behind (x ∷ front) bytes word h = Holds-cons (front ++ bytes) word x (Holds-behind front bytes word h)
-
 -- and with bytes behind
 pub Holds-front : (bytes back word : List ℕ) → Holds bytes word → Holds (bytes ++ back) word
 Holds-front bytes back word h = record {
@@ -27,14 +22,6 @@ Holds-front bytes back word h = record {
   after = h.after ++ back;
   there = ap (λ l. l ++ back) h.there ∙ append_assoc h.before (word ++ h.after) back
       ∙ ap (λ l. h.before ++ l) (append_assoc word h.after back);
-}
-
--- what holds a word holds its front
-pub Holds-shorter : (bytes word more : List ℕ) → Holds bytes (word ++ more) → Holds bytes word
-Holds-shorter bytes word more h = record {
-  before = h.before;
-  after = more ++ h.after;
-  there = h.there ∙ ap (λ l. h.before ++ l) (append_assoc word more h.after);
 }
 
 cases_at : (x : ℕ) (bytes word before after : List ℕ) → x ∷ bytes ≡ before ++ (word ++ after)
@@ -139,19 +126,6 @@ lacks-searched bytes word none h =
     (omega (arith, ap length h.there, length-append h.before (word ++ h.after)))
     (OccursAt-held bytes word h.before h.after h.there)
 
--- a search that found one: it is held there, and not before
-pub lacks-before : (bytes : List ℕ) (w : ℕ) (word : List ℕ) (k : ℕ) → FindsNeedle bytes (w ∷ word) 0 (Some k)
-    → ¬ (Holds (take k bytes) (w ∷ word))
-lacks-before bytes w word k found h =
-    let there : bytes ≡ h.before ++ ((w ∷ word) ++ (h.after ++ drop k bytes)) =
-    sym (take-append-drop k bytes) ∙ ap (λ l. l ++ drop k bytes) h.there
-    ∙ append_assoc h.before ((w ∷ word) ++ h.after) (drop k bytes)
-    ∙ ap (λ l. h.before ++ l) (append_assoc (w ∷ word) h.after (drop k bytes)) in
-    let short : length h.before < k =
-    omega (arith, length-take k bytes, ap length h.there, length-append h.before ((w ∷ word) ++ h.after)) in
-    found.0.before (length h.before) (omega arith) short
-    (OccursAt-held bytes (w ∷ word) h.before (h.after ++ drop k bytes) there)
-
 -- two dashes side by side, with one more behind: they stand in the bytes, or the bytes end with one
 pub Holds-dashes : (d : ℕ) (bytes : List ℕ) → Holds (bytes ++ d ∷ []) (d ∷ d ∷ [])
     → Holds bytes (d ∷ d ∷ []) ⊎ ((front : List ℕ) × (bytes ≡ front ++ d ∷ []))
@@ -184,8 +158,3 @@ Holds-dashes d (x ∷ y ∷ bytes) h =
 
 pub Holds-dash_end : (d : ℕ) (front : List ℕ) → Holds ((front ++ d ∷ []) ++ d ∷ []) (d ∷ d ∷ [])
 Holds-dash_end d front = record { before = front; after = []; there = append_assoc front (d ∷ []) (d ∷ []) }
-
-pub lacks-first : (bytes word : List ℕ) (k : ℕ) → 0 < length word → FindsNeedle bytes word 0 (Some k)
-    → ¬ (Holds (take k bytes) word)
-lacks-first bytes [] k some found = absurd (omega arith)
-lacks-first bytes (w ∷ word) k some found = lacks-before bytes w word k found

@@ -1,17 +1,16 @@
 -- References: what stands in them, that each has one end and one meaning.
-use Rattle.std.proofs.Common.{◌≡◌, ◌≢◌, ℕ, ◌+◌, ◌<◌, Bool, true, false, ◌==◌, List, [], ◌∷◌, ◌++◌, length, get_or, take}
-use Rattle.std.proofs.Common.{drop, eqb-true, Some, None, Option, refl, sym, ap, ◌∙◌, subst, arith, append_assoc}
+use Rattle.std.proofs.Common.{◌≡◌, ◌≢◌, ℕ, ◌<◌, Bool, true, false, ◌==◌, List, [], ◌∷◌, ◌++◌, get_or}
+use Rattle.std.proofs.Common.{Some, None, Option, refl, sym, ap, ◌∙◌, subst, arith, append_assoc}
 use Rattle.std.specs.Prelude.{IsTrue, codes, IfSome, IfNone, if◌then◌else◌}
 use Rattle.std.specs.Char.{digit_value, is_ascii_digit, is_ascii_hexdigit}
 use Rattle.std.specs.List.{AllByRecursion}
 use Rattle.std.specs.Str.{NonePass}
 use Rattle.std.specs.Str.Parse.{AllDigits, digits_value}
 use Rattle.std.proofs.lemmas.Bool.Decides.{nat_tests}
-use Rattle.std.proofs.lemmas.List.{append_cancel_right, take-append-drop, drop_more, take_more}
-use Rattle.memchr.specs.Find.{is_byte, IsFirstByte}
+use Rattle.std.proofs.lemmas.List.{append_cancel_right}
+use Rattle.memchr.specs.Find.{is_byte}
 use Rattle.xml_chars.specs.Classes.{is_char}
 use Rattle.soap_lex.specs.References.{IsReference, ampersand, less, greater, apostrophe, quote, decimal, hexadecimal}
-use Rattle.soap_lex.proofs.HoldsLemmas.{NonePass-lacks, NonePass-searched, NonePass-before}
 use Rattle.soap_lex.proofs.WordLemmas.{same_run}
 
 decimal_counts : (c : ℕ) → is_ascii_digit c ≡ true → digit_value c < 10
@@ -235,32 +234,3 @@ same_reference a b x y c d ia ib e =
     let (same, rests) = closed_run a b x y (IsClosed-reference a c ia) (IsClosed-reference b d ib) e in
     let P : List ℕ → Type 0 = λ l. IsReference l d in
     (same, same_value a c d ia (subst P (sym same) ib), rests)
-
--- bytes without ; begin with no reference
-pub no_reference : (bytes token rest : List ℕ) (c : ℕ) → IsFirstByte (is_byte 59) bytes None → bytes ≡ token ++ rest
-    → IsReference token c → ⊥
-no_reference bytes token rest c none there is =
-    let closed = IsClosed-reference token c is in
-    NonePass-lacks 59 bytes (NonePass-searched (is_byte 59) bytes none) (record {
-      before = 38 ∷ closed.inner;
-      after = rest;
-      there = there ∙ ap (λ l. l ++ rest) closed.there ∙ append_assoc (38 ∷ closed.inner) (59 ∷ []) rest;
-    })
-
--- a reference at the front ends at the first ;
-pub reference_front : (bytes token rest : List ℕ) (c k : ℕ) → IsFirstByte (is_byte 59) bytes (Some k)
-    → bytes ≡ token ++ rest → IsReference token c
-    → token ≡ take (k + 1) bytes
-reference_front bytes token rest c k found there is =
-    let closed = IsClosed-reference token c is in
-    let high : k < length bytes = found.0.high in
-    let at : get_or bytes k 0 ≡ 59 = eqb-true (get_or bytes k 0) 59 found.1 in
-    let split : bytes ≡ take k bytes ++ (59 ∷ drop (k + 1) bytes) =
-    sym (take-append-drop k bytes)
-    ∙ ap (λ l. take k bytes ++ l) (drop_more bytes k 0 high ∙ ap (λ x. x ∷ drop (k + 1) bytes) at) in
-    let other : bytes ≡ (38 ∷ closed.inner) ++ (59 ∷ rest) =
-    there ∙ ap (λ l. l ++ rest) closed.there ∙ append_assoc (38 ∷ closed.inner) (59 ∷ []) rest in
-    let (inners, rests) = same_run (is_byte 59) (38 ∷ closed.inner) (take k bytes) (59 ∷ rest) (59 ∷ drop (k + 1) bytes)
-    (refl, closed.none) (NonePass-before (is_byte 59) bytes k found) refl refl (sym other ∙ split) in
-    closed.there ∙ ap (λ l. l ++ 59 ∷ []) inners ∙ ap (λ x. take k bytes ++ x ∷ []) (sym at)
-    ∙ sym (take_more bytes k 0 high)

@@ -52,11 +52,6 @@ abbrev pub OnRefusal : LexError → Type 0 → Type 0
 OnRefusal Memory P = ⊤
 OnRefusal NotProfile P = P
 
--- the first byte passes the test
-abbrev pub Begins : (ℕ → Bool) → List ℕ → Type 0
-Begins test [] = ⊥
-Begins test (x ∷ bytes) = test x ≡ true
-
 -- there is no byte, or the first passes the test
 abbrev pub Stops : (ℕ → Bool) → List ℕ → Type 0
 Stops test [] = ⊤

@@ -1,6 +1,11 @@
 pub mod Characters
+pub mod Coded
 pub mod Cut
 pub mod Escapes
+pub mod Readers
 pub mod References
+pub mod Tests
 pub mod Text
+pub mod TextMachine
 pub mod Value
+pub mod ValueMachine

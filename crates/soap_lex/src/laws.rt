@@ -1,12 +1,14 @@
 //! Laws of the grammar, each the contract of a function that does nothing.
 
-ghost use Rattle.std.specs.Prelude.{◌≡◌, ℕ, List, [], ◌∷◌, ◌++◌};
+ghost use Rattle.std.specs.Prelude.{◌≡◌, ◌⊎◌, ℕ, List, [], ◌∷◌, ◌++◌, Some};
 ghost use Rattle.soap_lex.specs.Characters.{IsChars};
 ghost use Rattle.soap_lex.specs.Cut.{IsTextFirst, IsValueFirst};
 ghost use Rattle.soap_lex.specs.Escapes.{escaped_text, escaped_value};
 ghost use Rattle.soap_lex.specs.References.{IsReference};
 ghost use Rattle.soap_lex.specs.Text.{IsText};
-ghost use Rattle.soap_lex.specs.Value.{IsValue};
+ghost use Rattle.soap_lex.specs.TextMachine.{begun, reads};
+ghost use Rattle.soap_lex.specs.Value.{IsInner, IsValue};
+ghost use Rattle.soap_lex.specs.ValueMachine.{begun as begun_value, reads as reads_value};
 
 /// What `write_text` appends is text that means what was written.
 pub fn text_is_read_back()
@@ -28,6 +30,25 @@ pub fn text_is_one()
 pub fn value_is_one()
     ensures { (bytes value rest meaning other left means : List ℕ) → IsValueFirst bytes value rest meaning
         → IsValueFirst bytes other left means → (value ≡ other) × (meaning ≡ means) × (rest ≡ left) }
+{}
+
+/// What bytes begin with as text is what the machine of text reads, and all that it reads.
+pub fn text_is_read()
+    ensures only { (bytes text rest meaning before : List ℕ) → IsTextFirst bytes text rest meaning
+        → reads (begun before) bytes ≡ Some (before ++ meaning, rest) }
+    ensures found { (bytes before all rest : List ℕ) → reads (begun before) bytes ≡ Some (all, rest)
+        → (text : List ℕ) × (meaning : List ℕ) × IsTextFirst bytes text rest meaning × (all ≡ before ++ meaning) }
+{}
+
+/// What stands before a closing quote is what the machine of values reads, and all that it reads.
+pub fn value_is_read()
+    ensures only { (quote : ℕ) (inner rest meaning before : List ℕ) → (quote ≡ 34) ⊎ (quote ≡ 39)
+        → IsInner quote inner meaning
+        → reads_value (begun_value quote before) (inner ++ quote ∷ rest) ≡ Some (before ++ meaning, rest) }
+    ensures found { (quote : ℕ) (bytes before all rest : List ℕ)
+        → reads_value (begun_value quote before) bytes ≡ Some (all, rest)
+        → (inner : List ℕ) × (meaning : List ℕ) × (bytes ≡ inner ++ quote ∷ rest) × IsInner quote inner meaning
+        × (all ≡ before ++ meaning) }
 {}
 
 /// Bytes begin with one reference, to one character.

@@ -1,21 +1,15 @@
-ghost use Rattle.std.specs.Prelude.{◌≡◌, ◌⊎◌, ℕ, ◌+◌, ◌-◌, ◌<◌, ◌≤◌, List, [], ◌∷◌, ◌++◌, length, take, drop, codes};
-ghost use Rattle.std.specs.Prelude.{encode_utf8, IfOk, IfErr, IfSome, IfNone, OnOk, OnErr, IsTrue};
-ghost use Rattle.std.specs.Str.{IsUtf8, NonePass};
-ghost use Rattle.memchr.specs.Find.{is_byte2, is_byte3};
-ghost use Rattle.soap_lex.specs.Characters.{Holds, IsName, IsLongestName};
-ghost use Rattle.soap_lex.specs.Cut.{Begins, EndsOrWants, EndsText, IsNameRun, IsTextFirst, IsValueFirst, OnRefusal};
-ghost use Rattle.soap_lex.specs.Cut.{ReadsText, ReadsValue, Stops};
-ghost use Rattle.soap_lex.specs.References.{IsReference};
-ghost use Rattle.soap_lex.specs.Text.{IsCharData, IsCdata, IsComment, IsMarkup, with_line_ends};
-ghost use Rattle.soap_lex.specs.Value.{IsInner, IsPlainValue, with_spaces};
+ghost use Rattle.std.specs.Prelude.{◌≡◌, ◌⊎◌, ℕ, ◌+◌, ◌-◌, ◌<◌, ◌≤◌, List, [], ◌∷◌, ◌++◌, length, take, drop, Some, None};
+ghost use Rattle.std.specs.Prelude.{IfOk, IfErr, IfSome, IfNone, OnErr};
+ghost use Rattle.std.specs.Str.{IsUtf8};
+ghost use Rattle.soap_lex.specs.Characters.{IsName, IsLongestName};
+ghost use Rattle.soap_lex.specs.Cut.{EndsOrWants, IsNameRun, IsTextFirst, IsValueFirst, OnRefusal};
+ghost use Rattle.soap_lex.specs.Cut.{ReadsText, ReadsValue};
+ghost use Rattle.soap_lex.specs.Readers.{quote_byte};
+ghost use Rattle.soap_lex.specs.TextMachine.{begun, counted, reads};
+ghost use Rattle.soap_lex.specs.ValueMachine.{begun as begun_value, reads as reads_value};
 
-use crate::references::reference_at;
 use crate::tokens::begins_name;
-use crate::{
-    LexError, Memory, is_cdata, is_char_data, is_comment, is_plain_value, push_line_ends,
-    push_spaces,
-};
-use memchr::{memchr2, memchr3, memmem};
+use crate::{LexError, Quote, TextReader, ValueReader};
 use std::str;
 use xml_chars::is_name_char;
 
@@ -124,154 +118,28 @@ fn push_text<'a>(bytes: &'a [u8], out: &mut Vec<u8>) -> Result<&'a [u8], LexErro
         (λ error. OnRefusal error ((text rest meaning : List ℕ) → IsTextFirst bytes.now text rest meaning → ⊥)) }
     ensures err { OnErr result (take (length out.old.items) out.new.items ≡ out.old.items) }
 {
+    let left = run_text(bytes, out)?;
+    Ok(&bytes[bytes.len() - left..])
+}
+
+// appends what the text at the front means, and says how many bytes follow it
+fn run_text(bytes: &[u8], out: &mut Vec<u8>) -> Result<usize, LexError>
+    ensures ok { IfOk result (λ left. counted (reads (begun out.old.items) bytes.now) ≡ Some (out.new.items, left)) }
+    ensures refused { IfErr result (λ error. OnRefusal error (reads (begun out.old.items) bytes.now ≡ None)) }
+    ensures front { take (length out.old.items) out.new.items ≡ out.old.items }
+{
+    let mut reader = TextReader::new(*out.allocator());
     let mut rest = bytes;
     loop {
-        let markup = push_char_data(rest, out)?;
-        if ends_text(markup) {
-            return Ok(markup);
+        let taken = reader.feed(rest, out)?;
+        if taken == 0 {
+            return match reader.finish(out)? {
+                Some(held) => Ok(held + rest.len()),
+                None => Err(LexError::NotProfile),
+            };
         }
-        rest = push_markup(markup, out)?;
+        rest = &rest[taken..];
     }
-}
-
-// text ends before these bytes
-fn ends_text(bytes: &[u8]) -> bool
-    ensures yes { IsTrue result → EndsText bytes.now }
-    ensures no { EndsText bytes.now → IsTrue result }
-{
-    match bytes {
-        [] => true,
-        [b'<', b'!', b'-', b'-', ..] => false,
-        [b'<', b'!', b'[', b'C', b'D', b'A', b'T', b'A', b'[', ..] => false,
-        [first, ..] => *first == b'<',
-    }
-}
-
-// the character data up to the next markup or the end
-fn push_char_data<'a>(bytes: &'a [u8], out: &mut Vec<u8>) -> Result<&'a [u8], LexError>
-    ensures found { IfOk result (λ rest. (run : List ℕ) × (bytes.now ≡ run ++ rest.now) × IsCharData run
-        × Stops (is_byte2 60 38) rest.now × (out.new.items ≡ out.old.items ++ with_line_ends run)) }
-    ensures refused { IfErr result (λ error. OnRefusal error ((run rest : List ℕ) → bytes.now ≡ run ++ rest
-        → IsCharData run → Stops (is_byte2 60 38) rest → ⊥)) }
-    ensures err { OnErr result (out.new.items ≡ out.old.items) }
-{
-    let (run, rest) = split_markup(bytes);
-    if !is_char_data(run) {
-        return Err(LexError::NotProfile);
-    }
-    push_line_ends(run, out)?;
-    Ok(rest)
-}
-
-// what stands before the first byte that may begin markup, and the rest
-fn split_markup(bytes: &[u8]) -> (&[u8], &[u8])
-    ensures there { bytes.now ≡ result.0.now ++ result.1.now }
-    ensures none { NonePass (is_byte2 60 38) result.0.now }
-    ensures stops { Stops (is_byte2 60 38) result.1.now }
-{
-    match memchr2(b'<', b'&', bytes) {
-        Some(end) => bytes.split_at(end),
-        None => (bytes, &bytes[bytes.len()..]),
-    }
-}
-
-// the markup at the front
-fn push_markup<'a>(bytes: &'a [u8], out: &mut Vec<u8>) -> Result<&'a [u8], LexError>
-    ensures found { IfOk result (λ rest. (markup : List ℕ) × (meaning : List ℕ) × (bytes.now ≡ markup ++ rest.now)
-        × IsMarkup markup meaning × (out.new.items ≡ out.old.items ++ meaning)) }
-    ensures refused { IfErr result
-        (λ error. OnRefusal error ((markup rest meaning : List ℕ) → bytes.now ≡ markup ++ rest → IsMarkup markup meaning
-        → ⊥)) }
-    ensures err { OnErr result (out.new.items ≡ out.old.items) }
-{
-    if let Some(inside) = after(b"<!--", bytes) {
-        return match after_comment(inside) {
-            Some(rest) => Ok(rest),
-            None => Err(LexError::NotProfile),
-        };
-    }
-    if let Some(inside) = after(b"<![CDATA[", bytes) {
-        return push_cdata(inside, out);
-    }
-    push_reference(bytes, out)
-}
-
-// what follows the word at the front
-fn after<'a>(word: &[u8], bytes: &'a [u8]) -> Option<&'a [u8]>
-    ensures found { IfSome result (λ rest. bytes.now ≡ word.now ++ rest.now) }
-    ensures none { IfNone result ((rest : List ℕ) → bytes.now ≡ word.now ++ rest → ⊥) }
-{
-    bytes.strip_prefix(word)
-}
-
-// what follows the comment whose inside is at the front
-fn after_comment(bytes: &[u8]) -> Option<&[u8]>
-    ensures found { IfSome result (λ rest. (inside : List ℕ) × (bytes.now ≡ inside ++ (codes "-->" ++ rest.now))
-        × IsComment inside) }
-    ensures none { IfNone result ((inside rest : List ℕ) → bytes.now ≡ inside ++ (codes "-->" ++ rest)
-        → IsComment inside → ⊥) }
-{
-    let Some((inside, rest)) = split_first(bytes, b"-->") else {
-        return None;
-    };
-    if is_comment(inside) { Some(rest) } else { None }
-}
-
-// what stands before the first such word, and what follows it
-fn split_first<'a>(bytes: &'a [u8], word: &[u8]) -> Option<(&'a [u8], &'a [u8])>
-    requires { 0 < length word.now }
-    ensures found { IfSome result (λ parts. (bytes.now ≡ parts.0.now ++ (word.now ++ parts.1.now))
-        × ¬ (Holds parts.0.now word.now)) }
-    ensures none { IfNone result (¬ (Holds bytes.now word.now)) }
-{
-    let Some(end) = memmem::find(bytes, word) else {
-        return None;
-    };
-    let (before, rest) = bytes.split_at(end);
-    Some((before, &rest[word.len()..]))
-}
-
-// what the CDATA section means whose inside is at the front
-fn push_cdata<'a>(bytes: &'a [u8], out: &mut Vec<u8>) -> Result<&'a [u8], LexError>
-    ensures found { IfOk result (λ rest. (inside : List ℕ) × (bytes.now ≡ inside ++ (codes "]]>" ++ rest.now))
-        × IsCdata inside × (out.new.items ≡ out.old.items ++ with_line_ends inside)) }
-    ensures refused { IfErr result
-        (λ error. OnRefusal error ((inside rest : List ℕ) → bytes.now ≡ inside ++ (codes "]]>" ++ rest) → IsCdata inside
-        → ⊥)) }
-    ensures err { OnErr result (out.new.items ≡ out.old.items) }
-{
-    let Some((inside, rest)) = split_first(bytes, b"]]>") else {
-        return Err(LexError::NotProfile);
-    };
-    if !is_cdata(inside) {
-        return Err(LexError::NotProfile);
-    }
-    push_line_ends(inside, out)?;
-    Ok(rest)
-}
-
-// what the reference at the front means
-fn push_reference<'a>(bytes: &'a [u8], out: &mut Vec<u8>) -> Result<&'a [u8], LexError>
-    ensures found { IfOk result (λ rest. (token : List ℕ) × (c : ℕ) × (bytes.now ≡ token ++ rest.now)
-        × IsReference token c × (out.new.items ≡ out.old.items ++ encode_utf8 c)) }
-    ensures refused { IfErr result (λ error. OnRefusal error ((token rest : List ℕ) (c : ℕ) → bytes.now ≡ token ++ rest
-        → IsReference token c → ⊥)) }
-    ensures err { OnErr result (out.new.items ≡ out.old.items) }
-{
-    let Some((c, rest)) = reference_at(bytes) else {
-        return Err(LexError::NotProfile);
-    };
-    push_char(c, out)?;
-    Ok(rest)
-}
-
-fn push_char(c: char, out: &mut Vec<u8>) -> Result<(), Memory>
-    ensures ok { OnOk result (out.new.items ≡ out.old.items ++ encode_utf8 c) }
-    ensures err { OnErr result (out.new.items ≡ out.old.items) }
-{
-    let mut room = [0; 4];
-    out.extend_from_slice(c.encode_utf8(&mut room).as_bytes())?;
-    Ok(())
 }
 
 // appends what the value at the front means, and gives what follows it
@@ -284,65 +152,33 @@ fn push_value<'a>(bytes: &'a [u8], out: &mut Vec<u8>) -> Result<&'a [u8], LexErr
         (λ error. OnRefusal error ((value rest meaning : List ℕ) → IsValueFirst bytes.now value rest meaning → ⊥)) }
     ensures err { OnErr result (take (length out.old.items) out.new.items ≡ out.old.items) }
 {
-    if let Some(inner) = after(b"\"", bytes) {
-        return push_inner(b'"', inner, out);
-    }
-    if let Some(inner) = after(b"'", bytes) {
-        return push_inner(b'\'', inner, out);
-    }
-    Err(LexError::NotProfile)
-}
-
-// what stands before the closing quote
-fn push_inner<'a>(quote: u8, bytes: &'a [u8], out: &mut Vec<u8>) -> Result<&'a [u8], LexError>
-    requires { (quote ≡ 34) ⊎ (quote ≡ 39) }
-    ensures found { IfOk result (λ rest. (inner : List ℕ) × (meaning : List ℕ)
-        × (bytes.now ≡ inner ++ (quote ∷ rest.now)) × IsInner quote inner meaning
-        × (out.new.items ≡ out.old.items ++ meaning)) }
-    ensures only { IfOk result (λ left. (inner rest meaning : List ℕ) → bytes.now ≡ inner ++ (quote ∷ rest)
-        → IsInner quote inner meaning → rest ≡ left.now) }
-    ensures refused { IfErr result
-        (λ error. OnRefusal error ((inner rest meaning : List ℕ) → bytes.now ≡ inner ++ (quote ∷ rest)
-        → IsInner quote inner meaning → ⊥)) }
-    ensures err { OnErr result (take (length out.old.items) out.new.items ≡ out.old.items) }
-{
-    let mut rest = bytes;
-    loop {
-        let stop = push_plain(quote, rest, out)?;
-        if let Some(left) = after_byte(quote, stop) {
-            return Ok(left);
-        }
-        rest = push_reference(stop, out)?;
-    }
-}
-
-// what follows the byte at the front
-fn after_byte(byte: u8, bytes: &[u8]) -> Option<&[u8]>
-    ensures found { IfSome result (λ rest. bytes.now ≡ byte ∷ rest.now) }
-    ensures none { IfNone result ((rest : List ℕ) → bytes.now ≡ byte ∷ rest → ⊥) }
-{
-    match bytes {
-        [first, rest @ ..] if *first == byte => Some(rest),
-        _ => None,
-    }
-}
-
-// the characters up to the next quote or markup
-fn push_plain<'a>(quote: u8, bytes: &'a [u8], out: &mut Vec<u8>) -> Result<&'a [u8], LexError>
-    requires { (quote ≡ 34) ⊎ (quote ≡ 39) }
-    ensures found { IfOk result (λ rest. (run : List ℕ) × (bytes.now ≡ run ++ rest.now) × IsPlainValue quote run
-        × Begins (is_byte3 60 38 quote) rest.now × (out.new.items ≡ out.old.items ++ with_spaces run)) }
-    ensures refused { IfErr result (λ error. OnRefusal error ((run rest : List ℕ) → bytes.now ≡ run ++ rest
-        → IsPlainValue quote run → Begins (is_byte3 60 38 quote) rest → ⊥)) }
-    ensures err { OnErr result (out.new.items ≡ out.old.items) }
-{
-    let Some(end) = memchr3(b'<', b'&', quote, bytes) else {
+    let [first, inner @ ..] = bytes else {
         return Err(LexError::NotProfile);
     };
-    let (run, rest) = bytes.split_at(end);
-    if !is_plain_value(run, quote) {
-        return Err(LexError::NotProfile);
+    match Quote::from_byte(*first) {
+        Some(quote) => run_value(quote, inner, out),
+        None => Err(LexError::NotProfile),
     }
-    push_spaces(run, out)?;
-    Ok(rest)
+}
+
+// appends what stands before the closing quote means, and gives what follows that
+fn run_value<'a>(quote: Quote, bytes: &'a [u8], out: &mut Vec<u8>) -> Result<&'a [u8], LexError>
+    ensures ok { IfOk result (λ rest. reads_value (begun_value (quote_byte quote) out.old.items) bytes.now
+        ≡ Some (out.new.items, rest.now)) }
+    ensures refused { IfErr result (λ error. OnRefusal error
+        (reads_value (begun_value (quote_byte quote) out.old.items) bytes.now ≡ None)) }
+    ensures front { take (length out.old.items) out.new.items ≡ out.old.items }
+{
+    let mut reader = ValueReader::new(*out.allocator(), quote);
+    let mut rest = bytes;
+    loop {
+        let taken = reader.feed(rest, out)?;
+        if taken == 0 {
+            if reader.is_closed() {
+                return Ok(rest);
+            }
+            return Err(LexError::NotProfile);
+        }
+        rest = &rest[taken..];
+    }
 }

@@ -1,8 +1,9 @@
-ghost use Rattle.std.specs.Prelude.{◌≡◌, ◌≢◌, ◌⊎◌, ℕ, ◌≤◌, List, [], ◌++◌, min, IfSome, IfNone, IsTrue, codes};
+ghost use Rattle.std.specs.Prelude.{◌≡◌, ◌≢◌, ◌⊎◌, ℕ, ◌≤◌, List, [], ◌++◌, min, encode_utf8, IfSome, IfNone, OnOk, OnErr, IsTrue, codes};
 ghost use Rattle.std.specs.Str.Parse.{AllDigits, digits_value};
 ghost use Rattle.xml_chars.specs.Classes.{is_char as char_class};
 ghost use Rattle.soap_lex.specs.References.{IsReference};
 
+use crate::Memory;
 use memchr::memchr;
 use xml_chars::is_char;
 
@@ -77,18 +78,12 @@ fn number(digits: &[u8], base: u32) -> Option<u32>
     Some(number)
 }
 
-// the reference at the front, and what follows it
-pub(crate) fn reference_at(bytes: &[u8]) -> Option<(char, &[u8])>
-    ensures found { IfSome result (λ found. (token : List ℕ) × (bytes.now ≡ token ++ found.1.now)
-        × IsReference token found.0) }
-    ensures none { IfNone result ((token rest : List ℕ) (c : ℕ) → bytes.now ≡ token ++ rest → IsReference token c → ⊥) }
+// appends a character
+pub(crate) fn push_character(c: char, out: &mut Vec<u8>) -> Result<(), Memory>
+    ensures ok { OnOk result (out.new.items ≡ out.old.items ++ encode_utf8 c) }
+    ensures err { OnErr result (out.new.items ≡ out.old.items) }
 {
-    let Some(end) = memchr(b';', bytes) else {
-        return None;
-    };
-    let (token, rest) = bytes.split_at(end + 1);
-    match reference(token) {
-        Some(c) => Some((c, rest)),
-        None => None,
-    }
+    let mut room = [0; 4];
+    out.extend_from_slice(c.encode_utf8(&mut room).as_bytes())?;
+    Ok(())
 }

@@ -151,6 +151,34 @@ fn reading_goes_on_at_a_place(rt: HostRuntime) {
 }
 
 #[test]
+fn readers_are_fed_in_pieces(rt: HostRuntime) -> Result<(), Fail> {
+    let mut out = Vec::new(rt.alloc());
+    let mut reader = TextReader::new(rt.alloc());
+    assert!(rt; reader.feed(b"a\r", &mut out) == Ok(2));
+    assert!(rt; reader.feed(b"\nb<!", &mut out) == Ok(3));
+    assert!(rt; reader.feed(b"!b", &mut out) == Ok(1));
+    assert!(rt; reader.feed(b"b", &mut out) == Ok(0));
+    reader.restart();
+    assert!(rt; reader.feed(b"c", &mut out) == Ok(1));
+    assert!(rt; reader.finish(&mut out) == Ok(Some(0)));
+    let mut reader = ValueReader::new(rt.alloc(), Quote::Single);
+    assert!(rt; reader.feed(b"&am", &mut out) == Ok(1));
+    assert!(rt; reader.feed(b"am", &mut out) == Ok(2));
+    assert!(rt; reader.feed(b"p;d'e", &mut out) == Ok(2));
+    assert!(rt; reader.feed(b"d'e", &mut out) == Ok(2));
+    assert!(rt; reader.is_closed());
+    reader.restart(Quote::Double);
+    assert!(rt; !reader.is_closed());
+    assert!(rt; Quote::from_byte(b'\'') == Some(Quote::Single));
+    assert!(rt;
+        out.as_slice() == b"a\nbc&d".as_slice(),
+        "{}",
+        out.escape_ascii()
+    );
+    Ok(())
+}
+
+#[test]
 fn names_begin_and_go_on(rt: HostRuntime) {
     // each border of each range, and the character outside it
     for (c, begins, goes_on) in NAME_BORDERS {

@@ -1,9 +1,10 @@
-ghost use Rattle.std.specs.Prelude.{◌≡◌, ◌↔◌, ◌⊎◌, ℕ, ◌-◌, ◌<◌, List, [], ◌∷◌, ◌++◌, length, take, codes, IsTrue};
+ghost use Rattle.std.specs.Prelude.{◌≡◌, ◌↔◌, ◌⊎◌, ℕ, ◌-◌, ◌<◌, List, [], ◌∷◌, ◌++◌, length, take, codes, IsTrue, IfSome};
 ghost use Rattle.std.specs.List.{All, list_all, list_any};
 ghost use Rattle.std.specs.Str.{chars};
 ghost use Rattle.xml_chars.specs.Classes.{is_char as char_class, is_name_char as name_char_class};
 ghost use Rattle.xml_chars.specs.Classes.{is_name_start as name_start_class};
 ghost use Rattle.soap_lex.specs.Characters.{IsChars, IsName, Holds};
+ghost use Rattle.soap_lex.specs.Coded.{BeginsWithChar};
 ghost use Rattle.soap_lex.specs.Text.{IsCharData, IsCdata, IsComment};
 ghost use Rattle.soap_lex.specs.Value.{IsPlainValue};
 
@@ -15,10 +16,49 @@ use xml_chars::{is_char, is_name_char, is_name_start};
 pub fn is_name(bytes: &[u8]) -> bool
     ensures { IsTrue result ↔ IsName bytes.now }
 {
+    if is_ascii_name(bytes) {
+        return true;
+    }
     match str::from_utf8(bytes) {
         Ok(text) => begins_name(text) && has_name_chars(text),
         Err(_) => false,
     }
+}
+
+// a name of ASCII characters
+fn is_ascii_name(bytes: &[u8]) -> bool
+    ensures { IsTrue result → IsName bytes.now }
+{
+    match bytes {
+        [first, others @ ..] => begins_ascii_name(*first) && are_ascii_name_chars(others),
+        [] => false,
+    }
+}
+
+// each byte is an ASCII character that may stand in a name
+fn are_ascii_name_chars(bytes: &[u8]) -> bool
+    ensures { IsTrue result → All (λ byte. (byte < 128) × IsTrue (name_char_class byte)) bytes.now }
+{
+    for byte in bytes {
+        if !is_ascii_name_char(*byte) {
+            return false;
+        }
+    }
+    true
+}
+
+#[inline]
+fn begins_ascii_name(byte: u8) -> bool
+    ensures { IsTrue result → (byte < 128) × IsTrue (name_start_class byte) }
+{
+    (byte >= b'a' && byte <= b'z') || (byte >= b'A' && byte <= b'Z') || byte == b'_'
+}
+
+#[inline]
+fn is_ascii_name_char(byte: u8) -> bool
+    ensures { IsTrue result → (byte < 128) × IsTrue (name_char_class byte) }
+{
+    begins_ascii_name(byte) || (byte >= b'0' && byte <= b'9') || byte == b'-' || byte == b'.'
 }
 
 /// Character data: XML 1.0, section 2.4, production 14.
@@ -57,6 +97,72 @@ pub fn is_chars(bytes: &[u8]) -> bool
     if is_plain_ascii(bytes) {
         return true;
     }
+    let rest = after_chars(bytes);
+    if rest.is_empty() {
+        return true;
+    }
+    is_text(rest)
+}
+
+// what follows the characters of up to three bytes at the front
+fn after_chars(bytes: &[u8]) -> &[u8]
+    ensures { IsChars result.now ↔ IsChars bytes.now }
+{
+    let mut rest = bytes;
+    while let Some(others) = after_char(rest) {
+        rest = others;
+    }
+    rest
+}
+
+// what follows the character at the front, where it has up to three bytes
+#[inline]
+fn after_char(bytes: &[u8]) -> Option<&[u8]>
+    ensures begins { IfSome result (λ rest. BeginsWithChar bytes.now rest.now) }
+    ensures shorter { IfSome result (λ rest. length rest.now < length bytes.now) }
+{
+    match bytes {
+        [a, rest @ ..] if is_plain(*a) => Some(rest),
+        [a, b, rest @ ..] if is_pair(*a, *b) => Some(rest),
+        [a, b, c, rest @ ..] if is_triple(*a, *b, *c) => Some(rest),
+        _ => None,
+    }
+}
+
+#[inline]
+fn is_pair(a: u8, b: u8) -> bool
+    ensures { IsTrue result → (rest : List ℕ) → BeginsWithChar (a ∷ b ∷ rest) rest }
+{
+    if a < 0xC2 || a > 0xDF {
+        return false;
+    }
+    b >= 0x80 && b <= 0xBF
+}
+
+#[inline]
+fn is_triple(a: u8, b: u8, c: u8) -> bool
+    ensures { IsTrue result → (rest : List ℕ) → BeginsWithChar (a ∷ b ∷ c ∷ rest) rest }
+{
+    if a < 0xE0 || a > 0xEF {
+        return false;
+    }
+    if b < 0x80 || b > 0xBF {
+        return false;
+    }
+    if c < 0x80 || c > 0xBF {
+        return false;
+    }
+    let number = (a as u32 - 0xE0) * 4096 + (b as u32 - 0x80) * 64 + (c as u32 - 0x80);
+    if number < 0xE000 {
+        return number >= 0x800 && number <= 0xD7FF;
+    }
+    number <= 0xFFFD
+}
+
+// UTF-8, and characters of a document
+fn is_text(bytes: &[u8]) -> bool
+    ensures { IsTrue result ↔ IsChars bytes.now }
+{
     match str::from_utf8(bytes) {
         Ok(text) => has_all_chars(text),
         Err(_) => false,

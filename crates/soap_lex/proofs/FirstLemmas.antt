@@ -1,0 +1,48 @@
+-- The first byte that passes a test, and what stands around it.
+use Rattle.std.proofs.Common.{◌≡◌, ℕ, suc, ◌+◌, ◌-◌, ◌≤◌, ◌<◌, List, [], ◌∷◌, ◌++◌, Bool, true, false, Some, None, length, get_or, take, drop, sym, ap, refl, ◌∙◌, arith, length-drop, drop-cons}
+use Prim.Native.Nat.{zero}
+use Rattle.std.specs.List.{AllByRecursion}
+use Rattle.std.proofs.Math.Numerals.{add-one}
+use Rattle.std.proofs.lemmas.List.{take-append-drop}
+use Rattle.std.proofs.lemmas.Bool.{false_from_ne_true}
+use Rattle.memchr.specs.Find.{IsFirstByte}
+
+-- what stands before it fails
+pub before_first : (p : ℕ → Bool) (bytes : List ℕ) (n : ℕ) → n ≤ length bytes → ((k : ℕ) → k < n
+    → p (get_or bytes k 0) ≡ true → ⊥) → AllByRecursion (λ c. p c ≡ false) (take n bytes)
+before_first p [] zero h f = tt
+before_first p [] (suc n) h f = absurd (omega arith)
+before_first p (c ∷ bytes) zero h f = tt
+before_first p (c ∷ bytes) (suc n) h f = (
+  false_from_ne_true (p c) (λ e. f 0 (omega arith) e),
+  before_first p bytes
+      n (omega arith) (λ k less e. f (suc k) (omega arith) e),
+)
+
+pub all_fail : (p : ℕ → Bool) (bytes : List ℕ) → IsFirstByte p bytes None → AllByRecursion (λ c. p c ≡ false) bytes
+all_fail p bytes none = rw (sym (take_whole bytes)) (before_first p bytes (length bytes) (omega arith) (λ k less e.
+    none k (omega arith) less e))
+  where
+    take_whole : (xs : List ℕ) → take (length xs) xs ≡ xs
+    take_whole [] = refl
+    take_whole (x ∷ xs) = ap (λ (y : List ℕ). x ∷ y) (take_whole xs)
+
+-- the parts of the bytes around it
+pub around : (p : ℕ → Bool) (bytes : List ℕ) (n : ℕ) → IsFirstByte p bytes (Some n) → bytes
+    ≡ take n bytes ++ get_or bytes n 0 ∷ drop (n + 1) bytes
+around p bytes n found = let h : n < length bytes = found.0.high in sym (take-append-drop n bytes)
+    ∙ ap (λ (x : List ℕ). take n bytes ++ x) (rw add-one (drop-cons bytes n 0 h))
+
+pub front_fails : (p : ℕ → Bool) (bytes : List ℕ) (n : ℕ) → IsFirstByte p bytes (Some n) → AllByRecursion (λ c. p c
+    ≡ false) (take n bytes)
+front_fails p bytes n found = let h : n < length bytes = found.0.high in before_first p bytes n (omega arith) (λ k
+    less e. found.0.before k (omega arith) less e)
+
+take_all_of : (k : ℕ) (xs : List ℕ) → length xs ≤ k → take k xs ≡ xs
+take_all_of zero [] h = refl
+take_all_of (suc k) [] h = refl
+take_all_of zero (x ∷ xs) h = absurd (omega arith)
+take_all_of (suc k) (x ∷ xs) h = ap (λ (y : List ℕ). x ∷ y) (take_all_of k xs (omega arith))
+
+pub take_rest : (n : ℕ) (xs : List ℕ) → take (length xs - n) (drop n xs) ≡ drop n xs
+take_rest n xs = take_all_of (length xs - n) (drop n xs) (omega (arith, length-drop n xs))

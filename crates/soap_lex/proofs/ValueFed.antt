@@ -1,0 +1,90 @@
+-- What feeding a piece of an attribute value does, up to the end of a token.
+use Rattle.std.proofs.Common.{◌≡◌, ℕ, suc, ◌+◌, ◌≤◌, List, [], ◌∷◌, ◌++◌, Bool, true, false, Some, None, Option, length, get_or, take, drop, refl, sym, ap, subst, ◌∙◌, arith, append_assoc, append-nil}
+use Rattle.memchr.specs.Find.{IsFirstByte}
+use Rattle.soap_lex.specs.ValueMachine.{ValueState, stops, halts, longer, finish, to_stop, run}
+use Rattle.soap_lex.proofs.FirstLemmas.{all_fail, around, front_fails}
+use Rattle.soap_lex.proofs.TextFed.{drop_whole}
+use Rattle.soap_lex.proofs.ValueRead.{NoStops}
+
+kept_stop : (s : ValueState) (bytes rest : List ℕ) → halts s.mode ≡ false → NoStops s.mode s.quote bytes
+    → to_stop s (bytes ++ rest) ≡ to_stop (longer s bytes) rest
+kept_stop s [] rest e h = ap (λ t. to_stop (record s { token = t }) rest) (sym (append-nil s.token))
+kept_stop s (c ∷ bytes) rest e h =
+    let here : to_stop s (c ∷ (bytes ++ rest)) ≡ to_stop (longer s (c ∷ [])) (bytes ++ rest) = rw (e, h.0) in
+    here ∙ kept_stop (longer s (c ∷ [])) bytes rest e h.1
+    ∙ ap (λ t. to_stop (record s { token = t }) rest) (append_assoc s.token (c ∷ []) bytes)
+
+module _ (s : ValueState) (bytes : List ℕ) (r : Option ℕ) (found : IsFirstByte (stops s.mode s.quote) bytes r) (unended : halts s.mode ≡ false) where
+  pub fed_none : r ≡ None → to_stop s bytes ≡ (longer s bytes, drop (length bytes) bytes)
+  fed_none e =
+      let none : IsFirstByte (stops s.mode s.quote) bytes None =
+      subst (λ (o : Option ℕ). IsFirstByte (stops s.mode s.quote) bytes o) e found in
+      ap (to_stop s) (sym (append-nil bytes)) ∙ kept_stop s bytes [] unended (all_fail (stops s.mode s.quote) bytes none)
+      ∙ ap (λ (x : List ℕ). (longer s bytes, x)) (sym (drop_whole bytes))
+
+  pub fed_some : (n : ℕ) → r ≡ Some n
+      → to_stop s bytes ≡ (finish s.mode (longer s (take n bytes)) (get_or bytes n 0), drop (n + 1) bytes)
+  fed_some n e =
+      let first : IsFirstByte (stops s.mode s.quote) bytes (Some n) =
+      subst (λ (o : Option ℕ). IsFirstByte (stops s.mode s.quote) bytes o) e found in
+      let c : ℕ = get_or bytes n 0 in
+      let none = front_fails (stops s.mode s.quote) bytes n first in
+      let last : to_stop (longer s (take n bytes)) (c ∷ drop (n + 1) bytes)
+      ≡ (finish s.mode (longer s (take n bytes)) c, drop (n + 1) bytes) = rw (unended, first.1) in
+      ap (to_stop s) (around (stops s.mode s.quote) bytes n first)
+      ∙ kept_stop s (take n bytes) (c ∷ drop (n + 1) bytes) unended none ∙ last
+
+pub fed_halted : (s : ValueState) (bytes : List ℕ) → halts s.mode ≡ true → to_stop s bytes ≡ (s, bytes)
+fed_halted s [] h = refl
+fed_halted s (c ∷ bytes) h = rw h
+
+-- ---- from one token to the next
+
+one_stop : (s : ValueState) (c : ℕ) (bytes : List ℕ) (a b : Bool) → halts s.mode ≡ a → stops s.mode s.quote c ≡ b
+    → run (longer s (c ∷ [])) bytes ≡ run (to_stop (longer s (c ∷ [])) bytes).0 (to_stop (longer s (c ∷ [])) bytes).1
+    → run s (c ∷ bytes) ≡ run (to_stop s (c ∷ bytes)).0 (to_stop s (c ∷ bytes)).1
+one_stop s c bytes true b e f later =
+    let none : to_stop s (c ∷ bytes) ≡ (s, c ∷ bytes) = rw e in
+    ap (λ (p : ValueState × List ℕ). run p.0 p.1) (sym none)
+one_stop s c bytes false true e f later = rw (e, f)
+one_stop s c bytes false false e f later = rw (e, f) later
+
+run_to_stop : (s : ValueState) (bytes : List ℕ) → run s bytes ≡ run (to_stop s bytes).0 (to_stop s bytes).1
+run_to_stop s [] = refl
+run_to_stop s (c ∷ bytes) = one_stop s c bytes (halts s.mode) (stops s.mode s.quote c) refl refl
+    (run_to_stop (longer s (c ∷ [])) bytes)
+
+pub run_fed : (s t : ValueState) (bytes rest : List ℕ) → to_stop s bytes ≡ (t, rest) → run s bytes ≡ run t rest
+run_fed s t bytes rest e = run_to_stop s bytes ∙ ap (λ (p : ValueState × List ℕ). run p.0 p.1) e
+
+shrinks_at : (s : ValueState) (c : ℕ) (bytes : List ℕ) (a b : Bool) → halts s.mode ≡ a → stops s.mode s.quote c ≡ b
+    → length (to_stop (longer s (c ∷ [])) bytes).1 ≤ length bytes → length (to_stop s (c ∷ bytes)).1 ≤ suc (length bytes)
+shrinks_at s c bytes true b e f h = rw e (omega arith)
+shrinks_at s c bytes false true e f h = rw (e, f) (omega arith)
+shrinks_at s c bytes false false e f h = rw (e, f) (omega (arith, h))
+
+shrinks : (s : ValueState) (bytes : List ℕ) → length (to_stop s bytes).1 ≤ length bytes
+shrinks s [] = omega arith
+shrinks s (c ∷ bytes) =
+    let h : length (to_stop s (c ∷ bytes)).1 ≤ suc (length bytes) =
+    shrinks_at s c bytes (halts s.mode) (stops s.mode s.quote c) refl refl
+    (shrinks (longer s (c ∷ [])) bytes) in
+    omega (arith, h)
+
+stays_at : (s t : ValueState) (c : ℕ) (bytes : List ℕ) (a b : Bool) → halts s.mode ≡ a → stops s.mode s.quote c ≡ b
+    → to_stop s (c ∷ bytes) ≡ (t, c ∷ bytes) → run s (c ∷ bytes) ≡ (t, c ∷ bytes)
+stays_at s t c bytes true b e f h = let x : (s, c ∷ bytes) ≡ (t, c ∷ bytes) = rw e at h in rw e x
+stays_at s t c bytes false true e f h =
+    let x : (finish s.mode s c, bytes) ≡ (t, c ∷ bytes) = rw (e, f) at h in
+    let same : bytes ≡ c ∷ bytes = ap (λ (p : ValueState × List ℕ). p.1) x in
+    absurd (omega (arith, ap length same))
+stays_at s t c bytes false false e f h =
+    let x : to_stop (longer s (c ∷ [])) bytes ≡ (t, c ∷ bytes) = rw (e, f) at h in
+    let size : length (to_stop (longer s (c ∷ [])) bytes).1 ≡ length (c ∷ bytes) =
+    ap (λ (p : ValueState × List ℕ). length p.1) x in
+    absurd (omega (arith, size, shrinks (longer s (c ∷ [])) bytes))
+
+-- where nothing was taken, nothing more is read
+pub run_still : (s t : ValueState) (bytes : List ℕ) → to_stop s bytes ≡ (t, bytes) → run s bytes ≡ (t, bytes)
+run_still s t [] e = e
+run_still s t (c ∷ bytes) e = stays_at s t c bytes (halts s.mode) (stops s.mode s.quote c) refl refl e

@@ -1,0 +1,130 @@
+-- The reader of text, a byte at a time. It says how text is read, and nothing of what text is: that stands in Text. A
+-- byte that ends a token has its meaning, and all others only lengthen the token.
+use Rattle.std.specs.Prelude.{ℕ, List, [], ◌∷◌, ◌++◌, Bool, true, false, not, ◌||◌, ◌==◌, if◌then◌else◌, Option, Some, None, codes, encode_utf8, length}
+use Rattle.std.specs.Str.{bytes_eq}
+use Rattle.soap_lex.specs.Text.{with_line_ends}
+use Rattle.soap_lex.specs.Tests.{begins, is_char_data, is_cdata, is_comment, reference, without}
+
+pub data TextMode : Type 0 where
+  -- in a run of characters; in a reference; behind a <, where a comment or a CDATA section may begin; in a comment; in
+  -- a CDATA section; the bytes are no text
+  chars referring opening commenting quoting refused : TextMode
+
+-- the bytes of the token that is not ended, and the meaning so far
+pub record TextState : Type 0 where
+  pub mode : TextMode
+  pub token : List ℕ
+  pub text : List ℕ
+
+-- nothing was read of this text, which goes on from another
+abbrev pub begun : List ℕ → TextState
+begun text = record { mode = chars; token = []; text = text }
+
+-- whether a byte ends the token
+abbrev pub stops : TextMode → ℕ → Bool
+stops chars c = (c == 60) || (c == 38)
+stops referring c = c == 59
+stops opening c = true
+stops commenting c = c == 62
+stops quoting c = c == 62
+stops refused c = true
+
+-- the first bytes of a comment or of a CDATA section
+abbrev pub opens : List ℕ → Bool
+opens token = begins token (codes "<!--") || begins token (codes "<![CDATA[")
+
+-- whether nothing more is read before this byte: text ends, or it was refused
+abbrev pub halts_in : TextMode → List ℕ → Bool
+halts_in chars token = false
+halts_in referring token = false
+halts_in opening token = not (opens token)
+halts_in commenting token = false
+halts_in quoting token = false
+halts_in refused token = true
+
+abbrev pub halts : TextState → ℕ → Bool
+halts s c = halts_in s.mode (s.token ++ c ∷ [])
+
+abbrev pub refuse : TextState → TextState
+refuse s = record s { mode = refused; token = [] }
+
+abbrev pub longer : TextState → List ℕ → TextState
+longer s bytes = record s { token = s.token ++ bytes }
+
+abbrev pub at_chars : TextState → ℕ → TextState
+at_chars s c =
+    if is_char_data s.token then
+    (if c == 60 then record { mode = opening; token = 60 ∷ []; text = s.text ++ with_line_ends s.token }
+    else record { mode = referring; token = 38 ∷ []; text = s.text ++ with_line_ends s.token })
+    else refuse s
+
+abbrev pub at_referring : TextState → Option ℕ → TextState
+at_referring s None = refuse s
+at_referring s (Some c) = begun (s.text ++ encode_utf8 c)
+
+abbrev pub at_opening : TextState → List ℕ → TextState
+at_opening s token =
+    if bytes_eq token (codes "<!--") then record s { mode = commenting; token = [] }
+    else if bytes_eq token (codes "<![CDATA[") then record s { mode = quoting; token = [] }
+    else record s { token = token }
+
+abbrev pub at_commenting : TextState → Option (List ℕ) → TextState
+at_commenting s None = longer s (62 ∷ [])
+at_commenting s (Some comment) = if is_comment comment then begun s.text else refuse s
+
+-- what a CDATA section means, where it ended and is one
+abbrev pub cdata_meaning : Option (List ℕ) → List ℕ
+cdata_meaning None = []
+cdata_meaning (Some bytes) = if is_cdata bytes then with_line_ends bytes else []
+
+abbrev pub at_quoting : TextState → Option (List ℕ) → TextState
+at_quoting s None = longer s (62 ∷ [])
+at_quoting s (Some bytes) = if is_cdata bytes then begun (s.text ++ with_line_ends bytes) else refuse s
+
+-- what a byte that ends the token does
+abbrev pub finish : TextMode → TextState → ℕ → TextState
+finish chars s c = at_chars s c
+finish referring s c = at_referring s (reference (s.token ++ 59 ∷ []))
+finish opening s c = at_opening s (s.token ++ c ∷ [])
+finish commenting s c = at_commenting s (without (codes "--") s.token)
+finish quoting s c = at_quoting s (without (codes "]]") s.token)
+finish refused s c = refuse s
+
+abbrev pub step : TextState → ℕ → TextState
+step s c = if stops s.mode c then finish s.mode s c else longer s (c ∷ [])
+
+-- the state, and the bytes that are left, where a token was ended or nothing more is read
+abbrev pub to_stop : TextState → List ℕ → TextState × List ℕ
+to_stop s [] = (s, [])
+to_stop s (c ∷ bytes) =
+    if halts s c then (s, c ∷ bytes) else if stops s.mode c then (step s c, bytes) else to_stop (step s c) bytes
+
+-- the same where nothing more is read
+abbrev pub run : TextState → List ℕ → TextState × List ℕ
+run s [] = (s, [])
+run s (c ∷ bytes) = if halts s c then (s, c ∷ bytes) else run (step s c) bytes
+
+-- what the text means that ends here, and the bytes behind it that were taken
+abbrev pub ended_in : TextMode → TextState → Option (List ℕ × List ℕ)
+ended_in chars s = if is_char_data s.token then Some (s.text ++ with_line_ends s.token, []) else None
+ended_in referring s = None
+ended_in opening s = Some (s.text, s.token)
+ended_in commenting s = None
+ended_in quoting s = None
+ended_in refused s = None
+
+abbrev pub ended : TextState → Option (List ℕ × List ℕ)
+ended s = ended_in s.mode s
+
+-- with the number of those bytes
+abbrev pub counted : Option (List ℕ × List ℕ) → Option (List ℕ × ℕ)
+counted None = None
+counted (Some p) = Some (p.0, length p.1)
+
+abbrev pub with_rest : Option (List ℕ × List ℕ) → List ℕ → Option (List ℕ × List ℕ)
+with_rest None rest = None
+with_rest (Some p) rest = Some (p.0, p.1 ++ rest)
+
+-- what the text at the front means, and what follows it
+abbrev pub reads : TextState → List ℕ → Option (List ℕ × List ℕ)
+reads s bytes = with_rest (ended (run s bytes).0) (run s bytes).1

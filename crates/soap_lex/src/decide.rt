@@ -1,0 +1,68 @@
+// The tests of whole tokens, as the machines make them.
+ghost use Rattle.std.specs.Prelude.{◌≡◌, ◌⊎◌, ◌++◌, ◌∷◌, [], option_map};
+ghost use Rattle.soap_lex.specs.Tests.{
+  begins,
+  is_char_data as char_data_test,
+  is_cdata as cdata_test,
+  is_comment as comment_test,
+  is_plain as plain_test,
+  reference as reference_test,
+  without,
+};
+
+pub(crate) fn is_char_data(bytes: &[u8]) -> bool
+    ensures { result ≡ char_data_test bytes.now }
+{
+    crate::is_char_data(bytes)
+}
+
+pub(crate) fn is_cdata(bytes: &[u8]) -> bool
+    ensures { result ≡ cdata_test bytes.now }
+{
+    crate::is_cdata(bytes)
+}
+
+pub(crate) fn is_comment(bytes: &[u8]) -> bool
+    ensures { result ≡ comment_test bytes.now }
+{
+    crate::is_comment(bytes)
+}
+
+pub(crate) fn is_plain(bytes: &[u8], quote: u8) -> bool
+    requires { (quote ≡ 34) ⊎ (quote ≡ 39) }
+    ensures { result ≡ plain_test quote bytes.now }
+{
+    crate::is_plain_value(bytes, quote)
+}
+
+pub(crate) fn reference(bytes: &[u8]) -> Option<char>
+    ensures { result ≡ reference_test bytes.now }
+{
+    crate::reference(bytes)
+}
+
+/// The front of the bytes, where they end in the word.
+pub(crate) fn before<'a>(word: &[u8], bytes: &'a [u8]) -> Option<&'a [u8]>
+    ensures { option_map (λ x. x.now) result ≡ without word.now bytes.now }
+{
+    bytes.strip_suffix(word)
+}
+
+/// The word begins with the token and this byte.
+pub(crate) fn goes_on(word: &[u8], token: &[u8], byte: u8) -> bool
+    ensures { result ≡ begins (token.now ++ byte ∷ []) word.now }
+{
+    match word.strip_prefix(token) {
+        Some(rest) => starts(rest, byte),
+        None => false,
+    }
+}
+
+fn starts(bytes: &[u8], byte: u8) -> bool
+    ensures { result ≡ begins (byte ∷ []) bytes.now }
+{
+    match bytes {
+        [first, ..] => *first == byte,
+        [] => false,
+    }
+}

@@ -1,0 +1,329 @@
+ghost use Rattle.std.specs.Prelude.{◌≡◌, ◌≤◌, ◌∷◌, ◌++◌, ℕ, List, [], not, length, take, drop, encode_utf8};
+ghost use Rattle.std.specs.Prelude.{IfOk, OnOk, OnErr, codes, true, option_map, if◌then◌else◌};
+ghost use Rattle.memchr.specs.Find.{IsFirstByte};
+ghost use Rattle.soap_lex.specs.Tests.{is_char_data as char_data_test, is_cdata as cdata_test};
+ghost use Rattle.soap_lex.specs.Tests.{is_comment as comment_test, without};
+ghost use Rattle.soap_lex.specs.Text.{with_line_ends};
+ghost use Rattle.soap_lex.specs.TextMachine.{
+  begun,
+  stops as stop_test,
+  halts as halt_test,
+  longer,
+  at_chars,
+  at_opening,
+  finish as finished,
+  to_stop,
+  ended,
+  counted,
+  opens as open_test,
+  cdata_meaning,
+};
+ghost use Rattle.soap_lex.specs.Readers.{text_state, text_mode};
+
+use crate::decide::{before, goes_on, is_cdata, is_char_data, is_comment, reference};
+use crate::references::push_character;
+use crate::{Memory, push_line_ends};
+use memchr::{memchr, memchr2};
+use std::alloc::Global;
+
+// where the reader stands
+#[derive(Clone, Copy, Debug, PartialEq, Eq)]
+pub(crate) enum TextMode {
+    Chars,
+    Referring,
+    Opening,
+    Commenting,
+    Quoting,
+    Refused,
+}
+
+/// A reader of text that is fed its bytes in pieces: XML 1.0, section 2.4. It holds the bytes of the token that is not
+/// ended, and nothing of the meaning, which is appended where the caller says.
+#[derive(Debug, Drop)]
+pub struct TextReader {
+    mode: TextMode,
+    token: Vec<u8>,
+}
+
+impl TextReader {
+    /// A reader that was fed nothing. It takes no memory.
+    pub fn new(alloc: Global) -> Self
+        ensures { (text : List ℕ) → text_state result text ≡ begun text }
+    {
+        TextReader {
+            mode: TextMode::Chars,
+            token: Vec::new(alloc),
+        }
+    }
+
+    /// Begins another text; the memory of the last one is kept.
+    pub fn restart(&mut self)
+        ensures { (text : List ℕ) → text_state self.new text ≡ begun text }
+    {
+        self.mode = TextMode::Chars;
+        self.token.clear();
+    }
+
+    /// Reads on to the end of a token, or of the piece: appends what was read, and says how many bytes were taken. Where
+    /// none of a piece is taken, the text ends there, or was refused. After an error the reader is of no more use.
+    pub fn feed(&mut self, piece: &[u8], out: &mut Vec<u8>) -> Result<usize, Memory>
+        ensures ok { IfOk result (λ n. (n ≤ length piece.now)
+            × (to_stop (text_state self.old out.old.items) piece.now
+            ≡ (text_state self.new out.new.items, drop n piece.now))) }
+        ensures front { take (length out.old.items) out.new.items ≡ out.old.items }
+    {
+        let Some(end) = first_stop(self.mode, piece) else {
+            self.token.extend_from_slice(piece)?;
+            return Ok(piece.len());
+        };
+        if self.halts(piece[end]) {
+            return Ok(0);
+        }
+        self.end_token(&piece[..end], piece[end], out)?;
+        Ok(end + 1)
+    }
+
+    /// Appends what is still to be appended where the text ends, and says how many of the last bytes are no more of it;
+    /// none where it was no text.
+    pub fn finish(self, out: &mut Vec<u8>) -> Result<Option<usize>, Memory>
+        ensures ok { IfOk result (λ end. counted (ended (text_state self out.old.items))
+            ≡ option_map {U = List ℕ × ℕ} (λ n. (out.new.items, n)) end) }
+        ensures front { take (length out.old.items) out.new.items ≡ out.old.items }
+    {
+        match self.mode {
+            TextMode::Chars => {
+                if push_data(&self.token, out)? {
+                    Ok(Some(0))
+                } else {
+                    Ok(None)
+                }
+            }
+            TextMode::Opening => Ok(Some(self.token.len())),
+            _ => Ok(None),
+        }
+    }
+
+    // nothing more is read before this byte
+    fn halts(&self, byte: u8) -> bool
+        ensures { (text : List ℕ) → result ≡ halt_test (text_state self.now text) byte }
+    {
+        match self.mode {
+            TextMode::Opening => !opens(&self.token, byte),
+            TextMode::Refused => true,
+            _ => false,
+        }
+    }
+
+    // the bytes of the run end the token, with this byte behind them
+    fn end_token(&mut self, run: &[u8], byte: u8, out: &mut Vec<u8>) -> Result<(), Memory>
+        ensures ok { OnOk result (text_state self.new out.new.items
+            ≡ finished (text_mode self.old.mode) (longer (text_state self.old out.old.items) run.now) byte) }
+        ensures front { take (length out.old.items) out.new.items ≡ out.old.items }
+    {
+        match self.mode {
+            TextMode::Chars => self.end_chars(run, byte, out),
+            TextMode::Referring => self.end_reference(run, out),
+            TextMode::Opening => self.end_opening(run, byte),
+            TextMode::Commenting => self.end_comment(run),
+            TextMode::Quoting => self.end_cdata(run, out),
+            TextMode::Refused => {
+                self.refuse();
+                Ok(())
+            }
+        }
+    }
+
+    fn refuse(&mut self)
+        ensures mode { self.new.mode ≡ TextMode.Refused }
+        ensures token { self.new.token.items ≡ [] }
+    {
+        self.mode = TextMode::Refused;
+        self.token.clear();
+    }
+
+    // a run of characters ends
+    fn end_chars(&mut self, run: &[u8], byte: u8, out: &mut Vec<u8>) -> Result<(), Memory>
+        ensures ok { OnOk result (text_state self.new out.new.items
+            ≡ at_chars (longer (text_state self.old out.old.items) run.now) byte) }
+        ensures front { take (length out.old.items) out.new.items ≡ out.old.items }
+    {
+        if !self.push_chars(run, out)? {
+            self.refuse();
+            return Ok(());
+        }
+        self.token.clear();
+        if byte == b'<' {
+            self.mode = TextMode::Opening;
+            self.token.push(b'<')?;
+        } else {
+            self.mode = TextMode::Referring;
+            self.token.push(b'&')?;
+        }
+        Ok(())
+    }
+
+    // what the token means with the run behind it, where it is character data; a run alone is not copied first
+    fn push_chars(&mut self, run: &[u8], out: &mut Vec<u8>) -> Result<bool, Memory>
+        ensures passes { IfOk result (λ passes. passes ≡ char_data_test (self.old.token.items ++ run.now)) }
+        ensures ok { IfOk result (λ passes. out.new.items ≡ (if passes then
+            out.old.items ++ with_line_ends (self.old.token.items ++ run.now) else out.old.items)) }
+        ensures err { OnErr result (out.new.items ≡ out.old.items) }
+    {
+        if self.token.is_empty() {
+            return push_data(run, out);
+        }
+        self.token.extend_from_slice(run)?;
+        push_data(&self.token, out)
+    }
+
+    fn end_reference(&mut self, run: &[u8], out: &mut Vec<u8>) -> Result<(), Memory>
+        ensures ok { OnOk result (text_state self.new out.new.items
+            ≡ finished (text_mode TextMode.Referring) (longer (text_state self.old out.old.items) run.now) 59) }
+        ensures front { take (length out.old.items) out.new.items ≡ out.old.items }
+    {
+        self.token.extend_from_slice(run)?;
+        self.token.push(b';')?;
+        let Some(c) = reference(&self.token) else {
+            self.refuse();
+            return Ok(());
+        };
+        push_character(c, out)?;
+        self.leave(true);
+        Ok(())
+    }
+
+    // behind a <
+    fn end_opening(&mut self, run: &[u8], byte: u8) -> Result<(), Memory>
+        ensures { OnOk result ((text : List ℕ) → text_state self.new text
+            ≡ at_opening (text_state self.old text) ((self.old.token.items ++ run.now) ++ byte ∷ [])) }
+    {
+        self.token.extend_from_slice(run)?;
+        self.token.push(byte)?;
+        let token = self.token.as_slice();
+        if token == b"<!--".as_slice() {
+            self.mode = TextMode::Commenting;
+            self.token.clear();
+        } else if token == b"<![CDATA[".as_slice() {
+            self.mode = TextMode::Quoting;
+            self.token.clear();
+        }
+        Ok(())
+    }
+
+    // back in a run of characters, where the markup passed
+    fn leave(&mut self, passes: bool)
+        ensures mode { self.new.mode ≡ (if passes then TextMode.Chars else TextMode.Refused) }
+        ensures token { self.new.token.items ≡ [] }
+    {
+        if passes {
+            self.mode = TextMode::Chars;
+            self.token.clear();
+        } else {
+            self.refuse();
+        }
+    }
+
+    // the comment ends here, or holds a >
+    fn end_comment(&mut self, run: &[u8]) -> Result<(), Memory>
+        ensures { OnOk result ((text : List ℕ) → text_state self.new text
+            ≡ finished (text_mode TextMode.Commenting) (longer (text_state self.old text) run.now) 62) }
+    {
+        if self.token.is_empty() {
+            if let Some(passes) = ended_comment(run) {
+                self.leave(passes);
+                return Ok(());
+            }
+        }
+        self.token.extend_from_slice(run)?;
+        match ended_comment(&self.token) {
+            Some(passes) => self.leave(passes),
+            None => self.token.push(b'>')?,
+        }
+        Ok(())
+    }
+
+    // the CDATA section ends here, or holds a >
+    fn end_cdata(&mut self, run: &[u8], out: &mut Vec<u8>) -> Result<(), Memory>
+        ensures ok { OnOk result (text_state self.new out.new.items
+            ≡ finished (text_mode TextMode.Quoting) (longer (text_state self.old out.old.items) run.now) 62) }
+        ensures front { take (length out.old.items) out.new.items ≡ out.old.items }
+    {
+        if self.token.is_empty() {
+            if let Some(passes) = push_cdata(run, out)? {
+                self.leave(passes);
+                return Ok(());
+            }
+        }
+        self.token.extend_from_slice(run)?;
+        match push_cdata(&self.token, out)? {
+            Some(passes) => self.leave(passes),
+            None => self.token.push(b'>')?,
+        }
+        Ok(())
+    }
+}
+
+// appends what a run of characters means, where it is character data
+fn push_data(bytes: &[u8], out: &mut Vec<u8>) -> Result<bool, Memory>
+    ensures passes { IfOk result (λ passes. passes ≡ char_data_test bytes.now) }
+    ensures ok { IfOk result (λ passes. out.new.items ≡ (if passes then out.old.items ++ with_line_ends bytes.now else
+        out.old.items)) }
+    ensures err { OnErr result (out.new.items ≡ out.old.items) }
+{
+    if !is_char_data(bytes) {
+        return Ok(false);
+    }
+    push_line_ends(bytes, out)?;
+    Ok(true)
+}
+
+// whether the bytes before a > are a comment, where they end in two dashes
+fn ended_comment(bytes: &[u8]) -> Option<bool>
+    ensures { result ≡ option_map comment_test (without (codes "--") bytes.now) }
+{
+    match before(b"--", bytes) {
+        Some(comment) => Some(is_comment(comment)),
+        None => None,
+    }
+}
+
+// appends what the bytes before a > mean, where they end a CDATA section
+fn push_cdata(bytes: &[u8], out: &mut Vec<u8>) -> Result<Option<bool>, Memory>
+    ensures passes { IfOk result (λ passes. passes ≡ option_map cdata_test (without (codes "]]") bytes.now)) }
+    ensures ok { IfOk result (λ passes. out.new.items ≡ out.old.items ++ cdata_meaning (without (codes "]]") bytes.now)) }
+    ensures err { OnErr result (out.new.items ≡ out.old.items) }
+{
+    let Some(inside) = before(b"]]", bytes) else {
+        return Ok(None);
+    };
+    if !is_cdata(inside) {
+        return Ok(Some(false));
+    }
+    push_line_ends(inside, out)?;
+    Ok(Some(true))
+}
+
+// the token with this byte is the beginning of a comment or of a CDATA section, or a part of one
+fn opens(token: &[u8], byte: u8) -> bool
+    ensures { result ≡ open_test (token.now ++ byte ∷ []) }
+{
+    goes_on(b"<!--", token, byte) || goes_on(b"<![CDATA[", token, byte)
+}
+
+// where the first byte stands that ends the token
+fn first_stop(mode: TextMode, bytes: &[u8]) -> Option<usize>
+    ensures { IsFirstByte (stop_test (text_mode mode)) bytes.now result }
+{
+    match mode {
+        TextMode::Chars => memchr2(b'<', b'&', bytes),
+        TextMode::Referring => memchr(b';', bytes),
+        TextMode::Commenting | TextMode::Quoting => memchr(b'>', bytes),
+        TextMode::Opening | TextMode::Refused => first(bytes),
+    }
+}
+
+pub(crate) fn first(bytes: &[u8]) -> Option<usize>
+    ensures { IsFirstByte (λ _. true) bytes.now result }
+{
+    if bytes.is_empty() { None } else { Some(0) }
+}
