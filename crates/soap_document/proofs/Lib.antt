@@ -1,5 +1,6 @@
 pub mod Accepts
 pub mod Answer
+pub mod Between
 pub mod Declarations
 pub mod Fed
 pub mod FoundDocument
@@ -7,6 +8,7 @@ pub mod FoundElements
 pub mod FoundTags
 pub mod FoundText
 pub mod Held
+pub mod Inside
 pub mod Moves
 pub mod Names
 pub mod OnlyDocument
@@ -18,3 +20,4 @@ pub mod Steps
 pub mod TokenFacts
 pub mod TokenLaws
 pub mod Trees
+pub mod Utf8

@@ -1,6 +1,6 @@
--- A byte that ends a token leaves the count of bytes as it is.
-use Rattle.std.proofs.Common.{◌≡◌, ℕ, List, Bool, true, false, cond, Option, Some, None, [], ◌∷◌, refl}
-use Rattle.soap_document.specs.Machine.{Mode, beginning, declaring, chars, referring, less, marking, commenting, quoting, tagging, naming, named, valuing, value_run, value_referring, slashed, ending, refused, Frame, State, finish, at_tagging, at_named, at_referring, at_value_referring, at_commenting, at_quoting, closed}
+-- A byte that ends a token leaves the count of bytes as it is, and each byte that is read is counted.
+use Rattle.std.proofs.Common.{◌≡◌, ℕ, ◌+◌, List, Bool, true, false, cond, Option, Some, None, [], ◌∷◌, ◌++◌, refl, ap, ◌∙◌}
+use Rattle.soap_document.specs.Machine.{Mode, beginning, declaring, chars, referring, less, marking, commenting, quoting, tagging, naming, named, valuing, value_run, value_referring, slashed, ending, refused, Frame, State, stops, finish, step, at_tagging, at_named, at_referring, at_value_referring, at_commenting, at_quoting, closed}
 
 on_cond : (t : Bool) (x y : State) → (cond t x y).at ≡ cond t x.at y.at
 on_cond true x y = refl
@@ -54,3 +54,9 @@ finish-at value_referring s c = value_referring-at s _
 finish-at slashed s c = simp (on_cond, same_cond)
 finish-at ending s c = closed-at s.below s
 finish-at refused s c = refl
+
+pub step-at : (s : State) (c : ℕ) → (step s c).at ≡ s.at + 1
+step-at s c =
+    let t = stops s.mode s.quote c in
+    ap (λ n. n + 1) (on_cond t (finish s.mode s c) (record s { token = s.token ++ c ∷ [] })
+    ∙ ap (λ n. cond t n s.at) (finish-at s.mode s c) ∙ same_cond t s.at)

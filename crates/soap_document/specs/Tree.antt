@@ -1,5 +1,5 @@
 -- The tree of a document as it is written: names keep their prefixes, and declarations stand among the attributes.
-use Rattle.std.specs.Prelude.{ℕ, List, [], ◌∷◌}
+use Rattle.std.specs.Prelude.{ℕ, List, [], ◌∷◌, Option, Some, None}
 -- a name and a value, each as bytes
 pub use Rattle.soap_document.specs.declared.tree.WrittenAttribute.{WrittenAttribute as Attribute}
 
@@ -19,3 +19,13 @@ mutual
 abbrev pub onto : List ℕ → Parts → Parts
 onto [] parts = parts
 onto (byte ∷ bytes) parts = text (byte ∷ bytes) parts
+
+-- the last of the elements among parts
+abbrev pub last_child : Parts → Option Element
+last_child none = None
+last_child (text bytes parts) = last_child parts
+last_child (child first parts) = elim (last_child parts) [ None ↦ Some first | Some last ↦ Some last ]
+
+-- the last element that stands in an element
+abbrev pub last_within : Element → Option Element
+last_within (element name attributes start end parts) = last_child parts

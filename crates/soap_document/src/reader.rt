@@ -663,7 +663,13 @@ fn first_name_end(bytes: &[u8]) -> Option<usize>
 fn is_name_end(byte: u8) -> bool
     ensures { result ≡ name_end_test byte }
 {
-    is_space(byte) || byte == b'>' || byte == b'/' || byte == b'=' || byte == b'!' || byte == b'?'
+    byte < 64
+        && (is_space(byte)
+            || byte == b'>'
+            || byte == b'/'
+            || byte == b'='
+            || byte == b'!'
+            || byte == b'?')
 }
 
 fn first_less_or_space(bytes: &[u8]) -> Option<usize>

@@ -168,3 +168,18 @@ fn tokens_are_cut(rt: HostRuntime) {
     assert!(rt; cut(b':', b"p:a:b") == Some((b"p".as_slice(), b"a:b".as_slice())));
     assert!(rt; cut(b':', b"pa") == None);
 }
+
+#[test]
+fn content_stands_alone(rt: HostRuntime) -> Result<(), Fail> {
+    for (bytes, count) in [("x", 1), ("", 0), ("<b/>", 1), ("t<b/>", 2)] {
+        let parts = read_content(rt.alloc(), bytes.as_bytes())?.ok_or("refused")?;
+        assert!(rt; parts.len() == count, "{bytes}");
+    }
+    for bytes in ["</a><a>", "<b>", "<!--", "</a>"] {
+        assert!(rt;
+            read_content(rt.alloc(), bytes.as_bytes())?.is_none(),
+            "{bytes}"
+        );
+    }
+    Ok(())
+}

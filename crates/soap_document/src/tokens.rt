@@ -22,7 +22,7 @@ use rm_base::Memory;
 /// The three bytes of a byte order mark.
 const MARK: [u8; 3] = [0xEF, 0xBB, 0xBF];
 
-pub(crate) fn is_white(bytes: &[u8]) -> bool
+pub fn is_white(bytes: &[u8]) -> bool
     ensures { result ≡ white_test bytes.now }
 {
     bytes.iter().all(|byte| xml_chars::is_space(*byte))
