@@ -46,11 +46,11 @@ part_join : (x : Part) (a b : Parts) → part_view x (join a b) ≡ join (part_v
 part_join x a b = ap (λ (f : Parts → Parts). f (join a b)) (part_out x) ∙ layer_join (out-Part x) a b
     ∙ ap (λ (f : Parts → Parts). join (f a) b) (sym (part_out x))
 
-part_text : (x : List ℕ) → part_view (Text x) ≡ text x
+pub part_text : (x : List ℕ) → part_view (Text x) ≡ text x
 part_text x = ap part_view (sym (rolls-Text x)) ∙ fold-roll-Part (Parts
     → Parts) Element Parts part_step element_step parts_step (TheOpen.Text x)
 
-part_child : (e : CodeElement) → part_view (Child e) ≡ child (element_view e)
+pub part_child : (e : CodeElement) → part_view (Child e) ≡ child (element_view e)
 part_child e = ap part_view (sym (rolls-Child e)) ∙ fold-roll-Part (Parts
     → Parts) Element Parts part_step element_step parts_step (TheOpen.Child e)
 

@@ -1,16 +1,28 @@
 -- Documents, from their bytes to a tree with expanded names: XML 1.0 and Namespaces in XML 1.0.
-use Rattle.std.specs.Prelude.{◌≡◌, ◌≤◌, ℕ, List, [], Some, length, take}
+use Rattle.std.specs.Prelude.{◌≡◌, ◌≤◌, ℕ, List, [], Option, Some, option_map, length, take}
 use Rattle.std.specs.Str.{IsUtf8}
 use Rattle.soap_document.specs.Grammar.{IsDocument}
 use Rattle.soap_document.specs.Tree as written
 use Rattle.soap_profile.specs.Namespaces.{resolve}
 use Rattle.soap_profile.specs.Tree.{Element}
+use Rattle.soap_profile.specs.declared.read.Place.{Place}
 
 -- the bytes are a document whose tree is this one
 pub record Document (bytes : List ℕ) (tree : Element) : Type 0 where
   pub raw : written.Element
   pub is : IsDocument bytes raw
   pub resolved : resolve [] raw ≡ Some tree
+
+-- where in the document an element's content begins and ends
+abbrev pub place_of : written.Element → Place
+place_of (written.element name attributes start end parts) = record { start = start; end = end }
+
+-- the bytes are a document whose tree is this one, and this is the place of the last element that stands in its root
+pub record IsPlaced (bytes : List ℕ) (tree : Element) (last : Option Place) : Type 0 where
+  pub raw : written.Element
+  pub is : IsDocument bytes raw
+  pub resolved : resolve [] raw ≡ Some tree
+  pub place : last ≡ option_map place_of (written.last_within raw)
 
 -- of the fronts of the bytes that are UTF-8 the longest has this length
 pub record IsLongestText (bytes : List ℕ) (n : ℕ) : Type 0 where

@@ -1,6 +1,7 @@
 pub mod Document
 pub mod Keys
 pub mod Namespaces
+pub mod Payload
 pub mod Scope
 pub mod Steps
 pub mod Tree

@@ -1,15 +1,31 @@
--- The bindings that a scope stands for, the innermost first.
-use Rattle.std.specs.Prelude.{List, [], ◌++◌, Option, Some, None}
-use Rattle.std.specs.Borrow.{Bor}
+-- What each prefix is bound to, and the bindings that this stands for, the innermost first.
+use Rattle.std.specs.Prelude.{◌≡◌, ℕ, ◌-◌, List, [], ◌∷◌, ◌++◌, length, slice_get, if◌then◌else◌, Option}
+use Rattle.std.specs.Str.{bytes_eq}
+use Rattle.std.specs.Option.{option_map_or}
+use Rattle.std.specs.Ordering.{nat_cmp}
+use Rattle.std.specs.Cmp.Lexicographic.{slice_cmp}
+use Rattle.std.specs.BTreeMap.{BTreeMap, get_by}
+use Rattle.std.specs.declared.vec.Vec.{Vec}
+use Rattle.std.specs.declared.alloc.Global.{Global}
 use Rattle.soap_profile.specs.Tree.{Binding}
-use Rattle.soap_profile.specs.declared.scope.Scope.{Scope, Scope-F, fold-Scope}
 
-abbrev pub around : Option (Bor (List Binding)) → List Binding
-around None = []
-around (Some bindings) = bindings.now
+abbrev pub Stacks : Type 0
+Stacks = BTreeMap (Vec ℕ Global) (Vec (List ℕ) Global)
 
-abbrev pub scope_step : Scope-F (List Binding) → List Binding
-scope_step s = s.decls.now ++ around s.outer
+-- what a prefix was bound to, the innermost last
+abbrev pub stack_at : Stacks → List ℕ → List (List ℕ)
+stack_at stacks prefix =
+    option_map_or (λ stack. stack.items) (get_by (λ key. slice_cmp nat_cmp prefix key.items) stacks) []
 
-abbrev pub bindings_of : Scope → List Binding
-bindings_of = fold-Scope (List Binding) scope_step
+abbrev pub last_of : List (List ℕ) → Option (List ℕ)
+last_of spaces = slice_get spaces (length spaces - 1)
+
+-- the spaces of the bindings of a prefix, the innermost last
+abbrev pub stacked : List ℕ → List Binding → List (List ℕ)
+stacked prefix [] = []
+stacked prefix (b ∷ bindings) =
+    if bytes_eq b.prefix prefix then stacked prefix bindings ++ b.space ∷ [] else stacked prefix bindings
+
+-- the bindings are those that the stacks have
+pub record InForce (stacks : Stacks) (bindings : List Binding) : Type 0 where
+  pub each : (prefix : List ℕ) → stack_at stacks prefix ≡ stacked prefix bindings

@@ -1,5 +1,5 @@
 // Names, declarations and attributes of a start tag.
-ghost use Rattle.std.specs.Prelude.{◌≡◌, IfOk, option_map};
+ghost use Rattle.std.specs.Prelude.{◌≡◌, ℕ, List, IfOk, IfSome, option_map};
 ghost use Rattle.soap_profile.specs.Namespaces.{
   split as split_of,
   declared_prefix as declared_by,
@@ -10,21 +10,22 @@ ghost use Rattle.soap_profile.specs.Namespaces.{
   attribute_space as attribute_space_of,
   element_name as element_name_of,
   attribute_name as attribute_name_of,
-  expanded as expanded_by,
   are_distinct as distinct_test,
   are_distinct_names as distinct_names_test,
 };
-ghost use Rattle.soap_profile.specs.Scope.{bindings_of};
-ghost use Rattle.soap_profile.specs.Steps.{Expands};
+ghost use Rattle.soap_profile.specs.Scope.{InForce};
+ghost use Rattle.soap_profile.specs.Steps.{others as others_of, named_all, Declares, Remains, Expands};
+ghost use Rattle.soap_profile.specs.Tree.{Binding as Bound};
 
 use crate::keys::all_differ;
-use crate::scope::{Scope, bound};
+use crate::scope::Scope;
+use crate::space::Space;
 use crate::tree::{Attr, Attrs, Name};
 use rm_base::{Binding, Bindings, Blob, Items, Memory};
 use soap_document::{WrittenAttribute, cut};
 use std::alloc::Global;
 
-const XML_SPACE: &[u8] = b"http://www.w3.org/XML/1998/namespace";
+pub(crate) const XML_SPACE: &[u8] = b"http://www.w3.org/XML/1998/namespace";
 
 const XMLNS_SPACE: &[u8] = b"http://www.w3.org/2000/xmlns/";
 
@@ -64,124 +65,184 @@ fn may_bind(prefix: &[u8], space: &[u8]) -> bool
         && (prefix.is_empty() || (!space.is_empty() && prefix != b"xmlns".as_slice()))
 }
 
-/// The declarations among attributes.
-pub(crate) fn declarations(
-    alloc: Global,
-    attributes: &[WrittenAttribute],
-) -> Result<Option<Bindings>, Memory>
-    ensures { IfOk result (λ found. found ≡ declarations_of attributes.now) }
+// of a name its local part alone, in place
+fn local_of(name: Blob) -> Blob
+    ensures { result ≡ (split_of name).1 }
 {
-    let mut bindings = Items::new(alloc);
+    let (_, local) = split(name.as_slice());
+    let kept = local.len();
+    let front = name.len() - kept;
+    let mut bytes = name.into_vec();
+    bytes.copy_within(front.., 0);
+    bytes.truncate(kept);
+    Blob::from_vec(bytes)
+}
+
+/// The declarations among attributes, and the other attributes.
+#[derive(Drop)]
+pub(crate) struct Divided {
+    pub(crate) decls: Bindings,
+    pub(crate) others: Vec<WrittenAttribute>,
+}
+
+/// None where a declaration may not stand.
+pub(crate) fn divide(
+    alloc: Global,
+    attributes: Vec<WrittenAttribute>,
+) -> Result<Option<Divided>, Memory>
+    ensures decls { IfOk result (λ found. option_map (λ s. s.decls) found ≡ declarations_of attributes.items) }
+    ensures others { IfOk result (λ found. IfSome found (λ s. s.others.items ≡ others_of attributes.items)) }
+{
+    let mut decls = Items::new(alloc);
+    let mut others = Vec::new(alloc);
     for attribute in attributes {
-        if let Some(prefix) = declared_prefix(attribute.name.as_slice()) {
-            if !may_bind(prefix, attribute.value.as_slice()) {
-                return Ok(None);
-            }
-            let prefix = Blob::from_slice(alloc, prefix)?;
-            let space = attribute.value.copy()?;
-            bindings.push(Binding { prefix, space })?;
+        if !divide_onto(alloc, attribute, &mut decls, &mut others)? {
+            return Ok(None);
         }
     }
-    Ok(Some(bindings))
+    Ok(Some(Divided { decls, others }))
 }
 
-fn prefix_space<'a>(prefix: &[u8], scope: &Scope<'a>) -> Option<&'a [u8]>
-    ensures { option_map (λ x. x.now) result ≡ prefix_space_of prefix.now (bindings_of scope.now) }
+// one attribute more; whether it may stand
+fn divide_onto(
+    alloc: Global,
+    attribute: WrittenAttribute,
+    decls: &mut Bindings,
+    others: &mut Vec<WrittenAttribute>,
+) -> Result<bool, Memory>
+    ensures decls { IfOk result (Declares attribute decls.old decls.new) }
+    ensures others { IfOk result (Remains attribute others.old.items others.new.items) }
+{
+    if declared_prefix(attribute.name.as_slice()).is_none() {
+        others.push(attribute)?;
+        return Ok(true);
+    }
+    let WrittenAttribute { name, value } = attribute;
+    let prefix = declared_by_name(alloc, name);
+    if !may_bind(prefix.as_slice(), value.as_slice()) {
+        return Ok(false);
+    }
+    decls.push(Binding {
+        prefix,
+        space: value,
+    })?;
+    Ok(true)
+}
+
+// the prefix that a declaration of this name declares
+fn declared_by_name(alloc: Global, name: Blob) -> Blob
+    ensures { IfSome (declared_by name) (λ prefix. result ≡ prefix) }
+{
+    if name.as_slice() == b"xmlns".as_slice() {
+        return Blob::new(alloc);
+    }
+    local_of(name)
+}
+
+fn prefix_space<'a>(prefix: &[u8], scope: &'a Scope) -> Option<&'a Space>
+    ensures { (bindings : List Bound) → InForce scope.now.stacks bindings
+        → option_map (λ x. x.now) result ≡ prefix_space_of prefix.now bindings }
 {
     if prefix == b"xml".as_slice() {
-        Some(XML_SPACE)
+        Some(scope.xml())
     } else {
-        bound(prefix, scope)
+        scope.bound(prefix)
     }
 }
 
-fn element_space<'a>(prefix: &[u8], scope: &Scope<'a>) -> Option<&'a [u8]>
-    ensures { option_map (λ x. x.now) result ≡ element_space_of prefix.now (bindings_of scope.now) }
+// the same space, where there is one
+fn shared(space: Option<&Space>) -> Result<Option<Space>, Memory>
+    ensures { IfOk result (λ found. found ≡ option_map (λ x. x.now) space.entry) }
+{
+    match space {
+        Some(space) => Ok(Some(space.share()?)),
+        None => Ok(None),
+    }
+}
+
+fn element_space(prefix: &[u8], scope: &Scope) -> Result<Option<Space>, Memory>
+    ensures { (bindings : List Bound) → InForce scope.now.stacks bindings
+        → IfOk result (λ found. found ≡ element_space_of prefix.now bindings) }
 {
     if !prefix.is_empty() {
-        return prefix_space(prefix, scope);
+        return shared(prefix_space(prefix, scope));
     }
-    match bound(b"", scope) {
-        Some(space) => Some(space),
-        None => Some(b"".as_slice()),
+    match scope.bound(b"") {
+        Some(space) => Ok(Some(space.share()?)),
+        None => Ok(Some(Space::new())),
     }
 }
 
-fn attribute_space<'a>(prefix: &[u8], scope: &Scope<'a>) -> Option<&'a [u8]>
-    ensures { option_map (λ x. x.now) result ≡ attribute_space_of prefix.now (bindings_of scope.now) }
+fn attribute_space(prefix: &[u8], scope: &Scope) -> Result<Option<Space>, Memory>
+    ensures { (bindings : List Bound) → InForce scope.now.stacks bindings
+        → IfOk result (λ found. found ≡ attribute_space_of prefix.now bindings) }
 {
     if prefix.is_empty() {
-        Some(b"".as_slice())
-    } else {
-        prefix_space(prefix, scope)
+        return Ok(Some(Space::new()));
     }
+    shared(prefix_space(prefix, scope))
 }
 
 /// The expanded name of an element.
-pub(crate) fn element_name(
-    alloc: Global,
-    name: &[u8],
-    scope: &Scope,
-) -> Result<Option<Name>, Memory>
-    ensures { IfOk result (λ found. found ≡ element_name_of (bindings_of scope.now) name.now) }
+pub(crate) fn element_name(name: Blob, scope: &Scope) -> Result<Option<Name>, Memory>
+    ensures { (bindings : List Bound) → InForce scope.now.stacks bindings
+        → IfOk result (λ found. found ≡ element_name_of bindings name) }
 {
-    let (prefix, local) = split(name);
-    match element_space(prefix, scope) {
-        Some(space) => Ok(Some(Name {
-            space: Blob::from_slice(alloc, space)?,
-            local: Blob::from_slice(alloc, local)?,
-        })),
-        None => Ok(None),
-    }
+    let (prefix, _) = split(name.as_slice());
+    let Some(space) = element_space(prefix, scope)? else {
+        return Ok(None);
+    };
+    Ok(Some(Name {
+        space,
+        local: local_of(name),
+    }))
 }
 
-fn attribute_name(alloc: Global, name: &[u8], scope: &Scope) -> Result<Option<Name>, Memory>
-    ensures { IfOk result (λ found. found ≡ attribute_name_of (bindings_of scope.now) name.now) }
+fn attribute_name(name: Blob, scope: &Scope) -> Result<Option<Name>, Memory>
+    ensures { (bindings : List Bound) → InForce scope.now.stacks bindings
+        → IfOk result (λ found. found ≡ attribute_name_of bindings name) }
 {
-    let (prefix, local) = split(name);
-    match attribute_space(prefix, scope) {
-        Some(space) => Ok(Some(Name {
-            space: Blob::from_slice(alloc, space)?,
-            local: Blob::from_slice(alloc, local)?,
-        })),
-        None => Ok(None),
-    }
+    let (prefix, _) = split(name.as_slice());
+    let Some(space) = attribute_space(prefix, scope)? else {
+        return Ok(None);
+    };
+    Ok(Some(Name {
+        space,
+        local: local_of(name),
+    }))
 }
 
-/// The attributes that are no declarations, with expanded names.
+/// Attributes that are no declarations, with expanded names.
 pub(crate) fn expanded(
     alloc: Global,
-    attributes: &[WrittenAttribute],
+    attributes: Vec<WrittenAttribute>,
     scope: &Scope,
 ) -> Result<Option<Attrs>, Memory>
-    ensures { IfOk result (λ found. found ≡ expanded_by (bindings_of scope.now) attributes.now) }
+    ensures { (bindings : List Bound) → InForce scope.now.stacks bindings
+        → IfOk result (λ found. found ≡ named_all bindings attributes.items) }
 {
     let mut attrs = Items::new(alloc);
     for attribute in attributes {
-        if !expand_onto(alloc, attribute, scope, &mut attrs)? {
+        if !expand_onto(attribute, scope, &mut attrs)? {
             return Ok(None);
         }
     }
     Ok(Some(attrs))
 }
 
-// one attribute more, unless it is a declaration; whether its prefix is bound
+// one attribute more; whether its prefix is bound
 fn expand_onto(
-    alloc: Global,
-    attribute: &WrittenAttribute,
+    attribute: WrittenAttribute,
     scope: &Scope,
     attrs: &mut Attrs,
 ) -> Result<bool, Memory>
-    ensures { IfOk result (λ taken. Expands (declared_by attribute.now.name) (attribute_name_of
-        (bindings_of scope.now) attribute.now.name) attribute.now.value attrs.old attrs.new taken) }
+    ensures { (bindings : List Bound) → InForce scope.now.stacks bindings
+        → IfOk result (Expands bindings attribute attrs.old attrs.new) }
 {
-    if declared_prefix(attribute.name.as_slice()).is_some() {
-        return Ok(true);
-    }
-    let Some(name) = attribute_name(alloc, attribute.name.as_slice(), scope)? else {
+    let WrittenAttribute { name, value } = attribute;
+    let Some(name) = attribute_name(name, scope)? else {
         return Ok(false);
     };
-    let value = attribute.value.copy()?;
     attrs.push(Attr { name, value })?;
     Ok(true)
 }
@@ -190,6 +251,9 @@ fn expand_onto(
 pub(crate) fn are_distinct(alloc: Global, attributes: &[WrittenAttribute]) -> Result<bool, Memory>
     ensures { IfOk result (λ answer. answer ≡ distinct_test attributes.now) }
 {
+    if attributes.len() < 2 {
+        return Ok(true);
+    }
     let mut keys = Vec::new(alloc);
     for attribute in attributes {
         keys.push((attribute.name.as_slice(), b"".as_slice()))?;
@@ -201,6 +265,9 @@ pub(crate) fn are_distinct(alloc: Global, attributes: &[WrittenAttribute]) -> Re
 pub(crate) fn are_distinct_names(alloc: Global, attrs: &[Attr]) -> Result<bool, Memory>
     ensures { IfOk result (λ answer. answer ≡ distinct_names_test attrs.now) }
 {
+    if attrs.len() < 2 {
+        return Ok(true);
+    }
     let mut keys = Vec::new(alloc);
     for attr in attrs {
         keys.push((attr.name.local.as_slice(), attr.name.space.as_slice()))?;

@@ -1,25 +1,65 @@
-ghost use Rattle.std.specs.Prelude.{◌≡◌, ◌≢◌, ◌<◌, ◌≤◌, ◌↔◌, ℕ, length, IfOk, IfSome, IfNone, Err};
+ghost use Rattle.std.specs.Prelude.{◌≡◌, ◌≢◌, ◌<◌, ◌≤◌, ◌↔◌, ℕ, [], length, option_map, IfOk, IfSome, IfNone, Err};
 ghost use Rattle.std.specs.Str.{IsUtf8};
-ghost use Rattle.soap_profile.specs.Document.{Document, IsLongestText};
+ghost use Rattle.soap_document.specs.Tree.{last_child};
+ghost use Rattle.soap_document.specs.View.{element_view as written_view, parts_view as written_parts};
+ghost use Rattle.soap_profile.specs.Document.{Document, IsPlaced, IsLongestText, place_of};
+ghost use Rattle.soap_profile.specs.Namespaces.{resolve as resolve_by};
 ghost use Rattle.soap_profile.specs.Tree.{Element as Tree};
 ghost use Rattle.soap_profile.specs.View.{element_view};
 
 use crate::error::EnvelopeError;
 use crate::resolve::resolve;
-use crate::scope::nothing_bound;
+use crate::scope::Scope;
 use crate::tree::Element;
 use rm_base::Memory;
-use soap_document::{one_tree, read_document};
+use soap_document::{WrittenElement, WrittenPart, one_tree, read_document};
 use soap_lex::utf8_prefix;
 use std::alloc::Global;
 
 /// How many bytes a document may have.
 pub const MAX_LENGTH: usize = 2097152;
 
+/// Where in a document an element's content begins, and where it ends.
+#[derive(Clone, Copy, Debug, PartialEq, Eq)]
+pub struct Place {
+    pub start: usize,
+    pub end: usize,
+}
+
+/// A document's tree, and where in the document the content stands of the last element within the root.
+#[derive(Debug, Drop)]
+pub struct Placed {
+    pub root: Element,
+    /// None where the root has no element within.
+    pub last: Option<Place>,
+}
+
 /// The tree of a whole document. It answers none of the errors that speak of envelopes.
 pub fn read_element(alloc: Global, bytes: &[u8]) -> Result<Element, EnvelopeError>
     // What is read.
     ensures ok { IfOk result (λ tree. Document bytes.now (element_view tree)) }
+    ensures fits { IfOk result (λ _. (length bytes.now ≤ MAX_LENGTH) × IsUtf8 bytes.now) }
+
+    // When each error comes, the first of them where several may.
+    ensures too_long { (len : ℕ) → (result ≡ Err (EnvelopeError.TooLong len)) ↔ ((MAX_LENGTH < length bytes.now)
+        × (len ≡ length bytes.now)) }
+    ensures not_utf8 { (place : ℕ) → (result ≡ Err (EnvelopeError.NotUtf8 place))
+        ↔ ((length bytes.now ≤ MAX_LENGTH) × (place < length bytes.now) × IsLongestText bytes.now place) }
+    ensures not_profile { result ≡ Err EnvelopeError.NotProfile
+        → (length bytes.now ≤ MAX_LENGTH) × IsUtf8 bytes.now × ((tree : Tree) → ¬ (Document bytes.now tree)) }
+    ensures no_version { result ≢ Err EnvelopeError.WrongVersion }
+    ensures no_envelope { result ≢ Err EnvelopeError.NotEnvelope }
+{
+    match read_placed(alloc, bytes) {
+        Ok(Placed { root, last: _ }) => Ok(root),
+        Err(error) => Err(error),
+    }
+}
+
+/// The same, with the place of the last element within the root.
+pub fn read_placed(alloc: Global, bytes: &[u8]) -> Result<Placed, EnvelopeError>
+    // What is read.
+    ensures ok { IfOk result (λ placed. IsPlaced bytes.now (element_view placed.root) placed.last) }
     ensures fits { IfOk result (λ _. (length bytes.now ≤ MAX_LENGTH) × IsUtf8 bytes.now) }
 
     // When each error comes, the first of them where several may.
@@ -40,19 +80,48 @@ pub fn read_element(alloc: Global, bytes: &[u8]) -> Result<Element, EnvelopeErro
         return Err(EnvelopeError::NotUtf8 { valid_up_to });
     }
     match read_tree(alloc, bytes)? {
-        Some(tree) => Ok(tree),
+        Some(placed) => Ok(placed),
         None => Err(EnvelopeError::NotProfile),
     }
 }
 
 // the tree of a whole document, where the bytes are one
-fn read_tree(alloc: Global, bytes: &[u8]) -> Result<Option<Element>, Memory>
-    ensures found { IfOk result (λ tree. IfSome tree (λ tree. Document bytes.now (element_view tree))) }
-    ensures none { IfOk result (λ tree. IfNone tree ((other : Tree) → ¬ (Document bytes.now other))) }
+fn read_tree(alloc: Global, bytes: &[u8]) -> Result<Option<Placed>, Memory>
+    ensures found { IfOk result (λ found. IfSome found (λ placed.
+        IsPlaced bytes.now (element_view placed.root) placed.last)) }
+    ensures none { IfOk result (λ found. IfNone found ((other : Tree) → ¬ (Document bytes.now other))) }
 {
     let Some(written) = read_document(alloc, bytes)? else {
         return Ok(None);
     };
     one_tree();
-    resolve(alloc, &written, &nothing_bound())
+    let last = last_place(written.parts.as_slice());
+    let Some(root) = resolved(alloc, written)? else {
+        return Ok(None);
+    };
+    Ok(Some(Placed { root, last }))
+}
+
+// a root with its names resolved
+fn resolved(alloc: Global, written: WrittenElement) -> Result<Option<Element>, Memory>
+    ensures { IfOk result (λ found. option_map element_view found ≡ resolve_by [] (written_view written)) }
+{
+    let mut scope = Scope::new(alloc)?;
+    resolve(alloc, written, &mut scope)
+}
+
+// the place of the last element among parts
+fn last_place(parts: &[WrittenPart]) -> Option<Place>
+    ensures { result ≡ option_map place_of (last_child (written_parts parts.now)) }
+{
+    let mut last = None;
+    for part in parts {
+        if let WrittenPart::Child(child) = part {
+            last = Some(Place {
+                start: child.start,
+                end: child.end,
+            });
+        }
+    }
+    last
 }

@@ -1,15 +1,22 @@
 // Trees as they are written, to trees with expanded names.
-ghost use Rattle.std.specs.Prelude.{◌≡◌, IfOk, option_map};
+ghost use Rattle.std.specs.Prelude.{◌≡◌, ◌++◌, ℕ, List, IfOk, IfSome, IsTrue, option_map};
 ghost use Rattle.soap_document.specs.View.{element_view as written_view, part_view as written_part, parts_view as written_parts};
-ghost use Rattle.soap_profile.specs.Namespaces.{resolve as resolve_by, resolve_parts as resolve_parts_by, tag_of, tag_within as tag_within_of};
-ghost use Rattle.soap_profile.specs.Scope.{bindings_of};
-ghost use Rattle.soap_profile.specs.Steps.{Resolves};
+ghost use Rattle.soap_profile.specs.Namespaces.{
+  resolve as resolve_by,
+  resolve_parts as resolve_parts_by,
+  tag_of,
+  resolved_with,
+  element_name as element_name_of,
+};
+ghost use Rattle.soap_profile.specs.Scope.{InForce};
+ghost use Rattle.soap_profile.specs.Steps.{Resolves, named_all};
+ghost use Rattle.soap_profile.specs.Tree.{Binding as Bound};
 ghost use Rattle.soap_profile.specs.View.{element_view, parts_view, tag_view};
 
-use crate::names::{are_distinct, are_distinct_names, declarations, element_name, expanded};
+use crate::names::{Divided, are_distinct, are_distinct_names, divide, element_name, expanded};
 use crate::scope::Scope;
 use crate::tree::{Attrs, Element, Name, Part, Parts};
-use rm_base::{Bindings, Memory};
+use rm_base::{Bindings, Blob, Memory};
 use soap_document::{WrittenAttribute, WrittenElement, WrittenPart};
 use std::alloc::Global;
 
@@ -21,42 +28,44 @@ pub(crate) struct Tag {
     attrs: Attrs,
 }
 
+// enters the element
 fn resolved_tag(
     alloc: Global,
-    name: &[u8],
-    attributes: &[WrittenAttribute],
-    outer: &Scope,
+    name: Blob,
+    attributes: Vec<WrittenAttribute>,
+    scope: &mut Scope,
 ) -> Result<Option<Tag>, Memory>
-    ensures { IfOk result (λ found. option_map tag_view found
-        ≡ tag_of (bindings_of outer.now) name.now attributes.now) }
+    ensures tag { (bindings : List Bound) → InForce scope.old.stacks bindings
+        → IfOk result (λ found. option_map tag_view found ≡ tag_of bindings name attributes.items) }
+    ensures within { (bindings : List Bound) → InForce scope.old.stacks bindings
+        → IfOk result (λ found. IfSome found (λ tag. InForce scope.new.stacks (tag.decls ++ bindings))) }
 {
-    if !are_distinct(alloc, attributes)? {
+    if !are_distinct(alloc, &attributes)? {
         return Ok(None);
     }
-    let Some(decls) = declarations(alloc, attributes)? else {
+    let Some(divided) = divide(alloc, attributes)? else {
         return Ok(None);
     };
-    tag_within(alloc, name, attributes, decls, outer)
+    let Divided { decls, others } = divided;
+    scope.enter(alloc, decls.as_slice())?;
+    tag_within(alloc, name, others, decls, scope)
 }
 
 fn tag_within(
     alloc: Global,
-    name: &[u8],
-    attributes: &[WrittenAttribute],
+    name: Blob,
+    others: Vec<WrittenAttribute>,
     decls: Bindings,
-    outer: &Scope,
+    scope: &Scope,
 ) -> Result<Option<Tag>, Memory>
-    ensures { IfOk result (λ found. option_map tag_view found
-        ≡ tag_within_of decls (bindings_of outer.now) name.now attributes.now) }
+    ensures { (bindings : List Bound) → InForce scope.now.stacks bindings
+        → IfOk result (λ found. option_map tag_view found
+        ≡ resolved_with decls (element_name_of bindings name) (named_all bindings others.items)) }
 {
-    let scope = Scope {
-        decls: decls.as_slice(),
-        outer: Some(outer),
-    };
-    let Some(name) = element_name(alloc, name, &scope)? else {
+    let Some(name) = element_name(name, scope)? else {
         return Ok(None);
     };
-    let Some(attrs) = expanded(alloc, attributes, &scope)? else {
+    let Some(attrs) = expanded(alloc, others, scope)? else {
         return Ok(None);
     };
     if !are_distinct_names(alloc, attrs.as_slice())? {
@@ -65,33 +74,33 @@ fn tag_within(
     Ok(Some(Tag { name, decls, attrs }))
 }
 
-/// An element within these bindings, with its names resolved.
+/// An element within these bindings, with its names resolved. Where nothing is found the scope is of no more use.
 #[cycle(resolving)]
 pub(crate) fn resolve(
     alloc: Global,
-    element: &WrittenElement,
-    outer: &Scope,
+    element: WrittenElement,
+    scope: &mut Scope,
 ) -> Result<Option<Element>, Memory>
-    ensures { IfOk result (λ found. option_map element_view found
-        ≡ resolve_by (bindings_of outer.now) (written_view element.now)) }
+    ensures tree { (bindings : List Bound) → InForce scope.old.stacks bindings
+        → IfOk result (λ found. option_map element_view found ≡ resolve_by bindings (written_view element)) }
+    ensures left { (bindings : List Bound) → InForce scope.old.stacks bindings
+        → IfOk result (λ found. IfSome found (λ _. InForce scope.new.stacks bindings)) }
 {
-    let Some(tag) = resolved_tag(
-        alloc,
-        element.name.as_slice(),
-        element.attributes.as_slice(),
-        outer,
-    )?
-    else {
+    let WrittenElement {
+        name,
+        attributes,
+        start: _,
+        end: _,
+        parts,
+    } = element;
+    let Some(tag) = resolved_tag(alloc, name, attributes, scope)? else {
         return Ok(None);
     };
+    let Some(parts) = resolve_parts(alloc, parts, scope)? else {
+        return Ok(None);
+    };
+    scope.leave(tag.decls.as_slice());
     let Tag { name, decls, attrs } = tag;
-    let scope = Scope {
-        decls: decls.as_slice(),
-        outer: Some(outer),
-    };
-    let Some(parts) = resolve_parts(alloc, element.parts.as_slice(), &scope)? else {
-        return Ok(None);
-    };
     Ok(Some(Element {
         name,
         decls,
@@ -100,14 +109,18 @@ pub(crate) fn resolve(
     }))
 }
 
+/// The parts of an element, within these bindings.
 #[cycle(resolving)]
-fn resolve_parts(
+pub(crate) fn resolve_parts(
     alloc: Global,
-    parts: &[WrittenPart],
-    scope: &Scope,
+    parts: Vec<WrittenPart>,
+    scope: &mut Scope,
 ) -> Result<Option<Parts>, Memory>
-    ensures { IfOk result (λ found. option_map (λ p. parts_view p.items.items) found
-        ≡ resolve_parts_by (bindings_of scope.now) (written_parts parts.now)) }
+    ensures tree { (bindings : List Bound) → InForce scope.old.stacks bindings
+        → IfOk result (λ found. option_map (λ p. parts_view p.items.items) found
+        ≡ resolve_parts_by bindings (written_parts parts.items)) }
+    ensures left { (bindings : List Bound) → InForce scope.old.stacks bindings
+        → IfOk result (λ found. IfSome found (λ _. InForce scope.new.stacks bindings)) }
 {
     let mut items = Vec::new(alloc);
     for part in parts {
@@ -122,16 +135,19 @@ fn resolve_parts(
 #[cycle(resolving)]
 fn resolve_onto(
     alloc: Global,
-    part: &WrittenPart,
-    scope: &Scope,
+    part: WrittenPart,
+    scope: &mut Scope,
     items: &mut Vec<Part>,
 ) -> Result<bool, Memory>
-    ensures { IfOk result (λ taken. Resolves (bindings_of scope.now) (written_part part.now)
-        (parts_view items.old.items) (parts_view items.new.items) taken) }
+    ensures tree { (bindings : List Bound) → InForce scope.old.stacks bindings
+        → IfOk result (Resolves bindings (written_part part) (parts_view items.old.items)
+        (parts_view items.new.items)) }
+    ensures left { (bindings : List Bound) → InForce scope.old.stacks bindings
+        → IfOk result (λ taken. IsTrue taken → InForce scope.new.stacks bindings) }
 {
     match part {
         WrittenPart::Text(text) => {
-            items.push(Part::Text(text.copy()?))?;
+            items.push(Part::Text(text))?;
             Ok(true)
         }
         WrittenPart::Child(element) => {

@@ -1,48 +1,73 @@
 // The bindings in force.
-ghost use Rattle.std.specs.Prelude.{◌≡◌, [], option_map};
-ghost use Rattle.soap_profile.specs.Namespaces.{bound as bound_by};
-ghost use Rattle.soap_profile.specs.Scope.{bindings_of};
+ghost use Rattle.std.specs.Prelude.{◌≡◌, [], ◌∷◌, ◌++◌, ℕ, List, IfOk, OnOk, option_map};
+ghost use Rattle.soap_profile.specs.Namespaces.{bound as bound_by, xml_space};
+ghost use Rattle.std.proofs.Props.{props};
+ghost use Rattle.soap_profile.specs.Scope.{InForce};
+ghost use Rattle.soap_profile.specs.Tree.{Binding as Bound};
 
-use rm_base::Binding;
+use crate::names::XML_SPACE;
+use crate::space::Space;
+use crate::stacks::{Stacks, pop, push, top};
+use rm_base::{Binding, Memory};
+use std::alloc::Global;
+use std::collections::BTreeMap;
 
-/// The bindings of an element, and those around it.
-#[derive(Clone, Copy)]
-pub(crate) struct Scope<'a> {
-    pub(crate) decls: &'a [Binding],
-    pub(crate) outer: Option<&'a Scope<'a>>,
+/// The bindings in force.
+#[derive(Drop)]
+pub(crate) struct Scope {
+    stacks: Stacks,
+    xml: Space,
+    ghost is_xml: { xml ≡ xml_space } by { Prim.hlevel props },
 }
 
-/// Around the root.
-pub(crate) fn nothing_bound() -> Scope<'static>
-    ensures { bindings_of result ≡ [] }
-{
-    Scope {
-        decls: &[],
-        outer: None,
+impl Scope {
+    /// Around the root.
+    pub(crate) fn new(alloc: Global) -> Result<Scope, Memory>
+        ensures { IfOk result (λ scope. InForce scope.stacks []) }
+    {
+        Ok(Scope {
+            stacks: BTreeMap::new(alloc),
+            xml: Space::from_slice(alloc, XML_SPACE)?,
+        })
     }
-}
 
-/// What a prefix is bound to.
-pub(crate) fn bound<'a>(prefix: &[u8], scope: &Scope<'a>) -> Option<&'a [u8]>
-    ensures { option_map (λ x. x.now) result ≡ bound_by prefix.now (bindings_of scope.now) }
-{
-    match bound_in(prefix, scope.decls) {
-        Some(space) => Some(space),
-        None => match scope.outer {
-            Some(outer) => bound(prefix, outer),
-            None => None,
-        },
+    /// The namespace of the prefix `xml`, which needs no declaration.
+    pub(crate) fn xml(&self) -> &Space
+        ensures { result.now ≡ xml_space }
+    {
+        &self.xml
     }
-}
 
-// what these declarations bind it to
-fn bound_in<'a>(prefix: &[u8], decls: &'a [Binding]) -> Option<&'a [u8]>
-    ensures { option_map (λ x. x.now) result ≡ bound_by prefix.now decls.now }
-{
-    for binding in decls {
-        if binding.prefix.as_slice() == prefix {
-            return Some(binding.space.as_slice());
+    /// What a prefix is bound to.
+    pub(crate) fn bound(&self, prefix: &[u8]) -> Option<&Space>
+        ensures { (bindings : List Bound) → InForce self.now.stacks bindings
+            → option_map (λ x. x.now) result ≡ bound_by prefix.now bindings }
+    {
+        top(&self.stacks, prefix)
+    }
+
+    /// Within an element with these declarations.
+    pub(crate) fn enter(&mut self, alloc: Global, decls: &[Binding]) -> Result<(), Memory>
+        ensures { (bindings : List Bound) → InForce self.old.stacks bindings
+            → OnOk result (InForce self.new.stacks (decls.now ++ bindings)) }
+    {
+        let mut left = decls.len();
+        while left > 0 {
+            left -= 1;
+            let binding = &decls[left];
+            let space = Space::from_slice(alloc, binding.space.as_slice())?;
+            push(alloc, &mut self.stacks, binding.prefix.as_slice(), space)?;
+        }
+        Ok(())
+    }
+
+    /// Behind an element with these declarations.
+    pub(crate) fn leave(&mut self, decls: &[Binding])
+        ensures { (bindings : List Bound) → InForce self.old.stacks (decls.now ++ bindings)
+            → InForce self.new.stacks bindings }
+    {
+        for binding in decls {
+            pop(&mut self.stacks, binding.prefix.as_slice());
         }
     }
-    None
 }

@@ -50,7 +50,7 @@ fn copied_name(name: &Name) -> Result<Name, Memory>
     ensures { IfOk result (λ copy. copy ≡ name.now) }
 {
     Ok(Name {
-        space: name.space.copy()?,
+        space: name.space.share()?,
         local: name.local.copy()?,
     })
 }

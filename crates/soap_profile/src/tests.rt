@@ -1,4 +1,4 @@
-use crate::{EnvelopeError, MAX_LENGTH, Part, read_element, strip};
+use crate::{Element, EnvelopeError, MAX_LENGTH, Part, check_payload, read_element, strip};
 use std::alloc::{AllocError, Global};
 use std::test::Fail;
 
@@ -61,6 +61,8 @@ fn refuses(rt: HostRuntime) -> Result<(), Fail> {
         "<e xmlns:a='u' xmlns:b='u' a:x='1' b:x='2'/>",
         "<a xmlns:p='u'><p:b/></a><p:c/>",
         "<a><b xmlns:p='u'/><p:c/></a>",
+        "<a xmlns:xml='http://www.w3.org/2000/xmlns/'/>",
+        "<xmlns:a/>",
         "<a:b:c xmlns:a='u'/>",
     ];
     for i in 0..documents.len() {
@@ -141,6 +143,42 @@ fn names_are_expanded(rt: HostRuntime) -> Result<(), Fail> {
     Ok(())
 }
 
+// the space of an element's child
+fn space_of(element: &Element, child: usize) -> &[u8] {
+    match element.parts.items.get(child) {
+        Some(Part::Child(child)) => child.name.space.as_slice(),
+        _ => b"none".as_slice(),
+    }
+}
+
+#[test]
+fn bindings_end_with_their_elements(rt: HostRuntime) -> Result<(), Fail> {
+    let tree = read_element(
+        rt.alloc(),
+        b"<a xmlns='u' xmlns:p='v'><b xmlns=''/><c/><d xmlns='w'/><e/><f xmlns:p='x'/><p:g/></a>",
+    )?;
+    let spaces = ["", "u", "w", "u", "u", "v"];
+    for i in 0..spaces.len() {
+        assert_eq!(rt; space_of(&tree, i), spaces[i].as_bytes(), "{i}");
+    }
+    Ok(())
+}
+
+#[test]
+fn default_namespaces_nest(rt: HostRuntime) -> Result<(), Fail> {
+    let tree = read_element(
+        rt.alloc(),
+        b"<a xmlns='u'><b xmlns=''><c xmlns='v'/><d/></b></a>",
+    )?;
+    let Some(Part::Child(inner)) = tree.parts.items.first() else {
+        return Err("no child".into());
+    };
+    assert!(rt; inner.name.space.is_empty());
+    assert_eq!(rt; space_of(inner, 0), b"v".as_slice());
+    assert_eq!(rt; space_of(inner, 1), b"".as_slice());
+    Ok(())
+}
+
 #[test]
 fn declarations_are_stripped(rt: HostRuntime) -> Result<(), Fail> {
     let tree = read_element(rt.alloc(), b"<p:a xmlns:p='u' b='1'>t<c xmlns='v'/></p:a>")?;
@@ -171,5 +209,85 @@ fn a_document_has_a_greatest_length(rt: HostRuntime) -> Result<(), Fail> {
         read_element(rt.alloc(), &bytes).is_err_and(|e| e
             == EnvelopeError::TooLong { len: 2097153 })
     );
+    Ok(())
+}
+
+#[test]
+fn payloads(rt: HostRuntime) -> Result<(), Fail> {
+    let rows = [
+        ("", true),
+        (" <a/> ", true),
+        ("&#32;", true),
+        ("<![CDATA[ ]]><a/>", true),
+        ("<a/><b>x</b>", true),
+        ("<p:a xmlns:p='u'/>", true),
+        ("<a xml:lang='en'/>", true),
+        ("x", false),
+        ("<a/>x", false),
+        ("<p:a/>", false),
+        ("<a p:b='c'/>", false),
+        ("<p:a xmlns:p='u'/><p:b/>", false),
+        ("</a><a>", false),
+        ("<a>", false),
+    ];
+    for i in 0..rows.len() {
+        let (payload, closed) = rows[i];
+        assert_eq!(rt;
+            check_payload(rt.alloc(), payload.as_bytes())?,
+            closed,
+            "{i}"
+        );
+    }
+    Ok(())
+}
+
+// as many elements in one another, each with many declarations, around many names that the outermost bind
+fn nested(alloc: Global, depth: u32, declarations: u32) -> Result<String, AllocError> {
+    let mut text = String::new(alloc);
+    for level in 0..depth {
+        text.push_str("<a")?;
+        for i in 0..declarations {
+            text.push_str(format!(in alloc; " xmlns:p{level}x{i}='u'")?.as_str())?;
+        }
+        text.push_str(">")?;
+    }
+    for i in 0..declarations {
+        text.push_str(format!(in alloc; "<p0x{i}:b/>")?.as_str())?;
+    }
+    for _ in 0..depth {
+        text.push_str("</a>")?;
+    }
+    Ok(text)
+}
+
+#[test]
+fn payloads_are_90_deep(rt: HostRuntime) -> Result<(), Fail> {
+    let text = nested(rt.alloc(), 90, 0)?;
+    assert!(rt; check_payload(rt.alloc(), text.as_bytes())?);
+    let text = nested(rt.alloc(), 91, 0)?;
+    assert!(rt; !check_payload(rt.alloc(), text.as_bytes())?);
+    Ok(())
+}
+
+#[test]
+fn takes_many_declarations(rt: HostRuntime) -> Result<(), Fail> {
+    let text = nested(rt.alloc(), 99, 100)?;
+    assert!(rt; read_element(rt.alloc(), text.as_bytes()).is_ok());
+    Ok(())
+}
+
+#[test]
+fn names_share_a_long_namespace(rt: HostRuntime) -> Result<(), Fail> {
+    let mut text = String::new(rt.alloc());
+    text.push_str("<a xmlns='")?;
+    for _ in 0..20000u32 {
+        text.push_str("urn:namespace:")?;
+    }
+    text.push_str("'>")?;
+    for _ in 0..20000u32 {
+        text.push_str("<b/>")?;
+    }
+    text.push_str("</a>")?;
+    assert!(rt; read_element(rt.alloc(), text.as_bytes()).is_ok());
     Ok(())
 }

@@ -1,9 +1,10 @@
+use crate::space::Space;
 use rm_base::{Bindings, Blob, Items};
 
 /// An expanded name: Namespaces in XML 1.0, section 2.1. A name in no namespace has the empty space.
 #[derive(Debug, Drop)]
 pub struct Name {
-    pub space: Blob,
+    pub space: Space,
     pub local: Blob,
 }
 
