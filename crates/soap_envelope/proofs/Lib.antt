@@ -1,0 +1,5 @@
+pub mod Envelopes
+pub mod Outlines
+pub mod Placed
+pub mod Scopes
+pub mod Unique

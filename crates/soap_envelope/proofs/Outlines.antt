@@ -1,0 +1,139 @@
+-- The outline of an Envelope: each outcome of the walk over its parts.
+use Rattle.std.proofs.Common.{◌≡◌, ℕ, ◌⊎◌, inl, inr, List, Option, Some, None, option_map, IfSome, codes, length, refl, sym, ap, subst, ◌∙◌, arith}
+use Rattle.soap_document.specs.Grammar.{IsWhite}
+use Rattle.soap_profile.specs.Tree.{Element, Parts, none, text, child}
+use Rattle.soap_profile.specs.View.{element_view}
+use Rattle.soap_profile.specs.declared.tree.Name.{Name}
+use Rattle.soap_profile.specs.declared.tree.Element.{Element as CodeElement}
+use Rattle.soap_envelope.specs.Envelope.{soap_name, name_of, IsSpaced, bare, spaced, IsBodyAlone, IsOutline, headless, headed}
+use Rattle.soap_envelope.specs.Steps.{Comes, IsSpacing, IsOther, Follows, BodyFound, Outlined}
+use Rattle.soap_envelope.specs.declared.outline.Next.{Next}
+use Rattle.soap_envelope.specs.declared.outline.Next.TheVariants.{Child, Text, End}
+
+pub spaced_cases : (p q : Parts) → IsSpaced p q → (p ≡ q) ⊎ ((s : List ℕ) × (p ≡ text s q) × IsWhite s)
+spaced_cases p q (bare _) = inl refl
+spaced_cases p q (spaced s _ w) = inr (s, refl, w)
+
+-- ---- what comes next
+
+other_text : (p : Parts) (t : List ℕ) (q : Parts) → p ≡ text t q → (IsWhite t → ⊥) → IsOther p
+other_text p t q is h = record {
+  child = λ first rest s. elim (spaced_cases p (child first rest) s) as (λ _. ⊥) [
+    | inl e ↦ cc
+    | inr w ↦ let same : w.0 ≡ t = cc in h (subst IsWhite same w.2)
+  ];
+  end = λ s. elim (spaced_cases p none s) as (λ _. ⊥) [
+    | inl e ↦ cc
+    | inr w ↦ let same : w.0 ≡ t = cc in h (subst IsWhite same w.2)
+  ];
+}
+
+other_texts : (p : Parts) (t u : List ℕ) (q r : Parts) → p ≡ text t q → q ≡ text u r → IsOther p
+other_texts p t u q r is then = record {
+  child = λ first rest s. elim (spaced_cases p (child first rest) s) as (λ _. ⊥) [ inl e ↦ cc | inr w ↦ cc ];
+  end = λ s. elim (spaced_cases p none s) as (λ _. ⊥) [ inl e ↦ cc | inr w ↦ cc ];
+}
+
+pub follows_first : (p : Parts) (f : Next) (q : Parts) → (IsSpacing f → ⊥) → Comes p f q → Follows p f q
+follows_first p (Child e) q h c = subst (λ (x : Parts). IsSpaced x (child (element_view e) q)) (sym c) (bare (child
+    (element_view e) q))
+follows_first p (Text t) q h c = other_text p t q c h
+follows_first p End q h c = subst (λ (x : Parts). IsSpaced x none) (sym c) (bare none)
+
+pub follows_space : (p : Parts) (f : Next) (q : Parts) (n : Next) (r : Parts) → IsSpacing f → Comes p f q
+    → Comes q n r → Follows p n r
+follows_space p (Child e) q n r s c d = absurd s
+follows_space p (Text t) q (Child e) r s c d =
+    let is : text t (child (element_view e) r) ≡ p = sym (c ∙ ap (text t) d) in
+    subst (λ (x : Parts). IsSpaced x (child (element_view e) r)) is (spaced t (child (element_view e) r) s)
+follows_space p (Text t) q (Text u) r s c d = other_texts p t u q r c d
+follows_space p (Text t) q End r s c d =
+    subst (λ (x : Parts). IsSpaced x none) (sym (c ∙ ap (text t) d)) (spaced t none s)
+follows_space p End q n r s c d = absurd s
+
+pub one_child : (p : Parts) (a b : Element) (q r : Parts) → IsSpaced p (child a q) → IsSpaced p (child b r)
+    → (a ≡ b) × (q ≡ r)
+one_child p a b q r s t = elim (spaced_cases p (child a q) s) as (λ _. (a ≡ b) × (q ≡ r)) [
+  | inl e ↦ elim (spaced_cases p (child b r) t) as (λ _. (a ≡ b) × (q ≡ r)) [ inl f ↦ (cc, cc) | inr w ↦ cc ]
+  | inr v ↦ elim (spaced_cases p (child b r) t) as (λ _. (a ≡ b) × (q ≡ r)) [
+    | inl f ↦ cc
+    | inr w ↦ (cc, cc)
+  ]
+]
+
+pub no_child : (p : Parts) (a : Element) (q : Parts) → IsSpaced p none → IsSpaced p (child a q) → ⊥
+no_child p a q s t = elim (spaced_cases p none s) as (λ _. ⊥) [
+  | inl e ↦ elim (spaced_cases p (child a q) t) as (λ _. ⊥) [ inl f ↦ cc | inr w ↦ cc ]
+  | inr v ↦ elim (spaced_cases p (child a q) t) as (λ _. ⊥) [ inl f ↦ cc | inr w ↦ cc ]
+]
+
+-- ---- a Body alone
+
+pub body_alone : (p : Parts) (body : Element) (q : Parts) → IsSpaced p (child body q)
+    → name_of body ≡ soap_name (codes "Body") → IsSpaced q none → IsBodyAlone p body
+body_alone p body q s n e = record { after = q; before = s; behind = e; named = n }
+
+pub no_body_next : (p : Parts) (n : Next) (q : Parts) → Follows p n q → ((e : CodeElement) → n ≡ Child e → ⊥)
+    → (body : Element) → IsBodyAlone p body → ⊥
+no_body_next p (Child e) q f h body b = h e refl
+no_body_next p (Text t) q f h body b = f.child body b.after b.before
+no_body_next p End q f h body b = no_child p body b.after f b.before
+
+pub no_body_here : (p : Parts) (first : Element) (q : Parts) → IsSpaced p (child first q)
+    → (name_of first ≡ soap_name (codes "Body") → IsSpaced q none → ⊥) → (body : Element) → IsBodyAlone p body → ⊥
+no_body_here p first q s h body b =
+    let same = one_child p body first b.after q b.before s in
+    h (ap name_of (sym same.0) ∙ b.named) (subst (λ (x : Parts). IsSpaced x none) same.1 b.behind)
+
+-- ---- the outline
+
+pub outline_cases : (p : Parts) (h : Option Element) (b : Element) → IsOutline p h b
+    → ((h ≡ None) × IsBodyAlone p b)
+    ⊎ ((x : Element) × (rest : Parts) × (h ≡ Some x) × IsSpaced p (child x rest)
+    × (name_of x ≡ soap_name (codes "Header")) × IsBodyAlone rest b)
+outline_cases p h b (headless _ _ alone) = inl (refl, alone)
+outline_cases p h b (headed _ rest x _ s n alone) = inr (x, rest, refl, s, n, alone)
+
+pub not_both : (n : Name) → n ≡ soap_name (codes "Header") → n ≡ soap_name (codes "Body") → ⊥
+not_both n h b =
+    let same : codes "Header" ≡ codes "Body" = ap (λ (m : Name). m.local) (sym h ∙ b) in
+    let long : length (codes "Header") ≡ 4 = ap length same in omega arith
+
+pub no_outline_next : (p : Parts) (n : Next) (q : Parts) → Follows p n q → ((e : CodeElement) → n ≡ Child e → ⊥)
+    → Outlined p None
+no_outline_next p n q f h header body o = elim (outline_cases p header body o) as (λ _. ⊥) [
+  | inl l ↦ no_body_next p n q f h body l.1
+  | inr r ↦ no_header p n q f h r.0 r.1 r.3
+]
+  where
+    no_header : (p : Parts) (n : Next) (q : Parts) → Follows p n q → ((e : CodeElement) → n ≡ Child e → ⊥)
+        → (x : Element) (rest : Parts) → IsSpaced p (child x rest) → ⊥
+    no_header p (Child e) q f h x rest s = h e refl
+    no_header p (Text t) q f h x rest s = f.child x rest s
+    no_header p End q f h x rest s = no_child p x rest f s
+
+-- behind a Header, a Body alone or none
+pub outlined_header : (p : Parts) (e : CodeElement) (q : Parts) → IsSpaced p (child (element_view e) q)
+    → name_of (element_view e) ≡ soap_name (codes "Header") → (r : Option (Option CodeElement × CodeElement))
+    → IfSome r (λ found. found.0 ≡ Some e) → BodyFound q (option_map (λ found. found.1) r) → Outlined p r
+outlined_header p e q s n None is alone = λ header body o. elim (outline_cases p header body o) as (λ _. ⊥) [
+  | inl l ↦ not_both (name_of body) (ap name_of (one_child p body (element_view e) l.1.after q l.1.before s).0 ∙ n)
+      l.1.named
+  | inr r ↦ alone body (subst (λ (x : Parts). IsBodyAlone x body) (one_child p r.0 (element_view e) r.1 q r.3 s).1 r.5)
+]
+outlined_header p e q s n (Some found) is alone =
+    subst (λ (h : Option Element). IsOutline p h (element_view found.1)) (ap (option_map element_view) (sym is))
+    (headed p q (element_view e) (element_view found.1) s n alone)
+
+-- without one
+pub outlined_body : (p : Parts) (e : CodeElement) (q : Parts) → IsSpaced p (child (element_view e) q)
+    → name_of (element_view e) ≡ soap_name (codes "Body") → IsSpaced q none → Outlined p (Some (None, e))
+outlined_body p e q s n end = headless p (element_view e) (body_alone p (element_view e) q s n end)
+
+pub no_outline_here : (p : Parts) (first : Element) (q : Parts) → IsSpaced p (child first q)
+    → (name_of first ≡ soap_name (codes "Header") → ⊥)
+    → (name_of first ≡ soap_name (codes "Body") → IsSpaced q none → ⊥) → Outlined p None
+no_outline_here p first q s h k header body o = elim (outline_cases p header body o) as (λ _. ⊥) [
+  | inl l ↦ no_body_here p first q s k body l.1
+  | inr r ↦ h (ap name_of (sym (one_child p r.0 first r.1 q r.3 s).0) ∙ r.4)
+]

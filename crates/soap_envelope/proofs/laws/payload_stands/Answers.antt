@@ -1,0 +1,5 @@
+use Rattle.soap_envelope.proofs.Placed
+use Rattle.soap_envelope.proofs.laws.payload_stands.Goals as goal
+
+pub returns : goal.returns
+returns c = Placed.payload_stands

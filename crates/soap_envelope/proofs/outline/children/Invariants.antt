@@ -1,0 +1,11 @@
+use Rattle.std.proofs.Common.{◌≡◌, ◌++◌, map}
+use Rattle.std.specs.Vec.Iter.{into_iter_items}
+use Rattle.soap_profile.specs.View.{element_view, parts_view}
+use Rattle.soap_envelope.specs.Envelope.{children_of}
+use Rattle.soap_envelope.proofs.outline.children.Given as goal
+
+-- the elements so far, and those of what is left
+abbrev pub invariant-loop-part : goal.invariant-loop-part
+invariant-loop-part l =
+    map element_view l.items.items ++ children_of (parts_view (into_iter_items l.part-iterator))
+    ≡ children_of (parts_view l.fn.parts.items)

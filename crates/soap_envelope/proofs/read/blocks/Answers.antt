@@ -1,0 +1,16 @@
+use Rattle.std.proofs.Common.{map, ◌∙◌}
+use Rattle.soap_profile.specs.View.{element_view, parts_view}
+use Rattle.soap_envelope.proofs.Envelopes.{no_blocks, some_blocks}
+use Rattle.soap_envelope.proofs.read.blocks.Goals as goal
+
+pub returns-in_default : goal.returns-in_default
+returns-in_default c =
+    no_blocks c.args.outer.now c.args.header c.new-items.result.items c.new.result c.in_default.is
+    c.new-items.ensures.items c.new.ensures
+
+pub returns : goal.returns
+returns c =
+    some_blocks c.args.outer.now c.args.header c.in-Some.header (map element_view c.in_ok-children.field-0.items.items)
+    (parts_view c.taken_apart-decls.result.parts.items) c.as_slice.result.now c.in_ok-scope.scope c.in-Some.is
+    c.in_ok-children.ensures c.taken_apart-decls.ensures.parts
+    (c.as_slice.ensures ∙ c.taken_apart-decls.ensures.decls) c.in_ok-scope.ensures

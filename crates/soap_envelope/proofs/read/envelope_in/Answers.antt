@@ -1,0 +1,46 @@
+use Rattle.std.proofs.Common.{◌≡◌, List, option_map, map, codes, sym, subst, ◌∙◌}
+use Rattle.soap_profile.specs.Tree.{Binding, Parts}
+use Rattle.soap_profile.specs.View.{element_view}
+use Rattle.soap_envelope.specs.Envelope.{soap_name, soap_space, name_of, IsOutline, IsHeader}
+use Rattle.soap_envelope.specs.View.{envelope_view}
+use Rattle.soap_envelope.proofs.Envelopes.{is_envelope, name_is, same_slices}
+use Rattle.soap_envelope.proofs.Placed.{IsInside, place_inside, has_last}
+use Rattle.soap_envelope.proofs.read.envelope_in.Goals as goal
+
+pub unreachable-requires : goal.unreachable-requires
+unreachable-requires c =
+    has_last c.args.last (option_map element_view c.in-Some.header) (element_view c.in-Some.body) c.requires
+    (subst (λ (ps : Parts). IsOutline ps (option_map element_view c.in-Some.header) (element_view c.in-Some.body))
+    c.taken_apart-name.ensures.parts c.in-Some.ensures) c.in_default-last.is
+
+pub content-requires : goal.content-requires
+content-requires c =
+    let inside : IsInside c.args.bytes.now c.in-Some-last.place = place_inside c.args.last c.in-Some-last.place
+    c.in-Some-last.is c.requires in record { low = inside.low; high = inside.high }
+
+pub returns : goal.returns
+returns c =
+    let tree = element_view c.args.root in
+    let header = option_map element_view c.in-Some.header in
+    let body = element_view c.in-Some.body in
+    let local : c.taken_apart-name.result.name.local ≡ codes "Envelope" = sym c.as_slice.ensures
+    ∙ same_slices c.as_slice.result.now c.as_slice-2.result.now c.ne.result c.ne.ensures c.if-ne.false
+    ∙ c.as_slice-2.ensures in
+    let space : c.taken_apart-name.result.name.space ≡ soap_space = sym c.as_slice-3.ensures
+    ∙ same_slices c.as_slice-3.result.now soap_space c.ne-2.result c.ne-2.ensures c.if-ne-2.false in
+    let named : name_of tree ≡ soap_name (codes "Envelope") = sym c.taken_apart-name.ensures.name ∙ name_is
+    c.taken_apart-name.result.name soap_space (codes "Envelope") space local in
+    is_envelope c.args.bytes.now tree c.args.last c.in-Some-last.place header body c.as_slice-5.result.now
+    (envelope_view
+    (record {
+      headers = c.in_ok-headers.headers;
+      header_scope = c.in_ok-headers.header_scope;
+      payload = c.in_ok-payload.payload;
+      body = c.in_ok-payload.body;
+    })) c.requires c.in-Some-last.is named
+    (subst (λ (ps : Parts). IsOutline ps header body) c.taken_apart-name.ensures.parts c.in-Some.ensures)
+    (c.as_slice-5.ensures ∙ c.taken_apart-name.ensures.decls)
+    (subst (λ (ds : List Binding). IsHeader ds header (map element_view c.in_ok-headers.headers.items.items)
+    c.in_ok-headers.header_scope) (c.as_slice-4.ensures ∙ sym c.as_slice-5.ensures) c.in_ok-headers.ensures)
+    c.in_ok-payload.ensures.bytes
+    c.in_ok-payload.ensures.scope c.in_ok-payload.ensures.content

@@ -1,0 +1,5 @@
+pub mod Envelope
+pub mod Refusals
+pub mod Scope
+pub mod Steps
+pub mod View

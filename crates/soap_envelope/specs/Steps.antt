@@ -1,0 +1,84 @@
+-- What the functions below the reader answer.
+use Rattle.std.specs.Prelude.{◌≡◌, ℕ, List, [], ◌∷◌, ◌++◌, not, ◌&&◌, if◌then◌else◌, Option, Some, None, Result, Ok, Err, option_map, codes, ⊤}
+use Rattle.std.specs.Borrow.{Bor}
+use Rattle.std.specs.BTreeMap.{BTreeMap, get_by}
+use Rattle.std.specs.Cmp.Lexicographic.{slice_cmp}
+use Rattle.std.specs.Ordering.{nat_cmp}
+use Rattle.std.specs.declared.cmp.Ordering.{Ordering}
+use Rattle.std.specs.Str.{bytes_eq}
+use Rattle.soap_document.specs.Grammar.{IsWhite}
+use Rattle.soap_document.specs.Tokens.{is_nil}
+use Rattle.soap_profile.specs.Namespaces.{bound}
+use Rattle.soap_profile.specs.Tree.{Binding, Element, Parts, none, text, child}
+use Rattle.soap_profile.specs.View.{element_view}
+use Rattle.soap_profile.specs.declared.tree.Element.{Element as CodeElement}
+use Rattle.soap_profile.specs.declared.error.EnvelopeError.{EnvelopeError}
+use Rattle.soap_profile.specs.declared.error.EnvelopeError.TheVariants as Error
+use Rattle.soap_envelope.specs.Envelope.{IsEnvelope, IsSpaced, IsBodyAlone, IsOutline}
+use Rattle.soap_envelope.specs.Refusals.{WrongVersion, NotEnvelope}
+use Rattle.soap_envelope.specs.View.{envelope_view}
+use Rattle.soap_envelope.specs.declared.envelope.Envelope.{Envelope}
+use Rattle.soap_envelope.specs.declared.outline.Next.{Next}
+use Rattle.soap_envelope.specs.declared.outline.Next.TheVariants.{Child, Text, End}
+
+abbrev pub Lent : Type 0
+Lent = Bor (List ℕ)
+
+abbrev pub lent_cmp : Lent → Lent → Ordering
+lent_cmp x y = slice_cmp nat_cmp x.now y.now
+
+-- the map binds each prefix as the bindings do
+abbrev pub Binds : BTreeMap Lent Lent → List Binding → Type 0
+Binds map bindings = (prefix : List ℕ)
+    → option_map (λ (s : Lent). s.now) (get_by (λ k. slice_cmp nat_cmp prefix k.now) map) ≡ bound prefix bindings
+
+-- a prefix and its namespace, unless the prefix is xml or undeclared
+abbrev pub kept_one : List ℕ → List ℕ → List Binding
+kept_one prefix space = if not (bytes_eq prefix (codes "xml")) && not (is_nil space)
+    then record { prefix = prefix; space = space } ∷ [] else []
+
+abbrev pub kept : List (Lent × Lent) → List Binding
+kept [] = []
+kept (e ∷ entries) = kept_one e.0.now e.1.now ++ kept entries
+
+-- what comes next among parts, and the parts behind it
+abbrev pub Comes : Parts → Next → Parts → Type 0
+Comes parts (Child e) rest = parts ≡ child (element_view e) rest
+Comes parts (Text bytes) rest = parts ≡ text bytes rest
+Comes parts End rest = parts ≡ none
+
+abbrev pub IsSpacing : Next → Type 0
+IsSpacing (Child e) = ⊥
+IsSpacing (Text bytes) = IsWhite bytes
+IsSpacing End = ⊥
+
+-- neither an element nor the end comes next, but white space
+pub record IsOther (parts : Parts) : Type 0 where
+  pub child : (first : Element) (rest : Parts) → IsSpaced parts (child first rest) → ⊥
+  pub end : IsSpaced parts none → ⊥
+
+-- what comes next among parts but white space, and the parts behind it
+abbrev pub Follows : Parts → Next → Parts → Type 0
+Follows parts (Child e) rest = IsSpaced parts (child (element_view e) rest)
+Follows parts (Text bytes) rest = IsOther parts
+Follows parts End rest = IsSpaced parts none
+
+-- the Body among these parts, if nothing else is there
+abbrev pub BodyFound : Parts → Option CodeElement → Type 0
+BodyFound parts None = (body : Element) → IsBodyAlone parts body → ⊥
+BodyFound parts (Some body) = IsBodyAlone parts (element_view body)
+
+-- the Header and the Body among these parts, if they are an outline
+abbrev pub Outlined : Parts → Option (Option CodeElement × CodeElement) → Type 0
+Outlined parts None = (header : Option Element) (body : Element) → IsOutline parts header body → ⊥
+Outlined parts (Some found) = IsOutline parts (option_map element_view found.0) (element_view found.1)
+
+-- the envelope that the bytes are, or why they are none
+abbrev pub Answers : List ℕ → Result Envelope EnvelopeError → Type 0
+Answers bytes (Ok envelope) = IsEnvelope bytes (envelope_view envelope)
+Answers bytes (Err Error.Memory) = ⊤
+Answers bytes (Err (Error.TooLong len)) = ⊥
+Answers bytes (Err (Error.NotUtf8 place)) = ⊥
+Answers bytes (Err Error.NotProfile) = ⊥
+Answers bytes (Err Error.WrongVersion) = WrongVersion bytes
+Answers bytes (Err Error.NotEnvelope) = NotEnvelope bytes

@@ -1,0 +1,7 @@
+pub mod Loops
+pub mod Prefixes
+pub mod Raws
+pub mod Expands
+pub mod Apart
+pub mod Back
+pub mod Framed

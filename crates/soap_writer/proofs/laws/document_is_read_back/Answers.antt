@@ -1,0 +1,5 @@
+use Rattle.soap_writer.proofs.Back.{document_back}
+use Rattle.soap_writer.proofs.laws.document_is_read_back.Goals as goal
+
+pub returns : goal.returns
+returns c = document_back

@@ -1,0 +1,174 @@
+// The pieces of a start tag. Each writer appends its piece, up to a want of memory.
+ghost use Rattle.std.specs.Prelude.{◌≡◌, [], ◌++◌, codes, OnOk, OnErr};
+ghost use Rattle.std.specs.Str.{bytes_eq};
+ghost use Rattle.soap_document.specs.Grammar.{start_tag, end_tag};
+ghost use Rattle.soap_document.specs.Tokens.{is_nil};
+ghost use Rattle.soap_profile.specs.Namespaces.{xml_space};
+ghost use Rattle.soap_lex.specs.Escapes.{escaped_text, escaped_value};
+ghost use Rattle.soap_writer.specs.ElementText.{quoted, written_name, declaration, attribute_text, attributes_text, mark, tag_text};
+ghost use Rattle.soap_writer.specs.Steps.{Grows, prefix_text};
+
+use itoa::Buffer;
+use rm_base::Memory;
+use soap_lex::{write_attr, write_text};
+use soap_profile::{Attr, Name};
+
+const XML_SPACE: &[u8] = b"http://www.w3.org/XML/1998/namespace";
+
+// the prefix that the namespace of a name is bound to
+#[derive(Clone, Copy, Debug)]
+enum Prefix {
+    OfElement,
+    OfAttribute(usize),
+}
+
+fn push(bytes: &[u8], out: &mut Vec<u8>) -> Result<(), Memory>
+    ensures ok { OnOk result (out.new.items ≡ out.old.items ++ bytes.now) }
+    ensures err { OnErr result (out.new.items ≡ out.old.items) }
+{
+    out.extend_from_slice(bytes)?;
+    Ok(())
+}
+
+fn push_prefix(prefix: Prefix, out: &mut Vec<u8>) -> Result<(), Memory>
+    ensures ok { OnOk result (out.new.items ≡ out.old.items ++ prefix_text prefix) }
+    ensures err { OnErr result (Grows out.old.items out.new.items) }
+{
+    match prefix {
+        Prefix::OfElement => push(b"n", out),
+        Prefix::OfAttribute(i) => {
+            push(b"q", out)?;
+            push(Buffer::new().format(i).as_bytes(), out)
+        }
+    }
+}
+
+fn push_quoted(value: &[u8], out: &mut Vec<u8>) -> Result<(), Memory>
+    ensures ok { OnOk result (out.new.items ≡ out.old.items ++ quoted value.now) }
+    ensures err { OnErr result (Grows out.old.items out.new.items) }
+{
+    push(b"\"", out)?;
+    push_value(value, out)?;
+    push(b"\"", out)
+}
+
+fn push_value(value: &[u8], out: &mut Vec<u8>) -> Result<(), Memory>
+    ensures ok { OnOk result (out.new.items ≡ out.old.items ++ escaped_value value.now) }
+    ensures err { OnErr result (out.new.items ≡ out.old.items) }
+{
+    match write_attr(value, out) {
+        Ok(()) => Ok(()),
+        Err(_) => Err(Memory),
+    }
+}
+
+pub(crate) fn push_text(text: &[u8], out: &mut Vec<u8>) -> Result<(), Memory>
+    ensures ok { OnOk result (out.new.items ≡ out.old.items ++ escaped_text text.now) }
+    ensures err { OnErr result (out.new.items ≡ out.old.items) }
+{
+    match write_text(text, out) {
+        Ok(()) => Ok(()),
+        Err(_) => Err(Memory),
+    }
+}
+
+// in no namespace
+fn is_bare(name: &Name) -> bool
+    ensures { result ≡ is_nil name.now.space }
+{
+    name.space.is_empty()
+}
+
+fn is_of_xml(name: &Name) -> bool
+    ensures { result ≡ bytes_eq name.now.space xml_space }
+{
+    name.space.as_slice() == XML_SPACE
+}
+
+fn push_name(prefix: Prefix, name: &Name, out: &mut Vec<u8>) -> Result<(), Memory>
+    ensures ok { OnOk result (out.new.items ≡ out.old.items ++ written_name (prefix_text prefix) name.now) }
+    ensures err { OnErr result (Grows out.old.items out.new.items) }
+{
+    if is_bare(name) {
+        return push(name.local.as_slice(), out);
+    }
+    if is_of_xml(name) {
+        push(b"xml:", out)?;
+        return push(name.local.as_slice(), out);
+    }
+    push_prefix(prefix, out)?;
+    push(b":", out)?;
+    push(name.local.as_slice(), out)
+}
+
+fn push_declaration(prefix: Prefix, name: &Name, out: &mut Vec<u8>) -> Result<(), Memory>
+    ensures ok { OnOk result (out.new.items ≡ out.old.items ++ declaration (prefix_text prefix) name.now) }
+    ensures err { OnErr result (Grows out.old.items out.new.items) }
+{
+    if is_bare(name) || is_of_xml(name) {
+        return Ok(());
+    }
+    push(b" xmlns:", out)?;
+    push_prefix(prefix, out)?;
+    push(b"=", out)?;
+    push_quoted(name.space.as_slice(), out)
+}
+
+fn push_attribute(prefix: Prefix, attr: &Attr, out: &mut Vec<u8>) -> Result<(), Memory>
+    ensures ok { OnOk result (out.new.items ≡ out.old.items ++ attribute_text (prefix_text prefix) attr.now) }
+    ensures err { OnErr result (Grows out.old.items out.new.items) }
+{
+    push_declaration(prefix, &attr.name, out)?;
+    push(b" ", out)?;
+    push_name(prefix, &attr.name, out)?;
+    push(b"=", out)?;
+    push_quoted(attr.value.as_slice(), out)
+}
+
+fn push_attributes(attrs: &[Attr], out: &mut Vec<u8>) -> Result<(), Memory>
+    ensures ok { OnOk result (out.new.items ≡ out.old.items ++ attributes_text 0 attrs.now) }
+    ensures err { OnErr result (Grows out.old.items out.new.items) }
+{
+    for (i, attr) in attrs.iter().enumerate() {
+        push_attribute(Prefix::OfAttribute(i), attr, out)?;
+    }
+    Ok(())
+}
+
+fn push_mark(marked: bool, out: &mut Vec<u8>) -> Result<(), Memory>
+    ensures ok { OnOk result (out.new.items ≡ out.old.items ++ mark marked) }
+    ensures err { OnErr result (Grows out.old.items out.new.items) }
+{
+    if marked {
+        push(b" a:IsReferenceParameter=\"true\"", out)
+    } else {
+        Ok(())
+    }
+}
+
+pub(crate) fn push_start_tag(
+    name: &Name,
+    marked: bool,
+    attrs: &[Attr],
+    out: &mut Vec<u8>,
+) -> Result<(), Memory>
+    ensures ok { OnOk result (out.new.items ≡ out.old.items
+        ++ start_tag (written_name (codes "n") name.now) (tag_text marked name.now attrs.now)) }
+    ensures err { OnErr result (Grows out.old.items out.new.items) }
+{
+    push(b"<", out)?;
+    push_name(Prefix::OfElement, name, out)?;
+    push_declaration(Prefix::OfElement, name, out)?;
+    push_mark(marked, out)?;
+    push_attributes(attrs, out)?;
+    push(b">", out)
+}
+
+pub(crate) fn push_end_tag(name: &Name, out: &mut Vec<u8>) -> Result<(), Memory>
+    ensures ok { OnOk result (out.new.items ≡ out.old.items ++ end_tag (written_name (codes "n") name.now) []) }
+    ensures err { OnErr result (Grows out.old.items out.new.items) }
+{
+    push(b"</", out)?;
+    push_name(Prefix::OfElement, name, out)?;
+    push(b">", out)
+}
