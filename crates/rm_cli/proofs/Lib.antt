@@ -1,1 +1,3 @@
+pub mod CheckLemmas
 pub mod RunLemmas
+pub mod WordLemmas

@@ -1,2 +1,6 @@
+pub mod Check
+pub mod Edge
+pub mod Replay
 pub mod Run
 pub mod Status
+pub mod Texts

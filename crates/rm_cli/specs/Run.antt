@@ -1,65 +1,59 @@
--- What a run of `wsrm replay` is, and what each status says.
-use Rattle.std.specs.Prelude.{◌≡◌, ℕ, ◌+◌, ◌<◌, ◌≤◌, ◌⊎◌, List, [], ◌∷◌, length, Option, None, Some, IfSome, codes}
-use Rattle.std.specs.Io.KnownBytes.{Appends}
-use Rattle.rm_base.specs.Outside.{AppendsFront}
-use Rattle.rm_world.specs.declared.event.Event.{Event}
-use Rattle.rm_world.specs.Replay.{report_of, IsCutShort}
-use Rattle.rm_world.specs.Script.{lines_of, IsScript, IsFirstBad}
-use Rattle.rm_world.specs.Word.{EachReleases}
-use Rattle.rm_world.specs.World.{World, run}
+-- What the words ask for, and what a run of them is.
+use Rattle.std.specs.Prelude.{◌≡◌, ◌≢◌, ℕ, List, [], ◌∷◌, Option, Some, None, codes}
+use Rattle.rm_world.specs.World.{World}
+use Rattle.rm_cli.specs.declared.run.Command.{Command}
+use Rattle.rm_cli.specs.declared.run.Command.TheVariants.{Replay, Check}
+use Rattle.rm_cli.specs.declared.end.End.{End}
+use Rattle.rm_cli.specs.declared.end.End.TheVariants.{Usage}
+use Rattle.rm_cli.specs.Check.{EndsCheck, most_of_envelope}
+use Rattle.rm_cli.specs.Edge.{Input, Output, TookWithin, WasSaid}
+use Rattle.rm_cli.specs.Replay.{EndsReplay, most_of_script}
+use Rattle.rm_cli.specs.Texts.{line_of}
 
--- the one command there is
-abbrev pub IsReplay : List (List ℕ) → Type 0
-IsReplay words = words ≡ codes "replay" ∷ []
+-- the one word replay
+abbrev pub AsksReplay : List (List ℕ) → Type 0
+AsksReplay words = words ≡ codes "replay" ∷ []
 
--- how many bytes a script has at most
-abbrev pub most_bytes : ℕ
-most_bytes = 65536
+-- the one word check
+abbrev pub AsksCheck : List (List ℕ) → Type 0
+AsksCheck words = words ≡ codes "check" ∷ []
 
--- bytes that are all that was left, where that was known
-abbrev pub IsAllOf : Option (List ℕ) → List ℕ → Type 0
-IsAllOf left bytes = IfSome left (λ all. bytes ≡ all)
+-- other words, or none
+abbrev pub AsksNothing : List (List ℕ) → Type 0
+AsksNothing words = ¬ (AsksReplay words) × ¬ (AsksCheck words)
 
--- a script, read whole: its bytes, and what its lines say
-pub record IsRead (left : Option (List ℕ)) (bytes : List ℕ) (events : List Event) : Type 0 where
-  pub whole : IsAllOf left bytes
-  pub short : length bytes ≤ most_bytes
-  pub script : IsScript (lines_of bytes) events
+-- the command that the words ask for
+abbrev pub Asks : List (List ℕ) → Option Command → Type 0
+Asks words None = AsksNothing words
+Asks words (Some Replay) = AsksReplay words
+Asks words (Some Check) = AsksCheck words
 
--- the stage is the run of all lines, and each message that is new and near was recorded and released by its line
-pub record IsRun (events : List Event) (old new : World) : Type 0 where
-  pub run : new ≡ run events old
-  pub releases : EachReleases events old
+-- the command with a name
+abbrev pub IsNamed : List ℕ → Option Command → Type 0
+IsNamed word None = (word ≢ codes "replay") × (word ≢ codes "check")
+IsNamed word (Some Replay) = word ≡ codes "replay"
+IsNamed word (Some Check) = word ≡ codes "check"
 
--- a run whose report was written
-pub record Replayed (left : Option (List ℕ)) (old new : World) (held held' : Option (List ℕ)) : Type 0 where
-  pub bytes : List ℕ
-  pub events : List Event
-  pub read : IsRead left bytes events
-  pub ran : IsRun events old new
-  pub report : Appends held held' (report_of events old)
+-- a run of replay
+pub record RunsReplay {S K : Type 0} (end : End) (i i' : Input S) (o o' : Output K) (w w' : World) : Type 0 where
+  pub ends : EndsReplay end i i' o o' w w'
+  pub taken : TookWithin most_of_script end i i'
 
--- a run whose report was not written to its end
-pub record NotWritten (left : Option (List ℕ)) (old new : World) (held held' : Option (List ℕ)) : Type 0 where
-  pub bytes : List ℕ
-  pub events : List Event
-  pub read : IsRead left bytes events
-  pub ran : IsRun events old new
-  pub report : AppendsFront held held' (report_of events old)
+-- a run of check
+pub record RunsCheck {S K : Type 0} (end : End) (i i' : Input S) (o o' : Output K) : Type 0 where
+  pub ends : EndsCheck end i i' o o'
+  pub taken : TookWithin most_of_envelope end i i'
 
--- a run that found no memory: some first lines were run, and of the next one perhaps the record without its packet, and
--- some first bytes of the report were written
-pub record RanOut (left : Option (List ℕ)) (old new : World) (held held' : Option (List ℕ)) : Type 0 where
-  pub bytes : List ℕ
-  pub events : List Event
-  pub read : IsRead left bytes events
-  pub cut : IsCutShort events old new
-  pub report : AppendsFront held held' (report_of events old)
+-- the words are refused, and nothing was read
+pub record RunsNothing {S K : Type 0} (end : End) (i i' : Input S) (o o' : Output K) : Type 0 where
+  pub usage : end ≡ Usage
+  pub unread : i' ≡ i
+  pub said : WasSaid o o' (line_of Usage)
 
--- the input is no script: this line is the first bad one
-pub record IsBad (left : Option (List ℕ)) : Type 0 where
-  pub bytes : List ℕ
-  pub whole : IsAllOf left bytes
-  pub short : length bytes ≤ most_bytes
-  pub line : ℕ
-  pub bad : IsFirstBad (lines_of bytes) line
+-- what a run did, by its words and how it ended; only replay changes the stage
+pub record Runs {S K : Type 0} (words : List (List ℕ)) (end : End) (i i' : Input S) (o o' : Output K) (w w' : World)
+    : Type 0 where
+  pub replay : AsksReplay words → RunsReplay end i i' o o' w w'
+  pub check : AsksCheck words → RunsCheck end i i' o o'
+  pub nothing : AsksNothing words → RunsNothing end i i' o o'
+  pub stage : ¬ (AsksReplay words) → w' ≡ w

@@ -1,50 +1,59 @@
 //! The program wsrm. `wsrm replay` reads a script from standard input, plays it over one preset sequence from node 1 to
-//! node 2, and prints the report. It stands on rm_world; `run` is the whole program over any input and output.
+//! node 2, and prints the report. `wsrm check` reads an envelope, and prints its number of header blocks, its payload and the
+//! bindings in force there. It stands on rm_world and soap_envelope; `run` is the whole program over any input and output.
 #![tactic(auto)]
 
-use rm_base::{Blob, Items, StdSink, StdSource};
+ghost use Rattle.std.specs.Prelude.{◌≡◌, IfOk, map};
+ghost use Rattle.std.specs.String.{string_bytes};
+ghost use Rattle.std.specs.Vec.Iter.{into_iter_items};
+
+use end::End;
+use rm_base::{Blob, Items, Memory, StdSink, StdSource};
 use run::run;
+use std::alloc::Global;
+use std::env;
 use std::io::ErrorKind;
 use std::process::ExitCode;
-use std::{env, io};
 
+mod check;
+mod end;
+mod replay;
 mod run;
 #[cfg(test)]
 mod tests;
 
 fn main(rt: HostRuntime) -> ExitCode {
-    let status = match given_words(&rt) {
-        Ok(words) => {
+    // An argument that isn't UTF-8 is handed out by none of std's calls: there are no words then, which is no command.
+    let given = match env::args(&rt) {
+        Ok(args) => texts_of(rt.alloc(), args),
+        Err(error) => match error.kind() {
+            ErrorKind::InvalidData => Ok(Items::new(rt.alloc())),
+            _ => Err(Memory),
+        },
+    };
+    let status = match given {
+        Ok(given) => {
+            let words = match given.as_slice().split_first() {
+                Some((_program, words)) => words,
+                None => &[],
+            };
             let mut input = StdSource::new(rt.stdin());
             let mut out = StdSink::new(rt.stdout());
             let mut stage = rm_world::preset_stage(rt.alloc());
-            run(
-                rt.alloc(),
-                words.as_slice(),
-                &mut input,
-                &mut out,
-                &mut stage,
-            )
+            run(rt.alloc(), words, &mut input, &mut out, &mut stage)
         }
-        Err(error) => match error.kind() {
-            ErrorKind::InvalidData => run::USAGE,
-            _ => run::MEMORY,
-        },
+        Err(Memory) => End::Memory.status(),
     };
     ExitCode::from(status)
 }
 
-// The words after the program's name. One that isn't UTF-8 is invalid data.
-fn given_words(rt: &HostRuntime) -> io::Result<Items<Blob>> {
-    let mut words = Items::new(rt.alloc());
-    for word in env::args(rt)?.skip(1) {
-        let word = match Blob::from_slice(rt.alloc(), word.as_bytes()) {
-            Ok(word) => word,
-            Err(_) => return Err(io::Error::from(ErrorKind::OutOfMemory)),
-        };
-        if words.push(word).is_err() {
-            return Err(io::Error::from(ErrorKind::OutOfMemory));
-        }
+// The texts that were given, of which the first is the program's name.
+fn texts_of(alloc: Global, given: env::Args) -> Result<Items<Blob>, Memory>
+    ensures { IfOk result (λ texts. texts ≡ map string_bytes (into_iter_items given)) }
+{
+    let mut texts = Items::new(alloc);
+    for text in given {
+        texts.push(Blob::from_slice(alloc, text.as_bytes())?)?;
     }
-    Ok(words)
+    Ok(texts)
 }

@@ -1,51 +1,64 @@
-// What no clause says: the reports of worked scripts, and that ample memory gives each status where its cause holds.
+// What no clause says: the texts of worked runs, and that ample memory gives each status where its cause holds.
 ghost use Rattle.std.specs.Prelude.{None};
 
-use crate::run::{BAD_SCRIPT, DONE, READ_FAULT, TOO_LONG, USAGE, WRITE_FAULT, run};
+use crate::run::run;
 use rm_base::{Blob, Items, MemSink, MemSource, Memory, Numbers, Sink, SinkError};
 use rm_world::preset_stage;
 use std::alloc::Global;
 use std::test::Fail;
 
-// A run's status, what it wrote, and whether it left the stage as it was.
-#[derive(Debug, Drop)]
-struct Ended {
-    status: u8,
-    written: Blob,
-    is_untouched: bool,
+// What is asked of a run. The read with the number `failing` fails, where there is one; reads count from 0.
+#[derive(Clone, Copy, Debug)]
+struct Asked<'a> {
+    words: &'a [&'a [u8]],
+    input: &'a [u8],
+    failing: Option<u64>,
 }
 
-// Runs the program on its words and a script. The read with this number fails, where there is one.
-fn run_once(
-    alloc: Global,
-    words: &[&[u8]],
-    script: &[u8],
-    failing: Option<u64>,
-) -> Result<Ended, Memory> {
-    let mut given = Items::new(alloc);
-    for word in words {
-        given.push(Blob::from_slice(alloc, word)?)?;
+fn given<'a>(words: &'a [&'a [u8]], input: &'a [u8], failing: Option<u64>) -> Asked<'a> {
+    Asked {
+        words,
+        input,
+        failing,
+    }
+}
+
+const NOTHING: &[&[u8]] = &[];
+
+const REPLAY: &[&[u8]] = &[b"replay"];
+
+const CHECK: &[&[u8]] = &[b"check"];
+
+const USAGE: &[u8] = b"usage: wsrm check,replay,soak,make,serve,send,push,close,end,inbox,policy\n";
+
+// Runs the program, and answers its status and how many packets were sent.
+fn run_on<K: Sink>(alloc: Global, given: Asked<'_>, out: &mut K) -> Result<(u8, usize), Memory> {
+    let mut words = Items::new(alloc);
+    for word in given.words {
+        words.push(Blob::from_slice(alloc, word)?)?;
     }
     let mut fail_at = Numbers::new(alloc);
-    if let Some(number) = failing {
+    if let Some(number) = given.failing {
         fail_at.insert(number.saturating_add(1))?;
     }
-    let mut input = MemSource::new(Blob::from_slice(alloc, script)?, fail_at);
-    let mut out = MemSink::new(alloc, Numbers::new(alloc));
+    let mut input = MemSource::new(Blob::from_slice(alloc, given.input)?, fail_at);
     let mut stage = preset_stage(alloc);
-    let status = run(alloc, given.as_slice(), &mut input, &mut out, &mut stage);
-    Ok(Ended {
-        status,
-        written: Blob::from_slice(alloc, out.as_slice())?,
-        is_untouched: stage.packets.is_empty() && stage.one == 0 && stage.two == 0,
-    })
+    let status = run(alloc, words.as_slice(), &mut input, out, &mut stage);
+    Ok((status, stage.packets.len()))
 }
 
-// A line so many times.
-fn repeated(alloc: Global, line: &[u8], count: u32) -> Result<Blob, Memory> {
+// The status of a run, and what it wrote.
+fn run_whole(alloc: Global, given: Asked<'_>) -> Result<(u8, MemSink), Memory> {
+    let mut out = MemSink::new(alloc, Numbers::new(alloc));
+    let (status, _packets) = run_on(alloc, given, &mut out)?;
+    Ok((status, out))
+}
+
+// A piece so many times.
+fn repeated(alloc: Global, piece: &[u8], count: u32) -> Result<Blob, Memory> {
     let mut bytes = Blob::new(alloc);
     for _ in 0..count {
-        bytes.push_all(line)?;
+        bytes.push_all(piece)?;
     }
     Ok(bytes)
 }
@@ -86,45 +99,103 @@ fn reports(rt: HostRuntime) -> Result<(), Fail> {
             b"1024 ok 1024 0 1024\n1025 refused WindowFull 1024 0 1024\nout 1 1 open accepted 1024 acked -\nin 2 1 open dfg received - inbox 0 discarded 0\n",
         ),
     ];
-    for (script, report) in cases {
-        let end = run_once(rt.alloc(), &[b"replay".as_slice()], script, None)?;
-        assert_eq!(rt; end.status, DONE, "at {script:?}");
-        if script.len() < 11275 {
-            assert_eq!(rt; end.written.as_slice(), report);
+    for (input, report) in cases {
+        let (status, out) = run_whole(rt.alloc(), given(REPLAY, input, None))?;
+        assert_eq!(rt; status, 0, "at {input:?}");
+        if input.len() < 11275 {
+            assert_eq!(rt; out.as_slice(), report);
         } else {
-            assert!(rt; end.written.as_slice().ends_with(report), "at the end");
+            assert!(rt; out.as_slice().ends_with(report), "at the end");
         }
     }
     Ok(())
 }
 
 #[test]
-fn refusals(rt: HostRuntime) -> Result<(), Fail> {
-    let long = repeated(rt.alloc(), b"#######\n", 8192)?;
+fn limits(rt: HostRuntime) -> Result<(), Fail> {
+    let script = repeated(rt.alloc(), b"#######\n", 8192)?;
     let mut longer = repeated(rt.alloc(), b"#######\n", 8192)?;
     longer.push_all(b"#")?;
-    let replay: &[&[u8]] = &[b"replay"];
-    let cases: [(&[&[u8]], &[u8], Option<u64>, u8); 14] = [
-        (&[], ROW, None, USAGE),
-        (&[b"replay", b"x"], ROW, None, USAGE),
-        (&[b"repaly"], ROW, None, USAGE),
-        (&[b"replay "], ROW, None, USAGE),
-        (&[b"\xff"], ROW, None, USAGE),
-        (replay, b"send 1 1\n", None, BAD_SCRIPT),
-        (replay, b"send 1 1 x\ndeliver 0", None, BAD_SCRIPT),
-        (replay, long.as_slice(), None, DONE),
-        (replay, longer.as_slice(), None, TOO_LONG),
-        (replay, long.as_slice(), Some(0), READ_FAULT),
-        (replay, long.as_slice(), Some(7), READ_FAULT),
-        (replay, long.as_slice(), Some(16), READ_FAULT),
-        (replay, long.as_slice(), Some(17), DONE),
-        (replay, longer.as_slice(), Some(17), TOO_LONG),
+    let too_long: &[u8] = b"too long\n";
+    let read_fault: &[u8] = b"read fault\n";
+    // the read that fails, and what comes then
+    let cases: [(&[u8], Option<u64>, u8, &[u8]); 6] = [
+        (script.as_slice(), None, 0, b""),
+        (longer.as_slice(), None, 8, too_long),
+        (script.as_slice(), Some(0), 4, read_fault),
+        (script.as_slice(), Some(16), 4, read_fault),
+        (script.as_slice(), Some(17), 0, b""),
+        (longer.as_slice(), Some(17), 8, too_long),
     ];
-    for (words, script, failing, status) in cases {
-        let end = run_once(rt.alloc(), words, script, failing)?;
-        assert_eq!(rt; end.status, status, "of {words:?} with {failing:?}");
-        assert!(rt; end.is_untouched);
-        assert_eq!(rt; end.written.is_empty(), status != DONE);
+    for (input, failing, want, line) in cases {
+        let (status, out) = run_whole(rt.alloc(), given(REPLAY, input, failing))?;
+        assert_eq!(rt; status, want, "with {failing:?}");
+        if want != 0 {
+            assert_eq!(rt; out.as_slice(), line);
+        }
+    }
+    Ok(())
+}
+
+const ENVELOPE: &[u8] =
+    b"<?xml version=\"1.0\" encoding=\"UTF-8\"?><!-- x --><S:Envelope xmlns:S='http://www.w3.org/2003/05/soap-envelope' xmlns:wsa=\"http://www.w3.org/2005/08/addressing\" xmlns:rm=\"http://docs.oasis-open.org/ws-rx/wsrm/200702\" xmlns:o=\"urn:o\"><S:Header><wsa:Action S:mustUnderstand=\"1\">urn:buy&amp;sell</wsa:Action><rm:Sequence S:mustUnderstand=\"1\"><rm:Identifier>urn:q</rm:Identifier><rm:MessageNumber> 07 </rm:MessageNumber></rm:Sequence></S:Header><S:Body><o:x/></S:Body></S:Envelope>";
+
+const ENVELOPE_TEXT: &[u8] =
+    b"headers 2\npayload 3c6f3a782f3e\nscope S http://www.w3.org/2003/05/soap-envelope\nscope o urn:o\nscope rm http://docs.oasis-open.org/ws-rx/wsrm/200702\nscope wsa http://www.w3.org/2005/08/addressing\n";
+
+// A small envelope whose payload is so many spaces.
+fn padded(alloc: Global, spaces: u32) -> Result<Blob, Memory> {
+    let mut bytes = Blob::from_slice(
+        alloc,
+        b"<Envelope xmlns=\"http://www.w3.org/2003/05/soap-envelope\"><Body>",
+    )?;
+    bytes.push_all(repeated(alloc, b" ", spaces)?.as_slice())?;
+    bytes.push_all(b"</Body></Envelope>")?;
+    Ok(bytes)
+}
+
+#[test]
+fn checks(rt: HostRuntime) -> Result<(), Fail> {
+    let longest = padded(rt.alloc(), 2097070)?;
+    let longer = padded(rt.alloc(), 2097071)?;
+    let cut = ENVELOPE.split_at(ENVELOPE.len() - 1).0;
+    // the bytes, the status, and how what is printed ends
+    let cases: [(&[u8], u8, &[u8]); 10] = [
+        (ENVELOPE, 0, ENVELOPE_TEXT),
+        (
+            longest.as_slice(),
+            0,
+            b"2020\nscope  http://www.w3.org/2003/05/soap-envelope\n",
+        ),
+        (longer.as_slice(), 8, b"too long\n"),
+        (cut, 9, b"fault NotProfile\n"),
+        (b"<!DOCTYPE a><a/>", 9, b"fault NotProfile\n"),
+        (b"", 9, b"fault NotProfile\n"),
+        (b"<\xff", 9, b"fault NotUtf8\n"),
+        (
+            b"<Envelope xmlns=\"http://schemas.xmlsoap.org/soap/envelope/\"><Body/></Envelope>",
+            9,
+            b"fault WrongVersion\n",
+        ),
+        (
+            b"<e:Envelope xmlns:e=\"http://www.w3.org/2003/05/soap-envelope\"/>",
+            9,
+            b"fault NotEnvelope\n",
+        ),
+        // a prefix of two bytes and a namespace with a space and a percent sign
+        (
+            b"<e:Envelope xmlns:e='http://www.w3.org/2003/05/soap-envelope' xmlns:\xc3\xa9='a %~'><e:Body/></e:Envelope>",
+            0,
+            b"headers 0\npayload \nscope e http://www.w3.org/2003/05/soap-envelope\nscope %C3%A9 a%20%25~\n",
+        ),
+    ];
+    for (input, want, text) in cases {
+        let (status, out) = run_whole(rt.alloc(), given(CHECK, input, None))?;
+        assert_eq!(rt; status, want, "before {text:?}");
+        assert!(rt; out.as_slice().ends_with(text), "{text:?}");
+        if input.len() < 1000 {
+            assert_eq!(rt; out.as_slice().len(), text.len(), "{text:?}");
+        }
     }
     Ok(())
 }
@@ -156,37 +227,48 @@ impl Sink for Narrow {
     }
 }
 
+// The words, the input and the read that fails; the status where all is written, and where it isn't; what is written; and
+// how many packets were sent.
+type Case<'a> = (Asked<'a>, u8, u8, &'a [u8], usize);
+
 #[test]
 fn each_write_fails_in_turn(rt: HostRuntime) -> Result<(), Fail> {
-    let mut words = Items::new(rt.alloc());
-    words.push(Blob::from_slice(rt.alloc(), b"replay")?)?;
-    for calls_left in 0..80 {
-        let mut input = MemSource::new(
-            Blob::from_slice(rt.alloc(), ROW)?,
-            Numbers::new(rt.alloc()),
-        );
-        let mut out = Narrow {
-            written: Blob::new(rt.alloc()),
-            calls_left,
-            faults: 0,
-        };
-        let mut stage = preset_stage(rt.alloc());
-        let status = run(
-            rt.alloc(),
-            words.as_slice(),
-            &mut input,
-            &mut out,
-            &mut stage,
-        );
-        let count = ROW_REPORT.len().min(calls_left as usize * 3);
-        assert_eq!(rt; out.written.as_slice(), &ROW_REPORT[..count]);
-        let want = if count < ROW_REPORT.len() {
-            WRITE_FAULT
-        } else {
-            DONE
-        };
-        assert_eq!(rt; status, want, "after {calls_left}");
-        assert_eq!(rt; stage.packets.len(), 5);
+    let cases: [Case<'_>; 11] = [
+        (given(REPLAY, ROW, None), 0, 5, ROW_REPORT, 5),
+        (given(REPLAY, b"send 1 1\n", None), 3, 3, b"bad line 1\n", 0),
+        (
+            given(REPLAY, b"\nsend 1 1 x\ndeliver 0", None),
+            3,
+            3,
+            b"bad line 3\n",
+            0,
+        ),
+        (given(REPLAY, ROW, Some(0)), 4, 4, b"read fault\n", 0),
+        (given(CHECK, ENVELOPE, None), 0, 5, ENVELOPE_TEXT, 0),
+        (given(CHECK, ENVELOPE, Some(1)), 4, 4, b"read fault\n", 0),
+        (given(CHECK, b"<\xff", None), 9, 9, b"fault NotUtf8\n", 0),
+        (given(NOTHING, ROW, None), 2, 2, USAGE, 0),
+        (given(&[b"replay", b"x"], ROW, None), 2, 2, USAGE, 0),
+        (given(&[b"check", b"replay"], ROW, None), 2, 2, USAGE, 0),
+        (given(&[b"check "], ROW, None), 2, 2, USAGE, 0),
+    ];
+    for (given, whole_status, cut_status, text, packets) in cases {
+        for calls_left in 0..80 {
+            let mut out = Narrow {
+                written: Blob::new(rt.alloc()),
+                calls_left,
+                faults: 0,
+            };
+            let ended = run_on(rt.alloc(), given, &mut out)?;
+            let count = text.len().min(calls_left as usize * 3);
+            assert_eq!(rt; out.written.as_slice(), &text[..count]);
+            let status = if count < text.len() {
+                cut_status
+            } else {
+                whole_status
+            };
+            assert_eq!(rt; ended, (status, packets), "after {calls_left} of {text:?}");
+        }
     }
     Ok(())
 }
