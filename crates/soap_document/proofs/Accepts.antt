@@ -29,7 +29,7 @@ pub record Next (s : State) (bytes : List ℕ) (u : Element) : Type 0 where
   pub last : ℕ
   pub rest : List ℕ
   pub there : bytes ≡ token ++ last ∷ rest
-  pub stop : stops s.mode s.quote last ≡ true
+  pub stop : stops s.mode last ≡ true
   pub later : Accepts (counted (finish s.mode (record s { at = s.at + length token; token = s.token ++ token })
       last)) rest u
 
@@ -37,7 +37,7 @@ pub record Next (s : State) (bytes : List ℕ) (u : Element) : Type 0 where
 abbrev pub Unended : State → Type 0
 Unended s = (at : ℕ) (token : List ℕ) → root_of (record s { at = at; token = token }) ≡ None
 
-next_at : (s : State) (c : ℕ) (bytes : List ℕ) (u : Element) (t : Bool) → stops s.mode s.quote c ≡ t
+next_at : (s : State) (c : ℕ) (bytes : List ℕ) (u : Element) (t : Bool) → stops s.mode c ≡ t
     → Accepts s (c ∷ bytes) u
     → ((t ≡ true) × Accepts (counted (finish s.mode s c)) bytes u) ⊎ ((t
     ≡ false) × Accepts (record s { at = s.at + 1; token = s.token ++ c ∷ [] }) bytes u)
@@ -61,7 +61,7 @@ none_some o e h = cc
 pub next : (s : State) (bytes : List ℕ) (u : Element) → Unended s → Accepts s bytes u → Next s bytes u
 next s [] u unended h = absurd (none_some (root_of s) (unended s.at s.token) h)
 next s (c ∷ bytes) u unended h =
-    elim (next_at s c bytes u (stops s.mode s.quote c) refl h) [
+    elim (next_at s c bytes u (stops s.mode c) refl h) [
       | inl k ↦ record {
         token = [];
         last = c;

@@ -1,65 +1,18 @@
 -- What the code's tests answer, as the tests of specs/.
-use Rattle.std.proofs.Common.{◌≡◌, ◌≢◌, ℕ, suc, ◌+◌, ◌-◌, ◌≤◌, ◌<◌, List, [], ◌∷◌, ◌++◌, Bool, true, false, ◌&&◌, nat_eq, cond, Option, Some, None, option_map, MatchOption, IfSome, IfNone, Bor, length, get_or, take, drop, refl, sym, ap, ap₂, subst, ◌∙◌, arith, append-nil, length-drop, drop-cons}
+use Rattle.std.proofs.Common.{◌≡◌, ◌≢◌, ℕ, suc, ◌+◌, ◌-◌, ◌≤◌, List, [], ◌∷◌, ◌++◌, true, false, ◌&&◌, nat_eq, cond, Option, Some, None, option_map, MatchOption, Bor, length, get_or, take, drop, refl, sym, ap, ap₂, subst, ◌∙◌, arith, append-nil, length-drop}
 use Prim.Native.Nat.{zero}
-use Rattle.std.specs.List.{AllByRecursion}
-use Rattle.std.proofs.Math.Numerals.{add-one}
-use Rattle.std.proofs.lemmas.List.{take-append-drop}
 use Rattle.std.proofs.lemmas.Bool.{eqb-true, eq-eqb, and_parts, false_from_ne_true}
 use Rattle.memchr.specs.Find.{IsFirstByte, is_byte}
-use Rattle.soap_document.specs.Machine.{State, stops, finish, run, counted, without, is_end}
+use Rattle.soap_lex.proofs.FirstLemmas.{all_fail, around, front_fails}
+use Rattle.soap_document.specs.Machine.{State, stops, finish, run, counted, is_end}
 use Rattle.soap_document.specs.Declaration.{after}
 use Rattle.soap_document.specs.Tokens.{is_white, is_name, is_qname, begins, cut}
 use Rattle.soap_document.proofs.Declarations.{after-append}
-use Rattle.soap_document.proofs.Held.{cut_none, cut-append, front_from_begins}
+use Rattle.soap_lex.proofs.HeldLemmas.{front_from_begins}
+use Rattle.soap_document.proofs.Held.{cut_none, cut-append}
 use Rattle.soap_document.proofs.Moves.{kept}
-use Rattle.soap_document.proofs.TokenLaws.{without-append, without_from}
-
--- two tests of one fact
-pub same_test : (P : Type 0) (r t : Bool) → (r ≡ true → P) → (P → r ≡ true) → (t ≡ true → P) → (P → t ≡ true) → r ≡ t
-same_test P true true a b c d = refl
-same_test P true false a b c d = sym (d (a refl))
-same_test P false true a b c d = b (c refl)
-same_test P false false a b c d = refl
-
--- two searches of one thing, which is unique
-pub same_search : (P : ℕ → Type 0) (r t : Option ℕ) → IfSome r P → IfNone r ((c : ℕ) → P c → ⊥) → ((c : ℕ) → P c → t
-    ≡ Some c) → ((c : ℕ) → t ≡ Some c → P c) → r ≡ t
-same_search P None None f n b d = refl
-same_search P None (Some c) f n b d = absurd (n c (d c refl))
-same_search P (Some c) t f n b d = sym (b c f)
 
 -- ---- the first byte that passes a test
-
--- what stands before it fails
-pub before_first : (p : ℕ → Bool) (bytes : List ℕ) (n : ℕ) → n ≤ length bytes → ((k : ℕ) → k < n
-    → p (get_or bytes k 0) ≡ true → ⊥) → AllByRecursion (λ c. p c ≡ false) (take n bytes)
-before_first p [] zero h f = tt
-before_first p [] (suc n) h f = absurd (omega arith)
-before_first p (c ∷ bytes) zero h f = tt
-before_first p (c ∷ bytes) (suc n) h f = (
-  false_from_ne_true (p c) (λ e. f 0 (omega arith) e),
-  before_first p bytes
-      n (omega arith) (λ k less e. f (suc k) (omega arith) e),
-)
-
-pub all_fail : (p : ℕ → Bool) (bytes : List ℕ) → IsFirstByte p bytes None → AllByRecursion (λ c. p c ≡ false) bytes
-all_fail p bytes none = rw (sym (take_whole bytes)) (before_first p bytes (length bytes) (omega arith) (λ k less e.
-    none k (omega arith) less e))
-  where
-    take_whole : (xs : List ℕ) → take (length xs) xs ≡ xs
-    take_whole [] = refl
-    take_whole (x ∷ xs) = ap (λ (y : List ℕ). x ∷ y) (take_whole xs)
-
--- the parts of the bytes around it
-pub around : (p : ℕ → Bool) (bytes : List ℕ) (n : ℕ) → IsFirstByte p bytes (Some n) → bytes
-    ≡ take n bytes ++ get_or bytes n 0 ∷ drop (n + 1) bytes
-around p bytes n found = let h : n < length bytes = found.0.high in sym (take-append-drop n bytes)
-    ∙ ap (λ (x : List ℕ). take n bytes ++ x) (rw add-one (drop-cons bytes n 0 h))
-
-pub front_fails : (p : ℕ → Bool) (bytes : List ℕ) (n : ℕ) → IsFirstByte p bytes (Some n) → AllByRecursion (λ c. p c
-    ≡ false) (take n bytes)
-front_fails p bytes n found = let h : n < length bytes = found.0.high in before_first p bytes n (omega arith) (λ k
-    less e. found.0.before k (omega arith) less e)
 
 pub cut_first : (k : ℕ) (bytes : List ℕ) (n : ℕ) → IsFirstByte (is_byte k) bytes (Some n) → cut k bytes
     ≡ Some (take n bytes, drop (n + 1) bytes)
@@ -72,16 +25,6 @@ pub cut_nowhere : (k : ℕ) (bytes : List ℕ) → IsFirstByte (is_byte k) bytes
 cut_nowhere k bytes none = cut_none k bytes (all_fail (is_byte k) bytes none)
 
 -- ---- a front and an end
-
-pub without_cases : (word bytes : List ℕ) (r : Option (Bor (List ℕ))) → MatchOption r ((front : List ℕ)
-    → bytes ≢ front ++ word) (λ x. bytes ≡ x.now ++ word) → option_map (λ (x : Bor (List ℕ)). x.now) r
-    ≡ without word bytes
-without_cases word bytes None h = go (without word bytes) refl
-  where
-    go : (o : Option (List ℕ)) → without word bytes ≡ o → None ≡ without word bytes
-    go None e = sym e
-    go (Some front) e = absurd (h front (without_from word bytes front e))
-without_cases word bytes (Some x) h = sym (ap (without word) h ∙ without-append word x.now)
 
 end_begins : (name space : List ℕ) → is_end name (name ++ space) ≡ is_white space
 end_begins [] space = refl
@@ -103,7 +46,7 @@ end_none name token h = sym (false_from_ne_true (is_end name token) (λ e. let r
 
 -- ---- feeding
 
-pub feed_step : (s : State) (bytes : List ℕ) (n : ℕ) → IsFirstByte (stops s.mode s.quote) bytes (Some n)
+pub feed_step : (s : State) (bytes : List ℕ) (n : ℕ) → IsFirstByte (stops s.mode) bytes (Some n)
     → run s bytes ≡ run (counted (finish s.mode (record s {
       at = s.at + length (take n bytes);
       token = s.token ++
@@ -112,15 +55,15 @@ pub feed_step : (s : State) (bytes : List ℕ) (n : ℕ) → IsFirstByte (stops 
 feed_step s bytes n found =
     let c = get_or bytes n 0 in
     let next = record s { at = s.at + length (take n bytes); token = s.token ++ take n bytes } in
-    ap (run s) (around (stops s.mode s.quote) bytes n found)
-    ∙ kept s (take n bytes) s.at (front_fails (stops s.mode s.quote) bytes n found) (c ∷ drop (n + 1) bytes)
+    ap (run s) (around (stops s.mode) bytes n found)
+    ∙ kept s (take n bytes) s.at (front_fails (stops s.mode) bytes n found) (c ∷ drop (n + 1) bytes)
     ∙ ap (λ t. run (counted (cond t (finish s.mode next c) (record next { token = next.token ++ c ∷ [] }))) (drop (n
     + 1) bytes)) found.1
 
-pub feed_end : (s : State) (bytes : List ℕ) → IsFirstByte (stops s.mode s.quote) bytes None
+pub feed_end : (s : State) (bytes : List ℕ) → IsFirstByte (stops s.mode) bytes None
     → record s { at = s.at + length bytes; token = s.token ++ bytes } ≡ run s bytes
 feed_end s bytes none = sym (ap (run s) (sym (append-nil bytes))
-    ∙ kept s bytes s.at (all_fail (stops s.mode s.quote) bytes none) [])
+    ∙ kept s bytes s.at (all_fail (stops s.mode) bytes none) [])
 
 -- ---- the code's own answers
 

@@ -10,7 +10,8 @@ use Rattle.soap_document.specs.Declaration.{skip, after, quoted, valued, setting
 use Rattle.soap_document.specs.Grammar.{IsWhite, IsSpace, IsQuoted, double, single, IsSetting, setting as is_setting, IsEncoding, unsaid as no_encoding, utf8, IsStandalone, unsaid as no_standalone, yes, no, IsDeclaration, without, declared}
 use Rattle.soap_document.specs.Machine.{declaring}
 use Rattle.soap_document.specs.Tokens.{begins, cut}
-use Rattle.soap_document.proofs.Held.{all_weaker, all_append, other, same, begins-append, front_from_begins, cut-append, cut_from}
+use Rattle.soap_lex.proofs.HeldLemmas.{all_weaker, other, same, begins-append, front_from_begins}
+use Rattle.soap_document.proofs.Held.{all_append, cut-append, cut_from}
 use Rattle.soap_document.proofs.Moves.{NoStops}
 
 -- ---- what the grammar has passes
@@ -254,7 +255,7 @@ standalone_open (no bytes s) = setting_open s (
 pub record Declares (bytes : List ℕ) : Type 0 where
   pub inner : List ℕ
   pub there : bytes ≡ 60 ∷ 63 ∷ (inner ++ 62 ∷ [])
-  pub text : NoStops declaring 0 inner
+  pub text : NoStops declaring inner
   pub passes : is_declaration inner ≡ true
 
 declared_bytes : (version encoding standalone space : List ℕ)

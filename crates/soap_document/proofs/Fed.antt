@@ -1,15 +1,22 @@
 -- What feeding a piece does, and what the reader answers at the end.
-use Rattle.std.proofs.Common.{◌≡◌, ℕ, ◌+◌, ◌-◌, ◌<◌, List, ◌++◌, Option, Some, None, Result, Ok, Err, OnOk, IfSome, IfNone, option_map, length, get_or, take, drop, sym, ap, subst, ◌∙◌, arith, length-take, length-drop}
+use Rattle.std.proofs.Common.{◌≡◌, ◌≢◌, ℕ, ◌+◌, ◌-◌, ◌<◌, ◌≤◌, Bool, true, false, List, [], ◌∷◌, ◌++◌, Option, Some, None, Result, Ok, Err, OnOk, IfSome, IfNone, option_map, length, get_or, take, drop, refl, sym, ap, subst, ◌∙◌, arith, length-take, length-drop}
 use Rattle.memchr.specs.Find.{IsFirstByte}
+use Rattle.soap_lex.specs.TextMachine.{TextState, halts as text_halts, to_stop as text_to_stop}
+use Rattle.soap_lex.specs.ValueMachine.{ValueState, halts, to_stop}
+use Rattle.soap_lex.proofs.TextFed.{still as text_still}
+use Rattle.soap_lex.proofs.ValueFed.{fed_halted, still}
 use Rattle.soap_document.specs.Tree.{Element}
 use Rattle.soap_document.specs.Grammar.{IsDocument}
-use Rattle.soap_document.specs.Machine.{State, stops, finish, run, counted, start, root_of}
+use Rattle.soap_document.specs.Machine.{State, chars, value_inner, at_chars, refuse, stops, finish, step, run, counted, after_value, start, root_of}
+use Rattle.soap_document.specs.Seen.{Taken}
 use Rattle.soap_document.specs.View.{element_view}
 use Rattle.soap_document.specs.declared.tree.WrittenElement.{WrittenElement}
 use Rattle.soap_document.proofs.Answer.{feed_step, feed_end, take_rest}
 use Rattle.soap_document.proofs.FoundDocument.{document_found}
 use Rattle.soap_document.proofs.OnlyDocument.{document_only}
-use Rattle.soap_document.proofs.Places.{finish-at}
+use Rattle.soap_document.proofs.Places.{finish-at, chars-at, after_value-at}
+use Rattle.soap_document.proofs.Values.{fed}
+use Rattle.soap_document.proofs.Words.{fed as text_fed}
 
 pub on_ok : {A E : Type 0} (r : Result A E) (P Q : Type 0) → (P → Q) → OnOk r P → OnOk r Q
 on_ok (Ok a) P Q f h = f h
@@ -18,16 +25,15 @@ on_ok (Err e) P Q f h = tt
 abbrev pub kept_by : State → List ℕ → State
 kept_by s bytes = record s { at = s.at + length bytes; token = s.token ++ bytes }
 
-pub feed_last : (s new : State) (bytes : List ℕ) (r : Option ℕ) → IsFirstByte (stops s.mode s.quote) bytes r → r
+pub feed_last : (s new : State) (bytes : List ℕ) (r : Option ℕ) → IsFirstByte (stops s.mode) bytes r → r
     ≡ None → new ≡ kept_by s bytes → new ≡ run s bytes
-feed_last s new bytes r found e kept = kept ∙ feed_end s bytes (subst (λ (o : Option ℕ). IsFirstByte (stops s.mode
-    s.quote) bytes o) e found)
+feed_last s new bytes r found e kept = kept ∙ feed_end s bytes (subst (λ (o : Option ℕ). IsFirstByte (stops s.mode) bytes o) e found)
 
-module _ (s s1 s2 : State) (bytes : List ℕ) (r : Option ℕ) (n : ℕ) (found : IsFirstByte (stops s.mode s.quote) bytes
+module _ (s s1 s2 : State) (bytes : List ℕ) (r : Option ℕ) (n : ℕ) (found : IsFirstByte (stops s.mode) bytes
     r) (e : r ≡ Some n)
     (kept : s1 ≡ kept_by s (take n bytes)) (ended : s2 ≡ counted (finish s1.mode s1 (get_or bytes n 0))) where
-  first : IsFirstByte (stops s.mode s.quote) bytes (Some n)
-  first = subst (λ (o : Option ℕ). IsFirstByte (stops s.mode s.quote) bytes o) e found
+  first : IsFirstByte (stops s.mode) bytes (Some n)
+  first = subst (λ (o : Option ℕ). IsFirstByte (stops s.mode) bytes o) e found
 
   pub feed_more : run s2 (take (length bytes - (n + 1)) (drop (n + 1) bytes)) ≡ run s bytes
   feed_more =
@@ -52,6 +58,122 @@ module _ (s s1 s2 : State) (bytes : List ℕ) (r : Option ℕ) (n : ℕ) (found 
             (length bytes - (n + 1)) (drop (n + 1) bytes),
         length-drop (n + 1) bytes,
       )
+
+-- ---- what the code's steps take
+
+drop_whole : (bytes : List ℕ) → drop (length bytes) bytes ≡ []
+drop_whole [] = refl
+drop_whole (c ∷ bytes) = drop_whole bytes
+
+pub taken_all : (s new : State) (bytes : List ℕ) (r : Option ℕ) → IsFirstByte (stops s.mode) bytes r → r ≡ None
+    → 0 < length bytes → new ≡ kept_by s bytes → Taken s new bytes (length bytes)
+taken_all s new bytes r found e some kept = record {
+  some = some;
+  within = omega arith;
+  meaning = ap (run new) (drop_whole bytes) ∙ feed_last s new bytes r found e kept;
+  place = omega (arith, ap (λ (x : List ℕ). length x) (drop_whole bytes), ap (λ (x : State). x.at) kept);
+}
+
+pub taken_some : (s s1 s2 : State) (bytes : List ℕ) (r : Option ℕ) (n : ℕ) → IsFirstByte (stops s.mode) bytes r
+    → r ≡ Some n → s1 ≡ kept_by s (take n bytes) → s2 ≡ counted (finish s1.mode s1 (get_or bytes n 0))
+    → Taken s s2 bytes (n + 1)
+taken_some s s1 s2 bytes r n found e kept ended =
+    let first : IsFirstByte (stops s.mode) bytes (Some n) =
+    subst (λ (o : Option ℕ). IsFirstByte (stops s.mode) bytes o) e found in
+    let high : n < length bytes = first.0.high in
+    record {
+      some = omega arith;
+      within = omega (arith, high);
+      meaning = ap (run s2) (sym (take_rest (n + 1) bytes)) ∙ feed_more s s1 s2 bytes r n found e kept ended;
+      place = ap (λ (x : List ℕ). s2.at + length x) (sym (take_rest (n + 1) bytes))
+          ∙ place_more s s1 s2 bytes r n found e kept ended;
+    }
+
+-- nothing of a value is taken behind its end: it was refused
+pub taken_none : (s new : State) (t : ValueState) (bytes : List ℕ) (n : ℕ) → s.mode ≡ value_inner → 0 < length bytes
+    → to_stop s.value bytes ≡ (t, drop n bytes) → n ≡ 0 → new ≡ refuse (record s { value = t })
+    → Taken s (counted new) bytes 1
+taken_none s new t [] n e some fed none kept = absurd (omega (arith, some))
+taken_none s new t (c ∷ rest) n e some fed none kept =
+    let whole : to_stop s.value (c ∷ rest) ≡ (t, c ∷ rest) = fed ∙ ap (λ k. (t, drop k (c ∷ rest))) none in
+    let h = still s.value t c rest whole in
+    let first : step s c ≡ counted (refuse s) = rw (e, h.0) in
+    let same : new ≡ refuse s = kept ∙ ap (λ v. refuse (record s { value = v })) (sym h.1) in
+    record {
+      some = omega arith;
+      within = omega arith;
+      meaning = ap (λ x. run (counted x) rest) same ∙ ap (λ x. run x rest) (sym first);
+      place = ap (λ (x : State). x.at + 1 + length rest) same ∙ omega arith;
+    }
+
+unhalted : (v t : ValueState) (bytes : List ℕ) (n : ℕ) (b : Bool) → halts v.mode ≡ b → n ≤ length bytes → n ≢ 0
+    → to_stop v bytes ≡ (t, drop n bytes) → halts v.mode ≡ false
+unhalted v t bytes n false e high some fed = e
+unhalted v t bytes n true e high some fed =
+    let ends : (v, bytes) ≡ (t, drop n bytes) = sym (fed_halted v bytes e) ∙ fed in
+    let size : length bytes ≡ length (drop n bytes) = ap (λ (p : ValueState × List ℕ). length p.1) ends in
+    let left : length (drop n bytes) ≡ length bytes - n = length-drop n bytes in
+    absurd (some (omega (arith, size, left, high)))
+
+-- within a value, up to the end of a token of it
+pub taken_value : (s new : State) (t : ValueState) (bytes : List ℕ) (n : ℕ) → s.mode ≡ value_inner
+    → n ≤ length bytes → n ≢ 0 → to_stop s.value bytes ≡ (t, drop n bytes)
+    → new ≡ after_value (record s { value = t; at = s.at + n }) → Taken s new bytes n
+taken_value s new t bytes n e high some ends kept =
+    let rest : List ℕ = drop n bytes in
+    let left : length rest ≡ length bytes - n = length-drop n bytes in
+    let place : s.at + n + length rest ≡ s.at + length bytes = omega (arith, left, high) in
+    let next : State = record s { value = t; at = s.at + n } in
+    let open_mode = unhalted s.value t bytes n (halts s.value.mode) refl high some ends in
+    record {
+      some = omega (arith, some);
+      within = high;
+      meaning = ap (λ x. run x rest) (kept ∙ ap (λ m. after_value (record next { mode = m })) e)
+          ∙ sym (fed s s.value t bytes rest s.at (s.at + n) open_mode ends place)
+          ∙ ap (λ m. run (record s { mode = m }) bytes) (sym e);
+      place = ap (λ (x : State). x.at + length rest) kept ∙ ap (λ k. k + length rest) (after_value-at next) ∙ place;
+    }
+
+-- within text, up to the end of a token of it
+pub taken_text : (s new : State) (t : TextState) (bytes : List ℕ) (n : ℕ) → s.mode ≡ chars → n ≤ length bytes → n ≢ 0
+    → text_to_stop s.words bytes ≡ (t, drop n bytes) → new ≡ record s { words = t; at = s.at + n } → Taken s new bytes n
+taken_text s new t bytes n e high some ends kept =
+    let rest : List ℕ = drop n bytes in
+    let left : length rest ≡ length bytes - n = length-drop n bytes in
+    let place : s.at + n + length rest ≡ s.at + length bytes = omega (arith, left, high) in
+    let next : State = record s { words = t; at = s.at + n } in
+    record {
+      some = omega (arith, some);
+      within = high;
+      meaning = ap (λ x. run x rest) (kept ∙ ap (λ m. record next { mode = m }) e)
+          ∙ sym (text_fed s s.words t bytes rest s.at (s.at + n) ends place)
+          ∙ ap (λ m. run (record s { mode = m }) bytes) (sym e);
+      place = ap (λ (x : State). x.at + length rest) kept ∙ place;
+    }
+
+-- where nothing of it was taken, it ends before the first byte
+pub text_ends : (w t : TextState) (bytes : List ℕ) (n : ℕ) → 0 < length bytes
+    → text_to_stop w bytes ≡ (t, drop n bytes) → n ≡ 0 → (text_halts t (get_or bytes 0 0) ≡ true) × (w ≡ t)
+text_ends w t [] n some fed none = absurd (omega (arith, some))
+text_ends w t (c ∷ rest) n some fed none =
+    let whole : text_to_stop w (c ∷ rest) ≡ (t, c ∷ rest) = fed ∙ ap (λ k. (t, drop k (c ∷ rest))) none in
+    let h = text_still w t c rest whole in
+    (subst (λ x. text_halts x c ≡ true) h.1 h.0, h.1)
+
+pub taken_end : (s new : State) (t : TextState) (bytes : List ℕ) (n : ℕ) → s.mode ≡ chars → 0 < length bytes
+    → text_to_stop s.words bytes ≡ (t, drop n bytes) → n ≡ 0
+    → new ≡ at_chars (record s { words = t }) (get_or bytes 0 0) → Taken s (counted new) bytes 1
+taken_end s new t [] n e some fed none kept = absurd (omega (arith, some))
+taken_end s new t (c ∷ rest) n e some fed none kept =
+    let h = text_ends s.words t (c ∷ rest) n some fed none in
+    let same : new ≡ at_chars s c = kept ∙ ap (λ w. at_chars (record s { words = w }) c) (sym h.1) in
+    let first : step s c ≡ counted (at_chars s c) = rw e in
+    record {
+      some = omega arith;
+      within = omega arith;
+      meaning = ap (λ x. run (counted x) rest) same ∙ ap (λ x. run x rest) (sym first);
+      place = ap (λ (x : State). x.at + 1 + length rest) same ∙ ap (λ k. k + 1 + length rest) (chars-at s c) ∙ omega arith;
+    }
 
 -- ---- the answer
 

@@ -7,13 +7,13 @@ use Rattle.soap_lex.specs.Text.{IsComment}
 use Rattle.soap_document.specs.Tree.{Element, none, child}
 use Rattle.soap_document.specs.Declaration.{is_declaration}
 use Rattle.soap_document.specs.Grammar.{IsWhite, IsMisc, white, comment, IsMark, unmarked, marked, IsDeclaration, without as undeclared, IsElement, IsDocument, document}
-use Rattle.soap_document.specs.Machine.{beginning, less, marking, declaring, Frame, State, run, counted, calm, start, nothing_open, root_of, only_child, is_mark, has_room, at_chars, at_beginning}
+use Rattle.soap_document.specs.Machine.{beginning, less, marking, declaring, Frame, State, run, counted, calm, start, nothing_open, root_of, only_child, is_mark, has_room, at_outside, at_beginning}
 use Rattle.soap_document.specs.Tokens.{is_nil, is_white}
 use Rattle.soap_document.proofs.Accepts.{Accepts, passed, chosen, next}
 use Rattle.soap_document.proofs.Declarations.{declaration_from}
 use Rattle.soap_document.proofs.FoundElements.{LessFound, less_found, TagFound, element_from, content_found}
-use Rattle.soap_document.proofs.FoundText.{marked_found}
-use Rattle.soap_document.proofs.Held.{same}
+use Rattle.soap_document.proofs.FoundComments.{marked_found}
+use Rattle.soap_lex.proofs.HeldLemmas.{same}
 use Rattle.soap_document.proofs.Moves.{plain_at, chars_at, less_at}
 use Rattle.soap_document.proofs.TokenFacts.{white_from}
 
@@ -49,7 +49,7 @@ module _ (u : Element) where
   }
 
   outer_stop : (top : Frame) (token : List ℕ) (c : ℕ) (bytes : List ℕ) (at : ℕ)
-      → Accepts (counted (at_chars (chars_at top [] [] token at) c)) bytes u → OuterFound top token (c ∷ bytes) at
+      → Accepts (counted (at_outside (chars_at top [] [] token at) c)) bytes u → OuterFound top token (c ∷ bytes) at
   outer_stop top token c bytes at h =
       let s : State = chars_at top [] [] token at in
       let less_state : State = plain_at less false at top [] [] [] at in
@@ -80,7 +80,7 @@ module _ (u : Element) where
       }
   outer_found top token (c ∷ bytes) at h =
       let s : State = chars_at top [] [] token at in
-      elim (chosen (nat_eq c 60 || nat_eq c 38) (at_chars s c) (chars_at top [] [] (token ++ c ∷ []) at) bytes u h) [
+      elim (chosen (nat_eq c 60) (at_outside s c) (chars_at top [] [] (token ++ c ∷ []) at) bytes u h) [
         | inl k ↦ outer_stop top token c bytes at k.1
         | inr k ↦ outer_more top token c bytes at (outer_found top (token ++ c ∷ []) bytes (at + 1) k.1)
       ]
@@ -131,8 +131,8 @@ module _ (u : Element) where
   RecurMisc fuel top = (at : ℕ) (bytes : List ℕ) → length bytes < fuel → Accepts (chars_at top [] [] [] at) bytes u
       → MiscFound top bytes at
 
-  no_cdata : (is_nil {X = Frame} [] ≡ false) → ⊥
-  no_cdata e = cc
+  not_inside : (is_nil {X = Frame} [] ≡ false) → ⊥
+  not_inside e = cc
 
   -- behind the < of a comment
   comment_at : (fresh : Bool) (mark : ℕ) (top : Frame) (at : ℕ) (rest : List ℕ)
@@ -141,16 +141,13 @@ module _ (u : Element) where
       (chars_at top [] [] [] (at + length (codes "--" ++ (inner ++ codes "-->")))) b u
   comment_at fresh mark top at rest h =
       let m = marked_found fresh mark top [] [] u at rest h in
-      elim m.is [
-        | inl k ↦ (m.inner, m.rest, k.0, k.1, k.2)
-        | inr k ↦ absurd (no_cdata k.1)
-      ]
+      (m.inner, m.rest, m.there, m.is, m.later)
 
   misc_less : (fuel : ℕ) (top : Frame) → RecurMisc fuel top → (at : ℕ) (bytes space rest : List ℕ)
       → length bytes < suc fuel → IsWhite space → bytes ≡ space ++ 60 ∷ rest
       → LessFound false (at + length space) top [] [] u rest (at + length space + 1) → MiscFound top bytes at
   misc_less fuel top recur at bytes space rest short w there l = elim l.is [
-    | inl k ↦ absurd (no_cdata k.1)
+    | inl k ↦ absurd (not_inside k.1)
     | inr (inl k) ↦
         let c = comment_at false (at + length space) top (at + length space + 1 + 1) l.rest k.1 in
         let p : ℕ = at + length space + 1 + 1 + length (codes "--" ++ (c.0 ++ codes "-->")) in
@@ -321,7 +318,7 @@ module _ (u : Element) where
   less_body : (bytes : List ℕ) (at : ℕ) → LessFound true at nothing_open [] [] u bytes (at + 1)
       → PrologFound (60 ∷ bytes) at
   less_body bytes at l = elim l.is [
-    | inl k ↦ absurd (no_cdata k.1)
+    | inl k ↦ absurd (not_inside k.1)
     | inr (inl k) ↦
         let c = comment_at true at nothing_open (at + 1 + 1) l.rest k.1 in
         let p : ℕ = at + 1 + 1 + length (codes "--" ++ (c.0 ++ codes "-->")) in

@@ -5,14 +5,14 @@ use Rattle.std.proofs.lemmas.Bool.{eqb-true, ltb-true, and_parts, true≢false}
 use Rattle.soap_lex.specs.Text.{IsText}
 use Rattle.soap_document.specs.Tree.{Attribute, Element, element, Parts, none, child, onto}
 use Rattle.soap_document.specs.Grammar.{IsWhite, IsQName, IsAttributes, IsElement, full, empty, IsContent, last as last_text, more as then_child, start_tag, end_tag, empty_tag, max_depth}
-use Rattle.soap_document.specs.Machine.{less, ending, slashed, marking, declaring, Frame, State, finish, refuse, counted, settle, emptied, at_tagging, with_parts, has_room, is_end}
+use Rattle.soap_document.specs.Machine.{no_value, less, ending, slashed, marking, declaring, Frame, State, finish, refuse, counted, settle, emptied, at_tagging, with_parts, has_room, is_end}
 use Rattle.soap_document.specs.Tokens.{is_nil, is_qname}
 use Rattle.soap_document.proofs.Accepts.{Accepts, passed, chosen, next}
 use Rattle.soap_document.proofs.FoundTags.{AttributesFound, attributes_found}
-use Rattle.soap_document.proofs.FoundText.{TextFound, text_found}
 use Rattle.soap_document.proofs.Moves.{Tag, tag_at, between_at, plain_at, chars_at, less_at}
 use Rattle.soap_document.proofs.OnlyElements.{grown}
 use Rattle.soap_document.proofs.TokenFacts.{qname_from, end_from}
+use Rattle.soap_document.proofs.Words.{TextFound, text_found}
 
 -- ---- behind a <
 
@@ -54,12 +54,12 @@ module _ (fresh : Bool) (mark : ℕ) (top : Frame) (below : List Frame) (x : Lis
   tag_here name = record { fresh = fresh; mark = mark; top = settled; below = below; name = name }
 
   slash_found : (name : List ℕ) (attributes : List Attribute) (at : ℕ) (bytes : List ℕ)
-      → Accepts (tag_at slashed (tag_here name) attributes [] [] 0 [] at) bytes u
+      → Accepts (tag_at slashed (tag_here name) attributes [] no_value [] at) bytes u
       → (rest : List ℕ) × (bytes ≡ 62 ∷ rest) × Accepts (chars_at (hollow name attributes (at + 1)) below [] [] (at
       + 1)) rest u
   slash_found name attributes at [] h = cc
   slash_found name attributes at (c ∷ bytes) h =
-      let s : State = tag_at slashed (tag_here name) attributes [] [] 0 [] at in
+      let s : State = tag_at slashed (tag_here name) attributes [] no_value [] at in
       let p = passed (nat_eq c 62) (emptied s) s bytes u h in
       (bytes, ap (λ k. k ∷ bytes) (eqb-true c 62 p.0), p.1)
 
@@ -349,7 +349,7 @@ module _ (u : Element) where
 
   content_step : (fuel : ℕ) → RecurContent fuel → (top frame : Frame) (frames : List Frame) (at : ℕ) (bytes : List
       ℕ) → length bytes ≤ suc fuel
-      → (t : TextFound frame frames u top [] bytes at) → LessFound false (at + length t.front) top (frame ∷ frames)
+      → (t : TextFound top frame frames u bytes at) → LessFound false (at + length t.front) top (frame ∷ frames)
       t.meaning u t.rest (at + length t.front + 1) → ContentFound top frame frames bytes at
   content_step fuel recur top frame frames at bytes short t l = elim l.is [
     | inl k ↦ record {
@@ -386,9 +386,9 @@ module _ (u : Element) where
 
   pub content_found : (fuel : ℕ) → RecurContent fuel
   content_found zero top frame frames at bytes short h =
-      let t = text_found frame frames u (length bytes) top [] at bytes (omega arith) h in
+      let t = text_found top frame frames u bytes at h in
       absurd (omega (arith, ap length t.there, length-append t.front (60 ∷ t.rest)))
   content_found (suc fuel) top frame frames at bytes short h =
-      let t = text_found frame frames u (length bytes) top [] at bytes (omega arith) h in
+      let t = text_found top frame frames u bytes at h in
       content_step fuel (content_found fuel) top frame frames at bytes short t (less_found false (at + length
       t.front) top (frame ∷ frames) t.meaning u (at + length t.front + 1) t.rest t.later)

@@ -1,142 +1,30 @@
 -- Tags that the reader took are tags of the grammar.
-use Rattle.std.proofs.Common.{◌≡◌, ◌≢◌, ℕ, suc, ◌+◌, ◌≤◌, ◌⊎◌, inl, inr, List, [], ◌∷◌, ◌++◌, Bool, true, false, ◌||◌, nat_eq, cond, Option, Some, None, length, encode_utf8, refl, sym, ap, ap₂, subst, ◌∙◌, arith, append_assoc, append-nil, length-append}
+use Rattle.std.proofs.Common.{◌≡◌, ◌≢◌, ℕ, suc, ◌+◌, ◌≤◌, ◌⊎◌, inl, inr, List, [], ◌∷◌, ◌++◌, Bool, true, false, ◌||◌, nat_eq, cond, length, refl, sym, ap, ap₂, subst, ◌∙◌, arith, append_assoc, append-nil, length-append}
 use Prim.Native.Nat.{zero}
-use Rattle.std.proofs.lemmas.Bool.{eqb-true, or_cases, true≢false}
+use Rattle.std.proofs.lemmas.Bool.{eqb-true, or_cases}
 use Rattle.xml_chars.specs.Classes.{is_space}
-use Rattle.soap_lex.specs.References.{IsReference}
-use Rattle.soap_lex.specs.Value.{IsValue, double, single, IsInner, run as plain, more as then_reference, with_spaces}
+use Rattle.soap_lex.specs.ValueMachine.{begun}
+use Rattle.soap_lex.proofs.ValueRead.{reads_found}
+use Rattle.soap_lex.specs.Value.{IsValue, double, single, IsInner}
 use Rattle.soap_document.specs.Tree.{Attribute, Element}
 use Rattle.soap_document.specs.Grammar.{IsWhite, IsSpace, IsQName, IsAttributes, end, more}
-use Rattle.soap_document.specs.Machine.{naming, named, valuing, value_run, value_referring, slashed, State, finish, refuse, counted, opened, at_tagging, at_named, at_value_referring}
-use Rattle.soap_document.specs.Tokens
-use Rattle.soap_document.specs.Tokens.{is_nil, is_qname, is_run}
-use Rattle.soap_document.proofs.Accepts.{Accepts, refused_never, passed, chosen, Next, next}
-use Rattle.soap_document.proofs.FoundText.{shorter}
+use Rattle.soap_document.specs.Machine.{naming, named, valuing, slashed, no_value, State, finish, refuse, counted, opened, at_tagging, at_named}
+use Rattle.soap_document.specs.Tokens.{is_qname}
+use Rattle.soap_document.proofs.Accepts.{Accepts, passed, chosen, next}
+use Rattle.soap_document.proofs.FoundComments.{shorter}
 use Rattle.soap_document.proofs.Moves.{At, Tag, tag_at, between_at}
-use Rattle.soap_document.proofs.TokenFacts.{run_from, qname_from, reference_from}
+use Rattle.soap_document.proofs.TokenFacts.{qname_from}
+use Rattle.soap_document.proofs.Values.{value_at, added, tag_read}
 
 module _ (tag : Tag) (u : Element) where
   module _ (attributes : List Attribute) (name : List ℕ) where
-    abbrev added : List ℕ → List Attribute
-    added value = attributes ++ record { name = name; value = value } ∷ []
-
-    -- ---- a value
-
-    abbrev value_at : ℕ → List ℕ → List ℕ → At
-    value_at quote value token = tag_at value_run tag attributes name value quote token
-
-    abbrev refers : ℕ → List ℕ → List ℕ → At
-    refers quote value token = tag_at value_referring tag attributes name value quote token
-
-    referred : (quote : ℕ) (value : List ℕ) (at : ℕ) (inner rest : List ℕ) (o : Option ℕ)
-        → Tokens.reference (38 ∷ (inner ++ 59 ∷ [])) ≡ o
-        → Accepts (counted (at_value_referring (refers quote value (38 ∷ inner) (at + length inner)) o)) rest u
-        → (c : ℕ) × IsReference (38 ∷ (inner ++ 59 ∷ [])) c × Accepts (value_at quote (value ++ encode_utf8 c) []
-        (at + length inner + 1)) rest u
-    referred quote value at inner rest None e h = absurd (refused_never (refers quote value (38 ∷ inner) (at +
-        length inner)) rest u h)
-    referred quote value at inner rest (Some c) e h = (c, reference_from (38 ∷ (inner ++ 59 ∷ [])) c e, h)
-
-    record ValueFound (quote : ℕ) (value bytes : List ℕ) (at : ℕ) : Type 0 where
-      inner : List ℕ
-      meaning : List ℕ
-      rest : List ℕ
-      there : bytes ≡ inner ++ quote ∷ rest
-      is : IsInner quote inner meaning
-      later : Accepts (between_at false tag (added (value ++ meaning)) (at + length inner + 1)) rest u
-
-    abbrev RecurValue : ℕ → ℕ → Type 0
-    RecurValue fuel quote = (value : List ℕ) (at : ℕ) (bytes : List ℕ) → length bytes ≤ fuel
-        → Accepts (value_at quote value [] at) bytes u → ValueFound quote value bytes at
-
-    value_reference : (quote : ℕ) (value bytes : List ℕ) (at : ℕ) (m rest : List ℕ) (fuel : ℕ)
-        → RecurValue fuel quote → bytes ≡ m ++ 38 ∷ rest → is_run quote m ≡ true → length bytes ≤ suc fuel
-        → Accepts (refers quote (value ++ with_spaces m) (38 ∷ []) (at + length m + 1)) rest u
-        → ValueFound quote value bytes at
-    value_reference quote value bytes at m rest fuel recur e passes short h =
-        let so_far : List ℕ = value ++ with_spaces m in
-        let p1 : ℕ = at + length m + 1 in
-        let n = next (refers quote so_far (38 ∷ []) p1) rest u (λ _ _. refl) h in
-        let inner_there : rest ≡ n.token ++ 59 ∷ n.rest = n.there
-        ∙ ap (λ k. n.token ++ k ∷ n.rest) (eqb-true n.last 59 n.stop) in
-        let r = referred quote so_far p1 n.token n.rest (Tokens.reference (38 ∷ (n.token ++ 59 ∷ []))) refl n.later in
-        let v = recur (so_far ++ encode_utf8 r.0) (p1 + length n.token + 1) n.rest (omega (
-          arith,
-          shorter bytes m
-              rest 38 e,
-          shorter rest n.token n.rest 59 inner_there,
-        )) r.2 in
-        value_joined quote value bytes at m (38 ∷ (n.token ++ 59 ∷ [])) n.rest r.0 (p1 + length n.token + 1)
-        (e ∙ ap (λ (x : List ℕ). m ++ 38 ∷ x) (inner_there ∙ sym (append_assoc n.token (59 ∷ []) n.rest))) passes
-        r.1 (omega (arith, length-append n.token (59 ∷ []))) v
-      where
-        value_joined : (quote : ℕ) (value bytes : List ℕ) (at : ℕ) (m reference b : List ℕ) (c p : ℕ) → bytes
-            ≡ m ++ (reference ++ b) → is_run quote m ≡ true → IsReference reference c
-            → p ≡ at + length m + length reference → ValueFound quote ((value ++ with_spaces m) ++ encode_utf8 c) b
-            p → ValueFound quote value bytes at
-        value_joined quote value bytes at m reference b c p e passes is place r = record {
-          inner = m ++ (reference ++ r.inner);
-          meaning = with_spaces m ++ (encode_utf8 c ++ r.meaning);
-          rest = r.rest;
-          there = e ∙ ap (λ (x : List ℕ). m ++ (reference ++ x)) r.there ∙ spread;
-          is = then_reference m reference c r.inner r.meaning (run_from quote m passes) is r.is;
-          later = subst (λ (q : ℕ × List ℕ). Accepts (between_at false tag (added q.1) (q.0 + 1)) r.rest u) (ap₂ (λ
-              (x : ℕ) (y : List ℕ). (x, y)) all_place sum) r.later;
-        }
-          where
-            spread : m ++ (reference ++ (r.inner ++ quote ∷ r.rest)) ≡ (m ++ (reference ++ r.inner)) ++ quote ∷ r.rest
-            spread = simp append_assoc
-
-            sum : ((value ++ with_spaces m) ++ encode_utf8 c) ++ r.meaning
-                ≡ value ++ (with_spaces m ++ (encode_utf8 c ++ r.meaning))
-            sum = append_assoc (value ++ with_spaces m) (encode_utf8 c) r.meaning
-                ∙ append_assoc value (with_spaces m) (encode_utf8 c ++ r.meaning)
-
-            all_place : p + length r.inner ≡ at + length (m ++ (reference ++ r.inner))
-            all_place = omega (arith, place, length-append m (reference ++ r.inner), length-append reference r.inner)
-
-    first_of_two : (c quote : ℕ) → (nat_eq c quote || nat_eq c 38) ≡ true → nat_eq c 38 ≡ false → c ≡ quote
-    first_of_two c quote e f = elim (or_cases (nat_eq c quote) (nat_eq c 38) e) [
-      | inl k ↦ eqb-true c quote k
-      | inr k ↦ absurd (true≢false (sym k ∙ f))
-    ]
-
-    value_step : (quote : ℕ) (value bytes : List ℕ) (at fuel : ℕ) → RecurValue fuel quote → length bytes ≤ suc fuel
-        → Next (value_at quote value [] at) bytes u → ValueFound quote value bytes at
-    value_step quote value bytes at fuel recur short n =
-        let place : ℕ = at + length n.token in
-        let s : State = value_at quote value n.token place in
-        let refer_state : State = refers quote (value ++ with_spaces n.token) (38 ∷ []) place in
-        let end_state : State = between_at false tag (added (value ++ with_spaces n.token)) place in
-        let p = passed (is_run quote n.token) (cond (nat_eq n.last 38) refer_state end_state) s n.rest u n.later in
-        elim (chosen (nat_eq n.last 38) refer_state end_state n.rest u p.1) [
-          | inl k ↦ value_reference quote value bytes at n.token n.rest fuel recur (n.there
-              ∙ ap (λ c. n.token ++ c ∷ n.rest) (eqb-true n.last 38 k.0)) p.0 short k.1
-          | inr k ↦ record {
-            inner = n.token;
-            meaning = with_spaces n.token;
-            rest = n.rest;
-            there = n.there ∙ ap (λ c. n.token ++ c ∷ n.rest) (first_of_two n.last quote n.stop k.0);
-            is = plain n.token (run_from quote n.token p.0);
-            later = k.1;
-          }
-        ]
-
-    value_found : (quote fuel : ℕ) → RecurValue fuel quote
-    value_found quote zero value at bytes short h =
-        let n = next (value_at quote value [] at) bytes u (λ _ _. refl) h in
-        absurd (omega (arith, shorter bytes n.token n.rest n.last n.there))
-    value_found quote (suc fuel) value at bytes short h =
-        value_step quote value bytes at fuel (value_found quote fuel) short (next (value_at quote value [] at) bytes
-        u (λ _ _. refl) h)
-
     -- ---- behind the =, and behind the name
 
     abbrev valuing_at : At
-    valuing_at = tag_at valuing tag attributes name [] 0 []
+    valuing_at = tag_at valuing tag attributes name no_value []
 
     abbrev named_at : At
-    named_at = tag_at named tag attributes name [] 0 []
+    named_at = tag_at named tag attributes name no_value []
 
     record QuotedFound (bytes : List ℕ) (at : ℕ) : Type 0 where
       right : List ℕ
@@ -146,36 +34,42 @@ module _ (tag : Tag) (u : Element) where
       there : bytes ≡ right ++ (quoted ++ rest)
       white : IsWhite right
       is : IsValue quoted value
-      later : Accepts (between_at false tag (added value) (at + length right + length quoted)) rest u
+      later : Accepts (between_at false tag (added tag attributes name value) (at + length right + length quoted)) rest u
 
     quoted_at : (c : ℕ) (bytes : List ℕ) (at : ℕ) → (nat_eq c 34 || nat_eq c 39) ≡ true
-        → Accepts (value_at c [] [] (at + 1)) bytes u → QuotedFound (c ∷ bytes) at
+        → Accepts (value_at tag attributes name (begun c []) (at + 1)) bytes u → QuotedFound (c ∷ bytes) at
     quoted_at c bytes at e h =
-        let v = value_found c (length bytes) [] (at + 1) bytes (omega arith) h in
+        let r = tag_read tag attributes name u (begun c []) (at + 1) bytes refl h in
+        let v = reads_found c [] bytes r.meaning r.rest r.is in
         record {
           right = [];
           quoted = c ∷ (v.inner ++ c ∷ []);
-          value = v.meaning;
-          rest = v.rest;
-          there = ap (λ (x : List ℕ). c ∷ x) (v.there ∙ sym (append_assoc v.inner (c ∷ []) v.rest));
+          value = r.meaning;
+          rest = r.rest;
+          there = ap (λ (x : List ℕ). c ∷ x) (v.there ∙ sym (append_assoc v.inner (c ∷ []) r.rest));
           white = tt;
           is = elim (or_cases (nat_eq c 34) (nat_eq c 39) e) [
-            | inl k ↦ let q = eqb-true c 34 k in subst (λ k. IsValue (k ∷ (v.inner ++ k ∷ [])) v.meaning) (sym q)
-                (double v.inner v.meaning (subst (λ k. IsInner k v.inner v.meaning) q v.is))
-            | inr k ↦ let q = eqb-true c 39 k in subst (λ k. IsValue (k ∷ (v.inner ++ k ∷ [])) v.meaning) (sym q)
-                (single v.inner v.meaning (subst (λ k. IsInner k v.inner v.meaning) q v.is))
+            | inl k ↦ let q = eqb-true c 34 k in subst (λ k. IsValue (k ∷ (v.inner ++ k ∷ [])) r.meaning) (sym q)
+                (double v.inner r.meaning (subst (λ k. IsInner k v.inner r.meaning) q (subst (IsInner c v.inner)
+                (sym v.sum) v.is)))
+            | inr k ↦ let q = eqb-true c 39 k in subst (λ k. IsValue (k ∷ (v.inner ++ k ∷ [])) r.meaning) (sym q)
+                (single v.inner r.meaning (subst (λ k. IsInner k v.inner r.meaning) q (subst (IsInner c v.inner)
+                (sym v.sum) v.is)))
           ];
-          later = subst (λ p. Accepts (between_at false tag (added v.meaning) p) v.rest u) (omega (
+          later = subst (λ p. Accepts (between_at false tag (added tag attributes name r.meaning) p) r.rest u) (omega (
             arith,
+            r.so_far,
+            ap length v.there,
+            length-append v.inner (c ∷ r.rest),
             length-append v.inner (c ∷ []),
-          )) v.later;
+          )) r.later;
         }
 
     quoted_found : (bytes : List ℕ) (at : ℕ) → Accepts (valuing_at at) bytes u → QuotedFound bytes at
     quoted_found [] at h = cc
     quoted_found (c ∷ bytes) at h =
         let s : State = valuing_at at in
-        let run_state : State = value_at c [] [] at in
+        let run_state : State = value_at tag attributes name (begun c []) at in
         elim (chosen (is_space c) s (cond (nat_eq c 34 || nat_eq c 39) run_state (refuse s)) bytes u h) [
           | inl k ↦
               let r = quoted_found bytes (at + 1) k.1 in
@@ -187,7 +81,7 @@ module _ (tag : Tag) (u : Element) where
                 there = ap (λ (x : List ℕ). c ∷ x) r.there;
                 white = (k.0, r.white);
                 is = r.is;
-                later = subst (λ p. Accepts (between_at false tag (added r.value) p) r.rest u) (omega arith) r.later;
+                later = subst (λ p. Accepts (between_at false tag (added tag attributes name r.value) p) r.rest u) (omega arith) r.later;
               }
           | inr k ↦ let p = passed (nat_eq c 34 || nat_eq c 39) run_state s bytes u k.1 in quoted_at c bytes at p.0 p.1
         ]
@@ -249,7 +143,7 @@ module _ (tag : Tag) (u : Element) where
   ends_tag c at attributes bytes dark h =
       let s : State = between_at false tag attributes at in
       let open_state : State = opened s in
-      let slash_state : State = tag_at slashed tag attributes [] [] 0 [] at in
+      let slash_state : State = tag_at slashed tag attributes [] no_value [] at in
       let naming_state : State = between_at true tag attributes at in
       let h1 = subst (λ t. Accepts (counted (cond t naming_state (cond (nat_eq c 62) open_state (cond (nat_eq c 47)
       slash_state (refuse s))))) bytes u) dark h in
@@ -308,7 +202,7 @@ module _ (tag : Tag) (u : Element) where
                 x. cc;
           }) (omega arith)
           (subst (λ t. Accepts (counted (cond t (between_at true tag before at) (cond (nat_eq c 62) (opened
-          (between_at false tag before at)) (cond (nat_eq c 47) (tag_at slashed tag before [] [] 0 [] at)
+          (between_at false tag before at)) (cond (nat_eq c 47) (tag_at slashed tag before [] no_value [] at)
           (refuse (between_at false tag before at)))))) bytes u) e h))
       first false e = no_more [] before c bytes at tt e h
 
@@ -389,7 +283,7 @@ module _ (tag : Tag) (u : Element) where
 
   naming_step : (fuel : ℕ) → RecurTag fuel → (space : List ℕ) (before : List Attribute) (at : ℕ) (bytes m rest :
       List ℕ) (c : ℕ) → IsSpace space → length bytes ≤ suc fuel → bytes ≡ m ++ c ∷ rest
-      → Accepts (counted (finish naming (tag_at naming tag before [] [] 0 m (at + length m)) c)) rest u
+      → Accepts (counted (finish naming (tag_at naming tag before [] no_value m (at + length m)) c)) rest u
       → AttributesFound space before bytes at
   naming_step fuel recur space before at bytes [] rest c s short e h = subst (λ (x : List ℕ). AttributesFound space
       before x at) (sym e) (first (is_space c) refl)
@@ -408,14 +302,14 @@ module _ (tag : Tag) (u : Element) where
             some = snoc_some space c;
           }) (omega (arith, ap length e))
           (subst (λ t. Accepts (counted (cond t (between_at true tag before at) (cond (nat_eq c 62) (opened
-          (between_at false tag before at)) (cond (nat_eq c 47) (tag_at slashed tag before [] [] 0 [] at)
+          (between_at false tag before at)) (cond (nat_eq c 47) (tag_at slashed tag before [] no_value [] at)
           (refuse (between_at false tag before at)))))) rest u) f h1))
       first false f = no_more space before c rest at s.white f h1
   naming_step fuel recur space before at bytes (x ∷ m) rest c s short e h =
       let name : List ℕ = x ∷ m in
       let place : ℕ = at + length name in
-      let s1 : State = tag_at naming tag before [] [] 0 name place in
-      let p = passed (is_qname name) (at_named (tag_at naming tag before name [] 0 [] place) c) s1 rest u h in
+      let s1 : State = tag_at naming tag before [] no_value name place in
+      let p = passed (is_qname name) (at_named (tag_at naming tag before name no_value [] place) c) s1 rest u h in
       name_ended fuel recur space before at bytes name rest c s short e p.0 p.1
 
   naming_found : (fuel : ℕ) → RecurTag fuel

@@ -1,29 +1,8 @@
--- Words that bytes hold, and tests of every byte.
-use Rattle.std.proofs.Common.{◌≡◌, ◌≢◌, ℕ, ◌⊎◌, inl, inr, Bool, true, false, not, nat_eq, Option, Some, None, List, [], ◌∷◌, ◌++◌, length, drop, refl, sym, ap, ap₂, ◌∙◌}
-use Rattle.std.proofs.Math.Bool.{or-true}
-use Rattle.std.specs.List.{AllByRecursion, list_all}
-use Rattle.std.specs.Str.{bytes_eq}
-use Rattle.std.proofs.lemmas.Bool.{eqb-true, eq-eqb, ne_eqb, and_parts, or_cases, true≢false, false_from_ne_true}
-use Rattle.std.proofs.lemmas.Slice.Eq.{bytes_eq-Decides}
-use Rattle.soap_lex.specs.Characters.{Holds}
-use Rattle.soap_document.specs.Tokens.{begins, cut, holds}
-
--- each element passes, as a test
-pub all_passes : (p : ℕ → Bool) (xs : List ℕ) → AllByRecursion (λ c. p c ≡ true) xs → list_all p xs ≡ true
-all_passes p [] each = refl
-all_passes p (x ∷ xs) each = rw (each.0, all_passes p xs each.1)
-
-pub all_from_passes : (p : ℕ → Bool) (xs : List ℕ) → list_all p xs ≡ true → AllByRecursion (λ c. p c ≡ true) xs
-all_from_passes p [] all = tt
-all_from_passes p (x ∷ xs) all = let (here, later) = and_parts (p x) (list_all p xs) all in (
-  here,
-  all_from_passes p
-      xs later,
-)
-
-pub all_weaker : (P Q : ℕ → Type 0) → ((c : ℕ) → P c → Q c) → (xs : List ℕ) → AllByRecursion P xs → AllByRecursion Q xs
-all_weaker P Q f [] h = tt
-all_weaker P Q f (x ∷ xs) h = (f x h.0, all_weaker P Q f xs h.1)
+-- What all bytes are, and what stands before the first of a kind.
+use Rattle.std.proofs.Common.{◌≡◌, ℕ, ◌⊎◌, inl, inr, Bool, true, false, nat_eq, Option, Some, None, List, [], ◌∷◌, ◌++◌, refl, sym, ap, ◌∙◌}
+use Rattle.std.specs.List.{AllByRecursion}
+use Rattle.std.proofs.lemmas.Bool.{eqb-true, eq-eqb}
+use Rattle.soap_document.specs.Tokens.{cut}
 
 pub all_append : (P : ℕ → Type 0) (xs ys : List ℕ) → AllByRecursion P xs → AllByRecursion P ys
     → AllByRecursion P (xs ++ ys)
@@ -33,89 +12,6 @@ all_append P (x ∷ xs) ys g h = (g.0, all_append P xs ys g.1 h)
 pub all_left : (P : ℕ → Type 0) (xs ys : List ℕ) → AllByRecursion P (xs ++ ys) → AllByRecursion P xs
 all_left P [] ys h = tt
 all_left P (x ∷ xs) ys h = (h.0, all_left P xs ys h.1)
-
--- a byte that passes a test is none that fails it
-pub other : (p : ℕ → Bool) (c k : ℕ) → p c ≡ true → p k ≡ false → nat_eq c k ≡ false
-other p c k passes fails = ne_eqb c k (λ e. true≢false (sym passes ∙ ap p e ∙ fails))
-
-pub same : (a b : List ℕ) → bytes_eq a b ≡ true → a ≡ b
-same a b e = (bytes_eq-Decides a b).0 e
-
-pub differ : (a b : List ℕ) → a ≢ b → bytes_eq a b ≡ false
-differ a b h = false_from_ne_true (bytes_eq a b) (λ e. h (same a b e))
-
-pub equal : (a b : List ℕ) → a ≡ b → bytes_eq a b ≡ true
-equal a b e = (bytes_eq-Decides a b).1 e
-
--- ---- a word in front
-
-pub begins-append : (word after : List ℕ) → begins word (word ++ after) ≡ true
-begins-append [] after = refl
-begins-append (w ∷ word) after = rw (eq-eqb w w refl, begins-append word after)
-
-pub front_from_begins : (word bytes : List ℕ) → begins word bytes ≡ true → bytes ≡ word ++ drop (length word) bytes
-front_from_begins [] bytes e = refl
-front_from_begins (w ∷ word) [] e = cc
-front_from_begins (w ∷ word) (b ∷ bytes) e =
-    let (here, later) = and_parts (nat_eq w b) (begins word bytes) e in
-    let head = eqb-true w b here in
-    let tail = front_from_begins word bytes later in
-    ap₂ (λ (x : ℕ) (xs : List ℕ). x ∷ xs) (sym head) tail
-
--- ---- a word anywhere
-
-holds_at : (before word after : List ℕ) → word ≢ [] → holds (before ++ (word ++ after)) word ≡ true
-holds_at [] [] after some = absurd (some refl)
-holds_at [] (w ∷ word) after some = rw (eq-eqb w w refl, begins-append word after)
-holds_at (b ∷ before) word after some = rw (
-  holds_at before word after some,
-  or-true (begins word (b ∷ (before ++
-      (word ++ after)))),
-)
-
-pub holds-Holds : (bytes word : List ℕ) → word ≢ [] → Holds bytes word → holds bytes word ≡ true
-holds-Holds bytes word some h = ap (λ x. holds x word) h.there ∙ holds_at h.before word h.after some
-
-pub Holds-from : (bytes word : List ℕ) → word ≢ [] → holds bytes word ≡ true → Holds bytes word
-Holds-from [] [] some e = absurd (some refl)
-Holds-from [] (w ∷ word) some e = cc
-Holds-from (b ∷ bytes) word some e =
-    elim (or_cases (begins word (b ∷ bytes)) (holds bytes word) e) [
-      | inl here ↦ record {
-        before = [];
-        after = drop (length word) (b ∷ bytes);
-        there = front_from_begins word (b ∷
-            bytes) here;
-      }
-      | inr later ↦ let h = Holds-from bytes word some later in record {
-        before = b ∷ h.before;
-        after = h.after;
-        there = ap (λ x. b ∷ x) h.there;
-      }
-    ]
-
-pub lacks : (bytes word : List ℕ) → word ≢ [] → ¬ (Holds bytes word) → not (holds bytes word) ≡ true
-lacks bytes word some h = rw (false_from_ne_true (holds bytes word) (λ e. h (Holds-from bytes word some e)))
-
-not_both : (b : Bool) → not b ≡ true → b ≡ true → ⊥
-not_both true e h = cc
-not_both false e h = cc
-
-pub lacks_from : (bytes word : List ℕ) → word ≢ [] → not (holds bytes word) ≡ true → ¬ (Holds bytes word)
-lacks_from bytes word some e h = not_both (holds bytes word) e (holds-Holds bytes word some h)
-
--- bytes that hold no such byte have none
-pub lacks_byte : (k : ℕ) (bytes : List ℕ) → ¬ (Holds bytes (k ∷ [])) → AllByRecursion (λ c. nat_eq c k ≡ false) bytes
-lacks_byte k [] h = tt
-lacks_byte k (c ∷ bytes) h = (
-  ne_eqb c k (λ e. h (record { before = []; after = bytes; there = ap (λ x. x ∷ bytes) e })),
-  lacks_byte k bytes (λ later. h (record {
-    before = c ∷ later.before;
-    after = later.after;
-    there = ap (λ x. c ∷ x)
-        later.there;
-  })),
-)
 
 -- ---- the first of a byte
 

@@ -1,8 +1,10 @@
 -- How the reader moves over bytes: from a state at a place to one at the place behind them.
 use Rattle.std.proofs.Common.{◌≡◌, ℕ, ◌+◌, List, [], ◌∷◌, ◌++◌, Bool, true, false, length, sym, ap, ◌∙◌, arith, append_assoc, append-nil, length-append}
 use Rattle.std.specs.List.{AllByRecursion}
+use Rattle.soap_lex.specs.TextMachine.{begun}
+use Rattle.soap_lex.specs.ValueMachine.{ValueState}
 use Rattle.soap_document.specs.Tree.{Attribute}
-use Rattle.soap_document.specs.Machine.{Mode, chars, less, tagging, naming, Frame, State, stops, step, run}
+use Rattle.soap_document.specs.Machine.{Mode, less, tagging, naming, Frame, State, stops, step, run, no_value, text_mode}
 
 -- the places of two runs of bytes, one behind the other
 pub place_append : (at : ℕ) (b d : List ℕ) → at + length b + length d ≡ at + length (b ++ d)
@@ -41,8 +43,8 @@ pub regroup : (at : ℕ) (b d : List ℕ) (s t : At) → b ≡ d → Moves at b 
 regroup at b d s t e m = rw e at m
 
 -- no byte ends the token
-abbrev pub NoStops : Mode → ℕ → List ℕ → Type 0
-NoStops mode quote bytes = AllByRecursion (λ c. stops mode quote c ≡ false) bytes
+abbrev pub NoStops : Mode → List ℕ → Type 0
+NoStops mode bytes = AllByRecursion (λ c. stops mode c ≡ false) bytes
 
 abbrev pub at_place : State → At
 at_place s at = record s { at = at }
@@ -50,7 +52,7 @@ at_place s at = record s { at = at }
 abbrev pub longer : State → List ℕ → State
 longer s bytes = record s { token = s.token ++ bytes }
 
-kept_step : (s : State) (c : ℕ) → stops s.mode s.quote c ≡ false → step s c
+kept_step : (s : State) (c : ℕ) → stops s.mode c ≡ false → step s c
     ≡ record s { at = s.at + 1; token = s.token ++ c ∷ [] }
 kept_step s c e = rw e
 
@@ -58,7 +60,7 @@ pub retarget : (at : ℕ) (b : List ℕ) (s t u : At) → ((p : ℕ) → t p ≡
 retarget at b s t u e m rest = m rest ∙ ap (λ x. run x rest) (e (at + length b))
 
 -- bytes that end no token lengthen it
-pub kept : (s : State) (bytes : List ℕ) (at : ℕ) → NoStops s.mode s.quote bytes
+pub kept : (s : State) (bytes : List ℕ) (at : ℕ) → NoStops s.mode bytes
     → Moves at bytes (at_place s) (at_place (longer s bytes))
 kept s [] at h = retarget at [] (at_place s) (at_place s) (at_place (longer s [])) (λ p. ap (λ t. record s {
   at = p;
@@ -73,7 +75,7 @@ kept s (c ∷ bytes) at h =
 
 -- ---- states
 
--- outside of tags
+-- outside of tags, where no text is being read
 abbrev pub plain_at : Mode → Bool → ℕ → Frame → List Frame → List ℕ → List ℕ → At
 plain_at mode fresh mark top below text token at = record {
   mode = mode;
@@ -81,18 +83,18 @@ plain_at mode fresh mark top below text token at = record {
   at = at;
   mark = mark;
   token = token;
-  text = text;
+  words = begun text;
   name = [];
   attributes = [];
   attribute = [];
-  value = [];
-  quote = 0;
+  value = no_value;
   top = top;
   below = below;
 }
 
+-- where text begins, or outside of the root
 abbrev pub chars_at : Frame → List Frame → List ℕ → List ℕ → At
-chars_at top below text token = plain_at chars false 0 top below text token
+chars_at top below text token = plain_at (text_mode below) false 0 top below text token
 
 abbrev pub less_at : Bool → ℕ → Frame → List Frame → List ℕ → List ℕ → At
 less_at fresh mark top below text token = plain_at less fresh mark top below text token
@@ -105,19 +107,18 @@ pub record Tag : Type 0 where
   pub below : List Frame
   pub name : List ℕ
 
-abbrev pub tag_at : Mode → Tag → List Attribute → List ℕ → List ℕ → ℕ → List ℕ → At
-tag_at mode tag attributes attribute value quote token at = record {
+abbrev pub tag_at : Mode → Tag → List Attribute → List ℕ → ValueState → List ℕ → At
+tag_at mode tag attributes attribute value token at = record {
   mode = mode;
   fresh = tag.fresh;
   at = at;
   mark = tag.mark;
   token = token;
-  text = [];
+  words = begun [];
   name = tag.name;
   attributes = attributes;
   attribute = attribute;
   value = value;
-  quote = quote;
   top = tag.top;
   below = tag.below;
 }
@@ -128,4 +129,4 @@ between false = tagging
 between true = naming
 
 abbrev pub between_at : Bool → Tag → List Attribute → At
-between_at spaced tag attributes = tag_at (between spaced) tag attributes [] [] 0 []
+between_at spaced tag attributes = tag_at (between spaced) tag attributes [] no_value []

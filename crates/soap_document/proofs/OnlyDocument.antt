@@ -6,11 +6,11 @@ use Rattle.soap_document.specs.Grammar.{IsMisc, white, comment, IsMark, unmarked
 use Rattle.soap_document.specs.Machine.{beginning, declaring, Frame, step, run, start, nothing_open, root_of, is_mark}
 use Rattle.soap_document.specs.Declaration.{is_declaration}
 use Rattle.soap_document.specs.Tokens.{is_white}
-use Rattle.soap_document.proofs.Held.{other}
+use Rattle.soap_lex.proofs.HeldLemmas.{other}
 use Rattle.soap_document.proofs.Moves.{At, Moves, NoStops, then, byte, one, regroup, stay, kept, plain_at, chars_at, less_at}
 use Rattle.soap_document.proofs.OnlyElements.{element_only}
-use Rattle.soap_document.proofs.OnlyText.{comment_moves}
-use Rattle.soap_document.proofs.TokenLaws.{white_passes, white_chars}
+use Rattle.soap_document.proofs.OnlyComments.{comment_moves}
+use Rattle.soap_document.proofs.TokenLaws.{white_passes, white_outside}
 use Rattle.soap_document.proofs.Declarations.{Declares, declaration_passes}
 
 -- outside of the root, text ends in white space
@@ -28,7 +28,7 @@ misc_only (white space h) top at = record {
   token = space;
   is = white_passes space h;
   moves = kept (chars_at top []
-      [] [] at) space at (white_chars space h);
+      [] [] at) space at (white_outside space h);
 }
 misc_only (comment space inner rest h c m) top at =
     let p1 : ℕ = at + length space in
@@ -39,7 +39,7 @@ misc_only (comment space inner rest h c m) top at =
       is = after.is;
       moves = then at space (codes "<!--" ++ (inner ++ (codes "-->" ++ rest))) (chars_at top [] [] []) (chars_at top
           [] [] space) target
-          (kept (chars_at top [] [] [] at) space at (white_chars space h))
+          (kept (chars_at top [] [] [] at) space at (white_outside space h))
           (regroup p1 ((codes "<!--" ++ (inner ++ codes "-->")) ++ rest) (codes "<!--" ++ (inner ++ (codes "-->" ++
           rest))) (chars_at top [] [] space) target
           (ap (λ (x : List ℕ). codes "<!--" ++ x) (append_assoc inner (codes "-->") rest))
@@ -123,7 +123,7 @@ declared_end : (mark : ℕ) (inner : List ℕ) (at : ℕ) → is_declaration inn
     → step (declaring_at mark inner at) 62 ≡ outer_at [] (at + 1)
 declared_end mark inner at e = rw e
 
-declared_moves : (mark inner : List ℕ) (at : ℕ) → is_mark mark ≡ true → NoStops declaring 0 inner
+declared_moves : (mark inner : List ℕ) (at : ℕ) → is_mark mark ≡ true → NoStops declaring inner
     → is_declaration inner ≡ true → Moves at (60 ∷ 63 ∷ (inner ++ 62 ∷ [])) (beginning_at mark) (outer_at [])
 declared_moves mark inner at e h passes =
     byte at 60 (63 ∷ (inner ++ 62 ∷ [])) (beginning_at mark) (less_at true at nothing_open [] [] []) (outer_at [])
@@ -174,7 +174,8 @@ document_only (document mark declaration before bytes root after m d b e a) =
     let at : ℕ = length mark + length declaration + length before in
     let s = starts mark declaration before (0 + length mark) (mark_passes m) (declaration_passes d) b in
     let ends = misc_only a (rooted root) (at + length bytes) in
-    let through = element_only e nothing_open [] [] s.fresh s.before (λ _. refl) refl (s.enters at) in
+    let through = element_only e nothing_open [] [] s.fresh s.before (λ _. refl) refl
+    (λ c rest _. ap (λ x. run x (c ∷ rest)) (s.enters at)) in
     ap (λ x. root_of (run start x)) (sym (document_bytes mark declaration before bytes after))
     ∙ ap root_of (mark_moves m ((declaration ++ before) ++ (bytes ++ after)) ∙ s.moves (bytes ++ after)
     ∙ ap (λ p. run (s.before p) (bytes ++ after)) (prefix_place mark declaration before)

@@ -1,15 +1,17 @@
 -- The reader takes elements and their content as the grammar has them.
-use Rattle.std.proofs.Common.{◌≡◌, ℕ, suc, ◌+◌, ◌<◌, ◌⊎◌, inl, inr, List, [], ◌∷◌, ◌++◌, Bool, true, false, length, codes, refl, sym, ap, ap₂, ◌∙◌, arith, append_assoc, length-append}
-use Rattle.std.proofs.lemmas.Bool.{lt-ltb}
+use Rattle.std.proofs.Common.{◌≡◌, ℕ, suc, ◌+◌, ◌<◌, ◌⊎◌, inl, inr, List, [], ◌∷◌, ◌++◌, Bool, true, false, length, codes, nat_eq, refl, sym, ap, ap₂, ◌∙◌, arith, append_assoc, length-append}
+use Rattle.std.proofs.lemmas.Bool.{lt-ltb, ne_eqb, true≢false}
 use Rattle.xml_chars.specs.Classes.{is_space}
+use Rattle.soap_lex.specs.TextMachine.{chars}
+use Rattle.soap_lex.proofs.TextRead.{in_mode, text_takes}
 use Rattle.soap_document.specs.Tree.{Attribute, Element, element, Parts, none, text, child, onto}
 use Rattle.soap_document.specs.Grammar.{IsWhite, IsQName, IsAttributes, end, more, IsElement, full, empty, IsContent, last, start_tag, end_tag, empty_tag, max_depth}
-use Rattle.soap_document.specs.Machine.{ending, slashed, Frame, step, run, join, with_parts, has_room}
+use Rattle.soap_document.specs.Machine.{no_value, less, ending, slashed, Frame, step, run, join, with_parts, has_room, is_name_end}
 use Rattle.soap_document.specs.Tokens
-use Rattle.soap_document.proofs.Moves.{At, Moves, then, byte, one, regroup, retarget, kept, Tag, tag_at, between_at, plain_at, chars_at, less_at}
+use Rattle.soap_document.proofs.Moves.{At, Moves, place_one, NoStops, then, byte, one, regroup, retarget, kept, Tag, tag_at, between_at, plain_at, chars_at, less_at}
 use Rattle.soap_document.proofs.OnlyTags.{attributes_only}
-use Rattle.soap_document.proofs.OnlyText.{text_only, text_less}
 use Rattle.soap_document.proofs.TokenLaws.{qname_passes, qname_some, qname_less, qname_ending, white_ending, end_passes}
+use Rattle.soap_document.proofs.Words.{words_at, words_move, words_less}
 
 -- ---- parts
 
@@ -27,6 +29,29 @@ pub grown : (top : Frame) (x : List ℕ) (u : Element) (ps : Parts)
 grown top x u ps = ap (λ (k : Parts). record top { parts = k })
     (join-assoc (join top.parts (onto x none)) (child u none) ps ∙ join-assoc top.parts (onto x none) (child u ps)
     ∙ ap (join top.parts) (join-onto x none (child u ps)))
+
+-- ---- a <
+
+-- a < is the first byte of a tag, where no ! follows
+abbrev pub Enters : At → ℕ → Bool → Frame → List Frame → List ℕ → Type 0
+Enters s at fresh top below x = (c : ℕ) (rest : List ℕ) → nat_eq c 33 ≡ false
+    → run (s at) (60 ∷ c ∷ rest) ≡ run (less_at fresh at top below x [] (at + 1)) (c ∷ rest)
+
+enter : (at c : ℕ) (bytes : List ℕ) (s to : At) (fresh : Bool) (top : Frame) (below : List Frame) (x : List ℕ)
+    → Enters s at fresh top below x → nat_eq c 33 ≡ false
+    → Moves (at + 1) (c ∷ bytes) (less_at fresh at top below x []) to → Moves at (60 ∷ c ∷ bytes) s to
+enter at c bytes s to fresh top below x e h m rest =
+    e c (bytes ++ rest) h ∙ m rest ∙ ap (λ p. run (to p) rest) (place_one at 60 (c ∷ bytes))
+
+name_byte : (c : ℕ) → is_name_end c ≡ false → nat_eq c 33 ≡ false
+name_byte c h = ne_eqb c 33 (λ e. true≢false (sym (ap is_name_end e) ∙ h))
+
+enter_name : (at : ℕ) (name bytes : List ℕ) (s to : At) (fresh : Bool) (top : Frame) (below : List Frame) (x : List ℕ)
+    → Enters s at fresh top below x → Tokens.is_nil name ≡ false → NoStops less name
+    → Moves (at + 1) (name ++ bytes) (less_at fresh at top below x []) to → Moves at (60 ∷ (name ++ bytes)) s to
+enter_name at [] bytes s to fresh top below x e some h m = cc
+enter_name at (c ∷ name) bytes s to fresh top below x e some h m =
+    enter at c (name ++ bytes) s to fresh top below x e (name_byte c h.0) m
 
 -- ---- start tags
 
@@ -114,7 +139,7 @@ module _ (fresh : Bool) (top : Frame) (below : List Frame) (text : List ℕ) (na
       attributes) inside attrs.moves last_one))
 
   slash_step : (spaced : Bool) → step (between_at spaced here attributes p3) 47
-      ≡ tag_at slashed here attributes [] [] 0 [] (p3 + 1)
+      ≡ tag_at slashed here attributes [] no_value [] (p3 + 1)
   slash_step true = refl
   slash_step false = refl
 
@@ -127,7 +152,7 @@ module _ (fresh : Bool) (top : Frame) (below : List Frame) (text : List ℕ) (na
   empty_moves =
       let after = chars_at (hollow (at + length (empty_tag name tag))) below [] [] in
       let attrs = attributes_only h here false [] (at + 1 + length name) in
-      let slash = tag_at slashed here attributes [] [] 0 [] in
+      let slash = tag_at slashed here attributes [] no_value [] in
       let last_one = one (p3 + 1) 62 slash after (ap (λ k. chars_at (hollow k) below [] [] (p3 + 1 + 1))
       (empty_place at name tag)) in
       then (at + 1) name (tag ++ codes "/>") (less_at fresh at top below text []) (less_at fresh at top below text
@@ -188,7 +213,7 @@ mutual
   pub element_only : {depth at : ℕ} {bytes : List ℕ} {u : Element} → IsElement depth at bytes u
       → (top : Frame) (below : List Frame) (x : List ℕ) (fresh : Bool) (s : At) → (depth < max_depth
       → has_room below top.parts ≡ true) → length below ≡ depth
-      → step (s at) 60 ≡ less_at fresh at top below x [] (at + 1)
+      → Enters s at fresh top below x
       → Moves at bytes s (chars_at (with_parts (with_parts top (onto x none)) (child u none)) below [] [])
   element_only (full depth at name tag attributes content parts space d q h c w) top below x fresh s room deep enters =
       let start : ℕ = at + length (start_tag name tag) in
@@ -203,8 +228,8 @@ mutual
       tag ++ (content ++ end_tag name space)) s after
       (full_bytes (start_tag name tag) content name space)
       (then at (start_tag name tag) ((content ++ codes "</") ++ (name ++ (space ++ codes ">"))) s inside after
-      (byte at 60 (name ++ (tag ++ codes ">")) s (less_at fresh at top below x []) inside enters (open_moves fresh
-      top below x name tag attributes at q h (room d)))
+      (enter_name at name (tag ++ codes ">") s inside fresh top below x enters (qname_some name q) (qname_less name q)
+      (open_moves fresh top below x name tag attributes at q h (room d)))
       (then start (content ++ codes "</") (name ++ (space ++ codes ">")) inside closing after
       (content_only c frame settled below (ap suc deep))
       (close_moves done settled below mark space (start + length (content ++ codes "</")) q w)))
@@ -212,28 +237,28 @@ mutual
       let start : ℕ = at + length (empty_tag name tag) in
       let after = chars_at (with_parts (with_parts top (onto x none)) (child (element name attributes start start
       none) none)) below [] [] in
-      byte at 60 (name ++ (tag ++ codes "/>")) s (less_at fresh at top below x []) after enters (empty_moves fresh
-      top below x name tag attributes at q h (room d))
+      enter_name at name (tag ++ codes "/>") s after fresh top below x enters (qname_some name q) (qname_less name q)
+      (empty_moves fresh top below x name tag attributes at q h (room d))
 
   pub content_only : {depth at : ℕ} {bytes : List ℕ} {parts : Parts} → IsContent depth at bytes parts
       → (top frame : Frame) (frames : List Frame) → length (frame ∷ frames) ≡ depth
       → Moves at (bytes ++ codes "</") (chars_at top (frame ∷ frames) [] []) (ending_at (with_parts top parts) frame
       frames (at + length bytes) [])
   content_only (last depth at bytes meaning t) top frame frames deep =
-      let ends = text_only top frame frames t [] at in
+      let ends = text_takes t [] in
       let below = frame ∷ frames in
       let place : ℕ = at + length bytes in
-      let before = chars_at top below ends.before ends.token in
+      let before = words_at top frame frames (in_mode ends.before chars ends.token) in
       let after = ending_at (with_parts top (onto meaning none)) frame frames place [] in
-      then at bytes (codes "</") (chars_at top below [] []) before after ends.moves
-      (byte place 60 (codes "/") before (less_at false place top below meaning []) after (text_less top frame frames
-      [] meaning bytes at ends place)
-      (one (place + 1) 47 (less_at false place top below meaning []) after refl))
+      then at bytes (codes "</") (chars_at top below [] []) before after
+      (words_move top frame frames ends.takes at)
+      (enter place 47 [] before after false top below meaning (words_less top frame frames [] meaning bytes ends place)
+      refl (one (place + 1) 47 (less_at false place top below meaning []) after refl))
   content_only (more depth at bytes meaning inner first rest parts t e c) top frame frames deep =
-      let ends = text_only top frame frames t [] at in
+      let ends = text_takes t [] in
       let below = frame ∷ frames in
       let place : ℕ = at + length bytes in
-      let before = chars_at top below ends.before ends.token in
+      let before = words_at top frame frames (in_mode ends.before chars ends.token) in
       let next = with_parts (with_parts top (onto meaning none)) (child first none) in
       let middle = chars_at next below [] [] in
       let mark : ℕ = place + length inner + length rest in
@@ -241,10 +266,11 @@ mutual
       (inner ++ rest))) [] in
       regroup at (bytes ++ (inner ++ (rest ++ codes "</"))) ((bytes ++ (inner ++ rest)) ++ codes "</") (chars_at top
       below [] []) after (content_bytes bytes inner rest)
-      (then at bytes (inner ++ (rest ++ codes "</")) (chars_at top below [] []) before after ends.moves
+      (then at bytes (inner ++ (rest ++ codes "</")) (chars_at top below [] []) before after
+      (words_move top frame frames ends.takes at)
       (then place inner (rest ++ codes "</") before middle after
       (element_only e top below meaning false before (has_room_below frame frames top.parts depth deep) deep
-      (text_less top frame frames [] meaning bytes at ends place))
+      (words_less top frame frames [] meaning bytes ends place))
       (retarget (place + length inner) (rest ++ codes "</") middle (ending_at (with_parts next parts) frame frames
       mark []) after
       (λ p. ap₂ (λ (f : Frame) (m : ℕ). ending_at f frame frames m [] p) (grown top meaning first parts)

@@ -1,15 +1,16 @@
 -- The reader takes tags as the grammar has them.
-use Rattle.std.proofs.Common.{◌≡◌, ℕ, ◌+◌, List, [], ◌∷◌, ◌++◌, Bool, true, false, ◌||◌, Some, length, codes, encode_utf8, nat_eq, refl, sym, ap, ◌∙◌, append_assoc, append-nil}
-use Rattle.std.proofs.Math.Bool.{or-true}
+use Rattle.std.proofs.Common.{◌≡◌, ℕ, ◌+◌, List, [], ◌∷◌, ◌++◌, Bool, true, false, length, codes, nat_eq, refl, sym, ap, append_assoc, append-nil}
 use Rattle.xml_chars.specs.Classes.{is_space}
-use Rattle.soap_lex.specs.Value.{IsValue, double, single, IsInner, run as plain, more as then_reference, with_spaces}
+use Rattle.soap_lex.specs.Value.{IsValue, double, single, IsInner}
+use Rattle.soap_lex.specs.ValueMachine.{begun}
+use Rattle.soap_lex.proofs.ValueRead.{inner_takes}
 use Rattle.soap_document.specs.Tree.{Attribute}
 use Rattle.soap_document.specs.Grammar.{IsWhite, IsSpace, IsQName, IsAttributes, end, more}
-use Rattle.soap_document.specs.Machine.{naming, named, valuing, value_run, value_referring, step}
+use Rattle.soap_document.specs.Machine.{naming, named, valuing, no_value, step}
 use Rattle.soap_document.specs.Tokens
-use Rattle.soap_document.specs.Tokens.{is_run}
 use Rattle.soap_document.proofs.Moves.{At, Moves, then, byte, one, regroup, retarget, stay, kept, Tag, tag_at, between_at}
-use Rattle.soap_document.proofs.TokenLaws.{Referred, reference_passes, run_passes, plain_run, qname_passes, qname_some, qname_naming}
+use Rattle.soap_document.proofs.TokenLaws.{qname_passes, qname_some, qname_naming}
+use Rattle.soap_document.proofs.Values.{value_at, added, tag_moves}
 
 -- where white space changes nothing
 pub white_moves : (s : At) → ((c at : ℕ) → is_space c ≡ true → step (s at) c ≡ s (at + 1))
@@ -39,14 +40,14 @@ module _ (tag : Tag) (attributes : List Attribute) where
   -- ---- an attribute's name and the = behind it
 
   abbrev name_at : List ℕ → At
-  name_at name = tag_at naming tag attributes [] [] 0 name
+  name_at name = tag_at naming tag attributes [] no_value name
 
   module _ (name : List ℕ) where
     abbrev named_at : At
-    named_at = tag_at named tag attributes name [] 0 []
+    named_at = tag_at named tag attributes name no_value []
 
     abbrev valuing_at : At
-    valuing_at = tag_at valuing tag attributes name [] 0 []
+    valuing_at = tag_at valuing tag attributes name no_value []
 
     name_space : (c at : ℕ) → Tokens.is_nil name ≡ false → Tokens.is_qname name ≡ true → is_space c ≡ true
         → step (name_at name at) c ≡ named_at (at + 1)
@@ -75,98 +76,20 @@ module _ (tag : Tag) (attributes : List Attribute) where
 
     -- ---- a value
 
-    abbrev value_at : ℕ → List ℕ → List ℕ → At
-    value_at quote value token = tag_at value_run tag attributes name value quote token
-
-    abbrev refers : ℕ → List ℕ → List ℕ → At
-    refers quote value token = tag_at value_referring tag attributes name value quote token
-
-    reference_step : (quote : ℕ) (value token : List ℕ) (at : ℕ) → is_run quote token ≡ true
-        → step (value_at quote value token at) 38 ≡ refers quote (value ++ with_spaces token) (38 ∷ []) (at + 1)
-    reference_step quote value token at e = rw (or-true (nat_eq 38 quote), e)
-
-    reference_end : (quote : ℕ) (value inner : List ℕ) (c at : ℕ) → Tokens.reference (38 ∷ (inner ++ 59 ∷ []))
-        ≡ Some c → step (refers quote value (38 ∷ inner) at) 59 ≡ value_at quote (value ++ encode_utf8 c) [] (at + 1)
-    reference_end quote value inner c at e = rw e
-
-    reference_moves : (quote : ℕ) (value token bytes : List ℕ) (c at : ℕ) → is_run quote token ≡ true
-        → Referred bytes c → Moves at bytes (value_at quote value token) (value_at quote ((value ++ with_spaces
-        token) ++ encode_utf8 c) [])
-    reference_moves quote value token bytes c at e r =
-        let so_far : List ℕ = value ++ with_spaces token in
-        let end = value_at quote (so_far ++ encode_utf8 c) [] in
-        regroup at (38 ∷ (r.inner ++ 59 ∷ [])) bytes (value_at quote value token) end (sym r.there)
-        (byte at 38 (r.inner ++ 59 ∷ []) (value_at quote value token) (refers quote so_far (38 ∷ [])) end
-        (reference_step quote value token at e)
-        (then (at + 1) r.inner (59 ∷ []) (refers quote so_far (38 ∷ [])) (refers quote so_far (38 ∷ r.inner)) end
-        (kept (refers quote so_far (38 ∷ []) 0) r.inner (at + 1) r.text)
-        (one (at + 1 + length r.inner) 59 (refers quote so_far (38 ∷ r.inner)) end (reference_end quote so_far
-        r.inner c (at + 1 + length r.inner) (rw r.there at r.passes)))))
-
-    -- where a value ends: a token that is a run of its characters, which is not yet made part of it
-    record ValueEnds (quote : ℕ) (value bytes meaning : List ℕ) (at : ℕ) : Type 0 where
-      before : List ℕ
-      token : List ℕ
-      passes : is_run quote token ≡ true
-      sum : before ++ with_spaces token ≡ value ++ meaning
-      moves : Moves at bytes (value_at quote value []) (value_at quote before token)
-
-    value_only : {quote : ℕ} {bytes meaning : List ℕ} → IsInner quote bytes meaning
-        → (nat_eq quote 34 || nat_eq quote 39) ≡ true → (value : List ℕ) (at : ℕ)
-        → ValueEnds quote value bytes meaning at
-    value_only {quote} (plain bytes h) q value at = record {
-      before = value;
-      token = bytes;
-      passes = run_passes quote bytes q h;
-      sum = refl;
-      moves = kept (value_at quote value [] at) bytes at (plain_run quote bytes h);
-    }
-    value_only {quote} (then_reference bytes reference c rest later h r t) q value at =
-        let so_far : List ℕ = (value ++ with_spaces bytes) ++ encode_utf8 c in
-        let after = value_only t q so_far (at + length bytes + length reference) in
-        let start = value_at quote value [] in
-        record {
-          before = after.before;
-          token = after.token;
-          passes = after.passes;
-          sum = after.sum ∙ append_assoc (value ++ with_spaces bytes) (encode_utf8 c) later
-              ∙ append_assoc value (with_spaces bytes) (encode_utf8 c ++ later);
-          moves = then at bytes (reference ++ rest) start (value_at quote value bytes) (value_at quote after.before
-              after.token)
-              (kept (value_at quote value [] at) bytes at (plain_run quote bytes h))
-              (then (at + length bytes) reference rest (value_at quote value bytes) (value_at quote so_far [])
-              (value_at quote after.before after.token)
-              (reference_moves quote value bytes reference c (at + length bytes) (run_passes quote bytes q h)
-              (reference_passes reference c r)) after.moves);
-        }
-
-    abbrev added : List ℕ → List Attribute
-    added value = attributes ++ record { name = name; value = value } ∷ []
-
-    double_end : (before token value : List ℕ) (at : ℕ) → is_run 34 token ≡ true → before ++ with_spaces token ≡ value
-        → step (value_at 34 before token at) 34 ≡ between_at false tag (added value) (at + 1)
-    double_end before token value at e sum = rw (e, sum)
-
-    single_end : (before token value : List ℕ) (at : ℕ) → is_run 39 token ≡ true → before ++ with_spaces token ≡ value
-        → step (value_at 39 before token at) 39 ≡ between_at false tag (added value) (at + 1)
-    single_end before token value at e sum = rw (e, sum)
+    inner_moves : (quote : ℕ) (inner value : List ℕ) (at : ℕ) → nat_eq quote 38 ≡ false → IsInner quote inner value
+        → Moves at (inner ++ quote ∷ []) (value_at tag attributes name (begun quote []))
+        (between_at false tag (added tag attributes name value))
+    inner_moves quote inner value at f h rest =
+        tag_moves tag attributes name (inner_takes quote h [] f) refl refl at rest
 
     quoted_only : {quoted value : List ℕ} → IsValue quoted value → (at : ℕ)
-        → Moves at quoted valuing_at (between_at false tag (added value))
+        → Moves at quoted valuing_at (between_at false tag (added tag attributes name value))
     quoted_only (double inner value h) at =
-        let ends = value_only h refl [] (at + 1) in
-        let after = between_at false tag (added value) in
-        byte at 34 (inner ++ 34 ∷ []) valuing_at (value_at 34 [] []) after refl
-        (then (at + 1) inner (34 ∷ []) (value_at 34 [] []) (value_at 34 ends.before ends.token) after ends.moves
-        (one (at + 1 + length inner) 34 (value_at 34 ends.before ends.token) after (double_end ends.before
-        ends.token value (at + 1 + length inner) ends.passes ends.sum)))
+        byte at 34 (inner ++ 34 ∷ []) valuing_at (value_at tag attributes name (begun 34 []))
+        (between_at false tag (added tag attributes name value)) refl (inner_moves 34 inner value (at + 1) refl h)
     quoted_only (single inner value h) at =
-        let ends = value_only h refl [] (at + 1) in
-        let after = between_at false tag (added value) in
-        byte at 39 (inner ++ 39 ∷ []) valuing_at (value_at 39 [] []) after refl
-        (then (at + 1) inner (39 ∷ []) (value_at 39 [] []) (value_at 39 ends.before ends.token) after ends.moves
-        (one (at + 1 + length inner) 39 (value_at 39 ends.before ends.token) after (single_end ends.before
-        ends.token value (at + 1 + length inner) ends.passes ends.sum)))
+        byte at 39 (inner ++ 39 ∷ []) valuing_at (value_at tag attributes name (begun 39 []))
+        (between_at false tag (added tag attributes name value)) refl (inner_moves 39 inner value (at + 1) refl h)
 
   -- an attribute, and the white space before it
   attribute_only : (spaced : Bool) (space name left right quoted value : List ℕ) (at : ℕ) → IsSpace space

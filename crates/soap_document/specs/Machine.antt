@@ -1,23 +1,26 @@
 -- The reader of documents, a byte at a time. It says how a document is read, and nothing of what a document is: that
 -- stands in Grammar. Bytes that end a token have their meaning, and all others only lengthen it.
-use Rattle.std.specs.Prelude.{ℕ, ◌+◌, List, [], ◌∷◌, ◌++◌, Bool, true, false, not, ◌&&◌, ◌||◌, ◌==◌, nat_lt, if◌then◌else◌, Option, Some, None, codes, length, encode_utf8}
+use Rattle.std.specs.Prelude.{ℕ, ◌+◌, ◌-◌, List, [], ◌∷◌, ◌++◌, Bool, true, false, not, ◌&&◌, ◌||◌, ◌==◌, nat_lt, if◌then◌else◌, Option, Some, None, codes, length}
 use Rattle.std.specs.Str.{bytes_eq}
 use Rattle.xml_chars.specs.Classes.{is_space}
-use Rattle.soap_lex.specs.Text.{with_line_ends}
-use Rattle.soap_lex.specs.Value.{with_spaces}
+pub use Rattle.soap_lex.specs.Tests.{without}
+use Rattle.soap_lex.specs.TextMachine.{TextState, begun as begun_text, halts as text_halts, is_less, step as text_step}
+use Rattle.soap_lex.specs.ValueMachine.{ValueState, begun as begun_value, halts as value_halts, is_closed, step as value_step}
 use Rattle.soap_document.specs.Tree.{Attribute, Element, element, Parts, none, text, child, onto}
 use Rattle.soap_document.specs.Grammar.{max_depth}
-use Rattle.soap_document.specs.Tokens.{is_nil, is_white, is_qname, is_char_data, is_cdata, is_comment, is_run, reference}
+use Rattle.soap_document.specs.Tokens.{is_nil, is_white, is_qname, is_comment}
 use Rattle.soap_document.specs.Declaration.{is_declaration}
 
 pub data Mode : Type 0 where
   -- before the first < or white space; in an XML declaration
   beginning declaring : Mode
-  -- in text; in a reference there; just after a <, or in a name there; just after <!; in a comment, in a CDATA section
-  chars referring less marking commenting quoting : Mode
+  -- outside of the root; just after <! there, in a comment there
+  outside marking commenting : Mode
+  -- in text within an element, which the machine of soap_lex reads; just after a <, or in a name there
+  chars less : Mode
   -- in a start tag: where an attribute or white space may follow; in an attribute's name; behind one; behind =; in a
-  -- value; in a reference there; behind /
-  tagging naming named valuing value_run value_referring slashed : Mode
+  -- value, which the machine of soap_lex reads; behind /
+  tagging naming named valuing value_inner slashed : Mode
   -- in an end tag; the bytes are no document
   ending refused : Mode
 
@@ -35,17 +38,20 @@ pub record State : Type 0 where
   -- how many bytes were read; where the < of the markup stands
   pub at : ℕ
   pub mark : ℕ
-  -- the bytes of the token that is not ended, the text so far, and what was read of a start tag
+  -- the bytes of the token that is not ended, the text, and what was read of a start tag
   pub token : List ℕ
-  pub text : List ℕ
+  pub words : TextState
   pub name : List ℕ
   pub attributes : List Attribute
   pub attribute : List ℕ
-  pub value : List ℕ
-  pub quote : ℕ
+  pub value : ValueState
   -- the elements that are open, the innermost first
   pub top : Frame
   pub below : List Frame
+
+-- where no value is read
+abbrev pub no_value : ValueState
+no_value = begun_value 34 []
 
 abbrev pub join : Parts → Parts → Parts
 join none parts = parts
@@ -58,42 +64,39 @@ with_parts frame more = record frame { parts = join frame.parts more }
 abbrev pub refuse : State → State
 refuse s = record s { mode = refused; token = [] }
 
--- back in text
-abbrev pub calm : State → State
-calm s = record s { mode = chars; fresh = false; mark = 0; token = [] }
+-- in text, where elements are open
+abbrev pub text_mode : List Frame → Mode
+text_mode [] = outside
+text_mode (frame ∷ frames) = chars
 
--- the text so far becomes a part
+-- back in text, or outside of the root
+abbrev pub calm : State → State
+calm s = record s { mode = text_mode s.below; fresh = false; mark = 0; token = [] }
+
+-- the text becomes a part
 abbrev pub settle : State → State
-settle s = record s { top = with_parts s.top (onto s.text none); text = [] }
+settle s = record s { top = with_parts s.top (onto s.words.text none); words = begun_text [] }
 
 abbrev pub is_name_end : ℕ → Bool
 is_name_end c = is_space c || ((c == 62) || ((c == 47) || ((c == 61) || ((c == 33) || (c == 63)))))
 
 -- whether a byte ends the token
-abbrev pub stops : Mode → ℕ → ℕ → Bool
-stops beginning quote c = is_space c || (c == 60)
-stops declaring quote c = c == 62
-stops chars quote c = (c == 60) || (c == 38)
-stops referring quote c = c == 59
-stops less quote c = is_name_end c
-stops marking quote c = (c == 45) || (c == 91)
-stops commenting quote c = c == 62
-stops quoting quote c = c == 62
-stops tagging quote c = true
-stops naming quote c = is_name_end c
-stops named quote c = true
-stops valuing quote c = true
-stops value_run quote c = (c == quote) || (c == 38)
-stops value_referring quote c = c == 59
-stops slashed quote c = true
-stops ending quote c = c == 62
-stops refused quote c = true
-
--- the front of the bytes, where they end in the word
-abbrev pub without : List ℕ → List ℕ → Option (List ℕ)
-without word [] = if is_nil word then Some [] else None
-without word (b ∷ bytes) = if bytes_eq word (b ∷ bytes) then Some [] else
-    elim (without word bytes) [ None ↦ None | Some front ↦ Some (b ∷ front) ]
+abbrev pub stops : Mode → ℕ → Bool
+stops beginning c = is_space c || (c == 60)
+stops declaring c = c == 62
+stops outside c = c == 60
+stops marking c = c == 45
+stops commenting c = c == 62
+stops chars c = true
+stops less c = is_name_end c
+stops tagging c = true
+stops naming c = is_name_end c
+stops named c = true
+stops valuing c = true
+stops value_inner c = true
+stops slashed c = true
+stops ending c = c == 62
+stops refused c = true
 
 abbrev pub is_mark : List ℕ → Bool
 is_mark bytes = is_nil bytes || bytes_eq bytes (0xEF ∷ 0xBB ∷ 0xBF ∷ [])
@@ -106,35 +109,20 @@ at_beginning s c =
 abbrev pub at_declaring : State → State
 at_declaring s = if is_declaration s.token then calm s else refuse s
 
--- text ends here: outside the root there is only white space
-abbrev pub at_chars : State → ℕ → State
-at_chars s c =
-    if is_nil s.below then
-    (if is_white s.token && (c == 60) then record s { mode = less; mark = s.at; token = [] } else refuse s)
-    else if is_char_data s.token then
-    (if c == 60 then record s { mode = less; mark = s.at; token = []; text = s.text ++ with_line_ends s.token }
-    else record s { mode = referring; token = 38 ∷ []; text = s.text ++ with_line_ends s.token })
-    else refuse s
-
-abbrev pub at_referring : State → Option ℕ → State
-at_referring s None = refuse s
-at_referring s (Some c) = record s { mode = chars; token = []; text = s.text ++ encode_utf8 c }
+-- outside of the root there is only white space
+abbrev pub at_outside : State → ℕ → State
+at_outside s c =
+    if is_white s.token && (c == 60) then record s { mode = less; mark = s.at; token = [] } else refuse s
 
 abbrev pub at_marking : State → List ℕ → State
 at_marking s token =
-    if bytes_eq token (codes "-") || bytes_eq token (codes "[") then record s { token = token }
+    if bytes_eq token (codes "-") then record s { token = token }
     else if bytes_eq token (codes "--") then record s { mode = commenting; token = [] }
-    else if bytes_eq token (codes "[CDATA[") && not (is_nil s.below) then record s { mode = quoting; token = [] }
     else refuse s
 
 abbrev pub at_commenting : State → Option (List ℕ) → State
 at_commenting s None = record s { token = s.token ++ 62 ∷ [] }
 at_commenting s (Some comment) = if is_comment comment then calm s else refuse s
-
-abbrev pub at_quoting : State → Option (List ℕ) → State
-at_quoting s None = record s { token = s.token ++ 62 ∷ [] }
-at_quoting s (Some bytes) =
-    if is_cdata bytes then calm (record s { text = s.text ++ with_line_ends bytes }) else refuse s
 
 -- the start tag ends: an element is open
 abbrev pub opened : State → State
@@ -181,6 +169,19 @@ at_less s c =
     at_tagging (record (settle s) { name = s.token }) c
     else refuse s
 
+-- a byte behind a <, or in a name there
+abbrev pub in_less : State → ℕ → State
+in_less s c = if is_name_end c then at_less s c else record s { token = s.token ++ c ∷ [] }
+
+-- text ends before a <, where the byte behind it begins no comment and no CDATA section
+abbrev pub at_chars : State → ℕ → State
+at_chars s c =
+    if text_halts s.words c then
+    (if is_less s.words
+    then in_less (record s { mode = less; mark = s.at - 1; token = []; words = begun_text s.words.text }) c
+    else refuse s)
+    else record s { words = text_step s.words c }
+
 abbrev pub at_named : State → ℕ → State
 at_named s c =
     if is_space c then record s { mode = named } else if c == 61 then record s { mode = valuing } else refuse s
@@ -194,26 +195,24 @@ at_naming s c =
 abbrev pub at_valuing : State → ℕ → State
 at_valuing s c =
     if is_space c then s
-    else if (c == 34) || (c == 39) then record s { mode = value_run; quote = c }
+    else if (c == 34) || (c == 39) then record s { mode = value_inner; value = begun_value c [] }
     else refuse s
 
-abbrev pub at_value_run : State → ℕ → State
-at_value_run s c =
-    if is_run s.quote s.token then
-    (if c == 38 then record s { mode = value_referring; token = 38 ∷ []; value = s.value ++ with_spaces s.token }
-    else record s {
+-- the attribute ends where its value is closed
+abbrev pub after_value : State → State
+after_value s =
+    if is_closed s.value.mode then record s {
       mode = tagging;
       token = [];
       attribute = [];
-      value = [];
-      quote = 0;
-      attributes = s.attributes ++ record { name = s.attribute; value = s.value ++ with_spaces s.token } ∷ [];
-    })
-    else refuse s
+      value = no_value;
+      attributes = s.attributes ++ record { name = s.attribute; value = s.value.value } ∷ [];
+    }
+    else s
 
-abbrev pub at_value_referring : State → Option ℕ → State
-at_value_referring s None = refuse s
-at_value_referring s (Some c) = record s { mode = value_run; token = []; value = s.value ++ encode_utf8 c }
+abbrev pub at_value : State → ℕ → State
+at_value s c =
+    if value_halts s.value.mode then refuse s else after_value (record s { value = value_step s.value c })
 
 -- the end tag ends, which names the innermost element; after its name there may be white space
 abbrev pub is_end : List ℕ → List ℕ → Bool
@@ -234,18 +233,16 @@ closed (frame ∷ frames) s =
 abbrev pub finish : Mode → State → ℕ → State
 finish beginning s c = at_beginning s c
 finish declaring s c = at_declaring s
-finish chars s c = at_chars s c
-finish referring s c = at_referring s (reference (s.token ++ 59 ∷ []))
-finish less s c = at_less s c
+finish outside s c = at_outside s c
 finish marking s c = at_marking s (s.token ++ c ∷ [])
 finish commenting s c = at_commenting s (without (codes "--") s.token)
-finish quoting s c = at_quoting s (without (codes "]]") s.token)
+finish chars s c = at_chars s c
+finish less s c = at_less s c
 finish tagging s c = at_tagging s c
 finish naming s c = at_naming s c
 finish named s c = at_named s c
 finish valuing s c = at_valuing s c
-finish value_run s c = at_value_run s c
-finish value_referring s c = at_value_referring s (reference (s.token ++ 59 ∷ []))
+finish value_inner s c = at_value s c
 finish slashed s c = if c == 62 then emptied s else refuse s
 finish ending s c = closed s.below s
 finish refused s c = s
@@ -254,7 +251,7 @@ abbrev pub counted : State → State
 counted s = record s { at = s.at + 1 }
 
 abbrev pub step : State → ℕ → State
-step s c = counted (if stops s.mode s.quote c then finish s.mode s c else record s { token = s.token ++ c ∷ [] })
+step s c = counted (if stops s.mode c then finish s.mode s c else record s { token = s.token ++ c ∷ [] })
 
 abbrev pub run : State → List ℕ → State
 run s [] = s
@@ -270,12 +267,11 @@ start = record {
   at = 0;
   mark = 0;
   token = [];
-  text = [];
+  words = begun_text [];
   name = [];
   attributes = [];
   attribute = [];
-  value = [];
-  quote = 0;
+  value = no_value;
   top = nothing_open;
   below = [];
 }
@@ -287,26 +283,24 @@ only_child (child first none) = Some first
 only_child (child first (text bytes parts)) = None
 only_child (child first (child second parts)) = None
 
-abbrev pub is_chars_mode : Mode → Bool
-is_chars_mode chars = true
-is_chars_mode beginning = false
-is_chars_mode declaring = false
-is_chars_mode referring = false
-is_chars_mode less = false
-is_chars_mode marking = false
-is_chars_mode commenting = false
-is_chars_mode quoting = false
-is_chars_mode tagging = false
-is_chars_mode naming = false
-is_chars_mode named = false
-is_chars_mode valuing = false
-is_chars_mode value_run = false
-is_chars_mode value_referring = false
-is_chars_mode slashed = false
-is_chars_mode ending = false
-is_chars_mode refused = false
+abbrev pub is_outside_mode : Mode → Bool
+is_outside_mode outside = true
+is_outside_mode beginning = false
+is_outside_mode declaring = false
+is_outside_mode marking = false
+is_outside_mode commenting = false
+is_outside_mode chars = false
+is_outside_mode less = false
+is_outside_mode tagging = false
+is_outside_mode naming = false
+is_outside_mode named = false
+is_outside_mode valuing = false
+is_outside_mode value_inner = false
+is_outside_mode slashed = false
+is_outside_mode ending = false
+is_outside_mode refused = false
 
 -- the root, where what was read is a document
 abbrev pub root_of : State → Option Element
 root_of s =
-    if is_chars_mode s.mode && (is_nil s.below && is_white s.token) then only_child s.top.parts else None
+    if is_outside_mode s.mode && (is_nil s.below && is_white s.token) then only_child s.top.parts else None

@@ -1,27 +1,26 @@
 -- The state of the machine that a reader stands for.
-use Rattle.std.specs.Prelude.{List, map, reverse}
-use Rattle.soap_document.specs.Machine.{Mode, beginning, declaring, chars, referring, less, marking, commenting, quoting, tagging, naming, named, valuing, value_run, value_referring, slashed, ending, refused, Frame, State}
+use Rattle.std.specs.Prelude.{◌≡◌, ℕ, ◌+◌, ◌<◌, ◌≤◌, List, drop, length, map, reverse}
+use Rattle.soap_document.specs.Machine.{Mode, beginning, declaring, outside, marking, commenting, chars, less, tagging, naming, named, valuing, value_inner, slashed, ending, refused, Frame, State, run}
+use Rattle.soap_lex.specs.Readers.{text_state, value_state}
 use Rattle.soap_document.specs.View.{parts_view}
 use Rattle.soap_document.specs.declared.reader.Mode.{Mode as CodeMode}
-use Rattle.soap_document.specs.declared.reader.Mode.TheVariants.{Beginning, Declaring, Chars, Referring, Less, Marking, Commenting, Quoting, Tagging, Naming, Named, Valuing, ValueRun, ValueReferring, Slashed, Ending, Refused}
+use Rattle.soap_document.specs.declared.reader.Mode.TheVariants.{Beginning, Declaring, Outside, Marking, Commenting, Chars, Less, Tagging, Naming, Named, Valuing, ValueInner, Slashed, Ending, Refused}
 use Rattle.soap_document.specs.declared.reader.OpenElement.{OpenElement}
 use Rattle.soap_document.specs.declared.reader.Reader.{Reader}
 
 abbrev pub mode_of : CodeMode → Mode
 mode_of Beginning = beginning
 mode_of Declaring = declaring
-mode_of Chars = chars
-mode_of Referring = referring
-mode_of Less = less
+mode_of Outside = outside
 mode_of Marking = marking
 mode_of Commenting = commenting
-mode_of Quoting = quoting
+mode_of Chars = chars
+mode_of Less = less
 mode_of Tagging = tagging
 mode_of Naming = naming
 mode_of Named = named
 mode_of Valuing = valuing
-mode_of ValueRun = value_run
-mode_of ValueReferring = value_referring
+mode_of ValueInner = value_inner
 mode_of Slashed = slashed
 mode_of Ending = ending
 mode_of Refused = refused
@@ -45,12 +44,18 @@ seen r = record {
   at = r.at;
   mark = r.mark;
   token = r.token.items;
-  text = r.text.items;
+  words = text_state r.words r.text.items;
   name = r.name;
   attributes = r.attributes.items;
   attribute = r.attribute;
-  value = r.value.items;
-  quote = r.quote;
+  value = value_state r.valued r.value.items;
   top = frame_of r.top;
   below = frames_of r.below.items;
 }
+
+-- some of the bytes were taken, and no more of them than there are
+pub record Taken (old new : State) (bytes : List ℕ) (n : ℕ) : Type 0 where
+  pub some : 0 < n
+  pub within : n ≤ length bytes
+  pub meaning : run new (drop n bytes) ≡ run old bytes
+  pub place : new.at + length (drop n bytes) ≡ old.at + length bytes

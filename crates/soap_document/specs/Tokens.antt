@@ -1,25 +1,10 @@
--- The tests of whole tokens, as the reader makes them: each says whether the bytes are what its name says.
-use Rattle.std.specs.Prelude.{ℕ, List, [], ◌∷◌, ◌++◌, Bool, true, false, not, ◌&&◌, ◌||◌, ◌==◌, if◌then◌else◌, Option, Some, None, codes, drop}
-use Rattle.std.specs.Char.{is_ascii_digit, is_ascii_hexdigit}
-use Rattle.std.specs.Str.Parse.{digits_value}
+-- The tests of whole tokens, as the reader makes them: each says whether the bytes are what its name says. Those of text
+-- and of values are soap_lex's.
+use Rattle.std.specs.Prelude.{ℕ, List, [], ◌∷◌, Bool, false, ◌&&◌, ◌==◌, if◌then◌else◌, Option, Some, None}
 use Rattle.std.specs.List.{list_all}
-use Rattle.std.specs.Str.{is_utf8, chars, bytes_eq}
-use Rattle.xml_chars.specs.Classes.{is_char, is_space, is_name_start, is_name_char}
-
-abbrev pub is_nil : {X : Type 0} → List X → Bool
-is_nil [] = true
-is_nil (x ∷ xs) = false
-
--- the bytes begin with the word
-abbrev pub begins : List ℕ → List ℕ → Bool
-begins [] bytes = true
-begins (w ∷ word) [] = false
-begins (w ∷ word) (b ∷ bytes) = (w == b) && begins word bytes
-
--- the word stands somewhere in the bytes
-abbrev pub holds : List ℕ → List ℕ → Bool
-holds [] word = is_nil word
-holds (b ∷ bytes) word = begins word (b ∷ bytes) || holds bytes word
+use Rattle.std.specs.Str.{is_utf8, chars}
+use Rattle.xml_chars.specs.Classes.{is_space, is_name_start, is_name_char}
+pub use Rattle.soap_lex.specs.Tests.{is_nil, begins, is_comment}
 
 abbrev pub is_white : List ℕ → Bool
 is_white bytes = list_all is_space bytes
@@ -27,9 +12,6 @@ is_white bytes = list_all is_space bytes
 abbrev pub starts_name : List ℕ → Bool
 starts_name [] = false
 starts_name (c ∷ cs) = is_name_start c && list_all is_name_char cs
-
-unfoldable pub is_chars : List ℕ → Bool
-is_chars bytes = is_utf8 bytes && list_all is_char (chars bytes)
 
 unfoldable pub is_name : List ℕ → Bool
 is_name bytes = is_utf8 bytes && starts_name (chars bytes)
@@ -42,49 +24,3 @@ cut k (b ∷ bytes) = if b == k then Some ([], bytes) else
 
 unfoldable pub is_qname : List ℕ → Bool
 is_qname bytes = elim (cut 58 bytes) [ None ↦ is_name bytes | Some p ↦ is_name p.0 && is_name p.1 ]
-
-unfoldable pub is_char_data : List ℕ → Bool
-is_char_data bytes = is_chars bytes && (not (holds bytes (codes "<")) && (not (holds bytes (codes "&"))
-    && not (holds bytes (codes "]]>"))))
-
-unfoldable pub is_cdata : List ℕ → Bool
-is_cdata bytes = is_chars bytes && not (holds bytes (codes "]]>"))
-
-unfoldable pub is_comment : List ℕ → Bool
-is_comment bytes = is_chars bytes && not (holds (bytes ++ codes "-") (codes "--"))
-
-unfoldable pub is_plain : ℕ → List ℕ → Bool
-is_plain quote bytes = is_chars bytes && (not (holds bytes (codes "<")) && (not (holds bytes (codes "&"))
-    && not (holds bytes (quote ∷ []))))
-
--- characters of a value between these quotes
-abbrev pub is_run : ℕ → List ℕ → Bool
-is_run quote bytes = ((quote == 34) || (quote == 39)) && is_plain quote bytes
-
--- the bytes without the semicolon at their end
-abbrev pub before_semicolon : List ℕ → Option (List ℕ)
-before_semicolon [] = None
-before_semicolon (b ∷ bytes) = elim (before_semicolon bytes) [
-  | None ↦ (if (b == 59) && is_nil bytes then Some [] else None)
-  | Some front ↦ Some (b ∷ front)
-]
-
--- the character with this number, written in these digits
-abbrev pub character : (ℕ → Bool) → ℕ → Option (List ℕ) → Option ℕ
-character is_digit base None = None
-character is_digit base (Some digits) =
-    if not (is_nil digits) && (list_all is_digit digits && is_char (digits_value base digits))
-    then Some (digits_value base digits) else None
-
-abbrev pub numbered : List ℕ → Option ℕ
-numbered bytes =
-    if begins (codes "&#x") bytes then character is_ascii_hexdigit 16 (before_semicolon (drop 3 bytes))
-    else if begins (codes "&#") bytes then character is_ascii_digit 10 (before_semicolon (drop 2 bytes))
-    else None
-
--- the character that the bytes refer to, if they do
-unfoldable pub reference : List ℕ → Option ℕ
-reference bytes =
-    if bytes_eq bytes (codes "&amp;") then Some 38 else if bytes_eq bytes (codes "&lt;") then Some 60
-    else if bytes_eq bytes (codes "&gt;") then Some 62 else if bytes_eq bytes (codes "&apos;") then Some 39
-    else if bytes_eq bytes (codes "&quot;") then Some 34 else numbered bytes

@@ -1,7 +1,7 @@
 //! Documents as they are written: from bytes to a tree whose names keep their prefixes, by a reader that is fed pieces,
-//! and content on its own. It stands on the tests of tokens, `soap_lex`. The layer above resolves the names; what it
-//! may use is the tree, the contracts of `read_document` and `read_content`, by the grammar in `specs/Grammar`, and
-//! the laws.
+//! and content on its own. It stands on `soap_lex`, for the tests of tokens and for the readers of text and of values,
+//! which its own reader holds. The layer above resolves the names; what it may use is the tree, the contracts of
+//! `read_document` and `read_content`, by the grammar in `specs/Grammar`, and the laws.
 #![tactic(auto)]
 
 ghost use Rattle.std.specs.Prelude.{◌≡◌, List, ℕ};

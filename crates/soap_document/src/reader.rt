@@ -1,4 +1,4 @@
-ghost use Rattle.std.specs.Prelude.{◌≡◌, ◌++◌, ◌+◌, ◌<◌, ◌≤◌, ◌^◌, ◌∷◌, [], length, take, drop, OnOk, IfOk, option_map, true, ◌||◌, ◌==◌};
+ghost use Rattle.std.specs.Prelude.{◌≡◌, ◌≢◌, ◌++◌, ◌+◌, ◌<◌, ◌≤◌, ◌^◌, ◌∷◌, [], length, take, drop, OnOk, IfOk, option_map, true, ◌||◌, ◌==◌};
 ghost use Rattle.soap_document.specs.Tokens.{is_nil as nil_test};
 ghost use Rattle.soap_document.specs.Machine.{
   start as start_state,
@@ -19,33 +19,34 @@ ghost use Rattle.soap_document.specs.Machine.{
   is_name_end as name_end_test,
   at_beginning,
   at_declaring,
-  at_chars,
-  at_referring,
-  at_less,
+  at_outside,
   at_marking,
   at_commenting,
-  at_quoting,
+  at_chars,
+  at_less,
+  in_less,
   at_tagging,
   at_naming,
   at_named,
   at_valuing,
-  at_value_run,
-  at_value_referring,
+  at_value,
+  after_value,
+  chars,
+  value_inner,
 };
 ghost use Rattle.memchr.specs.Find.{IsFirstByte};
+ghost use Rattle.soap_lex.specs.TextMachine.{halts as halt_test};
 ghost use Rattle.soap_document.specs.Tree.{child, none};
 ghost use Rattle.xml_chars.specs.Classes.{is_space as space_test};
 ghost use Rattle.soap_document.specs.View.{element_view, parts_view};
-ghost use Rattle.soap_document.specs.Seen.{seen, mode_of};
+ghost use Rattle.soap_document.specs.Seen.{seen, mode_of, Taken};
 
 use crate::declaration::is_declaration;
-use crate::tokens::{
-    add_character, add_line_ends, add_spaces, before, is_cdata, is_char_data, is_comment, is_end,
-    is_mark, is_qname, is_run, is_white, reference,
-};
+use crate::tokens::{before, is_comment, is_end, is_mark, is_qname, is_white};
 use crate::tree::{WrittenAttribute, WrittenElement, WrittenPart};
-use memchr::{memchr, memchr2};
+use memchr::memchr;
 use rm_base::{Blob, Memory};
+use soap_lex::{Quote, TextReader, ValueReader};
 use std::alloc::Global;
 use std::mem;
 use xml_chars::is_space;
@@ -58,18 +59,16 @@ const MAX_DEPTH: usize = 100;
 pub(crate) enum Mode {
     Beginning,
     Declaring,
-    Chars,
-    Referring,
-    Less,
+    Outside,
     Marking,
     Commenting,
-    Quoting,
+    Chars,
+    Less,
     Tagging,
     Naming,
     Named,
     Valuing,
-    ValueRun,
-    ValueReferring,
+    ValueInner,
     Slashed,
     Ending,
     Refused,
@@ -92,12 +91,13 @@ pub struct Reader {
     at: usize,
     mark: usize,
     token: Vec<u8>,
+    words: TextReader,
     text: Vec<u8>,
     name: Blob,
     attributes: Vec<WrittenAttribute>,
     attribute: Blob,
+    valued: ValueReader,
     value: Vec<u8>,
-    quote: u8,
     top: OpenElement,
     below: Vec<OpenElement>,
     alloc: Global,
@@ -114,12 +114,13 @@ impl Reader {
             at: 0,
             mark: 0,
             token: Vec::new(alloc),
+            words: TextReader::new(alloc),
             text: Vec::new(alloc),
             name: Blob::new(alloc),
             attributes: Vec::new(alloc),
             attribute: Blob::new(alloc),
+            valued: ValueReader::new(alloc, Quote::Double),
             value: Vec::new(alloc),
-            quote: 0,
             top: OpenElement {
                 name: Blob::new(alloc),
                 attributes: Vec::new(alloc),
@@ -138,15 +139,95 @@ impl Reader {
     {
         let mut rest = piece;
         while !rest.is_empty() {
-            match first_stop(self.mode, self.quote, rest) {
-                None => return self.keep(rest),
-                Some(n) => {
-                    self.keep(&rest[..n])?;
-                    self.end_token(rest[n])?;
-                    rest = &rest[n + 1..];
-                }
-            }
+            let taken = self.take(rest)?;
+            rest = &rest[taken..];
         }
+        Ok(())
+    }
+
+    // takes some of the bytes, and says how many
+    fn take(&mut self, bytes: &[u8]) -> Result<usize, Memory>
+        requires some { 0 < length bytes.now }
+        requires fits { (seen self.old).at + length bytes.now < 2 ^ 64 }
+        ensures { IfOk result (λ n. Taken (seen self.old) (seen self.new) bytes.now n) }
+    {
+        match self.mode {
+            Mode::Chars => self.take_chars(bytes),
+            Mode::ValueInner => self.take_value(bytes),
+            _ => self.take_token(bytes),
+        }
+    }
+
+    // up to the end of a token, or to the end of the bytes
+    fn take_token(&mut self, bytes: &[u8]) -> Result<usize, Memory>
+        requires text { (seen self.old).mode ≢ chars }
+        requires value { (seen self.old).mode ≢ value_inner }
+        requires some { 0 < length bytes.now }
+        requires fits { (seen self.old).at + length bytes.now < 2 ^ 64 }
+        ensures { IfOk result (λ n. Taken (seen self.old) (seen self.new) bytes.now n) }
+    {
+        let Some(end) = first_stop(self.mode, bytes) else {
+            self.keep(bytes)?;
+            return Ok(bytes.len());
+        };
+        self.keep(&bytes[..end])?;
+        self.end_token(bytes[end])?;
+        Ok(end + 1)
+    }
+
+    // within text, up to the end of a token of it, or one byte behind its end
+    fn take_chars(&mut self, bytes: &[u8]) -> Result<usize, Memory>
+        requires inside { mode_of self.old.mode ≡ chars }
+        requires some { 0 < length bytes.now }
+        requires fits { (seen self.old).at + length bytes.now < 2 ^ 64 }
+        ensures { IfOk result (λ n. Taken (seen self.old) (seen self.new) bytes.now n) }
+    {
+        let Ok(taken) = self.words.feed(bytes, &mut self.text) else {
+            return Err(Memory);
+        };
+        if taken == 0 {
+            self.end_chars(bytes[0])?;
+            self.at += 1;
+            return Ok(1);
+        }
+        self.at += taken;
+        Ok(taken)
+    }
+
+    // within a value, up to the end of a token of it
+    fn take_value(&mut self, bytes: &[u8]) -> Result<usize, Memory>
+        requires inside { mode_of self.old.mode ≡ value_inner }
+        requires some { 0 < length bytes.now }
+        requires fits { (seen self.old).at + length bytes.now < 2 ^ 64 }
+        ensures { IfOk result (λ n. Taken (seen self.old) (seen self.new) bytes.now n) }
+    {
+        let Ok(taken) = self.valued.feed(bytes, &mut self.value) else {
+            return Err(Memory);
+        };
+        if taken == 0 {
+            self.refuse();
+            self.at += 1;
+            return Ok(1);
+        }
+        self.at += taken;
+        self.end_value()?;
+        Ok(taken)
+    }
+
+    // the attribute ends where its value is closed
+    fn end_value(&mut self) -> Result<(), Memory>
+        ensures { OnOk result (seen self.new ≡ after_value (seen self.old)) }
+    {
+        if !self.valued.is_closed() {
+            return Ok(());
+        }
+        let value = Blob::from_slice(self.alloc, &self.value)?;
+        let name = mem::replace(&mut self.attribute, Blob::new(self.alloc));
+        self.attributes.push(WrittenAttribute { name, value })?;
+        self.value.clear();
+        self.valued.restart(Quote::Double);
+        self.mode = Mode::Tagging;
+        self.token.clear();
         Ok(())
     }
 
@@ -154,7 +235,7 @@ impl Reader {
     pub fn finish(self) -> Option<WrittenElement>
         ensures { option_map element_view result ≡ root_of (seen self) }
     {
-        let ended = self.mode == Mode::Chars && self.is_outside() && is_white(&self.token);
+        let ended = self.mode == Mode::Outside && self.is_outside() && is_white(&self.token);
         let top = self.top;
         if !ended {
             return None;
@@ -177,7 +258,9 @@ impl Reader {
 
     // a byte that ends the token
     fn end_token(&mut self, byte: u8) -> Result<(), Memory>
-        requires { (seen self.old).at + 1 < 2 ^ 64 }
+        requires text { (seen self.old).mode ≢ chars }
+        requires value { (seen self.old).mode ≢ value_inner }
+        requires fits { (seen self.old).at + 1 < 2 ^ 64 }
         ensures { OnOk result (seen self.new ≡ counted (finished (seen self.old).mode (seen self.old) byte)) }
     {
         self.end(byte)?;
@@ -187,7 +270,9 @@ impl Reader {
 
     // what it does, by where the reader stands
     fn end(&mut self, byte: u8) -> Result<(), Memory>
-        requires { (seen self.old).at + 1 < 2 ^ 64 }
+        requires text { (seen self.old).mode ≢ chars }
+        requires value { (seen self.old).mode ≢ value_inner }
+        requires fits { (seen self.old).at + 1 < 2 ^ 64 }
         ensures { OnOk result (seen self.new ≡ finished (seen self.old).mode (seen self.old) byte) }
     {
         match self.mode {
@@ -199,12 +284,13 @@ impl Reader {
                 self.end_declaring();
                 Ok(())
             }
-            Mode::Chars => self.end_chars(byte),
-            Mode::Referring => self.end_referring(),
-            Mode::Less => self.end_less(byte),
+            Mode::Outside => {
+                self.end_outside(byte);
+                Ok(())
+            }
             Mode::Marking => self.end_marking(byte),
             Mode::Commenting => self.end_commenting(),
-            Mode::Quoting => self.end_quoting(),
+            Mode::Less => self.end_less(byte),
             Mode::Tagging => self.end_tagging(byte),
             Mode::Naming => self.end_naming(byte),
             Mode::Named => {
@@ -215,8 +301,7 @@ impl Reader {
                 self.end_valuing(byte);
                 Ok(())
             }
-            Mode::ValueRun => self.end_value_run(byte),
-            Mode::ValueReferring => self.end_value_referring(),
+            Mode::Chars | Mode::ValueInner => unreachable!(),
             Mode::Slashed => self.end_slashed(byte),
             Mode::Ending => self.end_ending(),
             Mode::Refused => Ok(()),
@@ -237,11 +322,15 @@ impl Reader {
         self.token.clear();
     }
 
-    // back in text
+    // back in text, or outside of the root
     fn calm(&mut self)
         ensures { seen self.new ≡ calmed (seen self.old) }
     {
-        self.mode = Mode::Chars;
+        self.mode = if self.is_outside() {
+            Mode::Outside
+        } else {
+            Mode::Chars
+        };
         self.fresh = false;
         self.mark = 0;
         self.token.clear();
@@ -273,33 +362,9 @@ impl Reader {
         }
     }
 
-    fn end_chars(&mut self, byte: u8) -> Result<(), Memory>
-        ensures { OnOk result (seen self.new ≡ at_chars (seen self.old) byte) }
-    {
-        if self.is_outside() {
-            self.end_space(byte);
-            return Ok(());
-        }
-        if !is_char_data(&self.token) {
-            self.refuse();
-            return Ok(());
-        }
-        add_line_ends(&self.token, &mut self.text)?;
-        self.token.clear();
-        if byte == b'<' {
-            self.mode = Mode::Less;
-            self.mark = self.at;
-            return Ok(());
-        }
-        self.mode = Mode::Referring;
-        self.token.push(b'&')?;
-        Ok(())
-    }
-
     // white space outside of the root ends here
-    fn end_space(&mut self, byte: u8)
-        requires { nil_test (seen self.old).below ≡ true }
-        ensures { seen self.new ≡ at_chars (seen self.old) byte }
+    fn end_outside(&mut self, byte: u8)
+        ensures { seen self.new ≡ at_outside (seen self.old) byte }
     {
         if is_white(&self.token) && byte == b'<' {
             self.mode = Mode::Less;
@@ -310,17 +375,32 @@ impl Reader {
         }
     }
 
-    fn end_referring(&mut self) -> Result<(), Memory>
-        ensures { OnOk result (seen self.new ≡ finished (mode_of Mode.Referring) (seen self.old) 59) }
+    // nothing more of the text is read before this byte
+    fn end_chars(&mut self, byte: u8) -> Result<(), Memory>
+        requires halts { halt_test (seen self.old).words byte ≡ true }
+        requires fits { (seen self.old).at + 1 < 2 ^ 64 }
+        ensures { OnOk result (seen self.new ≡ at_chars (seen self.old) byte) }
     {
-        self.token.push(b';')?;
-        let Some(c) = reference(&self.token) else {
+        if !self.words.is_less() {
             self.refuse();
             return Ok(());
-        };
-        add_character(c, &mut self.text)?;
-        self.mode = Mode::Chars;
+        }
+        self.words.restart();
+        self.mode = Mode::Less;
+        self.mark = self.at.saturating_sub(1);
         self.token.clear();
+        self.go_on(byte)
+    }
+
+    // a byte behind a <, or in a name there
+    fn go_on(&mut self, byte: u8) -> Result<(), Memory>
+        requires { (seen self.old).at + 1 < 2 ^ 64 }
+        ensures { OnOk result (seen self.new ≡ in_less (seen self.old) byte) }
+    {
+        if is_name_end(byte) {
+            return self.end_less(byte);
+        }
+        self.token.push(byte)?;
         Ok(())
     }
 
@@ -368,10 +448,11 @@ impl Reader {
         }
     }
 
-    // the text so far becomes a part
+    // the text becomes a part
     fn settle(&mut self) -> Result<(), Memory>
         ensures { OnOk result (seen self.new ≡ settled (seen self.old)) }
     {
+        self.words.restart();
         if self.text.is_empty() {
             return Ok(());
         }
@@ -395,14 +476,11 @@ impl Reader {
     {
         self.token.push(byte)?;
         let token = self.token.as_slice();
-        if token == b"-".as_slice() || token == b"[".as_slice() {
+        if token == b"-".as_slice() {
             return Ok(());
         }
         if token == b"--".as_slice() {
             self.mode = Mode::Commenting;
-            self.token.clear();
-        } else if token == b"[CDATA[".as_slice() && !self.is_outside() {
-            self.mode = Mode::Quoting;
             self.token.clear();
         } else {
             self.refuse();
@@ -417,23 +495,6 @@ impl Reader {
             None => self.token.push(b'>')?,
             Some(comment) => {
                 if is_comment(comment) {
-                    self.calm();
-                } else {
-                    self.refuse();
-                }
-            }
-        }
-        Ok(())
-    }
-
-    fn end_quoting(&mut self) -> Result<(), Memory>
-        ensures { OnOk result (seen self.new ≡ finished (mode_of Mode.Quoting) (seen self.old) 62) }
-    {
-        match before(b"]]", &self.token) {
-            None => self.token.push(b'>')?,
-            Some(bytes) => {
-                if is_cdata(bytes) {
-                    add_line_ends(bytes, &mut self.text)?;
                     self.calm();
                 } else {
                     self.refuse();
@@ -513,49 +574,13 @@ impl Reader {
         if is_space(byte) {
             return;
         }
-        if byte == b'"' || byte == b'\'' {
-            self.mode = Mode::ValueRun;
-            self.quote = byte;
-        } else {
+        let Some(quote) = Quote::from_byte(byte) else {
             self.refuse();
-        }
-    }
-
-    fn end_value_run(&mut self, byte: u8) -> Result<(), Memory>
-        ensures { OnOk result (seen self.new ≡ at_value_run (seen self.old) byte) }
-    {
-        if !is_run(&self.token, self.quote) {
-            self.refuse();
-            return Ok(());
-        }
-        add_spaces(&self.token, &mut self.value)?;
-        self.token.clear();
-        if byte == b'&' {
-            self.mode = Mode::ValueReferring;
-            self.token.push(b'&')?;
-            return Ok(());
-        }
-        let value = Blob::from_slice(self.alloc, &self.value)?;
-        let name = mem::replace(&mut self.attribute, Blob::new(self.alloc));
-        self.attributes.push(WrittenAttribute { name, value })?;
-        self.value.clear();
-        self.mode = Mode::Tagging;
-        self.quote = 0;
-        Ok(())
-    }
-
-    fn end_value_referring(&mut self) -> Result<(), Memory>
-        ensures { OnOk result (seen self.new ≡ finished (mode_of Mode.ValueReferring) (seen self.old) 59) }
-    {
-        self.token.push(b';')?;
-        let Some(c) = reference(&self.token) else {
-            self.refuse();
-            return Ok(());
+            return;
         };
-        add_character(c, &mut self.value)?;
-        self.mode = Mode::ValueRun;
-        self.token.clear();
-        Ok(())
+        self.mode = Mode::ValueInner;
+        self.valued.restart(quote);
+        self.value.clear();
     }
 
     // the empty-element tag ends, where it does
@@ -628,18 +653,22 @@ fn only_child(parts: Vec<WrittenPart>) -> Option<WrittenElement>
 }
 
 // where the first byte stands that ends the token
-fn first_stop(mode: Mode, quote: u8, bytes: &[u8]) -> Option<usize>
-    ensures { IsFirstByte (stop_test (mode_of mode) quote) bytes.now result }
+fn first_stop(mode: Mode, bytes: &[u8]) -> Option<usize>
+    ensures { IsFirstByte (stop_test (mode_of mode)) bytes.now result }
 {
     match mode {
-        Mode::Chars => memchr2(b'<', b'&', bytes),
-        Mode::ValueRun => memchr2(quote, b'&', bytes),
-        Mode::Declaring | Mode::Commenting | Mode::Quoting | Mode::Ending => memchr(b'>', bytes),
-        Mode::Referring | Mode::ValueReferring => memchr(b';', bytes),
-        Mode::Marking => memchr2(b'-', b'[', bytes),
+        Mode::Outside => memchr(b'<', bytes),
+        Mode::Declaring | Mode::Commenting | Mode::Ending => memchr(b'>', bytes),
+        Mode::Marking => memchr(b'-', bytes),
         Mode::Less | Mode::Naming => first_name_end(bytes),
         Mode::Beginning => first_less_or_space(bytes),
-        Mode::Tagging | Mode::Named | Mode::Valuing | Mode::Slashed | Mode::Refused => first(bytes),
+        Mode::Chars
+        | Mode::Tagging
+        | Mode::Named
+        | Mode::Valuing
+        | Mode::ValueInner
+        | Mode::Slashed
+        | Mode::Refused => first(bytes),
     }
 }
 

@@ -1,13 +1,14 @@
 -- Bytes that are characters of a document, and names.
 use Rattle.std.proofs.Common.{◌≡◌, ℕ, suc, ◌<◌, Bool, true, false, ◌&&◌, ◌||◌, List, [], ◌∷◌, ◌++◌, length, get_or}
 use Rattle.std.proofs.Common.{take, refl, sym, ap, ◌∙◌, arith, inl, inr}
-use Rattle.std.specs.Prelude.{◌⊎◌, nat_lt, nat_le, IsTrue, encode_utf8_all}
+use Rattle.std.specs.Prelude.{◌⊎◌, ◌≢◌, ◌≤◌, nat_lt, nat_le, IsTrue, encode_utf8_all}
 use Rattle.std.specs.List.{All, AllByRecursion, list_all, list_any}
 use Rattle.std.specs.Str.{chars, IsUtf8}
 use Rattle.std.proofs.Math.Utf8.{scalar, scalars}
 use Rattle.std.proofs.lemmas.Bool.{and_parts}
 use Rattle.std.proofs.lemmas.Bool.Decides.{nat_tests}
-use Rattle.std.proofs.lemmas.List.{get_or_past}
+use Rattle.std.proofs.lemmas.List.{get_or_past, take_all}
+use Rattle.std.proofs.lemmas.List.Elements.{All-same}
 use Rattle.std.proofs.lemmas.Bool.{cases_lt}
 use Rattle.std.proofs.lemmas.Str.{chars-encodes, encodes-chars, encodes-append, encodes-IsAscii}
 use Rattle.xml_chars.specs.Classes.{is_within, is_char, is_name_start, is_name_char, char_ranges, name_start_ranges}
@@ -114,6 +115,14 @@ IsChars-ascii bytes each = record {
     | inr past ↦ rw (get_or_past bytes i 0 past) (omega arith)
   ]));
 }
+
+-- that, and none of those that begin markup, nor that other
+abbrev pub IsPlainBut : ℕ → ℕ → Type 0
+IsPlainBut other byte = (byte < 128) × IsTrue (is_char byte) × (byte ≢ 60) × (byte ≢ 38) × (byte ≢ other)
+
+pub plain_all : (other n : ℕ) (bytes : List ℕ) → length bytes ≤ n → All (IsPlainBut other) (take n bytes)
+    → All (IsPlainBut other) bytes
+plain_all other n bytes h each = All-same (IsPlainBut other) bytes (take n bytes) (sym (take_all n bytes h)) each
 
 -- a list of characters begins as a name does
 abbrev pub begins : List ℕ → Bool

@@ -158,3 +158,14 @@ Holds-dashes d (x ∷ y ∷ bytes) h =
 
 pub Holds-dash_end : (d : ℕ) (front : List ℕ) → Holds ((front ++ d ∷ []) ++ d ∷ []) (d ∷ d ∷ [])
 Holds-dash_end d front = record { before = front; after = []; there = append_assoc front (d ∷ []) (d ∷ []) }
+
+-- a byte that no byte is
+pub lacks_each : (b : ℕ) (bytes : List ℕ) → ((k : ℕ) → k < length bytes → get_or bytes k 0 ≡ b → ⊥)
+    → ¬ (Holds bytes (b ∷ []))
+lacks_each b bytes each = NonePass-lacks b bytes (NonePass-from_places (is_byte b) bytes (λ k h. ne_test (get_or bytes k
+    0) b (each k h)))
+
+-- a word whose first byte does not stand there
+pub lacks_first : (b : ℕ) (word bytes : List ℕ) → ¬ (Holds bytes (b ∷ [])) → ¬ (Holds bytes (b ∷ word))
+lacks_first b word bytes lacks h =
+    lacks (record { before = h.before; after = word ++ h.after; there = h.there })

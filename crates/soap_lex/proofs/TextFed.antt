@@ -113,20 +113,29 @@ shrinks s (c ∷ bytes) =
     (shrinks (longer s (c ∷ [])) bytes) in
     omega (arith, h)
 
-stays_at : (s t : TextState) (c : ℕ) (bytes : List ℕ) (a b : Bool) → halts s c ≡ a → stops s.mode c ≡ b
-    → to_stop s (c ∷ bytes) ≡ (t, c ∷ bytes) → run s (c ∷ bytes) ≡ (t, c ∷ bytes)
-stays_at s t c bytes true b e f h = let x : (s, c ∷ bytes) ≡ (t, c ∷ bytes) = rw e at h in rw e x
-stays_at s t c bytes false true e f h =
-    let x : (finish s.mode s c, bytes) ≡ (t, c ∷ bytes) = rw (e, f) at h in
-    let same : bytes ≡ c ∷ bytes = ap (λ (p : TextState × List ℕ). p.1) x in
-    absurd (omega (arith, ap length same))
-stays_at s t c bytes false false e f h =
-    let x : to_stop (longer s (c ∷ [])) bytes ≡ (t, c ∷ bytes) = rw (e, f) at h in
-    let size : length (to_stop (longer s (c ∷ [])) bytes).1 ≡ length (c ∷ bytes) =
-    ap (λ (p : TextState × List ℕ). length p.1) x in
-    absurd (omega (arith, size, shrinks (longer s (c ∷ [])) bytes))
+-- where nothing was taken, the machine halts
+pub still : (s t : TextState) (c : ℕ) (bytes : List ℕ) → to_stop s (c ∷ bytes) ≡ (t, c ∷ bytes)
+    → (halts s c ≡ true) × (s ≡ t)
+still s t c bytes h = go (halts s c) (stops s.mode c) refl refl
+  where
+    go : (a b : Bool) → halts s c ≡ a → stops s.mode c ≡ b → (halts s c ≡ true) × (s ≡ t)
+    go true b e f =
+        let x : (s, c ∷ bytes) ≡ (t, c ∷ bytes) = rw e at h in
+        (e, ap (λ (p : TextState × List ℕ). p.0) x)
+    go false true e f =
+        let x : (finish s.mode s c, bytes) ≡ (t, c ∷ bytes) = rw (e, f) at h in
+        let same : bytes ≡ c ∷ bytes = ap (λ (p : TextState × List ℕ). p.1) x in
+        absurd (omega (arith, ap length same))
+    go false false e f =
+        let x : to_stop (longer s (c ∷ [])) bytes ≡ (t, c ∷ bytes) = rw (e, f) at h in
+        let size : length (to_stop (longer s (c ∷ [])) bytes).1 ≡ length (c ∷ bytes) =
+        ap (λ (p : TextState × List ℕ). length p.1) x in
+        absurd (omega (arith, size, shrinks (longer s (c ∷ [])) bytes))
 
--- where nothing was taken, nothing more is read
+-- nor is more read then
 pub run_still : (s t : TextState) (bytes : List ℕ) → to_stop s bytes ≡ (t, bytes) → run s bytes ≡ (t, bytes)
 run_still s t [] e = e
-run_still s t (c ∷ bytes) e = stays_at s t c bytes (halts s c) (stops s.mode c) refl refl e
+run_still s t (c ∷ bytes) e =
+    let h = still s t c bytes e in
+    let halted_here : run s (c ∷ bytes) ≡ (s, c ∷ bytes) = rw h.0 in
+    halted_here ∙ ap (λ x. (x, c ∷ bytes)) h.1

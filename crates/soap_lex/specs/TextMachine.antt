@@ -45,6 +45,18 @@ halts_in refused token = true
 abbrev pub halts : TextState → ℕ → Bool
 halts s c = halts_in s.mode (s.token ++ c ∷ [])
 
+-- whether a < was read last, which begins what is no text, or may yet begin a comment or a CDATA section
+abbrev pub is_less_in : TextMode → List ℕ → Bool
+is_less_in chars token = false
+is_less_in referring token = false
+is_less_in opening token = bytes_eq token (codes "<")
+is_less_in commenting token = false
+is_less_in quoting token = false
+is_less_in refused token = false
+
+abbrev pub is_less : TextState → Bool
+is_less s = is_less_in s.mode s.token
+
 abbrev pub refuse : TextState → TextState
 refuse s = record s { mode = refused; token = [] }
 

@@ -156,7 +156,9 @@ fn readers_are_fed_in_pieces(rt: HostRuntime) -> Result<(), Fail> {
     let mut reader = TextReader::new(rt.alloc());
     assert!(rt; reader.feed(b"a\r", &mut out) == Ok(2));
     assert!(rt; reader.feed(b"\nb<!", &mut out) == Ok(3));
+    assert!(rt; reader.is_less());
     assert!(rt; reader.feed(b"!b", &mut out) == Ok(1));
+    assert!(rt; !reader.is_less());
     assert!(rt; reader.feed(b"b", &mut out) == Ok(0));
     reader.restart();
     assert!(rt; reader.feed(b"c", &mut out) == Ok(1));

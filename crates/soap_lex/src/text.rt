@@ -16,6 +16,7 @@ ghost use Rattle.soap_lex.specs.TextMachine.{
   ended,
   counted,
   opens as open_test,
+  is_less as less_test,
   cdata_meaning,
 };
 ghost use Rattle.soap_lex.specs.Readers.{text_state, text_mode};
@@ -101,6 +102,13 @@ impl TextReader {
             TextMode::Opening => Ok(Some(self.token.len())),
             _ => Ok(None),
         }
+    }
+
+    /// A `<` was read last: where nothing more is taken, the text ended before it.
+    pub fn is_less(&self) -> bool
+        ensures { (text : List ℕ) → result ≡ less_test (text_state self.now text) }
+    {
+        self.mode == TextMode::Opening && self.token.as_slice() == b"<".as_slice()
     }
 
     // nothing more is read before this byte

@@ -1,4 +1,4 @@
-ghost use Rattle.std.specs.Prelude.{◌≡◌, ◌↔◌, ◌⊎◌, ℕ, ◌-◌, ◌<◌, List, [], ◌∷◌, ◌++◌, length, take, codes, IsTrue, IfSome};
+ghost use Rattle.std.specs.Prelude.{◌≡◌, ◌≢◌, ◌↔◌, ◌⊎◌, ℕ, ◌-◌, ◌<◌, List, [], ◌∷◌, ◌++◌, length, take, codes, IsTrue, IfSome};
 ghost use Rattle.std.specs.List.{All, list_all, list_any};
 ghost use Rattle.std.specs.Str.{chars};
 ghost use Rattle.xml_chars.specs.Classes.{is_char as char_class, is_name_char as name_char_class};
@@ -65,6 +65,9 @@ fn is_ascii_name_char(byte: u8) -> bool
 pub fn is_char_data(bytes: &[u8]) -> bool
     ensures { IsTrue result ↔ IsCharData bytes.now }
 {
+    if is_plain_run(bytes, b']') {
+        return true;
+    }
     lacks_markup(bytes) && is_cdata(bytes)
 }
 
@@ -87,6 +90,9 @@ pub fn is_plain_value(bytes: &[u8], quote: u8) -> bool
     requires { (quote ≡ 34) ⊎ (quote ≡ 39) }
     ensures { IsTrue result ↔ IsPlainValue quote bytes.now }
 {
+    if is_plain_run(bytes, quote) {
+        return true;
+    }
     lacks_quote_and_markup(bytes, quote) && is_chars(bytes)
 }
 
@@ -178,6 +184,27 @@ fn is_plain_ascii(bytes: &[u8]) -> bool
         plain &= is_plain(*byte);
     }
     plain
+}
+
+// each byte is an ASCII character of a document, and none begins markup or is that other; no exit from the loop either
+fn is_plain_run(bytes: &[u8], other: u8) -> bool
+    ensures chars { IsTrue result → IsChars bytes.now }
+    ensures no_less { IsTrue result → ¬ (Holds bytes.now (codes "<")) }
+    ensures no_ampersand { IsTrue result → ¬ (Holds bytes.now (codes "&")) }
+    ensures no_other { IsTrue result → ¬ (Holds bytes.now (other ∷ [])) }
+{
+    let mut plain = true;
+    for byte in bytes {
+        plain &= is_plain_but(*byte, other);
+    }
+    plain
+}
+
+#[inline]
+fn is_plain_but(byte: u8, other: u8) -> bool
+    ensures { IsTrue result → (byte < 128) × IsTrue (char_class byte) × (byte ≢ 60) × (byte ≢ 38) × (byte ≢ other) }
+{
+    is_plain(byte) && byte != b'<' && byte != b'&' && byte != other
 }
 
 #[inline]

@@ -1,8 +1,8 @@
 use Rattle.soap_lex.specs.Text.{IsComment}
 use Rattle.soap_document.specs.Tokens.{is_comment}
-use Rattle.soap_document.proofs.Answer.{same_test}
-use Rattle.soap_document.proofs.TokenFacts.{comment_from}
-use Rattle.soap_document.proofs.TokenLaws.{comment_passes}
+use Rattle.soap_lex.proofs.AnswerLemmas.{same_test}
+use Rattle.soap_lex.proofs.TestLemmas.{comment_from}
+use Rattle.soap_lex.proofs.TestLemmas.{comment_passes}
 use Rattle.soap_document.proofs.tokens.is_comment.Goals as goal
 
 pub returns : goal.returns
