@@ -1,5 +1,5 @@
 -- What makes a payload.
-use Rattle.std.proofs.Common.{◌≡◌, ◌≤◌, ◌↔◌, ℕ, nat_le, List, [], Bool, true, false, ◌&&◌, IsTrue, Option, Some, None, option_map, IfSome, Vec, Global, sym, ap, subst, ◌∙◌}
+use Rattle.std.proofs.Common.{◌≡◌, ◌≤◌, ◌↔◌, ℕ, nat_le, List, [], Bool, false, ◌&&◌, IsTrue, Option, Some, None, option_map, IfSome, Vec, Global, sym, ap, subst, ◌∙◌}
 use Rattle.std.proofs.lemmas.Bool.{and_parts, and_from, leb-true, le-leb}
 use Rattle.soap_document.specs.Inside.{IsInside}
 use Rattle.soap_document.specs.Tree as written

@@ -1,13 +1,13 @@
 -- The parts of a name, and the attributes of a tag.
-use Rattle.std.proofs.Common.{◌≡◌, ℕ, ◌+◌, ◌-◌, ◌<◌, ◌≤◌, eqb, List, [], ◌∷◌, ◌++◌, Bool, true, false, cond, Option, Some, None, Result, Ok, Err, IfOk, IfSome, option_map, length, take, drop, refl, sym, ap, subst, ◌∙◌, arith, length-append, length-drop}
+use Rattle.std.proofs.Common.{◌≡◌, ℕ, ◌+◌, ◌-◌, ◌≤◌, eqb, List, [], ◌∷◌, ◌++◌, Bool, true, false, cond, Option, Some, None, Result, Ok, Err, IfOk, IfSome, option_map, length, take, drop, refl, sym, ap, subst, ◌∙◌, arith, length-append, length-drop}
 use Rattle.std.proofs.Math.Seq.{paste, drop-append_seam}
 use Rattle.std.proofs.lemmas.List.{take_all}
 use Rattle.std.proofs.lemmas.List.Edits.{take-paste}
 use Rattle.soap_document.specs.Tokens.{cut}
 use Rattle.soap_document.specs.declared.tree.WrittenAttribute.{WrittenAttribute as Attribute}
-use Rattle.soap_profile.specs.Namespaces.{Resolved, split, declared_prefix, declarations, element_name, resolved_with, tag_of, attribute_name, unless_declared, expanded, are_distinct, are_distinct_names}
+use Rattle.soap_profile.specs.Namespaces.{Resolved, split, declared_prefix, declarations, element_name, resolved_with, tag_of, attribute_name, unless_declared, expanded, are_distinct}
 use Rattle.soap_profile.specs.Steps.{unless_some, others, named_all}
-use Rattle.soap_profile.specs.Tree.{Attr, Binding}
+use Rattle.soap_profile.specs.Tree.{Binding}
 use Rattle.soap_profile.specs.View.{tag_view}
 use Rattle.soap_profile.specs.declared.names.Divided.{Divided}
 use Rattle.soap_profile.specs.declared.resolve.Tag.{Tag}
@@ -82,18 +82,6 @@ local_moved name xs local len n same is whole all =
     ap (λ (m : ℕ). take (length local) (paste xs 0 (drop front xs) (m - front))) all
     ∙ moved_front xs front (length local) (omega arith)
     ∙ ap (λ (m : ℕ). drop m xs) f ∙ ap (drop (length name - length (split name).1)) same ∙ split_drop name
-
--- ---- fewer than two attributes differ
-
-pub few_differ : (attributes : List Attribute) → length attributes < 2 → true ≡ are_distinct attributes
-few_differ [] h = refl
-few_differ (a ∷ []) h = refl
-few_differ (a ∷ b ∷ attributes) h = absurd (omega arith)
-
-pub few_names_differ : (attrs : List Attr) → length attrs < 2 → true ≡ are_distinct_names attrs
-few_names_differ [] h = refl
-few_names_differ (a ∷ []) h = refl
-few_names_differ (a ∷ b ∷ attrs) h = absurd (omega arith)
 
 -- ---- the attributes that are no declarations
 

@@ -1,5 +1,5 @@
 // Names, declarations and attributes of a start tag.
-ghost use Rattle.std.specs.Prelude.{◌≡◌, ℕ, List, IfOk, IfSome, option_map};
+ghost use Rattle.std.specs.Prelude.{◌≡◌, ℕ, List, [], IsTrue, IfOk, IfSome, Some, option_map};
 ghost use Rattle.soap_profile.specs.Namespaces.{
   split as split_of,
   declared_prefix as declared_by,
@@ -12,6 +12,8 @@ ghost use Rattle.soap_profile.specs.Namespaces.{
   attribute_name as attribute_name_of,
   are_distinct as distinct_test,
   are_distinct_names as distinct_names_test,
+  is_new as new_test,
+  is_new_name as new_name_test,
 };
 ghost use Rattle.soap_profile.specs.Scope.{InForce};
 ghost use Rattle.soap_profile.specs.Steps.{others as others_of, named_all, Declares, Remains, Expands};
@@ -26,6 +28,9 @@ use soap_document::{WrittenAttribute, cut};
 use std::alloc::Global;
 
 pub(crate) const XML_SPACE: &[u8] = b"http://www.w3.org/XML/1998/namespace";
+
+// up to so many attributes are compared each with each
+const FEW: usize = 8;
 
 const XMLNS_SPACE: &[u8] = b"http://www.w3.org/2000/xmlns/";
 
@@ -93,6 +98,12 @@ pub(crate) fn divide(
     ensures decls { IfOk result (λ found. option_map (λ s. s.decls) found ≡ declarations_of attributes.items) }
     ensures others { IfOk result (λ found. IfSome found (λ s. s.others.items ≡ others_of attributes.items)) }
 {
+    if declare_none(&attributes) {
+        return Ok(Some(Divided {
+            decls: Items::new(alloc),
+            others: attributes,
+        }));
+    }
     let mut decls = Items::new(alloc);
     let mut others = Vec::new(alloc);
     for attribute in attributes {
@@ -101,6 +112,21 @@ pub(crate) fn divide(
         }
     }
     Ok(Some(Divided { decls, others }))
+}
+
+// none of them is a declaration
+fn declare_none(attributes: &[WrittenAttribute]) -> bool
+    ensures decls { IsTrue result → declarations_of attributes.now ≡ Some [] }
+    ensures others { IsTrue result → others_of attributes.now ≡ attributes.now }
+{
+    let mut rest = attributes;
+    while let [first, others @ ..] = rest {
+        if declared_prefix(first.name.as_slice()).is_some() {
+            return false;
+        }
+        rest = others;
+    }
+    true
 }
 
 // one attribute more; whether it may stand
@@ -221,7 +247,7 @@ pub(crate) fn expanded(
     ensures { (bindings : List Bound) → InForce scope.now.stacks bindings
         → IfOk result (λ found. found ≡ named_all bindings attributes.items) }
 {
-    let mut attrs = Items::new(alloc);
+    let mut attrs = Items::from_vec(Vec::with_capacity(alloc, attributes.len())?);
     for attribute in attributes {
         if !expand_onto(attribute, scope, &mut attrs)? {
             return Ok(None);
@@ -251,8 +277,8 @@ fn expand_onto(
 pub(crate) fn are_distinct(alloc: Global, attributes: &[WrittenAttribute]) -> Result<bool, Memory>
     ensures { IfOk result (λ answer. answer ≡ distinct_test attributes.now) }
 {
-    if attributes.len() < 2 {
-        return Ok(true);
+    if attributes.len() <= FEW {
+        return Ok(few_are_distinct(attributes));
     }
     let mut keys = Vec::new(alloc);
     for attribute in attributes {
@@ -261,16 +287,61 @@ pub(crate) fn are_distinct(alloc: Global, attributes: &[WrittenAttribute]) -> Re
     all_differ(alloc, &keys)
 }
 
+// the same, each compared with each behind it
+fn few_are_distinct(attributes: &[WrittenAttribute]) -> bool
+    ensures { result ≡ distinct_test attributes.now }
+{
+    let mut rest = attributes;
+    while let [first, others @ ..] = rest {
+        if !is_new(first.name.as_slice(), others) {
+            return false;
+        }
+        rest = others;
+    }
+    true
+}
+
+fn is_new(name: &[u8], attributes: &[WrittenAttribute]) -> bool
+    ensures { result ≡ new_test name.now attributes.now }
+{
+    attributes
+        .iter()
+        .all(|attribute| attribute.name.as_slice() != name)
+}
+
 /// No two attributes have the same expanded name.
 pub(crate) fn are_distinct_names(alloc: Global, attrs: &[Attr]) -> Result<bool, Memory>
     ensures { IfOk result (λ answer. answer ≡ distinct_names_test attrs.now) }
 {
-    if attrs.len() < 2 {
-        return Ok(true);
+    if attrs.len() <= FEW {
+        return Ok(few_are_distinct_names(attrs));
     }
     let mut keys = Vec::new(alloc);
     for attr in attrs {
         keys.push((attr.name.local.as_slice(), attr.name.space.as_slice()))?;
     }
     all_differ(alloc, &keys)
+}
+
+// the same, each compared with each behind it
+fn few_are_distinct_names(attrs: &[Attr]) -> bool
+    ensures { result ≡ distinct_names_test attrs.now }
+{
+    let mut rest = attrs;
+    while let [first, others @ ..] = rest {
+        if !is_new_name(&first.name, others) {
+            return false;
+        }
+        rest = others;
+    }
+    true
+}
+
+fn is_new_name(name: &Name, attrs: &[Attr]) -> bool
+    ensures { result ≡ new_name_test name.now attrs.now }
+{
+    attrs.iter().all(|attr| {
+        attr.name.local.as_slice() != name.local.as_slice()
+            || attr.name.space.as_slice() != name.space.as_slice()
+    })
 }

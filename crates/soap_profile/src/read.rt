@@ -12,7 +12,7 @@ use crate::resolve::resolve;
 use crate::scope::Scope;
 use crate::tree::Element;
 use rm_base::Memory;
-use soap_document::{WrittenElement, WrittenPart, one_tree, read_document};
+use soap_document::{WrittenElement, WrittenPart, document_is_utf8, one_tree, read_document};
 use soap_lex::utf8_prefix;
 use std::alloc::Global;
 
@@ -75,26 +75,30 @@ pub fn read_placed(alloc: Global, bytes: &[u8]) -> Result<Placed, EnvelopeError>
     if bytes.len() > MAX_LENGTH {
         return Err(EnvelopeError::TooLong { len: bytes.len() });
     }
+    let refusal = match read_tree(alloc, bytes) {
+        Ok(Some(placed)) => return Ok(placed),
+        Ok(None) => EnvelopeError::NotProfile,
+        Err(memory) => memory.into(),
+    };
     let valid_up_to = utf8_prefix(bytes);
     if valid_up_to < bytes.len() {
         return Err(EnvelopeError::NotUtf8 { valid_up_to });
     }
-    match read_tree(alloc, bytes)? {
-        Some(placed) => Ok(placed),
-        None => Err(EnvelopeError::NotProfile),
-    }
+    Err(refusal)
 }
 
 // the tree of a whole document, where the bytes are one
 fn read_tree(alloc: Global, bytes: &[u8]) -> Result<Option<Placed>, Memory>
     ensures found { IfOk result (λ found. IfSome found (λ placed.
         IsPlaced bytes.now (element_view placed.root) placed.last)) }
+    ensures utf8 { IfOk result (λ found. IfSome found (λ _. IsUtf8 bytes.now)) }
     ensures none { IfOk result (λ found. IfNone found ((other : Tree) → ¬ (Document bytes.now other))) }
 {
     let Some(written) = read_document(alloc, bytes)? else {
         return Ok(None);
     };
     one_tree();
+    document_is_utf8();
     let last = last_place(written.parts.as_slice());
     let Some(root) = resolved(alloc, written)? else {
         return Ok(None);

@@ -122,7 +122,7 @@ pub(crate) fn resolve_parts(
     ensures left { (bindings : List Bound) → InForce scope.old.stacks bindings
         → IfOk result (λ found. IfSome found (λ _. InForce scope.new.stacks bindings)) }
 {
-    let mut items = Vec::new(alloc);
+    let mut items = Vec::with_capacity(alloc, parts.len())?;
     for part in parts {
         if !resolve_onto(alloc, part, scope, &mut items)? {
             return Ok(None);

@@ -1,0 +1,9 @@
+use Rattle.std.proofs.Common.{◌≡◌, length}
+use Rattle.soap_profile.specs.Namespaces.{are_distinct_names}
+use Rattle.soap_profile.proofs.names.few_are_distinct_names.Given as goal
+
+abbrev pub invariant-loop-rest : goal.invariant-loop-rest
+invariant-loop-rest l = are_distinct_names l.attrs ≡ are_distinct_names l.rest
+
+abbrev pub decreases-loop-rest : goal.decreases-loop-rest
+decreases-loop-rest l = length l.rest
