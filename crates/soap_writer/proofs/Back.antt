@@ -17,7 +17,8 @@ use Rattle.soap_profile.specs.Tree.{Element, element, Parts, none, text, child, 
 use Rattle.soap_writer.specs.ElementText.{written_name, tag_text, element_text, parts_text}
 use Rattle.soap_writer.specs.Frame.{addressing_space}
 use Rattle.soap_writer.specs.ReadBack.{reference_mark, with_mark, IsUnmarked, ReadsAs}
-use Rattle.soap_writer.specs.Writable.{IsTagWritable, IsTextWritable, IsWritable, ArePartsWritable, height, parts_height}
+use Rattle.soap_profile.specs.Payload.{height, depth as depth_of_parts}
+use Rattle.soap_writer.specs.Writable.{IsTagWritable, IsTextWritable, IsWritable, ArePartsWritable}
 use Rattle.soap_writer.proofs.Apart.{tag_distinct}
 use Rattle.soap_writer.proofs.Expands.{MarkBound, tag_declarations, tag_expanded, tag_named, tag_default}
 use Rattle.soap_writer.proofs.Prefixes.{n-IsName}
@@ -179,7 +180,7 @@ mutual
       scope default)))
 
   parts_back : (ps : Parts) (depth at : ℕ) (scope : List Binding) → ArePartsWritable ps
-      → depth + parts_height ps ≤ max_depth → bound [] scope ≡ None → PartsReadAs depth at scope (parts_text ps) ps
+      → depth + depth_of_parts ps ≤ max_depth → bound [] scope ≡ None → PartsReadAs depth at scope (parts_text ps) ps
   parts_back none depth at scope is room default = nothing_back depth at scope
   parts_back (text bytes none) depth at scope is room default = text_last depth at scope bytes is.0
   parts_back (text bytes (text later parts)) depth at scope is room default = absurd is.1
@@ -187,24 +188,24 @@ mutual
       text_more depth at scope bytes (element_text false first) (parts_text parts) first parts is.0
       (λ from. element_back first depth from scope is.2.0 (omega (
         arith,
-        le-max_left (height first) (parts_height
+        le-max_left (height first) (depth_of_parts
             parts),
       )) default)
       (λ from. parts_back parts depth from scope is.2.1 (omega (
         arith,
-        le-max_right (height first) (parts_height
+        le-max_right (height first) (depth_of_parts
             parts),
       )) default)
   parts_back (child first parts) depth at scope is room default =
       child_more depth at scope (element_text false first) (parts_text parts) first parts
       (λ from. element_back first depth from scope is.0 (omega (
         arith,
-        le-max_left (height first) (parts_height
+        le-max_left (height first) (depth_of_parts
             parts),
       )) default)
       (λ from. parts_back parts depth from scope is.1 (omega (
         arith,
-        le-max_right (height first) (parts_height
+        le-max_right (height first) (depth_of_parts
             parts),
       )) default)
 

@@ -8,7 +8,7 @@ use Rattle.soap_lex.specs.Characters.{IsChars, IsName}
 use Rattle.soap_document.specs.declared.tree.WrittenAttribute.{WrittenAttribute as Attribute}
 use Rattle.soap_document.specs.Grammar.{prefixed, IsAttributes, end, full, start_tag, end_tag}
 use Rattle.soap_document.specs.Tree as written
-use Rattle.soap_document.proofs.Held.{all_from_passes}
+use Rattle.soap_lex.proofs.HeldLemmas.{all_from_passes}
 use Rattle.soap_profile.specs.Document.{Document}
 use Rattle.soap_profile.specs.Tree.{Element, element, Parts, none, child, without_declarations}
 use Rattle.soap_writer.specs.Envelope.{envelope_scope, Block, IsBlock, bytes_of, envelope_text, children, soap_element, envelope_tree}

@@ -11,7 +11,8 @@ use Rattle.std.proofs.lemmas.Str.{encodes-IsAscii}
 use Rattle.std.proofs.lemmas.Str.Parse.{digit_from_value}
 use Rattle.xml_chars.specs.Classes.{is_within, is_char, is_name_char, is_name_start, name_more_ranges}
 use Rattle.soap_lex.specs.Characters.{IsName, IsChars}
-use Rattle.soap_document.proofs.Held.{all_from_passes, all_weaker, cut_none, cut-append}
+use Rattle.soap_lex.proofs.HeldLemmas.{all_from_passes, all_weaker}
+use Rattle.soap_document.proofs.Held.{cut_none, cut-append}
 use Rattle.soap_document.proofs.Names.{IsNameByte, name_bytes}
 use Rattle.soap_profile.specs.Namespaces.{split}
 use Rattle.soap_writer.specs.ElementText.{attribute_prefix}

@@ -7,7 +7,7 @@ use Rattle.soap_lex.proofs.BackLemmas.{value_back}
 use Rattle.soap_document.specs.declared.tree.WrittenAttribute.{WrittenAttribute as Attribute}
 use Rattle.soap_document.specs.Grammar.{IsAttributes, end, more, IsQName, unprefixed, prefixed}
 use Rattle.soap_document.specs.Tokens.{is_nil}
-use Rattle.soap_document.proofs.Held.{same}
+use Rattle.soap_lex.proofs.HeldLemmas.{same}
 use Rattle.soap_profile.specs.Namespaces.{xml_space}
 use Rattle.rm_base.specs.declared.message.Binding.{Binding}
 use Rattle.soap_profile.specs.declared.tree.Attr.{Attr}

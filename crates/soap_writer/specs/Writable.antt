@@ -1,5 +1,5 @@
 -- Elements that are read back as they were written.
-use Rattle.std.specs.Prelude.{◌≡◌, ◌≢◌, ℕ, ◌+◌, ◌<◌, ◌^◌, max, List, [], true, codes, length}
+use Rattle.std.specs.Prelude.{◌≡◌, ◌≢◌, ℕ, ◌<◌, ◌^◌, List, [], true, codes, length}
 use Rattle.std.specs.List.{AllByRecursion}
 use Rattle.soap_lex.specs.Characters.{IsName, IsChars}
 use Rattle.soap_profile.specs.Namespaces.{xmlns_space, are_distinct_names}
@@ -48,13 +48,3 @@ abbrev mutual
   ArePartsWritable none = Unit {0}
   ArePartsWritable (text bytes parts) = IsTextWritable bytes × NoText parts × ArePartsWritable parts
   ArePartsWritable (child first parts) = IsWritable first × ArePartsWritable parts
-
--- how many elements are one within the other
-abbrev mutual
-  pub height : Element → ℕ
-  height (element name decls attrs parts) = 1 + parts_height parts
-
-  pub parts_height : Parts → ℕ
-  parts_height none = 0
-  parts_height (text bytes parts) = parts_height parts
-  parts_height (child first parts) = max (height first) (parts_height parts)

@@ -11,7 +11,8 @@ ghost use Rattle.soap_writer.specs.ElementText.{element_text};
 ghost use Rattle.soap_writer.specs.Envelope.{Block, IsBlock, envelope_text, envelope_tree};
 ghost use Rattle.soap_writer.specs.Frame.{addressing_space};
 ghost use Rattle.soap_writer.specs.ReadBack.{ReadsAs, IsUnmarked, with_mark};
-ghost use Rattle.soap_writer.specs.Writable.{IsWritable, height};
+ghost use Rattle.soap_profile.specs.Payload.{height};
+ghost use Rattle.soap_writer.specs.Writable.{IsWritable};
 
 /// The text of an element is a document, whose tree is the element, but for declarations.
 pub fn document_is_read_back()
