@@ -5,6 +5,7 @@ use Rattle.std.specs.Prelude.{codes}
 use Rattle.std.specs.Str.{IsUtf8}
 use Rattle.soap_document.specs.Tree as written
 use Rattle.soap_document.proofs.OnlyDocument.{one_tree}
+use Rattle.soap_document.proofs.Utf8.{document_utf8}
 use Rattle.soap_profile.specs.Document.{Document, IsLongestText}
 use Rattle.soap_profile.specs.Namespaces.{resolve}
 use Rattle.soap_profile.specs.Tree.{Element, element}
@@ -35,15 +36,15 @@ one_root bytes e is root document =
     cc
 
 -- an envelope has no fault
-pub HasFault-excludes : (bytes : List ℕ) (fault : Fault) → HasFault bytes fault → IsUtf8 bytes → (e : Envelope)
-    → IsEnvelope bytes e → ⊥
-HasFault-excludes bytes NotUtf8 fault utf8 e is = fault utf8
-HasFault-excludes bytes NotProfile fault utf8 e is =
+pub HasFault-excludes : (bytes : List ℕ) (fault : Fault) → HasFault bytes fault → (e : Envelope) → IsEnvelope bytes e
+    → ⊥
+HasFault-excludes bytes NotUtf8 fault e is = fault (document_utf8 bytes is.raw is.document)
+HasFault-excludes bytes NotProfile fault e is =
     fault.1 (root_of is) (record { raw = is.raw; is = is.document; resolved = is.resolved })
-HasFault-excludes bytes WrongVersion fault utf8 e is =
-    let root = one_root bytes e is fault.1.root fault.1.document in
-    fault.1.version.space (ap (λ (x : Element). (name_of x).space) root)
-HasFault-excludes bytes NotEnvelope fault utf8 e is =
-    let root = one_root bytes e is fault.1.root fault.1.document in
-    fault.1.other.outline is.header is.body (ap name_of root)
+HasFault-excludes bytes WrongVersion fault e is =
+    let root = one_root bytes e is fault.root fault.document in
+    fault.version.space (ap (λ (x : Element). (name_of x).space) root)
+HasFault-excludes bytes NotEnvelope fault e is =
+    let root = one_root bytes e is fault.root fault.document in
+    fault.other.outline is.header is.body (ap name_of root)
     (subst (λ (x : Element). IsOutline (parts_of x) is.header is.body) (sym root) is.outline)

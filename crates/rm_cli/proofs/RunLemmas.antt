@@ -2,7 +2,6 @@
 use Rattle.std.proofs.Common.{◌≡◌, ℕ, ◌≤◌, ◌<◌, List, length, refl, sym, subst, arith, append-nil, inl, inr}
 use Rattle.std.specs.Prelude.{Option, None, Some, IfSome}
 use Rattle.std.specs.Io.KnownBytes.{IsAtEnd}
-use Rattle.std.specs.Str.{IsUtf8}
 use Rattle.rm_base.specs.Outside.{AppendsFront}
 use Rattle.rm_world.specs.declared.event.Event.{Event}
 use Rattle.rm_world.specs.Script.{lines_of, IsScript, IsFirstBad}
@@ -98,36 +97,34 @@ module _ {S K : Type 0} (i i' : Input S) (o o' : Output K) (all : List ℕ) (lef
   check_status : (end : End) → EndsCheck end i i' o o' → IsCheckStatus all (status_of end)
   check_status Done ran =
       let same = known_bytes i i' all left most_of_envelope ran.read.bytes ran.read.read in
-      let utf8 : IsUtf8 all = rw same at ran.read.utf8 in
       let is : IsEnvelope all ran.envelope = rw same at ran.read.is in
       let short : length all ≤ most_of_envelope = rw same at ran.read.read.short in
       record {
-        envelope = λ _ _ _ _. inl refl;
-        fault = λ _ none. absurd (none ran.envelope utf8 is);
+        envelope = λ _ _ _. inl refl;
+        fault = λ _ none. absurd (none ran.envelope is);
         longer = λ longer. absurd (omega (arith, short, longer));
       }
   check_status Usage ran = absurd ran
   check_status (BadLine line) ran = absurd ran
   check_status ReadFault ran = record {
-    envelope = λ _ _ _ _. inr (inr (inl refl));
+    envelope = λ _ _ _. inr (inr (inl refl));
     fault = λ _ _. inr (inl refl);
     longer = λ _. inr (inl refl);
   }
   check_status WriteFault ran =
       let same = known_bytes i i' all left most_of_envelope ran.1.read.bytes ran.1.read.read in
-      let utf8 : IsUtf8 all = rw same at ran.1.read.utf8 in
       let is : IsEnvelope all ran.1.envelope = rw same at ran.1.read.is in
       let short : length all ≤ most_of_envelope = rw same at ran.1.read.read.short in
       record {
-        envelope = λ _ _ _ _. inr (inl refl);
-        fault = λ _ none. absurd (none ran.1.envelope utf8 is);
+        envelope = λ _ _ _. inr (inl refl);
+        fault = λ _ none. absurd (none ran.1.envelope is);
         longer = λ longer. absurd (omega (arith, short, longer));
       }
   check_status TooLong ran =
       let long : most_of_envelope < length all =
       known i.left all (λ x. most_of_envelope < length x) left ran.0.longer in
       record {
-        envelope = λ short _ _ _. absurd (omega (arith, short, long));
+        envelope = λ short _ _. absurd (omega (arith, short, long));
         fault = λ short _. absurd (omega (arith, short, long));
         longer = λ _. inl refl;
       }
@@ -136,12 +133,12 @@ module _ {S K : Type 0} (i i' : Input S) (o o' : Output K) (all : List ℕ) (lef
       let has : HasFault all fault = rw same at ran.0.has in
       let short : length all ≤ most_of_envelope = rw same at ran.0.read.short in
       record {
-        envelope = λ _ utf8 e is. absurd (HasFault-excludes all fault has utf8 e is);
+        envelope = λ _ e is. absurd (HasFault-excludes all fault has e is);
         fault = λ _ _. inl refl;
         longer = λ longer. absurd (omega (arith, short, longer));
       }
   check_status Memory ran = record {
-    envelope = λ _ _ _ _. inr (inr (inr refl));
+    envelope = λ _ _ _. inr (inr (inr refl));
     fault = λ _ _. inr (inr refl);
     longer = λ _. inr (inr refl);
   }

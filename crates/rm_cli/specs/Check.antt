@@ -48,13 +48,12 @@ check_text e =
 abbrev pub HasFault : List ℕ → Fault → Type 0
 HasFault bytes NotUtf8 = ¬ (IsUtf8 bytes)
 HasFault bytes NotProfile = IsUtf8 bytes × ((tree : Element) → ¬ (Document bytes tree))
-HasFault bytes WrongVersion = IsUtf8 bytes × refusals.WrongVersion bytes
-HasFault bytes NotEnvelope = IsUtf8 bytes × refusals.NotEnvelope bytes
+HasFault bytes WrongVersion = refusals.WrongVersion bytes
+HasFault bytes NotEnvelope = refusals.NotEnvelope bytes
 
 -- the bytes are an envelope, and this is what is printed of it
 pub record IsTextOf (bytes text : List ℕ) : Type 0 where
   pub envelope : Envelope
-  pub utf8 : IsUtf8 bytes
   pub is : IsEnvelope bytes envelope
   pub printed : text ≡ check_text envelope
 
@@ -62,7 +61,6 @@ pub record IsTextOf (bytes text : List ℕ) : Type 0 where
 pub record IsReadEnvelope {S : Type 0} (i i' : Input S) (envelope : Envelope) : Type 0 where
   pub bytes : List ℕ
   pub read : WasRead most_of_envelope i i' bytes
-  pub utf8 : IsUtf8 bytes
   pub is : IsEnvelope bytes envelope
 
 -- an envelope was read, and what it holds was written
@@ -96,8 +94,8 @@ EndsCheck Memory i i' o o' = (o' ≡ o) ⊎ CheckedInPart i i' o o'
 
 -- of an envelope comes 0, of other bytes 9, of more bytes 8, unless the input, the output or the machine fails
 pub record IsCheckStatus (bytes : List ℕ) (status : ℕ) : Type 0 where
-  pub envelope : length bytes ≤ most_of_envelope → IsUtf8 bytes → (e : Envelope) → IsEnvelope bytes e
+  pub envelope : length bytes ≤ most_of_envelope → (e : Envelope) → IsEnvelope bytes e
       → (status ≡ 0) ⊎ IsOutside status
-  pub fault : length bytes ≤ most_of_envelope → ((e : Envelope) → IsUtf8 bytes → ¬ (IsEnvelope bytes e))
+  pub fault : length bytes ≤ most_of_envelope → ((e : Envelope) → ¬ (IsEnvelope bytes e))
       → (status ≡ 9) ⊎ IsUnread status
   pub longer : most_of_envelope < length bytes → (status ≡ 8) ⊎ IsUnread status
