@@ -1,10 +1,7 @@
-/* Times libexpat in namespace mode, with handlers that only count: the best of several runs for each file. */
+/* Times libexpat in namespace mode, with handlers that only count. */
 #include <expat.h>
-#include <stdio.h>
-#include <stdlib.h>
-#include <time.h>
 
-enum { RUNS = 9 };
+#include "timing.h"
 
 static long counted;
 
@@ -23,40 +20,16 @@ static void XMLCALL characters(void *data, const XML_Char *text, int length) {
     counted += length;
 }
 
-static char *contents(const char *path, long *length) {
-    FILE *file = fopen(path, "rb");
-    if (!file || fseek(file, 0, SEEK_END)) exit(2);
-    *length = ftell(file);
-    rewind(file);
-    char *bytes = malloc(*length);
-    if (!bytes || fread(bytes, 1, *length, file) != (size_t)*length) exit(2);
-    fclose(file);
-    return bytes;
-}
-
-static long microseconds(void) {
-    struct timespec now;
-    clock_gettime(CLOCK_MONOTONIC, &now);
-    return now.tv_sec * 1000000 + now.tv_nsec / 1000;
+static int read_document(const char *bytes, int length) {
+    XML_Parser parser = XML_ParserCreateNS("UTF-8", ' ');
+    XML_SetElementHandler(parser, start_element, end_element);
+    XML_SetCharacterDataHandler(parser, characters);
+    int read = XML_Parse(parser, bytes, length, 1) == XML_STATUS_OK;
+    XML_ParserFree(parser);
+    return read;
 }
 
 int main(int argc, char **argv) {
-    for (int i = 1; i < argc; i++) {
-        long length, best = -1;
-        char *bytes = contents(argv[i], &length);
-        for (int run = 0; run < RUNS; run++) {
-            long start = microseconds();
-            XML_Parser parser = XML_ParserCreateNS("UTF-8", ' ');
-            XML_SetElementHandler(parser, start_element, end_element);
-            XML_SetCharacterDataHandler(parser, characters);
-            int read = XML_Parse(parser, bytes, length, 1) == XML_STATUS_OK;
-            XML_ParserFree(parser);
-            long taken = microseconds() - start;
-            if (!read) best = -2;
-            else if (best == -1 || (best >= 0 && taken < best)) best = taken;
-        }
-        printf("expat %s %ld\n", argv[i], best);
-        free(bytes);
-    }
+    time_files("expat", read_document, argc - 1, argv + 1);
     return counted == 0;
 }
