@@ -18,7 +18,7 @@ use Rattle.soap_lex.specs.Text.{IsCharData, IsText, run, more, reference, with_l
 use Rattle.soap_lex.specs.Value.{IsPlainValue, IsInner, IsValue, double, with_spaces, space_of, run as inner_run}
 use Rattle.soap_lex.specs.Value.{more as inner_more}
 use Rattle.soap_lex.proofs.HoldsLemmas.{NonePass-from_places, NonePass-lacks}
-use Rattle.soap_lex.proofs.LineLemmas.{line_ends-run}
+use Rattle.soap_lex.proofs.LineLemmas.{line_ends-none, no_blanks}
 
 by_test : (b : Bool) → (b ≡ true) ⊎ (b ≡ false)
 by_test true = inl refl
@@ -189,10 +189,7 @@ free_data cs all = record {
 }
 
 free_lines : (cs : List ℕ) → NonePass (is_byte 13) cs → with_line_ends (encode_utf8_all cs) ≡ encode_utf8_all cs
-free_lines cs none =
-    ap with_line_ends (sym (append-nil (encode_utf8_all cs)))
-    ∙ line_ends-run (encode_utf8_all cs) [] (lacks_byte 13 cs (omega arith) none)
-    ∙ append-nil (encode_utf8_all cs)
+free_lines cs none = line_ends-none (encode_utf8_all cs) (lacks_byte 13 cs (omega arith) none)
 
 moved : {a b x y : List ℕ} → a ≡ b → x ≡ y → IsText a x → IsText b y
 moved {a} {b} {x} {y} e f is =
@@ -257,10 +254,6 @@ free_value cs all = record {
   no_quote = NonePass-lacks 34 (encode_utf8_all cs)
       (lacks_byte 34 cs (omega arith) (none_of IsFreeValue 34 (λ c free. free.quote_not) cs all));
 }
-
-no_blanks : (bytes : List ℕ) → NonePass (is_byte 9) bytes → NonePass (is_byte 10) bytes → map space_of bytes ≡ bytes
-no_blanks [] tabs lines = refl
-no_blanks (x ∷ bytes) tabs lines = rw (tabs.0, lines.0) (ap (λ l. x ∷ l) (no_blanks bytes tabs.1 lines.1))
 
 free_spaces : (cs : List ℕ) → AllByRecursion IsFreeValue cs → with_spaces (encode_utf8_all cs) ≡ encode_utf8_all cs
 free_spaces cs all =

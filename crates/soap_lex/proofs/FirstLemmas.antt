@@ -1,10 +1,13 @@
 -- The first byte that passes a test, and what stands around it.
-use Rattle.std.proofs.Common.{◌≡◌, ℕ, suc, ◌+◌, ◌-◌, ◌≤◌, ◌<◌, List, [], ◌∷◌, ◌++◌, Bool, true, false, Some, None, length, get_or, take, drop, sym, ap, refl, ◌∙◌, arith, length-drop, drop-cons}
+use Rattle.std.proofs.Common.{◌≡◌, ℕ, suc, ◌+◌, ◌-◌, ◌≤◌, ◌<◌, List, [], ◌∷◌, ◌++◌, Bool, true, false, Option}
+use Rattle.std.proofs.Common.{Some, None, length, get_or, take, drop, sym, ap, refl, ◌∙◌, arith, length-drop}
+use Rattle.std.proofs.Common.{drop-cons, subst, inl, inr}
 use Prim.Native.Nat.{zero}
 use Rattle.std.specs.List.{AllByRecursion}
 use Rattle.std.proofs.Math.Numerals.{add-one}
-use Rattle.std.proofs.lemmas.List.{take-append-drop}
-use Rattle.std.proofs.lemmas.Bool.{false_from_ne_true}
+use Rattle.std.proofs.lemmas.List.{take-append-drop, get_or-drop}
+use Rattle.std.proofs.lemmas.Bool.{false_from_ne_true, cases_lt}
+use Rattle.std.specs.Prelude.{option_map}
 use Rattle.memchr.specs.Find.{IsFirstByte}
 
 -- what stands before it fails
@@ -46,3 +49,37 @@ take_all_of (suc k) (x ∷ xs) h = ap (λ (y : List ℕ). x ∷ y) (take_all_of 
 
 pub take_rest : (n : ℕ) (xs : List ℕ) → take (length xs - n) (drop n xs) ≡ drop n xs
 take_rest n xs = take_all_of (length xs - n) (drop n xs) (omega (arith, length-drop n xs))
+
+-- the same byte, counted from place n on
+further : (p : ℕ → Bool) (bytes : List ℕ) (n k : ℕ) → n ≤ k → p (get_or bytes k 0) ≡ true
+    → p (get_or (drop n bytes) (k - n) 0) ≡ true
+further p bytes n k h e =
+    let there : n + (k - n) ≡ k = omega arith in
+    ap p (get_or-drop n bytes (k - n) 0 ∙ ap (λ (i : ℕ). get_or bytes i 0) there) ∙ e
+
+first_in_rest : (p : ℕ → Bool) (bytes : List ℕ) (n : ℕ) (r : Option ℕ) → n ≤ length bytes
+    → ((k : ℕ) → k < n → p (get_or bytes k 0) ≡ true → ⊥) → IsFirstByte p (drop n bytes) r
+    → IsFirstByte p bytes (option_map (λ k. n + k) r)
+first_in_rest p bytes n None h front none = λ k low high e. elim (cases_lt k n) as (λ _. ⊥) [
+  | inl near ↦ front k near e
+  | inr far ↦ none (k - n) (omega arith) (omega (arith, length-drop n bytes)) (further p bytes n k far e)
+]
+first_in_rest p bytes n (Some j) h front found =
+    let high : j < length (drop n bytes) = found.0.high in (
+      record {
+        low = omega arith;
+        high = omega (arith, length-drop n bytes);
+        before = λ k low less e. elim (cases_lt k n) as (λ _. ⊥) [
+          | inl near ↦ front k near e
+          | inr far ↦ found.0.before (k - n) (omega arith) (omega arith) (further p bytes n k far e)
+        ];
+      },
+      ap p (sym (get_or-drop n bytes j 0)) ∙ found.1,
+    )
+
+-- where none of the first n bytes passes, the first that does is the first of the rest
+pub first_further : (p : ℕ → Bool) (bytes : List ℕ) (n : ℕ) (r : Option ℕ) → n ≤ length bytes
+    → ((k : ℕ) → k < n → p (get_or bytes k 0) ≡ true → ⊥) → IsFirstByte p (take (length bytes - n) (drop n bytes)) r
+    → IsFirstByte p bytes (option_map (λ k. n + k) r)
+first_further p bytes n r h front found =
+    first_in_rest p bytes n r h front (subst (λ (rest : List ℕ). IsFirstByte p rest r) (take_rest n bytes) found)

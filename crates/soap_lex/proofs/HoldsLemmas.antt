@@ -64,7 +64,7 @@ NonePass-join p q r each (x ∷ bytes) a b = (each x a.0 b.0, NonePass-join p q 
 eqb-false-ne : (x b : ℕ) → (x == b) ≡ false → x ≡ b → ⊥
 eqb-false-ne x b e same = grind (arith, nat_tests)
 
-ne_test : (x b : ℕ) → (x ≡ b → ⊥) → (x == b) ≡ false
+pub ne_test : (x b : ℕ) → (x ≡ b → ⊥) → (x == b) ≡ false
 ne_test x b ne = grind (arith, nat_tests)
 
 head_is : (x b : ℕ) (bytes after : List ℕ) → x ∷ bytes ≡ (b ∷ []) ++ after → x ≡ b

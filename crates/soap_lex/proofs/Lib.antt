@@ -23,4 +23,5 @@ pub mod UniqueLemmas
 pub mod ValueFed
 pub mod ValueRead
 pub mod ValueWhole
+pub mod VisibleLemmas
 pub mod WordLemmas

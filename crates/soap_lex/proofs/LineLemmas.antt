@@ -7,12 +7,16 @@ use Rattle.std.specs.Prelude.{map}
 use Rattle.memchr.specs.Find.{is_byte, IsFirstByte}
 use Rattle.soap_lex.proofs.HoldsLemmas.{NonePass-before, NonePass-searched}
 use Rattle.soap_lex.specs.Text.{line_ends_after, with_line_ends}
+use Rattle.soap_lex.specs.Value.{space_of}
 
 -- bytes without a CR stay
 pub line_ends-run : (run rest : List ℕ) → NonePass (is_byte 13) run
     → with_line_ends (run ++ rest) ≡ run ++ with_line_ends rest
 line_ends-run [] rest none = refl
 line_ends-run (x ∷ run) rest none = rw none.0 (ap (λ l. x ∷ l) (line_ends-run run rest none.1))
+
+pub line_ends-none : (run : List ℕ) → NonePass (is_byte 13) run → with_line_ends run ≡ run
+line_ends-none run none = ap with_line_ends (sym (append-nil run)) ∙ line_ends-run run [] none ∙ append-nil run
 
 -- a byte other than LF after a CR
 pub line_ends-other : (x : ℕ) (rest : List ℕ) → (x == 10) ≡ false
@@ -52,10 +56,12 @@ pub lines_done : (start out rest bytes : List ℕ) → out ++ with_line_ends res
     → IsFirstByte (is_byte 13) rest None
     → out ++ rest ≡ start ++ with_line_ends bytes
 lines_done start out rest bytes so none =
-    let whole : with_line_ends rest ≡ rest =
-    ap with_line_ends (sym (append-nil rest)) ∙ line_ends-run rest [] (NonePass-searched (is_byte 13) rest none)
-    ∙ append-nil rest in
-    ap (λ l. out ++ l) (sym whole) ∙ so
+    ap (λ l. out ++ l) (sym (line_ends-none rest (NonePass-searched (is_byte 13) rest none))) ∙ so
+
+-- bytes without a tab and an LF stay
+pub no_blanks : (bytes : List ℕ) → NonePass (is_byte 9) bytes → NonePass (is_byte 10) bytes → map space_of bytes ≡ bytes
+no_blanks [] tabs lines = refl
+no_blanks (x ∷ bytes) tabs lines = rw (tabs.0, lines.0) (ap (λ l. x ∷ l) (no_blanks bytes tabs.1 lines.1))
 
 pub mapped_all : (f : ℕ → ℕ) (n : ℕ) (bytes : List ℕ) → length bytes ≤ n
     → map f (take n bytes) ++ drop n bytes ≡ map f bytes

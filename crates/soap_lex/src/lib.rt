@@ -9,11 +9,13 @@ pub mod laws;
 pub mod lines;
 pub mod read;
 pub mod references;
+pub(crate) mod search;
 #[cfg(test)]
 mod tests;
 pub mod text;
 pub mod tokens;
 pub mod value;
+pub(crate) mod visible;
 pub mod write;
 
 pub use error::{LexError, Memory};

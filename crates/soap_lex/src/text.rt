@@ -1,5 +1,6 @@
 ghost use Rattle.std.specs.Prelude.{◌≡◌, ◌≤◌, ◌∷◌, ◌++◌, ℕ, List, [], not, length, take, drop, encode_utf8};
-ghost use Rattle.std.specs.Prelude.{IfOk, OnOk, OnErr, codes, true, option_map, if◌then◌else◌};
+ghost use Rattle.std.specs.Prelude.{IfOk, OnOk, OnErr, IsTrue, ◌↔◌, codes, true, option_map, if◌then◌else◌};
+ghost use Rattle.std.specs.Str.{bytes_eq};
 ghost use Rattle.memchr.specs.Find.{IsFirstByte};
 ghost use Rattle.soap_lex.specs.Tests.{is_char_data as char_data_test, is_cdata as cdata_test};
 ghost use Rattle.soap_lex.specs.Tests.{is_comment as comment_test, without};
@@ -23,8 +24,10 @@ ghost use Rattle.soap_lex.specs.Readers.{text_state, text_mode};
 
 use crate::decide::{before, goes_on, is_cdata, is_char_data, is_comment, reference};
 use crate::references::push_character;
+use crate::search::{first, first_of_two};
+use crate::visible::{append, is_visible};
 use crate::{Memory, push_line_ends};
-use memchr::{memchr, memchr2};
+use memchr::memchr;
 use std::alloc::Global;
 
 // where the reader stands
@@ -108,7 +111,14 @@ impl TextReader {
     pub fn is_less(&self) -> bool
         ensures { (text : List ℕ) → result ≡ less_test (text_state self.now text) }
     {
-        self.mode == TextMode::Opening && self.token.as_slice() == b"<".as_slice()
+        self.mode == TextMode::Opening && is_less_sign(&self.token)
+    }
+
+    /// No token is begun: it stands as `restart` leaves it.
+    pub fn is_fresh(&self) -> bool
+        ensures { (text : List ℕ) → IsTrue result ↔ (text_state self.now text ≡ begun text) }
+    {
+        self.mode == TextMode::Chars && self.token.is_empty()
     }
 
     // nothing more is read before this byte
@@ -278,6 +288,21 @@ fn push_data(bytes: &[u8], out: &mut Vec<u8>) -> Result<bool, Memory>
         out.old.items)) }
     ensures err { OnErr result (out.new.items ≡ out.old.items) }
 {
+    if is_visible(bytes, b']') {
+        append(bytes, out)?;
+        return Ok(true);
+    }
+    push_any_data(bytes, out)
+}
+
+// the same; it stands apart, so that the common case is short
+#[inline(never)]
+fn push_any_data(bytes: &[u8], out: &mut Vec<u8>) -> Result<bool, Memory>
+    ensures passes { IfOk result (λ passes. passes ≡ char_data_test bytes.now) }
+    ensures ok { IfOk result (λ passes. out.new.items ≡ (if passes then out.old.items ++ with_line_ends bytes.now else
+        out.old.items)) }
+    ensures err { OnErr result (out.new.items ≡ out.old.items) }
+{
     if !is_char_data(bytes) {
         return Ok(false);
     }
@@ -311,11 +336,24 @@ fn push_cdata(bytes: &[u8], out: &mut Vec<u8>) -> Result<Option<bool>, Memory>
     Ok(Some(true))
 }
 
-// the token with this byte is the beginning of a comment or of a CDATA section, or a part of one
+// the token with this byte is the beginning of a comment or of a CDATA section, or a part of one; mostly the token is
+// a < alone
 fn opens(token: &[u8], byte: u8) -> bool
     ensures { result ≡ open_test (token.now ++ byte ∷ []) }
 {
-    goes_on(b"<!--", token, byte) || goes_on(b"<![CDATA[", token, byte)
+    match token {
+        [first] => *first == b'<' && byte == b'!',
+        _ => goes_on(b"<!--", token, byte) || goes_on(b"<![CDATA[", token, byte),
+    }
+}
+
+fn is_less_sign(token: &[u8]) -> bool
+    ensures { result ≡ bytes_eq token.now (codes "<") }
+{
+    match token {
+        [first] => *first == b'<',
+        _ => false,
+    }
 }
 
 // where the first byte stands that ends the token
@@ -323,15 +361,9 @@ fn first_stop(mode: TextMode, bytes: &[u8]) -> Option<usize>
     ensures { IsFirstByte (stop_test (text_mode mode)) bytes.now result }
 {
     match mode {
-        TextMode::Chars => memchr2(b'<', b'&', bytes),
+        TextMode::Chars => first_of_two(b'<', b'&', bytes),
         TextMode::Referring => memchr(b';', bytes),
         TextMode::Commenting | TextMode::Quoting => memchr(b'>', bytes),
         TextMode::Opening | TextMode::Refused => first(bytes),
     }
-}
-
-pub(crate) fn first(bytes: &[u8]) -> Option<usize>
-    ensures { IsFirstByte (λ _. true) bytes.now result }
-{
-    if bytes.is_empty() { None } else { Some(0) }
 }

@@ -19,6 +19,14 @@ pub fn is_name(bytes: &[u8]) -> bool
     if is_ascii_name(bytes) {
         return true;
     }
+    is_utf8_name(bytes)
+}
+
+// a name of any characters; it stands apart, so that the common case is short
+#[inline(never)]
+fn is_utf8_name(bytes: &[u8]) -> bool
+    ensures { IsTrue result ↔ IsName bytes.now }
+{
     match str::from_utf8(bytes) {
         Ok(text) => begins_name(text) && has_name_chars(text),
         Err(_) => false,
@@ -58,6 +66,10 @@ fn begins_ascii_name(byte: u8) -> bool
 fn is_ascii_name_char(byte: u8) -> bool
     ensures { IsTrue result → (byte < 128) × IsTrue (name_char_class byte) }
 {
+    // most are small letters
+    if byte >= b'a' && byte <= b'z' {
+        return true;
+    }
     begins_ascii_name(byte) || (byte >= b'0' && byte <= b'9') || byte == b'-' || byte == b'.'
 }
 
@@ -128,8 +140,31 @@ fn after_char(bytes: &[u8]) -> Option<&[u8]>
     ensures shorter { IfSome result (λ rest. length rest.now < length bytes.now) }
 {
     match bytes {
+        [first, ..] if *first >= 0xE0 => after_triple(bytes),
+        _ => after_short(bytes),
+    }
+}
+
+// the same, where it has up to two bytes
+#[inline]
+fn after_short(bytes: &[u8]) -> Option<&[u8]>
+    ensures begins { IfSome result (λ rest. BeginsWithChar bytes.now rest.now) }
+    ensures shorter { IfSome result (λ rest. length rest.now < length bytes.now) }
+{
+    match bytes {
         [a, rest @ ..] if is_plain(*a) => Some(rest),
         [a, b, rest @ ..] if is_pair(*a, *b) => Some(rest),
+        _ => None,
+    }
+}
+
+// the same, where it has three
+#[inline]
+fn after_triple(bytes: &[u8]) -> Option<&[u8]>
+    ensures begins { IfSome result (λ rest. BeginsWithChar bytes.now rest.now) }
+    ensures shorter { IfSome result (λ rest. length rest.now < length bytes.now) }
+{
+    match bytes {
         [a, b, c, rest @ ..] if is_triple(*a, *b, *c) => Some(rest),
         _ => None,
     }

@@ -17,9 +17,10 @@ ghost use Rattle.soap_lex.specs.Readers.{quote_byte, value_mode, value_state};
 
 use crate::decide::{is_plain, reference};
 use crate::references::push_character;
-use crate::text::first;
+use crate::search::{first, first_of_two};
+use crate::visible::{append, is_visible};
 use crate::{Memory, push_spaces};
-use memchr::{memchr, memchr2};
+use memchr::memchr;
 use std::alloc::Global;
 
 /// The two kinds of quotes that a value may stand in.
@@ -211,6 +212,21 @@ fn push_run(bytes: &[u8], quote: Quote, out: &mut Vec<u8>) -> Result<bool, Memor
         out.old.items)) }
     ensures err { OnErr result (out.new.items ≡ out.old.items) }
 {
+    if is_visible(bytes, quote.byte()) {
+        append(bytes, out)?;
+        return Ok(true);
+    }
+    push_any_run(bytes, quote, out)
+}
+
+// the same; it stands apart, so that the common case is short
+#[inline(never)]
+fn push_any_run(bytes: &[u8], quote: Quote, out: &mut Vec<u8>) -> Result<bool, Memory>
+    ensures passes { IfOk result (λ passes. passes ≡ plain_test (quote_byte quote) bytes.now) }
+    ensures ok { IfOk result (λ passes. out.new.items ≡ (if passes then out.old.items ++ with_spaces bytes.now else
+        out.old.items)) }
+    ensures err { OnErr result (out.new.items ≡ out.old.items) }
+{
     if !is_plain(bytes, quote.byte()) {
         return Ok(false);
     }
@@ -223,7 +239,7 @@ fn first_stop(mode: ValueMode, quote: u8, bytes: &[u8]) -> Option<usize>
     ensures { IsFirstByte (stop_test (value_mode mode) quote) bytes.now result }
 {
     match mode {
-        ValueMode::Plain => memchr2(quote, b'&', bytes),
+        ValueMode::Plain => first_of_two(quote, b'&', bytes),
         ValueMode::Referring => memchr(b';', bytes),
         ValueMode::Closed | ValueMode::Refused => first(bytes),
     }

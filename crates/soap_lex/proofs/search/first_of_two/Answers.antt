@@ -1,0 +1,23 @@
+use Rattle.std.proofs.Common.{Some, None, sym, ◌∙◌, arith}
+use Rattle.memchr.specs.Find.{is_byte2}
+use Rattle.soap_lex.proofs.FirstLemmas.{first_further}
+use Rattle.soap_lex.proofs.search.first_of_two.Goals as goal
+
+pub returns-then-is_either : goal.returns-then-is_either
+returns-then-is_either c = (
+  record { low = omega arith; high = omega arith; before = λ k low less e. c.loop-i.invariant k less e },
+  sym c.is_either.ensures ∙ c.if-is_either.true,
+)
+
+pub returns-then-bytes-le-NEAR : goal.returns-then-bytes-le-NEAR
+returns-then-bytes-le-NEAR c = λ k low high e. c.loop-i.invariant k (omega arith) e
+
+pub returns-in-Some : goal.returns-in-Some
+returns-in-Some c =
+    first_further (is_byte2 c.args.a c.args.b) c.args.bytes.now c.min-near.result (Some c.in-Some.further) (omega arith)
+    (λ k less e. c.loop-i.invariant k (omega arith) e) c.in-Some.ensures
+
+pub returns-in-None : goal.returns-in-None
+returns-in-None c =
+    first_further (is_byte2 c.args.a c.args.b) c.args.bytes.now c.min-near.result None (omega arith)
+    (λ k less e. c.loop-i.invariant k (omega arith) e) c.in-None.ensures
