@@ -1,20 +1,15 @@
 -- What feeding a piece does, and what the reader answers at the end.
-use Rattle.std.proofs.Common.{◌≡◌, ◌≢◌, ℕ, ◌+◌, ◌-◌, ◌<◌, ◌≤◌, Bool, true, false, List, [], ◌∷◌, ◌++◌, Option, Some, None, Result, Ok, Err, OnOk, IfSome, IfNone, option_map, length, get_or, take, drop, refl, sym, ap, subst, ◌∙◌, arith, length-take, length-drop}
+use Rattle.std.proofs.Common.{◌≡◌, ◌≢◌, ℕ, ◌+◌, ◌-◌, ◌<◌, ◌≤◌, Bool, true, false, List, [], ◌∷◌, ◌++◌, Option, Some, None, Result, Ok, Err, OnOk, length, get_or, take, drop, refl, sym, ap, subst, ◌∙◌, arith, length-take, length-drop}
 use Rattle.memchr.specs.Find.{IsFirstByte}
-use Rattle.soap_lex.specs.TextMachine.{TextState, halts as text_halts, to_stop as text_to_stop}
+use Rattle.soap_lex.specs.TextMachine.{TextState, begun as begun_text, halts as text_halts, to_stop as text_to_stop}
 use Rattle.soap_lex.specs.ValueMachine.{ValueState, halts, to_stop}
 use Rattle.soap_lex.proofs.TextFed.{still as text_still}
 use Rattle.soap_lex.proofs.ValueFed.{fed_halted, still}
-use Rattle.soap_document.specs.Tree.{Element}
-use Rattle.soap_document.specs.Grammar.{IsDocument}
-use Rattle.soap_document.specs.Machine.{State, chars, value_inner, at_chars, refuse, stops, finish, step, run, counted, after_value, start, root_of}
+use Rattle.soap_document.specs.Machine.{State, chars, value_inner, at_chars, in_less, refuse, stops, finish, step, run, counted, after_value}
 use Rattle.soap_document.specs.Seen.{Taken}
-use Rattle.soap_document.specs.View.{element_view}
-use Rattle.soap_document.specs.declared.tree.WrittenElement.{WrittenElement}
 use Rattle.soap_document.proofs.Answer.{feed_step, feed_end, take_rest}
-use Rattle.soap_document.proofs.FoundDocument.{document_found}
-use Rattle.soap_document.proofs.OnlyDocument.{document_only}
-use Rattle.soap_document.proofs.Places.{finish-at, chars-at, after_value-at}
+use Rattle.soap_document.proofs.Places.{finish-at, chars-at, in_less-at, after_value-at}
+use Rattle.soap_document.proofs.Steps.{at_tag, tag_begins}
 use Rattle.soap_document.proofs.Values.{fed}
 use Rattle.soap_document.proofs.Words.{fed as text_fed}
 
@@ -175,14 +170,20 @@ taken_end s new t (c ∷ rest) n e some fed none kept =
       place = ap (λ (x : State). x.at + 1 + length rest) same ∙ ap (λ k. k + 1 + length rest) (chars-at s c) ∙ omega arith;
     }
 
--- ---- the answer
-
-pub found_root : (bytes : List ℕ) (s : State) (r : Option WrittenElement) → option_map element_view r ≡ root_of s
-    → s ≡ run start bytes → IfSome r (λ root. IsDocument bytes (element_view root))
-found_root bytes s None h e = tt
-found_root bytes s (Some root) h e = document_found bytes (element_view root) (ap root_of (sym e) ∙ sym h)
-
-pub no_root : (bytes : List ℕ) (s : State) (r : Option WrittenElement) → option_map element_view r ≡ root_of s → s
-    ≡ run start bytes → IfNone r ((other : Element) → ¬ (IsDocument bytes other))
-no_root bytes s None h e = λ other d. let x : None ≡ Some other = h ∙ ap root_of e ∙ document_only d in cc
-no_root bytes s (Some root) h e = tt
+-- a < where no text is begun is taken with the byte behind it
+pub taken_less : (s : State) (bytes : List ℕ) → s.mode ≡ chars → s.words ≡ begun_text s.words.text → 1 < length bytes
+    → get_or bytes 0 0 ≡ 60 → get_or bytes 1 0 ≢ 33
+    → Taken s (counted (in_less (at_tag s) (get_or bytes 1 0))) bytes 2
+taken_less s [] e fresh some opens other = absurd (omega (arith, some))
+taken_less s (b ∷ []) e fresh some opens other = absurd (omega (arith, some))
+taken_less s (b ∷ c ∷ rest) e fresh some opens other =
+    let begins : s ≡ record s { mode = chars; words = begun_text s.words.text } =
+    ap (λ m. record s { mode = m }) e ∙ ap (λ w. record s { mode = chars; words = w }) fresh in
+    let two : step (step s 60) c ≡ counted (in_less (at_tag s) c) =
+    subst (λ x. step (step x 60) c ≡ counted (in_less (at_tag x) c)) (sym begins) (tag_begins s s.words.text c other) in
+    record {
+      some = omega arith;
+      within = omega arith;
+      meaning = ap (λ x. run x rest) (sym two) ∙ ap (λ k. run (step (step s k) c) rest) (sym opens);
+      place = ap (λ k. k + 1 + length rest) (in_less-at (at_tag s) c) ∙ omega arith;
+    }

@@ -1,16 +1,14 @@
 -- Bytes are content exactly where they make a document between the tags of an element.
-use Rattle.std.proofs.Common.{◌≡◌, ℕ, suc, ◌+◌, ◌<◌, List, [], ◌∷◌, ◌++◌, Bool, true, false, ◌&&◌, nat_eq, cond, Option, Some, None, option_map, IfSome, IfNone, length, get_or, codes, refl, sym, ap, subst, ◌∙◌, arith, lit<, append-nil}
+use Rattle.std.proofs.Common.{◌≡◌, ℕ, suc, ◌+◌, ◌<◌, ◌^◌, List, [], ◌∷◌, ◌++◌, length, get_or, codes, refl, sym, subst, arith, lit<, append-nil}
 use Prim.Native.Nat.{zero}
-use Rattle.std.proofs.lemmas.Bool.{and_parts, eqb-true, eq-eqb}
 use Rattle.std.proofs.lemmas.Str.{encodes-IsAscii}
 use Rattle.soap_document.specs.Tree.{Attribute, Element, element, Parts}
 use Rattle.soap_document.specs.Grammar.{IsQName, unprefixed, end as no_attributes, IsContent, full, white, unmarked, without, IsDocument, document}
-use Rattle.soap_document.specs.Inside.{IsInside, parts_between}
-use Rattle.soap_document.specs.Machine.{State, step, run, start as start_state, root_of}
+use Rattle.soap_document.specs.Inside.{IsInside}
+use Rattle.soap_document.specs.Machine.{State, step, run, start as start_state}
 use Rattle.soap_document.specs.Within.{between}
 use Rattle.soap_document.proofs.Between.{between-append, root_content}
-use Rattle.soap_document.proofs.FoundDocument.{document_found}
-use Rattle.soap_document.proofs.OnlyDocument.{document_only}
+use Rattle.soap_document.proofs.OnlyDocument.{one_tree}
 use Rattle.soap_document.proofs.Places.{step-at}
 
 -- ---- bytes that are fed in pieces
@@ -23,8 +21,13 @@ pub run-at : (s : State) (bytes : List ℕ) → (run s bytes).at ≡ s.at + leng
 run-at s [] = omega arith
 run-at s (c ∷ bytes) = omega (arith, run-at (step s c) bytes, step-at s c)
 
-pub fed_at : (s t : State) (bytes : List ℕ) → t ≡ run s bytes → t.at ≡ s.at + length bytes
-fed_at s t bytes e = ap (λ (x : State). x.at) e ∙ run-at s bytes
+-- it stands for a state with room for so many bytes more
+abbrev pub Room : (State → Type 0) → ℕ → Type 0
+Room stands n = (s : State) × stands s × (s.at + n < 2 ^ 64)
+
+pub room_behind : {old new : State → Type 0} (piece : List ℕ) (n : ℕ)
+    → ((s : State) → old s → new (run s piece)) → Room old (length piece + n) → Room new n
+room_behind piece n feeds (s, is, room) = (run s piece, feeds s is, omega (arith, run-at s piece, room))
 
 -- ---- the document around content
 
@@ -63,50 +66,38 @@ is_inside bytes name attributes start end parts d e f =
     let is_end = subst (λ (n : ℕ). IsContent 1 3 (between 3 n (around bytes)) parts) f is3 in
     subst (λ (b : List ℕ). IsContent 1 3 b parts) (between-append (codes "<a>") bytes (codes "</a>")) is_end
 
--- ---- the answer
+-- ---- the root
 
--- what was read after the three pieces
-pub all_fed : (bytes : List ℕ) (new first second third : State) → new ≡ start_state → first ≡ run new (codes "<a>")
-    → second ≡ run first bytes → third ≡ run second (codes "</a>") → third ≡ run start_state (around bytes)
-all_fed bytes new first second third e f g h =
-    h ∙ ap (λ s. run s (codes "</a>")) (g ∙ ap (λ s. run s bytes) (f ∙ ap (λ s. run s (codes "<a>")) e))
-    ∙ sym (run-append (run start_state (codes "<a>")) bytes (codes "</a>"))
+-- a root whose content has the places of the bytes is the element <a>, and the bytes are its content
+pub root_inside : (bytes name : List ℕ) (attributes : List Attribute) (start end : ℕ) (parts : Parts)
+    → IsDocument (around bytes) (element name attributes start end parts) → start ≡ 3 → end ≡ 3 + length bytes
+    → IsInside bytes parts × (element name attributes start end parts ≡ a_root bytes parts)
+root_inside bytes name attributes start end parts d e f =
+    let inside = is_inside bytes name attributes start end parts d e f in (
+      inside,
+      one_tree (around bytes) (element name attributes start end parts) (a_root bytes parts) d (is_document
+          bytes parts inside),
+    )
 
-module _ (bytes : List ℕ) (o : Option Element) (answers : o ≡ root_of (run start_state (around bytes))) where
-  pub inside_found : (u : Element) (parts : Parts) → o ≡ Some u → parts_between 3 (3 + length bytes) u ≡ Some parts
-      → IsInside bytes parts
-  inside_found (element name attributes start end inner) parts e f =
-      let places = chosen ((nat_eq start 3) && nat_eq end (3 + length bytes)) inner parts f in
-      let tests = and_parts (nat_eq start 3) (nat_eq end (3 + length bytes)) places.0 in
-      subst (IsInside bytes) places.1 (is_inside bytes name attributes start end inner (document_found (around bytes)
-      (element name attributes start end inner) (sym answers ∙ e)) (eqb-true start 3 tests.0) (eqb-true end (3 +
-      length bytes) tests.1))
-    where
-      chosen : (t : Bool) (inner parts : Parts) → cond t (Some inner) None ≡ Some parts → (t ≡ true) × (inner ≡ parts)
-      chosen true inner parts e = (refl, cc)
-      chosen false inner parts e = cc
+-- ---- the document, fed in three pieces
 
-  pub inside_root : (parts : Parts) → IsInside bytes parts → o ≡ Some (a_root bytes parts)
-  inside_root parts h = answers ∙ document_only (is_document bytes parts h)
+run-around : (bytes : List ℕ) → run (run (run start_state (codes "<a>")) bytes) (codes "</a>")
+    ≡ run start_state (around bytes)
+run-around bytes = sym (run-append (run start_state (codes "<a>")) bytes (codes "</a>"))
 
-  pub inside_none : (u : Element) → o ≡ Some u → parts_between 3 (3 + length bytes) u ≡ None → (parts : Parts)
-      → ¬ (IsInside bytes parts)
-  inside_none u e f parts h =
-      let same : u ≡ a_root bytes parts = let g = sym e ∙ inside_root parts h in cc in
-      let there : parts_between 3 (3 + length bytes) (a_root bytes parts) ≡ Some parts =
-      ap (λ t. cond t (Some parts) None) (eq-eqb (3 + length bytes) (3 + length bytes) refl) in
-      let wrong = sym f ∙ ap (parts_between 3 (3 + length bytes)) same ∙ there in cc
+pub content-at : (bytes : List ℕ) → (run (run start_state (codes "<a>")) bytes).at ≡ 3 + length bytes
+content-at bytes =
+    let tag = run-at start_state (codes "<a>") in
+    let content = run-at (run start_state (codes "<a>")) bytes in
+    omega (arith, tag, content)
 
-  pub inside_nowhere : o ≡ None → (parts : Parts) → ¬ (IsInside bytes parts)
-  inside_nowhere e parts h = let wrong = sym e ∙ inside_root parts h in cc
+-- what stood for a state stands, after a piece, for that which the machine goes on to
+abbrev pub Feeds : {R : Type 0} → (R → State → Type 0) → R → R → List ℕ → Type 0
+Feeds sees old new piece = (s : State) → sees old s → sees new (run s piece)
 
-  module _ {X : Type 0} (view : X → Parts) (u : Element) (is : o ≡ Some u) where
-    pub parts_found : (r : Option X) → option_map view r ≡ parts_between 3 (3 + length bytes) u
-        → IfSome r (λ x. IsInside bytes (view x))
-    parts_found None e = tt
-    parts_found (Some x) e = inside_found u (view x) is (sym e)
-
-    pub no_parts : (r : Option X) → option_map view r ≡ parts_between 3 (3 + length bytes) u
-        → IfNone r ((parts : Parts) → ¬ (IsInside bytes parts))
-    no_parts None e = inside_none u is (sym e)
-    no_parts (Some x) e = tt
+pub fed_around : {R : Type 0} (sees : R → State → Type 0) (new first second third : R) (bytes : List ℕ)
+    → sees new start_state → Feeds sees new first (codes "<a>") → Feeds sees first second bytes
+    → Feeds sees second third (codes "</a>") → sees third (run start_state (around bytes))
+fed_around sees new first second third bytes is one two three =
+    let a = run start_state (codes "<a>") in
+    subst (sees third) (run-around bytes) (three (run a bytes) (two a (one start_state is)))

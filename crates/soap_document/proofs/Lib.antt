@@ -11,15 +11,16 @@ pub mod Held
 pub mod Inside
 pub mod Moves
 pub mod Names
+pub mod Nesting
 pub mod OnlyComments
 pub mod OnlyDocument
 pub mod OnlyElements
 pub mod OnlyTags
 pub mod Places
+pub mod Seeing
 pub mod Steps
 pub mod TokenFacts
 pub mod TokenLaws
-pub mod Trees
 pub mod Utf8
 pub mod Values
 pub mod Words

@@ -1,6 +1,6 @@
 -- A byte that ends a token leaves the count of bytes as it is, and each byte that is read is counted.
 use Rattle.std.proofs.Common.{◌≡◌, ℕ, ◌+◌, List, Bool, true, false, cond, Option, Some, None, [], ◌∷◌, ◌++◌, refl, ap, ◌∙◌}
-use Rattle.soap_document.specs.Machine.{Mode, beginning, declaring, outside, marking, commenting, chars, less, tagging, naming, named, valuing, value_inner, slashed, ending, refused, Frame, State, stops, finish, step, refuse, after_value, at_value, at_tagging, at_named, at_commenting, at_chars, at_less, closed}
+use Rattle.soap_document.specs.Machine.{Mode, beginning, declaring, outside, marking, commenting, chars, less, tagging, naming, named, valuing, value_inner, slashed, ending, refused, Frame, State, stops, finish, step, refuse, after_value, at_value, at_tagging, at_named, at_commenting, at_chars, at_less, in_less, closed}
 use Rattle.soap_lex.specs.ValueMachine.{halts, step as value_step}
 
 on_cond : (t : Bool) (x y : State) → (cond t x y).at ≡ cond t x.at y.at
@@ -23,6 +23,9 @@ commenting-at s (Some c) = simp (on_cond, same_cond)
 
 less-at : (s : State) (c : ℕ) → (at_less s c).at ≡ s.at
 less-at s c = simp (on_cond, same_cond)
+
+pub in_less-at : (s : State) (c : ℕ) → (in_less s c).at ≡ s.at
+in_less-at s c = simp (on_cond, same_cond)
 
 pub chars-at : (s : State) (c : ℕ) → (at_chars s c).at ≡ s.at
 chars-at s c = simp (on_cond, same_cond)

@@ -1,9 +1,9 @@
 pub mod Declaration
 pub mod Grammar
 pub mod Inside
+pub mod Kept
 pub mod Machine
 pub mod Seen
 pub mod Tokens
 pub mod Tree
-pub mod View
 pub mod Within

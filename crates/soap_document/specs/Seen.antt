@@ -1,12 +1,12 @@
 -- The state of the machine that a reader stands for.
-use Rattle.std.specs.Prelude.{◌≡◌, ℕ, ◌+◌, ◌<◌, ◌≤◌, List, drop, length, map, reverse}
-use Rattle.soap_document.specs.Machine.{Mode, beginning, declaring, outside, marking, commenting, chars, less, tagging, naming, named, valuing, value_inner, slashed, ending, refused, Frame, State, run}
+use Rattle.std.specs.Prelude.{◌≡◌, ℕ, ◌+◌, ◌<◌, ◌≤◌, List, [], ◌∷◌, Bool, true, not, drop, length, map, reverse}
+use Rattle.soap_document.specs.Machine.{Mode, beginning, declaring, outside, marking, commenting, chars, less, tagging, naming, named, valuing, value_inner, slashed, ending, refused, Frame, State, is_none, run}
 use Rattle.soap_lex.specs.Readers.{text_state, value_state}
-use Rattle.soap_document.specs.View.{parts_view}
-use Rattle.soap_document.specs.declared.reader.Mode.{Mode as CodeMode}
-use Rattle.soap_document.specs.declared.reader.Mode.TheVariants.{Beginning, Declaring, Outside, Marking, Commenting, Chars, Less, Tagging, Naming, Named, Valuing, ValueInner, Slashed, Ending, Refused}
-use Rattle.soap_document.specs.declared.reader.OpenElement.{OpenElement}
+use Rattle.soap_document.specs.declared.scan.Mode.{Mode as CodeMode}
+use Rattle.soap_document.specs.declared.scan.Mode.TheVariants.{Beginning, Declaring, Outside, Marking, Commenting, Chars, Less, Tagging, Naming, Named, Valuing, ValueInner, Slashed, Ending, Refused}
+use Rattle.soap_document.specs.declared.nest.Nest.{Nest}
 use Rattle.soap_document.specs.declared.reader.Reader.{Reader}
+use Rattle.soap_document.specs.declared.scan.Scan.{Scan}
 
 abbrev pub mode_of : CodeMode → Mode
 mode_of Beginning = beginning
@@ -25,20 +25,9 @@ mode_of Slashed = slashed
 mode_of Ending = ending
 mode_of Refused = refused
 
-abbrev pub frame_of : OpenElement → Frame
-frame_of open_element = record {
-  name = open_element.name;
-  attributes = open_element.attributes.items;
-  start = open_element.start;
-  parts = parts_view open_element.parts.items;
-}
-
--- the innermost open element comes first
-abbrev pub frames_of : List OpenElement → List Frame
-frames_of elements = reverse (map frame_of elements)
-
-abbrev pub seen : Reader → State
-seen r = record {
+-- with these elements open
+abbrev pub seen : Scan → Frame → List Frame → State
+seen r top below = record {
   mode = mode_of r.mode;
   fresh = r.fresh;
   at = r.at;
@@ -49,9 +38,26 @@ seen r = record {
   attributes = r.attributes.items;
   attribute = r.attribute;
   value = value_state r.valued r.value.items;
-  top = frame_of r.top;
-  below = frames_of r.below.items;
+  top = top;
+  below = below;
 }
+
+-- an element is open, or the document has a part
+abbrev pub is_begun : Frame → List Frame → Bool
+is_begun top [] = not (is_none top.parts)
+is_begun top (frame ∷ frames) = true
+
+-- these elements are open, and this stands for them
+pub record Holds {H : Type 0} (stands : H → Frame → List Frame → Type 0) (nest : Nest H) (top : Frame) (below : List
+    Frame) : Type 0 where
+  pub name : nest.name ≡ top.name
+  pub names : reverse nest.names.items ≡ map (λ (frame : Frame). frame.name) below
+  pub begun : nest.begun ≡ is_begun top below
+  pub stands_for : stands nest.handler top below
+
+pub record Sees {H : Type 0} (stands : H → Frame → List Frame → Type 0) (r : Reader H) (s : State) : Type 0 where
+  pub is : seen r.scan s.top s.below ≡ s
+  pub holds : Holds stands r.nest s.top s.below
 
 -- some of the bytes were taken, and no more of them than there are
 pub record Taken (old new : State) (bytes : List ℕ) (n : ℕ) : Type 0 where
@@ -59,3 +65,10 @@ pub record Taken (old new : State) (bytes : List ℕ) (n : ℕ) : Type 0 where
   pub within : n ≤ length bytes
   pub meaning : run new (drop n bytes) ≡ run old bytes
   pub place : new.at + length (drop n bytes) ≡ old.at + length bytes
+
+-- the reader stands for what the rest of the bytes go on from
+pub record TakenBy {H : Type 0} (stands : H → Frame → List Frame → Type 0) (old : State) (r : Reader H) (bytes : List
+    ℕ) (n : ℕ) : Type 0 where
+  pub state : State
+  pub sees : Sees stands r state
+  pub taken : Taken old state bytes n

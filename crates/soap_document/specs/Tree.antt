@@ -1,7 +1,7 @@
 -- The tree of a document as it is written: names keep their prefixes, and declarations stand among the attributes.
 use Rattle.std.specs.Prelude.{ℕ, List, [], ◌∷◌, Option, Some, None}
 -- a name and a value, each as bytes
-pub use Rattle.soap_document.specs.declared.tree.WrittenAttribute.{WrittenAttribute as Attribute}
+pub use Rattle.soap_document.specs.declared.attribute.WrittenAttribute.{WrittenAttribute as Attribute}
 
 mutual
   -- an element: its name, its attributes in order, the places in the document where its content begins and where that

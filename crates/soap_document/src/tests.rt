@@ -1,27 +1,90 @@
 use super::*;
+use rm_base::Memory;
 use std::alloc::Global;
 use std::test::Fail;
 
-// name[attribute=value]{text|child}start-end
-fn show(element: &WrittenElement, out: &mut String) -> Result<(), Fail> {
-    out.push_str(std::str::from_utf8(element.name.as_slice())?)?;
-    for attribute in element.attributes.as_slice() {
-        out.push('[')?;
-        out.push_str(std::str::from_utf8(attribute.name.as_slice())?)?;
-        out.push('=')?;
-        out.push_str(std::str::from_utf8(attribute.value.as_slice())?)?;
-        out.push(']')?;
-    }
-    out.push('{')?;
-    for part in element.parts.as_slice() {
-        out.push('|')?;
-        match part {
-            WrittenPart::Text(text) => out.push_str(std::str::from_utf8(text.as_slice())?)?,
-            WrittenPart::Child(child) => show(child, out)?,
+// name[attribute=value]{text|child}, and where each content begins or ends
+#[derive(Drop)]
+struct Shown {
+    bytes: Vec<u8>,
+    places: Vec<usize>,
+    depth: usize,
+}
+
+impl Shown {
+    fn new(alloc: Global) -> Shown {
+        Shown {
+            bytes: Vec::new(alloc),
+            places: Vec::new(alloc),
+            depth: 0,
         }
     }
-    out.push('}')?;
-    Ok(())
+
+    fn tag(&mut self, name: &[u8], attributes: &[WrittenAttribute]) -> Result<(), Memory> {
+        if self.depth > 0 {
+            self.bytes.push(b'|')?;
+        }
+        self.bytes.extend_from_slice(name)?;
+        for attribute in attributes {
+            self.bytes.push(b'[')?;
+            self.bytes.extend_from_slice(attribute.name.as_slice())?;
+            self.bytes.push(b'=')?;
+            self.bytes.extend_from_slice(attribute.value.as_slice())?;
+            self.bytes.push(b']')?;
+        }
+        self.bytes.push(b'{')?;
+        Ok(())
+    }
+}
+
+impl Handler for Shown {
+    ghost stands = { λ _ _ _. Unit {0} };
+
+    fn text(&mut self, text: &[u8]) -> Result<(), Memory> {
+        self.bytes.push(b'|')?;
+        self.bytes.extend_from_slice(text)?;
+        Ok(())
+    }
+
+    fn open(
+        &mut self,
+        name: &[u8],
+        attributes: &[WrittenAttribute],
+        start: usize,
+    ) -> Result<(), Memory> {
+        self.tag(name, attributes)?;
+        self.places.push(start)?;
+        self.depth = self.depth.saturating_add(1);
+        Ok(())
+    }
+
+    fn empty(
+        &mut self,
+        name: &[u8],
+        attributes: &[WrittenAttribute],
+        place: usize,
+    ) -> Result<(), Memory> {
+        self.tag(name, attributes)?;
+        self.places.push(place)?;
+        self.bytes.push(b'}')?;
+        Ok(())
+    }
+
+    fn close(&mut self, end: usize) -> Result<(), Memory> {
+        self.places.push(end)?;
+        self.bytes.push(b'}')?;
+        self.depth = self.depth.saturating_sub(1);
+        Ok(())
+    }
+}
+
+fn read(alloc: Global, document: &[u8]) -> Result<Option<Shown>, Memory> {
+    let mut reader = Reader::new(alloc, Shown::new(alloc));
+    reader.feed(document)?;
+    match reader.finish() {
+        Some(shown) if !shown.bytes.is_empty() => Ok(Some(shown)),
+        _ => Ok(None),
+    }
 }
 
 #[test]
@@ -40,10 +103,9 @@ fn trees(rt: HostRuntime) -> Result<(), Fail> {
         ("\u{feff}<?xml version='1.0'?><!-- c --> <a/> ", "a{}"),
     ];
     for (document, tree) in rows {
-        let root = read_document(rt.alloc(), document.as_bytes())?.ok_or("refused")?;
-        let mut shown = String::new(rt.alloc());
-        show(&root, &mut shown)?;
-        assert!(rt; shown.as_str() == tree, "{document}: {shown}");
+        let shown = read(rt.alloc(), document.as_bytes())?.ok_or("refused")?;
+        let shown = std::str::from_utf8(&shown.bytes)?;
+        assert!(rt; shown == tree, "{document}: {shown}");
     }
     Ok(())
 }
@@ -51,13 +113,13 @@ fn trees(rt: HostRuntime) -> Result<(), Fail> {
 #[test]
 fn places(rt: HostRuntime) -> Result<(), Fail> {
     let document = b"\xef\xbb\xbf<?xml version='1.0'?>\n<a><b x='1' >t&lt;<c/></b ></a>";
-    let root = read_document(rt.alloc(), document)?.ok_or("refused")?;
-    let content = document.get(root.start..root.end);
-    assert!(rt; content == Some(b"<b x='1' >t&lt;<c/></b >".as_slice()));
-    let Some(WrittenPart::Child(inner)) = root.parts.first() else {
-        return Err("no child".into());
+    let shown = read(rt.alloc(), document)?.ok_or("refused")?;
+    let [root, inner, _, inner_end, root_end] = shown.places.as_slice() else {
+        return Err("other places".into());
     };
-    let content = document.get(inner.start..inner.end);
+    let content = document.get(*root..*root_end);
+    assert!(rt; content == Some(b"<b x='1' >t&lt;<c/></b >".as_slice()));
+    let content = document.get(*inner..*inner_end);
     assert!(rt; content == Some(b"t&lt;<c/>".as_slice()));
     Ok(())
 }
@@ -80,7 +142,7 @@ fn takes(rt: HostRuntime) -> Result<(), Fail> {
     ];
     for document in documents {
         assert!(rt;
-            read_document(rt.alloc(), document.as_bytes())?.is_some(),
+            read(rt.alloc(), document.as_bytes())?.is_some(),
             "{document}"
         );
     }
@@ -135,11 +197,11 @@ fn refuses(rt: HostRuntime) -> Result<(), Fail> {
     ];
     for document in documents {
         assert!(rt;
-            read_document(rt.alloc(), document.as_bytes())?.is_none(),
+            read(rt.alloc(), document.as_bytes())?.is_none(),
             "{document}"
         );
     }
-    assert!(rt; read_document(rt.alloc(), b"<a>\xff</a>")?.is_none());
+    assert!(rt; read(rt.alloc(), b"<a>\xff</a>")?.is_none());
     Ok(())
 }
 
@@ -157,9 +219,9 @@ fn nested(alloc: Global, depth: usize) -> Result<Vec<u8>, Fail> {
 #[test]
 fn a_hundred_elements_nest(rt: HostRuntime) -> Result<(), Fail> {
     let deep = nested(rt.alloc(), 100)?;
-    assert!(rt; read_document(rt.alloc(), &deep)?.is_some());
+    assert!(rt; read(rt.alloc(), &deep)?.is_some());
     let deeper = nested(rt.alloc(), 101)?;
-    assert!(rt; read_document(rt.alloc(), &deeper)?.is_none());
+    assert!(rt; read(rt.alloc(), &deeper)?.is_none());
     Ok(())
 }
 
@@ -169,17 +231,15 @@ fn tokens_are_cut(rt: HostRuntime) {
     assert!(rt; cut(b':', b"pa") == None);
 }
 
+// cut within a tag, a reference and a comment
 #[test]
-fn content_stands_alone(rt: HostRuntime) -> Result<(), Fail> {
-    for (bytes, count) in [("x", 1), ("", 0), ("<b/>", 1), ("t<b/>", 2)] {
-        let parts = read_content(rt.alloc(), bytes.as_bytes())?.ok_or("refused")?;
-        assert!(rt; parts.len() == count, "{bytes}");
-    }
-    for bytes in ["</a><a>", "<b>", "<!--", "</a>"] {
-        assert!(rt;
-            read_content(rt.alloc(), bytes.as_bytes())?.is_none(),
-            "{bytes}"
-        );
-    }
+fn pieces_make_a_document(rt: HostRuntime) -> Result<(), Fail> {
+    let mut reader = Reader::new(rt.alloc(), Shown::new(rt.alloc()));
+    reader.feed(b"<?xml version='1.0'?><p")?;
+    reader.feed(b":a b='1'>t&l")?;
+    reader.feed(b"t;<!-")?;
+    reader.feed(b"- - --><c/>\r\n</p:a>")?;
+    let shown = reader.finish().ok_or("refused")?;
+    assert_eq!(rt; shown.bytes.as_slice(), b"p:a[b=1]{|t<|c{}|\n}".as_slice());
     Ok(())
 }

@@ -9,7 +9,7 @@ ghost use Rattle.soap_document.specs.Tokens.{
   is_comment as comment_test,
 };
 
-use memchr::memchr;
+use crate::search::first_byte;
 
 /// The three bytes of a byte order mark.
 const MARK: [u8; 3] = [0xEF, 0xBB, 0xBF];
@@ -45,7 +45,7 @@ fn is_name(bytes: &[u8]) -> bool
 pub fn cut(byte: u8, bytes: &[u8]) -> Option<(&[u8], &[u8])>
     ensures { option_map (λ p. (p.0.now, p.1.now)) result ≡ cut_at byte bytes.now }
 {
-    match memchr(byte, bytes) {
+    match first_byte(byte, bytes) {
         Some(place) => Some((&bytes[..place], &bytes[place + 1..])),
         None => None,
     }

@@ -8,8 +8,9 @@ ghost use Rattle.soap_envelope.specs.Envelope.{IsSpaced, soap_name, name_of, dec
 ghost use Rattle.soap_envelope.specs.Steps.{BodyFound, Comes, Follows, IsSpacing, Outlined};
 
 use crate::envelope::Elements;
-use rm_base::{Bindings, Blob, Memory};
-use soap_profile::{Attrs, Element, Name, Part};
+use rm_base::Memory;
+use soap_document::Bytes;
+use soap_profile::{Declarations, Element, Name, Part};
 use std::alloc::Global;
 use std::vec::IntoIter;
 use xml_chars::is_space;
@@ -21,7 +22,7 @@ pub(crate) const SOAP_SPACE: &[u8] = b"http://www.w3.org/2003/05/soap-envelope";
 #[derive(Debug, Drop)]
 pub(crate) struct Opened {
     pub(crate) name: Name,
-    pub(crate) decls: Bindings,
+    pub(crate) decls: Declarations,
     pub(crate) parts: Vec<Part>,
 }
 
@@ -94,7 +95,7 @@ fn is_named(element: &Element, local: &[u8]) -> bool
 #[derive(Debug, Drop)]
 enum Next {
     Child(Element),
-    Text(Blob),
+    Text(Bytes),
     End,
 }
 

@@ -1,12 +1,6 @@
 -- What the reader of documents answers.
 use Rattle.std.proofs.Common.{◌≡◌, ◌↔◌, ℕ, ◌≤◌, List, Result, Err, length, ap, arith}
-use Rattle.soap_document.specs.Grammar.{IsDocument}
-use Rattle.soap_document.specs.Tree as written
 use Rattle.soap_profile.specs.Document.{IsLongestText}
-
--- bytes have at most one tree as it is written
-abbrev pub OneTree : Type 0
-OneTree = (bytes : List ℕ) (one other : written.Element) → IsDocument bytes one → IsDocument bytes other → one ≡ other
 
 pub same_front : (bytes : List ℕ) (v w : ℕ) → v ≤ length bytes → w ≤ length bytes → IsLongestText bytes v
     → IsLongestText bytes w → v ≡ w

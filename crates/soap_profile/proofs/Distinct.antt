@@ -1,5 +1,5 @@
 -- Keys that all differ.
-use Rattle.std.proofs.Common.{◌≡◌, inl, inr, ℕ, ◌+◌, ◌<◌, ◌≤◌, Result, Ok, Err, IfOk, List, [], ◌∷◌, ◌++◌, Bool, true, false, not, ◌&&◌, ◌||◌, cond, map, take, drop, length, get_or, Ordering, Less, Equal, Greater, nat_cmp, is_eq, refl, sym, ap, ap₂, ◌∙◌, drop-cons}
+use Rattle.std.proofs.Common.{◌≡◌, inl, inr, ℕ, ◌+◌, ◌<◌, ◌≤◌, Result, Ok, Err, IfOk, List, [], ◌∷◌, ◌++◌, Bool, true, false, not, ◌&&◌, ◌||◌, cond, map, take, drop, length, get_or, Ordering, Less, Equal, Greater, nat_cmp, is_eq, refl, sym, ap, ap₂, ◌∙◌, drop-cons, arith}
 use Rattle.std.proofs.Math.Numerals.{add-one}
 use Rattle.std.proofs.lemmas.List.{take-append-drop, take_more, take_all}
 use Rattle.std.specs.Cmp.Lexicographic.{slice_cmp}
@@ -10,7 +10,7 @@ use Rattle.std.proofs.Math.Bool.{and-true}
 use Rattle.std.proofs.lemmas.Bool.{and_parts, and_from, or_cases, true≢false}
 use Rattle.std.proofs.lemmas.Map.Text.{is_eq-slice_cmp}
 use Rattle.std.proofs.lemmas.Slice.Eq.{bytes_eq-Decides}
-use Rattle.soap_document.specs.declared.tree.WrittenAttribute.{WrittenAttribute as Attribute}
+use Rattle.soap_document.specs.declared.attribute.WrittenAttribute.{WrittenAttribute as Attribute}
 use Rattle.soap_profile.specs.Keys.{Key, Lent, same_key, differ, key_of, keys_of}
 use Rattle.soap_profile.specs.Namespaces.{is_new, are_distinct, is_new_name, are_distinct_names}
 use Rattle.soap_profile.specs.Tree.{Attr, Name}
@@ -116,6 +116,18 @@ pub are_distinct_names-keys : (attrs : List Attr) → are_distinct_names attrs
 are_distinct_names-keys [] = refl
 are_distinct_names-keys (a ∷ attrs) = ap₂ (λ x y. x && y) (is_new_name-keys a.name attrs) (are_distinct_names-keys
     attrs)
+
+-- ---- none, or one alone
+
+pub alone : (attributes : List Attribute) → length attributes < 2 → true ≡ are_distinct attributes
+alone [] h = refl
+alone (a ∷ []) h = refl
+alone (a ∷ b ∷ attributes) h = absurd (omega arith)
+
+pub alone_name : (attrs : List Attr) → length attrs < 2 → true ≡ are_distinct_names attrs
+alone_name [] h = refl
+alone_name (a ∷ []) h = refl
+alone_name (a ∷ b ∷ attrs) h = absurd (omega arith)
 
 -- ---- the keys at places
 

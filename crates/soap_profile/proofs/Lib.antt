@@ -1,7 +1,9 @@
 pub mod Answer
 pub mod Distinct
+pub mod Nests
 pub mod Payloads
-pub mod Places
+pub mod Resolvers
+pub mod Roots
 pub mod Scopes
 pub mod Tags
 pub mod Trees

@@ -1,63 +1,111 @@
 -- What makes a payload.
-use Rattle.std.proofs.Common.{◌≡◌, ◌≤◌, ◌↔◌, ℕ, nat_le, List, [], Bool, false, ◌&&◌, IsTrue, Option, Some, None, option_map, IfSome, Vec, Global, sym, ap, subst, ◌∙◌}
-use Rattle.std.proofs.lemmas.Bool.{and_parts, and_from, leb-true, le-leb}
+use Rattle.std.proofs.Common.{◌≡◌, ◌↔◌, ℕ, ◌+◌, nat_le, nat_eq, List, [], Bool, true, false, ◌&&◌, IsTrue, Option, Some, None, option_map, length, codes, refl, sym, ap, subst, ◌∙◌}
+use Rattle.std.proofs.lemmas.Bool.{and_parts, and_from, leb-true, le-leb, eqb-true, eq-eqb}
+use Rattle.soap_document.specs.Grammar.{IsDocument}
 use Rattle.soap_document.specs.Inside.{IsInside}
 use Rattle.soap_document.specs.Tree as written
-use Rattle.soap_document.specs.View.{parts_view as written_parts}
-use Rattle.soap_document.specs.declared.tree.WrittenPart.{WrittenPart}
-use Rattle.soap_document.proofs.Inside.{around, a_root, is_document}
-use Rattle.soap_profile.specs.Namespaces.{resolve_parts}
+use Rattle.soap_document.proofs.Inside.{around, a_root, is_document, root_inside}
+use Rattle.soap_profile.specs.Document.{place_of}
+use Rattle.soap_profile.specs.Namespaces.{resolve, resolve_parts}
+use Rattle.soap_profile.specs.Opened.{Root}
 use Rattle.soap_profile.specs.Payload.{depth, is_white_outside, IsClosedContent}
-use Rattle.soap_profile.specs.Tree.{Parts}
-use Rattle.soap_profile.specs.View.{parts_view}
-use Rattle.soap_profile.specs.declared.tree.Parts.{Parts as CodeParts}
-use Rattle.soap_profile.proofs.Answer.{OneTree}
+use Rattle.soap_profile.specs.Tree.{Binding, Name, Attr, Element, element, Parts}
+use Rattle.soap_profile.specs.declared.place.Place.{Place}
+use Rattle.soap_profile.proofs.Roots.{read, root_with, has_root, only_root}
 
--- bytes are content in at most one way
-one_inside : OneTree → (bytes : List ℕ) (one other : written.Parts) → IsInside bytes one → IsInside bytes other
-    → one ≡ other
-one_inside tree bytes one other g h =
-    let e : a_root bytes one ≡ a_root bytes other = tree (around bytes) (a_root bytes one) (a_root bytes other)
-    (is_document bytes one g) (is_document bytes other h) in cc
+-- whether this is the place of the content in the document around it
+abbrev pub is_whole : List ℕ → Place → Bool
+is_whole bytes place = nat_eq place.start 3 && nat_eq place.end (3 + length bytes)
 
-pub known_content : (bytes : List ℕ) (o : Option (Vec WrittenPart Global)) (x : Vec WrittenPart Global)
-    → IfSome o (λ parts. IsInside bytes (written_parts parts.items)) → o ≡ Some x
-    → IsInside bytes (written_parts x.items)
-known_content bytes o x h e = subst (λ (p : Option (Vec WrittenPart Global)). IfSome p (λ parts. IsInside bytes
-    (written_parts parts.items))) e h
+abbrev a_tree : Parts → Element
+a_tree parts = element (record { space = []; local = codes "a" }) [] [] parts
 
--- what the resolution found
-pub known_parts : (o : Option CodeParts) (x : CodeParts) (y : Option Parts)
-    → option_map (λ (p : CodeParts). parts_view p.items.items) o ≡ y → o ≡ Some x → y ≡ Some (parts_view x.items.items)
-known_parts o x y h e = sym h ∙ ap (option_map (λ (p : CodeParts). parts_view p.items.items)) e
+-- the root <a> of a document around content, with its names resolved
+abbrev around_root : List ℕ → written.Parts → Parts → Root
+around_root bytes raw parts = root_with (a_root bytes raw) (a_tree parts)
 
-pub no_parts : (o : Option CodeParts) (y : Option Parts)
-    → option_map (λ (p : CodeParts). parts_view p.items.items) o ≡ y → o ≡ None → None ≡ y
-no_parts o y h e = sym (ap (option_map (λ (p : CodeParts). parts_view p.items.items)) e) ∙ h
+-- closed content makes such a root
+closed_root : (bytes : List ℕ) (h : IsClosedContent bytes) → read (around bytes)
+    ≡ Some (around_root bytes h.raw h.parts)
+closed_root bytes h = only_root (is_document bytes h.raw h.is) (ap (option_map a_tree) h.resolved)
 
-pub not_closed : OneTree → (bytes : List ℕ) (raw : written.Parts) → IsInside bytes raw → None ≡ resolve_parts [] raw
+same_root : (bytes : List ℕ) (root : Root) (h : IsClosedContent bytes) → read (around bytes) ≡ Some root
+    → around_root bytes h.raw h.parts ≡ root
+same_root bytes root h e = let same = sym (closed_root bytes h) ∙ e in cc
+
+-- ---- what the root says of the content
+
+-- the bytes are content whose names can be resolved, and this is the root of the document around them
+pub record HoldsContent (bytes : List ℕ) (root : Root) : Type 0 where
+  pub raw : written.Parts
+  pub is : IsInside bytes raw
+  pub parts : Parts
+  pub resolved : resolve_parts [] raw ≡ Some parts
+  pub tree : a_tree parts ≡ root.tree
+
+content_made : (bytes : List ℕ) (root : Root) (raw : written.Parts) (parts : Option Parts) → IsInside bytes raw
+    → resolve_parts [] raw ≡ parts → option_map a_tree parts ≡ Some root.tree → HoldsContent bytes root
+content_made bytes root raw None is r e = cc
+content_made bytes root raw (Some parts) is r e =
+    let same : a_tree parts ≡ root.tree = cc in
+    record { raw = raw; is = is; parts = parts; resolved = r; tree = same }
+
+content_of : (bytes : List ℕ) (root : Root) (raw : written.Element) → IsDocument (around bytes) raw
+    → resolve [] raw ≡ Some root.tree → is_whole bytes (place_of raw) ≡ true → HoldsContent bytes root
+content_of bytes root (written.element name attributes start end parts) d r p =
+    let tests = and_parts (nat_eq start 3) (nat_eq end (3 + length bytes)) p in
+    let i = root_inside bytes name attributes start end parts d (eqb-true start 3 tests.0) (eqb-true end (3 + length
+    bytes) tests.1) in
+    content_made bytes root parts (resolve_parts [] parts) i.0 refl (ap (resolve []) (sym i.1) ∙ r)
+
+pub holds_content : (bytes : List ℕ) (root : Root) → read (around bytes) ≡ Some root → is_whole bytes root.place ≡ true
+    → HoldsContent bytes root
+holds_content bytes root e p =
+    let h = has_root (around bytes) root e in
+    content_of bytes root h.raw h.is h.resolved (ap (λ (r : Root). is_whole bytes r.place) h.same ∙ p)
+
+-- ---- the answer
+
+abbrev parts_of : Element → Parts
+parts_of (element name decls attrs parts) = parts
+
+abbrev pub is_payload : Parts → Bool
+is_payload parts = nat_le (depth parts) 90 && is_white_outside parts
+
+pub not_closed : (bytes : List ℕ) → read (around bytes) ≡ None → IsTrue false ↔ IsClosedContent bytes
+not_closed bytes e = (λ y. cc, λ h. let wrong = sym e ∙ closed_root bytes h in cc)
+
+pub elsewhere : (bytes : List ℕ) (root : Root) → read (around bytes) ≡ Some root → is_whole bytes root.place ≡ false
     → IsTrue false ↔ IsClosedContent bytes
-not_closed tree bytes raw is n = (
+elsewhere bytes root e n = (
   λ y. cc,
-  λ h. let e : None ≡ Some h.parts = n ∙ ap (resolve_parts []) (one_inside tree bytes raw h.raw is h.is)
-      ∙ h.resolved in cc,
+  λ h. sym n ∙ ap (λ (r : Root). is_whole bytes r.place) (sym (same_root bytes root h e))
+      ∙ eq-eqb (3 + length bytes) (3 + length bytes) refl,
 )
 
-pub closed : OneTree → (bytes : List ℕ) (raw : written.Parts) (parts : Parts) (answer : Bool) → IsInside bytes raw
-    → resolve_parts [] raw ≡ Some parts → answer ≡ (nat_le (depth parts) 90 && is_white_outside parts)
-    → IsTrue answer ↔ IsClosedContent bytes
-closed tree bytes raw parts answer is found e = (
-  λ y. let tests = and_parts (nat_le (depth parts) 90) (is_white_outside parts) (sym e ∙ y) in record {
-    raw = raw;
-    is = is;
-    parts = parts;
-    resolved = found;
-    shallow = leb-true (depth parts) 90 tests.0;
-    white = tests.1;
-  },
-  λ h. let same : Some parts ≡ Some h.parts = sym found ∙ ap (resolve_parts []) (one_inside tree bytes raw h.raw is
-      h.is) ∙ h.resolved in
-      let p : h.parts ≡ parts = cc in
-      e ∙ and_from (nat_le (depth parts) 90) (is_white_outside parts) (le-leb (depth parts) 90 (subst (λ (q
-      : Parts). depth q ≤ 90) p h.shallow)) (subst (λ (q : Parts). IsTrue (is_white_outside q)) p h.white),
-)
+-- where the root stands for closed content
+closed_here : (bytes : List ℕ) (root : Root) → read (around bytes) ≡ Some root → is_whole bytes root.place ≡ true
+    → IsTrue (is_payload (parts_of root.tree)) ↔ IsClosedContent bytes
+closed_here bytes root e p =
+    let h = holds_content bytes root e p in
+    let same : h.parts ≡ parts_of root.tree = ap parts_of h.tree in
+    subst (λ (parts : Parts). IsTrue (is_payload parts) ↔ IsClosedContent bytes) same (
+      λ y. let tests = and_parts (nat_le (depth h.parts) 90) (is_white_outside h.parts) y in record {
+        raw = h.raw;
+        is = h.is;
+        parts = h.parts;
+        resolved = h.resolved;
+        shallow = leb-true (depth h.parts) 90 tests.0;
+        white = tests.1;
+      },
+      λ k. subst (λ (parts : Parts). IsTrue (is_payload parts)) (ap (λ (r : Root). parts_of r.tree) (same_root bytes
+          root k e) ∙ sym same) (and_from (nat_le (depth k.parts) 90) (is_white_outside k.parts) (le-leb (depth k.parts)
+          90 k.shallow) k.white),
+    )
+
+pub closed : (bytes : List ℕ) (root : Root) (name : Name) (decls : List Binding) (attrs : List Attr) (parts : Parts)
+    (answer : Bool) → read (around bytes) ≡ Some root → is_whole bytes root.place ≡ true
+    → root.tree ≡ element name decls attrs parts → answer ≡ is_payload parts → IsTrue answer ↔ IsClosedContent bytes
+closed bytes root name decls attrs parts answer e p t a =
+    subst (λ (b : Bool). IsTrue b ↔ IsClosedContent bytes) (ap (λ (r : Element). is_payload (parts_of r)) t ∙ sym a)
+    (closed_here bytes root e p)

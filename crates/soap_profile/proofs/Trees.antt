@@ -1,22 +1,15 @@
 -- What parts stand for, one behind the other.
-use Rattle.std.proofs.Common.{◌≡◌, ℕ, List, [], ◌∷◌, ◌++◌, true, false, Option, Some, None, option_map, length, drop, ◌≤◌, suc, refl, sym, ap, ◌∙◌, arith}
+use Rattle.std.proofs.Common.{◌≡◌, ℕ, List, [], ◌∷◌, ◌++◌, length, drop, ◌≤◌, suc, refl, sym, ap, ◌∙◌, arith}
 use Prim.Native.Nat.{zero}
-use Rattle.soap_document.specs.Tree as written
-use Rattle.soap_document.specs.View.{part_view as written_part, parts_view as written_parts, element_view as written_view, part_step as written_part_step, element_step as written_element_step}
-use Rattle.soap_document.specs.declared.tree.WrittenElement.{WrittenElement}
-use Rattle.soap_document.specs.declared.tree.WrittenPart.{WrittenPart, fold-roll-WrittenPart}
-use Rattle.soap_document.specs.declared.tree.WrittenPart.TheOpen as TheWrittenOpen
-use Rattle.soap_document.specs.declared.tree.WrittenPart.TheVariants.{Text as WrittenText, Child as WrittenChild, rolls-Text as rolls-WrittenText, rolls-Child as rolls-WrittenChild}
-use Rattle.soap_profile.specs.Namespaces.{resolve, resolve_parts, joined}
-use Rattle.soap_profile.specs.Steps.{join, Resolves, Strips}
-use Rattle.soap_profile.specs.Tree.{Element, Parts, none, text, child, Binding, without_declarations, parts_without}
+use Rattle.soap_profile.specs.Steps.{join, Strips}
+use Rattle.soap_profile.specs.Tree.{Element, element, Parts, none, text, child, without_declarations, parts_without}
 use Rattle.soap_profile.specs.View.{part_step, element_step, parts_step, part_view, element_view, parts_view}
-use Rattle.soap_profile.specs.declared.tree.Element.{Element as CodeElement}
+use Rattle.soap_profile.specs.declared.tree.Element.{Element as CodeElement, fold_out-Element}
 use Rattle.soap_profile.specs.declared.tree.Part.{Part, Part-F, out-Part, fold-roll-Part, fold_out-Part}
 use Rattle.soap_profile.specs.declared.tree.Part.TheFolds.{map-Part}
 use Rattle.soap_profile.specs.declared.tree.Part.TheOpen
 use Rattle.soap_profile.specs.declared.tree.Part.TheVariants.{Text, Child, rolls-Text, rolls-Child}
-use Rattle.soap_profile.specs.declared.tree.Parts.{Parts as CodeParts}
+use Rattle.soap_profile.specs.declared.tree.Parts.{Parts as CodeParts, fold_out-Parts}
 
 join-assoc : (a b c : Parts) → join (join a b) c ≡ join a (join b c)
 join-assoc none b c = refl
@@ -67,64 +60,25 @@ pub parts-push_child : (xs : List Part) (e : CodeElement) → parts_view (xs ++ 
 parts-push_child xs e = parts-push xs (Child e) ∙ ap (λ (f : Parts
     → Parts). join (parts_view xs) (f none)) (part_child e)
 
--- ---- one part more
+layer_some : (l : Layer) (ps : Parts) → seen_layer l ps ≡ none → ⊥
+layer_some (TheOpen.Text x) ps e = cc
+layer_some (TheOpen.Child x) ps e = cc
 
-written_text : (x : List ℕ) → written_part (WrittenText x) ≡ written.text x
-written_text x = ap written_part (sym (rolls-WrittenText x)) ∙ fold-roll-WrittenPart (written.Parts
-    → written.Parts) written.Element written_part_step written_element_step (TheWrittenOpen.Text x)
+pub parts_some : (x : Part) (xs : List Part) → parts_view (x ∷ xs) ≡ none → ⊥
+parts_some x xs e =
+    layer_some (out-Part x) (parts_view xs) (ap (λ (f : Parts → Parts). f (parts_view xs)) (sym (part_out x)) ∙ e)
 
-written_child : (e : WrittenElement) → written_part (WrittenChild e) ≡ written.child (written_view e)
-written_child e = ap written_part (sym (rolls-WrittenChild e)) ∙ fold-roll-WrittenPart (written.Parts
-    → written.Parts) written.Element written_part_step written_element_step (TheWrittenOpen.Child e)
-
-text_joined : (x : List ℕ) (old : Parts) (o : Option Parts) → option_map (join old) (option_map (text x) o)
-    ≡ option_map (join (join old (text x none))) o
-text_joined x old None = refl
-text_joined x old (Some ps) = ap (λ (p : Parts). Some p) (sym (join-assoc old (text x none) ps))
-
-child_joined : (u : Element) (old : Parts) (o : Option Parts) → option_map (join old) (option_map (child u) o)
-    ≡ option_map (join (join old (child u none))) o
-child_joined u old None = refl
-child_joined u old (Some ps) = ap (λ (p : Parts). Some p) (sym (join-assoc old (child u none) ps))
-
--- a text
-pub Resolves-text : (scope : List Binding) (x : List ℕ) (old new : Parts) → new ≡ join old (text x none)
-    → Resolves scope (written_part (WrittenText x)) old new true
-Resolves-text scope x old new e rest =
-    ap (λ (f : written.Parts → written.Parts). option_map (join old) (resolve_parts scope (f rest))) (written_text x)
-    ∙ text_joined x old (resolve_parts scope rest) ∙ ap (λ (k : Parts). option_map (join k) (resolve_parts scope
-    rest)) (sym e)
-
--- an element
-pub Resolves-child : (scope : List Binding) (e : WrittenElement) (u : Element) (old new : Parts) → Some u
-    ≡ resolve scope (written_view e) → new ≡ join old (child u none)
-    → Resolves scope (written_part (WrittenChild e)) old new true
-Resolves-child scope e u old new r n rest =
-    ap (λ (f : written.Parts → written.Parts). option_map (join old) (resolve_parts scope (f rest))) (written_child e)
-    ∙ ap (λ (o : Option Element). option_map (join old) (joined o (resolve_parts scope rest))) (sym r)
-    ∙ child_joined u old (resolve_parts scope rest) ∙ ap (λ (k : Parts). option_map (join k) (resolve_parts scope
-    rest)) (sym n)
-
-pub Resolves-none : (scope : List Binding) (e : WrittenElement) (old new : Parts) → None
-    ≡ resolve scope (written_view e) → Resolves scope (written_part (WrittenChild e)) old new false
-Resolves-none scope e old new r rest =
-    ap (λ (f : written.Parts → written.Parts). option_map (join old) (resolve_parts scope (f rest))) (written_child e)
-    ∙ ap (λ (o : Option Element). option_map (join old) (joined o (resolve_parts scope rest))) (sym r)
+pub element_is : (e : CodeElement) → element_view e ≡ element e.name e.decls e.attrs (parts_view e.parts.items.items)
+element_is e =
+    fold_out-Element (Parts → Parts) Element Parts part_step element_step parts_step e
+    ∙ ap (element e.name e.decls e.attrs) (fold_out-Parts (Parts
+    → Parts) Element Parts part_step element_step parts_step e.parts)
 
 drop_past : {A : Type 0} (n : ℕ) (xs : List A) → length xs ≤ n → drop n xs ≡ []
 drop_past zero [] h = refl
 drop_past (suc n) [] h = refl
 drop_past zero (x ∷ xs) h = absurd (omega arith)
 drop_past (suc n) (x ∷ xs) h = drop_past n xs (omega arith)
-
--- no part is left
-pub none_left : (scope : List Binding) (parts : List WrittenPart) (n : ℕ) (made : Parts) → length parts ≤ n
-    → option_map (join made) (resolve_parts scope (written_parts (drop n parts)))
-    ≡ resolve_parts scope (written_parts parts) → Some made ≡ resolve_parts scope (written_parts parts)
-none_left scope parts n made h e =
-    ap (λ (p : Parts). Some p) (sym (join-none made))
-    ∙ ap (λ (xs : List WrittenPart). option_map (join made) (resolve_parts scope (written_parts xs))) (sym
-    (drop_past n parts h)) ∙ e
 
 -- ---- parts without declarations
 

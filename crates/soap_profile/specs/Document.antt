@@ -5,7 +5,7 @@ use Rattle.soap_document.specs.Grammar.{IsDocument}
 use Rattle.soap_document.specs.Tree as written
 use Rattle.soap_profile.specs.Namespaces.{resolve}
 use Rattle.soap_profile.specs.Tree.{Element}
-use Rattle.soap_profile.specs.declared.read.Place.{Place}
+use Rattle.soap_profile.specs.declared.place.Place.{Place}
 
 -- the bytes are a document whose tree is this one
 pub record Document (bytes : List ℕ) (tree : Element) : Type 0 where

@@ -2,6 +2,8 @@ pub mod Document
 pub mod Keys
 pub mod Namespaces
 pub mod Payload
+pub mod Opened
+pub mod Resolving
 pub mod Scope
 pub mod Steps
 pub mod Tree

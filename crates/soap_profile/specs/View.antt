@@ -1,7 +1,7 @@
 -- The tree that an element stands for.
 use Rattle.std.specs.Prelude.{List, [], ◌∷◌, map}
 use Rattle.soap_profile.specs.Namespaces.{Resolved}
-use Rattle.soap_profile.specs.declared.resolve.Tag.{Tag}
+use Rattle.soap_profile.specs.declared.tag.Tag.{Tag}
 use Rattle.soap_profile.specs.Tree.{Element, element, Parts, none, text, child}
 use Rattle.soap_profile.specs.declared.tree.Element.{Element as CodeElement, Element-F, fold-Element}
 use Rattle.soap_profile.specs.declared.tree.Part.{Part, Part-F, fold-Part}

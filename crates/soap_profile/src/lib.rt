@@ -4,23 +4,29 @@
 #![tactic(auto)]
 
 pub mod error;
+pub mod few;
 mod keys;
 mod names;
 pub mod payload;
+pub mod place;
+mod pool;
 pub mod read;
-mod resolve;
+mod resolver;
 mod scope;
-pub mod space;
+pub mod shared;
 mod stacks;
 mod stripped;
+mod tag;
 pub mod tree;
 
 pub use error::EnvelopeError;
+pub use few::Few;
 pub use payload::{MAX_PAYLOAD_DEPTH, check_payload};
-pub use read::{MAX_LENGTH, Place, Placed, read_element, read_placed};
-pub use space::Space;
+pub use place::Place;
+pub use read::{MAX_LENGTH, Placed, read_element, read_placed};
+pub use shared::Shared;
 pub use stripped::strip;
-pub use tree::{Attr, Attrs, Element, Name, Part, Parts};
+pub use tree::{Attr, Attrs, Declarations, Element, Name, Part, Parts};
 
 #[cfg(test)]
 mod tests;

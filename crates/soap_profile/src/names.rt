@@ -9,6 +9,7 @@ ghost use Rattle.soap_profile.specs.Namespaces.{
   element_space as element_space_of,
   attribute_space as attribute_space_of,
   element_name as element_name_of,
+  expanded as expanded_by,
   attribute_name as attribute_name_of,
   are_distinct as distinct_test,
   are_distinct_names as distinct_names_test,
@@ -16,14 +17,15 @@ ghost use Rattle.soap_profile.specs.Namespaces.{
   is_new_name as new_name_test,
 };
 ghost use Rattle.soap_profile.specs.Scope.{InForce};
-ghost use Rattle.soap_profile.specs.Steps.{others as others_of, named_all, Declares, Remains, Expands};
+ghost use Rattle.soap_profile.specs.Steps.{Declares, Expands};
 ghost use Rattle.soap_profile.specs.Tree.{Binding as Bound};
 
+use crate::few::Few;
 use crate::keys::all_differ;
 use crate::scope::Scope;
-use crate::space::Space;
-use crate::tree::{Attr, Attrs, Name};
-use rm_base::{Binding, Bindings, Blob, Items, Memory};
+use crate::shared::Shared;
+use crate::tree::{Attr, Attrs, Declarations, Name};
+use rm_base::{Binding, Blob, Items, Memory};
 use soap_document::{WrittenAttribute, cut};
 use std::alloc::Global;
 
@@ -48,6 +50,10 @@ fn split(name: &[u8]) -> (&[u8], &[u8])
 fn declared_prefix(name: &[u8]) -> Option<&[u8]>
     ensures { option_map (λ x. x.now) result ≡ declared_by name.now }
 {
+    // most names are no declarations, and their first letter says so
+    let [b'x', ..] = name else {
+        return None;
+    };
     if name == b"xmlns".as_slice() {
         return Some(b"".as_slice());
     }
@@ -70,102 +76,45 @@ fn may_bind(prefix: &[u8], space: &[u8]) -> bool
         && (prefix.is_empty() || (!space.is_empty() && prefix != b"xmlns".as_slice()))
 }
 
-// of a name its local part alone, in place
-fn local_of(name: Blob) -> Blob
-    ensures { result ≡ (split_of name).1 }
-{
-    let (_, local) = split(name.as_slice());
-    let kept = local.len();
-    let front = name.len() - kept;
-    let mut bytes = name.into_vec();
-    bytes.copy_within(front.., 0);
-    bytes.truncate(kept);
-    Blob::from_vec(bytes)
-}
-
-/// The declarations among attributes, and the other attributes.
-#[derive(Drop)]
-pub(crate) struct Divided {
-    pub(crate) decls: Bindings,
-    pub(crate) others: Vec<WrittenAttribute>,
-}
-
-/// None where a declaration may not stand.
-pub(crate) fn divide(
+/// The declarations among attributes; none where one may not stand.
+pub(crate) fn declarations(
     alloc: Global,
-    attributes: Vec<WrittenAttribute>,
-) -> Result<Option<Divided>, Memory>
-    ensures decls { IfOk result (λ found. option_map (λ s. s.decls) found ≡ declarations_of attributes.items) }
-    ensures others { IfOk result (λ found. IfSome found (λ s. s.others.items ≡ others_of attributes.items)) }
+    attributes: &[WrittenAttribute],
+) -> Result<Option<Declarations>, Memory>
+    ensures { IfOk result (λ found. found ≡ declarations_of attributes.now) }
 {
-    if declare_none(&attributes) {
-        return Ok(Some(Divided {
-            decls: Items::new(alloc),
-            others: attributes,
-        }));
-    }
-    let mut decls = Items::new(alloc);
-    let mut others = Vec::new(alloc);
+    let mut decls = Vec::new(alloc);
     for attribute in attributes {
-        if !divide_onto(alloc, attribute, &mut decls, &mut others)? {
+        if !declare(alloc, attribute, &mut decls)? {
             return Ok(None);
         }
     }
-    Ok(Some(Divided { decls, others }))
-}
-
-// none of them is a declaration
-fn declare_none(attributes: &[WrittenAttribute]) -> bool
-    ensures decls { IsTrue result → declarations_of attributes.now ≡ Some [] }
-    ensures others { IsTrue result → others_of attributes.now ≡ attributes.now }
-{
-    let mut rest = attributes;
-    while let [first, others @ ..] = rest {
-        if declared_prefix(first.name.as_slice()).is_some() {
-            return false;
-        }
-        rest = others;
-    }
-    true
+    Ok(Some(Few::from_vec(alloc, decls)?))
 }
 
 // one attribute more; whether it may stand
-fn divide_onto(
+fn declare(
     alloc: Global,
-    attribute: WrittenAttribute,
-    decls: &mut Bindings,
-    others: &mut Vec<WrittenAttribute>,
+    attribute: &WrittenAttribute,
+    decls: &mut Vec<Binding>,
 ) -> Result<bool, Memory>
-    ensures decls { IfOk result (Declares attribute decls.old decls.new) }
-    ensures others { IfOk result (Remains attribute others.old.items others.new.items) }
+    ensures { IfOk result (Declares attribute.now decls.old.items decls.new.items) }
 {
-    if declared_prefix(attribute.name.as_slice()).is_none() {
-        others.push(attribute)?;
+    let Some(prefix) = declared_prefix(attribute.name.as_slice()) else {
         return Ok(true);
-    }
-    let WrittenAttribute { name, value } = attribute;
-    let prefix = declared_by_name(alloc, name);
-    if !may_bind(prefix.as_slice(), value.as_slice()) {
+    };
+    let space = attribute.value.as_slice();
+    if !may_bind(prefix, space) {
         return Ok(false);
     }
     decls.push(Binding {
-        prefix,
-        space: value,
+        prefix: Blob::from_slice(alloc, prefix)?,
+        space: Blob::from_slice(alloc, space)?,
     })?;
     Ok(true)
 }
 
-// the prefix that a declaration of this name declares
-fn declared_by_name(alloc: Global, name: Blob) -> Blob
-    ensures { IfSome (declared_by name) (λ prefix. result ≡ prefix) }
-{
-    if name.as_slice() == b"xmlns".as_slice() {
-        return Blob::new(alloc);
-    }
-    local_of(name)
-}
-
-fn prefix_space<'a>(prefix: &[u8], scope: &'a Scope) -> Option<&'a Space>
+fn prefix_space<'a>(prefix: &[u8], scope: &'a Scope) -> Option<&'a Shared>
     ensures { (bindings : List Bound) → InForce scope.now.stacks bindings
         → option_map (λ x. x.now) result ≡ prefix_space_of prefix.now bindings }
 {
@@ -177,7 +126,7 @@ fn prefix_space<'a>(prefix: &[u8], scope: &'a Scope) -> Option<&'a Space>
 }
 
 // the same space, where there is one
-fn shared(space: Option<&Space>) -> Result<Option<Space>, Memory>
+fn shared(space: Option<&Shared>) -> Result<Option<Shared>, Memory>
     ensures { IfOk result (λ found. found ≡ option_map (λ x. x.now) space.entry) }
 {
     match space {
@@ -186,7 +135,7 @@ fn shared(space: Option<&Space>) -> Result<Option<Space>, Memory>
     }
 }
 
-fn element_space(prefix: &[u8], scope: &Scope) -> Result<Option<Space>, Memory>
+fn element_space(prefix: &[u8], scope: &Scope) -> Result<Option<Shared>, Memory>
     ensures { (bindings : List Bound) → InForce scope.now.stacks bindings
         → IfOk result (λ found. found ≡ element_space_of prefix.now bindings) }
 {
@@ -195,80 +144,86 @@ fn element_space(prefix: &[u8], scope: &Scope) -> Result<Option<Space>, Memory>
     }
     match scope.bound(b"") {
         Some(space) => Ok(Some(space.share()?)),
-        None => Ok(Some(Space::new())),
+        None => Ok(Some(scope.none().share()?)),
     }
 }
 
-fn attribute_space(prefix: &[u8], scope: &Scope) -> Result<Option<Space>, Memory>
+fn attribute_space(prefix: &[u8], scope: &Scope) -> Result<Option<Shared>, Memory>
     ensures { (bindings : List Bound) → InForce scope.now.stacks bindings
         → IfOk result (λ found. found ≡ attribute_space_of prefix.now bindings) }
 {
     if prefix.is_empty() {
-        return Ok(Some(Space::new()));
+        return Ok(Some(scope.none().share()?));
     }
     shared(prefix_space(prefix, scope))
 }
 
 /// The expanded name of an element.
-pub(crate) fn element_name(name: Blob, scope: &Scope) -> Result<Option<Name>, Memory>
-    ensures { (bindings : List Bound) → InForce scope.now.stacks bindings
-        → IfOk result (λ found. found ≡ element_name_of bindings name) }
+pub(crate) fn element_name(name: &[u8], scope: &mut Scope) -> Result<Option<Name>, Memory>
+    ensures name { (bindings : List Bound) → InForce scope.old.stacks bindings
+        → IfOk result (λ found. found ≡ element_name_of bindings name.now) }
+    ensures same { scope.new.stacks ≡ scope.old.stacks }
 {
-    let (prefix, _) = split(name.as_slice());
+    let (prefix, local) = split(name);
     let Some(space) = element_space(prefix, scope)? else {
         return Ok(None);
     };
-    Ok(Some(Name {
-        space,
-        local: local_of(name),
-    }))
+    let local = scope.local(local)?;
+    Ok(Some(Name { space, local }))
 }
 
-fn attribute_name(name: Blob, scope: &Scope) -> Result<Option<Name>, Memory>
-    ensures { (bindings : List Bound) → InForce scope.now.stacks bindings
-        → IfOk result (λ found. found ≡ attribute_name_of bindings name) }
+fn attribute_name(name: &[u8], scope: &mut Scope) -> Result<Option<Name>, Memory>
+    ensures name { (bindings : List Bound) → InForce scope.old.stacks bindings
+        → IfOk result (λ found. found ≡ attribute_name_of bindings name.now) }
+    ensures same { scope.new.stacks ≡ scope.old.stacks }
 {
-    let (prefix, _) = split(name.as_slice());
+    let (prefix, local) = split(name);
     let Some(space) = attribute_space(prefix, scope)? else {
         return Ok(None);
     };
-    Ok(Some(Name {
-        space,
-        local: local_of(name),
-    }))
+    let local = scope.local(local)?;
+    Ok(Some(Name { space, local }))
 }
 
-/// Attributes that are no declarations, with expanded names.
+/// The attributes that are no declarations, with expanded names. Room is made for all but those declared.
 pub(crate) fn expanded(
     alloc: Global,
-    attributes: Vec<WrittenAttribute>,
-    scope: &Scope,
+    attributes: &[WrittenAttribute],
+    declared: usize,
+    scope: &mut Scope,
 ) -> Result<Option<Attrs>, Memory>
-    ensures { (bindings : List Bound) → InForce scope.now.stacks bindings
-        → IfOk result (λ found. found ≡ named_all bindings attributes.items) }
+    ensures attrs { (bindings : List Bound) → InForce scope.old.stacks bindings
+        → IfOk result (λ found. found ≡ expanded_by bindings attributes.now) }
+    ensures same { scope.new.stacks ≡ scope.old.stacks }
 {
-    let mut attrs = Items::from_vec(Vec::with_capacity(alloc, attributes.len())?);
+    let room = attributes.len().saturating_sub(declared);
+    let mut attrs = Vec::with_capacity(alloc, room)?;
     for attribute in attributes {
-        if !expand_onto(attribute, scope, &mut attrs)? {
+        if !expand(alloc, attribute, scope, &mut attrs)? {
             return Ok(None);
         }
     }
-    Ok(Some(attrs))
+    Ok(Some(Items::from_vec(attrs)))
 }
 
 // one attribute more; whether its prefix is bound
-fn expand_onto(
-    attribute: WrittenAttribute,
-    scope: &Scope,
-    attrs: &mut Attrs,
+fn expand(
+    alloc: Global,
+    attribute: &WrittenAttribute,
+    scope: &mut Scope,
+    attrs: &mut Vec<Attr>,
 ) -> Result<bool, Memory>
-    ensures { (bindings : List Bound) → InForce scope.now.stacks bindings
-        → IfOk result (Expands bindings attribute attrs.old attrs.new) }
+    ensures attrs { (bindings : List Bound) → InForce scope.old.stacks bindings
+        → IfOk result (Expands bindings attribute.now attrs.old.items attrs.new.items) }
+    ensures same { scope.new.stacks ≡ scope.old.stacks }
 {
-    let WrittenAttribute { name, value } = attribute;
-    let Some(name) = attribute_name(name, scope)? else {
+    if declared_prefix(attribute.name.as_slice()).is_some() {
+        return Ok(true);
+    }
+    let Some(name) = attribute_name(attribute.name.as_slice(), scope)? else {
         return Ok(false);
     };
+    let value = attribute.value.copy(alloc)?;
     attrs.push(Attr { name, value })?;
     Ok(true)
 }
@@ -277,6 +232,9 @@ fn expand_onto(
 pub(crate) fn are_distinct(alloc: Global, attributes: &[WrittenAttribute]) -> Result<bool, Memory>
     ensures { IfOk result (λ answer. answer ≡ distinct_test attributes.now) }
 {
+    if attributes.len() < 2 {
+        return Ok(true);
+    }
     if attributes.len() <= FEW {
         return Ok(few_are_distinct(attributes));
     }
@@ -313,6 +271,9 @@ fn is_new(name: &[u8], attributes: &[WrittenAttribute]) -> bool
 pub(crate) fn are_distinct_names(alloc: Global, attrs: &[Attr]) -> Result<bool, Memory>
     ensures { IfOk result (λ answer. answer ≡ distinct_names_test attrs.now) }
 {
+    if attrs.len() < 2 {
+        return Ok(true);
+    }
     if attrs.len() <= FEW {
         return Ok(few_are_distinct_names(attrs));
     }

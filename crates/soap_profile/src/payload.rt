@@ -3,11 +3,11 @@ ghost use Rattle.soap_profile.specs.Payload.{depth, is_white_outside as outside_
 ghost use Rattle.soap_profile.specs.Tree.{none};
 ghost use Rattle.soap_profile.specs.View.{part_view, parts_view};
 
-use crate::resolve::resolve_parts;
-use crate::scope::Scope;
+use crate::place::Place;
+use crate::resolver::Resolver;
 use crate::tree::Part;
 use rm_base::Memory;
-use soap_document::{is_white, one_tree, read_content};
+use soap_document::{Reader, document_is_read, is_white};
 use std::alloc::Global;
 
 /// How many elements of a payload may stand in one another.
@@ -19,15 +19,22 @@ pub const MAX_PAYLOAD_DEPTH: usize = 90;
 pub fn check_payload(alloc: Global, bytes: &[u8]) -> Result<bool, Memory>
     ensures { IfOk result (λ answer. IsTrue answer ↔ IsClosedContent bytes.now) }
 {
-    let Some(written) = read_content(alloc, bytes)? else {
+    document_is_read();
+    let mut reader = Reader::new(alloc, Resolver::new(alloc)?);
+    reader.feed(b"<a>")?;
+    reader.feed(bytes)?;
+    reader.feed(b"</a>")?;
+    let Some(resolver) = reader.finish() else {
         return Ok(false);
     };
-    one_tree();
-    let mut scope = Scope::new(alloc)?;
-    let Some(parts) = resolve_parts(alloc, written, &mut scope)? else {
+    let Some(root) = resolver.finish() else {
         return Ok(false);
     };
-    Ok(is_payload(parts.items.as_slice()))
+    let whole = Place {
+        start: 3,
+        end: 3 + bytes.len(),
+    };
+    Ok(root.place == whole && is_payload(root.tree.parts.items.as_slice()))
 }
 
 fn is_payload(parts: &[Part]) -> bool

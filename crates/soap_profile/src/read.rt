@@ -1,30 +1,20 @@
-ghost use Rattle.std.specs.Prelude.{◌≡◌, ◌≢◌, ◌<◌, ◌≤◌, ◌↔◌, ℕ, [], length, option_map, IfOk, IfSome, IfNone, Err};
+ghost use Rattle.std.specs.Prelude.{◌≡◌, ◌≢◌, ◌<◌, ◌≤◌, ◌↔◌, ℕ, [], length, IfOk, IfSome, IfNone, Err};
 ghost use Rattle.std.specs.Str.{IsUtf8};
-ghost use Rattle.soap_document.specs.Tree.{last_child};
-ghost use Rattle.soap_document.specs.View.{element_view as written_view, parts_view as written_parts};
-ghost use Rattle.soap_profile.specs.Document.{Document, IsPlaced, IsLongestText, place_of};
-ghost use Rattle.soap_profile.specs.Namespaces.{resolve as resolve_by};
+ghost use Rattle.soap_profile.specs.Document.{Document, IsPlaced, IsLongestText};
 ghost use Rattle.soap_profile.specs.Tree.{Element as Tree};
 ghost use Rattle.soap_profile.specs.View.{element_view};
 
 use crate::error::EnvelopeError;
-use crate::resolve::resolve;
-use crate::scope::Scope;
+use crate::place::Place;
+use crate::resolver::Resolver;
 use crate::tree::Element;
 use rm_base::Memory;
-use soap_document::{WrittenElement, WrittenPart, document_is_utf8, one_tree, read_document};
+use soap_document::{Reader, document_is_read, document_is_utf8};
 use soap_lex::utf8_prefix;
 use std::alloc::Global;
 
 /// How many bytes a document may have.
 pub const MAX_LENGTH: usize = 2097152;
-
-/// Where in a document an element's content begins, and where it ends.
-#[derive(Clone, Copy, Debug, PartialEq, Eq)]
-pub struct Place {
-    pub start: usize,
-    pub end: usize,
-}
 
 /// A document's tree, and where in the document the content stands of the last element within the root.
 #[derive(Debug, Drop)]
@@ -94,38 +84,18 @@ fn read_tree(alloc: Global, bytes: &[u8]) -> Result<Option<Placed>, Memory>
     ensures utf8 { IfOk result (λ found. IfSome found (λ _. IsUtf8 bytes.now)) }
     ensures none { IfOk result (λ found. IfNone found ((other : Tree) → ¬ (Document bytes.now other))) }
 {
-    let Some(written) = read_document(alloc, bytes)? else {
-        return Ok(None);
-    };
-    one_tree();
+    document_is_read();
     document_is_utf8();
-    let last = last_place(written.parts.as_slice());
-    let Some(root) = resolved(alloc, written)? else {
+    let mut reader = Reader::new(alloc, Resolver::new(alloc)?);
+    reader.feed(bytes)?;
+    let Some(resolver) = reader.finish() else {
         return Ok(None);
     };
-    Ok(Some(Placed { root, last }))
-}
-
-// a root with its names resolved
-fn resolved(alloc: Global, written: WrittenElement) -> Result<Option<Element>, Memory>
-    ensures { IfOk result (λ found. option_map element_view found ≡ resolve_by [] (written_view written)) }
-{
-    let mut scope = Scope::new(alloc)?;
-    resolve(alloc, written, &mut scope)
-}
-
-// the place of the last element among parts
-fn last_place(parts: &[WrittenPart]) -> Option<Place>
-    ensures { result ≡ option_map place_of (last_child (written_parts parts.now)) }
-{
-    let mut last = None;
-    for part in parts {
-        if let WrittenPart::Child(child) = part {
-            last = Some(Place {
-                start: child.start,
-                end: child.end,
-            });
-        }
-    }
-    last
+    let Some(root) = resolver.finish() else {
+        return Ok(None);
+    };
+    Ok(Some(Placed {
+        root: root.tree,
+        last: root.last,
+    }))
 }

@@ -3,15 +3,15 @@ ghost use Rattle.std.specs.Prelude.{◌≡◌, [], ◌∷◌, ◌++◌, ℕ, Lis
 ghost use Rattle.std.specs.Str.{bytes_eq};
 ghost use Rattle.soap_profile.specs.Scope.{stack_at, last_of};
 
-use crate::space::Space;
+use crate::shared::Shared;
 use rm_base::Memory;
 use std::alloc::Global;
 use std::collections::BTreeMap;
 
-pub(crate) type Stacks = BTreeMap<Vec<u8>, Vec<Space>>;
+pub(crate) type Stacks = BTreeMap<Vec<u8>, Vec<Shared>>;
 
 /// The innermost space of a prefix.
-pub(crate) fn top<'a>(stacks: &'a Stacks, prefix: &[u8]) -> Option<&'a Space>
+pub(crate) fn top<'a>(stacks: &'a Stacks, prefix: &[u8]) -> Option<&'a Shared>
     ensures { option_map (λ x. x.now) result ≡ last_of (stack_at stacks.now prefix.now) }
 {
     match stacks.get(prefix) {
@@ -25,7 +25,7 @@ pub(crate) fn push(
     alloc: Global,
     stacks: &mut Stacks,
     prefix: &[u8],
-    space: Space,
+    space: Shared,
 ) -> Result<(), Memory>
     ensures { OnOk result ((other : List ℕ) → stack_at stacks.new other
         ≡ (if bytes_eq prefix.now other then stack_at stacks.old other ++ space ∷ [] else stack_at stacks.old other)) }
@@ -38,7 +38,7 @@ pub(crate) fn push(
 }
 
 // binds a prefix that was not bound before
-fn begin(alloc: Global, stacks: &mut Stacks, prefix: &[u8], space: Space) -> Result<(), Memory>
+fn begin(alloc: Global, stacks: &mut Stacks, prefix: &[u8], space: Shared) -> Result<(), Memory>
     ensures { OnOk result ((other : List ℕ) → stack_at stacks.new other
         ≡ (if bytes_eq prefix.now other then space ∷ [] else stack_at stacks.old other)) }
 {

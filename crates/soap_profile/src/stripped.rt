@@ -4,6 +4,7 @@ ghost use Rattle.soap_profile.specs.Steps.{Strips};
 ghost use Rattle.soap_profile.specs.Tree.{without_declarations, parts_without};
 ghost use Rattle.soap_profile.specs.View.{element_view, part_view, parts_view};
 
+use crate::few::Few;
 use crate::tree::{Attr, Attrs, Element, Name, Part, Parts};
 use rm_base::{Items, Memory};
 use std::alloc::Global;
@@ -18,7 +19,7 @@ pub fn strip(alloc: Global, element: &Element) -> Result<Element, Memory>
     let parts = strip_parts(alloc, element.parts.items.as_slice())?;
     Ok(Element {
         name,
-        decls: Items::new(alloc),
+        decls: Few::new(),
         attrs,
         parts,
     })
@@ -40,7 +41,7 @@ fn strip_onto(alloc: Global, part: &Part, items: &mut Vec<Part>) -> Result<(), M
     ensures { OnOk result (Strips (part_view part.now) (parts_view items.old.items) (parts_view items.new.items)) }
 {
     match part {
-        Part::Text(text) => items.push(Part::Text(text.copy()?))?,
+        Part::Text(text) => items.push(Part::Text(text.copy(alloc)?))?,
         Part::Child(element) => items.push(Part::Child(strip(alloc, element)?))?,
     }
     Ok(())
@@ -51,18 +52,18 @@ fn copied_name(name: &Name) -> Result<Name, Memory>
 {
     Ok(Name {
         space: name.space.share()?,
-        local: name.local.copy()?,
+        local: name.local.share()?,
     })
 }
 
 fn copied_attrs(alloc: Global, attrs: &[Attr]) -> Result<Attrs, Memory>
     ensures { IfOk result (λ copy. copy ≡ attrs.now) }
 {
-    let mut copy = Items::new(alloc);
+    let mut copy = Vec::with_capacity(alloc, attrs.len())?;
     for attr in attrs {
         let name = copied_name(&attr.name)?;
-        let value = attr.value.copy()?;
+        let value = attr.value.copy(alloc)?;
         copy.push(Attr { name, value })?;
     }
-    Ok(copy)
+    Ok(Items::from_vec(copy))
 }

@@ -1,26 +1,37 @@
-use crate::space::Space;
-use rm_base::{Bindings, Blob, Items};
+use crate::few::Few;
+use crate::shared::Shared;
+use rm_base::{Binding, Items};
+use soap_document::Bytes;
+use std::mem::size_of;
+
+const _: () = prove!(size_of::<Name>() == 16);
+
+const _: () = prove!(size_of::<Element>() == 80);
+
+const _: () = prove!(size_of::<Part>() == 88);
 
 /// An expanded name: Namespaces in XML 1.0, section 2.1. A name in no namespace has the empty space.
 #[derive(Debug, Drop)]
 pub struct Name {
-    pub space: Space,
-    pub local: Blob,
+    pub space: Shared,
+    pub local: Shared,
 }
 
 #[derive(Debug, Drop)]
 pub struct Attr {
     pub name: Name,
-    pub value: Blob,
+    pub value: Bytes,
 }
 
 pub type Attrs = Items<Attr>;
+
+pub type Declarations = Few<Binding>;
 
 /// A part of an element's content: text that is not empty, or an element. No two texts are neighbours.
 #[derive(Debug, Drop)]
 #[cycle(tree)]
 pub enum Part {
-    Text(Blob),
+    Text(Bytes),
     Child(Element),
 }
 
@@ -29,7 +40,7 @@ pub enum Part {
 #[cycle(tree)]
 pub struct Element {
     pub name: Name,
-    pub decls: Bindings,
+    pub decls: Declarations,
     pub attrs: Attrs,
     pub parts: Parts,
 }

@@ -5,7 +5,7 @@ use Rattle.std.proofs.Math.Utf8.{encode}
 use Rattle.std.proofs.lemmas.List.{append-nil}
 use Rattle.xml_chars.specs.Classes.{is_char}
 use Rattle.soap_lex.specs.Characters.{IsChars, IsName}
-use Rattle.soap_document.specs.declared.tree.WrittenAttribute.{WrittenAttribute as Attribute}
+use Rattle.soap_document.specs.declared.attribute.WrittenAttribute.{WrittenAttribute as Attribute}
 use Rattle.soap_document.specs.Grammar.{prefixed, IsAttributes, end, full, start_tag, end_tag}
 use Rattle.soap_document.specs.Tree as written
 use Rattle.soap_lex.proofs.HeldLemmas.{all_from_passes}

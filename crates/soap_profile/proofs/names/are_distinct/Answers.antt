@@ -1,7 +1,7 @@
 use Rattle.std.proofs.Common.{[], map, sym, ap, ◌∙◌}
-use Rattle.soap_document.specs.declared.tree.WrittenAttribute.{WrittenAttribute as Attribute}
+use Rattle.soap_document.specs.declared.attribute.WrittenAttribute.{WrittenAttribute as Attribute}
 use Rattle.soap_profile.specs.Keys.{keys_of, differ}
-use Rattle.soap_profile.proofs.Distinct.{same_answer, are_distinct-keys, taken_all}
+use Rattle.soap_profile.proofs.Distinct.{same_answer, alone, are_distinct-keys, taken_all}
 use Rattle.soap_profile.proofs.names.are_distinct.Goals as goal
 
 pub returns : goal.returns
@@ -11,3 +11,6 @@ returns c =
     (ap (λ xs. differ (keys_of xs)) c.deref.ensures.value
     ∙ ap differ (c.loop-attribute.invariant ∙ ap (map (λ (a : Attribute). (a.name, []))) (taken_all
     c.loop-attribute.attribute-index all c.loop-attribute-test.false)) ∙ sym (are_distinct-keys all))
+
+pub returns-then-attributes-lt2 : goal.returns-then-attributes-lt2
+returns-then-attributes-lt2 c = alone c.args.attributes.now c.if-attributes-lt2.true

@@ -1,25 +1,63 @@
-use Rattle.std.proofs.Common.{[], List, nat_le, ◌&&◌, ap, ◌∙◌}
-use Rattle.soap_document.specs.View.{parts_view as written_parts}
-use Rattle.soap_profile.specs.Payload.{depth, is_white_outside}
+use Rattle.std.proofs.Common.{◌≡◌, Bool, List, [], codes, Some, IsTrue, ◌↔◌, sym, ap, subst, ◌∙◌, arith}
+use Rattle.soap_document.specs.Machine.{run, start, State}
+use Rattle.soap_document.specs.Seen.{Sees}
+use Rattle.soap_document.proofs.Inside.{around, content-at, fed_around}
+use Rattle.soap_profile.specs.Opened.{rooted}
+use Rattle.soap_profile.specs.Payload.{IsClosedContent}
+use Rattle.soap_profile.specs.Resolving.{Stands, root_view}
 use Rattle.soap_profile.specs.View.{parts_view}
 use Rattle.soap_profile.specs.declared.tree.Part.{Part}
-use Rattle.soap_profile.proofs.Payloads.{known_content, known_parts, no_parts, closed, not_closed}
+use Rattle.soap_profile.proofs.Roots.{read}
+use Rattle.soap_profile.proofs.Payloads.{not_closed, elsewhere, closed, is_payload}
+use Rattle.soap_profile.proofs.Trees.{element_is}
+use Rattle.soap_profile.proofs.payload.check_payload.Goals.{In_ok-feed-3, then-eq, else-eq}
 use Rattle.soap_profile.proofs.payload.check_payload.Goals as goal
 
-pub returns-in_default-2 : goal.returns-in_default-2
-returns-in_default-2 c =
+abbrev end_of : In_ok-feed-3 → State
+end_of c = run start (around c.args.bytes.now)
+
+fed : (c : In_ok-feed-3) → Sees Stands c.feed-3.new.self (end_of c)
+fed c =
+    fed_around (Sees Stands) c.new-reader.result c.feed.new.self c.feed-2.new.self c.feed-3.new.self c.args.bytes.now
+    c.new-reader.ensures c.in_ok-feed.ensures c.in_ok-feed-2.ensures c.in_ok-feed-3.ensures
+
+pub feed-requires-2 : goal.feed-requires-2
+feed-requires-2 c =
+    (run start (codes "<a>"), c.in_ok-feed.ensures start c.new-reader.ensures, omega (arith, content-at []))
+
+pub feed-requires-3 : goal.feed-requires-3
+feed-requires-3 c =
     let bytes = c.args.bytes.now in
-    let raw = written_parts c.in-Some.written.items in
-    let is = known_content bytes c.in_ok-written.field-0 c.in-Some.written c.in_ok-written.ensures.found c.in-Some.is in
-    not_closed c.one_tree.ensures bytes raw is (no_parts c.in_ok-parts.field-0 _ (c.in_ok-parts.ensures.tree []
-    c.in_ok-scope.ensures) c.in_default-2.is)
+    let a = run start (codes "<a>") in
+    let at = content-at bytes in
+    (run a bytes, c.in_ok-feed-2.ensures a (c.in_ok-feed.ensures start c.new-reader.ensures), omega (arith, at))
+
+pub returns-in_default : goal.returns-in_default
+returns-in_default c =
+    let d = (goal.at.returns-in_default c).In_ok-feed-3 in
+    not_closed c.args.bytes.now (ap rooted (c.in_default.ensures (end_of d) (fed d)))
+
+pub returns-in_default-finish : goal.returns-in_default-finish
+returns-in_default-finish c =
+    let d = (goal.at.returns-in_default-finish c).In_ok-feed-3 in
+    let whole = c.in-Some.ensures (end_of d) (fed d) in
+    not_closed c.args.bytes.now (ap rooted whole.0 ∙ sym (c.in_default-finish.ensures (end_of d).top whole.1))
 
 pub returns : goal.returns
 returns c =
     let bytes = c.args.bytes.now in
-    let raw = written_parts c.in-Some.written.items in
-    let is = known_content bytes c.in_ok-written.field-0 c.in-Some.written c.in_ok-written.ensures.found c.in-Some.is in
-    closed c.one_tree.ensures bytes raw _ c.is_payload.result is (known_parts c.in_ok-parts.field-0 c.in-Some-2.parts _
-    (c.in_ok-parts.ensures.tree [] c.in_ok-scope.ensures) c.in-Some-2.is)
-    (c.is_payload.ensures ∙ ap (λ (p : List Part). nat_le (depth (parts_view p)) 90 && is_white_outside (parts_view
-    p)) c.as_slice.ensures.value)
+    let d = (goal.at.returns c).In_ok-feed-3 in
+    let end = c.in-Some.ensures (end_of d) (fed d) in
+    let root = c.in-Some-finish.root in
+    let is : read (around bytes) ≡ Some (root_view root) = ap rooted end.0
+    ∙ sym (c.in-Some-finish.ensures (end_of d).top end.1) in
+    elim c.if-eq.branch [
+      | then-eq w ↦
+          let tree = root.tree in
+          closed bytes (root_view root) tree.name tree.decls tree.attrs (parts_view tree.parts.items.items)
+          c.if-eq.result is (sym w.if-eq.ensures) (element_is tree) (w.result-is ∙ w.is_payload.ensures
+          ∙ ap (λ (parts : List Part). is_payload (parts_view parts)) w.as_slice.ensures.value)
+      | else-eq w ↦
+          subst (λ (b : Bool). IsTrue b ↔ IsClosedContent bytes) (sym (w.result-is ∙ w.if-eq.false)) (elsewhere bytes
+          (root_view root) is (sym w.if-eq.ensures))
+    ]

@@ -1,28 +1,29 @@
-use Rattle.std.proofs.Common.{◌≡◌, ℕ, ◌-◌, true, List, [], sym, ap, ◌∙◌}
-use Rattle.soap_lex.specs.TextMachine.{TextState, begun, is_less}
-use Rattle.soap_lex.specs.Readers.{text_state}
-use Rattle.soap_document.specs.Machine.{less, in_less}
-use Rattle.soap_document.specs.Seen.{seen}
+use Rattle.std.proofs.Common.{rules, ◌≡◌, true, OnOk, sym, subst, ◌∙◌}
+use Rattle.soap_lex.specs.TextMachine.{halts}
+use Rattle.soap_document.specs.Machine.{State, at_chars}
+use Rattle.soap_document.specs.Seen.{seen, Sees}
 use Rattle.soap_document.proofs.Fed.{on_ok}
-use Rattle.soap_document.proofs.Steps.{chars_end, chars_less}
+use Rattle.soap_document.proofs.Seeing.{seeing, sees}
+use Rattle.soap_document.proofs.Steps.{begun_tag, chars_less}
 use Rattle.soap_document.proofs.reader.Reader.end_chars.Goals as goal
 
 pub returns-then-not-is_less : goal.returns-then-not-is_less
-returns-then-not-is_less c =
-    let self = c.args.self.now in
-    c.refuse.ensures
-    ∙ chars_end (seen self) c.args.byte c.requires.halts (sym (c.is_less.ensures self.text.items) ∙ c.if-not-is_less.true)
+returns-then-not-is_less g c =
+    let stands = g.H.Handler.stands in
+    let byte = c.args.byte in
+    seeing stands c.args.self.now (λ s. halts s.words byte ≡ true → Sees stands _ (at_chars s byte))
+    (λ top below h halted. sees stands _ top below _ h
+    (search (rules, c.refuse.ensures top below, c.is_less.ensures c.args.self.now.scan.text.items)))
 
 pub returns : goal.returns
-returns c =
-    let self = c.args.self.now in
-    let s = seen self in
-    let ends : is_less s.words ≡ true = sym (c.is_less.ensures self.text.items) ∙ c.if-not-is_less.false in
-    let arg = λ (m : ℕ) (t : List ℕ) (w : TextState). record s { mode = less; mark = m; token = t; words = w } in
-    let words = text_state c.restart.new.self self.text.items in
-    let same : arg c.saturating_sub-self.result c.clear.new.self.items words ≡ arg (s.at - 1) [] (begun s.words.text) =
-    ap (λ m. arg m c.clear.new.self.items words) c.saturating_sub-self.ensures
-    ∙ ap (λ t. arg (s.at - 1) t words) c.clear.ensures.items
-    ∙ ap (arg (s.at - 1) []) (c.restart.ensures self.text.items) in
-    on_ok c.go_on.result _ _ (λ k. k ∙ ap (λ x. in_less x c.args.byte) same
-    ∙ chars_less s c.args.byte c.requires.halts ends) c.go_on.ensures
+returns g c =
+    let stands = g.H.Handler.stands in
+    let text = c.args.self.now.scan.text.items in
+    let byte = c.args.byte in
+    let new = c.go_on.new.self in
+    let ends = sym (c.is_less.ensures text) ∙ c.if-not-is_less.false in
+    seeing stands c.args.self.now (λ s. halts s.words byte ≡ true → OnOk c.go_on.result (Sees stands new (at_chars s
+    byte))) (λ top below h halted.
+    let s = seen c.args.self.now.scan top below in
+    on_ok c.go_on.result _ _ (subst (λ (x : State). Sees stands new x) (chars_less s byte halted ends))
+    (c.go_on.ensures (begun_tag s) (sees stands _ top below _ h (search (rules, c.restart.ensures text)))))

@@ -1,11 +1,10 @@
-use Rattle.std.proofs.Common.{◌≡◌, ap, ◌∙◌, arith}
-use Rattle.soap_document.specs.Seen.{seen}
+use Rattle.std.proofs.Common.{sym, ap, ◌∙◌}
+use Rattle.soap_document.specs.Machine.{finish}
 use Rattle.soap_document.proofs.Places.{finish-at}
+use Rattle.soap_document.proofs.Seeing.{counts}
 use Rattle.soap_document.proofs.reader.Reader.end_token.Goals as goal
 
-pub overflow_add-self : goal.overflow_add-self
-overflow_add-self c =
-    let before = seen c.args.self.now in
-    let same : c.end.new.self.at ≡ before.at = ap (λ s. s.at) c.in_ok-end.ensures
-    ∙ finish-at before.mode before c.args.byte in
-    omega (arith, same, c.requires)
+pub returns : goal.returns
+returns g c = λ s h.
+    counts g.H.Handler.stands c.end.new.self (finish s.mode s c.args.byte) c.args.self.now.scan.at
+    (ap (λ x. x.at) h.is ∙ sym (finish-at s.mode s c.args.byte)) (c.in_ok-end.ensures s h)

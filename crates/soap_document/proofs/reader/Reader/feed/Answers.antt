@@ -1,16 +1,8 @@
-use Rattle.std.proofs.Common.{List, ℕ, ◌+◌, length, ap, ◌∙◌}
-use Rattle.soap_document.specs.Machine.{run}
-use Rattle.soap_document.specs.Seen.{seen}
-use Rattle.soap_document.proofs.Answer.{take_rest}
+use Rattle.soap_document.proofs.Seeing.{goes_on}
 use Rattle.soap_document.proofs.reader.Reader.feed.Goals as goal
 
 pub loop-rest-preserved : goal.loop-rest-preserved
-loop-rest-preserved c =
-    let new = seen c.take.new.self in
-    let rest : List ℕ = c.loop-rest.rest.now in
-    let n = c.in_ok-taken.taken in
-    record {
-      meaning = ap (run new) (take_rest n rest) ∙ c.in_ok-taken.ensures.meaning ∙ c.loop-rest.invariant.meaning;
-      place = ap (λ (x : List ℕ). new.at + length x) (take_rest n rest) ∙ c.in_ok-taken.ensures.place
-          ∙ c.loop-rest.invariant.place;
-    }
+loop-rest-preserved g c = λ s h.
+    let was = c.loop-rest.invariant s h in
+    goes_on g.H.Handler.stands s c.args.piece.now c.loop-rest.self _ c.loop-rest.rest.now c.in_ok-taken.taken was
+    (c.in_ok-taken.ensures was.state was.sees)

@@ -1,32 +1,45 @@
-use Rattle.std.proofs.Common.{◌≡◌, ◌+◌, get_or, refl, ap, ◌∙◌, arith}
+use Rattle.std.proofs.Common.{◌+◌, get_or, refl, sym}
 use Rattle.soap_lex.specs.Readers.{text_state}
-use Rattle.soap_document.specs.Seen.{seen}
+use Rattle.soap_document.specs.Machine.{at_chars, counted}
+use Rattle.soap_document.specs.Seen.{seen, TakenBy}
 use Rattle.soap_document.proofs.Fed.{text_ends, taken_text, taken_end}
 use Rattle.soap_document.proofs.Places.{chars-at}
+use Rattle.soap_document.proofs.Seeing.{seeing, sees, counts}
 use Rattle.soap_document.proofs.reader.Reader.take_chars.Goals as goal
 
-pub end_chars-requires-clause-halts : goal.end_chars-requires-clause-halts
-end_chars-requires-clause-halts c =
-    let h = text_ends (seen c.args.self.now).words (text_state c.feed.new.self c.feed.new.out.items) c.args.bytes.now
-    c.in-Ok.taken c.requires.some c.in-Ok.ensures.ok.1 c.if-taken-eq0.true in
-    h.0
-
-pub overflow_add-self : goal.overflow_add-self
-overflow_add-self c =
-    let s = record (seen c.args.self.now) { words = text_state c.feed.new.self c.feed.new.out.items } in
-    let same : c.end_chars.new.self.at ≡ s.at = ap (λ x. x.at) c.in_ok-end_chars.ensures
-    ∙ chars-at s (get_or c.args.bytes.now 0 0) in
-    omega (arith, same, c.requires.fits, c.requires.some)
+pub take_less-requires-clause-fresh : goal.take_less-requires-clause-fresh
+take_less-requires-clause-fresh g c = λ text. (c.is_fresh.ensures text).0 c.if-is_fresh.true
 
 pub returns-then-taken-eq0 : goal.returns-then-taken-eq0
-returns-then-taken-eq0 c =
-    taken_end (seen c.args.self.now) (seen c.end_chars.new.self) (text_state c.feed.new.self c.feed.new.out.items)
-    c.args.bytes.now c.in-Ok.taken c.requires.inside c.requires.some c.in-Ok.ensures.ok.1 c.if-taken-eq0.true
-    c.in_ok-end_chars.ensures
+returns-then-taken-eq0 g c =
+    let stands = g.H.Handler.stands in
+    let bytes = c.args.bytes.now in
+    let byte = get_or bytes 0 0 in
+    let words = text_state c.feed.new.self c.feed.new.out.items in
+    let fed = c.in-Ok.ensures.ok.1 in
+    seeing stands c.args.self.now (λ s. TakenBy stands s _ bytes 1) (λ top below h.
+    let s = seen c.args.self.now.scan top below in
+    let told = record s { words = words } in
+    let halted = text_ends s.words words bytes c.in-Ok.taken c.requires.some fed c.if-taken-eq0.true in
+    record {
+      state = counted (at_chars told byte);
+      sees = counts stands c.end_chars.new.self (at_chars told byte) s.at (sym (chars-at told byte))
+          (c.in_ok-end_chars.ensures told (sees stands _ top below told h refl) halted.0);
+      taken = taken_end s (at_chars told byte) words bytes c.in-Ok.taken c.requires.inside c.requires.some fed
+          c.if-taken-eq0.true refl;
+    })
 
 pub returns : goal.returns
-returns c =
-    let t = text_state c.feed.new.self c.feed.new.out.items in
-    let new = record (seen c.args.self.now) { words = t; at = (seen c.args.self.now).at + c.in-Ok.taken } in
-    taken_text (seen c.args.self.now) new t c.args.bytes.now c.in-Ok.taken c.requires.inside c.in-Ok.ensures.ok.0
-    c.if-taken-eq0.false c.in-Ok.ensures.ok.1 refl
+returns g c =
+    let stands = g.H.Handler.stands in
+    let bytes = c.args.bytes.now in
+    let words = text_state c.feed.new.self c.feed.new.out.items in
+    seeing stands c.args.self.now (λ s. TakenBy stands s _ bytes c.in-Ok.taken) (λ top below h.
+    let s = seen c.args.self.now.scan top below in
+    let new = record s { words = words; at = s.at + c.in-Ok.taken } in
+    record {
+      state = new;
+      sees = record { is = refl; holds = h };
+      taken = taken_text s new words bytes c.in-Ok.taken c.requires.inside c.in-Ok.ensures.ok.0 c.if-taken-eq0.false
+          c.in-Ok.ensures.ok.1 refl;
+    })

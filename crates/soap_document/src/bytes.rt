@@ -1,0 +1,127 @@
+ghost use Rattle.std.specs.Prelude.{◌≡◌, ◌↔◌, [], length, IsTrue, IfOk};
+
+use rm_base::{Blob, Memory};
+use std::alloc::Global;
+use std::marker::Model;
+use std::mem::size_of;
+
+// The most bytes that take no memory of their own.
+const FEW: usize = 30;
+
+const _: () = prove!(size_of::<Bytes>() == 32);
+
+/// Bytes of any kind. Up to 30 of them take no memory of their own.
+#[derive(Debug, Drop)]
+pub struct Bytes {
+    kept: Kept,
+}
+
+#[derive(Debug, Drop)]
+enum Kept {
+    Few { len: u8, bytes: [u8; FEW] },
+    Many(Blob),
+}
+
+impl Model for Bytes {
+    ghost use Rattle.std.specs.Prelude.{ℕ, List};
+
+    ghost Value = { List ℕ };
+
+    ghost use Rattle.soap_document.specs.Kept.{kept_bytes, IsKept};
+
+    ghost view = { λ b. kept_bytes b.kept };
+
+    ghost invariant = { λ b. IsKept b.kept };
+}
+
+impl Bytes {
+    /// No bytes.
+    pub fn new() -> Self
+        ensures { result ≡ [] }
+    {
+        Bytes {
+            kept: Kept::Few {
+                len: 0,
+                bytes: [0; FEW],
+            },
+        }
+    }
+
+    /// Takes no memory for up to 30 bytes.
+    pub fn from_slice(alloc: Global, bytes: &[u8]) -> Result<Self, Memory>
+        ensures { IfOk result (λ b. b ≡ bytes.now) }
+    {
+        if bytes.len() > FEW {
+            let many = Blob::from_slice(alloc, bytes)?;
+            return Ok(Bytes {
+                kept: Kept::Many(many),
+            });
+        }
+        let mut few = [0; FEW];
+        few[..bytes.len()].copy_from_slice(bytes);
+        Ok(Bytes {
+            kept: Kept::Few {
+                len: bytes.len() as u8,
+                bytes: few,
+            },
+        })
+    }
+
+    #[inline(always)]
+    pub fn as_slice(&self) -> &[u8]
+        ensures { result.now ≡ self.now }
+    {
+        match &self.kept {
+            Kept::Few { len, bytes } => &bytes[..usize::from(*len)],
+            Kept::Many(blob) => blob.as_slice(),
+        }
+    }
+
+    pub fn len(&self) -> usize
+        ensures { result ≡ length self.now }
+    {
+        self.as_slice().len()
+    }
+
+    pub fn is_empty(&self) -> bool
+        ensures { IsTrue result ↔ (self.now ≡ []) }
+    {
+        self.as_slice().is_empty()
+    }
+
+    /// The same bytes again.
+    pub fn copy(&self, alloc: Global) -> Result<Self, Memory>
+        ensures { IfOk result (λ b. b ≡ self.now) }
+    {
+        let kept = match &self.kept {
+            Kept::Few { len, bytes } => Kept::Few {
+                len: *len,
+                bytes: *bytes,
+            },
+            Kept::Many(blob) => Kept::Many(Blob::from_slice(alloc, blob.as_slice())?),
+        };
+        Ok(Bytes { kept })
+    }
+}
+
+#[cfg(test)]
+mod tests {
+    use super::*;
+    use std::test::Fail;
+
+    #[test]
+    fn keeps_few_and_many(rt: HostRuntime) -> Result<(), Fail> {
+        let all = b"0123456789abcdefghijABCDEFGHIJ-";
+        assert!(rt; Bytes::new().is_empty());
+        for len in [0, 1, 29, 30, 31] {
+            let part = &all[..len];
+            let kept = Bytes::from_slice(rt.alloc(), part)?;
+            assert_eq!(rt; kept.as_slice(), part);
+            assert_eq!(rt; kept.len(), len);
+            assert_eq!(rt; kept.is_empty(), len == 0);
+            let again = kept.copy(rt.alloc())?;
+            assert_eq!(rt; again.as_slice(), part);
+        }
+        Ok(())
+    }
+}

@@ -1,0 +1,50 @@
+use Rattle.std.proofs.Common.{◌≡◌, List, ◌∷◌, ◌++◌, Some, map, reverse, sym, ap, subst, ◌∙◌}
+use Rattle.std.proofs.lemmas.Result.{on_ok_weaker}
+use Rattle.soap_profile.specs.Opened.{Nest, nest}
+use Rattle.soap_profile.specs.Resolving.{sound, broken, nest_view, opened_view}
+use Rattle.soap_profile.specs.Scope.{InForce}
+use Rattle.soap_profile.specs.Tree.{Binding, element}
+use Rattle.soap_profile.specs.View.{element_view, parts_view}
+use Rattle.soap_profile.specs.declared.resolver.Opened.{Opened}
+use Rattle.soap_profile.specs.declared.tree.Part.{Part}
+use Rattle.soap_profile.proofs.Nests.{nest-child, closes, stays_broken, element_of, tree_of}
+use Rattle.soap_profile.proofs.Resolvers.{sound_is, broken_is, below_popped, child_closed}
+use Rattle.soap_profile.proofs.Trees.{element_is}
+use Rattle.soap_profile.proofs.resolver.ResolverHandler.close.Goals as goal
+
+pub returns-then-self : goal.returns-then-self
+returns-then-self c = λ top outer below h.
+    let raw = element_of top c.args.end in
+    broken c.if-self.true (nest-child outer below raw ∙ stays_broken top (nest outer below) c.args.end (broken_is
+    c.args.self.now top (outer ∷ below) h c.if-self.true))
+
+pub returns : goal.returns
+returns c = λ top outer below h.
+    let self = c.args.self.now in
+    let end = c.args.end in
+    let inner = c.replace-inner.result in
+    let raw = element_of top end in
+    let s = sound_is self top (outer ∷ below) h c.if-self.false in
+    let k = closes top (nest outer below) end (nest_view self s.bindings) s.is in
+    let popped : k.outer.top ∷ k.outer.below
+    ≡ opened_view c.in-Some.outer ∷ reverse (map opened_view c.pop.new.self.items) =
+    sym k.below ∙ below_popped self.below.items c.pop.new.self.items c.pop.result c.in-Some.outer c.pop.ensures.items
+    c.in-Some.is in
+    let within : s.bindings ≡ c.as_slice.result.now ++ k.outer.scope =
+    k.scope ∙ ap (λ (ds : List Binding). ds ++ k.outer.scope) (sym (c.as_slice.ensures
+    ∙ ap (λ (o : Opened). o.tag.decls) c.replace-inner.ensures.value)) in
+    let left : InForce c.leave.new.self.stacks k.outer.scope =
+    c.leave.ensures k.outer.scope (subst (InForce self.scope.stacks) within s.within) in
+    let made : element_view _ ≡ tree_of (opened_view inner) =
+    element_is (record {
+      name = inner.tag.name;
+      decls = inner.tag.decls;
+      attrs = inner.tag.attrs;
+      parts = record { items = c.in_ok-fitted.field-0 };
+    })
+    ∙ ap (λ (xs : List Part). element inner.tag.name inner.tag.decls inner.tag.attrs (parts_view xs))
+    c.in_ok-fitted.ensures in
+    on_ok_weaker c.add.result (λ e. sound k.outer.scope c.if-self.false left (nest-child outer below raw
+    ∙ k.closed ∙ ap (λ (n : Nest). Some n) (child_closed k.outer end self.top inner c.in-Some.outer
+    c.replace-inner.new.dest _ _ (reverse (map opened_view c.pop.new.self.items)) c.replace-inner.ensures.value
+    c.replace-inner.ensures.after popped made e))) c.add.ensures

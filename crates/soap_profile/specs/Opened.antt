@@ -1,0 +1,76 @@
+-- The elements that are open, with their names resolved.
+use Rattle.std.specs.Prelude.{ℕ, List, [], ◌∷◌, ◌++◌, Option, Some, None, option_map}
+use Rattle.soap_document.specs.Machine.{Frame}
+use Rattle.soap_document.specs.Tree as written
+use Rattle.soap_profile.specs.Document.{place_of}
+use Rattle.soap_profile.specs.Namespaces.{Resolved, tag_of, resolve, resolve_parts}
+use Rattle.soap_profile.specs.Tree.{Binding, Element, Parts}
+use Rattle.soap_profile.specs.declared.place.Place.{Place}
+
+-- an open element: its tag, where its content begins, its parts so far, the place of the last element among these, and
+-- of the last within that
+pub record Opened : Type 0 where
+  pub tag : Resolved
+  pub start : ℕ
+  pub parts : Parts
+  pub last : Option Place
+  pub inner : Option Place
+
+-- the open elements, the innermost first, and the bindings in force in the innermost
+pub record Nest : Type 0 where
+  pub scope : List Binding
+  pub top : Opened
+  pub below : List Opened
+
+-- the document itself has no tag
+abbrev pub no_tag : Resolved
+no_tag = record { name = record { space = []; local = [] }; decls = []; attrs = [] }
+
+abbrev pub last_place : Option written.Element → Option Place
+last_place last = option_map place_of last
+
+abbrev pub inner_place : Option written.Element → Option Place
+inner_place None = None
+inner_place (Some last) = option_map place_of (written.last_within last)
+
+abbrev pub opened : Frame → Resolved → Parts → Opened
+opened frame tag parts = record {
+  tag = tag;
+  start = frame.start;
+  parts = parts;
+  last = last_place (written.last_child frame.parts);
+  inner = inner_place (written.last_child frame.parts);
+}
+
+-- an element with this tag within others
+abbrev pub within : Frame → Nest → Option Resolved → Option Nest
+within frame nest None = None
+within frame nest (Some tag) = option_map (λ parts. record {
+  scope = tag.decls ++ nest.scope;
+  top = opened frame tag parts;
+  below = nest.top ∷ nest.below;
+}) (resolve_parts (tag.decls ++ nest.scope) frame.parts)
+
+abbrev pub within_all : Frame → Option Nest → Option Nest
+within_all frame None = None
+within_all frame (Some nest) = within frame nest (tag_of nest.scope frame.name frame.attributes)
+
+-- what open elements are, the innermost first; none where a rule of namespaces is broken
+abbrev pub nest : Frame → List Frame → Option Nest
+nest frame [] = option_map (λ parts. record { scope = []; top = opened frame no_tag parts; below = [] })
+    (resolve_parts [] frame.parts)
+nest frame (outer ∷ frames) = within_all frame (nest outer frames)
+
+-- a root with its names resolved, its place, and that of the last element within it
+pub record Root : Type 0 where
+  pub tree : Element
+  pub place : Place
+  pub last : Option Place
+
+abbrev pub root_of : written.Element → Option Root
+root_of raw = option_map (λ tree. record { tree = tree; place = place_of raw; last = last_place (written.last_within raw) })
+    (resolve [] raw)
+
+abbrev pub rooted : Option written.Element → Option Root
+rooted None = None
+rooted (Some raw) = root_of raw

@@ -1,0 +1,36 @@
+-- The open elements that a resolver stands for.
+use Rattle.std.specs.Prelude.{◌≡◌, List, map, reverse, true, false, Some, None}
+use Rattle.soap_document.specs.Machine.{Frame}
+use Rattle.soap_profile.specs.Opened as abstract
+use Rattle.soap_profile.specs.Scope.{InForce}
+use Rattle.soap_profile.specs.Tree.{Binding}
+use Rattle.soap_profile.specs.View.{element_view, parts_view, tag_view}
+use Rattle.soap_profile.specs.declared.resolver.Opened.{Opened}
+use Rattle.soap_profile.specs.declared.resolver.Resolver.{Resolver}
+use Rattle.soap_profile.specs.declared.resolver.Root.{Root}
+
+abbrev pub opened_view : Opened → abstract.Opened
+opened_view o = record {
+  tag = tag_view o.tag;
+  start = o.start;
+  parts = parts_view o.parts.items;
+  last = o.last;
+  inner = o.inner;
+}
+
+-- within these bindings
+abbrev pub nest_view : Resolver → List Binding → abstract.Nest
+nest_view r bindings = record {
+  scope = bindings;
+  top = opened_view r.top;
+  below = reverse (map opened_view r.below.items);
+}
+
+abbrev pub root_view : Root → abstract.Root
+root_view r = record { tree = element_view r.tree; place = r.place; last = r.last }
+
+-- it has the open elements, or a rule was broken
+pub data Stands (r : Resolver) (top : Frame) (below : List Frame) : Type 0 where
+  sound : (bindings : List Binding) → r.broken ≡ false → InForce r.scope.stacks bindings
+      → abstract.nest top below ≡ Some (nest_view r bindings) → Stands r top below
+  broken : r.broken ≡ true → abstract.nest top below ≡ None → Stands r top below
