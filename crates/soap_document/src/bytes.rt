@@ -6,11 +6,11 @@ use std::marker::Model;
 use std::mem::size_of;
 
 // The most bytes that take no memory of their own.
-const FEW: usize = 30;
+const FEW: usize = 22;
 
-const _: () = prove!(size_of::<Bytes>() == 32);
+const _: () = prove!(size_of::<Bytes>() == 24);
 
-/// Bytes of any kind. Up to 30 of them take no memory of their own.
+/// Bytes of any kind. Up to 22 of them take no memory of their own.
 #[derive(Debug, Drop)]
 pub struct Bytes {
     kept: Kept,
@@ -19,7 +19,7 @@ pub struct Bytes {
 #[derive(Debug, Drop)]
 enum Kept {
     Few { len: u8, bytes: [u8; FEW] },
-    Many(Blob),
+    Many(Box<Blob>),
 }
 
 impl Model for Bytes {
@@ -47,14 +47,14 @@ impl Bytes {
         }
     }
 
-    /// Takes no memory for up to 30 bytes.
+    /// Takes no memory for up to 22 bytes.
     pub fn from_slice(alloc: Global, bytes: &[u8]) -> Result<Self, Memory>
         ensures { IfOk result (λ b. b ≡ bytes.now) }
     {
         if bytes.len() > FEW {
             let many = Blob::from_slice(alloc, bytes)?;
             return Ok(Bytes {
-                kept: Kept::Many(many),
+                kept: Kept::Many(Box::new(alloc, many)?),
             });
         }
         let mut few = [0; FEW];
@@ -98,7 +98,10 @@ impl Bytes {
                 len: *len,
                 bytes: *bytes,
             },
-            Kept::Many(blob) => Kept::Many(Blob::from_slice(alloc, blob.as_slice())?),
+            Kept::Many(blob) => {
+                let again = Blob::from_slice(alloc, blob.as_slice())?;
+                Kept::Many(Box::new(alloc, again)?)
+            }
         };
         Ok(Bytes { kept })
     }
@@ -113,7 +116,7 @@ mod tests {
     fn keeps_few_and_many(rt: HostRuntime) -> Result<(), Fail> {
         let all = b"0123456789abcdefghijABCDEFGHIJ-";
         assert!(rt; Bytes::new().is_empty());
-        for len in [0, 1, 29, 30, 31] {
+        for len in [0, 1, 21, 22, 23, 31] {
             let part = &all[..len];
             let kept = Bytes::from_slice(rt.alloc(), part)?;
             assert_eq!(rt; kept.as_slice(), part);

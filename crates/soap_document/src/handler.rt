@@ -7,8 +7,8 @@ use rm_base::Memory;
 
 /// What is made of a document's elements while they are read. After an error it is of no more use.
 pub trait Handler: Drop {
-    /// It stands for the elements that are open: the innermost, and those around it from the inside out. The last is the
-    /// document itself, without a name.
+    /// It stands for the elements that are open: the innermost, and those around it from the inside out. The last is
+    /// the document itself, without a name.
     ghost stands: { Self → Frame → List Frame → Type 0 };
 
     /// Text in the innermost element.

@@ -7,5 +7,6 @@ ghost use Rattle.soap_document.specs.Within.{IsWithin, StandsBetween};
 
 /// What stands between an element's places is its content.
 pub fn content_stands_between()
-    ensures { (bytes : List ℕ) (root e : Element) → IsDocument bytes root → IsWithin root e → StandsBetween bytes e }
+    ensures { (bytes : List ℕ) (root e : Element)
+        → IsDocument bytes root → IsWithin root e → StandsBetween bytes e }
 {}

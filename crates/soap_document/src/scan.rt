@@ -27,6 +27,7 @@ ghost use Rattle.soap_document.specs.Seen.{seen, mode_of, Taken};
 use crate::attribute::WrittenAttribute;
 use crate::bytes::Bytes;
 use crate::declaration::is_declaration;
+use crate::search::first_byte;
 use crate::tokens::{before, is_comment, is_mark, is_qname, is_white};
 use memchr::memchr;
 use rm_base::Memory;
@@ -301,7 +302,8 @@ pub(crate) fn first_stop(mode: Mode, bytes: &[u8]) -> Option<usize>
 {
     match mode {
         Mode::Outside => memchr(b'<', bytes),
-        Mode::Declaring | Mode::Commenting | Mode::Ending => memchr(b'>', bytes),
+        Mode::Declaring | Mode::Commenting => memchr(b'>', bytes),
+        Mode::Ending => first_byte(b'>', bytes),
         Mode::Marking => memchr(b'-', bytes),
         Mode::Less | Mode::Naming => first_name_end(bytes),
         Mode::Beginning => first_less_or_space(bytes),
