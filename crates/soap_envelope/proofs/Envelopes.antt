@@ -5,9 +5,9 @@ use Rattle.std.specs.Cmp.Lexicographic.{pointwise}
 use Rattle.std.specs.List.{slice_range}
 use Rattle.soap_document.specs.Tree as written
 use Rattle.soap_profile.specs.Document.{IsPlaced, place_of}
-use Rattle.soap_profile.specs.declared.tree.Name.{Name}
-use Rattle.soap_profile.specs.declared.tree.Attr.{Attr}
 use Rattle.soap_profile.specs.Tree.{Binding, Element, element, Parts}
+use Rattle.soap_profile.specs.declared.name.Expanded.{Expanded as Name}
+use Rattle.soap_profile.specs.declared.tree.Attr.{Attr}
 use Rattle.soap_profile.specs.View.{element_view}
 use Rattle.soap_profile.specs.declared.place.Place.{Place}
 use Rattle.soap_profile.specs.declared.tree.Element.{Element as CodeElement}

@@ -2,8 +2,8 @@
 use Rattle.std.proofs.Common.{◌≡◌, ℕ, ◌⊎◌, inl, inr, List, Option, Some, None, option_map, IfSome, codes, length, refl, sym, ap, subst, ◌∙◌, arith}
 use Rattle.soap_document.specs.Grammar.{IsWhite}
 use Rattle.soap_profile.specs.Tree.{Element, Parts, none, text, child}
+use Rattle.soap_profile.specs.declared.name.Expanded.{Expanded as Name}
 use Rattle.soap_profile.specs.View.{element_view}
-use Rattle.soap_profile.specs.declared.tree.Name.{Name}
 use Rattle.soap_profile.specs.declared.tree.Element.{Element as CodeElement}
 use Rattle.soap_envelope.specs.Envelope.{soap_name, name_of, IsSpaced, bare, spaced, IsBodyAlone, IsOutline, headless, headed}
 use Rattle.soap_envelope.specs.Steps.{Comes, IsSpacing, IsOther, Follows, BodyFound, Outlined}

@@ -1,5 +1,5 @@
 -- Bytes are at most one envelope.
-use Rattle.std.proofs.Common.{◌≡◌, ℕ, ◌⊎◌, inl, inr, List, [], ◌∷◌, ◌++◌, Bool, true, false, Option, Some, None, Ordering, Less, Equal, Greater, nat_cmp, is_eq, codes, refl, sym, ap, ap₂, subst, ◌∙◌}
+use Rattle.std.proofs.Common.{◌≡◌, ℕ, inl, inr, List, [], ◌∷◌, ◌++◌, Bool, true, false, Option, Some, None, Ordering, Less, Equal, Greater, nat_cmp, is_eq, codes, refl, sym, ap, ap₂, subst, ◌∙◌}
 use Rattle.std.proofs.lemmas.Cmp.{nat_list_cmp_total}
 use Rattle.std.proofs.lemmas.Map.Text.{is_eq-slice_cmp}
 use Rattle.std.proofs.lemmas.Slice.Eq.{bytes_eq-Decides}
@@ -10,14 +10,12 @@ use Rattle.soap_document.proofs.OnlyDocument.{one_tree}
 use Rattle.soap_document.specs.Tree as written
 use Rattle.soap_profile.specs.Document.{Document}
 use Rattle.soap_profile.specs.Namespaces.{bound, resolve}
-use Rattle.soap_profile.specs.Tree.{Binding, Element, element, Parts, child}
-use Rattle.soap_profile.specs.declared.tree.Name.{Name}
-use Rattle.soap_profile.specs.declared.tree.Attr.{Attr}
-use Rattle.soap_envelope.specs.Envelope.{soap_name, soap_space, name_of, decls_of, parts_of, children_of, bytes_within, IsBodyAlone, IsOutline, IsHeader, without, blocks, Envelope, IsEnvelope}
-use Rattle.soap_envelope.specs.Refusals.{IsOtherVersion, IsNoEnvelope, WrongVersion, NotEnvelope}
+use Rattle.soap_profile.specs.Tree.{Binding, Element, element, Parts}
+use Rattle.soap_envelope.specs.Envelope.{soap_name, name_of, decls_of, parts_of, bytes_within, IsBodyAlone, IsOutline, IsHeader, without, blocks, Envelope, IsEnvelope}
+use Rattle.soap_envelope.specs.Refusals.{IsOtherVersion, WrongVersion, NotEnvelope}
 use Rattle.soap_envelope.specs.Scope.{Rises, IsScope}
 use Rattle.soap_envelope.proofs.Outlines.{outline_cases, one_child, not_both}
-use Rattle.soap_envelope.proofs.Scopes.{IsAbove, less_is, less_apart, apart_turned, same_bytes, bound_step, bound_below}
+use Rattle.soap_envelope.proofs.Scopes.{IsAbove, less_is, same_bytes, bound_step, bound_below}
 
 -- ---- scopes
 

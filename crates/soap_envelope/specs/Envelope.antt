@@ -3,9 +3,9 @@ use Rattle.std.specs.Prelude.{◌≡◌, ℕ, ◌-◌, List, [], ◌∷◌, ◌+
 use Rattle.soap_document.specs.Grammar.{IsContent, IsDocument, IsWhite}
 use Rattle.soap_document.specs.Tree as written
 use Rattle.soap_profile.specs.Namespaces.{resolve, resolve_parts}
-use Rattle.soap_profile.specs.declared.tree.Name.{Name}
-use Rattle.soap_profile.specs.declared.tree.Attr.{Attr}
 use Rattle.soap_profile.specs.Tree.{Binding, Element, element, Parts, none, text, child}
+use Rattle.soap_profile.specs.declared.name.Expanded.{Expanded as Name}
+use Rattle.soap_profile.specs.declared.tree.Attr.{Attr}
 use Rattle.soap_envelope.specs.Scope.{IsScope}
 
 -- the namespace of envelopes (5.1)

@@ -1,10 +1,16 @@
 use rm_base::{Bindings, Payload};
-use soap_profile::{Element, Parts};
+use soap_profile::{Element, Item};
 
 /// Elements in order.
 #[derive(Debug, Drop)]
 pub struct Elements {
     pub items: Vec<Element>,
+}
+
+/// The parts of an element among all that it has, in order. What it has beside its parts counts for nothing here.
+#[derive(Debug, Drop)]
+pub struct Parts {
+    pub items: Vec<Item>,
 }
 
 /// An envelope of SOAP 1.2: Part 1, section 5.

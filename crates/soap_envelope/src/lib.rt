@@ -9,7 +9,7 @@ mod outline;
 pub mod read;
 mod scope;
 
-pub use envelope::{Elements, Envelope};
+pub use envelope::{Elements, Envelope, Parts};
 pub use read::read_envelope;
 
 #[cfg(test)]

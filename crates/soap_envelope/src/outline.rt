@@ -1,16 +1,16 @@
 // The parts of an Envelope, taken apart: an optional Header, and a Body.
-ghost use Rattle.std.specs.Prelude.{◌≡◌, ◌↔◌, IsTrue, IfSome, IfOk, Some, option_map, map};
+ghost use Rattle.std.specs.Prelude.{◌≡◌, ◌∷◌, [], ◌++◌, ◌↔◌, IsTrue, IfSome, IfOk, OnOk, Some, option_map, map};
 ghost use Rattle.std.specs.Vec.Iter.{into_iter_items};
 ghost use Rattle.soap_document.specs.Grammar.{IsWhite};
 ghost use Rattle.soap_profile.specs.Tree.{none};
-ghost use Rattle.soap_profile.specs.View.{element_view, parts_view};
+ghost use Rattle.soap_profile.specs.View.{element_view, decls_view, parts_view};
 ghost use Rattle.soap_envelope.specs.Envelope.{IsSpaced, soap_name, name_of, decls_of, parts_of, children_of};
 ghost use Rattle.soap_envelope.specs.Steps.{BodyFound, Comes, Follows, IsSpacing, Outlined};
 
 use crate::envelope::Elements;
-use rm_base::Memory;
+use rm_base::{Binding, Blob, Memory};
 use soap_document::Bytes;
-use soap_profile::{Declarations, Element, Name, Part};
+use soap_profile::{Element, Item, Name};
 use std::alloc::Global;
 use std::vec::IntoIter;
 use xml_chars::is_space;
@@ -18,37 +18,50 @@ use xml_chars::is_space;
 /// The namespace of envelopes: SOAP 1.2 Part 1, section 5.1.
 pub(crate) const SOAP_SPACE: &[u8] = b"http://www.w3.org/2003/05/soap-envelope";
 
-/// An element that is taken apart.
+/// An element that is taken apart: its name, its declarations, and its parts among what it has.
 #[derive(Debug, Drop)]
 pub(crate) struct Opened {
     pub(crate) name: Name,
-    pub(crate) decls: Declarations,
-    pub(crate) parts: Vec<Part>,
+    pub(crate) decls: Vec<Binding>,
+    pub(crate) items: Vec<Item>,
 }
 
-pub(crate) fn taken_apart(element: Element) -> Opened
-    ensures name { result.name ≡ name_of (element_view element) }
-    ensures decls { result.decls ≡ decls_of (element_view element) }
-    ensures parts { parts_view result.parts.items ≡ parts_of (element_view element) }
+pub(crate) fn taken_apart(alloc: Global, element: Element) -> Result<Opened, Memory>
+    ensures name { IfOk result (λ opened. opened.name ≡ name_of (element_view element)) }
+    ensures decls { IfOk result (λ opened. opened.decls.items ≡ decls_of (element_view element)) }
+    ensures parts { IfOk result (λ opened. parts_view opened.items.items ≡ parts_of (element_view element)) }
 {
-    let Element {
-        name,
-        decls,
-        attrs: _,
-        parts,
-    } = element;
-    Opened {
-        name,
-        decls,
-        parts: parts.items,
+    let Element { name, items } = element;
+    let decls = declarations(alloc, items.as_slice())?;
+    Ok(Opened { name, decls, items })
+}
+
+fn declarations(alloc: Global, items: &[Item]) -> Result<Vec<Binding>, Memory>
+    ensures { IfOk result (λ decls. decls.items ≡ decls_view items.now) }
+{
+    let mut decls = Vec::new(alloc);
+    for item in items {
+        declare(alloc, item, &mut decls)?;
     }
+    Ok(decls)
+}
+
+fn declare(alloc: Global, item: &Item, decls: &mut Vec<Binding>) -> Result<(), Memory>
+    ensures { OnOk result (decls.new.items ≡ decls.old.items ++ decls_view (item.now ∷ [])) }
+{
+    if let Item::Declaration(declaration) = item {
+        let prefix = Blob::from_slice(alloc, declaration.prefix.as_slice())?;
+        let space = Blob::from_slice(alloc, declaration.space.as_slice())?;
+        decls.push(Binding { prefix, space })?;
+    }
+    Ok(())
 }
 
 /// The Header and the Body among an Envelope's parts, if they are those of one.
-pub(crate) fn outline(parts: Vec<Part>) -> Option<(Option<Element>, Element)>
-    ensures { Outlined (parts_view parts.items) result }
+pub(crate) fn outline(items: Vec<Item>) -> Option<(Option<Element>, Element)>
+    ensures { Outlined (parts_view items.items) result }
 {
-    let mut parts = parts.into_iter();
+    let mut parts = items.into_iter();
     let Next::Child(first) = next_child(&mut parts) else {
         return None;
     };
@@ -61,7 +74,7 @@ pub(crate) fn outline(parts: Vec<Part>) -> Option<(Option<Element>, Element)>
     None
 }
 
-fn with_header(header: Element, parts: &mut IntoIter<Part>) -> Option<(Option<Element>, Element)>
+fn with_header(header: Element, parts: &mut IntoIter<Item>) -> Option<(Option<Element>, Element)>
     ensures found { IfSome result (λ found. found.0 ≡ Some header) }
     ensures alone { BodyFound (parts_view (into_iter_items parts.old)) (option_map (λ found. found.1) result) }
 {
@@ -75,7 +88,7 @@ fn with_header(header: Element, parts: &mut IntoIter<Part>) -> Option<(Option<El
 }
 
 // nothing is left but white space
-fn is_end(parts: &mut IntoIter<Part>) -> bool
+fn is_end(parts: &mut IntoIter<Item>) -> bool
     ensures { IsTrue result ↔ IsSpaced (parts_view (into_iter_items parts.old)) none }
 {
     match next_child(parts) {
@@ -88,7 +101,7 @@ fn is_end(parts: &mut IntoIter<Part>) -> bool
 fn is_named(element: &Element, local: &[u8]) -> bool
     ensures { IsTrue result ↔ (name_of (element_view element.now) ≡ soap_name local.now) }
 {
-    element.name.local.as_slice() == local && element.name.space.as_slice() == SOAP_SPACE
+    element.name.local() == local && element.name.space() == SOAP_SPACE
 }
 
 // what comes next among parts
@@ -100,7 +113,7 @@ enum Next {
 }
 
 // but white space
-fn next_child(parts: &mut IntoIter<Part>) -> Next
+fn next_child(parts: &mut IntoIter<Item>) -> Next
     ensures { Follows (parts_view (into_iter_items parts.old)) result (parts_view (into_iter_items parts.new)) }
 {
     let next = next_part(parts);
@@ -110,14 +123,18 @@ fn next_child(parts: &mut IntoIter<Part>) -> Next
     next
 }
 
-fn next_part(parts: &mut IntoIter<Part>) -> Next
+fn next_part(parts: &mut IntoIter<Item>) -> Next
     ensures { Comes (parts_view (into_iter_items parts.old)) result (parts_view (into_iter_items parts.new)) }
 {
-    match parts.next() {
-        None => Next::End,
-        Some(Part::Child(child)) => Next::Child(child),
-        Some(Part::Text(text)) => Next::Text(text),
+    while let Some(item) = parts.next() {
+        match item {
+            Item::Child(child) => return Next::Child(child),
+            Item::Text(text) => return Next::Text(text),
+            Item::Declaration(_) => {}
+            Item::Attribute(_) => {}
+        }
     }
+    Next::End
 }
 
 fn is_spacing(next: &Next) -> bool
@@ -135,15 +152,15 @@ fn is_white(bytes: &[u8]) -> bool
     bytes.iter().all(|byte| is_space(*byte))
 }
 
-/// The elements among parts.
-pub(crate) fn children(alloc: Global, parts: Vec<Part>) -> Result<Elements, Memory>
-    ensures { IfOk result (λ children. map element_view children.items.items ≡ children_of (parts_view parts.items)) }
+/// The elements among what an element has.
+pub(crate) fn children(alloc: Global, items: Vec<Item>) -> Result<Elements, Memory>
+    ensures { IfOk result (λ children. map element_view children.items.items ≡ children_of (parts_view items.items)) }
 {
-    let mut items = Vec::new(alloc);
-    for part in parts {
-        if let Part::Child(child) = part {
-            items.push(child)?;
+    let mut children = Vec::new(alloc);
+    for item in items {
+        if let Item::Child(child) = item {
+            children.push(child)?;
         }
     }
-    Ok(Elements { items })
+    Ok(Elements { items: children })
 }

@@ -9,11 +9,11 @@ ghost use Rattle.soap_envelope.specs.Scope.{IsScope};
 ghost use Rattle.soap_envelope.specs.Steps.{Answers};
 ghost use Rattle.soap_envelope.specs.View.{envelope_view};
 
-use crate::envelope::{Elements, Envelope};
+use crate::envelope::{Elements, Envelope, Parts};
 use crate::outline::{Opened, SOAP_SPACE, children, outline, taken_apart};
 use crate::scope::in_force;
 use rm_base::{Binding, Bindings, Blob, Items, Memory, Payload};
-use soap_profile::{Element, EnvelopeError, MAX_LENGTH, Parts, Place, Placed, read_placed};
+use soap_profile::{Element, EnvelopeError, MAX_LENGTH, Place, Placed, read_placed};
 use std::alloc::Global;
 
 /// The envelope that the bytes are.
@@ -50,14 +50,14 @@ fn envelope_in(
     requires { IsPlaced bytes.now (element_view root) last }
     ensures { Answers bytes.now result }
 {
-    let Opened { name, decls, parts } = taken_apart(root);
-    if name.local.as_slice() != b"Envelope".as_slice() {
+    let Opened { name, decls, items } = taken_apart(alloc, root)?;
+    if name.local() != b"Envelope".as_slice() {
         return Err(EnvelopeError::NotEnvelope);
     }
-    if name.space.as_slice() != SOAP_SPACE {
+    if name.space() != SOAP_SPACE {
         return Err(EnvelopeError::WrongVersion);
     }
-    let Some((header, body)) = outline(parts) else {
+    let Some((header, body)) = outline(items) else {
         return Err(EnvelopeError::NotEnvelope);
     };
     let Some(place) = last else { unreachable!() };
@@ -87,10 +87,10 @@ fn blocks(
     let Opened {
         name: _,
         decls,
-        parts,
-    } = taken_apart(header);
+        items,
+    } = taken_apart(alloc, header)?;
     let scope = in_force(alloc, decls.as_slice(), outer)?;
-    Ok((children(alloc, parts)?, scope))
+    Ok((children(alloc, items)?, scope))
 }
 
 // the bytes between Body's tags with the bindings in force there, and what they are
@@ -110,9 +110,9 @@ fn content(
     let Opened {
         name: _,
         decls,
-        parts,
-    } = taken_apart(body);
+        items,
+    } = taken_apart(alloc, body)?;
     let scope = in_force(alloc, decls.as_slice(), outer)?;
     let bytes = Blob::from_slice(alloc, &bytes[place.start..place.end])?;
-    Ok((Payload { bytes, scope }, Parts { items: parts }))
+    Ok((Payload { bytes, scope }, Parts { items }))
 }

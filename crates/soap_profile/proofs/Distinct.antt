@@ -1,7 +1,7 @@
 -- Keys that all differ.
 use Rattle.std.proofs.Common.{◌≡◌, inl, inr, ℕ, ◌+◌, ◌<◌, ◌≤◌, Result, Ok, Err, IfOk, List, [], ◌∷◌, ◌++◌, Bool, true, false, not, ◌&&◌, ◌||◌, cond, map, take, drop, length, get_or, Ordering, Less, Equal, Greater, nat_cmp, is_eq, refl, sym, ap, ap₂, ◌∙◌, drop-cons, arith}
 use Rattle.std.proofs.Math.Numerals.{add-one}
-use Rattle.std.proofs.lemmas.List.{take-append-drop, take_more, take_all}
+use Rattle.std.proofs.lemmas.List.{take-append-drop, take_more, take_all, map-append, append-nil}
 use Rattle.std.specs.Cmp.Lexicographic.{slice_cmp}
 use Rattle.std.specs.List.{list_all, list_any}
 use Rattle.std.specs.Ordering.{ordering_then}
@@ -10,10 +10,17 @@ use Rattle.std.proofs.Math.Bool.{and-true}
 use Rattle.std.proofs.lemmas.Bool.{and_parts, and_from, or_cases, true≢false}
 use Rattle.std.proofs.lemmas.Map.Text.{is_eq-slice_cmp}
 use Rattle.std.proofs.lemmas.Slice.Eq.{bytes_eq-Decides}
-use Rattle.soap_document.specs.declared.attribute.WrittenAttribute.{WrittenAttribute as Attribute}
+use Rattle.soap_document.specs.declared.attribute.WrittenAttribute.{WrittenAttribute}
+use Rattle.soap_profile.proofs.Items.{item_attribute, items_push, attrs-append}
+use Rattle.soap_profile.specs.Items.{Item, a_declaration, an_attribute, a_text, a_child, attrs_among}
 use Rattle.soap_profile.specs.Keys.{Key, Lent, same_key, differ, key_of, keys_of}
-use Rattle.soap_profile.specs.Namespaces.{is_new, are_distinct, is_new_name, are_distinct_names}
-use Rattle.soap_profile.specs.Tree.{Attr, Name}
+use Rattle.soap_profile.specs.Namespaces.{is_new, are_distinct, is_other, is_new_name, are_distinct_names}
+use Rattle.soap_profile.specs.Tree.{Attr, Element, Name}
+use Rattle.soap_profile.specs.View.{item_step, element_step, item_view, element_view, items_view, attrs_view}
+use Rattle.soap_profile.specs.declared.tree.Element.{Element as CodeElement}
+use Rattle.soap_profile.specs.declared.tree.Item.{Item as CodeItem, Item-F, map-Item, fold_out-Item, out-Item, roll-Item, roll-out-Item}
+use Rattle.soap_profile.specs.declared.tree.Item.TheOpen
+use Rattle.soap_profile.specs.declared.tree.Item.TheVariants.{Attribute, rolls-Attribute}
 
 abbrev pub lent_cmp : Lent → Lent → Ordering
 lent_cmp x y = ordering_then (slice_cmp nat_cmp x.0.now y.0.now) (slice_cmp nat_cmp x.1.now y.1.now)
@@ -39,9 +46,6 @@ cmp_same k q =
     then_eq (slice_cmp nat_cmp k.0.now q.0.now) (slice_cmp nat_cmp k.1.now q.1.now)
     ∙ ap₂ (λ x y. x && y) (is_eq-slice_cmp k.0.now q.0.now ∙ turned k.0.now q.0.now) (is_eq-slice_cmp k.1.now
     q.1.now ∙ turned k.1.now q.1.now)
-
-same_turned : (k q : Key) → same_key k q ≡ same_key q k
-same_turned k q = ap₂ (λ x y. x && y) (turned q.0 k.0) (turned q.1 k.1)
 
 -- ---- one key more
 
@@ -94,46 +98,113 @@ differ_not (y ∷ xs) ys x e = elim (or_cases (same_key y x) (list_any (λ k. sa
 
 -- ---- attributes
 
-is_new-keys : (name : List ℕ) (attributes : List Attribute) → is_new name attributes
+is_new-keys : (name : List ℕ) (attributes : List WrittenAttribute) → is_new name attributes
     ≡ list_all (λ o. not (same_key (name, []) o)) (map (λ a. (a.name, [])) attributes)
 is_new-keys name [] = refl
 is_new-keys name (a ∷ attributes) = ap₂ (λ x y. x && y) (ap not (sym (and-true (bytes_eq a.name name))))
     (is_new-keys name attributes)
 
-pub are_distinct-keys : (attributes : List Attribute) → are_distinct attributes
+pub are_distinct-keys : (attributes : List WrittenAttribute) → are_distinct attributes
     ≡ differ (map (λ a. (a.name, [])) attributes)
 are_distinct-keys [] = refl
 are_distinct-keys (a ∷ attributes) = ap₂ (λ x y. x && y) (is_new-keys a.name attributes) (are_distinct-keys attributes)
 
-is_new_name-keys : (name : Name) (attrs : List Attr) → is_new_name name attrs
-    ≡ list_all (λ o. not (same_key (name.local, name.space) o)) (map (λ a. (a.name.local, a.name.space)) attrs)
-is_new_name-keys name [] = refl
-is_new_name-keys name (a ∷ attrs) = ap (λ b. not (bytes_eq a.name.local name.local && bytes_eq a.name.space
-    name.space) && b) (is_new_name-keys name attrs)
+abbrev pub name_key : Attr → Key
+name_key a = (a.name.local, a.name.space)
 
-pub are_distinct_names-keys : (attrs : List Attr) → are_distinct_names attrs
-    ≡ differ (map (λ a. (a.name.local, a.name.space)) attrs)
+is_new_name-keys : (name : Name) (attrs : List Attr) → is_new_name name attrs
+    ≡ list_all (λ o. not (same_key (name.local, name.space) o)) (map name_key attrs)
+is_new_name-keys name [] = refl
+is_new_name-keys name (a ∷ attrs) = ap (λ b. is_other name a && b) (is_new_name-keys name attrs)
+
+pub are_distinct_names-keys : (attrs : List Attr) → are_distinct_names attrs ≡ differ (map name_key attrs)
 are_distinct_names-keys [] = refl
 are_distinct_names-keys (a ∷ attrs) = ap₂ (λ x y. x && y) (is_new_name-keys a.name attrs) (are_distinct_names-keys
     attrs)
 
 -- ---- none, or one alone
 
-pub alone : (attributes : List Attribute) → length attributes < 2 → true ≡ are_distinct attributes
+pub alone : (attributes : List WrittenAttribute) → length attributes < 2 → true ≡ are_distinct attributes
 alone [] h = refl
 alone (a ∷ []) h = refl
 alone (a ∷ b ∷ attributes) h = absurd (omega arith)
 
-pub alone_name : (attrs : List Attr) → length attrs < 2 → true ≡ are_distinct_names attrs
-alone_name [] h = refl
-alone_name (a ∷ []) h = refl
-alone_name (a ∷ b ∷ attrs) h = absurd (omega arith)
+alone_among : (item : Item) → true ≡ are_distinct_names (attrs_among (item ∷ []))
+alone_among (a_declaration b) = refl
+alone_among (an_attribute a) = refl
+alone_among (a_text bytes) = refl
+alone_among (a_child e) = refl
 
--- ---- the keys at places
+pub alone_name : (items : List CodeItem) → length items < 2 → true ≡ are_distinct_names (attrs_view items)
+alone_name [] h = refl
+alone_name (item ∷ []) h = alone_among (item_view item)
+alone_name (item ∷ other ∷ items) h = absurd (omega arith)
+
+-- ---- attributes among items
 
 keys-append : (xs ys : List Lent) → keys_of (xs ++ ys) ≡ keys_of xs ++ keys_of ys
 keys-append [] ys = refl
 keys-append (x ∷ xs) ys = ap (λ (l : List Key). key_of x ∷ l) (keys-append xs ys)
+
+new-more : (name : Name) (item : Item) (items : List Item) → is_new_name name (attrs_among (item ∷ items))
+    ≡ (is_new_name name (attrs_among (item ∷ [])) && is_new_name name (attrs_among items))
+new-more name (a_declaration b) items = refl
+new-more name (an_attribute a) items =
+    ap (λ b. b && is_new_name name (attrs_among items)) (sym (and-true (is_other name a)))
+new-more name (a_text bytes) items = refl
+new-more name (a_child e) items = refl
+
+pub is_new_name-among : (name : Name) (items : List CodeItem)
+    → list_all (λ item. is_new_name name (attrs_view (item ∷ []))) items ≡ is_new_name name (attrs_view items)
+is_new_name-among name [] = refl
+is_new_name-among name (item ∷ items) =
+    ap (λ b. is_new_name name (attrs_view (item ∷ [])) && b) (is_new_name-among name items)
+    ∙ sym (new-more name (item_view item) (items_view items))
+
+attrs_one : (x : CodeItem) (a : Attr) → x ≡ Attribute a → attrs_view (x ∷ []) ≡ a ∷ []
+attrs_one x a e = ap (λ (item : Item). attrs_among (item ∷ [])) (ap item_view e ∙ item_attribute a)
+
+layer_none : (x : CodeItem) (l : Item-F CodeItem CodeElement) → out-Item x ≡ l
+    → ((a : Attr) → x ≡ Attribute a → ⊥)
+    → attrs_among (item_step (map-Item CodeItem CodeElement Item Element item_view element_view l) ∷ []) ≡ []
+layer_none x (TheOpen.Declaration b) e n = refl
+layer_none x (TheOpen.Attribute a) e n =
+    absurd (n a (sym (roll-out-Item x) ∙ ap roll-Item e ∙ rolls-Attribute a))
+layer_none x (TheOpen.Text bytes) e n = refl
+layer_none x (TheOpen.Child child) e n = refl
+
+attrs_none : (x : CodeItem) → ((a : Attr) → x ≡ Attribute a → ⊥) → attrs_view (x ∷ []) ≡ []
+attrs_none x n =
+    ap (λ (item : Item). attrs_among (item ∷ [])) (fold_out-Item Item Element item_step element_step x)
+    ∙ layer_none x (out-Item x) refl n
+
+attrs_more : (items : List CodeItem) (i : ℕ) (d : CodeItem) → i < length items
+    → attrs_view (take (i + 1) items) ≡ attrs_view (take i items) ++ attrs_view (get_or items i d ∷ [])
+attrs_more items i d h =
+    ap attrs_view (take_more items i d h) ∙ ap attrs_among (items_push (take i items) (get_or items i d))
+    ∙ attrs-append (items_view (take i items)) (item_view (get_or items i d) ∷ [])
+
+-- the keys of one item more
+pub keys_attribute : (items : List CodeItem) (i : ℕ) (d : CodeItem) (keys : List Lent) (lent : Lent) (a : Attr)
+    → i < length items → get_or items i d ≡ Attribute a → lent.0.now ≡ a.name.local → lent.1.now ≡ a.name.space
+    → keys_of keys ≡ map name_key (attrs_view (take i items))
+    → keys_of (keys ++ lent ∷ []) ≡ map name_key (attrs_view (take (i + 1) items))
+keys_attribute items i d keys lent a h e l s k =
+    keys-append keys (lent ∷ []) ∙ ap₂ (λ (xs : List Key) (x : Key). xs ++ x ∷ []) k (ap₂ (λ x y. (x, y)) l s)
+    ∙ sym (map-append name_key (attrs_view (take i items)) (a ∷ []))
+    ∙ ap (map name_key) (sym (attrs_more items i d h
+    ∙ ap (λ (xs : List Attr). attrs_view (take i items) ++ xs) (attrs_one (get_or items i d) a e)))
+
+pub keys_other : (items : List CodeItem) (i : ℕ) (d : CodeItem) (keys : List Lent) → i < length items
+    → get_or items i d ≡ d → ((a : Attr) → d ≡ Attribute a → ⊥)
+    → keys_of keys ≡ map name_key (attrs_view (take i items))
+    → keys_of keys ≡ map name_key (attrs_view (take (i + 1) items))
+keys_other items i d keys h e n k =
+    let none = ap (λ (x : CodeItem). attrs_view (x ∷ [])) e ∙ attrs_none d n in
+    k ∙ ap (map name_key) (sym (attrs_more items i d h
+    ∙ ap (λ (xs : List Attr). attrs_view (take i items) ++ xs) none ∙ append-nil (attrs_view (take i items))))
+
+-- ---- the keys at places
 
 around : (keys : List Lent) (i : ℕ) (d : Lent) → i < length keys → keys_of keys
     ≡ keys_of (take i keys) ++ key_of (get_or keys i d) ∷ keys_of (drop (i + 1) keys)

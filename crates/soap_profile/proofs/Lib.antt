@@ -1,9 +1,9 @@
 pub mod Answer
 pub mod Distinct
+pub mod Items
 pub mod Nests
 pub mod Payloads
 pub mod Resolvers
 pub mod Roots
 pub mod Scopes
 pub mod Tags
-pub mod Trees

@@ -1,32 +1,35 @@
 -- What a resolver stands for, by its open elements.
 use Rattle.std.proofs.Common.{◌≡◌, ℕ, List, [], ◌∷◌, ◌++◌, true, false, Option, Some, None, IfSome, option_map, map, reverse, nat_eq, length, refl, sym, ap, subst, ◌∙◌, arith}
 use Rattle.std.proofs.lemmas.Bool.{eqb-true}
-use Rattle.std.proofs.lemmas.List.{map-append, reverse-append}
+use Rattle.std.proofs.lemmas.List.{append-nil, map-append, reverse-append}
 use Rattle.std.specs.Option.{option_to_list}
 use Rattle.soap_document.specs.Machine.{Frame, with_parts}
 use Rattle.soap_document.specs.Tree as written
 use Rattle.soap_document.proofs.Steps.{join-none}
 use Rattle.soap_profile.specs.Document.{place_of}
+use Rattle.soap_profile.specs.Items.{Item, a_declaration, an_attribute, a_text, a_child, decls_among, attrs_among, parts_among}
+use Rattle.soap_profile.specs.Namespaces.{Resolved, resolve_parts}
 use Rattle.soap_profile.specs.Opened as abstract
 use Rattle.soap_profile.specs.Resolving.{Stands, sound, broken, opened_view, nest_view}
-use Rattle.soap_profile.specs.Scope.{InForce, Stacks}
+use Rattle.soap_profile.specs.Scope.{InForce}
 use Rattle.soap_profile.specs.Steps.{join}
-use Rattle.soap_profile.specs.Tree.{Binding, Element, Parts, child, none}
-use Rattle.soap_profile.specs.View.{element_view, parts_view}
+use Rattle.soap_profile.specs.Tree.{Attr, Binding, Element, element, Parts, text, child, none}
+use Rattle.soap_profile.specs.View.{element_view, item_view, items_view, decls_view, attrs_view, parts_view, tag_view}
 use Rattle.soap_profile.specs.declared.place.Place.{Place}
 use Rattle.soap_profile.specs.declared.resolver.Opened.{Opened}
 use Rattle.soap_profile.specs.declared.resolver.Resolver.{Resolver}
-use Rattle.soap_profile.specs.declared.tag.Tag.{Tag}
+use Rattle.soap_profile.specs.declared.scope.Scope.{Scope}
 use Rattle.soap_profile.specs.declared.tree.Element.{Element as CodeElement}
-use Rattle.soap_profile.specs.declared.tree.Part.{Part}
-use Rattle.soap_profile.specs.declared.tree.Part.TheVariants.{Text, Child}
+use Rattle.soap_profile.specs.declared.tree.Item.{Item as CodeItem, Item-F, roll-Item, out-Item, roll-out-Item}
+use Rattle.soap_profile.specs.declared.tree.Item.TheOpen
+use Rattle.soap_profile.specs.declared.tree.Item.TheVariants.{Text, Child, rolls-Declaration, rolls-Attribute, rolls-Text, rolls-Child}
+use Rattle.soap_profile.proofs.Items.{item_declaration, item_attribute, item_text, item_child, element_is, items_push, decls-append, attrs-append, parts-append}
 use Rattle.soap_profile.proofs.Nests.{nest_broken, with_child, with_closed, tree_of, alone, alone-text, alone-child}
-use Rattle.soap_profile.proofs.Trees.{parts-push_text, parts-push_child, parts_some}
 
 -- it has the open elements
 pub record IsSound (r : Resolver) (top : Frame) (below : List Frame) : Type 0 where
   pub bindings : List Binding
-  pub within : InForce r.scope.stacks bindings
+  pub within : InForce r.scope bindings
   pub is : abstract.nest top below ≡ Some (nest_view r bindings)
 
 pub sound_is : (r : Resolver) (top : Frame) (below : List Frame) → Stands r top below → r.broken ≡ false
@@ -42,6 +45,41 @@ broken_is r top below (broken c e) b = e
 pub still_broken : (r : Resolver) (top : Frame) (below : List Frame) (more : written.Parts) → r.broken ≡ true
     → Stands r top below → Stands r (with_parts top more) below
 still_broken r top below more b h = broken b (nest_broken top below more (broken_is r top below h b))
+
+-- ---- one item more
+
+pushed : (old new : List CodeItem) (item : CodeItem) (seen : Item) → new ≡ old ++ item ∷ [] → item_view item
+    ≡ seen → items_view new ≡ items_view old ++ seen ∷ []
+pushed old new item seen e s =
+    ap items_view e ∙ items_push old item ∙ ap (λ (i : Item). items_view old ++ i ∷ []) s
+
+-- these parts more, and nothing else
+pub record Grows (old new : List CodeItem) (more : Parts) : Type 0 where
+  pub decls : decls_view new ≡ decls_view old
+  pub attrs : attrs_view new ≡ attrs_view old
+  pub parts : parts_view new ≡ join (parts_view old) more
+
+pub grows_text : (old new : List CodeItem) (bytes : List ℕ) → new ≡ old ++ Text bytes ∷ []
+    → Grows old new (text bytes none)
+grows_text old new bytes e =
+    let seen = a_text bytes in
+    let p = pushed old new (Text bytes) seen e (item_text bytes) in
+    record {
+      decls = ap decls_among p ∙ decls-append (items_view old) (seen ∷ []) ∙ append-nil (decls_view old);
+      attrs = ap attrs_among p ∙ attrs-append (items_view old) (seen ∷ []) ∙ append-nil (attrs_view old);
+      parts = ap parts_among p ∙ parts-append (items_view old) (seen ∷ []);
+    }
+
+pub grows_child : (old new : List CodeItem) (e : CodeElement) → new ≡ old ++ Child e ∷ []
+    → Grows old new (child (element_view e) none)
+grows_child old new e h =
+    let seen = a_child (element_view e) in
+    let p = pushed old new (Child e) seen h (item_child e) in
+    record {
+      decls = ap decls_among p ∙ decls-append (items_view old) (seen ∷ []) ∙ append-nil (decls_view old);
+      attrs = ap attrs_among p ∙ attrs-append (items_view old) (seen ∷ []) ∙ append-nil (attrs_view old);
+      parts = ap parts_among p ∙ parts-append (items_view old) (seen ∷ []);
+    }
 
 -- ---- the elements around the innermost
 
@@ -71,10 +109,42 @@ text_some (b ∷ bytes) e = refl
 
 -- ---- tags
 
-pub entered : (found : Option Tag) (tag : Tag) (stacks : Stacks) (bindings : List Binding) → found ≡ Some tag
-    → IfSome found (λ tag. InForce stacks (tag.decls ++ bindings)) → InForce stacks (tag.decls ++ bindings)
-entered found tag stacks bindings e h =
-    subst (λ (o : Option Tag). IfSome o (λ tag. InForce stacks (tag.decls ++ bindings))) e h
+abbrev tag_in : Element → Resolved
+tag_in (element name decls attrs parts) = record { name = name; decls = decls; attrs = attrs }
+
+abbrev parts_in : Element → Parts
+parts_in (element name decls attrs parts) = parts
+
+-- the element has this tag, and no parts
+pub record IsTagged (found : Option Resolved) (e : CodeElement) : Type 0 where
+  pub tag : found ≡ Some (tag_view e)
+  pub parts : parts_view e.items.items ≡ none
+  pub tree : element_view e ≡ abstract.start_tag (tag_view e)
+
+tagged_so : (tag : Resolved) (e : CodeElement) → element_view e ≡ abstract.start_tag tag → IsTagged (Some tag) e
+tagged_so tag e h =
+    let is : element e.name (decls_view e.items.items) (attrs_view e.items.items) (parts_view e.items.items)
+    ≡ abstract.start_tag tag = sym (element_is e) ∙ h in
+    let same : tag ≡ tag_view e = sym (ap tag_in is) in
+    record { tag = ap Some same; parts = ap parts_in is; tree = h ∙ ap abstract.start_tag same }
+
+pub tagged : (tag : Option Resolved) (found : Option CodeElement) (e : CodeElement)
+    → option_map element_view found ≡ option_map abstract.start_tag tag → found ≡ Some e → IsTagged tag e
+tagged None found e h f = absurd (let wrong = sym h ∙ ap (option_map element_view) f in cc)
+tagged (Some tag) found e h f =
+    let is : Some (element_view e) ≡ Some (abstract.start_tag tag) = sym (ap (option_map element_view) f) ∙ h in
+    tagged_so tag e (cc)
+
+pub untagged : (tag : Option Resolved) (found : Option CodeElement)
+    → option_map element_view found ≡ option_map abstract.start_tag tag → found ≡ None → tag ≡ None
+untagged None found h f = refl
+untagged (Some tag) found h f = absurd (let wrong = sym (ap (option_map element_view) f) ∙ h in cc)
+
+pub entered : (found : Option CodeElement) (e : CodeElement) (scope : Scope) (bindings : List Binding) → found ≡ Some e
+    → IfSome found (λ e. InForce scope (decls_view e.items.items ++ bindings))
+    → InForce scope (decls_view e.items.items ++ bindings)
+entered found e scope bindings f h =
+    subst (λ (o : Option CodeElement). IfSome o (λ e. InForce scope (decls_view e.items.items ++ bindings))) f h
 
 pub child_added : (n : abstract.Nest) (raw : written.Element) (tree made : Element) (new : abstract.Opened)
     → made ≡ tree → new ≡ (record n.top {
@@ -100,28 +170,87 @@ child_closed n end top inner outer replaced new made below i r b m e =
 
 -- ---- the root
 
-popped_is : (old new : List Part) (r : Option Part) (x : Part) → old ≡ new ++ option_to_list r → r ≡ Some x
-    → old ≡ new ++ x ∷ []
-popped_is old new r x e s = e ∙ ap (λ (o : Option Part). new ++ option_to_list o) s
+-- the document itself has neither declarations nor attributes
+pub record IsUntagged (items : List CodeItem) : Type 0 where
+  pub decls : decls_view items ≡ []
+  pub attrs : attrs_view items ≡ []
 
-pub text_last : (old new : List Part) (r : Option Part) (bytes : List ℕ) (place last : Option Place) → old
-    ≡ new ++ option_to_list r → r ≡ Some (Text bytes) → alone (parts_view old) place last ≡ None
-text_last old new r bytes place last e s =
-    ap (λ (ps : Parts). alone ps place last) (ap parts_view (popped_is old new r (Text bytes) e s)
-    ∙ parts-push_text new bytes)
+document_top : (top : Frame) (o : Option Parts) (n : abstract.Nest)
+    → option_map (λ (parts : Parts). record {
+      scope = [];
+      top = abstract.opened top abstract.no_tag parts;
+      below = [];
+    }) o ≡ Some n → n.top.tag ≡ abstract.no_tag
+document_top top None n e = absurd (cc)
+document_top top (Some parts) n e =
+    let is : record { scope = []; top = abstract.opened top abstract.no_tag parts; below = [] } ≡ n = cc in
+    sym (ap (λ (n : abstract.Nest). n.top.tag) is)
+
+pub document_untagged : (r : Resolver) (top : Frame) (bindings : List Binding)
+    → abstract.nest top [] ≡ Some (nest_view r bindings) → IsUntagged r.top.element.items.items
+document_untagged r top bindings e =
+    let none = document_top top (resolve_parts [] top.parts) (nest_view r bindings) e in
+    record { decls = ap (λ (t : Resolved). t.decls) none; attrs = ap (λ (t : Resolved). t.attrs) none }
+
+last_is : (old new : List CodeItem) (r : Option CodeItem) (x : CodeItem) → old ≡ new ++ option_to_list r → r ≡ Some x
+    → old ≡ new ++ x ∷ []
+last_is old new r x e s = e ∙ ap (λ (o : Option CodeItem). new ++ option_to_list o) s
+
+-- an item that is no element
+data IsOther (x : CodeItem) : Type 0 where
+  is_declaration : (b : Binding) → item_view x ≡ a_declaration b → IsOther x
+  is_attribute : (a : Attr) → item_view x ≡ an_attribute a → IsOther x
+  is_text : (bytes : List ℕ) → item_view x ≡ a_text bytes → IsOther x
+
+layer_other : (l : Item-F CodeItem CodeElement) (x : CodeItem) → roll-Item l ≡ x → ((e : CodeElement) → x ≡ Child e → ⊥)
+    → IsOther x
+layer_other (TheOpen.Declaration b) x e h =
+    is_declaration b (ap item_view (sym e ∙ rolls-Declaration b) ∙ item_declaration b)
+layer_other (TheOpen.Attribute a) x e h =
+    is_attribute a (ap item_view (sym e ∙ rolls-Attribute a) ∙ item_attribute a)
+layer_other (TheOpen.Text bytes) x e h = is_text bytes (ap item_view (sym e ∙ rolls-Text bytes) ∙ item_text bytes)
+layer_other (TheOpen.Child tree) x e h = absurd (h tree (sym e ∙ rolls-Child tree))
+
+some_more : {A : Type 0} (xs : List A) (x : A) → xs ++ x ∷ [] ≡ [] → ⊥
+some_more [] x e = cc
+some_more (y ∷ xs) x e = cc
+
+other_last : (old new : List CodeItem) (x : CodeItem) (place last : Option Place) → old ≡ new ++ x ∷ [] → IsOther x
+    → IsUntagged old → alone (parts_view old) place last ≡ None
+other_last old new x place last e (is_declaration b s) u =
+    absurd (some_more (decls_view new) b (sym (decls-append (items_view new) (a_declaration b ∷ []))
+    ∙ ap decls_among (sym (pushed new old x (a_declaration b) e s)) ∙ u.decls))
+other_last old new x place last e (is_attribute a s) u =
+    absurd (some_more (attrs_view new) a (sym (attrs-append (items_view new) (an_attribute a ∷ []))
+    ∙ ap attrs_among (sym (pushed new old x (an_attribute a) e s)) ∙ u.attrs))
+other_last old new x place last e (is_text bytes s) u =
+    ap (λ (ps : Parts). alone ps place last) (ap parts_among (pushed new old x (a_text bytes) e s)
+    ∙ parts-append (items_view new) (a_text bytes ∷ []))
     ∙ alone-text (parts_view new) bytes place last
 
-child_last : (old new : List Part) (r : Option Part) (tree : CodeElement) → old ≡ new ++ option_to_list r → r
-    ≡ Some (Child tree) → parts_view old ≡ join (parts_view new) (child (element_view tree) none)
-child_last old new r tree e s = ap parts_view (popped_is old new r (Child tree) e s) ∙ parts-push_child new tree
-
-some_parts : (parts : List Part) → nat_eq (length parts) 0 ≡ false → parts_view parts ≡ none → ⊥
-some_parts [] e n = cc
-some_parts (x ∷ xs) e n = parts_some x xs n
-
-pub child_more : (old new : List Part) (r : Option Part) (tree : CodeElement) (place last : Option Place) → old
-    ≡ new ++ option_to_list r → r ≡ Some (Child tree) → nat_eq (length new) 0 ≡ false
+pub not_child : (old new : List CodeItem) (r : Option CodeItem) (x : CodeItem) (place last : Option Place) → old
+    ≡ new ++ option_to_list r → r ≡ Some x → ((e : CodeElement) → x ≡ Child e → ⊥) → IsUntagged old
     → alone (parts_view old) place last ≡ None
-child_more old new r tree place last e s n =
-    ap (λ (ps : Parts). alone ps place last) (child_last old new r tree e s)
-    ∙ alone-child (parts_view new) (element_view tree) place last (some_parts new n)
+not_child old new r x place last e s h u =
+    other_last old new x place last (last_is old new r x e s) (layer_other (out-Item x) x (roll-out-Item x) h) u
+
+nothing_among : (items : List Item) → decls_among items ≡ [] → attrs_among items ≡ [] → parts_among items ≡ none → items
+    ≡ []
+nothing_among [] d a p = refl
+nothing_among (a_declaration b ∷ items) d a p = absurd (cc)
+nothing_among (an_attribute x ∷ items) d a p = absurd (cc)
+nothing_among (a_text bytes ∷ items) d a p = absurd (cc)
+nothing_among (a_child e ∷ items) d a p = absurd (cc)
+
+some_parts : (items : List CodeItem) → nat_eq (length items) 0 ≡ false → IsUntagged items → parts_view items ≡ none → ⊥
+some_parts [] n u p = cc
+some_parts (x ∷ xs) n u p = let wrong = nothing_among (items_view (x ∷ xs)) u.decls u.attrs p in cc
+
+pub child_more : (old new : List CodeItem) (r : Option CodeItem) (tree : CodeElement) (place last : Option Place) → old
+    ≡ new ++ option_to_list r → r ≡ Some (Child tree) → nat_eq (length new) 0 ≡ false → IsUntagged old
+    → alone (parts_view old) place last ≡ None
+child_more old new r tree place last e s n u =
+    let grows = grows_child new old tree (last_is old new r (Child tree) e s) in
+    let inner : IsUntagged new = record { decls = sym grows.decls ∙ u.decls; attrs = sym grows.attrs ∙ u.attrs } in
+    ap (λ (ps : Parts). alone ps place last) grows.parts
+    ∙ alone-child (parts_view new) (element_view tree) place last (some_parts new n inner)

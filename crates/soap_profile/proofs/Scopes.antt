@@ -1,7 +1,8 @@
 -- The stacks of spaces after a change at one prefix, and the bindings that they then have.
-use Rattle.std.proofs.Common.{◌≡◌, ℕ, ◌+◌, ◌-◌, ◌<◌, suc, List, [], ◌∷◌, ◌++◌, Bool, true, false, cond, Option, Some, IsSome, length, take, drop, get_or, refl, sym, ap, subst, ◌∙◌, arith, length-append, drop-cons, if◌then◌else◌, slice_get, Bor, MutBor}
+use Rattle.std.proofs.Common.{◌≡◌, ◌≢◌, ℕ, ◌+◌, ◌-◌, ◌<◌, ◌≤◌, suc, List, [], ◌∷◌, ◌++◌, Bool, true, false, cond, IsTrue, Option, Some, IsSome, length, take, drop, get_or, refl, sym, ap, subst, ◌∙◌, arith, length-append, drop-cons, if◌then◌else◌, slice_get, Bor, MutBor}
 use Rattle.std.proofs.Math.Numerals.{add-one}
 use Rattle.std.proofs.Math.Seq.{take-append_seam, get_or-append_seam}
+use Rattle.std.proofs.lemmas.List.{append_assoc, drop_all}
 use Rattle.std.proofs.lemmas.Option.{slice_get-get_or}
 use Rattle.std.proofs.lemmas.Map.Text.{is_eq-slice_cmp}
 use Rattle.std.proofs.lemmas.Slice.Eq.{bytes_eq-Decides}
@@ -15,9 +16,14 @@ use Rattle.std.specs.declared.cmp.Ordering.{Ordering}
 use Rattle.std.specs.Str.{bytes_eq}
 use Rattle.std.specs.declared.vec.Vec.{Vec}
 use Rattle.std.specs.declared.alloc.Global.{Global}
+use Rattle.soap_profile.specs.Items.{Item, decls_among}
 use Rattle.soap_profile.specs.Namespaces.{bound}
-use Rattle.soap_profile.specs.Scope.{Stacks, stack_at, last_of, stacked, InForce}
+use Rattle.soap_profile.specs.Scope.{Stacks, stack_at, last_of, stacked, IsStacked}
 use Rattle.soap_profile.specs.Tree.{Binding}
+use Rattle.soap_profile.specs.View.{item_view, items_view, decls_view}
+use Rattle.soap_profile.specs.declared.tree.Item.{Item as CodeItem}
+use Rattle.soap_profile.specs.declared.tree.Item.TheVariants.{Declaration}
+use Rattle.soap_profile.proofs.Items.{item_declaration, decls-append}
 
 -- ---- bytes that are equal, or not
 
@@ -147,40 +153,69 @@ last-stacked prefix [] = refl
 last-stacked prefix (b ∷ bindings) = last_with prefix b bindings (bytes_eq b.prefix prefix) refl (last-stacked prefix
     bindings)
 
--- ---- bindings one more, and one less
+-- ---- the declarations among items
 
-pub drop_at : {A : Type 0} (xs : List A) (i : ℕ) (x : A) → i < length xs → x ≡ get_or xs i x
+drop_at : {A : Type 0} (xs : List A) (i : ℕ) (x : A) → i < length xs → x ≡ get_or xs i x
     → drop i xs ≡ x ∷ drop (i + 1) xs
 drop_at xs i x h e = rw add-one (drop-cons xs i x h ∙ ap (λ y. y ∷ drop (suc i) xs) (sym e))
 
-pub InForce-push : (m n : Stacks) (b : Binding) (bindings : List Binding)
-    → InForce m bindings
+pub declared : (item : CodeItem) (d : Binding) → item ≡ Declaration d → decls_view (item ∷ []) ≡ d ∷ []
+declared item d e =
+    ap (λ (x : CodeItem). decls_view (x ∷ [])) e
+    ∙ ap (λ (x : Item). decls_among (x ∷ [])) (item_declaration d)
+
+pub decls-cons : (item : CodeItem) (items : List CodeItem) (bindings : List Binding)
+    → decls_view (item ∷ items) ++ bindings ≡ decls_view (item ∷ []) ++ (decls_view items ++ bindings)
+decls-cons item items bindings =
+    ap (λ (ds : List Binding). ds ++ bindings) (decls-append (item_view item ∷ []) (items_view items))
+    ∙ append_assoc (decls_view (item ∷ [])) (decls_view items) bindings
+
+pub decls_at : (items : List CodeItem) (i : ℕ) (item : CodeItem) (bindings : List Binding)
+    → i < length items → item ≡ get_or items i item
+    → decls_view (drop i items) ++ bindings
+    ≡ decls_view (item ∷ []) ++ (decls_view (drop (i + 1) items) ++ bindings)
+decls_at items i item bindings h e =
+    ap (λ (xs : List CodeItem). decls_view xs ++ bindings) (drop_at items i item h e)
+    ∙ decls-cons item (drop (i + 1) items) bindings
+
+pub decls_past : (items : List CodeItem) (i : ℕ) (bindings : List Binding) → length items ≤ i
+    → decls_view (drop i items) ++ bindings ≡ bindings
+decls_past items i bindings h = ap (λ (xs : List CodeItem). decls_view xs ++ bindings) (drop_all i items h)
+
+pub none_declared : (ds : List Binding) (declares : Bool) → (ds ≢ [] → IsTrue declares) → declares ≡ false → ds ≡ []
+none_declared [] declares h e = refl
+none_declared (d ∷ ds) declares h e = let t : declares ≡ true = h (λ some. cc) in cc
+
+-- ---- bindings one more, and one less
+
+pub IsStacked-push : (m n : Stacks) (b : Binding) (bindings : List Binding)
+    → IsStacked m bindings
     → ((cs : List ℕ)
     → stack_at n cs ≡ (if bytes_eq b.prefix cs then stack_at m cs ++ b.space ∷ [] else stack_at m cs))
-    → InForce n (b ∷ bindings)
-InForce-push m n b bindings h pushed = record {
+    → IsStacked n (b ∷ bindings)
+IsStacked-push m n b bindings h pushed = record {
   each = λ cs. pushed cs ∙ ap (λ (xs : List (List ℕ)). if bytes_eq b.prefix cs then xs ++ b.space ∷ []
       else xs) (h.each cs);
 }
 
 -- the stack of the prefix, and what is left of it
 pub stacked_here : (m : Stacks) (b : Binding) (bindings : List Binding)
-    → InForce m (b ∷ bindings) → stack_at m b.prefix ≡ stacked b.prefix bindings ++ b.space ∷ []
+    → IsStacked m (b ∷ bindings) → stack_at m b.prefix ≡ stacked b.prefix bindings ++ b.space ∷ []
 stacked_here m b bindings h =
     h.each b.prefix ∙ ap (λ (s : Bool). if s then stacked b.prefix bindings ++ b.space ∷ [] else stacked b.prefix
     bindings) (itself b.prefix)
 
 left_at : (m : Stacks) (b : Binding) (bindings : List Binding) (cs : List ℕ) (s : Bool)
-    → bytes_eq b.prefix cs ≡ s → InForce m (b ∷ bindings)
+    → bytes_eq b.prefix cs ≡ s → IsStacked m (b ∷ bindings)
     → (if s then stacked b.prefix bindings else stack_at m cs) ≡ stacked cs bindings
 left_at m b bindings cs true e h = ap (λ (q : List ℕ). stacked q bindings) (same_bytes b.prefix cs e)
 left_at m b bindings cs false e h =
     h.each cs ∙ ap (λ (s : Bool). if s then stacked cs bindings ++ b.space ∷ [] else stacked cs bindings) e
 
-pub InForce-pop : (m n : Stacks) (b : Binding) (bindings : List Binding)
-    → InForce m (b ∷ bindings)
+pub IsStacked-pop : (m n : Stacks) (b : Binding) (bindings : List Binding)
+    → IsStacked m (b ∷ bindings)
     → ((cs : List ℕ) → stack_at n cs ≡ (if bytes_eq b.prefix cs then stacked b.prefix bindings else stack_at m cs))
-    → InForce n bindings
-InForce-pop m n b bindings h popped = record {
+    → IsStacked n bindings
+IsStacked-pop m n b bindings h popped = record {
   each = λ cs. popped cs ∙ left_at m b bindings cs (bytes_eq b.prefix cs) refl h;
 }

@@ -1,8 +1,10 @@
 pub mod Document
+pub mod Items
 pub mod Keys
 pub mod Namespaces
-pub mod Payload
 pub mod Opened
+pub mod Payload
+pub mod Pool
 pub mod Resolving
 pub mod Scope
 pub mod Steps

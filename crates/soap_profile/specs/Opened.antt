@@ -4,7 +4,7 @@ use Rattle.soap_document.specs.Machine.{Frame}
 use Rattle.soap_document.specs.Tree as written
 use Rattle.soap_profile.specs.Document.{place_of}
 use Rattle.soap_profile.specs.Namespaces.{Resolved, tag_of, resolve, resolve_parts}
-use Rattle.soap_profile.specs.Tree.{Binding, Element, Parts}
+use Rattle.soap_profile.specs.Tree.{Binding, Element, element, Parts, none}
 use Rattle.soap_profile.specs.declared.place.Place.{Place}
 
 -- an open element: its tag, where its content begins, its parts so far, the place of the last element among these, and
@@ -21,6 +21,10 @@ pub record Nest : Type 0 where
   pub scope : List Binding
   pub top : Opened
   pub below : List Opened
+
+-- an element without parts
+abbrev pub start_tag : Resolved → Element
+start_tag tag = element tag.name tag.decls tag.attrs none
 
 -- the document itself has no tag
 abbrev pub no_tag : Resolved

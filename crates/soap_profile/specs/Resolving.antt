@@ -11,9 +11,9 @@ use Rattle.soap_profile.specs.declared.resolver.Root.{Root}
 
 abbrev pub opened_view : Opened → abstract.Opened
 opened_view o = record {
-  tag = tag_view o.tag;
+  tag = tag_view o.element;
   start = o.start;
-  parts = parts_view o.parts.items;
+  parts = parts_view o.element.items.items;
   last = o.last;
   inner = o.inner;
 }
@@ -31,6 +31,6 @@ root_view r = record { tree = element_view r.tree; place = r.place; last = r.las
 
 -- it has the open elements, or a rule was broken
 pub data Stands (r : Resolver) (top : Frame) (below : List Frame) : Type 0 where
-  sound : (bindings : List Binding) → r.broken ≡ false → InForce r.scope.stacks bindings
+  sound : (bindings : List Binding) → r.broken ≡ false → InForce r.scope bindings
       → abstract.nest top below ≡ Some (nest_view r bindings) → Stands r top below
   broken : r.broken ≡ true → abstract.nest top below ≡ None → Stands r top below

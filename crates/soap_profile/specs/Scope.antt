@@ -7,7 +7,10 @@ use Rattle.std.specs.Cmp.Lexicographic.{slice_cmp}
 use Rattle.std.specs.BTreeMap.{BTreeMap, get_by}
 use Rattle.std.specs.declared.vec.Vec.{Vec}
 use Rattle.std.specs.declared.alloc.Global.{Global}
+use Rattle.soap_profile.specs.Namespaces.{element_name, attribute_name}
+use Rattle.soap_profile.specs.Pool.{Knows}
 use Rattle.soap_profile.specs.Tree.{Binding}
+use Rattle.soap_profile.specs.declared.scope.Scope.{Scope}
 
 abbrev pub Stacks : Type 0
 Stacks = BTreeMap (Vec ℕ Global) (Vec (List ℕ) Global)
@@ -27,5 +30,11 @@ stacked prefix (b ∷ bindings) =
     if bytes_eq b.prefix prefix then stacked prefix bindings ++ b.space ∷ [] else stacked prefix bindings
 
 -- the bindings are those that the stacks have
-pub record InForce (stacks : Stacks) (bindings : List Binding) : Type 0 where
+pub record IsStacked (stacks : Stacks) (bindings : List Binding) : Type 0 where
   pub each : (prefix : List ℕ) → stack_at stacks prefix ≡ stacked prefix bindings
+
+-- names are resolved by these bindings, those that are known too
+pub record InForce (scope : Scope) (bindings : List Binding) : Type 0 where
+  pub stacks : IsStacked scope.stacks bindings
+  pub elements : Knows (element_name bindings) scope.elements
+  pub attributes : Knows (attribute_name bindings) scope.attributes

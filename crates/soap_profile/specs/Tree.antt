@@ -3,7 +3,7 @@ use Rattle.std.specs.Prelude.{ℕ, List, []}
 -- a prefix, which is empty for the default namespace, and what it is bound to
 pub use Rattle.rm_base.specs.declared.message.Binding.{Binding}
 -- a namespace, empty where there is none, and a local name
-pub use Rattle.soap_profile.specs.declared.tree.Name.{Name}
+pub use Rattle.soap_profile.specs.declared.name.Expanded.{Expanded as Name}
 -- an expanded name and a value
 pub use Rattle.soap_profile.specs.declared.tree.Attr.{Attr}
 

@@ -1,37 +1,40 @@
 -- The tree that an element stands for.
-use Rattle.std.specs.Prelude.{List, [], ◌∷◌, map}
+use Rattle.std.specs.Prelude.{List, map}
+use Rattle.soap_profile.specs.Items.{Item, a_declaration, an_attribute, a_text, a_child, decls_among, attrs_among, parts_among}
 use Rattle.soap_profile.specs.Namespaces.{Resolved}
-use Rattle.soap_profile.specs.declared.tag.Tag.{Tag}
-use Rattle.soap_profile.specs.Tree.{Element, element, Parts, none, text, child}
+use Rattle.soap_profile.specs.Tree.{Attr, Binding, Element, element, Parts}
 use Rattle.soap_profile.specs.declared.tree.Element.{Element as CodeElement, Element-F, fold-Element}
-use Rattle.soap_profile.specs.declared.tree.Part.{Part, Part-F, fold-Part}
-use Rattle.soap_profile.specs.declared.tree.Part.TheOpen
-use Rattle.soap_profile.specs.declared.tree.Parts.{Parts-F}
+use Rattle.soap_profile.specs.declared.tree.Item.{Item as CodeItem, Item-F, fold-Item}
+use Rattle.soap_profile.specs.declared.tree.Item.TheOpen
 
--- parts, each of which goes before others
-abbrev pub gather : List (Parts → Parts) → Parts
-gather [] = none
-gather (part ∷ parts) = part (gather parts)
+-- one level, with each item inside already seen so
+abbrev pub item_step : Item-F Item Element → Item
+item_step (TheOpen.Item-F.Declaration declaration) = a_declaration declaration
+item_step (TheOpen.Item-F.Attribute attribute) = an_attribute attribute
+item_step (TheOpen.Item-F.Text bytes) = a_text bytes
+item_step (TheOpen.Item-F.Child tree) = a_child tree
 
--- one level, with each part inside already seen as its tree
-abbrev pub part_step : Part-F (Parts → Parts) Element Parts → Parts → Parts
-part_step (TheOpen.Part-F.Text bytes) = text bytes
-part_step (TheOpen.Part-F.Child tree) = child tree
+abbrev pub element_step : Element-F Item Element → Element
+element_step e =
+    element e.name (decls_among e.items.items) (attrs_among e.items.items) (parts_among e.items.items)
 
-abbrev pub element_step : Element-F (Parts → Parts) Element Parts → Element
-element_step e = element e.name e.decls e.attrs e.parts
-
-abbrev pub parts_step : Parts-F (Parts → Parts) Element Parts → Parts
-parts_step p = gather p.items.items
-
-abbrev pub part_view : Part → Parts → Parts
-part_view = fold-Part (Parts → Parts) Element Parts part_step element_step parts_step
+abbrev pub item_view : CodeItem → Item
+item_view = fold-Item Item Element item_step element_step
 
 abbrev pub element_view : CodeElement → Element
-element_view = fold-Element (Parts → Parts) Element Parts part_step element_step parts_step
+element_view = fold-Element Item Element item_step element_step
 
-abbrev pub parts_view : List Part → Parts
-parts_view parts = gather (map part_view parts)
+abbrev pub items_view : List CodeItem → List Item
+items_view items = map item_view items
 
-abbrev pub tag_view : Tag → Resolved
-tag_view t = record { name = t.name; decls = t.decls; attrs = t.attrs }
+abbrev pub decls_view : List CodeItem → List Binding
+decls_view items = decls_among (items_view items)
+
+abbrev pub attrs_view : List CodeItem → List Attr
+attrs_view items = attrs_among (items_view items)
+
+abbrev pub parts_view : List CodeItem → Parts
+parts_view items = parts_among (items_view items)
+
+abbrev pub tag_view : CodeElement → Resolved
+tag_view e = record { name = e.name; decls = decls_view e.items.items; attrs = attrs_view e.items.items }

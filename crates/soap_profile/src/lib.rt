@@ -4,8 +4,8 @@
 #![tactic(auto)]
 
 pub mod error;
-pub mod few;
 mod keys;
+pub mod name;
 mod names;
 pub mod payload;
 pub mod place;
@@ -18,15 +18,16 @@ mod stacks;
 mod stripped;
 mod tag;
 pub mod tree;
+mod undeclared;
 
 pub use error::EnvelopeError;
-pub use few::Few;
+pub use name::Name;
 pub use payload::{MAX_PAYLOAD_DEPTH, check_payload};
 pub use place::Place;
 pub use read::{MAX_LENGTH, Placed, read_element, read_placed};
 pub use shared::Shared;
 pub use stripped::strip;
-pub use tree::{Attr, Attrs, Declarations, Element, Name, Part, Parts};
+pub use tree::{Attr, Declaration, Element, Item};
 
 #[cfg(test)]
 mod tests;

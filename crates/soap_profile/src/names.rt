@@ -1,5 +1,6 @@
 // Names, declarations and attributes of a start tag.
-ghost use Rattle.std.specs.Prelude.{◌≡◌, ℕ, List, [], IsTrue, IfOk, IfSome, Some, option_map};
+ghost use Rattle.std.specs.Prelude.{◌≡◌, ℕ, List, [], ◌∷◌, ◌++◌, if◌then◌else◌, IfOk, OnOk, Some, None, map, option_map};
+ghost use Rattle.soap_profile.specs.Items.{a_declaration, an_attribute};
 ghost use Rattle.soap_profile.specs.Namespaces.{
   split as split_of,
   declared_prefix as declared_by,
@@ -16,17 +17,18 @@ ghost use Rattle.soap_profile.specs.Namespaces.{
   is_new as new_test,
   is_new_name as new_name_test,
 };
-ghost use Rattle.soap_profile.specs.Scope.{InForce};
+ghost use Rattle.soap_profile.specs.Scope.{InForce, IsStacked};
 ghost use Rattle.soap_profile.specs.Steps.{Declares, Expands};
 ghost use Rattle.soap_profile.specs.Tree.{Binding as Bound};
+ghost use Rattle.soap_profile.specs.View.{items_view, decls_view, attrs_view};
 
-use crate::few::Few;
 use crate::keys::all_differ;
+use crate::name::Name;
 use crate::scope::Scope;
 use crate::shared::Shared;
-use crate::tree::{Attr, Attrs, Declarations, Name};
-use rm_base::{Binding, Blob, Items, Memory};
-use soap_document::{WrittenAttribute, cut};
+use crate::tree::{Attr, Declaration, Item};
+use rm_base::Memory;
+use soap_document::{Bytes, WrittenAttribute, cut};
 use std::alloc::Global;
 
 pub(crate) const XML_SPACE: &[u8] = b"http://www.w3.org/XML/1998/namespace";
@@ -76,29 +78,31 @@ fn may_bind(prefix: &[u8], space: &[u8]) -> bool
         && (prefix.is_empty() || (!space.is_empty() && prefix != b"xmlns".as_slice()))
 }
 
-/// The declarations among attributes; none where one may not stand.
+/// Appends the declarations among attributes; whether each of them may stand.
 pub(crate) fn declarations(
     alloc: Global,
     attributes: &[WrittenAttribute],
-) -> Result<Option<Declarations>, Memory>
-    ensures { IfOk result (λ found. found ≡ declarations_of attributes.now) }
+    items: &mut Vec<Item>,
+) -> Result<bool, Memory>
+    ensures { IfOk result (λ taken.
+        option_map (λ decls. items_view items.old.items ++ map a_declaration decls) (declarations_of attributes.now)
+        ≡ (if taken then Some (items_view items.new.items) else None)) }
 {
-    let mut decls = Vec::new(alloc);
     for attribute in attributes {
-        if !declare(alloc, attribute, &mut decls)? {
-            return Ok(None);
+        if !declare(alloc, attribute, items)? {
+            return Ok(false);
         }
     }
-    Ok(Some(Few::from_vec(alloc, decls)?))
+    Ok(true)
 }
 
 // one attribute more; whether it may stand
 fn declare(
     alloc: Global,
     attribute: &WrittenAttribute,
-    decls: &mut Vec<Binding>,
+    items: &mut Vec<Item>,
 ) -> Result<bool, Memory>
-    ensures { IfOk result (Declares attribute.now decls.old.items decls.new.items) }
+    ensures { IfOk result (Declares attribute.now (items_view items.old.items) (items_view items.new.items)) }
 {
     let Some(prefix) = declared_prefix(attribute.name.as_slice()) else {
         return Ok(true);
@@ -107,15 +111,15 @@ fn declare(
     if !may_bind(prefix, space) {
         return Ok(false);
     }
-    decls.push(Binding {
-        prefix: Blob::from_slice(alloc, prefix)?,
-        space: Blob::from_slice(alloc, space)?,
-    })?;
+    items.push(Item::Declaration(Declaration {
+        prefix: Bytes::from_slice(alloc, prefix)?,
+        space: Shared::from_slice(alloc, space)?,
+    }))?;
     Ok(true)
 }
 
 fn prefix_space<'a>(prefix: &[u8], scope: &'a Scope) -> Option<&'a Shared>
-    ensures { (bindings : List Bound) → InForce scope.now.stacks bindings
+    ensures { (bindings : List Bound) → IsStacked scope.now.stacks bindings
         → option_map (λ x. x.now) result ≡ prefix_space_of prefix.now bindings }
 {
     if prefix == b"xml".as_slice() {
@@ -136,7 +140,7 @@ fn shared(space: Option<&Shared>) -> Result<Option<Shared>, Memory>
 }
 
 fn element_space(prefix: &[u8], scope: &Scope) -> Result<Option<Shared>, Memory>
-    ensures { (bindings : List Bound) → InForce scope.now.stacks bindings
+    ensures { (bindings : List Bound) → IsStacked scope.now.stacks bindings
         → IfOk result (λ found. found ≡ element_space_of prefix.now bindings) }
 {
     if !prefix.is_empty() {
@@ -149,7 +153,7 @@ fn element_space(prefix: &[u8], scope: &Scope) -> Result<Option<Shared>, Memory>
 }
 
 fn attribute_space(prefix: &[u8], scope: &Scope) -> Result<Option<Shared>, Memory>
-    ensures { (bindings : List Bound) → InForce scope.now.stacks bindings
+    ensures { (bindings : List Bound) → IsStacked scope.now.stacks bindings
         → IfOk result (λ found. found ≡ attribute_space_of prefix.now bindings) }
 {
     if prefix.is_empty() {
@@ -159,72 +163,89 @@ fn attribute_space(prefix: &[u8], scope: &Scope) -> Result<Option<Shared>, Memor
 }
 
 /// The expanded name of an element.
-pub(crate) fn element_name(name: &[u8], scope: &mut Scope) -> Result<Option<Name>, Memory>
-    ensures name { (bindings : List Bound) → InForce scope.old.stacks bindings
-        → IfOk result (λ found. found ≡ element_name_of bindings name.now) }
-    ensures same { scope.new.stacks ≡ scope.old.stacks }
+pub(crate) fn element_name(
+    alloc: Global,
+    written: &[u8],
+    scope: &mut Scope,
+) -> Result<Option<Name>, Memory>
+    ensures name { (bindings : List Bound) → InForce scope.old bindings
+        → IfOk result (λ found. found ≡ element_name_of bindings written.now) }
+    ensures same { (bindings : List Bound) → InForce scope.old bindings → OnOk result (InForce scope.new bindings) }
 {
-    let (prefix, local) = split(name);
+    if let Some(name) = scope.elements.find(written) {
+        return Ok(Some(name.share()?));
+    }
+    let (prefix, local) = split(written);
     let Some(space) = element_space(prefix, scope)? else {
         return Ok(None);
     };
-    let local = scope.local(local)?;
-    Ok(Some(Name { space, local }))
+    let name = Name::new(alloc, space, local)?;
+    let met = name.share()?;
+    scope.elements.keep(Bytes::from_slice(alloc, written)?, met);
+    Ok(Some(name))
 }
 
-fn attribute_name(name: &[u8], scope: &mut Scope) -> Result<Option<Name>, Memory>
-    ensures name { (bindings : List Bound) → InForce scope.old.stacks bindings
-        → IfOk result (λ found. found ≡ attribute_name_of bindings name.now) }
-    ensures same { scope.new.stacks ≡ scope.old.stacks }
+fn attribute_name(alloc: Global, written: &[u8], scope: &mut Scope) -> Result<Option<Name>, Memory>
+    ensures name { (bindings : List Bound) → InForce scope.old bindings
+        → IfOk result (λ found. found ≡ attribute_name_of bindings written.now) }
+    ensures same { (bindings : List Bound) → InForce scope.old bindings → OnOk result (InForce scope.new bindings) }
 {
-    let (prefix, local) = split(name);
+    if let Some(name) = scope.attributes.find(written) {
+        return Ok(Some(name.share()?));
+    }
+    let (prefix, local) = split(written);
     let Some(space) = attribute_space(prefix, scope)? else {
         return Ok(None);
     };
-    let local = scope.local(local)?;
-    Ok(Some(Name { space, local }))
+    let name = Name::new(alloc, space, local)?;
+    let met = name.share()?;
+    scope
+        .attributes
+        .keep(Bytes::from_slice(alloc, written)?, met);
+    Ok(Some(name))
 }
 
-/// The attributes that are no declarations, with expanded names. Room is made for all but those declared.
+/// Appends the attributes that are no declarations, with expanded names; whether all their prefixes are bound.
 pub(crate) fn expanded(
     alloc: Global,
     attributes: &[WrittenAttribute],
-    declared: usize,
+    items: &mut Vec<Item>,
     scope: &mut Scope,
-) -> Result<Option<Attrs>, Memory>
-    ensures attrs { (bindings : List Bound) → InForce scope.old.stacks bindings
-        → IfOk result (λ found. found ≡ expanded_by bindings attributes.now) }
-    ensures same { scope.new.stacks ≡ scope.old.stacks }
+) -> Result<bool, Memory>
+    ensures attrs { (bindings : List Bound) → InForce scope.old bindings → IfOk result (λ taken.
+        option_map (λ attrs. items_view items.old.items ++ map an_attribute attrs)
+        (expanded_by bindings attributes.now) ≡ (if taken then Some (items_view items.new.items) else None)) }
+    ensures decls { OnOk result (decls_view items.new.items ≡ decls_view items.old.items) }
+    ensures same { (bindings : List Bound) → InForce scope.old bindings → OnOk result (InForce scope.new bindings) }
 {
-    let room = attributes.len().saturating_sub(declared);
-    let mut attrs = Vec::with_capacity(alloc, room)?;
     for attribute in attributes {
-        if !expand(alloc, attribute, scope, &mut attrs)? {
-            return Ok(None);
+        if !expand(alloc, attribute, items, scope)? {
+            return Ok(false);
         }
     }
-    Ok(Some(Items::from_vec(attrs)))
+    Ok(true)
 }
 
 // one attribute more; whether its prefix is bound
 fn expand(
     alloc: Global,
     attribute: &WrittenAttribute,
+    items: &mut Vec<Item>,
     scope: &mut Scope,
-    attrs: &mut Vec<Attr>,
 ) -> Result<bool, Memory>
-    ensures attrs { (bindings : List Bound) → InForce scope.old.stacks bindings
-        → IfOk result (Expands bindings attribute.now attrs.old.items attrs.new.items) }
-    ensures same { scope.new.stacks ≡ scope.old.stacks }
+    ensures attrs { (bindings : List Bound) → InForce scope.old bindings
+        → IfOk result (Expands bindings attribute.now (items_view items.old.items) (items_view items.new.items)) }
+    ensures decls { OnOk result (decls_view items.new.items ≡ decls_view items.old.items) }
+    ensures same { (bindings : List Bound) → InForce scope.old bindings → OnOk result (InForce scope.new bindings) }
 {
     if declared_prefix(attribute.name.as_slice()).is_some() {
         return Ok(true);
     }
-    let Some(name) = attribute_name(attribute.name.as_slice(), scope)? else {
+    let Some(name) = attribute_name(alloc, attribute.name.as_slice(), scope)? else {
         return Ok(false);
     };
     let value = attribute.value.copy(alloc)?;
-    attrs.push(Attr { name, value })?;
+    items.push(Item::Attribute(Attr { name, value }))?;
     Ok(true)
 }
 
@@ -267,30 +288,34 @@ fn is_new(name: &[u8], attributes: &[WrittenAttribute]) -> bool
         .all(|attribute| attribute.name.as_slice() != name)
 }
 
-/// No two attributes have the same expanded name.
-pub(crate) fn are_distinct_names(alloc: Global, attrs: &[Attr]) -> Result<bool, Memory>
-    ensures { IfOk result (λ answer. answer ≡ distinct_names_test attrs.now) }
+/// No two attributes among these have the same expanded name.
+pub(crate) fn are_distinct_names(alloc: Global, items: &[Item]) -> Result<bool, Memory>
+    ensures { IfOk result (λ answer. answer ≡ distinct_names_test (attrs_view items.now)) }
 {
-    if attrs.len() < 2 {
+    if items.len() < 2 {
         return Ok(true);
     }
-    if attrs.len() <= FEW {
-        return Ok(few_are_distinct_names(attrs));
+    if items.len() <= FEW {
+        return Ok(few_are_distinct_names(items));
     }
     let mut keys = Vec::new(alloc);
-    for attr in attrs {
-        keys.push((attr.name.local.as_slice(), attr.name.space.as_slice()))?;
+    for item in items {
+        if let Item::Attribute(attr) = item {
+            keys.push((attr.name.local(), attr.name.space()))?;
+        }
     }
     all_differ(alloc, &keys)
 }
 
 // the same, each compared with each behind it
-fn few_are_distinct_names(attrs: &[Attr]) -> bool
-    ensures { result ≡ distinct_names_test attrs.now }
+fn few_are_distinct_names(items: &[Item]) -> bool
+    ensures { result ≡ distinct_names_test (attrs_view items.now) }
 {
-    let mut rest = attrs;
+    let mut rest = items;
     while let [first, others @ ..] = rest {
-        if !is_new_name(&first.name, others) {
+        if let Item::Attribute(attr) = first
+            && !is_new_name(&attr.name, others)
+        {
             return false;
         }
         rest = others;
@@ -298,11 +323,20 @@ fn few_are_distinct_names(attrs: &[Attr]) -> bool
     true
 }
 
-fn is_new_name(name: &Name, attrs: &[Attr]) -> bool
-    ensures { result ≡ new_name_test name.now attrs.now }
+fn is_new_name(name: &Name, items: &[Item]) -> bool
+    ensures { result ≡ new_name_test name.now (attrs_view items.now) }
 {
-    attrs.iter().all(|attr| {
-        attr.name.local.as_slice() != name.local.as_slice()
-            || attr.name.space.as_slice() != name.space.as_slice()
-    })
+    items.iter().all(|item| is_other(name, item))
+}
+
+// it is no attribute of this name
+fn is_other(name: &Name, item: &Item) -> bool
+    ensures { result ≡ new_name_test name.now (attrs_view (item.now ∷ [])) }
+{
+    match item {
+        Item::Attribute(attr) => {
+            attr.name.local() != name.local() || attr.name.space() != name.space()
+        }
+        _ => true,
+    }
 }

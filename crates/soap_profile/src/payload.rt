@@ -1,11 +1,10 @@
-ghost use Rattle.std.specs.Prelude.{◌≡◌, ◌↔◌, ◌&&◌, IsTrue, IfOk, nat_le};
+ghost use Rattle.std.specs.Prelude.{◌≡◌, [], ◌∷◌, ◌↔◌, ◌&&◌, IsTrue, IfOk, nat_le};
 ghost use Rattle.soap_profile.specs.Payload.{depth, is_white_outside as outside_test, IsClosedContent};
-ghost use Rattle.soap_profile.specs.Tree.{none};
-ghost use Rattle.soap_profile.specs.View.{part_view, parts_view};
+ghost use Rattle.soap_profile.specs.View.{parts_view};
 
 use crate::place::Place;
 use crate::resolver::Resolver;
-use crate::tree::Part;
+use crate::tree::Item;
 use rm_base::Memory;
 use soap_document::{Reader, document_is_read, is_white};
 use std::alloc::Global;
@@ -34,23 +33,23 @@ pub fn check_payload(alloc: Global, bytes: &[u8]) -> Result<bool, Memory>
         start: 3,
         end: 3 + bytes.len(),
     };
-    Ok(root.place == whole && is_payload(root.tree.parts.items.as_slice()))
+    Ok(root.place == whole && is_payload(root.tree.items.as_slice()))
 }
 
-fn is_payload(parts: &[Part]) -> bool
-    ensures { result ≡ (nat_le (depth (parts_view parts.now)) MAX_PAYLOAD_DEPTH
-        && outside_test (parts_view parts.now)) }
+fn is_payload(items: &[Item]) -> bool
+    ensures { result ≡ (nat_le (depth (parts_view items.now)) MAX_PAYLOAD_DEPTH
+        && outside_test (parts_view items.now)) }
 {
-    is_within(parts, MAX_PAYLOAD_DEPTH) && is_white_outside(parts)
+    is_within(items, MAX_PAYLOAD_DEPTH) && is_white_outside(items)
 }
 
 // whether no more elements than this stand in one another
 #[cycle(depth)]
-fn is_within(parts: &[Part], levels: usize) -> bool
-    ensures { result ≡ nat_le (depth (parts_view parts.now)) levels }
+fn is_within(items: &[Item], levels: usize) -> bool
+    ensures { result ≡ nat_le (depth (parts_view items.now)) levels }
 {
-    for part in parts {
-        if !is_part_within(part, levels) {
+    for item in items {
+        if !is_item_within(item, levels) {
             return false;
         }
     }
@@ -58,36 +57,36 @@ fn is_within(parts: &[Part], levels: usize) -> bool
 }
 
 #[cycle(depth)]
-fn is_part_within(part: &Part, levels: usize) -> bool
-    ensures { result ≡ nat_le (depth (part_view part.now none)) levels }
+fn is_item_within(item: &Item, levels: usize) -> bool
+    ensures { result ≡ nat_le (depth (parts_view (item.now ∷ []))) levels }
 {
-    match part {
-        Part::Text(_) => true,
-        Part::Child(element) => {
+    match item {
+        Item::Child(element) => {
             if levels == 0 {
                 return false;
             }
-            is_within(element.parts.items.as_slice(), levels - 1)
+            is_within(element.items.as_slice(), levels - 1)
         }
+        _ => true,
     }
 }
 
-fn is_white_outside(parts: &[Part]) -> bool
-    ensures { result ≡ outside_test (parts_view parts.now) }
+fn is_white_outside(items: &[Item]) -> bool
+    ensures { result ≡ outside_test (parts_view items.now) }
 {
-    for part in parts {
-        if !is_part_white(part) {
+    for item in items {
+        if !is_item_white(item) {
             return false;
         }
     }
     true
 }
 
-fn is_part_white(part: &Part) -> bool
-    ensures { result ≡ outside_test (part_view part.now none) }
+fn is_item_white(item: &Item) -> bool
+    ensures { result ≡ outside_test (parts_view (item.now ∷ [])) }
 {
-    match part {
-        Part::Text(text) => is_white(text.as_slice()),
-        Part::Child(_) => true,
+    match item {
+        Item::Text(text) => is_white(text.as_slice()),
+        _ => true,
     }
 }

@@ -1,50 +1,85 @@
-// Local names that stand in a document again and again, each kept once.
-ghost use Rattle.std.specs.Prelude.{◌≡◌, IfOk};
+// Written names that stand in a document again and again, and what they are resolved to.
+ghost use Rattle.std.specs.Prelude.{◌≡◌, ℕ, List, Option, Some, IfOk, IfSome};
+ghost use Rattle.soap_profile.specs.Pool.{Knows};
+ghost use Rattle.soap_profile.specs.Tree.{Name as Expanded};
 
-use crate::shared::Shared;
+use crate::name::Name;
 use rm_base::Memory;
+use soap_document::Bytes;
 use std::alloc::Global;
 
 const SLOTS: usize = 64;
 
-/// Names that were met. A name has one place, and each place keeps the name that came last.
+/// Names that were met. A name has one slot, and each slot keeps the name that came last. It is known in the era in
+/// which it was met, throughout which the bindings are the same.
 #[derive(Drop)]
 pub(crate) struct Pool {
-    alloc: Global,
-    slots: Vec<Shared>,
+    slots: Vec<Option<Met>>,
+    // how often all names were forgotten: what was met in an era before is known no longer
+    era: u64,
+}
+
+#[derive(Drop)]
+pub(crate) struct Met {
+    era: u64,
+    written: Bytes,
+    name: Name,
 }
 
 impl Pool {
-    pub(crate) fn new(alloc: Global) -> Result<Pool, Memory> {
-        let none = Shared::from_slice(alloc, b"")?;
+    pub(crate) fn new(alloc: Global) -> Result<Pool, Memory>
+        ensures { IfOk result (λ pool. (resolve : List ℕ → Option Expanded) → Knows resolve pool) }
+    {
         let mut slots = Vec::with_capacity(alloc, SLOTS)?;
         for _ in 0..SLOTS {
-            slots.push(none.share()?)?;
+            slots.push(None)?;
         }
-        Ok(Pool { alloc, slots })
+        Ok(Pool { slots, era: 0 })
     }
 
-    /// These bytes, shared with the name that was met before, where it is kept.
-    pub(crate) fn share(&mut self, bytes: &[u8]) -> Result<Shared, Memory>
-        ensures { IfOk result (λ shared. shared ≡ bytes.now) }
+    /// What a name is resolved to, where it is known.
+    pub(crate) fn find(&self, written: &[u8]) -> Option<&Name>
+        ensures { (resolve : List ℕ → Option Expanded) → Knows resolve self.now
+            → IfSome result (λ name. resolve written.now ≡ Some name.now) }
     {
-        let place = place_of(bytes);
-        if let Some(kept) = self.slots.get(place)
-            && kept.as_slice() == bytes
-        {
-            return kept.share();
+        let Some(Some(met)) = self.slots.get(slot_of(written)) else {
+            return None;
+        };
+        if met.era != self.era {
+            return None;
         }
-        let made = Shared::from_slice(self.alloc, bytes)?;
-        let shared = made.share()?;
-        if let Some(slot) = self.slots.get_mut(place) {
-            *slot = made;
+        if met.written.as_slice() != written {
+            return None;
         }
-        Ok(shared)
+        Some(&met.name)
+    }
+
+    pub(crate) fn keep(&mut self, written: Bytes, name: Name)
+        ensures { (resolve : List ℕ → Option Expanded) → Knows resolve self.old → resolve written ≡ Some name
+            → Knows resolve self.new }
+    {
+        let era = self.era;
+        if let Some(slot) = self.slots.get_mut(slot_of(written.as_slice())) {
+            *slot = Some(Met { era, written, name });
+        }
+    }
+
+    /// Forgets all names, whatever they are resolved to from now on.
+    pub(crate) fn forget(&mut self)
+        ensures { (before after : List ℕ → Option Expanded) → Knows before self.old → Knows after self.new }
+    {
+        let Some(era) = self.era.checked_add(1) else {
+            for slot in self.slots.iter_mut() {
+                *slot = None;
+            }
+            return;
+        };
+        self.era = era;
     }
 }
 
-// the place of a name, by its length and three of its bytes
-fn place_of(name: &[u8]) -> usize {
+// the slot of a name, by its length and three of its bytes
+fn slot_of(name: &[u8]) -> usize {
     if name.is_empty() {
         return 0;
     }

@@ -7,25 +7,26 @@ ghost use Rattle.soap_profile.specs.Steps.{join};
 ghost use Rattle.soap_profile.specs.Tree.{child, none};
 ghost use Rattle.soap_profile.specs.View.{element_view};
 
+use crate::name::Name;
 use crate::place::Place;
 use crate::scope::Scope;
-use crate::tag::{Tag, resolved_tag};
-use crate::tree::{Element, Part, Parts};
+use crate::shared::Shared;
+use crate::tag::resolved_tag;
+use crate::tree::{Element, Item};
 use rm_base::Memory;
 use soap_document::{Bytes, Handler, WrittenAttribute};
 use std::alloc::Global;
 use std::mem;
 
-// elements with more parts keep the vector in which these were gathered
-const FEW_PARTS: usize = 16;
+// elements that have more keep the vector in which this was gathered
+const FEW_ITEMS: usize = 16;
 
-// an element that is open
+// an element that is open, with its parts so far
 #[derive(Drop)]
 pub(crate) struct Opened {
-    tag: Tag,
+    element: Element,
     start: usize,
-    parts: Vec<Part>,
-    // the place of the last element among the parts, and of the last within that
+    // the place of the last element within, and of the last within that
     last: Option<Place>,
     inner: Option<Place>,
 }
@@ -39,25 +40,25 @@ impl Opened {
           inner = inner;
         }) }
     {
-        self.parts.push(Part::Child(element))?;
+        self.element.items.push(Item::Child(element))?;
         self.last = Some(place);
         self.inner = inner;
         Ok(())
     }
 }
 
-// the same parts, in a vector with little room to spare
-fn fitted(alloc: Global, parts: Vec<Part>, spare: &mut Vec<Vec<Part>>) -> Result<Vec<Part>, Memory>
-    ensures { IfOk result (λ fitted. fitted.items ≡ parts.items) }
+// the same items, in a vector with little room to spare
+fn fitted(alloc: Global, items: Vec<Item>, spare: &mut Vec<Vec<Item>>) -> Result<Vec<Item>, Memory>
+    ensures { IfOk result (λ fitted. fitted.items ≡ items.items) }
 {
-    let mut parts = parts;
-    if parts.len() > FEW_PARTS {
-        parts.shrink_to_fit();
-        return Ok(parts);
+    let mut items = items;
+    if items.len() > FEW_ITEMS {
+        items.shrink_to_fit();
+        return Ok(items);
     }
-    let mut fitted = Vec::with_capacity(alloc, parts.len())?;
-    fitted.append(&mut parts)?;
-    spare.push(parts)?;
+    let mut fitted = Vec::with_capacity(alloc, items.len())?;
+    fitted.append(&mut items)?;
+    spare.push(items)?;
     Ok(fitted)
 }
 
@@ -78,8 +79,8 @@ pub(crate) struct Resolver {
     below: Vec<Opened>,
     // a rule of namespaces was broken, and nothing more is kept
     broken: bool,
-    // vectors without parts
-    spare: Vec<Vec<Part>>,
+    // vectors without items
+    spare: Vec<Vec<Item>>,
     alloc: Global,
 }
 
@@ -91,9 +92,11 @@ impl Resolver {
         Ok(Resolver {
             scope: Scope::new(alloc)?,
             top: Opened {
-                tag: Tag::none(alloc)?,
+                element: Element {
+                    name: Name::new(alloc, Shared::from_slice(alloc, b"")?, b"")?,
+                    items: Vec::new(alloc),
+                },
                 start: 0,
-                parts: Vec::new(alloc),
                 last: None,
                 inner: None,
             },
@@ -111,19 +114,17 @@ impl Resolver {
         if self.broken {
             return None;
         }
-        let top = self.top;
         let Opened {
-            tag: _,
+            element,
             start: _,
-            parts,
             last,
             inner,
-        } = top;
-        let mut parts = parts;
-        let Part::Child(tree) = parts.pop()? else {
+        } = self.top;
+        let mut items = element.items;
+        let Item::Child(tree) = items.pop()? else {
             return None;
         };
-        if !parts.is_empty() {
+        if !items.is_empty() {
             return None;
         }
         Some(Root {
@@ -146,9 +147,8 @@ impl Handler for Resolver {
         if text.is_empty() {
             return Ok(());
         }
-        self.top
-            .parts
-            .push(Part::Text(Bytes::from_slice(self.alloc, text)?))?;
+        let text = Bytes::from_slice(self.alloc, text)?;
+        self.top.element.items.push(Item::Text(text))?;
         Ok(())
     }
 
@@ -161,19 +161,19 @@ impl Handler for Resolver {
         if self.broken {
             return Ok(());
         }
-        let Some(tag) = resolved_tag(self.alloc, name, attributes, &mut self.scope)? else {
-            self.broken = true;
-            return Ok(());
-        };
-        let mut parts = match self.spare.pop() {
+        let mut items = match self.spare.pop() {
             Some(spare) => spare,
             None => Vec::new(self.alloc),
         };
-        parts.clear();
+        items.clear();
+        let Some(element) = resolved_tag(self.alloc, name, attributes, items, &mut self.scope)?
+        else {
+            self.broken = true;
+            return Ok(());
+        };
         let inner = Opened {
-            tag,
+            element,
             start,
-            parts,
             last: None,
             inner: None,
         };
@@ -191,20 +191,13 @@ impl Handler for Resolver {
         if self.broken {
             return Ok(());
         }
-        let Some(tag) = resolved_tag(self.alloc, name, attributes, &mut self.scope)? else {
+        let items = Vec::with_capacity(self.alloc, attributes.len())?;
+        let Some(element) = resolved_tag(self.alloc, name, attributes, items, &mut self.scope)?
+        else {
             self.broken = true;
             return Ok(());
         };
-        self.scope.leave(tag.decls.as_slice());
-        let Tag { name, decls, attrs } = tag;
-        let element = Element {
-            name,
-            decls,
-            attrs,
-            parts: Parts {
-                items: Vec::new(self.alloc),
-            },
-        };
+        self.scope.leave(element.items.as_slice());
         let place = Place {
             start: place,
             end: place,
@@ -220,23 +213,16 @@ impl Handler for Resolver {
             return Ok(());
         };
         let inner = mem::replace(&mut self.top, outer);
-        self.scope.leave(inner.tag.decls.as_slice());
         let Opened {
-            tag,
+            element,
             start,
-            parts,
             last,
             inner: _,
         } = inner;
-        let Tag { name, decls, attrs } = tag;
-        let element = Element {
-            name,
-            decls,
-            attrs,
-            parts: Parts {
-                items: fitted(self.alloc, parts, &mut self.spare)?,
-            },
-        };
+        let Element { name, items } = element;
+        self.scope.leave(items.as_slice());
+        let items = fitted(self.alloc, items, &mut self.spare)?;
+        let element = Element { name, items };
         self.top.add(element, Place { start, end }, last)
     }
 }

@@ -1,39 +1,39 @@
 // What the names of a document are resolved by.
-ghost use Rattle.std.specs.Prelude.{◌≡◌, [], ◌∷◌, ◌++◌, ℕ, List, IfOk, OnOk, option_map};
-ghost use Rattle.soap_profile.specs.Namespaces.{bound as bound_by, xml_space};
-ghost use Rattle.std.proofs.Props.{props};
-ghost use Rattle.soap_profile.specs.Scope.{InForce};
+ghost use Rattle.std.specs.Prelude.{◌≡◌, [], ◌∷◌, ◌++◌, IsTrue, ◌↔◌, ◌≢◌, List, IfOk, OnOk, option_map};
+ghost use Rattle.soap_profile.specs.Namespaces.{bound as bound_by, element_name, attribute_name, xml_space};
+ghost use Rattle.soap_profile.specs.Pool.{Knows};
+ghost use Rattle.soap_profile.specs.Scope.{InForce, IsStacked};
 ghost use Rattle.soap_profile.specs.Tree.{Binding as Bound};
+ghost use Rattle.soap_profile.specs.View.{decls_view};
 
-use crate::names::XML_SPACE;
 use crate::pool::Pool;
 use crate::shared::Shared;
 use crate::stacks::{Stacks, pop, push, top};
-use rm_base::{Binding, Memory};
+use crate::tree::Item;
+use crate::undeclared::Undeclared;
+use rm_base::Memory;
 use std::alloc::Global;
 use std::collections::BTreeMap;
 
-/// The bindings in force, and the local names that were met.
+/// The bindings in force, and the names that were resolved by them.
 #[derive(Drop)]
 pub(crate) struct Scope {
     stacks: Stacks,
-    xml: Shared,
-    none: Shared,
-    locals: Pool,
-    ghost is_xml: { xml ≡ xml_space } by { Prim.hlevel props },
-    ghost is_none: { none ≡ [] } by { Prim.hlevel props },
+    pub(crate) elements: Pool,
+    pub(crate) attributes: Pool,
+    undeclared: Undeclared,
 }
 
 impl Scope {
     /// Around the root.
     pub(crate) fn new(alloc: Global) -> Result<Scope, Memory>
-        ensures { IfOk result (λ scope. InForce scope.stacks []) }
+        ensures { IfOk result (λ scope. InForce scope []) }
     {
         Ok(Scope {
             stacks: BTreeMap::new(alloc),
-            xml: Shared::from_slice(alloc, XML_SPACE)?,
-            none: Shared::from_slice(alloc, b"")?,
-            locals: Pool::new(alloc)?,
+            elements: Pool::new(alloc)?,
+            attributes: Pool::new(alloc)?,
+            undeclared: Undeclared::new(alloc)?,
         })
     }
 
@@ -41,54 +41,107 @@ impl Scope {
     pub(crate) fn xml(&self) -> &Shared
         ensures { result.now ≡ xml_space }
     {
-        &self.xml
+        self.undeclared.xml()
     }
 
     /// The space of the names that are in no namespace.
     pub(crate) fn none(&self) -> &Shared
         ensures { result.now ≡ [] }
     {
-        &self.none
+        self.undeclared.none()
     }
 
     /// What a prefix is bound to.
     pub(crate) fn bound(&self, prefix: &[u8]) -> Option<&Shared>
-        ensures { (bindings : List Bound) → InForce self.now.stacks bindings
+        ensures { (bindings : List Bound) → IsStacked self.now.stacks bindings
             → option_map (λ x. x.now) result ≡ bound_by prefix.now bindings }
     {
         top(&self.stacks, prefix)
     }
 
-    /// Within an element with these declarations.
-    pub(crate) fn enter(&mut self, alloc: Global, decls: &[Binding]) -> Result<(), Memory>
-        ensures { (bindings : List Bound) → InForce self.old.stacks bindings
-            → OnOk result (InForce self.new.stacks (decls.now ++ bindings)) }
+    /// Within an element that has these declarations.
+    pub(crate) fn enter(&mut self, alloc: Global, items: &[Item]) -> Result<(), Memory>
+        ensures { (bindings : List Bound) → InForce self.old bindings
+            → OnOk result (InForce self.new (decls_view items.now ++ bindings)) }
     {
-        let mut left = decls.len();
-        while left > 0 {
-            left -= 1;
-            let binding = &decls[left];
-            let space = Shared::from_slice(alloc, binding.space.as_slice())?;
-            push(alloc, &mut self.stacks, binding.prefix.as_slice(), space)?;
-        }
+        bind_all(alloc, items, &mut self.stacks)?;
+        self.forget();
         Ok(())
     }
 
-    /// Behind an element with these declarations.
-    pub(crate) fn leave(&mut self, decls: &[Binding])
-        ensures { (bindings : List Bound) → InForce self.old.stacks (decls.now ++ bindings)
-            → InForce self.new.stacks bindings }
+    /// Behind an element that has these declarations.
+    pub(crate) fn leave(&mut self, items: &[Item])
+        ensures { (bindings : List Bound) → InForce self.old (decls_view items.now ++ bindings)
+            → InForce self.new bindings }
     {
-        for binding in decls {
-            pop(&mut self.stacks, binding.prefix.as_slice());
+        if !declares(items) {
+            return;
         }
+        unbind_all(items, &mut self.stacks);
+        self.forget();
     }
 
-    /// These bytes as a local name.
-    pub(crate) fn local(&mut self, bytes: &[u8]) -> Result<Shared, Memory>
-        ensures local { IfOk result (λ local. local ≡ bytes.now) }
-        ensures same { self.new.stacks ≡ self.old.stacks }
+    // what was known of names holds no longer where bindings have changed
+    fn forget(&mut self)
+        ensures { (before bindings : List Bound) → Knows (element_name before) self.old.elements
+            → Knows (attribute_name before) self.old.attributes → IsStacked self.old.stacks bindings
+            → InForce self.new bindings }
     {
-        self.locals.share(bytes)
+        self.elements.forget();
+        self.attributes.forget();
+    }
+}
+
+// a declaration among items
+fn declares(items: &[Item]) -> bool
+    ensures { IsTrue result ↔ (decls_view items.now ≢ []) }
+{
+    for item in items {
+        if let Item::Declaration(_) = item {
+            return true;
+        }
+    }
+    false
+}
+
+// the first declaration is bound last: it is the innermost
+fn bind_all(alloc: Global, items: &[Item], stacks: &mut Stacks) -> Result<(), Memory>
+    ensures { (bindings : List Bound) → IsStacked stacks.old bindings
+        → OnOk result (IsStacked stacks.new (decls_view items.now ++ bindings)) }
+{
+    let mut left = items.len();
+    while left > 0 {
+        left -= 1;
+        bind(alloc, &items[left], stacks)?;
+    }
+    Ok(())
+}
+
+fn bind(alloc: Global, item: &Item, stacks: &mut Stacks) -> Result<(), Memory>
+    ensures { (bindings : List Bound) → IsStacked stacks.old bindings
+        → OnOk result (IsStacked stacks.new (decls_view (item.now ∷ []) ++ bindings)) }
+{
+    if let Item::Declaration(declaration) = item {
+        let space = declaration.space.share()?;
+        push(alloc, stacks, declaration.prefix.as_slice(), space)?;
+    }
+    Ok(())
+}
+
+fn unbind_all(items: &[Item], stacks: &mut Stacks)
+    ensures { (bindings : List Bound) → IsStacked stacks.old (decls_view items.now ++ bindings)
+        → IsStacked stacks.new bindings }
+{
+    for item in items {
+        unbind(item, stacks);
+    }
+}
+
+fn unbind(item: &Item, stacks: &mut Stacks)
+    ensures { (bindings : List Bound) → IsStacked stacks.old (decls_view (item.now ∷ []) ++ bindings)
+        → IsStacked stacks.new bindings }
+{
+    if let Item::Declaration(declaration) = item {
+        pop(stacks, declaration.prefix.as_slice());
     }
 }

@@ -1,12 +1,11 @@
 // Trees without declarations.
-ghost use Rattle.std.specs.Prelude.{◌≡◌, IfOk, OnOk};
-ghost use Rattle.soap_profile.specs.Steps.{Strips};
-ghost use Rattle.soap_profile.specs.Tree.{without_declarations, parts_without};
-ghost use Rattle.soap_profile.specs.View.{element_view, part_view, parts_view};
+ghost use Rattle.std.specs.Prelude.{◌≡◌, ◌++◌, IfOk, OnOk};
+ghost use Rattle.soap_profile.specs.Items.{stripped_item, stripped_items};
+ghost use Rattle.soap_profile.specs.Tree.{without_declarations};
+ghost use Rattle.soap_profile.specs.View.{element_view, item_view, items_view};
 
-use crate::few::Few;
-use crate::tree::{Attr, Attrs, Element, Name, Part, Parts};
-use rm_base::{Items, Memory};
+use crate::tree::{Attr, Element, Item};
+use rm_base::Memory;
 use std::alloc::Global;
 
 /// The same element with no declarations, at every level.
@@ -14,56 +13,40 @@ use std::alloc::Global;
 pub fn strip(alloc: Global, element: &Element) -> Result<Element, Memory>
     ensures { IfOk result (λ stripped. element_view stripped ≡ without_declarations (element_view element.now)) }
 {
-    let name = copied_name(&element.name)?;
-    let attrs = copied_attrs(alloc, element.attrs.as_slice())?;
-    let parts = strip_parts(alloc, element.parts.items.as_slice())?;
-    Ok(Element {
-        name,
-        decls: Few::new(),
-        attrs,
-        parts,
-    })
+    let name = element.name.share()?;
+    let items = strip_items(alloc, element.items.as_slice())?;
+    Ok(Element { name, items })
 }
 
 #[cycle(stripping)]
-fn strip_parts(alloc: Global, parts: &[Part]) -> Result<Parts, Memory>
-    ensures { IfOk result (λ stripped. parts_view stripped.items.items ≡ parts_without (parts_view parts.now)) }
+fn strip_items(alloc: Global, items: &[Item]) -> Result<Vec<Item>, Memory>
+    ensures { IfOk result (λ stripped. items_view stripped.items ≡ stripped_items (items_view items.now)) }
 {
-    let mut items = Vec::new(alloc);
-    for part in parts {
-        strip_onto(alloc, part, &mut items)?;
+    let mut stripped = Vec::with_capacity(alloc, items.len())?;
+    for item in items {
+        strip_onto(alloc, item, &mut stripped)?;
     }
-    Ok(Parts { items })
+    Ok(stripped)
 }
 
 #[cycle(stripping)]
-fn strip_onto(alloc: Global, part: &Part, items: &mut Vec<Part>) -> Result<(), Memory>
-    ensures { OnOk result (Strips (part_view part.now) (parts_view items.old.items) (parts_view items.new.items)) }
+fn strip_onto(alloc: Global, item: &Item, stripped: &mut Vec<Item>) -> Result<(), Memory>
+    ensures { OnOk result (items_view stripped.new.items
+        ≡ items_view stripped.old.items ++ stripped_item (item_view item.now)) }
 {
-    match part {
-        Part::Text(text) => items.push(Part::Text(text.copy(alloc)?))?,
-        Part::Child(element) => items.push(Part::Child(strip(alloc, element)?))?,
+    match item {
+        Item::Declaration(_) => {}
+        Item::Attribute(attr) => stripped.push(Item::Attribute(copied(alloc, attr)?))?,
+        Item::Text(text) => stripped.push(Item::Text(text.copy(alloc)?))?,
+        Item::Child(element) => stripped.push(Item::Child(strip(alloc, element)?))?,
     }
     Ok(())
 }
 
-fn copied_name(name: &Name) -> Result<Name, Memory>
-    ensures { IfOk result (λ copy. copy ≡ name.now) }
+fn copied(alloc: Global, attr: &Attr) -> Result<Attr, Memory>
+    ensures { IfOk result (λ copy. copy ≡ attr.now) }
 {
-    Ok(Name {
-        space: name.space.share()?,
-        local: name.local.share()?,
-    })
-}
-
-fn copied_attrs(alloc: Global, attrs: &[Attr]) -> Result<Attrs, Memory>
-    ensures { IfOk result (λ copy. copy ≡ attrs.now) }
-{
-    let mut copy = Vec::with_capacity(alloc, attrs.len())?;
-    for attr in attrs {
-        let name = copied_name(&attr.name)?;
-        let value = attr.value.copy(alloc)?;
-        copy.push(Attr { name, value })?;
-    }
-    Ok(Items::from_vec(copy))
+    let name = attr.name.share()?;
+    let value = attr.value.copy(alloc)?;
+    Ok(Attr { name, value })
 }

@@ -1,78 +1,57 @@
 // Start tags with their names resolved.
-ghost use Rattle.std.specs.Prelude.{◌≡◌, ◌++◌, [], List, IfOk, IfSome, option_map};
+ghost use Rattle.std.specs.Prelude.{◌≡◌, ◌++◌, [], List, IfOk, OnOk, IfSome, map, option_map};
+ghost use Rattle.soap_profile.specs.Items.{a_declaration};
 ghost use Rattle.soap_profile.specs.Namespaces.{tag_of, resolved_with, element_name as element_name_of, expanded as expanded_by};
-ghost use Rattle.soap_profile.specs.Opened.{no_tag};
+ghost use Rattle.soap_profile.specs.Opened.{start_tag};
 ghost use Rattle.soap_profile.specs.Scope.{InForce};
 ghost use Rattle.soap_profile.specs.Tree.{Binding as Bound};
-ghost use Rattle.soap_profile.specs.View.{tag_view};
+ghost use Rattle.soap_profile.specs.View.{element_view, items_view, decls_view};
 
-use crate::few::Few;
 use crate::names::{are_distinct, are_distinct_names, declarations, element_name, expanded};
 use crate::scope::Scope;
-use crate::shared::Shared;
-use crate::tree::{Attrs, Declarations, Name};
-use rm_base::{Items, Memory};
+use crate::tree::{Element, Item};
+use rm_base::Memory;
 use soap_document::WrittenAttribute;
 use std::alloc::Global;
 
-/// A start tag with its names resolved.
-#[derive(Drop)]
-pub(crate) struct Tag {
-    pub(crate) name: Name,
-    pub(crate) decls: Declarations,
-    pub(crate) attrs: Attrs,
-}
-
-impl Tag {
-    /// No name, no declarations and no attributes.
-    pub(crate) fn none(alloc: Global) -> Result<Self, Memory>
-        ensures { IfOk result (λ tag. tag_view tag ≡ no_tag) }
-    {
-        let none = Shared::from_slice(alloc, b"")?;
-        Ok(Tag {
-            name: Name {
-                space: none.share()?,
-                local: none,
-            },
-            decls: Few::new(),
-            attrs: Items::new(alloc),
-        })
-    }
-}
-
-/// Enters the element. None where a rule is broken, and then the scope is of no more use.
+/// Enters the element, which has no parts yet; what it has goes into the vector without items. None where a rule is
+/// broken, and then the scope is of no more use.
 pub(crate) fn resolved_tag(
     alloc: Global,
     name: &[u8],
     attributes: &[WrittenAttribute],
+    items: Vec<Item>,
     scope: &mut Scope,
-) -> Result<Option<Tag>, Memory>
-    ensures tag { (bindings : List Bound) → InForce scope.old.stacks bindings
-        → IfOk result (λ found. option_map tag_view found ≡ tag_of bindings name.now attributes.now) }
-    ensures within { (bindings : List Bound) → InForce scope.old.stacks bindings
-        → IfOk result (λ found. IfSome found (λ tag. InForce scope.new.stacks (tag.decls ++ bindings))) }
+) -> Result<Option<Element>, Memory>
+    requires { items.items ≡ [] }
+    ensures tag { (bindings : List Bound) → InForce scope.old bindings → IfOk result (λ found.
+        option_map element_view found ≡ option_map start_tag (tag_of bindings name.now attributes.now)) }
+    ensures within { (bindings : List Bound) → InForce scope.old bindings → IfOk result (λ found. IfSome found (λ e.
+        InForce scope.new (decls_view e.items.items ++ bindings))) }
 {
     if attributes.is_empty() {
-        return bare_tag(alloc, name, scope);
+        return bare_tag(alloc, name, items, scope);
     }
-    full_tag(alloc, name, attributes, scope)
+    full_tag(alloc, name, attributes, items, scope)
 }
 
 // the tag of an element without attributes, which declares nothing
-fn bare_tag(alloc: Global, name: &[u8], scope: &mut Scope) -> Result<Option<Tag>, Memory>
-    ensures tag { (bindings : List Bound) → InForce scope.old.stacks bindings
-        → IfOk result (λ found. option_map tag_view found ≡ tag_of bindings name.now []) }
-    ensures within { (bindings : List Bound) → InForce scope.old.stacks bindings
-        → IfOk result (λ found. IfSome found (λ tag. InForce scope.new.stacks (tag.decls ++ bindings))) }
+fn bare_tag(
+    alloc: Global,
+    name: &[u8],
+    items: Vec<Item>,
+    scope: &mut Scope,
+) -> Result<Option<Element>, Memory>
+    requires { items.items ≡ [] }
+    ensures tag { (bindings : List Bound) → InForce scope.old bindings → IfOk result (λ found.
+        option_map element_view found ≡ option_map start_tag (tag_of bindings name.now [])) }
+    ensures within { (bindings : List Bound) → InForce scope.old bindings → IfOk result (λ found. IfSome found (λ e.
+        InForce scope.new (decls_view e.items.items ++ bindings))) }
 {
-    let Some(name) = element_name(name, scope)? else {
+    let Some(name) = element_name(alloc, name, scope)? else {
         return Ok(None);
     };
-    Ok(Some(Tag {
-        name,
-        decls: Few::new(),
-        attrs: Items::new(alloc),
-    }))
+    Ok(Some(Element { name, items }))
 }
 
 // the tag of an element with attributes
@@ -80,43 +59,53 @@ fn full_tag(
     alloc: Global,
     name: &[u8],
     attributes: &[WrittenAttribute],
+    items: Vec<Item>,
     scope: &mut Scope,
-) -> Result<Option<Tag>, Memory>
-    ensures tag { (bindings : List Bound) → InForce scope.old.stacks bindings
-        → IfOk result (λ found. option_map tag_view found ≡ tag_of bindings name.now attributes.now) }
-    ensures within { (bindings : List Bound) → InForce scope.old.stacks bindings
-        → IfOk result (λ found. IfSome found (λ tag. InForce scope.new.stacks (tag.decls ++ bindings))) }
+) -> Result<Option<Element>, Memory>
+    requires { items.items ≡ [] }
+    ensures tag { (bindings : List Bound) → InForce scope.old bindings → IfOk result (λ found.
+        option_map element_view found ≡ option_map start_tag (tag_of bindings name.now attributes.now)) }
+    ensures within { (bindings : List Bound) → InForce scope.old bindings → IfOk result (λ found. IfSome found (λ e.
+        InForce scope.new (decls_view e.items.items ++ bindings))) }
 {
     if !are_distinct(alloc, attributes)? {
         return Ok(None);
     }
-    let Some(decls) = declarations(alloc, attributes)? else {
+    let mut items = items;
+    if !declarations(alloc, attributes, &mut items)? {
         return Ok(None);
-    };
-    scope.enter(alloc, decls.as_slice())?;
-    tag_within(alloc, name, attributes, decls, scope)
+    }
+    if !items.is_empty() {
+        scope.enter(alloc, items.as_slice())?;
+    }
+    tag_within(alloc, name, attributes, items, scope)
 }
 
+// the tag whose declarations are these, and within which the scope is
 fn tag_within(
     alloc: Global,
     name: &[u8],
     attributes: &[WrittenAttribute],
-    decls: Declarations,
+    items: Vec<Item>,
     scope: &mut Scope,
-) -> Result<Option<Tag>, Memory>
-    ensures tag { (bindings : List Bound) → InForce scope.old.stacks bindings
-        → IfOk result (λ found. option_map tag_view found
-        ≡ resolved_with decls (element_name_of bindings name.now) (expanded_by bindings attributes.now)) }
-    ensures same { scope.new.stacks ≡ scope.old.stacks }
+) -> Result<Option<Element>, Memory>
+    ensures tag { (bindings decls : List Bound) → InForce scope.old bindings
+        → items_view items.items ≡ map a_declaration decls → IfOk result (λ found. option_map element_view found
+        ≡ option_map start_tag (resolved_with decls (element_name_of bindings name.now)
+        (expanded_by bindings attributes.now))) }
+    ensures decls { (decls : List Bound) → items_view items.items ≡ map a_declaration decls
+        → IfOk result (λ found. IfSome found (λ e. decls_view e.items.items ≡ decls)) }
+    ensures same { (bindings : List Bound) → InForce scope.old bindings → OnOk result (InForce scope.new bindings) }
 {
-    let Some(name) = element_name(name, scope)? else {
+    let Some(name) = element_name(alloc, name, scope)? else {
         return Ok(None);
     };
-    let Some(attrs) = expanded(alloc, attributes, decls.len(), scope)? else {
-        return Ok(None);
-    };
-    if !are_distinct_names(alloc, attrs.as_slice())? {
+    let mut items = items;
+    if !expanded(alloc, attributes, &mut items, scope)? {
         return Ok(None);
     }
-    Ok(Some(Tag { name, decls, attrs }))
+    if !are_distinct_names(alloc, items.as_slice())? {
+        return Ok(None);
+    }
+    Ok(Some(Element { name, items }))
 }

@@ -1,4 +1,4 @@
-use crate::{Element, EnvelopeError, MAX_LENGTH, Part, check_payload, read_element, strip};
+use crate::{Element, EnvelopeError, Item, MAX_LENGTH, check_payload, read_element, strip};
 use std::alloc::{AllocError, Global};
 use std::test::Fail;
 
@@ -78,13 +78,10 @@ fn joins_text(rt: HostRuntime) -> Result<(), Fail> {
         rt.alloc(),
         b"<a>t\r\n&#13;<![CDATA[<]]>u<!-- c -->v<b/><!-- d --></a>",
     )?;
-    assert_eq!(rt; tree.parts.items.len(), 2);
-    let first = tree.parts.items.first().ok_or("no part")?;
-    let text = match first {
-        Part::Text(text) => text.as_slice(),
-        Part::Child(_) => b"".as_slice(),
+    let [Item::Text(text), Item::Child(_)] = tree.items.as_slice() else {
+        return Err("not a text and an element".into());
     };
-    assert_eq!(rt; text, b"t\n\r<uv".as_slice());
+    assert_eq!(rt; text.as_slice(), b"t\n\r<uv".as_slice());
     Ok(())
 }
 
@@ -126,27 +123,32 @@ fn names_are_expanded(rt: HostRuntime) -> Result<(), Fail> {
         rt.alloc(),
         b"<a xmlns='u' b='1' xml:c='2'><b xmlns=''/></a>",
     )?;
-    assert_eq!(rt; tree.name.space.as_slice(), b"u".as_slice());
-    assert_eq!(rt; tree.name.local.as_slice(), b"a".as_slice());
-    let [first, second] = tree.attrs.as_slice() else {
-        return Err("not two attributes".into());
+    assert_eq!(rt; tree.name.space(), b"u".as_slice());
+    assert_eq!(rt; tree.name.local(), b"a".as_slice());
+    let [
+        Item::Declaration(declaration),
+        Item::Attribute(first),
+        Item::Attribute(second),
+        Item::Child(child),
+    ] = tree.items.as_slice()
+    else {
+        return Err("not a declaration, two attributes and an element".into());
     };
-    assert!(rt; first.name.space.is_empty());
+    assert!(rt; declaration.prefix.is_empty());
+    assert_eq!(rt; declaration.space.as_slice(), b"u".as_slice());
+    assert!(rt; first.name.space().is_empty());
     assert_eq!(rt;
-        second.name.space.as_slice(),
+        second.name.space(),
         b"http://www.w3.org/XML/1998/namespace".as_slice()
     );
-    let Some(Part::Child(child)) = tree.parts.items.first() else {
-        return Err("no child".into());
-    };
-    assert!(rt; child.name.space.is_empty());
+    assert!(rt; child.name.space().is_empty());
     Ok(())
 }
 
-// the space of an element's child
-fn space_of(element: &Element, child: usize) -> &[u8] {
-    match element.parts.items.get(child) {
-        Some(Part::Child(child)) => child.name.space.as_slice(),
+// the space of an item that is an element
+fn space_of(element: &Element, item: usize) -> &[u8] {
+    match element.items.get(item) {
+        Some(Item::Child(child)) => child.name.space(),
         _ => b"none".as_slice(),
     }
 }
@@ -159,7 +161,7 @@ fn bindings_end_with_their_elements(rt: HostRuntime) -> Result<(), Fail> {
     )?;
     let spaces = ["", "u", "w", "u", "u", "v"];
     for i in 0..spaces.len() {
-        assert_eq!(rt; space_of(&tree, i), spaces[i].as_bytes(), "{i}");
+        assert_eq!(rt; space_of(&tree, 2 + i), spaces[i].as_bytes(), "{i}");
     }
     Ok(())
 }
@@ -170,29 +172,26 @@ fn default_namespaces_nest(rt: HostRuntime) -> Result<(), Fail> {
         rt.alloc(),
         b"<a xmlns='u'><b xmlns=''><c xmlns='v'/><d/></b></a>",
     )?;
-    let Some(Part::Child(inner)) = tree.parts.items.first() else {
+    let Some(Item::Child(inner)) = tree.items.last() else {
         return Err("no child".into());
     };
-    assert!(rt; inner.name.space.is_empty());
-    assert_eq!(rt; space_of(inner, 0), b"v".as_slice());
-    assert_eq!(rt; space_of(inner, 1), b"".as_slice());
+    assert!(rt; inner.name.space().is_empty());
+    assert_eq!(rt; space_of(inner, 1), b"v".as_slice());
+    assert_eq!(rt; space_of(inner, 2), b"".as_slice());
     Ok(())
 }
 
 #[test]
 fn declarations_are_stripped(rt: HostRuntime) -> Result<(), Fail> {
     let tree = read_element(rt.alloc(), b"<p:a xmlns:p='u' b='1'>t<c xmlns='v'/></p:a>")?;
-    assert_eq!(rt; tree.decls.len(), 1);
+    assert!(rt; matches!(tree.items.first(), Some(Item::Declaration(_))));
     let stripped = strip(rt.alloc(), &tree)?;
-    assert!(rt; stripped.decls.is_empty());
-    assert_eq!(rt; stripped.name.space.as_slice(), b"u".as_slice());
-    assert_eq!(rt; stripped.attrs.len(), 1);
-    assert_eq!(rt; stripped.parts.items.len(), 2);
-    let Some(Part::Child(child)) = stripped.parts.items.last() else {
-        return Err("no child".into());
+    assert_eq!(rt; stripped.name.space(), b"u".as_slice());
+    let [Item::Attribute(_), Item::Text(_), Item::Child(child)] = stripped.items.as_slice() else {
+        return Err("not an attribute, a text and an element".into());
     };
-    assert!(rt; child.decls.is_empty());
-    assert_eq!(rt; child.name.space.as_slice(), b"v".as_slice());
+    assert!(rt; child.items.is_empty());
+    assert_eq!(rt; child.name.space(), b"v".as_slice());
     Ok(())
 }
 

@@ -1,20 +1,26 @@
-use crate::few::Few;
+use crate::name::Name;
 use crate::shared::Shared;
-use rm_base::{Binding, Items};
 use soap_document::Bytes;
+use std::marker::Model;
 use std::mem::size_of;
 
-const _: () = prove!(size_of::<Name>() == 16);
+const _: () = prove!(size_of::<Element>() == 32);
 
-const _: () = prove!(size_of::<Element>() == 80);
+const _: () = prove!(size_of::<Item>() == 40);
 
-const _: () = prove!(size_of::<Part>() == 88);
-
-/// An expanded name: Namespaces in XML 1.0, section 2.1. A name in no namespace has the empty space.
+/// A declaration of a namespace: Namespaces in XML 1.0, section 3. That of the default namespace has the empty prefix.
 #[derive(Debug, Drop)]
-pub struct Name {
+pub struct Declaration {
+    pub prefix: Bytes,
     pub space: Shared,
-    pub local: Shared,
+}
+
+impl Model for Declaration {
+    ghost use Rattle.rm_base.specs.declared.message.Binding.{Binding};
+
+    ghost Value = { Binding };
+
+    ghost view = { λ d. record { prefix = d.prefix; space = d.space } };
 }
 
 #[derive(Debug, Drop)]
@@ -23,31 +29,22 @@ pub struct Attr {
     pub value: Bytes,
 }
 
-pub type Attrs = Items<Attr>;
-
-pub type Declarations = Few<Binding>;
-
-/// A part of an element's content: text that is not empty, or an element. No two texts are neighbours.
+/// What an element has: a declaration, an attribute, or a part of its content, which is text that is not empty or an
+/// element.
 #[derive(Debug, Drop)]
 #[cycle(tree)]
-pub enum Part {
+pub enum Item {
+    Declaration(Declaration),
+    Attribute(Attr),
     Text(Bytes),
     Child(Element),
 }
 
-/// An element. The declarations of namespaces stand apart from the attributes, each in their order.
+/// An element. What it has stands in one list, so that it takes little memory: its declarations, each in its order, its
+/// attributes and its parts. No two texts are neighbours.
 #[derive(Debug, Drop)]
 #[cycle(tree)]
 pub struct Element {
     pub name: Name,
-    pub decls: Declarations,
-    pub attrs: Attrs,
-    pub parts: Parts,
-}
-
-/// The parts of an element, in order.
-#[derive(Debug, Drop)]
-#[cycle(tree)]
-pub struct Parts {
-    pub items: Vec<Part>,
+    pub items: Vec<Item>,
 }

@@ -7,9 +7,9 @@ use Rattle.soap_document.specs.declared.attribute.WrittenAttribute.{WrittenAttri
 use Rattle.soap_document.specs.Tokens.{is_nil}
 use Rattle.soap_lex.proofs.HeldLemmas.{equal}
 use Rattle.soap_profile.specs.Namespaces.{split, is_new, are_distinct, is_other, is_new_name, are_distinct_names}
-use Rattle.rm_base.specs.declared.message.Binding.{Binding}
+use Rattle.soap_profile.specs.declared.name.Expanded.{Expanded as Name}
 use Rattle.soap_profile.specs.declared.tree.Attr.{Attr}
-use Rattle.soap_profile.specs.declared.tree.Name.{Name}
+use Rattle.rm_base.specs.declared.message.Binding.{Binding}
 use Rattle.soap_writer.specs.ElementText.{attribute_prefix}
 use Rattle.soap_writer.specs.Writable.{IsAttrWritable, IsTagWritable}
 use Rattle.soap_writer.proofs.Prefixes.{attribute_prefix-injective}

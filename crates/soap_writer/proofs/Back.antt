@@ -10,10 +10,10 @@ use Rattle.soap_document.specs.Grammar.{IsQName, full, IsContent, last, more, st
 use Rattle.soap_document.specs.Tree as written
 use Rattle.soap_profile.specs.Document.{Document}
 use Rattle.rm_base.specs.declared.message.Binding.{Binding}
-use Rattle.soap_profile.specs.declared.tree.Attr.{Attr}
-use Rattle.soap_profile.specs.declared.tree.Name.{Name}
 use Rattle.soap_profile.specs.Namespaces.{bound, declarations, resolve_parts, joined, Resolved, tag_of, declaring, resolved_with, is_new_name, are_distinct_names}
 use Rattle.soap_profile.specs.Tree.{Element, element, Parts, none, text, child, without_declarations, parts_without}
+use Rattle.soap_profile.specs.declared.name.Expanded.{Expanded as Name}
+use Rattle.soap_profile.specs.declared.tree.Attr.{Attr}
 use Rattle.soap_writer.specs.ElementText.{written_name, tag_text, element_text, parts_text}
 use Rattle.soap_writer.specs.Frame.{addressing_space}
 use Rattle.soap_writer.specs.ReadBack.{reference_mark, with_mark, IsUnmarked, ReadsAs}

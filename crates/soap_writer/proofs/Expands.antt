@@ -9,9 +9,9 @@ use Rattle.soap_document.specs.declared.attribute.WrittenAttribute.{WrittenAttri
 use Rattle.soap_document.specs.Tokens.{is_nil}
 use Rattle.soap_lex.proofs.HeldLemmas.{differ, equal}
 use Rattle.soap_profile.specs.Namespaces.{xmlns_space, split, declared_prefix, may_bind, declarations, bound, named, or_none, attribute_space, element_space, attribute_name, element_name, expanded}
-use Rattle.rm_base.specs.declared.message.Binding.{Binding}
+use Rattle.soap_profile.specs.declared.name.Expanded.{Expanded as Name}
 use Rattle.soap_profile.specs.declared.tree.Attr.{Attr}
-use Rattle.soap_profile.specs.declared.tree.Name.{Name}
+use Rattle.rm_base.specs.declared.message.Binding.{Binding}
 use Rattle.soap_writer.specs.Frame.{addressing_space}
 use Rattle.soap_writer.specs.ElementText.{attribute_prefix, written_name}
 use Rattle.soap_writer.specs.Writable.{IsAttrWritable, IsTagWritable}

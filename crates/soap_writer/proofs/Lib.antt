@@ -1,4 +1,3 @@
-pub mod Loops
 pub mod Prefixes
 pub mod Raws
 pub mod Expands

@@ -9,9 +9,9 @@ use Rattle.soap_document.specs.Grammar.{IsAttributes, end, more, IsQName, unpref
 use Rattle.soap_document.specs.Tokens.{is_nil}
 use Rattle.soap_lex.proofs.HeldLemmas.{same}
 use Rattle.soap_profile.specs.Namespaces.{xml_space}
-use Rattle.rm_base.specs.declared.message.Binding.{Binding}
+use Rattle.soap_profile.specs.declared.name.Expanded.{Expanded as Name}
 use Rattle.soap_profile.specs.declared.tree.Attr.{Attr}
-use Rattle.soap_profile.specs.declared.tree.Name.{Name}
+use Rattle.rm_base.specs.declared.message.Binding.{Binding}
 use Rattle.soap_writer.specs.ElementText.{quoted, written_name, declaration, attribute_text, attribute_prefix, attributes_text, mark, tag_text}
 use Rattle.soap_writer.specs.ReadBack.{reference_mark}
 use Rattle.soap_writer.specs.Writable.{IsAttrWritable, IsTagWritable}

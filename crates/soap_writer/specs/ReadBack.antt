@@ -4,8 +4,8 @@ use Rattle.soap_document.specs.Grammar.{IsElement}
 use Rattle.soap_document.specs.Tree as written
 use Rattle.rm_base.specs.declared.message.Binding.{Binding}
 use Rattle.soap_profile.specs.Namespaces.{resolve, is_new_name}
-use Rattle.soap_profile.specs.declared.tree.Attr.{Attr}
 use Rattle.soap_profile.specs.Tree.{Element, element, without_declarations}
+use Rattle.soap_profile.specs.declared.tree.Attr.{Attr}
 use Rattle.soap_writer.specs.Frame.{addressing_space}
 
 -- the attribute that marks a reference parameter (WS-Addressing 1.0 SOAP Binding, section 3.3)

@@ -1,7 +1,8 @@
 -- What writers of pieces leave.
-use Rattle.std.specs.Prelude.{◌≡◌, ℕ, List, ◌++◌, codes}
-use Rattle.soap_profile.specs.Tree.{Parts}
-use Rattle.soap_writer.specs.ElementText.{attribute_prefix, parts_text}
+use Rattle.std.specs.Prelude.{◌≡◌, ℕ, List, [], ◌++◌, false, codes}
+use Rattle.soap_lex.specs.Escapes.{escaped_text}
+use Rattle.soap_profile.specs.Items.{Item, a_declaration, an_attribute, a_text, a_child}
+use Rattle.soap_writer.specs.ElementText.{attribute_prefix, element_text}
 use Rattle.soap_writer.specs.declared.tags.Prefix.{Prefix}
 use Rattle.soap_writer.specs.declared.tags.Prefix.TheVariants.{OfElement, OfAttribute}
 
@@ -14,6 +15,9 @@ pub record Grows (old new : List ℕ) : Type 0 where
   pub more : List ℕ
   pub there : new ≡ old ++ more
 
--- one part, before those behind it
-abbrev pub WritesPart : (Parts → Parts) → List ℕ → List ℕ → Type 0
-WritesPart part old new = (rest : Parts) → old ++ parts_text (part rest) ≡ new ++ parts_text rest
+-- what an item is written as among the parts
+abbrev pub part_text : Item → List ℕ
+part_text (a_declaration b) = []
+part_text (an_attribute a) = []
+part_text (a_text bytes) = escaped_text bytes
+part_text (a_child e) = element_text false e

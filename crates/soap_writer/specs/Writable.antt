@@ -4,9 +4,9 @@ use Rattle.std.specs.List.{AllByRecursion}
 use Rattle.soap_lex.specs.Characters.{IsName, IsChars}
 use Rattle.soap_profile.specs.Namespaces.{xmlns_space, are_distinct_names}
 use Rattle.rm_base.specs.declared.message.Binding.{Binding}
-use Rattle.soap_profile.specs.declared.tree.Name.{Name}
-use Rattle.soap_profile.specs.declared.tree.Attr.{Attr}
 use Rattle.soap_profile.specs.Tree.{Element, element, Parts, none, text, child}
+use Rattle.soap_profile.specs.declared.name.Expanded.{Expanded as Name}
+use Rattle.soap_profile.specs.declared.tree.Attr.{Attr}
 
 -- a local name without a colon, and a namespace of characters that is not the one of xmlns (Namespaces 3)
 pub record IsNameWritable (name : Name) : Type 0 where

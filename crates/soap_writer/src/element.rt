@@ -1,11 +1,11 @@
 ghost use Rattle.std.specs.Prelude.{◌≡◌, ◌++◌, OnOk, OnErr};
-ghost use Rattle.soap_profile.specs.View.{element_view, part_view, parts_view};
+ghost use Rattle.soap_profile.specs.View.{element_view, item_view, parts_view};
 ghost use Rattle.soap_writer.specs.ElementText.{element_text, parts_text};
-ghost use Rattle.soap_writer.specs.Steps.{Grows, WritesPart};
+ghost use Rattle.soap_writer.specs.Steps.{Grows, part_text};
 
 use crate::tags::{push_end_tag, push_start_tag, push_text};
 use rm_base::{Blob, Memory};
-use soap_profile::{Element, Part};
+use soap_profile::{Element, Item};
 use std::alloc::Global;
 use std::mem;
 
@@ -36,29 +36,31 @@ fn push_element(element: &Element, marked: bool, out: &mut Vec<u8>) -> Result<()
     ensures ok { OnOk result (out.new.items ≡ out.old.items ++ element_text marked (element_view element.now)) }
     ensures err { OnErr result (Grows out.old.items out.new.items) }
 {
-    push_start_tag(&element.name, marked, element.attrs.as_slice(), out)?;
-    push_parts(element.parts.items.as_slice(), out)?;
+    push_start_tag(&element.name, marked, element.items.as_slice(), out)?;
+    push_parts(element.items.as_slice(), out)?;
     push_end_tag(&element.name, out)
 }
 
 #[cycle(writing)]
-fn push_parts(parts: &[Part], out: &mut Vec<u8>) -> Result<(), Memory>
-    ensures ok { OnOk result (out.new.items ≡ out.old.items ++ parts_text (parts_view parts.now)) }
+fn push_parts(items: &[Item], out: &mut Vec<u8>) -> Result<(), Memory>
+    ensures ok { OnOk result (out.new.items ≡ out.old.items ++ parts_text (parts_view items.now)) }
     ensures err { OnErr result (Grows out.old.items out.new.items) }
 {
-    for part in parts {
-        push_part(part, out)?;
+    for item in items {
+        push_part(item, out)?;
     }
     Ok(())
 }
 
+// nothing, where the item is no part
 #[cycle(writing)]
-fn push_part(part: &Part, out: &mut Vec<u8>) -> Result<(), Memory>
-    ensures ok { OnOk result (WritesPart (part_view part.now) out.old.items out.new.items) }
+fn push_part(item: &Item, out: &mut Vec<u8>) -> Result<(), Memory>
+    ensures ok { OnOk result (out.new.items ≡ out.old.items ++ part_text (item_view item.now)) }
     ensures err { OnErr result (Grows out.old.items out.new.items) }
 {
-    match part {
-        Part::Text(text) => push_text(text.as_slice(), out),
-        Part::Child(element) => push_element(element, false, out),
+    match item {
+        Item::Text(text) => push_text(text.as_slice(), out),
+        Item::Child(element) => push_element(element, false, out),
+        _ => Ok(()),
     }
 }

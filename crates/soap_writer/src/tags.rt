@@ -1,9 +1,10 @@
 // The pieces of a start tag. Each writer appends its piece, up to a want of memory.
-ghost use Rattle.std.specs.Prelude.{◌≡◌, [], ◌++◌, codes, OnOk, OnErr};
+ghost use Rattle.std.specs.Prelude.{◌≡◌, ◌<◌, ◌+◌, ◌^◌, [], ◌∷◌, ◌++◌, length, codes, IfOk, OnOk, OnErr};
 ghost use Rattle.std.specs.Str.{bytes_eq};
 ghost use Rattle.soap_document.specs.Grammar.{start_tag, end_tag};
 ghost use Rattle.soap_document.specs.Tokens.{is_nil};
 ghost use Rattle.soap_profile.specs.Namespaces.{xml_space};
+ghost use Rattle.soap_profile.specs.View.{attrs_view};
 ghost use Rattle.soap_lex.specs.Escapes.{escaped_text, escaped_value};
 ghost use Rattle.soap_writer.specs.ElementText.{quoted, written_name, declaration, attribute_text, attributes_text, mark, tag_text};
 ghost use Rattle.soap_writer.specs.Steps.{Grows, prefix_text};
@@ -11,7 +12,7 @@ ghost use Rattle.soap_writer.specs.Steps.{Grows, prefix_text};
 use itoa::Buffer;
 use rm_base::Memory;
 use soap_lex::{write_attr, write_text};
-use soap_profile::{Attr, Name};
+use soap_profile::{Attr, Item, Name};
 
 const XML_SPACE: &[u8] = b"http://www.w3.org/XML/1998/namespace";
 
@@ -76,13 +77,13 @@ pub(crate) fn push_text(text: &[u8], out: &mut Vec<u8>) -> Result<(), Memory>
 fn is_bare(name: &Name) -> bool
     ensures { result ≡ is_nil name.now.space }
 {
-    name.space.is_empty()
+    name.space().is_empty()
 }
 
 fn is_of_xml(name: &Name) -> bool
     ensures { result ≡ bytes_eq name.now.space xml_space }
 {
-    name.space.as_slice() == XML_SPACE
+    name.space() == XML_SPACE
 }
 
 fn push_name(prefix: Prefix, name: &Name, out: &mut Vec<u8>) -> Result<(), Memory>
@@ -90,15 +91,15 @@ fn push_name(prefix: Prefix, name: &Name, out: &mut Vec<u8>) -> Result<(), Memor
     ensures err { OnErr result (Grows out.old.items out.new.items) }
 {
     if is_bare(name) {
-        return push(name.local.as_slice(), out);
+        return push(name.local(), out);
     }
     if is_of_xml(name) {
         push(b"xml:", out)?;
-        return push(name.local.as_slice(), out);
+        return push(name.local(), out);
     }
     push_prefix(prefix, out)?;
     push(b":", out)?;
-    push(name.local.as_slice(), out)
+    push(name.local(), out)
 }
 
 fn push_declaration(prefix: Prefix, name: &Name, out: &mut Vec<u8>) -> Result<(), Memory>
@@ -111,7 +112,7 @@ fn push_declaration(prefix: Prefix, name: &Name, out: &mut Vec<u8>) -> Result<()
     push(b" xmlns:", out)?;
     push_prefix(prefix, out)?;
     push(b"=", out)?;
-    push_quoted(name.space.as_slice(), out)
+    push_quoted(name.space(), out)
 }
 
 fn push_attribute(prefix: Prefix, attr: &Attr, out: &mut Vec<u8>) -> Result<(), Memory>
@@ -125,12 +126,27 @@ fn push_attribute(prefix: Prefix, attr: &Attr, out: &mut Vec<u8>) -> Result<(), 
     push_quoted(attr.value.as_slice(), out)
 }
 
-fn push_attributes(attrs: &[Attr], out: &mut Vec<u8>) -> Result<(), Memory>
-    ensures ok { OnOk result (out.new.items ≡ out.old.items ++ attributes_text 0 attrs.now) }
+// an item, if it is an attribute, and the number of the attribute behind it
+fn push_item(number: usize, item: &Item, out: &mut Vec<u8>) -> Result<usize, Memory>
+    requires { number + 1 < 2 ^ 64 }
+    ensures next { IfOk result (λ next. next ≡ number + length (attrs_view (item.now ∷ []))) }
+    ensures ok { OnOk result (out.new.items ≡ out.old.items ++ attributes_text number (attrs_view (item.now ∷ []))) }
     ensures err { OnErr result (Grows out.old.items out.new.items) }
 {
-    for (i, attr) in attrs.iter().enumerate() {
-        push_attribute(Prefix::OfAttribute(i), attr, out)?;
+    let Item::Attribute(attr) = item else {
+        return Ok(number);
+    };
+    push_attribute(Prefix::OfAttribute(number), attr, out)?;
+    Ok(number + 1)
+}
+
+fn push_attributes(items: &[Item], out: &mut Vec<u8>) -> Result<(), Memory>
+    ensures ok { OnOk result (out.new.items ≡ out.old.items ++ attributes_text 0 (attrs_view items.now)) }
+    ensures err { OnErr result (Grows out.old.items out.new.items) }
+{
+    let mut number = 0;
+    for item in items {
+        number = push_item(number, item, out)?;
     }
     Ok(())
 }
@@ -149,18 +165,18 @@ fn push_mark(marked: bool, out: &mut Vec<u8>) -> Result<(), Memory>
 pub(crate) fn push_start_tag(
     name: &Name,
     marked: bool,
-    attrs: &[Attr],
+    items: &[Item],
     out: &mut Vec<u8>,
 ) -> Result<(), Memory>
     ensures ok { OnOk result (out.new.items ≡ out.old.items
-        ++ start_tag (written_name (codes "n") name.now) (tag_text marked name.now attrs.now)) }
+        ++ start_tag (written_name (codes "n") name.now) (tag_text marked name.now (attrs_view items.now))) }
     ensures err { OnErr result (Grows out.old.items out.new.items) }
 {
     push(b"<", out)?;
     push_name(Prefix::OfElement, name, out)?;
     push_declaration(Prefix::OfElement, name, out)?;
     push_mark(marked, out)?;
-    push_attributes(attrs, out)?;
+    push_attributes(items, out)?;
     push(b">", out)
 }
 

@@ -63,6 +63,6 @@ fn frames(rt: HostRuntime) -> Result<(), Fail> {
     );
     assert_eq!(rt; out.as_slice(), written.as_bytes());
     let tree = read(rt.alloc(), out.as_slice())?;
-    assert_eq!(rt; tree.parts.items.len(), 2);
+    assert_eq!(rt; tree.items.len(), 2);
     Ok(())
 }

@@ -5,7 +5,7 @@ use Rattle.soap_envelope.specs.Envelope.{children_of}
 use Rattle.soap_envelope.proofs.outline.children.Given as goal
 
 -- the elements so far, and those of what is left
-abbrev pub invariant-loop-part : goal.invariant-loop-part
-invariant-loop-part l =
-    map element_view l.items.items ++ children_of (parts_view (into_iter_items l.part-iterator))
-    ≡ children_of (parts_view l.fn.parts.items)
+abbrev pub invariant-loop-item : goal.invariant-loop-item
+invariant-loop-item l =
+    map element_view l.children.items ++ children_of (parts_view (into_iter_items l.item-iterator))
+    ≡ children_of (parts_view l.fn.items.items)

@@ -3,7 +3,7 @@ use Rattle.std.proofs.lemmas.Bool.{true≢false}
 use Rattle.std.specs.Vec.Iter.{into_iter_items}
 use Rattle.soap_profile.specs.Tree.{none}
 use Rattle.soap_profile.specs.View.{element_view, parts_view}
-use Rattle.soap_profile.specs.declared.tree.Part.{Part}
+use Rattle.soap_profile.specs.declared.tree.Item.{Item}
 use Rattle.soap_envelope.specs.Envelope.{name_of, soap_name, IsSpaced}
 use Rattle.soap_envelope.specs.Steps.{Outlined}
 use Rattle.soap_envelope.proofs.Outlines.{no_outline_next, no_outline_here, outlined_body, outlined_header}
@@ -12,20 +12,20 @@ use Rattle.soap_envelope.proofs.outline.outline.Goals.{else-is_named-2-via-then-
 
 pub returns-in_default : goal.returns-in_default
 returns-in_default c =
-    subst (λ (xs : List Part). Outlined (parts_view xs) None) c.into_iter-parts.ensures.rest
+    subst (λ (xs : List Item). Outlined (parts_view xs) None) c.into_iter-parts.ensures.rest
     (no_outline_next (parts_view (into_iter_items c.into_iter-parts.result)) c.next_child.result (parts_view
     (into_iter_items c.next_child.new.parts)) c.next_child.ensures c.in_default.not-Child)
 
 pub returns-then-is_named : goal.returns-then-is_named
 returns-then-is_named c =
-    subst (λ (xs : List Part). Outlined (parts_view xs) c.with_header.result) c.into_iter-parts.ensures.rest
+    subst (λ (xs : List Item). Outlined (parts_view xs) c.with_header.result) c.into_iter-parts.ensures.rest
     (outlined_header (parts_view (into_iter_items c.into_iter-parts.result)) c.in-Child.first (parts_view
     (into_iter_items c.next_child.new.parts)) c.in-Child.ensures (c.is_named.ensures.0 c.if-is_named.true)
     c.with_header.result c.with_header.ensures.found c.with_header.ensures.alone)
 
 pub returns-then-is_end : goal.returns-then-is_end
 returns-then-is_end c =
-    subst (λ (xs : List Part). Outlined (parts_view xs) (Some (None, c.in-Child.first))) c.into_iter-parts.ensures.rest
+    subst (λ (xs : List Item). Outlined (parts_view xs) (Some (None, c.in-Child.first))) c.into_iter-parts.ensures.rest
     (outlined_body (parts_view (into_iter_items c.into_iter-parts.result)) c.in-Child.first (parts_view
     (into_iter_items c.next_child.new.parts)) c.in-Child.ensures (c.is_named-2.ensures.0 c.if-is_named-2.true)
     (c.is_end.ensures.0 c.if-is_end.true))
@@ -43,6 +43,6 @@ returns c =
       | else-is_named-2-via-else-is_named-2 w ↦ λ n e. true≢false (sym (c.is_named-2.ensures.1 n)
           ∙ w.if-is_named-2.false)
     ] in
-    subst (λ (xs : List Part). Outlined (parts_view xs) None) c.into_iter-parts.ensures.rest
+    subst (λ (xs : List Item). Outlined (parts_view xs) None) c.into_iter-parts.ensures.rest
     (no_outline_here (parts_view (into_iter_items c.into_iter-parts.result)) first rest c.in-Child.ensures no_header
     no_body)

@@ -11,6 +11,6 @@ returns-in_default c =
 pub returns : goal.returns
 returns c =
     some_blocks c.args.outer.now c.args.header c.in-Some.header (map element_view c.in_ok-children.field-0.items.items)
-    (parts_view c.taken_apart-decls.result.parts.items) c.as_slice.result.now c.in_ok-scope.scope c.in-Some.is
-    c.in_ok-children.ensures c.taken_apart-decls.ensures.parts
-    (c.as_slice.ensures ∙ c.taken_apart-decls.ensures.decls) c.in_ok-scope.ensures
+    (parts_view c.in_ok-decls.field-0.items.items) c.as_slice.result.now c.in_ok-scope.scope c.in-Some.is
+    c.in_ok-children.ensures c.in_ok-decls.ensures.parts
+    (c.as_slice.ensures.value ∙ c.in_ok-decls.ensures.decls) c.in_ok-scope.ensures

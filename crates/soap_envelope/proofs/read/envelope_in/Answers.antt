@@ -11,7 +11,7 @@ pub unreachable-requires : goal.unreachable-requires
 unreachable-requires c =
     has_last c.args.last (option_map element_view c.in-Some.header) (element_view c.in-Some.body) c.requires
     (subst (λ (ps : Parts). IsOutline ps (option_map element_view c.in-Some.header) (element_view c.in-Some.body))
-    c.taken_apart-name.ensures.parts c.in-Some.ensures) c.in_default-last.is
+    c.in_ok-name.ensures.parts c.in-Some.ensures) c.in_default-last.is
 
 pub content-requires : goal.content-requires
 content-requires c =
@@ -23,14 +23,14 @@ returns c =
     let tree = element_view c.args.root in
     let header = option_map element_view c.in-Some.header in
     let body = element_view c.in-Some.body in
-    let local : c.taken_apart-name.result.name.local ≡ codes "Envelope" = sym c.as_slice.ensures
-    ∙ same_slices c.as_slice.result.now c.as_slice-2.result.now c.ne.result c.ne.ensures c.if-ne.false
-    ∙ c.as_slice-2.ensures in
-    let space : c.taken_apart-name.result.name.space ≡ soap_space = sym c.as_slice-3.ensures
-    ∙ same_slices c.as_slice-3.result.now soap_space c.ne-2.result c.ne-2.ensures c.if-ne-2.false in
-    let named : name_of tree ≡ soap_name (codes "Envelope") = sym c.taken_apart-name.ensures.name ∙ name_is
-    c.taken_apart-name.result.name soap_space (codes "Envelope") space local in
-    is_envelope c.args.bytes.now tree c.args.last c.in-Some-last.place header body c.as_slice-5.result.now
+    let local : c.in_ok-name.field-0.name.local ≡ codes "Envelope" = sym c.local.ensures
+    ∙ same_slices c.local.result.now c.as_slice.result.now c.ne.result c.ne.ensures c.if-ne.false
+    ∙ c.as_slice.ensures in
+    let space : c.in_ok-name.field-0.name.space ≡ soap_space = sym c.space.ensures
+    ∙ same_slices c.space.result.now soap_space c.ne-2.result c.ne-2.ensures c.if-ne-2.false in
+    let named : name_of tree ≡ soap_name (codes "Envelope") = sym c.in_ok-name.ensures.name ∙ name_is
+    c.in_ok-name.field-0.name soap_space (codes "Envelope") space local in
+    is_envelope c.args.bytes.now tree c.args.last c.in-Some-last.place header body c.as_slice-3.result.now
     (envelope_view
     (record {
       headers = c.in_ok-headers.headers;
@@ -38,9 +38,9 @@ returns c =
       payload = c.in_ok-payload.payload;
       body = c.in_ok-payload.body;
     })) c.requires c.in-Some-last.is named
-    (subst (λ (ps : Parts). IsOutline ps header body) c.taken_apart-name.ensures.parts c.in-Some.ensures)
-    (c.as_slice-5.ensures ∙ c.taken_apart-name.ensures.decls)
+    (subst (λ (ps : Parts). IsOutline ps header body) c.in_ok-name.ensures.parts c.in-Some.ensures)
+    (c.as_slice-3.ensures.value ∙ c.in_ok-name.ensures.decls)
     (subst (λ (ds : List Binding). IsHeader ds header (map element_view c.in_ok-headers.headers.items.items)
-    c.in_ok-headers.header_scope) (c.as_slice-4.ensures ∙ sym c.as_slice-5.ensures) c.in_ok-headers.ensures)
+    c.in_ok-headers.header_scope) (c.as_slice-2.ensures.value ∙ sym c.as_slice-3.ensures.value) c.in_ok-headers.ensures)
     c.in_ok-payload.ensures.bytes
     c.in_ok-payload.ensures.scope c.in_ok-payload.ensures.content

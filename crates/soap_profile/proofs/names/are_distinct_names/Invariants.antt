@@ -1,8 +1,8 @@
 use Rattle.std.proofs.Common.{◌≡◌, map, take}
-use Rattle.soap_profile.specs.Tree.{Attr}
 use Rattle.soap_profile.specs.Keys.{keys_of}
+use Rattle.soap_profile.specs.View.{attrs_view}
+use Rattle.soap_profile.proofs.Distinct.{name_key}
 use Rattle.soap_profile.proofs.names.are_distinct_names.Given as goal
 
-abbrev pub invariant-loop-attr : goal.invariant-loop-attr
-invariant-loop-attr l = keys_of l.keys.items ≡ map (λ (a : Attr). (a.name.local, a.name.space)) (take l.attr-index
-    l.attrs)
+abbrev pub invariant-loop-item : goal.invariant-loop-item
+invariant-loop-item l = keys_of l.keys.items ≡ map name_key (attrs_view (take l.item-index l.items))

@@ -5,11 +5,11 @@ use Rattle.soap_document.proofs.Inside.{around, content-at, fed_around}
 use Rattle.soap_profile.specs.Opened.{rooted}
 use Rattle.soap_profile.specs.Payload.{IsClosedContent}
 use Rattle.soap_profile.specs.Resolving.{Stands, root_view}
-use Rattle.soap_profile.specs.View.{parts_view}
-use Rattle.soap_profile.specs.declared.tree.Part.{Part}
+use Rattle.soap_profile.specs.View.{decls_view, attrs_view, parts_view}
+use Rattle.soap_profile.specs.declared.tree.Item.{Item}
 use Rattle.soap_profile.proofs.Roots.{read}
 use Rattle.soap_profile.proofs.Payloads.{not_closed, elsewhere, closed, is_payload}
-use Rattle.soap_profile.proofs.Trees.{element_is}
+use Rattle.soap_profile.proofs.Items.{element_is}
 use Rattle.soap_profile.proofs.payload.check_payload.Goals.{In_ok-feed-3, then-eq, else-eq}
 use Rattle.soap_profile.proofs.payload.check_payload.Goals as goal
 
@@ -54,9 +54,10 @@ returns c =
     elim c.if-eq.branch [
       | then-eq w ↦
           let tree = root.tree in
-          closed bytes (root_view root) tree.name tree.decls tree.attrs (parts_view tree.parts.items.items)
+          let items = tree.items.items in
+          closed bytes (root_view root) tree.name (decls_view items) (attrs_view items) (parts_view items)
           c.if-eq.result is (sym w.if-eq.ensures) (element_is tree) (w.result-is ∙ w.is_payload.ensures
-          ∙ ap (λ (parts : List Part). is_payload (parts_view parts)) w.as_slice.ensures.value)
+          ∙ ap (λ (items : List Item). is_payload (parts_view items)) w.as_slice.ensures.value)
       | else-eq w ↦
           subst (λ (b : Bool). IsTrue b ↔ IsClosedContent bytes) (sym (w.result-is ∙ w.if-eq.false)) (elsewhere bytes
           (root_view root) is (sym w.if-eq.ensures))

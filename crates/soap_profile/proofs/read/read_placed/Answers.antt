@@ -30,8 +30,8 @@ pub returns-clause-not_profile : goal.returns-clause-not_profile
 returns-clause-not_profile c = λ e. elim c.match-read_tree.branch [
   | in-Ok-None w ↦
       let bytes = c.args.bytes.now in
-      let utf8 : IsUtf8 bytes = subst IsUtf8 (take_all c.utf8_prefix-valid_up_to.result bytes c.if-valid_up_to-bytes.false)
-      c.utf8_prefix-valid_up_to.ensures.valid in
+      let utf8 : IsUtf8 bytes = subst IsUtf8 (take_all c.utf8_prefix-valid_up_to.result bytes
+      c.if-valid_up_to-bytes.false) c.utf8_prefix-valid_up_to.ensures.valid in
       let none : (tree : Tree) → ¬ (Document bytes tree) = subst (λ (o : Option Placed). IfNone o ((tree : Tree) → ¬
       (Document bytes tree))) w.in-Ok-None.field-0-is w.in-Ok-None.ensures.none in
       (c.if-bytes-gt-MAX_LENGTH.false, utf8, none)

@@ -1,18 +1,46 @@
-use Rattle.std.proofs.Common.{◌≡◌, ◌++◌, Some, List, true, sym, subst, ◌∙◌}
+use Rattle.std.proofs.Common.{◌≡◌, ◌++◌, List, true, sym, subst, ◌∙◌}
+use Rattle.soap_document.proofs.Steps.{nil_from_len}
 use Rattle.soap_profile.specs.Namespaces.{declarations, are_distinct}
 use Rattle.soap_profile.specs.Scope.{InForce}
 use Rattle.soap_profile.specs.Tree.{Binding}
-use Rattle.soap_profile.proofs.Tags.{tag_is, same_tag}
+use Rattle.soap_profile.specs.View.{items_view, decls_view}
+use Rattle.soap_profile.specs.declared.scope.Scope.{Scope}
+use Rattle.soap_profile.specs.declared.tree.Item.{Item}
+use Rattle.soap_profile.proofs.Tags.{declared_of, within_declared, tag_is, same_tag, within_tag}
+use Rattle.soap_profile.proofs.tag.full_tag.Goals.{then-not-is_empty+in_ok-enter, else-not-is_empty}
 use Rattle.soap_profile.proofs.tag.full_tag.Goals as goal
+
+entered : (c : goal.After-tag_within) (bindings : List Binding) → InForce c.args.scope.now bindings
+    → InForce c.if-not-is_empty.scope (decls_view c.declarations.new.items.items ++ bindings)
+entered c bindings h = elim c.if-not-is_empty.branch [
+  | then-not-is_empty+in_ok-enter w ↦
+      subst (λ (s : Scope). InForce s (decls_view c.declarations.new.items.items ++ bindings)) (sym w.scope-is)
+      (subst (λ (xs : List Item). InForce w.enter.new.self (decls_view xs ++ bindings)) w.as_slice.ensures.value
+      (w.in_ok-enter.ensures bindings h))
+  | else-not-is_empty w ↦
+      let none = nil_from_len c.declarations.new.items.items c.declarations.new.items.len c.declarations.new.items.ok.0
+      (sym c.is_empty.ensures ∙ w.if-not-is_empty.false) in
+      subst (λ (s : Scope). InForce s (decls_view c.declarations.new.items.items ++ bindings)) (sym w.scope-is)
+      (subst (λ (xs : List Item). InForce c.args.scope.now (decls_view xs ++ bindings)) (sym none) h)
+]
 
 pub returns-clause-tag : goal.returns-clause-tag
 returns-clause-tag c = λ bindings h.
     let name = c.args.name.now in
     let attributes = c.args.attributes.now in
-    let ds : List Binding = c.in-Some.decls in
+    let items = c.declarations.new.items.items in
+    let (decls, (is, view)) = declared_of _ c.args.items.items (items_view items) (declarations attributes) c.requires
+    c.in_ok-declarations.ensures c.if-not-branch-2.false in
     let distinct : are_distinct attributes ≡ true = sym c.in_ok-are_distinct.ensures ∙ c.if-not-branch.false in
-    let decls : declarations attributes ≡ Some ds = sym c.in_ok-decls.ensures ∙ c.in-Some.is in
-    let within : InForce c.enter.new.self.stacks (ds ++ bindings) = subst (λ (xs : List Binding). InForce
-    c.enter.new.self.stacks (xs ++ bindings)) c.as_slice.ensures (c.in_ok-enter.ensures bindings h) in
-    same_tag c.tag_within.result _ _ (c.tag_within.ensures.tag (ds ++ bindings) within)
-    (tag_is bindings name attributes ds distinct decls)
+    let within = within_declared c.if-not-is_empty.scope items decls bindings view (entered c bindings h) in
+    same_tag c.tag_within.result _ _ (c.tag_within.ensures.tag (decls ++ bindings) decls within view)
+    (tag_is bindings name attributes decls distinct is)
+
+pub returns-clause-within : goal.returns-clause-within
+returns-clause-within c = λ bindings h.
+    let items = c.declarations.new.items.items in
+    let (decls, (is, view)) = declared_of _ c.args.items.items (items_view items) (declarations c.args.attributes.now)
+    c.requires c.in_ok-declarations.ensures c.if-not-branch-2.false in
+    let within = within_declared c.if-not-is_empty.scope items decls bindings view (entered c bindings h) in
+    within_tag c.tag_within.result c.tag_within.new.scope decls bindings (c.tag_within.ensures.same (decls ++ bindings)
+    within) (c.tag_within.ensures.decls decls view)

@@ -3,13 +3,13 @@ use Rattle.std.proofs.lemmas.Result.{on_ok_weaker}
 use Rattle.soap_profile.specs.Opened.{Nest, nest}
 use Rattle.soap_profile.specs.Resolving.{sound, broken, nest_view, opened_view}
 use Rattle.soap_profile.specs.Scope.{InForce}
-use Rattle.soap_profile.specs.Tree.{Binding, element}
-use Rattle.soap_profile.specs.View.{element_view, parts_view}
+use Rattle.soap_profile.specs.Tree.{element}
+use Rattle.soap_profile.specs.View.{element_view, decls_view, attrs_view, parts_view}
 use Rattle.soap_profile.specs.declared.resolver.Opened.{Opened}
-use Rattle.soap_profile.specs.declared.tree.Part.{Part}
+use Rattle.soap_profile.specs.declared.tree.Item.{Item}
+use Rattle.soap_profile.proofs.Items.{element_is}
 use Rattle.soap_profile.proofs.Nests.{nest-child, closes, stays_broken, element_of, tree_of}
 use Rattle.soap_profile.proofs.Resolvers.{sound_is, broken_is, below_popped, child_closed}
-use Rattle.soap_profile.proofs.Trees.{element_is}
 use Rattle.soap_profile.proofs.resolver.ResolverHandler.close.Goals as goal
 
 pub returns-then-self : goal.returns-then-self
@@ -30,20 +30,15 @@ returns c = λ top outer below h.
     ≡ opened_view c.in-Some.outer ∷ reverse (map opened_view c.pop.new.self.items) =
     sym k.below ∙ below_popped self.below.items c.pop.new.self.items c.pop.result c.in-Some.outer c.pop.ensures.items
     c.in-Some.is in
-    let within : s.bindings ≡ c.as_slice.result.now ++ k.outer.scope =
-    k.scope ∙ ap (λ (ds : List Binding). ds ++ k.outer.scope) (sym (c.as_slice.ensures
-    ∙ ap (λ (o : Opened). o.tag.decls) c.replace-inner.ensures.value)) in
-    let left : InForce c.leave.new.self.stacks k.outer.scope =
-    c.leave.ensures k.outer.scope (subst (InForce self.scope.stacks) within s.within) in
+    let within : s.bindings ≡ decls_view c.as_slice.result.now ++ k.outer.scope =
+    k.scope ∙ ap (λ (items : List Item). decls_view items ++ k.outer.scope) (sym (c.as_slice.ensures.value
+    ∙ ap (λ (o : Opened). o.element.items.items) c.replace-inner.ensures.value)) in
+    let left : InForce c.leave.new.self k.outer.scope =
+    c.leave.ensures k.outer.scope (subst (InForce self.scope) within s.within) in
     let made : element_view _ ≡ tree_of (opened_view inner) =
-    element_is (record {
-      name = inner.tag.name;
-      decls = inner.tag.decls;
-      attrs = inner.tag.attrs;
-      parts = record { items = c.in_ok-fitted.field-0 };
-    })
-    ∙ ap (λ (xs : List Part). element inner.tag.name inner.tag.decls inner.tag.attrs (parts_view xs))
-    c.in_ok-fitted.ensures in
+    element_is (record { name = inner.element.name; items = c.in_ok-items.items })
+    ∙ ap (λ (xs : List Item). element inner.element.name (decls_view xs) (attrs_view xs) (parts_view xs))
+    c.in_ok-items.ensures in
     on_ok_weaker c.add.result (λ e. sound k.outer.scope c.if-self.false left (nest-child outer below raw
     ∙ k.closed ∙ ap (λ (n : Nest). Some n) (child_closed k.outer end self.top inner c.in-Some.outer
     c.replace-inner.new.dest _ _ (reverse (map opened_view c.pop.new.self.items)) c.replace-inner.ensures.value

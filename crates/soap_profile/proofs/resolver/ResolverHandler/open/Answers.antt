@@ -1,29 +1,39 @@
-use Rattle.std.proofs.Common.{◌≡◌, List, [], ◌∷◌, ◌++◌, Some, option_map, map, reverse, sym, ap, ◌∙◌}
+use Rattle.std.proofs.Common.{◌≡◌, List, [], ◌∷◌, ◌++◌, map, reverse, refl, ap, ◌∙◌}
 use Rattle.soap_profile.specs.Namespaces.{tag_of}
 use Rattle.soap_profile.specs.Opened.{within, within_all}
-use Rattle.soap_profile.specs.Resolving.{sound, nest_view, opened_view}
-use Rattle.soap_profile.specs.View.{tag_view}
+use Rattle.soap_profile.specs.Resolving.{sound, broken, nest_view, opened_view}
+use Rattle.soap_profile.specs.View.{decls_view}
 use Rattle.soap_profile.specs.declared.resolver.Opened.{Opened}
 use Rattle.soap_profile.proofs.Nests.{begun}
-use Rattle.soap_profile.proofs.Resolvers.{sound_is, below_pushed, entered}
+use Rattle.soap_profile.proofs.Resolvers.{sound_is, below_pushed, tagged, untagged, entered}
 use Rattle.soap_profile.proofs.resolver.ResolverHandler.open.Goals as goal
+
+pub returns-in_default : goal.returns-in_default
+returns-in_default c = λ top below h.
+    let self = c.args.self.now in
+    let attributes = c.args.attributes.now in
+    let frame = begun c.args.name.now attributes c.args.start in
+    let s = sound_is self top below h c.if-self.false in
+    broken refl (ap (within_all frame) s.is ∙ ap (within frame (nest_view self s.bindings)) (untagged (tag_of s.bindings
+    c.args.name.now attributes) c.in_ok-element.field-0 (c.in_ok-element.ensures.tag s.bindings s.within)
+    c.in_default.is))
 
 pub returns : goal.returns
 returns c = λ top below h.
     let self = c.args.self.now in
     let attributes = c.args.attributes.now in
-    let tag = c.in-Some.tag in
+    let element = c.in-Some-2.element in
     let frame = begun c.args.name.now attributes c.args.start in
     let s = sound_is self top below h c.if-self.false in
-    let named : tag_of s.bindings c.args.name.now attributes ≡ Some (tag_view tag) =
-    sym (c.in_ok-tag.ensures.tag s.bindings s.within) ∙ ap (option_map tag_view) c.in-Some.is in
-    let within_tag = entered c.in_ok-tag.field-0 tag c.resolved_tag.new.scope.stacks s.bindings c.in-Some.is
-    (c.in_ok-tag.ensures.within s.bindings s.within) in
-    let pushed : reverse (map opened_view c.push.new.self.items)
+    let t = tagged (tag_of s.bindings c.args.name.now attributes) c.in_ok-element.field-0 element
+    (c.in_ok-element.ensures.tag s.bindings s.within) c.in-Some-2.is in
+    let inside = entered c.in_ok-element.field-0 element c.resolved_tag.new.scope s.bindings c.in-Some-2.is
+    (c.in_ok-element.ensures.within s.bindings s.within) in
+    let around : reverse (map opened_view c.push.new.self.items)
     ≡ opened_view self.top ∷ reverse (map opened_view self.below.items) =
     ap (λ (xs : List Opened). reverse (map opened_view xs)) (c.in_ok-push.ensures.items
     ∙ ap (λ (o : Opened). self.below.items ++ o ∷ []) c.replace-outer.ensures.value)
     ∙ below_pushed self.below.items self.top in
-    sound (tag.decls ++ s.bindings) c.if-self.false within_tag (ap (within_all frame) s.is
-    ∙ ap (within frame (nest_view self s.bindings)) named
-    ∙ rw (c.replace-outer.ensures.after, c.clear.ensures.items, pushed))
+    sound (decls_view element.items.items ++ s.bindings) c.if-self.false inside (ap (within_all frame) s.is
+    ∙ ap (within frame (nest_view self s.bindings)) t.tag
+    ∙ rw (c.replace-outer.ensures.after, t.parts, around))

@@ -1,0 +1,10 @@
+use Rattle.std.proofs.Common.{[], rules}
+use Rattle.soap_profile.specs.Namespaces.{element_name, attribute_name}
+use Rattle.soap_profile.proofs.scope.Scope.new.Goals as goal
+
+pub returns : goal.returns
+returns c = record {
+  stacks = search rules;
+  elements = c.in_ok-new.ensures (element_name []);
+  attributes = c.in_ok-new-2.ensures (attribute_name []);
+}

@@ -1,0 +1,28 @@
+use Rattle.std.proofs.Common.{Some, sym, ap, ◌∙◌}
+use Rattle.soap_profile.specs.Items.{decls_among}
+use Rattle.soap_profile.specs.Namespaces.{are_distinct_names}
+use Rattle.soap_profile.specs.Tree.{Element}
+use Rattle.soap_profile.specs.View.{attrs_view}
+use Rattle.soap_profile.proofs.Items.{element_is, decls-declarations}
+use Rattle.soap_profile.proofs.Tags.{tag_resolved}
+use Rattle.soap_profile.proofs.tag.tag_within.Goals as goal
+
+pub returns-then-not-branch-2-clause-tag : goal.returns-then-not-branch-2-clause-tag
+returns-then-not-branch-2-clause-tag c = λ bindings decls h o.
+    tag_resolved decls _ _ c.args.items.items c.expanded.new.items.items c.in-Some.name _ _ o
+    (sym (c.in_ok-name.ensures.name bindings h) ∙ c.in-Some.is)
+    (c.in_ok-expanded.ensures.attrs bindings (c.in_ok-name.ensures.same bindings h)) c.if-not-branch.false
+    (ap (λ xs. are_distinct_names (attrs_view xs)) (sym c.as_slice.ensures.value)
+    ∙ sym c.in_ok-are_distinct_names.ensures ∙ c.if-not-branch-2.true)
+
+pub returns-clause-tag : goal.returns-clause-tag
+returns-clause-tag c = λ bindings decls h o.
+    ap (λ (e : Element). Some e) (element_is (record { name = c.in-Some.name; items = c.expanded.new.items }))
+    ∙ tag_resolved decls _ _ c.args.items.items c.expanded.new.items.items c.in-Some.name _ _ o
+    (sym (c.in_ok-name.ensures.name bindings h) ∙ c.in-Some.is)
+    (c.in_ok-expanded.ensures.attrs bindings (c.in_ok-name.ensures.same bindings h)) c.if-not-branch.false
+    (ap (λ xs. are_distinct_names (attrs_view xs)) (sym c.as_slice.ensures.value)
+    ∙ sym c.in_ok-are_distinct_names.ensures ∙ c.if-not-branch-2.false)
+
+pub returns-clause-decls : goal.returns-clause-decls
+returns-clause-decls c = λ decls o. c.in_ok-expanded.ensures.decls ∙ ap decls_among o ∙ decls-declarations decls

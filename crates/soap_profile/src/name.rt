@@ -1,0 +1,79 @@
+ghost use Rattle.std.specs.Prelude.{◌≡◌, IsTrue, ◌↔◌, IfOk};
+
+use crate::shared::Shared;
+use rm_base::Memory;
+use soap_document::Bytes;
+use std::alloc::Global;
+use std::marker::Model;
+use std::mem::size_of;
+use std::rc::Rc;
+
+const _: () = prove!(size_of::<Name>() == 8);
+
+/// An expanded name: Namespaces in XML 1.0, section 2.1. A name in no namespace has the empty space. It is one word, and
+/// elements and attributes of one name share what it stands for.
+#[derive(Debug, Drop)]
+pub struct Name {
+    expanded: Rc<Expanded>,
+}
+
+#[derive(Debug, Drop)]
+struct Expanded {
+    space: Shared,
+    local: Bytes,
+}
+
+impl Model for Name {
+    ghost use Rattle.soap_profile.specs.declared.name.Expanded.{Expanded};
+
+    ghost Value = { Expanded };
+
+    ghost view = { λ name. name.expanded.value };
+}
+
+impl Name {
+    pub fn new(alloc: Global, space: Shared, local: &[u8]) -> Result<Self, Memory>
+        ensures { IfOk result (λ name. name ≡ record { space = space; local = local.now }) }
+    {
+        let local = Bytes::from_slice(alloc, local)?;
+        let expanded = Rc::new(alloc, Expanded { space, local })?;
+        Ok(Name { expanded })
+    }
+
+    /// The namespace, which is empty where there is none.
+    pub fn space(&self) -> &[u8]
+        ensures { result.now ≡ self.now.space }
+    {
+        self.expanded.space.as_slice()
+    }
+
+    pub fn local(&self) -> &[u8]
+        ensures { result.now ≡ self.now.local }
+    {
+        self.expanded.local.as_slice()
+    }
+
+    /// The same name, of which nothing is copied: it wants memory only where the count of those who share it is full.
+    pub fn share(&self) -> Result<Self, Memory>
+        ensures { IfOk result (λ name. name ≡ self.now) }
+    {
+        Ok(Name {
+            expanded: self.expanded.clone()?,
+        })
+    }
+}
+
+#[cfg(test)]
+mod tests {
+    use super::*;
+    use std::test::Fail;
+
+    #[test]
+    fn holds_both_parts(rt: HostRuntime) -> Result<(), Fail> {
+        let space = Shared::from_slice(rt.alloc(), b"urn:u")?;
+        let name = Name::new(rt.alloc(), space, b"abc")?.share()?;
+        assert_eq!(rt; name.space(), b"urn:u".as_slice());
+        assert_eq!(rt; name.local(), b"abc".as_slice());
+        Ok(())
+    }
+}
