@@ -63,6 +63,7 @@ int main(int argc, char **argv) {
     repeated(folder, "dense", "<p:t xmlns:p='urn:p' xmlns='urn:d'>",
              "<p:row id=\"17\" p:kind=\"x\"><p:cell a=\"b\">t</p:cell><q/></p:row>", "</p:t>");
     repeated(folder, "tiny", "<a>", "<b/>", "</a>");
+    repeated(folder, "declaring", "<a>", "<b xmlns='urn:d'/>", "</a>");
     attributes(folder);
     declarations(folder);
     long_namespace(folder);
