@@ -9,7 +9,8 @@ use Rattle.soap_document.proofs.Utf8.{document_utf8}
 use Rattle.soap_profile.specs.Document.{Document, IsLongestText}
 use Rattle.soap_profile.specs.Namespaces.{resolve}
 use Rattle.soap_profile.specs.Tree.{Element, element}
-use Rattle.soap_envelope.specs.Envelope.{Envelope, IsEnvelope, IsOutline, soap_name, name_of, parts_of}
+use Rattle.soap_profile.specs.Soap.{soap_name}
+use Rattle.soap_envelope.specs.Envelope.{Envelope, IsEnvelope, IsOutline, name_of, parts_of}
 use Rattle.rm_cli.specs.Check.{HasFault}
 use Rattle.rm_cli.specs.declared.end.Fault.{Fault}
 use Rattle.rm_cli.specs.declared.end.Fault.TheVariants.{NotUtf8, NotProfile, WrongVersion, NotEnvelope}

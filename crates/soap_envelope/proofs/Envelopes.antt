@@ -11,7 +11,8 @@ use Rattle.soap_profile.specs.declared.tree.Attr.{Attr}
 use Rattle.soap_profile.specs.View.{element_view}
 use Rattle.soap_profile.specs.declared.place.Place.{Place}
 use Rattle.soap_profile.specs.declared.tree.Element.{Element as CodeElement}
-use Rattle.soap_envelope.specs.Envelope.{soap_name, name_of, decls_of, parts_of, children_of, bytes_within, IsOutline, IsHeader, without, blocks, Envelope, IsEnvelope}
+use Rattle.soap_profile.specs.Soap.{soap_name}
+use Rattle.soap_envelope.specs.Envelope.{name_of, decls_of, parts_of, children_of, bytes_within, IsOutline, IsHeader, without, blocks, Envelope, IsEnvelope}
 use Rattle.soap_envelope.specs.Scope.{IsScope}
 use Rattle.soap_profile.proofs.Answer.{err_of}
 use Rattle.soap_envelope.proofs.Placed.{mapped}

@@ -5,7 +5,8 @@ use Rattle.soap_profile.specs.Tree.{Element, Parts, none, text, child}
 use Rattle.soap_profile.specs.declared.name.Expanded.{Expanded as Name}
 use Rattle.soap_profile.specs.View.{element_view}
 use Rattle.soap_profile.specs.declared.tree.Element.{Element as CodeElement}
-use Rattle.soap_envelope.specs.Envelope.{soap_name, name_of, IsSpaced, bare, spaced, IsBodyAlone, IsOutline, headless, headed}
+use Rattle.soap_profile.specs.Soap.{soap_name}
+use Rattle.soap_envelope.specs.Envelope.{name_of, IsSpaced, bare, spaced, IsBodyAlone, IsOutline, headless, headed}
 use Rattle.soap_envelope.specs.Steps.{Comes, IsSpacing, IsOther, Follows, BodyFound, Outlined}
 use Rattle.soap_envelope.specs.declared.outline.Next.{Next}
 use Rattle.soap_envelope.specs.declared.outline.Next.TheVariants.{Child, Text, End}

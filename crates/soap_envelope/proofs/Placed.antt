@@ -8,7 +8,8 @@ use Rattle.soap_profile.specs.Document.{IsPlaced, place_of}
 use Rattle.soap_profile.specs.Namespaces.{resolve, resolve_parts, joined, tag_of, Resolved}
 use Rattle.soap_profile.specs.Tree.{Binding, Element, element, Parts, none, text, child}
 use Rattle.soap_profile.specs.declared.place.Place.{Place}
-use Rattle.soap_envelope.specs.Envelope.{soap_name, decls_of, parts_of, children_of, bytes_within, IsSpaced, bare, spaced, IsBodyAlone, IsOutline, Envelope, IsEnvelope, StandsFor}
+use Rattle.soap_profile.specs.Soap.{soap_name}
+use Rattle.soap_envelope.specs.Envelope.{decls_of, parts_of, children_of, bytes_within, IsSpaced, bare, spaced, IsBodyAlone, IsOutline, Envelope, IsEnvelope, StandsFor}
 use Rattle.soap_envelope.proofs.Outlines.{outline_cases}
 
 -- ---- the last element stands within the root

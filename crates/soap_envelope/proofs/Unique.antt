@@ -11,7 +11,8 @@ use Rattle.soap_document.specs.Tree as written
 use Rattle.soap_profile.specs.Document.{Document}
 use Rattle.soap_profile.specs.Namespaces.{bound, resolve}
 use Rattle.soap_profile.specs.Tree.{Binding, Element, element, Parts}
-use Rattle.soap_envelope.specs.Envelope.{soap_name, name_of, decls_of, parts_of, bytes_within, IsBodyAlone, IsOutline, IsHeader, without, blocks, Envelope, IsEnvelope}
+use Rattle.soap_profile.specs.Soap.{soap_name}
+use Rattle.soap_envelope.specs.Envelope.{name_of, decls_of, parts_of, bytes_within, IsBodyAlone, IsOutline, IsHeader, without, blocks, Envelope, IsEnvelope}
 use Rattle.soap_envelope.specs.Refusals.{IsOtherVersion, WrongVersion, NotEnvelope}
 use Rattle.soap_envelope.specs.Scope.{Rises, IsScope}
 use Rattle.soap_envelope.proofs.Outlines.{outline_cases, one_child, not_both}

@@ -3,17 +3,11 @@ use Rattle.std.specs.Prelude.{◌≡◌, ℕ, ◌-◌, List, [], ◌∷◌, ◌+
 use Rattle.soap_document.specs.Grammar.{IsContent, IsDocument, IsWhite}
 use Rattle.soap_document.specs.Tree as written
 use Rattle.soap_profile.specs.Namespaces.{resolve, resolve_parts}
+use Rattle.soap_profile.specs.Soap.{soap_name}
 use Rattle.soap_profile.specs.Tree.{Binding, Element, element, Parts, none, text, child}
 use Rattle.soap_profile.specs.declared.name.Expanded.{Expanded as Name}
 use Rattle.soap_profile.specs.declared.tree.Attr.{Attr}
 use Rattle.soap_envelope.specs.Scope.{IsScope}
-
--- the namespace of envelopes (5.1)
-abbrev pub soap_space : List ℕ
-soap_space = codes "http://www.w3.org/2003/05/soap-envelope"
-
-abbrev pub soap_name : List ℕ → Name
-soap_name local = record { space = soap_space; local = local }
 
 abbrev pub name_of : Element → Name
 name_of (element name decls attrs parts) = name

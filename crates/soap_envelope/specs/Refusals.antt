@@ -2,7 +2,8 @@
 use Rattle.std.specs.Prelude.{◌≡◌, ◌≢◌, ℕ, List, Option, codes}
 use Rattle.soap_profile.specs.Document.{Document}
 use Rattle.soap_profile.specs.Tree.{Element}
-use Rattle.soap_envelope.specs.Envelope.{soap_space, soap_name, name_of, parts_of, IsOutline}
+use Rattle.soap_profile.specs.Soap.{soap_space, soap_name}
+use Rattle.soap_envelope.specs.Envelope.{name_of, parts_of, IsOutline}
 
 -- the root is called Envelope in another namespace
 pub record IsOtherVersion (root : Element) : Type 0 where

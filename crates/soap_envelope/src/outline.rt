@@ -4,7 +4,8 @@ ghost use Rattle.std.specs.Vec.Iter.{into_iter_items};
 ghost use Rattle.soap_document.specs.Grammar.{IsWhite};
 ghost use Rattle.soap_profile.specs.Tree.{none};
 ghost use Rattle.soap_profile.specs.View.{element_view, decls_view, parts_view};
-ghost use Rattle.soap_envelope.specs.Envelope.{IsSpaced, soap_name, name_of, decls_of, parts_of, children_of};
+ghost use Rattle.soap_profile.specs.Soap.{soap_name};
+ghost use Rattle.soap_envelope.specs.Envelope.{IsSpaced, name_of, decls_of, parts_of, children_of};
 ghost use Rattle.soap_envelope.specs.Steps.{BodyFound, Comes, Follows, IsSpacing, Outlined};
 
 use crate::envelope::Elements;

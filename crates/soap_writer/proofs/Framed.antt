@@ -12,7 +12,8 @@ use Rattle.soap_lex.proofs.HeldLemmas.{all_from_passes}
 use Rattle.soap_profile.specs.Document.{Document}
 use Rattle.soap_profile.specs.Tree.{Element, element, Parts, none, child, without_declarations}
 use Rattle.soap_writer.specs.Envelope.{envelope_scope, Block, IsBlock, bytes_of, envelope_text, children, soap_element, envelope_tree}
-use Rattle.soap_writer.specs.Frame.{soap_space, addressing_space, messaging_space, connection_space, envelope_start}
+use Rattle.soap_profile.specs.Soap.{soap_space}
+use Rattle.soap_writer.specs.Frame.{addressing_space, messaging_space, connection_space, envelope_start}
 use Rattle.soap_writer.specs.ReadBack.{ReadsAs}
 use Rattle.soap_writer.proofs.Back.{PartsReadAs, nothing_back, child_more, document_from}
 use Rattle.soap_writer.proofs.Prefixes.{xmlns-IsName, a-IsName}

@@ -2,8 +2,9 @@
 use Rattle.std.specs.Prelude.{ℕ, List, [], ◌∷◌, ◌++◌, codes}
 use Rattle.std.specs.List.{flat_map}
 use Rattle.rm_base.specs.declared.message.Binding.{Binding}
+use Rattle.soap_profile.specs.Soap.{soap_space, soap_name}
 use Rattle.soap_profile.specs.Tree.{Element, element, Parts, none, child}
-use Rattle.soap_writer.specs.Frame.{soap_space, addressing_space, messaging_space, connection_space, envelope_start, body_start, envelope_end}
+use Rattle.soap_writer.specs.Frame.{addressing_space, messaging_space, connection_space, envelope_start, body_start, envelope_end}
 use Rattle.soap_writer.specs.ReadBack.{ReadsAs}
 
 -- what the frame binds
@@ -37,7 +38,7 @@ children (block ∷ blocks) = child block.tree (children blocks)
 
 -- an element of the namespace of SOAP, without attributes
 abbrev pub soap_element : List ℕ → Parts → Element
-soap_element local parts = element (record { space = soap_space; local = local }) [] [] parts
+soap_element local parts = element (soap_name local) [] [] parts
 
 -- an envelope with these blocks
 abbrev pub envelope_tree : List Block → List Block → Element

@@ -1,10 +1,6 @@
 -- The frame of an envelope: SOAP 1.2 Part 1, section 5.
 use Rattle.std.specs.Prelude.{ℕ, List, ◌++◌, codes}
 
--- SOAP 1.2 Part 1, section 1.1
-abbrev pub soap_space : List ℕ
-soap_space = codes "http://www.w3.org/2003/05/soap-envelope"
-
 -- WS-Addressing 1.0 Core, section 1.2
 abbrev pub addressing_space : List ℕ
 addressing_space = codes "http://www.w3.org/2005/08/addressing"

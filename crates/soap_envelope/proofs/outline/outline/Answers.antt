@@ -4,7 +4,8 @@ use Rattle.std.specs.Vec.Iter.{into_iter_items}
 use Rattle.soap_profile.specs.Tree.{none}
 use Rattle.soap_profile.specs.View.{element_view, parts_view}
 use Rattle.soap_profile.specs.declared.tree.Item.{Item}
-use Rattle.soap_envelope.specs.Envelope.{name_of, soap_name, IsSpaced}
+use Rattle.soap_profile.specs.Soap.{soap_name}
+use Rattle.soap_envelope.specs.Envelope.{name_of, IsSpaced}
 use Rattle.soap_envelope.specs.Steps.{Outlined}
 use Rattle.soap_envelope.proofs.Outlines.{no_outline_next, no_outline_here, outlined_body, outlined_header}
 use Rattle.soap_envelope.proofs.outline.outline.Goals as goal

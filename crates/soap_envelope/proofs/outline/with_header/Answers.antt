@@ -3,7 +3,8 @@ use Rattle.std.proofs.lemmas.Bool.{true≢false}
 use Rattle.std.specs.Vec.Iter.{into_iter_items}
 use Rattle.soap_profile.specs.Tree.{none}
 use Rattle.soap_profile.specs.View.{element_view, parts_view}
-use Rattle.soap_envelope.specs.Envelope.{name_of, soap_name, IsSpaced}
+use Rattle.soap_profile.specs.Soap.{soap_name}
+use Rattle.soap_envelope.specs.Envelope.{name_of, IsSpaced}
 use Rattle.soap_envelope.proofs.Outlines.{no_body_next, no_body_here}
 use Rattle.soap_envelope.proofs.outline.with_header.Goals as goal
 use Rattle.soap_envelope.proofs.outline.with_header.Goals.{else-is_named-via-then-is_named+else-is_end, else-is_named-via-else-is_named}

@@ -1,7 +1,8 @@
 use Rattle.std.proofs.Common.{◌≡◌, List, option_map, map, codes, sym, subst, ◌∙◌}
 use Rattle.soap_profile.specs.Tree.{Binding, Parts}
 use Rattle.soap_profile.specs.View.{element_view}
-use Rattle.soap_envelope.specs.Envelope.{soap_name, soap_space, name_of, IsOutline, IsHeader}
+use Rattle.soap_profile.specs.Soap.{soap_name, soap_space}
+use Rattle.soap_envelope.specs.Envelope.{name_of, IsOutline, IsHeader}
 use Rattle.soap_envelope.specs.View.{envelope_view}
 use Rattle.soap_envelope.proofs.Envelopes.{is_envelope, name_is, same_slices}
 use Rattle.soap_envelope.proofs.Placed.{IsInside, place_inside, has_last}
