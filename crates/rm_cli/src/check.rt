@@ -70,7 +70,7 @@ fn text_of(alloc: Global, bytes: &[u8]) -> Result<Blob, CheckError>
     ensures faulty { (fault : AFault) → result ≡ Err (CheckError.Faulty fault) → HasFault bytes.now fault }
 {
     match read_envelope(alloc, bytes) {
-        Ok(envelope) => Ok(text_of_envelope(alloc, &envelope)?),
+        Ok(envelope) => Ok(text_of_envelope(alloc, envelope)?),
         Err(EnvelopeError::NotUtf8 { .. }) => Err(CheckError::Faulty(Fault::NotUtf8)),
         Err(EnvelopeError::NotProfile) => Err(CheckError::Faulty(Fault::NotProfile)),
         Err(EnvelopeError::WrongVersion) => Err(CheckError::Faulty(Fault::WrongVersion)),
@@ -80,16 +80,25 @@ fn text_of(alloc: Global, bytes: &[u8]) -> Result<Blob, CheckError>
     }
 }
 
-// What an envelope holds, as it is printed.
-fn text_of_envelope(alloc: Global, envelope: &Envelope) -> Result<Blob, Memory>
-    ensures { IfOk result (λ text. text ≡ check_text (envelope_view envelope.now)) }
+// What an envelope holds, as it is printed. Its elements go first, since they take more memory than the text.
+fn text_of_envelope(alloc: Global, envelope: Envelope) -> Result<Blob, Memory>
+    ensures { IfOk result (λ text. text ≡ check_text (envelope_view envelope)) }
 {
+    let Envelope {
+        headers,
+        header_scope: _,
+        payload,
+        body,
+    } = envelope;
+    let blocks = headers.items.len() as u64;
+    drop(headers);
+    drop(body);
     let mut text = Blob::from_slice(alloc, b"headers ")?;
-    push_decimal(&mut text, envelope.headers.items.len() as u64)?;
+    push_decimal(&mut text, blocks)?;
     text.push_all(b"\npayload ")?;
-    push_hex(&mut text, envelope.payload.bytes.as_slice())?;
+    push_hex(&mut text, payload.bytes.as_slice())?;
     text.push_all(b"\n")?;
-    for binding in envelope.payload.scope.as_slice() {
+    for binding in payload.scope.as_slice() {
         push_scope(&mut text, binding)?;
     }
     Ok(text)
