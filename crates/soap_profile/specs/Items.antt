@@ -1,5 +1,6 @@
 -- What an element has, in order: its declarations, its attributes and its parts.
-use Rattle.std.specs.Prelude.{ℕ, List, [], ◌∷◌, ◌++◌}
+use Rattle.std.specs.Prelude.{ℕ, List, [], ◌∷◌}
+use Rattle.std.specs.List.{flat_map}
 use Rattle.soap_profile.specs.Tree.{Binding, Attr, Element, Parts, none, text, child, without_declarations}
 
 pub data Item : Type 0 where
@@ -37,5 +38,4 @@ stripped_item (a_text bytes) = a_text bytes ∷ []
 stripped_item (a_child e) = a_child (without_declarations e) ∷ []
 
 abbrev pub stripped_items : List Item → List Item
-stripped_items [] = []
-stripped_items (item ∷ items) = stripped_item item ++ stripped_items items
+stripped_items items = flat_map stripped_item items

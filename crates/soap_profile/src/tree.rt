@@ -40,8 +40,8 @@ pub enum Item {
     Child(Element),
 }
 
-/// An element. What it has stands in one list, so that it takes little memory: its declarations, each in its order, its
-/// attributes and its parts. No two texts are neighbours.
+/// An element. What it has stands in one list, so that it takes little memory: its declarations, then its attributes,
+/// then its parts, each in their order. No two texts are neighbours.
 #[derive(Debug, Drop)]
 #[cycle(tree)]
 pub struct Element {
