@@ -1,2 +1,3 @@
 pub mod KnownBytes
-pub mod NumbersLemmas
+pub mod NumberSetFacts
+pub mod TextLemmas

@@ -1,5 +1,11 @@
+pub mod Bytes
 pub mod Count
+pub mod CountLemmas
+pub mod IteratorLemmas
+pub mod Message
 pub mod Numbered
-pub mod Numbers
+pub mod NumberSet
+pub mod NumberSetLemmas
 pub mod Outside
+pub mod Roomy
 pub mod Text

@@ -2,7 +2,7 @@
 use Rattle.std.specs.Prelude.{ℕ, ◌≤◌, ◌++◌, Bool, true, if◌then◌else◌, ◌&&◌, ◌==◌, nat_lt, min, List, length, take, drop, Option, Result, Ok, Err}
 use Rattle.std.specs.Io.KnownBytes.{Appends, Consumes}
 use Rattle.rm_base.specs.Count.{raised_by}
-use Rattle.rm_base.specs.Numbers.{has_number}
+use Rattle.rm_base.specs.NumberSet.{has_number}
 
 -- a source over memory: what is left, which of its calls fail, how many were made and failed, how many bytes were taken
 pub record Reading : Type 0 where
@@ -18,6 +18,11 @@ pub record Writing : Type 0 where
   pub fail_at : List ℕ
   pub calls : ℕ
   pub faults : ℕ
+
+-- a connection over memory: its side as a source, whose calls are those of both sides, and what was written
+pub record Talking : Type 0 where
+  pub reading : Reading
+  pub written : List ℕ
 
 -- a source over a reader, how many of its calls failed, how many bytes were taken
 pub record Reader (R : Type 0) : Type 0 where
@@ -37,6 +42,16 @@ is_to_fail fail_at calls = has_number fail_at (raised_by calls 1)
 -- a count of faults after a call that was one, or wasn't
 abbrev pub counted_if : Bool → ℕ → ℕ
 counted_if fault faults = if fault then raised_by faults 1 else faults
+
+-- a source over memory after a call that moved nothing
+abbrev pub after_call : Reading → Reading
+after_call s = record {
+  left = s.left;
+  fail_at = s.fail_at;
+  calls = raised_by s.calls 1;
+  faults = counted_if (is_to_fail s.fail_at s.calls) s.faults;
+  taken = s.taken;
+}
 
 -- how many of the bytes that are left a read moves where there is room for so many: none if it is to fail
 abbrev pub moved_by : Reading → ℕ → ℕ
@@ -59,6 +74,13 @@ after_write s bytes took = record {
   fail_at = s.fail_at;
   calls = raised_by s.calls 1;
   faults = counted_if (is_to_fail s.fail_at s.calls) s.faults;
+}
+
+-- a connection over memory after a write of a piece that was taken, or wasn't
+abbrev pub after_send : Talking → List ℕ → Bool → Talking
+after_send c bytes took = record {
+  reading = after_call c.reading;
+  written = if took then c.written ++ bytes else c.written;
 }
 
 -- a write failed, or took nothing of a piece that isn't empty

@@ -1,6 +1,7 @@
+//! Bytes of any kind, kept in a row.
 ghost use Rattle.std.specs.Prelude.{◌≡◌, ℕ, [], ◌++◌, List, length, IsTrue, ◌↔◌, IfOk, OnOk, OnErr};
 
-use crate::want::Memory;
+use crate::failures::Memory;
 use std::alloc::Global;
 use std::marker::Model;
 
@@ -26,6 +27,7 @@ impl Blob {
         }
     }
 
+    /// A copy of these bytes.
     pub fn from_slice(alloc: Global, bytes: &[u8]) -> Result<Self, Memory>
         ensures { IfOk result (λ blob. blob ≡ bytes.now) }
     {
@@ -48,18 +50,21 @@ impl Blob {
         self.bytes
     }
 
+    /// All bytes.
     pub fn as_slice(&self) -> &[u8]
         ensures { result.now ≡ self.now }
     {
         self.bytes.as_slice()
     }
 
+    /// How many bytes there are.
     pub fn len(&self) -> usize
         ensures { result ≡ length self.now }
     {
         self.bytes.len()
     }
 
+    /// Whether there are none.
     pub fn is_empty(&self) -> bool
         ensures { IsTrue result ↔ (self.now ≡ []) }
     {
@@ -75,34 +80,17 @@ impl Blob {
         })
     }
 
+    // The allocator of its bytes.
+    pub(crate) fn allocator(&self) -> Global {
+        *self.bytes.allocator()
+    }
+
     /// Appends bytes.
     pub fn push_all(&mut self, bytes: &[u8]) -> Result<(), Memory>
         ensures ok { OnOk result (self.new ≡ self.old ++ bytes.now) }
         ensures err { OnErr result (self.new ≡ self.old) }
     {
         self.bytes.extend_from_slice(bytes)?;
-        Ok(())
-    }
-}
-
-#[cfg(test)]
-mod tests {
-    use super::*;
-    use std::test::Fail;
-
-    #[test]
-    fn holds_what_was_pushed(rt: HostRuntime) -> Result<(), Fail> {
-        let mut blob = Blob::new(rt.alloc());
-        assert!(rt; blob.is_empty());
-        for piece in ["abc", "", "de"] {
-            blob.push_all(piece.as_bytes())?;
-        }
-        assert_eq!(rt; blob.as_slice(), b"abcde".as_slice());
-        assert_eq!(rt; blob.copy()?.len(), 5);
-        let again = Blob::from_slice(rt.alloc(), blob.as_slice())?;
-        assert_eq!(rt; again.as_slice(), blob.as_slice());
-        let moved = Blob::from_vec(again.into_vec());
-        assert_eq!(rt; moved.as_slice(), blob.as_slice());
         Ok(())
     }
 }

@@ -1,6 +1,8 @@
-//! What the definitions of sets of message numbers mean, in terms of which numbers are in a set.
-ghost use Rattle.std.specs.Prelude.{◌≡◌, ℕ, List, Bool, true, false, ◌||◌, ◌==◌, ◌↔◌};
-ghost use Rattle.rm_base.specs.Numbers.{IsRising, has_number, with_number, united, brings_new, HasNew};
+//! What the definitions of sets of message numbers, of counts and of texts mean.
+ghost use Rattle.std.specs.Prelude.{◌≡◌, ◌+◌, ◌≤◌, ◌^◌, ◌<◌, ℕ, List, Bool, true, false, ◌||◌, ◌==◌, ◌↔◌};
+ghost use Rattle.rm_base.specs.Count.{RoseBy, raised_by};
+ghost use Rattle.rm_base.specs.NumberSet.{IsRising, has_number, with_number, united, brings_new, HasNew};
+ghost use Rattle.rm_base.specs.Text.{IsText, is_text};
 
 /// A set with one number more has that number and those that it had.
 pub fn one_more_is_added()
@@ -25,4 +27,19 @@ pub fn same_numbers_same_list()
 /// A set brings something new exactly where one of its numbers isn't in the other set.
 pub fn new_is_one_not_there()
     ensures { (xs ys : List ℕ) → IsRising xs → IsRising ys → (brings_new xs ys ≡ true) ↔ HasNew xs ys }
+{}
+
+/// A count that rose by m, and then by n, rose by both together.
+pub fn rises_add_up()
+    ensures { (old mid new m n : ℕ) → RoseBy old mid m → RoseBy mid new n → RoseBy old new (m + n) }
+{}
+
+/// What a count is raised by, it rose by.
+pub fn a_raised_count_rose()
+    ensures { (count n : ℕ) → RoseBy count (raised_by count n) n }
+{}
+
+/// The test of a text tells what a text is.
+pub fn texts_are_tested()
+    ensures { (limit : ℕ) (bytes : List ℕ) → (is_text limit bytes ≡ true) ↔ IsText limit bytes }
 {}

@@ -1,29 +1,36 @@
-//! What every crate of wsrm stands on: bytes and lists that contracts see as lists, the sorted list of message
-//! numbers, payloads, addresses and identifiers, and the two traits through which a program reads and writes, `Source`
-//! and `Sink`. It stands on the classes of characters, `xml_chars`. The layer above may use the types as the lists that
-//! they are seen as, and of a source or a sink its count of faults, and what it has left or holds where it tells that.
-//! What the definitions of sets mean stands in `laws`.
+//! What every crate of wsrm stands on: bytes and lists that contracts see as lists, sets of message numbers, payloads,
+//! addresses and identifiers, printing in digits, and the traits through which a program reaches the outside: `Source`,
+//! `Sink`, `Connection`, `Clock`. It stands on the classes of characters, `xml_chars`. The layer above may use the
+//! types as the lists that they are seen as, and of a source or a sink its count of faults, and what it has left or
+//! holds where it tells that. What the definitions mean stands in `laws`; lemmas that the layers above use stand in
+//! `specs/`, in the files that are named so.
 #![tactic(auto)]
 
 pub mod blob;
+pub mod bytes;
+pub mod clocks;
+pub mod digits;
+pub mod failures;
 pub mod items;
 pub mod laws;
-pub mod memory;
+pub mod mem_streams;
 pub mod message;
-pub mod numbers;
+pub mod number_set;
 pub mod outside;
 pub mod streams;
 pub mod text;
-pub mod want;
-pub mod whole;
+pub mod transfer;
 
 pub use blob::Blob;
-pub use items::Items;
-pub use memory::{MemSink, MemSource};
-pub use message::{Behaviour, Binding, Bindings, Payload};
-pub use numbers::Numbers;
-pub use outside::{Sink, SinkError, Source};
+pub use bytes::Bytes;
+pub use clocks::{MemClock, StdClock};
+pub use digits::{push_decimal, push_hex};
+pub use failures::{Failed, Memory};
+pub use items::{Items, Numbers, RoomyItems, numbered};
+pub use mem_streams::{MemConn, MemSink, MemSource};
+pub use message::{Behaviour, Binding, Bindings, Cause, MAX_NUMBER, Payload, is_message_number};
+pub use number_set::NumberSet;
+pub use outside::{Clock, Connection, NOW_MAX, Sink, SinkError, Source};
 pub use streams::{StdSink, StdSource};
 pub use text::{Ident, TextError, Uri};
-pub use want::{Failed, Memory};
-pub use whole::{ReadError, read_up_to, write_all};
+pub use transfer::{ReadError, read_up_to, write_all};

@@ -1,11 +1,12 @@
+//! Sources and sinks over readers and writers of std.
 ghost use Rattle.std.specs.Prelude.{◌≡◌, ◌≢◌, ℕ, ◌≤◌, ◌+◌, ◌<◌, List, Bool, true, false, [], length, Some, None, Err, Ok, IsTrue, OnErr, MatchResult, IfOk, is_err};
 ghost use Rattle.std.specs.Io.{ReadsAtMost, WritesAtMost};
 ghost use Rattle.std.specs.Io.KnownBytes.{ReadConsumes, WriteAppends};
 ghost use Rattle.rm_base.specs.Count.{Rose, raised_by};
 ghost use Rattle.rm_base.specs.Outside.{counted_if, is_write_fault};
 
+use crate::failures::Failed;
 use crate::outside::{Sink, SinkError, Source};
-use crate::want::Failed;
 use std::io::{Read, Write};
 use std::marker::Model;
 
@@ -26,6 +27,7 @@ impl<R> Model for StdSource<R> {
 }
 
 impl<R> StdSource<R> {
+    /// A source that reads from this reader.
     pub fn new(reader: R) -> Self
         ensures { result ≡ record { reader = reader; faults = 0; taken = 0 } }
     {
@@ -82,6 +84,7 @@ impl<W> Model for StdSink<W> {
 }
 
 impl<W> StdSink<W> {
+    /// A sink that writes to this writer.
     pub fn new(writer: W) -> Self
         ensures { result ≡ record { writer = writer; faults = 0 } }
     {
@@ -117,78 +120,5 @@ impl<W: Write> Sink for StdSink<W> {
                 Err(SinkError::Failed)
             }
         }
-    }
-}
-
-#[cfg(test)]
-mod tests {
-    use super::*;
-    use crate::whole::{read_up_to, write_all};
-    use std::io::{Error, ErrorKind};
-    use std::test::Fail;
-
-    // A reader and writer that moves two bytes at a time, and whose third call fails.
-    #[derive(Drop)]
-    struct Worn {
-        calls: u8,
-    }
-
-    impl Worn {
-        fn moved(&mut self, len: usize) -> std::io::Result<usize>
-            ensures { IfOk result (λ n. n ≤ len) }
-        {
-            self.calls = self.calls.saturating_add(1);
-            if self.calls == 3 {
-                Err(Error::from(ErrorKind::BrokenPipe))
-            } else {
-                Ok(len.min(2))
-            }
-        }
-    }
-
-    impl Read for Worn {
-        fn read(&mut self, buf: &mut [u8]) -> std::io::Result<usize> {
-            self.moved(buf.len())
-        }
-    }
-
-    impl Write for Worn {
-        fn write(&mut self, buf: &[u8]) -> std::io::Result<usize> {
-            self.moved(buf.len())
-        }
-
-        fn flush(&mut self) -> std::io::Result<()> {
-            Ok(())
-        }
-    }
-
-    #[test]
-    fn hands_on_what_a_reader_and_a_writer_do(rt: HostRuntime) -> Result<(), Fail> {
-        let mut source = StdSource::new(b"abcde".as_slice());
-        assert_eq!(rt;
-            read_up_to(rt.alloc(), &mut source, 5)?.as_slice(),
-            b"abcde".as_slice()
-        );
-        let mut sink = StdSink::new(Vec::new(rt.alloc()));
-        write_all(&mut sink, b"abcde")?;
-        assert_eq!(rt; sink.writer.as_slice(), b"abcde".as_slice());
-        Ok(())
-    }
-
-    #[test]
-    fn answers_a_fault_for_an_error(rt: HostRuntime) {
-        let mut source = StdSource::new(Worn { calls: 0 });
-        let mut sink = StdSink::new(Worn { calls: 0 });
-        let mut piece = [0; 5];
-        for moved in [Some(2), Some(2), None, Some(2)] {
-            assert_eq!(rt; source.read(&mut piece).ok(), moved);
-            assert_eq!(rt; sink.write(&piece).ok(), moved);
-        }
-        let mut whole = StdSink::new(Worn { calls: 0 });
-        assert_eq!(rt; write_all(&mut whole, b"abcd"), Ok(()));
-        assert_eq!(rt;
-            write_all(&mut whole, b"abc").err(),
-            Some(SinkError::Failed)
-        );
     }
 }

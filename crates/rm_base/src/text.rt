@@ -1,3 +1,4 @@
+//! Addresses and identifiers.
 ghost use Rattle.std.specs.Prelude.{◌≡◌, ℕ, ◌<◌, ◌≤◌, ◌↔◌, List, length, IsTrue, IfOk, IfErr, OnOk};
 ghost use Rattle.std.specs.List.{list_all};
 ghost use Rattle.std.specs.Str.{chars};
@@ -6,7 +7,7 @@ ghost use Rattle.rm_base.specs.Text.{IsCharacters, IsTrimmed, IsText, IsTextErro
 ghost use Rattle.rm_base.specs.declared.text.TextError.TheVariants.{Memory as WantsMemory};
 
 use crate::blob::Blob;
-use crate::want::Memory;
+use crate::failures::Memory;
 use std::alloc::Global;
 use std::marker::Model;
 use std::str;
@@ -41,8 +42,7 @@ impl From<Memory> for TextError {
 }
 
 /// An address, an action or a message's name: 1 to 2048 bytes of characters that a document may hold, without white
-/// space
-/// at either end. WS-Addressing 1.0 Core, section 2.1 and 3.1.
+/// space at either end. WS-Addressing 1.0 Core, section 2.1 and 3.1.
 #[derive(Debug, Drop)]
 pub struct Uri {
     bytes: Blob,
@@ -57,6 +57,7 @@ impl Model for Uri {
 }
 
 impl Uri {
+    /// A copy of these bytes, where they are such a text.
     pub fn from_slice(alloc: Global, bytes: &[u8]) -> Result<Self, TextError>
         ensures ok { IfOk result (λ uri. uri ≡ bytes.now) }
         ensures is_text { OnOk result (IsText 2048 bytes.now) }
@@ -67,6 +68,7 @@ impl Uri {
         })
     }
 
+    /// All bytes.
     pub fn as_slice(&self) -> &[u8]
         ensures bytes { result.now ≡ self.now }
         ensures is_text { IsText 2048 self.now }
@@ -77,8 +79,7 @@ impl Uri {
 }
 
 /// An identifier of a sequence: 1 to 512 bytes of characters that a document may hold, without white space at either
-/// end.
-/// WS-ReliableMessaging 1.2, section 3.4.
+/// end. WS-ReliableMessaging 1.2, section 3.4.
 #[derive(Debug, Drop)]
 pub struct Ident {
     bytes: Blob,
@@ -93,6 +94,7 @@ impl Model for Ident {
 }
 
 impl Ident {
+    /// A copy of these bytes, where they are such a text.
     pub fn from_slice(alloc: Global, bytes: &[u8]) -> Result<Self, TextError>
         ensures ok { IfOk result (λ ident. ident ≡ bytes.now) }
         ensures is_text { OnOk result (IsText 512 bytes.now) }
@@ -103,6 +105,7 @@ impl Ident {
         })
     }
 
+    /// All bytes.
     pub fn as_slice(&self) -> &[u8]
         ensures bytes { result.now ≡ self.now }
         ensures is_text { IsText 512 self.now }
@@ -159,61 +162,4 @@ fn has_each(text: &str) -> bool
     ensures { result ≡ list_all char_class (chars text.now) }
 {
     text.chars().all(|c| is_char(c))
-}
-
-#[cfg(test)]
-mod tests {
-    use super::*;
-    use std::test::Fail;
-
-    #[test]
-    fn addresses(rt: HostRuntime) -> Result<(), Fail> {
-        let alloc = rt.alloc();
-        let refusals: [(&[u8], TextError); 6] = [
-            (b"", TextError::Empty),
-            (b" http://a/", TextError::NotText),
-            (b"http://a/\n", TextError::NotText),
-            (b"a\x00b", TextError::NotText),
-            (b"a\xEF\xBF\xBF", TextError::NotText),
-            (b"a\xFF", TextError::NotText),
-        ];
-        for (bytes, error) in refusals {
-            assert_eq!(rt; Uri::from_slice(alloc, bytes).err(), Some(error));
-            assert_eq!(rt; Ident::from_slice(alloc, bytes).err(), Some(error));
-        }
-        let text = "urn:\u{20AC} 1";
-        assert_eq!(rt;
-            Uri::from_slice(alloc, text.as_bytes())?.as_slice(),
-            text.as_bytes()
-        );
-        assert_eq!(rt;
-            Ident::from_slice(alloc, text.as_bytes())?.as_slice(),
-            text.as_bytes()
-        );
-        Ok(())
-    }
-
-    #[test]
-    fn limits(rt: HostRuntime) -> Result<(), Fail> {
-        let alloc = rt.alloc();
-        let bytes = vec![in alloc; b'a'; 2049]?;
-        assert_eq!(rt; bytes.len(), 2049);
-        assert_eq!(rt;
-            Uri::from_slice(alloc, &bytes).err(),
-            Some(TextError::TooLong { len: 2049 })
-        );
-        assert_eq!(rt;
-            Uri::from_slice(alloc, &bytes[..2048])?.as_slice().len(),
-            2048
-        );
-        assert_eq!(rt;
-            Ident::from_slice(alloc, &bytes[..513]).err(),
-            Some(TextError::TooLong { len: 513 })
-        );
-        assert_eq!(rt;
-            Ident::from_slice(alloc, &bytes[..512])?.as_slice().len(),
-            512
-        );
-        Ok(())
-    }
 }

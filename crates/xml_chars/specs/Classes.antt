@@ -26,14 +26,18 @@ name_start_ranges =
 abbrev pub name_more_ranges : List (ℕ × ℕ)
 name_more_ranges = (0x2D, 0x2E) ∷ (0x30, 0x39) ∷ (0xB7, 0xB7) ∷ (0x300, 0x36F) ∷ (0x203F, 0x2040) ∷ []
 
+-- a character of XML (2.2, production 2)
 abbrev pub is_char : ℕ → Bool
 is_char c = is_within char_ranges c
 
+-- a character of white space (2.3, production 3)
 abbrev pub is_space : ℕ → Bool
 is_space c = is_within space_ranges c
 
+-- the first character of a name without a colon (2.3, production 4)
 abbrev pub is_name_start : ℕ → Bool
 is_name_start c = is_within name_start_ranges c
 
+-- a further character of a name without a colon (2.3, production 4a)
 abbrev pub is_name_char : ℕ → Bool
 is_name_char c = is_name_start c || is_within name_more_ranges c

@@ -74,7 +74,7 @@ pub fn is_name_char(c: char) -> bool
     is_name_start(c) || is_within(&NAME_MORE, c as u32)
 }
 
-// one of the ranges has the character; its ends belong to it
+// One of the ranges has the character; its ends belong to it.
 fn is_within(ranges: &[(u32, u32)], c: u32) -> bool
     ensures { result ≡ within ranges.now c }
 {

@@ -1,4 +1,4 @@
-use Rattle.rm_base.proofs.NumbersLemmas.{brings_new-new}
+use Rattle.rm_base.proofs.NumberSetFacts.{brings_new-new}
 use Rattle.rm_base.proofs.laws.new_is_one_not_there.Goals as goal
 
 pub returns : goal.returns

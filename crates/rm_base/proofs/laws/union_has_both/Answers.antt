@@ -1,4 +1,4 @@
-use Rattle.rm_base.proofs.NumbersLemmas.{has_number-united}
+use Rattle.rm_base.specs.NumberSetLemmas.{has_number-united}
 use Rattle.rm_base.proofs.laws.union_has_both.Goals as goal
 
 pub returns : goal.returns

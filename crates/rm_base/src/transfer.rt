@@ -1,0 +1,97 @@
+//! Whole texts from a source, and to a sink.
+ghost use Rattle.std.specs.Prelude.{◌≡◌, ◌≢◌, ℕ, ◌≤◌, ◌+◌, ◌<◌, ◌^◌, ◌-◌, List, [], length, take, drop, IfOk, OnOk, IfSome, OnErr, Err, true, false};
+ghost use Rattle.std.specs.Io.KnownBytes.{Appends, IsAtEnd};
+ghost use Rattle.rm_base.specs.Count.{Rose, RoseBy, raised_by};
+ghost use Rattle.rm_base.specs.Outside.{AppendsFront, ConsumesUpTo};
+ghost use Rattle.rm_base.specs.declared.transfer.ReadError.TheVariants.{Memory as WantsMemory, Failed as ReadFails};
+
+use crate::blob::Blob;
+use crate::failures::{Failed, Memory};
+use crate::outside::{Sink, SinkError, Source};
+use std::alloc::Global;
+use thiserror::Error;
+
+/// Why the bytes of a source were not read to their end.
+#[derive(Clone, Copy, Debug, PartialEq, Eq, Error)]
+pub enum ReadError {
+    #[error("out of memory")]
+    Memory,
+    #[error("a read failed")]
+    Failed,
+    #[error("the input is too long")]
+    TooLong,
+}
+
+impl From<Memory> for ReadError {
+    ghost from_gives = { λ _ e. e ≡ WantsMemory };
+
+    fn from(_memory: Memory) -> ReadError {
+        ReadError::Memory
+    }
+}
+
+impl From<Failed> for ReadError {
+    ghost from_gives = { λ _ e. e ≡ ReadFails };
+
+    fn from(_failed: Failed) -> ReadError {
+        ReadError::Failed
+    }
+}
+
+// How many bytes one read asks for at most.
+const PIECE: usize = 65536;
+
+/// Reads a source to its end, where it has at most `limit` bytes. At most `limit + 1` bytes are taken from it.
+pub fn read_up_to<S: Source>(alloc: Global, input: &mut S, limit: usize) -> Result<Blob, ReadError>
+    requires { limit < 2 ^ 62 }
+    ensures at_end { OnOk result (IsAtEnd (S.left input.new)) }
+    ensures within { IfOk result (λ bytes. length bytes ≤ limit) }
+    ensures whole { IfOk result (λ bytes. IfSome (S.left input.old) (λ left. bytes ≡ left)) }
+    ensures too_long { result ≡ Err ReadError.TooLong → RoseBy (S.taken input.old) (S.taken input.new) (limit + 1) }
+    ensures longer { result ≡ Err ReadError.TooLong → IfSome (S.left input.old) (λ left. limit < length left) }
+    ensures taken { result ≢ Err ReadError.TooLong → result ≢ Err ReadError.Memory
+        → S.taken input.new ≤ S.taken input.old + limit }
+    ensures all_taken { IfOk result (λ bytes. S.taken input.new ≡ raised_by (S.taken input.old) (length bytes)) }
+    ensures one_more { result ≡ Err ReadError.TooLong → S.taken input.new ≡ raised_by (S.taken input.old) (limit + 1) }
+    ensures stops { S.taken input.new ≤ S.taken input.old + (limit + 1) }
+    ensures keeps { S.sent input.new ≡ S.sent input.old }
+    ensures front { ConsumesUpTo (S.left input.old) (S.left input.new) (limit + 1) }
+    ensures failed { result ≡ Err ReadError.Failed → Rose (S.faults input.old) (S.faults input.new) }
+    ensures never_falls { S.faults input.old ≤ S.faults input.new }
+    ensures sound { S.is_sound input.old ≡ true
+        → (S.is_sound input.new ≡ true) × (S.faults input.new ≡ S.faults input.old) }
+{
+    let mut bytes = Blob::new(alloc);
+    let mut piece = [0; PIECE];
+    while bytes.len() <= limit {
+        let room = PIECE.min(limit + 1 - bytes.len());
+        let count = input.read(&mut piece[..room])?;
+        if count == 0 {
+            return Ok(bytes);
+        }
+        bytes.push_all(&piece[..count])?;
+    }
+    Err(ReadError::TooLong)
+}
+
+/// Writes all bytes, piece by piece as the sink takes them. After an `Err` some first bytes were written.
+pub fn write_all<K: Sink>(out: &mut K, bytes: &[u8]) -> Result<(), SinkError>
+    ensures ok { OnOk result (Appends (K.held out.old) (K.held out.new) bytes.now) }
+    ensures err { OnErr result (AppendsFront (K.held out.old) (K.held out.new) bytes.now) }
+    ensures failed { result ≡ Err SinkError.Failed → Rose (K.faults out.old) (K.faults out.new) }
+    ensures memory { K.wants_memory ≡ false → result ≢ Err SinkError.Memory }
+    ensures keeps { K.unread out.new ≡ K.unread out.old }
+    ensures never_falls { K.faults out.old ≤ K.faults out.new }
+    ensures sound { K.is_sound out.old ≡ true
+        → (K.is_sound out.new ≡ true) × (K.faults out.new ≡ K.faults out.old) }
+{
+    let mut written = 0;
+    while written < bytes.len() {
+        let count = out.write(bytes.split_at(written).1)?;
+        if count == 0 {
+            return Err(SinkError::Failed);
+        }
+        written += count;
+    }
+    Ok(())
+}
