@@ -1,5 +1,2 @@
-pub mod Ranges
-pub mod States
-pub mod Images
 pub mod Notes
-pub mod Kept
+pub mod History

@@ -1,5 +1,6 @@
 -- One more note is one more call.
-use Rattle.std.proofs.Common.{◌≡◌, ℕ, ◌≤◌, List, [], ◌∷◌, ◌++◌, length, drop, sum_by, refl, ◌∙◌, ap, arith, length-append, length-drop}
+use Rattle.std.proofs.Common.{◌≡◌, ℕ, ◌≤◌, List, [], ◌∷◌, ◌++◌, length, drop, sum_by, refl, ◌∙◌, ap, arith}
+use Rattle.std.proofs.Common.{length-append, length-drop}
 use Rattle.std.proofs.lemmas.List.{take-append-le, drop-append-le}
 use Rattle.std.proofs.lemmas.List.Sums.{sum_by-cons, sum_by-append}
 use Rattle.rm_disk.specs.Call.{Call, Wrote}
@@ -35,7 +36,9 @@ pub calls_of-push : (notes : List Note) (bytes : List ℕ) (note : Note) (more :
 calls_of-push = calls_onto-push []
 
 -- and as many bytes more
-pub used-push : (notes : List Note) (bytes : List ℕ) (note : Note) (more : List ℕ) → sum_by used_by notes ≡ length bytes → used_by note ≡ length more → sum_by used_by (notes ++ note ∷ []) ≡ length (bytes ++ more)
+pub used-push : (notes : List Note) (bytes : List ℕ) (note : Note) (more : List ℕ)
+    → sum_by used_by notes ≡ length bytes → used_by note ≡ length more
+    → sum_by used_by (notes ++ note ∷ []) ≡ length (bytes ++ more)
 used-push notes bytes note more used fits =
     omega (
       arith,

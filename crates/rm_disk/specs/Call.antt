@@ -1,5 +1,6 @@
 -- The calls on a disk and what they make of it. A history is the list of a disk's calls, newest first.
-use Rattle.std.specs.Prelude.{ℕ, ◌+◌, min, max, Bool, ◌&&◌, ◌||◌, ◌==◌, nat_lt, nat_le, if◌then◌else◌, List, [], ◌∷◌, ◌++◌, zero, suc, length, take, drop, slice_index}
+use Rattle.std.specs.Prelude.{ℕ, ◌+◌, min, max, Bool, ◌&&◌, ◌||◌, ◌==◌, nat_lt, nat_le, if◌then◌else◌, List, [], ◌∷◌}
+use Rattle.std.specs.Prelude.{◌++◌, zero, suc, length, take, drop, slice_index}
 use Rattle.std.specs.List.{list_any}
 
 -- a call that changes a disk, or fails to
@@ -26,9 +27,11 @@ pub record State : Type 0 where
 abbrev pub settled : List ℕ → State
 settled bytes = record { seen = bytes; synced = bytes; low = length bytes; high = length bytes; written = [] }
 
+-- a range has this place
 abbrev pub is_within : ℕ → ℕ × ℕ → Bool
 is_within i range = nat_le range.0 i && nat_lt i (range.0 + range.1)
 
+-- one of the ranges has this place
 abbrev pub is_written : List (ℕ × ℕ) → ℕ → Bool
 is_written ranges i = list_any (is_within i) ranges
 

@@ -2,6 +2,9 @@ pub mod Call
 pub mod Cause
 pub mod Fuse
 pub mod Image
+pub mod ImageLemmas
 pub mod Mem
 pub mod MemDisk
+pub mod RangeLemmas
 pub mod Spare
+pub mod StateLemmas

@@ -1,6 +1,7 @@
 -- The history that a disk in memory keeps: a note for each call, oldest first, and the bytes of all writes in a row.
 use Rattle.std.specs.Prelude.{◌≡◌, ℕ, ◌<◌, false, List, [], ◌∷◌, take, drop, slice_index}
-use Rattle.rm_disk.specs.Call.{Call, Wrote, WriteFailed, CutTo, CutFailed, Synced, SyncFailed, Crashed, State, is_written}
+use Rattle.rm_disk.specs.Call.{Call, Wrote, WriteFailed, CutTo, CutFailed, Synced, SyncFailed, Crashed, State}
+use Rattle.rm_disk.specs.Call.{is_written}
 use Rattle.rm_disk.specs.declared.note.Note.{Note}
 use Rattle.rm_disk.specs.declared.note.Note.TheVariants.{Write, FailedWrite, Cut, FailedCut, Sync, FailedSync, Crash}
 
@@ -19,10 +20,12 @@ abbrev pub used_by : Note → ℕ
 used_by (Write at count) = count
 used_by _ = 0
 
+-- the calls of these notes on top of earlier ones, newest first
 abbrev pub calls_onto : List Call → List Note → List ℕ → List Call
 calls_onto past [] bytes = past
 calls_onto past (note ∷ notes) bytes = calls_onto (call_of note bytes ∷ past) notes (drop (used_by note) bytes)
 
+-- the calls of these notes, newest first
 abbrev pub calls_of : List Note → List ℕ → List Call
 calls_of notes bytes = calls_onto [] notes bytes
 

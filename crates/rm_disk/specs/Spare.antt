@@ -1,6 +1,7 @@
--- The device calls for which a `reserve` made room: so many, and so many bytes written by them.
+-- The room that a `reserve` made.
 use Rattle.std.specs.Prelude.{ℕ, ◌+◌, ◌≤◌}
 
+-- for so many calls that change the disk, and so many bytes written by them
 pub record Spare : Type 0 where
   pub calls : ℕ
   pub bytes : ℕ

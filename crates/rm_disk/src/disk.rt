@@ -1,4 +1,7 @@
-ghost use Rattle.std.specs.Prelude.{◌≡◌, ◌+◌, ◌≤◌, ℕ, ◌∷◌, Bool, List, Option, length, slice_range, IsTrue, is_ok, IsOk, IfOk, OnOk, OnErr, None, if◌then◌else◌};
+//! The traits of a disk, and of one that can be told to fail and to crash.
+
+ghost use Rattle.std.specs.Prelude.{◌≡◌, ◌+◌, ◌≤◌, ℕ, ◌∷◌, Bool, List, Option, length, slice_range, IsTrue, is_ok};
+ghost use Rattle.std.specs.Prelude.{is_err, IsOk, IfOk, OnOk, OnErr, None, if◌then◌else◌};
 ghost use Rattle.rm_disk.specs.Call.{Call, Wrote, WriteFailed, CutTo, CutFailed, Synced, SyncFailed, Crashed, seen_of};
 ghost use Rattle.rm_disk.specs.Fuse.{Burns, armed};
 ghost use Rattle.rm_disk.specs.Spare.{Spare, Covers, Spends};
@@ -29,7 +32,7 @@ pub trait Disk {
         ensures gives { IsTrue tells → IfOk result (λ len. len ≡ length (seen_of (past self.old))) }
         ensures past { IsTrue tells → past self.new ≡ past self.old }
         ensures fuse { IsTrue tells → Burns 1 (fuse self.old) (fuse self.new) (is_ok result) }
-        ensures cause { HasCause (faults self.old) (faults self.new) result }
+        ensures cause { HasCause (faults self.old) (faults self.new) (is_err result) }
         ensures spare { Spends 0 0 (spare self.old) (spare self.new) };
 
     /// Fills the buffer with the bytes from a place on. After a failure the buffer holds anything.
@@ -39,7 +42,7 @@ pub trait Disk {
             (at + length buf.old)) }
         ensures past { IsTrue tells → past self.new ≡ past self.old }
         ensures fuse { IsTrue tells → Burns 1 (fuse self.old) (fuse self.new) (is_ok result) }
-        ensures cause { HasCause (faults self.old) (faults self.new) result }
+        ensures cause { HasCause (faults self.old) (faults self.new) (is_err result) }
         ensures spare { Spends 0 0 (spare self.old) (spare self.new) };
 
     /// Makes room for so many calls that change the disk, and so many bytes written by them. It is no device call.
@@ -58,7 +61,7 @@ pub trait Disk {
         ensures past { IsTrue tells → past self.new ≡ (if is_ok result then Wrote at bytes.now else WriteFailed at
             (length bytes.now)) ∷ past self.old }
         ensures fuse { IsTrue tells → Burns 1 (fuse self.old) (fuse self.new) (is_ok result) }
-        ensures cause { HasCause (faults self.old) (faults self.new) result }
+        ensures cause { HasCause (faults self.old) (faults self.new) (is_err result) }
         ensures spare { Spends 1 (length bytes.now) (spare self.old) (spare self.new) };
 
     /// Cuts the file to a length.
@@ -68,7 +71,7 @@ pub trait Disk {
         ensures past { IsTrue tells → past self.new ≡ (if is_ok result then CutTo len else CutFailed len) ∷ past
             self.old }
         ensures fuse { IsTrue tells → Burns 1 (fuse self.old) (fuse self.new) (is_ok result) }
-        ensures cause { HasCause (faults self.old) (faults self.new) result }
+        ensures cause { HasCause (faults self.old) (faults self.new) (is_err result) }
         ensures spare { Spends 1 0 (spare self.old) (spare self.new) };
 
     /// After it a crash leaves what a read gives.
@@ -76,7 +79,7 @@ pub trait Disk {
         requires { Covers (spare self.old) 1 0 }
         ensures past { IsTrue tells → past self.new ≡ (if is_ok result then Synced else SyncFailed) ∷ past self.old }
         ensures fuse { IsTrue tells → Burns 1 (fuse self.old) (fuse self.new) (is_ok result) }
-        ensures cause { HasCause (faults self.old) (faults self.new) result }
+        ensures cause { HasCause (faults self.old) (faults self.new) (is_err result) }
         ensures spare { Spends 1 0 (spare self.old) (spare self.new) };
 }
 
@@ -93,7 +96,7 @@ pub trait CrashDisk: Disk {
 
     /// The machine stops and starts again, and no call fails from then on until an `arm`. Of what wasn't synced
     /// choice 0 keeps nothing and choice 1 all. Choice 2 leaves the greatest length and ones in the places that
-    /// may hold anything, choice 3 the smallest length and zeros there. Nothing is spare afterwards.
+    /// may hold anything, choice 3 the smallest length and zeros there. What was spare may be gone.
     fn crash(&mut self, choice: u8) -> Result<(), Memory>
         requires { choice ≤ 3 }
         ensures past { Self.past self.new ≡ (if is_ok result then Crashed choice ∷ Self.past self.old else Self.past

@@ -1,4 +1,7 @@
-ghost use Rattle.std.specs.Prelude.{◌≡◌, ℕ, ◌+◌, ◌<◌, ◌≤◌, [], ◌∷◌, ◌++◌, true, None, refl, length, sum_by, vec_len, vec_capacity, is_ok, IsTrue, IfOk};
+//! A disk in memory.
+
+ghost use Rattle.std.specs.Prelude.{◌≡◌, ℕ, ◌+◌, ◌<◌, ◌≤◌, [], ◌∷◌, ◌++◌, true, None, refl, length, sum_by, vec_len};
+ghost use Rattle.std.specs.Prelude.{vec_capacity, is_ok, is_err, IsTrue, IfOk};
 ghost use Rattle.rm_disk.specs.Call.{state, filled, left_by};
 ghost use Rattle.rm_disk.specs.Mem.{AgreeOutside};
 ghost use Rattle.rm_disk.specs.Cause.{HasCause};
@@ -12,12 +15,18 @@ use rm_base::{Failed, Memory};
 use std::alloc::{AllocError, Global};
 
 /// A disk in memory. It fails only once it is armed.
+///
+/// It keeps every byte that was ever written to it, and a note of three words for each call that changed it or failed
+/// to. What might have been left since an earlier moment follows from those calls, and contracts see nothing that no
+/// field holds. So its memory grows with all that was written and not with the file, and neither a cut nor a crash
+/// gives any back; room for a byte is made three times, in the file, in what the last sync left and in the row of all
+/// writes. It is meant for disks that live as long as a test or a script.
 #[derive(Debug, Drop)]
 pub struct MemDisk {
     alloc: Global,
 
-    // The calls since it was made, oldest first, and the bytes of all writes in a row. They are what contracts
-    // see, and no call reads them.
+    // The calls since it was made, oldest first, and the bytes of all writes in a row. Contracts see them, and no call
+    // reads them.
     notes: Vec<Note>,
     wrote: Vec<u8>,
 
@@ -45,7 +54,7 @@ pub struct MemDisk {
 /// One device call: whether it goes well.
 fn burn(fuse: &mut Option<u64>, faults: &mut u64) -> Result<(), Failed>
     ensures fuse { Burns 1 fuse.old fuse.new (is_ok result) }
-    ensures cause { HasCause faults.old faults.new result }
+    ensures cause { HasCause faults.old faults.new (is_err result) }
 {
     let Some(left) = *fuse else {
         return Ok(());

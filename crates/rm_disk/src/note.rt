@@ -1,3 +1,5 @@
+//! What a disk in memory keeps of a call.
+
 /// A call that a disk in memory has had, without the bytes that it wrote.
 #[derive(Clone, Copy, Debug, PartialEq, Eq)]
 pub enum Note {

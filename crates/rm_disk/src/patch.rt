@@ -1,3 +1,5 @@
+//! Bytes that are copied or written over others, in the room that there is.
+
 ghost use Rattle.std.specs.Prelude.{◌≡◌, ℕ, ◌+◌, ◌<◌, ◌≤◌, length, slice_index, vec_len, vec_capacity, if◌then◌else◌};
 ghost use Rattle.rm_disk.specs.Call.{is_within, is_written, overwritten};
 

@@ -1,62 +1,37 @@
 -- What a crash leaves while an entry is added. Each image of the disk stands for the old entries before the first
 -- call; so what it may hold from the gate on can be exchanged, and a block torn there leaves the same entries.
-use Rattle.std.proofs.Common.{◌≡◌, ◌≢◌, ◌⊎◌, ℕ, zero, suc, ◌+◌, ◌-◌, ◌<◌, ◌≤◌, Bool, true, false, ◌||◌, nat_le, List, [], ◌∷◌, ◌++◌, length, take, drop, slice_index, refl, sym, ◌∙◌, ap, subst, inl, inr, arith, append_assoc, length-append, length-take, length-drop, take-append-drop}
+use Rattle.std.proofs.Common.{◌≡◌, ◌≢◌, ◌⊎◌, ℕ, zero, suc, ◌+◌, ◌-◌, ◌<◌, ◌≤◌, Bool, true, false, ◌||◌, nat_le, List}
+use Rattle.std.proofs.Common.{[], ◌∷◌, ◌++◌, length, take, drop, slice_index, refl, sym, ◌∙◌, ap, subst, inl, inr}
+use Rattle.std.proofs.Common.{arith, append_assoc, length-append, length-take, length-drop, take-append-drop}
 use Rattle.std.specs.List.{flat_map}
 use Rattle.std.proofs.lemmas.Bool.{false≢true, cases_lt, cases_eq, lt-leb}
 use Rattle.std.proofs.lemmas.List.Folds.{list_any-append}
 use Rattle.std.specs.Int.{w32, to_be_bytes}
 use Rattle.std.proofs.Math.Seq.{get_or-append_seam}
-use Rattle.std.proofs.lemmas.List.{ext_get_or, take_at, drop_at, get_or-take, get_or-drop, get_or_append_left, get_or-append_right}
-use Rattle.rm_disk.specs.Call.{Call, is_within, Wrote, WriteFailed, CutTo, Synced, SyncFailed, State, is_free, is_written, overwritten, after, state, seen_of, settled, left_by}
+use Rattle.std.proofs.lemmas.List.{ext_get_or, take-take, take-append-le, take_at, drop_at, get_or-take, get_or-drop}
+use Rattle.std.proofs.lemmas.List.{get_or_append_left, get_or-append_right}
+use Rattle.rm_disk.specs.Call.{Call, is_within, Wrote, WriteFailed, CutTo, Synced, SyncFailed, State, is_free}
+use Rattle.rm_disk.specs.Call.{is_written, overwritten, after, state, seen_of, settled, left_by}
 use Rattle.rm_disk.specs.Image.{IsImage, MayLeave, OnlyLeaves}
-use Rattle.rm_disk.proofs.Images.{not_free, reads_as_image, crash_leaves_image, settled_only, synced_only, only_from, only_more}
-use Rattle.rm_disk.proofs.Ranges.{within_before, within_behind, overwritten-outside}
-use Rattle.rm_disk.proofs.States.{length-filled}
-use Rattle.rm_journal.specs.Entries.{longest, head, block, AllFit, StandsFor, StandsForEither}
-use Rattle.rm_journal.proofs.Blocks.{blocks-push, fit_push}
+use Rattle.rm_disk.specs.ImageLemmas.{not_free, reads_as_image, crash_leaves_image, settled_only, synced_only}
+use Rattle.rm_disk.specs.ImageLemmas.{only_from}
+use Rattle.rm_disk.specs.ImageLemmas.{only_more}
+use Rattle.rm_disk.specs.RangeLemmas.{within_before, within_behind, overwritten-outside}
+use Rattle.rm_disk.specs.StateLemmas.{length-filled}
+use Rattle.rm_journal.specs.Entries.{longest, head, block, prefix_of, StandsFor, StandsForEither}
+use Rattle.rm_journal.specs.Journal.{with_block}
+use Rattle.rm_journal.specs.EntryLemmas.{blocks-push, fit_push}
 use Rattle.rm_journal.specs.Scan.{WritesBlock}
 
--- the bytes before the gate at which a list ends
-abbrev pub front : List (List ℕ) → List ℕ
-front entries = head ++ flat_map block entries
+prefix_and_gate : (entries : List (List ℕ)) (gate : ℕ)
+    → length (prefix_of entries ++ gate ∷ []) ≡ length (prefix_of entries) + 1
+prefix_and_gate entries gate = length-append (prefix_of entries) (gate ∷ [])
 
--- bytes that begin with the front and a gate that isn't open
-pub record HasFront (entries : List (List ℕ)) (bytes : List ℕ) : Type 0 where
-  pub gate : ℕ
-  pub behind : List ℕ
-  pub closed : gate ≢ 1
-  pub is : bytes ≡ front entries ++ gate ∷ behind
-
-pub front_of : (entries : List (List ℕ)) (bytes : List ℕ) → StandsFor entries bytes → HasFront entries bytes
-front_of entries bytes stands = record {
-  gate = stands.ends.gate;
-  behind = stands.ends.behind;
-  closed = stands.ends.closed;
-  is =
-      stands.is
-      ∙ ap (λ (l : List ℕ). head ++ l) stands.ends.is
-      ∙ sym (append_assoc head (flat_map block entries) (stands.ends.gate ∷ stands.ends.behind));
-}
-
-pub stands_by : (entries : List (List ℕ)) (bytes : List ℕ) → AllFit entries → HasFront entries bytes
-    → StandsFor entries bytes
-stands_by entries bytes fit has = record {
-  rest = flat_map block entries ++ has.gate ∷ has.behind;
-  is = has.is ∙ append_assoc head (flat_map block entries) (has.gate ∷ has.behind);
-  ends = record { fit = fit; gate = has.gate; behind = has.behind; closed = has.closed; is = refl };
-}
-
-pub length-front : (entries : List (List ℕ)) → length (front entries) ≡ 8 + length (flat_map block entries)
-length-front entries = omega (arith, length-append head (flat_map block entries))
-
-front_and_gate : (entries : List (List ℕ)) (gate : ℕ) → length (front entries ++ gate ∷ []) ≡ length (front entries) + 1
-front_and_gate entries gate = length-append (front entries) (gate ∷ [])
-
--- An open gate and the body of an entry behind the front are the front with that entry.
-front-push : (entries : List (List ℕ)) (entry rest : List ℕ)
-    → front entries ++ 1 ∷ ((to_be_bytes w32 (length entry) ++ entry ++ 0 ∷ []) ++ rest)
-    ≡ front (entries ++ entry ∷ []) ++ 0 ∷ rest
-front-push entries entry rest =
+-- An open gate and the body of an entry behind the prefix are the prefix with that entry.
+prefix_of-push_gate : (entries : List (List ℕ)) (entry rest : List ℕ)
+    → prefix_of entries ++ 1 ∷ ((to_be_bytes w32 (length entry) ++ entry ++ 0 ∷ []) ++ rest)
+    ≡ prefix_of (entries ++ entry ∷ []) ++ 0 ∷ rest
+prefix_of-push_gate entries entry rest =
     let number = to_be_bytes w32 (length entry) in
     let blocks = flat_map block entries in
     ap (λ (l : List ℕ). (head ++ blocks) ++ 1 ∷ l) (append_assoc (number ++ entry) (0 ∷ []) rest)
@@ -170,21 +145,21 @@ gate_failed before gate behind past is =
 module _ (past : List Call) (entries : List (List ℕ)) (images : (bytes : List ℕ) → MayLeave past bytes
     → StandsFor entries bytes) where
   n : ℕ
-  n = length (front entries) + 1
+  n = length (prefix_of entries) + 1
 
-  reads : HasFront entries (seen_of past)
-  reads = front_of entries (seen_of past) (images (seen_of past) (reads_as_image past))
+  reads : StandsFor entries (seen_of past)
+  reads = images (seen_of past) (reads_as_image past)
 
-  -- the front and the gate stand in the smallest image
+  -- the prefix and the gate stand in the smallest image
   low_enough : n ≤ (state past).low
   unfolding n
   low_enough =
-      let least = front_of entries _ (images (left_by 3 (state past)) (crash_leaves_image past 3)) in
+      let least = images (left_by 3 (state past)) (crash_leaves_image past 3) in
       omega (
         arith,
         length-filled (state past) 0 (state past).low,
         ap length least.is,
-        length-append (front entries) (least.gate ∷ least.behind),
+        length-append (prefix_of entries) (least.gate ∷ least.behind),
       )
 
   long_enough : n ≤ length (seen_of past)
@@ -216,21 +191,21 @@ module _ (past : List Call) (entries : List (List ℕ)) (images : (bytes : List 
               ∙ ap (λ (k : ℕ). slice_index seen k) {y = i} (omega arith)
         ];
       } in
-      let stands = images spliced old in
-      let has = front_of entries spliced stands in
-      let first : take n bytes ≡ front entries ++ has.gate ∷ [] =
+      let has = images spliced old in
+      let first : take n bytes ≡ prefix_of entries ++ has.gate ∷ [] =
       sym (take_at (take n bytes) (drop n seen) n cut)
-      ∙ ap (λ (l : List ℕ). take n l) (has.is ∙ sym (append_assoc (front entries) (has.gate ∷ []) has.behind))
-      ∙ take_at (front entries ++ has.gate ∷ []) has.behind n (front_and_gate entries has.gate) in
-      stands_by entries bytes stands.ends.fit (record {
+      ∙ ap (λ (l : List ℕ). take n l) (has.is ∙ sym (append_assoc (prefix_of entries) (has.gate ∷ []) has.behind))
+      ∙ take_at (prefix_of entries ++ has.gate ∷ []) has.behind n (prefix_and_gate entries has.gate) in
+      record {
+        fit = has.fit;
         gate = has.gate;
         behind = drop n bytes;
         closed = has.closed;
         is =
             sym (take-append-drop n bytes)
             ∙ ap (λ (l : List ℕ). l ++ drop n bytes) first
-            ∙ append_assoc (front entries) (has.gate ∷ []) (drop n bytes);
-      })
+            ∙ append_assoc (prefix_of entries) (has.gate ∷ []) (drop n bytes);
+      }
 
   -- a block that is torn behind the gate
   behind_wrote : (body : List ℕ) → SameUpTo n (state past) (state (Wrote n body ∷ past))
@@ -251,17 +226,17 @@ module _ (past : List Call) (entries : List (List ℕ)) (images : (bytes : List 
   }
 
   -- the bytes once the block stands behind the closed gate
-  body_there : (body : List ℕ) → seen_of (Wrote n body ∷ past) ≡ front entries ++ reads.gate ∷ (body
+  body_there : (body : List ℕ) → seen_of (Wrote n body ∷ past) ≡ prefix_of entries ++ reads.gate ∷ (body
       ++ drop (n + length body) (seen_of past))
   unfolding n
   body_there body =
       let rest = drop (n + length body) (seen_of past) in
-      let first : take n (seen_of past) ≡ front entries ++ reads.gate ∷ [] =
-      ap (λ (l : List ℕ). take n l) (reads.is ∙ sym (append_assoc (front entries) (reads.gate ∷ []) reads.behind))
-      ∙ take_at (front entries ++ reads.gate ∷ []) reads.behind n (front_and_gate entries reads.gate) in
+      let first : take n (seen_of past) ≡ prefix_of entries ++ reads.gate ∷ [] =
+      ap (λ (l : List ℕ). take n l) (reads.is ∙ sym (append_assoc (prefix_of entries) (reads.gate ∷ []) reads.behind))
+      ∙ take_at (prefix_of entries ++ reads.gate ∷ []) reads.behind n (prefix_and_gate entries reads.gate) in
       ap (λ (l : List ℕ). l ++ body ++ rest) first
-      ∙ ap (λ (l : List ℕ). l ++ rest) (append_assoc (front entries) (reads.gate ∷ []) body)
-      ∙ append_assoc (front entries) (reads.gate ∷ body) rest
+      ∙ ap (λ (l : List ℕ). l ++ rest) (append_assoc (prefix_of entries) (reads.gate ∷ []) body)
+      ∙ append_assoc (prefix_of entries) (reads.gate ∷ body) rest
 
   module _ (entry : List ℕ) (short : length entry ≤ longest) where
     body : List ℕ
@@ -271,35 +246,33 @@ module _ (past : List Call) (entries : List (List ℕ)) (images : (bytes : List 
     rest = body ++ drop (n + length body) (seen_of past)
 
     end : ℕ
-    end = length (front entries)
-
-    fit : AllFit entries
-    fit = (images (seen_of past) (reads_as_image past)).ends.fit
+    end = length (prefix_of entries)
 
     -- whatever byte the gate is, the list is the old one or the new one
-    with_entry : StandsFor (entries ++ entry ∷ []) (front entries ++ 1 ∷ rest)
+    with_entry : StandsFor (entries ++ entry ∷ []) (prefix_of entries ++ 1 ∷ rest)
     unfolding rest body
-    with_entry = stands_by (entries ++ entry ∷ []) (front entries ++ 1 ∷ rest) (fit_push entries entry short fit)
-        (record {
-          gate = 0;
-          behind = drop (n + length body) (seen_of past);
-          closed = λ e. omega (arith, e);
-          is = front-push entries entry (drop (n + length body) (seen_of past));
-        })
+    with_entry = record {
+      fit = fit_push entries entry short reads.fit;
+      gate = 0;
+      behind = drop (n + length body) (seen_of past);
+      closed = λ e. omega (arith, e);
+      is = prefix_of-push_gate entries entry (drop (n + length body) (seen_of past));
+    }
 
-    either : (x : ℕ) → StandsForEither entries entry (front entries ++ x ∷ rest)
+    either : (x : ℕ) → StandsForEither entries entry (prefix_of entries ++ x ∷ rest)
     either x = elim (cases_eq x 1) [
-      | inl opens ↦ inr (subst (λ (y : ℕ). StandsFor (entries ++ entry ∷ []) (front entries ++ y ∷ rest))
+      | inl opens ↦ inr (subst (λ (y : ℕ). StandsFor (entries ++ entry ∷ []) (prefix_of entries ++ y ∷ rest))
           (sym opens) with_entry)
-      | inr closed ↦ inl (stands_by entries (front entries ++ x ∷ rest) fit (record {
+      | inr closed ↦ inl (record {
+        fit = reads.fit;
         gate = x;
         behind = rest;
         closed = closed;
         is = refl;
-      }))
+      })
     ]
 
-    there : state (Synced ∷ Wrote n body ∷ past) ≡ settled (front entries ++ reads.gate ∷ rest)
+    there : state (Synced ∷ Wrote n body ∷ past) ≡ settled (prefix_of entries ++ reads.gate ∷ rest)
     unfolding rest
     there = ap settled (body_there body)
 
@@ -326,20 +299,20 @@ module _ (past : List Call) (entries : List (List ℕ)) (images : (bytes : List 
     staged_only : OnlyLeaves past (Synced ∷ Wrote n body ∷ past) P
     unfolding P
     staged_only = only_more past _ Synced P first λ bytes may.
-        subst P (sym (settled_only (front entries ++ reads.gate ∷ rest) bytes
+        subst P (sym (settled_only (prefix_of entries ++ reads.gate ∷ rest) bytes
         (subst (λ s. IsImage s bytes) there may))) (either reads.gate)
 
     second_failed : OnlyLeaves past (WriteFailed end 1 ∷ Synced ∷ Wrote n body ∷ past) P
     unfolding P end
     second_failed = only_more past _ _ P staged_only λ bytes may.
-        subst P (sym (torn_gate (front entries) reads.gate rest _
-        (gate_failed (front entries) reads.gate rest (Synced ∷ Wrote n body ∷ past) there) bytes may)) (either _)
+        subst P (sym (torn_gate (prefix_of entries) reads.gate rest _
+        (gate_failed (prefix_of entries) reads.gate rest (Synced ∷ Wrote n body ∷ past) there) bytes may)) (either _)
 
     second_bytes : (bytes : List ℕ) → MayLeave (Wrote end (1 ∷ []) ∷ Synced ∷ Wrote n body ∷ past) bytes → P bytes
     unfolding P end
     second_bytes bytes may =
-        subst P (sym (torn_gate (front entries) reads.gate rest _
-        (gate_wrote (front entries) reads.gate rest (Synced ∷ Wrote n body ∷ past) there 1) bytes may)) (either _)
+        subst P (sym (torn_gate (prefix_of entries) reads.gate rest _
+        (gate_wrote (prefix_of entries) reads.gate rest (Synced ∷ Wrote n body ∷ past) there 1) bytes may)) (either _)
 
     second : OnlyLeaves past (Wrote end (1 ∷ []) ∷ Synced ∷ Wrote n body ∷ past) P
     second = only_more past _ _ P staged_only second_bytes
@@ -352,9 +325,9 @@ module _ (past : List Call) (entries : List (List ℕ)) (images : (bytes : List 
         → StandsFor (entries ++ entry ∷ []) bytes
     unfolding end
     all_there bytes may =
-        let is = synced_only (Wrote (length (front entries)) (1 ∷ []) ∷ Synced ∷ Wrote n body ∷ past) bytes may in
-        let over = ap (λ s. overwritten s.seen (length (front entries)) (1 ∷ [])) there
-        ∙ gate_over (front entries) reads.gate rest 1 in
+        let is = synced_only (Wrote (length (prefix_of entries)) (1 ∷ []) ∷ Synced ∷ Wrote n body ∷ past) bytes may in
+        let over = ap (λ s. overwritten s.seen (length (prefix_of entries)) (1 ∷ [])) there
+        ∙ gate_over (prefix_of entries) reads.gate rest 1 in
         subst (StandsFor (entries ++ entry ∷ [])) (sym (is ∙ over)) with_entry
 
     all_only : OnlyLeaves past (Synced ∷ Wrote end (1 ∷ []) ∷ Synced ∷ Wrote n body ∷ past) P
@@ -381,7 +354,7 @@ body_of entry = to_be_bytes w32 (length entry) ++ entry ++ 0 ∷ []
 -- A crash at any moment of the four calls, or of those up to the first that failed, leaves the old entries or the new.
 pub block_moments : (past : List Call) (entries : List (List ℕ))
     → ((bytes : List ℕ) → MayLeave past bytes → StandsFor entries bytes) → (entry : List ℕ) → length entry ≤ longest
-    → (new : List Call) (all_well : Bool) → WritesBlock (length (front entries)) (body_of entry) past new all_well
+    → (new : List Call) (all_well : Bool) → WritesBlock (length (prefix_of entries)) (body_of entry) past new all_well
     → OnlyLeaves past new (StandsForEither entries entry)
 unfolding end body P
 block_moments past entries images entry short new all_well calls =
@@ -391,12 +364,40 @@ block_moments past entries images entry short new all_well calls =
 pub block_done : (past : List Call) (entries : List (List ℕ))
     → ((bytes : List ℕ) → MayLeave past bytes → StandsFor entries bytes) → (entry : List ℕ) → length entry ≤ longest
     → (new : List Call) (all_well : Bool) → all_well ≡ true
-    → WritesBlock (length (front entries)) (body_of entry) past new all_well → (bytes : List ℕ) → MayLeave new bytes
+    → WritesBlock (length (prefix_of entries)) (body_of entry) past new all_well → (bytes : List ℕ) → MayLeave new bytes
     → StandsFor (entries ++ entry ∷ []) bytes
 unfolding end body
 block_done past entries images entry short new true well calls bytes may =
     done past entries images entry short new calls bytes may
 block_done past entries images entry short new false well calls bytes may = absurd (false≢true well)
+
+-- A block behind a gate, and then the gate, are the gate and the block.
+gate_last : (bytes : List ℕ) (gate : ℕ) (body : List ℕ) → gate < length bytes
+    → overwritten (overwritten bytes (gate + 1) body) gate (1 ∷ []) ≡ overwritten bytes gate (1 ∷ body)
+gate_last bytes gate body within =
+    let behind = drop (gate + 1 + length body) bytes in
+    let first = take (gate + 1) bytes in
+    let size : length first ≡ gate + 1 = omega (arith, length-take (gate + 1) bytes, within) in
+    let all : overwritten bytes (gate + 1) body ≡ first ++ (body ++ behind) = append_assoc first body behind in
+    let before : take gate (overwritten bytes (gate + 1) body) ≡ take gate bytes =
+    ap (λ (l : List ℕ). take gate l) all
+    ∙ take-append-le gate first (body ++ behind) (omega (arith, size))
+    ∙ take-take gate (gate + 1) bytes (omega arith) in
+    let after : drop (gate + 1) (overwritten bytes (gate + 1) body) ≡ body ++ behind =
+    ap (λ (l : List ℕ). drop (gate + 1) l) all ∙ drop_at first (body ++ behind) (gate + 1) size in
+    ap (λ (l : List ℕ). l ++ (1 ∷ []) ++ drop (gate + 1) (overwritten bytes (gate + 1) body)) before
+    ∙ ap (λ (l : List ℕ). take gate bytes ++ (1 ∷ []) ++ l) after
+    ∙ append_assoc (take gate bytes) (1 ∷ []) (body ++ behind)
+    ∙ sym (append_assoc (take gate bytes) (1 ∷ body) behind)
+    ∙ ap (λ (n : ℕ). take gate bytes ++ (1 ∷ body) ++ drop n bytes) (omega arith)
+
+-- After all four the bytes are the old ones with the block written over them, and nothing is unsynced.
+pub block_bytes : (past new : List Call) (gate : ℕ) (entry : List ℕ) (all_well : Bool) → all_well ≡ true
+    → gate < length (seen_of past) → WritesBlock gate (body_of entry) past new all_well
+    → state new ≡ settled (with_block (seen_of past) gate entry)
+block_bytes past new gate entry true well within calls = ap state calls
+    ∙ ap settled (gate_last (seen_of past) gate (body_of entry) within)
+block_bytes past new gate entry false well within calls = absurd (false≢true well)
 
 -- No call was made.
 pub nothing_done : (past new : List Call) (entries : List (List ℕ))
@@ -412,15 +413,11 @@ pub empty_journal : (past new : List Call) → new ≡ Synced ∷ Wrote 0 (head 
 empty_journal past new calls bytes may =
     let is = synced_only (Wrote 0 (head ++ 0 ∷ []) ∷ CutTo 0 ∷ past) bytes (subst (λ l. MayLeave l bytes) calls may) in
     subst (StandsFor []) (sym is) (record {
-      rest = 0 ∷ [];
+      fit = λ k d low. absurd (omega arith);
+      gate = 0;
+      behind = [];
+      closed = λ e. omega (arith, e);
       is = refl;
-      ends = record {
-        fit = λ k d low. absurd (omega arith);
-        gate = 0;
-        behind = [];
-        closed = λ e. omega (arith, e);
-        is = refl;
-      };
     })
 
 -- a sync, or one that failed, or none

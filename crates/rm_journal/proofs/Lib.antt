@@ -1,4 +1,3 @@
-pub mod Blocks
 pub mod Crash
 pub mod Walk
 pub mod Places

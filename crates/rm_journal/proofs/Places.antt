@@ -1,49 +1,14 @@
 -- The places of a journal's gates and entries.
-use Rattle.std.proofs.Common.{◌≡◌, ◌≢◌, ℕ, zero, suc, ◌+◌, ◌-◌, ◌^◌, ◌<◌, ◌≤◌, min, List, [], ◌∷◌, ◌++◌, length, take, drop, get_or, refl, sym, ◌∙◌, ap, arith, append_assoc, length-append, take-append-drop, drop-cons}
+use Rattle.std.proofs.Common.{◌≡◌, ◌≢◌, ℕ, zero, suc, ◌+◌, ◌-◌, ◌^◌, ◌<◌, ◌≤◌, min, List, [], ◌∷◌, ◌++◌, length, take}
+use Rattle.std.proofs.Common.{drop, get_or, refl, sym, ◌∙◌, ap, arith, append_assoc, length-append, take-append-drop}
+use Rattle.std.proofs.Common.{drop-cons}
 use Rattle.std.specs.List.{flat_map}
 use Rattle.std.specs.Int.{w32, to_be_bytes}
 use Rattle.std.proofs.Math.Seq.{take-suc}
 use Rattle.std.proofs.lemmas.Grind.{flat_map-append}
-use Rattle.std.proofs.lemmas.List.{take_all, take_at, drop_at}
-use Rattle.rm_journal.specs.Entries.{head, block, gates_from, first_of}
-use Rattle.rm_journal.specs.Kept.{Kept, end_of}
-use Rattle.rm_journal.proofs.Blocks.{length-block}
-use Rattle.rm_journal.proofs.Crash.{front, length-front, HasFront}
-
-pub length-gates_from : (at : ℕ) (entries : List (List ℕ)) → length (gates_from at entries) ≡ length entries
-length-gates_from at [] = refl
-length-gates_from at (entry ∷ entries) = ap suc (length-gates_from (at + 5 + length entry) entries)
-
--- the gate behind an entry
-pub gate_at : (at d : ℕ) (entries : List (List ℕ)) (k : ℕ) → k < length entries
-    → get_or (gates_from at entries) k d ≡ at + length (flat_map block (take (suc k) entries))
-gate_at at d [] k low = absurd (omega arith)
-gate_at at d (entry ∷ entries) zero low = omega (arith, length-append (block entry) [], length-block entry)
-gate_at at d (entry ∷ entries) (suc k) low =
-    omega (
-      arith,
-      gate_at (at + 5 + length entry) d entries k (omega (arith, low)),
-      length-append (block entry) (flat_map block (take (suc k) entries)),
-      length-block entry,
-    )
-
--- the closed gate stands behind the front
-pub end_is : (journal : Kept) (entries : List (List ℕ)) → journal.gates ≡ gates_from 8 entries
-    → end_of journal ≡ length (front entries)
-end_is journal entries gates = ap (λ (l : List ℕ). get_or l (length l - 1) 8) gates ∙ last entries
-    ∙ sym (length-front entries)
-  where
-    last : (entries : List (List ℕ)) → get_or (gates_from 8 entries) (length (gates_from 8 entries) - 1) 8
-        ≡ 8 + length (flat_map block entries)
-    last [] = refl
-    last (entry ∷ entries) =
-        ap (λ (k : ℕ). get_or (gates_from 8 (entry ∷ entries)) k 8) (omega (
-          arith,
-          length-gates_from (8 + 5 + length entry) entries,
-        ))
-        ∙ gate_at 8 8 (entry ∷ entries) (length entries) (omega arith)
-        ∙ ap (λ (l : List (List ℕ)). 8 + length (flat_map block l))
-        (take_all (suc (length entries)) (entry ∷ entries) (omega arith))
+use Rattle.std.proofs.lemmas.List.{take_at, drop_at}
+use Rattle.rm_journal.specs.Entries.{head, block, prefix_of, StandsFor, gates_from, first_of}
+use Rattle.rm_journal.specs.EntryLemmas.{length-block, length-prefix_of, length-gates_from, gate_at}
 
 -- the blocks of the entries before one, its block and those behind it
 pub blocks_split : (entries : List (List ℕ)) (k : ℕ) → k < length entries
@@ -74,7 +39,7 @@ gate_behind entries k d low =
     )
 
 -- the bytes there are the entry
-pub entry_there : (entries : List (List ℕ)) (bytes : List ℕ) (k : ℕ) → k < length entries → HasFront entries bytes
+pub entry_there : (entries : List (List ℕ)) (bytes : List ℕ) (k : ℕ) → k < length entries → StandsFor entries bytes
     → take (length (get_or entries k [])) (drop (start_of entries k) bytes) ≡ get_or entries k []
 unfolding start_of
 entry_there entries bytes k low has =
@@ -95,7 +60,7 @@ entry_there entries bytes k low has =
     ∙ take_at entry tail (length entry) refl
 
 -- an entry lies within the bytes
-pub entry_within : (entries : List (List ℕ)) (bytes : List ℕ) (k : ℕ) → k < length entries → HasFront entries bytes
+pub entry_within : (entries : List (List ℕ)) (bytes : List ℕ) (k : ℕ) → k < length entries → StandsFor entries bytes
     → start_of entries k + length (get_or entries k []) ≤ length bytes
 unfolding start_of
 entry_within entries bytes k low has =
@@ -105,8 +70,8 @@ entry_within entries bytes k low has =
     omega (
       arith,
       ap length has.is,
-      length-append (front entries) (has.gate ∷ has.behind),
-      length-front entries,
+      length-append (prefix_of entries) (has.gate ∷ has.behind),
+      length-prefix_of entries,
       ap length (blocks_split entries k low),
       length-append before (block entry ++ more),
       length-append (block entry) more,

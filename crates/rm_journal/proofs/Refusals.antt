@@ -3,7 +3,7 @@ use Rattle.std.proofs.Common.{◌≡◌, ℕ, ◌+◌, ◌≤◌, Bool, true, fa
 use Rattle.std.specs.Prelude.{nat_lt}
 use Rattle.std.proofs.lemmas.Bool.{ltb-false}
 use Rattle.rm_journal.specs.Entries.{longest}
-use Rattle.rm_journal.specs.Kept.{Kept, end_of}
+use Rattle.rm_journal.specs.JournalState.{JournalState, end_of}
 use Rattle.rm_journal.specs.Journal.{limit, refusal_of}
 use Rattle.rm_journal.specs.declared.error.JournalError.{JournalError}
 use Rattle.rm_journal.specs.declared.error.JournalError.TheVariants as Variant
@@ -16,7 +16,7 @@ by_tests true long full a b c e = cc
 by_tests false true full a b c e = cc
 by_tests false false true a b c e = cc
 
-pub up_and_short : (journal : Kept) (len : ℕ) → refusal_of journal len ≡ None
+pub up_and_short : (journal : JournalState) (len : ℕ) → refusal_of journal len ≡ None
     → (journal.is_down ≡ false) × (len ≤ longest)
 up_and_short journal len e =
     let tests = by_tests journal.is_down (nat_lt longest len) (nat_lt limit (end_of journal + 6 + len)) Variant.Down

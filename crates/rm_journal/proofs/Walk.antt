@@ -1,12 +1,14 @@
 -- What stands at a gate, and a walk over the gates.
-use Rattle.std.proofs.Common.{◌≡◌, ◌≢◌, ℕ, ◌+◌, ◌<◌, ◌≤◌, ◌^◌, List, [], ◌∷◌, ◌++◌, length, take, drop, slice_index, refl, sym, ◌∙◌, ap, subst, arith, append_assoc, length-append, length-take, length-drop}
+use Rattle.std.proofs.Common.{◌≡◌, ◌≢◌, ℕ, ◌+◌, ◌<◌, ◌≤◌, ◌^◌, List, [], ◌∷◌, ◌++◌, length, take, drop, slice_index}
+use Rattle.std.proofs.Common.{refl, sym, ◌∙◌, ap, subst, arith, append_assoc, length-append, length-take, length-drop}
 use Rattle.std.specs.List.{flat_map}
 use Rattle.std.specs.Int.{w32, to_be_bytes, from_be_bytes}
 use Rattle.std.proofs.lemmas.Nat.{from_be_bytes-to_be_bytes_4}
 use Rattle.std.proofs.lemmas.List.{drop-drop, take-append-drop, append_cancel_left}
-use Rattle.rm_journal.specs.Entries.{longest, head, block, EndsBlocks, StandsFor, gates_from}
-use Rattle.rm_journal.specs.Scan.{HasBlock, IsWalked}
-use Rattle.rm_journal.proofs.Blocks.{length-block, ends_uncons, ends_after, blocks-push, fit_push, gates_from-push}
+use Rattle.rm_journal.specs.Entries.{longest, head, block, StandsFor, gates_from}
+use Rattle.rm_journal.specs.Scan.{EndsBlocks, HasBlock, IsWalked}
+use Rattle.rm_journal.specs.EntryLemmas.{length-block, ends_uncons, ends_after, ends_in, blocks-push, fit_push}
+use Rattle.rm_journal.specs.EntryLemmas.{gates_from-push}
 
 -- a closed gate ends the empty list
 pub ends_here : (rest : List ℕ) → 0 < length rest → slice_index rest 0 ≢ 1 → EndsBlocks [] rest
@@ -104,7 +106,23 @@ pub walked_nowhere : (bytes gates rest : List ℕ) (at : ℕ) → IsWalked bytes
     → ⊥
 walked_nowhere bytes gates rest at walked none all stands =
     let blocks = flat_map block walked.entries in
-    let behind : stands.rest ≡ blocks ++ rest =
-    append_cancel_left head stands.rest (blocks ++ rest) (sym stands.is ∙ walked.is ∙ append_assoc head blocks rest) in
-    let after = ends_after walked.entries all rest walked.fit (subst (EndsBlocks all) behind stands.ends) in
+    let ends = ends_in all bytes stands in
+    let behind : ends.0 ≡ blocks ++ rest =
+    append_cancel_left head ends.0 (blocks ++ rest) (sym ends.1 ∙ walked.is ∙ append_assoc head blocks rest) in
+    let after = ends_after walked.entries all rest walked.fit (subst (EndsBlocks all) behind ends.2) in
     none after.0 after.2
+
+-- at a gate that isn't open the bytes stand for the entries of the walk
+pub walked_all : (bytes gates rest : List ℕ) (at : ℕ) → IsWalked bytes gates at rest → EndsBlocks [] rest
+    → (entries : List (List ℕ)) × StandsFor entries bytes × (gates ≡ gates_from 8 entries)
+walked_all bytes gates rest at walked ends = (
+  walked.entries,
+  record {
+    fit = walked.fit;
+    gate = ends.gate;
+    behind = ends.behind;
+    closed = ends.closed;
+    is = walked.is ∙ ap (λ (l : List ℕ). head ++ flat_map block walked.entries ++ l) ends.is;
+  },
+  walked.gates,
+)

@@ -15,23 +15,25 @@ head = codes "WSRMJNL1"
 abbrev pub block : List ℕ → List ℕ
 block entry = 1 ∷ (to_be_bytes w32 (length entry) ++ entry)
 
+-- what stands before the closed gate of a journal of these entries
+abbrev pub prefix_of : List (List ℕ) → List ℕ
+prefix_of entries = head ++ flat_map block entries
+
+-- a journal of these entries with nothing behind its closed gate
+abbrev pub bytes_of : List (List ℕ) → List ℕ
+bytes_of entries = prefix_of entries ++ 0 ∷ []
+
 -- each entry is short enough
 abbrev pub AllFit : List (List ℕ) → Type 0
 AllFit entries = All (λ entry. length entry ≤ longest) entries
 
--- the blocks of these entries and a gate that isn't open; what follows that means nothing
-pub record EndsBlocks (entries : List (List ℕ)) (bytes : List ℕ) : Type 0 where
+-- The bytes begin with the prefix of these entries and a gate that isn't open; what follows that means nothing.
+pub record StandsFor (entries : List (List ℕ)) (bytes : List ℕ) : Type 0 where
   pub fit : AllFit entries
   pub gate : ℕ
   pub behind : List ℕ
   pub closed : gate ≢ 1
-  pub is : bytes ≡ flat_map block entries ++ gate ∷ behind
-
--- the head, and then so
-pub record StandsFor (entries : List (List ℕ)) (bytes : List ℕ) : Type 0 where
-  pub rest : List ℕ
-  pub is : bytes ≡ head ++ rest
-  pub ends : EndsBlocks entries rest
+  pub is : bytes ≡ prefix_of entries ++ gate ∷ behind
 
 -- the entries, or these with one more
 abbrev pub StandsForEither : List (List ℕ) → List ℕ → List ℕ → Type 0

@@ -1,15 +1,16 @@
 -- The calls that write a block, and what is found at a gate.
-use Rattle.std.specs.Prelude.{◌≡◌, ◌⊎◌, ◌≤◌, ℕ, ◌+◌, Bool, true, false, List, [], ◌∷◌, ◌++◌, length, drop}
+use Rattle.std.specs.Prelude.{◌≡◌, ◌≢◌, ◌⊎◌, ◌≤◌, ℕ, ◌+◌, Bool, true, false, List, [], ◌∷◌, ◌++◌, length, drop}
 use Rattle.std.specs.List.{flat_map}
 use Rattle.rm_disk.specs.Call.{Call, Wrote, WriteFailed, Synced, SyncFailed}
-use Rattle.rm_journal.specs.Entries.{longest, head, block, AllFit, EndsBlocks, gates_from}
+use Rattle.rm_journal.specs.Entries.{longest, head, block, AllFit, gates_from}
 use Rattle.rm_journal.specs.declared.scan.Found.{Found}
 use Rattle.rm_journal.specs.declared.scan.Found.TheVariants.{End, Entry, Bad}
 
--- A block is written behind the gate and synced, and then the gate is opened and synced.
+-- a block is written behind the gate and synced
 abbrev pub staged : ℕ → List ℕ → List Call → List Call
 staged gate block past = Synced ∷ Wrote (gate + 1) block ∷ past
 
+-- and then the gate is opened
 abbrev pub opened : ℕ → List ℕ → List Call → List Call
 opened gate block past = Wrote gate (1 ∷ []) ∷ staged gate block past
 
@@ -21,6 +22,14 @@ WritesBlock gate block old new false =
     ⊎ (new ≡ SyncFailed ∷ Wrote (gate + 1) block ∷ old)
     ⊎ (new ≡ WriteFailed gate 1 ∷ staged gate block old)
     ⊎ (new ≡ SyncFailed ∷ opened gate block old)
+
+-- the blocks of these entries and a gate that isn't open: what stands behind the head of a journal of them
+pub record EndsBlocks (entries : List (List ℕ)) (bytes : List ℕ) : Type 0 where
+  pub fit : AllFit entries
+  pub gate : ℕ
+  pub behind : List ℕ
+  pub closed : gate ≢ 1
+  pub is : bytes ≡ flat_map block entries ++ gate ∷ behind
 
 -- an entry of this length stands there, with an open gate before it
 pub record HasBlock (len : ℕ) (rest : List ℕ) : Type 0 where

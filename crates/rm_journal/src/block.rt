@@ -1,5 +1,6 @@
-// The four device calls that add an entry.
-ghost use Rattle.std.specs.Prelude.{◌≡◌, ◌+◌, ◌<◌, ◌≤◌, ◌^◌, [], ◌∷◌, ◌++◌, length, IsTrue, is_ok, IfOk};
+//! The four device calls that add an entry.
+
+ghost use Rattle.std.specs.Prelude.{◌≡◌, ◌+◌, ◌<◌, ◌≤◌, ◌^◌, [], ◌∷◌, ◌++◌, length, IsTrue, is_ok, is_err, IfOk};
 ghost use Rattle.std.specs.Int.{w32, to_be_bytes};
 ghost use Rattle.rm_disk.specs.Call.{seen_of};
 ghost use Rattle.rm_disk.specs.Cause.{HasCause};
@@ -32,7 +33,7 @@ pub fn write_block<D: Disk>(disk: &mut D, gate: u64, body: &[u8]) -> Result<(), 
     requires room { Covers (D.spare disk.old) 4 (length body.now + 1) }
     ensures calls { IsTrue D.tells → WritesBlock gate body.now (D.past disk.old) (D.past disk.new) (is_ok result) }
     ensures fuse { IsTrue D.tells → Burns 4 (D.fuse disk.old) (D.fuse disk.new) (is_ok result) }
-    ensures cause { HasCause (D.faults disk.old) (D.faults disk.new) result }
+    ensures cause { HasCause (D.faults disk.old) (D.faults disk.new) (is_err result) }
 {
     disk.write_at(gate + 1, body)?;
     // What stands behind the gate has to be on the disk before the gate opens: a crash may leave anything there.

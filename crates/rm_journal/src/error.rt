@@ -1,3 +1,5 @@
+//! Why a call on a journal fails.
+
 ghost use Rattle.std.specs.Prelude.{◌≡◌};
 ghost use Rattle.rm_journal.specs.declared.error.JournalError.TheVariants.{Memory as WantsMemory, Disk as DiskFails};
 

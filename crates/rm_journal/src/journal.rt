@@ -1,10 +1,15 @@
-ghost use Rattle.std.specs.Prelude.{◌≡◌, ◌≢◌, ◌⊎◌, ◌↔◌, ◌+◌, ◌-◌, ◌≤◌, ℕ, [], ◌∷◌, ◌++◌, List, Bool, true, false, None, Some, Err, length, slice_get, IsTrue, is_ok, is_err, not, IfOk, OnOk, IfErr, IsErrOf};
-ghost use Rattle.rm_base.specs.Count.{Rose};
-ghost use Rattle.rm_disk.specs.Call.{seen_of, crashes_of};
+//! A journal on a disk: made, mounted, added to and read.
+
+ghost use Rattle.std.specs.Prelude.{◌≡◌, ◌≢◌, ◌⊎◌, ◌↔◌, ◌+◌, ◌-◌, ◌≤◌, ℕ, [], ◌∷◌, ◌++◌, List, Bool, true, false, None};
+ghost use Rattle.std.specs.Prelude.{Some, Err, length, slice_get, IsTrue, is_ok, is_err, not, IfOk, OnOk, IfErr};
+ghost use Rattle.std.specs.Prelude.{IsErrOf};
+ghost use Rattle.rm_disk.specs.Call.{settled, state, seen_of, crashes_of};
+ghost use Rattle.rm_disk.specs.Cause.{HasCause};
 ghost use Rattle.rm_disk.specs.Fuse.{Burns};
 ghost use Rattle.rm_disk.specs.Image.{MayLeave, OnlyLeaves};
-ghost use Rattle.rm_journal.specs.Entries.{StandsFor, StandsForEither};
-ghost use Rattle.rm_journal.specs.declared.error.JournalError.TheVariants.{Memory as WantsMemory, Disk as DiskFails, NotAJournal, Down as IsDown};
+ghost use Rattle.rm_journal.specs.Entries.{bytes_of, StandsFor, StandsForEither};
+ghost use Rattle.rm_journal.specs.declared.error.JournalError.TheVariants.{Memory as WantsMemory, Disk as DiskFails};
+ghost use Rattle.rm_journal.specs.declared.error.JournalError.TheVariants.{NotAJournal, Down as IsDown};
 
 use crate::JournalError;
 use crate::block::{body_of, write_block};
@@ -27,26 +32,36 @@ pub struct Journal {
 }
 
 impl Model for Journal {
-    ghost use Rattle.rm_journal.specs.Kept.{Kept};
+    ghost use Rattle.rm_journal.specs.JournalState.{JournalState};
 
-    ghost Value = { Kept };
+    ghost Value = { JournalState };
 
     ghost view = { λ j. record { gates = j.gates.items; is_down = j.down } };
 }
 
 impl Journal {
-    ghost use Rattle.rm_journal.specs.Kept.{Kept, end_of};
-    ghost use Rattle.rm_journal.specs.Journal.{Fits, FitsUnlessDown, HasCause, Answers, refusal_of, is_disk, is_memory, appended, after_reading};
+    ghost use Rattle.rm_journal.specs.JournalState.{JournalState, end_of, journal_of};
+    ghost use Rattle.rm_journal.specs.Journal.{Fits, FitsUnlessDown, Answers, refusal_of, is_disk, is_memory};
+    ghost use Rattle.rm_journal.specs.Journal.{with_block, appended, after_reading};
 
-    /// Makes the disk an empty journal. After a refusal the disk holds anything, and must be formatted again.
-    /// It makes three device calls: it cuts, writes and syncs.
+    /// Makes the disk an empty journal, in three device calls: it cuts, writes and syncs. After Disk the disk holds
+    /// anything, and must be formatted again.
     pub fn format<D: Disk>(alloc: Global, disk: &mut D) -> Result<Journal, JournalError>
+        ensures made { IfOk result (λ journal. journal ≡ journal_of []) }
         ensures fits { IsTrue D.tells → IfOk result (Fits [] (D.past disk.new)) }
-        ensures up { IfOk result (λ journal. journal.is_down ≡ false) }
+
+        // The disk has a head and a closed gate, and nothing behind it.
+        ensures bytes { IsTrue D.tells → OnOk result (state (D.past disk.new) ≡ settled (bytes_of [])) }
+
         ensures refusals { IfErr result (λ error. (error ≡ WantsMemory) ⊎ (error ≡ DiskFails)) }
+
+        // Memory comes before any device call.
+        ensures untouched { IsTrue D.tells → is_memory result ≡ true →
+            (D.past disk.new ≡ D.past disk.old) × (D.fuse disk.new ≡ D.fuse disk.old) }
+
         ensures fuse { IsTrue D.tells → is_memory result ≡ false →
             Burns 3 (D.fuse disk.old) (D.fuse disk.new) (is_ok result) }
-        ensures cause { HasCause (D.faults disk.old) (D.faults disk.new) result }
+        ensures cause { HasCause (D.faults disk.old) (D.faults disk.new) (is_disk result) }
         ensures crashes { IsTrue D.tells → crashes_of (D.past disk.new) ≡ crashes_of (D.past disk.old) }
     {
         disk.reserve(3, 9)?;
@@ -69,13 +84,19 @@ impl Journal {
         ensures up { IfOk result (λ journal. journal.is_down ≡ false) }
         ensures refusals { IfErr result (λ error. (error ≡ WantsMemory) ⊎ (error ≡ DiskFails) ⊎ (error ≡ NotAJournal)) }
 
-        // It changes nothing that is read, and a crash leaves no more than before.
+        // It changes nothing that is read, and a crash leaves no more than before. At Ok nothing is unsynced.
+        ensures settled { IsTrue D.tells → OnOk result (state (D.past disk.new) ≡ settled (seen_of (D.past disk.old))) }
         ensures seen { IsTrue D.tells → seen_of (D.past disk.new) ≡ seen_of (D.past disk.old) }
         ensures moments { IsTrue D.tells → OnlyLeaves (D.past disk.old) (D.past disk.new) (MayLeave (D.past disk.old)) }
 
         ensures fuse { IsTrue D.tells → is_memory result ≡ false →
             Burns 3 (D.fuse disk.old) (D.fuse disk.new) (not (is_disk result)) }
-        ensures cause { HasCause (D.faults disk.old) (D.faults disk.new) result }
+
+        // Memory comes before any device call, or after two or three that went well.
+        ensures memory { IsTrue D.tells → is_memory result ≡ true → (D.fuse disk.new ≡ D.fuse disk.old)
+            ⊎ Burns 2 (D.fuse disk.old) (D.fuse disk.new) true ⊎ Burns 3 (D.fuse disk.old) (D.fuse disk.new) true }
+
+        ensures cause { HasCause (D.faults disk.old) (D.faults disk.new) (is_disk result) }
         ensures crashes { IsTrue D.tells → crashes_of (D.past disk.new) ≡ crashes_of (D.past disk.old) }
     {
         disk.reserve(1, 0)?;
@@ -104,14 +125,18 @@ impl Journal {
         // the new one.
         ensures ok { IsTrue D.tells → (entries : List (List ℕ)) → Fits entries (D.past disk.old) self.old →
             OnOk result (Fits (entries ++ entry.now ∷ []) (D.past disk.new) self.new) }
+        ensures bytes { IsTrue D.tells → OnOk result (state (D.past disk.new) ≡
+            settled (with_block (seen_of (D.past disk.old)) (end_of self.old) entry.now)) }
         ensures moments { IsTrue D.tells → (entries : List (List ℕ)) → Fits entries (D.past disk.old) self.old →
             OnlyLeaves (D.past disk.old) (D.past disk.new) (StandsForEither entries entry.now) }
+
+        // Each answer but Ok and Disk comes before any device call.
         ensures untouched { IsTrue D.tells → IfErr result (λ error. error ≢ DiskFails →
             (D.past disk.new ≡ D.past disk.old) × (D.fuse disk.new ≡ D.fuse disk.old)) }
 
         ensures fuse { IsTrue D.tells → (is_ok result ≡ true) ⊎ (is_disk result ≡ true) →
             Burns 4 (D.fuse disk.old) (D.fuse disk.new) (is_ok result) }
-        ensures cause { HasCause (D.faults disk.old) (D.faults disk.new) result }
+        ensures cause { HasCause (D.faults disk.old) (D.faults disk.new) (is_disk result) }
         ensures crashes { IsTrue D.tells → crashes_of (D.past disk.new) ≡ crashes_of (D.past disk.old) }
     {
         if let Some(refusal) = self.refusal(entry.len() as u64) {
@@ -140,11 +165,13 @@ impl Journal {
         ensures refusals { IfErr result (λ error. (error ≡ WantsMemory) ⊎ (error ≡ DiskFails) ⊎ (error ≡ IsDown)) }
         ensures journal { self.new ≡ after_reading self.old result }
         ensures past { IsTrue D.tells → D.past disk.new ≡ D.past disk.old }
+
+        // Memory and Down come before the device call.
         ensures untouched { IsTrue D.tells → IfErr result (λ error. error ≢ DiskFails →
             D.fuse disk.new ≡ D.fuse disk.old) }
         ensures fuse { IsTrue D.tells → (is_ok result ≡ true) ⊎ (is_disk result ≡ true) →
             Burns 1 (D.fuse disk.old) (D.fuse disk.new) (is_ok result) }
-        ensures cause { HasCause (D.faults disk.old) (D.faults disk.new) result }
+        ensures cause { HasCause (D.faults disk.old) (D.faults disk.new) (is_disk result) }
     {
         if self.down {
             return Err(JournalError::Down);

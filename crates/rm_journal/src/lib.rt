@@ -1,6 +1,7 @@
 //! A journal on a disk: a list of entries, each whole on the disk before `append` answers Ok, and of which a crash at
 //! any device call leaves the old ones or these with the new one. It stands on rm_disk. The layer above may use that
-//! a journal and its disk fit an entry list (`Fits`), what each call does to that list, and why it fails.
+//! a journal and its disk fit an entry list (`Fits`), what each call does to that list, and why it fails; and of
+//! entries and gates the laws, whose lemmas stand in specs/EntryLemmas.
 #![tactic(auto)]
 
 mod block;
@@ -12,6 +13,3 @@ mod scan;
 
 pub use error::JournalError;
 pub use journal::Journal;
-
-#[cfg(test)]
-mod tests;

@@ -1,9 +1,12 @@
-// Where an entry stands, and the bytes that stand at a place.
-ghost use Rattle.std.specs.Prelude.{◌≡◌, ◌⊎◌, ◌+◌, ◌<◌, ◌≤◌, ℕ, [], ◌∷◌, List, true, false, length, take, drop, slice_index, slice_index_or, IsTrue, is_ok, IfOk, IfErr};
+//! Where an entry stands, and the bytes that stand at a place.
+
+ghost use Rattle.std.specs.Prelude.{◌≡◌, ◌⊎◌, ◌+◌, ◌<◌, ◌≤◌, ℕ, [], ◌∷◌, List, true, false, length, take, drop};
+ghost use Rattle.std.specs.Prelude.{slice_index, slice_index_or, IsTrue, is_ok, IfOk, IfErr};
 ghost use Rattle.rm_disk.specs.Call.{seen_of};
+ghost use Rattle.rm_disk.specs.Cause.{HasCause};
 ghost use Rattle.rm_disk.specs.Fuse.{Burns};
 ghost use Rattle.rm_journal.specs.Entries.{gates_from, first_of};
-ghost use Rattle.rm_journal.specs.Journal.{HasCause, is_memory};
+ghost use Rattle.rm_journal.specs.Journal.{is_disk, is_memory};
 ghost use Rattle.rm_journal.specs.declared.error.JournalError.TheVariants.{Memory as WantsMemory, Disk as DiskFails};
 
 use crate::JournalError;
@@ -44,7 +47,7 @@ pub fn read_bytes<D: Disk>(
     ensures untouched { IsTrue D.tells → is_memory result ≡ true → D.fuse disk.new ≡ D.fuse disk.old }
     ensures fuse { IsTrue D.tells → is_memory result ≡ false →
         Burns 1 (D.fuse disk.old) (D.fuse disk.new) (is_ok result) }
-    ensures cause { HasCause (D.faults disk.old) (D.faults disk.new) result }
+    ensures cause { HasCause (D.faults disk.old) (D.faults disk.new) (is_disk result) }
 {
     let mut bytes = vec![in alloc; 0; len as usize]?;
     disk.read(at, &mut bytes)?;

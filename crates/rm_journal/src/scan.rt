@@ -1,4 +1,5 @@
-// The walk over the gates of a journal that is read.
+//! The walk over the gates of a journal that is read.
+
 ghost use Rattle.std.specs.Prelude.{◌≡◌, ◌⊎◌, ◌↔◌, ℕ, List, length, Err, IsTrue, IfOk, IfErr};
 ghost use Rattle.std.specs.Int.{w32, to_be_bytes};
 ghost use Rattle.rm_journal.specs.Entries.{StandsFor, gates_from};

@@ -1,4 +1,4 @@
-use Rattle.rm_disk.proofs.Images.{reads_as_image}
+use Rattle.rm_disk.specs.ImageLemmas.{reads_as_image}
 use Rattle.rm_disk.proofs.laws.a_read_is_an_image.Goals as goal
 
 pub returns : goal.returns

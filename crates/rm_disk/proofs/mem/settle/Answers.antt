@@ -1,7 +1,8 @@
-use Rattle.std.proofs.Common.{◌≡◌, ◌∙◌, ℕ, ◌-◌, ◌++◌, List, cond, slice_index, length, take, drop, ap, arith, length-append, length-take, length-drop}
+use Rattle.std.proofs.Common.{◌≡◌, ◌∙◌, ℕ, ◌-◌, ◌++◌, List, cond, slice_index, length, take, drop, ap, arith}
+use Rattle.std.proofs.Common.{length-append, length-take, length-drop}
 use Rattle.std.proofs.lemmas.List.{take_all}
 use Rattle.rm_disk.specs.Call.{is_written}
-use Rattle.rm_disk.proofs.Kept.{patched}
+use Rattle.rm_disk.proofs.History.{patched}
 use Rattle.rm_disk.proofs.mem.settle.Goals as goal
 
 pub returns-clause-bytes : goal.returns-clause-bytes

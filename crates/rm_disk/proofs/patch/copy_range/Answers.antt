@@ -1,7 +1,7 @@
 use Rattle.std.proofs.Common.{ℕ, ◌-◌, List, slice_index, arith, rules, refl, ap, inl, inr}
 use Rattle.std.proofs.lemmas.Bool.{cases_lt}
 use Rattle.std.proofs.lemmas.List.{places}
-use Rattle.rm_disk.proofs.Ranges.{within_inside, within_before, within_behind}
+use Rattle.rm_disk.specs.RangeLemmas.{within_inside, within_before, within_behind}
 use Rattle.rm_disk.proofs.patch.copy_range.Goals as goal
 
 pub returns-then-at-end : goal.returns-then-at-end

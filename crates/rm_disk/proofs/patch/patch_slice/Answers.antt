@@ -1,6 +1,6 @@
 use Rattle.std.proofs.Common.{ℕ, cond, slice_index, sym, ◌∙◌, ap, take, get_or, arith}
 use Rattle.rm_disk.specs.Call.{is_within, is_written}
-use Rattle.rm_disk.proofs.Ranges.{is_written-more, cond_or}
+use Rattle.rm_disk.specs.RangeLemmas.{is_written-more, cond_or}
 use Rattle.rm_disk.proofs.patch.patch_slice.Goals as goal
 
 pub loop-at-preserved : goal.loop-at-preserved

@@ -1,8 +1,9 @@
-use Rattle.std.proofs.Common.{◌≡◌, ◌∙◌, ℕ, List, ◌-◌, cond, slice_index, vec_len, length, take, sym, ap, arith, length-take}
+use Rattle.std.proofs.Common.{◌≡◌, ◌∙◌, ℕ, List, ◌-◌, cond, slice_index, vec_len, length, take, sym, ap, arith}
+use Rattle.std.proofs.Common.{length-take}
 use Rattle.std.proofs.lemmas.List.{get_or-take, get_or-replicate}
 use Rattle.rm_disk.specs.Call.{is_written}
 use Rattle.rm_disk.specs.MemDisk.{state_of}
-use Rattle.rm_disk.proofs.Kept.{kept_sound, filled_is}
+use Rattle.rm_disk.proofs.History.{kept_sound, filled_is}
 use Rattle.rm_disk.proofs.mem.MemDisk.filled.Goals as goal
 
 pub slice_bounds-from_slice-end : goal.slice_bounds-from_slice-end

@@ -1,5 +1,5 @@
 use Rattle.std.proofs.Common.{arith}
-use Rattle.rm_disk.proofs.Kept.{kept_sound}
+use Rattle.rm_disk.proofs.History.{kept_sound}
 use Rattle.rm_disk.proofs.mem.MemDisk.left_by.Goals as goal
 
 pub filled-requires : goal.filled-requires

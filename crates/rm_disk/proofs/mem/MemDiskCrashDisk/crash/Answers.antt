@@ -1,6 +1,6 @@
 use Rattle.std.proofs.Common.{refl}
 use Rattle.rm_disk.specs.declared.note.Note.TheVariants.{Crash}
-use Rattle.rm_disk.proofs.Kept.{calls_of-note, state-note, used-note}
+use Rattle.rm_disk.proofs.History.{calls_of-note, state-note, used-note}
 use Rattle.rm_disk.proofs.mem.MemDiskCrashDisk.crash.Goals as goal
 
 pub invariant_of-self-2-clause-content : goal.invariant_of-self-2-clause-content

@@ -1,6 +1,6 @@
 use Rattle.std.proofs.Common.{refl}
 use Rattle.rm_disk.specs.declared.note.Note.TheVariants.{Sync, FailedSync}
-use Rattle.rm_disk.proofs.Kept.{calls_of-note, state-note, used-note, kept_sound}
+use Rattle.rm_disk.proofs.History.{calls_of-note, state-note, used-note, kept_sound}
 use Rattle.rm_disk.proofs.mem.MemDiskDisk.sync.Goals as goal
 
 pub invariant_of-self-clause-content : goal.invariant_of-self-clause-content

@@ -1,7 +1,7 @@
 use Rattle.std.proofs.Common.{length, refl}
 use Rattle.rm_disk.specs.declared.note.Note.TheVariants.{Write, FailedWrite}
 use Rattle.rm_disk.proofs.Notes.{used-push}
-use Rattle.rm_disk.proofs.Kept.{calls_of-note, calls_of-write, state-note, state-write, used-note}
+use Rattle.rm_disk.proofs.History.{calls_of-note, calls_of-write, state-note, state-write, used-note}
 use Rattle.rm_disk.proofs.mem.MemDiskDisk.write_at.Goals as goal
 
 pub invariant_of-self-clause-content : goal.invariant_of-self-clause-content

@@ -3,11 +3,11 @@ use Rattle.std.specs.Prelude.{not, is_ok}
 use Rattle.std.specs.List.{flat_map}
 use Rattle.std.specs.Int.{w32, to_be_bytes}
 use Rattle.rm_disk.specs.Call.{seen_of}
-use Rattle.rm_disk.proofs.Images.{reads_as_image}
-use Rattle.rm_journal.specs.Entries.{block, gates_from}
-use Rattle.rm_journal.proofs.Blocks.{length-number, gates_from-push}
-use Rattle.rm_journal.proofs.Crash.{front, front_of, length-front, block_moments, block_done, nothing_done}
-use Rattle.rm_journal.proofs.Places.{end_is}
+use Rattle.rm_disk.specs.ImageLemmas.{reads_as_image}
+use Rattle.rm_journal.specs.Entries.{block, prefix_of, gates_from}
+use Rattle.rm_journal.specs.JournalState.{end_of}
+use Rattle.rm_journal.specs.EntryLemmas.{length-number, gates_from-push, length-prefix_of, end_is}
+use Rattle.rm_journal.proofs.Crash.{block_moments, block_done, block_bytes, nothing_done}
 use Rattle.rm_journal.proofs.Refusals.{up_and_short}
 use Rattle.rm_journal.proofs.journal.Journal.append.Goals as goal
 
@@ -30,17 +30,17 @@ write_block-requires-clause-within g c tells =
     let up = up_and_short c.args.self.now (length c.args.entry.now) (sym c.refusal.ensures ∙ c.in_default.is) in
     let fits = c.requires tells up.0 in
     let past = g.D.Disk.past c.args.disk.now in
-    let has = front_of fits.0 (seen_of past) (fits.1.images (seen_of past) (reads_as_image past)) in
-    let end : c.end-end.result ≡ length (front fits.0) = c.end-end.ensures
+    let has = fits.1.images (seen_of past) (reads_as_image past) in
+    let end : c.end-end.result ≡ length (prefix_of fits.0) = c.end-end.ensures
     ∙ end_is c.args.self.now fits.0 fits.1.gates in
     rw (c.in_ok-reserve-2.ensures.past tells) (
-    omega (arith, end, ap length has.is, length-append (front fits.0) (has.gate ∷ has.behind)))
+    omega (arith, end, ap length has.is, length-append (prefix_of fits.0) (has.gate ∷ has.behind)))
 
 pub returns-then-is_err-clause-moments : goal.returns-then-is_err-clause-moments
 returns-then-is_err-clause-moments g c tells entries fits =
     let past = g.D.Disk.past c.args.disk.now in
     let up = up_and_short c.args.self.now (length c.args.entry.now) (sym c.refusal.ensures ∙ c.in_default.is) in
-    let end : c.end-end.result ≡ length (front entries) = c.end-end.ensures
+    let end : c.end-end.result ≡ length (prefix_of entries) = c.end-end.ensures
     ∙ end_is c.args.self.now entries fits.gates in
     let calls = rw (
       end,
@@ -55,7 +55,7 @@ pub returns-clause-moments : goal.returns-clause-moments
 returns-clause-moments g c tells entries fits =
     let past = g.D.Disk.past c.args.disk.now in
     let up = up_and_short c.args.self.now (length c.args.entry.now) (sym c.refusal.ensures ∙ c.in_default.is) in
-    let end : c.end-end.result ≡ length (front entries) = c.end-end.ensures
+    let end : c.end-end.result ≡ length (prefix_of entries) = c.end-end.ensures
     ∙ end_is c.args.self.now entries fits.gates in
     let calls = rw (
       end,
@@ -70,7 +70,7 @@ pub returns-clause-ok : goal.returns-clause-ok
 returns-clause-ok g c tells entries fits =
     let entry = c.args.entry.now in
     let up = up_and_short c.args.self.now (length entry) (sym c.refusal.ensures ∙ c.in_default.is) in
-    let end : c.end-end.result ≡ length (front entries) = c.end-end.ensures
+    let end : c.end-end.result ≡ length (prefix_of entries) = c.end-end.ensures
     ∙ end_is c.args.self.now entries fits.gates in
     let calls = rw (
       end,
@@ -85,7 +85,7 @@ returns-clause-ok g c tells entries fits =
     omega (
       arith,
       end,
-      length-front entries,
+      length-prefix_of entries,
       c.len-2.ensures,
       c.deref.ensures.len,
       ap length c.deref.ensures.value,
@@ -112,3 +112,21 @@ returns-clause-ok g c tells entries fits =
           well
           calls;
     }
+
+pub returns-clause-bytes : goal.returns-clause-bytes
+returns-clause-bytes g c tells =
+    let calls = rw (
+      c.end-end.ensures,
+      c.deref.ensures.value,
+      c.in_ok-body.ensures,
+      c.in_ok-reserve-2.ensures.past tells,
+    ) at c.write_block.ensures.calls tells in
+    let well : is_ok c.write_block.result ≡ true = c.is_err.ensures.negation ∙ ap not c.if-is_err.false in
+    let past = g.D.Disk.past c.args.disk.now in
+    let up = up_and_short c.args.self.now (length c.args.entry.now) (sym c.refusal.ensures ∙ c.in_default.is) in
+    let fits = c.requires tells up.0 in
+    let has = fits.1.images (seen_of past) (reads_as_image past) in
+    let end = end_is c.args.self.now fits.0 fits.1.gates in
+    block_bytes past (g.D.Disk.past c.write_block.new.disk) (end_of c.args.self.now) c.args.entry.now
+    (is_ok c.write_block.result) well
+    (omega (arith, end, ap length has.is, length-append (prefix_of fits.0) (has.gate ∷ has.behind))) calls

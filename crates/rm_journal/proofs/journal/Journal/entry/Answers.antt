@@ -1,10 +1,10 @@
 use Rattle.std.proofs.Common.{◌≡◌, ◌∙◌, ℕ, ◌-◌, ◌<◌, [], List, length, get_or, take, drop, Some, sym, ap, arith}
 use Rattle.std.proofs.lemmas.Option.{slice_get-get_or}
 use Rattle.rm_disk.specs.Call.{seen_of}
-use Rattle.rm_disk.proofs.Images.{reads_as_image}
+use Rattle.rm_disk.specs.ImageLemmas.{reads_as_image}
 use Rattle.rm_journal.specs.Entries.{gates_from, first_of}
-use Rattle.rm_journal.proofs.Crash.{front_of}
-use Rattle.rm_journal.proofs.Places.{length-gates_from, first_is, start_of, entry_there, entry_within}
+use Rattle.rm_journal.specs.EntryLemmas.{length-gates_from}
+use Rattle.rm_journal.proofs.Places.{first_is, start_of, entry_there, entry_within}
 use Rattle.rm_journal.proofs.journal.Journal.entry.Goals as goal
 
 pub read_bytes-requires : goal.read_bytes-requires
@@ -25,7 +25,7 @@ read_bytes-requires g c tells =
     ) in
     let place : c.span_of-start.result.0 ≡ start_of entries k =
     c.span_of-start.ensures.place entries are ∙ ap (λ (l : List ℕ). first_of l k) are ∙ first_is entries k below in
-    let has = front_of entries (seen_of past) (fits.1.images (seen_of past) (reads_as_image past)) in
+    let has = fits.1.images (seen_of past) (reads_as_image past) in
     omega (arith, place, c.span_of-start.ensures.size entries are, entry_within entries (seen_of past) k below has)
 
 pub returns-in-Ok-clause-value : goal.returns-in-Ok-clause-value
@@ -43,7 +43,7 @@ returns-in-Ok-clause-value g c tells entries fits =
     ) in
     let place : c.span_of-start.result.0 ≡ start_of entries k =
     c.span_of-start.ensures.place entries are ∙ ap (λ (l : List ℕ). first_of l k) are ∙ first_is entries k below in
-    let has = front_of entries (seen_of past) (fits.images (seen_of past) (reads_as_image past)) in
+    let has = fits.images (seen_of past) (reads_as_image past) in
     let read = rw c.in-Ok.is at c.read_bytes.ensures.gives tells in
     let bytes : c.from_vec.result ≡ get_or entries k [] =
     c.from_vec.ensures

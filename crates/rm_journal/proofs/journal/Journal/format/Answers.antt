@@ -1,5 +1,5 @@
 use Rattle.std.proofs.Common.{◌∙◌, List, [], ◌∷◌, ◌++◌, ap}
-use Rattle.rm_disk.specs.Call.{Call, Synced, Wrote, CutTo}
+use Rattle.rm_disk.specs.Call.{Call, Synced, Wrote, CutTo, state}
 use Rattle.rm_journal.specs.Entries.{head}
 use Rattle.rm_journal.proofs.Crash.{empty_journal}
 use Rattle.rm_journal.proofs.journal.Journal.format.Goals as goal
@@ -13,3 +13,10 @@ returns-clause-fits g c tells =
     let wrote = c.in_ok-write_at.ensures.past tells ∙ ap (λ (l : List Call). Wrote 0 (head ++ 0 ∷ []) ∷ l) cut in
     let calls = c.in_ok-sync.ensures.past tells ∙ ap (λ (l : List Call). Synced ∷ l) wrote in
     record { gates = c.new.ensures.items; images = empty_journal old new calls }
+
+pub returns-clause-bytes : goal.returns-clause-bytes
+returns-clause-bytes g c tells =
+    let cut = c.in_ok-cut.ensures.past tells
+    ∙ ap (λ (l : List Call). CutTo 0 ∷ l) (c.in_ok-reserve.ensures.past tells) in
+    let wrote = c.in_ok-write_at.ensures.past tells ∙ ap (λ (l : List Call). Wrote 0 (head ++ 0 ∷ []) ∷ l) cut in
+    ap state (c.in_ok-sync.ensures.past tells ∙ ap (λ (l : List Call). Synced ∷ l) wrote)

@@ -1,9 +1,12 @@
--- What holds of every state that calls lead to.
-use Rattle.std.proofs.Common.{◌≡◌, ℕ, zero, suc, ◌<◌, ◌≤◌, false, cond, List, [], ◌∷◌, length, slice_index, refl, sym, ◌∙◌, ap, inl, inr, arith, length-append, length-take}
+-- Lemmas on the states that calls lead to.
+use Rattle.std.proofs.Common.{◌≡◌, ℕ, zero, suc, ◌<◌, ◌≤◌, false, cond, List, [], ◌∷◌, length, slice_index, refl, sym}
+use Rattle.std.proofs.Common.{◌∙◌, ap, inl, inr, arith, length-append, length-take}
 use Rattle.std.proofs.lemmas.Bool.{cases_lt}
 use Rattle.std.proofs.lemmas.List.{get_or-take, get_or_append_left, get_or-append_right}
-use Rattle.rm_disk.specs.Call.{Call, Wrote, WriteFailed, CutTo, CutFailed, Synced, SyncFailed, Crashed, State, settled, is_free, is_written, filled, left_by, after, state}
-use Rattle.rm_disk.proofs.Ranges.{is_written-push, overwritten-outside, overwritten-no_longer, overwritten-no_shorter}
+use Rattle.rm_disk.specs.Call.{Call, Wrote, WriteFailed, CutTo, CutFailed, Synced, SyncFailed, Crashed, State, settled}
+use Rattle.rm_disk.specs.Call.{is_free, is_written, filled, left_by, after, state}
+use Rattle.rm_disk.specs.RangeLemmas.{is_written-push, overwritten-outside, overwritten-no_longer}
+use Rattle.rm_disk.specs.RangeLemmas.{overwritten-no_shorter}
 
 -- the lengths lie between the smallest and the greatest, and what wasn't written since the last sync is as it was then
 pub record IsSound (s : State) : Type 0 where

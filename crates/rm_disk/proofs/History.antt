@@ -1,13 +1,16 @@
 -- What a disk in memory keeps, note by note.
-use Rattle.std.proofs.Common.{◌≡◌, ℕ, ◌+◌, ◌-◌, ◌<◌, ◌≤◌, Bool, true, false, cond, ◌||◌, replicate, List, [], ◌∷◌, ◌++◌, length, take, drop, slice_index, sum_by, refl, inl, inr, length-take, length-append, sym, ◌∙◌, ap, subst, arith}
-use Rattle.std.proofs.lemmas.List.{append-nil, take_all, ext_get_or, get_or-take, get_or-drop, get_or_append_left, get_or-append_right, get_or-replicate, length-replicate}
+use Rattle.std.proofs.Common.{◌≡◌, ℕ, ◌+◌, ◌-◌, ◌<◌, ◌≤◌, Bool, true, false, cond, ◌||◌, replicate, List, [], ◌∷◌, ◌++◌}
+use Rattle.std.proofs.Common.{length, take, drop, slice_index, sum_by, refl, inl, inr, length-take, length-append, sym}
+use Rattle.std.proofs.Common.{◌∙◌, ap, subst, arith}
+use Rattle.std.proofs.lemmas.List.{append-nil, take_all, ext_get_or, get_or-take, get_or-drop, get_or_append_left}
+use Rattle.std.proofs.lemmas.List.{get_or-append_right, get_or-replicate, length-replicate}
 use Rattle.std.proofs.lemmas.Bool.{cases_lt, lt-leb, le-leb}
 use Rattle.rm_disk.specs.Call.{Wrote, State, after, state, is_free, is_written, filled}
 use Rattle.rm_disk.specs.Mem.{call_of, used_by, calls_of, AgreeOutside}
 use Rattle.rm_disk.specs.declared.note.Note.{Note}
 use Rattle.rm_disk.specs.declared.note.Note.TheVariants.{Write}
 use Rattle.rm_disk.proofs.Notes.{calls_of-push, used-push}
-use Rattle.rm_disk.proofs.States.{IsSound, sound, length-filled, filled-at}
+use Rattle.rm_disk.specs.StateLemmas.{IsSound, sound, length-filled, filled-at}
 
 -- the state that is kept is one that calls lead to
 pub kept_sound : (notes : List Note) (wrote : List ℕ) (s : State) → state (calls_of notes wrote) ≡ s → IsSound s
@@ -40,7 +43,8 @@ state-write notes wrote at bytes s used is = ap state (calls_of-write notes wrot
     ∙ ap (after (Wrote at bytes)) is
 
 -- and no more bytes
-pub used-note : (notes : List Note) (bytes : List ℕ) (note : Note) → sum_by used_by notes ≡ length bytes → used_by note ≡ 0 → sum_by used_by (notes ++ note ∷ []) ≡ length bytes
+pub used-note : (notes : List Note) (bytes : List ℕ) (note : Note) → sum_by used_by notes ≡ length bytes
+    → used_by note ≡ 0 → sum_by used_by (notes ++ note ∷ []) ≡ length bytes
 used-note notes bytes note used none = used-push notes bytes note [] used none ∙ ap length (append-nil bytes)
 
 -- two lists that agree before a place but for some ranges: with the ranges and the end of the second the first is the

@@ -1,15 +1,21 @@
--- What a crash may leave.
-use Rattle.std.proofs.Common.{◌≡◌, ◌⊎◌, ℕ, ◌<◌, ◌≤◌, Bool, true, false, ◌||◌, cond, ◌==◌, List, [], ◌∷◌, ◌++◌, length, slice_index, refl, sym, ◌∙◌, ap, subst, inl, inr, arith, length-append, append_assoc}
+-- Lemmas on images and moments, beside the definitions so that the proofs of the layers above may cite them.
+use Rattle.std.proofs.Common.{◌≡◌, ◌⊎◌, ℕ, ◌<◌, ◌≤◌, Bool, true, false, ◌||◌, cond, ◌==◌, List, [], ◌∷◌, ◌++◌, length}
+use Rattle.std.proofs.Common.{slice_index, refl, sym, ◌∙◌, ap, subst, inl, inr, arith, length-append, append_assoc}
 use Rattle.std.proofs.lemmas.Bool.{leb-false, lt-leb}
-use Rattle.std.proofs.lemmas.List.{ext_get_or}
-use Rattle.rm_disk.specs.Call.{Call, Synced, State, settled, is_free, is_written, filled, left_by, state, seen_of}
-use Rattle.rm_disk.specs.Image.{IsImage, MayLeave, LeftSince, OnlyLeaves}
-use Rattle.rm_disk.proofs.Ranges.{or_parts}
-use Rattle.rm_disk.proofs.States.{IsSound, sound, length-filled, filled-at}
+use Rattle.std.proofs.lemmas.List.{ext_get_or, get_or-take}
+use Rattle.rm_disk.specs.Call.{Call, Wrote, WriteFailed, CutTo, CutFailed, Synced, SyncFailed, Crashed, State, settled}
+use Rattle.rm_disk.specs.Call.{is_free, is_written, filled, left_by, after, state, seen_of}
+use Rattle.rm_disk.specs.Image.{IsImage, MayLeave, settles, LeftSince, OnlyLeaves}
+use Rattle.rm_disk.specs.RangeLemmas.{or_parts, is_written-push, overwritten-outside}
+use Rattle.rm_disk.specs.StateLemmas.{IsSound, sound, length-filled, filled-at}
 
 -- a place that isn't free lies before the smallest length, and no range has it
 pub not_free : (s : State) (i : ℕ) → is_free s i ≡ false → (i < s.low) × (is_written s.written i ≡ false)
 not_free s i e = let parts = or_parts _ (is_written s.written i) e in (leb-false s.low i parts.0, parts.1)
+
+-- and the other way round
+is_kept : (s : State) (i : ℕ) → i < s.low → is_written s.written i ≡ false → is_free s i ≡ false
+is_kept s i before none = ap (λ (b : Bool). b || is_written s.written i) (lt-leb s.low i before) ∙ none
 
 seen_image : (s : State) → IsSound s → IsImage s s.seen
 seen_image s is = record { no_shorter = is.low_seen; no_longer = is.seen_high; same = λ i low free. refl }
@@ -65,6 +71,52 @@ settled_only bytes image is =
 -- after a sync a crash leaves what a read gives
 pub synced_only : (past : List Call) (image : List ℕ) → MayLeave (Synced ∷ past) image → image ≡ seen_of past
 synced_only past image is = settled_only (seen_of past) image is
+
+-- a sync adds no image
+pub synced_fewer : (past : List Call) (image : List ℕ) → MayLeave (Synced ∷ past) image → MayLeave past image
+synced_fewer past image is = subst (MayLeave past) (sym (synced_only past image is)) (reads_as_image past)
+
+after_more : (call : Call) (s : State) (image : List ℕ) → IsSound s → settles call ≡ false → IsImage s image
+    → IsImage (after call s) image
+after_more (Wrote at bytes) s image sound adds is = record {
+  no_shorter = is.no_shorter;
+  no_longer = omega (arith, is.no_longer);
+  same = λ i low kept.
+      let parts = not_free (after (Wrote at bytes) s) i kept in
+      let ranges = is_written-push s.written (at, length bytes) i parts.1 in
+      is.same i low (is_kept s i parts.0 ranges.0)
+      ∙ sym (overwritten-outside s.seen at bytes i (omega (arith, sound.low_seen, parts.0)) ranges.1);
+}
+after_more (WriteFailed at count) s image sound adds is = record {
+  no_shorter = is.no_shorter;
+  no_longer = omega (arith, is.no_longer);
+  same = λ i low kept.
+      let parts = not_free (after (WriteFailed at count) s) i kept in
+      is.same i low (is_kept s i parts.0 (is_written-push s.written (at, count) i parts.1).0);
+}
+after_more (CutTo len) s image sound adds is = record {
+  no_shorter = omega (arith, is.no_shorter);
+  no_longer = is.no_longer;
+  same = λ i low kept.
+      let parts = not_free (after (CutTo len) s) i kept in
+      is.same i low (is_kept s i (omega (arith, parts.0)) parts.1)
+      ∙ sym (get_or-take len s.seen i 0 (omega (arith, parts.0)));
+}
+after_more (CutFailed len) s image sound adds is = record {
+  no_shorter = omega (arith, is.no_shorter);
+  no_longer = is.no_longer;
+  same = λ i low kept.
+      let parts = not_free (after (CutFailed len) s) i kept in
+      is.same i low (is_kept s i (omega (arith, parts.0)) parts.1);
+}
+after_more SyncFailed s image sound adds is = is
+after_more Synced s image sound adds is = absurd cc
+after_more (Crashed choice) s image sound adds is = absurd cc
+
+-- after a call that doesn't settle the disk an image is one still
+pub image_stays : (past : List Call) (call : Call) (image : List ℕ) → settles call ≡ false → MayLeave past image
+    → MayLeave (call ∷ past) image
+image_stays past call image adds is = after_more call (state past) image (sound past) adds is
 
 -- what may be left now might have been left at a moment since any
 pub left_now : (past : List Call) (t : ℕ) (bytes : List ℕ) → MayLeave past bytes → LeftSince past t bytes
