@@ -6,8 +6,8 @@ use Rattle.std.proofs.lemmas.List.{drop-drop, get_or-drop, length-drop}
 use Rattle.std.proofs.lemmas.List.Recursion.{or_at, or_from_places}
 use Rattle.std.proofs.lemmas.Bool.Decides.{nat_tests}
 use Rattle.ack_ranges.specs.declared.range.Range.{Range}
-use Rattle.ack_ranges.specs.declared.TheConstants.{MAX_NO}
-use Rattle.ack_ranges.specs.Ranges.{in_range, in_ranges, RisesFrom, IsCanonical}
+use Rattle.rm_base.specs.Message.{max_number}
+use Rattle.ack_ranges.specs.Ranges.{in_range, in_ranges, RisesFrom, IsCanonical, greatest_of}
 use Rattle.ack_ranges.specs.Changes.{with_range, covers, AddsExactly, BringsNew}
 use Rattle.ack_ranges.specs.Places.{range_at, IsPlace, IsSpan}
 use Rattle.ack_ranges.proofs.RangesLemmas.{in_range_tells, or_assoc, or-false, or_comm, in_ranges-before, RisesFrom-weaker, RisesFrom-at, RisesFrom-gap, RisesFrom-starts, same_numbers_same}
@@ -67,7 +67,7 @@ in_ranges-with_range first (r ∷ rs) l u n h le = elim (beside r l u) [
 
 -- they stay canonical
 pub RisesFrom-with_range : (first : ℕ) (rs : List Range) (l u : ℕ) → RisesFrom first rs → first ≤ l → l ≤ u →
-    u ≤ MAX_NO → RisesFrom first (with_range rs l u)
+    u ≤ max_number → RisesFrom first (with_range rs l u)
 RisesFrom-with_range first [] l u h from le max = (from, le, max, tt)
 RisesFrom-with_range first (r ∷ rs) l u h from le end = elim (beside r l u) [
   | inl past ↦ rw (with_range-past r rs l u past)
@@ -210,7 +210,7 @@ in_ranges-covered (r ∷ rs) l u n t a b = elim (or_cases (nat_le r.lower l && n
 ]
 
 -- and change nothing
-pub with_range-covered : (rs : List Range) (l u : ℕ) → IsCanonical rs → 0 < l → l ≤ u → u ≤ MAX_NO →
+pub with_range-covered : (rs : List Range) (l u : ℕ) → IsCanonical rs → 0 < l → l ≤ u → u ≤ max_number →
     covers rs l u ≡ true → with_range rs l u ≡ rs
 with_range-covered rs l u h from le end t =
     same_numbers_same (with_range rs l u) rs (RisesFrom-with_range 1 rs l u h from le end) h
@@ -255,7 +255,7 @@ uncovered first (r ∷ rs) l u h le t =
 
 -- a range adds exactly its numbers
 pub adds-with_range : (old new : List Range) (l u : ℕ) → IsCanonical old → new ≡ with_range old l u → 0 < l → l ≤ u →
-    u ≤ MAX_NO → AddsExactly old new (λ n. nat_le l n && nat_le n u)
+    u ≤ max_number → AddsExactly old new (λ n. nat_le l n && nat_le n u)
 adds-with_range old new l u h e from le end = record {
   numbers = λ n. ap (λ x. in_ranges x n) e ∙ in_ranges-with_range 1 old l u n h le;
   canonical = rw e (RisesFrom-with_range 1 old l u h from le end);
@@ -263,7 +263,7 @@ adds-with_range old new l u h e from le end = record {
 
 -- a number adds exactly itself
 pub adds-with_number : (old new : List Range) (n : ℕ) → IsCanonical old → new ≡ with_range old n n → 0 < n →
-    n ≤ MAX_NO → AddsExactly old new (λ m. m == n)
+    n ≤ max_number → AddsExactly old new (λ m. m == n)
 adds-with_number old new n h e from end =
     let range = adds-with_range old new n n h e from (omega arith) end in
     record {
@@ -305,3 +305,22 @@ covers-at_place rs l u place h p lt =
 -- where each range ends before the last number, none covers them
 pub covers-past : (rs : List Range) (l u place : ℕ) → IsPlace rs u place → length rs ≤ place → covers rs l u ≡ false
 covers-past rs l u place p le = covers-nowhere rs l u (λ k hk. grind (arith, nat_tests, p.before k (omega arith)))
+
+-- the first range ends by the greatest number
+greatest_of-first : (first : ℕ) (r : Range) (rs : List Range) → RisesFrom first (r ∷ rs) →
+    r.upper ≤ greatest_of (r ∷ rs)
+greatest_of-first first r [] h = omega arith
+greatest_of-first first r (s ∷ rs) h =
+    let rest : s.upper ≤ greatest_of (s ∷ rs) = greatest_of-first (r.upper + 2) s rs h.3 in
+    omega (arith, h.3.0, h.3.1)
+
+-- a range behind all others goes to the end
+pub with_range-behind : (first : ℕ) (rs : List Range) (l u : ℕ) → RisesFrom first rs → greatest_of rs + 1 < l →
+    with_range rs l u ≡ rs ++ record { lower = l; upper = u } ∷ []
+with_range-behind first [] l u h lt = refl
+with_range-behind first (r ∷ []) l u h lt = with_range-past r [] l u lt
+with_range-behind first (r ∷ s ∷ rs) l u h lt =
+    let ends : s.upper ≤ greatest_of (s ∷ rs) = greatest_of-first (r.upper + 2) s rs h.3 in
+    let rest : with_range (s ∷ rs) l u ≡ (s ∷ rs) ++ record { lower = l; upper = u } ∷ [] =
+    with_range-behind (r.upper + 2) (s ∷ rs) l u h.3 lt in
+    with_range-past r (s ∷ rs) l u (omega (arith, h.3.0, h.3.1)) ∙ ap (λ l. r ∷ l) rest

@@ -1,4 +1,5 @@
 pub mod ChangesLemmas
+pub mod CountLemmas
 pub mod RangesLemmas
 pub mod MissingLemmas
 pub mod MergeLemmas

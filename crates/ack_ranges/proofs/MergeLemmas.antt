@@ -291,3 +291,9 @@ merging-ended before all others read next kept h ho m read_end next_end =
     take_all (read - length others) xs (omega (arith, length-drop (length others) before)) in
     united-from_numbers (take kept all) xs others m.canonical h ho
     (λ n. m.numbers n ∙ ap₂ (λ a b. in_ranges a n || in_ranges b n) whole (take_all next others next_end))
+
+-- the union of no numbers and a set is the set
+pub united-nothing : (xs : List Range) → IsCanonical xs → united [] xs ≡ xs
+united-nothing xs h =
+    let adds = adds-united [] (united [] xs) xs tt h refl in
+    same_numbers_same (united [] xs) xs adds.canonical h adds.numbers

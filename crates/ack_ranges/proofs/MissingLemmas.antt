@@ -2,8 +2,8 @@
 use Rattle.std.proofs.Common.{◌≡◌, ℕ, ◌+◌, ◌-◌, ◌<◌, ◌≤◌, true, false, ◌||◌, ◌==◌, List, [], ◌∷◌, ◌++◌, length, refl, sym, ap, ◌∙◌, arith, inl, inr}
 use Rattle.std.proofs.lemmas.Bool.{cases_lt, or_cases, or_left, or_right, both_ways, eqb-true, eq-eqb, false≢true}
 use Rattle.std.proofs.lemmas.List.{length_push}
-use Rattle.rm_base.specs.Numbers.{IsRising, has_number, greatest_of as greatest_number}
-use Rattle.rm_base.proofs.NumbersLemmas.{Rises-push}
+use Rattle.rm_base.specs.NumberSet.{IsRising, has_number, greatest_of as greatest_number}
+use Rattle.rm_base.specs.NumberSetLemmas.{Rises-push}
 use Rattle.ack_ranges.specs.declared.range.Range.{Range}
 use Rattle.ack_ranges.specs.Ranges.{in_ranges, IsCanonical, Lacks, greatest_of, AreMissing}
 use Rattle.ack_ranges.proofs.RangesLemmas.{or_assoc, or-false, in_ranges-outside, RisesFrom-at, RisesFrom-gap, RisesFrom-starts, RisesFrom-ends, greatest_of-last, IsGreatest-greatest_of}

@@ -5,7 +5,7 @@ use Rattle.std.proofs.lemmas.Bool.Decides.{nat_tests}
 use Rattle.std.proofs.lemmas.List.{get_or_read}
 use Rattle.std.proofs.lemmas.List.Recursion.{or_at, or_from_places}
 use Rattle.ack_ranges.specs.declared.range.Range.{Range}
-use Rattle.ack_ranges.specs.declared.TheConstants.{MAX_NO}
+use Rattle.rm_base.specs.Message.{max_number}
 use Rattle.ack_ranges.specs.Ranges.{in_range, in_ranges, RisesFrom, IsCanonical, front_of, IsFront, greatest_of, IsGreatest}
 use Rattle.ack_ranges.specs.Places.{range_at, IsPlace}
 
@@ -61,7 +61,8 @@ RisesFrom-weaker a b (x ∷ xs) h r = (omega (arith, r.0), r.1, r.2, r.3)
 
 -- what is known of the range at a place
 pub RisesFrom-at : (first : ℕ) (rs : List Range) (k : ℕ) → RisesFrom first rs → k < length rs →
-    (first ≤ (range_at rs k).lower) × ((range_at rs k).lower ≤ (range_at rs k).upper) × ((range_at rs k).upper ≤ MAX_NO)
+    (first ≤ (range_at rs k).lower) × ((range_at rs k).lower ≤ (range_at rs k).upper)
+    × ((range_at rs k).upper ≤ max_number)
 RisesFrom-at first [] k h hk = absurd (omega arith)
 RisesFrom-at first (r ∷ rs) zero h hk = (h.0, h.1, h.2)
 RisesFrom-at first (r ∷ rs) (suc k) h hk =

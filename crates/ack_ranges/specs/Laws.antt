@@ -1,8 +1,9 @@
 -- Laws of canonical ranges, each the contract of a function in src/laws.rt.
-use Rattle.std.specs.Prelude.{◌≡◌, ℕ, ◌<◌, ◌≤◌, false, List}
+use Rattle.std.specs.Prelude.{◌≡◌, ℕ, ◌+◌, ◌<◌, ◌≤◌, false, List, [], ◌∷◌, ◌++◌, length}
+use Rattle.rm_base.specs.NumberSet.{IsRising, has_number}
 use Rattle.ack_ranges.specs.declared.range.Range.{Range}
-use Rattle.ack_ranges.specs.declared.TheConstants.{MAX_NO}
-use Rattle.ack_ranges.specs.Ranges.{is_between, in_ranges, IsCanonical, front_of, IsFront, greatest_of, IsGreatest}
+use Rattle.rm_base.specs.Message.{max_number}
+use Rattle.ack_ranges.specs.Ranges.{is_between, in_ranges, IsCanonical, front_of, IsFront, greatest_of, IsGreatest, count_of}
 use Rattle.ack_ranges.specs.Changes.{with_range, united, covers, covers_all, AddsExactly, BringsNew}
 
 -- two canonical lists with the same numbers are equal
@@ -13,7 +14,7 @@ SameNumbersSameRanges =
 -- a range put into others adds exactly its numbers
 abbrev pub RangeIsAdded : Type 0
 RangeIsAdded =
-    (xs : List Range) (lower upper : ℕ) → IsCanonical xs → 0 < lower → lower ≤ upper → upper ≤ MAX_NO →
+    (xs : List Range) (lower upper : ℕ) → IsCanonical xs → 0 < lower → lower ≤ upper → upper ≤ max_number →
     AddsExactly xs (with_range xs lower upper) (is_between lower upper)
 
 -- a union has exactly the numbers of both
@@ -32,3 +33,19 @@ pub record NewIsOneNotThere : Type 0 where
 pub record EndsAreRight : Type 0 where
   pub front : (xs : List Range) → IsCanonical xs → IsFront xs (front_of xs)
   pub greatest : (xs : List Range) → IsCanonical xs → IsGreatest xs (greatest_of xs)
+
+-- the count is the length of the rising list of the same numbers
+abbrev pub CountIsHowMany : Type 0
+CountIsHowMany =
+    (xs : List Range) (numbers : List ℕ) → IsCanonical xs → IsRising numbers →
+    ((n : ℕ) → has_number numbers n ≡ in_ranges xs n) → count_of xs ≡ length numbers
+
+-- a range behind all others goes to the end
+abbrev pub LaterRangeIsAppended : Type 0
+LaterRangeIsAppended =
+    (xs : List Range) (lower upper : ℕ) → IsCanonical xs → greatest_of xs + 1 < lower →
+    with_range xs lower upper ≡ xs ++ record { lower = lower; upper = upper } ∷ []
+
+-- the union of no numbers and a set is the set
+abbrev pub UnionWithNothing : Type 0
+UnionWithNothing = (xs : List Range) → IsCanonical xs → united [] xs ≡ xs

@@ -1,11 +1,11 @@
 -- Sets of message numbers as lists of ranges: WS-ReliableMessaging 1.2, section 3.9, where an AcknowledgementRange
 -- names the numbers from its Lower to its Upper.
-use Rattle.std.specs.Prelude.{◌≡◌, ℕ, ◌+◌, ◌<◌, ◌≤◌, ◌⊎◌, Bool, false, ◌&&◌, ◌||◌, ◌==◌, nat_le, IsTrue, if◌then◌else◌, List, [], ◌∷◌, length}
-use Rattle.rm_base.specs.Numbers.{IsRising, has_number, greatest_of as greatest_number}
+use Rattle.std.specs.Prelude.{◌≡◌, ℕ, ◌+◌, ◌<◌, ◌≤◌, ◌⊎◌, Bool, false, ◌&&◌, ◌||◌, ◌==◌, nat_le, IsTrue, if◌then◌else◌, List, [], ◌∷◌, length, ◌-◌, sum_by}
+use Rattle.rm_base.specs.NumberSet.{IsRising, has_number, greatest_of as greatest_number}
 use Rattle.ack_ranges.specs.declared.range.Range.{Range}
-use Rattle.ack_ranges.specs.declared.TheConstants.{MAX_NO}
+use Rattle.rm_base.specs.Message.{max_number}
 
--- a set of numbers: its ranges, and how many more a reserve made room for
+-- a set of numbers: its ranges, and beside them how many more it takes without memory
 pub record Contents : Type 0 where
   pub ranges : List Range
   pub spare : ℕ
@@ -35,7 +35,7 @@ Lacks ranges n = (0 < n) × (in_ranges ranges n ≡ false)
 -- one begins after a number that lies in neither
 abbrev pub RisesFrom : ℕ → List Range → Type 0
 RisesFrom first [] = Unit {0}
-RisesFrom first (r ∷ rs) = (first ≤ r.lower) × (r.lower ≤ r.upper) × (r.upper ≤ MAX_NO) × RisesFrom (r.upper + 2) rs
+RisesFrom first (r ∷ rs) = (first ≤ r.lower) × (r.lower ≤ r.upper) × (r.upper ≤ max_number) × RisesFrom (r.upper + 2) rs
 
 -- ranges of message numbers that rise, with a number that is in none between each two neighbours
 abbrev pub IsCanonical : List Range → Type 0
@@ -56,6 +56,19 @@ abbrev pub greatest_of : List Range → ℕ
 greatest_of [] = 0
 greatest_of (r ∷ []) = r.upper
 greatest_of (r ∷ s ∷ rs) = greatest_of (s ∷ rs)
+
+-- how many numbers a range has
+abbrev pub size_of : Range → ℕ
+size_of r = r.upper + 1 - r.lower
+
+-- how many numbers the ranges have
+abbrev pub count_of : List Range → ℕ
+count_of ranges = sum_by size_of ranges
+
+-- what a set keeps: canonical ranges, and how many numbers they have
+pub record IsCounted (ranges : List Range) (count : ℕ) : Type 0 where
+  pub canonical : IsCanonical ranges
+  pub counted : count ≡ count_of ranges
 
 -- no number is above m, which is inside unless it is 0
 pub record IsGreatest (ranges : List Range) (m : ℕ) : Type 0 where

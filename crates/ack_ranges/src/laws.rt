@@ -1,9 +1,13 @@
+//! What sets of ranges mean, in terms of which numbers are inside.
 ghost use Rattle.ack_ranges.specs.Laws.{
   SameNumbersSameRanges,
   RangeIsAdded,
   UnionHasBoth,
   NewIsOneNotThere,
   EndsAreRight,
+  CountIsHowMany,
+  LaterRangeIsAppended,
+  UnionWithNothing,
 };
 
 /// A list of ranges that is canonical is determined by its numbers.
@@ -29,4 +33,19 @@ pub fn new_is_one_not_there()
 /// The front is the greatest m such that 1 to m are all inside, and the greatest number is inside and above all.
 pub fn ends_are_right()
     ensures { EndsAreRight }
+{}
+
+/// The count of ranges is how many numbers are inside.
+pub fn count_is_how_many()
+    ensures { CountIsHowMany }
+{}
+
+/// A range that begins behind all others, with a number between, is appended to them.
+pub fn a_later_range_is_appended()
+    ensures { LaterRangeIsAppended }
+{}
+
+/// A set's ranges, put one by one into no ranges, are that set's ranges.
+pub fn union_with_nothing_is_the_same()
+    ensures { UnionWithNothing }
 {}

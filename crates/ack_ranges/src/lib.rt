@@ -10,13 +10,8 @@ mod range;
 mod set;
 
 pub use laws::{
-    ends_are_right, new_is_one_not_there, range_is_added, same_numbers_same_ranges, union_has_both,
+    a_later_range_is_appended, count_is_how_many, ends_are_right, new_is_one_not_there,
+    range_is_added, same_numbers_same_ranges, union_has_both, union_with_nothing_is_the_same,
 };
-pub use range::Range;
+pub use range::{Range, Ranges};
 pub use set::RangeSet;
-
-/// The greatest message number: section 3.7 of WS-ReliableMessaging 1.2.
-pub const MAX_NO: u64 = 9223372036854775807;
-
-#[cfg(test)]
-mod tests;

@@ -1,3 +1,4 @@
+//! The union of two lists of ranges, in one merge.
 ghost use Rattle.std.specs.Prelude.{◌≡◌, ℕ, [], ◌∷◌, ◌+◌, ◌<◌, ◌≤◌, ◌⊎◌, length, take, drop, MatchBool, not, IfOk, OnOk, OnErr, IsOk, vec_len, vec_capacity};
 ghost use Rattle.ack_ranges.specs.Ranges.{IsCanonical};
 ghost use Rattle.ack_ranges.specs.Changes.{with_range, united, covers, covers_all};
@@ -14,6 +15,7 @@ pub(crate) fn unite(ranges: &mut Vec<Range>, others: &[Range]) -> Result<bool, A
     ensures is_new { IfOk result (λ is_new. is_new ≡ not (covers_all ranges.old.items others.now)) }
     ensures err { OnErr result (ranges.new.items ≡ ranges.old.items) }
     ensures len { vec_len ranges.new ≤ vec_len ranges.old + length others.now }
+    ensures err_len { OnErr result (vec_len ranges.new ≡ vec_len ranges.old) }
     ensures capacity { vec_capacity ranges.old ≤ vec_capacity ranges.new }
     ensures succeeds { vec_len ranges.old + length others.now ≤ vec_capacity ranges.old → IsOk result }
 {
@@ -25,7 +27,7 @@ pub(crate) fn unite(ranges: &mut Vec<Range>, others: &[Range]) -> Result<bool, A
 }
 
 /// Whether each of the other ranges lies in one of the ranges.
-fn has_all(ranges: &[Range], others: &[Range]) -> bool
+pub(crate) fn has_all(ranges: &[Range], others: &[Range]) -> bool
     requires ranges { IsCanonical ranges.now }
     requires others { IsCanonical others.now }
     ensures { result ≡ covers_all ranges.now others.now }
@@ -48,6 +50,7 @@ fn merge(ranges: &mut Vec<Range>, others: &[Range]) -> Result<(), AllocError>
     ensures ok { OnOk result (ranges.new.items ≡ united ranges.old.items others.now) }
     ensures err { OnErr result (ranges.new.items ≡ ranges.old.items) }
     ensures len { vec_len ranges.new ≤ vec_len ranges.old + length others.now }
+    ensures err_len { OnErr result (vec_len ranges.new ≡ vec_len ranges.old) }
     ensures capacity { vec_capacity ranges.old ≤ vec_capacity ranges.new }
     ensures succeeds { vec_len ranges.old + length others.now ≤ vec_capacity ranges.old → IsOk result }
 {

@@ -1,3 +1,4 @@
+//! The numbers that ranges lack.
 ghost use Rattle.std.specs.Prelude.{IfOk};
 ghost use Rattle.ack_ranges.specs.Ranges.{IsCanonical, AreMissing};
 

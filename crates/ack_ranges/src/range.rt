@@ -1,9 +1,12 @@
-ghost use Rattle.std.specs.Prelude.{◌≡◌, ◌∷◌, ◌++◌, ◌+◌, ◌<◌, ◌≤◌, ◌&&◌, nat_le, not, take, drop, IfOk, OnOk, OnErr, IsOk, vec_len, vec_capacity};
-ghost use Rattle.ack_ranges.specs.Ranges.{IsCanonical, in_ranges, front_of, greatest_of};
+//! One range, and what is looked up, put in and joined in a list of ranges.
+ghost use Rattle.std.specs.Prelude.{◌≡◌, ◌∷◌, ◌++◌, ◌+◌, ◌<◌, ◌≤◌, ◌&&◌, nat_le, not, take, drop, IfOk, OnOk, OnErr, IsOk, length, vec_len, vec_capacity};
+ghost use Rattle.std.specs.List.{insert};
+ghost use Rattle.rm_base.specs.Message.{max_number};
+ghost use Rattle.ack_ranges.specs.Ranges.{IsCanonical, in_ranges, front_of, greatest_of, size_of, count_of};
 ghost use Rattle.ack_ranges.specs.Changes.{with_range, covers};
 ghost use Rattle.ack_ranges.specs.Places.{IsPlace, IsEnd, IsSpan};
 
-use crate::MAX_NO;
+use rm_base::Items;
 use std::alloc::AllocError;
 
 /// The numbers from `lower` to `upper`, both among them: an AcknowledgementRange of section 3.9 of
@@ -13,6 +16,9 @@ pub struct Range {
     pub lower: u64,
     pub upper: u64,
 }
+
+/// Ranges as a peer wrote them: in any order, and they may overlap.
+pub type Ranges = Items<Range>;
 
 /// The place of the first range that ends at `n` or later.
 pub(crate) fn place_of(ranges: &[Range], n: u64) -> usize
@@ -82,7 +88,7 @@ fn span_of(ranges: &[Range], lower: u64, upper: u64) -> (usize, usize)
     requires canonical { IsCanonical ranges.now }
     requires from_one { 0 < lower }
     requires ordered { lower ≤ upper }
-    requires within { upper ≤ MAX_NO }
+    requires within { upper ≤ max_number }
     ensures { IsSpan ranges.now lower upper result.0 result.1 }
 {
     let count = ranges.len();
@@ -106,8 +112,56 @@ fn has_range(range: Range, lower: u64, upper: u64) -> bool
     range.lower <= lower && upper <= range.upper
 }
 
+/// How many numbers a range has.
+fn size(range: Range) -> u64
+    requires ordered { range.lower ≤ range.upper }
+    requires from_one { 0 < range.lower }
+    ensures { result ≡ size_of range }
+{
+    range.upper - range.lower + 1
+}
+
+/// How many numbers the ranges from one place to before another have.
+pub(crate) fn count_between(ranges: &[Range], from: usize, to: usize) -> u64
+    requires canonical { IsCanonical ranges.now }
+    requires rises { from ≤ to }
+    requires within { to ≤ length ranges.now }
+    ensures { result + count_of (take from ranges.now) ≡ count_of (take to ranges.now) }
+{
+    let mut count = 0;
+    for place in from..to {
+        count += size(ranges[place]);
+    }
+    count
+}
+
+/// Puts a range in at a place, and counts its numbers.
+fn put_in(
+    ranges: &mut Vec<Range>,
+    count: &mut u64,
+    at: usize,
+    range: Range,
+) -> Result<(), AllocError>
+    requires within { at ≤ vec_len ranges.old }
+    requires counted { count.old ≡ count_of ranges.old.items }
+    requires from_one { 0 < range.lower }
+    requires ordered { range.lower ≤ range.upper }
+    requires canonical { IsCanonical (insert ranges.old.items at range) }
+    ensures ok { OnOk result (ranges.new.items ≡ insert ranges.old.items at range) }
+    ensures err { OnErr result (ranges.new.items ≡ ranges.old.items) }
+    ensures counted { count.new ≡ count_of ranges.new.items }
+    ensures len { vec_len ranges.new ≤ vec_len ranges.old + 1 }
+    ensures err_len { OnErr result (vec_len ranges.new ≡ vec_len ranges.old) }
+    ensures capacity { vec_capacity ranges.old ≤ vec_capacity ranges.new }
+    ensures succeeds { vec_len ranges.old < vec_capacity ranges.old → IsOk result }
+{
+    ranges.insert(at, range)?;
+    *count += size(range);
+    Ok(())
+}
+
 /// Puts one range in the place of those from one place to before another.
-fn join(ranges: &mut Vec<Range>, from: usize, to: usize, joined: Range)
+fn replace(ranges: &mut Vec<Range>, from: usize, to: usize, joined: Range)
     requires some { from < to }
     requires within { to ≤ vec_len ranges.old }
     ensures items { ranges.new.items ≡ take from ranges.old.items ++ joined ∷ drop to ranges.old.items }
@@ -118,22 +172,49 @@ fn join(ranges: &mut Vec<Range>, from: usize, to: usize, joined: Range)
     drop(ranges.drain(from + 1..to));
 }
 
+/// Puts one range in the place of those from one place to before another, and counts its numbers in place of theirs.
+fn join(ranges: &mut Vec<Range>, count: &mut u64, from: usize, to: usize, joined: Range)
+    requires some { from < to }
+    requires within { to ≤ vec_len ranges.old }
+    requires old { IsCanonical ranges.old.items }
+    requires counted { count.old ≡ count_of ranges.old.items }
+    requires from_one { 0 < joined.lower }
+    requires ordered { joined.lower ≤ joined.upper }
+    requires canonical { IsCanonical (take from ranges.old.items ++ joined ∷ drop to ranges.old.items) }
+    ensures items { ranges.new.items ≡ take from ranges.old.items ++ joined ∷ drop to ranges.old.items }
+    ensures counted { count.new ≡ count_of ranges.new.items }
+    ensures len { vec_len ranges.new ≤ vec_len ranges.old }
+    ensures capacity { vec_capacity ranges.new ≡ vec_capacity ranges.old }
+{
+    *count -= count_between(ranges, from, to);
+    *count += size(joined);
+    replace(ranges, from, to, joined);
+}
+
 /// Adds the numbers from `lower` to `upper`, and answers whether one of them is new.
-pub(crate) fn put(ranges: &mut Vec<Range>, lower: u64, upper: u64) -> Result<bool, AllocError>
+pub(crate) fn put(
+    ranges: &mut Vec<Range>,
+    count: &mut u64,
+    lower: u64,
+    upper: u64,
+) -> Result<bool, AllocError>
     requires canonical { IsCanonical ranges.old.items }
+    requires counted { count.old ≡ count_of ranges.old.items }
     requires from_one { 0 < lower }
     requires ordered { lower ≤ upper }
-    requires within { upper ≤ MAX_NO }
+    requires within { upper ≤ max_number }
     ensures ok { OnOk result (ranges.new.items ≡ with_range ranges.old.items lower upper) }
     ensures is_new { IfOk result (λ is_new. is_new ≡ not (covers ranges.old.items lower upper)) }
     ensures err { OnErr result (ranges.new.items ≡ ranges.old.items) }
+    ensures counted { count.new ≡ count_of ranges.new.items }
     ensures len { vec_len ranges.new ≤ vec_len ranges.old + 1 }
+    ensures err_len { OnErr result (vec_len ranges.new ≡ vec_len ranges.old) }
     ensures capacity { vec_capacity ranges.old ≤ vec_capacity ranges.new }
     ensures succeeds { vec_len ranges.old < vec_capacity ranges.old → IsOk result }
 {
     let (from, to) = span_of(ranges, lower, upper);
     if from == to {
-        ranges.insert(from, Range { lower, upper })?;
+        put_in(ranges, count, from, Range { lower, upper })?;
         return Ok(true);
     }
     let first = ranges[from];
@@ -144,6 +225,6 @@ pub(crate) fn put(ranges: &mut Vec<Range>, lower: u64, upper: u64) -> Result<boo
         lower: first.lower.min(lower),
         upper: ranges[to - 1].upper.max(upper),
     };
-    join(ranges, from, to, joined);
+    join(ranges, count, from, to, joined);
     Ok(true)
 }

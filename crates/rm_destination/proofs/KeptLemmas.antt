@@ -1,5 +1,5 @@
 -- What is kept, against what it is seen as: numbers and, beside them, payloads.
-use Rattle.std.proofs.Common.{◌≡◌, ℕ, ◌+◌, ◌-◌, ◌<◌, ◌≤◌, zero, suc, true, false, ◌==◌, nat_lt, List, [], ◌∷◌, length, take, refl, sym, ap, arith}
+use Rattle.std.proofs.Common.{◌≡◌, ℕ, ◌+◌, ◌-◌, ◌<◌, ◌≤◌, zero, suc, true, false, ◌==◌, nat_lt, cond, List, [], ◌∷◌, length, take, refl, sym, ap, arith}
 use Rattle.std.specs.Prelude.{None, slice_get}
 use Rattle.std.specs.List.{zip, insert}
 use Rattle.std.proofs.lemmas.Bool.Decides.{nat_tests}
@@ -7,13 +7,13 @@ use Rattle.std.proofs.lemmas.List.Edits.{length-insert}
 use Rattle.std.proofs.lemmas.Option.{slice_get_past}
 use Rattle.std.proofs.lemmas.Slice.Zip.{firsts-zip}
 use Rattle.rm_base.specs.declared.message.Payload.{Payload}
-use Rattle.rm_base.specs.Numbers.{with_number, front_of}
-use Rattle.rm_base.proofs.NumbersLemmas.{with_number-at}
-use Rattle.rm_destination.specs.Incoming.{numbers_of, with_message, inbox_after}
+use Rattle.rm_base.specs.NumberSet.{with_number, front_of}
+use Rattle.rm_base.specs.NumberSetLemmas.{with_number-at}
+use Rattle.rm_destination.specs.Incoming.{numbers_of, with_message, inbox_after, window}
 use Rattle.rm_base.specs.Numbered.{numbered}
 use Rattle.rm_destination.specs.Kept.{GoesAt}
-use Rattle.rm_destination.proofs.FrontLemmas.{front_after-to}
-use Rattle.rm_destination.proofs.MessageLemmas.{with_message-zip, inbox_after-zip, length-inbox_after}
+use Rattle.rm_destination.specs.FrontLemmas.{front_after-to}
+use Rattle.rm_destination.specs.MessageLemmas.{with_message-zip, inbox_after-zip, length-inbox_after}
 
 -- the front is the length of the inbox
 pub length-inbox : (xs : List ℕ) (ps : List Payload) → length ps ≡ length xs
@@ -32,14 +32,22 @@ slice_get-take (suc m) [] k h = refl
 slice_get-take (suc m) (x ∷ xs) zero h = refl
 slice_get-take (suc m) (x ∷ xs) (suc k) h = slice_get-take m xs k (omega arith)
 
+-- the first n items have the numbers up to n
+numbered-take : (n : ℕ) (ps : List Payload) (i : ℕ) → i ≤ n → numbered ps i ≡ numbered (take n ps) i
+numbered-take n ps i to =
+    elim (i == 0) as
+    (λ b. (i == 0) ≡ b → cond b None (slice_get ps (i - 1)) ≡ cond b None (slice_get (take n ps) (i - 1))) [
+      | true ↦ λ _. refl
+      | false ↦ λ d. sym (slice_get-take n ps (i - 1) (grind (arith, nat_tests, d)))
+    ] refl
+
 -- the kept payloads up to the front are the inbox
-pub numbered-inbox : (xs : List ℕ) (ps : List Payload) (i : ℕ) → length ps ≡ length xs → 0 < i → i ≤ front_of xs
-    → slice_get ps (i - 1) ≡ numbered (inbox_after 0 (zip xs ps)) i
-numbered-inbox xs ps i e from to =
-    let other : (i == 0) ≡ false = grind (arith, nat_tests) in
+pub numbered-inbox : (xs : List ℕ) (ps : List Payload) (i : ℕ) → length ps ≡ length xs → i ≤ front_of xs
+    → numbered ps i ≡ numbered (inbox_after 0 (zip xs ps)) i
+numbered-inbox xs ps i e to =
     let all : front_of xs - 0 ≡ front_of xs = omega arith in
     let inbox : inbox_after 0 (zip xs ps) ≡ take (front_of xs) ps = rw all at (inbox_after-zip 0 xs ps e) in
-    rw (other, inbox) (sym (slice_get-take (front_of xs) ps (i - 1) (omega arith)))
+    rw inbox (numbered-take (front_of xs) ps i to)
 
 -- past the front the inbox has nothing
 pub numbered-past : (items : List Payload) (i : ℕ) → length items < i → numbered items i ≡ None
@@ -69,9 +77,9 @@ pub front_of-within : (xs : List ℕ) (n i : ℕ) → GoesAt xs n i → front_of
 front_of-within xs n i g = omega (arith, front_after-to 0 xs, length-with_number xs n i g)
 
 -- the test whether a number is past the window
-pub past_window : (front n : ℕ) → 1024 < n - front → nat_lt (front + 1024) n ≡ true
+pub past_window : (front n : ℕ) → window < n - front → nat_lt (front + window) n ≡ true
 past_window front n h = grind (arith, nat_tests)
 
 -- the test where it is not
-pub in_window : (front n : ℕ) → n - front ≤ 1024 → nat_lt (front + 1024) n ≡ false
+pub in_window : (front n : ℕ) → n - front ≤ window → nat_lt (front + window) n ≡ false
 in_window front n h = grind (arith, nat_tests)

@@ -1,4 +1,1 @@
-pub mod AddedLemmas
-pub mod FrontLemmas
 pub mod KeptLemmas
-pub mod MessageLemmas

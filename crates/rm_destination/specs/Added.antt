@@ -1,7 +1,7 @@
 -- What it means to receive a new message, in terms of which messages there are.
 use Rattle.std.specs.Prelude.{◌≡◌, ◌<◌, ◌⊎◌, ℕ, List, Contains, false}
 use Rattle.rm_base.specs.declared.message.Payload.{Payload}
-use Rattle.rm_base.specs.Numbers.{IsRising, has_number}
+use Rattle.rm_base.specs.NumberSet.{IsRising, has_number}
 use Rattle.rm_destination.specs.Incoming.{numbers_of}
 
 -- the messages rise by number, and the number is none of theirs

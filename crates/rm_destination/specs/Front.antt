@@ -1,7 +1,7 @@
 -- What the front and the inbox are, in terms of what was received.
 use Rattle.std.specs.Prelude.{◌≡◌, ℕ, ◌<◌, ◌≤◌, List, length, Some, Contains}
 use Rattle.rm_base.specs.declared.message.Payload.{Payload}
-use Rattle.rm_base.specs.Numbers.{front_of}
+use Rattle.rm_base.specs.NumberSet.{front_of}
 use Rattle.rm_destination.specs.Incoming.{numbers_of}
 use Rattle.rm_base.specs.Numbered.{numbered}
 

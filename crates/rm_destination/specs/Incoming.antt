@@ -1,9 +1,8 @@
 -- The destination's side of one sequence: WS-ReliableMessaging 1.2, sections 3.4, 3.7 and 3.9.
-use Rattle.std.specs.Prelude.{◌≡◌, ℕ, ◌+◌, ◌-◌, ◌==◌, nat_le, nat_lt, Bool, false, if◌then◌else◌, List, [], ◌∷◌, map, Option, Some, None, slice_get, Result, Ok, Err}
+use Rattle.std.specs.Prelude.{◌≡◌, ℕ, ◌+◌, ◌==◌, nat_le, nat_lt, Bool, false, if◌then◌else◌, List, [], ◌∷◌, map, Option, Some, None, Result, Ok, Err}
 use Rattle.rm_base.specs.declared.message.Behaviour.{Behaviour}
 use Rattle.rm_base.specs.declared.message.Payload.{Payload}
-use Rattle.rm_base.specs.Numbers.{has_number, front_of}
-use Rattle.rm_destination.specs.declared.incoming.TheConstants.{WINDOW}
+use Rattle.rm_base.specs.NumberSet.{has_number, front_of}
 use Rattle.rm_destination.specs.declared.outcome.DestError.{DestError}
 use Rattle.rm_destination.specs.declared.outcome.DestError.TheVariants.{Memory, Terminated}
 use Rattle.rm_destination.specs.declared.outcome.InPhase.{InPhase}
@@ -48,14 +47,19 @@ abbrev pub is_over : Option ℕ → ℕ → Bool
 is_over None now = false
 is_over (Some deadline) now = nat_le deadline now
 
+-- it ends at its deadline
 abbrev pub phase_of : Receiving → ℕ → InPhase
 phase_of r now = if is_over r.deadline now then Ended else Open
+
+-- how far past the front a message is received
+abbrev pub window : ℕ
+window = 1024
 
 -- what a message with this number is, while the sequence has not ended
 abbrev pub kind_of : Receiving → ℕ → Took
 kind_of r number =
     if has_number (numbers_of r.received) number then Duplicate
-    else if nat_lt (received_front r + WINDOW) number then PastWindow (received_front r)
+    else if nat_lt (received_front r + window) number then PastWindow (received_front r)
     else New
 
 -- the answer to a message with this number at this moment

@@ -1,13 +1,14 @@
+//! The destination's side of one sequence.
 ghost use Rattle.std.specs.Prelude.{◌≡◌, ◌+◌, ◌≤◌, ◌<◌, [], None, false, length, drop, slice_get, IfOk, IfErr, OnOk, OnErr};
 ghost use Rattle.std.specs.List.{zip};
 ghost use Rattle.std.specs.Option.{option_copied};
-ghost use Rattle.rm_base.specs.Numbers.{IsRising, has_number, front_of, front_after};
+ghost use Rattle.rm_base.specs.NumberSet.{IsRising, has_number, front_of, front_after};
 ghost use Rattle.rm_destination.specs.Incoming.{Receiving, numbers_of, inbox_of, phase_of, kind_of, took_of, after_take, IsTakeError};
 ghost use Rattle.rm_base.specs.Numbered.{numbered};
 ghost use Rattle.rm_destination.specs.Kept.{IsKept, GoesAt};
 
 use crate::outcome::{DestError, InPhase, Took};
-use rm_base::{Behaviour, Memory, Numbers, Payload};
+use rm_base::{Behaviour, Memory, NumberSet, Payload};
 use std::alloc::Global;
 use std::marker::Model;
 
@@ -19,7 +20,7 @@ pub const WINDOW: u64 = 1024;
 pub struct Incoming {
     behaviour: Behaviour,
     deadline: Option<u64>,
-    numbers: Numbers,
+    numbers: NumberSet,
     payloads: Vec<Payload>,
     front: usize,
 }
@@ -46,12 +47,13 @@ impl Incoming {
         Incoming {
             behaviour,
             deadline,
-            numbers: Numbers::new(alloc),
+            numbers: NumberSet::new(alloc),
             payloads: Vec::new(alloc),
             front: 0,
         }
     }
 
+    /// How far the sequence is at a moment.
     pub fn phase(&self, now: u64) -> InPhase
         ensures { result ≡ phase_of self.now now }
     {
@@ -61,6 +63,7 @@ impl Incoming {
         }
     }
 
+    /// What it does with messages after a gap.
     pub fn behaviour(&self) -> Behaviour
         ensures { result ≡ self.now.behaviour }
     {
@@ -68,7 +71,7 @@ impl Incoming {
     }
 
     /// The numbers of the messages that were received.
-    pub fn received(&self) -> &Numbers
+    pub fn received(&self) -> &NumberSet
         ensures { result.now ≡ numbers_of self.now.received }
     {
         &self.numbers
@@ -110,13 +113,10 @@ impl Incoming {
     pub fn inbox_item(&self, i: u64) -> Option<&Payload>
         ensures { option_copied result ≡ numbered (inbox_of self.now) i }
     {
-        if i == 0 {
-            return None;
-        }
         if i > self.front as u64 {
             return None;
         }
-        payload_at(self.payloads.as_slice(), (i - 1) as usize)
+        rm_base::numbered(self.payloads.as_slice(), i)
     }
 
     /// What a message with this number is.
@@ -150,13 +150,6 @@ impl Incoming {
         self.front = front_from(self.numbers.as_slice(), self.front);
         Ok(())
     }
-}
-
-/// The payload at a place, counted from 0.
-fn payload_at(payloads: &[Payload], place: usize) -> Option<&Payload>
-    ensures { option_copied result ≡ slice_get payloads.now place }
-{
-    payloads.get(place)
 }
 
 /// Where a number goes in that is none of these rising ones.

@@ -1,5 +1,6 @@
+//! What the definitions of the inbox and of what was received mean.
 ghost use Rattle.std.specs.Prelude.{ℕ, List};
-ghost use Rattle.rm_base.specs.Numbers.{IsRising, front_of};
+ghost use Rattle.rm_base.specs.NumberSet.{IsRising, front_of};
 ghost use Rattle.rm_base.specs.declared.message.Payload.{Payload};
 ghost use Rattle.rm_destination.specs.Added.{IsNew, AddsMessage};
 ghost use Rattle.rm_destination.specs.Front.{IsFront, IsInbox};

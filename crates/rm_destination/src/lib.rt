@@ -9,6 +9,3 @@ pub mod outcome;
 
 pub use incoming::{Incoming, WINDOW};
 pub use outcome::{DestError, InPhase, Took};
-
-#[cfg(test)]
-mod tests;

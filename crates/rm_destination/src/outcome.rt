@@ -1,3 +1,4 @@
+//! How messages on an incoming sequence are answered.
 ghost use Rattle.std.specs.Prelude.{◌≡◌};
 ghost use Rattle.rm_destination.specs.declared.outcome.DestError.TheVariants.{Memory as WantsMemory};
 

@@ -1,7 +1,7 @@
 -- Acknowledged numbers: how many there are, and how great they get.
 use Rattle.std.proofs.Common.{ℕ, ◌+◌, ◌≤◌, max, List, [], ◌∷◌, length, arith}
 use Rattle.std.proofs.lemmas.Bool.Decides.{nat_tests}
-use Rattle.rm_base.specs.Numbers.{Rises, with_number, united, greatest_of}
+use Rattle.rm_base.specs.NumberSet.{Rises, with_number, united, greatest_of}
 
 -- rising numbers above low are at most as many as there are numbers from low to the greatest
 pub length-rising : (low : ℕ) (xs : List ℕ) → Rises low xs → low + length xs ≤ max low (greatest_of xs)

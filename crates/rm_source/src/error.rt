@@ -1,3 +1,4 @@
+//! Why a call on an outgoing sequence is refused.
 ghost use Rattle.std.specs.Prelude.{◌≡◌};
 ghost use Rattle.rm_source.specs.declared.error.SourceError.TheVariants.{Memory as WantsMemory};
 

@@ -8,8 +8,5 @@ pub mod outgoing;
 pub mod phase;
 
 pub use error::SourceError;
-pub use outgoing::{MAX_NO, Outgoing, WINDOW};
+pub use outgoing::{Outgoing, WINDOW};
 pub use phase::OutPhase;
-
-#[cfg(test)]
-mod tests;

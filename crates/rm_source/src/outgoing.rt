@@ -1,17 +1,16 @@
+//! The source's side of one sequence.
 ghost use Rattle.std.specs.Prelude.{◌≡◌, ◌+◌, ◌++◌, ◌≤◌, ◌<◌, [], ◌∷◌, length, unwrap_or, IfOk, IfErr, IfSome, OnOk, OnErr};
 ghost use Rattle.std.specs.Option.{option_copied};
-ghost use Rattle.rm_base.specs.Numbers.{united, brings_new, greatest_of};
+ghost use Rattle.rm_base.specs.Message.{max_number};
+ghost use Rattle.rm_base.specs.NumberSet.{united, brings_new, greatest_of};
 ghost use Rattle.rm_base.specs.Numbered.{numbered};
 ghost use Rattle.rm_source.specs.Outgoing.{Sending, unacked_of, room_refusal, accept_refusal, learn_refusal};
 
 use crate::error::SourceError;
 use crate::phase::OutPhase;
-use rm_base::{Blob, Items, Numbers};
+use rm_base::{Blob, Items, MAX_NUMBER, NumberSet};
 use std::alloc::Global;
 use std::marker::Model;
-
-/// The greatest message number: WS-ReliableMessaging 1.2, section 3.7.
-pub const MAX_NO: u64 = 9223372036854775807;
 
 /// No payload is accepted while this many are not acknowledged.
 pub const WINDOW: u64 = 1024;
@@ -21,7 +20,7 @@ pub const WINDOW: u64 = 1024;
 pub struct Outgoing {
     phase: OutPhase,
     accepted: Items<Blob>,
-    acked: Numbers,
+    acked: NumberSet,
 }
 
 impl Model for Outgoing {
@@ -40,10 +39,11 @@ impl Outgoing {
         Outgoing {
             phase,
             accepted: Items::new(alloc),
-            acked: Numbers::new(alloc),
+            acked: NumberSet::new(alloc),
         }
     }
 
+    /// How far the sequence is.
     pub fn phase(&self) -> OutPhase
         ensures { result ≡ self.now.phase }
     {
@@ -53,7 +53,7 @@ impl Outgoing {
     /// How many payloads were accepted. Memory holds fewer than there are message numbers.
     pub fn accepted_len(&self) -> u64
         ensures count { result ≡ length self.now.accepted }
-        ensures few { length self.now.accepted < MAX_NO }
+        ensures few { length self.now.accepted < max_number }
     {
         self.accepted.as_slice().len() as u64
     }
@@ -62,14 +62,11 @@ impl Outgoing {
     pub fn accepted(&self, number: u64) -> Option<&Blob>
         ensures { option_copied result ≡ numbered self.now.accepted number }
     {
-        if number == 0 {
-            return None;
-        }
-        self.accepted.get((number - 1) as usize)
+        self.accepted.item(number)
     }
 
     /// The numbers that are known to be acknowledged.
-    pub fn acked(&self) -> &Numbers
+    pub fn acked(&self) -> &NumberSet
         ensures numbers { result.now ≡ self.now.acked }
         ensures within { greatest_of self.now.acked ≤ length self.now.accepted }
     {
@@ -102,7 +99,7 @@ impl Outgoing {
 
     /// Adds numbers to the acknowledged ones, and answers whether one of them is new. Numbers of which one is above the
     /// count of accepted payloads are refused.
-    pub fn learn(&mut self, given: &Numbers) -> Result<bool, SourceError>
+    pub fn learn(&mut self, given: &NumberSet) -> Result<bool, SourceError>
         ensures ok { OnOk result (self.new ≡ record self.old { acked = united self.old.acked given.now }) }
         ensures is_new { IfOk result (λ is_new. is_new ≡ brings_new self.old.acked given.now) }
         ensures refused { IfSome (learn_refusal self.old given.now) (λ refusal. result ≡ Err refusal) }
@@ -135,7 +132,7 @@ fn room(accepted: u64, unacked: u64) -> Option<SourceError>
     if unacked >= WINDOW {
         return Some(SourceError::WindowFull { unacked });
     }
-    if accepted >= MAX_NO {
+    if accepted >= MAX_NUMBER {
         return Some(SourceError::Rollover);
     }
     None

@@ -1,28 +1,24 @@
 -- A new message within the window is recorded by the line that delivers it, and released where it closes the gap.
-use Rattle.std.proofs.Common.{◌≡◌, ℕ, zero, suc, ◌+◌, ◌-◌, ◌<◌, ◌≤◌, ◌==◌, Bool, true, false, cond, ◌||◌, nat_lt, ◌⊎◌, inl, inr, List, [], ◌∷◌, ◌++◌, length, take, refl, sym, ap, ◌∙◌, arith, subst}
-use Rattle.std.specs.Prelude.{Option, Some, None, IfSome, slice_get}
-use Rattle.std.specs.List.{AllByRecursion, Contains}
+use Rattle.std.proofs.Common.{◌≡◌, ℕ, ◌+◌, ◌≤◌, true, false, inl, inr, List, take, refl, sym, arith, subst}
+use Rattle.std.specs.Prelude.{Some, None, IfSome, slice_get}
+use Rattle.std.specs.List.{Contains}
 use Rattle.std.proofs.lemmas.Bool.{le-ltb}
 use Rattle.std.proofs.lemmas.Bool.Decides.{nat_tests}
-use Rattle.rm_base.specs.Numbers.{has_number, with_number, front_of, IsRising}
+use Rattle.rm_base.specs.NumberSet.{has_number, with_number, front_of, IsRising}
 use Rattle.rm_base.specs.declared.message.Payload.{Payload}
-use Rattle.rm_base.proofs.NumbersLemmas.{Rises-with_number, has_number-with, lt-or-le}
-use Rattle.rm_destination.proofs.AddedLemmas.{numbers_of-with_message, with_message-added}
+use Rattle.rm_base.specs.NumberSetLemmas.{Rises-with_number, has_number-with, lt-or-le}
+use Rattle.rm_destination.specs.AddedLemmas.{numbers_of-with_message, with_message-added}
 use Rattle.rm_base.specs.Numbered.{numbered}
-use Rattle.rm_destination.specs.Incoming.{Receiving, numbers_of, with_message, received_front, kind_of, after_take, inbox_after, inbox_of}
-use Rattle.rm_destination.specs.declared.outcome.Took.{Took}
-use Rattle.rm_destination.specs.declared.outcome.Took.TheVariants.{New, Duplicate, PastWindow}
-use Rattle.rm_destination.proofs.FrontLemmas.{front_of-IsFront, has_number-Contains, front_after-has, Contains-has_number}
-use Rattle.rm_destination.proofs.MessageLemmas.{inbox_after-IsInbox}
+use Rattle.rm_destination.specs.Incoming.{Receiving, numbers_of, with_message, received_front, kind_of, inbox_after, inbox_of}
+use Rattle.rm_destination.specs.declared.outcome.Took.TheVariants.{New}
+use Rattle.rm_destination.specs.FrontLemmas.{front_of-IsFront, has_number-Contains, front_after-has}
+use Rattle.rm_destination.specs.MessageLemmas.{inbox_after-IsInbox}
 use Rattle.rm_world.specs.declared.event.Event.{Event}
 use Rattle.rm_world.specs.declared.event.Event.TheVariants.{Deliver}
-use Rattle.rm_world.specs.declared.packet.PlainPacket.{PlainPacket}
-use Rattle.rm_world.specs.declared.packet.PlainPacket.TheVariants.{Data}
-use Rattle.rm_world.specs.World.{World, plain, received, arrived, answered, happens, run}
+use Rattle.rm_world.specs.World.{World, plain, happens, run}
 use Rattle.rm_world.specs.Word.{IsNewAt, Releases, EachReleases}
 use Rattle.rm_world.specs.Sound.{IsSound}
-use Rattle.rm_world.proofs.ListLemmas.{numbered-within}
-use Rattle.rm_world.proofs.SoundLemmas.{run-IsSound, packet-IsSound}
+use Rattle.rm_world.proofs.SoundLemmas.{run-IsSound}
 
 -- a new number within the window is kept
 kind_of-new : (r : Receiving) (n : ℕ) → has_number (numbers_of r.received) n ≡ false → n ≤ received_front r + 1024

@@ -1,11 +1,7 @@
 -- Runs and reports of one event more.
-use Rattle.std.proofs.Common.{◌≡◌, ℕ, ◌+◌, List, [], ◌∷◌, ◌++◌, length, refl, sym, ap, ◌∙◌, arith, append_assoc, append-nil, zero, suc, inl, inr, ◌⊎◌, take, length-append, subst}
-use Rattle.std.specs.Prelude.{Option, Some, None, slice_get}
-use Rattle.std.specs.Iterator.{Yields}
-use Rattle.std.specs.Vec.Iter.{into_iter_items, into_iter_steps}
-use Rattle.std.specs.declared.vec.IntoIter.{IntoIter}
+use Rattle.std.proofs.Common.{◌≡◌, ℕ, ◌+◌, List, [], ◌∷◌, ◌++◌, length, refl, sym, ap, ◌∙◌, arith, append_assoc, append-nil, suc, inl, inr, length-append, subst}
+use Rattle.std.specs.Prelude.{Some, slice_get}
 use Rattle.std.proofs.Math.Seq.{take-append_seam, take-append-add}
-use Rattle.std.proofs.lemmas.List.{take_all}
 use Rattle.rm_world.specs.declared.event.Event.{Event}
 use Rattle.rm_world.specs.Replay.{lines_text, outcome_line, IsCutIn, IsCutShort}
 use Rattle.rm_world.specs.World.{World, happens, recorded, outcome_of, run}
@@ -30,12 +26,6 @@ lines_text-push number (first ∷ events) event w =
     (lines_text-push (number + 1) events event (happens w first))
     ∙ sym (append_assoc (outcome_line (number + 1) (outcome_of w first) (happens w first))
     (lines_text (number + 1) events (happens w first)) _))
-
--- what an iterator over a vector has given is a front of its items
-pub taken_front : {X A : Type 0} (s : IntoIter X A) (xs : List X) (t : IntoIter X A) → Yields into_iter_steps s xs t
-    → into_iter_items s ≡ xs ++ into_iter_items t
-taken_front s [] t y = ap into_iter_items y
-taken_front s (x ∷ xs) t y = y.1.0 ∙ ap (λ ys. x ∷ ys) (taken_front y.0 xs t y.2)
 
 -- the item behind a front stands at its length
 slice_get-seam : {A : Type 0} (front later : List A) (item : A)
@@ -73,15 +63,6 @@ pub IsCutShort-at : (events played later : List Event) (event : Event) (old mid 
     → mid ≡ run played old → IsCutIn event mid new → IsCutShort events old new
 IsCutShort-at events played later event old mid new e m h =
     rw e (IsCutIn-IsCutShort played later event old new (subst (λ w. IsCutIn event w new) m h))
-
--- a run of all lines is cut short behind the last
-pub run-IsCutShort : (events : List Event) (old new : World) → new ≡ run events old → IsCutShort events old new
-run-IsCutShort events old new h = (
-  length events,
-  omega arith,
-  inl (h
-      ∙ ap (λ l. run l old) (sym (take_all (length events) events (omega arith)))),
-)
 
 -- the report of one event more
 pub told-more : (before report more : List ℕ) (number : ℕ) (played : List Event) (event : Event) (old mid : World)

@@ -3,17 +3,11 @@ use Rattle.std.proofs.Common.{◌<◌, ◌≤◌, Bool, true, false, cond, ◌==
 use Rattle.std.proofs.lemmas.List.{append-nil}
 use Rattle.std.proofs.lemmas.Bool.{eqb-true}
 use Rattle.std.proofs.lemmas.Bool.Decides.{nat_tests}
-use Rattle.hex.specs.Hex.{encode_with, encode_lower}
+use Rattle.hex.specs.Hex.{encode_lower}
 use Rattle.rm_base.specs.declared.message.Payload.{Payload}
-use Rattle.rm_base.specs.Numbers.{Rises, IsRising, has_number}
+use Rattle.rm_base.specs.NumberSet.{Rises, IsRising, has_number}
 use Rattle.rm_world.specs.Report.{items_text, range_text, ranges_after, ranges_text}
 use Rattle.rm_world.specs.Ranges.{in_ranges, IsApart, AreRangesOf, text_of_ranges}
-
--- the first byte's digits come first
-pub encode_lower-cons : (byte : ℕ) (bytes : List ℕ)
-    → encode_lower (byte ∷ bytes) ≡ encode_lower (byte ∷ []) ++ encode_lower bytes
-unfolding encode_with
-encode_lower-cons byte bytes = refl
 
 -- an item's line
 abbrev pub item_text : ℕ → List ℕ → List ℕ

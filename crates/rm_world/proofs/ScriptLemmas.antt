@@ -1,5 +1,5 @@
 -- Scripts: lines of bytes one after another, and that a line says one thing.
-use Rattle.std.proofs.Common.{◌≡◌, ℕ, zero, suc, ◌+◌, ◌-◌, ◌<◌, ◌≤◌, Bool, true, false, cond, not, ◌==◌, List, [], ◌∷◌, ◌++◌, length, take, drop, refl, sym, ap, subst, ◌∙◌, arith, inl, inr, append_assoc, slice_get, Some, None, codes, decimal}
+use Rattle.std.proofs.Common.{◌≡◌, ℕ, suc, ◌+◌, ◌-◌, ◌<◌, ◌≤◌, Bool, true, false, cond, not, ◌==◌, List, [], ◌∷◌, ◌++◌, length, take, drop, refl, sym, ap, ◌∙◌, arith, inl, inr, append_assoc, slice_get, Some, None, codes, decimal}
 use Rattle.std.specs.List.{position_or_len, position, flat_map, AllByRecursion}
 use Rattle.std.proofs.lemmas.List.{append-nil, take_at, take_all, drop_all, append_cancel_left}
 use Rattle.std.proofs.lemmas.Bool.Decides.{nat_tests}
@@ -182,18 +182,3 @@ IsScript-one (l ∷ lines) (x ∷ a) [] s t = absurd t
 IsScript-one (l ∷ lines) (x ∷ a) (y ∷ b) s t =
     let head : x ≡ y = Says-one l x y s.0 t.0 in
     let tail : a ≡ b = IsScript-one lines a b s.1 t.1 in cc
-
--- each line of a script says something
-pub IsScript-at : (lines : List (List ℕ)) (events : List Event) (i : ℕ) (line : List ℕ) → IsScript lines events
-    → slice_get lines i ≡ Some line → (event : Event) × Says line event
-IsScript-at [] events i line s e = absurd (cc)
-IsScript-at (l ∷ lines) [] i line s e = absurd s
-IsScript-at (l ∷ lines) (x ∷ events) zero line s e =
-    let same : l ≡ line = cc in (x, subst (λ m. Says m x) same s.0)
-IsScript-at (l ∷ lines) (x ∷ events) (suc i) line s e = IsScript-at lines events i line s.1 e
-
--- a script has no bad line
-pub IsFirstBad-none : (lines : List (List ℕ)) (events : List Event) (k : ℕ)
-    → IsScript lines events → IsFirstBad lines k → ⊥
-IsFirstBad-none lines events k s bad =
-    let said = IsScript-at lines events (k - 1) bad.line s bad.there in bad.bad said.0 said.1

@@ -1,16 +1,16 @@
 -- What holds in every world that a run can reach: each kind of step keeps it.
-use Rattle.std.proofs.Common.{◌≡◌, ℕ, zero, suc, ◌+◌, ◌-◌, ◌<◌, ◌≤◌, ◌==◌, Bool, true, false, cond, ◌||◌, max, List, [], ◌∷◌, ◌++◌, length, take, drop, refl, sym, ap, ◌∙◌, arith, subst, length-append, inl, inr}
-use Rattle.std.specs.Prelude.{Option, Some, None, slice_get, is_none, IfSome}
+use Rattle.std.proofs.Common.{◌≡◌, ℕ, suc, ◌+◌, ◌≤◌, ◌==◌, true, false, cond, ◌||◌, List, [], ◌∷◌, ◌++◌, length, take, drop, refl, sym, ap, ◌∙◌, arith, subst, length-append, inl, inr}
+use Rattle.std.specs.Prelude.{Option, Some, None, is_none, IfSome}
 use Rattle.std.specs.List.{AllByRecursion}
 use Rattle.std.proofs.lemmas.Bool.{eqb-true}
 use Rattle.std.proofs.lemmas.Bool.Decides.{nat_tests}
-use Rattle.rm_base.specs.Numbers.{has_number, with_number, united, greatest_of, IsRising, Rises}
+use Rattle.rm_base.specs.NumberSet.{has_number, with_number, united, greatest_of}
 use Rattle.rm_base.specs.declared.message.Payload.{Payload}
-use Rattle.rm_base.proofs.NumbersLemmas.{Rises-with_number, has_number-with, has_number-united}
-use Rattle.rm_destination.proofs.AddedLemmas.{numbers_of-with_message}
+use Rattle.rm_base.specs.NumberSetLemmas.{Rises-with_number, has_number-with, has_number-united}
+use Rattle.rm_destination.specs.AddedLemmas.{numbers_of-with_message}
 use Rattle.rm_base.specs.Numbered.{numbered}
 use Rattle.rm_source.specs.Outgoing.{accept_refusal}
-use Rattle.rm_destination.specs.Incoming.{numbers_of, with_message, kind_of, after_take, inbox_after, inbox_of}
+use Rattle.rm_destination.specs.Incoming.{numbers_of, with_message, kind_of, after_take, inbox_after}
 use Rattle.rm_destination.specs.declared.outcome.Took.{Took}
 use Rattle.rm_destination.specs.declared.outcome.Took.TheVariants.{New, Duplicate, PastWindow}
 use Rattle.rm_world.specs.declared.event.Event.{Event}
@@ -71,9 +71,13 @@ sent-IsSound w packet h p = record {
 }
 
 -- a new message is received
-pub kept-IsSound : (w : World) (n : ℕ) (text : List ℕ) (two : ℕ) → IsSound w → numbered w.source.accepted n ≡ Some text
-    → IsSound (record w { dest = record w.dest { received = with_message w.dest.received n (plain text) }; two = two })
-kept-IsSound w n text two h e = record {
+pub kept-IsSound : (w : World) (n : ℕ) (text : List ℕ) (records : ℕ) → IsSound w
+    → numbered w.source.accepted n ≡ Some text
+    → IsSound (record w {
+      dest = record w.dest { received = with_message w.dest.received n (plain text) };
+      dest_records = records;
+    })
+kept-IsSound w n text records h e = record {
   opened = h.opened;
   endless = h.endless;
   packets = All-weaker (IsSoundPacket w.source.accepted w.dest.received)
@@ -87,8 +91,11 @@ kept-IsSound w n text two h e = record {
 
 -- a message comes to the destination, and is taken in one of three ways
 taken-IsSound : (w : World) (n : ℕ) (text : List ℕ) (took : Took) → IsSound w → numbered w.source.accepted n ≡ Some text
-    → IsSound (record w { dest = after_take w.dest n (plain text) took; two = raised_where (is_new took) w.two })
-taken-IsSound w n text New h e = kept-IsSound w n text (raised_where true w.two) h e
+    → IsSound (record w {
+      dest = after_take w.dest n (plain text) took;
+      dest_records = raised_where (is_new took) w.dest_records;
+    })
+taken-IsSound w n text New h e = kept-IsSound w n text (raised_where true w.dest_records) h e
 taken-IsSound w n text Duplicate h e = h
 taken-IsSound w n text (PastWindow front) h e = h
 

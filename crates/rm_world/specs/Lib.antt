@@ -7,3 +7,4 @@ pub mod Sound
 pub mod Stage
 pub mod Word
 pub mod World
+pub mod WorldLemmas

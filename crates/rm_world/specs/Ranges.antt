@@ -1,6 +1,6 @@
 -- Sets of numbers as ranges, each from a lowest to a highest number: WS-ReliableMessaging 1.2, section 3.9.
 use Rattle.std.specs.Prelude.{◌≡◌, ℕ, ◌+◌, ◌<◌, ◌≤◌, Bool, false, ◌&&◌, ◌||◌, nat_le, List, [], ◌∷◌, ◌++◌, codes}
-use Rattle.rm_base.specs.Numbers.{has_number}
+use Rattle.rm_base.specs.NumberSet.{has_number}
 use Rattle.rm_world.specs.Report.{range_text}
 
 -- a number is in one of the ranges

@@ -9,7 +9,7 @@ use Rattle.rm_world.specs.World.{World, happens, recorded, outcome_of, run}
 -- the report's line of an outcome, where there is one
 abbrev pub outcome_line : ℕ → Option Outcome → World → List ℕ
 outcome_line number None w = []
-outcome_line number (Some outcome) w = line_text number outcome w.one w.two (length w.packets)
+outcome_line number (Some outcome) w = line_text number outcome w.source_records w.dest_records (length w.packets)
 
 -- the lines of the events, of which the first is line number + 1 of the script
 abbrev pub lines_text : ℕ → List Event → World → List ℕ

@@ -18,6 +18,7 @@ refusal_name (WindowFull unacked) = codes "WindowFull"
 refusal_name Rollover = codes "Rollover"
 refusal_name (InvalidAck number) = codes "InvalidAck"
 
+-- OUTCOME
 abbrev pub outcome_text : Outcome → List ℕ
 outcome_text Done = codes "ok"
 outcome_text (Refused refusal) = codes "refused " ++ refusal_name refusal
@@ -25,8 +26,9 @@ outcome_text NoPacket = codes "no-packet"
 
 -- LINE OUTCOME ENTRIES1 ENTRIES2 PACKETS
 abbrev pub line_text : ℕ → Outcome → ℕ → ℕ → ℕ → List ℕ
-line_text number outcome one two packets =
-    decimal number ++ codes " " ++ outcome_text outcome ++ codes " " ++ decimal one ++ codes " " ++ decimal two
+line_text number outcome source_records dest_records packets =
+    decimal number ++ codes " " ++ outcome_text outcome ++ codes " " ++ decimal source_records
+    ++ codes " " ++ decimal dest_records
     ++ codes " " ++ decimal packets ++ codes "\n"
 
 -- numbers that follow one another, from low to high
@@ -44,6 +46,7 @@ abbrev pub ranges_text : List ℕ → List ℕ
 ranges_text [] = codes "-"
 ranges_text (x ∷ xs) = ranges_after x x xs
 
+-- PHASE
 abbrev pub phase_text : OutPhase → List ℕ
 phase_text Creating = codes "creating"
 phase_text Open = codes "open"

@@ -1,7 +1,7 @@
 -- What holds in every world that a run can reach.
 use Rattle.std.specs.Prelude.{◌≡◌, ℕ, ◌≤◌, true, List, length, Some, None}
 use Rattle.std.specs.List.{AllByRecursion}
-use Rattle.rm_base.specs.Numbers.{IsRising, has_number, greatest_of}
+use Rattle.rm_base.specs.NumberSet.{IsRising, has_number, greatest_of}
 use Rattle.rm_base.specs.declared.message.Payload.{Payload}
 use Rattle.rm_base.specs.Numbered.{numbered}
 use Rattle.rm_source.specs.declared.phase.OutPhase.TheVariants.{Open}
@@ -23,6 +23,7 @@ IsSoundPacket accepted received (Ack numbers) = (greatest_of numbers ≤ length 
 abbrev pub IsSoundMessage : List (List ℕ) → (ℕ × Payload) → Type 0
 IsSoundMessage accepted message = numbered accepted message.0 ≡ Some message.1.bytes
 
+-- what holds in every world that can be reached
 pub record IsSound (w : World) : Type 0 where
   pub opened : w.source.phase ≡ Open
   pub endless : w.dest.deadline ≡ None

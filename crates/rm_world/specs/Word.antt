@@ -1,12 +1,11 @@
 -- What the two nodes keep to, whatever the network loses, repeats or reorders.
 use Rattle.std.specs.Prelude.{◌≡◌, ℕ, ◌+◌, ◌≤◌, true, false, List, [], ◌++◌, length, map, Some, None, Contains, slice_get, IfSome, take, ◌<◌}
-use Rattle.rm_base.specs.Numbers.{has_number}
+use Rattle.rm_base.specs.NumberSet.{has_number}
 use Rattle.rm_base.specs.Numbered.{numbered}
 use Rattle.rm_base.specs.declared.message.Behaviour.TheVariants.{FollowingFirstGap}
 use Rattle.rm_base.specs.declared.message.Payload.{Payload}
 use Rattle.rm_source.specs.declared.phase.OutPhase.TheVariants.{Open}
-use Rattle.rm_destination.specs.Incoming.{numbers_of, received_front, inbox_of}
-use Rattle.rm_destination.specs.declared.incoming.TheConstants.{WINDOW}
+use Rattle.rm_destination.specs.Incoming.{numbers_of, received_front, inbox_of, window}
 use Rattle.rm_world.specs.declared.event.Event.{Event}
 use Rattle.rm_world.specs.declared.event.Event.TheVariants.{Deliver}
 use Rattle.rm_world.specs.declared.packet.PlainPacket.TheVariants.{Data}
@@ -18,8 +17,8 @@ preset = record {
   source = record { phase = Open; accepted = []; acked = [] };
   dest = record { behaviour = FollowingFirstGap; deadline = None; received = [] };
   packets = [];
-  one = 0;
-  two = 0;
+  source_records = 0;
+  dest_records = 0;
 }
 
 -- ys begins with xs
@@ -40,7 +39,7 @@ pub record KeepsWord (w : World) : Type 0 where
 pub record IsNewAt (w : World) (p n : ℕ) (text : List ℕ) : Type 0 where
   pub there : numbered w.packets p ≡ Some (Data n text)
   pub is_new : has_number (numbers_of w.dest.received) n ≡ false
-  pub near : n ≤ received_front w.dest + WINDOW
+  pub near : n ≤ received_front w.dest + window
 
 -- a new message within the window that a line delivers is recorded by that line, and where it closes the gap it is
 -- released

@@ -2,7 +2,7 @@
 -- WS-ReliableMessaging 1.2, sections 2.1 (who sends and keeps what), 3.7 (Sequence) and 3.9 (SequenceAcknowledgement).
 use Rattle.std.specs.Prelude.{ℕ, ◌+◌, Bool, true, false, if◌then◌else◌, List, [], ◌∷◌, ◌++◌, length, Option, Some, None, is_none}
 use Rattle.rm_base.specs.Count.{raised_by}
-use Rattle.rm_base.specs.Numbers.{united, brings_new}
+use Rattle.rm_base.specs.NumberSet.{united, brings_new}
 use Rattle.rm_base.specs.Numbered.{numbered}
 use Rattle.rm_base.specs.declared.message.Payload.{Payload}
 use Rattle.rm_source.specs.Outgoing.{Sending, accept_refusal}
@@ -22,8 +22,8 @@ pub record World : Type 0 where
   pub source : Sending
   pub dest : Receiving
   pub packets : List PlainPacket
-  pub one : ℕ
-  pub two : ℕ
+  pub source_records : ℕ
+  pub dest_records : ℕ
 
 -- the payload that a text is: its bytes, where no prefix is bound
 abbrev pub plain : List ℕ → Payload
@@ -31,8 +31,10 @@ plain text = record { bytes = text; scope = [] }
 
 -- the source accepts a text as its next payload, which is a record
 abbrev pub accepted : World → List ℕ → World
-accepted w text =
-    record w { source = record w.source { accepted = w.source.accepted ++ text ∷ [] }; one = raised_by w.one 1 }
+accepted w text = record w {
+  source = record w.source { accepted = w.source.accepted ++ text ∷ [] };
+  source_records = raised_by w.source_records 1;
+}
 
 -- a count, one higher where there was something to count
 abbrev pub raised_where : Bool → ℕ → ℕ
@@ -48,14 +50,14 @@ is_new (PastWindow front) = false
 abbrev pub received : World → ℕ → List ℕ → World
 received w number text = record w {
   dest = after_take w.dest number (plain text) (kind_of w.dest number);
-  two = raised_where (is_new (kind_of w.dest number)) w.two;
+  dest_records = raised_where (is_new (kind_of w.dest number)) w.dest_records;
 }
 
 -- these numbers are acknowledged: where one of them is new, that is a record
 abbrev pub learned : World → List ℕ → World
 learned w numbers = record w {
   source = record w.source { acked = united w.source.acked numbers };
-  one = raised_where (brings_new w.source.acked numbers) w.one;
+  source_records = raised_where (brings_new w.source.acked numbers) w.source_records;
 }
 
 -- a packet comes to its node, or there is none
@@ -87,6 +89,7 @@ happens w (Send text) =
     if is_none (accept_refusal w.source) then sent (accepted w text) (Data (length w.source.accepted + 1) text) else w
 happens w (Deliver packet) = answered (arrived w (numbered w.packets packet)) (numbered w.packets packet)
 
+-- a payload is refused for a reason, or was accepted
 abbrev pub refused_or_done : Option SourceError → Outcome
 refused_or_done None = Done
 refused_or_done (Some refusal) = Refused refusal

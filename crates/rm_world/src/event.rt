@@ -1,3 +1,4 @@
+//! What a line of a script asks for, and how it comes out.
 use rm_base::{Blob, Items};
 use rm_source::SourceError;
 

@@ -1,3 +1,4 @@
+//! The run of a script.
 ghost use Rattle.std.specs.Prelude.{◌≡◌, ◌++◌, IfOk, OnOk, OnErr};
 ghost use Rattle.rm_world.specs.Replay.{IsCutIn, IsCutShort, lines_text, outcome_line, report_of};
 ghost use Rattle.rm_world.specs.Sound.{IsSound};
@@ -70,35 +71,10 @@ fn play_line(
             report,
             number,
             outcome,
-            stage.one,
-            stage.two,
+            stage.source_records,
+            stage.dest_records,
             stage.packets.len() as u64,
         ),
         None => Ok(()),
-    }
-}
-
-#[cfg(test)]
-mod tests {
-    use super::*;
-    use crate::script::read_script;
-    use crate::stage::preset_stage;
-    use std::test::Fail;
-
-    // Two scripts, one after the other over one stage.
-    #[test]
-    fn plays_on(rt: HostRuntime) -> Result<(), Fail> {
-        let mut stage = preset_stage(rt.alloc());
-        let first = read_script(rt.alloc(), b"# first\nsend 1 1 a\nsend 1 1 b\ndeliver 2")?;
-        let report = run_script(rt.alloc(), &mut stage, first)?;
-        let want =
-            b"2 ok 1 0 1\n3 ok 2 0 2\n4 ok 2 1 3\nout 1 1 open accepted 2 acked -\nin 2 1 open dfg received 2-2 inbox 0 discarded 0\n";
-        assert_eq!(rt; report.as_slice(), want.as_slice());
-        let second = read_script(rt.alloc(), b"deliver 1\ndeliver 4\ndeliver 9\n")?;
-        let report = run_script(rt.alloc(), &mut stage, second)?;
-        let want =
-            b"1 ok 2 2 4\n2 ok 3 2 4\n3 no-packet 3 2 4\nout 1 1 open accepted 2 acked 1-2\nin 2 1 open dfg received 1-2 inbox 2 discarded 0\nitem 2 1 1 61\nitem 2 1 2 62\n";
-        assert_eq!(rt; report.as_slice(), want.as_slice());
-        Ok(())
     }
 }

@@ -1,3 +1,4 @@
+//! Two nodes, and the packets between them.
 ghost use Rattle.std.specs.Prelude.{◌≡◌};
 ghost use Rattle.rm_world.specs.Stage.{world_of};
 ghost use Rattle.rm_world.specs.Word.{preset};
@@ -15,8 +16,8 @@ pub struct PlainStage {
     pub source: Outgoing,
     pub dest: Incoming,
     pub packets: Packets,
-    pub one: u64,
-    pub two: u64,
+    pub source_records: u64,
+    pub dest_records: u64,
 }
 
 /// The preset sequence, open and empty. It takes no memory.
@@ -27,7 +28,7 @@ pub fn preset_stage(alloc: Global) -> PlainStage
         source: Outgoing::new(alloc, OutPhase::Open),
         dest: Incoming::new(alloc, Behaviour::FollowingFirstGap, None),
         packets: Items::new(alloc),
-        one: 0,
-        two: 0,
+        source_records: 0,
+        dest_records: 0,
     }
 }

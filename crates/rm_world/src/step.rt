@@ -1,7 +1,6 @@
+//! What one line of a script does.
 ghost use Rattle.std.specs.Prelude.{◌≡◌, ◌⊎◌, ◌<◌, ◌≤◌, length, Some, None, IfOk, OnOk, OnErr};
-ghost use Rattle.std.specs.Option.{option_copied};
-ghost use Rattle.rm_base.specs.Numbers.{united, brings_new, greatest_of};
-ghost use Rattle.rm_base.specs.Numbered.{numbered};
+ghost use Rattle.rm_base.specs.NumberSet.{united, brings_new, greatest_of};
 ghost use Rattle.rm_destination.specs.Incoming.{kind_of, after_take};
 ghost use Rattle.rm_world.specs.Stage.{world_of};
 ghost use Rattle.rm_world.specs.Sound.{IsSound};
@@ -10,7 +9,7 @@ ghost use Rattle.rm_world.specs.World.{happens, recorded, outcome_of, raised_whe
 use crate::event::{Event, Outcome};
 use crate::packet::PlainPacket;
 use crate::stage::PlainStage;
-use rm_base::{Blob, Items, Memory, Numbers, Payload};
+use rm_base::{Blob, Items, Memory, NumberSet, Payload};
 use rm_destination::{DestError, Incoming, Took};
 use rm_source::{Outgoing, SourceError};
 use std::alloc::Global;
@@ -44,7 +43,7 @@ fn send(stage: &mut PlainStage, text: Blob) -> Result<Outcome, Memory>
     let copy = text.copy()?;
     match stage.source.accept(text) {
         Ok(number) => {
-            stage.one = stage.one.saturating_add(1);
+            stage.source_records = stage.source_records.saturating_add(1);
             stage
                 .packets
                 .push(PlainPacket::Data { number, text: copy })?;
@@ -63,30 +62,20 @@ fn deliver(alloc: Global, stage: &mut PlainStage, packet: u64) -> Result<Outcome
     ensures err { OnErr result ((world_of stage.new ≡ world_of stage.old)
         ⊎ (world_of stage.new ≡ recorded (world_of stage.old) (Event.Deliver packet))) }
 {
-    match packet_at(stage.packets.as_slice(), packet) {
+    match stage.packets.item(packet) {
         None => Ok(Outcome::NoPacket),
         Some(PlainPacket::Ack { numbers }) => {
-            learn(&mut stage.source, &mut stage.one, numbers)?;
+            learn(&mut stage.source, &mut stage.source_records, numbers)?;
             Ok(Outcome::Done)
         }
         Some(PlainPacket::Data { number, text }) => {
             let payload = plain(alloc, text)?;
-            receive(&mut stage.dest, &mut stage.two, *number, payload)?;
+            receive(&mut stage.dest, &mut stage.dest_records, *number, payload)?;
             let numbers = stage.dest.received().copy()?;
             stage.packets.push(PlainPacket::Ack { numbers })?;
             Ok(Outcome::Done)
         }
     }
-}
-
-// The packet with a number, counted from 1.
-fn packet_at(packets: &[PlainPacket], number: u64) -> Option<&PlainPacket>
-    ensures { option_copied result ≡ numbered packets.now number }
-{
-    if number == 0 {
-        return None;
-    }
-    packets.get((number - 1) as usize)
 }
 
 // The payload that a text is.
@@ -100,16 +89,21 @@ fn plain(alloc: Global, text: &Blob) -> Result<Payload, Memory>
 }
 
 // A message comes to the destination. A new one is a record.
-fn receive(dest: &mut Incoming, two: &mut u64, number: u64, payload: Payload) -> Result<(), Memory>
+fn receive(
+    dest: &mut Incoming,
+    records: &mut u64,
+    number: u64,
+    payload: Payload,
+) -> Result<(), Memory>
     requires from_one { 0 < number }
     requires endless { dest.old.deadline ≡ None }
     ensures dest { OnOk result (dest.new ≡ after_take dest.old number payload (kind_of dest.old number)) }
-    ensures two { OnOk result (two.new ≡ raised_where (is_new (kind_of dest.old number)) two.old) }
-    ensures err { OnErr result ((dest.new ≡ dest.old) × (two.new ≡ two.old)) }
+    ensures records { OnOk result (records.new ≡ raised_where (is_new (kind_of dest.old number)) records.old) }
+    ensures err { OnErr result ((dest.new ≡ dest.old) × (records.new ≡ records.old)) }
 {
     match dest.take(number, payload, 0) {
         Ok(Took::New) => {
-            *two = two.saturating_add(1);
+            *records = records.saturating_add(1);
             Ok(())
         }
         Ok(_) => Ok(()),
@@ -119,15 +113,15 @@ fn receive(dest: &mut Incoming, two: &mut u64, number: u64, payload: Payload) ->
 }
 
 // Numbers are acknowledged. A new one is a record.
-fn learn(source: &mut Outgoing, one: &mut u64, numbers: &Numbers) -> Result<(), Memory>
+fn learn(source: &mut Outgoing, records: &mut u64, numbers: &NumberSet) -> Result<(), Memory>
     requires { greatest_of numbers.now ≤ length source.old.accepted }
     ensures source { OnOk result (source.new ≡ record source.old { acked = united source.old.acked numbers.now }) }
-    ensures one { OnOk result (one.new ≡ raised_where (brings_new source.old.acked numbers.now) one.old) }
-    ensures err { OnErr result ((source.new ≡ source.old) × (one.new ≡ one.old)) }
+    ensures records { OnOk result (records.new ≡ raised_where (brings_new source.old.acked numbers.now) records.old) }
+    ensures err { OnErr result ((source.new ≡ source.old) × (records.new ≡ records.old)) }
 {
     match source.learn(numbers) {
         Ok(true) => {
-            *one = one.saturating_add(1);
+            *records = records.saturating_add(1);
             Ok(())
         }
         Ok(false) => Ok(()),

@@ -1,5 +1,6 @@
 use Rattle.std.proofs.Common.{◌≡◌, ℕ, ◌+◌, ◌-◌, ◌<◌, ◌≤◌, ◌++◌, ◌∷◌, [], List, length, take, set, sym, ap, ◌∙◌, arith}
 use Rattle.std.proofs.lemmas.List.{take_more, take_more_set, length-take-le, get_or-take}
+use Rattle.rm_base.specs.Message.{max_number}
 use Rattle.ack_ranges.specs.declared.range.Range.{Range}
 use Rattle.ack_ranges.specs.Changes.{with_range}
 use Rattle.ack_ranges.specs.Places.{range_at}
@@ -23,7 +24,7 @@ pub overflow_add-last : goal.overflow_add-last
 overflow_add-last c =
     let all = c.args.all.now in
     let e = last-is all c.args.kept c.if-kept-gt0.true (omega (arith, c.requires.within)) in
-    let end : (range_at all (c.args.kept - 1)).upper ≤ 9223372036854775807 =
+    let end : (range_at all (c.args.kept - 1)).upper ≤ max_number =
     rw (← e) (RisesFrom-at 1 (take c.args.kept all) (c.args.kept - 1) c.requires.canonical
     (omega (arith, length-take-le c.args.kept all (omega (arith, c.requires.within))))).2 in
     omega arith

@@ -1,7 +1,7 @@
 use Rattle.std.proofs.Common.{◌≡◌, ◌+◌, sym, ap, ◌∙◌, arith}
 use Rattle.ack_ranges.specs.Places.{range_at}
 use Rattle.ack_ranges.proofs.RangesLemmas.{in_range_tells, in_ranges-at, RisesFrom-at, greatest-from}
-use Rattle.ack_ranges.proofs.MissingLemmas.{missing-push, missing-pass, missing-enough, missing-all, collected-below, goes-on-before, goes-on-gap, goes-on-last}
+use Rattle.ack_ranges.proofs.MissingLemmas.{missing-push, missing-pass, missing-enough, missing-all, goes-on-before, goes-on-gap, goes-on-last}
 use Rattle.ack_ranges.proofs.missing.missing_of.Goals as goal
 
 pub returns-then-len-most : goal.returns-then-len-most
@@ -12,9 +12,6 @@ returns-then-len-most c =
       greatest-from c.args.ranges.now c.loop-range.range-index c.requires c.loop-range-test.true,
       c.loop-n-test.true,
     ))
-
-pub push-requires : goal.push-requires
-push-requires c = collected-below _ _ _ _ c.loop-n.invariant
 
 pub loop-n-preserved : goal.loop-n-preserved
 loop-n-preserved c = rw c.in_ok-push.ensures.ok

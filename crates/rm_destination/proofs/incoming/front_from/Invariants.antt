@@ -1,5 +1,5 @@
 use Rattle.std.proofs.Common.{◌≡◌, ◌≤◌, ◌-◌, length, drop}
-use Rattle.rm_base.specs.Numbers.{front_of, front_after}
+use Rattle.rm_base.specs.NumberSet.{front_of, front_after}
 use Rattle.rm_destination.proofs.incoming.front_from.Given as goal
 
 -- the front of what is left, after the numbers that are known to have no gap, is the front of all

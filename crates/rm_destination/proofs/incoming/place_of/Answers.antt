@@ -1,8 +1,8 @@
 use Rattle.std.proofs.Common.{◌≡◌, true, false}
 use Rattle.std.specs.Prelude.{Ok, Err}
 use Rattle.std.proofs.lemmas.List.Sorted.{searched}
-use Rattle.rm_base.specs.Numbers.{has_number}
-use Rattle.rm_base.proofs.NumbersLemmas.{Rises-places, has_number-at}
+use Rattle.rm_base.specs.NumberSet.{has_number}
+use Rattle.rm_base.specs.NumberSetLemmas.{Rises-places, has_number-at}
 use Rattle.rm_destination.proofs.incoming.place_of.Goals as goal
 
 pub unreachable-requires : goal.unreachable-requires

@@ -1,5 +1,5 @@
-use Rattle.rm_destination.proofs.FrontLemmas.{front_of-IsFront}
-use Rattle.rm_destination.proofs.MessageLemmas.{inbox_after-IsInbox}
+use Rattle.rm_destination.specs.FrontLemmas.{front_of-IsFront}
+use Rattle.rm_destination.specs.MessageLemmas.{inbox_after-IsInbox}
 use Rattle.rm_destination.proofs.laws.inbox_reaches_front.Goals as goal
 
 pub returns-clause-front : goal.returns-clause-front

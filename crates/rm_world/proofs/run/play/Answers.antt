@@ -5,7 +5,8 @@ use Rattle.rm_world.specs.World.{World, happens}
 use Rattle.rm_world.specs.Replay.{IsCutShort}
 use Rattle.rm_world.specs.Sound.{IsSound}
 use Rattle.rm_world.specs.Stage.{world_of}
-use Rattle.rm_world.proofs.ReplayLemmas.{run-push, told-more, taken_front, IsCutShort-at}
+use Rattle.rm_base.specs.IteratorLemmas.{taken_front}
+use Rattle.rm_world.proofs.ReplayLemmas.{run-push, told-more, IsCutShort-at}
 use Rattle.rm_world.proofs.SoundLemmas.{happens-IsSound, IsCutShort-IsSound}
 use Rattle.rm_world.proofs.run.play.Goals as goal
 

@@ -1,7 +1,7 @@
 use Rattle.std.proofs.lemmas.Result.{err_from_is_err_and}
 use Rattle.rm_world.specs.Stage.{world_of}
 use Rattle.rm_world.proofs.ReleaseLemmas.{IsSound-EachReleases}
-use Rattle.rm_world.proofs.ReplayLemmas.{run-IsCutShort}
+use Rattle.rm_world.specs.WorldLemmas.{run-IsCutShort}
 use Rattle.rm_world.proofs.SoundLemmas.{IsSound-KeepsWord}
 use Rattle.rm_world.proofs.run.run_script.Goals as goal
 

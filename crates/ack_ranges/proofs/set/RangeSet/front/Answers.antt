@@ -6,4 +6,4 @@ use Rattle.ack_ranges.proofs.set.RangeSet.front.Goals as goal
 pub returns-clause-front : goal.returns-clause-front
 returns-clause-front c =
     rw (← c.self.view_is) (rw (c.front_end.ensures
-    ∙ ap front_of c.deref.ensures.value) (IsFront-front_of _ c.self.invariant))
+    ∙ ap front_of c.deref.ensures.value) (IsFront-front_of _ c.self.invariant.canonical))

@@ -1,6 +1,6 @@
 use Rattle.std.proofs.Common.{◌<◌, ◌≤◌, length, sym, arith}
 use Rattle.std.specs.List.{zip}
-use Rattle.rm_base.specs.Numbers.{front_of}
+use Rattle.rm_base.specs.NumberSet.{front_of}
 use Rattle.rm_destination.specs.Incoming.{inbox_after}
 use Rattle.rm_destination.proofs.KeptLemmas.{length-inbox, numbered-past, numbered-inbox}
 use Rattle.rm_destination.proofs.incoming.Incoming.inbox_item.Goals as goal
@@ -17,5 +17,5 @@ pub returns : goal.returns
 returns c =
     let within : c.args.i ≤ front_of c.self.inside.numbers = omega (arith, c.self.invariant.reached) in
     let payloads = c.self.inside.payloads.items in
-    rw (c.payload_at.ensures, c.as_slice.ensures.value, ← c.self.view_is)
-    (numbered-inbox c.self.inside.numbers payloads c.args.i c.self.invariant.beside (omega arith) within)
+    rw (c.numbered.ensures, c.as_slice.ensures.value, ← c.self.view_is)
+    (numbered-inbox c.self.inside.numbers payloads c.args.i c.self.invariant.beside within)

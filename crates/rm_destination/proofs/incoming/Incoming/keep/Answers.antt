@@ -1,10 +1,10 @@
 use Rattle.std.proofs.Common.{◌≡◌, ℕ, List, false, ap, ◌∙◌}
 use Rattle.rm_base.specs.declared.message.Payload.{Payload}
-use Rattle.rm_base.specs.Numbers.{has_number, front_of}
+use Rattle.rm_base.specs.NumberSet.{has_number, front_of}
 use Rattle.rm_destination.specs.Incoming.{Receiving}
 use Rattle.rm_destination.specs.Kept.{GoesAt}
-use Rattle.rm_destination.proofs.FrontLemmas.{front_of-below, front_of-with_number}
-use Rattle.rm_destination.proofs.MessageLemmas.{numbers_of-zip}
+use Rattle.rm_destination.specs.FrontLemmas.{front_of-below, front_of-with_number}
+use Rattle.rm_destination.specs.MessageLemmas.{numbers_of-zip}
 use Rattle.rm_destination.proofs.KeptLemmas.{zip-with_number, length-insert_beside, front_of-within}
 use Rattle.rm_destination.proofs.incoming.Incoming.keep.Goals as goal
 

@@ -1,5 +1,5 @@
 use Rattle.std.proofs.Common.{◌≤◌, length, arith}
-use Rattle.rm_base.specs.Numbers.{greatest_of}
+use Rattle.rm_base.specs.NumberSet.{greatest_of}
 use Rattle.rm_source.proofs.AckedLemmas.{greatest_of-united}
 use Rattle.rm_source.proofs.outgoing.Outgoing.learn.Goals as goal
 
