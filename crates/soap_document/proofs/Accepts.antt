@@ -7,7 +7,7 @@ use Rattle.soap_document.specs.Machine.{State, stops, finish, run, refuse, count
 abbrev pub Accepts : State → List ℕ → Element → Type 0
 Accepts s bytes u = root_of (run s bytes) ≡ Some u
 
-pub refused_never : (s : State) (bytes : List ℕ) (u : Element) → Accepts (counted (refuse s)) bytes u → ⊥
+pub refused_never : (s : State) (bytes : List ℕ) (u : Element) → Accepts (refuse s) bytes u → ⊥
 refused_never s [] u h = cc
 refused_never s (c ∷ bytes) u h = refused_never (counted (refuse s)) bytes u h
 
@@ -15,7 +15,7 @@ refused_never s (c ∷ bytes) u h = refused_never (counted (refuse s)) bytes u h
 pub passed : (t : Bool) (x s : State) (bytes : List ℕ) (u : Element)
     → Accepts (counted (cond t x (refuse s))) bytes u → (t ≡ true) × Accepts (counted x) bytes u
 passed true x s bytes u h = (refl, h)
-passed false x s bytes u h = absurd (refused_never s bytes u h)
+passed false x s bytes u h = absurd (refused_never (counted s) bytes u h)
 
 -- a choice, as it went
 pub chosen : (t : Bool) (x y : State) (bytes : List ℕ) (u : Element) → Accepts (counted (cond t x y)) bytes u → ((t

@@ -3,14 +3,14 @@ use Rattle.std.proofs.Common.{◌≡◌, ◌≢◌, ℕ, suc, ◌+◌, ◌-◌, 
 use Prim.Native.Nat.{zero}
 use Rattle.std.proofs.lemmas.Bool.{eqb-true, eq-eqb, and_parts, false_from_ne_true}
 use Rattle.memchr.specs.Find.{IsFirstByte, is_byte}
-use Rattle.soap_lex.proofs.FirstLemmas.{all_fail, around, front_fails}
 use Rattle.soap_document.specs.Machine.{State, stops, finish, run, counted, is_end}
 use Rattle.soap_document.specs.Declaration.{after}
 use Rattle.soap_document.specs.Tokens.{is_white, is_name, is_qname, begins, cut}
 use Rattle.soap_document.proofs.Declarations.{after-append}
-use Rattle.soap_lex.proofs.HeldLemmas.{front_from_begins}
-use Rattle.soap_document.proofs.Held.{cut_none, cut-append}
 use Rattle.soap_document.proofs.Moves.{kept}
+use Rattle.soap_document.specs.Cuts.{cut_none, cut-append}
+use Rattle.soap_lex.specs.Facts.{front_from_begins}
+use Rattle.soap_lex.specs.First.{all_fail, around, front_fails}
 
 -- ---- the first byte that passes a test
 

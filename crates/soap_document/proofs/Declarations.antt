@@ -10,9 +10,10 @@ use Rattle.soap_document.specs.Declaration.{skip, after, quoted, valued, setting
 use Rattle.soap_document.specs.Grammar.{IsWhite, IsSpace, IsQuoted, double, single, IsSetting, setting as is_setting, IsEncoding, unsaid as no_encoding, utf8, IsStandalone, unsaid as no_standalone, yes, no, IsDeclaration, without, declared}
 use Rattle.soap_document.specs.Machine.{declaring}
 use Rattle.soap_document.specs.Tokens.{begins, cut}
-use Rattle.soap_lex.proofs.HeldLemmas.{all_weaker, other, same, begins-append, front_from_begins}
-use Rattle.soap_document.proofs.Held.{all_append, cut-append, cut_from}
 use Rattle.soap_document.proofs.Moves.{NoStops}
+use Rattle.soap_document.specs.Cuts.{cut-append, cut_from}
+use Rattle.soap_lex.specs.Facts.{all_weaker, other, same, begins-append, front_from_begins}
+use Rattle.soap_lex.specs.NameBytes.{all_append}
 
 -- ---- what the grammar has passes
 

@@ -1,17 +1,17 @@
 -- What feeding a piece does, and what the reader answers at the end.
 use Rattle.std.proofs.Common.{◌≡◌, ◌≢◌, ℕ, ◌+◌, ◌-◌, ◌<◌, ◌≤◌, Bool, true, false, List, [], ◌∷◌, ◌++◌, Option, Some, None, Result, Ok, Err, OnOk, length, get_or, take, drop, refl, sym, ap, subst, ◌∙◌, arith, length-take, length-drop}
 use Rattle.memchr.specs.Find.{IsFirstByte}
-use Rattle.soap_lex.specs.TextMachine.{TextState, begun as begun_text, halts as text_halts, to_stop as text_to_stop}
+use Rattle.soap_lex.specs.TextMachine.{TextState, begun as begun_text, halts as text_halts, is_refused, to_stop as text_to_stop}
 use Rattle.soap_lex.specs.ValueMachine.{ValueState, halts, to_stop}
-use Rattle.soap_lex.proofs.TextFed.{still as text_still}
-use Rattle.soap_lex.proofs.ValueFed.{fed_halted, still}
-use Rattle.soap_document.specs.Machine.{State, chars, value_inner, at_chars, in_less, refuse, stops, finish, step, run, counted, after_value}
+use Rattle.soap_document.specs.Machine.{State, chars, value_inner, at_chars, in_less, refuse, stops, finish, step, run, counted, after_text, after_value}
 use Rattle.soap_document.specs.Seen.{Taken}
 use Rattle.soap_document.proofs.Answer.{feed_step, feed_end, take_rest}
-use Rattle.soap_document.proofs.Places.{finish-at, chars-at, in_less-at, after_value-at}
+use Rattle.soap_document.proofs.Places.{finish-at, chars-at, in_less-at, after_text-at, after_value-at}
 use Rattle.soap_document.proofs.Steps.{at_tag, tag_begins}
 use Rattle.soap_document.proofs.Values.{fed}
-use Rattle.soap_document.proofs.Words.{fed as text_fed}
+use Rattle.soap_document.proofs.Words.{refused_halts, fed as text_fed}
+use Rattle.soap_lex.specs.TextStops.{still as text_still}
+use Rattle.soap_lex.specs.ValueStops.{fed_halted, still}
 
 pub on_ok : {A E : Type 0} (r : Result A E) (P Q : Type 0) → (P → Q) → OnOk r P → OnOk r Q
 on_ok (Ok a) P Q f h = f h
@@ -22,7 +22,8 @@ kept_by s bytes = record s { at = s.at + length bytes; token = s.token ++ bytes 
 
 pub feed_last : (s new : State) (bytes : List ℕ) (r : Option ℕ) → IsFirstByte (stops s.mode) bytes r → r
     ≡ None → new ≡ kept_by s bytes → new ≡ run s bytes
-feed_last s new bytes r found e kept = kept ∙ feed_end s bytes (subst (λ (o : Option ℕ). IsFirstByte (stops s.mode) bytes o) e found)
+feed_last s new bytes r found e kept = kept ∙ feed_end s bytes (subst (λ (o : Option ℕ). IsFirstByte
+    (stops s.mode) bytes o) e found)
 
 module _ (s s1 s2 : State) (bytes : List ℕ) (r : Option ℕ) (n : ℕ) (found : IsFirstByte (stops s.mode) bytes
     r) (e : r ≡ Some n)
@@ -129,9 +130,25 @@ taken_value s new t bytes n e high some ends kept =
       place = ap (λ (x : State). x.at + length rest) kept ∙ ap (λ k. k + length rest) (after_value-at next) ∙ place;
     }
 
+-- text of which something was taken was not refused
+unrefused : (v t : TextState) (c : ℕ) (bytes : List ℕ) (n : ℕ) (b : Bool) → is_refused v.mode ≡ b → n ≢ 0
+    → n ≤ length (c ∷ bytes) → text_to_stop v (c ∷ bytes) ≡ (t, drop n (c ∷ bytes)) → is_refused v.mode ≡ false
+unrefused v t c bytes n false e some high fed = e
+unrefused v t c bytes n true e some high fed =
+    let halted : text_to_stop v (c ∷ bytes) ≡ (v, c ∷ bytes) = rw (refused_halts v.mode (v.token ++ c ∷ []) e) in
+    let size : length (c ∷ bytes) ≡ length (drop n (c ∷ bytes)) =
+    ap (λ (p : TextState × List ℕ). length p.1) (sym halted ∙ fed) in
+    absurd (some (omega (arith, size, high, length-drop n (c ∷ bytes))))
+
+is_open : (v t : TextState) (bytes : List ℕ) (n : ℕ) → n ≢ 0 → n ≤ length bytes
+    → text_to_stop v bytes ≡ (t, drop n bytes) → is_refused v.mode ≡ false
+is_open v t [] n some high fed = absurd (some (omega (arith, high)))
+is_open v t (c ∷ bytes) n some high fed = unrefused v t c bytes n (is_refused v.mode) refl some high fed
+
 -- within text, up to the end of a token of it
 pub taken_text : (s new : State) (t : TextState) (bytes : List ℕ) (n : ℕ) → s.mode ≡ chars → n ≤ length bytes → n ≢ 0
-    → text_to_stop s.words bytes ≡ (t, drop n bytes) → new ≡ record s { words = t; at = s.at + n } → Taken s new bytes n
+    → text_to_stop s.words bytes ≡ (t, drop n bytes) → new ≡ after_text (record s { words = t; at = s.at + n })
+    → Taken s new bytes n
 taken_text s new t bytes n e high some ends kept =
     let rest : List ℕ = drop n bytes in
     let left : length rest ≡ length bytes - n = length-drop n bytes in
@@ -140,10 +157,10 @@ taken_text s new t bytes n e high some ends kept =
     record {
       some = omega (arith, some);
       within = high;
-      meaning = ap (λ x. run x rest) (kept ∙ ap (λ m. record next { mode = m }) e)
-          ∙ sym (text_fed s s.words t bytes rest s.at (s.at + n) ends place)
+      meaning = ap (λ x. run x rest) (kept ∙ ap (λ m. after_text (record next { mode = m })) e)
+          ∙ sym (text_fed s s.words t bytes rest s.at (s.at + n) (is_open s.words t bytes n some high ends) ends place)
           ∙ ap (λ m. run (record s { mode = m }) bytes) (sym e);
-      place = ap (λ (x : State). x.at + length rest) kept ∙ place;
+      place = ap (λ (x : State). x.at + length rest) kept ∙ ap (λ k. k + length rest) (after_text-at next) ∙ place;
     }
 
 -- where nothing of it was taken, it ends before the first byte
@@ -167,7 +184,8 @@ taken_end s new t (c ∷ rest) n e some fed none kept =
       some = omega arith;
       within = omega arith;
       meaning = ap (λ x. run (counted x) rest) same ∙ ap (λ x. run x rest) (sym first);
-      place = ap (λ (x : State). x.at + 1 + length rest) same ∙ ap (λ k. k + 1 + length rest) (chars-at s c) ∙ omega arith;
+      place = ap (λ (x : State). x.at + 1 + length rest) same ∙ ap (λ k. k + 1 + length rest) (chars-at s c)
+          ∙ omega arith;
     }
 
 -- a < where no text is begun is taken with the byte behind it

@@ -8,10 +8,10 @@ use Rattle.soap_document.specs.Tree.{Element}
 use Rattle.soap_document.specs.Machine.{marking, commenting, Frame, State, refuse, counted, at_commenting, without, calm}
 use Rattle.soap_document.specs.Tokens.{is_comment}
 use Rattle.soap_document.proofs.Accepts.{Accepts, passed, chosen, next}
-use Rattle.soap_lex.proofs.HeldLemmas.{same}
 use Rattle.soap_document.proofs.Moves.{At, plain_at, chars_at}
-use Rattle.soap_lex.proofs.TestLemmas.{comment_from}
-use Rattle.soap_lex.proofs.EndLemmas.{without_from}
+use Rattle.soap_lex.specs.Ends.{without_from}
+use Rattle.soap_lex.specs.Facts.{same}
+use Rattle.soap_document.proofs.Lexing.{Lexes}
 
 pub shorter : (b m rest : List ℕ) (c : ℕ) → b ≡ m ++ c ∷ rest → suc (length rest) ≤ length b
 shorter b m rest c e = omega (arith, ap length e, length-append m (c ∷ rest))
@@ -50,33 +50,33 @@ module _ (fresh : Bool) (mark : ℕ) (top : Frame) (below : List Frame) (text : 
   abbrev AfterComment : ℕ → List ℕ → ℕ → List ℕ → Type 0
   AfterComment at inner n rest = IsComment inner × Accepts (chars_at top below text [] (at + n + 1)) rest u
 
-  comment_end : (at : ℕ) (token rest : List ℕ) (o : Option (List ℕ)) → without (codes "--") token ≡ o
+  comment_end : (lex : Lexes) → (at : ℕ) (token rest : List ℕ) (o : Option (List ℕ)) → without (codes "--") token ≡ o
       → Accepts (counted (at_commenting (in_comment token at) o)) rest u
       → ((inner : List ℕ) × (token ≡ inner ++ codes "--") × IsComment inner × Accepts (chars_at top below text []
       (at + 1)) rest u)
       ⊎ Accepts (in_comment (token ++ 62 ∷ []) (at + 1)) rest u
-  comment_end at token rest None e h = inr h
-  comment_end at token rest (Some inner) e h =
+  comment_end lex at token rest None e h = inr h
+  comment_end lex at token rest (Some inner) e h =
       let p = passed (is_comment inner) (calm (in_comment token at)) (in_comment token at) rest u h in
-      inl (inner, without_from (codes "--") token inner e, comment_from inner p.0, p.1)
+      inl (inner, without_from (codes "--") token inner e, (lex.comment_test inner).0 p.0, p.1)
 
-  pub comment_found : (fuel : ℕ) (token : List ℕ) (at : ℕ) (bytes : List ℕ) → length bytes ≤ fuel
+  pub comment_found : (lex : Lexes) → (fuel : ℕ) (token : List ℕ) (at : ℕ) (bytes : List ℕ) → length bytes ≤ fuel
       → Accepts (in_comment token at) bytes u
       → EndFound (codes "--") token bytes (AfterComment at)
-  comment_found zero token at bytes short h =
+  comment_found lex zero token at bytes short h =
       let n = next (in_comment token at) bytes u (λ _ _. refl) h in
       absurd (omega (arith, shorter bytes n.token n.rest n.last n.there))
-  comment_found (suc fuel) token at bytes short h =
+  comment_found lex (suc fuel) token at bytes short h =
       let n = next (in_comment token at) bytes u (λ _ _. refl) h in
       let there : bytes ≡ n.token ++ 62 ∷ n.rest = n.there ∙ ap (λ k. n.token ++ k ∷ n.rest) (eqb-true n.last 62
       n.stop) in
       let place : ℕ = at + length n.token in
-      elim (comment_end place (token ++ n.token) n.rest (without (codes "--") (token ++ n.token)) refl n.later) [
+      elim (comment_end lex place (token ++ n.token) n.rest (without (codes "--") (token ++ n.token)) refl n.later) [
         | inl r ↦ record { front = n.token; inner = r.0; rest = n.rest; there = there; is = r.1; later = (r.2, r.3) }
         | inr r ↦ EndFound-more (codes "--") token bytes n.token n.rest (AfterComment at) (AfterComment (place + 1))
             there
             (λ inner k later x. (x.0, subst (λ p. Accepts (chars_at top below text [] p) later u) (omega arith) x.1))
-            (comment_found fuel ((token ++ n.token) ++ 62 ∷ []) (place + 1) n.rest (omega (
+            (comment_found lex fuel ((token ++ n.token) ++ 62 ∷ []) (place + 1) n.rest (omega (
               arith,
               shorter bytes
                   n.token n.rest n.last n.there,
@@ -130,7 +130,8 @@ module _ (fresh : Bool) (mark : ℕ) (top : Frame) (below : List Frame) (text : 
       ∙ sym (append_assoc n.token (n.last ∷ []) n.rest) in
       let whole : token ++ (n.token ++ n.last ∷ []) ≡ t = sym (append_assoc token n.token (n.last ∷ [])) in
       let place = snoc_place at n.token n.last in
-      elim (chosen (bytes_eq t (codes "-")) longer (cond (bytes_eq t (codes "--")) comments (refuse s)) n.rest u n.later) [
+      elim (chosen (bytes_eq t (codes "-")) longer (cond (bytes_eq t (codes "--")) comments
+      (refuse s)) n.rest u n.later) [
         | inl k ↦
             let r = markup_found fuel t (at + length n.token + 1) n.rest (omega (
               arith,
@@ -178,8 +179,8 @@ module _ (fresh : Bool) (mark : ℕ) (top : Frame) (below : List Frame) (text : 
   }
 
   -- behind <!, at this place
-  pub marked_found : (at : ℕ) (bytes : List ℕ) → Accepts (marked [] at) bytes u → CommentFound bytes at
-  marked_found at bytes h =
+  pub marked_found : (lex : Lexes) → (at : ℕ) (bytes : List ℕ) → Accepts (marked [] at) bytes u → CommentFound bytes at
+  marked_found lex at bytes h =
       let m = markup_found (length bytes) [] at bytes (omega arith) h in
-      is_comment_at at bytes m.front m.rest m.there m.is (comment_found (length m.rest) [] (at + length m.front)
+      is_comment_at at bytes m.front m.rest m.there m.is (comment_found lex (length m.rest) [] (at + length m.front)
       m.rest (omega arith) m.later)

@@ -13,9 +13,10 @@ use Rattle.soap_document.proofs.Accepts.{Accepts, passed, chosen, next}
 use Rattle.soap_document.proofs.Declarations.{declaration_from}
 use Rattle.soap_document.proofs.FoundElements.{LessFound, less_found, TagFound, element_from, content_found}
 use Rattle.soap_document.proofs.FoundComments.{marked_found}
-use Rattle.soap_lex.proofs.HeldLemmas.{same}
 use Rattle.soap_document.proofs.Moves.{plain_at, chars_at, less_at}
 use Rattle.soap_document.proofs.TokenFacts.{white_from}
+use Rattle.soap_lex.specs.Facts.{same}
+use Rattle.soap_document.proofs.Lexing.{Lexes}
 
 module _ (u : Element) where
   -- ---- outside of the root
@@ -135,21 +136,21 @@ module _ (u : Element) where
   not_inside e = cc
 
   -- behind the < of a comment
-  comment_at : (fresh : Bool) (mark : ℕ) (top : Frame) (at : ℕ) (rest : List ℕ)
+  comment_at : (lex : Lexes) → (fresh : Bool) (mark : ℕ) (top : Frame) (at : ℕ) (rest : List ℕ)
       → Accepts (plain_at marking fresh mark top [] [] [] at) rest u
       → (inner b : List ℕ) × (rest ≡ codes "--" ++ (inner ++ (codes "-->" ++ b))) × IsComment inner × Accepts
       (chars_at top [] [] [] (at + length (codes "--" ++ (inner ++ codes "-->")))) b u
-  comment_at fresh mark top at rest h =
-      let m = marked_found fresh mark top [] [] u at rest h in
+  comment_at lex fresh mark top at rest h =
+      let m = marked_found fresh mark top [] [] u lex at rest h in
       (m.inner, m.rest, m.there, m.is, m.later)
 
-  misc_less : (fuel : ℕ) (top : Frame) → RecurMisc fuel top → (at : ℕ) (bytes space rest : List ℕ)
+  misc_less : (lex : Lexes) → (fuel : ℕ) (top : Frame) → RecurMisc fuel top → (at : ℕ) (bytes space rest : List ℕ)
       → length bytes < suc fuel → IsWhite space → bytes ≡ space ++ 60 ∷ rest
       → LessFound false (at + length space) top [] [] u rest (at + length space + 1) → MiscFound top bytes at
-  misc_less fuel top recur at bytes space rest short w there l = elim l.is [
+  misc_less lex fuel top recur at bytes space rest short w there l = elim l.is [
     | inl k ↦ absurd (not_inside k.1)
     | inr (inl k) ↦
-        let c = comment_at false (at + length space) top (at + length space + 1 + 1) l.rest k.1 in
+        let c = comment_at lex false (at + length space) top (at + length space + 1 + 1) l.rest k.1 in
         let p : ℕ = at + length space + 1 + 1 + length (codes "--" ++ (c.0 ++ codes "-->")) in
         let less : length c.1 < fuel = omega (
           arith,
@@ -166,17 +167,19 @@ module _ (u : Element) where
     | inr (inr (inr k)) ↦ record { front = space; is = white space w; ends = inr (rest, there, k) }
   ]
 
-  misc_step : (fuel : ℕ) (top : Frame) → RecurMisc fuel top → (at : ℕ) (bytes : List ℕ) → length bytes < suc fuel
+  misc_step : (lex : Lexes) → (fuel : ℕ) (top : Frame) → RecurMisc fuel top → (at : ℕ) (bytes : List ℕ)
+      → length bytes < suc fuel
       → OuterFound top [] bytes at → MiscFound top bytes at
-  misc_step fuel top recur at bytes short o = elim o.ends [
+  misc_step lex fuel top recur at bytes short o = elim o.ends [
     | inl k ↦ record { front = o.front; is = white o.front o.white; ends = inl k }
-    | inr k ↦ misc_less fuel top recur at bytes o.front k.0 short o.white k.1 (less_found false (at + length
-        o.front) top [] [] u (at + length o.front + 1) k.0 k.2)
+    | inr k ↦ misc_less lex fuel top recur at bytes o.front k.0 short o.white k.1 (less_found false (at + length
+        o.front) top [] [] u lex (at + length o.front + 1) k.0 k.2)
   ]
 
-  misc_found : (fuel : ℕ) (top : Frame) → RecurMisc fuel top
-  misc_found zero top at bytes short h = absurd (omega arith)
-  misc_found (suc fuel) top at bytes short h = misc_step fuel top (misc_found fuel top) at bytes short (outer_found
+  misc_found : (lex : Lexes) → (fuel : ℕ) (top : Frame) → RecurMisc fuel top
+  misc_found lex zero top at bytes short h = absurd (omega arith)
+  misc_found lex (suc fuel) top at bytes short h = misc_step lex fuel top (misc_found lex fuel top) at bytes short
+      (outer_found
       top [] bytes at h)
 
   -- ---- the root, and what follows it
@@ -190,10 +193,11 @@ module _ (u : Element) where
   no_second : (root : Element) → has_room [] (child root none) ≡ true → ⊥
   no_second root e = cc
 
-  after_found : (root : Element) (bytes : List ℕ) (at : ℕ) → Accepts (chars_at (rooted root) [] [] [] at) bytes u
+  after_found : (lex : Lexes) → (root : Element) (bytes : List ℕ) (at : ℕ)
+      → Accepts (chars_at (rooted root) [] [] [] at) bytes u
       → IsMisc bytes × (root ≡ u)
-  after_found root bytes at h =
-      let m = misc_found (suc (length bytes)) (rooted root) at bytes (omega arith) h in
+  after_found lex root bytes at h =
+      let m = misc_found lex (suc (length bytes)) (rooted root) at bytes (omega arith) h in
       elim m.ends [
         | inl k ↦ (subst IsMisc (sym k.0) m.is, only_one root k.1)
         | inr k ↦ absurd (no_second root k.2.room)
@@ -207,12 +211,13 @@ module _ (u : Element) where
     is : IsElement 0 at inner u
     later : IsMisc rest
 
-  root_at : (fresh : Bool) (bytes : List ℕ) (at : ℕ) → TagFound fresh at nothing_open [] [] u bytes (at + 1)
+  root_at : (lex : Lexes) → (fresh : Bool) (bytes : List ℕ) (at : ℕ) → TagFound fresh at nothing_open [] [] u bytes
+      (at + 1)
       → RootFound bytes at
-  root_at fresh bytes at t =
-      let e = element_from u fresh nothing_open [] [] at bytes (length bytes) (content_found u (length bytes)) t
+  root_at lex fresh bytes at t =
+      let e = element_from u fresh nothing_open [] [] at bytes (length bytes) (content_found u lex (length bytes)) t
       (omega arith) in
-      let a = after_found e.first e.rest (at + length e.inner) e.later in
+      let a = after_found lex e.first e.rest (at + length e.inner) e.later in
       record {
         inner = e.inner;
         rest = e.rest;
@@ -234,13 +239,14 @@ module _ (u : Element) where
   no_root : (top : Frame) → top.parts ≡ none → only_child top.parts ≡ Some u → ⊥
   no_root top e h = let x : only_child none ≡ Some u = rw e at h in cc
 
-  body_found : (at : ℕ) (bytes : List ℕ) → Accepts (chars_at nothing_open [] [] [] at) bytes u → BodyFound bytes at
-  body_found at bytes h =
-      let m = misc_found (suc (length bytes)) nothing_open at bytes (omega arith) h in
+  body_found : (lex : Lexes) → (at : ℕ) (bytes : List ℕ) → Accepts (chars_at nothing_open [] [] [] at) bytes u
+      → BodyFound bytes at
+  body_found lex at bytes h =
+      let m = misc_found lex (suc (length bytes)) nothing_open at bytes (omega arith) h in
       elim m.ends [
         | inl k ↦ absurd (no_root nothing_open refl k.1)
         | inr k ↦
-            let r = root_at false k.0 (at + length m.front) k.2 in
+            let r = root_at lex false k.0 (at + length m.front) k.2 in
             record {
               before = m.front;
               inner = r.inner;
@@ -277,9 +283,10 @@ module _ (u : Element) where
         (BodyFound bytes) (omega arith) b;
   }
 
-  declared_body : (bytes : List ℕ) (at : ℕ) → Accepts (plain_at declaring true at nothing_open [] [] [] (at + 1 +
+  declared_body : (lex : Lexes) → (bytes : List ℕ) (at : ℕ) → Accepts
+      (plain_at declaring true at nothing_open [] [] [] (at + 1 +
       1)) bytes u → PrologFound (60 ∷ 63 ∷ bytes) at
-  declared_body bytes at h =
+  declared_body lex bytes at h =
       let n = next (plain_at declaring true at nothing_open [] [] [] (at + 1 + 1)) bytes u (λ _ _. refl) h in
       let place : ℕ = at + 1 + 1 + length n.token in
       let s : State = plain_at declaring true at nothing_open [] [] n.token place in
@@ -290,7 +297,7 @@ module _ (u : Element) where
         there = ap (λ (x : List ℕ). 60 ∷ 63 ∷ x) (n.there ∙ ap (λ k. n.token ++ k ∷ n.rest) (eqb-true n.last 62
             n.stop) ∙ sym (append_assoc n.token (62 ∷ []) n.rest));
         is = declaration_from n.token p.0;
-        later = subst (BodyFound n.rest) (omega (arith, length-append n.token (62 ∷ []))) (body_found (place + 1)
+        later = subst (BodyFound n.rest) (omega (arith, length-append n.token (62 ∷ []))) (body_found lex (place + 1)
             n.rest p.1);
       }
 
@@ -315,18 +322,18 @@ module _ (u : Element) where
       all_place = omega (arith, place, length-append inner (codes "-->" ++ r.before), length-append inner (codes "-->"))
 
   -- behind the first <
-  less_body : (bytes : List ℕ) (at : ℕ) → LessFound true at nothing_open [] [] u bytes (at + 1)
+  less_body : (lex : Lexes) → (bytes : List ℕ) (at : ℕ) → LessFound true at nothing_open [] [] u bytes (at + 1)
       → PrologFound (60 ∷ bytes) at
-  less_body bytes at l = elim l.is [
+  less_body lex bytes at l = elim l.is [
     | inl k ↦ absurd (not_inside k.1)
     | inr (inl k) ↦
-        let c = comment_at true at nothing_open (at + 1 + 1) l.rest k.1 in
+        let c = comment_at lex true at nothing_open (at + 1 + 1) l.rest k.1 in
         let p : ℕ = at + 1 + 1 + length (codes "--" ++ (c.0 ++ codes "-->")) in
         undeclared_body (60 ∷ bytes) at (comment_body (60 ∷ bytes) c.0 c.1 at p (ap (λ (x : List ℕ). 60 ∷ x) (k.0
-        ∙ ap (λ (x : List ℕ). 33 ∷ x) c.2)) c.3 (omega arith) (body_found p c.1 c.4))
-    | inr (inr (inl k)) ↦ subst (λ (x : List ℕ). PrologFound (60 ∷ x) at) (sym k.0) (declared_body l.rest at k.2)
+        ∙ ap (λ (x : List ℕ). 33 ∷ x) c.2)) c.3 (omega arith) (body_found lex p c.1 c.4))
+    | inr (inr (inl k)) ↦ subst (λ (x : List ℕ). PrologFound (60 ∷ x) at) (sym k.0) (declared_body lex l.rest at k.2)
     | inr (inr (inr k)) ↦
-        let r = root_at true bytes at k in
+        let r = root_at lex true bytes at k in
         undeclared_body (60 ∷ bytes) at (record {
           before = [];
           inner = r.inner;
@@ -355,28 +362,29 @@ module _ (u : Element) where
   mark_from [] e = unmarked
   mark_from (b ∷ bytes) e = subst IsMark (sym (same (b ∷ bytes) (0xEF ∷ 0xBB ∷ 0xBF ∷ []) e)) marked
 
-  first_byte : (mark rest : List ℕ) (c at : ℕ) → (is_space c || nat_eq c 60) ≡ true
+  first_byte : (lex : Lexes) → (mark rest : List ℕ) (c at : ℕ) → (is_space c || nat_eq c 60) ≡ true
       → Accepts (counted (at_beginning (plain_at beginning true 0 nothing_open [] [] mark at) c)) rest u
       → IsMark mark × PrologFound (c ∷ rest) at
-  first_byte mark rest c at stop h =
+  first_byte lex mark rest c at stop h =
       let s : State = plain_at beginning true 0 nothing_open [] [] mark at in
       let less_state : State = plain_at less true at nothing_open [] [] [] at in
       let p = passed (is_mark mark) (cond (nat_eq c 60) less_state (calm s)) s rest u h in (
         mark_from mark p.0,
         elim (chosen (nat_eq c 60) less_state (calm s) rest u p.1) [
-          | inl k ↦ subst (λ d. PrologFound (d ∷ rest) at) (sym (eqb-true c 60 k.0)) (less_body rest at (less_found
-              true at nothing_open [] [] u (at + 1) rest k.1))
+          | inl k ↦ subst (λ d. PrologFound (d ∷ rest) at) (sym (eqb-true c 60 k.0)) (less_body lex rest at (less_found
+              true at nothing_open [] [] u lex (at + 1) rest k.1))
           | inr k ↦ elim (or_cases (is_space c) (nat_eq c 60) stop) [
-            | inl e ↦ undeclared_body (c ∷ rest) at (white_body c rest at e (body_found (at + 1) rest k.1))
+            | inl e ↦ undeclared_body (c ∷ rest) at (white_body c rest at e (body_found lex (at + 1) rest k.1))
             | inr e ↦ absurd (true≢false (sym e ∙ k.0))
           ]
         ],
       )
 
-pub document_found : (bytes : List ℕ) (u : Element) → root_of (run start bytes) ≡ Some u → IsDocument bytes u
-document_found bytes u h =
+pub document_found : (lex : Lexes) → (bytes : List ℕ) (u : Element) → root_of (run start bytes) ≡ Some u
+    → IsDocument bytes u
+document_found lex bytes u h =
     let n = next start bytes u (λ _ _. refl) h in
-    let f = first_byte u n.token n.rest n.last (0 + length n.token) n.stop n.later in
+    let f = first_byte u lex n.token n.rest n.last (0 + length n.token) n.stop n.later in
     let p = f.1 in
     let b = p.later in
     subst (λ (x : List ℕ). IsDocument x u) (sym (n.there ∙ ap (λ (x : List ℕ). n.token ++ x) (p.there

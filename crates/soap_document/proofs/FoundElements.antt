@@ -13,6 +13,7 @@ use Rattle.soap_document.proofs.Moves.{Tag, tag_at, between_at, plain_at, chars_
 use Rattle.soap_document.proofs.OnlyElements.{grown}
 use Rattle.soap_document.proofs.TokenFacts.{qname_from, end_from}
 use Rattle.soap_document.proofs.Words.{TextFound, text_found}
+use Rattle.soap_document.proofs.Lexing.{Lexes}
 
 -- ---- behind a <
 
@@ -102,10 +103,10 @@ module _ (fresh : Bool) (mark : ℕ) (top : Frame) (below : List Frame) (x : Lis
         }
   ]
 
-  less_step : (bytes m rest : List ℕ) (c at : ℕ) → bytes ≡ m ++ c ∷ rest
+  less_step : (lex : Lexes) → (bytes m rest : List ℕ) (c at : ℕ) → bytes ≡ m ++ c ∷ rest
       → Accepts (counted (finish less (less_at fresh mark top below x m (at + length m)) c)) rest u
       → LessFound bytes at
-  less_step bytes [] rest c at e h = subst (λ (y : List ℕ). LessFound y at) (sym e) found
+  less_step lex bytes [] rest c at e h = subst (λ (y : List ℕ). LessFound y at) (sym e) found
     where
       s : State
       s = less_at fresh mark top below x [] at
@@ -150,7 +151,7 @@ module _ (fresh : Bool) (mark : ℕ) (top : Frame) (below : List Frame) (x : Lis
                   record { rest = rest; is = inr (inr (inl (ap (λ d. d ∷ rest) (eqb-true c 63 is), first, p.1))) }
             ]
           ]
-  less_step bytes (b ∷ m) rest c at e h =
+  less_step lex bytes (b ∷ m) rest c at e h =
       let name : List ℕ = b ∷ m in
       let s : State = less_at fresh mark top below x name (at + length name) in
       let p = passed (is_qname name && has_room below top.parts) (at_tagging (record (settle s) { name = name }) c)
@@ -159,14 +160,14 @@ module _ (fresh : Bool) (mark : ℕ) (top : Frame) (below : List Frame) (x : Lis
       record {
         rest = [];
         is = inr (inr (inr (tag_ended bytes name rest c at e passes room (attributes_found
-            (tag_here name) u (at + length name) (c ∷ rest) p.1))));
+            (tag_here name) u lex (at + length name) (c ∷ rest) p.1))));
       }
 
-  pub less_found : (at : ℕ) (bytes : List ℕ) → Accepts (less_at fresh mark top below x [] at) bytes u
+  pub less_found : (lex : Lexes) → (at : ℕ) (bytes : List ℕ) → Accepts (less_at fresh mark top below x [] at) bytes u
       → LessFound bytes at
-  less_found at bytes h =
+  less_found lex at bytes h =
       let n = next (less_at fresh mark top below x [] at) bytes u (λ _ _. refl) h in
-      less_step bytes n.token n.rest n.last at n.there n.later
+      less_step lex bytes n.token n.rest n.last at n.there n.later
 
 -- ---- elements and content
 
@@ -384,11 +385,11 @@ module _ (u : Element) where
       element_some (full depth at name tag attributes content parts space d q a c w) = omega arith
       element_some (empty depth at name tag attributes d q a) = omega arith
 
-  pub content_found : (fuel : ℕ) → RecurContent fuel
-  content_found zero top frame frames at bytes short h =
-      let t = text_found top frame frames u bytes at h in
+  pub content_found : (lex : Lexes) → (fuel : ℕ) → RecurContent fuel
+  content_found lex zero top frame frames at bytes short h =
+      let t = text_found top frame frames u lex bytes at h in
       absurd (omega (arith, ap length t.there, length-append t.front (60 ∷ t.rest)))
-  content_found (suc fuel) top frame frames at bytes short h =
-      let t = text_found top frame frames u bytes at h in
-      content_step fuel (content_found fuel) top frame frames at bytes short t (less_found false (at + length
-      t.front) top (frame ∷ frames) t.meaning u (at + length t.front + 1) t.rest t.later)
+  content_found lex (suc fuel) top frame frames at bytes short h =
+      let t = text_found top frame frames u lex bytes at h in
+      content_step fuel (content_found lex fuel) top frame frames at bytes short t (less_found false (at + length
+      t.front) top (frame ∷ frames) t.meaning u lex (at + length t.front + 1) t.rest t.later)

@@ -1,10 +1,9 @@
 -- Tags that the reader took are tags of the grammar.
-use Rattle.std.proofs.Common.{◌≡◌, ◌≢◌, ℕ, suc, ◌+◌, ◌≤◌, ◌⊎◌, inl, inr, List, [], ◌∷◌, ◌++◌, Bool, true, false, ◌||◌, nat_eq, cond, length, refl, sym, ap, ap₂, subst, ◌∙◌, arith, append_assoc, append-nil, length-append}
+use Rattle.std.proofs.Common.{◌≡◌, ◌≢◌, ℕ, suc, ◌+◌, ◌≤◌, ◌⊎◌, inl, inr, List, [], ◌∷◌, ◌++◌, Bool, true, false, ◌||◌, nat_eq, cond, Some, length, refl, sym, ap, ap₂, subst, ◌∙◌, arith, append_assoc, append-nil, length-append}
 use Prim.Native.Nat.{zero}
 use Rattle.std.proofs.lemmas.Bool.{eqb-true, or_cases}
 use Rattle.xml_chars.specs.Classes.{is_space}
-use Rattle.soap_lex.specs.ValueMachine.{begun}
-use Rattle.soap_lex.proofs.ValueRead.{reads_found}
+use Rattle.soap_lex.specs.ValueMachine.{begun, reads}
 use Rattle.soap_lex.specs.Value.{IsValue, double, single, IsInner}
 use Rattle.soap_document.specs.Tree.{Attribute, Element}
 use Rattle.soap_document.specs.Grammar.{IsWhite, IsSpace, IsQName, IsAttributes, end, more}
@@ -15,6 +14,20 @@ use Rattle.soap_document.proofs.FoundComments.{shorter}
 use Rattle.soap_document.proofs.Moves.{At, Tag, tag_at, between_at}
 use Rattle.soap_document.proofs.TokenFacts.{qname_from}
 use Rattle.soap_document.proofs.Values.{value_at, added, tag_read}
+use Rattle.soap_document.proofs.Lexing.{Lexes}
+
+-- what stands before the closing quote
+record FoundInside (quote : ℕ) (bytes meaning rest : List ℕ) : Type 0 where
+  inner : List ℕ
+  there : bytes ≡ inner ++ quote ∷ rest
+  is : IsInner quote inner meaning
+
+found_inside : (lex : Lexes) (quote : ℕ) (bytes meaning rest : List ℕ) → reads (begun quote []) bytes ≡ Some
+    (meaning, rest)
+    → FoundInside quote bytes meaning rest
+found_inside lex quote bytes meaning rest e =
+    let v = lex.value_found quote bytes [] meaning rest e in
+    record { inner = v.0; there = v.2; is = subst (IsInner quote v.0) (sym v.4) v.3 }
 
 module _ (tag : Tag) (u : Element) where
   module _ (attributes : List Attribute) (name : List ℕ) where
@@ -34,13 +47,14 @@ module _ (tag : Tag) (u : Element) where
       there : bytes ≡ right ++ (quoted ++ rest)
       white : IsWhite right
       is : IsValue quoted value
-      later : Accepts (between_at false tag (added tag attributes name value) (at + length right + length quoted)) rest u
+      later : Accepts (between_at false tag (added tag attributes name value)
+          (at + length right + length quoted)) rest u
 
-    quoted_at : (c : ℕ) (bytes : List ℕ) (at : ℕ) → (nat_eq c 34 || nat_eq c 39) ≡ true
+    quoted_at : (lex : Lexes) → (c : ℕ) (bytes : List ℕ) (at : ℕ) → (nat_eq c 34 || nat_eq c 39) ≡ true
         → Accepts (value_at tag attributes name (begun c []) (at + 1)) bytes u → QuotedFound (c ∷ bytes) at
-    quoted_at c bytes at e h =
+    quoted_at lex c bytes at e h =
         let r = tag_read tag attributes name u (begun c []) (at + 1) bytes refl h in
-        let v = reads_found c [] bytes r.meaning r.rest r.is in
+        let v = found_inside lex c bytes r.meaning r.rest r.is in
         record {
           right = [];
           quoted = c ∷ (v.inner ++ c ∷ []);
@@ -50,11 +64,9 @@ module _ (tag : Tag) (u : Element) where
           white = tt;
           is = elim (or_cases (nat_eq c 34) (nat_eq c 39) e) [
             | inl k ↦ let q = eqb-true c 34 k in subst (λ k. IsValue (k ∷ (v.inner ++ k ∷ [])) r.meaning) (sym q)
-                (double v.inner r.meaning (subst (λ k. IsInner k v.inner r.meaning) q (subst (IsInner c v.inner)
-                (sym v.sum) v.is)))
+                (double v.inner r.meaning (subst (λ k. IsInner k v.inner r.meaning) q v.is))
             | inr k ↦ let q = eqb-true c 39 k in subst (λ k. IsValue (k ∷ (v.inner ++ k ∷ [])) r.meaning) (sym q)
-                (single v.inner r.meaning (subst (λ k. IsInner k v.inner r.meaning) q (subst (IsInner c v.inner)
-                (sym v.sum) v.is)))
+                (single v.inner r.meaning (subst (λ k. IsInner k v.inner r.meaning) q v.is))
           ];
           later = subst (λ p. Accepts (between_at false tag (added tag attributes name r.meaning) p) r.rest u) (omega (
             arith,
@@ -65,14 +77,14 @@ module _ (tag : Tag) (u : Element) where
           )) r.later;
         }
 
-    quoted_found : (bytes : List ℕ) (at : ℕ) → Accepts (valuing_at at) bytes u → QuotedFound bytes at
-    quoted_found [] at h = cc
-    quoted_found (c ∷ bytes) at h =
+    quoted_found : (lex : Lexes) → (bytes : List ℕ) (at : ℕ) → Accepts (valuing_at at) bytes u → QuotedFound bytes at
+    quoted_found lex [] at h = cc
+    quoted_found lex (c ∷ bytes) at h =
         let s : State = valuing_at at in
         let run_state : State = value_at tag attributes name (begun c []) at in
         elim (chosen (is_space c) s (cond (nat_eq c 34 || nat_eq c 39) run_state (refuse s)) bytes u h) [
           | inl k ↦
-              let r = quoted_found bytes (at + 1) k.1 in
+              let r = quoted_found lex bytes (at + 1) k.1 in
               record {
                 right = c ∷ r.right;
                 quoted = r.quoted;
@@ -81,9 +93,11 @@ module _ (tag : Tag) (u : Element) where
                 there = ap (λ (x : List ℕ). c ∷ x) r.there;
                 white = (k.0, r.white);
                 is = r.is;
-                later = subst (λ p. Accepts (between_at false tag (added tag attributes name r.value) p) r.rest u) (omega arith) r.later;
+                later = subst (λ p. Accepts (between_at false tag (added tag attributes name r.value) p) r.rest u)
+                    (omega arith) r.later;
               }
-          | inr k ↦ let p = passed (nat_eq c 34 || nat_eq c 39) run_state s bytes u k.1 in quoted_at c bytes at p.0 p.1
+          | inr k ↦ let p = passed (nat_eq c 34 || nat_eq c 39) run_state s bytes u k.1 in quoted_at lex c bytes at
+              p.0 p.1
         ]
 
     record EqualsFound (bytes : List ℕ) (at : ℕ) : Type 0 where
@@ -251,14 +265,15 @@ module _ (tag : Tag) (u : Element) where
         length-append quoted f.front,
       )
 
-  name_ended : (fuel : ℕ) → RecurTag fuel → (space : List ℕ) (before : List Attribute) (at : ℕ) (bytes m rest : List
+  name_ended : (lex : Lexes) → (fuel : ℕ) → RecurTag fuel → (space : List ℕ) (before : List Attribute) (at : ℕ)
+      (bytes m rest : List
       ℕ) (c : ℕ) → IsSpace space → length bytes ≤ suc fuel → bytes ≡ m ++ c ∷ rest
       → is_qname m ≡ true → Accepts (counted (at_named (named_at before m (at + length m)) c)) rest u
       → AttributesFound space before bytes at
-  name_ended fuel recur space before at bytes m rest c s short e passes h =
+  name_ended lex fuel recur space before at bytes m rest c s short e passes h =
       let r = equals_at before m c rest (at + length m) h in
       let p = at + length m + length r.left + 1 in
-      let q = quoted_found before m r.rest p r.later in
+      let q = quoted_found before m lex r.rest p r.later in
       let size : length r.rest ≤ length (c ∷ rest) = omega (
         arith,
         ap length r.there,
@@ -281,11 +296,12 @@ module _ (tag : Tag) (u : Element) where
       (between_found fuel recur (before ++ record { name = m; value = q.value } ∷ []) (p + length q.right + length
       q.quoted) q.rest less q.later)
 
-  naming_step : (fuel : ℕ) → RecurTag fuel → (space : List ℕ) (before : List Attribute) (at : ℕ) (bytes m rest :
+  naming_step : (lex : Lexes) → (fuel : ℕ) → RecurTag fuel → (space : List ℕ) (before : List Attribute) (at : ℕ)
+      (bytes m rest :
       List ℕ) (c : ℕ) → IsSpace space → length bytes ≤ suc fuel → bytes ≡ m ++ c ∷ rest
       → Accepts (counted (finish naming (tag_at naming tag before [] no_value m (at + length m)) c)) rest u
       → AttributesFound space before bytes at
-  naming_step fuel recur space before at bytes [] rest c s short e h = subst (λ (x : List ℕ). AttributesFound space
+  naming_step lex fuel recur space before at bytes [] rest c s short e h = subst (λ (x : List ℕ). AttributesFound space
       before x at) (sym e) (first (is_space c) refl)
     where
       place : ℕ
@@ -305,21 +321,22 @@ module _ (tag : Tag) (u : Element) where
           (between_at false tag before at)) (cond (nat_eq c 47) (tag_at slashed tag before [] no_value [] at)
           (refuse (between_at false tag before at)))))) rest u) f h1))
       first false f = no_more space before c rest at s.white f h1
-  naming_step fuel recur space before at bytes (x ∷ m) rest c s short e h =
+  naming_step lex fuel recur space before at bytes (x ∷ m) rest c s short e h =
       let name : List ℕ = x ∷ m in
       let place : ℕ = at + length name in
       let s1 : State = tag_at naming tag before [] no_value name place in
       let p = passed (is_qname name) (at_named (tag_at naming tag before name no_value [] place) c) s1 rest u h in
-      name_ended fuel recur space before at bytes name rest c s short e p.0 p.1
+      name_ended lex fuel recur space before at bytes name rest c s short e p.0 p.1
 
-  naming_found : (fuel : ℕ) → RecurTag fuel
-  naming_found zero space before at bytes s short h =
+  naming_found : (lex : Lexes) → (fuel : ℕ) → RecurTag fuel
+  naming_found lex zero space before at bytes s short h =
       let n = next (between_at true tag before at) bytes u (λ _ _. refl) h in
       absurd (omega (arith, shorter bytes n.token n.rest n.last n.there))
-  naming_found (suc fuel) space before at bytes s short h =
+  naming_found lex (suc fuel) space before at bytes s short h =
       let n = next (between_at true tag before at) bytes u (λ _ _. refl) h in
-      naming_step fuel (naming_found fuel) space before at bytes n.token n.rest n.last s short n.there n.later
+      naming_step lex fuel (naming_found lex fuel) space before at bytes n.token n.rest n.last s short n.there n.later
 
-  pub attributes_found : (at : ℕ) (bytes : List ℕ) → Accepts (between_at false tag [] at) bytes u
+  pub attributes_found : (lex : Lexes) → (at : ℕ) (bytes : List ℕ) → Accepts (between_at false tag [] at) bytes u
       → AttributesFound [] [] bytes at
-  attributes_found at bytes h = between_found (length bytes) (naming_found (length bytes)) [] at bytes (omega arith) h
+  attributes_found lex at bytes h = between_found (length bytes) (naming_found lex (length bytes)) [] at bytes
+      (omega arith) h

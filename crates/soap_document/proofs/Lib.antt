@@ -7,8 +7,8 @@ pub mod FoundComments
 pub mod FoundDocument
 pub mod FoundElements
 pub mod FoundTags
-pub mod Held
 pub mod Inside
+pub mod Lexing
 pub mod Moves
 pub mod Names
 pub mod Nesting
@@ -17,6 +17,7 @@ pub mod OnlyDocument
 pub mod OnlyElements
 pub mod OnlyTags
 pub mod Places
+pub mod Refused
 pub mod Seeing
 pub mod Steps
 pub mod TokenFacts

@@ -38,9 +38,3 @@ popped stands old new top outer below h e b stood =
     let l = last_of old.names.items new.names.items new.name outer.name (map (λ (frame : Frame). frame.name) below)
     h.names e in
     record { name = l.0; names = l.1; begun = b ∙ h.begun; stands_for = stood }
-
--- where an element is open, there is a name to go back to
-pub no_names : (names : List (List ℕ)) (n : ℕ) (outer : List ℕ) (below : List (List ℕ)) → reverse names ≡ outer ∷ below
-    → n ≡ length names → n ≡ 0 → ⊥
-no_names [] n outer below h size e = cc
-no_names (name ∷ names) n outer below h size e = omega arith

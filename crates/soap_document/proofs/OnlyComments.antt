@@ -4,9 +4,9 @@ use Rattle.std.proofs.lemmas.Bool.{eqb-true}
 use Rattle.soap_lex.specs.Text.{IsComment}
 use Rattle.soap_document.specs.Machine.{marking, commenting, Frame, step, without}
 use Rattle.soap_document.proofs.Moves.{At, Moves, then, byte, one, regroup, retarget, stay, plain_at, chars_at, less_at}
-use Rattle.soap_lex.proofs.EndLemmas.{without-append, comment_open}
-use Rattle.soap_lex.proofs.TextRead.{IsOpen, IsOpen-tail}
-use Rattle.soap_lex.proofs.TestLemmas.{comment_passes}
+use Rattle.soap_lex.specs.Ends.{without-append}
+use Rattle.soap_lex.specs.Ends.{IsOpen, IsOpen-tail}
+use Rattle.soap_document.proofs.Lexing.{Lexes}
 
 module _ (fresh : Bool) (mark : ℕ) (top : Frame) (below : List Frame) (text : List ℕ) where
   abbrev in_comment : List ℕ → At
@@ -32,18 +32,19 @@ module _ (fresh : Bool) (mark : ℕ) (top : Frame) (below : List Frame) (text : 
       (λ p. ap (λ t. in_comment t p) (append_assoc token (c ∷ []) bytes))
       (comment_run (token ++ c ∷ []) bytes (at + 1) (IsOpen-tail (codes "--") token c bytes h)))
 
-  comment_end : (bytes : List ℕ) (at : ℕ) → IsComment bytes → step (in_comment (bytes ++ codes "--") at) 62
+  comment_end : (lex : Lexes) → (bytes : List ℕ) (at : ℕ) → IsComment bytes → step (in_comment (bytes
+      ++ codes "--") at) 62
       ≡ chars_at top below text [] (at + 1)
-  comment_end bytes at h = rw (without-append (codes "--") bytes, comment_passes bytes h)
+  comment_end lex bytes at h = rw (without-append (codes "--") bytes, (lex.comment_test bytes).1 h)
 
   -- behind the < of a comment, up to its end
-  pub comment_moves : (bytes : List ℕ) (at : ℕ) → IsComment bytes
+  pub comment_moves : (lex : Lexes) → (bytes : List ℕ) (at : ℕ) → IsComment bytes
       → Moves at (codes "!--" ++ (bytes ++ codes "-->")) (less_at fresh mark top below text []) (chars_at top below
       text [])
-  comment_moves bytes at h =
-      let inside = comment_run [] (bytes ++ codes "--") (at + 1 + 1 + 1) (λ a b e. comment_open bytes a b h e) in
+  comment_moves lex bytes at h =
+      let inside = comment_run [] (bytes ++ codes "--") (at + 1 + 1 + 1) (λ a b e. lex.comment_end bytes a b h e) in
       let last = one (at + 1 + 1 + 1 + length (bytes ++ codes "--")) 62 (in_comment (bytes ++ codes "--")) (chars_at
-      top below text []) (comment_end bytes (at + 1 + 1 + 1 + length (bytes ++ codes "--")) h) in
+      top below text []) (comment_end lex bytes (at + 1 + 1 + 1 + length (bytes ++ codes "--")) h) in
       byte at 33 (codes "--" ++ (bytes ++ codes "-->")) (less_at fresh mark top below text []) (plain_at marking
       fresh mark top below text []) (chars_at top below text []) refl
       (byte (at + 1) 45 (codes "-" ++ (bytes ++ codes "-->")) (plain_at marking fresh mark top below text [])

@@ -6,12 +6,13 @@ use Rattle.soap_document.specs.Grammar.{IsMisc, white, comment, IsMark, unmarked
 use Rattle.soap_document.specs.Machine.{beginning, declaring, Frame, step, run, start, nothing_open, root_of, is_mark}
 use Rattle.soap_document.specs.Declaration.{is_declaration}
 use Rattle.soap_document.specs.Tokens.{is_white}
-use Rattle.soap_lex.proofs.HeldLemmas.{other}
 use Rattle.soap_document.proofs.Moves.{At, Moves, NoStops, then, byte, one, regroup, stay, kept, plain_at, chars_at, less_at}
 use Rattle.soap_document.proofs.OnlyElements.{element_only}
 use Rattle.soap_document.proofs.OnlyComments.{comment_moves}
 use Rattle.soap_document.proofs.TokenLaws.{white_passes, white_outside}
 use Rattle.soap_document.proofs.Declarations.{Declares, declaration_passes}
+use Rattle.soap_lex.specs.Facts.{other}
+use Rattle.soap_document.proofs.Lexing.{Lexes}
 
 -- outside of the root, text ends in white space
 record MiscEnds (top : Frame) (bytes : List ℕ) (at : ℕ) : Type 0 where
@@ -23,16 +24,16 @@ outer_less : (top : Frame) (token : List ℕ) (at : ℕ) → is_white token ≡ 
     ≡ less_at false at top [] [] [] (at + 1)
 outer_less top token at e = rw e
 
-misc_only : {bytes : List ℕ} → IsMisc bytes → (top : Frame) (at : ℕ) → MiscEnds top bytes at
-misc_only (white space h) top at = record {
+misc_only : (lex : Lexes) → {bytes : List ℕ} → IsMisc bytes → (top : Frame) (at : ℕ) → MiscEnds top bytes at
+misc_only lex (white space h) top at = record {
   token = space;
   is = white_passes space h;
   moves = kept (chars_at top []
       [] [] at) space at (white_outside space h);
 }
-misc_only (comment space inner rest h c m) top at =
+misc_only lex (comment space inner rest h c m) top at =
     let p1 : ℕ = at + length space in
-    let after = misc_only m top (p1 + length (codes "<!--" ++ (inner ++ codes "-->"))) in
+    let after = misc_only lex m top (p1 + length (codes "<!--" ++ (inner ++ codes "-->"))) in
     let target = chars_at top [] [] after.token in
     record {
       token = after.token;
@@ -47,7 +48,7 @@ misc_only (comment space inner rest h c m) top at =
           target
           (byte p1 60 (codes "!--" ++ (inner ++ codes "-->")) (chars_at top [] [] space) (less_at false p1 top [] []
           []) (chars_at top [] [] [])
-          (outer_less top space p1 (white_passes space h)) (comment_moves false p1 top [] [] inner (p1 + 1) c))
+          (outer_less top space p1 (white_passes space h)) (comment_moves false p1 top [] [] lex inner (p1 + 1) c))
           after.moves));
     }
 
@@ -76,10 +77,11 @@ first_white : (mark : List ℕ) (c at : ℕ) → is_mark mark ≡ true → is_sp
     ≡ outer_at [] (at + 1)
 first_white mark c at e w = rw (w, e, other is_space c 60 w refl)
 
-after_white : {bytes : List ℕ} (mark : List ℕ) (c at : ℕ) → is_mark mark ≡ true → is_space c ≡ true → IsMisc bytes
+after_white : (lex : Lexes) → {bytes : List ℕ} (mark : List ℕ) (c at : ℕ) → is_mark mark ≡ true → is_space c ≡ true
+    → IsMisc bytes
     → Starts mark (c ∷ bytes) at
-after_white {bytes} mark c at e w m =
-    let ends = misc_only m nothing_open (at + 1) in
+after_white lex {bytes} mark c at e w m =
+    let ends = misc_only lex m nothing_open (at + 1) in
     record {
       fresh = false;
       before = outer_at ends.token;
@@ -88,18 +90,19 @@ after_white {bytes} mark c at e w m =
           ends.moves;
     }
 
-misc_first : {bytes : List ℕ} → IsMisc bytes → (mark : List ℕ) (at : ℕ) → is_mark mark ≡ true → Starts mark bytes at
-misc_first (white [] h) mark at e = record {
+misc_first : (lex : Lexes) → {bytes : List ℕ} → IsMisc bytes → (mark : List ℕ) (at : ℕ) → is_mark mark ≡ true
+    → Starts mark bytes at
+misc_first lex (white [] h) mark at e = record {
   fresh = true;
   before = beginning_at mark;
   enters = λ p. first_less mark
       p e;
   moves = stay at (beginning_at mark);
 }
-misc_first (white (c ∷ space) h) mark at e = after_white mark c at e h.0 (white space h.1)
-misc_first (comment [] inner rest h c m) mark at e =
+misc_first lex (white (c ∷ space) h) mark at e = after_white lex mark c at e h.0 (white space h.1)
+misc_first lex (comment [] inner rest h c m) mark at e =
     let p1 : ℕ = at + length (codes "<!--" ++ (inner ++ codes "-->")) in
-    let ends = misc_only m nothing_open p1 in
+    let ends = misc_only lex m nothing_open p1 in
     record {
       fresh = false;
       before = outer_at ends.token;
@@ -110,10 +113,11 @@ misc_first (comment [] inner rest h c m) mark at e =
           (then at (codes "<!--" ++ (inner ++ codes "-->")) rest (beginning_at mark) (outer_at []) (outer_at ends.token)
           (byte at 60 (codes "!--" ++ (inner ++ codes "-->")) (beginning_at mark) (less_at true at nothing_open []
           [] []) (outer_at [])
-          (first_less mark at e) (comment_moves true at nothing_open [] [] inner (at + 1) c))
+          (first_less mark at e) (comment_moves true at nothing_open [] [] lex inner (at + 1) c))
           ends.moves);
     }
-misc_first (comment (b ∷ space) inner rest h c m) mark at e = after_white mark b at e h.0 (comment space inner rest
+misc_first lex (comment (b ∷ space) inner rest h c m) mark at e = after_white lex mark b at e h.0
+    (comment space inner rest
     h.1 c m)
 
 abbrev declaring_at : ℕ → List ℕ → At
@@ -134,11 +138,11 @@ declared_moves mark inner at e h passes =
     (one (at + 1 + 1 + length inner) 62 (declaring_at at inner) (outer_at []) (declared_end at inner (at + 1 + 1 +
     length inner) passes))))
 
-starts : (mark declaration before : List ℕ) (at : ℕ) → is_mark mark ≡ true → (declaration
+starts : (lex : Lexes) → (mark declaration before : List ℕ) (at : ℕ) → is_mark mark ≡ true → (declaration
     ≡ []) ⊎ Declares declaration → IsMisc before → Starts mark (declaration ++ before) at
-starts mark declaration before at e (inl none_said) m = rw none_said (misc_first m mark at e)
-starts mark declaration before at e (inr d) m =
-    let ends = misc_only m nothing_open (at + length declaration) in
+starts lex mark declaration before at e (inl none_said) m = rw none_said (misc_first lex m mark at e)
+starts lex mark declaration before at e (inr d) m =
+    let ends = misc_only lex m nothing_open (at + length declaration) in
     record {
       fresh = false;
       before = outer_at ends.token;
@@ -169,12 +173,13 @@ document_bytes : (mark declaration before bytes after : List ℕ)
 document_bytes mark declaration before bytes after = ap (λ (x : List ℕ). mark ++ x) (append_assoc declaration before
     (bytes ++ after))
 
-pub document_only : {bytes : List ℕ} {root : Element} → IsDocument bytes root → root_of (run start bytes) ≡ Some root
-document_only (document mark declaration before bytes root after m d b e a) =
+pub document_only : (lex : Lexes) → {bytes : List ℕ} {root : Element} → IsDocument bytes root
+    → root_of (run start bytes) ≡ Some root
+document_only lex (document mark declaration before bytes root after m d b e a) =
     let at : ℕ = length mark + length declaration + length before in
-    let s = starts mark declaration before (0 + length mark) (mark_passes m) (declaration_passes d) b in
-    let ends = misc_only a (rooted root) (at + length bytes) in
-    let through = element_only e nothing_open [] [] s.fresh s.before (λ _. refl) refl
+    let s = starts lex mark declaration before (0 + length mark) (mark_passes m) (declaration_passes d) b in
+    let ends = misc_only lex a (rooted root) (at + length bytes) in
+    let through = element_only lex e nothing_open [] [] s.fresh s.before (λ _. refl) refl
     (λ c rest _. ap (λ x. run x (c ∷ rest)) (s.enters at)) in
     ap (λ x. root_of (run start x)) (sym (document_bytes mark declaration before bytes after))
     ∙ ap root_of (mark_moves m ((declaration ++ before) ++ (bytes ++ after)) ∙ s.moves (bytes ++ after)
@@ -183,5 +188,6 @@ document_only (document mark declaration before bytes root after m d b e a) =
     ∙ ends.moves [])
     ∙ ended root ends.token (at + length bytes + length after) ends.is
 
-pub one_tree : (bytes : List ℕ) (root other : Element) → IsDocument bytes root → IsDocument bytes other → root ≡ other
-one_tree bytes root other h k = let e = sym (document_only h) ∙ document_only k in cc
+pub one_tree : (lex : Lexes) → (bytes : List ℕ) (root other : Element) → IsDocument bytes root
+    → IsDocument bytes other → root ≡ other
+one_tree lex bytes root other h k = let e = sym (document_only lex h) ∙ document_only lex k in cc

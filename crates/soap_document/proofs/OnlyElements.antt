@@ -3,7 +3,7 @@ use Rattle.std.proofs.Common.{◌≡◌, ℕ, suc, ◌+◌, ◌<◌, ◌⊎◌, 
 use Rattle.std.proofs.lemmas.Bool.{lt-ltb, ne_eqb, true≢false}
 use Rattle.xml_chars.specs.Classes.{is_space}
 use Rattle.soap_lex.specs.TextMachine.{chars}
-use Rattle.soap_lex.proofs.TextRead.{in_mode, text_takes}
+use Rattle.soap_lex.specs.TextMachine.{text_in}
 use Rattle.soap_document.specs.Tree.{Attribute, Element, element, Parts, none, text, child, onto}
 use Rattle.soap_document.specs.Grammar.{IsWhite, IsQName, IsAttributes, end, more, IsElement, full, empty, IsContent, last, start_tag, end_tag, empty_tag, max_depth}
 use Rattle.soap_document.specs.Machine.{no_value, less, ending, slashed, Frame, step, run, join, with_parts, has_room, is_name_end}
@@ -12,6 +12,7 @@ use Rattle.soap_document.proofs.Moves.{At, Moves, place_one, NoStops, then, byte
 use Rattle.soap_document.proofs.OnlyTags.{attributes_only}
 use Rattle.soap_document.proofs.TokenLaws.{qname_passes, qname_some, qname_less, qname_ending, white_ending, end_passes}
 use Rattle.soap_document.proofs.Words.{words_at, words_move, words_less}
+use Rattle.soap_document.proofs.Lexing.{Lexes}
 
 -- ---- parts
 
@@ -121,12 +122,13 @@ module _ (fresh : Bool) (top : Frame) (below : List Frame) (text : List ℕ) (na
   open_step false = refl
 
   -- behind the < of a start tag, up to its end
-  open_moves : Moves (at + 1) (name ++ (tag ++ codes ">")) (less_at fresh at top below text []) (chars_at (frame_at
+  open_moves : (lex : Lexes) → Moves (at + 1) (name ++ (tag ++ codes ">")) (less_at fresh at top below text [])
+      (chars_at (frame_at
       (at + length (start_tag name tag))) (with_parts top (onto text none) ∷ below) [] [])
-  open_moves =
+  open_moves lex =
       let inside = chars_at (frame_at (at + length (start_tag name tag))) (with_parts top (onto text none) ∷ below)
       [] [] in
-      let attrs = attributes_only h here false [] (at + 1 + length name) in
+      let attrs = attributes_only lex h here false [] (at + 1 + length name) in
       let last_one = one p3 62 (between_at attrs.ends_spaced here attributes) inside
       (open_step attrs.ends_spaced ∙ ap (λ k. chars_at (frame_at k) (with_parts top (onto text none) ∷ below) [] []
       (p3 + 1)) (open_place at name tag)) in
@@ -147,11 +149,12 @@ module _ (fresh : Bool) (top : Frame) (below : List Frame) (text : List ℕ) (na
   hollow place = with_parts (with_parts top (onto text none)) (child (element name attributes place place none) none)
 
   -- behind the < of an empty-element tag, up to its end
-  empty_moves : Moves (at + 1) (name ++ (tag ++ codes "/>")) (less_at fresh at top below text []) (chars_at (hollow
+  empty_moves : (lex : Lexes) → Moves (at + 1) (name ++ (tag ++ codes "/>")) (less_at fresh at top below text [])
+      (chars_at (hollow
       (at + length (empty_tag name tag))) below [] [])
-  empty_moves =
+  empty_moves lex =
       let after = chars_at (hollow (at + length (empty_tag name tag))) below [] [] in
-      let attrs = attributes_only h here false [] (at + 1 + length name) in
+      let attrs = attributes_only lex h here false [] (at + 1 + length name) in
       let slash = tag_at slashed here attributes [] no_value [] in
       let last_one = one (p3 + 1) 62 slash after (ap (λ k. chars_at (hollow k) below [] [] (p3 + 1 + 1))
       (empty_place at name tag)) in
@@ -210,12 +213,13 @@ content_place : (at : ℕ) (bytes inner rest : List ℕ) → at + length bytes +
 content_place at bytes inner rest = omega (arith, length-append bytes (inner ++ rest), length-append inner rest)
 
 mutual
-  pub element_only : {depth at : ℕ} {bytes : List ℕ} {u : Element} → IsElement depth at bytes u
+  pub element_only : (lex : Lexes) → {depth at : ℕ} {bytes : List ℕ} {u : Element} → IsElement depth at bytes u
       → (top : Frame) (below : List Frame) (x : List ℕ) (fresh : Bool) (s : At) → (depth < max_depth
       → has_room below top.parts ≡ true) → length below ≡ depth
       → Enters s at fresh top below x
       → Moves at bytes s (chars_at (with_parts (with_parts top (onto x none)) (child u none)) below [] [])
-  element_only (full depth at name tag attributes content parts space d q h c w) top below x fresh s room deep enters =
+  element_only lex (full depth at name tag attributes content parts space d q h c w) top below x fresh s room deep
+      enters =
       let start : ℕ = at + length (start_tag name tag) in
       let settled = with_parts top (onto x none) in
       let frame : Frame = record { name = name; attributes = attributes; start = start; parts = none } in
@@ -229,36 +233,36 @@ mutual
       (full_bytes (start_tag name tag) content name space)
       (then at (start_tag name tag) ((content ++ codes "</") ++ (name ++ (space ++ codes ">"))) s inside after
       (enter_name at name (tag ++ codes ">") s inside fresh top below x enters (qname_some name q) (qname_less name q)
-      (open_moves fresh top below x name tag attributes at q h (room d)))
+      (open_moves fresh top below x name tag attributes at q h (room d) lex))
       (then start (content ++ codes "</") (name ++ (space ++ codes ">")) inside closing after
-      (content_only c frame settled below (ap suc deep))
+      (content_only lex c frame settled below (ap suc deep))
       (close_moves done settled below mark space (start + length (content ++ codes "</")) q w)))
-  element_only (empty depth at name tag attributes d q h) top below x fresh s room deep enters =
+  element_only lex (empty depth at name tag attributes d q h) top below x fresh s room deep enters =
       let start : ℕ = at + length (empty_tag name tag) in
       let after = chars_at (with_parts (with_parts top (onto x none)) (child (element name attributes start start
       none) none)) below [] [] in
       enter_name at name (tag ++ codes "/>") s after fresh top below x enters (qname_some name q) (qname_less name q)
-      (empty_moves fresh top below x name tag attributes at q h (room d))
+      (empty_moves fresh top below x name tag attributes at q h (room d) lex)
 
-  pub content_only : {depth at : ℕ} {bytes : List ℕ} {parts : Parts} → IsContent depth at bytes parts
+  pub content_only : (lex : Lexes) → {depth at : ℕ} {bytes : List ℕ} {parts : Parts} → IsContent depth at bytes parts
       → (top frame : Frame) (frames : List Frame) → length (frame ∷ frames) ≡ depth
       → Moves at (bytes ++ codes "</") (chars_at top (frame ∷ frames) [] []) (ending_at (with_parts top parts) frame
       frames (at + length bytes) [])
-  content_only (last depth at bytes meaning t) top frame frames deep =
-      let ends = text_takes t [] in
+  content_only lex (last depth at bytes meaning t) top frame frames deep =
+      let ends = lex.text_taken _ _ [] t in
       let below = frame ∷ frames in
       let place : ℕ = at + length bytes in
-      let before = words_at top frame frames (in_mode ends.before chars ends.token) in
+      let before = words_at top frame frames (text_in ends.before chars ends.token) in
       let after = ending_at (with_parts top (onto meaning none)) frame frames place [] in
       then at bytes (codes "</") (chars_at top below [] []) before after
-      (words_move top frame frames ends.takes at)
+      (words_move top frame frames ends.takes refl refl at)
       (enter place 47 [] before after false top below meaning (words_less top frame frames [] meaning bytes ends place)
       refl (one (place + 1) 47 (less_at false place top below meaning []) after refl))
-  content_only (more depth at bytes meaning inner first rest parts t e c) top frame frames deep =
-      let ends = text_takes t [] in
+  content_only lex (more depth at bytes meaning inner first rest parts t e c) top frame frames deep =
+      let ends = lex.text_taken _ _ [] t in
       let below = frame ∷ frames in
       let place : ℕ = at + length bytes in
-      let before = words_at top frame frames (in_mode ends.before chars ends.token) in
+      let before = words_at top frame frames (text_in ends.before chars ends.token) in
       let next = with_parts (with_parts top (onto meaning none)) (child first none) in
       let middle = chars_at next below [] [] in
       let mark : ℕ = place + length inner + length rest in
@@ -267,12 +271,12 @@ mutual
       regroup at (bytes ++ (inner ++ (rest ++ codes "</"))) ((bytes ++ (inner ++ rest)) ++ codes "</") (chars_at top
       below [] []) after (content_bytes bytes inner rest)
       (then at bytes (inner ++ (rest ++ codes "</")) (chars_at top below [] []) before after
-      (words_move top frame frames ends.takes at)
+      (words_move top frame frames ends.takes refl refl at)
       (then place inner (rest ++ codes "</") before middle after
-      (element_only e top below meaning false before (has_room_below frame frames top.parts depth deep) deep
+      (element_only lex e top below meaning false before (has_room_below frame frames top.parts depth deep) deep
       (words_less top frame frames [] meaning bytes ends place))
       (retarget (place + length inner) (rest ++ codes "</") middle (ending_at (with_parts next parts) frame frames
       mark []) after
       (λ p. ap₂ (λ (f : Frame) (m : ℕ). ending_at f frame frames m [] p) (grown top meaning first parts)
       (content_place at bytes inner rest))
-      (content_only c next frame frames deep))))
+      (content_only lex c next frame frames deep))))

@@ -1,9 +1,8 @@
 -- The reader takes tags as the grammar has them.
-use Rattle.std.proofs.Common.{◌≡◌, ℕ, ◌+◌, List, [], ◌∷◌, ◌++◌, Bool, true, false, length, codes, nat_eq, refl, sym, ap, append_assoc, append-nil}
+use Rattle.std.proofs.Common.{◌⊎◌, inl, inr, ◌≡◌, ℕ, ◌+◌, List, [], ◌∷◌, ◌++◌, Bool, true, false, length, codes, nat_eq, refl, sym, ap, append_assoc, append-nil}
 use Rattle.xml_chars.specs.Classes.{is_space}
 use Rattle.soap_lex.specs.Value.{IsValue, double, single, IsInner}
 use Rattle.soap_lex.specs.ValueMachine.{begun}
-use Rattle.soap_lex.proofs.ValueRead.{inner_takes}
 use Rattle.soap_document.specs.Tree.{Attribute}
 use Rattle.soap_document.specs.Grammar.{IsWhite, IsSpace, IsQName, IsAttributes, end, more}
 use Rattle.soap_document.specs.Machine.{naming, named, valuing, no_value, step}
@@ -11,6 +10,7 @@ use Rattle.soap_document.specs.Tokens
 use Rattle.soap_document.proofs.Moves.{At, Moves, then, byte, one, regroup, retarget, stay, kept, Tag, tag_at, between_at}
 use Rattle.soap_document.proofs.TokenLaws.{qname_passes, qname_some, qname_naming}
 use Rattle.soap_document.proofs.Values.{value_at, added, tag_moves}
+use Rattle.soap_document.proofs.Lexing.{Lexes}
 
 -- where white space changes nothing
 pub white_moves : (s : At) → ((c at : ℕ) → is_space c ≡ true → step (s at) c ≡ s (at + 1))
@@ -76,27 +76,31 @@ module _ (tag : Tag) (attributes : List Attribute) where
 
     -- ---- a value
 
-    inner_moves : (quote : ℕ) (inner value : List ℕ) (at : ℕ) → nat_eq quote 38 ≡ false → IsInner quote inner value
+    inner_moves : (lex : Lexes) → (quote : ℕ) (inner value : List ℕ) (at : ℕ) → (quote ≡ 34) ⊎ (quote ≡ 39)
+        → IsInner quote inner value
         → Moves at (inner ++ quote ∷ []) (value_at tag attributes name (begun quote []))
         (between_at false tag (added tag attributes name value))
-    inner_moves quote inner value at f h rest =
-        tag_moves tag attributes name (inner_takes quote h [] f) refl refl at rest
+    inner_moves lex quote inner value at f h rest =
+        tag_moves tag attributes name (lex.value_taken quote inner value [] f h) refl refl at rest
 
-    quoted_only : {quoted value : List ℕ} → IsValue quoted value → (at : ℕ)
+    quoted_only : (lex : Lexes) → {quoted value : List ℕ} → IsValue quoted value → (at : ℕ)
         → Moves at quoted valuing_at (between_at false tag (added tag attributes name value))
-    quoted_only (double inner value h) at =
+    quoted_only lex (double inner value h) at =
         byte at 34 (inner ++ 34 ∷ []) valuing_at (value_at tag attributes name (begun 34 []))
-        (between_at false tag (added tag attributes name value)) refl (inner_moves 34 inner value (at + 1) refl h)
-    quoted_only (single inner value h) at =
+        (between_at false tag (added tag attributes name value)) refl (inner_moves lex 34 inner value (at + 1)
+        (inl refl) h)
+    quoted_only lex (single inner value h) at =
         byte at 39 (inner ++ 39 ∷ []) valuing_at (value_at tag attributes name (begun 39 []))
-        (between_at false tag (added tag attributes name value)) refl (inner_moves 39 inner value (at + 1) refl h)
+        (between_at false tag (added tag attributes name value)) refl (inner_moves lex 39 inner value (at + 1)
+        (inr refl) h)
 
   -- an attribute, and the white space before it
-  attribute_only : (spaced : Bool) (space name left right quoted value : List ℕ) (at : ℕ) → IsSpace space
+  attribute_only : (lex : Lexes) → (spaced : Bool) (space name left right quoted value : List ℕ) (at : ℕ)
+      → IsSpace space
       → IsQName name → IsWhite left → IsWhite right → IsValue quoted value
       → Moves at (space ++ (name ++ ((left ++ codes "=") ++ (right ++ quoted)))) (between_at spaced tag attributes)
       (between_at false tag (attributes ++ record { name = name; value = value } ∷ []))
-  attribute_only spaced space name left right quoted value at s q l r v =
+  attribute_only lex spaced space name left right quoted value at s q l r v =
       let naming_at = between_at true tag attributes in
       let after = between_at false tag (attributes ++ record { name = name; value = value } ∷ []) in
       let p1 = at + length space in
@@ -110,7 +114,7 @@ module _ (tag : Tag) (attributes : List Attribute) where
       p2 q l)
       (then p3 right quoted (valuing_at name) (valuing_at name) after (white_moves (valuing_at name) (valuing_space
       name) right p3 r)
-      (quoted_only name v (p3 + length right)))))
+      (quoted_only name lex v (p3 + length right)))))
 
 -- the attributes of a tag, up to what ends it
 pub record AttributesEnd (tag : Tag) (spaced : Bool) (before : List Attribute) (bytes : List ℕ) (attributes : List
@@ -118,27 +122,27 @@ pub record AttributesEnd (tag : Tag) (spaced : Bool) (before : List Attribute) (
   pub ends_spaced : Bool
   pub moves : Moves at bytes (between_at spaced tag before) (between_at ends_spaced tag (before ++ attributes))
 
-pub attributes_only : {bytes : List ℕ} {attributes : List Attribute} → IsAttributes bytes attributes
+pub attributes_only : (lex : Lexes) → {bytes : List ℕ} {attributes : List Attribute} → IsAttributes bytes attributes
     → (tag : Tag) (spaced : Bool) (before : List Attribute) (at : ℕ)
     → AttributesEnd tag spaced before bytes attributes at
-attributes_only (end [] h) tag spaced before at = record {
+attributes_only lex (end [] h) tag spaced before at = record {
   ends_spaced = spaced;
   moves = retarget at [] (between_at spaced tag before) (between_at spaced tag before) (between_at spaced tag
       (before ++ []))
       (λ p. ap (λ (xs : List Attribute). between_at spaced tag xs p) (sym (append-nil before))) (stay at (between_at
       spaced tag before));
 }
-attributes_only (end (c ∷ space) h) tag spaced before at = record {
+attributes_only lex (end (c ∷ space) h) tag spaced before at = record {
   ends_spaced = true;
   moves = retarget at (c ∷ space) (between_at spaced tag before) (between_at true tag before) (between_at true tag
       (before ++ []))
       (λ p. ap (λ (xs : List Attribute). between_at true tag xs p) (sym (append-nil before)))
       (space_moves tag before spaced (c ∷ space) at (record { white = h; some = λ e. cc }));
 }
-attributes_only (more space name left right quoted value rest attributes s q l r v h) tag spaced before at =
+attributes_only lex (more space name left right quoted value rest attributes s q l r v h) tag spaced before at =
     let mine : Attribute = record { name = name; value = value } in
     let front : List ℕ = space ++ (name ++ ((left ++ codes "=") ++ (right ++ quoted))) in
-    let after = attributes_only h tag false (before ++ mine ∷ []) (at + length front) in
+    let after = attributes_only lex h tag false (before ++ mine ∷ []) (at + length front) in
     let target = between_at after.ends_spaced tag (before ++ mine ∷ attributes) in
     record {
       ends_spaced = after.ends_spaced;
@@ -146,7 +150,7 @@ attributes_only (more space name left right quoted value rest attributes s q l r
           (between_at spaced tag before) target
           (grouped space name left right quoted rest)
           (then at front rest (between_at spaced tag before) (between_at false tag (before ++ mine ∷ [])) target
-          (attribute_only tag before spaced space name left right quoted value at s q l r v)
+          (attribute_only tag before lex spaced space name left right quoted value at s q l r v)
           (retarget (at + length front) rest (between_at false tag (before ++ mine ∷ [])) (between_at
           after.ends_spaced tag ((before ++ mine ∷ []) ++ attributes)) target
           (λ p. ap (λ (xs : List Attribute). between_at after.ends_spaced tag xs p) (append_assoc before (mine ∷ [])

@@ -1,6 +1,7 @@
 -- A byte that ends a token leaves the count of bytes as it is, and each byte that is read is counted.
 use Rattle.std.proofs.Common.{◌≡◌, ℕ, ◌+◌, List, Bool, true, false, cond, Option, Some, None, [], ◌∷◌, ◌++◌, refl, ap, ◌∙◌}
-use Rattle.soap_document.specs.Machine.{Mode, beginning, declaring, outside, marking, commenting, chars, less, tagging, naming, named, valuing, value_inner, slashed, ending, refused, Frame, State, stops, finish, step, refuse, after_value, at_value, at_tagging, at_named, at_commenting, at_chars, at_less, in_less, closed}
+use Rattle.soap_document.specs.Machine.{Mode, beginning, declaring, outside, marking, commenting, chars, less, tagging, naming, named, valuing, value_inner, slashed, ending, refused, Frame, State, stops, finish, step, refuse, after_text, after_value, at_value, at_tagging, at_named, at_commenting, at_chars, at_less, in_less, closed}
+use Rattle.soap_lex.specs.TextMachine.{halts as text_halts, is_less, step as text_step}
 use Rattle.soap_lex.specs.ValueMachine.{halts, step as value_step}
 
 on_cond : (t : Bool) (x y : State) → (cond t x y).at ≡ cond t x.at y.at
@@ -27,8 +28,13 @@ less-at s c = simp (on_cond, same_cond)
 pub in_less-at : (s : State) (c : ℕ) → (in_less s c).at ≡ s.at
 in_less-at s c = simp (on_cond, same_cond)
 
+pub after_text-at : (s : State) → (after_text s).at ≡ s.at
+after_text-at s = simp (on_cond, same_cond)
+
 pub chars-at : (s : State) (c : ℕ) → (at_chars s c).at ≡ s.at
-chars-at s c = simp (on_cond, same_cond)
+chars-at s c =
+    let next : State = record s { words = text_step s.words c } in
+    simp (on_cond, same_cond, after_text-at next)
 
 closed-at : (frames : List Frame) (s : State) → (closed frames s).at ≡ s.at
 closed-at [] s = refl

@@ -1,7 +1,7 @@
 -- What a reader stands for, from what its scanner and its nest stand for.
-use Rattle.std.proofs.Common.{◌≡◌, ℕ, ◌+◌, ◌-◌, length, take, drop, List, Result, Ok, Err, OnOk, IfOk, refl, sym, ap, subst, ◌∙◌}
+use Rattle.std.proofs.Common.{◌≡◌, ℕ, ◌+◌, ◌-◌, ◌≤◌, length, take, drop, List, Result, Ok, Err, OnOk, IfOk, refl, sym, ap, subst, ◌∙◌, arith, length-drop}
 use Rattle.soap_document.specs.Machine.{Frame, State, counted, run}
-use Rattle.soap_document.specs.Seen.{seen, Holds, Sees, Taken, TakenBy}
+use Rattle.soap_document.specs.Seen.{seen, Holds, IsTold, fed_len, Sees, Taken, TakenBy}
 use Rattle.soap_document.proofs.Answer.{take_rest}
 use Rattle.soap_document.proofs.Fed.{on_ok}
 use Rattle.soap_document.specs.declared.scan.Scan.{Scan}
@@ -72,7 +72,7 @@ pub record Goes {H : Type 0} (stands : H → Frame → List Frame → Type 0) (s
   pub meaning : run state rest ≡ run s piece
   pub place : state.at + length rest ≡ s.at + length piece
 
-pub goes_on : {H : Type 0} (stands : H → Frame → List Frame → Type 0) (s : State) (piece : List ℕ) (old new : Reader H)
+goes_on : {H : Type 0} (stands : H → Frame → List Frame → Type 0) (s : State) (piece : List ℕ) (old new : Reader H)
     (rest : List ℕ) (n : ℕ) (was : Goes stands s piece old rest) → TakenBy stands was.state new rest n
     → Goes stands s piece new (take (length rest - n) (drop n rest))
 goes_on stands s piece old new rest n was took =
@@ -83,3 +83,30 @@ goes_on stands s piece old new rest n was took =
       meaning = ap (run took.state) left ∙ took.taken.meaning ∙ was.meaning;
       place = ap (λ (x : List ℕ). took.state.at + length x) left ∙ took.taken.place ∙ was.place;
     }
+
+-- so much of a piece was taken by a reader, which is told of the open elements as before
+pub record Going {H : Type 0} (stands : H → Frame → List Frame → Type 0) (depth : H → ℕ) (old : Reader H)
+    (piece : List ℕ) (r : Reader H) (rest : List ℕ) : Type 0 where
+  pub told : IsTold depth r
+  pub place : fed_len r + length rest ≡ fed_len old + length piece
+  pub goes : (s : State) → Sees stands old s → Goes stands s piece r rest
+
+pub starts : {H : Type 0} (stands : H → Frame → List Frame → Type 0) (depth : H → ℕ) (r : Reader H) (piece : List ℕ)
+    → IsTold depth r → Going stands depth r piece r piece
+starts stands depth r piece told = record {
+  told = told;
+  place = refl;
+  goes = λ s h. record { state = s; sees = h; meaning = refl; place = refl };
+}
+
+pub goes_further : {H : Type 0} (stands : H → Frame → List Frame → Type 0) (depth : H → ℕ) (first : Reader H)
+    (piece : List ℕ) (old new : Reader H) (rest : List ℕ) (n : ℕ) → Going stands depth first piece old rest
+    → IsTold depth new → n ≤ length rest → fed_len new ≡ fed_len old + n
+    → ((s : State) → Sees stands old s → TakenBy stands s new rest n)
+    → Going stands depth first piece new (take (length rest - n) (drop n rest))
+goes_further stands depth first piece old new rest n was told high place took = record {
+  told = told;
+  place = omega (arith, ap (λ (x : List ℕ). length x) (take_rest n rest), length-drop n rest, was.place, place, high);
+  goes = λ s h. let before = was.goes s h in goes_on stands s piece old new rest n before
+      (took before.state before.sees);
+}

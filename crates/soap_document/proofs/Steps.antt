@@ -20,10 +20,6 @@ nil_len (x ∷ xs) = ne_eqb (suc (length xs)) 0 (λ e. omega arith)
 pub not_nil : {A : Type 0} (xs : List A) (n : ℕ) → n ≡ length xs → nat_eq n 0 ≡ false → is_nil xs ≡ false
 not_nil xs n e h = sym (nil_len xs) ∙ ap (λ k. nat_eq k 0) (sym e) ∙ h
 
-pub nil_from_len : {A : Type 0} (xs : List A) (n : ℕ) → n ≡ length xs → nat_eq n 0 ≡ true → xs ≡ []
-nil_from_len [] n e h = refl
-nil_from_len (x ∷ xs) n e h = absurd (omega (arith, e, eqb-true n 0 h))
-
 pub join-none : (ps : Parts) → join ps none ≡ ps
 join-none none = refl
 join-none (text x ps) = ap (text x) (join-none ps)
@@ -31,7 +27,8 @@ join-none (child u ps) = ap (child u) (join-none ps)
 
 pub settled_empty : (s : State) → s.words.text ≡ [] → record s { words = begun_text [] } ≡ settle s
 settled_empty s e =
-    ap (λ (k : Parts). record s { top = record s.top { parts = k }; words = begun_text [] }) (sym (join-none s.top.parts))
+    ap (λ (k : Parts). record s { top = record s.top { parts = k }; words = begun_text [] }) (sym
+    (join-none s.top.parts))
     ∙ ap (λ (x : List ℕ). record s { top = with_parts s.top (onto x none); words = begun_text [] }) (sym e)
 
 quote_bytes : (quote : Quote) → (nat_eq (quote_byte quote) 34 || nat_eq (quote_byte quote) 39) ≡ true

@@ -5,9 +5,9 @@ use Rattle.xml_chars.specs.Classes.{is_space}
 use Rattle.soap_document.specs.Grammar.{IsWhite, IsQName, unprefixed, prefixed}
 use Rattle.soap_document.specs.Machine.{is_end}
 use Rattle.soap_document.specs.Tokens.{is_white, is_name, is_qname, cut}
-use Rattle.soap_lex.proofs.HeldLemmas.{all_from_passes}
-use Rattle.soap_document.proofs.Held.{cut_from}
 use Rattle.soap_document.proofs.Names.{IsName-from}
+use Rattle.soap_document.specs.Cuts.{cut_from}
+use Rattle.soap_lex.specs.Facts.{all_from_passes}
 
 pub white_from : (bytes : List ℕ) → is_white bytes ≡ true → IsWhite bytes
 white_from bytes e = all_from_passes is_space bytes e

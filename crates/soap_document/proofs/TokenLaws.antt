@@ -7,11 +7,11 @@ use Rattle.xml_chars.specs.Classes.{is_space}
 use Rattle.soap_document.specs.Grammar.{IsWhite, IsQName, unprefixed, prefixed}
 use Rattle.soap_document.specs.Machine.{outside, less, naming, ending, stops, is_end}
 use Rattle.soap_document.specs.Tokens.{is_nil, is_white, is_qname}
-use Rattle.soap_lex.proofs.HeldLemmas.{all_passes, all_weaker, other}
-use Rattle.soap_document.proofs.Held.{all_append, cut_none, cut-append}
 use Rattle.soap_document.proofs.Moves.{NoStops}
-use Rattle.soap_lex.proofs.ReferenceTests.{not_nil}
-use Rattle.soap_document.proofs.Names.{name_passes, IsNameByte, name_bytes, name_some}
+use Rattle.soap_document.proofs.Names.{name_passes, name_some}
+use Rattle.soap_document.specs.Cuts.{cut_none, cut-append}
+use Rattle.soap_lex.specs.Facts.{all_passes, all_weaker, other, not_nil}
+use Rattle.soap_lex.specs.NameBytes.{all_append, IsNameByte, name_bytes}
 
 -- ---- what the grammar has passes the tests, and no byte of it ends a token
 

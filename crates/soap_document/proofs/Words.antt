@@ -1,55 +1,114 @@
 -- How the reader of documents reads text within an element: as the machine of text does.
 use Rattle.std.proofs.Common.{◌≡◌, ℕ, ◌+◌, ◌-◌, ◌<◌, List, [], ◌∷◌, ◌++◌, Bool, true, false, cond, nat_eq, codes, Some, length, refl, sym, ap, subst, ◌∙◌, arith, length-append}
+use Rattle.std.proofs.lemmas.Bool.{true≢false}
 use Rattle.soap_lex.specs.Text.{IsText}
-use Rattle.soap_lex.specs.TextMachine.{TextMode, chars as in_run, referring, opening, commenting, quoting, refused, TextState, begun, stops as text_stops, halts_in, halts, is_less_in, is_less, step as text_step, to_stop, run as text_run, ended_in, ended, with_rest, reads}
-use Rattle.soap_lex.proofs.HeldLemmas.{same}
-use Rattle.soap_lex.proofs.TextFound.{reads_found}
-use Rattle.soap_lex.proofs.TextRead.{Takes, stay as stays, on, in_mode, TextEnds}
+use Rattle.soap_lex.specs.TextMachine.{TextMode, chars as in_run, referring, opening, commenting, quoting, refused, TextState, begun, stops as text_stops, halts_in, halts, is_less_in, is_less, step as text_step, is_refused, longer as longer_text, to_stop, run as text_run, ended_in, ended, with_rest, reads}
+use Rattle.soap_lex.specs.TextMachine.{text_in as in_mode}
 use Rattle.soap_document.specs.Tree.{Element}
-use Rattle.soap_document.specs.Machine.{no_value, chars, Frame, State, step, run, refuse, counted, in_less}
-use Rattle.soap_document.proofs.Accepts.{Accepts, passed}
-use Rattle.soap_document.proofs.Moves.{At, Moves, stay, byte, less_at}
+use Rattle.soap_document.specs.Machine.{no_value, chars, Frame, State, step, run, refuse, counted, after_text, in_less}
+use Rattle.soap_document.proofs.Accepts.{Accepts, passed, refused_never}
+use Rattle.soap_document.proofs.Moves.{At, Moves, less_at}
+use Rattle.soap_lex.specs.Facts.{same}
+use Rattle.soap_lex.specs.TextMachine.{Takes, stay as stays, on, TextEnds}
+use Rattle.soap_document.proofs.Lexing.{Lexes}
+
+-- text that was refused is not read on
+pub refused_halts : (mode : TextMode) (token : List ℕ) → is_refused mode ≡ true → halts_in mode token ≡ true
+refused_halts in_run token e = cc
+refused_halts referring token e = cc
+refused_halts opening token e = cc
+refused_halts commenting token e = cc
+refused_halts quoting token e = cc
+refused_halts refused token e = refl
+
+pub open_text : (s : State) → is_refused s.words.mode ≡ false → after_text s ≡ s
+open_text s e = rw e
+
+pub refused_text : (s : State) → is_refused s.words.mode ≡ true → after_text s ≡ refuse s
+refused_text s e = rw e
 
 -- within text, all else as it is
 module _ (base : State) where
   abbrev pub within : TextState → ℕ → State
   within w at = record base { mode = chars; words = w; at = at }
 
-  pub text_next : (w : TextState) (at c : ℕ) → halts w c ≡ false → step (within w at) c ≡ within (text_step w c) (at + 1)
-  text_next w at c e = rw e
+  -- the state behind a byte that was read
+  abbrev pub behind : TextState → ℕ → State
+  behind w at = after_text (within w at)
+
+  behind_open : (w : TextState) (at : ℕ) → is_refused w.mode ≡ false → behind w at ≡ within w at
+  behind_open w at e = open_text (within w at) e
+
+  behind_refused : (w : TextState) (at : ℕ) → is_refused w.mode ≡ true → behind w at ≡ refuse (within w at)
+  behind_refused w at e = refused_text (within w at) e
+
+  counted_behind : (w : TextState) (at : ℕ) (t : Bool) → is_refused w.mode ≡ t
+      → counted (behind w at) ≡ behind w (at + 1)
+  counted_behind w at true e = rw e
+  counted_behind w at false e = rw e
+
+  pub text_next : (w : TextState) (at c : ℕ) → halts w c ≡ false → step (within w at) c ≡ behind (text_step w c)
+      (at + 1)
+  text_next w at c e =
+      let first : step (within w at) c ≡ counted (behind (text_step w c) at) = rw e in
+      first ∙ counted_behind (text_step w c) at (is_refused (text_step w c).mode) refl
+
+  -- what the grammar has
+  moved : {v w : TextState} {bytes : List ℕ} → Takes v bytes w → (t : Bool) → is_refused v.mode ≡ t
+      → (at : ℕ) (rest : List ℕ) → run (behind v at) (bytes ++ rest) ≡ run (behind w (at + length bytes)) rest
+  moved (stays s) t e at rest = ap (λ p. run (behind s p) rest) (omega arith)
+  moved (on s c bytes w h m) true e at rest = absurd (true≢false (sym (refused_halts s.mode (s.token ++ c ∷ []) e) ∙ h))
+  moved (on s c bytes w h m) false e at rest =
+      let next = text_step s c in
+      ap (λ x. run x (c ∷ (bytes ++ rest))) (behind_open s at e) ∙ ap (λ x. run x (bytes ++ rest)) (text_next s at c h)
+      ∙ moved m (is_refused next.mode) refl (at + 1) rest ∙ ap (λ p. run (behind w p) rest) (omega arith)
+
+  pub text_moves : {v w : TextState} {bytes : List ℕ} → Takes v bytes w → is_refused v.mode ≡ false
+      → is_refused w.mode ≡ false → (at : ℕ) (rest : List ℕ)
+      → run (within v at) (bytes ++ rest) ≡ run (within w (at + length bytes)) rest
+  text_moves {v} {w} {bytes} m e f at rest =
+      ap (λ x. run x (bytes ++ rest)) (sym (behind_open v at e)) ∙ moved m false e at rest
+      ∙ ap (λ x. run x rest) (behind_open w (at + length bytes) f)
 
   -- what a piece does, up to the end of a token
   fed_on : (v w : TextState) (c : ℕ) (bytes rest : List ℕ) (q p : ℕ) (a b : Bool) → halts v c ≡ a
-      → text_stops v.mode c ≡ b → to_stop v (c ∷ bytes) ≡ (w, rest) → p + length rest ≡ q + length (c ∷ bytes)
-      → (to_stop (text_step v c) bytes ≡ (w, rest) → p + length rest ≡ q + 1 + length bytes
-      → run (within (text_step v c) (q + 1)) bytes ≡ run (within w p) rest)
-      → run (within v q) (c ∷ bytes) ≡ run (within w p) rest
-  fed_on v w c bytes rest q p true b e f fed place later =
+      → text_stops v.mode c ≡ b → is_refused v.mode ≡ false → to_stop v (c ∷ bytes) ≡ (w, rest)
+      → p + length rest ≡ q + length (c ∷ bytes)
+      → (to_stop (longer_text v (c ∷ [])) bytes ≡ (w, rest) → p + length rest ≡ q + 1 + length bytes
+      → run (within (longer_text v (c ∷ [])) (q + 1)) bytes ≡ run (behind w p) rest)
+      → run (within v q) (c ∷ bytes) ≡ run (behind w p) rest
+  fed_on v w c bytes rest q p true b e f runs fed place later =
       let halted : to_stop v (c ∷ bytes) ≡ (v, c ∷ bytes) = rw e in
       let ends : (v, c ∷ bytes) ≡ (w, rest) = sym halted ∙ fed in
       let size : length (c ∷ bytes) ≡ length rest = ap (λ (x : TextState × List ℕ). length x.1) ends in
       let here : q ≡ p = omega (arith, place, size) in
-      ap (λ (x : TextState × List ℕ). run (within x.0 q) x.1) ends ∙ ap (λ k. run (within w k) rest) here
-  fed_on v w c bytes rest q p false true e f fed place later =
+      ap (λ x. run x (c ∷ bytes)) (sym (behind_open v q runs))
+      ∙ ap (λ (x : TextState × List ℕ). run (behind x.0 q) x.1) ends ∙ ap (λ k. run (behind w k) rest) here
+  fed_on v w c bytes rest q p false true e f runs fed place later =
       let stopped : to_stop v (c ∷ bytes) ≡ (text_step v c, bytes) = rw (e, f) in
       let ends : (text_step v c, bytes) ≡ (w, rest) = sym stopped ∙ fed in
       let size : length bytes ≡ length rest = ap (λ (x : TextState × List ℕ). length x.1) ends in
       let here : q + 1 ≡ p = omega (arith, place, size) in
-      ap (λ x. run x bytes) (text_next v q c e) ∙ ap (λ (x : TextState × List ℕ). run (within x.0 (q + 1)) x.1) ends
-      ∙ ap (λ k. run (within w k) rest) here
-  fed_on v w c bytes rest q p false false e f fed place later =
+      ap (λ x. run x bytes) (text_next v q c e) ∙ ap (λ (x : TextState × List ℕ). run (behind x.0 (q + 1)) x.1) ends
+      ∙ ap (λ k. run (behind w k) rest) here
+  fed_on v w c bytes rest q p false false e f runs fed place later =
+      let kept : text_step v c ≡ longer_text v (c ∷ []) = rw f in
       let unstopped : to_stop v (c ∷ bytes) ≡ to_stop (text_step v c) bytes = rw (e, f) in
-      ap (λ x. run x bytes) (text_next v q c e) ∙ later (sym unstopped ∙ fed) (omega (arith, place))
+      let next : to_stop (longer_text v (c ∷ [])) bytes ≡ (w, rest) =
+      ap (λ x. to_stop x bytes) (sym kept) ∙ sym unstopped ∙ fed in
+      ap (λ x. run x bytes) (text_next v q c e ∙ ap (λ x. behind x (q + 1)) kept
+      ∙ behind_open (longer_text v (c ∷ [])) (q + 1) runs) ∙ later next (omega (arith, place))
 
-  pub fed : (v w : TextState) (bytes rest : List ℕ) (q p : ℕ) → to_stop v bytes ≡ (w, rest)
-      → p + length rest ≡ q + length bytes → run (within v q) bytes ≡ run (within w p) rest
-  fed v w [] rest q p e place =
+  pub fed : (v w : TextState) (bytes rest : List ℕ) (q p : ℕ) → is_refused v.mode ≡ false → to_stop v bytes ≡ (w, rest)
+      → p + length rest ≡ q + length bytes → run (within v q) bytes ≡ run (behind w p) rest
+  fed v w [] rest q p runs e place =
       let size : length {A = ℕ} [] ≡ length rest = ap (λ (x : TextState × List ℕ). length x.1) e in
       let here : q ≡ p = omega (arith, place, size) in
-      ap (λ (x : TextState × List ℕ). run (within x.0 q) x.1) e ∙ ap (λ k. run (within w k) rest) here
-  fed v w (c ∷ bytes) rest q p e place =
-      fed_on v w c bytes rest q p (halts v c) (text_stops v.mode c) refl refl e place
-      (λ g at. fed (text_step v c) w bytes rest (q + 1) p g at)
+      ap (λ x. run x []) (sym (behind_open v q runs))
+      ∙ ap (λ (x : TextState × List ℕ). run (behind x.0 q) x.1) e ∙ ap (λ k. run (behind w k) rest) here
+  fed v w (c ∷ bytes) rest q p runs e place =
+      fed_on v w c bytes rest q p (halts v c) (text_stops v.mode c) refl refl runs e place
+      (λ g at. fed (longer_text v (c ∷ [])) w bytes rest (q + 1) p runs g at)
 
 -- ---- where text ends
 
@@ -110,12 +169,9 @@ module _ (top frame : Frame) (frames : List Frame) where
 
   -- ---- what the grammar has
 
-  pub words_move : {v w : TextState} {bytes : List ℕ} → Takes v bytes w → (at : ℕ)
-      → Moves at bytes (words_at v) (words_at w)
-  words_move (stays s) at = stay at (words_at s)
-  words_move (on s c bytes t h m) at =
-      byte at c bytes (words_at s) (words_at (text_step s c)) (words_at t) (text_next (words_at s at) s at c h)
-      (words_move m (at + 1))
+  pub words_move : {v w : TextState} {bytes : List ℕ} → Takes v bytes w → is_refused v.mode ≡ false
+      → is_refused w.mode ≡ false → (at : ℕ) → Moves at bytes (words_at v) (words_at w)
+  words_move {v} m e f at rest = text_moves (words_at v at) m e f at rest
 
   -- behind text, a < that no ! follows
   pub words_less : (text meaning bytes : List ℕ) (ends : TextEnds text bytes meaning) (at c : ℕ) (rest : List ℕ)
@@ -130,7 +186,7 @@ module _ (top frame : Frame) (frames : List Frame) where
       let second : step (words_at w (at + 1)) c
       ≡ step (less_at false (at + 1 - 1) top below (text ++ meaning) [] (at + 1)) c = rw e in
       let place : at + 1 - 1 ≡ at = omega arith in
-      ap (λ x. run x (c ∷ rest)) (ap (λ x. words_at x (at + 1)) first) ∙ ap (λ x. run x rest) second
+      ap (λ x. run x (c ∷ rest)) (ap (λ x. counted (after_text (words_at x at))) first) ∙ ap (λ x. run x rest) second
       ∙ ap (λ m. run (less_at false m top below (text ++ meaning) [] (at + 1)) (c ∷ rest)) place
 
   -- ---- what is read
@@ -145,8 +201,22 @@ module _ (top frame : Frame) (frames : List Frame) where
       plain_rest : (after : List ℕ) → rest ≡ 33 ∷ after → ⊥
       later : Accepts (less_at false place top below meaning [] (place + 1)) rest u
 
+    abbrev behind_at : TextState → ℕ → State
+    behind_at w at = after_text (words_at w at)
+
+    -- what is read behind a byte, where it was not refused
+    behind_read : (w : TextState) (at : ℕ) (bytes : List ℕ) (t : Bool) → is_refused w.mode ≡ t
+        → (Accepts (words_at w at) bytes u → WordsRead w bytes at) → Accepts (behind_at w at) bytes u
+        → WordsRead w bytes at
+    behind_read w at bytes true e recur h =
+        absurd (refused_never (words_at w at) bytes u (subst (λ s. Accepts s bytes u) (behind_refused
+        (words_at w at) w at
+        e) h))
+    behind_read w at bytes false e recur h =
+        recur (subst (λ s. Accepts s bytes u) (behind_open (words_at w at) w at e) h)
+
     word_step : (w : TextState) (at c : ℕ) (bytes : List ℕ) → 0 < at → (b : Bool) → halts w c ≡ b
-        → (Accepts (words_at (text_step w c) (at + 1)) bytes u → WordsRead (text_step w c) bytes (at + 1))
+        → (Accepts (behind_at (text_step w c) (at + 1)) bytes u → WordsRead (text_step w c) bytes (at + 1))
         → Accepts (words_at w at) (c ∷ bytes) u → WordsRead w (c ∷ bytes) at
     word_step w at c bytes some true e recur h =
         let s : State = words_at w at in
@@ -179,8 +249,10 @@ module _ (top frame : Frame) (frames : List Frame) where
         → WordsRead w bytes at
     word_read w at [] some h = cc
     word_read w at (c ∷ bytes) some h =
+        let next = text_step w c in
         word_step w at c bytes some (halts w c) refl
-        (λ k. word_read (text_step w c) (at + 1) bytes (omega arith) k) h
+        (λ k. behind_read next (at + 1) bytes (is_refused next.mode) refl
+        (λ j. word_read next (at + 1) bytes (omega arith) j) k) h
 
     -- text up to a < that begins no markup of text
     pub record TextFound (bytes : List ℕ) (at : ℕ) : Type 0 where
@@ -192,25 +264,27 @@ module _ (top frame : Frame) (frames : List Frame) where
       pub plain_rest : (after : List ℕ) → rest ≡ 33 ∷ after → ⊥
       pub later : Accepts (less_at false (at + length front) top below meaning [] (at + length front + 1)) rest u
 
-    pub text_found : (bytes : List ℕ) (at : ℕ) → Accepts (words_at (begun []) at) bytes u → TextFound bytes at
-    text_found [] at h = cc
-    text_found (c ∷ bytes) at h =
-        let first : step (words_at (begun []) at) c ≡ words_at (text_step (begun []) c) (at + 1) =
+    pub text_found : (lex : Lexes) → (bytes : List ℕ) (at : ℕ) → Accepts (words_at (begun []) at) bytes u
+        → TextFound bytes at
+    text_found lex [] at h = cc
+    text_found lex (c ∷ bytes) at h =
+        let next = text_step (begun []) c in
+        let first : step (words_at (begun []) at) c ≡ behind_at next (at + 1) =
         text_next (words_at (begun []) at) (begun []) at c refl in
-        let r = word_read (text_step (begun []) c) (at + 1) bytes (omega arith)
-        (subst (λ s. Accepts s bytes u) first h) in
+        let r = behind_read next (at + 1) bytes (is_refused next.mode) refl
+        (λ k. word_read next (at + 1) bytes (omega arith) k) (subst (λ s. Accepts s bytes u) first h) in
         let all : reads (begun []) (c ∷ bytes) ≡ Some (r.meaning, 60 ∷ r.rest) =
         more_reads (begun []) c bytes refl ∙ r.is in
-        let v = reads_found [] (c ∷ bytes) r.meaning (60 ∷ r.rest) all in
-        let size : length (c ∷ bytes) ≡ length v.front + length (60 ∷ r.rest) =
-        ap (λ (x : List ℕ). length x) v.there ∙ length-append v.front (60 ∷ r.rest) in
-        let place : r.place ≡ at + length v.front = omega (arith, r.so_far, size) in
+        let v = lex.text_found (c ∷ bytes) [] r.meaning (60 ∷ r.rest) all in
+        let size : length (c ∷ bytes) ≡ length v.0 + length (60 ∷ r.rest) =
+        ap (λ (x : List ℕ). length x) v.2.there ∙ length-append v.0 (60 ∷ r.rest) in
+        let place : r.place ≡ at + length v.0 = omega (arith, r.so_far, size) in
         record {
-          front = v.front;
+          front = v.0;
           meaning = r.meaning;
           rest = r.rest;
-          there = v.there;
-          is = subst (IsText v.front) (sym v.sum) v.is;
+          there = v.2.there;
+          is = subst (IsText v.0) (sym v.3) v.2.is;
           plain_rest = r.plain_rest;
           later = subst (λ p. Accepts (less_at false p top below r.meaning [] (p + 1)) r.rest u) place r.later;
         }

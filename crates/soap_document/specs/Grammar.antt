@@ -37,9 +37,11 @@ pub data IsAttributes : List ℕ → List Attribute → Type 0 where
 abbrev pub start_tag : List ℕ → List ℕ → List ℕ
 start_tag name attributes = codes "<" ++ (name ++ (attributes ++ codes ">"))
 
+-- an end tag (3.1, production 42)
 abbrev pub end_tag : List ℕ → List ℕ → List ℕ
 end_tag name space = codes "</" ++ (name ++ (space ++ codes ">"))
 
+-- an empty-element tag (3.1, production 44)
 abbrev pub empty_tag : List ℕ → List ℕ → List ℕ
 empty_tag name attributes = codes "<" ++ (name ++ (attributes ++ codes "/>"))
 
@@ -47,6 +49,7 @@ empty_tag name attributes = codes "<" ++ (name ++ (attributes ++ codes "/>"))
 abbrev pub max_depth : ℕ
 max_depth = 100
 
+-- elements and their content
 mutual
   -- an element that begins at a place within this many elements (3, production 39)
   pub data IsElement : ℕ → ℕ → List ℕ → Element → Type 0 where

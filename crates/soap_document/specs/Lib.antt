@@ -1,7 +1,7 @@
+pub mod Cuts
 pub mod Declaration
 pub mod Grammar
 pub mod Inside
-pub mod Kept
 pub mod Machine
 pub mod Seen
 pub mod Tokens

@@ -4,13 +4,14 @@ use Rattle.std.specs.Prelude.{ℕ, ◌+◌, ◌-◌, List, [], ◌∷◌, ◌++�
 use Rattle.std.specs.Str.{bytes_eq}
 use Rattle.xml_chars.specs.Classes.{is_space}
 pub use Rattle.soap_lex.specs.Tests.{without}
-use Rattle.soap_lex.specs.TextMachine.{TextState, begun as begun_text, halts as text_halts, is_less, step as text_step}
-use Rattle.soap_lex.specs.ValueMachine.{ValueState, begun as begun_value, halts as value_halts, is_closed, step as value_step}
+use Rattle.soap_lex.specs.TextMachine.{TextState, begun as begun_text, halts as text_halts, is_less, is_refused as text_refused, step as text_step}
+use Rattle.soap_lex.specs.ValueMachine.{ValueState, begun as begun_value, halts as value_halts, is_closed, is_refused as value_refused, step as value_step}
 use Rattle.soap_document.specs.Tree.{Attribute, Element, element, Parts, none, text, child, onto}
 use Rattle.soap_document.specs.Grammar.{max_depth}
 use Rattle.soap_document.specs.Tokens.{is_nil, is_white, is_qname, is_comment}
 use Rattle.soap_document.specs.Declaration.{is_declaration}
 
+-- where the reader stands
 pub data Mode : Type 0 where
   -- before the first < or white space; in an XML declaration
   beginning declaring : Mode
@@ -31,6 +32,7 @@ pub record Frame : Type 0 where
   pub start : ℕ
   pub parts : Parts
 
+-- what was read, and what of it still matters
 pub record State : Type 0 where
   pub mode : Mode
   -- whether no text, comment or tag was read
@@ -53,14 +55,17 @@ pub record State : Type 0 where
 abbrev pub no_value : ValueState
 no_value = begun_value 34 []
 
+-- parts before others
 abbrev pub join : Parts → Parts → Parts
 join none parts = parts
 join (text bytes more) parts = text bytes (join more parts)
 join (child first more) parts = child first (join more parts)
 
+-- an open element with these parts more
 abbrev pub with_parts : Frame → Parts → Frame
 with_parts frame more = record frame { parts = join frame.parts more }
 
+-- the bytes are no document
 abbrev pub refuse : State → State
 refuse s = record s { mode = refused; token = [] }
 
@@ -77,6 +82,7 @@ calm s = record s { mode = text_mode s.below; fresh = false; mark = 0; token = [
 abbrev pub settle : State → State
 settle s = record s { top = with_parts s.top (onto s.words.text none); words = begun_text [] }
 
+-- white space, or a byte that may stand behind a name in a tag
 abbrev pub is_name_end : ℕ → Bool
 is_name_end c = is_space c || ((c == 62) || ((c == 47) || ((c == 61) || ((c == 33) || (c == 63)))))
 
@@ -85,7 +91,7 @@ abbrev pub stops : Mode → ℕ → Bool
 stops beginning c = is_space c || (c == 60)
 stops declaring c = c == 62
 stops outside c = c == 60
-stops marking c = c == 45
+stops marking c = true
 stops commenting c = c == 62
 stops chars c = true
 stops less c = is_name_end c
@@ -98,14 +104,17 @@ stops slashed c = true
 stops ending c = c == 62
 stops refused c = true
 
+-- a byte order mark, or nothing (4.3.3)
 abbrev pub is_mark : List ℕ → Bool
 is_mark bytes = is_nil bytes || bytes_eq bytes (0xEF ∷ 0xBB ∷ 0xBF ∷ [])
 
+-- white space or a < ends what stands before all markup
 abbrev pub at_beginning : State → ℕ → State
 at_beginning s c =
     if is_mark s.token then (if c == 60 then record s { mode = less; mark = s.at; token = [] } else calm s) else
     refuse s
 
+-- a > ends the XML declaration
 abbrev pub at_declaring : State → State
 at_declaring s = if is_declaration s.token then calm s else refuse s
 
@@ -114,12 +123,14 @@ abbrev pub at_outside : State → ℕ → State
 at_outside s c =
     if is_white s.token && (c == 60) then record s { mode = less; mark = s.at; token = [] } else refuse s
 
+-- the byte behind <! that makes this token: a comment begins with two dashes
 abbrev pub at_marking : State → List ℕ → State
 at_marking s token =
     if bytes_eq token (codes "-") then record s { token = token }
     else if bytes_eq token (codes "--") then record s { mode = commenting; token = [] }
     else refuse s
 
+-- a comment ends, or holds a >
 abbrev pub at_commenting : State → Option (List ℕ) → State
 at_commenting s None = record s { token = s.token ++ 62 ∷ [] }
 at_commenting s (Some comment) = if is_comment comment then calm s else refuse s
@@ -149,6 +160,7 @@ at_tagging s c =
     else if c == 47 then record s { mode = slashed; token = [] }
     else refuse s
 
+-- there are no parts
 abbrev pub is_none : Parts → Bool
 is_none none = true
 is_none (text bytes parts) = false
@@ -158,6 +170,7 @@ is_none (child first parts) = false
 abbrev pub has_room : List Frame → Parts → Bool
 has_room frames parts = if is_nil frames then is_none parts else nat_lt (length frames) max_depth
 
+-- a byte that may stand behind a name ends what stands behind a <
 abbrev pub at_less : State → ℕ → State
 at_less s c =
     if is_nil s.token then
@@ -173,6 +186,10 @@ at_less s c =
 abbrev pub in_less : State → ℕ → State
 in_less s c = if is_name_end c then at_less s c else record s { token = s.token ++ c ∷ [] }
 
+-- where text was refused, so are the bytes
+abbrev pub after_text : State → State
+after_text s = if text_refused s.words.mode then refuse s else s
+
 -- text ends before a <, where the byte behind it begins no comment and no CDATA section
 abbrev pub at_chars : State → ℕ → State
 at_chars s c =
@@ -180,25 +197,28 @@ at_chars s c =
     (if is_less s.words
     then in_less (record s { mode = less; mark = s.at - 1; token = []; words = begun_text s.words.text }) c
     else refuse s)
-    else record s { words = text_step s.words c }
+    else after_text (record s { words = text_step s.words c })
 
+-- a byte behind the name of an attribute
 abbrev pub at_named : State → ℕ → State
 at_named s c =
     if is_space c then record s { mode = named } else if c == 61 then record s { mode = valuing } else refuse s
 
+-- a byte ends the name of an attribute, or stands where none is begun
 abbrev pub at_naming : State → ℕ → State
 at_naming s c =
     if is_nil s.token then at_tagging s c
     else if is_qname s.token then at_named (record s { attribute = s.token; token = [] }) c
     else refuse s
 
+-- a byte behind the = of an attribute
 abbrev pub at_valuing : State → ℕ → State
 at_valuing s c =
     if is_space c then s
     else if (c == 34) || (c == 39) then record s { mode = value_inner; value = begun_value c [] }
     else refuse s
 
--- the attribute ends where its value is closed
+-- the attribute ends where its value is closed; where that was refused, so are the bytes
 abbrev pub after_value : State → State
 after_value s =
     if is_closed s.value.mode then record s {
@@ -208,8 +228,10 @@ after_value s =
       value = no_value;
       attributes = s.attributes ++ record { name = s.attribute; value = s.value.value } ∷ [];
     }
+    else if value_refused s.value.mode then refuse s
     else s
 
+-- a byte within a value
 abbrev pub at_value : State → ℕ → State
 at_value s c =
     if value_halts s.value.mode then refuse s else after_value (record s { value = value_step s.value c })
@@ -220,6 +242,7 @@ is_end [] token = is_white token
 is_end (b ∷ name) [] = false
 is_end (b ∷ name) (c ∷ token) = (b == c) && is_end name token
 
+-- a > ends the end tag
 abbrev pub closed : List Frame → State → State
 closed [] s = refuse s
 closed (frame ∷ frames) s =
@@ -247,19 +270,24 @@ finish slashed s c = if c == 62 then emptied s else refuse s
 finish ending s c = closed s.below s
 finish refused s c = s
 
+-- one byte more was read
 abbrev pub counted : State → State
 counted s = record s { at = s.at + 1 }
 
+-- what a byte does
 abbrev pub step : State → ℕ → State
 step s c = counted (if stops s.mode c then finish s.mode s c else record s { token = s.token ++ c ∷ [] })
 
+-- what bytes do
 abbrev pub run : State → List ℕ → State
 run s [] = s
 run s (c ∷ bytes) = run (step s c) bytes
 
+-- the document, where nothing was read
 abbrev pub nothing_open : Frame
 nothing_open = record { name = []; attributes = []; start = 0; parts = none }
 
+-- nothing was read
 abbrev pub start : State
 start = record {
   mode = beginning;
@@ -276,6 +304,7 @@ start = record {
   below = [];
 }
 
+-- the element that is the only part
 abbrev pub only_child : Parts → Option Element
 only_child none = None
 only_child (text bytes parts) = None
@@ -283,6 +312,7 @@ only_child (child first none) = Some first
 only_child (child first (text bytes parts)) = None
 only_child (child first (child second parts)) = None
 
+-- the reader stands outside of the root
 abbrev pub is_outside_mode : Mode → Bool
 is_outside_mode outside = true
 is_outside_mode beginning = false
@@ -299,6 +329,24 @@ is_outside_mode value_inner = false
 is_outside_mode slashed = false
 is_outside_mode ending = false
 is_outside_mode refused = false
+
+-- whether the bytes are no document, whatever follows
+abbrev pub is_refused : Mode → Bool
+is_refused refused = true
+is_refused beginning = false
+is_refused declaring = false
+is_refused outside = false
+is_refused marking = false
+is_refused commenting = false
+is_refused chars = false
+is_refused less = false
+is_refused tagging = false
+is_refused naming = false
+is_refused named = false
+is_refused valuing = false
+is_refused value_inner = false
+is_refused slashed = false
+is_refused ending = false
 
 -- the root, where what was read is a document
 abbrev pub root_of : State → Option Element

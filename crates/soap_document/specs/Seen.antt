@@ -1,5 +1,5 @@
 -- The state of the machine that a reader stands for.
-use Rattle.std.specs.Prelude.{◌≡◌, ℕ, ◌+◌, ◌<◌, ◌≤◌, List, [], ◌∷◌, Bool, true, not, drop, length, map, reverse}
+use Rattle.std.specs.Prelude.{◌≡◌, ℕ, ◌+◌, ◌<◌, ◌≤◌, List, [], ◌∷◌, Bool, true, not, drop, length, map, reverse, vec_len}
 use Rattle.soap_document.specs.Machine.{Mode, beginning, declaring, outside, marking, commenting, chars, less, tagging, naming, named, valuing, value_inner, slashed, ending, refused, Frame, State, is_none, run}
 use Rattle.soap_lex.specs.Readers.{text_state, value_state}
 use Rattle.soap_document.specs.declared.scan.Mode.{Mode as CodeMode}
@@ -8,6 +8,7 @@ use Rattle.soap_document.specs.declared.nest.Nest.{Nest}
 use Rattle.soap_document.specs.declared.reader.Reader.{Reader}
 use Rattle.soap_document.specs.declared.scan.Scan.{Scan}
 
+-- where a reader stands
 abbrev pub mode_of : CodeMode → Mode
 mode_of Beginning = beginning
 mode_of Declaring = declaring
@@ -55,6 +56,19 @@ pub record Holds {H : Type 0} (stands : H → Frame → List Frame → Type 0) (
   pub begun : nest.begun ≡ is_begun top below
   pub stands_for : stands nest.handler top below
 
+-- a handler was told of as many open elements as there are
+abbrev pub Counts : {H : Type 0} → (H → ℕ) → Nest H → Type 0
+Counts depth nest = depth nest.handler ≡ vec_len nest.names
+
+-- the same of a reader's handler
+abbrev pub IsTold : {H : Type 0} → (H → ℕ) → Reader H → Type 0
+IsTold depth r = Counts depth r.nest
+
+-- how many bytes a reader was fed
+abbrev pub fed_len : {H : Type 0} → Reader H → ℕ
+fed_len r = r.scan.at
+
+-- a reader stands for a state, and its handler for the elements that are open in it
 pub record Sees {H : Type 0} (stands : H → Frame → List Frame → Type 0) (r : Reader H) (s : State) : Type 0 where
   pub is : seen r.scan s.top s.below ≡ s
   pub holds : Holds stands r.nest s.top s.below

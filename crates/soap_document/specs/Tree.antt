@@ -3,6 +3,7 @@ use Rattle.std.specs.Prelude.{ℕ, List, [], ◌∷◌, Option, Some, None}
 -- a name and a value, each as bytes
 pub use Rattle.soap_document.specs.declared.attribute.WrittenAttribute.{WrittenAttribute as Attribute}
 
+-- elements and their parts
 mutual
   -- an element: its name, its attributes in order, the places in the document where its content begins and where that
   -- ends, and its parts

@@ -3,6 +3,7 @@ use Rattle.std.specs.Prelude.{ℕ, ◌-◌, ◌≤◌, List, take, drop, length}
 use Rattle.soap_document.specs.Tree.{Attribute, Element, element, Parts, text, child}
 use Rattle.soap_document.specs.Grammar.{IsContent}
 
+-- the elements of a tree
 mutual
   -- an element is the root, or stands somewhere in it
   pub data IsWithin : Element → Element → Type 0 where

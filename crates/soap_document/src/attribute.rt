@@ -1,4 +1,5 @@
-use crate::bytes::Bytes;
+//! Attributes as they are written.
+use rm_base::Bytes;
 
 /// An attribute as it is written: the value is normalised, and a declaration of a namespace is an attribute too.
 #[derive(Debug, Drop)]

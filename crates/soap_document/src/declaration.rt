@@ -1,4 +1,4 @@
-// The test of an XML declaration: XML 1.0, section 2.8, production 23.
+//! The test of an XML declaration: XML 1.0, section 2.8, production 23.
 ghost use Rattle.std.specs.Prelude.{◌≡◌, option_map, Some, codes};
 ghost use Rattle.soap_document.specs.Declaration.{
   is_declaration as declaration_test,
@@ -61,7 +61,7 @@ fn ends(bytes: &[u8]) -> bool
     skip(bytes) == b"?".as_slice()
 }
 
-// the value of a setting of this name, and what follows
+// The value of a setting of this name, and what follows.
 fn setting<'a>(name: &[u8], bytes: &'a [u8]) -> Option<(&'a [u8], &'a [u8])>
     ensures { option_map (λ p. (p.0.now, p.1.now)) result ≡ setting_at name.now bytes.now }
 {
@@ -86,7 +86,7 @@ fn value(bytes: &[u8]) -> Option<(&[u8], &[u8])>
     }
 }
 
-// what follows the word
+// What follows the word.
 fn after<'a>(word: &[u8], bytes: &'a [u8]) -> Option<&'a [u8]>
     ensures { option_map (λ x. x.now) result ≡ after_word word.now bytes.now }
 {
@@ -102,7 +102,7 @@ fn quoted(bytes: &[u8]) -> Option<(&[u8], &[u8])>
     }
 }
 
-// the bytes from the first that is no white space
+// The bytes from the first that is no white space.
 fn skip(bytes: &[u8]) -> &[u8]
     ensures { result.now ≡ skipped bytes.now }
 {

@@ -1,4 +1,5 @@
-ghost use Rattle.std.specs.Prelude.{ℕ, [], ◌∷◌, List, OnOk};
+//! What is made of a document's elements.
+ghost use Rattle.std.specs.Prelude.{◌≡◌, ◌≢◌, ◌+◌, ◌<◌, ℕ, [], ◌∷◌, List, OnOk};
 ghost use Rattle.soap_document.specs.Machine.{Frame, with_parts};
 ghost use Rattle.soap_document.specs.Tree.{element, onto, none, child};
 
@@ -11,9 +12,14 @@ pub trait Handler: Drop {
     /// the document itself, without a name.
     ghost stands: { Self → Frame → List Frame → Type 0 };
 
-    /// Text in the innermost element.
+    /// How many elements are open by what it was told.
+    ghost depth: { Self → ℕ };
+
+    /// Text in the innermost element. It is not empty.
     fn text(&mut self, text: &[u8]) -> Result<(), Memory>
-        ensures { (top : Frame) (below : List Frame) → stands self.old top below
+        requires { text.now ≢ [] }
+        ensures count { OnOk result (depth self.new ≡ depth self.old) }
+        ensures made { (top : Frame) (below : List Frame) → stands self.old top below
             → OnOk result (stands self.new (with_parts top (onto text.now none)) below) };
 
     /// The start tag of an element, whose content begins at this place in the document.
@@ -23,7 +29,8 @@ pub trait Handler: Drop {
         attributes: &[WrittenAttribute],
         start: usize,
     ) -> Result<(), Memory>
-        ensures { (top : Frame) (below : List Frame) → stands self.old top below
+        ensures count { OnOk result (depth self.new ≡ depth self.old + 1) }
+        ensures made { (top : Frame) (below : List Frame) → stands self.old top below
             → OnOk result (stands self.new (record {
               name = name.now;
               attributes = attributes.now;
@@ -38,13 +45,16 @@ pub trait Handler: Drop {
         attributes: &[WrittenAttribute],
         place: usize,
     ) -> Result<(), Memory>
-        ensures { (top : Frame) (below : List Frame) → stands self.old top below
+        ensures count { OnOk result (depth self.new ≡ depth self.old) }
+        ensures made { (top : Frame) (below : List Frame) → stands self.old top below
             → OnOk result (stands self.new (with_parts top (child (element name.now attributes.now place place none)
             none)) below) };
 
-    /// The end tag of the innermost element, whose content ends at this place.
+    /// The end tag of the innermost element, whose content ends at this place. There is such an element.
     fn close(&mut self, end: usize) -> Result<(), Memory>
-        ensures { (top outer : Frame) (below : List Frame) → stands self.old top (outer ∷ below)
+        requires { 0 < depth self.old }
+        ensures count { OnOk result (depth self.new + 1 ≡ depth self.old) }
+        ensures made { (top outer : Frame) (below : List Frame) → stands self.old top (outer ∷ below)
             → OnOk result (stands self.new (with_parts outer (child (element top.name top.attributes top.start end
             top.parts) none)) below) };
 }

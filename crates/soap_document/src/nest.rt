@@ -1,14 +1,13 @@
-// The elements that are open.
-ghost use Rattle.std.specs.Prelude.{◌≡◌, ◌≢◌, ◌∷◌, [], ℕ, List, OnOk};
+//! The elements that are open.
+ghost use Rattle.std.specs.Prelude.{◌≡◌, ◌≢◌, ◌==◌, ◌<◌, ◌∷◌, [], ℕ, List, OnOk, vec_len};
 ghost use Rattle.soap_document.specs.Machine.{Frame, with_parts, nothing_open, has_room as room_test};
 ghost use Rattle.soap_document.specs.Tokens.{is_nil as nil_test};
 ghost use Rattle.soap_document.specs.Tree.{element, onto, none, child};
-ghost use Rattle.soap_document.specs.Seen.{Holds};
+ghost use Rattle.soap_document.specs.Seen.{Counts, Holds};
 
 use crate::attribute::WrittenAttribute;
-use crate::bytes::Bytes;
 use crate::handler::Handler;
-use rm_base::Memory;
+use rm_base::{Bytes, Memory};
 use std::alloc::Global;
 use std::mem;
 
@@ -18,11 +17,11 @@ const MAX_DEPTH: usize = 100;
 /// The written names of the open elements, and what is made of them.
 #[derive(Drop)]
 pub(crate) struct Nest<H> {
-    // of the innermost; of the document itself it is empty
+    // Of the innermost; of the document itself it is empty.
     name: Bytes,
-    // of those around it, the innermost last
+    // Of those around it, the innermost last.
     names: Vec<Bytes>,
-    // the document has a part
+    // The document has a part.
     begun: bool,
     handler: H,
 }
@@ -30,7 +29,9 @@ pub(crate) struct Nest<H> {
 impl<H: Handler> Nest<H> {
     /// The document, where nothing was read.
     pub(crate) fn new(alloc: Global, handler: H) -> Self
-        ensures { H.stands handler nothing_open [] → Holds H.stands result nothing_open [] }
+        requires { H.depth handler ≡ 0 }
+        ensures told { Counts H.depth result }
+        ensures holds { H.stands handler nothing_open [] → Holds H.stands result nothing_open [] }
     {
         Nest {
             name: Bytes::new(),
@@ -55,7 +56,9 @@ impl<H: Handler> Nest<H> {
 
     /// No element is open.
     pub(crate) fn is_outside(&self) -> bool
-        ensures { (top : Frame) (below : List Frame) → Holds H.stands self.now top below → result ≡ nil_test below }
+        ensures empty { result ≡ (vec_len self.now.names == 0) }
+        ensures outside { (top : Frame) (below : List Frame) → Holds H.stands self.now top below
+            → result ≡ nil_test below }
     {
         self.names.is_empty()
     }
@@ -74,8 +77,10 @@ impl<H: Handler> Nest<H> {
 
     /// Text becomes a part.
     pub(crate) fn text(&mut self, text: &[u8]) -> Result<(), Memory>
-        requires { text.now ≢ [] }
-        ensures { (top : Frame) (below : List Frame) → Holds H.stands self.old top below
+        requires some { text.now ≢ [] }
+        requires told { Counts H.depth self.old }
+        ensures told { OnOk result (Counts H.depth self.new) }
+        ensures holds { (top : Frame) (below : List Frame) → Holds H.stands self.old top below
             → OnOk result (Holds H.stands self.new (with_parts top (onto text.now none)) below) }
     {
         self.begun = true;
@@ -88,7 +93,9 @@ impl<H: Handler> Nest<H> {
         attributes: &[WrittenAttribute],
         start: usize,
     ) -> Result<(), Memory>
-        ensures { (top : Frame) (below : List Frame) → Holds H.stands self.old top below
+        requires { Counts H.depth self.old }
+        ensures told { OnOk result (Counts H.depth self.new) }
+        ensures holds { (top : Frame) (below : List Frame) → Holds H.stands self.old top below
             → OnOk result (Holds H.stands self.new (record {
               name = name;
               attributes = attributes.now;
@@ -109,7 +116,9 @@ impl<H: Handler> Nest<H> {
         attributes: &[WrittenAttribute],
         place: usize,
     ) -> Result<(), Memory>
-        ensures { (top : Frame) (below : List Frame) → Holds H.stands self.old top below
+        requires { Counts H.depth self.old }
+        ensures told { OnOk result (Counts H.depth self.new) }
+        ensures holds { (top : Frame) (below : List Frame) → Holds H.stands self.old top below
             → OnOk result (Holds H.stands self.new (with_parts top (child (element name.now attributes.now place
             place none) none)) below) }
     {
@@ -117,21 +126,19 @@ impl<H: Handler> Nest<H> {
         self.handler.empty(name, attributes, place)
     }
 
-    fn rename(&mut self, name: Bytes)
-        ensures { self.new ≡ record self.old { name = name } }
-    {
-        self.name = name;
-    }
-
-    /// Nothing is closed where no element is open.
+    /// The innermost element is over.
     pub(crate) fn close(&mut self, end: usize) -> Result<(), Memory>
-        ensures { (top outer : Frame) (below : List Frame) → Holds H.stands self.old top (outer ∷ below)
+        requires told { Counts H.depth self.old }
+        requires inside { 0 < vec_len self.old.names }
+        ensures told { OnOk result (Counts H.depth self.new) }
+        ensures holds { (top outer : Frame) (below : List Frame) → Holds H.stands self.old top (outer ∷ below)
             → OnOk result (Holds H.stands self.new (with_parts outer (child (element top.name top.attributes top.start
             end top.parts) none)) below) }
     {
-        if let Some(outer) = self.names.pop() {
-            self.rename(outer);
-        }
+        let Some(outer) = self.names.pop() else {
+            unreachable!();
+        };
+        self.name = outer;
         self.handler.close(end)
     }
 }

@@ -1,4 +1,5 @@
-ghost use Rattle.std.specs.Prelude.{◌≡◌, ◌≢◌, ◌+◌, ◌<◌, ◌^◌, List, [], ℕ, length, get_or, OnOk, IfOk, MatchOption};
+//! The reader of documents, which is fed pieces.
+ghost use Rattle.std.specs.Prelude.{◌≡◌, ◌≢◌, ◌+◌, ◌<◌, ◌≤◌, ◌^◌, List, [], ℕ, length, get_or, OnOk, IfOk, MatchOption};
 ghost use Rattle.std.specs.Prelude.{None, true};
 ghost use Rattle.soap_lex.specs.TextMachine.{begun, halts as halt_test};
 ghost use Rattle.soap_lex.specs.Readers.{text_state};
@@ -17,19 +18,19 @@ ghost use Rattle.soap_document.specs.Machine.{
   at_chars,
   at_less,
   in_less,
+  is_refused as refused_test,
   at_tagging,
   at_naming,
   chars,
   value_inner,
 };
-ghost use Rattle.soap_document.specs.Seen.{mode_of, Sees, TakenBy};
+ghost use Rattle.soap_document.specs.Seen.{mode_of, fed_len, IsTold, Sees, TakenBy};
 
-use crate::bytes::Bytes;
 use crate::handler::Handler;
 use crate::nest::Nest;
 use crate::scan::{Mode, Scan, first_stop, is_name_end};
 use crate::tokens::{is_end, is_qname, is_white};
-use rm_base::Memory;
+use rm_base::{Bytes, Memory};
 use std::alloc::Global;
 use std::mem;
 use xml_chars::is_space;
@@ -44,8 +45,10 @@ pub struct Reader<H> {
 impl<H: Handler> Reader<H> {
     /// A reader that was fed nothing, with a handler that has made nothing. It takes no memory.
     pub fn new(alloc: Global, handler: H) -> Self
-        requires { H.stands handler nothing_open [] }
-        ensures { Sees H.stands result start_state }
+        requires outside { H.depth handler ≡ 0 }
+        ensures told { IsTold H.depth result }
+        ensures fed { fed_len result ≡ 0 }
+        ensures sees { H.stands handler nothing_open [] → Sees H.stands result start_state }
     {
         Reader {
             scan: Scan::new(alloc),
@@ -55,8 +58,11 @@ impl<H: Handler> Reader<H> {
 
     /// Takes the next piece of the document. After an error the reader is of no more use.
     pub fn feed(&mut self, piece: &[u8]) -> Result<(), Memory>
-        requires { (s : State) × Sees H.stands self.old s × (s.at + length piece.now < 2 ^ 64) }
-        ensures { (s : State) → Sees H.stands self.old s → OnOk result (Sees H.stands self.new (run s piece.now)) }
+        requires told { IsTold H.depth self.old }
+        requires fits { fed_len self.old + length piece.now < 2 ^ 64 }
+        ensures told { OnOk result (IsTold H.depth self.new) }
+        ensures fed { OnOk result (fed_len self.new ≡ fed_len self.old + length piece.now) }
+        ensures sees { (s : State) → Sees H.stands self.old s → OnOk result (Sees H.stands self.new (run s piece.now)) }
     {
         let mut rest = piece;
         while !rest.is_empty() {
@@ -64,6 +70,13 @@ impl<H: Handler> Reader<H> {
             rest = &rest[taken..];
         }
         Ok(())
+    }
+
+    /// What was fed begins no document, whatever follows.
+    pub fn is_refused(&self) -> bool
+        ensures { (s : State) → Sees H.stands self.now s → result ≡ refused_test s.mode }
+    {
+        self.scan.mode == Mode::Refused
     }
 
     /// The handler, where what was fed may be a document: it is one where the handler has one element and nothing else.
@@ -78,11 +91,15 @@ impl<H: Handler> Reader<H> {
         }
     }
 
-    // takes some of the bytes, and says how many
+    // Takes some of the bytes, and says how many.
     fn take(&mut self, bytes: &[u8]) -> Result<usize, Memory>
         requires some { 0 < length bytes.now }
         requires fits { self.old.scan.at + length bytes.now < 2 ^ 64 }
-        ensures { (s : State) → Sees H.stands self.old s → IfOk result (TakenBy H.stands s self.new bytes.now) }
+        requires told { IsTold H.depth self.old }
+        ensures told { OnOk result (IsTold H.depth self.new) }
+        ensures place { IfOk result (λ n. (0 < n) × (n ≤ length bytes.now)
+            × (fed_len self.new ≡ fed_len self.old + n)) }
+        ensures sees { (s : State) → Sees H.stands self.old s → IfOk result (TakenBy H.stands s self.new bytes.now) }
     {
         match self.scan.mode {
             Mode::Chars => self.take_chars(bytes),
@@ -91,13 +108,17 @@ impl<H: Handler> Reader<H> {
         }
     }
 
-    // up to the end of a token, or to the end of the bytes
+    // Up to the end of a token, or to the end of the bytes.
     fn take_token(&mut self, bytes: &[u8]) -> Result<usize, Memory>
         requires text { mode_of self.old.scan.mode ≢ chars }
         requires value { mode_of self.old.scan.mode ≢ value_inner }
         requires some { 0 < length bytes.now }
         requires fits { self.old.scan.at + length bytes.now < 2 ^ 64 }
-        ensures { (s : State) → Sees H.stands self.old s → IfOk result (TakenBy H.stands s self.new bytes.now) }
+        requires told { IsTold H.depth self.old }
+        ensures told { OnOk result (IsTold H.depth self.new) }
+        ensures place { IfOk result (λ n. (0 < n) × (n ≤ length bytes.now)
+            × (fed_len self.new ≡ fed_len self.old + n)) }
+        ensures sees { (s : State) → Sees H.stands self.old s → IfOk result (TakenBy H.stands s self.new bytes.now) }
     {
         let Some(end) = first_stop(self.scan.mode, bytes) else {
             self.scan.keep(bytes)?;
@@ -108,12 +129,16 @@ impl<H: Handler> Reader<H> {
         Ok(end + 1)
     }
 
-    // within text, up to the end of a token of it, or one byte behind its end
+    // Within text, up to the end of a token of it, or one byte behind its end.
     fn take_chars(&mut self, bytes: &[u8]) -> Result<usize, Memory>
         requires inside { mode_of self.old.scan.mode ≡ chars }
         requires some { 0 < length bytes.now }
         requires fits { self.old.scan.at + length bytes.now < 2 ^ 64 }
-        ensures { (s : State) → Sees H.stands self.old s → IfOk result (TakenBy H.stands s self.new bytes.now) }
+        requires told { IsTold H.depth self.old }
+        ensures told { OnOk result (IsTold H.depth self.new) }
+        ensures place { IfOk result (λ n. (0 < n) × (n ≤ length bytes.now)
+            × (fed_len self.new ≡ fed_len self.old + n)) }
+        ensures sees { (s : State) → Sees H.stands self.old s → IfOk result (TakenBy H.stands s self.new bytes.now) }
     {
         if bytes.len() > 1 && bytes[0] == b'<' && bytes[1] != b'!' && self.scan.words.is_fresh() {
             return self.take_less(bytes);
@@ -128,10 +153,11 @@ impl<H: Handler> Reader<H> {
             return Ok(1);
         }
         self.scan.at += taken;
+        self.scan.end_text();
         Ok(taken)
     }
 
-    // a < where no text is begun, and the byte behind it, which begins no comment and no CDATA section
+    // A < where no text is begun, and the byte behind it, which begins no comment and no CDATA section.
     fn take_less(&mut self, bytes: &[u8]) -> Result<usize, Memory>
         requires inside { mode_of self.old.scan.mode ≡ chars }
         requires fresh { (text : List ℕ) → text_state self.old.scan.words text ≡ begun text }
@@ -139,7 +165,11 @@ impl<H: Handler> Reader<H> {
         requires first { get_or bytes.now 0 0 ≡ 60 }
         requires second { get_or bytes.now 1 0 ≢ 33 }
         requires fits { self.old.scan.at + length bytes.now < 2 ^ 64 }
-        ensures { (s : State) → Sees H.stands self.old s → IfOk result (TakenBy H.stands s self.new bytes.now) }
+        requires told { IsTold H.depth self.old }
+        ensures told { OnOk result (IsTold H.depth self.new) }
+        ensures place { IfOk result (λ n. (0 < n) × (n ≤ length bytes.now)
+            × (fed_len self.new ≡ fed_len self.old + n)) }
+        ensures sees { (s : State) → Sees H.stands self.old s → IfOk result (TakenBy H.stands s self.new bytes.now) }
     {
         self.scan.mode = Mode::Less;
         self.scan.mark = self.scan.at;
@@ -151,12 +181,15 @@ impl<H: Handler> Reader<H> {
         Ok(2)
     }
 
-    // a byte that ends the token
+    // A byte that ends the token.
     fn end_token(&mut self, byte: u8) -> Result<(), Memory>
         requires text { mode_of self.old.scan.mode ≢ chars }
         requires value { mode_of self.old.scan.mode ≢ value_inner }
         requires fits { self.old.scan.at + 1 < 2 ^ 64 }
-        ensures { (s : State) → Sees H.stands self.old s
+        requires told { IsTold H.depth self.old }
+        ensures told { OnOk result (IsTold H.depth self.new) }
+        ensures place { OnOk result (fed_len self.new ≡ fed_len self.old + 1) }
+        ensures sees { (s : State) → Sees H.stands self.old s
             → OnOk result (Sees H.stands self.new (counted (finished s.mode s byte))) }
     {
         let at = self.scan.at;
@@ -165,12 +198,14 @@ impl<H: Handler> Reader<H> {
         Ok(())
     }
 
-    // what it does, by where the reader stands
+    // What it does, by where the reader stands.
     fn end(&mut self, byte: u8) -> Result<(), Memory>
         requires text { mode_of self.old.scan.mode ≢ chars }
         requires value { mode_of self.old.scan.mode ≢ value_inner }
         requires fits { self.old.scan.at + 1 < 2 ^ 64 }
-        ensures { (s : State) → Sees H.stands self.old s
+        requires told { IsTold H.depth self.old }
+        ensures told { OnOk result (IsTold H.depth self.new) }
+        ensures sees { (s : State) → Sees H.stands self.old s
             → OnOk result (Sees H.stands self.new (finished s.mode s byte)) }
     {
         let outside = self.nest.is_outside();
@@ -193,10 +228,12 @@ impl<H: Handler> Reader<H> {
         Ok(())
     }
 
-    // nothing more of the text is read before this byte
+    // Nothing more of the text is read before this byte.
     fn end_chars(&mut self, byte: u8) -> Result<(), Memory>
         requires fits { self.old.scan.at + 1 < 2 ^ 64 }
-        ensures { (s : State) → Sees H.stands self.old s → halt_test s.words byte ≡ true
+        requires told { IsTold H.depth self.old }
+        ensures told { OnOk result (IsTold H.depth self.new) }
+        ensures sees { (s : State) → Sees H.stands self.old s → halt_test s.words byte ≡ true
             → OnOk result (Sees H.stands self.new (at_chars s byte)) }
     {
         if !self.scan.words.is_less() {
@@ -210,10 +247,12 @@ impl<H: Handler> Reader<H> {
         self.go_on(byte)
     }
 
-    // a byte behind a <, or in a name there
+    // A byte behind a <, or in a name there.
     fn go_on(&mut self, byte: u8) -> Result<(), Memory>
-        requires { self.old.scan.at + 1 < 2 ^ 64 }
-        ensures { (s : State) → Sees H.stands self.old s → OnOk result (Sees H.stands self.new (in_less s byte)) }
+        requires fits { self.old.scan.at + 1 < 2 ^ 64 }
+        requires told { IsTold H.depth self.old }
+        ensures told { OnOk result (IsTold H.depth self.new) }
+        ensures sees { (s : State) → Sees H.stands self.old s → OnOk result (Sees H.stands self.new (in_less s byte)) }
     {
         if is_name_end(byte) {
             return self.end_less(byte);
@@ -223,8 +262,10 @@ impl<H: Handler> Reader<H> {
     }
 
     fn end_less(&mut self, byte: u8) -> Result<(), Memory>
-        requires { self.old.scan.at + 1 < 2 ^ 64 }
-        ensures { (s : State) → Sees H.stands self.old s → OnOk result (Sees H.stands self.new (at_less s byte)) }
+        requires fits { self.old.scan.at + 1 < 2 ^ 64 }
+        requires told { IsTold H.depth self.old }
+        ensures told { OnOk result (IsTold H.depth self.new) }
+        ensures sees { (s : State) → Sees H.stands self.old s → OnOk result (Sees H.stands self.new (at_less s byte)) }
     {
         if self.scan.token.is_empty() {
             return self.begin_markup(byte);
@@ -238,9 +279,11 @@ impl<H: Handler> Reader<H> {
         self.end_tagging(byte)
     }
 
-    // the byte behind a <, which begins no name
+    // The byte behind a <, which begins no name.
     fn begin_markup(&mut self, byte: u8) -> Result<(), Memory>
-        ensures { (s : State) → Sees H.stands self.old s → s.token ≡ []
+        requires told { IsTold H.depth self.old }
+        ensures told { OnOk result (IsTold H.depth self.new) }
+        ensures sees { (s : State) → Sees H.stands self.old s → s.token ≡ []
             → OnOk result (Sees H.stands self.new (at_less s byte)) }
     {
         if byte == b'/' && !self.nest.is_outside() {
@@ -256,8 +299,10 @@ impl<H: Handler> Reader<H> {
         Ok(())
     }
 
-    // the text becomes a part
+    // The text becomes a part.
     fn settle(&mut self) -> Result<(), Memory>
+        requires told { IsTold H.depth self.old }
+        ensures told { OnOk result (IsTold H.depth self.new) }
         ensures at { OnOk result (self.new.scan.at ≡ self.old.scan.at) }
         ensures sees { (s : State) → Sees H.stands self.old s → OnOk result (Sees H.stands self.new (settled s)) }
     {
@@ -271,8 +316,11 @@ impl<H: Handler> Reader<H> {
     }
 
     fn end_tagging(&mut self, byte: u8) -> Result<(), Memory>
-        requires { self.old.scan.at + 1 < 2 ^ 64 }
-        ensures { (s : State) → Sees H.stands self.old s → OnOk result (Sees H.stands self.new (at_tagging s byte)) }
+        requires fits { self.old.scan.at + 1 < 2 ^ 64 }
+        requires told { IsTold H.depth self.old }
+        ensures told { OnOk result (IsTold H.depth self.new) }
+        ensures sees { (s : State) → Sees H.stands self.old s → OnOk result (Sees H.stands self.new
+            (at_tagging s byte)) }
     {
         if is_space(byte) {
             self.scan.mode = Mode::Naming;
@@ -288,10 +336,12 @@ impl<H: Handler> Reader<H> {
         Ok(())
     }
 
-    // the start tag ends: an element is open
+    // The start tag ends: an element is open.
     fn open(&mut self) -> Result<(), Memory>
-        requires { self.old.scan.at + 1 < 2 ^ 64 }
-        ensures { (s : State) → Sees H.stands self.old s → OnOk result (Sees H.stands self.new (opened_by s)) }
+        requires fits { self.old.scan.at + 1 < 2 ^ 64 }
+        requires told { IsTold H.depth self.old }
+        ensures told { OnOk result (IsTold H.depth self.new) }
+        ensures sees { (s : State) → Sees H.stands self.old s → OnOk result (Sees H.stands self.new (opened_by s)) }
     {
         let name = mem::replace(&mut self.scan.name, Bytes::new());
         self.nest
@@ -302,8 +352,11 @@ impl<H: Handler> Reader<H> {
     }
 
     fn end_naming(&mut self, byte: u8) -> Result<(), Memory>
-        requires { self.old.scan.at + 1 < 2 ^ 64 }
-        ensures { (s : State) → Sees H.stands self.old s → OnOk result (Sees H.stands self.new (at_naming s byte)) }
+        requires fits { self.old.scan.at + 1 < 2 ^ 64 }
+        requires told { IsTold H.depth self.old }
+        ensures told { OnOk result (IsTold H.depth self.new) }
+        ensures sees { (s : State) → Sees H.stands self.old s → OnOk result (Sees H.stands self.new
+            (at_naming s byte)) }
     {
         if self.scan.token.is_empty() {
             return self.end_tagging(byte);
@@ -311,10 +364,12 @@ impl<H: Handler> Reader<H> {
         self.scan.end_attribute(byte)
     }
 
-    // the empty-element tag ends, where it does
+    // The empty-element tag ends, where it does.
     fn end_slashed(&mut self, byte: u8) -> Result<(), Memory>
-        requires { self.old.scan.at + 1 < 2 ^ 64 }
-        ensures { (s : State) → Sees H.stands self.old s
+        requires fits { self.old.scan.at + 1 < 2 ^ 64 }
+        requires told { IsTold H.depth self.old }
+        ensures told { OnOk result (IsTold H.depth self.new) }
+        ensures sees { (s : State) → Sees H.stands self.old s
             → OnOk result (Sees H.stands self.new (finished (mode_of Mode.Slashed) s byte)) }
     {
         if byte != b'>' {
@@ -329,9 +384,11 @@ impl<H: Handler> Reader<H> {
         Ok(())
     }
 
-    // the end tag ends, which names the innermost element
+    // The end tag ends, which names the innermost element.
     fn end_ending(&mut self) -> Result<(), Memory>
-        ensures { (s : State) → Sees H.stands self.old s
+        requires told { IsTold H.depth self.old }
+        ensures told { OnOk result (IsTold H.depth self.new) }
+        ensures sees { (s : State) → Sees H.stands self.old s
             → OnOk result (Sees H.stands self.new (closed_by s.below s)) }
     {
         if self.nest.is_outside() || !is_end(self.nest.name(), &self.scan.token) {

@@ -1,5 +1,5 @@
-// What of a document is read between its elements' events: the token that is not ended.
-ghost use Rattle.std.specs.Prelude.{◌≡◌, ◌≢◌, ◌++◌, ◌+◌, ◌<◌, ◌^◌, ◌∷◌, [], List, length, OnOk, IfOk, true, ◌||◌, ◌==◌};
+//! What of a document is read between its elements' events: the token that is not ended.
+ghost use Rattle.std.specs.Prelude.{◌≡◌, ◌≢◌, ◌++◌, ◌+◌, ◌<◌, ◌≤◌, ◌^◌, ◌∷◌, [], List, length, OnOk, IfOk, true, ◌||◌, ◌==◌};
 ghost use Rattle.soap_document.specs.Tokens.{is_nil as nil_test};
 ghost use Rattle.soap_document.specs.Machine.{
   Frame,
@@ -17,6 +17,7 @@ ghost use Rattle.soap_document.specs.Machine.{
   at_named,
   at_naming,
   at_valuing,
+  after_text,
   after_value,
   value_inner,
 };
@@ -25,18 +26,17 @@ ghost use Rattle.xml_chars.specs.Classes.{is_space as space_test};
 ghost use Rattle.soap_document.specs.Seen.{seen, mode_of, Taken};
 
 use crate::attribute::WrittenAttribute;
-use crate::bytes::Bytes;
 use crate::declaration::is_declaration;
 use crate::search::first_byte;
 use crate::tokens::{before, is_comment, is_mark, is_qname, is_white};
 use memchr::memchr;
-use rm_base::Memory;
+use rm_base::{Bytes, Memory};
 use soap_lex::{Quote, TextReader, ValueReader};
 use std::alloc::Global;
 use std::mem;
 use xml_chars::is_space;
 
-// where the reader stands
+// Where the reader stands.
 #[derive(Clone, Copy, Debug, PartialEq, Eq)]
 pub(crate) enum Mode {
     Beginning,
@@ -60,9 +60,9 @@ pub(crate) enum Mode {
 #[derive(Drop)]
 pub(crate) struct Scan {
     pub(crate) mode: Mode,
-    // no text, comment or tag was read
+    // No text, comment or tag was read.
     pub(crate) fresh: bool,
-    // how many bytes were read; where the < of the markup stands
+    // How many bytes were read; where the < of the markup stands.
     pub(crate) at: usize,
     pub(crate) mark: usize,
     pub(crate) token: Vec<u8>,
@@ -98,7 +98,7 @@ impl Scan {
         }
     }
 
-    // bytes that end no token lengthen it
+    // Bytes that end no token lengthen it.
     pub(crate) fn keep(&mut self, run: &[u8]) -> Result<(), Memory>
         requires { self.old.at + length run.now < 2 ^ 64 }
         ensures { (top : Frame) (below : List Frame)
@@ -122,7 +122,7 @@ impl Scan {
         self.token.clear();
     }
 
-    // back in text, or outside of the root
+    // Back in text, or outside of the root.
     pub(crate) fn calm(&mut self, outside: bool)
         ensures { (top : Frame) (below : List Frame) → outside ≡ nil_test below
             → seen self.new top below ≡ calmed (seen self.old top below) }
@@ -161,7 +161,7 @@ impl Scan {
         }
     }
 
-    // white space outside of the root ends here
+    // White space outside of the root ends here.
     pub(crate) fn end_outside(&mut self, byte: u8)
         ensures { (top : Frame) (below : List Frame)
             → seen self.new top below ≡ at_outside (seen self.old top below) byte }
@@ -211,7 +211,7 @@ impl Scan {
         Ok(())
     }
 
-    // the name of an attribute ends
+    // The name of an attribute ends.
     pub(crate) fn end_attribute(&mut self, byte: u8) -> Result<(), Memory>
         requires { self.old.token.items ≢ [] }
         ensures { (top : Frame) (below : List Frame)
@@ -256,12 +256,23 @@ impl Scan {
         self.value.clear();
     }
 
-    // within a value, up to the end of a token of it
+    // Where text was refused, so are the bytes.
+    pub(crate) fn end_text(&mut self)
+        ensures { (top : Frame) (below : List Frame)
+            → seen self.new top below ≡ after_text (seen self.old top below) }
+    {
+        if self.words.is_refused() {
+            self.refuse();
+        }
+    }
+
+    // Within a value, up to the end of a token of it.
     pub(crate) fn take_value(&mut self, bytes: &[u8]) -> Result<usize, Memory>
         requires inside { mode_of self.old.mode ≡ value_inner }
         requires some { 0 < length bytes.now }
         requires fits { self.old.at + length bytes.now < 2 ^ 64 }
-        ensures { (top : Frame) (below : List Frame)
+        ensures place { IfOk result (λ n. (0 < n) × (n ≤ length bytes.now) × (self.new.at ≡ self.old.at + n)) }
+        ensures taken { (top : Frame) (below : List Frame)
             → IfOk result (λ n. Taken (seen self.old top below) (seen self.new top below) bytes.now n) }
     {
         let Ok(taken) = self.valued.feed(bytes, &mut self.value) else {
@@ -277,11 +288,15 @@ impl Scan {
         Ok(taken)
     }
 
-    // the attribute ends where its value is closed
+    // The attribute ends where its value is closed; where that was refused, so are the bytes.
     fn end_value(&mut self) -> Result<(), Memory>
         ensures { (top : Frame) (below : List Frame)
             → OnOk result (seen self.new top below ≡ after_value (seen self.old top below)) }
     {
+        if self.valued.is_refused() {
+            self.refuse();
+            return Ok(());
+        }
         if !self.valued.is_closed() {
             return Ok(());
         }
@@ -304,10 +319,10 @@ pub(crate) fn first_stop(mode: Mode, bytes: &[u8]) -> Option<usize>
         Mode::Outside => memchr(b'<', bytes),
         Mode::Declaring | Mode::Commenting => memchr(b'>', bytes),
         Mode::Ending => first_byte(b'>', bytes),
-        Mode::Marking => memchr(b'-', bytes),
         Mode::Less | Mode::Naming => first_name_end(bytes),
         Mode::Beginning => first_less_or_space(bytes),
         Mode::Chars
+        | Mode::Marking
         | Mode::Tagging
         | Mode::Named
         | Mode::Valuing

@@ -1,9 +1,9 @@
-// Where a byte stands first. In names it is mostly near, so the first few bytes are looked at one by one.
+//! Where a byte stands first. In names it is mostly near, so the first few bytes are looked at one by one.
 ghost use Rattle.memchr.specs.Find.{IsFirstByte, is_byte};
 
 use memchr::memchr;
 
-// so many bytes are near
+// So many bytes are near.
 const NEAR: usize = 16;
 
 pub(crate) fn first_byte(byte: u8, bytes: &[u8]) -> Option<usize>

@@ -1,4 +1,4 @@
-// The tests of whole tokens.
+//! The tests of whole tokens.
 ghost use Rattle.std.specs.Prelude.{◌≡◌, option_map};
 ghost use Rattle.soap_document.specs.Machine.{is_mark as mark_test, is_end as end_test, without};
 ghost use Rattle.soap_document.specs.Tokens.{
@@ -14,6 +14,7 @@ use crate::search::first_byte;
 /// The three bytes of a byte order mark.
 const MARK: [u8; 3] = [0xEF, 0xBB, 0xBF];
 
+/// White space, or nothing: XML 1.0, section 2.3, production 3.
 pub fn is_white(bytes: &[u8]) -> bool
     ensures { result ≡ white_test bytes.now }
 {
@@ -54,6 +55,7 @@ pub fn cut(byte: u8, bytes: &[u8]) -> Option<(&[u8], &[u8])>
 pub(crate) fn is_comment(bytes: &[u8]) -> bool
     ensures { result ≡ comment_test bytes.now }
 {
+    soap_lex::laws::comment_is_tested();
     soap_lex::is_comment(bytes)
 }
 

@@ -136,13 +136,6 @@ pub OnRefusal-weaker : (error : LexError) (P Q : Type 0) → (P → Q) → OnRef
 OnRefusal-weaker Memory P Q f h = tt
 OnRefusal-weaker NotProfile P Q f h = f h
 
--- two tests of one fact
-pub same_test : (P : Type 0) (r t : Bool) → (r ≡ true → P) → (P → r ≡ true) → (t ≡ true → P) → (P → t ≡ true) → r ≡ t
-same_test P true true a b c d = refl
-same_test P true false a b c d = sym (d (a refl))
-same_test P false true a b c d = b (c refl)
-same_test P false false a b c d = refl
-
 -- two searches of one thing, which is unique
 pub same_search : (P : ℕ → Type 0) (r t : Option ℕ) → IfSome r P → IfNone r ((c : ℕ) → P c → ⊥) → ((c : ℕ) → P c → t
     ≡ Some c) → ((c : ℕ) → t ≡ Some c → P c) → r ≡ t

@@ -14,6 +14,7 @@ use Rattle.std.proofs.lemmas.Str.{chars-encodes, encodes-chars, encodes-append, 
 use Rattle.xml_chars.specs.Classes.{is_within, is_char, is_name_start, is_name_char, char_ranges, name_start_ranges}
 use Rattle.xml_chars.specs.Classes.{name_more_ranges}
 use Rattle.soap_lex.specs.Characters.{IsChars, IsName}
+use Rattle.soap_lex.specs.Scalars.{all_scalar, is_char-scalar, name_char-scalar, name_each, IsUtf8-IsChars, IsUtf8-IsName}
 
 -- each element passes, as a test
 pub all-each : (p : ℕ → Bool) (xs : List ℕ) → AllByRecursion (λ c. IsTrue (p c)) xs → list_all p xs ≡ true
@@ -23,51 +24,6 @@ all-each p (x ∷ xs) each = ap (λ b. b && list_all p xs) each.0 ∙ all-each p
 pub each-all : (p : ℕ → Bool) (xs : List ℕ) → list_all p xs ≡ true → AllByRecursion (λ c. IsTrue (p c)) xs
 each-all p [] all = tt
 each-all p (x ∷ xs) all = let (here, more) = and_parts (p x) (list_all p xs) all in (here, each-all p xs more)
-
--- the range has scalar values alone
-abbrev has_scalars : (ℕ × ℕ) → Bool
-has_scalars range = nat_lt range.1 55296 || (nat_le 57344 range.0 && nat_lt range.1 1114112)
-
-scalar-in : (low high c : ℕ) → (nat_lt high 55296 || (nat_le 57344 low && nat_lt high 1114112)) ≡ true
-    → (nat_le low c && nat_le c high) ≡ true → scalar c ≡ true
-scalar-in low high c fits within = grind (arith, nat_tests)
-
-or_cases : (a b : Bool) → (a || b) ≡ true → (a ≡ true) ⊎ (b ≡ true)
-or_cases true b e = inl refl
-or_cases false b e = inr e
-
-scalar-within : (ranges : List (ℕ × ℕ)) (c : ℕ) → list_all has_scalars ranges ≡ true → is_within ranges c ≡ true
-    → scalar c ≡ true
-scalar-within [] c fits within = cc
-scalar-within (range ∷ ranges) c fits within =
-    let (here, more) = and_parts (has_scalars range) (list_all has_scalars ranges) fits in
-    elim (or_cases (nat_le range.0 c && nat_le c range.1) (is_within ranges c) within) [
-      | inl now ↦ scalar-in range.0 range.1 c here now
-      | inr later ↦ scalar-within ranges c more later
-    ]
-
--- a character of a document is a scalar value, and so are those of a name
-pub scalar-is_char : (c : ℕ) → is_char c ≡ true → scalar c ≡ true
-scalar-is_char c h = scalar-within char_ranges c refl h
-
-pub scalar-is_name_start : (c : ℕ) → is_name_start c ≡ true → scalar c ≡ true
-scalar-is_name_start c h = scalar-within name_start_ranges c refl h
-
-pub scalar-is_name_char : (c : ℕ) → is_name_char c ≡ true → scalar c ≡ true
-scalar-is_name_char c h =
-    elim (or_cases (is_name_start c) (is_within name_more_ranges c) h) [
-      | inl starts ↦ scalar-is_name_start c starts
-      | inr more ↦ scalar-within name_more_ranges c refl more
-    ]
-
-scalars-all : (p : ℕ → Bool) → ((c : ℕ) → p c ≡ true → scalar c ≡ true) → (cs : List ℕ)
-    → AllByRecursion (λ c. IsTrue (p c)) cs → scalars cs ≡ true
-scalars-all p fits [] each = refl
-scalars-all p fits (c ∷ cs) each = ap (λ b. b && scalars cs) (fits c each.0) ∙ scalars-all p fits cs each.1
-
--- characters of a document are UTF-8
-pub IsUtf8-IsChars : (bytes : List ℕ) → IsChars bytes → IsUtf8 bytes
-IsUtf8-IsChars bytes is = (is.characters, (scalars-all is_char scalar-is_char is.characters is.each, sym is.coded))
 
 pub IsChars-all : (bytes : List ℕ) → IsUtf8 bytes → list_all is_char (chars bytes) ≡ true → IsChars bytes
 IsChars-all bytes utf8 all = record {
@@ -80,7 +36,7 @@ IsChars-all bytes utf8 all = record {
 pub all-IsChars : (bytes : List ℕ) → IsChars bytes → list_all is_char (chars bytes) ≡ true
 all-IsChars bytes is =
     ap (λ cs. list_all is_char cs) (ap chars is.coded
-    ∙ chars-encodes is.characters (scalars-all is_char scalar-is_char is.characters is.each))
+    ∙ chars-encodes is.characters (all_scalar is_char is_char-scalar is.characters is.each))
     ∙ all-each is_char is.characters is.each
 
 -- one after another
@@ -154,26 +110,14 @@ pub IsName-all : (bytes : List ℕ) → IsUtf8 bytes → begins (chars bytes) �
     → list_all is_name_char (chars bytes) ≡ true → IsName bytes
 IsName-all bytes utf8 first all = name_from bytes (chars bytes) (encodes-chars bytes utf8) first all
 
-each-name : (bytes : List ℕ) (is : IsName bytes) → AllByRecursion (λ c. IsTrue (is_name_char c)) (is.first ∷ is.others)
-each-name bytes is = (first-or (is_name_start is.first) (is_within name_more_ranges is.first) is.starts, is.each)
-
-pub IsUtf8-IsName : (bytes : List ℕ) → IsName bytes → IsUtf8 bytes
-IsUtf8-IsName bytes is = (
-  is.first ∷ is.others,
-  (
-    scalars-all is_name_char scalar-is_name_char (is.first ∷ is.others) (each-name bytes is),
-    sym is.coded,
-  ),
-)
-
 pub chars-IsName : (bytes : List ℕ) (is : IsName bytes) → chars bytes ≡ is.first ∷ is.others
 chars-IsName bytes is = ap chars is.coded
-    ∙ chars-encodes (is.first ∷ is.others) (scalars-all is_name_char scalar-is_name_char (is.first ∷ is.others)
-    (each-name bytes is))
+    ∙ chars-encodes (is.first ∷ is.others) (all_scalar is_name_char name_char-scalar (is.first ∷ is.others)
+    (name_each bytes is))
 
 pub begins-IsName : (bytes : List ℕ) → IsName bytes → begins (chars bytes) ≡ true
 begins-IsName bytes is = ap begins (chars-IsName bytes is) ∙ first-or (is_name_start is.first) false is.starts
 
 pub all-IsName : (bytes : List ℕ) → IsName bytes → list_all is_name_char (chars bytes) ≡ true
 all-IsName bytes is = ap (λ cs. list_all is_name_char cs) (chars-IsName bytes is)
-    ∙ all-each is_name_char (is.first ∷ is.others) (each-name bytes is)
+    ∙ all-each is_name_char (is.first ∷ is.others) (name_each bytes is)

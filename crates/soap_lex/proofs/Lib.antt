@@ -5,7 +5,6 @@ pub mod CharsLemmas
 pub mod CodedLemmas
 pub mod EndLemmas
 pub mod EscapeLemmas
-pub mod FirstLemmas
 pub mod HeldLemmas
 pub mod HoldsLemmas
 pub mod LineLemmas

@@ -8,11 +8,8 @@ use Rattle.std.proofs.lemmas.Bool.{eqb-true, and_parts, ne_eqb, true≢false}
 use Rattle.xml_chars.specs.Classes.{is_char}
 use Rattle.soap_lex.specs.References.{IsReference, ampersand, less as less_than, greater, apostrophe, quote, decimal, hexadecimal}
 use Rattle.soap_lex.specs.Tests.{is_nil, reference, begins, before_semicolon, character, numbered}
-use Rattle.soap_lex.proofs.HeldLemmas.{all_passes, all_from_passes, all_weaker, other, same, front_from_begins}
-
-pub not_nil : (name : List ℕ) → name ≢ [] → is_nil name ≡ false
-not_nil [] h = absurd (h refl)
-not_nil (c ∷ name) h = refl
+use Rattle.soap_lex.specs.Facts.{all_passes, all_from_passes, all_weaker, other, same, front_from_begins}
+use Rattle.soap_lex.specs.Facts.{not_nil}
 
 -- the bytes of a reference between & and ;
 pub record Referred (bytes : List ℕ) (c : ℕ) : Type 0 where

@@ -11,34 +11,10 @@ use Rattle.soap_lex.specs.Characters.{IsChars}
 use Rattle.soap_lex.specs.Text.{IsCharData, IsCdata, IsComment}
 use Rattle.soap_lex.specs.Value.{IsPlainValue}
 use Rattle.soap_lex.specs.Tests.{is_chars, is_char_data, is_cdata, is_comment, is_plain, holds}
-use Rattle.soap_lex.proofs.HeldLemmas.{all_passes, all_from_passes, lacks, lacks_from, lacks_byte}
-
--- ---- scalar values
-
-abbrev has_scalars : (ℕ × ℕ) → Bool
-has_scalars range = nat_lt range.1 55296 || (nat_le 57344 range.0 && nat_lt range.1 1114112)
-
-scalar_in : (low high c : ℕ) → (nat_lt high 55296 || (nat_le 57344 low && nat_lt high 1114112)) ≡ true
-    → (nat_le low c && nat_le c high) ≡ true → scalar c ≡ true
-scalar_in low high c fits within = grind (arith, nat_tests)
-
-pub scalar_within : (ranges : List (ℕ × ℕ)) (c : ℕ) → list_all has_scalars ranges ≡ true → is_within ranges c ≡ true
-    → scalar c ≡ true
-scalar_within [] c fits within = cc
-scalar_within (range ∷ ranges) c fits within =
-    let (here, later) = and_parts (has_scalars range) (list_all has_scalars ranges) fits in
-    elim (or_cases (nat_le range.0 c && nat_le c range.1) (is_within ranges c) within) [
-      | inl now ↦ scalar_in range.0 range.1 c here now
-      | inr then ↦ scalar_within ranges c later then
-    ]
-
-is_char-scalar : (c : ℕ) → is_char c ≡ true → scalar c ≡ true
-is_char-scalar c h = scalar_within char_ranges c refl h
-
-pub all_scalar : (p : ℕ → Bool) → ((c : ℕ) → p c ≡ true → scalar c ≡ true) → (cs : List ℕ) → AllByRecursion (λ c. p c
-    ≡ true) cs → scalars cs ≡ true
-all_scalar p fits [] each = refl
-all_scalar p fits (c ∷ cs) each = rw (fits c each.0, all_scalar p fits cs each.1)
+use Rattle.soap_lex.proofs.HeldLemmas.{lacks, lacks_from, lacks_byte}
+use Rattle.soap_lex.specs.Facts.{all_passes, all_from_passes}
+use Rattle.soap_lex.specs.Scalars.{scalar_within, all_scalar}
+use Rattle.soap_lex.specs.Scalars.{is_char-scalar}
 
 -- ---- the tests
 

@@ -3,8 +3,9 @@ use Rattle.std.proofs.Common.{◌≡◌, ℕ, suc, ◌+◌, ◌<◌, ◌≤◌, 
 use Prim.Native.Nat.{zero}
 use Rattle.memchr.specs.Find.{IsFirstByte}
 use Rattle.soap_lex.specs.TextMachine.{TextMode, chars, referring, opening, commenting, quoting, refused, TextState, stops, halts_in, halts, longer, finish, to_stop, run}
-use Rattle.soap_lex.proofs.FirstLemmas.{all_fail, around, front_fails}
 use Rattle.soap_lex.proofs.TextRead.{NoStops, no_halt}
+use Rattle.soap_lex.specs.First.{all_fail, around, front_fails}
+use Rattle.soap_lex.specs.TextStops.{still}
 
 -- where nothing more is read, each byte ends the token
 stopping : (mode : TextMode) (token : List ℕ) → halts_in mode token ≡ true → (d : ℕ) → stops mode d ≡ true
@@ -67,7 +68,8 @@ halted : (s : TextState) (bytes : List ℕ) (n : ℕ) → IsFirstByte (stops s.m
 halted s [] n found h = refl
 halted s (c ∷ bytes) zero found h = rw h
 halted s (c ∷ bytes) (suc n) found h =
-    absurd (found.0.before 0 (omega arith) (omega arith) (stopping s.mode (s.token ++ get_or (c ∷ bytes) (suc n) 0 ∷ []) h c))
+    absurd (found.0.before 0 (omega arith) (omega arith) (stopping s.mode (s.token
+    ++ get_or (c ∷ bytes) (suc n) 0 ∷ []) h c))
 
 pub fed_halted : (s : TextState) (bytes : List ℕ) (r : Option ℕ) → IsFirstByte (stops s.mode) bytes r → (n : ℕ)
     → r ≡ Some n → halts s (get_or bytes n 0) ≡ true → to_stop s bytes ≡ (s, bytes)
@@ -98,39 +100,6 @@ run_to_stop s (c ∷ bytes) = one_stop s c bytes (halts s c) (stops s.mode c) re
 
 pub run_fed : (s t : TextState) (bytes rest : List ℕ) → to_stop s bytes ≡ (t, rest) → run s bytes ≡ run t rest
 run_fed s t bytes rest e = run_to_stop s bytes ∙ ap (λ (p : TextState × List ℕ). run p.0 p.1) e
-
-shrinks_at : (s : TextState) (c : ℕ) (bytes : List ℕ) (a b : Bool) → halts s c ≡ a → stops s.mode c ≡ b
-    → length (to_stop (longer s (c ∷ [])) bytes).1 ≤ length bytes → length (to_stop s (c ∷ bytes)).1 ≤ suc (length bytes)
-shrinks_at s c bytes true b e f h = rw e (omega arith)
-shrinks_at s c bytes false true e f h = rw (e, f) (omega arith)
-shrinks_at s c bytes false false e f h = rw (e, f) (omega (arith, h))
-
-shrinks : (s : TextState) (bytes : List ℕ) → length (to_stop s bytes).1 ≤ length bytes
-shrinks s [] = omega arith
-shrinks s (c ∷ bytes) =
-    let h : length (to_stop s (c ∷ bytes)).1 ≤ suc (length bytes) =
-    shrinks_at s c bytes (halts s c) (stops s.mode c) refl refl
-    (shrinks (longer s (c ∷ [])) bytes) in
-    omega (arith, h)
-
--- where nothing was taken, the machine halts
-pub still : (s t : TextState) (c : ℕ) (bytes : List ℕ) → to_stop s (c ∷ bytes) ≡ (t, c ∷ bytes)
-    → (halts s c ≡ true) × (s ≡ t)
-still s t c bytes h = go (halts s c) (stops s.mode c) refl refl
-  where
-    go : (a b : Bool) → halts s c ≡ a → stops s.mode c ≡ b → (halts s c ≡ true) × (s ≡ t)
-    go true b e f =
-        let x : (s, c ∷ bytes) ≡ (t, c ∷ bytes) = rw e at h in
-        (e, ap (λ (p : TextState × List ℕ). p.0) x)
-    go false true e f =
-        let x : (finish s.mode s c, bytes) ≡ (t, c ∷ bytes) = rw (e, f) at h in
-        let same : bytes ≡ c ∷ bytes = ap (λ (p : TextState × List ℕ). p.1) x in
-        absurd (omega (arith, ap length same))
-    go false false e f =
-        let x : to_stop (longer s (c ∷ [])) bytes ≡ (t, c ∷ bytes) = rw (e, f) at h in
-        let size : length (to_stop (longer s (c ∷ [])) bytes).1 ≡ length (c ∷ bytes) =
-        ap (λ (p : TextState × List ℕ). length p.1) x in
-        absurd (omega (arith, size, shrinks (longer s (c ∷ [])) bytes))
 
 -- nor is more read then
 pub run_still : (s t : TextState) (bytes : List ℕ) → to_stop s bytes ≡ (t, bytes) → run s bytes ≡ (t, bytes)

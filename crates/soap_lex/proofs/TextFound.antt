@@ -8,11 +8,11 @@ use Rattle.soap_lex.specs.Text.{IsText, run as plain, more, IsMarkup, reference,
 use Rattle.soap_lex.specs.Tests
 use Rattle.soap_lex.specs.Tests.{begins, is_char_data, is_comment, is_cdata, without}
 use Rattle.soap_lex.specs.TextMachine.{TextMode, chars, referring, opening, commenting, quoting, TextState, begun, stops, halts_in, halts, refuse, longer, at_referring, at_commenting, at_quoting, finish, ended, with_rest, reads}
-use Rattle.soap_lex.proofs.EndLemmas.{without_from}
-use Rattle.soap_lex.proofs.HeldLemmas.{begins-append, front_from_begins}
 use Rattle.soap_lex.proofs.ReferenceTests.{reference_from}
 use Rattle.soap_lex.proofs.TestLemmas.{data_from, comment_from, cdata_from}
 use Rattle.soap_lex.proofs.TextRead.{in_mode, opening_stays}
+use Rattle.soap_lex.specs.Ends.{without_from}
+use Rattle.soap_lex.specs.Facts.{begins-append, front_from_begins}
 
 -- from a state on, the text means the one, and the other follows it
 abbrev pub Reads : TextState → List ℕ → (List ℕ × List ℕ) → Type 0
@@ -237,7 +237,8 @@ module _ (text : List ℕ) (p : List ℕ × List ℕ) where
       (subst (λ (x : List ℕ). Reads (in_mode text opening (60 ∷ [])) x p) there h))
   opened_by bytes false false e f h =
       let no_comment = λ (r : List ℕ) (g : 60 ∷ bytes ≡ codes "<!--" ++ r).
-      true≢false (sym (ap (begins (codes "!--")) (less_than (codes "!--") bytes r g) ∙ begins-append (codes "!--") r) ∙ e) in
+      true≢false (sym (ap (begins (codes "!--")) (less_than (codes "!--") bytes r g)
+      ∙ begins-append (codes "!--") r) ∙ e) in
       let no_cdata = λ (r : List ℕ) (g : 60 ∷ bytes ≡ codes "<![CDATA[" ++ r).
       true≢false (sym (ap (begins (codes "![CDATA[")) (less_than (codes "![CDATA[") bytes r g)
       ∙ begins-append (codes "![CDATA[") r) ∙ f) in
@@ -282,7 +283,8 @@ abbrev Recur : ℕ → Type 0
 Recur fuel = (text bytes : List ℕ) (p : List ℕ × List ℕ) → length bytes ≤ fuel → Reads (begun text) bytes p
     → TextFound text bytes p
 
-module _ (text bytes : List ℕ) (p : List ℕ × List ℕ) (m : List ℕ) (passes : is_char_data m ≡ true) (fuel : ℕ) (recur : Recur fuel) where
+module _ (text bytes : List ℕ) (p : List ℕ × List ℕ) (m : List ℕ) (passes : is_char_data m ≡ true) (fuel : ℕ)
+    (recur : Recur fuel) where
   abbrev so_far : List ℕ
   so_far = text ++ with_line_ends m
 
@@ -325,7 +327,8 @@ module _ (text bytes : List ℕ) (p : List ℕ × List ℕ) (m : List ℕ) (pass
       let inside : rest ≡ r.inner ++ (codes "]]>" ++ r.rest) =
       r.there ∙ ap (λ (x : List ℕ). x ++ 62 ∷ r.rest) r.is ∙ append_assoc r.inner (codes "]]") (62 ∷ r.rest) in
       TextFound-more text bytes p m (codes "<![CDATA[" ++ (r.inner ++ codes "]]>")) (with_line_ends r.inner) r.rest
-      (e ∙ ap (λ (x : List ℕ). m ++ (codes "<![CDATA[" ++ x)) (inside ∙ sym (append_assoc r.inner (codes "]]>") r.rest)))
+      (e ∙ ap (λ (x : List ℕ). m ++ (codes "<![CDATA[" ++ x)) (inside ∙ sym (append_assoc r.inner
+      (codes "]]>") r.rest)))
       passes (cdata r.inner r.later.0)
       (recur (so_far ++ with_line_ends r.inner) r.rest p
       (omega (arith, shorter bytes m (codes "![CDATA[" ++ rest) 60 e, shorter rest r.front r.rest 62 r.there))
@@ -359,7 +362,8 @@ next_run text bytes p fuel recur short n =
     let so_far : List ℕ = text ++ with_line_ends n.token in
     let q = passed (is_char_data n.token) (cond (nat_eq n.last 60) (in_mode so_far opening (60 ∷ []))
     (in_mode so_far referring (38 ∷ []))) (in_mode text chars n.token) n.rest p n.later in
-    elim (chosen (nat_eq n.last 60) (in_mode so_far opening (60 ∷ [])) (in_mode so_far referring (38 ∷ [])) n.rest p q.1) [
+    elim (chosen (nat_eq n.last 60) (in_mode so_far opening (60 ∷ [])) (in_mode so_far referring
+    (38 ∷ [])) n.rest p q.1) [
       | inl k ↦ at_less text bytes p n.token q.0 fuel recur n.rest
           (n.there ∙ ap (λ c. n.token ++ c ∷ n.rest) (eqb-true n.last 60 k.0)) short (opened so_far p n.rest k.1)
       | inr k ↦ at_reference text bytes p n.token q.0 fuel recur n.rest

@@ -8,18 +8,15 @@ use Rattle.soap_lex.specs.Text.{IsText, run as plain, more, IsMarkup, reference,
 use Rattle.soap_lex.specs.Tests
 use Rattle.soap_lex.specs.Tests.{begins, is_char_data, is_comment, is_cdata, without}
 use Rattle.soap_lex.specs.TextMachine.{TextMode, chars, referring, opening, commenting, quoting, refused, TextState, begun, stops, opens, halts_in, halts, longer, step, run, ended, with_rest, reads}
-use Rattle.soap_lex.proofs.EndLemmas.{without-append, comment_open, cdata_open}
-use Rattle.soap_lex.proofs.HeldLemmas.{same}
+use Rattle.soap_lex.proofs.EndLemmas.{comment_open, cdata_open}
 use Rattle.soap_lex.proofs.ReferenceTests.{Referred, reference_passes}
 use Rattle.soap_lex.proofs.TestLemmas.{data_passes, data_bytes, comment_passes, cdata_passes}
+use Rattle.soap_lex.specs.Ends.{without-append}
+use Rattle.soap_lex.specs.Facts.{same}
+use Rattle.soap_lex.specs.Ends.{IsOpen, IsOpen-tail, IsOpen-here}
+use Rattle.soap_lex.specs.TextMachine.{Takes, stay, on, TextEnds}
 
 -- ---- how the machine moves
-
--- over the bytes it goes from one state to the other, and halts before none
-pub data Takes : TextState → List ℕ → TextState → Type 0 where
-  stay : (s : TextState) → Takes s [] s
-  on : (s : TextState) (c : ℕ) (bytes : List ℕ) (t : TextState) → halts s c ≡ false → Takes (step s c) bytes t
-      → Takes s (c ∷ bytes) t
 
 pub then : {s t u : TextState} {a b : List ℕ} → Takes s a t → Takes t b u → Takes s (a ++ b) u
 then (stay s) n = n
@@ -69,19 +66,6 @@ kept s (c ∷ bytes) h =
 
 -- ---- what the grammar has
 
--- no > in the bytes stands behind the word
-abbrev pub IsOpen : List ℕ → List ℕ → List ℕ → Type 0
-IsOpen word before bytes = (a b : List ℕ) → bytes ≡ a ++ 62 ∷ b → without word (before ++ a) ≡ None
-
-pub IsOpen-tail : (word before : List ℕ) (c : ℕ) (bytes : List ℕ) → IsOpen word before (c ∷ bytes)
-    → IsOpen word (before ++ c ∷ []) bytes
-IsOpen-tail word before c bytes h a b e = ap (without word) (append_assoc before (c ∷ []) a)
-    ∙ h (c ∷ a) b (ap (λ x. c ∷ x) e)
-
-pub IsOpen-here : (word before : List ℕ) (c : ℕ) (bytes : List ℕ) → IsOpen word before (c ∷ bytes) → c ≡ 62
-    → without word before ≡ None
-IsOpen-here word before c bytes h e = ap (without word) (sym (append-nil before)) ∙ h [] bytes (ap (λ x. x ∷ bytes) e)
-
 module _ (text : List ℕ) where
   abbrev pub in_mode : TextMode → List ℕ → TextState
   in_mode mode token = record { mode = mode; token = token; text = text }
@@ -97,7 +81,8 @@ module _ (text : List ℕ) where
       → Takes (in_mode commenting token) bytes (in_mode commenting (token ++ bytes))
   comment_run token [] h = retarget (ap (in_mode commenting) (sym (append-nil token))) (stay (in_mode commenting token))
   comment_run token (c ∷ bytes) h =
-      byte (in_mode commenting token) (in_mode commenting (token ++ c ∷ [])) (in_mode commenting (token ++ (c ∷ bytes))) c
+      byte (in_mode commenting token) (in_mode commenting (token ++ c ∷ [])) (in_mode commenting (token
+      ++ (c ∷ bytes))) c
       bytes refl
       (comment_step token c (nat_eq c 62) refl (IsOpen-here (codes "--") token c bytes h))
       (retarget (ap (in_mode commenting) (append_assoc token (c ∷ []) bytes))
@@ -195,14 +180,6 @@ markup_takes (comment bytes h) text token e =
     (less_step text token e)
     (retarget (ap begun (sym (append-nil so_far))) (comment_takes so_far bytes h))
 
--- where text ends: a token that is character data, which is not yet made text
-pub record TextEnds (text bytes meaning : List ℕ) : Type 0 where
-  pub before : List ℕ
-  pub token : List ℕ
-  pub passes : is_char_data token ≡ true
-  pub sum : before ++ with_line_ends token ≡ text ++ meaning
-  pub takes : Takes (begun text) bytes (in_mode before chars token)
-
 pub text_takes : {bytes meaning : List ℕ} → IsText bytes meaning → (text : List ℕ) → TextEnds text bytes meaning
 text_takes (plain bytes h) text = record {
   before = text;
@@ -248,7 +225,8 @@ module _ (text : List ℕ) where
       nc nd in
       let first : reads (in_mode text opening token) (c ∷ after) ≡ reads (step (in_mode text opening token) c) after =
       rw e in
-      first ∙ ap (λ x. reads x after) s ∙ later ∙ ap (λ (x : List ℕ). Some (text, x)) (append_assoc token (c ∷ []) after)
+      first ∙ ap (λ x. reads x after) s ∙ later ∙ ap (λ (x : List ℕ). Some (text, x)) (append_assoc token
+      (c ∷ []) after)
 
   pub opening_stays : (token after : List ℕ) → ((r : List ℕ) → token ++ after ≡ codes "<!--" ++ r → ⊥)
       → ((r : List ℕ) → token ++ after ≡ codes "<![CDATA[" ++ r → ⊥)
@@ -269,7 +247,8 @@ reads_rest text meaning bytes rest ends stop = elim stop.less_or_none [
       let first : reads (in_mode ends.before chars ends.token) (60 ∷ less.0)
       ≡ reads (in_mode so_far opening (60 ∷ [])) less.0 = rw ends.passes in
       ap (reads (in_mode ends.before chars ends.token)) less.1 ∙ first
-      ∙ opening_stays so_far (60 ∷ []) less.0 (λ r e. stop.no_comment r (less.1 ∙ e)) (λ r e. stop.no_cdata r (less.1 ∙ e))
+      ∙ opening_stays so_far (60 ∷ []) less.0 (λ r e. stop.no_comment r (less.1
+      ∙ e)) (λ r e. stop.no_cdata r (less.1 ∙ e))
       ∙ ap₂ (λ (x y : List ℕ). Some (x, y)) ends.sum (sym less.1)
 ]
 

@@ -44,7 +44,8 @@ front_then (x ∷ a) (y ∷ b) (z ∷ d) e f =
     ap₂ (λ (c : ℕ) (l : List ℕ). c ∷ l) (second ∙ first) (front_then a b d rest later)
 
 -- nothing was taken, so text ends or was refused
-module _ (text bytes rest : List ℕ) (s t : TextState) (taken : ℕ) (so : run s rest ≡ run (begun text) bytes) (fed : to_stop s rest ≡ (t, drop taken rest)) (none : taken ≡ 0) where
+module _ (text bytes rest : List ℕ) (s t : TextState) (taken : ℕ) (so : run s rest ≡ run (begun text) bytes)
+    (fed : to_stop s rest ≡ (t, drop taken rest)) (none : taken ≡ 0) where
   still : to_stop s rest ≡ (t, rest)
   still = fed ∙ ap (λ k. (t, drop k rest)) none
 

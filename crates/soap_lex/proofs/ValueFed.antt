@@ -2,9 +2,10 @@
 use Rattle.std.proofs.Common.{◌≡◌, ℕ, suc, ◌+◌, ◌≤◌, List, [], ◌∷◌, ◌++◌, Bool, true, false, Some, None, Option, length, get_or, take, drop, refl, sym, ap, subst, ◌∙◌, arith, append_assoc, append-nil}
 use Rattle.memchr.specs.Find.{IsFirstByte}
 use Rattle.soap_lex.specs.ValueMachine.{ValueState, stops, halts, longer, finish, to_stop, run}
-use Rattle.soap_lex.proofs.FirstLemmas.{all_fail, around, front_fails}
 use Rattle.soap_lex.proofs.TextFed.{drop_whole}
 use Rattle.soap_lex.proofs.ValueRead.{NoStops}
+use Rattle.soap_lex.specs.First.{all_fail, around, front_fails}
+use Rattle.soap_lex.specs.ValueStops.{still}
 
 kept_stop : (s : ValueState) (bytes rest : List ℕ) → halts s.mode ≡ false → NoStops s.mode s.quote bytes
     → to_stop s (bytes ++ rest) ≡ to_stop (longer s bytes) rest
@@ -14,12 +15,14 @@ kept_stop s (c ∷ bytes) rest e h =
     here ∙ kept_stop (longer s (c ∷ [])) bytes rest e h.1
     ∙ ap (λ t. to_stop (record s { token = t }) rest) (append_assoc s.token (c ∷ []) bytes)
 
-module _ (s : ValueState) (bytes : List ℕ) (r : Option ℕ) (found : IsFirstByte (stops s.mode s.quote) bytes r) (unended : halts s.mode ≡ false) where
+module _ (s : ValueState) (bytes : List ℕ) (r : Option ℕ) (found : IsFirstByte (stops s.mode s.quote) bytes r)
+    (unended : halts s.mode ≡ false) where
   pub fed_none : r ≡ None → to_stop s bytes ≡ (longer s bytes, drop (length bytes) bytes)
   fed_none e =
       let none : IsFirstByte (stops s.mode s.quote) bytes None =
       subst (λ (o : Option ℕ). IsFirstByte (stops s.mode s.quote) bytes o) e found in
-      ap (to_stop s) (sym (append-nil bytes)) ∙ kept_stop s bytes [] unended (all_fail (stops s.mode s.quote) bytes none)
+      ap (to_stop s) (sym (append-nil bytes)) ∙ kept_stop s bytes [] unended (all_fail
+      (stops s.mode s.quote) bytes none)
       ∙ ap (λ (x : List ℕ). (longer s bytes, x)) (sym (drop_whole bytes))
 
   pub fed_some : (n : ℕ) → r ≡ Some n
@@ -33,10 +36,6 @@ module _ (s : ValueState) (bytes : List ℕ) (r : Option ℕ) (found : IsFirstBy
       ≡ (finish s.mode (longer s (take n bytes)) c, drop (n + 1) bytes) = rw (unended, first.1) in
       ap (to_stop s) (around (stops s.mode s.quote) bytes n first)
       ∙ kept_stop s (take n bytes) (c ∷ drop (n + 1) bytes) unended none ∙ last
-
-pub fed_halted : (s : ValueState) (bytes : List ℕ) → halts s.mode ≡ true → to_stop s bytes ≡ (s, bytes)
-fed_halted s [] h = refl
-fed_halted s (c ∷ bytes) h = rw h
 
 -- ---- from one token to the next
 
@@ -56,39 +55,6 @@ run_to_stop s (c ∷ bytes) = one_stop s c bytes (halts s.mode) (stops s.mode s.
 
 pub run_fed : (s t : ValueState) (bytes rest : List ℕ) → to_stop s bytes ≡ (t, rest) → run s bytes ≡ run t rest
 run_fed s t bytes rest e = run_to_stop s bytes ∙ ap (λ (p : ValueState × List ℕ). run p.0 p.1) e
-
-shrinks_at : (s : ValueState) (c : ℕ) (bytes : List ℕ) (a b : Bool) → halts s.mode ≡ a → stops s.mode s.quote c ≡ b
-    → length (to_stop (longer s (c ∷ [])) bytes).1 ≤ length bytes → length (to_stop s (c ∷ bytes)).1 ≤ suc (length bytes)
-shrinks_at s c bytes true b e f h = rw e (omega arith)
-shrinks_at s c bytes false true e f h = rw (e, f) (omega arith)
-shrinks_at s c bytes false false e f h = rw (e, f) (omega (arith, h))
-
-shrinks : (s : ValueState) (bytes : List ℕ) → length (to_stop s bytes).1 ≤ length bytes
-shrinks s [] = omega arith
-shrinks s (c ∷ bytes) =
-    let h : length (to_stop s (c ∷ bytes)).1 ≤ suc (length bytes) =
-    shrinks_at s c bytes (halts s.mode) (stops s.mode s.quote c) refl refl
-    (shrinks (longer s (c ∷ [])) bytes) in
-    omega (arith, h)
-
--- where nothing was taken, the machine halts
-pub still : (s t : ValueState) (c : ℕ) (bytes : List ℕ) → to_stop s (c ∷ bytes) ≡ (t, c ∷ bytes)
-    → (halts s.mode ≡ true) × (s ≡ t)
-still s t c bytes h = go (halts s.mode) (stops s.mode s.quote c) refl refl
-  where
-    go : (a b : Bool) → halts s.mode ≡ a → stops s.mode s.quote c ≡ b → (halts s.mode ≡ true) × (s ≡ t)
-    go true b e f =
-        let x : (s, c ∷ bytes) ≡ (t, c ∷ bytes) = rw e at h in
-        (e, ap (λ (p : ValueState × List ℕ). p.0) x)
-    go false true e f =
-        let x : (finish s.mode s c, bytes) ≡ (t, c ∷ bytes) = rw (e, f) at h in
-        let same : bytes ≡ c ∷ bytes = ap (λ (p : ValueState × List ℕ). p.1) x in
-        absurd (omega (arith, ap length same))
-    go false false e f =
-        let x : to_stop (longer s (c ∷ [])) bytes ≡ (t, c ∷ bytes) = rw (e, f) at h in
-        let size : length (to_stop (longer s (c ∷ [])) bytes).1 ≡ length (c ∷ bytes) =
-        ap (λ (p : ValueState × List ℕ). length p.1) x in
-        absurd (omega (arith, size, shrinks (longer s (c ∷ [])) bytes))
 
 -- nor is more read then
 pub run_still : (s t : ValueState) (bytes : List ℕ) → to_stop s bytes ≡ (t, bytes) → run s bytes ≡ (t, bytes)

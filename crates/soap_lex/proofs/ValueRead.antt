@@ -11,14 +11,9 @@ use Rattle.soap_lex.specs.Tests.{is_plain}
 use Rattle.soap_lex.specs.ValueMachine.{ValueMode, plain, referring, closed, refused, ValueState, begun, stops, halts, refuse, longer, at_referring, finish, step, run, is_closed, reads}
 use Rattle.soap_lex.proofs.ReferenceTests.{Referred, reference_passes, reference_from}
 use Rattle.soap_lex.proofs.TestLemmas.{plain_passes, plain_bytes, plain_from}
+use Rattle.soap_lex.specs.ValueMachine.{Takes, stay, on}
 
 -- ---- how the machine moves
-
--- over the bytes it goes from one state to the other, and halts before none
-pub data Takes : ValueState → List ℕ → ValueState → Type 0 where
-  stay : (s : ValueState) → Takes s [] s
-  on : (s : ValueState) (c : ℕ) (bytes : List ℕ) (t : ValueState) → halts s.mode ≡ false → Takes (step s c) bytes t
-      → Takes s (c ∷ bytes) t
 
 pub then : {s t u : ValueState} {a b : List ℕ} → Takes s a t → Takes t b u → Takes s (a ++ b) u
 then (stay s) n = n
@@ -255,7 +250,8 @@ InnerFound-more quote value bytes p m token b c e passes is r = record {
 
 -- the same for shorter bytes
 abbrev Recur : ℕ → ℕ → Type 0
-Recur quote fuel = (value bytes : List ℕ) (p : List ℕ × List ℕ) → length bytes ≤ fuel → Reads (begun quote value) bytes p
+Recur quote fuel = (value bytes : List ℕ) (p : List ℕ × List ℕ) → length bytes ≤ fuel
+    → Reads (begun quote value) bytes p
     → InnerFound quote value bytes p
 
 at_quote : (quote : ℕ) (value bytes m rest : List ℕ) (p : List ℕ × List ℕ) → bytes ≡ m ++ quote ∷ rest
@@ -312,7 +308,8 @@ inner_found quote (suc fuel) value bytes p short h =
     next_run quote value bytes p fuel (inner_found quote fuel) short (next (begun quote value) bytes p refl h)
 
 -- what is read, the grammar has
-pub reads_found : (quote : ℕ) (value bytes meaning rest : List ℕ) → reads (begun quote value) bytes ≡ Some (meaning, rest)
+pub reads_found : (quote : ℕ) (value bytes meaning rest : List ℕ) → reads (begun quote value) bytes ≡ Some
+    (meaning, rest)
     → InnerFound quote value bytes (meaning, rest)
 reads_found quote value bytes meaning rest h =
     inner_found quote (length bytes) value bytes (meaning, rest) (omega arith) h

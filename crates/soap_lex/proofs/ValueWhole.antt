@@ -14,7 +14,8 @@ use Rattle.soap_lex.proofs.ValueFed.{run_still}
 use Rattle.soap_lex.proofs.ValueRead.{reads_only, reads_found}
 
 -- nothing was taken, so the value was closed or refused
-module _ (quote taken : ℕ) (value bytes rest : List ℕ) (s t : ValueState) (so : run s rest ≡ run (begun quote value) bytes) (fed : to_stop s rest ≡ (t, drop taken rest)) (none : taken ≡ 0) where
+module _ (quote taken : ℕ) (value bytes rest : List ℕ) (s t : ValueState) (so : run s rest ≡ run
+    (begun quote value) bytes) (fed : to_stop s rest ≡ (t, drop taken rest)) (none : taken ≡ 0) where
   end_state : run (begun quote value) bytes ≡ (t, rest)
   end_state = sym so ∙ run_still s t rest (fed ∙ ap (λ k. (t, drop k rest)) none)
 

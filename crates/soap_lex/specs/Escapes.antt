@@ -19,8 +19,10 @@ value_escape byte =
 abbrev pub escape_of : Bool → ℕ → List ℕ
 escape_of quoted byte = if quoted then value_escape byte else text_escape byte
 
+-- what text is written as (2.4)
 abbrev pub escaped_text : List ℕ → List ℕ
 escaped_text bytes = flat_map text_escape bytes
 
+-- what a value is written as, between double quotes (2.3, production 10)
 abbrev pub escaped_value : List ℕ → List ℕ
 escaped_value bytes = flat_map value_escape bytes

@@ -12,6 +12,7 @@ use Rattle.soap_lex.specs.declared.value.ValueMode.{ValueMode as CodeValueMode}
 use Rattle.soap_lex.specs.declared.value.ValueMode.TheVariants.{Plain, Referring as Refers, Closed, Refused as Refuses}
 use Rattle.soap_lex.specs.declared.value.ValueReader.{ValueReader}
 
+-- where a reader of text stands
 abbrev pub text_mode : CodeMode → TextMode
 text_mode Chars = chars
 text_mode Referring = referring
@@ -20,19 +21,23 @@ text_mode Commenting = commenting
 text_mode Quoting = quoting
 text_mode Refused = refused
 
+-- the state of the machine that a reader of text stands for, where this was appended
 abbrev pub text_state : TextReader → List ℕ → TextState
 text_state r text = record { mode = text_mode r.mode; token = r.token.items; text = text }
 
+-- the byte that a quote is
 abbrev pub quote_byte : Quote → ℕ
 quote_byte Double = 34
 quote_byte Single = 39
 
+-- where a reader of values stands
 abbrev pub value_mode : CodeValueMode → ValueMode
 value_mode Plain = ValueMachine.plain
 value_mode Refers = ValueMachine.referring
 value_mode Closed = ValueMachine.closed
 value_mode Refuses = ValueMachine.refused
 
+-- the state of the machine that a reader of values stands for, where this was appended
 abbrev pub value_state : ValueReader → List ℕ → ValueState
 value_state r value = record {
   mode = value_mode r.mode;

@@ -6,6 +6,7 @@ use Rattle.std.specs.List.{list_all}
 use Rattle.std.specs.Str.{is_utf8, chars, bytes_eq}
 use Rattle.xml_chars.specs.Classes.{is_char}
 
+-- the list is empty
 abbrev pub is_nil : {X : Type 0} → List X → Bool
 is_nil [] = true
 is_nil (x ∷ xs) = false
@@ -21,19 +22,24 @@ abbrev pub holds : List ℕ → List ℕ → Bool
 holds [] word = is_nil word
 holds (b ∷ bytes) word = begins word (b ∷ bytes) || holds bytes word
 
+-- characters of XML, in UTF-8 (2.2, production 2)
 unfoldable pub is_chars : List ℕ → Bool
 is_chars bytes = is_utf8 bytes && list_all is_char (chars bytes)
 
+-- character data (2.4, production 14)
 unfoldable pub is_char_data : List ℕ → Bool
 is_char_data bytes = is_chars bytes && (not (holds bytes (codes "<")) && (not (holds bytes (codes "&"))
     && not (holds bytes (codes "]]>"))))
 
+-- what stands in a CDATA section (2.7, production 20)
 unfoldable pub is_cdata : List ℕ → Bool
 is_cdata bytes = is_chars bytes && not (holds bytes (codes "]]>"))
 
+-- what stands in a comment (2.5, production 15)
 unfoldable pub is_comment : List ℕ → Bool
 is_comment bytes = is_chars bytes && not (holds (bytes ++ codes "-") (codes "--"))
 
+-- what stands in a value between these quotes, with no reference (2.3, production 10)
 unfoldable pub is_plain : ℕ → List ℕ → Bool
 is_plain quote bytes = is_chars bytes && (not (holds bytes (codes "<")) && (not (holds bytes (codes "&"))
     && not (holds bytes (quote ∷ []))))
@@ -53,6 +59,7 @@ character is_digit base (Some digits) =
     if not (is_nil digits) && (list_all is_digit digits && is_char (digits_value base digits))
     then Some (digits_value base digits) else None
 
+-- the character that a numeric reference refers to (4.1, production 66)
 abbrev pub numbered : List ℕ → Option ℕ
 numbered bytes =
     if begins (codes "&#x") bytes then character is_ascii_hexdigit 16 (before_semicolon (drop 3 bytes))

@@ -8,6 +8,7 @@ abbrev pub line_end : Bool → ℕ → List ℕ
 line_end after_return byte =
     if byte == 13 then 10 ∷ [] else if after_return && (byte == 10) then [] else byte ∷ []
 
+-- the same, where the byte before was a carriage return or was none
 abbrev pub line_ends_after : Bool → List ℕ → List ℕ
 line_ends_after after_return [] = []
 line_ends_after after_return (byte ∷ bytes) = line_end after_return byte ++ line_ends_after (byte == 13) bytes

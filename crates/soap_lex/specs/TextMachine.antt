@@ -1,10 +1,11 @@
 -- The reader of text, a byte at a time. It says how text is read, and nothing of what text is: that stands in Text. A
 -- byte that ends a token has its meaning, and all others only lengthen the token.
-use Rattle.std.specs.Prelude.{ℕ, List, [], ◌∷◌, ◌++◌, Bool, true, false, not, ◌||◌, ◌==◌, if◌then◌else◌, Option, Some, None, codes, encode_utf8, length}
+use Rattle.std.specs.Prelude.{◌≡◌, ℕ, List, [], ◌∷◌, ◌++◌, Bool, true, false, not, ◌||◌, ◌==◌, if◌then◌else◌, Option, Some, None, codes, encode_utf8, length}
 use Rattle.std.specs.Str.{bytes_eq}
 use Rattle.soap_lex.specs.Text.{with_line_ends}
 use Rattle.soap_lex.specs.Tests.{begins, is_char_data, is_cdata, is_comment, reference, without}
 
+-- where the reader stands
 pub data TextMode : Type 0 where
   -- in a run of characters; in a reference; behind a <, where a comment or a CDATA section may begin; in a comment; in
   -- a CDATA section; the bytes are no text
@@ -42,6 +43,7 @@ halts_in commenting token = false
 halts_in quoting token = false
 halts_in refused token = true
 
+-- whether nothing more is read before this byte
 abbrev pub halts : TextState → ℕ → Bool
 halts s c = halts_in s.mode (s.token ++ c ∷ [])
 
@@ -54,15 +56,28 @@ is_less_in commenting token = false
 is_less_in quoting token = false
 is_less_in refused token = false
 
+-- whether a < was read last
 abbrev pub is_less : TextState → Bool
 is_less s = is_less_in s.mode s.token
 
+-- whether the bytes are no text, whatever follows
+abbrev pub is_refused : TextMode → Bool
+is_refused chars = false
+is_refused referring = false
+is_refused opening = false
+is_refused commenting = false
+is_refused quoting = false
+is_refused refused = true
+
+-- the bytes are no text
 abbrev pub refuse : TextState → TextState
 refuse s = record s { mode = refused; token = [] }
 
+-- the bytes only lengthen the token
 abbrev pub longer : TextState → List ℕ → TextState
 longer s bytes = record s { token = s.token ++ bytes }
 
+-- a < or a & ends a run of characters
 abbrev pub at_chars : TextState → ℕ → TextState
 at_chars s c =
     if is_char_data s.token then
@@ -70,16 +85,19 @@ at_chars s c =
     else record { mode = referring; token = 38 ∷ []; text = s.text ++ with_line_ends s.token })
     else refuse s
 
+-- a reference ends
 abbrev pub at_referring : TextState → Option ℕ → TextState
 at_referring s None = refuse s
 at_referring s (Some c) = begun (s.text ++ encode_utf8 c)
 
+-- a byte behind a <
 abbrev pub at_opening : TextState → List ℕ → TextState
 at_opening s token =
     if bytes_eq token (codes "<!--") then record s { mode = commenting; token = [] }
     else if bytes_eq token (codes "<![CDATA[") then record s { mode = quoting; token = [] }
     else record s { token = token }
 
+-- a comment ends, or holds a >
 abbrev pub at_commenting : TextState → Option (List ℕ) → TextState
 at_commenting s None = longer s (62 ∷ [])
 at_commenting s (Some comment) = if is_comment comment then begun s.text else refuse s
@@ -89,6 +107,7 @@ abbrev pub cdata_meaning : Option (List ℕ) → List ℕ
 cdata_meaning None = []
 cdata_meaning (Some bytes) = if is_cdata bytes then with_line_ends bytes else []
 
+-- a CDATA section ends, or holds a >
 abbrev pub at_quoting : TextState → Option (List ℕ) → TextState
 at_quoting s None = longer s (62 ∷ [])
 at_quoting s (Some bytes) = if is_cdata bytes then begun (s.text ++ with_line_ends bytes) else refuse s
@@ -102,6 +121,7 @@ finish commenting s c = at_commenting s (without (codes "--") s.token)
 finish quoting s c = at_quoting s (without (codes "]]") s.token)
 finish refused s c = refuse s
 
+-- what a byte does
 abbrev pub step : TextState → ℕ → TextState
 step s c = if stops s.mode c then finish s.mode s c else longer s (c ∷ [])
 
@@ -125,6 +145,7 @@ ended_in commenting s = None
 ended_in quoting s = None
 ended_in refused s = None
 
+-- what the text means that ends here, and the bytes behind it that were taken
 abbrev pub ended : TextState → Option (List ℕ × List ℕ)
 ended s = ended_in s.mode s
 
@@ -133,6 +154,7 @@ abbrev pub counted : Option (List ℕ × List ℕ) → Option (List ℕ × ℕ)
 counted None = None
 counted (Some p) = Some (p.0, length p.1)
 
+-- with what follows those bytes
 abbrev pub with_rest : Option (List ℕ × List ℕ) → List ℕ → Option (List ℕ × List ℕ)
 with_rest None rest = None
 with_rest (Some p) rest = Some (p.0, p.1 ++ rest)
@@ -140,3 +162,21 @@ with_rest (Some p) rest = Some (p.0, p.1 ++ rest)
 -- what the text at the front means, and what follows it
 abbrev pub reads : TextState → List ℕ → Option (List ℕ × List ℕ)
 reads s bytes = with_rest (ended (run s bytes).0) (run s bytes).1
+
+-- over the bytes it goes from one state to the other, and halts before none
+pub data Takes : TextState → List ℕ → TextState → Type 0 where
+  stay : (s : TextState) → Takes s [] s
+  on : (s : TextState) (c : ℕ) (bytes : List ℕ) (t : TextState) → halts s c ≡ false → Takes (step s c) bytes t
+      → Takes s (c ∷ bytes) t
+
+-- in this mode, with this token and this meaning so far
+abbrev pub text_in : List ℕ → TextMode → List ℕ → TextState
+text_in text mode token = record { mode = mode; token = token; text = text }
+
+-- where text ends: a token that is character data, which is not yet made text
+pub record TextEnds (text bytes meaning : List ℕ) : Type 0 where
+  pub before : List ℕ
+  pub token : List ℕ
+  pub passes : is_char_data token ≡ true
+  pub sum : before ++ with_line_ends token ≡ text ++ meaning
+  pub takes : Takes (begun text) bytes (text_in before chars token)

@@ -1,4 +1,4 @@
-// The tests of whole tokens, as the machines make them.
+//! The tests of whole tokens, as the machines make them.
 ghost use Rattle.std.specs.Prelude.{◌≡◌, ◌⊎◌, ◌++◌, ◌∷◌, [], option_map};
 ghost use Rattle.soap_lex.specs.Tests.{
   begins,

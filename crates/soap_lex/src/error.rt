@@ -1,3 +1,4 @@
+//! What a reader of tokens answers where it reads nothing.
 ghost use Rattle.std.specs.Prelude.{◌≡◌};
 
 use std::alloc::{AllocError, AllocFailed};

@@ -1,14 +1,15 @@
 //! Laws of the grammar, each the contract of a function that does nothing.
 
-ghost use Rattle.std.specs.Prelude.{◌≡◌, ◌⊎◌, ℕ, List, [], ◌∷◌, ◌++◌, Some};
+ghost use Rattle.std.specs.Prelude.{◌≡◌, ◌⊎◌, ◌↔◌, ℕ, List, [], ◌∷◌, ◌++◌, codes, true, None, Some};
 ghost use Rattle.soap_lex.specs.Characters.{IsChars};
 ghost use Rattle.soap_lex.specs.Cut.{IsTextFirst, IsValueFirst};
 ghost use Rattle.soap_lex.specs.Escapes.{escaped_text, escaped_value};
 ghost use Rattle.soap_lex.specs.References.{IsReference};
-ghost use Rattle.soap_lex.specs.Text.{IsText};
-ghost use Rattle.soap_lex.specs.TextMachine.{begun, reads};
+ghost use Rattle.soap_lex.specs.Tests.{is_comment, without};
+ghost use Rattle.soap_lex.specs.Text.{IsComment, IsText};
+ghost use Rattle.soap_lex.specs.TextMachine.{TextEnds, begun, reads};
 ghost use Rattle.soap_lex.specs.Value.{IsInner, IsValue};
-ghost use Rattle.soap_lex.specs.ValueMachine.{begun as begun_value, reads as reads_value};
+ghost use Rattle.soap_lex.specs.ValueMachine.{Takes as TakesValue, begun as begun_value, closed_with, reads as reads_value};
 
 /// What `write_text` appends is text that means what was written.
 pub fn text_is_read_back()
@@ -49,6 +50,24 @@ pub fn value_is_read()
         → reads_value (begun_value quote before) bytes ≡ Some (all, rest)
         → (inner : List ℕ) × (meaning : List ℕ) × (bytes ≡ inner ++ quote ∷ rest) × IsInner quote inner meaning
         × (all ≡ before ++ meaning) }
+{}
+
+/// The machine of text takes text, up to the run of characters that it ends with.
+pub fn text_is_taken()
+    ensures { (bytes meaning before : List ℕ) → IsText bytes meaning → TextEnds before bytes meaning }
+{}
+
+/// The machine of values takes what stands before a closing quote, and that.
+pub fn value_is_taken()
+    ensures { (quote : ℕ) (inner meaning before : List ℕ) → (quote ≡ 34) ⊎ (quote ≡ 39) → IsInner quote inner meaning
+        → TakesValue (begun_value quote before) (inner ++ quote ∷ []) (closed_with quote (before ++ meaning)) }
+{}
+
+/// What may stand in a comment is tested so, and a comment does not end before its end.
+pub fn comment_is_tested()
+    ensures test { (bytes : List ℕ) → (is_comment bytes ≡ true) ↔ IsComment bytes }
+    ensures end { (bytes front rest : List ℕ) → IsComment bytes → bytes ++ codes "--" ≡ front ++ 62 ∷ rest
+        → without (codes "--") front ≡ None }
 {}
 
 /// Bytes begin with one reference, to one character.

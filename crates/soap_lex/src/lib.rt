@@ -10,8 +10,6 @@ pub mod lines;
 pub mod read;
 pub mod references;
 pub(crate) mod search;
-#[cfg(test)]
-mod tests;
 pub mod text;
 pub mod tokens;
 pub mod value;

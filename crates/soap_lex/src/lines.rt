@@ -1,3 +1,4 @@
+//! Line ends and white space, as they are normalised.
 ghost use Rattle.std.specs.Prelude.{◌≡◌, ◌≤◌, ◌++◌, true, false, length, take, map, OnOk, OnErr};
 ghost use Rattle.soap_lex.specs.Text.{with_line_ends, line_ends_after};
 ghost use Rattle.soap_lex.specs.Value.{with_spaces, space_of};
@@ -31,7 +32,7 @@ pub fn push_spaces(bytes: &[u8], out: &mut Vec<u8>) -> Result<(), Memory>
     Ok(())
 }
 
-// appends line by line, up to a want of memory
+// Appends line by line, up to a want of memory.
 fn push_lines(bytes: &[u8], out: &mut Vec<u8>) -> Result<(), Memory>
     ensures ok { OnOk result (out.new.items ≡ out.old.items ++ with_line_ends bytes.now) }
     ensures err { OnErr result (take (length out.old.items) out.new.items ≡ out.old.items) }
@@ -46,7 +47,7 @@ fn push_lines(bytes: &[u8], out: &mut Vec<u8>) -> Result<(), Memory>
     Ok(())
 }
 
-// what follows a CR, without an LF at its front
+// What follows a CR, without an LF at its front.
 fn after_line_end(bytes: &[u8]) -> &[u8]
     ensures same { line_ends_after false result.now ≡ line_ends_after true bytes.now }
     ensures bound { length result.now ≤ length bytes.now }
@@ -57,7 +58,7 @@ fn after_line_end(bytes: &[u8]) -> &[u8]
     }
 }
 
-// each tab and LF becomes a space
+// Each tab and LF becomes a space.
 fn blank(bytes: &mut [u8])
     ensures { bytes.new ≡ map space_of bytes.old }
 {

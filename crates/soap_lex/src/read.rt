@@ -1,3 +1,4 @@
+//! Names, text and values read at a place.
 ghost use Rattle.std.specs.Prelude.{◌≡◌, ◌⊎◌, ℕ, ◌+◌, ◌-◌, ◌<◌, ◌≤◌, List, [], ◌∷◌, ◌++◌, length, take, drop, Some, None};
 ghost use Rattle.std.specs.Prelude.{IfOk, IfErr, IfSome, IfNone, OnErr};
 ghost use Rattle.std.specs.Str.{IsUtf8};
@@ -42,7 +43,7 @@ pub fn read_name(bytes: &[u8], at: usize) -> Option<usize>
     }
 }
 
-// how many bytes the longest name at the front has
+// How many bytes the longest name at the front has.
 fn name_len(text: &str) -> Option<usize>
     ensures bound { IfSome result (λ n. n ≤ length text.now) }
     ensures found { IfSome result (λ n. IsLongestName text.now (take n text.now) (drop n text.now)) }
@@ -55,7 +56,7 @@ fn name_len(text: &str) -> Option<usize>
     }
 }
 
-// how many bytes the characters at the front have that may stand in a name
+// How many bytes the characters at the front have that may stand in a name.
 fn name_chars_len(text: &str) -> usize
     ensures { IsNameRun text.now result }
 {
@@ -108,7 +109,7 @@ pub fn read_attr(bytes: &[u8], at: usize, out: &mut Vec<u8>) -> Result<usize, Le
     }
 }
 
-// appends what the text at the front means, and gives what follows it
+// Appends what the text at the front means, and gives what follows it.
 fn push_text<'a>(bytes: &'a [u8], out: &mut Vec<u8>) -> Result<&'a [u8], LexError>
     ensures found { IfOk result (λ rest. (text : List ℕ) × (meaning : List ℕ)
         × IsTextFirst bytes.now text rest.now meaning × (out.new.items ≡ out.old.items ++ meaning)) }
@@ -122,7 +123,7 @@ fn push_text<'a>(bytes: &'a [u8], out: &mut Vec<u8>) -> Result<&'a [u8], LexErro
     Ok(&bytes[bytes.len() - left..])
 }
 
-// appends what the text at the front means, and says how many bytes follow it
+// Appends what the text at the front means, and says how many bytes follow it.
 fn run_text(bytes: &[u8], out: &mut Vec<u8>) -> Result<usize, LexError>
     ensures ok { IfOk result (λ left. counted (reads (begun out.old.items) bytes.now) ≡ Some (out.new.items, left)) }
     ensures refused { IfErr result (λ error. OnRefusal error (reads (begun out.old.items) bytes.now ≡ None)) }
@@ -142,7 +143,7 @@ fn run_text(bytes: &[u8], out: &mut Vec<u8>) -> Result<usize, LexError>
     }
 }
 
-// appends what the value at the front means, and gives what follows it
+// Appends what the value at the front means, and gives what follows it.
 fn push_value<'a>(bytes: &'a [u8], out: &mut Vec<u8>) -> Result<&'a [u8], LexError>
     ensures found { IfOk result (λ rest. (value : List ℕ) × (meaning : List ℕ)
         × IsValueFirst bytes.now value rest.now meaning × (out.new.items ≡ out.old.items ++ meaning)) }
@@ -161,7 +162,7 @@ fn push_value<'a>(bytes: &'a [u8], out: &mut Vec<u8>) -> Result<&'a [u8], LexErr
     }
 }
 
-// appends what stands before the closing quote means, and gives what follows that
+// Appends what stands before the closing quote means, and gives what follows that.
 fn run_value<'a>(quote: Quote, bytes: &'a [u8], out: &mut Vec<u8>) -> Result<&'a [u8], LexError>
     ensures ok { IfOk result (λ rest. reads_value (begun_value (quote_byte quote) out.old.items) bytes.now
         ≡ Some (out.new.items, rest.now)) }

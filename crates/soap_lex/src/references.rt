@@ -1,3 +1,4 @@
+//! References to characters.
 ghost use Rattle.std.specs.Prelude.{◌≡◌, ◌≢◌, ◌⊎◌, ℕ, ◌≤◌, List, [], ◌++◌, min, encode_utf8, IfSome, IfNone, OnOk, OnErr, IsTrue, codes};
 ghost use Rattle.std.specs.Str.Parse.{AllDigits, digits_value};
 ghost use Rattle.xml_chars.specs.Classes.{is_char as char_class};
@@ -22,7 +23,7 @@ pub fn reference(bytes: &[u8]) -> Option<char>
     named(bytes)
 }
 
-// what stands between the two words
+// What stands between the two words.
 fn between<'a>(before: &[u8], bytes: &'a [u8], after: &[u8]) -> Option<&'a [u8]>
     ensures found { IfSome result (λ inner. bytes.now ≡ before.now ++ (inner.now ++ after.now)) }
     ensures none { IfNone result ((inner : List ℕ) → bytes.now ≡ before.now ++ (inner ++ after.now) → ⊥) }
@@ -33,7 +34,7 @@ fn between<'a>(before: &[u8], bytes: &'a [u8], after: &[u8]) -> Option<&'a [u8]>
     rest.strip_suffix(after)
 }
 
-// the character of a reference by name
+// The character of a reference by name.
 fn named(bytes: &[u8]) -> Option<char>
     ensures found { IfSome result (IsReference bytes.now) }
     ensures none { IfNone result ((bytes.now ≢ codes "&amp;") × (bytes.now ≢ codes "&lt;") × (bytes.now ≢ codes "&gt;")
@@ -49,7 +50,7 @@ fn named(bytes: &[u8]) -> Option<char>
     }
 }
 
-// the character with this number
+// The character with this number.
 fn character(digits: &[u8], base: u32) -> Option<char>
     requires { (base ≡ 10) ⊎ (base ≡ 16) }
     ensures found { IfSome result (λ c. (digits.now ≢ []) × AllDigits base digits.now × IsTrue (char_class c)
@@ -64,7 +65,7 @@ fn character(digits: &[u8], base: u32) -> Option<char>
     if is_char(c) { Some(c) } else { None }
 }
 
-// the number that the digits write, or one above all characters where theirs is
+// The number that the digits write, or one above all characters where theirs is.
 fn number(digits: &[u8], base: u32) -> Option<u32>
     requires { (base ≡ 10) ⊎ (base ≡ 16) }
     ensures found { IfSome result (λ n. AllDigits base digits.now × (n ≡ min (digits_value base digits.now) 0x110000)) }
@@ -78,7 +79,7 @@ fn number(digits: &[u8], base: u32) -> Option<u32>
     Some(number)
 }
 
-// appends a character
+// Appends a character.
 pub(crate) fn push_character(c: char, out: &mut Vec<u8>) -> Result<(), Memory>
     ensures ok { OnOk result (out.new.items ≡ out.old.items ++ encode_utf8 c) }
     ensures err { OnErr result (out.new.items ≡ out.old.items) }

@@ -1,13 +1,13 @@
-// Where a token ends. The end is mostly near, so the first few bytes are looked at one by one.
+//! Where a token ends. The end is mostly near, so the first few bytes are looked at one by one.
 ghost use Rattle.std.specs.Prelude.{◌≡◌, true};
 ghost use Rattle.memchr.specs.Find.{IsFirstByte, is_byte2};
 
 use memchr::memchr2;
 
-// so many bytes are near
+// So many bytes are near.
 const NEAR: usize = 16;
 
-// where the first byte is one of the two
+// Where the first byte is one of the two.
 pub(crate) fn first_of_two(a: u8, b: u8, bytes: &[u8]) -> Option<usize>
     ensures { IsFirstByte (is_byte2 a b) bytes.now result }
 {
@@ -33,7 +33,7 @@ fn is_either(a: u8, b: u8, byte: u8) -> bool
     byte == a || byte == b
 }
 
-// the first byte, if there is one
+// The first byte, if there is one.
 pub(crate) fn first(bytes: &[u8]) -> Option<usize>
     ensures { IsFirstByte (λ _. true) bytes.now result }
 {

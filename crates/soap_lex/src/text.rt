@@ -1,3 +1,4 @@
+//! Text, read in pieces.
 ghost use Rattle.std.specs.Prelude.{◌≡◌, ◌≤◌, ◌∷◌, ◌++◌, ℕ, List, [], not, length, take, drop, encode_utf8};
 ghost use Rattle.std.specs.Prelude.{IfOk, OnOk, OnErr, IsTrue, ◌↔◌, codes, true, option_map, if◌then◌else◌};
 ghost use Rattle.std.specs.Str.{bytes_eq};
@@ -18,6 +19,7 @@ ghost use Rattle.soap_lex.specs.TextMachine.{
   counted,
   opens as open_test,
   is_less as less_test,
+  is_refused as refused_test,
   cdata_meaning,
 };
 ghost use Rattle.soap_lex.specs.Readers.{text_state, text_mode};
@@ -30,7 +32,7 @@ use crate::{Memory, push_line_ends};
 use memchr::memchr;
 use std::alloc::Global;
 
-// where the reader stands
+// Where the reader stands.
 #[derive(Clone, Copy, Debug, PartialEq, Eq)]
 pub(crate) enum TextMode {
     Chars,
@@ -68,8 +70,9 @@ impl TextReader {
         self.token.clear();
     }
 
-    /// Reads on to the end of a token, or of the piece: appends what was read, and says how many bytes were taken. Where
-    /// none of a piece is taken, the text ends there, or was refused. After an error the reader is of no more use.
+    /// Reads on to the end of a token, or of the piece: appends what was read, and says how many bytes were taken.
+    /// Where none of a piece is taken, the text ends there, or was refused. After an error the reader is of no more
+    /// use.
     pub fn feed(&mut self, piece: &[u8], out: &mut Vec<u8>) -> Result<usize, Memory>
         ensures ok { IfOk result (λ n. (n ≤ length piece.now)
             × (to_stop (text_state self.old out.old.items) piece.now
@@ -114,6 +117,13 @@ impl TextReader {
         self.mode == TextMode::Opening && is_less_sign(&self.token)
     }
 
+    /// What was fed is no text, whatever follows.
+    pub fn is_refused(&self) -> bool
+        ensures { (text : List ℕ) → result ≡ refused_test (text_state self.now text).mode }
+    {
+        self.mode == TextMode::Refused
+    }
+
     /// No token is begun: it stands as `restart` leaves it.
     pub fn is_fresh(&self) -> bool
         ensures { (text : List ℕ) → IsTrue result ↔ (text_state self.now text ≡ begun text) }
@@ -121,7 +131,7 @@ impl TextReader {
         self.mode == TextMode::Chars && self.token.is_empty()
     }
 
-    // nothing more is read before this byte
+    // Nothing more is read before this byte.
     fn halts(&self, byte: u8) -> bool
         ensures { (text : List ℕ) → result ≡ halt_test (text_state self.now text) byte }
     {
@@ -132,7 +142,7 @@ impl TextReader {
         }
     }
 
-    // the bytes of the run end the token, with this byte behind them
+    // The bytes of the run end the token, with this byte behind them.
     fn end_token(&mut self, run: &[u8], byte: u8, out: &mut Vec<u8>) -> Result<(), Memory>
         ensures ok { OnOk result (text_state self.new out.new.items
             ≡ finished (text_mode self.old.mode) (longer (text_state self.old out.old.items) run.now) byte) }
@@ -159,7 +169,7 @@ impl TextReader {
         self.token.clear();
     }
 
-    // a run of characters ends
+    // A run of characters ends.
     fn end_chars(&mut self, run: &[u8], byte: u8, out: &mut Vec<u8>) -> Result<(), Memory>
         ensures ok { OnOk result (text_state self.new out.new.items
             ≡ at_chars (longer (text_state self.old out.old.items) run.now) byte) }
@@ -180,7 +190,7 @@ impl TextReader {
         Ok(())
     }
 
-    // what the token means with the run behind it, where it is character data; a run alone is not copied first
+    // What the token means with the run behind it, where it is character data; a run alone is not copied first.
     fn push_chars(&mut self, run: &[u8], out: &mut Vec<u8>) -> Result<bool, Memory>
         ensures passes { IfOk result (λ passes. passes ≡ char_data_test (self.old.token.items ++ run.now)) }
         ensures ok { IfOk result (λ passes. out.new.items ≡ (if passes then
@@ -210,7 +220,7 @@ impl TextReader {
         Ok(())
     }
 
-    // behind a <
+    // Behind a <.
     fn end_opening(&mut self, run: &[u8], byte: u8) -> Result<(), Memory>
         ensures { OnOk result ((text : List ℕ) → text_state self.new text
             ≡ at_opening (text_state self.old text) ((self.old.token.items ++ run.now) ++ byte ∷ [])) }
@@ -228,7 +238,7 @@ impl TextReader {
         Ok(())
     }
 
-    // back in a run of characters, where the markup passed
+    // Back in a run of characters, where the markup passed.
     fn leave(&mut self, passes: bool)
         ensures mode { self.new.mode ≡ (if passes then TextMode.Chars else TextMode.Refused) }
         ensures token { self.new.token.items ≡ [] }
@@ -241,7 +251,7 @@ impl TextReader {
         }
     }
 
-    // the comment ends here, or holds a >
+    // The comment ends here, or holds a >.
     fn end_comment(&mut self, run: &[u8]) -> Result<(), Memory>
         ensures { OnOk result ((text : List ℕ) → text_state self.new text
             ≡ finished (text_mode TextMode.Commenting) (longer (text_state self.old text) run.now) 62) }
@@ -260,7 +270,7 @@ impl TextReader {
         Ok(())
     }
 
-    // the CDATA section ends here, or holds a >
+    // The CDATA section ends here, or holds a >.
     fn end_cdata(&mut self, run: &[u8], out: &mut Vec<u8>) -> Result<(), Memory>
         ensures ok { OnOk result (text_state self.new out.new.items
             ≡ finished (text_mode TextMode.Quoting) (longer (text_state self.old out.old.items) run.now) 62) }
@@ -281,7 +291,7 @@ impl TextReader {
     }
 }
 
-// appends what a run of characters means, where it is character data
+// Appends what a run of characters means, where it is character data.
 fn push_data(bytes: &[u8], out: &mut Vec<u8>) -> Result<bool, Memory>
     ensures passes { IfOk result (λ passes. passes ≡ char_data_test bytes.now) }
     ensures ok { IfOk result (λ passes. out.new.items ≡ (if passes then out.old.items ++ with_line_ends bytes.now else
@@ -295,7 +305,7 @@ fn push_data(bytes: &[u8], out: &mut Vec<u8>) -> Result<bool, Memory>
     push_any_data(bytes, out)
 }
 
-// the same; it stands apart, so that the common case is short
+// The same; it stands apart, so that the common case is short.
 #[inline(never)]
 fn push_any_data(bytes: &[u8], out: &mut Vec<u8>) -> Result<bool, Memory>
     ensures passes { IfOk result (λ passes. passes ≡ char_data_test bytes.now) }
@@ -310,7 +320,7 @@ fn push_any_data(bytes: &[u8], out: &mut Vec<u8>) -> Result<bool, Memory>
     Ok(true)
 }
 
-// whether the bytes before a > are a comment, where they end in two dashes
+// Whether the bytes before a > are a comment, where they end in two dashes.
 fn ended_comment(bytes: &[u8]) -> Option<bool>
     ensures { result ≡ option_map comment_test (without (codes "--") bytes.now) }
 {
@@ -320,10 +330,11 @@ fn ended_comment(bytes: &[u8]) -> Option<bool>
     }
 }
 
-// appends what the bytes before a > mean, where they end a CDATA section
+// Appends what the bytes before a > mean, where they end a CDATA section.
 fn push_cdata(bytes: &[u8], out: &mut Vec<u8>) -> Result<Option<bool>, Memory>
     ensures passes { IfOk result (λ passes. passes ≡ option_map cdata_test (without (codes "]]") bytes.now)) }
-    ensures ok { IfOk result (λ passes. out.new.items ≡ out.old.items ++ cdata_meaning (without (codes "]]") bytes.now)) }
+    ensures ok { IfOk result (λ passes. out.new.items ≡ out.old.items ++ cdata_meaning (without
+        (codes "]]") bytes.now)) }
     ensures err { OnErr result (out.new.items ≡ out.old.items) }
 {
     let Some(inside) = before(b"]]", bytes) else {
@@ -336,8 +347,8 @@ fn push_cdata(bytes: &[u8], out: &mut Vec<u8>) -> Result<Option<bool>, Memory>
     Ok(Some(true))
 }
 
-// the token with this byte is the beginning of a comment or of a CDATA section, or a part of one; mostly the token is
-// a < alone
+// The token with this byte is the beginning of a comment or of a CDATA section, or a part of one; mostly the token is
+// a < alone.
 fn opens(token: &[u8], byte: u8) -> bool
     ensures { result ≡ open_test (token.now ++ byte ∷ []) }
 {
@@ -356,7 +367,7 @@ fn is_less_sign(token: &[u8]) -> bool
     }
 }
 
-// where the first byte stands that ends the token
+// Where the first byte stands that ends the token.
 fn first_stop(mode: TextMode, bytes: &[u8]) -> Option<usize>
     ensures { IsFirstByte (stop_test (text_mode mode)) bytes.now result }
 {

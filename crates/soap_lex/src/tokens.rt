@@ -1,3 +1,4 @@
+//! Whole tokens, tested.
 ghost use Rattle.std.specs.Prelude.{◌≡◌, ◌≢◌, ◌↔◌, ◌⊎◌, ℕ, ◌-◌, ◌<◌, List, [], ◌∷◌, ◌++◌, length, take, codes, IsTrue, IfSome};
 ghost use Rattle.std.specs.List.{All, list_all, list_any};
 ghost use Rattle.std.specs.Str.{chars};
@@ -22,7 +23,7 @@ pub fn is_name(bytes: &[u8]) -> bool
     is_utf8_name(bytes)
 }
 
-// a name of any characters; it stands apart, so that the common case is short
+// A name of any characters; it stands apart, so that the common case is short.
 #[inline(never)]
 fn is_utf8_name(bytes: &[u8]) -> bool
     ensures { IsTrue result ↔ IsName bytes.now }
@@ -33,7 +34,7 @@ fn is_utf8_name(bytes: &[u8]) -> bool
     }
 }
 
-// a name of ASCII characters
+// A name of ASCII characters.
 fn is_ascii_name(bytes: &[u8]) -> bool
     ensures { IsTrue result → IsName bytes.now }
 {
@@ -43,7 +44,7 @@ fn is_ascii_name(bytes: &[u8]) -> bool
     }
 }
 
-// each byte is an ASCII character that may stand in a name
+// Each byte is an ASCII character that may stand in a name.
 fn are_ascii_name_chars(bytes: &[u8]) -> bool
     ensures { IsTrue result → All (λ byte. (byte < 128) × IsTrue (name_char_class byte)) bytes.now }
 {
@@ -66,7 +67,7 @@ fn begins_ascii_name(byte: u8) -> bool
 fn is_ascii_name_char(byte: u8) -> bool
     ensures { IsTrue result → (byte < 128) × IsTrue (name_char_class byte) }
 {
-    // most are small letters
+    // Most are small letters.
     if byte >= b'a' && byte <= b'z' {
         return true;
     }
@@ -122,7 +123,7 @@ pub fn is_chars(bytes: &[u8]) -> bool
     is_text(rest)
 }
 
-// what follows the characters of up to three bytes at the front
+// What follows the characters of up to three bytes at the front.
 fn after_chars(bytes: &[u8]) -> &[u8]
     ensures { IsChars result.now ↔ IsChars bytes.now }
 {
@@ -133,7 +134,7 @@ fn after_chars(bytes: &[u8]) -> &[u8]
     rest
 }
 
-// what follows the character at the front, where it has up to three bytes
+// What follows the character at the front, where it has up to three bytes.
 #[inline]
 fn after_char(bytes: &[u8]) -> Option<&[u8]>
     ensures begins { IfSome result (λ rest. BeginsWithChar bytes.now rest.now) }
@@ -145,7 +146,7 @@ fn after_char(bytes: &[u8]) -> Option<&[u8]>
     }
 }
 
-// the same, where it has up to two bytes
+// The same, where it has up to two bytes.
 #[inline]
 fn after_short(bytes: &[u8]) -> Option<&[u8]>
     ensures begins { IfSome result (λ rest. BeginsWithChar bytes.now rest.now) }
@@ -158,7 +159,7 @@ fn after_short(bytes: &[u8]) -> Option<&[u8]>
     }
 }
 
-// the same, where it has three
+// The same, where it has three.
 #[inline]
 fn after_triple(bytes: &[u8]) -> Option<&[u8]>
     ensures begins { IfSome result (λ rest. BeginsWithChar bytes.now rest.now) }
@@ -200,7 +201,7 @@ fn is_triple(a: u8, b: u8, c: u8) -> bool
     number <= 0xFFFD
 }
 
-// UTF-8, and characters of a document
+// UTF-8, and characters of a document.
 fn is_text(bytes: &[u8]) -> bool
     ensures { IsTrue result ↔ IsChars bytes.now }
 {
@@ -210,7 +211,7 @@ fn is_text(bytes: &[u8]) -> bool
     }
 }
 
-// each byte is an ASCII character of a document; no exit from the loop, so that it is run over many bytes at once
+// Each byte is an ASCII character of a document; no exit from the loop, so that it is run over many bytes at once.
 fn is_plain_ascii(bytes: &[u8]) -> bool
     ensures { IsTrue result → All (λ byte. (byte < 128) × IsTrue (char_class byte)) bytes.now }
 {
@@ -221,7 +222,7 @@ fn is_plain_ascii(bytes: &[u8]) -> bool
     plain
 }
 
-// each byte is an ASCII character of a document, and none begins markup or is that other; no exit from the loop either
+// Each byte is an ASCII character of a document, and none begins markup or is that other; no exit from the loop either.
 fn is_plain_run(bytes: &[u8], other: u8) -> bool
     ensures chars { IsTrue result → IsChars bytes.now }
     ensures no_less { IsTrue result → ¬ (Holds bytes.now (codes "<")) }
@@ -249,21 +250,21 @@ fn is_plain(byte: u8) -> bool
     (byte >= 32 && byte < 128) || byte == 9 || byte == 10 || byte == 13
 }
 
-// the word stands nowhere in the bytes
+// The word stands nowhere in the bytes.
 fn lacks(bytes: &[u8], word: &[u8]) -> bool
     ensures { IsTrue result ↔ ¬ (Holds bytes.now word.now) }
 {
     memmem::find(bytes, word).is_none()
 }
 
-// no byte begins markup
+// No byte begins markup.
 fn lacks_markup(bytes: &[u8]) -> bool
     ensures { IsTrue result ↔ (¬ (Holds bytes.now (codes "<")) × ¬ (Holds bytes.now (codes "&"))) }
 {
     memchr2(b'<', b'&', bytes).is_none()
 }
 
-// no byte begins markup or is the quote
+// No byte begins markup or is the quote.
 fn lacks_quote_and_markup(bytes: &[u8], quote: u8) -> bool
     ensures { IsTrue result ↔ (¬ (Holds bytes.now (codes "<")) × ¬ (Holds bytes.now (codes "&"))
         × ¬ (Holds bytes.now (quote ∷ []))) }
@@ -271,14 +272,14 @@ fn lacks_quote_and_markup(bytes: &[u8], quote: u8) -> bool
     memchr3(b'<', b'&', quote, bytes).is_none()
 }
 
-// no two dashes stand side by side, also where one more follows
+// No two dashes stand side by side, also where one more follows.
 fn lacks_dashes(bytes: &[u8]) -> bool
     ensures { IsTrue result ↔ ¬ (Holds (bytes.now ++ codes "-") (codes "--")) }
 {
     !ends_with_dash(bytes) && lacks(bytes, b"--")
 }
 
-// each character may stand in a document
+// Each character may stand in a document.
 #[tactic(auto, using(std::proofs::lemmas::Str::chars_from_encodes))]
 fn has_all_chars(text: &str) -> bool
     ensures { result ≡ list_all char_class (chars text.now) }
@@ -286,7 +287,7 @@ fn has_all_chars(text: &str) -> bool
     text.chars().all(|c| is_char(c))
 }
 
-// each character may stand in a name
+// Each character may stand in a name.
 #[tactic(auto, using(std::proofs::lemmas::Str::chars_from_encodes))]
 fn has_name_chars(text: &str) -> bool
     ensures { result ≡ list_all name_char_class (chars text.now) }
@@ -294,7 +295,7 @@ fn has_name_chars(text: &str) -> bool
     text.chars().all(|c| is_name_char(c))
 }
 
-// the first character may begin a name
+// The first character may begin a name.
 pub(crate) fn begins_name(text: &str) -> bool
     ensures { result ≡ list_any name_start_class (take 1 (chars text.now)) }
 {

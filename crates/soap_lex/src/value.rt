@@ -1,3 +1,4 @@
+//! Attribute values, read in pieces.
 ghost use Rattle.std.specs.Prelude.{◌≡◌, ◌≢◌, ◌⊎◌, ◌≤◌, ◌∷◌, ◌++◌, ◌==◌, ℕ, List, [], length, take, drop, encode_utf8, true};
 ghost use Rattle.std.specs.Prelude.{IfOk, IfSome, IfNone, OnOk, OnErr, if◌then◌else◌};
 ghost use Rattle.memchr.specs.Find.{IsFirstByte};
@@ -8,6 +9,7 @@ ghost use Rattle.soap_lex.specs.ValueMachine.{
   stops as stop_test,
   halts as halt_test,
   is_closed as closed_test,
+  is_refused as refused_test,
   longer,
   at_plain,
   finish as finished,
@@ -54,7 +56,7 @@ impl Quote {
     }
 }
 
-// where the reader stands
+// Where the reader stands.
 #[derive(Clone, Copy, Debug, PartialEq, Eq)]
 pub(crate) enum ValueMode {
     Plain,
@@ -94,8 +96,9 @@ impl ValueReader {
         self.token.clear();
     }
 
-    /// Reads on to the end of a token, or of the piece: appends what was read, and says how many bytes were taken. Where
-    /// none of a piece is taken, the value is closed, or was refused. After an error the reader is of no more use.
+    /// Reads on to the end of a token, or of the piece: appends what was read, and says how many bytes were taken.
+    /// Where none of a piece is taken, the value is closed, or was refused. After an error the reader is of no more
+    /// use.
     pub fn feed(&mut self, piece: &[u8], out: &mut Vec<u8>) -> Result<usize, Memory>
         ensures ok { IfOk result (λ n. (n ≤ length piece.now)
             × (to_stop (value_state self.old out.old.items) piece.now
@@ -120,13 +123,20 @@ impl ValueReader {
         self.mode == ValueMode::Closed
     }
 
+    /// What was fed is no value, whatever follows.
+    pub fn is_refused(&self) -> bool
+        ensures { (value : List ℕ) → result ≡ refused_test (value_state self.now value).mode }
+    {
+        self.mode == ValueMode::Refused
+    }
+
     fn halts(&self) -> bool
         ensures { (value : List ℕ) → result ≡ halt_test (value_state self.now value).mode }
     {
         self.mode == ValueMode::Closed || self.mode == ValueMode::Refused
     }
 
-    // the bytes of the run end the token, with this byte behind them
+    // The bytes of the run end the token, with this byte behind them.
     fn end_token(&mut self, run: &[u8], byte: u8, out: &mut Vec<u8>) -> Result<(), Memory>
         ensures ok { OnOk result (value_state self.new out.new.items
             ≡ finished (value_mode self.old.mode) (longer (value_state self.old out.old.items) run.now) byte) }
@@ -151,7 +161,7 @@ impl ValueReader {
         self.token.clear();
     }
 
-    // a run of characters ends
+    // A run of characters ends.
     fn end_plain(&mut self, run: &[u8], byte: u8, out: &mut Vec<u8>) -> Result<(), Memory>
         ensures ok { OnOk result (value_state self.new out.new.items
             ≡ at_plain (longer (value_state self.old out.old.items) run.now) byte) }
@@ -171,7 +181,7 @@ impl ValueReader {
         Ok(())
     }
 
-    // what the token means with the run behind it, where it may stand in quotes; a run alone is not copied first
+    // What the token means with the run behind it, where it may stand in quotes; a run alone is not copied first.
     fn push_plain(&mut self, run: &[u8], out: &mut Vec<u8>) -> Result<bool, Memory>
         ensures same { IfOk result (λ _. self.new.quote ≡ self.old.quote) }
         ensures passes { IfOk result (λ passes. passes
@@ -205,7 +215,7 @@ impl ValueReader {
     }
 }
 
-// appends what a run of characters means, where it may stand between these quotes
+// Appends what a run of characters means, where it may stand between these quotes.
 fn push_run(bytes: &[u8], quote: Quote, out: &mut Vec<u8>) -> Result<bool, Memory>
     ensures passes { IfOk result (λ passes. passes ≡ plain_test (quote_byte quote) bytes.now) }
     ensures ok { IfOk result (λ passes. out.new.items ≡ (if passes then out.old.items ++ with_spaces bytes.now else
@@ -219,7 +229,7 @@ fn push_run(bytes: &[u8], quote: Quote, out: &mut Vec<u8>) -> Result<bool, Memor
     push_any_run(bytes, quote, out)
 }
 
-// the same; it stands apart, so that the common case is short
+// The same; it stands apart, so that the common case is short.
 #[inline(never)]
 fn push_any_run(bytes: &[u8], quote: Quote, out: &mut Vec<u8>) -> Result<bool, Memory>
     ensures passes { IfOk result (λ passes. passes ≡ plain_test (quote_byte quote) bytes.now) }
@@ -234,7 +244,7 @@ fn push_any_run(bytes: &[u8], quote: Quote, out: &mut Vec<u8>) -> Result<bool, M
     Ok(true)
 }
 
-// where the first byte stands that ends the token
+// Where the first byte stands that ends the token.
 fn first_stop(mode: ValueMode, quote: u8, bytes: &[u8]) -> Option<usize>
     ensures { IsFirstByte (stop_test (value_mode mode) quote) bytes.now result }
 {

@@ -1,4 +1,4 @@
-// Short runs of visible ASCII characters and spaces: they need no normalising, and one look at each byte is enough.
+//! Short runs of visible ASCII characters and spaces: they need no normalising, and one look at each byte is enough.
 ghost use Rattle.std.specs.Prelude.{◌≡◌, ◌≢◌, ◌≤◌, ◌<◌, ◌++◌, true, IsTrue, OnOk, OnErr};
 ghost use Rattle.xml_chars.specs.Classes.{is_char as char_class};
 ghost use Rattle.soap_lex.specs.Tests.{is_char_data as char_data_test, is_plain as plain_test};
@@ -7,10 +7,10 @@ ghost use Rattle.soap_lex.specs.Value.{with_spaces};
 
 use crate::Memory;
 
-// up to so many bytes a run is short
+// Up to so many bytes a run is short.
 const SHORT: usize = 32;
 
-// a short run of visible characters and spaces, where none begins markup or is that other
+// A short run of visible characters and spaces, where none begins markup or is that other.
 pub(crate) fn is_visible(bytes: &[u8], other: u8) -> bool
     ensures value { IsTrue result → plain_test other bytes.now ≡ true }
     ensures data { IsTrue result → other ≡ 93 → char_data_test bytes.now ≡ true }
@@ -36,7 +36,7 @@ fn is_visible_but(byte: u8, other: u8) -> bool
     byte >= b' ' && byte < 127 && byte != b'<' && byte != b'&' && byte != other
 }
 
-// appends the bytes; often there are none
+// Appends the bytes; often there are none.
 pub(crate) fn append(bytes: &[u8], out: &mut Vec<u8>) -> Result<(), Memory>
     ensures ok { OnOk result (out.new.items ≡ out.old.items ++ bytes.now) }
     ensures err { OnErr result (out.new.items ≡ out.old.items) }

@@ -1,3 +1,4 @@
+//! Text and attribute values, written.
 ghost use Rattle.std.specs.Prelude.{◌≡◌, ◌∷◌, ◌++◌, [], length, take, IfSome, IfNone, OnOk, OnErr};
 ghost use Rattle.std.specs.List.{flat_map};
 ghost use Rattle.soap_lex.specs.Escapes.{escape_of, escaped_text, escaped_value};
@@ -35,7 +36,7 @@ fn write_escaped(bytes: &[u8], quoted: bool, out: &mut Vec<u8>) -> Result<(), Me
     }
 }
 
-// appends run by run, up to a want of memory
+// Appends run by run, up to a want of memory.
 fn push_escaped(bytes: &[u8], quoted: bool, out: &mut Vec<u8>) -> Result<(), Memory>
     ensures ok { OnOk result (out.new.items ≡ out.old.items ++ flat_map (escape_of quoted) bytes.now) }
     ensures err { OnErr result (take (length out.old.items) out.new.items ≡ out.old.items) }
@@ -52,7 +53,7 @@ fn push_escaped(bytes: &[u8], quoted: bool, out: &mut Vec<u8>) -> Result<(), Mem
     Ok(())
 }
 
-// the reference that stands for a byte that may not stand itself, in text or in a value between double quotes
+// The reference that stands for a byte that may not stand itself, in text or in a value between double quotes.
 #[inline]
 fn escape(byte: u8, quoted: bool) -> Option<&'static [u8]>
     ensures none { IfNone result (escape_of quoted byte ≡ byte ∷ []) }

@@ -1,6 +1,6 @@
-pub mod Answer
 pub mod Distinct
 pub mod Items
+pub mod Listing
 pub mod Nests
 pub mod Payloads
 pub mod Resolvers

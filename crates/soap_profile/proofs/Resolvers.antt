@@ -1,11 +1,10 @@
 -- What a resolver stands for, by its open elements.
-use Rattle.std.proofs.Common.{◌≡◌, ℕ, List, [], ◌∷◌, ◌++◌, true, false, Option, Some, None, IfSome, option_map, map, reverse, nat_eq, length, refl, sym, ap, subst, ◌∙◌, arith}
+use Rattle.std.proofs.Common.{◌≡◌, ◌≢◌, ℕ, List, [], ◌∷◌, ◌++◌, true, false, Option, Some, None, IfSome, option_map, map, reverse, nat_eq, length, refl, sym, ap, subst, ◌∙◌, arith}
 use Rattle.std.proofs.lemmas.Bool.{eqb-true}
 use Rattle.std.proofs.lemmas.List.{append-nil, map-append, reverse-append}
 use Rattle.std.specs.Option.{option_to_list}
 use Rattle.soap_document.specs.Machine.{Frame, with_parts}
 use Rattle.soap_document.specs.Tree as written
-use Rattle.soap_document.proofs.Steps.{join-none}
 use Rattle.soap_profile.specs.Document.{place_of}
 use Rattle.soap_profile.specs.Items.{Item, a_declaration, an_attribute, a_text, a_child, decls_among, attrs_among, parts_among}
 use Rattle.soap_profile.specs.Namespaces.{Resolved, resolve_parts}
@@ -96,15 +95,8 @@ below_popped old new r x e s =
 
 -- ---- text
 
-pub same_text : (r : Resolver) (top : Frame) (below : List Frame) (bytes : List ℕ) → nat_eq (length bytes) 0 ≡ true
-    → Stands r top below → Stands r (with_parts top (written.onto bytes written.none)) below
-same_text r top below [] e h =
-    subst (λ (ps : written.Parts). Stands r (record top { parts = ps }) below) (sym (join-none top.parts)) h
-same_text r top below (b ∷ bytes) e h = absurd (omega (arith, eqb-true (length (b ∷ bytes)) 0 e))
-
-pub text_some : (bytes : List ℕ) → nat_eq (length bytes) 0 ≡ false → written.onto bytes written.none
-    ≡ written.text bytes written.none
-text_some [] e = absurd (cc)
+pub text_some : (bytes : List ℕ) → bytes ≢ [] → written.onto bytes written.none ≡ written.text bytes written.none
+text_some [] e = absurd (e refl)
 text_some (b ∷ bytes) e = refl
 
 -- ---- tags

@@ -1,3 +1,4 @@
+pub mod Answer
 pub mod Document
 pub mod Items
 pub mod Keys
@@ -10,4 +11,5 @@ pub mod Scope
 pub mod Soap
 pub mod Steps
 pub mod Tree
+pub mod TreeCode
 pub mod View

@@ -11,6 +11,7 @@ use Rattle.soap_profile.specs.Tree.{Name, Binding, Attr, Element, element, Parts
 abbrev pub xml_space : List ℕ
 xml_space = codes "http://www.w3.org/XML/1998/namespace"
 
+-- that of declarations
 abbrev pub xmlns_space : List ℕ
 xmlns_space = codes "http://www.w3.org/2000/xmlns/"
 
@@ -53,6 +54,7 @@ bound prefix (b ∷ bindings) = if bytes_eq b.prefix prefix then Some b.space el
 abbrev pub prefix_space : List ℕ → List Binding → Option (List ℕ)
 prefix_space prefix scope = if bytes_eq prefix (codes "xml") then Some xml_space else bound prefix scope
 
+-- the default namespace, or none
 abbrev pub or_none : Option (List ℕ) → Option (List ℕ)
 or_none None = Some []
 or_none (Some space) = Some space
@@ -65,19 +67,24 @@ element_space prefix scope = if is_nil prefix then or_none (bound [] scope) else
 abbrev pub attribute_space : List ℕ → List Binding → Option (List ℕ)
 attribute_space prefix scope = if is_nil prefix then Some [] else prefix_space prefix scope
 
+-- the local name in this namespace
 abbrev pub named : List ℕ → Option (List ℕ) → Option Name
 named local space = option_map (λ space. record { space = space; local = local }) space
 
+-- the expanded name of an element (6.1)
 abbrev pub element_name : List Binding → List ℕ → Option Name
 element_name scope name = named (split name).1 (element_space (split name).0 scope)
 
+-- the expanded name of an attribute (6.1)
 abbrev pub attribute_name : List Binding → List ℕ → Option Name
 attribute_name scope name = named (split name).1 (attribute_space (split name).0 scope)
 
+-- an attribute before those behind it
 abbrev pub with_attribute : Option Name → List ℕ → Option (List Attr) → Option (List Attr)
 with_attribute None value later = None
 with_attribute (Some name) value later = option_map (λ attrs. record { name = name; value = value } ∷ attrs) later
 
+-- the same, unless it is a declaration
 abbrev pub unless_declared : Option (List ℕ) → Option Name → List ℕ → Option (List Attr) → Option (List Attr)
 unless_declared None name value later = with_attribute name value later
 unless_declared (Some prefix) name value later = later
@@ -92,16 +99,20 @@ expanded scope (a ∷ attributes) = unless_declared (declared_prefix a.name) (at
 abbrev pub is_new : List ℕ → List Attribute → Bool
 is_new name attributes = list_all (λ a. not (bytes_eq a.name name)) attributes
 
+-- no name stands twice among attributes as they are written
 abbrev pub are_distinct : List Attribute → Bool
 are_distinct [] = true
 are_distinct (a ∷ attributes) = is_new a.name attributes && are_distinct attributes
 
+-- an attribute with another expanded name
 abbrev pub is_other : Name → Attr → Bool
 is_other name a = not (bytes_eq a.name.local name.local && bytes_eq a.name.space name.space)
 
+-- no attribute has this expanded name
 abbrev pub is_new_name : Name → List Attr → Bool
 is_new_name name attrs = list_all (is_other name) attrs
 
+-- no expanded name stands twice among attributes (6.3)
 abbrev pub are_distinct_names : List Attr → Bool
 are_distinct_names [] = true
 are_distinct_names (a ∷ attrs) = is_new_name a.name attrs && are_distinct_names attrs
@@ -112,6 +123,7 @@ pub record Resolved : Type 0 where
   pub decls : List Binding
   pub attrs : List Attr
 
+-- a start tag whose names these are
 abbrev pub resolved_with : List Binding → Option Name → Option (List Attr) → Option Resolved
 resolved_with decls None attrs = None
 resolved_with decls (Some name) None = None
@@ -123,14 +135,17 @@ abbrev pub tag_within : List Binding → List Binding → List ℕ → List Attr
 tag_within decls scope name attributes = resolved_with decls (element_name (decls ++ scope) name) (expanded (decls
     ++ scope) attributes)
 
+-- with these declarations, where they may stand
 abbrev pub declaring : Option (List Binding) → List Binding → List ℕ → List Attribute → Option Resolved
 declaring None scope name attributes = None
 declaring (Some decls) scope name attributes = tag_within decls scope name attributes
 
+-- a start tag within these bindings; none where a rule is broken
 abbrev pub tag_of : List Binding → List ℕ → List Attribute → Option Resolved
 tag_of scope name attributes = if are_distinct attributes then declaring (declarations attributes) scope name
     attributes else None
 
+-- an element before the parts behind it
 abbrev pub joined : Option Element → Option Parts → Option Parts
 joined None parts = None
 joined (Some first) parts = option_map (child first) parts

@@ -30,13 +30,16 @@ start_tag tag = element tag.name tag.decls tag.attrs none
 abbrev pub no_tag : Resolved
 no_tag = record { name = record { space = []; local = [] }; decls = []; attrs = [] }
 
+-- the place of the last element among the parts
 abbrev pub last_place : Option written.Element → Option Place
 last_place last = option_map place_of last
 
+-- the place of the last element within that
 abbrev pub inner_place : Option written.Element → Option Place
 inner_place None = None
 inner_place (Some last) = option_map place_of (written.last_within last)
 
+-- an open element with this tag and these parts
 abbrev pub opened : Frame → Resolved → Parts → Opened
 opened frame tag parts = record {
   tag = tag;
@@ -55,6 +58,7 @@ within frame nest (Some tag) = option_map (λ parts. record {
   below = nest.top ∷ nest.below;
 }) (resolve_parts (tag.decls ++ nest.scope) frame.parts)
 
+-- an open element within others, where those are
 abbrev pub within_all : Frame → Option Nest → Option Nest
 within_all frame None = None
 within_all frame (Some nest) = within frame nest (tag_of nest.scope frame.name frame.attributes)
@@ -71,10 +75,17 @@ pub record Root : Type 0 where
   pub place : Place
   pub last : Option Place
 
+-- a root with its names resolved; none where a rule is broken
 abbrev pub root_of : written.Element → Option Root
-root_of raw = option_map (λ tree. record { tree = tree; place = place_of raw; last = last_place (written.last_within raw) })
+root_of raw = option_map (λ tree. record {
+  tree = tree;
+  place = place_of raw;
+  last = last_place
+      (written.last_within raw);
+})
     (resolve [] raw)
 
+-- the same of the bytes, where they have a root
 abbrev pub rooted : Option written.Element → Option Root
 rooted None = None
 rooted (Some raw) = root_of raw

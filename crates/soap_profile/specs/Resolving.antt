@@ -1,5 +1,5 @@
 -- The open elements that a resolver stands for.
-use Rattle.std.specs.Prelude.{◌≡◌, List, map, reverse, true, false, Some, None}
+use Rattle.std.specs.Prelude.{◌≡◌, ℕ, List, map, reverse, true, false, Some, None, vec_len}
 use Rattle.soap_document.specs.Machine.{Frame}
 use Rattle.soap_profile.specs.Opened as abstract
 use Rattle.soap_profile.specs.Scope.{InForce}
@@ -9,6 +9,7 @@ use Rattle.soap_profile.specs.declared.resolver.Opened.{Opened}
 use Rattle.soap_profile.specs.declared.resolver.Resolver.{Resolver}
 use Rattle.soap_profile.specs.declared.resolver.Root.{Root}
 
+-- the open element that one of the code is
 abbrev pub opened_view : Opened → abstract.Opened
 opened_view o = record {
   tag = tag_view o.element;
@@ -26,8 +27,13 @@ nest_view r bindings = record {
   below = reverse (map opened_view r.below.items);
 }
 
+-- the root that one of the code is
 abbrev pub root_view : Root → abstract.Root
 root_view r = record { tree = element_view r.tree; place = r.place; last = r.last }
+
+-- how many elements are open in it
+abbrev pub open_count : Resolver → ℕ
+open_count r = vec_len r.below
 
 -- it has the open elements, or a rule was broken
 pub data Stands (r : Resolver) (top : Frame) (below : List Frame) : Type 0 where

@@ -12,6 +12,7 @@ use Rattle.soap_profile.specs.Pool.{Knows}
 use Rattle.soap_profile.specs.Tree.{Binding}
 use Rattle.soap_profile.specs.declared.scope.Scope.{Scope}
 
+-- of each prefix, what it was bound to
 abbrev pub Stacks : Type 0
 Stacks = BTreeMap (Vec ℕ Global) (Vec (List ℕ) Global)
 
@@ -20,6 +21,7 @@ abbrev pub stack_at : Stacks → List ℕ → List (List ℕ)
 stack_at stacks prefix =
     option_map_or (λ stack. stack.items) (get_by (λ key. slice_cmp nat_cmp prefix key.items) stacks) []
 
+-- the last of them
 abbrev pub last_of : List (List ℕ) → Option (List ℕ)
 last_of spaces = slice_get spaces (length spaces - 1)
 

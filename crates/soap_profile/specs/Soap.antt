@@ -6,5 +6,6 @@ use Rattle.soap_profile.specs.Tree.{Name}
 abbrev pub soap_space : List ℕ
 soap_space = codes "http://www.w3.org/2003/05/soap-envelope"
 
+-- a name in it
 abbrev pub soap_name : List ℕ → Name
 soap_name local = record { space = soap_space; local = local }

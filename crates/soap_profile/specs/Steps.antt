@@ -17,6 +17,7 @@ Expands scope a old new taken =
     (later : List Attribute) → option_map (λ attrs. old ++ map an_attribute attrs) (expanded scope (a ∷ later))
     ≡ (if taken then option_map (λ attrs. new ++ map an_attribute attrs) (expanded scope later) else None)
 
+-- parts before others
 abbrev pub join : Parts → Parts → Parts
 join none parts = parts
 join (text bytes more) parts = text bytes (join more parts)

@@ -1,3 +1,4 @@
+//! Why bytes are no document, no envelope or not to be read.
 ghost use Rattle.std.specs.Prelude.{◌≡◌};
 
 use rm_base::Memory;

@@ -1,4 +1,4 @@
-// Whether keys of two parts all differ.
+//! Whether keys of two parts all differ.
 ghost use Rattle.std.specs.Prelude.{◌≡◌, IfOk};
 ghost use Rattle.soap_profile.specs.Keys.{differ, keys_of};
 

@@ -3,13 +3,16 @@
 //! and the contracts of the readers, by `specs/Document` and `specs/Payload`.
 #![tactic(auto)]
 
+pub mod elements;
 pub mod error;
 mod keys;
 pub mod name;
 mod names;
+pub mod parts;
 pub mod payload;
 pub mod place;
 mod pool;
+mod predeclared;
 pub mod read;
 mod resolver;
 mod scope;
@@ -18,16 +21,14 @@ mod stacks;
 mod stripped;
 mod tag;
 pub mod tree;
-mod undeclared;
 
+pub use elements::Elements;
 pub use error::EnvelopeError;
 pub use name::Name;
+pub use parts::{Parts, is_part};
 pub use payload::{MAX_PAYLOAD_DEPTH, check_payload};
 pub use place::Place;
 pub use read::{MAX_LENGTH, Placed, read_element, read_placed};
 pub use shared::Shared;
 pub use stripped::strip;
-pub use tree::{Attr, Declaration, Element, Item};
-
-#[cfg(test)]
-mod tests;
+pub use tree::{Attr, Attrs, Declaration, Element, Item};

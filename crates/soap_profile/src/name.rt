@@ -1,3 +1,4 @@
+//! Expanded names.
 ghost use Rattle.std.specs.Prelude.{◌≡◌, IsTrue, ◌↔◌, IfOk};
 
 use crate::shared::Shared;
@@ -10,8 +11,8 @@ use std::rc::Rc;
 
 const _: () = prove!(size_of::<Name>() == 8);
 
-/// An expanded name: Namespaces in XML 1.0, section 2.1. A name in no namespace has the empty space. It is one word, and
-/// elements and attributes of one name share what it stands for.
+/// An expanded name: Namespaces in XML 1.0, section 2.1. A name in no namespace has the empty space. It is one word,
+/// and elements and attributes of one name share what it stands for.
 #[derive(Debug, Drop)]
 pub struct Name {
     expanded: Rc<Expanded>,
@@ -32,6 +33,7 @@ impl Model for Name {
 }
 
 impl Name {
+    /// A name with this local part in this namespace, which is empty for none.
     pub fn new(alloc: Global, space: Shared, local: &[u8]) -> Result<Self, Memory>
         ensures { IfOk result (λ name. name ≡ record { space = space; local = local.now }) }
     {
@@ -47,6 +49,7 @@ impl Name {
         self.expanded.space.as_slice()
     }
 
+    /// The local part.
     pub fn local(&self) -> &[u8]
         ensures { result.now ≡ self.now.local }
     {
@@ -60,20 +63,5 @@ impl Name {
         Ok(Name {
             expanded: self.expanded.clone()?,
         })
-    }
-}
-
-#[cfg(test)]
-mod tests {
-    use super::*;
-    use std::test::Fail;
-
-    #[test]
-    fn holds_both_parts(rt: HostRuntime) -> Result<(), Fail> {
-        let space = Shared::from_slice(rt.alloc(), b"urn:u")?;
-        let name = Name::new(rt.alloc(), space, b"abc")?.share()?;
-        assert_eq!(rt; name.space(), b"urn:u".as_slice());
-        assert_eq!(rt; name.local(), b"abc".as_slice());
-        Ok(())
     }
 }

@@ -1,4 +1,4 @@
-// Names, declarations and attributes of a start tag.
+//! Names, declarations and attributes of a start tag.
 ghost use Rattle.std.specs.Prelude.{◌≡◌, ℕ, List, [], ◌∷◌, ◌++◌, if◌then◌else◌, IfOk, OnOk, Some, None, map, option_map};
 ghost use Rattle.soap_profile.specs.Items.{a_declaration, an_attribute};
 ghost use Rattle.soap_profile.specs.Namespaces.{
@@ -33,12 +33,12 @@ use std::alloc::Global;
 
 pub(crate) const XML_SPACE: &[u8] = b"http://www.w3.org/XML/1998/namespace";
 
-// up to so many attributes are compared each with each
+// Up to so many attributes are compared each with each.
 const FEW: usize = 8;
 
 const XMLNS_SPACE: &[u8] = b"http://www.w3.org/2000/xmlns/";
 
-// the prefix, empty where there is none, and the local name
+// The prefix, empty where there is none, and the local name.
 fn split(name: &[u8]) -> (&[u8], &[u8])
     ensures { (result.0.now, result.1.now) ≡ split_of name.now }
 {
@@ -48,11 +48,11 @@ fn split(name: &[u8]) -> (&[u8], &[u8])
     }
 }
 
-// the prefix that an attribute of this name declares
+// The prefix that an attribute of this name declares.
 fn declared_prefix(name: &[u8]) -> Option<&[u8]>
     ensures { option_map (λ x. x.now) result ≡ declared_by name.now }
 {
-    // most names are no declarations, and their first letter says so
+    // Most names are no declarations, and their first letter says so.
     let [b'x', ..] = name else {
         return None;
     };
@@ -96,7 +96,7 @@ pub(crate) fn declarations(
     Ok(true)
 }
 
-// one attribute more; whether it may stand
+// One attribute more; whether it may stand.
 fn declare(
     alloc: Global,
     attribute: &WrittenAttribute,
@@ -129,7 +129,7 @@ fn prefix_space<'a>(prefix: &[u8], scope: &'a Scope) -> Option<&'a Shared>
     }
 }
 
-// the same space, where there is one
+// The same space, where there is one.
 fn shared(space: Option<&Shared>) -> Result<Option<Shared>, Memory>
     ensures { IfOk result (λ found. found ≡ option_map (λ x. x.now) space.entry) }
 {
@@ -226,7 +226,7 @@ pub(crate) fn expanded(
     Ok(true)
 }
 
-// one attribute more; whether its prefix is bound
+// One attribute more; whether its prefix is bound.
 fn expand(
     alloc: Global,
     attribute: &WrittenAttribute,
@@ -266,7 +266,7 @@ pub(crate) fn are_distinct(alloc: Global, attributes: &[WrittenAttribute]) -> Re
     all_differ(alloc, &keys)
 }
 
-// the same, each compared with each behind it
+// The same, each compared with each behind it.
 fn few_are_distinct(attributes: &[WrittenAttribute]) -> bool
     ensures { result ≡ distinct_test attributes.now }
 {
@@ -307,7 +307,7 @@ pub(crate) fn are_distinct_names(alloc: Global, items: &[Item]) -> Result<bool, 
     all_differ(alloc, &keys)
 }
 
-// the same, each compared with each behind it
+// The same, each compared with each behind it.
 fn few_are_distinct_names(items: &[Item]) -> bool
     ensures { result ≡ distinct_names_test (attrs_view items.now) }
 {
@@ -329,7 +329,7 @@ fn is_new_name(name: &Name, items: &[Item]) -> bool
     items.iter().all(|item| is_other(name, item))
 }
 
-// it is no attribute of this name
+// It is no attribute of this name.
 fn is_other(name: &Name, item: &Item) -> bool
     ensures { result ≡ new_name_test name.now (attrs_view (item.now ∷ [])) }
 {

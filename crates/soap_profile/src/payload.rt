@@ -1,3 +1,4 @@
+//! What a message may carry.
 ghost use Rattle.std.specs.Prelude.{◌≡◌, [], ◌∷◌, ◌↔◌, ◌&&◌, IsTrue, IfOk, nat_le};
 ghost use Rattle.soap_profile.specs.Payload.{depth, is_white_outside as outside_test, IsClosedContent};
 ghost use Rattle.soap_profile.specs.View.{parts_view};
@@ -6,7 +7,8 @@ use crate::place::Place;
 use crate::resolver::Resolver;
 use crate::tree::Item;
 use rm_base::Memory;
-use soap_document::{Reader, document_is_read, is_white};
+use soap_document::laws::{content_makes_a_document, document_is_read, pieces_are_joined};
+use soap_document::{Reader, is_white};
 use std::alloc::Global;
 
 /// How many elements of a payload may stand in one another.
@@ -19,6 +21,8 @@ pub fn check_payload(alloc: Global, bytes: &[u8]) -> Result<bool, Memory>
     ensures { IfOk result (λ answer. IsTrue answer ↔ IsClosedContent bytes.now) }
 {
     document_is_read();
+    content_makes_a_document();
+    pieces_are_joined();
     let mut reader = Reader::new(alloc, Resolver::new(alloc)?);
     reader.feed(b"<a>")?;
     reader.feed(bytes)?;
@@ -37,13 +41,13 @@ pub fn check_payload(alloc: Global, bytes: &[u8]) -> Result<bool, Memory>
 }
 
 fn is_payload(items: &[Item]) -> bool
-    ensures { result ≡ (nat_le (depth (parts_view items.now)) MAX_PAYLOAD_DEPTH
+    ensures { result ≡ (nat_le (depth (parts_view items.now)) 90
         && outside_test (parts_view items.now)) }
 {
     is_within(items, MAX_PAYLOAD_DEPTH) && is_white_outside(items)
 }
 
-// whether no more elements than this stand in one another
+// Whether no more elements than this stand in one another.
 #[cycle(depth)]
 fn is_within(items: &[Item], levels: usize) -> bool
     ensures { result ≡ nat_le (depth (parts_view items.now)) levels }

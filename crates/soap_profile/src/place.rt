@@ -1,3 +1,4 @@
+//! Places in a document.
 /// Where in a document an element's content begins, and where it ends.
 #[derive(Clone, Copy, Debug, PartialEq, Eq)]
 pub struct Place {

@@ -1,4 +1,4 @@
-// Written names that stand in a document again and again, and what they are resolved to.
+//! Written names that stand in a document again and again, and what they are resolved to.
 ghost use Rattle.std.specs.Prelude.{◌≡◌, ℕ, List, Option, Some, IfOk, IfSome};
 ghost use Rattle.soap_profile.specs.Pool.{Knows};
 ghost use Rattle.soap_profile.specs.Tree.{Name as Expanded};
@@ -15,7 +15,7 @@ const SLOTS: usize = 64;
 #[derive(Drop)]
 pub(crate) struct Pool {
     slots: Vec<Option<Met>>,
-    // how often all names were forgotten: what was met in an era before is known no longer
+    // How often all names were forgotten: what was met in an era before is known no longer.
     era: u64,
 }
 
@@ -78,7 +78,7 @@ impl Pool {
     }
 }
 
-// the slot of a name, by its length and three of its bytes
+// The slot of a name, by its length and three of its bytes.
 fn slot_of(name: &[u8]) -> usize {
     if name.is_empty() {
         return 0;

@@ -1,6 +1,7 @@
-ghost use Rattle.std.specs.Prelude.{◌≡◌, ◌≢◌, ◌<◌, ◌≤◌, ◌↔◌, ℕ, [], length, IfOk, IfSome, IfNone, Err};
+//! Whole documents, read.
+ghost use Rattle.std.specs.Prelude.{◌≡◌, ◌≢◌, ◌↔◌, ℕ, IfOk, IfSome, IfNone, Err};
 ghost use Rattle.std.specs.Str.{IsUtf8};
-ghost use Rattle.soap_profile.specs.Document.{Document, IsPlaced, IsLongestText};
+ghost use Rattle.soap_profile.specs.Document.{Document, IsPlaced, IsReadable, IsTooLong, IsTextUpTo, HasNoTree};
 ghost use Rattle.soap_profile.specs.Tree.{Element as Tree};
 ghost use Rattle.soap_profile.specs.View.{element_view};
 
@@ -9,7 +10,8 @@ use crate::place::Place;
 use crate::resolver::Resolver;
 use crate::tree::Element;
 use rm_base::Memory;
-use soap_document::{Reader, document_is_read, document_is_utf8};
+use soap_document::Reader;
+use soap_document::laws::{document_is_read, document_is_utf8};
 use soap_lex::utf8_prefix;
 use std::alloc::Global;
 
@@ -28,15 +30,12 @@ pub struct Placed {
 pub fn read_element(alloc: Global, bytes: &[u8]) -> Result<Element, EnvelopeError>
     // What is read.
     ensures ok { IfOk result (λ tree. Document bytes.now (element_view tree)) }
-    ensures fits { IfOk result (λ _. (length bytes.now ≤ MAX_LENGTH) × IsUtf8 bytes.now) }
+    ensures fits { IfOk result (λ _. IsReadable bytes.now) }
 
     // When each error comes, the first of them where several may.
-    ensures too_long { (len : ℕ) → (result ≡ Err (EnvelopeError.TooLong len)) ↔ ((MAX_LENGTH < length bytes.now)
-        × (len ≡ length bytes.now)) }
-    ensures not_utf8 { (place : ℕ) → (result ≡ Err (EnvelopeError.NotUtf8 place))
-        ↔ ((length bytes.now ≤ MAX_LENGTH) × (place < length bytes.now) × IsLongestText bytes.now place) }
-    ensures not_profile { result ≡ Err EnvelopeError.NotProfile
-        → (length bytes.now ≤ MAX_LENGTH) × IsUtf8 bytes.now × ((tree : Tree) → ¬ (Document bytes.now tree)) }
+    ensures too_long { (len : ℕ) → (result ≡ Err (EnvelopeError.TooLong len)) ↔ IsTooLong bytes.now len }
+    ensures not_utf8 { (place : ℕ) → (result ≡ Err (EnvelopeError.NotUtf8 place)) ↔ IsTextUpTo bytes.now place }
+    ensures not_profile { result ≡ Err EnvelopeError.NotProfile → HasNoTree bytes.now }
     ensures no_version { result ≢ Err EnvelopeError.WrongVersion }
     ensures no_envelope { result ≢ Err EnvelopeError.NotEnvelope }
 {
@@ -50,15 +49,12 @@ pub fn read_element(alloc: Global, bytes: &[u8]) -> Result<Element, EnvelopeErro
 pub fn read_placed(alloc: Global, bytes: &[u8]) -> Result<Placed, EnvelopeError>
     // What is read.
     ensures ok { IfOk result (λ placed. IsPlaced bytes.now (element_view placed.root) placed.last) }
-    ensures fits { IfOk result (λ _. (length bytes.now ≤ MAX_LENGTH) × IsUtf8 bytes.now) }
+    ensures fits { IfOk result (λ _. IsReadable bytes.now) }
 
     // When each error comes, the first of them where several may.
-    ensures too_long { (len : ℕ) → (result ≡ Err (EnvelopeError.TooLong len)) ↔ ((MAX_LENGTH < length bytes.now)
-        × (len ≡ length bytes.now)) }
-    ensures not_utf8 { (place : ℕ) → (result ≡ Err (EnvelopeError.NotUtf8 place))
-        ↔ ((length bytes.now ≤ MAX_LENGTH) × (place < length bytes.now) × IsLongestText bytes.now place) }
-    ensures not_profile { result ≡ Err EnvelopeError.NotProfile
-        → (length bytes.now ≤ MAX_LENGTH) × IsUtf8 bytes.now × ((tree : Tree) → ¬ (Document bytes.now tree)) }
+    ensures too_long { (len : ℕ) → (result ≡ Err (EnvelopeError.TooLong len)) ↔ IsTooLong bytes.now len }
+    ensures not_utf8 { (place : ℕ) → (result ≡ Err (EnvelopeError.NotUtf8 place)) ↔ IsTextUpTo bytes.now place }
+    ensures not_profile { result ≡ Err EnvelopeError.NotProfile → HasNoTree bytes.now }
     ensures no_version { result ≢ Err EnvelopeError.WrongVersion }
     ensures no_envelope { result ≢ Err EnvelopeError.NotEnvelope }
 {
@@ -77,7 +73,7 @@ pub fn read_placed(alloc: Global, bytes: &[u8]) -> Result<Placed, EnvelopeError>
     Err(refusal)
 }
 
-// the tree of a whole document, where the bytes are one
+// The tree of a whole document, where the bytes are one.
 fn read_tree(alloc: Global, bytes: &[u8]) -> Result<Option<Placed>, Memory>
     ensures found { IfOk result (λ found. IfSome found (λ placed.
         IsPlaced bytes.now (element_view placed.root) placed.last)) }

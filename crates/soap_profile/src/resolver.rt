@@ -1,8 +1,8 @@
-// The tree with expanded names, while a document is read.
-ghost use Rattle.std.specs.Prelude.{◌≡◌, [], Some, IfOk, OnOk, option_map};
+//! The tree with expanded names, while a document is read.
+ghost use Rattle.std.specs.Prelude.{◌≡◌, ◌+◌, [], None, Some, true, IfOk, OnOk, option_map};
 ghost use Rattle.soap_document.specs.Machine.{Frame, nothing_open, only_child};
-ghost use Rattle.soap_profile.specs.Opened.{rooted};
-ghost use Rattle.soap_profile.specs.Resolving.{Stands, opened_view, root_view};
+ghost use Rattle.soap_profile.specs.Opened.{no_tag, rooted};
+ghost use Rattle.soap_profile.specs.Resolving.{Stands, open_count, opened_view, root_view};
 ghost use Rattle.soap_profile.specs.Steps.{join};
 ghost use Rattle.soap_profile.specs.Tree.{child, none};
 ghost use Rattle.soap_profile.specs.View.{element_view};
@@ -18,21 +18,42 @@ use soap_document::{Bytes, Handler, WrittenAttribute};
 use std::alloc::Global;
 use std::mem;
 
-// elements that have more keep the vector in which this was gathered
+// Elements that have more keep the vector in which this was gathered.
 const FEW_ITEMS: usize = 16;
 
-// an element that is open, with its parts so far
+// An element that is open, with its parts so far.
 #[derive(Drop)]
 pub(crate) struct Opened {
     element: Element,
     start: usize,
-    // the place of the last element within, and of the last within that
+    // The place of the last element within, and of the last within that.
     last: Option<Place>,
     inner: Option<Place>,
 }
 
 impl Opened {
-    // an element becomes a part
+    // The document itself, of which nothing was read: it has no tag.
+    fn untagged(alloc: Global) -> Result<Self, Memory>
+        ensures { IfOk result (λ untagged. opened_view untagged ≡ record {
+          tag = no_tag;
+          start = 0;
+          parts = none;
+          last = None;
+          inner = None;
+        }) }
+    {
+        Ok(Opened {
+            element: Element {
+                name: Name::new(alloc, Shared::from_slice(alloc, b"")?, b"")?,
+                items: Vec::new(alloc),
+            },
+            start: 0,
+            last: None,
+            inner: None,
+        })
+    }
+
+    // An element becomes a part.
     fn add(&mut self, element: Element, place: Place, inner: Option<Place>) -> Result<(), Memory>
         ensures { OnOk result (opened_view self.new ≡ record (opened_view self.old) {
           parts = join (opened_view self.old).parts (child (element_view element) none);
@@ -47,7 +68,7 @@ impl Opened {
     }
 }
 
-// the same items, in a vector with little room to spare
+// The same items, in a vector with little room to spare.
 fn fitted(alloc: Global, items: Vec<Item>, spare: &mut Vec<Vec<Item>>) -> Result<Vec<Item>, Memory>
     ensures { IfOk result (λ fitted. fitted.items ≡ items.items) }
 {
@@ -74,12 +95,12 @@ pub(crate) struct Root {
 #[derive(Drop)]
 pub(crate) struct Resolver {
     scope: Scope,
-    // the innermost element, and those around it, the outermost first, which is the document itself
+    // The innermost element, and those around it, the outermost first, which is the document itself.
     top: Opened,
     below: Vec<Opened>,
-    // a rule of namespaces was broken, and nothing more is kept
+    // A rule of namespaces was broken, and nothing more is kept.
     broken: bool,
-    // vectors without items
+    // Vectors without items.
     spare: Vec<Vec<Item>>,
     alloc: Global,
 }
@@ -87,24 +108,27 @@ pub(crate) struct Resolver {
 impl Resolver {
     /// Before a document was read.
     pub(crate) fn new(alloc: Global) -> Result<Self, Memory>
-        ensures { IfOk result (λ resolver. Stands resolver nothing_open []) }
+        ensures outside { IfOk result (λ resolver. open_count resolver ≡ 0) }
+        ensures stands { IfOk result (λ resolver. Stands resolver nothing_open []) }
     {
         Ok(Resolver {
             scope: Scope::new(alloc)?,
-            top: Opened {
-                element: Element {
-                    name: Name::new(alloc, Shared::from_slice(alloc, b"")?, b"")?,
-                    items: Vec::new(alloc),
-                },
-                start: 0,
-                last: None,
-                inner: None,
-            },
+            top: Opened::untagged(alloc)?,
             below: Vec::new(alloc),
             broken: false,
             spare: Vec::new(alloc),
             alloc,
         })
+    }
+
+    // An element within what broke a rule is counted, and nothing of it is kept.
+    fn skip(&mut self) -> Result<(), Memory>
+        ensures broken { OnOk result (self.new.broken ≡ true) }
+        ensures count { OnOk result (open_count self.new ≡ open_count self.old + 1) }
+    {
+        self.broken = true;
+        self.below.push(Opened::untagged(self.alloc)?)?;
+        Ok(())
     }
 
     /// The root, where the document has one element and nothing else, and no rule of namespaces was broken.
@@ -136,15 +160,14 @@ impl Resolver {
 }
 
 impl Handler for Resolver {
-    ghost use Rattle.soap_profile.specs.Resolving.{Stands};
+    ghost use Rattle.soap_profile.specs.Resolving.{Stands, open_count};
 
     ghost stands = { Stands };
 
+    ghost depth = { open_count };
+
     fn text(&mut self, text: &[u8]) -> Result<(), Memory> {
         if self.broken {
-            return Ok(());
-        }
-        if text.is_empty() {
             return Ok(());
         }
         let text = Bytes::from_slice(self.alloc, text)?;
@@ -159,7 +182,7 @@ impl Handler for Resolver {
         start: usize,
     ) -> Result<(), Memory> {
         if self.broken {
-            return Ok(());
+            return self.skip();
         }
         let mut items = match self.spare.pop() {
             Some(spare) => spare,
@@ -168,8 +191,7 @@ impl Handler for Resolver {
         items.clear();
         let Some(element) = resolved_tag(self.alloc, name, attributes, items, &mut self.scope)?
         else {
-            self.broken = true;
-            return Ok(());
+            return self.skip();
         };
         let inner = Opened {
             element,
@@ -206,12 +228,12 @@ impl Handler for Resolver {
     }
 
     fn close(&mut self, end: usize) -> Result<(), Memory> {
+        let Some(outer) = self.below.pop() else {
+            unreachable!();
+        };
         if self.broken {
             return Ok(());
         }
-        let Some(outer) = self.below.pop() else {
-            return Ok(());
-        };
         let inner = mem::replace(&mut self.top, outer);
         let Opened {
             element,

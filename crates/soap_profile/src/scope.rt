@@ -1,4 +1,4 @@
-// What the names of a document are resolved by.
+//! What the names of a document are resolved by.
 ghost use Rattle.std.specs.Prelude.{◌≡◌, [], ◌∷◌, ◌++◌, IsTrue, ◌↔◌, ◌≢◌, List, IfOk, OnOk, option_map};
 ghost use Rattle.soap_profile.specs.Namespaces.{bound as bound_by, element_name, attribute_name, xml_space};
 ghost use Rattle.soap_profile.specs.Pool.{Knows};
@@ -7,10 +7,10 @@ ghost use Rattle.soap_profile.specs.Tree.{Binding as Bound};
 ghost use Rattle.soap_profile.specs.View.{decls_view};
 
 use crate::pool::Pool;
+use crate::predeclared::Predeclared;
 use crate::shared::Shared;
 use crate::stacks::{Stacks, pop, push, top};
 use crate::tree::Item;
-use crate::undeclared::Undeclared;
 use rm_base::Memory;
 use std::alloc::Global;
 use std::collections::BTreeMap;
@@ -21,7 +21,7 @@ pub(crate) struct Scope {
     stacks: Stacks,
     pub(crate) elements: Pool,
     pub(crate) attributes: Pool,
-    undeclared: Undeclared,
+    predeclared: Predeclared,
 }
 
 impl Scope {
@@ -33,7 +33,7 @@ impl Scope {
             stacks: BTreeMap::new(alloc),
             elements: Pool::new(alloc)?,
             attributes: Pool::new(alloc)?,
-            undeclared: Undeclared::new(alloc)?,
+            predeclared: Predeclared::new(alloc)?,
         })
     }
 
@@ -41,14 +41,14 @@ impl Scope {
     pub(crate) fn xml(&self) -> &Shared
         ensures { result.now ≡ xml_space }
     {
-        self.undeclared.xml()
+        self.predeclared.xml()
     }
 
     /// The space of the names that are in no namespace.
     pub(crate) fn none(&self) -> &Shared
         ensures { result.now ≡ [] }
     {
-        self.undeclared.none()
+        self.predeclared.none()
     }
 
     /// What a prefix is bound to.
@@ -81,7 +81,7 @@ impl Scope {
         self.forget();
     }
 
-    // what was known of names holds no longer where bindings have changed
+    // What was known of names holds no longer where bindings have changed.
     fn forget(&mut self)
         ensures { (before bindings : List Bound) → Knows (element_name before) self.old.elements
             → Knows (attribute_name before) self.old.attributes → IsStacked self.old.stacks bindings
@@ -92,7 +92,7 @@ impl Scope {
     }
 }
 
-// a declaration among items
+// A declaration among items.
 fn declares(items: &[Item]) -> bool
     ensures { IsTrue result ↔ (decls_view items.now ≢ []) }
 {
@@ -104,7 +104,7 @@ fn declares(items: &[Item]) -> bool
     false
 }
 
-// the first declaration is bound last: it is the innermost
+// The first declaration is bound last: it is the innermost.
 fn bind_all(alloc: Global, items: &[Item], stacks: &mut Stacks) -> Result<(), Memory>
     ensures { (bindings : List Bound) → IsStacked stacks.old bindings
         → OnOk result (IsStacked stacks.new (decls_view items.now ++ bindings)) }

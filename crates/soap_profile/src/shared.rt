@@ -1,3 +1,4 @@
+//! Bytes that many values share.
 ghost use Rattle.std.specs.Prelude.{◌≡◌, [], IsTrue, ◌↔◌, IfOk};
 
 use rm_base::{Blob, Memory};
@@ -20,6 +21,7 @@ impl Model for Shared {
 }
 
 impl Shared {
+    /// The same bytes, copied.
     pub fn from_slice(alloc: Global, bytes: &[u8]) -> Result<Self, Memory>
         ensures { IfOk result (λ shared. shared ≡ bytes.now) }
     {
@@ -27,12 +29,14 @@ impl Shared {
         Ok(Shared { bytes })
     }
 
+    /// The bytes.
     pub fn as_slice(&self) -> &[u8]
         ensures { result.now ≡ self.now }
     {
         self.bytes.as_slice()
     }
 
+    /// Whether there are none.
     pub fn is_empty(&self) -> bool
         ensures { IsTrue result ↔ (self.now ≡ []) }
     {
@@ -46,22 +50,5 @@ impl Shared {
         Ok(Shared {
             bytes: self.bytes.clone()?,
         })
-    }
-}
-
-#[cfg(test)]
-mod tests {
-    use super::*;
-    use std::test::Fail;
-
-    #[test]
-    fn holds_bytes(rt: HostRuntime) -> Result<(), Fail> {
-        let bytes = Shared::from_slice(rt.alloc(), b"abc")?;
-        assert!(rt; !bytes.is_empty());
-        assert_eq!(rt; bytes.share()?.as_slice(), b"abc".as_slice());
-        let none = Shared::from_slice(rt.alloc(), b"")?;
-        assert!(rt; none.is_empty());
-        assert!(rt; none.share()?.is_empty());
-        Ok(())
     }
 }

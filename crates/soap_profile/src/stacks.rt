@@ -1,4 +1,4 @@
-// The spaces that each prefix was bound to, the innermost last.
+//! The spaces that each prefix was bound to, the innermost last.
 ghost use Rattle.std.specs.Prelude.{◌≡◌, [], ◌∷◌, ◌++◌, ℕ, List, OnOk, option_map, if◌then◌else◌};
 ghost use Rattle.std.specs.Str.{bytes_eq};
 ghost use Rattle.soap_profile.specs.Scope.{stack_at, last_of};
@@ -37,7 +37,7 @@ pub(crate) fn push(
     Ok(())
 }
 
-// binds a prefix that was not bound before
+// Binds a prefix that was not bound before.
 fn begin(alloc: Global, stacks: &mut Stacks, prefix: &[u8], space: Shared) -> Result<(), Memory>
     ensures { OnOk result ((other : List ℕ) → stack_at stacks.new other
         ≡ (if bytes_eq prefix.now other then space ∷ [] else stack_at stacks.old other)) }

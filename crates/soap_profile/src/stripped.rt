@@ -1,4 +1,4 @@
-// Trees without declarations.
+//! Trees without declarations.
 ghost use Rattle.std.specs.Prelude.{◌≡◌, ◌++◌, IfOk, OnOk};
 ghost use Rattle.soap_profile.specs.Items.{stripped_item, stripped_items};
 ghost use Rattle.soap_profile.specs.Tree.{without_declarations};

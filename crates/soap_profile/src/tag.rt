@@ -1,4 +1,4 @@
-// Start tags with their names resolved.
+//! Start tags with their names resolved.
 ghost use Rattle.std.specs.Prelude.{◌≡◌, ◌++◌, [], List, IfOk, OnOk, IfSome, map, option_map};
 ghost use Rattle.soap_profile.specs.Items.{a_declaration};
 ghost use Rattle.soap_profile.specs.Namespaces.{tag_of, resolved_with, element_name as element_name_of, expanded as expanded_by};
@@ -35,7 +35,7 @@ pub(crate) fn resolved_tag(
     full_tag(alloc, name, attributes, items, scope)
 }
 
-// the tag of an element without attributes, which declares nothing
+// The tag of an element without attributes, which declares nothing.
 fn bare_tag(
     alloc: Global,
     name: &[u8],
@@ -54,7 +54,7 @@ fn bare_tag(
     Ok(Some(Element { name, items }))
 }
 
-// the tag of an element with attributes
+// The tag of an element with attributes.
 fn full_tag(
     alloc: Global,
     name: &[u8],
@@ -81,7 +81,7 @@ fn full_tag(
     tag_within(alloc, name, attributes, items, scope)
 }
 
-// the tag whose declarations are these, and within which the scope is
+// The tag whose declarations are these, and within which the scope is.
 fn tag_within(
     alloc: Global,
     name: &[u8],

@@ -1,5 +1,7 @@
+//! The tree of a document, as the code keeps it.
 use crate::name::Name;
 use crate::shared::Shared;
+use rm_base::Items;
 use soap_document::Bytes;
 use std::marker::Model;
 use std::mem::size_of;
@@ -23,11 +25,15 @@ impl Model for Declaration {
     ghost view = { λ d. record { prefix = d.prefix; space = d.space } };
 }
 
+/// An attribute with its expanded name, and its normalised value.
 #[derive(Debug, Drop)]
 pub struct Attr {
     pub name: Name,
     pub value: Bytes,
 }
+
+/// Attributes in order.
+pub type Attrs = Items<Attr>;
 
 /// What an element has: a declaration, an attribute, or a part of its content, which is text that is not empty or an
 /// element.

@@ -1,7 +1,7 @@
 use Rattle.std.proofs.Common.{Some, None, arith}
 use Rattle.memchr.specs.Find.{is_byte}
-use Rattle.soap_lex.proofs.FirstLemmas.{first_further}
 use Rattle.soap_document.proofs.search.first_byte.Goals as goal
+use Rattle.soap_lex.specs.First.{first_further}
 
 pub returns-then-bytes-le-NEAR : goal.returns-then-bytes-le-NEAR
 returns-then-bytes-le-NEAR c = λ k low high e. c.loop-i.invariant k (omega arith) e

@@ -1,8 +1,8 @@
 use Rattle.soap_lex.specs.Characters.{IsName}
 use Rattle.soap_document.specs.Tokens.{is_name}
-use Rattle.soap_lex.proofs.AnswerLemmas.{same_test}
 use Rattle.soap_document.proofs.Names.{IsName-from, name_passes}
 use Rattle.soap_document.proofs.tokens.is_name.Goals as goal
+use Rattle.soap_lex.specs.Facts.{same_test}
 
 pub returns : goal.returns
 returns c =

@@ -1,9 +1,9 @@
 use Rattle.soap_lex.specs.Text.{IsCdata}
 use Rattle.soap_lex.specs.Tests.{is_cdata}
-use Rattle.soap_lex.proofs.AnswerLemmas.{same_test}
 use Rattle.soap_lex.proofs.TestLemmas.{cdata_from}
 use Rattle.soap_lex.proofs.TestLemmas.{cdata_passes}
 use Rattle.soap_lex.proofs.decide.is_cdata.Goals as goal
+use Rattle.soap_lex.specs.Facts.{same_test}
 
 pub returns : goal.returns
 returns c =

@@ -1,9 +1,9 @@
 use Rattle.soap_lex.specs.Text.{IsCharData}
 use Rattle.soap_lex.specs.Tests.{is_char_data}
-use Rattle.soap_lex.proofs.AnswerLemmas.{same_test}
 use Rattle.soap_lex.proofs.TestLemmas.{data_from}
 use Rattle.soap_lex.proofs.TestLemmas.{data_passes}
 use Rattle.soap_lex.proofs.decide.is_char_data.Goals as goal
+use Rattle.soap_lex.specs.Facts.{same_test}
 
 pub returns : goal.returns
 returns c =

@@ -1,9 +1,9 @@
 use Rattle.soap_lex.specs.Text.{IsComment}
 use Rattle.soap_lex.specs.Tests.{is_comment}
-use Rattle.soap_lex.proofs.AnswerLemmas.{same_test}
 use Rattle.soap_lex.proofs.TestLemmas.{comment_from}
 use Rattle.soap_lex.proofs.TestLemmas.{comment_passes}
 use Rattle.soap_lex.proofs.decide.is_comment.Goals as goal
+use Rattle.soap_lex.specs.Facts.{same_test}
 
 pub returns : goal.returns
 returns c =

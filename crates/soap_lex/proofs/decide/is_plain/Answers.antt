@@ -1,9 +1,9 @@
 use Rattle.soap_lex.specs.Value.{IsPlainValue}
 use Rattle.soap_lex.specs.Tests.{is_plain}
-use Rattle.soap_lex.proofs.AnswerLemmas.{same_test}
 use Rattle.soap_lex.proofs.TestLemmas.{plain_from}
 use Rattle.soap_lex.proofs.TestLemmas.{plain_passes}
 use Rattle.soap_lex.proofs.decide.is_plain.Goals as goal
+use Rattle.soap_lex.specs.Facts.{same_test}
 
 pub returns : goal.returns
 returns c =

@@ -9,7 +9,8 @@ use Rattle.soap_lex.proofs.read.push_text.Goals as goal
 pub returns-in_err-left-clause-refused : goal.returns-in_err-left-clause-refused
 returns-in_err-left-clause-refused c =
     let exit = err_from_is_err_and c.from_residual.result c.from_residual.ensures.1 in
-    rw (exit.1, exit.2) (OnRefusal-weaker c.in_err-left.field-0.0 _ _ (text_refused c.args.bytes.now c.args.out.now.items)
+    rw (exit.1, exit.2) (OnRefusal-weaker c.in_err-left.field-0.0 _ _
+    (text_refused c.args.bytes.now c.args.out.now.items)
     c.in_err-left.ensures.refused)
 
 pub overflow_sub-result : goal.overflow_sub-result

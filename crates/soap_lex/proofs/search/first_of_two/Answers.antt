@@ -1,7 +1,7 @@
 use Rattle.std.proofs.Common.{Some, None, sym, ◌∙◌, arith}
 use Rattle.memchr.specs.Find.{is_byte2}
-use Rattle.soap_lex.proofs.FirstLemmas.{first_further}
 use Rattle.soap_lex.proofs.search.first_of_two.Goals as goal
+use Rattle.soap_lex.specs.First.{first_further}
 
 pub returns-then-is_either : goal.returns-then-is_either
 returns-then-is_either c = (

@@ -1,9 +1,10 @@
 use Rattle.std.proofs.Common.{sym, ◌∙◌, ap}
-use Rattle.soap_lex.proofs.CharsLemmas.{IsChars-all, all-IsChars, IsUtf8-IsChars}
+use Rattle.soap_lex.proofs.CharsLemmas.{IsChars-all, all-IsChars}
 use Rattle.std.specs.List.{list_all}
 use Rattle.std.specs.Str.{chars}
 use Rattle.xml_chars.specs.Classes.{is_char}
 use Rattle.soap_lex.proofs.tokens.is_text.Goals as goal
+use Rattle.soap_lex.specs.Scalars.{IsUtf8-IsChars}
 
 pub returns-in-Ok : goal.returns-in-Ok
 returns-in-Ok c =

@@ -2,8 +2,9 @@ use Rattle.std.proofs.Common.{sym, ◌∙◌, ap}
 use Rattle.std.specs.List.{list_all}
 use Rattle.std.specs.Str.{chars}
 use Rattle.xml_chars.specs.Classes.{is_name_char}
-use Rattle.soap_lex.proofs.CharsLemmas.{begins, IsName-all, all-IsName, begins-IsName, IsUtf8-IsName}
+use Rattle.soap_lex.proofs.CharsLemmas.{begins, IsName-all, all-IsName, begins-IsName}
 use Rattle.soap_lex.proofs.tokens.is_utf8_name.Goals as goal
+use Rattle.soap_lex.specs.Scalars.{IsUtf8-IsName}
 
 pub returns-then-begins_name : goal.returns-then-begins_name
 returns-then-begins_name c =

@@ -1,7 +1,7 @@
 use Rattle.soap_profile.specs.declared.error.EnvelopeError.TheVariants.{TooLong, NotUtf8, NotProfile}
 use Rattle.soap_profile.specs.declared.read.Placed.{Placed}
 use Rattle.soap_profile.specs.declared.tree.Element.{Element}
-use Rattle.soap_profile.proofs.Answer.{same_error, errors_alike}
+use Rattle.soap_profile.specs.Answer.{same_error, errors_alike}
 use Rattle.soap_profile.proofs.read.read_element.Goals as goal
 
 pub returns-in-Err-clause-too_long : goal.returns-in-Err-clause-too_long

@@ -6,7 +6,7 @@ use Rattle.soap_profile.specs.Tree.{Element as Tree}
 use Rattle.soap_profile.specs.declared.error.EnvelopeError.TheVariants.{Memory as WantsMemory, NotUtf8, NotProfile}
 use Rattle.soap_profile.specs.declared.read.Placed.{Placed}
 use Rattle.soap_profile.specs.declared.read.TheConstants.{MAX_LENGTH}
-use Rattle.soap_profile.proofs.Answer.{same_front}
+use Rattle.soap_profile.specs.Answer.{same_front}
 use Rattle.soap_profile.proofs.read.read_placed.Goals.{in-Ok-None, in-Err}
 use Rattle.soap_profile.proofs.read.read_placed.Goals as goal
 

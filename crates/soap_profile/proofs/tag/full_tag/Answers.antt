@@ -1,5 +1,5 @@
 use Rattle.std.proofs.Common.{◌≡◌, ◌++◌, List, true, sym, subst, ◌∙◌}
-use Rattle.soap_document.proofs.Steps.{nil_from_len}
+use Rattle.soap_lex.specs.Facts.{nil_from_len}
 use Rattle.soap_profile.specs.Namespaces.{declarations, are_distinct}
 use Rattle.soap_profile.specs.Scope.{InForce}
 use Rattle.soap_profile.specs.Tree.{Binding}

@@ -7,18 +7,24 @@ use Rattle.soap_document.proofs.Steps.{some_open}
 use Rattle.soap_document.proofs.reader.Reader.end_ending.Goals as goal
 use Rattle.soap_document.proofs.reader.Reader.end_ending.Goals.{then-is_outside-via-then-is_outside, then-is_outside-via-else-is_outside+then-not-is_end}
 
-pub returns-then-is_outside : goal.returns-then-is_outside
-returns-then-is_outside g c =
+pub returns-then-is_outside-clause-sees : goal.returns-then-is_outside-clause-sees
+returns-then-is_outside-clause-sees g c =
     scans g.H.Handler.stands c.args.self.now c.refuse.new.self (λ (s : State). closed s.below s) (λ top below h.
     elim c.then-is_outside.branch [
       | then-is_outside-via-then-is_outside w ↦
-          search (rules, c.refuse.ensures top below, c.is_outside.ensures top below h)
+          search (rules, c.refuse.ensures top below, c.is_outside.ensures.outside top below h)
       | then-is_outside-via-else-is_outside+then-not-is_end w ↦
-          search (rules, c.refuse.ensures top below, c.is_outside.ensures top below h, w.name.ensures top below h)
+          search (
+            rules,
+            c.refuse.ensures top below,
+            c.is_outside.ensures.outside top below h,
+            w.name.ensures top
+                below h,
+          )
     ])
 
-pub returns : goal.returns
-returns g c =
+pub returns-clause-sees : goal.returns-clause-sees
+returns-clause-sees g c =
     let stands = g.H.Handler.stands in
     let scan = c.args.self.now.scan in
     let close = λ (s : State). closed s.below s in
@@ -27,7 +33,7 @@ returns g c =
     (λ outer frames held.
     let parent =
     with_parts outer (child (element top.name top.attributes top.start scan.mark top.parts) none) in
-    let closes = c.in_ok-close.ensures top outer frames held in
-    let calms = c.calm.ensures parent frames (c.is_outside-2.ensures parent frames closes) in
+    let closes = c.in_ok-close.ensures.holds top outer frames held in
+    let calms = c.calm.ensures parent frames (c.is_outside-2.ensures.outside parent frames closes) in
     sees stands _ parent frames _ closes (search (rules, calms, c.name.ensures top below h))) below
-    (sym (c.is_outside.ensures top below h) ∙ c.if-is_outside.false) h)
+    (sym (c.is_outside.ensures.outside top below h) ∙ c.if-is_outside.false) h)

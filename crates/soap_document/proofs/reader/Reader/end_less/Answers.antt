@@ -8,8 +8,8 @@ use Rattle.soap_document.proofs.Steps.{not_nil, less_named}
 use Rattle.soap_document.proofs.reader.Reader.end_less.Goals as goal
 use Rattle.soap_document.proofs.reader.Reader.end_less.Goals.{then-not-is_qname-via-then-not-is_qname, then-not-is_qname-via-else-not-is_qname+then-not-has_room}
 
-pub returns-then-not-is_qname : goal.returns-then-not-is_qname
-returns-then-not-is_qname g c =
+pub returns-then-not-is_qname-clause-sees : goal.returns-then-not-is_qname-clause-sees
+returns-then-not-is_qname-clause-sees g c =
     scans g.H.Handler.stands c.args.self.now c.refuse.new.self (λ (s : State). at_less s c.args.byte) (λ top below h.
     elim c.then-not-is_qname.branch [
       | then-not-is_qname-via-then-not-is_qname w ↦ search (rules, c.refuse.ensures top below)
@@ -17,8 +17,8 @@ returns-then-not-is_qname g c =
           search (rules, c.refuse.ensures top below, w.has_room.ensures top below h)
     ])
 
-pub returns : goal.returns
-returns g c =
+pub returns-clause-sees : goal.returns-clause-sees
+returns-clause-sees g c =
     let stands = g.H.Handler.stands in
     let token = c.args.self.now.scan.token in
     let some = not_nil token.items _ token.ok.0 (sym c.is_empty.ensures ∙ c.if-is_empty.false) in
@@ -31,4 +31,4 @@ returns g c =
     let settles = c.in_ok-settle.ensures.sees s (sees stands c.args.self.now top below s h refl) in
     let names = scans stands c.settle.new.self _ named (λ inner outer held. search rules) (settle s) settles in
     on_ok c.end_tagging.result _ _ (subst (λ (x : State). Sees stands c.end_tagging.new.self x) (less_named s
-    c.args.byte some fits)) (c.end_tagging.ensures (named (settle s)) names))
+    c.args.byte some fits)) (c.end_tagging.ensures.sees (named (settle s)) names))

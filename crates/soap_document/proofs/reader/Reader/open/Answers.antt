@@ -4,8 +4,8 @@ use Rattle.soap_document.specs.Machine.{Frame, opened}
 use Rattle.soap_document.proofs.Seeing.{steps, sees}
 use Rattle.soap_document.proofs.reader.Reader.open.Goals as goal
 
-pub returns : goal.returns
-returns g c =
+pub returns-clause-sees : goal.returns-clause-sees
+returns-clause-sees g c =
     let stands = g.H.Handler.stands in
     let scan = c.args.self.now.scan in
     let inner : Frame = record {
@@ -15,4 +15,4 @@ returns g c =
       parts = none;
     } in
     steps stands c.args.self.now _ opened (λ top below h. sees stands _ inner (top ∷ below) _
-    (search (rules, c.in_ok-open.ensures top below h)) (search (rules, c.calm.ensures inner (top ∷ below) refl)))
+    (search (rules, c.in_ok-open.ensures.holds top below h)) (search (rules, c.calm.ensures inner (top ∷ below) refl)))

@@ -3,7 +3,8 @@ use Rattle.soap_document.specs.Tree.{none, onto}
 use Rattle.soap_document.specs.Machine.{with_parts, settle}
 use Rattle.soap_document.specs.Seen.{seen}
 use Rattle.soap_document.proofs.Seeing.{steps, scans, sees}
-use Rattle.soap_document.proofs.Steps.{nil_from_len, settled_empty}
+use Rattle.soap_document.proofs.Steps.{settled_empty}
+use Rattle.soap_lex.specs.Facts.{nil_from_len}
 use Rattle.soap_document.proofs.reader.Reader.settle.Goals as goal
 
 pub returns-then-is_empty-clause-sees : goal.returns-then-is_empty-clause-sees
@@ -19,5 +20,5 @@ returns-clause-sees g c =
     let stands = g.H.Handler.stands in
     steps stands c.args.self.now _ settle (λ top below h.
     let grown = with_parts top (onto c.args.self.now.scan.text.items none) in
-    sees stands _ grown below _ (search (rules, c.in_ok-text.ensures top below h))
+    sees stands _ grown below _ (search (rules, c.in_ok-text.ensures.holds top below h))
     (search (rules, c.restart.ensures c.clear.new.self.items)))

@@ -1,17 +1,17 @@
-use Rattle.std.proofs.Common.{◌+◌, get_or, refl, sym}
+use Rattle.std.proofs.Common.{◌+◌, [], get_or, refl, sym, ap, ◌∙◌, arith}
 use Rattle.soap_lex.specs.Readers.{text_state}
-use Rattle.soap_document.specs.Machine.{at_chars, counted}
+use Rattle.soap_document.specs.Machine.{nothing_open, at_chars, counted}
 use Rattle.soap_document.specs.Seen.{seen, TakenBy}
 use Rattle.soap_document.proofs.Fed.{text_ends, taken_text, taken_end}
-use Rattle.soap_document.proofs.Places.{chars-at}
+use Rattle.soap_document.proofs.Places.{chars-at, after_text-at}
 use Rattle.soap_document.proofs.Seeing.{seeing, sees, counts}
 use Rattle.soap_document.proofs.reader.Reader.take_chars.Goals as goal
 
 pub take_less-requires-clause-fresh : goal.take_less-requires-clause-fresh
 take_less-requires-clause-fresh g c = λ text. (c.is_fresh.ensures text).0 c.if-is_fresh.true
 
-pub returns-then-taken-eq0 : goal.returns-then-taken-eq0
-returns-then-taken-eq0 g c =
+pub returns-then-taken-eq0-clause-sees : goal.returns-then-taken-eq0-clause-sees
+returns-then-taken-eq0-clause-sees g c =
     let stands = g.H.Handler.stands in
     let bytes = c.args.bytes.now in
     let byte = get_or bytes 0 0 in
@@ -24,22 +24,29 @@ returns-then-taken-eq0 g c =
     record {
       state = counted (at_chars told byte);
       sees = counts stands c.end_chars.new.self (at_chars told byte) s.at (sym (chars-at told byte))
-          (c.in_ok-end_chars.ensures told (sees stands _ top below told h refl) halted.0);
+          (c.in_ok-end_chars.ensures.sees told (sees stands _ top below told h refl) halted.0);
       taken = taken_end s (at_chars told byte) words bytes c.in-Ok.taken c.requires.inside c.requires.some fed
           c.if-taken-eq0.true refl;
     })
 
-pub returns : goal.returns
-returns g c =
+pub returns-clause-sees : goal.returns-clause-sees
+returns-clause-sees g c =
     let stands = g.H.Handler.stands in
     let bytes = c.args.bytes.now in
     let words = text_state c.feed.new.self c.feed.new.out.items in
     seeing stands c.args.self.now (λ s. TakenBy stands s _ bytes c.in-Ok.taken) (λ top below h.
     let s = seen c.args.self.now.scan top below in
-    let new = record s { words = words; at = s.at + c.in-Ok.taken } in
+    let new = seen c.end_text.new.self top below in
     record {
       state = new;
       sees = record { is = refl; holds = h };
       taken = taken_text s new words bytes c.in-Ok.taken c.requires.inside c.in-Ok.ensures.ok.0 c.if-taken-eq0.false
-          c.in-Ok.ensures.ok.1 refl;
+          c.in-Ok.ensures.ok.1 (c.end_text.ensures top below);
     })
+
+pub returns-clause-place : goal.returns-clause-place
+returns-clause-place g c = (
+  omega (arith, c.if-taken-eq0.false),
+  c.in-Ok.ensures.ok.0,
+  ap (λ s. s.at) (c.end_text.ensures nothing_open []) ∙ after_text-at _,
+)

@@ -6,8 +6,8 @@ use Rattle.soap_document.proofs.Fed.{taken_all, taken_some}
 use Rattle.soap_document.proofs.Seeing.{seeing, sees}
 use Rattle.soap_document.proofs.reader.Reader.take_token.Goals as goal
 
-pub returns-in_default : goal.returns-in_default
-returns-in_default g c =
+pub returns-in_default-clause-sees : goal.returns-in_default-clause-sees
+returns-in_default-clause-sees g c =
     let stands = g.H.Handler.stands in
     let bytes = c.args.bytes.now in
     seeing stands c.args.self.now (λ s. TakenBy stands s _ bytes (length bytes)) (λ top below h. record {
@@ -35,8 +35,8 @@ end_token-requires-clause-fits g c =
     let high : c.in-Some.end < length bytes = first.0.high in
     omega (arith, place, high, length-take c.in-Some.end bytes, c.requires.fits)
 
-pub returns : goal.returns
-returns g c =
+pub returns-clause-sees : goal.returns-clause-sees
+returns-clause-sees g c =
     let stands = g.H.Handler.stands in
     let bytes = c.args.bytes.now in
     let kept = record c.args.self.now { scan = c.keep-2.new.self } in
@@ -45,7 +45,24 @@ returns g c =
     let s = seen kept.scan top below in
     record {
       state = counted (finish s.mode s (get_or bytes c.in-Some.end 0));
-      sees = c.in_ok-end_token.ensures s (sees stands kept top below s h refl);
+      sees = c.in_ok-end_token.ensures.sees s (sees stands kept top below s h refl);
       taken = taken_some (seen c.args.self.now.scan top below) s _ bytes c.first_stop.result c.in-Some.end
           c.first_stop.ensures c.in-Some.is (c.in_ok-keep-2.ensures top below) refl;
     })
+
+pub returns-in_default-clause-place : goal.returns-in_default-clause-place
+returns-in_default-clause-place g c =
+    (c.requires.some, omega arith, ap (λ s. s.at) (c.in_ok-keep.ensures nothing_open []))
+
+pub returns-clause-place : goal.returns-clause-place
+returns-clause-place g c =
+    let bytes = c.args.bytes.now in
+    let place = ap (λ s. s.at) (c.in_ok-keep-2.ensures nothing_open []) in
+    let first : IsFirstByte (stops (mode_of c.args.self.now.scan.mode)) bytes (Some c.in-Some.end) =
+    subst (λ (o : Option ℕ). IsFirstByte (stops (mode_of c.args.self.now.scan.mode)) bytes o) c.in-Some.is
+    c.first_stop.ensures in
+    let high : c.in-Some.end < length bytes = first.0.high in (
+      omega arith,
+      omega (arith, high),
+      omega (arith, place, high, length-take c.in-Some.end bytes, c.in_ok-end_token.ensures.place),
+    )

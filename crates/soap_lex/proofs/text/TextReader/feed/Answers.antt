@@ -28,7 +28,8 @@ returns-clause-ok c =
     let s = text_state c.args.self.now text in
     let bytes : List ℕ = c.args.piece.now in
     let n = c.in-Some.end in
-    let high : n < length bytes = within (stops s.mode) bytes c.first_stop.result c.first_stop.ensures n c.in-Some.is in (
+    let high : n < length bytes = within (stops s.mode) bytes c.first_stop.result c.first_stop.ensures n c.in-Some.is
+    in (
       omega arith,
       fed_some s bytes c.first_stop.result c.first_stop.ensures n c.in-Some.is
           (sym (c.halts.ensures text) ∙ c.if-halts.false)

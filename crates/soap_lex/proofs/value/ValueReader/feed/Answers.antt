@@ -3,8 +3,9 @@ use Rattle.memchr.specs.Find.{IsFirstByte}
 use Rattle.soap_lex.specs.Readers.{value_state}
 use Rattle.soap_lex.specs.ValueMachine.{ValueState, stops, halts}
 use Rattle.soap_lex.proofs.TextFed.{within}
-use Rattle.soap_lex.proofs.ValueFed.{fed_none, fed_some, fed_halted}
+use Rattle.soap_lex.proofs.ValueFed.{fed_none, fed_some}
 use Rattle.soap_lex.proofs.value.ValueReader.feed.Goals as goal
+use Rattle.soap_lex.specs.ValueStops.{fed_halted}
 
 pub returns-then-halts-clause-ok : goal.returns-then-halts-clause-ok
 returns-then-halts-clause-ok c =
@@ -18,7 +19,8 @@ returns-in_default-clause-ok c =
     let bytes : List ℕ = c.args.piece.now in
     let unended : halts s.mode ≡ false = sym (c.halts.ensures value) ∙ c.if-halts.false in
     let first : IsFirstByte (stops s.mode s.quote) bytes c.first_stop.result =
-    subst (λ (q : ℕ). IsFirstByte (stops s.mode q) bytes c.first_stop.result) c.byte.ensures.is c.first_stop.ensures in (
+    subst (λ (q : ℕ). IsFirstByte (stops s.mode q) bytes c.first_stop.result) c.byte.ensures.is c.first_stop.ensures
+    in (
       omega arith,
       fed_none s bytes c.first_stop.result first unended c.in_default.is
           ∙ ap (λ (t : List ℕ). (record s { token = t }, drop (length bytes) bytes))

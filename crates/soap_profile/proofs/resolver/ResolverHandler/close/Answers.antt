@@ -12,14 +12,14 @@ use Rattle.soap_profile.proofs.Nests.{nest-child, closes, stays_broken, element_
 use Rattle.soap_profile.proofs.Resolvers.{sound_is, broken_is, below_popped, child_closed}
 use Rattle.soap_profile.proofs.resolver.ResolverHandler.close.Goals as goal
 
-pub returns-then-self : goal.returns-then-self
-returns-then-self c = λ top outer below h.
+pub returns-then-self-clause-made : goal.returns-then-self-clause-made
+returns-then-self-clause-made c = λ top outer below h.
     let raw = element_of top c.args.end in
     broken c.if-self.true (nest-child outer below raw ∙ stays_broken top (nest outer below) c.args.end (broken_is
     c.args.self.now top (outer ∷ below) h c.if-self.true))
 
-pub returns : goal.returns
-returns c = λ top outer below h.
+pub returns-clause-made : goal.returns-clause-made
+returns-clause-made c = λ top outer below h.
     let self = c.args.self.now in
     let end = c.args.end in
     let inner = c.replace-inner.result in

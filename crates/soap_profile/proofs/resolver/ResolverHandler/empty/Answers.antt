@@ -11,12 +11,12 @@ use Rattle.soap_profile.proofs.Nests.{nest-child, with_resolved, with_child, wit
 use Rattle.soap_profile.proofs.Resolvers.{sound_is, still_broken, tagged, untagged, entered, child_added}
 use Rattle.soap_profile.proofs.resolver.ResolverHandler.empty.Goals as goal
 
-pub returns-then-self : goal.returns-then-self
-returns-then-self c = λ top below h.
+pub returns-then-self-clause-made : goal.returns-then-self-clause-made
+returns-then-self-clause-made c = λ top below h.
     still_broken c.args.self.now top below _ c.if-self.true h
 
-pub returns-in_default : goal.returns-in_default
-returns-in_default c = λ top below h.
+pub returns-in_default-clause-made : goal.returns-in_default-clause-made
+returns-in_default-clause-made c = λ top below h.
     let self = c.args.self.now in
     let attributes = c.args.attributes.now in
     let place = c.args.place in
@@ -28,8 +28,8 @@ returns-in_default c = λ top below h.
     broken refl (nest-child top below raw ∙ ap (with_resolved raw) s.is
     ∙ with_resolved_tag frame (nest_view self s.bindings) place None named)
 
-pub returns : goal.returns
-returns c = λ top below h.
+pub returns-clause-made : goal.returns-clause-made
+returns-clause-made c = λ top below h.
     let self = c.args.self.now in
     let attributes = c.args.attributes.now in
     let place = c.args.place in

@@ -1,25 +1,33 @@
 use Rattle.std.proofs.Common.{◌≡◌, List, [], ◌∷◌, ◌++◌, map, reverse, refl, ap, ◌∙◌}
+use Rattle.std.proofs.lemmas.Result.{on_ok_weaker}
 use Rattle.soap_profile.specs.Namespaces.{tag_of}
 use Rattle.soap_profile.specs.Opened.{within, within_all}
 use Rattle.soap_profile.specs.Resolving.{sound, broken, nest_view, opened_view}
 use Rattle.soap_profile.specs.View.{decls_view}
 use Rattle.soap_profile.specs.declared.resolver.Opened.{Opened}
 use Rattle.soap_profile.proofs.Nests.{begun}
-use Rattle.soap_profile.proofs.Resolvers.{sound_is, below_pushed, tagged, untagged, entered}
+use Rattle.soap_profile.proofs.Resolvers.{sound_is, broken_is, below_pushed, tagged, untagged, entered}
 use Rattle.soap_profile.proofs.resolver.ResolverHandler.open.Goals as goal
 
-pub returns-in_default : goal.returns-in_default
-returns-in_default c = λ top below h.
+pub returns-then-self-clause-made : goal.returns-then-self-clause-made
+returns-then-self-clause-made c = λ top below h.
+    on_ok_weaker c.skip.result (λ e. broken e (ap (within_all
+    (begun c.args.name.now c.args.attributes.now c.args.start))
+    (broken_is c.args.self.now top below h c.if-self.true))) c.skip.ensures.broken
+
+pub returns-in_default-clause-made : goal.returns-in_default-clause-made
+returns-in_default-clause-made c = λ top below h.
     let self = c.args.self.now in
     let attributes = c.args.attributes.now in
     let frame = begun c.args.name.now attributes c.args.start in
     let s = sound_is self top below h c.if-self.false in
-    broken refl (ap (within_all frame) s.is ∙ ap (within frame (nest_view self s.bindings)) (untagged (tag_of s.bindings
+    on_ok_weaker c.skip-in_default.result (λ e. broken e (ap (within_all frame) s.is
+    ∙ ap (within frame (nest_view self s.bindings)) (untagged (tag_of s.bindings
     c.args.name.now attributes) c.in_ok-element.field-0 (c.in_ok-element.ensures.tag s.bindings s.within)
-    c.in_default.is))
+    c.in_default.is))) c.skip-in_default.ensures.broken
 
-pub returns : goal.returns
-returns c = λ top below h.
+pub returns-clause-made : goal.returns-clause-made
+returns-clause-made c = λ top below h.
     let self = c.args.self.now in
     let attributes = c.args.attributes.now in
     let element = c.in-Some-2.element in

@@ -1,0 +1,41 @@
+-- Where the machine of values takes nothing: lemmas that the layers above need too.
+use Rattle.std.proofs.Common.{◌≡◌, ℕ, suc, ◌≤◌, List, [], ◌∷◌, Bool, true, false, length, refl, ap, arith}
+use Rattle.soap_lex.specs.ValueMachine.{ValueState, stops, halts, longer, finish, to_stop}
+
+pub fed_halted : (s : ValueState) (bytes : List ℕ) → halts s.mode ≡ true → to_stop s bytes ≡ (s, bytes)
+fed_halted s [] h = refl
+fed_halted s (c ∷ bytes) h = rw h
+
+shrinks_at : (s : ValueState) (c : ℕ) (bytes : List ℕ) (a b : Bool) → halts s.mode ≡ a → stops s.mode s.quote c ≡ b
+    → length (to_stop (longer s (c ∷ [])) bytes).1 ≤ length bytes → length (to_stop s (c ∷ bytes)).1 ≤ suc
+    (length bytes)
+shrinks_at s c bytes true b e f h = rw e (omega arith)
+shrinks_at s c bytes false true e f h = rw (e, f) (omega arith)
+shrinks_at s c bytes false false e f h = rw (e, f) (omega (arith, h))
+
+shrinks : (s : ValueState) (bytes : List ℕ) → length (to_stop s bytes).1 ≤ length bytes
+shrinks s [] = omega arith
+shrinks s (c ∷ bytes) =
+    let h : length (to_stop s (c ∷ bytes)).1 ≤ suc (length bytes) =
+    shrinks_at s c bytes (halts s.mode) (stops s.mode s.quote c) refl refl
+    (shrinks (longer s (c ∷ [])) bytes) in
+    omega (arith, h)
+
+-- where nothing was taken, the machine halts
+pub still : (s t : ValueState) (c : ℕ) (bytes : List ℕ) → to_stop s (c ∷ bytes) ≡ (t, c ∷ bytes)
+    → (halts s.mode ≡ true) × (s ≡ t)
+still s t c bytes h = go (halts s.mode) (stops s.mode s.quote c) refl refl
+  where
+    go : (a b : Bool) → halts s.mode ≡ a → stops s.mode s.quote c ≡ b → (halts s.mode ≡ true) × (s ≡ t)
+    go true b e f =
+        let x : (s, c ∷ bytes) ≡ (t, c ∷ bytes) = rw e at h in
+        (e, ap (λ (p : ValueState × List ℕ). p.0) x)
+    go false true e f =
+        let x : (finish s.mode s c, bytes) ≡ (t, c ∷ bytes) = rw (e, f) at h in
+        let same : bytes ≡ c ∷ bytes = ap (λ (p : ValueState × List ℕ). p.1) x in
+        absurd (omega (arith, ap length same))
+    go false false e f =
+        let x : to_stop (longer s (c ∷ [])) bytes ≡ (t, c ∷ bytes) = rw (e, f) at h in
+        let size : length (to_stop (longer s (c ∷ [])) bytes).1 ≡ length (c ∷ bytes) =
+        ap (λ (p : ValueState × List ℕ). length p.1) x in
+        absurd (omega (arith, size, shrinks (longer s (c ∷ [])) bytes))

@@ -1,0 +1,40 @@
+-- The items that parts are.
+use Rattle.std.proofs.Common.{◌≡◌, List, [], ◌∷◌, ◌++◌, Bool, true, false, map, length, refl, sym, ap, subst, ◌∙◌}
+use Rattle.std.specs.List.{list_all}
+use Rattle.std.proofs.lemmas.Bool.{and_parts}
+use Rattle.std.proofs.lemmas.List.{length-map}
+use Rattle.soap_profile.specs.Items.{Item, a_declaration, an_attribute, a_text, a_child, is_part, listed, parts_among}
+use Rattle.soap_profile.specs.Steps.{join}
+use Rattle.soap_profile.specs.View.{AreParts, item_view, items_view, parts_view}
+use Rattle.soap_profile.specs.declared.tree.Item.{Item as CodeItem}
+use Rattle.soap_profile.proofs.Items.{items_push, parts-append}
+
+listed_among : (items : List Item) → list_all is_part items ≡ true → listed (parts_among items) ≡ items
+listed_among [] e = refl
+listed_among (a_declaration b ∷ items) e = cc
+listed_among (an_attribute a ∷ items) e = cc
+listed_among (a_text bytes ∷ items) e = ap (λ (xs : List Item). a_text bytes ∷ xs) (listed_among items e)
+listed_among (a_child c ∷ items) e = ap (λ (xs : List Item). a_child c ∷ xs) (listed_among items e)
+
+-- where all are parts, they are the items that their parts are
+pub listed_parts : (items : List CodeItem) → AreParts items → listed (parts_view items) ≡ items_view items
+listed_parts items h = listed_among (items_view items) h
+
+pub length-listed : (items : List CodeItem) → AreParts items → length (listed (parts_view items)) ≡ length items
+length-listed items h = ap (λ (xs : List Item). length xs) (listed_parts items h) ∙ length-map items item_view
+
+all_push : (xs : List Item) (x : Item) → list_all is_part xs ≡ true → is_part x ≡ true
+    → list_all is_part (xs ++ x ∷ []) ≡ true
+all_push [] x e p = rw p
+all_push (y ∷ xs) x e p =
+    let (here, later) = and_parts (is_part y) (list_all is_part xs) e in rw (here, all_push xs x later p)
+
+pub AreParts-push : (xs : List CodeItem) (x : CodeItem) → AreParts xs → is_part (item_view x) ≡ true
+    → AreParts (xs ++ x ∷ [])
+AreParts-push xs x h p =
+    subst (λ (items : List Item). list_all is_part items ≡ true) (sym (items_push xs x))
+    (all_push (items_view xs) (item_view x) h p)
+
+pub parts_view-push : (xs : List CodeItem) (x : CodeItem) → parts_view (xs ++ x ∷ [])
+    ≡ join (parts_view xs) (parts_view (x ∷ []))
+parts_view-push xs x = ap parts_among (items_push xs x) ∙ parts-append (items_view xs) (item_view x ∷ [])
