@@ -1,30 +1,28 @@
 -- What is read is the envelope.
-use Rattle.std.proofs.Common.{◌≡◌, ℕ, List, [], ◌++◌, Option, Some, None, option_map, Bool, true, false, not, nat_eq, Result, Ok, map, codes, refl, sym, ap, subst, ◌∙◌}
+use Rattle.std.proofs.Common.{◌≡◌, ℕ, List, [], ◌++◌, Option, Some, None, option_map, Bool, true, false, not, nat_eq, Result, Ok, codes, refl, sym, ap, subst, ◌∙◌}
 use Rattle.std.proofs.lemmas.Slice.Eq.{bytes_eq-Decides}
 use Rattle.std.specs.Cmp.Lexicographic.{pointwise}
 use Rattle.std.specs.List.{slice_range}
 use Rattle.soap_document.specs.Tree as written
 use Rattle.soap_profile.specs.Document.{IsPlaced, place_of}
-use Rattle.soap_profile.specs.Tree.{Binding, Element, element, Parts}
+use Rattle.soap_profile.specs.Tree.{Binding, Element, element, Parts, name_of, decls_of, parts_of, children_of}
 use Rattle.soap_profile.specs.declared.name.Expanded.{Expanded as Name}
 use Rattle.soap_profile.specs.declared.tree.Attr.{Attr}
 use Rattle.soap_profile.specs.View.{element_view}
 use Rattle.soap_profile.specs.declared.place.Place.{Place}
 use Rattle.soap_profile.specs.declared.tree.Element.{Element as CodeElement}
-use Rattle.soap_profile.specs.Soap.{soap_name}
-use Rattle.soap_envelope.specs.Envelope.{name_of, decls_of, parts_of, children_of, bytes_within, IsOutline, IsHeader, without, blocks, Envelope, IsEnvelope}
+use Rattle.soap_envelope.specs.Envelope.{name_in, bytes_within, IsOutline, IsHeader, without, blocks, Envelope, IsEnvelope}
 use Rattle.soap_envelope.specs.Scope.{IsScope}
-use Rattle.soap_profile.proofs.Answer.{err_of}
+use Rattle.soap_profile.specs.Answer.{err_of}
 use Rattle.soap_envelope.proofs.Placed.{mapped}
 
 -- ---- the header blocks
 
-pub no_blocks : (outer : List Binding) (h : Option CodeElement) (items : List CodeElement) (scope : List Binding)
-    → h ≡ None → items ≡ [] → scope ≡ [] → IsHeader outer (option_map element_view h) (map element_view items) scope
+pub no_blocks : (outer : List Binding) (h : Option CodeElement) (items : List Element) (scope : List Binding)
+    → h ≡ None → items ≡ [] → scope ≡ [] → IsHeader outer (option_map element_view h) items scope
 no_blocks outer h items scope e f g =
-    subst (λ (o : Option CodeElement). IsHeader outer (option_map element_view o) (map element_view items) scope) (sym
-    e)
-    (subst (λ (xs : List CodeElement). IsHeader outer None (map element_view xs) scope) (sym f)
+    subst (λ (o : Option CodeElement). IsHeader outer (option_map element_view o) items scope) (sym e)
+    (subst (λ (xs : List Element). IsHeader outer None xs scope) (sym f)
     (subst (λ (s : List Binding). IsHeader outer None [] s) (sym g) without))
 
 pub some_blocks : (outer : List Binding) (h : Option CodeElement) (e : CodeElement) (items : List Element)
@@ -49,21 +47,22 @@ bytes_at : (bytes : List ℕ) (w : written.Element) (place : Place) → place_of
 bytes_at bytes (written.element name attributes start end parts) place e =
     ap (λ (p : Place). slice_range bytes p.start p.end) (sym e)
 
-pub is_envelope : (bytes : List ℕ) (tree : Element) (last : Option Place) (place : Place) (header : Option Element)
+pub is_envelope : (soap bytes : List ℕ) (tree : Element) (last : Option Place) (place : Place) (header : Option Element)
     (body : Element) (decls : List Binding) (envelope : Envelope) → IsPlaced bytes tree last → last ≡ Some place
-    → name_of tree ≡ soap_name (codes "Envelope") → IsOutline (parts_of tree) header body → decls ≡ decls_of tree
+    → name_of tree ≡ name_in soap (codes "Envelope") → IsOutline soap (parts_of tree) header body
+    → decls ≡ decls_of tree
     → IsHeader decls header envelope.headers envelope.header_scope
     → envelope.payload ≡ slice_range bytes place.start place.end → IsScope (decls_of body ++ decls) envelope.scope
-    → envelope.body ≡ parts_of body → IsEnvelope bytes envelope
-is_envelope bytes tree last place header body decls envelope p at named o d h b s c =
+    → envelope.body ≡ parts_of body → IsEnvelope soap bytes envelope
+is_envelope soap bytes tree last place header body decls envelope p at named o d h b s c =
     let m = mapped place_of (written.last_within p.raw) place (sym p.place ∙ at) in record {
       raw = p.raw;
       document = p.is;
       decls = decls;
       attrs = attrs_of tree;
       parts = parts_of tree;
-      resolved = p.resolved ∙ ap (λ (t : Element). Some t) (element_is tree (soap_name (codes "Envelope")) named)
-          ∙ ap (λ (ds : List Binding). Some (element (soap_name (codes "Envelope")) ds (attrs_of tree) (parts_of
+      resolved = p.resolved ∙ ap (λ (t : Element). Some t) (element_is tree (name_in soap (codes "Envelope")) named)
+          ∙ ap (λ (ds : List Binding). Some (element (name_in soap (codes "Envelope")) ds (attrs_of tree) (parts_of
           tree))) (sym d);
       header = header;
       body = body;

@@ -3,3 +3,4 @@ pub mod Outlines
 pub mod Placed
 pub mod Scopes
 pub mod Unique
+pub mod Parted

@@ -1,12 +1,11 @@
 -- The outline of an Envelope: each outcome of the walk over its parts.
 use Rattle.std.proofs.Common.{◌≡◌, ℕ, ◌⊎◌, inl, inr, List, Option, Some, None, option_map, IfSome, codes, length, refl, sym, ap, subst, ◌∙◌, arith}
 use Rattle.soap_document.specs.Grammar.{IsWhite}
-use Rattle.soap_profile.specs.Tree.{Element, Parts, none, text, child}
+use Rattle.soap_profile.specs.Tree.{Element, Parts, none, text, child, name_of}
 use Rattle.soap_profile.specs.declared.name.Expanded.{Expanded as Name}
 use Rattle.soap_profile.specs.View.{element_view}
 use Rattle.soap_profile.specs.declared.tree.Element.{Element as CodeElement}
-use Rattle.soap_profile.specs.Soap.{soap_name}
-use Rattle.soap_envelope.specs.Envelope.{name_of, IsSpaced, bare, spaced, IsBodyAlone, IsOutline, headless, headed}
+use Rattle.soap_envelope.specs.Envelope.{name_in, IsSpaced, bare, spaced, IsBodyAlone, IsOutline, headless, headed}
 use Rattle.soap_envelope.specs.Steps.{Comes, IsSpacing, IsOther, Follows, BodyFound, Outlined}
 use Rattle.soap_envelope.specs.declared.outline.Next.{Next}
 use Rattle.soap_envelope.specs.declared.outline.Next.TheVariants.{Child, Text, End}
@@ -70,71 +69,76 @@ no_child p a q s t = elim (spaced_cases p none s) as (λ _. ⊥) [
 
 -- ---- a Body alone
 
-pub body_alone : (p : Parts) (body : Element) (q : Parts) → IsSpaced p (child body q)
-    → name_of body ≡ soap_name (codes "Body") → IsSpaced q none → IsBodyAlone p body
-body_alone p body q s n e = record { after = q; before = s; behind = e; named = n }
+pub body_alone : (soap : List ℕ) (p : Parts) (body : Element) (q : Parts) → IsSpaced p (child body q)
+    → name_of body ≡ name_in soap (codes "Body") → IsSpaced q none → IsBodyAlone soap p body
+body_alone soap p body q s n e = record { after = q; before = s; behind = e; named = n }
 
-pub no_body_next : (p : Parts) (n : Next) (q : Parts) → Follows p n q → ((e : CodeElement) → n ≡ Child e → ⊥)
-    → (body : Element) → IsBodyAlone p body → ⊥
-no_body_next p (Child e) q f h body b = h e refl
-no_body_next p (Text t) q f h body b = f.child body b.after b.before
-no_body_next p End q f h body b = no_child p body b.after f b.before
+pub no_body_next : (soap : List ℕ) (p : Parts) (n : Next) (q : Parts) → Follows p n q → ((e : CodeElement)
+    → n ≡ Child e → ⊥)
+    → (body : Element) → IsBodyAlone soap p body → ⊥
+no_body_next soap p (Child e) q f h body b = h e refl
+no_body_next soap p (Text t) q f h body b = f.child body b.after b.before
+no_body_next soap p End q f h body b = no_child p body b.after f b.before
 
-pub no_body_here : (p : Parts) (first : Element) (q : Parts) → IsSpaced p (child first q)
-    → (name_of first ≡ soap_name (codes "Body") → IsSpaced q none → ⊥) → (body : Element) → IsBodyAlone p body → ⊥
-no_body_here p first q s h body b =
+pub no_body_here : (soap : List ℕ) (p : Parts) (first : Element) (q : Parts) → IsSpaced p (child first q)
+    → (name_of first ≡ name_in soap (codes "Body") → IsSpaced q none → ⊥) → (body : Element)
+    → IsBodyAlone soap p body → ⊥
+no_body_here soap p first q s h body b =
     let same = one_child p body first b.after q b.before s in
     h (ap name_of (sym same.0) ∙ b.named) (subst (λ (x : Parts). IsSpaced x none) same.1 b.behind)
 
 -- ---- the outline
 
-pub outline_cases : (p : Parts) (h : Option Element) (b : Element) → IsOutline p h b
-    → ((h ≡ None) × IsBodyAlone p b)
+pub outline_cases : (soap : List ℕ) (p : Parts) (h : Option Element) (b : Element) → IsOutline soap p h b
+    → ((h ≡ None) × IsBodyAlone soap p b)
     ⊎ ((x : Element) × (rest : Parts) × (h ≡ Some x) × IsSpaced p (child x rest)
-    × (name_of x ≡ soap_name (codes "Header")) × IsBodyAlone rest b)
-outline_cases p h b (headless _ _ alone) = inl (refl, alone)
-outline_cases p h b (headed _ rest x _ s n alone) = inr (x, rest, refl, s, n, alone)
+    × (name_of x ≡ name_in soap (codes "Header")) × IsBodyAlone soap rest b)
+outline_cases soap p h b (headless _ _ alone) = inl (refl, alone)
+outline_cases soap p h b (headed _ rest x _ s n alone) = inr (x, rest, refl, s, n, alone)
 
-pub not_both : (n : Name) → n ≡ soap_name (codes "Header") → n ≡ soap_name (codes "Body") → ⊥
-not_both n h b =
+pub not_both : (soap : List ℕ) (n : Name) → n ≡ name_in soap (codes "Header") → n ≡ name_in soap (codes "Body") → ⊥
+not_both soap n h b =
     let same : codes "Header" ≡ codes "Body" = ap (λ (m : Name). m.local) (sym h ∙ b) in
     let long : length (codes "Header") ≡ 4 = ap length same in omega arith
 
-pub no_outline_next : (p : Parts) (n : Next) (q : Parts) → Follows p n q → ((e : CodeElement) → n ≡ Child e → ⊥)
-    → Outlined p None
-no_outline_next p n q f h header body o = elim (outline_cases p header body o) as (λ _. ⊥) [
-  | inl l ↦ no_body_next p n q f h body l.1
-  | inr r ↦ no_header p n q f h r.0 r.1 r.3
+pub no_outline_next : (soap : List ℕ) (p : Parts) (n : Next) (q : Parts) → Follows p n q → ((e : CodeElement)
+    → n ≡ Child e → ⊥)
+    → Outlined soap p None
+no_outline_next soap p n q f h header body o = elim (outline_cases soap p header body o) as (λ _. ⊥) [
+  | inl l ↦ no_body_next soap p n q f h body l.1
+  | inr r ↦ no_header soap p n q f h r.0 r.1 r.3
 ]
   where
-    no_header : (p : Parts) (n : Next) (q : Parts) → Follows p n q → ((e : CodeElement) → n ≡ Child e → ⊥)
+    no_header : (soap : List ℕ) (p : Parts) (n : Next) (q : Parts) → Follows p n q → ((e : CodeElement)
+        → n ≡ Child e → ⊥)
         → (x : Element) (rest : Parts) → IsSpaced p (child x rest) → ⊥
-    no_header p (Child e) q f h x rest s = h e refl
-    no_header p (Text t) q f h x rest s = f.child x rest s
-    no_header p End q f h x rest s = no_child p x rest f s
+    no_header soap p (Child e) q f h x rest s = h e refl
+    no_header soap p (Text t) q f h x rest s = f.child x rest s
+    no_header soap p End q f h x rest s = no_child p x rest f s
 
 -- behind a Header, a Body alone or none
-pub outlined_header : (p : Parts) (e : CodeElement) (q : Parts) → IsSpaced p (child (element_view e) q)
-    → name_of (element_view e) ≡ soap_name (codes "Header") → (r : Option (Option CodeElement × CodeElement))
-    → IfSome r (λ found. found.0 ≡ Some e) → BodyFound q (option_map (λ found. found.1) r) → Outlined p r
-outlined_header p e q s n None is alone = λ header body o. elim (outline_cases p header body o) as (λ _. ⊥) [
-  | inl l ↦ not_both (name_of body) (ap name_of (one_child p body (element_view e) l.1.after q l.1.before s).0 ∙ n)
+pub outlined_header : (soap : List ℕ) (p : Parts) (e : CodeElement) (q : Parts) → IsSpaced p (child (element_view e) q)
+    → name_of (element_view e) ≡ name_in soap (codes "Header") → (r : Option (Option CodeElement × CodeElement))
+    → IfSome r (λ found. found.0 ≡ Some e) → BodyFound soap q (option_map (λ found. found.1) r) → Outlined soap p r
+outlined_header soap p e q s n None is alone = λ header body o. elim (outline_cases soap p header body o) as (λ _. ⊥) [
+  | inl l ↦ not_both soap (name_of body) (ap name_of (one_child p body (element_view e) l.1.after q l.1.before s).0 ∙ n)
       l.1.named
-  | inr r ↦ alone body (subst (λ (x : Parts). IsBodyAlone x body) (one_child p r.0 (element_view e) r.1 q r.3 s).1 r.5)
+  | inr r ↦ alone body (subst (λ (x : Parts). IsBodyAlone soap x body) (one_child p r.0 (element_view e) r.1 q r.3
+      s).1 r.5)
 ]
-outlined_header p e q s n (Some found) is alone =
-    subst (λ (h : Option Element). IsOutline p h (element_view found.1)) (ap (option_map element_view) (sym is))
+outlined_header soap p e q s n (Some found) is alone =
+    subst (λ (h : Option Element). IsOutline soap p h (element_view found.1)) (ap (option_map element_view) (sym is))
     (headed p q (element_view e) (element_view found.1) s n alone)
 
 -- without one
-pub outlined_body : (p : Parts) (e : CodeElement) (q : Parts) → IsSpaced p (child (element_view e) q)
-    → name_of (element_view e) ≡ soap_name (codes "Body") → IsSpaced q none → Outlined p (Some (None, e))
-outlined_body p e q s n end = headless p (element_view e) (body_alone p (element_view e) q s n end)
+pub outlined_body : (soap : List ℕ) (p : Parts) (e : CodeElement) (q : Parts) → IsSpaced p (child (element_view e) q)
+    → name_of (element_view e) ≡ name_in soap (codes "Body") → IsSpaced q none → Outlined soap p (Some (None, e))
+outlined_body soap p e q s n end = headless p (element_view e) (body_alone soap p (element_view e) q s n end)
 
-pub no_outline_here : (p : Parts) (first : Element) (q : Parts) → IsSpaced p (child first q)
-    → (name_of first ≡ soap_name (codes "Header") → ⊥)
-    → (name_of first ≡ soap_name (codes "Body") → IsSpaced q none → ⊥) → Outlined p None
-no_outline_here p first q s h k header body o = elim (outline_cases p header body o) as (λ _. ⊥) [
-  | inl l ↦ no_body_here p first q s k body l.1
+pub no_outline_here : (soap : List ℕ) (p : Parts) (first : Element) (q : Parts) → IsSpaced p (child first q)
+    → (name_of first ≡ name_in soap (codes "Header") → ⊥)
+    → (name_of first ≡ name_in soap (codes "Body") → IsSpaced q none → ⊥) → Outlined soap p None
+no_outline_here soap p first q s h k header body o = elim (outline_cases soap p header body o) as (λ _. ⊥) [
+  | inl l ↦ no_body_here soap p first q s k body l.1
   | inr r ↦ h (ap name_of (sym (one_child p r.0 first r.1 q r.3 s).0) ∙ r.4)
 ]

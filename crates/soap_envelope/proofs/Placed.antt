@@ -3,13 +3,11 @@ use Rattle.std.proofs.Common.{◌≡◌, ℕ, ◌≤◌, inl, inr, List, [], ◌
 use Rattle.soap_document.specs.Grammar.{IsContent, IsDocument}
 use Rattle.soap_document.specs.Tree as written
 use Rattle.soap_document.specs.Within.{IsWithin, IsAmong, root, deeper, here, behind_child, behind_text, StandsBetween}
-use Rattle.soap_document.proofs.Between.{content_stands_between}
 use Rattle.soap_profile.specs.Document.{IsPlaced, place_of}
 use Rattle.soap_profile.specs.Namespaces.{resolve, resolve_parts, joined, tag_of, Resolved}
-use Rattle.soap_profile.specs.Tree.{Binding, Element, element, Parts, none, text, child}
+use Rattle.soap_profile.specs.Tree.{Binding, Element, element, Parts, none, text, child, decls_of, parts_of, children_of}
 use Rattle.soap_profile.specs.declared.place.Place.{Place}
-use Rattle.soap_profile.specs.Soap.{soap_name}
-use Rattle.soap_envelope.specs.Envelope.{decls_of, parts_of, children_of, bytes_within, IsSpaced, bare, spaced, IsBodyAlone, IsOutline, Envelope, IsEnvelope, StandsFor}
+use Rattle.soap_envelope.specs.Envelope.{name_in, bytes_within, IsSpaced, bare, spaced, IsBodyAlone, IsOutline, Envelope, IsEnvelope, StandsFor}
 use Rattle.soap_envelope.proofs.Outlines.{outline_cases}
 
 -- ---- the last element stands within the root
@@ -39,6 +37,10 @@ last_is_within (written.element name attributes start end parts) e h = deeper na
 
 -- ---- and its places are within the bytes
 
+-- what stands between an element's places is its content
+abbrev pub Stands : Type 0
+Stands = (bytes : List ℕ) (root e : written.Element) → IsDocument bytes root → IsWithin root e → StandsBetween bytes e
+
 pub record IsInside (bytes : List ℕ) (place : Place) : Type 0 where
   pub low : place.start ≤ place.end
   pub high : place.end ≤ length bytes
@@ -46,18 +48,18 @@ pub record IsInside (bytes : List ℕ) (place : Place) : Type 0 where
 stands_inside : (bytes : List ℕ) (e : written.Element) → StandsBetween bytes e → IsInside bytes (place_of e)
 stands_inside bytes (written.element name attributes start end parts) s = record { low = s.low; high = s.high }
 
-placed_at : (bytes : List ℕ) (raw : written.Element) (place : Place) (o : Option written.Element)
+placed_at : Stands → (bytes : List ℕ) (raw : written.Element) (place : Place) (o : Option written.Element)
     → IsDocument bytes raw → written.last_within raw ≡ o → Some place ≡ option_map place_of o
     → IsInside bytes place
-placed_at bytes raw place None d w h = cc
-placed_at bytes raw place (Some e) d w h =
+placed_at stands bytes raw place None d w h = cc
+placed_at stands bytes raw place (Some e) d w h =
     let same : place_of e ≡ place = cc in
-    subst (IsInside bytes) same (stands_inside bytes e (content_stands_between bytes raw e d (last_is_within raw e w)))
+    subst (IsInside bytes) same (stands_inside bytes e (stands bytes raw e d (last_is_within raw e w)))
 
-pub place_inside : {bytes : List ℕ} {tree : Element} (last : Option Place) (place : Place) → last ≡ Some place
+pub place_inside : Stands → {bytes : List ℕ} {tree : Element} (last : Option Place) (place : Place) → last ≡ Some place
     → IsPlaced bytes tree last → IsInside bytes place
-place_inside {bytes} last place e p =
-    placed_at bytes p.raw place (written.last_within p.raw) p.is refl (sym e ∙ p.place)
+place_inside stands {bytes} last place e p =
+    placed_at stands bytes p.raw place (written.last_within p.raw) p.is refl (sym e ∙ p.place)
 
 -- ---- where there is a Body, there is a last element
 
@@ -115,8 +117,9 @@ spaced_children : (p q : Parts) → IsSpaced p q → children_of p ≡ children_
 spaced_children p q (bare _) = refl
 spaced_children p q (spaced s _ w) = refl
 
-outline_children : (p : Parts) (h : Option Element) (b : Element) → IsOutline p h b → children_of p ≡ [] → ⊥
-outline_children p h b o e = elim (outline_cases p h b o) as (λ _. ⊥) [
+outline_children : (soap : List ℕ) (p : Parts) (h : Option Element) (b : Element) → IsOutline soap p h b
+    → children_of p ≡ [] → ⊥
+outline_children soap p h b o e = elim (outline_cases soap p h b o) as (λ _. ⊥) [
   | inl l ↦ let x : b ∷ children_of l.1.after ≡ [] = sym (spaced_children p (child b l.1.after) l.1.before) ∙ e in cc
   | inr r ↦ let x : r.0 ∷ children_of r.1 ≡ [] = sym (spaced_children p (child r.0 r.1) r.3) ∙ e in cc
 ]
@@ -125,10 +128,12 @@ unplaced : (w : Option written.Element) → None ≡ option_map place_of w → w
 unplaced None h = refl
 unplaced (Some e) h = cc
 
-pub has_last : {bytes : List ℕ} {tree : Element} (last : Option Place) (h : Option Element) (b : Element)
-    → IsPlaced bytes tree last → IsOutline (parts_of tree) h b → last ≡ None → ⊥
-has_last {bytes} {tree} last h b p o e =
-    outline_children (parts_of tree) h b o (no_last p.raw tree (unplaced (written.last_within p.raw) (sym e ∙ p.place))
+pub has_last : (soap : List ℕ) {bytes : List ℕ} {tree : Element} (last : Option Place) (h : Option Element) (b :
+    Element)
+    → IsPlaced bytes tree last → IsOutline soap (parts_of tree) h b → last ≡ None → ⊥
+has_last soap {bytes} {tree} last h b p o e =
+    outline_children soap (parts_of tree) h b o (no_last p.raw tree (unplaced (written.last_within p.raw) (sym e
+    ∙ p.place))
     p.resolved)
 
 -- ---- and that element is the Body
@@ -178,15 +183,17 @@ last_resolved scope (written.child first ps) parts w r h =
     subst (λ (p : Parts). LastResolved scope p w) m.4 (last_more scope first ps m.0 m.1 w (written.last_child ps) refl
     m.2 m.3 h (last_resolved scope ps m.1 w m.3))
 
-body_children : (p : Parts) (b : Element) → IsBodyAlone p b → children_of p ≡ b ∷ []
-body_children p b a =
+body_children : (soap : List ℕ) (p : Parts) (b : Element) → IsBodyAlone soap p b → children_of p ≡ b ∷ []
+body_children soap p b a =
     spaced_children p (child b a.after) a.before ∙ ap (λ (es : List Element). b ∷ es) (spaced_children a.after none
     a.behind)
 
-outline_last : (p : Parts) (h : Option Element) (b : Element) → IsOutline p h b → last_of (children_of p) ≡ Some b
-outline_last p h b o = elim (outline_cases p h b o) as (λ _. last_of (children_of p) ≡ Some b) [
-  | inl l ↦ ap last_of (body_children p b l.1)
-  | inr r ↦ ap last_of (spaced_children p (child r.0 r.1) r.3 ∙ ap (λ (es : List Element). r.0 ∷ es) (body_children r.1
+outline_last : (soap : List ℕ) (p : Parts) (h : Option Element) (b : Element) → IsOutline soap p h b
+    → last_of (children_of p) ≡ Some b
+outline_last soap p h b o = elim (outline_cases soap p h b o) as (λ _. last_of (children_of p) ≡ Some b) [
+  | inl l ↦ ap last_of (body_children soap p b l.1)
+  | inr r ↦ ap last_of (spaced_children p (child r.0 r.1) r.3
+      ∙ ap (λ (es : List Element). r.0 ∷ es) (body_children soap r.1
       b r.5))
 ]
 
@@ -195,16 +202,17 @@ content_of : (bytes : List ℕ) (w : written.Element) → StandsBetween bytes w
 content_of bytes (written.element name attributes start end parts) s = (s.depth, start, s.is)
 
 -- the payload is content, and what it is
-pub payload_stands : (bytes : List ℕ) (envelope : Envelope) → IsEnvelope bytes envelope → StandsFor envelope
-payload_stands bytes envelope p =
-    let root = element (soap_name (codes "Envelope")) p.decls p.attrs p.parts in
+pub payload_stands : Stands → (soap bytes : List ℕ) (envelope : Envelope) → IsEnvelope soap bytes envelope
+    → StandsFor envelope
+payload_stands stands soap bytes envelope p =
+    let root = element (name_in soap (codes "Envelope")) p.decls p.attrs p.parts in
     let within = parts_within p.raw in
     let found = last_resolved (p.decls ++ []) within p.parts p.written_body (parts_resolved [] p.raw root p.resolved)
     (sym (last_is p.raw) ∙ p.last) in
-    let both : Some found.0 ≡ Some p.body = sym found.2 ∙ outline_last p.parts p.header p.body p.outline in
+    let both : Some found.0 ≡ Some p.body = sym found.2 ∙ outline_last soap p.parts p.header p.body p.outline in
     let same : found.0 ≡ p.body = cc in
     let inner = parts_resolved (p.decls ++ []) p.written_body found.0 found.1 in
-    let c = content_of bytes p.written_body (content_stands_between bytes p.raw p.written_body p.document
+    let c = content_of bytes p.written_body (stands bytes p.raw p.written_body p.document
     (last_is_within
     p.raw p.written_body p.last)) in record {
       depth = c.0;

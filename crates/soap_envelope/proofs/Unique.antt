@@ -6,13 +6,12 @@ use Rattle.std.proofs.lemmas.Slice.Eq.{bytes_eq-Decides}
 use Rattle.std.specs.Cmp.Lexicographic.{slice_cmp}
 use Rattle.std.specs.Ordering.{is_lt, ordering_reverse}
 use Rattle.std.specs.Str.{bytes_eq}
-use Rattle.soap_document.proofs.OnlyDocument.{one_tree}
+use Rattle.soap_document.specs.Grammar.{IsDocument}
 use Rattle.soap_document.specs.Tree as written
 use Rattle.soap_profile.specs.Document.{Document}
 use Rattle.soap_profile.specs.Namespaces.{bound, resolve}
-use Rattle.soap_profile.specs.Tree.{Binding, Element, element, Parts}
-use Rattle.soap_profile.specs.Soap.{soap_name}
-use Rattle.soap_envelope.specs.Envelope.{name_of, decls_of, parts_of, bytes_within, IsBodyAlone, IsOutline, IsHeader, without, blocks, Envelope, IsEnvelope}
+use Rattle.soap_profile.specs.Tree.{Binding, Element, element, Parts, name_of, decls_of, parts_of}
+use Rattle.soap_envelope.specs.Envelope.{name_in, bytes_within, IsBodyAlone, IsOutline, IsHeader, without, blocks, Envelope, IsEnvelope}
 use Rattle.soap_envelope.specs.Refusals.{IsOtherVersion, WrongVersion, NotEnvelope}
 use Rattle.soap_envelope.specs.Scope.{Rises, IsScope}
 use Rattle.soap_envelope.proofs.Outlines.{outline_cases, one_child, not_both}
@@ -83,28 +82,34 @@ scopes_same bindings one other p q = rising_same one other p.rises q.rises (λ x
 
 -- ---- outlines
 
-bodies_same : (p : Parts) (a b : Element) → IsBodyAlone p a → IsBodyAlone p b → a ≡ b
-bodies_same p a b s t = (one_child p a b s.after t.after s.before t.before).0
+bodies_same : (soap : List ℕ) (p : Parts) (a b : Element) → IsBodyAlone soap p a → IsBodyAlone soap p b → a ≡ b
+bodies_same soap p a b s t = (one_child p a b s.after t.after s.before t.before).0
 
-pub outlines_same : (p : Parts) (h k : Option Element) (a b : Element) → IsOutline p h a → IsOutline p k b
+pub outlines_same : (soap : List ℕ) (p : Parts) (h k : Option Element) (a b : Element) → IsOutline soap p h a
+    → IsOutline soap p k b
     → (h ≡ k) × (a ≡ b)
-outlines_same p h k a b o q = elim (outline_cases p h a o) as (λ _. (h ≡ k) × (a ≡ b)) [
-  | inl l ↦ elim (outline_cases p k b q) as (λ _. (h ≡ k) × (a ≡ b)) [
-    | inl m ↦ (l.0 ∙ sym m.0, bodies_same p a b l.1 m.1)
-    | inr m ↦ absurd (not_both (name_of a) (ap name_of (one_child p a m.0 l.1.after m.1 l.1.before m.3).0 ∙ m.4)
+outlines_same soap p h k a b o q = elim (outline_cases soap p h a o) as (λ _. (h ≡ k) × (a ≡ b)) [
+  | inl l ↦ elim (outline_cases soap p k b q) as (λ _. (h ≡ k) × (a ≡ b)) [
+    | inl m ↦ (l.0 ∙ sym m.0, bodies_same soap p a b l.1 m.1)
+    | inr m ↦ absurd (not_both soap (name_of a) (ap name_of (one_child p a m.0 l.1.after m.1 l.1.before m.3).0 ∙ m.4)
         l.1.named)
   ]
-  | inr l ↦ elim (outline_cases p k b q) as (λ _. (h ≡ k) × (a ≡ b)) [
-    | inl m ↦ absurd (not_both (name_of b) (ap name_of (one_child p b l.0 m.1.after l.1 m.1.before l.3).0 ∙ l.4)
+  | inr l ↦ elim (outline_cases soap p k b q) as (λ _. (h ≡ k) × (a ≡ b)) [
+    | inl m ↦ absurd (not_both soap (name_of b) (ap name_of (one_child p b l.0 m.1.after l.1 m.1.before l.3).0 ∙ l.4)
         m.1.named)
     | inr m ↦ (
       l.2 ∙ ap (λ (e : Element). Some e) (one_child p l.0 m.0 l.1 m.1 l.3 m.3).0 ∙ sym m.2,
-      bodies_same m.1 a b (subst (λ (x : Parts). IsBodyAlone x a) (one_child p l.0 m.0 l.1 m.1 l.3 m.3).1 l.5) m.5,
+      bodies_same soap m.1 a b (subst (λ (x : Parts). IsBodyAlone soap x a) (one_child p l.0 m.0 l.1 m.1 l.3 m.3).1
+          l.5) m.5,
     )
   ]
 ]
 
 -- ---- envelopes
+
+-- bytes have at most one tree
+abbrev pub OneTree : Type 0
+OneTree = (bytes : List ℕ) (one other : written.Element) → IsDocument bytes one → IsDocument bytes other → one ≡ other
 
 headers_same : (outer : List Binding) (h : Option Element) (xs ys : List Element) (s t : List Binding)
     → IsHeader outer h xs s → IsHeader outer h ys t → (xs ≡ ys) × (s ≡ t)
@@ -120,16 +125,18 @@ envelope_is one other a b c d e =
     ∙ ap (λ (s : List Binding). record other { scope = s; body = one.body }) d
     ∙ ap (λ (p : Parts). record other { body = p }) e
 
-pub envelopes_same : (bytes : List ℕ) (one other : Envelope) → IsEnvelope bytes one → IsEnvelope bytes other
+pub envelopes_same : OneTree → (soap bytes : List ℕ) (one other : Envelope) → IsEnvelope soap bytes one
+    → IsEnvelope soap bytes other
     → one ≡ other
-envelopes_same bytes one other p q =
+envelopes_same one_tree soap bytes one other p q =
     let raw : p.raw ≡ q.raw = one_tree bytes p.raw q.raw p.document q.document in
-    let name = soap_name (codes "Envelope") in
+    let name = name_in soap (codes "Envelope") in
     let tree : Some (element name p.decls p.attrs p.parts) ≡ Some (element name q.decls q.attrs q.parts) =
     sym p.resolved ∙ ap (resolve []) raw ∙ q.resolved in
     let decls : p.decls ≡ q.decls = cc in
     let parts : p.parts ≡ q.parts = cc in
-    let found = outlines_same q.parts p.header q.header p.body q.body (subst (λ (x : Parts). IsOutline x p.header
+    let found = outlines_same soap q.parts p.header q.header p.body q.body (subst (λ (x : Parts). IsOutline soap x
+    p.header
     p.body) parts p.outline) q.outline in
     let header : IsHeader q.decls q.header one.headers one.header_scope = subst (λ (h : Option Element). IsHeader
     q.decls h one.headers one.header_scope) found.0 (subst (λ (ds : List Binding). IsHeader ds p.header one.headers
@@ -147,28 +154,35 @@ envelopes_same bytes one other p q =
 
 -- ---- answers
 
-pub documents_same : (bytes : List ℕ) (one other : Element) → Document bytes one → Document bytes other → one ≡ other
-documents_same bytes one other p q =
+pub documents_same : OneTree → (bytes : List ℕ) (one other : Element) → Document bytes one → Document bytes other
+    → one ≡ other
+documents_same one_tree bytes one other p q =
     let e : Some one ≡ Some other = sym p.resolved ∙ ap (resolve []) (one_tree bytes p.raw q.raw p.is q.is) ∙ q.resolved
     in cc
 
-document_of : (bytes : List ℕ) (envelope : Envelope) (p : IsEnvelope bytes envelope)
-    → Document bytes (element (soap_name (codes "Envelope")) p.decls p.attrs p.parts)
-document_of bytes envelope p = record { raw = p.raw; is = p.document; resolved = p.resolved }
+document_of : (soap bytes : List ℕ) (envelope : Envelope) (p : IsEnvelope soap bytes envelope)
+    → Document bytes (element (name_in soap (codes "Envelope")) p.decls p.attrs p.parts)
+document_of soap bytes envelope p = record { raw = p.raw; is = p.document; resolved = p.resolved }
 
-pub not_version : (bytes : List ℕ) (envelope : Envelope) → IsEnvelope bytes envelope → WrongVersion bytes → ⊥
-not_version bytes envelope p w =
-    let same = documents_same bytes w.root (element (soap_name (codes "Envelope")) p.decls p.attrs p.parts) w.document
-    (document_of bytes envelope p) in
+pub not_version : OneTree → (soap bytes : List ℕ) (envelope : Envelope) → IsEnvelope soap bytes envelope
+    → WrongVersion soap bytes → ⊥
+not_version one_tree soap bytes envelope p w =
+    let same = documents_same one_tree bytes w.root (element (name_in soap (codes "Envelope")) p.decls p.attrs
+    p.parts) w.document
+    (document_of soap bytes envelope p) in
     w.version.space (ap (λ (e : Element). (name_of e).space) same)
 
-pub not_none : (bytes : List ℕ) (envelope : Envelope) → IsEnvelope bytes envelope → NotEnvelope bytes → ⊥
-not_none bytes envelope p n =
-    let same = documents_same bytes n.root (element (soap_name (codes "Envelope")) p.decls p.attrs p.parts) n.document
-    (document_of bytes envelope p) in
-    n.other.outline p.header p.body (ap name_of same) (subst (λ (e : Element). IsOutline (parts_of e) p.header p.body)
+pub not_none : OneTree → (soap bytes : List ℕ) (envelope : Envelope) → IsEnvelope soap bytes envelope
+    → NotEnvelope soap bytes → ⊥
+not_none one_tree soap bytes envelope p n =
+    let same = documents_same one_tree bytes n.root (element (name_in soap (codes "Envelope")) p.decls p.attrs
+    p.parts) n.document
+    (document_of soap bytes envelope p) in
+    n.other.outline p.header p.body (ap name_of same) (subst (λ (e : Element). IsOutline soap (parts_of e) p.header
+    p.body)
     (sym same) p.outline)
 
-pub not_twice : (bytes : List ℕ) → WrongVersion bytes → NotEnvelope bytes → ⊥
-not_twice bytes w n = n.other.version (subst IsOtherVersion (documents_same bytes w.root n.root w.document n.document)
+pub not_twice : OneTree → (soap bytes : List ℕ) → WrongVersion soap bytes → NotEnvelope soap bytes → ⊥
+not_twice one_tree soap bytes w n = n.other.version (subst (IsOtherVersion soap) (documents_same one_tree bytes
+    w.root n.root w.document n.document)
     w.version)

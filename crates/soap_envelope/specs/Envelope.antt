@@ -1,28 +1,16 @@
--- Envelopes: SOAP 1.2 Part 1, section 5. The section of each part stands beside it.
-use Rattle.std.specs.Prelude.{◌≡◌, ℕ, ◌-◌, List, [], ◌∷◌, ◌++◌, Option, Some, None, codes, take, drop}
+-- Envelopes: SOAP 1.2 Part 1, section 5, where SOAP may have any namespace. The section of each part stands beside it.
+use Rattle.std.specs.Prelude.{◌≡◌, ℕ, ◌-◌, List, [], ◌++◌, Option, Some, None, codes, take, drop}
 use Rattle.soap_document.specs.Grammar.{IsContent, IsDocument, IsWhite}
 use Rattle.soap_document.specs.Tree as written
 use Rattle.soap_profile.specs.Namespaces.{resolve, resolve_parts}
-use Rattle.soap_profile.specs.Soap.{soap_name}
-use Rattle.soap_profile.specs.Tree.{Binding, Element, element, Parts, none, text, child}
+use Rattle.soap_profile.specs.Tree.{Binding, Element, element, Parts, none, text, child, name_of, decls_of, parts_of, children_of}
 use Rattle.soap_profile.specs.declared.name.Expanded.{Expanded as Name}
 use Rattle.soap_profile.specs.declared.tree.Attr.{Attr}
 use Rattle.soap_envelope.specs.Scope.{IsScope}
 
-abbrev pub name_of : Element → Name
-name_of (element name decls attrs parts) = name
-
-abbrev pub decls_of : Element → List Binding
-decls_of (element name decls attrs parts) = decls
-
-abbrev pub parts_of : Element → Parts
-parts_of (element name decls attrs parts) = parts
-
--- the elements among parts, in order
-abbrev pub children_of : Parts → List Element
-children_of none = []
-children_of (text bytes parts) = children_of parts
-children_of (child first parts) = first ∷ children_of parts
+-- a name of SOAP, where SOAP has this namespace
+abbrev pub name_in : List ℕ → List ℕ → Name
+name_in soap local = record { space = soap; local = local }
 
 -- parts, and the same with white space before them
 pub data IsSpaced : Parts → Parts → Type 0 where
@@ -30,17 +18,18 @@ pub data IsSpaced : Parts → Parts → Type 0 where
   spaced : (space : List ℕ) (parts : Parts) → IsWhite space → IsSpaced (text space parts) parts
 
 -- a Body, with nothing but white space around it
-pub record IsBodyAlone (parts : Parts) (body : Element) : Type 0 where
+pub record IsBodyAlone (soap : List ℕ) (parts : Parts) (body : Element) : Type 0 where
   pub after : Parts
   pub before : IsSpaced parts (child body after)
   pub behind : IsSpaced after none
-  pub named : name_of body ≡ soap_name (codes "Body")
+  pub named : name_of body ≡ name_in soap (codes "Body")
 
 -- what stands in an Envelope: a Header, if there is one, and a Body, with nothing but white space between (5.1)
-pub data IsOutline : Parts → Option Element → Element → Type 0 where
-  headless : (parts : Parts) (body : Element) → IsBodyAlone parts body → IsOutline parts None body
+pub data IsOutline (soap : List ℕ) : Parts → Option Element → Element → Type 0 where
+  headless : (parts : Parts) (body : Element) → IsBodyAlone soap parts body → IsOutline soap parts None body
   headed : (parts rest : Parts) (header body : Element) → IsSpaced parts (child header rest)
-      → name_of header ≡ soap_name (codes "Header") → IsBodyAlone rest body → IsOutline parts (Some header) body
+      → name_of header ≡ name_in soap (codes "Header") → IsBodyAlone soap rest body
+      → IsOutline soap parts (Some header) body
 
 -- the header blocks, and the bindings in force between Header's tags (5.2); none without a Header
 pub data IsHeader (outer : List Binding) : Option Element → List Element → List Binding → Type 0 where
@@ -52,6 +41,7 @@ pub data IsHeader (outer : List Binding) : Option Element → List Element → L
 abbrev pub bytes_within : List ℕ → written.Element → List ℕ
 bytes_within bytes (written.element name attributes start end parts) = take (end - start) (drop start bytes)
 
+-- an envelope
 pub record Envelope : Type 0 where
   -- the header blocks in order, and the bindings in force between Header's tags
   pub headers : List Element
@@ -63,16 +53,16 @@ pub record Envelope : Type 0 where
   pub body : Parts
 
 -- the bytes are a document whose root is this envelope; its Body is the last element that stands in the root
-pub record IsEnvelope (bytes : List ℕ) (envelope : Envelope) : Type 0 where
+pub record IsEnvelope (soap bytes : List ℕ) (envelope : Envelope) : Type 0 where
   pub raw : written.Element
   pub document : IsDocument bytes raw
   pub decls : List Binding
   pub attrs : List Attr
   pub parts : Parts
-  pub resolved : resolve [] raw ≡ Some (element (soap_name (codes "Envelope")) decls attrs parts)
+  pub resolved : resolve [] raw ≡ Some (element (name_in soap (codes "Envelope")) decls attrs parts)
   pub header : Option Element
   pub body : Element
-  pub outline : IsOutline parts header body
+  pub outline : IsOutline soap parts header body
   pub blocks : IsHeader decls header envelope.headers envelope.header_scope
   pub written_body : written.Element
   pub last : written.last_within raw ≡ Some written_body

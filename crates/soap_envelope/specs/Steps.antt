@@ -21,9 +21,11 @@ use Rattle.soap_envelope.specs.declared.envelope.Envelope.{Envelope}
 use Rattle.soap_envelope.specs.declared.outline.Next.{Next}
 use Rattle.soap_envelope.specs.declared.outline.Next.TheVariants.{Child, Text, End}
 
+-- a lent text
 abbrev pub Lent : Type 0
 Lent = Bor (List ℕ)
 
+-- the order of their bytes
 abbrev pub lent_cmp : Lent → Lent → Ordering
 lent_cmp x y = slice_cmp nat_cmp x.now y.now
 
@@ -37,6 +39,7 @@ abbrev pub kept_one : List ℕ → List ℕ → List Binding
 kept_one prefix space = if not (bytes_eq prefix (codes "xml")) && not (is_nil space)
     then record { prefix = prefix; space = space } ∷ [] else []
 
+-- all that are kept of these
 abbrev pub kept : List (Lent × Lent) → List Binding
 kept [] = []
 kept (e ∷ entries) = kept_one e.0.now e.1.now ++ kept entries
@@ -47,6 +50,7 @@ Comes parts (Child e) rest = parts ≡ child (element_view e) rest
 Comes parts (Text bytes) rest = parts ≡ text bytes rest
 Comes parts End rest = parts ≡ none
 
+-- white space comes next
 abbrev pub IsSpacing : Next → Type 0
 IsSpacing (Child e) = ⊥
 IsSpacing (Text bytes) = IsWhite bytes
@@ -64,21 +68,21 @@ Follows parts (Text bytes) rest = IsOther parts
 Follows parts End rest = IsSpaced parts none
 
 -- the Body among these parts, if nothing else is there
-abbrev pub BodyFound : Parts → Option CodeElement → Type 0
-BodyFound parts None = (body : Element) → IsBodyAlone parts body → ⊥
-BodyFound parts (Some body) = IsBodyAlone parts (element_view body)
+abbrev pub BodyFound : List ℕ → Parts → Option CodeElement → Type 0
+BodyFound soap parts None = (body : Element) → IsBodyAlone soap parts body → ⊥
+BodyFound soap parts (Some body) = IsBodyAlone soap parts (element_view body)
 
 -- the Header and the Body among these parts, if they are an outline
-abbrev pub Outlined : Parts → Option (Option CodeElement × CodeElement) → Type 0
-Outlined parts None = (header : Option Element) (body : Element) → IsOutline parts header body → ⊥
-Outlined parts (Some found) = IsOutline parts (option_map element_view found.0) (element_view found.1)
+abbrev pub Outlined : List ℕ → Parts → Option (Option CodeElement × CodeElement) → Type 0
+Outlined soap parts None = (header : Option Element) (body : Element) → IsOutline soap parts header body → ⊥
+Outlined soap parts (Some found) = IsOutline soap parts (option_map element_view found.0) (element_view found.1)
 
 -- the envelope that the bytes are, or why they are none
-abbrev pub Answers : List ℕ → Result Envelope EnvelopeError → Type 0
-Answers bytes (Ok envelope) = IsEnvelope bytes (envelope_view envelope)
-Answers bytes (Err Error.Memory) = ⊤
-Answers bytes (Err (Error.TooLong len)) = ⊥
-Answers bytes (Err (Error.NotUtf8 place)) = ⊥
-Answers bytes (Err Error.NotProfile) = ⊥
-Answers bytes (Err Error.WrongVersion) = WrongVersion bytes
-Answers bytes (Err Error.NotEnvelope) = NotEnvelope bytes
+abbrev pub Answers : List ℕ → List ℕ → Result Envelope EnvelopeError → Type 0
+Answers soap bytes (Ok envelope) = IsEnvelope soap bytes (envelope_view envelope)
+Answers soap bytes (Err Error.Memory) = ⊤
+Answers soap bytes (Err (Error.TooLong len)) = ⊥
+Answers soap bytes (Err (Error.NotUtf8 place)) = ⊥
+Answers soap bytes (Err Error.NotProfile) = ⊥
+Answers soap bytes (Err Error.WrongVersion) = WrongVersion soap bytes
+Answers soap bytes (Err Error.NotEnvelope) = NotEnvelope soap bytes

@@ -1,19 +1,8 @@
+//! An envelope, as a value.
 use rm_base::{Bindings, Payload};
-use soap_profile::{Element, Item};
+use soap_profile::{Elements, Parts};
 
-/// Elements in order.
-#[derive(Debug, Drop)]
-pub struct Elements {
-    pub items: Vec<Element>,
-}
-
-/// The parts of an element among all that it has, in order. What it has beside its parts counts for nothing here.
-#[derive(Debug, Drop)]
-pub struct Parts {
-    pub items: Vec<Item>,
-}
-
-/// An envelope of SOAP 1.2: Part 1, section 5.
+/// An envelope: SOAP 1.2 Part 1, section 5.
 #[derive(Debug, Drop)]
 pub struct Envelope {
     /// The header blocks, in order.
@@ -22,6 +11,6 @@ pub struct Envelope {
     pub header_scope: Bindings,
     /// The bytes between Body's tags as they came, and the bindings in force there, but `xml`, sorted by prefix.
     pub payload: Payload,
-    /// What those bytes are.
+    /// What those bytes are: Body's parts, without its declarations and attributes.
     pub body: Parts,
 }

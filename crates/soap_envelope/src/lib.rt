@@ -1,4 +1,4 @@
-//! Envelopes of SOAP 1.2, read from bytes: the header blocks, and the payload as the exact bytes between Body's tags,
+//! Envelopes of SOAP, read from bytes: the header blocks, and the payload as the exact bytes between Body's tags,
 //! each with the bindings in force there. It stands on documents with expanded names, `soap_profile`. The layer above
 //! may use the envelope and the contract of `read_envelope`, by `specs/Envelope`, and the laws.
 #![tactic(auto)]
@@ -9,8 +9,5 @@ mod outline;
 pub mod read;
 mod scope;
 
-pub use envelope::{Elements, Envelope, Parts};
+pub use envelope::Envelope;
 pub use read::read_envelope;
-
-#[cfg(test)]
-mod tests;

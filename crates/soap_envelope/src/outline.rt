@@ -1,23 +1,18 @@
-// The parts of an Envelope, taken apart: an optional Header, and a Body.
-ghost use Rattle.std.specs.Prelude.{◌≡◌, ◌∷◌, [], ◌++◌, ◌↔◌, IsTrue, IfSome, IfOk, OnOk, Some, option_map, map};
+//! The parts of an Envelope, taken apart: an optional Header, and a Body.
+ghost use Rattle.std.specs.Prelude.{◌≡◌, ◌∷◌, [], ◌++◌, ◌↔◌, IsTrue, IfSome, IfOk, OnOk, Some, option_map};
 ghost use Rattle.std.specs.Vec.Iter.{into_iter_items};
 ghost use Rattle.soap_document.specs.Grammar.{IsWhite};
-ghost use Rattle.soap_profile.specs.Tree.{none};
+ghost use Rattle.soap_profile.specs.Tree.{none, name_of, decls_of, parts_of, children_of};
 ghost use Rattle.soap_profile.specs.View.{element_view, decls_view, parts_view};
-ghost use Rattle.soap_profile.specs.Soap.{soap_name};
-ghost use Rattle.soap_envelope.specs.Envelope.{IsSpaced, name_of, decls_of, parts_of, children_of};
+ghost use Rattle.soap_envelope.specs.Envelope.{IsSpaced, name_in};
 ghost use Rattle.soap_envelope.specs.Steps.{BodyFound, Comes, Follows, IsSpacing, Outlined};
 
-use crate::envelope::Elements;
 use rm_base::{Binding, Blob, Memory};
 use soap_document::Bytes;
-use soap_profile::{Element, Item, Name};
+use soap_profile::{Element, Elements, Item, Name, Parts, is_part};
 use std::alloc::Global;
 use std::vec::IntoIter;
 use xml_chars::is_space;
-
-/// The namespace of envelopes: SOAP 1.2 Part 1, section 5.1.
-pub(crate) const SOAP_SPACE: &[u8] = b"http://www.w3.org/2003/05/soap-envelope";
 
 /// An element that is taken apart: its name, its declarations, and its parts among what it has.
 #[derive(Debug, Drop)]
@@ -58,37 +53,41 @@ fn declare(alloc: Global, item: &Item, decls: &mut Vec<Binding>) -> Result<(), M
     Ok(())
 }
 
-/// The Header and the Body among an Envelope's parts, if they are those of one.
-pub(crate) fn outline(items: Vec<Item>) -> Option<(Option<Element>, Element)>
-    ensures { Outlined (parts_view items.items) result }
+/// The Header and the Body among an Envelope's parts, if they are those of one, where SOAP has this namespace.
+pub(crate) fn outline(items: Vec<Item>, soap: &[u8]) -> Option<(Option<Element>, Element)>
+    ensures { Outlined soap.now (parts_view items.items) result }
 {
     let mut parts = items.into_iter();
     let Next::Child(first) = next_child(&mut parts) else {
         return None;
     };
-    if is_named(&first, b"Header") {
-        return with_header(first, &mut parts);
+    if is_named(&first, soap, b"Header") {
+        return with_header(first, soap, &mut parts);
     }
-    if is_named(&first, b"Body") && is_end(&mut parts) {
+    if is_named(&first, soap, b"Body") && is_end(&mut parts) {
         return Some((None, first));
     }
     None
 }
 
-fn with_header(header: Element, parts: &mut IntoIter<Item>) -> Option<(Option<Element>, Element)>
+fn with_header(
+    header: Element,
+    soap: &[u8],
+    parts: &mut IntoIter<Item>,
+) -> Option<(Option<Element>, Element)>
     ensures found { IfSome result (λ found. found.0 ≡ Some header) }
-    ensures alone { BodyFound (parts_view (into_iter_items parts.old)) (option_map (λ found. found.1) result) }
+    ensures alone { BodyFound soap.now (parts_view (into_iter_items parts.old)) (option_map (λ found. found.1) result) }
 {
     let Next::Child(body) = next_child(parts) else {
         return None;
     };
-    if is_named(&body, b"Body") && is_end(parts) {
+    if is_named(&body, soap, b"Body") && is_end(parts) {
         return Some((Some(header), body));
     }
     None
 }
 
-// nothing is left but white space
+// Nothing is left but white space.
 fn is_end(parts: &mut IntoIter<Item>) -> bool
     ensures { IsTrue result ↔ IsSpaced (parts_view (into_iter_items parts.old)) none }
 {
@@ -99,13 +98,13 @@ fn is_end(parts: &mut IntoIter<Item>) -> bool
     }
 }
 
-fn is_named(element: &Element, local: &[u8]) -> bool
-    ensures { IsTrue result ↔ (name_of (element_view element.now) ≡ soap_name local.now) }
+fn is_named(element: &Element, soap: &[u8], local: &[u8]) -> bool
+    ensures { IsTrue result ↔ (name_of (element_view element.now) ≡ name_in soap.now local.now) }
 {
-    element.name.local() == local && element.name.space() == SOAP_SPACE
+    element.name.local() == local && element.name.space() == soap
 }
 
-// what comes next among parts
+// What comes next among parts.
 #[derive(Debug, Drop)]
 enum Next {
     Child(Element),
@@ -113,7 +112,7 @@ enum Next {
     End,
 }
 
-// but white space
+// The same, but for white space.
 fn next_child(parts: &mut IntoIter<Item>) -> Next
     ensures { Follows (parts_view (into_iter_items parts.old)) result (parts_view (into_iter_items parts.new)) }
 {
@@ -155,13 +154,27 @@ fn is_white(bytes: &[u8]) -> bool
 
 /// The elements among what an element has.
 pub(crate) fn children(alloc: Global, items: Vec<Item>) -> Result<Elements, Memory>
-    ensures { IfOk result (λ children. map element_view children.items.items ≡ children_of (parts_view items.items)) }
+    ensures { IfOk result (λ children. children ≡ children_of (parts_view items.items)) }
 {
-    let mut children = Vec::new(alloc);
+    let mut children = Elements::new(alloc);
     for item in items {
         if let Item::Child(child) = item {
             children.push(child)?;
         }
     }
-    Ok(Elements { items: children })
+    Ok(children)
+}
+
+/// The parts among what an element has.
+#[tactic(auto, using(crate::proofs::Parted::taken, crate::proofs::Parted::passed, crate::proofs::Parted::join_none))]
+pub(crate) fn parts(alloc: Global, items: Vec<Item>) -> Result<Parts, Memory>
+    ensures { IfOk result (λ parts. parts ≡ parts_view items.items) }
+{
+    let mut parts = Parts::new(alloc);
+    for item in items {
+        if is_part(&item) {
+            parts.push(item)?;
+        }
+    }
+    Ok(parts)
 }

@@ -1,4 +1,4 @@
-// The bindings in force at a place.
+//! The bindings in force at a place.
 ghost use Rattle.std.specs.Prelude.{◌≡◌, ◌∷◌, [], ◌++◌, List, IfOk, OnOk};
 ghost use Rattle.std.specs.BTreeMap.{IsOrdered};
 ghost use Rattle.soap_profile.specs.Tree.{Binding as Bound};
@@ -23,7 +23,7 @@ pub(crate) fn in_force(
     sorted(alloc, &known)
 }
 
-// binds each prefix that is not bound so far
+// Binds each prefix that is not bound so far.
 fn bind<'a>(bindings: &'a [Binding], known: &mut BTreeMap<&'a [u8], &'a [u8]>) -> Result<(), Memory>
     ensures { OnOk result ((before : List Bound) → Binds known.old before → Binds known.new (before ++ bindings.now)) }
 {
@@ -48,7 +48,7 @@ fn bind_one<'a>(
     Ok(())
 }
 
-// the bindings of a map in order, without xml and without an undeclared default
+// The bindings of a map in order, without xml and without an undeclared default.
 fn sorted(alloc: Global, known: &BTreeMap<&[u8], &[u8]>) -> Result<Bindings, Memory>
     ensures kept { IfOk result (λ scope. scope ≡ kept known.now.entries) }
     ensures ordered { IsOrdered lent_cmp known.now }

@@ -5,7 +5,6 @@ use Rattle.std.specs.Str.{bytes_eq}
 use Rattle.std.proofs.lemmas.Bool.{and_parts, and_from, true≢false}
 use Rattle.soap_document.specs.declared.attribute.WrittenAttribute.{WrittenAttribute as Attribute}
 use Rattle.soap_document.specs.Tokens.{is_nil}
-use Rattle.soap_lex.proofs.HeldLemmas.{equal}
 use Rattle.soap_profile.specs.Namespaces.{split, is_new, are_distinct, is_other, is_new_name, are_distinct_names}
 use Rattle.soap_profile.specs.declared.name.Expanded.{Expanded as Name}
 use Rattle.soap_profile.specs.declared.tree.Attr.{Attr}
@@ -15,6 +14,7 @@ use Rattle.soap_writer.specs.Writable.{IsAttrWritable, IsTagWritable}
 use Rattle.soap_writer.proofs.Prefixes.{attribute_prefix-injective}
 use Rattle.soap_writer.proofs.Raws.{Kind, bare, of_xml, own, kind, HasKind, kind_is, spelled, prefix_in, declared, raws, raw_mark, raw_tag}
 use Rattle.soap_writer.proofs.Expands.{IsOwnPrefix, attribute_prefix-IsOwnPrefix, apart, spelled_split}
+use Rattle.soap_lex.specs.Facts.{equal}
 
 -- a name, cut at its colon
 abbrev Pair : Type 0

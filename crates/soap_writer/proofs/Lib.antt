@@ -3,4 +3,3 @@ pub mod Raws
 pub mod Expands
 pub mod Apart
 pub mod Back
-pub mod Framed

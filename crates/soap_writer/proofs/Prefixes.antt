@@ -9,13 +9,14 @@ use Rattle.std.proofs.lemmas.Bool.Decides.{nat_tests}
 use Rattle.std.proofs.lemmas.Fmt.{decimal_is_IsNumeral, decimal_injective, IsAscii-from_digits}
 use Rattle.std.proofs.lemmas.Str.{encodes-IsAscii}
 use Rattle.std.proofs.lemmas.Str.Parse.{digit_from_value}
-use Rattle.xml_chars.specs.Classes.{is_within, is_char, is_name_char, is_name_start, name_more_ranges}
+use Rattle.xml_chars.specs.Classes.{is_within, is_name_char, is_name_start, name_more_ranges}
 use Rattle.soap_lex.specs.Characters.{IsName, IsChars}
-use Rattle.soap_lex.proofs.HeldLemmas.{all_from_passes, all_weaker}
-use Rattle.soap_document.proofs.Held.{cut_none, cut-append}
-use Rattle.soap_document.proofs.Names.{IsNameByte, name_bytes}
+use Rattle.soap_lex.specs.Facts.{all_weaker}
+use Rattle.soap_document.specs.Cuts.{cut_none, cut-append}
+use Rattle.soap_lex.specs.NameBytes.{IsNameByte, name_bytes}
 use Rattle.soap_profile.specs.Namespaces.{split}
 use Rattle.soap_writer.specs.ElementText.{attribute_prefix}
+use Rattle.soap_writer.specs.Plain.{name_from, chars_from}
 
 -- ---- numbered prefixes
 
@@ -47,58 +48,22 @@ pub attribute_prefix-injective : (i j : ℕ) → i < 2 ^ 64 → j < 2 ^ 64 → a
 attribute_prefix-injective i j g h e = decimal_injective i j g h (ap (drop 1) e)
 
 pub xml-IsName : IsName (codes "xml")
-unfolding encode
-xml-IsName = record {
-  first = 120;
-  others = codes "ml";
-  starts = refl;
-  each = all_from_passes is_name_char (codes "ml") refl;
-  coded = refl;
-}
+xml-IsName = name_from (codes "xml") refl
 
 pub xmlns-IsName : IsName (codes "xmlns")
-unfolding encode
-xmlns-IsName = record {
-  first = 120;
-  others = codes "mlns";
-  starts = refl;
-  each = all_from_passes is_name_char (codes "mlns") refl;
-  coded = refl;
-}
+xmlns-IsName = name_from (codes "xmlns") refl
 
 pub n-IsName : IsName (codes "n")
-unfolding encode
-n-IsName = record {
-  first = 110;
-  others = [];
-  starts = refl;
-  each = all_from_passes is_name_char ([]) refl;
-  coded = refl;
-}
+n-IsName = name_from (codes "n") refl
 
 pub a-IsName : IsName (codes "a")
-unfolding encode
-a-IsName = record {
-  first = 97;
-  others = [];
-  starts = refl;
-  each = all_from_passes is_name_char ([]) refl;
-  coded = refl;
-}
+a-IsName = name_from (codes "a") refl
 
 pub mark-IsName : IsName (codes "IsReferenceParameter")
-unfolding encode
-mark-IsName = record {
-  first = 73;
-  others = codes "sReferenceParameter";
-  starts = refl;
-  each = all_from_passes is_name_char (codes "sReferenceParameter") refl;
-  coded = refl;
-}
+mark-IsName = name_from (codes "IsReferenceParameter") refl
 
 pub true-IsChars : IsChars (codes "true")
-unfolding encode
-true-IsChars = record { characters = codes "true"; each = all_from_passes is_char (codes "true") refl; coded = refl }
+true-IsChars = chars_from (codes "true") refl
 
 -- ---- names at their colon
 

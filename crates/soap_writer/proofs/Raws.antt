@@ -1,21 +1,23 @@
 -- The attributes of a written tag, one after the other, and that they are attributes by the grammar.
-use Rattle.std.proofs.Common.{◌≡◌, ℕ, ◌+◌, ◌≤◌, ◌^◌, List, [], ◌∷◌, ◌++◌, Bool, true, false, ◌||◌, if◌then◌else◌, codes, length, refl, sym, ap, subst, ◌∙◌, arith, append_assoc}
+use Rattle.std.proofs.Common.{◌≡◌, ℕ, ◌+◌, ◌≤◌, ◌^◌, List, [], ◌∷◌, ◌++◌, Bool, true, false, ◌||◌, if◌then◌else◌, codes, length, refl, sym, ap, ap₂, subst, ◌∙◌, arith, append_assoc}
 use Rattle.std.specs.List.{AllByRecursion}
 use Rattle.std.specs.Str.{bytes_eq}
 use Rattle.soap_lex.specs.Characters.{IsChars, IsName}
-use Rattle.soap_lex.proofs.BackLemmas.{value_back}
+use Rattle.soap_lex.specs.Escapes.{escaped_text, escaped_value}
+use Rattle.soap_lex.specs.Text.{IsText}
+use Rattle.soap_lex.specs.Value.{IsValue}
 use Rattle.soap_document.specs.declared.attribute.WrittenAttribute.{WrittenAttribute as Attribute}
 use Rattle.soap_document.specs.Grammar.{IsAttributes, end, more, IsQName, unprefixed, prefixed}
 use Rattle.soap_document.specs.Tokens.{is_nil}
-use Rattle.soap_lex.proofs.HeldLemmas.{same}
 use Rattle.soap_profile.specs.Namespaces.{xml_space}
 use Rattle.soap_profile.specs.declared.name.Expanded.{Expanded as Name}
 use Rattle.soap_profile.specs.declared.tree.Attr.{Attr}
 use Rattle.rm_base.specs.declared.message.Binding.{Binding}
 use Rattle.soap_writer.specs.ElementText.{quoted, written_name, declaration, attribute_text, attribute_prefix, attributes_text, mark, tag_text}
-use Rattle.soap_writer.specs.ReadBack.{reference_mark}
+use Rattle.soap_writer.specs.ReadBack.{declared_by, declared_from, declared_in, IsAttributeWritten, written_attributes}
 use Rattle.soap_writer.specs.Writable.{IsAttrWritable, IsTagWritable}
 use Rattle.soap_writer.proofs.Prefixes.{attribute_prefix-IsName, xml-IsName, xmlns-IsName, n-IsName, a-IsName, mark-IsName, true-IsChars}
+use Rattle.soap_lex.specs.Facts.{same}
 
 -- ---- the namespace of a name: none, that of xml, or one that is declared
 
@@ -84,21 +86,34 @@ abbrev pub raw_mark : Bool → List Attribute
 raw_mark true = record { name = codes "a" ++ (codes ":" ++ codes "IsReferenceParameter"); value = codes "true" } ∷ []
 raw_mark false = []
 
-abbrev pub marks : Bool → List Attr
-marks true = reference_mark ∷ []
-marks false = []
-
 abbrev pub raw_tag : Bool → Name → List Attr → List Attribute
 raw_tag marked name attrs = declared (kind name.space) (codes "n") name.space ++ (raw_mark marked ++ raws 0 attrs)
 
 abbrev pub tag_bindings : Name → List Attr → List Binding
 tag_bindings name attrs = binding (kind name.space) (codes "n") name.space ++ bindings 0 attrs
 
--- ---- their text
+-- ---- what they declare
 
-abbrev pub text_of : List Attribute → List ℕ
-text_of [] = []
-text_of (a ∷ attributes) = codes " " ++ (a.name ++ (codes "=" ++ (quoted a.value ++ text_of attributes)))
+declared_at : (a b : Bool) (prefix space : List ℕ)
+    → binding (if a then bare else if b then of_xml else own) prefix space
+    ≡ (if a || b then [] else record { prefix = prefix; space = space } ∷ [])
+declared_at true b prefix space = refl
+declared_at false true prefix space = refl
+declared_at false false prefix space = refl
+
+declared_by_is : (prefix : List ℕ) (name : Name) → binding (kind name.space) prefix name.space ≡ declared_by prefix name
+declared_by_is prefix name = declared_at (is_nil name.space) (bytes_eq name.space xml_space) prefix name.space
+
+declared_from_is : (i : ℕ) (attrs : List Attr) → bindings i attrs ≡ declared_from i attrs
+declared_from_is i [] = refl
+declared_from_is i (a ∷ attrs) =
+    ap₂ (λ (l m : List Binding). l ++ m) (declared_by_is (attribute_prefix i) a.name) (declared_from_is (i + 1) attrs)
+
+pub tag_bindings_is : (name : Name) (attrs : List Attr) → tag_bindings name attrs ≡ declared_in name attrs
+tag_bindings_is name attrs =
+    ap₂ (λ (l m : List Binding). l ++ m) (declared_by_is (codes "n") name) (declared_from_is 0 attrs)
+
+-- ---- their text
 
 spelled_at : (a b : Bool) (prefix local : List ℕ)
     → (if a then local else if b then codes "xml:" ++ local else prefix ++ (codes ":" ++ local))
@@ -112,42 +127,44 @@ pub written_name-spelled : (prefix : List ℕ) (name : Name) → written_name pr
 written_name-spelled prefix name =
     spelled_at (is_nil name.space) (bytes_eq name.space xml_space) prefix name.local
 
-declared_at : (a b : Bool) (prefix space : List ℕ) (rest : List Attribute)
-    → (if a || b then [] else codes " xmlns:" ++ (prefix ++ (codes "=" ++ quoted space))) ++ text_of rest
-    ≡ text_of (declared (if a then bare else if b then of_xml else own) prefix space ++ rest)
-declared_at true b prefix space rest = refl
-declared_at false true prefix space rest = refl
-declared_at false false prefix space rest =
-    ap (λ l. codes " xmlns:" ++ l) (append_assoc prefix (codes "=" ++ quoted space) (text_of rest))
+declaration_at : (a b : Bool) (prefix space : List ℕ) (rest : List Attribute)
+    → (if a || b then [] else codes " xmlns:" ++ (prefix ++ (codes "=" ++ quoted space))) ++ written_attributes rest
+    ≡ written_attributes (declared (if a then bare else if b then of_xml else own) prefix space ++ rest)
+declaration_at true b prefix space rest = refl
+declaration_at false true prefix space rest = refl
+declaration_at false false prefix space rest =
+    ap (λ l. codes " xmlns:" ++ l) (append_assoc prefix (codes "=" ++ quoted space) (written_attributes rest))
 
 declaration_text : (prefix : List ℕ) (name : Name) (rest : List Attribute)
-    → declaration prefix name ++ text_of rest ≡ text_of (declared (kind name.space) prefix name.space ++ rest)
+    → declaration prefix name ++ written_attributes rest ≡ written_attributes (declared (kind name.space) prefix
+    name.space ++ rest)
 declaration_text prefix name rest =
-    declared_at (is_nil name.space) (bytes_eq name.space xml_space) prefix name.space rest
+    declaration_at (is_nil name.space) (bytes_eq name.space xml_space) prefix name.space rest
 
 attribute_raw : (prefix : List ℕ) (a : Attr) (rest : List Attribute)
-    → attribute_text prefix a ++ text_of rest ≡ text_of (raw_at (kind a.name.space) prefix a rest)
+    → attribute_text prefix a ++ written_attributes rest ≡ written_attributes (raw_at (kind a.name.space) prefix a rest)
 attribute_raw prefix a rest =
     let k = kind a.name.space in
     append_assoc (declaration prefix a.name)
-    (codes " " ++ (written_name prefix a.name ++ (codes "=" ++ quoted a.value))) (text_of rest)
+    (codes " " ++ (written_name prefix a.name ++ (codes "=" ++ quoted a.value))) (written_attributes rest)
     ∙ ap (λ l. declaration prefix a.name ++ (codes " " ++ l))
-    (append_assoc (written_name prefix a.name) (codes "=" ++ quoted a.value) (text_of rest)
-    ∙ ap (λ l. l ++ (codes "=" ++ (quoted a.value ++ text_of rest))) (written_name-spelled prefix a.name))
+    (append_assoc (written_name prefix a.name) (codes "=" ++ quoted a.value) (written_attributes rest)
+    ∙ ap (λ l. l ++ (codes "=" ++ (quoted a.value ++ written_attributes rest))) (written_name-spelled prefix a.name))
     ∙ declaration_text prefix a.name (record { name = spelled k prefix a.name.local; value = a.value } ∷ rest)
 
-attributes_raw : (i : ℕ) (attrs : List Attr) → attributes_text i attrs ≡ text_of (raws i attrs)
+attributes_raw : (i : ℕ) (attrs : List Attr) → attributes_text i attrs ≡ written_attributes (raws i attrs)
 attributes_raw i [] = refl
 attributes_raw i (a ∷ attrs) =
     ap (λ l. attribute_text (attribute_prefix i) a ++ l) (attributes_raw (i + 1) attrs)
     ∙ attribute_raw (attribute_prefix i) a (raws (i + 1) attrs)
 
-mark_raw : (marked : Bool) (rest : List Attribute) → mark marked ++ text_of rest ≡ text_of (raw_mark marked ++ rest)
+mark_raw : (marked : Bool) (rest : List Attribute) → mark marked ++ written_attributes rest ≡ written_attributes
+    (raw_mark marked ++ rest)
 mark_raw true rest = refl
 mark_raw false rest = refl
 
 pub tag_raw : (marked : Bool) (name : Name) (attrs : List Attr) → tag_text marked name attrs
-    ≡ text_of (raw_tag marked name attrs)
+    ≡ written_attributes (raw_tag marked name attrs)
 tag_raw marked name attrs =
     ap (λ l. declaration (codes "n") name ++ (mark marked ++ l)) (attributes_raw 0 attrs)
     ∙ ap (λ l. declaration (codes "n") name ++ l) (mark_raw marked (raws 0 attrs))
@@ -155,17 +172,18 @@ tag_raw marked name attrs =
 
 -- ---- by the grammar
 
-pub record IsRaw (a : Attribute) : Type 0 where
-  pub qname : IsQName a.name
-  pub chars : IsChars a.value
+-- what is known of the escapes: the laws of soap_lex
+pub record Known : Type 0 where
+  pub text : (bytes : List ℕ) → IsChars bytes → IsText (escaped_text bytes) bytes
+  pub value : (bytes : List ℕ) → IsChars bytes → IsValue (34 ∷ (escaped_value bytes ++ 34 ∷ [])) bytes
 
-pub attributes_from : (attributes : List Attribute) → AllByRecursion IsRaw attributes
-    → IsAttributes (text_of attributes) attributes
-attributes_from [] all = end [] tt
-attributes_from (a ∷ attributes) all =
-    more (codes " ") a.name [] [] (quoted a.value) a.value (text_of attributes) attributes
-    (record { white = (refl, tt); some = λ e. cc }) all.0.qname tt tt (value_back a.value all.0.chars)
-    (attributes_from attributes all.1)
+pub attributes_from : Known → (attributes : List Attribute) → AllByRecursion IsAttributeWritten attributes
+    → IsAttributes (written_attributes attributes) attributes
+attributes_from known [] all = end [] tt
+attributes_from known (a ∷ attributes) all =
+    more (codes " ") a.name [] [] (quoted a.value) a.value (written_attributes attributes) attributes
+    (record { white = (refl, tt); some = λ e. cc }) all.0.qname tt tt (known.value a.value all.0.chars)
+    (attributes_from known attributes all.1)
 
 pub spelled-IsQName : (k : Kind) (prefix local : List ℕ) → IsName prefix → IsName local
     → IsQName (spelled k prefix local)
@@ -174,14 +192,14 @@ spelled-IsQName of_xml prefix local p l = prefixed (codes "xml") local xml-IsNam
 spelled-IsQName own prefix local p l = prefixed prefix local p l
 
 declared_each : (k : Kind) (prefix space : List ℕ) (rest : List Attribute) → IsName prefix → IsChars space
-    → AllByRecursion IsRaw rest → AllByRecursion IsRaw (declared k prefix space ++ rest)
+    → AllByRecursion IsAttributeWritten rest → AllByRecursion IsAttributeWritten (declared k prefix space ++ rest)
 declared_each bare prefix space rest p s all = all
 declared_each of_xml prefix space rest p s all = all
 declared_each own prefix space rest p s all =
     (record { qname = prefixed (codes "xmlns") prefix xmlns-IsName p; chars = s }, all)
 
 raws_each : (i : ℕ) (attrs : List Attr) → i + length attrs ≤ 2 ^ 64 → AllByRecursion IsAttrWritable attrs
-    → AllByRecursion IsRaw (raws i attrs)
+    → AllByRecursion IsAttributeWritten (raws i attrs)
 raws_each i [] few all = tt
 raws_each i (a ∷ attrs) few all =
     let k = kind a.name.space in
@@ -194,8 +212,8 @@ raws_each i (a ∷ attrs) few all =
       raws_each (i + 1) attrs (omega arith) all.1,
     )
 
-mark_each : (marked : Bool) (rest : List Attribute) → AllByRecursion IsRaw rest
-    → AllByRecursion IsRaw (raw_mark marked ++ rest)
+mark_each : (marked : Bool) (rest : List Attribute) → AllByRecursion IsAttributeWritten rest
+    → AllByRecursion IsAttributeWritten (raw_mark marked ++ rest)
 mark_each false rest all = all
 mark_each true rest all = (
   record { qname = prefixed (codes "a") (codes "IsReferenceParameter") a-IsName mark-IsName; chars = true-IsChars },
@@ -203,10 +221,10 @@ mark_each true rest all = (
 )
 
 -- the attributes of a written tag are attributes
-pub tag_attributes : (marked : Bool) (name : Name) (decls : List Binding) (attrs : List Attr)
+pub tag_attributes : Known → (marked : Bool) (name : Name) (decls : List Binding) (attrs : List Attr)
     → IsTagWritable name decls attrs → IsAttributes (tag_text marked name attrs) (raw_tag marked name attrs)
-tag_attributes marked name decls attrs is =
+tag_attributes known marked name decls attrs is =
     let P : List ℕ → Type 0 = λ l. IsAttributes l (raw_tag marked name attrs) in
-    subst P (sym (tag_raw marked name attrs)) (attributes_from (raw_tag marked name attrs)
+    subst P (sym (tag_raw marked name attrs)) (attributes_from known (raw_tag marked name attrs)
     (declared_each (kind name.space) (codes "n") name.space (raw_mark marked ++ raws 0 attrs) n-IsName is.named.space
     (mark_each marked (raws 0 attrs) (raws_each 0 attrs (omega arith) is.each))))

@@ -1,31 +1,46 @@
--- The frame of an envelope: SOAP 1.2 Part 1, section 5.
-use Rattle.std.specs.Prelude.{ℕ, List, ◌++◌, codes}
+-- The namespaces of what is written, and the prefixes that a frame binds to them.
+use Rattle.std.specs.Prelude.{ℕ, List, [], ◌∷◌, codes}
+use Rattle.rm_base.specs.declared.message.Binding.{Binding}
 
 -- WS-Addressing 1.0 Core, section 1.2
 abbrev pub addressing_space : List ℕ
 addressing_space = codes "http://www.w3.org/2005/08/addressing"
 
--- the namespace of WS-ReliableMessaging 1.2
+-- the namespace of WS-ReliableMessaging 1.2 (section 1.2)
 abbrev pub messaging_space : List ℕ
 messaging_space = codes "http://docs.oasis-open.org/ws-rx/wsrm/200702"
 
--- the namespace of WS-MakeConnection 1.1
+-- the namespace of WS-MakeConnection 1.1 (section 1.2)
 abbrev pub connection_space : List ℕ
 connection_space = codes "http://docs.oasis-open.org/ws-rx/wsmc/200702"
 
--- up to and with the start tag of the header: a is bound to WS-Addressing, r to WS-ReliableMessaging 1.2, and c to
--- WS-MakeConnection 1.1
-abbrev pub envelope_start : List ℕ
-envelope_start =
-    codes "<s:Envelope xmlns:s=\"http://www.w3.org/2003/05/soap-envelope\"" ++ (codes
-    " xmlns:a=\"http://www.w3.org/2005/08/addressing\"" ++ (codes
-    " xmlns:r=\"http://docs.oasis-open.org/ws-rx/wsrm/200702\"" ++ (codes
-    " xmlns:c=\"http://docs.oasis-open.org/ws-rx/wsmc/200702\"" ++ codes "><s:Header>")))
+-- a prefix of a frame, named by what it is bound to
+pub data Prefix : Type 0 where
+  of_soap : Prefix
+  of_addressing : Prefix
+  of_messaging : Prefix
+  of_connection : Prefix
 
--- the end tag of the header and the start tag of the body
-abbrev pub body_start : List ℕ
-body_start = codes "</s:Header><s:Body>"
+-- how it is written
+abbrev pub letter : Prefix → List ℕ
+letter of_soap = codes "s"
+letter of_addressing = codes "a"
+letter of_messaging = codes "r"
+letter of_connection = codes "c"
 
--- the end tags of the body and of the envelope
-abbrev pub envelope_end : List ℕ
-envelope_end = codes "</s:Body></s:Envelope>"
+-- what it is bound to, where SOAP has this namespace
+abbrev pub space_of : List ℕ → Prefix → List ℕ
+space_of soap of_soap = soap
+space_of soap of_addressing = addressing_space
+space_of soap of_messaging = messaging_space
+space_of soap of_connection = connection_space
+
+-- its binding
+abbrev pub binding_of : List ℕ → Prefix → Binding
+binding_of soap prefix = record { prefix = letter prefix; space = space_of soap prefix }
+
+-- what a frame binds, in the order in which it is written
+abbrev pub frame_scope : List ℕ → List Binding
+frame_scope soap =
+    binding_of soap of_soap ∷ binding_of soap of_addressing ∷ binding_of soap of_messaging
+    ∷ binding_of soap of_connection ∷ []

@@ -1,6 +1,6 @@
 pub mod ElementText
-pub mod Envelope
 pub mod Frame
+pub mod Plain
 pub mod ReadBack
 pub mod Steps
 pub mod Writable

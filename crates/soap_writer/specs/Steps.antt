@@ -6,6 +6,7 @@ use Rattle.soap_writer.specs.ElementText.{attribute_prefix, element_text}
 use Rattle.soap_writer.specs.declared.tags.Prefix.{Prefix}
 use Rattle.soap_writer.specs.declared.tags.Prefix.TheVariants.{OfElement, OfAttribute}
 
+-- a prefix, as it is written
 abbrev pub prefix_text : Prefix → List ℕ
 prefix_text OfElement = codes "n"
 prefix_text (OfAttribute i) = attribute_prefix i

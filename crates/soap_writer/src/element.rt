@@ -1,3 +1,4 @@
+//! The writer of elements.
 ghost use Rattle.std.specs.Prelude.{◌≡◌, ◌++◌, OnOk, OnErr};
 ghost use Rattle.soap_profile.specs.View.{element_view, item_view, parts_view};
 ghost use Rattle.soap_writer.specs.ElementText.{element_text, parts_text};
@@ -30,7 +31,7 @@ pub fn write_element(
     written
 }
 
-// up to a want of memory, as the writers of pieces
+// Up to a want of memory, as the writers of pieces.
 #[cycle(writing)]
 fn push_element(element: &Element, marked: bool, out: &mut Vec<u8>) -> Result<(), Memory>
     ensures ok { OnOk result (out.new.items ≡ out.old.items ++ element_text marked (element_view element.now)) }
@@ -52,7 +53,7 @@ fn push_parts(items: &[Item], out: &mut Vec<u8>) -> Result<(), Memory>
     Ok(())
 }
 
-// nothing, where the item is no part
+// Nothing, where the item is no part.
 #[cycle(writing)]
 fn push_part(item: &Item, out: &mut Vec<u8>) -> Result<(), Memory>
     ensures ok { OnOk result (out.new.items ≡ out.old.items ++ part_text (item_view item.now)) }

@@ -1,4 +1,4 @@
-// The pieces of a start tag. Each writer appends its piece, up to a want of memory.
+//! The pieces of a start tag. Each writer appends its piece, up to a want of memory.
 ghost use Rattle.std.specs.Prelude.{◌≡◌, ◌<◌, ◌+◌, ◌^◌, [], ◌∷◌, ◌++◌, length, codes, IfOk, OnOk, OnErr};
 ghost use Rattle.std.specs.Str.{bytes_eq};
 ghost use Rattle.soap_document.specs.Grammar.{start_tag, end_tag};
@@ -16,7 +16,7 @@ use soap_profile::{Attr, Item, Name};
 
 const XML_SPACE: &[u8] = b"http://www.w3.org/XML/1998/namespace";
 
-// the prefix that the namespace of a name is bound to
+// The prefix that the namespace of a name is bound to.
 #[derive(Clone, Copy, Debug)]
 enum Prefix {
     OfElement,
@@ -73,7 +73,7 @@ pub(crate) fn push_text(text: &[u8], out: &mut Vec<u8>) -> Result<(), Memory>
     }
 }
 
-// in no namespace
+// In no namespace.
 fn is_bare(name: &Name) -> bool
     ensures { result ≡ is_nil name.now.space }
 {
@@ -126,7 +126,7 @@ fn push_attribute(prefix: Prefix, attr: &Attr, out: &mut Vec<u8>) -> Result<(), 
     push_quoted(attr.value.as_slice(), out)
 }
 
-// an item, if it is an attribute, and the number of the attribute behind it
+// An item, if it is an attribute, and the number of the attribute behind it.
 fn push_item(number: usize, item: &Item, out: &mut Vec<u8>) -> Result<usize, Memory>
     requires { number + 1 < 2 ^ 64 }
     ensures next { IfOk result (λ next. next ≡ number + length (attrs_view (item.now ∷ []))) }

@@ -1,11 +1,11 @@
-use Rattle.std.proofs.Common.{◌≡◌, ◌++◌, map}
+use Rattle.std.proofs.Common.{◌≡◌, ◌++◌}
 use Rattle.std.specs.Vec.Iter.{into_iter_items}
-use Rattle.soap_profile.specs.View.{element_view, parts_view}
-use Rattle.soap_envelope.specs.Envelope.{children_of}
+use Rattle.soap_profile.specs.Tree.{children_of}
+use Rattle.soap_profile.specs.View.{parts_view}
 use Rattle.soap_envelope.proofs.outline.children.Given as goal
 
 -- the elements so far, and those of what is left
 abbrev pub invariant-loop-item : goal.invariant-loop-item
 invariant-loop-item l =
-    map element_view l.children.items ++ children_of (parts_view (into_iter_items l.item-iterator))
+    l.children ++ children_of (parts_view (into_iter_items l.item-iterator))
     ≡ children_of (parts_view l.fn.items.items)

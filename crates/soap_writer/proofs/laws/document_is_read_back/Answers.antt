@@ -2,4 +2,4 @@ use Rattle.soap_writer.proofs.Back.{document_back}
 use Rattle.soap_writer.proofs.laws.document_is_read_back.Goals as goal
 
 pub returns : goal.returns
-returns c = document_back
+returns c = document_back (record { text = c.text_is_read_back.ensures; value = c.value_is_read_back.ensures })

@@ -1,0 +1,4 @@
+pub mod Moved
+pub mod Weaken
+pub mod Closed
+pub mod Framing

@@ -1,0 +1,180 @@
+-- What is closed under its own declarations is read alike where more is bound.
+use Rattle.std.proofs.Common.{◌≡◌, ℕ, List, [], ◌∷◌, ◌++◌, Bool, true, false, if◌then◌else◌, Option, Some, None, option_map, codes, refl, sym, ap, ap₂, ◌∙◌, append_assoc}
+use Rattle.std.specs.Str.{bytes_eq}
+use Rattle.rm_base.specs.declared.message.Binding.{Binding}
+use Rattle.soap_document.specs.declared.attribute.WrittenAttribute.{WrittenAttribute as Attribute}
+use Rattle.soap_document.specs.Tokens.{is_nil}
+use Rattle.soap_document.specs.Tree as written
+use Rattle.soap_profile.specs.Namespaces.{bound, or_none, prefix_space, element_space, attribute_space, named, element_name, attribute_name, split, xml_space, declared_prefix, declarations, with_attribute, unless_declared, expanded, are_distinct, Resolved, resolved_with, tag_within, declaring, tag_of, joined, resolve, resolve_parts}
+use Rattle.soap_profile.specs.Tree.{Element, element, Parts, text}
+use Rattle.soap_profile.specs.declared.name.Expanded.{Expanded as Name}
+use Rattle.soap_profile.specs.declared.tree.Attr.{Attr}
+
+-- what is found stays found
+more_at : (d : Binding) (t : Bool) (l m : Option (List ℕ)) (x : List ℕ)
+    → (l ≡ Some x → m ≡ Some x) → (if t then Some d.space else l) ≡ Some x → (if t then Some d.space else m) ≡ Some x
+more_at d true l m x later e = e
+more_at d false l m x later e = later e
+
+bound_more : (p : List ℕ) (ds frame : List Binding) (x : List ℕ) → bound p ds ≡ Some x → bound p (ds ++ frame) ≡ Some x
+bound_more p [] frame x e = cc
+bound_more p (d ∷ ds) frame x e =
+    more_at d (bytes_eq d.prefix p) (bound p ds) (bound p (ds ++ frame)) x (bound_more p ds frame x) e
+
+-- and where the frame has no default, the default stays
+default_at : (d : Binding) (t : Bool) (l m : Option (List ℕ)) → l ≡ m
+    → (if t then Some d.space else l) ≡ (if t then Some d.space else m)
+default_at d t l m e = ap (λ o. if t then Some d.space else o) e
+
+default_more : (ds frame : List Binding) → bound [] frame ≡ None → bound [] ds ≡ bound [] (ds ++ frame)
+default_more [] frame free = sym free
+default_more (d ∷ ds) frame free =
+    default_at d (bytes_eq d.prefix []) (bound [] ds) (bound [] (ds ++ frame)) (default_more ds frame free)
+
+prefix_at : (x : Bool) (l m : Option (List ℕ)) (s : List ℕ) → (l ≡ Some s → m ≡ Some s)
+    → (if x then Some xml_space else l) ≡ Some s → (if x then Some xml_space else m) ≡ Some s
+prefix_at true l m s f e = e
+prefix_at false l m s f e = f e
+
+prefix_more : (p : List ℕ) (ds frame : List Binding) (s : List ℕ) → prefix_space p ds ≡ Some s
+    → prefix_space p (ds ++ frame) ≡ Some s
+prefix_more p ds frame s e =
+    prefix_at (bytes_eq p (codes "xml")) (bound p ds) (bound p (ds ++ frame)) s (bound_more p ds frame s) e
+
+if_more : (t : Bool) (a b l m : Option (List ℕ)) (s : List ℕ) → a ≡ b → (l ≡ Some s → m ≡ Some s)
+    → (if t then a else l) ≡ Some s → (if t then b else m) ≡ Some s
+if_more true a b l m s same f e = sym same ∙ e
+if_more false a b l m s same f e = f e
+
+element_space_more : (p : List ℕ) (ds frame : List Binding) (s : List ℕ) → bound [] frame ≡ None
+    → element_space p ds ≡ Some s → element_space p (ds ++ frame) ≡ Some s
+element_space_more p ds frame s free e =
+    if_more (is_nil p) (or_none (bound [] ds)) (or_none (bound [] (ds ++ frame))) (prefix_space p ds)
+    (prefix_space p (ds ++ frame)) s (ap or_none (default_more ds frame free)) (prefix_more p ds frame s) e
+
+attribute_space_more : (p : List ℕ) (ds frame : List Binding) (s : List ℕ) → attribute_space p ds ≡ Some s
+    → attribute_space p (ds ++ frame) ≡ Some s
+attribute_space_more p ds frame s e =
+    if_more (is_nil p) (Some []) (Some []) (prefix_space p ds) (prefix_space p (ds ++ frame)) s refl
+    (prefix_more p ds frame s) e
+
+named_more : (local : List ℕ) (o q : Option (List ℕ)) (n : Name) → ((s : List ℕ) → o ≡ Some s → q ≡ Some s)
+    → named local o ≡ Some n → named local q ≡ Some n
+named_more local None q n f e = cc
+named_more local (Some s) q n f e = ap (named local) (f s refl) ∙ e
+
+element_name_more : (w : List ℕ) (ds frame : List Binding) (n : Name) → bound [] frame ≡ None
+    → element_name ds w ≡ Some n → element_name (ds ++ frame) w ≡ Some n
+element_name_more w ds frame n free e =
+    named_more (split w).1 (element_space (split w).0 ds) (element_space (split w).0 (ds ++ frame)) n
+    (λ s. element_space_more (split w).0 ds frame s free) e
+
+attribute_name_more : (w : List ℕ) (ds frame : List Binding) (n : Name) → attribute_name ds w ≡ Some n
+    → attribute_name (ds ++ frame) w ≡ Some n
+attribute_name_more w ds frame n e =
+    named_more (split w).1 (attribute_space (split w).0 ds) (attribute_space (split w).0 (ds ++ frame)) n
+    (λ s. attribute_space_more (split w).0 ds frame s) e
+
+with_more : (o q : Option Name) (value : List ℕ) (l m : Option (List Attr)) (attrs : List Attr)
+    → ((n : Name) → o ≡ Some n → q ≡ Some n) → ((as_ : List Attr) → l ≡ Some as_ → m ≡ Some as_)
+    → with_attribute o value l ≡ Some attrs → with_attribute q value m ≡ Some attrs
+with_more None q value l m attrs f g e = cc
+with_more (Some n) q value None m attrs f g e = cc
+with_more (Some n) q value (Some l) m attrs f g e =
+    ap₂ (λ (o : Option Name) (k : Option (List Attr)). with_attribute o value k) (f n refl) (g l refl) ∙ e
+
+unless_more : (d : Option (List ℕ)) (o q : Option Name) (value : List ℕ) (l m : Option (List Attr)) (attrs : List Attr)
+    → ((n : Name) → o ≡ Some n → q ≡ Some n) → ((as_ : List Attr) → l ≡ Some as_ → m ≡ Some as_)
+    → unless_declared d o value l ≡ Some attrs → unless_declared d q value m ≡ Some attrs
+unless_more None o q value l m attrs f g e = with_more o q value l m attrs f g e
+unless_more (Some p) o q value l m attrs f g e = g attrs e
+
+expanded_more : (raws : List Attribute) (ds frame : List Binding) (attrs : List Attr) → expanded ds raws ≡ Some attrs
+    → expanded (ds ++ frame) raws ≡ Some attrs
+expanded_more [] ds frame attrs e = e
+expanded_more (a ∷ raws) ds frame attrs e =
+    unless_more (declared_prefix a.name) (attribute_name ds a.name) (attribute_name (ds ++ frame) a.name) a.value
+    (expanded ds raws) (expanded (ds ++ frame) raws) attrs (λ n. attribute_name_more a.name ds frame n)
+    (λ l. expanded_more raws ds frame l) e
+
+resolved_more : (decls : List Binding) (o q : Option Name) (l m : Option (List Attr)) (t : Resolved)
+    → ((n : Name) → o ≡ Some n → q ≡ Some n) → ((as_ : List Attr) → l ≡ Some as_ → m ≡ Some as_)
+    → resolved_with decls o l ≡ Some t → resolved_with decls q m ≡ Some t
+resolved_more decls None q l m t f g e = cc
+resolved_more decls (Some n) q None m t f g e = cc
+resolved_more decls (Some n) q (Some l) m t f g e =
+    ap₂ (λ (o : Option Name) (k : Option (List Attr)). resolved_with decls o k) (f n refl) (g l refl) ∙ e
+
+within_more : (decls ds frame : List Binding) (w : List ℕ) (raws : List Attribute) (t : Resolved)
+    → bound [] frame ≡ None
+    → tag_within decls ds w raws ≡ Some t → tag_within decls (ds ++ frame) w raws ≡ Some t
+within_more decls ds frame w raws t free e =
+    ap (λ s. resolved_with decls (element_name s w) (expanded s raws)) (sym (append_assoc decls ds frame))
+    ∙ resolved_more decls (element_name (decls ++ ds) w) (element_name ((decls ++ ds) ++ frame) w)
+    (expanded (decls ++ ds) raws) (expanded ((decls ++ ds) ++ frame) raws) t
+    (λ n. element_name_more w (decls ++ ds) frame n free) (λ l. expanded_more raws (decls ++ ds) frame l) e
+
+declaring_more : (o : Option (List Binding)) (ds frame : List Binding) (w : List ℕ) (raws : List Attribute) (t :
+    Resolved)
+    → bound [] frame ≡ None → declaring o ds w raws ≡ Some t → declaring o (ds ++ frame) w raws ≡ Some t
+declaring_more None ds frame w raws t free e = cc
+declaring_more (Some decls) ds frame w raws t free e = within_more decls ds frame w raws t free e
+
+tag_at : (b : Bool) (l m : Option Resolved) (t : Resolved) → (l ≡ Some t → m ≡ Some t)
+    → (if b then l else None) ≡ Some t → (if b then m else None) ≡ Some t
+tag_at true l m t f e = f e
+tag_at false l m t f e = e
+
+tag_more : (ds frame : List Binding) (w : List ℕ) (raws : List Attribute) (t : Resolved) → bound [] frame ≡ None
+    → tag_of ds w raws ≡ Some t → tag_of (ds ++ frame) w raws ≡ Some t
+tag_more ds frame w raws t free e =
+    tag_at (are_distinct raws) (declaring (declarations raws) ds w raws) (declaring (declarations raws) (ds ++ frame)
+    w raws)
+    t (declaring_more (declarations raws) ds frame w raws t free) e
+
+-- ---- elements
+
+mapped : (t : Resolved) (l m : Option Parts) (e : Element) → ((ps : Parts) → l ≡ Some ps → m ≡ Some ps)
+    → option_map (element t.name t.decls t.attrs) l ≡ Some e → option_map (element t.name t.decls t.attrs) m ≡ Some e
+mapped t None m e f g = cc
+mapped t (Some ps) m e f g = ap (option_map (element t.name t.decls t.attrs)) (f ps refl) ∙ g
+
+abbrev with_tag : Option Resolved → (Resolved → Option Parts) → Option Element
+with_tag o inner = elim o [ None ↦ None | Some t ↦ option_map (element t.name t.decls t.attrs) (inner t) ]
+
+tagged : (o q : Option Resolved) (l m : Resolved → Option Parts) (e : Element)
+    → ((t : Resolved) → o ≡ Some t → q ≡ Some t) → ((t : Resolved) (ps : Parts) → l t ≡ Some ps → m t ≡ Some ps)
+    → with_tag o l ≡ Some e → with_tag q m ≡ Some e
+tagged None q l m e f g h = cc
+tagged (Some t) q l m e f g h = ap (λ o. with_tag o m) (f t refl) ∙ mapped t (l t) (m t) e (g t) h
+
+text_at : (bytes : List ℕ) (l m : Option Parts) (ps : Parts) → ((qs : Parts) → l ≡ Some qs → m ≡ Some qs)
+    → option_map (text bytes) l ≡ Some ps → option_map (text bytes) m ≡ Some ps
+text_at bytes None m ps f e = cc
+text_at bytes (Some qs) m ps f e = ap (option_map (text bytes)) (f qs refl) ∙ e
+
+joined_at : (o q : Option Element) (l m : Option Parts) (ps : Parts) → ((e : Element) → o ≡ Some e → q ≡ Some e)
+    → ((qs : Parts) → l ≡ Some qs → m ≡ Some qs) → joined o l ≡ Some ps → joined q m ≡ Some ps
+joined_at None q l m ps f g e = cc
+joined_at (Some x) q None m ps f g e = cc
+joined_at (Some x) q (Some l) m ps f g e = ap₂ joined (f x refl) (g l refl) ∙ e
+
+mutual
+  pub resolve_more : (raw : written.Element) (ds frame : List Binding) (e : Element) → bound [] frame ≡ None
+      → resolve ds raw ≡ Some e → resolve (ds ++ frame) raw ≡ Some e
+  resolve_more (written.element w raws start end parts) ds frame e free h =
+      tagged (tag_of ds w raws) (tag_of (ds ++ frame) w raws) (λ t. resolve_parts (t.decls ++ ds) parts)
+      (λ t. resolve_parts (t.decls ++ (ds ++ frame)) parts) e (λ t. tag_more ds frame w raws t free)
+      (λ t ps f. ap (λ s. resolve_parts s parts) (sym (append_assoc t.decls ds frame))
+      ∙ parts_more parts (t.decls ++ ds) frame ps free f) h
+
+  pub parts_more : (raw : written.Parts) (ds frame : List Binding) (ps : Parts) → bound [] frame ≡ None
+      → resolve_parts ds raw ≡ Some ps → resolve_parts (ds ++ frame) raw ≡ Some ps
+  parts_more written.none ds frame ps free h = h
+  parts_more (written.text bytes parts) ds frame ps free h =
+      text_at bytes (resolve_parts ds parts) (resolve_parts (ds ++ frame) parts) ps
+      (λ qs. parts_more parts ds frame qs free) h
+  parts_more (written.child first parts) ds frame ps free h =
+      joined_at (resolve ds first) (resolve (ds ++ frame) first) (resolve_parts ds parts) (resolve_parts (ds ++
+      frame) parts) ps
+      (λ e. resolve_more first ds frame e free) (λ qs. parts_more parts ds frame qs free) h
