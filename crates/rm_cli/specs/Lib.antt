@@ -1,6 +1,0 @@
-pub mod Check
-pub mod Edge
-pub mod Replay
-pub mod Run
-pub mod Status
-pub mod Texts

@@ -1,0 +1,17 @@
+use Rattle.rm_world.specs.Stage.{world_of}
+use Rattle.soap_profile.specs.Soap.{soap_space}
+use Rattle.rm_command.proofs.CheckLemmas.{check_status, replay_status}
+use Rattle.rm_command.proofs.command.run.Goals as goal
+
+pub returns-clause-replays : goal.returns-clause-replays
+returns-clause-replays g c =
+    let before = world_of c.args.stage.now in
+    let after = world_of c.obey.new.stage in
+    λ asked. rw c.status.ensures (replay_status c.no_bad_line.ensures before after (c.obey.ensures.runs.replay asked))
+
+pub returns-clause-checks : goal.returns-clause-checks
+returns-clause-checks g c =
+    let version = c.one_answer.ensures.version soap_space in
+    let outline = c.one_answer.ensures.outline soap_space in
+    λ asked. rw c.status.ensures
+    (check_status c.document_is_utf8.ensures version outline (c.obey.ensures.runs.check asked))

@@ -1,0 +1,7 @@
+pub mod Check
+pub mod Edge
+pub mod Filter
+pub mod Replay
+pub mod Run
+pub mod Status
+pub mod Texts

@@ -1,0 +1,106 @@
+//! The whole program over any input and output.
+ghost use Rattle.std.specs.Prelude.{◌≡◌, ◌↔◌, IfSome};
+ghost use Rattle.rm_world.specs.Stage.{world_of};
+ghost use Rattle.rm_world.specs.Word.{preset, KeepsWord};
+ghost use Rattle.rm_command.specs.Check.{IsCheckStatus};
+ghost use Rattle.rm_command.specs.Edge.{input_of, output_of, edge_of};
+ghost use Rattle.rm_command.specs.Replay.{IsReplayStatus};
+ghost use Rattle.rm_command.specs.Run.{AsksReplay, AsksCheck, AsksNothing, Asks, IsNamed, Runs};
+ghost use Rattle.rm_command.specs.Status.{status_of};
+ghost use Rattle.rm_command.specs.declared.end.End.{End as AnEnd};
+
+use crate::check::check;
+use crate::end::{End, refuse};
+use crate::replay::replay;
+use rm_base::{Blob, Sink, Source};
+use rm_world::PlainStage;
+use rm_world::laws::no_bad_line;
+use soap_document::laws::document_is_utf8;
+use soap_envelope::laws::one_answer;
+use std::alloc::Global;
+
+/// Does what the words say, those after the program's name, and answers the exit status.
+pub fn run<S: Source, K: Sink>(
+    alloc: Global,
+    words: &[Blob],
+    input: &mut S,
+    out: &mut K,
+    stage: &mut PlainStage,
+) -> u8
+    requires { world_of stage.old ≡ preset }
+
+    // The headline, at every status and over every source.
+    ensures word { KeepsWord (world_of stage.new) }
+
+    // What was done, by the words and the status.
+    ensures runs { (end : AnEnd) × (result ≡ status_of end)
+        × Runs words.now end (edge_of (input_of S.left S.faults S.taken S.is_sound)
+        (output_of K.held K.faults K.wants_memory K.is_sound) input.old input.new out.old out.new)
+        (world_of stage.old) (world_of stage.new) }
+    ensures usage { (result ≡ 2) ↔ AsksNothing words.now }
+
+    // Which status comes of bytes.
+    ensures replays { AsksReplay words.now → IfSome (S.left input.old) (λ bytes. IsReplayStatus bytes result) }
+    ensures checks { AsksCheck words.now → IfSome (S.left input.old) (λ bytes. IsCheckStatus bytes result) }
+{
+    // What bytes can't be at once decides which status comes of them.
+    document_is_utf8();
+    one_answer();
+    no_bad_line();
+    obey(alloc, words, input, out, stage).status()
+}
+
+// Does what the words say, and answers how it ended.
+fn obey<S: Source, K: Sink>(
+    alloc: Global,
+    words: &[Blob],
+    input: &mut S,
+    out: &mut K,
+    stage: &mut PlainStage,
+) -> End
+    requires { world_of stage.old ≡ preset }
+    ensures word { KeepsWord (world_of stage.new) }
+    ensures runs { Runs words.now result (edge_of (input_of S.left S.faults S.taken S.is_sound)
+        (output_of K.held K.faults K.wants_memory K.is_sound) input.old input.new out.old out.new)
+        (world_of stage.old) (world_of stage.new) }
+{
+    match command_of(words) {
+        Some(Command::Replay) => replay(alloc, input, out, stage),
+        Some(Command::Check) => check(alloc, input, out),
+        None => refuse(out, End::Usage, USAGE_LINE),
+    }
+}
+
+// What is printed where the words are no command: every command that there is to be.
+const USAGE_LINE: &[u8] =
+    b"usage: wsrm check,replay,soak,make,serve,send,push,close,end,inbox,policy\n";
+
+// What the words may ask for.
+#[derive(Clone, Copy, Debug, PartialEq, Eq)]
+enum Command {
+    Replay,
+    Check,
+}
+
+// The command that the words ask for: it is the only word.
+fn command_of(words: &[Blob]) -> Option<Command>
+    ensures { Asks words.now result }
+{
+    match words {
+        [word] => command_named(word.as_slice()),
+        _ => None,
+    }
+}
+
+// The command with this name.
+fn command_named(name: &[u8]) -> Option<Command>
+    ensures { IsNamed name.now result }
+{
+    if name == b"replay".as_slice() {
+        return Some(Command::Replay);
+    }
+    if name == b"check".as_slice() {
+        return Some(Command::Check);
+    }
+    None
+}

@@ -1,0 +1,106 @@
+//! How a run ends: its status, and the line of a refusal.
+ghost use Rattle.std.specs.Prelude.{◌≡◌, ◌≤◌, ◌⊎◌, true, IfOk};
+ghost use Rattle.rm_command.specs.Edge.{output_of, WasSaid, KeepsOutput};
+ghost use Rattle.rm_command.specs.Status.{status_of};
+ghost use Rattle.rm_command.specs.Texts.{line_of};
+
+use rm_base::{Blob, Memory, Sink, push_decimal, write_all};
+use std::alloc::Global;
+
+/// What keeps bytes from being an envelope.
+#[derive(Clone, Copy, Debug, PartialEq, Eq)]
+pub enum Fault {
+    NotUtf8,
+    NotProfile,
+    WrongVersion,
+    NotEnvelope,
+}
+
+/// How a run ends.
+#[derive(Clone, Copy, Debug, PartialEq, Eq)]
+pub enum End {
+    /// What was asked for was done, and what it prints was written.
+    Done,
+    /// The words are no command.
+    Usage,
+    /// A line of the script is not in the grammar.
+    BadLine { line: u64 },
+    /// A read failed.
+    ReadFault,
+    /// A write failed.
+    WriteFault,
+    /// The input has more bytes than the command takes.
+    TooLong,
+    /// The input is no envelope.
+    Refused { fault: Fault },
+    /// Memory ran out.
+    Memory,
+}
+
+impl End {
+    /// The exit status.
+    pub fn status(self) -> u8
+        ensures { result ≡ status_of self }
+    {
+        match self {
+            End::Done => 0,
+            End::Usage => 2,
+            End::BadLine { .. } => 3,
+            End::ReadFault => 4,
+            End::WriteFault => 5,
+            End::TooLong => 8,
+            End::Refused { .. } => 9,
+            End::Memory => 10,
+        }
+    }
+}
+
+impl Fault {
+    /// The line that is printed where bytes are refused for it.
+    pub fn line(self) -> &'static [u8]
+        ensures { result.now ≡ line_of (End.Refused self) }
+    {
+        match self {
+            Fault::NotUtf8 => b"fault NotUtf8\n",
+            Fault::NotProfile => b"fault NotProfile\n",
+            Fault::WrongVersion => b"fault WrongVersion\n",
+            Fault::NotEnvelope => b"fault NotEnvelope\n",
+        }
+    }
+}
+
+/// Refuses a script for its first bad line. Want of memory for the text is answered in its place, with nothing written.
+pub fn refuse_line<K: Sink>(alloc: Global, out: &mut K, line: u64) -> End
+    ensures said { ((result ≡ End.BadLine line) × WasSaid (output_of K.held K.faults K.wants_memory K.is_sound out.old)
+        (output_of K.held K.faults K.wants_memory K.is_sound out.new) (line_of (End.BadLine line)))
+        ⊎ ((result ≡ End.Memory) × (out.new ≡ out.old)) }
+    ensures kept { KeepsOutput result (output_of K.held K.faults K.wants_memory K.is_sound out.old)
+        (output_of K.held K.faults K.wants_memory K.is_sound out.new) }
+{
+    match bad_line(alloc, line) {
+        Ok(text) => refuse(out, End::BadLine { line }, text.as_slice()),
+        Err(Memory) => End::Memory,
+    }
+}
+
+// The line that is printed where a line of the script is refused.
+fn bad_line(alloc: Global, line: u64) -> Result<Blob, Memory>
+    ensures { IfOk result (λ text. text ≡ line_of (End.BadLine line)) }
+{
+    let mut text = Blob::from_slice(alloc, b"bad line ")?;
+    push_decimal(&mut text, line)?;
+    text.push_all(b"\n")?;
+    Ok(text)
+}
+
+/// Writes the line of a refusal, and answers the refusal: a write that fails leaves it as it is.
+pub fn refuse<K: Sink>(out: &mut K, refusal: End, line: &[u8]) -> End
+    ensures same { result ≡ refusal }
+    ensures said { WasSaid (output_of K.held K.faults K.wants_memory K.is_sound out.old)
+        (output_of K.held K.faults K.wants_memory K.is_sound out.new) line.now }
+    ensures never_falls { K.faults out.old ≤ K.faults out.new }
+    ensures sound { K.is_sound out.old ≡ true → K.faults out.new ≡ K.faults out.old }
+{
+    let _ = write_all(out, line);
+    refusal
+}

@@ -1,0 +1,46 @@
+//! What commands share that read their input to the end and print a text of it: the reading, and the writing.
+ghost use Rattle.std.specs.Prelude.{◌≡◌, ◌<◌, ◌^◌, IfOk, IfErr, OnOk};
+ghost use Rattle.rm_command.specs.Edge.{input_of, output_of, edge_of, WasRead, KeepsEdge, KeepsOutput};
+ghost use Rattle.rm_command.specs.Filter.{EndsUnread, EndsWriting, end_of};
+
+use crate::end::{End, refuse};
+use rm_base::{Blob, ReadError, Sink, SinkError, Source, read_up_to, write_all};
+use std::alloc::Global;
+
+/// Reads an input of at most `limit` bytes to its end. Where it isn't read, its refusal is answered and was written.
+pub fn read_input<S: Source, K: Sink>(
+    alloc: Global,
+    input: &mut S,
+    out: &mut K,
+    limit: usize,
+) -> Result<Blob, End>
+    requires { limit < 2 ^ 62 }
+    ensures read { IfOk result (λ bytes. WasRead limit (input_of S.left S.faults S.taken S.is_sound input.old)
+        (input_of S.left S.faults S.taken S.is_sound input.new) bytes) }
+    ensures silent { OnOk result (out.new ≡ out.old) }
+    ensures refused { IfErr result (λ end. EndsUnread limit end (edge_of (input_of S.left S.faults S.taken S.is_sound)
+        (output_of K.held K.faults K.wants_memory K.is_sound) input.old input.new out.old out.new)) }
+    ensures kept { KeepsEdge limit (end_of result) (edge_of (input_of S.left S.faults S.taken S.is_sound)
+        (output_of K.held K.faults K.wants_memory K.is_sound) input.old input.new out.old out.new) }
+{
+    match read_up_to(alloc, input, limit) {
+        Ok(bytes) => Ok(bytes),
+        Err(ReadError::Failed) => Err(refuse(out, End::ReadFault, b"read fault\n")),
+        Err(ReadError::TooLong) => Err(refuse(out, End::TooLong, b"too long\n")),
+        Err(ReadError::Memory) => Err(End::Memory),
+    }
+}
+
+/// Writes a text whole.
+pub fn write_text<K: Sink>(out: &mut K, text: &[u8]) -> End
+    ensures ends { EndsWriting text.now result (output_of K.held K.faults K.wants_memory K.is_sound out.old)
+        (output_of K.held K.faults K.wants_memory K.is_sound out.new) }
+    ensures kept { KeepsOutput result (output_of K.held K.faults K.wants_memory K.is_sound out.old)
+        (output_of K.held K.faults K.wants_memory K.is_sound out.new) }
+{
+    match write_all(out, text) {
+        Ok(()) => End::Done,
+        Err(SinkError::Failed) => End::WriteFault,
+        Err(SinkError::Memory) => End::Memory,
+    }
+}

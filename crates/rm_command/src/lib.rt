@@ -1,0 +1,17 @@
+//! The commands of wsrm: `run` is the whole program over any input and output. `replay` reads a script, plays it over
+//! one preset sequence from node 1 to node 2, and prints the report; `check` reads an envelope, and prints how many
+//! header blocks it has, its payload and the bindings in force there. It stands on rm_world and soap_envelope; the
+//! program, `rm_cli`, may use `run` and its contract.
+#![tactic(auto)]
+
+mod check;
+mod check_text;
+mod command;
+mod end;
+mod filter;
+mod program;
+mod replay;
+
+pub use command::run;
+pub use end::{End, Fault};
+pub use program::start;
