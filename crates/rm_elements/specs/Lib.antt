@@ -1,0 +1,9 @@
+pub mod Capped
+pub mod Deadline
+pub mod Duration
+pub mod Headers
+pub mod Lifecycle
+pub mod Outcome
+pub mod Steps
+pub mod Texts
+pub mod Writable

@@ -1,0 +1,38 @@
+//! Addresses and identifiers.
+ghost use Rattle.std.specs.Prelude.{◌≡◌};
+ghost use Rattle.soap_values.specs.Outcome.{Gives};
+ghost use Rattle.soap_values.specs.Steps.{flaw_from};
+ghost use Rattle.soap_values.specs.Values.{text_within};
+
+use crate::flaw::Flaw;
+use rm_base::{Ident, TextError, Uri};
+use std::alloc::Global;
+
+/// An identifier of a sequence.
+pub fn read_ident(alloc: Global, bytes: &[u8]) -> Result<Ident, Flaw>
+    ensures { Gives (λ ident. ident) result (text_within 512 bytes.now) }
+{
+    match Ident::from_slice(alloc, bytes) {
+        Ok(ident) => Ok(ident),
+        Err(error) => Err(flaw_of(error)),
+    }
+}
+
+/// An address, an action or a message's name.
+pub fn read_uri(alloc: Global, bytes: &[u8]) -> Result<Uri, Flaw>
+    ensures { Gives (λ uri. uri) result (text_within 2048 bytes.now) }
+{
+    match Uri::from_slice(alloc, bytes) {
+        Ok(uri) => Ok(uri),
+        Err(error) => Err(flaw_of(error)),
+    }
+}
+
+fn flaw_of(error: TextError) -> Flaw
+    ensures { result ≡ flaw_from error }
+{
+    match error {
+        TextError::Memory => Flaw::Memory,
+        _ => Flaw::Malformed,
+    }
+}

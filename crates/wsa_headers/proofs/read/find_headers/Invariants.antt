@@ -1,0 +1,11 @@
+use Rattle.std.proofs.Common.{◌≡◌, ◌++◌, drop, map}
+use Rattle.soap_profile.specs.View.{element_view}
+use Rattle.soap_values.specs.Steps.{lent_trees}
+use Rattle.wsa_headers.specs.Addressing.{blocks_named}
+use Rattle.wsa_headers.proofs.read.find_headers.Given as goal
+
+-- those so far, and those of what is left
+abbrev pub invariant-loop-block : goal.invariant-loop-block
+invariant-loop-block l =
+    lent_trees l.blocks.items ++ blocks_named l.local (map element_view (drop l.block-index l.headers))
+    ≡ blocks_named l.local (map element_view l.headers)

@@ -1,0 +1,5 @@
+pub mod Addressing
+pub mod Endpoint
+pub mod Room
+pub mod Steps
+pub mod Texts
