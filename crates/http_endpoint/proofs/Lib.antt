@@ -1,0 +1,8 @@
+pub mod PartLemmas
+pub mod RoomLemmas
+pub mod BodyLemmas
+pub mod ChunkFacts
+pub mod FieldFacts
+pub mod HeadFacts
+pub mod MessageFacts
+pub mod WriteFacts

@@ -1,0 +1,14 @@
+pub mod Ahead
+pub mod Failing
+pub mod Part
+pub mod Parts
+pub mod PartLaws
+pub mod Body
+pub mod Fields
+pub mod Heads
+pub mod HeadLaws
+pub mod Messages
+pub mod Targets
+pub mod Texts
+pub mod OneAnswer
+pub mod OneMessage

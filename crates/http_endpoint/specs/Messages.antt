@@ -1,0 +1,58 @@
+-- Whole messages, as the bytes of a connection.
+use Rattle.std.specs.Prelude.{◌≡◌, ◌≢◌, ℕ, List, [], codes, Result, Ok, Err, if◌then◌else◌}
+use Rattle.httparse.specs.Grammar.{MayBecomeRequest, MayBecomeResponse}
+use Rattle.http_endpoint.specs.declared.body.Framing.{Framing}
+use Rattle.http_endpoint.specs.declared.error.HttpError.{HttpError}
+use Rattle.http_endpoint.specs.declared.error.HttpError.TheVariants.{BadHead, CutShort}
+use Rattle.http_endpoint.specs.declared.heads.RequestFacts.{RequestFacts}
+use Rattle.http_endpoint.specs.declared.heads.ResponseFacts.{ResponseFacts}
+use Rattle.http_endpoint.specs.declared.response.Response.{Response}
+use Rattle.http_endpoint.specs.Part.{ReadsUpTo, IsBad, IsShort, Stage}
+use Rattle.http_endpoint.specs.Heads.{ReadsRequestFacts, ReadsResponseFacts, verdict, response_framing}
+use Rattle.http_endpoint.specs.Body.{IsBody}
+
+-- what tells a peer to send the body (RFC 9110, sections 10.1.1 and 15.2.1)
+abbrev pub continue_text : List ℕ
+continue_text = codes "HTTP/1.1 100 Continue\r\n\r\n"
+
+-- what is written for a request that isn't refused, before its body is read
+abbrev pub invitation : RequestFacts → List ℕ
+invitation facts = if facts.known.expect_continue then continue_text else []
+
+-- what comes of all the bytes that a connection has left, and what is written meanwhile
+pub data IsRequest (result : Result (List ℕ) HttpError) (said all : List ℕ) : Type 0 where
+  bad : IsBad 16384 ReadsRequestFacts all → result ≡ Err BadHead → said ≡ [] → IsRequest result said all
+  short : IsShort 16384 ReadsRequestFacts MayBecomeRequest all → result ≡ Err CutShort → said ≡ []
+      → IsRequest result said all
+  refused : (facts : RequestFacts) (rest : List ℕ) (e : HttpError) → ReadsUpTo 16384 ReadsRequestFacts all facts rest
+      → verdict facts ≡ Err e → result ≡ Err e → said ≡ [] → IsRequest result said all
+  accepted : (facts : RequestFacts) (rest : List ℕ) (framing : Framing)
+      → ReadsUpTo 16384 ReadsRequestFacts all facts rest
+      → verdict facts ≡ Ok framing → said ≡ invitation facts → IsBody framing rest result → IsRequest result said all
+
+-- a response of this status, with the body that was read
+abbrev pub with_status : ℕ → Result (List ℕ) HttpError → Result Response HttpError
+with_status status (Ok body) = Ok (record { status = status; body = body })
+with_status status (Err e) = Err e
+
+-- what comes of what stands behind the head of a response
+pub data IsFinal (result : Result Response HttpError) (facts : ResponseFacts) (rest : List ℕ) : Type 0 where
+  unframed : (e : HttpError) → response_framing facts ≡ Err e → result ≡ Err e → IsFinal result facts rest
+  framed : (framing : Framing) (body : Result (List ℕ) HttpError) → response_framing facts ≡ Ok framing
+      → IsBody framing rest body
+      → result ≡ with_status facts.status body → IsFinal result facts rest
+
+-- what comes of a head: of status 100 it is passed over, where it is sound, and the next head counts (RFC 9110,
+-- section 15.2)
+pub data IsAnswered (result : Result Response HttpError) (facts : ResponseFacts) (rest : List ℕ) : Type 0 where
+  passed : (framing : Framing) → facts.status ≡ 100 → response_framing facts ≡ Ok framing
+      → Stage 16384 ReadsResponseFacts MayBecomeResponse rest result (λ facts rest. IsFinal result facts rest)
+      → IsAnswered result facts rest
+  unsound : (e : HttpError) → facts.status ≡ 100 → response_framing facts ≡ Err e → result ≡ Err e
+      → IsAnswered result facts rest
+  final : facts.status ≢ 100 → IsFinal result facts rest → IsAnswered result facts rest
+
+-- what comes of all the bytes that a source has left
+abbrev pub IsResponse : Result Response HttpError → List ℕ → Type 0
+IsResponse result all =
+    Stage 16384 ReadsResponseFacts MayBecomeResponse all result (λ facts rest. IsAnswered result facts rest)

@@ -1,0 +1,61 @@
+-- The messages that are written (RFC 9112, sections 3 to 6).
+use Rattle.std.specs.Prelude.{◌≡◌, ℕ, ◌⊎◌, ◌==◌, List, [], ◌++◌, length, codes, decimal, if◌then◌else◌}
+use Rattle.http_endpoint.specs.declared.target.Target.{Target}
+
+-- the phrase of a status (RFC 9110, section 15)
+abbrev pub phrase_of : ℕ → List ℕ
+phrase_of status =
+    if status == 200 then codes "OK"
+    else (if status == 202 then codes "Accepted"
+    else (if status == 400 then codes "Bad Request"
+    else (if status == 405 then codes "Method Not Allowed"
+    else (if status == 415 then codes "Unsupported Media Type"
+    else (if status == 500 then codes "Internal Server Error"
+    else codes "Not Implemented")))))
+
+-- the statuses that are written
+abbrev pub IsWritten : ℕ → Type 0
+IsWritten status = (status ≡ 200) ⊎ ((status ≡ 202)
+    ⊎ ((status ≡ 400) ⊎ ((status ≡ 405) ⊎ ((status ≡ 415) ⊎ ((status ≡ 500) ⊎ (status ≡ 501))))))
+
+-- the line that names the media type
+abbrev pub type_line : List ℕ
+type_line = codes "Content-Type: application/soap+xml; charset=utf-8\r\n"
+
+-- the lines that end a head: the body's length, the end of the connection, and an empty line
+abbrev pub last_lines : ℕ → List ℕ
+last_lines len = codes "Content-Length: " ++ decimal len ++ codes "\r\nConnection: close\r\n\r\n"
+
+-- the methods that are allowed, where one was not (RFC 9110, section 15.5.6)
+abbrev pub allow_line : ℕ → List ℕ
+allow_line status = if status == 405 then codes "Allow: POST\r\n" else []
+
+-- the media type, where there is a body
+abbrev pub type_line_of : ℕ → List ℕ
+type_line_of len = if len == 0 then [] else type_line
+
+-- the head of a response
+abbrev pub response_head : ℕ → ℕ → List ℕ
+response_head status len =
+    codes "HTTP/1.1 " ++ decimal status ++ codes " " ++ phrase_of status ++ codes "\r\n" ++ allow_line status
+    ++ type_line_of len
+    ++ last_lines len
+
+-- a response
+abbrev pub response_text : ℕ → List ℕ → List ℕ
+response_text status body = response_head status (length body) ++ body
+
+-- a port, where it isn't that of http (RFC 9110, sections 4.2.1 and 7.2)
+abbrev pub port_text : ℕ → List ℕ
+port_text port = if port == 80 then [] else codes ":" ++ decimal port
+
+-- the head of a request
+abbrev pub request_head : Target → ℕ → List ℕ
+request_head target len =
+    codes "POST " ++ target.path ++ codes " HTTP/1.1\r\nHost: " ++ target.host ++ port_text target.port ++ codes
+    "\r\n" ++ type_line
+    ++ last_lines len
+
+-- a request
+abbrev pub request_text : Target → List ℕ → List ℕ
+request_text target body = request_head target (length body) ++ body

@@ -1,0 +1,205 @@
+//! Bodies of messages (RFC 9112, sections 6 and 7.1).
+ghost use Rattle.std.specs.Prelude.{◌≡◌, ◌≢◌, ℕ, ◌≤◌, ◌<◌, ◌+◌, ◌-◌, List, [], length, min, max, Some, Ok, Err, true, OnOk};
+ghost use Rattle.rm_base.specs.Count.{Rose};
+ghost use Rattle.http_endpoint.specs.Ahead.{ahead};
+ghost use Rattle.http_endpoint.specs.Part.{IfTold};
+ghost use Rattle.http_endpoint.specs.Body.{IsMove, IsChunk, IsChunked, IsCounted, IsBody, all_left, came_before};
+
+use crate::error::HttpError;
+use crate::input::Input;
+use crate::part::read_part;
+use crate::parts::{ChunkSize, LineBreak, Trailer};
+use rm_base::{Blob, Source};
+use std::alloc::Global;
+
+/// The greatest length of a body.
+pub const BODY_LIMIT: usize = 2097152;
+
+/// The greatest number of fields of a head, and of a trailer.
+pub const FIELD_LIMIT: usize = 64;
+
+/// How a body is told from what follows it (RFC 9112, section 6.3).
+#[derive(Clone, Copy, Debug, PartialEq, Eq)]
+pub enum Framing {
+    Empty,
+    Counted(u64),
+    Chunked,
+    ToEnd,
+}
+
+/// Moves so many bytes to a body. It takes no more of the source than those, nor than the limit and one byte.
+pub fn move_bytes<S: Source>(
+    from: &mut S,
+    input: &mut Input,
+    size: u64,
+    body: &mut Blob,
+) -> Result<(), HttpError>
+    requires { length body.old ≤ 2097152 }
+    ensures answer { (all : List ℕ) → ahead (S.left from.old) input.old ≡ Some all
+        → IsMove size all body.old result body.new (ahead (S.left from.new) input.new) }
+    ensures grown { OnOk result (length body.new ≡ length body.old + size) }
+    ensures within { OnOk result (length body.new ≤ 2097152) }
+    ensures stops { S.taken from.new + length input.old
+        ≤ S.taken from.old + max (length input.old) (min size (2097153 - length body.old)) }
+    ensures used { OnOk result (S.taken from.new + length input.old ≤ S.taken from.old + (length input.new + size)) }
+    ensures reads { result ≢ Err HttpError.WriteFault }
+    ensures failed { result ≡ Err HttpError.ReadFault → Rose (S.faults from.old) (S.faults from.new) }
+    ensures keeps { S.sent from.new ≡ S.sent from.old }
+    ensures never_falls { S.faults from.old ≤ S.faults from.new }
+    ensures sound { S.is_sound from.old ≡ true
+        → (S.is_sound from.new ≡ true) × (S.faults from.new ≡ S.faults from.old) }
+{
+    let mut left = size;
+    while left > 0 {
+        let room = left.min((BODY_LIMIT + 1 - body.len()) as u64) as usize;
+        if !input.has_more(from, room)? {
+            return Err(HttpError::CutShort);
+        }
+        let count = input.move_to(body, room)?;
+        if body.len() > BODY_LIMIT {
+            return Err(HttpError::TooLong {
+                taken: body.len() as u64,
+            });
+        }
+        left -= count as u64;
+    }
+    Ok(())
+}
+
+// Reads one chunk onto the body, or the last one and the trailer. Answers whether more may follow.
+fn read_chunk<S: Source>(
+    alloc: Global,
+    from: &mut S,
+    input: &mut Input,
+    body: &mut Blob,
+) -> Result<bool, HttpError>
+    requires { length body.old ≤ 2097152 }
+    ensures answer { (all : List ℕ) → ahead (S.left from.old) input.old ≡ Some all
+        → IsChunk all body.old result body.new (ahead (S.left from.new) input.new) }
+    ensures within { OnOk result (length body.new ≤ 2097152) }
+    ensures grown { result ≡ Ok true → length body.old < length body.new }
+    ensures reads { result ≢ Err HttpError.WriteFault }
+    ensures failed { result ≡ Err HttpError.ReadFault → Rose (S.faults from.old) (S.faults from.new) }
+    ensures keeps { S.sent from.new ≡ S.sent from.old }
+    ensures never_falls { S.faults from.old ≤ S.faults from.new }
+    ensures sound { S.is_sound from.old ≡ true
+        → (S.is_sound from.new ≡ true) × (S.faults from.new ≡ S.faults from.old) }
+{
+    let size = read_part::<S, ChunkSize>(alloc, from, input)?;
+    if size == 0 {
+        let count = read_part::<S, Trailer>(alloc, from, input)?;
+        if count > FIELD_LIMIT {
+            return Err(HttpError::BadHead);
+        }
+        return Ok(false);
+    }
+    move_bytes(from, input, size, body)?;
+    read_part::<S, LineBreak>(alloc, from, input)?;
+    Ok(true)
+}
+
+/// Reads chunks, and the trailer behind them.
+pub fn read_chunks<S: Source>(
+    alloc: Global,
+    from: &mut S,
+    input: &mut Input,
+) -> Result<Blob, HttpError>
+    ensures answer { (all : List ℕ) → ahead (S.left from.old) input.old ≡ Some all
+        → IfTold result (IsChunked result [] all) }
+    ensures reads { result ≢ Err HttpError.WriteFault }
+    ensures failed { result ≡ Err HttpError.ReadFault → Rose (S.faults from.old) (S.faults from.new) }
+    ensures keeps { S.sent from.new ≡ S.sent from.old }
+    ensures never_falls { S.faults from.old ≤ S.faults from.new }
+    ensures sound { S.is_sound from.old ≡ true
+        → (S.is_sound from.new ≡ true) × (S.faults from.new ≡ S.faults from.old) }
+{
+    let mut body = Blob::new(alloc);
+    while read_chunk(alloc, from, input, &mut body)? {}
+    Ok(body)
+}
+
+// What came of moving more than a body may have: where the bytes ended before, they are the body.
+fn came_before(error: HttpError, body: Blob) -> Result<Blob, HttpError>
+    ensures { result ≡ came_before error body }
+{
+    match error {
+        HttpError::CutShort => Ok(body),
+        HttpError::Memory => Err(HttpError::Memory),
+        HttpError::ReadFault => Err(HttpError::ReadFault),
+        HttpError::WriteFault => Err(HttpError::WriteFault),
+        HttpError::BadHead => Err(HttpError::BadHead),
+        HttpError::TooLong { taken } => Err(HttpError::TooLong { taken }),
+        HttpError::Unsupported { status } => Err(HttpError::Unsupported { status }),
+    }
+}
+
+/// Reads all bytes that are left.
+pub fn read_to_end<S: Source>(
+    alloc: Global,
+    from: &mut S,
+    input: &mut Input,
+) -> Result<Blob, HttpError>
+    ensures answer { (all : List ℕ) → ahead (S.left from.old) input.old ≡ Some all
+        → IfTold result (result ≡ all_left all) }
+    ensures stops { S.taken from.new + length input.old ≤ S.taken from.old + max (length input.old) 2097153 }
+    ensures reads { result ≢ Err HttpError.WriteFault }
+    ensures failed { result ≡ Err HttpError.ReadFault → Rose (S.faults from.old) (S.faults from.new) }
+    ensures keeps { S.sent from.new ≡ S.sent from.old }
+    ensures never_falls { S.faults from.old ≤ S.faults from.new }
+    ensures sound { S.is_sound from.old ≡ true
+        → (S.is_sound from.new ≡ true) × (S.faults from.new ≡ S.faults from.old) }
+{
+    let mut body = Blob::new(alloc);
+    match move_bytes(from, input, BODY_LIMIT as u64 + 1, &mut body) {
+        Ok(()) => unreachable!(),
+        Err(error) => came_before(error, body),
+    }
+}
+
+/// Reads so many bytes.
+fn read_counted<S: Source>(
+    alloc: Global,
+    from: &mut S,
+    input: &mut Input,
+    size: u64,
+) -> Result<Blob, HttpError>
+    ensures answer { (all : List ℕ) → ahead (S.left from.old) input.old ≡ Some all
+        → IfTold result (IsCounted size all result) }
+    ensures stops { S.taken from.new + length input.old ≤ S.taken from.old + max (length input.old) (min size 2097153) }
+    ensures reads { result ≢ Err HttpError.WriteFault }
+    ensures failed { result ≡ Err HttpError.ReadFault → Rose (S.faults from.old) (S.faults from.new) }
+    ensures keeps { S.sent from.new ≡ S.sent from.old }
+    ensures never_falls { S.faults from.old ≤ S.faults from.new }
+    ensures sound { S.is_sound from.old ≡ true
+        → (S.is_sound from.new ≡ true) × (S.faults from.new ≡ S.faults from.old) }
+{
+    let mut body = Blob::new(alloc);
+    move_bytes(from, input, size, &mut body)?;
+    Ok(body)
+}
+
+/// Reads a body that is told in this way.
+pub fn read_body<S: Source>(
+    alloc: Global,
+    from: &mut S,
+    input: &mut Input,
+    framing: Framing,
+) -> Result<Blob, HttpError>
+    ensures answer { (all : List ℕ) → ahead (S.left from.old) input.old ≡ Some all
+        → IfTold result (IsBody framing all result) }
+    ensures stops { framing ≢ Framing.Chunked
+        → S.taken from.new + length input.old ≤ S.taken from.old + max (length input.old) 2097153 }
+    ensures reads { result ≢ Err HttpError.WriteFault }
+    ensures failed { result ≡ Err HttpError.ReadFault → Rose (S.faults from.old) (S.faults from.new) }
+    ensures keeps { S.sent from.new ≡ S.sent from.old }
+    ensures never_falls { S.faults from.old ≤ S.faults from.new }
+    ensures sound { S.is_sound from.old ≡ true
+        → (S.is_sound from.new ≡ true) × (S.faults from.new ≡ S.faults from.old) }
+{
+    match framing {
+        Framing::Empty => Ok(Blob::new(alloc)),
+        Framing::Counted(size) => read_counted(alloc, from, input, size),
+        Framing::Chunked => read_chunks(alloc, from, input),
+        Framing::ToEnd => read_to_end(alloc, from, input),
+    }
+}

@@ -1,0 +1,94 @@
+//! Parts of a message, and one reader for all of them.
+ghost use Rattle.std.specs.Prelude.{◌≡◌, ◌≢◌, ℕ, ◌≤◌, ◌+◌, List, ◌++◌, length, max, Some, IfOk, OnOk, Err, true};
+ghost use Rattle.rm_base.specs.Count.{Rose};
+ghost use Rattle.http_endpoint.specs.Ahead.{ahead};
+ghost use Rattle.http_endpoint.specs.Part.{IsParse, IsAnswer};
+
+use crate::error::HttpError;
+use crate::input::Input;
+use rm_base::{Memory, Source};
+use std::alloc::Global;
+
+/// The greatest length of a head, of a chunk's line, and of a trailer.
+pub const PART_LIMIT: usize = 16384;
+
+/// What a parser finds at the front of bytes: a text of so many, the beginning of one, or bytes that never become one.
+#[derive(Clone, Copy, Debug, PartialEq, Eq)]
+pub enum Parsed<T> {
+    Found(usize, T),
+    Unfinished,
+    Refused,
+}
+
+/// A part of a message, as a parser reads it at the front of bytes.
+pub trait Part {
+    /// What is kept of the part.
+    type Out;
+
+    /// Its grammar: the bytes, what is kept, and the rest.
+    ghost reads: { List ℕ → Self.Out → List ℕ → Type 0 };
+
+    /// The part has begun, and more bytes may end it.
+    ghost begun: { List ℕ → Type 0 };
+
+    /// Parses the first bytes.
+    fn parse(alloc: Global, bytes: &[u8]) -> Result<Parsed<Self::Out>, Memory>
+        ensures { IfOk result (IsParse reads begun bytes.now) };
+
+    /// Whether the part may end among the bytes from `from`, so that it is worth to parse them.
+    fn may_end(bytes: &[u8], from: usize) -> bool;
+
+    ghost grows: { (bytes : List ℕ) (a : Self.Out) (rest more : List ℕ) → reads bytes a rest
+        → reads (bytes ++ more) a (rest ++ more) };
+}
+
+/// Reads one part. Of the source no more bytes are taken than the limit and one, with those that were held.
+pub fn read_part<S: Source, P: Part>(
+    alloc: Global,
+    from: &mut S,
+    input: &mut Input,
+) -> Result<P::Out, HttpError>
+    ensures answer { (all : List ℕ) → ahead (S.left from.old) input.old ≡ Some all
+        → IsAnswer 16384 P.reads P.begun all result (ahead (S.left from.new) input.new) }
+    ensures stops { S.taken from.new + length input.old ≤ S.taken from.old + max (length input.old) 16385 }
+    ensures used { OnOk result (S.taken from.new + length input.old ≤ S.taken from.old + (length input.new + 16384)) }
+    ensures reads { result ≢ Err HttpError.WriteFault }
+    ensures failed { result ≡ Err HttpError.ReadFault → Rose (S.faults from.old) (S.faults from.new) }
+    ensures keeps { S.sent from.new ≡ S.sent from.old }
+    ensures never_falls { S.faults from.old ≤ S.faults from.new }
+    ensures sound { S.is_sound from.old ≡ true
+        → (S.is_sound from.new ≡ true) × (S.faults from.new ≡ S.faults from.old) }
+{
+    let mut tried = 0;
+    while input.as_slice().len() <= PART_LIMIT {
+        if P::may_end(input.as_slice(), tried) {
+            match P::parse(alloc, input.as_slice())? {
+                Parsed::Found(len, out) => {
+                    input.skip(len);
+                    return Ok(out);
+                }
+                Parsed::Unfinished => {}
+                Parsed::Refused => return Err(HttpError::BadHead),
+            }
+        }
+        tried = input.as_slice().len();
+        if !input.fill(from, PART_LIMIT + 1 - tried)? {
+            return match P::parse(alloc, input.as_slice())? {
+                Parsed::Found(len, out) => {
+                    input.skip(len);
+                    Ok(out)
+                }
+                Parsed::Unfinished => Err(HttpError::CutShort),
+                Parsed::Refused => Err(HttpError::BadHead),
+            };
+        }
+    }
+    match P::parse(alloc, input.as_slice().split_at(PART_LIMIT).0)? {
+        Parsed::Found(len, out) => {
+            input.skip(len);
+            Ok(out)
+        }
+        Parsed::Unfinished => Err(HttpError::BadHead),
+        Parsed::Refused => Err(HttpError::BadHead),
+    }
+}

@@ -1,0 +1,55 @@
+//! Requests, read from a connection (RFC 9112).
+ghost use Rattle.std.specs.Prelude.{◌≡◌, ◌≤◌, ℕ, ◌⊎◌, if◌then◌else◌, List, Some, Ok, Err, IfErr, OnOk, true, []};
+ghost use Rattle.std.specs.Io.KnownBytes.{Appends};
+ghost use Rattle.rm_base.specs.Count.{Rose};
+ghost use Rattle.rm_base.specs.Outside.{AppendsFront};
+ghost use Rattle.http_endpoint.specs.Part.{IfTold};
+ghost use Rattle.http_endpoint.specs.Messages.{continue_text, IsRequest};
+
+use crate::body::read_body;
+use crate::error::HttpError;
+use crate::heads::{HeadOfRequest, verdict};
+use crate::input::Input;
+use crate::part::read_part;
+use rm_base::{Blob, Connection, write_all};
+use std::alloc::Global;
+
+// Tells the peer to send the body, where it waits for that.
+fn invite<C: Connection>(conn: &mut C, expects: bool) -> Result<(), HttpError>
+    ensures said { OnOk result (Appends (C.held conn.old) (C.held conn.new) (if expects then continue_text else [])) }
+    ensures front { AppendsFront (C.held conn.old) (C.held conn.new) continue_text }
+    ensures keeps { C.Source.left conn.new ≡ C.Source.left conn.old }
+    ensures write_fault { result ≡ Err HttpError.WriteFault
+        → Rose (C.Source.faults conn.old) (C.Source.faults conn.new) }
+    ensures kinds { IfErr result (λ e. (e ≡ HttpError.WriteFault) ⊎ (e ≡ HttpError.Memory)) }
+    ensures never_falls { C.Source.faults conn.old ≤ C.Source.faults conn.new }
+    ensures sound { C.Source.is_sound conn.old ≡ true
+        → (C.Source.is_sound conn.new ≡ true) × (C.Source.faults conn.new ≡ C.Source.faults conn.old) }
+{
+    if expects {
+        write_all(conn, b"HTTP/1.1 100 Continue\r\n\r\n")?;
+    }
+    Ok(())
+}
+
+/// Reads one request, and gives its body. A peer that waits to be told so is told to send it. Of an error other than
+/// want of memory or a fault it is exact which one comes, by the bytes that the connection has left, however they
+/// arrive. RFC 9112, sections 2 to 7; RFC 9110, section 10.1.1.
+pub fn read_request<C: Connection>(alloc: Global, conn: &mut C) -> Result<Blob, HttpError>
+    ensures answer { (all : List ℕ) → C.Source.left conn.old ≡ Some all
+        → IfTold result ((said : List ℕ) × Appends (C.held conn.old) (C.held conn.new) said
+        × IsRequest result said all) }
+    ensures front { AppendsFront (C.held conn.old) (C.held conn.new) continue_text }
+    ensures read_fault { result ≡ Err HttpError.ReadFault → Rose (C.Source.faults conn.old) (C.Source.faults conn.new) }
+    ensures write_fault { result ≡ Err HttpError.WriteFault
+        → Rose (C.Source.faults conn.old) (C.Source.faults conn.new) }
+    ensures never_falls { C.Source.faults conn.old ≤ C.Source.faults conn.new }
+    ensures sound { C.Source.is_sound conn.old ≡ true
+        → (C.Source.is_sound conn.new ≡ true) × (C.Source.faults conn.new ≡ C.Source.faults conn.old) }
+{
+    let mut input = Input::new(alloc);
+    let facts = read_part::<C, HeadOfRequest>(alloc, conn, &mut input)?;
+    let framing = verdict(facts)?;
+    invite(conn, facts.known.expect_continue)?;
+    read_body(alloc, conn, &mut input, framing)
+}
