@@ -1,0 +1,370 @@
+-- What each call of a node comes to may be added, fits the store, and what is said then is so.
+use Rattle.std.proofs.Common.{◌≡◌, ℕ, ◌+◌, ◌==◌, ◌&&◌, not, nat_lt, nat_le, cond, Bool, true, false, List, [], ◌∷◌, ◌++◌, length, refl, sym, ap, ◌∙◌, subst, append-nil}
+use Rattle.std.specs.Prelude.{Option, Some, None, IfSome}
+use Rattle.std.specs.List.{AllByRecursion, flat_map}
+use Rattle.rm_base.specs.declared.message.Behaviour.{Behaviour}
+use Rattle.rm_base.specs.declared.message.Cause.TheVariants.{Operator, Expired}
+use Rattle.rm_elements.specs.declared.lapse.Lapse.{Lapse}
+use Rattle.rm_elements.specs.declared.lifecycle.Lifecycle.TheVariants as life
+use Rattle.rm_source.specs.declared.phase.OutPhase.{OutPhase}
+use Rattle.rm_wire.specs.declared.message.Body.TheVariants as body
+use Rattle.rm_wire.specs.declared.message.Message.{Message}
+use Rattle.record_batch.specs.declared.record.OwnOffer.{OwnOffer}
+use Rattle.record_batch.specs.declared.record.PeerOffer.{PeerOffer}
+use Rattle.record_batch.specs.declared.record.Via.{Via}
+use Rattle.record_batch.specs.Fact.{Fact, Creating, Granted, Accepted, Closing, ClosedOut, Closed, Ending, EndedOut, Ended, Failed}
+use Rattle.sequence_table.specs.Words.{Text, is_empty, at_seq, last_or}
+use Rattle.sequence_table.specs.Idents.{issue}
+use Rattle.sequence_table.specs.Makers.{Maker, Outgoing, Offered, Incoming, Taken, makers, makers_of, maker, counter, number, address}
+use Rattle.sequence_table.specs.Sources.{accepted, mark_of, marks, out_ident, phase}
+use Rattle.sequence_table.specs.Destinations.{has_end, is_over}
+use Rattle.sequence_table.specs.Find.{acks_to}
+use Rattle.rm_protocol.specs.Sound.{SaysCreate, Says, IsWith, Owns, Allows, Keeps, AreWith}
+use Rattle.std.specs.Prelude.{Result, Ok, Err}
+use Rattle.std.specs.Option.{option_to_list}
+use Rattle.rm_wire.specs.declared.refusal.FaultKind.{FaultKind}
+use Rattle.rm_wire.specs.declared.refusal.Refusal.{Refusal}
+use Rattle.sequence_table.specs.Sources.{first_phase, all_unacked, unacked}
+use Rattle.sequence_table.specs.Destinations.{is_past, deadline_of}
+use Rattle.rm_protocol.specs.Calls.{Answer, Cause, NoSequence, WrongSide, NotOpen, PayloadTooLong, BadPayload, WindowFull, NodeFull, Rollover, StoreFull, TooManySequences, refusal, adds, if_room, Wish, offer_of, wanted, create, is_open, send_out, on_outgoing, send, close_out, close_in, close_by, close, may_end, end_out, end, expired_from, tick, judged, receive, refusal_of, fault_block}
+use Rattle.rm_protocol.specs.Heard.{Heard}
+use Rattle.rm_protocol.specs.Messages.{data_at, request_at}
+use Rattle.rm_protocol.specs.Rows.{rows}
+use Rattle.rm_protocol.specs.Terms.{Terms, AreTerms}
+use Rattle.rm_protocol.specs.Verdict.{first_held, tests, verdict, has_room}
+use Rattle.rm_protocol.proofs.ListLemmas.{All-append}
+use Rattle.rm_protocol.proofs.Kept.{Keeps-adds, kept-counter}
+use Rattle.rm_protocol.proofs.HeardLemmas.{rows-heard}
+use Rattle.rm_protocol.proofs.RowLemmas.{rows-right}
+use Rattle.rm_protocol.proofs.SaidLemmas.{said-says, data_at-says, request_at-says, final_ack-says, refusal-says, verdict-says}
+
+-- an answer that was read from the records r, of a node that ever had a, beside one that has b
+pub record IsAllowed (a b : List Fact) (answer : Answer) : Type 0 where
+  pub allows : Allows a b answer.delta
+  pub with_ : AreWith b answer.delta
+  pub says : AllByRecursion (Says (a ++ answer.delta)) answer.outs
+
+-- and it fits the store
+pub record IsRight (terms : Terms) (place : ℕ) (a b : List Fact) (answer : Answer) : Type 0 where
+  pub allowed : IsAllowed a b answer
+  pub room : has_room terms place answer.delta ≡ true
+
+refusal-right : (terms : Terms) (place : ℕ) (a b : List Fact) (cause : Cause) → IsRight terms place a b (refusal cause)
+refusal-right terms place a b cause = record { allowed = record { allows = tt; with_ = tt; says = tt }; room = refl }
+
+if_room-right : (terms : Terms) (place : ℕ) (a b : List Fact) (answer : Answer) → IsAllowed a b answer
+    → IsRight terms place a b (if_room terms place answer)
+if_room-right terms place a b answer h = chosen (has_room terms place answer.delta) refl
+  where
+    chosen : (x : Bool) → has_room terms place answer.delta ≡ x
+        → IsRight terms place a b (cond x answer (refusal (StoreFull place (terms.size answer.delta + 6))))
+    chosen true e = record { allowed = h; room = e }
+    chosen false e = refusal-right terms place a b (StoreFull place (terms.size answer.delta + 6))
+
+refused-or : (terms : Terms) (place : ℕ) (a b : List Fact) (x : Bool) (cause : Cause) (answer : Answer)
+    → IsRight terms place a b answer
+    → IsRight terms place a b (cond x (refusal cause) answer)
+refused-or terms place a b true cause answer h = refusal-right terms place a b cause
+refused-or terms place a b false cause answer h = h
+
+-- create
+offer_of-fresh : (r a : List Fact) (offer : Option Behaviour) → counter r ≡ counter a
+    → IfSome (offer_of (counter r) offer) (λ (own : OwnOffer). own.counter ≡ counter a + 2)
+offer_of-fresh r a None e = tt
+offer_of-fresh r a (Some y) e = ap (λ z. z + 2) e
+
+made-with : (b : List Fact) (ticket : ℕ) (to : Text) (via : Via) (lapse : Lapse) (offer : Option OwnOffer)
+    → to ≡ address b
+    → AreWith b (Creating ticket to via lapse offer ∷ [])
+made-with b ticket to via lapse None e = (e, tt)
+made-with b ticket to via lapse (Some own) e = (e, (e, tt))
+
+pub create-right : (terms : Terms) (place : ℕ) (r a b : List Fact) (wish : Wish) → Keeps r a → wish.to ≡ address b
+    → IsRight terms place a b (create terms r place wish)
+create-right terms place r a b wish w e =
+    let rec = Creating (counter r + 1) wish.to wish.via wish.expires (offer_of (counter r) wish.offer) in
+    let same : counter r ≡ counter a = kept-counter r a w in
+    refused-or terms place a b (nat_lt 256 (length (makers r) + wanted wish.offer))
+    (TooManySequences (length (makers r))) _
+    (if_room-right terms place a b _ (record {
+      allows = ((ap (λ z. z + 1) same, offer_of-fresh r a wish.offer same), tt, tt);
+      with_ = made-with b (counter r + 1) wish.to wish.via wish.expires (offer_of (counter r) wish.offer) e;
+      says = request_at-says (r ++ rec ∷ []) (a ++ rec ∷ []) (length (makers r) + 1) (Keeps-adds r a (rec ∷ []) w);
+    }))
+
+-- no phase record makes a sequence open again
+IsMark : ℕ × OutPhase → Type 0
+IsMark m = is_open m.1 ≡ false
+
+mark_of-marks : (rec : Fact) → AllByRecursion IsMark (mark_of rec)
+unfolding IsMark
+mark_of-marks (Closing s t) = (refl, tt)
+mark_of-marks (ClosedOut s) = (refl, tt)
+mark_of-marks (Ending s t) = (refl, tt)
+mark_of-marks (EndedOut s) = (refl, tt)
+mark_of-marks (Failed s f) = (refl, tt)
+mark_of-marks _ = tt
+
+all-marks : (r : List Fact) → AllByRecursion IsMark (flat_map mark_of r)
+all-marks [] = tt
+all-marks (rec ∷ r) = All-append IsMark (mark_of rec) (flat_map mark_of r) (mark_of-marks rec) (all-marks r)
+
+marks-at : (s : ℕ) (ms : List (ℕ × OutPhase)) → AllByRecursion IsMark ms
+    → AllByRecursion (λ (p : OutPhase). is_open p ≡ false) (at_seq s ms)
+unfolding IsMark
+marks-at s [] h = tt
+marks-at s (m ∷ ms) h = chosen (m.0 == s) (marks-at s ms h.1)
+  where
+    chosen : (b : Bool) → AllByRecursion (λ (p : OutPhase). is_open p ≡ false) (at_seq s ms)
+        → AllByRecursion (λ (p : OutPhase). is_open p ≡ false) (cond b (m.1 ∷ at_seq s ms) (at_seq s ms))
+    chosen true k = (h.0, k)
+    chosen false k = k
+
+last-mark : (p : OutPhase) (ms : List OutPhase) → is_open p ≡ false
+    → AllByRecursion (λ (p : OutPhase). is_open p ≡ false) ms → is_open (last_or p ms) ≡ false
+last-mark p [] e h = e
+last-mark p (m ∷ ms) e h = last-mark m ms h.0 h.1
+
+unmarked : (p : OutPhase) (ms : List OutPhase) → AllByRecursion (λ (p : OutPhase). is_open p ≡ false) ms
+    → is_open (last_or p ms) ≡ true → is_empty ms ≡ true
+unmarked p [] h e = refl
+unmarked p (m ∷ ms) h e = absurd (cc (last-mark m ms h.0 h.1))
+
+open-unmarked : (r : List Fact) (s : ℕ) → is_open (phase r s) ≡ true → is_empty (marks r s) ≡ true
+open-unmarked r s e = unmarked (first_phase (out_ident r s)) (marks r s)
+    (marks-at s (flat_map mark_of r) (all-marks r)) e
+
+-- send
+send_out-right : (terms : Terms) (place : ℕ) (r a b : List Fact) (s : ℕ) (text : Text) → Keeps r a
+    → IsRight terms place a b (send_out terms r place s text)
+send_out-right terms place r a b s text w =
+    refused-or terms place a b (nat_lt 1048576 (length text)) (PayloadTooLong (length text)) _
+    (refused-or terms place a b (not (terms.is_content text)) BadPayload _
+    (by_phase (is_open (phase r s)) refl))
+  where
+    by_phase : (x : Bool) → is_open (phase r s) ≡ x → IsRight terms place a b (cond (not x) (refusal NotOpen)
+        (cond (nat_le 1024 (unacked r s)) (refusal (WindowFull (unacked r s)))
+        (cond (nat_le 4096 (all_unacked r)) (refusal (NodeFull (all_unacked r)))
+        (cond (nat_le 9223372036854775807 (length (accepted r s))) (refusal Rollover)
+        (if_room terms place (adds r (Accepted s text ∷ [])
+        (λ now. option_to_list (data_at now s (length (accepted r s) + 1)))))))))
+    by_phase false e = refusal-right terms place a b NotOpen
+    by_phase true e =
+        refused-or terms place a b (nat_le 1024 (unacked r s)) (WindowFull (unacked r s)) _
+        (refused-or terms place a b (nat_le 4096 (all_unacked r)) (NodeFull (all_unacked r)) _
+        (refused-or terms place a b (nat_le 9223372036854775807 (length (accepted r s))) Rollover _
+        (if_room-right terms place a b _ (record {
+          allows = (ap (λ z. is_empty (at_seq s z)) (sym w.marks_) ∙ open-unmarked r s e, tt, tt);
+          with_ = tt;
+          says = data_at-says (r ++ Accepted s text ∷ []) (a ++ Accepted s text ∷ []) s (length (accepted r s) + 1)
+              (Keeps-adds r a (Accepted s text ∷ []) w);
+        }))))
+
+on_outgoing-right : (terms : Terms) (place : ℕ) (a b : List Fact) (x : Option Maker) (answer : Answer)
+    → IsRight terms place a b answer
+    → IsRight terms place a b (on_outgoing x answer)
+on_outgoing-right terms place a b None answer h = refusal-right terms place a b NoSequence
+on_outgoing-right terms place a b (Some (Outgoing t to v l)) answer h = h
+on_outgoing-right terms place a b (Some (Taken t q k)) answer h = h
+on_outgoing-right terms place a b (Some (Offered t c to y)) answer h = refusal-right terms place a b WrongSide
+on_outgoing-right terms place a b (Some (Incoming c t k y d l)) answer h = refusal-right terms place a b WrongSide
+
+pub send-right : (terms : Terms) (place : ℕ) (r a b : List Fact) (s : ℕ) (text : Text) → Keeps r a
+    → IsRight terms place a b (send terms r place s text)
+send-right terms place r a b s text w = on_outgoing-right terms place a b (maker r s) (send_out terms r place s text)
+    (send_out-right terms place r a b s text w)
+
+-- close and end
+close_out-right : (terms : Terms) (place : ℕ) (r a b : List Fact) (s : ℕ) → Keeps r a
+    → IsRight terms place a b (close_out terms r place s)
+close_out-right terms place r a b s w = chosen (is_open (phase r s))
+  where
+    rec : Fact
+    rec = Closing s (counter r + 1)
+
+    right : IsRight terms place a b (if_room terms place
+        (adds r (Closing s (counter r + 1) ∷ []) (λ now. option_to_list (request_at now s))))
+    right = if_room-right terms place a b _ (record {
+      allows = (tt, tt, tt);
+      with_ = tt;
+      says = request_at-says (r ++ Closing s (counter r + 1) ∷ []) (a ++ Closing s (counter r + 1) ∷ []) s
+          (Keeps-adds r a (Closing s (counter r + 1) ∷ []) w);
+    })
+
+    chosen : (x : Bool) → IsRight terms place a b
+        (cond x (if_room terms place (adds r (Closing s (counter r + 1) ∷ [])
+        (λ now. option_to_list (request_at now s)))) (refusal NotOpen))
+    chosen true = right
+    chosen false = refusal-right terms place a b NotOpen
+
+close_in-right : (terms : Terms) (place : ℕ) (r a b : List Fact) (s now : ℕ) → Keeps r a
+    → IsRight terms place a b (close_in terms r place s now)
+close_in-right terms place r a b s now w =
+    refused-or terms place a b (is_over r s now) NotOpen _ (if_room-right terms place a b _ (record {
+      allows = (tt, tt, tt);
+      with_ = tt;
+      says = final_ack-says (r ++ Closed s Operator 0 ∷ []) (a ++ Closed s Operator 0 ∷ []) s now
+          (Keeps-adds r a (Closed s Operator 0 ∷ []) w);
+    }))
+
+pub close-right : (terms : Terms) (place : ℕ) (r a b : List Fact) (s now : ℕ) → Keeps r a
+    → IsRight terms place a b (close terms r place s now)
+close-right terms place r a b s now w = by_maker (maker r s)
+  where
+    by_maker : (x : Option Maker) → IsRight terms place a b (close_by terms r place s now x)
+    by_maker None = refusal-right terms place a b NoSequence
+    by_maker (Some (Outgoing t to v l)) = close_out-right terms place r a b s w
+    by_maker (Some (Taken t q k)) = close_out-right terms place r a b s w
+    by_maker (Some (Offered t c to y)) = close_in-right terms place r a b s now w
+    by_maker (Some (Incoming c t k y d l)) = close_in-right terms place r a b s now w
+
+end_out-right : (terms : Terms) (place : ℕ) (r a b : List Fact) (s : ℕ) → Keeps r a
+    → IsRight terms place a b (end_out terms r place s)
+end_out-right terms place r a b s w = chosen (may_end (phase r s))
+  where
+    chosen : (x : Bool) → IsRight terms place a b
+        (cond x (if_room terms place (adds r (Ending s (counter r + 1) ∷ [])
+        (λ now. option_to_list (request_at now s)))) (refusal NotOpen))
+    chosen true = if_room-right terms place a b _ (record {
+      allows = (tt, tt, tt);
+      with_ = tt;
+      says = request_at-says (r ++ Ending s (counter r + 1) ∷ []) (a ++ Ending s (counter r + 1) ∷ []) s
+          (Keeps-adds r a (Ending s (counter r + 1) ∷ []) w);
+    })
+    chosen false = refusal-right terms place a b NotOpen
+
+pub end-right : (terms : Terms) (place : ℕ) (r a b : List Fact) (s : ℕ) → Keeps r a
+    → IsRight terms place a b (end terms r place s)
+end-right terms place r a b s w = on_outgoing-right terms place a b (maker r s) (end_out terms r place s)
+    (end_out-right terms place r a b s w)
+
+-- tick
+expired-allowed : (r a b : List Fact) (now k : ℕ) (ms : List Maker) → Allows a b (expired_from r now k ms)
+expired-allowed r a b now k [] = tt
+expired-allowed r a b now k (m ∷ ms) =
+    chosen (is_past (deadline_of (Some m)) now && not (has_end r (k + 1))) (λ z. expired-allowed r z b now (k + 1) ms)
+  where
+    chosen : (x : Bool) → ((z : List Fact) → Allows z b (expired_from r now (k + 1) ms))
+        → Allows a b (cond x (Ended (k + 1) Expired 0 ∷ expired_from r now (k + 1) ms) (expired_from r now (k + 1) ms))
+    chosen true h = (tt, tt, h (a ++ Ended (k + 1) Expired 0 ∷ []))
+    chosen false h = h a
+
+expired-with : (r b : List Fact) (now k : ℕ) (ms : List Maker) → AreWith b (expired_from r now k ms)
+expired-with r b now k [] = tt
+expired-with r b now k (m ∷ ms) = chosen (is_past (deadline_of (Some m)) now && not (has_end r (k + 1)))
+    (expired-with r b now (k + 1) ms)
+  where
+    chosen : (x : Bool) → AreWith b (expired_from r now (k + 1) ms)
+        → AreWith b (cond x (Ended (k + 1) Expired 0 ∷ expired_from r now (k + 1) ms) (expired_from r now (k + 1) ms))
+    chosen true h = h
+    chosen false h = h
+
+pub tick-right : (terms : Terms) (place : ℕ) (r a b : List Fact) (now : ℕ)
+    → IsRight terms place a b (tick terms r place now)
+tick-right terms place r a b now = chosen (has_room terms place (expired_from r now 0 (makers r))) refl
+  where
+    chosen : (x : Bool) → has_room terms place (expired_from r now 0 (makers r)) ≡ x
+        → IsRight terms place a b (cond x (adds r (expired_from r now 0 (makers r)) (λ after. []))
+        (adds r [] (λ after. [])))
+    chosen true e = record {
+      allowed = record {
+        allows = expired-allowed r a b now 0 (makers r);
+        with_ =
+            expired-with r b now 0 (makers r);
+        says = tt;
+      };
+      room = e;
+    }
+    chosen false e = record { allowed = record { allows = tt; with_ = tt; says = tt }; room = refl }
+
+-- receive: the sequences that a message makes are between the node and the one that says it
+heard_one-with : (b : List Fact) (m : Message) → Says b m → (rec : Fact) → Heard m rec
+    → AllByRecursion (IsWith b) (makers_of rec)
+heard_one-with b m h (Granted c t acks_to y deadline lapse offer) e = by_offer offer
+  where
+    says : SaysCreate b (Some t) (body.Lifecycle (life.Create e.1.0))
+    says = subst (λ z. SaysCreate b z (body.Lifecycle (life.Create e.1.0))) e.0
+        (subst (SaysCreate b m.addressing.message_id) e.1.1 h.create)
+
+    is : (k : ℕ) × (t ≡ issue (number b) k)
+    is = (says.0.asked.ticket, says.0.asked.is)
+
+    by_offer : (offer : Option PeerOffer)
+        → AllByRecursion (IsWith b) (makers_of (Granted c t acks_to y deadline lapse offer))
+    by_offer None = (is, tt)
+    by_offer (Some q) = (is, (is, tt))
+heard_one-with b m h (Creating ticket to via lapse offer) e = absurd e
+heard_one-with b m h _ e = tt
+
+heard-with : (b : List Fact) (m : Message) → Says b m → (d : List Fact) → AllByRecursion (Heard m) d → AreWith b d
+heard-with b m h [] e = tt
+heard-with b m h (rec ∷ d) e = All-append (IsWith b) (makers_of rec) (makers d) (heard_one-with b m h rec e.0)
+    (heard-with b m h d e.1)
+
+-- a message without a verdict fits the store
+pub none-held : (xs : List (Bool × FaultKind)) → first_held xs ≡ None
+    → AllByRecursion (λ (x : Bool × FaultKind). x.0 ≡ false) xs
+none-held [] e = tt
+none-held (x ∷ xs) e =
+    elim x.0 as (λ b. x.0 ≡ b → cond b (Some x.1) (first_held xs) ≡ None → (x.0 ≡ false)
+    × AllByRecursion (λ (x : Bool × FaultKind). x.0 ≡ false) xs) [
+      | true ↦ λ d h. absurd (cc)
+      | false ↦ λ d h. (d, none-held xs h)
+    ] refl e
+
+pub not-false : (x : Bool) → not x ≡ false → x ≡ true
+not-false true e = refl
+not-false false e = absurd (cc)
+
+verdict-room : (terms : Terms) (r : List Fact) (place now : ℕ) (y : Behaviour) (m : Message)
+    → verdict terms r place now y m ≡ None
+    → has_room terms place (rows terms now y m r) ≡ true
+verdict-room terms r place now y m e =
+    let none = none-held (tests terms r place now y m) e in
+    not-false (has_room terms place (rows terms now y m r)) none.1.1.1.1.1.1.1.1.0
+
+judged-right : (n : ℕ) (terms : Terms) (place : ℕ) (r a b : List Fact) (now : ℕ) (y : Behaviour) (m : Message)
+    (v : Option FaultKind) → AreTerms terms
+    → Keeps r a → Owns n a → Says b m → verdict terms r place now y m ≡ v
+    → IsRight terms place a b (judged terms r now y m v)
+judged-right n terms place r a b now y m (Some kind) t w o h e = record {
+  allowed = record {
+    allows = tt;
+    with_ = tt;
+    says = (
+      subst (λ z. Says z (terms.fault (refusal_of m kind) (fault_block r now m kind))) (sym (append-nil a))
+          (verdict-says terms r a now m kind t w),
+      tt,
+    );
+  };
+  room = refl;
+}
+judged-right n terms place r a b now y m None t w o h e = record {
+  allowed = record {
+    allows = rows-right b terms now y m h n r a w o;
+    with_ = heard-with b m h (rows terms now y m r) (rows-heard terms now y m r);
+    says = said-says (r ++ rows terms now y m r) (a ++ rows terms now y m r) now m
+        (Keeps-adds r a (rows terms now y m r) w);
+  };
+  room = verdict-room terms r place now y m e;
+}
+
+-- what came from the other node
+abbrev pub SaysContent : List Fact → Result Message Refusal → Type 0
+SaysContent b (Ok m) = Says b m
+SaysContent b (Err refusal) = Unit {0}
+
+pub receive-right : (n : ℕ) (terms : Terms) (place : ℕ) (r a b : List Fact) (now : ℕ) (y : Behaviour)
+    (content : Result Message Refusal) → AreTerms terms
+    → Keeps r a → Owns n a → SaysContent b content → IsRight terms place a b (receive terms r place now y content)
+receive-right n terms place r a b now y (Ok m) t w o h =
+    judged-right n terms place r a b now y m (verdict terms r place now y m) t w o h refl
+receive-right n terms place r a b now y (Err refusal) t w o h = record {
+  allowed = record {
+    allows = tt;
+    with_ = tt;
+    says =
+        (subst (λ z. Says z (terms.fault refusal None)) (sym (append-nil a)) (refusal-says terms a refusal t), tt);
+  };
+  room = refl;
+}

@@ -1,0 +1,16 @@
+mod ListLemmas
+mod Growth
+mod Adds
+mod Kept
+mod RangeLemmas
+mod RowLemmas
+mod SaidLemmas
+mod HeardLemmas
+mod CallLemmas
+mod FitLemmas
+mod FitCalls
+mod HeadlineLemmas
+mod RunLemmas
+mod ImageLemmas
+mod NewLemmas
+mod SentLemmas

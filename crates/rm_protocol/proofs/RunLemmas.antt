@@ -1,0 +1,477 @@
+-- Each line of a script keeps the world sound.
+use Rattle.std.proofs.Common.{◌≡◌, ℕ, ◌+◌, ◌≤◌, cond, Bool, true, false, List, [], ◌∷◌, ◌++◌, length, refl, sym, ap, ◌∙◌, arith, subst, append-nil, length-append}
+use Rattle.std.specs.Prelude.{Option, Some, None, IfSome}
+use Rattle.std.specs.List.{AllByRecursion, flat_map}
+use Rattle.std.proofs.lemmas.Bool.Decides.{nat_tests}
+use Rattle.std.proofs.lemmas.List.Concat.{flat_map-append}
+use Rattle.rm_base.specs.Numbered.{numbered}
+use Rattle.rm_wire.specs.declared.message.Message.{Message}
+use Rattle.record_batch.specs.Fact.{Fact, Made}
+use Rattle.sequence_table.specs.Words.{Text}
+use Rattle.sequence_table.specs.Makers.{makers, makers_of, draws_of, counter}
+use Rattle.rm_protocol.specs.Sound.{Says, IsWith, Owns, Agree, Allows, Keeps, AreWith}
+use Rattle.std.specs.Prelude.{Result, Ok, Err}
+use Rattle.rm_wire.specs.declared.refusal.Refusal.{Refusal}
+use Rattle.rm_protocol.specs.Calls.{Answer, create, send, close, end, tick}
+use Rattle.rm_protocol.specs.Node.{Node, State, Up, Writing, records, records_in, end_of, is_short, entries_left, whole_left, mounted, with_batch, goes_down, written, after_by, after, said_with, said_by, said_after}
+use Rattle.rm_protocol.specs.Said.{sent_of, leaves}
+use Rattle.rm_protocol.specs.Addresses.{place_of}
+use Rattle.rm_protocol.specs.Sound.{AllowsState, IsBounded, SaysPacket, IsSoundNode, IsSound}
+use Rattle.rm_protocol.specs.Terms.{Terms, AreTerms}
+use Rattle.rm_protocol.specs.Verdict.{has_room}
+use Rattle.rm_protocol.specs.World.{messages_in, puts, World, Packet, Side, One, Two, other, node, place, with_node, Event, Create, Grant, Send, Tick, Deliver, Close, End, Arm, Crash, Noise, sent, calls, received_by, arrives, wish_of, with_clock, happens, run, made, start, AreMade}
+use Rattle.rm_protocol.proofs.ListLemmas.{All-weaker, All-append, All-filter, All-numbered, All-push}
+use Rattle.rm_protocol.proofs.Growth.{Grows, Grows-same, IsWith-grows, Says-grows, Allows-grows}
+use Rattle.rm_protocol.proofs.Adds.{Agree-swap, Agree-adds, Grows-adds}
+use Rattle.rm_protocol.proofs.Kept.{Keeps-adds, Keeps-same}
+use Rattle.rm_protocol.proofs.CallLemmas.{IsRight, SaysContent, create-right, send-right, close-right, end-right, tick-right, receive-right}
+
+pub number_of : Side → ℕ
+number_of One = 1
+number_of Two = 2
+
+-- what a side sees of a sound world
+agree_at : (terms : Terms) (w : World) (side : Side) → IsSound terms w
+    → Agree (number_of side) (number_of (other side)) (node w side).whole (node w (other side)).whole
+unfolding number_of
+agree_at terms w One h = h.agree
+agree_at terms w Two h = Agree-swap 1 2 w.one.whole w.two.whole h.agree
+
+sound_at : (terms : Terms) (w : World) (side : Side) → IsSound terms w
+    → IsSoundNode terms (place w side) (node w side) (node w (other side)).whole
+sound_at terms w One h = h.one
+sound_at terms w Two h = h.two
+
+-- what a step makes of a node, while the other one has b
+record Went (terms : Terms) (x y : Node) (b : List Fact) (outs : List Message) : Type 0 where
+  delta : List Fact
+  is : y.whole ≡ x.whole ++ delta
+  allows : Allows x.whole b delta
+  with_ : AreWith b delta
+  failed : AllowsState terms y b y.state
+  kept : Keeps (records y) y.whole
+  bounded : IsBounded terms y
+  says : AllByRecursion (Says y.whole) outs
+
+pub AreWith-append : (b r d : List Fact) → AreWith b r → AreWith b d → AreWith b (r ++ d)
+AreWith-append b r d h k = subst (AllByRecursion (IsWith b)) (sym (flat_map-append makers_of r d))
+    (All-append (IsWith b) (makers r) (makers d) h k)
+
+pub AreWith-grows : (b d r : List Fact) → Grows b d → AreWith b r → AreWith d r
+AreWith-grows b d r g h = All-weaker (IsWith b) (IsWith d) (IsWith-grows b d g) (makers r) h
+
+pub AllowsState-grows : (terms : Terms) (x : Node) (b c : List Fact) → Grows b c → (state : State)
+    → AllowsState terms x b state → AllowsState terms x c state
+AllowsState-grows terms x b c g (Writing delta) h =
+    (Allows-grows x.whole b c g delta h.0, AreWith-grows b c delta g h.1, h.2)
+AllowsState-grows terms x b c g Up h = h
+
+-- one node goes on, and packets are sent
+abbrev goes : Terms → World → Side → Node → List Packet → World
+goes terms w One x extra = record w { one = x; packets = puts terms w.packets extra }
+goes terms w Two x extra = record w { two = x; packets = puts terms w.packets extra }
+
+All-puts : (terms : Terms) (P : Packet → Type 0) (xs ys : List Packet) → AllByRecursion P xs → AllByRecursion P ys
+    → AllByRecursion P (puts terms xs ys)
+All-puts terms P xs [] h k = h
+All-puts terms P xs (y ∷ ys) h k =
+    All-puts terms P (cond (terms.takes (messages_in xs) y.message) (xs ++ y ∷ []) xs) ys
+    (elim (terms.takes (messages_in xs) y.message) as (λ b. AllByRecursion P (cond b (xs ++ y ∷ []) xs)) [
+      | true ↦ All-push P xs y h k.0
+      | false ↦ h
+    ]) k.1
+
+says_goes : (w v : World) → Grows w.one.whole v.one.whole → Grows w.two.whole v.two.whole → (side : Side)
+    → (m : Message)
+    → Says (node w side).whole m → Says (node v side).whole m
+says_goes w v g k One m h = Says-grows w.one.whole v.one.whole m g h
+says_goes w v g k Two m h = Says-grows w.two.whole v.two.whole m k h
+
+-- the packets that are sent are what the node says
+sent-says : (v : World) (side : Side) (outs : List Message) → AllByRecursion (Says (node v side).whole) outs
+    → AllByRecursion (SaysPacket v) (sent side outs)
+sent-says v side [] h = tt
+sent-says v side (m ∷ ms) h = (h.0, sent-says v side ms h.1)
+
+-- the node that went on, and the one that didn't
+went-sound : (terms : Terms) (at : Text) (x y : Node) (b : List Fact) (outs : List Message) → Grows x.whole y.whole
+    → IsSoundNode terms at x b
+    → Went terms x y b outs → IsSoundNode terms at y b
+went-sound terms at x y b outs g h t = record {
+  failed = t.failed;
+  with_ = subst (AreWith b) (sym t.is) (AreWith-append b x.whole t.delta h.with_ t.with_);
+  at_ = g.address ∙ h.at_;
+  kept = t.kept;
+  bounded = t.bounded;
+}
+
+rested-sound : (terms : Terms) (at : Text) (x : Node) (b c : List Fact) → Grows b c → IsSoundNode terms at x b
+    → IsSoundNode terms at x c
+rested-sound terms at x b c g h = record {
+  failed = AllowsState-grows terms x b c g x.state h.failed;
+  with_ = AreWith-grows b c x.whole g h.with_;
+  at_ = h.at_;
+  kept = h.kept;
+  bounded = h.bounded;
+}
+
+goes-IsSound : (terms : Terms) (w : World) (side : Side) (y : Node) (outs : List Message) → IsSound terms w
+    → Went terms (node w side) y (node w (other side)).whole outs → IsSound terms (goes terms w side y (sent side outs))
+goes-IsSound terms w One y outs h t =
+    let grown : Grows w.one.whole y.whole =
+    subst (Grows w.one.whole) (sym t.is) (Grows-adds w.one.whole w.two.whole t.delta t.allows) in
+    let new = goes terms w One y (sent One outs) in
+    record {
+      agree = subst (λ z. Agree 1 2 z w.two.whole) (sym t.is)
+          (Agree-adds 1 2 w.one.whole w.two.whole t.delta t.allows h.agree);
+      packets = All-puts terms (SaysPacket new) w.packets (sent One outs)
+          (All-weaker (SaysPacket w) (SaysPacket new)
+          (λ q s. says_goes w new grown (Grows-same w.two.whole) q.from q.message s)
+          w.packets h.packets) (sent-says new One outs t.says);
+      one = went-sound terms w.at_one w.one y w.two.whole outs grown h.one t;
+      two = rested-sound terms w.at_two w.two w.one.whole y.whole grown h.two;
+    }
+goes-IsSound terms w Two y outs h t =
+    let grown : Grows w.two.whole y.whole =
+    subst (Grows w.two.whole) (sym t.is) (Grows-adds w.two.whole w.one.whole t.delta t.allows) in
+    let new = goes terms w Two y (sent Two outs) in
+    let swapped = Agree-swap 1 2 w.one.whole w.two.whole h.agree in
+    record {
+      agree = Agree-swap 2 1 y.whole w.one.whole
+          (subst (λ z. Agree 2 1 z w.one.whole) (sym t.is)
+          (Agree-adds 2 1 w.two.whole w.one.whole t.delta t.allows swapped));
+      packets = All-puts terms (SaysPacket new) w.packets (sent Two outs)
+          (All-weaker (SaysPacket w) (SaysPacket new)
+          (λ q s. says_goes w new (Grows-same w.one.whole) grown q.from q.message s)
+          w.packets h.packets) (sent-says new Two outs t.says);
+      one = rested-sound terms w.at_one w.one w.two.whole y.whole grown h.one;
+      two = went-sound terms w.at_two w.two y w.one.whole outs grown h.two t;
+    }
+
+-- a node has the same records, and says nothing
+rests : (terms : Terms) (x y : Node) (b : List Fact) → y.whole ≡ x.whole → AllowsState terms y b y.state
+    → Keeps (records y) y.whole → IsBounded terms y
+    → Went terms x y b []
+rests terms x y b e f k i = record {
+  delta = [];
+  is = e ∙ sym (append-nil x.whole);
+  allows = tt;
+  with_ = tt;
+  failed = f;
+  kept = k;
+  bounded = i;
+  says = tt;
+}
+
+rests-IsSound : (terms : Terms) (w : World) (side : Side) (y : Node) → IsSound terms w
+    → Went terms (node w side) y (node w (other side)).whole []
+    → IsSound terms (with_node w side y)
+rests-IsSound terms w One y h t = goes-IsSound terms w One y [] h t
+rests-IsSound terms w Two y h t = goes-IsSound terms w Two y [] h t
+
+-- one entry more
+pub records-with : (entries : List (List Fact)) (delta : List Fact)
+    → records_in (entries ++ delta ∷ []) ≡ records_in entries ++ delta
+records-with entries delta =
+    flat_map-append (λ (batch : List Fact). batch) entries (delta ∷ [])
+    ∙ ap (λ z. records_in entries ++ z) (append-nil delta)
+
+end_of-push : (terms : Terms) (entries : List (List Fact)) (delta : List Fact)
+    → end_of terms (entries ++ delta ∷ []) ≡ end_of terms entries + (5 + terms.size delta)
+end_of-push terms [] delta = omega arith
+end_of-push terms (e ∷ es) delta =
+    let rest : end_of terms (es ++ delta ∷ []) ≡ end_of terms es + (5 + terms.size delta) =
+    end_of-push terms es delta in omega arith
+
+counter-append : (r d : List Fact) → counter (r ++ d) ≡ counter r + counter d
+counter-append r d = ap length (flat_map-append draws_of r d)
+    ∙ length-append (flat_map draws_of r) (flat_map draws_of d)
+
+room-bound : (terms : Terms) (place : ℕ) (rec : Fact) (delta : List Fact) → has_room terms place (rec ∷ delta) ≡ true
+    → place + 6 + terms.size (rec ∷ delta) ≤ 268435456
+room-bound terms place rec delta e = grind (arith, nat_tests)
+
+pub bounded-with : (terms : Terms) (entries : List (List Fact)) (whole delta : List Fact) → AreTerms terms
+    → counter whole ≤ end_of terms entries
+    → end_of terms entries + 6 + terms.size delta ≤ 268435456
+    → (counter (whole ++ delta) ≤ end_of terms (entries ++ delta ∷ []))
+    × (end_of terms (entries ++ delta ∷ []) ≤ 268435456)
+bounded-with terms entries whole delta t below fits =
+    let more : end_of terms (entries ++ delta ∷ []) ≡ end_of terms entries + (5 + terms.size delta) =
+    end_of-push terms entries delta in
+    let sum : counter (whole ++ delta) ≡ counter whole + counter delta = counter-append whole delta in
+    let size : counter delta ≤ terms.size delta = t.size delta in
+    (omega arith, omega arith)
+
+-- a call
+went : (terms : Terms) (x : Node) (b delta : List Fact) (outs : List Message) → AreTerms terms → x.state ≡ Up
+    → Keeps (records x) x.whole → IsBounded terms x
+    → Allows x.whole b delta → AreWith b delta → has_room terms (end_of terms x.entries) delta ≡ true
+    → AllByRecursion (Says (x.whole ++ delta)) outs
+    → Went terms x (written x delta) b (said_with x.fuse delta outs)
+went terms x b [] outs t up h i k g room s = record {
+  delta = [];
+  is = sym (append-nil x.whole);
+  allows = tt;
+  with_ = tt;
+  failed = subst (AllowsState terms x b) (sym up) tt;
+  kept = h;
+  bounded = i;
+  says = subst (λ z. AllByRecursion (Says z) outs) (append-nil x.whole) s;
+}
+went terms x b (rec ∷ delta) outs t up h i k g room s =
+    elim (is_short 4 x.fuse) as (λ z. Went terms x (cond z (goes_down x (rec ∷ delta)) (with_batch x (rec ∷ delta))) b
+    (cond z [] outs)) [
+      | true ↦ record {
+        delta = [];
+        is = sym (append-nil x.whole);
+        allows = tt;
+        with_ = tt;
+        failed = (k, g, room-bound terms (end_of terms x.entries) rec delta room);
+        kept = h;
+        bounded = record { below = i.below; store = i.store };
+        says = tt;
+      }
+      | false ↦
+          let fits = room-bound terms (end_of terms x.entries) rec delta room in
+          let more = bounded-with terms x.entries x.whole (rec ∷ delta) t i.below fits in
+          record {
+            delta = rec ∷ delta;
+            is = refl;
+            allows = k;
+            with_ = g;
+            failed = subst (AllowsState terms (with_batch x (rec ∷ delta)) b) (sym up) tt;
+            kept = subst (λ z. Keeps z (x.whole ++ (rec ∷ delta))) (sym (records-with x.entries (rec ∷ delta)))
+                (Keeps-adds (records x) x.whole (rec ∷ delta) h);
+            bounded = record { below = more.0; store = more.1 };
+            says = s;
+          }
+    ]
+
+after-went : (terms : Terms) (x : Node) (b : List Fact) (answer : Answer) → AreTerms terms → Keeps (records x) x.whole
+    → IsBounded terms x
+    → IsRight terms (end_of terms x.entries) x.whole b answer → AllowsState terms x b x.state
+    → Went terms x (after x answer) b (said_after x answer)
+after-went terms x b answer t h i r f = by_state x.state refl
+  where
+    by_state : (z : State) → x.state ≡ z → Went terms x (after_by x z answer) b (said_by x z answer)
+    by_state Up e = went terms x b answer.delta answer.outs t e h i r.allowed.allows r.allowed.with_ r.room
+        r.allowed.says
+    by_state (Writing delta) e = rests terms x x b refl f h i
+
+-- of what is said a part leaves the node
+leaving : (terms : Terms) (x y : Node) (b : List Fact) (connected : Bool) (outs : List Message)
+    → Went terms x y b outs → Went terms x y b (sent_of connected outs)
+leaving terms x y b connected outs t = record {
+  delta = t.delta;
+  is = t.is;
+  allows = t.allows;
+  with_ = t.with_;
+  failed = t.failed;
+  kept = t.kept;
+  bounded = t.bounded;
+  says = All-filter (Says y.whole) (λ (m : Message). leaves connected (place_of m.addressing.to)) outs t.says;
+}
+
+calls-IsSound : (terms : Terms) (w : World) (side : Side) (connected : Bool) (answer : Answer) → AreTerms terms
+    → IsSound terms w
+    → IsRight terms (end_of terms (node w side).entries) (node w side).whole (node w (other side)).whole answer
+    → IsSound terms (calls terms w side connected answer)
+calls-IsSound terms w One connected answer t h r =
+    goes-IsSound terms w One (after w.one answer) (sent_of connected (said_after w.one answer)) h
+    (leaving terms w.one (after w.one answer) w.two.whole connected (said_after w.one answer)
+    (after-went terms w.one w.two.whole answer t h.one.kept h.one.bounded r h.one.failed))
+calls-IsSound terms w Two connected answer t h r =
+    goes-IsSound terms w Two (after w.two answer) (sent_of connected (said_after w.two answer)) h
+    (leaving terms w.two (after w.two answer) w.one.whole connected (said_after w.two answer)
+    (after-went terms w.two w.one.whole answer t h.two.kept h.two.bounded r h.two.failed))
+
+-- a crash keeps what the failed call wrote, or leaves it
+kept-entries : (x : Node) (delta : List Fact) → Keeps (records x) x.whole
+    → Keeps (records_in (x.entries ++ delta ∷ [])) (x.whole ++ delta)
+kept-entries x delta h =
+    subst (λ z. Keeps z (x.whole ++ delta)) (sym (records-with x.entries delta))
+    (Keeps-adds (records x) x.whole delta h)
+
+mounted-went : (terms : Terms) (x : Node) (b : List Fact) (kept : Bool) → AreTerms terms → Keeps (records x) x.whole
+    → IsBounded terms x
+    → AllowsState terms x b x.state → Went terms x (mounted x kept) b []
+mounted-went terms x b kept t h i f = by_state x.state kept f
+  where
+    by_state : (z : State) (kept : Bool) → AllowsState terms x b z
+        → Went terms x (record x {
+          entries = entries_left z kept x.entries;
+          whole = whole_left z kept x.whole;
+          fuse =
+              None;
+          state = Up;
+        }) b []
+    by_state (Writing delta) true f =
+        let more = bounded-with terms x.entries x.whole delta t i.below f.2 in
+        record {
+          delta = delta;
+          is = refl;
+          allows = f.0;
+          with_ = f.1;
+          failed = tt;
+          kept = kept-entries x delta h;
+          bounded = record { below = more.0; store = more.1 };
+          says = tt;
+        }
+    by_state (Writing delta) false f = rests terms x _ b refl tt h (record { below = i.below; store = i.store })
+    by_state Up kept f = rests terms x _ b refl tt h (record { below = i.below; store = i.store })
+
+-- a packet comes to the other node than the one that sent it
+says_at : (w : World) (p : Packet) → SaysPacket w p → SaysContent (node w (other (other p.from))).whole (Ok p.message)
+says_at w p h = by_side p.from h
+  where
+    by_side : (s : Side) → Says (node w s).whole p.message → Says (node w (other (other s))).whole p.message
+    by_side One h = h
+    by_side Two h = h
+
+received-IsSound : (terms : Terms) (w : World) (side : Side) (content : Result Message Refusal) → AreTerms terms
+    → IsSound terms w
+    → SaysContent (node w (other side)).whole content
+    → IsSound terms (calls terms w side true (received_by terms (node w side) content))
+received-IsSound terms w side content t h s =
+    let x = node w side in
+    calls-IsSound terms w side true (received_by terms x content) t h
+    (receive-right (number_of side) terms (end_of terms x.entries) (records x) x.whole (node w (other side)).whole
+    x.clock x.granted content t
+    (sound_at terms w side h).kept (agree_at terms w side h).owns s)
+
+arrives-IsSound : (terms : Terms) (w : World) (p : Option Packet) → AreTerms terms → IsSound terms w
+    → IfSome p (SaysPacket w) → IsSound terms (arrives terms w p)
+arrives-IsSound terms w None t h s = h
+arrives-IsSound terms w (Some p) t h s = received-IsSound terms w (other p.from) (Ok p.message) t h (says_at w p s)
+
+packet-says : (terms : Terms) (w : World) (k : ℕ) → IsSound terms w → IfSome (numbered w.packets k) (SaysPacket w)
+packet-says terms w k h = by_packet (numbered w.packets k) refl
+  where
+    by_packet : (p : Option Packet) → numbered w.packets k ≡ p → IfSome p (SaysPacket w)
+    by_packet None e = tt
+    by_packet (Some p) e = All-numbered (SaysPacket w) w.packets k p h.packets e
+
+-- a node of which only what is beside its disk changes
+changed-went : (terms : Terms) (x y : Node) (b : List Fact) → y.whole ≡ x.whole → y.entries ≡ x.entries
+    → y.state ≡ x.state → Keeps (records x) x.whole
+    → IsBounded terms x → AllowsState terms x b x.state → Went terms x y b []
+changed-went terms x y b e f s h i a =
+    rests terms x y b e (moved y.state s)
+    (subst (λ z. Keeps (records_in z) y.whole) (sym f) (subst (Keeps (records x)) (sym e) h))
+    (record {
+      below = subst (λ z. counter y.whole ≤ end_of terms z) (sym f)
+          (subst (λ z. counter z ≤ end_of terms x.entries) (sym e) i.below);
+      store = subst (λ z. end_of terms z ≤ 268435456) (sym f) i.store;
+    })
+  where
+    same : (z : State) → AllowsState terms x b z → AllowsState terms y b z
+    same Up k = tt
+    same (Writing delta) k = (
+      subst (λ z. Allows z b delta) (sym e) k.0,
+      k.1,
+      subst (λ z. end_of terms z + 6 + terms.size delta ≤ 268435456) (sym f) k.2,
+    )
+
+    moved : (z : State) → z ≡ x.state → AllowsState terms y b z
+    moved z k = subst (AllowsState terms y b) (sym k) (same x.state a)
+
+changed-IsSound : (terms : Terms) (w : World) (side : Side) (y : Node) → IsSound terms w
+    → y.whole ≡ (node w side).whole → y.entries ≡ (node w side).entries
+    → y.state ≡ (node w side).state → IsSound terms (with_node w side y)
+changed-IsSound terms w side y h e f s =
+    let x = sound_at terms w side h in
+    rests-IsSound terms w side y h (changed-went terms (node w side) y (node w (other side)).whole e f s x.kept
+    x.bounded x.failed)
+
+tick-IsSound : (terms : Terms) (w : World) (side : Side) (now : ℕ) → AreTerms terms → IsSound terms w
+    → IsSound terms (happens terms w (Tick side now))
+tick-IsSound terms w One now t h =
+    let v = with_node w One (with_clock w.one now) in
+    calls-IsSound terms v One false (tick terms (records w.one) (end_of terms w.one.entries) now) t
+    (changed-IsSound terms w One (with_clock w.one now) h refl refl refl)
+    (tick-right terms (end_of terms w.one.entries) (records w.one) w.one.whole w.two.whole now)
+tick-IsSound terms w Two now t h =
+    let v = with_node w Two (with_clock w.two now) in
+    calls-IsSound terms v Two false (tick terms (records w.two) (end_of terms w.two.entries) now) t
+    (changed-IsSound terms w Two (with_clock w.two now) h refl refl refl)
+    (tick-right terms (end_of terms w.two.entries) (records w.two) w.two.whole w.one.whole now)
+
+pub happens-IsSound : (terms : Terms) (w : World) (event : Event) → AreTerms terms → IsSound terms w
+    → IsSound terms (happens terms w event)
+happens-IsSound terms w (Create side via expires offer) t h =
+    let x = node w side in
+    calls-IsSound terms w side false (create terms (records x) (end_of terms x.entries)
+    (wish_of w side via expires offer)) t h
+    (create-right terms (end_of terms x.entries) (records x) x.whole (node w (other side)).whole
+    (wish_of w side via expires offer)
+    (sound_at terms w side h).kept (sym (sound_at terms w (other side) h).at_))
+happens-IsSound terms w (Grant side y) t h =
+    changed-IsSound terms w side (record (node w side) { granted = y }) h refl refl refl
+happens-IsSound terms w (Send side seq text) t h =
+    let x = node w side in
+    calls-IsSound terms w side false (send terms (records x) (end_of terms x.entries) seq text) t h
+    (send-right terms (end_of terms x.entries) (records x) x.whole (node w (other side)).whole seq text
+    (sound_at terms w side h).kept)
+happens-IsSound terms w (Tick side now) t h = tick-IsSound terms w side now t h
+happens-IsSound terms w (Deliver k) t h = arrives-IsSound terms w (numbered w.packets k) t h (packet-says terms w k h)
+happens-IsSound terms w (Close side seq) t h =
+    let x = node w side in
+    calls-IsSound terms w side false (close terms (records x) (end_of terms x.entries) seq x.clock) t h
+    (close-right terms (end_of terms x.entries) (records x) x.whole (node w (other side)).whole seq x.clock
+    (sound_at terms w side h).kept)
+happens-IsSound terms w (End side seq) t h =
+    let x = node w side in
+    calls-IsSound terms w side false (end terms (records x) (end_of terms x.entries) seq) t h
+    (end-right terms (end_of terms x.entries) (records x) x.whole (node w (other side)).whole seq
+    (sound_at terms w side h).kept)
+happens-IsSound terms w (Arm side c) t h =
+    changed-IsSound terms w side (record (node w side) { fuse = Some c }) h refl refl refl
+happens-IsSound terms w (Crash side kept) t h =
+    let x = sound_at terms w side h in
+    rests-IsSound terms w side (mounted (node w side) kept) h
+    (mounted-went terms (node w side) (node w (other side)).whole kept t x.kept x.bounded x.failed)
+happens-IsSound terms w (Noise side refusal) t h = received-IsSound terms w side (Err refusal) t h tt
+
+pub run-IsSound : (terms : Terms) (events : List Event) (w : World) → AreTerms terms → IsSound terms w
+    → IsSound terms (run terms events w)
+run-IsSound terms [] w t h = h
+run-IsSound terms (event ∷ events) w t h =
+    run-IsSound terms events (happens terms w event) t (happens-IsSound terms w event t h)
+
+owns-made : (n : ℕ) (a : Text) → Owns n (Made n a ∷ [])
+owns-made n a = record {
+  number = refl;
+  rising = tt;
+  below = omega arith;
+  made = λ s q e. absurd (cc (e.is));
+  unique = λ s t q e f. absurd (cc (e.is));
+  found = λ s q e. absurd (cc);
+}
+
+made-sound : (terms : Terms) (n : ℕ) (at : Text) (b : List Fact) → AreTerms terms
+    → has_room terms 8 (Made n at ∷ []) ≡ true → IsSoundNode terms at (made n at) b
+made-sound terms n at b t e =
+    let fits : 8 + 6 + terms.size (Made n at ∷ []) ≤ 268435456 = room-bound terms 8 (Made n at) [] e in
+    record {
+      failed = tt;
+      with_ = tt;
+      at_ = refl;
+      kept = Keeps-same (Made n at ∷ []);
+      bounded = record { below = omega arith; store = omega arith };
+    }
+
+pub start-IsSound : (terms : Terms) (one two : Text) → AreTerms terms → AreMade terms one two
+    → IsSound terms (start one two)
+start-IsSound terms one two t made = record {
+  agree = record {
+    owns = owns-made 1 one;
+    others = owns-made 2 two;
+    justified = (tt, tt);
+    others_justified =
+        (tt, tt);
+  };
+  packets = tt;
+  one = made-sound terms 1 one (Made 2 two ∷ []) t made.one_;
+  two = made-sound terms 2 two (Made 1 one ∷ []) t made.two_;
+}

@@ -1,0 +1,5 @@
+use Rattle.rm_protocol.proofs.RunLemmas.{happens-IsSound}
+use Rattle.rm_protocol.proofs.laws.every_step_keeps_the_agreement.Goals as goal
+
+pub returns : goal.returns
+returns c = happens-IsSound

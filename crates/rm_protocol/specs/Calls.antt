@@ -1,0 +1,240 @@
+-- What a call of a node comes to: the records that it adds, and what it says then.
+use Rattle.std.specs.Prelude.{ℕ, ◌+◌, ◌&&◌, not, nat_le, nat_lt, Bool, true, false, if◌then◌else◌, List, [], ◌∷◌, ◌++◌, length, Option, Some, None, Result, Ok, Err}
+use Rattle.std.specs.Option.{option_to_list}
+use Rattle.rm_base.specs.declared.message.Behaviour.{Behaviour}
+use Rattle.rm_base.specs.declared.message.Cause.TheVariants.{Operator, Expired}
+use Rattle.rm_elements.specs.declared.header.AckBlock.{AckBlock}
+use Rattle.rm_elements.specs.declared.header.SeqHeader.{SeqHeader}
+use Rattle.rm_elements.specs.declared.lapse.Lapse.{Lapse}
+use Rattle.rm_source.specs.declared.phase.OutPhase.{OutPhase}
+use Rattle.rm_source.specs.declared.phase.OutPhase.TheVariants as out
+use Rattle.rm_wire.specs.declared.message.Message.{Message}
+use Rattle.rm_wire.specs.declared.refusal.FaultKind.{FaultKind}
+use Rattle.rm_wire.specs.declared.refusal.FaultKind.TheVariants.{UnknownSequence, SequenceTerminated, SequenceClosed, InvalidAcknowledgement}
+use Rattle.rm_wire.specs.declared.refusal.Refusal.{Refusal}
+use Rattle.record_batch.specs.declared.record.OwnOffer.{OwnOffer}
+use Rattle.record_batch.specs.declared.record.Via.{Via}
+use Rattle.record_batch.specs.Fact.{Fact, Creating, Accepted, Closing, Closed, Ending, Ended}
+use Rattle.sequence_table.specs.Words.{Text}
+use Rattle.sequence_table.specs.Idents.{issue}
+use Rattle.sequence_table.specs.Makers.{Maker, Outgoing, Taken, makers, maker, counter, number}
+use Rattle.sequence_table.specs.Sources.{accepted, phase, unacked, all_unacked}
+use Rattle.sequence_table.specs.Destinations.{has_end, is_past, is_over, deadline_of}
+use Rattle.sequence_table.specs.Find.{incoming_of, find_incoming, acks_to}
+use Rattle.rm_protocol.specs.Addresses.{fault_endpoint}
+use Rattle.rm_protocol.specs.Messages.{data_at, request_at, block_of}
+use Rattle.rm_protocol.specs.Rows.{rows}
+use Rattle.rm_protocol.specs.Said.{said, ack_to, own_messages}
+use Rattle.rm_protocol.specs.Terms.{Terms}
+use Rattle.rm_protocol.specs.Verdict.{verdict, target, is_invalid, has_room}
+
+-- why a call is refused, in the order in which it is tested
+pub data Cause : Type 0 where
+  NoSequence : Cause
+  WrongSide : Cause
+  PayloadTooLong : (length : ℕ) → Cause
+  BadPayload : Cause
+  NotOpen : Cause
+  WindowFull : (unacked : ℕ) → Cause
+  NodeFull : (unacked : ℕ) → Cause
+  Rollover : Cause
+  TooManySequences : (count : ℕ) → Cause
+  StoreFull : (end needed : ℕ) → Cause
+
+-- how a call comes out: done, refused, or with a fault as the answer to a message
+pub data Outcome : Type 0 where
+  Done : Outcome
+  Refused : (cause : Cause) → Outcome
+  Judged : (fault : FaultKind) → Outcome
+
+-- what a call comes to: whether it was done, the records that it adds, and all that is said then
+pub record Answer : Type 0 where
+  pub outcome : Outcome
+  pub delta : List Fact
+  pub outs : List Message
+
+-- a call that is refused adds nothing and says nothing
+abbrev pub refusal : Cause → Answer
+refusal cause = record { outcome = Refused cause; delta = []; outs = [] }
+
+-- the records are added, and this is said when they are there
+abbrev pub adds : List Fact → List Fact → (List Fact → List Message) → Answer
+adds r delta outs = record { outcome = Done; delta = delta; outs = outs (r ++ delta) }
+
+-- a batch that doesn't fit the store is refused
+abbrev pub if_room : Terms → ℕ → Answer → Answer
+if_room terms end answer =
+    if has_room terms end answer.delta then answer
+    else refusal (StoreFull end (terms.size answer.delta + 6))
+
+-- what is asked for: the peer's address, how answers come back, how long the sequence lasts, and the behaviour of the
+-- sequence that is offered in the other direction
+pub record Wish : Type 0 where
+  pub to : Text
+  pub via : Via
+  pub expires : Lapse
+  pub offer : Option Behaviour
+
+-- an offer draws the number behind the ticket's
+abbrev pub offer_of : ℕ → Option Behaviour → Option OwnOffer
+offer_of drawn None = None
+offer_of drawn (Some behaviour) = Some (record { counter = drawn + 2; behaviour = behaviour })
+
+-- how many sequences are wanted
+abbrev pub wanted : Option Behaviour → ℕ
+wanted None = 1
+wanted (Some behaviour) = 2
+
+-- create: Creating, and the request of the new sequence
+abbrev pub create : Terms → List Fact → ℕ → Wish → Answer
+create terms r end wish =
+    if nat_lt 256 (length (makers r) + wanted wish.offer) then refusal (TooManySequences (length (makers r)))
+    else if_room terms end (adds r
+    (Creating (counter r + 1) wish.to wish.via wish.expires (offer_of (counter r) wish.offer) ∷ [])
+    (λ now. option_to_list (request_at now (length (makers r) + 1))))
+
+-- messages are accepted in phase Open alone
+abbrev pub is_open : OutPhase → Bool
+is_open out.Open = true
+is_open _ = false
+
+-- send: Accepted, and the message
+abbrev pub send_out : Terms → List Fact → ℕ → ℕ → Text → Answer
+send_out terms r end s payload =
+    if nat_lt 1048576 (length payload) then refusal (PayloadTooLong (length payload))
+    else if not (terms.is_content payload) then refusal BadPayload
+    else if not (is_open (phase r s)) then refusal NotOpen
+    else if nat_le 1024 (unacked r s) then refusal (WindowFull (unacked r s))
+    else if nat_le 4096 (all_unacked r) then refusal (NodeFull (all_unacked r))
+    else if nat_le 9223372036854775807 (length (accepted r s)) then refusal Rollover
+    else if_room terms end (adds r (Accepted s payload ∷ [])
+    (λ now. option_to_list (data_at now s (length (accepted r s) + 1))))
+
+-- a call for an outgoing sequence
+abbrev pub on_outgoing : Option Maker → Answer → Answer
+on_outgoing None answer = refusal NoSequence
+on_outgoing (Some (Outgoing ticket to via lapse)) answer = answer
+on_outgoing (Some (Taken message_id ident endpoint)) answer = answer
+on_outgoing (Some _) answer = refusal WrongSide
+
+-- send, of any sequence
+abbrev pub send : Terms → List Fact → ℕ → ℕ → Text → Answer
+send terms r end s payload = on_outgoing (maker r s) (send_out terms r end s payload)
+
+-- close of an outgoing sequence: Closing, and its request
+abbrev pub close_out : Terms → List Fact → ℕ → ℕ → Answer
+close_out terms r end s =
+    if is_open (phase r s) then if_room terms end (adds r (Closing s (counter r + 1) ∷ [])
+    (λ now. option_to_list (request_at now s)))
+    else refusal NotOpen
+
+-- the acknowledgement of an incoming sequence as a message of its own, where its AcksTo is known
+abbrev pub final_ack : List Fact → ℕ → ℕ → Option (ℕ × Text) → List Message
+final_ack r s now None = []
+final_ack r s now (Some made) = own_messages (ack_to (acks_to r s) (block_of r s (issue (number r) made.0) now))
+
+-- of an incoming sequence: the number of its identifier, and the message that it was made for
+abbrev pub made_by : List Fact → Option Maker → Option (ℕ × Text)
+made_by r None = None
+made_by r (Some m) = incoming_of (number r) m
+
+-- close of an incoming sequence: Closed by the operator, and the final acknowledgement
+abbrev pub close_in : Terms → List Fact → ℕ → ℕ → ℕ → Answer
+close_in terms r end s now =
+    if is_over r s now then refusal NotOpen
+    else if_room terms end (adds r (Closed s Operator 0 ∷ [])
+    (λ after. final_ack after s now (made_by after (maker after s))))
+
+-- close of a sequence that was made so
+abbrev pub close_by : Terms → List Fact → ℕ → ℕ → ℕ → Option Maker → Answer
+close_by terms r end s now None = refusal NoSequence
+close_by terms r end s now (Some (Outgoing ticket to via lapse)) = close_out terms r end s
+close_by terms r end s now (Some (Taken message_id ident endpoint)) = close_out terms r end s
+close_by terms r end s now (Some _) = close_in terms r end s now
+
+-- close, of any sequence
+abbrev pub close : Terms → List Fact → ℕ → ℕ → ℕ → Answer
+close terms r end s now = close_by terms r end s now (maker r s)
+
+-- the phases from which a sequence is ended
+abbrev pub may_end : OutPhase → Bool
+may_end out.Open = true
+may_end out.Closing = true
+may_end out.Closed = true
+may_end _ = false
+
+-- end: Ending, and its request
+abbrev pub end_out : Terms → List Fact → ℕ → ℕ → Answer
+end_out terms r end s =
+    if may_end (phase r s) then if_room terms end (adds r (Ending s (counter r + 1) ∷ [])
+    (λ now. option_to_list (request_at now s)))
+    else refusal NotOpen
+
+-- end, of any sequence
+abbrev pub end : Terms → List Fact → ℕ → ℕ → Answer
+end terms r place s = on_outgoing (maker r s) (end_out terms r place s)
+
+-- the incoming sequences whose deadline is at most now and that have no Ended record, counted from k + 1
+abbrev pub expired_from : List Fact → ℕ → ℕ → List Maker → List Fact
+expired_from r now k [] = []
+expired_from r now k (m ∷ ms) =
+    if is_past (deadline_of (Some m)) now && not (has_end r (k + 1))
+    then Ended (k + 1) Expired 0 ∷ expired_from r now (k + 1) ms
+    else expired_from r now (k + 1) ms
+
+-- tick: they are ended in one batch, where it fits the store
+abbrev pub tick : Terms → List Fact → ℕ → ℕ → Answer
+tick terms r end now =
+    if has_room terms end (expired_from r now 0 (makers r)) then adds r (expired_from r now 0 (makers r)) (λ after. [])
+    else adds r [] (λ after. [])
+
+-- the block that a fault carries or repeats: the final acknowledgement of the closed sequence, or the first refused
+-- block
+abbrev pub first_invalid : List Fact → List AckBlock → Option AckBlock
+first_invalid r [] = None
+first_invalid r (block ∷ blocks) = if is_invalid r block then Some block else first_invalid r blocks
+
+-- the acknowledgement of a sequence, where it is one of ours
+abbrev pub block_by : List Fact → ℕ → Text → Option ℕ → Option AckBlock
+block_by r now q None = None
+block_by r now q (Some s) = Some (block_of r s q now)
+
+-- the acknowledgement of the sequence that a Sequence header names
+abbrev pub block_at : List Fact → ℕ → Option SeqHeader → Option AckBlock
+block_at r now None = None
+block_at r now (Some h) = block_by r now h.ident (find_incoming r h.ident)
+
+-- the block that belongs to a fault of this kind, where one does
+abbrev pub fault_block : List Fact → ℕ → Message → FaultKind → Option AckBlock
+fault_block r now m SequenceClosed = block_at r now m.sequence
+fault_block r now m InvalidAcknowledgement = first_invalid r m.acks
+fault_block r now m _ = None
+
+-- the sequence that a fault speaks of
+abbrev pub fault_ident : Message → FaultKind → Option Text
+fault_ident m UnknownSequence = target m.sequence m.body
+fault_ident m SequenceTerminated = target m.sequence m.body
+fault_ident m SequenceClosed = target m.sequence m.body
+fault_ident m _ = None
+
+-- a message is refused with this kind
+abbrev pub refusal_of : Message → FaultKind → Refusal
+refusal_of m kind = record {
+  kind = kind;
+  endpoint = fault_endpoint m.addressing;
+  relates = m.addressing.message_id;
+  names = [];
+  ident = fault_ident m kind;
+}
+
+-- a message with a verdict gets its fault, and one without the rows of the receiving table
+abbrev pub judged : Terms → List Fact → ℕ → Behaviour → Message → Option FaultKind → Answer
+judged terms r now behaviour m (Some kind) =
+    record { outcome = Judged kind; delta = []; outs = terms.fault (refusal_of m kind) (fault_block r now m kind) ∷ [] }
+judged terms r now behaviour m None = adds r (rows terms now behaviour m r) (λ after. said after now m)
+
+-- receive: a message, or the refusal of bytes that are none
+abbrev pub receive : Terms → List Fact → ℕ → ℕ → Behaviour → Result Message Refusal → Answer
+receive terms r end now behaviour (Ok m) = judged terms r now behaviour m (verdict terms r end now behaviour m)
+receive terms r end now behaviour (Err refusal) =
+    record { outcome = Judged refusal.kind; delta = []; outs = terms.fault refusal None ∷ [] }

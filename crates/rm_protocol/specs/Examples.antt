@@ -1,0 +1,89 @@
+-- Terms that meet what is asked of them, and scripts with them.
+use Rattle.std.specs.Prelude.{ℕ, ◌+◌, ◌==◌, if◌then◌else◌, true, false, List, [], ◌∷◌, codes, Option, Some, None}
+use Rattle.rm_base.specs.declared.message.Behaviour.TheVariants.{EntireSequence, FollowingFirstGap}
+use Rattle.rm_elements.specs.declared.header.AckBlock.{AckBlock}
+use Rattle.rm_elements.specs.declared.lapse.Lapse.{Lapse}
+use Rattle.rm_wire.specs.declared.message.Body.TheVariants as body
+use Rattle.rm_wire.specs.declared.message.FaultCode.TheVariants.{Sender}
+use Rattle.rm_wire.specs.declared.message.Message.{Message}
+use Rattle.rm_wire.specs.declared.refusal.Refusal.{Refusal}
+use Rattle.record_batch.specs.declared.record.Via.TheVariants.{Direct}
+use Rattle.sequence_table.specs.Makers.{counter}
+use Rattle.rm_protocol.specs.Addresses.{rm_action}
+use Rattle.rm_protocol.specs.Messages.{never, plain}
+use Rattle.rm_protocol.specs.Terms.{Terms, header_blocks}
+use Rattle.rm_protocol.specs.World.{World, One, Two, Event, Create, Grant, Send, Deliver, End, Tick, Close, Arm, Crash, run, start}
+
+-- a duration without months ends that many milliseconds later
+abbrev pub ends_at : ℕ → Lapse → Option ℕ
+ends_at now lapse = if lapse.ms == 0 then None else Some (now + lapse.ms)
+
+-- a fault without a subcode
+abbrev pub plain_fault : Refusal → Option AckBlock → Message
+plain_fault refusal block = record (plain refusal.endpoint (rm_action (codes "fault")) (body.Fault (record {
+  code = Sender;
+  subcode = None;
+  inner = None;
+  reason = [];
+  detail = [];
+}))) { acks = header_blocks refusal.kind block }
+
+-- a batch takes as many bytes as it draws numbers, and the network loses nothing
+abbrev pub example_terms : Terms
+example_terms = record {
+  size = counter;
+  deadline = ends_at;
+  is_content = λ text. true;
+  fault = plain_fault;
+  takes = λ before m. true;
+}
+
+-- two nodes after a script
+abbrev pub played : List Event → World
+played events = run example_terms events (start (codes "urn:one") (codes "urn:two"))
+
+-- a sequence from node 1 to node 2 is asked for and granted, and then more happens
+abbrev pub opening : List Event → List Event
+opening events = Create One Direct never None ∷ Deliver 1 ∷ Deliver 2 ∷ events
+
+-- three messages sent, delivered, and acknowledged
+abbrev pub in_order : List Event
+in_order =
+    opening (Send One 1 (1 ∷ []) ∷ Send One 1 (2 ∷ []) ∷ Send One 1 (3 ∷ []) ∷ Deliver 3 ∷ Deliver 4 ∷ Deliver
+    5 ∷ Deliver 6
+    ∷ Deliver 7 ∷ Deliver 8 ∷ [])
+
+-- of three messages the second is lost; under DiscardEntireSequence the sequence is closed then
+abbrev pub with_a_gap : List Event
+with_a_gap =
+    Grant Two EntireSequence ∷ opening (Send One 1 (1 ∷ []) ∷ Send One 1 (2 ∷ []) ∷ Send One 1 (3 ∷ []) ∷ Deliver 3
+    ∷ Deliver 5 ∷ Close One 1 ∷ Deliver 8 ∷ [])
+
+-- a crash inside the call that takes the second message, and that message again
+abbrev pub with_a_crash : List Event
+with_a_crash =
+    opening (Send One 1 (1 ∷ []) ∷ Send One 1 (2 ∷ []) ∷ Deliver 3 ∷ Arm Two 3 ∷ Deliver 4 ∷ Crash Two false ∷ Deliver
+    4 ∷ [])
+
+-- a sequence that the peer offers back carries the message
+abbrev pub with_an_offer : List Event
+with_an_offer =
+    Create One Direct never (Some FollowingFirstGap) ∷ Deliver 1 ∷ Send Two 2 (7 ∷ []) ∷ Deliver 3 ∷ Deliver
+    2 ∷ Deliver 3
+    ∷ Deliver 4 ∷ []
+
+-- closed after the first message arrived: the second is refused, the first is acknowledged again
+abbrev pub with_a_close : List Event
+with_a_close =
+    opening (Send One 1 (1 ∷ []) ∷ Send One 1 (2 ∷ []) ∷ Send One 1 (3 ∷ []) ∷ Deliver 3 ∷ Close One 1 ∷ Deliver 7
+    ∷ Deliver 4 ∷ Deliver 3 ∷ [])
+
+-- terminated, and the response comes
+abbrev pub with_an_end : List Event
+with_an_end = opening (Send One 1 (1 ∷ []) ∷ Deliver 3 ∷ End One 1 ∷ Deliver 5 ∷ Deliver 6 ∷ Deliver 3 ∷ Deliver 7 ∷ [])
+
+-- a sequence that expires at moment 150: a message at 149 is taken, one after the tick at 150 is not
+abbrev pub with_an_expiry : List Event
+with_an_expiry =
+    Tick Two 100 ∷ Create One Direct (record { months = 0; ms = 50 }) None ∷ Deliver 1 ∷ Deliver 2 ∷ Send One 1 (1 ∷ [])
+    ∷ Send One 1 (2 ∷ []) ∷ Tick Two 149 ∷ Deliver 3 ∷ Tick Two 150 ∷ Deliver 4 ∷ []

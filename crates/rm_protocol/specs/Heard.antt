@@ -1,0 +1,30 @@
+-- Which records a message may bring: those of the receiving table alone.
+use Rattle.std.specs.Prelude.{◌≡◌, ◌⊎◌, ℕ, [], Some, slice_get}
+use Rattle.ack_ranges.specs.Changes.{united}
+use Rattle.rm_base.specs.declared.message.Cause.TheVariants.{Peer, NotTaken}
+use Rattle.rm_elements.specs.declared.header.AckBlock.{AckBlock}
+use Rattle.rm_elements.specs.declared.lifecycle.CreateSequence.{CreateSequence}
+use Rattle.rm_elements.specs.declared.lifecycle.Lifecycle.TheVariants as life
+use Rattle.rm_wire.specs.declared.message.Body.TheVariants as body
+use Rattle.rm_wire.specs.declared.message.Message.{Message}
+use Rattle.record_batch.specs.Fact.{Fact, Made, Creating, Granted, Accepted, Acked, Received, Closing, Closed, Ending, Ended}
+use Rattle.sequence_table.specs.Words.{Text}
+use Rattle.rm_protocol.specs.Rows.{ranges_of}
+
+-- Received is the data of the message, Granted is for its CreateSequence, Acked has the numbers of one of its blocks; a
+-- sequence is closed or ended by the peer, or ended because it wasn't taken; what a node does of its own comes never
+abbrev pub Heard : Message → Fact → Type 0
+Heard m (Received s i p) = (q : Text) × (m.sequence ≡ Some (record { ident = q; number = i }))
+    × (m.body ≡ body.Payload p)
+Heard m (Granted counter t acks_to behaviour deadline lapse offer) =
+    (m.addressing.message_id ≡ Some t) × ((c : CreateSequence) × (m.body ≡ body.Lifecycle (life.Create c)))
+Heard m (Acked s ranges) =
+    (k : ℕ) × (block : AckBlock) × (slice_get m.acks k ≡ Some block) × (ranges ≡ united [] (ranges_of block.kind))
+Heard m (Closed s cause last) = cause ≡ Peer
+Heard m (Ended s cause last) = (cause ≡ Peer) ⊎ (cause ≡ NotTaken)
+Heard m (Accepted s p) = ⊥
+Heard m (Made n a) = ⊥
+Heard m (Creating ticket to via lapse offer) = ⊥
+Heard m (Closing s t) = ⊥
+Heard m (Ending s t) = ⊥
+Heard m _ = Unit {0}

@@ -1,0 +1,17 @@
+pub mod Addresses
+pub mod Calls
+pub mod Detail
+pub mod Examples
+pub mod Heard
+pub mod Messages
+pub mod Next
+pub mod Node
+pub mod Recorded
+pub mod Rows
+pub mod Said
+pub mod Sent
+pub mod Sound
+pub mod Terms
+pub mod Verdict
+pub mod Word
+pub mod World

@@ -1,0 +1,122 @@
+-- A node on its disk: its entries, and what stands besides where it is down.
+use Rattle.std.specs.Prelude.{ℕ, ◌+◌, ◌-◌, nat_le, Bool, true, false, if◌then◌else◌, List, [], ◌∷◌, ◌++◌, Option, Some, None}
+use Rattle.std.specs.List.{flat_map}
+use Rattle.rm_base.specs.declared.message.Behaviour.{Behaviour}
+use Rattle.rm_wire.specs.declared.message.Message.{Message}
+use Rattle.record_batch.specs.Fact.{Fact}
+use Rattle.rm_protocol.specs.Calls.{Answer, Outcome}
+use Rattle.rm_protocol.specs.Terms.{Terms}
+
+-- a node is up, or the call that failed was writing a batch
+pub data State : Type 0 where
+  Up : State
+  Writing : (delta : List Fact) → State
+
+-- entries: the batches on its disk. whole: all records that it ever had. fuse: the device calls up to the one that
+-- fails. granted: what it announces for sequences from now on. clock: the moment that its calls are given
+pub record Node : Type 0 where
+  pub entries : List (List Fact)
+  pub whole : List Fact
+  pub fuse : Option ℕ
+  pub state : State
+  pub granted : Behaviour
+  pub clock : ℕ
+
+-- the records of batches, one behind the other
+abbrev pub records_in : List (List Fact) → List Fact
+records_in entries = flat_map (λ (batch : List Fact). batch) entries
+
+-- the records on a node's disk
+abbrev pub records : Node → List Fact
+records x = records_in x.entries
+
+-- the place behind the entries: a head of 8 bytes, and for each entry a gate, a length of 4 bytes and the text
+abbrev pub end_of : Terms → List (List Fact) → ℕ
+end_of terms [] = 8
+end_of terms (batch ∷ entries) = 5 + terms.size batch + end_of terms entries
+
+-- so many device calls fail
+abbrev pub is_short : ℕ → Option ℕ → Bool
+is_short calls None = false
+is_short calls (Some left) = nat_le left calls
+
+-- a fuse after so many device calls
+abbrev pub burned : ℕ → Option ℕ → Option ℕ
+burned calls None = None
+burned calls (Some left) = Some (left - calls)
+
+-- after a crash: whether the batch of the call that failed was kept is a free choice
+abbrev pub entries_left : State → Bool → List (List Fact) → List (List Fact)
+entries_left (Writing delta) true entries = entries ++ delta ∷ []
+entries_left _ kept entries = entries
+
+-- all records that it ever had, after a crash
+abbrev pub whole_left : State → Bool → List Fact → List Fact
+whole_left (Writing delta) true whole = whole ++ delta
+whole_left _ kept whole = whole
+
+-- a node that crashed and was mounted again
+abbrev pub mounted : Node → Bool → Node
+mounted x kept = record x {
+  entries = entries_left x.state kept x.entries;
+  whole = whole_left x.state kept x.whole;
+  fuse = None;
+  state = Up;
+}
+
+-- a node whose batch was written
+abbrev pub with_batch : Node → List Fact → Node
+with_batch x delta = record x { entries = x.entries ++ delta ∷ []; whole = x.whole ++ delta; fuse = burned 4 x.fuse }
+
+-- a node whose disk failed while it wrote a batch
+abbrev pub goes_down : Node → List Fact → Node
+goes_down x delta = record x { fuse = Some 0; state = Writing delta }
+
+-- a node after a call: a batch takes four device calls, and where one of them fails the node is down; a node that is
+-- down does nothing
+abbrev pub written : Node → List Fact → Node
+written x [] = x
+written x (rec ∷ delta) = if is_short 4 x.fuse then goes_down x (rec ∷ delta) else with_batch x (rec ∷ delta)
+
+-- a node after a call, by its state
+abbrev pub after_by : Node → State → Answer → Node
+after_by x Up answer = written x answer.delta
+after_by x _ answer = x
+
+-- a node after a call
+abbrev pub after : Node → Answer → Node
+after x answer = after_by x x.state answer
+
+-- what it says: nothing where a device call failed
+abbrev pub said_with : Option ℕ → List Fact → List Message → List Message
+said_with fuse [] outs = outs
+said_with fuse (rec ∷ delta) outs = if is_short 4 fuse then [] else outs
+
+-- what a node says after a call, by its state
+abbrev pub said_by : Node → State → Answer → List Message
+said_by x Up answer = said_with x.fuse answer.delta answer.outs
+said_by x _ answer = []
+
+-- what a node says after a call
+abbrev pub said_after : Node → Answer → List Message
+said_after x answer = said_by x x.state answer
+
+-- and how the call comes out
+pub data CallOutcome : Type 0 where
+  Answered : (outcome : Outcome) → CallOutcome
+  DiskFault : CallOutcome
+  IsDown : CallOutcome
+
+-- where a device call failed, that is how it comes out
+abbrev pub outcome_with : Option ℕ → List Fact → Outcome → CallOutcome
+outcome_with fuse [] outcome = Answered outcome
+outcome_with fuse (rec ∷ delta) outcome = if is_short 4 fuse then DiskFault else Answered outcome
+
+-- how a call comes out, by the node's state
+abbrev pub outcome_by : Node → State → Answer → CallOutcome
+outcome_by x Up answer = outcome_with x.fuse answer.delta answer.outcome
+outcome_by x _ answer = IsDown
+
+-- how a call of a node comes out
+abbrev pub call_outcome : Node → Answer → CallOutcome
+call_outcome x answer = outcome_by x x.state answer

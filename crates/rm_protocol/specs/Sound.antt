@@ -1,0 +1,268 @@
+-- What holds of two lists of records and of all packets, in every world that a run can reach.
+use Rattle.std.specs.Prelude.{◌≡◌, ℕ, ◌+◌, ◌<◌, ◌≤◌, true, false, length, List, [], ◌∷◌, ◌++◌, map, Option, Some, None, IfSome}
+use Rattle.std.specs.List.{AllByRecursion, flat_map}
+use Rattle.ack_ranges.specs.declared.range.Range.{Range}
+use Rattle.ack_ranges.specs.Ranges.{in_ranges}
+use Rattle.rm_base.specs.Numbered.{numbered}
+use Rattle.rm_base.specs.NumberSet.{has_number}
+use Rattle.rm_base.specs.declared.message.Cause.TheVariants.{Peer}
+use Rattle.rm_elements.specs.declared.header.AckBlock.{AckBlock}
+use Rattle.rm_elements.specs.declared.header.SeqHeader.{SeqHeader}
+use Rattle.rm_elements.specs.declared.lifecycle.Lifecycle.TheVariants as life
+use Rattle.rm_elements.specs.declared.lifecycle.Offer.{Offer}
+use Rattle.rm_wire.specs.declared.message.Body.{Body}
+use Rattle.rm_wire.specs.declared.message.Body.TheVariants as body
+use Rattle.rm_wire.specs.declared.message.Message.{Message}
+use Rattle.record_batch.specs.declared.record.OwnOffer.{OwnOffer}
+use Rattle.record_batch.specs.declared.record.PeerOffer.{PeerOffer}
+use Rattle.record_batch.specs.Fact.{Fact, Made, Creating, Created, Granted, Accepted, Acked, Received, Closed, Ended}
+use Rattle.sequence_table.specs.Words.{Text, is_empty}
+use Rattle.sequence_table.specs.Idents.{issue}
+use Rattle.sequence_table.specs.Makers.{Maker, Outgoing, Offered, Incoming, Taken, makers, maker, draws_of, counter, nodes_of, number, addresses_of, address, created, seq_in}
+use Rattle.sequence_table.specs.Sources.{accepted, acked, mark_of, marks, out_ident}
+use Rattle.sequence_table.specs.Destinations.{received, held, close_of, told_of}
+use Rattle.sequence_table.specs.Find.{IsOutgoing, IsIncoming}
+use Rattle.rm_protocol.specs.Node.{Node, State, Up, Writing, records, end_of}
+use Rattle.rm_protocol.specs.Rows.{ranges_of, last_of}
+use Rattle.rm_protocol.specs.Terms.{Terms}
+use Rattle.rm_protocol.specs.World.{World, Packet, node}
+
+-- what a node says is so by its own records
+
+-- the ticket of the CreateSequence that asked for a sequence
+abbrev pub asked_with : Maker → Option ℕ
+asked_with (Outgoing ticket to via lapse) = Some ticket
+asked_with _ = None
+
+-- the node asked for outgoing sequence s with this message
+pub record IsAsked (r : List Fact) (s : ℕ) (message_id : Text) : Type 0 where
+  pub ticket : ℕ
+  pub maker_ : Maker
+  pub there : maker r s ≡ Some maker_
+  pub asked : asked_with maker_ ≡ Some ticket
+  pub is : message_id ≡ issue (number r) ticket
+
+-- the node accepted this payload as this message of the sequence
+pub record IsAccepted (r : List Fact) (q : Text) (i : ℕ) (p : Text) : Type 0 where
+  pub seq : ℕ
+  pub outgoing : IsOutgoing r seq q
+  pub item : numbered (accepted r seq) i ≡ Some p
+
+-- the node received this message of the sequence
+pub record IsHeld (r : List Fact) (q : Text) (i : ℕ) : Type 0 where
+  pub seq : ℕ
+  pub message_id : Text
+  pub incoming : IsIncoming r seq q message_id
+  pub has : has_number (held r seq) i ≡ true
+
+-- the node granted the sequence for this message
+pub record IsGranted (r : List Fact) (t q : Text) : Type 0 where
+  pub seq : ℕ
+  pub incoming : IsIncoming r seq q t
+
+-- the node asked for a sequence with this message
+pub record HasAsked (r : List Fact) (t : Text) : Type 0 where
+  pub seq : ℕ
+  pub asked : IsAsked r seq t
+
+-- the node received all numbers of these ranges
+abbrev pub AreHeld : List Fact → Text → List Range → Type 0
+AreHeld r q ranges = (n : ℕ) → in_ranges ranges n ≡ true → IsHeld r q n
+
+-- the node goes on with the sequence no more, and accepted n payloads
+pub record IsFinal (r : List Fact) (q : Text) (n : ℕ) : Type 0 where
+  pub seq : ℕ
+  pub outgoing : IsOutgoing r seq q
+  pub stopped : is_empty (marks r seq) ≡ false
+  pub count : length (accepted r seq) ≡ n
+
+-- part by part of a message
+abbrev pub SaysData : List Fact → Option SeqHeader → Body → Type 0
+SaysData r (Some h) (body.Payload p) = IsAccepted r h.ident h.number p.bytes
+SaysData r _ _ = Unit {0}
+
+-- an acknowledgement block has numbers that its sender holds
+abbrev pub SaysBlock : List Fact → AckBlock → Type 0
+SaysBlock r block = AreHeld r block.ident (ranges_of block.kind)
+
+-- a CreateSequence has a ticket of its sender's, and its Offer names a sequence that was offered for it
+abbrev pub SaysCreate : List Fact → Option Text → Body → Type 0
+SaysCreate r (Some t) (body.Lifecycle (life.Create c)) =
+    HasAsked r t × IfSome c.offer (λ (offer : Offer). IsGranted r t offer.ident)
+SaysCreate r _ _ = Unit {0}
+
+-- a CreateSequenceResponse names the sequence that its sender granted for the message
+abbrev pub SaysResponse : List Fact → Option Text → Body → Type 0
+SaysResponse r (Some t) (body.Lifecycle (life.CreateResponse c)) = IsGranted r t c.ident
+SaysResponse r _ _ = Unit {0}
+
+-- a CloseSequence or a TerminateSequence has the count of a source that goes on no more
+abbrev pub SaysFinal : List Fact → Body → Type 0
+SaysFinal r (body.Lifecycle (life.Close f)) = IsFinal r f.ident (last_of f.last_number)
+SaysFinal r (body.Lifecycle (life.Terminate f)) = IsFinal r f.ident (last_of f.last_number)
+SaysFinal r _ = Unit {0}
+
+-- all that a message says is so by the records of its sender
+pub record Says (r : List Fact) (m : Message) : Type 0 where
+  pub data_ : SaysData r m.sequence m.body
+  pub acks : AllByRecursion (SaysBlock r) m.acks
+  pub create : SaysCreate r m.addressing.message_id m.body
+  pub response : SaysResponse r m.addressing.relates m.body
+  pub final : SaysFinal r m.body
+
+-- what the records of one node say is so by those of both
+
+-- the node created the sequence as the other granted it
+pub record IsAgreed (mine theirs : List Fact) (s : ℕ) (q : Text) : Type 0 where
+  pub message_id : Text
+  pub asked : IsAsked mine s message_id
+  pub granted : IsGranted theirs message_id q
+
+-- what was received on the sequence, the other accepted
+pub record IsSourced (mine theirs : List Fact) (s i : ℕ) (p : Text) : Type 0 where
+  pub ident : Text
+  pub message_id : Text
+  pub incoming : IsIncoming mine s ident message_id
+  pub sent : IsAccepted theirs ident i p
+
+-- what was acknowledged on the sequence, the other holds
+pub record AreKept (mine theirs : List Fact) (s : ℕ) (ranges : List Range) : Type 0 where
+  pub ident : Text
+  pub outgoing : IsOutgoing mine s ident
+  pub each : AreHeld theirs ident ranges
+
+-- the other said that its sequence has n payloads
+pub record IsTold (mine theirs : List Fact) (s n : ℕ) : Type 0 where
+  pub ident : Text
+  pub message_id : Text
+  pub incoming : IsIncoming mine s ident message_id
+  pub final : IsFinal theirs ident n
+
+-- the sequence is one between the two nodes: asked for there, or for a message of theirs
+abbrev pub IsWith : List Fact → Maker → Type 0
+IsWith theirs (Outgoing ticket to via lapse) = to ≡ address theirs
+IsWith theirs (Offered ticket counter to behaviour) = to ≡ address theirs
+IsWith theirs (Incoming counter message_id acks_to behaviour deadline lapse) =
+    (k : ℕ) × (message_id ≡ issue (number theirs) k)
+IsWith theirs (Taken message_id ident endpoint) = (k : ℕ) × (message_id ≡ issue (number theirs) k)
+
+-- where it is, P
+pub record IfWith (mine theirs : List Fact) (s : ℕ) (P : Type 0) : Type 0 where
+  pub maker_ : Maker
+  pub there : maker mine s ≡ Some maker_
+  pub holds : IsWith theirs maker_ → P
+
+-- what one record of mine says of both
+abbrev pub Justified : List Fact → List Fact → Fact → Type 0
+Justified mine theirs (Created s q accept) = IfWith mine theirs s (IsAgreed mine theirs s q)
+Justified mine theirs (Closed s Peer n) = IfWith mine theirs s (IsTold mine theirs s n)
+Justified mine theirs (Ended s Peer n) = IfWith mine theirs s (IsTold mine theirs s n)
+Justified mine theirs (Granted c t acks_to behaviour deadline lapse offer) =
+    (k : ℕ) → t ≡ issue (number theirs) k
+    → HasAsked theirs t × IfSome offer (λ (taken : PeerOffer). IsGranted theirs t taken.ident)
+Justified mine theirs (Acked s ranges) = IfWith mine theirs s (AreKept mine theirs s ranges)
+Justified mine theirs (Received s i p) = IfWith mine theirs s (IsSourced mine theirs s i p.bytes)
+Justified mine theirs _ = Unit {0}
+
+-- each number is above low and above those before it
+abbrev pub Rises : ℕ → List (Option ℕ) → Type 0
+Rises low [] = Unit {0}
+Rises low (None ∷ xs) = Rises low xs
+Rises low (Some x ∷ xs) = (low < x) × Rises x xs
+
+-- the last of the numbers, where they rise
+abbrev pub highest : ℕ → List (Option ℕ) → ℕ
+highest n [] = n
+highest n (None ∷ xs) = highest n xs
+highest n (Some x ∷ xs) = highest x xs
+
+-- the number that was drawn for a sequence
+abbrev pub drawn : Maker → Option ℕ
+drawn (Outgoing ticket to via lapse) = Some ticket
+drawn (Incoming counter message_id acks_to behaviour deadline lapse) = Some counter
+drawn (Offered ticket counter to behaviour) = Some counter
+drawn (Taken message_id ident endpoint) = None
+
+-- of one node alone: its numbers, and its identifiers
+pub record Owns (n : ℕ) (r : List Fact) : Type 0 where
+  pub number : number r ≡ n
+  pub rising : Rises 0 (map drawn (makers r))
+  pub below : highest 0 (map drawn (makers r)) ≤ counter r
+  pub made : (s : ℕ) (q : Text) → IsOutgoing r s q → (m : Maker) × (maker r s ≡ Some m)
+  pub unique : (s t : ℕ) (q : Text) → IsOutgoing r s q → IsOutgoing r t q → s ≡ t
+  pub found : (s : ℕ) (q : Text) → seq_in (created r) q ≡ Some s → IsOutgoing r s q
+
+-- two nodes agree
+pub record Agree (n m : ℕ) (mine theirs : List Fact) : Type 0 where
+  pub owns : Owns n mine
+  pub others : Owns m theirs
+  pub justified : AllByRecursion (Justified mine theirs) mine
+  pub others_justified : AllByRecursion (Justified theirs mine) theirs
+
+-- a record may be added
+abbrev pub Fresh : List Fact → Fact → Type 0
+Fresh r (Made n a) = ⊥
+Fresh r (Creating ticket to via lapse offer) =
+    (ticket ≡ counter r + 1) × IfSome offer (λ (own : OwnOffer). own.counter ≡ counter r + 2)
+Fresh r (Granted c t acks_to behaviour deadline lapse offer) =
+    (c ≡ counter r + 1) × IfSome offer (λ (taken : PeerOffer). seq_in (created r) taken.ident ≡ None)
+Fresh r (Accepted s p) = is_empty (marks r s) ≡ true
+Fresh r (Created s q accept) =
+    ((m : Maker) × (maker r s ≡ Some m)) × (seq_in (created r) q ≡ None) × (out_ident r s ≡ None)
+Fresh r _ = Unit {0}
+
+-- a batch may be added, record by record
+abbrev pub Allows : List Fact → List Fact → List Fact → Type 0
+Allows mine theirs [] = Unit {0}
+Allows mine theirs (rec ∷ delta) = Fresh mine rec × Justified mine theirs rec × Allows (mine ++ rec ∷ []) theirs delta
+
+-- the records that a node has tell what all that it ever had tell
+pub record Keeps (r whole : List Fact) : Type 0 where
+  pub nodes_ : flat_map nodes_of r ≡ flat_map nodes_of whole
+  pub addresses_ : flat_map addresses_of r ≡ flat_map addresses_of whole
+  pub makers_ : makers r ≡ makers whole
+  pub created_ : created r ≡ created whole
+  pub draws_ : flat_map draws_of r ≡ flat_map draws_of whole
+  pub marks_ : flat_map mark_of r ≡ flat_map mark_of whole
+  pub closes_ : flat_map close_of r ≡ flat_map close_of whole
+  pub told_ : flat_map told_of r ≡ flat_map told_of whole
+  pub accepted_ : (s : ℕ) → accepted r s ≡ accepted whole s
+  pub received_ : (s : ℕ) → received r s ≡ received whole s
+  pub acked_ : (s n : ℕ) → in_ranges (acked r s) n ≡ in_ranges (acked whole s) n
+
+-- the sequences that these records make are between the two nodes
+abbrev pub AreWith : List Fact → List Fact → Type 0
+AreWith theirs r = AllByRecursion (IsWith theirs) (makers r)
+
+-- the store has room for the batch
+abbrev pub HasRoom : Terms → Node → List Fact → Type 0
+HasRoom terms x delta = end_of terms x.entries + 6 + terms.size delta ≤ 268435456
+
+-- the batch of a call that failed may be added
+abbrev pub AllowsState : Terms → Node → List Fact → State → Type 0
+AllowsState terms x theirs (Writing delta) = Allows x.whole theirs delta × AreWith theirs delta × HasRoom terms x delta
+AllowsState terms x theirs Up = Unit {0}
+
+-- each number that the node drew takes room on its disk, which is bounded
+pub record IsBounded (terms : Terms) (x : Node) : Type 0 where
+  pub below : counter x.whole ≤ end_of terms x.entries
+  pub store : end_of terms x.entries ≤ 268435456
+
+-- a packet says what is so by the records of the node that sent it
+abbrev pub SaysPacket : World → Packet → Type 0
+SaysPacket w packet = Says (node w packet.from).whole packet.message
+
+-- of one node of a world, beside another one with these records
+pub record IsSoundNode (terms : Terms) (at : Text) (x : Node) (theirs : List Fact) : Type 0 where
+  pub failed : AllowsState terms x theirs x.state
+  pub with_ : AreWith theirs x.whole
+  pub at_ : address x.whole ≡ at
+  pub kept : Keeps (records x) x.whole
+  pub bounded : IsBounded terms x
+
+-- what holds in every world that a run can reach
+pub record IsSound (terms : Terms) (w : World) : Type 0 where
+  pub agree : Agree 1 2 w.one.whole w.two.whole
+  pub packets : AllByRecursion (SaysPacket w) w.packets
+  pub one : IsSoundNode terms w.at_one w.one w.two.whole
+  pub two : IsSoundNode terms w.at_two w.two w.one.whole

@@ -1,0 +1,160 @@
+-- Two nodes, all packets that were ever sent, and what each line of a script does.
+use Rattle.std.specs.Prelude.{◌≡◌, ℕ, Bool, true, false, if◌then◌else◌, List, [], ◌∷◌, ◌++◌, map, Option, Some, None, Result, Ok, Err}
+use Rattle.rm_base.specs.Numbered.{numbered}
+use Rattle.rm_base.specs.declared.message.Behaviour.{Behaviour}
+use Rattle.rm_base.specs.declared.message.Behaviour.TheVariants.{FollowingFirstGap}
+use Rattle.rm_elements.specs.declared.lapse.Lapse.{Lapse}
+use Rattle.rm_wire.specs.declared.message.Message.{Message}
+use Rattle.rm_wire.specs.declared.refusal.Refusal.{Refusal}
+use Rattle.record_batch.specs.declared.record.Via.{Via}
+use Rattle.record_batch.specs.Fact.{Made}
+use Rattle.sequence_table.specs.Words.{Text}
+use Rattle.rm_protocol.specs.Calls.{Answer, Wish, create, send, close, end, tick, receive}
+use Rattle.rm_protocol.specs.Node.{Node, State, Up, records, end_of, mounted, after, said_after}
+use Rattle.rm_protocol.specs.Said.{sent_of}
+use Rattle.rm_protocol.specs.Terms.{Terms}
+use Rattle.rm_protocol.specs.Verdict.{has_room}
+
+-- one of the two nodes
+pub data Side : Type 0 where
+  One : Side
+  Two : Side
+
+-- and the other one
+abbrev pub other : Side → Side
+other One = Two
+other Two = One
+
+-- a message on the wire, and the node that sent it
+pub record Packet : Type 0 where
+  pub from : Side
+  pub message : Message
+
+-- each node has an address
+pub record World : Type 0 where
+  pub at_one : Text
+  pub at_two : Text
+  pub one : Node
+  pub two : Node
+  pub packets : List Packet
+
+-- a node of a world
+abbrev pub node : World → Side → Node
+node w One = w.one
+node w Two = w.two
+
+-- a node's address
+abbrev pub place : World → Side → Text
+place w One = w.at_one
+place w Two = w.at_two
+
+-- a world with another node at a side
+abbrev pub with_node : World → Side → Node → World
+with_node w One x = record w { one = x }
+with_node w Two x = record w { two = x }
+
+-- the lines of a script
+pub data Event : Type 0 where
+  Create : Side → (via : Via) → (expires : Lapse) → (offer : Option Behaviour) → Event
+  Grant : Side → Behaviour → Event
+  Send : Side → (seq : ℕ) → Text → Event
+  Tick : Side → (now : ℕ) → Event
+  Deliver : (packet : ℕ) → Event
+  Close : Side → (seq : ℕ) → Event
+  End : Side → (seq : ℕ) → Event
+  Arm : Side → (calls : ℕ) → Event
+  Crash : Side → (kept : Bool) → Event
+  Noise : Side → Refusal → Event
+
+-- messages that a node sent, as packets
+abbrev pub sent : Side → List Message → List Packet
+sent from outs = map (λ (m : Message). record { from = from; message = m }) outs
+
+-- packets behind others: one for which the network has no room is lost
+abbrev pub messages_in : List Packet → List Message
+messages_in packets = map (λ (p : Packet). p.message) packets
+
+-- the packets after more were put, one after the other
+abbrev pub puts : Terms → List Packet → List Packet → List Packet
+puts terms packets [] = packets
+puts terms packets (p ∷ more) =
+    puts terms (if terms.takes (messages_in packets) p.message then packets ++ p ∷ [] else packets) more
+
+-- a world after a node handed out messages
+abbrev pub hands_out : Terms → World → Side → List Message → World
+hands_out terms w side outs = record w { packets = puts terms w.packets (sent side outs) }
+
+-- a node is called: what it becomes, and what leaves it, where there is a connection or not
+abbrev pub calls : Terms → World → Side → Bool → Answer → World
+calls terms w side connected answer =
+    hands_out terms (with_node w side (after (node w side) answer)) side
+    (sent_of connected (said_after (node w side) answer))
+
+-- what comes of a message, or of bytes that are none, at a node
+abbrev pub received_by : Terms → Node → Result Message Refusal → Answer
+received_by terms x content = receive terms (records x) (end_of terms x.entries) x.clock x.granted content
+
+-- a world after a packet was delivered, where there is one with this number
+abbrev pub arrives : Terms → World → Option Packet → World
+arrives terms w None = w
+arrives terms w (Some packet) =
+    calls terms w (other packet.from) true (received_by terms (node w (other packet.from)) (Ok packet.message))
+
+-- what a line asks for: a sequence to the other node
+abbrev pub wish_of : World → Side → Via → Lapse → Option Behaviour → Wish
+wish_of w side via expires offer = record { to = place w (other side); via = via; expires = expires; offer = offer }
+
+-- a tick sets the clock of a node that isn't down
+abbrev pub clock_by : State → ℕ → ℕ → ℕ
+clock_by Up old now = now
+clock_by _ old now = old
+
+-- a node whose clock was set
+abbrev pub with_clock : Node → ℕ → Node
+with_clock x now = record x { clock = clock_by x.state x.clock now }
+
+-- a world after one line of a script
+abbrev pub happens : Terms → World → Event → World
+happens terms w (Create side via expires offer) =
+    calls terms w side false (create terms (records (node w side)) (end_of terms (node w side).entries)
+    (wish_of w side via expires offer))
+happens terms w (Grant side behaviour) = with_node w side (record (node w side) { granted = behaviour })
+happens terms w (Send side seq text) =
+    calls terms w side false (send terms (records (node w side)) (end_of terms (node w side).entries) seq text)
+happens terms w (Tick side now) =
+    calls terms (with_node w side (with_clock (node w side) now)) side false
+    (tick terms (records (node w side)) (end_of terms (node w side).entries) now)
+happens terms w (Deliver k) = arrives terms w (numbered w.packets k)
+happens terms w (Close side seq) =
+    calls terms w side false (close terms (records (node w side)) (end_of terms (node w side).entries) seq
+    (node w side).clock)
+happens terms w (End side seq) =
+    calls terms w side false (end terms (records (node w side)) (end_of terms (node w side).entries) seq)
+happens terms w (Arm side c) = with_node w side (record (node w side) { fuse = Some c })
+happens terms w (Crash side kept) = with_node w side (mounted (node w side) kept)
+happens terms w (Noise side refusal) = calls terms w side true (received_by terms (node w side) (Err refusal))
+
+-- a world after the lines of a script, in order
+abbrev pub run : Terms → List Event → World → World
+run terms [] w = w
+run terms (event ∷ events) w = run terms events (happens terms w event)
+
+-- a node that was just made
+abbrev pub made : ℕ → Text → Node
+made number address = record {
+  entries = (Made number address ∷ []) ∷ [];
+  whole = Made number address ∷ [];
+  fuse = None;
+  state = Up;
+  granted = FollowingFirstGap;
+  clock = 0;
+}
+
+-- two nodes that were just made, with the numbers 1 and 2
+abbrev pub start : Text → Text → World
+start one two = record { at_one = one; at_two = two; one = made 1 one; two = made 2 two; packets = [] }
+
+-- both were made: the record of each fitted its journal, which had a head of 8 bytes
+pub record AreMade (terms : Terms) (one two : Text) : Type 0 where
+  pub one_ : has_room terms 8 (Made 1 one ∷ []) ≡ true
+  pub two_ : has_room terms 8 (Made 2 two ∷ []) ≡ true

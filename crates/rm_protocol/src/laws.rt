@@ -1,0 +1,114 @@
+//! Laws of the protocol.
+ghost use Rattle.std.specs.Prelude.{◌≡◌, ◌∷◌, [], List, length};
+ghost use Rattle.rm_protocol.specs.Examples.{with_a_close, with_an_end, with_an_expiry, example_terms, in_order, played, with_a_crash, with_a_gap, with_an_offer};
+ghost use Rattle.rm_protocol.specs.Next.{EachMayComeNext};
+ghost use Rattle.rm_protocol.specs.Node.{records};
+ghost use Rattle.rm_protocol.specs.Recorded.{GapIsClosed, NewIsRecorded, OnlyHeardIsRecorded};
+ghost use Rattle.rm_protocol.specs.Sent.{AcceptedIsSent};
+ghost use Rattle.rm_protocol.specs.Sound.{IsSound};
+ghost use Rattle.rm_protocol.specs.Terms.{AreTerms, Terms};
+ghost use Rattle.rm_protocol.specs.Word.{KeepsAll};
+ghost use Rattle.rm_protocol.specs.World.{AreMade, Event, World, happens, run, start};
+ghost use Rattle.sequence_table.specs.Destinations.{discarded, inbox, texts};
+ghost use Rattle.sequence_table.specs.Words.{Text};
+
+use sequence_table::laws::one_number_one_identifier;
+
+/// Whatever is sent, lost, repeated and reordered, and whichever node crashes at whichever device call, every run keeps
+/// the headline at each pair of images of both disks.
+pub fn every_run_keeps_the_word()
+    ensures { (terms : Terms) (one two : Text) → AreTerms terms → AreMade terms one two → (events : List Event)
+        → KeepsAll (run terms events (start one two)) }
+{
+    one_number_one_identifier()
+}
+
+/// Each line of a script keeps what holds of both nodes and of all packets.
+pub fn every_step_keeps_the_agreement()
+    ensures { (terms : Terms) (w : World) (event : Event) → AreTerms terms → IsSound terms w
+        → IsSound terms (happens terms w event) }
+{}
+
+/// A message that is new, within the window and for an open sequence is recorded by the call that brings it.
+pub fn a_new_message_is_recorded()
+    ensures { NewIsRecorded }
+{}
+
+/// Under DiscardFollowingFirstGap such a message is released by that call where it closes the gap.
+pub fn what_closes_the_gap_is_released()
+    ensures { GapIsClosed }
+{}
+
+/// A message brings no other records than those of the receiving table: Received is its data, and nothing is accepted.
+pub fn only_what_was_heard_is_recorded()
+    ensures { OnlyHeardIsRecorded }
+{}
+
+/// Each record that a call adds may come next, where those before the call could.
+pub fn each_record_may_come_next()
+    ensures { EachMayComeNext }
+{}
+
+/// At each image of each disk, what a source accepted is what the report says was sent.
+pub fn accepted_is_sent()
+    ensures { AcceptedIsSent }
+{}
+
+/// What is asked of the terms can be met.
+pub fn there_are_terms()
+    ensures { AreTerms example_terms }
+{}
+
+/// Three messages, in order: the entries of both, the packets, and the inbox.
+pub fn messages_in_order()
+    ensures one { length (played in_order).one.entries ≡ 9 }
+    ensures two { length (played in_order).two.entries ≡ 5 }
+    ensures packets { length (played in_order).packets ≡ 8 }
+    ensures inbox { texts (inbox (records (played in_order).two) 1) ≡ (1 ∷ []) ∷ (2 ∷ []) ∷ (3 ∷ []) ∷ [] }
+{}
+
+/// A gap when the sequence is closed under DiscardEntireSequence: nothing is released, and what came is discarded.
+pub fn a_gap_in_all_or_none()
+    ensures two { length (played with_a_gap).two.entries ≡ 5 }
+    ensures packets { length (played with_a_gap).packets ≡ 9 }
+    ensures inbox { inbox (records (played with_a_gap).two) 1 ≡ [] }
+    ensures discarded { length (discarded (records (played with_a_gap).two) 1) ≡ 2 }
+{}
+
+/// A crash inside a call: nothing was said, and the message that comes again is taken.
+pub fn a_crash_inside_a_call()
+    ensures two { length (played with_a_crash).two.entries ≡ 4 }
+    ensures packets { length (played with_a_crash).packets ≡ 6 }
+    ensures inbox { texts (inbox (records (played with_a_crash).two) 1) ≡ (1 ∷ []) ∷ (2 ∷ []) ∷ [] }
+{}
+
+/// A sequence that was offered takes messages from the offer on.
+pub fn an_offer_taken()
+    ensures one { length (played with_an_offer).one.entries ≡ 4 }
+    ensures two { length (played with_an_offer).two.entries ≡ 4 }
+    ensures packets { length (played with_an_offer).packets ≡ 4 }
+    ensures inbox { texts (inbox (records (played with_an_offer).one) 2) ≡ (7 ∷ []) ∷ [] }
+{}
+
+/// A message that comes after the close is refused, and a duplicate gets the final acknowledgement.
+pub fn a_close_before_all_came()
+    ensures one { length (played with_a_close).one.entries ≡ 7 }
+    ensures two { length (played with_a_close).two.entries ≡ 4 }
+    ensures packets { length (played with_a_close).packets ≡ 10 }
+    ensures inbox { texts (inbox (records (played with_a_close).two) 1) ≡ (1 ∷ []) ∷ [] }
+{}
+
+/// A sequence that is terminated takes no message, and its source learns of the end.
+pub fn an_end_is_answered()
+    ensures one { length (played with_an_end).one.entries ≡ 6 }
+    ensures two { length (played with_an_end).two.entries ≡ 4 }
+    ensures packets { length (played with_an_end).packets ≡ 7 }
+{}
+
+/// A tick ends a sequence at its deadline and not before.
+pub fn a_sequence_expires()
+    ensures one { length (played with_an_expiry).one.entries ≡ 5 }
+    ensures two { length (played with_an_expiry).two.entries ≡ 4 }
+    ensures packets { length (played with_an_expiry).packets ≡ 6 }
+    ensures inbox { texts (inbox (records (played with_an_expiry).two) 1) ≡ (1 ∷ []) ∷ [] }
+{}

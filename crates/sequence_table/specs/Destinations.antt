@@ -1,0 +1,132 @@
+-- What a list of records says of incoming sequences: WS-ReliableMessaging 1.2, sections 2.4, 3.4 to 3.6 and 3.9.
+use Rattle.std.specs.Prelude.{ℕ, ◌==◌, ◌&&◌, ◌||◌, not, nat_le, Bool, true, false, if◌then◌else◌, List, [], ◌∷◌, length, drop, Option, Some, None, map}
+use Rattle.std.specs.List.{flat_map}
+use Rattle.rm_base.specs.NumberSet.{greatest_of}
+use Rattle.rm_base.specs.declared.message.Behaviour.{Behaviour}
+use Rattle.rm_base.specs.declared.message.Behaviour.TheVariants.{EntireSequence, FollowingFirstGap}
+use Rattle.rm_base.specs.declared.message.Cause.TheVariants.{Peer}
+use Rattle.rm_base.specs.declared.message.Payload.{Payload}
+use Rattle.record_batch.specs.Fact.{Fact, Received, Closed, Ended}
+use Rattle.sequence_table.specs.Words.{Text, is_empty, at_seq, sorted_onto, without_gap, numbers_of, contents_of}
+use Rattle.sequence_table.specs.Makers.{Maker, Incoming, Offered, maker}
+
+-- the message that a record takes for sequence s
+abbrev pub received_of : ℕ → Fact → List (ℕ × Payload)
+received_of s (Received seq n payload) = if seq == s then (n, payload) ∷ [] else []
+received_of s _ = []
+
+-- the messages that were received, in the order in which they came
+abbrev pub received : List Fact → ℕ → List (ℕ × Payload)
+received r s = flat_map (received_of s) r
+
+-- the numbers that were received: what was received is held for good
+abbrev pub held : List Fact → ℕ → List ℕ
+held r s = numbers_of (received r s)
+
+-- the messages that were received, by rising number
+abbrev pub messages : List Fact → ℕ → List (ℕ × Payload)
+messages r s = sorted_onto [] (received r s)
+
+-- the messages up to the first gap
+abbrev pub front_part : List Fact → ℕ → List Payload
+front_part r s = without_gap 0 (messages r s)
+
+-- the greatest m such that 1 to m were received
+abbrev pub front : List Fact → ℕ → ℕ
+front r s = length (front_part r s)
+
+-- the records by which a sequence was closed or ended: true where it was ended
+abbrev pub close_of : Fact → List (ℕ × Bool)
+close_of (Closed seq cause last) = (seq, false) ∷ []
+close_of (Ended seq cause last) = (seq, true) ∷ []
+close_of _ = []
+
+-- those records of one sequence, in order
+abbrev pub closes : List Fact → ℕ → List Bool
+closes r s = at_seq s (flat_map close_of r)
+
+-- one of them is true
+abbrev pub any_true : List Bool → Bool
+any_true [] = false
+any_true (x ∷ xs) = x || any_true xs
+
+-- there is a record by which the sequence was closed or ended
+abbrev pub is_stopped : List Fact → ℕ → Bool
+is_stopped r s = not (is_empty (closes r s))
+
+-- there is a record by which it was ended
+abbrev pub has_end : List Fact → ℕ → Bool
+has_end r s = any_true (closes r s)
+
+-- the moment at which a sequence expires, in milliseconds since 1970 UTC; an offered one never does
+abbrev pub deadline_of : Option Maker → Option ℕ
+deadline_of (Some (Incoming counter message_id acks_to behaviour deadline lapse)) = deadline
+deadline_of _ = None
+
+-- there is a deadline, and it is at most now
+abbrev pub is_past : Option ℕ → ℕ → Bool
+is_past None now = false
+is_past (Some moment) now = nat_le moment now
+
+-- ended at a moment: by a record, or by its deadline
+abbrev pub is_ended : List Fact → ℕ → ℕ → Bool
+is_ended r s now = has_end r s || is_past (deadline_of (maker r s)) now
+
+-- no longer open at a moment
+abbrev pub is_over : List Fact → ℕ → ℕ → Bool
+is_over r s now = is_stopped r s || is_past (deadline_of (maker r s)) now
+
+-- the last numbers that its peer told with CloseSequence or TerminateSequence, 0 where there was none
+abbrev pub told_of : Fact → List (ℕ × ℕ)
+told_of (Closed seq Peer last) = (seq, last) ∷ []
+told_of (Ended seq Peer last) = (seq, last) ∷ []
+told_of _ = []
+
+-- those of one sequence, in order
+abbrev pub told : List Fact → ℕ → List ℕ
+told r s = at_seq s (flat_map told_of r)
+
+-- the number that was told, or the greatest that came where none was told
+abbrev pub last_number : ℕ → List (ℕ × Payload) → ℕ
+last_number n ms = if n == 0 then greatest_of (numbers_of ms) else n
+
+-- the messages are exactly those from 1 to the last number
+abbrev pub is_whole : ℕ → List (ℕ × Payload) → Bool
+is_whole n ms = (length (without_gap 0 ms) == last_number n ms) && (length ms == last_number n ms)
+
+-- by what the peer told first
+abbrev pub is_whole_by : List ℕ → List (ℕ × Payload) → Bool
+is_whole_by [] ms = false
+is_whole_by (n ∷ ns) ms = is_whole n ms
+
+-- its peer closed or ended the sequence, and all messages were received
+abbrev pub is_complete : List Fact → ℕ → Bool
+is_complete r s = is_whole_by (told r s) (messages r s)
+
+-- IncompleteSequenceBehavior: section 3.4. DiscardEntireSequence: all messages of a complete sequence, else none.
+-- Otherwise those up to the first gap
+abbrev pub inbox_of : Behaviour → List ℕ → List (ℕ × Payload) → List Payload
+inbox_of EntireSequence ns ms = if is_whole_by ns ms then contents_of ms else []
+inbox_of _ ns ms = without_gap 0 ms
+
+-- what was announced for a sequence that was made so
+abbrev pub behaviour_of : Option Maker → Behaviour
+behaviour_of (Some (Incoming counter message_id acks_to behaviour deadline lapse)) = behaviour
+behaviour_of (Some (Offered ticket counter to behaviour)) = behaviour
+behaviour_of _ = FollowingFirstGap
+
+-- what was announced for sequence s
+abbrev pub behaviour : List Fact → ℕ → Behaviour
+behaviour r s = behaviour_of (maker r s)
+
+-- what is released to the application
+abbrev pub inbox : List Fact → ℕ → List Payload
+inbox r s = inbox_of (behaviour r s) (told r s) (messages r s)
+
+-- of what was received, what is never released, once the sequence is closed or ended by a record
+abbrev pub discarded : List Fact → ℕ → List Payload
+discarded r s = if is_stopped r s then drop (length (inbox r s)) (contents_of (messages r s)) else []
+
+-- the bytes of payloads
+abbrev pub texts : List Payload → List Text
+texts ps = map (λ (p : Payload). p.bytes) ps
