@@ -1,0 +1,289 @@
+//! What no clause says: the texts of worked runs, and that ample memory gives each status where its cause holds.
+ghost use Rattle.std.specs.Prelude.{None};
+
+use rm_base::{Blob, Items, MemSink, MemSource, Memory, Numbers, Sink, SinkError};
+use rm_command::run;
+use rm_world::preset_stage;
+use std::alloc::Global;
+use std::test::Fail;
+
+// What is asked of a run. The read with the number `failing` fails, where there is one; reads count from 0.
+#[derive(Clone, Copy, Debug)]
+struct Asked<'a> {
+    words: &'a [&'a [u8]],
+    input: &'a [u8],
+    failing: Option<u64>,
+}
+
+fn given<'a>(words: &'a [&'a [u8]], input: &'a [u8], failing: Option<u64>) -> Asked<'a> {
+    Asked {
+        words,
+        input,
+        failing,
+    }
+}
+
+const NOTHING: &[&[u8]] = &[];
+
+const REPLAY: &[&[u8]] = &[b"replay"];
+
+const CHECK: &[&[u8]] = &[b"check"];
+
+const USAGE: &[u8] = b"usage: wsrm check,replay,soak,make,serve,send,push,close,end,inbox,policy\n";
+
+// Runs the program, and answers its status and how many packets were sent.
+fn run_on<K: Sink>(alloc: Global, given: Asked<'_>, out: &mut K) -> Result<(u8, usize), Memory> {
+    let mut words = Items::new(alloc);
+    for word in given.words {
+        words.push(Blob::from_slice(alloc, word)?)?;
+    }
+    let mut fail_at = Numbers::new(alloc);
+    if let Some(number) = given.failing {
+        fail_at.push(number.saturating_add(1))?;
+    }
+    let mut input = MemSource::new(Blob::from_slice(alloc, given.input)?, fail_at);
+    let mut stage = preset_stage(alloc);
+    let status = run(alloc, words.as_slice(), &mut input, out, &mut stage);
+    Ok((status, stage.packets.len()))
+}
+
+// The status of a run, and what it wrote.
+fn run_whole(alloc: Global, given: Asked<'_>) -> Result<(u8, MemSink), Memory> {
+    let mut out = MemSink::new(alloc, Numbers::new(alloc));
+    let (status, _packets) = run_on(alloc, given, &mut out)?;
+    Ok((status, out))
+}
+
+// A piece so many times.
+fn repeated(alloc: Global, piece: &[u8], count: u32) -> Result<Blob, Memory> {
+    let mut bytes = Blob::new(alloc);
+    for _ in 0..count {
+        bytes.push_all(piece)?;
+    }
+    Ok(bytes)
+}
+
+const ROW: &[u8] =
+    b"send 1 1 <p>1</p>\nsend 1 1 <p>2</p>\ndeliver 2\ndeliver 1\ndeliver 1\ndeliver 4\ndeliver 3\ndeliver 9\n";
+
+const ROW_REPORT: &[u8] =
+    b"1 ok 1 0 1\n2 ok 2 0 2\n3 ok 2 1 3\n4 ok 2 2 4\n5 ok 2 2 5\n6 ok 3 2 5\n7 ok 3 2 5\n8 no-packet 3 2 5\n\
+        out 1 1 open accepted 2 acked 1-2\nin 2 1 open dfg received 1-2 inbox 2 discarded 0\n\
+        item 2 1 1 3c703e313c2f703e\nitem 2 1 2 3c703e323c2f703e\n";
+
+#[test]
+fn reports(rt: HostRuntime) -> Result<(), Fail> {
+    let full = repeated(rt.alloc(), b"send 1 1 x\n", 1025)?;
+    // a script, and its report or the end of it
+    let cases: [(&[u8], &[u8]); 6] = [
+        (ROW, ROW_REPORT),
+        (
+            b"",
+            b"out 1 1 open accepted 0 acked -\nin 2 1 open dfg received - inbox 0 discarded 0\n",
+        ),
+        // the second of three messages is lost, and so is each acknowledgement but the last, which is repeated
+        (
+            b"# lost\n\nsend 1 1 a\nsend 1 1 b\nsend 1 1 c\ndeliver 1\ndeliver 3\ndeliver 5\ndeliver 5",
+            b"3 ok 1 0 1\n4 ok 2 0 2\n5 ok 3 0 3\n6 ok 3 1 4\n7 ok 3 2 5\n8 ok 4 2 5\n9 ok 4 2 5\n\
+                out 1 1 open accepted 3 acked 1-1,3-3\nin 2 1 open dfg received 1-1,3-3 inbox 1 discarded 0\n\
+                item 2 1 1 61\n",
+        ),
+        // all come in the other order, and the older acknowledgement last
+        (
+            b"send 1 1 a\nsend 1 1 b\ndeliver 2\ndeliver 1\ndeliver 4\ndeliver 3\n",
+            b"1 ok 1 0 1\n2 ok 2 0 2\n3 ok 2 1 3\n4 ok 2 2 4\n5 ok 3 2 4\n6 ok 3 2 4\n\
+                out 1 1 open accepted 2 acked 1-2\nin 2 1 open dfg received 1-2 inbox 2 discarded 0\nitem 2 1 1 61\n\
+                item 2 1 2 62\n",
+        ),
+        // a packet that isn't sent yet
+        (
+            b"deliver 1\nsend 1 1 a\ndeliver 1\ndeliver 65536\n",
+            b"1 no-packet 0 0 0\n2 ok 1 0 1\n3 ok 1 1 2\n4 no-packet 1 1 2\nout 1 1 open accepted 1 acked -\n\
+                in 2 1 open dfg received 1-1 inbox 1 discarded 0\nitem 2 1 1 61\n",
+        ),
+        (
+            full.as_slice(),
+            b"1024 ok 1024 0 1024\n1025 refused WindowFull 1024 0 1024\nout 1 1 open accepted 1024 acked -\n\
+                in 2 1 open dfg received - inbox 0 discarded 0\n",
+        ),
+    ];
+    for (input, report) in cases {
+        let (status, out) = run_whole(rt.alloc(), given(REPLAY, input, None))?;
+        assert_eq!(rt; status, 0, "at {input:?}");
+        if input.len() < 11275 {
+            assert_eq!(rt; out.as_slice(), report);
+        } else {
+            assert!(rt; out.as_slice().ends_with(report), "at the end");
+        }
+    }
+    Ok(())
+}
+
+#[test]
+fn limits(rt: HostRuntime) -> Result<(), Fail> {
+    let script = repeated(rt.alloc(), b"#######\n", 8192)?;
+    let mut longer = repeated(rt.alloc(), b"#######\n", 8192)?;
+    longer.push_all(b"#")?;
+    let too_long: &[u8] = b"too long\n";
+    let read_fault: &[u8] = b"read fault\n";
+    // the read that fails, and what comes then
+    let cases: [(&[u8], Option<u64>, u8, &[u8]); 6] = [
+        (script.as_slice(), None, 0, b""),
+        (longer.as_slice(), None, 8, too_long),
+        (script.as_slice(), Some(0), 4, read_fault),
+        (script.as_slice(), Some(1), 4, read_fault),
+        (script.as_slice(), Some(2), 0, b""),
+        (longer.as_slice(), Some(2), 8, too_long),
+    ];
+    for (input, failing, want, line) in cases {
+        let (status, out) = run_whole(rt.alloc(), given(REPLAY, input, failing))?;
+        assert_eq!(rt; status, want, "with {failing:?}");
+        if want != 0 {
+            assert_eq!(rt; out.as_slice(), line);
+        }
+    }
+    Ok(())
+}
+
+const ENVELOPE: &[u8] = b"<?xml version=\"1.0\" encoding=\"UTF-8\"?><!-- x --><S:Envelope \
+        xmlns:S='http://www.w3.org/2003/05/soap-envelope' \
+        xmlns:wsa=\"http://www.w3.org/2005/08/addressing\" \
+        xmlns:rm=\"http://docs.oasis-open.org/ws-rx/wsrm/200702\" xmlns:o=\"urn:o\"><S:Header><wsa:Action \
+        S:mustUnderstand=\"1\">urn:buy&amp;sell</wsa:Action><rm:Sequence \
+        S:mustUnderstand=\"1\"><rm:Identifier>urn:q</rm:Identifier><rm:MessageNumber> 07 \
+        </rm:MessageNumber></rm:Sequence></S:Header><S:Body><o:x/></S:Body></S:Envelope>";
+
+const ENVELOPE_TEXT: &[u8] =
+    b"headers 2\npayload 3c6f3a782f3e\nscope S http://www.w3.org/2003/05/soap-envelope\nscope o urn:o\n\
+        scope rm http://docs.oasis-open.org/ws-rx/wsrm/200702\nscope wsa http://www.w3.org/2005/08/addressing\n";
+
+// A small envelope whose payload is so many spaces.
+fn padded(alloc: Global, spaces: u32) -> Result<Blob, Memory> {
+    let mut bytes = Blob::from_slice(
+        alloc,
+        b"<Envelope xmlns=\"http://www.w3.org/2003/05/soap-envelope\"><Body>",
+    )?;
+    bytes.push_all(repeated(alloc, b" ", spaces)?.as_slice())?;
+    bytes.push_all(b"</Body></Envelope>")?;
+    Ok(bytes)
+}
+
+#[test]
+fn checks(rt: HostRuntime) -> Result<(), Fail> {
+    let longest = padded(rt.alloc(), 2097070)?;
+    let longer = padded(rt.alloc(), 2097071)?;
+    let cut = ENVELOPE.split_at(ENVELOPE.len() - 1).0;
+    // the bytes, the status, and how what is printed ends
+    let cases: [(&[u8], u8, &[u8]); 10] = [
+        (ENVELOPE, 0, ENVELOPE_TEXT),
+        (
+            longest.as_slice(),
+            0,
+            b"2020\nscope  http://www.w3.org/2003/05/soap-envelope\n",
+        ),
+        (longer.as_slice(), 8, b"too long\n"),
+        (cut, 9, b"fault NotProfile\n"),
+        (b"<!DOCTYPE a><a/>", 9, b"fault NotProfile\n"),
+        (b"", 9, b"fault NotProfile\n"),
+        (b"<\xff", 9, b"fault NotUtf8\n"),
+        (
+            b"<Envelope xmlns=\"http://schemas.xmlsoap.org/soap/envelope/\"><Body/></Envelope>",
+            9,
+            b"fault WrongVersion\n",
+        ),
+        (
+            b"<e:Envelope xmlns:e=\"http://www.w3.org/2003/05/soap-envelope\"/>",
+            9,
+            b"fault NotEnvelope\n",
+        ),
+        // a prefix of two bytes and a namespace with a space and a percent sign
+        (
+            b"<e:Envelope xmlns:e='http://www.w3.org/2003/05/soap-envelope' xmlns:\xc3\xa9='a \
+                %~'><e:Body/></e:Envelope>",
+            0,
+            b"headers 0\npayload \nscope e http://www.w3.org/2003/05/soap-envelope\nscope %C3%A9 a%20%25~\n",
+        ),
+    ];
+    for (input, want, text) in cases {
+        let (status, out) = run_whole(rt.alloc(), given(CHECK, input, None))?;
+        assert_eq!(rt; status, want, "before {text:?}");
+        assert!(rt; out.as_slice().ends_with(text), "{text:?}");
+        if input.len() < 1000 {
+            assert_eq!(rt; out.as_slice().len(), text.len(), "{text:?}");
+        }
+    }
+    Ok(())
+}
+
+// A sink that takes at most three bytes a call, and after so many calls nothing more.
+#[derive(Drop)]
+struct Narrow {
+    written: Blob,
+    calls_left: u64,
+    faults: u64,
+}
+
+impl Sink for Narrow {
+    ghost held = { λ _. None };
+
+    ghost faults = { λ s. s.faults };
+
+    fn write(&mut self, bytes: &[u8]) -> Result<usize, SinkError> {
+        if self.calls_left == 0 {
+            self.faults = self.faults.saturating_add(1);
+            return Err(SinkError::Failed);
+        }
+        self.calls_left -= 1;
+        let count = bytes.len().min(3);
+        match self.written.push_all(&bytes[..count]) {
+            Ok(()) => Ok(count),
+            Err(_) => Err(SinkError::Memory),
+        }
+    }
+}
+
+// The words, the input and the read that fails; the status where all is written, and where it isn't; what is written;
+// and how many packets were sent.
+type Case<'a> = (Asked<'a>, u8, u8, &'a [u8], usize);
+
+#[test]
+fn each_write_fails_in_turn(rt: HostRuntime) -> Result<(), Fail> {
+    let cases: [Case<'_>; 11] = [
+        (given(REPLAY, ROW, None), 0, 5, ROW_REPORT, 5),
+        (given(REPLAY, b"send 1 1\n", None), 3, 3, b"bad line 1\n", 0),
+        (
+            given(REPLAY, b"\nsend 1 1 x\ndeliver 0", None),
+            3,
+            3,
+            b"bad line 3\n",
+            0,
+        ),
+        (given(REPLAY, ROW, Some(0)), 4, 4, b"read fault\n", 0),
+        (given(CHECK, ENVELOPE, None), 0, 5, ENVELOPE_TEXT, 0),
+        (given(CHECK, ENVELOPE, Some(1)), 4, 4, b"read fault\n", 0),
+        (given(CHECK, b"<\xff", None), 9, 9, b"fault NotUtf8\n", 0),
+        (given(NOTHING, ROW, None), 2, 2, USAGE, 0),
+        (given(&[b"replay", b"x"], ROW, None), 2, 2, USAGE, 0),
+        (given(&[b"check", b"replay"], ROW, None), 2, 2, USAGE, 0),
+        (given(&[b"check "], ROW, None), 2, 2, USAGE, 0),
+    ];
+    for (given, whole_status, cut_status, text, packets) in cases {
+        for calls_left in 0..80 {
+            let mut out = Narrow {
+                written: Blob::new(rt.alloc()),
+                calls_left,
+                faults: 0,
+            };
+            let ended = run_on(rt.alloc(), given, &mut out)?;
+            let count = text.len().min(calls_left as usize * 3);
+            assert_eq!(rt; out.written.as_slice(), &text[..count]);
+            let status = if count < text.len() {
+                cut_status
+            } else {
+                whole_status
+            };
+            assert_eq!(rt; ended, (status, packets), "after {calls_left} of {text:?}");
+        }
+    }
+    Ok(())
+}

@@ -1,0 +1,27 @@
+//! The pieces of an element within a frame.
+use soap_nodes::{
+    push_attribute, push_begin, push_bytes, push_close, push_declaration, push_leaf, push_number,
+    push_text, push_void,
+};
+use std::test::Fail;
+
+#[test]
+fn pieces(rt: HostRuntime) -> Result<(), Fail> {
+    let mut out = Vec::new(rt.alloc());
+    push_begin(b"s:NotUnderstood", &mut out)?;
+    push_attribute(b"qname", b"q:L\"\t", &mut out)?;
+    push_declaration(b"q", b"urn:<q>", &mut out)?;
+    push_bytes(b">", &mut out)?;
+    push_text(b"a<b", &mut out)?;
+    push_leaf(b"r:Identifier", b"urn:1&2", &mut out)?;
+    push_number(b"r:MessageNumber", 9223372036854775807, &mut out)?;
+    push_void(b"r:Final", &mut out)?;
+    push_close(b"s:NotUnderstood", &mut out)?;
+    let written = concat!(
+        "<s:NotUnderstood qname=\"q:L&quot;&#9;\" xmlns:q=\"urn:&lt;q&gt;\">a&lt;b",
+        "<r:Identifier>urn:1&amp;2</r:Identifier><r:MessageNumber>9223372036854775807</r:MessageNumber><r:Final/>",
+        "</s:NotUnderstood>"
+    );
+    assert_eq!(rt; out.as_slice(), written.as_bytes());
+    Ok(())
+}
