@@ -1,5 +1,6 @@
 -- Moving bytes to a body, a piece at a time.
-use Rattle.std.proofs.Common.{◌≡◌, ℕ, ◌≤◌, ◌<◌, ◌+◌, List, [], ◌++◌, length, take, drop, min, arith, ap, sym, ◌∙◌, Option, Some, None, append_assoc}
+use Rattle.std.proofs.Common.{◌≡◌, ℕ, ◌≤◌, ◌<◌, ◌+◌, List, [], ◌++◌, length, take, drop, min, arith, ap, sym, ◌∙◌}
+use Rattle.std.proofs.Common.{Option, Some, None, append_assoc}
 use Rattle.std.proofs.Math.Seq.{take-append-add}
 use Rattle.std.proofs.lemmas.List.{take-append-drop, drop-drop, length-append, length-drop}
 use Rattle.std.proofs.lemmas.Grind.{common_steps}

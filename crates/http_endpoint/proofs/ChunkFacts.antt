@@ -1,12 +1,15 @@
 -- Chunks, one after another.
-use Rattle.std.proofs.Common.{◌≡◌, ℕ, ◌≤◌, ◌<◌, List, [], ◌++◌, length, take, arith, ap, ◌∙◌, refl, Option, Result, Ok, Err}
+use Rattle.std.proofs.Common.{◌≡◌, ℕ, ◌≤◌, ◌<◌, List, [], ◌++◌, length, take, arith, ap, ◌∙◌, refl, Option, Result}
+use Rattle.std.proofs.Common.{Ok, Err}
 use Rattle.std.proofs.lemmas.Bool.Decides.{nat_tests}
 use Rattle.std.specs.Result.{IsErrAnd}
 use Rattle.http_endpoint.specs.declared.error.HttpError.{HttpError}
-use Rattle.http_endpoint.specs.declared.error.HttpError.TheVariants.{Memory, ReadFault, WriteFault, BadHead, TooLong, Unsupported, CutShort}
+use Rattle.http_endpoint.specs.declared.error.HttpError.TheVariants.{Memory, ReadFault, WriteFault, BadHead, TooLong}
+use Rattle.http_endpoint.specs.declared.error.HttpError.TheVariants.{Unsupported, CutShort}
 use Rattle.http_endpoint.specs.Part.{Grammar, ReadsUpTo, IsAnswer, Stage, bad, short, part, IfTold}
 use Rattle.http_endpoint.specs.Parts.{ReadsSize}
-use Rattle.http_endpoint.specs.Body.{Moved, IsMove, EndsBehind, too_long, cut, EndsChunks, IsChunk, IsChunked, ends, ended_by, IsCounted, all_left, came_before}
+use Rattle.http_endpoint.specs.Body.{Moved, IsMove, EndsBehind, too_long, cut, EndsChunks, IsChunk, IsChunked, ends}
+use Rattle.http_endpoint.specs.Body.{ended_by, IsCounted, all_left, came_before}
 
 -- what is told of an answer in other words
 pub IfTold-map : {A : Type 0} (r : Result A HttpError) (P Q : Type 0) → (P → Q) → IfTold r P → IfTold r Q

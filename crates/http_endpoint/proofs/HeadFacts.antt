@@ -2,9 +2,11 @@
 use Rattle.std.proofs.Common.{◌≡◌, ℕ, ◌≤◌, ◌+◌, ◌*◌, Bool, List, length, take, drop, arith, All, ap, ◌∙◌, Ok, map}
 use Rattle.std.specs.Prelude.{codes, bytes_eq}
 use Rattle.std.proofs.lemmas.Grind.{common_steps}
-use Rattle.httparse.specs.Grammar.{print_section, print_request, RequestHead, NeverHasRequest, ResponseHead, print_response, NeverHasResponse}
+use Rattle.httparse.specs.Grammar.{print_section, print_request, RequestHead, NeverHasRequest, ResponseHead}
+use Rattle.httparse.specs.Grammar.{print_response, NeverHasResponse}
 use Rattle.httparse.specs.Outcome.{IfComplete}
-use Rattle.httparse.specs.Spans.{span_bytes, header_bytes, name_and_value, IsHeaderWithin, IsRequestWithin, IsRequestOf, RequestExceeds, IsResponseWithin, IsResponseOf, ResponseExceeds}
+use Rattle.httparse.specs.Spans.{span_bytes, header_bytes, name_and_value, IsHeaderWithin, IsRequestWithin}
+use Rattle.httparse.specs.Spans.{IsRequestOf, RequestExceeds, IsResponseWithin, IsResponseOf, ResponseExceeds}
 use Rattle.httparse.specs.declared.Error.{Error}
 use Rattle.httparse.specs.declared.Status.{Status}
 use Rattle.httparse.specs.declared.Status.TheVariants.{Complete}

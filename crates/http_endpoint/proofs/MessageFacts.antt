@@ -4,7 +4,8 @@ use Rattle.std.specs.Io.KnownBytes.{Appends}
 use Rattle.httparse.specs.Grammar.{MayBecomeRequest}
 use Rattle.http_endpoint.specs.declared.body.Framing.{Framing}
 use Rattle.http_endpoint.specs.declared.error.HttpError.{HttpError}
-use Rattle.http_endpoint.specs.declared.error.HttpError.TheVariants.{Memory, ReadFault, WriteFault, BadHead, TooLong, Unsupported, CutShort}
+use Rattle.http_endpoint.specs.declared.error.HttpError.TheVariants.{Memory, ReadFault, WriteFault, BadHead, TooLong}
+use Rattle.http_endpoint.specs.declared.error.HttpError.TheVariants.{Unsupported, CutShort}
 use Rattle.http_endpoint.specs.declared.heads.RequestFacts.{RequestFacts}
 use Rattle.http_endpoint.specs.Ahead.{ahead}
 use Rattle.http_endpoint.specs.Part.{ReadsUpTo, IsAnswer, IfTold}

@@ -1,5 +1,6 @@
 -- What a parser's answer on first bytes says of all the bytes.
-use Rattle.std.proofs.Common.{◌≡◌, ℕ, ◌≤◌, ◌<◌, List, [], ◌++◌, length, take, drop, Option, None, Some, sym, arith, inr, append-nil, refl}
+use Rattle.std.proofs.Common.{◌≡◌, ℕ, ◌≤◌, ◌<◌, List, [], ◌++◌, length, take, drop, Option, None, Some, sym, arith}
+use Rattle.std.proofs.Common.{inr, append-nil, refl}
 use Rattle.std.proofs.lemmas.Grind.{common_steps}
 use Rattle.http_endpoint.specs.Ahead.{ahead}
 use Rattle.http_endpoint.specs.declared.part.Parsed.{Parsed}

@@ -1,8 +1,10 @@
 -- A part of the greatest length has room for no more fields than the parser is given.
 use Rattle.std.proofs.Common.{◌≡◌, ℕ, ◌≤◌, ◌+◌, ◌*◌, suc, List, [], ◌∷◌, length, take, drop, arith, All, ap, Ok, map}
 use Rattle.std.proofs.lemmas.Grind.{common_steps}
-use Rattle.httparse.specs.Grammar.{LineEnd, crlf, lf, Field, IsField, print_end, print_field, print_section, NeverHasSection}
-use Rattle.httparse.specs.Spans.{header_bytes, name_and_value, AreFieldsAt, IsSectionWithin, IsSectionOf, SectionExceeds}
+use Rattle.httparse.specs.Grammar.{LineEnd, crlf, lf, Field, IsField, print_end, print_field, print_section}
+use Rattle.httparse.specs.Grammar.{NeverHasSection}
+use Rattle.httparse.specs.Spans.{header_bytes, name_and_value, AreFieldsAt, IsSectionWithin, IsSectionOf}
+use Rattle.httparse.specs.Spans.{SectionExceeds}
 use Rattle.httparse.specs.Outcome.{IfComplete}
 use Rattle.httparse.specs.declared.Error.{Error}
 use Rattle.httparse.specs.declared.Status.{Status}

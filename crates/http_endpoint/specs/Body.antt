@@ -1,11 +1,13 @@
 -- The body of a message, as it stands behind the head: so many bytes, chunks, or all that is left (RFC 9112, sections
 -- 6 and 7.1).
-use Rattle.std.specs.Prelude.{◌≡◌, ℕ, ◌≤◌, ◌<◌, ◌+◌, List, [], ◌++◌, length, min, take, drop, Bool, true, false, Option, Some, Result, Ok, Err, ⊤, if◌then◌else◌, nat_lt}
+use Rattle.std.specs.Prelude.{◌≡◌, ℕ, ◌≤◌, ◌<◌, ◌+◌, List, [], ◌++◌, length, min, take, drop, Bool, true, false}
+use Rattle.std.specs.Prelude.{Option, Some, Result, Ok, Err, ⊤, if◌then◌else◌, nat_lt}
 use Rattle.httparse.specs.Grammar.{MayBecomeChunkLine, MayBecomeSection}
 use Rattle.http_endpoint.specs.declared.body.Framing.{Framing}
 use Rattle.http_endpoint.specs.declared.body.Framing.TheVariants.{Empty, Counted, Chunked, ToEnd}
 use Rattle.http_endpoint.specs.declared.error.HttpError.{HttpError}
-use Rattle.http_endpoint.specs.declared.error.HttpError.TheVariants.{Memory, ReadFault, WriteFault, BadHead, TooLong, Unsupported, CutShort}
+use Rattle.http_endpoint.specs.declared.error.HttpError.TheVariants.{Memory, ReadFault, WriteFault, BadHead, TooLong}
+use Rattle.http_endpoint.specs.declared.error.HttpError.TheVariants.{Unsupported, CutShort}
 use Rattle.http_endpoint.specs.Part.{ReadsUpTo, Stage, IfTold}
 use Rattle.http_endpoint.specs.Parts.{ReadsSize, ReadsTrailer, ReadsBreak, IsHalfBreak}
 

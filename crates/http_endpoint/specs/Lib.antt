@@ -8,6 +8,7 @@ pub mod Fields
 pub mod Heads
 pub mod HeadLaws
 pub mod Messages
+pub mod Taken
 pub mod Targets
 pub mod Texts
 pub mod OneAnswer

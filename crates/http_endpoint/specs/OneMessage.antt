@@ -8,10 +8,13 @@ use Rattle.http_endpoint.specs.declared.heads.RequestFacts.{RequestFacts}
 use Rattle.http_endpoint.specs.declared.heads.ResponseFacts.{ResponseFacts}
 use Rattle.http_endpoint.specs.declared.response.Response.{Response}
 use Rattle.http_endpoint.specs.Part.{IsBad, IsShort, ReadsUpTo}
-use Rattle.http_endpoint.specs.Heads.{ReadsRequestFacts, ReadsResponseFacts, facts_of_request, verdict, response_framing}
+use Rattle.http_endpoint.specs.Heads.{ReadsRequestFacts, ReadsResponseFacts, facts_of_request, verdict}
+use Rattle.http_endpoint.specs.Heads.{response_framing}
 use Rattle.http_endpoint.specs.Body.{IsBody}
-use Rattle.http_endpoint.specs.Messages.{IsRequest, bad, short, refused, accepted, IsFinal, unframed, framed, IsAnswered, passed, unsound, final, with_status, IsResponse, invitation}
-use Rattle.http_endpoint.specs.OneAnswer.{read-not-bad, bad-not-short, one-stage, one-request-head, request-shrinks, one-response-head, response-shrinks, response-ends, one-body}
+use Rattle.http_endpoint.specs.Messages.{IsRequest, bad, short, refused, accepted, IsFinal, unframed, framed}
+use Rattle.http_endpoint.specs.Messages.{IsAnswered, passed, unsound, final, with_status, IsResponse, invitation}
+use Rattle.http_endpoint.specs.OneAnswer.{read-not-bad, bad-not-short, one-stage, one-request-head, request-shrinks}
+use Rattle.http_endpoint.specs.OneAnswer.{one-response-head, response-shrinks, response-ends, one-body}
 
 -- the same answer, and the same is written meanwhile
 abbrev pub IsSame : Result (List ℕ) HttpError → Result (List ℕ) HttpError → List ℕ → List ℕ → Type 0

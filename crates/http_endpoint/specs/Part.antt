@@ -2,7 +2,8 @@
 -- which a parser tells what begins a list of bytes.
 use Rattle.std.specs.Prelude.{◌≡◌, ℕ, ◌≤◌, ◌<◌, ◌⊎◌, List, ◌++◌, length, take, drop, Option, Some, Result, Ok, Err, ⊤}
 use Rattle.http_endpoint.specs.declared.error.HttpError.{HttpError}
-use Rattle.http_endpoint.specs.declared.error.HttpError.TheVariants.{Memory, ReadFault, WriteFault, BadHead, TooLong, Unsupported, CutShort}
+use Rattle.http_endpoint.specs.declared.error.HttpError.TheVariants.{Memory, ReadFault, WriteFault, BadHead, TooLong}
+use Rattle.http_endpoint.specs.declared.error.HttpError.TheVariants.{Unsupported, CutShort}
 use Rattle.http_endpoint.specs.declared.part.Parsed.{Parsed}
 use Rattle.http_endpoint.specs.declared.part.Parsed.TheVariants.{Found, Unfinished, Refused}
 

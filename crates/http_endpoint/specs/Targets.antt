@@ -1,5 +1,6 @@
 -- Where a request to an address goes (URL Standard; RFC 9110, section 4.2.1).
-use Rattle.std.specs.Prelude.{ℕ, List, [], ◌∷◌, ◌++◌, codes, bytes_eq, Option, None, Some, unwrap_or, option_map, Ok, Err, if◌then◌else◌}
+use Rattle.std.specs.Prelude.{ℕ, List, [], ◌∷◌, ◌++◌, codes, bytes_eq, Option, None, Some, unwrap_or, option_map, Ok}
+use Rattle.std.specs.Prelude.{Err, if◌then◌else◌}
 use Rattle.url.specs.Host.{host_text}
 use Rattle.url.specs.Parts.{Parts, nonempty_host}
 use Rattle.url.specs.Parser.{Parsed, parse_url}

@@ -1,9 +1,12 @@
 //! Bodies of messages (RFC 9112, sections 6 and 7.1).
-ghost use Rattle.std.specs.Prelude.{◌≡◌, ◌≢◌, ℕ, ◌≤◌, ◌<◌, ◌+◌, ◌-◌, List, [], length, min, max, Some, Ok, Err, true, OnOk};
+ghost use Rattle.std.specs.Prelude.{◌≡◌, ◌≢◌, ℕ, ◌≤◌, ◌<◌, ◌+◌, ◌-◌, ◌*◌, List, [], length, min, max, Some, Ok, Err};
+ghost use Rattle.std.specs.Prelude.{true};
+ghost use Rattle.std.specs.Prelude.{OnOk};
 ghost use Rattle.rm_base.specs.Count.{Rose};
 ghost use Rattle.http_endpoint.specs.Ahead.{ahead};
 ghost use Rattle.http_endpoint.specs.Part.{IfTold};
 ghost use Rattle.http_endpoint.specs.Body.{IsMove, IsChunk, IsChunked, IsCounted, IsBody, all_left, came_before};
+ghost use Rattle.http_endpoint.specs.Taken.{most_taken};
 
 use crate::error::HttpError;
 use crate::input::Input;
@@ -78,6 +81,9 @@ fn read_chunk<S: Source>(
         → IsChunk all body.old result body.new (ahead (S.left from.new) input.new) }
     ensures within { OnOk result (length body.new ≤ 2097152) }
     ensures grown { result ≡ Ok true → length body.old < length body.new }
+    ensures stops { S.taken from.new + length input.old ≤ S.taken from.old + max (length input.old) 2129922 }
+    ensures used { result ≡ Ok true → S.taken from.new + (length input.old + 32769 * length body.old)
+        ≤ S.taken from.old + (length input.new + 32769 * length body.new) }
     ensures reads { result ≢ Err HttpError.WriteFault }
     ensures failed { result ≡ Err HttpError.ReadFault → Rose (S.faults from.old) (S.faults from.new) }
     ensures keeps { S.sent from.new ≡ S.sent from.old }
@@ -98,7 +104,7 @@ fn read_chunk<S: Source>(
     Ok(true)
 }
 
-/// Reads chunks, and the trailer behind them.
+/// Reads chunks, and the trailer behind them. Each byte of the body costs at most its chunk's line and end besides.
 pub fn read_chunks<S: Source>(
     alloc: Global,
     from: &mut S,
@@ -106,6 +112,7 @@ pub fn read_chunks<S: Source>(
 ) -> Result<Blob, HttpError>
     ensures answer { (all : List ℕ) → ahead (S.left from.old) input.old ≡ Some all
         → IfTold result (IsChunked result [] all) }
+    ensures stops { S.taken from.new + length input.old ≤ S.taken from.old + max (length input.old) 68723703810 }
     ensures reads { result ≢ Err HttpError.WriteFault }
     ensures failed { result ≡ Err HttpError.ReadFault → Rose (S.faults from.old) (S.faults from.new) }
     ensures keeps { S.sent from.new ≡ S.sent from.old }
@@ -187,8 +194,8 @@ pub fn read_body<S: Source>(
 ) -> Result<Blob, HttpError>
     ensures answer { (all : List ℕ) → ahead (S.left from.old) input.old ≡ Some all
         → IfTold result (IsBody framing all result) }
-    ensures stops { framing ≢ Framing.Chunked
-        → S.taken from.new + length input.old ≤ S.taken from.old + max (length input.old) 2097153 }
+    ensures stops { S.taken from.new + length input.old
+        ≤ S.taken from.old + max (length input.old) (most_taken framing) }
     ensures reads { result ≢ Err HttpError.WriteFault }
     ensures failed { result ≡ Err HttpError.ReadFault → Rose (S.faults from.old) (S.faults from.new) }
     ensures keeps { S.sent from.new ≡ S.sent from.old }

@@ -1,7 +1,8 @@
 //! Why a message was not read or written.
 ghost use Rattle.std.specs.Prelude.{◌≡◌};
 ghost use Rattle.http_endpoint.specs.Failing.{error_of};
-ghost use Rattle.http_endpoint.specs.declared.error.HttpError.TheVariants.{Memory as WantsMemory, ReadFault as ReadFails};
+ghost use Rattle.http_endpoint.specs.declared.error.HttpError.TheVariants.{Memory as WantsMemory};
+ghost use Rattle.http_endpoint.specs.declared.error.HttpError.TheVariants.{ReadFault as ReadFails};
 
 use rm_base::{Failed, Memory, SinkError};
 use std::alloc::AllocError;

@@ -1,7 +1,8 @@
 //! The heads of requests and responses, and what is done with them.
 ghost use Rattle.std.specs.Prelude.{◌≡◌, codes, bytes_eq};
 ghost use Rattle.httparse.specs.Grammar.{MayBecomeRequest, MayBecomeResponse};
-ghost use Rattle.http_endpoint.specs.Heads.{ReadsRequestFacts, ReadsResponseFacts, is_misframed, is_bad, is_otherwise_coded, framing_or, verdict, response_framing};
+ghost use Rattle.http_endpoint.specs.Heads.{ReadsRequestFacts, ReadsResponseFacts, is_misframed, is_bad};
+ghost use Rattle.http_endpoint.specs.Heads.{is_otherwise_coded, framing_or, verdict, response_framing};
 ghost use Rattle.http_endpoint.specs.HeadLaws.{request-grows, response-grows};
 
 use crate::body::{FIELD_LIMIT, Framing};

@@ -1,5 +1,6 @@
 //! Bytes that were read from a source, a piece at a time, and not yet used.
-ghost use Rattle.std.specs.Prelude.{◌≡◌, ℕ, ◌≤◌, ◌<◌, ◌+◌, ◌⊎◌, ◌++◌, List, [], length, take, drop, min, max, IfOk, IfErr, OnOk, Ok, Err, true, false};
+ghost use Rattle.std.specs.Prelude.{◌≡◌, ℕ, ◌≤◌, ◌<◌, ◌+◌, ◌⊎◌, ◌++◌, List, [], length, take, drop, min, max, IfOk};
+ghost use Rattle.std.specs.Prelude.{IfErr, OnOk, Ok, Err, true, false};
 ghost use Rattle.std.specs.Io.KnownBytes.{IsAtEnd};
 ghost use Rattle.rm_base.specs.Count.{Rose};
 ghost use Rattle.http_endpoint.specs.Ahead.{ahead, StillAhead};

@@ -1,12 +1,13 @@
 //! Requests, read from a connection (RFC 9112).
-ghost use Rattle.std.specs.Prelude.{◌≡◌, ◌≤◌, ℕ, ◌⊎◌, if◌then◌else◌, List, Some, Ok, Err, IfErr, OnOk, true, []};
+ghost use Rattle.std.specs.Prelude.{◌≡◌, ◌≤◌, ◌+◌, ℕ, ◌⊎◌, if◌then◌else◌, List, Some, Ok, Err, IfErr, OnOk, true, []};
 ghost use Rattle.std.specs.Io.KnownBytes.{Appends};
 ghost use Rattle.rm_base.specs.Count.{Rose};
 ghost use Rattle.rm_base.specs.Outside.{AppendsFront};
 ghost use Rattle.http_endpoint.specs.Part.{IfTold};
 ghost use Rattle.http_endpoint.specs.Messages.{continue_text, IsRequest};
+ghost use Rattle.http_endpoint.specs.Taken.{most_taken};
 
-use crate::body::read_body;
+use crate::body::{Framing, read_body};
 use crate::error::HttpError;
 use crate::heads::{HeadOfRequest, verdict};
 use crate::input::Input;
@@ -19,6 +20,7 @@ fn invite<C: Connection>(conn: &mut C, expects: bool) -> Result<(), HttpError>
     ensures said { OnOk result (Appends (C.held conn.old) (C.held conn.new) (if expects then continue_text else [])) }
     ensures front { AppendsFront (C.held conn.old) (C.held conn.new) continue_text }
     ensures keeps { C.Source.left conn.new ≡ C.Source.left conn.old }
+    ensures keeps_taken { C.Source.taken conn.new ≡ C.Source.taken conn.old }
     ensures write_fault { result ≡ Err HttpError.WriteFault
         → Rose (C.Source.faults conn.old) (C.Source.faults conn.new) }
     ensures kinds { IfErr result (λ e. (e ≡ HttpError.WriteFault) ⊎ (e ≡ HttpError.Memory)) }
@@ -39,6 +41,7 @@ pub fn read_request<C: Connection>(alloc: Global, conn: &mut C) -> Result<Blob, 
     ensures answer { (all : List ℕ) → C.Source.left conn.old ≡ Some all
         → IfTold result ((said : List ℕ) × Appends (C.held conn.old) (C.held conn.new) said
         × IsRequest result said all) }
+    ensures stops { C.Source.taken conn.new ≤ C.Source.taken conn.old + (16385 + most_taken Framing.Chunked) }
     ensures front { AppendsFront (C.held conn.old) (C.held conn.new) continue_text }
     ensures read_fault { result ≡ Err HttpError.ReadFault → Rose (C.Source.faults conn.old) (C.Source.faults conn.new) }
     ensures write_fault { result ≡ Err HttpError.WriteFault

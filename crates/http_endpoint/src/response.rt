@@ -1,11 +1,12 @@
 //! Responses, read from a source (RFC 9112).
-ghost use Rattle.std.specs.Prelude.{◌≡◌, ◌≢◌, ◌≤◌, ℕ, List, Some, Err, true};
+ghost use Rattle.std.specs.Prelude.{◌≡◌, ◌≢◌, ◌≤◌, ◌+◌, ℕ, List, length, max, Some, Err, true};
 ghost use Rattle.rm_base.specs.Count.{Rose};
 ghost use Rattle.http_endpoint.specs.Ahead.{ahead};
 ghost use Rattle.http_endpoint.specs.Part.{IfTold};
 ghost use Rattle.http_endpoint.specs.Messages.{IsFinal, IsResponse};
+ghost use Rattle.http_endpoint.specs.Taken.{most_taken};
 
-use crate::body::read_body;
+use crate::body::{Framing, read_body};
 use crate::error::HttpError;
 use crate::heads::{HeadOfResponse, ResponseFacts, response_framing};
 use crate::input::Input;
@@ -29,6 +30,8 @@ fn read_final<S: Source>(
 ) -> Result<Response, HttpError>
     ensures answer { (all : List ℕ) → ahead (S.left from.old) input.old ≡ Some all
         → IfTold result (IsFinal result facts all) }
+    ensures stops { S.taken from.new + length input.old
+        ≤ S.taken from.old + max (length input.old) (most_taken Framing.Chunked) }
     ensures reads { result ≢ Err HttpError.WriteFault }
     ensures failed { result ≡ Err HttpError.ReadFault → Rose (S.faults from.old) (S.faults from.new) }
     ensures never_falls { S.faults from.old ≤ S.faults from.new }
@@ -47,6 +50,7 @@ fn read_final<S: Source>(
 /// exact which one comes, by the bytes that the source has left, however they arrive. RFC 9112, sections 2 to 7.
 pub fn read_response<S: Source>(alloc: Global, from: &mut S) -> Result<Response, HttpError>
     ensures answer { (all : List ℕ) → S.left from.old ≡ Some all → IfTold result (IsResponse result all) }
+    ensures stops { S.taken from.new ≤ S.taken from.old + (32769 + most_taken Framing.Chunked) }
     ensures reads { result ≢ Err HttpError.WriteFault }
     ensures failed { result ≡ Err HttpError.ReadFault → Rose (S.faults from.old) (S.faults from.new) }
     ensures never_falls { S.faults from.old ≤ S.faults from.new }

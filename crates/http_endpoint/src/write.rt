@@ -1,9 +1,11 @@
 //! Requests and responses, written to a sink (RFC 9112).
-ghost use Rattle.std.specs.Prelude.{◌≡◌, ◌≤◌, ℕ, ◌⊎◌, ◌++◌, List, [], Ok, Err, IfOk, IfErr, OnOk, OnErr, length, decimal, true};
+ghost use Rattle.std.specs.Prelude.{◌≡◌, ◌≤◌, ℕ, ◌⊎◌, ◌++◌, List, [], Ok, Err, IfOk, IfErr, OnOk, OnErr, length};
+ghost use Rattle.std.specs.Prelude.{decimal, true};
 ghost use Rattle.std.specs.Io.KnownBytes.{Appends};
 ghost use Rattle.rm_base.specs.Count.{Rose};
 ghost use Rattle.rm_base.specs.Outside.{AppendsFront};
-ghost use Rattle.http_endpoint.specs.Texts.{IsWritten, phrase_of, allow_line, type_line_of, type_line, last_lines, port_text, response_head, request_head, response_text, request_text};
+ghost use Rattle.http_endpoint.specs.Texts.{IsWritten, phrase_of, allow_line, type_line_of, type_line, last_lines};
+ghost use Rattle.http_endpoint.specs.Texts.{port_text, response_head, request_head, response_text, request_text};
 
 use crate::error::HttpError;
 use crate::target::Target;

@@ -69,6 +69,8 @@ impl Sink for Peer {
 
     ghost faults = { λ s. s.faults };
 
+    ghost taken = { λ s. s.taken };
+
     fn write(&mut self, bytes: &[u8]) -> Result<usize, SinkError> {
         match self.written.push_all(bytes) {
             Ok(()) => Ok(bytes.len()),
@@ -83,6 +85,8 @@ impl Connection for Peer {
     ghost one_left = { λ _. refl };
 
     ghost one_held = { λ _. refl };
+
+    ghost one_taken = { λ _. refl };
 
     ghost one_count = { λ _. refl };
 

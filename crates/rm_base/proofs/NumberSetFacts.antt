@@ -1,11 +1,14 @@
 -- Rising lists of numbers: what a search finds, and what a union has.
-use Rattle.std.proofs.Common.{◌≡◌, ℕ, zero, suc, ◌+◌, ◌<◌, ◌≤◌, true, false, cond, List, [], ◌∷◌, length, get_or, refl, arith, inl, inr, ◌↔◌}
+use Rattle.std.proofs.Common.{◌≡◌, ℕ, zero, suc, ◌+◌, ◌<◌, ◌≤◌, true, false, cond, List, [], ◌∷◌, length, get_or}
+use Rattle.std.proofs.Common.{refl, arith, inl, inr, ◌↔◌}
 use Rattle.std.specs.Prelude.{nat_eq, Result, Ok, Err, MatchResult}
 use Rattle.std.specs.List.{list_any}
 use Rattle.std.proofs.lemmas.Bool.{ltb-true, lt-ltb}
 use Rattle.std.proofs.lemmas.Bool.Decides.{nat_tests}
-use Rattle.rm_base.specs.NumberSet.{Rises, IsRising, IsPlace, has_number, with_number, united, brings_new, HasNew, greatest_of}
-use Rattle.rm_base.specs.NumberSetLemmas.{has_number-below, Rises-above, has_number-at, with_number-at, Rises-with_number, lt-or-le}
+use Rattle.rm_base.specs.NumberSet.{Rises, IsRising, IsPlace, has_number, with_number, united, brings_new, HasNew}
+use Rattle.rm_base.specs.NumberSet.{greatest_of}
+use Rattle.rm_base.specs.NumberSetLemmas.{has_number-below, Rises-above, has_number-at, with_number-at}
+use Rattle.rm_base.specs.NumberSetLemmas.{Rises-with_number, lt-or-le}
 
 -- a number that stands at no place is none of them
 pub has_number-none : (xs : List ℕ) (n : ℕ) → ((k : ℕ) → k < length xs → get_or xs k 0 ≡ n → ⊥)

@@ -1,5 +1,6 @@
 -- What sources and sinks show to contracts.
-use Rattle.std.specs.Prelude.{ℕ, ◌≤◌, ◌++◌, Bool, true, if◌then◌else◌, ◌&&◌, ◌==◌, nat_lt, min, List, length, take, drop, Option, Result, Ok, Err}
+use Rattle.std.specs.Prelude.{ℕ, ◌≤◌, ◌++◌, Bool, true, if◌then◌else◌, ◌&&◌, ◌==◌, nat_lt, min, List, length, take}
+use Rattle.std.specs.Prelude.{drop, Option, Result, Ok, Err}
 use Rattle.std.specs.Io.KnownBytes.{Appends, Consumes}
 use Rattle.rm_base.specs.Count.{raised_by}
 use Rattle.rm_base.specs.NumberSet.{has_number}

@@ -1,7 +1,8 @@
 //! Lists that contracts see as lists, and lists that tell besides for how many items they have room.
-ghost use Rattle.std.specs.Prelude.{◌≡◌, [], ◌∷◌, ◌++◌, ◌≤◌, ◌<◌, ◌+◌, length, IsTrue, ◌↔◌, slice_get, OnOk, OnErr, IsOk, List};
+ghost use Rattle.std.specs.Prelude.{◌≡◌, [], ◌∷◌, ◌++◌, ◌≤◌, ◌<◌, ◌+◌, length, IsTrue, ◌↔◌, slice_get, OnOk, OnErr};
+ghost use Rattle.std.specs.Prelude.{IsOk, List};
 ghost use Rattle.std.specs.Option.{option_copied};
-ghost use Rattle.rm_base.specs.Numbered.{numbered as item_numbered};
+ghost use Rattle.rm_base.specs.Numbered.{numbered};
 
 use crate::failures::Memory;
 use std::alloc::Global;
@@ -55,7 +56,7 @@ impl<T> Items<T> {
 
     /// The item with a number, counted from 1.
     pub fn item(&self, number: u64) -> Option<&T>
-        ensures { option_copied result ≡ item_numbered self.now number }
+        ensures { option_copied result ≡ numbered self.now number }
     {
         numbered(self.items.as_slice(), number)
     }
@@ -95,7 +96,7 @@ impl<T> Items<T> {
 
 /// The item with a number, counted from 1, as the messages of a sequence are numbered.
 pub fn numbered<T>(items: &[T], number: u64) -> Option<&T>
-    ensures { option_copied result ≡ item_numbered items.now number }
+    ensures { option_copied result ≡ numbered items.now number }
 {
     if number == 0 {
         return None;
@@ -152,7 +153,7 @@ impl<T> RoomyItems<T> {
 
     /// The item with a number, counted from 1.
     pub fn item(&self, number: u64) -> Option<&T>
-        ensures { option_copied result ≡ item_numbered self.now.facts number }
+        ensures { option_copied result ≡ numbered self.now.facts number }
     {
         numbered(self.items.as_slice(), number)
     }

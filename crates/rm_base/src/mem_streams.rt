@@ -1,5 +1,6 @@
 //! Sources, sinks and connections over memory, of which chosen calls fail.
-ghost use Rattle.std.specs.Prelude.{◌≡◌, ◌≢◌, ℕ, ◌≤◌, ◌+◌, ◌<◌, List, Bool, true, false, [], length, drop, take, min, Some, None, Err, Ok, ◌==◌, IsTrue, ◌↔◌, OnErr, MatchResult, IfOk, is_ok, is_err};
+ghost use Rattle.std.specs.Prelude.{◌≡◌, ◌≢◌, ℕ, ◌≤◌, ◌+◌, ◌<◌, List, Bool, true, false, [], length, drop, take, min};
+ghost use Rattle.std.specs.Prelude.{Some, None, Err, Ok, ◌==◌, IsTrue, ◌↔◌, OnErr, MatchResult, IfOk, is_ok, is_err};
 ghost use Rattle.std.specs.Io.{ReadsAtMost, WritesAtMost};
 ghost use Rattle.std.specs.Io.KnownBytes.{ReadConsumes, WriteAppends};
 ghost use Rattle.rm_base.specs.Count.{Rose, raised_by};
@@ -269,6 +270,8 @@ impl Sink for MemConn {
 
     ghost unread = { λ c. Some c.reading.left };
 
+    ghost taken = { λ c. c.reading.taken };
+
     ghost faults = { λ c. c.reading.faults };
 
     ghost is_sound = { λ c. length c.reading.fail_at == 0 };
@@ -278,6 +281,7 @@ impl Sink for MemConn {
         ensures bound { WritesAtMost result bytes.now }
         ensures moved { WriteAppends (Some self.old.written) (Some self.new.written) result bytes.now }
         ensures keeps { Some self.new.reading.left ≡ Some self.old.reading.left }
+        ensures keeps_taken { self.new.reading.taken ≡ self.old.reading.taken }
         ensures never_falls { self.old.reading.faults ≤ self.new.reading.faults }
         ensures failed { result ≡ Err SinkError.Failed → Rose self.old.reading.faults self.new.reading.faults }
         ensures nothing { result ≡ Ok 0 → 0 < length bytes.now → Rose self.old.reading.faults self.new.reading.faults }
@@ -305,6 +309,8 @@ impl Connection for MemConn {
     ghost one_left = { λ c. refl };
 
     ghost one_held = { λ c. refl };
+
+    ghost one_taken = { λ c. refl };
 
     ghost one_count = { λ c. refl };
 

@@ -1,5 +1,6 @@
 //! Sets of message numbers.
-ghost use Rattle.std.specs.Prelude.{◌≡◌, ℕ, [], ◌∷◌, ◌++◌, ◌<◌, ◌≤◌, List, length, IsTrue, ◌↔◌, IfOk, OnOk, OnErr, slice_get, nat_lt, Ok, false, vec_len, vec_capacity, ◌+◌};
+ghost use Rattle.std.specs.Prelude.{◌≡◌, ℕ, [], ◌∷◌, ◌++◌, ◌<◌, ◌≤◌, List, length, IsTrue, ◌↔◌, IfOk, OnOk, OnErr};
+ghost use Rattle.std.specs.Prelude.{slice_get, nat_lt, Ok, false, vec_len, vec_capacity, ◌+◌};
 ghost use Rattle.std.specs.Option.{option_copied};
 ghost use Rattle.rm_base.specs.NumberSet.{IsRising, has_number, with_number, united, brings_new, greatest_of, IsPlace};
 

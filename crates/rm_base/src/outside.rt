@@ -1,5 +1,6 @@
 //! The traits through which a program reaches the outside: sources, sinks, connections and clocks.
-ghost use Rattle.std.specs.Prelude.{◌≡◌, ◌≢◌, ℕ, ◌≤◌, ◌+◌, ◌<◌, List, Bool, true, false, length, OnErr, MatchResult, Option, None, Err, Ok, IfSome};
+ghost use Rattle.std.specs.Prelude.{◌≡◌, ◌≢◌, ℕ, ◌≤◌, ◌+◌, ◌<◌, List, Bool, true, false, length, OnErr, MatchResult};
+ghost use Rattle.std.specs.Prelude.{Option, None, Err, Ok, IfSome};
 ghost use Rattle.std.specs.Io.{ReadsAtMost, WritesAtMost};
 ghost use Rattle.std.specs.Io.KnownBytes.{ReadConsumes, WriteAppends};
 ghost use Rattle.rm_base.specs.Count.{Rose, raised_by};
@@ -59,6 +60,9 @@ pub trait Sink {
     /// What it has left as a source, where it is one too and tells that.
     ghost unread: { Self → Option (List ℕ) } = { λ _. None };
 
+    /// How many bytes were taken from it as a source, where it is one too.
+    ghost taken: { Self → ℕ } = { λ _. 0 };
+
     /// Its calls may want memory.
     ghost wants_memory: { Bool } = { true };
 
@@ -67,6 +71,7 @@ pub trait Sink {
         ensures bound { WritesAtMost result bytes.now }
         ensures moved { WriteAppends (held self.old) (held self.new) result bytes.now }
         ensures keeps { unread self.new ≡ unread self.old }
+        ensures keeps_taken { taken self.new ≡ taken self.old }
         ensures never_falls { faults self.old ≤ faults self.new }
         ensures failed { result ≡ Err SinkError.Failed → Rose (faults self.old) (faults self.new) }
         ensures nothing { result ≡ Ok 0 → 0 < length bytes.now → Rose (faults self.old) (faults self.new) }
@@ -79,6 +84,8 @@ pub trait Connection: Source + Sink {
     ghost one_left: { (c : Self) → Self.Sink.unread c ≡ Self.Source.left c };
 
     ghost one_held: { (c : Self) → Self.Source.sent c ≡ Self.Sink.held c };
+
+    ghost one_taken: { (c : Self) → Self.Sink.taken c ≡ Self.Source.taken c };
 
     ghost one_count: { (c : Self) → Self.Sink.faults c ≡ Self.Source.faults c };
 

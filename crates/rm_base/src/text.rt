@@ -2,7 +2,7 @@
 ghost use Rattle.std.specs.Prelude.{◌≡◌, ℕ, ◌<◌, ◌≤◌, ◌↔◌, List, length, IsTrue, IfOk, IfErr, OnOk};
 ghost use Rattle.std.specs.List.{list_all};
 ghost use Rattle.std.specs.Str.{chars};
-ghost use Rattle.xml_chars.specs.Classes.{is_char as char_class};
+ghost use Rattle.xml_chars.specs.Classes.{is_char};
 ghost use Rattle.rm_base.specs.Text.{IsCharacters, IsTrimmed, IsText, IsTextError};
 ghost use Rattle.rm_base.specs.declared.text.TextError.TheVariants.{Memory as WantsMemory};
 
@@ -159,7 +159,7 @@ fn has_characters(bytes: &[u8]) -> bool
 // Whether each character may stand in a document.
 #[tactic(auto, using(std::proofs::lemmas::Str::chars_from_encodes))]
 fn has_each(text: &str) -> bool
-    ensures { result ≡ list_all char_class (chars text.now) }
+    ensures { result ≡ list_all is_char (chars text.now) }
 {
     text.chars().all(|c| is_char(c))
 }

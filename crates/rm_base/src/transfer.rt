@@ -1,5 +1,6 @@
 //! Whole texts from a source, and to a sink.
-ghost use Rattle.std.specs.Prelude.{◌≡◌, ◌≢◌, ℕ, ◌≤◌, ◌+◌, ◌<◌, ◌^◌, ◌-◌, List, [], length, take, drop, IfOk, OnOk, IfSome, OnErr, Err, true, false};
+ghost use Rattle.std.specs.Prelude.{◌≡◌, ◌≢◌, ℕ, ◌≤◌, ◌+◌, ◌<◌, ◌^◌, ◌-◌, List, [], length, take, drop, IfOk, OnOk};
+ghost use Rattle.std.specs.Prelude.{IfSome, OnErr, Err, true, false};
 ghost use Rattle.std.specs.Io.KnownBytes.{Appends, IsAtEnd};
 ghost use Rattle.rm_base.specs.Count.{Rose, RoseBy, raised_by};
 ghost use Rattle.rm_base.specs.Outside.{AppendsFront, ConsumesUpTo};
@@ -81,6 +82,7 @@ pub fn write_all<K: Sink>(out: &mut K, bytes: &[u8]) -> Result<(), SinkError>
     ensures failed { result ≡ Err SinkError.Failed → Rose (K.faults out.old) (K.faults out.new) }
     ensures memory { K.wants_memory ≡ false → result ≢ Err SinkError.Memory }
     ensures keeps { K.unread out.new ≡ K.unread out.old }
+    ensures keeps_taken { K.taken out.new ≡ K.taken out.old }
     ensures never_falls { K.faults out.old ≤ K.faults out.new }
     ensures sound { K.is_sound out.old ≡ true
         → (K.is_sound out.new ≡ true) × (K.faults out.new ≡ K.faults out.old) }

@@ -4,7 +4,8 @@ use Rattle.http_endpoint.specs.Ahead.{ahead}
 use Rattle.http_endpoint.specs.Part.{Stage, part}
 use Rattle.http_endpoint.specs.Parts.{ReadsSize, ReadsTrailer, ReadsBreak, IsHalfBreak}
 use Rattle.http_endpoint.specs.Body.{IsChunk, EndsBehind, EndsChunks, last, unbroken, ended_by}
-use Rattle.http_endpoint.proofs.ChunkFacts.{IfTold-map, handed-on, stage-stops, behind-line, data-stops, ended-long, ended-well}
+use Rattle.http_endpoint.proofs.ChunkFacts.{IfTold-map, handed-on, stage-stops, behind-line, data-stops, ended-long}
+use Rattle.http_endpoint.proofs.ChunkFacts.{ended-well}
 use Rattle.http_endpoint.proofs.body.read_chunk.Goals as goal
 
 pub returns-in_err-size-clause-answer : goal.returns-in_err-size-clause-answer

@@ -1,4 +1,4 @@
-use Rattle.std.proofs.Common.{◌∙◌, subst, sym, Err, Ok, List, ℕ, [], arith, true, false}
+use Rattle.std.proofs.Common.{◌∙◌, subst, sym, ap, Err, Ok, List, ℕ, [], arith, true, false}
 use Rattle.http_endpoint.specs.Ahead.{ahead}
 use Rattle.http_endpoint.specs.Part.{IfTold}
 use Rattle.http_endpoint.specs.Body.{IsChunk, IsChunked, EndsChunks, ends, chunk}
@@ -25,6 +25,14 @@ loop-body-preserved g c =
           let taken : IsChunk at.0 l.body (Ok true) new.body (ahead (g.S.Source.left new.from) new.input) =
           rw c.if-branch.true at (c.in_ok-read_chunk.ensures.answer at.0 at.1) in
           (taken.0, taken.1, λ later. at.2 (chunk new.body taken.0 taken.2 later));
+      stops = omega (
+        arith,
+        l.invariant.stops,
+        l.invariant.used,
+        c.read_chunk.ensures.stops,
+        c.in_ok-read_chunk.ensures.grown (ap Ok c.if-branch.true),
+      );
+      used = omega (arith, l.invariant.used, c.in_ok-read_chunk.ensures.used (ap Ok c.if-branch.true));
       keeps = c.read_chunk.ensures.keeps ∙ l.invariant.keeps;
       faults = omega (arith, l.invariant.faults, c.read_chunk.ensures.never_falls);
       sound = λ is_sound. let before = l.invariant.sound is_sound in

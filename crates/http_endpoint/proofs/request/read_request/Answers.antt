@@ -4,7 +4,8 @@ use Rattle.http_endpoint.specs.Ahead.{ahead}
 use Rattle.http_endpoint.specs.Part.{IfTold}
 use Rattle.http_endpoint.specs.Messages.{IsRequest, invitation}
 use Rattle.http_endpoint.proofs.ChunkFacts.{handed-on}
-use Rattle.http_endpoint.proofs.MessageFacts.{ahead-start, ahead-kept, appends-between, stops-request, refused-request, taken-request}
+use Rattle.http_endpoint.proofs.MessageFacts.{ahead-start, ahead-kept, appends-between, stops-request}
+use Rattle.http_endpoint.proofs.MessageFacts.{refused-request, taken-request}
 use Rattle.http_endpoint.proofs.request.read_request.Goals as goal
 
 pub returns-in_err-facts-clause-answer : goal.returns-in_err-facts-clause-answer

@@ -11,6 +11,7 @@ loop-written-preserved g c =
       held = Appends-take (held c.args.out.now) (held c.loop-written.out) (held c.write.new.self) c.args.bytes.now
           c.loop-written.written c.in_ok-count.count c.loop-written.invariant.held moved;
       keeps = c.write.ensures.keeps ∙ c.loop-written.invariant.keeps;
+      keeps_taken = c.write.ensures.keeps_taken ∙ c.loop-written.invariant.keeps_taken;
       faults = omega (arith, c.loop-written.invariant.faults, c.write.ensures.never_falls);
       sound = λ is_sound. let before = c.loop-written.invariant.sound is_sound in
           let after = c.write.ensures.sound before.0 in (after.0, after.1 ∙ before.1);

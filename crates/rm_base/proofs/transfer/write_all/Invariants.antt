@@ -9,6 +9,7 @@ invariant-loop-written g l =
       within : l.written ≤ length l.bytes;
       held : Appends (sink.held l.initial.out) (sink.held l.out) (take l.written l.bytes);
       keeps : sink.unread l.out ≡ sink.unread l.initial.out;
+      keeps_taken : sink.taken l.out ≡ sink.taken l.initial.out;
       faults : sink.faults l.initial.out ≤ sink.faults l.out;
       sound : sink.is_sound l.initial.out ≡ true
           → (sink.is_sound l.out ≡ true) × (sink.faults l.out ≡ sink.faults l.initial.out);

@@ -1,4 +1,5 @@
-use Rattle.std.proofs.Common.{ℕ, ◌≡◌, ◌+◌, ◌<◌, min, List, [], ◌++◌, length, take, drop, arith, sym, ◌∙◌, ap, length-drop}
+use Rattle.std.proofs.Common.{ℕ, ◌≡◌, ◌+◌, ◌<◌, min, List, [], ◌++◌, length, take, drop, arith, sym, ◌∙◌, ap}
+use Rattle.std.proofs.Common.{length-drop}
 use Rattle.std.proofs.lemmas.List.{take-append-drop, drop-drop, drop_all}
 use Rattle.rm_base.specs.Outside.{Reading}
 use Rattle.rm_base.proofs.mem_streams.MemSourceSource.read.Goals as goal
