@@ -1,7 +1,8 @@
 -- What the reader answers was a document: the bytes up to the next one that ends a token.
-use Rattle.std.proofs.Common.{◌≡◌, ℕ, ◌+◌, ◌⊎◌, inl, inr, List, [], ◌∷◌, ◌++◌, Bool, true, false, cond, Option, Some, None, length, refl, sym, ap, subst, ap₂, arith, append_assoc, append-nil}
+use Rattle.std.proofs.Common.{◌≡◌, ℕ, ◌+◌, ◌⊎◌, inl, inr, List, [], ◌∷◌, ◌++◌, Bool, true, false, cond, Option, Some}
+use Rattle.std.proofs.Common.{None, length, refl, sym, ap, subst, ap₂, arith, append_assoc, append-nil}
 use Rattle.soap_document.specs.Tree.{Element}
-use Rattle.soap_document.specs.Machine.{State, stops, finish, run, refuse, counted, root_of}
+use Rattle.soap_document.specs.Machine.{State, stops, after_token, run, refuse, counted, root_of}
 
 -- from a state on, the bytes are read to the end, and the root is u
 abbrev pub Accepts : State → List ℕ → Element → Type 0
@@ -30,7 +31,7 @@ pub record Next (s : State) (bytes : List ℕ) (u : Element) : Type 0 where
   pub rest : List ℕ
   pub there : bytes ≡ token ++ last ∷ rest
   pub stop : stops s.mode last ≡ true
-  pub later : Accepts (counted (finish s.mode (record s { at = s.at + length token; token = s.token ++ token })
+  pub later : Accepts (counted (after_token s.mode (record s { at = s.at + length token; token = s.token ++ token })
       last)) rest u
 
 -- bytes cannot end here
@@ -39,18 +40,18 @@ Unended s = (at : ℕ) (token : List ℕ) → root_of (record s { at = at; token
 
 next_at : (s : State) (c : ℕ) (bytes : List ℕ) (u : Element) (t : Bool) → stops s.mode c ≡ t
     → Accepts s (c ∷ bytes) u
-    → ((t ≡ true) × Accepts (counted (finish s.mode s c)) bytes u) ⊎ ((t
+    → ((t ≡ true) × Accepts (counted (after_token s.mode s c)) bytes u) ⊎ ((t
     ≡ false) × Accepts (record s { at = s.at + 1; token = s.token ++ c ∷ [] }) bytes u)
 next_at s c bytes u true e h = inl (
   refl,
-  subst (λ t. Accepts (counted (cond t (finish s.mode s c) (record s {
+  subst (λ t. Accepts (counted (cond t (after_token s.mode s c) (record s {
     token
         = s.token ++ c ∷ [];
   }))) bytes u) e h,
 )
 next_at s c bytes u false e h = inr (
   refl,
-  subst (λ t. Accepts (counted (cond t (finish s.mode s c) (record s {
+  subst (λ t. Accepts (counted (cond t (after_token s.mode s c) (record s {
     token = s.token ++ c ∷ [];
   }))) bytes u) e h,
 )
@@ -68,7 +69,7 @@ next s (c ∷ bytes) u unended h =
         rest = bytes;
         there = refl;
         stop = k.0;
-        later = subst (λ (p : ℕ × List ℕ). Accepts (counted (finish s.mode (record s { at = p.0; token = p.1 }) c))
+        later = subst (λ (p : ℕ × List ℕ). Accepts (counted (after_token s.mode (record s { at = p.0; token = p.1 }) c))
             bytes u)
             (ap₂ (λ (x : ℕ) (y : List ℕ). (x, y)) (omega arith) (sym (append-nil s.token))) k.1;
       }
@@ -80,7 +81,7 @@ next s (c ∷ bytes) u unended h =
             rest = n.rest;
             there = ap (λ (x : List ℕ). c ∷ x) n.there;
             stop = n.stop;
-            later = subst (λ (p : ℕ × List ℕ). Accepts (counted (finish s.mode (record s { at = p.0; token = p.1 })
+            later = subst (λ (p : ℕ × List ℕ). Accepts (counted (after_token s.mode (record s { at = p.0; token = p.1 })
                 n.last)) n.rest u)
                 (ap₂ (λ (x : ℕ) (y : List ℕ). (x, y)) (omega arith) (append_assoc s.token (c ∷ []) n.token)) n.later;
           }

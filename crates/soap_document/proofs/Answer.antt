@@ -1,9 +1,11 @@
 -- What the code's tests answer, as the tests of specs/.
-use Rattle.std.proofs.Common.{◌≡◌, ◌≢◌, ℕ, suc, ◌+◌, ◌-◌, ◌≤◌, List, [], ◌∷◌, ◌++◌, true, false, ◌&&◌, nat_eq, cond, Option, Some, None, option_map, MatchOption, Bor, length, get_or, take, drop, refl, sym, ap, ap₂, subst, ◌∙◌, arith, append-nil, length-drop}
+use Rattle.std.proofs.Common.{◌≡◌, ◌≢◌, ℕ, suc, ◌+◌, ◌-◌, ◌≤◌, List, [], ◌∷◌, ◌++◌, true, false, ◌&&◌, nat_eq, cond}
+use Rattle.std.proofs.Common.{Option, Some, None, option_map, MatchOption, Bor, length, get_or, take, drop, refl, sym}
+use Rattle.std.proofs.Common.{ap, ap₂, subst, ◌∙◌, arith, append-nil, length-drop}
 use Prim.Native.Nat.{zero}
 use Rattle.std.proofs.lemmas.Bool.{eqb-true, eq-eqb, and_parts, false_from_ne_true}
 use Rattle.memchr.specs.Find.{IsFirstByte, is_byte}
-use Rattle.soap_document.specs.Machine.{State, stops, finish, run, counted, is_end}
+use Rattle.soap_document.specs.Machine.{State, stops, after_token, run, counted, is_end}
 use Rattle.soap_document.specs.Declaration.{after}
 use Rattle.soap_document.specs.Tokens.{is_white, is_name, is_qname, begins, cut}
 use Rattle.soap_document.proofs.Declarations.{after-append}
@@ -47,7 +49,7 @@ end_none name token h = sym (false_from_ne_true (is_end name token) (λ e. let r
 -- ---- feeding
 
 pub feed_step : (s : State) (bytes : List ℕ) (n : ℕ) → IsFirstByte (stops s.mode) bytes (Some n)
-    → run s bytes ≡ run (counted (finish s.mode (record s {
+    → run s bytes ≡ run (counted (after_token s.mode (record s {
       at = s.at + length (take n bytes);
       token = s.token ++
           take n bytes;
@@ -57,8 +59,8 @@ feed_step s bytes n found =
     let next = record s { at = s.at + length (take n bytes); token = s.token ++ take n bytes } in
     ap (run s) (around (stops s.mode) bytes n found)
     ∙ kept s (take n bytes) s.at (front_fails (stops s.mode) bytes n found) (c ∷ drop (n + 1) bytes)
-    ∙ ap (λ t. run (counted (cond t (finish s.mode next c) (record next { token = next.token ++ c ∷ [] }))) (drop (n
-    + 1) bytes)) found.1
+    ∙ ap (λ t. run (counted (cond t (after_token s.mode next c) (record next { token = next.token ++ c ∷ [] })))
+    (drop (n + 1) bytes)) found.1
 
 pub feed_end : (s : State) (bytes : List ℕ) → IsFirstByte (stops s.mode) bytes None
     → record s { at = s.at + length bytes; token = s.token ++ bytes } ≡ run s bytes

@@ -1,11 +1,14 @@
 -- What stands between the places of an element is its content.
-use Rattle.std.proofs.Common.{◌≡◌, ℕ, suc, ◌+◌, ◌-◌, ◌≤◌, ◌⊎◌, inl, inr, List, [], ◌∷◌, ◌++◌, length, take, drop, refl, sym, ap, subst, ◌∙◌, arith, append_assoc, length-append}
+use Rattle.std.proofs.Common.{◌≡◌, ℕ, suc, ◌+◌, ◌-◌, ◌≤◌, ◌⊎◌, inl, inr, List, [], ◌∷◌, ◌++◌, length, take, drop}
+use Rattle.std.proofs.Common.{refl, sym, ap, subst, ◌∙◌, arith, append_assoc, length-append}
 use Rattle.std.proofs.Math.Seq.{drop-append_seam, take-append_seam}
 use Rattle.soap_lex.specs.Text.{run}
 use Rattle.soap_lex.specs.Characters.{Holds}
 use Rattle.soap_document.specs.Tree.{Attribute, Element, element, Parts, none, text, child, onto}
-use Rattle.soap_document.specs.Grammar.{IsElement, full, empty, IsContent, last, more, start_tag, end_tag, empty_tag, IsDocument, document}
-use Rattle.soap_document.specs.Within.{IsWithin, root, deeper, IsAmong, here, behind_child, behind_text, between, StandsBetween}
+use Rattle.soap_document.specs.Grammar.{IsElement, full, empty, IsContent, last, more, start_tag, end_tag, empty_tag}
+use Rattle.soap_document.specs.Grammar.{IsDocument, document}
+use Rattle.soap_document.specs.Within.{IsWithin, root, deeper, IsAmong, here, behind_child, behind_text, between}
+use Rattle.soap_document.specs.Within.{StandsBetween}
 
 -- ---- the parts of the bytes around content
 

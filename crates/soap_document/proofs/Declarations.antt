@@ -1,13 +1,17 @@
 -- The test of an XML declaration, against its grammar.
-use Rattle.std.proofs.Common.{◌≡◌, ℕ, ◌⊎◌, inl, inr, List, [], ◌∷◌, ◌++◌, Bool, true, false, ◌&&◌, ◌||◌, nat_eq, cond, Option, Some, None, length, drop, codes, refl, sym, ap, subst, ◌∙◌, append_assoc}
+use Rattle.std.proofs.Common.{◌≡◌, ℕ, ◌⊎◌, inl, inr, List, [], ◌∷◌, ◌++◌, Bool, true, false, ◌&&◌, ◌||◌, nat_eq, cond}
+use Rattle.std.proofs.Common.{Option, Some, None, length, drop, codes, refl, sym, ap, subst, ◌∙◌, append_assoc}
 use Rattle.std.specs.List.{AllByRecursion}
 use Rattle.std.specs.Char.{to_ascii_lowercase}
 use Rattle.std.specs.Str.{bytes_eq, str_to_ascii_lowercase}
 use Rattle.std.proofs.Math.Seq.{drop-append_seam}
 use Rattle.std.proofs.lemmas.Bool.{eqb-true, eq-eqb, ne_eqb, and_parts, or_cases, true≢false}
 use Rattle.xml_chars.specs.Classes.{is_space}
-use Rattle.soap_document.specs.Declaration.{skip, after, quoted, valued, setting, ends, stands_alone, is_encoded, is_versioned, names_xml, is_declaration}
-use Rattle.soap_document.specs.Grammar.{IsWhite, IsSpace, IsQuoted, double, single, IsSetting, setting as is_setting, IsEncoding, unsaid as no_encoding, utf8, IsStandalone, unsaid as no_standalone, yes, no, IsDeclaration, without, declared}
+use Rattle.soap_document.specs.Declaration.{skip, after, quoted, valued, setting, ends, stands_alone, is_encoded}
+use Rattle.soap_document.specs.Declaration.{is_versioned, names_xml, is_declaration}
+use Rattle.soap_document.specs.Grammar.{IsWhite, IsSpace, IsQuoted, double, single, IsSetting, setting as is_setting}
+use Rattle.soap_document.specs.Grammar.{IsEncoding, unsaid as no_encoding, utf8, IsStandalone}
+use Rattle.soap_document.specs.Grammar.{unsaid as no_standalone, yes, no, IsDeclaration, without, declared}
 use Rattle.soap_document.specs.Machine.{declaring}
 use Rattle.soap_document.specs.Tokens.{begins, cut}
 use Rattle.soap_document.proofs.Moves.{NoStops}

@@ -1,12 +1,16 @@
 -- What feeding a piece does, and what the reader answers at the end.
-use Rattle.std.proofs.Common.{◌≡◌, ◌≢◌, ℕ, ◌+◌, ◌-◌, ◌<◌, ◌≤◌, Bool, true, false, List, [], ◌∷◌, ◌++◌, Option, Some, None, Result, Ok, Err, OnOk, length, get_or, take, drop, refl, sym, ap, subst, ◌∙◌, arith, length-take, length-drop}
+use Rattle.std.proofs.Common.{◌≡◌, ◌≢◌, ℕ, ◌+◌, ◌-◌, ◌<◌, ◌≤◌, Bool, true, false, List, [], ◌∷◌, ◌++◌, Option, Some}
+use Rattle.std.proofs.Common.{None, Result, Ok, Err, OnOk, length, get_or, take, drop, refl, sym, ap, subst, ◌∙◌}
+use Rattle.std.proofs.Common.{arith, length-take, length-drop}
 use Rattle.memchr.specs.Find.{IsFirstByte}
-use Rattle.soap_lex.specs.TextMachine.{TextState, begun as begun_text, halts as text_halts, is_refused, to_stop as text_to_stop}
+use Rattle.soap_lex.specs.TextMachine.{TextState, begun as begun_text, halts as text_halts, is_refused}
+use Rattle.soap_lex.specs.TextMachine.{to_stop as text_to_stop}
 use Rattle.soap_lex.specs.ValueMachine.{ValueState, halts, to_stop}
-use Rattle.soap_document.specs.Machine.{State, chars, value_inner, at_chars, in_less, refuse, stops, finish, step, run, counted, after_text, after_value}
+use Rattle.soap_document.specs.Machine.{State, chars, value_inner, at_chars, in_less, refuse, stops, after_token}
+use Rattle.soap_document.specs.Machine.{step, run, counted, after_text, after_value}
 use Rattle.soap_document.specs.Seen.{Taken}
 use Rattle.soap_document.proofs.Answer.{feed_step, feed_end, take_rest}
-use Rattle.soap_document.proofs.Places.{finish-at, chars-at, in_less-at, after_text-at, after_value-at}
+use Rattle.soap_document.proofs.Places.{after_token-at, chars-at, in_less-at, after_text-at, after_value-at}
 use Rattle.soap_document.proofs.Steps.{at_tag, tag_begins}
 use Rattle.soap_document.proofs.Values.{fed}
 use Rattle.soap_document.proofs.Words.{refused_halts, fed as text_fed}
@@ -27,7 +31,7 @@ feed_last s new bytes r found e kept = kept ∙ feed_end s bytes (subst (λ (o :
 
 module _ (s s1 s2 : State) (bytes : List ℕ) (r : Option ℕ) (n : ℕ) (found : IsFirstByte (stops s.mode) bytes
     r) (e : r ≡ Some n)
-    (kept : s1 ≡ kept_by s (take n bytes)) (ended : s2 ≡ counted (finish s1.mode s1 (get_or bytes n 0))) where
+    (kept : s1 ≡ kept_by s (take n bytes)) (ended : s2 ≡ counted (after_token s1.mode s1 (get_or bytes n 0))) where
   first : IsFirstByte (stops s.mode) bytes (Some n)
   first = subst (λ (o : Option ℕ). IsFirstByte (stops s.mode) bytes o) e found
 
@@ -35,20 +39,20 @@ module _ (s s1 s2 : State) (bytes : List ℕ) (r : Option ℕ) (n : ℕ) (found 
   feed_more =
       let c = get_or bytes n 0 in
       ap (run s2) (take_rest (n + 1) bytes)
-      ∙ ap (λ x. run x (drop (n + 1) bytes)) (ended ∙ ap (λ x. counted (finish x.mode x c)) kept)
+      ∙ ap (λ x. run x (drop (n + 1) bytes)) (ended ∙ ap (λ x. counted (after_token x.mode x c)) kept)
       ∙ sym (feed_step s bytes n first)
 
   pub place_more : s2.at + length (take (length bytes - (n + 1)) (drop (n + 1) bytes)) ≡ s.at + length bytes
   place_more =
       let within : n < length bytes = first.0.high in
       let at1 : s1.at ≡ s.at + length (take n bytes) = ap (λ x. x.at) kept in
-      let at2 : s2.at ≡ (finish s1.mode s1 (get_or bytes n 0)).at + 1 = ap (λ x. x.at) ended in
+      let at2 : s2.at ≡ (after_token s1.mode s1 (get_or bytes n 0)).at + 1 = ap (λ x. x.at) ended in
       omega (
         arith,
         within,
         at1,
         at2,
-        finish-at s1.mode s1 (get_or bytes n 0),
+        after_token-at s1.mode s1 (get_or bytes n 0),
         length-take n bytes,
         length-take
             (length bytes - (n + 1)) (drop (n + 1) bytes),
@@ -71,7 +75,7 @@ taken_all s new bytes r found e some kept = record {
 }
 
 pub taken_some : (s s1 s2 : State) (bytes : List ℕ) (r : Option ℕ) (n : ℕ) → IsFirstByte (stops s.mode) bytes r
-    → r ≡ Some n → s1 ≡ kept_by s (take n bytes) → s2 ≡ counted (finish s1.mode s1 (get_or bytes n 0))
+    → r ≡ Some n → s1 ≡ kept_by s (take n bytes) → s2 ≡ counted (after_token s1.mode s1 (get_or bytes n 0))
     → Taken s s2 bytes (n + 1)
 taken_some s s1 s2 bytes r n found e kept ended =
     let first : IsFirstByte (stops s.mode) bytes (Some n) =

@@ -1,11 +1,13 @@
 -- Comments outside of the root that the reader took are those of the grammar.
-use Rattle.std.proofs.Common.{◌≡◌, ℕ, suc, ◌+◌, ◌≤◌, ◌⊎◌, inl, inr, List, [], ◌∷◌, ◌++◌, Bool, cond, Option, Some, None, length, codes, refl, sym, ap, ap₂, subst, ◌∙◌, arith, append_assoc, length-append}
+use Rattle.std.proofs.Common.{◌≡◌, ℕ, suc, ◌+◌, ◌≤◌, ◌⊎◌, inl, inr, List, [], ◌∷◌, ◌++◌, Bool, cond, Option, Some}
+use Rattle.std.proofs.Common.{None, length, codes, refl, sym, ap, ap₂, subst, ◌∙◌, arith, append_assoc, length-append}
 use Prim.Native.Nat.{zero}
 use Rattle.std.specs.Str.{bytes_eq}
 use Rattle.std.proofs.lemmas.Bool.{eqb-true}
 use Rattle.soap_lex.specs.Text.{IsComment}
 use Rattle.soap_document.specs.Tree.{Element}
-use Rattle.soap_document.specs.Machine.{marking, commenting, Frame, State, refuse, counted, at_commenting, without, calm}
+use Rattle.soap_document.specs.Machine.{marking, commenting, Frame, State, refuse, counted, at_commenting, without}
+use Rattle.soap_document.specs.Machine.{calm}
 use Rattle.soap_document.specs.Tokens.{is_comment}
 use Rattle.soap_document.proofs.Accepts.{Accepts, passed, chosen, next}
 use Rattle.soap_document.proofs.Moves.{At, plain_at, chars_at}

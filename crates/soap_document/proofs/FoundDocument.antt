@@ -1,13 +1,18 @@
 -- What the reader answers is the tree of a document.
-use Rattle.std.proofs.Common.{◌≡◌, ℕ, suc, ◌+◌, ◌<◌, ◌⊎◌, inl, inr, List, [], ◌∷◌, ◌++◌, Bool, true, false, ◌&&◌, ◌||◌, nat_eq, cond, Option, Some, None, length, codes, refl, sym, ap, subst, ◌∙◌, arith, append_assoc, append-nil, length-append}
+use Rattle.std.proofs.Common.{◌≡◌, ℕ, suc, ◌+◌, ◌<◌, ◌⊎◌, inl, inr, List, [], ◌∷◌, ◌++◌, Bool, true, false, ◌&&◌}
+use Rattle.std.proofs.Common.{◌||◌, nat_eq, cond, Option, Some, None, length, codes, refl, sym, ap, subst, ◌∙◌, arith}
+use Rattle.std.proofs.Common.{append_assoc, append-nil, length-append}
 use Prim.Native.Nat.{zero}
 use Rattle.std.proofs.lemmas.Bool.{eqb-true, and_parts, or_cases, true≢false}
 use Rattle.xml_chars.specs.Classes.{is_space}
 use Rattle.soap_lex.specs.Text.{IsComment}
 use Rattle.soap_document.specs.Tree.{Element, none, child}
 use Rattle.soap_document.specs.Declaration.{is_declaration}
-use Rattle.soap_document.specs.Grammar.{IsWhite, IsMisc, white, comment, IsMark, unmarked, marked, IsDeclaration, without as undeclared, IsElement, IsDocument, document}
-use Rattle.soap_document.specs.Machine.{beginning, less, marking, declaring, Frame, State, run, counted, calm, start, nothing_open, root_of, only_child, is_mark, has_room, at_outside, at_beginning}
+use Rattle.soap_document.specs.Grammar.{IsWhite, IsMisc, white, comment, IsMark, unmarked, marked, IsDeclaration}
+use Rattle.soap_document.specs.Grammar.{without as undeclared, IsElement, IsDocument, document}
+use Rattle.soap_document.specs.Machine.{beginning, less, marking, declaring, Frame, State, run, counted, calm, start}
+use Rattle.soap_document.specs.Machine.{nothing_open, root_of, only_child, is_mark, has_room, at_outside}
+use Rattle.soap_document.specs.Machine.{at_beginning}
 use Rattle.soap_document.specs.Tokens.{is_nil, is_white}
 use Rattle.soap_document.proofs.Accepts.{Accepts, passed, chosen, next}
 use Rattle.soap_document.proofs.Declarations.{declaration_from}

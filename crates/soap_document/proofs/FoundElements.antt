@@ -1,11 +1,17 @@
 -- Elements and content that the reader took are those of the grammar.
-use Rattle.std.proofs.Common.{◌≡◌, ℕ, suc, ◌+◌, ◌≤◌, ◌<◌, ◌⊎◌, inl, inr, List, [], ◌∷◌, ◌++◌, Bool, true, false, not, ◌&&◌, nat_eq, cond, length, codes, refl, sym, ap, ap₂, subst, ◌∙◌, arith, append_assoc, length-append}
+use Rattle.std.proofs.Common.{◌≡◌, ℕ, suc, ◌+◌, ◌≤◌, ◌<◌, ◌⊎◌, inl, inr, List, [], ◌∷◌, ◌++◌, Bool, true, false, not}
+use Rattle.std.proofs.Common.{◌&&◌, nat_eq, cond, length, codes, refl, sym, ap, ap₂, subst, ◌∙◌, arith, append_assoc}
+use Rattle.std.proofs.Common.{length-append}
 use Prim.Native.Nat.{zero}
 use Rattle.std.proofs.lemmas.Bool.{eqb-true, ltb-true, and_parts, true≢false}
 use Rattle.soap_lex.specs.Text.{IsText}
 use Rattle.soap_document.specs.Tree.{Attribute, Element, element, Parts, none, child, onto}
-use Rattle.soap_document.specs.Grammar.{IsWhite, IsQName, IsAttributes, IsElement, full, empty, IsContent, last as last_text, more as then_child, start_tag, end_tag, empty_tag, max_depth}
-use Rattle.soap_document.specs.Machine.{no_value, less, ending, slashed, marking, declaring, Frame, State, finish, refuse, counted, settle, emptied, at_tagging, with_parts, has_room, is_end}
+use Rattle.soap_document.specs.Grammar.{IsWhite, IsQName, IsAttributes, IsElement, full, empty, IsContent}
+use Rattle.soap_document.specs.Grammar.{last as last_text, more as then_child, start_tag, end_tag, empty_tag}
+use Rattle.soap_document.specs.Grammar.{max_depth}
+use Rattle.soap_document.specs.Machine.{no_value, less, ending, slashed, marking, declaring, Frame, State}
+use Rattle.soap_document.specs.Machine.{after_token, refuse, counted, settle, emptied, at_tagging, with_parts}
+use Rattle.soap_document.specs.Machine.{has_room, is_end}
 use Rattle.soap_document.specs.Tokens.{is_nil, is_qname}
 use Rattle.soap_document.proofs.Accepts.{Accepts, passed, chosen, next}
 use Rattle.soap_document.proofs.FoundTags.{AttributesFound, attributes_found}
@@ -52,7 +58,7 @@ module _ (fresh : Bool) (mark : ℕ) (top : Frame) (below : List Frame) (x : Lis
         ⊎ TagFound bytes at
 
   abbrev tag_here : List ℕ → Tag
-  tag_here name = record { fresh = fresh; mark = mark; top = settled; below = below; name = name }
+  tag_here name = record { fresh = fresh; markup = mark; top = settled; below = below; name = name }
 
   slash_found : (name : List ℕ) (attributes : List Attribute) (at : ℕ) (bytes : List ℕ)
       → Accepts (tag_at slashed (tag_here name) attributes [] no_value [] at) bytes u
@@ -104,15 +110,16 @@ module _ (fresh : Bool) (mark : ℕ) (top : Frame) (below : List Frame) (x : Lis
   ]
 
   less_step : (lex : Lexes) → (bytes m rest : List ℕ) (c at : ℕ) → bytes ≡ m ++ c ∷ rest
-      → Accepts (counted (finish less (less_at fresh mark top below x m (at + length m)) c)) rest u
+      → Accepts (counted (after_token less (less_at fresh mark top below x m (at + length m)) c)) rest u
       → LessFound bytes at
   less_step lex bytes [] rest c at e h = subst (λ (y : List ℕ). LessFound y at) (sym e) found
     where
       s : State
       s = less_at fresh mark top below x [] at
 
-      h1 : Accepts (counted (finish less s c)) rest u
-      h1 = subst (λ p. Accepts (counted (finish less (less_at fresh mark top below x [] p) c)) rest u) (omega arith) h
+      h1 : Accepts (counted (after_token less s c)) rest u
+      h1 = subst (λ p. Accepts (counted (after_token less (less_at fresh mark top below x [] p) c)) rest u)
+          (omega arith) h
 
       end_state : State
       end_state = plain_at ending fresh mark settled below [] [] at

@@ -1,5 +1,7 @@
 -- Tags that the reader took are tags of the grammar.
-use Rattle.std.proofs.Common.{◌≡◌, ◌≢◌, ℕ, suc, ◌+◌, ◌≤◌, ◌⊎◌, inl, inr, List, [], ◌∷◌, ◌++◌, Bool, true, false, ◌||◌, nat_eq, cond, Some, length, refl, sym, ap, ap₂, subst, ◌∙◌, arith, append_assoc, append-nil, length-append}
+use Rattle.std.proofs.Common.{◌≡◌, ◌≢◌, ℕ, suc, ◌+◌, ◌≤◌, ◌⊎◌, inl, inr, List, [], ◌∷◌, ◌++◌, Bool, true, false, ◌||◌}
+use Rattle.std.proofs.Common.{nat_eq, cond, Some, length, refl, sym, ap, ap₂, subst, ◌∙◌, arith, append_assoc}
+use Rattle.std.proofs.Common.{append-nil, length-append}
 use Prim.Native.Nat.{zero}
 use Rattle.std.proofs.lemmas.Bool.{eqb-true, or_cases}
 use Rattle.xml_chars.specs.Classes.{is_space}
@@ -7,7 +9,8 @@ use Rattle.soap_lex.specs.ValueMachine.{begun, reads}
 use Rattle.soap_lex.specs.Value.{IsValue, double, single, IsInner}
 use Rattle.soap_document.specs.Tree.{Attribute, Element}
 use Rattle.soap_document.specs.Grammar.{IsWhite, IsSpace, IsQName, IsAttributes, end, more}
-use Rattle.soap_document.specs.Machine.{naming, named, valuing, slashed, no_value, State, finish, refuse, counted, opened, at_tagging, at_named}
+use Rattle.soap_document.specs.Machine.{naming, named, valuing, slashed, no_value, State, after_token, refuse}
+use Rattle.soap_document.specs.Machine.{counted, opened, at_tagging, at_named}
 use Rattle.soap_document.specs.Tokens.{is_qname}
 use Rattle.soap_document.proofs.Accepts.{Accepts, passed, chosen, next}
 use Rattle.soap_document.proofs.FoundComments.{shorter}
@@ -299,7 +302,7 @@ module _ (tag : Tag) (u : Element) where
   naming_step : (lex : Lexes) → (fuel : ℕ) → RecurTag fuel → (space : List ℕ) (before : List Attribute) (at : ℕ)
       (bytes m rest :
       List ℕ) (c : ℕ) → IsSpace space → length bytes ≤ suc fuel → bytes ≡ m ++ c ∷ rest
-      → Accepts (counted (finish naming (tag_at naming tag before [] no_value m (at + length m)) c)) rest u
+      → Accepts (counted (after_token naming (tag_at naming tag before [] no_value m (at + length m)) c)) rest u
       → AttributesFound space before bytes at
   naming_step lex fuel recur space before at bytes [] rest c s short e h = subst (λ (x : List ℕ). AttributesFound space
       before x at) (sym e) (first (is_space c) refl)

@@ -1,9 +1,11 @@
 -- Bytes are content exactly where they make a document between the tags of an element.
-use Rattle.std.proofs.Common.{◌≡◌, ℕ, suc, ◌+◌, ◌<◌, ◌^◌, List, [], ◌∷◌, ◌++◌, length, get_or, codes, refl, sym, subst, arith, lit<, append-nil}
+use Rattle.std.proofs.Common.{◌≡◌, ℕ, suc, ◌+◌, ◌<◌, ◌^◌, List, [], ◌∷◌, ◌++◌, length, get_or, codes, refl, sym}
+use Rattle.std.proofs.Common.{subst, arith, lit<, append-nil}
 use Prim.Native.Nat.{zero}
 use Rattle.std.proofs.lemmas.Str.{encodes-IsAscii}
 use Rattle.soap_document.specs.Tree.{Attribute, Element, element, Parts}
-use Rattle.soap_document.specs.Grammar.{IsQName, unprefixed, end as no_attributes, IsContent, full, white, unmarked, without, IsDocument, document}
+use Rattle.soap_document.specs.Grammar.{IsQName, unprefixed, end as no_attributes, IsContent, full, white, unmarked}
+use Rattle.soap_document.specs.Grammar.{without, IsDocument, document}
 use Rattle.soap_document.specs.Inside.{IsInside, around, root_around}
 use Rattle.soap_document.specs.Machine.{State, step, run, start as start_state}
 use Rattle.soap_document.specs.Within.{between}

@@ -1,10 +1,12 @@
 -- How the reader moves over bytes: from a state at a place to one at the place behind them.
-use Rattle.std.proofs.Common.{◌≡◌, ℕ, ◌+◌, List, [], ◌∷◌, ◌++◌, Bool, true, false, length, sym, ap, ◌∙◌, arith, append_assoc, append-nil, length-append}
+use Rattle.std.proofs.Common.{◌≡◌, ℕ, ◌+◌, List, [], ◌∷◌, ◌++◌, Bool, true, false, length, sym, ap, ◌∙◌, arith}
+use Rattle.std.proofs.Common.{append_assoc, append-nil, length-append}
 use Rattle.std.specs.List.{AllByRecursion}
 use Rattle.soap_lex.specs.TextMachine.{begun}
 use Rattle.soap_lex.specs.ValueMachine.{ValueState}
 use Rattle.soap_document.specs.Tree.{Attribute}
-use Rattle.soap_document.specs.Machine.{Mode, less, tagging, naming, Frame, State, stops, step, run, no_value, text_mode}
+use Rattle.soap_document.specs.Machine.{Mode, less, tagging, naming, Frame, State, stops, step, run, no_value}
+use Rattle.soap_document.specs.Machine.{text_mode}
 
 -- the places of two runs of bytes, one behind the other
 pub place_append : (at : ℕ) (b d : List ℕ) → at + length b + length d ≡ at + length (b ++ d)
@@ -81,7 +83,7 @@ plain_at mode fresh mark top below text token at = record {
   mode = mode;
   fresh = fresh;
   at = at;
-  mark = mark;
+  markup = mark;
   token = token;
   words = begun text;
   name = [];
@@ -102,7 +104,7 @@ less_at fresh mark top below text token = plain_at less fresh mark top below tex
 -- in a start tag
 pub record Tag : Type 0 where
   pub fresh : Bool
-  pub mark : ℕ
+  pub markup : ℕ
   pub top : Frame
   pub below : List Frame
   pub name : List ℕ
@@ -112,7 +114,7 @@ tag_at mode tag attributes attribute value token at = record {
   mode = mode;
   fresh = tag.fresh;
   at = at;
-  mark = tag.mark;
+  markup = tag.markup;
   token = token;
   words = begun [];
   name = tag.name;

@@ -1,12 +1,15 @@
 -- Names, as bytes.
-use Rattle.std.proofs.Common.{◌≡◌, ◌≢◌, ℕ, ◌<◌, inl, inr, true, false, nat_eq, List, [], ◌∷◌, ◌++◌, length, get_or, encode_utf8, encode_utf8_all, refl, sym, ap, subst, ◌∙◌, arith, append-nil, length-append}
+use Rattle.std.proofs.Common.{◌≡◌, ◌≢◌, ℕ, ◌<◌, inl, inr, true, false, nat_eq, List, [], ◌∷◌, ◌++◌, length, get_or}
+use Rattle.std.proofs.Common.{encode_utf8, encode_utf8_all, refl, sym, ap, subst, ◌∙◌, arith, append-nil}
+use Rattle.std.proofs.Common.{length-append}
 use Rattle.std.specs.List.{AllByRecursion, list_all}
 use Rattle.std.specs.Str.{chars, is_utf8, IsUtf8}
 use Rattle.std.proofs.Math.Utf8.{scalar}
 use Rattle.std.proofs.lemmas.Bool.{and_parts, or_cases, ne_eqb, true≢false}
 use Rattle.std.proofs.lemmas.List.Elements.{recursion_from_All}
 use Rattle.std.proofs.lemmas.List.{get_or_default}
-use Rattle.std.proofs.lemmas.Str.{chars-encodes, encodes-chars, inside_one, length-encode, len_utf8_bounds, IsUtf8-from_is_utf8, is_utf8-from_IsUtf8}
+use Rattle.std.proofs.lemmas.Str.{chars-encodes, encodes-chars, inside_one, length-encode, len_utf8_bounds}
+use Rattle.std.proofs.lemmas.Str.{IsUtf8-from_is_utf8, is_utf8-from_IsUtf8}
 use Rattle.xml_chars.specs.Classes.{is_within, is_name_start, is_name_char, name_start_ranges, name_more_ranges}
 use Rattle.soap_lex.specs.Characters.{IsName}
 use Rattle.soap_lex.specs.Scalars.{all_scalar, name_char-scalar, name_each}

@@ -1,10 +1,11 @@
--- What a nest stands for where the innermost element ends.
-use Rattle.std.proofs.Common.{◌≡◌, List, [], ◌∷◌, ◌++◌, reverse, map, length, ℕ, true, false, not, refl, sym, ap, ◌∙◌, arith}
+-- What the stack of open elements stands for where the innermost element ends.
+use Rattle.std.proofs.Common.{◌≡◌, List, [], ◌∷◌, ◌++◌, reverse, map, length, ℕ, true, false, not, refl, sym, ap, ◌∙◌}
+use Rattle.std.proofs.Common.{arith}
 use Rattle.std.proofs.lemmas.List.{reverse-append}
 use Rattle.soap_document.specs.Tree.{Element, Parts, none, text, child}
 use Rattle.soap_document.specs.Machine.{Frame, with_parts, join, is_none}
 use Rattle.soap_document.specs.Seen.{Holds, is_begun}
-use Rattle.soap_document.specs.declared.nest.Nest.{Nest}
+use Rattle.soap_document.specs.declared.open_elements.OpenElements.{OpenElements}
 
 last_of : {A : Type 0} (names rest : List A) (last outer : A) (below : List A) → reverse names ≡ outer ∷ below
     → names ≡ rest ++ last ∷ [] → (last ≡ outer) × (reverse rest ≡ below)
@@ -23,15 +24,15 @@ pub begun_child : (outer : Frame) (below : List Frame) (e : Element)
 begun_child outer [] e = ap not (some_child outer.parts e)
 begun_child outer (frame ∷ frames) e = refl
 
--- the innermost element is gone from a nest, and its handler still stands for it
-pub record Popped {H : Type 0} (stands : H → Frame → List Frame → Type 0) (nest : Nest H) (top outer : Frame)
+-- the innermost element is gone from the stack, and its handler still stands for it
+pub record Popped {H : Type 0} (stands : H → Frame → List Frame → Type 0) (stack : OpenElements H) (top outer : Frame)
     (below : List Frame) : Type 0 where
-  pub name : nest.name ≡ outer.name
-  pub names : reverse nest.names.items ≡ map (λ (frame : Frame). frame.name) below
-  pub begun : nest.begun ≡ true
-  pub stands_for : stands nest.handler top (outer ∷ below)
+  pub name : stack.name ≡ outer.name
+  pub names : reverse stack.names.items ≡ map (λ (frame : Frame). frame.name) below
+  pub begun : stack.begun ≡ true
+  pub stands_for : stands stack.handler top (outer ∷ below)
 
-pub popped : {H : Type 0} (stands : H → Frame → List Frame → Type 0) (old new : Nest H) (top outer : Frame)
+pub popped : {H : Type 0} (stands : H → Frame → List Frame → Type 0) (old new : OpenElements H) (top outer : Frame)
     (below : List Frame) → Holds stands old top (outer ∷ below) → old.names.items ≡ new.names.items ++ new.name ∷ []
     → new.begun ≡ old.begun → stands new.handler top (outer ∷ below) → Popped stands new top outer below
 popped stands old new top outer below h e b stood =

@@ -1,5 +1,6 @@
 -- The reader takes comments outside of the root as the grammar has them.
-use Rattle.std.proofs.Common.{◌≡◌, ℕ, ◌+◌, List, [], ◌∷◌, ◌++◌, Bool, true, false, None, length, codes, nat_eq, refl, sym, ap, ◌∙◌, append_assoc, append-nil}
+use Rattle.std.proofs.Common.{◌≡◌, ℕ, ◌+◌, List, [], ◌∷◌, ◌++◌, Bool, true, false, None, length, codes, nat_eq, refl}
+use Rattle.std.proofs.Common.{sym, ap, ◌∙◌, append_assoc, append-nil}
 use Rattle.std.proofs.lemmas.Bool.{eqb-true}
 use Rattle.soap_lex.specs.Text.{IsComment}
 use Rattle.soap_document.specs.Machine.{marking, commenting, Frame, step, without}

@@ -1,12 +1,14 @@
 -- The reader answers the tree of a document.
-use Rattle.std.proofs.Common.{◌≡◌, ℕ, ◌+◌, ◌⊎◌, inl, inr, List, [], ◌∷◌, ◌++◌, Bool, true, false, Some, length, codes, refl, sym, ap, ◌∙◌, arith, append_assoc, append-nil, length-append}
+use Rattle.std.proofs.Common.{◌≡◌, ℕ, ◌+◌, ◌⊎◌, inl, inr, List, [], ◌∷◌, ◌++◌, Bool, true, false, Some, length, codes}
+use Rattle.std.proofs.Common.{refl, sym, ap, ◌∙◌, arith, append_assoc, append-nil, length-append}
 use Rattle.xml_chars.specs.Classes.{is_space}
 use Rattle.soap_document.specs.Tree.{Element, none, child}
 use Rattle.soap_document.specs.Grammar.{IsMisc, white, comment, IsMark, unmarked, marked, IsDocument, document}
 use Rattle.soap_document.specs.Machine.{beginning, declaring, Frame, step, run, start, nothing_open, root_of, is_mark}
 use Rattle.soap_document.specs.Declaration.{is_declaration}
 use Rattle.soap_document.specs.Tokens.{is_white}
-use Rattle.soap_document.proofs.Moves.{At, Moves, NoStops, then, byte, one, regroup, stay, kept, plain_at, chars_at, less_at}
+use Rattle.soap_document.proofs.Moves.{At, Moves, NoStops, then, byte, one, regroup, stay, kept, plain_at, chars_at}
+use Rattle.soap_document.proofs.Moves.{less_at}
 use Rattle.soap_document.proofs.OnlyElements.{element_only}
 use Rattle.soap_document.proofs.OnlyComments.{comment_moves}
 use Rattle.soap_document.proofs.TokenLaws.{white_passes, white_outside}

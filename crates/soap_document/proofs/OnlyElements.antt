@@ -1,14 +1,18 @@
 -- The reader takes elements and their content as the grammar has them.
-use Rattle.std.proofs.Common.{◌≡◌, ℕ, suc, ◌+◌, ◌<◌, ◌⊎◌, inl, inr, List, [], ◌∷◌, ◌++◌, Bool, true, false, length, codes, nat_eq, refl, sym, ap, ap₂, ◌∙◌, arith, append_assoc, length-append}
+use Rattle.std.proofs.Common.{◌≡◌, ℕ, suc, ◌+◌, ◌<◌, ◌⊎◌, inl, inr, List, [], ◌∷◌, ◌++◌, Bool, true, false, length}
+use Rattle.std.proofs.Common.{codes, nat_eq, refl, sym, ap, ap₂, ◌∙◌, arith, append_assoc, length-append}
 use Rattle.std.proofs.lemmas.Bool.{lt-ltb, ne_eqb, true≢false}
 use Rattle.xml_chars.specs.Classes.{is_space}
 use Rattle.soap_lex.specs.TextMachine.{chars}
 use Rattle.soap_lex.specs.TextMachine.{text_in}
 use Rattle.soap_document.specs.Tree.{Attribute, Element, element, Parts, none, text, child, onto}
-use Rattle.soap_document.specs.Grammar.{IsWhite, IsQName, IsAttributes, end, more, IsElement, full, empty, IsContent, last, start_tag, end_tag, empty_tag, max_depth}
-use Rattle.soap_document.specs.Machine.{no_value, less, ending, slashed, Frame, step, run, join, with_parts, has_room, is_name_end}
+use Rattle.soap_document.specs.Grammar.{IsWhite, IsQName, IsAttributes, end, more, IsElement, full, empty, IsContent}
+use Rattle.soap_document.specs.Grammar.{last, start_tag, end_tag, empty_tag, max_depth}
+use Rattle.soap_document.specs.Machine.{no_value, less, ending, slashed, Frame, step, run, join, with_parts, has_room}
+use Rattle.soap_document.specs.Machine.{is_name_end}
 use Rattle.soap_document.specs.Tokens
-use Rattle.soap_document.proofs.Moves.{At, Moves, place_one, NoStops, then, byte, one, regroup, retarget, kept, Tag, tag_at, between_at, plain_at, chars_at, less_at}
+use Rattle.soap_document.proofs.Moves.{At, Moves, place_one, NoStops, then, byte, one, regroup, retarget, kept, Tag}
+use Rattle.soap_document.proofs.Moves.{tag_at, between_at, plain_at, chars_at, less_at}
 use Rattle.soap_document.proofs.OnlyTags.{attributes_only}
 use Rattle.soap_document.proofs.TokenLaws.{qname_passes, qname_some, qname_less, qname_ending, white_ending, end_passes}
 use Rattle.soap_document.proofs.Words.{words_at, words_move, words_less}
@@ -81,7 +85,7 @@ attributes_begin (more (b ∷ space) name left right quoted value tail attribute
 
 module _ (fresh : Bool) (mark : ℕ) (top : Frame) (below : List Frame) (text name : List ℕ) where
   abbrev tag_of : Tag
-  tag_of = record { fresh = fresh; mark = mark; top = with_parts top (onto text none); below = below; name = name }
+  tag_of = record { fresh = fresh; markup = mark; top = with_parts top (onto text none); below = below; name = name }
 
   tag_step : (c at : ℕ) → IsTagByte c → Tokens.is_nil name ≡ false → Tokens.is_qname name ≡ true
       → has_room below top.parts ≡ true

@@ -1,5 +1,6 @@
 -- The reader takes tags as the grammar has them.
-use Rattle.std.proofs.Common.{◌⊎◌, inl, inr, ◌≡◌, ℕ, ◌+◌, List, [], ◌∷◌, ◌++◌, Bool, true, false, length, codes, nat_eq, refl, sym, ap, append_assoc, append-nil}
+use Rattle.std.proofs.Common.{◌⊎◌, inl, inr, ◌≡◌, ℕ, ◌+◌, List, [], ◌∷◌, ◌++◌, Bool, true, false, length, codes}
+use Rattle.std.proofs.Common.{nat_eq, refl, sym, ap, append_assoc, append-nil}
 use Rattle.xml_chars.specs.Classes.{is_space}
 use Rattle.soap_lex.specs.Value.{IsValue, double, single, IsInner}
 use Rattle.soap_lex.specs.ValueMachine.{begun}
@@ -7,7 +8,8 @@ use Rattle.soap_document.specs.Tree.{Attribute}
 use Rattle.soap_document.specs.Grammar.{IsWhite, IsSpace, IsQName, IsAttributes, end, more}
 use Rattle.soap_document.specs.Machine.{naming, named, valuing, no_value, step}
 use Rattle.soap_document.specs.Tokens
-use Rattle.soap_document.proofs.Moves.{At, Moves, then, byte, one, regroup, retarget, stay, kept, Tag, tag_at, between_at}
+use Rattle.soap_document.proofs.Moves.{At, Moves, then, byte, one, regroup, retarget, stay, kept, Tag, tag_at}
+use Rattle.soap_document.proofs.Moves.{between_at}
 use Rattle.soap_document.proofs.TokenLaws.{qname_passes, qname_some, qname_naming}
 use Rattle.soap_document.proofs.Values.{value_at, added, tag_moves}
 use Rattle.soap_document.proofs.Lexing.{Lexes}

@@ -1,6 +1,10 @@
 -- A byte that ends a token leaves the count of bytes as it is, and each byte that is read is counted.
-use Rattle.std.proofs.Common.{◌≡◌, ℕ, ◌+◌, List, Bool, true, false, cond, Option, Some, None, [], ◌∷◌, ◌++◌, refl, ap, ◌∙◌}
-use Rattle.soap_document.specs.Machine.{Mode, beginning, declaring, outside, marking, commenting, chars, less, tagging, naming, named, valuing, value_inner, slashed, ending, refused, Frame, State, stops, finish, step, refuse, after_text, after_value, at_value, at_tagging, at_named, at_commenting, at_chars, at_less, in_less, closed}
+use Rattle.std.proofs.Common.{◌≡◌, ℕ, ◌+◌, List, Bool, true, false, cond, Option, Some, None, [], ◌∷◌, ◌++◌, refl, ap}
+use Rattle.std.proofs.Common.{◌∙◌}
+use Rattle.soap_document.specs.Machine.{Mode, beginning, declaring, outside, marking, commenting, chars, less}
+use Rattle.soap_document.specs.Machine.{tagging, naming, named, valuing, value_inner, slashed, ending, refused, Frame}
+use Rattle.soap_document.specs.Machine.{State, stops, after_token, step, refuse, after_text, after_value, at_value}
+use Rattle.soap_document.specs.Machine.{at_tagging, at_named, at_commenting, at_chars, at_less, in_less, closed}
 use Rattle.soap_lex.specs.TextMachine.{halts as text_halts, is_less, step as text_step}
 use Rattle.soap_lex.specs.ValueMachine.{halts, step as value_step}
 
@@ -49,25 +53,25 @@ value-at s c =
     on_cond (halts s.value.mode) (refuse s) (after_value next)
     ∙ ap (λ n. cond (halts s.value.mode) s.at n) (after_value-at next) ∙ same_cond (halts s.value.mode) s.at
 
-pub finish-at : (m : Mode) (s : State) (c : ℕ) → (finish m s c).at ≡ s.at
-finish-at beginning s c = simp (on_cond, same_cond)
-finish-at declaring s c = simp (on_cond, same_cond)
-finish-at outside s c = simp (on_cond, same_cond)
-finish-at marking s c = simp (on_cond, same_cond)
-finish-at commenting s c = commenting-at s _
-finish-at chars s c = chars-at s c
-finish-at less s c = less-at s c
-finish-at tagging s c = tagging-at s c
-finish-at naming s c = simp (on_cond, same_cond)
-finish-at named s c = named-at s c
-finish-at valuing s c = simp (on_cond, same_cond)
-finish-at value_inner s c = value-at s c
-finish-at slashed s c = simp (on_cond, same_cond)
-finish-at ending s c = closed-at s.below s
-finish-at refused s c = refl
+pub after_token-at : (m : Mode) (s : State) (c : ℕ) → (after_token m s c).at ≡ s.at
+after_token-at beginning s c = simp (on_cond, same_cond)
+after_token-at declaring s c = simp (on_cond, same_cond)
+after_token-at outside s c = simp (on_cond, same_cond)
+after_token-at marking s c = simp (on_cond, same_cond)
+after_token-at commenting s c = commenting-at s _
+after_token-at chars s c = chars-at s c
+after_token-at less s c = less-at s c
+after_token-at tagging s c = tagging-at s c
+after_token-at naming s c = simp (on_cond, same_cond)
+after_token-at named s c = named-at s c
+after_token-at valuing s c = simp (on_cond, same_cond)
+after_token-at value_inner s c = value-at s c
+after_token-at slashed s c = simp (on_cond, same_cond)
+after_token-at ending s c = closed-at s.below s
+after_token-at refused s c = refl
 
 pub step-at : (s : State) (c : ℕ) → (step s c).at ≡ s.at + 1
 step-at s c =
     let t = stops s.mode c in
-    ap (λ n. n + 1) (on_cond t (finish s.mode s c) (record s { token = s.token ++ c ∷ [] })
-    ∙ ap (λ n. cond t n s.at) (finish-at s.mode s c) ∙ same_cond t s.at)
+    ap (λ n. n + 1) (on_cond t (after_token s.mode s c) (record s { token = s.token ++ c ∷ [] })
+    ∙ ap (λ n. cond t n s.at) (after_token-at s.mode s c) ∙ same_cond t s.at)

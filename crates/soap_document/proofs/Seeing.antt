@@ -1,5 +1,6 @@
--- What a reader stands for, from what its scanner and its nest stand for.
-use Rattle.std.proofs.Common.{◌≡◌, ℕ, ◌+◌, ◌-◌, ◌≤◌, length, take, drop, List, Result, Ok, Err, OnOk, IfOk, refl, sym, ap, subst, ◌∙◌, arith, length-drop}
+-- What a reader stands for, from what its scanner and its stack stand for.
+use Rattle.std.proofs.Common.{◌≡◌, ℕ, ◌+◌, ◌-◌, ◌≤◌, length, take, drop, List, Result, Ok, Err, OnOk, IfOk, refl, sym}
+use Rattle.std.proofs.Common.{ap, subst, ◌∙◌, arith, length-drop}
 use Rattle.soap_document.specs.Machine.{Frame, State, counted, run}
 use Rattle.soap_document.specs.Seen.{seen, Holds, IsTold, fed_len, Sees, Taken, TakenBy}
 use Rattle.soap_document.proofs.Answer.{take_rest}
@@ -7,33 +8,33 @@ use Rattle.soap_document.proofs.Fed.{on_ok}
 use Rattle.soap_document.specs.declared.scan.Scan.{Scan}
 use Rattle.soap_document.specs.declared.reader.Reader.{Reader}
 
--- what holds of the state of any open elements that the nest stands for holds of the state that the reader stands for
+-- what holds of the state of any open elements that the stack stands for holds of the state that the reader stands for
 pub seeing : {H : Type 0} (stands : H → Frame → List Frame → Type 0) (r : Reader H) (P : State → Type 0)
-    → ((top : Frame) (below : List Frame) → Holds stands r.nest top below → P (seen r.scan top below)) → (s : State)
+    → ((top : Frame) (below : List Frame) → Holds stands r.stack top below → P (seen r.scan top below)) → (s : State)
     → Sees stands r s → P s
 seeing stands r P f s h = subst P h.is (f s.top s.below h.holds)
 
 -- a reader stands for the state that it is seen to have
 pub sees : {H : Type 0} (stands : H → Frame → List Frame → Type 0) (r : Reader H) (top : Frame) (below : List Frame)
-    (s : State) → Holds stands r.nest top below → seen r.scan top below ≡ s → Sees stands r s
+    (s : State) → Holds stands r.stack top below → seen r.scan top below ≡ s → Sees stands r s
 sees stands r top below s h e =
     subst (λ (x : State). Sees stands r x) e (record { is = refl; holds = h })
 
 -- a step of a reader, from what it does where these elements are open
 pub steps : {H : Type 0} (stands : H → Frame → List Frame → Type 0) (old new : Reader H) (f : State → State)
-    → ((top : Frame) (below : List Frame) → Holds stands old.nest top below → Sees stands new (f (seen old.scan top
+    → ((top : Frame) (below : List Frame) → Holds stands old.stack top below → Sees stands new (f (seen old.scan top
     below))) → (s : State) → Sees stands old s → Sees stands new (f s)
 steps stands old new f = seeing stands old (λ s. Sees stands new (f s))
 
 -- a step that leaves the open elements as they are
 pub scans : {H : Type 0} (stands : H → Frame → List Frame → Type 0) (r : Reader H) (scan : Scan) (f : State → State)
-    → ((top : Frame) (below : List Frame) → Holds stands r.nest top below → seen scan top below
+    → ((top : Frame) (below : List Frame) → Holds stands r.stack top below → seen scan top below
     ≡ f (seen r.scan top below)) → (s : State) → Sees stands r s → Sees stands (record r { scan = scan }) (f s)
 scans stands r scan f e =
     steps stands r _ f (λ top below h. sees stands (record r { scan = scan }) top below _ h (e top below h))
 
 pub scans_ok : {H A E : Type 0} (stands : H → Frame → List Frame → Type 0) (r : Reader H) (scan : Scan)
-    (f : State → State) (answer : Result A E) → ((top : Frame) (below : List Frame) → Holds stands r.nest top below
+    (f : State → State) (answer : Result A E) → ((top : Frame) (below : List Frame) → Holds stands r.stack top below
     → OnOk answer (seen scan top below ≡ f (seen r.scan top below))) → (s : State) → Sees stands r s
     → OnOk answer (Sees stands (record r { scan = scan }) (f s))
 scans_ok stands r scan f answer e =

@@ -1,5 +1,6 @@
 -- What the code's steps do to the state that it stands for.
-use Rattle.std.proofs.Common.{◌≡◌, ◌≢◌, ℕ, suc, ◌+◌, ◌-◌, List, [], ◌∷◌, true, false, ◌||◌, ◌&&◌, nat_eq, length, refl, sym, ap, subst, ◌∙◌, arith, append-nil}
+use Rattle.std.proofs.Common.{◌≡◌, ◌≢◌, ℕ, suc, ◌+◌, ◌-◌, List, [], ◌∷◌, true, false, ◌||◌, ◌&&◌, nat_eq, length}
+use Rattle.std.proofs.Common.{refl, sym, ap, subst, ◌∙◌, arith, append-nil}
 use Rattle.std.specs.Str.{is_utf8, chars as characters}
 use Rattle.std.proofs.lemmas.Bool.{eqb-true, ne_eqb}
 use Rattle.xml_chars.specs.Classes.{is_space}
@@ -10,7 +11,8 @@ use Rattle.soap_lex.specs.Readers.{quote_byte}
 use Rattle.soap_lex.specs.declared.value.Quote.{Quote}
 use Rattle.soap_lex.specs.declared.value.Quote.TheVariants.{Double, Single}
 use Rattle.soap_document.specs.Tree.{Parts, none, text, child, onto}
-use Rattle.soap_document.specs.Machine.{chars, less, value_inner, Frame, State, join, with_parts, step, counted, in_less, at_chars, settle, has_room, at_valuing, at_tagging, at_less}
+use Rattle.soap_document.specs.Machine.{chars, less, value_inner, Frame, State, join, with_parts, step, counted}
+use Rattle.soap_document.specs.Machine.{in_less, at_chars, settle, has_room, at_valuing, at_tagging, at_less}
 use Rattle.soap_document.specs.Tokens.{is_nil, is_qname}
 
 pub nil_len : {A : Type 0} (xs : List A) → nat_eq (length xs) 0 ≡ is_nil xs
@@ -45,7 +47,7 @@ value_begins s c quote e f =
 
 -- a tag begins at the < that text ends with
 abbrev pub begun_tag : State → State
-begun_tag s = record s { mode = less; mark = s.at - 1; token = []; words = begun_text s.words.text }
+begun_tag s = record s { mode = less; markup = s.at - 1; token = []; words = begun_text s.words.text }
 
 pub chars_less : (s : State) (c : ℕ) → halts s.words c ≡ true → is_less s.words ≡ true → in_less (begun_tag s) c
     ≡ at_chars s c
@@ -71,7 +73,7 @@ less_read s t = rw (no_data, append-nil t)
 
 -- behind the <, where a tag begins
 abbrev pub at_tag : State → State
-at_tag s = record s { mode = less; at = s.at + 1; mark = s.at; token = [] }
+at_tag s = record s { mode = less; at = s.at + 1; markup = s.at; token = [] }
 
 pub tag_begins : (s : State) (t : List ℕ) (c : ℕ) → c ≢ 33
     → step (step (record s { mode = chars; words = begun_text t }) 60) c
@@ -80,7 +82,7 @@ tag_begins s t c e =
     let read : State = record s { mode = chars; at = s.at + 1; words = text_opens t } in
     let mark : s.at + 1 - 1 ≡ s.at = omega arith in
     ap (λ x. step x c) (less_read s t) ∙ ap counted (sym (chars_less read c (opens_no_text t c e) refl))
-    ∙ ap (λ m. counted (in_less (record (begun_tag read) { mark = m }) c)) mark
+    ∙ ap (λ m. counted (in_less (record (begun_tag read) { markup = m }) c)) mark
 
 -- a tag has a name
 pub less_named : (s : State) (c : ℕ) → is_nil s.token ≡ false → (is_qname s.token && has_room s.below s.top.parts)

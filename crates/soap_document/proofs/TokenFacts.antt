@@ -1,5 +1,6 @@
 -- What passes the tests of tokens is what the grammar has.
-use Rattle.std.proofs.Common.{◌≡◌, ℕ, List, [], ◌∷◌, ◌++◌, true, ◌&&◌, nat_eq, Option, Some, None, refl, sym, ap₂, subst}
+use Rattle.std.proofs.Common.{◌≡◌, ℕ, List, [], ◌∷◌, ◌++◌, true, ◌&&◌, nat_eq, Option, Some, None, refl, sym, ap₂}
+use Rattle.std.proofs.Common.{subst}
 use Rattle.std.proofs.lemmas.Bool.{eqb-true, and_parts}
 use Rattle.xml_chars.specs.Classes.{is_space}
 use Rattle.soap_document.specs.Grammar.{IsWhite, IsQName, unprefixed, prefixed}

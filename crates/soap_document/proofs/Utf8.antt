@@ -14,7 +14,14 @@ use Rattle.soap_lex.specs.References.{IsReference, ampersand, less, greater, apo
 use Rattle.soap_lex.specs.Text.{IsMarkup, reference, cdata, comment, IsText, run, more}
 use Rattle.soap_lex.specs.Value.{IsInner, IsValue, double, single, run as inner_run, more as inner_more}
 use Rattle.soap_document.specs.Tree.{Attribute, Element, Parts}
-use Rattle.soap_document.specs.Grammar.{IsWhite, IsQName, unprefixed, prefixed, IsAttributes, end, more as attributes_more, IsElement, full, empty, IsContent, last, more as content_more, start_tag, end_tag, empty_tag, IsMisc, white, comment as misc_comment, IsQuoted, double as quoted_double, single as quoted_single, IsSetting, setting, IsEncoding, unsaid, utf8, IsStandalone, unsaid as alone_unsaid, yes as alone_yes, no as alone_no, IsDeclaration, without, declared, IsMark, unmarked, marked, IsDocument, document}
+use Rattle.soap_document.specs.Grammar.{IsWhite, IsQName, unprefixed, prefixed, IsAttributes, end}
+use Rattle.soap_document.specs.Grammar.{more as attributes_more, IsElement, full, empty, IsContent, last}
+use Rattle.soap_document.specs.Grammar.{more as content_more, start_tag, end_tag, empty_tag, IsMisc, white}
+use Rattle.soap_document.specs.Grammar.{comment as misc_comment, IsQuoted, double as quoted_double}
+use Rattle.soap_document.specs.Grammar.{single as quoted_single, IsSetting, setting, IsEncoding, unsaid, utf8}
+use Rattle.soap_document.specs.Grammar.{IsStandalone, unsaid as alone_unsaid, yes as alone_yes, no as alone_no}
+use Rattle.soap_document.specs.Grammar.{IsDeclaration, without, declared, IsMark, unmarked, marked, IsDocument}
+use Rattle.soap_document.specs.Grammar.{document}
 use Rattle.soap_lex.specs.Scalars.{IsUtf8-IsChars, IsUtf8-IsName}
 
 -- ---- ASCII

@@ -1,7 +1,10 @@
 -- How the reader of documents reads a value: as the machine of values does.
-use Rattle.std.proofs.Common.{◌≡◌, ℕ, ◌+◌, List, [], ◌∷◌, ◌++◌, Bool, true, false, Some, length, refl, sym, ap, subst, ◌∙◌, arith}
+use Rattle.std.proofs.Common.{◌≡◌, ℕ, ◌+◌, List, [], ◌∷◌, ◌++◌, Bool, true, false, Some, length, refl, sym, ap, subst}
+use Rattle.std.proofs.Common.{◌∙◌, arith}
 use Rattle.std.proofs.lemmas.Bool.{true≢false}
-use Rattle.soap_lex.specs.ValueMachine.{ValueMode, plain, referring, closed, refused, ValueState, stops as value_stops, halts, is_closed, is_refused, longer, step as value_step, to_stop, reads}
+use Rattle.soap_lex.specs.ValueMachine.{ValueMode, plain, referring, closed, refused, ValueState}
+use Rattle.soap_lex.specs.ValueMachine.{stops as value_stops, halts, is_closed, is_refused, longer}
+use Rattle.soap_lex.specs.ValueMachine.{step as value_step, to_stop, reads}
 use Rattle.soap_document.specs.Tree.{Attribute, Element}
 use Rattle.soap_document.specs.Machine.{tagging, value_inner, no_value, State, step, run, refuse, counted, after_value}
 use Rattle.soap_document.proofs.Accepts.{Accepts, refused_never}

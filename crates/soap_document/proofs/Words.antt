@@ -1,8 +1,12 @@
 -- How the reader of documents reads text within an element: as the machine of text does.
-use Rattle.std.proofs.Common.{◌≡◌, ℕ, ◌+◌, ◌-◌, ◌<◌, List, [], ◌∷◌, ◌++◌, Bool, true, false, cond, nat_eq, codes, Some, length, refl, sym, ap, subst, ◌∙◌, arith, length-append}
+use Rattle.std.proofs.Common.{◌≡◌, ℕ, ◌+◌, ◌-◌, ◌<◌, List, [], ◌∷◌, ◌++◌, Bool, true, false, cond, nat_eq, codes}
+use Rattle.std.proofs.Common.{Some, length, refl, sym, ap, subst, ◌∙◌, arith, length-append}
 use Rattle.std.proofs.lemmas.Bool.{true≢false}
 use Rattle.soap_lex.specs.Text.{IsText}
-use Rattle.soap_lex.specs.TextMachine.{TextMode, chars as in_run, referring, opening, commenting, quoting, refused, TextState, begun, stops as text_stops, halts_in, halts, is_less_in, is_less, step as text_step, is_refused, longer as longer_text, to_stop, run as text_run, ended_in, ended, with_rest, reads}
+use Rattle.soap_lex.specs.TextMachine.{TextMode, chars as in_run, referring, opening, commenting, quoting, refused}
+use Rattle.soap_lex.specs.TextMachine.{TextState, begun, stops as text_stops, halts_in, halts, is_less_in, is_less}
+use Rattle.soap_lex.specs.TextMachine.{step as text_step, is_refused, longer as longer_text, to_stop, run as text_run}
+use Rattle.soap_lex.specs.TextMachine.{ended_in, ended, with_rest, reads}
 use Rattle.soap_lex.specs.TextMachine.{text_in as in_mode}
 use Rattle.soap_document.specs.Tree.{Element}
 use Rattle.soap_document.specs.Machine.{no_value, chars, Frame, State, step, run, refuse, counted, after_text, in_less}
@@ -156,7 +160,7 @@ module _ (top frame : Frame) (frames : List Frame) where
     mode = chars;
     fresh = false;
     at = at;
-    mark = 0;
+    markup = 0;
     token = [];
     words = w;
     name = [];

@@ -1,11 +1,14 @@
 -- The reader of documents, a byte at a time. It says how a document is read, and nothing of what a document is: that
 -- stands in Grammar. Bytes that end a token have their meaning, and all others only lengthen it.
-use Rattle.std.specs.Prelude.{ℕ, ◌+◌, ◌-◌, List, [], ◌∷◌, ◌++◌, Bool, true, false, not, ◌&&◌, ◌||◌, ◌==◌, nat_lt, if◌then◌else◌, Option, Some, None, codes, length}
+use Rattle.std.specs.Prelude.{ℕ, ◌+◌, ◌-◌, List, [], ◌∷◌, ◌++◌, Bool, true, false, not, ◌&&◌, ◌||◌, ◌==◌, nat_lt}
+use Rattle.std.specs.Prelude.{if◌then◌else◌, Option, Some, None, codes, length}
 use Rattle.std.specs.Str.{bytes_eq}
 use Rattle.xml_chars.specs.Classes.{is_space}
 pub use Rattle.soap_lex.specs.Tests.{without}
-use Rattle.soap_lex.specs.TextMachine.{TextState, begun as begun_text, halts as text_halts, is_less, is_refused as text_refused, step as text_step}
-use Rattle.soap_lex.specs.ValueMachine.{ValueState, begun as begun_value, halts as value_halts, is_closed, is_refused as value_refused, step as value_step}
+use Rattle.soap_lex.specs.TextMachine.{TextState, begun as begun_text, halts as text_halts, is_less}
+use Rattle.soap_lex.specs.TextMachine.{is_refused as text_refused, step as text_step}
+use Rattle.soap_lex.specs.ValueMachine.{ValueState, begun as begun_value, halts as value_halts, is_closed}
+use Rattle.soap_lex.specs.ValueMachine.{is_refused as value_refused, step as value_step}
 use Rattle.soap_document.specs.Tree.{Attribute, Element, element, Parts, none, text, child, onto}
 use Rattle.soap_document.specs.Grammar.{max_depth}
 use Rattle.soap_document.specs.Tokens.{is_nil, is_white, is_qname, is_comment}
@@ -39,7 +42,7 @@ pub record State : Type 0 where
   pub fresh : Bool
   -- how many bytes were read; where the < of the markup stands
   pub at : ℕ
-  pub mark : ℕ
+  pub markup : ℕ
   -- the bytes of the token that is not ended, the text, and what was read of a start tag
   pub token : List ℕ
   pub words : TextState
@@ -76,7 +79,7 @@ text_mode (frame ∷ frames) = chars
 
 -- back in text, or outside of the root
 abbrev pub calm : State → State
-calm s = record s { mode = text_mode s.below; fresh = false; mark = 0; token = [] }
+calm s = record s { mode = text_mode s.below; fresh = false; markup = 0; token = [] }
 
 -- the text becomes a part
 abbrev pub settle : State → State
@@ -111,7 +114,7 @@ is_mark bytes = is_nil bytes || bytes_eq bytes (0xEF ∷ 0xBB ∷ 0xBF ∷ [])
 -- white space or a < ends what stands before all markup
 abbrev pub at_beginning : State → ℕ → State
 at_beginning s c =
-    if is_mark s.token then (if c == 60 then record s { mode = less; mark = s.at; token = [] } else calm s) else
+    if is_mark s.token then (if c == 60 then record s { mode = less; markup = s.at; token = [] } else calm s) else
     refuse s
 
 -- a > ends the XML declaration
@@ -121,7 +124,7 @@ at_declaring s = if is_declaration s.token then calm s else refuse s
 -- outside of the root there is only white space
 abbrev pub at_outside : State → ℕ → State
 at_outside s c =
-    if is_white s.token && (c == 60) then record s { mode = less; mark = s.at; token = [] } else refuse s
+    if is_white s.token && (c == 60) then record s { mode = less; markup = s.at; token = [] } else refuse s
 
 -- the byte behind <! that makes this token: a comment begins with two dashes
 abbrev pub at_marking : State → List ℕ → State
@@ -195,7 +198,7 @@ abbrev pub at_chars : State → ℕ → State
 at_chars s c =
     if text_halts s.words c then
     (if is_less s.words
-    then in_less (record s { mode = less; mark = s.at - 1; token = []; words = begun_text s.words.text }) c
+    then in_less (record s { mode = less; markup = s.at - 1; token = []; words = begun_text s.words.text }) c
     else refuse s)
     else after_text (record s { words = text_step s.words c })
 
@@ -247,28 +250,28 @@ abbrev pub closed : List Frame → State → State
 closed [] s = refuse s
 closed (frame ∷ frames) s =
     if is_end s.top.name s.token then calm (record s {
-      top = with_parts frame (child (element s.top.name s.top.attributes s.top.start s.mark s.top.parts) none);
+      top = with_parts frame (child (element s.top.name s.top.attributes s.top.start s.markup s.top.parts) none);
       below = frames;
     })
     else refuse s
 
 -- what a byte that ends the token does
-abbrev pub finish : Mode → State → ℕ → State
-finish beginning s c = at_beginning s c
-finish declaring s c = at_declaring s
-finish outside s c = at_outside s c
-finish marking s c = at_marking s (s.token ++ c ∷ [])
-finish commenting s c = at_commenting s (without (codes "--") s.token)
-finish chars s c = at_chars s c
-finish less s c = at_less s c
-finish tagging s c = at_tagging s c
-finish naming s c = at_naming s c
-finish named s c = at_named s c
-finish valuing s c = at_valuing s c
-finish value_inner s c = at_value s c
-finish slashed s c = if c == 62 then emptied s else refuse s
-finish ending s c = closed s.below s
-finish refused s c = s
+abbrev pub after_token : Mode → State → ℕ → State
+after_token beginning s c = at_beginning s c
+after_token declaring s c = at_declaring s
+after_token outside s c = at_outside s c
+after_token marking s c = at_marking s (s.token ++ c ∷ [])
+after_token commenting s c = at_commenting s (without (codes "--") s.token)
+after_token chars s c = at_chars s c
+after_token less s c = at_less s c
+after_token tagging s c = at_tagging s c
+after_token naming s c = at_naming s c
+after_token named s c = at_named s c
+after_token valuing s c = at_valuing s c
+after_token value_inner s c = at_value s c
+after_token slashed s c = if c == 62 then emptied s else refuse s
+after_token ending s c = closed s.below s
+after_token refused s c = s
 
 -- one byte more was read
 abbrev pub counted : State → State
@@ -276,7 +279,7 @@ counted s = record s { at = s.at + 1 }
 
 -- what a byte does
 abbrev pub step : State → ℕ → State
-step s c = counted (if stops s.mode c then finish s.mode s c else record s { token = s.token ++ c ∷ [] })
+step s c = counted (if stops s.mode c then after_token s.mode s c else record s { token = s.token ++ c ∷ [] })
 
 -- what bytes do
 abbrev pub run : State → List ℕ → State
@@ -293,7 +296,7 @@ start = record {
   mode = beginning;
   fresh = true;
   at = 0;
-  mark = 0;
+  markup = 0;
   token = [];
   words = begun_text [];
   name = [];

@@ -1,10 +1,15 @@
 -- The state of the machine that a reader stands for.
-use Rattle.std.specs.Prelude.{◌≡◌, ℕ, ◌+◌, ◌<◌, ◌≤◌, List, [], ◌∷◌, Bool, true, not, drop, length, map, reverse, vec_len}
-use Rattle.soap_document.specs.Machine.{Mode, beginning, declaring, outside, marking, commenting, chars, less, tagging, naming, named, valuing, value_inner, slashed, ending, refused, Frame, State, is_none, run}
+use Rattle.std.specs.Prelude.{◌≡◌, ℕ, ◌+◌, ◌<◌, ◌≤◌, List, [], ◌∷◌, Bool, true, not, drop, length, map, reverse}
+use Rattle.std.specs.Prelude.{vec_len}
+use Rattle.soap_document.specs.Machine.{Mode, beginning, declaring, outside, marking, commenting, chars, less}
+use Rattle.soap_document.specs.Machine.{tagging, naming, named, valuing, value_inner, slashed, ending, refused, Frame}
+use Rattle.soap_document.specs.Machine.{State, is_none, run}
 use Rattle.soap_lex.specs.Readers.{text_state, value_state}
 use Rattle.soap_document.specs.declared.scan.Mode.{Mode as CodeMode}
-use Rattle.soap_document.specs.declared.scan.Mode.TheVariants.{Beginning, Declaring, Outside, Marking, Commenting, Chars, Less, Tagging, Naming, Named, Valuing, ValueInner, Slashed, Ending, Refused}
-use Rattle.soap_document.specs.declared.nest.Nest.{Nest}
+use Rattle.soap_document.specs.declared.scan.Mode.TheVariants.{Beginning, Declaring, Outside, Marking, Commenting}
+use Rattle.soap_document.specs.declared.scan.Mode.TheVariants.{Chars, Less, Tagging, Naming, Named, Valuing}
+use Rattle.soap_document.specs.declared.scan.Mode.TheVariants.{ValueInner, Slashed, Ending, Refused}
+use Rattle.soap_document.specs.declared.open_elements.OpenElements.{OpenElements}
 use Rattle.soap_document.specs.declared.reader.Reader.{Reader}
 use Rattle.soap_document.specs.declared.scan.Scan.{Scan}
 
@@ -32,7 +37,7 @@ seen r top below = record {
   mode = mode_of r.mode;
   fresh = r.fresh;
   at = r.at;
-  mark = r.mark;
+  markup = r.markup;
   token = r.token.items;
   words = text_state r.words r.text.items;
   name = r.name;
@@ -49,20 +54,20 @@ is_begun top [] = not (is_none top.parts)
 is_begun top (frame ∷ frames) = true
 
 -- these elements are open, and this stands for them
-pub record Holds {H : Type 0} (stands : H → Frame → List Frame → Type 0) (nest : Nest H) (top : Frame) (below : List
-    Frame) : Type 0 where
-  pub name : nest.name ≡ top.name
-  pub names : reverse nest.names.items ≡ map (λ (frame : Frame). frame.name) below
-  pub begun : nest.begun ≡ is_begun top below
-  pub stands_for : stands nest.handler top below
+pub record Holds {H : Type 0} (stands : H → Frame → List Frame → Type 0) (stack : OpenElements H) (top : Frame)
+    (below : List Frame) : Type 0 where
+  pub name : stack.name ≡ top.name
+  pub names : reverse stack.names.items ≡ map (λ (frame : Frame). frame.name) below
+  pub begun : stack.begun ≡ is_begun top below
+  pub stands_for : stands stack.handler top below
 
 -- a handler was told of as many open elements as there are
-abbrev pub Counts : {H : Type 0} → (H → ℕ) → Nest H → Type 0
-Counts depth nest = depth nest.handler ≡ vec_len nest.names
+abbrev pub Counts : {H : Type 0} → (H → ℕ) → OpenElements H → Type 0
+Counts depth stack = depth stack.handler ≡ vec_len stack.names
 
 -- the same of a reader's handler
 abbrev pub IsTold : {H : Type 0} → (H → ℕ) → Reader H → Type 0
-IsTold depth r = Counts depth r.nest
+IsTold depth r = Counts depth r.stack
 
 -- how many bytes a reader was fed
 abbrev pub fed_len : {H : Type 0} → Reader H → ℕ
@@ -71,7 +76,7 @@ fed_len r = r.scan.at
 -- a reader stands for a state, and its handler for the elements that are open in it
 pub record Sees {H : Type 0} (stands : H → Frame → List Frame → Type 0) (r : Reader H) (s : State) : Type 0 where
   pub is : seen r.scan s.top s.below ≡ s
-  pub holds : Holds stands r.nest s.top s.below
+  pub holds : Holds stands r.stack s.top s.below
 
 -- some of the bytes were taken, and no more of them than there are
 pub record Taken (old new : State) (bytes : List ℕ) (n : ℕ) : Type 0 where

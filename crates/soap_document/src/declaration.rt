@@ -1,16 +1,16 @@
 //! The test of an XML declaration: XML 1.0, section 2.8, production 23.
 ghost use Rattle.std.specs.Prelude.{◌≡◌, option_map, Some, codes};
 ghost use Rattle.soap_document.specs.Declaration.{
-  is_declaration as declaration_test,
-  skip as skipped,
-  after as after_word,
-  quoted as quoted_at,
+  is_declaration,
+  skip,
+  after,
+  quoted,
   valued,
-  setting as setting_at,
-  ends as ends_test,
-  stands_alone as alone_test,
-  is_encoded as encoded_test,
-  is_versioned as versioned_test,
+  setting,
+  ends,
+  stands_alone,
+  is_encoded,
+  is_versioned,
 };
 
 use crate::tokens::cut;
@@ -19,7 +19,7 @@ use xml_chars::is_space;
 /// What stands between `<?` and `>` is an XML declaration.
 #[tactic(auto, unfolding(crate::specs::Declaration::is_declaration))]
 pub(crate) fn is_declaration(bytes: &[u8]) -> bool
-    ensures { result ≡ declaration_test bytes.now }
+    ensures { result ≡ is_declaration bytes.now }
 {
     match after(b"xml", bytes) {
         Some(rest) => is_versioned(rest),
@@ -28,7 +28,7 @@ pub(crate) fn is_declaration(bytes: &[u8]) -> bool
 }
 
 fn is_versioned(bytes: &[u8]) -> bool
-    ensures { result ≡ versioned_test (setting_at (codes "version") bytes.now) }
+    ensures { result ≡ is_versioned (setting (codes "version") bytes.now) }
 {
     match setting(b"version", bytes) {
         Some((value, rest)) => value == b"1.0".as_slice() && is_encoded(rest),
@@ -37,7 +37,7 @@ fn is_versioned(bytes: &[u8]) -> bool
 }
 
 fn is_encoded(bytes: &[u8]) -> bool
-    ensures { result ≡ encoded_test bytes.now }
+    ensures { result ≡ is_encoded bytes.now }
 {
     match setting(b"encoding", bytes) {
         Some((value, rest)) => value.eq_ignore_ascii_case(b"utf-8") && stands_alone(rest),
@@ -46,7 +46,7 @@ fn is_encoded(bytes: &[u8]) -> bool
 }
 
 fn stands_alone(bytes: &[u8]) -> bool
-    ensures { result ≡ alone_test bytes.now }
+    ensures { result ≡ stands_alone bytes.now }
 {
     match setting(b"standalone", bytes) {
         Some((value, rest)) => (value == b"yes".as_slice() || value == b"no".as_slice())
@@ -56,14 +56,14 @@ fn stands_alone(bytes: &[u8]) -> bool
 }
 
 fn ends(bytes: &[u8]) -> bool
-    ensures { result ≡ ends_test bytes.now }
+    ensures { result ≡ ends bytes.now }
 {
     skip(bytes) == b"?".as_slice()
 }
 
 // The value of a setting of this name, and what follows.
 fn setting<'a>(name: &[u8], bytes: &'a [u8]) -> Option<(&'a [u8], &'a [u8])>
-    ensures { option_map (λ p. (p.0.now, p.1.now)) result ≡ setting_at name.now bytes.now }
+    ensures { option_map (λ p. (p.0.now, p.1.now)) result ≡ setting name.now bytes.now }
 {
     let [first, rest @ ..] = bytes else {
         return None;
@@ -88,13 +88,13 @@ fn value(bytes: &[u8]) -> Option<(&[u8], &[u8])>
 
 // What follows the word.
 fn after<'a>(word: &[u8], bytes: &'a [u8]) -> Option<&'a [u8]>
-    ensures { option_map (λ x. x.now) result ≡ after_word word.now bytes.now }
+    ensures { option_map (λ x. x.now) result ≡ after word.now bytes.now }
 {
     bytes.strip_prefix(word)
 }
 
 fn quoted(bytes: &[u8]) -> Option<(&[u8], &[u8])>
-    ensures { option_map (λ p. (p.0.now, p.1.now)) result ≡ quoted_at bytes.now }
+    ensures { option_map (λ p. (p.0.now, p.1.now)) result ≡ quoted bytes.now }
 {
     match bytes {
         [quote, rest @ ..] if *quote == b'"' || *quote == b'\'' => cut(*quote, rest),
@@ -104,7 +104,7 @@ fn quoted(bytes: &[u8]) -> Option<(&[u8], &[u8])>
 
 // The bytes from the first that is no white space.
 fn skip(bytes: &[u8]) -> &[u8]
-    ensures { result.now ≡ skipped bytes.now }
+    ensures { result.now ≡ skip bytes.now }
 {
     let mut rest = bytes;
     while let [first, others @ ..] = rest {

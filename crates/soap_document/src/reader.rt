@@ -1,24 +1,24 @@
 //! The reader of documents, which is fed pieces.
 ghost use Rattle.std.specs.Prelude.{◌≡◌, ◌≢◌, ◌+◌, ◌<◌, ◌≤◌, ◌^◌, List, [], ℕ, length, get_or, OnOk, IfOk, MatchOption};
 ghost use Rattle.std.specs.Prelude.{None, true};
-ghost use Rattle.soap_lex.specs.TextMachine.{begun, halts as halt_test};
+ghost use Rattle.soap_lex.specs.TextMachine.{begun, halts};
 ghost use Rattle.soap_lex.specs.Readers.{text_state};
 ghost use Rattle.soap_document.specs.Machine.{
   State,
-  start as start_state,
+  start,
   run,
   root_of,
   only_child,
   nothing_open,
   counted,
-  finish as finished,
-  settle as settled,
-  opened as opened_by,
-  closed as closed_by,
+  after_token,
+  settle,
+  opened,
+  closed,
   at_chars,
   at_less,
   in_less,
-  is_refused as refused_test,
+  is_refused,
   at_tagging,
   at_naming,
   chars,
@@ -27,7 +27,7 @@ ghost use Rattle.soap_document.specs.Machine.{
 ghost use Rattle.soap_document.specs.Seen.{mode_of, fed_len, IsTold, Sees, TakenBy};
 
 use crate::handler::Handler;
-use crate::nest::Nest;
+use crate::open_elements::OpenElements;
 use crate::scan::{Mode, Scan, first_stop, is_name_end};
 use crate::tokens::{is_end, is_qname, is_white};
 use rm_base::{Bytes, Memory};
@@ -39,7 +39,7 @@ use xml_chars::is_space;
 #[derive(Drop)]
 pub struct Reader<H> {
     scan: Scan,
-    nest: Nest<H>,
+    stack: OpenElements<H>,
 }
 
 impl<H: Handler> Reader<H> {
@@ -48,11 +48,11 @@ impl<H: Handler> Reader<H> {
         requires outside { H.depth handler ≡ 0 }
         ensures told { IsTold H.depth result }
         ensures fed { fed_len result ≡ 0 }
-        ensures sees { H.stands handler nothing_open [] → Sees H.stands result start_state }
+        ensures sees { H.stands handler nothing_open [] → Sees H.stands result start }
     {
         Reader {
             scan: Scan::new(alloc),
-            nest: Nest::new(alloc, handler),
+            stack: OpenElements::new(alloc, handler),
         }
     }
 
@@ -74,7 +74,7 @@ impl<H: Handler> Reader<H> {
 
     /// What was fed begins no document, whatever follows.
     pub fn is_refused(&self) -> bool
-        ensures { (s : State) → Sees H.stands self.now s → result ≡ refused_test s.mode }
+        ensures { (s : State) → Sees H.stands self.now s → result ≡ is_refused s.mode }
     {
         self.scan.mode == Mode::Refused
     }
@@ -84,8 +84,11 @@ impl<H: Handler> Reader<H> {
         ensures { (s : State) → Sees H.stands self s → MatchOption result (root_of s ≡ None)
             (λ handler. (root_of s ≡ only_child s.top.parts) × H.stands handler s.top []) }
     {
-        if self.scan.mode == Mode::Outside && self.nest.is_outside() && is_white(&self.scan.token) {
-            Some(self.nest.into_handler())
+        if self.scan.mode == Mode::Outside
+            && self.stack.is_outside()
+            && is_white(&self.scan.token)
+        {
+            Some(self.stack.into_handler())
         } else {
             None
         }
@@ -125,7 +128,7 @@ impl<H: Handler> Reader<H> {
             return Ok(bytes.len());
         };
         self.scan.keep(&bytes[..end])?;
-        self.end_token(bytes[end])?;
+        self.at_token(bytes[end])?;
         Ok(end + 1)
     }
 
@@ -148,12 +151,12 @@ impl<H: Handler> Reader<H> {
         };
         if taken == 0 {
             let at = self.scan.at;
-            self.end_chars(bytes[0])?;
+            self.at_chars(bytes[0])?;
             self.scan.at = at + 1;
             return Ok(1);
         }
         self.scan.at += taken;
-        self.scan.end_text();
+        self.scan.at_text();
         Ok(taken)
     }
 
@@ -172,7 +175,7 @@ impl<H: Handler> Reader<H> {
         ensures sees { (s : State) → Sees H.stands self.old s → IfOk result (TakenBy H.stands s self.new bytes.now) }
     {
         self.scan.mode = Mode::Less;
-        self.scan.mark = self.scan.at;
+        self.scan.markup = self.scan.at;
         self.scan.token.clear();
         let at = self.scan.at + 1;
         self.scan.at = at;
@@ -182,7 +185,7 @@ impl<H: Handler> Reader<H> {
     }
 
     // A byte that ends the token.
-    fn end_token(&mut self, byte: u8) -> Result<(), Memory>
+    fn at_token(&mut self, byte: u8) -> Result<(), Memory>
         requires text { mode_of self.old.scan.mode ≢ chars }
         requires value { mode_of self.old.scan.mode ≢ value_inner }
         requires fits { self.old.scan.at + 1 < 2 ^ 64 }
@@ -190,7 +193,7 @@ impl<H: Handler> Reader<H> {
         ensures told { OnOk result (IsTold H.depth self.new) }
         ensures place { OnOk result (fed_len self.new ≡ fed_len self.old + 1) }
         ensures sees { (s : State) → Sees H.stands self.old s
-            → OnOk result (Sees H.stands self.new (counted (finished s.mode s byte))) }
+            → OnOk result (Sees H.stands self.new (counted (after_token s.mode s byte))) }
     {
         let at = self.scan.at;
         self.end(byte)?;
@@ -206,34 +209,34 @@ impl<H: Handler> Reader<H> {
         requires told { IsTold H.depth self.old }
         ensures told { OnOk result (IsTold H.depth self.new) }
         ensures sees { (s : State) → Sees H.stands self.old s
-            → OnOk result (Sees H.stands self.new (finished s.mode s byte)) }
+            → OnOk result (Sees H.stands self.new (after_token s.mode s byte)) }
     {
-        let outside = self.nest.is_outside();
+        let outside = self.stack.is_outside();
         match self.scan.mode {
-            Mode::Beginning => self.scan.end_beginning(byte, outside),
-            Mode::Declaring => self.scan.end_declaring(outside),
-            Mode::Outside => self.scan.end_outside(byte),
-            Mode::Marking => self.scan.end_marking(byte)?,
-            Mode::Commenting => self.scan.end_commenting(outside)?,
-            Mode::Less => self.end_less(byte)?,
-            Mode::Tagging => self.end_tagging(byte)?,
-            Mode::Naming => self.end_naming(byte)?,
-            Mode::Named => self.scan.end_named(byte),
-            Mode::Valuing => self.scan.end_valuing(byte),
+            Mode::Beginning => self.scan.at_beginning(byte, outside),
+            Mode::Declaring => self.scan.at_declaring(outside),
+            Mode::Outside => self.scan.at_outside(byte),
+            Mode::Marking => self.scan.at_marking(byte)?,
+            Mode::Commenting => self.scan.at_commenting(outside)?,
+            Mode::Less => self.at_less(byte)?,
+            Mode::Tagging => self.at_tagging(byte)?,
+            Mode::Naming => self.at_naming(byte)?,
+            Mode::Named => self.scan.at_named(byte),
+            Mode::Valuing => self.scan.at_valuing(byte),
             Mode::Chars | Mode::ValueInner => unreachable!(),
-            Mode::Slashed => self.end_slashed(byte)?,
-            Mode::Ending => self.end_ending()?,
+            Mode::Slashed => self.at_slashed(byte)?,
+            Mode::Ending => self.at_ending()?,
             Mode::Refused => {}
         }
         Ok(())
     }
 
     // Nothing more of the text is read before this byte.
-    fn end_chars(&mut self, byte: u8) -> Result<(), Memory>
+    fn at_chars(&mut self, byte: u8) -> Result<(), Memory>
         requires fits { self.old.scan.at + 1 < 2 ^ 64 }
         requires told { IsTold H.depth self.old }
         ensures told { OnOk result (IsTold H.depth self.new) }
-        ensures sees { (s : State) → Sees H.stands self.old s → halt_test s.words byte ≡ true
+        ensures sees { (s : State) → Sees H.stands self.old s → halts s.words byte ≡ true
             → OnOk result (Sees H.stands self.new (at_chars s byte)) }
     {
         if !self.scan.words.is_less() {
@@ -242,7 +245,7 @@ impl<H: Handler> Reader<H> {
         }
         self.scan.words.restart();
         self.scan.mode = Mode::Less;
-        self.scan.mark = self.scan.at.saturating_sub(1);
+        self.scan.markup = self.scan.at.saturating_sub(1);
         self.scan.token.clear();
         self.go_on(byte)
     }
@@ -255,13 +258,13 @@ impl<H: Handler> Reader<H> {
         ensures sees { (s : State) → Sees H.stands self.old s → OnOk result (Sees H.stands self.new (in_less s byte)) }
     {
         if is_name_end(byte) {
-            return self.end_less(byte);
+            return self.at_less(byte);
         }
         self.scan.token.push(byte)?;
         Ok(())
     }
 
-    fn end_less(&mut self, byte: u8) -> Result<(), Memory>
+    fn at_less(&mut self, byte: u8) -> Result<(), Memory>
         requires fits { self.old.scan.at + 1 < 2 ^ 64 }
         requires told { IsTold H.depth self.old }
         ensures told { OnOk result (IsTold H.depth self.new) }
@@ -270,13 +273,13 @@ impl<H: Handler> Reader<H> {
         if self.scan.token.is_empty() {
             return self.begin_markup(byte);
         }
-        if !is_qname(&self.scan.token) || !self.nest.has_room() {
+        if !is_qname(&self.scan.token) || !self.stack.has_room() {
             self.scan.refuse();
             return Ok(());
         }
         self.settle()?;
         self.scan.name = Bytes::from_slice(self.scan.alloc, &self.scan.token)?;
-        self.end_tagging(byte)
+        self.at_tagging(byte)
     }
 
     // The byte behind a <, which begins no name.
@@ -286,7 +289,7 @@ impl<H: Handler> Reader<H> {
         ensures sees { (s : State) → Sees H.stands self.old s → s.token ≡ []
             → OnOk result (Sees H.stands self.new (at_less s byte)) }
     {
-        if byte == b'/' && !self.nest.is_outside() {
+        if byte == b'/' && !self.stack.is_outside() {
             self.settle()?;
             self.scan.mode = Mode::Ending;
         } else if byte == b'!' {
@@ -304,18 +307,18 @@ impl<H: Handler> Reader<H> {
         requires told { IsTold H.depth self.old }
         ensures told { OnOk result (IsTold H.depth self.new) }
         ensures at { OnOk result (self.new.scan.at ≡ self.old.scan.at) }
-        ensures sees { (s : State) → Sees H.stands self.old s → OnOk result (Sees H.stands self.new (settled s)) }
+        ensures sees { (s : State) → Sees H.stands self.old s → OnOk result (Sees H.stands self.new (settle s)) }
     {
         self.scan.words.restart();
         if self.scan.text.is_empty() {
             return Ok(());
         }
-        self.nest.text(&self.scan.text)?;
+        self.stack.text(&self.scan.text)?;
         self.scan.text.clear();
         Ok(())
     }
 
-    fn end_tagging(&mut self, byte: u8) -> Result<(), Memory>
+    fn at_tagging(&mut self, byte: u8) -> Result<(), Memory>
         requires fits { self.old.scan.at + 1 < 2 ^ 64 }
         requires told { IsTold H.depth self.old }
         ensures told { OnOk result (IsTold H.depth self.new) }
@@ -341,17 +344,17 @@ impl<H: Handler> Reader<H> {
         requires fits { self.old.scan.at + 1 < 2 ^ 64 }
         requires told { IsTold H.depth self.old }
         ensures told { OnOk result (IsTold H.depth self.new) }
-        ensures sees { (s : State) → Sees H.stands self.old s → OnOk result (Sees H.stands self.new (opened_by s)) }
+        ensures sees { (s : State) → Sees H.stands self.old s → OnOk result (Sees H.stands self.new (opened s)) }
     {
         let name = mem::replace(&mut self.scan.name, Bytes::new());
-        self.nest
+        self.stack
             .open(name, &self.scan.attributes, self.scan.at + 1)?;
         self.scan.attributes.clear();
         self.scan.calm(false);
         Ok(())
     }
 
-    fn end_naming(&mut self, byte: u8) -> Result<(), Memory>
+    fn at_naming(&mut self, byte: u8) -> Result<(), Memory>
         requires fits { self.old.scan.at + 1 < 2 ^ 64 }
         requires told { IsTold H.depth self.old }
         ensures told { OnOk result (IsTold H.depth self.new) }
@@ -359,44 +362,44 @@ impl<H: Handler> Reader<H> {
             (at_naming s byte)) }
     {
         if self.scan.token.is_empty() {
-            return self.end_tagging(byte);
+            return self.at_tagging(byte);
         }
-        self.scan.end_attribute(byte)
+        self.scan.at_attribute(byte)
     }
 
     // The empty-element tag ends, where it does.
-    fn end_slashed(&mut self, byte: u8) -> Result<(), Memory>
+    fn at_slashed(&mut self, byte: u8) -> Result<(), Memory>
         requires fits { self.old.scan.at + 1 < 2 ^ 64 }
         requires told { IsTold H.depth self.old }
         ensures told { OnOk result (IsTold H.depth self.new) }
         ensures sees { (s : State) → Sees H.stands self.old s
-            → OnOk result (Sees H.stands self.new (finished (mode_of Mode.Slashed) s byte)) }
+            → OnOk result (Sees H.stands self.new (after_token (mode_of Mode.Slashed) s byte)) }
     {
         if byte != b'>' {
             self.scan.refuse();
             return Ok(());
         }
         let name = mem::replace(&mut self.scan.name, Bytes::new());
-        self.nest
+        self.stack
             .empty(name.as_slice(), &self.scan.attributes, self.scan.at + 1)?;
         self.scan.attributes.clear();
-        self.scan.calm(self.nest.is_outside());
+        self.scan.calm(self.stack.is_outside());
         Ok(())
     }
 
     // The end tag ends, which names the innermost element.
-    fn end_ending(&mut self) -> Result<(), Memory>
+    fn at_ending(&mut self) -> Result<(), Memory>
         requires told { IsTold H.depth self.old }
         ensures told { OnOk result (IsTold H.depth self.new) }
         ensures sees { (s : State) → Sees H.stands self.old s
-            → OnOk result (Sees H.stands self.new (closed_by s.below s)) }
+            → OnOk result (Sees H.stands self.new (closed s.below s)) }
     {
-        if self.nest.is_outside() || !is_end(self.nest.name(), &self.scan.token) {
+        if self.stack.is_outside() || !is_end(self.stack.name(), &self.scan.token) {
             self.scan.refuse();
             return Ok(());
         }
-        self.nest.close(self.scan.mark)?;
-        self.scan.calm(self.nest.is_outside());
+        self.stack.close(self.scan.markup)?;
+        self.scan.calm(self.stack.is_outside());
         Ok(())
     }
 }

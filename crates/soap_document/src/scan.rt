@@ -1,15 +1,16 @@
 //! What of a document is read between its elements' events: the token that is not ended.
-ghost use Rattle.std.specs.Prelude.{◌≡◌, ◌≢◌, ◌++◌, ◌+◌, ◌<◌, ◌≤◌, ◌^◌, ◌∷◌, [], List, length, OnOk, IfOk, true, ◌||◌, ◌==◌};
-ghost use Rattle.soap_document.specs.Tokens.{is_nil as nil_test};
+ghost use Rattle.std.specs.Prelude.{◌≡◌, ◌≢◌, ◌++◌, ◌+◌, ◌<◌, ◌≤◌, ◌^◌, ◌∷◌, [], List, length, OnOk, IfOk, true};
+ghost use Rattle.std.specs.Prelude.{◌||◌, ◌==◌};
+ghost use Rattle.soap_document.specs.Tokens.{is_nil};
 ghost use Rattle.soap_document.specs.Machine.{
   Frame,
   nothing_open,
-  start as start_state,
-  stops as stop_test,
-  finish as finished,
-  refuse as refused,
-  calm as calmed,
-  is_name_end as name_end_test,
+  start,
+  stops,
+  after_token,
+  refuse,
+  calm,
+  is_name_end,
   at_beginning,
   at_declaring,
   at_outside,
@@ -22,7 +23,7 @@ ghost use Rattle.soap_document.specs.Machine.{
   value_inner,
 };
 ghost use Rattle.memchr.specs.Find.{IsFirstByte};
-ghost use Rattle.xml_chars.specs.Classes.{is_space as space_test};
+ghost use Rattle.xml_chars.specs.Classes.{is_space};
 ghost use Rattle.soap_document.specs.Seen.{seen, mode_of, Taken};
 
 use crate::attribute::WrittenAttribute;
@@ -64,7 +65,7 @@ pub(crate) struct Scan {
     pub(crate) fresh: bool,
     // How many bytes were read; where the < of the markup stands.
     pub(crate) at: usize,
-    pub(crate) mark: usize,
+    pub(crate) markup: usize,
     pub(crate) token: Vec<u8>,
     pub(crate) words: TextReader,
     pub(crate) text: Vec<u8>,
@@ -79,13 +80,13 @@ pub(crate) struct Scan {
 impl Scan {
     /// Nothing was read. It takes no memory.
     pub(crate) fn new(alloc: Global) -> Self
-        ensures { seen result nothing_open [] ≡ start_state }
+        ensures { seen result nothing_open [] ≡ start }
     {
         Scan {
             mode: Mode::Beginning,
             fresh: true,
             at: 0,
-            mark: 0,
+            markup: 0,
             token: Vec::new(alloc),
             words: TextReader::new(alloc),
             text: Vec::new(alloc),
@@ -116,7 +117,7 @@ impl Scan {
     }
 
     pub(crate) fn refuse(&mut self)
-        ensures { (top : Frame) (below : List Frame) → seen self.new top below ≡ refused (seen self.old top below) }
+        ensures { (top : Frame) (below : List Frame) → seen self.new top below ≡ refuse (seen self.old top below) }
     {
         self.mode = Mode::Refused;
         self.token.clear();
@@ -124,17 +125,17 @@ impl Scan {
 
     // Back in text, or outside of the root.
     pub(crate) fn calm(&mut self, outside: bool)
-        ensures { (top : Frame) (below : List Frame) → outside ≡ nil_test below
-            → seen self.new top below ≡ calmed (seen self.old top below) }
+        ensures { (top : Frame) (below : List Frame) → outside ≡ is_nil below
+            → seen self.new top below ≡ calm (seen self.old top below) }
     {
         self.mode = if outside { Mode::Outside } else { Mode::Chars };
         self.fresh = false;
-        self.mark = 0;
+        self.markup = 0;
         self.token.clear();
     }
 
-    pub(crate) fn end_beginning(&mut self, byte: u8, outside: bool)
-        ensures { (top : Frame) (below : List Frame) → outside ≡ nil_test below
+    pub(crate) fn at_beginning(&mut self, byte: u8, outside: bool)
+        ensures { (top : Frame) (below : List Frame) → outside ≡ is_nil below
             → seen self.new top below ≡ at_beginning (seen self.old top below) byte }
     {
         if !is_mark(&self.token) {
@@ -146,12 +147,12 @@ impl Scan {
             return;
         }
         self.mode = Mode::Less;
-        self.mark = self.at;
+        self.markup = self.at;
         self.token.clear();
     }
 
-    pub(crate) fn end_declaring(&mut self, outside: bool)
-        ensures { (top : Frame) (below : List Frame) → outside ≡ nil_test below
+    pub(crate) fn at_declaring(&mut self, outside: bool)
+        ensures { (top : Frame) (below : List Frame) → outside ≡ is_nil below
             → seen self.new top below ≡ at_declaring (seen self.old top below) }
     {
         if is_declaration(&self.token) {
@@ -162,20 +163,20 @@ impl Scan {
     }
 
     // White space outside of the root ends here.
-    pub(crate) fn end_outside(&mut self, byte: u8)
+    pub(crate) fn at_outside(&mut self, byte: u8)
         ensures { (top : Frame) (below : List Frame)
             → seen self.new top below ≡ at_outside (seen self.old top below) byte }
     {
         if is_white(&self.token) && byte == b'<' {
             self.mode = Mode::Less;
-            self.mark = self.at;
+            self.markup = self.at;
             self.token.clear();
         } else {
             self.refuse();
         }
     }
 
-    pub(crate) fn end_marking(&mut self, byte: u8) -> Result<(), Memory>
+    pub(crate) fn at_marking(&mut self, byte: u8) -> Result<(), Memory>
         ensures { (top : Frame) (below : List Frame)
             → OnOk result (seen self.new top below ≡ at_marking (seen self.old top below)
             ((seen self.old top below).token ++ byte ∷ [])) }
@@ -194,9 +195,10 @@ impl Scan {
         Ok(())
     }
 
-    pub(crate) fn end_commenting(&mut self, outside: bool) -> Result<(), Memory>
-        ensures { (top : Frame) (below : List Frame) → outside ≡ nil_test below
-            → OnOk result (seen self.new top below ≡ finished (mode_of Mode.Commenting) (seen self.old top below) 62) }
+    pub(crate) fn at_commenting(&mut self, outside: bool) -> Result<(), Memory>
+        ensures { (top : Frame) (below : List Frame) → outside ≡ is_nil below
+            → OnOk result (seen self.new top below
+            ≡ after_token (mode_of Mode.Commenting) (seen self.old top below) 62) }
     {
         match before(b"--", &self.token) {
             None => self.token.push(b'>')?,
@@ -212,7 +214,7 @@ impl Scan {
     }
 
     // The name of an attribute ends.
-    pub(crate) fn end_attribute(&mut self, byte: u8) -> Result<(), Memory>
+    pub(crate) fn at_attribute(&mut self, byte: u8) -> Result<(), Memory>
         requires { self.old.token.items ≢ [] }
         ensures { (top : Frame) (below : List Frame)
             → OnOk result (seen self.new top below ≡ at_naming (seen self.old top below) byte) }
@@ -223,11 +225,11 @@ impl Scan {
         }
         self.attribute = Bytes::from_slice(self.alloc, &self.token)?;
         self.token.clear();
-        self.end_named(byte);
+        self.at_named(byte);
         Ok(())
     }
 
-    pub(crate) fn end_named(&mut self, byte: u8)
+    pub(crate) fn at_named(&mut self, byte: u8)
         ensures { (top : Frame) (below : List Frame)
             → seen self.new top below ≡ at_named (seen self.old top below) byte }
     {
@@ -240,7 +242,7 @@ impl Scan {
         }
     }
 
-    pub(crate) fn end_valuing(&mut self, byte: u8)
+    pub(crate) fn at_valuing(&mut self, byte: u8)
         ensures { (top : Frame) (below : List Frame)
             → seen self.new top below ≡ at_valuing (seen self.old top below) byte }
     {
@@ -256,8 +258,8 @@ impl Scan {
         self.value.clear();
     }
 
-    // Where text was refused, so are the bytes.
-    pub(crate) fn end_text(&mut self)
+    // Where text was refuse, so are the bytes.
+    pub(crate) fn at_text(&mut self)
         ensures { (top : Frame) (below : List Frame)
             → seen self.new top below ≡ after_text (seen self.old top below) }
     {
@@ -284,12 +286,12 @@ impl Scan {
             return Ok(1);
         }
         self.at += taken;
-        self.end_value()?;
+        self.at_value()?;
         Ok(taken)
     }
 
-    // The attribute ends where its value is closed; where that was refused, so are the bytes.
-    fn end_value(&mut self) -> Result<(), Memory>
+    // The attribute ends where its value is closed; where that was refuse, so are the bytes.
+    fn at_value(&mut self) -> Result<(), Memory>
         ensures { (top : Frame) (below : List Frame)
             → OnOk result (seen self.new top below ≡ after_value (seen self.old top below)) }
     {
@@ -313,7 +315,7 @@ impl Scan {
 
 /// Where the first byte stands that ends the token.
 pub(crate) fn first_stop(mode: Mode, bytes: &[u8]) -> Option<usize>
-    ensures { IsFirstByte (stop_test (mode_of mode)) bytes.now result }
+    ensures { IsFirstByte (stops (mode_of mode)) bytes.now result }
 {
     match mode {
         Mode::Outside => memchr(b'<', bytes),
@@ -339,7 +341,7 @@ fn first(bytes: &[u8]) -> Option<usize>
 }
 
 fn first_name_end(bytes: &[u8]) -> Option<usize>
-    ensures { IsFirstByte name_end_test bytes.now result }
+    ensures { IsFirstByte is_name_end bytes.now result }
 {
     for i in 0..bytes.len() {
         if is_name_end(bytes[i]) {
@@ -350,7 +352,7 @@ fn first_name_end(bytes: &[u8]) -> Option<usize>
 }
 
 pub(crate) fn is_name_end(byte: u8) -> bool
-    ensures { result ≡ name_end_test byte }
+    ensures { result ≡ is_name_end byte }
 {
     byte < 64
         && (is_space(byte)
@@ -362,7 +364,7 @@ pub(crate) fn is_name_end(byte: u8) -> bool
 }
 
 fn first_less_or_space(bytes: &[u8]) -> Option<usize>
-    ensures { IsFirstByte (λ byte. space_test byte || byte == 60) bytes.now result }
+    ensures { IsFirstByte (λ byte. is_space byte || byte == 60) bytes.now result }
 {
     for i in 0..bytes.len() {
         if is_less_or_space(bytes[i]) {
@@ -373,7 +375,7 @@ fn first_less_or_space(bytes: &[u8]) -> Option<usize>
 }
 
 fn is_less_or_space(byte: u8) -> bool
-    ensures { result ≡ (space_test byte || byte == 60) }
+    ensures { result ≡ (is_space byte || byte == 60) }
 {
     is_space(byte) || byte == b'<'
 }

@@ -1,5 +1,6 @@
 -- What is read is the envelope.
-use Rattle.std.proofs.Common.{◌≡◌, ℕ, List, [], ◌++◌, Option, Some, None, option_map, Bool, true, false, not, nat_eq, Result, Ok, codes, refl, sym, ap, subst, ◌∙◌}
+use Rattle.std.proofs.Common.{◌≡◌, ℕ, List, [], ◌++◌, Option, Some, None, option_map, Bool, true, false, not, nat_eq}
+use Rattle.std.proofs.Common.{Result, Ok, codes, refl, sym, ap, subst, ◌∙◌}
 use Rattle.std.proofs.lemmas.Slice.Eq.{bytes_eq-Decides}
 use Rattle.std.specs.Cmp.Lexicographic.{pointwise}
 use Rattle.std.specs.List.{slice_range}
@@ -11,7 +12,8 @@ use Rattle.soap_profile.specs.declared.tree.Attr.{Attr}
 use Rattle.soap_profile.specs.View.{element_view}
 use Rattle.soap_profile.specs.declared.place.Place.{Place}
 use Rattle.soap_profile.specs.declared.tree.Element.{Element as CodeElement}
-use Rattle.soap_envelope.specs.Envelope.{name_in, bytes_within, IsOutline, IsHeader, without, blocks, Envelope, IsEnvelope}
+use Rattle.soap_envelope.specs.Envelope.{name_in, bytes_within, IsOutline, IsHeader, without, blocks, Envelope}
+use Rattle.soap_envelope.specs.Envelope.{IsEnvelope}
 use Rattle.soap_envelope.specs.Scope.{IsScope}
 use Rattle.soap_profile.specs.Answer.{err_of}
 use Rattle.soap_envelope.proofs.Placed.{mapped}

@@ -1,5 +1,6 @@
 -- The outline of an Envelope: each outcome of the walk over its parts.
-use Rattle.std.proofs.Common.{◌≡◌, ℕ, ◌⊎◌, inl, inr, List, Option, Some, None, option_map, IfSome, codes, length, refl, sym, ap, subst, ◌∙◌, arith}
+use Rattle.std.proofs.Common.{◌≡◌, ℕ, ◌⊎◌, inl, inr, List, Option, Some, None, option_map, IfSome, codes, length}
+use Rattle.std.proofs.Common.{refl, sym, ap, subst, ◌∙◌, arith}
 use Rattle.soap_document.specs.Grammar.{IsWhite}
 use Rattle.soap_profile.specs.Tree.{Element, Parts, none, text, child, name_of}
 use Rattle.soap_profile.specs.declared.name.Expanded.{Expanded as Name}

@@ -1,13 +1,16 @@
 -- Where the Body stands: it is the last element within the root, and its bytes are the payload.
-use Rattle.std.proofs.Common.{◌≡◌, ℕ, ◌≤◌, inl, inr, List, [], ◌∷◌, ◌++◌, Option, Some, None, option_map, codes, length, append-nil, refl, sym, ap, subst, ◌∙◌}
+use Rattle.std.proofs.Common.{◌≡◌, ℕ, ◌≤◌, inl, inr, List, [], ◌∷◌, ◌++◌, Option, Some, None, option_map, codes}
+use Rattle.std.proofs.Common.{length, append-nil, refl, sym, ap, subst, ◌∙◌}
 use Rattle.soap_document.specs.Grammar.{IsContent, IsDocument}
 use Rattle.soap_document.specs.Tree as written
 use Rattle.soap_document.specs.Within.{IsWithin, IsAmong, root, deeper, here, behind_child, behind_text, StandsBetween}
 use Rattle.soap_profile.specs.Document.{IsPlaced, place_of}
 use Rattle.soap_profile.specs.Namespaces.{resolve, resolve_parts, joined, tag_of, Resolved}
-use Rattle.soap_profile.specs.Tree.{Binding, Element, element, Parts, none, text, child, decls_of, parts_of, children_of}
+use Rattle.soap_profile.specs.Tree.{Binding, Element, element, Parts, none, text, child, decls_of, parts_of}
+use Rattle.soap_profile.specs.Tree.{children_of}
 use Rattle.soap_profile.specs.declared.place.Place.{Place}
-use Rattle.soap_envelope.specs.Envelope.{name_in, bytes_within, IsSpaced, bare, spaced, IsBodyAlone, IsOutline, Envelope, IsEnvelope, StandsFor}
+use Rattle.soap_envelope.specs.Envelope.{name_in, bytes_within, IsSpaced, bare, spaced, IsBodyAlone, IsOutline}
+use Rattle.soap_envelope.specs.Envelope.{Envelope, IsEnvelope, StandsFor}
 use Rattle.soap_envelope.proofs.Outlines.{outline_cases}
 
 -- ---- the last element stands within the root

@@ -1,5 +1,6 @@
 -- Bytes are at most one envelope.
-use Rattle.std.proofs.Common.{◌≡◌, ℕ, inl, inr, List, [], ◌∷◌, ◌++◌, Bool, true, false, Option, Some, None, Ordering, Less, Equal, Greater, nat_cmp, is_eq, codes, refl, sym, ap, ap₂, subst, ◌∙◌}
+use Rattle.std.proofs.Common.{◌≡◌, ℕ, inl, inr, List, [], ◌∷◌, ◌++◌, Bool, true, false, Option, Some, None, Ordering}
+use Rattle.std.proofs.Common.{Less, Equal, Greater, nat_cmp, is_eq, codes, refl, sym, ap, ap₂, subst, ◌∙◌}
 use Rattle.std.proofs.lemmas.Cmp.{nat_list_cmp_total}
 use Rattle.std.proofs.lemmas.Map.Text.{is_eq-slice_cmp}
 use Rattle.std.proofs.lemmas.Slice.Eq.{bytes_eq-Decides}
@@ -11,7 +12,8 @@ use Rattle.soap_document.specs.Tree as written
 use Rattle.soap_profile.specs.Document.{Document}
 use Rattle.soap_profile.specs.Namespaces.{bound, resolve}
 use Rattle.soap_profile.specs.Tree.{Binding, Element, element, Parts, name_of, decls_of, parts_of}
-use Rattle.soap_envelope.specs.Envelope.{name_in, bytes_within, IsBodyAlone, IsOutline, IsHeader, without, blocks, Envelope, IsEnvelope}
+use Rattle.soap_envelope.specs.Envelope.{name_in, bytes_within, IsBodyAlone, IsOutline, IsHeader, without, blocks}
+use Rattle.soap_envelope.specs.Envelope.{Envelope, IsEnvelope}
 use Rattle.soap_envelope.specs.Refusals.{IsOtherVersion, WrongVersion, NotEnvelope}
 use Rattle.soap_envelope.specs.Scope.{Rises, IsScope}
 use Rattle.soap_envelope.proofs.Outlines.{outline_cases, one_child, not_both}

@@ -16,20 +16,20 @@ use xml_chars::is_space;
 
 /// An element that is taken apart: its name, its declarations, and its parts among what it has.
 #[derive(Debug, Drop)]
-pub(crate) struct Opened {
+pub(crate) struct TakenApart {
     pub(crate) name: Name,
     pub(crate) decls: Vec<Binding>,
     pub(crate) items: Vec<Item>,
 }
 
-pub(crate) fn taken_apart(alloc: Global, element: Element) -> Result<Opened, Memory>
+pub(crate) fn taken_apart(alloc: Global, element: Element) -> Result<TakenApart, Memory>
     ensures name { IfOk result (λ opened. opened.name ≡ name_of (element_view element)) }
     ensures decls { IfOk result (λ opened. opened.decls.items ≡ decls_of (element_view element)) }
     ensures parts { IfOk result (λ opened. parts_view opened.items.items ≡ parts_of (element_view element)) }
 {
     let Element { name, items } = element;
     let decls = declarations(alloc, items.as_slice())?;
-    Ok(Opened { name, decls, items })
+    Ok(TakenApart { name, decls, items })
 }
 
 fn declarations(alloc: Global, items: &[Item]) -> Result<Vec<Binding>, Memory>

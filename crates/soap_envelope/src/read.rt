@@ -11,7 +11,7 @@ ghost use Rattle.soap_envelope.specs.Steps.{Answers};
 ghost use Rattle.soap_envelope.specs.View.{envelope_view};
 
 use crate::envelope::Envelope;
-use crate::outline::{Opened, children, outline, parts, taken_apart};
+use crate::outline::{TakenApart, children, outline, parts, taken_apart};
 use crate::scope::in_force;
 use rm_base::{Binding, Bindings, Blob, Items, Memory, Payload};
 use soap_document::laws::content_stands_between;
@@ -54,7 +54,7 @@ fn envelope_in(
     ensures { Answers soap.now bytes.now result }
 {
     content_stands_between();
-    let Opened { name, decls, items } = taken_apart(alloc, root)?;
+    let TakenApart { name, decls, items } = taken_apart(alloc, root)?;
     if name.local() != b"Envelope".as_slice() {
         return Err(EnvelopeError::NotEnvelope);
     }
@@ -86,7 +86,7 @@ fn blocks(
     let Some(header) = header else {
         return Ok((Elements::new(alloc), Items::new(alloc)));
     };
-    let Opened {
+    let TakenApart {
         name: _,
         decls,
         items,
@@ -109,7 +109,7 @@ fn content(
     ensures scope { IfOk result (λ found. IsScope (decls_of (element_view body) ++ outer.now) found.0.scope) }
     ensures content { IfOk result (λ found. found.1 ≡ parts_of (element_view body)) }
 {
-    let Opened {
+    let TakenApart {
         name: _,
         decls,
         items,

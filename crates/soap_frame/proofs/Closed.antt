@@ -1,5 +1,6 @@
 -- Content that is closed under its own declarations is read alike wherever no default namespace is in force.
-use Rattle.std.proofs.Common.{◌≡◌, ℕ, suc, ◌+◌, ◌≤◌, max, List, [], ◌++◌, Option, Some, None, option_map, refl, ap, ap₂, ◌∙◌, arith}
+use Rattle.std.proofs.Common.{◌≡◌, ℕ, suc, ◌+◌, ◌≤◌, max, List, [], ◌++◌, Option, Some, None, option_map, refl, ap}
+use Rattle.std.proofs.Common.{ap₂, ◌∙◌, arith}
 use Rattle.rm_base.specs.declared.message.Binding.{Binding}
 use Rattle.soap_document.specs.Grammar.{max_depth}
 use Rattle.soap_document.specs.Tree as written

@@ -1,5 +1,7 @@
 -- A frame is an envelope.
-use Rattle.std.proofs.Common.{◌≡◌, ℕ, ◌+◌, ◌-◌, List, [], ◌∷◌, ◌++◌, Bool, true, false, not, if◌then◌else◌, Option, Some, None, option_map, codes, length, refl, sym, ap, ap₂, subst, ◌∙◌, arith, append_assoc, take, drop}
+use Rattle.std.proofs.Common.{◌≡◌, ℕ, ◌+◌, ◌-◌, List, [], ◌∷◌, ◌++◌, Bool, true, false, not, if◌then◌else◌, Option}
+use Rattle.std.proofs.Common.{Some, None, option_map, codes, length, refl, sym, ap, ap₂, subst, ◌∙◌, arith}
+use Rattle.std.proofs.Common.{append_assoc, take, drop}
 use Rattle.std.specs.List.{AllByRecursion}
 use Rattle.std.specs.Str.{bytes_eq}
 use Rattle.std.proofs.lemmas.Bool.{and_parts}
@@ -10,7 +12,8 @@ use Rattle.rm_base.specs.declared.message.Binding.{Binding}
 use Rattle.soap_lex.specs.Characters.{IsName}
 use Rattle.soap_lex.specs.Text.{IsText, run}
 use Rattle.soap_document.specs.declared.attribute.WrittenAttribute.{WrittenAttribute as Attribute}
-use Rattle.soap_document.specs.Grammar.{IsAttributes, IsElement, IsContent, IsDocument, document, unmarked, without, white, prefixed, end, full, last, more, start_tag, end_tag}
+use Rattle.soap_document.specs.Grammar.{IsAttributes, IsElement, IsContent, IsDocument, document, unmarked, without}
+use Rattle.soap_document.specs.Grammar.{white, prefixed, end, full, last, more, start_tag, end_tag}
 use Rattle.soap_document.specs.Tokens.{is_nil}
 use Rattle.soap_document.specs.Tree as written
 use Rattle.soap_profile.specs.Namespaces.{bound, declaring, resolve_parts, joined, Resolved, tag_of}
@@ -22,7 +25,8 @@ use Rattle.soap_writer.specs.ElementText.{quoted}
 use Rattle.soap_writer.specs.Frame.{frame_scope, addressing_space, messaging_space, connection_space}
 use Rattle.soap_writer.specs.Plain.{name_from, chars_from}
 use Rattle.soap_writer.specs.ReadBack.{ReadsAs, ContentReadsAs, content_of, IsAttributeWritten, written_attributes}
-use Rattle.soap_frame.specs.Framed.{Block, IsBlock, MayBeSoap, bytes_of, trees_of, sorted_scope, framed_envelope, framed_text, envelope_start, body_start, envelope_end}
+use Rattle.soap_frame.specs.Framed.{Block, IsBlock, MayBeSoap, bytes_of, trees_of, sorted_scope, framed_envelope}
+use Rattle.soap_frame.specs.Framed.{framed_text, envelope_start, body_start, envelope_end}
 
 -- what is known of attributes and content
 pub record Known : Type 0 where

@@ -1,5 +1,6 @@
 -- Content is content at another place and depth too.
-use Rattle.std.proofs.Common.{◌≡◌, ℕ, suc, ◌+◌, ◌≤◌, max, List, [], ◌∷◌, ◌++◌, Option, Some, None, option_map, length, refl, ap, ap₂, arith}
+use Rattle.std.proofs.Common.{◌≡◌, ℕ, suc, ◌+◌, ◌≤◌, max, List, [], ◌∷◌, ◌++◌, Option, Some, None, option_map, length}
+use Rattle.std.proofs.Common.{refl, ap, ap₂, arith}
 use Rattle.std.proofs.Math.Nat.{le-max_left, le-max_right}
 use Rattle.rm_base.specs.declared.message.Binding.{Binding}
 use Rattle.soap_document.specs.Grammar.{IsElement, IsContent, full, empty, last, more, start_tag, empty_tag, max_depth}

@@ -1,11 +1,16 @@
 -- What is closed under its own declarations is read alike where more is bound.
-use Rattle.std.proofs.Common.{◌≡◌, ℕ, List, [], ◌∷◌, ◌++◌, Bool, true, false, if◌then◌else◌, Option, Some, None, option_map, codes, refl, sym, ap, ap₂, ◌∙◌, append_assoc}
+use Rattle.std.proofs.Common.{◌≡◌, ℕ, List, [], ◌∷◌, ◌++◌, Bool, true, false, if◌then◌else◌, Option, Some, None}
+use Rattle.std.proofs.Common.{option_map, codes, refl, sym, ap, ap₂, ◌∙◌, append_assoc}
 use Rattle.std.specs.Str.{bytes_eq}
 use Rattle.rm_base.specs.declared.message.Binding.{Binding}
 use Rattle.soap_document.specs.declared.attribute.WrittenAttribute.{WrittenAttribute as Attribute}
 use Rattle.soap_document.specs.Tokens.{is_nil}
 use Rattle.soap_document.specs.Tree as written
-use Rattle.soap_profile.specs.Namespaces.{bound, or_none, prefix_space, element_space, attribute_space, named, element_name, attribute_name, split, xml_space, declared_prefix, declarations, with_attribute, unless_declared, expanded, are_distinct, Resolved, resolved_with, tag_within, declaring, tag_of, joined, resolve, resolve_parts}
+use Rattle.soap_profile.specs.Namespaces.{bound, or_none, prefix_space, element_space, attribute_space, named}
+use Rattle.soap_profile.specs.Namespaces.{element_name, attribute_name, split, xml_space, declared_prefix}
+use Rattle.soap_profile.specs.Namespaces.{declarations, with_attribute, unless_declared, expanded, are_distinct}
+use Rattle.soap_profile.specs.Namespaces.{Resolved, resolved_with, tag_within, declaring, tag_of, joined, resolve}
+use Rattle.soap_profile.specs.Namespaces.{resolve_parts}
 use Rattle.soap_profile.specs.Tree.{Element, element, Parts, text}
 use Rattle.soap_profile.specs.declared.name.Expanded.{Expanded as Name}
 use Rattle.soap_profile.specs.declared.tree.Attr.{Attr}

@@ -7,7 +7,8 @@ use Rattle.soap_profile.specs.Namespaces.{may_bind}
 use Rattle.soap_profile.specs.Tree.{Element, Parts}
 use Rattle.soap_envelope.specs.Envelope.{Envelope}
 use Rattle.soap_writer.specs.ElementText.{quoted}
-use Rattle.soap_writer.specs.Frame.{of_soap, of_addressing, of_messaging, of_connection, binding_of, frame_scope, addressing_space, messaging_space, connection_space}
+use Rattle.soap_writer.specs.Frame.{of_soap, of_addressing, of_messaging, of_connection, binding_of, frame_scope}
+use Rattle.soap_writer.specs.Frame.{addressing_space, messaging_space, connection_space}
 use Rattle.soap_writer.specs.ReadBack.{ReadsAs}
 
 -- up to and with the start tag of the header, where SOAP has this namespace

@@ -14,7 +14,8 @@ use Rattle.std.proofs.lemmas.Str.{chars-encodes, encodes-chars, encodes-append, 
 use Rattle.xml_chars.specs.Classes.{is_within, is_char, is_name_start, is_name_char, char_ranges, name_start_ranges}
 use Rattle.xml_chars.specs.Classes.{name_more_ranges}
 use Rattle.soap_lex.specs.Characters.{IsChars, IsName}
-use Rattle.soap_lex.specs.Scalars.{all_scalar, is_char-scalar, name_char-scalar, name_each, IsUtf8-IsChars, IsUtf8-IsName}
+use Rattle.soap_lex.specs.Scalars.{all_scalar, is_char-scalar, name_char-scalar, name_each, IsUtf8-IsChars}
+use Rattle.soap_lex.specs.Scalars.{IsUtf8-IsName}
 
 -- each element passes, as a test
 pub all-each : (p : ℕ → Bool) (xs : List ℕ) → AllByRecursion (λ c. IsTrue (p c)) xs → list_all p xs ≡ true

@@ -1,5 +1,6 @@
 -- Words that bytes hold, and tests of every byte.
-use Rattle.std.proofs.Common.{MatchOption, Bor, subst, append_assoc, ◌≡◌, ◌≢◌, ℕ, inl, inr, Bool, true, false, not, nat_eq, Option, Some, None, List, [], ◌∷◌, ◌++◌, length, drop, refl, sym, ap, ap₂, ◌∙◌}
+use Rattle.std.proofs.Common.{MatchOption, Bor, subst, append_assoc, ◌≡◌, ◌≢◌, ℕ, inl, inr, Bool, true, false, not}
+use Rattle.std.proofs.Common.{nat_eq, Option, Some, None, List, [], ◌∷◌, ◌++◌, length, drop, refl, sym, ap, ap₂, ◌∙◌}
 use Rattle.std.proofs.Math.Bool.{or-true}
 use Rattle.std.specs.List.{AllByRecursion, list_all}
 use Rattle.std.specs.Str.{bytes_eq}

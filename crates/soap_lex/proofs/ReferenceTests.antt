@@ -1,12 +1,14 @@
 -- The test of references, against the grammar.
-use Rattle.std.proofs.Common.{◌≡◌, ◌≢◌, ℕ, ◌⊎◌, inl, inr, List, [], ◌∷◌, ◌++◌, Bool, true, false, not, ◌&&◌, nat_eq, cond, Option, Some, None, drop, codes, refl, sym, ap, ap₂, subst, ◌∙◌}
+use Rattle.std.proofs.Common.{◌≡◌, ◌≢◌, ℕ, ◌⊎◌, inl, inr, List, [], ◌∷◌, ◌++◌, Bool, true, false, not, ◌&&◌, nat_eq}
+use Rattle.std.proofs.Common.{cond, Option, Some, None, drop, codes, refl, sym, ap, ap₂, subst, ◌∙◌}
 use Rattle.std.specs.List.{AllByRecursion, list_all}
 use Rattle.std.specs.Str.{bytes_eq}
 use Rattle.std.specs.Char.{is_ascii_digit, is_ascii_hexdigit}
 use Rattle.std.specs.Str.Parse.{digits_value}
 use Rattle.std.proofs.lemmas.Bool.{eqb-true, and_parts, ne_eqb, true≢false}
 use Rattle.xml_chars.specs.Classes.{is_char}
-use Rattle.soap_lex.specs.References.{IsReference, ampersand, less as less_than, greater, apostrophe, quote, decimal, hexadecimal}
+use Rattle.soap_lex.specs.References.{IsReference, ampersand, less as less_than, greater, apostrophe, quote, decimal}
+use Rattle.soap_lex.specs.References.{hexadecimal}
 use Rattle.soap_lex.specs.Tests.{is_nil, reference, begins, before_semicolon, character, numbered}
 use Rattle.soap_lex.specs.Facts.{all_passes, all_from_passes, all_weaker, other, same, front_from_begins}
 use Rattle.soap_lex.specs.Facts.{not_nil}

@@ -1,8 +1,10 @@
 -- What feeding a piece of text does, up to the end of a token.
-use Rattle.std.proofs.Common.{◌≡◌, ℕ, suc, ◌+◌, ◌<◌, ◌≤◌, List, [], ◌∷◌, ◌++◌, Bool, true, false, Some, None, Option, length, get_or, take, drop, refl, sym, ap, subst, ◌∙◌, arith, append_assoc, append-nil}
+use Rattle.std.proofs.Common.{◌≡◌, ℕ, suc, ◌+◌, ◌<◌, ◌≤◌, List, [], ◌∷◌, ◌++◌, Bool, true, false, Some, None, Option}
+use Rattle.std.proofs.Common.{length, get_or, take, drop, refl, sym, ap, subst, ◌∙◌, arith, append_assoc, append-nil}
 use Prim.Native.Nat.{zero}
 use Rattle.memchr.specs.Find.{IsFirstByte}
-use Rattle.soap_lex.specs.TextMachine.{TextMode, chars, referring, opening, commenting, quoting, refused, TextState, stops, halts_in, halts, longer, finish, to_stop, run}
+use Rattle.soap_lex.specs.TextMachine.{TextMode, chars, referring, opening, commenting, quoting, refused, TextState}
+use Rattle.soap_lex.specs.TextMachine.{stops, halts_in, halts, longer, after_token, to_stop, run}
 use Rattle.soap_lex.proofs.TextRead.{NoStops, no_halt}
 use Rattle.soap_lex.specs.First.{all_fail, around, front_fails}
 use Rattle.soap_lex.specs.TextStops.{still}
@@ -53,12 +55,12 @@ module _ (s : TextState) (bytes : List ℕ) (r : Option ℕ) (found : IsFirstByt
     first = subst (λ (o : Option ℕ). IsFirstByte (stops s.mode) bytes o) e found
 
     pub fed_some : halts s (get_or bytes n 0) ≡ false
-        → to_stop s bytes ≡ (finish s.mode (longer s (take n bytes)) (get_or bytes n 0), drop (n + 1) bytes)
+        → to_stop s bytes ≡ (after_token s.mode (longer s (take n bytes)) (get_or bytes n 0), drop (n + 1) bytes)
     fed_some h =
         let c : ℕ = get_or bytes n 0 in
         let none = front_fails (stops s.mode) bytes n first in
         let last : to_stop (longer s (take n bytes)) (c ∷ drop (n + 1) bytes)
-        ≡ (finish s.mode (longer s (take n bytes)) c, drop (n + 1) bytes) =
+        ≡ (after_token s.mode (longer s (take n bytes)) c, drop (n + 1) bytes) =
         rw (still_read s.mode s.token (take n bytes) c none h, first.1) in
         ap (to_stop s) (around (stops s.mode) bytes n first) ∙ kept_stop s (take n bytes) (c ∷ drop (n + 1) bytes) none
         ∙ last

@@ -1,13 +1,18 @@
 -- What the machine reads as text is text of the grammar.
-use Rattle.std.proofs.Common.{◌≡◌, ℕ, suc, ◌≤◌, ◌⊎◌, inl, inr, List, [], ◌∷◌, ◌++◌, Bool, true, false, ◌||◌, nat_eq, cond, Option, Some, None, length, drop, codes, encode_utf8, refl, sym, ap, subst, ◌∙◌, arith, append_assoc, append-nil, length-append}
+use Rattle.std.proofs.Common.{◌≡◌, ℕ, suc, ◌≤◌, ◌⊎◌, inl, inr, List, [], ◌∷◌, ◌++◌, Bool, true, false, ◌||◌, nat_eq}
+use Rattle.std.proofs.Common.{cond, Option, Some, None, length, drop, codes, encode_utf8, refl, sym, ap, subst, ◌∙◌}
+use Rattle.std.proofs.Common.{arith, append_assoc, append-nil, length-append}
 use Prim.Native.Nat.{zero}
 use Rattle.std.proofs.lemmas.Bool.{eqb-true, or_cases, true≢false}
 use Rattle.soap_lex.specs.Cut.{EndsText}
 use Rattle.soap_lex.specs.References.{IsReference}
-use Rattle.soap_lex.specs.Text.{IsText, run as plain, more, IsMarkup, reference, cdata, comment, IsComment, IsCdata, with_line_ends}
+use Rattle.soap_lex.specs.Text.{IsText, run as plain, more, IsMarkup, reference, cdata, comment, IsComment, IsCdata}
+use Rattle.soap_lex.specs.Text.{with_line_ends}
 use Rattle.soap_lex.specs.Tests
 use Rattle.soap_lex.specs.Tests.{begins, is_char_data, is_comment, is_cdata, without}
-use Rattle.soap_lex.specs.TextMachine.{TextMode, chars, referring, opening, commenting, quoting, TextState, begun, stops, halts_in, halts, refuse, longer, at_referring, at_commenting, at_quoting, finish, ended, with_rest, reads}
+use Rattle.soap_lex.specs.TextMachine.{TextMode, chars, referring, opening, commenting, quoting, TextState, begun}
+use Rattle.soap_lex.specs.TextMachine.{stops, halts_in, halts, refuse, longer, at_referring, at_commenting}
+use Rattle.soap_lex.specs.TextMachine.{at_quoting, after_token, ended, with_rest, reads}
 use Rattle.soap_lex.proofs.ReferenceTests.{reference_from}
 use Rattle.soap_lex.proofs.TestLemmas.{data_from, comment_from, cdata_from}
 use Rattle.soap_lex.proofs.TextRead.{in_mode, opening_stays}
@@ -41,12 +46,12 @@ pub record Next (s : TextState) (bytes : List ℕ) (p : List ℕ × List ℕ) : 
   pub rest : List ℕ
   pub there : bytes ≡ token ++ last ∷ rest
   pub stop : stops s.mode last ≡ true
-  pub later : Reads (finish s.mode (longer s token) last) rest p
+  pub later : Reads (after_token s.mode (longer s token) last) rest p
 
 next_at : (s : TextState) (c : ℕ) (bytes : List ℕ) (p : List ℕ × List ℕ) (t : Bool) → stops s.mode c ≡ t
     → halts s c ≡ false → Reads s (c ∷ bytes) p
-    → ((t ≡ true) × Reads (finish s.mode s c) bytes p) ⊎ ((t ≡ false) × Reads (longer s (c ∷ [])) bytes p)
-next_at s c bytes p true e f h = let x : Reads (finish s.mode s c) bytes p = rw (f, e) at h in inl (refl, x)
+    → ((t ≡ true) × Reads (after_token s.mode s c) bytes p) ⊎ ((t ≡ false) × Reads (longer s (c ∷ [])) bytes p)
+next_at s c bytes p true e f h = let x : Reads (after_token s.mode s c) bytes p = rw (f, e) at h in inl (refl, x)
 next_at s c bytes p false e f h = let x : Reads (longer s (c ∷ [])) bytes p = rw (f, e) at h in inr (refl, x)
 
 -- the last token: it goes to the end
@@ -64,7 +69,7 @@ next_more s c bytes p (inr n) = inr (record {
   rest = n.rest;
   there = ap (λ (x : List ℕ). c ∷ x) n.there;
   stop = n.stop;
-  later = subst (λ t. Reads (finish s.mode (record s { token = t }) n.last) n.rest p)
+  later = subst (λ t. Reads (after_token s.mode (record s { token = t }) n.last) n.rest p)
       (append_assoc s.token (c ∷ []) n.token) n.later;
 })
 
@@ -84,7 +89,8 @@ next s (c ∷ bytes) p steady h =
         rest = bytes;
         there = refl;
         stop = k.0;
-        later = subst (λ t. Reads (finish s.mode (record s { token = t }) c) bytes p) (sym (append-nil s.token)) k.1;
+        later = subst (λ t. Reads (after_token s.mode (record s { token = t }) c) bytes p)
+            (sym (append-nil s.token)) k.1;
       })
       | inr k ↦ next_more s c bytes p (next (longer s (c ∷ [])) bytes p steady k.1)
     ]

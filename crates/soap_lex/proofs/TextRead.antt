@@ -1,13 +1,17 @@
 -- The machine that reads text, against the grammar: what the grammar has it reads, and what it reads the grammar has.
-use Rattle.std.proofs.Common.{◌≡◌, ℕ, inl, inr, List, [], ◌∷◌, ◌++◌, Bool, true, false, nat_eq, Some, None, codes, encode_utf8, refl, sym, ap, ap₂, subst, ◌∙◌, append_assoc, append-nil}
+use Rattle.std.proofs.Common.{◌≡◌, ℕ, inl, inr, List, [], ◌∷◌, ◌++◌, Bool, true, false, nat_eq, Some, None, codes}
+use Rattle.std.proofs.Common.{encode_utf8, refl, sym, ap, ap₂, subst, ◌∙◌, append_assoc, append-nil}
 use Rattle.std.specs.List.{AllByRecursion}
 use Rattle.std.specs.Str.{bytes_eq}
 use Rattle.std.proofs.lemmas.Bool.{eqb-true}
 use Rattle.soap_lex.specs.Cut.{EndsText, IsTextFirst}
-use Rattle.soap_lex.specs.Text.{IsText, run as plain, more, IsMarkup, reference, cdata, comment, IsComment, IsCdata, with_line_ends}
+use Rattle.soap_lex.specs.Text.{IsText, run as plain, more, IsMarkup, reference, cdata, comment, IsComment, IsCdata}
+use Rattle.soap_lex.specs.Text.{with_line_ends}
 use Rattle.soap_lex.specs.Tests
 use Rattle.soap_lex.specs.Tests.{begins, is_char_data, is_comment, is_cdata, without}
-use Rattle.soap_lex.specs.TextMachine.{TextMode, chars, referring, opening, commenting, quoting, refused, TextState, begun, stops, opens, halts_in, halts, longer, step, run, ended, with_rest, reads}
+use Rattle.soap_lex.specs.TextMachine.{TextMode, chars, referring, opening, commenting, quoting, refused, TextState}
+use Rattle.soap_lex.specs.TextMachine.{begun, stops, opens, halts_in, halts, longer, step, run, ended, with_rest}
+use Rattle.soap_lex.specs.TextMachine.{reads}
 use Rattle.soap_lex.proofs.EndLemmas.{comment_open, cdata_open}
 use Rattle.soap_lex.proofs.ReferenceTests.{Referred, reference_passes}
 use Rattle.soap_lex.proofs.TestLemmas.{data_passes, data_bytes, comment_passes, cdata_passes}

@@ -1,7 +1,8 @@
 -- What feeding a piece of an attribute value does, up to the end of a token.
-use Rattle.std.proofs.Common.{◌≡◌, ℕ, suc, ◌+◌, ◌≤◌, List, [], ◌∷◌, ◌++◌, Bool, true, false, Some, None, Option, length, get_or, take, drop, refl, sym, ap, subst, ◌∙◌, arith, append_assoc, append-nil}
+use Rattle.std.proofs.Common.{◌≡◌, ℕ, suc, ◌+◌, ◌≤◌, List, [], ◌∷◌, ◌++◌, Bool, true, false, Some, None, Option}
+use Rattle.std.proofs.Common.{length, get_or, take, drop, refl, sym, ap, subst, ◌∙◌, arith, append_assoc, append-nil}
 use Rattle.memchr.specs.Find.{IsFirstByte}
-use Rattle.soap_lex.specs.ValueMachine.{ValueState, stops, halts, longer, finish, to_stop, run}
+use Rattle.soap_lex.specs.ValueMachine.{ValueState, stops, halts, longer, after_token, to_stop, run}
 use Rattle.soap_lex.proofs.TextFed.{drop_whole}
 use Rattle.soap_lex.proofs.ValueRead.{NoStops}
 use Rattle.soap_lex.specs.First.{all_fail, around, front_fails}
@@ -26,14 +27,14 @@ module _ (s : ValueState) (bytes : List ℕ) (r : Option ℕ) (found : IsFirstBy
       ∙ ap (λ (x : List ℕ). (longer s bytes, x)) (sym (drop_whole bytes))
 
   pub fed_some : (n : ℕ) → r ≡ Some n
-      → to_stop s bytes ≡ (finish s.mode (longer s (take n bytes)) (get_or bytes n 0), drop (n + 1) bytes)
+      → to_stop s bytes ≡ (after_token s.mode (longer s (take n bytes)) (get_or bytes n 0), drop (n + 1) bytes)
   fed_some n e =
       let first : IsFirstByte (stops s.mode s.quote) bytes (Some n) =
       subst (λ (o : Option ℕ). IsFirstByte (stops s.mode s.quote) bytes o) e found in
       let c : ℕ = get_or bytes n 0 in
       let none = front_fails (stops s.mode s.quote) bytes n first in
       let last : to_stop (longer s (take n bytes)) (c ∷ drop (n + 1) bytes)
-      ≡ (finish s.mode (longer s (take n bytes)) c, drop (n + 1) bytes) = rw (unended, first.1) in
+      ≡ (after_token s.mode (longer s (take n bytes)) c, drop (n + 1) bytes) = rw (unended, first.1) in
       ap (to_stop s) (around (stops s.mode s.quote) bytes n first)
       ∙ kept_stop s (take n bytes) (c ∷ drop (n + 1) bytes) unended none ∙ last
 

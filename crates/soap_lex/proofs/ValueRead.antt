@@ -1,6 +1,8 @@
 -- The machine that reads attribute values, against the grammar: what the grammar has it reads, and what it reads the
 -- grammar has.
-use Rattle.std.proofs.Common.{◌≡◌, ℕ, suc, ◌≤◌, ◌⊎◌, inl, inr, List, [], ◌∷◌, ◌++◌, Bool, true, false, ◌||◌, nat_eq, cond, Option, Some, None, length, encode_utf8, refl, sym, ap, subst, ◌∙◌, arith, append_assoc, append-nil, length-append}
+use Rattle.std.proofs.Common.{◌≡◌, ℕ, suc, ◌≤◌, ◌⊎◌, inl, inr, List, [], ◌∷◌, ◌++◌, Bool, true, false, ◌||◌, nat_eq}
+use Rattle.std.proofs.Common.{cond, Option, Some, None, length, encode_utf8, refl, sym, ap, subst, ◌∙◌, arith}
+use Rattle.std.proofs.Common.{append_assoc, append-nil, length-append}
 use Prim.Native.Nat.{zero}
 use Rattle.std.specs.List.{AllByRecursion}
 use Rattle.std.proofs.lemmas.Bool.{eqb-true, eq-eqb, or_cases, true≢false}
@@ -8,7 +10,8 @@ use Rattle.soap_lex.specs.References.{IsReference}
 use Rattle.soap_lex.specs.Value.{IsInner, run as inner_run, more as inner_more, with_spaces}
 use Rattle.soap_lex.specs.Tests
 use Rattle.soap_lex.specs.Tests.{is_plain}
-use Rattle.soap_lex.specs.ValueMachine.{ValueMode, plain, referring, closed, refused, ValueState, begun, stops, halts, refuse, longer, at_referring, finish, step, run, is_closed, reads}
+use Rattle.soap_lex.specs.ValueMachine.{ValueMode, plain, referring, closed, refused, ValueState, begun, stops, halts}
+use Rattle.soap_lex.specs.ValueMachine.{refuse, longer, at_referring, after_token, step, run, is_closed, reads}
 use Rattle.soap_lex.proofs.ReferenceTests.{Referred, reference_passes, reference_from}
 use Rattle.soap_lex.proofs.TestLemmas.{plain_passes, plain_bytes, plain_from}
 use Rattle.soap_lex.specs.ValueMachine.{Takes, stay, on}
@@ -154,12 +157,12 @@ record Next (s : ValueState) (bytes : List ℕ) (p : List ℕ × List ℕ) : Typ
   pub rest : List ℕ
   pub there : bytes ≡ token ++ last ∷ rest
   pub stop : stops s.mode s.quote last ≡ true
-  pub later : Reads (finish s.mode (longer s token) last) rest p
+  pub later : Reads (after_token s.mode (longer s token) last) rest p
 
 next_at : (s : ValueState) (c : ℕ) (bytes : List ℕ) (p : List ℕ × List ℕ) (t : Bool) → stops s.mode s.quote c ≡ t
     → halts s.mode ≡ false → Reads s (c ∷ bytes) p
-    → ((t ≡ true) × Reads (finish s.mode s c) bytes p) ⊎ ((t ≡ false) × Reads (longer s (c ∷ [])) bytes p)
-next_at s c bytes p true e f h = let x : Reads (finish s.mode s c) bytes p = rw (f, e) at h in inl (refl, x)
+    → ((t ≡ true) × Reads (after_token s.mode s c) bytes p) ⊎ ((t ≡ false) × Reads (longer s (c ∷ [])) bytes p)
+next_at s c bytes p true e f h = let x : Reads (after_token s.mode s c) bytes p = rw (f, e) at h in inl (refl, x)
 next_at s c bytes p false e f h = let x : Reads (longer s (c ∷ [])) bytes p = rw (f, e) at h in inr (refl, x)
 
 open_mode : (mode : ValueMode) → halts mode ≡ false → is_closed mode ≡ false
@@ -178,7 +181,8 @@ next s (c ∷ bytes) p e h =
         rest = bytes;
         there = refl;
         stop = k.0;
-        later = subst (λ t. Reads (finish s.mode (record s { token = t }) c) bytes p) (sym (append-nil s.token)) k.1;
+        later = subst (λ t. Reads (after_token s.mode (record s { token = t }) c) bytes p)
+            (sym (append-nil s.token)) k.1;
       }
       | inr k ↦
           let n = next (longer s (c ∷ [])) bytes p e k.1 in
@@ -188,7 +192,7 @@ next s (c ∷ bytes) p e h =
             rest = n.rest;
             there = ap (λ (x : List ℕ). c ∷ x) n.there;
             stop = n.stop;
-            later = subst (λ t. Reads (finish s.mode (record s { token = t }) n.last) n.rest p)
+            later = subst (λ t. Reads (after_token s.mode (record s { token = t }) n.last) n.rest p)
                 (append_assoc s.token (c ∷ []) n.token) n.later;
           }
     ]

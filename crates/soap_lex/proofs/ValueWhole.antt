@@ -1,5 +1,7 @@
 -- Attribute values that are read whole.
-use Rattle.std.proofs.Common.{◌≡◌, ℕ, ◌⊎◌, inl, inr, List, [], ◌∷◌, ◌++◌, Bool, true, false, nat_eq, cond, Some, None, Result, Ok, Err, IfOk, IfErr, Bor, length, get_or, take, ◌≤◌, ◌-◌, arith, drop, refl, sym, ap, ap₂, subst, ◌∙◌, append_assoc}
+use Rattle.std.proofs.Common.{◌≡◌, ℕ, ◌⊎◌, inl, inr, List, [], ◌∷◌, ◌++◌, Bool, true, false, nat_eq, cond, Some, None}
+use Rattle.std.proofs.Common.{Result, Ok, Err, IfOk, IfErr, Bor, length, get_or, take, ◌≤◌, ◌-◌, arith, drop, refl}
+use Rattle.std.proofs.Common.{sym, ap, ap₂, subst, ◌∙◌, append_assoc}
 use Rattle.std.proofs.lemmas.List.{take_rest}
 use Rattle.soap_lex.specs.Cut.{IsValueFirst, OnRefusal}
 use Rattle.soap_lex.specs.declared.error.LexError.{LexError}

@@ -1,5 +1,7 @@
 -- What ends in a word: lemmas that stand beside the definition of `without`, since the layers above need them too.
-use Rattle.std.proofs.Common.{◌≡◌, ◌≢◌, ℕ, ◌⊎◌, inl, inr, List, [], ◌∷◌, ◌++◌, Bool, true, false, Option, Some, None, option_map, MatchOption, Bor, length, refl, sym, ap, ◌∙◌, arith, append_assoc, append-nil, length-append}
+use Rattle.std.proofs.Common.{◌≡◌, ◌≢◌, ℕ, ◌⊎◌, inl, inr, List, [], ◌∷◌, ◌++◌, Bool, true, false, Option, Some, None}
+use Rattle.std.proofs.Common.{option_map, MatchOption, Bor, length, refl, sym, ap, ◌∙◌, arith, append_assoc}
+use Rattle.std.proofs.Common.{append-nil, length-append}
 use Rattle.std.specs.Str.{bytes_eq}
 use Rattle.soap_lex.specs.Facts.{same, differ, equal}
 use Rattle.soap_lex.specs.Tests.{is_nil, without}

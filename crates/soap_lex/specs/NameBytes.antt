@@ -1,5 +1,6 @@
 -- The bytes of names: no ASCII character that stands in no name is among them. The layers above need it too.
-use Rattle.std.proofs.Common.{◌≡◌, ℕ, ◌<◌, true, false, nat_eq, List, [], ◌∷◌, ◌++◌, get_or, encode_utf8, encode_utf8_all, sym, ap, subst, ◌∙◌, arith, append-nil}
+use Rattle.std.proofs.Common.{◌≡◌, ℕ, ◌<◌, true, false, nat_eq, List, [], ◌∷◌, ◌++◌, get_or, encode_utf8}
+use Rattle.std.proofs.Common.{encode_utf8_all, sym, ap, subst, ◌∙◌, arith, append-nil}
 use Rattle.std.specs.List.{AllByRecursion}
 use Rattle.std.proofs.lemmas.Bool.{ne_eqb, true≢false}
 use Rattle.std.proofs.lemmas.List.Elements.{recursion_from_All}

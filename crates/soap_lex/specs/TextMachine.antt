@@ -1,6 +1,7 @@
 -- The reader of text, a byte at a time. It says how text is read, and nothing of what text is: that stands in Text. A
 -- byte that ends a token has its meaning, and all others only lengthen the token.
-use Rattle.std.specs.Prelude.{◌≡◌, ℕ, List, [], ◌∷◌, ◌++◌, Bool, true, false, not, ◌||◌, ◌==◌, if◌then◌else◌, Option, Some, None, codes, encode_utf8, length}
+use Rattle.std.specs.Prelude.{◌≡◌, ℕ, List, [], ◌∷◌, ◌++◌, Bool, true, false, not, ◌||◌, ◌==◌, if◌then◌else◌, Option}
+use Rattle.std.specs.Prelude.{Some, None, codes, encode_utf8, length}
 use Rattle.std.specs.Str.{bytes_eq}
 use Rattle.soap_lex.specs.Text.{with_line_ends}
 use Rattle.soap_lex.specs.Tests.{begins, is_char_data, is_cdata, is_comment, reference, without}
@@ -113,17 +114,17 @@ at_quoting s None = longer s (62 ∷ [])
 at_quoting s (Some bytes) = if is_cdata bytes then begun (s.text ++ with_line_ends bytes) else refuse s
 
 -- what a byte that ends the token does
-abbrev pub finish : TextMode → TextState → ℕ → TextState
-finish chars s c = at_chars s c
-finish referring s c = at_referring s (reference (s.token ++ 59 ∷ []))
-finish opening s c = at_opening s (s.token ++ c ∷ [])
-finish commenting s c = at_commenting s (without (codes "--") s.token)
-finish quoting s c = at_quoting s (without (codes "]]") s.token)
-finish refused s c = refuse s
+abbrev pub after_token : TextMode → TextState → ℕ → TextState
+after_token chars s c = at_chars s c
+after_token referring s c = at_referring s (reference (s.token ++ 59 ∷ []))
+after_token opening s c = at_opening s (s.token ++ c ∷ [])
+after_token commenting s c = at_commenting s (without (codes "--") s.token)
+after_token quoting s c = at_quoting s (without (codes "]]") s.token)
+after_token refused s c = refuse s
 
 -- what a byte does
 abbrev pub step : TextState → ℕ → TextState
-step s c = if stops s.mode c then finish s.mode s c else longer s (c ∷ [])
+step s c = if stops s.mode c then after_token s.mode s c else longer s (c ∷ [])
 
 -- the state, and the bytes that are left, where a token was ended or nothing more is read
 abbrev pub to_stop : TextState → List ℕ → TextState × List ℕ

@@ -1,6 +1,6 @@
 -- Where the machine of text takes nothing: lemmas that the layers above need too.
 use Rattle.std.proofs.Common.{◌≡◌, ℕ, suc, ◌≤◌, List, [], ◌∷◌, Bool, true, false, length, refl, ap, arith}
-use Rattle.soap_lex.specs.TextMachine.{TextState, stops, halts, longer, finish, to_stop}
+use Rattle.soap_lex.specs.TextMachine.{TextState, stops, halts, longer, after_token, to_stop}
 
 shrinks_at : (s : TextState) (c : ℕ) (bytes : List ℕ) (a b : Bool) → halts s c ≡ a → stops s.mode c ≡ b
     → length (to_stop (longer s (c ∷ [])) bytes).1 ≤ length bytes → length (to_stop s (c ∷ bytes)).1 ≤ suc
@@ -27,7 +27,7 @@ still s t c bytes h = go (halts s c) (stops s.mode c) refl refl
         let x : (s, c ∷ bytes) ≡ (t, c ∷ bytes) = rw e at h in
         (e, ap (λ (p : TextState × List ℕ). p.0) x)
     go false true e f =
-        let x : (finish s.mode s c, bytes) ≡ (t, c ∷ bytes) = rw (e, f) at h in
+        let x : (after_token s.mode s c, bytes) ≡ (t, c ∷ bytes) = rw (e, f) at h in
         let same : bytes ≡ c ∷ bytes = ap (λ (p : TextState × List ℕ). p.1) x in
         absurd (omega (arith, ap length same))
     go false false e f =

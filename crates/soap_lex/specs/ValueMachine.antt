@@ -1,5 +1,6 @@
 -- The reader of an attribute value behind its opening quote, a byte at a time, as TextMachine is that of text.
-use Rattle.std.specs.Prelude.{◌≡◌, ℕ, List, [], ◌∷◌, ◌++◌, Bool, true, false, ◌||◌, ◌==◌, if◌then◌else◌, Option, Some, None, encode_utf8}
+use Rattle.std.specs.Prelude.{◌≡◌, ℕ, List, [], ◌∷◌, ◌++◌, Bool, true, false, ◌||◌, ◌==◌, if◌then◌else◌, Option, Some}
+use Rattle.std.specs.Prelude.{None, encode_utf8}
 use Rattle.soap_lex.specs.Value.{with_spaces}
 use Rattle.soap_lex.specs.Tests.{is_plain, reference}
 
@@ -55,15 +56,15 @@ at_referring s None = refuse s
 at_referring s (Some c) = begun s.quote (s.value ++ encode_utf8 c)
 
 -- what a byte that ends the token does
-abbrev pub finish : ValueMode → ValueState → ℕ → ValueState
-finish plain s c = at_plain s c
-finish referring s c = at_referring s (reference (s.token ++ 59 ∷ []))
-finish closed s c = refuse s
-finish refused s c = refuse s
+abbrev pub after_token : ValueMode → ValueState → ℕ → ValueState
+after_token plain s c = at_plain s c
+after_token referring s c = at_referring s (reference (s.token ++ 59 ∷ []))
+after_token closed s c = refuse s
+after_token refused s c = refuse s
 
 -- what a byte does
 abbrev pub step : ValueState → ℕ → ValueState
-step s c = if stops s.mode s.quote c then finish s.mode s c else longer s (c ∷ [])
+step s c = if stops s.mode s.quote c then after_token s.mode s c else longer s (c ∷ [])
 
 -- the state, and the bytes that are left, where a token was ended or nothing more is read
 abbrev pub to_stop : ValueState → List ℕ → ValueState × List ℕ

@@ -1,6 +1,6 @@
 -- Where the machine of values takes nothing: lemmas that the layers above need too.
 use Rattle.std.proofs.Common.{◌≡◌, ℕ, suc, ◌≤◌, List, [], ◌∷◌, Bool, true, false, length, refl, ap, arith}
-use Rattle.soap_lex.specs.ValueMachine.{ValueState, stops, halts, longer, finish, to_stop}
+use Rattle.soap_lex.specs.ValueMachine.{ValueState, stops, halts, longer, after_token, to_stop}
 
 pub fed_halted : (s : ValueState) (bytes : List ℕ) → halts s.mode ≡ true → to_stop s bytes ≡ (s, bytes)
 fed_halted s [] h = refl
@@ -31,7 +31,7 @@ still s t c bytes h = go (halts s.mode) (stops s.mode s.quote c) refl refl
         let x : (s, c ∷ bytes) ≡ (t, c ∷ bytes) = rw e at h in
         (e, ap (λ (p : ValueState × List ℕ). p.0) x)
     go false true e f =
-        let x : (finish s.mode s c, bytes) ≡ (t, c ∷ bytes) = rw (e, f) at h in
+        let x : (after_token s.mode s c, bytes) ≡ (t, c ∷ bytes) = rw (e, f) at h in
         let same : bytes ≡ c ∷ bytes = ap (λ (p : ValueState × List ℕ). p.1) x in
         absurd (omega (arith, ap length same))
     go false false e f =

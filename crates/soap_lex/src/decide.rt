@@ -2,41 +2,41 @@
 ghost use Rattle.std.specs.Prelude.{◌≡◌, ◌⊎◌, ◌++◌, ◌∷◌, [], option_map};
 ghost use Rattle.soap_lex.specs.Tests.{
   begins,
-  is_char_data as char_data_test,
-  is_cdata as cdata_test,
-  is_comment as comment_test,
-  is_plain as plain_test,
-  reference as reference_test,
+  is_char_data,
+  is_cdata,
+  is_comment,
+  is_plain,
+  reference,
   without,
 };
 
 pub(crate) fn is_char_data(bytes: &[u8]) -> bool
-    ensures { result ≡ char_data_test bytes.now }
+    ensures { result ≡ is_char_data bytes.now }
 {
     crate::is_char_data(bytes)
 }
 
 pub(crate) fn is_cdata(bytes: &[u8]) -> bool
-    ensures { result ≡ cdata_test bytes.now }
+    ensures { result ≡ is_cdata bytes.now }
 {
     crate::is_cdata(bytes)
 }
 
 pub(crate) fn is_comment(bytes: &[u8]) -> bool
-    ensures { result ≡ comment_test bytes.now }
+    ensures { result ≡ is_comment bytes.now }
 {
     crate::is_comment(bytes)
 }
 
 pub(crate) fn is_plain(bytes: &[u8], quote: u8) -> bool
     requires { (quote ≡ 34) ⊎ (quote ≡ 39) }
-    ensures { result ≡ plain_test quote bytes.now }
+    ensures { result ≡ is_plain quote bytes.now }
 {
     crate::is_plain_value(bytes, quote)
 }
 
 pub(crate) fn reference(bytes: &[u8]) -> Option<char>
-    ensures { result ≡ reference_test bytes.now }
+    ensures { result ≡ reference bytes.now }
 {
     crate::reference(bytes)
 }

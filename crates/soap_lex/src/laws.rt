@@ -9,7 +9,8 @@ ghost use Rattle.soap_lex.specs.Tests.{is_comment, without};
 ghost use Rattle.soap_lex.specs.Text.{IsComment, IsText};
 ghost use Rattle.soap_lex.specs.TextMachine.{TextEnds, begun, reads};
 ghost use Rattle.soap_lex.specs.Value.{IsInner, IsValue};
-ghost use Rattle.soap_lex.specs.ValueMachine.{Takes as TakesValue, begun as begun_value, closed_with, reads as reads_value};
+ghost use Rattle.soap_lex.specs.ValueMachine.{Takes as TakesValue, begun as begun_value, closed_with};
+ghost use Rattle.soap_lex.specs.ValueMachine.{reads as reads_value};
 
 /// What `write_text` appends is text that means what was written.
 pub fn text_is_read_back()

@@ -1,5 +1,6 @@
 //! Names, text and values read at a place.
-ghost use Rattle.std.specs.Prelude.{◌≡◌, ◌⊎◌, ℕ, ◌+◌, ◌-◌, ◌<◌, ◌≤◌, List, [], ◌∷◌, ◌++◌, length, take, drop, Some, None};
+ghost use Rattle.std.specs.Prelude.{◌≡◌, ◌⊎◌, ℕ, ◌+◌, ◌-◌, ◌<◌, ◌≤◌, List, [], ◌∷◌, ◌++◌, length, take, drop, Some};
+ghost use Rattle.std.specs.Prelude.{None};
 ghost use Rattle.std.specs.Prelude.{IfOk, IfErr, IfSome, IfNone, OnErr};
 ghost use Rattle.std.specs.Str.{IsUtf8};
 ghost use Rattle.soap_lex.specs.Characters.{IsName, IsLongestName};

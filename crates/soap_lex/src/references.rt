@@ -1,7 +1,8 @@
 //! References to characters.
-ghost use Rattle.std.specs.Prelude.{◌≡◌, ◌≢◌, ◌⊎◌, ℕ, ◌≤◌, List, [], ◌++◌, min, encode_utf8, IfSome, IfNone, OnOk, OnErr, IsTrue, codes};
+ghost use Rattle.std.specs.Prelude.{◌≡◌, ◌≢◌, ◌⊎◌, ℕ, ◌≤◌, List, [], ◌++◌, min, encode_utf8, IfSome, IfNone, OnOk};
+ghost use Rattle.std.specs.Prelude.{OnErr, IsTrue, codes};
 ghost use Rattle.std.specs.Str.Parse.{AllDigits, digits_value};
-ghost use Rattle.xml_chars.specs.Classes.{is_char as char_class};
+ghost use Rattle.xml_chars.specs.Classes.{is_char};
 ghost use Rattle.soap_lex.specs.References.{IsReference};
 
 use crate::Memory;
@@ -53,10 +54,10 @@ fn named(bytes: &[u8]) -> Option<char>
 // The character with this number.
 fn character(digits: &[u8], base: u32) -> Option<char>
     requires { (base ≡ 10) ⊎ (base ≡ 16) }
-    ensures found { IfSome result (λ c. (digits.now ≢ []) × AllDigits base digits.now × IsTrue (char_class c)
+    ensures found { IfSome result (λ c. (digits.now ≢ []) × AllDigits base digits.now × IsTrue (is_char c)
         × (c ≡ digits_value base digits.now)) }
     ensures none { IfNone result (digits.now ≢ [] → AllDigits base digits.now
-        → IsTrue (char_class (digits_value base digits.now)) → ⊥) }
+        → IsTrue (is_char (digits_value base digits.now)) → ⊥) }
 {
     if digits.is_empty() {
         return None;

@@ -3,23 +3,23 @@ ghost use Rattle.std.specs.Prelude.{◌≡◌, ◌≤◌, ◌∷◌, ◌++◌, �
 ghost use Rattle.std.specs.Prelude.{IfOk, OnOk, OnErr, IsTrue, ◌↔◌, codes, true, option_map, if◌then◌else◌};
 ghost use Rattle.std.specs.Str.{bytes_eq};
 ghost use Rattle.memchr.specs.Find.{IsFirstByte};
-ghost use Rattle.soap_lex.specs.Tests.{is_char_data as char_data_test, is_cdata as cdata_test};
-ghost use Rattle.soap_lex.specs.Tests.{is_comment as comment_test, without};
+ghost use Rattle.soap_lex.specs.Tests.{is_char_data, is_cdata};
+ghost use Rattle.soap_lex.specs.Tests.{is_comment, without};
 ghost use Rattle.soap_lex.specs.Text.{with_line_ends};
 ghost use Rattle.soap_lex.specs.TextMachine.{
   begun,
-  stops as stop_test,
-  halts as halt_test,
+  stops,
+  halts,
   longer,
   at_chars,
   at_opening,
-  finish as finished,
+  after_token,
   to_stop,
   ended,
   counted,
-  opens as open_test,
-  is_less as less_test,
-  is_refused as refused_test,
+  opens,
+  is_less,
+  is_refused,
   cdata_meaning,
 };
 ghost use Rattle.soap_lex.specs.Readers.{text_state, text_mode};
@@ -86,7 +86,7 @@ impl TextReader {
         if self.halts(piece[end]) {
             return Ok(0);
         }
-        self.end_token(&piece[..end], piece[end], out)?;
+        self.at_token(&piece[..end], piece[end], out)?;
         Ok(end + 1)
     }
 
@@ -112,14 +112,14 @@ impl TextReader {
 
     /// A `<` was read last: where nothing more is taken, the text ended before it.
     pub fn is_less(&self) -> bool
-        ensures { (text : List ℕ) → result ≡ less_test (text_state self.now text) }
+        ensures { (text : List ℕ) → result ≡ is_less (text_state self.now text) }
     {
         self.mode == TextMode::Opening && is_less_sign(&self.token)
     }
 
     /// What was fed is no text, whatever follows.
     pub fn is_refused(&self) -> bool
-        ensures { (text : List ℕ) → result ≡ refused_test (text_state self.now text).mode }
+        ensures { (text : List ℕ) → result ≡ is_refused (text_state self.now text).mode }
     {
         self.mode == TextMode::Refused
     }
@@ -133,7 +133,7 @@ impl TextReader {
 
     // Nothing more is read before this byte.
     fn halts(&self, byte: u8) -> bool
-        ensures { (text : List ℕ) → result ≡ halt_test (text_state self.now text) byte }
+        ensures { (text : List ℕ) → result ≡ halts (text_state self.now text) byte }
     {
         match self.mode {
             TextMode::Opening => !opens(&self.token, byte),
@@ -143,17 +143,17 @@ impl TextReader {
     }
 
     // The bytes of the run end the token, with this byte behind them.
-    fn end_token(&mut self, run: &[u8], byte: u8, out: &mut Vec<u8>) -> Result<(), Memory>
+    fn at_token(&mut self, run: &[u8], byte: u8, out: &mut Vec<u8>) -> Result<(), Memory>
         ensures ok { OnOk result (text_state self.new out.new.items
-            ≡ finished (text_mode self.old.mode) (longer (text_state self.old out.old.items) run.now) byte) }
+            ≡ after_token (text_mode self.old.mode) (longer (text_state self.old out.old.items) run.now) byte) }
         ensures front { take (length out.old.items) out.new.items ≡ out.old.items }
     {
         match self.mode {
-            TextMode::Chars => self.end_chars(run, byte, out),
-            TextMode::Referring => self.end_reference(run, out),
-            TextMode::Opening => self.end_opening(run, byte),
-            TextMode::Commenting => self.end_comment(run),
-            TextMode::Quoting => self.end_cdata(run, out),
+            TextMode::Chars => self.at_chars(run, byte, out),
+            TextMode::Referring => self.at_referring(run, out),
+            TextMode::Opening => self.at_opening(run, byte),
+            TextMode::Commenting => self.at_commenting(run),
+            TextMode::Quoting => self.at_quoting(run, out),
             TextMode::Refused => {
                 self.refuse();
                 Ok(())
@@ -170,7 +170,7 @@ impl TextReader {
     }
 
     // A run of characters ends.
-    fn end_chars(&mut self, run: &[u8], byte: u8, out: &mut Vec<u8>) -> Result<(), Memory>
+    fn at_chars(&mut self, run: &[u8], byte: u8, out: &mut Vec<u8>) -> Result<(), Memory>
         ensures ok { OnOk result (text_state self.new out.new.items
             ≡ at_chars (longer (text_state self.old out.old.items) run.now) byte) }
         ensures front { take (length out.old.items) out.new.items ≡ out.old.items }
@@ -192,7 +192,7 @@ impl TextReader {
 
     // What the token means with the run behind it, where it is character data; a run alone is not copied first.
     fn push_chars(&mut self, run: &[u8], out: &mut Vec<u8>) -> Result<bool, Memory>
-        ensures passes { IfOk result (λ passes. passes ≡ char_data_test (self.old.token.items ++ run.now)) }
+        ensures passes { IfOk result (λ passes. passes ≡ is_char_data (self.old.token.items ++ run.now)) }
         ensures ok { IfOk result (λ passes. out.new.items ≡ (if passes then
             out.old.items ++ with_line_ends (self.old.token.items ++ run.now) else out.old.items)) }
         ensures err { OnErr result (out.new.items ≡ out.old.items) }
@@ -204,9 +204,9 @@ impl TextReader {
         push_data(&self.token, out)
     }
 
-    fn end_reference(&mut self, run: &[u8], out: &mut Vec<u8>) -> Result<(), Memory>
+    fn at_referring(&mut self, run: &[u8], out: &mut Vec<u8>) -> Result<(), Memory>
         ensures ok { OnOk result (text_state self.new out.new.items
-            ≡ finished (text_mode TextMode.Referring) (longer (text_state self.old out.old.items) run.now) 59) }
+            ≡ after_token (text_mode TextMode.Referring) (longer (text_state self.old out.old.items) run.now) 59) }
         ensures front { take (length out.old.items) out.new.items ≡ out.old.items }
     {
         self.token.extend_from_slice(run)?;
@@ -221,7 +221,7 @@ impl TextReader {
     }
 
     // Behind a <.
-    fn end_opening(&mut self, run: &[u8], byte: u8) -> Result<(), Memory>
+    fn at_opening(&mut self, run: &[u8], byte: u8) -> Result<(), Memory>
         ensures { OnOk result ((text : List ℕ) → text_state self.new text
             ≡ at_opening (text_state self.old text) ((self.old.token.items ++ run.now) ++ byte ∷ [])) }
     {
@@ -252,9 +252,9 @@ impl TextReader {
     }
 
     // The comment ends here, or holds a >.
-    fn end_comment(&mut self, run: &[u8]) -> Result<(), Memory>
+    fn at_commenting(&mut self, run: &[u8]) -> Result<(), Memory>
         ensures { OnOk result ((text : List ℕ) → text_state self.new text
-            ≡ finished (text_mode TextMode.Commenting) (longer (text_state self.old text) run.now) 62) }
+            ≡ after_token (text_mode TextMode.Commenting) (longer (text_state self.old text) run.now) 62) }
     {
         if self.token.is_empty() {
             if let Some(passes) = ended_comment(run) {
@@ -271,9 +271,9 @@ impl TextReader {
     }
 
     // The CDATA section ends here, or holds a >.
-    fn end_cdata(&mut self, run: &[u8], out: &mut Vec<u8>) -> Result<(), Memory>
+    fn at_quoting(&mut self, run: &[u8], out: &mut Vec<u8>) -> Result<(), Memory>
         ensures ok { OnOk result (text_state self.new out.new.items
-            ≡ finished (text_mode TextMode.Quoting) (longer (text_state self.old out.old.items) run.now) 62) }
+            ≡ after_token (text_mode TextMode.Quoting) (longer (text_state self.old out.old.items) run.now) 62) }
         ensures front { take (length out.old.items) out.new.items ≡ out.old.items }
     {
         if self.token.is_empty() {
@@ -293,7 +293,7 @@ impl TextReader {
 
 // Appends what a run of characters means, where it is character data.
 fn push_data(bytes: &[u8], out: &mut Vec<u8>) -> Result<bool, Memory>
-    ensures passes { IfOk result (λ passes. passes ≡ char_data_test bytes.now) }
+    ensures passes { IfOk result (λ passes. passes ≡ is_char_data bytes.now) }
     ensures ok { IfOk result (λ passes. out.new.items ≡ (if passes then out.old.items ++ with_line_ends bytes.now else
         out.old.items)) }
     ensures err { OnErr result (out.new.items ≡ out.old.items) }
@@ -308,7 +308,7 @@ fn push_data(bytes: &[u8], out: &mut Vec<u8>) -> Result<bool, Memory>
 // The same; it stands apart, so that the common case is short.
 #[inline(never)]
 fn push_any_data(bytes: &[u8], out: &mut Vec<u8>) -> Result<bool, Memory>
-    ensures passes { IfOk result (λ passes. passes ≡ char_data_test bytes.now) }
+    ensures passes { IfOk result (λ passes. passes ≡ is_char_data bytes.now) }
     ensures ok { IfOk result (λ passes. out.new.items ≡ (if passes then out.old.items ++ with_line_ends bytes.now else
         out.old.items)) }
     ensures err { OnErr result (out.new.items ≡ out.old.items) }
@@ -322,7 +322,7 @@ fn push_any_data(bytes: &[u8], out: &mut Vec<u8>) -> Result<bool, Memory>
 
 // Whether the bytes before a > are a comment, where they end in two dashes.
 fn ended_comment(bytes: &[u8]) -> Option<bool>
-    ensures { result ≡ option_map comment_test (without (codes "--") bytes.now) }
+    ensures { result ≡ option_map is_comment (without (codes "--") bytes.now) }
 {
     match before(b"--", bytes) {
         Some(comment) => Some(is_comment(comment)),
@@ -332,7 +332,7 @@ fn ended_comment(bytes: &[u8]) -> Option<bool>
 
 // Appends what the bytes before a > mean, where they end a CDATA section.
 fn push_cdata(bytes: &[u8], out: &mut Vec<u8>) -> Result<Option<bool>, Memory>
-    ensures passes { IfOk result (λ passes. passes ≡ option_map cdata_test (without (codes "]]") bytes.now)) }
+    ensures passes { IfOk result (λ passes. passes ≡ option_map is_cdata (without (codes "]]") bytes.now)) }
     ensures ok { IfOk result (λ passes. out.new.items ≡ out.old.items ++ cdata_meaning (without
         (codes "]]") bytes.now)) }
     ensures err { OnErr result (out.new.items ≡ out.old.items) }
@@ -350,7 +350,7 @@ fn push_cdata(bytes: &[u8], out: &mut Vec<u8>) -> Result<Option<bool>, Memory>
 // The token with this byte is the beginning of a comment or of a CDATA section, or a part of one; mostly the token is
 // a < alone.
 fn opens(token: &[u8], byte: u8) -> bool
-    ensures { result ≡ open_test (token.now ++ byte ∷ []) }
+    ensures { result ≡ opens (token.now ++ byte ∷ []) }
 {
     match token {
         [first] => *first == b'<' && byte == b'!',
@@ -369,7 +369,7 @@ fn is_less_sign(token: &[u8]) -> bool
 
 // Where the first byte stands that ends the token.
 fn first_stop(mode: TextMode, bytes: &[u8]) -> Option<usize>
-    ensures { IsFirstByte (stop_test (text_mode mode)) bytes.now result }
+    ensures { IsFirstByte (stops (text_mode mode)) bytes.now result }
 {
     match mode {
         TextMode::Chars => first_of_two(b'<', b'&', bytes),

@@ -1,9 +1,10 @@
 //! Whole tokens, tested.
-ghost use Rattle.std.specs.Prelude.{◌≡◌, ◌≢◌, ◌↔◌, ◌⊎◌, ℕ, ◌-◌, ◌<◌, List, [], ◌∷◌, ◌++◌, length, take, codes, IsTrue, IfSome};
+ghost use Rattle.std.specs.Prelude.{◌≡◌, ◌≢◌, ◌↔◌, ◌⊎◌, ℕ, ◌-◌, ◌<◌, List, [], ◌∷◌, ◌++◌, length, take, codes};
+ghost use Rattle.std.specs.Prelude.{IsTrue, IfSome};
 ghost use Rattle.std.specs.List.{All, list_all, list_any};
 ghost use Rattle.std.specs.Str.{chars};
-ghost use Rattle.xml_chars.specs.Classes.{is_char as char_class, is_name_char as name_char_class};
-ghost use Rattle.xml_chars.specs.Classes.{is_name_start as name_start_class};
+ghost use Rattle.xml_chars.specs.Classes.{is_char, is_name_char};
+ghost use Rattle.xml_chars.specs.Classes.{is_name_start};
 ghost use Rattle.soap_lex.specs.Characters.{IsChars, IsName, Holds};
 ghost use Rattle.soap_lex.specs.Coded.{BeginsWithChar};
 ghost use Rattle.soap_lex.specs.Text.{IsCharData, IsCdata, IsComment};
@@ -46,7 +47,7 @@ fn is_ascii_name(bytes: &[u8]) -> bool
 
 // Each byte is an ASCII character that may stand in a name.
 fn are_ascii_name_chars(bytes: &[u8]) -> bool
-    ensures { IsTrue result → All (λ byte. (byte < 128) × IsTrue (name_char_class byte)) bytes.now }
+    ensures { IsTrue result → All (λ byte. (byte < 128) × IsTrue (is_name_char byte)) bytes.now }
 {
     for byte in bytes {
         if !is_ascii_name_char(*byte) {
@@ -58,14 +59,14 @@ fn are_ascii_name_chars(bytes: &[u8]) -> bool
 
 #[inline]
 fn begins_ascii_name(byte: u8) -> bool
-    ensures { IsTrue result → (byte < 128) × IsTrue (name_start_class byte) }
+    ensures { IsTrue result → (byte < 128) × IsTrue (is_name_start byte) }
 {
     (byte >= b'a' && byte <= b'z') || (byte >= b'A' && byte <= b'Z') || byte == b'_'
 }
 
 #[inline]
 fn is_ascii_name_char(byte: u8) -> bool
-    ensures { IsTrue result → (byte < 128) × IsTrue (name_char_class byte) }
+    ensures { IsTrue result → (byte < 128) × IsTrue (is_name_char byte) }
 {
     // Most are small letters.
     if byte >= b'a' && byte <= b'z' {
@@ -213,7 +214,7 @@ fn is_text(bytes: &[u8]) -> bool
 
 // Each byte is an ASCII character of a document; no exit from the loop, so that it is run over many bytes at once.
 fn is_plain_ascii(bytes: &[u8]) -> bool
-    ensures { IsTrue result → All (λ byte. (byte < 128) × IsTrue (char_class byte)) bytes.now }
+    ensures { IsTrue result → All (λ byte. (byte < 128) × IsTrue (is_char byte)) bytes.now }
 {
     let mut plain = true;
     for byte in bytes {
@@ -238,14 +239,14 @@ fn is_plain_run(bytes: &[u8], other: u8) -> bool
 
 #[inline]
 fn is_plain_but(byte: u8, other: u8) -> bool
-    ensures { IsTrue result → (byte < 128) × IsTrue (char_class byte) × (byte ≢ 60) × (byte ≢ 38) × (byte ≢ other) }
+    ensures { IsTrue result → (byte < 128) × IsTrue (is_char byte) × (byte ≢ 60) × (byte ≢ 38) × (byte ≢ other) }
 {
     is_plain(byte) && byte != b'<' && byte != b'&' && byte != other
 }
 
 #[inline]
 fn is_plain(byte: u8) -> bool
-    ensures { IsTrue result → (byte < 128) × IsTrue (char_class byte) }
+    ensures { IsTrue result → (byte < 128) × IsTrue (is_char byte) }
 {
     (byte >= 32 && byte < 128) || byte == 9 || byte == 10 || byte == 13
 }
@@ -282,7 +283,7 @@ fn lacks_dashes(bytes: &[u8]) -> bool
 // Each character may stand in a document.
 #[tactic(auto, using(std::proofs::lemmas::Str::chars_from_encodes))]
 fn has_all_chars(text: &str) -> bool
-    ensures { result ≡ list_all char_class (chars text.now) }
+    ensures { result ≡ list_all is_char (chars text.now) }
 {
     text.chars().all(|c| is_char(c))
 }
@@ -290,14 +291,14 @@ fn has_all_chars(text: &str) -> bool
 // Each character may stand in a name.
 #[tactic(auto, using(std::proofs::lemmas::Str::chars_from_encodes))]
 fn has_name_chars(text: &str) -> bool
-    ensures { result ≡ list_all name_char_class (chars text.now) }
+    ensures { result ≡ list_all is_name_char (chars text.now) }
 {
     text.chars().all(|c| is_name_char(c))
 }
 
 // The first character may begin a name.
 pub(crate) fn begins_name(text: &str) -> bool
-    ensures { result ≡ list_any name_start_class (take 1 (chars text.now)) }
+    ensures { result ≡ list_any is_name_start (take 1 (chars text.now)) }
 {
     match text.chars().next() {
         Some(first) => is_name_start(first),

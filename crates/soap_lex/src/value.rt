@@ -1,18 +1,19 @@
 //! Attribute values, read in pieces.
-ghost use Rattle.std.specs.Prelude.{◌≡◌, ◌≢◌, ◌⊎◌, ◌≤◌, ◌∷◌, ◌++◌, ◌==◌, ℕ, List, [], length, take, drop, encode_utf8, true};
+ghost use Rattle.std.specs.Prelude.{◌≡◌, ◌≢◌, ◌⊎◌, ◌≤◌, ◌∷◌, ◌++◌, ◌==◌, ℕ, List, [], length, take, drop};
+ghost use Rattle.std.specs.Prelude.{encode_utf8, true};
 ghost use Rattle.std.specs.Prelude.{IfOk, IfSome, IfNone, OnOk, OnErr, if◌then◌else◌};
 ghost use Rattle.memchr.specs.Find.{IsFirstByte};
-ghost use Rattle.soap_lex.specs.Tests.{is_plain as plain_test};
+ghost use Rattle.soap_lex.specs.Tests.{is_plain};
 ghost use Rattle.soap_lex.specs.Value.{with_spaces};
 ghost use Rattle.soap_lex.specs.ValueMachine.{
   begun,
-  stops as stop_test,
-  halts as halt_test,
-  is_closed as closed_test,
-  is_refused as refused_test,
+  stops,
+  halts,
+  is_closed,
+  is_refused,
   longer,
   at_plain,
-  finish as finished,
+  after_token,
   to_stop,
 };
 ghost use Rattle.soap_lex.specs.Readers.{quote_byte, value_mode, value_state};
@@ -112,39 +113,39 @@ impl ValueReader {
             self.token.extend_from_slice(piece)?;
             return Ok(piece.len());
         };
-        self.end_token(&piece[..end], piece[end], out)?;
+        self.at_token(&piece[..end], piece[end], out)?;
         Ok(end + 1)
     }
 
     /// The closing quote was read.
     pub fn is_closed(&self) -> bool
-        ensures { (value : List ℕ) → result ≡ closed_test (value_state self.now value).mode }
+        ensures { (value : List ℕ) → result ≡ is_closed (value_state self.now value).mode }
     {
         self.mode == ValueMode::Closed
     }
 
     /// What was fed is no value, whatever follows.
     pub fn is_refused(&self) -> bool
-        ensures { (value : List ℕ) → result ≡ refused_test (value_state self.now value).mode }
+        ensures { (value : List ℕ) → result ≡ is_refused (value_state self.now value).mode }
     {
         self.mode == ValueMode::Refused
     }
 
     fn halts(&self) -> bool
-        ensures { (value : List ℕ) → result ≡ halt_test (value_state self.now value).mode }
+        ensures { (value : List ℕ) → result ≡ halts (value_state self.now value).mode }
     {
         self.mode == ValueMode::Closed || self.mode == ValueMode::Refused
     }
 
     // The bytes of the run end the token, with this byte behind them.
-    fn end_token(&mut self, run: &[u8], byte: u8, out: &mut Vec<u8>) -> Result<(), Memory>
+    fn at_token(&mut self, run: &[u8], byte: u8, out: &mut Vec<u8>) -> Result<(), Memory>
         ensures ok { OnOk result (value_state self.new out.new.items
-            ≡ finished (value_mode self.old.mode) (longer (value_state self.old out.old.items) run.now) byte) }
+            ≡ after_token (value_mode self.old.mode) (longer (value_state self.old out.old.items) run.now) byte) }
         ensures front { take (length out.old.items) out.new.items ≡ out.old.items }
     {
         match self.mode {
-            ValueMode::Plain => self.end_plain(run, byte, out),
-            ValueMode::Referring => self.end_reference(run, out),
+            ValueMode::Plain => self.at_plain(run, byte, out),
+            ValueMode::Referring => self.at_referring(run, out),
             ValueMode::Closed | ValueMode::Refused => {
                 self.refuse();
                 Ok(())
@@ -162,7 +163,7 @@ impl ValueReader {
     }
 
     // A run of characters ends.
-    fn end_plain(&mut self, run: &[u8], byte: u8, out: &mut Vec<u8>) -> Result<(), Memory>
+    fn at_plain(&mut self, run: &[u8], byte: u8, out: &mut Vec<u8>) -> Result<(), Memory>
         ensures ok { OnOk result (value_state self.new out.new.items
             ≡ at_plain (longer (value_state self.old out.old.items) run.now) byte) }
         ensures front { take (length out.old.items) out.new.items ≡ out.old.items }
@@ -185,7 +186,7 @@ impl ValueReader {
     fn push_plain(&mut self, run: &[u8], out: &mut Vec<u8>) -> Result<bool, Memory>
         ensures same { IfOk result (λ _. self.new.quote ≡ self.old.quote) }
         ensures passes { IfOk result (λ passes. passes
-            ≡ plain_test (quote_byte self.old.quote) (self.old.token.items ++ run.now)) }
+            ≡ is_plain (quote_byte self.old.quote) (self.old.token.items ++ run.now)) }
         ensures ok { IfOk result (λ passes. out.new.items ≡ (if passes then
             out.old.items ++ with_spaces (self.old.token.items ++ run.now) else out.old.items)) }
         ensures err { OnErr result (out.new.items ≡ out.old.items) }
@@ -197,9 +198,9 @@ impl ValueReader {
         push_run(&self.token, self.quote, out)
     }
 
-    fn end_reference(&mut self, run: &[u8], out: &mut Vec<u8>) -> Result<(), Memory>
+    fn at_referring(&mut self, run: &[u8], out: &mut Vec<u8>) -> Result<(), Memory>
         ensures ok { OnOk result (value_state self.new out.new.items
-            ≡ finished (value_mode ValueMode.Referring) (longer (value_state self.old out.old.items) run.now) 59) }
+            ≡ after_token (value_mode ValueMode.Referring) (longer (value_state self.old out.old.items) run.now) 59) }
         ensures front { take (length out.old.items) out.new.items ≡ out.old.items }
     {
         self.token.extend_from_slice(run)?;
@@ -217,7 +218,7 @@ impl ValueReader {
 
 // Appends what a run of characters means, where it may stand between these quotes.
 fn push_run(bytes: &[u8], quote: Quote, out: &mut Vec<u8>) -> Result<bool, Memory>
-    ensures passes { IfOk result (λ passes. passes ≡ plain_test (quote_byte quote) bytes.now) }
+    ensures passes { IfOk result (λ passes. passes ≡ is_plain (quote_byte quote) bytes.now) }
     ensures ok { IfOk result (λ passes. out.new.items ≡ (if passes then out.old.items ++ with_spaces bytes.now else
         out.old.items)) }
     ensures err { OnErr result (out.new.items ≡ out.old.items) }
@@ -232,7 +233,7 @@ fn push_run(bytes: &[u8], quote: Quote, out: &mut Vec<u8>) -> Result<bool, Memor
 // The same; it stands apart, so that the common case is short.
 #[inline(never)]
 fn push_any_run(bytes: &[u8], quote: Quote, out: &mut Vec<u8>) -> Result<bool, Memory>
-    ensures passes { IfOk result (λ passes. passes ≡ plain_test (quote_byte quote) bytes.now) }
+    ensures passes { IfOk result (λ passes. passes ≡ is_plain (quote_byte quote) bytes.now) }
     ensures ok { IfOk result (λ passes. out.new.items ≡ (if passes then out.old.items ++ with_spaces bytes.now else
         out.old.items)) }
     ensures err { OnErr result (out.new.items ≡ out.old.items) }
@@ -246,7 +247,7 @@ fn push_any_run(bytes: &[u8], quote: Quote, out: &mut Vec<u8>) -> Result<bool, M
 
 // Where the first byte stands that ends the token.
 fn first_stop(mode: ValueMode, quote: u8, bytes: &[u8]) -> Option<usize>
-    ensures { IsFirstByte (stop_test (value_mode mode) quote) bytes.now result }
+    ensures { IsFirstByte (stops (value_mode mode) quote) bytes.now result }
 {
     match mode {
         ValueMode::Plain => first_of_two(quote, b'&', bytes),

@@ -1,7 +1,7 @@
 //! Short runs of visible ASCII characters and spaces: they need no normalising, and one look at each byte is enough.
 ghost use Rattle.std.specs.Prelude.{◌≡◌, ◌≢◌, ◌≤◌, ◌<◌, ◌++◌, true, IsTrue, OnOk, OnErr};
-ghost use Rattle.xml_chars.specs.Classes.{is_char as char_class};
-ghost use Rattle.soap_lex.specs.Tests.{is_char_data as char_data_test, is_plain as plain_test};
+ghost use Rattle.xml_chars.specs.Classes.{is_char};
+ghost use Rattle.soap_lex.specs.Tests.{is_char_data, is_plain};
 ghost use Rattle.soap_lex.specs.Text.{with_line_ends};
 ghost use Rattle.soap_lex.specs.Value.{with_spaces};
 
@@ -12,8 +12,8 @@ const SHORT: usize = 32;
 
 // A short run of visible characters and spaces, where none begins markup or is that other.
 pub(crate) fn is_visible(bytes: &[u8], other: u8) -> bool
-    ensures value { IsTrue result → plain_test other bytes.now ≡ true }
-    ensures data { IsTrue result → other ≡ 93 → char_data_test bytes.now ≡ true }
+    ensures value { IsTrue result → is_plain other bytes.now ≡ true }
+    ensures data { IsTrue result → other ≡ 93 → is_char_data bytes.now ≡ true }
     ensures lines { IsTrue result → with_line_ends bytes.now ≡ bytes.now }
     ensures spaces { IsTrue result → with_spaces bytes.now ≡ bytes.now }
 {
@@ -30,7 +30,7 @@ pub(crate) fn is_visible(bytes: &[u8], other: u8) -> bool
 
 #[inline]
 fn is_visible_but(byte: u8, other: u8) -> bool
-    ensures { IsTrue result → (byte < 128) × IsTrue (char_class byte) × (byte ≢ 60) × (byte ≢ 38) × (byte ≢ other)
+    ensures { IsTrue result → (byte < 128) × IsTrue (is_char byte) × (byte ≢ 60) × (byte ≢ 38) × (byte ≢ other)
         × (32 ≤ byte) }
 {
     byte >= b' ' && byte < 127 && byte != b'<' && byte != b'&' && byte != other

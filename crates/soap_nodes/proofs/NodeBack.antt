@@ -1,5 +1,6 @@
 -- A node is read back as its tree, by the laws of what stands in it.
-use Rattle.std.proofs.Common.{◌≡◌, ℕ, suc, ◌+◌, List, [], ◌∷◌, ◌++◌, Bool, true, Option, Some, None, option_map, codes, length, refl, sym, ap, subst, ◌∙◌, append_assoc}
+use Rattle.std.proofs.Common.{◌≡◌, ℕ, suc, ◌+◌, List, [], ◌∷◌, ◌++◌, Bool, true, Option, Some, None, option_map}
+use Rattle.std.proofs.Common.{codes, length, refl, sym, ap, subst, ◌∙◌, append_assoc}
 use Rattle.std.specs.List.{AllByRecursion, flat_map}
 use Rattle.rm_base.specs.declared.message.Binding.{Binding}
 use Rattle.soap_lex.specs.Characters.{IsName}
@@ -14,10 +15,14 @@ use Rattle.soap_profile.specs.declared.name.Expanded.{Expanded as Name}
 use Rattle.soap_writer.specs.ElementText.{quoted, element_text}
 use Rattle.soap_writer.specs.Frame.{Prefix, of_soap, of_addressing, of_messaging, of_connection, letter, space_of}
 use Rattle.soap_writer.specs.Plain.{is_plain_name, name_from}
-use Rattle.soap_writer.specs.ReadBack.{ReadsAs, ContentReadsAs, MayStand, written_tree, IsAttributeWritten, written_attributes}
+use Rattle.soap_writer.specs.ReadBack.{ReadsAs, ContentReadsAs, MayStand, written_tree, IsAttributeWritten}
+use Rattle.soap_writer.specs.ReadBack.{written_attributes}
 use Rattle.soap_writer.specs.Writable.{IsTextWritable}
 use Rattle.soap_nodes.specs.Good.{note_attribute, note_attributes, IsNoteGood, IsTagGood, IsGood, AreGood}
-use Rattle.soap_nodes.specs.Node.{Tag, framed, bare, local_of, tag_name, expanded_name, Note, plain, prefixed, declared, note_text, note_attrs, note_bindings, Node, full, void, whole, Nodes, nothing, words, more, begin_text, close_text, node_text, nodes_text, node_tree, nodes_tree}
+use Rattle.soap_nodes.specs.Node.{Tag, framed, bare, local_of, tag_name, expanded_name, Note, plain, prefixed}
+use Rattle.soap_nodes.specs.Node.{of_xml, declared, note_text, note_attrs, note_bindings, Node, full, void, whole}
+use Rattle.soap_nodes.specs.Node.{Nodes, nothing, words, more, begin_text, close_text, node_text, nodes_text}
+use Rattle.soap_nodes.specs.Node.{node_tree, nodes_tree}
 
 -- what is known of attributes, elements and content
 pub record Known : Type 0 where
@@ -55,6 +60,9 @@ notes_are (prefixed p local value ∷ notes) =
     let name = letter p ++ (codes ":" ++ local) in
     ap (λ l. codes " " ++ l) (append_assoc name (codes "=" ++ quoted value) (flat_map note_text notes))
     ∙ ap (λ l. codes " " ++ (name ++ (codes "=" ++ (quoted value ++ l)))) (notes_are notes)
+notes_are (of_xml local value ∷ notes) =
+    ap (λ l. codes " xml:" ++ l) (append_assoc local (codes "=" ++ quoted value) (flat_map note_text notes))
+    ∙ ap (λ l. codes " xml:" ++ (local ++ (codes "=" ++ (quoted value ++ l)))) (notes_are notes)
 notes_are (declared prefix space ∷ notes) =
     ap (λ l. codes " xmlns:" ++ l) (append_assoc prefix (codes "=" ++ quoted space) (flat_map note_text notes))
     ∙ ap (λ l. codes " xmlns:" ++ (prefix ++ (codes "=" ++ (quoted space ++ l)))) (notes_are notes)
@@ -64,6 +72,10 @@ note_written (plain local value) is =
     record { qname = grammar.unprefixed local (name_from local is.0); chars = is.1 }
 note_written (prefixed p local value) is =
     record { qname = grammar.prefixed (letter p) local (letter-IsName p) (name_from local is.0); chars = is.1 }
+note_written (of_xml local value) is = record {
+  qname = grammar.prefixed (codes "xml") local (name_from (codes "xml") refl) (name_from local is.0);
+  chars = is.1;
+}
 note_written (declared prefix space) is = record {
   qname = grammar.prefixed (codes "xmlns") prefix (name_from (codes "xmlns") refl) (name_from prefix is.0);
   chars = is.1;

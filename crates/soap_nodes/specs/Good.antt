@@ -10,13 +10,15 @@ use Rattle.soap_writer.specs.Frame.{letter}
 use Rattle.soap_writer.specs.Plain.{is_plain_name}
 use Rattle.soap_writer.specs.ReadBack.{MayStand}
 use Rattle.soap_writer.specs.Writable.{IsTextWritable}
-use Rattle.soap_nodes.specs.Node.{Tag, local_of, tag_name, expanded_name, Note, plain, prefixed, declared, note_attrs, note_bindings, Node, full, void, whole, Nodes, nothing, words, more}
+use Rattle.soap_nodes.specs.Node.{Tag, local_of, tag_name, expanded_name, Note, plain, prefixed, of_xml, declared}
+use Rattle.soap_nodes.specs.Node.{note_attrs, note_bindings, Node, full, void, whole, Nodes, nothing, words, more}
 
 -- a note among the attributes of the tag as it is written
 abbrev pub note_attribute : Note → Attribute
 note_attribute (plain local value) = record { name = local; value = value }
 note_attribute (prefixed prefix local value) =
     record { name = letter prefix ++ (codes ":" ++ local); value = value }
+note_attribute (of_xml local value) = record { name = codes "xml" ++ (codes ":" ++ local); value = value }
 note_attribute (declared prefix space) = record { name = codes "xmlns" ++ (codes ":" ++ prefix); value = space }
 
 -- all of them
@@ -28,6 +30,7 @@ note_attributes (note ∷ notes) = note_attribute note ∷ note_attributes notes
 abbrev pub IsNoteGood : Note → Type 0
 IsNoteGood (plain local value) = (is_plain_name local ≡ true) × IsChars value
 IsNoteGood (prefixed prefix local value) = (is_plain_name local ≡ true) × IsChars value
+IsNoteGood (of_xml local value) = (is_plain_name local ≡ true) × IsChars value
 IsNoteGood (declared prefix space) = (is_plain_name prefix ≡ true) × IsChars space
 
 -- a tag of such names and notes, which Namespaces in XML resolves where these bindings are in force

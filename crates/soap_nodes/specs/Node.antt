@@ -4,6 +4,7 @@ use Rattle.std.specs.List.{flat_map}
 use Rattle.rm_base.specs.declared.message.Binding.{Binding}
 use Rattle.soap_lex.specs.Escapes.{escaped_text}
 use Rattle.soap_document.specs.Grammar.{end_tag}
+use Rattle.soap_profile.specs.Namespaces.{xml_space}
 use Rattle.soap_profile.specs.Tree.{Element, element, Parts, none, text, child}
 use Rattle.soap_profile.specs.declared.name.Expanded.{Expanded as Name}
 use Rattle.soap_profile.specs.declared.tree.Attr.{Attr}
@@ -31,11 +32,12 @@ abbrev pub expanded_name : List ℕ → Tag → Name
 expanded_name soap (framed prefix local) = record { space = space_of soap prefix; local = local }
 expanded_name soap (bare local) = record { space = []; local = local }
 
--- what stands in a start tag behind the name: an attribute in no namespace or with a prefix of the frame, each with its
--- value, or the declaration of a prefix
+-- what stands in a start tag behind the name: an attribute in no namespace, with a prefix of the frame or with that of
+-- xml, which is always bound (Namespaces 3), each with its value; or the declaration of a prefix
 pub data Note : Type 0 where
   plain : List ℕ → List ℕ → Note
   prefixed : Prefix → List ℕ → List ℕ → Note
+  of_xml : List ℕ → List ℕ → Note
   declared : List ℕ → List ℕ → Note
 
 -- how it is written
@@ -43,6 +45,7 @@ unfoldable pub note_text : Note → List ℕ
 note_text (plain local value) = codes " " ++ (local ++ (codes "=" ++ quoted value))
 note_text (prefixed prefix local value) =
     codes " " ++ ((letter prefix ++ (codes ":" ++ local)) ++ (codes "=" ++ quoted value))
+note_text (of_xml local value) = codes " xml:" ++ (local ++ (codes "=" ++ quoted value))
 note_text (declared prefix space) = codes " xmlns:" ++ (prefix ++ (codes "=" ++ quoted space))
 
 -- the attribute that it is, if it is one
@@ -50,12 +53,15 @@ abbrev pub note_attrs : List ℕ → Note → List Attr
 note_attrs soap (plain local value) = record { name = record { space = []; local = local }; value = value } ∷ []
 note_attrs soap (prefixed prefix local value) =
     record { name = record { space = space_of soap prefix; local = local }; value = value } ∷ []
+note_attrs soap (of_xml local value) =
+    record { name = record { space = xml_space; local = local }; value = value } ∷ []
 note_attrs soap (declared prefix space) = []
 
 -- the binding that it declares, if it does
 abbrev pub note_bindings : Note → List Binding
 note_bindings (plain local value) = []
 note_bindings (prefixed prefix local value) = []
+note_bindings (of_xml local value) = []
 note_bindings (declared prefix space) = record { prefix = prefix; space = space } ∷ []
 
 -- elements within a frame, and what stands in them

@@ -1,5 +1,7 @@
 -- Keys that all differ.
-use Rattle.std.proofs.Common.{◌≡◌, inl, inr, ℕ, ◌+◌, ◌<◌, ◌≤◌, Result, Ok, Err, IfOk, List, [], ◌∷◌, ◌++◌, Bool, true, false, not, ◌&&◌, ◌||◌, cond, map, take, drop, length, get_or, Ordering, Less, Equal, Greater, nat_cmp, is_eq, refl, sym, ap, ap₂, ◌∙◌, drop-cons, arith}
+use Rattle.std.proofs.Common.{◌≡◌, inl, inr, ℕ, ◌+◌, ◌<◌, ◌≤◌, Result, Ok, Err, IfOk, List, [], ◌∷◌, ◌++◌, Bool, true}
+use Rattle.std.proofs.Common.{false, not, ◌&&◌, ◌||◌, cond, map, take, drop, length, get_or, Ordering, Less, Equal}
+use Rattle.std.proofs.Common.{Greater, nat_cmp, is_eq, refl, sym, ap, ap₂, ◌∙◌, drop-cons, arith}
 use Rattle.std.proofs.Math.Numerals.{add-one}
 use Rattle.std.proofs.lemmas.List.{take-append-drop, take_more, take_all, map-append, append-nil}
 use Rattle.std.specs.Cmp.Lexicographic.{slice_cmp}
@@ -18,7 +20,8 @@ use Rattle.soap_profile.specs.Namespaces.{is_new, are_distinct, is_other, is_new
 use Rattle.soap_profile.specs.Tree.{Attr, Element, Name}
 use Rattle.soap_profile.specs.View.{item_step, element_step, item_view, element_view, items_view, attrs_view}
 use Rattle.soap_profile.specs.declared.tree.Element.{Element as CodeElement}
-use Rattle.soap_profile.specs.declared.tree.Item.{Item as CodeItem, Item-F, map-Item, fold_out-Item, out-Item, roll-Item, roll-out-Item}
+use Rattle.soap_profile.specs.declared.tree.Item.{Item as CodeItem, Item-F, map-Item, fold_out-Item, out-Item}
+use Rattle.soap_profile.specs.declared.tree.Item.{roll-Item, roll-out-Item}
 use Rattle.soap_profile.specs.declared.tree.Item.TheOpen
 use Rattle.soap_profile.specs.declared.tree.Item.TheVariants.{Attribute, rolls-Attribute}
 

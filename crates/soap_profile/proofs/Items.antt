@@ -1,14 +1,18 @@
 -- What items stand for, one behind the other.
 use Rattle.std.proofs.Common.{◌≡◌, ℕ, List, [], ◌∷◌, ◌++◌, map, refl, sym, ap, ◌∙◌}
 use Rattle.std.proofs.lemmas.List.{map-append}
-use Rattle.soap_profile.specs.Items.{Item, a_declaration, an_attribute, a_text, a_child, decls_among, attrs_among, parts_among, stripped_items}
+use Rattle.soap_profile.specs.Items.{Item, a_declaration, an_attribute, a_text, a_child, decls_among, attrs_among}
+use Rattle.soap_profile.specs.Items.{parts_among, stripped_items}
 use Rattle.soap_profile.specs.Steps.{join}
-use Rattle.soap_profile.specs.Tree.{Attr, Binding, Element, element, Parts, none, text, child, without_declarations, parts_without}
-use Rattle.soap_profile.specs.View.{item_step, element_step, item_view, element_view, items_view, decls_view, attrs_view, parts_view}
+use Rattle.soap_profile.specs.Tree.{Attr, Binding, Element, element, Parts, none, text, child, without_declarations}
+use Rattle.soap_profile.specs.Tree.{parts_without}
+use Rattle.soap_profile.specs.View.{item_step, element_step, item_view, element_view, items_view, decls_view}
+use Rattle.soap_profile.specs.View.{attrs_view, parts_view}
 use Rattle.soap_profile.specs.declared.tree.Element.{Element as CodeElement, fold_out-Element}
 use Rattle.soap_profile.specs.declared.tree.Item.{Item as CodeItem, fold-roll-Item}
 use Rattle.soap_profile.specs.declared.tree.Item.TheOpen
-use Rattle.soap_profile.specs.declared.tree.Item.TheVariants.{Declaration, Attribute, Text, Child, rolls-Declaration, rolls-Attribute, rolls-Text, rolls-Child}
+use Rattle.soap_profile.specs.declared.tree.Item.TheVariants.{Declaration, Attribute, Text, Child, rolls-Declaration}
+use Rattle.soap_profile.specs.declared.tree.Item.TheVariants.{rolls-Attribute, rolls-Text, rolls-Child}
 
 -- ---- one item
 

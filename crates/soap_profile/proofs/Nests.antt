@@ -5,7 +5,8 @@ use Rattle.soap_document.specs.Tree as written
 use Rattle.soap_document.specs.declared.attribute.WrittenAttribute.{WrittenAttribute as Attribute}
 use Rattle.soap_profile.specs.Document.{place_of}
 use Rattle.soap_profile.specs.Namespaces.{Resolved, tag_of, resolve, resolve_parts, joined}
-use Rattle.soap_profile.specs.Opened.{Opened, Nest, Root, no_tag, last_place, inner_place, opened, within, within_all, nest, rooted}
+use Rattle.soap_profile.specs.Opened.{Opened, Nest, Root, no_tag, last_place, inner_place, opened, within, within_all}
+use Rattle.soap_profile.specs.Opened.{nest, rooted}
 use Rattle.soap_profile.specs.Steps.{join}
 use Rattle.soap_profile.specs.Tree.{Binding, Element, element, Parts, none, text, child}
 use Rattle.soap_profile.specs.declared.place.Place.{Place}

@@ -1,5 +1,6 @@
 -- What makes a payload.
-use Rattle.std.proofs.Common.{◌≡◌, ◌↔◌, ℕ, ◌+◌, nat_le, nat_eq, List, [], Bool, true, false, ◌&&◌, IsTrue, Option, Some, None, option_map, length, codes, refl, sym, ap, subst, ◌∙◌}
+use Rattle.std.proofs.Common.{◌≡◌, ◌↔◌, ℕ, ◌+◌, nat_le, nat_eq, List, [], Bool, true, false, ◌&&◌, IsTrue, Option}
+use Rattle.std.proofs.Common.{Some, None, option_map, length, codes, refl, sym, ap, subst, ◌∙◌}
 use Rattle.std.proofs.lemmas.Bool.{and_parts, and_from, leb-true, le-leb, eqb-true, eq-eqb}
 use Rattle.soap_document.specs.Grammar.{IsDocument}
 use Rattle.soap_document.specs.Inside.{IsInside, around, root_around}

@@ -1,12 +1,14 @@
 -- What a resolver stands for, by its open elements.
-use Rattle.std.proofs.Common.{◌≡◌, ◌≢◌, ℕ, List, [], ◌∷◌, ◌++◌, true, false, Option, Some, None, IfSome, option_map, map, reverse, nat_eq, length, refl, sym, ap, subst, ◌∙◌, arith}
+use Rattle.std.proofs.Common.{◌≡◌, ◌≢◌, ℕ, List, [], ◌∷◌, ◌++◌, true, false, Option, Some, None, IfSome, option_map}
+use Rattle.std.proofs.Common.{map, reverse, nat_eq, length, refl, sym, ap, subst, ◌∙◌, arith}
 use Rattle.std.proofs.lemmas.Bool.{eqb-true}
 use Rattle.std.proofs.lemmas.List.{append-nil, map-append, reverse-append}
 use Rattle.std.specs.Option.{option_to_list}
 use Rattle.soap_document.specs.Machine.{Frame, with_parts}
 use Rattle.soap_document.specs.Tree as written
 use Rattle.soap_profile.specs.Document.{place_of}
-use Rattle.soap_profile.specs.Items.{Item, a_declaration, an_attribute, a_text, a_child, decls_among, attrs_among, parts_among}
+use Rattle.soap_profile.specs.Items.{Item, a_declaration, an_attribute, a_text, a_child, decls_among, attrs_among}
+use Rattle.soap_profile.specs.Items.{parts_among}
 use Rattle.soap_profile.specs.Namespaces.{Resolved, resolve_parts}
 use Rattle.soap_profile.specs.Opened as abstract
 use Rattle.soap_profile.specs.Resolving.{Stands, sound, broken, opened_view, nest_view}
@@ -21,8 +23,10 @@ use Rattle.soap_profile.specs.declared.scope.Scope.{Scope}
 use Rattle.soap_profile.specs.declared.tree.Element.{Element as CodeElement}
 use Rattle.soap_profile.specs.declared.tree.Item.{Item as CodeItem, Item-F, roll-Item, out-Item, roll-out-Item}
 use Rattle.soap_profile.specs.declared.tree.Item.TheOpen
-use Rattle.soap_profile.specs.declared.tree.Item.TheVariants.{Text, Child, rolls-Declaration, rolls-Attribute, rolls-Text, rolls-Child}
-use Rattle.soap_profile.proofs.Items.{item_declaration, item_attribute, item_text, item_child, element_is, items_push, decls-append, attrs-append, parts-append}
+use Rattle.soap_profile.specs.declared.tree.Item.TheVariants.{Text, Child, rolls-Declaration, rolls-Attribute}
+use Rattle.soap_profile.specs.declared.tree.Item.TheVariants.{rolls-Text, rolls-Child}
+use Rattle.soap_profile.proofs.Items.{item_declaration, item_attribute, item_text, item_child, element_is, items_push}
+use Rattle.soap_profile.proofs.Items.{decls-append, attrs-append, parts-append}
 use Rattle.soap_profile.proofs.Nests.{nest_broken, with_child, with_closed, tree_of, alone, alone-text, alone-child}
 
 -- it has the open elements

@@ -1,5 +1,7 @@
 -- The stacks of spaces after a change at one prefix, and the bindings that they then have.
-use Rattle.std.proofs.Common.{◌≡◌, ◌≢◌, ℕ, ◌+◌, ◌-◌, ◌<◌, ◌≤◌, suc, List, [], ◌∷◌, ◌++◌, Bool, true, false, cond, IsTrue, Option, Some, IsSome, length, take, drop, get_or, refl, sym, ap, subst, ◌∙◌, arith, length-append, drop-cons, if◌then◌else◌, slice_get, Bor, MutBor}
+use Rattle.std.proofs.Common.{◌≡◌, ◌≢◌, ℕ, ◌+◌, ◌-◌, ◌<◌, ◌≤◌, suc, List, [], ◌∷◌, ◌++◌, Bool, true, false, cond}
+use Rattle.std.proofs.Common.{IsTrue, Option, Some, IsSome, length, take, drop, get_or, refl, sym, ap, subst, ◌∙◌}
+use Rattle.std.proofs.Common.{arith, length-append, drop-cons, if◌then◌else◌, slice_get, Bor, MutBor}
 use Rattle.std.proofs.Math.Numerals.{add-one}
 use Rattle.std.proofs.Math.Seq.{take-append_seam, get_or-append_seam}
 use Rattle.std.proofs.lemmas.List.{append_assoc, drop_all}

@@ -1,10 +1,14 @@
 -- A start tag, and the names in it.
-use Rattle.std.proofs.Common.{◌≡◌, ℕ, List, [], ◌++◌, Bool, true, false, if◌then◌else◌, Option, Some, None, Result, Ok, Err, IfOk, OnOk, IfSome, map, refl, ◌∷◌, sym, ap, subst, option_map, ◌∙◌}
+use Rattle.std.proofs.Common.{◌≡◌, ℕ, List, [], ◌++◌, Bool, true, false, if◌then◌else◌, Option, Some, None, Result}
+use Rattle.std.proofs.Common.{Ok, Err, IfOk, OnOk, IfSome, map, refl, ◌∷◌, sym, ap, subst, option_map, ◌∙◌}
 use Rattle.std.proofs.lemmas.List.{append-nil}
 use Rattle.soap_document.specs.declared.attribute.WrittenAttribute.{WrittenAttribute}
-use Rattle.soap_profile.proofs.Items.{item_attribute, items_push, decls-append, attrs-append, parts-append, decls-declarations, attrs-declarations, parts-declarations, decls-attributes, attrs-attributes, parts-attributes}
+use Rattle.soap_profile.proofs.Items.{item_attribute, items_push, decls-append, attrs-append, parts-append}
+use Rattle.soap_profile.proofs.Items.{decls-declarations, attrs-declarations, parts-declarations, decls-attributes}
+use Rattle.soap_profile.proofs.Items.{attrs-attributes, parts-attributes}
 use Rattle.soap_profile.specs.Items.{Item, a_declaration, an_attribute, decls_among, attrs_among, parts_among}
-use Rattle.soap_profile.specs.Namespaces.{Resolved, split, named, declarations, element_name, resolved_with, tag_of, expanded, are_distinct, are_distinct_names}
+use Rattle.soap_profile.specs.Namespaces.{Resolved, split, named, declarations, element_name, resolved_with, tag_of}
+use Rattle.soap_profile.specs.Namespaces.{expanded, are_distinct, are_distinct_names}
 use Rattle.soap_profile.specs.Opened.{start_tag}
 use Rattle.soap_profile.specs.Scope.{InForce}
 use Rattle.soap_profile.specs.Tree.{Attr, Binding, element, Name, none}

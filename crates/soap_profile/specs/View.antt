@@ -1,7 +1,8 @@
 -- The tree that an element stands for.
 use Rattle.std.specs.Prelude.{◌≡◌, List, map, true}
 use Rattle.std.specs.List.{list_all}
-use Rattle.soap_profile.specs.Items.{Item, a_declaration, an_attribute, a_text, a_child, decls_among, attrs_among, parts_among, is_part}
+use Rattle.soap_profile.specs.Items.{Item, a_declaration, an_attribute, a_text, a_child, decls_among, attrs_among}
+use Rattle.soap_profile.specs.Items.{parts_among, is_part}
 use Rattle.soap_profile.specs.Namespaces.{Resolved}
 use Rattle.soap_profile.specs.Tree.{Attr, Binding, Element, element, Parts}
 use Rattle.soap_profile.specs.declared.tree.Element.{Element as CodeElement, Element-F, fold-Element}

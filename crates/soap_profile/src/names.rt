@@ -1,21 +1,22 @@
 //! Names, declarations and attributes of a start tag.
-ghost use Rattle.std.specs.Prelude.{◌≡◌, ℕ, List, [], ◌∷◌, ◌++◌, if◌then◌else◌, IfOk, OnOk, Some, None, map, option_map};
+ghost use Rattle.std.specs.Prelude.{◌≡◌, ℕ, List, [], ◌∷◌, ◌++◌, if◌then◌else◌, IfOk, OnOk, Some, None, map};
+ghost use Rattle.std.specs.Prelude.{option_map};
 ghost use Rattle.soap_profile.specs.Items.{a_declaration, an_attribute};
 ghost use Rattle.soap_profile.specs.Namespaces.{
-  split as split_of,
-  declared_prefix as declared_by,
-  may_bind as binding_test,
-  declarations as declarations_of,
-  prefix_space as prefix_space_of,
-  element_space as element_space_of,
-  attribute_space as attribute_space_of,
-  element_name as element_name_of,
-  expanded as expanded_by,
-  attribute_name as attribute_name_of,
-  are_distinct as distinct_test,
-  are_distinct_names as distinct_names_test,
-  is_new as new_test,
-  is_new_name as new_name_test,
+  split,
+  declared_prefix,
+  may_bind,
+  declarations,
+  prefix_space,
+  element_space,
+  attribute_space,
+  element_name,
+  expanded,
+  attribute_name,
+  are_distinct,
+  are_distinct_names,
+  is_new,
+  is_new_name,
 };
 ghost use Rattle.soap_profile.specs.Scope.{InForce, IsStacked};
 ghost use Rattle.soap_profile.specs.Steps.{Declares, Expands};
@@ -40,7 +41,7 @@ const XMLNS_SPACE: &[u8] = b"http://www.w3.org/2000/xmlns/";
 
 // The prefix, empty where there is none, and the local name.
 fn split(name: &[u8]) -> (&[u8], &[u8])
-    ensures { (result.0.now, result.1.now) ≡ split_of name.now }
+    ensures { (result.0.now, result.1.now) ≡ split name.now }
 {
     match cut(b':', name) {
         Some(parts) => parts,
@@ -50,7 +51,7 @@ fn split(name: &[u8]) -> (&[u8], &[u8])
 
 // The prefix that an attribute of this name declares.
 fn declared_prefix(name: &[u8]) -> Option<&[u8]>
-    ensures { option_map (λ x. x.now) result ≡ declared_by name.now }
+    ensures { option_map (λ x. x.now) result ≡ declared_prefix name.now }
 {
     // Most names are no declarations, and their first letter says so.
     let [b'x', ..] = name else {
@@ -68,7 +69,7 @@ fn declared_prefix(name: &[u8]) -> Option<&[u8]>
 }
 
 fn may_bind(prefix: &[u8], space: &[u8]) -> bool
-    ensures { result ≡ binding_test prefix.now space.now }
+    ensures { result ≡ may_bind prefix.now space.now }
 {
     if prefix == b"xml".as_slice() {
         return space == XML_SPACE;
@@ -85,7 +86,7 @@ pub(crate) fn declarations(
     items: &mut Vec<Item>,
 ) -> Result<bool, Memory>
     ensures { IfOk result (λ taken.
-        option_map (λ decls. items_view items.old.items ++ map a_declaration decls) (declarations_of attributes.now)
+        option_map (λ decls. items_view items.old.items ++ map a_declaration decls) (declarations attributes.now)
         ≡ (if taken then Some (items_view items.new.items) else None)) }
 {
     for attribute in attributes {
@@ -120,7 +121,7 @@ fn declare(
 
 fn prefix_space<'a>(prefix: &[u8], scope: &'a Scope) -> Option<&'a Shared>
     ensures { (bindings : List Bound) → IsStacked scope.now.stacks bindings
-        → option_map (λ x. x.now) result ≡ prefix_space_of prefix.now bindings }
+        → option_map (λ x. x.now) result ≡ prefix_space prefix.now bindings }
 {
     if prefix == b"xml".as_slice() {
         Some(scope.xml())
@@ -141,7 +142,7 @@ fn shared(space: Option<&Shared>) -> Result<Option<Shared>, Memory>
 
 fn element_space(prefix: &[u8], scope: &Scope) -> Result<Option<Shared>, Memory>
     ensures { (bindings : List Bound) → IsStacked scope.now.stacks bindings
-        → IfOk result (λ found. found ≡ element_space_of prefix.now bindings) }
+        → IfOk result (λ found. found ≡ element_space prefix.now bindings) }
 {
     if !prefix.is_empty() {
         return shared(prefix_space(prefix, scope));
@@ -154,7 +155,7 @@ fn element_space(prefix: &[u8], scope: &Scope) -> Result<Option<Shared>, Memory>
 
 fn attribute_space(prefix: &[u8], scope: &Scope) -> Result<Option<Shared>, Memory>
     ensures { (bindings : List Bound) → IsStacked scope.now.stacks bindings
-        → IfOk result (λ found. found ≡ attribute_space_of prefix.now bindings) }
+        → IfOk result (λ found. found ≡ attribute_space prefix.now bindings) }
 {
     if prefix.is_empty() {
         return Ok(Some(scope.none().share()?));
@@ -169,7 +170,7 @@ pub(crate) fn element_name(
     scope: &mut Scope,
 ) -> Result<Option<Name>, Memory>
     ensures name { (bindings : List Bound) → InForce scope.old bindings
-        → IfOk result (λ found. found ≡ element_name_of bindings written.now) }
+        → IfOk result (λ found. found ≡ element_name bindings written.now) }
     ensures same { (bindings : List Bound) → InForce scope.old bindings → OnOk result (InForce scope.new bindings) }
 {
     if let Some(name) = scope.elements.find(written) {
@@ -187,7 +188,7 @@ pub(crate) fn element_name(
 
 fn attribute_name(alloc: Global, written: &[u8], scope: &mut Scope) -> Result<Option<Name>, Memory>
     ensures name { (bindings : List Bound) → InForce scope.old bindings
-        → IfOk result (λ found. found ≡ attribute_name_of bindings written.now) }
+        → IfOk result (λ found. found ≡ attribute_name bindings written.now) }
     ensures same { (bindings : List Bound) → InForce scope.old bindings → OnOk result (InForce scope.new bindings) }
 {
     if let Some(name) = scope.attributes.find(written) {
@@ -214,7 +215,7 @@ pub(crate) fn expanded(
 ) -> Result<bool, Memory>
     ensures attrs { (bindings : List Bound) → InForce scope.old bindings → IfOk result (λ taken.
         option_map (λ attrs. items_view items.old.items ++ map an_attribute attrs)
-        (expanded_by bindings attributes.now) ≡ (if taken then Some (items_view items.new.items) else None)) }
+        (expanded bindings attributes.now) ≡ (if taken then Some (items_view items.new.items) else None)) }
     ensures decls { OnOk result (decls_view items.new.items ≡ decls_view items.old.items) }
     ensures same { (bindings : List Bound) → InForce scope.old bindings → OnOk result (InForce scope.new bindings) }
 {
@@ -251,7 +252,7 @@ fn expand(
 
 /// No two attributes have the same written name.
 pub(crate) fn are_distinct(alloc: Global, attributes: &[WrittenAttribute]) -> Result<bool, Memory>
-    ensures { IfOk result (λ answer. answer ≡ distinct_test attributes.now) }
+    ensures { IfOk result (λ answer. answer ≡ are_distinct attributes.now) }
 {
     if attributes.len() < 2 {
         return Ok(true);
@@ -268,7 +269,7 @@ pub(crate) fn are_distinct(alloc: Global, attributes: &[WrittenAttribute]) -> Re
 
 // The same, each compared with each behind it.
 fn few_are_distinct(attributes: &[WrittenAttribute]) -> bool
-    ensures { result ≡ distinct_test attributes.now }
+    ensures { result ≡ are_distinct attributes.now }
 {
     let mut rest = attributes;
     while let [first, others @ ..] = rest {
@@ -281,7 +282,7 @@ fn few_are_distinct(attributes: &[WrittenAttribute]) -> bool
 }
 
 fn is_new(name: &[u8], attributes: &[WrittenAttribute]) -> bool
-    ensures { result ≡ new_test name.now attributes.now }
+    ensures { result ≡ is_new name.now attributes.now }
 {
     attributes
         .iter()
@@ -290,7 +291,7 @@ fn is_new(name: &[u8], attributes: &[WrittenAttribute]) -> bool
 
 /// No two attributes among these have the same expanded name.
 pub(crate) fn are_distinct_names(alloc: Global, items: &[Item]) -> Result<bool, Memory>
-    ensures { IfOk result (λ answer. answer ≡ distinct_names_test (attrs_view items.now)) }
+    ensures { IfOk result (λ answer. answer ≡ are_distinct_names (attrs_view items.now)) }
 {
     if items.len() < 2 {
         return Ok(true);
@@ -309,7 +310,7 @@ pub(crate) fn are_distinct_names(alloc: Global, items: &[Item]) -> Result<bool, 
 
 // The same, each compared with each behind it.
 fn few_are_distinct_names(items: &[Item]) -> bool
-    ensures { result ≡ distinct_names_test (attrs_view items.now) }
+    ensures { result ≡ are_distinct_names (attrs_view items.now) }
 {
     let mut rest = items;
     while let [first, others @ ..] = rest {
@@ -324,14 +325,14 @@ fn few_are_distinct_names(items: &[Item]) -> bool
 }
 
 fn is_new_name(name: &Name, items: &[Item]) -> bool
-    ensures { result ≡ new_name_test name.now (attrs_view items.now) }
+    ensures { result ≡ is_new_name name.now (attrs_view items.now) }
 {
     items.iter().all(|item| is_other(name, item))
 }
 
 // It is no attribute of this name.
 fn is_other(name: &Name, item: &Item) -> bool
-    ensures { result ≡ new_name_test name.now (attrs_view (item.now ∷ [])) }
+    ensures { result ≡ is_new_name name.now (attrs_view (item.now ∷ [])) }
 {
     match item {
         Item::Attribute(attr) => {

@@ -1,6 +1,6 @@
 //! The parts of content in order, which contracts see as they are in a tree.
 ghost use Rattle.std.specs.Prelude.{◌≡◌, ◌∷◌, [], ◌↔◌, length, option_map, slice_get, IsTrue, OnOk, OnErr};
-ghost use Rattle.soap_profile.specs.Items.{is_part as part_test, listed};
+ghost use Rattle.soap_profile.specs.Items.{is_part, listed};
 ghost use Rattle.soap_profile.specs.Steps.{join};
 ghost use Rattle.soap_profile.specs.Tree.{none};
 ghost use Rattle.soap_profile.specs.View.{item_view, items_view, parts_view};
@@ -70,7 +70,7 @@ impl Parts {
 
     /// Puts a text or an element at the end.
     pub fn push(&mut self, part: Item) -> Result<(), Memory>
-        requires { IsTrue (part_test (item_view part)) }
+        requires { IsTrue (is_part (item_view part)) }
         ensures ok { OnOk result (self.new ≡ join self.old (parts_view (part ∷ []))) }
         ensures err { OnErr result (self.new ≡ self.old) }
     {
@@ -81,7 +81,7 @@ impl Parts {
 
 /// It is a text or an element, and may be pushed.
 pub fn is_part(item: &Item) -> bool
-    ensures { result ≡ part_test (item_view item.now) }
+    ensures { result ≡ is_part (item_view item.now) }
 {
     match item {
         Item::Declaration(_) | Item::Attribute(_) => false,

@@ -1,6 +1,6 @@
 //! What a message may carry.
 ghost use Rattle.std.specs.Prelude.{◌≡◌, [], ◌∷◌, ◌↔◌, ◌&&◌, IsTrue, IfOk, nat_le};
-ghost use Rattle.soap_profile.specs.Payload.{depth, is_white_outside as outside_test, IsClosedContent};
+ghost use Rattle.soap_profile.specs.Payload.{depth, is_white_outside, IsClosedContent};
 ghost use Rattle.soap_profile.specs.View.{parts_view};
 
 use crate::place::Place;
@@ -42,7 +42,7 @@ pub fn check_payload(alloc: Global, bytes: &[u8]) -> Result<bool, Memory>
 
 fn is_payload(items: &[Item]) -> bool
     ensures { result ≡ (nat_le (depth (parts_view items.now)) 90
-        && outside_test (parts_view items.now)) }
+        && is_white_outside (parts_view items.now)) }
 {
     is_within(items, MAX_PAYLOAD_DEPTH) && is_white_outside(items)
 }
@@ -76,7 +76,7 @@ fn is_item_within(item: &Item, levels: usize) -> bool
 }
 
 fn is_white_outside(items: &[Item]) -> bool
-    ensures { result ≡ outside_test (parts_view items.now) }
+    ensures { result ≡ is_white_outside (parts_view items.now) }
 {
     for item in items {
         if !is_item_white(item) {
@@ -87,7 +87,7 @@ fn is_white_outside(items: &[Item]) -> bool
 }
 
 fn is_item_white(item: &Item) -> bool
-    ensures { result ≡ outside_test (parts_view (item.now ∷ [])) }
+    ensures { result ≡ is_white_outside (parts_view (item.now ∷ [])) }
 {
     match item {
         Item::Text(text) => is_white(text.as_slice()),

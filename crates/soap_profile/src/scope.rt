@@ -1,6 +1,6 @@
 //! What the names of a document are resolved by.
 ghost use Rattle.std.specs.Prelude.{◌≡◌, [], ◌∷◌, ◌++◌, IsTrue, ◌↔◌, ◌≢◌, List, IfOk, OnOk, option_map};
-ghost use Rattle.soap_profile.specs.Namespaces.{bound as bound_by, element_name, attribute_name, xml_space};
+ghost use Rattle.soap_profile.specs.Namespaces.{bound, element_name, attribute_name, xml_space};
 ghost use Rattle.soap_profile.specs.Pool.{Knows};
 ghost use Rattle.soap_profile.specs.Scope.{InForce, IsStacked};
 ghost use Rattle.soap_profile.specs.Tree.{Binding as Bound};
@@ -54,7 +54,7 @@ impl Scope {
     /// What a prefix is bound to.
     pub(crate) fn bound(&self, prefix: &[u8]) -> Option<&Shared>
         ensures { (bindings : List Bound) → IsStacked self.now.stacks bindings
-            → option_map (λ x. x.now) result ≡ bound_by prefix.now bindings }
+            → option_map (λ x. x.now) result ≡ bound prefix.now bindings }
     {
         top(&self.stacks, prefix)
     }

@@ -1,7 +1,8 @@
 //! Start tags with their names resolved.
 ghost use Rattle.std.specs.Prelude.{◌≡◌, ◌++◌, [], List, IfOk, OnOk, IfSome, map, option_map};
 ghost use Rattle.soap_profile.specs.Items.{a_declaration};
-ghost use Rattle.soap_profile.specs.Namespaces.{tag_of, resolved_with, element_name as element_name_of, expanded as expanded_by};
+ghost use Rattle.soap_profile.specs.Namespaces.{tag_of, resolved_with, element_name};
+ghost use Rattle.soap_profile.specs.Namespaces.{expanded};
 ghost use Rattle.soap_profile.specs.Opened.{start_tag};
 ghost use Rattle.soap_profile.specs.Scope.{InForce};
 ghost use Rattle.soap_profile.specs.Tree.{Binding as Bound};
@@ -91,8 +92,8 @@ fn tag_within(
 ) -> Result<Option<Element>, Memory>
     ensures tag { (bindings decls : List Bound) → InForce scope.old bindings
         → items_view items.items ≡ map a_declaration decls → IfOk result (λ found. option_map element_view found
-        ≡ option_map start_tag (resolved_with decls (element_name_of bindings name.now)
-        (expanded_by bindings attributes.now))) }
+        ≡ option_map start_tag (resolved_with decls (element_name bindings name.now)
+        (expanded bindings attributes.now))) }
     ensures decls { (decls : List Bound) → items_view items.items ≡ map a_declaration decls
         → IfOk result (λ found. IfSome found (λ e. decls_view e.items.items ≡ decls)) }
     ensures same { (bindings : List Bound) → InForce scope.old bindings → OnOk result (InForce scope.new bindings) }

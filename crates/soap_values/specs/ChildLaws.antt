@@ -3,7 +3,8 @@ use Rattle.std.proofs.Common.{◌≡◌, ◌++◌, List, [], ◌∷◌, Bool, tr
 use Rattle.soap_profile.specs.Items.{Item, a_declaration, an_attribute, a_text, a_child, parts_among}
 use Rattle.soap_profile.specs.Tree.{Element, element, children_of}
 use Rattle.soap_profile.specs.declared.name.Expanded.{Expanded as Name}
-use Rattle.soap_profile.specs.View.{element_view, element_step, item_step, item_view, items_view, decls_view, attrs_view, parts_view}
+use Rattle.soap_profile.specs.View.{element_view, element_step, item_step, item_view, items_view, decls_view}
+use Rattle.soap_profile.specs.View.{attrs_view, parts_view}
 use Rattle.soap_profile.specs.declared.tree.Element.{Element as CodeElement, fold_out-Element}
 use Rattle.soap_profile.specs.declared.tree.Item.{Item as CodeItem}
 use Rattle.soap_values.specs.Children.{children_named, has_name}

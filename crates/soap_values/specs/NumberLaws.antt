@@ -1,5 +1,7 @@
 -- Laws: a number that is written in decimal is read back.
-use Rattle.std.proofs.Common.{◌≡◌, ℕ, ◌-◌, ◌^◌, ◌<◌, Bool, true, false, not, ◌&&◌, if◌then◌else◌, List, [], ◌∷◌, length, get_or, drop, refl, ap, ap₂, ◌∙◌, arith, Option, Some, None, decimal, nat_eq, cond}
+use Rattle.std.proofs.Common.{◌≡◌, ℕ, ◌-◌, ◌^◌, ◌<◌, Bool, true, false, not, ◌&&◌, if◌then◌else◌, List, [], ◌∷◌}
+use Rattle.std.proofs.Common.{length, get_or, drop, refl, ap, ap₂, ◌∙◌, arith, Option, Some, None, decimal, nat_eq}
+use Rattle.std.proofs.Common.{cond}
 use Rattle.std.specs.Prelude.{slice_index}
 use Rattle.std.specs.Str.{all_ascii_digits}
 use Rattle.std.specs.Str.Parse.{digits_value, without_leading_plus, AllDigits}

@@ -1,5 +1,6 @@
 -- No two attributes of a written tag have the same written name.
-use Rattle.std.proofs.Common.{◌≡◌, ◌≢◌, ℕ, ◌+◌, ◌<◌, ◌≤◌, ◌^◌, List, [], ◌∷◌, ◌++◌, Bool, true, false, not, codes, length, refl, sym, ap, ◌∙◌, arith}
+use Rattle.std.proofs.Common.{◌≡◌, ◌≢◌, ℕ, ◌+◌, ◌<◌, ◌≤◌, ◌^◌, List, [], ◌∷◌, ◌++◌, Bool, true, false, not, codes}
+use Rattle.std.proofs.Common.{length, refl, sym, ap, ◌∙◌, arith}
 use Rattle.std.specs.List.{AllByRecursion}
 use Rattle.std.specs.Str.{bytes_eq}
 use Rattle.std.proofs.lemmas.Bool.{and_parts, and_from, true≢false}
@@ -12,7 +13,8 @@ use Rattle.rm_base.specs.declared.message.Binding.{Binding}
 use Rattle.soap_writer.specs.ElementText.{attribute_prefix}
 use Rattle.soap_writer.specs.Writable.{IsAttrWritable, IsTagWritable}
 use Rattle.soap_writer.proofs.Prefixes.{attribute_prefix-injective}
-use Rattle.soap_writer.proofs.Raws.{Kind, bare, of_xml, own, kind, HasKind, kind_is, spelled, prefix_in, declared, raws, raw_mark, raw_tag}
+use Rattle.soap_writer.proofs.Raws.{Kind, bare, of_xml, own, kind, HasKind, kind_is, spelled, prefix_in, declared}
+use Rattle.soap_writer.proofs.Raws.{raws, raw_mark, raw_tag}
 use Rattle.soap_writer.proofs.Expands.{IsOwnPrefix, attribute_prefix-IsOwnPrefix, apart, spelled_split}
 use Rattle.soap_lex.specs.Facts.{equal}
 

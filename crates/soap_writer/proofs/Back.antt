@@ -1,27 +1,33 @@
 -- A written element is read back exactly.
-use Rattle.std.proofs.Common.{◌≡◌, ◌≢◌, ℕ, suc, ◌+◌, ◌<◌, ◌≤◌, List, [], ◌∷◌, ◌++◌, Bool, true, false, if◌then◌else◌, Option, Some, None, option_map, codes, length, refl, sym, ap, ap₂, subst, ◌∙◌, arith, map}
+use Rattle.std.proofs.Common.{◌≡◌, ◌≢◌, ℕ, suc, ◌+◌, ◌<◌, ◌≤◌, List, [], ◌∷◌, ◌++◌, Bool, true, false, if◌then◌else◌}
+use Rattle.std.proofs.Common.{Option, Some, None, option_map, codes, length, refl, sym, ap, ap₂, subst, ◌∙◌, arith}
+use Rattle.std.proofs.Common.{map}
 use Rattle.std.proofs.Math.Nat.{le-max_left, le-max_right}
 use Rattle.std.proofs.lemmas.Bool.{and_from}
 use Rattle.std.proofs.lemmas.List.{append-nil}
 use Rattle.std.specs.List.{AllByRecursion}
 use Rattle.soap_lex.specs.Characters.{IsChars}
 use Rattle.soap_lex.specs.Escapes.{escaped_text}
-use Rattle.soap_document.specs.Grammar.{IsQName, full, IsContent, last, more, start_tag, max_depth, IsDocument, document, unmarked, without, white}
+use Rattle.soap_document.specs.Grammar.{IsQName, full, IsContent, last, more, start_tag, max_depth, IsDocument}
+use Rattle.soap_document.specs.Grammar.{document, unmarked, without, white}
 use Rattle.soap_document.specs.Tree as written
 use Rattle.soap_profile.specs.Document.{Document}
 use Rattle.rm_base.specs.declared.message.Binding.{Binding}
-use Rattle.soap_profile.specs.Namespaces.{bound, declarations, resolve_parts, joined, Resolved, tag_of, declaring, resolved_with, are_distinct_names}
+use Rattle.soap_profile.specs.Namespaces.{bound, declarations, resolve_parts, joined, Resolved, tag_of, declaring}
+use Rattle.soap_profile.specs.Namespaces.{resolved_with, are_distinct_names}
 use Rattle.soap_profile.specs.Payload.{height, depth as depth_of_parts}
 use Rattle.soap_profile.specs.Tree.{Element, element, Parts, none, text, child, without_declarations, parts_without}
 use Rattle.soap_profile.specs.declared.name.Expanded.{Expanded as Name}
 use Rattle.soap_profile.specs.declared.tree.Attr.{Attr}
 use Rattle.soap_writer.specs.ElementText.{written_name, tag_text, element_text, parts_text}
-use Rattle.soap_writer.specs.ReadBack.{with_mark, MarkFits, MayStand, ReadsAs, ContentReadsAs, marks, declared_in, written_tree, written_parts, elements_text, content_of}
+use Rattle.soap_writer.specs.ReadBack.{with_mark, MarkFits, MayStand, ReadsAs, ContentReadsAs, marks, declared_in}
+use Rattle.soap_writer.specs.ReadBack.{written_tree, written_parts, elements_text, content_of}
 use Rattle.soap_writer.specs.Writable.{IsTagWritable, IsTextWritable, IsWritable, ArePartsWritable}
 use Rattle.soap_writer.proofs.Apart.{tag_distinct}
 use Rattle.soap_writer.proofs.Expands.{MarkBound, tag_declarations, tag_expanded, tag_named, tag_default}
 use Rattle.soap_writer.proofs.Prefixes.{n-IsName}
-use Rattle.soap_writer.proofs.Raws.{Known, kind, raw_tag, tag_bindings, tag_bindings_is, tag_attributes, written_name-spelled, spelled-IsQName}
+use Rattle.soap_writer.proofs.Raws.{Known, kind, raw_tag, tag_bindings, tag_bindings_is, tag_attributes}
+use Rattle.soap_writer.proofs.Raws.{written_name-spelled, spelled-IsQName}
 
 -- ---- the start tag
 

@@ -1,5 +1,6 @@
 -- What the attributes of a written tag declare, and their names expanded.
-use Rattle.std.proofs.Common.{◌≡◌, ◌≢◌, ℕ, ◌+◌, ◌<◌, ◌≤◌, ◌^◌, List, [], ◌∷◌, ◌++◌, Bool, true, false, Some, None, codes, length, refl, sym, ap, subst, ◌∙◌, arith, append_assoc}
+use Rattle.std.proofs.Common.{◌≡◌, ◌≢◌, ℕ, ◌+◌, ◌<◌, ◌≤◌, ◌^◌, List, [], ◌∷◌, ◌++◌, Bool, true, false, Some, None}
+use Rattle.std.proofs.Common.{codes, length, refl, sym, ap, subst, ◌∙◌, arith, append_assoc}
 use Rattle.std.specs.List.{AllByRecursion}
 use Rattle.std.specs.Str.{bytes_eq}
 use Rattle.std.proofs.lemmas.Bool.{true≢false}
@@ -8,7 +9,9 @@ use Rattle.soap_lex.specs.Characters.{IsName}
 use Rattle.soap_document.specs.declared.attribute.WrittenAttribute.{WrittenAttribute as Attribute}
 use Rattle.soap_document.specs.Tokens.{is_nil}
 use Rattle.soap_lex.specs.Facts.{differ, equal}
-use Rattle.soap_profile.specs.Namespaces.{xmlns_space, split, declared_prefix, may_bind, declarations, bound, named, or_none, attribute_space, element_space, attribute_name, element_name, expanded}
+use Rattle.soap_profile.specs.Namespaces.{xmlns_space, split, declared_prefix, may_bind, declarations, bound, named}
+use Rattle.soap_profile.specs.Namespaces.{or_none, attribute_space, element_space, attribute_name, element_name}
+use Rattle.soap_profile.specs.Namespaces.{expanded}
 use Rattle.soap_profile.specs.declared.name.Expanded.{Expanded as Name}
 use Rattle.soap_profile.specs.declared.tree.Attr.{Attr}
 use Rattle.rm_base.specs.declared.message.Binding.{Binding}
@@ -16,8 +19,10 @@ use Rattle.soap_writer.specs.Frame.{addressing_space}
 use Rattle.soap_writer.specs.ElementText.{attribute_prefix, written_name}
 use Rattle.soap_writer.specs.ReadBack.{marks}
 use Rattle.soap_writer.specs.Writable.{IsAttrWritable, IsTagWritable}
-use Rattle.soap_writer.proofs.Prefixes.{attribute_prefix-IsName, attribute_prefix-injective, n-IsName, split_name, split_prefixed}
-use Rattle.soap_writer.proofs.Raws.{Kind, bare, of_xml, own, kind, HasKind, kind_is, spelled, prefix_in, declared, binding, raws, bindings, raw_mark, raw_tag, tag_bindings, written_name-spelled}
+use Rattle.soap_writer.proofs.Prefixes.{attribute_prefix-IsName, attribute_prefix-injective, n-IsName, split_name}
+use Rattle.soap_writer.proofs.Prefixes.{split_prefixed}
+use Rattle.soap_writer.proofs.Raws.{Kind, bare, of_xml, own, kind, HasKind, kind_is, spelled, prefix_in, declared}
+use Rattle.soap_writer.proofs.Raws.{binding, raws, bindings, raw_mark, raw_tag, tag_bindings, written_name-spelled}
 
 -- a prefix that may be declared
 pub record IsOwnPrefix (prefix : List ℕ) : Type 0 where

@@ -1,5 +1,6 @@
 -- The attributes of a written tag, one after the other, and that they are attributes by the grammar.
-use Rattle.std.proofs.Common.{◌≡◌, ℕ, ◌+◌, ◌≤◌, ◌^◌, List, [], ◌∷◌, ◌++◌, Bool, true, false, ◌||◌, if◌then◌else◌, codes, length, refl, sym, ap, ap₂, subst, ◌∙◌, arith, append_assoc}
+use Rattle.std.proofs.Common.{◌≡◌, ℕ, ◌+◌, ◌≤◌, ◌^◌, List, [], ◌∷◌, ◌++◌, Bool, true, false, ◌||◌, if◌then◌else◌}
+use Rattle.std.proofs.Common.{codes, length, refl, sym, ap, ap₂, subst, ◌∙◌, arith, append_assoc}
 use Rattle.std.specs.List.{AllByRecursion}
 use Rattle.std.specs.Str.{bytes_eq}
 use Rattle.soap_lex.specs.Characters.{IsChars, IsName}
@@ -13,10 +14,12 @@ use Rattle.soap_profile.specs.Namespaces.{xml_space}
 use Rattle.soap_profile.specs.declared.name.Expanded.{Expanded as Name}
 use Rattle.soap_profile.specs.declared.tree.Attr.{Attr}
 use Rattle.rm_base.specs.declared.message.Binding.{Binding}
-use Rattle.soap_writer.specs.ElementText.{quoted, written_name, declaration, attribute_text, attribute_prefix, attributes_text, mark, tag_text}
+use Rattle.soap_writer.specs.ElementText.{quoted, written_name, declaration, attribute_text, attribute_prefix}
+use Rattle.soap_writer.specs.ElementText.{attributes_text, mark, tag_text}
 use Rattle.soap_writer.specs.ReadBack.{declared_by, declared_from, declared_in, IsAttributeWritten, written_attributes}
 use Rattle.soap_writer.specs.Writable.{IsAttrWritable, IsTagWritable}
-use Rattle.soap_writer.proofs.Prefixes.{attribute_prefix-IsName, xml-IsName, xmlns-IsName, n-IsName, a-IsName, mark-IsName, true-IsChars}
+use Rattle.soap_writer.proofs.Prefixes.{attribute_prefix-IsName, xml-IsName, xmlns-IsName, n-IsName, a-IsName}
+use Rattle.soap_writer.proofs.Prefixes.{mark-IsName, true-IsChars}
 use Rattle.soap_lex.specs.Facts.{same}
 
 -- ---- the namespace of a name: none, that of xml, or one that is declared

@@ -11,7 +11,8 @@ ghost use Rattle.soap_profile.specs.Document.{Document};
 ghost use Rattle.soap_profile.specs.Payload.{height};
 ghost use Rattle.soap_profile.specs.Tree.{Element, Parts, none, text, child, without_declarations};
 ghost use Rattle.soap_writer.specs.ElementText.{element_text};
-ghost use Rattle.soap_writer.specs.ReadBack.{ReadsAs, ContentReadsAs, MayStand, with_mark, written_tree, elements_text, content_of, IsAttributeWritten, written_attributes};
+ghost use Rattle.soap_writer.specs.ReadBack.{ReadsAs, ContentReadsAs, MayStand, with_mark, written_tree};
+ghost use Rattle.soap_writer.specs.ReadBack.{elements_text, content_of, IsAttributeWritten, written_attributes};
 ghost use Rattle.soap_writer.specs.Writable.{IsWritable, IsTextWritable};
 
 use soap_lex::laws::{text_is_read_back, value_is_read_back};

@@ -6,7 +6,8 @@ ghost use Rattle.soap_document.specs.Tokens.{is_nil};
 ghost use Rattle.soap_profile.specs.Namespaces.{xml_space};
 ghost use Rattle.soap_profile.specs.View.{attrs_view};
 ghost use Rattle.soap_lex.specs.Escapes.{escaped_text, escaped_value};
-ghost use Rattle.soap_writer.specs.ElementText.{quoted, written_name, declaration, attribute_text, attributes_text, mark, tag_text};
+ghost use Rattle.soap_writer.specs.ElementText.{quoted, written_name, declaration, attribute_text, attributes_text};
+ghost use Rattle.soap_writer.specs.ElementText.{mark, tag_text};
 ghost use Rattle.soap_writer.specs.Steps.{Grows, prefix_text};
 
 use itoa::Buffer;

@@ -8,7 +8,8 @@ use Rattle.soap_envelope.specs.Envelope.{name_in, IsSpaced}
 use Rattle.soap_envelope.specs.Steps.{Outlined}
 use Rattle.soap_envelope.proofs.Outlines.{no_outline_next, no_outline_here, outlined_body, outlined_header}
 use Rattle.soap_envelope.proofs.outline.outline.Goals as goal
-use Rattle.soap_envelope.proofs.outline.outline.Goals.{else-is_named-2-via-then-is_named-2+else-is_end, else-is_named-2-via-else-is_named-2}
+use Rattle.soap_envelope.proofs.outline.outline.Goals.{else-is_named-2-via-then-is_named-2+else-is_end}
+use Rattle.soap_envelope.proofs.outline.outline.Goals.{else-is_named-2-via-else-is_named-2}
 
 pub returns-in_default : goal.returns-in_default
 returns-in_default c =

@@ -6,7 +6,8 @@ use Rattle.soap_profile.specs.View.{element_view, parts_view}
 use Rattle.soap_envelope.specs.Envelope.{name_in, IsSpaced}
 use Rattle.soap_envelope.proofs.Outlines.{no_body_next, no_body_here}
 use Rattle.soap_envelope.proofs.outline.with_header.Goals as goal
-use Rattle.soap_envelope.proofs.outline.with_header.Goals.{else-is_named-via-then-is_named+else-is_end, else-is_named-via-else-is_named}
+use Rattle.soap_envelope.proofs.outline.with_header.Goals.{else-is_named-via-then-is_named+else-is_end}
+use Rattle.soap_envelope.proofs.outline.with_header.Goals.{else-is_named-via-else-is_named}
 
 pub returns-in_default : goal.returns-in_default
 returns-in_default c = record {

@@ -1,7 +1,8 @@
 use Rattle.std.proofs.Common.{map, sym, ap, ◌∙◌}
 use Rattle.soap_profile.specs.Keys.{keys_of, differ}
 use Rattle.soap_profile.specs.View.{attrs_view}
-use Rattle.soap_profile.proofs.Distinct.{same_answer, alone_name, name_key, keys_attribute, keys_other, are_distinct_names-keys, taken_all}
+use Rattle.soap_profile.proofs.Distinct.{same_answer, alone_name, name_key, keys_attribute, keys_other}
+use Rattle.soap_profile.proofs.Distinct.{are_distinct_names-keys, taken_all}
 use Rattle.soap_profile.proofs.names.are_distinct_names.Goals.{in-Attribute+in_ok-push, in_default}
 use Rattle.soap_profile.proofs.names.are_distinct_names.Goals as goal
 

@@ -23,8 +23,8 @@ returns-then-taken-eq0-clause-sees g c =
     let halted = text_ends s.words words bytes c.in-Ok.taken c.requires.some fed c.if-taken-eq0.true in
     record {
       state = counted (at_chars told byte);
-      sees = counts stands c.end_chars.new.self (at_chars told byte) s.at (sym (chars-at told byte))
-          (c.in_ok-end_chars.ensures.sees told (sees stands _ top below told h refl) halted.0);
+      sees = counts stands c.at_chars.new.self (at_chars told byte) s.at (sym (chars-at told byte))
+          (c.in_ok-at_chars.ensures.sees told (sees stands _ top below told h refl) halted.0);
       taken = taken_end s (at_chars told byte) words bytes c.in-Ok.taken c.requires.inside c.requires.some fed
           c.if-taken-eq0.true refl;
     })
@@ -36,17 +36,17 @@ returns-clause-sees g c =
     let words = text_state c.feed.new.self c.feed.new.out.items in
     seeing stands c.args.self.now (λ s. TakenBy stands s _ bytes c.in-Ok.taken) (λ top below h.
     let s = seen c.args.self.now.scan top below in
-    let new = seen c.end_text.new.self top below in
+    let new = seen c.at_text.new.self top below in
     record {
       state = new;
       sees = record { is = refl; holds = h };
       taken = taken_text s new words bytes c.in-Ok.taken c.requires.inside c.in-Ok.ensures.ok.0 c.if-taken-eq0.false
-          c.in-Ok.ensures.ok.1 (c.end_text.ensures top below);
+          c.in-Ok.ensures.ok.1 (c.at_text.ensures top below);
     })
 
 pub returns-clause-place : goal.returns-clause-place
 returns-clause-place g c = (
   omega (arith, c.if-taken-eq0.false),
   c.in-Ok.ensures.ok.0,
-  ap (λ s. s.at) (c.end_text.ensures nothing_open []) ∙ after_text-at _,
+  ap (λ s. s.at) (c.at_text.ensures nothing_open []) ∙ after_text-at _,
 )

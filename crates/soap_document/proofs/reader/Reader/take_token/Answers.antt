@@ -1,6 +1,7 @@
-use Rattle.std.proofs.Common.{◌+◌, ◌<◌, [], ℕ, length, get_or, Option, Some, refl, sym, ap, subst, ◌∙◌, arith, length-take}
+use Rattle.std.proofs.Common.{◌+◌, ◌<◌, [], ℕ, length, get_or, Option, Some, refl, sym, ap, subst, ◌∙◌, arith}
+use Rattle.std.proofs.Common.{length-take}
 use Rattle.memchr.specs.Find.{IsFirstByte}
-use Rattle.soap_document.specs.Machine.{nothing_open, counted, finish, stops}
+use Rattle.soap_document.specs.Machine.{nothing_open, counted, after_token, stops}
 use Rattle.soap_document.specs.Seen.{seen, mode_of, TakenBy}
 use Rattle.soap_document.proofs.Fed.{taken_all, taken_some}
 use Rattle.soap_document.proofs.Seeing.{seeing, sees}
@@ -17,16 +18,16 @@ returns-in_default-clause-sees g c =
           c.in_default.is c.requires.some (c.in_ok-keep.ensures top below);
     })
 
-pub end_token-requires-clause-text : goal.end_token-requires-clause-text
-end_token-requires-clause-text g c = λ e.
+pub at_token-requires-clause-text : goal.at_token-requires-clause-text
+at_token-requires-clause-text g c = λ e.
     c.requires.text (sym (ap (λ s. s.mode) (c.in_ok-keep-2.ensures nothing_open [])) ∙ e)
 
-pub end_token-requires-clause-value : goal.end_token-requires-clause-value
-end_token-requires-clause-value g c = λ e.
+pub at_token-requires-clause-value : goal.at_token-requires-clause-value
+at_token-requires-clause-value g c = λ e.
     c.requires.value (sym (ap (λ s. s.mode) (c.in_ok-keep-2.ensures nothing_open [])) ∙ e)
 
-pub end_token-requires-clause-fits : goal.end_token-requires-clause-fits
-end_token-requires-clause-fits g c =
+pub at_token-requires-clause-fits : goal.at_token-requires-clause-fits
+at_token-requires-clause-fits g c =
     let bytes = c.args.bytes.now in
     let place = ap (λ s. s.at) (c.in_ok-keep-2.ensures nothing_open []) in
     let first : IsFirstByte (stops (mode_of c.args.self.now.scan.mode)) bytes (Some c.in-Some.end) =
@@ -40,12 +41,12 @@ returns-clause-sees g c =
     let stands = g.H.Handler.stands in
     let bytes = c.args.bytes.now in
     let kept = record c.args.self.now { scan = c.keep-2.new.self } in
-    seeing stands c.args.self.now (λ s. TakenBy stands s c.end_token.new.self bytes (c.in-Some.end + 1))
+    seeing stands c.args.self.now (λ s. TakenBy stands s c.at_token.new.self bytes (c.in-Some.end + 1))
     (λ top below h.
     let s = seen kept.scan top below in
     record {
-      state = counted (finish s.mode s (get_or bytes c.in-Some.end 0));
-      sees = c.in_ok-end_token.ensures.sees s (sees stands kept top below s h refl);
+      state = counted (after_token s.mode s (get_or bytes c.in-Some.end 0));
+      sees = c.in_ok-at_token.ensures.sees s (sees stands kept top below s h refl);
       taken = taken_some (seen c.args.self.now.scan top below) s _ bytes c.first_stop.result c.in-Some.end
           c.first_stop.ensures c.in-Some.is (c.in_ok-keep-2.ensures top below) refl;
     })
@@ -64,5 +65,5 @@ returns-clause-place g c =
     let high : c.in-Some.end < length bytes = first.0.high in (
       omega arith,
       omega (arith, high),
-      omega (arith, place, high, length-take c.in-Some.end bytes, c.in_ok-end_token.ensures.place),
+      omega (arith, place, high, length-take c.in-Some.end bytes, c.in_ok-at_token.ensures.place),
     )

@@ -17,9 +17,9 @@ returns-then-taken-eq0-clause-taken c = λ top below.
 
 pub returns-clause-taken : goal.returns-clause-taken
 returns-clause-taken c = λ top below.
-    taken_value (seen c.args.self.now top below) (seen c.end_value.new.self top below)
+    taken_value (seen c.args.self.now top below) (seen c.at_value.new.self top below)
     (value_state c.feed.new.self c.feed.new.out.items) c.args.bytes.now c.in-Ok.taken c.requires.inside
-    c.in-Ok.ensures.ok.0 c.if-taken-eq0.false c.in-Ok.ensures.ok.1 (c.in_ok-end_value.ensures top below)
+    c.in-Ok.ensures.ok.0 c.if-taken-eq0.false c.in-Ok.ensures.ok.1 (c.in_ok-at_value.ensures top below)
 
 pub returns-then-taken-eq0-clause-place : goal.returns-then-taken-eq0-clause-place
 returns-then-taken-eq0-clause-place c =
@@ -30,5 +30,5 @@ pub returns-clause-place : goal.returns-clause-place
 returns-clause-place c = (
   omega (arith, c.if-taken-eq0.false),
   c.in-Ok.ensures.ok.0,
-  ap (λ s. s.at) (c.in_ok-end_value.ensures nothing_open []) ∙ after_value-at _,
+  ap (λ s. s.at) (c.in_ok-at_value.ensures nothing_open []) ∙ after_value-at _,
 )

@@ -33,5 +33,5 @@ returns-clause-ok c =
       omega arith,
       fed_some s bytes c.first_stop.result c.first_stop.ensures n c.in-Some.is
           (sym (c.halts.ensures text) ∙ c.if-halts.false)
-          ∙ ap (λ (t : TextState). (t, drop (n + 1) bytes)) (sym c.in_ok-end_token.ensures.ok),
+          ∙ ap (λ (t : TextState). (t, drop (n + 1) bytes)) (sym c.in_ok-at_token.ensures.ok),
     )

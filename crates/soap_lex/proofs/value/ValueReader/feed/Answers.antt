@@ -39,5 +39,5 @@ returns-clause-ok c =
     let high : n < length bytes = within (stops s.mode s.quote) bytes c.first_stop.result first n c.in-Some.is in (
       omega arith,
       fed_some s bytes c.first_stop.result first unended n c.in-Some.is
-          ∙ ap (λ (t : ValueState). (t, drop (n + 1) bytes)) (sym c.in_ok-end_token.ensures.ok),
+          ∙ ap (λ (t : ValueState). (t, drop (n + 1) bytes)) (sym c.in_ok-at_token.ensures.ok),
     )
