@@ -1,21 +1,26 @@
 -- Header blocks are read back as they were written.
-use Rattle.std.proofs.Common.{◌≡◌, ◌≢◌, ℕ, ◌+◌, ◌-◌, ◌^◌, ◌≤◌, ◌<◌, Bool, true, false, if◌then◌else◌, List, [], ◌∷◌, ◌++◌, refl, ap, ◌∙◌, arith, Option, Some, None, Ok, codes, decimal, nat_eq, nat_lt, map, is_some}
+use Rattle.std.proofs.Common.{◌≡◌, ◌≢◌, ℕ, ◌^◌, ◌≤◌, ◌<◌, Bool, true, false, if◌then◌else◌, List, [], ◌∷◌, ◌++◌}
+use Rattle.std.proofs.Common.{refl, ap, ◌∙◌, arith, Option, Some, None, Ok, codes, decimal, nat_eq, nat_lt, map}
+use Rattle.std.proofs.Common.{is_some}
 use Rattle.std.specs.List.{AllByRecursion}
 use Rattle.std.proofs.lemmas.List.{append-nil}
 use Rattle.std.proofs.lemmas.Bool.{le-ltb}
 use Rattle.std.proofs.lemmas.Bool.Decides.{nat_tests}
 use Rattle.rm_base.specs.Text.{IsText}
 use Rattle.soap_profile.specs.Tree.{Element, element, Parts, none, text, attrs_of, parts_of}
-use Rattle.soap_nodes.specs.Node.{Tag as NodeTag, expanded_name, Node, Nodes, nothing, more, each_node, node_tree, nodes_tree}
+use Rattle.soap_nodes.specs.Node.{Tag as NodeTag, expanded_name, Node, Nodes, nothing, more, each_node, node_tree}
+use Rattle.soap_nodes.specs.Node.{nodes_tree}
 use Rattle.soap_values.specs.Children.{name_in, text_among, value_among, children_named, has_name}
 use Rattle.soap_values.specs.Outcome.{optional, each}
 use Rattle.soap_values.specs.EachLaws.{each_again}
 use Rattle.soap_values.specs.NumberLaws.{number_back, decimal_number}
 use Rattle.soap_values.specs.TextLaws.{text_back}
 use Rattle.ack_ranges.specs.declared.range.Range.{Range}
-use Rattle.rm_elements.specs.Headers.{ident_of, identifier, number_of, message_number, numbered_in, bound_in, range_of, ack_of, ack_in, header_of}
+use Rattle.rm_elements.specs.Headers.{ident_of, identifier, number_of, message_number, numbered_in, bound_in}
+use Rattle.rm_elements.specs.Headers.{range_of, ack_of, ack_in, header_of}
 use Rattle.rm_elements.specs.Outcome.{rm}
-use Rattle.rm_elements.specs.Texts.{tag_of, identifier_node, sequence_node, range_node, nack_node, final_nodes, kind_nodes, header_node}
+use Rattle.rm_elements.specs.Texts.{tag_of, identifier_node, sequence_node, range_node, nack_node, final_nodes}
+use Rattle.rm_elements.specs.Texts.{kind_nodes, header_node}
 use Rattle.rm_elements.specs.Writable.{IsNumber, IsRange, IsSequenceWritable, IsKindWritable, IsHeaderWritable}
 use Rattle.rm_elements.specs.declared.header.AckKind.{AckKind}
 use Rattle.rm_elements.specs.declared.header.AckKind.TheVariants.{Ranges, Nothing, Nack}
@@ -165,7 +170,7 @@ ack_from : (parts : Parts) (ident : List ℕ) (rs : List Range) (o : Option Elem
 unfolding ack_in
 ack_from parts ident rs o ns f a b c d e = rw (a, b, c, d, e) refl
 
-ident_from : (parts : Parts) (ident : List ℕ) → IsText 512 ident
+pub ident_from : (parts : Parts) (ident : List ℕ) → IsText 512 ident
     → children_named (rm (codes "Identifier")) parts ≡ element (rm (codes "Identifier")) [] [] (text ident none) ∷ []
     → identifier parts ≡ Some ident
 unfolding identifier

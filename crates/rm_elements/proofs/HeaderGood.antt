@@ -1,25 +1,16 @@
 -- Header blocks are nodes that may stand in a frame.
-use Rattle.std.proofs.Common.{◌≡◌, ℕ, ◌^◌, ◌<◌, Bool, true, false, List, [], ◌∷◌, refl, sym, arith, subst, codes, decimal, length}
-use Rattle.std.specs.List.{AllByRecursion, list_all}
-use Rattle.std.specs.Str.{chars}
-use Rattle.std.proofs.lemmas.Bool.{and_parts}
-use Rattle.std.proofs.lemmas.Fmt.{decimal_is_IsNumeral, decimal_nonempty, IsAscii-from_digits}
-use Rattle.std.proofs.lemmas.Bool.Decides.{nat_tests}
-use Rattle.std.proofs.lemmas.Str.{encodes-IsAscii, encodes-chars}
-use Rattle.std.proofs.lemmas.Str.Parse.{digit_from_value}
-use Rattle.std.specs.Char.{digit_value}
-use Rattle.std.specs.Prelude.{IsTrue}
-use Rattle.std.specs.Str.Parse.{AllDigits}
-use Rattle.xml_chars.specs.Classes.{is_char}
+use Rattle.std.proofs.Common.{ℕ, Bool, true, false, List, [], ◌∷◌, refl, arith, codes}
+use Rattle.std.specs.List.{AllByRecursion}
 use Rattle.rm_base.specs.Text.{IsText}
 use Rattle.rm_base.specs.declared.message.Binding.{Binding}
 use Rattle.soap_writer.specs.Frame.{frame_scope}
 use Rattle.soap_writer.specs.Plain.{chars_from}
-use Rattle.soap_writer.specs.Writable.{IsTextWritable}
 use Rattle.soap_nodes.specs.Good.{IsTagGood, IsGood, AreGood}
 use Rattle.soap_nodes.specs.Node.{tag_name, Node, Nodes, each_node}
+use Rattle.wsa_headers.specs.TextLaws.{text_writable}
 use Rattle.ack_ranges.specs.declared.range.Range.{Range}
-use Rattle.rm_elements.specs.Texts.{tag_of, identifier_node, sequence_node, range_node, nack_node, final_nodes, kind_nodes, header_node}
+use Rattle.rm_elements.specs.Texts.{tag_of, identifier_node, sequence_node, range_node, nack_node, final_nodes}
+use Rattle.rm_elements.specs.Texts.{kind_nodes, header_node}
 use Rattle.rm_elements.specs.Writable.{IsNumber, IsRange, IsSequenceWritable, IsKindWritable, IsHeaderWritable}
 use Rattle.rm_elements.specs.declared.header.AckKind.{AckKind}
 use Rattle.rm_elements.specs.declared.header.AckKind.TheVariants.{Ranges, Nothing, Nack}
@@ -28,6 +19,7 @@ use Rattle.rm_elements.specs.declared.header.Header.TheVariants as headers
 use Rattle.rm_elements.specs.declared.header.SeqHeader.{SeqHeader}
 use Rattle.rm_elements.specs.declared.tag.Tag.{Tag}
 use Rattle.rm_elements.specs.declared.tag.Tag.TheVariants as tags
+use Rattle.rm_elements.proofs.PlainTexts.{number_writable}
 
 pub plain_tag : (soap : List ℕ) (t : Tag) → IsTagGood soap (frame_scope soap) (tag_of t) []
 unfolding tag_name
@@ -58,48 +50,10 @@ plain_tag soap tags.MakeConnection = record { named = refl; each = tt; resolved 
 plain_tag soap tags.Address = record { named = refl; each = tt; resolved = refl }
 plain_tag soap tags.Other = record { named = refl; each = tt; resolved = refl }
 
--- ---- texts
-
-each_char : (xs : List ℕ) → list_all is_char xs ≡ true → AllByRecursion (λ c. IsTrue (is_char c)) xs
-each_char [] all = tt
-each_char (x ∷ xs) all = let (here, more) = and_parts (is_char x) (list_all is_char xs) all in (here, each_char xs more)
-
-pub ident_writable : (limit : ℕ) (bs : List ℕ) → IsText limit bs → IsTextWritable bs
-ident_writable limit bs is = record {
-  some = λ e. absurd (omega (arith, subst (λ (l : List ℕ). 0 < length l) e is.some));
-  chars = record {
-    characters = chars bs;
-    each = each_char (chars bs) is.characters.each;
-    coded = sym (encodes-chars bs is.characters.utf8);
-  };
-}
-
-digit_char : (c : ℕ) → digit_value c < 10 → is_char c ≡ true
-digit_char c small = let (low, high) = digit_from_value c small in grind (arith, nat_tests)
-
-digits_chars : (ds : List ℕ) → AllDigits 10 ds → AllByRecursion (λ c. IsTrue (is_char c)) ds
-digits_chars [] h = tt
-digits_chars (c ∷ ds) h = (digit_char c h.0, digits_chars ds h.1)
-
-decimal_writable : (n : ℕ) → n < 2 ^ 64 → IsTextWritable (decimal n)
-decimal_writable n h =
-    let digits : AllDigits 10 (decimal n) = (decimal_is_IsNumeral n h).0.1 in
-    record {
-      some = λ e. absurd (omega (arith, subst (λ (l : List ℕ). 0 < length l) e (decimal_nonempty n h)));
-      chars = record {
-        characters = decimal n;
-        each = digits_chars (decimal n) digits;
-        coded = sym (encodes-IsAscii (decimal n) (IsAscii-from_digits (decimal n) digits));
-      };
-    }
-
-pub number_writable : (n : ℕ) → IsNumber n → IsTextWritable (decimal n)
-number_writable n is = decimal_writable n (omega (arith, is.high))
-
 -- ---- header blocks
 
 ident_good : (soap ident : List ℕ) → IsText 512 ident → IsGood soap 3 (frame_scope soap) (identifier_node ident)
-ident_good soap ident is = (plain_tag soap tags.Identifier, omega arith, ident_writable 512 ident is)
+ident_good soap ident is = (plain_tag soap tags.Identifier, omega arith, text_writable 512 ident is)
 
 sequence_good : (soap : List ℕ) (x : SeqHeader) → IsSequenceWritable x
     → IsGood soap 2 (frame_scope soap) (sequence_node x)

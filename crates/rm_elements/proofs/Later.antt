@@ -1,5 +1,5 @@
 -- Months after a date.
-use Rattle.std.proofs.Common.{ℕ, suc, ◌≤◌, ◌<◌, ℤ, pos, ◌≤ℤ◌, arith}
+use Rattle.std.proofs.Common.{ℕ, suc, ◌<◌, pos, ◌≤ℤ◌, arith}
 use Prim.Native.Nat.{zero}
 use Rattle.jiff_core.specs.declared.civil.date.Date.{Date}
 use Rattle.jiff_core.specs.Date.{epoch_day}

@@ -1,6 +1,10 @@
 pub mod Digits
 pub mod HeaderBack
 pub mod HeaderGood
+pub mod LapseBack
 pub mod Later
+pub mod LifecycleBack
+pub mod LifecycleGood
 pub mod NodeLemmas
+pub mod PlainTexts
 pub mod Spans

@@ -1,5 +1,5 @@
 -- What the code keeps of a number: the greatest u64 for all greater ones.
-use Rattle.std.specs.Prelude.{ℕ, ◌-◌, ◌^◌, min}
+use Rattle.std.specs.Prelude.{◌-◌, ◌^◌, min}
 use Rattle.rm_elements.specs.declared.header.SeqHeader.{SeqHeader}
 
 -- a block whose number is kept as a u64

@@ -1,9 +1,10 @@
 -- Header blocks and body elements as they are written within a frame: WS-ReliableMessaging 1.2, sections 3.4 to 3.9,
 -- and WS-MakeConnection 1.1, section 3.
-use Rattle.std.specs.Prelude.{ℕ, ◌+◌, ◌/◌, ◌%◌, ◌&&◌, ◌==◌, List, [], ◌∷◌, ◌++◌, Bool, true, false, if◌then◌else◌, Option, Some, None, codes, decimal}
-use Rattle.soap_profile.specs.Tree.{Element}
+use Rattle.std.specs.Prelude.{ℕ, ◌+◌, ◌/◌, ◌%◌, ◌&&◌, ◌==◌, List, [], ◌∷◌, ◌++◌, Bool, if◌then◌else◌, Option, Some}
+use Rattle.std.specs.Prelude.{None, codes, decimal}
 use Rattle.soap_writer.specs.Frame.{of_soap, of_messaging, of_connection}
-use Rattle.soap_nodes.specs.Node.{Tag as NodeTag, framed, Note, plain, prefixed, Node, Nodes, full, void, nothing, more, leaf, each_node}
+use Rattle.soap_nodes.specs.Node.{Tag as NodeTag, framed, Note, plain, prefixed, Node, Nodes, full, void, nothing}
+use Rattle.soap_nodes.specs.Node.{more, leaf, each_node}
 use Rattle.ack_ranges.specs.declared.range.Range.{Range}
 use Rattle.rm_base.specs.declared.message.Behaviour.{Behaviour}
 use Rattle.rm_base.specs.declared.message.Behaviour.TheVariants.{NoDiscard, EntireSequence, FollowingFirstGap}

@@ -1,7 +1,8 @@
--- Header blocks that are read back as they were written.
-use Rattle.std.specs.Prelude.{◌≡◌, ◌≢◌, ◌≤◌, ℕ, List, [], Bool, false}
+-- Header blocks, durations and body elements that are read back as they were written.
+use Rattle.std.specs.Prelude.{◌≡◌, ◌≢◌, ◌≤◌, ℕ, [], Bool, false, IfSome}
 use Rattle.std.specs.List.{AllByRecursion}
 use Rattle.rm_base.specs.Text.{IsText}
+use Rattle.wsa_headers.specs.Writable.{IsEprWritable}
 use Rattle.ack_ranges.specs.declared.range.Range.{Range}
 use Rattle.rm_elements.specs.declared.header.AckBlock.{AckBlock}
 use Rattle.rm_elements.specs.declared.header.AckKind.{AckKind}
@@ -9,6 +10,13 @@ use Rattle.rm_elements.specs.declared.header.AckKind.TheVariants.{Ranges, Nothin
 use Rattle.rm_elements.specs.declared.header.Header.{Header}
 use Rattle.rm_elements.specs.declared.header.Header.TheVariants as headers
 use Rattle.rm_elements.specs.declared.header.SeqHeader.{SeqHeader}
+use Rattle.rm_elements.specs.declared.lapse.Lapse.{Lapse}
+use Rattle.rm_elements.specs.declared.lifecycle.CreateResponse.{CreateResponse}
+use Rattle.rm_elements.specs.declared.lifecycle.CreateSequence.{CreateSequence}
+use Rattle.rm_elements.specs.declared.lifecycle.Finish.{Finish}
+use Rattle.rm_elements.specs.declared.lifecycle.Lifecycle.{Lifecycle}
+use Rattle.rm_elements.specs.declared.lifecycle.Lifecycle.TheVariants as bodies
+use Rattle.rm_elements.specs.declared.lifecycle.Offer.{Offer}
 
 -- a message number (3.7)
 pub record IsNumber (n : ℕ) : Type 0 where
@@ -43,3 +51,43 @@ IsHeaderWritable (headers.Sequence x) = IsSequenceWritable x
 IsHeaderWritable (headers.Ack x) = IsAckWritable x
 IsHeaderWritable (headers.Ask ident) = IsText 512 ident
 IsHeaderWritable (headers.Pending pending) = Unit {0}
+
+-- ---- body elements
+
+-- a duration of at most so many months and milliseconds
+pub record IsLapseWritable (x : Lapse) : Type 0 where
+  pub months : x.months ≤ 100000
+  pub ms : x.ms ≤ 1000000000000000
+
+-- an identifier, an endpoint and a duration (3.4)
+pub record IsOfferWritable (x : Offer) : Type 0 where
+  pub ident : IsText 512 x.ident
+  pub endpoint : IsEprWritable x.endpoint
+  pub expires : IsLapseWritable x.expires
+
+-- an endpoint for acknowledgements, a duration, and an offer, if there is one (3.4)
+pub record IsCreateWritable (x : CreateSequence) : Type 0 where
+  pub acks_to : IsEprWritable x.acks_to
+  pub expires : IsLapseWritable x.expires
+  pub offer : IfSome x.offer IsOfferWritable
+
+-- an identifier, a duration, and an endpoint for acknowledgements, if there is one (3.4)
+pub record IsResponseWritable (x : CreateResponse) : Type 0 where
+  pub ident : IsText 512 x.ident
+  pub expires : IsLapseWritable x.expires
+  pub accept : IfSome x.accept IsEprWritable
+
+-- an identifier and the number of the last message, if there is one (3.5, 3.6)
+pub record IsFinishWritable (x : Finish) : Type 0 where
+  pub ident : IsText 512 x.ident
+  pub last_number : IfSome x.last_number IsNumber
+
+-- a body element of these; the address of a MakeConnection is a text (WS-MakeConnection 1.1, 3.2)
+abbrev pub IsLifecycleWritable : Lifecycle → Type 0
+IsLifecycleWritable (bodies.Create x) = IsCreateWritable x
+IsLifecycleWritable (bodies.CreateResponse x) = IsResponseWritable x
+IsLifecycleWritable (bodies.Close x) = IsFinishWritable x
+IsLifecycleWritable (bodies.CloseResponse ident) = IsText 512 ident
+IsLifecycleWritable (bodies.Terminate x) = IsFinishWritable x
+IsLifecycleWritable (bodies.TerminateResponse ident) = IsText 512 ident
+IsLifecycleWritable (bodies.Make x) = IfSome x.address (IsText 2048)

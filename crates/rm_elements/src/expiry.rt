@@ -7,10 +7,7 @@ ghost use Rattle.rm_elements.specs.Deadline.{IsDateOf, IsZero, EndsAt, IsDeadlin
 use crate::lapse::Lapse;
 use jiff_core::civil::Date;
 use jiff_span::date::add_months;
-use rm_base::Memory;
-
-/// The greatest moment that a clock tells, in milliseconds since 1970 UTC.
-pub const NOW_MAX: u64 = 200000000000000;
+use rm_base::{Memory, NOW_MAX};
 
 const DAY: u64 = 86400000;
 

@@ -17,13 +17,16 @@ pub mod write;
 
 pub use duration::read_duration;
 pub use error::ElementError;
-pub use expiry::{NOW_MAX, deadline};
+pub use expiry::deadline;
 pub use header::{AckBlock, AckKind, Header, MESSAGING, Ranges, SeqHeader};
 pub use lapse::Lapse;
-pub use laws::{header_is_good, header_is_read_back};
+pub use laws::{
+    header_is_foreign, header_is_good, header_is_read_back, lapse_is_read_back, lifecycle_is_good,
+    lifecycle_is_read_back,
+};
 pub use lifecycle::{
     CONNECTION, CreateResponse, CreateSequence, Finish, Lifecycle, MakeConnection, Offer,
 };
 pub use read::{BodyName, HeaderName, body_name, header_name, read_header, read_lifecycle};
 pub use tag::Tag;
-pub use write::{write_header, write_lifecycle};
+pub use write::{push_ack, push_ask, push_pending, push_sequence, write_header, write_lifecycle};

@@ -3,8 +3,10 @@ ghost use Rattle.std.specs.Prelude.{◌≡◌, Option, option_map, Some};
 ghost use Rattle.soap_profile.specs.View.{element_view, attrs_view, parts_view};
 ghost use Rattle.soap_values.specs.Outcome.{Gives};
 ghost use Rattle.rm_elements.specs.Outcome.{Answers, named};
-ghost use Rattle.rm_elements.specs.Headers.{header_name as header_name_of, header_as, header_of, sequence_in, identifier, ack_in, pending_in};
-ghost use Rattle.rm_elements.specs.Lifecycle.{body_name as body_name_of, body_as, lifecycle_of, create_in, response_in, finish_in, make_in};
+ghost use Rattle.rm_elements.specs.Headers.{header_name as header_name_of, header_as, header_of, sequence_in};
+ghost use Rattle.rm_elements.specs.Headers.{identifier, ack_in, pending_in};
+ghost use Rattle.rm_elements.specs.Lifecycle.{body_name as body_name_of, body_as, lifecycle_of, create_in};
+ghost use Rattle.rm_elements.specs.Lifecycle.{response_in, finish_in, make_in};
 
 use crate::error::ElementError;
 use crate::header::{Header, MESSAGING, read_ack, read_identifier, read_numbered, read_pending};

@@ -117,7 +117,8 @@ fn push_must(out: &mut Vec<u8>) -> Result<(), Memory>
     push_bytes(b" s:mustUnderstand=\"true\"", out)
 }
 
-fn push_sequence(sequence: &SeqHeader, out: &mut Vec<u8>) -> Result<(), Memory>
+/// Appends a Sequence block: section 3.7. Up to a want of memory, as the next three.
+pub fn push_sequence(sequence: &SeqHeader, out: &mut Vec<u8>) -> Result<(), Memory>
     ensures { OnOk result (out.new.items ≡ out.old.items ++ node_text (sequence_node sequence.now)) }
 {
     push_begin(Tag::Sequence.name(), out)?;
@@ -185,7 +186,8 @@ fn push_rest(kind: &AckKind, last: bool, out: &mut Vec<u8>) -> Result<(), Memory
     Ok(())
 }
 
-fn push_ack(ack: &AckBlock, out: &mut Vec<u8>) -> Result<(), Memory>
+/// Appends a SequenceAcknowledgement block: section 3.9.
+pub fn push_ack(ack: &AckBlock, out: &mut Vec<u8>) -> Result<(), Memory>
     ensures { OnOk result (out.new.items ≡ out.old.items ++ node_text (ack_node ack.now)) }
 {
     push_start(Tag::SequenceAcknowledgement, out)?;
@@ -205,7 +207,8 @@ fn push_ident(tag: Tag, ident: &Ident, out: &mut Vec<u8>) -> Result<(), Memory>
     Ok(())
 }
 
-fn push_ask(ident: &Ident, out: &mut Vec<u8>) -> Result<(), Memory>
+/// Appends an AckRequested block: section 3.8.
+pub fn push_ask(ident: &Ident, out: &mut Vec<u8>) -> Result<(), Memory>
     ensures { OnOk result (out.new.items ≡ out.old.items ++ node_text (ask_node ident.now)) }
 {
     push_ident(Tag::AckRequested, ident, out)
@@ -217,7 +220,8 @@ fn flag(flag: bool) -> &'static [u8]
     if flag { b"true" } else { b"false" }
 }
 
-fn push_pending(pending: bool, out: &mut Vec<u8>) -> Result<(), Memory>
+/// Appends a MessagePending block of WS-MakeConnection 1.1, section 3.4.
+pub fn push_pending(pending: bool, out: &mut Vec<u8>) -> Result<(), Memory>
     ensures { OnOk result (out.new.items ≡ out.old.items ++ node_text (pending_node pending)) }
 {
     push_begin(Tag::MessagePending.name(), out)?;

@@ -1,7 +1,8 @@
 -- An element without its mark.
-use Rattle.std.proofs.Common.{◌≡◌, List, [], ◌∷◌, ℕ, Bool, true, false, not, if◌then◌else◌, refl, ap, ◌∙◌}
+use Rattle.std.proofs.Common.{◌≡◌, List, [], ◌∷◌, Bool, true, false, not, if◌then◌else◌, refl, ap, ◌∙◌}
 use Rattle.std.specs.List.{filter}
-use Rattle.soap_profile.specs.Items.{Item, a_declaration, an_attribute, a_text, a_child, decls_among, attrs_among, parts_among}
+use Rattle.soap_profile.specs.Items.{Item, a_declaration, an_attribute, a_text, a_child, decls_among, attrs_among}
+use Rattle.soap_profile.specs.Items.{parts_among}
 use Rattle.soap_profile.specs.Tree.{element, text, child}
 use Rattle.soap_profile.specs.declared.name.Expanded.{Expanded as Name}
 use Rattle.soap_profile.specs.declared.tree.Attr.{Attr}
@@ -9,7 +10,7 @@ use Rattle.soap_profile.specs.View.{items_view}
 use Rattle.soap_profile.specs.declared.tree.Item.{Item as CodeItem}
 use Rattle.soap_values.specs.Children.{is_same}
 use Rattle.wsa_headers.specs.Endpoint.{unmarked, is_no_mark, mark_name}
-use Rattle.wsa_headers.specs.Steps.{unmarked_items, is_mark_item}
+use Rattle.wsa_headers.specs.Steps.{unmarked_items}
 
 attr_kept : (b : Bool) (a : Attr) (is : List Item) → attrs_among (if not b then an_attribute a ∷ is else is)
     ≡ (if not b then a ∷ attrs_among is else attrs_among is)

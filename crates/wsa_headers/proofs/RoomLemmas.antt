@@ -1,5 +1,7 @@
 -- What is left behind texts is what is left behind their lengths.
-use Rattle.std.proofs.Common.{◌≡◌, ℕ, ◌+◌, ◌-◌, ◌≤◌, ◌<◌, List, [], ◌∷◌, ◌++◌, Bool, true, false, ◌||◌, nat_le, nat_lt, if◌then◌else◌, Option, Some, None, is_some, length, length-append, refl, sym, ap, ◌∙◌, arith, codes, decimal}
+use Rattle.std.proofs.Common.{◌≡◌, ℕ, ◌+◌, ◌-◌, List, [], ◌∷◌, ◌++◌, Bool, true, false, ◌||◌, nat_le, if◌then◌else◌}
+use Rattle.std.proofs.Common.{Option, Some, None, is_some, length, length-append, refl, sym, ap, ◌∙◌, arith, codes}
+use Rattle.std.proofs.Common.{decimal}
 use Rattle.std.proofs.lemmas.Bool.Decides.{nat_tests}
 use Rattle.std.specs.Str.{bytes_eq}
 use Rattle.soap_lex.specs.Escapes.{text_escape, value_escape, escaped_text, escaped_value}
@@ -11,10 +13,12 @@ use Rattle.soap_profile.specs.View.{item_view, items_view, parts_view}
 use Rattle.soap_profile.specs.declared.name.Expanded.{Expanded as Name}
 use Rattle.soap_profile.specs.declared.tree.Attr.{Attr}
 use Rattle.soap_profile.specs.declared.tree.Item.{Item as CodeItem}
-use Rattle.soap_writer.specs.ElementText.{quoted, written_name, declaration, attribute_prefix, attribute_text, attributes_text, tag_text, element_text, parts_text}
+use Rattle.soap_writer.specs.ElementText.{quoted, written_name, declaration, attribute_prefix, attribute_text}
+use Rattle.soap_writer.specs.ElementText.{attributes_text, element_text, parts_text}
 use Rattle.soap_values.specs.Outcome.{◌>>=◌}
 use Rattle.wsa_headers.specs.Endpoint.{params_length}
-use Rattle.wsa_headers.specs.Room.{left_of, text_room, value_room, name_length, declaration_room, attribute_room, attributes_room, tags_room, element_room, parts_room, elements_room}
+use Rattle.wsa_headers.specs.Room.{left_of, text_room, value_room, name_length, declaration_room, attribute_room}
+use Rattle.wsa_headers.specs.Room.{attributes_room, tags_room, element_room, parts_room, elements_room}
 
 same_bind : {A : Type 0} (o : Option A) → (o >>= λ x. Some x) ≡ o
 same_bind None = refl

@@ -1,5 +1,6 @@
 -- Endpoint references: WS-Addressing 1.0 Core, section 2, and SOAP Binding, section 3.
-use Rattle.std.specs.Prelude.{◌≡◌, ℕ, ◌+◌, List, [], ◌∷◌, Bool, false, not, ◌&&◌, nat_le, if◌then◌else◌, Option, Some, None, codes, length, map}
+use Rattle.std.specs.Prelude.{ℕ, ◌+◌, List, [], ◌∷◌, Bool, false, not, ◌&&◌, nat_le, if◌then◌else◌, Option, Some}
+use Rattle.std.specs.Prelude.{None, codes, length, map}
 use Rattle.std.specs.List.{filter, flat_map, list_all}
 use Rattle.soap_profile.specs.Payload.{height}
 use Rattle.soap_profile.specs.Tree.{Element, element, Parts, without_declarations, parts_of, children_of}

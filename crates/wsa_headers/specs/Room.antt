@@ -1,6 +1,7 @@
 -- How much room texts of elements take, counted piece by piece: what is left of a room behind each, where it fits. A
 -- law (`room_is_length`) says that this is the length of the text.
-use Rattle.std.specs.Prelude.{ℕ, ◌+◌, ◌-◌, List, [], ◌∷◌, Bool, ◌||◌, nat_le, if◌then◌else◌, Option, Some, None, length, decimal}
+use Rattle.std.specs.Prelude.{ℕ, ◌+◌, ◌-◌, List, [], ◌∷◌, ◌||◌, nat_le, if◌then◌else◌, Option, Some, None, length}
+use Rattle.std.specs.Prelude.{decimal}
 use Rattle.std.specs.Str.{bytes_eq}
 use Rattle.soap_lex.specs.Escapes.{text_escape, value_escape}
 use Rattle.soap_document.specs.Tokens.{is_nil}

@@ -5,7 +5,8 @@ ghost use Rattle.soap_profile.specs.View.{element_view, item_view, items_view, p
 ghost use Rattle.soap_values.specs.Outcome.{Gives};
 ghost use Rattle.soap_values.specs.Steps.{lent_trees};
 ghost use Rattle.wsa_headers.specs.Addressing.{Answers, blamed};
-ghost use Rattle.wsa_headers.specs.Endpoint.{uri_of, address_in, unmarked, param, params_among, params_in, kept_params, epr_in, epr_of};
+ghost use Rattle.wsa_headers.specs.Endpoint.{uri_of, address_in, unmarked, param, params_among, params_in};
+ghost use Rattle.wsa_headers.specs.Endpoint.{kept_params, epr_in, epr_of};
 ghost use Rattle.wsa_headers.specs.Steps.{is_mark_item, unmarked_items};
 
 use crate::error::AddressingError;

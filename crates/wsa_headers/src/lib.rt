@@ -7,6 +7,7 @@
 pub mod addressing;
 pub mod endpoint;
 pub mod error;
+pub mod laws;
 pub mod read;
 mod room;
 pub mod tag;
@@ -15,6 +16,10 @@ pub mod write;
 pub use addressing::Addressing;
 pub use endpoint::{ADDRESSING, Epr, read_address_of, read_epr, read_reference, unmark};
 pub use error::AddressingError;
+pub use laws::{
+    addressing_blocks_are_told, addressing_is_good, addressing_is_read_back, epr_is_good,
+    epr_is_read_back,
+};
 pub use read::{is_parameter, read_addressing};
 pub use tag::Tag;
 pub use write::{push_epr, write_addressing, write_epr};

@@ -1,4 +1,4 @@
-use Rattle.std.proofs.Common.{◌≡◌, ◌∙◌, ◌++◌, ap, true}
+use Rattle.std.proofs.Common.{◌∙◌, ◌++◌, ap, true}
 use Rattle.soap_nodes.specs.Node.{node_text, nodes_text, nothing, leaf}
 use Rattle.wsa_headers.specs.Texts.{tag_of, params_nodes, uri_before, epr_before}
 use Rattle.wsa_headers.specs.declared.tag.Tag.TheVariants as tags

@@ -1,4 +1,4 @@
-use Rattle.std.proofs.Common.{◌≡◌, ◌∙◌, ◌++◌, ap, true}
+use Rattle.std.proofs.Common.{◌∙◌, ◌++◌, ap, true}
 use Rattle.soap_nodes.specs.Node.{nodes_text, nothing}
 use Rattle.wsa_headers.specs.Texts.{params_nodes, epr_before}
 use Rattle.wsa_headers.specs.declared.tag.Tag.TheVariants as tags

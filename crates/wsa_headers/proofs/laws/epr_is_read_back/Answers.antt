@@ -1,0 +1,8 @@
+use Rattle.wsa_headers.proofs.EprBack.{epr_again}
+use Rattle.wsa_headers.proofs.laws.epr_is_read_back.Goals as goal
+
+pub returns : goal.returns
+returns c = epr_again (record {
+  plain = c.written_tree_is_the_tree.ensures.plain;
+  marked = c.written_tree_is_the_tree.ensures.marked;
+})
