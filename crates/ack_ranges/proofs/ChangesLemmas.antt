@@ -1,6 +1,10 @@
 -- What a range put into others makes of them.
-use Rattle.std.proofs.Common.{◌≡◌, ℕ, zero, suc, ◌+◌, ◌-◌, ◌<◌, ◌≤◌, Bool, true, false, not, IsTrue, ◌↔◌, ◌==◌, ◌&&◌, ◌||◌, ◌⊎◌, nat_le, max, min, List, [], ◌∷◌, ◌++◌, length, take, drop, refl, sym, ap, ap₂, ◌∙◌, arith, inl, inr}
-use Rattle.std.proofs.lemmas.Bool.{cases_lt, cases_order, cond-true, cond-false, lt-ltb, le-ltb, lt-leb, le-leb, or_from, or_parts, or_cases, or_left, or_right, cases_Bool, false≢true, not-true, not_from_false, false_from_ne_true, both_ways}
+use Rattle.std.proofs.Common.{◌≡◌, ℕ, zero, suc, ◌+◌, ◌-◌, ◌<◌, ◌≤◌, Bool, true, false, not, IsTrue, ◌↔◌, ◌==◌, ◌&&◌}
+use Rattle.std.proofs.Common.{◌||◌, ◌⊎◌, nat_le, max, min, List, [], ◌∷◌, ◌++◌, length, take, drop, refl, sym, ap}
+use Rattle.std.proofs.Common.{ap₂, ◌∙◌, arith, inl, inr}
+use Rattle.std.proofs.lemmas.Bool.{cases_lt, cases_order, cond-true, cond-false, lt-ltb, le-ltb, lt-leb, le-leb}
+use Rattle.std.proofs.lemmas.Bool.{or_from, or_parts, or_cases, or_left, or_right, cases_Bool, false≢true, not-true}
+use Rattle.std.proofs.lemmas.Bool.{not_from_false, false_from_ne_true, both_ways}
 use Rattle.std.specs.List.{insert}
 use Rattle.std.proofs.lemmas.List.{drop-drop, get_or-drop, length-drop}
 use Rattle.std.proofs.lemmas.List.Recursion.{or_at, or_from_places}
@@ -10,7 +14,9 @@ use Rattle.rm_base.specs.Message.{max_number}
 use Rattle.ack_ranges.specs.Ranges.{in_range, in_ranges, RisesFrom, IsCanonical, greatest_of}
 use Rattle.ack_ranges.specs.Changes.{with_range, covers, AddsExactly, BringsNew}
 use Rattle.ack_ranges.specs.Places.{range_at, IsPlace, IsSpan}
-use Rattle.ack_ranges.proofs.RangesLemmas.{in_range_tells, or_assoc, or-false, or_comm, in_ranges-before, RisesFrom-weaker, RisesFrom-at, RisesFrom-gap, RisesFrom-starts, same_numbers_same}
+use Rattle.ack_ranges.proofs.RangesLemmas.{in_range_tells, or_assoc, or-false, or_comm, in_ranges-before}
+use Rattle.ack_ranges.proofs.RangesLemmas.{RisesFrom-weaker, RisesFrom-at, RisesFrom-gap, RisesFrom-starts}
+use Rattle.ack_ranges.proofs.RangesLemmas.{same_numbers_same}
 
 -- past a range that ends too early
 pub with_range-past : (r : Range) (rs : List Range) (l u : ℕ) → r.upper + 1 < l →

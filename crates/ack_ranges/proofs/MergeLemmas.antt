@@ -1,14 +1,19 @@
 -- Two lists of ranges merged from the front on.
-use Rattle.std.proofs.Common.{◌≡◌, ℕ, zero, suc, ◌+◌, ◌-◌, ◌<◌, ◌≤◌, Bool, true, false, not, IsTrue, ◌↔◌, ◌||◌, max, min, List, [], ◌∷◌, ◌++◌, length, take, drop, refl, sym, ap, ap₂, ◌∙◌, arith, inl, inr}
-use Rattle.std.proofs.lemmas.Bool.{cases_Bool, or_left, or_right, or_cases, and_parts, and_cases, not-true, not_from_false, false_from_ne_true, both_ways, false≢true}
+use Rattle.std.proofs.Common.{◌≡◌, ℕ, zero, suc, ◌+◌, ◌-◌, ◌<◌, ◌≤◌, Bool, true, false, not, IsTrue, ◌↔◌, ◌||◌, max}
+use Rattle.std.proofs.Common.{min, List, [], ◌∷◌, ◌++◌, length, take, drop, refl, sym, ap, ap₂, ◌∙◌, arith, inl, inr}
+use Rattle.std.proofs.lemmas.Bool.{cases_Bool, or_left, or_right, or_cases, and_parts, and_cases, not-true}
+use Rattle.std.proofs.lemmas.Bool.{not_from_false, false_from_ne_true, both_ways, false≢true}
 use Rattle.std.proofs.lemmas.Bool.Decides.{nat_tests}
 use Rattle.std.proofs.lemmas.List.{take_all, drop_all, take_more, drop-drop, get_or-drop, length-drop}
 use Rattle.ack_ranges.specs.declared.range.Range.{Range}
 use Rattle.ack_ranges.specs.Ranges.{in_range, in_ranges, RisesFrom, IsCanonical}
 use Rattle.ack_ranges.specs.Changes.{with_range, united, covers, covers_all, AddsExactly, BringsNew}
 use Rattle.ack_ranges.specs.Places.{range_at, StartsBy, IsNextOf, IsNextBefore}
-use Rattle.ack_ranges.proofs.RangesLemmas.{or_assoc, or-false, or_comm, in_ranges-push, RisesFrom-at, RisesFrom-starts, same_numbers_same}
-use Rattle.ack_ranges.proofs.ChangesLemmas.{beside, with_range-past, with_range-ahead, with_range-touched, with_range-after, in_ranges-with_range, RisesFrom-with_range, in_ranges-covered, uncovered}
+use Rattle.ack_ranges.proofs.RangesLemmas.{or_assoc, or-false, or_comm, in_ranges-push, RisesFrom-at}
+use Rattle.ack_ranges.proofs.RangesLemmas.{RisesFrom-starts, same_numbers_same}
+use Rattle.ack_ranges.proofs.ChangesLemmas.{beside, with_range-past, with_range-ahead, with_range-touched}
+use Rattle.ack_ranges.proofs.ChangesLemmas.{with_range-after, in_ranges-with_range, RisesFrom-with_range}
+use Rattle.ack_ranges.proofs.ChangesLemmas.{in_ranges-covered, uncovered}
 
 pub StartsBy-weaker : (rs : List Range) (a b : ℕ) → a ≤ b → StartsBy rs a → StartsBy rs b
 StartsBy-weaker [] a b le h = tt

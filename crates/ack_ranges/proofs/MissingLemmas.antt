@@ -1,12 +1,14 @@
 -- Collecting the numbers that ranges lack, from 1 on.
-use Rattle.std.proofs.Common.{◌≡◌, ℕ, ◌+◌, ◌-◌, ◌<◌, ◌≤◌, true, false, ◌||◌, ◌==◌, List, [], ◌∷◌, ◌++◌, length, refl, sym, ap, ◌∙◌, arith, inl, inr}
+use Rattle.std.proofs.Common.{◌≡◌, ℕ, ◌+◌, ◌-◌, ◌<◌, ◌≤◌, true, false, ◌||◌, ◌==◌, List, [], ◌∷◌, ◌++◌, length, refl}
+use Rattle.std.proofs.Common.{sym, ap, ◌∙◌, arith, inl, inr}
 use Rattle.std.proofs.lemmas.Bool.{cases_lt, or_cases, or_left, or_right, both_ways, eqb-true, eq-eqb, false≢true}
 use Rattle.std.proofs.lemmas.List.{length_push}
 use Rattle.rm_base.specs.NumberSet.{IsRising, has_number, greatest_of as greatest_number}
 use Rattle.rm_base.specs.NumberSetLemmas.{Rises-push}
 use Rattle.ack_ranges.specs.declared.range.Range.{Range}
 use Rattle.ack_ranges.specs.Ranges.{in_ranges, IsCanonical, Lacks, greatest_of, AreMissing}
-use Rattle.ack_ranges.proofs.RangesLemmas.{or_assoc, or-false, in_ranges-outside, RisesFrom-at, RisesFrom-gap, RisesFrom-starts, RisesFrom-ends, greatest_of-last, IsGreatest-greatest_of}
+use Rattle.ack_ranges.proofs.RangesLemmas.{or_assoc, or-false, in_ranges-outside, RisesFrom-at, RisesFrom-gap}
+use Rattle.ack_ranges.proofs.RangesLemmas.{RisesFrom-starts, RisesFrom-ends, greatest_of-last, IsGreatest-greatest_of}
 use Rattle.ack_ranges.specs.Places.{range_at}
 
 -- the missing numbers below next have been collected, and no other

@@ -1,12 +1,15 @@
 -- Which numbers lie in ranges, and that canonical ranges are determined by their numbers.
-use Rattle.std.proofs.Common.{◌≡◌, ℕ, zero, suc, ◌+◌, ◌-◌, ◌<◌, ◌≤◌, Bool, true, false, ◌||◌, ◌⊎◌, ◌==◌, nat_le, List, [], ◌∷◌, ◌++◌, length, get_or, refl, sym, ap, ap₂, true≢false, ◌∙◌, arith, inl, inr}
-use Rattle.std.proofs.lemmas.Bool.{cases_lt, cases_eq, cond-true, cond-false, eq-eqb, ne_eqb, or_from, or_left, le-leb, lt-leb, both_ways, false≢true}
+use Rattle.std.proofs.Common.{◌≡◌, ℕ, zero, suc, ◌+◌, ◌-◌, ◌<◌, ◌≤◌, Bool, true, false, ◌||◌, ◌⊎◌, ◌==◌, nat_le, List}
+use Rattle.std.proofs.Common.{[], ◌∷◌, ◌++◌, length, get_or, refl, sym, ap, ap₂, true≢false, ◌∙◌, arith, inl, inr}
+use Rattle.std.proofs.lemmas.Bool.{cases_lt, cases_eq, cond-true, cond-false, eq-eqb, ne_eqb, or_from, or_left}
+use Rattle.std.proofs.lemmas.Bool.{le-leb, lt-leb, both_ways, false≢true}
 use Rattle.std.proofs.lemmas.Bool.Decides.{nat_tests}
 use Rattle.std.proofs.lemmas.List.{get_or_read}
 use Rattle.std.proofs.lemmas.List.Recursion.{or_at, or_from_places}
 use Rattle.ack_ranges.specs.declared.range.Range.{Range}
 use Rattle.rm_base.specs.Message.{max_number}
-use Rattle.ack_ranges.specs.Ranges.{in_range, in_ranges, RisesFrom, IsCanonical, front_of, IsFront, greatest_of, IsGreatest}
+use Rattle.ack_ranges.specs.Ranges.{in_range, in_ranges, RisesFrom, IsCanonical, front_of, IsFront, greatest_of}
+use Rattle.ack_ranges.specs.Ranges.{IsGreatest}
 use Rattle.ack_ranges.specs.Places.{range_at, IsPlace}
 
 -- the test of a range, with what it tells

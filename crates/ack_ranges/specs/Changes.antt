@@ -1,5 +1,6 @@
 -- What adding numbers makes of a list of ranges.
-use Rattle.std.specs.Prelude.{◌≡◌, ℕ, ◌+◌, Bool, true, false, ◌&&◌, ◌||◌, nat_le, nat_lt, IsTrue, if◌then◌else◌, max, min, List, [], ◌∷◌}
+use Rattle.std.specs.Prelude.{◌≡◌, ℕ, ◌+◌, Bool, true, false, ◌&&◌, ◌||◌, nat_le, nat_lt, IsTrue, if◌then◌else◌, max}
+use Rattle.std.specs.Prelude.{min, List, [], ◌∷◌}
 use Rattle.ack_ranges.specs.declared.range.Range.{Range}
 use Rattle.ack_ranges.specs.Ranges.{in_ranges, IsCanonical}
 

@@ -3,7 +3,8 @@ use Rattle.std.specs.Prelude.{◌≡◌, ℕ, ◌+◌, ◌<◌, ◌≤◌, false
 use Rattle.rm_base.specs.NumberSet.{IsRising, has_number}
 use Rattle.ack_ranges.specs.declared.range.Range.{Range}
 use Rattle.rm_base.specs.Message.{max_number}
-use Rattle.ack_ranges.specs.Ranges.{is_between, in_ranges, IsCanonical, front_of, IsFront, greatest_of, IsGreatest, count_of}
+use Rattle.ack_ranges.specs.Ranges.{is_between, in_ranges, IsCanonical, front_of, IsFront, greatest_of, IsGreatest}
+use Rattle.ack_ranges.specs.Ranges.{count_of}
 use Rattle.ack_ranges.specs.Changes.{with_range, united, covers, covers_all, AddsExactly, BringsNew}
 
 -- two canonical lists with the same numbers are equal

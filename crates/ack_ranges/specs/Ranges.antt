@@ -1,6 +1,7 @@
 -- Sets of message numbers as lists of ranges: WS-ReliableMessaging 1.2, section 3.9, where an AcknowledgementRange
 -- names the numbers from its Lower to its Upper.
-use Rattle.std.specs.Prelude.{◌≡◌, ℕ, ◌+◌, ◌<◌, ◌≤◌, ◌⊎◌, Bool, false, ◌&&◌, ◌||◌, ◌==◌, nat_le, IsTrue, if◌then◌else◌, List, [], ◌∷◌, length, ◌-◌, sum_by}
+use Rattle.std.specs.Prelude.{◌≡◌, ℕ, ◌+◌, ◌<◌, ◌≤◌, ◌⊎◌, Bool, false, ◌&&◌, ◌||◌, ◌==◌, nat_le, IsTrue}
+use Rattle.std.specs.Prelude.{if◌then◌else◌, List, [], ◌∷◌, length, ◌-◌, sum_by}
 use Rattle.rm_base.specs.NumberSet.{IsRising, has_number, greatest_of as greatest_number}
 use Rattle.ack_ranges.specs.declared.range.Range.{Range}
 use Rattle.rm_base.specs.Message.{max_number}

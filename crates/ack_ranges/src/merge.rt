@@ -1,5 +1,6 @@
 //! The union of two lists of ranges, in one merge.
-ghost use Rattle.std.specs.Prelude.{◌≡◌, ℕ, [], ◌∷◌, ◌+◌, ◌<◌, ◌≤◌, ◌⊎◌, length, take, drop, MatchBool, not, IfOk, OnOk, OnErr, IsOk, vec_len, vec_capacity};
+ghost use Rattle.std.specs.Prelude.{◌≡◌, ℕ, [], ◌∷◌, ◌+◌, ◌<◌, ◌≤◌, ◌⊎◌, length, take, drop, MatchBool, not, IfOk};
+ghost use Rattle.std.specs.Prelude.{OnOk, OnErr, IsOk, vec_len, vec_capacity};
 ghost use Rattle.ack_ranges.specs.Ranges.{IsCanonical};
 ghost use Rattle.ack_ranges.specs.Changes.{with_range, united, covers, covers_all};
 ghost use Rattle.ack_ranges.specs.Places.{range_at, StartsBy, IsPlace, IsNextOf, IsNextBefore};

@@ -1,5 +1,6 @@
 //! One range, and what is looked up, put in and joined in a list of ranges.
-ghost use Rattle.std.specs.Prelude.{◌≡◌, ◌∷◌, ◌++◌, ◌+◌, ◌<◌, ◌≤◌, ◌&&◌, nat_le, not, take, drop, IfOk, OnOk, OnErr, IsOk, length, vec_len, vec_capacity};
+ghost use Rattle.std.specs.Prelude.{◌≡◌, ◌∷◌, ◌++◌, ◌+◌, ◌<◌, ◌≤◌, ◌&&◌, nat_le, not, take, drop, IfOk, OnOk, OnErr};
+ghost use Rattle.std.specs.Prelude.{IsOk, length, vec_len, vec_capacity};
 ghost use Rattle.std.specs.List.{insert};
 ghost use Rattle.rm_base.specs.Message.{max_number};
 ghost use Rattle.ack_ranges.specs.Ranges.{IsCanonical, in_ranges, front_of, greatest_of, size_of, count_of};

@@ -1,85 +1,228 @@
--- What is kept, against what it is seen as: numbers and, beside them, payloads.
-use Rattle.std.proofs.Common.{◌≡◌, ℕ, ◌+◌, ◌-◌, ◌<◌, ◌≤◌, zero, suc, true, false, ◌==◌, nat_lt, cond, List, [], ◌∷◌, length, take, refl, sym, ap, arith}
-use Rattle.std.specs.Prelude.{None, slice_get}
-use Rattle.std.specs.List.{zip, insert}
+-- What is kept, against what it is seen as: places, the set of numbers, the front and the greatest number.
+use Rattle.std.proofs.Common.{◌≡◌, ℕ, zero, suc, ◌+◌, ◌-◌, ◌<◌, ◌≤◌, true, false, ◌||◌, ◌==◌, List, [], ◌∷◌, ◌++◌}
+use Rattle.std.proofs.Common.{length, max, get_or, refl, sym, ap, ◌∙◌, arith, inl, inr}
+use Rattle.std.specs.Prelude.{Option, Some, map, slice_get, slice_index_or}
+use Rattle.std.specs.List.{insert}
 use Rattle.std.proofs.lemmas.Bool.Decides.{nat_tests}
-use Rattle.std.proofs.lemmas.List.Edits.{length-insert}
-use Rattle.std.proofs.lemmas.Option.{slice_get_past}
-use Rattle.std.proofs.lemmas.Slice.Zip.{firsts-zip}
+use Rattle.std.proofs.lemmas.List.{length-map}
+use Rattle.ack_ranges.specs.declared.range.Range.{Range}
+use Rattle.ack_ranges.specs.Ranges.{Contents, in_ranges, IsFront, IsGreatest}
+use Rattle.ack_ranges.specs.Changes.{with_range}
 use Rattle.rm_base.specs.declared.message.Payload.{Payload}
-use Rattle.rm_base.specs.NumberSet.{with_number, front_of}
-use Rattle.rm_base.specs.NumberSetLemmas.{with_number-at}
-use Rattle.rm_destination.specs.Incoming.{numbers_of, with_message, inbox_after, window}
-use Rattle.rm_base.specs.Numbered.{numbered}
-use Rattle.rm_destination.specs.Kept.{GoesAt}
-use Rattle.rm_destination.specs.FrontLemmas.{front_after-to}
-use Rattle.rm_destination.specs.MessageLemmas.{with_message-zip, inbox_after-zip, length-inbox_after}
+use Rattle.rm_base.specs.NumberSet.{IsRising, has_number, front_after, greatest_of}
+use Rattle.rm_base.specs.NumberSetLemmas.{Rises-with_number, has_number-at, lt-or-le}
+use Rattle.rm_destination.specs.declared.arrivals.Place.{Place}
+use Rattle.rm_destination.specs.FrontLemmas.{front_after-has, front_after-next}
+use Rattle.rm_destination.specs.Kept.{Came, IsKept, numbers_at, looked_up, IsSorting, GoesAt}
+use Rattle.rm_destination.specs.MessageLemmas.{sorted_onto-push, ranges_onto-push, numbers_of-push}
+use Rattle.rm_destination.specs.MessageLemmas.{numbers_of-with_message, with_message-at, has_number-by_number}
+use Rattle.rm_destination.specs.MessageLemmas.{length-without_gap}
+use Rattle.rm_destination.specs.Messages.{with_message, by_number, numbers_of, front_of}
 
--- the front is the length of the inbox
-pub length-inbox : (xs : List ℕ) (ps : List Payload) → length ps ≡ length xs
-    → front_of xs ≡ length (inbox_after 0 (zip xs ps))
-length-inbox xs ps e =
-    let ms = zip xs ps in
-    let same : numbers_of ms ≡ xs = firsts-zip xs ps e in
-    let all : 0 + length (inbox_after 0 ms) ≡ front_of (numbers_of ms) = length-inbox_after 0 ms in
-    let front : front_of (numbers_of ms) ≡ front_of xs = ap front_of same in
-    omega arith
+-- an insertion, item by item
+pub map-insert : {A B : Type 0} → (f : A → B) (xs : List A) (i : ℕ) (x : A)
+    → map f (insert xs i x) ≡ insert (map f xs) i (f x)
+map-insert f [] zero x = refl
+map-insert f [] (suc i) x = refl
+map-insert f (y ∷ xs) zero x = refl
+map-insert {A} {B} f (y ∷ xs) (suc i) x = ap (λ (ys : List B). f y ∷ ys) (map-insert f xs i x)
 
--- a list's first items are those of the list
-pub slice_get-take : {A : Type 0} (m : ℕ) (xs : List A) (k : ℕ) → k < m → slice_get (take m xs) k ≡ slice_get xs k
-slice_get-take zero xs k h = absurd (omega arith)
-slice_get-take (suc m) [] k h = refl
-slice_get-take (suc m) (x ∷ xs) zero h = refl
-slice_get-take (suc m) (x ∷ xs) (suc k) h = slice_get-take m xs k (omega arith)
+-- what stands at a place stands there in a longer list
+pub slice_get-push : {A : Type 0} → (xs : List A) (y : A) (k : ℕ) (x : A) → slice_get xs k ≡ Some x
+    → slice_get (xs ++ y ∷ []) k ≡ Some x
+slice_get-push [] y k x e = absurd (cc)
+slice_get-push (z ∷ xs) y zero x e = e
+slice_get-push (z ∷ xs) y (suc k) x e = slice_get-push xs y k x e
 
--- the first n items have the numbers up to n
-numbered-take : (n : ℕ) (ps : List Payload) (i : ℕ) → i ≤ n → numbered ps i ≡ numbered (take n ps) i
-numbered-take n ps i to =
-    elim (i == 0) as
-    (λ b. (i == 0) ≡ b → cond b None (slice_get ps (i - 1)) ≡ cond b None (slice_get (take n ps) (i - 1))) [
-      | true ↦ λ _. refl
-      | false ↦ λ d. sym (slice_get-take n ps (i - 1) (grind (arith, nat_tests, d)))
-    ] refl
+-- the last item
+pub slice_get-last : {A : Type 0} → (xs : List A) (y : A) → slice_get (xs ++ y ∷ []) (length xs) ≡ Some y
+slice_get-last [] y = refl
+slice_get-last (x ∷ xs) y = slice_get-last xs y
 
--- the kept payloads up to the front are the inbox
-pub numbered-inbox : (xs : List ℕ) (ps : List Payload) (i : ℕ) → length ps ≡ length xs → i ≤ front_of xs
-    → numbered ps i ≡ numbered (inbox_after 0 (zip xs ps)) i
-numbered-inbox xs ps i e to =
-    let all : front_of xs - 0 ≡ front_of xs = omega arith in
-    let inbox : inbox_after 0 (zip xs ps) ≡ take (front_of xs) ps = rw all at (inbox_after-zip 0 xs ps e) in
-    rw inbox (numbered-take (front_of xs) ps i to)
+-- places lead to the same messages when another one comes
+pub looked_up-push : (came : List (ℕ × Payload)) (m : ℕ × Payload) (places : List Place) (ms : List (ℕ × Payload))
+    → looked_up came places ≡ map Some ms → looked_up (came ++ m ∷ []) places ≡ map Some ms
+looked_up-push came m [] [] e = refl
+looked_up-push came m [] (y ∷ ms) e = absurd (cc)
+looked_up-push came m (p ∷ places) [] e = absurd (cc)
+looked_up-push came m (p ∷ places) (y ∷ ms) e =
+    let first : slice_get came p.at ≡ Some y = cc in
+    let rest : looked_up came places ≡ map Some ms = cc in
+    let here : slice_get (came ++ m ∷ []) p.at ≡ Some y = slice_get-push came m p.at y first in
+    let there : looked_up (came ++ m ∷ []) places ≡ map Some ms = looked_up-push came m places ms rest in
+    cc
 
--- past the front the inbox has nothing
-pub numbered-past : (items : List Payload) (i : ℕ) → length items < i → numbered items i ≡ None
-numbered-past items i h =
-    let other : (i == 0) ≡ false = grind (arith, nat_tests) in
-    rw other (slice_get_past items (i - 1) (omega arith))
+-- a place leads to the message that stands there by number
+pub record LeadsTo (came ms : List (ℕ × Payload)) (i at : ℕ) : Type 0 where
+  pub message : ℕ × Payload
+  pub came_so : slice_get came at ≡ Some message
+  pub stands : slice_get ms i ≡ Some message
 
--- a number and its payload go in at the number's place
-pub zip-with_number : (xs : List ℕ) (ps : List Payload) (n : ℕ) (p : Payload) (i : ℕ)
-    → length ps ≡ length xs → GoesAt xs n i → zip (with_number xs n) (insert ps i p) ≡ with_message (zip xs ps) n p
-zip-with_number xs ps n p i e g =
-    rw (with_number-at n xs i g.within g.below g.above) (with_message-zip xs ps n p i e g.within g.below g.above)
+-- each place does
+pub looked_up-at : (came : List (ℕ × Payload)) (places : List Place) (ms : List (ℕ × Payload)) (i : ℕ) (p : Place)
+    → looked_up came places ≡ map Some ms → slice_get places i ≡ Some p → LeadsTo came ms i p.at
+looked_up-at came [] ms i p e h = absurd (cc)
+looked_up-at came (q ∷ places) [] i p e h = absurd (cc)
+looked_up-at came (q ∷ places) (y ∷ ms) zero p e h =
+    let first : slice_get came q.at ≡ Some y = cc in
+    let same : q ≡ p = cc in
+    record { message = y; came_so = rw (← same) first; stands = refl }
+looked_up-at came (q ∷ places) (y ∷ ms) (suc i) p e h =
+    let rest : looked_up came places ≡ map Some ms = cc in
+    let more = looked_up-at came places ms i p rest h in
+    record { message = more.message; came_so = more.came_so; stands = more.stands }
 
--- a number more is one more
-pub length-with_number : (xs : List ℕ) (n i : ℕ) → GoesAt xs n i → length (with_number xs n) ≡ length xs + 1
-length-with_number xs n i g = rw (with_number-at n xs i g.within g.below g.above) (length-insert xs i n g.within)
+-- the number of a place
+pub number_at : (places : List Place) (k : ℕ)
+    → get_or (numbers_at places) k 0 ≡ (slice_index_or places k (record { number = 0; at = 0 })).number
+number_at [] k = refl
+number_at (p ∷ places) zero = refl
+number_at (p ∷ places) (suc k) = number_at places k
 
--- both lists grow alike
-pub length-insert_beside : (xs : List ℕ) (ps : List Payload) (n : ℕ) (p : Payload) (i : ℕ)
-    → length ps ≡ length xs → GoesAt xs n i → length (insert ps i p) ≡ length (with_number xs n)
-length-insert_beside xs ps n p i e g =
-    let payloads : length (insert ps i p) ≡ length ps + 1 = length-insert ps i p (omega (arith, g.within)) in
-    omega (arith, length-with_number xs n i g)
+-- as many places as messages by number
+pub length-places : (came : List (ℕ × Payload)) (places : List Place) → IsSorting came places
+    → length places ≡ length (by_number came)
+length-places came places s =
+    let numbers : length (numbers_at places) ≡ length (numbers_of (by_number came)) = ap length s.numbers in
+    omega (
+      arith,
+      length-map places (λ (p : Place). p.number),
+      length-map (by_number came) (λ (m : ℕ × Payload). m.0),
+      numbers,
+    )
 
--- the front is no further than there are numbers, and so after one more
-pub front_of-within : (xs : List ℕ) (n i : ℕ) → GoesAt xs n i → front_of xs ≤ length (with_number xs n)
-front_of-within xs n i g = omega (arith, front_after-to 0 xs, length-with_number xs n i g)
+-- a number that is none of them is below those that are not below it
+above_strictly : (xs : List ℕ) (n k : ℕ) → has_number xs n ≡ false → k < length xs → n ≤ get_or xs k 0
+    → n < get_or xs k 0
+above_strictly xs n k none h le = elim (lt-or-le n (get_or xs k 0)) [
+  | inl above ↦ above
+  | inr same ↦
+      let there : has_number xs n ≡ true = has_number-at xs k n h (omega arith) in absurd (cc)
+]
 
--- the test whether a number is past the window
-pub past_window : (front n : ℕ) → window < n - front → nat_lt (front + window) n ≡ true
-past_window front n h = grind (arith, nat_tests)
+-- a message with a new number goes in at the place of its number
+pub IsSorting-add : (came : List (ℕ × Payload)) (places : List Place) (n : ℕ) (p : Payload) (i : ℕ)
+    → IsSorting came places → 0 < n → has_number (numbers_of came) n ≡ false → GoesAt (numbers_at places) n i
+    → IsSorting (came ++ (n, p) ∷ []) (insert places i (record { number = n; at = length came }))
+IsSorting-add came places n p i s from_one new goes =
+    let ms = by_number came in
+    let xs = numbers_of ms in
+    let place : Place = record { number = n; at = length came } in
+    let message : ℕ × Payload = (n, p) in
+    let longer = came ++ message ∷ [] in
+    let at : GoesAt xs n i = rw s.numbers at goes in
+    let count : length xs ≡ length ms = length-map ms (λ (m : ℕ × Payload). m.0) in
+    let none : has_number xs n ≡ false = has_number-by_number came n ∙ new in
+    let above : (k : ℕ) → i ≤ k → k < length ms → n < get_or xs k 0
+    = λ k le l. above_strictly xs n k none (omega arith) (at.above k le (omega arith)) in
+    let more : by_number longer ≡ with_message ms n p = sorted_onto-push [] came message in
+    let sorted : by_number longer ≡ insert ms i message
+    = more ∙ with_message-at ms n p i (omega (arith, at.within)) at.below above in
+    let look : Place → Option (ℕ × Payload) = λ q. slice_get longer q.at in
+    let before : map look places ≡ map Some ms = looked_up-push came message places ms s.found in
+    let last : look place ≡ Some message = slice_get-last came message in
+    let found : map look (insert places i place) ≡ insert (map look places) i (look place)
+    = map-insert look places i place in
+    let seen : map Some (insert ms i message) ≡ insert (map Some ms) i (Some message) = map-insert Some ms i message in
+    let numbers : numbers_at (insert places i place) ≡ insert (numbers_at places) i n
+    = map-insert (λ (q : Place). q.number) places i place in
+    let numbered : numbers_of (insert ms i message) ≡ insert xs i n
+    = map-insert (λ (m : ℕ × Payload). m.0) ms i message in
+    record {
+      found = rw (sorted, found, before, last, seen) refl;
+      numbers = rw (sorted, numbers, s.numbers, numbered) refl;
+      rising = rw (more, numbers_of-with_message ms n p) (Rises-with_number 0 n xs s.rising from_one);
+    }
 
--- the test where it is not
-pub in_window : (front n : ℕ) → n - front ≤ window → nat_lt (front + window) n ≡ false
-in_window front n h = grind (arith, nat_tests)
+-- the front of the set is that of the messages
+pub front-same : (came : List (ℕ × Payload)) (ranges : List Range) (m : ℕ) → IsRising (numbers_of (by_number came))
+    → ((n : ℕ) → in_ranges ranges n ≡ has_number (numbers_of came) n) → IsFront ranges m → m ≡ front_of came
+front-same came ranges m rising same front =
+    let xs = numbers_of (by_number came) in
+    let f = front_of came in
+    let reached : 0 + f ≡ front_after 0 xs = length-without_gap 0 (by_number came) in
+    let sorted : (n : ℕ) → in_ranges ranges n ≡ has_number xs n = λ n. same n ∙ sym (has_number-by_number came n) in
+    elim (lt-or-le m f) [
+      | inl less ↦
+          let there : has_number xs (m + 1) ≡ true = front_after-has 0 xs (m + 1) (omega arith) (omega arith) in
+          let none : in_ranges ranges (m + 1) ≡ false = front.ends.1 in
+          let both : in_ranges ranges (m + 1) ≡ has_number xs (m + 1) = sorted (m + 1) in
+          absurd (cc)
+      | inr le ↦ elim (lt-or-le f m) [
+        | inl more ↦
+            let next : front_after 0 xs + 1 ≡ f + 1 = omega arith in
+            let none : has_number xs (f + 1) ≡ false = rw next at (front_after-next 0 xs rising) in
+            let there : in_ranges ranges (f + 1) ≡ true = front.inside (f + 1) (omega arith) (omega arith) in
+            let both : in_ranges ranges (f + 1) ≡ has_number xs (f + 1) = sorted (f + 1) in
+            absurd (cc)
+        | inr ge ↦ omega arith
+      ]
+    ]
+
+-- the greatest of some numbers is one of them
+greatest_of-has : (xs : List ℕ) → 0 < greatest_of xs → has_number xs (greatest_of xs) ≡ true
+greatest_of-has [] h = absurd (omega arith)
+greatest_of-has (x ∷ xs) h =
+    let rest : 0 < greatest_of xs → has_number xs (greatest_of xs) ≡ true = greatest_of-has xs in
+    elim (lt-or-le x (greatest_of xs)) [
+      | inl less ↦
+          let is : max x (greatest_of xs) ≡ greatest_of xs = omega arith in
+          let there : has_number xs (greatest_of xs) ≡ true = rest (omega arith) in
+          rw is (grind (arith, nat_tests, there))
+      | inr first ↦ let is : max x (greatest_of xs) ≡ x = omega arith in rw is (grind (arith, nat_tests))
+    ]
+
+-- and none is above it
+greatest_of-above : (xs : List ℕ) (n : ℕ) → has_number xs n ≡ true → n ≤ greatest_of xs
+greatest_of-above [] n h = absurd (cc)
+greatest_of-above (x ∷ xs) n h =
+    let rest : has_number xs n ≡ true → n ≤ greatest_of xs = greatest_of-above xs n in
+    grind (arith, nat_tests)
+
+-- the greatest number of the set is that of the messages
+pub greatest-same : (came : List (ℕ × Payload)) (ranges : List Range) (m : ℕ)
+    → ((n : ℕ) → in_ranges ranges n ≡ has_number (numbers_of came) n) → IsGreatest ranges m
+    → m ≡ greatest_of (numbers_of (by_number came))
+greatest-same came ranges m same greatest =
+    let xs = numbers_of (by_number came) in
+    let g = greatest_of xs in
+    let sorted : (n : ℕ) → in_ranges ranges n ≡ has_number xs n = λ n. same n ∙ sym (has_number-by_number came n) in
+    elim (lt-or-le m g) [
+      | inl less ↦
+          let there : in_ranges ranges g ≡ true = sorted g ∙ greatest_of-has xs (omega arith) in
+          absurd (omega (arith, greatest.above g there))
+      | inr le ↦ elim (lt-or-le g m) [
+        | inl more ↦
+            let there : has_number xs m ≡ true = sym (sorted m) ∙ greatest.inside (omega arith) in
+            absurd (omega (arith, greatest_of-above xs m there))
+        | inr ge ↦ omega arith
+      ]
+    ]
+
+-- a number more at the end
+has_number-push : (xs : List ℕ) (n k : ℕ) → has_number (xs ++ n ∷ []) k ≡ (has_number xs k || (k == n))
+has_number-push [] n k = grind (arith, nat_tests)
+has_number-push (x ∷ xs) n k =
+    let rest : has_number (xs ++ n ∷ []) k ≡ (has_number xs k || (k == n)) = has_number-push xs n k in
+    grind (arith, nat_tests, rest)
+
+-- what is kept, with one message more
+pub IsKept-add : (came longer : Came) (numbers more : Contents) (room n : ℕ) (p : Payload)
+    → IsKept came numbers room → 0 < n → longer.messages ≡ came.messages ++ (n, p) ∷ []
+    → more.ranges ≡ with_range numbers.ranges n n
+    → ((k : ℕ) → in_ranges more.ranges k ≡ (in_ranges numbers.ranges k || (k == n)))
+    → room - 1 ≤ longer.spare → room - 1 ≤ more.spare → IsKept longer more (room - 1)
+IsKept-add came longer numbers more room n p kept from_one messages ranges adds messages_fit numbers_fit =
+    let old = came.messages in
+    let message : ℕ × Payload = (n, p) in
+    let sorted : by_number (old ++ message ∷ []) ≡ with_message (by_number old) n p = sorted_onto-push [] old message in
+    let named : numbers_of (old ++ message ∷ []) ≡ numbers_of old ++ n ∷ [] = numbers_of-push old message in
+    record {
+      rising = rw (messages, sorted, numbers_of-with_message (by_number old) n p)
+          (Rises-with_number 0 n (numbers_of (by_number old)) kept.rising from_one);
+      ranges = rw (ranges, messages, named, ranges_onto-push [] (numbers_of old) n, kept.ranges) refl;
+      same = λ k. rw (messages, named)
+          (adds k ∙ ap (λ b. b || (k == n)) (kept.same k) ∙ sym (has_number-push (numbers_of old) n k));
+      messages_fit = messages_fit;
+      numbers_fit = numbers_fit;
+    }

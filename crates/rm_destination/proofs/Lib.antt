@@ -1,1 +1,3 @@
+pub mod InboxLemmas
 pub mod KeptLemmas
+pub mod LawLemmas

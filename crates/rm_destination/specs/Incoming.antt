@@ -1,80 +1,134 @@
--- The destination's side of one sequence: WS-ReliableMessaging 1.2, sections 3.4, 3.7 and 3.9.
-use Rattle.std.specs.Prelude.{◌≡◌, ℕ, ◌+◌, ◌==◌, nat_le, nat_lt, Bool, false, if◌then◌else◌, List, [], ◌∷◌, map, Option, Some, None, Result, Ok, Err}
+-- The destination's side of one sequence: WS-ReliableMessaging 1.2, sections 2.4, 3.4 to 3.7 and 3.9.
+use Rattle.std.specs.Prelude.{◌≡◌, ℕ, ◌+◌, ◌-◌, ◌==◌, ◌&&◌, ◌||◌, not, nat_le, nat_lt, Bool, false, if◌then◌else◌}
+use Rattle.std.specs.Prelude.{List, [], ◌∷◌, ◌++◌, length, drop, Option, Some, None, unwrap_or, Result, Ok, Err}
+use Rattle.rm_base.specs.NumberSet.{has_number, greatest_of}
 use Rattle.rm_base.specs.declared.message.Behaviour.{Behaviour}
+use Rattle.rm_base.specs.declared.message.Behaviour.TheVariants.{EntireSequence}
+use Rattle.rm_base.specs.declared.message.Cause.{Cause}
+use Rattle.rm_base.specs.declared.message.Cause.TheVariants.{Peer}
 use Rattle.rm_base.specs.declared.message.Payload.{Payload}
-use Rattle.rm_base.specs.NumberSet.{has_number, front_of}
 use Rattle.rm_destination.specs.declared.outcome.DestError.{DestError}
-use Rattle.rm_destination.specs.declared.outcome.DestError.TheVariants.{Memory, Terminated}
+use Rattle.rm_destination.specs.declared.outcome.DestError.TheVariants.{Memory as WantsMemory, Closed as IsClosed}
+use Rattle.rm_destination.specs.declared.outcome.DestError.TheVariants.{Terminated}
 use Rattle.rm_destination.specs.declared.outcome.InPhase.{InPhase}
-use Rattle.rm_destination.specs.declared.outcome.InPhase.TheVariants.{Open, Ended}
+use Rattle.rm_destination.specs.declared.outcome.InPhase.TheVariants.{Open, Closed, Ended}
 use Rattle.rm_destination.specs.declared.outcome.Took.{Took}
 use Rattle.rm_destination.specs.declared.outcome.Took.TheVariants.{New, Duplicate, PastWindow}
+use Rattle.rm_destination.specs.Messages.{is_empty, any_true, by_number, without_gap, numbers_of, contents_of, front_of}
 
--- its behaviour, its deadline in milliseconds since 1970 if there is one, and the received messages, each with its
--- number, by rising number
+-- what is known: what was announced for incomplete sequences; the moment at which it expires, in milliseconds since
+-- 1970 UTC; the messages that were received, in the order in which they came; for each time that it was closed or
+-- ended, whether it was ended; and the last numbers that its peer told with these, 0 where it told none
 pub record Receiving : Type 0 where
   pub behaviour : Behaviour
   pub deadline : Option ℕ
   pub received : List (ℕ × Payload)
+  pub closes : List Bool
+  pub told : List ℕ
 
--- the numbers of messages
-abbrev pub numbers_of : List (ℕ × Payload) → List ℕ
-numbers_of messages = map (λ (m : ℕ × Payload). m.0) messages
+-- a sequence: what is known of it, and for how many more messages there is room
+pub record Sequence : Type 0 where
+  pub facts : Receiving
+  pub room : ℕ
 
--- the greatest m such that 1 to m were received
-abbrev pub received_front : Receiving → ℕ
-received_front r = front_of (numbers_of r.received)
+-- a sequence of which nothing is known but what was announced
+abbrev pub fresh : Behaviour → Option ℕ → Sequence
+fresh behaviour deadline = record {
+  facts = record { behaviour = behaviour; deadline = deadline; received = []; closes = []; told = [] };
+  room = 0;
+}
 
--- the messages and one more, which stands at its place; a number that is there keeps its payload
-abbrev pub with_message : List (ℕ × Payload) → ℕ → Payload → List (ℕ × Payload)
-with_message [] number payload = (number, payload) ∷ []
-with_message (m ∷ ms) number payload =
-    if nat_lt number m.0 then (number, payload) ∷ m ∷ ms
-    else if number == m.0 then m ∷ ms
-    else m ∷ with_message ms number payload
+-- there is a deadline, and it is at most now
+abbrev pub is_past : Option ℕ → ℕ → Bool
+is_past None now = false
+is_past (Some moment) now = nat_le moment now
 
--- from n on, the payloads of the numbers that follow one another without a gap, as far as they go
-abbrev pub inbox_after : ℕ → List (ℕ × Payload) → List Payload
-inbox_after n [] = []
-inbox_after n (m ∷ ms) = if m.0 == n + 1 then m.1 ∷ inbox_after m.0 ms else []
+-- it was closed or ended, but by its deadline
+abbrev pub is_stopped : List Bool → Bool
+is_stopped closes = not (is_empty closes)
 
--- under DiscardFollowingFirstGap: the payloads of the messages from 1 on to the first gap
-abbrev pub inbox_of : Receiving → List Payload
-inbox_of r = inbox_after 0 r.received
+-- it has ended at a moment
+abbrev pub is_ended : Receiving → ℕ → Bool
+is_ended f now = any_true f.closes || is_past f.deadline now
 
--- the moment is at or past the deadline
-abbrev pub is_over : Option ℕ → ℕ → Bool
-is_over None now = false
-is_over (Some deadline) now = nat_le deadline now
-
--- it ends at its deadline
+-- how far it is at a moment
 abbrev pub phase_of : Receiving → ℕ → InPhase
-phase_of r now = if is_over r.deadline now then Ended else Open
+phase_of f now = if is_ended f now then Ended else if is_stopped f.closes then Closed else Open
 
--- how far past the front a message is received
-abbrev pub window : ℕ
-window = 1024
+-- what a message with this number is, where the sequence has not ended: the window ends 1024 past the front
+abbrev pub kind_of : Receiving → ℕ → Result Took DestError
+kind_of f number =
+    if has_number (numbers_of f.received) number then Ok Duplicate
+    else if is_stopped f.closes then Err IsClosed
+    else if nat_lt (front_of f.received + 1024) number then Ok (PastWindow (front_of f.received))
+    else Ok New
 
--- what a message with this number is, while the sequence has not ended
-abbrev pub kind_of : Receiving → ℕ → Took
-kind_of r number =
-    if has_number (numbers_of r.received) number then Duplicate
-    else if nat_lt (received_front r + window) number then PastWindow (received_front r)
-    else New
-
--- the answer to a message with this number at this moment
+-- the answer to a message with this number at a moment
 abbrev pub took_of : Receiving → ℕ → ℕ → Result Took DestError
-took_of r number now = if is_over r.deadline now then Err Terminated else Ok (kind_of r number)
+took_of f number now = if is_ended f now then Err Terminated else kind_of f number
+
+-- one message more, which takes room for one
+abbrev pub with_received : Sequence → ℕ → Payload → Sequence
+with_received s number payload = record {
+  facts = record s.facts { received = s.facts.received ++ (number, payload) ∷ [] };
+  room = s.room - 1;
+}
 
 -- the sequence after a message was answered so: a new one is received, and any other changes nothing
-abbrev pub after_take : Receiving → ℕ → Payload → Took → Receiving
-after_take r number payload New = record r { received = with_message r.received number payload }
-after_take r number payload Duplicate = r
-after_take r number payload (PastWindow front) = r
+abbrev pub after_take : Sequence → ℕ → Payload → Took → Sequence
+after_take s number payload New = with_received s number payload
+after_take s number payload _ = s
 
 -- how take may fail where this is the answer: a refusal comes as it is, and want of memory only at a new message
 abbrev pub IsTakeError : Result Took DestError → DestError → Type 0
-IsTakeError (Ok New) error = error ≡ Memory
-IsTakeError (Ok Duplicate) error = ⊥
-IsTakeError (Ok (PastWindow front)) error = ⊥
+IsTakeError (Ok New) error = error ≡ WantsMemory
+IsTakeError (Ok _) error = ⊥
 IsTakeError (Err refusal) error = error ≡ refusal
+
+-- the last number that the peer told, if it was the peer that closed or ended the sequence
+abbrev pub told_by : Cause → Option ℕ → List ℕ
+told_by Peer last = unwrap_or last 0 ∷ []
+told_by _ last = []
+
+-- the sequence was closed (false) or ended (true) once more
+abbrev pub stopped_by : Sequence → Bool → Cause → Option ℕ → Sequence
+stopped_by s ends cause last = record s {
+  facts = record s.facts { closes = s.facts.closes ++ ends ∷ []; told = s.facts.told ++ told_by cause last };
+}
+
+-- what close answers in a phase
+abbrev pub close_answer : InPhase → Result (Unit {0}) DestError
+close_answer Open = Ok tt
+close_answer Closed = Err IsClosed
+close_answer Ended = Err Terminated
+
+-- the number that was told, or the greatest that came where none was told
+abbrev pub last_number : ℕ → List (ℕ × Payload) → ℕ
+last_number n ms = if n == 0 then greatest_of (numbers_of ms) else n
+
+-- the messages are exactly those from 1 to the last number
+abbrev pub is_whole : ℕ → List (ℕ × Payload) → Bool
+is_whole n ms = (length (without_gap 0 ms) == last_number n ms) && (length ms == last_number n ms)
+
+-- by what the peer told first
+abbrev pub is_whole_by : List ℕ → List (ℕ × Payload) → Bool
+is_whole_by [] ms = false
+is_whole_by (n ∷ ns) ms = is_whole n ms
+
+-- IncompleteSequenceBehavior: section 3.4. DiscardEntireSequence: all messages of a complete sequence, else none.
+-- Otherwise those up to the first gap
+abbrev pub inbox_of : Behaviour → List ℕ → List (ℕ × Payload) → List Payload
+inbox_of EntireSequence ns ms = if is_whole_by ns ms then contents_of ms else []
+inbox_of _ ns ms = without_gap 0 ms
+
+-- of the messages, what is not in the inbox, once the sequence was closed or ended, but by its deadline
+abbrev pub discarded_of : List Bool → List Payload → List (ℕ × Payload) → List Payload
+discarded_of closes inbox ms = if is_stopped closes then drop (length inbox) (contents_of ms) else []
+
+-- what is released to the application
+abbrev pub inbox : Receiving → List Payload
+inbox f = inbox_of f.behaviour f.told (by_number f.received)
+
+-- of what was received, what is never released
+abbrev pub discarded : Receiving → List Payload
+discarded f = discarded_of f.closes (inbox f) (by_number f.received)

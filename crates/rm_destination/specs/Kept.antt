@@ -1,15 +1,63 @@
 -- What an incoming sequence keeps, beside what it is seen as.
-use Rattle.std.specs.Prelude.{◌≡◌, ◌<◌, ◌≤◌, ℕ, List, length, slice_index}
+use Rattle.std.specs.Prelude.{◌≡◌, ◌<◌, ◌≤◌, ℕ, Bool, true, false, List, [], ◌∷◌, ◌++◌, length, map, if◌then◌else◌}
+use Rattle.std.specs.Prelude.{slice_get, slice_index_or, Option, Some, None}
 use Rattle.rm_base.specs.declared.message.Payload.{Payload}
-use Rattle.rm_base.specs.NumberSet.{front_of}
+use Rattle.rm_base.specs.NumberSet.{IsRising, has_number}
+use Rattle.ack_ranges.specs.Ranges.{Contents, in_ranges}
+use Rattle.rm_destination.specs.declared.arrivals.Place.{Place}
+use Rattle.rm_destination.specs.declared.incoming.Stop.{Stop}
+use Rattle.rm_destination.specs.Incoming.{told_by, is_whole_by}
+use Rattle.rm_destination.specs.Messages.{by_number, numbers_of, ranges_onto}
 
--- a payload beside each number, and the front of the numbers
-pub record IsKept (numbers : List ℕ) (payloads : List Payload) (front : ℕ) : Type 0 where
-  pub beside : length payloads ≡ length numbers
-  pub reached : front ≡ front_of numbers
+-- the messages that came, in their order, and for how many more there is room
+pub record Came : Type 0 where
+  pub messages : List (ℕ × Payload)
+  pub spare : ℕ
 
--- a number's place: those before it are below the number, and those from it on are above
+-- the numbers of places
+abbrev pub numbers_at : List Place → List ℕ
+numbers_at places = map (λ (p : Place). p.number) places
+
+-- the message at each place
+abbrev pub looked_up : List (ℕ × Payload) → List Place → List (Option (ℕ × Payload))
+looked_up came places = map (λ (p : Place). slice_get came p.at) places
+
+-- the places lead to the messages that came, by rising number
+pub record IsSorting (came : List (ℕ × Payload)) (places : List Place) : Type 0 where
+  pub found : looked_up came places ≡ map Some (by_number came)
+  pub numbers : numbers_at places ≡ numbers_of (by_number came)
+  pub rising : IsRising (numbers_of (by_number came))
+
+-- a number's place: those before it are below the number, and those from it on are not
 pub record GoesAt (numbers : List ℕ) (n place : ℕ) : Type 0 where
   pub within : place ≤ length numbers
-  pub below : (k : ℕ) → k < place → slice_index numbers k < n
-  pub above : (k : ℕ) → place ≤ k → k < length numbers → n < slice_index numbers k
+  pub below : (k : ℕ) → k < place → slice_index_or numbers k 0 < n
+  pub above : (k : ℕ) → place ≤ k → k < length numbers → n ≤ slice_index_or numbers k 0
+
+-- the set has the numbers of the messages, and there is the room that was asked for and not used
+pub record IsKept (came : Came) (numbers : Contents) (room : ℕ) : Type 0 where
+  pub rising : IsRising (numbers_of (by_number came.messages))
+  pub ranges : numbers.ranges ≡ ranges_onto [] (numbers_of came.messages)
+  pub same : (n : ℕ) → in_ranges numbers.ranges n ≡ has_number (numbers_of came.messages) n
+  pub messages_fit : room ≤ came.spare
+  pub numbers_fit : room ≤ numbers.spare
+
+-- it was closed and it was ended, or not
+abbrev pub closes_of : Option Stop → Option Stop → List Bool
+closes_of None None = []
+closes_of None (Some e) = true ∷ []
+closes_of (Some c) None = false ∷ []
+closes_of (Some c) (Some e) = false ∷ true ∷ []
+
+-- what the peer told, if it was the peer
+abbrev pub told_at : Option Stop → List ℕ
+told_at None = []
+told_at (Some s) = told_by s.cause (Some s.last)
+
+-- what the peer told by a close and by an end
+abbrev pub told_of : Option Stop → Option Stop → List ℕ
+told_of closed ended = told_at closed ++ told_at ended
+
+-- how many messages there are where they are all, by what the peer told first, and else 0
+abbrev pub whole_len : List ℕ → List (ℕ × Payload) → ℕ
+whole_len ns ms = if is_whole_by ns ms then length ms else 0

@@ -1,97 +1,134 @@
 //! The destination's side of one sequence.
-ghost use Rattle.std.specs.Prelude.{◌≡◌, ◌+◌, ◌≤◌, ◌<◌, [], None, false, length, drop, slice_get, IfOk, IfErr, OnOk, OnErr};
-ghost use Rattle.std.specs.List.{zip};
+ghost use Rattle.std.specs.Prelude.{◌≡◌, ◌+◌, ◌^◌, ◌≤◌, ◌<◌, [], None, true, false, not, length, ℕ, Result, Ok, Err};
+ghost use Rattle.std.specs.Prelude.{IfOk, IfErr, IsOk, OnOk, OnErr, MatchBool, slice_get};
 ghost use Rattle.std.specs.Option.{option_copied};
-ghost use Rattle.rm_base.specs.NumberSet.{IsRising, has_number, front_of, front_after};
-ghost use Rattle.rm_destination.specs.Incoming.{Receiving, numbers_of, inbox_of, phase_of, kind_of, took_of, after_take, IsTakeError};
+ghost use Rattle.ack_ranges.specs.Ranges.{in_ranges};
+ghost use Rattle.rm_base.specs.Message.{max_number};
+ghost use Rattle.rm_base.specs.NumberSet.{has_number};
 ghost use Rattle.rm_base.specs.Numbered.{numbered};
-ghost use Rattle.rm_destination.specs.Kept.{IsKept, GoesAt};
+ghost use Rattle.rm_destination.specs.Messages.{any_true, by_number, numbers_of, front_of, ranges_onto};
+ghost use Rattle.rm_destination.specs.Kept.{told_at, told_of, whole_len};
+ghost use Rattle.rm_destination.specs.Incoming.{fresh, phase_of, took_of, after_take, with_received, kind_of};
+ghost use Rattle.rm_destination.specs.Incoming.{IsTakeError, is_past, is_ended, is_stopped, is_whole, last_number};
+ghost use Rattle.rm_destination.specs.Incoming.{stopped_by, close_answer, inbox, discarded};
 
+use crate::arrivals::Arrivals;
 use crate::outcome::{DestError, InPhase, Took};
-use rm_base::{Behaviour, Memory, NumberSet, Payload};
+use ack_ranges::RangeSet;
+use rm_base::{Behaviour, Cause, Memory, Payload};
 use std::alloc::Global;
 use std::marker::Model;
 
 /// Messages further past the front than this are not received.
 pub const WINDOW: u64 = 1024;
 
-/// The destination's side of one sequence.
+/// Why a sequence was closed or ended, and the last number that was told with it, 0 where there was none.
+#[derive(Clone, Copy, Debug)]
+pub(crate) struct Stop {
+    pub cause: Cause,
+    pub last: u64,
+}
+
+/// The destination's side of one sequence. Room that was made for messages to come counts until it is used or given up.
 #[derive(Debug, Drop)]
 pub struct Incoming {
     behaviour: Behaviour,
     deadline: Option<u64>,
-    numbers: NumberSet,
-    payloads: Vec<Payload>,
-    front: usize,
+    arrivals: Arrivals,
+    numbers: RangeSet,
+    closed: Option<Stop>,
+    ended: Option<Stop>,
+    room: usize,
 }
 
 impl Model for Incoming {
-    ghost Value = { Receiving };
+    ghost use Rattle.rm_destination.specs.Incoming.{Sequence};
+    ghost use Rattle.rm_destination.specs.Kept.{IsKept, closes_of, told_of};
+
+    ghost Value = { Sequence };
 
     ghost view = { λ i. record {
-      behaviour = i.behaviour;
-      deadline = i.deadline;
-      received = zip i.numbers i.payloads.items;
+      facts = record {
+        behaviour = i.behaviour;
+        deadline = i.deadline;
+        received = i.arrivals.messages;
+        closes = closes_of i.closed i.ended;
+        told = told_of i.closed i.ended;
+      };
+      room = i.room;
     } };
 
-    ghost invariant = { λ i. IsKept i.numbers i.payloads.items i.front };
+    ghost invariant = { λ i. IsKept i.arrivals i.numbers i.room };
 }
 
 impl Incoming {
     /// A sequence on which nothing was received. It takes no memory.
     pub fn new(alloc: Global, behaviour: Behaviour, deadline: Option<u64>) -> Self
-        requires behaviour { behaviour ≡ Behaviour.FollowingFirstGap }
-        requires deadline { deadline ≡ None }
-        ensures { result ≡ record { behaviour = behaviour; deadline = deadline; received = [] } }
+        ensures { result ≡ fresh behaviour deadline }
     {
         Incoming {
             behaviour,
             deadline,
-            numbers: NumberSet::new(alloc),
-            payloads: Vec::new(alloc),
-            front: 0,
+            arrivals: Arrivals::new(alloc),
+            numbers: RangeSet::new(alloc),
+            closed: None,
+            ended: None,
+            room: 0,
         }
     }
 
-    /// How far the sequence is at a moment.
+    /// How far the sequence is at a moment. It ends at its deadline, or earlier.
     pub fn phase(&self, now: u64) -> InPhase
-        ensures { result ≡ phase_of self.now now }
+        ensures { result ≡ phase_of self.now.facts now }
     {
-        match self.deadline {
-            Some(deadline) if deadline <= now => InPhase::Ended,
-            _ => InPhase::Open,
+        if self.ended.is_some() || is_past(self.deadline, now) {
+            return InPhase::Ended;
         }
+        if self.is_stopped() {
+            return InPhase::Closed;
+        }
+        InPhase::Open
     }
 
-    /// What it does with messages after a gap.
+    /// What was announced for messages behind a gap, once the sequence is closed.
     pub fn behaviour(&self) -> Behaviour
-        ensures { result ≡ self.now.behaviour }
+        ensures { result ≡ self.now.facts.behaviour }
     {
         self.behaviour
     }
 
     /// The numbers of the messages that were received.
-    pub fn received(&self) -> &NumberSet
-        ensures { result.now ≡ numbers_of self.now.received }
+    pub fn received(&self) -> &RangeSet
+        ensures ranges { result.now.ranges ≡ ranges_onto [] (numbers_of self.now.facts.received) }
+        ensures same { (n : ℕ) → in_ranges result.now.ranges n ≡ has_number (numbers_of self.now.facts.received) n }
     {
         &self.numbers
     }
 
+    /// The messages that were received, each with its number, in the order in which they came.
+    pub fn messages(&self) -> &[(u64, Payload)]
+        ensures { result.now ≡ self.now.facts.received }
+    {
+        self.arrivals.as_slice()
+    }
+
     /// What `take` would answer, but for want of memory.
     pub fn probe(&self, number: u64, now: u64) -> Result<Took, DestError>
-        ensures { result ≡ took_of self.now number now }
+        ensures { result ≡ took_of self.now.facts number now }
     {
         match self.phase(now) {
             InPhase::Ended => Err(DestError::Terminated),
-            _ => Ok(self.kind(number)),
+            _ => self.kind(number),
         }
     }
 
-    /// Receives a message, where it is new. Want of memory comes only there, and changes nothing.
+    /// Receives a message, where it is new. Where there is room for it, it takes no memory.
     pub fn take(&mut self, number: u64, payload: Payload, now: u64) -> Result<Took, DestError>
-        requires { 0 < number }
-        ensures answer { IfOk result (λ took. took_of self.old number now ≡ Ok took) }
-        ensures error { IfErr result (IsTakeError (took_of self.old number now)) }
+        requires from_one { 0 < number }
+        requires within { number ≤ max_number }
+        ensures answer { IfOk result (λ took. took_of self.old.facts number now ≡ Ok took) }
+        ensures error { IfErr result (IsTakeError (took_of self.old.facts number now)) }
+        ensures ready { 0 < self.old.room → result ≡ took_of self.old.facts number now }
         ensures ok { IfOk result (λ took. self.new ≡ after_take self.old number payload took) }
         ensures err { OnErr result (self.new ≡ self.old) }
     {
@@ -102,77 +139,211 @@ impl Incoming {
         Ok(took)
     }
 
+    /// Receives a message without a look at the window and the deadline, as a record of one that was received asks for
+    /// it. Where there is room for it, it takes no memory.
+    pub fn keep(&mut self, number: u64, payload: Payload) -> Result<(), Memory>
+        requires from_one { 0 < number }
+        requires within { number ≤ max_number }
+        requires is_new { has_number (numbers_of self.old.facts.received) number ≡ false }
+        requires is_open { self.old.facts.closes ≡ [] }
+        ensures ok { OnOk result (self.new ≡ with_received self.old number payload) }
+        ensures ready { 0 < self.old.room → IsOk result }
+        ensures err { OnErr result (self.new ≡ self.old) }
+    {
+        self.arrivals.reserve(1)?;
+        self.numbers.insert(number)?;
+        match self.arrivals.add(number, payload) {
+            Ok(()) => {}
+            Err(_) => unreachable!(),
+        }
+        self.room = self.room.saturating_sub(1);
+        Ok(())
+    }
+
+    /// Closes the sequence, where it is open at the moment. A last number of 0 counts as none.
+    pub fn close(&mut self, cause: Cause, last: Option<u64>, now: u64) -> Result<(), DestError>
+        ensures answer { result ≡ close_answer (phase_of self.old.facts now) }
+        ensures ok { OnOk result (self.new ≡ stopped_by self.old false cause last) }
+        ensures err { OnErr result (self.new ≡ self.old) }
+    {
+        match self.phase(now) {
+            InPhase::Open => {}
+            InPhase::Closed => return Err(DestError::Closed),
+            InPhase::Ended => return Err(DestError::Terminated),
+        }
+        self.closed = Some(Stop {
+            cause,
+            last: last.unwrap_or(0),
+        });
+        Ok(())
+    }
+
+    /// Ends the sequence, and answers whether it had not been ended before, but by its deadline. A last number of 0
+    /// counts as none.
+    pub fn end(&mut self, cause: Cause, last: Option<u64>) -> bool
+        ensures answer { result ≡ not (any_true self.old.facts.closes) }
+        ensures after { MatchBool result (self.new ≡ stopped_by self.old true cause last) (self.new ≡ self.old) }
+    {
+        if self.ended.is_some() {
+            return false;
+        }
+        self.ended = Some(Stop {
+            cause,
+            last: last.unwrap_or(0),
+        });
+        true
+    }
+
     /// How many payloads the inbox has.
     pub fn inbox_len(&self) -> u64
-        ensures { result ≡ length (inbox_of self.now) }
+        ensures { result ≡ length (inbox self.now.facts) }
     {
-        self.front as u64
+        match self.behaviour {
+            Behaviour::EntireSequence => self.whole_len(),
+            Behaviour::NoDiscard | Behaviour::FollowingFirstGap => self.front(),
+        }
     }
 
     /// The inbox's payload at a place, counted from 1.
     pub fn inbox_item(&self, i: u64) -> Option<&Payload>
-        ensures { option_copied result ≡ numbered (inbox_of self.now) i }
+        ensures { option_copied result ≡ numbered (inbox self.now.facts) i }
     {
-        if i > self.front as u64 {
+        if i == 0 || i > self.inbox_len() {
             return None;
         }
-        rm_base::numbered(self.payloads.as_slice(), i)
+        self.arrivals.nth((i - 1) as usize)
     }
 
-    /// What a message with this number is.
-    fn kind(&self, number: u64) -> Took
-        ensures { result ≡ kind_of self.now number }
+    /// How many payloads are never released. There are none before the sequence is closed or ended. Memory holds fewer
+    /// payloads than there are numbers of 64 bits.
+    pub fn discarded_len(&self) -> u64
+        ensures count { result ≡ length (discarded self.now.facts) }
+        ensures few { length (inbox self.now.facts) + result < 2 ^ 64 }
     {
-        if self.numbers.has(number) {
-            return Took::Duplicate;
+        let released = self.inbox_len();
+        if !self.is_stopped() {
+            return 0;
         }
-        let front = self.front as u64;
-        if number.saturating_sub(front) > WINDOW {
-            return Took::PastWindow { front };
-        }
-        Took::New
+        (self.arrivals.len() as u64).saturating_sub(released)
     }
 
-    /// Keeps a new message, and moves the front on where it closes the gap.
-    fn keep(&mut self, number: u64, payload: Payload) -> Result<(), Memory>
-        requires from_one { 0 < number }
-        requires is_new { has_number (numbers_of self.old.received) number ≡ false }
-        ensures ok { OnOk result (self.new ≡ after_take self.old number payload Took.New) }
-        ensures err { OnErr result (self.new ≡ self.old) }
+    /// The payload at a place among those that are never released, which stand by rising number, counted from 1.
+    pub fn discarded_item(&self, i: u64) -> Option<&Payload>
+        ensures { option_copied result ≡ numbered (discarded self.now.facts) i }
     {
-        let place = place_of(self.numbers.as_slice(), number);
-        self.payloads.reserve(1)?;
-        self.numbers.insert(number)?;
-        match self.payloads.insert(place, payload) {
-            Ok(()) => {}
-            Err(_) => unreachable!(),
+        if i == 0 || i > self.discarded_len() {
+            return None;
         }
-        self.front = front_from(self.numbers.as_slice(), self.front);
+        self.arrivals.nth((self.inbox_len() + (i - 1)) as usize)
+    }
+
+    /// Makes room for so many more messages, beside those for which there is room: so many more calls of `keep`, and of
+    /// `take` that keep a message, take no memory.
+    pub fn reserve(&mut self, messages: usize) -> Result<(), Memory>
+        ensures facts { self.new.facts ≡ self.old.facts }
+        ensures ok { OnOk result (self.new.room ≡ self.old.room + messages) }
+        ensures err { OnErr result (self.new.room ≡ self.old.room) }
+    {
+        let room = self.room.checked_add(messages).ok_or(Memory)?;
+        self.arrivals.reserve(room)?;
+        self.numbers.reserve(room)?;
+        self.room = room;
         Ok(())
     }
-}
 
-/// Where a number goes in that is none of these rising ones.
-fn place_of(numbers: &[u64], number: u64) -> usize
-    requires rising { IsRising numbers.now }
-    requires is_new { has_number numbers.now number ≡ false }
-    ensures { GoesAt numbers.now number result }
-{
-    match numbers.binary_search(&number) {
-        Ok(_) => unreachable!(),
-        Err(place) => place,
+    /// Gives up the room that was made and not used.
+    pub fn release(&mut self)
+        ensures { self.new ≡ record self.old { room = 0 } }
+    {
+        self.room = 0;
+    }
+
+    /// Whether it was closed or ended, but by its deadline.
+    fn is_stopped(&self) -> bool
+        ensures { result ≡ is_stopped self.now.facts.closes }
+    {
+        self.closed.is_some() || self.ended.is_some()
+    }
+
+    /// How many messages it has where it is complete, and else 0.
+    fn whole_len(&self) -> u64
+        ensures { result ≡ whole_len self.now.facts.told (by_number self.now.facts.received) }
+    {
+        match first_told(self.closed, self.ended) {
+            Some(told) if self.is_whole(told) => self.arrivals.len() as u64,
+            _ => 0,
+        }
+    }
+
+    /// Whether the messages are exactly those from 1 to the last number, where the peer told this one.
+    fn is_whole(&self, told: u64) -> bool
+        ensures { result ≡ is_whole told (by_number self.now.facts.received) }
+    {
+        let last = self.last_number(told);
+        self.front() == last && self.arrivals.len() as u64 == last
+    }
+
+    /// The number that was told, or the greatest that came where none was told.
+    fn last_number(&self, told: u64) -> u64
+        ensures { result ≡ last_number told (by_number self.now.facts.received) }
+    {
+        if told == 0 {
+            return self.numbers.greatest();
+        }
+        told
+    }
+
+    /// The greatest m such that 1 to m came.
+    fn front(&self) -> u64
+        ensures { result ≡ front_of self.now.facts.received }
+    {
+        self.numbers.front()
+    }
+
+    /// What a message with this number is, on a sequence that has not ended.
+    fn kind(&self, number: u64) -> Result<Took, DestError>
+        ensures { result ≡ kind_of self.now.facts number }
+    {
+        if self.numbers.has(number) {
+            return Ok(Took::Duplicate);
+        }
+        if self.is_stopped() {
+            return Err(DestError::Closed);
+        }
+        let front = self.front();
+        if number.saturating_sub(front) > WINDOW {
+            return Ok(Took::PastWindow { front });
+        }
+        Ok(Took::New)
     }
 }
 
-/// The front of rising numbers of which the first ones are known to be 1 to `known`.
-fn front_from(numbers: &[u64], known: usize) -> usize
-    requires within { known ≤ length numbers.now }
-    requires known { front_after known (drop known numbers.now) ≡ front_of numbers.now }
-    ensures { result ≡ front_of numbers.now }
+/// Whether there is a deadline, and it is at most now.
+fn is_past(deadline: Option<u64>, now: u64) -> bool
+    ensures { result ≡ is_past deadline now }
 {
-    let mut front = known;
-    while front < numbers.len() && numbers[front] == front as u64 + 1 {
-        front += 1;
+    match deadline {
+        Some(deadline) => deadline <= now,
+        None => false,
     }
-    front
+}
+
+/// What the peer told first, where it closed or ended the sequence.
+fn first_told(closed: Option<Stop>, ended: Option<Stop>) -> Option<u64>
+    ensures { result ≡ slice_get (told_of closed ended) 0 }
+{
+    match told_at(closed) {
+        Some(told) => Some(told),
+        None => told_at(ended),
+    }
+}
+
+/// What the peer told, if it was the peer.
+fn told_at(stop: Option<Stop>) -> Option<u64>
+    ensures { result ≡ slice_get (told_at stop) 0 }
+{
+    match stop {
+        Some(stop) if stop.cause == Cause::Peer => Some(stop.last),
+        _ => None,
+    }
 }

@@ -1,19 +1,23 @@
-//! What the definitions of the inbox and of what was received mean.
-ghost use Rattle.std.specs.Prelude.{ℕ, List};
-ghost use Rattle.rm_base.specs.NumberSet.{IsRising, front_of};
-ghost use Rattle.rm_base.specs.declared.message.Payload.{Payload};
-ghost use Rattle.rm_destination.specs.Added.{IsNew, AddsMessage};
-ghost use Rattle.rm_destination.specs.Front.{IsFront, IsInbox};
-ghost use Rattle.rm_destination.specs.Incoming.{Receiving, numbers_of, inbox_of, with_message};
+//! What the definitions of the front, the inbox and the discarded messages come to.
+ghost use Rattle.rm_destination.specs.Incoming.{Receiving};
+ghost use Rattle.rm_destination.specs.Laws.{FrontIsReached, PlaceIsNumber, InboxIsAPrefix, NothingIsLost};
 
-/// The front is the greatest number up to which all are there, and the inbox has the payloads up to it, each at the
-/// place of its number.
-pub fn inbox_reaches_front()
-    ensures front { (numbers : List ℕ) → IsRising numbers → IsFront numbers (front_of numbers) }
-    ensures inbox { (r : Receiving) → IsRising (numbers_of r.received) → IsInbox r.received (inbox_of r) }
+/// The front is the greatest m such that 1 to m came.
+pub fn front_is_reached()
+    ensures { FrontIsReached }
 {}
 
-/// A message with a new number is added to those that were received, which stay.
-pub fn new_message_is_added()
-    ensures { (ms : List (ℕ × Payload)) (n : ℕ) (p : Payload) → IsNew ms n → AddsMessage ms (with_message ms n p) n p }
+/// What stands at a place up to the first gap came with the number of that place.
+pub fn place_is_number()
+    ensures { PlaceIsNumber }
+{}
+
+/// The inbox is what came up to the first gap, or nothing, and under DiscardEntireSequence all or nothing.
+pub fn inbox_is_a_prefix()
+    ensures { (f : Receiving) → InboxIsAPrefix f }
+{}
+
+/// Once the sequence was closed or ended, all that came is in the inbox or discarded.
+pub fn nothing_is_lost()
+    ensures { NothingIsLost }
 {}

@@ -1,25 +1,38 @@
 -- Acknowledged numbers: how many there are, and how great they get.
-use Rattle.std.proofs.Common.{ℕ, ◌+◌, ◌≤◌, max, List, [], ◌∷◌, length, arith}
+use Rattle.std.proofs.Common.{◌≡◌, ℕ, ◌+◌, ◌≤◌, ◌||◌, max, true, List, [], ◌∷◌, sym, ◌∙◌, arith, inl, inr}
 use Rattle.std.proofs.lemmas.Bool.Decides.{nat_tests}
-use Rattle.rm_base.specs.NumberSet.{Rises, with_number, united, greatest_of}
+use Rattle.std.proofs.lemmas.List.Sums.{sum_by-cons}
+use Rattle.ack_ranges.specs.declared.range.Range.{Range}
+use Rattle.ack_ranges.specs.Changes.{AddsExactly}
+use Rattle.ack_ranges.specs.Ranges.{in_ranges, RisesFrom, IsCanonical, size_of, count_of, greatest_of, IsGreatest}
+use Rattle.rm_base.specs.NumberSetLemmas.{lt-or-le}
 
--- rising numbers above low are at most as many as there are numbers from low to the greatest
-pub length-rising : (low : ℕ) (xs : List ℕ) → Rises low xs → low + length xs ≤ max low (greatest_of xs)
-length-rising low [] r = omega arith
-length-rising low (x ∷ xs) r =
-    let rest : x + length xs ≤ max x (greatest_of xs) = length-rising x xs r.1 in
-    omega (arith, r.0)
+-- ranges from the first number on have at most as many numbers as there are from it to the greatest
+count_of-from : (first : ℕ) (rs : List Range) → RisesFrom first rs
+    → first + count_of rs ≤ max first (greatest_of rs + 1)
+count_of-from first [] h = omega arith
+count_of-from first (r ∷ []) h = omega (arith, sum_by-cons size_of r [], h.0, h.1)
+count_of-from first (r ∷ s ∷ rs) h =
+    let rest : r.upper + 2 + count_of (s ∷ rs) ≤ max (r.upper + 2) (greatest_of (s ∷ rs) + 1)
+    = count_of-from (r.upper + 2) (s ∷ rs) h.3 in
+    omega (arith, sum_by-cons size_of r (s ∷ rs), sum_by-cons size_of s rs, h.0, h.1, h.3.0, h.3.1)
 
--- a number more
-pub greatest_of-with_number : (xs : List ℕ) (n : ℕ) → greatest_of (with_number xs n) ≤ max n (greatest_of xs)
-greatest_of-with_number [] n = omega arith
-greatest_of-with_number (x ∷ xs) n =
-    let rest : greatest_of (with_number xs n) ≤ max n (greatest_of xs) = greatest_of-with_number xs n in
-    grind (arith, nat_tests)
+-- canonical ranges have at most as many numbers as the greatest
+pub count_of-within : (rs : List Range) → IsCanonical rs → count_of rs ≤ greatest_of rs
+count_of-within rs h =
+    let from_one : 1 + count_of rs ≤ max 1 (greatest_of rs + 1) = count_of-from 1 rs h in omega arith
 
--- more numbers
-pub greatest_of-united : (xs ys : List ℕ) (n : ℕ) → greatest_of xs ≤ n → greatest_of ys ≤ n
-    → greatest_of (united xs ys) ≤ n
-greatest_of-united xs [] n g h = g
-greatest_of-united xs (y ∷ ys) n g h =
-    greatest_of-united (with_number xs y) ys n (omega (arith, greatest_of-with_number xs y)) (omega arith)
+-- more numbers get no greater than those before and those added
+pub greatest_of-added : (old given new : List Range) (n : ℕ) → AddsExactly old new (in_ranges given)
+    → IsGreatest old (greatest_of old) → IsGreatest given (greatest_of given) → IsGreatest new (greatest_of new)
+    → greatest_of old ≤ n → greatest_of given ≤ n → greatest_of new ≤ n
+greatest_of-added old given new n adds o g w below given_below = elim (lt-or-le n (greatest_of new)) [
+  | inl above ↦
+      let top = greatest_of new in
+      let there : in_ranges new top ≡ true = w.inside (omega arith) in
+      let either : (in_ranges old top || in_ranges given top) ≡ true = sym (adds.numbers top) ∙ there in
+      let not_old : in_ranges old top ≡ true → top ≤ greatest_of old = o.above top in
+      let not_given : in_ranges given top ≡ true → top ≤ greatest_of given = g.above top in
+      absurd (grind (arith, nat_tests, either, not_old, not_given))
+  | inr within ↦ within
+]

@@ -1,44 +1,70 @@
--- The source's side of one sequence: WS-ReliableMessaging 1.2, sections 3.7 and 3.9.
-use Rattle.std.specs.Prelude.{ℕ, ◌-◌, nat_le, nat_lt, if◌then◌else◌, List, length, Option, Some, None}
+-- The source's side of one sequence: WS-ReliableMessaging 1.2, sections 2.4, 3.7 and 3.9.
+use Rattle.std.specs.Prelude.{ℕ, ◌-◌, nat_le, nat_lt, if◌then◌else◌, List, [], ◌∷◌, ◌++◌, length, Option, Some, None}
 use Rattle.std.specs.Option.{option_or}
-use Rattle.rm_base.specs.Message.{max_number}
-use Rattle.rm_base.specs.NumberSet.{greatest_of}
+use Rattle.ack_ranges.specs.declared.range.Range.{Range}
+use Rattle.ack_ranges.specs.Changes.{united}
+use Rattle.ack_ranges.specs.Ranges.{count_of, greatest_of}
 use Rattle.rm_source.specs.declared.phase.OutPhase.{OutPhase}
 use Rattle.rm_source.specs.declared.phase.OutPhase.TheVariants.{Open}
 use Rattle.rm_source.specs.declared.error.SourceError.{SourceError}
 use Rattle.rm_source.specs.declared.error.SourceError.TheVariants.{NotOpen, WindowFull, Rollover, InvalidAck}
 
--- its phase, the payloads that were accepted as numbers 1, 2, and so on, and the acknowledged numbers, rising
+-- what is known: the phase, the payloads that were accepted as messages 1, 2, and so on, and the acknowledged numbers
 pub record Sending : Type 0 where
   pub phase : OutPhase
   pub accepted : List (List ℕ)
-  pub acked : List ℕ
+  pub acked : List Range
+
+-- for how many more payloads, and for how many more ranges of acknowledged numbers, there is room
+pub record Room : Type 0 where
+  pub payloads : ℕ
+  pub ranges : ℕ
+
+-- a sequence: what is known of it, and the room for more
+pub record Sequence : Type 0 where
+  pub facts : Sending
+  pub room : Room
+
+-- room for nothing
+abbrev pub no_room : Room
+no_room = record { payloads = 0; ranges = 0 }
 
 -- how many of the accepted payloads are not acknowledged
 abbrev pub unacked_of : Sending → ℕ
-unacked_of s = length s.accepted - length s.acked
+unacked_of s = length s.accepted - count_of s.acked
 
 -- why no payload is accepted in this phase
 abbrev pub phase_refusal : OutPhase → Option SourceError
 phase_refusal Open = None
 phase_refusal phase = Some (NotOpen phase)
 
--- how many payloads may wait for their acknowledgements
-abbrev pub source_window : ℕ
-source_window = 1024
-
--- why no payload is accepted after this many, of which so many are not acknowledged
-abbrev pub room_refusal : ℕ → ℕ → Option SourceError
-room_refusal accepted unacked =
-    if nat_le source_window unacked then Some (WindowFull unacked)
-    else if nat_le max_number accepted then Some Rollover
+-- why no payload is accepted after this many, of which so many are not acknowledged: the window of 1024 is full, or the
+-- numbers up to 9223372036854775807 are used up
+abbrev pub count_refusal : ℕ → ℕ → Option SourceError
+count_refusal accepted unacked =
+    if nat_le 1024 unacked then Some (WindowFull unacked)
+    else if nat_le 9223372036854775807 accepted then Some Rollover
     else None
 
--- why accept refuses a payload: the first reason that holds
+-- why the next payload is refused: the first reason that holds
 abbrev pub accept_refusal : Sending → Option SourceError
-accept_refusal s = option_or (phase_refusal s.phase) (room_refusal (length s.accepted) (unacked_of s))
+accept_refusal s = option_or (phase_refusal s.phase) (count_refusal (length s.accepted) (unacked_of s))
 
--- why learn refuses these numbers: one of them was never given to a payload
-abbrev pub learn_refusal : Sending → List ℕ → Option SourceError
+-- why these numbers are refused: the greatest of them was never given to a payload
+abbrev pub learn_refusal : Sending → List Range → Option SourceError
 learn_refusal s given =
     if nat_lt (length s.accepted) (greatest_of given) then Some (InvalidAck (greatest_of given)) else None
+
+-- one payload more, as the next number, which takes room for one
+abbrev pub with_payload : Sequence → List ℕ → Sequence
+with_payload o payload = record {
+  facts = record o.facts { accepted = o.facts.accepted ++ payload ∷ [] };
+  room = record o.room { payloads = o.room.payloads - 1 };
+}
+
+-- these numbers besides, which take room for their ranges
+abbrev pub with_acked : Sequence → List Range → Sequence
+with_acked o given = record {
+  facts = record o.facts { acked = united o.facts.acked given };
+  room = record o.room { ranges = o.room.ranges - length given };
+}

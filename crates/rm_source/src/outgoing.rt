@@ -1,133 +1,203 @@
 //! The source's side of one sequence.
-ghost use Rattle.std.specs.Prelude.{◌≡◌, ◌+◌, ◌++◌, ◌≤◌, ◌<◌, [], ◌∷◌, length, unwrap_or, IfOk, IfErr, IfSome, OnOk, OnErr};
+ghost use Rattle.std.specs.Prelude.{◌≡◌, ◌+◌, ◌≤◌, ◌<◌, [], None, length, not, unwrap_or, IfOk, IfErr, IfSome, IsOk};
+ghost use Rattle.std.specs.Prelude.{OnOk, OnErr};
 ghost use Rattle.std.specs.Option.{option_copied};
+ghost use Rattle.ack_ranges.specs.Changes.{covers_all};
 ghost use Rattle.rm_base.specs.Message.{max_number};
-ghost use Rattle.rm_base.specs.NumberSet.{united, brings_new, greatest_of};
 ghost use Rattle.rm_base.specs.Numbered.{numbered};
-ghost use Rattle.rm_source.specs.Outgoing.{Sending, unacked_of, room_refusal, accept_refusal, learn_refusal};
+ghost use Rattle.rm_source.specs.Laws.{IsSound};
+ghost use Rattle.rm_source.specs.Outgoing.{Sequence, no_room, unacked_of, count_refusal, accept_refusal};
+ghost use Rattle.rm_source.specs.Outgoing.{learn_refusal, with_payload, with_acked};
 
 use crate::error::SourceError;
 use crate::phase::OutPhase;
-use rm_base::{Blob, Items, MAX_NUMBER, NumberSet};
+use ack_ranges::{RangeSet, ends_are_right};
+use rm_base::{Blob, MAX_NUMBER, Memory, RoomyItems};
 use std::alloc::Global;
 use std::marker::Model;
 
 /// No payload is accepted while this many are not acknowledged.
 pub const WINDOW: u64 = 1024;
 
-/// The source's side of one sequence.
+/// The source's side of one sequence. Room that was made for payloads and ranges to come counts until it is used or
+/// given up.
 #[derive(Debug, Drop)]
 pub struct Outgoing {
     phase: OutPhase,
-    accepted: Items<Blob>,
-    acked: NumberSet,
+    accepted: RoomyItems<Blob>,
+    acked: RangeSet,
+    payloads_claimed: usize,
+    ranges_claimed: usize,
 }
 
 impl Model for Outgoing {
-    ghost Value = { Sending };
+    ghost use Rattle.rm_source.specs.Kept.{IsKept};
+    ghost use Rattle.rm_source.specs.Outgoing.{Sequence};
 
-    ghost view = { λ o. record { phase = o.phase; accepted = o.accepted; acked = o.acked } };
+    ghost Value = { Sequence };
 
-    ghost invariant = { λ o. greatest_of o.acked ≤ length o.accepted };
+    ghost view = { λ o. record {
+      facts = record { phase = o.phase; accepted = o.accepted.facts; acked = o.acked.ranges };
+      room = record { payloads = o.payloads_claimed; ranges = o.ranges_claimed };
+    } };
+
+    ghost invariant = { λ o. IsKept o.accepted o.acked o.payloads_claimed o.ranges_claimed };
 }
 
 impl Outgoing {
     /// A sequence for which nothing was accepted. It takes no memory.
     pub fn new(alloc: Global, phase: OutPhase) -> Self
-        ensures { result ≡ record { phase = phase; accepted = []; acked = [] } }
+        ensures { result ≡ record { facts = record { phase = phase; accepted = []; acked = [] }; room = no_room } }
     {
         Outgoing {
             phase,
-            accepted: Items::new(alloc),
-            acked: NumberSet::new(alloc),
+            accepted: RoomyItems::new(alloc),
+            acked: RangeSet::new(alloc),
+            payloads_claimed: 0,
+            ranges_claimed: 0,
         }
     }
 
     /// How far the sequence is.
     pub fn phase(&self) -> OutPhase
-        ensures { result ≡ self.now.phase }
+        ensures { result ≡ self.now.facts.phase }
     {
         self.phase
     }
 
+    /// Puts the sequence into another phase.
+    pub fn set_phase(&mut self, phase: OutPhase)
+        ensures facts { self.new.facts ≡ record self.old.facts { phase = phase } }
+        ensures room { self.new.room ≡ self.old.room }
+    {
+        self.phase = phase;
+    }
+
     /// How many payloads were accepted. Memory holds fewer than there are message numbers.
     pub fn accepted_len(&self) -> u64
-        ensures count { result ≡ length self.now.accepted }
-        ensures few { length self.now.accepted < max_number }
+        ensures count { result ≡ length self.now.facts.accepted }
+        ensures few { length self.now.facts.accepted < max_number }
     {
         self.accepted.as_slice().len() as u64
     }
 
     /// The payload with a message number, counted from 1.
     pub fn accepted(&self, number: u64) -> Option<&Blob>
-        ensures { option_copied result ≡ numbered self.now.accepted number }
+        ensures { option_copied result ≡ numbered self.now.facts.accepted number }
     {
         self.accepted.item(number)
     }
 
     /// The numbers that are known to be acknowledged.
-    pub fn acked(&self) -> &NumberSet
-        ensures numbers { result.now ≡ self.now.acked }
-        ensures within { greatest_of self.now.acked ≤ length self.now.accepted }
+    pub fn acked(&self) -> &RangeSet
+        ensures numbers { result.now.ranges ≡ self.now.facts.acked }
+        ensures sound { IsSound self.now.facts }
     {
         &self.acked
     }
 
-    /// How many of the accepted payloads are not acknowledged.
+    /// How many of the accepted payloads are not acknowledged. It looks at no number one by one.
     pub fn unacked(&self) -> u64
-        ensures { result ≡ unacked_of self.now }
+        ensures { result ≡ unacked_of self.now.facts }
     {
-        (self.accepted.len() - self.acked.as_slice().len()) as u64
+        self.accepted_len().saturating_sub(self.acked.count())
     }
 
     /// Accepts a payload, and answers its number. It is refused outside phase Open, then where the window is full, then
-    /// where the numbers are used up.
+    /// where the numbers are used up. Where there is room for it, it takes no memory.
     pub fn accept(&mut self, payload: Blob) -> Result<u64, SourceError>
-        ensures ok { OnOk result (self.new ≡ record self.old { accepted = self.old.accepted ++ payload ∷ [] }) }
-        ensures number { IfOk result (λ number. number ≡ length self.old.accepted + 1) }
-        ensures refused { IfSome (accept_refusal self.old) (λ refusal. result ≡ Err refusal) }
-        ensures error { IfErr result (λ error. error ≡ unwrap_or (accept_refusal self.old) SourceError.Memory) }
+        ensures ok { OnOk result (self.new ≡ with_payload self.old payload) }
+        ensures number { IfOk result (λ number. number ≡ length self.old.facts.accepted + 1) }
+        ensures refused { IfSome (accept_refusal self.old.facts) (λ refusal. result ≡ Err refusal) }
+        ensures error { IfErr result (λ error. error ≡ unwrap_or (accept_refusal self.old.facts) SourceError.Memory) }
+        ensures ready { accept_refusal self.old.facts ≡ None → 0 < self.old.room.payloads → IsOk result }
         ensures err { OnErr result (self.new ≡ self.old) }
     {
         if let Some(refusal) = self.refusal() {
             return Err(refusal);
         }
+        Ok(self.keep(payload)?)
+    }
+
+    /// Accepts a payload without a look at the window, as a record of one that was accepted asks for it.
+    pub fn keep(&mut self, payload: Blob) -> Result<u64, Memory>
+        requires is_open { self.old.facts.phase ≡ OutPhase.Open }
+        requires within { length self.old.facts.accepted < max_number }
+        ensures ok { OnOk result (self.new ≡ with_payload self.old payload) }
+        ensures number { IfOk result (λ number. number ≡ length self.old.facts.accepted + 1) }
+        ensures ready { 0 < self.old.room.payloads → IsOk result }
+        ensures err { OnErr result (self.new ≡ self.old) }
+    {
         let number = self.accepted.len() as u64 + 1;
         self.accepted.push(payload)?;
+        self.payloads_claimed = self.payloads_claimed.saturating_sub(1);
         Ok(number)
     }
 
-    /// Adds numbers to the acknowledged ones, and answers whether one of them is new. Numbers of which one is above the
-    /// count of accepted payloads are refused.
-    pub fn learn(&mut self, given: &NumberSet) -> Result<bool, SourceError>
-        ensures ok { OnOk result (self.new ≡ record self.old { acked = united self.old.acked given.now }) }
-        ensures is_new { IfOk result (λ is_new. is_new ≡ brings_new self.old.acked given.now) }
-        ensures refused { IfSome (learn_refusal self.old given.now) (λ refusal. result ≡ Err refusal) }
+    /// Adds numbers to the acknowledged ones, and answers whether one of them is new. They are refused where the
+    /// greatest of them is above the count of accepted payloads. Where there is room for their ranges, it takes no
+    /// memory.
+    pub fn learn(&mut self, given: &RangeSet) -> Result<bool, SourceError>
+        ensures ok { OnOk result (self.new ≡ with_acked self.old given.now.ranges) }
+        ensures is_new { IfOk result (λ is_new. is_new ≡ not (covers_all self.old.facts.acked given.now.ranges)) }
+        ensures refused { IfSome (learn_refusal self.old.facts given.now.ranges) (λ refusal. result ≡ Err refusal) }
         ensures error { IfErr result (λ error. error
-            ≡ unwrap_or (learn_refusal self.old given.now) SourceError.Memory) }
+            ≡ unwrap_or (learn_refusal self.old.facts given.now.ranges) SourceError.Memory) }
+        ensures ready { learn_refusal self.old.facts given.now.ranges ≡ None →
+            length given.now.ranges ≤ self.old.room.ranges → IsOk result }
         ensures err { OnErr result (self.new ≡ self.old) }
     {
         let number = given.greatest();
-        if number > self.accepted.len() as u64 {
+        if number > self.accepted_len() {
             return Err(SourceError::InvalidAck { number });
         }
-        Ok(self.acked.unite(given)?)
+        ends_are_right();
+        let is_new = self.acked.unite(given)?;
+        self.ranges_claimed = self.ranges_claimed.saturating_sub(given.ranges().len());
+        Ok(is_new)
+    }
+
+    /// Makes room for so many more payloads and ranges, beside what there is room for: so many more calls of `accept`
+    /// and `keep` take no memory, nor do calls of `learn` with at most so many more ranges in all.
+    pub fn reserve(&mut self, payloads: usize, ranges: usize) -> Result<(), Memory>
+        ensures facts { self.new.facts ≡ self.old.facts }
+        ensures ok { OnOk result (self.new.room ≡ record {
+          payloads = self.old.room.payloads + payloads;
+          ranges = self.old.room.ranges + ranges;
+        }) }
+        ensures err { OnErr result (self.new.room ≡ self.old.room) }
+    {
+        let payloads = self.payloads_claimed.checked_add(payloads).ok_or(Memory)?;
+        let ranges = self.ranges_claimed.checked_add(ranges).ok_or(Memory)?;
+        self.accepted.reserve(payloads)?;
+        self.acked.reserve(ranges)?;
+        self.payloads_claimed = payloads;
+        self.ranges_claimed = ranges;
+        Ok(())
+    }
+
+    /// Gives up the room that was made and not used.
+    pub fn release(&mut self)
+        ensures { self.new ≡ record self.old { room = no_room } }
+    {
+        self.payloads_claimed = 0;
+        self.ranges_claimed = 0;
     }
 
     /// Why the next payload is refused, whatever it is.
     fn refusal(&self) -> Option<SourceError>
-        ensures { result ≡ accept_refusal self.now }
+        ensures { result ≡ accept_refusal self.now.facts }
     {
         match self.phase {
-            OutPhase::Open => room(self.accepted_len(), self.unacked()),
+            OutPhase::Open => refusal_of(self.accepted_len(), self.unacked()),
             phase => Some(SourceError::NotOpen { phase }),
         }
     }
 }
 
 /// Why no payload is accepted after this many, of which so many are not acknowledged.
-fn room(accepted: u64, unacked: u64) -> Option<SourceError>
-    ensures { result ≡ room_refusal accepted unacked }
+fn refusal_of(accepted: u64, unacked: u64) -> Option<SourceError>
+    ensures { result ≡ count_refusal accepted unacked }
 {
     if unacked >= WINDOW {
         return Some(SourceError::WindowFull { unacked });

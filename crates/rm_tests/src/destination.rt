@@ -1,6 +1,7 @@
-//! Tests of rm_destination.
+//! Tests of plain_destination.
+use plain_destination::Incoming;
 use rm_base::{Behaviour, Blob, Items, Payload};
-use rm_destination::{InPhase, Incoming, Took};
+use rm_destination::{InPhase, Took};
 use std::alloc::Global;
 use std::test::Fail;
 

@@ -1,6 +1,7 @@
-//! Tests of rm_source.
+//! Tests of plain_source.
+use plain_source::Outgoing;
 use rm_base::{Blob, NumberSet};
-use rm_source::{OutPhase, Outgoing, SourceError};
+use rm_source::{OutPhase, SourceError};
 use std::alloc::Global;
 use std::test::Fail;
 

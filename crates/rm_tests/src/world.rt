@@ -1,7 +1,8 @@
 //! Tests of rm_world: scripts, the report, and two scripts over one stage.
 use itoa::Buffer;
+use plain_source::Outgoing;
 use rm_base::{Blob, NumberSet};
-use rm_source::{OutPhase, Outgoing, SourceError};
+use rm_source::{OutPhase, SourceError};
 use rm_world::report::{push_item, push_line, push_out, push_ranges};
 use rm_world::{Event, Outcome, ScriptError, preset_stage, read_script, run_script};
 use std::alloc::Global;

@@ -2,7 +2,7 @@
 use Rattle.std.proofs.Common.{ℕ, ◌==◌, nat_lt, true, false, cond, List, [], ◌∷◌}
 use Rattle.std.specs.List.{AllByRecursion}
 use Rattle.rm_base.specs.declared.message.Payload.{Payload}
-use Rattle.rm_destination.specs.Incoming.{with_message}
+use Rattle.plain_destination.specs.Incoming.{with_message}
 
 -- what holds of the messages and of one more holds of all of them
 pub All-with_message : (P : (ℕ × Payload) → Type 0) (ms : List (ℕ × Payload)) (n : ℕ) (p : Payload)

@@ -7,12 +7,14 @@ use Rattle.std.proofs.lemmas.Bool.Decides.{nat_tests}
 use Rattle.rm_base.specs.NumberSet.{has_number, with_number, front_of, IsRising}
 use Rattle.rm_base.specs.declared.message.Payload.{Payload}
 use Rattle.rm_base.specs.NumberSetLemmas.{Rises-with_number, has_number-with, lt-or-le}
-use Rattle.rm_destination.specs.AddedLemmas.{numbers_of-with_message, with_message-added}
+use Rattle.plain_destination.specs.AddedLemmas.{numbers_of-with_message, with_message-added}
 use Rattle.rm_base.specs.Numbered.{numbered}
-use Rattle.rm_destination.specs.Incoming.{Receiving, numbers_of, with_message, received_front, kind_of, inbox_after, inbox_of}
+use Rattle.plain_destination.specs.Incoming.{Receiving, numbers_of, with_message, received_front, kind_of}
+use Rattle.plain_destination.specs.Incoming.{inbox_after, inbox_of}
 use Rattle.rm_destination.specs.declared.outcome.Took.TheVariants.{New}
-use Rattle.rm_destination.specs.FrontLemmas.{front_of-IsFront, has_number-Contains, front_after-has}
-use Rattle.rm_destination.specs.MessageLemmas.{inbox_after-IsInbox}
+use Rattle.plain_destination.specs.FrontLemmas.{front_of-IsFront, has_number-Contains}
+use Rattle.rm_destination.specs.FrontLemmas.{front_after-has}
+use Rattle.plain_destination.specs.MessageLemmas.{inbox_after-IsInbox}
 use Rattle.rm_world.specs.declared.event.Event.{Event}
 use Rattle.rm_world.specs.declared.event.Event.TheVariants.{Deliver}
 use Rattle.rm_world.specs.World.{World, plain, happens, run}

@@ -1,5 +1,7 @@
 -- Scripts: lines of bytes one after another, and that a line says one thing.
-use Rattle.std.proofs.Common.{◌≡◌, ℕ, suc, ◌+◌, ◌-◌, ◌<◌, ◌≤◌, Bool, true, false, cond, not, ◌==◌, List, [], ◌∷◌, ◌++◌, length, take, drop, refl, sym, ap, ◌∙◌, arith, inl, inr, append_assoc, slice_get, Some, None, codes, decimal}
+use Rattle.std.proofs.Common.{◌≡◌, ℕ, suc, ◌+◌, ◌-◌, ◌<◌, ◌≤◌, Bool, true, false, cond, not, ◌==◌, List, [], ◌∷◌}
+use Rattle.std.proofs.Common.{◌++◌, length, take, drop, refl, sym, ap, ◌∙◌, arith, inl, inr, append_assoc, slice_get}
+use Rattle.std.proofs.Common.{Some, None, codes, decimal}
 use Rattle.std.specs.List.{position_or_len, position, flat_map, AllByRecursion}
 use Rattle.std.proofs.lemmas.List.{append-nil, take_at, take_all, drop_all, append_cancel_left}
 use Rattle.std.proofs.lemmas.Bool.Decides.{nat_tests}

@@ -1,5 +1,6 @@
 -- What holds in every world that a run can reach: each kind of step keeps it.
-use Rattle.std.proofs.Common.{◌≡◌, ℕ, suc, ◌+◌, ◌≤◌, ◌==◌, true, false, cond, ◌||◌, List, [], ◌∷◌, ◌++◌, length, take, drop, refl, sym, ap, ◌∙◌, arith, subst, length-append, inl, inr}
+use Rattle.std.proofs.Common.{◌≡◌, ℕ, suc, ◌+◌, ◌≤◌, ◌==◌, true, false, cond, ◌||◌, List, [], ◌∷◌, ◌++◌, length}
+use Rattle.std.proofs.Common.{take, drop, refl, sym, ap, ◌∙◌, arith, subst, length-append, inl, inr}
 use Rattle.std.specs.Prelude.{Option, Some, None, is_none, IfSome}
 use Rattle.std.specs.List.{AllByRecursion}
 use Rattle.std.proofs.lemmas.Bool.{eqb-true}
@@ -7,21 +8,23 @@ use Rattle.std.proofs.lemmas.Bool.Decides.{nat_tests}
 use Rattle.rm_base.specs.NumberSet.{has_number, with_number, united, greatest_of}
 use Rattle.rm_base.specs.declared.message.Payload.{Payload}
 use Rattle.rm_base.specs.NumberSetLemmas.{Rises-with_number, has_number-with, has_number-united}
-use Rattle.rm_destination.specs.AddedLemmas.{numbers_of-with_message}
+use Rattle.plain_destination.specs.AddedLemmas.{numbers_of-with_message}
 use Rattle.rm_base.specs.Numbered.{numbered}
-use Rattle.rm_source.specs.Outgoing.{accept_refusal}
-use Rattle.rm_destination.specs.Incoming.{numbers_of, with_message, kind_of, after_take, inbox_after}
+use Rattle.plain_source.specs.Outgoing.{accept_refusal}
+use Rattle.plain_destination.specs.Incoming.{numbers_of, with_message, kind_of, after_take, inbox_after}
 use Rattle.rm_destination.specs.declared.outcome.Took.{Took}
 use Rattle.rm_destination.specs.declared.outcome.Took.TheVariants.{New, Duplicate, PastWindow}
 use Rattle.rm_world.specs.declared.event.Event.{Event}
 use Rattle.rm_world.specs.declared.event.Event.TheVariants.{Blank, Send, Deliver}
 use Rattle.rm_world.specs.declared.packet.PlainPacket.{PlainPacket}
 use Rattle.rm_world.specs.declared.packet.PlainPacket.TheVariants.{Data, Ack}
-use Rattle.rm_world.specs.World.{World, plain, accepted, received, learned, arrived, recorded, sent, answered, happens, run, raised_where, is_new}
+use Rattle.rm_world.specs.World.{World, plain, accepted, received, learned, arrived, recorded, sent, answered}
+use Rattle.rm_world.specs.World.{happens, run, raised_where, is_new}
 use Rattle.rm_world.specs.Word.{preset, IsPrefixOf, bytes_of, KeepsWord}
 use Rattle.rm_world.specs.Replay.{IsCutShort}
 use Rattle.rm_world.specs.Sound.{AreReceived, IsSoundPacket, IsSoundMessage, IsSound}
-use Rattle.rm_world.proofs.ListLemmas.{All-weaker, All-push, All-numbered, numbered-push, numbered-last, numbered-within, numbered-next, drop-numbered}
+use Rattle.rm_world.proofs.ListLemmas.{All-weaker, All-push, All-numbered, numbered-push, numbered-last}
+use Rattle.rm_world.proofs.ListLemmas.{numbered-within, numbered-next, drop-numbered}
 use Rattle.rm_world.proofs.MessageLemmas.{All-with_message}
 
 -- what is received stays received

@@ -1,5 +1,6 @@
 -- The inbox in the report, item by item.
-use Rattle.std.proofs.Common.{◌≡◌, ℕ, suc, ◌+◌, ◌<◌, List, [], ◌∷◌, ◌++◌, length, take, sym, subst, ◌∙◌, arith, append_assoc, length-take, codes, decimal}
+use Rattle.std.proofs.Common.{◌≡◌, ℕ, suc, ◌+◌, ◌<◌, List, [], ◌∷◌, ◌++◌, length, take, sym, subst, ◌∙◌, arith}
+use Rattle.std.proofs.Common.{append_assoc, length-take, codes, decimal}
 use Rattle.std.specs.Prelude.{Some, slice_get}
 use Rattle.hex.specs.Hex.{encode_lower}
 use Rattle.rm_base.specs.declared.message.Payload.{Payload}

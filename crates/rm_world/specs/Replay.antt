@@ -1,6 +1,7 @@
 -- A whole run: the script, what it leaves, and its report.
-use Rattle.std.specs.Prelude.{◌≡◌, ℕ, ◌+◌, ◌≤◌, ◌⊎◌, List, [], ◌∷◌, ◌++◌, length, take, slice_get, Option, Some, None, codes, decimal}
-use Rattle.rm_destination.specs.Incoming.{Receiving, numbers_of, inbox_of}
+use Rattle.std.specs.Prelude.{◌≡◌, ℕ, ◌+◌, ◌≤◌, ◌⊎◌, List, [], ◌∷◌, ◌++◌, length, take, slice_get, Option, Some}
+use Rattle.std.specs.Prelude.{None, codes, decimal}
+use Rattle.plain_destination.specs.Incoming.{Receiving, numbers_of, inbox_of}
 use Rattle.rm_world.specs.declared.event.Event.{Event}
 use Rattle.rm_world.specs.declared.event.Outcome.{Outcome}
 use Rattle.rm_world.specs.Report.{line_text, ranges_text, out_text, items_text}

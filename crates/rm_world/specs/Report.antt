@@ -4,9 +4,10 @@ use Rattle.hex.specs.Hex.{encode_lower}
 use Rattle.rm_base.specs.declared.message.Payload.{Payload}
 use Rattle.rm_source.specs.declared.phase.OutPhase.{OutPhase}
 use Rattle.rm_source.specs.declared.phase.OutPhase.TheVariants.{Creating, Open, Closing, Closed, Ending, Ended, Failed}
-use Rattle.rm_source.specs.Outgoing.{Sending}
+use Rattle.plain_source.specs.Outgoing.{Sending}
 use Rattle.rm_source.specs.declared.error.SourceError.{SourceError}
-use Rattle.rm_source.specs.declared.error.SourceError.TheVariants.{Memory as WantsMemory, NotOpen, WindowFull, Rollover, InvalidAck}
+use Rattle.rm_source.specs.declared.error.SourceError.TheVariants.{Memory as WantsMemory, NotOpen, WindowFull}
+use Rattle.rm_source.specs.declared.error.SourceError.TheVariants.{Rollover, InvalidAck}
 use Rattle.rm_world.specs.declared.event.Outcome.{Outcome}
 use Rattle.rm_world.specs.declared.event.Outcome.TheVariants.{Done, Refused, NoPacket}
 

@@ -1,5 +1,6 @@
 -- Scripts: lines of bytes, each of which says what happens next.
-use Rattle.std.specs.Prelude.{◌≡◌, ◌≢◌, ℕ, ◌-◌, ◌<◌, ◌≤◌, ◌==◌, if◌then◌else◌, ◌⊎◌, List, [], ◌∷◌, ◌++◌, slice_get, take, Some, codes, decimal}
+use Rattle.std.specs.Prelude.{◌≡◌, ◌≢◌, ℕ, ◌-◌, ◌<◌, ◌≤◌, ◌==◌, if◌then◌else◌, ◌⊎◌, List, [], ◌∷◌, ◌++◌, slice_get}
+use Rattle.std.specs.Prelude.{take, Some, codes, decimal}
 use Rattle.rm_world.specs.declared.event.Event.{Event}
 use Rattle.rm_world.specs.declared.event.Event.TheVariants.{Blank, Send, Deliver}
 

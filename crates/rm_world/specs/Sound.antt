@@ -5,7 +5,7 @@ use Rattle.rm_base.specs.NumberSet.{IsRising, has_number, greatest_of}
 use Rattle.rm_base.specs.declared.message.Payload.{Payload}
 use Rattle.rm_base.specs.Numbered.{numbered}
 use Rattle.rm_source.specs.declared.phase.OutPhase.TheVariants.{Open}
-use Rattle.rm_destination.specs.Incoming.{numbers_of}
+use Rattle.plain_destination.specs.Incoming.{numbers_of}
 use Rattle.rm_world.specs.declared.packet.PlainPacket.{PlainPacket}
 use Rattle.rm_world.specs.declared.packet.PlainPacket.TheVariants.{Data, Ack}
 use Rattle.rm_world.specs.World.{World}

@@ -1,11 +1,12 @@
 -- What the two nodes keep to, whatever the network loses, repeats or reorders.
-use Rattle.std.specs.Prelude.{◌≡◌, ℕ, ◌+◌, ◌≤◌, true, false, List, [], ◌++◌, length, map, Some, None, Contains, slice_get, IfSome, take, ◌<◌}
+use Rattle.std.specs.Prelude.{◌≡◌, ℕ, ◌+◌, ◌≤◌, true, false, List, [], ◌++◌, length, map, Some, None, Contains}
+use Rattle.std.specs.Prelude.{slice_get, IfSome, take, ◌<◌}
 use Rattle.rm_base.specs.NumberSet.{has_number}
 use Rattle.rm_base.specs.Numbered.{numbered}
 use Rattle.rm_base.specs.declared.message.Behaviour.TheVariants.{FollowingFirstGap}
 use Rattle.rm_base.specs.declared.message.Payload.{Payload}
 use Rattle.rm_source.specs.declared.phase.OutPhase.TheVariants.{Open}
-use Rattle.rm_destination.specs.Incoming.{numbers_of, received_front, inbox_of, window}
+use Rattle.plain_destination.specs.Incoming.{numbers_of, received_front, inbox_of, window}
 use Rattle.rm_world.specs.declared.event.Event.{Event}
 use Rattle.rm_world.specs.declared.event.Event.TheVariants.{Deliver}
 use Rattle.rm_world.specs.declared.packet.PlainPacket.TheVariants.{Data}

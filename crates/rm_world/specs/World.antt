@@ -1,13 +1,14 @@
 -- One sequence from node 1 to node 2, the packets between them, and what each line of a script does to these facts.
 -- WS-ReliableMessaging 1.2, sections 2.1 (who sends and keeps what), 3.7 (Sequence) and 3.9 (SequenceAcknowledgement).
-use Rattle.std.specs.Prelude.{ℕ, ◌+◌, Bool, true, false, if◌then◌else◌, List, [], ◌∷◌, ◌++◌, length, Option, Some, None, is_none}
+use Rattle.std.specs.Prelude.{ℕ, ◌+◌, Bool, true, false, if◌then◌else◌, List, [], ◌∷◌, ◌++◌, length, Option, Some}
+use Rattle.std.specs.Prelude.{None, is_none}
 use Rattle.rm_base.specs.Count.{raised_by}
 use Rattle.rm_base.specs.NumberSet.{united, brings_new}
 use Rattle.rm_base.specs.Numbered.{numbered}
 use Rattle.rm_base.specs.declared.message.Payload.{Payload}
-use Rattle.rm_source.specs.Outgoing.{Sending, accept_refusal}
+use Rattle.plain_source.specs.Outgoing.{Sending, accept_refusal}
 use Rattle.rm_source.specs.declared.error.SourceError.{SourceError}
-use Rattle.rm_destination.specs.Incoming.{Receiving, numbers_of, kind_of, after_take}
+use Rattle.plain_destination.specs.Incoming.{Receiving, numbers_of, kind_of, after_take}
 use Rattle.rm_destination.specs.declared.outcome.Took.{Took}
 use Rattle.rm_destination.specs.declared.outcome.Took.TheVariants.{New, Duplicate, PastWindow}
 use Rattle.rm_world.specs.declared.event.Event.{Event}

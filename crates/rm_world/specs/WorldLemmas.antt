@@ -1,5 +1,6 @@
 -- Lemmas on scripts and runs that the crates above use too.
-use Rattle.std.proofs.Common.{◌≡◌, ℕ, zero, suc, ◌-◌, List, [], ◌∷◌, length, slice_get, Some, sym, ap, ◌∙◌, arith, inl, subst}
+use Rattle.std.proofs.Common.{◌≡◌, ℕ, zero, suc, ◌-◌, List, [], ◌∷◌, length, slice_get, Some, sym, ap, ◌∙◌, arith}
+use Rattle.std.proofs.Common.{inl, subst}
 use Rattle.std.proofs.lemmas.List.{take_all}
 use Rattle.rm_world.specs.declared.event.Event.{Event}
 use Rattle.rm_world.specs.Replay.{IsCutShort}

@@ -4,7 +4,7 @@ ghost use Rattle.std.specs.List.{AllByRecursion, flat_map};
 ghost use Rattle.rm_source.specs.declared.error.SourceError.TheVariants.{WindowFull};
 ghost use Rattle.rm_base.specs.Message.{max_number};
 ghost use Rattle.rm_base.specs.NumberSet.{IsRising};
-ghost use Rattle.rm_source.specs.Outgoing.{source_window, unacked_of};
+ghost use Rattle.plain_source.specs.Outgoing.{source_window, unacked_of};
 ghost use Rattle.rm_world.specs.declared.event.Event.{Event};
 ghost use Rattle.rm_world.specs.declared.event.Outcome.TheVariants.{Done, Refused};
 ghost use Rattle.rm_world.specs.Lines.{ended, HasNoLf};

@@ -1,6 +1,6 @@
 //! Two nodes with one preset sequence from node 1 to node 2, and the packets between them: the reader of scripts, the
-//! run of one, and its report. It stands on rm_source and rm_destination. The layer above may use the run as a function
-//! of the events, and that every run keeps the headline, `KeepsWord`.
+//! run of one, and its report. It stands on plain_source and plain_destination. The layer above may use the run as a
+//! function of the events, and that every run keeps the headline, `KeepsWord`.
 #![tactic(auto)]
 
 pub mod event;

@@ -1,11 +1,13 @@
 //! The lines of the report.
 ghost use Rattle.std.specs.Prelude.{◌≡◌, ℕ, List, ◌++◌, codes, decimal, OnOk};
 ghost use Rattle.hex.specs.Hex.{encode_lower};
-ghost use Rattle.rm_world.specs.Report.{refusal_name, outcome_text, line_text, range_text, ranges_text, phase_text, out_text};
+ghost use Rattle.rm_world.specs.Report.{refusal_name, outcome_text, line_text, range_text, ranges_text, phase_text};
+ghost use Rattle.rm_world.specs.Report.{out_text};
 
 use crate::event::Outcome;
+use plain_source::Outgoing;
 use rm_base::{Blob, Memory, push_decimal, push_hex};
-use rm_source::{OutPhase, Outgoing, SourceError};
+use rm_source::{OutPhase, SourceError};
 
 /// Appends the report's line for a line of the script: its number, how it came out, and then the counts of both nodes'
 /// records and of packets.

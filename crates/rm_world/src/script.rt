@@ -1,5 +1,6 @@
 //! The reader of scripts.
-ghost use Rattle.std.specs.Prelude.{◌≡◌, ◌≢◌, ℕ, ◌<◌, ◌≤◌, ◌^◌, ◌==◌, position, List, [], ◌∷◌, ◌++◌, codes, decimal, length, IsTrue, ◌↔◌, IfOk, IfSome, IfNone, Some, Err};
+ghost use Rattle.std.specs.Prelude.{◌≡◌, ◌≢◌, ℕ, ◌<◌, ◌≤◌, ◌^◌, ◌==◌, position, List, [], ◌∷◌, ◌++◌, codes, decimal};
+ghost use Rattle.std.specs.Prelude.{length, IsTrue, ◌↔◌, IfOk, IfSome, IfNone, Some, Err};
 ghost use Rattle.rm_world.specs.Script.{lines_of, Says, IsScript, IsFirstBad};
 ghost use Rattle.rm_world.specs.declared.event.Event.{Event};
 ghost use Rattle.rm_world.specs.declared.script.ScriptError.TheVariants.{Memory as WantsMemory};

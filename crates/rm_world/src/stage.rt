@@ -4,9 +4,10 @@ ghost use Rattle.rm_world.specs.Stage.{world_of};
 ghost use Rattle.rm_world.specs.Word.{preset};
 
 use crate::packet::Packets;
+use plain_destination::Incoming;
+use plain_source::Outgoing;
 use rm_base::{Behaviour, Items};
-use rm_destination::Incoming;
-use rm_source::{OutPhase, Outgoing};
+use rm_source::OutPhase;
 use std::alloc::Global;
 
 /// Two nodes over plain values: the source at node 1, the destination at node 2, every packet that was sent, and how

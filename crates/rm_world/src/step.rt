@@ -1,7 +1,7 @@
 //! What one line of a script does.
 ghost use Rattle.std.specs.Prelude.{◌≡◌, ◌⊎◌, ◌<◌, ◌≤◌, length, Some, None, IfOk, OnOk, OnErr};
 ghost use Rattle.rm_base.specs.NumberSet.{united, brings_new, greatest_of};
-ghost use Rattle.rm_destination.specs.Incoming.{kind_of, after_take};
+ghost use Rattle.plain_destination.specs.Incoming.{kind_of, after_take};
 ghost use Rattle.rm_world.specs.Stage.{world_of};
 ghost use Rattle.rm_world.specs.Sound.{IsSound};
 ghost use Rattle.rm_world.specs.World.{happens, recorded, outcome_of, raised_where, is_new, plain};
@@ -9,9 +9,11 @@ ghost use Rattle.rm_world.specs.World.{happens, recorded, outcome_of, raised_whe
 use crate::event::{Event, Outcome};
 use crate::packet::PlainPacket;
 use crate::stage::PlainStage;
+use plain_destination::Incoming;
+use plain_source::Outgoing;
 use rm_base::{Blob, Items, Memory, NumberSet, Payload};
-use rm_destination::{DestError, Incoming, Took};
-use rm_source::{Outgoing, SourceError};
+use rm_destination::{DestError, Took};
+use rm_source::SourceError;
 use std::alloc::Global;
 
 /// Does what one line says, and answers how it came out.

@@ -1,14 +1,14 @@
 //! What the report says after the last line.
 ghost use Rattle.std.specs.Prelude.{◌≡◌, ◌++◌, OnOk};
-ghost use Rattle.rm_destination.specs.Incoming.{inbox_of};
+ghost use Rattle.plain_destination.specs.Incoming.{inbox_of};
 ghost use Rattle.rm_world.specs.Replay.{in_text, summary_text};
 ghost use Rattle.rm_world.specs.Report.{items_text};
 ghost use Rattle.rm_world.specs.Stage.{world_of};
 
 use crate::report::{push_item, push_out, push_ranges};
 use crate::stage::PlainStage;
+use plain_destination::Incoming;
 use rm_base::{Blob, Memory, push_decimal};
-use rm_destination::Incoming;
 
 /// Appends what both sides know of the sequence, and the inbox.
 pub fn summarize(stage: &PlainStage, report: &mut Blob) -> Result<(), Memory>

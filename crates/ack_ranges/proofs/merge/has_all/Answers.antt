@@ -6,7 +6,8 @@ use Rattle.ack_ranges.specs.Places.{range_at}
 use Rattle.ack_ranges.proofs.RangesLemmas.{RisesFrom-ends}
 use Rattle.ack_ranges.proofs.ChangesLemmas.{covers-at_place, covers-past}
 use Rattle.ack_ranges.proofs.merge.has_all.Goals as goal
-use Rattle.ack_ranges.proofs.merge.has_all.Goals.{then-place-ranges-via-then-place-ranges, then-place-ranges-via-else-place-ranges+then-other-ranges}
+use Rattle.ack_ranges.proofs.merge.has_all.Goals.{then-place-ranges-via-then-place-ranges}
+use Rattle.ack_ranges.proofs.merge.has_all.Goals.{then-place-ranges-via-else-place-ranges+then-other-ranges}
 
 pub returns-then-place-ranges : goal.returns-then-place-ranges
 returns-then-place-ranges c =

@@ -1,7 +1,8 @@
 use Rattle.std.proofs.Common.{◌≡◌, ◌+◌, sym, ap, ◌∙◌, arith}
 use Rattle.ack_ranges.specs.Places.{range_at}
 use Rattle.ack_ranges.proofs.RangesLemmas.{in_range_tells, in_ranges-at, RisesFrom-at, greatest-from}
-use Rattle.ack_ranges.proofs.MissingLemmas.{missing-push, missing-pass, missing-enough, missing-all, goes-on-before, goes-on-gap, goes-on-last}
+use Rattle.ack_ranges.proofs.MissingLemmas.{missing-push, missing-pass, missing-enough, missing-all, goes-on-before}
+use Rattle.ack_ranges.proofs.MissingLemmas.{goes-on-gap, goes-on-last}
 use Rattle.ack_ranges.proofs.missing.missing_of.Goals as goal
 
 pub returns-then-len-most : goal.returns-then-len-most

@@ -1,10 +1,12 @@
-use Rattle.std.proofs.Common.{◌≡◌, ◌∙◌, ◌-◌, ◌<◌, ◌≤◌, List, get_or, ◌&&◌, ◌++◌, ◌∷◌, ℕ, nat_le, true, not, sym, ap, ap₂, arith, length, min, max, take, drop}
+use Rattle.std.proofs.Common.{◌≡◌, ◌∙◌, ◌-◌, ◌<◌, ◌≤◌, List, get_or, ◌&&◌, ◌++◌, ◌∷◌, ℕ, nat_le, true, not, sym, ap}
+use Rattle.std.proofs.Common.{ap₂, arith, length, min, max, take, drop}
 use Rattle.ack_ranges.specs.declared.range.Range.{Range}
 use Rattle.ack_ranges.specs.Ranges.{IsCanonical}
 use Rattle.ack_ranges.specs.Changes.{covers, with_range}
 use Rattle.ack_ranges.specs.Places.{IsSpan}
 use Rattle.ack_ranges.proofs.RangesLemmas.{read_at, RisesFrom-at}
-use Rattle.ack_ranges.proofs.ChangesLemmas.{RisesFrom-with_range, insert-span, covers-span, join-span, with_range-covered, covers-joined, covers-first}
+use Rattle.ack_ranges.proofs.ChangesLemmas.{RisesFrom-with_range, insert-span, covers-span, join-span}
+use Rattle.ack_ranges.proofs.ChangesLemmas.{with_range-covered, covers-joined, covers-first}
 use Rattle.ack_ranges.proofs.range.put.Goals as goal
 
 pub put_in-requires-clause-canonical : goal.put_in-requires-clause-canonical

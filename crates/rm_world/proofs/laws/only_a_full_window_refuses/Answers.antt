@@ -3,7 +3,7 @@ use Rattle.std.specs.Prelude.{Option, Some, None}
 use Rattle.std.specs.Option.{option_or}
 use Rattle.std.proofs.lemmas.Bool.{leb-true, lt-leb}
 use Rattle.rm_base.specs.Message.{max_number}
-use Rattle.rm_source.specs.Outgoing.{source_window, unacked_of, phase_refusal, room_refusal, accept_refusal}
+use Rattle.plain_source.specs.Outgoing.{source_window, unacked_of, phase_refusal, room_refusal, accept_refusal}
 use Rattle.rm_source.specs.declared.phase.OutPhase.{OutPhase}
 use Rattle.rm_source.specs.declared.error.SourceError.{SourceError}
 use Rattle.rm_source.specs.declared.error.SourceError.TheVariants.{WindowFull}

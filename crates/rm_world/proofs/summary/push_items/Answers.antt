@@ -1,5 +1,5 @@
 use Rattle.std.proofs.Common.{sym}
-use Rattle.rm_destination.specs.Incoming.{inbox_of}
+use Rattle.plain_destination.specs.Incoming.{inbox_of}
 use Rattle.rm_world.proofs.SummaryLemmas.{items_text-next}
 use Rattle.rm_world.proofs.summary.push_items.Goals as goal
 

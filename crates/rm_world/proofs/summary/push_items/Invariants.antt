@@ -1,5 +1,5 @@
 use Rattle.std.proofs.Common.{◌≡◌, ◌++◌, take}
-use Rattle.rm_destination.specs.Incoming.{inbox_of}
+use Rattle.plain_destination.specs.Incoming.{inbox_of}
 use Rattle.rm_world.specs.Report.{items_text}
 use Rattle.rm_world.proofs.summary.push_items.Given as goal
 

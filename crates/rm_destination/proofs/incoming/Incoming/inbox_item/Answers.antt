@@ -1,21 +1,14 @@
-use Rattle.std.proofs.Common.{◌<◌, ◌≤◌, length, sym, arith}
-use Rattle.std.specs.List.{zip}
-use Rattle.rm_base.specs.NumberSet.{front_of}
-use Rattle.rm_destination.specs.Incoming.{inbox_after}
-use Rattle.rm_destination.proofs.KeptLemmas.{length-inbox, numbered-past, numbered-inbox}
+use Rattle.std.proofs.Common.{◌-◌, ap, arith, ◌∙◌}
+use Rattle.std.specs.Prelude.{slice_get}
+use Rattle.rm_destination.specs.Incoming.{Sequence}
+use Rattle.rm_destination.specs.Messages.{by_number, contents_of}
+use Rattle.rm_destination.proofs.InboxLemmas.{numbered-inbox}
 use Rattle.rm_destination.proofs.incoming.Incoming.inbox_item.Goals as goal
-
-pub returns-then-i-self : goal.returns-then-i-self
-returns-then-i-self c =
-    let xs = c.self.inside.numbers in
-    let ps = c.self.inside.payloads.items in
-    let past : length (inbox_after 0 (zip xs ps)) < c.args.i =
-    omega (arith, length-inbox xs ps c.self.invariant.beside, c.self.invariant.reached) in
-    rw (← c.self.view_is) (sym (numbered-past (inbox_after 0 (zip xs ps)) c.args.i past))
 
 pub returns : goal.returns
 returns c =
-    let within : c.args.i ≤ front_of c.self.inside.numbers = omega (arith, c.self.invariant.reached) in
-    let payloads = c.self.inside.payloads.items in
-    rw (c.numbered.ensures, c.as_slice.ensures.value, ← c.self.view_is)
-    (numbered-inbox c.self.inside.numbers payloads c.args.i c.self.invariant.beside within)
+    let f = c.args.self.now.facts in
+    let i = c.args.i in
+    c.nth.ensures
+    ∙ ap (λ (s : Sequence). slice_get (contents_of (by_number s.facts.received)) (i - 1)) c.self.view_is
+    ∙ numbered-inbox f i (omega arith) (omega (arith, c.inbox_len.ensures))

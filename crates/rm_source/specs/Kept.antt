@@ -1,0 +1,11 @@
+-- What a source keeps, beside what it is seen as.
+use Rattle.std.specs.Prelude.{ℕ, ◌≤◌, List, length}
+use Rattle.rm_base.specs.Roomy.{Roomy}
+use Rattle.ack_ranges.specs.Ranges.{Contents, IsCanonical, greatest_of}
+
+-- the acknowledged numbers are numbers of accepted payloads, and there is the room that was asked for and not used
+pub record IsKept (accepted : Roomy (List ℕ)) (acked : Contents) (payloads ranges : ℕ) : Type 0 where
+  pub canonical : IsCanonical acked.ranges
+  pub within : greatest_of acked.ranges ≤ length accepted.facts
+  pub payloads_fit : payloads ≤ accepted.spare
+  pub ranges_fit : ranges ≤ acked.spare
