@@ -29,6 +29,8 @@ const REPLAY: &[&[u8]] = &[b"replay"];
 
 const CHECK: &[&[u8]] = &[b"check"];
 
+const POLICY: &[&[u8]] = &[b"policy"];
+
 const USAGE: &[u8] = b"usage: wsrm check,replay,soak,make,serve,send,push,close,end,inbox,policy\n";
 
 // Runs the program, and answers its status and how many packets were sent.
@@ -215,6 +217,67 @@ fn checks(rt: HostRuntime) -> Result<(), Fail> {
     Ok(())
 }
 
+const ASSERTION: &[u8] =
+    b"<p:RMAssertion xmlns:p=\"http://docs.oasis-open.org/ws-rx/wsrmp/200702\" \
+        xmlns:w=\"http://www.w3.org/ns/ws-policy\" w:Optional=\"true\"><w:Policy><p:DeliveryAssurance><w:Policy>\
+        <p:ExactlyOnce/><p:InOrder/></w:Policy></p:DeliveryAssurance></w:Policy></p:RMAssertion>";
+
+const ASSERTION_TEXT: &[u8] = b"assurance exactly-once\nin-order yes\noptional yes\ngranted yes\n";
+
+const SECURED: &[u8] = b"<p:RMAssertion xmlns:p=\"http://docs.oasis-open.org/ws-rx/wsrmp/200702\" \
+        xmlns:w=\"http://www.w3.org/ns/ws-policy\" w:Optional=\"true\"><w:Policy><p:SequenceSTR/><p:DeliveryAssurance>\
+        <w:Policy><p:ExactlyOnce/><p:InOrder/></w:Policy></p:DeliveryAssurance></w:Policy></p:RMAssertion>";
+
+#[test]
+fn policies(rt: HostRuntime) -> Result<(), Fail> {
+    // an assertion behind so many spaces
+    let bare: &[u8] = b"<RMAssertion xmlns='http://docs.oasis-open.org/ws-rx/wsrmp/200702'/>";
+    let mut longest = repeated(rt.alloc(), b" ", 2097084)?;
+    longest.push_all(bare)?;
+    let mut longer = repeated(rt.alloc(), b" ", 2097085)?;
+    longer.push_all(bare)?;
+    let unsaid = b"assurance unsaid\nin-order no\noptional no\ngranted yes\n".as_slice();
+    // the bytes, the status, and what is printed
+    let cases: [(&[u8], u8, &[u8]); 12] = [
+        (ASSERTION, 0, ASSERTION_TEXT),
+        (SECURED, 9, b"fault SecurityUnsupported\n"),
+        (b"", 9, b"fault NotProfile\n"),
+        (b"<a/>", 9, b"fault Malformed\n"),
+        (b"<\xff", 9, b"fault NotUtf8\n"),
+        (bare, 0, unsaid),
+        (longest.as_slice(), 0, unsaid),
+        (longer.as_slice(), 8, b"too long\n"),
+        (ENVELOPE, 9, b"fault Malformed\n"),
+        (
+            b"<RMAssertion xmlns='http://docs.oasis-open.org/ws-rx/wsrmp/200702'><Policy \
+                xmlns='http://schemas.xmlsoap.org/ws/2004/09/policy'><DeliveryAssurance \
+                xmlns='http://docs.oasis-open.org/ws-rx/wsrmp/200702'><Policy xmlns='http://www.w3.org/ns/ws-policy'\
+                ><AtLeastOnce xmlns='http://docs.oasis-open.org/ws-rx/wsrmp/200702'/></Policy></DeliveryAssurance>\
+                </Policy></RMAssertion>",
+            0,
+            b"assurance at-least-once\nin-order no\noptional no\ngranted no\n",
+        ),
+        (
+            b"<RMAssertion xmlns='http://docs.oasis-open.org/ws-rx/wsrmp/200702' \
+                xmlns:w='http://www.w3.org/ns/ws-policy' w:Optional='false'><w:Policy><DeliveryAssurance><w:Policy>\
+                <AtMostOnce/><InOrder/></w:Policy></DeliveryAssurance></w:Policy></RMAssertion>",
+            0,
+            b"assurance at-most-once\nin-order yes\noptional no\ngranted no\n",
+        ),
+        (
+            b"<RMAssertion xmlns='http://docs.oasis-open.org/ws-rx/wsrmp/200702'>x</RMAssertion>",
+            9,
+            b"fault Malformed\n",
+        ),
+    ];
+    for (input, want, text) in cases {
+        let (status, out) = run_whole(rt.alloc(), given(POLICY, input, None))?;
+        assert_eq!(rt; status, want, "before {text:?}");
+        assert_eq!(rt; out.as_slice(), text);
+    }
+    Ok(())
+}
+
 // A sink that takes at most three bytes a call, and after so many calls nothing more.
 #[derive(Drop)]
 struct Narrow {
@@ -248,7 +311,7 @@ type Case<'a> = (Asked<'a>, u8, u8, &'a [u8], usize);
 
 #[test]
 fn each_write_fails_in_turn(rt: HostRuntime) -> Result<(), Fail> {
-    let cases: [Case<'_>; 11] = [
+    let cases: [Case<'_>; 14] = [
         (given(REPLAY, ROW, None), 0, 5, ROW_REPORT, 5),
         (given(REPLAY, b"send 1 1\n", None), 3, 3, b"bad line 1\n", 0),
         (
@@ -262,6 +325,9 @@ fn each_write_fails_in_turn(rt: HostRuntime) -> Result<(), Fail> {
         (given(CHECK, ENVELOPE, None), 0, 5, ENVELOPE_TEXT, 0),
         (given(CHECK, ENVELOPE, Some(1)), 4, 4, b"read fault\n", 0),
         (given(CHECK, b"<\xff", None), 9, 9, b"fault NotUtf8\n", 0),
+        (given(POLICY, ASSERTION, None), 0, 5, ASSERTION_TEXT, 0),
+        (given(POLICY, ASSERTION, Some(0)), 4, 4, b"read fault\n", 0),
+        (given(POLICY, b"", None), 9, 9, b"fault NotProfile\n", 0),
         (given(NOTHING, ROW, None), 2, 2, USAGE, 0),
         (given(&[b"replay", b"x"], ROW, None), 2, 2, USAGE, 0),
         (given(&[b"check", b"replay"], ROW, None), 2, 2, USAGE, 0),

@@ -19,9 +19,11 @@ use Rattle.rm_command.specs.Run.{RunsReplay, RunsCheck}
 use Rattle.rm_command.specs.Status.{status_of}
 use Rattle.rm_command.proofs.RunLemmas.{filter_status}
 use Rattle.rm_command.specs.declared.end.End.{End}
-use Rattle.rm_command.specs.declared.end.End.TheVariants.{Done, Usage, BadLine, ReadFault, WriteFault, TooLong, Refused, Memory}
+use Rattle.rm_command.specs.declared.end.End.TheVariants.{Done, Usage, BadLine, ReadFault, WriteFault, TooLong}
+use Rattle.rm_command.specs.declared.end.End.TheVariants.{Refused, Memory}
 use Rattle.rm_command.specs.declared.end.Fault.{Fault}
 use Rattle.rm_command.specs.declared.end.Fault.TheVariants.{NotUtf8, NotProfile, WrongVersion, NotEnvelope}
+use Rattle.rm_command.specs.declared.end.Fault.TheVariants.{Malformed, SecurityUnsupported}
 
 -- bytes of which a shorter front is the longest text are no text
 pub IsLongestText-not : (bytes : List ℕ) (place : ℕ) → place < length bytes → IsLongestText bytes place
@@ -44,6 +46,8 @@ module _ (utf8 : (bytes : List ℕ) (root : written.Element) → IsDocument byte
       fault.1 _ (record { raw = is.raw; is = is.document; resolved = is.resolved })
   no_fault bytes WrongVersion fault e is = version bytes e is fault
   no_fault bytes NotEnvelope fault e is = outline bytes e is fault
+  no_fault bytes Malformed fault e is = fault
+  no_fault bytes SecurityUnsupported fault e is = fault
 
   -- what check refuses is no envelope, and has status 9
   pub refused_envelope : (bytes : List ℕ) (end : End) → RefusesEnvelope bytes end

@@ -1,3 +1,4 @@
 pub mod CheckLemmas
+pub mod PolicyLemmas
 pub mod RunLemmas
 pub mod WordLemmas

@@ -2,8 +2,9 @@
 use Rattle.std.proofs.Common.{◌≡◌, ℕ, ◌≤◌, ◌<◌, ◌⊎◌, List, length, refl, sym, subst, arith, inl, inr}
 use Rattle.std.specs.Prelude.{Option, None, Some, IfSome}
 use Rattle.rm_command.specs.declared.end.End.{End}
-use Rattle.rm_command.specs.declared.end.End.TheVariants.{Done, Usage, BadLine, ReadFault, WriteFault, TooLong, Refused, Memory}
-use Rattle.rm_command.specs.Edge.{Edge, Input, Output, WasRead}
+use Rattle.rm_command.specs.declared.end.End.TheVariants.{Done, Usage, BadLine, ReadFault, WriteFault, TooLong}
+use Rattle.rm_command.specs.declared.end.End.TheVariants.{Refused, Memory}
+use Rattle.rm_command.specs.Edge.{Edge, WasRead}
 use Rattle.rm_command.specs.Filter.{EndsUnread, EndsWriting, EndsFilter, IsFilterStatus}
 use Rattle.rm_command.specs.Status.{status_of}
 

@@ -1,5 +1,6 @@
 -- What a run of `wsrm check` is, by how it ended, and what it prints.
-use Rattle.std.specs.Prelude.{◌≡◌, ℕ, ◌/◌, ◌%◌, ◌&&◌, ◌==◌, not, nat_le, Bool, if◌then◌else◌, List, [], ◌∷◌, ◌++◌, length, slice_index, codes, decimal}
+use Rattle.std.specs.Prelude.{◌≡◌, ℕ, ◌/◌, ◌%◌, ◌&&◌, ◌==◌, not, nat_le, Bool, if◌then◌else◌, List, [], ◌∷◌, ◌++◌}
+use Rattle.std.specs.Prelude.{length, slice_index, codes, decimal}
 use Rattle.std.specs.List.{flat_map}
 use Rattle.std.specs.Str.{IsUtf8}
 use Rattle.hex.specs.Hex.{encode_lower, upper_digits}
@@ -13,6 +14,7 @@ use Rattle.rm_command.specs.declared.end.End.{End}
 use Rattle.rm_command.specs.declared.end.End.TheVariants.{Refused}
 use Rattle.rm_command.specs.declared.end.Fault.{Fault}
 use Rattle.rm_command.specs.declared.end.Fault.TheVariants.{NotUtf8, NotProfile, WrongVersion, NotEnvelope}
+use Rattle.rm_command.specs.declared.end.Fault.TheVariants.{Malformed, SecurityUnsupported}
 use Rattle.rm_command.specs.Edge.{Edge}
 use Rattle.rm_command.specs.Filter.{EndsFilter, IsFilterStatus}
 
@@ -46,6 +48,8 @@ HasFault bytes NotUtf8 = ¬ (IsUtf8 bytes)
 HasFault bytes NotProfile = IsUtf8 bytes × ((tree : Element) → ¬ (Document bytes tree))
 HasFault bytes WrongVersion = refusals.WrongVersion soap_space bytes
 HasFault bytes NotEnvelope = refusals.NotEnvelope soap_space bytes
+HasFault bytes Malformed = ⊥
+HasFault bytes SecurityUnsupported = ⊥
 
 -- the bytes are an envelope, and this is what is printed of it
 pub record IsTextOf (bytes text : List ℕ) : Type 0 where

@@ -2,7 +2,8 @@
 use Rattle.std.specs.Prelude.{◌≡◌, ℕ, ◌<◌, ◌≤◌, ◌⊎◌, List, length, Result, Ok, Err}
 use Rattle.rm_base.specs.Count.{Rose}
 use Rattle.rm_command.specs.declared.end.End.{End}
-use Rattle.rm_command.specs.declared.end.End.TheVariants.{Done, Usage, BadLine, ReadFault, WriteFault, TooLong, Refused, Memory}
+use Rattle.rm_command.specs.declared.end.End.TheVariants.{Done, Usage, BadLine, ReadFault, WriteFault, TooLong}
+use Rattle.rm_command.specs.declared.end.End.TheVariants.{Refused, Memory}
 use Rattle.rm_base.specs.declared.blob.Blob.{Blob}
 use Rattle.rm_command.specs.Edge.{Edge, Output, WasRead, WasTooLong, WasWritten, WasBegun, WasSaid}
 use Rattle.rm_command.specs.Status.{IsUnread, IsOutside}

@@ -1,6 +1,7 @@
 pub mod Check
 pub mod Edge
 pub mod Filter
+pub mod Policy
 pub mod Replay
 pub mod Run
 pub mod Status

@@ -2,11 +2,12 @@
 use Rattle.std.specs.Prelude.{◌≡◌, ◌≢◌, ℕ, List, [], ◌∷◌, Option, Some, None, codes}
 use Rattle.rm_world.specs.World.{World}
 use Rattle.rm_command.specs.declared.command.Command.{Command}
-use Rattle.rm_command.specs.declared.command.Command.TheVariants.{Replay, Check}
+use Rattle.rm_command.specs.declared.command.Command.TheVariants.{Replay, Check, Policy}
 use Rattle.rm_command.specs.declared.end.End.{End}
 use Rattle.rm_command.specs.declared.end.End.TheVariants.{Usage}
 use Rattle.rm_command.specs.Check.{EndsCheck}
 use Rattle.rm_command.specs.Edge.{Edge, KeepsInput, KeepsOutput, TookWithin, WasSaid}
+use Rattle.rm_command.specs.Policy.{EndsPolicy}
 use Rattle.rm_command.specs.Replay.{EndsReplay}
 use Rattle.rm_command.specs.Texts.{line_of}
 
@@ -18,21 +19,27 @@ AsksReplay words = words ≡ codes "replay" ∷ []
 abbrev pub AsksCheck : List (List ℕ) → Type 0
 AsksCheck words = words ≡ codes "check" ∷ []
 
+-- the one word policy
+abbrev pub AsksPolicy : List (List ℕ) → Type 0
+AsksPolicy words = words ≡ codes "policy" ∷ []
+
 -- other words, or none
 abbrev pub AsksNothing : List (List ℕ) → Type 0
-AsksNothing words = ¬ (AsksReplay words) × ¬ (AsksCheck words)
+AsksNothing words = ¬ (AsksReplay words) × ¬ (AsksCheck words) × ¬ (AsksPolicy words)
 
 -- the command that the words ask for
 abbrev pub Asks : List (List ℕ) → Option Command → Type 0
 Asks words None = AsksNothing words
 Asks words (Some Replay) = AsksReplay words
 Asks words (Some Check) = AsksCheck words
+Asks words (Some Policy) = AsksPolicy words
 
 -- the command with a name
 abbrev pub IsNamed : List ℕ → Option Command → Type 0
-IsNamed word None = (word ≢ codes "replay") × (word ≢ codes "check")
+IsNamed word None = (word ≢ codes "replay") × (word ≢ codes "check") × (word ≢ codes "policy")
 IsNamed word (Some Replay) = word ≡ codes "replay"
 IsNamed word (Some Check) = word ≡ codes "check"
+IsNamed word (Some Policy) = word ≡ codes "policy"
 
 -- a run of replay
 pub record RunsReplay {S K : Type 0} (end : End) (e : Edge S K) (old new : World) : Type 0 where
@@ -42,6 +49,11 @@ pub record RunsReplay {S K : Type 0} (end : End) (e : Edge S K) (old new : World
 -- a run of check
 pub record RunsCheck {S K : Type 0} (end : End) (e : Edge S K) : Type 0 where
   pub ends : EndsCheck end e
+  pub taken : TookWithin 2097152 end e.input e.input_after
+
+-- a run of policy
+pub record RunsPolicy {S K : Type 0} (end : End) (e : Edge S K) : Type 0 where
+  pub ends : EndsPolicy end e
   pub taken : TookWithin 2097152 end e.input e.input_after
 
 -- the words are refused, and nothing was read
@@ -54,6 +66,7 @@ pub record RunsNothing {S K : Type 0} (end : End) (e : Edge S K) : Type 0 where
 pub record Runs {S K : Type 0} (words : List (List ℕ)) (end : End) (e : Edge S K) (old new : World) : Type 0 where
   pub replay : AsksReplay words → RunsReplay end e old new
   pub check : AsksCheck words → RunsCheck end e
+  pub policy : AsksPolicy words → RunsPolicy end e
   pub nothing : AsksNothing words → RunsNothing end e
   pub stage : ¬ (AsksReplay words) → new ≡ old
   pub input : KeepsInput e.input e.input_after

@@ -1,7 +1,8 @@
 -- The exit statuses.
 use Rattle.std.specs.Prelude.{◌≡◌, ℕ, ◌⊎◌}
 use Rattle.rm_command.specs.declared.end.End.{End}
-use Rattle.rm_command.specs.declared.end.End.TheVariants.{Done, Usage, BadLine, ReadFault, WriteFault, TooLong, Refused, Memory}
+use Rattle.rm_command.specs.declared.end.End.TheVariants.{Done, Usage, BadLine, ReadFault, WriteFault, TooLong}
+use Rattle.rm_command.specs.declared.end.End.TheVariants.{Refused, Memory}
 
 -- the status of an end
 abbrev pub status_of : End → ℕ

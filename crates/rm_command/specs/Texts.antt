@@ -1,16 +1,20 @@
 -- What a refusal prints: one line.
 use Rattle.std.specs.Prelude.{ℕ, List, [], ◌++◌, codes, decimal}
 use Rattle.rm_command.specs.declared.end.End.{End}
-use Rattle.rm_command.specs.declared.end.End.TheVariants.{Done, Usage, BadLine, ReadFault, WriteFault, TooLong, Refused, Memory}
+use Rattle.rm_command.specs.declared.end.End.TheVariants.{Done, Usage, BadLine, ReadFault, WriteFault, TooLong}
+use Rattle.rm_command.specs.declared.end.End.TheVariants.{Refused, Memory}
 use Rattle.rm_command.specs.declared.end.Fault.{Fault}
 use Rattle.rm_command.specs.declared.end.Fault.TheVariants.{NotUtf8, NotProfile, WrongVersion, NotEnvelope}
+use Rattle.rm_command.specs.declared.end.Fault.TheVariants.{Malformed, SecurityUnsupported}
 
--- the name of what keeps bytes from being an envelope
+-- the name of what keeps bytes from being what a command reads
 abbrev pub fault_name : Fault → List ℕ
 fault_name NotUtf8 = codes "NotUtf8"
 fault_name NotProfile = codes "NotProfile"
 fault_name WrongVersion = codes "WrongVersion"
 fault_name NotEnvelope = codes "NotEnvelope"
+fault_name Malformed = codes "Malformed"
+fault_name SecurityUnsupported = codes "SecurityUnsupported"
 
 -- the line of an end, where it has one
 abbrev pub line_of : End → List ℕ

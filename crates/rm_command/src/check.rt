@@ -2,9 +2,9 @@
 ghost use Rattle.rm_command.specs.Check.{EndsCheck};
 ghost use Rattle.rm_command.specs.Edge.{input_of, output_of, edge_of, KeepsEdge};
 
-use crate::check_text::{CheckError, text_of};
+use crate::check_text::text_of;
 use crate::end::{End, refuse};
-use crate::filter::{read_input, write_text};
+use crate::filter::{NoText, read_input, write_text};
 use rm_base::{Sink, Source};
 use std::alloc::Global;
 
@@ -24,7 +24,7 @@ pub fn check<S: Source, K: Sink>(alloc: Global, input: &mut S, out: &mut K) -> E
     };
     match text_of(alloc, bytes.as_slice()) {
         Ok(text) => write_text(out, text.as_slice()),
-        Err(CheckError::Faulty(fault)) => refuse(out, End::Refused { fault }, fault.line()),
-        Err(CheckError::Memory) => End::Memory,
+        Err(NoText::Faulty(fault)) => refuse(out, End::Refused { fault }, fault.line()),
+        Err(NoText::Memory) => End::Memory,
     }
 }

@@ -3,43 +3,28 @@ ghost use Rattle.std.specs.Prelude.{◌≡◌, ◌≤◌, ◌<◌, ◌++◌, len
 ghost use Rattle.hex.specs.Hex.{upper_digits};
 ghost use Rattle.rm_command.specs.Check.{is_plain, escaped_byte, escaped, scope_line, check_text, HasFault, IsTextOf};
 ghost use Rattle.rm_command.specs.declared.end.Fault.{Fault as AFault};
-ghost use Rattle.rm_command.specs.declared.check_text.CheckError.TheVariants.{Memory as WantsMemory};
 ghost use Rattle.soap_envelope.specs.View.{envelope_view};
 
 use crate::end::Fault;
+use crate::filter::NoText;
 use rm_base::{Binding, Blob, Memory, push_decimal, push_hex};
 use soap_envelope::{Envelope, read_envelope};
 use soap_profile::EnvelopeError;
 use std::alloc::Global;
 
-/// Why there is nothing to print of bytes.
-#[derive(Clone, Copy, Debug)]
-pub enum CheckError {
-    Memory,
-    Faulty(Fault),
-}
-
-impl From<Memory> for CheckError {
-    ghost from_gives = { λ _ e. e ≡ WantsMemory };
-
-    fn from(_memory: Memory) -> CheckError {
-        CheckError::Memory
-    }
-}
-
 /// What is printed of bytes, where they are an envelope.
-pub fn text_of(alloc: Global, bytes: &[u8]) -> Result<Blob, CheckError>
+pub fn text_of(alloc: Global, bytes: &[u8]) -> Result<Blob, NoText>
     requires { length bytes.now ≤ 2097152 }
     ensures text { IfOk result (λ text. IsTextOf bytes.now text) }
-    ensures faulty { (fault : AFault) → result ≡ Err (CheckError.Faulty fault) → HasFault bytes.now fault }
+    ensures faulty { (fault : AFault) → result ≡ Err (NoText.Faulty fault) → HasFault bytes.now fault }
 {
     match read_envelope(alloc, bytes) {
         Ok(envelope) => Ok(text_of_envelope(alloc, envelope)?),
-        Err(EnvelopeError::NotUtf8 { .. }) => Err(CheckError::Faulty(Fault::NotUtf8)),
-        Err(EnvelopeError::NotProfile) => Err(CheckError::Faulty(Fault::NotProfile)),
-        Err(EnvelopeError::WrongVersion) => Err(CheckError::Faulty(Fault::WrongVersion)),
-        Err(EnvelopeError::NotEnvelope) => Err(CheckError::Faulty(Fault::NotEnvelope)),
-        Err(EnvelopeError::Memory) => Err(CheckError::Memory),
+        Err(EnvelopeError::NotUtf8 { .. }) => Err(NoText::Faulty(Fault::NotUtf8)),
+        Err(EnvelopeError::NotProfile) => Err(NoText::Faulty(Fault::NotProfile)),
+        Err(EnvelopeError::WrongVersion) => Err(NoText::Faulty(Fault::WrongVersion)),
+        Err(EnvelopeError::NotEnvelope) => Err(NoText::Faulty(Fault::NotEnvelope)),
+        Err(EnvelopeError::Memory) => Err(NoText::Memory),
         Err(EnvelopeError::TooLong { .. }) => unreachable!(),
     }
 }

@@ -4,15 +4,18 @@ ghost use Rattle.rm_world.specs.Stage.{world_of};
 ghost use Rattle.rm_world.specs.Word.{preset, KeepsWord};
 ghost use Rattle.rm_command.specs.Check.{IsCheckStatus};
 ghost use Rattle.rm_command.specs.Edge.{input_of, output_of, edge_of};
+ghost use Rattle.rm_command.specs.Policy.{IsPolicyStatus};
 ghost use Rattle.rm_command.specs.Replay.{IsReplayStatus};
-ghost use Rattle.rm_command.specs.Run.{AsksReplay, AsksCheck, AsksNothing, Asks, IsNamed, Runs};
+ghost use Rattle.rm_command.specs.Run.{AsksReplay, AsksCheck, AsksPolicy, AsksNothing, Asks, IsNamed, Runs};
 ghost use Rattle.rm_command.specs.Status.{status_of};
 ghost use Rattle.rm_command.specs.declared.end.End.{End as AnEnd};
 
 use crate::check::check;
 use crate::end::{End, refuse};
+use crate::policy::policy;
 use crate::replay::replay;
 use rm_base::{Blob, Sink, Source};
+use rm_policy::laws::one_reading;
 use rm_world::PlainStage;
 use rm_world::laws::no_bad_line;
 use soap_document::laws::document_is_utf8;
@@ -42,10 +45,12 @@ pub fn run<S: Source, K: Sink>(
     // Which status comes of bytes.
     ensures replays { AsksReplay words.now → IfSome (S.left input.old) (λ bytes. IsReplayStatus bytes result) }
     ensures checks { AsksCheck words.now → IfSome (S.left input.old) (λ bytes. IsCheckStatus bytes result) }
+    ensures policies { AsksPolicy words.now → IfSome (S.left input.old) (λ bytes. IsPolicyStatus bytes result) }
 {
     // What bytes can't be at once decides which status comes of them.
     document_is_utf8();
     one_answer();
+    one_reading();
     no_bad_line();
     obey(alloc, words, input, out, stage).status()
 }
@@ -67,6 +72,7 @@ fn obey<S: Source, K: Sink>(
     match command_of(words) {
         Some(Command::Replay) => replay(alloc, input, out, stage),
         Some(Command::Check) => check(alloc, input, out),
+        Some(Command::Policy) => policy(alloc, input, out),
         None => refuse(out, End::Usage, USAGE_LINE),
     }
 }
@@ -80,6 +86,7 @@ const USAGE_LINE: &[u8] =
 enum Command {
     Replay,
     Check,
+    Policy,
 }
 
 // The command that the words ask for: it is the only word.
@@ -101,6 +108,9 @@ fn command_named(name: &[u8]) -> Option<Command>
     }
     if name == b"check".as_slice() {
         return Some(Command::Check);
+    }
+    if name == b"policy".as_slice() {
+        return Some(Command::Policy);
     }
     None
 }

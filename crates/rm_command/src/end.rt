@@ -7,13 +7,15 @@ ghost use Rattle.rm_command.specs.Texts.{line_of};
 use rm_base::{Blob, Memory, Sink, push_decimal, write_all};
 use std::alloc::Global;
 
-/// What keeps bytes from being an envelope.
+/// What keeps bytes from being an envelope, or an assertion.
 #[derive(Clone, Copy, Debug, PartialEq, Eq)]
 pub enum Fault {
     NotUtf8,
     NotProfile,
     WrongVersion,
     NotEnvelope,
+    Malformed,
+    SecurityUnsupported,
 }
 
 /// How a run ends.
@@ -31,7 +33,7 @@ pub enum End {
     WriteFault,
     /// The input has more bytes than the command takes.
     TooLong,
-    /// The input is no envelope.
+    /// The input is not what the command reads.
     Refused { fault: Fault },
     /// Memory ran out.
     Memory,
@@ -65,6 +67,8 @@ impl Fault {
             Fault::NotProfile => b"fault NotProfile\n",
             Fault::WrongVersion => b"fault WrongVersion\n",
             Fault::NotEnvelope => b"fault NotEnvelope\n",
+            Fault::Malformed => b"fault Malformed\n",
+            Fault::SecurityUnsupported => b"fault SecurityUnsupported\n",
         }
     }
 }

@@ -2,10 +2,26 @@
 ghost use Rattle.std.specs.Prelude.{◌≡◌, ◌<◌, ◌^◌, IfOk, IfErr, OnOk};
 ghost use Rattle.rm_command.specs.Edge.{input_of, output_of, edge_of, WasRead, KeepsEdge, KeepsOutput};
 ghost use Rattle.rm_command.specs.Filter.{EndsUnread, EndsWriting, end_of};
+ghost use Rattle.rm_command.specs.declared.filter.NoText.TheVariants.{Memory as WantsMemory};
 
-use crate::end::{End, refuse};
-use rm_base::{Blob, ReadError, Sink, SinkError, Source, read_up_to, write_all};
+use crate::end::{End, Fault, refuse};
+use rm_base::{Blob, Memory, ReadError, Sink, SinkError, Source, read_up_to, write_all};
 use std::alloc::Global;
+
+/// Why there is nothing to print of bytes.
+#[derive(Clone, Copy, Debug)]
+pub enum NoText {
+    Memory,
+    Faulty(Fault),
+}
+
+impl From<Memory> for NoText {
+    ghost from_gives = { λ _ e. e ≡ WantsMemory };
+
+    fn from(_memory: Memory) -> NoText {
+        NoText::Memory
+    }
+}
 
 /// Reads an input of at most `limit` bytes to its end. Where it isn't read, its refusal is answered and was written.
 pub fn read_input<S: Source, K: Sink>(

@@ -1,6 +1,7 @@
 use Rattle.rm_world.specs.Stage.{world_of}
 use Rattle.soap_profile.specs.Soap.{soap_space}
 use Rattle.rm_command.proofs.CheckLemmas.{check_status, replay_status}
+use Rattle.rm_command.proofs.PolicyLemmas.{policy_status}
 use Rattle.rm_command.proofs.command.run.Goals as goal
 
 pub returns-clause-replays : goal.returns-clause-replays
@@ -15,3 +16,7 @@ returns-clause-checks g c =
     let outline = c.one_answer.ensures.outline soap_space in
     λ asked. rw c.status.ensures
     (check_status c.document_is_utf8.ensures version outline (c.obey.ensures.runs.check asked))
+
+pub returns-clause-policies : goal.returns-clause-policies
+returns-clause-policies g c =
+    λ asked. rw c.status.ensures (policy_status c.one_reading.ensures (c.obey.ensures.runs.policy asked))

@@ -1,0 +1,6 @@
+pub mod Assertion
+pub mod Content
+pub mod Reading
+pub mod Refusal
+pub mod Texts
+pub mod Words

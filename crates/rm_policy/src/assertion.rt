@@ -1,0 +1,32 @@
+//! What an assertion says: WS-RM Policy 1.2, section 2.
+ghost use Rattle.std.specs.Prelude.{◌≡◌};
+ghost use Rattle.rm_policy.specs.Assertion.{is_granted};
+
+/// How often a message is delivered: WS-ReliableMessaging 1.2, section 2.4.
+#[derive(Clone, Copy, Debug, PartialEq, Eq)]
+pub enum Assurance {
+    /// Nothing is said of it.
+    Unsaid,
+    ExactlyOnce,
+    AtLeastOnce,
+    AtMostOnce,
+}
+
+/// An assertion of reliable messaging. `in_order` says that messages are delivered in the order of their numbers, and
+/// `optional` that the assertion may be left out.
+#[derive(Clone, Copy, Debug, PartialEq, Eq)]
+pub struct Assertion {
+    pub assurance: Assurance,
+    pub in_order: bool,
+    pub optional: bool,
+}
+
+/// Whether our nodes keep the assertion: they deliver each message exactly once, and in order.
+pub fn grants(assertion: &Assertion) -> bool
+    ensures { result ≡ is_granted assertion.now.assurance }
+{
+    match assertion.assurance {
+        Assurance::Unsaid | Assurance::ExactlyOnce => true,
+        Assurance::AtLeastOnce | Assurance::AtMostOnce => false,
+    }
+}
