@@ -1,9 +1,13 @@
-//! Whole messages, as values. It stands on header blocks and body elements, `rm_elements`, on addressing headers,
-//! `wsa_headers`, and on envelopes.
+//! Whole messages on the wire: `encode` to bytes, `decode` from bytes, and `fault_message`, the fault that a refusal is
+//! answered with, beside the types that these speak of, and the laws that join writing and reading. It has no code of
+//! its own: it stands on `message_writer` and `message_reader`.
 #![tactic(auto)]
 
-pub mod message;
-pub mod refusal;
+pub mod laws;
 
-pub use message::{Acks, Body, FaultBody, FaultCode, Idents, Message, Names};
-pub use refusal::{DecodeError, FaultKind, Refusal};
+pub use laws::{a_fault_keeps_the_rules, what_is_written_has_one_message, what_is_written_is_read};
+pub use message_reader::decode;
+pub use message_writer::{encode, fault_message};
+pub use rm_message::{
+    Acks, Body, DecodeError, FaultBody, FaultCode, FaultKind, Idents, Message, Names, Refusal,
+};

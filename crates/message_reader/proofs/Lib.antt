@@ -1,0 +1,4 @@
+pub mod BlockLemmas
+pub mod Joined
+pub mod MessageLemmas
+pub mod Unique

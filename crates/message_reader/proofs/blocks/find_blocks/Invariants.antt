@@ -1,0 +1,12 @@
+use Rattle.std.proofs.Common.{◌≡◌, ◌++◌, drop, map}
+use Rattle.soap_profile.specs.View.{element_view}
+use Rattle.soap_values.specs.Children.{name_in}
+use Rattle.soap_values.specs.Steps.{lent_trees}
+use Rattle.message_reader.specs.Blocks.{blocks}
+use Rattle.message_reader.proofs.blocks.find_blocks.Given as goal
+
+-- those so far, and those of what is left
+abbrev pub invariant-loop-block : goal.invariant-loop-block
+invariant-loop-block l =
+    lent_trees l.found.items ++ blocks (name_in l.space l.local) (map element_view (drop l.block-index l.headers))
+    ≡ blocks (name_in l.space l.local) (map element_view l.headers)

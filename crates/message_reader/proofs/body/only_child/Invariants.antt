@@ -1,0 +1,10 @@
+use Rattle.std.proofs.Common.{◌≡◌, ◌++◌, drop}
+use Rattle.soap_profile.specs.Tree.{children_of}
+use Rattle.soap_profile.specs.View.{parts_view}
+use Rattle.soap_values.specs.Steps.{listed}
+use Rattle.message_reader.proofs.body.only_child.Given as goal
+
+-- the one so far, and those of what is left
+abbrev pub invariant-loop-item : goal.invariant-loop-item
+invariant-loop-item l =
+    listed l.found ++ children_of (parts_view (drop l.item-index l.items)) ≡ children_of (parts_view l.items)

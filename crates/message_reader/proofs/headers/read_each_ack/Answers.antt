@@ -1,0 +1,23 @@
+use Rattle.std.proofs.Common.{◌≡◌}
+use Rattle.std.proofs.lemmas.Result.{err_from_is_err_and}
+use Rattle.soap_profile.specs.View.{element_view}
+use Rattle.soap_values.specs.EachLaws.{each_goes_on, each_stops, each_done}
+use Rattle.soap_values.specs.Outcome.{each}
+use Rattle.soap_values.specs.Steps.{lent_trees}
+use Rattle.message_reader.specs.Headers.{ack_of}
+use Rattle.message_reader.proofs.headers.read_each_ack.Goals as goal
+
+pub returns-in_err-read_ack : goal.returns-in_err-read_ack
+returns-in_err-read_ack c =
+    let p = err_from_is_err_and c.from_residual.result c.from_residual.ensures.1 in
+    rw (p.1, p.2) (each_stops ack_of (λ e. element_view e.now) c.loop-block.acks c.args.found.now
+    c.loop-block.block-index c.block-item.result c.in_err-read_ack.field-0.0
+    (each ack_of (lent_trees c.args.found.now)) c.loop-block-test.true c.block-item.is
+    c.in_err-read_ack.ensures c.loop-block.invariant)
+
+pub loop-block-preserved : goal.loop-block-preserved
+loop-block-preserved c =
+    rw c.in_ok-push.ensures.ok (each_goes_on ack_of (λ e. element_view e.now) c.loop-block.acks c.args.found.now
+    c.loop-block.block-index c.block-item.result c.in_ok-read_ack.field-0
+    (each ack_of (lent_trees c.args.found.now)) c.loop-block-test.true c.block-item.is
+    c.in_ok-read_ack.ensures c.loop-block.invariant)

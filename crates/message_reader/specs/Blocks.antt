@@ -1,0 +1,59 @@
+-- Header blocks and which of them are understood: SOAP 1.2 Part 1, sections 2.4, 5.2.2 and 5.2.3, where SOAP has a
+-- namespace.
+use Rattle.std.specs.Prelude.{ℕ, List, ◌++◌, Bool, true, not, ◌&&◌, ◌||◌, Option, Some, None, is_some, codes, map}
+use Rattle.std.specs.List.{filter, list_any}
+use Rattle.std.specs.Str.{bytes_eq}
+use Rattle.soap_profile.specs.Tree.{Element, name_of, attrs_of}
+use Rattle.soap_profile.specs.declared.name.Expanded.{Expanded as Name}
+use Rattle.soap_values.specs.Children.{name_in, is_same, has_name, value_among}
+use Rattle.wsa_headers.specs.Addressing.{is_marked, says_so}
+use Rattle.wsa_headers.specs.Endpoint.{wsa}
+use Rattle.rm_elements.specs.Headers.{header_name}
+
+-- whether a block is the header of this name: a reference parameter is none, whatever it is called
+abbrev pub is_block : Name → Element → Bool
+is_block name e = has_name name e && not (is_marked e)
+
+-- the header blocks of this name, in order
+abbrev pub blocks : Name → List Element → List Element
+blocks name headers = filter (is_block name) headers
+
+-- whether there is one
+abbrev pub has_block : Name → List Element → Bool
+has_block name headers = list_any (is_block name) headers
+
+-- the headers of WS-Addressing (Core, 3.2)
+abbrev pub is_addressing : Name → Bool
+is_addressing name =
+    is_same name (wsa (codes "To")) || is_same name (wsa (codes "From")) || is_same name (wsa (codes "ReplyTo"))
+    || is_same name (wsa (codes "FaultTo")) || is_same name (wsa (codes "Action"))
+    || is_same name (wsa (codes "MessageID")) || is_same name (wsa (codes "RelatesTo"))
+
+-- the blocks that are understood: those of WS-Addressing, WS-ReliableMessaging and WS-MakeConnection, and NotUnderstood
+abbrev pub is_understood : List ℕ → Name → Bool
+is_understood soap name =
+    is_addressing name || is_some (header_name name) || is_same name (name_in soap (codes "NotUnderstood"))
+
+-- whether a block has to be understood by whom it is for (5.2.3)
+abbrev pub must_be_understood : List ℕ → Element → Bool
+must_be_understood soap e = says_so (value_among (name_in soap (codes "mustUnderstand")) (attrs_of e))
+
+-- the roles of the node that a message is sent to (2.2)
+abbrev pub is_own_role : List ℕ → List ℕ → Bool
+is_own_role soap role =
+    bytes_eq role (soap ++ codes "/role/next") || bytes_eq role (soap ++ codes "/role/ultimateReceiver")
+
+-- a block without a role is for the last node on the way (5.2.2)
+abbrev pub is_own : List ℕ → Option (List ℕ) → Bool
+is_own soap None = true
+is_own soap (Some role) = is_own_role soap role
+
+-- whether a block is for us, has to be understood, and is not
+abbrev pub is_not_understood : List ℕ → Element → Bool
+is_not_understood soap e =
+    not (is_marked e) && not (is_understood soap (name_of e)) && must_be_understood soap e
+    && is_own soap (value_among (name_in soap (codes "role")) (attrs_of e))
+
+-- the names of all such blocks, in order
+abbrev pub not_understood : List ℕ → List Element → List Name
+not_understood soap headers = map name_of (filter (is_not_understood soap) headers)

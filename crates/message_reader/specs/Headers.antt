@@ -1,0 +1,99 @@
+-- What the header blocks of WS-ReliableMessaging 1.2 (sections 3.7 to 3.9), WS-MakeConnection 1.1 (3.4) and SOAP 1.2
+-- Part 1 (5.4.8) say, beside those of WS-Addressing.
+use Rattle.std.specs.Prelude.{ℕ, List, [], ◌∷◌, Bool, Option, Some, None, Result, Ok, Err, codes}
+use Rattle.std.specs.List.{flat_map}
+use Rattle.soap_profile.specs.Tree.{Binding, Element, attrs_of}
+use Rattle.soap_profile.specs.declared.name.Expanded.{Expanded as Name}
+use Rattle.soap_values.specs.Children.{name_in, value_among}
+use Rattle.soap_values.specs.Outcome.{◌>>=◌, optional, each, if_present}
+use Rattle.soap_values.specs.QNames.{within, qname_in}
+use Rattle.rm_elements.specs.Headers.{header_of}
+use Rattle.rm_elements.specs.Outcome.{rm, mc}
+use Rattle.rm_elements.specs.declared.error.ElementError.{ElementError}
+use Rattle.rm_elements.specs.declared.error.ElementError.TheVariants.{Rollover}
+use Rattle.rm_elements.specs.declared.header.AckBlock.{AckBlock}
+use Rattle.rm_elements.specs.declared.header.Header.{Header}
+use Rattle.rm_elements.specs.declared.header.Header.TheVariants.{Sequence, Ack, Ask, Pending}
+use Rattle.message_reader.specs.Blocks.{blocks}
+use Rattle.message_reader.specs.declared.headers.Numbered.{Numbered}
+use Rattle.message_reader.specs.declared.headers.Numbered.TheVariants.{Unnumbered, Within, RolledOver}
+
+-- an element that is read as an acknowledgement
+abbrev pub ack_from : Result (Option Header) ElementError → Option AckBlock
+ack_from (Ok (Some (Ack ack))) = Some ack
+ack_from _ = None
+
+-- as a request for one
+abbrev pub ask_from : Result (Option Header) ElementError → Option (List ℕ)
+ask_from (Ok (Some (Ask ident))) = Some ident
+ask_from _ = None
+
+-- as MessagePending
+abbrev pub pending_from : Result (Option Header) ElementError → Option Bool
+pending_from (Ok (Some (Pending more))) = Some more
+pending_from _ = None
+
+-- as a Sequence, whose number may be above the greatest
+abbrev pub numbered_from : Result (Option Header) ElementError → Option Numbered
+numbered_from (Ok (Some (Sequence sequence))) = Some (Within sequence)
+numbered_from (Err (Rollover ident)) = Some (RolledOver ident)
+numbered_from _ = None
+
+-- the acknowledgement that a block is
+abbrev pub ack_of : Element → Option AckBlock
+ack_of e = ack_from (header_of e)
+
+-- the sequence whose acknowledgement a block asks for
+abbrev pub ask_of : Element → Option (List ℕ)
+ask_of e = ask_from (header_of e)
+
+-- what a MessagePending says
+abbrev pub pending_of : Element → Option Bool
+pending_of e = pending_from (header_of e)
+
+-- the acknowledgements of a message, in order
+abbrev pub acks_in : List Element → Option (List AckBlock)
+acks_in headers = each ack_of (blocks (rm (codes "SequenceAcknowledgement")) headers)
+
+-- the sequences whose acknowledgements it asks for, in order
+abbrev pub asks_in : List Element → Option (List (List ℕ))
+asks_in headers = each ask_of (blocks (rm (codes "AckRequested")) headers)
+
+-- its one MessagePending, or none
+abbrev pub pending_in : List Element → Option (Option Bool)
+pending_in headers = do
+  found ← optional (blocks (mc (codes "MessagePending")) headers)
+  if_present pending_of found
+
+-- what a Sequence says, where there is one
+abbrev pub numbered_of : Option Element → Option Numbered
+numbered_of None = Some Unnumbered
+numbered_of (Some e) = numbered_from (header_of e)
+
+-- the number that a message has in a sequence
+abbrev pub sequence_name : Name
+sequence_name = rm (codes "Sequence")
+
+-- its one Sequence, or none
+abbrev pub numbered_in : List Element → Option Numbered
+numbered_in headers = do
+  found ← optional (blocks sequence_name headers)
+  numbered_of found
+
+-- what is there, as a list
+abbrev pub listed : {A : Type 0} → Option A → List A
+listed None = []
+listed (Some x) = x ∷ []
+
+-- the name in the attribute qname of a NotUnderstood block
+abbrev pub told_name : List Binding → Element → Option Name
+told_name scope e = do
+  bytes ← value_among (name_in [] (codes "qname")) (attrs_of e)
+  qname_in (within (e ∷ []) scope) bytes
+
+-- the names that a peer did not understand, in order, where these bindings are in force in the header; a block without
+-- a
+-- name is passed over
+abbrev pub told_names : List ℕ → List Binding → List Element → List Name
+told_names soap scope headers =
+    flat_map (λ e. listed (told_name scope e)) (blocks (name_in soap (codes "NotUnderstood")) headers)

@@ -1,0 +1,7 @@
+pub mod Blocks
+pub mod Bodies
+pub mod Faults
+pub mod Headers
+pub mod Message
+pub mod Outcome
+pub mod Refusals

@@ -1,0 +1,74 @@
+//! Whole messages from bytes.
+ghost use Rattle.std.specs.Prelude.{◌≡◌, IfOk, IfErr};
+ghost use Rattle.soap_profile.specs.Soap.{soap_space};
+ghost use Rattle.soap_envelope.specs.View.{envelope_view};
+ghost use Rattle.message_reader.specs.Message.{message_in};
+ghost use Rattle.message_reader.specs.Outcome.{Decodes, IsEarly, told_by, early_kind as early_kind_of};
+ghost use Rattle.message_reader.specs.Refusals.{Spells, IsRefusal};
+
+use crate::read::read_message;
+use crate::refusal::{blind, refusal};
+use rm_base::Memory;
+use rm_message::{DecodeError, FaultKind, Message, Refusal};
+use soap_envelope::{Envelope, read_envelope};
+use soap_profile::EnvelopeError;
+use std::alloc::Global;
+
+/// The namespace of envelopes: SOAP 1.2 Part 1, section 5.1.
+const SOAP: &[u8] = b"http://www.w3.org/2003/05/soap-envelope";
+
+/// The message that the bytes spell, or the refusal of the first kind that holds, with where its fault goes. The bytes
+/// are SOAP 1.2.
+pub fn decode(alloc: Global, bytes: &[u8]) -> Result<Message, DecodeError>
+    ensures ok { IfOk result (Spells soap_space bytes.now) }
+    ensures err { IfErr result (IsRefusal soap_space bytes.now) }
+{
+    match read_envelope(alloc, bytes) {
+        Ok(envelope) => decode_envelope(alloc, SOAP, envelope),
+        Err(error) => Err(unread(alloc, error)),
+    }
+}
+
+// The message of an envelope where SOAP has this namespace, or its refusal.
+fn decode_envelope(alloc: Global, soap: &[u8], envelope: Envelope) -> Result<Message, DecodeError>
+    ensures { Decodes result (message_in soap.now (envelope_view envelope)) }
+{
+    match read_message(alloc, soap, envelope) {
+        Ok(message) => Ok(message),
+        Err(cause) => Err(told(refusal(alloc, cause))),
+    }
+}
+
+// A refusal, or that there was no memory for it.
+fn told(found: Result<Refusal, Memory>) -> DecodeError
+    ensures { result ≡ told_by found }
+{
+    match found {
+        Ok(refusal) => DecodeError::Refused(refusal),
+        Err(Memory) => DecodeError::Memory,
+    }
+}
+
+// The kind of a refusal of bytes that are no envelope.
+fn early_kind(error: EnvelopeError) -> Option<FaultKind>
+    ensures { result ≡ early_kind_of error }
+{
+    match error {
+        EnvelopeError::Memory => None,
+        EnvelopeError::TooLong { .. } => Some(FaultKind::TooLong),
+        EnvelopeError::NotUtf8 { .. } => Some(FaultKind::NotUtf8),
+        EnvelopeError::NotProfile => Some(FaultKind::NotProfile),
+        EnvelopeError::WrongVersion => Some(FaultKind::WrongVersion),
+        EnvelopeError::NotEnvelope => Some(FaultKind::NotEnvelope),
+    }
+}
+
+// The refusal of bytes that are no envelope.
+fn unread(alloc: Global, error: EnvelopeError) -> DecodeError
+    ensures { IsEarly (early_kind_of error) result }
+{
+    match early_kind(error) {
+        Some(kind) => told(blind(alloc, kind)),
+        None => DecodeError::Memory,
+    }
+}

@@ -1,0 +1,173 @@
+-- The text of a message is an envelope, by the laws of what stands in it.
+use Rattle.std.proofs.Common.{◌≡◌, ◌≤◌, ◌+◌, ℕ, Bool, List, [], ◌∷◌, ◌++◌, Option, Some, None, IfSome, map, refl, ap}
+use Rattle.std.proofs.Common.{subst, arith}
+use Rattle.std.specs.Prelude.{option_map}
+use Rattle.std.specs.List.{AllByRecursion}
+use Rattle.std.specs.Option.{option_to_list}
+use Rattle.std.proofs.lemmas.List.{append-nil}
+use Rattle.std.proofs.lemmas.List.Folds.{flat_map-map}
+use Rattle.rm_base.specs.Text.{IsText}
+use Rattle.rm_base.specs.declared.message.Binding.{Binding}
+use Rattle.soap_document.specs.Grammar.{max_depth}
+use Rattle.soap_profile.specs.Namespaces.{bound}
+use Rattle.soap_profile.specs.Payload.{IsClosedContent}
+use Rattle.soap_profile.specs.Tree.{Element, Parts, none, child}
+use Rattle.soap_profile.specs.declared.name.Expanded.{Expanded as Name}
+use Rattle.soap_envelope.specs.Envelope.{IsEnvelope}
+use Rattle.soap_writer.specs.Frame.{frame_scope}
+use Rattle.soap_writer.specs.ReadBack.{ReadsAs, ContentReadsAs}
+use Rattle.soap_writer.specs.Writable.{IsNameWritable}
+use Rattle.soap_frame.specs.Framed.{Block, IsBlock, MayBeSoap, bytes_of, trees_of, framed_text, framed_envelope}
+use Rattle.soap_nodes.specs.Good.{IsGood, AreGood}
+use Rattle.soap_nodes.specs.Node.{Node, Nodes, nothing, words, more, node_text, node_tree}
+use Rattle.wsa_headers.specs.Texts.{addressing_nodes}
+use Rattle.wsa_headers.specs.Writable.{IsAddressingWritable}
+use Rattle.wsa_headers.specs.declared.addressing.Addressing.{Addressing}
+use Rattle.rm_elements.specs.Texts.{header_node, sequence_node, ack_node, ask_node, pending_node, lifecycle_node}
+use Rattle.rm_elements.specs.Writable.{IsHeaderWritable, IsSequenceWritable, IsAckWritable, IsLifecycleWritable}
+use Rattle.rm_elements.specs.declared.header.AckBlock.{AckBlock}
+use Rattle.rm_elements.specs.declared.header.Header.{Header}
+use Rattle.rm_elements.specs.declared.header.Header.TheVariants as headers
+use Rattle.rm_elements.specs.declared.header.SeqHeader.{SeqHeader}
+use Rattle.rm_elements.specs.declared.lifecycle.Lifecycle.{Lifecycle}
+use Rattle.rm_message.specs.declared.message.Body.{Body}
+use Rattle.rm_message.specs.declared.message.Body.TheVariants as body
+use Rattle.rm_message.specs.declared.message.Message.{Message}
+use Rattle.message_writer.specs.Rules.{IsBodyWritable, body_parts, KeepsRules, message_envelope}
+use Rattle.message_writer.specs.Text.{node_list, not_understood_node, header_blocks, blocks_text, body_text}
+use Rattle.message_writer.specs.Text.{message_text, fault_node}
+use Rattle.message_writer.proofs.GoodNodes.{not_understood_good, fault_good}
+
+-- what is known of blocks, bodies and frames
+pub record Known : Type 0 where
+  pub addressing : (soap : List ℕ) (a : Addressing) → IsAddressingWritable a
+      → AreGood soap 2 (frame_scope soap) (addressing_nodes a)
+  pub header : (soap : List ℕ) (h : Header) → IsHeaderWritable h → IsGood soap 2 (frame_scope soap) (header_node h)
+  pub lifecycle : (soap : List ℕ) (x : Lifecycle) → IsLifecycleWritable x
+      → IsGood soap 2 (frame_scope soap) (lifecycle_node x)
+  pub node : (soap : List ℕ) (node : Node) (depth at : ℕ) (scope : List Binding) → IsGood soap depth scope node
+      → ReadsAs depth at scope (node_text node) (node_tree soap node)
+  pub nothing : (depth at : ℕ) (scope : List Binding) → ContentReadsAs depth at scope [] none
+  pub more : (depth at : ℕ) (scope : List Binding) (inner rest : List ℕ) (first : Element) (parts : Parts)
+      → ((at : ℕ) → ReadsAs depth at scope inner first) → ((at : ℕ) → ContentReadsAs depth at scope rest parts)
+      → ContentReadsAs depth at scope (inner ++ rest) (child first parts)
+  pub closed : (bytes : List ℕ) (closed : IsClosedContent bytes) (depth at : ℕ) (scope : List Binding)
+      → depth + 90 ≤ max_depth → bound [] scope ≡ None → ContentReadsAs depth at scope bytes closed.parts
+  pub frame : (soap : List ℕ) (header : List Block) (payload : List ℕ) (body : Parts) → MayBeSoap soap
+      → AllByRecursion (IsBlock soap) header → ((at : ℕ) → ContentReadsAs 2 at (frame_scope soap) payload body)
+      → IsEnvelope soap (framed_text soap (bytes_of header) payload)
+      (framed_envelope soap (trees_of header) payload body)
+
+-- ---- nodes that are good in the header of a frame
+
+abbrev Fit : List ℕ → List Node → Type 0
+Fit soap nodes = AllByRecursion (IsGood soap 2 (frame_scope soap)) nodes
+
+listed_fit : (soap : List ℕ) (nodes : Nodes) → AreGood soap 2 (frame_scope soap) nodes → Fit soap (node_list nodes)
+listed_fit soap nothing good = tt
+listed_fit soap (words bytes) good = tt
+listed_fit soap (more node nodes) good = (good.0, listed_fit soap nodes good.1)
+
+append_fit : (soap : List ℕ) (nodes others : List Node) → Fit soap nodes → Fit soap others → Fit soap (nodes ++ others)
+append_fit soap [] others a b = b
+append_fit soap (node ∷ nodes) others a b = (a.0, append_fit soap nodes others a.1 b)
+
+sequence_fit : Known → (soap : List ℕ) (x : Option SeqHeader) → IfSome x IsSequenceWritable
+    → Fit soap (option_to_list (option_map sequence_node x))
+sequence_fit known soap None is = tt
+sequence_fit known soap (Some x) is = (known.header soap (headers.Sequence x) is, tt)
+
+acks_fit : Known → (soap : List ℕ) (xs : List AckBlock) → AllByRecursion IsAckWritable xs
+    → Fit soap (map ack_node xs)
+acks_fit known soap [] all = tt
+acks_fit known soap (x ∷ xs) all = (known.header soap (headers.Ack x) all.0, acks_fit known soap xs all.1)
+
+asks_fit : Known → (soap : List ℕ) (xs : List (List ℕ)) → AllByRecursion (IsText 512) xs
+    → Fit soap (map ask_node xs)
+asks_fit known soap [] all = tt
+asks_fit known soap (x ∷ xs) all = (known.header soap (headers.Ask x) all.0, asks_fit known soap xs all.1)
+
+pending_fit : Known → (soap : List ℕ) (x : Option Bool) → Fit soap (option_to_list (option_map pending_node x))
+pending_fit known soap None = tt
+pending_fit known soap (Some x) = (known.header soap (headers.Pending x) tt, tt)
+
+names_fit : (soap : List ℕ) (xs : List Name) → AllByRecursion IsNameWritable xs
+    → Fit soap (map not_understood_node xs)
+names_fit soap [] all = tt
+names_fit soap (x ∷ xs) all = (not_understood_good soap x all.0, names_fit soap xs all.1)
+
+header_fit : Known → (soap : List ℕ) (m : Message) → KeepsRules soap m → Fit soap (header_blocks m)
+header_fit known soap m rules =
+    let addressing = node_list (addressing_nodes m.addressing) in
+    let sequence = option_to_list (option_map sequence_node m.sequence) in
+    let acks = map ack_node m.acks in
+    let asks = map ask_node m.asks in
+    let pending = option_to_list (option_map pending_node m.pending) in
+    let names = map not_understood_node m.not_understood in
+    let last : Fit soap (pending ++ names) =
+    append_fit soap pending names (pending_fit known soap m.pending)
+    (names_fit soap m.not_understood rules.not_understood)
+    in
+    let later : Fit soap (asks ++ (pending ++ names)) =
+    append_fit soap asks (pending ++ names) (asks_fit known soap m.asks rules.asks) last in
+    let more_of : Fit soap (acks ++ (asks ++ (pending ++ names))) =
+    append_fit soap acks (asks ++ (pending ++ names)) (acks_fit known soap m.acks rules.acks) later in
+    let behind : Fit soap (sequence ++ (acks ++ (asks ++ (pending ++ names)))) =
+    append_fit soap sequence (acks ++ (asks ++ (pending ++ names)))
+    (sequence_fit known soap m.sequence rules.sequence) more_of in
+    append_fit soap addressing (sequence ++ (acks ++ (asks ++ (pending ++ names))))
+    (listed_fit soap (addressing_nodes m.addressing) (known.addressing soap m.addressing rules.addressing)) behind
+
+-- ---- as blocks of a frame
+
+abbrev block_of : List ℕ → Node → Block
+block_of soap node = record { bytes = node_text node; tree = node_tree soap node }
+
+blocks_fit : Known → (soap : List ℕ) (nodes : List Node) → Fit soap nodes
+    → AllByRecursion (IsBlock soap) (map (block_of soap) nodes)
+blocks_fit known soap [] fit = tt
+blocks_fit known soap (node ∷ nodes) fit =
+    (λ at. known.node soap node 2 at (frame_scope soap) fit.0, blocks_fit known soap nodes fit.1)
+
+trees_same : (soap : List ℕ) (nodes : List Node)
+    → trees_of (map (block_of soap) nodes) ≡ map (node_tree soap) nodes
+trees_same soap [] = refl
+trees_same soap (node ∷ nodes) = ap (λ l. node_tree soap node ∷ l) (trees_same soap nodes)
+
+bytes_same : (soap : List ℕ) (nodes : List Node) → bytes_of (map (block_of soap) nodes) ≡ blocks_text nodes
+bytes_same soap nodes = flat_map-map (λ block. block.bytes) (block_of soap) nodes
+
+-- ---- the Body
+
+alone : Known → (soap : List ℕ) (node : Node) → IsGood soap 2 (frame_scope soap) node → (at : ℕ)
+    → ContentReadsAs 2 at (frame_scope soap) (node_text node) (child (node_tree soap node) none)
+alone known soap node good at =
+    subst (λ l. ContentReadsAs 2 at (frame_scope soap) l (child (node_tree soap node) none))
+    (append-nil (node_text node))
+    (known.more 2 at (frame_scope soap) (node_text node) [] (node_tree soap node) none
+    (λ from. known.node soap node 2 from (frame_scope soap) good) (λ from. known.nothing 2 from (frame_scope soap)))
+
+body_reads : Known → (soap : List ℕ) (b : Body) (rules : IsBodyWritable soap b) (at : ℕ)
+    → ContentReadsAs 2 at (frame_scope soap) (body_text b) (body_parts soap b rules)
+body_reads known soap body.Empty rules at = known.nothing 2 at (frame_scope soap)
+body_reads known soap (body.Payload p) rules at =
+    known.closed p.bytes rules.closed 2 at (frame_scope soap) (omega arith) refl
+body_reads known soap (body.Lifecycle x) rules at =
+    alone known soap (lifecycle_node x) (known.lifecycle soap x rules) at
+body_reads known soap (body.Fault f) rules at = alone known soap (fault_node f) (fault_good soap f rules) at
+
+-- ---- the message
+
+pub text_envelope : Known → (soap : List ℕ) (m : Message) (rules : KeepsRules soap m) → MayBeSoap soap
+    → IsEnvelope soap (message_text soap m) (message_envelope soap m rules)
+text_envelope known soap m rules may =
+    let nodes = header_blocks m in
+    let blocks = map (block_of soap) nodes in
+    let text = body_text m.body in
+    let parts = body_parts soap m.body rules.body in
+    subst (λ (l : List ℕ). IsEnvelope soap (framed_text soap l text)
+    (framed_envelope soap (map (node_tree soap) nodes) text parts)) (bytes_same soap nodes)
+    (subst (λ (l : List Element). IsEnvelope soap (framed_text soap (bytes_of blocks) text)
+    (framed_envelope soap l text parts)) (trees_same soap nodes)
+    (known.frame soap blocks text parts may (blocks_fit known soap nodes (header_fit known soap m rules))
+    (body_reads known soap m.body rules.body)))

@@ -1,0 +1,15 @@
+use Rattle.std.proofs.Common.{◌≡◌, ◌++◌, drop}
+use Rattle.soap_profile.specs.Items.{listed}
+use Rattle.soap_profile.specs.Soap.{soap_space}
+use Rattle.soap_profile.specs.View.{items_view}
+use Rattle.soap_nodes.specs.Node.{nothing, each_node, nodes_tree}
+use Rattle.rm_elements.specs.Texts.{nack_node}
+use Rattle.message_writer.proofs.trees.push_nacks.Given as goal
+
+-- those so far, and those of what is left
+abbrev pub invariant-loop-number : goal.invariant-loop-number
+invariant-loop-number l =
+    items_view l.items.items
+    ++ listed (nodes_tree soap_space (each_node nack_node (drop l.number-index l.numbers) nothing))
+    ≡ items_view l.initial.items.items
+    ++ listed (nodes_tree soap_space (each_node nack_node l.numbers nothing))

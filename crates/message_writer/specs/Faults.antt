@@ -1,0 +1,167 @@
+-- The faults that refusals are answered with: SOAP 1.2 Part 1, section 5.4, WS-Addressing 1.0 SOAP Binding, section 6,
+-- WS-ReliableMessaging 1.2, section 4, and WS-MakeConnection 1.1, section 4. Which kind has which code, and the
+-- reasons, are this project's own choice.
+use Rattle.std.specs.Prelude.{ℕ, List, [], ◌∷◌, ◌++◌, Option, Some, None, codes, option_map}
+use Rattle.std.specs.Option.{option_to_list}
+use Rattle.soap_profile.specs.Soap.{soap_space}
+use Rattle.soap_profile.specs.Tree.{Element}
+use Rattle.soap_profile.specs.declared.name.Expanded.{Expanded as Name}
+use Rattle.soap_writer.specs.Frame.{addressing_space, messaging_space, connection_space}
+use Rattle.soap_nodes.specs.Node.{leaf, node_tree}
+use Rattle.wsa_headers.specs.declared.addressing.Addressing.{Addressing}
+use Rattle.rm_elements.specs.Texts.{r, identifier_node, ack_node}
+use Rattle.rm_elements.specs.declared.header.AckBlock.{AckBlock}
+use Rattle.message_writer.specs.declared.table.Vocabulary.{Vocabulary}
+use Rattle.message_writer.specs.declared.table.Vocabulary.TheVariants.{OfSoap, OfAddressing, OfMessaging, OfConnection}
+use Rattle.rm_message.specs.declared.message.Body.TheVariants as body
+use Rattle.rm_message.specs.declared.message.FaultBody.{FaultBody}
+use Rattle.rm_message.specs.declared.message.FaultCode.{FaultCode}
+use Rattle.rm_message.specs.declared.message.FaultCode.TheVariants.{VersionMismatch, MustUnderstand, Sender, Receiver}
+use Rattle.rm_message.specs.declared.message.Message.{Message}
+use Rattle.rm_message.specs.declared.refusal.FaultKind.{FaultKind}
+use Rattle.rm_message.specs.declared.refusal.FaultKind.TheVariants as kinds
+use Rattle.rm_message.specs.declared.refusal.Refusal.{Refusal}
+
+-- ---- the table
+
+-- a row: the reason, the code, the vocabulary that the fault is of, and the local names of its subcode and of the one
+-- within it
+pub record Row : Type 0 where
+  pub reason : List ℕ
+  pub code : FaultCode
+  pub whose : Vocabulary
+  pub subcode : Option (List ℕ)
+  pub inner : Option (List ℕ)
+
+-- a fault of SOAP has no subcode
+abbrev pub plain : List ℕ → FaultCode → Row
+plain reason code = record { reason = reason; code = code; whose = OfSoap; subcode = None; inner = None }
+
+-- one of another vocabulary has
+abbrev pub with_subcode : List ℕ → FaultCode → Vocabulary → List ℕ → Row
+with_subcode reason code whose local =
+    record { reason = reason; code = code; whose = whose; subcode = Some local; inner = None }
+
+-- and may have one within it
+abbrev pub with_inner : List ℕ → FaultCode → Vocabulary → List ℕ → List ℕ → Row
+with_inner reason code whose local inner =
+    record { reason = reason; code = code; whose = whose; subcode = Some local; inner = Some inner }
+
+-- each kind's row
+abbrev pub table : FaultKind → Row
+table kinds.TooLong = plain (codes "TooLong") Sender
+table kinds.NotUtf8 = plain (codes "NotUtf8") Sender
+table kinds.NotProfile = plain (codes "NotProfile") Sender
+table kinds.WrongVersion = plain (codes "WrongVersion") VersionMismatch
+table kinds.NotEnvelope = plain (codes "NotEnvelope") Sender
+table kinds.NotUnderstood = plain (codes "NotUnderstood") MustUnderstand
+table kinds.Cardinality =
+    with_inner (codes "Cardinality") Sender OfAddressing (codes "InvalidAddressingHeader") (codes "InvalidCardinality")
+table kinds.HeaderMissing =
+    with_subcode (codes "HeaderMissing") Sender OfAddressing (codes "MessageAddressingHeaderRequired")
+table kinds.BadHeader = with_subcode (codes "BadHeader") Sender OfAddressing (codes "InvalidAddressingHeader")
+table kinds.Malformed = plain (codes "Malformed") Sender
+table kinds.Rollover = with_subcode (codes "Rollover") Sender OfMessaging (codes "MessageNumberRollover")
+table kinds.WsrmRequired = with_subcode (codes "WsrmRequired") Sender OfMessaging (codes "WSRMRequired")
+table kinds.UnknownSequence = with_subcode (codes "UnknownSequence") Sender OfMessaging (codes "UnknownSequence")
+table kinds.SequenceTerminated =
+    with_subcode (codes "SequenceTerminated") Sender OfMessaging (codes "SequenceTerminated")
+table kinds.SequenceClosed = with_subcode (codes "SequenceClosed") Sender OfMessaging (codes "SequenceClosed")
+table kinds.InvalidAcknowledgement =
+    with_subcode (codes "InvalidAcknowledgement") Sender OfMessaging (codes "InvalidAcknowledgement")
+table kinds.CreateSequenceRefused =
+    with_subcode (codes "CreateSequenceRefused") Receiver OfMessaging (codes "CreateSequenceRefused")
+table kinds.MissingSelection =
+    with_subcode (codes "MissingSelection") Receiver OfConnection (codes "MissingSelection")
+table kinds.UnsupportedSelection =
+    with_subcode (codes "UnsupportedSelection") Receiver OfConnection (codes "UnsupportedSelection")
+table kinds.StoreFull = plain (codes "StoreFull") Receiver
+
+-- the action of faults of a vocabulary: SOAP Binding, section 6.2, WS-ReliableMessaging 1.2, section 4, and
+-- WS-MakeConnection 1.1, section 4; those of SOAP have that of SOAP Binding, section 6.1
+abbrev pub fault_action : Vocabulary → List ℕ
+fault_action OfSoap = codes "http://www.w3.org/2005/08/addressing/soap/fault"
+fault_action OfAddressing = codes "http://www.w3.org/2005/08/addressing/fault"
+fault_action OfMessaging = codes "http://docs.oasis-open.org/ws-rx/wsrm/200702/fault"
+fault_action OfConnection = codes "http://docs.oasis-open.org/ws-rx/wsmc/200702/fault"
+
+-- its namespace
+abbrev pub space_of : Vocabulary → List ℕ
+space_of OfSoap = soap_space
+space_of OfAddressing = addressing_space
+space_of OfMessaging = messaging_space
+space_of OfConnection = connection_space
+
+-- a local name in it
+abbrev pub named : Vocabulary → List ℕ → Name
+named whose local = record { space = space_of whose; local = local }
+
+-- ---- what goes with a fault
+
+-- Identifier (WS-ReliableMessaging 1.2, 3.4) and MaxMessageNumber (4.3) as elements
+abbrev pub ident_element : List ℕ → Element
+ident_element ident = node_tree soap_space (identifier_node ident)
+
+-- MaxMessageNumber (4.3)
+abbrev pub max_element : Element
+max_element = node_tree soap_space (leaf (r (codes "MaxMessageNumber")) (codes "9223372036854775807"))
+
+-- SequenceAcknowledgement (3.9)
+abbrev pub ack_element : AckBlock → Element
+ack_element block = node_tree soap_space (ack_node block)
+
+-- Detail (4.2 to 4.7): the sequence that the fault speaks of, or the first acknowledgement that is refused
+abbrev pub detail_of : FaultKind → Option (List ℕ) → Option AckBlock → List Element
+detail_of kinds.Rollover ident block = option_to_list (option_map ident_element ident) ++ max_element ∷ []
+detail_of kinds.UnknownSequence ident block = option_to_list (option_map ident_element ident)
+detail_of kinds.SequenceTerminated ident block = option_to_list (option_map ident_element ident)
+detail_of kinds.SequenceClosed ident block = option_to_list (option_map ident_element ident)
+detail_of kinds.InvalidAcknowledgement ident block = option_to_list (option_map ack_element block)
+detail_of _ ident block = []
+
+-- SequenceClosed carries the final acknowledgement as a header (3.5)
+abbrev pub acks_of : FaultKind → Option AckBlock → List AckBlock
+acks_of kinds.SequenceClosed block = option_to_list block
+acks_of _ block = []
+
+-- NotUnderstood names the headers that were not (SOAP 1.2 Part 1, 5.4.8)
+abbrev pub names_of : FaultKind → List Name → List Name
+names_of kinds.NotUnderstood names = names
+names_of _ names = []
+
+-- ---- the fault
+
+-- what stands in its Body
+abbrev pub fault_body : Row → List Element → FaultBody
+fault_body x detail = record {
+  code = x.code;
+  subcode = option_map (named x.whose) x.subcode;
+  inner = option_map (named x.whose) x.inner;
+  reason = x.reason;
+  detail = detail;
+}
+
+-- it goes to the endpoint of the refusal, whose parameters go with it, and relates to the message that was refused
+abbrev pub addressing_of : Refusal → Addressing
+addressing_of refusal = record {
+  to = refusal.endpoint.address;
+  action = fault_action (table refusal.kind).whose;
+  message_id = None;
+  relates = refusal.relates;
+  reply_to = None;
+  fault_to = None;
+  params = refusal.endpoint.params;
+}
+
+-- the fault that answers a refusal; the block is the final acknowledgement of SequenceClosed, and the refused one of
+-- InvalidAcknowledgement
+abbrev pub fault_of : Refusal → Option AckBlock → Message
+fault_of refusal block = record {
+  addressing = addressing_of refusal;
+  sequence = None;
+  acks = acks_of refusal.kind block;
+  asks = [];
+  pending = None;
+  not_understood = names_of refusal.kind refusal.names;
+  body = body.Fault (fault_body (table refusal.kind) (detail_of refusal.kind refusal.ident block));
+}

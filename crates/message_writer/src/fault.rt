@@ -1,0 +1,234 @@
+//! The fault that answers a refusal.
+ghost use Rattle.std.specs.Prelude.{◌≡◌, IfOk, option_map};
+ghost use Rattle.std.specs.Option.{option_to_list};
+ghost use Rattle.message_writer.specs.Faults.{
+  table,
+  named,
+  detail_of,
+  acks_of,
+  names_of,
+  ident_element,
+  ack_element,
+  fault_body as body_of,
+  fault_of,
+  addressing_of,
+};
+
+use crate::copies::{copy_elements, copy_uri, uri_of};
+use crate::table::{Vocabulary, code, inner, reason, subcode, whose as whose_of};
+use crate::trees::{ack_tree, ident_tree, max_tree};
+use rm_base::{Blob, Ident, Memory, Uri};
+use rm_elements::AckBlock;
+use rm_message::{Acks, Body, FaultBody, FaultKind, Idents, Message, Names, Refusal};
+use soap_profile::{Elements, Name, Shared};
+use std::alloc::Global;
+use wsa_headers::Addressing;
+
+fn name_in(
+    alloc: Global,
+    whose: Vocabulary,
+    local: Option<&'static [u8]>,
+) -> Result<Option<Name>, Memory>
+    ensures { IfOk result (λ name. name ≡ option_map (named whose) (option_map (λ l. l.now) local.entry)) }
+{
+    let Some(local) = local else {
+        return Ok(None);
+    };
+    let space = Shared::from_slice(alloc, whose.space())?;
+    Ok(Some(Name::new(alloc, space, local)?))
+}
+
+fn fault_body(alloc: Global, kind: FaultKind, detail: Elements) -> Result<FaultBody, Memory>
+    ensures { IfOk result (λ fault. fault ≡ body_of (table kind) detail) }
+{
+    let subcode = name_in(alloc, whose_of(kind), subcode(kind))?;
+    let inner = name_in(alloc, whose_of(kind), inner(kind))?;
+    let reason = Blob::from_slice(alloc, reason(kind))?;
+    Ok(FaultBody {
+        code: code(kind),
+        subcode,
+        inner,
+        reason,
+        detail,
+    })
+}
+
+fn ident_detail(alloc: Global, ident: &Option<Ident>) -> Result<Elements, Memory>
+    ensures { IfOk result (λ detail. detail ≡ option_to_list (option_map ident_element ident.now)) }
+{
+    let mut detail = Elements::new(alloc);
+    if let Some(ident) = ident {
+        detail.push(ident_tree(alloc, ident)?)?;
+    }
+    Ok(detail)
+}
+
+fn ack_detail(alloc: Global, block: &Option<AckBlock>) -> Result<Elements, Memory>
+    ensures { IfOk result (λ detail. detail ≡ option_to_list (option_map ack_element block.now)) }
+{
+    let mut detail = Elements::new(alloc);
+    if let Some(block) = block {
+        detail.push(ack_tree(alloc, block)?)?;
+    }
+    Ok(detail)
+}
+
+fn rollover_detail(alloc: Global, ident: &Option<Ident>) -> Result<Elements, Memory>
+    ensures { IfOk result (λ detail. detail ≡ detail_of FaultKind.Rollover ident.now None) }
+{
+    let mut detail = ident_detail(alloc, ident)?;
+    detail.push(max_tree(alloc)?)?;
+    Ok(detail)
+}
+
+fn detail(alloc: Global, refusal: &Refusal, block: &Option<AckBlock>) -> Result<Elements, Memory>
+    ensures { IfOk result (λ detail. detail ≡ detail_of refusal.now.kind refusal.now.ident block.now) }
+{
+    match refusal.kind {
+        FaultKind::Rollover => rollover_detail(alloc, &refusal.ident),
+        FaultKind::UnknownSequence | FaultKind::SequenceTerminated | FaultKind::SequenceClosed =>
+            ident_detail(alloc, &refusal.ident),
+        FaultKind::InvalidAcknowledgement => ack_detail(alloc, block),
+        FaultKind::TooLong
+        | FaultKind::NotUtf8
+        | FaultKind::NotProfile
+        | FaultKind::WrongVersion
+        | FaultKind::NotEnvelope
+        | FaultKind::NotUnderstood
+        | FaultKind::Cardinality
+        | FaultKind::HeaderMissing
+        | FaultKind::BadHeader
+        | FaultKind::Malformed
+        | FaultKind::WsrmRequired
+        | FaultKind::CreateSequenceRefused
+        | FaultKind::MissingSelection
+        | FaultKind::UnsupportedSelection
+        | FaultKind::StoreFull => Ok(Elements::new(alloc)),
+    }
+}
+
+fn one_ack(alloc: Global, block: Option<AckBlock>) -> Result<Acks, Memory>
+    ensures { IfOk result (λ acks. acks ≡ option_to_list block) }
+{
+    let mut acks = Acks::new(alloc);
+    if let Some(block) = block {
+        acks.push(block)?;
+    }
+    Ok(acks)
+}
+
+fn acks(alloc: Global, kind: FaultKind, block: Option<AckBlock>) -> Result<Acks, Memory>
+    ensures { IfOk result (λ acks. acks ≡ acks_of kind block) }
+{
+    match kind {
+        FaultKind::SequenceClosed => one_ack(alloc, block),
+        FaultKind::TooLong
+        | FaultKind::NotUtf8
+        | FaultKind::NotProfile
+        | FaultKind::WrongVersion
+        | FaultKind::NotEnvelope
+        | FaultKind::NotUnderstood
+        | FaultKind::Cardinality
+        | FaultKind::HeaderMissing
+        | FaultKind::BadHeader
+        | FaultKind::Malformed
+        | FaultKind::Rollover
+        | FaultKind::WsrmRequired
+        | FaultKind::UnknownSequence
+        | FaultKind::SequenceTerminated
+        | FaultKind::InvalidAcknowledgement
+        | FaultKind::CreateSequenceRefused
+        | FaultKind::MissingSelection
+        | FaultKind::UnsupportedSelection
+        | FaultKind::StoreFull => Ok(Acks::new(alloc)),
+    }
+}
+
+fn share_names(alloc: Global, names: &Names) -> Result<Names, Memory>
+    ensures { IfOk result (λ shared. shared ≡ names.now) }
+{
+    let mut shared = Names::new(alloc);
+    for name in names.as_slice() {
+        shared.push(name.share()?)?;
+    }
+    Ok(shared)
+}
+
+fn names(alloc: Global, kind: FaultKind, names: &Names) -> Result<Names, Memory>
+    ensures { IfOk result (λ given. given ≡ names_of kind names.now) }
+{
+    match kind {
+        FaultKind::NotUnderstood => share_names(alloc, names),
+        FaultKind::TooLong
+        | FaultKind::NotUtf8
+        | FaultKind::NotProfile
+        | FaultKind::WrongVersion
+        | FaultKind::NotEnvelope
+        | FaultKind::Cardinality
+        | FaultKind::HeaderMissing
+        | FaultKind::BadHeader
+        | FaultKind::Malformed
+        | FaultKind::Rollover
+        | FaultKind::WsrmRequired
+        | FaultKind::UnknownSequence
+        | FaultKind::SequenceTerminated
+        | FaultKind::SequenceClosed
+        | FaultKind::InvalidAcknowledgement
+        | FaultKind::CreateSequenceRefused
+        | FaultKind::MissingSelection
+        | FaultKind::UnsupportedSelection
+        | FaultKind::StoreFull => Ok(Names::new(alloc)),
+    }
+}
+
+fn relates(alloc: Global, relates: &Option<Uri>) -> Result<Option<Uri>, Memory>
+    ensures { IfOk result (λ copy. copy ≡ relates.now) }
+{
+    match relates {
+        Some(uri) => Ok(Some(copy_uri(alloc, uri)?)),
+        None => Ok(None),
+    }
+}
+
+fn addressing(alloc: Global, refusal: &Refusal) -> Result<Addressing, Memory>
+    ensures { IfOk result (λ properties. properties ≡ addressing_of refusal.now) }
+{
+    let to = copy_uri(alloc, &refusal.endpoint.address)?;
+    let action = uri_of(alloc, whose_of(refusal.kind).action())?;
+    let relates = relates(alloc, &refusal.relates)?;
+    let params = copy_elements(alloc, &refusal.endpoint.params)?;
+    Ok(Addressing {
+        to,
+        action,
+        message_id: None,
+        relates,
+        reply_to: None,
+        fault_to: None,
+        params,
+    })
+}
+
+/// The fault that answers a refusal. The block is the final acknowledgement that SequenceClosed carries, or the first
+/// refused one, which InvalidAcknowledgement repeats in its Detail; of another kind it is dropped.
+pub fn fault_message(
+    alloc: Global,
+    refusal: &Refusal,
+    block: Option<AckBlock>,
+) -> Result<Message, Memory>
+    ensures { IfOk result (λ message. message ≡ fault_of refusal.now block) }
+{
+    let addressing = addressing(alloc, refusal)?;
+    let not_understood = names(alloc, refusal.kind, &refusal.names)?;
+    let detail = detail(alloc, refusal, &block)?;
+    let fault = fault_body(alloc, refusal.kind, detail)?;
+    let acks = acks(alloc, refusal.kind, block)?;
+    Ok(Message {
+        addressing,
+        sequence: None,
+        acks,
+        asks: Idents::new(alloc),
+        pending: None,
+        not_understood,
+        body: Body::Fault(fault),
+    })
+}

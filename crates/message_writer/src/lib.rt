@@ -1,0 +1,20 @@
+//! Whole messages to bytes, and the faults that refusals are answered with. It stands on the types of messages,
+//! `rm_message`, on header blocks and body elements, `rm_elements`, on addressing headers, `wsa_headers`, and on the
+//! frame of an envelope, `soap_frame`. The layers above may use the contracts and the laws, by `specs/`.
+#![tactic(auto)]
+
+mod copies;
+pub mod fault;
+mod fault_text;
+pub mod laws;
+mod qname;
+pub mod table;
+pub mod tag;
+mod trees;
+pub mod write;
+
+pub use fault::fault_message;
+pub use laws::text_is_an_envelope;
+pub use table::Vocabulary;
+pub use tag::Tag;
+pub use write::encode;

@@ -1,0 +1,182 @@
+//! The table of faults: SOAP 1.2 Part 1, section 5.4, WS-Addressing 1.0 SOAP Binding, section 6, WS-ReliableMessaging
+//! 1.2, section 4, and WS-MakeConnection 1.1, section 4.
+ghost use Rattle.std.specs.Prelude.{◌≡◌, option_map};
+ghost use Rattle.message_writer.specs.Faults.{table, fault_action, space_of};
+ghost use Rattle.rm_base.specs.Text.{IsText};
+
+use rm_message::{FaultCode, FaultKind};
+
+/// The vocabulary that a fault is of.
+#[derive(Clone, Copy, Debug)]
+pub enum Vocabulary {
+    OfSoap,
+    OfAddressing,
+    OfMessaging,
+    OfConnection,
+}
+
+impl Vocabulary {
+    /// Its namespace.
+    pub fn space(self) -> &'static [u8]
+        ensures { result.now ≡ space_of self }
+    {
+        match self {
+            Vocabulary::OfSoap => b"http://www.w3.org/2003/05/soap-envelope",
+            Vocabulary::OfAddressing => b"http://www.w3.org/2005/08/addressing",
+            Vocabulary::OfMessaging => b"http://docs.oasis-open.org/ws-rx/wsrm/200702",
+            Vocabulary::OfConnection => b"http://docs.oasis-open.org/ws-rx/wsmc/200702",
+        }
+    }
+
+    /// The action of its faults.
+    pub fn action(self) -> &'static [u8]
+        ensures is { result.now ≡ fault_action self }
+        ensures is_text { IsText 2048 result.now }
+    {
+        match self {
+            Vocabulary::OfSoap => b"http://www.w3.org/2005/08/addressing/soap/fault",
+            Vocabulary::OfAddressing => b"http://www.w3.org/2005/08/addressing/fault",
+            Vocabulary::OfMessaging => b"http://docs.oasis-open.org/ws-rx/wsrm/200702/fault",
+            Vocabulary::OfConnection => b"http://docs.oasis-open.org/ws-rx/wsmc/200702/fault",
+        }
+    }
+}
+
+/// The vocabulary of a kind's fault.
+pub fn whose(kind: FaultKind) -> Vocabulary
+    ensures { result ≡ (table kind).whose }
+{
+    match kind {
+        FaultKind::Cardinality | FaultKind::HeaderMissing | FaultKind::BadHeader =>
+            Vocabulary::OfAddressing,
+        FaultKind::Rollover
+        | FaultKind::WsrmRequired
+        | FaultKind::UnknownSequence
+        | FaultKind::SequenceTerminated
+        | FaultKind::SequenceClosed
+        | FaultKind::InvalidAcknowledgement
+        | FaultKind::CreateSequenceRefused => Vocabulary::OfMessaging,
+        FaultKind::MissingSelection | FaultKind::UnsupportedSelection => Vocabulary::OfConnection,
+        FaultKind::TooLong
+        | FaultKind::NotUtf8
+        | FaultKind::NotProfile
+        | FaultKind::WrongVersion
+        | FaultKind::NotEnvelope
+        | FaultKind::NotUnderstood
+        | FaultKind::Malformed
+        | FaultKind::StoreFull => Vocabulary::OfSoap,
+    }
+}
+
+/// The code of a kind's fault.
+pub fn code(kind: FaultKind) -> FaultCode
+    ensures { result ≡ (table kind).code }
+{
+    match kind {
+        FaultKind::WrongVersion => FaultCode::VersionMismatch,
+        FaultKind::NotUnderstood => FaultCode::MustUnderstand,
+        FaultKind::CreateSequenceRefused
+        | FaultKind::MissingSelection
+        | FaultKind::UnsupportedSelection
+        | FaultKind::StoreFull => FaultCode::Receiver,
+        FaultKind::TooLong
+        | FaultKind::NotUtf8
+        | FaultKind::NotProfile
+        | FaultKind::NotEnvelope
+        | FaultKind::Cardinality
+        | FaultKind::HeaderMissing
+        | FaultKind::BadHeader
+        | FaultKind::Malformed
+        | FaultKind::Rollover
+        | FaultKind::WsrmRequired
+        | FaultKind::UnknownSequence
+        | FaultKind::SequenceTerminated
+        | FaultKind::SequenceClosed
+        | FaultKind::InvalidAcknowledgement => FaultCode::Sender,
+    }
+}
+
+/// The reason of a kind's fault, which is the kind's name.
+pub fn reason(kind: FaultKind) -> &'static [u8]
+    ensures { result.now ≡ (table kind).reason }
+{
+    match kind {
+        FaultKind::TooLong => b"TooLong",
+        FaultKind::NotUtf8 => b"NotUtf8",
+        FaultKind::NotProfile => b"NotProfile",
+        FaultKind::WrongVersion => b"WrongVersion",
+        FaultKind::NotEnvelope => b"NotEnvelope",
+        FaultKind::NotUnderstood => b"NotUnderstood",
+        FaultKind::Cardinality => b"Cardinality",
+        FaultKind::HeaderMissing => b"HeaderMissing",
+        FaultKind::BadHeader => b"BadHeader",
+        FaultKind::Malformed => b"Malformed",
+        FaultKind::Rollover => b"Rollover",
+        FaultKind::WsrmRequired => b"WsrmRequired",
+        FaultKind::UnknownSequence => b"UnknownSequence",
+        FaultKind::SequenceTerminated => b"SequenceTerminated",
+        FaultKind::SequenceClosed => b"SequenceClosed",
+        FaultKind::InvalidAcknowledgement => b"InvalidAcknowledgement",
+        FaultKind::CreateSequenceRefused => b"CreateSequenceRefused",
+        FaultKind::MissingSelection => b"MissingSelection",
+        FaultKind::UnsupportedSelection => b"UnsupportedSelection",
+        FaultKind::StoreFull => b"StoreFull",
+    }
+}
+
+/// The local name of the subcode of a kind's fault, where it has one.
+pub fn subcode(kind: FaultKind) -> Option<&'static [u8]>
+    ensures { option_map (λ local. local.now) result ≡ (table kind).subcode }
+{
+    match kind {
+        FaultKind::Cardinality | FaultKind::BadHeader => Some(
+            b"InvalidAddressingHeader".as_slice(),
+        ),
+        FaultKind::HeaderMissing => Some(b"MessageAddressingHeaderRequired".as_slice()),
+        FaultKind::Rollover => Some(b"MessageNumberRollover".as_slice()),
+        FaultKind::WsrmRequired => Some(b"WSRMRequired".as_slice()),
+        FaultKind::UnknownSequence
+        | FaultKind::SequenceTerminated
+        | FaultKind::SequenceClosed
+        | FaultKind::InvalidAcknowledgement
+        | FaultKind::CreateSequenceRefused
+        | FaultKind::MissingSelection
+        | FaultKind::UnsupportedSelection => Some(reason(kind)),
+        FaultKind::TooLong
+        | FaultKind::NotUtf8
+        | FaultKind::NotProfile
+        | FaultKind::WrongVersion
+        | FaultKind::NotEnvelope
+        | FaultKind::NotUnderstood
+        | FaultKind::Malformed
+        | FaultKind::StoreFull => None,
+    }
+}
+
+/// The local name of the subcode within it, where there is one.
+pub fn inner(kind: FaultKind) -> Option<&'static [u8]>
+    ensures { option_map (λ local. local.now) result ≡ (table kind).inner }
+{
+    match kind {
+        FaultKind::Cardinality => Some(b"InvalidCardinality".as_slice()),
+        FaultKind::TooLong
+        | FaultKind::NotUtf8
+        | FaultKind::NotProfile
+        | FaultKind::WrongVersion
+        | FaultKind::NotEnvelope
+        | FaultKind::NotUnderstood
+        | FaultKind::HeaderMissing
+        | FaultKind::BadHeader
+        | FaultKind::Malformed
+        | FaultKind::Rollover
+        | FaultKind::WsrmRequired
+        | FaultKind::UnknownSequence
+        | FaultKind::SequenceTerminated
+        | FaultKind::SequenceClosed
+        | FaultKind::InvalidAcknowledgement
+        | FaultKind::CreateSequenceRefused
+        | FaultKind::MissingSelection
+        | FaultKind::UnsupportedSelection
+        | FaultKind::StoreFull => None,
+    }
+}

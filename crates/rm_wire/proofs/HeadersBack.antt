@@ -1,0 +1,266 @@
+-- The header blocks of what is written are read back, piece by piece.
+use Rattle.std.proofs.Common.{◌≡◌, ◌≢◌, ℕ, Bool, true, false, ◌||◌, if◌then◌else◌, List, [], ◌∷◌, ◌++◌, Option, Some}
+use Rattle.std.proofs.Common.{None, codes, refl, sym, ap, subst, ◌∙◌, is_some}
+use Rattle.std.specs.List.{AllByRecursion, filter, list_any, flat_map}
+use Rattle.std.proofs.lemmas.List.{append-nil}
+use Rattle.rm_base.specs.Text.{IsText}
+use Rattle.rm_base.specs.declared.message.Binding.{Binding}
+use Rattle.soap_lex.specs.Facts.{differ, equal}
+use Rattle.soap_profile.specs.Tree.{Element}
+use Rattle.soap_profile.specs.declared.name.Expanded.{Expanded as Name}
+use Rattle.soap_writer.specs.Frame.{addressing_space}
+use Rattle.soap_writer.specs.Writable.{IsNameWritable}
+use Rattle.soap_frame.specs.Framed.{sorted_scope}
+use Rattle.soap_nodes.specs.Node.{Node, node_tree}
+use Rattle.soap_values.specs.Children.{name_in}
+use Rattle.soap_values.specs.Outcome.{each}
+use Rattle.soap_values.specs.QNames.{qname_in}
+use Rattle.wsa_headers.specs.Addressing.{first_of}
+use Rattle.wsa_headers.specs.Writable.{IsAddressingBlock, IsForeign}
+use Rattle.rm_elements.specs.Outcome.{rm, mc}
+use Rattle.rm_elements.specs.Texts.{sequence_node, ack_node, ask_node, pending_node}
+use Rattle.rm_elements.specs.Writable.{IsAckWritable}
+use Rattle.rm_elements.specs.declared.header.AckBlock.{AckBlock}
+use Rattle.rm_elements.specs.declared.header.Header.TheVariants as headers
+use Rattle.rm_elements.specs.declared.header.SeqHeader.{SeqHeader}
+use Rattle.rm_message.specs.declared.message.Message.{Message}
+use Rattle.message_reader.specs.Blocks.{is_block, blocks, has_block, is_not_understood}
+use Rattle.message_reader.specs.Headers.{acks_in, asks_in, pending_in, sequence_name, told_name}
+use Rattle.message_reader.specs.Headers.{told_names, ack_of, ask_of, listed}
+use Rattle.message_writer.specs.Text.{not_understood_node, qname}
+use Rattle.rm_wire.proofs.Blocks.{trees, tree_if, others, passed, kept, passed_if, kept_if, pieces, told_tree, told_is}
+use Rattle.rm_wire.proofs.Blocks.{addressing_passed, addressing_understood}
+use Rattle.rm_wire.proofs.Known.{Known}
+use Rattle.rm_wire.proofs.Names.{declared_with, name_again}
+
+-- ---- of six pieces, one is left
+
+second : (a s k q t n : List Element) → a ≡ [] → k ≡ [] → q ≡ [] → t ≡ [] → n ≡ []
+    → a ++ (s ++ (k ++ (q ++ (t ++ n)))) ≡ s
+second a s k q t n e g h i j = rw (e, g, h, i, j) (append-nil s)
+
+third : (a s k q t n : List Element) → a ≡ [] → s ≡ [] → q ≡ [] → t ≡ [] → n ≡ []
+    → a ++ (s ++ (k ++ (q ++ (t ++ n)))) ≡ k
+third a s k q t n e g h i j = rw (e, g, h, i, j) (append-nil k)
+
+fourth : (a s k q t n : List Element) → a ≡ [] → s ≡ [] → k ≡ [] → t ≡ [] → n ≡ []
+    → a ++ (s ++ (k ++ (q ++ (t ++ n)))) ≡ q
+fourth a s k q t n e g h i j = rw (e, g, h, i, j) (append-nil q)
+
+fifth : (a s k q t n : List Element) → a ≡ [] → s ≡ [] → k ≡ [] → q ≡ [] → n ≡ []
+    → a ++ (s ++ (k ++ (q ++ (t ++ n)))) ≡ t
+fifth a s k q t n e g h i j = rw (e, g, h, i, j) (append-nil t)
+
+sixth : (a s k q t n : List Element) → a ≡ [] → s ≡ [] → k ≡ [] → q ≡ [] → t ≡ []
+    → a ++ (s ++ (k ++ (q ++ (t ++ n)))) ≡ n
+sixth a s k q t n e g h i j = rw (e, g, h, i, j) refl
+
+-- ---- the blocks of each name, behind blocks of addressing
+
+pub sequences : (soap : List ℕ) (m : Message) (bs : List Element) → AllByRecursion IsAddressingBlock bs
+    → blocks sequence_name (bs ++ others soap m) ≡ tree_if soap sequence_node m.sequence
+sequences soap m bs own =
+    let p = is_block sequence_name in
+    pieces p bs (tree_if soap sequence_node m.sequence) (trees soap ack_node m.acks) (trees soap ask_node m.asks)
+    (tree_if soap pending_node m.pending) (trees soap not_understood_node m.not_understood)
+    ∙ second _ _ _ _ _ _ (addressing_passed sequence_name refl bs own) (passed p soap ack_node (λ x. refl) m.acks)
+    (passed p soap ask_node (λ x. refl) m.asks) (passed_if p soap pending_node (λ x. refl) m.pending)
+    (passed p soap not_understood_node (λ x. refl) m.not_understood)
+    ∙ kept_if p soap sequence_node (λ x. refl) m.sequence
+
+acknowledgements : (soap : List ℕ) (m : Message) (bs : List Element) → AllByRecursion IsAddressingBlock bs
+    → blocks (rm (codes "SequenceAcknowledgement")) (bs ++ others soap m) ≡ trees soap ack_node m.acks
+acknowledgements soap m bs own =
+    let name = rm (codes "SequenceAcknowledgement") in
+    let p = is_block name in
+    pieces p bs (tree_if soap sequence_node m.sequence) (trees soap ack_node m.acks) (trees soap ask_node m.asks)
+    (tree_if soap pending_node m.pending) (trees soap not_understood_node m.not_understood)
+    ∙ third _ _ _ _ _ _ (addressing_passed name refl bs own) (passed_if p soap sequence_node (λ x. refl) m.sequence)
+    (passed p soap ask_node (λ x. refl) m.asks) (passed_if p soap pending_node (λ x. refl) m.pending)
+    (passed p soap not_understood_node (λ x. refl) m.not_understood)
+    ∙ kept p soap ack_node (λ x. refl) m.acks
+
+requests : (soap : List ℕ) (m : Message) (bs : List Element) → AllByRecursion IsAddressingBlock bs
+    → blocks (rm (codes "AckRequested")) (bs ++ others soap m) ≡ trees soap ask_node m.asks
+requests soap m bs own =
+    let name = rm (codes "AckRequested") in
+    let p = is_block name in
+    pieces p bs (tree_if soap sequence_node m.sequence) (trees soap ack_node m.acks) (trees soap ask_node m.asks)
+    (tree_if soap pending_node m.pending) (trees soap not_understood_node m.not_understood)
+    ∙ fourth _ _ _ _ _ _ (addressing_passed name refl bs own) (passed_if p soap sequence_node (λ x. refl) m.sequence)
+    (passed p soap ack_node (λ x. refl) m.acks) (passed_if p soap pending_node (λ x. refl) m.pending)
+    (passed p soap not_understood_node (λ x. refl) m.not_understood)
+    ∙ kept p soap ask_node (λ x. refl) m.asks
+
+marks : (soap : List ℕ) (m : Message) (bs : List Element) → AllByRecursion IsAddressingBlock bs
+    → blocks (mc (codes "MessagePending")) (bs ++ others soap m) ≡ tree_if soap pending_node m.pending
+marks soap m bs own =
+    let name = mc (codes "MessagePending") in
+    let p = is_block name in
+    pieces p bs (tree_if soap sequence_node m.sequence) (trees soap ack_node m.acks) (trees soap ask_node m.asks)
+    (tree_if soap pending_node m.pending) (trees soap not_understood_node m.not_understood)
+    ∙ fifth _ _ _ _ _ _ (addressing_passed name refl bs own) (passed_if p soap sequence_node (λ x. refl) m.sequence)
+    (passed p soap ack_node (λ x. refl) m.acks) (passed p soap ask_node (λ x. refl) m.asks)
+    (passed p soap not_understood_node (λ x. refl) m.not_understood)
+    ∙ kept_if p soap pending_node (λ x. refl) m.pending
+
+told_block : (soap : List ℕ) (name : Name)
+    → is_block (name_in soap (codes "NotUnderstood")) (node_tree soap (not_understood_node name)) ≡ true
+told_block soap name =
+    ap (is_block (name_in soap (codes "NotUnderstood"))) (told_is soap name)
+    ∙ (let same = equal soap soap refl in rw same refl)
+
+names : (soap : List ℕ) (m : Message) (bs : List Element) → soap ≢ addressing_space
+    → AllByRecursion IsAddressingBlock bs
+    → blocks (name_in soap (codes "NotUnderstood")) (bs ++ others soap m)
+    ≡ trees soap not_understood_node m.not_understood
+names soap m bs other own =
+    let name = name_in soap (codes "NotUnderstood") in
+    let p = is_block name in
+    pieces p bs (tree_if soap sequence_node m.sequence) (trees soap ack_node m.acks) (trees soap ask_node m.asks)
+    (tree_if soap pending_node m.pending) (trees soap not_understood_node m.not_understood)
+    ∙ sixth _ _ _ _ _ _ (addressing_passed name (differ addressing_space soap (λ e. other (sym e))) bs own)
+    (passed_if p soap sequence_node (λ x. refl) m.sequence)
+    (passed p soap ack_node (λ x. refl) m.acks) (passed p soap ask_node (λ x. refl) m.asks)
+    (passed_if p soap pending_node (λ x. refl) m.pending)
+    ∙ kept p soap not_understood_node (told_block soap) m.not_understood
+
+-- none of them is one that had to be understood and is not
+
+told_understood : (soap : List ℕ) (name : Name)
+    → is_not_understood soap (node_tree soap (not_understood_node name)) ≡ false
+told_understood soap name =
+    ap (is_not_understood soap) (told_is soap name) ∙ (let same = equal soap soap refl in rw same refl)
+
+pub all_understood : (soap : List ℕ) (m : Message) (bs : List Element) → AllByRecursion IsAddressingBlock bs
+    → filter (is_not_understood soap) (bs ++ others soap m) ≡ []
+all_understood soap m bs own =
+    let p = is_not_understood soap in
+    pieces p bs (tree_if soap sequence_node m.sequence) (trees soap ack_node m.acks) (trees soap ask_node m.asks)
+    (tree_if soap pending_node m.pending) (trees soap not_understood_node m.not_understood)
+    ∙ sixth _ _ _ _ _ _ (addressing_understood soap bs own)
+    (passed_if p soap sequence_node (λ x. refl) m.sequence)
+    (passed p soap ack_node (λ x. refl) m.acks) (passed p soap ask_node (λ x. refl) m.asks)
+    (passed_if p soap pending_node (λ x. refl) m.pending)
+    ∙ passed p soap not_understood_node (told_understood soap) m.not_understood
+
+-- ---- none of them is one of addressing
+
+all_joined : (P : Element → Type 0) (xs ys : List Element) → AllByRecursion P xs → AllByRecursion P ys
+    → AllByRecursion P (xs ++ ys)
+all_joined P [] ys a b = b
+all_joined P (x ∷ xs) ys a b = (a.0, all_joined P xs ys a.1 b)
+
+all_trees : {A : Type 0} (soap : List ℕ) (f : A → Node) → ((x : A) → IsForeign (node_tree soap (f x))) → (xs : List A)
+    → AllByRecursion IsForeign (trees soap f xs)
+all_trees soap f is [] = tt
+all_trees soap f is (x ∷ xs) = (is x, all_trees soap f is xs)
+
+all_if : {A : Type 0} (soap : List ℕ) (f : A → Node) → ((x : A) → IsForeign (node_tree soap (f x))) → (x : Option A)
+    → AllByRecursion IsForeign (tree_if soap f x)
+all_if soap f is None = tt
+all_if soap f is (Some x) = (is x, tt)
+
+told_foreign : (soap : List ℕ) → soap ≢ addressing_space → (name : Name)
+    → IsForeign (node_tree soap (not_understood_node name))
+told_foreign soap other name =
+    let is : IsForeign (told_tree soap name) = record { unmarked = refl; space = differ soap addressing_space other } in
+    subst IsForeign (sym (told_is soap name)) is
+
+pub all_foreign : Known → (soap : List ℕ) (m : Message) → soap ≢ addressing_space
+    → AllByRecursion IsForeign (others soap m)
+all_foreign known soap m other =
+    let join = all_joined IsForeign in
+    join _ _ (all_if soap sequence_node (λ x. known.foreign soap (headers.Sequence x)) m.sequence)
+    (join _ _ (all_trees soap ack_node (λ x. known.foreign soap (headers.Ack x)) m.acks)
+    (join _ _ (all_trees soap ask_node (λ x. known.foreign soap (headers.Ask x)) m.asks)
+    (join _ _ (all_if soap pending_node (λ x. known.foreign soap (headers.Pending x)) m.pending)
+    (all_trees soap not_understood_node (told_foreign soap other) m.not_understood))))
+
+-- ---- what they say
+
+each_back : {A : Type 0} (read : Element → Option A) (soap : List ℕ) (f : A → Node) (xs : List A)
+    → AllByRecursion (λ x. read (node_tree soap (f x)) ≡ Some x) xs → each read (trees soap f xs) ≡ Some xs
+each_back read soap f [] all = refl
+each_back read soap f (x ∷ xs) all = rw (all.0, each_back read soap f xs all.1) refl
+
+acks_each : Known → (soap : List ℕ) (xs : List AckBlock) → AllByRecursion IsAckWritable xs
+    → AllByRecursion (λ x. ack_of (node_tree soap (ack_node x)) ≡ Some x) xs
+acks_each known soap [] all = tt
+acks_each known soap (x ∷ xs) all =
+    let one = known.header soap (headers.Ack x) all.0 in
+    (rw one refl, acks_each known soap xs all.1)
+
+asks_each : Known → (soap : List ℕ) (xs : List (List ℕ)) → AllByRecursion (IsText 512) xs
+    → AllByRecursion (λ x. ask_of (node_tree soap (ask_node x)) ≡ Some x) xs
+asks_each known soap [] all = tt
+asks_each known soap (x ∷ xs) all =
+    let one = known.header soap (headers.Ask x) all.0 in
+    (rw one refl, asks_each known soap xs all.1)
+
+pub acks_back : Known → (soap : List ℕ) (m : Message) (bs : List Element) → AllByRecursion IsAddressingBlock bs
+    → AllByRecursion IsAckWritable m.acks → acks_in (bs ++ others soap m) ≡ Some m.acks
+acks_back known soap m bs own all =
+    ap (each ack_of) (acknowledgements soap m bs own)
+    ∙ each_back ack_of soap ack_node m.acks (acks_each known soap m.acks all)
+
+pub asks_back : Known → (soap : List ℕ) (m : Message) (bs : List Element) → AllByRecursion IsAddressingBlock bs
+    → AllByRecursion (IsText 512) m.asks → asks_in (bs ++ others soap m) ≡ Some m.asks
+asks_back known soap m bs own all =
+    ap (each ask_of) (requests soap m bs own) ∙ each_back ask_of soap ask_node m.asks (asks_each known soap m.asks all)
+
+pending_at : Known → (soap : List ℕ) (pending : Option Bool) (hs : List Element)
+    → blocks (mc (codes "MessagePending")) hs ≡ tree_if soap pending_node pending → pending_in hs ≡ Some pending
+pending_at known soap None hs at = rw at refl
+pending_at known soap (Some pending) hs at =
+    let one = known.header soap (headers.Pending pending) tt in
+    rw (at, one) refl
+
+pub pending_back : Known → (soap : List ℕ) (m : Message) (bs : List Element) → AllByRecursion IsAddressingBlock bs
+    → pending_in (bs ++ others soap m) ≡ Some m.pending
+pending_back known soap m bs own = pending_at known soap m.pending (bs ++ others soap m) (marks soap m bs own)
+
+-- ---- whether there is a block of a name
+
+first_left : (b r : Bool) (x : Element) (fs : List Element) → r ≡ is_some (first_of fs)
+    → (b || r) ≡ is_some (first_of (if b then x ∷ fs else fs))
+first_left true r x fs e = refl
+first_left false r x fs e = e
+
+any_left : (p : Element → Bool) (xs : List Element) → list_any p xs ≡ is_some (first_of (filter p xs))
+any_left p [] = refl
+any_left p (x ∷ xs) = first_left (p x) (list_any p xs) x (filter p xs) (any_left p xs)
+
+has_number : (soap : List ℕ) (x : Option SeqHeader) → is_some (first_of (tree_if soap sequence_node x)) ≡ is_some x
+has_number soap None = refl
+has_number soap (Some x) = refl
+
+pub is_numbered_back : (soap : List ℕ) (m : Message) (bs : List Element) → AllByRecursion IsAddressingBlock bs
+    → has_block sequence_name (bs ++ others soap m) ≡ is_some m.sequence
+is_numbered_back soap m bs own =
+    any_left (is_block sequence_name) (bs ++ others soap m)
+    ∙ ap (λ l. is_some (first_of l)) (sequences soap m bs own) ∙ has_number soap m.sequence
+
+-- ---- the names that were not understood
+
+told_back : (soap : List ℕ) (name : Name) → IsNameWritable name
+    → told_name (sorted_scope soap) (node_tree soap (not_understood_node name)) ≡ Some name
+told_back soap name is =
+    ap (told_name (sorted_scope soap)) (told_is soap name)
+    ∙ ap (λ (l : List Binding). qname_in (l ++ sorted_scope soap) (qname name)) (append-nil (declared_with name))
+    ∙ name_again soap name is
+
+told_each : (soap : List ℕ) (xs : List Name) → AllByRecursion IsNameWritable xs
+    → flat_map (λ e. listed (told_name (sorted_scope soap) e)) (trees soap not_understood_node xs) ≡ xs
+told_each soap [] all = refl
+told_each soap (x ∷ xs) all =
+    ap (λ (o : Option Name). listed o ++ flat_map (λ e. listed (told_name (sorted_scope soap) e))
+    (trees soap not_understood_node xs)) (told_back soap x all.0)
+    ∙ ap (λ l. x ∷ l) (told_each soap xs all.1)
+
+pub names_back : (soap : List ℕ) (m : Message) (bs : List Element) → soap ≢ addressing_space
+    → AllByRecursion IsAddressingBlock bs → AllByRecursion IsNameWritable m.not_understood
+    → told_names soap (sorted_scope soap) (bs ++ others soap m) ≡ m.not_understood
+names_back soap m bs other own all =
+    ap (flat_map (λ e. listed (told_name (sorted_scope soap) e))) (names soap m bs other own)
+    ∙ told_each soap m.not_understood all
