@@ -1,1 +1,6 @@
+pub mod Batch
 pub mod Fact
+pub mod Format
+pub mod Parts
+pub mod Refused
+pub mod Writable

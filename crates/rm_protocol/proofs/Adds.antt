@@ -1,5 +1,6 @@
 -- Records that may be added keep both nodes in agreement.
-use Rattle.std.proofs.Common.{◌≡◌, ℕ, ◌+◌, ◌<◌, ◌≤◌, List, [], ◌∷◌, ◌++◌, length, refl, sym, ap, ◌∙◌, arith, subst, map, append-nil, append_assoc, length-append, inl, inr}
+use Rattle.std.proofs.Common.{◌≡◌, ℕ, ◌+◌, ◌<◌, ◌≤◌, List, [], ◌∷◌, ◌++◌, length, refl, sym, ap, ◌∙◌, arith, subst}
+use Rattle.std.proofs.Common.{map, append-nil, append_assoc, length-append, inl, inr}
 use Rattle.std.specs.Prelude.{Option, Some, None}
 use Rattle.std.specs.List.{flat_map}
 use Rattle.std.proofs.lemmas.List.{map-append}
@@ -7,10 +8,13 @@ use Rattle.std.proofs.lemmas.List.Concat.{flat_map-append}
 use Rattle.rm_base.specs.Numbered.{numbered}
 use Rattle.record_batch.specs.Fact.{Fact, Creating, Created, Granted}
 use Rattle.sequence_table.specs.Words.{Text}
-use Rattle.sequence_table.specs.Makers.{Maker, Incoming, Taken, makers, makers_of, draws_of, counter, created, created_of, ident_in, seq_in}
+use Rattle.sequence_table.specs.Makers.{Maker, Incoming, Taken, makers, makers_of, draws_of, counter, created}
+use Rattle.sequence_table.specs.Makers.{created_of, ident_in, seq_in}
 use Rattle.sequence_table.specs.Find.{acks_to}
 use Rattle.rm_protocol.specs.Sound.{Justified, Rises, highest, drawn, Owns, Agree, Fresh, Allows}
-use Rattle.rm_protocol.proofs.ListLemmas.{numbered-append, numbered-last, numbered-within, All-weaker, All-push, Rises-append, highest-append, ident_in-append, ident_in-push, ident_in-last, seq_in-none, seq_in-push}
+use Rattle.rm_protocol.proofs.ListLemmas.{numbered-append, numbered-last, numbered-within, All-weaker, All-push}
+use Rattle.rm_protocol.proofs.ListLemmas.{Rises-append, highest-append, ident_in-append, ident_in-push}
+use Rattle.rm_protocol.proofs.ListLemmas.{ident_in-last, seq_in-none, seq_in-push}
 use Rattle.rm_protocol.proofs.Growth.{Grows, Grows-same, Grows-then, Grows-add, created-add, Justified-grows}
 
 -- the numbers of the sequences of r

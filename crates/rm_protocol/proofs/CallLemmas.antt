@@ -1,5 +1,6 @@
 -- What each call of a node comes to may be added, fits the store, and what is said then is so.
-use Rattle.std.proofs.Common.{◌≡◌, ℕ, ◌+◌, ◌==◌, ◌&&◌, not, nat_lt, nat_le, cond, Bool, true, false, List, [], ◌∷◌, ◌++◌, length, refl, sym, ap, ◌∙◌, subst, append-nil}
+use Rattle.std.proofs.Common.{◌≡◌, ℕ, ◌+◌, ◌==◌, ◌&&◌, not, nat_lt, nat_le, cond, Bool, true, false, List, [], ◌∷◌}
+use Rattle.std.proofs.Common.{◌++◌, length, refl, sym, ap, ◌∙◌, subst, append-nil}
 use Rattle.std.specs.Prelude.{Option, Some, None, IfSome}
 use Rattle.std.specs.List.{AllByRecursion, flat_map}
 use Rattle.rm_base.specs.declared.message.Behaviour.{Behaviour}
@@ -7,26 +8,32 @@ use Rattle.rm_base.specs.declared.message.Cause.TheVariants.{Operator, Expired}
 use Rattle.rm_elements.specs.declared.lapse.Lapse.{Lapse}
 use Rattle.rm_elements.specs.declared.lifecycle.Lifecycle.TheVariants as life
 use Rattle.rm_source.specs.declared.phase.OutPhase.{OutPhase}
-use Rattle.rm_wire.specs.declared.message.Body.TheVariants as body
-use Rattle.rm_wire.specs.declared.message.Message.{Message}
+use Rattle.rm_message.specs.declared.message.Body.TheVariants as body
+use Rattle.rm_message.specs.declared.message.Message.{Message}
 use Rattle.record_batch.specs.declared.record.OwnOffer.{OwnOffer}
 use Rattle.record_batch.specs.declared.record.PeerOffer.{PeerOffer}
 use Rattle.record_batch.specs.declared.record.Via.{Via}
-use Rattle.record_batch.specs.Fact.{Fact, Creating, Granted, Accepted, Closing, ClosedOut, Closed, Ending, EndedOut, Ended, Failed}
+use Rattle.record_batch.specs.Fact.{Fact, Creating, Granted, Accepted, Closing, ClosedOut, Closed, Ending, EndedOut}
+use Rattle.record_batch.specs.Fact.{Ended, Failed}
 use Rattle.sequence_table.specs.Words.{Text, is_empty, at_seq, last_or}
 use Rattle.sequence_table.specs.Idents.{issue}
-use Rattle.sequence_table.specs.Makers.{Maker, Outgoing, Offered, Incoming, Taken, makers, makers_of, maker, counter, number, address}
+use Rattle.sequence_table.specs.Makers.{Maker, Outgoing, Offered, Incoming, Taken, makers, makers_of, maker, counter}
+use Rattle.sequence_table.specs.Makers.{number, address}
 use Rattle.sequence_table.specs.Sources.{accepted, mark_of, marks, out_ident, phase}
 use Rattle.sequence_table.specs.Destinations.{has_end, is_over}
 use Rattle.sequence_table.specs.Find.{acks_to}
 use Rattle.rm_protocol.specs.Sound.{SaysCreate, Says, IsWith, Owns, Allows, Keeps, AreWith}
 use Rattle.std.specs.Prelude.{Result, Ok, Err}
 use Rattle.std.specs.Option.{option_to_list}
-use Rattle.rm_wire.specs.declared.refusal.FaultKind.{FaultKind}
-use Rattle.rm_wire.specs.declared.refusal.Refusal.{Refusal}
+use Rattle.rm_message.specs.declared.refusal.FaultKind.{FaultKind}
+use Rattle.rm_message.specs.declared.refusal.Refusal.{Refusal}
 use Rattle.sequence_table.specs.Sources.{first_phase, all_unacked, unacked}
 use Rattle.sequence_table.specs.Destinations.{is_past, deadline_of}
-use Rattle.rm_protocol.specs.Calls.{Answer, Cause, NoSequence, WrongSide, NotOpen, PayloadTooLong, BadPayload, WindowFull, NodeFull, Rollover, StoreFull, TooManySequences, refusal, adds, if_room, Wish, offer_of, wanted, create, is_open, send_out, on_outgoing, send, close_out, close_in, close_by, close, may_end, end_out, end, expired_from, tick, judged, receive, refusal_of, fault_block}
+use Rattle.rm_protocol.specs.Calls.{Answer, Cause, NoSequence, WrongSide, NotOpen, PayloadTooLong, BadPayload}
+use Rattle.rm_protocol.specs.Calls.{WindowFull, NodeFull, Rollover, StoreFull, TooManySequences, refusal, adds}
+use Rattle.rm_protocol.specs.Calls.{if_room, Wish, offer_of, wanted, create, is_open, send_out, on_outgoing, send}
+use Rattle.rm_protocol.specs.Calls.{close_out, close_in, close_by, close, may_end, end_out, end, expired_from, tick}
+use Rattle.rm_protocol.specs.Calls.{judged, receive, refusal_of, fault_block}
 use Rattle.rm_protocol.specs.Heard.{Heard}
 use Rattle.rm_protocol.specs.Messages.{data_at, request_at}
 use Rattle.rm_protocol.specs.Rows.{rows}
@@ -36,7 +43,8 @@ use Rattle.rm_protocol.proofs.ListLemmas.{All-append}
 use Rattle.rm_protocol.proofs.Kept.{Keeps-adds, kept-counter}
 use Rattle.rm_protocol.proofs.HeardLemmas.{rows-heard}
 use Rattle.rm_protocol.proofs.RowLemmas.{rows-right}
-use Rattle.rm_protocol.proofs.SaidLemmas.{said-says, data_at-says, request_at-says, final_ack-says, refusal-says, verdict-says}
+use Rattle.rm_protocol.proofs.SaidLemmas.{said-says, data_at-says, request_at-says, final_ack-says, refusal-says}
+use Rattle.rm_protocol.proofs.SaidLemmas.{verdict-says}
 
 -- an answer that was read from the records r, of a node that ever had a, beside one that has b
 pub record IsAllowed (a b : List Fact) (answer : Answer) : Type 0 where

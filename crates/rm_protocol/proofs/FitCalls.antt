@@ -1,5 +1,7 @@
 -- Each record that a call adds may come next.
-use Rattle.std.proofs.Common.{◌≡◌, ℕ, ◌+◌, ◌<◌, ◌≤◌, ◌==◌, ◌&&◌, ◌||◌, not, nat_lt, nat_le, cond, Bool, true, false, List, [], ◌∷◌, ◌++◌, length, refl, sym, ap, ◌∙◌, arith, subst, append-nil, append_assoc, length-append}
+use Rattle.std.proofs.Common.{◌≡◌, ℕ, ◌+◌, ◌<◌, ◌≤◌, ◌==◌, ◌&&◌, ◌||◌, not, nat_lt, nat_le, cond, Bool, true, false}
+use Rattle.std.proofs.Common.{List, [], ◌∷◌, ◌++◌, length, refl, sym, ap, ◌∙◌, arith, subst, append-nil}
+use Rattle.std.proofs.Common.{append_assoc, length-append}
 use Rattle.std.specs.Prelude.{Option, Some, None, is_none, IfSome, Result, Ok, Err}
 use Rattle.std.specs.List.{AllByRecursion, flat_map, list_all, list_any}
 use Rattle.std.specs.Option.{option_to_list}
@@ -18,35 +20,51 @@ use Rattle.rm_elements.specs.declared.lifecycle.CreateSequence.{CreateSequence}
 use Rattle.rm_elements.specs.declared.lifecycle.Lifecycle.TheVariants as life
 use Rattle.rm_source.specs.declared.phase.OutPhase.{OutPhase}
 use Rattle.rm_source.specs.declared.phase.OutPhase.TheVariants as out
-use Rattle.rm_wire.specs.declared.message.Body.{Body}
-use Rattle.rm_wire.specs.declared.message.Message.{Message}
-use Rattle.rm_wire.specs.declared.refusal.FaultKind.{FaultKind}
-use Rattle.rm_wire.specs.declared.refusal.Refusal.{Refusal}
-use Rattle.rm_wire.specs.declared.message.Body.TheVariants as body
+use Rattle.rm_message.specs.declared.message.Body.{Body}
+use Rattle.rm_message.specs.declared.message.Message.{Message}
+use Rattle.rm_message.specs.declared.refusal.FaultKind.{FaultKind}
+use Rattle.rm_message.specs.declared.refusal.Refusal.{Refusal}
+use Rattle.rm_message.specs.declared.message.Body.TheVariants as body
 use Rattle.soap_profile.specs.Tree.{Element}
 use Rattle.soap_profile.specs.declared.name.Expanded.{Expanded as Name}
 use Rattle.wsa_headers.specs.declared.endpoint.Epr.{Epr}
-use Rattle.record_batch.specs.Fact.{Fact, Creating, Created, Granted, Closing, ClosedOut, Accepted, Acked, Received, Closed, Ending, EndedOut, Ended, Failed}
+use Rattle.record_batch.specs.Fact.{Fact, Creating, Created, Granted, Closing, ClosedOut, Accepted, Acked, Received}
+use Rattle.record_batch.specs.Fact.{Closed, Ending, EndedOut, Ended, Failed}
 use Rattle.record_batch.specs.declared.record.PeerOffer.{PeerOffer}
 use Rattle.record_batch.specs.declared.record.Via.{Via}
 use Rattle.sequence_table.specs.Words.{Text, at_seq}
-use Rattle.sequence_table.specs.Makers.{Maker, Outgoing, Offered, Incoming, Taken, makers, makers_of, maker, created, created_of, seq_in, counter}
+use Rattle.sequence_table.specs.Makers.{Maker, Outgoing, Offered, Incoming, Taken, makers, makers_of, maker, created}
+use Rattle.sequence_table.specs.Makers.{created_of, seq_in, counter}
 use Rattle.sequence_table.specs.Sources.{is_sending, phase, accepted, accepted_of, acked, unacked, all_unacked}
-use Rattle.sequence_table.specs.Find.{find_incoming, find_outgoing, find_creating, find_grant, is_granted, is_offered, find_from}
-use Rattle.sequence_table.specs.Fits.{is_outgoing_side, is_incoming_side, follows, follows_at, is_up_to, fits, all_fit, is_no_moment, has_places}
-use Rattle.sequence_table.specs.Destinations.{held, front, close_of, closes, any_true, is_stopped, has_end, is_past, is_over, is_ended, deadline_of}
+use Rattle.sequence_table.specs.Find.{find_incoming, find_outgoing, find_creating, find_grant, is_granted}
+use Rattle.sequence_table.specs.Find.{is_offered, find_from}
+use Rattle.sequence_table.specs.Fits.{is_outgoing_side, is_incoming_side, follows, follows_at, is_up_to, fits}
+use Rattle.sequence_table.specs.Fits.{all_fit, is_no_moment, has_places}
+use Rattle.sequence_table.specs.Destinations.{held, front, close_of, closes, any_true, is_stopped, has_end, is_past}
+use Rattle.sequence_table.specs.Destinations.{is_over, is_ended, deadline_of}
 use Rattle.rm_protocol.specs.Verdict.{tests, is_above, verdict, has_room, is_invalid, is_invalid_at, refuses_create}
 use Rattle.rm_protocol.specs.Addresses.{is_nowhere}
-use Rattle.rm_protocol.specs.Calls.{Answer, Cause, NotOpen, PayloadTooLong, BadPayload, WindowFull, NodeFull, Rollover, StoreFull, TooManySequences, refusal, adds, if_room, Wish, offer_of, wanted, create, is_open, send_out, on_outgoing, send, close_out, close_in, close_by, close, may_end, end_out, end, expired_from, tick, judged, receive, final_ack, made_by}
+use Rattle.rm_protocol.specs.Calls.{Answer, Cause, NotOpen, PayloadTooLong, BadPayload, WindowFull, NodeFull}
+use Rattle.rm_protocol.specs.Calls.{Rollover, StoreFull, TooManySequences, refusal, adds, if_room, Wish, offer_of}
+use Rattle.rm_protocol.specs.Calls.{wanted, create, is_open, send_out, on_outgoing, send, close_out, close_in}
+use Rattle.rm_protocol.specs.Calls.{close_by, close, may_end, end_out, end, expired_from, tick, judged, receive}
+use Rattle.rm_protocol.specs.Calls.{final_ack, made_by}
 use Rattle.rm_protocol.specs.Detail.{found_by, first_found, ident_of, named_in}
 use Rattle.rm_protocol.specs.Messages.{data_at, request_at}
 use Rattle.rm_protocol.specs.Next.{BeginsAtOne, IsMessageNumber, HasNumbers, IsReadable, AddsNext}
-use Rattle.rm_protocol.specs.Rows.{then_row, ranges_of, last_of, ack_at, ack_row, final_at, final_row, ack_rows, data_row_at, data_row, taken_of, create_at, create_row, drop_at, drop_unless, response_at, response_row, close_at, terminate_at, closed_in, ended_in, closed_at, ended_at, refused_at, refused_row, failed_in, failed_at, shut_at, is_fault, fault_row, body_row, rows}
+use Rattle.rm_protocol.specs.Rows.{then_row, ranges_of, last_of, ack_at, ack_row, final_at, final_row, ack_rows}
+use Rattle.rm_protocol.specs.Rows.{data_row_at, data_row, taken_of, create_at, create_row, drop_at, drop_unless}
+use Rattle.rm_protocol.specs.Rows.{response_at, response_row, close_at, terminate_at, closed_in, ended_in, closed_at}
+use Rattle.rm_protocol.specs.Rows.{ended_at, refused_at, refused_row, failed_in, failed_at, shut_at, is_fault}
+use Rattle.rm_protocol.specs.Rows.{fault_row, body_row, rows}
 use Rattle.rm_protocol.specs.Terms.{Terms, EndsLater}
 use Rattle.rm_protocol.proofs.ListLemmas.{All-weaker, numbered-append, at_seq-append, numbered-last}
 use Rattle.rm_protocol.proofs.Growth.{created-add}
 use Rattle.rm_protocol.proofs.CallLemmas.{none-held, not-false}
-use Rattle.rm_protocol.proofs.FitLemmas.{both, first, second, neither, true-not, same_number, alone, unless-fit, if-fit, all_fit-append, untouched, outgoing-found, incoming-found, creating-found, follow, sending-follows, united-up_to, all-up_to, not_above, other_number, no_zero, le_test, not_le, lt_test, not_lt}
+use Rattle.rm_protocol.proofs.FitLemmas.{both, first, second, neither, true-not, same_number, alone, unless-fit}
+use Rattle.rm_protocol.proofs.FitLemmas.{if-fit, all_fit-append, untouched, outgoing-found, incoming-found}
+use Rattle.rm_protocol.proofs.FitLemmas.{creating-found, follow, sending-follows, united-up_to, all-up_to, not_above}
+use Rattle.rm_protocol.proofs.FitLemmas.{other_number, no_zero, le_test, not_le, lt_test, not_lt}
 
 -- what the rows of acknowledgements leave
 record Stays (r new : List Fact) : Type 0 where

@@ -1,5 +1,7 @@
 -- What a list of records gives whose records could each come next.
-use Rattle.std.proofs.Common.{◌≡◌, ℕ, ◌+◌, ◌<◌, ◌≤◌, ◌==◌, ◌&&◌, ◌||◌, not, nat_lt, nat_le, min, max, cond, Bool, true, false, List, [], ◌∷◌, ◌++◌, length, refl, sym, ap, ◌∙◌, arith, subst, append-nil, append_assoc}
+use Rattle.std.proofs.Common.{◌≡◌, ℕ, ◌+◌, ◌<◌, ◌≤◌, ◌==◌, ◌&&◌, ◌||◌, not, nat_lt, nat_le, min, max, cond, Bool}
+use Rattle.std.proofs.Common.{true, false, List, [], ◌∷◌, ◌++◌, length, refl, sym, ap, ◌∙◌, arith, subst, append-nil}
+use Rattle.std.proofs.Common.{append_assoc}
 use Rattle.std.specs.Prelude.{Option, Some, None, is_none}
 use Rattle.std.specs.List.{AllByRecursion, flat_map, list_all}
 use Rattle.std.specs.Str.{bytes_eq}
@@ -13,7 +15,8 @@ use Rattle.rm_source.specs.declared.phase.OutPhase.TheVariants as out
 use Rattle.record_batch.specs.Fact.{Fact, Created, Granted, ClosedOut}
 use Rattle.sequence_table.specs.Words.{Text, is_empty, last_or}
 use Rattle.sequence_table.specs.Idents.{issue}
-use Rattle.sequence_table.specs.Makers.{Maker, Outgoing, Offered, Incoming, Taken, makers, makers_of, maker, number, created, created_of, seq_in}
+use Rattle.sequence_table.specs.Makers.{Maker, Outgoing, Offered, Incoming, Taken, makers, makers_of, maker, number}
+use Rattle.sequence_table.specs.Makers.{created, created_of, seq_in}
 use Rattle.sequence_table.specs.Sources.{first_phase, is_sending, marks, out_ident, phase}
 use Rattle.sequence_table.specs.Find.{find_incoming, find_outgoing, find_creating, is_incoming, is_creating}
 use Rattle.sequence_table.specs.Fits.{is_outgoing_side, is_incoming_side, follows, follows_at, is_up_to, fits, all_fit}

@@ -1,5 +1,6 @@
 -- Facts stay when records are added, and so does what is built of them.
-use Rattle.std.proofs.Common.{◌≡◌, ℕ, ◌+◌, ◌==◌, cond, true, false, List, [], ◌∷◌, ◌++◌, length, refl, sym, ap, ◌∙◌, arith, subst, map, append-nil, append_assoc, length-append}
+use Rattle.std.proofs.Common.{◌≡◌, ℕ, ◌+◌, ◌==◌, cond, true, false, List, [], ◌∷◌, ◌++◌, length, refl, sym, ap, ◌∙◌}
+use Rattle.std.proofs.Common.{arith, subst, map, append-nil, append_assoc, length-append}
 use Rattle.std.specs.Prelude.{Option, Some}
 use Rattle.std.specs.List.{flat_map}
 use Rattle.std.proofs.lemmas.Bool.{eqb-true}
@@ -14,20 +15,25 @@ use Rattle.rm_elements.specs.declared.header.AckBlock.{AckBlock}
 use Rattle.rm_elements.specs.declared.header.SeqHeader.{SeqHeader}
 use Rattle.rm_elements.specs.declared.lifecycle.Lifecycle.TheVariants as life
 use Rattle.rm_elements.specs.declared.lifecycle.Offer.{Offer}
-use Rattle.rm_wire.specs.declared.message.Body.{Body}
-use Rattle.rm_wire.specs.declared.message.Body.TheVariants as body
-use Rattle.rm_wire.specs.declared.message.Message.{Message}
+use Rattle.rm_message.specs.declared.message.Body.{Body}
+use Rattle.rm_message.specs.declared.message.Body.TheVariants as body
+use Rattle.rm_message.specs.declared.message.Message.{Message}
 use Rattle.record_batch.specs.declared.record.PeerOffer.{PeerOffer}
 use Rattle.record_batch.specs.Fact.{Fact, Made, Created, Granted, Accepted, Acked, Received, Closed, Ended}
 use Rattle.sequence_table.specs.Words.{Text, is_empty, at_seq, first_or}
 use Rattle.sequence_table.specs.Idents.{issue}
-use Rattle.sequence_table.specs.Makers.{Maker, Outgoing, Offered, Incoming, Taken, makers, makers_of, maker, counter, nodes_of, number, addresses_of, address, created, created_of, created_from, ident_in}
+use Rattle.sequence_table.specs.Makers.{Maker, Outgoing, Offered, Incoming, Taken, makers, makers_of, maker, counter}
+use Rattle.sequence_table.specs.Makers.{nodes_of, number, addresses_of, address, created, created_of, created_from}
+use Rattle.sequence_table.specs.Makers.{ident_in}
 use Rattle.sequence_table.specs.Sources.{accepted, accepted_of, mark_of, marks}
 use Rattle.sequence_table.specs.Destinations.{received, received_of, held, behaviour}
 use Rattle.sequence_table.specs.Find.{IsOutgoing, IsIncoming, incoming_of, acks_to}
-use Rattle.rm_protocol.specs.Sound.{IsAsked, IsAccepted, IsHeld, IsGranted, HasAsked, AreHeld, IsFinal, SaysData, SaysBlock, SaysCreate, SaysResponse, SaysFinal, Says, IsAgreed, IsSourced, AreKept, IsTold, IsWith, IfWith, Justified, Fresh, Allows}
+use Rattle.rm_protocol.specs.Sound.{IsAsked, IsAccepted, IsHeld, IsGranted, HasAsked, AreHeld, IsFinal, SaysData}
+use Rattle.rm_protocol.specs.Sound.{SaysBlock, SaysCreate, SaysResponse, SaysFinal, Says, IsAgreed, IsSourced}
+use Rattle.rm_protocol.specs.Sound.{AreKept, IsTold, IsWith, IfWith, Justified, Fresh, Allows}
 use Rattle.rm_protocol.specs.Rows.{ranges_of, last_of}
-use Rattle.rm_protocol.proofs.ListLemmas.{IfSome-weaker, All-weaker, numbered-append, has_number-append, ident_in-append, at_seq-append, is_empty-append}
+use Rattle.rm_protocol.proofs.ListLemmas.{IfSome-weaker, All-weaker, numbered-append, has_number-append}
+use Rattle.rm_protocol.proofs.ListLemmas.{ident_in-append, at_seq-append, is_empty-append}
 
 -- identifiers come in the order of the records
 created_from-add : (k : ℕ) (r : List Fact) (rec : Fact)

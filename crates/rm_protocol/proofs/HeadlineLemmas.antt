@@ -1,5 +1,7 @@
 -- Nodes that agree keep the headline.
-use Rattle.std.proofs.Common.{◌≡◌, ◌⊎◌, ℕ, zero, suc, ◌+◌, ◌<◌, ◌≤◌, ◌==◌, ◌&&◌, ◌||◌, nat_lt, cond, Bool, true, false, List, [], ◌∷◌, ◌++◌, length, refl, sym, ap, ◌∙◌, arith, subst, map, append-nil, length-append, inl, inr}
+use Rattle.std.proofs.Common.{◌≡◌, ◌⊎◌, ℕ, zero, suc, ◌+◌, ◌<◌, ◌≤◌, ◌==◌, ◌&&◌, ◌||◌, nat_lt, cond, Bool, true}
+use Rattle.std.proofs.Common.{false, List, [], ◌∷◌, ◌++◌, length, refl, sym, ap, ◌∙◌, arith, subst, map, append-nil}
+use Rattle.std.proofs.Common.{length-append, inl, inr}
 use Rattle.std.specs.Prelude.{Option, Some, None, slice_get}
 use Rattle.std.specs.List.{AllByRecursion}
 use Rattle.std.proofs.lemmas.Bool.{eqb-true}
@@ -13,11 +15,14 @@ use Rattle.rm_base.specs.declared.message.Payload.{Payload}
 use Rattle.record_batch.specs.Fact.{Fact, Created, Granted, Acked, Received, Closed, Ended}
 use Rattle.sequence_table.specs.Words.{Text, is_empty, sorted_onto, with_message, without_gap, numbers_of, contents_of}
 use Rattle.sequence_table.specs.Idents.{issue}
-use Rattle.sequence_table.specs.Makers.{Maker, Outgoing, Offered, Incoming, Taken, makers, makers_of, maker, counter, number, created_from, ident_in}
+use Rattle.sequence_table.specs.Makers.{Maker, Outgoing, Offered, Incoming, Taken, makers, makers_of, maker, counter}
+use Rattle.sequence_table.specs.Makers.{number, created_from, ident_in}
 use Rattle.sequence_table.specs.Sources.{accepted, acked, marks}
-use Rattle.sequence_table.specs.Destinations.{received, received_of, held, told, messages, inbox_of, behaviour, texts, is_whole, is_whole_by, last_number as last_told}
+use Rattle.sequence_table.specs.Destinations.{received, received_of, held, told, messages, inbox_of, behaviour}
+use Rattle.sequence_table.specs.Destinations.{texts, is_whole, is_whole_by, last_number as last_told}
 use Rattle.sequence_table.specs.Find.{IsOutgoing, IsIncoming, incoming_of}
-use Rattle.rm_protocol.specs.Sound.{IsHeld, IsGranted, IsAgreed, IsSourced, AreKept, IsTold, IsWith, IfWith, Justified, highest, drawn, Owns, Agree}
+use Rattle.rm_protocol.specs.Sound.{IsHeld, IsGranted, IsAgreed, IsSourced, AreKept, IsTold, IsWith, IfWith}
+use Rattle.rm_protocol.specs.Sound.{Justified, highest, drawn, Owns, Agree}
 use Rattle.std.proofs.Common.{◌^◌, drop}
 use Rattle.rm_base.specs.NumberSet.{greatest_of}
 use Rattle.rm_base.specs.declared.message.Behaviour.TheVariants.{NoDiscard, EntireSequence, FollowingFirstGap}

@@ -1,5 +1,6 @@
 -- What the rows of the receiving table add for a message, record by record.
-use Rattle.std.proofs.Common.{◌≡◌, ℕ, suc, ◌+◌, ◌&&◌, not, nat_lt, cond, Bool, true, false, List, [], ◌∷◌, ◌++◌, refl, inl, inr}
+use Rattle.std.proofs.Common.{◌≡◌, ℕ, suc, ◌+◌, ◌&&◌, not, nat_lt, cond, Bool, true, false, List, [], ◌∷◌, ◌++◌}
+use Rattle.std.proofs.Common.{refl, inl, inr}
 use Rattle.std.specs.Prelude.{Option, Some, None, slice_get}
 use Rattle.std.specs.List.{AllByRecursion}
 use Rattle.rm_base.specs.NumberSet.{has_number}
@@ -13,9 +14,9 @@ use Rattle.rm_elements.specs.declared.lifecycle.CreateSequence.{CreateSequence}
 use Rattle.rm_elements.specs.declared.lifecycle.Lifecycle.TheVariants as life
 use Rattle.rm_source.specs.declared.phase.OutPhase.{OutPhase}
 use Rattle.rm_source.specs.declared.phase.OutPhase.TheVariants as out
-use Rattle.rm_wire.specs.declared.message.Body.{Body}
-use Rattle.rm_wire.specs.declared.message.Body.TheVariants as body
-use Rattle.rm_wire.specs.declared.message.Message.{Message}
+use Rattle.rm_message.specs.declared.message.Body.{Body}
+use Rattle.rm_message.specs.declared.message.Body.TheVariants as body
+use Rattle.rm_message.specs.declared.message.Message.{Message}
 use Rattle.wsa_headers.specs.declared.endpoint.Epr.{Epr}
 use Rattle.record_batch.specs.Fact.{Fact, Acked, Received, ClosedOut, Closed, Ended}
 use Rattle.sequence_table.specs.Words.{Text}
@@ -28,7 +29,11 @@ use Rattle.soap_profile.specs.Tree.{Element}
 use Rattle.soap_profile.specs.declared.name.Expanded.{Expanded as Name}
 use Rattle.rm_protocol.specs.Detail.{named_in}
 use Rattle.rm_protocol.specs.Heard.{Heard}
-use Rattle.rm_protocol.specs.Rows.{then_row, ranges_of, last_of, ack_at, ack_row, final_at, final_row, ack_rows, data_row_at, data_row, create_at, create_row, drop_at, drop_unless, response_at, response_row, close_at, terminate_at, closed_in, ended_in, closed_at, ended_at, refused_at, refused_row, failed_in, failed_at, shut_at, is_fault, fault_row, body_row, rows}
+use Rattle.rm_protocol.specs.Rows.{then_row, ranges_of, last_of, ack_at, ack_row, final_at, final_row, ack_rows}
+use Rattle.rm_protocol.specs.Rows.{data_row_at, data_row, create_at, create_row, drop_at, drop_unless, response_at}
+use Rattle.rm_protocol.specs.Rows.{response_row, close_at, terminate_at, closed_in, ended_in, closed_at, ended_at}
+use Rattle.rm_protocol.specs.Rows.{refused_at, refused_row, failed_in, failed_at, shut_at, is_fault, fault_row}
+use Rattle.rm_protocol.specs.Rows.{body_row, rows}
 use Rattle.rm_protocol.specs.Terms.{Terms}
 use Rattle.rm_protocol.proofs.ListLemmas.{All-append}
 

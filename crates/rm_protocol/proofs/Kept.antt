@@ -1,5 +1,6 @@
 -- What a node's records tell is what all that it ever had tell.
-use Rattle.std.proofs.Common.{◌≡◌, ℕ, ◌||◌, Bool, true, false, List, [], ◌∷◌, ◌++◌, length, refl, sym, ap, ◌∙◌, subst, append-nil, append_assoc}
+use Rattle.std.proofs.Common.{◌≡◌, ℕ, ◌||◌, Bool, true, false, List, [], ◌∷◌, ◌++◌, length, refl, sym, ap, ◌∙◌}
+use Rattle.std.proofs.Common.{subst, append-nil, append_assoc}
 use Rattle.std.specs.Prelude.{Option, Some}
 use Rattle.std.specs.List.{flat_map}
 use Rattle.std.proofs.lemmas.List.Concat.{flat_map-append}
@@ -9,7 +10,8 @@ use Rattle.rm_base.specs.Numbered.{numbered}
 use Rattle.record_batch.specs.Fact.{Fact}
 use Rattle.sequence_table.specs.Words.{Text, first_or}
 use Rattle.sequence_table.specs.Idents.{issue}
-use Rattle.sequence_table.specs.Makers.{Maker, makers, makers_of, maker, draws_of, counter, nodes_of, number, addresses_of, address, created, created_of, ident_in, seq_in}
+use Rattle.sequence_table.specs.Makers.{Maker, makers, makers_of, maker, draws_of, counter, nodes_of, number}
+use Rattle.sequence_table.specs.Makers.{addresses_of, address, created, created_of, ident_in, seq_in}
 use Rattle.sequence_table.specs.Sources.{accepted_of, acked, acked_of, mark_of, out_ident}
 use Rattle.sequence_table.specs.Destinations.{received_of, close_of, told_of}
 use Rattle.sequence_table.specs.Find.{IsIncoming, incoming_of, find_outgoing}

@@ -1,5 +1,6 @@
 -- A message that is new is recorded by the call that brings it, and released where it closes the gap.
-use Rattle.std.proofs.Common.{◌≡◌, ℕ, suc, ◌+◌, ◌<◌, ◌≤◌, ◌==◌, ◌||◌, not, nat_lt, cond, Bool, true, false, List, [], ◌∷◌, ◌++◌, length, refl, sym, ap, ◌∙◌, arith, append-nil, append_assoc}
+use Rattle.std.proofs.Common.{◌≡◌, ℕ, suc, ◌+◌, ◌<◌, ◌≤◌, ◌==◌, ◌||◌, not, nat_lt, cond, Bool, true, false, List, []}
+use Rattle.std.proofs.Common.{◌∷◌, ◌++◌, length, refl, sym, ap, ◌∙◌, arith, append-nil, append_assoc}
 use Rattle.std.specs.Prelude.{Option, Some, None, slice_get}
 use Rattle.std.specs.List.{AllByRecursion, flat_map}
 use Rattle.std.proofs.lemmas.Bool.{eqb-true}
@@ -10,16 +11,19 @@ use Rattle.rm_base.specs.NumberSet.{has_number}
 use Rattle.rm_base.specs.declared.message.Behaviour.{Behaviour}
 use Rattle.rm_base.specs.declared.message.Payload.{Payload}
 use Rattle.rm_elements.specs.declared.header.AckBlock.{AckBlock}
-use Rattle.rm_wire.specs.declared.message.Message.{Message}
+use Rattle.rm_message.specs.declared.message.Message.{Message}
 use Rattle.record_batch.specs.Fact.{Fact, Acked, Received, ClosedOut}
-use Rattle.sequence_table.specs.Words.{Text, is_empty, at_seq, first_or, sorted_onto, with_message, without_gap, numbers_of}
+use Rattle.sequence_table.specs.Words.{Text, is_empty, at_seq, first_or, sorted_onto, with_message, without_gap}
+use Rattle.sequence_table.specs.Words.{numbers_of}
 use Rattle.sequence_table.specs.Makers.{makers, makers_of, maker, nodes_of, number}
 use Rattle.sequence_table.specs.Sources.{acked, is_sending, phase}
-use Rattle.sequence_table.specs.Destinations.{received, received_of, held, close_of, told, front, is_over, is_stopped, messages, inbox, inbox_of, behaviour, behaviour_of}
+use Rattle.sequence_table.specs.Destinations.{received, received_of, held, close_of, told, front, is_over}
+use Rattle.sequence_table.specs.Destinations.{is_stopped, messages, inbox, inbox_of, behaviour, behaviour_of}
 use Rattle.sequence_table.specs.Find.{find_from, find_incoming, find_outgoing, is_incoming}
 use Rattle.rm_base.specs.declared.message.Behaviour.TheVariants.{FollowingFirstGap}
 use Rattle.ack_ranges.specs.Changes.{covers_all, united}
-use Rattle.rm_protocol.specs.Rows.{then_row, ranges_of, ack_at, ack_row, final_at, final_row, ack_rows, data_row_at, data_row, body_row, rows}
+use Rattle.rm_protocol.specs.Rows.{then_row, ranges_of, ack_at, ack_row, final_at, final_row, ack_rows, data_row_at}
+use Rattle.rm_protocol.specs.Rows.{data_row, body_row, rows}
 use Rattle.rm_protocol.specs.Recorded.{IsNew, AreNumbers}
 use Rattle.rm_protocol.specs.Terms.{Terms}
 use Rattle.rm_protocol.proofs.ListLemmas.{All-append, numbered-next}

@@ -1,5 +1,6 @@
 -- Each row of the receiving table adds what may be added.
-use Rattle.std.proofs.Common.{◌≡◌, ℕ, ◌+◌, ◌&&◌, not, nat_lt, cond, Bool, true, false, List, [], ◌∷◌, ◌++◌, length, refl, sym, ap}
+use Rattle.std.proofs.Common.{◌≡◌, ℕ, ◌+◌, ◌&&◌, not, nat_lt, cond, Bool, true, false, List, [], ◌∷◌, ◌++◌, length}
+use Rattle.std.proofs.Common.{refl, sym, ap}
 use Rattle.std.specs.Prelude.{Option, Some, None, IfSome, is_none}
 use Rattle.std.specs.List.{AllByRecursion}
 use Rattle.rm_base.specs.NumberSet.{has_number}
@@ -14,9 +15,9 @@ use Rattle.rm_elements.specs.declared.lifecycle.Lifecycle.TheVariants as life
 use Rattle.rm_elements.specs.declared.lifecycle.Offer.{Offer}
 use Rattle.rm_source.specs.declared.phase.OutPhase.{OutPhase}
 use Rattle.rm_source.specs.declared.phase.OutPhase.TheVariants as out
-use Rattle.rm_wire.specs.declared.message.Body.{Body}
-use Rattle.rm_wire.specs.declared.message.Body.TheVariants as body
-use Rattle.rm_wire.specs.declared.message.Message.{Message}
+use Rattle.rm_message.specs.declared.message.Body.{Body}
+use Rattle.rm_message.specs.declared.message.Body.TheVariants as body
+use Rattle.rm_message.specs.declared.message.Message.{Message}
 use Rattle.wsa_headers.specs.declared.endpoint.Epr.{Epr}
 use Rattle.record_batch.specs.declared.record.PeerOffer.{PeerOffer}
 use Rattle.record_batch.specs.Fact.{Fact, Created, Acked, Received, ClosedOut, Closed, Ended, Failed}
@@ -25,8 +26,11 @@ use Rattle.sequence_table.specs.Idents.{issue}
 use Rattle.sequence_table.specs.Makers.{Maker, Outgoing, makers, maker, number, created, seq_in}
 use Rattle.sequence_table.specs.Sources.{acked, is_sending, marks, out_ident, phase}
 use Rattle.sequence_table.specs.Destinations.{held, front, has_end, is_ended, is_over}
-use Rattle.sequence_table.specs.Find.{IsIncoming, incoming_of, find_incoming, find_outgoing, find_grant, find_creating, is_incoming, is_issued, is_creating, is_offered}
-use Rattle.rm_protocol.specs.Sound.{IsAsked, IsAccepted, IsGranted, IsFinal, SaysData, SaysBlock, SaysCreate, SaysResponse, SaysFinal, Says, IsTold, IfWith, Justified, Owns, Fresh, Allows, Keeps}
+use Rattle.sequence_table.specs.Find.{IsIncoming, incoming_of, find_incoming, find_outgoing, find_grant}
+use Rattle.sequence_table.specs.Find.{find_creating, is_incoming, is_issued, is_creating, is_offered}
+use Rattle.rm_protocol.specs.Sound.{IsAsked, IsAccepted, IsGranted, IsFinal, SaysData, SaysBlock, SaysCreate}
+use Rattle.rm_protocol.specs.Sound.{SaysResponse, SaysFinal, Says, IsTold, IfWith, Justified, Owns, Fresh, Allows}
+use Rattle.rm_protocol.specs.Sound.{Keeps}
 use Rattle.ack_ranges.specs.Changes.{covers_all, united}
 use Rattle.soap_profile.specs.Tree.{Element}
 use Rattle.soap_profile.specs.declared.name.Expanded.{Expanded as Name}
@@ -34,11 +38,16 @@ use Rattle.std.specs.Str.{bytes_eq}
 use Rattle.std.proofs.lemmas.Slice.Eq.{bytes_eq-Decides}
 use Rattle.rm_protocol.specs.Addresses.{is_anonymous, is_nowhere}
 use Rattle.rm_protocol.specs.Detail.{named_in}
-use Rattle.rm_protocol.specs.Rows.{Row, then_row, ranges_of, last_of, ack_at, ack_row, final_at, final_row, ack_rows, data_row_at, data_row, taken_of, create_at, create_row, drop_at, drop_unless, response_at, response_row, close_at, terminate_at, closed_in, ended_in, closed_at, ended_at, refused_at, refused_row, failed_in, failed_at, shut_at, is_fault, fault_row, body_row, rows}
+use Rattle.rm_protocol.specs.Rows.{Row, then_row, ranges_of, last_of, ack_at, ack_row, final_at, final_row, ack_rows}
+use Rattle.rm_protocol.specs.Rows.{data_row_at, data_row, taken_of, create_at, create_row, drop_at, drop_unless}
+use Rattle.rm_protocol.specs.Rows.{response_at, response_row, close_at, terminate_at, closed_in, ended_in, closed_at}
+use Rattle.rm_protocol.specs.Rows.{ended_at, refused_at, refused_row, failed_in, failed_at, shut_at, is_fault}
+use Rattle.rm_protocol.specs.Rows.{fault_row, body_row, rows}
 use Rattle.rm_protocol.specs.Terms.{Terms}
 use Rattle.rm_protocol.proofs.ListLemmas.{IfSome-weaker, find-is}
 use Rattle.rm_protocol.proofs.Adds.{Owns-adds, Allows-then}
-use Rattle.rm_protocol.proofs.Kept.{Keeps-adds, kept-counter, kept-maker, kept-ident, kept-found, kept-Incoming, kept-Asked}
+use Rattle.rm_protocol.proofs.Kept.{Keeps-adds, kept-counter, kept-maker, kept-ident, kept-found, kept-Incoming}
+use Rattle.rm_protocol.proofs.Kept.{kept-Asked}
 use Rattle.rm_protocol.proofs.RangeLemmas.{canonical-has}
 
 -- a row adds only what may be added, whatever the node's own records are

@@ -1,30 +1,37 @@
 -- Each line of a script keeps the world sound.
-use Rattle.std.proofs.Common.{◌≡◌, ℕ, ◌+◌, ◌≤◌, cond, Bool, true, false, List, [], ◌∷◌, ◌++◌, length, refl, sym, ap, ◌∙◌, arith, subst, append-nil, length-append}
+use Rattle.std.proofs.Common.{◌≡◌, ℕ, ◌+◌, ◌≤◌, cond, Bool, true, false, List, [], ◌∷◌, ◌++◌, length, refl, sym, ap}
+use Rattle.std.proofs.Common.{◌∙◌, arith, subst, append-nil, length-append}
 use Rattle.std.specs.Prelude.{Option, Some, None, IfSome}
 use Rattle.std.specs.List.{AllByRecursion, flat_map}
 use Rattle.std.proofs.lemmas.Bool.Decides.{nat_tests}
 use Rattle.std.proofs.lemmas.List.Concat.{flat_map-append}
 use Rattle.rm_base.specs.Numbered.{numbered}
-use Rattle.rm_wire.specs.declared.message.Message.{Message}
+use Rattle.rm_message.specs.declared.message.Message.{Message}
 use Rattle.record_batch.specs.Fact.{Fact, Made}
 use Rattle.sequence_table.specs.Words.{Text}
 use Rattle.sequence_table.specs.Makers.{makers, makers_of, draws_of, counter}
 use Rattle.rm_protocol.specs.Sound.{Says, IsWith, Owns, Agree, Allows, Keeps, AreWith}
 use Rattle.std.specs.Prelude.{Result, Ok, Err}
-use Rattle.rm_wire.specs.declared.refusal.Refusal.{Refusal}
+use Rattle.rm_message.specs.declared.refusal.Refusal.{Refusal}
 use Rattle.rm_protocol.specs.Calls.{Answer, create, send, close, end, tick}
-use Rattle.rm_protocol.specs.Node.{Node, State, Up, Writing, records, records_in, end_of, is_short, entries_left, whole_left, mounted, with_batch, goes_down, written, after_by, after, said_with, said_by, said_after}
+use Rattle.rm_protocol.specs.Node.{Node, State, Up, Writing, records, records_in, end_of, is_short, entries_left}
+use Rattle.rm_protocol.specs.Node.{whole_left, mounted, with_batch, goes_down, written, after_by, after, said_with}
+use Rattle.rm_protocol.specs.Node.{said_by, said_after}
 use Rattle.rm_protocol.specs.Said.{sent_of, leaves}
 use Rattle.rm_protocol.specs.Addresses.{place_of}
 use Rattle.rm_protocol.specs.Sound.{AllowsState, IsBounded, SaysPacket, IsSoundNode, IsSound}
 use Rattle.rm_protocol.specs.Terms.{Terms, AreTerms}
 use Rattle.rm_protocol.specs.Verdict.{has_room}
-use Rattle.rm_protocol.specs.World.{messages_in, puts, World, Packet, Side, One, Two, other, node, place, with_node, Event, Create, Grant, Send, Tick, Deliver, Close, End, Arm, Crash, Noise, sent, calls, received_by, arrives, wish_of, with_clock, happens, run, made, start, AreMade}
+use Rattle.rm_protocol.specs.World.{messages_in, puts, World, Packet, Side, One, Two, other, node, place, with_node}
+use Rattle.rm_protocol.specs.World.{Event, Create, Grant, Send, Tick, Deliver, Close, End, Arm, Crash, Noise, sent}
+use Rattle.rm_protocol.specs.World.{calls, received_by, arrives, wish_of, with_clock, happens, run, made, start}
+use Rattle.rm_protocol.specs.World.{AreMade}
 use Rattle.rm_protocol.proofs.ListLemmas.{All-weaker, All-append, All-filter, All-numbered, All-push}
 use Rattle.rm_protocol.proofs.Growth.{Grows, Grows-same, IsWith-grows, Says-grows, Allows-grows}
 use Rattle.rm_protocol.proofs.Adds.{Agree-swap, Agree-adds, Grows-adds}
 use Rattle.rm_protocol.proofs.Kept.{Keeps-adds, Keeps-same}
-use Rattle.rm_protocol.proofs.CallLemmas.{IsRight, SaysContent, create-right, send-right, close-right, end-right, tick-right, receive-right}
+use Rattle.rm_protocol.proofs.CallLemmas.{IsRight, SaysContent, create-right, send-right, close-right, end-right}
+use Rattle.rm_protocol.proofs.CallLemmas.{tick-right, receive-right}
 
 pub number_of : Side → ℕ
 number_of One = 1

@@ -1,5 +1,6 @@
 -- What a node says is so by its records.
-use Rattle.std.proofs.Common.{◌≡◌, ℕ, ◌+◌, ◌==◌, cond, Bool, true, false, List, [], ◌∷◌, ◌++◌, length, refl, sym, ap, ◌∙◌, subst}
+use Rattle.std.proofs.Common.{◌≡◌, ℕ, ◌+◌, ◌==◌, cond, Bool, true, false, List, [], ◌∷◌, ◌++◌, length, refl, sym, ap}
+use Rattle.std.proofs.Common.{◌∙◌, subst}
 use Rattle.std.specs.Prelude.{Option, Some, None, IfSome}
 use Rattle.std.specs.List.{AllByRecursion}
 use Rattle.std.proofs.lemmas.Bool.{eqb-true}
@@ -12,9 +13,9 @@ use Rattle.rm_elements.specs.declared.lifecycle.Lifecycle.TheVariants as life
 use Rattle.rm_elements.specs.declared.lifecycle.Offer.{Offer}
 use Rattle.rm_source.specs.declared.phase.OutPhase.{OutPhase}
 use Rattle.rm_source.specs.declared.phase.OutPhase.TheVariants as out
-use Rattle.rm_wire.specs.declared.message.Body.{Body}
-use Rattle.rm_wire.specs.declared.message.Body.TheVariants as body
-use Rattle.rm_wire.specs.declared.message.Message.{Message}
+use Rattle.rm_message.specs.declared.message.Body.{Body}
+use Rattle.rm_message.specs.declared.message.Body.TheVariants as body
+use Rattle.rm_message.specs.declared.message.Message.{Message}
 use Rattle.wsa_headers.specs.declared.endpoint.Epr.{Epr}
 use Rattle.record_batch.specs.declared.record.Via.{Via}
 use Rattle.record_batch.specs.Fact.{Fact}
@@ -24,21 +25,25 @@ use Rattle.sequence_table.specs.Makers.{Maker, Outgoing, Offered, Incoming, Take
 use Rattle.sequence_table.specs.Sources.{accepted, marks, out_ident, phase}
 use Rattle.sequence_table.specs.Destinations.{held}
 use Rattle.sequence_table.specs.Find.{IsIncoming, incoming_of, find_incoming, find_grant, is_granted, peer, acks_to}
-use Rattle.rm_protocol.specs.Sound.{IsGranted, IsFinal, SaysData, SaysBlock, SaysCreate, SaysResponse, SaysFinal, Says, Keeps}
+use Rattle.rm_protocol.specs.Sound.{IsGranted, IsFinal, SaysData, SaysBlock, SaysCreate, SaysResponse, SaysFinal}
+use Rattle.rm_protocol.specs.Sound.{Says, Keeps}
 use Rattle.std.specs.Option.{option_to_list}
 use Rattle.std.proofs.lemmas.Slice.Eq.{bytes_eq-Decides}
 use Rattle.wsa_headers.specs.declared.addressing.Addressing.{Addressing}
-use Rattle.rm_wire.specs.declared.message.FaultBody.{FaultBody}
-use Rattle.rm_wire.specs.declared.refusal.FaultKind.{FaultKind}
-use Rattle.rm_wire.specs.declared.refusal.FaultKind.TheVariants.{SequenceClosed}
-use Rattle.rm_wire.specs.declared.refusal.Refusal.{Refusal}
+use Rattle.rm_message.specs.declared.message.FaultBody.{FaultBody}
+use Rattle.rm_message.specs.declared.refusal.FaultKind.{FaultKind}
+use Rattle.rm_message.specs.declared.refusal.FaultKind.TheVariants.{SequenceClosed}
+use Rattle.rm_message.specs.declared.refusal.Refusal.{Refusal}
 use Rattle.sequence_table.specs.Sources.{first_phase}
 use Rattle.sequence_table.specs.Find.{plain_endpoint}
 use Rattle.rm_protocol.specs.Addresses.{is_anonymous, own_address, reply_endpoint}
 use Rattle.rm_protocol.specs.Calls.{fault_block, block_at, block_by, final_ack, made_by, refusal_of}
-use Rattle.rm_protocol.specs.Messages.{data_by, data_at, offer_by, create_request, finish_request, request_by, request_at, last_number, ranges_onto, block_of, ack_message, never}
+use Rattle.rm_protocol.specs.Messages.{data_by, data_at, offer_by, create_request, finish_request, request_by}
+use Rattle.rm_protocol.specs.Messages.{request_at, last_number, ranges_onto, block_of, ack_message, never}
 use Rattle.rm_protocol.specs.Rows.{last_of}
-use Rattle.rm_protocol.specs.Said.{grant_response, create_response, finish_response, find_grant_of, responses, Ack, ack_to, ack_of, data_ident, found_in, data_acks, given_with, ask_ack, ask_acks, acks_said, back_blocks, back_message, own_messages, with_blocks, answered, said}
+use Rattle.rm_protocol.specs.Said.{grant_response, create_response, finish_response, find_grant_of, responses, Ack}
+use Rattle.rm_protocol.specs.Said.{ack_to, ack_of, data_ident, found_in, data_acks, given_with, ask_ack, ask_acks}
+use Rattle.rm_protocol.specs.Said.{acks_said, back_blocks, back_message, own_messages, with_blocks, answered, said}
 use Rattle.rm_protocol.specs.Terms.{Terms, AreTerms, IsFault, header_blocks}
 use Rattle.rm_protocol.proofs.ListLemmas.{All-append, find-is}
 use Rattle.rm_protocol.proofs.Kept.{kept-ident, kept-Incoming, kept-Asked}

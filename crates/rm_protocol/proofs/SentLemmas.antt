@@ -1,5 +1,7 @@
 -- What a source accepted is what the report says was sent.
-use Rattle.std.proofs.Common.{◌≡◌, ℕ, ◌+◌, ◌==◌, ◌&&◌, not, nat_lt, nat_le, cond, Bool, true, false, List, [], ◌∷◌, ◌++◌, length, refl, sym, ap, ◌∙◌, arith, append-nil, append_assoc, length-append, inl, inr}
+use Rattle.std.proofs.Common.{◌≡◌, ℕ, ◌+◌, ◌==◌, ◌&&◌, not, nat_lt, nat_le, cond, Bool, true, false, List, [], ◌∷◌}
+use Rattle.std.proofs.Common.{◌++◌, length, refl, sym, ap, ◌∙◌, arith, append-nil, append_assoc, length-append, inl}
+use Rattle.std.proofs.Common.{inr}
 use Rattle.std.specs.Prelude.{Option, Some, None}
 use Rattle.std.specs.List.{AllByRecursion}
 use Rattle.std.proofs.lemmas.Bool.Decides.{nat_tests}
@@ -7,29 +9,35 @@ use Rattle.std.proofs.lemmas.List.Concat.{flat_map-append}
 use Rattle.rm_base.specs.Numbered.{numbered}
 use Rattle.rm_base.specs.declared.message.Behaviour.{Behaviour}
 use Rattle.rm_base.specs.declared.message.Cause.TheVariants.{Operator, Expired}
-use Rattle.rm_wire.specs.declared.message.Message.{Message}
+use Rattle.rm_message.specs.declared.message.Message.{Message}
 use Rattle.record_batch.specs.Fact.{Fact, Creating, Accepted, Closing, Closed, Ending, Ended}
 use Rattle.sequence_table.specs.Words.{Text}
 use Rattle.sequence_table.specs.Makers.{Maker, Outgoing, Offered, Incoming, Taken, makers, maker, counter}
 use Rattle.sequence_table.specs.Sources.{accepted, accepted_of, phase}
 use Rattle.sequence_table.specs.Destinations.{has_end, is_over}
 use Rattle.std.specs.Prelude.{Result, Ok, Err}
-use Rattle.rm_wire.specs.declared.refusal.FaultKind.{FaultKind}
-use Rattle.rm_wire.specs.declared.refusal.Refusal.{Refusal}
+use Rattle.rm_message.specs.declared.refusal.FaultKind.{FaultKind}
+use Rattle.rm_message.specs.declared.refusal.Refusal.{Refusal}
 use Rattle.sequence_table.specs.Sources.{all_unacked, unacked}
 use Rattle.sequence_table.specs.Destinations.{is_past, deadline_of}
 use Rattle.rm_protocol.specs.Calls
-use Rattle.rm_protocol.specs.Calls.{Answer, Cause, Outcome, Done, Refused, Judged, refusal, adds, if_room, Wish, wanted, is_open, send_out, on_outgoing, close_out, close_in, close_by, may_end, end_out, expired_from, judged, receive}
+use Rattle.rm_protocol.specs.Calls.{Answer, Cause, Outcome, Done, Refused, Judged, refusal, adds, if_room, Wish}
+use Rattle.rm_protocol.specs.Calls.{wanted, is_open, send_out, on_outgoing, close_out, close_in, close_by, may_end}
+use Rattle.rm_protocol.specs.Calls.{end_out, expired_from, judged, receive}
 use Rattle.rm_protocol.specs.Heard.{Heard}
-use Rattle.rm_protocol.specs.Node.{Node, State, Up, Writing, records, records_in, end_of, is_short, entries_left, mounted, with_batch, goes_down, written, after_by, after, Answered, DiskFault, outcome_with, outcome_by, call_outcome}
+use Rattle.rm_protocol.specs.Node.{Node, State, Up, Writing, records, records_in, end_of, is_short, entries_left}
+use Rattle.rm_protocol.specs.Node.{mounted, with_batch, goes_down, written, after_by, after, Answered, DiskFault}
+use Rattle.rm_protocol.specs.Node.{outcome_with, outcome_by, call_outcome}
 use Rattle.std.specs.Option.{option_to_list}
 use Rattle.rm_protocol.specs.Messages.{request_at}
 use Rattle.rm_protocol.specs.Rows.{rows}
-use Rattle.rm_protocol.specs.Sent.{outcome_of, line_of, lines, printed, is_crash, next_entries, counts_call, counts, sent_by, sent_in, IsLeftAs, IsImage}
+use Rattle.rm_protocol.specs.Sent.{outcome_of, line_of, lines, printed, is_crash, next_entries, counts_call, counts}
+use Rattle.rm_protocol.specs.Sent.{sent_by, sent_in, IsLeftAs, IsImage}
 use Rattle.rm_protocol.specs.Terms.{Terms}
 use Rattle.rm_protocol.specs.Verdict.{verdict, has_room}
 use Rattle.rm_protocol.specs.World as world
-use Rattle.rm_protocol.specs.World.{World, Packet, Side, One, Two, other, node, with_node, with_clock, Event, calls, received_by, arrives, wish_of, happens, run, start}
+use Rattle.rm_protocol.specs.World.{World, Packet, Side, One, Two, other, node, with_node, with_clock, Event, calls}
+use Rattle.rm_protocol.specs.World.{received_by, arrives, wish_of, happens, run, start}
 use Rattle.rm_protocol.proofs.HeardLemmas.{rows-heard}
 use Rattle.rm_protocol.proofs.RunLemmas.{records-with}
 

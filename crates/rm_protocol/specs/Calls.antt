@@ -1,5 +1,6 @@
 -- What a call of a node comes to: the records that it adds, and what it says then.
-use Rattle.std.specs.Prelude.{ℕ, ◌+◌, ◌&&◌, not, nat_le, nat_lt, Bool, true, false, if◌then◌else◌, List, [], ◌∷◌, ◌++◌, length, Option, Some, None, Result, Ok, Err}
+use Rattle.std.specs.Prelude.{ℕ, ◌+◌, ◌&&◌, not, nat_le, nat_lt, Bool, true, false, if◌then◌else◌, List, [], ◌∷◌}
+use Rattle.std.specs.Prelude.{◌++◌, length, Option, Some, None, Result, Ok, Err}
 use Rattle.std.specs.Option.{option_to_list}
 use Rattle.rm_base.specs.declared.message.Behaviour.{Behaviour}
 use Rattle.rm_base.specs.declared.message.Cause.TheVariants.{Operator, Expired}
@@ -8,10 +9,11 @@ use Rattle.rm_elements.specs.declared.header.SeqHeader.{SeqHeader}
 use Rattle.rm_elements.specs.declared.lapse.Lapse.{Lapse}
 use Rattle.rm_source.specs.declared.phase.OutPhase.{OutPhase}
 use Rattle.rm_source.specs.declared.phase.OutPhase.TheVariants as out
-use Rattle.rm_wire.specs.declared.message.Message.{Message}
-use Rattle.rm_wire.specs.declared.refusal.FaultKind.{FaultKind}
-use Rattle.rm_wire.specs.declared.refusal.FaultKind.TheVariants.{UnknownSequence, SequenceTerminated, SequenceClosed, InvalidAcknowledgement}
-use Rattle.rm_wire.specs.declared.refusal.Refusal.{Refusal}
+use Rattle.rm_message.specs.declared.message.Message.{Message}
+use Rattle.rm_message.specs.declared.refusal.FaultKind.{FaultKind}
+use Rattle.rm_message.specs.declared.refusal.FaultKind.TheVariants.{UnknownSequence, SequenceTerminated}
+use Rattle.rm_message.specs.declared.refusal.FaultKind.TheVariants.{SequenceClosed, InvalidAcknowledgement}
+use Rattle.rm_message.specs.declared.refusal.Refusal.{Refusal}
 use Rattle.record_batch.specs.declared.record.OwnOffer.{OwnOffer}
 use Rattle.record_batch.specs.declared.record.Via.{Via}
 use Rattle.record_batch.specs.Fact.{Fact, Creating, Accepted, Closing, Closed, Ending, Ended}

@@ -3,16 +3,17 @@ use Rattle.std.specs.Prelude.{ℕ, ◌+◌, ◌==◌, if◌then◌else◌, true,
 use Rattle.rm_base.specs.declared.message.Behaviour.TheVariants.{EntireSequence, FollowingFirstGap}
 use Rattle.rm_elements.specs.declared.header.AckBlock.{AckBlock}
 use Rattle.rm_elements.specs.declared.lapse.Lapse.{Lapse}
-use Rattle.rm_wire.specs.declared.message.Body.TheVariants as body
-use Rattle.rm_wire.specs.declared.message.FaultCode.TheVariants.{Sender}
-use Rattle.rm_wire.specs.declared.message.Message.{Message}
-use Rattle.rm_wire.specs.declared.refusal.Refusal.{Refusal}
+use Rattle.rm_message.specs.declared.message.Body.TheVariants as body
+use Rattle.rm_message.specs.declared.message.FaultCode.TheVariants.{Sender}
+use Rattle.rm_message.specs.declared.message.Message.{Message}
+use Rattle.rm_message.specs.declared.refusal.Refusal.{Refusal}
 use Rattle.record_batch.specs.declared.record.Via.TheVariants.{Direct}
 use Rattle.sequence_table.specs.Makers.{counter}
 use Rattle.rm_protocol.specs.Addresses.{rm_action}
 use Rattle.rm_protocol.specs.Messages.{never, plain}
 use Rattle.rm_protocol.specs.Terms.{Terms, header_blocks}
-use Rattle.rm_protocol.specs.World.{World, One, Two, Event, Create, Grant, Send, Deliver, End, Tick, Close, Arm, Crash, run, start}
+use Rattle.rm_protocol.specs.World.{World, One, Two, Event, Create, Grant, Send, Deliver, End, Tick, Close, Arm}
+use Rattle.rm_protocol.specs.World.{Crash, run, start}
 
 -- a duration without months ends that many milliseconds later
 abbrev pub ends_at : ℕ → Lapse → Option ℕ

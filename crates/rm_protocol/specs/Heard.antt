@@ -5,9 +5,10 @@ use Rattle.rm_base.specs.declared.message.Cause.TheVariants.{Peer, NotTaken}
 use Rattle.rm_elements.specs.declared.header.AckBlock.{AckBlock}
 use Rattle.rm_elements.specs.declared.lifecycle.CreateSequence.{CreateSequence}
 use Rattle.rm_elements.specs.declared.lifecycle.Lifecycle.TheVariants as life
-use Rattle.rm_wire.specs.declared.message.Body.TheVariants as body
-use Rattle.rm_wire.specs.declared.message.Message.{Message}
-use Rattle.record_batch.specs.Fact.{Fact, Made, Creating, Granted, Accepted, Acked, Received, Closing, Closed, Ending, Ended}
+use Rattle.rm_message.specs.declared.message.Body.TheVariants as body
+use Rattle.rm_message.specs.declared.message.Message.{Message}
+use Rattle.record_batch.specs.Fact.{Fact, Made, Creating, Granted, Accepted, Acked, Received, Closing, Closed}
+use Rattle.record_batch.specs.Fact.{Ending, Ended}
 use Rattle.sequence_table.specs.Words.{Text}
 use Rattle.rm_protocol.specs.Rows.{ranges_of}
 

@@ -1,13 +1,16 @@
 -- The lines of a report, and from them alone what a node was sent.
-use Rattle.std.specs.Prelude.{◌≡◌, ◌⊎◌, ℕ, ◌+◌, ◌==◌, ◌&&◌, Bool, true, false, if◌then◌else◌, List, [], ◌∷◌, ◌++◌, length, Option, Some, None, Ok, Err}
+use Rattle.std.specs.Prelude.{◌≡◌, ◌⊎◌, ℕ, ◌+◌, ◌==◌, ◌&&◌, Bool, true, false, if◌then◌else◌, List, [], ◌∷◌, ◌++◌}
+use Rattle.std.specs.Prelude.{length, Option, Some, None, Ok, Err}
 use Rattle.rm_base.specs.Numbered.{numbered}
 use Rattle.record_batch.specs.Fact.{Fact}
 use Rattle.sequence_table.specs.Words.{Text}
 use Rattle.sequence_table.specs.Sources.{accepted}
 use Rattle.rm_protocol.specs.Calls.{Done, create, send, close, end, tick}
-use Rattle.rm_protocol.specs.Node.{Node, State, Up, Writing, records, end_of, CallOutcome, Answered, DiskFault, call_outcome}
+use Rattle.rm_protocol.specs.Node.{Node, State, Up, Writing, records, end_of, CallOutcome, Answered, DiskFault}
+use Rattle.rm_protocol.specs.Node.{call_outcome}
 use Rattle.rm_protocol.specs.Terms.{Terms}
-use Rattle.rm_protocol.specs.World.{World, Packet, Side, One, Two, other, node, Event, Create, Send, Tick, Deliver, Close, End, Crash, Noise, wish_of, received_by, happens, run, start}
+use Rattle.rm_protocol.specs.World.{World, Packet, Side, One, Two, other, node, Event, Create, Send, Tick, Deliver}
+use Rattle.rm_protocol.specs.World.{Close, End, Crash, Noise, wish_of, received_by, happens, run, start}
 
 -- how a line comes out: as its call, or without one
 pub data LineOutcome : Type 0 where

@@ -1,5 +1,6 @@
 -- What holds of two lists of records and of all packets, in every world that a run can reach.
-use Rattle.std.specs.Prelude.{◌≡◌, ℕ, ◌+◌, ◌<◌, ◌≤◌, true, false, length, List, [], ◌∷◌, ◌++◌, map, Option, Some, None, IfSome}
+use Rattle.std.specs.Prelude.{◌≡◌, ℕ, ◌+◌, ◌<◌, ◌≤◌, true, false, length, List, [], ◌∷◌, ◌++◌, map, Option, Some}
+use Rattle.std.specs.Prelude.{None, IfSome}
 use Rattle.std.specs.List.{AllByRecursion, flat_map}
 use Rattle.ack_ranges.specs.declared.range.Range.{Range}
 use Rattle.ack_ranges.specs.Ranges.{in_ranges}
@@ -10,15 +11,16 @@ use Rattle.rm_elements.specs.declared.header.AckBlock.{AckBlock}
 use Rattle.rm_elements.specs.declared.header.SeqHeader.{SeqHeader}
 use Rattle.rm_elements.specs.declared.lifecycle.Lifecycle.TheVariants as life
 use Rattle.rm_elements.specs.declared.lifecycle.Offer.{Offer}
-use Rattle.rm_wire.specs.declared.message.Body.{Body}
-use Rattle.rm_wire.specs.declared.message.Body.TheVariants as body
-use Rattle.rm_wire.specs.declared.message.Message.{Message}
+use Rattle.rm_message.specs.declared.message.Body.{Body}
+use Rattle.rm_message.specs.declared.message.Body.TheVariants as body
+use Rattle.rm_message.specs.declared.message.Message.{Message}
 use Rattle.record_batch.specs.declared.record.OwnOffer.{OwnOffer}
 use Rattle.record_batch.specs.declared.record.PeerOffer.{PeerOffer}
 use Rattle.record_batch.specs.Fact.{Fact, Made, Creating, Created, Granted, Accepted, Acked, Received, Closed, Ended}
 use Rattle.sequence_table.specs.Words.{Text, is_empty}
 use Rattle.sequence_table.specs.Idents.{issue}
-use Rattle.sequence_table.specs.Makers.{Maker, Outgoing, Offered, Incoming, Taken, makers, maker, draws_of, counter, nodes_of, number, addresses_of, address, created, seq_in}
+use Rattle.sequence_table.specs.Makers.{Maker, Outgoing, Offered, Incoming, Taken, makers, maker, draws_of, counter}
+use Rattle.sequence_table.specs.Makers.{nodes_of, number, addresses_of, address, created, seq_in}
 use Rattle.sequence_table.specs.Sources.{accepted, acked, mark_of, marks, out_ident}
 use Rattle.sequence_table.specs.Destinations.{received, held, close_of, told_of}
 use Rattle.sequence_table.specs.Find.{IsOutgoing, IsIncoming}

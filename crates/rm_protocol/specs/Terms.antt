@@ -3,12 +3,12 @@ use Rattle.std.specs.Prelude.{◌≡◌, ℕ, ◌<◌, ◌≤◌, Bool, List, []
 use Rattle.std.specs.Option.{option_to_list}
 use Rattle.rm_elements.specs.declared.header.AckBlock.{AckBlock}
 use Rattle.rm_elements.specs.declared.lapse.Lapse.{Lapse}
-use Rattle.rm_wire.specs.declared.message.Body.TheVariants as body
-use Rattle.rm_wire.specs.declared.message.FaultBody.{FaultBody}
-use Rattle.rm_wire.specs.declared.message.Message.{Message}
-use Rattle.rm_wire.specs.declared.refusal.FaultKind.{FaultKind}
-use Rattle.rm_wire.specs.declared.refusal.FaultKind.TheVariants.{SequenceClosed}
-use Rattle.rm_wire.specs.declared.refusal.Refusal.{Refusal}
+use Rattle.rm_message.specs.declared.message.Body.TheVariants as body
+use Rattle.rm_message.specs.declared.message.FaultBody.{FaultBody}
+use Rattle.rm_message.specs.declared.message.Message.{Message}
+use Rattle.rm_message.specs.declared.refusal.FaultKind.{FaultKind}
+use Rattle.rm_message.specs.declared.refusal.FaultKind.TheVariants.{SequenceClosed}
+use Rattle.rm_message.specs.declared.refusal.Refusal.{Refusal}
 use Rattle.record_batch.specs.Fact.{Fact}
 use Rattle.sequence_table.specs.Words.{Text}
 use Rattle.sequence_table.specs.Makers.{counter}

@@ -1,6 +1,7 @@
 -- Why a message is not taken: the kinds of faults that depend on the node, in the order in which they are tested.
 -- WS-ReliableMessaging 1.2, section 4, and WS-MakeConnection 1.1, section 4.
-use Rattle.std.specs.Prelude.{ℕ, ◌+◌, ◌&&◌, ◌||◌, not, nat_le, nat_lt, Bool, true, false, if◌then◌else◌, List, [], ◌∷◌, length, Option, Some, None, is_none, is_some}
+use Rattle.std.specs.Prelude.{ℕ, ◌+◌, ◌&&◌, ◌||◌, not, nat_le, nat_lt, Bool, true, false, if◌then◌else◌, List, []}
+use Rattle.std.specs.Prelude.{◌∷◌, length, Option, Some, None, is_none, is_some}
 use Rattle.std.specs.List.{list_any}
 use Rattle.ack_ranges.specs.declared.range.Range.{Range}
 use Rattle.rm_base.specs.NumberSet.{has_number}
@@ -8,11 +9,15 @@ use Rattle.rm_base.specs.declared.message.Behaviour.{Behaviour}
 use Rattle.rm_elements.specs.declared.header.AckBlock.{AckBlock}
 use Rattle.rm_elements.specs.declared.header.SeqHeader.{SeqHeader}
 use Rattle.rm_elements.specs.declared.lifecycle.Lifecycle.TheVariants as life
-use Rattle.rm_wire.specs.declared.message.Body.{Body}
-use Rattle.rm_wire.specs.declared.message.Body.TheVariants as body
-use Rattle.rm_wire.specs.declared.message.Message.{Message}
-use Rattle.rm_wire.specs.declared.refusal.FaultKind.{FaultKind}
-use Rattle.rm_wire.specs.declared.refusal.FaultKind.TheVariants.{WsrmRequired, UnknownSequence, SequenceTerminated, SequenceClosed, InvalidAcknowledgement, CreateSequenceRefused, MissingSelection, UnsupportedSelection, StoreFull}
+use Rattle.rm_message.specs.declared.message.Body.{Body}
+use Rattle.rm_message.specs.declared.message.Body.TheVariants as body
+use Rattle.rm_message.specs.declared.message.Message.{Message}
+use Rattle.rm_message.specs.declared.refusal.FaultKind.{FaultKind}
+use Rattle.rm_message.specs.declared.refusal.FaultKind.TheVariants.{WsrmRequired, UnknownSequence}
+use Rattle.rm_message.specs.declared.refusal.FaultKind.TheVariants.{SequenceTerminated, SequenceClosed}
+use Rattle.rm_message.specs.declared.refusal.FaultKind.TheVariants.{InvalidAcknowledgement, CreateSequenceRefused}
+use Rattle.rm_message.specs.declared.refusal.FaultKind.TheVariants.{MissingSelection, UnsupportedSelection}
+use Rattle.rm_message.specs.declared.refusal.FaultKind.TheVariants.{StoreFull}
 use Rattle.record_batch.specs.Fact.{Fact}
 use Rattle.sequence_table.specs.Words.{Text}
 use Rattle.sequence_table.specs.Makers.{makers}

@@ -1,6 +1,7 @@
 //! Laws of the protocol.
 ghost use Rattle.std.specs.Prelude.{◌≡◌, ◌∷◌, [], List, length};
-ghost use Rattle.rm_protocol.specs.Examples.{with_a_close, with_an_end, with_an_expiry, example_terms, in_order, played, with_a_crash, with_a_gap, with_an_offer};
+ghost use Rattle.rm_protocol.specs.Examples.{with_a_close, with_an_end, with_an_expiry, example_terms, in_order};
+ghost use Rattle.rm_protocol.specs.Examples.{played, with_a_crash, with_a_gap, with_an_offer};
 ghost use Rattle.rm_protocol.specs.Next.{EachMayComeNext};
 ghost use Rattle.rm_protocol.specs.Node.{records};
 ghost use Rattle.rm_protocol.specs.Recorded.{GapIsClosed, NewIsRecorded, OnlyHeardIsRecorded};

@@ -1,5 +1,5 @@
 //! The protocol as a pure core: what a node does for each call, two nodes that agree, and the headline of two of them.
-//! It stands on facts of lists of records, `sequence_table`, and on messages, `rm_wire`. The layers above cite the
+//! It stands on facts of lists of records, `sequence_table`, and on messages, `rm_message`. The layers above cite the
 //! definitions and the laws.
 #![tactic(auto)]
 

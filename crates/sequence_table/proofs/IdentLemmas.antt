@@ -1,5 +1,6 @@
 -- A node issues an identifier for one number alone.
-use Rattle.std.proofs.Common.{◌≡◌, ℕ, zero, suc, ◌+◌, ◌*◌, ◌/◌, ◌%◌, ◌<◌, ◌^◌, List, [], refl, sym, ap, ◌∙◌, arith, inl, All, Option, Some, unwrap_or}
+use Rattle.std.proofs.Common.{◌≡◌, ℕ, zero, suc, ◌+◌, ◌*◌, ◌/◌, ◌%◌, ◌<◌, ◌^◌, List, [], refl, sym, ap, ◌∙◌, arith}
+use Rattle.std.proofs.Common.{inl, All, Option, Some, unwrap_or}
 use Rattle.std.specs.Int.{w128, to_be_bytes, from_be_bytes, byte_at, bytes_high_first}
 use Rattle.uuid.specs.Text.{lower, parsed, urn_text}
 use Rattle.uuid.proofs.OrderLemmas.{from_be_bytes-to_be_bytes_16}

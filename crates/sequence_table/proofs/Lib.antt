@@ -1,1 +1,3 @@
+mod DrawLemmas
 mod IdentLemmas
+mod IdentTexts

@@ -1,5 +1,6 @@
 -- What a list of records says of incoming sequences: WS-ReliableMessaging 1.2, sections 2.4, 3.4 to 3.6 and 3.9.
-use Rattle.std.specs.Prelude.{ℕ, ◌==◌, ◌&&◌, ◌||◌, not, nat_le, Bool, true, false, if◌then◌else◌, List, [], ◌∷◌, length, drop, Option, Some, None, map}
+use Rattle.std.specs.Prelude.{ℕ, ◌==◌, ◌&&◌, ◌||◌, not, nat_le, Bool, true, false, if◌then◌else◌, List, [], ◌∷◌}
+use Rattle.std.specs.Prelude.{length, drop, Option, Some, None, map}
 use Rattle.std.specs.List.{flat_map}
 use Rattle.rm_base.specs.NumberSet.{greatest_of}
 use Rattle.rm_base.specs.declared.message.Behaviour.{Behaviour}

@@ -1,12 +1,14 @@
 -- Sequences by their identifiers and by the messages that they were made for, and whom a node speaks to on each.
-use Rattle.std.specs.Prelude.{◌≡◌, ℕ, suc, ◌-◌, ◌&&◌, Bool, true, false, if◌then◌else◌, List, [], ◌∷◌, Option, Some, None, is_none}
+use Rattle.std.specs.Prelude.{◌≡◌, ℕ, suc, ◌-◌, ◌&&◌, Bool, true, false, if◌then◌else◌, List, [], ◌∷◌, Option, Some}
+use Rattle.std.specs.Prelude.{None, is_none}
 use Rattle.std.specs.List.{flat_map}
 use Rattle.std.specs.Str.{bytes_eq}
 use Rattle.wsa_headers.specs.declared.endpoint.Epr.{Epr}
 use Rattle.record_batch.specs.Fact.{Fact, Created}
 use Rattle.sequence_table.specs.Words.{Text, is_empty, at_seq, first_or}
 use Rattle.sequence_table.specs.Idents.{issue}
-use Rattle.sequence_table.specs.Makers.{Maker, Outgoing, Offered, Incoming, Taken, makers, maker, number, created, seq_in}
+use Rattle.sequence_table.specs.Makers.{Maker, Outgoing, Offered, Incoming, Taken, makers, maker, number, created}
+use Rattle.sequence_table.specs.Makers.{seq_in}
 use Rattle.sequence_table.specs.Sources.{marks, out_ident}
 
 -- of an incoming sequence: the number that its identifier was drawn with, and the message that it was made for

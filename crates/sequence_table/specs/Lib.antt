@@ -2,7 +2,15 @@ pub mod Destinations
 pub mod Examples
 pub mod Find
 pub mod Fits
+pub mod GatherLemmas
 pub mod Idents
 pub mod Makers
+pub mod NameLemmas
+pub mod NodeLemmas
+pub mod OneMore
+pub mod PhaseLemmas
+pub mod RowLemmas
 pub mod Sources
+pub mod Told
+pub mod ToldLemmas
 pub mod Words

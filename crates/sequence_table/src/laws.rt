@@ -1,14 +1,16 @@
 //! What the definitions come to on worked lists of records.
-ghost use Rattle.std.specs.Prelude.{◌≡◌, ◌++◌, ◌∷◌, [], true, false, length, Some, None, codes};
+ghost use Rattle.std.specs.Prelude.{◌≡◌, ◌≤◌, List, ◌++◌, ◌∷◌, [], true, false, length, Some, None, codes};
 ghost use Rattle.rm_base.specs.declared.message.Cause.TheVariants.{Peer};
 ghost use Rattle.rm_source.specs.declared.phase.OutPhase.TheVariants.{Closing};
-ghost use Rattle.record_batch.specs.Fact.{Accepted, Closed};
+ghost use Rattle.record_batch.specs.Batch.{batch_text};
+ghost use Rattle.record_batch.specs.Fact.{Accepted, Closed, Fact};
 ghost use Rattle.sequence_table.specs.Destinations.{discarded, front, inbox, is_complete, is_ended, texts};
 ghost use Rattle.sequence_table.specs.Examples.{a_destination, a_source};
 ghost use Rattle.sequence_table.specs.Find.{find_incoming, find_outgoing};
 ghost use Rattle.sequence_table.specs.Fits.{all_fit, fits};
 ghost use Rattle.sequence_table.specs.Idents.{IssuesOnce, issue};
 ghost use Rattle.sequence_table.specs.Makers.{counter};
+ghost use Rattle.sequence_table.specs.OneMore.{OneMoreRecord, OneMoreOfTheNode, OnlyTheNamed};
 ghost use Rattle.sequence_table.specs.Sources.{accepted, phase, unacked};
 
 /// The identifier of counter 1 of node 1.
@@ -43,4 +45,24 @@ pub fn a_destination_of_all_or_none()
     ensures before { is_ended a_destination 1 99 ≡ false }
     ensures expired { is_ended a_destination 1 100 ≡ true }
     ensures found { find_incoming a_destination (issue 2 1) ≡ Some 1 }
+{}
+
+/// A batch takes at least a byte for each number that it draws.
+pub fn a_byte_for_each_number()
+    ensures { (batch : List Fact) → counter batch ≤ length (batch_text batch) }
+{}
+
+/// One record more changes each sequence by what it says of it, and adds those that it makes.
+pub fn one_more_record()
+    ensures { OneMoreRecord }
+{}
+
+/// A record changes no sequence but the one that it names, which is there.
+pub fn only_the_named_sequence_changes()
+    ensures { OnlyTheNamed }
+{}
+
+/// What one record more changes of the node itself.
+pub fn one_more_record_of_the_node()
+    ensures { OneMoreOfTheNode }
 {}

@@ -1,5 +1,8 @@
-//! What a list of records says of each sequence of a node, and which record may come next. It stands on records,
-//! `record_batch`, and on the phases of a source, `rm_source`.
+//! What a list of records says of each sequence of a node, which record may come next, and the identifiers that a node
+//! issues. It stands on records, `record_batch`, and on the phases of a source, `rm_source`.
 #![tactic(auto)]
 
+pub mod idents;
 pub mod laws;
+
+pub use idents::issue;

@@ -1,0 +1,240 @@
+-- Notes go on telling the same records.
+use Rattle.std.proofs.Common.{◌≡◌, ◌≢◌, ℕ, zero, suc, ◌+◌, ◌-◌, ◌<◌, ◌≤◌, Bool, true, false, cond, List, [], ◌∷◌}
+use Rattle.std.proofs.Common.{◌++◌, length, get_or, set, map, refl, sym, ap, subst, ◌∙◌, arith, inl, inr}
+use Rattle.std.proofs.lemmas.Bool.{and_from}
+use Rattle.std.proofs.lemmas.List.{get_or_append_left, length-append, length-map, map-append, append-nil}
+use Rattle.rm_base.specs.declared.message.Payload.{Payload}
+use Rattle.record_batch.specs.Fact.{Fact, Accepted, Received}
+use Rattle.sequence_table.specs.Makers.{makers, makers_of, created, created_of, draws_of, counter, number}
+use Rattle.sequence_table.specs.Sources.{accepted_of}
+use Rattle.sequence_table.specs.Destinations.{received_of}
+use Rattle.sequence_table.specs.Fits.{fits, all_fit}
+use Rattle.sequence_table.specs.OneMore.{number_after}
+use Rattle.sequence_table.specs.Told.{Told, Side, Sends, Receives, begun, after, side_after, each_after, told_all}
+use Rattle.sequence_table.specs.NodeLemmas.{one_more}
+use Rattle.sequence_table.specs.RowLemmas.{told_all-more}
+use Rattle.node_tables.specs.declared.note.Note.{Note}
+use Rattle.node_tables.specs.declared.note.Note.TheVariants as note
+use Rattle.node_tables.specs.declared.note.Origin.{Origin}
+use Rattle.node_tables.specs.declared.note.Named.{Named}
+use Rattle.node_tables.specs.Kept.{accepted_in, received_in, no_fact, no_message, no_row, kept_at, row_at, fact_at}
+use Rattle.node_tables.specs.Kept.{records_of, IsHeld, AllHeld, no_maker, ident_given, maker_at, named_at, AreWithin}
+use Rattle.node_tables.specs.Kept.{origins_of, names_of, Table, records_in, Holds}
+
+-- what one more record adds to what is kept: records that are kept whole, its note, the origins of the sequences that
+-- it makes, and the identifiers that it gives
+pub record Added : Type 0 where
+  pub whole : List Fact
+  pub note_ : Note
+  pub makes : List Origin
+  pub gives : List Named
+
+-- what is kept after one more record
+abbrev pub with_record : Table → Fact → Added → Table
+with_record t f a = record {
+  kept = t.kept ++ a.whole;
+  rows = each_after 0 t.rows f ++ map begun (makers_of f);
+  notes = t.notes ++ a.note_ ∷ [];
+  origins = t.origins ++ a.makes;
+  named = t.named ++ a.gives;
+  number_ = number_after t.number_ f;
+  drawn = t.drawn + length (draws_of f);
+}
+
+-- what is added tells the record
+pub record Tells (t : Table) (f : Fact) (a : Added) : Type 0 where
+  pub note_ : fact_at (with_record t f a).kept (with_record t f a).rows a.note_ ≡ f
+  pub held : IsHeld (with_record t f a).kept (with_record t f a).rows a.note_
+  pub makes : map (maker_at (with_record t f a).kept) a.makes ≡ makers_of f
+  pub gives : map (named_at (with_record t f a).kept) a.gives ≡ created_of (length t.origins) f
+  pub makes_held : AreWithin (length (with_record t f a).kept) (origins_of a.makes)
+  pub gives_held : AreWithin (length (with_record t f a).kept) (names_of a.gives)
+
+pub length-each_after : (k : ℕ) (ts : List Told) (f : Fact) → length (each_after k ts f) ≡ length ts
+length-each_after k [] f = refl
+length-each_after k (t ∷ ts) f =
+    let rest : length (each_after (k + 1) ts f) ≡ length ts = length-each_after (k + 1) ts f in omega (arith, rest)
+
+each_after-at : (k : ℕ) (ts : List Told) (f : Fact) (i : ℕ) → i < length ts
+    → row_at (each_after k ts f) i ≡ after (k + i + 1) (row_at ts i) f
+each_after-at k [] f i lt = absurd (omega (arith, lt))
+each_after-at k (t ∷ ts) f zero lt = ap (λ n. after n t f) (let e : k + 1 ≡ k + 0 + 1 = omega arith in e)
+each_after-at k (t ∷ ts) f (suc i) lt =
+    let rest : row_at (each_after (k + 1) ts f) i ≡ after (k + 1 + i + 1) (row_at ts i) f =
+    each_after-at (k + 1) ts f i (omega (arith, lt)) in
+    rest ∙ ap (λ n. after n (row_at ts i) f) (let e : k + 1 + i + 1 ≡ k + suc i + 1 = omega arith in e)
+
+-- what a record adds to the payloads of a side
+abbrev pub accepted_by : ℕ → Side → Fact → List (List ℕ)
+accepted_by s (Sends t) f = accepted_of s f
+accepted_by s (Receives t) f = []
+
+accepted_after : (s : ℕ) (x : Side) (f : Fact) → accepted_in (side_after s x f) ≡ accepted_in x ++ accepted_by s x f
+accepted_after s (Sends t) f = refl
+accepted_after s (Receives t) f = refl
+
+-- what a record adds to the messages of a side
+abbrev pub received_by : ℕ → Side → Fact → List (ℕ × Payload)
+received_by s (Sends t) f = []
+received_by s (Receives t) f = received_of s f
+
+received_after : (s : ℕ) (x : Side) (f : Fact) → received_in (side_after s x f) ≡ received_in x ++ received_by s x f
+received_after s (Sends t) f = refl
+received_after s (Receives t) f = refl
+
+-- the rows after one more record, with those that it makes
+abbrev pub rows_after : List Told → Fact → List Told
+rows_after rows f = each_after 0 rows f ++ map begun (makers_of f)
+
+row_after : (rows : List Told) (f : Fact) (i : ℕ) → i < length rows
+    → row_at (rows_after rows f) i ≡ after (i + 1) (row_at rows i) f
+row_after rows f i lt =
+    let len : length (each_after 0 rows f) ≡ length rows = length-each_after 0 rows f in
+    get_or_append_left (each_after 0 rows f) (map begun (makers_of f)) no_row i (omega (arith, lt, len))
+    ∙ each_after-at 0 rows f i lt
+    ∙ ap (λ n. after n (row_at rows i) f) (let e : 0 + i + 1 ≡ i + 1 = omega arith in e)
+
+pub rows_longer : (rows : List Told) (f : Fact) → length rows ≤ length (rows_after rows f)
+rows_longer rows f =
+    omega (arith, length-each_after 0 rows f, length-append (each_after 0 rows f) (map begun (makers_of f)))
+
+pub accepted_row : (rows : List Told) (f : Fact) (i : ℕ) → i < length rows
+    → accepted_in (row_at (rows_after rows f) i).side
+    ≡ accepted_in (row_at rows i).side ++ accepted_by (i + 1) (row_at rows i).side f
+accepted_row rows f i lt =
+    ap (λ (t : Told). accepted_in t.side) (row_after rows f i lt) ∙ accepted_after (i + 1) (row_at rows i).side f
+
+pub received_row : (rows : List Told) (f : Fact) (i : ℕ) → i < length rows
+    → received_in (row_at (rows_after rows f) i).side
+    ≡ received_in (row_at rows i).side ++ received_by (i + 1) (row_at rows i).side f
+received_row rows f i lt =
+    ap (λ (t : Told). received_in t.side) (row_after rows f i lt) ∙ received_after (i + 1) (row_at rows i).side f
+
+kept_same : (kept more : List Fact) (place : ℕ) → place < length kept
+    → kept_at (kept ++ more) place ≡ kept_at kept place
+kept_same kept more place lt = get_or_append_left kept more no_fact place lt
+
+-- one note
+note_same : (kept more : List Fact) (rows : List Told) (f : Fact) (n : Note) → IsHeld kept rows n
+    → fact_at (kept ++ more) (rows_after rows f) n ≡ fact_at kept rows n
+note_same kept more rows f (note.Kept place) h = kept_same kept more place h
+note_same kept more rows f (note.Acked seq numbers) h = refl
+note_same kept more rows f (note.Accepted row place) h =
+    ap (λ p. Accepted (row + 1) p)
+    (ap (λ ps. get_or ps place []) (accepted_row rows f row h.0)
+    ∙ get_or_append_left (accepted_in (row_at rows row).side) (accepted_by (row + 1) (row_at rows row).side f) [] place
+    h.1)
+note_same kept more rows f (note.Received row place) h =
+    ap (λ (m : ℕ × Payload). Received (row + 1) m.0 m.1)
+    (ap (λ ms. get_or ms place no_message) (received_row rows f row h.0)
+    ∙ get_or_append_left (received_in (row_at rows row).side) (received_by (row + 1) (row_at rows row).side f)
+    no_message place h.1)
+
+note_held : (kept more : List Fact) (rows : List Told) (f : Fact) (n : Note) → IsHeld kept rows n
+    → IsHeld (kept ++ more) (rows_after rows f) n
+note_held kept more rows f (note.Kept place) h = omega (arith, h, length-append kept more)
+note_held kept more rows f (note.Acked seq numbers) h = tt
+note_held kept more rows f (note.Accepted row place) h = (
+  omega (arith, h.0, rows_longer rows f),
+  rw (accepted_row rows f row h.0)
+      (omega (
+        arith,
+        h.1,
+        length-append (accepted_in (row_at rows row).side) (accepted_by (row + 1) (row_at rows row).side f),
+      )),
+)
+note_held kept more rows f (note.Received row place) h = (
+  omega (arith, h.0, rows_longer rows f),
+  rw (received_row rows f row h.0)
+      (omega (
+        arith,
+        h.1,
+        length-append (received_in (row_at rows row).side) (received_by (row + 1) (row_at rows row).side f),
+      )),
+)
+
+notes_same : (kept more : List Fact) (rows : List Told) (f : Fact) (ns : List Note) → AllHeld kept rows ns
+    → records_of (kept ++ more) (rows_after rows f) ns ≡ records_of kept rows ns
+notes_same kept more rows f [] h = refl
+notes_same kept more rows f (n ∷ ns) h =
+    ap (λ x. x ∷ records_of (kept ++ more) (rows_after rows f) ns) (note_same kept more rows f n h.0)
+    ∙ ap (λ xs. fact_at kept rows n ∷ xs) (notes_same kept more rows f ns h.1)
+
+notes_held : (kept more : List Fact) (rows : List Told) (f : Fact) (ns : List Note) (n : Note) → AllHeld kept rows ns
+    → IsHeld (kept ++ more) (rows_after rows f) n → AllHeld (kept ++ more) (rows_after rows f) (ns ++ n ∷ [])
+notes_held kept more rows f [] n h g = (g, tt)
+notes_held kept more rows f (m ∷ ns) n h g =
+    (note_held kept more rows f m h.0, notes_held kept more rows f ns n h.1 g)
+
+within-more : (n m : ℕ) (ks : List ℕ) → n ≤ m → AreWithin n ks → AreWithin m ks
+within-more n m [] le h = tt
+within-more n m (k ∷ ks) le h = (omega (arith, le, h.0), within-more n m ks le h.1)
+
+within-append : (n : ℕ) (ks js : List ℕ) → AreWithin n ks → AreWithin n js → AreWithin n (ks ++ js)
+within-append n [] js h g = g
+within-append n (k ∷ ks) js h g = (h.0, within-append n ks js h.1 g)
+
+makers_same : (kept more : List Fact) (os : List Origin) → AreWithin (length kept) (origins_of os)
+    → map (maker_at (kept ++ more)) os ≡ map (maker_at kept) os
+makers_same kept more [] h = refl
+makers_same kept more (o ∷ os) h =
+    let one : maker_at (kept ++ more) o ≡ maker_at kept o =
+    ap (λ f. get_or (makers_of f) (cond o.is_second 1 0) no_maker) (kept_same kept more o.made h.0) in
+    ap (λ m. m ∷ map (maker_at (kept ++ more)) os) one ∙ ap (λ ms. maker_at kept o ∷ ms) (makers_same kept more os h.1)
+
+named_same : (kept more : List Fact) (ns : List Named) → AreWithin (length kept) (names_of ns)
+    → map (named_at (kept ++ more)) ns ≡ map (named_at kept) ns
+named_same kept more [] h = refl
+named_same kept more (n ∷ ns) h =
+    let one : named_at (kept ++ more) n ≡ named_at kept n =
+    ap (λ f. (n.seq, ident_given f)) (kept_same kept more n.place h.0) in
+    ap (λ m. m ∷ map (named_at (kept ++ more)) ns) one ∙ ap (λ ms. named_at kept n ∷ ms) (named_same kept more ns h.1)
+
+-- one more record
+pub records_more : (t : Table) (f : Fact) (a : Added) → Holds t → Tells t f a
+    → records_in (with_record t f a) ≡ records_in t ++ f ∷ []
+records_more t f a h tells =
+    let kept = t.kept ++ a.whole in
+    let rows = rows_after t.rows f in
+    map-append (fact_at kept rows) t.notes (a.note_ ∷ [])
+    ∙ ap (λ xs. xs ++ fact_at kept rows a.note_ ∷ []) (notes_same t.kept a.whole t.rows f t.notes h.held)
+    ∙ ap (λ x. records_in t ++ x ∷ []) tells.note_
+
+pub holds_more : (t : Table) (f : Fact) (a : Added) → Holds t → fits (records_in t) f ≡ true → Tells t f a
+    → Holds (with_record t f a)
+holds_more t f a h fit tells =
+    let r = records_in t in
+    let is : records_in (with_record t f a) ≡ r ++ f ∷ [] = records_more t f a h tells in
+    let kept = t.kept ++ a.whole in
+    let longer : length t.kept ≤ length kept = omega (arith, length-append t.kept a.whole) in
+    let count : length (makers r) ≡ length t.origins =
+    ap length h.makers_ ∙ length-map t.origins (maker_at t.kept) in
+    record {
+      fit = ap (λ rs. all_fit [] rs) is ∙ one_more.fit r f ∙ and_from (all_fit [] r) (fits r f) h.fit fit;
+      rows_ =
+          ap (λ ts. each_after 0 ts f ++ map begun (makers_of f)) h.rows_
+          ∙ sym (told_all-more r f h.fit fit) ∙ ap told_all (sym is);
+      makers_ =
+          ap makers is ∙ one_more.makers_ r f
+          ∙ ap (λ ms. ms ++ makers_of f) (h.makers_ ∙ sym (makers_same t.kept a.whole t.origins h.origins_held))
+          ∙ ap (λ ms. map (maker_at kept) t.origins ++ ms) (sym tells.makes)
+          ∙ sym (map-append (maker_at kept) t.origins a.makes);
+      created_ =
+          ap created is ∙ one_more.created_ r f
+          ∙ ap (λ n. created r ++ created_of n f) count
+          ∙ ap (λ cs. cs ++ created_of (length t.origins) f)
+          (h.created_ ∙ sym (named_same t.kept a.whole t.named h.named_held))
+          ∙ ap (λ cs. map (named_at kept) t.named ++ cs) (sym tells.gives)
+          ∙ sym (map-append (named_at kept) t.named a.gives);
+      number_ = ap (λ n. number_after n f) h.number_ ∙ sym (one_more.number_ r f fit) ∙ ap number (sym is);
+      drawn_ = ap (λ n. n + length (draws_of f)) h.drawn_ ∙ sym (one_more.counter_ r f) ∙ ap counter (sym is);
+      held = notes_held t.kept a.whole t.rows f t.notes a.note_ h.held tells.held;
+      origins_held =
+          subst (λ ks. AreWithin (length kept) ks) (sym (map-append (λ (o : Origin). o.made) t.origins a.makes))
+          (within-append (length kept) (origins_of t.origins) (origins_of a.makes)
+          (within-more (length t.kept) (length kept) (origins_of t.origins) longer h.origins_held) tells.makes_held);
+      named_held =
+          subst (λ ks. AreWithin (length kept) ks) (sym (map-append (λ (n : Named). n.place) t.named a.gives))
+          (within-append (length kept) (names_of t.named) (names_of a.gives)
+          (within-more (length t.kept) (length kept) (names_of t.named) longer h.named_held) tells.gives_held);
+    }

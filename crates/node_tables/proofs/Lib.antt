@@ -1,0 +1,7 @@
+mod CountLemmas
+mod FindLemmas
+mod HeldLemmas
+mod RowsLemmas
+mod StepLemmas
+mod TellLemmas
+mod WaitLemmas

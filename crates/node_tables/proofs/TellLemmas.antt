@@ -1,0 +1,283 @@
+-- What is added for each kind of record tells it.
+use Rattle.std.proofs.Common.{◌≡◌, ◌≢◌, ℕ, zero, suc, ◌+◌, ◌-◌, ◌<◌, ◌≤◌, ◌==◌, Bool, true, false, cond, List, []}
+use Rattle.std.proofs.Common.{◌∷◌, ◌++◌, length, map, get_or, refl, sym, ap, subst, ◌∙◌, arith, Option, Some, None}
+use Rattle.std.proofs.lemmas.Bool.{eq-eqb, false≢true}
+use Rattle.std.proofs.lemmas.List.{append-nil, length-append, length-map}
+use Rattle.std.proofs.Math.Seq.{get_or-append_seam}
+use Rattle.ack_ranges.specs.Ranges.{Contents}
+use Rattle.rm_base.specs.declared.message.Payload.{Payload}
+use Rattle.record_batch.specs.Fact.{Fact, Made, Creating, Created, Granted, Accepted, Acked, Received}
+use Rattle.sequence_table.specs.Makers.{makers_of, created_of, draws_of}
+use Rattle.sequence_table.specs.Fits.{fits}
+use Rattle.sequence_table.specs.OneMore.{number_after}
+use Rattle.sequence_table.specs.Told.{Told, Side, Sends, Receives, begun, each_after, names}
+use Rattle.sequence_table.specs.NameLemmas.{names-within}
+use Rattle.record_batch.specs.declared.record.Record.{Record}
+use Rattle.sequence_row.specs.Row.{Seen, takes, takes_message, takes_payload}
+use Rattle.node_tables.specs.declared.note.Note.{Note}
+use Rattle.node_tables.specs.declared.note.Note.TheVariants as note
+use Rattle.node_tables.specs.declared.note.Origin.{Origin}
+use Rattle.node_tables.specs.declared.note.Named.{Named}
+use Rattle.node_tables.specs.Kept.{AreWithin, Holds, Table, accepted_in, fact_at, first_of, second_of, ident_given}
+use Rattle.node_tables.specs.Kept.{is_naming, kept_at, maker_at, named_at, names_for, names_of, no_fact, no_maker}
+use Rattle.node_tables.specs.Kept.{no_message, origins_for, origins_of, received_in, records_in, row_at, table_in}
+use Rattle.node_tables.proofs.HeldLemmas.{Added, Tells, accepted_by, accepted_row, holds_more, received_by}
+use Rattle.node_tables.proofs.HeldLemmas.{received_row, records_more, rows_after, rows_longer, with_record}
+use Rattle.node_tables.proofs.RowsLemmas.{IsTaken, row-taken, rows-count}
+use Rattle.node_tables.proofs.StepLemmas.{takes-accepted, takes-received}
+
+-- what is kept goes on from t to u by a record
+abbrev pub Grown : Table → Table → Fact → Type 0
+Grown t u f = Holds u × (records_in u ≡ records_in t ++ f ∷ [])
+
+grew : (t u : Table) (f : Fact) (a : Added) → Holds t → fits (records_in t) f ≡ true → Tells t f a
+    → with_record t f a ≡ u → Grown t u f
+grew t u f a h fit tells e =
+    subst (λ x. Grown t x f) e (holds_more t f a h fit tells, records_more t f a h tells)
+
+-- the value of these fields
+table_with : List Fact → List Told → List Note → List Origin → List Named → ℕ → ℕ → Table
+table_with kept rows notes origins named number drawn = record {
+  kept = kept;
+  rows = rows;
+  notes = notes;
+  origins = origins;
+  named = named;
+  number_ = number;
+  drawn = drawn;
+}
+
+same_table : (k k2 : List Fact) (rs rs2 : List Told) (ns ns2 : List Note) (os os2 : List Origin) (ms ms2 : List Named)
+    (n n2 d d2 : ℕ) → k ≡ k2 → rs ≡ rs2 → ns ≡ ns2 → os ≡ os2 → ms ≡ ms2 → n ≡ n2 → d ≡ d2
+    → table_with k rs ns os ms n d ≡ table_with k2 rs2 ns2 os2 ms2 n2 d2
+same_table k k2 rs rs2 ns ns2 os os2 ms ms2 n n2 d d2 ek er en eo em e1 e2 =
+    ap (λ x. table_with x rs ns os ms n d) ek ∙ ap (λ x. table_with k2 x ns os ms n d) er
+    ∙ ap (λ x. table_with k2 rs2 x os ms n d) en ∙ ap (λ x. table_with k2 rs2 ns2 x ms n d) eo
+    ∙ ap (λ x. table_with k2 rs2 ns2 os2 x n d) em ∙ ap (λ x. table_with k2 rs2 ns2 os2 ms2 x d) e1
+    ∙ ap (λ x. table_with k2 rs2 ns2 os2 ms2 n2 x) e2
+
+-- a record of one row alone
+added_note : Note → Added
+added_note n = record { whole = []; note_ = n; makes = []; gives = [] }
+
+grew_row : (t : Table) (f : Fact) (n : Note) (rows : List Told) (notes : List Note) → Holds t
+    → fits (records_in t) f ≡ true → Tells t f (added_note n) → makers_of f ≡ [] → number_after t.number_ f ≡ t.number_
+    → draws_of f ≡ [] → rows ≡ each_after 0 t.rows f → notes ≡ t.notes ++ n ∷ []
+    → Grown t (record t { rows = rows; notes = notes }) f
+unfolding added_note table_with
+grew_row t f n rows notes h fit tells none number draws is noted =
+    let last : t.drawn + length (draws_of f) ≡ t.drawn = omega (arith, ap length draws) in
+    grew t _ f (added_note n) h fit tells
+    (same_table _ _ _ _ _ _ _ _ _ _ _ _ _ _ (append-nil t.kept)
+    (ap (λ ms. each_after 0 t.rows f ++ map begun ms) none ∙ append-nil (each_after 0 t.rows f) ∙ sym is)
+    (sym noted) (append-nil t.origins) (append-nil t.named) number last)
+
+accepted_here : (x : Side) (s : ℕ) (payload : List ℕ) → takes_payload x ≡ true
+    → accepted_by s x (Accepted s payload) ≡ payload ∷ []
+accepted_here (Sends t) s payload h = ap (λ b. cond b (payload ∷ []) []) (eq-eqb s s refl)
+accepted_here (Receives t) s payload h = absurd (false≢true h)
+
+received_here : (x : Side) (s n : ℕ) (payload : Payload) → takes_message x n ≡ true
+    → received_by s x (Received s n payload) ≡ (n, payload) ∷ []
+received_here (Sends t) s n payload h = absurd (false≢true h)
+received_here (Receives t) s n payload h = ap (λ b. cond b ((n, payload) ∷ []) []) (eq-eqb s s refl)
+
+one_longer : {A : Type 0} (xs ys : List A) (y : A) → ys ≡ xs ++ y ∷ [] → length xs < length ys
+one_longer xs ys y e = omega (arith, ap length e, length-append xs (y ∷ []))
+
+at_end : {A : Type 0} (xs ys : List A) (y d : A) → ys ≡ xs ++ y ∷ [] → get_or ys (length xs) d ≡ y
+at_end xs ys y d e = ap (λ zs. get_or zs (length xs) d) e ∙ get_or-append_seam xs y [] d
+
+tells-accepted : (t : Table) (k : ℕ) (payload : List ℕ) → k < length t.rows
+    → takes_payload (row_at t.rows k).side ≡ true
+    → Tells t (Accepted (k + 1) payload)
+    (added_note (note.Accepted k (length (accepted_in (row_at t.rows k).side))))
+unfolding added_note
+tells-accepted t k payload lt takes =
+    let f : Fact = Accepted (k + 1) payload in
+    let old = accepted_in (row_at t.rows k).side in
+    let now : accepted_in (row_at (rows_after t.rows f) k).side ≡ old ++ payload ∷ [] =
+    accepted_row t.rows f k lt
+    ∙ ap (λ ps. old ++ ps) (accepted_here (row_at t.rows k).side (k + 1) payload takes) in
+    record {
+      note_ = ap (λ p. Accepted (k + 1) p) (at_end old _ payload [] now);
+      held = (omega (arith, lt, rows_longer t.rows f), one_longer old _ payload now);
+      makes = refl;
+      gives = refl;
+      makes_held = tt;
+      gives_held = tt;
+    }
+
+tells-received : (t : Table) (k n : ℕ) (payload : Payload) → k < length t.rows
+    → takes_message (row_at t.rows k).side n ≡ true
+    → Tells t (Received (k + 1) n payload)
+    (added_note (note.Received k (length (received_in (row_at t.rows k).side))))
+unfolding added_note
+tells-received t k n payload lt takes =
+    let f : Fact = Received (k + 1) n payload in
+    let old = received_in (row_at t.rows k).side in
+    let now : received_in (row_at (rows_after t.rows f) k).side ≡ old ++ (n, payload) ∷ [] =
+    received_row t.rows f k lt
+    ∙ ap (λ ps. old ++ ps) (received_here (row_at t.rows k).side (k + 1) n payload takes) in
+    record {
+      note_ = ap (λ (m : ℕ × Payload). Received (k + 1) m.0 m.1) (at_end old _ (n, payload) no_message now);
+      held = (omega (arith, lt, rows_longer t.rows f), one_longer old _ (n, payload) now);
+      makes = refl;
+      gives = refl;
+      makes_held = tt;
+      gives_held = tt;
+    }
+
+tells-acked : (t : Table) (s : ℕ) (numbers : Contents)
+    → Tells t (Acked s numbers.ranges) (added_note (note.Acked s numbers))
+unfolding added_note
+tells-acked t s numbers =
+    record { note_ = refl; held = tt; makes = refl; gives = refl; makes_held = tt; gives_held = tt }
+
+-- a payload more
+pub accepts : (t : Table) (s place : ℕ) (payload : List ℕ) (rows : List Told) (notes : List Note) → Holds t
+    → fits (records_in t) (Accepted s payload) ≡ true → place ≡ length (accepted_in (row_at t.rows (s - 1)).side)
+    → rows ≡ each_after 0 t.rows (Accepted (s - 1 + 1) payload) → notes ≡ t.notes ++ note.Accepted (s - 1) place ∷ []
+    → Grown t (record t { rows = rows; notes = notes }) (Accepted s payload)
+accepts t s place payload rows notes h fit at is noted =
+    let taken = row-taken t (Accepted s payload) h refl fit in
+    let back : s - 1 + 1 ≡ s = omega (arith, taken.one) in
+    let lt : s - 1 < length t.rows = omega (arith, taken.one, taken.within) in
+    let takes_it = sym (takes-accepted (row_at t.rows (s - 1)).side s payload) ∙ taken.takes_ in
+    let tells = subst (λ p. Tells t (Accepted (s - 1 + 1) payload) (added_note (note.Accepted (s - 1) p))) (sym at)
+    (tells-accepted t (s - 1) payload lt takes_it) in
+    subst (λ n. Grown t (record t { rows = rows; notes = notes }) (Accepted n payload)) back
+    (grew_row t (Accepted (s - 1 + 1) payload) (note.Accepted (s - 1) place) rows notes h
+    (subst (λ n. fits (records_in t) (Accepted n payload) ≡ true) (sym back) fit) tells refl refl refl is noted)
+
+-- a message more
+pub receives : (t : Table) (s place n : ℕ) (payload : Payload) (rows : List Told) (notes : List Note) → Holds t
+    → fits (records_in t) (Received s n payload) ≡ true → place ≡ length (received_in (row_at t.rows (s - 1)).side)
+    → rows ≡ each_after 0 t.rows (Received (s - 1 + 1) n payload)
+    → notes ≡ t.notes ++ note.Received (s - 1) place ∷ []
+    → Grown t (record t { rows = rows; notes = notes }) (Received s n payload)
+receives t s place n payload rows notes h fit at is noted =
+    let taken = row-taken t (Received s n payload) h refl fit in
+    let back : s - 1 + 1 ≡ s = omega (arith, taken.one) in
+    let lt : s - 1 < length t.rows = omega (arith, taken.one, taken.within) in
+    let takes_it = sym (takes-received (row_at t.rows (s - 1)).side s n payload) ∙ taken.takes_ in
+    let tells = subst (λ p. Tells t (Received (s - 1 + 1) n payload) (added_note (note.Received (s - 1) p))) (sym at)
+    (tells-received t (s - 1) n payload lt takes_it) in
+    subst (λ m. Grown t (record t { rows = rows; notes = notes }) (Received m n payload)) back
+    (grew_row t (Received (s - 1 + 1) n payload) (note.Received (s - 1) place) rows notes h
+    (subst (λ m. fits (records_in t) (Received m n payload) ≡ true) (sym back) fit) tells refl refl refl is noted)
+
+-- more numbers that are acknowledged
+pub learns : (t : Table) (s : ℕ) (numbers : Contents) (rows : List Told) (notes : List Note) → Holds t
+    → fits (records_in t) (Acked s numbers.ranges) ≡ true
+    → rows ≡ each_after 0 t.rows (Acked (s - 1 + 1) numbers.ranges) → notes ≡ t.notes ++ note.Acked s numbers ∷ []
+    → Grown t (record t { rows = rows; notes = notes }) (Acked s numbers.ranges)
+learns t s numbers rows notes h fit is noted =
+    let taken = row-taken t (Acked s numbers.ranges) h refl fit in
+    let back : s - 1 + 1 ≡ s = omega (arith, taken.one) in
+    grew_row t (Acked s numbers.ranges) (note.Acked s numbers) rows notes h fit (tells-acked t s numbers) refl refl refl
+    (is ∙ ap (λ n. each_after 0 t.rows (Acked n numbers.ranges)) back) noted
+
+makes_at : (kept : List Fact) (place : ℕ) (f : Fact) → kept_at kept place ≡ f
+    → map (maker_at kept) (origins_for place f) ≡ makers_of f
+makes_at kept place (Creating ticket to via lapse None) e = ap (λ g. get_or (makers_of g) 0 no_maker ∷ []) e
+makes_at kept place (Creating ticket to via lapse (Some offer)) e =
+    ap (λ g. get_or (makers_of g) 0 no_maker ∷ get_or (makers_of g) 1 no_maker ∷ []) e
+makes_at kept place (Granted drawn message_id acks_to behaviour deadline lapse None) e =
+    ap (λ g. get_or (makers_of g) 0 no_maker ∷ []) e
+makes_at kept place (Granted drawn message_id acks_to behaviour deadline lapse (Some offer)) e =
+    ap (λ g. get_or (makers_of g) 0 no_maker ∷ get_or (makers_of g) 1 no_maker ∷ []) e
+makes_at kept place _ e = refl
+
+gives_at : (kept : List Fact) (k place : ℕ) (f : Fact) → kept_at kept place ≡ f
+    → map (named_at kept) (names_for k place f) ≡ created_of k f
+gives_at kept k place (Created seq ident accept) e = ap (λ g. (seq, ident_given g) ∷ []) e
+gives_at kept k place (Granted drawn message_id acks_to behaviour deadline lapse None) e = refl
+gives_at kept k place (Granted drawn message_id acks_to behaviour deadline lapse (Some offer)) e =
+    ap (λ g. (k + 2, ident_given g) ∷ []) e
+gives_at kept k place _ e = refl
+
+makes_within : (n place : ℕ) (f : Fact) → place < n → AreWithin n (origins_of (origins_for place f))
+makes_within n place (Creating ticket to via lapse None) lt = (lt, tt)
+makes_within n place (Creating ticket to via lapse (Some offer)) lt = (lt, (lt, tt))
+makes_within n place (Granted drawn message_id acks_to behaviour deadline lapse None) lt = (lt, tt)
+makes_within n place (Granted drawn message_id acks_to behaviour deadline lapse (Some offer)) lt = (lt, (lt, tt))
+makes_within n place _ lt = tt
+
+gives_within : (n k place : ℕ) (f : Fact) → place < n → AreWithin n (names_of (names_for k place f))
+gives_within n k place (Created seq ident accept) lt = (lt, tt)
+gives_within n k place (Granted drawn message_id acks_to behaviour deadline lapse None) lt = tt
+gives_within n k place (Granted drawn message_id acks_to behaviour deadline lapse (Some offer)) lt = (lt, tt)
+gives_within n k place _ lt = tt
+
+-- a record that is kept whole
+added_whole : Table → Fact → Added
+added_whole t f = record {
+  whole = f ∷ [];
+  note_ = note.Kept (length t.kept);
+  makes = origins_for (length t.kept) f;
+  gives = names_for (length t.origins) (length t.kept) f;
+}
+
+tells-whole : (t : Table) (f : Fact) → Tells t f (added_whole t f)
+unfolding added_whole
+tells-whole t f =
+    let place = length t.kept in
+    let at : kept_at (t.kept ++ f ∷ []) place ≡ f = get_or-append_seam t.kept f [] no_fact in
+    let lt : place < length (t.kept ++ f ∷ []) = one_longer t.kept _ f refl in
+    record {
+      note_ = at;
+      held = lt;
+      makes = makes_at (t.kept ++ f ∷ []) place f at;
+      gives = gives_at (t.kept ++ f ∷ []) (length t.origins) place f at;
+      makes_held = makes_within (length (t.kept ++ f ∷ [])) place f lt;
+      gives_held = gives_within (length (t.kept ++ f ∷ [])) (length t.origins) place f lt;
+    }
+
+-- a record more that is kept whole
+pub keeps : (t u : Table) (f : Fact) → Holds t → fits (records_in t) f ≡ true → u.kept ≡ t.kept ++ f ∷ []
+    → u.rows ≡ each_after 0 t.rows f ++ map begun (makers_of f) → u.notes ≡ t.notes ++ note.Kept (length t.kept) ∷ []
+    → u.origins ≡ t.origins ++ origins_for (length t.kept) f
+    → u.named ≡ t.named ++ names_for (length t.origins) (length t.kept) f → u.number_ ≡ number_after t.number_ f
+    → u.drawn ≡ t.drawn + length (draws_of f) → Grown t u f
+unfolding added_whole table_with
+keeps t u f h fit kept rows notes origins named number drawn =
+    grew t u f (added_whole t f) h fit (tells-whole t f)
+    (same_table _ _ _ _ _ _ _ _ _ _ _ _ _ _ (sym kept) (sym rows) (sym notes) (sym origins) (sym named) (sym number)
+    (sym drawn))
+
+-- what is kept stays
+pub stays : (t : Table) (rows : List Told) (notes : List Note) → Holds t → rows ≡ t.rows → notes ≡ t.notes
+    → Holds (record t { rows = rows; notes = notes })
+unfolding table_with
+stays t rows notes h is noted =
+    subst Holds (same_table t.kept t.kept t.rows rows t.notes notes t.origins t.origins t.named t.named t.number_
+    t.number_ t.drawn t.drawn refl (sym is) (sym noted) refl refl refl refl) h
+
+-- there are as many rows as origins
+pub rows-origins : (t : Table) → Holds t → length t.rows ≡ length t.origins
+rows-origins t h = rows-count t h ∙ ap length h.makers_ ∙ length-map t.origins (maker_at t.kept)
+
+naming : (f : Fact) → 0 < names f → is_naming f ≡ true
+naming (Made node address) lt = absurd (omega (arith, lt))
+naming (Creating ticket to via lapse offer) lt = absurd (omega (arith, lt))
+naming (Granted drawn message_id acks_to behaviour deadline lapse offer) lt = absurd (omega (arith, lt))
+naming _ lt = refl
+
+-- the row that a record names is there
+pub names-there : (t : Table) (f : Fact) → Holds t → fits (records_in t) f ≡ true → names f ≤ length t.rows
+names-there t f h fit = omega (arith, rows-count t h, names-within (records_in t) f fit)
+
+-- the row that a record names takes it
+pub takes-there : (t : Table) (f : Fact) → Holds t → fits (records_in t) f ≡ true → 0 < names f
+    → takes (row_at t.rows (names f - 1)).side f ≡ true
+takes-there t f h fit some = (row-taken t f h (naming f some) fit).takes_
+
+-- the same lists hold the same
+pub untouched : (k k2 : List Record) (rs rs2 : List Seen) (ns ns2 : List Note) (os os2 : List Origin)
+    (ms ms2 : List Named) (n d : ℕ) → k2 ≡ k → rs2 ≡ rs → ns2 ≡ ns → os2 ≡ os → ms2 ≡ ms
+    → table_in k2 rs2 ns2 os2 ms2 n d ≡ table_in k rs ns os ms n d
+untouched k k2 rs rs2 ns ns2 os os2 ms ms2 n d ek er en eo em =
+    ap (λ x. table_in x rs2 ns2 os2 ms2 n d) ek ∙ ap (λ x. table_in k x ns2 os2 ms2 n d) er
+    ∙ ap (λ x. table_in k rs x os2 ms2 n d) en ∙ ap (λ x. table_in k rs ns x ms2 n d) eo
+    ∙ ap (λ x. table_in k rs ns os x n d) em

@@ -1,0 +1,14 @@
+use Rattle.std.proofs.Common.{◌≡◌, ◌∙◌, ◌+◌, ◌<◌, length, refl, arith}
+use Rattle.record_batch.specs.Fact.{Accepted}
+use Rattle.node_tables.specs.Kept.{row_at, tolds}
+use Rattle.node_tables.proofs.StepLemmas.{rows-stepped, takes-accepted}
+use Rattle.node_tables.proofs.rows.accept_at.Goals as goal
+
+pub returns-clause-ok : goal.returns-clause-ok
+returns-clause-ok c =
+    let rows = c.args.rows.now.items in
+    let k = c.args.k in
+    rows-stepped rows k c.index_mut-row.result.now c.accept.new.self (Accepted (k + 1) c.args.payload)
+    (omega (arith, c.requires.within)) c.index_mut-row.ensures.value refl
+    (takes-accepted (row_at (tolds rows) k).side (k + 1) c.args.payload ∙ c.requires.takes)
+    c.in_ok-accept.ensures.ticket c.in_ok-accept.ensures.side

@@ -1,0 +1,23 @@
+use Rattle.std.proofs.Common.{◌≡◌, ◌∙◌, ◌≤◌, ◌<◌, List, length, map, sym, ap, arith}
+use Rattle.std.proofs.lemmas.List.{length-map}
+use Rattle.sequence_row.specs.Row.{Seen}
+use Rattle.sequence_table.specs.Makers.{makers}
+use Rattle.node_tables.specs.Kept.{Tabled}
+use Rattle.node_tables.proofs.CountLemmas.{rows-few}
+use Rattle.node_tables.proofs.RowsLemmas.{rows-count}
+use Rattle.node_tables.proofs.tables.Tables.len.Goals as goal
+
+pub overflow_cast-result : goal.overflow_cast-result
+overflow_cast-result c =
+    omega (
+      arith,
+      ap length c.as_slice.ensures.value,
+      length-map c.self.inside.rows.items (λ (r : Seen). r.told),
+      rows-few _ c.self.invariant,
+    )
+
+pub returns-clause-count : goal.returns-clause-count
+returns-clause-count c =
+    ap length c.as_slice.ensures.value
+    ∙ sym (length-map c.self.inside.rows.items (λ (r : Seen). r.told)) ∙ rows-count _ c.self.invariant
+    ∙ ap (λ (t : Tabled). length (makers t.records)) c.self.view_is

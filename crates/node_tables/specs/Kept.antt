@@ -1,0 +1,211 @@
+-- How tables hold records: each in the order of its coming, but for the payloads, which the rows hold.
+use Rattle.std.specs.Option.{option_map}
+use Rattle.std.specs.Prelude.{Bool, ◌&&◌, ◌≡◌, ℕ, ◌+◌, ◌<◌, nat_lt, true, false, if◌then◌else◌, List, [], ◌∷◌, ◌++◌}
+use Rattle.std.specs.Prelude.{length, map, Option, None, Some, slice_index_or}
+use Rattle.rm_base.specs.declared.message.Payload.{Payload}
+use Rattle.record_batch.specs.declared.record.PeerOffer.{PeerOffer}
+use Rattle.record_batch.specs.declared.record.Record.{Record}
+use Rattle.record_batch.specs.Fact.{Fact, fact_of, Made, Creating, Accepted, Acked, Received, Created, Granted}
+use Rattle.sequence_table.specs.Words.{Text}
+use Rattle.sequence_table.specs.Makers.{Maker, Taken, maker, makers, makers_of, created, counter, number}
+use Rattle.sequence_table.specs.Fits.{all_fit}
+use Rattle.sequence_table.specs.Told.{Told, Side, Sends, Receives, begun, told_by, told_all}
+use Rattle.sequence_row.specs.Row.{Seen, is_moment, takes}
+use Rattle.node_tables.specs.declared.note.Note.{Note}
+use Rattle.node_tables.specs.declared.note.Note.TheVariants as note
+use Rattle.node_tables.specs.declared.note.Origin.{Origin}
+use Rattle.node_tables.specs.declared.note.Named.{Named}
+
+-- the payloads of a side that sends
+abbrev pub accepted_in : Side → List (List ℕ)
+accepted_in (Sends t) = t.accepted
+accepted_in (Receives t) = []
+
+-- the messages of a side that receives
+abbrev pub received_in : Side → List (ℕ × Payload)
+received_in (Sends t) = []
+received_in (Receives t) = t.received
+
+-- what stands for a record where there is none
+abbrev pub no_fact : Fact
+no_fact = Made 0 []
+
+-- what stands for a maker where there is none
+abbrev pub no_maker : Maker
+no_maker = Taken [] [] (record { address = []; params = [] })
+
+-- what is known of a row that is not there
+abbrev pub no_row : Told
+no_row = begun no_maker
+
+-- what stands for a message where there is none
+abbrev pub no_message : ℕ × Payload
+no_message = (0, record { bytes = []; scope = [] })
+
+-- the record that is kept whole at a place
+abbrev pub kept_at : List Fact → ℕ → Fact
+kept_at kept place = slice_index_or kept place no_fact
+
+-- what is known of the row at a place
+abbrev pub row_at : List Told → ℕ → Told
+row_at rows row = slice_index_or rows row no_row
+
+-- a payload of the row at a place
+abbrev pub accepted_at : List Told → ℕ → ℕ → List ℕ
+accepted_at rows row place = slice_index_or (accepted_in (row_at rows row).side) place []
+
+-- a message of the row at a place
+abbrev pub received_at : List Told → ℕ → ℕ → ℕ × Payload
+received_at rows row place = slice_index_or (received_in (row_at rows row).side) place no_message
+
+-- the record that a note stands for
+abbrev pub fact_at : List Fact → List Told → Note → Fact
+fact_at kept rows (note.Kept place) = kept_at kept place
+fact_at kept rows (note.Accepted row place) = Accepted (row + 1) (accepted_at rows row place)
+fact_at kept rows (note.Received row place) =
+    Received (row + 1) (received_at rows row place).0 (received_at rows row place).1
+fact_at kept rows (note.Acked seq numbers) = Acked seq numbers.ranges
+
+-- the records that notes stand for
+abbrev pub records_of : List Fact → List Told → List Note → List Fact
+records_of kept rows notes = map (fact_at kept rows) notes
+
+-- what a note names is there
+abbrev pub IsHeld : List Fact → List Told → Note → Type 0
+IsHeld kept rows (note.Kept place) = place < length kept
+IsHeld kept rows (note.Accepted row place) =
+    (row < length rows) × (place < length (accepted_in (row_at rows row).side))
+IsHeld kept rows (note.Received row place) =
+    (row < length rows) × (place < length (received_in (row_at rows row).side))
+IsHeld kept rows (note.Acked seq numbers) = Unit {0}
+
+-- what each note names is there
+abbrev pub AllHeld : List Fact → List Told → List Note → Type 0
+AllHeld kept rows [] = Unit {0}
+AllHeld kept rows (n ∷ notes) = IsHeld kept rows n × AllHeld kept rows notes
+
+-- how the sequence of a row came to be
+abbrev pub maker_at : List Fact → Origin → Maker
+maker_at kept origin =
+    slice_index_or (makers_of (kept_at kept origin.made)) (if origin.is_second then 1 else 0) no_maker
+
+-- the identifier that a record gives to an outgoing sequence
+abbrev pub ident_given : Fact → Text
+ident_given (Created seq ident accept) = ident
+ident_given (Granted drawn message_id acks_to behaviour deadline lapse (Some offer)) = offer.ident
+ident_given _ = []
+
+-- an outgoing sequence with its identifier
+abbrev pub named_at : List Fact → Named → ℕ × Text
+named_at kept named = (named.seq, ident_given (kept_at kept named.place))
+
+-- the places of records that are kept whole are there
+abbrev pub AreWithin : ℕ → List ℕ → Type 0
+AreWithin n [] = Unit {0}
+AreWithin n (k ∷ ks) = (k < n) × AreWithin n ks
+
+-- where rows came from
+abbrev pub origins_of : List Origin → List ℕ
+origins_of origins = map (λ (o : Origin). o.made) origins
+
+-- where identifiers came from
+abbrev pub names_of : List Named → List ℕ
+names_of named = map (λ (n : Named). n.place) named
+
+-- what is kept of a node
+pub record Table : Type 0 where
+  pub kept : List Fact
+  pub rows : List Told
+  pub notes : List Note
+  pub origins : List Origin
+  pub named : List Named
+  pub number_ : ℕ
+  pub drawn : ℕ
+
+-- the records that were applied, oldest first
+abbrev pub records_in : Table → List Fact
+records_in t = records_of t.kept t.rows t.notes
+
+-- the records fit one after the other, and what is kept is what they say
+pub record Holds (t : Table) : Type 0 where
+  pub fit : all_fit [] (records_in t) ≡ true
+  pub rows_ : t.rows ≡ told_all (records_in t)
+  pub makers_ : makers (records_in t) ≡ map (maker_at t.kept) t.origins
+  pub created_ : created (records_in t) ≡ map (named_at t.kept) t.named
+  pub number_ : t.number_ ≡ number (records_in t)
+  pub drawn_ : t.drawn ≡ counter (records_in t)
+  pub held : AllHeld t.kept t.rows t.notes
+  pub origins_held : AreWithin (length t.kept) (origins_of t.origins)
+  pub named_held : AreWithin (length t.kept) (names_of t.named)
+
+-- the records that were applied, oldest first
+pub record Tabled : Type 0 where
+  pub records : List Fact
+
+-- what the records say of the sequence with a number
+abbrev pub told_in : List Fact → ℕ → Option Told
+told_in r s = option_map (λ (m : Maker). told_by r s m) (maker r s)
+
+-- a sequence that is there takes a record whose number is the next one
+abbrev pub takes_at : Option Told → Bool → Fact → Bool
+takes_at None next f = false
+takes_at (Some t) next f = next && takes t.side f
+
+-- what is known of each row
+abbrev pub tolds : List Seen → List Told
+tolds rows = map (λ (r : Seen). r.told) rows
+
+-- what is kept, of the lists that hold it
+abbrev pub table_in : List Record → List Seen → List Note → List Origin → List Named → ℕ → ℕ → Table
+table_in kept rows notes origins named number drawn = record {
+  kept = map fact_of kept;
+  rows = tolds rows;
+  notes = notes;
+  origins = origins;
+  named = named;
+  number_ = number;
+  drawn = drawn;
+}
+
+-- a record that names a sequence
+abbrev pub is_naming : Fact → Bool
+is_naming (Made node address) = false
+is_naming (Creating ticket to via lapse offer) = false
+is_naming (Granted drawn message_id acks_to behaviour deadline lapse offer) = false
+is_naming _ = true
+
+-- a record that is kept whole: not one of a payload, a message or numbers
+abbrev pub is_whole : Fact → Bool
+is_whole (Accepted seq payload) = false
+is_whole (Acked seq ranges) = false
+is_whole (Received seq n payload) = false
+is_whole _ = true
+
+-- the deadline that a record gives is a moment
+abbrev pub is_timed_record : Fact → Bool
+is_timed_record (Granted drawn message_id acks_to behaviour deadline lapse offer) = is_moment deadline
+is_timed_record _ = true
+
+-- the first sequence of the record that is kept at a place
+abbrev pub first_of : ℕ → Origin
+first_of place = record { made = place; is_second = false }
+
+-- the second one
+abbrev pub second_of : ℕ → Origin
+second_of place = record { made = place; is_second = true }
+
+-- how the sequences come to be that a record at a place makes
+abbrev pub origins_for : ℕ → Fact → List Origin
+origins_for place (Creating ticket to via lapse None) = first_of place ∷ []
+origins_for place (Creating ticket to via lapse (Some offer)) = first_of place ∷ second_of place ∷ []
+origins_for place (Granted drawn message_id acks_to behaviour deadline lapse None) = first_of place ∷ []
+origins_for place (Granted drawn message_id acks_to behaviour deadline lapse (Some offer)) =
+    first_of place ∷ second_of place ∷ []
+origins_for place _ = []
+
+-- the outgoing sequences to which a record at a place gives an identifier, after k sequences were made
+abbrev pub names_for : ℕ → ℕ → Fact → List Named
+names_for k place (Created seq ident accept) = record { seq = seq; place = place } ∷ []
+names_for k place (Granted drawn message_id acks_to behaviour deadline lapse (Some offer)) =
+    record { seq = k + 2; place = place } ∷ []
+names_for k place _ = []

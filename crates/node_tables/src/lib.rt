@@ -1,0 +1,13 @@
+//! The sequences of a node, as its records tell of them. It stands on one sequence, `sequence_row`, and on what a list
+//! of records says, `sequence_table`.
+#![tactic(auto)]
+
+mod error;
+mod find;
+mod note;
+mod record;
+mod rows;
+pub mod tables;
+
+pub use error::TableError;
+pub use tables::Tables;

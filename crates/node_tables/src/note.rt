@@ -1,0 +1,26 @@
+//! What is kept of each record, in the order of their coming.
+use ack_ranges::RangeSet;
+
+/// A record as it is kept: the place of a record that is kept whole; the row, counted from 0, and the place there of a
+/// payload that was accepted or received; or the numbers that are acknowledged.
+#[derive(Debug, Drop)]
+pub(crate) enum Note {
+    Kept { place: usize },
+    Accepted { row: usize, place: usize },
+    Received { row: usize, place: usize },
+    Acked { seq: u32, numbers: RangeSet },
+}
+
+/// How a row came to be: the place of the record that made it, and whether it is the second sequence of that record.
+#[derive(Clone, Copy, Debug)]
+pub(crate) struct Origin {
+    pub made: usize,
+    pub is_second: bool,
+}
+
+/// A sequence that was given an identifier, and the place of the record that gave it.
+#[derive(Clone, Copy, Debug)]
+pub(crate) struct Named {
+    pub seq: u32,
+    pub place: usize,
+}

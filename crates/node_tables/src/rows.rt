@@ -1,0 +1,178 @@
+//! The rows of the tables, one a sequence: what a record changes of them.
+ghost use Rattle.std.specs.Prelude.{◌≡◌, ◌+◌, ◌-◌, ◌<◌, ◌≤◌, ◌++◌, length, map, IfOk, IsTrue, OnOk, OnErr};
+ghost use Rattle.std.specs.Prelude.{true, min, sum_by, vec_len, vec_capacity};
+ghost use Rattle.record_batch.specs.Fact.{Accepted, Acked, Received, fact_of};
+ghost use Rattle.sequence_row.specs.Row.{Seen, step, takes, takes_message, takes_payload};
+ghost use Rattle.sequence_table.specs.Makers.{makers_of};
+ghost use Rattle.sequence_table.specs.Told.{begun, each_after, names};
+ghost use Rattle.node_tables.specs.Kept.{accepted_in, is_timed_record, is_whole, received_in, row_at, tolds};
+ghost use Rattle.node_tables.specs.Reads.{waiting};
+
+use crate::record::named_by;
+use ack_ranges::RangeSet;
+use record_batch::Record;
+use rm_base::{Blob, Memory, Payload};
+use rm_source::OutPhase;
+use sequence_row::{Row, Start};
+use std::alloc::Global;
+
+/// How many payloads a row has.
+fn payloads_of(row: &Row) -> usize
+    ensures { result ≡ length (accepted_in row.now.told.side) }
+{
+    match row.outgoing() {
+        Some(outgoing) => outgoing.accepted_len() as usize,
+        None => 0,
+    }
+}
+
+/// How many messages a row has.
+fn messages_of(row: &Row) -> usize
+    ensures { result ≡ length (received_in row.now.told.side) }
+{
+    match row.incoming() {
+        Some(incoming) => incoming.messages().len(),
+        None => 0,
+    }
+}
+
+/// Accepts a payload for a row, and answers its place there.
+pub(crate) fn accept_at(rows: &mut Vec<Row>, k: usize, payload: Blob) -> Result<usize, Memory>
+    requires within { k < vec_len rows.old }
+    requires takes { IsTrue (takes_payload (row_at (tolds rows.old.items) k).side) }
+    ensures ok { OnOk result (tolds rows.new.items ≡ each_after 0 (tolds rows.old.items) (Accepted (k + 1) payload)) }
+    ensures place { IfOk result (λ place. place ≡ length (accepted_in (row_at (tolds rows.old.items) k).side)) }
+    ensures err { OnErr result (tolds rows.new.items ≡ tolds rows.old.items) }
+{
+    let row = &mut rows[k];
+    let place = payloads_of(row);
+    row.accept(payload)?;
+    Ok(place)
+}
+
+/// Receives a message for a row, and answers its place there.
+pub(crate) fn receive_at(
+    rows: &mut Vec<Row>,
+    k: usize,
+    number: u64,
+    payload: Payload,
+) -> Result<usize, Memory>
+    requires within { k < vec_len rows.old }
+    requires takes { IsTrue (takes_message (row_at (tolds rows.old.items) k).side number) }
+    ensures ok { OnOk result
+        (tolds rows.new.items ≡ each_after 0 (tolds rows.old.items) (Received (k + 1) number payload)) }
+    ensures place { IfOk result (λ place. place ≡ length (received_in (row_at (tolds rows.old.items) k).side)) }
+    ensures err { OnErr result (tolds rows.new.items ≡ tolds rows.old.items) }
+{
+    let row = &mut rows[k];
+    let place = messages_of(row);
+    row.receive(number, payload)?;
+    Ok(place)
+}
+
+/// Learns that numbers of a row are acknowledged.
+pub(crate) fn learn_at(rows: &mut Vec<Row>, k: usize, numbers: &RangeSet) -> Result<(), Memory>
+    requires within { k < vec_len rows.old }
+    requires takes { IsTrue (takes (row_at (tolds rows.old.items) k).side (Acked (k + 1) numbers.now.ranges)) }
+    ensures ok { OnOk result
+        (tolds rows.new.items ≡ each_after 0 (tolds rows.old.items) (Acked (k + 1) numbers.now.ranges)) }
+    ensures err { OnErr result (tolds rows.new.items ≡ tolds rows.old.items) }
+{
+    let row = &mut rows[k];
+    row.learn(numbers)?;
+    Ok(())
+}
+
+/// Changes a row by a record that is kept whole.
+fn step_row(row: &mut Row, given: &Record)
+    requires takes { IsTrue (takes row.old.told.side (fact_of given.now)) }
+    requires whole { IsTrue (is_whole (fact_of given.now)) }
+    ensures { row.new.told ≡ step row.old.told (fact_of given.now) }
+{
+    match given {
+        Record::Created { .. } => row.set_phase(OutPhase::Open),
+        Record::Closing { ticket, .. } => row.ask(OutPhase::Closing, *ticket),
+        Record::ClosedOut { .. } => row.set_phase(OutPhase::Closed),
+        Record::Closed { cause, last, .. } => row.close(*cause, *last),
+        Record::Ending { ticket, .. } => row.ask(OutPhase::Ending, *ticket),
+        Record::EndedOut { .. } => row.set_phase(OutPhase::Ended),
+        Record::Ended { cause, last, .. } => row.end(*cause, *last),
+        Record::Failed { .. } => row.set_phase(OutPhase::Failed),
+        Record::Made { .. } | Record::Creating { .. } | Record::Granted { .. } => {}
+        Record::Accepted { .. } | Record::Acked { .. } | Record::Received { .. } => unreachable!(),
+    }
+}
+
+/// Changes the row that a record names, if it names one, by a record that is kept whole. It takes no memory.
+pub(crate) fn change(rows: &mut Vec<Row>, given: &Record)
+    requires within { names (fact_of given.now) ≤ vec_len rows.old }
+    requires takes { 0 < names (fact_of given.now) →
+        takes (row_at (tolds rows.old.items) (names (fact_of given.now) - 1)).side (fact_of given.now) ≡ true }
+    requires whole { IsTrue (is_whole (fact_of given.now)) }
+    ensures rows { tolds rows.new.items ≡ each_after 0 (tolds rows.old.items) (fact_of given.now) }
+    ensures room { vec_capacity rows.new ≡ vec_capacity rows.old }
+    ensures len { vec_len rows.new ≡ vec_len rows.old }
+{
+    let seq = named_by(given);
+    if seq == 0 {
+        return;
+    }
+    step_row(&mut rows[seq as usize - 1], given);
+}
+
+/// Puts the sequences that a record makes behind the others. Where there is room for two, it takes no memory.
+pub(crate) fn begin(alloc: Global, rows: &mut Vec<Row>, given: &Record)
+    requires room { vec_len rows.old + 2 ≤ vec_capacity rows.old }
+    requires timed { IsTrue (is_timed_record (fact_of given.now)) }
+    ensures { tolds rows.new.items ≡ tolds rows.old.items ++ map begun (makers_of (fact_of given.now)) }
+{
+    match given {
+        Record::Creating { ticket, offer, .. } => {
+            rows.push_reserved(Row::new(alloc, Start::Asked { ticket: *ticket }));
+            if let Some(offer) = offer {
+                let behaviour = offer.behaviour;
+                rows.push_reserved(Row::new(alloc, Start::Offered { behaviour }));
+            }
+        }
+        Record::Granted {
+            behaviour,
+            deadline,
+            offer,
+            ..
+        } => {
+            let start = Start::Granted {
+                behaviour: *behaviour,
+                deadline: *deadline,
+            };
+            rows.push_reserved(Row::new(alloc, start));
+            if offer.is_some() {
+                rows.push_reserved(Row::new(alloc, Start::Taken));
+            }
+        }
+        _ => {}
+    }
+}
+
+/// How many messages of a row wait for an acknowledgement.
+fn waiting_of(row: &Row) -> u64
+    ensures { result ≡ waiting row.now.told.side }
+{
+    match row.outgoing() {
+        Some(outgoing) => match outgoing.phase() {
+            OutPhase::Open | OutPhase::Closing => outgoing.unacked(),
+            _ => 0,
+        },
+        None => 0,
+    }
+}
+
+/// How many messages of all rows wait for an acknowledgement, or the greatest number of 64 bits.
+pub(crate) fn waiting_in(rows: &[Row]) -> u64
+    ensures { result ≡ min (sum_by (λ (r : Seen). waiting r.told.side) rows.now) 18446744073709551615 }
+{
+    let mut total: u64 = 0;
+    for row in rows {
+        total = total.saturating_add(waiting_of(row));
+    }
+    total
+}
