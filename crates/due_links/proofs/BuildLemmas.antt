@@ -1,7 +1,10 @@
 -- The lists as they are made.
-use Rattle.std.proofs.Common.{◌≡◌, ◌≢◌, ℕ, zero, suc, ◌+◌, ◌<◌, inl, inr, List, [], ◌∷◌, ◌++◌, map, length, get_or, set, take, sum_by, replicate, refl, sym, ap, subst, ◌∙◌, arith, length-take, length-set, length-append}
+use Rattle.std.proofs.Common.{◌≡◌, ◌≢◌, ℕ, zero, suc, ◌+◌, ◌<◌, inl, inr, List, [], ◌∷◌, ◌++◌, map, length, get_or}
+use Rattle.std.proofs.Common.{set, take, sum_by, replicate, refl, sym, ap, subst, ◌∙◌, arith, length-take, length-set}
+use Rattle.std.proofs.Common.{length-append}
 use Rattle.std.proofs.lemmas.Bool.{cases_eq}
-use Rattle.std.proofs.lemmas.List.{length-replicate, get_or-replicate, length-map, get_or-set_same, get_or-set_other, get_or_default, same_lists}
+use Rattle.std.proofs.lemmas.List.{length-replicate, get_or-replicate, length-map, get_or-set_same, get_or-set_other}
+use Rattle.std.proofs.lemmas.List.{get_or_default, same_lists}
 use Rattle.std.proofs.lemmas.List.Sums.{sum_by-set, sum_by-cons}
 use Rattle.due_links.specs.declared.links.Item.{Item}
 use Rattle.due_links.specs.declared.nodes.Node.{Node}

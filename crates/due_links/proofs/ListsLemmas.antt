@@ -1,12 +1,17 @@
 -- The lists stay lists when a slot is taken out of one and put last into another.
-use Rattle.std.proofs.Common.{◌≡◌, ◌≢◌, ℕ, ◌+◌, ◌<◌, ◌≤◌, inl, inr, List, [], ◌∷◌, ◌++◌, length, get_or, set, sym, ap, subst, ◌∙◌, arith, length-set}
+use Rattle.std.proofs.Common.{◌≡◌, ◌≢◌, ℕ, ◌+◌, ◌<◌, ◌≤◌, inl, inr, List, [], ◌∷◌, ◌++◌, length, get_or, set, sym, ap}
+use Rattle.std.proofs.Common.{subst, ◌∙◌, arith, length-set}
 use Rattle.std.proofs.lemmas.Bool.{cases_eq}
 use Rattle.std.proofs.lemmas.List.{get_or-set_same, get_or-set_other}
 use Rattle.due_links.specs.declared.links.Item.{Item}
 use Rattle.due_links.specs.declared.nodes.Node.{Node}
 use Rattle.due_links.specs.Nodes.{item_at, unlinked, linked, Each, Off, IsSlotOf, IsList, AreLists}
-use Rattle.due_links.proofs.PathLemmas.{Each-map, Each-append, Each-left, Each-right, Each-drop, Distinct-drop, Distinct-push, Keeps, Path-keep, Path-push, Path-drop, Path-last, Path-first, Path-right}
-use Rattle.due_links.proofs.NodeLemmas.{Between, Behind, length-unlinked, length-linked, item-unlinked, unlinked-keeps, unlinked-skips, item-linked_same, item-linked_other, linked-keeps, linked-puts}
+use Rattle.due_links.proofs.PathLemmas.{Each-map, Each-append, Each-left, Each-right, Each-drop, Distinct-drop}
+use Rattle.due_links.proofs.PathLemmas.{Distinct-push, Keeps, Path-keep, Path-push, Path-drop, Path-last, Path-first}
+use Rattle.due_links.proofs.PathLemmas.{Path-right}
+use Rattle.due_links.proofs.NodeLemmas.{Between, Behind, length-unlinked, length-linked, item-unlinked}
+use Rattle.due_links.proofs.NodeLemmas.{unlinked-keeps, unlinked-skips, item-linked_same, item-linked_other}
+use Rattle.due_links.proofs.NodeLemmas.{linked-keeps, linked-puts}
 
 -- the same items but for x
 abbrev pub SameBut : List Node → List Node → ℕ → Type 0

@@ -4,7 +4,8 @@ use Rattle.std.proofs.lemmas.Bool.{cases_eq}
 use Rattle.std.proofs.lemmas.List.{get_or-set_same, get_or-set_other}
 use Rattle.due_links.specs.declared.links.Item.{Item}
 use Rattle.due_links.specs.declared.nodes.Node.{Node}
-use Rattle.due_links.specs.Nodes.{blank_node, node_at, next_of, prev_of, item_at, with_next, with_prev, tied, unlinked, linked, Tied}
+use Rattle.due_links.specs.Nodes.{blank_node, node_at, next_of, prev_of, item_at, with_next, with_prev, tied}
+use Rattle.due_links.specs.Nodes.{unlinked, linked, Tied}
 use Rattle.due_links.proofs.PathLemmas.{Keeps}
 
 pub at-set_same : (n : List Node) (i : ℕ) (v : Node) → i < length n → node_at (set n i v) i ≡ v

@@ -1,12 +1,14 @@
 -- The lists of `Links`, in the words that a caller sees.
-use Rattle.std.proofs.Common.{◌≡◌, ℕ, ◌+◌, ◌<◌, ◌≤◌, ◌⊎◌, List, [], ◌∷◌, Some, None, drop, length, min, slice_get, sym, ap, subst, ◌∙◌, arith}
+use Rattle.std.proofs.Common.{◌≡◌, ℕ, ◌+◌, ◌<◌, ◌≤◌, ◌⊎◌, List, [], ◌∷◌, Some, None, drop, length, min, slice_get}
+use Rattle.std.proofs.Common.{sym, ap, subst, ◌∙◌, arith}
 use Rattle.due_links.specs.declared.links.Item.{Item}
 use Rattle.due_links.specs.declared.links.Links.TheInside.{Inside}
 use Rattle.due_links.specs.Items.{Contents, IsWhole, Stands, list_at, due_count}
 use Rattle.due_links.specs.Nodes.{next_of, item_at, IsSound, contents, stepped, due_along}
 use Rattle.due_links.proofs.ListsLemmas.{all_within}
 use Rattle.due_links.proofs.ShownLemmas.{seen}
-use Rattle.due_links.proofs.WalkLemmas.{some_first, no_first, first_stands, length-seen, nth_seen, list_is, due_along_is}
+use Rattle.due_links.proofs.WalkLemmas.{some_first, no_first, first_stands, length-seen, nth_seen, list_is}
+use Rattle.due_links.proofs.WalkLemmas.{due_along_is}
 use Rattle.due_links.proofs.WholeLemmas.{whole_of}
 
 -- the fields are seen so

@@ -1,15 +1,21 @@
 -- What callers see of the nodes.
-use Rattle.std.proofs.Common.{◌≡◌, ◌≢◌, ℕ, zero, suc, ◌+◌, ◌-◌, ◌<◌, ◌≤◌, List, [], ◌∷◌, ◌++◌, map, length, get_or, set, take, drop, sum_by, refl, sym, ap, ap₂, subst, ◌∙◌, arith, length-set, length-append, length-drop, length-take, get_or-take}
+use Rattle.std.proofs.Common.{◌≡◌, ◌≢◌, ℕ, zero, suc, ◌+◌, ◌-◌, ◌<◌, ◌≤◌, List, [], ◌∷◌, ◌++◌, map, length, get_or}
+use Rattle.std.proofs.Common.{set, take, drop, sum_by, refl, sym, ap, ap₂, subst, ◌∙◌, arith, length-set}
+use Rattle.std.proofs.Common.{length-append, length-drop, length-take, get_or-take}
 use Rattle.std.proofs.lemmas.Bool.{lt-ltb, le-ltb}
-use Rattle.std.proofs.lemmas.List.{get_or-set_same, get_or-set_other, get_or-map, get_or-drop, get_or_default, length-map, same_lists, map-set, map-append, take-set}
+use Rattle.std.proofs.lemmas.List.{get_or-set_same, get_or-set_other, get_or-map, get_or-drop, get_or_default}
+use Rattle.std.proofs.lemmas.List.{length-map, same_lists, map-set, map-append, take-set}
 use Rattle.std.proofs.Math.Seq.{take-set-lt}
 use Rattle.std.proofs.lemmas.List.Sums.{sum_by-set, get_or-le-sum_by}
 use Rattle.due_links.specs.declared.links.Item.{Item}
 use Rattle.due_links.specs.declared.nodes.Node.{Node}
 use Rattle.due_links.specs.Items.{Stands, IsLive, PutsLast, list_at}
-use Rattle.due_links.specs.Nodes.{blank_node, next_of, item_at, unlinked, linked, moved, CanMove, Path, Each, Off, IsSlotOf, IsList, AreLists, IsSound, walk, walks, shown}
-use Rattle.due_links.proofs.NodeLemmas.{Between, Behind, length-unlinked, item-unlinked, item-linked_same, item-linked_other}
-use Rattle.due_links.proofs.ListsLemmas.{SameBut, AreWithout, all_within, between_of, slot_of, unlinked_are, behind_of, linked_are}
+use Rattle.due_links.specs.Nodes.{blank_node, next_of, item_at, unlinked, linked, moved, CanMove, Path, Each, Off}
+use Rattle.due_links.specs.Nodes.{IsSlotOf, IsList, AreLists, IsSound, walk, walks, shown}
+use Rattle.due_links.proofs.NodeLemmas.{Between, Behind, length-unlinked, item-unlinked, item-linked_same}
+use Rattle.due_links.proofs.NodeLemmas.{item-linked_other}
+use Rattle.due_links.proofs.ListsLemmas.{SameBut, AreWithout, all_within, between_of, slot_of, unlinked_are}
+use Rattle.due_links.proofs.ListsLemmas.{behind_of, linked_are}
 
 pub walk_is : (n : List Node) (slots a b : ℕ) (xs : List ℕ) (k : ℕ) → Path n a xs b → slots ≤ b →
     Each (λ y. y < slots) xs → length xs ≤ k → walk n slots k (next_of n a) ≡ xs

@@ -1,5 +1,6 @@
 -- The first items of the lists, and steps along one.
-use Rattle.std.proofs.Common.{◌≡◌, ℕ, zero, suc, ◌+◌, ◌-◌, ◌<◌, ◌≤◌, ◌⊎◌, inl, inr, List, [], ◌∷◌, Some, None, map, length, get_or, drop, min, slice_get, refl, sym, ap, subst, ◌∙◌, arith, length-take}
+use Rattle.std.proofs.Common.{◌≡◌, ℕ, zero, suc, ◌+◌, ◌-◌, ◌<◌, ◌≤◌, ◌⊎◌, inl, inr, List, [], ◌∷◌, Some, None, map}
+use Rattle.std.proofs.Common.{length, get_or, drop, min, slice_get, refl, sym, ap, subst, ◌∙◌, arith, length-take}
 use Rattle.std.proofs.lemmas.Bool.{cases_lt, lt-ltb, le-ltb, le-leb, lt-leb}
 use Rattle.std.proofs.lemmas.List.{length-map, at_drop_more}
 use Rattle.due_links.specs.declared.links.Item.{Item}

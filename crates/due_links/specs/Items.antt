@@ -1,5 +1,6 @@
 -- Lists of items, each with the slot that it stands in: what contracts see of `Links`.
-use Rattle.std.specs.Prelude.{◌≡◌, ◌≢◌, ℕ, ◌+◌, ◌<◌, nat_le, if◌then◌else◌, List, [], ◌∷◌, ◌++◌, Option, Some, None, length, drop, slice_set, slice_index_or, All, AllPairs}
+use Rattle.std.specs.Prelude.{◌≡◌, ◌≢◌, ℕ, ◌+◌, ◌<◌, nat_le, if◌then◌else◌, List, [], ◌∷◌, ◌++◌, Option, Some, None}
+use Rattle.std.specs.Prelude.{length, drop, slice_set, slice_index_or, All, AllPairs}
 use Rattle.std.specs.List.{flat_map, prefix_len}
 use Rattle.due_links.specs.declared.links.Item.{Item}
 

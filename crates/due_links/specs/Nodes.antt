@@ -1,5 +1,6 @@
 -- How `Links` lays out its lists. No public clause cites this module.
-use Rattle.std.specs.Prelude.{◌≡◌, ◌≢◌, ℕ, zero, suc, ◌+◌, ◌<◌, ◌≤◌, nat_lt, nat_le, cond, sum_by, List, [], ◌∷◌, map, length, take, drop, slice_index_or, slice_set}
+use Rattle.std.specs.Prelude.{◌≡◌, ◌≢◌, ℕ, zero, suc, ◌+◌, ◌<◌, ◌≤◌, nat_lt, nat_le, cond, sum_by, List, [], ◌∷◌, map}
+use Rattle.std.specs.Prelude.{length, take, drop, slice_index_or, slice_set}
 use Rattle.due_links.specs.declared.links.Item.{Item}
 use Rattle.due_links.specs.declared.nodes.Node.{Node}
 use Rattle.due_links.specs.Items.{Contents}

@@ -1,5 +1,6 @@
 //! The lists and their calls.
-ghost use Rattle.std.specs.Prelude.{◌≡◌, [], ◌∷◌, ◌++◌, ◌+◌, ◌<◌, ◌≤◌, length, drop, min, slice_get, replicate, IfOk, IfSome, IfNone, OnSome, option_copied, None};
+ghost use Rattle.std.specs.Prelude.{◌≡◌, [], ◌∷◌, ◌++◌, ◌+◌, ◌<◌, ◌≤◌, length, drop, min, slice_get, replicate, IfOk};
+ghost use Rattle.std.specs.Prelude.{IfSome, IfNone, OnSome, option_copied, None};
 ghost use Rattle.due_links.specs.Items.{
   list_at,
   IsWhole,

@@ -1,5 +1,7 @@
 -- What the calls make of lists and cells that are kept.
-use Rattle.std.proofs.Common.{◌≡◌, ◌≢◌, ℕ, suc, ◌+◌, ◌<◌, ◌≤◌, List, [], ◌∷◌, ◌++◌, Bool, true, false, min, Option, Some, None, option_map, map, length, drop, get_or, set, refl, sym, ap, ap₂, subst, ◌∙◌, arith, append_assoc, length-append}
+use Rattle.std.proofs.Common.{◌≡◌, ◌≢◌, ℕ, suc, ◌+◌, ◌<◌, ◌≤◌, List, [], ◌∷◌, ◌++◌, Bool, true, false, min, Option}
+use Rattle.std.proofs.Common.{Some, None, option_map, map, length, drop, get_or, set, refl, sym, ap, ap₂, subst, ◌∙◌}
+use Rattle.std.proofs.Common.{arith, append_assoc, length-append}
 use Rattle.std.specs.Prelude.{All, AllPairs, slice_get, replicate}
 use Rattle.std.proofs.lemmas.List.{get_or-map, get_or-replicate}
 use Rattle.std.proofs.lemmas.List.Elements.{All-nil, All-cons}
@@ -7,13 +9,18 @@ use Rattle.due_links.specs.declared.links.Item.{Item}
 use Rattle.due_links.specs.Items.{Stands, list_at, first_due}
 use Rattle.rm_timers.specs.declared.table.Cell.{Cell}
 use Rattle.rm_timers.specs.declared.timers.Key.{Key}
-use Rattle.rm_timers.specs.Table.{Each, IsTiedItem, cell_at, with_at, IsTied, NotOwned, class_after, left_of, shifted, with_new, entry_of, entries, waiting, AreFree, IsKept}
-use Rattle.rm_timers.specs.Waits.{Entry, Waiting, StandFor, IsLive, class_at, in_class, by_class, due_in, put_into, emitted, at_slot, without, moved_last, begun, with_emitted, due_at}
+use Rattle.rm_timers.specs.Table.{Each, IsTiedItem, cell_at, with_at, IsTied, NotOwned, class_after, left_of, shifted}
+use Rattle.rm_timers.specs.Table.{with_new, entry_of, entries, waiting, AreFree, IsKept}
+use Rattle.rm_timers.specs.Waits.{Entry, Waiting, StandFor, IsLive, class_at, in_class, by_class, due_in, put_into}
+use Rattle.rm_timers.specs.Waits.{emitted, at_slot, without, moved_last, begun, with_emitted, due_at}
 use Rattle.rm_timers.proofs.PlainLemmas.{moved, at_class, class_place}
 use Rattle.rm_timers.proofs.TimedLemmas.{among, timed_none}
 use Rattle.rm_timers.proofs.TableLemmas.{Each-drop, tied_at}
-use Rattle.rm_timers.proofs.SeenLemmas.{entries_shifted, entries_new, item_of, owned_of, moved_seen, left_seen, not_owned}
-use Rattle.rm_timers.proofs.StandLemmas.{Placed, placed, placed_waits, last_is, rest_is, one_is, stand_moved, stand_left, stand_begun, stand_later, free_left, free_put, LastFree, free_last, free_more}
+use Rattle.rm_timers.proofs.SeenLemmas.{entries_shifted, entries_new, item_of, owned_of, moved_seen, left_seen}
+use Rattle.rm_timers.proofs.SeenLemmas.{not_owned}
+use Rattle.rm_timers.proofs.StandLemmas.{Placed, placed, placed_waits, last_is, rest_is, one_is, stand_moved}
+use Rattle.rm_timers.proofs.StandLemmas.{stand_left, stand_begun, stand_later, free_left, free_put, LastFree}
+use Rattle.rm_timers.proofs.StandLemmas.{free_last, free_more}
 use Rattle.rm_timers.proofs.DueLemmas.{due_seen, first_front}
 
 pub class_low : (urged : Bool) (class : ℕ) → class_after urged class < 7

@@ -1,5 +1,7 @@
 -- What is due, by class and then by place.
-use Rattle.std.proofs.Common.{◌≡◌, ℕ, zero, suc, ◌+◌, ◌-◌, ◌<◌, ◌≤◌, inl, inr, List, [], ◌∷◌, ◌++◌, Bool, ◌==◌, ◌&&◌, nat_le, Option, Some, None, option_map, map, filter, length, drop, get_or, refl, sym, ap, ap₂, subst, ◌∙◌, arith}
+use Rattle.std.proofs.Common.{◌≡◌, ℕ, zero, suc, ◌+◌, ◌-◌, ◌<◌, ◌≤◌, inl, inr, List, [], ◌∷◌, ◌++◌, Bool, ◌==◌, ◌&&◌}
+use Rattle.std.proofs.Common.{nat_le, Option, Some, None, option_map, map, filter, length, drop, get_or, refl, sym}
+use Rattle.std.proofs.Common.{ap, ap₂, subst, ◌∙◌, arith}
 use Rattle.std.specs.Prelude.{All, AllPairs, flat_map, slice_get}
 use Rattle.std.proofs.lemmas.Bool.{cases_Bool, cases_lt, lt-leb, le-leb, eqb-true}
 use Rattle.std.proofs.lemmas.List.{map-append, get_or-map, at_drop_more}

@@ -1,5 +1,6 @@
 -- What the lists and the cells stand for, by class.
-use Rattle.std.proofs.Common.{◌≡◌, ◌≢◌, ℕ, zero, suc, ◌<◌, inl, inr, List, [], ◌∷◌, ◌++◌, ◌==◌, map, length, set, refl, sym, ap, ap₂, ◌∙◌, arith, length-set}
+use Rattle.std.proofs.Common.{◌≡◌, ◌≢◌, ℕ, zero, suc, ◌<◌, inl, inr, List, [], ◌∷◌, ◌++◌, ◌==◌, map, length, set}
+use Rattle.std.proofs.Common.{refl, sym, ap, ap₂, ◌∙◌, arith, length-set}
 use Rattle.std.specs.Prelude.{All}
 use Rattle.std.proofs.lemmas.Bool.{cases_eq}
 use Rattle.std.proofs.lemmas.List.{get_or-set_same, get_or-set_other, get_or-map, length-map, map-set, map-append}
@@ -8,7 +9,8 @@ use Rattle.due_links.specs.declared.links.Item.{Item}
 use Rattle.due_links.specs.Items.{Stands, list_at}
 use Rattle.rm_timers.specs.declared.table.Cell.{Cell}
 use Rattle.rm_timers.specs.declared.timers.Key.{Key}
-use Rattle.rm_timers.specs.Table.{blank_cell, cell_at, with_at, IsTied, IsOwned, NotOwned, Each, left_of, shifted, with_new, entry_of, entries}
+use Rattle.rm_timers.specs.Table.{blank_cell, cell_at, with_at, IsTied, IsOwned, NotOwned, Each, left_of, shifted}
+use Rattle.rm_timers.specs.Table.{with_new, entry_of, entries}
 use Rattle.rm_timers.specs.Waits.{Entry, IsLive, class_at, Waits, in_class, by_class}
 use Rattle.rm_timers.proofs.PlainLemmas.{moved, at_class}
 use Rattle.rm_timers.proofs.TableLemmas.{tied_at}

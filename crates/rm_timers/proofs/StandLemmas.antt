@@ -1,13 +1,16 @@
 -- What each call makes of a plain list that the timers stand for.
-use Rattle.std.proofs.Common.{◌≡◌, ◌≢◌, ℕ, ◌+◌, ◌<◌, ◌≤◌, List, [], ◌∷◌, ◌++◌, length, get_or, set, refl, sym, ap, ap₂, subst, ◌∙◌, arith, length-append}
+use Rattle.std.proofs.Common.{◌≡◌, ◌≢◌, ℕ, ◌+◌, ◌<◌, ◌≤◌, List, [], ◌∷◌, ◌++◌, length, get_or, set, refl, sym, ap}
+use Rattle.std.proofs.Common.{ap₂, subst, ◌∙◌, arith, length-append}
 use Rattle.std.specs.Prelude.{All, AllPairs}
 use Rattle.std.proofs.lemmas.List.{append-nil}
 use Rattle.std.proofs.lemmas.List.Elements.{All-push}
 use Rattle.std.proofs.lemmas.List.Quantifiers.{all_pairs_push}
-use Rattle.rm_timers.specs.Waits.{Entry, Waiting, StandFor, IsLive, Waits, class_at, in_class, put_into, due_in, at_slot, without, moved_last, begun}
+use Rattle.rm_timers.specs.Waits.{Entry, Waiting, StandFor, IsLive, Waits, class_at, in_class, put_into, due_in}
+use Rattle.rm_timers.specs.Waits.{at_slot, without, moved_last, begun}
 use Rattle.rm_timers.specs.declared.timers.Key.{Key}
 use Rattle.rm_timers.specs.Table.{AreFree}
-use Rattle.rm_timers.proofs.PlainLemmas.{All-middle, AllPairs-middle, Differ, one_at, others_at, moved_is, moved, at_class, plain_waits, plain_taken, plain_put, plain_moved, class_place}
+use Rattle.rm_timers.proofs.PlainLemmas.{All-middle, AllPairs-middle, Differ, one_at, others_at, moved_is, moved}
+use Rattle.rm_timers.proofs.PlainLemmas.{at_class, plain_waits, plain_taken, plain_put, plain_moved, class_place}
 use Rattle.rm_timers.proofs.TimedLemmas.{timed_later, among, timed_put}
 
 -- where the entry of a slot stands in a plain list

@@ -1,11 +1,13 @@
 -- The lists and the cells stay tied when a key moves, begins to wait or waits no more.
-use Rattle.std.proofs.Common.{◌≡◌, ◌≢◌, ℕ, ◌<◌, inl, inr, List, [], ◌∷◌, ◌++◌, length, set, refl, sym, ap, subst, ◌∙◌, arith, append_assoc, length-set}
+use Rattle.std.proofs.Common.{◌≡◌, ◌≢◌, ℕ, ◌<◌, inl, inr, List, [], ◌∷◌, ◌++◌, length, set, refl, sym, ap, subst, ◌∙◌}
+use Rattle.std.proofs.Common.{arith, append_assoc, length-set}
 use Rattle.std.proofs.lemmas.Bool.{cases_eq}
 use Rattle.std.proofs.lemmas.List.{get_or-set_same, get_or-set_other}
 use Rattle.due_links.specs.declared.links.Item.{Item}
 use Rattle.due_links.specs.Items.{Stands, IsLive, list_at}
 use Rattle.rm_timers.specs.declared.table.Cell.{Cell}
-use Rattle.rm_timers.specs.Table.{blank_cell, cell_at, with_at, Each, IsTiedItem, IsTied, left_of, shifted, NotOwned, with_new}
+use Rattle.rm_timers.specs.Table.{blank_cell, cell_at, with_at, Each, IsTiedItem, IsTied, left_of, shifted, NotOwned}
+use Rattle.rm_timers.specs.Table.{with_new}
 
 pub Each-map : (P Q : Item → Type 0) → ((x : Item) → P x → Q x) → (xs : List Item) → Each P xs → Each Q xs
 Each-map P Q f [] h = tt

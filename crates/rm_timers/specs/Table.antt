@@ -1,6 +1,7 @@
 -- How timers keep their keys: an item of a list names the slot of the timers, whose cell names the slot of the list.
 -- No public clause cites this module.
-use Rattle.std.specs.Prelude.{◌≡◌, ◌≢◌, ℕ, ◌+◌, ◌<◌, ◌≤◌, Bool, true, false, cond, min, nat_le, List, [], ◌∷◌, ◌++◌, map, length, slice_index_or, slice_set, All, AllPairs, flat_map}
+use Rattle.std.specs.Prelude.{◌≡◌, ◌≢◌, ℕ, ◌+◌, ◌<◌, ◌≤◌, Bool, true, false, cond, min, nat_le, List, [], ◌∷◌, ◌++◌}
+use Rattle.std.specs.Prelude.{map, length, slice_index_or, slice_set, All, AllPairs, flat_map}
 use Rattle.due_links.specs.declared.links.Item.{Item}
 use Rattle.due_links.specs.Items.{Stands, list_at}
 use Rattle.rm_timers.specs.declared.table.Cell.{Cell}

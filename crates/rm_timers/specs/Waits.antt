@@ -1,5 +1,7 @@
 -- What waits to be emitted: one plain list in the order of the last move, and what each call of the timers makes of it.
-use Rattle.std.specs.Prelude.{◌≡◌, ◌≢◌, ℕ, zero, suc, ◌+◌, ◌*◌, ◌^◌, ◌<◌, ◌≤◌, ◌==◌, ◌&&◌, not, min, nat_le, List, [], ◌∷◌, ◌++◌, map, filter, length, Option, Some, None, slice_index_or, All, AllPairs, flat_map}
+use Rattle.std.specs.Prelude.{◌≡◌, ◌≢◌, ℕ, zero, suc, ◌+◌, ◌*◌, ◌^◌, ◌<◌, ◌≤◌, ◌==◌, ◌&&◌, not, min, nat_le, List, []}
+use Rattle.std.specs.Prelude.{◌∷◌, ◌++◌, map, filter, length, Option, Some, None, slice_index_or, All, AllPairs}
+use Rattle.std.specs.Prelude.{flat_map}
 use Rattle.rm_timers.specs.declared.timers.Key.{Key}
 
 -- a key that waits: the slot that its caller keeps, its class, and when it is due

@@ -1,5 +1,6 @@
 //! The lists of the classes beside the cells of the slots that callers keep: each move is made in both.
-ghost use Rattle.std.specs.Prelude.{◌≡◌, ◌≢◌, ◌+◌, ◌<◌, ◌≤◌, ℕ, [], ◌∷◌, ◌++◌, length, drop, slice_get, slice_set, option_map, IfOk, MatchResult, All, AllPairs, vec_capacity, false, Some, None};
+ghost use Rattle.std.specs.Prelude.{◌≡◌, ◌≢◌, ◌+◌, ◌<◌, ◌≤◌, ℕ, [], ◌∷◌, ◌++◌, length, drop, slice_get, slice_set};
+ghost use Rattle.std.specs.Prelude.{option_map, IfOk, MatchResult, All, AllPairs, vec_capacity, false, Some, None};
 ghost use Rattle.due_links.specs.declared.links.Item.{Item};
 ghost use Rattle.due_links.specs.Items.{Stands, first_due, list_at, due_count};
 ghost use Rattle.rm_timers.specs.Table.{

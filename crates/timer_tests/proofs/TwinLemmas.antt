@@ -1,10 +1,12 @@
 -- A slot that waits goes on to wait.
-use Rattle.std.proofs.Common.{◌≡◌, ◌≢◌, ℕ, suc, ◌<◌, inl, inr, List, [], ◌∷◌, ◌++◌, map, length, Option, Some, None, get_or, refl, sym, subst, ◌∙◌}
+use Rattle.std.proofs.Common.{◌≡◌, ◌≢◌, ℕ, suc, ◌<◌, inl, inr, List, [], ◌∷◌, ◌++◌, map, length, Option, Some, None}
+use Rattle.std.proofs.Common.{get_or, refl, sym, subst, ◌∙◌}
 use Rattle.std.specs.Prelude.{All, take, drop}
 use Rattle.std.specs.List.{remove}
 use Rattle.std.proofs.lemmas.Bool.{cases_eq, eq-eqb, ne_eqb}
 use Rattle.std.proofs.lemmas.List.Elements.{All-append, All-take, All-drop, All-weaker, All-push}
-use Rattle.rm_timers.specs.Waits.{Entry, Waiting, StandFor, IsLive, at_slot, without, moved_last, begun, with_emitted, emitted}
+use Rattle.rm_timers.specs.Waits.{Entry, Waiting, StandFor, IsLive, at_slot, without, moved_last, begun}
+use Rattle.rm_timers.specs.Waits.{with_emitted, emitted}
 use Rattle.rm_timers.specs.Laws.{LiveIsWaiting}
 use Rattle.rm_timers.specs.declared.timers.Key.{Key}
 use Rattle.timer_tests.specs.declared.plain.Plain.{Plain}

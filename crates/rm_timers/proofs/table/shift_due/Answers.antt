@@ -1,4 +1,5 @@
-use Rattle.std.proofs.Common.{◌≡◌, ℕ, List, [], ◌∷◌, ◌++◌, false, Some, option_map, drop, sym, ap, subst, ◌∙◌, arith, set}
+use Rattle.std.proofs.Common.{◌≡◌, ℕ, List, [], ◌∷◌, ◌++◌, false, Some, option_map, drop, sym, ap, subst, ◌∙◌, arith}
+use Rattle.std.proofs.Common.{set}
 use Rattle.due_links.specs.declared.links.Item.{Item}
 use Rattle.due_links.specs.Items.{Stands, IsLive, list_at}
 use Rattle.rm_timers.specs.declared.table.Cell.{Cell}
