@@ -155,33 +155,73 @@ const ENVELOPE: &[u8] = b"<?xml version=\"1.0\" encoding=\"UTF-8\"?><!-- x --><S
         S:mustUnderstand=\"1\"><rm:Identifier>urn:q</rm:Identifier><rm:MessageNumber> 07 \
         </rm:MessageNumber></rm:Sequence></S:Header><S:Body><o:x/></S:Body></S:Envelope>";
 
-const ENVELOPE_TEXT: &[u8] =
-    b"headers 2\npayload 3c6f3a782f3e\nscope S http://www.w3.org/2003/05/soap-envelope\nscope o urn:o\n\
+const ENVELOPE_TEXT: &[u8] = b"kind payload\nto http://www.w3.org/2005/08/addressing/anonymous\n\
+        action urn:buy&sell\nsequence urn:q 7\npayload 3c6f3a782f3e\n\
+        scope S http://www.w3.org/2003/05/soap-envelope\nscope o urn:o\n\
         scope rm http://docs.oasis-open.org/ws-rx/wsrm/200702\nscope wsa http://www.w3.org/2005/08/addressing\n";
 
 // A small envelope whose payload is so many spaces.
 fn padded(alloc: Global, spaces: u32) -> Result<Blob, Memory> {
     let mut bytes = Blob::from_slice(
         alloc,
-        b"<Envelope xmlns=\"http://www.w3.org/2003/05/soap-envelope\"><Body>",
+        b"<Envelope xmlns=\"http://www.w3.org/2003/05/soap-envelope\"><Header><Action \
+            xmlns=\"http://www.w3.org/2005/08/addressing\">urn:a</Action></Header><Body>",
     )?;
     bytes.push_all(repeated(alloc, b" ", spaces)?.as_slice())?;
     bytes.push_all(b"</Body></Envelope>")?;
     Ok(bytes)
 }
 
+// The envelope with this as its message number.
+fn numbered(alloc: Global, number: &[u8]) -> Result<Blob, Memory> {
+    let mut bytes = Blob::from_slice(alloc, &ENVELOPE[..NUMBER_AT])?;
+    bytes.push_all(number)?;
+    bytes.push_all(&ENVELOPE[NUMBER_AT + 4..])?;
+    Ok(bytes)
+}
+
+// The place of ` 07 ` in the envelope.
+const NUMBER_AT: usize = 391;
+
+// The envelope with one header block more.
+fn with_block(alloc: Global, block: &[u8]) -> Result<Blob, Memory> {
+    let mut bytes = Blob::from_slice(alloc, &ENVELOPE[..HEADER_END])?;
+    bytes.push_all(block)?;
+    bytes.push_all(&ENVELOPE[HEADER_END..])?;
+    Ok(bytes)
+}
+
+// The place of the end tag of Header in the envelope.
+const HEADER_END: usize = 428;
+
 #[test]
 fn checks(rt: HostRuntime) -> Result<(), Fail> {
-    let longest = padded(rt.alloc(), 2097070)?;
-    let longer = padded(rt.alloc(), 2097071)?;
+    let alloc = rt.alloc();
+    let longest = padded(alloc, 2096986)?;
+    let longer = padded(alloc, 2096987)?;
     let cut = ENVELOPE.split_at(ENVELOPE.len() - 1).0;
-    // the bytes, the status, and how what is printed ends
-    let cases: [(&[u8], u8, &[u8]); 10] = [
+    let greatest = numbered(alloc, b"9223372036854775807")?;
+    let over = numbered(alloc, b"9223372036854775808")?;
+    let none = numbered(alloc, b"0")?;
+    let strange = with_block(alloc, b"<x:h xmlns:x=\"urn:x\" S:mustUnderstand=\"1\"/>")?;
+    let passed = with_block(alloc, b"<x:h xmlns:x=\"urn:x\" S:mustUnderstand=\"0\"/>")?;
+    // the bytes, the status, and how what is printed begins
+    let cases: [(&[u8], u8, &[u8]); 14] = [
         (ENVELOPE, 0, ENVELOPE_TEXT),
+        (passed.as_slice(), 0, ENVELOPE_TEXT),
+        (
+            greatest.as_slice(),
+            0,
+            b"kind payload\nto http://www.w3.org/2005/08/addressing/anonymous\naction urn:buy&sell\n\
+                sequence urn:q 9223372036854775807\n",
+        ),
+        (over.as_slice(), 9, b"fault Rollover\n"),
+        (none.as_slice(), 9, b"fault Malformed\n"),
+        (strange.as_slice(), 9, b"fault NotUnderstood\n"),
         (
             longest.as_slice(),
             0,
-            b"2020\nscope  http://www.w3.org/2003/05/soap-envelope\n",
+            b"kind payload\nto http://www.w3.org/2005/08/addressing/anonymous\naction urn:a\npayload 2020",
         ),
         (longer.as_slice(), 8, b"too long\n"),
         (cut, 9, b"fault NotProfile\n"),
@@ -198,21 +238,67 @@ fn checks(rt: HostRuntime) -> Result<(), Fail> {
             9,
             b"fault NotEnvelope\n",
         ),
-        // a prefix of two bytes and a namespace with a space and a percent sign
-        (
-            b"<e:Envelope xmlns:e='http://www.w3.org/2003/05/soap-envelope' xmlns:\xc3\xa9='a \
-                %~'><e:Body/></e:Envelope>",
-            0,
-            b"headers 0\npayload \nscope e http://www.w3.org/2003/05/soap-envelope\nscope %C3%A9 a%20%25~\n",
-        ),
     ];
     for (input, want, text) in cases {
         let (status, out) = run_whole(rt.alloc(), given(CHECK, input, None))?;
         assert_eq!(rt; status, want, "before {text:?}");
-        assert!(rt; out.as_slice().ends_with(text), "{text:?}");
-        if input.len() < 1000 {
-            assert_eq!(rt; out.as_slice().len(), text.len(), "{text:?}");
-        }
+        assert!(rt; out.as_slice().starts_with(text), "{text:?}");
+    }
+    Ok(())
+}
+
+// Of each kind of message: its lines, but for those of the addressing properties and of bindings.
+const TAIL: &[u8] = b"</Header><Body>";
+
+#[test]
+fn kinds_of_messages(rt: HostRuntime) -> Result<(), Fail> {
+    let head: &[u8] = b"<Envelope xmlns=\"http://www.w3.org/2003/05/soap-envelope\" \
+        xmlns:a=\"http://www.w3.org/2005/08/addressing\" \
+        xmlns:r=\"http://docs.oasis-open.org/ws-rx/wsrm/200702\" \
+        xmlns:c=\"http://docs.oasis-open.org/ws-rx/wsmc/200702\"><Header>";
+    // the header blocks, what stands in Body, and what is printed
+    let cases: [(&[u8], &[u8], &[u8]); 4] = [
+        (
+            b"<a:Action>http://docs.oasis-open.org/ws-rx/wsrm/200702/SequenceAcknowledgement</a:Action>\
+                <r:SequenceAcknowledgement><r:Identifier>urn:q</r:Identifier>\
+                <r:AcknowledgementRange Lower=\"4\" Upper=\"5\"/><r:AcknowledgementRange Lower=\"1\" Upper=\"2\"/>\
+                <r:Final/></r:SequenceAcknowledgement><r:SequenceAcknowledgement>\
+                <r:Identifier>urn:n</r:Identifier><r:Nack>3</r:Nack><r:Nack>9</r:Nack></r:SequenceAcknowledgement>\
+                <r:AckRequested><r:Identifier>urn:q z</r:Identifier></r:AckRequested>\
+                <c:MessagePending pending=\"true\"/>",
+            b"",
+            b"kind empty\nto http://www.w3.org/2005/08/addressing/anonymous\n\
+                action http://docs.oasis-open.org/ws-rx/wsrm/200702/SequenceAcknowledgement\n\
+                ack urn:q 4-5,1-2 final\nack urn:n nack 3,9\nask urn:q%20z\npending true\n",
+        ),
+        (
+            b"<a:To>urn:t</a:To><a:Action>http://docs.oasis-open.org/ws-rx/wsrm/200702/CreateSequence</a:Action>\
+                <a:MessageID>urn:m</a:MessageID>",
+            b"<r:CreateSequence><r:AcksTo><a:Address>urn:b</a:Address></r:AcksTo></r:CreateSequence>",
+            b"kind create\nto urn:t\naction http://docs.oasis-open.org/ws-rx/wsrm/200702/CreateSequence\nid urn:m\n",
+        ),
+        (
+            b"<a:Action>http://docs.oasis-open.org/ws-rx/wsrm/200702/CloseSequence</a:Action>",
+            b"<r:CloseSequence><r:Identifier>urn:q</r:Identifier><r:LastMsgNumber>3</r:LastMsgNumber></r:CloseSequence>",
+            b"kind close\nto http://www.w3.org/2005/08/addressing/anonymous\n\
+                action http://docs.oasis-open.org/ws-rx/wsrm/200702/CloseSequence\nident urn:q\nlast 3\n",
+        ),
+        (
+            b"<a:Action>http://www.w3.org/2005/08/addressing/soap/fault</a:Action><a:RelatesTo>urn:m</a:RelatesTo>",
+            b"<Fault><Code><Value>Sender</Value></Code><Reason><Text xml:lang=\"en\">no</Text></Reason></Fault>",
+            b"kind fault\nto http://www.w3.org/2005/08/addressing/anonymous\n\
+                action http://www.w3.org/2005/08/addressing/soap/fault\nrelates urn:m\ncode Sender\n",
+        ),
+    ];
+    for (blocks, body, text) in cases {
+        let mut input = Blob::from_slice(rt.alloc(), head)?;
+        input.push_all(blocks)?;
+        input.push_all(TAIL)?;
+        input.push_all(body)?;
+        input.push_all(b"</Body></Envelope>")?;
+        let (status, out) = run_whole(rt.alloc(), given(CHECK, input.as_slice(), None))?;
+        assert_eq!(rt; status, 0, "before {text:?}");
+        assert_eq!(rt; out.as_slice(), text);
     }
     Ok(())
 }

@@ -1,18 +1,18 @@
--- What of envelopes and of scripts excludes what, and which status comes of their bytes.
-use Rattle.std.proofs.Common.{◌≡◌, ℕ, ◌≤◌, ◌<◌, List, length, take, refl, arith}
-use Rattle.std.proofs.lemmas.List.{take_all}
+-- What of messages and of scripts excludes what, and which status comes of their bytes.
+use Rattle.std.proofs.Common.{◌≡◌, ℕ, ◌≤◌, ◌<◌, List, length, true, refl, arith}
 use Rattle.std.specs.Prelude.{IfSome}
-use Rattle.std.specs.Str.{IsUtf8}
-use Rattle.soap_document.specs.Grammar.{IsDocument}
-use Rattle.soap_document.specs.Tree as written
-use Rattle.soap_profile.specs.Document.{IsLongestText}
 use Rattle.soap_profile.specs.Soap.{soap_space}
-use Rattle.soap_envelope.specs.Envelope.{Envelope, IsEnvelope}
-use Rattle.soap_envelope.specs.Refusals as refusals
+use Rattle.rm_message.specs.declared.message.Message.{Message}
+use Rattle.rm_message.specs.declared.refusal.FaultKind.TheVariants as kinds
+use Rattle.rm_message.specs.declared.refusal.Refusal.{Refusal}
+use Rattle.message_reader.specs.Message.{Wrong}
+use Rattle.message_reader.specs.Message as wrongs
+use Rattle.message_reader.specs.Refusals.{Spells, Refuses, refusal_of}
+use Rattle.message_reader.specs.Refusals as refused
 use Rattle.rm_world.specs.declared.event.Event.{Event}
 use Rattle.rm_world.specs.Script.{lines_of, IsScript, IsFirstBad}
 use Rattle.rm_world.specs.World.{World}
-use Rattle.rm_command.specs.Check.{HasFault, IsTextOf, RefusesEnvelope, IsAnEnvelope, IsCheckStatus}
+use Rattle.rm_command.specs.Check.{HasFault, IsTextOf, RefusesMessage, IsAMessage, IsCheckStatus, is_of_bytes}
 use Rattle.rm_command.specs.Replay.{IsReportOf, IsCutShortOf, RefusesScript, IsAScript, IsReplayStatus}
 use Rattle.rm_command.specs.Edge.{Edge}
 use Rattle.rm_command.specs.Run.{RunsReplay, RunsCheck}
@@ -21,52 +21,47 @@ use Rattle.rm_command.proofs.RunLemmas.{filter_status}
 use Rattle.rm_command.specs.declared.end.End.{End}
 use Rattle.rm_command.specs.declared.end.End.TheVariants.{Done, Usage, BadLine, ReadFault, WriteFault, TooLong}
 use Rattle.rm_command.specs.declared.end.End.TheVariants.{Refused, Memory}
-use Rattle.rm_command.specs.declared.end.Fault.{Fault}
-use Rattle.rm_command.specs.declared.end.Fault.TheVariants.{NotUtf8, NotProfile, WrongVersion, NotEnvelope}
-use Rattle.rm_command.specs.declared.end.Fault.TheVariants.{Malformed, SecurityUnsupported}
 
--- bytes of which a shorter front is the longest text are no text
-pub IsLongestText-not : (bytes : List ℕ) (place : ℕ) → place < length bytes → IsLongestText bytes place
-    → ¬ (IsUtf8 bytes)
-IsLongestText-not bytes place inside front valid =
-    let whole : take (length bytes) bytes ≡ bytes = take_all (length bytes) bytes (omega arith) in
-    let over : length bytes ≤ place = front.longest (length bytes) (omega arith) (rw whole valid) in
-    omega arith
+-- the kind of an envelope without a message
+wrong_kind : (wrong : Wrong) → is_of_bytes (refusal_of wrong).kind ≡ true
+wrong_kind (wrongs.NotUnderstood names) = refl
+wrong_kind wrongs.Cardinality = refl
+wrong_kind wrongs.HeaderMissing = refl
+wrong_kind wrongs.BadHeader = refl
+wrong_kind (wrongs.Malformed addressing) = refl
+wrong_kind (wrongs.Rollover addressing ident) = refl
 
-module _ (utf8 : (bytes : List ℕ) (root : written.Element) → IsDocument bytes root → IsUtf8 bytes)
-    (version : (bytes : List ℕ) (e : Envelope) → IsEnvelope soap_space bytes e
-    → ¬ (refusals.WrongVersion soap_space bytes))
-    (outline : (bytes : List ℕ) (e : Envelope) → IsEnvelope soap_space bytes e
-    → ¬ (refusals.NotEnvelope soap_space bytes)) where
-  -- an envelope has no fault
-  no_fault : (bytes : List ℕ) (fault : Fault) → HasFault bytes fault → (e : Envelope) → IsEnvelope soap_space bytes e
-      → ⊥
-  no_fault bytes NotUtf8 fault e is = fault (utf8 bytes is.raw is.document)
-  no_fault bytes NotProfile fault e is =
-      fault.1 _ (record { raw = is.raw; is = is.document; resolved = is.resolved })
-  no_fault bytes WrongVersion fault e is = version bytes e is fault
-  no_fault bytes NotEnvelope fault e is = outline bytes e is fault
-  no_fault bytes Malformed fault e is = fault
-  no_fault bytes SecurityUnsupported fault e is = fault
+-- bytes that are not too long are refused for another reason that lies in them
+pub refused_kind : (bytes : List ℕ) (refusal : Refusal) → Refuses soap_space bytes refusal → length bytes ≤ 2097152
+    → is_of_bytes refusal.kind ≡ true
+refused_kind bytes _ (refused.too_long long) short = absurd (omega (arith, long, short))
+refused_kind bytes _ (refused.not_utf8 place is) short = refl
+refused_kind bytes _ (refused.not_profile none) short = refl
+refused_kind bytes _ (refused.wrong_version readable is) short = refl
+refused_kind bytes _ (refused.not_envelope readable is) short = refl
+refused_kind bytes _ (refused.without_message wrong e readable is reads) short = wrong_kind wrong
 
-  -- what check refuses is no envelope, and has status 9
-  pub refused_envelope : (bytes : List ℕ) (end : End) → RefusesEnvelope bytes end
-      → (¬ (IsAnEnvelope bytes)) × (status_of end ≡ 9)
-  refused_envelope bytes Done refuses = absurd refuses
-  refused_envelope bytes Usage refuses = absurd refuses
-  refused_envelope bytes (BadLine line) refuses = absurd refuses
-  refused_envelope bytes ReadFault refuses = absurd refuses
-  refused_envelope bytes WriteFault refuses = absurd refuses
-  refused_envelope bytes TooLong refuses = absurd refuses
-  refused_envelope bytes (Refused fault) refuses = (λ is. no_fault bytes fault refuses is.0 is.1, refl)
-  refused_envelope bytes Memory refuses = absurd refuses
+module _ (never : (soap bytes : List ℕ) (m : Message) (refusal : Refusal) → Spells soap bytes m
+    → ¬ (Refuses soap bytes refusal)) where
+  -- what check refuses is no message, and has status 9
+  pub refused_message : (bytes : List ℕ) (end : End) → RefusesMessage bytes end
+      → (¬ (IsAMessage bytes)) × (status_of end ≡ 9)
+  refused_message bytes Done refuses = absurd refuses
+  refused_message bytes Usage refuses = absurd refuses
+  refused_message bytes (BadLine line) refuses = absurd refuses
+  refused_message bytes ReadFault refuses = absurd refuses
+  refused_message bytes WriteFault refuses = absurd refuses
+  refused_message bytes TooLong refuses = absurd refuses
+  refused_message bytes (Refused fault) refuses =
+      (λ is. never soap_space bytes is.0 refuses.refusal is.1 refuses.refuses, refl)
+  refused_message bytes Memory refuses = absurd refuses
 
-  -- which status comes of the bytes of an envelope
+  -- which status comes of the bytes of a message
   pub check_status : {S K : Type 0} {e : Edge S K} {end : End} → RunsCheck end e
       → IfSome e.input.left (λ bytes. IsCheckStatus bytes (status_of end))
   check_status {S} {K} {e} {end} ran =
-      filter_status 2097152 9 (Unit {0}) IsTextOf (λ _. ⊥) RefusesEnvelope IsAnEnvelope
-      (λ bytes text prints. (prints.envelope, prints.is)) refused_envelope e end ran.ends
+      filter_status 2097152 9 (Unit {0}) IsTextOf (λ _. ⊥) RefusesMessage IsAMessage
+      (λ bytes text prints. (prints.message, prints.spells)) refused_message e end ran.ends
 
 module _ (never_bad : (lines : List (List ℕ)) (events : List Event) (line : ℕ) → IsScript lines events
     → ¬ (IsFirstBad lines line)) (old new : World) where

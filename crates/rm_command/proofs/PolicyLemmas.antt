@@ -15,7 +15,8 @@ use Rattle.rm_command.specs.declared.end.End.TheVariants.{Done, Usage, BadLine, 
 use Rattle.rm_command.specs.declared.end.End.TheVariants.{Refused, Memory}
 use Rattle.rm_command.specs.declared.end.Fault.{Fault}
 use Rattle.rm_command.specs.declared.end.Fault.TheVariants.{NotUtf8, NotProfile, WrongVersion, NotEnvelope}
-use Rattle.rm_command.specs.declared.end.Fault.TheVariants.{Malformed, SecurityUnsupported}
+use Rattle.rm_command.specs.declared.end.Fault.TheVariants.{NotUnderstood, Cardinality, HeaderMissing, BadHeader}
+use Rattle.rm_command.specs.declared.end.Fault.TheVariants.{Malformed, Rollover, SecurityUnsupported}
 
 -- a value is no error
 differ : (a : Assertion) (error : PolicyError) → Ok a ≡ Err error → ⊥
@@ -30,6 +31,11 @@ module _ (reading : (bytes : List ℕ) (one other : Result Assertion PolicyError
   no_fault bytes NotProfile fault a is = fault.1 is.root is.document
   no_fault bytes WrongVersion fault a is = fault
   no_fault bytes NotEnvelope fault a is = fault
+  no_fault bytes NotUnderstood fault a is = fault
+  no_fault bytes Cardinality fault a is = fault
+  no_fault bytes HeaderMissing fault a is = fault
+  no_fault bytes BadHeader fault a is = fault
+  no_fault bytes Rollover fault a is = fault
   no_fault bytes Malformed fault a is =
       differ a errors.Malformed (reading bytes (Ok a) (Err errors.Malformed) is fault)
   no_fault bytes SecurityUnsupported fault a is = differ a (errors.SecurityUnsupported fault.0)

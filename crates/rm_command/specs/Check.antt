@@ -1,75 +1,74 @@
 -- What a run of `wsrm check` is, by how it ended, and what it prints.
-use Rattle.std.specs.Prelude.{◌≡◌, ℕ, ◌/◌, ◌%◌, ◌&&◌, ◌==◌, not, nat_le, Bool, if◌then◌else◌, List, [], ◌∷◌, ◌++◌}
-use Rattle.std.specs.Prelude.{length, slice_index, codes, decimal}
-use Rattle.std.specs.List.{flat_map}
-use Rattle.std.specs.Str.{IsUtf8}
-use Rattle.hex.specs.Hex.{encode_lower, upper_digits}
-use Rattle.rm_base.specs.declared.message.Binding.{Binding}
-use Rattle.soap_profile.specs.Document.{Document}
+use Rattle.std.specs.Prelude.{◌≡◌, ℕ, Bool, true, false, List, Option, Some, None}
 use Rattle.soap_profile.specs.Soap.{soap_space}
-use Rattle.soap_profile.specs.Tree.{Element}
-use Rattle.soap_envelope.specs.Envelope.{Envelope, IsEnvelope}
-use Rattle.soap_envelope.specs.Refusals as refusals
+use Rattle.rm_message.specs.declared.message.Message.{Message}
+use Rattle.rm_message.specs.declared.refusal.FaultKind.{FaultKind}
+use Rattle.rm_message.specs.declared.refusal.FaultKind.TheVariants as kinds
+use Rattle.rm_message.specs.declared.refusal.Refusal.{Refusal}
+use Rattle.message_reader.specs.Refusals.{Spells, Refuses}
+use Rattle.message_lines.specs.Lines.{message_lines}
 use Rattle.rm_command.specs.declared.end.End.{End}
 use Rattle.rm_command.specs.declared.end.End.TheVariants.{Refused}
 use Rattle.rm_command.specs.declared.end.Fault.{Fault}
 use Rattle.rm_command.specs.declared.end.Fault.TheVariants.{NotUtf8, NotProfile, WrongVersion, NotEnvelope}
-use Rattle.rm_command.specs.declared.end.Fault.TheVariants.{Malformed, SecurityUnsupported}
+use Rattle.rm_command.specs.declared.end.Fault.TheVariants.{NotUnderstood, Cardinality, HeaderMissing, BadHeader}
+use Rattle.rm_command.specs.declared.end.Fault.TheVariants.{Malformed, Rollover, SecurityUnsupported}
 use Rattle.rm_command.specs.Edge.{Edge}
 use Rattle.rm_command.specs.Filter.{EndsFilter, IsFilterStatus}
 
--- the byte is a visible character of ASCII, and no %
-abbrev pub is_plain : ℕ → Bool
-is_plain byte = nat_le 0x21 byte && nat_le byte 0x7e && not (byte == 0x25)
+-- the kind of a fault; none of messages speaks of security
+abbrev pub kind_of : Fault → Option FaultKind
+kind_of NotUtf8 = Some kinds.NotUtf8
+kind_of NotProfile = Some kinds.NotProfile
+kind_of WrongVersion = Some kinds.WrongVersion
+kind_of NotEnvelope = Some kinds.NotEnvelope
+kind_of NotUnderstood = Some kinds.NotUnderstood
+kind_of Cardinality = Some kinds.Cardinality
+kind_of HeaderMissing = Some kinds.HeaderMissing
+kind_of BadHeader = Some kinds.BadHeader
+kind_of Malformed = Some kinds.Malformed
+kind_of Rollover = Some kinds.Rollover
+kind_of SecurityUnsupported = None
 
--- a byte as it is, or as % and two digits
-abbrev pub escaped_byte : ℕ → List ℕ
-escaped_byte byte =
-    if is_plain byte then byte ∷ []
-    else 0x25 ∷ slice_index upper_digits (byte / 16) ∷ slice_index upper_digits (byte % 16) ∷ []
+-- the kinds of refusals that depend on the bytes alone, but for that of their length
+abbrev pub is_of_bytes : FaultKind → Bool
+is_of_bytes kinds.NotUtf8 = true
+is_of_bytes kinds.NotProfile = true
+is_of_bytes kinds.WrongVersion = true
+is_of_bytes kinds.NotEnvelope = true
+is_of_bytes kinds.NotUnderstood = true
+is_of_bytes kinds.Cardinality = true
+is_of_bytes kinds.HeaderMissing = true
+is_of_bytes kinds.BadHeader = true
+is_of_bytes kinds.Malformed = true
+is_of_bytes kinds.Rollover = true
+is_of_bytes _ = false
 
--- bytes, each so
-abbrev pub escaped : List ℕ → List ℕ
-escaped bytes = flat_map escaped_byte bytes
+-- why bytes spell no message: the first kind that holds
+pub record HasFault (bytes : List ℕ) (fault : Fault) : Type 0 where
+  pub refusal : Refusal
+  pub refuses : Refuses soap_space bytes refusal
+  pub kind : kind_of fault ≡ Some refusal.kind
 
--- scope PREFIX NS
-abbrev pub scope_line : Binding → List ℕ
-scope_line b = codes "scope " ++ escaped b.prefix ++ codes " " ++ escaped b.space ++ codes "\n"
-
--- headers N, payload HEX, and a line for each binding of the payload's scope
-abbrev pub check_text : Envelope → List ℕ
-check_text e =
-    codes "headers " ++ decimal (length e.headers) ++ codes "\npayload " ++ encode_lower e.payload ++ codes "\n"
-    ++ flat_map scope_line e.scope
-
--- why bytes are no envelope, the first that holds
-abbrev pub HasFault : List ℕ → Fault → Type 0
-HasFault bytes NotUtf8 = ¬ (IsUtf8 bytes)
-HasFault bytes NotProfile = IsUtf8 bytes × ((tree : Element) → ¬ (Document bytes tree))
-HasFault bytes WrongVersion = refusals.WrongVersion soap_space bytes
-HasFault bytes NotEnvelope = refusals.NotEnvelope soap_space bytes
-HasFault bytes Malformed = ⊥
-HasFault bytes SecurityUnsupported = ⊥
-
--- the bytes are an envelope, and this is what is printed of it
+-- the bytes spell a message, and this is what is printed of it
 pub record IsTextOf (bytes text : List ℕ) : Type 0 where
-  pub envelope : Envelope
-  pub is : IsEnvelope soap_space bytes envelope
-  pub printed : text ≡ check_text envelope
+  pub message : Message
+  pub spells : Spells soap_space bytes message
+  pub printed : text ≡ message_lines message
 
 -- why check refuses bytes
-abbrev pub RefusesEnvelope : List ℕ → End → Type 0
-RefusesEnvelope bytes (Refused fault) = HasFault bytes fault
-RefusesEnvelope bytes _ = ⊥
+abbrev pub RefusesMessage : List ℕ → End → Type 0
+RefusesMessage bytes (Refused fault) = HasFault bytes fault
+RefusesMessage bytes _ = ⊥
 
 -- what check did, by how it ended
 abbrev pub EndsCheck : {S K : Type 0} → End → Edge S K → Type 0
-EndsCheck end e = EndsFilter 2097152 (Unit {0}) IsTextOf (λ _. ⊥) RefusesEnvelope end e
+EndsCheck end e = EndsFilter 2097152 (Unit {0}) IsTextOf (λ _. ⊥) RefusesMessage end e
 
--- the bytes are an envelope of SOAP 1.2
-abbrev pub IsAnEnvelope : List ℕ → Type 0
-IsAnEnvelope bytes = (e : Envelope) × IsEnvelope soap_space bytes e
+-- the bytes spell a message, in SOAP 1.2
+abbrev pub IsAMessage : List ℕ → Type 0
+IsAMessage bytes = (m : Message) × Spells soap_space bytes m
 
--- of an envelope comes 0, of other bytes 9, of more bytes 8, unless the input, the output or the machine fails
+-- of a message comes 0, of other bytes 9, of more bytes 8, unless the input, the output or the machine fails
 abbrev pub IsCheckStatus : List ℕ → ℕ → Type 0
-IsCheckStatus bytes status = IsFilterStatus 2097152 9 (IsAnEnvelope bytes) bytes status
+IsCheckStatus bytes status = IsFilterStatus 2097152 9 (IsAMessage bytes) bytes status

@@ -12,7 +12,7 @@ use Rattle.rm_policy.specs.declared.error.PolicyError.TheVariants as errors
 use Rattle.rm_command.specs.declared.end.End.{End}
 use Rattle.rm_command.specs.declared.end.End.TheVariants.{Refused}
 use Rattle.rm_command.specs.declared.end.Fault.{Fault}
-use Rattle.rm_command.specs.declared.end.Fault.TheVariants.{NotUtf8, NotProfile, WrongVersion, NotEnvelope}
+use Rattle.rm_command.specs.declared.end.Fault.TheVariants.{NotUtf8, NotProfile}
 use Rattle.rm_command.specs.declared.end.Fault.TheVariants.{Malformed, SecurityUnsupported}
 use Rattle.rm_command.specs.Edge.{Edge}
 use Rattle.rm_command.specs.Filter.{EndsFilter, IsFilterStatus}
@@ -46,10 +46,9 @@ pub record IsPolicyTextOf (bytes text : List ℕ) : Type 0 where
 abbrev pub HasPolicyFault : List ℕ → Fault → Type 0
 HasPolicyFault bytes NotUtf8 = ¬ (IsUtf8 bytes)
 HasPolicyFault bytes NotProfile = IsUtf8 bytes × ((tree : Element) → ¬ (Document bytes tree))
-HasPolicyFault bytes WrongVersion = ⊥
-HasPolicyFault bytes NotEnvelope = ⊥
 HasPolicyFault bytes Malformed = ReadsAs bytes (Err errors.Malformed)
 HasPolicyFault bytes SecurityUnsupported = (name : List ℕ) × ReadsAs bytes (Err (errors.SecurityUnsupported name))
+HasPolicyFault bytes _ = ⊥
 
 -- why policy refuses bytes
 abbrev pub RefusesPolicy : List ℕ → End → Type 0

@@ -5,7 +5,8 @@ use Rattle.rm_command.specs.declared.end.End.TheVariants.{Done, Usage, BadLine, 
 use Rattle.rm_command.specs.declared.end.End.TheVariants.{Refused, Memory}
 use Rattle.rm_command.specs.declared.end.Fault.{Fault}
 use Rattle.rm_command.specs.declared.end.Fault.TheVariants.{NotUtf8, NotProfile, WrongVersion, NotEnvelope}
-use Rattle.rm_command.specs.declared.end.Fault.TheVariants.{Malformed, SecurityUnsupported}
+use Rattle.rm_command.specs.declared.end.Fault.TheVariants.{NotUnderstood, Cardinality, HeaderMissing, BadHeader}
+use Rattle.rm_command.specs.declared.end.Fault.TheVariants.{Malformed, Rollover, SecurityUnsupported}
 
 -- the name of what keeps bytes from being what a command reads
 abbrev pub fault_name : Fault → List ℕ
@@ -13,7 +14,12 @@ fault_name NotUtf8 = codes "NotUtf8"
 fault_name NotProfile = codes "NotProfile"
 fault_name WrongVersion = codes "WrongVersion"
 fault_name NotEnvelope = codes "NotEnvelope"
+fault_name NotUnderstood = codes "NotUnderstood"
+fault_name Cardinality = codes "Cardinality"
+fault_name HeaderMissing = codes "HeaderMissing"
+fault_name BadHeader = codes "BadHeader"
 fault_name Malformed = codes "Malformed"
+fault_name Rollover = codes "Rollover"
 fault_name SecurityUnsupported = codes "SecurityUnsupported"
 
 -- the line of an end, where it has one

@@ -1,100 +1,65 @@
-//! What `check` prints of an envelope.
-ghost use Rattle.std.specs.Prelude.{◌≡◌, ◌≤◌, ◌<◌, ◌++◌, length, slice_index, IfOk, OnOk, Err};
-ghost use Rattle.hex.specs.Hex.{upper_digits};
-ghost use Rattle.rm_command.specs.Check.{is_plain, escaped_byte, escaped, scope_line, check_text, HasFault, IsTextOf};
+//! What `check` prints of a message.
+ghost use Rattle.std.specs.Prelude.{◌≡◌, ◌≤◌, length, IfOk, IfSome, IfNone, Err, Some, true, false};
+ghost use Rattle.rm_command.specs.Check.{HasFault, IsTextOf, is_of_bytes, kind_of};
 ghost use Rattle.rm_command.specs.declared.end.Fault.{Fault as AFault};
-ghost use Rattle.soap_envelope.specs.View.{envelope_view};
 
 use crate::end::Fault;
 use crate::filter::NoText;
-use rm_base::{Binding, Blob, Memory, push_decimal, push_hex};
-use soap_envelope::{Envelope, read_envelope};
-use soap_profile::EnvelopeError;
+use message_lines::message_lines;
+use message_reader::decode;
+use rm_base::Blob;
+use rm_message::{DecodeError, FaultKind};
 use std::alloc::Global;
 
-/// What is printed of bytes, where they are an envelope.
+/// What is printed of bytes, where they spell a message.
 pub fn text_of(alloc: Global, bytes: &[u8]) -> Result<Blob, NoText>
     requires { length bytes.now ≤ 2097152 }
     ensures text { IfOk result (λ text. IsTextOf bytes.now text) }
     ensures faulty { (fault : AFault) → result ≡ Err (NoText.Faulty fault) → HasFault bytes.now fault }
 {
-    match read_envelope(alloc, bytes) {
-        Ok(envelope) => Ok(text_of_envelope(alloc, envelope)?),
-        Err(EnvelopeError::NotUtf8 { .. }) => Err(NoText::Faulty(Fault::NotUtf8)),
-        Err(EnvelopeError::NotProfile) => Err(NoText::Faulty(Fault::NotProfile)),
-        Err(EnvelopeError::WrongVersion) => Err(NoText::Faulty(Fault::WrongVersion)),
-        Err(EnvelopeError::NotEnvelope) => Err(NoText::Faulty(Fault::NotEnvelope)),
-        Err(EnvelopeError::Memory) => Err(NoText::Memory),
-        Err(EnvelopeError::TooLong { .. }) => unreachable!(),
+    match decode(alloc, bytes) {
+        Ok(message) => Ok(message_lines(alloc, &message)?),
+        Err(DecodeError::Refused(refusal)) => Err(NoText::Faulty(fault_of(refusal.kind))),
+        Err(DecodeError::Memory) => Err(NoText::Memory),
     }
 }
 
-// What an envelope holds, as it is printed. Its elements go first, since they take more memory than the text.
-fn text_of_envelope(alloc: Global, envelope: Envelope) -> Result<Blob, Memory>
-    ensures { IfOk result (λ text. text ≡ check_text (envelope_view envelope)) }
+// The fault of a kind that depends on the bytes alone and isn't their length.
+fn fault_of(kind: FaultKind) -> Fault
+    requires { is_of_bytes kind ≡ true }
+    ensures { kind_of result ≡ Some kind }
 {
-    let Envelope {
-        headers,
-        header_scope: _,
-        payload,
-        body,
-    } = envelope;
-    let blocks = headers.len() as u64;
-    drop(headers);
-    drop(body);
-    let mut text = Blob::from_slice(alloc, b"headers ")?;
-    push_decimal(&mut text, blocks)?;
-    text.push_all(b"\npayload ")?;
-    push_hex(&mut text, payload.bytes.as_slice())?;
-    text.push_all(b"\n")?;
-    for binding in payload.scope.as_slice() {
-        push_scope(&mut text, binding)?;
+    match fault_named(kind) {
+        Some(fault) => fault,
+        None => unreachable!(),
     }
-    Ok(text)
 }
 
-// Appends the line of a binding.
-fn push_scope(out: &mut Blob, binding: &Binding) -> Result<(), Memory>
-    ensures { OnOk result (out.new ≡ out.old ++ scope_line binding.now) }
+// The fault of a kind, where `check` may meet it.
+fn fault_named(kind: FaultKind) -> Option<Fault>
+    ensures found { IfSome result (λ fault. kind_of fault ≡ Some kind) }
+    ensures none { IfNone result (is_of_bytes kind ≡ false) }
 {
-    out.push_all(b"scope ")?;
-    push_escaped(out, binding.prefix.as_slice())?;
-    out.push_all(b" ")?;
-    push_escaped(out, binding.space.as_slice())?;
-    out.push_all(b"\n")
-}
-
-// Appends bytes, each as it is or as `%` and two digits.
-fn push_escaped(out: &mut Blob, bytes: &[u8]) -> Result<(), Memory>
-    ensures { OnOk result (out.new ≡ out.old ++ escaped bytes.now) }
-{
-    for byte in bytes {
-        push_byte(out, *byte)?;
+    match kind {
+        FaultKind::NotUtf8 => Some(Fault::NotUtf8),
+        FaultKind::NotProfile => Some(Fault::NotProfile),
+        FaultKind::WrongVersion => Some(Fault::WrongVersion),
+        FaultKind::NotEnvelope => Some(Fault::NotEnvelope),
+        FaultKind::NotUnderstood => Some(Fault::NotUnderstood),
+        FaultKind::Cardinality => Some(Fault::Cardinality),
+        FaultKind::HeaderMissing => Some(Fault::HeaderMissing),
+        FaultKind::BadHeader => Some(Fault::BadHeader),
+        FaultKind::Malformed => Some(Fault::Malformed),
+        FaultKind::Rollover => Some(Fault::Rollover),
+        FaultKind::TooLong
+        | FaultKind::WsrmRequired
+        | FaultKind::UnknownSequence
+        | FaultKind::SequenceTerminated
+        | FaultKind::SequenceClosed
+        | FaultKind::InvalidAcknowledgement
+        | FaultKind::CreateSequenceRefused
+        | FaultKind::MissingSelection
+        | FaultKind::UnsupportedSelection
+        | FaultKind::StoreFull => None,
     }
-    Ok(())
-}
-
-// Appends a byte as it is, or as `%` and two digits.
-fn push_byte(out: &mut Blob, byte: u8) -> Result<(), Memory>
-    ensures { OnOk result (out.new ≡ out.old ++ escaped_byte byte) }
-{
-    if is_visible(byte) {
-        return out.push_all(&[byte]);
-    }
-    out.push_all(&[b'%', upper_digit(byte / 16), upper_digit(byte % 16)])
-}
-
-// A visible character of ASCII that isn't `%`.
-fn is_visible(byte: u8) -> bool
-    ensures { result ≡ is_plain byte }
-{
-    0x21 <= byte && byte <= 0x7e && byte != b'%'
-}
-
-// The hexadecimal digit of a number.
-fn upper_digit(number: u8) -> u8
-    requires { number < 16 }
-    ensures { result ≡ slice_index upper_digits number }
-{
-    b"0123456789ABCDEF"[number as usize]
 }

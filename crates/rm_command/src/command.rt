@@ -14,12 +14,11 @@ use crate::check::check;
 use crate::end::{End, refuse};
 use crate::policy::policy;
 use crate::replay::replay;
+use message_reader::laws::a_message_is_not_refused;
 use rm_base::{Blob, Sink, Source};
 use rm_policy::laws::one_reading;
 use rm_world::PlainStage;
 use rm_world::laws::no_bad_line;
-use soap_document::laws::document_is_utf8;
-use soap_envelope::laws::one_answer;
 use std::alloc::Global;
 
 /// Does what the words say, those after the program's name, and answers the exit status.
@@ -48,8 +47,7 @@ pub fn run<S: Source, K: Sink>(
     ensures policies { AsksPolicy words.now → IfSome (S.left input.old) (λ bytes. IsPolicyStatus bytes result) }
 {
     // What bytes can't be at once decides which status comes of them.
-    document_is_utf8();
-    one_answer();
+    a_message_is_not_refused();
     one_reading();
     no_bad_line();
     obey(alloc, words, input, out, stage).status()

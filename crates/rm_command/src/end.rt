@@ -7,14 +7,19 @@ ghost use Rattle.rm_command.specs.Texts.{line_of};
 use rm_base::{Blob, Memory, Sink, push_decimal, write_all};
 use std::alloc::Global;
 
-/// What keeps bytes from being an envelope, or an assertion.
+/// What keeps bytes from being a message, or an assertion.
 #[derive(Clone, Copy, Debug, PartialEq, Eq)]
 pub enum Fault {
     NotUtf8,
     NotProfile,
     WrongVersion,
     NotEnvelope,
+    NotUnderstood,
+    Cardinality,
+    HeaderMissing,
+    BadHeader,
     Malformed,
+    Rollover,
     SecurityUnsupported,
 }
 
@@ -67,7 +72,12 @@ impl Fault {
             Fault::NotProfile => b"fault NotProfile\n",
             Fault::WrongVersion => b"fault WrongVersion\n",
             Fault::NotEnvelope => b"fault NotEnvelope\n",
+            Fault::NotUnderstood => b"fault NotUnderstood\n",
+            Fault::Cardinality => b"fault Cardinality\n",
+            Fault::HeaderMissing => b"fault HeaderMissing\n",
+            Fault::BadHeader => b"fault BadHeader\n",
             Fault::Malformed => b"fault Malformed\n",
+            Fault::Rollover => b"fault Rollover\n",
             Fault::SecurityUnsupported => b"fault SecurityUnsupported\n",
         }
     }

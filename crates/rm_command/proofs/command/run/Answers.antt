@@ -1,5 +1,4 @@
 use Rattle.rm_world.specs.Stage.{world_of}
-use Rattle.soap_profile.specs.Soap.{soap_space}
 use Rattle.rm_command.proofs.CheckLemmas.{check_status, replay_status}
 use Rattle.rm_command.proofs.PolicyLemmas.{policy_status}
 use Rattle.rm_command.proofs.command.run.Goals as goal
@@ -12,10 +11,7 @@ returns-clause-replays g c =
 
 pub returns-clause-checks : goal.returns-clause-checks
 returns-clause-checks g c =
-    let version = c.one_answer.ensures.version soap_space in
-    let outline = c.one_answer.ensures.outline soap_space in
-    λ asked. rw c.status.ensures
-    (check_status c.document_is_utf8.ensures version outline (c.obey.ensures.runs.check asked))
+    λ asked. rw c.status.ensures (check_status c.a_message_is_not_refused.ensures (c.obey.ensures.runs.check asked))
 
 pub returns-clause-policies : goal.returns-clause-policies
 returns-clause-policies g c =

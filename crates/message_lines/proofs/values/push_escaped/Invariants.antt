@@ -1,6 +1,6 @@
 use Rattle.std.proofs.Common.{◌≡◌, ◌++◌, drop}
-use Rattle.rm_command.specs.Check.{escaped}
-use Rattle.rm_command.proofs.check_text.push_escaped.Given as goal
+use Rattle.message_lines.specs.Lines.{escaped}
+use Rattle.message_lines.proofs.values.push_escaped.Given as goal
 
 abbrev pub invariant-loop-byte : goal.invariant-loop-byte
 invariant-loop-byte l = l.out ++ escaped (drop l.byte-index l.bytes) ≡ l.initial.out ++ escaped l.bytes
