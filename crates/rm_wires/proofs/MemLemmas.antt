@@ -24,7 +24,8 @@ slice_range-append xs ys i j l h =
 slice_range-behind : (xs ys : List ℕ) → slice_range (xs ++ ys) (length xs) (length xs + length ys) ≡ ys
 slice_range-behind xs ys =
     let count : length xs + length ys - length xs ≡ length ys = omega arith in
-    ap (take (length xs + length ys - length xs)) (drop-append_seam xs ys) ∙ ap (λ n. take n ys) count ∙ take_all (length ys) ys (omega arith)
+    ap (take (length xs + length ys - length xs)) (drop-append_seam xs ys) ∙ ap (λ n. take n ys) count
+    ∙ take_all (length ys) ys (omega arith)
 
 packets-more : (bytes more : List ℕ) (places : List Place) → AllByRecursion (IsWithin (length bytes)) places
     → packets_at (bytes ++ more) places ≡ packets_at bytes places
@@ -49,7 +50,8 @@ packets-push : (bytes more : List ℕ) (places : List Place) (to : ℕ) → AreS
     ≡ packets_at bytes places ++ (to, more) ∷ []
 packets-push bytes more places to h =
     map-append (packet_at (bytes ++ more)) places (place_behind bytes to more ∷ [])
-    ∙ ap (λ z. z ++ packet_at (bytes ++ more) (place_behind bytes to more) ∷ []) (packets-more bytes more places h.within)
+    ∙ ap (λ z. z ++ packet_at (bytes ++ more) (place_behind bytes to more) ∷ [])
+    (packets-more bytes more places h.within)
     ∙ ap (λ z. packets_at bytes places ++ (to, z) ∷ []) (slice_range-behind bytes more)
 
 stored-push : (bytes more : List ℕ) (places : List Place) (to : ℕ) → AreStored bytes places
