@@ -1,6 +1,6 @@
 -- Two nodes, all packets that were ever sent, and what each line of a script does.
 use Rattle.std.specs.Prelude.{◌≡◌, ℕ, Bool, true, false, if◌then◌else◌, List, [], ◌∷◌, ◌++◌, map, Option, Some, None}
-use Rattle.std.specs.Prelude.{Result, Ok, Err}
+use Rattle.std.specs.Prelude.{Result, Err}
 use Rattle.rm_base.specs.Numbered.{numbered}
 use Rattle.rm_base.specs.declared.message.Behaviour.{Behaviour}
 use Rattle.rm_base.specs.declared.message.Behaviour.TheVariants.{FollowingFirstGap}
@@ -95,11 +95,12 @@ calls terms w side connected answer =
 abbrev pub received_by : Terms → Node → Result Message Refusal → Answer
 received_by terms x content = receive terms (records x) (end_of terms x.entries) x.clock x.granted content
 
--- a world after a packet was delivered, where there is one with this number
+-- a world after a packet was delivered, where there is one with this number: its text is read at the other node
 abbrev pub arrives : Terms → World → Option Packet → World
 arrives terms w None = w
 arrives terms w (Some packet) =
-    calls terms w (other packet.from) true (received_by terms (node w (other packet.from)) (Ok packet.message))
+    calls terms w (other packet.from) true
+    (received_by terms (node w (other packet.from)) (terms.read packet.message))
 
 -- what a line asks for: a sequence to the other node
 abbrev pub wish_of : World → Side → Via → Lapse → Option Behaviour → Wish
