@@ -16,7 +16,7 @@ use Rattle.rm_message.specs.declared.refusal.Refusal.{Refusal}
 use Rattle.rm_protocol.specs.Calls.{Answer, create, send, close, end, tick}
 use Rattle.rm_protocol.specs.Node.{Node, State, Up, Writing, records, records_in, end_of, is_short, entries_left}
 use Rattle.rm_protocol.specs.Node.{whole_left, mounted, with_batch, goes_down, written, after_by, after, said_with}
-use Rattle.rm_protocol.specs.Node.{said_by, said_after}
+use Rattle.rm_protocol.specs.Node.{armed, said_by, said_after}
 use Rattle.rm_protocol.specs.Said.{sent_of, leaves}
 use Rattle.rm_protocol.specs.Addresses.{place_of}
 use Rattle.rm_protocol.specs.Sound.{AllowsState, IsBounded, SaysPacket, IsSoundNode, IsSound}
@@ -442,7 +442,7 @@ happens-IsSound terms w (End side seq) t h =
     (end-right terms (end_of terms x.entries) (records x) x.whole (node w (other side)).whole seq
     (sound_at terms w side h).kept)
 happens-IsSound terms w (Arm side c) t h =
-    changed-IsSound terms w side (record (node w side) { fuse = Some c }) h refl refl refl
+    changed-IsSound terms w side (record (node w side) { fuse = armed c (node w side).fuse }) h refl refl refl
 happens-IsSound terms w (Crash side kept) t h =
     let x = sound_at terms w side h in
     rests-IsSound terms w side (mounted (node w side) kept) h

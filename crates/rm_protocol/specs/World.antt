@@ -11,7 +11,7 @@ use Rattle.record_batch.specs.declared.record.Via.{Via}
 use Rattle.record_batch.specs.Fact.{Made}
 use Rattle.sequence_table.specs.Words.{Text}
 use Rattle.rm_protocol.specs.Calls.{Answer, Wish, create, send, close, end, tick, receive}
-use Rattle.rm_protocol.specs.Node.{Node, State, Up, records, end_of, mounted, after, said_after}
+use Rattle.rm_protocol.specs.Node.{Node, State, Up, records, end_of, armed, mounted, after, said_after}
 use Rattle.rm_protocol.specs.Said.{sent_of}
 use Rattle.rm_protocol.specs.Terms.{Terms}
 use Rattle.rm_protocol.specs.Verdict.{has_room}
@@ -132,7 +132,7 @@ happens terms w (Close side seq) =
     (node w side).clock)
 happens terms w (End side seq) =
     calls terms w side false (end terms (records (node w side)) (end_of terms (node w side).entries) seq)
-happens terms w (Arm side c) = with_node w side (record (node w side) { fuse = Some c })
+happens terms w (Arm side c) = with_node w side (record (node w side) { fuse = armed c (node w side).fuse })
 happens terms w (Crash side kept) = with_node w side (mounted (node w side) kept)
 happens terms w (Noise side refusal) = calls terms w side true (received_by terms (node w side) (Err refusal))
 

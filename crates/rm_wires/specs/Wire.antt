@@ -1,11 +1,16 @@
 -- The packets of a wire, in the order in which they were put: the node that each goes to, and its bytes.
-use Rattle.std.specs.Prelude.{ℕ, ◌+◌, ◌&&◌, nat_lt, nat_le, Bool, if◌then◌else◌, List, [], ◌∷◌, ◌++◌, length}
+use Rattle.std.specs.Prelude.{ℕ, ◌+◌, ◌&&◌, nat_lt, nat_le, Bool, if◌then◌else◌, List, [], ◌∷◌, ◌++◌, map}
+use Rattle.std.specs.Prelude.{length}
 use Rattle.std.specs.List.{sum_by}
 use Rattle.rm_wires.specs.declared.wire.Packet.{Packet}
 
 -- where a packet goes, and its bytes
 abbrev pub contents : Packet → ℕ × List ℕ
 contents packet = (packet.to, packet.bytes.now)
+
+-- the bytes of each packet
+abbrev pub texts_in : List (ℕ × List ℕ) → List (List ℕ)
+texts_in packets = map (λ (packet : ℕ × List ℕ). packet.1) packets
 
 -- the bytes of all packets together
 abbrev pub bytes_in : List (ℕ × List ℕ) → ℕ

@@ -3,6 +3,7 @@
 //! goes to; a packet for which the wire has no room is lost.
 #![tactic(auto)]
 
+pub mod laws;
 pub mod mem;
 pub mod wire;
 
