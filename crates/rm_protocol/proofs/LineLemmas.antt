@@ -4,6 +4,7 @@ use Rattle.std.proofs.Common.{◌∙◌, subst, inl, inr}
 use Rattle.std.specs.Prelude.{Option, Some, None, Err, slice_get}
 use native.Mathlib.Numerals.{unary_clauses}
 use Rattle.rm_base.specs.Numbered.{numbered}
+use Rattle.rm_message.specs.declared.refusal.Refusal.{Refusal}
 use Rattle.record_batch.specs.Fact.{Fact}
 use Rattle.rm_protocol.specs.Calls as Calls
 use Rattle.sequence_table.specs.Words.{Text}
@@ -51,6 +52,21 @@ pub lines-next : (terms : Terms) (events : List Event) (w : World) (k : ℕ) (ev
 lines-next terms events w k event e =
     ap (λ z. lines terms z w) (take-next events k event e) ∙ lines-append terms (take k events) (event ∷ []) w
 
+-- a text that is refused is noise
+pub noise-world : (terms : Terms) (w : World) (k : ℕ) (packet : Packet) (refusal : Refusal)
+    → numbered w.packets k ≡ Some packet → terms.read packet.message ≡ Err refusal
+    → happens terms w (world.Deliver k) ≡ happens terms w (world.Noise (other packet.from) refusal)
+noise-world terms w k packet refusal e f =
+    let side = other packet.from in
+    ap (arrives terms w) e ∙ ap (λ z. calls terms w side true (received_by terms (node w side) z)) f
+
+pub noise-outcome : (terms : Terms) (w : World) (k : ℕ) (packet : Packet) (refusal : Refusal)
+    → numbered w.packets k ≡ Some packet → terms.read packet.message ≡ Err refusal
+    → outcome_of terms w (world.Deliver k) ≡ outcome_of terms w (world.Noise (other packet.from) refusal)
+noise-outcome terms w k packet refusal e f =
+    let x = node w (other packet.from) in
+    ap (arrival_outcome terms w) e ∙ ap (λ z. Called (call_outcome x (received_by terms x z))) f
+
 -- a node that is up, and whose disk isn't armed
 record IsFree (x : Node) : Type 0 where
   fuse : x.fuse ≡ None
@@ -92,77 +108,89 @@ calls-free : (terms : Terms) (w : World) (side : Side) (connected : Bool) (answe
 calls-free terms w One connected answer h = record { one = after-free w.one answer h.one; two = h.two }
 calls-free terms w Two connected answer h = record { one = h.one; two = after-free w.two answer h.two }
 
--- each event leaves both nodes so, and comes out without a fault
-record GoesWell (terms : Terms) (w : World) (event : Event) : Type 0 where
-  free : AreFree (happens terms w event)
-  well : IsFaultless (outcome_of terms w event)
-
-call-well : (terms : Terms) (w : World) (side : Side) (connected : Bool) (answer : Answer) → AreFree w
-    → AreFree (calls terms w side connected answer) × IsFaultless (Called (call_outcome (node w side) answer))
-call-well terms w side connected answer h =
-    (calls-free terms w side connected answer h, outcome-free (node w side) answer (free_at w side h))
-
-arrival-well : (terms : Terms) (w : World) (p : Option Packet) → AreFree w
-    → AreFree (arrives terms w p) × IsFaultless (arrival_outcome terms w p)
-arrival-well terms w None h = (h, tt)
-arrival-well terms w (Some p) h =
-    call-well terms w (other p.from) true (received_by terms (node w (other p.from)) (terms.read p.message)) h
-
-well : (terms : Terms) (w : World) (event : Event) → IsUnarmed event → AreFree w → GoesWell terms w event
-well terms w (world.Create side via expires offer) u h =
+-- each event comes out without a fault
+outcome-well : (terms : Terms) (w : World) (event : Event) → AreFree w → IsFaultless (outcome_of terms w event)
+outcome-well terms w (world.Create side via expires offer) h =
     let x = node w side in
-    let k = call-well terms w side false (Calls.create terms (records x) (end_of terms x.entries)
-    (wish_of w side via expires offer)) h in
-    record { free = k.0; well = k.1 }
-well terms w (world.Grant side y) u h =
+    outcome-free x (Calls.create terms (records x) (end_of terms x.entries) (wish_of w side via expires offer))
+    (free_at w side h)
+outcome-well terms w (world.Grant side y) h = tt
+outcome-well terms w (world.Send side s text) h =
+    let x = node w side in
+    outcome-free x (Calls.send terms (records x) (end_of terms x.entries) s text) (free_at w side h)
+outcome-well terms w (world.Tick side now) h =
+    let x = node w side in
+    outcome-free x (Calls.tick terms (records x) (end_of terms x.entries) now) (free_at w side h)
+outcome-well terms w (world.Deliver i) h = by_packet (numbered w.packets i)
+  where
+    by_packet : (p : Option Packet) → IsFaultless (arrival_outcome terms w p)
+    by_packet None = tt
+    by_packet (Some p) =
+        let x = node w (other p.from) in
+        outcome-free x (received_by terms x (terms.read p.message)) (free_at w (other p.from) h)
+outcome-well terms w (world.Close side s) h =
+    let x = node w side in
+    outcome-free x (Calls.close terms (records x) (end_of terms x.entries) s x.clock) (free_at w side h)
+outcome-well terms w (world.End side s) h =
+    let x = node w side in
+    outcome-free x (Calls.end terms (records x) (end_of terms x.entries) s) (free_at w side h)
+outcome-well terms w (world.Arm side c) h = tt
+outcome-well terms w (world.Crash side kept) h = tt
+outcome-well terms w (world.Noise side refusal) h =
+    outcome-free (node w side) (received_by terms (node w side) (Err refusal)) (free_at w side h)
+
+-- and leaves both nodes so, unless it arms a disk
+happens-free : (terms : Terms) (w : World) (event : Event) → IsUnarmed event → AreFree w
+    → AreFree (happens terms w event)
+happens-free terms w (world.Create side via expires offer) u h = calls-free terms w side false _ h
+happens-free terms w (world.Grant side y) u h =
     let x = free_at w side h in
-    record {
-      free = free_with w side (record (node w side) { granted = y }) h (record { fuse = x.fuse; state = x.state });
-      well = tt;
-    }
-well terms w (world.Send side s text) u h =
-    let x = node w side in
-    let k = call-well terms w side false (Calls.send terms (records x) (end_of terms x.entries) s text) h in
-    record { free = k.0; well = k.1 }
-well terms w (world.Tick side now) u h =
-    let x = node w side in
-    let y = free_at w side h in
-    let answer = Calls.tick terms (records x) (end_of terms x.entries) now in
-    record {
-      free = calls-free terms (with_node w side (with_clock x now)) side false answer
-          (free_with w side (with_clock x now) h (record { fuse = y.fuse; state = y.state }));
-      well = outcome-free x answer y;
-    }
-well terms w (world.Deliver i) u h =
-    let k = arrival-well terms w (numbered w.packets i) h in
-    record { free = k.0; well = k.1 }
-well terms w (world.Close side s) u h =
-    let x = node w side in
-    let k = call-well terms w side false (Calls.close terms (records x) (end_of terms x.entries) s x.clock) h in
-    record { free = k.0; well = k.1 }
-well terms w (world.End side s) u h =
-    let x = node w side in
-    let k = call-well terms w side false (Calls.end terms (records x) (end_of terms x.entries) s) h in
-    record { free = k.0; well = k.1 }
-well terms w (world.Arm side c) u h = absurd u
-well terms w (world.Crash side kept) u h =
-    record { free = free_with w side (mounted (node w side) kept) h (record { fuse = refl; state = refl }); well = tt }
-well terms w (world.Noise side refusal) u h =
-    let k = call-well terms w side true (received_by terms (node w side) (Err refusal)) h in
-    record { free = k.0; well = k.1 }
+    free_with w side (record (node w side) { granted = y }) h (record { fuse = x.fuse; state = x.state })
+happens-free terms w (world.Send side s text) u h = calls-free terms w side false _ h
+happens-free terms w (world.Tick side now) u h =
+    let x = free_at w side h in
+    calls-free terms (with_node w side (with_clock (node w side) now)) side false _
+    (free_with w side (with_clock (node w side) now) h (record { fuse = x.fuse; state = x.state }))
+happens-free terms w (world.Deliver i) u h = by_packet (numbered w.packets i)
+  where
+    by_packet : (p : Option Packet) → AreFree (arrives terms w p)
+    by_packet None = h
+    by_packet (Some p) = calls-free terms w (other p.from) true _ h
+happens-free terms w (world.Close side s) u h = calls-free terms w side false _ h
+happens-free terms w (world.End side s) u h = calls-free terms w side false _ h
+happens-free terms w (world.Arm side c) u h = absurd u
+happens-free terms w (world.Crash side kept) u h =
+    free_with w side (mounted (node w side) kept) h (record { fuse = refl; state = refl })
+happens-free terms w (world.Noise side refusal) u h = calls-free terms w side true _ h
+
+run-free : (terms : Terms) (events : List Event) (w : World) → AreFree w → AreUnarmed events
+    → AreFree (run terms events w)
+run-free terms [] w h u = h
+run-free terms (event ∷ events) w h u =
+    run-free terms events (happens terms w event) (happens-free terms w event u.0 h) u.1
 
 free-faultless : (terms : Terms) (events : List Event) (w : World) → AreFree w → AreUnarmed events
     → AreFaultless (lines terms events w)
 free-faultless terms [] w h u = tt
-free-faultless terms (event ∷ events) w h u =
-    let k = well terms w event u.0 h in
-    (k.well, free-faultless terms events (happens terms w event) k.free u.1)
+free-faultless terms (event ∷ events) w h u = (
+  outcome-well terms w event h,
+  free-faultless terms events (happens terms w event) (happens-free terms w event u.0 h) u.1,
+)
+
+start-free : (one two : Text) → AreFree (start one two)
+start-free one two =
+    record { one = record { fuse = refl; state = refl }; two = record { fuse = refl; state = refl } }
+
+pub unarmed-next : (terms : Terms) (one two : Text) (events : List Event) (event : Event) → AreUnarmed events
+    → IsFaultless (outcome_of terms (run terms events (start one two)) event)
+unarmed-next terms one two events event u =
+    outcome-well terms (run terms events (start one two)) event
+    (run-free terms events (start one two) (start-free one two) u)
 
 pub unarmed-faultless : (terms : Terms) (one two : Text) (events : List Event) → AreUnarmed events
     → AreFaultless (lines terms events (start one two))
 unarmed-faultless terms one two events u =
-    free-faultless terms events (start one two)
-    (record { one = record { fuse = refl; state = refl }; two = record { fuse = refl; state = refl } }) u
+    free-faultless terms events (start one two) (start-free one two) u
 
 -- an image is what a crash leaves that keeps the failed batch or doesn't
 crashed : (x : Node) (image : List Fact) → IsLeft x image → (kept : Bool) × (records (mounted x kept) ≡ image)

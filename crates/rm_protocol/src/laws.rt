@@ -1,5 +1,8 @@
 //! Laws of the protocol.
-ghost use Rattle.std.specs.Prelude.{◌≡◌, ℕ, ◌+◌, ◌++◌, ◌∷◌, [], Bool, List, Some, length, slice_get, take};
+ghost use Rattle.std.specs.Prelude.{◌≡◌, ℕ, ◌+◌, ◌++◌, ◌∷◌, [], Bool, Err, List, Some, length};
+ghost use Rattle.std.specs.Prelude.{slice_get, take};
+ghost use Rattle.rm_base.specs.Numbered.{numbered};
+ghost use Rattle.rm_message.specs.declared.refusal.Refusal.{Refusal};
 ghost use Rattle.record_batch.specs.Fact.{Fact};
 ghost use Rattle.rm_protocol.specs.Delivered.{TakesNew};
 ghost use Rattle.rm_protocol.specs.Examples.{with_a_close, with_an_end, with_an_expiry, example_terms, in_order};
@@ -7,12 +10,13 @@ ghost use Rattle.rm_protocol.specs.Examples.{played, with_a_crash, with_a_gap, w
 ghost use Rattle.rm_protocol.specs.Next.{EachMayComeNext};
 ghost use Rattle.rm_protocol.specs.Node.{records};
 ghost use Rattle.rm_protocol.specs.Recorded.{GapIsClosed, NewIsRecorded, OnlyHeardIsRecorded};
-ghost use Rattle.rm_protocol.specs.Sent.{AcceptedIsSent, line_of, lines};
+ghost use Rattle.rm_protocol.specs.Sent.{AcceptedIsSent, line_of, lines, outcome_of};
 ghost use Rattle.rm_protocol.specs.Sound.{IsSound};
 ghost use Rattle.rm_protocol.specs.Terms.{AreTerms, Terms};
-ghost use Rattle.rm_protocol.specs.Unarmed.{AreFaultless, AreUnarmed};
+ghost use Rattle.rm_protocol.specs.Unarmed.{AreFaultless, AreUnarmed, IsFaultless};
 ghost use Rattle.rm_protocol.specs.Word.{IsAfterCrashes, IsLeft, KeepsAll};
-ghost use Rattle.rm_protocol.specs.World.{AreMade, Crash, Event, Side, World, happens, node, run, start};
+ghost use Rattle.rm_protocol.specs.World.{AreMade, Crash, Deliver, Event, Noise, Packet, Side, World};
+ghost use Rattle.rm_protocol.specs.World.{happens, node, other, run, start};
 ghost use Rattle.sequence_table.specs.Destinations.{discarded, inbox, texts};
 ghost use Rattle.sequence_table.specs.Words.{Text};
 
@@ -66,10 +70,22 @@ pub fn accepted_is_sent()
     ensures { AcceptedIsSent }
 {}
 
+/// A packet whose text is refused is what noise with that refusal is at its node.
+pub fn what_is_refused_is_noise()
+    ensures world { (terms : Terms) (w : World) (k : ℕ) (packet : Packet) (refusal : Refusal)
+        → numbered w.packets k ≡ Some packet → terms.read packet.message ≡ Err refusal
+        → happens terms w (Deliver k) ≡ happens terms w (Noise (other packet.from) refusal) }
+    ensures outcome { (terms : Terms) (w : World) (k : ℕ) (packet : Packet) (refusal : Refusal)
+        → numbered w.packets k ≡ Some packet → terms.read packet.message ≡ Err refusal
+        → outcome_of terms w (Deliver k) ≡ outcome_of terms w (Noise (other packet.from) refusal) }
+{}
+
 /// Where no disk is armed, no disk fails and no node is down.
 pub fn without_an_arm_nothing_fails()
-    ensures { (terms : Terms) (one two : Text) (events : List Event) → AreUnarmed events
+    ensures lines { (terms : Terms) (one two : Text) (events : List Event) → AreUnarmed events
         → AreFaultless (lines terms events (start one two)) }
+    ensures next { (terms : Terms) (one two : Text) (events : List Event) (event : Event) → AreUnarmed events
+        → IsFaultless (outcome_of terms (run terms events (start one two)) event) }
 {}
 
 /// Each image of a node's disk is what one more crash would leave.
