@@ -8,7 +8,7 @@ use crate::filter::NoText;
 use message_lines::message_lines;
 use message_reader::decode;
 use rm_base::Blob;
-use rm_message::{DecodeError, FaultKind};
+use rm_message::{DecodeError, FaultKind, Refusal};
 use std::alloc::Global;
 
 /// What is printed of bytes, where they spell a message.
@@ -19,17 +19,17 @@ pub fn text_of(alloc: Global, bytes: &[u8]) -> Result<Blob, NoText>
 {
     match decode(alloc, bytes) {
         Ok(message) => Ok(message_lines(alloc, &message)?),
-        Err(DecodeError::Refused(refusal)) => Err(NoText::Faulty(fault_of(refusal.kind))),
+        Err(DecodeError::Refused(refusal)) => Err(NoText::Faulty(fault_of(refusal))),
         Err(DecodeError::Memory) => Err(NoText::Memory),
     }
 }
 
-// The fault of a kind that depends on the bytes alone and isn't their length.
-fn fault_of(kind: FaultKind) -> Fault
-    requires { is_of_bytes kind ≡ true }
-    ensures { kind_of result ≡ Some kind }
+// The fault of a refusal whose kind depends on the bytes alone and isn't their length.
+fn fault_of(refusal: Refusal) -> Fault
+    requires { is_of_bytes refusal.kind ≡ true }
+    ensures { kind_of result ≡ Some refusal.kind }
 {
-    match fault_named(kind) {
+    match fault_named(refusal.kind) {
         Some(fault) => fault,
         None => unreachable!(),
     }
