@@ -1,13 +1,12 @@
-// A library with one function.
+//! Reports of two nodes, as text: a line for each line of a script, and what the nodes know after the last one. It
+//! stands on scripts, `rm_script`, on the kinds of faults, `rm_message`, and on the phases of both sides of a sequence.
+//! The layer above may use the writers, each of which appends what `specs/Report` says.
 #![tactic(auto)]
 
-ghost use Rattle.std.specs.Prelude.{◌≡◌};
-ghost use Rattle.rm_report.specs.Echo.{echo_of};
+pub mod line;
+mod names;
+pub mod summary;
 
-// The `ensures` clause is the contract: what `echo` returns is `echo_of` of its argument, a definition
-// in `specs/Echo.antt`, which a caller's clause can cite too.
-pub fn echo(x: usize) -> usize
-    ensures { result ≡ echo_of x }
-{
-    x
-}
+pub use line::{Line, Outcome, Reason, push_lines};
+pub use names::fault_name;
+pub use summary::{Place, push_down, push_in, push_item, push_out, push_ranges};

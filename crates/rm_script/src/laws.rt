@@ -5,6 +5,7 @@ ghost use Rattle.rm_script.specs.declared.event.Event.{Event as Said};
 ghost use Rattle.rm_script.specs.Lines.{ended, HasNoLf};
 ghost use Rattle.rm_script.specs.Reading.{event_in};
 ghost use Rattle.rm_script.specs.Script.{lines_of, Says, IsScript, IsFirstBad};
+ghost use Rattle.rm_script.specs.Within.{IsWithin};
 
 /// Lines that are written one after another, each with its LF, are read back. So is a last one without LF, if it is not
 /// empty.
@@ -34,4 +35,10 @@ pub fn one_reading()
 pub fn no_bad_line()
     ensures { (lines : List (List ℕ)) (events : List Said) (line : ℕ) → IsScript lines events
         → ¬ (IsFirstBad lines line) }
+{}
+
+/// What a script says is within its limits: each number, each duration, and each behaviour.
+pub fn values_are_within()
+    ensures { (lines : List (List ℕ)) (events : List Said) → IsScript lines events
+        → AllByRecursion IsWithin events }
 {}
