@@ -1,10 +1,11 @@
 -- Lines of bytes one after another, and a script as it is read line by line.
 use Rattle.std.proofs.Common.{◌≡◌, ℕ, suc, ◌+◌, ◌-◌, ◌<◌, ◌≤◌, Bool, true, false, cond, not, ◌==◌, List, [], ◌∷◌}
-use Rattle.std.proofs.Common.{◌++◌, length, take, drop, refl, sym, ap, ◌∙◌, arith, inl, inr, append_assoc, slice_get}
-use Rattle.std.proofs.Common.{Some, None, codes, decimal}
-use Rattle.std.specs.List.{position_or_len, position, flat_map, AllByRecursion}
-use Rattle.std.proofs.lemmas.List.{append-nil, take_at, take_all, drop_all, append_cancel_left}
+use Rattle.std.proofs.Common.{◌++◌, length, take, drop, refl, ap, ◌∙◌, arith, append_assoc, slice_get}
+use Rattle.std.proofs.Common.{Some, None}
+use Rattle.std.specs.List.{count_by, position_or_len, position, flat_map, AllByRecursion}
+use Rattle.std.proofs.lemmas.List.{append-nil, take_at, take_all, drop_all}
 use Rattle.std.proofs.lemmas.Bool.Decides.{nat_tests}
+use Rattle.std.proofs.lemmas.List.Recursion.{is_count_by}
 use Rattle.rm_script.specs.Script.{lines_of, onto_first, Says, IsScript, IsFirstBad}
 use Rattle.rm_script.specs.Lines.{ended, HasNoLf}
 use Rattle.rm_script.specs.declared.event.Event.{Event}
@@ -84,6 +85,41 @@ lines_of-joined (line ∷ lines) last h =
     let front : (ended line ++ flat_map ended lines) ++ last ≡ line ++ 10 ∷ rest =
     append_assoc (ended line) (flat_map ended lines) last ∙ append_assoc line (10 ∷ []) rest in
     ap lines_of front ∙ (lines_of-ended line rest h.0 ∙ ap (λ l. line ∷ l) (lines_of-joined lines last h.1))
+
+-- a byte before the first line begins no other, where there is one
+length-onto_first : (byte : ℕ) (lines : List (List ℕ)) → 0 < length lines
+    → length (onto_first byte lines) ≡ length lines
+length-onto_first byte [] h = absurd (omega (arith, h))
+length-onto_first byte (line ∷ lines) h = refl
+
+-- how many bytes are LF
+count_of_ends : List ℕ → ℕ
+count_of_ends [] = 0
+count_of_ends (byte ∷ bytes) = cond (byte == 10) (1 + count_of_ends bytes) (count_of_ends bytes)
+
+-- each LF but a last one stands before another line
+length-ends : (front : List ℕ) (last : ℕ) → length (lines_of (front ++ last ∷ [])) ≡ count_of_ends front + 1
+unfolding count_of_ends
+length-ends [] last =
+    elim (last == 10) as (λ t. length (cond t ([] ∷ []) ((last ∷ []) ∷ [])) ≡ 1) [ true ↦ refl | false ↦ refl ]
+length-ends (byte ∷ front) last =
+    let lines = lines_of (front ++ last ∷ []) in
+    let n = count_of_ends front in
+    let rest : length lines ≡ n + 1 = length-ends front last in
+    let onto = length-onto_first byte lines (omega (arith, rest)) in
+    let more : Bool → Type 0 = λ t.
+    length (cond t ([] ∷ lines) (onto_first byte lines)) ≡ cond t (1 + n) n + 1 in
+    let both : more (byte == 10) = (elim (byte == 10) as more [
+      | true ↦ omega (arith, rest)
+      | false ↦ onto ∙ rest
+    ]) in both
+
+pub length-lines_of : (front : List ℕ) (last : ℕ)
+    → length (lines_of (front ++ last ∷ [])) ≡ count_by (λ byte. byte == 10) front + 1
+unfolding count_of_ends
+length-lines_of front last =
+    length-ends front last
+    ∙ ap (λ n. n + 1) (is_count_by count_of_ends (λ byte. byte == 10) refl (λ x xs. refl) front)
 
 -- the first lines were read, and the rest is still to come
 pub record ReadSoFar (lines rest : List (List ℕ)) (events : List Event) : Type 0 where

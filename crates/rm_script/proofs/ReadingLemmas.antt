@@ -1,6 +1,6 @@
 -- A line is read exactly as the grammar says.
-use Rattle.std.proofs.Common.{◌≡◌, ◌≢◌, ℕ, ◌+◌, ◌^◌, ◌<◌, ◌≤◌, Bool, true, false, ◌==◌, List, [], ◌∷◌, ◌++◌, refl, sym, ap}
-use Rattle.std.proofs.Common.{◌∙◌, arith, subst, inl, inr, codes, decimal, Option, None, Some, option_map, Ok, Err}
+use Rattle.std.proofs.Common.{◌≡◌, ◌≢◌, ℕ, ◌^◌, ◌<◌, Bool, true, false, List, [], ◌∷◌, ◌++◌, refl, sym, ap}
+use Rattle.std.proofs.Common.{◌∙◌, arith, subst, inl, inr, codes, decimal, Option, None, Some, Ok, Err}
 use Rattle.std.proofs.Common.{if◌then◌else◌, Result}
 use Rattle.std.specs.Prelude.{option_and_then}
 use Rattle.std.proofs.lemmas.Bool.{eqb-true}
@@ -10,11 +10,11 @@ use Rattle.hex.specs.declared.error.FromHexError.{FromHexError}
 use Rattle.rm_base.specs.declared.message.Behaviour.{Behaviour}
 use Rattle.rm_elements.specs.declared.lapse.Lapse.{Lapse}
 use Rattle.rm_elements.specs.Duration.{duration_in}
-use Rattle.rm_script.specs.Script.{side_text, spaced, call_text, IsExpiry, IsOffer, IsWish, IsNumber, Says}
-use Rattle.rm_script.specs.Reading.{behind, word_of, behind_word, number_in, behaviour_in, node_in, call_in, numbered_in}
-use Rattle.rm_script.specs.Reading.{offer_in, create_with, create_behind, create_in, grant_in, text_in, text_behind}
-use Rattle.rm_script.specs.Reading.{send_in, tick_in, deliver_in, close_in, end_in, arm_in, crash_in, some_bytes, noise_in}
-use Rattle.rm_script.specs.Reading.{choose, mishap_in, request_in, is_blank, event_in}
+use Rattle.rm_script.specs.Script.{side_text, spaced, IsExpiry, IsOffer, IsWish, Says}
+use Rattle.rm_script.specs.Reading.{behind, word_of, behind_word, number_in, behaviour_in, node_in, call_in}
+use Rattle.rm_script.specs.Reading.{numbered_in, offer_in, create_with, create_behind, create_in, grant_in, text_in}
+use Rattle.rm_script.specs.Reading.{text_behind, send_in, tick_in, deliver_in, close_in, end_in, arm_in, crash_in}
+use Rattle.rm_script.specs.Reading.{some_bytes, noise_in, choose, mishap_in, request_in, is_blank, event_in}
 use Rattle.rm_script.specs.declared.event.Side.{Side}
 use Rattle.rm_script.specs.declared.event.Event.{Event}
 use Rattle.rm_script.specs.declared.event.Event.TheVariants.{Nothing, Create, Grant, Send, Tick, Deliver, Close, End}

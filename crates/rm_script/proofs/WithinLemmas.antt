@@ -1,13 +1,13 @@
 -- What a script says is within its limits.
 use Rattle.std.proofs.Common.{◌≡◌, ◌≢◌, ℕ, ◌≤◌, Bool, true, false, ◌==◌, ◌&&◌, nat_le, List, [], ◌∷◌, refl, sym, arith}
-use Rattle.std.proofs.Common.{Option, None, Some, if◌then◌else◌, subst, inl, inr, ◌∙◌}
+use Rattle.std.proofs.Common.{Option, None, Some, if◌then◌else◌, subst, inl, inr}
 use Rattle.std.specs.List.{AllByRecursion}
 use Rattle.std.specs.Option.{IfSome}
 use Rattle.std.proofs.lemmas.Bool.{and_parts}
 use Rattle.std.proofs.lemmas.Bool.Decides.{nat_tests}
 use Rattle.rm_base.specs.declared.message.Behaviour.{Behaviour}
 use Rattle.rm_base.specs.declared.message.Behaviour.TheVariants.{NoDiscard, EntireSequence, FollowingFirstGap}
-use Rattle.rm_elements.specs.Duration.{duration_in, span_in, lapse_of, lapse_from, at_least_one}
+use Rattle.rm_elements.specs.Duration.{duration_in, span_in, lapse_from, at_least_one}
 use Rattle.rm_elements.specs.Writable.{IsLapseWritable}
 use Rattle.rm_elements.specs.declared.duration.Span.{Span}
 use Rattle.rm_elements.specs.declared.lapse.Lapse.{Lapse}
@@ -31,7 +31,8 @@ lapse_from-within (Some s) lapse h =
     let made : Lapse = record { months = s.months; ms = at_least_one s } in
     let few : Bool = nat_le s.months 100000 in
     let short : Bool = nat_le s.ms 1000000000000000 in
-    elim (few && short) as (λ t. (few && short) ≡ t → (if t then Some made else None) ≡ Some lapse → IsLapseWritable lapse) [
+    let found : Bool → Type 0 = λ t. (if t then Some made else None) ≡ Some lapse in
+    elim (few && short) as (λ t. (few && short) ≡ t → found t → IsLapseWritable lapse) [
       | true ↦ λ e h.
           let parts = and_parts few short e in
           let months : s.months ≤ 100000 = grind (arith, nat_tests, parts.0) in

@@ -1,10 +1,10 @@
 -- The words of a line: what is found is what stands there, and what stands there is found.
-use Rattle.std.proofs.Common.{◌≡◌, ◌≢◌, ℕ, ◌+◌, ◌^◌, ◌<◌, ◌≤◌, Bool, true, false, nat_le, ◌==◌, ◌&&◌, List, [], ◌∷◌}
+use Rattle.std.proofs.Common.{◌≡◌, ◌≢◌, ℕ, ◌^◌, ◌<◌, ◌≤◌, Bool, true, false, nat_le, ◌==◌, List, [], ◌∷◌}
 use Rattle.std.proofs.Common.{◌++◌, refl, sym, ap, ◌∙◌, arith, subst, ◌⊎◌, inl, inr, codes, decimal, Option, None, Some}
 use Rattle.std.proofs.Common.{option_map, if◌then◌else◌}
 use Rattle.std.specs.Prelude.{option_and_then}
 use Rattle.std.specs.Borrow.{Bor}
-use Rattle.std.specs.Option.{MatchOption, IfSome}
+use Rattle.std.specs.Option.{MatchOption}
 use Rattle.std.specs.Char.{is_ascii_digit}
 use Rattle.std.specs.Str.{all_ascii_digits}
 use Rattle.std.specs.Str.Parse.{digits_value}
@@ -124,7 +124,8 @@ number_in-decimal low high n small least most =
     rw (decimal_value n small, is_same-self (decimal n), first, last) refl
 
 -- a number that is not within has no place
-pub number_in-outside : (low high n : ℕ) → n < 2 ^ 64 → (n < low) ⊎ ((low ≤ n) × (high < n)) → number_in low high (decimal n) ≡ None
+pub number_in-outside : (low high n : ℕ) → n < 2 ^ 64 → (n < low) ⊎ ((low ≤ n) × (high < n))
+    → number_in low high (decimal n) ≡ None
 number_in-outside low high n small (inl h) =
     let first : nat_le low n ≡ false = grind (arith, nat_tests) in
     rw (decimal_value n small, is_same-self (decimal n), first) refl
@@ -139,6 +140,7 @@ number_in-is low high digits n h = by_tests (is_same digits (decimal v)) (nat_le
   where
     v : ℕ
     v = digits_value 10 digits
+
     by_tests : (a b c : Bool) → is_same digits (decimal v) ≡ a → nat_le low v ≡ b → nat_le v high ≡ c
         → IsNumber low high digits n
     by_tests true true true d e f =
@@ -161,9 +163,10 @@ number_in-none low high digits small h =
 digits_are_word : (digits : List ℕ) → all_ascii_digits digits ≡ true → IsWord digits
 digits_are_word [] h = tt
 digits_are_word (d ∷ digits) h =
-    let (here, more) = and_parts (is_ascii_digit d) (all_ascii_digits digits) h in
-    (λ e. let space : is_ascii_digit 32 ≡ true = subst (λ b. is_ascii_digit b ≡ true) e here in absurd (cc),
-     digits_are_word digits more)
+    let (here, more) = and_parts (is_ascii_digit d) (all_ascii_digits digits) h in (
+      λ e. let space : is_ascii_digit 32 ≡ true = subst (λ b. is_ascii_digit b ≡ true) e here in absurd (cc),
+      digits_are_word digits more,
+    )
 
 -- a number is a word
 pub decimal-IsWord : (n : ℕ) → n < 2 ^ 64 → IsWord (decimal n)

@@ -1,5 +1,5 @@
 -- The limits of what scripts say.
-use Rattle.std.specs.Prelude.{◌≢◌, ℕ, ◌≤◌, [], ⊤, Option, Some, None}
+use Rattle.std.specs.Prelude.{◌≢◌, ℕ, ◌≤◌, [], ⊤}
 use Rattle.std.specs.Option.{IfSome}
 use Rattle.rm_base.specs.declared.message.Behaviour.TheVariants.{NoDiscard}
 use Rattle.rm_elements.specs.Writable.{IsLapseWritable}

@@ -25,19 +25,46 @@ pub enum Event {
         offer: Option<Behaviour>,
     },
     /// What the node announces from now on for incoming sequences.
-    Grant { node: Side, behaviour: Behaviour },
+    Grant {
+        node: Side,
+        behaviour: Behaviour,
+    },
     /// The payload `text` is accepted.
-    Send { node: Side, seq: u32, text: Blob },
+    Send {
+        node: Side,
+        seq: u32,
+        text: Blob,
+    },
     /// The clock is set, in milliseconds since 1970, and runs.
-    Tick { node: Side, now: u64 },
+    Tick {
+        node: Side,
+        now: u64,
+    },
     /// The packet with this number, counted from 1, comes to its node.
-    Deliver { packet: u64 },
-    Close { node: Side, seq: u32 },
-    End { node: Side, seq: u32 },
+    Deliver {
+        packet: u64,
+    },
+    Close {
+        node: Side,
+        seq: u32,
+    },
+    End {
+        node: Side,
+        seq: u32,
+    },
     /// The disk fails at the device call with this number from now on.
-    Arm { node: Side, calls: u64 },
+    Arm {
+        node: Side,
+        calls: u64,
+    },
     /// The disk crashes, and keeps by `choice` what was not synced; the node is mounted again.
-    Crash { node: Side, choice: u8 },
+    Crash {
+        node: Side,
+        choice: u8,
+    },
     /// These bytes come to the node.
-    Noise { node: Side, bytes: Blob },
+    Noise {
+        node: Side,
+        bytes: Blob,
+    },
 }

@@ -1,12 +1,12 @@
 //! The reader of scripts.
-ghost use Rattle.std.specs.Prelude.{◌≡◌, ℕ, ◌<◌, ◌==◌, position, ◌∷◌, length, IfOk, IfSome, Err};
+ghost use Rattle.std.specs.Prelude.{◌≡◌, ℕ, ◌<◌, ◌==◌, position, count_by, ◌∷◌, length, IfOk, IfSome, Err};
 ghost use Rattle.rm_script.specs.Script.{lines_of, IsScript, IsFirstBad};
 ghost use Rattle.rm_script.specs.declared.script.ScriptError.TheVariants.{Memory as WantsMemory};
 
 use crate::event::Event;
 use crate::line::event;
 use rm_base::Memory;
-use std::alloc::{AllocError, AllocFailed, Global};
+use std::alloc::{AllocError, Global};
 use thiserror::Error;
 
 /// Why a script was not read.
@@ -35,16 +35,8 @@ impl From<AllocError> for ScriptError {
     }
 }
 
-impl<T: Drop> From<AllocFailed<T>> for ScriptError {
-    ghost from_gives = { λ _ error. error ≡ WantsMemory };
-
-    fn from(_failed: AllocFailed<T>) -> ScriptError {
-        ScriptError::Memory
-    }
-}
-
-/// Reads a script: one event a line, empty lines and comments among them, so that an event's place tells its line. The
-/// list has room for no more.
+/// Reads a script: one event a line, empty lines and comments among them, so that an event's place tells its line. Room
+/// for all events is made at once; besides it, memory is taken for texts and noise alone.
 pub fn read_script(alloc: Global, bytes: &[u8]) -> Result<Vec<Event>, ScriptError>
     ensures script { IfOk result (λ events. IsScript (lines_of bytes.now) events.items) }
     ensures bad_line { (line : ℕ) → result ≡ Err (ScriptError.BadLine line) → IsFirstBad (lines_of bytes.now) line }
@@ -54,7 +46,10 @@ pub fn read_script(alloc: Global, bytes: &[u8]) -> Result<Vec<Event>, ScriptErro
     while !rest.is_empty() {
         let (line, after) = first_line(rest);
         match event(alloc, line)? {
-            Some(event) => events.push(event)?,
+            Some(event) => match events.push(event) {
+                Ok(()) => {}
+                Err(_) => unreachable!(),
+            },
             None => {
                 return Err(ScriptError::BadLine {
                     line: events.len() as u64 + 1,
@@ -66,13 +61,20 @@ pub fn read_script(alloc: Global, bytes: &[u8]) -> Result<Vec<Event>, ScriptErro
     Ok(events)
 }
 
-// How many lines there are.
-fn count_of_lines(bytes: &[u8]) -> usize {
-    let ended = bytes.iter().filter(|byte| **byte == b'\n').count();
-    match bytes {
-        [] | [.., b'\n'] => ended,
-        _ => ended + 1,
+// How many lines there are: each LF but a last one stands before another line.
+fn count_of_lines(bytes: &[u8]) -> usize
+    ensures { result ≡ length (lines_of bytes.now) }
+{
+    match bytes.split_last() {
+        Some((_, front)) => count_of_ends(front) + 1,
+        None => 0,
     }
+}
+
+fn count_of_ends(bytes: &[u8]) -> usize
+    ensures { result ≡ count_by (λ byte. byte == 10) bytes.now }
+{
+    bytes.iter().filter(|byte| **byte == b'\n').count()
 }
 
 // The first line, without its LF, and the bytes behind it.

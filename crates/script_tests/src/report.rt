@@ -82,7 +82,8 @@ fn what_is_known(rt: HostRuntime) -> Result<(), Fail> {
     )?;
     push_down(&mut out, Side::Two)?;
     push_ranges(&mut out, &gap)?;
-    let want = b"out 1 1 open accepted 3 acked 1-3\nin 2 1 open dfg received 1-3 inbox 3 discarded 0\n\
+    let want =
+        b"out 1 1 open accepted 3 acked 1-3\nin 2 1 open dfg received 1-3 inbox 3 discarded 0\n\
         item 2 1 1 3c703e313c2f703e\nout 1 1 closing accepted 3 acked -\n\
         in 2 1 closed des received 1-1,3-3 inbox 0 discarded 2\ndown 2\n1-1,3-3";
     assert_eq!(rt; out.as_slice(), want.as_slice());

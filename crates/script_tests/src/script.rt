@@ -87,9 +87,11 @@ fn events_of(alloc: Global, script: &[u8]) -> Result<Blob, Fail> {
 
 #[test]
 fn three_payloads(rt: HostRuntime) -> Result<(), Fail> {
-    let script = b"create 1\ndeliver 1\ndeliver 2\nsend 1 1 <p>1</p>\nsend 1 1 <p>2</p>\ndeliver 3\n\
+    let script =
+        b"create 1\ndeliver 1\ndeliver 2\nsend 1 1 <p>1</p>\nsend 1 1 <p>2</p>\ndeliver 3\n\
         deliver 8";
-    let want = b"create 1 0 0\ndeliver 1\ndeliver 2\nsend 1 1 <p>1</p>\nsend 1 1 <p>2</p>\ndeliver 3\n\
+    let want =
+        b"create 1 0 0\ndeliver 1\ndeliver 2\nsend 1 1 <p>1</p>\nsend 1 1 <p>2</p>\ndeliver 3\n\
         deliver 8\n";
     assert_eq!(rt; events_of(rt.alloc(), script)?.as_slice(), want.as_slice());
     Ok(())

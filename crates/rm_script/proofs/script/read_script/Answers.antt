@@ -1,4 +1,4 @@
-use Rattle.std.proofs.Common.{◌≡◌, ◌+◌, arith, length, subst, length-append, sym, ◌∙◌}
+use Rattle.std.proofs.Common.{◌≡◌, ◌+◌, arith, length, subst, sym, ◌∙◌}
 use Rattle.rm_script.specs.Script.{lines_of, IsFirstBad}
 use Rattle.rm_script.proofs.LineLemmas.{read_more, read_bad}
 use Rattle.rm_script.proofs.ReadingLemmas.{event_in-is, event_in-none}
@@ -16,8 +16,9 @@ pub loop-rest-preserved : goal.loop-rest-preserved
 loop-rest-preserved c =
     let read = rw c.first_line.ensures.lines at c.loop-rest.invariant.read in
     let said = event_in-is _ _ (sym c.in_ok-event.ensures ∙ c.in-Some.is) in
-    let pushed = c.in_ok-push-in-Some.ensures.items in
+    let pushed = c.in-Ok.ensures.items in
+    let room = rw c.first_line.ensures.lines at c.loop-rest.invariant.room in
     record {
       read = rw pushed (read_more _ _ _ _ _ read said);
-      room = rw (pushed, length-append) (omega arith);
+      room = omega (arith, room, c.in-Ok.ensures.len, c.in-Ok.ensures.capacity);
     }

@@ -1,4 +1,4 @@
-use Rattle.std.proofs.Common.{◌≡◌, ℕ, None, Some, sym, ap, ◌∙◌, arith}
+use Rattle.std.proofs.Common.{◌≡◌, None, Some, sym, ap, ◌∙◌}
 use Rattle.rm_script.specs.Reading.{number_in}
 use Rattle.rm_script.proofs.WordLemmas.{number_in-none, number_in-outside, number_in-decimal}
 use Rattle.rm_script.proofs.word.number.Goals as goal
@@ -11,13 +11,13 @@ returns-in_err-number-clause-number c =
 
 pub returns-then-number-low-clause-number : goal.returns-then-number-low-clause-number
 returns-then-number-low-clause-number c =
-    let found = c.in_ok-number.ensures.found in
-    sym (ap (λ l. number_in c.args.low c.args.high l) found
-    ∙ number_in-outside c.args.low c.args.high c.in_ok-number.number c.in_ok-number.ensures.small c.then-number-low.either)
+    let found = c.in_ok-number.ensures in
+    sym (ap (λ l. number_in c.args.low c.args.high l) found.found
+    ∙ number_in-outside c.args.low c.args.high c.in_ok-number.number found.small c.then-number-low.either)
 
 pub returns-clause-number : goal.returns-clause-number
 returns-clause-number c =
-    let found = c.in_ok-number.ensures.found in
-    sym (ap (λ l. number_in c.args.low c.args.high l) found
-    ∙ number_in-decimal c.args.low c.args.high c.in_ok-number.number c.in_ok-number.ensures.small
-    c.if-number-low.false c.if-number-high.false)
+    let found = c.in_ok-number.ensures in
+    sym (ap (λ l. number_in c.args.low c.args.high l) found.found
+    ∙ number_in-decimal c.args.low c.args.high c.in_ok-number.number found.small c.if-number-low.false
+    c.if-number-high.false)
