@@ -1,0 +1,99 @@
+//! The words of a report.
+ghost use Rattle.std.specs.Prelude.{◌≡◌};
+ghost use Rattle.rm_report.specs.Report.{fault_text, reason_text, out_phase, in_phase, behaviour_text};
+ghost use Rattle.rm_script.specs.Script.{side_text};
+
+use crate::line::Reason;
+use rm_base::Behaviour;
+use rm_destination::InPhase;
+use rm_message::FaultKind;
+use rm_script::Side;
+use rm_source::OutPhase;
+
+/// The name of a fault, as reports and answers to `check` print it.
+pub fn fault_name(kind: FaultKind) -> &'static [u8]
+    ensures { result.now ≡ fault_text kind }
+{
+    match kind {
+        FaultKind::TooLong => b"TooLong",
+        FaultKind::NotUtf8 => b"NotUtf8",
+        FaultKind::NotProfile => b"NotProfile",
+        FaultKind::WrongVersion => b"WrongVersion",
+        FaultKind::NotEnvelope => b"NotEnvelope",
+        FaultKind::NotUnderstood => b"NotUnderstood",
+        FaultKind::Cardinality => b"Cardinality",
+        FaultKind::HeaderMissing => b"HeaderMissing",
+        FaultKind::BadHeader => b"BadHeader",
+        FaultKind::Malformed => b"Malformed",
+        FaultKind::Rollover => b"Rollover",
+        FaultKind::WsrmRequired => b"WsrmRequired",
+        FaultKind::UnknownSequence => b"UnknownSequence",
+        FaultKind::SequenceTerminated => b"SequenceTerminated",
+        FaultKind::SequenceClosed => b"SequenceClosed",
+        FaultKind::InvalidAcknowledgement => b"InvalidAcknowledgement",
+        FaultKind::CreateSequenceRefused => b"CreateSequenceRefused",
+        FaultKind::MissingSelection => b"MissingSelection",
+        FaultKind::UnsupportedSelection => b"UnsupportedSelection",
+        FaultKind::StoreFull => b"StoreFull",
+    }
+}
+
+pub(crate) fn reason_name(reason: Reason) -> &'static [u8]
+    ensures { result.now ≡ reason_text reason }
+{
+    match reason {
+        Reason::UnknownSequence => b"UnknownSequence",
+        Reason::WrongSide => b"WrongSide",
+        Reason::PayloadTooLong => b"PayloadTooLong",
+        Reason::BadPayload => b"BadPayload",
+        Reason::NotOpen => b"NotOpen",
+        Reason::WindowFull => b"WindowFull",
+        Reason::NodeFull => b"NodeFull",
+        Reason::Rollover => b"Rollover",
+        Reason::TooManySequences => b"TooManySequences",
+        Reason::StoreFull => b"StoreFull",
+    }
+}
+
+pub(crate) fn out_phase_name(phase: OutPhase) -> &'static [u8]
+    ensures { result.now ≡ out_phase phase }
+{
+    match phase {
+        OutPhase::Creating => b"creating",
+        OutPhase::Open => b"open",
+        OutPhase::Closing => b"closing",
+        OutPhase::Closed => b"closed",
+        OutPhase::Ending => b"ending",
+        OutPhase::Ended => b"ended",
+        OutPhase::Failed => b"failed",
+    }
+}
+
+pub(crate) fn in_phase_name(phase: InPhase) -> &'static [u8]
+    ensures { result.now ≡ in_phase phase }
+{
+    match phase {
+        InPhase::Open => b"open",
+        InPhase::Closed => b"closed",
+        InPhase::Ended => b"ended",
+    }
+}
+
+pub(crate) fn behaviour_name(behaviour: Behaviour) -> &'static [u8]
+    ensures { result.now ≡ behaviour_text behaviour }
+{
+    match behaviour {
+        Behaviour::NoDiscard => b"loose",
+        Behaviour::EntireSequence => b"des",
+        Behaviour::FollowingFirstGap => b"dfg",
+    }
+}
+
+pub(crate) fn side_name(node: Side) -> &'static [u8]
+    ensures { result.now ≡ side_text node }
+{
+    match node {
+        Side::One => b"1",
+        Side::Two => b"2",
+    }
+}

@@ -1,0 +1,127 @@
+//! The lines of a report behind the last line of its script: what the nodes know.
+ghost use Rattle.std.specs.Prelude.{◌≡◌, ◌++◌, OnOk};
+ghost use Rattle.rm_report.specs.Report.{out_text, in_text, counts_text, item_text, down_text, place_text, ranges_text};
+ghost use Rattle.rm_report.specs.Report.{range_text};
+
+use crate::names::{behaviour_name, in_phase_name, out_phase_name, side_name};
+use ack_ranges::Range;
+use rm_base::{Behaviour, Blob, Memory, push_decimal, push_hex};
+use rm_destination::InPhase;
+use rm_script::Side;
+use rm_source::OutPhase;
+
+/// A node, and the place of a sequence among those of the node, counted from 1.
+#[derive(Clone, Copy, Debug, PartialEq, Eq)]
+pub struct Place {
+    pub node: Side,
+    pub seq: u64,
+}
+
+/// Appends what a node knows of an outgoing sequence: its phase, how many payloads it accepted, and which numbers are
+/// acknowledged.
+pub fn push_out(
+    out: &mut Blob,
+    place: Place,
+    phase: OutPhase,
+    accepted: u64,
+    acked: &[Range],
+) -> Result<(), Memory>
+    ensures { OnOk result (out.new ≡ out.old ++ out_text place phase accepted acked.now) }
+{
+    out.push_all(b"out ")?;
+    push_place(out, place)?;
+    out.push_all(b" ")?;
+    out.push_all(out_phase_name(phase))?;
+    out.push_all(b" accepted ")?;
+    push_decimal(out, accepted)?;
+    out.push_all(b" acked ")?;
+    push_ranges(out, acked)?;
+    out.push_all(b"\n")
+}
+
+/// Appends what a node knows of an incoming sequence: its phase and behaviour, which numbers were received, and how
+/// many payloads are in the inbox, and how many discarded.
+pub fn push_in(
+    out: &mut Blob,
+    place: Place,
+    phase: InPhase,
+    behaviour: Behaviour,
+    received: &[Range],
+    inbox: u64,
+    discarded: u64,
+) -> Result<(), Memory>
+    ensures { OnOk result (out.new ≡ out.old ++ in_text place phase behaviour received.now inbox discarded) }
+{
+    out.push_all(b"in ")?;
+    push_place(out, place)?;
+    out.push_all(b" ")?;
+    out.push_all(in_phase_name(phase))?;
+    out.push_all(b" ")?;
+    out.push_all(behaviour_name(behaviour))?;
+    out.push_all(b" received ")?;
+    push_ranges(out, received)?;
+    push_counts(out, inbox, discarded)?;
+    out.push_all(b"\n")
+}
+
+fn push_counts(out: &mut Blob, inbox: u64, discarded: u64) -> Result<(), Memory>
+    ensures { OnOk result (out.new ≡ out.old ++ counts_text inbox discarded) }
+{
+    out.push_all(b" inbox ")?;
+    push_decimal(out, inbox)?;
+    out.push_all(b" discarded ")?;
+    push_decimal(out, discarded)
+}
+
+/// Appends the line of a payload in the inbox: its number, counted from 1, and its bytes in hexadecimal.
+pub fn push_item(out: &mut Blob, place: Place, number: u64, bytes: &[u8]) -> Result<(), Memory>
+    ensures { OnOk result (out.new ≡ out.old ++ item_text place number bytes.now) }
+{
+    out.push_all(b"item ")?;
+    push_place(out, place)?;
+    out.push_all(b" ")?;
+    push_decimal(out, number)?;
+    out.push_all(b" ")?;
+    push_hex(out, bytes)?;
+    out.push_all(b"\n")
+}
+
+/// Appends that a node is down, in place of what it knows.
+pub fn push_down(out: &mut Blob, node: Side) -> Result<(), Memory>
+    ensures { OnOk result (out.new ≡ out.old ++ down_text node) }
+{
+    out.push_all(b"down ")?;
+    out.push_all(side_name(node))?;
+    out.push_all(b"\n")
+}
+
+fn push_place(out: &mut Blob, place: Place) -> Result<(), Memory>
+    ensures { OnOk result (out.new ≡ out.old ++ place_text place) }
+{
+    out.push_all(side_name(place.node))?;
+    out.push_all(b" ")?;
+    push_decimal(out, place.seq)
+}
+
+/// Appends ranges, such as `1-3,5-5`, and `-` where there are none.
+pub fn push_ranges(out: &mut Blob, ranges: &[Range]) -> Result<(), Memory>
+    ensures { OnOk result (out.new ≡ out.old ++ ranges_text ranges.now) }
+{
+    let Some((first, rest)) = ranges.split_first() else {
+        return out.push_all(b"-");
+    };
+    push_range(out, first)?;
+    for range in rest {
+        out.push_all(b",")?;
+        push_range(out, range)?;
+    }
+    Ok(())
+}
+
+fn push_range(out: &mut Blob, range: &Range) -> Result<(), Memory>
+    ensures { OnOk result (out.new ≡ out.old ++ range_text range.now) }
+{
+    push_decimal(out, range.lower)?;
+    out.push_all(b"-")?;
+    push_decimal(out, range.upper)
+}

@@ -1,0 +1,5 @@
+pub mod LineLemmas
+pub mod ReadingLemmas
+pub mod ScriptLemmas
+pub mod WithinLemmas
+pub mod WordLemmas

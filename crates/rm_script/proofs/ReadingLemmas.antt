@@ -1,0 +1,286 @@
+-- A line is read exactly as the grammar says.
+use Rattle.std.proofs.Common.{◌≡◌, ◌≢◌, ℕ, ◌^◌, ◌<◌, Bool, true, false, List, [], ◌∷◌, ◌++◌, refl, sym, ap}
+use Rattle.std.proofs.Common.{◌∙◌, arith, subst, inl, inr, codes, decimal, Option, None, Some, Ok, Err}
+use Rattle.std.proofs.Common.{if◌then◌else◌, Result}
+use Rattle.std.specs.Prelude.{option_and_then}
+use Rattle.std.proofs.lemmas.Bool.{eqb-true}
+use Rattle.std.proofs.lemmas.List.{append-nil}
+use Rattle.hex.specs.Hex.{decode_of}
+use Rattle.hex.specs.declared.error.FromHexError.{FromHexError}
+use Rattle.rm_base.specs.declared.message.Behaviour.{Behaviour}
+use Rattle.rm_elements.specs.declared.lapse.Lapse.{Lapse}
+use Rattle.rm_elements.specs.Duration.{duration_in}
+use Rattle.rm_script.specs.Script.{side_text, spaced, IsExpiry, IsOffer, IsWish, Says}
+use Rattle.rm_script.specs.Reading.{behind, word_of, behind_word, number_in, behaviour_in, node_in, call_in}
+use Rattle.rm_script.specs.Reading.{numbered_in, offer_in, create_with, create_behind, create_in, grant_in, text_in}
+use Rattle.rm_script.specs.Reading.{text_behind, send_in, tick_in, deliver_in, close_in, end_in, arm_in, crash_in}
+use Rattle.rm_script.specs.Reading.{some_bytes, noise_in, choose, mishap_in, request_in, is_blank, event_in}
+use Rattle.rm_script.specs.declared.event.Side.{Side}
+use Rattle.rm_script.specs.declared.event.Event.{Event}
+use Rattle.rm_script.specs.declared.event.Event.TheVariants.{Nothing, Create, Grant, Send, Tick, Deliver, Close, End}
+use Rattle.rm_script.specs.declared.event.Event.TheVariants.{Arm, Crash, Noise}
+use Rattle.rm_script.proofs.WordLemmas.{some_then, some_mapped, behind-is, word_of-onto, behind_word-onto}
+use Rattle.rm_script.proofs.WordLemmas.{word_of-behind, word_of-IsWord, number_in-decimal, number_in-is, decimal-IsWord}
+use Rattle.rm_script.proofs.WordLemmas.{behaviour_in-word, behaviour_in-is, node_in-text, node_in-is, call_in-text}
+use Rattle.rm_script.proofs.WordLemmas.{call_in-is, numbered_in-text, numbered_in-is}
+
+-- ---- what the grammar says is read
+
+text_in-some : (text : List ℕ) → text ≢ [] → text_in text ≡ Some text
+text_in-some [] h = absurd (h refl)
+text_in-some (b ∷ text) h = refl
+
+offer_in-offer : (words : List ℕ) (offer : Option Behaviour) → IsOffer words offer → offer_in words ≡ Some offer
+offer_in-offer words None h = rw h refl
+offer_in-offer words (Some behaviour) h = rw (h.2, behaviour_in-word h.0 behaviour h.1) refl
+
+-- an offer stands behind its space
+behind_word-offer : (words : List ℕ) (offer : Option Behaviour) → IsOffer words offer → behind_word words ≡ words
+behind_word-offer words None h = rw h refl
+behind_word-offer words (Some behaviour) h = rw h.2 refl
+
+word_of-offer : (words : List ℕ) (offer : Option Behaviour) → IsOffer words offer → word_of words ≡ []
+word_of-offer words None h = rw h refl
+word_of-offer words (Some behaviour) h = rw h.2 refl
+
+-- an offer is no duration
+no_expiry : (words : List ℕ) (offer : Option Behaviour) → IsOffer words offer → behind (codes " expires ") words ≡ None
+no_expiry words None h = rw h refl
+no_expiry words (Some behaviour) h = rw h.2 refl
+
+create_behind-wish : (side : Side) (words : List ℕ) (expires : Lapse) (offer : Option Behaviour)
+    → IsWish words expires offer
+    → create_behind side words (behind (codes " expires ") words) ≡ Some (Create side expires offer)
+create_behind-wish side words expires offer w =
+    elim w.expires_ [
+      | inl h ↦
+          let alone : words ≡ w.offered = w.whole ∙ ap (λ l. l ++ w.offered) h.0 in
+          rw (alone, no_expiry w.offered offer w.offers_, offer_in-offer w.offered offer w.offers_, h.1) refl
+      | inr h ↦
+          let whole : words ≡ (codes " expires " ++ h.0) ++ w.offered = w.whole ∙ ap (λ l. l ++ w.offered) h.3 in
+          let word : word_of (h.0 ++ w.offered) ≡ h.0 = word_of-onto h.0 w.offered h.1
+          ∙ (ap (λ l. h.0 ++ l) (word_of-offer w.offered offer w.offers_) ∙ append-nil h.0) in
+          let rest : behind_word (h.0 ++ w.offered) ≡ w.offered = behind_word-onto h.0 w.offered h.1
+          ∙ behind_word-offer w.offered offer w.offers_ in
+          rw (whole, word, h.2, rest, offer_in-offer w.offered offer w.offers_) refl
+    ]
+
+text_behind-text : (k text : List ℕ) (n : ℕ) → n < 2 ^ 64 → k ≡ decimal n → text ≢ []
+    → text_behind (spaced k text) ≡ Some text
+text_behind-text k text n small is some =
+    rw (is, behind_word-onto (decimal n) (32 ∷ text) (decimal-IsWord n small)) (text_in-some text some)
+
+word_of-number : (k text : List ℕ) (n : ℕ) → n < 2 ^ 64 → k ≡ decimal n → word_of (spaced k text) ≡ decimal n
+word_of-number k text n small is =
+    rw (is, word_of-onto (decimal n) (32 ∷ text) (decimal-IsWord n small)) (append-nil (decimal n))
+
+-- a line that says something is read as that
+pub event_in-said : (line : List ℕ) (event : Event) → Says line event → event_in line ≡ Some event
+event_in-said line Nothing (inl h) = rw h refl
+event_in-said line Nothing (inr h) = rw h.1 refl
+event_in-said line (Create side expires offer) h =
+    rw (h.2, node_in-text side h.0, create_behind-wish side h.0 expires offer h.1) refl
+event_in-said line (Grant side behaviour) h = rw (h.2, call_in-text side h.0, behaviour_in-word h.0 behaviour h.1) refl
+event_in-said line (Send side seq text) h =
+    let small : seq < 2 ^ 64 = omega (arith, h.1.1) in
+    let arguments = spaced h.0 text in
+    let number = number_in-decimal 1 256 seq small h.1.0 h.1.1 in
+    rw (
+      h.3,
+      call_in-text side arguments,
+      word_of-number h.0 text seq small h.1.2,
+      number,
+      text_behind-text h.0 text seq small h.1.2 h.2,
+    )
+    refl
+event_in-said line (Tick side now) h =
+    rw (h.2, numbered_in-text 0 200000000000000 now side h.0 (omega arith) h.1) refl
+event_in-said line (Deliver packet) h =
+    rw (h.2, h.1.2, number_in-decimal 1 65536 packet (omega (arith, h.1.1)) h.1.0 h.1.1) refl
+event_in-said line (Close side seq) h = rw (h.2, numbered_in-text 1 256 seq side h.0 (omega arith) h.1) refl
+event_in-said line (End side seq) h = rw (h.2, numbered_in-text 1 256 seq side h.0 (omega arith) h.1) refl
+event_in-said line (Arm side calls) h = rw (h.2, numbered_in-text 1 1000 calls side h.0 (omega arith) h.1) refl
+event_in-said line (Crash side choice) h = rw (h.2, numbered_in-text 0 3 choice side h.0 (omega arith) h.1) refl
+event_in-said line (Noise side bytes) h =
+    rw (h.3, call_in-text side h.0, h.2, text_in-some bytes h.1) refl
+
+-- ---- what is read is what the grammar says
+
+text_in-is : (bytes text : List ℕ) → text_in bytes ≡ Some text → (text ≢ []) × (bytes ≡ text)
+text_in-is [] text h = absurd (cc)
+text_in-is (b ∷ bytes) text h = let same : b ∷ bytes ≡ text = cc in (λ e. absurd (cc), same)
+
+offer_in-is : (words : List ℕ) (offer : Option Behaviour) → offer_in words ≡ Some offer → IsOffer words offer
+offer_in-is [] offer h = let same : None ≡ offer = cc in subst (λ o. IsOffer [] o) same refl
+offer_in-is (b ∷ words) offer h =
+    let found = some_mapped _ (option_and_then behaviour_in (behind (codes " offer ") (b ∷ words))) offer h in
+    let word = some_then behaviour_in (behind (codes " offer ") (b ∷ words)) found.0 found.1 in
+    subst (λ o. IsOffer (b ∷ words) o) found.2
+    (word.0, behaviour_in-is word.0 found.0 word.2, behind-is (codes " offer ") (b ∷ words) word.0 word.1)
+
+-- words that say when a sequence expires and what is offered, and the event that they make
+record IsWished (side : Side) (words : List ℕ) (event : Event) : Type 0 where
+  expires : Lapse
+  offer : Option Behaviour
+  wish : IsWish words expires offer
+  made : Create side expires offer ≡ event
+
+create_with-is : (side : Side) (expiry offered : List ℕ) (expires : Lapse) (event : Event) → IsExpiry expiry expires
+    → create_with side offered expires ≡ Some event → IsWished side (expiry ++ offered) event
+create_with-is side expiry offered expires event e h =
+    let found = some_mapped _ (offer_in offered) event h in
+    let offers = offer_in-is offered found.0 found.1 in
+    record {
+      expires = expires;
+      offer = found.0;
+      wish = record { expiry = expiry; offered = offered; whole = refl; expires_ = e; offers_ = offers };
+      made = found.2;
+    }
+
+create_behind-is : (side : Side) (words : List ℕ) (o : Option (List ℕ)) (event : Event)
+    → behind (codes " expires ") words ≡ o → create_behind side words o ≡ Some event → IsWished side words event
+create_behind-is side words None event b h = create_with-is side [] words _ event (inl (refl, refl)) h
+create_behind-is side words (Some rest) event b h =
+    let word = word_of rest in
+    let more = behind_word rest in
+    let expires = some_then _ (duration_in word) event h in
+    let whole : words ≡ (codes " expires " ++ word) ++ more =
+    behind-is (codes " expires ") words rest b ∙ ap (λ l. codes " expires " ++ l) (word_of-behind rest) in
+    let expiry : IsExpiry (codes " expires " ++ word) expires.0 = inr (word, word_of-IsWord rest, expires.1, refl) in
+    subst (λ l. IsWished side l event) (sym whole)
+    (create_with-is side (codes " expires " ++ word) more expires.0 event expiry expires.2)
+
+create_in-is : (bytes : List ℕ) (event : Event) → create_in bytes ≡ Some event
+    → Says (codes "create " ++ bytes) event
+create_in-is bytes event h =
+    let node = some_then _ (node_in bytes) event h in
+    let side = node.0.0 in
+    let words = node.0.1 in
+    let w = create_behind-is side words (behind (codes " expires ") words) event refl node.2 in
+    subst (λ e. Says (codes "create " ++ bytes) e) w.made
+    (words, w.wish, ap (λ l. codes "create " ++ l) (node_in-is bytes node.0 node.1))
+
+grant_in-is : (bytes : List ℕ) (event : Event) → grant_in bytes ≡ Some event → Says (codes "grant " ++ bytes) event
+grant_in-is bytes event h =
+    let call = some_then _ (call_in bytes) event h in
+    let word = some_mapped _ (behaviour_in call.0.1) event call.2 in
+    subst (λ e. Says (codes "grant " ++ bytes) e) word.2
+    (call.0.1, behaviour_in-is call.0.1 word.0 word.1, ap (λ l. codes "grant " ++ l) (call_in-is bytes call.0 call.1))
+
+send_in-is : (bytes : List ℕ) (event : Event) → send_in bytes ≡ Some event → Says (codes "send " ++ bytes) event
+send_in-is bytes event h =
+    let call = some_then _ (call_in bytes) event h in
+    let arguments = call.0.1 in
+    let seq = some_then _ (number_in 1 256 (word_of arguments)) event call.2 in
+    let text = some_mapped _ (text_behind arguments) event seq.2 in
+    let space = some_then text_in (behind (codes " ") (behind_word arguments)) text.0 text.1 in
+    let some = text_in-is space.0 text.0 space.2 in
+    let rest : behind_word arguments ≡ 32 ∷ text.0 = behind-is (codes " ") (behind_word arguments) space.0 space.1
+    ∙ ap (λ l. 32 ∷ l) some.1 in
+    let parts : arguments ≡ spaced (word_of arguments) text.0 = word_of-behind arguments
+    ∙ ap (λ l. word_of arguments ++ l) rest in
+    subst (λ e. Says (codes "send " ++ bytes) e) text.2 (
+      word_of arguments,
+      number_in-is 1 256 (word_of arguments) seq.0 seq.1,
+      some.0,
+      ap (λ l. codes "send " ++ l) (call_in-is bytes call.0 call.1 ∙ ap (λ l. spaced (side_text call.0.0) l) parts),
+    )
+
+tick_in-is : (bytes : List ℕ) (event : Event) → tick_in bytes ≡ Some event → Says (codes "tick " ++ bytes) event
+tick_in-is bytes event h =
+    let found = some_mapped _ (numbered_in 0 200000000000000 bytes) event h in
+    let n = numbered_in-is 0 200000000000000 bytes found.0 found.1 in
+    subst (λ e. Says (codes "tick " ++ bytes) e) found.2 (n.word, n.number, ap (λ l. codes "tick " ++ l) n.text)
+
+deliver_in-is : (bytes : List ℕ) (event : Event) → deliver_in bytes ≡ Some event
+    → Says (codes "deliver " ++ bytes) event
+deliver_in-is bytes event h =
+    let found = some_mapped _ (number_in 1 65536 bytes) event h in
+    subst (λ e. Says (codes "deliver " ++ bytes) e) found.2
+    (bytes, number_in-is 1 65536 bytes found.0 found.1, refl)
+
+close_in-is : (bytes : List ℕ) (event : Event) → close_in bytes ≡ Some event → Says (codes "close " ++ bytes) event
+close_in-is bytes event h =
+    let found = some_mapped _ (numbered_in 1 256 bytes) event h in
+    let n = numbered_in-is 1 256 bytes found.0 found.1 in
+    subst (λ e. Says (codes "close " ++ bytes) e) found.2 (n.word, n.number, ap (λ l. codes "close " ++ l) n.text)
+
+end_in-is : (bytes : List ℕ) (event : Event) → end_in bytes ≡ Some event → Says (codes "end " ++ bytes) event
+end_in-is bytes event h =
+    let found = some_mapped _ (numbered_in 1 256 bytes) event h in
+    let n = numbered_in-is 1 256 bytes found.0 found.1 in
+    subst (λ e. Says (codes "end " ++ bytes) e) found.2 (n.word, n.number, ap (λ l. codes "end " ++ l) n.text)
+
+arm_in-is : (bytes : List ℕ) (event : Event) → arm_in bytes ≡ Some event → Says (codes "arm " ++ bytes) event
+arm_in-is bytes event h =
+    let found = some_mapped _ (numbered_in 1 1000 bytes) event h in
+    let n = numbered_in-is 1 1000 bytes found.0 found.1 in
+    subst (λ e. Says (codes "arm " ++ bytes) e) found.2 (n.word, n.number, ap (λ l. codes "arm " ++ l) n.text)
+
+crash_in-is : (bytes : List ℕ) (event : Event) → crash_in bytes ≡ Some event → Says (codes "crash " ++ bytes) event
+crash_in-is bytes event h =
+    let found = some_mapped _ (numbered_in 0 3 bytes) event h in
+    let n = numbered_in-is 0 3 bytes found.0 found.1 in
+    subst (λ e. Says (codes "crash " ++ bytes) e) found.2 (n.word, n.number, ap (λ l. codes "crash " ++ l) n.text)
+
+some_bytes-is : (r : Result (List ℕ) FromHexError) (bytes : List ℕ) → some_bytes r ≡ Some bytes
+    → (bytes ≢ []) × (r ≡ Ok bytes)
+some_bytes-is (Ok found) bytes h = let is = text_in-is found bytes h in (is.0, ap Ok is.1)
+some_bytes-is (Err _) bytes h = absurd (cc)
+
+noise_in-is : (bytes : List ℕ) (event : Event) → noise_in bytes ≡ Some event → Says (codes "noise " ++ bytes) event
+noise_in-is bytes event h =
+    let call = some_then _ (call_in bytes) event h in
+    let found = some_mapped _ (some_bytes (decode_of call.0.1)) event call.2 in
+    let is = some_bytes-is (decode_of call.0.1) found.0 found.1 in
+    subst (λ e. Says (codes "noise " ++ bytes) e) found.2
+    (call.0.1, is.0, is.1, ap (λ l. codes "noise " ++ l) (call_in-is bytes call.0 call.1))
+
+-- a verb that stands there is read, or another one
+said_by : (verb line : List ℕ) (read : List ℕ → Option Event) (other : Option Event) (event : Event)
+    → ((rest : List ℕ) → read rest ≡ Some event → Says (verb ++ rest) event) → (other ≡ Some event → Says line event)
+    → choose (behind verb line) read other ≡ Some event → Says line event
+said_by verb line read other event reads others h =
+    elim (behind verb line) as (λ o. behind verb line ≡ o → choose o read other ≡ Some event → Says line event) [
+      | None ↦ λ e h. others h
+      | Some rest ↦ λ e h. subst (λ l. Says l event) (sym (behind-is verb line rest e)) (reads rest h)
+    ] refl h
+
+mishap_in-is : (line : List ℕ) (event : Event) → mishap_in line ≡ Some event → Says line event
+mishap_in-is line event =
+    said_by (codes "deliver ") line deliver_in _ event (λ rest. deliver_in-is rest event)
+    (said_by (codes "arm ") line arm_in _ event (λ rest. arm_in-is rest event)
+    (said_by (codes "crash ") line crash_in _ event (λ rest. crash_in-is rest event)
+    (said_by (codes "noise ") line noise_in None event (λ rest. noise_in-is rest event) (λ h. absurd (cc)))))
+
+request_in-is : (line : List ℕ) (event : Event) → request_in line ≡ Some event → Says line event
+request_in-is line event =
+    said_by (codes "create ") line create_in _ event (λ rest. create_in-is rest event)
+    (said_by (codes "grant ") line grant_in _ event (λ rest. grant_in-is rest event)
+    (said_by (codes "send ") line send_in _ event (λ rest. send_in-is rest event)
+    (said_by (codes "tick ") line tick_in _ event (λ rest. tick_in-is rest event)
+    (said_by (codes "close ") line close_in _ event (λ rest. close_in-is rest event)
+    (said_by (codes "end ") line end_in _ event (λ rest. end_in-is rest event) (mishap_in-is line event))))))
+
+-- a comment begins with #
+is_blank-Says : (line : List ℕ) → is_blank line ≡ true → Says line Nothing
+is_blank-Says [] h = inl refl
+is_blank-Says (b ∷ line) h = let first : b ≡ 35 = eqb-true b 35 h in inr (line, ap (λ x. x ∷ line) first)
+
+-- a line that is read says that
+pub event_in-is : (line : List ℕ) (event : Event) → event_in line ≡ Some event → Says line event
+event_in-is line event h =
+    let read : Bool → Option Event = λ t. if t then Some Nothing else request_in line in
+    elim (is_blank line) as (λ t. is_blank line ≡ t → read t ≡ Some event → Says line event) [
+      | true ↦ λ e h. let same : Nothing ≡ event = cc in subst (λ x. Says line x) same (is_blank-Says line e)
+      | false ↦ λ e h. request_in-is line event h
+    ] refl h
+
+-- a line that isn't read says nothing
+pub event_in-none : (line : List ℕ) → event_in line ≡ None → (event : Event) → Says line event → ⊥
+event_in-none line none event h = let found : None ≡ Some event = sym none ∙ event_in-said line event h in absurd (cc)
+
+-- a line says at most one thing
+pub Says-one : (line : List ℕ) (a b : Event) → Says line a → Says line b → a ≡ b
+Says-one line a b f g =
+    let both : Some a ≡ Some b = sym (event_in-said line a f) ∙ event_in-said line b g in cc

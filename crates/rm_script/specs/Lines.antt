@@ -1,0 +1,11 @@
+-- Lines that are written one after another.
+use Rattle.std.specs.Prelude.{◌≢◌, ℕ, List, [], ◌∷◌, ◌++◌}
+use Rattle.std.specs.List.{AllByRecursion}
+
+-- a line with its LF
+abbrev pub ended : List ℕ → List ℕ
+ended line = line ++ 10 ∷ []
+
+-- no byte of the line is LF
+abbrev pub HasNoLf : List ℕ → Type 0
+HasNoLf line = AllByRecursion (λ byte. byte ≢ 10) line

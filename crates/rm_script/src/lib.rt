@@ -1,0 +1,12 @@
+//! Scripts of two nodes: what each line asks of a node or lets befall it, read exactly. It stands on durations,
+//! `rm_elements`, and on `rm_base`. The layer above may use `read_script` by the grammar, `specs/Script`, and the laws.
+#![tactic(auto)]
+
+pub mod event;
+pub mod laws;
+mod line;
+pub mod script;
+mod word;
+
+pub use event::{Event, Side};
+pub use script::{ScriptError, read_script};
