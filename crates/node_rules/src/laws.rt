@@ -1,0 +1,1 @@
+//! Laws of what the records of a node keep, and of what it says.
