@@ -1,0 +1,5 @@
+mod Lists
+mod Counts
+mod Unacked
+mod Near
+mod Kept
