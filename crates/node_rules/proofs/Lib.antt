@@ -1,5 +1,12 @@
-mod Lists
+mod Calls
 mod Counts
-mod Unacked
-mod Near
+mod EachCall
 mod Kept
+mod Lists
+mod Messages
+mod Near
+mod Rows
+mod Said
+mod Texts
+mod Unacked
+mod Values
