@@ -16,7 +16,7 @@ use Rattle.sequence_table.specs.Fits.{all_fit}
 use Rattle.rm_protocol.specs.Calls.{Answer, create, send, close, end, tick, receive}
 use Rattle.rm_protocol.specs.Next.{BeginsAtOne, IsMessageNumber, HasNumbers, IsReadable, AddsNext, EachMayComeNext}
 use Rattle.rm_protocol.specs.Rows.{ranges_of}
-use Rattle.rm_protocol.specs.Terms.{Terms, EndsLater}
+use Rattle.rm_protocol.specs.Terms.{Terms}
 use Rattle.node_rules.specs.Keeps.{OfEachCall, LeavesANode, SaysByTheRules, EachCallKeeps, EachIsByTheRules}
 use Rattle.node_rules.specs.OwnTerms.{AreOwn}
 use Rattle.node_rules.specs.Read.{WasRead, IsContentRead}
@@ -24,6 +24,7 @@ use Rattle.node_rules.specs.Records.{IsKept}
 use Rattle.node_rules.proofs.Calls.{Below, IsGoodAnswer, create-good, send-good, close-good, end-good, tick-good}
 use Rattle.node_rules.proofs.Calls.{receive-good}
 use Rattle.node_rules.proofs.Kept.{kept-all}
+use Rattle.node_rules.proofs.Owned.{own-later}
 use Rattle.node_rules.proofs.Lists.{All-weaker}
 
 -- ---- the numbers of a message that was read
@@ -60,11 +61,10 @@ says below r answer h fit good = good.says (leaves below r answer h fit good)
 
 -- what follows for an answer whose records may come next and that is good
 of-each : Below → EachMayComeNext → (terms : Terms) (r : List Fact) (place : ℕ) (P : Answer → Type 0) → AreOwn terms
-    → EndsLater terms → IsKept r
-    → ((answer : Answer) → all_fit r answer.delta ≡ true → IsGoodAnswer r answer → P answer)
+    → IsKept r → ((answer : Answer) → all_fit r answer.delta ≡ true → IsGoodAnswer r answer → P answer)
     → OfEachCall terms r place P
-of-each below next terms r place P own later h step =
-    let fit : AddsNext terms r place = next terms r place later h.node.fit in
+of-each below next terms r place P own h step =
+    let fit : AddsNext terms r place = next terms r place (own-later terms own) h.node.fit in
     record {
       create_ = λ wish is. step (create terms r place wish) (fit.create_ wish) (create-good terms r place wish is);
       send_ = λ s text. step (send terms r place s text) (fit.send_ s text) (send-good terms r place s text own);
@@ -77,9 +77,9 @@ of-each below next terms r place P own later h step =
     }
 
 pub each-keeps : Below → EachMayComeNext → EachCallKeeps
-each-keeps below next terms r place own later h =
-    of-each below next terms r place (LeavesANode r) own later h (λ answer. leaves below r answer h)
+each-keeps below next terms r place own h =
+    of-each below next terms r place (LeavesANode r) own h (λ answer. leaves below r answer h)
 
 pub each-says : Below → EachMayComeNext → EachIsByTheRules
-each-says below next terms r place own later h =
-    of-each below next terms r place SaysByTheRules own later h (λ answer. says below r answer h)
+each-says below next terms r place own h =
+    of-each below next terms r place SaysByTheRules own h (λ answer. says below r answer h)

@@ -1,10 +1,12 @@
 mod Calls
 mod Counts
+mod Deadlines
 mod EachCall
 mod Kept
 mod Lists
 mod Messages
 mod Near
+mod Owned
 mod Rows
 mod Said
 mod Texts

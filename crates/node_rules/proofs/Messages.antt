@@ -158,8 +158,8 @@ scope-is = refl
 -- a text that a test finds different from each of some
 no-such : (xs : List Text) (x : Text) → AllByRecursion (λ y. bytes_eq y x ≡ false) xs → Contains xs x → ⊥
 no-such [] x h c = absurd (omega (arith, c.1))
-no-such (y ∷ ys) x h (zero, (lt, e)) = false≢true (sym h.0 ∙ equal y x e)
-no-such (y ∷ ys) x h (suc k, (lt, e)) = no-such ys x h.1 (k, (omega (arith, lt), e))
+no-such (y ∷ ys) x h (zero, lt, e) = false≢true (sym h.0 ∙ equal y x e)
+no-such (y ∷ ys) x h (suc k, lt, e) = no-such ys x h.1 (k, omega (arith, lt), e)
 
 no-protocol : Contains protocol_actions payload_action → ⊥
 unfolding payload_action

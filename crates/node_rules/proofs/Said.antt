@@ -71,7 +71,7 @@ grant-kept r to t s (Some (Incoming counter message_id acks_to behaviour deadlin
       accept = accept_by r (is_taken (maker r (s + 1)));
     })) [] k is created-action tt (record {
       ident = issue-text 512 (number r) counter (omega arith);
-      expires = mk.1.1;
+      expires = mk.2;
       accept = accept-kept r (is_taken (maker r (s + 1))) h;
     }) tt)
 grant-kept r to t s _ h k is mk = tt

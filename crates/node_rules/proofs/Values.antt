@@ -50,9 +50,9 @@ IsMakerKept (Taken message_id ident endpoint) = IsEprWritable endpoint
 makers-one : (f : Fact) → IsGood f → AllByRecursion IsMakerKept (makers_of f)
 makers-one (Creating ticket to via lapse None) h = ((h.1, h.0), tt)
 makers-one (Creating ticket to via lapse (Some offer)) h = ((h.1, h.0), tt, tt)
-makers-one (Granted counter message_id acks_to behaviour deadline lapse None) h = ((h.1.0, h.0.0, h.0.1.0), tt)
+makers-one (Granted counter message_id acks_to behaviour deadline lapse None) h = ((h.1.0, h.0.0, h.0.1), tt)
 makers-one (Granted counter message_id acks_to behaviour deadline lapse (Some offer)) h =
-    ((h.1.0, h.0.0, h.0.1.0), h.0.1.1, tt)
+    ((h.1.0, h.0.0, h.0.1), h.0.2, tt)
 makers-one _ h = tt
 
 pub maker-kept : (r : List Fact) (s : ℕ) → IsKept r → IfSome (maker r s) IsMakerKept
@@ -165,7 +165,7 @@ accepted_by-kept r s h =
 
 acks_to-by : (r : List Fact) (s : ℕ) → IsKept r → (m : Option Maker) → IfSome m IsMakerKept
     → IfSome (acks_to_of r s m) IsEprWritable
-acks_to-by r s h (Some (Incoming counter message_id to behaviour deadline lapse)) k = k.1.0
+acks_to-by r s h (Some (Incoming counter message_id to behaviour deadline lapse)) k = k.1
 acks_to-by r s h (Some (Offered ticket counter to behaviour)) k = accepted_by-kept r (s - 1) h
 acks_to-by r s h _ k = tt
 

@@ -9,7 +9,7 @@ use Rattle.message_writer.specs.Rules.{KeepsRules}
 use Rattle.record_batch.specs.Fact.{Fact}
 use Rattle.sequence_table.specs.Words.{Text}
 use Rattle.rm_protocol.specs.Calls.{Answer, Wish, create, send, close, end, tick, receive}
-use Rattle.rm_protocol.specs.Terms.{Terms, EndsLater}
+use Rattle.rm_protocol.specs.Terms.{Terms}
 use Rattle.node_rules.specs.OwnTerms.{AreOwn}
 use Rattle.node_rules.specs.Read.{IsContentRead, IsWishWritable}
 use Rattle.node_rules.specs.Records.{IsKept}
@@ -35,11 +35,9 @@ SaysByTheRules answer = AllByRecursion (KeepsRules soap_space) answer.outs
 -- each call keeps the records of a node such
 abbrev pub EachCallKeeps : Type 0
 EachCallKeeps =
-    (terms : Terms) (r : List Fact) (place : ℕ) → AreOwn terms → EndsLater terms → IsKept r
-    → OfEachCall terms r place (LeavesANode r)
+    (terms : Terms) (r : List Fact) (place : ℕ) → AreOwn terms → IsKept r → OfEachCall terms r place (LeavesANode r)
 
 -- each message that a node says keeps the rules
 abbrev pub EachIsByTheRules : Type 0
 EachIsByTheRules =
-    (terms : Terms) (r : List Fact) (place : ℕ) → AreOwn terms → EndsLater terms → IsKept r
-    → OfEachCall terms r place SaysByTheRules
+    (terms : Terms) (r : List Fact) (place : ℕ) → AreOwn terms → IsKept r → OfEachCall terms r place SaysByTheRules

@@ -8,7 +8,7 @@ use Rattle.rm_message.specs.declared.refusal.Refusal.{Refusal}
 use Rattle.message_writer.specs.Faults.{fault_of}
 use Rattle.record_batch.specs.Batch.{batch_text}
 use Rattle.record_batch.specs.Fact.{Fact}
-use Rattle.rm_protocol.specs.Terms.{Terms}
+use Rattle.rm_protocol.specs.Terms.{Terms, AreTerms}
 
 -- a clock tells moments up to this one, and then a duration ends as the calendar says; what begins later never ends
 pub record EndsAsTold (now : ℕ) (lapse : Lapse) (end : Option ℕ) : Type 0 where
@@ -22,3 +22,11 @@ pub record AreOwn (terms : Terms) : Type 0 where
   pub deadline : (now : ℕ) (lapse : Lapse) → EndsAsTold now lapse (terms.deadline now lapse)
   pub content : (bytes : List ℕ) → IsTrue (terms.is_content bytes) ↔ IsClosedContent bytes
   pub fault : (refusal : Refusal) (block : Option AckBlock) → terms.fault refusal block ≡ fault_of refusal block
+
+-- what the protocol asks of terms holds of a node's own
+abbrev pub OwnAreTerms : Type 0
+OwnAreTerms = (terms : Terms) → AreOwn terms → AreTerms terms
+
+-- the calendar tells one moment, or none
+abbrev pub EndsOnce : Type 0
+EndsOnce = (now : ℕ) (lapse : Lapse) (a b : Option ℕ) → IsDeadline now lapse a → IsDeadline now lapse b → a ≡ b

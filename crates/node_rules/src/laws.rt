@@ -1,10 +1,12 @@
 //! Laws of what the records of a node keep, and of what it says, each the contract of a function that does nothing but
 //! to bring in the laws that it stands on.
 ghost use Rattle.node_rules.specs.Keeps.{EachCallKeeps, EachIsByTheRules};
+ghost use Rattle.node_rules.specs.OwnTerms.{EndsOnce, OwnAreTerms};
 
-use ack_ranges::laws::range_is_added;
+use ack_ranges::range_is_added;
 use rm_protocol::laws::each_record_may_come_next;
 use rm_wire::laws::a_fault_keeps_the_rules;
+use sequence_table::laws::a_byte_for_each_number;
 
 /// Each call of a node keeps its records those of a node: what `mount` accepts before a call it accepts after it.
 pub fn each_call_keeps_the_records()
@@ -23,3 +25,17 @@ pub fn each_message_keeps_the_rules()
     a_fault_keeps_the_rules();
     each_record_may_come_next();
 }
+
+/// What the protocol asks of its terms holds of a node's own: a batch takes a byte for each number that it draws, a
+/// duration ends after it begins, and a refusal is answered with a fault.
+pub fn own_terms_are_terms()
+    ensures { OwnAreTerms }
+{
+    a_byte_for_each_number();
+}
+
+/// The calendar tells one moment for the end of a duration, or none, so that a node's own terms tell what `deadline`
+/// of `rm_elements` computes.
+pub fn a_duration_ends_once()
+    ensures { EndsOnce }
+{}
