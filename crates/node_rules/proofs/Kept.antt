@@ -67,7 +67,7 @@ window-more law r f s h fit v room side = by_kind f fit v room side
               omega (arith, few, le)
           | false ↦ λ e le. omega (arith, old, le)
         ] refl more
-    by_kind _ fit v room is = omega (arith, before _ is, unacked-more law r _ s h.values v)
+    by_kind f fit v room is = omega (arith, before f is, unacked-more law r f s h.values v)
 
 windows-more : RangeIsAdded → (r : List Fact) (f : Fact) → IsKept r → fits r f ≡ true → HasValues f → HasRoom r f
     → all_unacked (r ++ f ∷ []) ≤ 4096
@@ -78,8 +78,7 @@ windows-more law r (Accepted seq payload) h fit v room =
     let one : credit 0 f ≤ 1 =
     elim (nat_lt 0 seq) as (λ b. cond b 1 0 ≤ 1) [ true ↦ omega arith | false ↦ omega arith ] in
     omega (arith, more, one, room.1)
-windows-more law r _ h fit v room =
-    let more = all_unacked-more law r _ h.values v h.node.fit fit in omega (arith, more, h.node.windows)
+windows-more law r f h fit v room = omega (arith, all_unacked-more law r f h.values v h.node.fit fit, h.node.windows)
 
 places-more : (r : List Fact) (f : Fact) → length (makers r) ≤ 256
     → length (makers r) + length (makers_of f) ≤ 256 ⊎ (makers_of f ≡ []) → length (makers (r ++ f ∷ [])) ≤ 256

@@ -64,11 +64,9 @@ none-received r s h past =
 gap-more : {A : Type 0} (n k : ℕ) (x : A) (ms : List (ℕ × A)) → n < k
     → length (without_gap n ms) ≤ length (without_gap n (with_message ms k x))
 gap-more n k x [] h = omega arith
-gap-more n k x (m ∷ ms) h = by_tests (nat_lt k m.0) (k == m.0) (m.0 == n + 1) refl refl refl rest
+gap-more n k x (m ∷ ms) h =
+    by_tests (nat_lt k m.0) (k == m.0) (m.0 == n + 1) refl refl refl (λ past. gap-more m.0 k x ms past)
   where
-    rest : m.0 < k → length (without_gap m.0 ms) ≤ length (without_gap m.0 (with_message ms k x))
-    rest = gap-more m.0 k x ms
-
     by_tests : (a b c : Bool) → nat_lt k m.0 ≡ a → (k == m.0) ≡ b → (m.0 == n + 1) ≡ c
         → (m.0 < k → length (without_gap m.0 ms) ≤ length (without_gap m.0 (with_message ms k x)))
         → length (cond c (m.1 ∷ without_gap m.0 ms) [])
@@ -106,7 +104,7 @@ taken r (Received seq n p) s =
         })
       | false ↦ λ e h. inl (h ∙ append-nil (received r s))
     ] refl (flat_map-more (received_of s) r (Received seq n p))
-taken r _ s = inl (flat_map-more (received_of s) r _ ∙ append-nil (received r s))
+taken r f s = inl (flat_map-more (received_of s) r f ∙ append-nil (received r s))
 
 front-at : (r new : List Fact) (s k : ℕ) (p : Payload) → 0 < k → received new s ≡ received r s ++ (k, p) ∷ []
     → front r s ≤ front new s

@@ -95,8 +95,8 @@ accepts-none r (Accepted seq payload) s fit is =
     ] refl
 accepts-none r _ s fit is = refl
 
-unfolding IsBare
 bare-more : (r : List Fact) (f : Fact) → IsBare r → fits r f ≡ true → IsBare (r ++ f ∷ [])
+unfolding IsBare
 bare-more r f h fit s is =
     let bare = creating-bare (r ++ f ∷ []) s is in
     let ident : out_ident r s ≡ None =
@@ -105,8 +105,8 @@ bare-more r f h fit s is =
     let before : phase r s ≡ out.Creating = rw (ident, mark) refl in
     flat_map-more (accepted_of s) r f ∙ rw (h s before, accepts-none r f s fit before) refl
 
-unfolding IsBare
 pub creating-accepts-none : (r : List Fact) (s : ℕ) → all_fit [] r ≡ true → phase r s ≡ out.Creating → accepted r s ≡ []
+unfolding IsBare
 creating-accepts-none r s h is = fit-induction IsBare (λ s e. refl) bare-more r h s is
 
 -- ---- sequences that are sent
@@ -118,9 +118,9 @@ open-sends _ seq ticket e = absurd (false≢true e)
 -- a mark of one sequence
 marked : (p : OutPhase) (seq s : ℕ) (q : OutPhase) → is_sending q ≡ false
     → is_sending (last_or p (at_seq s ((seq, q) ∷ []))) ≡ true → is_sending p ≡ true
-marked p seq s q no =
+marked p seq s q still =
     elim (seq == s) as (λ b. is_sending (last_or p (cond b (q ∷ []) [])) ≡ true → is_sending p ≡ true) [
-      | true ↦ λ e. absurd (false≢true (sym no ∙ e))
+      | true ↦ λ e. absurd (false≢true (sym still ∙ e))
       | false ↦ λ e. e
     ]
 
@@ -128,25 +128,25 @@ marked p seq s q no =
 sends-by : (r : List Fact) (f : Fact) (s : ℕ) → fits r f ≡ true
     → is_sending (last_or (opened_by (phase r s) s f) (at_seq s (mark_of f))) ≡ true
     → (is_sending (phase r s) ≡ true) ⊎ (phase r s ≡ out.Creating)
-sends-by r (Created seq ident accept) s fit =
+sends-by r (Created seq ident accept) s fit h =
     elim (seq == s) as (λ b. (seq == s) ≡ b → is_sending (cond b out.Open (phase r s)) ≡ true
     → (is_sending (phase r s) ≡ true) ⊎ (phase r s ≡ out.Creating)) [
-      | true ↦ λ e h. inr (subst (λ n. phase r n ≡ out.Creating) (eqb-true seq s e)
+      | true ↦ λ e k. inr (subst (λ n. phase r n ≡ out.Creating) (eqb-true seq s e)
           (created-creating r seq ident accept fit))
-      | false ↦ λ e h. inl h
-    ] refl
-sends-by r (Closing seq ticket) s fit =
+      | false ↦ λ e k. inl k
+    ] refl h
+sends-by r (Closing seq ticket) s fit h =
     elim (seq == s) as (λ b. (seq == s) ≡ b → is_sending (last_or (phase r s) (cond b (out.Closing ∷ []) [])) ≡ true
     → (is_sending (phase r s) ≡ true) ⊎ (phase r s ≡ out.Creating)) [
-      | true ↦ λ e h.
+      | true ↦ λ e k.
           let there : follows_at r seq (Closing seq ticket) ≡ true =
           (and_parts _ (follows_at r seq (Closing seq ticket)) fit).1 in
           let may : follows (phase r seq) (Closing seq ticket) ≡ true =
           (and_parts (is_outgoing_side (maker r seq)) _ there).1 in
           inl (subst (λ n. is_sending (phase r n) ≡ true) (eqb-true seq s e)
           (open-sends (phase r seq) seq ticket may))
-      | false ↦ λ e h. inl h
-    ] refl
+      | false ↦ λ e k. inl k
+    ] refl h
 sends-by r (ClosedOut seq) s fit h = inl (marked (phase r s) seq s out.Closed refl h)
 sends-by r (Ending seq ticket) s fit h = inl (marked (phase r s) seq s out.Ending refl h)
 sends-by r (EndedOut seq) s fit h = inl (marked (phase r s) seq s out.Ended refl h)
@@ -155,7 +155,7 @@ sends-by r _ s fit h = inl h
 
 -- how many of a sequence wait, where it is sent
 abbrev waiting : List Fact → ℕ → ℕ
-waiting r s = if is_sending (phase r s) then unacked r s else 0
+waiting r s = cond (is_sending (phase r s)) (unacked r s) 0
 
 waiting-more : RangeIsAdded → (r : List Fact) (f : Fact) (s : ℕ) → AreValues r → HasValues f → all_fit [] r ≡ true
     → fits r f ≡ true → s ≤ length (makers r) → waiting (r ++ f ∷ []) s ≤ waiting r s + length (accepted_of s f)
@@ -178,8 +178,8 @@ waiting-more law r f s h k all fit le = by_phase (is_sending (phase (r ++ f ∷ 
 -- ---- of all sequences
 
 -- what one more record accepts for sequences behind number k
-abbrev credit : ℕ → Fact → ℕ
-credit k (Accepted seq payload) = if nat_lt k seq then 1 else 0
+abbrev pub credit : ℕ → Fact → ℕ
+credit k (Accepted seq payload) = cond (nat_lt k seq) 1 0
 credit k _ = 0
 
 credit-next : (k : ℕ) (f : Fact) → length (accepted_of (k + 1) f) + credit (k + 1) f ≤ credit k f
@@ -215,7 +215,10 @@ unacked_from-more law r f k (m ∷ ms) h v all fit le =
 
 unacked_from-append : (r : List Fact) (k : ℕ) (ms ns : List Maker)
     → unacked_from r k (ms ++ ns) ≡ unacked_from r k ms + unacked_from r (k + length ms) ns
-unacked_from-append r k [] ns = let none : k + 0 ≡ k = omega arith in rw none refl
+unacked_from-append r k [] ns =
+    let none : k + 0 ≡ k = omega arith in
+    let same : unacked_from r (k + 0) ns ≡ unacked_from r k ns = ap (λ n. unacked_from r n ns) none in
+    omega (arith, same)
 unacked_from-append r k (m ∷ ms) ns =
     let rest = unacked_from-append r (k + 1) ms ns in
     let place : k + 1 + length ms ≡ k + length (m ∷ ms) = omega arith in

@@ -127,9 +127,9 @@ fits-few r (Accepted seq payload) s fit few =
           omega (arith, same, here)
       | false ↦ λ e same. omega (arith, same, few)
     ] refl all
-fits-few r _ s fit few =
-    let same : accepted (r ++ _ ∷ []) s ≡ accepted r s =
-    flat_map-more (accepted_of s) r _ ∙ append-nil (accepted r s) in
+fits-few r f s fit few =
+    let same : accepted (r ++ f ∷ []) s ≡ accepted r s =
+    flat_map-more (accepted_of s) r f ∙ append-nil (accepted r s) in
     subst (λ z. length z ≤ 9223372036854775807) (sym same) few
 
 pub few-accepted : (r : List Fact) (s : ℕ) → all_fit [] r ≡ true → length (accepted r s) ≤ 9223372036854775807
@@ -191,8 +191,8 @@ received-one r (Received seq n payload) s fit =
     ]
 received-one r _ s fit = tt
 
-unfolding AreHeld
 are-held : (r : List Fact) (s : ℕ) → all_fit [] r ≡ true → AreHeld s r
+unfolding AreHeld
 are-held r s h = fit-induction (AreHeld s) tt
     (λ x f old fit. subst (AllByRecursion (λ (m : ℕ × Payload). IsNumber m.0))
     (sym (flat_map-more (received_of s) x f))
@@ -203,8 +203,8 @@ numbers-of : (ms : List (ℕ × Payload)) → AllByRecursion (λ (m : ℕ × Pay
 numbers-of [] h = tt
 numbers-of (m ∷ ms) h = (h.0, numbers-of ms h.1)
 
-unfolding AreHeld
 held-numbers : (r : List Fact) (s : ℕ) → all_fit [] r ≡ true → AllByRecursion IsNumber (held r s)
+unfolding AreHeld
 held-numbers r s h = numbers-of (received r s) (are-held r s h)
 
 -- a range of message numbers
