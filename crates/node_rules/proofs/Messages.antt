@@ -165,7 +165,7 @@ no-protocol : Contains protocol_actions payload_action → ⊥
 unfolding payload_action
 no-protocol c =
     no-such protocol_actions (codes "urn:wsrm:payload")
-    (refl, refl, refl, refl, refl, refl, refl, refl, refl, refl, tt) c
+    (refl, (refl, (refl, (refl, (refl, (refl, (refl, (refl, (refl, (refl, tt)))))))))) c
 
 data-kept : (to : Epr) (q : Text) (i : ℕ) (p : Text) → IsEprWritable to → IsText 512 q → IsNumber i
     → IsClosedContent p → IsByTheRules (data_of to q i p)

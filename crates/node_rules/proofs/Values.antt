@@ -49,10 +49,10 @@ IsMakerKept (Taken message_id ident endpoint) = IsEprWritable endpoint
 
 makers-one : (f : Fact) → IsGood f → AllByRecursion IsMakerKept (makers_of f)
 makers-one (Creating ticket to via lapse None) h = ((h.1, h.0), tt)
-makers-one (Creating ticket to via lapse (Some offer)) h = ((h.1, h.0), tt, tt)
-makers-one (Granted counter message_id acks_to behaviour deadline lapse None) h = ((h.1.0, h.0.0, h.0.1), tt)
-makers-one (Granted counter message_id acks_to behaviour deadline lapse (Some offer)) h =
-    ((h.1.0, h.0.0, h.0.1), h.0.2, tt)
+makers-one (Creating ticket to via lapse (Some offer)) h = ((h.1, h.0), (tt, tt))
+makers-one (Granted counter message_id to behaviour deadline lapse None) h = ((h.1.0, h.0.0, h.0.1), tt)
+makers-one (Granted counter message_id to behaviour deadline lapse (Some offer)) h =
+    ((h.1.0, h.0.0, h.0.1), (h.0.2, tt))
 makers-one _ h = tt
 
 pub maker-kept : (r : List Fact) (s : ℕ) → IsKept r → IfSome (maker r s) IsMakerKept
