@@ -1,23 +1,18 @@
 -- Each call of a node: the records that it adds stay within the limits, and what it says keeps the rules.
-use Rattle.std.proofs.Common.{◌≡◌, ◌≢◌, ℕ, ◌+◌, ◌-◌, ◌<◌, ◌≤◌, ◌==◌, ◌⊎◌, Bool, true, false, cond, List, [], ◌∷◌}
-use Rattle.std.proofs.Common.{◌++◌, length, refl, sym, ap, subst, ◌∙◌, arith, inl, inr, append-nil, Option, Some, None}
-use Rattle.std.specs.Prelude.{◌&&◌, ◌||◌, not, nat_le, nat_lt, is_none, IfSome, IsTrue, Result, Ok, Err}
+use Rattle.std.proofs.Common.{◌≡◌, ℕ, ◌+◌, ◌≤◌, Bool, true, false, cond, List, [], ◌∷◌}
+use Rattle.std.proofs.Common.{◌++◌, length, refl, sym, subst, arith, inl, inr, Option, Some, None}
+use Rattle.std.specs.Prelude.{◌&&◌, not, nat_le, nat_lt, IfSome, Result, Ok, Err}
 use Rattle.std.specs.List.{AllByRecursion}
 use Rattle.std.specs.Option.{option_to_list}
 use Rattle.std.proofs.lemmas.Bool.Decides.{nat_tests}
-use Rattle.ack_ranges.specs.declared.range.Range.{Range}
 use Rattle.ack_ranges.specs.Laws.{RangeIsAdded}
 use Rattle.rm_base.specs.Text.{IsText}
 use Rattle.rm_base.specs.declared.message.Behaviour.{Behaviour}
 use Rattle.rm_base.specs.declared.message.Cause.TheVariants.{Operator, Expired}
-use Rattle.rm_elements.specs.Writable.{IsAckWritable, IsSequenceWritable, IsRange, IsKindWritable}
+use Rattle.rm_elements.specs.Writable.{IsAckWritable, IsSequenceWritable}
 use Rattle.rm_elements.specs.declared.header.AckBlock.{AckBlock}
-use Rattle.rm_elements.specs.declared.header.AckKind.{AckKind}
-use Rattle.rm_elements.specs.declared.header.AckKind.TheVariants as kind
 use Rattle.rm_elements.specs.declared.header.SeqHeader.{SeqHeader}
-use Rattle.rm_elements.specs.declared.lapse.Lapse.{Lapse}
 use Rattle.rm_elements.specs.declared.lifecycle.Lifecycle.TheVariants as life
-use Rattle.rm_source.specs.declared.phase.OutPhase.{OutPhase}
 use Rattle.rm_message.specs.declared.message.Body.{Body}
 use Rattle.rm_message.specs.declared.message.Body.TheVariants as body
 use Rattle.rm_message.specs.declared.message.Message.{Message}
@@ -25,12 +20,10 @@ use Rattle.rm_message.specs.declared.refusal.FaultKind.{FaultKind}
 use Rattle.rm_message.specs.declared.refusal.FaultKind.TheVariants.{UnknownSequence, SequenceTerminated}
 use Rattle.rm_message.specs.declared.refusal.FaultKind.TheVariants.{SequenceClosed, InvalidAcknowledgement}
 use Rattle.rm_message.specs.declared.refusal.Refusal.{Refusal}
-use Rattle.soap_profile.specs.Payload.{IsClosedContent}
 use Rattle.soap_profile.specs.Soap.{soap_space}
 use Rattle.message_writer.specs.Faults.{fault_of}
 use Rattle.message_writer.specs.Rules.{KeepsRules}
 use Rattle.rm_wire.specs.Writable.{IsRefusalWritable}
-use Rattle.record_batch.specs.declared.record.Via.{Via}
 use Rattle.record_batch.specs.Fact.{Fact, Creating, Accepted, Closing, Closed, Ending, Ended}
 use Rattle.sequence_table.specs.Words.{Text}
 use Rattle.sequence_table.specs.Idents.{issue}
@@ -46,18 +39,18 @@ use Rattle.rm_protocol.specs.Calls.{close_out, close_in, close_by, close, may_en
 use Rattle.rm_protocol.specs.Calls.{first_invalid, block_by, block_at, fault_block, fault_ident, refusal_of, judged}
 use Rattle.rm_protocol.specs.Calls.{receive}
 use Rattle.rm_protocol.specs.Messages.{block_of, data_at, request_at}
-use Rattle.rm_protocol.specs.Rows.{ranges_of, rows}
+use Rattle.rm_protocol.specs.Rows.{rows}
 use Rattle.rm_protocol.specs.Said.{ack_to, said}
 use Rattle.rm_protocol.specs.Terms.{Terms}
-use Rattle.rm_protocol.specs.Verdict.{first_held, has_room, is_invalid, refuses_create, target, tests, verdict}
+use Rattle.rm_protocol.specs.Verdict.{first_held, has_room, is_invalid, target, tests, verdict}
 use Rattle.node_rules.specs.OwnTerms.{AreOwn}
 use Rattle.node_rules.specs.Read.{IsBodyRead, IsContentRead, IsWishWritable, WasRead}
 use Rattle.node_rules.specs.Records.{IsKept}
 use Rattle.node_rules.proofs.Kept.{AreAllowed}
 use Rattle.node_rules.proofs.Lists.{to_list}
 use Rattle.node_rules.proofs.Messages.{IsByTheRules, data_at-kept, request_at-kept}
-use Rattle.node_rules.proofs.Rows.{IsQuiet, if-quiet, quiets-allowed, rows-allowed}
-use Rattle.node_rules.proofs.Said.{IsAckKept, ack_to-kept, fault-kept, own_messages-kept, said-kept}
+use Rattle.node_rules.proofs.Rows.{IsQuiet, quiets-allowed, rows-allowed}
+use Rattle.node_rules.proofs.Said.{ack_to-kept, fault-kept, own_messages-kept, said-kept}
 use Rattle.node_rules.proofs.Texts.{issue-text}
 use Rattle.node_rules.proofs.Values.{acks_to-kept, block-kept}
 
@@ -122,14 +115,16 @@ create-good terms r place wish h =
     unless-refused r (nat_lt 256 (length (makers r) + wanted wish.offer)) (TooManySequences (length (makers r))) _
     (λ e. if_room-good terms r place
     (adds r (f ∷ []) (λ now. option_to_list (request_at now (length (makers r) + 1))))
-    (adds-good r (f ∷ []) (λ now. option_to_list (request_at now (length (makers r) + 1)))
-    (record {
-      limits = h.expires;
-      values = h.to;
-      places = inl (places-left r (counter r + 1) wish e);
-      room = tt;
-      near = tt;
-    }, tt)
+    (adds-good r (f ∷ []) (λ now. option_to_list (request_at now (length (makers r) + 1))) (
+      record {
+        limits = h.expires;
+        values = h.to;
+        places = inl (places-left r (counter r + 1) wish e);
+        room = tt;
+        near = tt;
+      },
+      tt,
+    )
     (λ k. to_list IsByTheRules (request_at (r ++ f ∷ []) (length (makers r) + 1))
     (request_at-kept (r ++ f ∷ []) (length (makers r) + 1) k))))
 
@@ -150,14 +145,16 @@ send-good terms r place s text own =
     unless-refused r (nat_le 9223372036854775807 (length (accepted r s))) Rollover _ (λ g.
     if_room-good terms r place
     (adds r (f ∷ []) (λ now. option_to_list (data_at now s (length (accepted r s) + 1))))
-    (adds-good r (f ∷ []) (λ now. option_to_list (data_at now s (length (accepted r s) + 1)))
-    (record {
-      limits = (own.content text).0 (not-false (terms.is_content text) b);
-      values = tt;
-      places = inr refl;
-      room = (grind (arith, nat_tests, d), grind (arith, nat_tests, e));
-      near = tt;
-    }, tt)
+    (adds-good r (f ∷ []) (λ now. option_to_list (data_at now s (length (accepted r s) + 1))) (
+      record {
+        limits = (own.content text).0 (not-false (terms.is_content text) b);
+        values = tt;
+        places = inr refl;
+        room = (grind (arith, nat_tests, d), grind (arith, nat_tests, e));
+        near = tt;
+      },
+      tt,
+    )
     (λ k. to_list IsByTheRules (data_at (r ++ f ∷ []) s (length (accepted r s) + 1))
     (data_at-kept (r ++ f ∷ []) s (length (accepted r s) + 1) k))))))))))
 

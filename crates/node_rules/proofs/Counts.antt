@@ -1,5 +1,5 @@
 -- More ranges never have fewer numbers.
-use Rattle.std.proofs.Common.{◌≡◌, ℕ, ◌+◌, ◌-◌, ◌<◌, ◌≤◌, min, max, Bool, true, false, cond, List, [], ◌∷◌, refl, arith}
+use Rattle.std.proofs.Common.{◌≡◌, ℕ, ◌+◌, ◌-◌, ◌<◌, ◌≤◌, min, max, true, false, cond, List, [], ◌∷◌, arith}
 use Rattle.std.specs.Prelude.{nat_lt}
 use Rattle.std.specs.List.{AllByRecursion}
 use Rattle.std.proofs.lemmas.Bool.Decides.{nat_tests}
@@ -55,10 +55,10 @@ grows first lower upper (r ∷ rs) h =
     (range lower upper ∷ r ∷ rs) (with_range rs (min r.lower lower) (max r.upper upper))))) [
       | true ↦ omega (arith, rest, all, behind)
       | false ↦ elim (nat_lt (upper + 1) r.lower) as (λ x. count_of (r ∷ rs)
-      ≤ count_of (cond x (range lower upper ∷ r ∷ rs) (with_range rs (min r.lower lower) (max r.upper upper)))) [
-        | true ↦ omega (arith, more)
-        | false ↦ omega (arith, one, all)
-      ]
+          ≤ count_of (cond x (range lower upper ∷ r ∷ rs) (with_range rs (min r.lower lower) (max r.upper upper)))) [
+            | true ↦ omega (arith, more)
+            | false ↦ omega (arith, one, all)
+          ]
     ]
 
 -- ---- unions

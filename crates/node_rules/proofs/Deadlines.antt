@@ -1,18 +1,16 @@
 -- When a duration ends: later than it begins, and at one moment alone.
-use Rattle.std.proofs.Common.{◌≡◌, ℕ, suc, ◌+◌, ◌*◌, ◌/◌, ◌%◌, ◌<◌, ◌≤◌, ◌⊎◌, refl, sym, ap, subst, ◌∙◌, arith, inl, inr}
+use Rattle.std.proofs.Common.{◌≡◌, ℕ, suc, ◌+◌, ◌*◌, ◌/◌, ◌%◌, ◌<◌, ◌⊎◌, refl, sym, ap, subst, ◌∙◌, arith, inl, inr}
 use Rattle.std.proofs.Common.{Option, Some, None}
 use Prim.Native.Nat.{zero}
-use Rattle.std.specs.Prelude.{ℤ, pos, negsuc, ◌+ℤ◌, ◌*ℤ◌, ◌<ℤ◌, ◌≤ℤ◌, unsigned_abs, nat_le, IfSome}
-use Rattle.std.proofs.lemmas.Bool.{leb-true}
-use Rattle.std.proofs.lemmas.Bool.Decides.{nat_tests}
+use Rattle.std.specs.Prelude.{ℤ, pos, negsuc, ◌+ℤ◌, ◌*ℤ◌, ◌<ℤ◌, ◌≤ℤ◌, unsigned_abs}
 use Rattle.jiff_core.specs.declared.civil.date.Date.{Date}
 use Rattle.jiff_core.specs.Date.{epoch_day}
 use Rattle.jiff_core.proofs.DateLemmas.{epoch_day_injective}
 use Rattle.jiff_core.proofs.SignedLemmas.{signed_arith}
 use Rattle.jiff_core.specs.Calendar.{IsYear}
-use Rattle.jiff_span.specs.Months.{add_months, shifted_year, IsShiftable}
+use Rattle.jiff_span.specs.Months.{add_months, shifted_year}
 use Rattle.jiff_span.proofs.MonthLemmas.{add_months-zero, add_months-forward}
-use Rattle.rm_elements.specs.Deadline.{IsZero, IsDateOf, sum_of, EndsAt, IsDeadline}
+use Rattle.rm_elements.specs.Deadline.{IsDateOf, sum_of, EndsAt, IsDeadline}
 use Rattle.rm_elements.specs.declared.lapse.Lapse.{Lapse}
 
 -- ---- it ends later

@@ -1,11 +1,9 @@
 -- Each call keeps the records of a node such, and what it says keeps the rules.
-use Rattle.std.proofs.Common.{◌≡◌, ℕ, ◌<◌, ◌≤◌, Bool, true, List, [], ◌∷◌, ◌++◌, arith, Option, Some, None}
+use Rattle.std.proofs.Common.{◌≡◌, ℕ, ◌≤◌, Bool, true, List, Option, Some, None}
 use Rattle.std.specs.Prelude.{IfSome, Result, Ok, Err}
 use Rattle.std.specs.List.{AllByRecursion}
 use Rattle.ack_ranges.specs.declared.range.Range.{Range}
-use Rattle.rm_base.specs.declared.message.Behaviour.{Behaviour}
 use Rattle.rm_elements.specs.Writable.{IsAckWritable, IsKindWritable, IsRange, IsSequenceWritable}
-use Rattle.rm_elements.specs.declared.header.AckBlock.{AckBlock}
 use Rattle.rm_elements.specs.declared.header.AckKind.{AckKind}
 use Rattle.rm_elements.specs.declared.header.AckKind.TheVariants as kind
 use Rattle.rm_elements.specs.declared.header.SeqHeader.{SeqHeader}
@@ -14,12 +12,12 @@ use Rattle.rm_message.specs.declared.refusal.Refusal.{Refusal}
 use Rattle.record_batch.specs.Fact.{Fact}
 use Rattle.sequence_table.specs.Fits.{all_fit}
 use Rattle.rm_protocol.specs.Calls.{Answer, create, send, close, end, tick, receive}
-use Rattle.rm_protocol.specs.Next.{BeginsAtOne, IsMessageNumber, HasNumbers, IsReadable, AddsNext, EachMayComeNext}
+use Rattle.rm_protocol.specs.Next.{BeginsAtOne, IsMessageNumber, IsReadable, AddsNext, EachMayComeNext}
 use Rattle.rm_protocol.specs.Rows.{ranges_of}
 use Rattle.rm_protocol.specs.Terms.{Terms}
 use Rattle.node_rules.specs.Keeps.{OfEachCall, LeavesANode, SaysByTheRules, EachCallKeeps, EachIsByTheRules}
 use Rattle.node_rules.specs.OwnTerms.{AreOwn}
-use Rattle.node_rules.specs.Read.{WasRead, IsContentRead}
+use Rattle.node_rules.specs.Read.{IsContentRead}
 use Rattle.node_rules.specs.Records.{IsKept}
 use Rattle.node_rules.proofs.Calls.{Below, IsGoodAnswer, create-good, send-good, close-good, end-good, tick-good}
 use Rattle.node_rules.proofs.Calls.{receive-good}

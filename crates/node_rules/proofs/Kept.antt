@@ -1,18 +1,16 @@
 -- What one more record must have so that the records stay those of a node.
-use Rattle.std.proofs.Common.{◌≡◌, ◌≢◌, ℕ, ◌+◌, ◌-◌, ◌<◌, ◌≤◌, ◌==◌, ◌⊎◌, Bool, true, false, cond, List, [], ◌∷◌}
+use Rattle.std.proofs.Common.{◌≡◌, ℕ, ◌+◌, ◌<◌, ◌≤◌, ◌==◌, ◌⊎◌, true, false, cond, List, [], ◌∷◌}
 use Rattle.std.proofs.Common.{◌++◌, length, refl, sym, ap, subst, ◌∙◌, arith, inl, inr, append-nil, append_assoc}
 use Rattle.std.proofs.Common.{length-append}
 use Rattle.std.specs.Prelude.{nat_lt}
-use Rattle.std.specs.List.{AllByRecursion, flat_map}
-use Rattle.std.proofs.lemmas.Bool.{and_parts, eqb-true}
-use Rattle.std.proofs.lemmas.Bool.Decides.{nat_tests}
+use Rattle.std.proofs.lemmas.Bool.{and_parts, eqb-true, le-leb, lt-ltb}
 use Rattle.ack_ranges.specs.Laws.{RangeIsAdded}
-use Rattle.record_batch.specs.Fact.{Fact, Made, Creating, Granted, Accepted, Received}
+use Rattle.record_batch.specs.Fact.{Fact, Made, Accepted}
 use Rattle.sequence_table.specs.Makers.{makers, makers_of, maker}
-use Rattle.sequence_table.specs.Sources.{accepted, accepted_of, unacked, all_unacked}
+use Rattle.sequence_table.specs.Sources.{accepted_of, unacked, all_unacked}
 use Rattle.sequence_table.specs.Fits.{fits, all_fit, is_outgoing_side}
 use Rattle.sequence_table.specs.GatherLemmas.{flat_map-more}
-use Rattle.node_rules.specs.Records.{KeepsLimits, HasValues, BeginsWithMade, IsNode, IsKept}
+use Rattle.node_rules.specs.Records.{KeepsLimits, HasValues, BeginsWithMade, IsKept, MadeIsKept}
 use Rattle.node_rules.proofs.Lists.{All-append, all_fit-append}
 use Rattle.node_rules.proofs.Near.{TakesNear, near-more, side-before}
 use Rattle.node_rules.proofs.Unacked.{unacked-more, none-accepted, none-unacked, all_unacked-more, credit}
@@ -114,3 +112,20 @@ kept-all law r (f ∷ fs) h fit a =
     let parts = and_parts (fits r f) (all_fit (r ++ f ∷ []) fs) fit in
     subst IsKept (append_assoc r (f ∷ []) fs)
     (kept-all law (r ++ f ∷ []) fs (kept-more law r f h parts.0 a.0) parts.1 a.1)
+
+-- the record of a node that was just made
+pub made-kept : MadeIsKept
+made-kept number address low high is = record {
+  node = record {
+    begins = tt;
+    fit = rw (le-leb 1 number low, lt-ltb number (2 ^ 60) high) refl;
+    each = (tt, tt);
+    sequences = omega arith;
+    window = λ s side.
+        let none : unacked (Made number address ∷ []) s ≡ 0 = none-unacked (Made number address ∷ []) s refl in
+        omega (arith, none);
+    windows = omega arith;
+    near = λ s n side has. absurd (cc);
+  };
+  values = (is, tt);
+}

@@ -1,4 +1,6 @@
+mod Calendar
 mod Calls
+mod Content
 mod Counts
 mod Deadlines
 mod EachCall

@@ -1,8 +1,8 @@
 -- The messages that a node says of its records keep the rules of what is written.
-use Rattle.std.proofs.Common.{◌≡◌, ◌≢◌, ℕ, suc, ◌+◌, ◌-◌, ◌<◌, ◌≤◌, ◌==◌, Bool, true, false, cond, List, [], ◌∷◌, ◌++◌}
-use Rattle.std.proofs.Common.{length, refl, sym, ap, subst, ◌∙◌, arith, Option, Some, None}
+use Rattle.std.proofs.Common.{◌≡◌, ℕ, suc, ◌+◌, ◌-◌, ◌<◌, ◌≤◌, ◌==◌, true, false, cond, List, [], ◌∷◌}
+use Rattle.std.proofs.Common.{length, refl, sym, ◌∙◌, arith, Option, Some, None}
 use Prim.Native.Nat.{zero}
-use Rattle.std.specs.Prelude.{codes, Contains, IfSome, IsSome, slice_get, slice_index_or}
+use Rattle.std.specs.Prelude.{codes, Contains, IfSome, slice_get}
 use Rattle.std.specs.List.{AllByRecursion}
 use Rattle.std.specs.Str.{bytes_eq}
 use Rattle.std.proofs.lemmas.Bool.{false≢true}
@@ -10,7 +10,7 @@ use Rattle.std.proofs.lemmas.Bool.Decides.{nat_tests}
 use Rattle.std.proofs.lemmas.Option.{slice_get_within}
 use Rattle.rm_base.specs.Numbered.{numbered}
 use Rattle.rm_base.specs.Text.{IsText}
-use Rattle.rm_elements.specs.Writable.{IsNumber, IsAckWritable, IsLapseWritable, IsLifecycleWritable, IsFinishWritable}
+use Rattle.rm_elements.specs.Writable.{IsNumber, IsAckWritable, IsLifecycleWritable, IsFinishWritable}
 use Rattle.rm_elements.specs.Writable.{IsOfferWritable}
 use Rattle.rm_elements.specs.declared.header.AckBlock.{AckBlock}
 use Rattle.rm_elements.specs.declared.lifecycle.Finish.{Finish}
@@ -28,22 +28,20 @@ use Rattle.soap_values.specs.TextLaws.{literal_is_text}
 use Rattle.wsa_headers.specs.Writable.{IsEprWritable, IsAddressingWritable, IsParamWritable}
 use Rattle.wsa_headers.specs.declared.addressing.Addressing.{Addressing}
 use Rattle.wsa_headers.specs.declared.endpoint.Epr.{Epr}
-use Rattle.message_writer.specs.Rules.{KeepsRules, action_for, bare_actions, protocol_actions, HasItsId}
+use Rattle.message_writer.specs.Rules.{KeepsRules, action_for, protocol_actions, HasItsId}
 use Rattle.record_batch.specs.declared.record.Via.{Via}
 use Rattle.record_batch.specs.declared.record.Via.TheVariants.{Direct, Polled, Back}
 use Rattle.record_batch.specs.Fact.{Fact}
 use Rattle.sequence_table.specs.Words.{Text, last_or}
 use Rattle.sequence_table.specs.Idents.{issue}
-use Rattle.sequence_table.specs.Makers.{Maker, Outgoing, Offered, Incoming, Taken, maker, number, address}
+use Rattle.sequence_table.specs.Makers.{Maker, Outgoing, Offered, maker, number}
 use Rattle.sequence_table.specs.Sources.{accepted, out_ident, phase, tickets}
 use Rattle.sequence_table.specs.Find.{peer, plain_endpoint}
-use Rattle.sequence_table.specs.Fits.{all_fit}
 use Rattle.rm_protocol.specs.Addresses.{rm_action, payload_action, anonymous, own_address, reply_to}
 use Rattle.rm_protocol.specs.Messages.{written_scope, data_of, data_by, data_at, request_of, never, offer_by}
 use Rattle.rm_protocol.specs.Messages.{create_request, via_of, last_number, finish_of, finish_request, request_by}
 use Rattle.rm_protocol.specs.Messages.{request_at, ack_message, response_of}
 use Rattle.node_rules.specs.Records.{IsKept}
-use Rattle.node_rules.proofs.Lists.{there}
 use Rattle.node_rules.proofs.Texts.{issue-text, polled-text}
 use Rattle.node_rules.proofs.Values.{IsMakerKept, maker-kept, ident-kept, address-kept, payload-kept, few-accepted}
 use Rattle.node_rules.proofs.Values.{plain-kept, peer-kept}
@@ -151,7 +149,7 @@ headers-kept to action id relates reply h a i k s = record {
 
 -- ---- data
 
-scope-is : written_scope ≡ sorted_scope soap_space
+pub scope-is : written_scope ≡ sorted_scope soap_space
 unfolding written_scope
 scope-is = refl
 
@@ -182,11 +180,11 @@ data-kept to q i p h is n c = record {
 numbered-is : {A : Type 0} (xs : List A) (n : ℕ) (x : A) → numbered xs n ≡ Some x → (0 < n) × (n ≤ length xs)
 numbered-is xs n x e = elim (n == 0) as (λ b. (n == 0) ≡ b → cond b None (slice_get xs (n - 1)) ≡ Some x
     → (0 < n) × (n ≤ length xs)) [
-  | true ↦ λ k f. absurd (cc)
-  | false ↦ λ k f.
-      let within : n - 1 < length xs = slice_get_within xs (n - 1) x f in
-      (grind (arith, nat_tests), grind (arith, nat_tests, within))
-] refl e
+      | true ↦ λ k f. absurd (cc)
+      | false ↦ λ k f.
+          let within : n - 1 < length xs = slice_get_within xs (n - 1) x f in
+          (grind (arith, nat_tests), grind (arith, nat_tests, within))
+    ] refl e
 
 -- a message that was accepted is said by the rules
 pub data_at-kept : (r : List Fact) (s i : ℕ) → IsKept r → IfSome (data_at r s i) IsByTheRules
@@ -239,10 +237,10 @@ offer-kept r via ticket (Some (Offered own counter to behaviour)) h =
       behaviour = behaviour;
     })) None) IsOfferWritable) [
       | true ↦ record {
-          ident = issue-text 512 (number r) counter (omega arith);
-          endpoint = own-kept r via h;
-          expires = record { months = omega arith; ms = omega arith };
-        }
+        ident = issue-text 512 (number r) counter (omega arith);
+        endpoint = own-kept r via h;
+        expires = record { months = omega arith; ms = omega arith };
+      }
       | false ↦ tt
     ]
 offer-kept r via ticket _ h = tt

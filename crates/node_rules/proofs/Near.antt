@@ -1,9 +1,8 @@
 -- How far behind its front a sequence has received, after one more record.
-use Rattle.std.proofs.Common.{◌≡◌, ◌≢◌, ℕ, suc, ◌+◌, ◌-◌, ◌<◌, ◌≤◌, ◌==◌, ◌⊎◌, Bool, true, false, cond, List, []}
-use Rattle.std.proofs.Common.{◌∷◌, ◌++◌, length, refl, sym, ap, subst, ◌∙◌, arith, inl, inr, append-nil, Option, Some, None}
+use Rattle.std.proofs.Common.{◌≡◌, ℕ, suc, ◌+◌, ◌-◌, ◌<◌, ◌≤◌, ◌==◌, ◌⊎◌, Bool, true, false, cond, List, []}
+use Rattle.std.proofs.Common.{◌∷◌, ◌++◌, length, refl, sym, ap, subst, ◌∙◌, arith, inl, inr, append-nil, Option, None}
 use Prim.Native.Nat.{zero}
-use Rattle.std.specs.Prelude.{◌&&◌, ◌||◌, nat_lt, nat_le, slice_get}
-use Rattle.std.specs.List.{AllByRecursion, flat_map}
+use Rattle.std.specs.Prelude.{◌||◌, nat_lt, nat_le, slice_get}
 use Rattle.std.proofs.lemmas.Bool.{and_parts, eqb-true, leb-true}
 use Rattle.std.proofs.lemmas.Bool.Decides.{nat_tests}
 use Rattle.rm_base.specs.Numbered.{numbered}
@@ -14,7 +13,6 @@ use Rattle.sequence_table.specs.Words.{with_message, sorted_onto, without_gap, n
 use Rattle.sequence_table.specs.Makers.{Maker, makers, makers_of, maker}
 use Rattle.sequence_table.specs.Destinations.{received_of, received, held, front}
 use Rattle.sequence_table.specs.Fits.{fits, all_fit, is_incoming_side}
-use Rattle.sequence_table.specs.Told.{names}
 use Rattle.sequence_table.specs.GatherLemmas.{flat_map-more}
 use Rattle.sequence_table.specs.NameLemmas.{names-fit, elsewhere_received, unnamed}
 
@@ -97,11 +95,11 @@ taken r (Received seq n p) s =
     ++ cond b ((n, p) ∷ []) [] → (received (r ++ Received seq n p ∷ []) s ≡ received r s)
     ⊎ IsTaken r (Received seq n p) s) [
       | true ↦ λ e h. inr (record {
-          number = n;
-          payload = p;
-          is = ap (λ t. Received t n p) (eqb-true seq s e);
-          same = h;
-        })
+        number = n;
+        payload = p;
+        is = ap (λ t. Received t n p) (eqb-true seq s e);
+        same = h;
+      })
       | false ↦ λ e h. inl (h ∙ append-nil (received r s))
     ] refl (flat_map-more (received_of s) r (Received seq n p))
 taken r f s = inl (flat_map-more (received_of s) r f ∙ append-nil (received r s))

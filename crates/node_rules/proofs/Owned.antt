@@ -1,20 +1,22 @@
 -- What a node's own terms are.
-use Rattle.std.proofs.Common.{◌≡◌, ℕ, ◌<◌, ◌≤◌, Bool, true, false, List, [], ◌∷◌, length, refl, sym, subst, arith}
+use Rattle.std.proofs.Common.{◌≡◌, ℕ, ◌<◌, ◌≤◌, Bool, true, false, List, length, refl, sym, subst, arith}
 use Rattle.std.proofs.Common.{Option, Some, None}
 use Rattle.std.specs.Prelude.{nat_le, IfSome}
 use Rattle.std.proofs.lemmas.Bool.{leb-true}
 use Rattle.std.proofs.lemmas.Bool.Decides.{nat_tests}
 use Rattle.rm_elements.specs.declared.header.AckBlock.{AckBlock}
 use Rattle.rm_elements.specs.declared.lapse.Lapse.{Lapse}
+use Rattle.rm_message.specs.declared.message.Message.{Message}
 use Rattle.rm_message.specs.declared.refusal.FaultKind.{FaultKind}
 use Rattle.rm_message.specs.declared.refusal.FaultKind.TheVariants.{SequenceClosed}
-use Rattle.rm_message.specs.declared.refusal.Refusal.{Refusal}
 use Rattle.message_writer.specs.Faults.{acks_of, fault_of}
 use Rattle.record_batch.specs.Batch.{batch_text}
 use Rattle.record_batch.specs.Fact.{Fact}
 use Rattle.sequence_table.specs.Makers.{counter}
 use Rattle.rm_protocol.specs.Terms.{Terms, AreTerms, EndsLater, IsFault, header_blocks}
 use Rattle.node_rules.specs.OwnTerms.{EndsAsTold, AreOwn}
+use Rattle.node_rules.proofs.Calendar.{has-deadline}
+use Rattle.node_rules.proofs.Content.{Documents, told}
 use Rattle.node_rules.proofs.Deadlines.{ends-later}
 
 later-by : (now : ℕ) (lapse : Lapse) (end : Option ℕ) → EndsAsTold now lapse end
@@ -52,3 +54,23 @@ own-are-terms law terms own = record {
     sequence = refl;
   });
 }
+
+-- there are such terms, over any network
+pub there-are-own : Documents → (takes : List Message → Message → Bool)
+    → (terms : Terms) × (terms.takes ≡ takes) × AreOwn terms
+there-are-own documents takes = (
+  record {
+    size = λ batch. length (batch_text batch);
+    deadline = λ now lapse. (has-deadline now lapse).end;
+    is_content = λ bytes. (told documents bytes).answer;
+    fault = fault_of;
+    takes = takes;
+  },
+  refl,
+  record {
+    size = λ batch. refl;
+    deadline = λ now lapse. (has-deadline now lapse).is;
+    content = λ bytes. (told documents bytes).tells;
+    fault = λ refusal block. refl;
+  },
+)

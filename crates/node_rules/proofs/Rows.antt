@@ -1,15 +1,14 @@
 -- The records that come with a message that was read stay within the limits of a node.
-use Rattle.std.proofs.Common.{◌≡◌, ◌≢◌, ℕ, ◌+◌, ◌-◌, ◌<◌, ◌≤◌, ◌==◌, ◌⊎◌, Bool, true, false, cond, List, [], ◌∷◌}
+use Rattle.std.proofs.Common.{◌≡◌, ℕ, ◌+◌, ◌<◌, Bool, true, false, cond, List, [], ◌∷◌}
 use Rattle.std.proofs.Common.{◌++◌, length, refl, sym, ap, subst, ◌∙◌, arith, inl, inr, append-nil, append_assoc}
 use Rattle.std.proofs.Common.{Option, Some, None}
-use Rattle.std.specs.Prelude.{◌&&◌, ◌||◌, not, nat_le, nat_lt, is_none, codes, IfSome}
-use Rattle.std.specs.List.{AllByRecursion, flat_map}
-use Rattle.std.proofs.lemmas.Bool.{and_parts, ltb-true}
+use Rattle.std.specs.Prelude.{◌&&◌, ◌||◌, not, nat_le, nat_lt, is_none, IfSome}
+use Rattle.std.specs.List.{AllByRecursion}
+use Rattle.std.proofs.lemmas.Bool.{ltb-true}
 use Rattle.std.proofs.lemmas.Bool.Decides.{nat_tests}
 use Rattle.ack_ranges.specs.declared.range.Range.{Range}
 use Rattle.ack_ranges.specs.Changes.{united, covers_all}
 use Rattle.ack_ranges.specs.Laws.{RangeIsAdded}
-use Rattle.ack_ranges.specs.Ranges.{IsCanonical}
 use Rattle.rm_base.specs.NumberSet.{has_number}
 use Rattle.rm_base.specs.Text.{IsText}
 use Rattle.rm_base.specs.declared.message.Behaviour.{Behaviour}
@@ -227,9 +226,11 @@ create-allowed r terms now y (Some t) c e is h =
     by_grant None true b f k = absurd (cc)
     by_grant None false true f k = absurd (cc)
     by_grant None false false f k =
-        let few : length (makers r) < 256 = grind (arith, nat_tests) in
-        (granted-allowed r (counter r + 1) t c y (terms.deadline now c.expires) (taken_of r c.offer) is h
-        (taking r c.offer h.offer) few, tt)
+        let few : length (makers r) < 256 = grind (arith, nat_tests) in (
+          granted-allowed r (counter r + 1) t c y (terms.deadline now c.expires) (taken_of r c.offer) is h
+              (taking r c.offer h.offer) few,
+          tt,
+        )
 
 -- ---- responses, and what closes and ends
 

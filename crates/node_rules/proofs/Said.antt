@@ -1,6 +1,6 @@
 -- What a node answers to a message keeps the rules of what is written.
-use Rattle.std.proofs.Common.{◌≡◌, ℕ, ◌+◌, ◌<◌, ◌≤◌, Bool, true, false, cond, List, [], ◌∷◌, ◌++◌, length, refl, sym, ap}
-use Rattle.std.proofs.Common.{subst, ◌∙◌, arith, Option, Some, None}
+use Rattle.std.proofs.Common.{ℕ, ◌+◌, Bool, true, false, cond, List, [], ◌∷◌, ◌++◌}
+use Rattle.std.proofs.Common.{arith, Option, Some, None}
 use Rattle.std.specs.Prelude.{codes, IfSome}
 use Rattle.std.specs.List.{AllByRecursion}
 use Rattle.rm_base.specs.NumberSet.{has_number}
@@ -21,11 +21,12 @@ use Rattle.record_batch.specs.Fact.{Fact}
 use Rattle.sequence_table.specs.Words.{Text}
 use Rattle.sequence_table.specs.Idents.{issue}
 use Rattle.sequence_table.specs.Makers.{Maker, Incoming, maker, address, number}
-use Rattle.sequence_table.specs.Find.{acks_to, find_incoming, find_grant, is_taken, plain_endpoint}
+use Rattle.sequence_table.specs.Find.{acks_to, find_incoming, is_taken}
 use Rattle.rm_protocol.specs.Addresses.{anonymous, is_anonymous, reply_endpoint, reply_endpoint_by}
 use Rattle.rm_protocol.specs.Addresses.{fault_endpoint, fault_endpoint_by}
-use Rattle.rm_protocol.specs.Messages.{block_of, ack_message, response_of}
-use Rattle.rm_protocol.specs.Said.{accept_by, grant_response, create_response, finish_response, find_grant_of, responses}
+use Rattle.rm_protocol.specs.Messages.{block_of, ack_message}
+use Rattle.rm_protocol.specs.Said.{accept_by, grant_response, create_response, finish_response, find_grant_of}
+use Rattle.rm_protocol.specs.Said.{responses}
 use Rattle.rm_protocol.specs.Said.{Ack, ack_to, ack_of, data_ident, found_in, data_acks, given_with, ask_ack, ask_acks}
 use Rattle.rm_protocol.specs.Said.{acks_said, back_blocks, back_message, own_messages, with_blocks, answered, said}
 use Rattle.node_rules.specs.Read.{IsBodyRead, WasRead}

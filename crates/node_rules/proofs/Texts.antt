@@ -1,6 +1,6 @@
 -- The identifiers that a node issues and the addresses that it gives are texts.
 use Rattle.std.proofs.Common.{◌≡◌, ℕ, suc, ◌+◌, ◌*◌, ◌-◌, ◌<◌, ◌≤◌, ◌^◌, Bool, true, false, cond, List, [], ◌∷◌, ◌++◌}
-use Rattle.std.proofs.Common.{length, get_or, refl, sym, ap, subst, arith}
+use Rattle.std.proofs.Common.{length, get_or, refl, arith}
 use Prim.Native.Nat.{zero}
 use Rattle.std.specs.Prelude.{◌&&◌, nat_le, nat_lt, codes}
 use Rattle.std.specs.Int.{w128, to_be_bytes}
@@ -8,7 +8,7 @@ use Rattle.std.specs.List.{list_all}
 use Rattle.std.proofs.lemmas.Bool.{and_parts, leb-true, lt-ltb, le-leb}
 use Rattle.std.proofs.lemmas.Bool.Decides.{nat_tests}
 use Rattle.std.proofs.lemmas.List.{length-append}
-use Rattle.uuid.specs.Text.{lower, urn_text, urn_prefix, hyphenated_text, by_index, hex_digit, nibble}
+use Rattle.uuid.specs.Text.{lower, urn_prefix, hyphenated_text, by_index, hex_digit, nibble}
 use Rattle.uuid.specs.Text.{is_hyphen_place, digit_place}
 use Rattle.uuid.proofs.TextLemmas.{by_index_length, nibble_small}
 use Rattle.xml_chars.specs.Classes.{is_char, is_space}

@@ -1,27 +1,25 @@
 -- How many messages are not acknowledged, after one more record.
-use Rattle.std.proofs.Common.{◌≡◌, ◌≢◌, ℕ, suc, ◌+◌, ◌-◌, ◌<◌, ◌≤◌, ◌==◌, ◌⊎◌, Bool, true, false, cond, List, []}
+use Rattle.std.proofs.Common.{◌≡◌, ℕ, ◌+◌, ◌<◌, ◌≤◌, ◌==◌, ◌⊎◌, Bool, true, false, cond, List, []}
 use Rattle.std.proofs.Common.{◌∷◌, ◌++◌, length, refl, sym, ap, subst, ◌∙◌, arith, inl, inr, length-append}
 use Rattle.std.proofs.Common.{append-nil, Option, Some, None}
-use Rattle.std.specs.Prelude.{◌&&◌, nat_lt}
-use Rattle.std.specs.List.{AllByRecursion, flat_map}
+use Rattle.std.specs.Prelude.{nat_lt}
+use Rattle.std.specs.List.{AllByRecursion}
 use Rattle.std.specs.Option.{option_or}
 use Rattle.std.proofs.lemmas.Bool.{and_parts, eqb-true, false≢true}
 use Rattle.std.proofs.lemmas.Bool.Decides.{nat_tests}
-use Rattle.ack_ranges.specs.declared.range.Range.{Range}
 use Rattle.ack_ranges.specs.Changes.{united}
 use Rattle.ack_ranges.specs.Laws.{RangeIsAdded}
-use Rattle.ack_ranges.specs.Ranges.{IsCanonical, count_of}
+use Rattle.ack_ranges.specs.Ranges.{count_of}
 use Rattle.rm_source.specs.declared.phase.OutPhase.{OutPhase}
 use Rattle.rm_source.specs.declared.phase.OutPhase.TheVariants as out
 use Rattle.record_batch.specs.Fact.{Fact, Creating, Created, Granted, Accepted, Acked, Closing, ClosedOut, Ending}
 use Rattle.record_batch.specs.Fact.{EndedOut, Failed}
-use Rattle.sequence_table.specs.Words.{Text, at_seq, last_or}
-use Rattle.sequence_table.specs.Makers.{Maker, Outgoing, Offered, Incoming, Taken, makers, makers_of, maker, created_of}
-use Rattle.sequence_table.specs.Makers.{ident_in}
+use Rattle.sequence_table.specs.Words.{at_seq, last_or}
+use Rattle.sequence_table.specs.Makers.{Maker, Outgoing, Taken, makers, makers_of, maker}
 use Rattle.sequence_table.specs.Sources.{accepted, accepted_of, acked, acked_of, unacked, unacked_at, unacked_from}
-use Rattle.sequence_table.specs.Sources.{all_unacked, is_sending, phase, mark_of, marks, out_ident, first_phase}
+use Rattle.sequence_table.specs.Sources.{all_unacked, is_sending, phase, mark_of, marks, out_ident}
 use Rattle.sequence_table.specs.Fits.{fits, all_fit, follows, follows_at, is_outgoing_side}
-use Rattle.sequence_table.specs.Told.{names, opened_by}
+use Rattle.sequence_table.specs.Told.{opened_by}
 use Rattle.sequence_table.specs.GatherLemmas.{flat_map-more, at_seq-more, united-append}
 use Rattle.sequence_table.specs.NameLemmas.{names-fit, elsewhere_accepted, unnamed}
 use Rattle.sequence_table.specs.PhaseLemmas.{out_ident-more, creating-bare, created-creating, phase-more}
@@ -101,11 +99,13 @@ bare-more r f h fit s is =
     let bare = creating-bare (r ++ f ∷ []) s is in
     let ident : out_ident r s ≡ None =
     no_option (out_ident r s) _ (sym (out_ident-more r f s) ∙ bare.0) in
-    let mark : marks r s ≡ [] = no_front (marks r s) (at_seq s (mark_of f)) (sym (at_seq-more s mark_of r f) ∙ bare.1) in
+    let mark : marks r s ≡ [] =
+    no_front (marks r s) (at_seq s (mark_of f)) (sym (at_seq-more s mark_of r f) ∙ bare.1) in
     let before : phase r s ≡ out.Creating = rw (ident, mark) refl in
     flat_map-more (accepted_of s) r f ∙ rw (h s before, accepts-none r f s fit before) refl
 
-pub creating-accepts-none : (r : List Fact) (s : ℕ) → all_fit [] r ≡ true → phase r s ≡ out.Creating → accepted r s ≡ []
+pub creating-accepts-none : (r : List Fact) (s : ℕ) → all_fit [] r ≡ true → phase r s ≡ out.Creating
+    → accepted r s ≡ []
 unfolding IsBare
 creating-accepts-none r s h is = fit-induction IsBare (λ s e. refl) bare-more r h s is
 

@@ -1,14 +1,13 @@
 -- What the records of a node say of their sequences keeps the limits.
-use Rattle.std.proofs.Common.{◌≡◌, ◌≢◌, ℕ, ◌+◌, ◌-◌, ◌<◌, ◌≤◌, ◌==◌, min, max, Bool, true, false, cond, List, [], ◌∷◌}
+use Rattle.std.proofs.Common.{◌≡◌, ℕ, ◌+◌, ◌-◌, ◌<◌, ◌≤◌, ◌==◌, min, max, Bool, true, false, cond, List, [], ◌∷◌}
 use Rattle.std.proofs.Common.{◌++◌, length, refl, sym, ap, subst, ◌∙◌, arith, Option, Some, None, append-nil}
 use Rattle.std.proofs.Common.{length-append}
-use Rattle.std.specs.Prelude.{◌&&◌, nat_le, nat_lt, not, IfSome}
+use Rattle.std.specs.Prelude.{nat_le, nat_lt, IfSome}
 use Rattle.std.specs.List.{AllByRecursion, flat_map}
 use Rattle.std.proofs.lemmas.Bool.{and_parts, ltb-true, leb-true}
 use Rattle.std.proofs.lemmas.Bool.Decides.{nat_tests}
 use Rattle.ack_ranges.specs.declared.range.Range.{Range}
 use Rattle.ack_ranges.specs.Changes.{with_range}
-use Rattle.rm_base.specs.NumberSet.{has_number}
 use Rattle.rm_base.specs.Numbered.{numbered}
 use Rattle.rm_base.specs.Text.{IsText}
 use Rattle.rm_base.specs.declared.message.Payload.{Payload}
@@ -21,7 +20,7 @@ use Rattle.sequence_table.specs.Words.{Text, at_seq, numbers_of}
 use Rattle.sequence_table.specs.Makers.{Maker, Outgoing, Offered, Incoming, Taken, makers, makers_of, maker, address}
 use Rattle.sequence_table.specs.Makers.{created_of, created_from, created, ident_in}
 use Rattle.sequence_table.specs.Sources.{accepted, accepted_of, out_ident}
-use Rattle.sequence_table.specs.Destinations.{received, received_of, held, is_over, is_stopped}
+use Rattle.sequence_table.specs.Destinations.{received, received_of, held, is_over}
 use Rattle.sequence_table.specs.Find.{plain_endpoint, peer_of, peer, accept_of, accepted_by, acks_to_of, acks_to}
 use Rattle.sequence_table.specs.Fits.{fits, all_fit, follows_at, is_incoming_side}
 use Rattle.sequence_table.specs.GatherLemmas.{flat_map-more}

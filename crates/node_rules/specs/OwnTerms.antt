@@ -1,9 +1,10 @@
 -- Terms of a node's own: what the definitions take from the layers that write, read and date is what these layers do.
-use Rattle.std.specs.Prelude.{◌≡◌, ℕ, ◌<◌, ◌≤◌, List, length, Option, None, IsTrue, ◌↔◌}
+use Rattle.std.specs.Prelude.{◌≡◌, ℕ, ◌<◌, ◌≤◌, Bool, List, length, Option, None, IsTrue, ◌↔◌}
 use Rattle.soap_profile.specs.Payload.{IsClosedContent}
 use Rattle.rm_elements.specs.Deadline.{IsDeadline}
 use Rattle.rm_elements.specs.declared.header.AckBlock.{AckBlock}
 use Rattle.rm_elements.specs.declared.lapse.Lapse.{Lapse}
+use Rattle.rm_message.specs.declared.message.Message.{Message}
 use Rattle.rm_message.specs.declared.refusal.Refusal.{Refusal}
 use Rattle.message_writer.specs.Faults.{fault_of}
 use Rattle.record_batch.specs.Batch.{batch_text}
@@ -15,8 +16,8 @@ pub record EndsAsTold (now : ℕ) (lapse : Lapse) (end : Option ℕ) : Type 0 wh
   pub told : now ≤ 200000000000000 → IsDeadline now lapse end
   pub later : 200000000000000 < now → end ≡ None
 
--- a batch takes the bytes of its text, a duration ends as the calendar says, what may stand in a Body is closed content,
--- and a refusal is answered with its fault
+-- a batch takes the bytes of its text, a duration ends as the calendar says, what may stand in a Body is closed
+-- content, and a refusal is answered with its fault
 pub record AreOwn (terms : Terms) : Type 0 where
   pub size : (batch : List Fact) → terms.size batch ≡ length (batch_text batch)
   pub deadline : (now : ℕ) (lapse : Lapse) → EndsAsTold now lapse (terms.deadline now lapse)
@@ -26,6 +27,11 @@ pub record AreOwn (terms : Terms) : Type 0 where
 -- what the protocol asks of terms holds of a node's own
 abbrev pub OwnAreTerms : Type 0
 OwnAreTerms = (terms : Terms) → AreOwn terms → AreTerms terms
+
+-- there are such terms, over any network
+abbrev pub ThereAreOwnTerms : Type 0
+ThereAreOwnTerms =
+    (takes : List Message → Message → Bool) → (terms : Terms) × (terms.takes ≡ takes) × AreOwn terms
 
 -- the calendar tells one moment, or none
 abbrev pub EndsOnce : Type 0

@@ -1,5 +1,5 @@
 -- What comes to a node: a message as it is read, as far as a node keeps it or repeats it, and a wish.
-use Rattle.std.specs.Prelude.{ℕ, Option, None, IfSome, Result, Ok, Err}
+use Rattle.std.specs.Prelude.{None, IfSome, Result, Ok, Err}
 use Rattle.std.specs.List.{AllByRecursion}
 use Rattle.rm_base.specs.Text.{IsText}
 use Rattle.rm_elements.specs.Writable.{IsSequenceWritable, IsAckWritable, IsLapseWritable, IsLifecycleWritable}

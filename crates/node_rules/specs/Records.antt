@@ -1,5 +1,5 @@
 -- The records of a node: those that it accepts when it is mounted, and what the types of their values give for nothing.
-use Rattle.std.specs.Prelude.{◌≡◌, ℕ, ◌+◌, ◌≤◌, true, List, [], ◌∷◌, length, IfSome}
+use Rattle.std.specs.Prelude.{◌≡◌, ℕ, ◌+◌, ◌^◌, ◌<◌, ◌≤◌, true, List, [], ◌∷◌, length, IfSome}
 use Rattle.std.specs.List.{AllByRecursion}
 use Rattle.ack_ranges.specs.Ranges.{IsCanonical}
 use Rattle.rm_base.specs.NumberSet.{has_number}
@@ -70,3 +70,9 @@ AreValues r = AllByRecursion HasValues r
 pub record IsKept (r : List Fact) : Type 0 where
   pub node : IsNode r
   pub values : AreValues r
+
+-- the record of a node that was just made is such
+abbrev pub MadeIsKept : Type 0
+MadeIsKept =
+    (number : ℕ) (address : List ℕ) → 1 ≤ number → number < 2 ^ 60 → IsText 2048 address
+    → IsKept (Made number address ∷ [])
