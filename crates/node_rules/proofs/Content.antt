@@ -7,6 +7,7 @@ use Rattle.soap_document.specs.Grammar.{IsDocument}
 use Rattle.soap_document.specs.Inside.{IsInside, around, root_around}
 use Rattle.soap_document.specs.Machine.{start, run, root_of}
 use Rattle.soap_document.specs.Tree as written
+use Rattle.soap_document.specs.declared.attribute.WrittenAttribute.{WrittenAttribute as Attribute}
 use Rattle.soap_profile.specs.Namespaces.{resolve_parts}
 use Rattle.soap_profile.specs.Payload.{depth, is_white_outside, IsClosedContent}
 use Rattle.soap_profile.specs.Tree.{Parts}
@@ -17,10 +18,10 @@ pub record Documents : Type 0 where
       → IsDocument bytes root ↔ (root_of (run start bytes) ≡ Some root)
   pub made : (bytes : List ℕ) (parts : written.Parts) → IsInside bytes parts
       → IsDocument (around bytes) (root_around bytes parts)
-  pub found : (bytes name : List ℕ) (attributes : List written.Attribute) (start end : ℕ) (parts : written.Parts)
-      → IsDocument (around bytes) (written.element name attributes start end parts) → start ≡ 3
-      → end ≡ 3 + length bytes
-      → IsInside bytes parts × (written.element name attributes start end parts ≡ root_around bytes parts)
+  pub found : (bytes name : List ℕ) (attributes : List Attribute) (from to : ℕ) (parts : written.Parts)
+      → IsDocument (around bytes) (written.element name attributes from to parts) → from ≡ 3
+      → to ≡ 3 + length bytes
+      → IsInside bytes parts × (written.element name attributes from to parts ≡ root_around bytes parts)
 
 -- a test that tells whether bytes are closed content
 pub record IsTold (bytes : List ℕ) : Type 0 where
@@ -29,10 +30,10 @@ pub record IsTold (bytes : List ℕ) : Type 0 where
 
 -- the places and the parts of a root
 abbrev is_whole : List ℕ → written.Element → Bool
-is_whole bytes (written.element name attributes start end parts) = (start == 3) && (end == 3 + length bytes)
+is_whole bytes (written.element name attributes from to parts) = (from == 3) && (to == 3 + length bytes)
 
 abbrev parts_in : written.Element → written.Parts
-parts_in (written.element name attributes start end parts) = parts
+parts_in (written.element name attributes from to parts) = parts
 
 -- the root of the document around closed content
 root-is : Documents → (bytes : List ℕ) (root : written.Element) (h : IsClosedContent bytes)

@@ -9,6 +9,8 @@ use Rattle.rm_elements.specs.declared.header.AckKind.TheVariants as kind
 use Rattle.rm_elements.specs.declared.header.SeqHeader.{SeqHeader}
 use Rattle.rm_message.specs.declared.message.Message.{Message}
 use Rattle.rm_message.specs.declared.refusal.Refusal.{Refusal}
+use Rattle.soap_profile.specs.Soap.{soap_space}
+use Rattle.message_writer.specs.Rules.{KeepsRules}
 use Rattle.record_batch.specs.Fact.{Fact}
 use Rattle.sequence_table.specs.Fits.{all_fit}
 use Rattle.rm_protocol.specs.Calls.{Answer, create, send, close, end, tick, receive}
@@ -16,6 +18,7 @@ use Rattle.rm_protocol.specs.Next.{BeginsAtOne, IsMessageNumber, IsReadable, Add
 use Rattle.rm_protocol.specs.Rows.{ranges_of}
 use Rattle.rm_protocol.specs.Terms.{Terms}
 use Rattle.node_rules.specs.Keeps.{OfEachCall, LeavesANode, SaysByTheRules, EachCallKeeps, EachIsByTheRules}
+use Rattle.node_rules.specs.Keeps.{IsReadBack, SaysWhatIsRead, EachIsReadBack}
 use Rattle.node_rules.specs.OwnTerms.{AreOwn}
 use Rattle.node_rules.specs.Read.{IsContentRead}
 use Rattle.node_rules.specs.Records.{IsKept}
@@ -81,3 +84,8 @@ each-keeps below next terms r place own h =
 pub each-says : Below → EachMayComeNext → EachIsByTheRules
 each-says below next terms r place own h =
     of-each below next terms r place SaysByTheRules own h (λ answer. says below r answer h)
+
+pub each-is-read : Below → EachMayComeNext → ((m : Message) → KeepsRules soap_space m → IsReadBack m) → EachIsReadBack
+each-is-read below next law terms r place own h =
+    of-each below next terms r place SaysWhatIsRead own h (λ answer fit good.
+    All-weaker (KeepsRules soap_space) IsReadBack law answer.outs (says below r answer h fit good))

@@ -1,11 +1,13 @@
 -- Each call of a node keeps what holds of its records, and all that it says may be written.
-use Rattle.std.specs.Prelude.{ℕ, List, ◌++◌, Result}
+use Rattle.std.specs.Prelude.{ℕ, ◌≤◌, List, ◌++◌, length, Result}
 use Rattle.std.specs.List.{AllByRecursion}
 use Rattle.rm_base.specs.declared.message.Behaviour.{Behaviour}
 use Rattle.rm_message.specs.declared.message.Message.{Message}
 use Rattle.rm_message.specs.declared.refusal.Refusal.{Refusal}
 use Rattle.soap_profile.specs.Soap.{soap_space}
+use Rattle.message_reader.specs.Refusals.{Spells}
 use Rattle.message_writer.specs.Rules.{KeepsRules}
+use Rattle.message_writer.specs.Text.{message_text}
 use Rattle.record_batch.specs.Fact.{Fact}
 use Rattle.sequence_table.specs.Words.{Text}
 use Rattle.rm_protocol.specs.Calls.{Answer, Wish, create, send, close, end, tick, receive}
@@ -41,3 +43,16 @@ EachCallKeeps =
 abbrev pub EachIsByTheRules : Type 0
 EachIsByTheRules =
     (terms : Terms) (r : List Fact) (place : ℕ) → AreOwn terms → IsKept r → OfEachCall terms r place SaysByTheRules
+
+-- a message is read back from its text, where that is no longer than a message may be
+abbrev pub IsReadBack : Message → Type 0
+IsReadBack m = length (message_text soap_space m) ≤ 2097152 → Spells soap_space (message_text soap_space m) m
+
+-- all that an answer says is read back
+abbrev pub SaysWhatIsRead : Answer → Type 0
+SaysWhatIsRead answer = AllByRecursion IsReadBack answer.outs
+
+-- each message that a node says is read back
+abbrev pub EachIsReadBack : Type 0
+EachIsReadBack =
+    (terms : Terms) (r : List Fact) (place : ℕ) → AreOwn terms → IsKept r → OfEachCall terms r place SaysWhatIsRead

@@ -4,13 +4,13 @@ ghost use Rattle.std.specs.Prelude.{◌≡◌};
 ghost use Rattle.soap_frame.specs.Framed.{sorted_scope};
 ghost use Rattle.soap_profile.specs.Soap.{soap_space};
 ghost use Rattle.rm_protocol.specs.Messages.{written_scope};
-ghost use Rattle.node_rules.specs.Keeps.{EachCallKeeps, EachIsByTheRules};
+ghost use Rattle.node_rules.specs.Keeps.{EachCallKeeps, EachIsByTheRules, EachIsReadBack};
 ghost use Rattle.node_rules.specs.OwnTerms.{EndsOnce, OwnAreTerms, ThereAreOwnTerms};
 ghost use Rattle.node_rules.specs.Records.{MadeIsKept};
 
 use ack_ranges::range_is_added;
 use rm_protocol::laws::each_record_may_come_next;
-use rm_wire::laws::a_fault_keeps_the_rules;
+use rm_wire::laws::{a_fault_keeps_the_rules, what_is_written_is_read};
 use sequence_table::laws::a_byte_for_each_number;
 use soap_document::laws::{content_makes_a_document, document_is_read};
 
@@ -23,12 +23,22 @@ pub fn each_call_keeps_the_records()
     each_record_may_come_next();
 }
 
-/// Each message that a node says keeps the rules of a message that is written, and so is read back as it was said.
+/// Each message that a node says keeps the rules of a message that is written.
 pub fn each_message_keeps_the_rules()
     ensures { EachIsByTheRules }
 {
     range_is_added();
     a_fault_keeps_the_rules();
+    each_record_may_come_next();
+}
+
+/// So it is read back as it was said, where its text is no longer than a message may be.
+pub fn each_message_is_read_back()
+    ensures { EachIsReadBack }
+{
+    range_is_added();
+    a_fault_keeps_the_rules();
+    what_is_written_is_read();
     each_record_may_come_next();
 }
 
