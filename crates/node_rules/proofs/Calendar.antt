@@ -1,8 +1,8 @@
 -- Each day from 1970 to 9999 has a date, and each duration that begins on it an end, or none.
-use Rattle.std.proofs.Common.{◌≡◌, ℕ, suc, ◌+◌, ◌*◌, ◌/◌, ◌%◌, ◌<◌, ◌≤◌, ◌==◌, ◌⊎◌, Bool, true, false, refl, sym, ap, subst}
+use Rattle.std.proofs.Common.{◌≡◌, ℕ, suc, ◌+◌, ◌/◌, ◌<◌, ◌≤◌, ◌==◌, ◌⊎◌, Bool, true, false, refl, sym, ap}
 use Rattle.std.proofs.Common.{◌∙◌, arith, inl, inr, Option, Some, None}
 use Prim.Native.Nat.{zero}
-use Rattle.std.specs.Prelude.{◌&&◌, ℤ, pos, negsuc, neg_ℤ, ◌+ℤ◌, ◌*ℤ◌, ◌<ℤ◌, ◌≤ℤ◌, nat_le, nat_lt}
+use Rattle.std.specs.Prelude.{◌&&◌, ℤ, pos, negsuc, neg_ℤ, ◌+ℤ◌, ◌<ℤ◌, ◌≤ℤ◌, nat_le, nat_lt}
 use Rattle.std.proofs.lemmas.Bool.{and_parts, eqb-true, leb-true, ltb-true}
 use Rattle.std.proofs.lemmas.Bool.Decides.{nat_tests}
 use Rattle.std.proofs.lemmas.Int.{by_lt_z}
@@ -15,7 +15,7 @@ use Rattle.jiff_core.proofs.DateLemmas.{days_from_civil-next_year}
 use Rattle.jiff_core.proofs.SignedLemmas.{signed_arith}
 use Rattle.jiff_span.specs.Months.{add_months, shifted_year, IsShiftable}
 use Rattle.jiff_span.proofs.MonthLemmas.{add_months-zero, add_months-forward}
-use Rattle.rm_elements.specs.Deadline.{IsZero, IsDateOf, sum_of, EndsAt, IsDeadline}
+use Rattle.rm_elements.specs.Deadline.{IsZero, IsDateOf, sum_of, EndsAt}
 use Rattle.rm_elements.specs.declared.lapse.Lapse.{Lapse}
 use Rattle.node_rules.specs.OwnTerms.{EndsAsTold}
 
@@ -36,8 +36,11 @@ within-month date h = record {
     month_in = date.month_in;
     day_in = (omega arith, omega (arith, h));
   };
-  day = omega (arith, signed_arith,
-      days_from_civil-day date.year date.month date.day (date.day + 1) date.day_in.0 (omega arith));
+  day = omega (
+    arith,
+    signed_arith,
+    days_from_civil-day date.year date.month date.day (date.day + 1) date.day_in.0 (omega arith),
+  );
 }
 
 within-year : (date : Date) → date.day ≡ days_in_month date.year date.month → date.month < 12 → IsNext date

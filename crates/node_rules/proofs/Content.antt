@@ -1,5 +1,5 @@
 -- A test that tells closed content: the document around it is read, and its root is asked.
-use Rattle.std.proofs.Common.{◌≡◌, ℕ, ◌+◌, Bool, true, false, List, [], length, refl, sym, ap, subst, ◌∙◌, arith, codes}
+use Rattle.std.proofs.Common.{◌≡◌, ℕ, ◌+◌, Bool, true, false, List, [], length, refl, sym, ap, subst, ◌∙◌}
 use Rattle.std.proofs.Common.{Option, Some, None}
 use Rattle.std.specs.Prelude.{◌&&◌, ◌==◌, ◌↔◌, nat_le, IsTrue}
 use Rattle.std.proofs.lemmas.Bool.{and_parts, and_from, eqb-true, eq-eqb, leb-true, le-leb}
@@ -94,7 +94,8 @@ by-root documents bytes (written.element name attributes from to raw) e =
         by-parts bytes raw inside.0 (λ h. ap parts_in (one h)) (resolve_parts [] raw) refl
     by_place false f =
         never bytes (λ h.
-        let whole : is_whole bytes (root_around bytes h.raw) ≡ true = eq-eqb (3 + length bytes) (3 + length bytes) refl in
+        let whole : is_whole bytes (root_around bytes h.raw) ≡ true =
+        eq-eqb (3 + length bytes) (3 + length bytes) refl in
         let wrong : true ≡ false = sym whole ∙ ap (is_whole bytes) (one h) ∙ f in cc)
 
 -- each text is told
