@@ -123,7 +123,7 @@ kept-word r s a b k l h = record {
   matched = λ i q o. kept-matched r s a b i k l (h.matched i q (record { is = kept-ident r a i (Some q) k o.is }));
 }
 
-between-all : (a b : List Fact) → AreWith b a → (s : ℕ) → IsBetween a b s
+pub between-all : (a b : List Fact) → AreWith b a → (s : ℕ) → IsBetween a b s
 between-all a b h s = record { is = λ m e. All-numbered (IsWith b) (makers a) s m h e }
 
 -- the headline in both directions

@@ -14,3 +14,5 @@ mod RunLemmas
 mod ImageLemmas
 mod NewLemmas
 mod SentLemmas
+mod TakenLemmas
+mod LineLemmas

@@ -199,6 +199,27 @@ closes n (m ∷ ms) i p h e = by_number (m.0 == n + 1) refl (closes m.0 ms i p h
         let before : nat_lt i m.0 ≡ true = grind (arith, nat_tests) in
         rw (before, d, here) refl
 
+-- the records after the rows
+rows-after : (terms : Terms) (r : List Fact) (now : ℕ) (y : Behaviour) (m : Message) (s i : ℕ) (p : Payload)
+    → IsNew r now m s i p
+    → r ++ rows terms now y m r ≡ (r ++ ack_rows m.acks r) ++ Received s i p ∷ []
+rows-after terms r now y m s i p h =
+    ap (λ z. r ++ z) (rows-new terms r now y m s i p h) ∙ sym (append_assoc r (ack_rows m.acks r) (Received s i p ∷ []))
+
+received-last : (r acks : List Fact) (s i : ℕ) (p : Payload) → AreAcks acks
+    → received ((r ++ acks) ++ Received s i p ∷ []) s ≡ received r s ++ (i, p) ∷ []
+received-last r acks s i p calm =
+    let same : (s == s) ≡ true = grind (arith, nat_tests) in
+    flat_map-append (received_of s) (r ++ acks) (Received s i p ∷ [])
+    ∙ ap (λ z. received (r ++ acks) s ++ (cond z ((i, p) ∷ []) [] ++ [])) same
+    ∙ ap (λ z. z ++ (i, p) ∷ []) (received-after r acks s calm)
+
+pub received-new : (terms : Terms) (r : List Fact) (now : ℕ) (y : Behaviour) (m : Message) (s i : ℕ) (p : Payload)
+    → IsNew r now m s i p
+    → received (r ++ rows terms now y m r) s ≡ received r s ++ (i, p) ∷ []
+received-new terms r now y m s i p h = ap (λ z. received z s) (rows-after terms r now y m s i p h)
+    ∙ received-last r (ack_rows m.acks r) s i p (ack_rows-acks m.acks r)
+
 pub gap-closed : (terms : Terms) (r : List Fact) (now : ℕ) (y : Behaviour) (m : Message) (s i : ℕ) (p : Payload)
     → IsNew r now m s i p
     → AreNumbers (received r s) → behaviour r s ≡ FollowingFirstGap → i ≡ front r s + 1
@@ -207,13 +228,8 @@ unfolding RisesAbove
 gap-closed terms r now y m s i p h numbers dfg e =
     let acks = ack_rows m.acks r in
     let calm = ack_rows-acks m.acks r in
-    let all : r ++ rows terms now y m r ≡ (r ++ acks) ++ Received s i p ∷ [] =
-    ap (λ z. r ++ z) (rows-new terms r now y m s i p h) ∙ sym (append_assoc r acks (Received s i p ∷ [])) in
-    let same : (s == s) ≡ true = grind (arith, nat_tests) in
-    let got : received ((r ++ acks) ++ Received s i p ∷ []) s ≡ received r s ++ (i, p) ∷ [] =
-    flat_map-append (received_of s) (r ++ acks) (Received s i p ∷ [])
-    ∙ ap (λ z. received (r ++ acks) s ++ (cond z ((i, p) ∷ []) [] ++ [])) same
-    ∙ ap (λ z. z ++ (i, p) ∷ []) (received-after r acks s calm) in
+    let all = rows-after terms r now y m s i p h in
+    let got = received-last r acks s i p calm in
     let made : makers ((r ++ acks) ++ Received s i p ∷ []) ≡ makers r =
     flat_map-append makers_of (r ++ acks) (Received s i p ∷ []) ∙ append-nil (makers (r ++ acks))
     ∙ calm_after makers_of calm_makers r acks calm in

@@ -1,6 +1,6 @@
 -- Each line of a script keeps the world sound.
 use Rattle.std.proofs.Common.{◌≡◌, ℕ, ◌+◌, ◌≤◌, cond, Bool, true, false, List, [], ◌∷◌, ◌++◌, length, refl, sym, ap}
-use Rattle.std.proofs.Common.{◌∙◌, arith, subst, append-nil, length-append}
+use Rattle.std.proofs.Common.{◌∙◌, ◌⊎◌, inl, inr, arith, subst, append-nil, length-append}
 use Rattle.std.specs.Prelude.{Option, Some, None, IfSome}
 use Rattle.std.specs.List.{AllByRecursion, flat_map}
 use Rattle.std.proofs.lemmas.Bool.Decides.{nat_tests}
@@ -16,7 +16,7 @@ use Rattle.rm_message.specs.declared.refusal.Refusal.{Refusal}
 use Rattle.rm_protocol.specs.Calls.{Answer, create, send, close, end, tick}
 use Rattle.rm_protocol.specs.Node.{Node, State, Up, Writing, records, records_in, end_of, is_short, entries_left}
 use Rattle.rm_protocol.specs.Node.{whole_left, mounted, with_batch, goes_down, written, after_by, after, said_with}
-use Rattle.rm_protocol.specs.Node.{said_by, said_after}
+use Rattle.rm_protocol.specs.Node.{armed, said_by, said_after}
 use Rattle.rm_protocol.specs.Said.{sent_of, leaves}
 use Rattle.rm_protocol.specs.Addresses.{place_of}
 use Rattle.rm_protocol.specs.Sound.{AllowsState, IsBounded, SaysPacket, IsSoundNode, IsSound}
@@ -38,13 +38,13 @@ number_of One = 1
 number_of Two = 2
 
 -- what a side sees of a sound world
-agree_at : (terms : Terms) (w : World) (side : Side) → IsSound terms w
+pub agree_at : (terms : Terms) (w : World) (side : Side) → IsSound terms w
     → Agree (number_of side) (number_of (other side)) (node w side).whole (node w (other side)).whole
 unfolding number_of
 agree_at terms w One h = h.agree
 agree_at terms w Two h = Agree-swap 1 2 w.one.whole w.two.whole h.agree
 
-sound_at : (terms : Terms) (w : World) (side : Side) → IsSound terms w
+pub sound_at : (terms : Terms) (w : World) (side : Side) → IsSound terms w
     → IsSoundNode terms (place w side) (node w side) (node w (other side)).whole
 sound_at terms w One h = h.one
 sound_at terms w Two h = h.two
@@ -328,13 +328,21 @@ mounted-went terms x b kept t h i f = by_state x.state kept f
     by_state (Writing delta) false f = rests terms x _ b refl tt h (record { below = i.below; store = i.store })
     by_state Up kept f = rests terms x _ b refl tt h (record { below = i.below; store = i.store })
 
--- a packet comes to the other node than the one that sent it
-says_at : (w : World) (p : Packet) → SaysPacket w p → SaysContent (node w (other (other p.from))).whole (Ok p.message)
-says_at w p h = by_side p.from h
+-- a packet comes to the other node than the one that sent it, and its text is read there
+says_at : (terms : Terms) (w : World) (p : Packet) → AreTerms terms → SaysPacket w p
+    → SaysContent (node w (other (other p.from))).whole (terms.read p.message)
+says_at terms w p t h = by_side p.from h
   where
-    by_side : (s : Side) → Says (node w s).whole p.message → Says (node w (other (other s))).whole p.message
-    by_side One h = h
-    by_side Two h = h
+    as_read : (b : List Fact) → Says b p.message
+        → (terms.read p.message ≡ Ok p.message) ⊎ ((refusal : Refusal) × (terms.read p.message ≡ Err refusal))
+        → SaysContent b (terms.read p.message)
+    as_read b s (inl e) = subst (SaysContent b) (sym e) s
+    as_read b s (inr e) = subst (SaysContent b) (sym e.1) tt
+
+    by_side : (s : Side) → Says (node w s).whole p.message
+        → SaysContent (node w (other (other s))).whole (terms.read p.message)
+    by_side One h = as_read w.one.whole h (t.read p.message)
+    by_side Two h = as_read w.two.whole h (t.read p.message)
 
 received-IsSound : (terms : Terms) (w : World) (side : Side) (content : Result Message Refusal) → AreTerms terms
     → IsSound terms w
@@ -350,7 +358,8 @@ received-IsSound terms w side content t h s =
 arrives-IsSound : (terms : Terms) (w : World) (p : Option Packet) → AreTerms terms → IsSound terms w
     → IfSome p (SaysPacket w) → IsSound terms (arrives terms w p)
 arrives-IsSound terms w None t h s = h
-arrives-IsSound terms w (Some p) t h s = received-IsSound terms w (other p.from) (Ok p.message) t h (says_at w p s)
+arrives-IsSound terms w (Some p) t h s =
+    received-IsSound terms w (other p.from) (terms.read p.message) t h (says_at terms w p t s)
 
 packet-says : (terms : Terms) (w : World) (k : ℕ) → IsSound terms w → IfSome (numbered w.packets k) (SaysPacket w)
 packet-says terms w k h = by_packet (numbered w.packets k) refl
@@ -433,7 +442,7 @@ happens-IsSound terms w (End side seq) t h =
     (end-right terms (end_of terms x.entries) (records x) x.whole (node w (other side)).whole seq
     (sound_at terms w side h).kept)
 happens-IsSound terms w (Arm side c) t h =
-    changed-IsSound terms w side (record (node w side) { fuse = Some c }) h refl refl refl
+    changed-IsSound terms w side (record (node w side) { fuse = armed c (node w side).fuse }) h refl refl refl
 happens-IsSound terms w (Crash side kept) t h =
     let x = sound_at terms w side h in
     rests-IsSound terms w side (mounted (node w side) kept) h

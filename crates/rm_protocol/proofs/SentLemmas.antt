@@ -374,8 +374,8 @@ step terms w (world.Deliver i) n k next = by_packet (numbered w.packets i)
     by_packet (Some p) =
         let side = other p.from in
         let x = node w side in
-        quiet-call terms w side n true (received_by terms x (Ok p.message)) k next
-        (receive-quiet terms (records x) (end_of terms x.entries) x.clock x.granted (Ok p.message))
+        quiet-call terms w side n true (received_by terms x (terms.read p.message)) k next
+        (receive-quiet terms (records x) (end_of terms x.entries) x.clock x.granted (terms.read p.message))
 step terms w (world.Close side s) n k next =
     let x = node w side in
     quiet-call terms w side n false (Calls.close terms (records x) (end_of terms x.entries) s x.clock) k next

@@ -1,5 +1,5 @@
 -- Terms that meet what is asked of them, and scripts with them.
-use Rattle.std.specs.Prelude.{ℕ, ◌+◌, ◌==◌, if◌then◌else◌, true, false, List, [], ◌∷◌, codes, Option, Some, None}
+use Rattle.std.specs.Prelude.{ℕ, ◌+◌, ◌==◌, if◌then◌else◌, true, false, List, [], ◌∷◌, codes, Option, Some, None, Ok}
 use Rattle.rm_base.specs.declared.message.Behaviour.TheVariants.{EntireSequence, FollowingFirstGap}
 use Rattle.rm_elements.specs.declared.header.AckBlock.{AckBlock}
 use Rattle.rm_elements.specs.declared.lapse.Lapse.{Lapse}
@@ -29,13 +29,14 @@ plain_fault refusal block = record (plain refusal.endpoint (rm_action (codes "fa
   detail = [];
 }))) { acks = header_blocks refusal.kind block }
 
--- a batch takes as many bytes as it draws numbers, and the network loses nothing
+-- a batch takes as many bytes as it draws numbers, what arrives is what was said, and the network loses nothing
 abbrev pub example_terms : Terms
 example_terms = record {
   size = counter;
   deadline = ends_at;
   is_content = λ text. true;
   fault = plain_fault;
+  read = Ok;
   takes = λ before m. true;
 }
 

@@ -1,5 +1,6 @@
 pub mod Addresses
 pub mod Calls
+pub mod Delivered
 pub mod Detail
 pub mod Examples
 pub mod Heard
@@ -12,6 +13,7 @@ pub mod Said
 pub mod Sent
 pub mod Sound
 pub mod Terms
+pub mod Unarmed
 pub mod Verdict
 pub mod Word
 pub mod World

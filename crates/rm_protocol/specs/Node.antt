@@ -1,5 +1,5 @@
 -- A node on its disk: its entries, and what stands besides where it is down.
-use Rattle.std.specs.Prelude.{ℕ, ◌+◌, ◌-◌, nat_le, Bool, true, false, if◌then◌else◌, List, [], ◌∷◌, ◌++◌, Option}
+use Rattle.std.specs.Prelude.{ℕ, zero, ◌+◌, ◌-◌, nat_le, Bool, true, false, if◌then◌else◌, List, [], ◌∷◌, ◌++◌, Option}
 use Rattle.std.specs.Prelude.{Some, None}
 use Rattle.std.specs.List.{flat_map}
 use Rattle.rm_base.specs.declared.message.Behaviour.{Behaviour}
@@ -45,6 +45,11 @@ is_short calls (Some left) = nat_le left calls
 abbrev pub burned : ℕ → Option ℕ → Option ℕ
 burned calls None = None
 burned calls (Some left) = Some (left - calls)
+
+-- a fuse that is armed anew: one that is spent stays so until a crash
+abbrev pub armed : ℕ → Option ℕ → Option ℕ
+armed calls (Some zero) = Some 0
+armed calls fuse = Some calls
 
 -- after a crash: whether the batch of the call that failed was kept is a free choice
 abbrev pub entries_left : State → Bool → List (List Fact) → List (List Fact)

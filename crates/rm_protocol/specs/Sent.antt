@@ -1,6 +1,6 @@
 -- The lines of a report, and from them alone what a node was sent.
 use Rattle.std.specs.Prelude.{◌≡◌, ◌⊎◌, ℕ, ◌+◌, ◌==◌, ◌&&◌, Bool, true, false, if◌then◌else◌, List, [], ◌∷◌, ◌++◌}
-use Rattle.std.specs.Prelude.{length, Option, Some, None, Ok, Err}
+use Rattle.std.specs.Prelude.{length, Option, Some, None, Err}
 use Rattle.rm_base.specs.Numbered.{numbered}
 use Rattle.record_batch.specs.Fact.{Fact}
 use Rattle.sequence_table.specs.Words.{Text}
@@ -22,7 +22,7 @@ pub data LineOutcome : Type 0 where
 abbrev pub arrival_outcome : Terms → World → Option Packet → LineOutcome
 arrival_outcome terms w None = NoPacket
 arrival_outcome terms w (Some p) =
-    Called (call_outcome (node w (other p.from)) (received_by terms (node w (other p.from)) (Ok p.message)))
+    Called (call_outcome (node w (other p.from)) (received_by terms (node w (other p.from)) (terms.read p.message)))
 
 -- how an event comes out in a world
 abbrev pub outcome_of : Terms → World → Event → LineOutcome

@@ -1,5 +1,5 @@
 -- What the definitions of this crate take from the layers that write, read and date.
-use Rattle.std.specs.Prelude.{◌≡◌, ℕ, ◌<◌, ◌≤◌, Bool, List, [], Option, None, IfSome}
+use Rattle.std.specs.Prelude.{◌≡◌, ◌⊎◌, ℕ, ◌<◌, ◌≤◌, Bool, List, [], Option, None, IfSome, Result, Ok, Err}
 use Rattle.std.specs.Option.{option_to_list}
 use Rattle.rm_elements.specs.declared.header.AckBlock.{AckBlock}
 use Rattle.rm_elements.specs.declared.lapse.Lapse.{Lapse}
@@ -14,13 +14,14 @@ use Rattle.sequence_table.specs.Words.{Text}
 use Rattle.sequence_table.specs.Makers.{counter}
 
 -- how many bytes a batch of records takes; the moment at which a duration ends that begins at a moment; whether bytes
--- may stand in a Body; the fault that a refusal is answered with, with the block that it carries or repeats; and
--- whether the network, which keeps every packet, has room for one more behind these
+-- may stand in a Body; the fault that a refusal is answered with, with the block that it carries or repeats; what the
+-- text of a message is read as; and whether the network, which keeps every packet, has room for one more behind these
 pub record Terms : Type 0 where
   pub size : List Fact → ℕ
   pub deadline : ℕ → Lapse → Option ℕ
   pub is_content : Text → Bool
   pub fault : Refusal → Option AckBlock → Message
+  pub read : Message → Result Message Refusal
   pub takes : List Message → Message → Bool
 
 -- the fault SequenceClosed carries the block as a header; every other one has no acknowledgement among its headers
@@ -39,10 +40,16 @@ pub record IsFault (blocks : List AckBlock) (m : Message) : Type 0 where
 abbrev pub EndsLater : Terms → Type 0
 EndsLater terms = (now : ℕ) (lapse : Lapse) → IfSome (terms.deadline now lapse) (λ (moment : ℕ). now < moment)
 
+-- a message arrives as it was said, or is refused
+abbrev pub ReadsBack : Terms → Type 0
+ReadsBack terms =
+    (m : Message) → (terms.read m ≡ Ok m) ⊎ ((refusal : Refusal) × (terms.read m ≡ Err refusal))
+
 -- what is asked of these terms: a batch takes at least as many bytes as it draws numbers, a duration ends after it
--- begins, and a fault is one
+-- begins, a fault is one, and nothing else arrives than what was said
 pub record AreTerms (terms : Terms) : Type 0 where
   pub size : (batch : List Fact) → counter batch ≤ terms.size batch
   pub deadline : EndsLater terms
   pub fault : (refusal : Refusal) (block : Option AckBlock)
       → IsFault (header_blocks refusal.kind block) (terms.fault refusal block)
+  pub read : ReadsBack terms

@@ -1,5 +1,5 @@
 -- The headline.
-use Rattle.std.specs.Prelude.{◌≡◌, ◌⊎◌, ℕ, true, false, List, [], ◌++◌}
+use Rattle.std.specs.Prelude.{◌≡◌, ◌⊎◌, ℕ, Bool, true, false, List, [], ◌∷◌, ◌++◌}
 use Rattle.ack_ranges.specs.Ranges.{in_ranges}
 use Rattle.rm_base.specs.NumberSet.{has_number}
 use Rattle.rm_base.specs.declared.message.Behaviour.TheVariants.{EntireSequence}
@@ -9,7 +9,8 @@ use Rattle.sequence_table.specs.Sources.{accepted, acked, marks}
 use Rattle.sequence_table.specs.Destinations.{held, inbox, behaviour, texts}
 use Rattle.sequence_table.specs.Find.{IsOutgoing, IsIncoming}
 use Rattle.rm_protocol.specs.Node.{Node, State, Up, Writing, records}
-use Rattle.rm_protocol.specs.World.{World}
+use Rattle.rm_protocol.specs.Terms.{Terms}
+use Rattle.rm_protocol.specs.World.{World, One, Two, Crash, run}
 
 -- ys begins with xs
 abbrev pub IsPrefixOf : {A : Type 0} → List A → List A → Type 0
@@ -59,3 +60,10 @@ IsLeft x image = IsLeftWith (records x) x.state image
 pub record KeepsAll (w : World) : Type 0 where
   pub one : (a b : List Fact) → IsLeft w.one a → IsLeft w.two b → KeepsWord a b
   pub two : (a b : List Fact) → IsLeft w.two a → IsLeft w.one b → KeepsWord a b
+
+-- two more crashes leave these records
+pub record IsAfterCrashes (terms : Terms) (w : World) (a b : List Fact) : Type 0 where
+  pub kept_one : Bool
+  pub kept_two : Bool
+  pub one : records (run terms (Crash One kept_one ∷ Crash Two kept_two ∷ []) w).one ≡ a
+  pub two : records (run terms (Crash One kept_one ∷ Crash Two kept_two ∷ []) w).two ≡ b

@@ -1,6 +1,6 @@
 -- Two nodes, all packets that were ever sent, and what each line of a script does.
 use Rattle.std.specs.Prelude.{◌≡◌, ℕ, Bool, true, false, if◌then◌else◌, List, [], ◌∷◌, ◌++◌, map, Option, Some, None}
-use Rattle.std.specs.Prelude.{Result, Ok, Err}
+use Rattle.std.specs.Prelude.{Result, Err}
 use Rattle.rm_base.specs.Numbered.{numbered}
 use Rattle.rm_base.specs.declared.message.Behaviour.{Behaviour}
 use Rattle.rm_base.specs.declared.message.Behaviour.TheVariants.{FollowingFirstGap}
@@ -11,7 +11,7 @@ use Rattle.record_batch.specs.declared.record.Via.{Via}
 use Rattle.record_batch.specs.Fact.{Made}
 use Rattle.sequence_table.specs.Words.{Text}
 use Rattle.rm_protocol.specs.Calls.{Answer, Wish, create, send, close, end, tick, receive}
-use Rattle.rm_protocol.specs.Node.{Node, State, Up, records, end_of, mounted, after, said_after}
+use Rattle.rm_protocol.specs.Node.{Node, State, Up, records, end_of, armed, mounted, after, said_after}
 use Rattle.rm_protocol.specs.Said.{sent_of}
 use Rattle.rm_protocol.specs.Terms.{Terms}
 use Rattle.rm_protocol.specs.Verdict.{has_room}
@@ -95,11 +95,12 @@ calls terms w side connected answer =
 abbrev pub received_by : Terms → Node → Result Message Refusal → Answer
 received_by terms x content = receive terms (records x) (end_of terms x.entries) x.clock x.granted content
 
--- a world after a packet was delivered, where there is one with this number
+-- a world after a packet was delivered, where there is one with this number: its text is read at the other node
 abbrev pub arrives : Terms → World → Option Packet → World
 arrives terms w None = w
 arrives terms w (Some packet) =
-    calls terms w (other packet.from) true (received_by terms (node w (other packet.from)) (Ok packet.message))
+    calls terms w (other packet.from) true
+    (received_by terms (node w (other packet.from)) (terms.read packet.message))
 
 -- what a line asks for: a sequence to the other node
 abbrev pub wish_of : World → Side → Via → Lapse → Option Behaviour → Wish
@@ -131,7 +132,7 @@ happens terms w (Close side seq) =
     (node w side).clock)
 happens terms w (End side seq) =
     calls terms w side false (end terms (records (node w side)) (end_of terms (node w side).entries) seq)
-happens terms w (Arm side c) = with_node w side (record (node w side) { fuse = Some c })
+happens terms w (Arm side c) = with_node w side (record (node w side) { fuse = armed c (node w side).fuse })
 happens terms w (Crash side kept) = with_node w side (mounted (node w side) kept)
 happens terms w (Noise side refusal) = calls terms w side true (received_by terms (node w side) (Err refusal))
 

@@ -1,15 +1,22 @@
 //! Laws of the protocol.
-ghost use Rattle.std.specs.Prelude.{◌≡◌, ◌∷◌, [], List, length};
+ghost use Rattle.std.specs.Prelude.{◌≡◌, ℕ, ◌+◌, ◌++◌, ◌∷◌, [], Bool, Err, List, Some, length};
+ghost use Rattle.std.specs.Prelude.{slice_get, take};
+ghost use Rattle.rm_base.specs.Numbered.{numbered};
+ghost use Rattle.rm_message.specs.declared.refusal.Refusal.{Refusal};
+ghost use Rattle.record_batch.specs.Fact.{Fact};
+ghost use Rattle.rm_protocol.specs.Delivered.{TakesNew};
 ghost use Rattle.rm_protocol.specs.Examples.{with_a_close, with_an_end, with_an_expiry, example_terms, in_order};
 ghost use Rattle.rm_protocol.specs.Examples.{played, with_a_crash, with_a_gap, with_an_offer};
 ghost use Rattle.rm_protocol.specs.Next.{EachMayComeNext};
 ghost use Rattle.rm_protocol.specs.Node.{records};
 ghost use Rattle.rm_protocol.specs.Recorded.{GapIsClosed, NewIsRecorded, OnlyHeardIsRecorded};
-ghost use Rattle.rm_protocol.specs.Sent.{AcceptedIsSent};
+ghost use Rattle.rm_protocol.specs.Sent.{AcceptedIsSent, line_of, lines, outcome_of};
 ghost use Rattle.rm_protocol.specs.Sound.{IsSound};
 ghost use Rattle.rm_protocol.specs.Terms.{AreTerms, Terms};
-ghost use Rattle.rm_protocol.specs.Word.{KeepsAll};
-ghost use Rattle.rm_protocol.specs.World.{AreMade, Event, World, happens, run, start};
+ghost use Rattle.rm_protocol.specs.Unarmed.{AreFaultless, AreUnarmed, IsFaultless};
+ghost use Rattle.rm_protocol.specs.Word.{IsAfterCrashes, IsLeft, KeepsAll};
+ghost use Rattle.rm_protocol.specs.World.{AreMade, Crash, Deliver, Event, Noise, Packet, Side, World};
+ghost use Rattle.rm_protocol.specs.World.{happens, node, other, run, start};
 ghost use Rattle.sequence_table.specs.Destinations.{discarded, inbox, texts};
 ghost use Rattle.sequence_table.specs.Words.{Text};
 
@@ -40,6 +47,14 @@ pub fn what_closes_the_gap_is_released()
     ensures { GapIsClosed }
 {}
 
+/// At each moment of a run, a delivered message that is new, within the window and for an open sequence is recorded by
+/// that call, and released where it closes the gap, unless the node was down, its disk failed, an acknowledgement of
+/// the message was invalid or the store was full.
+pub fn a_delivered_message_is_taken()
+    ensures { (terms : Terms) (one two : Text) → AreTerms terms → AreMade terms one two → (events : List Event)
+        → TakesNew terms (run terms events (start one two)) }
+{}
+
 /// A message brings no other records than those of the receiving table: Received is its data, and nothing is accepted.
 pub fn only_what_was_heard_is_recorded()
     ensures { OnlyHeardIsRecorded }
@@ -53,6 +68,55 @@ pub fn each_record_may_come_next()
 /// At each image of each disk, what a source accepted is what the report says was sent.
 pub fn accepted_is_sent()
     ensures { AcceptedIsSent }
+{}
+
+/// A packet whose text is refused is what noise with that refusal is at its node.
+pub fn what_is_refused_is_noise()
+    ensures world { (terms : Terms) (w : World) (k : ℕ) (packet : Packet) (refusal : Refusal)
+        → numbered w.packets k ≡ Some packet → terms.read packet.message ≡ Err refusal
+        → happens terms w (Deliver k) ≡ happens terms w (Noise (other packet.from) refusal) }
+    ensures outcome { (terms : Terms) (w : World) (k : ℕ) (packet : Packet) (refusal : Refusal)
+        → numbered w.packets k ≡ Some packet → terms.read packet.message ≡ Err refusal
+        → outcome_of terms w (Deliver k) ≡ outcome_of terms w (Noise (other packet.from) refusal) }
+{}
+
+/// Where no disk is armed, no disk fails and no node is down.
+pub fn without_an_arm_nothing_fails()
+    ensures lines { (terms : Terms) (one two : Text) (events : List Event) → AreUnarmed events
+        → AreFaultless (lines terms events (start one two)) }
+    ensures next { (terms : Terms) (one two : Text) (events : List Event) (event : Event) → AreUnarmed events
+        → IsFaultless (outcome_of terms (run terms events (start one two)) event) }
+{}
+
+/// Each image of a node's disk is what one more crash would leave.
+pub fn an_image_is_one_more_crash()
+    ensures { (terms : Terms) (w : World) (side : Side) (image : List Fact) → IsLeft (node w side) image
+        → (kept : Bool) × (records (node (happens terms w (Crash side kept)) side) ≡ image) }
+{}
+
+/// So each pair of images of both disks is what two more crashes would leave.
+pub fn a_pair_of_images_is_two_more_crashes()
+    ensures { (terms : Terms) (w : World) (a b : List Fact) → IsLeft w.one a → IsLeft w.two b
+        → IsAfterCrashes terms w a b }
+{}
+
+/// The run of two scripts, one behind the other, is the run of the second from where that of the first ends.
+pub fn a_run_goes_on()
+    ensures run { (terms : Terms) (first second : List Event) (w : World)
+        → run terms (first ++ second) w ≡ run terms second (run terms first w) }
+    ensures lines { (terms : Terms) (first second : List Event) (w : World)
+        → lines terms (first ++ second) w ≡ lines terms first w ++ lines terms second (run terms first w) }
+{}
+
+/// The run of one line more.
+pub fn a_run_of_one_line_more()
+    ensures run { (terms : Terms) (events : List Event) (w : World) (k : ℕ) (event : Event)
+        → slice_get events k ≡ Some event
+        → run terms (take (k + 1) events) w ≡ happens terms (run terms (take k events) w) event }
+    ensures lines { (terms : Terms) (events : List Event) (w : World) (k : ℕ) (event : Event)
+        → slice_get events k ≡ Some event
+        → lines terms (take (k + 1) events) w
+        ≡ lines terms (take k events) w ++ line_of terms (run terms (take k events) w) event ∷ [] }
 {}
 
 /// What is asked of the terms can be met.

@@ -1,0 +1,9 @@
+use Rattle.rm_protocol.specs.World.{run, start}
+use Rattle.rm_protocol.proofs.RunLemmas.{run-IsSound, start-IsSound}
+use Rattle.rm_protocol.proofs.TakenLemmas.{takes-new}
+use Rattle.rm_protocol.proofs.laws.a_delivered_message_is_taken.Goals as goal
+
+pub returns : goal.returns
+returns c terms one two t made events =
+    takes-new terms (run terms events (start one two))
+    (run-IsSound terms events (start one two) t (start-IsSound terms one two t made))

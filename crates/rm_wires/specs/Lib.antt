@@ -1,0 +1,2 @@
+pub mod MemWire
+pub mod Wire
