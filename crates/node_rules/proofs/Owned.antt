@@ -1,7 +1,7 @@
 -- What a node's own terms are.
 use Rattle.std.proofs.Common.{◌≡◌, ℕ, ◌<◌, ◌≤◌, Bool, true, false, List, length, refl, sym, subst, arith}
 use Rattle.std.proofs.Common.{Option, Some, None}
-use Rattle.std.specs.Prelude.{nat_le, IfSome}
+use Rattle.std.specs.Prelude.{nat_le, IfSome, Result}
 use Rattle.std.proofs.lemmas.Bool.{leb-true}
 use Rattle.std.proofs.lemmas.Bool.Decides.{nat_tests}
 use Rattle.rm_elements.specs.declared.header.AckBlock.{AckBlock}
@@ -9,11 +9,12 @@ use Rattle.rm_elements.specs.declared.lapse.Lapse.{Lapse}
 use Rattle.rm_message.specs.declared.message.Message.{Message}
 use Rattle.rm_message.specs.declared.refusal.FaultKind.{FaultKind}
 use Rattle.rm_message.specs.declared.refusal.FaultKind.TheVariants.{SequenceClosed}
+use Rattle.rm_message.specs.declared.refusal.Refusal.{Refusal}
 use Rattle.message_writer.specs.Faults.{acks_of, fault_of}
 use Rattle.record_batch.specs.Batch.{batch_text}
 use Rattle.record_batch.specs.Fact.{Fact}
 use Rattle.sequence_table.specs.Makers.{counter}
-use Rattle.rm_protocol.specs.Terms.{Terms, AreTerms, EndsLater, IsFault, header_blocks}
+use Rattle.rm_protocol.specs.Terms.{Terms, AreTerms, EndsLater, ReadsBack, IsFault, header_blocks}
 use Rattle.node_rules.specs.OwnTerms.{EndsAsTold, AreOwn}
 use Rattle.node_rules.proofs.Calendar.{has-deadline}
 use Rattle.node_rules.proofs.Content.{Documents, told}
@@ -43,8 +44,8 @@ same-blocks _ block = refl
 
 -- what the protocol asks of terms holds of a node's own
 pub own-are-terms : ((batch : List Fact) → counter batch ≤ length (batch_text batch)) → (terms : Terms) → AreOwn terms
-    → AreTerms terms
-own-are-terms law terms own = record {
+    → ReadsBack terms → AreTerms terms
+own-are-terms law terms own back = record {
   size = λ batch. let same = own.size batch in omega (arith, same, law batch);
   deadline = own-later terms own;
   fault = λ refusal block. subst (IsFault (header_blocks refusal.kind block)) (sym (own.fault refusal block)) (record {
@@ -53,19 +54,22 @@ own-are-terms law terms own = record {
     acks = same-blocks refusal.kind block;
     sequence = refl;
   });
+  read = back;
 }
 
 -- there are such terms, over any network
-pub there-are-own : Documents → (takes : List Message → Message → Bool)
-    → (terms : Terms) × (terms.takes ≡ takes) × AreOwn terms
-there-are-own documents takes = (
+pub there-are-own : Documents → (takes : List Message → Message → Bool) (read : Message → Result Message Refusal)
+    → (terms : Terms) × (terms.takes ≡ takes) × (terms.read ≡ read) × AreOwn terms
+there-are-own documents takes read = (
   record {
     size = λ batch. length (batch_text batch);
     deadline = λ now lapse. (has-deadline now lapse).end;
     is_content = λ bytes. (told documents bytes).answer;
     fault = fault_of;
+    read = read;
     takes = takes;
   },
+  refl,
   refl,
   record {
     size = λ batch. refl;
