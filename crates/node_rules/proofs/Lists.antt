@@ -41,10 +41,6 @@ All-numbered P xs n h =
       | false ↦ All-at P xs (n - 1) h
     ]
 
--- an item that is there has what those that may be there have
-pub there : {A : Type 0} (P : A → Type 0) (o : Option A) (x : A) → IfSome o P → o ≡ Some x → P x
-there P o x h e = subst (λ z. IfSome z P) e h
-
 -- those of one sequence
 pub All-at_seq : {A : Type 0} (P : A → Type 0) (s : ℕ) (xs : List (ℕ × A)) → AllByRecursion (λ (x : ℕ × A). P x.1) xs
     → AllByRecursion P (at_seq s xs)
