@@ -1,0 +1,16 @@
+mod Calendar
+mod Calls
+mod Content
+mod Counts
+mod Deadlines
+mod EachCall
+mod Kept
+mod Lists
+mod Messages
+mod Near
+mod Owned
+mod Rows
+mod Said
+mod Texts
+mod Unacked
+mod Values

@@ -1,0 +1,4 @@
+pub mod Keeps
+pub mod OwnTerms
+pub mod Read
+pub mod Records
