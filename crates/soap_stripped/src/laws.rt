@@ -1,0 +1,21 @@
+//! Laws of documents, each the contract of a function that does nothing.
+
+ghost use Rattle.std.specs.Prelude.{◌<◌, ◌^◌, ℕ, List, length};
+ghost use Rattle.soap_lex.specs.Characters.{IsChars};
+ghost use Rattle.soap_lex.specs.Text.{IsText};
+ghost use Rattle.soap_lex.specs.Value.{IsValue};
+ghost use Rattle.soap_profile.specs.Document.{Document};
+ghost use Rattle.soap_profile.specs.Tree.{Element};
+ghost use Rattle.soap_stripped.specs.Resolved.{IsResolved};
+
+/// What text and attribute values mean is characters.
+pub fn meanings_are_characters()
+    ensures text { (bytes meaning : List ℕ) → IsText bytes meaning → IsChars meaning }
+    ensures value { (bytes value : List ℕ) → IsValue bytes value → IsChars value }
+{}
+
+/// The root of a document, and so each element in it, may be written without its declarations, where a machine can
+/// count the bytes of the document.
+pub fn elements_may_be_written()
+    ensures { (bytes : List ℕ) (tree : Element) → Document bytes tree → length bytes < 2 ^ 64 → IsResolved 0 tree }
+{}
