@@ -1,0 +1,4 @@
+pub mod Addressing
+pub mod Lists
+pub mod Params
+pub mod Texts
