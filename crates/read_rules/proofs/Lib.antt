@@ -1,4 +1,8 @@
 pub mod Addressing
+pub mod Envelopes
+pub mod Headers
+pub mod Lifecycles
 pub mod Lists
+pub mod Names
 pub mod Params
 pub mod Texts

@@ -14,7 +14,7 @@ use Rattle.soap_profile.specs.Tree.{Binding, Element, element, Parts, none, text
 use Rattle.soap_writer.specs.Writable.{NoText, ArePartsWritable}
 use Rattle.soap_stripped.specs.Resolved.{AreInForce, PartsDeclare, IsResolved}
 use Rattle.soap_stripped.proofs.Meanings.{text_chars}
-use Rattle.soap_stripped.proofs.Spaces.{none_in_force, more_in_force}
+use Rattle.soap_stripped.specs.ResolvedLaws.{none_in_force, more_in_force}
 use Rattle.soap_stripped.proofs.Tags.{attributes_written, attributes_few, IsTag, tag_resolved}
 
 -- the same of what stands in so many elements

@@ -85,26 +85,6 @@ declared_bind (a ∷ attributes) all decls e =
     declare_at a.value (declared_prefix a.name) (declarations attributes) decls e all.0.chars
     (declared_bind attributes all.1)
 
--- ---- bindings in force
-
-pub none_in_force : AreInForce []
-none_in_force prefix space e = cc
-
-bound_at : (b : Binding) (prefix space : List ℕ) (later : Option (List ℕ)) (t : Bool) → bytes_eq b.prefix prefix ≡ t
-    → (if t then Some b.space else later) ≡ Some space → IsBinding b
-    → (later ≡ Some space → IsBindable prefix space) → IsBindable prefix space
-bound_at b prefix space later false d e is more = more e
-bound_at b prefix space later true d e is more =
-    let found : b.space ≡ space = cc in
-    subst (λ (p : List ℕ). IsBindable p space) (same b.prefix prefix d) (subst (IsBindable b.prefix) found is)
-
-pub more_in_force : (decls scope : List Binding) → AllByRecursion IsBinding decls → AreInForce scope
-    → AreInForce (decls ++ scope)
-more_in_force [] scope all outer prefix space e = outer prefix space e
-more_in_force (b ∷ decls) scope all outer prefix space e =
-    bound_at b prefix space (bound prefix (decls ++ scope)) (bytes_eq b.prefix prefix) refl e all.0
-    (more_in_force decls scope all.1 outer prefix space)
-
 -- ---- names
 
 nothing_bindable : IsBindable [] []

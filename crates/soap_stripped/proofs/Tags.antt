@@ -18,7 +18,8 @@ use Rattle.soap_writer.specs.Writable.{IsNameWritable, IsAttrWritable}
 use Rattle.soap_stripped.specs.Resolved.{IsBinding, AreInForce}
 use Rattle.soap_stripped.proofs.Meanings.{value_chars}
 use Rattle.soap_stripped.proofs.Names.{parted}
-use Rattle.soap_stripped.proofs.Spaces.{declared_bind, more_in_force, element_named, attribute_named}
+use Rattle.soap_stripped.specs.ResolvedLaws.{more_in_force}
+use Rattle.soap_stripped.proofs.Spaces.{declared_bind, element_named, attribute_named}
 
 -- ---- attributes as they are written
 
