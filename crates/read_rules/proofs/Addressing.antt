@@ -44,6 +44,12 @@ replies_at (Some x) (Some y) replies e f g =
     let is : pair ≡ replies = cc in
     subst AreReplies is (record { reply_to = f x refl; fault_to = g y refl })
 
+-- properties that may be written, where this was read of Action and of MessageID
+record AreProperties (action id : Option (Option (List ℕ))) (a : Addressing) : Type 0 where
+  rules : IsAddressingWritable a
+  acts : action ≡ Some (Some a.action)
+  known : id ≡ Some a.message_id
+
 module _ (headers : List Element) (all : AllByRecursion (IsResolved 2) headers) where
   named_resolved : (local : List ℕ) → AllByRecursion (IsResolved 2) (blocks_named local headers)
   named_resolved local = all_filter (IsResolved 2) (is_header local) headers all
@@ -99,7 +105,7 @@ module _ (headers : List Element) (all : AllByRecursion (IsResolved 2) headers) 
       → ((uri : Option (List ℕ)) → action ≡ Some uri → IfSome uri (IsText 2048))
       → ((uri : Option (List ℕ)) → id ≡ Some uri → IfSome uri (IsText 2048))
       → ((uri : Option (List ℕ)) → relates ≡ Some uri → IfSome uri (IsText 2048))
-      → ((x : Replies) → replies ≡ Some x → AreReplies x) → IsAddressingWritable a
+      → ((x : Replies) → replies ≡ Some x → AreReplies x) → AreProperties action id a
   properties_at None action id relates replies a e f g h k l = cc
   properties_at (Some to) None id relates replies a e f g h k l = cc
   properties_at (Some to) (Some None) id relates replies a e f g h k l = cc
@@ -118,17 +124,22 @@ module _ (headers : List Element) (all : AllByRecursion (IsResolved 2) headers) 
       } in
       let is : read ≡ a = cc in
       let both = l replies refl in
-      subst IsAddressingWritable is (record {
-        to = or_anonymous_is to (f to refl);
-        action = g (Some action) refl;
-        message_id = h id refl;
-        relates = k relates refl;
-        reply_to = both.reply_to;
-        fault_to = both.fault_to;
-        each = params_are;
+      subst (AreProperties (Some (Some action)) (Some id)) is (record {
+        rules = record {
+          to = or_anonymous_is to (f to refl);
+          action = g (Some action) refl;
+          message_id = h id refl;
+          relates = k relates refl;
+          reply_to = both.reply_to;
+          fault_to = both.fault_to;
+          each = params_are;
+        };
+        acts = refl;
+        known = refl;
       })
 
-  properties_are : (a : Addressing) → properties_in headers ≡ Some a → IsAddressingWritable a
+  properties_are : (a : Addressing) → properties_in headers ≡ Some a → AreProperties
+      (uri_header (codes "Action") headers) (uri_header (codes "MessageID") headers) a
   unfolding properties_in
   properties_are a e =
       properties_at (uri_header (codes "To") headers) (uri_header (codes "Action") headers)
@@ -149,7 +160,14 @@ module _ (headers : List Element) (all : AllByRecursion (IsResolved 2) headers) 
   unless_at None a e = missing_at (is_missing (codes "Action") headers) a e
   unless_at (Some name) a e = cc
 
-pub addressing_rules : (headers : List Element) (a : Addressing) → AllByRecursion (IsResolved 2) headers
-    → addressing_in headers ≡ Ok a → IsAddressingWritable a
-addressing_rules headers a all e =
-    properties_are headers all a (unless_at headers all (repeated headers) a e)
+-- properties that are read of header blocks of a document
+pub record IsAddressed (headers : List Element) (a : Addressing) : Type 0 where
+  pub rules : IsAddressingWritable a
+  pub acts : uri_header (codes "Action") headers ≡ Some (Some a.action)
+  pub known : uri_header (codes "MessageID") headers ≡ Some a.message_id
+
+pub addressing_is : (headers : List Element) (a : Addressing) → AllByRecursion (IsResolved 2) headers
+    → addressing_in headers ≡ Ok a → IsAddressed headers a
+addressing_is headers a all e =
+    let is = properties_are headers all a (unless_at headers all (repeated headers) a e) in
+    record { rules = is.rules; acts = is.acts; known = is.known }

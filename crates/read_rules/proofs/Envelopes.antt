@@ -27,7 +27,7 @@ pub record AreParts (e : Envelope) : Type 0 where
 
 -- ---- bindings
 
-declares : (depth : ℕ) (e : Element) → IsResolved depth e → AllByRecursion IsBinding (decls_of e)
+pub declares : (depth : ℕ) (e : Element) → IsResolved depth e → AllByRecursion IsBinding (decls_of e)
 declares depth (element name decls attrs parts) is = is.declares.0
 
 declared_at : (bindings : List Binding) (prefix space : List ℕ) (o : Option (List ℕ)) → AreInForce bindings

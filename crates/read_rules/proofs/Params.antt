@@ -73,7 +73,7 @@ unmarked_has_none (element name decls attrs parts) = passed is_no_mark attrs
 -- ---- heights
 
 mutual
-  height_kept : (e : Element) → height (without_declarations e) ≡ height e
+  pub height_kept : (e : Element) → height (without_declarations e) ≡ height e
   height_kept (element name decls attrs parts) = ap suc (depth_kept parts)
 
   depth_kept : (parts : Parts) → depth (parts_without parts) ≡ depth parts

@@ -1,16 +1,34 @@
-//! Laws of messages as they are read, each the contract of a function that does nothing but to bring in the law that
+//! Laws of messages as they are read, each the contract of a function that does nothing but to bring in the laws that
 //! it stands on.
 
-ghost use Rattle.std.specs.Prelude.{◌≡◌, List, Ok};
-ghost use Rattle.std.specs.List.{AllByRecursion};
-ghost use Rattle.soap_profile.specs.Tree.{Element};
-ghost use Rattle.soap_stripped.specs.Resolved.{IsResolved};
-ghost use Rattle.wsa_headers.specs.Addressing.{addressing_in};
-ghost use Rattle.wsa_headers.specs.Writable.{IsAddressingWritable};
-ghost use Rattle.wsa_headers.specs.declared.addressing.Addressing.{Addressing as Properties};
+ghost use Rattle.std.specs.Prelude.{ℕ, List, None};
+ghost use Rattle.rm_message.specs.declared.message.Message.{Message as Value};
+ghost use Rattle.rm_message.specs.declared.refusal.Refusal.{Refusal as Refused};
+ghost use Rattle.message_reader.specs.Refusals.{Spells, Refuses};
+ghost use Rattle.message_writer.specs.Rules.{KeepsRules};
+ghost use Rattle.rm_wire.specs.Writable.{IsRefusalWritable};
+ghost use Rattle.read_rules.specs.WasRead.{WasRead, PayloadFits};
 
-/// The properties that are read of header blocks of a document may be written.
-pub fn addressing_may_be_written()
-    ensures { (headers : List Element) (a : Properties) → AllByRecursion (IsResolved 2) headers
-        → addressing_in headers ≡ Ok a → IsAddressingWritable a }
+use soap_stripped::laws::{elements_may_be_written, names_may_be_written};
+
+/// A message that bytes spell keeps the rules of those that are written, but for its payload.
+pub fn what_is_read_may_be_written()
+    ensures { (soap bytes : List ℕ) (m : Value) → Spells soap bytes m → WasRead m }
+{
+    elements_may_be_written();
+    names_may_be_written();
+}
+
+/// With those of its payload it keeps all of them.
+pub fn what_was_read_keeps_the_rules()
+    ensures { (soap : List ℕ) (m : Value) → WasRead m → PayloadFits soap m.sequence m.body → KeepsRules soap m }
 {}
+
+/// The fault that answers a refusal of bytes may be written.
+pub fn a_refusal_may_be_answered()
+    ensures { (soap bytes : List ℕ) (refusal : Refused) → Refuses soap bytes refusal
+        → IsRefusalWritable refusal None }
+{
+    elements_may_be_written();
+    names_may_be_written();
+}

@@ -6,7 +6,8 @@ use Rattle.soap_lex.specs.Characters.{IsChars}
 use Rattle.soap_lex.specs.References.{IsReference, ampersand, less, greater, apostrophe, quote, decimal, hexadecimal}
 use Rattle.soap_lex.specs.Text.{IsMarkup, reference, cdata, comment, IsText, run, more, with_line_ends}
 use Rattle.soap_lex.specs.Value.{IsInner, IsValue, double, single, run as inner_run, more as inner_more, with_spaces}
-use Rattle.soap_stripped.proofs.Lines.{chars_nil, chars_append, one_char, with_line_ends_chars, with_spaces_chars}
+use Rattle.soap_stripped.specs.CharLaws.{chars_nil, chars_append, one_char}
+use Rattle.soap_stripped.proofs.Lines.{with_line_ends_chars, with_spaces_chars}
 
 reference_char : {bytes : List ℕ} {c : ℕ} → IsReference bytes c → is_char c ≡ true
 reference_char ampersand = refl
