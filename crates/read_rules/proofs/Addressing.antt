@@ -1,6 +1,6 @@
 -- Message addressing properties, as they are read.
-use Rattle.std.proofs.Common.{◌≡◌, ◌≤◌, ℕ, Bool, true, false, if◌then◌else◌, List, [], ◌∷◌, Option, Some, None, map, Ok}
-use Rattle.std.proofs.Common.{Result, Err, codes, refl, ap, subst, arith}
+use Rattle.std.proofs.Common.{◌≡◌, ℕ, Bool, true, false, if◌then◌else◌, List, Option, Some, None, Ok}
+use Rattle.std.proofs.Common.{Err, codes, refl, ap, subst, arith}
 use Rattle.std.specs.Prelude.{IfSome}
 use Rattle.std.specs.List.{AllByRecursion, filter}
 use Rattle.rm_base.specs.Text.{IsText}
@@ -15,7 +15,6 @@ use Rattle.wsa_headers.specs.Endpoint.{uri_of, epr_of, param}
 use Rattle.wsa_headers.specs.Writable.{IsParamWritable, IsEprWritable, IsAddressingWritable}
 use Rattle.wsa_headers.specs.declared.addressing.Addressing.{Addressing}
 use Rattle.wsa_headers.specs.declared.endpoint.Epr.{Epr}
-use Rattle.wsa_headers.specs.declared.error.AddressingError.{AddressingError}
 use Rattle.wsa_headers.specs.declared.error.AddressingError.TheVariants as errors
 use Rattle.read_rules.proofs.Lists.{all_filter, all_map, first_is, present_is, found_is}
 use Rattle.read_rules.proofs.Params.{param_is, epr_is}
@@ -35,8 +34,8 @@ record AreReplies (replies : Replies) : Type 0 where
 
 replies_at : (a b : Option (Option Epr)) (replies : Replies)
     → (a >>= λ reply_to. (b >>= λ fault_to. Some (reply_to, fault_to))) ≡ Some replies
-    → ((x : Option Epr) → a ≡ Some x → IfSome x IsEprWritable) → ((x : Option Epr) → b ≡ Some x → IfSome x IsEprWritable)
-    → AreReplies replies
+    → ((x : Option Epr) → a ≡ Some x → IfSome x IsEprWritable)
+    → ((x : Option Epr) → b ≡ Some x → IfSome x IsEprWritable) → AreReplies replies
 replies_at None b replies e f g = cc
 replies_at (Some x) None replies e f g = cc
 replies_at (Some x) (Some y) replies e f g =

@@ -1,16 +1,16 @@
 -- The header blocks and the body of an envelope are elements of a document, and so are the bindings in force at both.
-use Rattle.std.proofs.Common.{◌≡◌, ◌≤◌, ◌<◌, ◌^◌, ℕ, Bool, true, false, if◌then◌else◌, List, [], ◌∷◌, ◌++◌, Option, Some}
-use Rattle.std.proofs.Common.{None, codes, length, refl, sym, ap, subst, ◌∙◌, arith}
+use Rattle.std.proofs.Common.{◌≡◌, ◌≤◌, ◌<◌, ◌^◌, ℕ, Bool, true, false, if◌then◌else◌, List, [], ◌∷◌, ◌++◌, Option}
+use Rattle.std.proofs.Common.{Some, None, codes, length, refl, sym, ap, subst, ◌∙◌, arith}
 use Rattle.std.specs.Prelude.{IfSome}
 use Rattle.std.proofs.lemmas.List.{append-nil}
 use Rattle.std.specs.List.{AllByRecursion}
 use Rattle.std.specs.Str.{bytes_eq}
 use Rattle.soap_profile.specs.Document.{Document}
 use Rattle.soap_profile.specs.Namespaces.{bound}
-use Rattle.soap_profile.specs.Tree.{Binding, Element, element, Parts, child, decls_of, parts_of, children_of}
+use Rattle.soap_profile.specs.Tree.{Binding, Element, element, Parts, decls_of, children_of}
 use Rattle.soap_envelope.specs.Envelope.{name_in, IsSpaced, bare, spaced, IsBodyAlone, IsOutline, headless, headed}
 use Rattle.soap_envelope.specs.Envelope.{IsHeader, without, blocks, Envelope, IsEnvelope}
-use Rattle.soap_envelope.specs.Scope.{declared, in_force, IsScope}
+use Rattle.soap_envelope.specs.Scope.{declared, IsScope}
 use Rattle.soap_stripped.specs.Resolved.{IsBinding, AreInForce, IsResolved}
 use Rattle.soap_stripped.specs.ResolvedLaws.{none_in_force, more_in_force, children_resolved}
 

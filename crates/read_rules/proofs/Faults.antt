@@ -1,10 +1,9 @@
 -- What a Fault says, as it is read.
-use Rattle.std.proofs.Common.{◌≡◌, ◌≢◌, ◌≤◌, ℕ, suc, Bool, true, false, if◌then◌else◌, List, [], ◌∷◌, Option, Some, None}
-use Rattle.std.proofs.Common.{codes, map, refl, subst, arith}
+use Rattle.std.proofs.Common.{◌≡◌, ◌≢◌, ℕ, suc, Bool, true, false, if◌then◌else◌, List, [], ◌∷◌, Option, Some, None}
+use Rattle.std.proofs.Common.{codes, refl, arith}
 use Rattle.std.specs.Prelude.{IfSome, IsSome}
 use Rattle.std.specs.List.{AllByRecursion}
 use Rattle.soap_document.specs.Tokens.{is_nil}
-use Rattle.soap_profile.specs.Payload.{height}
 use Rattle.soap_profile.specs.Tree.{Binding, Element, without_declarations, parts_of, children_of}
 use Rattle.soap_profile.specs.declared.name.Expanded.{Expanded as Name}
 use Rattle.soap_writer.specs.Writable.{IsNameWritable}
@@ -18,11 +17,10 @@ use Rattle.soap_values.specs.Values.{trimmed_text}
 use Rattle.wsa_headers.specs.Addressing.{first_of}
 use Rattle.rm_message.specs.declared.message.FaultBody.{FaultBody}
 use Rattle.rm_message.specs.declared.message.FaultCode.{FaultCode}
-use Rattle.rm_message.specs.declared.message.FaultCode.TheVariants.{Receiver}
 use Rattle.message_writer.specs.Rules.{IsSubcodeWritable, IsDetailWritable, IsFaultWritable}
-use Rattle.message_reader.specs.Faults.{first_named, value_name, code_named, spaced, subcode_name, inner_name, codes_with}
-use Rattle.message_reader.specs.Faults.{codes_below, codes_in, codes_or_receiver, reason_in, or_empty, stripped_in}
-use Rattle.message_reader.specs.Faults.{detail_in, fault_with, fault_in}
+use Rattle.message_reader.specs.Faults.{first_named, value_name, code_named, spaced, subcode_name, inner_name}
+use Rattle.message_reader.specs.Faults.{codes_with, codes_below, codes_in, codes_or_receiver, reason_in, or_empty}
+use Rattle.message_reader.specs.Faults.{stripped_in, detail_in, fault_with, fault_in}
 use Rattle.read_rules.proofs.Envelopes.{declares}
 use Rattle.read_rules.proofs.Lists.{all_filter, all_map, first_is}
 use Rattle.read_rules.proofs.Names.{WrittenNames, Binds, qname_is}
@@ -107,7 +105,7 @@ module _ (names : WrittenNames) (soap : List ℕ) (scope : List Binding) (outer 
       (first_resolved soap (codes "Subcode") depth subcode is)
 
   below_are : (depth : ℕ) (code : FaultCode) (o : Option Element) (elements : List Element)
-      → IfSome o (IsResolved depth) → AllByRecursion Binds elements 
+      → IfSome o (IsResolved depth) → AllByRecursion Binds elements
       → AreCodes (fault_with (codes_below soap scope code o elements) [] [])
   below_are depth code None elements is all = record { subcode = tt; inner = tt; within = λ x. x }
   below_are depth code (Some subcode) elements is all =
@@ -140,7 +138,7 @@ module _ (names : WrittenNames) (soap : List ℕ) (scope : List Binding) (outer 
       name_at (suc depth) holder (fault ∷ []) h (declares depth fault is, tt)
       (value_name soap scope holder (fault ∷ []))
 
-  codes_are : (depth : ℕ) (fault : Element) → IsResolved depth fault 
+  codes_are : (depth : ℕ) (fault : Element) → IsResolved depth fault
       → IfSome (codes_in soap scope fault) (λ found. AreCodes (fault_with found [] []))
   unfolding codes_in
   codes_are depth fault is =

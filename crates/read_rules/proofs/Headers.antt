@@ -1,24 +1,22 @@
 -- Header blocks of WS-ReliableMessaging and WS-MakeConnection, as they are read.
-use Rattle.std.proofs.Common.{◌≡◌, ◌≢◌, ◌≤◌, ℕ, Bool, true, false, not, ◌&&◌, if◌then◌else◌, List, [], ◌∷◌, Option}
-use Rattle.std.proofs.Common.{Some, None, option_map, Result, Ok, Err, codes, refl, subst, arith, nat_lt, nat_eq}
+use Rattle.std.proofs.Common.{◌≡◌, ◌≤◌, ℕ, Bool, true, false, if◌then◌else◌, List, [], ◌∷◌, Option}
+use Rattle.std.proofs.Common.{Some, None, option_map, Ok, Err, codes, refl, subst, arith, nat_lt, nat_eq}
 use Rattle.std.specs.Prelude.{is_some}
 use Rattle.std.specs.List.{AllByRecursion}
-use Rattle.std.proofs.lemmas.Bool.{ltb-true, ltb-false, eqb-false}
+use Rattle.std.proofs.lemmas.Bool.{ltb-false, eqb-false}
 use Rattle.rm_base.specs.Text.{IsText}
-use Rattle.soap_document.specs.Tokens.{is_nil}
 use Rattle.soap_profile.specs.Tree.{Element, Parts, name_of, attrs_of, parts_of}
 use Rattle.soap_profile.specs.declared.tree.Attr.{Attr}
 use Rattle.soap_values.specs.Children.{name_in, children_named, value_among}
 use Rattle.soap_values.specs.Outcome.{◌>>=◌, optional, single, each}
-use Rattle.soap_values.specs.Values.{trimmed_text, whole_number, text_within}
+use Rattle.soap_values.specs.Values.{trimmed_text, whole_number}
 use Rattle.ack_ranges.specs.declared.range.Range.{Range}
 use Rattle.rm_elements.specs.Headers.{ident_of, identifier, counted, number_in, number_of, unless_zero, message_number}
-use Rattle.rm_elements.specs.Headers.{numbered_in, unless_rolled, sequence_in, bound_in, range_of, ack_of, ack_in}
+use Rattle.rm_elements.specs.Headers.{numbered_in, unless_rolled, bound_in, range_of, ack_of, ack_in}
 use Rattle.rm_elements.specs.Headers.{pending_in, header_name, header_as, header_of}
 use Rattle.rm_elements.specs.Outcome.{rm, named}
-use Rattle.rm_elements.specs.Writable.{IsNumber, IsRange, IsSequenceWritable, IsAckWritable, IsHeaderWritable}
-use Rattle.rm_elements.specs.declared.error.ElementError.{ElementError}
-use Rattle.rm_elements.specs.declared.error.ElementError.TheVariants.{Malformed, Rollover}
+use Rattle.rm_elements.specs.Writable.{IsNumber, IsRange, IsAckWritable, IsHeaderWritable}
+use Rattle.rm_elements.specs.declared.error.ElementError.TheVariants.{Rollover}
 use Rattle.rm_elements.specs.declared.header.AckBlock.{AckBlock}
 use Rattle.rm_elements.specs.declared.header.AckKind.TheVariants.{Ranges, Nothing, Nack}
 use Rattle.rm_elements.specs.declared.header.Header.{Header}

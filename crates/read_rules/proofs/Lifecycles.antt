@@ -1,9 +1,9 @@
 -- Body elements of WS-ReliableMessaging and WS-MakeConnection, as they are read.
-use Rattle.std.proofs.Common.{◌≡◌, ◌≤◌, ℕ, suc, Bool, true, false, ◌&&◌, if◌then◌else◌, List, [], ◌∷◌, Option, Some}
+use Rattle.std.proofs.Common.{◌≡◌, ◌≤◌, ℕ, suc, Bool, true, false, ◌&&◌, if◌then◌else◌, List, Option, Some}
 use Rattle.std.proofs.Common.{None, option_map, Ok, codes, refl, subst, arith, nat_le, nat_eq}
 use Rattle.std.specs.Prelude.{IfSome}
 use Rattle.std.specs.List.{AllByRecursion}
-use Rattle.std.proofs.lemmas.Bool.{and_parts, leb-true, cond_both}
+use Rattle.std.proofs.lemmas.Bool.{and_parts, leb-true}
 use Rattle.rm_base.specs.Text.{IsText}
 use Rattle.rm_base.specs.declared.message.Behaviour.{Behaviour}
 use Rattle.soap_profile.specs.Tree.{Element, Parts, name_of, parts_of, children_of}
@@ -15,7 +15,7 @@ use Rattle.soap_values.specs.Values.{trimmed_text}
 use Rattle.wsa_headers.specs.Endpoint.{uri_of, epr_of}
 use Rattle.wsa_headers.specs.Writable.{IsEprWritable}
 use Rattle.wsa_headers.specs.declared.endpoint.Epr.{Epr}
-use Rattle.rm_elements.specs.Duration.{at_least_one, lapse_of, lapse_from, span_in, duration_in}
+use Rattle.rm_elements.specs.Duration.{at_least_one, lapse_from, span_in, duration_in}
 use Rattle.rm_elements.specs.Headers.{identifier, number_of}
 use Rattle.rm_elements.specs.Lifecycle.{reference_in, lapse_at, expires_in, behaviour_in, offer_of, offer_in, create_in}
 use Rattle.rm_elements.specs.Lifecycle.{accept_of, accept_in, response_in, finish_in, has_other, make_in, body_name}
@@ -34,7 +34,7 @@ use Rattle.rm_elements.specs.declared.lifecycle.MakeConnection.{MakeConnection}
 use Rattle.rm_elements.specs.declared.lifecycle.Offer.{Offer}
 use Rattle.rm_elements.specs.declared.read.BodyName.{BodyName}
 use Rattle.rm_elements.specs.declared.read.BodyName.TheVariants as names
-use Rattle.read_rules.proofs.Headers.{identifier_is, number_is, IsAny, any_each}
+use Rattle.read_rules.proofs.Headers.{identifier_is, number_is, IsAny}
 use Rattle.read_rules.proofs.Lists.{all_filter, single_is, present_is, found_is}
 use Rattle.read_rules.proofs.Params.{epr_is}
 use Rattle.read_rules.proofs.Texts.{uri_is}

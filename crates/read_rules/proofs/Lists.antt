@@ -1,8 +1,8 @@
 -- What holds of each of a list holds of what is picked from it and of what is read of it.
 use Rattle.std.proofs.Common.{◌≡◌, Bool, List, [], ◌∷◌, ◌++◌, Option, Some, None, map, refl, subst}
 use Rattle.std.specs.Prelude.{IfSome}
-use Rattle.std.specs.List.{AllByRecursion, filter, flat_map, list_all}
-use Rattle.std.proofs.lemmas.Bool.{cond_both, and_parts}
+use Rattle.std.specs.List.{AllByRecursion, filter, flat_map}
+use Rattle.std.proofs.lemmas.Bool.{cond_both}
 use Rattle.soap_values.specs.Outcome.{◌>>=◌, optional, single, each, if_present}
 use Rattle.wsa_headers.specs.Addressing.{first_of}
 
@@ -30,11 +30,6 @@ pub all_flat_map : {A B : Type 0} (Q : A → Type 0) (P : B → Type 0) (f : A �
 all_flat_map Q P f step [] all = tt
 all_flat_map Q P f step (x ∷ xs) all =
     all_append P (f x) (flat_map f xs) (step x all.0) (all_flat_map Q P f step xs all.1)
-
-pub all_weaker : {A : Type 0} (Q P : A → Type 0) → ((x : A) → Q x → P x) → (xs : List A) → AllByRecursion Q xs
-    → AllByRecursion P xs
-all_weaker Q P step [] all = tt
-all_weaker Q P step (x ∷ xs) all = (step x all.0, all_weaker Q P step xs all.1)
 
 pub first_is : {A : Type 0} (P : A → Type 0) (xs : List A) (o : Option A) → first_of xs ≡ o → AllByRecursion P xs
     → IfSome o P
@@ -93,4 +88,3 @@ pub found_is : {A B : Type 0} (Q : A → Type 0) (P : B → Type 0) (read : A �
 found_is Q P read step xs all None d r e = cc
 found_is Q P read step xs all (Some found) d r e =
     present_is Q P read step found (optional_is Q xs found d all) r e
-

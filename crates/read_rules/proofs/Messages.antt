@@ -1,20 +1,18 @@
 -- The message of an envelope, or the reason that there is none, as it is read.
 use Rattle.std.proofs.Common.{◌≡◌, ℕ, Bool, true, false, not, ◌&&◌, ◌||◌, if◌then◌else◌, List, [], ◌∷◌, Option, Some}
-use Rattle.std.proofs.Common.{None, Result, Ok, Err, codes, map, refl, sym, ap, subst, ◌∙◌}
-use Rattle.std.specs.Prelude.{IfSome, IsSome, MatchResult, is_some}
-use Rattle.std.specs.List.{AllByRecursion, filter, flat_map, list_any}
-use Rattle.std.specs.Str.{bytes_eq}
-use Rattle.std.proofs.lemmas.Bool.{or_parts, true≢false}
+use Rattle.std.proofs.Common.{None, Result, Ok, Err, codes, refl, ap, subst, ◌∙◌}
+use Rattle.std.specs.Prelude.{IsSome, MatchResult, is_some}
+use Rattle.std.specs.List.{AllByRecursion, filter, list_any}
+use Rattle.std.proofs.lemmas.Bool.{or_parts}
 use Rattle.rm_base.specs.Text.{IsText}
-use Rattle.rm_base.specs.declared.message.Payload.{Payload}
 use Rattle.soap_lex.specs.Facts.{equal}
-use Rattle.soap_profile.specs.Tree.{Binding, Element, element, name_of, attrs_of, children_of}
+use Rattle.soap_profile.specs.Tree.{Binding, Element, element, name_of, attrs_of}
 use Rattle.soap_profile.specs.declared.name.Expanded.{Expanded as Name}
 use Rattle.soap_writer.specs.Writable.{IsNameWritable}
 use Rattle.soap_envelope.specs.Envelope.{Envelope}
 use Rattle.soap_stripped.specs.Resolved.{AreInForce, IsResolved}
 use Rattle.soap_values.specs.Children.{name_in, value_among}
-use Rattle.soap_values.specs.Outcome.{◌>>=◌, optional, each, if_present}
+use Rattle.soap_values.specs.Outcome.{◌>>=◌, optional, if_present}
 use Rattle.soap_values.specs.QNames.{within, qname_in}
 use Rattle.wsa_headers.specs.Addressing.{addressing_in, uri_header, is_header, blocks_named}
 use Rattle.wsa_headers.specs.Endpoint.{wsa, uri_of}
@@ -24,7 +22,7 @@ use Rattle.wsa_headers.specs.declared.error.AddressingError.{AddressingError}
 use Rattle.wsa_headers.specs.declared.error.AddressingError.TheVariants as errors
 use Rattle.rm_elements.specs.Headers.{header_of}
 use Rattle.rm_elements.specs.Outcome.{rm}
-use Rattle.rm_elements.specs.Writable.{IsSequenceWritable, IsAckWritable}
+use Rattle.rm_elements.specs.Writable.{IsAckWritable}
 use Rattle.rm_elements.specs.declared.error.ElementError.{ElementError}
 use Rattle.rm_elements.specs.declared.error.ElementError.TheVariants as flaws
 use Rattle.rm_elements.specs.declared.header.AckBlock.{AckBlock}
@@ -37,19 +35,19 @@ use Rattle.rm_message.specs.declared.message.Message.{Message}
 use Rattle.message_reader.specs.Blocks.{is_block, blocks, has_block, is_not_understood, not_understood}
 use Rattle.message_reader.specs.Bodies.{fault_at, body_in}
 use Rattle.message_reader.specs.Headers.{ack_from, ask_from, numbered_from, ack_of, ask_of, acks_in, asks_in}
-use Rattle.message_reader.specs.Headers.{pending_in, numbered_of, sequence_name, numbered_in, listed, told_name}
+use Rattle.message_reader.specs.Headers.{pending_in, numbered_of, sequence_name, listed, told_name}
 use Rattle.message_reader.specs.Headers.{told_names}
 use Rattle.message_reader.specs.Message.{Wrong, NotUnderstood, Cardinality, HeaderMissing, BadHeader, Malformed}
 use Rattle.message_reader.specs.Message.{Rollover, is_create, is_numbered, has_fault, lacks_id, unless_lacking}
 use Rattle.message_reader.specs.Message.{addressed, payload_of, Lists, lists_in, Marks, marks_in, content_in}
-use Rattle.message_reader.specs.Message.{message_of, with_number, with_content, with_addressing, unless_unknown}
+use Rattle.message_reader.specs.Message.{with_content, with_addressing, unless_unknown}
 use Rattle.message_reader.specs.Message.{message_in}
 use Rattle.read_rules.specs.WasRead.{AreReadTogether, WasRead}
 use Rattle.read_rules.proofs.Addressing.{IsAddressed, addressing_is}
 use Rattle.read_rules.proofs.Bodies.{GoesTogether, IsBodyOf, CreatesById, body_is}
 use Rattle.read_rules.proofs.Envelopes.{AreParts, declares}
 use Rattle.read_rules.proofs.Headers.{header_is, rolled_is, IsAny, any_each}
-use Rattle.read_rules.proofs.Lists.{all_filter, all_map, all_flat_map, each_is, optional_is}
+use Rattle.read_rules.proofs.Lists.{all_filter, all_map, all_flat_map, each_is}
 use Rattle.read_rules.proofs.Names.{WrittenNames, qname_is}
 
 -- ---- header blocks

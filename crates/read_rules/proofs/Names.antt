@@ -1,6 +1,6 @@
 -- Names in values, as they are read: XML Schema Part 2, section 3.2.18.
-use Rattle.std.proofs.Common.{◌≡◌, ℕ, Bool, true, false, not, ◌&&◌, if◌then◌else◌, List, [], ◌∷◌, ◌++◌, Option, Some}
-use Rattle.std.proofs.Common.{None, codes, encode_utf8_all, refl, sym, subst, ◌∙◌}
+use Rattle.std.proofs.Common.{◌≡◌, ℕ, Bool, true, false, not, ◌&&◌, if◌then◌else◌, List, [], ◌∷◌, Option, Some}
+use Rattle.std.proofs.Common.{None, codes, encode_utf8_all, refl, sym, subst}
 use Rattle.std.specs.List.{AllByRecursion, flat_map, list_all}
 use Rattle.std.specs.Str.{bytes_eq, chars, is_utf8}
 use Rattle.std.proofs.lemmas.Bool.{and_parts}

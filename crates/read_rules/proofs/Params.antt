@@ -1,26 +1,24 @@
 -- Reference parameters and endpoint references, as they are read.
-use Rattle.std.proofs.Common.{◌≡◌, ◌≤◌, ◌<◌, ℕ, suc, ◌+◌, max, Bool, true, false, not, ◌&&◌, if◌then◌else◌, List, []}
-use Rattle.std.proofs.Common.{◌∷◌, length, Option, Some, None, map, refl, sym, ap, ap₂, subst, ◌∙◌, arith, nat_le, codes}
-use Rattle.std.specs.Prelude.{IfSome}
-use Rattle.std.specs.List.{AllByRecursion, filter, flat_map, list_all}
+use Rattle.std.proofs.Common.{◌≡◌, ◌≤◌, ℕ, suc, ◌+◌, max, Bool, true, false, if◌then◌else◌, List, []}
+use Rattle.std.proofs.Common.{◌∷◌, length, Option, Some, None, map, refl, ap, ap₂, subst, ◌∙◌, arith, nat_le, codes}
+use Rattle.std.specs.List.{AllByRecursion, filter, list_all}
 use Rattle.std.proofs.lemmas.Bool.{and_parts, and_from, cond_both, leb-true}
 use Rattle.rm_base.specs.Text.{IsText}
 use Rattle.soap_profile.specs.Namespaces.{is_new_name, is_other, are_distinct_names}
 use Rattle.soap_profile.specs.Payload.{height, depth}
 use Rattle.soap_profile.specs.Tree.{Element, element, Parts, none, text, child, without_declarations, parts_without}
-use Rattle.soap_profile.specs.Tree.{name_of, attrs_of, parts_of, children_of}
-use Rattle.soap_profile.specs.declared.name.Expanded.{Expanded as Name}
+use Rattle.soap_profile.specs.Tree.{attrs_of, parts_of, children_of}
 use Rattle.soap_profile.specs.declared.tree.Attr.{Attr}
-use Rattle.soap_writer.specs.Writable.{IsNameWritable, IsAttrWritable, IsTagWritable, IsWritable}
+use Rattle.soap_writer.specs.Writable.{IsAttrWritable, IsWritable}
 use Rattle.soap_stripped.specs.Resolved.{IsResolved}
 use Rattle.soap_stripped.specs.ResolvedLaws.{children_resolved}
 use Rattle.soap_values.specs.Children.{has_name, children_named}
 use Rattle.soap_values.specs.Outcome.{◌>>=◌, single}
-use Rattle.wsa_headers.specs.Endpoint.{wsa, uri_of, address_in, mark_name, is_no_mark, unmarked, param, params_among}
+use Rattle.wsa_headers.specs.Endpoint.{wsa, uri_of, address_in, mark_name, is_no_mark, unmarked, param}
 use Rattle.wsa_headers.specs.Endpoint.{params_in, params_length, may_keep, kept_params, epr_in, epr_of}
 use Rattle.wsa_headers.specs.Writable.{IsParamWritable, IsEprWritable}
 use Rattle.wsa_headers.specs.declared.endpoint.Epr.{Epr}
-use Rattle.read_rules.proofs.Lists.{all_filter, all_map, all_flat_map, single_is}
+use Rattle.read_rules.proofs.Lists.{all_filter, all_map, all_flat_map}
 use Rattle.read_rules.proofs.Texts.{uri_is}
 
 -- ---- attributes without the mark

@@ -1,8 +1,7 @@
 -- What bytes spell, or are refused with, may be written.
-use Rattle.std.proofs.Common.{◌≡◌, ℕ, List, [], Option, Some, None, Result, Ok, Err, length, sym, subst, refl, arith}
+use Rattle.std.proofs.Common.{ℕ, List, Option, Some, None, subst, arith}
 use Rattle.std.specs.Prelude.{IfSome}
 use Rattle.rm_base.specs.Text.{IsText}
-use Rattle.soap_envelope.specs.Envelope.{Envelope, IsEnvelope}
 use Rattle.wsa_headers.specs.Writable.{IsEprWritable, IsAddressingWritable}
 use Rattle.wsa_headers.specs.declared.addressing.Addressing.{Addressing}
 use Rattle.wsa_headers.specs.declared.endpoint.Epr.{Epr}
@@ -14,7 +13,7 @@ use Rattle.rm_message.specs.declared.refusal.FaultKind.TheVariants as kinds
 use Rattle.rm_message.specs.declared.refusal.Refusal.{Refusal}
 use Rattle.message_writer.specs.Rules.{IsBodyWritable, BelongTogether, KeepsRules}
 use Rattle.message_reader.specs.Message.{Wrong, NotUnderstood, Cardinality, HeaderMissing, BadHeader, Malformed}
-use Rattle.message_reader.specs.Message.{Rollover, message_in}
+use Rattle.message_reader.specs.Message.{Rollover}
 use Rattle.message_reader.specs.Refusals.{Spells, anonymous, fault_endpoint, blind, addressed_refusal, refusal_of}
 use Rattle.message_reader.specs.Refusals.{Refuses, too_long, not_utf8, not_profile, wrong_version, not_envelope}
 use Rattle.message_reader.specs.Refusals.{without_message}

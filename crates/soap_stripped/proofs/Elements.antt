@@ -1,15 +1,15 @@
 -- Elements and their content, once their names are resolved.
 use Rattle.std.proofs.Common.{◌≡◌, ℕ, suc, ◌+◌, ◌≤◌, ◌<◌, ◌^◌, List, [], ◌∷◌, ◌++◌, Option, Some, None, option_map}
-use Rattle.std.proofs.Common.{codes, length, refl, sym, ap, subst, ◌∙◌, arith}
+use Rattle.std.proofs.Common.{length, refl, subst, arith}
 use Rattle.std.proofs.lemmas.List.{length-append}
 use Rattle.soap_lex.specs.Characters.{IsChars}
-use Rattle.soap_document.specs.Grammar.{IsQName, IsAttributes, IsElement, full, empty, IsContent, last, more}
+use Rattle.soap_document.specs.Grammar.{IsElement, full, empty, IsContent, last, more}
 use Rattle.soap_document.specs.Grammar.{IsDocument, document, start_tag, end_tag, empty_tag}
 use Rattle.soap_document.specs.Tree as written
 use Rattle.soap_document.specs.declared.attribute.WrittenAttribute.{WrittenAttribute as Attribute}
 use Rattle.soap_profile.specs.Document.{Document}
 use Rattle.soap_profile.specs.Namespaces.{Resolved, tag_of, joined, resolve, resolve_parts}
-use Rattle.soap_profile.specs.Payload.{height, depth as nested}
+use Rattle.soap_profile.specs.Payload.{depth as nested}
 use Rattle.soap_profile.specs.Tree.{Binding, Element, element, Parts, none, text, child, parts_without}
 use Rattle.soap_writer.specs.Writable.{NoText, ArePartsWritable}
 use Rattle.soap_stripped.specs.Resolved.{AreInForce, PartsDeclare, IsResolved}

@@ -1,12 +1,10 @@
 -- Characters stay characters where line ends become LF, and where white space becomes spaces.
-use Rattle.std.proofs.Common.{◌≡◌, ◌≢◌, ℕ, ◌<◌, ◌≤◌, Bool, true, false, ◌&&◌, nat_eq, List, [], ◌∷◌, ◌++◌, length}
-use Rattle.std.proofs.Common.{◌||◌, get_or, inl, inr, map, refl, sym, ap, subst, ◌∙◌, arith, if◌then◌else◌}
-use Rattle.std.specs.Prelude.{IsTrue, encode_utf8, encode_utf8_all}
-use Rattle.std.specs.List.{AllByRecursion}
-use Rattle.std.proofs.lemmas.Bool.{cases_lt, cond_both, ne_eqb, or_parts}
-use Rattle.std.proofs.lemmas.List.{append-nil, get_or_default, length-append, map-append}
-use Rattle.std.proofs.lemmas.List.Elements.{recursion_from_All}
-use Rattle.std.proofs.lemmas.Str.{encodes-append, encode_ascii, inside_one, length-encode, len_utf8_bounds}
+use Rattle.std.proofs.Common.{◌≡◌, ◌≢◌, ℕ, ◌<◌, Bool, true, false, ◌&&◌, nat_eq, List, [], ◌∷◌, ◌++◌, length}
+use Rattle.std.proofs.Common.{◌||◌, inl, inr, map, refl, sym, ap, subst, arith, if◌then◌else◌}
+use Rattle.std.specs.Prelude.{encode_utf8, encode_utf8_all}
+use Rattle.std.proofs.lemmas.Bool.{cases_lt, cond_both, ne_eqb}
+use Rattle.std.proofs.lemmas.List.{map-append}
+use Rattle.std.proofs.lemmas.Str.{encode_ascii, length-encode, len_utf8_bounds}
 use Rattle.xml_chars.specs.Classes.{is_char}
 use Rattle.soap_lex.specs.Characters.{IsChars}
 use Rattle.soap_lex.specs.Text.{line_end, line_ends_after, with_line_ends}

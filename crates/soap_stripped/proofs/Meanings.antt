@@ -1,5 +1,5 @@
 -- What text and attribute values mean is characters.
-use Rattle.std.proofs.Common.{◌≡◌, ℕ, true, List, [], ◌++◌, refl}
+use Rattle.std.proofs.Common.{◌≡◌, ℕ, true, List, ◌++◌, refl}
 use Rattle.std.specs.Prelude.{encode_utf8}
 use Rattle.xml_chars.specs.Classes.{is_char}
 use Rattle.soap_lex.specs.Characters.{IsChars}

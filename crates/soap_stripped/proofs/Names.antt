@@ -40,5 +40,5 @@ pub parted : {name : List ℕ} → IsQName name → IsParted name
 parted (unprefixed name is) =
     parted_at name ([], name) (rw (cut_none 58 name (no_colon name is), split) refl) is (λ e. refl)
 parted (prefixed prefix local p is) =
-    parted_at (prefix ++ 58 ∷ local) (prefix, local) (rw (cut-append 58 prefix local (no_colon prefix p), split) refl) is
-    (λ e. absurd (name_some prefix p e))
+    parted_at (prefix ++ 58 ∷ local) (prefix, local)
+    (rw (cut-append 58 prefix local (no_colon prefix p), split) refl) is (λ e. absurd (name_some prefix p e))

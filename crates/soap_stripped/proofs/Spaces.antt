@@ -1,12 +1,11 @@
 -- What prefixes are bound to, and the names that come of it: Namespaces in XML 1.0, sections 2.2 to 6.
-use Rattle.std.proofs.Common.{◌≡◌, ◌≢◌, ℕ, Bool, true, false, not, ◌&&◌, ◌||◌, List, [], ◌∷◌, ◌++◌, Option, Some, None}
+use Rattle.std.proofs.Common.{◌≡◌, ◌≢◌, ℕ, Bool, true, false, not, ◌&&◌, ◌||◌, List, [], ◌∷◌, Option, Some, None}
 use Rattle.std.proofs.Common.{option_map, codes, if◌then◌else◌, refl, sym, subst, ◌∙◌, inl, inr}
 use Rattle.std.specs.List.{AllByRecursion}
 use Rattle.std.specs.Str.{bytes_eq}
 use Rattle.std.proofs.lemmas.Bool.{and_parts, or_cases, true≢false}
 use Rattle.soap_lex.specs.Characters.{IsChars, IsName}
 use Rattle.soap_lex.specs.Facts.{same, equal}
-use Rattle.soap_document.specs.Grammar.{IsQName}
 use Rattle.soap_document.specs.Tokens.{is_nil}
 use Rattle.soap_document.specs.declared.attribute.WrittenAttribute.{WrittenAttribute as Attribute}
 use Rattle.soap_profile.specs.Namespaces.{xml_space, xmlns_space, split, declared_prefix, may_bind, with_declaration}

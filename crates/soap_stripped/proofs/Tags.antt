@@ -1,15 +1,13 @@
 -- What a start tag is, once its names are resolved.
-use Rattle.std.proofs.Common.{◌≡◌, ◌≢◌, ℕ, suc, ◌≤◌, ◌<◌, Bool, true, false, List, [], ◌∷◌, ◌++◌, Option, Some, None}
-use Rattle.std.proofs.Common.{option_map, codes, length, if◌then◌else◌, refl, sym, ap, subst, ◌∙◌, arith}
+use Rattle.std.proofs.Common.{◌≡◌, ◌≢◌, ℕ, suc, ◌≤◌, Bool, true, false, List, [], ◌∷◌, ◌++◌, Option, Some, None}
+use Rattle.std.proofs.Common.{codes, length, if◌then◌else◌, refl, subst, arith}
 use Rattle.std.specs.List.{AllByRecursion}
 use Rattle.std.proofs.lemmas.List.{length-append}
-use Rattle.soap_lex.specs.Characters.{IsChars}
-use Rattle.soap_lex.specs.Value.{IsValue}
 use Rattle.soap_document.specs.Grammar.{IsQName, IsAttributes, end, more}
 use Rattle.soap_document.specs.declared.attribute.WrittenAttribute.{WrittenAttribute as Attribute}
-use Rattle.soap_profile.specs.Namespaces.{declared_prefix, declarations, element_name, attribute_name, with_attribute}
+use Rattle.soap_profile.specs.Namespaces.{declared_prefix, declarations, element_name, attribute_name}
 use Rattle.soap_profile.specs.Namespaces.{unless_declared, expanded, are_distinct, are_distinct_names, Resolved}
-use Rattle.soap_profile.specs.Namespaces.{resolved_with, tag_within, declaring, tag_of}
+use Rattle.soap_profile.specs.Namespaces.{resolved_with, declaring, tag_of}
 use Rattle.soap_profile.specs.Tree.{Binding}
 use Rattle.soap_profile.specs.declared.name.Expanded.{Expanded as Name}
 use Rattle.soap_profile.specs.declared.tree.Attr.{Attr}

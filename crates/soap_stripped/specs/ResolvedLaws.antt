@@ -5,7 +5,7 @@ use Rattle.std.specs.List.{AllByRecursion}
 use Rattle.std.specs.Str.{bytes_eq}
 use Rattle.soap_lex.specs.Facts.{same}
 use Rattle.soap_profile.specs.Namespaces.{bound}
-use Rattle.soap_profile.specs.Payload.{height, depth as nested}
+use Rattle.soap_profile.specs.Payload.{depth as nested}
 use Rattle.soap_profile.specs.Tree.{Binding, Element, element, Parts, none, text, child, parts_without, parts_of}
 use Rattle.soap_profile.specs.Tree.{children_of}
 use Rattle.soap_writer.specs.Writable.{ArePartsWritable}

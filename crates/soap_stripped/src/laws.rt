@@ -1,25 +1,16 @@
 //! Laws of documents, each the contract of a function that does nothing.
 
 ghost use Rattle.std.specs.Prelude.{◌≡◌, ◌<◌, ◌^◌, ℕ, List, length, Some};
-ghost use Rattle.soap_lex.specs.Characters.{IsChars};
-ghost use Rattle.soap_lex.specs.Text.{IsText};
-ghost use Rattle.soap_lex.specs.Value.{IsValue};
 ghost use Rattle.rm_base.specs.declared.message.Binding.{Binding};
 ghost use Rattle.soap_document.specs.Grammar.{IsQName};
+ghost use Rattle.soap_profile.specs.Document.{Document};
 ghost use Rattle.soap_profile.specs.Namespaces.{element_name};
+ghost use Rattle.soap_profile.specs.Tree.{Element};
 ghost use Rattle.soap_profile.specs.declared.name.Expanded.{Expanded as Name};
 ghost use Rattle.soap_writer.specs.Writable.{IsNameWritable};
-ghost use Rattle.soap_profile.specs.Document.{Document};
-ghost use Rattle.soap_profile.specs.Tree.{Element};
 ghost use Rattle.soap_stripped.specs.Resolved.{AreInForce, IsResolved};
 
-/// What text and attribute values mean is characters.
-pub fn meanings_are_characters()
-    ensures text { (bytes meaning : List ℕ) → IsText bytes meaning → IsChars meaning }
-    ensures value { (bytes value : List ℕ) → IsValue bytes value → IsChars value }
-{}
-
-/// A written name may be written again as the name of an element that it is where such bindings are in force.
+/// What a name means, as that of an element or in a value, may be written, where prefixes are bound as they may be.
 pub fn names_may_be_written()
     ensures { (scope : List Binding) (written : List ℕ) (name : Name) → AreInForce scope → IsQName written
         → element_name scope written ≡ Some name → IsNameWritable name }
