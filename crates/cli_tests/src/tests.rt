@@ -279,7 +279,8 @@ fn kinds_of_messages(rt: HostRuntime) -> Result<(), Fail> {
         ),
         (
             b"<a:Action>http://docs.oasis-open.org/ws-rx/wsrm/200702/CloseSequence</a:Action>",
-            b"<r:CloseSequence><r:Identifier>urn:q</r:Identifier><r:LastMsgNumber>3</r:LastMsgNumber></r:CloseSequence>",
+            b"<r:CloseSequence><r:Identifier>urn:q</r:Identifier><r:LastMsgNumber>3</r:LastMsgNumber>\
+                </r:CloseSequence>",
             b"kind close\nto http://www.w3.org/2005/08/addressing/anonymous\n\
                 action http://docs.oasis-open.org/ws-rx/wsrm/200702/CloseSequence\nident urn:q\nlast 3\n",
         ),
