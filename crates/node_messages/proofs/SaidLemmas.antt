@@ -13,7 +13,8 @@ use Rattle.node_messages.specs.Split.{back_by, back_to, goes_back, with_back}
 
 back-one : (b : Bool) (to : Epr) (block : AckBlock) (blocks : List AckBlock) (more : List Message) (other : Option Epr)
     → more ≡ back_by other blocks
-    → cond b (ack_message to (block ∷ blocks) ∷ []) more ≡ back_by (cond b (Some to) other) (cond b (block ∷ blocks) blocks)
+    → cond b (ack_message to (block ∷ blocks) ∷ []) more
+    ≡ back_by (cond b (Some to) other) (cond b (block ∷ blocks) blocks)
 back-one true to block blocks more other e = refl
 back-one false to block blocks more other e = e
 
@@ -64,7 +65,8 @@ split-own to back own new a left rest all away is said h =
     record {
       to_ = rw away at at.to_;
       back_ = rw away at at.back_;
-      own_ = ap (λ x. x ++ own_messages rest) said ∙ append_assoc own (ack_message a.0 (a.1 ∷ []) ∷ []) (own_messages rest)
+      own_ = ap (λ x. x ++ own_messages rest) said
+          ∙ append_assoc own (ack_message a.0 (a.1 ∷ []) ∷ []) (own_messages rest)
           ∙ rw away at at.own_;
     }
 
