@@ -1,13 +1,14 @@
 -- A node has fewer sequences than there are numbers of 32 bits, and each number that it draws is the next one.
-use Rattle.std.proofs.Common.{◌≡◌, ◌≢◌, ℕ, ◌+◌, ◌-◌, ◌<◌, ◌≤◌, ◌==◌, Bool, true, false, List, [], ◌∷◌, ◌++◌, length}
-use Rattle.std.proofs.Common.{refl, sym, ap, subst, ◌∙◌, arith, inl, inr, Option, Some, None}
-use Rattle.std.specs.Prelude.{◌&&◌, not, nat_le}
-use Rattle.std.proofs.lemmas.Bool.{and_parts, cases_eq, eqb-true, false≢true, leb-true, lt-ltb}
+use Rattle.std.proofs.Common.{◌≡◌, ℕ, ◌+◌, ◌≤◌, ◌==◌, true, List, [], ◌∷◌, ◌++◌, length}
+use Rattle.std.proofs.Common.{refl, ap, subst, ◌∙◌, arith, inl, inr, Option, Some, None}
+use Rattle.std.specs.Prelude.{not}
+use Rattle.std.specs.List.{list_all}
+use Rattle.std.proofs.lemmas.Bool.{and_from, and_parts, cases_eq, eqb-true, false≢true, leb-true, lt-ltb}
 use Rattle.std.proofs.lemmas.List.{append-nil, append_assoc, length-append}
 use Rattle.record_batch.specs.Fact.{Fact, Creating, Granted, Closing, Ending}
 use Rattle.sequence_table.specs.Words.{last_or}
 use Rattle.sequence_table.specs.Makers.{makers, makers_of, counter, draws_of}
-use Rattle.sequence_table.specs.Fits.{fits, all_fit, follows_at, has_places, is_no_moment, offer_fits}
+use Rattle.sequence_table.specs.Fits.{fits, all_fit, has_places, is_no_moment, offer_fits}
 use Rattle.sequence_table.specs.NodeLemmas.{one_more}
 use Rattle.sequence_row.specs.Row.{is_moment}
 use Rattle.node_tables.specs.Kept.{Table, Holds, is_timed_record, records_in}
@@ -80,3 +81,11 @@ pub timed : (r : List Fact) (f : Fact) → fits r f ≡ true → is_timed_record
 timed r (Granted drawn message_id acks_to behaviour deadline lapse offer) h =
     moment deadline (and_parts (not (is_no_moment deadline)) _ (and_parts (drawn == counter r + 1) _ h).1).0
 timed r _ h = refl
+
+-- so are those of records that fit one after the other
+pub all-timed : (r xs : List Fact) → all_fit r xs ≡ true → list_all is_timed_record xs ≡ true
+all-timed r [] h = refl
+all-timed r (f ∷ xs) h =
+    let parts = and_parts (fits r f) (all_fit (r ++ f ∷ []) xs) h in
+    and_from (is_timed_record f) (list_all is_timed_record xs) (timed r f parts.0)
+    (all-timed (r ++ f ∷ []) xs parts.1)

@@ -1,11 +1,15 @@
 -- Notes go on telling the same records.
-use Rattle.std.proofs.Common.{◌≡◌, ◌≢◌, ℕ, zero, suc, ◌+◌, ◌-◌, ◌<◌, ◌≤◌, Bool, true, false, cond, List, [], ◌∷◌}
-use Rattle.std.proofs.Common.{◌++◌, length, get_or, set, map, refl, sym, ap, subst, ◌∙◌, arith, inl, inr}
+use Rattle.std.proofs.Common.{◌≡◌, ℕ, zero, suc, ◌+◌, ◌<◌, ◌≤◌, true, cond, List, [], ◌∷◌}
+use Rattle.std.proofs.Common.{◌++◌, length, get_or, map, refl, sym, ap, subst, ◌∙◌, arith}
 use Rattle.std.proofs.lemmas.Bool.{and_from}
-use Rattle.std.proofs.lemmas.List.{get_or_append_left, length-append, length-map, map-append, append-nil}
+use Rattle.std.specs.List.{flat_map}
+use Rattle.std.proofs.lemmas.List.{get_or_append_left, length-append, length-map, map-append}
+use Rattle.std.proofs.lemmas.List.Concat.{flat_map-append}
 use Rattle.rm_base.specs.declared.message.Payload.{Payload}
 use Rattle.record_batch.specs.Fact.{Fact, Accepted, Received}
-use Rattle.sequence_table.specs.Makers.{makers, makers_of, created, created_of, draws_of, counter, number}
+use Rattle.sequence_table.specs.Makers.{addresses_of, makers, makers_of, created, created_of, draws_of, counter, number}
+use Rattle.sequence_table.specs.Find.{accept_of}
+use Rattle.sequence_table.specs.GatherLemmas.{flat_map-more}
 use Rattle.sequence_table.specs.Sources.{accepted_of}
 use Rattle.sequence_table.specs.Destinations.{received_of}
 use Rattle.sequence_table.specs.Fits.{fits, all_fit}
@@ -19,7 +23,8 @@ use Rattle.node_tables.specs.declared.note.Origin.{Origin}
 use Rattle.node_tables.specs.declared.note.Named.{Named}
 use Rattle.node_tables.specs.Kept.{accepted_in, received_in, no_fact, no_message, no_row, kept_at, row_at, fact_at}
 use Rattle.node_tables.specs.Kept.{records_of, IsHeld, AllHeld, no_maker, ident_given, maker_at, named_at, AreWithin}
-use Rattle.node_tables.specs.Kept.{origins_of, names_of, Table, records_in, Holds}
+use Rattle.node_tables.specs.Kept.{origins_of, names_of, Table, records_in, Holds, AreMade, AreGiven, gives_ident}
+use Rattle.node_tables.specs.Kept.{accept_at}
 
 -- what one more record adds to what is kept: records that are kept whole, its note, the origins of the sequences that
 -- it makes, and the identifiers that it gives
@@ -49,6 +54,10 @@ pub record Tells (t : Table) (f : Fact) (a : Added) : Type 0 where
   pub gives : map (named_at (with_record t f a).kept) a.gives ≡ created_of (length t.origins) f
   pub makes_held : AreWithin (length (with_record t f a).kept) (origins_of a.makes)
   pub gives_held : AreWithin (length (with_record t f a).kept) (names_of a.gives)
+  pub made : AreMade (with_record t f a).kept a.makes
+  pub given : AreGiven (with_record t f a).kept a.gives
+  pub addresses : flat_map addresses_of a.whole ≡ addresses_of f
+  pub accepts : flat_map (accept_at (with_record t f a).kept) a.gives ≡ accept_of f
 
 pub length-each_after : (k : ℕ) (ts : List Told) (f : Fact) → length (each_after k ts f) ≡ length ts
 length-each_after k [] f = refl
@@ -190,6 +199,37 @@ named_same kept more (n ∷ ns) h =
     ap (λ f. (n.seq, ident_given f)) (kept_same kept more n.place h.0) in
     ap (λ m. m ∷ map (named_at (kept ++ more)) ns) one ∙ ap (λ ms. named_at kept n ∷ ms) (named_same kept more ns h.1)
 
+made_same : (kept more : List Fact) (os : List Origin) → AreWithin (length kept) (origins_of os) → AreMade kept os
+    → AreMade (kept ++ more) os
+made_same kept more [] h made = tt
+made_same kept more (o ∷ os) h made = (
+  subst (λ (f : Fact). cond o.is_second 1 0 < length (makers_of f)) (sym (kept_same kept more o.made h.0)) made.0,
+  made_same kept more os h.1 made.1,
+)
+
+made-append : (kept : List Fact) (os ps : List Origin) → AreMade kept os → AreMade kept ps → AreMade kept (os ++ ps)
+made-append kept [] ps h g = g
+made-append kept (o ∷ os) ps h g = (h.0, made-append kept os ps h.1 g)
+
+given_same : (kept more : List Fact) (ns : List Named) → AreWithin (length kept) (names_of ns) → AreGiven kept ns
+    → AreGiven (kept ++ more) ns
+given_same kept more [] h given = tt
+given_same kept more (n ∷ ns) h given = (
+  ap gives_ident (kept_same kept more n.place h.0) ∙ given.0,
+  given_same kept more ns h.1 given.1,
+)
+
+given-append : (kept : List Fact) (ns ms : List Named) → AreGiven kept ns → AreGiven kept ms → AreGiven kept (ns ++ ms)
+given-append kept [] ms h g = g
+given-append kept (n ∷ ns) ms h g = (h.0, given-append kept ns ms h.1 g)
+
+accepts_same : (kept more : List Fact) (ns : List Named) → AreWithin (length kept) (names_of ns)
+    → flat_map (accept_at (kept ++ more)) ns ≡ flat_map (accept_at kept) ns
+accepts_same kept more [] h = refl
+accepts_same kept more (n ∷ ns) h =
+    ap (λ xs. xs ++ flat_map (accept_at (kept ++ more)) ns) (ap accept_of (kept_same kept more n.place h.0))
+    ∙ ap (λ xs. accept_at kept n ++ xs) (accepts_same kept more ns h.1)
+
 -- one more record
 pub records_more : (t : Table) (f : Fact) (a : Added) → Holds t → Tells t f a
     → records_in (with_record t f a) ≡ records_in t ++ f ∷ []
@@ -237,4 +277,20 @@ holds_more t f a h fit tells =
           subst (λ ks. AreWithin (length kept) ks) (sym (map-append (λ (n : Named). n.place) t.named a.gives))
           (within-append (length kept) (names_of t.named) (names_of a.gives)
           (within-more (length t.kept) (length kept) (names_of t.named) longer h.named_held) tells.gives_held);
+      addresses_ =
+          ap (λ rs. flat_map addresses_of rs) is ∙ one_more.addresses r f
+          ∙ ap (λ xs. xs ++ addresses_of f) h.addresses_
+          ∙ ap (λ xs. flat_map addresses_of t.kept ++ xs) (sym tells.addresses)
+          ∙ sym (flat_map-append addresses_of t.kept a.whole);
+      accepts_ =
+          ap (λ rs. flat_map accept_of rs) is ∙ flat_map-more accept_of r f
+          ∙ ap (λ xs. xs ++ accept_of f)
+          (h.accepts_ ∙ sym (accepts_same t.kept a.whole t.named h.named_held))
+          ∙ ap (λ xs. flat_map (accept_at kept) t.named ++ xs) (sym tells.accepts)
+          ∙ sym (flat_map-append (accept_at kept) t.named a.gives);
+      origins_made =
+          made-append kept t.origins a.makes (made_same t.kept a.whole t.origins h.origins_held h.origins_made)
+          tells.made;
+      named_given =
+          given-append kept t.named a.gives (given_same t.kept a.whole t.named h.named_held h.named_given) tells.given;
     }

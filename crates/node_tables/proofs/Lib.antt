@@ -1,6 +1,9 @@
+mod AheadLemmas
+mod ApplyLemmas
 mod CountLemmas
-mod FindLemmas
 mod HeldLemmas
+mod MakerLemmas
+mod RoomLemmas
 mod RowsLemmas
 mod StepLemmas
 mod TellLemmas

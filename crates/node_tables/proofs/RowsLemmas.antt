@@ -1,6 +1,6 @@
 -- The rows against what the records say.
-use Rattle.std.proofs.Common.{◌≡◌, ◌≢◌, ℕ, zero, suc, ◌+◌, ◌-◌, ◌<◌, ◌≤◌, ◌==◌, Bool, true, false, cond, List, []}
-use Rattle.std.proofs.Common.{◌∷◌, length, map, get_or, refl, sym, ap, subst, ◌∙◌, arith, inl, inr, Option, Some, None}
+use Rattle.std.proofs.Common.{◌≡◌, ◌≢◌, ℕ, zero, suc, ◌+◌, ◌-◌, ◌≤◌, ◌==◌, Bool, true, false, cond, List, []}
+use Rattle.std.proofs.Common.{◌∷◌, length, map, refl, sym, ap, subst, ◌∙◌, arith, inl, inr, Option, Some, None}
 use Rattle.std.specs.Prelude.{slice_get, ◌&&◌, not, nat_le, nat_lt}
 use Rattle.std.specs.Option.{option_map}
 use Rattle.std.specs.List.{list_all}
@@ -14,7 +14,7 @@ use Rattle.sequence_table.specs.Makers.{Maker, makers, maker, counter}
 use Rattle.sequence_table.specs.Fits.{fits, follows, is_outgoing_side, is_incoming_side, is_up_to}
 use Rattle.sequence_table.specs.Sources.{accepted, phase}
 use Rattle.sequence_table.specs.Destinations.{held, has_end, is_stopped}
-use Rattle.sequence_table.specs.Told.{Told, names, side_of, told_by, told_from, told_all}
+use Rattle.sequence_table.specs.Told.{Told, names, told_by, told_from}
 use Rattle.sequence_row.specs.Row.{Seen, takes, draws_next}
 use Rattle.sequence_row.specs.TakesLemmas.{fits-takes}
 use Rattle.node_tables.specs.Kept.{Table, Holds, records_in, told_in, takes_at, is_naming, row_at, no_row}
@@ -46,7 +46,8 @@ row-told t s h ne =
     ∙ ap (λ n. option_map (λ (x : Maker). told_by r n x) (slice_get (makers r) (s - 1))) at
     ∙ ap (λ o. option_map (λ (x : Maker). told_by r s x) o) (sym there)
 
-numbered-map : {A B : Type 0} (f : A → B) (xs : List A) (s : ℕ) → option_map f (numbered xs s) ≡ numbered (map f xs) s
+pub numbered-map : {A B : Type 0} (f : A → B) (xs : List A) (s : ℕ)
+    → option_map f (numbered xs s) ≡ numbered (map f xs) s
 numbered-map f xs s =
     elim (s == 0) as (λ b. option_map f (cond b None (slice_get xs (s - 1)))
     ≡ cond b None (slice_get (map f xs) (s - 1))) [

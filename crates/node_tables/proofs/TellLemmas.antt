@@ -1,13 +1,15 @@
 -- What is added for each kind of record tells it.
-use Rattle.std.proofs.Common.{◌≡◌, ◌≢◌, ℕ, zero, suc, ◌+◌, ◌-◌, ◌<◌, ◌≤◌, ◌==◌, Bool, true, false, cond, List, []}
-use Rattle.std.proofs.Common.{◌∷◌, ◌++◌, length, map, get_or, refl, sym, ap, subst, ◌∙◌, arith, Option, Some, None}
+use Rattle.std.proofs.Common.{◌≡◌, ℕ, ◌+◌, ◌-◌, ◌<◌, ◌≤◌, true, cond, List, []}
+use Rattle.std.proofs.Common.{◌∷◌, ◌++◌, length, map, get_or, refl, sym, ap, subst, ◌∙◌, arith, Some, None}
 use Rattle.std.proofs.lemmas.Bool.{eq-eqb, false≢true}
 use Rattle.std.proofs.lemmas.List.{append-nil, length-append, length-map}
 use Rattle.std.proofs.Math.Seq.{get_or-append_seam}
 use Rattle.ack_ranges.specs.Ranges.{Contents}
 use Rattle.rm_base.specs.declared.message.Payload.{Payload}
 use Rattle.record_batch.specs.Fact.{Fact, Made, Creating, Created, Granted, Accepted, Acked, Received}
-use Rattle.sequence_table.specs.Makers.{makers_of, created_of, draws_of}
+use Rattle.std.specs.List.{flat_map}
+use Rattle.sequence_table.specs.Find.{accept_of}
+use Rattle.sequence_table.specs.Makers.{addresses_of, makers_of, created_of, draws_of}
 use Rattle.sequence_table.specs.Fits.{fits}
 use Rattle.sequence_table.specs.OneMore.{number_after}
 use Rattle.sequence_table.specs.Told.{Told, Side, Sends, Receives, begun, each_after, names}
@@ -18,12 +20,13 @@ use Rattle.node_tables.specs.declared.note.Note.{Note}
 use Rattle.node_tables.specs.declared.note.Note.TheVariants as note
 use Rattle.node_tables.specs.declared.note.Origin.{Origin}
 use Rattle.node_tables.specs.declared.note.Named.{Named}
-use Rattle.node_tables.specs.Kept.{AreWithin, Holds, Table, accepted_in, fact_at, first_of, second_of, ident_given}
+use Rattle.node_tables.specs.Kept.{AreWithin, Holds, Table, accepted_in, ident_given}
+use Rattle.node_tables.specs.Kept.{AreGiven, AreMade, accept_at, gives_ident}
 use Rattle.node_tables.specs.Kept.{is_naming, kept_at, maker_at, named_at, names_for, names_of, no_fact, no_maker}
 use Rattle.node_tables.specs.Kept.{no_message, origins_for, origins_of, received_in, records_in, row_at, table_in}
 use Rattle.node_tables.proofs.HeldLemmas.{Added, Tells, accepted_by, accepted_row, holds_more, received_by}
 use Rattle.node_tables.proofs.HeldLemmas.{received_row, records_more, rows_after, rows_longer, with_record}
-use Rattle.node_tables.proofs.RowsLemmas.{IsTaken, row-taken, rows-count}
+use Rattle.node_tables.proofs.RowsLemmas.{row-taken, rows-count}
 use Rattle.node_tables.proofs.StepLemmas.{takes-accepted, takes-received}
 
 -- what is kept goes on from t to u by a record
@@ -106,6 +109,10 @@ tells-accepted t k payload lt takes =
       gives = refl;
       makes_held = tt;
       gives_held = tt;
+      made = tt;
+      given = tt;
+      addresses = refl;
+      accepts = refl;
     }
 
 tells-received : (t : Table) (k n : ℕ) (payload : Payload) → k < length t.rows
@@ -126,13 +133,28 @@ tells-received t k n payload lt takes =
       gives = refl;
       makes_held = tt;
       gives_held = tt;
+      made = tt;
+      given = tt;
+      addresses = refl;
+      accepts = refl;
     }
 
 tells-acked : (t : Table) (s : ℕ) (numbers : Contents)
     → Tells t (Acked s numbers.ranges) (added_note (note.Acked s numbers))
 unfolding added_note
 tells-acked t s numbers =
-    record { note_ = refl; held = tt; makes = refl; gives = refl; makes_held = tt; gives_held = tt }
+    record {
+      note_ = refl;
+      held = tt;
+      makes = refl;
+      gives = refl;
+      makes_held = tt;
+      gives_held = tt;
+      made = tt;
+      given = tt;
+      addresses = refl;
+      accepts = refl;
+    }
 
 -- a payload more
 pub accepts : (t : Table) (s place : ℕ) (payload : List ℕ) (rows : List Told) (notes : List Note) → Holds t
@@ -210,6 +232,36 @@ gives_within n k place (Granted drawn message_id acks_to behaviour deadline laps
 gives_within n k place (Granted drawn message_id acks_to behaviour deadline lapse (Some offer)) lt = (lt, tt)
 gives_within n k place _ lt = tt
 
+made_in : (kept : List Fact) (place i : ℕ) (f : Fact) → kept_at kept place ≡ f → i < length (makers_of f)
+    → i < length (makers_of (kept_at kept place))
+made_in kept place i f e lt = subst (λ (g : Fact). i < length (makers_of g)) (sym e) lt
+
+makes_made : (kept : List Fact) (place : ℕ) (f : Fact) → kept_at kept place ≡ f → AreMade kept (origins_for place f)
+makes_made kept place (Creating ticket to via lapse None) e = (made_in kept place 0 _ e (omega arith), tt)
+makes_made kept place (Creating ticket to via lapse (Some offer)) e =
+    (made_in kept place 0 _ e (omega arith), (made_in kept place 1 _ e (omega arith), tt))
+makes_made kept place (Granted drawn message_id acks_to behaviour deadline lapse None) e =
+    (made_in kept place 0 _ e (omega arith), tt)
+makes_made kept place (Granted drawn message_id acks_to behaviour deadline lapse (Some offer)) e =
+    (made_in kept place 0 _ e (omega arith), (made_in kept place 1 _ e (omega arith), tt))
+makes_made kept place _ e = tt
+
+gives_given : (kept : List Fact) (k place : ℕ) (f : Fact) → kept_at kept place ≡ f
+    → AreGiven kept (names_for k place f)
+gives_given kept k place (Created seq ident accept) e = (ap gives_ident e, tt)
+gives_given kept k place (Granted drawn message_id acks_to behaviour deadline lapse None) e = tt
+gives_given kept k place (Granted drawn message_id acks_to behaviour deadline lapse (Some offer)) e =
+    (ap gives_ident e, tt)
+gives_given kept k place _ e = tt
+
+gives_accept : (kept : List Fact) (k place : ℕ) (f : Fact) → kept_at kept place ≡ f
+    → flat_map (accept_at kept) (names_for k place f) ≡ accept_of f
+gives_accept kept k place (Created seq ident accept) e = ap (λ g. accept_of g ++ []) e
+gives_accept kept k place (Granted drawn message_id acks_to behaviour deadline lapse None) e = refl
+gives_accept kept k place (Granted drawn message_id acks_to behaviour deadline lapse (Some offer)) e =
+    ap (λ g. accept_of g ++ []) e
+gives_accept kept k place _ e = refl
+
 -- a record that is kept whole
 added_whole : Table → Fact → Added
 added_whole t f = record {
@@ -232,6 +284,10 @@ tells-whole t f =
       gives = gives_at (t.kept ++ f ∷ []) (length t.origins) place f at;
       makes_held = makes_within (length (t.kept ++ f ∷ [])) place f lt;
       gives_held = gives_within (length (t.kept ++ f ∷ [])) (length t.origins) place f lt;
+      made = makes_made (t.kept ++ f ∷ []) place f at;
+      given = gives_given (t.kept ++ f ∷ []) (length t.origins) place f at;
+      addresses = append-nil (addresses_of f);
+      accepts = gives_accept (t.kept ++ f ∷ []) (length t.origins) place f at;
     }
 
 -- a record more that is kept whole

@@ -1,13 +1,15 @@
 -- How tables hold records: each in the order of its coming, but for the payloads, which the rows hold.
 use Rattle.std.specs.Option.{option_map}
-use Rattle.std.specs.Prelude.{Bool, ◌&&◌, ◌≡◌, ℕ, ◌+◌, ◌<◌, nat_lt, true, false, if◌then◌else◌, List, [], ◌∷◌, ◌++◌}
+use Rattle.std.specs.Prelude.{Bool, ◌&&◌, ◌≡◌, ℕ, ◌+◌, ◌<◌, true, false, if◌then◌else◌, List, [], ◌∷◌}
 use Rattle.std.specs.Prelude.{length, map, Option, None, Some, slice_index_or}
+use Rattle.std.specs.List.{flat_map}
 use Rattle.rm_base.specs.declared.message.Payload.{Payload}
-use Rattle.record_batch.specs.declared.record.PeerOffer.{PeerOffer}
 use Rattle.record_batch.specs.declared.record.Record.{Record}
 use Rattle.record_batch.specs.Fact.{Fact, fact_of, Made, Creating, Accepted, Acked, Received, Created, Granted}
 use Rattle.sequence_table.specs.Words.{Text}
-use Rattle.sequence_table.specs.Makers.{Maker, Taken, maker, makers, makers_of, created, counter, number}
+use Rattle.wsa_headers.specs.declared.endpoint.Epr.{Epr}
+use Rattle.sequence_table.specs.Makers.{Maker, Taken, maker, makers, makers_of, created, counter, number, addresses_of}
+use Rattle.sequence_table.specs.Find.{accept_of}
 use Rattle.sequence_table.specs.Fits.{all_fit}
 use Rattle.sequence_table.specs.Told.{Told, Side, Sends, Receives, begun, told_by, told_all}
 use Rattle.sequence_row.specs.Row.{Seen, is_moment, takes}
@@ -15,6 +17,8 @@ use Rattle.node_tables.specs.declared.note.Note.{Note}
 use Rattle.node_tables.specs.declared.note.Note.TheVariants as note
 use Rattle.node_tables.specs.declared.note.Origin.{Origin}
 use Rattle.node_tables.specs.declared.note.Named.{Named}
+use Rattle.node_tables.specs.declared.note.Ahead.{Ahead}
+use Rattle.node_tables.specs.Room.{AreBegun, HasPlaces, NodeRoom, Places}
 
 -- the payloads of a side that sends
 abbrev pub accepted_in : Side → List (List ℕ)
@@ -89,11 +93,35 @@ abbrev pub maker_at : List Fact → Origin → Maker
 maker_at kept origin =
     slice_index_or (makers_of (kept_at kept origin.made)) (if origin.is_second then 1 else 0) no_maker
 
+-- a record makes the sequence of an origin
+abbrev pub IsMade : List Fact → Origin → Type 0
+IsMade kept origin = (if origin.is_second then 1 else 0) < length (makers_of (kept_at kept origin.made))
+
+-- each sequence is made by the record of its origin
+abbrev pub AreMade : List Fact → List Origin → Type 0
+AreMade kept [] = Unit {0}
+AreMade kept (o ∷ os) = IsMade kept o × AreMade kept os
+
 -- the identifier that a record gives to an outgoing sequence
 abbrev pub ident_given : Fact → Text
 ident_given (Created seq ident accept) = ident
 ident_given (Granted drawn message_id acks_to behaviour deadline lapse (Some offer)) = offer.ident
 ident_given _ = []
+
+-- a record gives an identifier to an outgoing sequence
+abbrev pub gives_ident : Fact → Bool
+gives_ident (Created seq ident accept) = true
+gives_ident (Granted drawn message_id acks_to behaviour deadline lapse (Some offer)) = true
+gives_ident _ = false
+
+-- each identifier is given by the record at its place
+abbrev pub AreGiven : List Fact → List Named → Type 0
+AreGiven kept [] = Unit {0}
+AreGiven kept (n ∷ ns) = (gives_ident (kept_at kept n.place) ≡ true) × AreGiven kept ns
+
+-- the AcksTo that came with an identifier
+abbrev pub accept_at : List Fact → Named → List (ℕ × Option Epr)
+accept_at kept named = accept_of (kept_at kept named.place)
 
 -- an outgoing sequence with its identifier
 abbrev pub named_at : List Fact → Named → ℕ × Text
@@ -134,13 +162,24 @@ pub record Holds (t : Table) : Type 0 where
   pub created_ : created (records_in t) ≡ map (named_at t.kept) t.named
   pub number_ : t.number_ ≡ number (records_in t)
   pub drawn_ : t.drawn ≡ counter (records_in t)
+  pub addresses_ : flat_map addresses_of (records_in t) ≡ flat_map addresses_of t.kept
+  pub accepts_ : flat_map accept_of (records_in t) ≡ flat_map (accept_at t.kept) t.named
   pub held : AllHeld t.kept t.rows t.notes
   pub origins_held : AreWithin (length t.kept) (origins_of t.origins)
   pub named_held : AreWithin (length t.kept) (names_of t.named)
+  pub origins_made : AreMade t.kept t.origins
+  pub named_given : AreGiven t.kept t.named
 
--- the records that were applied, oldest first
+-- what is kept holds, and there is the room that was made and not used
+pub record IsSound (t : Table) (slots : ℕ) (spare : Places) (ahead : List Ahead) : Type 0 where
+  pub holds : Holds t
+  pub places : HasPlaces slots spare
+  pub begun_ : AreBegun ahead
+
+-- the tables: the records that were applied, oldest first, and the room for more
 pub record Tabled : Type 0 where
   pub records : List Fact
+  pub room : NodeRoom
 
 -- what the records say of the sequence with a number
 abbrev pub told_in : List Fact → ℕ → Option Told

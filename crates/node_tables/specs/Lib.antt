@@ -1,2 +1,6 @@
 pub mod Kept
+pub mod Laws
 pub mod Reads
+pub mod Ready
+pub mod RecordedLemmas
+pub mod Room

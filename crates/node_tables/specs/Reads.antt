@@ -1,12 +1,44 @@
 -- What the records say of one sequence, as the tables answer it.
-use Rattle.std.specs.Prelude.{ℕ, List, Option, None, Some, if◌then◌else◌, slice_index_or, Bool}
+use Rattle.std.specs.Prelude.{ℕ, List, Option, None, Some, if◌then◌else◌, slice_get, slice_index_or, Bool, true, false}
+use Rattle.std.specs.List.{flat_map}
+use Rattle.rm_source.specs.declared.phase.OutPhase.{OutPhase}
+use Rattle.rm_source.specs.declared.phase.OutPhase.TheVariants as out
 use Rattle.rm_source.specs.Outgoing.{Sending, unacked_of}
 use Rattle.rm_destination.specs.Incoming.{Receiving}
 use Rattle.record_batch.specs.Fact.{Fact}
-use Rattle.sequence_table.specs.Makers.{Maker, Outgoing, Offered, Incoming, Taken, maker, makers_of}
+use Rattle.sequence_table.specs.Words.{Text}
+use Rattle.sequence_table.specs.Makers.{Maker, Outgoing, Offered, Incoming, Taken, addresses_of, maker, makers_of}
 use Rattle.sequence_table.specs.Sources.{is_sending, tickets}
 use Rattle.sequence_table.specs.Told.{Side, Sends, Receives, first_ticket, last_onto, receiving, sending}
-use Rattle.node_tables.specs.Kept.{no_maker}
+use Rattle.node_tables.specs.declared.maker.Maker.{Maker as Lent}
+use Rattle.node_tables.specs.declared.maker.Maker.TheVariants as lent
+use Rattle.node_tables.specs.Kept.{gives_ident, ident_given, no_maker}
+
+-- how a sequence came to be, as its record has it
+abbrev pub maker_seen : Lent → Maker
+maker_seen (lent.Asked ticket to via lapse) = Outgoing ticket to.now via lapse
+maker_seen (lent.Offered ticket counter to behaviour) = Offered ticket counter to.now behaviour
+maker_seen (lent.Granted counter message_id acks_to behaviour deadline lapse) =
+    Incoming counter message_id.now acks_to.now behaviour deadline lapse
+maker_seen (lent.Taken message_id ident endpoint) = Taken message_id.now ident.now endpoint.now
+
+-- the node's address, where the records give one
+abbrev pub address_in : List Fact → Option Text
+address_in r = slice_get (flat_map addresses_of r) 0
+
+-- the identifier that a record gives to an outgoing sequence
+abbrev pub ident_by : Fact → Option Text
+ident_by f = if gives_ident f then Some (ident_given f) else None
+
+-- a phase before the answer to a CreateSequence
+abbrev pub is_asking : OutPhase → Bool
+is_asking out.Creating = true
+is_asking _ = false
+
+-- a test of a sequence that is there
+abbrev pub passes : (ℕ → Maker → Bool) → ℕ → Option Maker → Bool
+passes f s None = false
+passes f s (Some m) = f s m
 
 -- what is known of sequence s, which was made so, where it sends
 abbrev pub outgoing_of : List Fact → ℕ → Option Maker → Option Sending

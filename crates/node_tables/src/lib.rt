@@ -2,12 +2,18 @@
 //! of records says, `sequence_table`.
 #![tactic(auto)]
 
+mod ahead;
+mod claims;
 mod error;
 mod find;
+mod issued;
+pub mod laws;
+pub mod maker;
 mod note;
 mod record;
 mod rows;
 pub mod tables;
 
 pub use error::TableError;
+pub use maker::Maker;
 pub use tables::Tables;

@@ -1,5 +1,6 @@
 //! What is kept of each record, in the order of their coming.
 use ack_ranges::RangeSet;
+use sequence_row::{Row, Start};
 
 /// A record as it is kept: the place of a record that is kept whole; the row, counted from 0, and the place there of a
 /// payload that was accepted or received; or the numbers that are acknowledged.
@@ -23,4 +24,11 @@ pub(crate) struct Origin {
 pub(crate) struct Named {
     pub seq: u32,
     pub place: usize,
+}
+
+/// A sequence that a record to come will make: how it begins, and its row, with room for records of it.
+#[derive(Debug, Drop)]
+pub(crate) struct Ahead {
+    pub start: Start,
+    pub row: Row,
 }

@@ -64,7 +64,9 @@ pub(crate) fn drawn_after(drawn: u64, given: &Record) -> u64
 /// Notes the record at a place as what made its sequences.
 pub(crate) fn trace(origins: &mut Vec<Origin>, given: &Record, made: usize)
     requires { vec_len origins.old + 2 ≤ vec_capacity origins.old }
-    ensures { origins.new.items ≡ origins.old.items ++ origins_for made (fact_of given.now) }
+    ensures items { origins.new.items ≡ origins.old.items ++ origins_for made (fact_of given.now) }
+    ensures len { vec_len origins.new ≤ vec_len origins.old + 2 }
+    ensures capacity { vec_capacity origins.new ≡ vec_capacity origins.old }
 {
     let count = made_by(given);
     if count > 0 {
@@ -85,7 +87,9 @@ pub(crate) fn trace(origins: &mut Vec<Origin>, given: &Record, made: usize)
 pub(crate) fn name(named: &mut Vec<Named>, given: &Record, len: usize, place: usize)
     requires room { vec_len named.old < vec_capacity named.old }
     requires places { len + length (makers_of (fact_of given.now)) ≤ 4294967295 }
-    ensures { named.new.items ≡ named.old.items ++ names_for len place (fact_of given.now) }
+    ensures items { named.new.items ≡ named.old.items ++ names_for len place (fact_of given.now) }
+    ensures len { vec_len named.new ≤ vec_len named.old + 1 }
+    ensures capacity { vec_capacity named.new ≡ vec_capacity named.old }
 {
     match given {
         Record::Created { seq, .. } => named.push_reserved(Named { seq: *seq, place }),

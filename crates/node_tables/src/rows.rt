@@ -1,20 +1,19 @@
 //! The rows of the tables, one a sequence: what a record changes of them.
-ghost use Rattle.std.specs.Prelude.{◌≡◌, ◌+◌, ◌-◌, ◌<◌, ◌≤◌, ◌++◌, length, map, IfOk, IsTrue, OnOk, OnErr};
+ghost use Rattle.std.specs.Prelude.{◌≡◌, ◌+◌, ◌-◌, ◌<◌, ◌≤◌, length, IfOk, IsOk, IsTrue, OnOk, OnErr};
 ghost use Rattle.std.specs.Prelude.{true, min, sum_by, vec_len, vec_capacity};
 ghost use Rattle.record_batch.specs.Fact.{Accepted, Acked, Received, fact_of};
 ghost use Rattle.sequence_row.specs.Row.{Seen, step, takes, takes_message, takes_payload};
-ghost use Rattle.sequence_table.specs.Makers.{makers_of};
-ghost use Rattle.sequence_table.specs.Told.{begun, each_after, names};
-ghost use Rattle.node_tables.specs.Kept.{accepted_in, is_timed_record, is_whole, received_in, row_at, tolds};
+ghost use Rattle.sequence_table.specs.Told.{each_after, names};
+ghost use Rattle.node_tables.specs.Kept.{accepted_in, is_whole, received_in, row_at, tolds};
 ghost use Rattle.node_tables.specs.Reads.{waiting};
+ghost use Rattle.node_tables.specs.Room.{spare_at, spares, spent_at};
 
 use crate::record::named_by;
 use ack_ranges::RangeSet;
 use record_batch::Record;
 use rm_base::{Blob, Memory, Payload};
 use rm_source::OutPhase;
-use sequence_row::{Row, Start};
-use std::alloc::Global;
+use sequence_row::Row;
 
 /// How many payloads a row has.
 fn payloads_of(row: &Row) -> usize
@@ -42,6 +41,11 @@ pub(crate) fn accept_at(rows: &mut Vec<Row>, k: usize, payload: Blob) -> Result<
     requires takes { IsTrue (takes_payload (row_at (tolds rows.old.items) k).side) }
     ensures ok { OnOk result (tolds rows.new.items ≡ each_after 0 (tolds rows.old.items) (Accepted (k + 1) payload)) }
     ensures place { IfOk result (λ place. place ≡ length (accepted_in (row_at (tolds rows.old.items) k).side)) }
+    ensures room { OnOk result (spares rows.new.items
+        ≡ spent_at (spares rows.old.items) k (Accepted (k + 1) payload)) }
+    ensures ready { 0 < (spare_at (spares rows.old.items) k).room.payloads → IsOk result }
+    ensures len { vec_len rows.new ≡ vec_len rows.old }
+    ensures capacity { vec_capacity rows.new ≡ vec_capacity rows.old }
     ensures err { OnErr result (tolds rows.new.items ≡ tolds rows.old.items) }
 {
     let row = &mut rows[k];
@@ -62,6 +66,11 @@ pub(crate) fn receive_at(
     ensures ok { OnOk result
         (tolds rows.new.items ≡ each_after 0 (tolds rows.old.items) (Received (k + 1) number payload)) }
     ensures place { IfOk result (λ place. place ≡ length (received_in (row_at (tolds rows.old.items) k).side)) }
+    ensures room { OnOk result (spares rows.new.items
+        ≡ spent_at (spares rows.old.items) k (Received (k + 1) number payload)) }
+    ensures ready { 0 < (spare_at (spares rows.old.items) k).room.messages → IsOk result }
+    ensures len { vec_len rows.new ≡ vec_len rows.old }
+    ensures capacity { vec_capacity rows.new ≡ vec_capacity rows.old }
     ensures err { OnErr result (tolds rows.new.items ≡ tolds rows.old.items) }
 {
     let row = &mut rows[k];
@@ -76,6 +85,11 @@ pub(crate) fn learn_at(rows: &mut Vec<Row>, k: usize, numbers: &RangeSet) -> Res
     requires takes { IsTrue (takes (row_at (tolds rows.old.items) k).side (Acked (k + 1) numbers.now.ranges)) }
     ensures ok { OnOk result
         (tolds rows.new.items ≡ each_after 0 (tolds rows.old.items) (Acked (k + 1) numbers.now.ranges)) }
+    ensures room { OnOk result (spares rows.new.items
+        ≡ spent_at (spares rows.old.items) k (Acked (k + 1) numbers.now.ranges)) }
+    ensures ready { length numbers.now.ranges ≤ (spare_at (spares rows.old.items) k).room.ranges → IsOk result }
+    ensures len { vec_len rows.new ≡ vec_len rows.old }
+    ensures capacity { vec_capacity rows.new ≡ vec_capacity rows.old }
     ensures err { OnErr result (tolds rows.new.items ≡ tolds rows.old.items) }
 {
     let row = &mut rows[k];
@@ -87,7 +101,8 @@ pub(crate) fn learn_at(rows: &mut Vec<Row>, k: usize, numbers: &RangeSet) -> Res
 fn step_row(row: &mut Row, given: &Record)
     requires takes { IsTrue (takes row.old.told.side (fact_of given.now)) }
     requires whole { IsTrue (is_whole (fact_of given.now)) }
-    ensures { row.new.told ≡ step row.old.told (fact_of given.now) }
+    ensures told { row.new.told ≡ step row.old.told (fact_of given.now) }
+    ensures room { row.new.room ≡ row.old.room }
 {
     match given {
         Record::Created { .. } => row.set_phase(OutPhase::Open),
@@ -110,6 +125,7 @@ pub(crate) fn change(rows: &mut Vec<Row>, given: &Record)
         takes (row_at (tolds rows.old.items) (names (fact_of given.now) - 1)).side (fact_of given.now) ≡ true }
     requires whole { IsTrue (is_whole (fact_of given.now)) }
     ensures rows { tolds rows.new.items ≡ each_after 0 (tolds rows.old.items) (fact_of given.now) }
+    ensures spares { spares rows.new.items ≡ spares rows.old.items }
     ensures room { vec_capacity rows.new ≡ vec_capacity rows.old }
     ensures len { vec_len rows.new ≡ vec_len rows.old }
 {
@@ -118,39 +134,6 @@ pub(crate) fn change(rows: &mut Vec<Row>, given: &Record)
         return;
     }
     step_row(&mut rows[seq as usize - 1], given);
-}
-
-/// Puts the sequences that a record makes behind the others. Where there is room for two, it takes no memory.
-pub(crate) fn begin(alloc: Global, rows: &mut Vec<Row>, given: &Record)
-    requires room { vec_len rows.old + 2 ≤ vec_capacity rows.old }
-    requires timed { IsTrue (is_timed_record (fact_of given.now)) }
-    ensures { tolds rows.new.items ≡ tolds rows.old.items ++ map begun (makers_of (fact_of given.now)) }
-{
-    match given {
-        Record::Creating { ticket, offer, .. } => {
-            rows.push_reserved(Row::new(alloc, Start::Asked { ticket: *ticket }));
-            if let Some(offer) = offer {
-                let behaviour = offer.behaviour;
-                rows.push_reserved(Row::new(alloc, Start::Offered { behaviour }));
-            }
-        }
-        Record::Granted {
-            behaviour,
-            deadline,
-            offer,
-            ..
-        } => {
-            let start = Start::Granted {
-                behaviour: *behaviour,
-                deadline: *deadline,
-            };
-            rows.push_reserved(Row::new(alloc, start));
-            if offer.is_some() {
-                rows.push_reserved(Row::new(alloc, Start::Taken));
-            }
-        }
-        _ => {}
-    }
 }
 
 /// How many messages of a row wait for an acknowledgement.

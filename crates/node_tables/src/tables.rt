@@ -1,32 +1,41 @@
 //! The records of a node, and what they say.
-ghost use Rattle.std.specs.Prelude.{◌≡◌, ◌↔◌, ◌+◌, ◌++◌, ◌∷◌, ◌<◌, ◌≤◌, [], true, false, Err, length, OnOk, OnErr};
+ghost use Rattle.std.specs.Prelude.{◌≡◌, ◌↔◌, ◌+◌, ◌^◌, ◌++◌, ◌∷◌, ◌<◌, ◌≤◌, [], true, false, Err, length, OnOk};
+ghost use Rattle.std.specs.Prelude.{OnErr, IfErr, IsOk, List, map};
 ghost use Rattle.std.specs.Prelude.{min, vec_len, vec_capacity};
 ghost use Rattle.std.specs.Option.{option_copied, option_map};
 ghost use Rattle.record_batch.specs.Fact.{Fact, Accepted, Acked, Received, fact_of};
 ghost use Rattle.rm_source.specs.Outgoing.{Sequence as OutSequence};
 ghost use Rattle.rm_destination.specs.Incoming.{Sequence as InSequence};
 ghost use Rattle.sequence_row.specs.Row.{Seen, draws_next};
-ghost use Rattle.sequence_table.specs.Find.{find_grant, find_outgoing};
-ghost use Rattle.sequence_table.specs.Fits.{fits, all_fit, has_places};
-ghost use Rattle.sequence_table.specs.Makers.{counter, makers, number};
-ghost use Rattle.sequence_table.specs.Sources.{all_unacked};
+ghost use Rattle.sequence_table.specs.Find.{accepted_by, find_creating, find_grant, find_incoming, find_outgoing};
+ghost use Rattle.sequence_table.specs.Find.{is_creating, is_incoming};
+ghost use Rattle.sequence_table.specs.Fits.{fits, all_fit, has_places, is_outgoing_side};
+ghost use Rattle.sequence_table.specs.Makers.{counter, maker, makers, number};
+ghost use Rattle.sequence_table.specs.Sources.{all_unacked, out_ident, phase};
 ghost use Rattle.node_tables.specs.Kept.{is_naming, is_whole, told_in};
-ghost use Rattle.node_tables.specs.Reads.{incoming_in, outgoing_in, ticket_in};
-ghost use Rattle.node_tables.specs.declared.error.TableError.TheVariants.{Misfit};
+ghost use Rattle.node_tables.specs.Reads.{address_in, incoming_in, is_asking, maker_seen, outgoing_in, passes};
+ghost use Rattle.node_tables.specs.Reads.{ticket_in};
+ghost use Rattle.node_tables.specs.Ready.{IsReady, StopsAt};
+ghost use Rattle.node_tables.specs.declared.error.TableError.TheVariants.{Misfit, Memory as WantsMemory};
 
+use crate::ahead::{begin, prepare_all};
+use crate::claims::{claim_all, make_room, release_all};
 use crate::error::TableError;
-use crate::find::{find_granted, find_named};
-use crate::note::{Named, Note, Origin};
+use crate::find::{find_accept, find_address, find_granted, find_ident, find_named};
+use crate::issued::is_issued;
+use crate::maker::{Maker, maker_at};
+use crate::note::{Ahead, Named, Note, Origin};
 use crate::record::{drawn_after, made_by, name, named_by, number_after, trace};
-use crate::rows::{accept_at, begin, change, learn_at, receive_at, waiting_in};
+use crate::rows::{accept_at, change, learn_at, receive_at, waiting_in};
 use ack_ranges::RangeSet;
 use record_batch::Record;
 use rm_base::{Blob, Ident, Memory, Payload, Uri, numbered};
 use rm_destination::Incoming;
-use rm_source::Outgoing;
+use rm_source::{OutPhase, Outgoing};
 use sequence_row::Row;
 use std::alloc::Global;
 use std::marker::Model;
+use wsa_headers::Epr;
 
 /// The records of a node, and what they say.
 #[derive(Debug, Drop)]
@@ -37,6 +46,8 @@ pub struct Tables {
     notes: Vec<Note>,
     origins: Vec<Origin>,
     named: Vec<Named>,
+    ahead: Vec<Ahead>,
+    slots: usize,
     number: u64,
     drawn: u64,
 }
@@ -44,7 +55,9 @@ pub struct Tables {
 impl Model for Tables {
     ghost use Rattle.std.specs.Coded.{codes};
     ghost use Rattle.soap_profile.specs.TreeCode.{tree_code};
-    ghost use Rattle.node_tables.specs.Kept.{Tabled, Holds, records_in, table_in};
+    ghost use Rattle.std.specs.Prelude.{◌-◌, vec_len, vec_capacity};
+    ghost use Rattle.node_tables.specs.Kept.{Tabled, IsSound, records_in, table_in};
+    ghost use Rattle.node_tables.specs.Room.{all_spares, starts};
 
     ghost Value = { Tabled };
 
@@ -53,16 +66,30 @@ impl Model for Tables {
     ghost view = { λ t. record {
       records = records_in
           (table_in t.kept.items t.rows.items t.notes.items t.origins.items t.named.items t.number t.drawn);
+      room = record {
+        slots = t.slots;
+        rows = all_spares t.rows.items t.ahead.items;
+        ahead = starts t.ahead.items;
+      };
     } };
 
-    ghost invariant = { λ t.
-        Holds (table_in t.kept.items t.rows.items t.notes.items t.origins.items t.named.items t.number t.drawn) };
+    ghost invariant = { λ t. IsSound
+        (table_in t.kept.items t.rows.items t.notes.items t.origins.items t.named.items t.number t.drawn)
+        t.slots
+        (record {
+          kept = vec_capacity t.kept - vec_len t.kept;
+          rows = vec_capacity t.rows - vec_len t.rows;
+          notes = vec_capacity t.notes - vec_len t.notes;
+          origins = vec_capacity t.origins - vec_len t.origins;
+          named = vec_capacity t.named - vec_len t.named;
+        })
+        t.ahead.items };
 }
 
 impl Tables {
     /// No records. It takes no memory.
     pub fn new(alloc: Global) -> Self
-        ensures { result ≡ record { records = [] } }
+        ensures { result.records ≡ [] }
     {
         Tables {
             alloc,
@@ -71,6 +98,8 @@ impl Tables {
             notes: Vec::new(alloc),
             origins: Vec::new(alloc),
             named: Vec::new(alloc),
+            ahead: Vec::new(alloc),
+            slots: 0,
             number: 0,
             drawn: 0,
         }
@@ -78,7 +107,8 @@ impl Tables {
 
     /// The node's number, and 0 before it has one.
     pub fn number(&self) -> u64
-        ensures { result ≡ number self.now.records }
+        ensures value { result ≡ number self.now.records }
+        ensures bits { result < 2 ^ 60 }
     {
         self.number
     }
@@ -131,6 +161,96 @@ impl Tables {
         ensures { result ≡ min (all_unacked self.now.records) 18446744073709551615 }
     {
         waiting_in(self.rows.as_slice())
+    }
+
+    /// How the sequence with a number came to be.
+    pub fn maker(&self, seq: u32) -> Option<Maker<'_>>
+        ensures { option_map maker_seen result ≡ maker self.now.records seq }
+    {
+        let origin = numbered(self.origins.as_slice(), seq as u64)?;
+        maker_at(self.kept.as_slice(), *origin)
+    }
+
+    /// The node's address, once it has one.
+    pub fn address(&self) -> Option<&Uri>
+        ensures { option_copied result ≡ address_in self.now.records }
+    {
+        find_address(self.kept.as_slice())
+    }
+
+    /// The identifier of the outgoing sequence with a number.
+    pub fn ident(&self, seq: u32) -> Option<&Ident>
+        ensures { option_copied result ≡ out_ident self.now.records seq }
+    {
+        find_ident(self.kept.as_slice(), self.named.as_slice(), seq)
+    }
+
+    /// The AcksTo of the Accept that came for the offer that went out with the sequence with a number.
+    pub fn accepted_by(&self, seq: u32) -> Option<&Epr>
+        ensures { option_copied result ≡ accepted_by self.now.records seq }
+    {
+        find_accept(self.kept.as_slice(), self.named.as_slice(), seq)
+    }
+
+    /// The incoming sequence with an identifier. It takes no memory.
+    pub fn find_incoming(&self, ident: &Ident) -> Option<u32>
+        ensures { result ≡ find_incoming self.now.records ident.now }
+    {
+        for before in 0..self.len() {
+            if self.is_incoming(before + 1, ident.as_slice()) {
+                return Some(before + 1);
+            }
+        }
+        None
+    }
+
+    /// Whether the sequence with a number is incoming and has an identifier.
+    fn is_incoming(&self, seq: u32, ident: &[u8]) -> bool
+        ensures { result
+            ≡ passes (is_incoming (number self.now.records) ident.now) seq (maker self.now.records seq) }
+    {
+        match self.maker(seq) {
+            Some(Maker::Granted { counter, .. }) => is_issued(self.number(), counter, ident),
+            Some(Maker::Offered { counter, .. }) => is_issued(self.number(), counter, ident),
+            _ => false,
+        }
+    }
+
+    /// The sequence that a CreateSequence with this MessageID asked for, where that waits for its answer. It takes no
+    /// memory.
+    pub fn find_creating(&self, message_id: &Uri) -> Option<u32>
+        ensures { result ≡ find_creating self.now.records message_id.now }
+    {
+        for before in 0..self.len() {
+            if self.is_creating(before + 1, message_id.as_slice()) {
+                return Some(before + 1);
+            }
+        }
+        None
+    }
+
+    /// Whether a CreateSequence with this MessageID asked for the sequence with a number, and waits for its answer.
+    fn is_creating(&self, seq: u32, message_id: &[u8]) -> bool
+        ensures { result
+            ≡ passes (is_creating self.now.records message_id.now) seq (maker self.now.records seq) }
+    {
+        match self.maker(seq) {
+            Some(Maker::Asked { ticket, .. }) => {
+                self.is_asking(seq) && is_issued(self.number(), ticket, message_id)
+            }
+            _ => false,
+        }
+    }
+
+    /// Whether an outgoing sequence waits for the answer to its CreateSequence.
+    fn is_asking(&self, seq: u32) -> bool
+        requires { is_outgoing_side (maker self.now.records seq) ≡ true }
+        ensures { result ≡ is_asking (phase self.now.records seq) }
+    {
+        match self.outgoing(seq) {
+            Some(outgoing) => matches!(outgoing.phase(), OutPhase::Creating),
+            None => unreachable!(),
+        }
     }
 
     /// The outgoing sequence with an identifier.
@@ -222,12 +342,54 @@ impl Tables {
         }
     }
 
-    /// Applies a record.
+    /// Makes room for records, and gives up the room that there was: applying exactly these takes no memory then.
+    pub fn reserve(&mut self, batch: &[Record]) -> Result<(), Memory>
+        ensures records { self.new.records ≡ self.old.records }
+        ensures ok { all_fit self.old.records (map fact_of batch.now) ≡ true →
+            OnOk result (IsReady self.new (map fact_of batch.now)) }
+    {
+        self.slots = 0;
+        self.ahead.clear();
+        release_all(&mut self.rows);
+        make_room(
+            &mut self.kept,
+            &mut self.rows,
+            &mut self.notes,
+            &mut self.origins,
+            &mut self.named,
+            batch.len(),
+        )?;
+        prepare_all(self.alloc, &mut self.ahead, batch)?;
+        claim_all(&mut self.rows, &mut self.ahead, batch)?;
+        self.slots = batch.len();
+        Ok(())
+    }
+
+    /// Applies records one after the other, up to the first that does not fit or for which there is no memory.
+    pub fn apply_all(&mut self, batch: Vec<Record>) -> Result<(), TableError>
+        ensures ok { OnOk result (self.new.records ≡ self.old.records ++ map fact_of batch.items) }
+        ensures fit { OnOk result (all_fit self.old.records (map fact_of batch.items) ≡ true) }
+        ensures err { IfErr result (StopsAt self.old.records self.new.records (map fact_of batch.items)) }
+        ensures ready { IsReady self.old (map fact_of batch.items) → ¬ (result ≡ Err WantsMemory) }
+        ensures done { IsReady self.old (map fact_of batch.items) →
+            all_fit self.old.records (map fact_of batch.items) ≡ true → IsOk result }
+    {
+        let mut rest = batch.into_iter();
+        while let Some(given) = rest.next() {
+            self.apply(given)?;
+        }
+        Ok(())
+    }
+
+    /// Applies a record. Where there is room for it, it takes no memory.
     pub fn apply(&mut self, given: Record) -> Result<(), TableError>
         ensures ok { OnOk result (self.new.records ≡ self.old.records ++ fact_of given ∷ []) }
         ensures fit { OnOk result (fits self.old.records (fact_of given) ≡ true) }
         ensures err { OnErr result (self.new.records ≡ self.old.records) }
         ensures misfit { (result ≡ Err Misfit) ↔ (fits self.old.records (fact_of given) ≡ false) }
+        ensures ready { (more : List Fact) → IsReady self.old (fact_of given ∷ more) → ¬ (result ≡ Err WantsMemory) }
+        ensures next { (more : List Fact) → IsReady self.old (fact_of given ∷ more) →
+            OnOk result (IsReady self.new more) }
     {
         if !self.fits(&given) {
             return Err(TableError::Misfit);
@@ -241,6 +403,9 @@ impl Tables {
         requires { fits self.old.records (fact_of given) ≡ true }
         ensures ok { OnOk result (self.new.records ≡ self.old.records ++ fact_of given ∷ []) }
         ensures err { OnErr result (self.new.records ≡ self.old.records) }
+        ensures ready { (more : List Fact) → IsReady self.old (fact_of given ∷ more) → IsOk result }
+        ensures next { (more : List Fact) → IsReady self.old (fact_of given ∷ more) →
+            OnOk result (IsReady self.new more) }
     {
         match given {
             Record::Accepted { seq, payload } => self.accept(seq, payload),
@@ -259,10 +424,14 @@ impl Tables {
         requires { fits self.old.records (Accepted seq payload) ≡ true }
         ensures ok { OnOk result (self.new.records ≡ self.old.records ++ Accepted seq payload ∷ []) }
         ensures err { OnErr result (self.new.records ≡ self.old.records) }
+        ensures ready { (more : List Fact) → IsReady self.old (Accepted seq payload ∷ more) → IsOk result }
+        ensures next { (more : List Fact) → IsReady self.old (Accepted seq payload ∷ more) →
+            OnOk result (IsReady self.new more) }
     {
         self.notes.reserve(1)?;
         let row = seq as usize - 1;
         let place = accept_at(&mut self.rows, row, payload)?;
+        self.slots = self.slots.saturating_sub(1);
         self.notes.push_reserved(Note::Accepted { row, place });
         Ok(())
     }
@@ -272,10 +441,14 @@ impl Tables {
         requires { fits self.old.records (Received seq number payload) ≡ true }
         ensures ok { OnOk result (self.new.records ≡ self.old.records ++ Received seq number payload ∷ []) }
         ensures err { OnErr result (self.new.records ≡ self.old.records) }
+        ensures ready { (more : List Fact) → IsReady self.old (Received seq number payload ∷ more) → IsOk result }
+        ensures next { (more : List Fact) → IsReady self.old (Received seq number payload ∷ more) →
+            OnOk result (IsReady self.new more) }
     {
         self.notes.reserve(1)?;
         let row = seq as usize - 1;
         let place = receive_at(&mut self.rows, row, number, payload)?;
+        self.slots = self.slots.saturating_sub(1);
         self.notes.push_reserved(Note::Received { row, place });
         Ok(())
     }
@@ -285,9 +458,13 @@ impl Tables {
         requires { fits self.old.records (Acked seq numbers.ranges) ≡ true }
         ensures ok { OnOk result (self.new.records ≡ self.old.records ++ Acked seq numbers.ranges ∷ []) }
         ensures err { OnErr result (self.new.records ≡ self.old.records) }
+        ensures ready { (more : List Fact) → IsReady self.old (Acked seq numbers.ranges ∷ more) → IsOk result }
+        ensures next { (more : List Fact) → IsReady self.old (Acked seq numbers.ranges ∷ more) →
+            OnOk result (IsReady self.new more) }
     {
         self.notes.reserve(1)?;
         learn_at(&mut self.rows, seq as usize - 1, &numbers)?;
+        self.slots = self.slots.saturating_sub(1);
         self.notes.push_reserved(Note::Acked { seq, numbers });
         Ok(())
     }
@@ -298,6 +475,9 @@ impl Tables {
         requires whole { is_whole (fact_of given) ≡ true }
         ensures ok { OnOk result (self.new.records ≡ self.old.records ++ fact_of given ∷ []) }
         ensures err { OnErr result (self.new.records ≡ self.old.records) }
+        ensures ready { (more : List Fact) → IsReady self.old (fact_of given ∷ more) → IsOk result }
+        ensures next { (more : List Fact) → IsReady self.old (fact_of given ∷ more) →
+            OnOk result (IsReady self.new more) }
     {
         make_room(
             &mut self.kept,
@@ -305,6 +485,7 @@ impl Tables {
             &mut self.notes,
             &mut self.origins,
             &mut self.named,
+            1,
         )?;
         let place = self.kept.len();
         let len = self.rows.len();
@@ -313,38 +494,12 @@ impl Tables {
         name(&mut self.named, &given, len, place);
         trace(&mut self.origins, &given, place);
         change(&mut self.rows, &given);
-        begin(self.alloc, &mut self.rows, &given);
+        begin(self.alloc, &mut self.rows, &mut self.ahead, &given);
         self.number = number;
         self.drawn = drawn;
+        self.slots = self.slots.saturating_sub(1);
         self.notes.push_reserved(Note::Kept { place });
         self.kept.push_reserved(given);
         Ok(())
     }
-}
-
-/// Makes room for a record that is kept whole.
-fn make_room(
-    kept: &mut Vec<Record>,
-    rows: &mut Vec<Row>,
-    notes: &mut Vec<Note>,
-    origins: &mut Vec<Origin>,
-    named: &mut Vec<Named>,
-) -> Result<(), Memory>
-    ensures kept { kept.new.items ≡ kept.old.items }
-    ensures rows { rows.new.items ≡ rows.old.items }
-    ensures notes { notes.new.items ≡ notes.old.items }
-    ensures origins { origins.new.items ≡ origins.old.items }
-    ensures named { named.new.items ≡ named.old.items }
-    ensures kept_room { OnOk result (vec_len kept.new < vec_capacity kept.new) }
-    ensures rows_room { OnOk result (vec_len rows.new + 2 ≤ vec_capacity rows.new) }
-    ensures notes_room { OnOk result (vec_len notes.new < vec_capacity notes.new) }
-    ensures origins_room { OnOk result (vec_len origins.new + 2 ≤ vec_capacity origins.new) }
-    ensures named_room { OnOk result (vec_len named.new < vec_capacity named.new) }
-{
-    kept.reserve(1)?;
-    rows.reserve(2)?;
-    notes.reserve(1)?;
-    origins.reserve(2)?;
-    named.reserve(1)?;
-    Ok(())
 }

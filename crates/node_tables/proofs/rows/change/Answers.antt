@@ -1,8 +1,9 @@
-use Rattle.std.proofs.Common.{◌≡◌, ◌∙◌, ◌+◌, ◌-◌, ◌<◌, ◌≤◌, length, refl, sym, subst, arith, true, ℕ}
+use Rattle.std.proofs.Common.{◌≡◌, ap, ◌∙◌, ◌+◌, ◌-◌, ◌<◌, ◌≤◌, length, sym, subst, arith, true, ℕ}
 use Rattle.record_batch.specs.Fact.{fact_of}
-use Rattle.sequence_row.specs.Row.{takes}
-use Rattle.sequence_table.specs.Told.{names}
+use Rattle.sequence_row.specs.Row.{is_sender, takes}
+use Rattle.sequence_table.specs.Told.{Told, names}
 use Rattle.node_tables.specs.Kept.{row_at, tolds}
+use Rattle.node_tables.proofs.RoomLemmas.{same-spare, spares-same, step-kind}
 use Rattle.node_tables.proofs.StepLemmas.{each_after-none, rows-step}
 use Rattle.node_tables.proofs.rows.change.Goals as goal
 
@@ -23,4 +24,12 @@ returns-clause-rows c =
     let within : s - 1 < length rows = omega (arith, is, some, c.requires.within) in
     let taken = subst (λ (n : ℕ). takes (row_at (tolds rows) (n - 1)).side f ≡ true) (sym is) (c.requires.takes some) in
     rows-step rows (s - 1) c.index_mut.result.now c.step_row.new.row f within c.index_mut.ensures.value at taken
-    c.step_row.ensures
+    c.step_row.ensures.told
+
+pub returns-clause-spares : goal.returns-clause-spares
+returns-clause-spares c =
+    let row = c.index_mut.result.now in
+    spares-same c.args.rows.now.items (c.named_by-seq.result - 1) row c.step_row.new.row c.index_mut.ensures.value
+    (same-spare row c.step_row.new.row row.room
+    (ap (λ (t : Told). is_sender t.side) c.step_row.ensures.told ∙ step-kind row.told.side (fact_of c.args.given.now))
+    c.step_row.ensures.room)

@@ -1,4 +1,4 @@
-use Rattle.std.proofs.Common.{◌≡◌, ◌∙◌, ◌≤◌, ◌<◌, List, length, map, sym, ap, arith}
+use Rattle.std.proofs.Common.{◌∙◌, length, sym, ap, arith}
 use Rattle.std.proofs.lemmas.List.{length-map}
 use Rattle.sequence_row.specs.Row.{Seen}
 use Rattle.sequence_table.specs.Makers.{makers}
@@ -13,11 +13,11 @@ overflow_cast-result c =
       arith,
       ap length c.as_slice.ensures.value,
       length-map c.self.inside.rows.items (λ (r : Seen). r.told),
-      rows-few _ c.self.invariant,
+      rows-few _ c.self.invariant.holds,
     )
 
 pub returns-clause-count : goal.returns-clause-count
 returns-clause-count c =
     ap length c.as_slice.ensures.value
-    ∙ sym (length-map c.self.inside.rows.items (λ (r : Seen). r.told)) ∙ rows-count _ c.self.invariant
+    ∙ sym (length-map c.self.inside.rows.items (λ (r : Seen). r.told)) ∙ rows-count _ c.self.invariant.holds
     ∙ ap (λ (t : Tabled). length (makers t.records)) c.self.view_is

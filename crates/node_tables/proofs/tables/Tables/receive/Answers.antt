@@ -1,4 +1,4 @@
-use Rattle.std.proofs.Common.{◌≡◌, ◌∙◌, ◌+◌, ◌-◌, ◌<◌, ◌≤◌, true, List, [], ◌∷◌, ◌++◌, length, refl, sym, ap}
+use Rattle.std.proofs.Common.{◌≡◌, ◌∙◌, ◌+◌, ◌-◌, ◌<◌, true, List, [], ◌∷◌, ◌++◌, length, refl, sym, ap}
 use Rattle.std.proofs.Common.{subst, arith}
 use Rattle.std.proofs.lemmas.List.{length-map}
 use Rattle.record_batch.specs.Fact.{Received}
@@ -7,6 +7,8 @@ use Rattle.sequence_row.specs.Row.{Seen}
 use Rattle.node_tables.specs.declared.note.Note.{Note}
 use Rattle.node_tables.specs.declared.note.Note.TheVariants as note
 use Rattle.node_tables.specs.Kept.{Tabled, row_at, tolds}
+use Rattle.std.proofs.lemmas.Bool.{false≢true}
+use Rattle.node_tables.proofs.RoomLemmas.{message-room, room_with, row-next}
 use Rattle.node_tables.proofs.RowsLemmas.{row-taken}
 use Rattle.node_tables.proofs.StepLemmas.{takes-received}
 use Rattle.node_tables.proofs.TellLemmas.{receives, stays}
@@ -17,7 +19,7 @@ receive_at-requires c =
     let s = c.args.seq in
     let f = Received s c.args.number c.args.payload in
     let fit = subst (λ (t : Tabled). fits t.records f ≡ true) (sym c.self.view_is) c.requires in
-    let taken = row-taken _ f c.self.invariant refl fit in
+    let taken = row-taken _ f c.self.invariant.holds refl fit in
     let rows = c.self.inside.rows.items in
     record {
       within = omega (arith, taken.one, taken.within, length-map rows (λ (r : Seen). r.told));
@@ -31,8 +33,19 @@ invariant_of-self-2 c =
     let fit = subst (λ (t : Tabled). fits t.records f ≡ true) (sym c.self.view_is) c.requires in
     let noted = c.push_reserved.ensures.items
     ∙ ap (λ (ns : List Note). ns ++ note.Received (s - 1) c.in_ok-place.place ∷ []) c.reserve.ensures.items in
-    (receives _ s c.in_ok-place.place c.args.number c.args.payload _ _ c.self.invariant fit c.in_ok-place.ensures.place
-    c.in_ok-place.ensures.ok noted).0
+    record {
+      holds = (receives _ s c.in_ok-place.place c.args.number c.args.payload _ _ c.self.invariant.holds fit
+          c.in_ok-place.ensures.place
+          c.in_ok-place.ensures.ok noted).0;
+      places = record {
+        kept_ = omega arith;
+        rows_ = omega arith;
+        notes_ = omega arith;
+        origins_ = omega arith;
+        named_ = omega arith;
+      };
+      begun_ = c.self.invariant.begun_;
+    }
 
 pub returns-clause-ok : goal.returns-clause-ok
 returns-clause-ok c =
@@ -41,10 +54,52 @@ returns-clause-ok c =
     let fit = subst (λ (t : Tabled). fits t.records f ≡ true) (sym c.self.view_is) c.requires in
     let noted = c.push_reserved.ensures.items
     ∙ ap (λ (ns : List Note). ns ++ note.Received (s - 1) c.in_ok-place.place ∷ []) c.reserve.ensures.items in
-    (receives _ s c.in_ok-place.place c.args.number c.args.payload _ _ c.self.invariant fit c.in_ok-place.ensures.place
+    (receives _ s c.in_ok-place.place c.args.number c.args.payload _ _ c.self.invariant.holds fit
+    c.in_ok-place.ensures.place
     c.in_ok-place.ensures.ok noted).1
     ∙ ap (λ (t : Tabled). t.records ++ f ∷ []) c.self.view_is
 
 pub invariant_of-self-in_err-place : goal.invariant_of-self-in_err-place
 invariant_of-self-in_err-place c =
-    stays _ _ _ c.self.invariant c.in_err-place.ensures.err c.reserve.ensures.items
+    record {
+      holds = stays _ _ _ c.self.invariant.holds c.in_err-place.ensures.err c.reserve.ensures.items;
+      places = record {
+        kept_ = omega arith;
+        rows_ = omega arith;
+        notes_ = omega arith;
+        origins_ = omega arith;
+        named_ = omega arith;
+      };
+      begun_ = c.self.invariant.begun_;
+    }
+
+pub returns-in_err-place-clause-ready : goal.returns-in_err-place-clause-ready
+returns-in_err-place-clause-ready c more h =
+    let s = c.args.seq in
+    let f = Received s c.args.number c.args.payload in
+    let fit = subst (λ (t : Tabled). fits t.records f ≡ true) (sym c.self.view_is) c.requires in
+    let taken = row-taken _ f c.self.invariant.holds refl fit in
+    let rows = c.self.inside.rows.items in
+    let ahead = c.self.inside.ahead.items in
+    let slots = c.self.inside.slots in
+    let is : c.args.self.now.room ≡ room_with slots rows ahead = sym (ap (λ (t : Tabled). t.room) c.self.view_is) in
+    let at : s ≡ s - 1 + 1 = omega (arith, taken.one) in
+    let lt : s - 1 < length rows = omega (arith, taken.one, taken.within, length-map rows (λ (r : Seen). r.told)) in
+    absurd (false≢true (c.in_err-place.ensures.ready
+    (message-room c.args.self.now rows ahead slots s c.args.number c.args.payload more (s - 1) h is at lt
+    (sym (takes-received (row_at (tolds rows) (s - 1)).side s c.args.number c.args.payload) ∙ taken.takes_))))
+
+pub returns-clause-next : goal.returns-clause-next
+returns-clause-next c more h =
+    let s = c.args.seq in
+    let f = Received s c.args.number c.args.payload in
+    let fit = subst (λ (t : Tabled). fits t.records f ≡ true) (sym c.self.view_is) c.requires in
+    let taken = row-taken _ f c.self.invariant.holds refl fit in
+    let rows = c.self.inside.rows.items in
+    let ahead = c.self.inside.ahead.items in
+    let slots = c.self.inside.slots in
+    let is : c.args.self.now.room ≡ room_with slots rows ahead = sym (ap (λ (t : Tabled). t.room) c.self.view_is) in
+    let at : s ≡ s - 1 + 1 = omega (arith, taken.one) in
+    let lt : s - 1 < length rows = omega (arith, taken.one, taken.within, length-map rows (λ (r : Seen). r.told)) in
+    row-next c.args.self.now _ rows c.receive_at.new.rows.items ahead slots c.saturating_sub-self-inside.result f more
+    (s - 1) h is refl at lt (omega (arith, c.saturating_sub-self-inside.ensures)) c.in_ok-place.ensures.room

@@ -1,4 +1,4 @@
-use Rattle.std.proofs.Common.{◌≡◌, ◌∙◌, List, min, refl, ap}
+use Rattle.std.proofs.Common.{◌∙◌, List, min, refl, ap}
 use Rattle.std.specs.Prelude.{sum_by}
 use Rattle.sequence_row.specs.Row.{Seen}
 use Rattle.sequence_table.specs.Sources.{all_unacked}
@@ -12,5 +12,5 @@ returns c =
     c.waiting_in.ensures
     ∙ ap (λ n. min n 18446744073709551615)
     (ap (λ (rs : List Seen). sum_by (λ (r : Seen). waiting r.told.side) rs) c.as_slice.ensures.value
-    ∙ waits _ c.self.inside.rows.items c.self.invariant refl
+    ∙ waits _ c.self.inside.rows.items c.self.invariant.holds refl
     ∙ ap (λ (t : Tabled). all_unacked t.records) c.self.view_is)

@@ -1,0 +1,3 @@
+mod DetailLemmas
+mod SaidLemmas
+mod TextLemmas

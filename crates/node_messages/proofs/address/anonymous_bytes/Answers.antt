@@ -1,0 +1,6 @@
+use Rattle.std.proofs.Common.{refl, arith}
+use Rattle.node_messages.proofs.TextLemmas.{marks-text}
+use Rattle.node_messages.proofs.address.anonymous_bytes.Goals as goal
+
+pub returns-clause-is_text : goal.returns-clause-is_text
+returns-clause-is_text c = marks-text 2048 _ (omega arith) (omega arith) refl

@@ -1,0 +1,9 @@
+-- The elements of a Detail that name a sequence: WS-ReliableMessaging 1.2, section 4.
+use Rattle.std.specs.Prelude.{Bool, ◌&&◌, codes}
+use Rattle.std.specs.Str.{bytes_eq}
+use Rattle.soap_profile.specs.Tree.{Element, name_of}
+use Rattle.rm_protocol.specs.Addresses.{rm_space}
+
+-- the element is an Identifier
+abbrev pub is_identifier : Element → Bool
+is_identifier e = bytes_eq (name_of e).space rm_space && bytes_eq (name_of e).local (codes "Identifier")

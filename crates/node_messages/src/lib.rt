@@ -1,0 +1,29 @@
+//! What a node says, as values: messages, the endpoints that they go to, and the acknowledgements that they carry. It
+//! stands on the definitions of the protocol, `rm_protocol`, and on messages, `rm_message`. The layers above may use
+//! the contracts and the definitions of `specs/`.
+#![tactic(auto)]
+
+pub mod acks;
+pub mod address;
+mod copies;
+pub mod data;
+pub mod detail;
+pub mod endpoint;
+pub mod home;
+pub mod name;
+mod plain;
+pub mod request;
+pub mod response;
+pub mod said;
+
+pub use acks::{ack_block, ack_message, ask_message, with_blocks};
+pub use address::{Place, is_anonymous, is_nowhere, place_of};
+pub use copies::{copy_block, copy_endpoint, copy_ident, copy_relates, copy_uri};
+pub use data::{data_message, into_payload};
+pub use detail::ident_of;
+pub use endpoint::{anonymous, fault_endpoint, plain_endpoint, reply_endpoint};
+pub use home::Home;
+pub use name::Name;
+pub use request::{close_request, create_request, terminate_request};
+pub use response::{close_response, grant_response, terminate_response};
+pub use said::{Ack, answered};

@@ -1,0 +1,65 @@
+//! The messages of the protocol by name, and their actions: WS-ReliableMessaging 1.2, section 1.4.
+ghost use Rattle.std.specs.Prelude.{◌≡◌};
+ghost use Rattle.rm_base.specs.Text.{IsText};
+ghost use Rattle.rm_protocol.specs.Addresses.{payload_action, rm_action};
+ghost use Rattle.node_messages.specs.Names.{name_text};
+
+/// A message of the protocol, named by the element that it is for.
+#[derive(Clone, Copy, Debug, PartialEq, Eq)]
+pub enum Name {
+    CreateSequence,
+    CreateSequenceResponse,
+    CloseSequence,
+    CloseSequenceResponse,
+    TerminateSequence,
+    TerminateSequenceResponse,
+    SequenceAcknowledgement,
+    AckRequested,
+}
+
+impl Name {
+    /// Its action.
+    pub fn action(self) -> &'static [u8]
+        ensures is { result.now ≡ rm_action (name_text self) }
+        ensures is_text { IsText 2048 result.now }
+    {
+        self.bytes()
+    }
+
+    #[tactic(auto, unfolding(rm_protocol::specs::Addresses::rm_action))]
+    fn bytes(self) -> &'static [u8]
+        ensures { result.now ≡ rm_action (name_text self) }
+    {
+        match self {
+            Name::CreateSequence => {
+                b"http://docs.oasis-open.org/ws-rx/wsrm/200702/CreateSequence"
+            }
+            Name::CreateSequenceResponse => {
+                b"http://docs.oasis-open.org/ws-rx/wsrm/200702/CreateSequenceResponse"
+            }
+            Name::CloseSequence => b"http://docs.oasis-open.org/ws-rx/wsrm/200702/CloseSequence",
+            Name::CloseSequenceResponse => {
+                b"http://docs.oasis-open.org/ws-rx/wsrm/200702/CloseSequenceResponse"
+            }
+            Name::TerminateSequence => {
+                b"http://docs.oasis-open.org/ws-rx/wsrm/200702/TerminateSequence"
+            }
+            Name::TerminateSequenceResponse => {
+                b"http://docs.oasis-open.org/ws-rx/wsrm/200702/TerminateSequenceResponse"
+            }
+            Name::SequenceAcknowledgement => {
+                b"http://docs.oasis-open.org/ws-rx/wsrm/200702/SequenceAcknowledgement"
+            }
+            Name::AckRequested => b"http://docs.oasis-open.org/ws-rx/wsrm/200702/AckRequested",
+        }
+    }
+}
+
+/// The action of a message of the application.
+#[tactic(auto, unfolding(rm_protocol::specs::Addresses::payload_action))]
+pub(crate) fn application_action() -> &'static [u8]
+    ensures is { result.now ≡ payload_action }
+    ensures is_text { IsText 2048 result.now }
+{
+    b"urn:wsrm:payload"
+}

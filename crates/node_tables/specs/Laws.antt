@@ -1,0 +1,46 @@
+-- Laws of what the records say of one sequence, each the contract of a function in src/laws.rt.
+use Rattle.std.specs.Prelude.{◌≡◌, ℕ, ◌<◌, Bool, true, false, List, Some}
+use Rattle.rm_source.specs.Outgoing.{Sending}
+use Rattle.rm_destination.specs.declared.outcome.InPhase.{InPhase}
+use Rattle.rm_destination.specs.declared.outcome.InPhase.TheVariants.{Open, Ended}
+use Rattle.rm_destination.specs.Incoming.{Receiving, is_stopped as stopped_in, phase_of, inbox as inbox_in}
+use Rattle.rm_destination.specs.Incoming.{discarded as discarded_in}
+use Rattle.rm_destination.specs.Messages.{any_true as any_in, front_of, numbers_of}
+use Rattle.record_batch.specs.Fact.{Fact}
+use Rattle.sequence_table.specs.Makers.{address, number}
+use Rattle.sequence_table.specs.Destinations.{discarded, front, has_end, held, inbox, is_ended, is_over, is_stopped}
+use Rattle.sequence_table.specs.Told.{sending}
+use Rattle.node_tables.specs.Reads.{address_in, incoming_in, outgoing_in}
+
+-- a phase after the end
+abbrev pub is_end : InPhase → Bool
+is_end Ended = true
+is_end _ = false
+
+-- a phase after the close or the end
+abbrev pub is_shut : InPhase → Bool
+is_shut Open = false
+is_shut _ = true
+
+-- an incoming sequence, by its numbers, its front, what it releases and how far it is, is what the records say of it
+pub record IsAsRecorded (r : List Fact) (s : ℕ) (f : Receiving) : Type 0 where
+  pub numbers : numbers_of f.received ≡ held r s
+  pub front_ : front_of f.received ≡ front r s
+  pub inbox_ : inbox_in f ≡ inbox r s
+  pub discarded_ : discarded_in f ≡ discarded r s
+  pub stopped : stopped_in f.closes ≡ is_stopped r s
+  pub end : any_in f.closes ≡ has_end r s
+  pub over : (now : ℕ) → is_shut (phase_of f now) ≡ is_over r s now
+  pub ended : (now : ℕ) → is_end (phase_of f now) ≡ is_ended r s now
+
+-- each incoming sequence of the tables is what the records say of it
+abbrev pub IncomingIsAsRecorded : Type 0
+IncomingIsAsRecorded = (r : List Fact) (s : ℕ) (f : Receiving) → incoming_in r s ≡ Some f → IsAsRecorded r s f
+
+-- each outgoing sequence of the tables is what the records say of it
+abbrev pub OutgoingIsAsRecorded : Type 0
+OutgoingIsAsRecorded = (r : List Fact) (s : ℕ) (t : Sending) → outgoing_in r s ≡ Some t → t ≡ sending r s
+
+-- a node that has a number has an address
+abbrev pub NumberedHasAddress : Type 0
+NumberedHasAddress = (r : List Fact) → 0 < number r → address_in r ≡ Some (address r)

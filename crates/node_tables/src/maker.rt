@@ -1,0 +1,128 @@
+//! How a sequence came to be.
+ghost use Rattle.std.specs.Prelude.{◌≡◌, if◌then◌else◌, map, slice_get};
+ghost use Rattle.std.specs.Option.{option_map};
+ghost use Rattle.record_batch.specs.Fact.{fact_of};
+ghost use Rattle.sequence_table.specs.Makers.{makers_of};
+ghost use Rattle.node_tables.specs.Kept.{kept_at};
+ghost use Rattle.node_tables.specs.Reads.{maker_seen};
+
+use crate::note::Origin;
+use record_batch::{Record, Via};
+use rm_base::{Behaviour, Ident, Uri};
+use rm_elements::Lapse;
+use wsa_headers::Epr;
+
+/// How a sequence came to be, as the record that made it has it: WS-ReliableMessaging 1.2, section 3.4. Asked: with
+/// CreateSequence. Offered: the incoming one of its Offer. Granted: to a peer. Taken: the outgoing one of the peer's
+/// Offer.
+#[derive(Clone, Copy, Debug)]
+pub enum Maker<'a> {
+    Asked {
+        ticket: u64,
+        to: &'a Uri,
+        via: Via,
+        lapse: Lapse,
+    },
+    Offered {
+        ticket: u64,
+        counter: u64,
+        to: &'a Uri,
+        behaviour: Behaviour,
+    },
+    Granted {
+        counter: u64,
+        message_id: &'a Uri,
+        acks_to: &'a Epr,
+        behaviour: Behaviour,
+        deadline: Option<u64>,
+        lapse: Lapse,
+    },
+    Taken {
+        message_id: &'a Uri,
+        ident: &'a Ident,
+        endpoint: &'a Epr,
+    },
+}
+
+/// How the first or the second sequence of the record at a place came to be.
+pub(crate) fn maker_at(kept: &[Record], origin: Origin) -> Option<Maker<'_>>
+    ensures { option_map maker_seen result ≡ slice_get (makers_of (kept_at (map fact_of kept.now) origin.made))
+        (if origin.is_second then 1 else 0) }
+{
+    match kept.get(origin.made) {
+        Some(known) => {
+            if origin.is_second {
+                second_of(known)
+            } else {
+                first_of(known)
+            }
+        }
+        None => None,
+    }
+}
+
+/// How the first sequence of a record came to be.
+fn first_of(known: &Record) -> Option<Maker<'_>>
+    ensures { option_map maker_seen result ≡ slice_get (makers_of (fact_of known.now)) 0 }
+{
+    match known {
+        Record::Creating {
+            ticket,
+            to,
+            via,
+            lapse,
+            ..
+        } => Some(Maker::Asked {
+            ticket: *ticket,
+            to,
+            via: *via,
+            lapse: *lapse,
+        }),
+        Record::Granted {
+            counter,
+            message_id,
+            acks_to,
+            behaviour,
+            deadline,
+            lapse,
+            ..
+        } => Some(Maker::Granted {
+            counter: *counter,
+            message_id,
+            acks_to,
+            behaviour: *behaviour,
+            deadline: *deadline,
+            lapse: *lapse,
+        }),
+        _ => None,
+    }
+}
+
+/// How the second sequence of a record came to be.
+fn second_of(known: &Record) -> Option<Maker<'_>>
+    ensures { option_map maker_seen result ≡ slice_get (makers_of (fact_of known.now)) 1 }
+{
+    match known {
+        Record::Creating {
+            ticket,
+            to,
+            offer: Some(offer),
+            ..
+        } => Some(Maker::Offered {
+            ticket: *ticket,
+            counter: offer.counter,
+            to,
+            behaviour: offer.behaviour,
+        }),
+        Record::Granted {
+            message_id,
+            offer: Some(offer),
+            ..
+        } => Some(Maker::Taken {
+            message_id,
+            ident: &offer.ident,
+            endpoint: &offer.endpoint,
+        }),
+        _ => None,
+    }
+}

@@ -1,0 +1,7 @@
+//! The tests of a node's tables. They stand apart, since a crate with tests is proved a second time with them.
+#![tactic(auto)]
+
+#[cfg(test)]
+mod readers;
+#[cfg(test)]
+mod room;
