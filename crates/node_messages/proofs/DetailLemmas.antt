@@ -1,10 +1,10 @@
 -- The text of an Identifier, as the readers of elements have it.
 use Rattle.std.proofs.Common.{◌≡◌, ℕ, Bool, true, false, cond, List, [], ◌∷◌, ◌++◌, reverse, refl, sym, ap, ◌∙◌}
-use Rattle.std.specs.Prelude.{◌&&◌, Option, Some, None, option_map, codes}
+use Rattle.std.specs.Prelude.{◌&&◌, Option, Some, None, option_map}
 use Rattle.std.proofs.lemmas.List.{reverse-append}
 use Rattle.xml_chars.specs.Classes.{is_space}
 use Rattle.soap_document.specs.Tokens.{is_nil}
-use Rattle.soap_profile.specs.Tree.{Element, element, Parts, none, text, child, name_of}
+use Rattle.soap_profile.specs.Tree.{Element, element, Parts, none, text, child}
 use Rattle.soap_values.specs.Children.{text_among}
 use Rattle.soap_values.specs.Values.{trimmed_start, trimmed_end, trimmed_text, trimmed}
 use Rattle.rm_protocol.specs.Detail.{ident_of, onto_text, text_of, trimmed as trimmed_twice, trimmed_in, without_space}

@@ -1,4 +1,4 @@
-use Rattle.std.proofs.Common.{◌≡◌, ◌++◌}
+use Rattle.std.proofs.Common.{◌≡◌}
 use Rattle.std.specs.Vec.Iter.{into_iter_items}
 use Rattle.rm_protocol.specs.Said.{with_blocks}
 use Rattle.node_messages.proofs.acks.with_blocks.Given as goal

@@ -1,4 +1,4 @@
-use Rattle.std.proofs.Common.{◌≡◌, ◌∙◌, List, ℕ, Bool, true, cond, ap, sym}
+use Rattle.std.proofs.Common.{◌≡◌, ◌∙◌, Bool, true, cond, ap, sym}
 use Rattle.std.specs.Prelude.{None}
 use Rattle.soap_profile.specs.Tree.{Element}
 use Rattle.soap_profile.specs.View.{element_view}

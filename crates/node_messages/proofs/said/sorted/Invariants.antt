@@ -1,5 +1,3 @@
-use Rattle.std.proofs.Common.{◌≡◌, ◌++◌}
-use Rattle.std.specs.Option.{option_or}
 use Rattle.std.specs.Vec.Iter.{into_iter_items}
 use Rattle.node_messages.proofs.SaidLemmas.{IsSplit}
 use Rattle.node_messages.proofs.said.sorted.Given as goal
