@@ -1,0 +1,59 @@
+-- Makers of two lists of records, and the first of which a test holds.
+use Rattle.std.proofs.Common.{◌≡◌, ℕ, zero, suc, ◌+◌, ◌-◌, ◌<◌, ◌≤◌, ◌==◌, Bool, cond, List, [], ◌∷◌}
+use Rattle.std.proofs.Common.{◌++◌, length, drop, get_or, refl, sym, ap, subst, ◌∙◌, arith, inl, inr, Some, None}
+use Rattle.std.specs.Prelude.{slice_get}
+use Rattle.std.proofs.lemmas.Bool.{cases_eq, ne_eqb}
+use Rattle.std.proofs.lemmas.List.{at_drop_more}
+use Rattle.std.proofs.lemmas.Option.{slice_get-get_or}
+use Rattle.rm_base.specs.Numbered.{numbered}
+use Rattle.record_batch.specs.Fact.{Fact}
+use Rattle.sequence_table.specs.Makers.{Maker, makers, maker}
+use Rattle.sequence_table.specs.Find.{find_from}
+use Rattle.node_tables.specs.Kept.{no_maker}
+use Rattle.node_tables.specs.Reads.{passes}
+use Rattle.tables_ahead.proofs.GatheredLemmas.{makers-both}
+
+get_first : {A : Type 0} (xs ys : List A) (i : ℕ) → i < length xs → slice_get (xs ++ ys) i ≡ slice_get xs i
+get_first [] ys i lt = absurd (omega (arith, lt))
+get_first (x ∷ xs) ys zero lt = refl
+get_first (x ∷ xs) ys (suc i) lt = get_first xs ys i (omega (arith, lt))
+
+pub get_behind : {A : Type 0} (xs ys : List A) (i j : ℕ) → i ≡ length xs + j → slice_get (xs ++ ys) i ≡ slice_get ys j
+get_behind [] ys i j e = let same : i ≡ j = omega (arith, e) in ap (slice_get ys) same
+get_behind (x ∷ xs) ys zero j e = absurd (omega (arith, e))
+get_behind (x ∷ xs) ys (suc i) j e = get_behind xs ys i j (omega (arith, e))
+
+-- the item with a number that isn't 0
+pub numbered-at : {A : Type 0} (xs : List A) (n : ℕ) → 0 < n → numbered xs n ≡ slice_get xs (n - 1)
+numbered-at xs n lt =
+    ap (λ b. cond b None (slice_get xs (n - 1))) (ne_eqb n 0 (λ e. absurd (omega (arith, e, lt))))
+
+-- a sequence that the first records make
+pub maker-known : (r d : List Fact) (s : ℕ) → s ≤ length (makers r) → maker (r ++ d) s ≡ maker r s
+maker-known r d s le = elim (cases_eq s 0) [
+  | inl e ↦ subst (λ n. maker (r ++ d) n ≡ maker r n) (sym e) refl
+  | inr ne ↦
+      ap (λ ms. numbered ms s) (makers-both r d)
+      ∙ ap (λ o. cond (s == 0) None o) (get_first (makers r) (makers d) (s - 1) (omega (arith, ne, le)))
+]
+
+-- a sequence that those behind them make
+pub maker-ahead : (r d : List Fact) (s : ℕ) → length (makers r) < s
+    → maker (r ++ d) s ≡ slice_get (makers d) (s - length (makers r) - 1)
+maker-ahead r d s lt =
+    ap (λ ms. numbered ms s) (makers-both r d) ∙ numbered-at (makers r ++ makers d) s (omega (arith, lt))
+    ∙ get_behind (makers r) (makers d) (s - 1) (s - length (makers r) - 1) (omega (arith, lt))
+
+-- the test of the next sequence decides
+pub found : (f : ℕ → Maker → Bool) (ms : List Maker) (i : ℕ) → i < length ms
+    → find_from f i (drop i ms)
+    ≡ cond (passes f (i + 1) (numbered ms (i + 1))) (Some (i + 1)) (find_from f (i + 1) (drop (i + 1) ms))
+found f ms i lt =
+    let m = get_or ms i no_maker in
+    let one : suc i ≡ i + 1 = omega arith in
+    let at : i + 1 - 1 ≡ i = omega arith in
+    let here : numbered ms (i + 1) ≡ Some m =
+    numbered-at ms (i + 1) (omega arith) ∙ ap (slice_get ms) at ∙ slice_get-get_or ms i no_maker lt in
+    at_drop_more (find_from f i) ms i no_maker lt
+    ∙ ap (λ n. cond (f n m) (Some n) (find_from f n (drop (i + 1) ms))) one
+    ∙ ap (λ o. cond (passes f (i + 1) o) (Some (i + 1)) (find_from f (i + 1) (drop (i + 1) ms))) (sym here)

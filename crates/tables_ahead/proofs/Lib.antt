@@ -1,0 +1,6 @@
+pub mod GatheredLemmas
+pub mod FoundLemmas
+pub mod PhaseLemmas
+pub mod FrontLemmas
+pub mod SideLemmas
+pub mod LoopLemmas

@@ -1,0 +1,10 @@
+use Rattle.std.proofs.Common.{◌≡◌, drop, map}
+use Rattle.record_batch.specs.Fact.{fact_of}
+use Rattle.sequence_table.specs.Sources.{marks}
+use Rattle.sequence_table.specs.Words.{last_or}
+use Rattle.tables_ahead.proofs.batch.phase_in.Given as goal
+
+abbrev pub invariant-loop-given : goal.invariant-loop-given
+invariant-loop-given l =
+    last_or l.last (marks (map fact_of (drop l.given-index l.batch)) l.seq)
+    ≡ last_or l.fn.phase (marks (map fact_of l.batch) l.seq)

@@ -1,0 +1,10 @@
+use Rattle.std.proofs.Common.{◌≡◌, drop, map}
+use Rattle.ack_ranges.specs.Changes.{united}
+use Rattle.record_batch.specs.Fact.{fact_of}
+use Rattle.sequence_table.specs.Sources.{acked}
+use Rattle.tables_ahead.proofs.numbers.unite_acked.Given as goal
+
+abbrev pub invariant-loop-given : goal.invariant-loop-given
+invariant-loop-given l =
+    united l.numbers.ranges (acked (map fact_of (drop l.given-index l.batch)) l.seq)
+    ≡ united l.fn.numbers.ranges (acked (map fact_of l.batch) l.seq)

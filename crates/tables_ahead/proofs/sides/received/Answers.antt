@@ -1,0 +1,10 @@
+use Rattle.std.proofs.Common.{[], sym, ap, ◌∙◌}
+use Rattle.rm_destination.specs.Messages.{ranges_onto}
+use Rattle.sequence_table.specs.Words.{numbers_of}
+use Rattle.tables_ahead.proofs.SideLemmas.{not-receiving}
+use Rattle.tables_ahead.proofs.sides.received.Goals as goal
+
+pub returns-in-None : goal.returns-in-None
+returns-in-None c =
+    let none = (not-receiving c.args.tables.now.records c.args.seq c.requires (sym c.in-None.ensures)).received_ in
+    c.new.ensures ∙ sym (ap (λ ms. ranges_onto [] (numbers_of ms)) none)

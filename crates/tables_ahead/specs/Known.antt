@@ -1,0 +1,48 @@
+-- The records of a node with others ahead of them, which are not written yet.
+use Rattle.std.specs.Prelude.{◌≡◌, ℕ, ◌≤◌, Bool, true, false, List, [], ◌∷◌, ◌++◌, length, Option, Some, None}
+use Rattle.std.specs.List.{flat_map}
+use Rattle.ack_ranges.specs.declared.range.Range.{Range}
+use Rattle.ack_ranges.specs.Ranges.{Contents}
+use Rattle.record_batch.specs.Fact.{Fact, Made, Creating, Granted}
+use Rattle.rm_source.specs.declared.phase.OutPhase.{OutPhase}
+use Rattle.rm_source.specs.declared.phase.OutPhase.TheVariants as out
+use Rattle.sequence_table.specs.Words.{Text}
+use Rattle.sequence_table.specs.Makers.{makers, nodes_of, addresses_of}
+use Rattle.sequence_table.specs.Fits.{all_fit, has_places}
+
+-- the records of the tables, and those ahead of them, oldest first
+pub record Known : Type 0 where
+  pub records : List Fact
+  pub delta : List Fact
+
+-- the record may go ahead of r: it isn't that of the node itself, and a place is left for each sequence that it makes
+abbrev pub may_go_ahead : List Fact → Fact → Bool
+may_go_ahead r (Made node address) = false
+may_go_ahead r (Creating ticket to via lapse offer) = has_places r (Creating ticket to via lapse offer)
+may_go_ahead r (Granted drawn message_id acks_to behaviour deadline lapse offer) =
+    has_places r (Granted drawn message_id acks_to behaviour deadline lapse offer)
+may_go_ahead r _ = true
+
+-- the records of the tables fit one after the other, the node itself is none of those ahead, and all sequences are
+-- counted
+pub record IsAhead (r d : List Fact) (len : ℕ) : Type 0 where
+  pub fit : all_fit [] r ≡ true
+  pub nodes : flat_map nodes_of d ≡ []
+  pub addresses : flat_map addresses_of d ≡ []
+  pub counted : len ≡ length (makers (r ++ d))
+  pub few : length (makers (r ++ d)) ≤ 4294967295
+
+-- the ranges of a set that is there, or isn't
+abbrev pub ranges_in : Option Contents → List Range
+ranges_in None = []
+ranges_in (Some set) = set.ranges
+
+-- each of them is a message number: section 3.7 of WS-ReliableMessaging 1.2
+abbrev pub AreNumbers : List ℕ → Type 0
+AreNumbers [] = Unit {0}
+AreNumbers (n ∷ ns) = ((1 ≤ n) × (n ≤ 9223372036854775807)) × AreNumbers ns
+
+-- a phase, where an identifier may come: a sequence in phase Creating is open then
+abbrev pub opened : OutPhase → Option Text → OutPhase
+opened out.Creating (Some q) = out.Open
+opened phase ident = phase
