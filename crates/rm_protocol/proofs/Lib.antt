@@ -16,3 +16,4 @@ mod NewLemmas
 mod SentLemmas
 mod TakenLemmas
 mod LineLemmas
+mod FinalLemmas

@@ -1,20 +1,23 @@
 -- A message that is new is recorded by the call that brings it, and released where it closes the gap:
 -- WS-ReliableMessaging 1.2, section 2.4.
-use Rattle.std.specs.Prelude.{◌≡◌, ℕ, ◌+◌, ◌≤◌, ◌<◌, false, List, [], ◌∷◌, ◌++◌, Some}
+use Rattle.std.specs.Prelude.{◌≡◌, ℕ, ◌+◌, ◌≤◌, ◌<◌, true, false, List, [], ◌∷◌, ◌++◌, Some}
 use Rattle.std.specs.List.{AllByRecursion}
 use Rattle.rm_base.specs.Numbered.{numbered}
 use Rattle.rm_base.specs.NumberSet.{has_number}
 use Rattle.rm_base.specs.declared.message.Behaviour.{Behaviour}
 use Rattle.rm_base.specs.declared.message.Behaviour.TheVariants.{FollowingFirstGap}
 use Rattle.rm_base.specs.declared.message.Payload.{Payload}
+use Rattle.rm_elements.specs.declared.header.AckBlock.{AckBlock}
+use Rattle.rm_source.specs.declared.phase.OutPhase.TheVariants as out
 use Rattle.rm_message.specs.declared.message.Body.TheVariants as body
 use Rattle.rm_message.specs.declared.message.Message.{Message}
 use Rattle.record_batch.specs.Fact.{Fact, Received}
 use Rattle.sequence_table.specs.Words.{Text}
 use Rattle.sequence_table.specs.Destinations.{behaviour, front, held, inbox, is_over, received}
-use Rattle.sequence_table.specs.Find.{find_incoming}
+use Rattle.sequence_table.specs.Sources.{is_sending, phase}
+use Rattle.sequence_table.specs.Find.{find_incoming, find_outgoing}
 use Rattle.rm_protocol.specs.Heard.{Heard}
-use Rattle.rm_protocol.specs.Rows.{rows}
+use Rattle.rm_protocol.specs.Rows.{final_row, rows}
 use Rattle.rm_protocol.specs.Terms.{Terms}
 
 -- the message has payload p as message i of incoming sequence s, new, at most 1024 past the front, and for an open
@@ -52,3 +55,9 @@ abbrev pub OnlyHeardIsRecorded : Type 0
 OnlyHeardIsRecorded =
     (terms : Terms) (r : List Fact) (now : ℕ) (y : Behaviour) (m : Message)
     → AllByRecursion (Heard m) (rows terms now y m r)
+
+-- an acknowledgement with Final closes its source, where that is open or closing: section 3.9
+abbrev pub FinalCloses : Type 0
+FinalCloses =
+    (r : List Fact) (block : AckBlock) (s : ℕ) → find_outgoing r block.ident ≡ Some s → block.last ≡ true
+    → is_sending (phase r s) ≡ true → phase (r ++ final_row block r) s ≡ out.Closed

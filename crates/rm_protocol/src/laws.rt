@@ -9,7 +9,7 @@ ghost use Rattle.rm_protocol.specs.Examples.{with_a_close, with_an_end, with_an_
 ghost use Rattle.rm_protocol.specs.Examples.{played, with_a_crash, with_a_gap, with_an_offer};
 ghost use Rattle.rm_protocol.specs.Next.{EachMayComeNext};
 ghost use Rattle.rm_protocol.specs.Node.{records};
-ghost use Rattle.rm_protocol.specs.Recorded.{GapIsClosed, NewIsRecorded, OnlyHeardIsRecorded};
+ghost use Rattle.rm_protocol.specs.Recorded.{FinalCloses, GapIsClosed, NewIsRecorded, OnlyHeardIsRecorded};
 ghost use Rattle.rm_protocol.specs.Sent.{AcceptedIsSent, line_of, lines, outcome_of};
 ghost use Rattle.rm_protocol.specs.Sound.{IsSound};
 ghost use Rattle.rm_protocol.specs.Terms.{AreTerms, Terms};
@@ -58,6 +58,11 @@ pub fn a_delivered_message_is_taken()
 /// A message brings no other records than those of the receiving table: Received is its data, and nothing is accepted.
 pub fn only_what_was_heard_is_recorded()
     ensures { OnlyHeardIsRecorded }
+{}
+
+/// An acknowledgement with Final closes its source.
+pub fn a_final_acknowledgement_closes()
+    ensures { FinalCloses }
 {}
 
 /// Each record that a call adds may come next, where those before the call could.
