@@ -1,0 +1,38 @@
+-- What a call does to a disk and to what is kept of a node.
+use Rattle.std.specs.Prelude.{◌≡◌, ◌⊎◌, ℕ, Bool, true, false, List, [], ◌∷◌, Option, None}
+use Rattle.rm_disk.specs.Call.{Call, crashes_of}
+use Rattle.rm_disk.specs.Fuse.{Burns}
+use Rattle.rm_disk.specs.Image.{OnlyLeaves}
+use Rattle.record_batch.specs.Fact.{Fact}
+use Rattle.node_store.specs.Has.{Holds, IsLeftBy}
+use Rattle.node_store.specs.Stored.{Stored, with_batch}
+
+-- what a disk tells: its calls, newest first, and how many device calls are left up to the first that fails
+pub record Told : Type 0 where
+  pub past : List Call
+  pub fuse : Option ℕ
+
+-- of these
+abbrev pub told : List Call → Option ℕ → Told
+told past fuse = record { past = past; fuse = fuse }
+
+-- a call that adds records makes four device calls, any other none
+abbrev pub BurnsFor : List Fact → Option ℕ → Option ℕ → Bool → Type 0
+BurnsFor [] old new well = (new ≡ old) × (well ≡ true)
+BurnsFor (f ∷ delta) old new well = Burns 4 old new well
+
+-- A call that adds these records in one batch. Where all went well they are there for good, and a crash at any moment
+-- of the call leaves the batches as they were or with this one. Where it was refused, nothing happened on the disk.
+pub record Changes (first now : Told) (old new : Stored) (delta : List Fact) (ok failed : Bool) : Type 0 where
+  pub holds : (batches : List (List Fact)) → Holds batches first.past old → ok ≡ true
+      → Holds (with_batch batches delta) now.past new
+  pub moments : (batches : List (List Fact)) → Holds batches first.past old
+      → OnlyLeaves first.past now.past (IsLeftBy batches delta)
+  pub untouched : ok ≡ false → failed ≡ false → now ≡ first
+  pub fuse : (ok ≡ true) ⊎ (failed ≡ true) → BurnsFor delta first.fuse now.fuse ok
+  pub crashes : crashes_of now.past ≡ crashes_of first.past
+
+-- where no call on the disk is to fail, none does: neither then nor later
+pub record KeepsUnarmed (old new : Option ℕ) (failed : Bool) : Type 0 where
+  pub keeps : old ≡ None → new ≡ None
+  pub well : old ≡ None → failed ≡ false

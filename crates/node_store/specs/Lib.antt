@@ -1,0 +1,4 @@
+pub mod Changes
+pub mod Has
+pub mod Failed
+pub mod Stored

@@ -1,0 +1,40 @@
+//! Why a node's records were not written.
+ghost use Rattle.std.specs.Prelude.{◌≡◌};
+ghost use Rattle.node_store.specs.declared.error.StoreError.TheVariants.{Memory as WantsMemory};
+
+use rm_base::Memory;
+use std::alloc::{AllocError, AllocFailed};
+use thiserror::Error;
+
+/// Why a node's records were not written.
+#[derive(Clone, Copy, Debug, PartialEq, Eq, Error)]
+pub enum StoreError {
+    #[error("out of memory")]
+    Memory,
+    #[error("the disk failed")]
+    Disk,
+}
+
+impl From<Memory> for StoreError {
+    ghost from_gives = { λ _ e. e ≡ WantsMemory };
+
+    fn from(_memory: Memory) -> StoreError {
+        StoreError::Memory
+    }
+}
+
+impl From<AllocError> for StoreError {
+    ghost from_gives = { λ _ e. e ≡ WantsMemory };
+
+    fn from(_error: AllocError) -> StoreError {
+        StoreError::Memory
+    }
+}
+
+impl<T: Drop> From<AllocFailed<T>> for StoreError {
+    ghost from_gives = { λ _ e. e ≡ WantsMemory };
+
+    fn from(_failed: AllocFailed<T>) -> StoreError {
+        StoreError::Memory
+    }
+}

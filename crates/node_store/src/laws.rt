@@ -1,0 +1,47 @@
+//! What follows of the batches that a disk and a node have.
+ghost use Rattle.std.specs.Prelude.{◌≡◌, ℕ, List, ◌++◌};
+ghost use Rattle.std.specs.List.{AllByRecursion};
+ghost use Rattle.batch_size.specs.Room.{HasRoom};
+ghost use Rattle.batch_size.specs.Typed.{IsTyped};
+ghost use Rattle.record_batch.specs.Fact.{Fact};
+ghost use Rattle.record_batch.specs.Writable.{IsBatch};
+ghost use Rattle.rm_disk.specs.Call.{Call};
+ghost use Rattle.rm_journal.specs.JournalState.{end_of};
+ghost use Rattle.rm_protocol.specs.Node.{end_of as end_of_batches, records_in};
+ghost use Rattle.rm_protocol.specs.Terms.{Terms};
+ghost use Rattle.node_rules.specs.OwnTerms.{AreOwn};
+ghost use Rattle.node_rules.specs.Records.{AreValues, IsKept};
+ghost use Rattle.node_store.specs.Has.{AreOfNode, Has, Holds, StandsForBatches};
+ghost use Rattle.node_store.specs.Stored.{Stored, with_batch};
+
+use batch_size::laws::a_batch_that_fits_is_read_back;
+use record_batch::laws::what_is_written_is_read;
+
+/// Bytes stand for one list of batches, where each is read back from its text.
+pub fn bytes_stand_for_one_list_of_batches()
+    ensures { (a b : List (List Fact)) (bytes : List ℕ) → AllByRecursion IsBatch a → AllByRecursion IsBatch b
+        → StandsForBatches a bytes → StandsForBatches b bytes → a ≡ b }
+{
+    what_is_written_is_read();
+}
+
+/// The next batch begins where the protocol says, whose terms are the node's own.
+pub fn a_journal_ends_with_its_batches()
+    ensures { (terms : Terms) → AreOwn terms → (batches : List (List Fact)) (past : List Call) (stored : Stored)
+        → Holds batches past stored → end_of_batches terms batches ≡ end_of stored.journal }
+{}
+
+/// The records of batches that are read back have values of their types.
+pub fn batches_have_values()
+    ensures { (batches : List (List Fact)) → AllByRecursion IsBatch batches → AreValues (records_in batches) }
+{}
+
+/// The batches of a node, with one more that fits, whose values are as their types keep them, and whose records leave
+/// it a node, are a node's.
+pub fn a_node_has_one_batch_more()
+    ensures { (batches : List (List Fact)) (past : List Call) (old : Stored) (delta : List Fact)
+        → Has batches past old → HasRoom (end_of old.journal) delta → AllByRecursion IsTyped delta
+        → IsKept (old.records ++ delta) → AreOfNode (with_batch batches delta) }
+{
+    a_batch_that_fits_is_read_back();
+}

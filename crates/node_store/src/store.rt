@@ -1,0 +1,140 @@
+//! The journal of a node and the tables of its records.
+ghost use Rattle.std.specs.Prelude.{◌≡◌, ◌⊎◌, ◌<◌, ◌^◌, [], ◌∷◌, List, true, false, Err, length, map, IsTrue};
+ghost use Rattle.std.specs.Prelude.{is_ok, IfOk, IfErr};
+ghost use Rattle.batch_size.specs.Room.{HasRoom};
+ghost use Rattle.record_batch.specs.Fact.{Fact, Made, fact_of};
+ghost use Rattle.rm_disk.specs.Call.{crashes_of};
+ghost use Rattle.rm_disk.specs.Cause.{HasCause};
+ghost use Rattle.rm_journal.specs.JournalState.{end_of};
+ghost use Rattle.sequence_table.specs.Fits.{all_fit};
+ghost use Rattle.node_store.specs.Changes.{Changes, KeepsUnarmed, told};
+ghost use Rattle.node_store.specs.Has.{Has, Holds};
+ghost use Rattle.node_store.specs.Failed.{is_disk};
+ghost use Rattle.node_store.specs.Stored.{IsServing, first_stored, stored_after};
+ghost use Rattle.node_store.specs.declared.error.StoreError.TheVariants.{Memory as WantsMemory, Disk as DiskFails};
+
+use crate::commit::{commit, first_batch};
+use crate::error::StoreError;
+use crate::format::format;
+use batch_size::laws::a_batch_is_its_parts;
+use node_rules::laws::a_made_node_has_its_records;
+use node_tables::Tables;
+use record_batch::Record;
+use record_batch::laws::what_is_written_is_read;
+use rm_base::Uri;
+use rm_disk::Disk;
+use rm_journal::Journal;
+use sequence_table::laws::a_byte_for_each_number;
+use std::alloc::Global;
+use std::marker::Model;
+
+/// The journal of a node on a disk, and the tables of its records.
+#[derive(Debug, Drop)]
+pub struct Store {
+    alloc: Global,
+    journal: Journal,
+    tables: Tables,
+}
+
+impl Model for Store {
+    ghost use Rattle.std.specs.Coded.{codes};
+    ghost use Rattle.soap_profile.specs.TreeCode.{tree_code};
+    ghost use Rattle.node_store.specs.Stored.{Stored};
+
+    ghost Value = { Stored };
+
+    ghost coded = { Prim.hlevel (codes, tree_code) };
+
+    ghost view = { λ s. record { journal = s.journal; records = s.tables.records } };
+
+    ghost use Rattle.node_store.specs.Stored.{IsServing};
+
+    ghost invariant = { λ s. IsServing s.journal s.tables.records };
+}
+
+impl Store {
+    /// The tables of all records.
+    pub fn tables(&self) -> &Tables
+        ensures { result.now.records ≡ self.now.records }
+    {
+        &self.tables
+    }
+
+    /// How many batches the journal has.
+    pub fn entries(&self) -> u64
+        ensures { result ≡ length self.now.journal.gates }
+    {
+        self.journal.count()
+    }
+
+    /// Where the next batch begins.
+    pub fn end(&self) -> u64
+        ensures end { result ≡ end_of self.now.journal }
+        ensures serving { IsServing self.now.journal self.now.records }
+    {
+        let _tables = &self.tables;
+        self.journal.end()
+    }
+
+    /// Whether the disk has failed.
+    pub fn is_down(&self) -> bool
+        ensures { result ≡ self.now.journal.is_down }
+    {
+        self.journal.is_down()
+    }
+}
+
+impl Store {
+    /// Makes a disk that of a node with this number and address. What it held is lost, and after a refusal it holds
+    /// anything.
+    pub fn make<D: Disk>(
+        alloc: Global,
+        disk: &mut D,
+        number: u64,
+        address: Uri,
+    ) -> Result<Store, StoreError>
+        requires from_one { 0 < number }
+        requires within { number < 2 ^ 60 }
+        ensures made { IfOk result (λ store. store ≡ first_stored number address) }
+        ensures has { IsTrue D.tells →
+            IfOk result (Has ((Made number address ∷ []) ∷ []) (D.past disk.new)) }
+        ensures unarmed { IsTrue D.tells → KeepsUnarmed (D.fuse disk.old) (D.fuse disk.new) (is_disk result) }
+        ensures refusals { IfErr result (λ error. (error ≡ WantsMemory) ⊎ (error ≡ DiskFails)) }
+        ensures cause { HasCause (D.faults disk.old) (D.faults disk.new) (is_disk result) }
+        ensures crashes { IsTrue D.tells → crashes_of (D.past disk.new) ≡ crashes_of (D.past disk.old) }
+    {
+        a_made_node_has_its_records();
+        a_batch_is_its_parts();
+        what_is_written_is_read();
+        let batch = first_batch(alloc, number, address)?;
+        let mut journal = format(alloc, disk)?;
+        let mut tables = Tables::new(alloc);
+        commit(alloc, &mut journal, &mut tables, disk, batch)?;
+        Ok(Store {
+            alloc,
+            journal,
+            tables,
+        })
+    }
+
+    /// Adds records in one batch, to the journal and then to the tables. All memory is taken before the first device
+    /// call.
+    pub fn append<D: Disk>(&mut self, disk: &mut D, batch: Vec<Record>) -> Result<(), StoreError>
+        requires up { self.old.journal.is_down ≡ false }
+        requires holds { IsTrue D.tells → (batches : List (List Fact)) × Holds batches (D.past disk.old) self.old }
+        requires fit { all_fit self.old.records (map fact_of batch.items) ≡ true }
+        requires room { HasRoom (end_of self.old.journal) (map fact_of batch.items) }
+        ensures stored { self.new ≡ stored_after self.old (map fact_of batch.items) (is_ok result) (is_disk result) }
+        ensures changes { IsTrue D.tells → Changes (told (D.past disk.old) (D.fuse disk.old))
+            (told (D.past disk.new) (D.fuse disk.new)) self.old self.new (map fact_of batch.items) (is_ok result)
+            (is_disk result) }
+        ensures refusals { IfErr result (λ error. (error ≡ WantsMemory) ⊎ (error ≡ DiskFails)) }
+        ensures cause { HasCause (D.faults disk.old) (D.faults disk.new) (is_disk result) }
+    {
+        a_byte_for_each_number();
+        if batch.is_empty() {
+            return Ok(());
+        }
+        commit(self.alloc, &mut self.journal, &mut self.tables, disk, batch)
+    }
+}
