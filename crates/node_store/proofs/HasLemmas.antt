@@ -25,7 +25,7 @@ use Rattle.node_store.specs.Stored.{Stored, with_batch}
 abbrev pub ReadsBack : Type 0
 ReadsBack = (facts : List Fact) → IsBatch facts → batch_at (batch_text facts) ≡ Some facts
 
-some_is : (x y : List Fact) → Some x ≡ Some y → x ≡ y
+pub some_is : (x y : List Fact) → Some x ≡ Some y → x ≡ y
 some_is x y e = cc
 
 -- batches of the same texts are the same

@@ -1,4 +1,6 @@
 pub mod Changes
+pub mod Endpoints
 pub mod Has
 pub mod Failed
+pub mod Mounted
 pub mod Stored

@@ -1,6 +1,7 @@
-//! Why a node's records were not written.
+//! Why a node's records were not written, or not found.
 ghost use Rattle.std.specs.Prelude.{◌≡◌};
 ghost use Rattle.node_store.specs.declared.error.StoreError.TheVariants.{Memory as WantsMemory};
+ghost use Rattle.node_store.specs.declared.error.MountError.TheVariants.{Memory as NoMemory};
 
 use rm_base::Memory;
 use std::alloc::{AllocError, AllocFailed};
@@ -36,5 +37,24 @@ impl<T: Drop> From<AllocFailed<T>> for StoreError {
 
     fn from(_failed: AllocFailed<T>) -> StoreError {
         StoreError::Memory
+    }
+}
+
+/// Why no node was found on a disk.
+#[derive(Clone, Copy, Debug, PartialEq, Eq, Error)]
+pub enum MountError {
+    #[error("out of memory")]
+    Memory,
+    #[error("the disk failed")]
+    Disk,
+    #[error("the disk holds no journal of a node")]
+    NotAJournal,
+}
+
+impl From<Memory> for MountError {
+    ghost from_gives = { λ _ e. e ≡ NoMemory };
+
+    fn from(_memory: Memory) -> MountError {
+        MountError::Memory
     }
 }

@@ -4,10 +4,15 @@
 #![tactic(auto)]
 
 mod commit;
+mod endpoints;
 pub mod error;
 mod format;
 pub mod laws;
+mod limits;
+mod mount;
+mod replay;
 pub mod store;
+mod windows;
 
-pub use error::StoreError;
+pub use error::{MountError, StoreError};
 pub use store::Store;

@@ -3,19 +3,24 @@ ghost use Rattle.std.specs.Prelude.{◌≡◌, ◌⊎◌, ◌<◌, ◌^◌, [], 
 ghost use Rattle.std.specs.Prelude.{is_ok, IfOk, IfErr};
 ghost use Rattle.batch_size.specs.Room.{HasRoom};
 ghost use Rattle.record_batch.specs.Fact.{Fact, Made, fact_of};
-ghost use Rattle.rm_disk.specs.Call.{crashes_of};
+ghost use Rattle.rm_disk.specs.Call.{crashes_of, seen_of};
 ghost use Rattle.rm_disk.specs.Cause.{HasCause};
+ghost use Rattle.rm_disk.specs.Image.{MayLeave, OnlyLeaves};
 ghost use Rattle.rm_journal.specs.JournalState.{end_of};
 ghost use Rattle.sequence_table.specs.Fits.{all_fit};
 ghost use Rattle.node_store.specs.Changes.{Changes, KeepsUnarmed, told};
 ghost use Rattle.node_store.specs.Has.{Has, Holds};
 ghost use Rattle.node_store.specs.Failed.{is_disk};
+ghost use Rattle.node_store.specs.Mounted.{Finds, has_failed, IsNoNode};
 ghost use Rattle.node_store.specs.Stored.{IsServing, first_stored, stored_after};
 ghost use Rattle.node_store.specs.declared.error.StoreError.TheVariants.{Memory as WantsMemory, Disk as DiskFails};
+ghost use Rattle.node_store.specs.declared.error.MountError.TheVariants.{Memory as NoMemory, Disk as DiskBroke};
+ghost use Rattle.node_store.specs.declared.error.MountError.TheVariants.{NotAJournal as IsNoJournal};
 
 use crate::commit::{commit, first_batch};
-use crate::error::StoreError;
+use crate::error::{MountError, StoreError};
 use crate::format::format;
+use crate::mount::find;
 use batch_size::laws::a_batch_is_its_parts;
 use node_rules::laws::a_made_node_has_its_records;
 use node_tables::Tables;
@@ -110,6 +115,32 @@ impl Store {
         let mut journal = format(alloc, disk)?;
         let mut tables = Tables::new(alloc);
         commit(alloc, &mut journal, &mut tables, disk, batch)?;
+        Ok(Store {
+            alloc,
+            journal,
+            tables,
+        })
+    }
+
+    /// Finds the node that a disk holds. It answers NotAJournal exactly where the disk, as it reads, holds no batches
+    /// of a node. It writes nothing, and takes memory for the journal once and then for the tables and one entry.
+    pub fn mount<D: Disk>(alloc: Global, disk: &mut D) -> Result<Store, MountError>
+        ensures found { IsTrue D.tells → IfOk result (Finds (D.past disk.old) (D.past disk.new)) }
+        ensures none { IsTrue D.tells → result ≡ Err IsNoJournal → IsNoNode (seen_of (D.past disk.old)) }
+        ensures up { IfOk result (λ store. store.journal.is_down ≡ false) }
+        ensures refusals { IfErr result (λ error.
+            (error ≡ NoMemory) ⊎ (error ≡ DiskBroke) ⊎ (error ≡ IsNoJournal)) }
+
+        // What is read stays, and a crash at any moment of the call leaves no more than one before it.
+        ensures seen { IsTrue D.tells → seen_of (D.past disk.new) ≡ seen_of (D.past disk.old) }
+        ensures moments { IsTrue D.tells →
+            OnlyLeaves (D.past disk.old) (D.past disk.new) (MayLeave (D.past disk.old)) }
+
+        ensures unarmed { IsTrue D.tells → KeepsUnarmed (D.fuse disk.old) (D.fuse disk.new) (has_failed result) }
+        ensures cause { HasCause (D.faults disk.old) (D.faults disk.new) (has_failed result) }
+        ensures crashes { IsTrue D.tells → crashes_of (D.past disk.new) ≡ crashes_of (D.past disk.old) }
+    {
+        let (journal, tables) = find(alloc, disk)?;
         Ok(Store {
             alloc,
             journal,

@@ -254,14 +254,10 @@ impl Tables {
     }
 
     /// The outgoing sequence with an identifier.
-    pub fn find_outgoing(&self, ident: &Ident) -> Option<u32>
+    pub fn find_outgoing(&self, ident: &[u8]) -> Option<u32>
         ensures { result ≡ find_outgoing self.now.records ident.now }
     {
-        find_named(
-            self.kept.as_slice(),
-            self.named.as_slice(),
-            ident.as_slice(),
-        )
+        find_named(self.kept.as_slice(), self.named.as_slice(), ident)
     }
 
     /// The sequence that was granted for a CreateSequence with this MessageID.

@@ -72,7 +72,7 @@ fn sequences_are_found_by_what_the_node_issued(rt: HostRuntime) -> Result<(), Fa
         accept: Some(endpoint(alloc, "urn:acks")?),
     })?;
     assert_eq!(rt; tables.find_creating(&issued(alloc, 1)?), None);
-    assert_eq!(rt; tables.find_outgoing(&ident(alloc, "urn:s")?), Some(1));
+    assert_eq!(rt; tables.find_outgoing(b"urn:s"), Some(1));
     let given = tables.ident(1).ok_or("an identifier")?;
     assert_eq!(rt; given.as_slice(), b"urn:s".as_slice());
     let acks_to = tables.accepted_by(1).ok_or("an endpoint")?;

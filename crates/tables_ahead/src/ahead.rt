@@ -1,5 +1,5 @@
 //! The tables of a node with records ahead, which are not written yet.
-ghost use Rattle.std.specs.Prelude.{◌≡◌, ◌^◌, ◌<◌, ◌++◌, ◌∷◌, [], true, length, map, min, IfOk, OnOk, OnErr};
+ghost use Rattle.std.specs.Prelude.{◌≡◌, ◌+◌, ◌^◌, ◌<◌, ◌++◌, ◌∷◌, [], true, length, map, min, IfOk, OnOk, OnErr};
 ghost use Rattle.std.specs.Option.{option_copied, option_map};
 ghost use Rattle.ack_ranges.specs.Changes.{covers_all, united};
 ghost use Rattle.rm_base.specs.NumberSet.{has_number};
@@ -147,13 +147,23 @@ impl<'a> Ahead<'a> {
         maker_in(self.batch.as_slice(), (seq - known - 1) as usize)
     }
 
+    /// How the sequence behind the one with a number came to be.
+    pub fn maker_behind(&self, seq: u32) -> Option<Maker<'_>>
+        ensures { option_map maker_seen result ≡ maker (self.now.records ++ self.now.delta) (seq + 1) }
+    {
+        if seq >= self.len() {
+            return None;
+        }
+        self.maker(seq + 1)
+    }
+
     /// The outgoing sequence with an identifier.
-    pub fn find_outgoing(&self, ident: &Ident) -> Option<u32>
+    pub fn find_outgoing(&self, ident: &[u8]) -> Option<u32>
         ensures { result ≡ find_outgoing (self.now.records ++ self.now.delta) ident.now }
     {
         match self.tables.find_outgoing(ident) {
             Some(seq) => Some(seq),
-            None => find_named(self.batch.as_slice(), self.tables.len(), ident.as_slice()),
+            None => find_named(self.batch.as_slice(), self.tables.len(), ident),
         }
     }
 

@@ -22,9 +22,7 @@ returns-in-None c =
     let d = map fact_of c.self.inside.batch.items in
     let q = c.args.ident.now in
     c.find_named.ensures
-    ∙ ap (λ (xs : List Record). seq_in (created_from c.len.result (map fact_of xs)) c.as_slice-in-None.result.now)
-    c.as_slice.ensures.value
-    ∙ ap (λ n. seq_in (created_from n d) c.as_slice-in-None.result.now) c.len.ensures.count
-    ∙ ap (λ t. seq_in (created_from (length (makers r)) d) t) c.as_slice-in-None.ensures.bytes
+    ∙ ap (λ (xs : List Record). seq_in (created_from c.len.result (map fact_of xs)) q) c.as_slice.ensures.value
+    ∙ ap (λ n. seq_in (created_from n d) q) c.len.ensures.count
     ∙ ap (λ o. option_or o (seq_in (created_from (length (makers r)) d) q)) c.in-None.ensures
     ∙ sym (outgoing-both r d q) ∙ ap (λ (k : Known). find_outgoing (k.records ++ k.delta) q) c.self.view_is

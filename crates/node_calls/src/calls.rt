@@ -1,0 +1,102 @@
+//! The calls of a node that no message brings.
+ghost use Rattle.std.specs.Prelude.{◌≡◌, map, IfOk};
+ghost use Rattle.record_batch.specs.Fact.{fact_of};
+ghost use Rattle.rm_protocol.specs.Calls.{
+  close as close_of,
+  create as create_of,
+  end as end_of,
+  send as send_of,
+  tick as tick_of,
+};
+ghost use Rattle.rm_protocol.specs.Terms.{Terms};
+ghost use Rattle.node_rules.specs.OwnTerms.{AreOwn};
+ghost use Rattle.call_answers.specs.Answers.{MayBeStored, seen, wish_seen};
+ghost use Rattle.call_answers.specs.Serving.{Serves};
+ghost use Rattle.node_calls.specs.Records.{CallsFit, IsServing};
+
+use crate::{ends, requests, sends, ticks};
+use call_answers::{Answer, Wish};
+use node_rules::laws::{own_terms_are_terms, there_are_own_terms};
+use node_tables::Tables;
+use rm_base::{Blob, Memory};
+use rm_protocol::laws::each_record_may_come_next;
+use std::alloc::Global;
+
+// What the records of the tables give to a call, and that those that it adds may come next.
+fn serving(tables: &Tables, place: u64)
+    requires { Serves tables.now.records place }
+    ensures records { IsServing tables.now.records }
+    ensures next { CallsFit tables.now.records place }
+{
+    each_record_may_come_next();
+    there_are_own_terms();
+    own_terms_are_terms();
+    let _count = tables.len();
+}
+
+/// Asks for a sequence.
+pub fn create(alloc: Global, tables: &Tables, place: u64, wish: Wish) -> Result<Answer, Memory>
+    requires { Serves tables.now.records place }
+    ensures is { (terms : Terms) → AreOwn terms
+        → IfOk result (λ a. seen a ≡ create_of terms tables.now.records place (wish_seen wish)) }
+    ensures stored { IfOk result (λ a. MayBeStored tables.now.records place (map fact_of a.batch.items)) }
+{
+    serving(tables, place);
+    requests::ask(alloc, tables, place, wish)
+}
+
+/// Accepts a payload for an outgoing sequence.
+pub fn send(
+    alloc: Global,
+    tables: &Tables,
+    place: u64,
+    seq: u32,
+    payload: Blob,
+) -> Result<Answer, Memory>
+    requires { Serves tables.now.records place }
+    ensures is { (terms : Terms) → AreOwn terms
+        → IfOk result (λ a. seen a ≡ send_of terms tables.now.records place seq payload) }
+    ensures stored { IfOk result (λ a. MayBeStored tables.now.records place (map fact_of a.batch.items)) }
+{
+    serving(tables, place);
+    sends::accept(alloc, tables, place, seq, payload)
+}
+
+/// Closes a sequence.
+pub fn close(
+    alloc: Global,
+    tables: &Tables,
+    place: u64,
+    seq: u32,
+    now: u64,
+) -> Result<Answer, Memory>
+    requires { Serves tables.now.records place }
+    ensures is { (terms : Terms) → AreOwn terms
+        → IfOk result (λ a. seen a ≡ close_of terms tables.now.records place seq now) }
+    ensures stored { IfOk result (λ a. MayBeStored tables.now.records place (map fact_of a.batch.items)) }
+{
+    serving(tables, place);
+    ends::close(alloc, tables, place, seq, now)
+}
+
+/// Ends an outgoing sequence.
+pub fn end(alloc: Global, tables: &Tables, place: u64, seq: u32) -> Result<Answer, Memory>
+    requires { Serves tables.now.records place }
+    ensures is { (terms : Terms) → AreOwn terms
+        → IfOk result (λ a. seen a ≡ end_of terms tables.now.records place seq) }
+    ensures stored { IfOk result (λ a. MayBeStored tables.now.records place (map fact_of a.batch.items)) }
+{
+    serving(tables, place);
+    ends::end(alloc, tables, place, seq)
+}
+
+/// Ends the incoming sequences whose time has run out.
+pub fn tick(alloc: Global, tables: &Tables, place: u64, now: u64) -> Result<Answer, Memory>
+    requires { Serves tables.now.records place }
+    ensures is { (terms : Terms) → AreOwn terms
+        → IfOk result (λ a. seen a ≡ tick_of terms tables.now.records place now) }
+    ensures stored { IfOk result (λ a. MayBeStored tables.now.records place (map fact_of a.batch.items)) }
+{
+    serving(tables, place);
+    ticks::tick(alloc, tables, place, now)
+}

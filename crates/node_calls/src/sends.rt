@@ -1,0 +1,157 @@
+//! Payloads that are sent: WS-ReliableMessaging 1.2, sections 2.4 and 3.7.
+ghost use Rattle.std.specs.Prelude.{◌≡◌, ◌≤◌, ◌<◌, ◌^◌, ◌++◌, None, Some, length, map, IfOk, true};
+ghost use Rattle.std.specs.List.{AllByRecursion};
+ghost use Rattle.std.specs.Option.{option_map};
+ghost use Rattle.rm_base.specs.Numbered.{numbered};
+ghost use Rattle.batch_size.specs.Room.{HasRoom};
+ghost use Rattle.batch_size.specs.Typed.{IsTyped};
+ghost use Rattle.record_batch.specs.Fact.{fact_of};
+ghost use Rattle.rm_protocol.specs.Calls.{send as send_of};
+ghost use Rattle.rm_protocol.specs.Messages.{data_at};
+ghost use Rattle.rm_protocol.specs.Terms.{Terms};
+ghost use Rattle.sequence_table.specs.Fits.{is_outgoing_side};
+ghost use Rattle.sequence_table.specs.Makers.{maker};
+ghost use Rattle.sequence_table.specs.Sources.{accepted};
+ghost use Rattle.node_rules.specs.OwnTerms.{AreOwn};
+ghost use Rattle.call_answers.specs.Answers.{cause_seen, seen};
+ghost use Rattle.node_calls.specs.Causes.{payload_cause, send_cause, window_cause};
+ghost use Rattle.node_calls.specs.Comes.{sent as sent_of};
+ghost use Rattle.node_calls.specs.Records.{IsServing};
+
+use crate::answers::{added, refused};
+use crate::reads::{is_open, side_refusal};
+use crate::requests::peer;
+use batch_size::laws::a_batch_is_its_parts;
+use call_answers::{Answer, Cause, if_room};
+use node_messages::data_message;
+use node_tables::Tables;
+use node_tables::laws::an_outgoing_sequence_is_as_recorded;
+use record_batch::Record;
+use rm_base::{Blob, Memory};
+use rm_message::Message;
+use rm_source::WINDOW;
+use soap_profile::check_payload;
+use std::alloc::Global;
+use tables_ahead::Ahead;
+
+/// The most bytes of a payload.
+const MAX_PAYLOAD: u64 = 1048576;
+
+/// So many messages of all outgoing sequences may wait for an acknowledgement.
+const MAX_UNACKED: u64 = 4096;
+
+// Why a payload may not be sent.
+fn payload_refusal(alloc: Global, payload: &Blob) -> Result<Option<Cause>, Memory>
+    ensures is { (terms : Terms) → AreOwn terms
+        → IfOk result (λ cause. option_map cause_seen cause ≡ payload_cause terms payload.now) }
+    ensures short { IfOk result (λ cause. cause ≡ None → length payload.now ≤ 1048576) }
+{
+    let len = payload.len() as u64;
+    if len > MAX_PAYLOAD {
+        return Ok(Some(Cause::PayloadTooLong { length: len }));
+    }
+    if !check_payload(alloc, payload.as_slice())? {
+        return Ok(Some(Cause::BadPayload));
+    }
+    Ok(None)
+}
+
+// Why an outgoing sequence takes no message. It never has so many that their numbers are used up.
+fn window_refusal(tables: &Tables, seq: u32) -> Option<Cause>
+    requires serving { IsServing tables.now.records }
+    requires side { is_outgoing_side (maker tables.now.records seq) ≡ true }
+    ensures { option_map cause_seen result ≡ window_cause tables.now.records seq }
+{
+    an_outgoing_sequence_is_as_recorded();
+    let Some(outgoing) = tables.outgoing(seq) else {
+        unreachable!()
+    };
+    let _count = outgoing.accepted_len();
+    if !is_open(outgoing.phase()) {
+        return Some(Cause::NotOpen);
+    }
+    let unacked = outgoing.unacked();
+    if unacked >= WINDOW {
+        return Some(Cause::WindowFull { unacked });
+    }
+    let all = tables.unacked();
+    if all >= MAX_UNACKED {
+        return Some(Cause::NodeFull { unacked: all });
+    }
+    None
+}
+
+// Why a payload is not accepted for a sequence: the first reason that holds.
+fn send_refusal(
+    alloc: Global,
+    tables: &Tables,
+    seq: u32,
+    payload: &Blob,
+) -> Result<Option<Cause>, Memory>
+    requires { IsServing tables.now.records }
+    ensures is { (terms : Terms) → AreOwn terms → IfOk result (λ cause. option_map cause_seen cause
+        ≡ send_cause terms tables.now.records seq payload.now) }
+    ensures short { IfOk result (λ cause. cause ≡ None → length payload.now ≤ 1048576) }
+{
+    if let Some(cause) = side_refusal(tables, seq) {
+        return Ok(Some(cause));
+    }
+    if let Some(cause) = payload_refusal(alloc, payload)? {
+        return Ok(Some(cause));
+    }
+    Ok(window_refusal(tables, seq))
+}
+
+// The last message of a sequence, once the records ahead are there.
+fn last_message(
+    alloc: Global,
+    ahead: &Ahead<'_>,
+    seq: u32,
+    payload: Blob,
+) -> Result<Option<Message>, Memory>
+    requires { let sent = accepted (ahead.now.records ++ ahead.now.delta) seq in
+        numbered sent (length sent) ≡ Some payload }
+    ensures { let r = ahead.now.records ++ ahead.now.delta in
+        IfOk result (λ m. m ≡ data_at r seq (length (accepted r seq))) }
+{
+    let Some(to) = peer(alloc, ahead, seq)? else {
+        return Ok(None);
+    };
+    let Some(ident) = ahead.ident(seq) else {
+        return Ok(None);
+    };
+    let number = ahead.accepted_len(seq);
+    Ok(Some(data_message(alloc, to, ident, number, payload)?))
+}
+
+// A payload is accepted, and its message is said.
+fn sent(alloc: Global, tables: &Tables, seq: u32, payload: Blob) -> Result<Answer, Memory>
+    ensures { IfOk result (λ a. seen a ≡ sent_of tables.now.records seq payload) }
+{
+    let again = payload.copy()?;
+    let mut ahead = Ahead::new(alloc, tables);
+    ahead.push(Record::Accepted { seq, payload })?;
+    let message = last_message(alloc, &ahead, seq, again)?;
+    added(alloc, ahead, message)
+}
+
+/// Accepts a payload for a sequence, where none of the reasons holds that refuse it.
+pub(crate) fn accept(
+    alloc: Global,
+    tables: &Tables,
+    place: u64,
+    seq: u32,
+    payload: Blob,
+) -> Result<Answer, Memory>
+    requires { IsServing tables.now.records }
+    ensures is { (terms : Terms) → AreOwn terms
+        → IfOk result (λ a. seen a ≡ send_of terms tables.now.records place seq payload) }
+    ensures room { IfOk result (λ a. HasRoom place (map fact_of a.batch.items)) }
+    ensures typed { IfOk result (λ a. AllByRecursion IsTyped (map fact_of a.batch.items)) }
+{
+    a_batch_is_its_parts();
+    match send_refusal(alloc, tables, seq, &payload)? {
+        Some(cause) => Ok(refused(alloc, cause)),
+        None => if_room(alloc, place, sent(alloc, tables, seq, payload)?),
+    }
+}

@@ -1,0 +1,133 @@
+-- What a mount finds, and where it finds none.
+use Rattle.std.proofs.Common.{◌≡◌, ℕ, ◌<◌, ◌≤◌, List, [], ◌∷◌, length}
+use Rattle.std.proofs.Common.{refl, sym, ap, subst, ◌∙◌, arith, length-append}
+use Rattle.std.specs.List.{AllByRecursion, flat_map}
+use Rattle.record_batch.specs.Batch.{batch_text}
+use Rattle.record_batch.specs.Fact.{Fact}
+use Rattle.record_batch.specs.Writable.{IsBatch}
+use Rattle.rm_disk.specs.Call.{Call, seen_of}
+use Rattle.rm_journal.specs.Entries.{block, StandsFor}
+use Rattle.rm_journal.specs.EntryLemmas.{end_is, length-block, length-prefix_of, stands_for_one}
+use Rattle.rm_journal.specs.Journal.{Fits}
+use Rattle.rm_journal.specs.JournalState.{JournalState, end_of}
+use Rattle.rm_protocol.specs.Node.{records_in}
+use Rattle.sequence_table.specs.Makers.{counter}
+use Rattle.node_rules.specs.Records.{AreValues}
+use Rattle.node_store.specs.Has.{AreOfNode, entries_of, Holds, StandsForBatches}
+use Rattle.node_store.specs.Mounted.{AreReplayed, Finds, KeepsWindows, Replays}
+use Rattle.node_store.specs.Stored.{IsServing, stored}
+use Rattle.node_store.proofs.CommitLemmas.{DrawsFew, counter-more}
+use Rattle.node_store.proofs.HasLemmas.{ReadsBack, bytes_of-length, same_batches}
+
+-- the records of batches that are read back have values of their types
+abbrev pub HaveValues : Type 0
+HaveValues = (batches : List (List Fact)) → AllByRecursion IsBatch batches → AreValues (records_in batches)
+
+-- the batches that were read are those of a node
+pub found : HaveValues → (old now : List Call) (entries : List (List ℕ)) (journal : JournalState) (r : List Fact)
+    → StandsFor entries (seen_of old) → Fits entries now journal → Replays entries r → IsServing journal r
+    → KeepsWindows r → Finds old now (stored journal r)
+found values old now entries journal r stands fits replays serving windows =
+    let bs = replays.batches in
+    let are = replays.replayed.are in
+    let holds : Holds bs now (stored journal r) = record {
+      journal = subst (λ (es : List (List ℕ)). Fits es now journal) are fits;
+      records = replays.records;
+    } in
+    let kept = subst KeepsWindows replays.records windows in
+    record {
+      batches = bs;
+      were = subst (λ (es : List (List ℕ)). StandsFor es (seen_of old)) are stands;
+      has = record {
+        holds = holds;
+        are = record {
+          each = replays.replayed.each;
+          kept = record {
+            node = record {
+              begins = (subst (IsServing journal) replays.records serving).begins;
+              fit = replays.replayed.fit;
+              each = replays.replayed.kept;
+              sequences = kept.sequences;
+              window = λ s. (kept.each s).window;
+              windows = kept.windows;
+              near = λ s. (kept.each s).near;
+            };
+            values = values bs replays.replayed.each;
+          };
+          short = omega (arith, serving.short, bytes_of-length bs now (stored journal r) holds);
+        };
+      };
+    }
+
+-- ---- the batches of a node
+
+-- they are replayed
+pub replayed_of : (batches : List (List Fact)) (entries : List (List ℕ)) (bytes : List ℕ) → AreOfNode batches
+    → StandsForBatches batches bytes → StandsFor entries bytes → AreReplayed batches entries
+replayed_of batches entries bytes node stands read = record {
+  are = stands_for_one entries (entries_of batches) bytes read stands;
+  each = node.each;
+  fit = node.kept.node.fit;
+  kept = node.kept.node.each;
+}
+
+-- they have the records that were read
+pub same_records : ReadsBack → (batches : List (List Fact)) (entries : List (List ℕ)) (r : List Fact)
+    → AreReplayed batches entries → Replays entries r → r ≡ records_in batches
+same_records reads batches entries r are replays =
+    replays.records
+    ∙ ap records_in (same_batches reads replays.batches batches replays.replayed.each are.each
+    (sym replays.replayed.are ∙ are.are))
+
+draws_few : DrawsFew → (batches : List (List Fact))
+    → counter (records_in batches) ≤ length (flat_map block (entries_of batches))
+draws_few few [] = omega arith
+draws_few few (b ∷ batches) =
+    omega (
+      arith,
+      few b,
+      draws_few few batches,
+      counter-more b (records_in batches),
+      length-append (block (batch_text b)) (flat_map block (entries_of batches)),
+      length-block (batch_text b),
+    )
+
+-- a node may go on from them
+pub serving_of : DrawsFew → (batches : List (List Fact)) (entries : List (List ℕ)) (past : List Call)
+    (journal : JournalState) (r : List Fact) → AreOfNode batches → AreReplayed batches entries
+    → Fits entries past journal → r ≡ records_in batches → IsServing journal r
+serving_of few batches entries past journal r node are fits records =
+    let gates = subst (λ (es : List (List ℕ)). Fits es past journal) are.are fits in
+    let end = end_is journal (entries_of batches) gates.gates in
+    let size = length-prefix_of (entries_of batches) in
+    subst (IsServing journal) (sym records) (record {
+      begins = node.kept.node.begins;
+      drawn = omega (arith, draws_few few batches, end, size);
+      short = omega (
+        arith,
+        node.short,
+        bytes_of-length batches past (stored journal (records_in batches)) (record { journal = gates; records = refl }),
+      );
+    })
+
+-- they keep their windows
+pub windows_of : (batches : List (List Fact)) (r : List Fact) → AreOfNode batches → r ≡ records_in batches
+    → KeepsWindows r
+windows_of batches r node records =
+    let kept = node.kept.node in
+    subst KeepsWindows (sym records) (record {
+      sequences = kept.sequences;
+      windows = kept.windows;
+      each = λ s. record { window = kept.window s; near = kept.near s };
+    })
+
+-- their journal is not too long
+pub short_of : (batches : List (List Fact)) (entries : List (List ℕ)) (past : List Call) (journal : JournalState)
+    → AreOfNode batches → AreReplayed batches entries → Fits entries past journal → end_of journal < 268435456
+short_of batches entries past journal node are fits =
+    let gates = subst (λ (es : List (List ℕ)). Fits es past journal) are.are fits in
+    omega (
+      arith,
+      node.short,
+      bytes_of-length batches past (stored journal (records_in batches)) (record { journal = gates; records = refl }),
+    )

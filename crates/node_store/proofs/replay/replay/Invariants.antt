@@ -1,0 +1,16 @@
+use Rattle.std.proofs.Common.{◌≡◌, ℕ, List, None, take}
+use Rattle.std.specs.Prelude.{IsTrue}
+use Rattle.rm_journal.specs.Journal.{Fits}
+use Rattle.node_store.specs.Mounted.{Replays}
+use Rattle.node_store.proofs.replay.replay.Given as goal
+
+-- the tables hold the records of the entries so far, and nothing happened to the journal and the disk
+abbrev pub invariant-loop-before : goal.invariant-loop-before
+invariant-loop-before g l = record {
+  replayed : IsTrue g.D.Disk.tells → (entries : List (List ℕ)) →
+      Fits entries (g.D.Disk.past l.fn.disk) l.fn.journal → Replays (take l.before entries) l.tables.records;
+  journal : l.journal ≡ l.fn.journal;
+  past : IsTrue g.D.Disk.tells → g.D.Disk.past l.disk ≡ g.D.Disk.past l.fn.disk;
+  faults : g.D.Disk.faults l.disk ≡ g.D.Disk.faults l.fn.disk;
+  fuse : IsTrue g.D.Disk.tells → g.D.Disk.fuse l.fn.disk ≡ None → g.D.Disk.fuse l.disk ≡ None;
+}

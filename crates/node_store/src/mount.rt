@@ -1,0 +1,79 @@
+//! The node that a disk holds.
+ghost use Rattle.std.specs.Prelude.{◌≡◌, ◌⊎◌, ℕ, List, false, Err, IfErr, IfOk, IsTrue};
+ghost use Rattle.rm_disk.specs.Call.{crashes_of, seen_of};
+ghost use Rattle.rm_disk.specs.Cause.{HasCause};
+ghost use Rattle.rm_disk.specs.Image.{MayLeave, OnlyLeaves};
+ghost use Rattle.rm_journal.specs.Entries.{StandsFor};
+ghost use Rattle.rm_journal.specs.Journal.{Fits};
+ghost use Rattle.node_store.specs.Changes.{KeepsUnarmed};
+ghost use Rattle.node_store.specs.Mounted.{Finds, has_failed, IsNoNode};
+ghost use Rattle.node_store.specs.Stored.{IsServing, stored};
+ghost use Rattle.node_store.specs.declared.error.MountError.TheVariants.{Memory as NoMemory, Disk as DiskBroke};
+ghost use Rattle.node_store.specs.declared.error.MountError.TheVariants.{NotAJournal as IsNoJournal};
+
+use crate::error::MountError;
+use crate::laws::batches_have_values;
+use crate::replay::replay;
+use crate::windows::{MOST_BYTES, keep_windows, may_serve};
+use node_tables::Tables;
+use record_batch::laws::what_is_written_is_read;
+use rm_disk::Disk;
+use rm_journal::{Journal, JournalError};
+use sequence_table::laws::a_byte_for_each_number;
+use std::alloc::Global;
+
+/// The journal of a node on a disk, and the tables of its records.
+pub(crate) fn find<D: Disk>(alloc: Global, disk: &mut D) -> Result<(Journal, Tables), MountError>
+    ensures found { IsTrue D.tells →
+        IfOk result (λ x. Finds (D.past disk.old) (D.past disk.new) (stored x.0 x.1.records)) }
+    ensures none { IsTrue D.tells → result ≡ Err IsNoJournal → IsNoNode (seen_of (D.past disk.old)) }
+    ensures up { IfOk result (λ x. x.0.is_down ≡ false) }
+    ensures serving { IfOk result (λ x. IsServing x.0 x.1.records) }
+    ensures refusals { IfErr result (λ error. (error ≡ NoMemory) ⊎ (error ≡ DiskBroke) ⊎ (error ≡ IsNoJournal)) }
+    ensures seen { IsTrue D.tells → seen_of (D.past disk.new) ≡ seen_of (D.past disk.old) }
+    ensures moments { IsTrue D.tells → OnlyLeaves (D.past disk.old) (D.past disk.new) (MayLeave (D.past disk.old)) }
+    ensures unarmed { IsTrue D.tells → KeepsUnarmed (D.fuse disk.old) (D.fuse disk.new) (has_failed result) }
+    ensures cause { HasCause (D.faults disk.old) (D.faults disk.new) (has_failed result) }
+    ensures crashes { IsTrue D.tells → crashes_of (D.past disk.new) ≡ crashes_of (D.past disk.old) }
+{
+    what_is_written_is_read();
+    batches_have_values();
+    a_byte_for_each_number();
+    let mut journal = open(alloc, disk)?;
+    if journal.end() >= MOST_BYTES {
+        return Err(MountError::NotAJournal);
+    }
+    let tables = replay(alloc, &mut journal, disk)?;
+    if !may_serve(&journal, &tables) {
+        return Err(MountError::NotAJournal);
+    }
+    if !keep_windows(&tables) {
+        return Err(MountError::NotAJournal);
+    }
+    Ok((journal, tables))
+}
+
+/// The journal on a disk.
+fn open<D: Disk>(alloc: Global, disk: &mut D) -> Result<Journal, MountError>
+    ensures fits { IsTrue D.tells → IfOk result (λ journal. (entries : List (List ℕ))
+        × StandsFor entries (seen_of (D.past disk.old)) × Fits entries (D.past disk.new) journal) }
+    ensures none { IsTrue D.tells → result ≡ Err IsNoJournal →
+        (entries : List (List ℕ)) → ¬ (StandsFor entries (seen_of (D.past disk.old))) }
+    ensures up { IfOk result (λ journal. journal.is_down ≡ false) }
+    ensures refusals { IfErr result (λ error. (error ≡ NoMemory) ⊎ (error ≡ DiskBroke) ⊎ (error ≡ IsNoJournal)) }
+    ensures seen { IsTrue D.tells → seen_of (D.past disk.new) ≡ seen_of (D.past disk.old) }
+    ensures moments { IsTrue D.tells → OnlyLeaves (D.past disk.old) (D.past disk.new) (MayLeave (D.past disk.old)) }
+    ensures unarmed { IsTrue D.tells → KeepsUnarmed (D.fuse disk.old) (D.fuse disk.new) (has_failed result) }
+    ensures cause { HasCause (D.faults disk.old) (D.faults disk.new) (has_failed result) }
+    ensures crashes { IsTrue D.tells → crashes_of (D.past disk.new) ≡ crashes_of (D.past disk.old) }
+{
+    match Journal::mount(alloc, disk) {
+        Ok(journal) => Ok(journal),
+        Err(JournalError::Memory) => Err(MountError::Memory),
+        Err(JournalError::Disk) => Err(MountError::Disk),
+        Err(JournalError::NotAJournal) => Err(MountError::NotAJournal),
+        Err(JournalError::EntryTooLong { .. }) => unreachable!(),
+        Err(JournalError::Full { .. }) => unreachable!(),
+        Err(JournalError::Down) => unreachable!(),
+    }
+}

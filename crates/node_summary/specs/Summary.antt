@@ -1,0 +1,54 @@
+-- What a node with these records knows of each of its sequences, as text.
+use Rattle.std.specs.Prelude.{ℕ, zero, suc, ◌+◌, if◌then◌else◌, List, [], ◌∷◌, ◌++◌, length}
+use Rattle.ack_ranges.specs.Changes.{united}
+use Rattle.rm_base.specs.declared.message.Payload.{Payload}
+use Rattle.rm_destination.specs.Messages.{ranges_onto}
+use Rattle.rm_destination.specs.declared.outcome.InPhase.{InPhase}
+use Rattle.rm_destination.specs.declared.outcome.InPhase.TheVariants.{Open, Closed, Ended}
+use Rattle.record_batch.specs.Fact.{Fact}
+use Rattle.sequence_table.specs.Makers.{makers, maker}
+use Rattle.sequence_table.specs.Sources.{accepted, acked, phase}
+use Rattle.sequence_table.specs.Destinations.{behaviour, discarded, held, inbox, is_ended, is_over}
+use Rattle.sequence_table.specs.Fits.{is_outgoing_side}
+use Rattle.rm_report.specs.Report.{out_text, in_text, item_text}
+use Rattle.rm_report.specs.declared.summary.Place.{Place}
+use Rattle.rm_script.specs.declared.event.Side.{Side}
+
+-- the phase of an incoming sequence at a moment
+abbrev pub in_phase : List Fact → ℕ → ℕ → InPhase
+in_phase r s now = if is_ended r s now then Ended else if is_over r s now then Closed else Open
+
+-- sequence s of the node at this side
+abbrev pub place : Side → ℕ → Place
+place side s = record { node = side; seq = s }
+
+-- the payloads of an inbox, numbered from n + 1 on
+abbrev pub items_text : Side → ℕ → ℕ → List Payload → List ℕ
+items_text side s n [] = []
+items_text side s n (p ∷ ps) = item_text (place side s) (n + 1) p.bytes ++ items_text side s (n + 1) ps
+
+-- an outgoing sequence: its phase, how many payloads were accepted, and which numbers are acknowledged
+abbrev pub outgoing_text : Side → List Fact → ℕ → List ℕ
+outgoing_text side r s = out_text (place side s) (phase r s) (length (accepted r s)) (united [] (acked r s))
+
+-- an incoming sequence: its phase at a moment, its behaviour, which numbers were received, how many payloads were
+-- released and how many are discarded, and then the payloads that were released
+abbrev pub incoming_text : Side → List Fact → ℕ → ℕ → List ℕ
+incoming_text side r now s =
+    in_text (place side s) (in_phase r s now) (behaviour r s) (ranges_onto [] (held r s)) (length (inbox r s))
+    (length (discarded r s))
+    ++ items_text side s 0 (inbox r s)
+
+-- a sequence
+abbrev pub sequence_text : Side → List Fact → ℕ → ℕ → List ℕ
+sequence_text side r now s =
+    if is_outgoing_side (maker r s) then outgoing_text side r s else incoming_text side r now s
+
+-- so many sequences, from the first on
+abbrev pub sequences_text : Side → List Fact → ℕ → ℕ → List ℕ
+sequences_text side r now zero = []
+sequences_text side r now (suc n) = sequences_text side r now n ++ sequence_text side r now (suc n)
+
+-- all of them
+abbrev pub node_text : Side → List Fact → ℕ → List ℕ
+node_text side r now = sequences_text side r now (length (makers r))
