@@ -1,17 +1,14 @@
 -- A call is refused for the first reason that holds.
-use Rattle.std.proofs.Common.{◌≡◌, ℕ, ◌<◌, ◌≤◌, arith, ◌&&◌, ◌||◌, Bool, true, false, cond, List, length, refl, ap}
+use Rattle.std.proofs.Common.{◌≡◌, ℕ, ◌<◌, ◌≤◌, arith, Bool, true, false, cond, List, length, refl, ap}
 use Rattle.std.proofs.Common.{◌∙◌, Option, Some}
 use Rattle.std.proofs.Common.{None}
 use Rattle.std.specs.Prelude.{not, nat_le, nat_lt}
 use Rattle.std.specs.Option.{option_or}
 use Rattle.std.proofs.lemmas.Bool.Decides.{nat_tests}
-use Rattle.rm_base.specs.declared.message.Cause.TheVariants.{Operator}
-use Rattle.record_batch.specs.Fact.{Fact, Closed}
+use Rattle.record_batch.specs.Fact.{Fact}
 use Rattle.sequence_table.specs.Words.{Text}
 use Rattle.sequence_table.specs.Makers.{Maker, Outgoing, Offered, Incoming, Taken, maker}
 use Rattle.sequence_table.specs.Sources.{accepted, all_unacked, phase, unacked}
-use Rattle.sequence_table.specs.Destinations.{deadline_of, is_over, is_past, is_stopped}
-use Rattle.sequence_table.specs.Fits.{fits, is_incoming_side, is_outgoing_side}
 use Rattle.rm_protocol.specs.Calls.{Answer, Cause, PayloadTooLong, BadPayload, NotOpen, WindowFull, NodeFull, Rollover}
 use Rattle.rm_protocol.specs.Calls.{if_room, is_open, on_outgoing, refusal, send, send_out}
 use Rattle.rm_protocol.specs.Terms.{Terms}
@@ -24,14 +21,6 @@ on_outgoing-is (Some (Outgoing ticket to via lapse)) a = refl
 on_outgoing-is (Some (Taken message_id ident endpoint)) a = refl
 on_outgoing-is (Some (Offered ticket counter to behaviour)) a = refl
 on_outgoing-is (Some (Incoming counter message_id acks_to behaviour deadline lapse)) a = refl
-
--- a call that isn't refused for its side is for an outgoing sequence
-pub side-outgoing : (m : Option Maker) → None ≡ side_cause m → is_outgoing_side m ≡ true
-side-outgoing None e = absurd (cc)
-side-outgoing (Some (Outgoing ticket to via lapse)) e = refl
-side-outgoing (Some (Taken message_id ident endpoint)) e = refl
-side-outgoing (Some (Offered ticket counter to behaviour)) e = absurd (cc)
-side-outgoing (Some (Incoming counter message_id acks_to behaviour deadline lapse)) e = absurd (cc)
 
 unless_refused-or : (x y : Option Cause) (a : Answer)
     → unless_refused x (unless_refused y a) ≡ unless_refused (option_or x y) a
@@ -65,17 +54,6 @@ send-is terms r place s p =
     on_outgoing-is (maker r s) (send_out terms r place s p)
     ∙ ap (unless_refused (side_cause (maker r s))) (send_out-is terms r place s p)
     ∙ unless_refused-or (side_cause (maker r s)) (option_or (payload_cause terms p) (window_cause r s)) _
-
--- an incoming sequence that is still open may be closed
-pub closed-fits : (r : List Fact) (s now : ℕ) → is_incoming_side (maker r s) ≡ true → is_over r s now ≡ false
-    → fits r (Closed s Operator 0) ≡ true
-closed-fits r s now side open_ =
-    tested (is_incoming_side (maker r s)) (is_stopped r s) (is_past (deadline_of (maker r s)) now) side open_
-  where
-    tested : (a b c : Bool) → a ≡ true → (b || c) ≡ false → (a && not b) ≡ true
-    tested true false c e f = refl
-    tested true true c e f = absurd (cc)
-    tested false b c e f = absurd (cc)
 
 -- too many messages of the node wait
 pub node-full : (r : List Fact) (s all : ℕ) → is_open (phase r s) ≡ true → unacked r s < 1024 → all ≡ all_unacked r

@@ -1,33 +1,25 @@
 -- What is said with one record ahead, and that a call comes to it.
-use Rattle.std.proofs.Common.{◌≡◌, ℕ, ◌+◌, ◌<◌, ◌≤◌, ◌^◌, Bool, true, false, List, [], ◌∷◌, ◌++◌, length, refl, sym, ap}
-use Rattle.std.proofs.Common.{subst, ◌∙◌, arith, append-nil, Option, Some, None}
-use Rattle.std.specs.Prelude.{◌&&◌, codes}
+use Rattle.std.proofs.Common.{◌≡◌, ℕ, ◌+◌, true, List, [], ◌∷◌, ◌++◌, length, sym, ap}
+use Rattle.std.proofs.Common.{subst, ◌∙◌, Option, Some}
+use Rattle.std.specs.Prelude.{codes}
 use Rattle.std.specs.Option.{option_to_list}
-use Rattle.std.proofs.lemmas.Bool.{le-leb}
 use Rattle.rm_base.specs.Numbered.{numbered}
-use Rattle.rm_base.specs.declared.message.Behaviour.{Behaviour}
-use Rattle.rm_base.specs.declared.message.Cause.TheVariants.{Operator}
-use Rattle.rm_elements.specs.declared.lapse.Lapse.{Lapse}
 use Rattle.rm_elements.specs.declared.lifecycle.Lifecycle.TheVariants as life
 use Rattle.rm_message.specs.declared.message.Message.{Message}
 use Rattle.record_batch.specs.declared.record.OwnOffer.{OwnOffer}
-use Rattle.record_batch.specs.declared.record.Via.{Via}
-use Rattle.record_batch.specs.Fact.{Fact, Creating, Accepted, Closing, Closed, Ending}
+use Rattle.record_batch.specs.Fact.{Fact, Creating, Accepted, Closing, Ending}
 use Rattle.sequence_table.specs.Words.{Text, last_or}
-use Rattle.sequence_table.specs.Makers.{counter, draws_of, maker, makers, makers_of, number}
+use Rattle.sequence_table.specs.Makers.{counter, makers}
 use Rattle.sequence_table.specs.Sources.{accepted, out_ident, tickets}
 use Rattle.sequence_table.specs.Find.{peer}
-use Rattle.sequence_table.specs.Fits.{all_fit, fits}
-use Rattle.sequence_table.specs.NodeLemmas.{one_more}
-use Rattle.rm_protocol.specs.Calls.{Wish, adds, final_ack, made_by, offer_of, wanted}
-use Rattle.rm_protocol.specs.Messages.{data_at, finish_request, request_at}
+use Rattle.sequence_table.specs.Fits.{all_fit}
+use Rattle.rm_protocol.specs.Calls.{Wish, adds, offer_of}
+use Rattle.rm_protocol.specs.Messages.{finish_request, request_at}
 use Rattle.node_messages.specs.Requests.{create_with}
-use Rattle.tables_ahead.specs.Known.{Known, may_go_ahead}
-use Rattle.node_calls.specs.Comes.{asked, closed, closing, done, ending, sent}
-use Rattle.node_calls.specs.Records.{IsServing}
-use Rattle.node_calls.proofs.RequestLemmas.{accepted-count, accepted-last, closing-request, closing-ticket}
+use Rattle.tables_ahead.specs.Known.{Known}
+use Rattle.node_calls.specs.Comes.{asked, closing, done, ending}
+use Rattle.node_calls.proofs.RequestLemmas.{accepted-last, closing-request, closing-ticket}
 use Rattle.node_calls.proofs.RequestLemmas.{creating-request, ending-request, ending-ticket}
-use Rattle.node_calls.proofs.ServingLemmas.{number-begun}
 
 -- one record is ahead of r
 pub record IsWith (r : List Fact) (f : Fact) (k : Known) : Type 0 where
@@ -48,29 +40,6 @@ both r f k is = ap (λ rs. rs ++ k.delta) is.records ∙ ap (λ d. r ++ d) is.de
 
 -- ---- what is asked of the records
 
-pub has-number : (r : List Fact) (f : Fact) (k : Known) → IsServing r → IsWith r f k
-    → 0 < number (k.records ++ k.delta)
-has-number r f k serving is =
-    subst (λ (rs : List Fact). 0 < number rs) (sym (both r f k is)) (number-begun r (f ∷ []) serving.begins serving.fit)
-
-pub has-few : (r : List Fact) (f : Fact) (k : Known) → IsServing r → IsWith r f k → draws_of f ≡ []
-    → counter (k.records ++ k.delta) < 2 ^ 62
-has-few r f k serving is none =
-    let same : counter (k.records ++ k.delta) ≡ counter r + length (draws_of f) =
-    ap (λ (rs : List Fact). counter rs) (both r f k is) ∙ one_more.counter_ r f in
-    omega (arith, same, ap length none, serving.drawn)
-
-pub one-fits : (r : List Fact) (f : Fact) (k : Known) → IsWith r f k → fits r f ≡ true
-    → all_fit k.records k.delta ≡ true
-one-fits r f k is fit =
-    let alone : all_fit r (f ∷ []) ≡ true = first (fits r f) fit in
-    subst (λ (rs : List Fact). all_fit rs k.delta ≡ true) (sym is.records)
-    (subst (λ (d : List Fact). all_fit r d ≡ true) (sym is.delta) alone)
-  where
-    first : (b : Bool) → b ≡ true → (b && true) ≡ true
-    first true e = refl
-    first false e = e
-
 pub close-ticket : (r : List Fact) (s t : ℕ) (k : Known) → IsWith r (Closing s t) k
     → last_or 0 (tickets (k.records ++ k.delta) s) ≡ t
 close-ticket r s t k is =
@@ -87,20 +56,6 @@ pub sent-last : (r : List Fact) (s : ℕ) (p : Text) (k : Known) → IsWith r (A
 sent-last r s p k is =
     subst (λ (rs : List Fact). numbered (accepted rs s) (length (accepted rs s)) ≡ Some p)
     (sym (both r (Accepted s p) k is)) (accepted-last r s p)
-
-made-wanted : (t : ℕ) (to : Text) (via : Via) (lapse : Lapse) (drawn : ℕ) (offer : Option Behaviour)
-    → length (makers_of (Creating t to via lapse (offer_of drawn offer))) ≡ wanted offer
-made-wanted t to via lapse drawn None = refl
-made-wanted t to via lapse drawn (Some behaviour) = refl
-
--- a place is left for what is wanted
-pub may-ask : (r : List Fact) (t : ℕ) (to : Text) (via : Via) (lapse : Lapse) (drawn : ℕ) (offer : Option Behaviour)
-    → length (makers r) + wanted offer ≤ 256
-    → may_go_ahead (r ++ []) (Creating t to via lapse (offer_of drawn offer)) ≡ true
-may-ask r t to via lapse drawn offer few =
-    let made = made-wanted t to via lapse drawn offer in
-    let same : length (makers (r ++ [])) ≡ length (makers r) = ap (λ rs. length (makers rs)) (append-nil r) in
-    le-leb _ 4294967295 (omega (arith, made, same, few))
 
 -- ---- what is said
 
@@ -158,20 +113,3 @@ comes-ending r s k o is e =
     ≡ finish_request rs s (peer rs s) (out_ident rs s) (codes "TerminateSequence") life.Terminate)
     (sym (both r f k is)) (ending-request r s (counter r + 1))) in
     comes r f k o (λ now. option_to_list (request_at now s)) is (ap option_to_list said)
-
-pub comes-closed : (r : List Fact) (s now : ℕ) (k : Known) (o : Option Message) → IsWith r (Closed s Operator 0) k
-    → option_to_list o
-    ≡ final_ack (k.records ++ k.delta) s now (made_by (k.records ++ k.delta) (maker (k.records ++ k.delta) s))
-    → done k.delta (option_to_list o) ≡ closed r s now
-comes-closed r s now k o is e =
-    comes r (Closed s Operator 0) k o (λ after. final_ack after s now (made_by after (maker after s))) is e
-
-pub comes-sent : (r : List Fact) (s : ℕ) (p : Text) (k : Known) (o : Option Message) → IsWith r (Accepted s p) k
-    → o ≡ data_at (k.records ++ k.delta) s (length (accepted (k.records ++ k.delta) s))
-    → done k.delta (option_to_list o) ≡ sent r s p
-comes-sent r s p k o is e =
-    let f = Accepted s p in
-    let next : length (accepted (k.records ++ k.delta) s) ≡ length (accepted r s) + 1 =
-    ap (λ (rs : List Fact). length (accepted rs s)) (both r f k is) ∙ accepted-count r s p in
-    comes r f k o (λ now. option_to_list (data_at now s (length (accepted r s) + 1))) is
-    (ap option_to_list (e ∙ ap (data_at (k.records ++ k.delta) s) next))

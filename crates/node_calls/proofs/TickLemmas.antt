@@ -8,10 +8,8 @@ use Rattle.rm_base.specs.declared.message.Cause.TheVariants.{Expired}
 use Rattle.record_batch.specs.Fact.{Fact, Ended}
 use Rattle.sequence_table.specs.Makers.{Maker, makers, maker}
 use Rattle.sequence_table.specs.Destinations.{deadline_of, has_end, is_past}
-use Rattle.rm_protocol.specs.Calls.{expired_from, tick}
-use Rattle.rm_protocol.specs.Terms.{Terms}
-use Rattle.rm_protocol.specs.Verdict.{has_room}
-use Rattle.node_calls.specs.Comes.{done, ending_if, fitting}
+use Rattle.rm_protocol.specs.Calls.{expired_from}
+use Rattle.node_calls.specs.Comes.{ending_if}
 use Rattle.node_tables.specs.Kept.{no_maker}
 use Rattle.node_calls.proofs.DrawnLemmas.{numbered-next}
 
@@ -38,12 +36,3 @@ expired-next r now k lt =
     ∙ chosen (is_past (deadline_of (Some m)) now && not (has_end r (k + 1))) (Ended (k + 1) Expired 0) rest
     ∙ ap (λ (o : Option Maker). ending_if (is_past (deadline_of o) now && not (has_end r (k + 1))) (k + 1) ++ rest)
     (sym here)
-
-pub tick-is : (terms : Terms) (r : List Fact) (place now : ℕ)
-    → tick terms r place now ≡ done (fitting terms place (expired_from r now 0 (makers r))) []
-tick-is terms r place now =
-    let due = expired_from r now 0 (makers r) in
-    elim (has_room terms place due) as (λ b. cond b (done due []) (done [] []) ≡ done (cond b due []) []) [
-      | true ↦ refl
-      | false ↦ refl
-    ]

@@ -1,5 +1,5 @@
 -- What the records of a node give to its calls.
-use Rattle.std.specs.Prelude.{◌≡◌, ℕ, ◌<◌, true, List, [], length}
+use Rattle.std.specs.Prelude.{◌≡◌, ℕ, ◌<◌, true, List, []}
 use Rattle.record_batch.specs.Fact.{Fact}
 use Rattle.sequence_table.specs.Fits.{all_fit}
 use Rattle.sequence_table.specs.Makers.{counter}
@@ -8,12 +8,11 @@ use Rattle.node_rules.specs.Records.{BeginsWithMade}
 use Rattle.rm_protocol.specs.Next.{AddsNext}
 use Rattle.rm_protocol.specs.Terms.{Terms}
 
--- the first record is Made, each could come next, and there are fewer numbers and records than a journal has bytes
+-- the first record is Made, each could come next, and fewer numbers were drawn than a journal has bytes
 pub record IsServing (r : List Fact) : Type 0 where
   pub begins : BeginsWithMade r
   pub fit : all_fit [] r ≡ true
   pub drawn : counter r < 268435456
-  pub few : length r < 268435456
 
 -- at some terms of a node's own, the records that each call adds may come next
 pub record CallsFit (r : List Fact) (place : ℕ) : Type 0 where

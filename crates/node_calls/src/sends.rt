@@ -11,7 +11,7 @@ ghost use Rattle.rm_protocol.specs.Messages.{data_at};
 ghost use Rattle.rm_protocol.specs.Terms.{Terms};
 ghost use Rattle.sequence_table.specs.Fits.{is_outgoing_side};
 ghost use Rattle.sequence_table.specs.Makers.{maker};
-ghost use Rattle.sequence_table.specs.Sources.{accepted};
+ghost use Rattle.sequence_table.specs.Sources.{accepted, all_unacked};
 ghost use Rattle.node_rules.specs.OwnTerms.{AreOwn};
 ghost use Rattle.call_answers.specs.Answers.{cause_seen, seen};
 ghost use Rattle.node_calls.specs.Causes.{payload_cause, send_cause, window_cause};
@@ -56,9 +56,21 @@ fn payload_refusal(alloc: Global, payload: &Blob) -> Result<Option<Cause>, Memor
     Ok(None)
 }
 
+// How many messages of all outgoing sequences wait for an acknowledgement. No memory holds so many that the count
+// stands still at its greatest value.
+fn all_waiting(tables: &Tables) -> Result<u64, Memory>
+    ensures { IfOk result (λ all. all ≡ all_unacked tables.now.records) }
+{
+    let all = tables.unacked();
+    if all == u64::MAX {
+        return Err(Memory);
+    }
+    Ok(all)
+}
+
 // Why an outgoing sequence takes no message. It never has so many that their numbers are used up.
-fn window_refusal(tables: &Tables, seq: u32) -> Option<Cause>
-    requires serving { IsServing tables.now.records }
+fn window_refusal(tables: &Tables, seq: u32, all: u64) -> Option<Cause>
+    requires counted { all ≡ all_unacked tables.now.records }
     requires side { is_outgoing_side (maker tables.now.records seq) ≡ true }
     ensures { option_map cause_seen result ≡ window_cause tables.now.records seq }
 {
@@ -74,7 +86,6 @@ fn window_refusal(tables: &Tables, seq: u32) -> Option<Cause>
     if unacked >= WINDOW {
         return Some(Cause::WindowFull { unacked });
     }
-    let all = tables.unacked();
     if all >= MAX_UNACKED {
         return Some(Cause::NodeFull { unacked: all });
     }
@@ -99,7 +110,8 @@ fn send_refusal(
     if let Some(cause) = payload_refusal(alloc, payload)? {
         return Ok(Some(cause));
     }
-    Ok(window_refusal(tables, seq))
+    let all = all_waiting(tables)?;
+    Ok(window_refusal(tables, seq, all))
 }
 
 // The last message of a sequence, once the records ahead are there.

@@ -1,5 +1,5 @@
 //! The journal of a node and the tables of its records.
-ghost use Rattle.std.specs.Prelude.{◌≡◌, ◌⊎◌, ◌<◌, ◌^◌, [], ◌∷◌, List, true, false, Err, length, map, IsTrue};
+ghost use Rattle.std.specs.Prelude.{◌≡◌, ◌≢◌, ◌⊎◌, ◌<◌, ◌^◌, [], ◌∷◌, List, true, false, Err, length, map, IsTrue};
 ghost use Rattle.std.specs.Prelude.{is_ok, IfOk, IfErr};
 ghost use Rattle.batch_size.specs.Room.{HasRoom};
 ghost use Rattle.record_batch.specs.Fact.{Fact, Made, fact_of};
@@ -159,6 +159,7 @@ impl Store {
         ensures changes { IsTrue D.tells → Changes (told (D.past disk.old) (D.fuse disk.old))
             (told (D.past disk.new) (D.fuse disk.new)) self.old self.new (map fact_of batch.items) (is_ok result)
             (is_disk result) }
+        ensures some { is_disk result ≡ true → map fact_of batch.items ≢ [] }
         ensures refusals { IfErr result (λ error. (error ≡ WantsMemory) ⊎ (error ≡ DiskFails)) }
         ensures cause { HasCause (D.faults disk.old) (D.faults disk.new) (is_disk result) }
     {

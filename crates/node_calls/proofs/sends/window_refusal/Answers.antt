@@ -3,7 +3,6 @@ use Rattle.rm_source.specs.Outgoing.{Sending, unacked_of}
 use Rattle.rm_protocol.specs.Calls.{is_open}
 use Rattle.sequence_table.specs.Sources.{all_unacked, unacked}
 use Rattle.node_calls.proofs.CauseLemmas.{node-full}
-use Rattle.node_calls.proofs.ServingLemmas.{all_unacked-few}
 use Rattle.node_calls.proofs.sends.window_refusal.Goals as goal
 
 pub returns-then-all-ge-MAX_UNACKED : goal.returns-then-all-ge-MAX_UNACKED
@@ -14,6 +13,5 @@ returns-then-all-ge-MAX_UNACKED c =
     let opens = sym (c.is_open.ensures ∙ ap is_open (c.phase.ensures ∙ ap (λ (t : Sending). t.phase) is))
     ∙ c.if-not-is_open.false in
     let waits : c.unacked-unacked.result ≡ unacked r s = c.unacked-unacked.ensures ∙ ap unacked_of is in
-    let all : c.unacked-all.result ≡ all_unacked r =
-    omega (arith, c.unacked-all.ensures, all_unacked-few r, c.requires.serving.few) in
-    node-full r s _ opens (omega (arith, waits, c.if-unacked-ge-WINDOW.false)) all c.if-all-ge-MAX_UNACKED.true
+    node-full r s _ opens (omega (arith, waits, c.if-unacked-ge-WINDOW.false)) c.requires.counted
+    c.if-all-ge-MAX_UNACKED.true

@@ -1,0 +1,4 @@
+pub mod FitLemmas
+pub mod ReceiveLemmas
+pub mod RecordLemmas
+pub mod StrippedLemmas

@@ -1,0 +1,119 @@
+-- A disk that crashes, and the node that is mounted again.
+use Rattle.std.proofs.Common.{◌≡◌, ◌∙◌, ℕ, Bool, true, false, List, [], ◌∷◌, None, sym, ap, subst}
+use Rattle.std.proofs.Common.{inl, inr}
+use Rattle.std.specs.List.{AllByRecursion}
+use Rattle.record_batch.specs.Fact.{Fact}
+use Rattle.record_batch.specs.Writable.{IsBatch}
+use Rattle.rm_base.specs.declared.message.Behaviour.{Behaviour}
+use Rattle.rm_disk.specs.Call.{Call, Crashed as Crashes, crashes_of, left_by, seen_of, state}
+use Rattle.rm_disk.specs.Image.{MayLeave, OnlyLeaves}
+use Rattle.rm_disk.specs.ImageLemmas.{crash_leaves_image, left_now, settled_only}
+use Rattle.rm_protocol.specs.Node.{Node, State, Up, Writing, entries_left}
+use Rattle.node_store.specs.Changes.{Told}
+use Rattle.node_store.specs.Has.{AreOfNode, Has, StandsForBatches}
+use Rattle.node_store.specs.Mounted.{Finds}
+use Rattle.node_store.specs.Stored.{Stored}
+use Rattle.rm_node.specs.Noded.{Noded}
+use Rattle.node_actor.specs.Actored.{Actored}
+use Rattle.node_actor.specs.Stands.{Crashed, Leaves, Stands, StandsBy}
+use Rattle.node_actor.proofs.ActLemmas.{actored}
+
+-- bytes stand for the entries that a crash of the node leaves, which are those of a node
+pub record Left (st : State) (entries : List (List Fact)) (bytes : List ℕ) : Type 0 where
+  pub kept : Bool
+  pub stands : StandsForBatches (entries_left st kept entries) bytes
+  pub are : AreOfNode (entries_left st kept entries)
+
+left_with : (st : State) (entries : List (List Fact)) (past : List Call) (stored : Stored)
+    → StandsBy st entries past stored → (bytes : List ℕ) → MayLeave past bytes → Left st entries bytes
+left_with Up entries past stored awake bytes may =
+    record { kept = false; stands = awake.has.holds.journal.images bytes may; are = awake.has.are }
+left_with (Writing []) entries past stored asleep bytes may = elim (asleep.images bytes may) [
+  | inl before ↦ record { kept = false; stands = before; are = asleep.are }
+  | inr after ↦ record { kept = false; stands = after; are = asleep.are }
+]
+left_with (Writing (f ∷ delta)) entries past stored asleep bytes may = elim (asleep.images bytes may) [
+  | inl before ↦ record { kept = false; stands = before; are = asleep.are }
+  | inr after ↦ record { kept = true; stands = after; are = asleep.next }
+]
+
+-- each image is left by a crash of the node
+pub left_of : (x : Node) (now : Told) (a : Actored) → Stands x now a → (bytes : List ℕ) → MayLeave now.past bytes
+    → Left x.state x.entries bytes
+left_of x now a s bytes may = left_with x.state x.entries now.past a.node.stored s.disk bytes may
+
+-- what the disk leaves where nothing happened to it
+pub leaves_still : (x : Node) (now : Told) (a : Actored) (past : List Call) → Stands x now a → past ≡ now.past
+    → Leaves x past
+leaves_still x now a past s same bytes may =
+    let left = left_of x now a s bytes (subst (λ (p : List Call). MayLeave p bytes) same may) in
+    record { kept = left.kept; stands = left.stands; are = left.are }
+
+-- what a crash left
+pub left_crashed : (x : Node) (now : Told) (a : Actored) (choice : ℕ) → Stands x now a
+    → Left x.state x.entries (left_by choice (state now.past))
+left_crashed x now a choice s =
+    left_of x now a s (left_by choice (state now.past)) (crash_leaves_image now.past choice)
+
+-- so there is a node on the disk
+pub node_there : (x : Node) (now : Told) (a : Actored) (choice : ℕ) (past : List Call) → Stands x now a
+    → past ≡ Crashes choice ∷ now.past
+    → (batches : List (List Fact)) × AreOfNode batches × StandsForBatches batches (seen_of past)
+node_there x now a choice past s is =
+    let left = left_crashed x now a choice s in (
+      entries_left x.state left.kept x.entries,
+      left.are,
+      subst (λ (p : List Call). StandsForBatches (entries_left x.state left.kept x.entries) (seen_of p)) (sym is)
+          left.stands,
+    )
+
+-- what the disk leaves where it crashed, and the node was not mounted
+pub leaves_crashed : (x : Node) (now : Told) (a : Actored) (choice : ℕ) (past later : List Call) → Stands x now a
+    → past ≡ Crashes choice ∷ now.past → OnlyLeaves past later (MayLeave past) → Leaves x later
+leaves_crashed x now a choice past later s is only bytes may =
+    let settled : MayLeave (Crashes choice ∷ now.past) bytes =
+    subst (λ (p : List Call). MayLeave p bytes) is (only.each bytes (left_now later _ bytes may)) in
+    let same = settled_only (left_by choice (state now.past)) bytes settled in
+    let left = left_crashed x now a choice s in
+    record {
+      kept = left.kept;
+      stands = subst (λ (b : List ℕ). StandsForBatches (entries_left x.state left.kept x.entries) b) (sym same)
+          left.stands;
+      are = left.are;
+    }
+
+-- bytes stand for one list of batches
+abbrev pub OneList : Type 0
+OneList =
+    (a b : List (List Fact)) (bytes : List ℕ) → AllByRecursion IsBatch a → AllByRecursion IsBatch b
+    → StandsForBatches a bytes → StandsForBatches b bytes → a ≡ b
+
+-- what is kept of a node
+abbrev pub noded : Stored → Behaviour → Noded
+noded stored granted = record { stored = stored; granted = granted }
+
+-- the node is mounted
+pub crashed : OneList → (x : Node) (first now : Told) (a : Actored) (choice : ℕ) (past : List Call) (stored : Stored)
+    → Stands x first a → past ≡ Crashes choice ∷ first.past → Finds past now.past stored
+    → stored.journal.is_down ≡ false → crashes_of now.past ≡ crashes_of past → now.fuse ≡ None
+    → Crashed x choice first now (actored (noded stored a.node.granted) a.clock)
+crashed one x first now a choice past stored s is found up crashes fuse =
+    let left = left_crashed x first a choice s in
+    let bytes = left_by choice (state first.past) in
+    let were : StandsForBatches found.batches bytes =
+    subst (λ (p : List Call). StandsForBatches found.batches (seen_of p)) is found.were in
+    let same : found.batches ≡ entries_left x.state left.kept x.entries =
+    one found.batches (entries_left x.state left.kept x.entries) bytes found.has.are.each left.are.each were
+    left.stands in
+    record {
+      kept = left.kept;
+      stands = record {
+        disk = record { up = up; has = subst (λ (b : List (List Fact)). Has b now.past stored) same found.has };
+        fuse = fuse;
+        granted = s.granted;
+        clock = s.clock;
+      };
+      bytes = bytes;
+      crashes = crashes ∙ ap crashes_of is;
+      left = left.stands;
+    }

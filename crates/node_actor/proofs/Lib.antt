@@ -1,0 +1,3 @@
+pub mod ActLemmas
+pub mod CrashLemmas
+pub mod QuietLemmas

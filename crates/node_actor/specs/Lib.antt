@@ -1,0 +1,4 @@
+pub mod Actored
+pub mod Comes
+pub mod Outcomes
+pub mod Stands

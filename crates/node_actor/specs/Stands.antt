@@ -1,0 +1,77 @@
+-- How the code's node and its disk stand for a node of the protocol.
+use Rattle.std.specs.Prelude.{◌≡◌, ℕ, Bool, true, false, List, [], ◌++◌, ◌∷◌, length, Result, Ok, Err}
+use Rattle.record_batch.specs.Fact.{Fact}
+use Rattle.rm_disk.specs.Call.{Call, crashes_of}
+use Rattle.rm_disk.specs.Image.{MayLeave}
+use Rattle.rm_base.specs.declared.failures.Memory.{Memory}
+use Rattle.rm_protocol.specs.Calls.{Answer}
+use Rattle.rm_protocol.specs.Node.{Node, State, Up, Writing, after, call_outcome, mounted, said_after}
+use Rattle.rm_protocol.specs.World.{with_clock}
+use Rattle.node_store.specs.Changes.{Told}
+use Rattle.node_store.specs.Has.{AreOfNode, Has, IsLeftBy, StandsForBatches}
+use Rattle.node_store.specs.Stored.{Stored, with_batch}
+use Rattle.rm_node.specs.Packets.{packets_of}
+use Rattle.node_actor.specs.Actored.{Actored}
+use Rattle.node_actor.specs.Outcomes.{call_told, packets_in}
+use Rattle.node_actor.specs.declared.actor.Came.{Came}
+
+-- the node is up, and the disk has its entries
+pub record Awake (entries : List (List Fact)) (past : List Call) (stored : Stored) : Type 0 where
+  pub up : stored.journal.is_down ≡ false
+  pub has : Has entries past stored
+
+-- the node is down: whatever a crash leaves stands for its entries, or for these with the batch of the call that
+-- failed, and either are those of a node
+pub record Asleep (entries : List (List Fact)) (delta : List Fact) (past : List Call) (stored : Stored) : Type 0 where
+  pub down : stored.journal.is_down ≡ true
+  pub images : (bytes : List ℕ) → MayLeave past bytes → IsLeftBy entries delta bytes
+  pub are : AreOfNode entries
+  pub next : AreOfNode (with_batch entries delta)
+  pub count : length stored.journal.gates ≡ length entries
+
+-- by the state of the protocol's node
+abbrev pub StandsBy : State → List (List Fact) → List Call → Stored → Type 0
+StandsBy Up entries past stored = Awake entries past stored
+StandsBy (Writing delta) entries past stored = Asleep entries delta past stored
+
+-- the code's node and its disk are this node of the protocol
+pub record Stands (x : Node) (now : Told) (a : Actored) : Type 0 where
+  pub disk : StandsBy x.state x.entries now.past a.node.stored
+  pub fuse : now.fuse ≡ x.fuse
+  pub granted : a.node.granted ≡ x.granted
+  pub clock : a.clock ≡ x.clock
+
+-- a call with this answer came out so, and this left the node
+pub record Acted (connected : Bool) (x : Node) (answer : Answer) (now : Told) (new : Actored) (came : Came)
+    : Type 0 where
+  pub stands : Stands (after x answer) now new
+  pub outcome : came.outcome ≡ call_told (call_outcome x answer)
+  pub outs : packets_in came ≡ packets_of connected (said_after x answer)
+
+-- a call with this answer: where memory was wanting, nothing has changed
+abbrev pub Acts : Bool → Node → Answer → Told → Actored → Result Came Memory → Type 0
+Acts connected x answer now new (Ok came) = Acted connected x answer now new came
+Acts connected x answer now new (Err memory) = Stands x now new
+
+-- a tick sets the clock before the call; where memory was wanting, nothing has changed
+abbrev pub Ticks : Node → ℕ → Answer → Told → Actored → Result Came Memory → Type 0
+Ticks x moment answer now new (Ok came) = Acted false (with_clock x moment) answer now new came
+Ticks x moment answer now new (Err memory) = Stands x now new
+
+-- what a crash with this choice leaves: the node is mounted, and bytes that stand for its entries are what it left
+pub record Crashed (x : Node) (choice : ℕ) (first now : Told) (new : Actored) : Type 0 where
+  pub kept : Bool
+  pub stands : Stands (mounted x kept) now new
+  pub bytes : List ℕ
+  pub crashes : crashes_of now.past ≡ crashes_of first.past ++ (choice, bytes) ∷ []
+  pub left : StandsForBatches (mounted x kept).entries bytes
+
+-- each image of the disk stands for entries that one more crash of the node leaves, which are those of a node
+pub record IsLeftOf (x : Node) (bytes : List ℕ) : Type 0 where
+  pub kept : Bool
+  pub stands : StandsForBatches (mounted x kept).entries bytes
+  pub are : AreOfNode (mounted x kept).entries
+
+-- so it is for each image
+abbrev pub Leaves : Node → List Call → Type 0
+Leaves x past = (bytes : List ℕ) → MayLeave past bytes → IsLeftOf x bytes

@@ -1,0 +1,4 @@
+pub mod CalledLemmas
+pub mod ComesLemmas
+pub mod PacketLemmas
+pub mod ReadLemmas

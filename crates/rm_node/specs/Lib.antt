@@ -1,0 +1,5 @@
+pub mod Came
+pub mod Called
+pub mod Ends
+pub mod Noded
+pub mod Packets

@@ -1,0 +1,140 @@
+//! A node: what it keeps, and what it tells.
+ghost use Rattle.std.specs.Prelude.{◌≡◌, ◌⊎◌, ◌<◌, ◌^◌, [], ◌∷◌, false, Err, length, IsTrue, IfOk, IfErr};
+ghost use Rattle.record_batch.specs.Fact.{Made};
+ghost use Rattle.rm_base.specs.declared.message.Behaviour.TheVariants.{FollowingFirstGap as FirstGap};
+ghost use Rattle.rm_disk.specs.Call.{crashes_of, seen_of};
+ghost use Rattle.rm_disk.specs.Cause.{HasCause};
+ghost use Rattle.rm_disk.specs.Image.{MayLeave, OnlyLeaves};
+ghost use Rattle.node_store.specs.Changes.{KeepsUnarmed};
+ghost use Rattle.node_store.specs.Has.{Has};
+ghost use Rattle.node_store.specs.Mounted.{Finds, has_failed, IsNoNode};
+ghost use Rattle.node_store.specs.declared.error.MountError.TheVariants.{Memory as NoMemory, Disk as DiskBroke};
+ghost use Rattle.node_store.specs.declared.error.MountError.TheVariants.{NotAJournal as IsNoJournal};
+ghost use Rattle.rm_node.specs.declared.error.NodeError.TheVariants.{Disk as DiskFails, Memory as WantsMemory};
+ghost use Rattle.rm_node.specs.Ends.{is_disk};
+ghost use Rattle.rm_node.specs.Noded.{first_noded};
+
+use crate::error::NodeError;
+use node_store::{MountError, Store, StoreError};
+use node_tables::Tables;
+use rm_base::{Behaviour, Uri};
+use rm_disk::Disk;
+use std::alloc::Global;
+use std::marker::Model;
+
+/// A node on a disk: the journal and the tables of its records, and what it announces for the sequences that peers ask
+/// for from now on. The disk is passed to each call, and is always the same.
+#[derive(Debug, Drop)]
+pub struct Node {
+    pub(crate) alloc: Global,
+    pub(crate) store: Store,
+    pub(crate) granted: Behaviour,
+}
+
+impl Model for Node {
+    ghost use Rattle.std.specs.Coded.{codes};
+    ghost use Rattle.soap_profile.specs.TreeCode.{tree_code};
+    ghost use Rattle.rm_node.specs.Noded.{Noded};
+
+    ghost Value = { Noded };
+
+    ghost coded = { Prim.hlevel (codes, tree_code) };
+
+    ghost view = { λ n. record { stored = n.store; granted = n.granted } };
+}
+
+impl Node {
+    /// Makes a disk that of a node with this number and address. What it held is lost, and after a refusal it holds
+    /// anything.
+    pub fn make<D: Disk>(
+        alloc: Global,
+        disk: &mut D,
+        number: u64,
+        address: Uri,
+    ) -> Result<Node, NodeError>
+        requires from_one { 0 < number }
+        requires within { number < 2 ^ 60 }
+        ensures made { IfOk result (λ node. node ≡ first_noded number address) }
+        ensures has { IsTrue D.tells →
+            IfOk result (λ node. Has ((Made number address ∷ []) ∷ []) (D.past disk.new) node.stored) }
+        ensures unarmed { IsTrue D.tells → KeepsUnarmed (D.fuse disk.old) (D.fuse disk.new) (is_disk result) }
+        ensures refusals { IfErr result (λ error. (error ≡ WantsMemory) ⊎ (error ≡ DiskFails)) }
+        ensures cause { HasCause (D.faults disk.old) (D.faults disk.new) (is_disk result) }
+        ensures crashes { IsTrue D.tells → crashes_of (D.past disk.new) ≡ crashes_of (D.past disk.old) }
+    {
+        match Store::make(alloc, disk, number, address) {
+            Ok(store) => Ok(Node {
+                alloc,
+                store,
+                granted: Behaviour::FollowingFirstGap,
+            }),
+            Err(StoreError::Memory) => Err(NodeError::Memory),
+            Err(StoreError::Disk) => Err(NodeError::Disk),
+        }
+    }
+
+    /// Finds the node that a disk holds. It answers NotAJournal exactly where the disk, as it reads, holds no batches
+    /// of a node. What the node announced is not on the disk.
+    pub fn mount<D: Disk>(alloc: Global, disk: &mut D) -> Result<Node, MountError>
+        ensures found { IsTrue D.tells →
+            IfOk result (λ node. Finds (D.past disk.old) (D.past disk.new) node.stored) }
+        ensures none { IsTrue D.tells → result ≡ Err IsNoJournal → IsNoNode (seen_of (D.past disk.old)) }
+        ensures up { IfOk result (λ node. node.stored.journal.is_down ≡ false) }
+        ensures granted { IfOk result (λ node. node.granted ≡ FirstGap) }
+        ensures refusals { IfErr result (λ error.
+            (error ≡ NoMemory) ⊎ (error ≡ DiskBroke) ⊎ (error ≡ IsNoJournal)) }
+
+        // What is read stays, and a crash at any moment of the call leaves no more than one before it.
+        ensures seen { IsTrue D.tells → seen_of (D.past disk.new) ≡ seen_of (D.past disk.old) }
+        ensures moments { IsTrue D.tells →
+            OnlyLeaves (D.past disk.old) (D.past disk.new) (MayLeave (D.past disk.old)) }
+
+        ensures unarmed { IsTrue D.tells → KeepsUnarmed (D.fuse disk.old) (D.fuse disk.new) (has_failed result) }
+        ensures cause { HasCause (D.faults disk.old) (D.faults disk.new) (has_failed result) }
+        ensures crashes { IsTrue D.tells → crashes_of (D.past disk.new) ≡ crashes_of (D.past disk.old) }
+    {
+        match Store::mount(alloc, disk) {
+            Ok(store) => Ok(Node {
+                alloc,
+                store,
+                granted: Behaviour::FollowingFirstGap,
+            }),
+            Err(error) => Err(error),
+        }
+    }
+
+    /// What the node announces for the sequences that it grants.
+    pub fn granted(&self) -> Behaviour
+        ensures { result ≡ self.now.granted }
+    {
+        self.granted
+    }
+
+    /// From now on the node announces this for the sequences that it grants.
+    pub fn set_grant(&mut self, behaviour: Behaviour)
+        ensures { self.new ≡ record self.old { granted = behaviour } }
+    {
+        self.granted = behaviour;
+    }
+
+    /// How many entries the journal has.
+    pub fn entries(&self) -> u64
+        ensures { result ≡ length self.now.stored.journal.gates }
+    {
+        self.store.entries()
+    }
+
+    /// Whether the disk has failed: then the node does nothing until it is mounted again.
+    pub fn is_down(&self) -> bool
+        ensures { result ≡ self.now.stored.journal.is_down }
+    {
+        self.store.is_down()
+    }
+
+    /// The tables of all records.
+    pub fn tables(&self) -> &Tables
+        ensures { result.now.records ≡ self.now.stored.records }
+    {
+        self.store.tables()
+    }
+}
