@@ -1,0 +1,25 @@
+-- The headline of two disks.
+use Rattle.std.specs.Prelude.{ℕ, List}
+use Rattle.record_batch.specs.Fact.{Fact}
+use Rattle.rm_disk.specs.Call.{Call}
+use Rattle.rm_disk.specs.Image.{MayLeave}
+use Rattle.rm_protocol.specs.Node.{records_in}
+use Rattle.rm_protocol.specs.Word.{KeepsWord}
+use Rattle.node_store.specs.Has.{AreOfNode, StandsForBatches}
+
+-- two images stand for the batches of two nodes, and both directions between these keep the word
+pub record KeepWord (image_one image_two : List ℕ) : Type 0 where
+  pub one : List (List Fact)
+  pub two : List (List Fact)
+  pub stands_one : StandsForBatches one image_one
+  pub stands_two : StandsForBatches two image_two
+  pub are_one : AreOfNode one
+  pub are_two : AreOfNode two
+  pub there : KeepsWord (records_in one) (records_in two)
+  pub back : KeepsWord (records_in two) (records_in one)
+
+-- so it is for each pair of images of both disks
+abbrev pub KeepsHeadline : List Call → List Call → Type 0
+KeepsHeadline past_one past_two =
+    (image_one image_two : List ℕ) → MayLeave past_one image_one → MayLeave past_two image_two
+    → KeepWord image_one image_two

@@ -1,0 +1,74 @@
+-- What a line of a script is to the protocol, and how it comes out.
+use Rattle.std.specs.Prelude.{◌≡◌, ℕ, Bool, List, [], ◌∷◌, length, Option, Some, None}
+use Rattle.soap_profile.specs.Soap.{soap_space}
+use Rattle.message_reader.specs.Refusals.{Refuses, Spells}
+use Rattle.record_batch.specs.declared.record.Via.TheVariants.{Direct}
+use Rattle.rm_message.specs.declared.message.Message.{Message}
+use Rattle.rm_message.specs.declared.refusal.Refusal.{Refusal}
+use Rattle.rm_protocol.specs.Sent.{LineOutcome, Called, NoPacket, NoCall, outcome_of}
+use Rattle.rm_protocol.specs.Terms.{Terms}
+use Rattle.rm_protocol.specs.World.{Side, One, Two, Event, Create, Grant, Send, Tick, Deliver, Close, End, Arm, Crash}
+use Rattle.rm_protocol.specs.World.{Noise, World, happens}
+use Rattle.rm_report.specs.declared.line.Line.{Line}
+use Rattle.rm_report.specs.declared.line.Outcome.{Outcome}
+use Rattle.rm_report.specs.declared.line.Outcome.TheVariants as told
+use Rattle.rm_script.specs.declared.event.Event.{Event as Said}
+use Rattle.rm_script.specs.declared.event.Event.TheVariants as said
+use Rattle.rm_script.specs.declared.event.Side.{Side as Node}
+use Rattle.rm_script.specs.declared.event.Side.TheVariants as node
+use Rattle.node_actor.specs.Outcomes.{call_told}
+
+-- the node that a script names
+abbrev pub side_of : Node → Side
+side_of node.One = One
+side_of node.Two = Two
+
+-- noise is bytes that are refused as a message; bytes that spell one are none
+abbrev pub IsNoise : Node → List ℕ → Option Event → Type 0
+IsNoise at bytes None = (m : Message) × Spells soap_space bytes m
+IsNoise at bytes (Some event) =
+    (refusal : Refusal) × Refuses soap_space bytes refusal × (event ≡ Noise (side_of at) refusal)
+
+-- A line means this event of the protocol, or none: an empty line and a comment do, and noise that is none. What a
+-- crash keeps is a free choice.
+abbrev pub Means : Said → Option Event → Type 0
+Means said.Nothing event = event ≡ None
+Means (said.Create at expires offer) event = event ≡ Some (Create (side_of at) Direct expires offer)
+Means (said.Grant at behaviour) event = event ≡ Some (Grant (side_of at) behaviour)
+Means (said.Send at seq text) event = event ≡ Some (Send (side_of at) seq text)
+Means (said.Tick at now) event = event ≡ Some (Tick (side_of at) now)
+Means (said.Deliver packet) event = event ≡ Some (Deliver packet)
+Means (said.Close at seq) event = event ≡ Some (Close (side_of at) seq)
+Means (said.End at seq) event = event ≡ Some (End (side_of at) seq)
+Means (said.Arm at calls) event = event ≡ Some (Arm (side_of at) calls)
+Means (said.Crash at choice) event = (kept : Bool) × (event ≡ Some (Crash (side_of at) kept))
+Means (said.Noise at bytes) event = IsNoise at bytes event
+
+-- the world after it
+abbrev pub stepped : Terms → World → Option Event → World
+stepped terms w None = w
+stepped terms w (Some event) = happens terms w event
+
+-- how an event comes out, as a report tells it
+abbrev pub outcome_told : LineOutcome → Outcome
+outcome_told (Called outcome) = call_told outcome
+outcome_told NoPacket = told.NoPacket
+outcome_told NoCall = told.Done
+
+-- how a line comes out; one that says nothing has no line in the report
+abbrev pub comes_out : Terms → World → Said → Option Event → Option Outcome
+comes_out terms w said.Nothing event = None
+comes_out terms w line None = Some told.NoNoise
+comes_out terms w line (Some event) = Some (outcome_told (outcome_of terms w event))
+
+-- the report's line, in the world after the line with this number
+abbrev pub report_of : ℕ → Option Outcome → World → List Line
+report_of number None w = []
+report_of number (Some outcome) w =
+    record {
+      number = number;
+      outcome = outcome;
+      entries_one = length w.one.entries;
+      entries_two = length w.two.entries;
+      packets = length w.packets;
+    } ∷ []

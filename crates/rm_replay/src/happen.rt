@@ -1,0 +1,212 @@
+//! What one line of a script does.
+ghost use Rattle.std.specs.Prelude.{◌≡◌, ◌≤◌, IfOk, Result};
+ghost use Rattle.node_store.specs.Changes.{Told};
+ghost use Rattle.rm_message.specs.declared.message.Message.{Message as Read};
+ghost use Rattle.rm_message.specs.declared.refusal.Refusal.{Refusal as Refused};
+ghost use Rattle.rm_protocol.specs.Terms.{Terms};
+ghost use Rattle.rm_protocol.specs.World.{World, node, other as other_of};
+ghost use Rattle.rm_script.specs.Within.{IsWithin};
+ghost use Rattle.rm_replay.specs.Asked.{Crashes, Happens, IsCallWithin, IsReadBy, Moves, armed, granted, step_of, told_of};
+ghost use Rattle.rm_replay.specs.Meaning.{side_of};
+ghost use Rattle.rm_replay.specs.Net.{AreOfNet, number_of};
+ghost use Rattle.rm_replay.specs.Shows.{Shows, StandFor, address_of, devices, devices_of};
+
+use crate::ask::{Call, ask_at};
+use crate::stage::{Nodes, Stage};
+use crate::wire::put_came;
+use rm_base::{Behaviour, Blob, Memory, TextError, Uri};
+use rm_disk::CrashDisk;
+use rm_report::Outcome;
+use rm_script::{Event, Side};
+use rm_wire::{DecodeError, decode};
+use rm_wires::Wire;
+use std::alloc::Global;
+
+/// The address of a node.
+pub(crate) fn address(alloc: Global, side: Side) -> Result<Uri, Memory>
+    ensures { IfOk result (λ uri. uri ≡ address_of (side_of side)) }
+{
+    let bytes: &[u8] = match side {
+        Side::One => b"http://node1.example/",
+        Side::Two => b"http://node2.example/",
+    };
+    match Uri::from_slice(alloc, bytes) {
+        Ok(address) => Ok(address),
+        Err(TextError::Memory) => Err(Memory),
+        Err(_) => unreachable!(),
+    }
+}
+
+fn other(side: Side) -> Side
+    ensures { side_of result ≡ other_of (side_of side) }
+{
+    match side {
+        Side::One => Side::Two,
+        Side::Two => Side::One,
+    }
+}
+
+fn number(side: Side) -> u8
+    ensures { result ≡ number_of (side_of side) }
+{
+    match side {
+        Side::One => 1,
+        Side::Two => 2,
+    }
+}
+
+/// A node is asked for something, and what leaves it goes on the wire.
+fn call<M: CrashDisk, W: Wire>(
+    stage: &mut Stage<M, W>,
+    nodes: &mut Nodes,
+    side: Side,
+    call: Call<'_>,
+) -> Result<Outcome, Memory>
+    requires there { (w : World) × Shows w (devices_of M.past M.fuse stage.old.one stage.old.two nodes.old)
+        (W.packets stage.old.wire) }
+    requires within { IsCallWithin call }
+    ensures { (terms : Terms) → AreOfNet terms → (content : Result Read Refused) → IsReadBy call content → (w : World)
+        → Shows w (devices_of M.past M.fuse stage.old.one stage.old.two nodes.old) (W.packets stage.old.wire)
+        → Moves terms w (side_of side) (step_of terms (node w (side_of side)) content call)
+        (devices_of M.past M.fuse stage.new.one stage.new.two nodes.new) (W.packets stage.new.wire) result }
+{
+    let came = ask_at(&mut stage.one, &mut stage.two, nodes, side, call)?;
+    put_came(&mut stage.wire, number(other(side)), came)
+}
+
+/// A packet comes to its node.
+fn deliver<M: CrashDisk, W: Wire>(
+    stage: &mut Stage<M, W>,
+    nodes: &mut Nodes,
+    packet: u64,
+) -> Result<Outcome, Memory>
+    requires there { (w : World) × Shows w (devices_of M.past M.fuse stage.old.one stage.old.two nodes.old)
+        (W.packets stage.old.wire) }
+    ensures { (terms : Terms) → AreOfNet terms → (w : World)
+        → Shows w (devices_of M.past M.fuse stage.old.one stage.old.two nodes.old) (W.packets stage.old.wire)
+        → Happens terms w (Event.Deliver packet) (devices_of M.past M.fuse stage.new.one stage.new.two nodes.new)
+        (W.packets stage.new.wire) (told_of result) }
+{
+    let Some(packet) = stage.wire.get(packet) else {
+        return Ok(Outcome::NoPacket);
+    };
+    let side = if packet.to == 1 { Side::One } else { Side::Two };
+    let call = Call::Receive {
+        bytes: packet.bytes,
+    };
+    let came = ask_at(&mut stage.one, &mut stage.two, nodes, side, call)?;
+    put_came(&mut stage.wire, number(other(side)), came)
+}
+
+/// Bytes come to a node that spell no message.
+fn make_noise<M: CrashDisk, W: Wire>(
+    alloc: Global,
+    stage: &mut Stage<M, W>,
+    nodes: &mut Nodes,
+    side: Side,
+    bytes: &[u8],
+) -> Result<Outcome, Memory>
+    requires there { (w : World) × Shows w (devices_of M.past M.fuse stage.old.one stage.old.two nodes.old)
+        (W.packets stage.old.wire) }
+    ensures { (terms : Terms) → AreOfNet terms → (w : World)
+        → Shows w (devices_of M.past M.fuse stage.old.one stage.old.two nodes.old) (W.packets stage.old.wire)
+        → Happens terms w (Event.Noise side bytes.now) (devices_of M.past M.fuse stage.new.one stage.new.two nodes.new)
+        (W.packets stage.new.wire) (told_of result) }
+{
+    match decode(alloc, bytes) {
+        Ok(_) => Ok(Outcome::NoNoise),
+        Err(DecodeError::Memory) => Err(Memory),
+        Err(DecodeError::Refused(_)) => call(stage, nodes, side, Call::Receive { bytes }),
+    }
+}
+
+/// A node announces another behaviour from now on.
+fn grant(nodes: &mut Nodes, side: Side, behaviour: Behaviour)
+    ensures { (w : World) (one two : Told) → StandFor w (devices one two nodes.old)
+        → StandFor (granted w (side_of side) behaviour) (devices one two nodes.new) }
+{
+    match side {
+        Side::One => nodes.one.set_grant(behaviour),
+        Side::Two => nodes.two.set_grant(behaviour),
+    }
+}
+
+/// A disk is to fail.
+fn arm<M: CrashDisk>(one: &mut M, two: &mut M, nodes: &Nodes, side: Side, calls: u64)
+    requires { 1 ≤ calls }
+    ensures { (w : World) → StandFor w (devices_of M.past M.fuse one.old two.old nodes.now)
+        → StandFor (armed w (side_of side) calls) (devices_of M.past M.fuse one.new two.new nodes.now) }
+{
+    match side {
+        Side::One => nodes.one.arm(one, calls),
+        Side::Two => nodes.two.arm(two, calls),
+    }
+}
+
+/// A disk crashes, and its node is mounted again.
+fn crash<M: CrashDisk>(
+    one: &mut M,
+    two: &mut M,
+    nodes: &mut Nodes,
+    side: Side,
+    choice: u8,
+) -> Result<(), Memory>
+    requires there { (w : World) × StandFor w (devices_of M.past M.fuse one.old two.old nodes.old) }
+    requires choice { choice ≤ 3 }
+    ensures { (w : World) → StandFor w (devices_of M.past M.fuse one.old two.old nodes.old)
+        → Crashes w (side_of side) (devices_of M.past M.fuse one.new two.new nodes.new) result }
+{
+    match side {
+        Side::One => nodes.one.crash(one, choice),
+        Side::Two => nodes.two.crash(two, choice),
+    }
+}
+
+/// Does what a line says, and answers how it came out, unless it says nothing.
+pub(crate) fn happen<M: CrashDisk, W: Wire>(
+    alloc: Global,
+    stage: &mut Stage<M, W>,
+    nodes: &mut Nodes,
+    event: Event,
+) -> Result<Option<Outcome>, Memory>
+    requires within { IsWithin event }
+    requires there { (w : World) × Shows w (devices_of M.past M.fuse stage.old.one stage.old.two nodes.old)
+        (W.packets stage.old.wire) }
+    ensures { (terms : Terms) → AreOfNet terms → (w : World)
+        → Shows w (devices_of M.past M.fuse stage.old.one stage.old.two nodes.old) (W.packets stage.old.wire)
+        → Happens terms w event (devices_of M.past M.fuse stage.new.one stage.new.two nodes.new)
+        (W.packets stage.new.wire) result }
+{
+    let outcome = match event {
+        Event::Nothing => return Ok(None),
+        Event::Create {
+            node,
+            expires,
+            offer,
+        } => {
+            let to = address(alloc, other(node))?;
+            call(stage, nodes, node, Call::Create { to, expires, offer })?
+        }
+        Event::Grant { node, behaviour } => {
+            grant(nodes, node, behaviour);
+            Outcome::Done
+        }
+        Event::Send { node, seq, text } => call(stage, nodes, node, Call::Send { seq, text })?,
+        Event::Tick { node, now } => call(stage, nodes, node, Call::Tick { now })?,
+        Event::Deliver { packet } => deliver(stage, nodes, packet)?,
+        Event::Close { node, seq } => call(stage, nodes, node, Call::Close { seq })?,
+        Event::End { node, seq } => call(stage, nodes, node, Call::End { seq })?,
+        Event::Arm { node, calls } => {
+            arm(&mut stage.one, &mut stage.two, nodes, node, calls);
+            Outcome::Done
+        }
+        Event::Crash { node, choice } => {
+            crash(&mut stage.one, &mut stage.two, nodes, node, choice)?;
+            Outcome::Done
+        }
+        Event::Noise { node, bytes } => {
+            make_noise(alloc, stage, nodes, node, bytes.as_slice())?
+        }
+    };
+    Ok(Some(outcome))
+}

@@ -1,0 +1,20 @@
+//! What a script is played over.
+
+use node_actor::Actor;
+use rm_disk::CrashDisk;
+use rm_wires::Wire;
+
+/// The disks of two nodes, and the wire between them.
+#[derive(Debug, Drop)]
+pub struct Stage<M: CrashDisk, W: Wire> {
+    pub one: M,
+    pub two: M,
+    pub wire: W,
+}
+
+/// Both nodes.
+#[derive(Debug, Drop)]
+pub struct Nodes {
+    pub one: Actor,
+    pub two: Actor,
+}
