@@ -6,6 +6,7 @@
 pub mod actor;
 pub mod calls;
 pub mod crash;
+pub mod laws;
 mod outcome;
 
 pub use actor::{Actor, Came};

@@ -1,7 +1,9 @@
 pub mod Asked
+pub mod Happening
 pub mod Headline
 pub mod Meaning
 pub mod Net
 pub mod Played
 pub mod Playing
 pub mod Shows
+pub mod Tales

@@ -2,10 +2,9 @@
 use Rattle.std.specs.Prelude.{◌≡◌, ◌⊎◌, ℕ, ◌+◌, List, [], ◌∷◌, ◌++◌, length, take, slice_get, Option, Some, Result, Ok}
 use Rattle.std.specs.Prelude.{Err}
 use Rattle.rm_base.specs.declared.failures.Memory.{Memory}
-use Rattle.rm_disk.specs.Call.{Call}
 use Rattle.rm_protocol.specs.Node.{Node, State, Up, Writing, records}
 use Rattle.rm_protocol.specs.Terms.{Terms}
-use Rattle.rm_protocol.specs.World.{World, Event, start}
+use Rattle.rm_protocol.specs.World.{One, Two, World, Event, start}
 use Rattle.rm_report.specs.Report.{down_text, lines_text}
 use Rattle.rm_report.specs.declared.line.Line.{Line}
 use Rattle.rm_script.specs.declared.event.Event.{Event as Said}
@@ -13,19 +12,44 @@ use Rattle.rm_script.specs.declared.event.Side.{Side as Place}
 use Rattle.rm_script.specs.declared.event.Side.TheVariants as place
 use Rattle.node_summary.specs.Summary.{node_text}
 use Rattle.rm_replay.specs.Meaning.{Means, comes_out, report_of, stepped}
-use Rattle.rm_replay.specs.Shows.{Holds, IsCut, address_one, address_two}
+use Rattle.rm_replay.specs.Shows.{Holds, IsCut, Scene, address_one, address_two}
+use Rattle.rm_replay.specs.Tales.{Tale, Tells, joined, tale_of}
 
 -- two nodes that were just made
 abbrev pub start_world : World
 start_world = start address_one address_two
 
--- The lines of a script were played, one after the other: what the world is then, and the report.
-pub data Played (terms : Terms) : List Said → World → List Line → Type 0 where
-  none : Played terms [] start_world []
-  more : (lines : List Said) (w : World) (report : List Line) (line : Said) (event : Option Event)
-      → Played terms lines w report → Means line event
-      → Played terms (lines ++ line ∷ []) (stepped terms w event)
-      (report ++ report_of (length lines + 1) (comes_out terms w line event) (stepped terms w event))
+-- the world, the report, and what befell the disks
+pub record Story : Type 0 where
+  pub world : World
+  pub report : List Line
+  pub one : Tale
+  pub two : Tale
+
+-- before the first line
+abbrev pub beginning : Story
+beginning = record {
+  world = start_world;
+  report = [];
+  one = record { crashes = []; faults = 0 };
+  two = record { crashes = []; faults = 0 };
+}
+
+-- with one line more, which has this number and means this event
+abbrev pub told_on : Terms → ℕ → Story → Said → Option Event → Story
+told_on terms number s line event = record {
+  world = stepped terms s.world event;
+  report =
+    s.report ++ report_of number (comes_out terms s.world line event) (stepped terms s.world event);
+  one = joined s.one (tale_of terms s.world One line event);
+  two = joined s.two (tale_of terms s.world Two line event);
+}
+
+-- the lines of a script were played, one after the other
+pub data Played (terms : Terms) : List Said → Story → Type 0 where
+  none : Played terms [] beginning
+  more : (lines : List Said) (s : Story) (line : Said) (event : Option Event) → Played terms lines s
+      → Means line event → Played terms (lines ++ line ∷ []) (told_on terms (length lines + 1) s line event)
 
 -- what a node knows in the end, by its state
 abbrev pub known_by : Place → Node → State → List ℕ
@@ -40,21 +64,26 @@ known_text at x = known_by at x x.state
 abbrev pub end_text : World → List ℕ
 end_text w = known_text place.One w.one ++ known_text place.Two w.two
 
--- all lines were played, the disks and the wire hold what is there then, and this is the report
-pub record Ran (terms : Terms) (script : List Said) (one two : List Call) (packets : List (ℕ × List ℕ)) (text : List ℕ)
-    : Type 0 where
-  pub world : World
-  pub report : List Line
-  pub played : Played terms script world report
-  pub holds : Holds world one two packets
-  pub printed : text ≡ lines_text report ++ end_text world
+-- both disks had the crashes and the faults of a story
+pub record TellBoth (s : Story) (first now : Scene) : Type 0 where
+  pub one : Tells s.one first.drives.one now.drives.one
+  pub two : Tells s.two first.drives.two now.drives.two
 
--- memory was wanting: some first lines were played, and of the next one perhaps all but some last of its packets
-pub record RanShort (terms : Terms) (script : List Said) (one two : List Call) (packets : List (ℕ × List ℕ))
-    : Type 0 where
+-- all lines were played, the disks and the wire hold what is there then, and this is the report
+pub record Ran (terms : Terms) (script : List Said) (first now : Scene) (text : List ℕ) : Type 0 where
+  pub story : Story
+  pub played : Played terms script story
+  pub holds : Holds story.world now
+  pub tell : TellBoth story first now
+  pub printed : text ≡ lines_text story.report ++ end_text story.world
+
+-- Memory was wanting. Some first lines were played: the disks and the wire held what was there then, and hold it still,
+-- or what a further line made but for some last of its packets.
+pub record RanShort (terms : Terms) (script : List Said) (first now : Scene) : Type 0 where
   pub count : ℕ
-  pub world : World
-  pub report : List Line
-  pub played : Played terms (take count script) world report
-  pub left : Holds world one two packets
-      ⊎ ((line : Said) × (slice_get script count ≡ Some line) × IsCut terms world line one two packets)
+  pub story : Story
+  pub played : Played terms (take count script) story
+  pub before : Scene
+  pub tell : TellBoth story first before
+  pub left : (Holds story.world now × (now ≡ before))
+      ⊎ ((line : Said) × (slice_get script count ≡ Some line) × IsCut terms story.world line before now)

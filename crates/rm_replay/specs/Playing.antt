@@ -2,33 +2,42 @@
 use Rattle.std.specs.Prelude.{◌≡◌, ℕ, List, ◌++◌, Option, Result, Ok, Err}
 use Rattle.rm_base.specs.declared.failures.Memory.{Memory}
 use Rattle.rm_protocol.specs.Terms.{Terms}
-use Rattle.rm_protocol.specs.World.{World, Event}
+use Rattle.rm_protocol.specs.World.{One, Two, World, Event}
 use Rattle.rm_report.specs.Report.{lines_text}
-use Rattle.rm_report.specs.declared.line.Line.{Line}
 use Rattle.rm_script.specs.declared.event.Event.{Event as Said}
 use Rattle.rm_replay.specs.Meaning.{Means, comes_out, report_of, stepped}
-use Rattle.rm_replay.specs.Played.{Played, RanShort}
-use Rattle.rm_replay.specs.Shows.{Devices, IsCut, Shows}
+use Rattle.rm_replay.specs.Played.{Played, RanShort, Story, TellBoth}
+use Rattle.rm_replay.specs.Shows.{IsCut, Scene, Shows}
+use Rattle.rm_replay.specs.Tales.{Tells, tale_of}
+use Rattle.rm_replay.specs.declared.stage.Nodes.{Nodes}
 
--- A line was played, and the report has its line. Where memory was wanting for that, the line was played all the same.
-abbrev pub PlaysLine : Terms → World → ℕ → Said → Devices → List (ℕ × List ℕ) → List ℕ → List ℕ → Result Unit Memory
-    → Type 0
-PlaysLine terms w number line d packets old new (Ok done) =
-    (event : Option Event) × Means line event × Shows (stepped terms w event) d packets
-    × (new ≡ old ++ lines_text (report_of number (comes_out terms w line event) (stepped terms w event)))
-PlaysLine terms w number line d packets old new (Err memory) =
-    IsCut terms w line d.one.disk.past d.two.disk.past packets
+-- a line was played that means this event, and the report has its line
+pub record LinePlayed (terms : Terms) (w : World) (number : ℕ) (line : Said) (old new : Scene) (nodes : Nodes)
+    (before after : List ℕ) : Type 0 where
+  pub event : Option Event
+  pub means : Means line event
+  pub shows : Shows (stepped terms w event) new nodes
+  pub one : Tells (tale_of terms w One line event) old.drives.one new.drives.one
+  pub two : Tells (tale_of terms w Two line event) old.drives.two new.drives.two
+  pub printed : after
+      ≡ before ++ lines_text (report_of number (comes_out terms w line event) (stepped terms w event))
+
+-- Where memory was wanting for the report, the line may have been played all the same.
+abbrev pub PlaysLine : Terms → World → ℕ → Said → Scene → Scene → Nodes → List ℕ → List ℕ → Result Unit Memory → Type 0
+PlaysLine terms w number line old new nodes before after (Ok done) =
+    LinePlayed terms w number line old new nodes before after
+PlaysLine terms w number line old new nodes before after (Err memory) = IsCut terms w line old new
 
 -- all lines were played, and this is the report so far
-pub record IsPlayed (terms : Terms) (script : List Said) (d : Devices) (packets : List (ℕ × List ℕ)) (text : List ℕ)
-    : Type 0 where
-  pub world : World
-  pub report : List Line
-  pub played : Played terms script world report
-  pub shows : Shows world d packets
-  pub printed : text ≡ lines_text report
+pub record AllPlayed (terms : Terms) (script : List Said) (first now : Scene) (nodes : Nodes) (text : List ℕ) : Type 0
+    where
+  pub story : Story
+  pub played : Played terms script story
+  pub shows : Shows story.world now nodes
+  pub tell : TellBoth story first now
+  pub printed : text ≡ lines_text story.report
 
 -- a script was played
-abbrev pub Plays : Terms → List Said → Devices → List (ℕ × List ℕ) → List ℕ → Result Unit Memory → Type 0
-Plays terms script d packets text (Ok done) = IsPlayed terms script d packets text
-Plays terms script d packets text (Err memory) = RanShort terms script d.one.disk.past d.two.disk.past packets
+abbrev pub Plays : Terms → List Said → Scene → Scene → Nodes → List ℕ → Result Unit Memory → Type 0
+Plays terms script first now nodes text (Ok done) = AllPlayed terms script first now nodes text
+Plays terms script first now nodes text (Err memory) = RanShort terms script first now

@@ -1,5 +1,6 @@
 //! A node is asked for something, or something comes to it.
 ghost use Rattle.std.specs.Prelude.{Result};
+ghost use Rattle.node_actor.specs.Outcomes.{is_disk};
 ghost use Rattle.node_actor.specs.Stands.{Stands};
 ghost use Rattle.node_rules.specs.OwnTerms.{AreOwn};
 ghost use Rattle.node_store.specs.Changes.{told};
@@ -8,9 +9,9 @@ ghost use Rattle.rm_message.specs.declared.refusal.Refusal.{Refusal as Refused};
 ghost use Rattle.rm_protocol.specs.Node.{Node as Value};
 ghost use Rattle.rm_protocol.specs.Terms.{Terms};
 ghost use Rattle.rm_protocol.specs.World.{World, node};
-ghost use Rattle.rm_replay.specs.Asked.{IsCallWithin, IsReadBy, Steps, StepsAt, step_of};
+ghost use Rattle.rm_replay.specs.Asked.{IsCallWithin, IsReadBy, Steps, StepsAt, WasAsked, WereAsked, step_of};
 ghost use Rattle.rm_replay.specs.Meaning.{side_of};
-ghost use Rattle.rm_replay.specs.Shows.{StandFor, devices_of};
+ghost use Rattle.rm_replay.specs.Shows.{StandFor, drive_of, drives_of};
 
 use crate::stage::Nodes;
 use node_actor::{Actor, Came};
@@ -51,9 +52,11 @@ pub enum Call<'a> {
 fn ask<M: CrashDisk>(actor: &mut Actor, disk: &mut M, call: Call<'_>) -> Result<Came, Memory>
     requires there { (x : Value) × Stands x (told (M.past disk.old) (M.fuse disk.old)) actor.old }
     requires within { IsCallWithin call }
-    ensures { (terms : Terms) → AreOwn terms → (content : Result Read Refused) → IsReadBy call content → (x : Value)
-        → Stands x (told (M.past disk.old) (M.fuse disk.old)) actor.old
+    ensures steps { (terms : Terms) → AreOwn terms → (content : Result Read Refused) → IsReadBy call content
+        → (x : Value) → Stands x (told (M.past disk.old) (M.fuse disk.old)) actor.old
         → Steps x (step_of terms x content call) (told (M.past disk.new) (M.fuse disk.new)) actor.new result }
+    ensures asked { WasAsked (is_disk result) (drive_of M.past M.fuse M.faults disk.old)
+        (drive_of M.past M.fuse M.faults disk.new) }
 {
     match call {
         Call::Create {
@@ -85,12 +88,14 @@ pub(crate) fn ask_at<M: CrashDisk>(
     side: Side,
     call: Call<'_>,
 ) -> Result<Came, Memory>
-    requires there { (w : World) × StandFor w (devices_of M.past M.fuse one.old two.old nodes.old) }
+    requires there { (w : World) × StandFor w (drives_of M.past M.fuse M.faults one.old two.old) nodes.old }
     requires within { IsCallWithin call }
-    ensures { (terms : Terms) → AreOwn terms → (content : Result Read Refused) → IsReadBy call content → (w : World)
-        → StandFor w (devices_of M.past M.fuse one.old two.old nodes.old)
+    ensures steps { (terms : Terms) → AreOwn terms → (content : Result Read Refused) → IsReadBy call content
+        → (w : World) → StandFor w (drives_of M.past M.fuse M.faults one.old two.old) nodes.old
         → StepsAt w (side_of side) (step_of terms (node w (side_of side)) content call)
-        (devices_of M.past M.fuse one.new two.new nodes.new) result }
+        (drives_of M.past M.fuse M.faults one.new two.new) nodes.new result }
+    ensures asked { WereAsked (side_of side) (is_disk result) (drives_of M.past M.fuse M.faults one.old two.old)
+        (drives_of M.past M.fuse M.faults one.new two.new) }
 {
     match side {
         Side::One => ask(&mut nodes.one, one, call),

@@ -1,15 +1,15 @@
 //! What one line of a script does.
-ghost use Rattle.std.specs.Prelude.{◌≡◌, ◌≤◌, IfOk, Result};
-ghost use Rattle.node_store.specs.Changes.{Told};
+ghost use Rattle.std.specs.Prelude.{◌≡◌, ◌≤◌, IfOk, Result, false};
 ghost use Rattle.rm_message.specs.declared.message.Message.{Message as Read};
 ghost use Rattle.rm_message.specs.declared.refusal.Refusal.{Refusal as Refused};
 ghost use Rattle.rm_protocol.specs.Terms.{Terms};
 ghost use Rattle.rm_protocol.specs.World.{World, node, other as other_of};
 ghost use Rattle.rm_script.specs.Within.{IsWithin};
-ghost use Rattle.rm_replay.specs.Asked.{Crashes, Happens, IsCallWithin, IsReadBy, Moves, armed, granted, step_of, told_of};
+ghost use Rattle.rm_replay.specs.Asked.{IsCallWithin, IsReadBy, WereAsked, step_of};
+ghost use Rattle.rm_replay.specs.Happening.{Crashes, Happens, Moves, WereAskedFor, armed, granted, told_of};
 ghost use Rattle.rm_replay.specs.Meaning.{side_of};
 ghost use Rattle.rm_replay.specs.Net.{AreOfNet, number_of};
-ghost use Rattle.rm_replay.specs.Shows.{Shows, StandFor, address_of, devices, devices_of};
+ghost use Rattle.rm_replay.specs.Shows.{Drives, Shows, StandFor, address_of, drives_of, scene_of};
 
 use crate::ask::{Call, ask_at};
 use crate::stage::{Nodes, Stage};
@@ -62,13 +62,16 @@ fn call<M: CrashDisk, W: Wire>(
     side: Side,
     call: Call<'_>,
 ) -> Result<Outcome, Memory>
-    requires there { (w : World) × Shows w (devices_of M.past M.fuse stage.old.one stage.old.two nodes.old)
-        (W.packets stage.old.wire) }
+    requires there { (w : World) × Shows w
+        (scene_of M.past M.fuse M.faults W.packets stage.old.one stage.old.two stage.old.wire) nodes.old }
     requires within { IsCallWithin call }
-    ensures { (terms : Terms) → AreOfNet terms → (content : Result Read Refused) → IsReadBy call content → (w : World)
-        → Shows w (devices_of M.past M.fuse stage.old.one stage.old.two nodes.old) (W.packets stage.old.wire)
+    ensures moves { (terms : Terms) → AreOfNet terms → (content : Result Read Refused) → IsReadBy call content
+        → (w : World) → Shows w (scene_of M.past M.fuse M.faults W.packets stage.old.one stage.old.two stage.old.wire) nodes.old
         → Moves terms w (side_of side) (step_of terms (node w (side_of side)) content call)
-        (devices_of M.past M.fuse stage.new.one stage.new.two nodes.new) (W.packets stage.new.wire) result }
+        (scene_of M.past M.fuse M.faults W.packets stage.new.one stage.new.two stage.new.wire) nodes.new result }
+    ensures asked { WereAskedFor (side_of side) result
+        (drives_of M.past M.fuse M.faults stage.old.one stage.old.two)
+        (drives_of M.past M.fuse M.faults stage.new.one stage.new.two) }
 {
     let came = ask_at(&mut stage.one, &mut stage.two, nodes, side, call)?;
     put_came(&mut stage.wire, number(other(side)), came)
@@ -80,12 +83,12 @@ fn deliver<M: CrashDisk, W: Wire>(
     nodes: &mut Nodes,
     packet: u64,
 ) -> Result<Outcome, Memory>
-    requires there { (w : World) × Shows w (devices_of M.past M.fuse stage.old.one stage.old.two nodes.old)
-        (W.packets stage.old.wire) }
+    requires there { (w : World) × Shows w
+        (scene_of M.past M.fuse M.faults W.packets stage.old.one stage.old.two stage.old.wire) nodes.old }
     ensures { (terms : Terms) → AreOfNet terms → (w : World)
-        → Shows w (devices_of M.past M.fuse stage.old.one stage.old.two nodes.old) (W.packets stage.old.wire)
-        → Happens terms w (Event.Deliver packet) (devices_of M.past M.fuse stage.new.one stage.new.two nodes.new)
-        (W.packets stage.new.wire) (told_of result) }
+        → Shows w (scene_of M.past M.fuse M.faults W.packets stage.old.one stage.old.two stage.old.wire) nodes.old
+        → Happens terms w (Event.Deliver packet) (scene_of M.past M.fuse M.faults W.packets stage.old.one stage.old.two stage.old.wire)
+        (scene_of M.past M.fuse M.faults W.packets stage.new.one stage.new.two stage.new.wire) nodes.new (told_of result) }
 {
     let Some(packet) = stage.wire.get(packet) else {
         return Ok(Outcome::NoPacket);
@@ -106,12 +109,12 @@ fn make_noise<M: CrashDisk, W: Wire>(
     side: Side,
     bytes: &[u8],
 ) -> Result<Outcome, Memory>
-    requires there { (w : World) × Shows w (devices_of M.past M.fuse stage.old.one stage.old.two nodes.old)
-        (W.packets stage.old.wire) }
+    requires there { (w : World) × Shows w
+        (scene_of M.past M.fuse M.faults W.packets stage.old.one stage.old.two stage.old.wire) nodes.old }
     ensures { (terms : Terms) → AreOfNet terms → (w : World)
-        → Shows w (devices_of M.past M.fuse stage.old.one stage.old.two nodes.old) (W.packets stage.old.wire)
-        → Happens terms w (Event.Noise side bytes.now) (devices_of M.past M.fuse stage.new.one stage.new.two nodes.new)
-        (W.packets stage.new.wire) (told_of result) }
+        → Shows w (scene_of M.past M.fuse M.faults W.packets stage.old.one stage.old.two stage.old.wire) nodes.old
+        → Happens terms w (Event.Noise side bytes.now) (scene_of M.past M.fuse M.faults W.packets stage.old.one stage.old.two stage.old.wire)
+        (scene_of M.past M.fuse M.faults W.packets stage.new.one stage.new.two stage.new.wire) nodes.new (told_of result) }
 {
     match decode(alloc, bytes) {
         Ok(_) => Ok(Outcome::NoNoise),
@@ -122,8 +125,8 @@ fn make_noise<M: CrashDisk, W: Wire>(
 
 /// A node announces another behaviour from now on.
 fn grant(nodes: &mut Nodes, side: Side, behaviour: Behaviour)
-    ensures { (w : World) (one two : Told) → StandFor w (devices one two nodes.old)
-        → StandFor (granted w (side_of side) behaviour) (devices one two nodes.new) }
+    ensures { (w : World) (d : Drives) → StandFor w d nodes.old
+        → StandFor (granted w (side_of side) behaviour) d nodes.new }
 {
     match side {
         Side::One => nodes.one.set_grant(behaviour),
@@ -134,8 +137,10 @@ fn grant(nodes: &mut Nodes, side: Side, behaviour: Behaviour)
 /// A disk is to fail.
 fn arm<M: CrashDisk>(one: &mut M, two: &mut M, nodes: &Nodes, side: Side, calls: u64)
     requires { 1 ≤ calls }
-    ensures { (w : World) → StandFor w (devices_of M.past M.fuse one.old two.old nodes.now)
-        → StandFor (armed w (side_of side) calls) (devices_of M.past M.fuse one.new two.new nodes.now) }
+    ensures stand { (w : World) → StandFor w (drives_of M.past M.fuse M.faults one.old two.old) nodes.now
+        → StandFor (armed w (side_of side) calls) (drives_of M.past M.fuse M.faults one.new two.new) nodes.now }
+    ensures asked { WereAsked (side_of side) false (drives_of M.past M.fuse M.faults one.old two.old)
+        (drives_of M.past M.fuse M.faults one.new two.new) }
 {
     match side {
         Side::One => nodes.one.arm(one, calls),
@@ -151,10 +156,11 @@ fn crash<M: CrashDisk>(
     side: Side,
     choice: u8,
 ) -> Result<(), Memory>
-    requires there { (w : World) × StandFor w (devices_of M.past M.fuse one.old two.old nodes.old) }
+    requires there { (w : World) × StandFor w (drives_of M.past M.fuse M.faults one.old two.old) nodes.old }
     requires choice { choice ≤ 3 }
-    ensures { (w : World) → StandFor w (devices_of M.past M.fuse one.old two.old nodes.old)
-        → Crashes w (side_of side) (devices_of M.past M.fuse one.new two.new nodes.new) result }
+    ensures { (w : World) → StandFor w (drives_of M.past M.fuse M.faults one.old two.old) nodes.old
+        → Crashes w (side_of side) choice (drives_of M.past M.fuse M.faults one.old two.old)
+        (drives_of M.past M.fuse M.faults one.new two.new) nodes.new result }
 {
     match side {
         Side::One => nodes.one.crash(one, choice),
@@ -170,12 +176,12 @@ pub(crate) fn happen<M: CrashDisk, W: Wire>(
     event: Event,
 ) -> Result<Option<Outcome>, Memory>
     requires within { IsWithin event }
-    requires there { (w : World) × Shows w (devices_of M.past M.fuse stage.old.one stage.old.two nodes.old)
-        (W.packets stage.old.wire) }
+    requires there { (w : World) × Shows w
+        (scene_of M.past M.fuse M.faults W.packets stage.old.one stage.old.two stage.old.wire) nodes.old }
     ensures { (terms : Terms) → AreOfNet terms → (w : World)
-        → Shows w (devices_of M.past M.fuse stage.old.one stage.old.two nodes.old) (W.packets stage.old.wire)
-        → Happens terms w event (devices_of M.past M.fuse stage.new.one stage.new.two nodes.new)
-        (W.packets stage.new.wire) result }
+        → Shows w (scene_of M.past M.fuse M.faults W.packets stage.old.one stage.old.two stage.old.wire) nodes.old
+        → Happens terms w event (scene_of M.past M.fuse M.faults W.packets stage.old.one stage.old.two stage.old.wire)
+        (scene_of M.past M.fuse M.faults W.packets stage.new.one stage.new.two stage.new.wire) nodes.new result }
 {
     let outcome = match event {
         Event::Nothing => return Ok(None),

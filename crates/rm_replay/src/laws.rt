@@ -1,1 +1,57 @@
-//! Laws of scripts.
+//! Laws of scripts that are played.
+ghost use Rattle.std.specs.Prelude.{◌≡◌, List};
+ghost use Rattle.rm_protocol.specs.Delivered.{TakesNew};
+ghost use Rattle.rm_protocol.specs.Terms.{Terms};
+ghost use Rattle.rm_protocol.specs.World.{Event as Happening, run};
+ghost use Rattle.rm_script.specs.declared.event.Event.{Event as Said};
+ghost use Rattle.rm_replay.specs.Headline.{KeepsHeadline};
+ghost use Rattle.rm_replay.specs.Net.{AreOfNet};
+ghost use Rattle.rm_replay.specs.Played.{Played, Story, start_world};
+ghost use Rattle.rm_replay.specs.Shows.{Holds, IsLeftOfLine, Scene};
+
+use node_rules::laws::{own_terms_are_terms, there_are_own_terms};
+use rm_protocol::laws::{a_delivered_message_is_taken as a_message_is_taken, a_run_goes_on, every_run_keeps_the_word};
+use rm_wires::laws::room_goes_by_the_bytes;
+
+/// There are terms of nodes with a network.
+pub fn there_are_nets()
+    ensures { (terms : Terms) × AreOfNet terms }
+{
+    room_goes_by_the_bytes();
+    there_are_own_terms();
+}
+
+/// A script that was played is a run of the protocol.
+pub fn a_played_script_is_a_run()
+    ensures { (terms : Terms) (script : List Said) (s : Story) → Played terms script s
+        → (events : List Happening) × (s.world ≡ run terms events start_world) }
+{
+    a_run_goes_on();
+}
+
+/// Two disks that hold what a played script made keep the headline; so do two disks where memory was wanting in a
+/// further line.
+pub fn a_played_script_keeps_the_headline()
+    ensures whole { (terms : Terms) (script : List Said) (s : Story) → AreOfNet terms → Played terms script s
+        → (scene : Scene) → Holds s.world scene
+        → KeepsHeadline scene.drives.one.disk.past scene.drives.two.disk.past }
+    ensures short { (terms : Terms) (script : List Said) (s : Story) → AreOfNet terms → Played terms script s
+        → (line : Said) (scene : Scene) → IsLeftOfLine terms s.world line scene
+        → KeepsHeadline scene.drives.one.disk.past scene.drives.two.disk.past }
+{
+    a_run_goes_on();
+    every_run_keeps_the_word();
+    own_terms_are_terms();
+}
+
+/// At each moment of a script, a delivered message that is new, within the window and for an open sequence is recorded
+/// by that line, and released where it closes the gap, unless the node was down, its disk failed, an acknowledgement of
+/// the message was invalid or the store was full.
+pub fn a_delivered_message_is_taken()
+    ensures { (terms : Terms) (script : List Said) (s : Story) → AreOfNet terms → Played terms script s
+        → TakesNew terms s.world }
+{
+    a_run_goes_on();
+    a_message_is_taken();
+    own_terms_are_terms();
+}

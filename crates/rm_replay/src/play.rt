@@ -1,14 +1,13 @@
 //! The lines of a script, one after another.
-ghost use Rattle.std.specs.Prelude.{◌≡◌, ◌+◌, ◌<◌, ◌^◌, List, [], ◌++◌, ◌∷◌, length};
+ghost use Rattle.std.specs.Prelude.{◌≡◌, []};
 ghost use Rattle.std.specs.List.{AllByRecursion};
 ghost use Rattle.rm_protocol.specs.Terms.{Terms};
 ghost use Rattle.rm_protocol.specs.World.{World};
 ghost use Rattle.rm_script.specs.Within.{IsWithin};
-ghost use Rattle.rm_script.specs.declared.event.Event.{Event as Said};
 ghost use Rattle.rm_replay.specs.Net.{AreOfNet};
 ghost use Rattle.rm_replay.specs.Playing.{PlaysLine, Plays};
 ghost use Rattle.rm_replay.specs.Played.{start_world};
-ghost use Rattle.rm_replay.specs.Shows.{Shows, devices_of};
+ghost use Rattle.rm_replay.specs.Shows.{Shows, scene_of};
 
 use crate::happen::happen;
 use crate::stage::{Nodes, Stage};
@@ -29,12 +28,14 @@ fn play_line<M: CrashDisk, W: Wire>(
     report: &mut Blob,
 ) -> Result<(), Memory>
     requires within { IsWithin event }
-    requires there { (w : World) × Shows w (devices_of M.past M.fuse stage.old.one stage.old.two nodes.old)
-        (W.packets stage.old.wire) }
+    requires there { (w : World) × Shows w
+        (scene_of M.past M.fuse M.faults W.packets stage.old.one stage.old.two stage.old.wire) nodes.old }
     ensures { (terms : Terms) → AreOfNet terms → (w : World)
-        → Shows w (devices_of M.past M.fuse stage.old.one stage.old.two nodes.old) (W.packets stage.old.wire)
-        → PlaysLine terms w number event (devices_of M.past M.fuse stage.new.one stage.new.two nodes.new)
-        (W.packets stage.new.wire) report.old report.new result }
+        → Shows w (scene_of M.past M.fuse M.faults W.packets stage.old.one stage.old.two stage.old.wire) nodes.old
+        → PlaysLine terms w number event
+        (scene_of M.past M.fuse M.faults W.packets stage.old.one stage.old.two stage.old.wire)
+        (scene_of M.past M.fuse M.faults W.packets stage.new.one stage.new.two stage.new.wire) nodes.new
+        report.old report.new result }
 {
     let Some(outcome) = happen(alloc, stage, nodes, event)? else {
         return Ok(());
@@ -58,11 +59,12 @@ pub(crate) fn play<M: CrashDisk, W: Wire>(
     report: &mut Blob,
 ) -> Result<(), Memory>
     requires within { AllByRecursion IsWithin script.items }
-    requires there { Shows start_world (devices_of M.past M.fuse stage.old.one stage.old.two nodes.old)
-        (W.packets stage.old.wire) }
+    requires there { Shows start_world
+        (scene_of M.past M.fuse M.faults W.packets stage.old.one stage.old.two stage.old.wire) nodes.old }
     requires first { report.old ≡ [] }
     ensures { (terms : Terms) → AreOfNet terms → Plays terms script.items
-        (devices_of M.past M.fuse stage.new.one stage.new.two nodes.new) (W.packets stage.new.wire) report.new result }
+        (scene_of M.past M.fuse M.faults W.packets stage.old.one stage.old.two stage.old.wire)
+        (scene_of M.past M.fuse M.faults W.packets stage.new.one stage.new.two stage.new.wire) nodes.new report.new result }
 {
     let mut number: u64 = 0;
     for event in script {

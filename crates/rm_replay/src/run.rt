@@ -1,5 +1,5 @@
 //! The run of a script.
-ghost use Rattle.std.specs.Prelude.{◌≡◌, ◌++◌, ◌⊎◌, [], None, IfOk, OnErr, OnOk};
+ghost use Rattle.std.specs.Prelude.{◌≡◌, ◌++◌, ◌⊎◌, [], None, false, IfOk, OnErr, OnOk};
 ghost use Rattle.std.specs.List.{AllByRecursion};
 ghost use Rattle.node_actor.specs.Stands.{Stands};
 ghost use Rattle.node_store.specs.Changes.{Told};
@@ -9,7 +9,9 @@ ghost use Rattle.rm_script.specs.Within.{IsWithin};
 ghost use Rattle.rm_replay.specs.Headline.{KeepsHeadline};
 ghost use Rattle.rm_replay.specs.Net.{AreOfNet};
 ghost use Rattle.rm_replay.specs.Played.{Ran, RanShort, known_text, start_world};
-ghost use Rattle.rm_replay.specs.Shows.{Shows, devices_of};
+ghost use Rattle.rm_replay.specs.Shows.{Shows, drives_of, scene_of};
+ghost use Rattle.rm_replay.specs.Asked.{WereAsked};
+ghost use Rattle.rm_protocol.specs.World.{One};
 
 use crate::happen::address;
 use crate::laws::{a_played_script_keeps_the_headline, there_are_nets};
@@ -32,9 +34,11 @@ fn make<M: CrashDisk, W: Wire>(
     requires one { M.fuse stage.old.one ≡ None }
     requires two { M.fuse stage.old.two ≡ None }
     requires silent { W.packets stage.old.wire ≡ [] }
-    ensures shows { IfOk result (λ nodes. Shows start_world (devices_of M.past M.fuse stage.new.one stage.new.two nodes)
-        (W.packets stage.new.wire)) }
-    ensures err { OnErr result (W.packets stage.new.wire ≡ []) }
+    ensures shows { IfOk result (λ nodes. Shows start_world
+        (scene_of M.past M.fuse M.faults W.packets stage.new.one stage.new.two stage.new.wire) nodes) }
+    ensures wire { W.packets stage.new.wire ≡ [] }
+    ensures asked { WereAsked One false (drives_of M.past M.fuse M.faults stage.old.one stage.old.two)
+        (drives_of M.past M.fuse M.faults stage.new.one stage.new.two) }
 {
     let at_one = address(alloc, Side::One)?;
     let at_two = address(alloc, Side::Two)?;
@@ -67,9 +71,12 @@ pub fn run_script<M: CrashDisk, W: Wire>(
     requires two { M.fuse stage.old.two ≡ None }
     requires silent { W.packets stage.old.wire ≡ [] }
     ensures ok { (terms : Terms) → AreOfNet terms → IfOk result (λ report. Ran terms script.items
-        (M.past stage.new.one) (M.past stage.new.two) (W.packets stage.new.wire) report) }
+        (scene_of M.past M.fuse M.faults W.packets stage.old.one stage.old.two stage.old.wire)
+        (scene_of M.past M.fuse M.faults W.packets stage.new.one stage.new.two stage.new.wire) report) }
     ensures err { (terms : Terms) → AreOfNet terms → OnErr result ((W.packets stage.new.wire ≡ [])
-        ⊎ RanShort terms script.items (M.past stage.new.one) (M.past stage.new.two) (W.packets stage.new.wire)) }
+        ⊎ RanShort terms script.items
+        (scene_of M.past M.fuse M.faults W.packets stage.old.one stage.old.two stage.old.wire)
+        (scene_of M.past M.fuse M.faults W.packets stage.new.one stage.new.two stage.new.wire)) }
     ensures word { OnOk result (KeepsHeadline (M.past stage.new.one) (M.past stage.new.two)) }
     ensures short { OnErr result ((W.packets stage.new.wire ≡ [])
         ⊎ KeepsHeadline (M.past stage.new.one) (M.past stage.new.two)) }

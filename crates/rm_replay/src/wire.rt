@@ -1,7 +1,7 @@
 //! What left a node goes on the wire.
 ghost use Rattle.std.specs.Prelude.{◌≡◌, IfOk, OnErr, OnOk};
 ghost use Rattle.node_actor.specs.Outcomes.{packets_in};
-ghost use Rattle.rm_replay.specs.Asked.{IsPutInPart, with_all};
+ghost use Rattle.rm_replay.specs.Happening.{IsPutInPart, with_all};
 
 use node_actor::Came;
 use rm_base::Memory;

@@ -1,0 +1,3 @@
+mod NetLemmas
+mod HeadlineLemmas
+mod PlayedLemmas

@@ -1,0 +1,144 @@
+-- What a node says is read as it was said, or is too long to be read.
+use Rattle.std.proofs.Common.{◌≡◌, ◌∙◌, ◌<◌, ◌≤◌, ℕ, nat_le, cond, Bool, true, false, List, [], ◌∷◌, length, Option, Some}
+use Rattle.std.proofs.Common.{None, refl, sym, ap, subst}
+use Rattle.std.specs.Prelude.{IfSome, Result, Ok, Err}
+use Rattle.std.specs.List.{AllByRecursion, filter}
+use Rattle.std.proofs.lemmas.Bool.{leb-true, leb-false}
+use Rattle.soap_profile.specs.Soap.{soap_space}
+use Rattle.message_reader.specs.Refusals.{Refuses, Spells, blind, too_long}
+use Rattle.rm_message.specs.declared.message.Body.{Body}
+use Rattle.rm_message.specs.declared.message.Body.TheVariants as body
+use Rattle.rm_message.specs.declared.message.Message.{Message}
+use Rattle.rm_message.specs.declared.refusal.FaultKind.TheVariants.{TooLong}
+use Rattle.rm_message.specs.declared.refusal.Refusal.{Refusal}
+use Rattle.read_rules.specs.WasRead.{WasRead, IsBodyRead}
+use Rattle.record_batch.specs.Fact.{Fact}
+use Rattle.rm_disk.specs.Call.{Call as DeviceCall}
+use Rattle.rm_protocol.specs.Calls.{Answer}
+use Rattle.rm_protocol.specs.Node.{Node, State, Up, Writing, end_of, is_short, records, records_in, said_after, said_by}
+use Rattle.rm_protocol.specs.Node.{said_with}
+use Rattle.rm_protocol.specs.Said.{sent_of, leaves}
+use Rattle.rm_protocol.specs.Addresses.{place_of}
+use Rattle.rm_protocol.specs.Terms.{Terms}
+use Rattle.rm_wire.specs.Writable.{IsRefusalWritable}
+use Rattle.node_rules.specs.Keeps.{EachIsReadBack, IsReadBack}
+use Rattle.node_rules.specs.OwnTerms.{AreOwn}
+use Rattle.node_rules.specs.Read.{IsContentRead, IsBodyRead as IsBodyKept}
+use Rattle.node_rules.specs.Records.{IsKept}
+use Rattle.node_store.specs.Changes.{Told}
+use Rattle.node_store.specs.Stored.{Stored}
+use Rattle.rm_node.specs.Came.{IsReadAs}
+use Rattle.node_actor.specs.Actored.{Actored}
+use Rattle.node_actor.specs.Stands.{Stands, StandsBy}
+use Rattle.rm_replay.specs.Asked.{IsCallWithin, IsReadBy, answer_of, clocked, is_connected, step_of}
+use Rattle.rm_replay.specs.Net.{read_as, text_of}
+use Rattle.rm_replay.specs.declared.ask.Call.{Call}
+use Rattle.rm_replay.specs.declared.ask.Call.TheVariants as call
+
+-- ---- what comes is as it is read
+
+-- a message that bytes spell may be written
+abbrev pub ReadsRight : Type 0
+ReadsRight = (soap bytes : List ℕ) (m : Message) → Spells soap bytes m → WasRead m
+
+-- a refusal of bytes may be answered
+abbrev pub RefusesRight : Type 0
+RefusesRight = (soap bytes : List ℕ) (refusal : Refusal) → Refuses soap bytes refusal → IsRefusalWritable refusal None
+
+body_kept : (b : Body) → IsBodyRead b → IsBodyKept b
+body_kept body.Empty h = tt
+body_kept (body.Payload p) h = tt
+body_kept (body.Lifecycle x) h = h
+body_kept (body.Fault f) h = tt
+
+content_read : ReadsRight → RefusesRight → (bytes : List ℕ) (content : Result Message Refusal)
+    → IsReadAs bytes content → IsContentRead content
+content_read reads refuses bytes (Ok m) is =
+    let h : WasRead m = reads soap_space bytes m is in
+    record {
+      addressing = h.addressing;
+      sequence = h.sequence;
+      acks = h.acks;
+      asks = h.asks;
+      body = body_kept m.body h.body;
+    }
+content_read reads refuses bytes (Err refusal) is = refuses soap_space bytes refusal is
+
+-- ---- what is said
+
+-- a message's text is read as it should be
+abbrev pub IsReadMessage : Message → Type 0
+IsReadMessage m = IsReadAs (text_of m) (read_as m)
+
+read_by : (m : Message) (b : Bool) → nat_le (length (text_of m)) 2097152 ≡ b → IsReadBack m
+    → IsReadAs (text_of m) (cond b (Ok m) (Err (blind TooLong)))
+read_by m true e back = back (leb-true (length (text_of m)) 2097152 e)
+read_by m false e back = too_long (leb-false (length (text_of m)) 2097152 e)
+
+read_message : (m : Message) → IsReadBack m → IsReadMessage m
+read_message m back = read_by m (nat_le (length (text_of m)) 2097152) refl back
+
+read_messages : (ms : List Message) → AllByRecursion IsReadBack ms → AllByRecursion IsReadMessage ms
+read_messages [] all = tt
+read_messages (m ∷ ms) all = (read_message m all.0, read_messages ms all.1)
+
+all_cond : {A : Type 0} (P : A → Type 0) (b : Bool) (xs ys : List A) → AllByRecursion P xs → AllByRecursion P ys
+    → AllByRecursion P (cond b xs ys)
+all_cond P true xs ys one two = one
+all_cond P false xs ys one two = two
+
+all_filter : {A : Type 0} (P : A → Type 0) (f : A → Bool) (xs : List A) → AllByRecursion P xs
+    → AllByRecursion P (filter f xs)
+all_filter P f [] all = tt
+all_filter P f (x ∷ xs) all =
+    all_cond P (f x) (x ∷ filter f xs) (filter f xs) (all.0, all_filter P f xs all.1) (all_filter P f xs all.1)
+
+all_said_with : (P : Message → Type 0) (fuse : Option ℕ) (delta : List Fact) (outs : List Message)
+    → AllByRecursion P outs → AllByRecursion P (said_with fuse delta outs)
+all_said_with P fuse [] outs all = all
+all_said_with P fuse (f ∷ delta) outs all = all_cond P (is_short 4 fuse) [] outs tt all
+
+all_said : (P : Message → Type 0) (x : Node) (st : State) (answer : Answer) → AllByRecursion P answer.outs
+    → AllByRecursion P (said_by x st answer)
+all_said P x Up answer all = all_said_with P x.fuse answer.delta answer.outs all
+all_said P x (Writing delta) answer all = tt
+
+-- ---- at a node
+
+kept_by : (st : State) (entries : List (List Fact)) (past : List DeviceCall) (stored : Stored)
+    → StandsBy st entries past stored → IsKept (records_in entries)
+kept_by Up entries past stored awake = awake.has.are.kept
+kept_by (Writing delta) entries past stored asleep = asleep.are.kept
+
+kept_of : (x : Node) (now : Told) (a : Actored) → Stands x now a → IsKept (records x)
+kept_of x now a s = kept_by x.state x.entries now.past a.node.stored s.disk
+
+answer_read : ReadsRight → RefusesRight → EachIsReadBack → (terms : Terms) → AreOwn terms → (x : Node)
+    → IsKept (records x) → (content : Result Message Refusal) (asked : Call) → IsCallWithin asked
+    → IsReadBy asked content → AllByRecursion IsReadBack (answer_of terms x content asked).outs
+answer_read reads refuses each terms own x kept content (call.Create to expires offer) within by =
+    (each terms (records x) (end_of terms x.entries) own kept).create_ _ (record { to = within.0; expires = within.1 })
+answer_read reads refuses each terms own x kept content (call.Send seq text) within by =
+    (each terms (records x) (end_of terms x.entries) own kept).send_ seq text
+answer_read reads refuses each terms own x kept content (call.Close seq) within by =
+    (each terms (records x) (end_of terms x.entries) own kept).close_ seq x.clock
+answer_read reads refuses each terms own x kept content (call.End seq) within by =
+    (each terms (records x) (end_of terms x.entries) own kept).end_ seq
+answer_read reads refuses each terms own x kept content (call.Tick now) within by =
+    (each terms (records x) (end_of terms x.entries) own kept).tick_ now
+answer_read reads refuses each terms own x kept content (call.Receive bytes) within by =
+    (each terms (records x) (end_of terms x.entries) own kept).receive_ x.clock x.granted content
+    (content_read reads refuses bytes.now content by)
+
+-- all that a node says in a call
+pub said_is_read : ReadsRight → RefusesRight → EachIsReadBack → (terms : Terms) → AreOwn terms → (x : Node)
+    (now : Told) (a : Actored) → Stands x now a → (content : Result Message Refusal) (asked : Call)
+    → IsCallWithin asked → IsReadBy asked content
+    → AllByRecursion IsReadMessage (step_of terms x content asked).said
+said_is_read reads refuses each terms own x now a s content asked within by =
+    let answer = answer_of terms x content asked in
+    let y = clocked asked x in
+    let all = read_messages answer.outs
+    (answer_read reads refuses each terms own x (kept_of x now a s) content asked within by) in
+    all_filter IsReadMessage (λ (m : Message). leaves (is_connected asked) (place_of m.addressing.to))
+    (said_after y answer) (all_said IsReadMessage y y.state answer all)

@@ -1,0 +1,13 @@
+use Rattle.std.proofs.Common.{sym, subst}
+use Rattle.rm_protocol.specs.Delivered.{TakesNew}
+use Rattle.rm_replay.specs.Shows.{address_one, address_two}
+use Rattle.rm_replay.proofs.NetLemmas.{are_made, are_terms}
+use Rattle.rm_replay.proofs.PlayedLemmas.{run_of}
+use Rattle.rm_replay.proofs.laws.a_delivered_message_is_taken.Goals as goal
+
+pub returns : goal.returns
+returns c terms script s net played =
+    let of = run_of c.a_run_goes_on.ensures.run terms script s played in
+    subst (TakesNew terms) (sym of.1)
+    (c.a_message_is_taken.ensures terms address_one address_two (are_terms c.own_terms_are_terms.ensures terms net)
+    (are_made terms net) of.0)
