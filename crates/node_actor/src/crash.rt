@@ -1,5 +1,6 @@
 //! A node is made, its disk is armed, and crashes, and the node is mounted again.
-ghost use Rattle.std.specs.Prelude.{◌≡◌, ◌≤◌, ◌<◌, ◌^◌, ℕ, List, None, false, OnOk, OnErr, IfOk};
+ghost use Rattle.std.specs.Prelude.{◌≡◌, ◌⊎◌, ◌≤◌, ◌<◌, ◌^◌, ◌++◌, ◌∷◌, ℕ, [], List, None, false, OnOk};
+ghost use Rattle.std.specs.Prelude.{OnErr, IfOk};
 ghost use Rattle.record_batch.specs.Fact.{Fact};
 ghost use Rattle.rm_disk.specs.Call.{crashes_of, seen_of};
 ghost use Rattle.rm_disk.specs.Image.{MayLeave, OnlyLeaves};
@@ -65,6 +66,9 @@ impl Actor {
             (told (D.past disk.new) (D.fuse disk.new)) self.new) }
         ensures err { (x : Value) → Stands x (told (D.past disk.old) (D.fuse disk.old)) self.old
             → OnErr result (Leaves x (D.past disk.new)) }
+        ensures more { OnErr result ((crashes_of (D.past disk.new) ≡ crashes_of (D.past disk.old))
+            ⊎ ((bytes : List ℕ) × (crashes_of (D.past disk.new)
+            ≡ crashes_of (D.past disk.old) ++ (choice, bytes) ∷ []))) }
         ensures faults { D.faults disk.new ≡ D.faults disk.old }
     {
         bytes_stand_for_one_list_of_batches();

@@ -1,3 +1,11 @@
 mod NetLemmas
 mod HeadlineLemmas
 mod PlayedLemmas
+mod PutLemmas
+mod ReadLemmas
+mod TaleLemmas
+mod StepLemmas
+mod EventLemmas
+mod CallLemmas
+mod StoryLemmas
+mod UnarmedLemmas

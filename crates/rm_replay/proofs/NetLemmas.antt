@@ -31,13 +31,15 @@ texts_aimless (m ∷ before) = ap (λ (texts : List (List ℕ)). text_of m ∷ t
 -- there are terms of nodes with a network
 pub nets : RoomByBytes → ThereAreOwnTerms → (terms : Terms) × AreOfNet terms
 nets room there =
-    let own = there (λ before m. has_room (map aimless before) (length (text_of m))) read_as in
-    (own.0, record {
-      own = own.3;
-      takes = λ packets before m same. ap (λ takes. takes before m) own.1
-          ∙ room (map aimless before) packets (length (text_of m)) (texts_aimless before ∙ sym same);
-      read = λ m. ap (λ read. read m) own.2;
-    })
+    let own = there (λ before m. has_room (map aimless before) (length (text_of m))) read_as in (
+      own.0,
+      record {
+        own = own.3;
+        takes = λ packets before m same. ap (λ takes. takes before m) own.1
+            ∙ room (map aimless before) packets (length (text_of m)) (texts_aimless before ∙ sym same);
+        read = λ m. ap (λ read. read m) own.2;
+      },
+    )
 
 read_by : (m : Message) (b : Bool) (result : Result Message Refusal) → result ≡ cond b (Ok m) (Err (blind TooLong))
     → (result ≡ Ok m) ⊎ ((refusal : Refusal) × (result ≡ Err refusal))

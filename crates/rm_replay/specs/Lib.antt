@@ -7,3 +7,4 @@ pub mod Played
 pub mod Playing
 pub mod Shows
 pub mod Tales
+pub mod Unarmed

@@ -55,10 +55,14 @@ outcome_told (Called outcome) = call_told outcome
 outcome_told NoPacket = told.NoPacket
 outcome_told NoCall = told.Done
 
--- how a line comes out; one that says nothing has no line in the report
+-- how a line comes out that means no event: one that says nothing has no line in the report, and other noise is none
+abbrev pub silent : Said → Option Outcome
+silent said.Nothing = None
+silent _ = Some told.NoNoise
+
+-- how a line comes out
 abbrev pub comes_out : Terms → World → Said → Option Event → Option Outcome
-comes_out terms w said.Nothing event = None
-comes_out terms w line None = Some told.NoNoise
+comes_out terms w line None = silent line
 comes_out terms w line (Some event) = Some (outcome_told (outcome_of terms w event))
 
 -- the report's line, in the world after the line with this number

@@ -40,7 +40,7 @@ abbrev pub told_on : Terms → ℕ → Story → Said → Option Event → Story
 told_on terms number s line event = record {
   world = stepped terms s.world event;
   report =
-    s.report ++ report_of number (comes_out terms s.world line event) (stepped terms s.world event);
+      s.report ++ report_of number (comes_out terms s.world line event) (stepped terms s.world event);
   one = joined s.one (tale_of terms s.world One line event);
   two = joined s.two (tale_of terms s.world Two line event);
 }

@@ -30,12 +30,12 @@ PlaysLine terms w number line old new nodes before after (Err memory) = IsCut te
 
 -- all lines were played, and this is the report so far
 pub record AllPlayed (terms : Terms) (script : List Said) (first now : Scene) (nodes : Nodes) (text : List ℕ) : Type 0
-    where
-  pub story : Story
-  pub played : Played terms script story
-  pub shows : Shows story.world now nodes
-  pub tell : TellBoth story first now
-  pub printed : text ≡ lines_text story.report
+  where
+    pub story : Story
+    pub played : Played terms script story
+    pub shows : Shows story.world now nodes
+    pub tell : TellBoth story first now
+    pub printed : text ≡ lines_text story.report
 
 -- a script was played
 abbrev pub Plays : Terms → List Said → Scene → Scene → Nodes → List ℕ → Result Unit Memory → Type 0

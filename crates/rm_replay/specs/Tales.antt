@@ -1,5 +1,5 @@
 -- What befalls the disks of two nodes while a script is played.
-use Rattle.std.specs.Prelude.{◌≡◌, ◌⊎◌, ℕ, ◌+◌, ◌≤◌, ◌&&◌, if◌then◌else◌, List, [], ◌∷◌, ◌++◌, Option, Some, None}
+use Rattle.std.specs.Prelude.{◌≡◌, ◌⊎◌, ℕ, ◌+◌, ◌&&◌, if◌then◌else◌, List, [], ◌∷◌, ◌++◌, Option, Some, None}
 use Rattle.std.specs.Option.{option_map}
 use Rattle.rm_base.specs.Count.{RoseBy}
 use Rattle.rm_base.specs.Numbered.{numbered}
@@ -90,8 +90,8 @@ pub record Tells (tale : Tale) (first now : Drive) : Type 0 where
   pub left : AreLeftBy tale.crashes pairs
   pub faults : RoseBy first.failed now.failed tale.faults
 
--- where memory was wanting: there may be one crash more
+-- where memory was wanting: there may be one crash more, and the count of faults has not fallen
 pub record Grew (first now : Drive) : Type 0 where
   pub crashes : (crashes_of now.disk.past ≡ crashes_of first.disk.past)
       ⊎ ((pair : ℕ × List ℕ) × (crashes_of now.disk.past ≡ crashes_of first.disk.past ++ pair ∷ []))
-  pub faults : first.failed ≤ now.failed
+  pub faults : RoseBy first.failed now.failed 0

@@ -59,11 +59,7 @@ fn ask<M: CrashDisk>(actor: &mut Actor, disk: &mut M, call: Call<'_>) -> Result<
         (drive_of M.past M.fuse M.faults disk.new) }
 {
     match call {
-        Call::Create {
-            to,
-            expires,
-            offer,
-        } => actor.create(
+        Call::Create { to, expires, offer } => actor.create(
             disk,
             Wish {
                 to,

@@ -210,9 +210,7 @@ pub(crate) fn happen<M: CrashDisk, W: Wire>(
             crash(&mut stage.one, &mut stage.two, nodes, node, choice)?;
             Outcome::Done
         }
-        Event::Noise { node, bytes } => {
-            make_noise(alloc, stage, nodes, node, bytes.as_slice())?
-        }
+        Event::Noise { node, bytes } => { make_noise(alloc, stage, nodes, node, bytes.as_slice())? }
     };
     Ok(Some(outcome))
 }

@@ -8,9 +8,13 @@ ghost use Rattle.rm_replay.specs.Headline.{KeepsHeadline};
 ghost use Rattle.rm_replay.specs.Net.{AreOfNet};
 ghost use Rattle.rm_replay.specs.Played.{Played, Story, start_world};
 ghost use Rattle.rm_replay.specs.Shows.{Holds, IsLeftOfLine, Scene};
+ghost use Rattle.rm_replay.specs.Unarmed.{ArmsNone, TellsCalm};
+ghost use Rattle.std.specs.List.{AllByRecursion};
 
 use node_rules::laws::{own_terms_are_terms, there_are_own_terms};
-use rm_protocol::laws::{a_delivered_message_is_taken as a_message_is_taken, a_run_goes_on, every_run_keeps_the_word};
+use rm_protocol::laws::{
+    a_delivered_message_is_taken as a_message_is_taken, a_run_goes_on, every_run_keeps_the_word,
+};
 use rm_wires::laws::room_goes_by_the_bytes;
 
 /// There are terms of nodes with a network.
@@ -54,4 +58,13 @@ pub fn a_delivered_message_is_taken()
     a_run_goes_on();
     a_message_is_taken();
     own_terms_are_terms();
+}
+
+/// Where no line arms a disk, none fails and no node is down.
+pub fn without_an_arm_no_line_fails()
+    ensures { (terms : Terms) (script : List Said) (s : Story) → Played terms script s
+        → AllByRecursion ArmsNone script → AllByRecursion TellsCalm s.report }
+{
+    a_run_goes_on();
+    without_an_arm_nothing_fails();
 }

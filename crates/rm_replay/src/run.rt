@@ -27,10 +27,7 @@ use rm_wires::Wire;
 use std::alloc::Global;
 
 /// Makes both nodes, with the numbers 1 and 2.
-fn make<M: CrashDisk, W: Wire>(
-    alloc: Global,
-    stage: &mut Stage<M, W>,
-) -> Result<Nodes, Memory>
+fn make<M: CrashDisk, W: Wire>(alloc: Global, stage: &mut Stage<M, W>) -> Result<Nodes, Memory>
     requires one { M.fuse stage.old.one ≡ None }
     requires two { M.fuse stage.old.two ≡ None }
     requires silent { W.packets stage.old.wire ≡ [] }

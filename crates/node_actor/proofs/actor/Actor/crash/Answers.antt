@@ -1,4 +1,5 @@
-use Rattle.std.proofs.Common.{◌≡◌, ◌∙◌, sym, ap, subst}
+use Rattle.std.proofs.Common.{◌≡◌, ◌∙◌, sym, ap, subst, inl, inr}
+use Rattle.rm_disk.specs.Call.{crashes_of, left_by, state}
 use Rattle.std.proofs.lemmas.Result.{err_from_is_err_and}
 use Rattle.rm_base.specs.declared.message.Behaviour.{Behaviour}
 use Rattle.node_store.specs.Changes.{told}
@@ -40,3 +41,16 @@ returns-clause-ok g c x s =
     (actored c.self.inside.node c.self.inside.clock) c.args.choice (g.D.Disk.past c.crash.new.self) stored
     (subst (λ (a : Actored). Stands x first a) (sym c.self.view_is) s) c.in_ok-crash.ensures.past
     c.in_ok-node.ensures.found c.in_ok-node.ensures.up c.in_ok-node.ensures.crashes c.in_ok-node.ensures.fuse)
+
+pub returns-in_err-crash-clause-more : goal.returns-in_err-crash-clause-more
+returns-in_err-crash-clause-more g c =
+    let p = err_from_is_err_and c.from_residual.result c.from_residual.ensures.1 in
+    rw p.1 (inl (ap crashes_of c.in_err-crash.ensures.past))
+
+pub returns-in_err-node-clause-more : goal.returns-in_err-node-clause-more
+returns-in_err-node-clause-more g c =
+    let p = err_from_is_err_and c.from_residual-in_err-node.result c.from_residual-in_err-node.ensures.1 in
+    rw p.1 (inr (
+      left_by c.args.choice (state (g.D.Disk.past c.args.disk.now)),
+      c.in_err-node.ensures.crashes ∙ ap crashes_of c.in_ok-crash.ensures.past,
+    ))

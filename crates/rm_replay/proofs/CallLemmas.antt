@@ -1,0 +1,237 @@
+-- Which step of a node a line is.
+use Rattle.std.proofs.Common.{◌≡◌, ◌∙◌, ◌-◌, ◌==◌, ℕ, zero, suc, cond, Bool, true, false, List, [], ◌∷◌, Option, Some, None}
+use Rattle.std.proofs.Common.{refl, sym, ap, subst, slice_get}
+use Rattle.std.specs.Prelude.{Bor, Result, Ok, Err}
+use Rattle.std.specs.List.{AllByRecursion}
+use Rattle.std.specs.Option.{option_map}
+use Rattle.std.proofs.lemmas.Option.{slice_get-map}
+use Rattle.soap_profile.specs.Soap.{soap_space}
+use Rattle.message_reader.specs.Refusals.{Refuses}
+use Rattle.rm_node.specs.Came.{IsReadAs}
+use Rattle.rm_report.specs.declared.line.Outcome.TheVariants as told
+use Rattle.rm_base.specs.declared.message.Behaviour.{Behaviour}
+use Rattle.rm_base.specs.Numbered.{numbered}
+use Rattle.rm_elements.specs.declared.lapse.Lapse.{Lapse}
+use Rattle.rm_message.specs.declared.message.Message.{Message}
+use Rattle.rm_message.specs.declared.refusal.Refusal.{Refusal}
+use Rattle.record_batch.specs.Fact.{Fact}
+use Rattle.record_batch.specs.declared.record.Via.TheVariants.{Direct}
+use Rattle.rm_protocol.specs.Calls.{Answer}
+use Rattle.rm_protocol.specs.Node.{Node, State, Up, Writing, call_outcome, outcome_by}
+use Rattle.rm_protocol.specs.Sent.{Called, arrival_outcome, outcome_of}
+use Rattle.rm_protocol.specs.Terms.{Terms}
+use Rattle.rm_protocol.specs.World.{Packet, Side, One, Two, World, Close, Create, Deliver, End, Noise, Send, Tick, happens}
+use Rattle.rm_protocol.specs.World.{arrives, node, other, place, with_clock}
+use Rattle.rm_script.specs.declared.event.Event.{Event as Said}
+use Rattle.rm_script.specs.declared.event.Event.TheVariants as said
+use Rattle.rm_script.specs.declared.event.Side.{Side as Place}
+use Rattle.sequence_table.specs.Words.{Text}
+use Rattle.rm_replay.specs.Asked.{step_of}
+use Rattle.rm_replay.specs.Happening.{Happened, moved}
+use Rattle.rm_replay.specs.Meaning.{Means, outcome_told, comes_out, side_of}
+use Rattle.rm_replay.specs.Shows.{IsReadRight, Scene, Shows, address_of}
+use Rattle.rm_replay.specs.Net.{AreOfNet, number_of, read_as, text_of, wire_packet, wire_packets}
+use Rattle.rm_replay.specs.Tales.{Tells, fault_at, receiver}
+use Rattle.rm_replay.specs.declared.ask.Call.{Call}
+use Rattle.rm_replay.specs.declared.ask.Call.TheVariants as call
+use Rattle.rm_replay.specs.declared.stage.Nodes.{Nodes}
+use Rattle.rm_replay.proofs.EventLemmas.{IsCall}
+use Rattle.rm_replay.proofs.TaleLemmas.{tells_none}
+
+-- ---- what a line asks for
+
+place_is : (w : World) (scene : Scene) (nodes : Nodes) (side : Side) → Shows w scene nodes
+    → address_of side ≡ place w side
+place_is w scene nodes One shows = sym shows.at_one
+place_is w scene nodes Two shows = sym shows.at_two
+
+pub create_call : (terms : Terms) (w : World) (scene : Scene) (nodes : Nodes) (content : Result Message Refusal)
+    (at : Place) (to : Text) (expires : Lapse) (offer : Option Behaviour) → Shows w scene nodes
+    → to ≡ address_of (other (side_of at))
+    → IsCall terms w (said.Create at expires offer) (Create (side_of at) Direct expires offer) (side_of at)
+    (step_of terms (node w (side_of at)) content (call.Create to expires offer))
+create_call terms w scene nodes content at to expires offer shows is =
+    subst (λ (address : Text). IsCall terms w (said.Create at expires offer)
+    (Create (side_of at) Direct expires offer) (side_of at)
+    (step_of terms (node w (side_of at)) content (call.Create address expires offer)))
+    (sym (is ∙ place_is w scene nodes (other (side_of at)) shows))
+    (record {
+      means = refl;
+      quiet = λ side entries. refl;
+      at = refl;
+      moves = refl;
+      outcome = refl;
+    })
+
+pub send_call : (terms : Terms) (w : World) (content : Result Message Refusal) (at : Place) (seq : ℕ) (text : Text)
+    → IsCall terms w (said.Send at seq text) (Send (side_of at) seq text) (side_of at)
+    (step_of terms (node w (side_of at)) content (call.Send seq text))
+send_call terms w content at seq text = record {
+  means = refl;
+  quiet = λ side entries. refl;
+  at = refl;
+  moves = refl;
+  outcome = refl;
+}
+
+pub close_call : (terms : Terms) (w : World) (content : Result Message Refusal) (at : Place) (seq : ℕ)
+    → IsCall terms w (said.Close at seq) (Close (side_of at) seq) (side_of at)
+    (step_of terms (node w (side_of at)) content (call.Close seq))
+close_call terms w content at seq = record {
+  means = refl;
+  quiet = λ side entries. refl;
+  at = refl;
+  moves = refl;
+  outcome = refl;
+}
+
+pub end_call : (terms : Terms) (w : World) (content : Result Message Refusal) (at : Place) (seq : ℕ)
+    → IsCall terms w (said.End at seq) (End (side_of at) seq) (side_of at)
+    (step_of terms (node w (side_of at)) content (call.End seq))
+end_call terms w content at seq = record {
+  means = refl;
+  quiet = λ side entries. refl;
+  at = refl;
+  moves = refl;
+  outcome = refl;
+}
+
+-- the clock is nothing to how a call comes out
+outcome_clocked : (x : Node) (now : ℕ) (st : State) (answer : Answer)
+    → outcome_by x st answer ≡ outcome_by (with_clock x now) st answer
+outcome_clocked x now Up answer = refl
+outcome_clocked x now (Writing delta) answer = refl
+
+tick_moves : (terms : Terms) (w : World) (side : Side) (content : Result Message Refusal) (now : ℕ)
+    → happens terms w (Tick side now) ≡ moved terms w side (step_of terms (node w side) content (call.Tick now))
+tick_moves terms w One content now = refl
+tick_moves terms w Two content now = refl
+
+pub tick_call : (terms : Terms) (w : World) (content : Result Message Refusal) (at : Place) (now : ℕ)
+    → IsCall terms w (said.Tick at now) (Tick (side_of at) now) (side_of at)
+    (step_of terms (node w (side_of at)) content (call.Tick now))
+tick_call terms w content at now = record {
+  means = refl;
+  quiet = λ side entries. refl;
+  at = refl;
+  moves = tick_moves terms w (side_of at) content now;
+  outcome = ap Called (outcome_clocked (node w (side_of at)) now (node w (side_of at)).state _);
+}
+
+-- ---- what comes to a node
+
+pub noise_call : (terms : Terms) (w : World) (at : Place) (bytes : Bor (List ℕ)) (refusal : Refusal)
+    → Refuses soap_space bytes.now refusal
+    → IsCall terms w (said.Noise at bytes.now) (Noise (side_of at) refusal) (side_of at)
+    (step_of terms (node w (side_of at)) (Err refusal) (call.Receive bytes))
+noise_call terms w at bytes refusal refuses = record {
+  means = (refusal, refuses, refl);
+  quiet = λ side entries. refl;
+  at = refl;
+  moves = refl;
+  outcome = refl;
+}
+
+pub deliver_call : (terms : Terms) (w : World) (k : ℕ) (p : Packet) (bytes : Bor (List ℕ))
+    → numbered w.packets k ≡ Some p
+    → IsCall terms w (said.Deliver k) (Deliver k) (other p.from)
+    (step_of terms (node w (other p.from)) (terms.read p.message) (call.Receive bytes))
+deliver_call terms w k p bytes there = record {
+  means = refl;
+  quiet = λ side entries. refl;
+  at = ap (λ (packet : Option Packet). option_map receiver packet) there;
+  moves = ap (λ (packet : Option Packet). arrives terms w packet) there;
+  outcome = ap (λ (packet : Option Packet). arrival_outcome terms w packet) there;
+}
+
+-- ---- packets with a number
+
+numbered_by : (packets : List Packet) (k : ℕ) (b : Bool)
+    → cond b None (slice_get (wire_packets packets) (k - 1))
+    ≡ option_map wire_packet (cond b None (slice_get packets (k - 1)))
+numbered_by packets k true = refl
+numbered_by packets k false = slice_get-map wire_packet packets (k - 1)
+
+numbered_wire : (packets : List Packet) (k : ℕ)
+    → numbered (wire_packets packets) k ≡ option_map wire_packet (numbered packets k)
+numbered_wire packets k = numbered_by packets k (k == 0)
+
+-- a packet on the wire is one of the world
+pub record IsThere (w : World) (k : ℕ) (to : ℕ) (bytes : List ℕ) : Type 0 where
+  pub packet : Packet
+  pub there : numbered w.packets k ≡ Some packet
+  pub to_ : to ≡ number_of (other packet.from)
+  pub text : bytes ≡ text_of packet.message
+  pub read : IsReadRight packet
+
+some_same : {A : Type 0} (y x : A) → Some y ≡ Some x → y ≡ x
+some_same y x e = cc
+
+-- one of them
+all_get : {A : Type 0} (P : A → Type 0) (xs : List A) (k : ℕ) (x : A) → AllByRecursion P xs
+    → slice_get xs k ≡ Some x → P x
+all_get P [] k x all is = absurd cc
+all_get P (y ∷ xs) zero x all is = let e : Some y ≡ Some x = is in subst P (some_same y x e) all.0
+all_get P (y ∷ xs) (suc k) x all is = all_get P xs k x all.1 is
+
+numbered_get : (packets : List Packet) (k : ℕ) (b : Bool) (p : Packet) → AllByRecursion IsReadRight packets
+    → cond b None (slice_get packets (k - 1)) ≡ Some p → IsReadRight p
+numbered_get packets k true p all is = absurd cc
+numbered_get packets k false p all is = all_get IsReadRight packets (k - 1) p all is
+
+there_by : (w : World) (k : ℕ) (packet : Option Packet) (to : ℕ) (bytes : List ℕ) → numbered w.packets k ≡ packet
+    → Some (to, bytes) ≡ option_map wire_packet packet → AllByRecursion IsReadRight w.packets
+    → IsThere w k to bytes
+there_by w k None to bytes is found all = absurd cc
+there_by w k (Some p) to bytes is found all =
+    let same : (to, bytes) ≡ wire_packet p = some_same (to, bytes) (wire_packet p) found in
+    record {
+      packet = p;
+      there = is;
+      to_ = ap (λ (q : ℕ × List ℕ). q.0) same;
+      text = ap (λ (q : ℕ × List ℕ). q.1) same;
+      read = numbered_get w.packets k (k == 0) p all is;
+    }
+
+pub there_of : (w : World) (scene : Scene) (nodes : Nodes) (k to : ℕ) (bytes : List ℕ) → Shows w scene nodes
+    → Some (to, bytes) ≡ numbered scene.packets k → IsThere w k to bytes
+there_of w scene nodes k to bytes shows found =
+    there_by w k (numbered w.packets k) to bytes refl
+    (found ∙ ap (λ (packets : List (ℕ × List ℕ)). numbered packets k) shows.wire ∙ numbered_wire w.packets k)
+    shows.read
+
+-- there is no packet with this number
+lost_by : (packet : Option Packet) → None ≡ option_map wire_packet packet → packet ≡ None
+lost_by None none = refl
+lost_by (Some p) none = absurd cc
+
+pub lost : (w : World) (scene : Scene) (nodes : Nodes) (k : ℕ) → Shows w scene nodes
+    → None ≡ numbered scene.packets k → numbered w.packets k ≡ None
+lost w scene nodes k shows none =
+    lost_by (numbered w.packets k)
+    (none ∙ ap (λ (packets : List (ℕ × List ℕ)). numbered packets k) shows.wire ∙ numbered_wire w.packets k)
+
+pub happens_lost : (terms : Terms) (w : World) (k : ℕ) (scene : Scene) (nodes : Nodes) → Shows w scene nodes
+    → numbered w.packets k ≡ None
+    → Happened terms w (said.Deliver k) scene scene nodes (Some told.NoPacket)
+happens_lost terms w k scene nodes shows none = record {
+  event = Some (Deliver k);
+  means = refl;
+  comes = ap (λ (packet : Option Packet). Some (outcome_told (arrival_outcome terms w packet))) (sym none);
+  shows = subst (λ (packet : Option Packet). Shows (arrives terms w packet) scene nodes) (sym none) shows;
+  one = subst (λ (packet : Option Packet). Tells (record {
+    crashes = [];
+    faults = fault_at One (option_map receiver packet) (outcome_told (arrival_outcome terms w packet));
+  }) scene.drives.one scene.drives.one) (sym none) (tells_none scene.drives.one);
+  two = subst (λ (packet : Option Packet). Tells (record {
+    crashes = [];
+    faults = fault_at Two (option_map receiver packet) (outcome_told (arrival_outcome terms w packet));
+  }) scene.drives.two scene.drives.two) (sym none) (tells_none scene.drives.two);
+}
+
+-- what a packet is read as, as bytes
+pub packet_read : (terms : Terms) → AreOfNet terms → (w : World) (k to : ℕ) (bytes : List ℕ)
+    → (is : IsThere w k to bytes) → IsReadAs bytes (terms.read is.packet.message)
+packet_read terms net w k to bytes is =
+    subst (λ (content : Result Message Refusal). IsReadAs bytes content) (sym (net.read is.packet.message))
+    (subst (λ (text : List ℕ). IsReadAs text (read_as is.packet.message)) (sym is.text) is.read)
