@@ -1,7 +1,8 @@
 -- Which step of a node a line is.
 use Rattle.std.proofs.Common.{◌≡◌, ◌∙◌, ◌-◌, ◌==◌, ℕ, zero, suc, cond, Bool, true, false, List, [], ◌∷◌, Option, Some, None}
 use Rattle.std.proofs.Common.{refl, sym, ap, subst, slice_get}
-use Rattle.std.specs.Prelude.{Bor, Result, Ok, Err}
+use Rattle.std.specs.Prelude.{Result, Ok, Err}
+use Rattle.std.specs.Borrow.{Bor}
 use Rattle.std.specs.List.{AllByRecursion}
 use Rattle.std.specs.Option.{option_map}
 use Rattle.std.proofs.lemmas.Option.{slice_get-map}
@@ -143,6 +144,16 @@ deliver_call terms w k p bytes there = record {
   moves = ap (λ (packet : Option Packet). arrives terms w packet) there;
   outcome = ap (λ (packet : Option Packet). arrival_outcome terms w packet) there;
 }
+
+-- at the side that the packet names
+pub deliver_at : (terms : Terms) (w : World) (k : ℕ) (p : Packet) (side : Side) (bytes : Bor (List ℕ))
+    → numbered w.packets k ≡ Some p → side ≡ other p.from
+    → IsCall terms w (said.Deliver k) (Deliver k) side
+    (step_of terms (node w side) (terms.read p.message) (call.Receive bytes))
+deliver_at terms w k p side bytes there is =
+    subst (λ (s : Side). IsCall terms w (said.Deliver k) (Deliver k) s
+    (step_of terms (node w s) (terms.read p.message) (call.Receive bytes))) (sym is)
+    (deliver_call terms w k p bytes there)
 
 -- ---- packets with a number
 

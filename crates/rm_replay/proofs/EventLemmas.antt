@@ -115,6 +115,14 @@ happens_call each terms w line event side step old new nodes (Err memory) is mov
   two = grew_asked old.drives.two new.drives.two (same_side side Two && failed) asked.two;
 }
 
+-- a line that is this one
+pub happens_line : (terms : Terms) (w : World) (old new : Scene) (nodes : Nodes) (line this : Said)
+    (came : Result Outcome Memory) (result : Result (Option Outcome) Memory) → line ≡ this → result ≡ told_of came
+    → Happens terms w this old new nodes (told_of came) → Happens terms w line old new nodes result
+happens_line terms w old new nodes line this came result is same happens =
+    subst (λ (l : Said). Happens terms w l old new nodes result) (sym is)
+    (subst (λ (r : Result (Option Outcome) Memory). Happens terms w this old new nodes r) (sym same) happens)
+
 -- ---- lines that nothing comes of
 
 -- nothing is done

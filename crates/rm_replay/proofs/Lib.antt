@@ -9,3 +9,7 @@ mod EventLemmas
 mod CallLemmas
 mod StoryLemmas
 mod UnarmedLemmas
+mod AskLemmas
+mod RunLemmas
+mod AddressLemmas
+mod CrashLemmas

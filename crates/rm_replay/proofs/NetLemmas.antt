@@ -3,8 +3,9 @@ use Rattle.std.proofs.Common.{◌≡◌, ◌∙◌, ℕ, ◌+◌, ◌&&◌, nat_
 use Rattle.std.proofs.Common.{sym, ap, subst, inl, inr}
 use Rattle.std.specs.Prelude.{◌⊎◌, Result, Ok, Err}
 use Rattle.message_reader.specs.Refusals.{blind}
-use Rattle.record_batch.specs.Batch.{batch_text}
+use Rattle.record_batch.specs.Batch.{batch_text, made}
 use Rattle.record_batch.specs.Fact.{Fact, Made}
+use Rattle.record_batch.specs.Format.{number32, number64, text}
 use Rattle.rm_message.specs.declared.message.Message.{Message}
 use Rattle.rm_message.specs.declared.refusal.FaultKind.TheVariants.{TooLong}
 use Rattle.rm_message.specs.declared.refusal.Refusal.{Refusal}
@@ -53,6 +54,7 @@ are_terms own terms net =
 
 -- the records with which two nodes begin fit their journals
 pub are_made : (terms : Terms) → AreOfNet terms → AreMade terms address_one address_two
+unfolding made number32 number64 text
 are_made terms net = record {
   one_ = subst (λ (n : ℕ). (nat_le n 4194304 && nat_le (8 + 6 + n) 268435456) ≡ true)
       (sym (net.own.size (Made 1 address_one ∷ []))) refl;

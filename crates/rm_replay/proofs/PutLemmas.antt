@@ -1,6 +1,7 @@
 -- Packets that are put on a wire, and those of the protocol's network.
-use Rattle.std.proofs.Common.{◌≡◌, ◌∙◌, ℕ, cond, Bool, true, false, List, [], ◌∷◌, ◌++◌, append_assoc, append-nil, length}
+use Rattle.std.proofs.Common.{◌≡◌, ◌∙◌, ◌+◌, ℕ, zero, suc, cond, Bool, true, false, List, [], ◌∷◌, ◌++◌, append_assoc, append-nil, length}
 use Rattle.std.proofs.Common.{map, take, drop, refl, sym, ap, subst}
+use Rattle.std.proofs.Math.Seq.{take-append-add}
 use Rattle.std.specs.List.{AllByRecursion}
 use Rattle.rm_message.specs.declared.message.Message.{Message}
 use Rattle.rm_node.specs.Packets.{packet_of}
@@ -9,7 +10,7 @@ use Rattle.rm_protocol.specs.Terms.{Terms}
 use Rattle.rm_protocol.specs.Word.{IsPrefixOf}
 use Rattle.rm_protocol.specs.World.{Packet, Side, messages_in, other, puts, sent}
 use Rattle.rm_wires.specs.Wire.{has_room, texts_in, with_packet}
-use Rattle.rm_replay.specs.Happening.{with_all}
+use Rattle.rm_replay.specs.Happening.{IsPutInPart, with_all}
 use Rattle.rm_replay.specs.Net.{AreOfNet, number_of, text_of, wire_packet, wire_packets}
 use Rattle.rm_replay.specs.Shows.{IsReadRight}
 
@@ -18,6 +19,26 @@ pub with_all_push : (packets : List (ℕ × List ℕ)) (to : ℕ) (outs : List O
     → with_all packets to (outs ++ out ∷ []) ≡ with_packet (with_all packets to outs) to out.bytes
 with_all_push packets to [] out = refl
 with_all_push packets to (o ∷ outs) out = with_all_push (with_packet packets to o.bytes) to outs out
+
+-- some packets and then others
+pub with_all_append : (packets : List (ℕ × List ℕ)) (to : ℕ) (first second : List Out)
+    → with_all packets to (first ++ second) ≡ with_all (with_all packets to first) to second
+with_all_append packets to [] second = refl
+with_all_append packets to (o ∷ first) second = with_all_append (with_packet packets to o.bytes) to first second
+
+pub put_none : (packets : List (ℕ × List ℕ)) (to : ℕ) (outs : List Out) (new : List (ℕ × List ℕ)) → new ≡ packets
+    → IsPutInPart packets to outs new
+put_none packets to [] new same = (0, same)
+put_none packets to (o ∷ outs) new same = (0, same)
+
+pub put_behind : (packets mid new : List (ℕ × List ℕ)) (to : ℕ) (first second : List Out)
+    → mid ≡ with_all packets to first → IsPutInPart mid to second new → IsPutInPart packets to (first ++ second) new
+put_behind packets mid new to first second before (count, part) = (
+  length first + count,
+  part ∙ ap (λ (m : List (ℕ × List ℕ)). with_all m to (take count second)) before
+      ∙ sym (with_all_append packets to first (take count second))
+      ∙ ap (λ (outs : List Out). with_all packets to outs) (sym (take-append-add first second count)),
+)
 
 texts_wire : (packets : List Packet) → texts_in (wire_packets packets) ≡ map text_of (messages_in packets)
 texts_wire [] = refl

@@ -25,11 +25,12 @@ use Rattle.node_rules.specs.Keeps.{EachIsReadBack, IsReadBack}
 use Rattle.node_rules.specs.OwnTerms.{AreOwn}
 use Rattle.node_rules.specs.Read.{IsContentRead, IsBodyRead as IsBodyKept}
 use Rattle.node_rules.specs.Records.{IsKept}
-use Rattle.node_store.specs.Changes.{Told}
 use Rattle.node_store.specs.Stored.{Stored}
 use Rattle.rm_node.specs.Came.{IsReadAs}
-use Rattle.node_actor.specs.Actored.{Actored}
-use Rattle.node_actor.specs.Stands.{Stands, StandsBy}
+use Rattle.node_actor.specs.Stands.{StandsBy}
+use Rattle.rm_protocol.specs.World.{Side, One, Two, World, node}
+use Rattle.rm_replay.specs.Shows.{Drives, StandFor}
+use Rattle.rm_replay.specs.declared.stage.Nodes.{Nodes}
 use Rattle.rm_replay.specs.Asked.{IsCallWithin, IsReadBy, answer_of, clocked, is_connected, step_of}
 use Rattle.rm_replay.specs.Net.{read_as, text_of}
 use Rattle.rm_replay.specs.declared.ask.Call.{Call}
@@ -110,8 +111,11 @@ kept_by : (st : State) (entries : List (List Fact)) (past : List DeviceCall) (st
 kept_by Up entries past stored awake = awake.has.are.kept
 kept_by (Writing delta) entries past stored asleep = asleep.are.kept
 
-kept_of : (x : Node) (now : Told) (a : Actored) → Stands x now a → IsKept (records x)
-kept_of x now a s = kept_by x.state x.entries now.past a.node.stored s.disk
+-- at either side
+pub kept_at : (w : World) (d : Drives) (nodes : Nodes) (side : Side) → StandFor w d nodes
+    → IsKept (records (node w side))
+kept_at w d nodes One stand = kept_by w.one.state w.one.entries d.one.disk.past nodes.one.node.stored stand.one.disk
+kept_at w d nodes Two stand = kept_by w.two.state w.two.entries d.two.disk.past nodes.two.node.stored stand.two.disk
 
 answer_read : ReadsRight → RefusesRight → EachIsReadBack → (terms : Terms) → AreOwn terms → (x : Node)
     → IsKept (records x) → (content : Result Message Refusal) (asked : Call) → IsCallWithin asked
@@ -132,13 +136,11 @@ answer_read reads refuses each terms own x kept content (call.Receive bytes) wit
 
 -- all that a node says in a call
 pub said_is_read : ReadsRight → RefusesRight → EachIsReadBack → (terms : Terms) → AreOwn terms → (x : Node)
-    (now : Told) (a : Actored) → Stands x now a → (content : Result Message Refusal) (asked : Call)
-    → IsCallWithin asked → IsReadBy asked content
-    → AllByRecursion IsReadMessage (step_of terms x content asked).said
-said_is_read reads refuses each terms own x now a s content asked within by =
+    → IsKept (records x) → (content : Result Message Refusal) (asked : Call) → IsCallWithin asked
+    → IsReadBy asked content → AllByRecursion IsReadMessage (step_of terms x content asked).said
+said_is_read reads refuses each terms own x kept content asked within by =
     let answer = answer_of terms x content asked in
     let y = clocked asked x in
-    let all = read_messages answer.outs
-    (answer_read reads refuses each terms own x (kept_of x now a s) content asked within by) in
+    let all = read_messages answer.outs (answer_read reads refuses each terms own x kept content asked within by) in
     all_filter IsReadMessage (λ (m : Message). leaves (is_connected asked) (place_of m.addressing.to))
     (said_after y answer) (all_said IsReadMessage y y.state answer all)

@@ -1,6 +1,6 @@
 -- A step of one node in a world of two.
-use Rattle.std.proofs.Common.{◌≡◌, ◌∙◌, ℕ, Bool, true, false, List, [], ◌∷◌, map, take, refl, sym, ap, subst, inl, inr}
-use Rattle.std.specs.Prelude.{Result, Ok, Err}
+use Rattle.std.proofs.Common.{◌≡◌, ◌∙◌, ℕ, zero, suc, Bool, true, false, List, [], ◌∷◌, map, take, refl, sym, ap, subst, inl, inr}
+use Rattle.std.specs.Prelude.{IfOk, OnErr, OnOk, Result, Ok, Err}
 use Rattle.std.specs.List.{AllByRecursion}
 use Rattle.rm_base.specs.declared.failures.Memory.{Memory}
 use Rattle.rm_message.specs.declared.message.Message.{Message}
@@ -9,31 +9,68 @@ use Rattle.rm_node.specs.declared.packets.Out.{Out}
 use Rattle.rm_protocol.specs.Node.{Node}
 use Rattle.rm_protocol.specs.Terms.{Terms}
 use Rattle.rm_protocol.specs.World.{Side, One, Two, World, hands_out, other, with_node}
+use Rattle.rm_report.specs.declared.line.Outcome.{Outcome}
+use Rattle.node_actor.specs.Outcomes.{is_disk_outcome, packets_in}
 use Rattle.node_actor.specs.Stands.{Stands}
 use Rattle.node_actor.specs.declared.actor.Came.{Came}
-use Rattle.rm_replay.specs.Asked.{Step, Steps, StepsAt}
-use Rattle.rm_replay.specs.Happening.{moved, moved_in_part, with_all}
+use Rattle.rm_replay.specs.Asked.{Step, SteppedAt, Steps, StepsAt, WasAsked, WereAsked}
+use Rattle.rm_replay.specs.Meaning.{side_of}
+use Rattle.rm_replay.specs.Tales.{Drive}
+use Rattle.rm_script.specs.declared.event.Side.{Side as Place}
+use Rattle.rm_script.specs.declared.event.Side.TheVariants as place
+use Rattle.rm_replay.specs.Happening.{IsPutInPart, Moves, WereAskedFor, moved, moved_in_part, with_all}
 use Rattle.rm_replay.specs.Net.{AreOfNet, number_of, wire_packets}
 use Rattle.rm_replay.specs.Shows.{Drives, IsReadRight, Scene, Shows, StandFor, address_one, address_two}
 use Rattle.rm_replay.specs.declared.stage.Nodes.{Nodes}
 use Rattle.rm_replay.proofs.PutLemmas.{all_puts, all_take, puts_are}
 use Rattle.rm_replay.proofs.ReadLemmas.{IsReadMessage}
+use Rattle.rm_replay.proofs.TaleLemmas.{asked_none}
 
 -- ---- at a side
 
-pub steps_at_one : (w : World) (step : Step) (d : Drives) (nodes : Nodes) (result : Result Came Memory)
+steps_one : (w : World) (step : Step) (d : Drives) (nodes : Nodes) (result : Result Came Memory)
     → Steps w.one step d.one.disk nodes.one result → Stands w.two d.two.disk nodes.two
     → StepsAt w One step d nodes result
-steps_at_one w step d nodes (Ok came) h there =
+steps_one w step d nodes (Ok came) h there =
     record { stand = record { one = h.stands; two = there }; outcome = h.outcome; outs = h.outs }
-steps_at_one w step d nodes (Err memory) h there = record { one = h; two = there }
+steps_one w step d nodes (Err memory) h there = record { one = h; two = there }
 
-pub steps_at_two : (w : World) (step : Step) (d : Drives) (nodes : Nodes) (result : Result Came Memory)
+steps_two : (w : World) (step : Step) (d : Drives) (nodes : Nodes) (result : Result Came Memory)
     → Steps w.two step d.two.disk nodes.two result → Stands w.one d.one.disk nodes.one
     → StepsAt w Two step d nodes result
-steps_at_two w step d nodes (Ok came) h there =
+steps_two w step d nodes (Ok came) h there =
     record { stand = record { one = there; two = h.stands }; outcome = h.outcome; outs = h.outs }
-steps_at_two w step d nodes (Err memory) h there = record { one = there; two = h }
+steps_two w step d nodes (Err memory) h there = record { one = there; two = h }
+
+pub steps_at_one : (w : World) (step : Side → Step) (d : Drives) (nodes : Nodes) (at : Place)
+    (result : Result Came Memory) → at ≡ place.One → Steps w.one (step One) d.one.disk nodes.one result
+    → Stands w.two d.two.disk nodes.two → StepsAt w (side_of at) (step (side_of at)) d nodes result
+steps_at_one w step d nodes at result is h there =
+    subst (λ (p : Place). StepsAt w (side_of p) (step (side_of p)) d nodes result) (sym is)
+    (steps_one w (step One) d nodes result h there)
+
+pub steps_at_two : (w : World) (step : Side → Step) (d : Drives) (nodes : Nodes) (at : Place)
+    (result : Result Came Memory) → at ≡ place.Two → Steps w.two (step Two) d.two.disk nodes.two result
+    → Stands w.one d.one.disk nodes.one → StepsAt w (side_of at) (step (side_of at)) d nodes result
+steps_at_two w step d nodes at result is h there =
+    subst (λ (p : Place). StepsAt w (side_of p) (step (side_of p)) d nodes result) (sym is)
+    (steps_two w (step Two) d nodes result h there)
+
+pub asked_at_one : (at : Place) (failed : Bool) (old new : Drives) → at ≡ place.One
+    → WasAsked failed old.one new.one → new.two ≡ old.two → WereAsked (side_of at) failed old new
+asked_at_one at failed old new is asked same =
+    subst (λ (p : Place). WereAsked (side_of p) failed old new) (sym is)
+    (record { one = asked; two = subst (λ (d : Drive). WasAsked false old.two d) (sym same) (asked_none old.two) })
+
+pub asked_at_two : (at : Place) (failed : Bool) (old new : Drives) → at ≡ place.Two
+    → WasAsked failed old.two new.two → new.one ≡ old.one → WereAsked (side_of at) failed old new
+asked_at_two at failed old new is asked same =
+    subst (λ (p : Place). WereAsked (side_of p) failed old new) (sym is)
+    (record { one = subst (λ (d : Drive). WasAsked false old.one d) (sym same) (asked_none old.one); two = asked })
+
+-- of both disks and the packets of the wire
+abbrev pub scene_by : Drives → List (ℕ × List ℕ) → Scene
+scene_by drives packets = record { drives = drives; packets = packets }
 
 -- ---- what it says is put on the wire
 
@@ -104,3 +141,31 @@ shows_still w old scene before nodes shows stand same = record {
   wire = same ∙ shows.wire;
   read = shows.read;
 }
+
+-- ---- a call and its packets
+
+pub call_moves : (terms : Terms) → AreOfNet terms → (w : World) (side : Side) (step : Step) (old scene : Scene)
+    (before nodes : Nodes) (to : ℕ) (came : Came) (result : Result Outcome Memory) → Shows w old before
+    → SteppedAt w side step scene.drives nodes came → to ≡ number_of (other side)
+    → OnOk result (scene.packets ≡ with_all old.packets to (packets_in came))
+    → IfOk result (λ (outcome : Outcome). outcome ≡ came.outcome)
+    → OnErr result (IsPutInPart old.packets to (packets_in came) scene.packets)
+    → AllByRecursion IsReadMessage step.said → Moves terms w side step scene nodes result
+call_moves terms net w side step old scene before nodes to came (Ok outcome) shows stepped is put told err said = (
+  told ∙ stepped.outcome,
+  moved_whole terms net w side step old scene before nodes (packets_in came) shows stepped.stand stepped.outs
+      (put ∙ ap (λ (n : ℕ). with_all old.packets n (packets_in came)) is) said,
+)
+call_moves terms net w side step old scene before nodes to came (Err memory) shows stepped is ok told err said =
+    inr (
+      err.0,
+      moved_part terms net w side step err.0 old scene before nodes (packets_in came) shows stepped.stand stepped.outs
+          (err.1 ∙ ap (λ (n : ℕ). with_all old.packets n (take err.0 (packets_in came))) is) said,
+    )
+
+pub asked_for : (side : Side) (came : Came) (result : Result Outcome Memory) (old new : Drives)
+    → WereAsked side (is_disk_outcome came.outcome) old new
+    → IfOk result (λ (outcome : Outcome). outcome ≡ came.outcome) → WereAskedFor side result old new
+asked_for side came (Ok outcome) old new asked told =
+    subst (λ (o : Outcome). WereAsked side (is_disk_outcome o) old new) (sym told) asked
+asked_for side came (Err memory) old new asked told = (is_disk_outcome came.outcome, asked)

@@ -3,10 +3,12 @@ use Rattle.std.proofs.Common.{◌≡◌, ◌∙◌, ◌+◌, ℕ, List, [], ◌�
 use Rattle.std.proofs.Common.{Bool, true, false, Option, Some, None, refl, sym, ap, subst, inl, inr}
 use Rattle.std.specs.Prelude.{◌⊎◌, Result, Ok, Err}
 use Rattle.std.proofs.Math.Seq.{take-append_seam, take-length}
-use Rattle.rm_protocol.specs.Node.{Node, State, Up, Writing, armed, end_of, mounted, records}
+use Rattle.rm_protocol.specs.Node.{Node, State, Up, Writing, armed, end_of, mounted, records, said_after}
+use Rattle.rm_protocol.specs.Said.{sent_of}
 use Rattle.rm_protocol.specs.Terms.{Terms}
 use Rattle.rm_protocol.specs.World.{Packet, Side, One, Two, World, Event, Create, Grant, Send, Tick, Deliver, Close, End, Arm, Crash}
-use Rattle.rm_protocol.specs.World.{Noise, arrives, calls, happens, node, other, received_by, wish_of, with_clock, with_node}
+use Rattle.rm_protocol.specs.World.{Noise, arrives, calls, happens, node, other, received_by, sent, wish_of, with_clock}
+use Rattle.rm_protocol.specs.World.{with_node}
 use Rattle.rm_protocol.specs.Calls.{Answer, create, send, close, end, tick}
 use Rattle.rm_protocol.specs.Word.{IsPrefixOf}
 use Rattle.rm_base.specs.Numbered.{numbered}
@@ -113,13 +115,17 @@ short_end each terms script first now nodes text all = record {
 
 calls_grow : (terms : Terms) (w : World) (side : Side) (connected : Bool) (answer : Answer)
     → IsPrefixOf w.packets (calls terms w side connected answer).packets
-calls_grow terms w One connected answer = puts_behind terms _ w.packets
-calls_grow terms w Two connected answer = puts_behind terms _ w.packets
+calls_grow terms w One connected answer =
+    puts_behind terms (sent One (sent_of connected (said_after w.one answer))) w.packets
+calls_grow terms w Two connected answer =
+    puts_behind terms (sent Two (sent_of connected (said_after w.two answer))) w.packets
 
 node_grows : (terms : Terms) (w : World) (side : Side) (x : Node) (connected : Bool) (answer : Answer)
     → IsPrefixOf w.packets (calls terms (with_node w side x) side connected answer).packets
-node_grows terms w One x connected answer = puts_behind terms _ w.packets
-node_grows terms w Two x connected answer = puts_behind terms _ w.packets
+node_grows terms w One x connected answer =
+    puts_behind terms (sent One (sent_of connected (said_after x answer))) w.packets
+node_grows terms w Two x connected answer =
+    puts_behind terms (sent Two (sent_of connected (said_after x answer))) w.packets
 
 still : (w : World) (side : Side) (x : Node) → IsPrefixOf w.packets (with_node w side x).packets
 still w One x = ([], sym (append-nil w.packets))

@@ -10,6 +10,7 @@ use Rattle.node_store.specs.Changes.{told}
 use Rattle.rm_node.specs.Came.{IsReadAs}
 use Rattle.node_actor.specs.Stands.{Leaves, Stands}
 use Rattle.rm_replay.specs.declared.stage.Nodes.{Nodes}
+use Rattle.rm_replay.specs.declared.stage.Stage.{Stage}
 use Rattle.rm_replay.specs.Meaning.{Means}
 use Rattle.rm_replay.specs.Net.{read_as, text_of, wire_packets}
 use Rattle.rm_replay.specs.Tales.{Drive, Grew}
@@ -35,12 +36,12 @@ drives_of past fuse faults one two = record {
   two = drive_of past fuse faults two;
 }
 
--- of what disks and a wire tell
-abbrev pub scene_of : {M W : Type 0} → (M → List Call) → (M → Option ℕ) → (M → ℕ) → (W → List (ℕ × List ℕ)) → M → M
-    → W → Scene
-scene_of past fuse faults packets one two wire = record {
-  drives = drives_of past fuse faults one two;
-  packets = packets wire;
+-- of what the disks and the wire of a stage tell
+abbrev pub scene_of : {M W : Type 0} → (M → List Call) → (M → Option ℕ) → (M → ℕ) → (W → List (ℕ × List ℕ))
+    → Stage M W → Scene
+scene_of past fuse faults packets stage = record {
+  drives = drives_of past fuse faults stage.one stage.two;
+  packets = packets stage.wire;
 }
 
 -- a packet's text is read as it should be

@@ -52,9 +52,9 @@ pub enum Call<'a> {
 fn ask<M: CrashDisk>(actor: &mut Actor, disk: &mut M, call: Call<'_>) -> Result<Came, Memory>
     requires there { (x : Value) × Stands x (told (M.past disk.old) (M.fuse disk.old)) actor.old }
     requires within { IsCallWithin call }
-    ensures steps { (terms : Terms) → AreOwn terms → (content : Result Read Refused) → IsReadBy call content
+    ensures steps { (terms : Terms) → AreOwn terms → (content : Result Read Refused) → IsReadBy call.entry content
         → (x : Value) → Stands x (told (M.past disk.old) (M.fuse disk.old)) actor.old
-        → Steps x (step_of terms x content call) (told (M.past disk.new) (M.fuse disk.new)) actor.new result }
+        → Steps x (step_of terms x content call.entry) (told (M.past disk.new) (M.fuse disk.new)) actor.new result }
     ensures asked { WasAsked (is_disk result) (drive_of M.past M.fuse M.faults disk.old)
         (drive_of M.past M.fuse M.faults disk.new) }
 {
@@ -86,9 +86,9 @@ pub(crate) fn ask_at<M: CrashDisk>(
 ) -> Result<Came, Memory>
     requires there { (w : World) × StandFor w (drives_of M.past M.fuse M.faults one.old two.old) nodes.old }
     requires within { IsCallWithin call }
-    ensures steps { (terms : Terms) → AreOwn terms → (content : Result Read Refused) → IsReadBy call content
+    ensures steps { (terms : Terms) → AreOwn terms → (content : Result Read Refused) → IsReadBy call.entry content
         → (w : World) → StandFor w (drives_of M.past M.fuse M.faults one.old two.old) nodes.old
-        → StepsAt w (side_of side) (step_of terms (node w (side_of side)) content call)
+        → StepsAt w (side_of side) (step_of terms (node w (side_of side)) content call.entry)
         (drives_of M.past M.fuse M.faults one.new two.new) nodes.new result }
     ensures asked { WereAsked (side_of side) (is_disk result) (drives_of M.past M.fuse M.faults one.old two.old)
         (drives_of M.past M.fuse M.faults one.new two.new) }

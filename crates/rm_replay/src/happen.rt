@@ -1,9 +1,11 @@
 //! What one line of a script does.
 ghost use Rattle.std.specs.Prelude.{◌≡◌, ◌≤◌, IfOk, Result, false};
+ghost use Rattle.rm_base.specs.Text.{IsText};
+ghost use Rattle.rm_elements.specs.Writable.{IsLapseWritable};
 ghost use Rattle.rm_message.specs.declared.message.Message.{Message as Read};
 ghost use Rattle.rm_message.specs.declared.refusal.Refusal.{Refusal as Refused};
 ghost use Rattle.rm_protocol.specs.Terms.{Terms};
-ghost use Rattle.rm_protocol.specs.World.{World, node, other as other_of};
+ghost use Rattle.rm_protocol.specs.World.{Side as Place, World, node, other as other_of};
 ghost use Rattle.rm_script.specs.Within.{IsWithin};
 ghost use Rattle.rm_replay.specs.Asked.{IsCallWithin, IsReadBy, WereAsked, step_of};
 ghost use Rattle.rm_replay.specs.Happening.{Crashes, Happens, Moves, WereAskedFor, armed, granted, told_of};
@@ -14,26 +16,40 @@ ghost use Rattle.rm_replay.specs.Shows.{Drives, Shows, StandFor, address_of, dri
 use crate::ask::{Call, ask_at};
 use crate::stage::{Nodes, Stage};
 use crate::wire::put_came;
+use node_actor::laws::each_image_is_left;
+use node_rules::laws::each_message_is_read_back;
+use read_rules::laws::{a_refusal_may_be_answered, what_is_read_may_be_written};
+use rm_base::laws::texts_are_tested;
 use rm_base::{Behaviour, Blob, Memory, TextError, Uri};
 use rm_disk::CrashDisk;
+use rm_elements::Lapse;
 use rm_report::Outcome;
 use rm_script::{Event, Side};
 use rm_wire::{DecodeError, decode};
 use rm_wires::Wire;
 use std::alloc::Global;
 
-/// The address of a node.
-pub(crate) fn address(alloc: Global, side: Side) -> Result<Uri, Memory>
-    ensures { IfOk result (λ uri. uri ≡ address_of (side_of side)) }
+fn address_bytes(side: Side) -> &'static [u8]
+    ensures { result.now ≡ address_of (side_of side) }
 {
-    let bytes: &[u8] = match side {
+    match side {
         Side::One => b"http://node1.example/",
         Side::Two => b"http://node2.example/",
-    };
-    match Uri::from_slice(alloc, bytes) {
+    }
+}
+
+/// The address of a node.
+pub(crate) fn address(alloc: Global, side: Side) -> Result<Uri, Memory>
+    ensures address { IfOk result (λ uri. uri ≡ address_of (side_of side)) }
+    ensures is_text { IfOk result (λ uri. IsText 2048 uri) }
+{
+    texts_are_tested();
+    match Uri::from_slice(alloc, address_bytes(side)) {
         Ok(address) => Ok(address),
         Err(TextError::Memory) => Err(Memory),
-        Err(_) => unreachable!(),
+        Err(TextError::Empty) => unreachable!(),
+        Err(TextError::TooLong { .. }) => unreachable!(),
+        Err(TextError::NotText) => unreachable!(),
     }
 }
 
@@ -55,6 +71,26 @@ fn number(side: Side) -> u8
     }
 }
 
+/// The node with this number.
+fn side_with(number: u8) -> Side
+    ensures { (side : Place) → number ≡ number_of side → side_of result ≡ side }
+{
+    if number == 1 {
+        return Side::One;
+    }
+    Side::Two
+}
+
+/// The outcome of a line that has one.
+fn some(came: Result<Outcome, Memory>) -> Result<Option<Outcome>, Memory>
+    ensures { result ≡ told_of came }
+{
+    match came {
+        Ok(outcome) => Ok(Some(outcome)),
+        Err(Memory) => Err(Memory),
+    }
+}
+
 /// A node is asked for something, and what leaves it goes on the wire.
 fn call<M: CrashDisk, W: Wire>(
     stage: &mut Stage<M, W>,
@@ -63,18 +99,43 @@ fn call<M: CrashDisk, W: Wire>(
     call: Call<'_>,
 ) -> Result<Outcome, Memory>
     requires there { (w : World) × Shows w
-        (scene_of M.past M.fuse M.faults W.packets stage.old.one stage.old.two stage.old.wire) nodes.old }
+        (scene_of M.past M.fuse M.faults W.packets stage.old) nodes.old }
     requires within { IsCallWithin call }
-    ensures moves { (terms : Terms) → AreOfNet terms → (content : Result Read Refused) → IsReadBy call content
-        → (w : World) → Shows w (scene_of M.past M.fuse M.faults W.packets stage.old.one stage.old.two stage.old.wire) nodes.old
-        → Moves terms w (side_of side) (step_of terms (node w (side_of side)) content call)
-        (scene_of M.past M.fuse M.faults W.packets stage.new.one stage.new.two stage.new.wire) nodes.new result }
+    ensures moves { (terms : Terms) → AreOfNet terms → (content : Result Read Refused) → IsReadBy call.entry content
+        → (w : World) → Shows w (scene_of M.past M.fuse M.faults W.packets stage.old) nodes.old
+        → Moves terms w (side_of side) (step_of terms (node w (side_of side)) content call.entry)
+        (scene_of M.past M.fuse M.faults W.packets stage.new) nodes.new result }
     ensures asked { WereAskedFor (side_of side) result
         (drives_of M.past M.fuse M.faults stage.old.one stage.old.two)
         (drives_of M.past M.fuse M.faults stage.new.one stage.new.two) }
 {
+    each_message_is_read_back();
+    what_is_read_may_be_written();
+    a_refusal_may_be_answered();
     let came = ask_at(&mut stage.one, &mut stage.two, nodes, side, call)?;
     put_came(&mut stage.wire, number(other(side)), came)
+}
+
+/// A sequence to the other node is asked for.
+fn create<M: CrashDisk, W: Wire>(
+    alloc: Global,
+    stage: &mut Stage<M, W>,
+    nodes: &mut Nodes,
+    side: Side,
+    expires: Lapse,
+    offer: Option<Behaviour>,
+) -> Result<Outcome, Memory>
+    requires there { (w : World) × Shows w (scene_of M.past M.fuse M.faults W.packets stage.old) nodes.old }
+    requires lapse { IsLapseWritable expires }
+    ensures { (terms : Terms) → AreOfNet terms → (w : World)
+        → Shows w (scene_of M.past M.fuse M.faults W.packets stage.old) nodes.old
+        → Happens terms w (Event.Create side expires offer)
+        (scene_of M.past M.fuse M.faults W.packets stage.old)
+        (scene_of M.past M.fuse M.faults W.packets stage.new) nodes.new (told_of result) }
+{
+    each_image_is_left();
+    let to = address(alloc, other(side))?;
+    call(stage, nodes, side, Call::Create { to, expires, offer })
 }
 
 /// A packet comes to its node.
@@ -84,16 +145,20 @@ fn deliver<M: CrashDisk, W: Wire>(
     packet: u64,
 ) -> Result<Outcome, Memory>
     requires there { (w : World) × Shows w
-        (scene_of M.past M.fuse M.faults W.packets stage.old.one stage.old.two stage.old.wire) nodes.old }
+        (scene_of M.past M.fuse M.faults W.packets stage.old) nodes.old }
     ensures { (terms : Terms) → AreOfNet terms → (w : World)
-        → Shows w (scene_of M.past M.fuse M.faults W.packets stage.old.one stage.old.two stage.old.wire) nodes.old
-        → Happens terms w (Event.Deliver packet) (scene_of M.past M.fuse M.faults W.packets stage.old.one stage.old.two stage.old.wire)
-        (scene_of M.past M.fuse M.faults W.packets stage.new.one stage.new.two stage.new.wire) nodes.new (told_of result) }
+        → Shows w (scene_of M.past M.fuse M.faults W.packets stage.old) nodes.old
+        → Happens terms w (Event.Deliver packet) (scene_of M.past M.fuse M.faults W.packets stage.old)
+        (scene_of M.past M.fuse M.faults W.packets stage.new) nodes.new (told_of result) }
 {
+    each_message_is_read_back();
+    what_is_read_may_be_written();
+    a_refusal_may_be_answered();
+    each_image_is_left();
     let Some(packet) = stage.wire.get(packet) else {
         return Ok(Outcome::NoPacket);
     };
-    let side = if packet.to == 1 { Side::One } else { Side::Two };
+    let side = side_with(packet.to);
     let call = Call::Receive {
         bytes: packet.bytes,
     };
@@ -110,12 +175,13 @@ fn make_noise<M: CrashDisk, W: Wire>(
     bytes: &[u8],
 ) -> Result<Outcome, Memory>
     requires there { (w : World) × Shows w
-        (scene_of M.past M.fuse M.faults W.packets stage.old.one stage.old.two stage.old.wire) nodes.old }
+        (scene_of M.past M.fuse M.faults W.packets stage.old) nodes.old }
     ensures { (terms : Terms) → AreOfNet terms → (w : World)
-        → Shows w (scene_of M.past M.fuse M.faults W.packets stage.old.one stage.old.two stage.old.wire) nodes.old
-        → Happens terms w (Event.Noise side bytes.now) (scene_of M.past M.fuse M.faults W.packets stage.old.one stage.old.two stage.old.wire)
-        (scene_of M.past M.fuse M.faults W.packets stage.new.one stage.new.two stage.new.wire) nodes.new (told_of result) }
+        → Shows w (scene_of M.past M.fuse M.faults W.packets stage.old) nodes.old
+        → Happens terms w (Event.Noise side bytes.now) (scene_of M.past M.fuse M.faults W.packets stage.old)
+        (scene_of M.past M.fuse M.faults W.packets stage.new) nodes.new (told_of result) }
 {
+    each_image_is_left();
     match decode(alloc, bytes) {
         Ok(_) => Ok(Outcome::NoNoise),
         Err(DecodeError::Memory) => Err(Memory),
@@ -162,6 +228,7 @@ fn crash<M: CrashDisk>(
         → Crashes w (side_of side) choice (drives_of M.past M.fuse M.faults one.old two.old)
         (drives_of M.past M.fuse M.faults one.new two.new) nodes.new result }
 {
+    each_image_is_left();
     match side {
         Side::One => nodes.one.crash(one, choice),
         Side::Two => nodes.two.crash(two, choice),
@@ -177,40 +244,39 @@ pub(crate) fn happen<M: CrashDisk, W: Wire>(
 ) -> Result<Option<Outcome>, Memory>
     requires within { IsWithin event }
     requires there { (w : World) × Shows w
-        (scene_of M.past M.fuse M.faults W.packets stage.old.one stage.old.two stage.old.wire) nodes.old }
+        (scene_of M.past M.fuse M.faults W.packets stage.old) nodes.old }
     ensures { (terms : Terms) → AreOfNet terms → (w : World)
-        → Shows w (scene_of M.past M.fuse M.faults W.packets stage.old.one stage.old.two stage.old.wire) nodes.old
-        → Happens terms w event (scene_of M.past M.fuse M.faults W.packets stage.old.one stage.old.two stage.old.wire)
-        (scene_of M.past M.fuse M.faults W.packets stage.new.one stage.new.two stage.new.wire) nodes.new result }
+        → Shows w (scene_of M.past M.fuse M.faults W.packets stage.old) nodes.old
+        → Happens terms w event (scene_of M.past M.fuse M.faults W.packets stage.old)
+        (scene_of M.past M.fuse M.faults W.packets stage.new) nodes.new result }
 {
-    let outcome = match event {
-        Event::Nothing => return Ok(None),
+    each_image_is_left();
+    match event {
+        Event::Nothing => Ok(None),
         Event::Create {
             node,
             expires,
             offer,
-        } => {
-            let to = address(alloc, other(node))?;
-            call(stage, nodes, node, Call::Create { to, expires, offer })?
-        }
+        } => some(create(alloc, stage, nodes, node, expires, offer)),
         Event::Grant { node, behaviour } => {
             grant(nodes, node, behaviour);
-            Outcome::Done
+            Ok(Some(Outcome::Done))
         }
-        Event::Send { node, seq, text } => call(stage, nodes, node, Call::Send { seq, text })?,
-        Event::Tick { node, now } => call(stage, nodes, node, Call::Tick { now })?,
-        Event::Deliver { packet } => deliver(stage, nodes, packet)?,
-        Event::Close { node, seq } => call(stage, nodes, node, Call::Close { seq })?,
-        Event::End { node, seq } => call(stage, nodes, node, Call::End { seq })?,
+        Event::Send { node, seq, text } => some(call(stage, nodes, node, Call::Send { seq, text })),
+        Event::Tick { node, now } => some(call(stage, nodes, node, Call::Tick { now })),
+        Event::Deliver { packet } => some(deliver(stage, nodes, packet)),
+        Event::Close { node, seq } => some(call(stage, nodes, node, Call::Close { seq })),
+        Event::End { node, seq } => some(call(stage, nodes, node, Call::End { seq })),
         Event::Arm { node, calls } => {
             arm(&mut stage.one, &mut stage.two, nodes, node, calls);
-            Outcome::Done
+            Ok(Some(Outcome::Done))
         }
         Event::Crash { node, choice } => {
             crash(&mut stage.one, &mut stage.two, nodes, node, choice)?;
-            Outcome::Done
+            Ok(Some(Outcome::Done))
         }
-        Event::Noise { node, bytes } => { make_noise(alloc, stage, nodes, node, bytes.as_slice())? }
-    };
-    Ok(Some(outcome))
+        Event::Noise { node, bytes } => {
+            some(make_noise(alloc, stage, nodes, node, bytes.as_slice()))
+        }
+    }
 }

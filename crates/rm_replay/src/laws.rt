@@ -14,6 +14,7 @@ ghost use Rattle.std.specs.List.{AllByRecursion};
 use node_rules::laws::{own_terms_are_terms, there_are_own_terms};
 use rm_protocol::laws::{
     a_delivered_message_is_taken as a_message_is_taken, a_run_goes_on, every_run_keeps_the_word,
+    without_an_arm_nothing_fails,
 };
 use rm_wires::laws::room_goes_by_the_bytes;
 

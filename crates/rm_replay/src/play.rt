@@ -10,7 +10,9 @@ ghost use Rattle.rm_replay.specs.Played.{start_world};
 ghost use Rattle.rm_replay.specs.Shows.{Shows, scene_of};
 
 use crate::happen::happen;
+use crate::laws::there_are_nets;
 use crate::stage::{Nodes, Stage};
+use node_actor::laws::each_image_is_left;
 use rm_base::{Blob, Memory};
 use rm_disk::CrashDisk;
 use rm_report::{Line, push_lines};
@@ -29,14 +31,15 @@ fn play_line<M: CrashDisk, W: Wire>(
 ) -> Result<(), Memory>
     requires within { IsWithin event }
     requires there { (w : World) × Shows w
-        (scene_of M.past M.fuse M.faults W.packets stage.old.one stage.old.two stage.old.wire) nodes.old }
+        (scene_of M.past M.fuse M.faults W.packets stage.old) nodes.old }
     ensures { (terms : Terms) → AreOfNet terms → (w : World)
-        → Shows w (scene_of M.past M.fuse M.faults W.packets stage.old.one stage.old.two stage.old.wire) nodes.old
+        → Shows w (scene_of M.past M.fuse M.faults W.packets stage.old) nodes.old
         → PlaysLine terms w number event
-        (scene_of M.past M.fuse M.faults W.packets stage.old.one stage.old.two stage.old.wire)
-        (scene_of M.past M.fuse M.faults W.packets stage.new.one stage.new.two stage.new.wire) nodes.new
+        (scene_of M.past M.fuse M.faults W.packets stage.old)
+        (scene_of M.past M.fuse M.faults W.packets stage.new) nodes.new
         report.old report.new result }
 {
+    each_image_is_left();
     let Some(outcome) = happen(alloc, stage, nodes, event)? else {
         return Ok(());
     };
@@ -60,12 +63,13 @@ pub(crate) fn play<M: CrashDisk, W: Wire>(
 ) -> Result<(), Memory>
     requires within { AllByRecursion IsWithin script.items }
     requires there { Shows start_world
-        (scene_of M.past M.fuse M.faults W.packets stage.old.one stage.old.two stage.old.wire) nodes.old }
+        (scene_of M.past M.fuse M.faults W.packets stage.old) nodes.old }
     requires first { report.old ≡ [] }
     ensures { (terms : Terms) → AreOfNet terms → Plays terms script.items
-        (scene_of M.past M.fuse M.faults W.packets stage.old.one stage.old.two stage.old.wire)
-        (scene_of M.past M.fuse M.faults W.packets stage.new.one stage.new.two stage.new.wire) nodes.new report.new result }
+        (scene_of M.past M.fuse M.faults W.packets stage.old)
+        (scene_of M.past M.fuse M.faults W.packets stage.new) nodes.new report.new result }
 {
+    there_are_nets();
     let mut number: u64 = 0;
     for event in script {
         number += 1;

@@ -18,6 +18,7 @@ use crate::laws::{a_played_script_keeps_the_headline, there_are_nets};
 use crate::play::play;
 use crate::stage::{Nodes, Stage};
 use node_actor::Actor;
+use node_actor::laws::each_image_is_left;
 use node_summary::push_node;
 use rm_base::{Blob, Memory};
 use rm_disk::CrashDisk;
@@ -32,7 +33,7 @@ fn make<M: CrashDisk, W: Wire>(alloc: Global, stage: &mut Stage<M, W>) -> Result
     requires two { M.fuse stage.old.two ≡ None }
     requires silent { W.packets stage.old.wire ≡ [] }
     ensures shows { IfOk result (λ nodes. Shows start_world
-        (scene_of M.past M.fuse M.faults W.packets stage.new.one stage.new.two stage.new.wire) nodes) }
+        (scene_of M.past M.fuse M.faults W.packets stage.new) nodes) }
     ensures wire { W.packets stage.new.wire ≡ [] }
     ensures asked { WereAsked One false (drives_of M.past M.fuse M.faults stage.old.one stage.old.two)
         (drives_of M.past M.fuse M.faults stage.new.one stage.new.two) }
@@ -68,18 +69,19 @@ pub fn run_script<M: CrashDisk, W: Wire>(
     requires two { M.fuse stage.old.two ≡ None }
     requires silent { W.packets stage.old.wire ≡ [] }
     ensures ok { (terms : Terms) → AreOfNet terms → IfOk result (λ report. Ran terms script.items
-        (scene_of M.past M.fuse M.faults W.packets stage.old.one stage.old.two stage.old.wire)
-        (scene_of M.past M.fuse M.faults W.packets stage.new.one stage.new.two stage.new.wire) report) }
+        (scene_of M.past M.fuse M.faults W.packets stage.old)
+        (scene_of M.past M.fuse M.faults W.packets stage.new) report) }
     ensures err { (terms : Terms) → AreOfNet terms → OnErr result ((W.packets stage.new.wire ≡ [])
         ⊎ RanShort terms script.items
-        (scene_of M.past M.fuse M.faults W.packets stage.old.one stage.old.two stage.old.wire)
-        (scene_of M.past M.fuse M.faults W.packets stage.new.one stage.new.two stage.new.wire)) }
+        (scene_of M.past M.fuse M.faults W.packets stage.old)
+        (scene_of M.past M.fuse M.faults W.packets stage.new)) }
     ensures word { OnOk result (KeepsHeadline (M.past stage.new.one) (M.past stage.new.two)) }
     ensures short { OnErr result ((W.packets stage.new.wire ≡ [])
         ⊎ KeepsHeadline (M.past stage.new.one) (M.past stage.new.two)) }
 {
     there_are_nets();
     a_played_script_keeps_the_headline();
+    each_image_is_left();
     let mut nodes = make(alloc, stage)?;
     let mut report = Blob::new(alloc);
     play(alloc, stage, &mut nodes, script, &mut report)?;

@@ -1,10 +1,11 @@
 //! What left a node goes on the wire.
 ghost use Rattle.std.specs.Prelude.{◌≡◌, IfOk, OnErr, OnOk};
 ghost use Rattle.node_actor.specs.Outcomes.{packets_in};
+ghost use Rattle.rm_node.specs.Packets.{reply_packet};
 ghost use Rattle.rm_replay.specs.Happening.{IsPutInPart, with_all};
 
 use node_actor::Came;
-use rm_base::Memory;
+use rm_base::{Blob, Memory};
 use rm_node::Out;
 use rm_report::Outcome;
 use rm_wires::Wire;
@@ -20,15 +21,27 @@ fn put_all<W: Wire>(wire: &mut W, to: u8, outs: &[Out]) -> Result<(), Memory>
     Ok(())
 }
 
+/// Puts the reply on the wire, where there is one.
+fn put_reply<W: Wire>(wire: &mut W, to: u8, reply: &Option<Blob>) -> Result<(), Memory>
+    ensures ok { OnOk result (W.packets wire.new ≡ with_all (W.packets wire.old) to (reply_packet reply.now)) }
+    ensures err { OnErr result (W.packets wire.new ≡ W.packets wire.old) }
+{
+    match reply {
+        None => Ok(()),
+        Some(bytes) => {
+            wire.put(to, bytes.as_slice())?;
+            Ok(())
+        }
+    }
+}
+
 /// Puts what left a node on the wire, the reply first, and answers how its call came out.
 pub(crate) fn put_came<W: Wire>(wire: &mut W, to: u8, came: Came) -> Result<Outcome, Memory>
     ensures ok { OnOk result (W.packets wire.new ≡ with_all (W.packets wire.old) to (packets_in came)) }
     ensures outcome { IfOk result (λ outcome. outcome ≡ came.outcome) }
     ensures err { OnErr result (IsPutInPart (W.packets wire.old) to (packets_in came) (W.packets wire.new)) }
 {
-    if let Some(reply) = &came.reply {
-        wire.put(to, reply.as_slice())?;
-    }
+    put_reply(wire, to, &came.reply)?;
     put_all(wire, to, came.outs.as_slice())?;
     Ok(came.outcome)
 }

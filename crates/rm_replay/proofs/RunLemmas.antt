@@ -1,0 +1,101 @@
+-- A script from two new nodes on.
+use Rattle.std.proofs.Common.{◌≡◌, ◌∙◌, ℕ, false, List, ◌++◌, append_assoc, refl, sym, ap, subst, inl, inr}
+use Rattle.std.specs.Prelude.{◌⊎◌}
+use Rattle.rm_base.specs.Count.{RoseBy}
+use Rattle.rm_disk.specs.Call.{crashes_of}
+use Rattle.rm_protocol.specs.Terms.{Terms}
+use Rattle.rm_report.specs.Report.{lines_text}
+use Rattle.rm_script.specs.declared.event.Event.{Event as Said}
+use Rattle.rm_script.specs.declared.event.Side.TheVariants as place
+use Rattle.rm_replay.specs.Asked.{WasAsked}
+use Rattle.rm_replay.specs.Headline.{KeepsHeadline}
+use Rattle.rm_replay.specs.Net.{AreOfNet}
+use Rattle.rm_replay.specs.Played.{Played, Ran, RanShort, Story, TellBoth, end_text, known_text}
+use Rattle.rm_replay.specs.Playing.{AllPlayed}
+use Rattle.rm_replay.specs.Shows.{Holds, IsLeftOfLine, Scene}
+use Rattle.rm_replay.specs.Tales.{Drive, Tale, Tells}
+use Rattle.rm_replay.specs.declared.stage.Nodes.{Nodes}
+use Rattle.rm_replay.proofs.EventLemmas.{EachIsLeft, holds_of}
+use Rattle.rm_replay.proofs.StoryLemmas.{short_end}
+
+-- ---- the nodes were made, and nothing befell the disks
+
+-- of both disks
+pub record WereMade (old mid : Scene) : Type 0 where
+  pub one : WasAsked false old.drives.one mid.drives.one
+  pub two : WasAsked false old.drives.two mid.drives.two
+
+tells_from : (tale : Tale) (old mid now : Drive) → WasAsked false old mid → Tells tale mid now → Tells tale old now
+tells_from tale old mid now asked tells = record {
+  pairs = tells.pairs;
+  crashes = tells.crashes ∙ ap (λ (front : List (ℕ × List ℕ)). front ++ tells.pairs) asked.crashes;
+  left = tells.left;
+  faults = subst (λ (n : ℕ). RoseBy n now.failed tale.faults) asked.cause.cause tells.faults;
+}
+
+tell_from : (s : Story) (old mid now : Scene) → WereMade old mid → TellBoth s mid now → TellBoth s old now
+tell_from s old mid now made tell = record {
+  one = tells_from s.one old.drives.one mid.drives.one now.drives.one made.one tell.one;
+  two = tells_from s.two old.drives.two mid.drives.two now.drives.two made.two tell.two;
+}
+
+-- ---- all lines were played
+
+pub ran_of : EachIsLeft → (terms : Terms) (script : List Said) (old mid now : Scene) (nodes : Nodes)
+    (text one two : List ℕ) → WereMade old mid → (all : AllPlayed terms script mid now nodes text)
+    → one ≡ text ++ known_text place.One all.story.world.one
+    → two ≡ one ++ known_text place.Two all.story.world.two → Ran terms script old now two
+ran_of each terms script old mid now nodes text one two made all first second =
+    let w = all.story.world in
+    let a = known_text place.One w.one in
+    let b = known_text place.Two w.two in
+    record {
+      story = all.story;
+      played = all.played;
+      holds = holds_of each w now nodes all.shows;
+      tell = tell_from all.story old mid now made all.tell;
+      printed = second ∙ ap (λ (t : List ℕ). t ++ b) first ∙ append_assoc text a b
+          ∙ ap (λ (t : List ℕ). t ++ (a ++ b)) all.printed;
+    }
+
+-- ---- memory was wanting
+
+pub short_from : (terms : Terms) (script : List Said) (old mid now : Scene) → WereMade old mid
+    → RanShort terms script mid now → RanShort terms script old now
+short_from terms script old mid now made short = record {
+  count = short.count;
+  story = short.story;
+  played = short.played;
+  before = short.before;
+  tell = tell_from short.story old mid short.before made short.tell;
+  left = short.left;
+}
+
+pub short_told : EachIsLeft → (terms : Terms) (script : List Said) (old mid now : Scene) (nodes : Nodes)
+    (text : List ℕ) → WereMade old mid → AllPlayed terms script mid now nodes text → RanShort terms script old now
+short_told each terms script old mid now nodes text made all =
+    short_from terms script old mid now made (short_end each terms script mid now nodes text all)
+
+-- ---- the headline
+
+-- what a played script made keeps it
+abbrev pub WholeKeeps : Type 0
+WholeKeeps =
+    (terms : Terms) (script : List Said) (s : Story) → AreOfNet terms → Played terms script s → (scene : Scene)
+    → Holds s.world scene → KeepsHeadline scene.drives.one.disk.past scene.drives.two.disk.past
+
+-- and what stands where memory was wanting in a further line
+abbrev pub ShortKeeps : Type 0
+ShortKeeps =
+    (terms : Terms) (script : List Said) (s : Story) → AreOfNet terms → Played terms script s → (line : Said)
+    (scene : Scene) → IsLeftOfLine terms s.world line scene
+    → KeepsHeadline scene.drives.one.disk.past scene.drives.two.disk.past
+
+pub short_keeps : WholeKeeps → ShortKeeps → (terms : Terms) (script : List Said) (first now : Scene)
+    → AreOfNet terms → RanShort terms script first now
+    → KeepsHeadline now.drives.one.disk.past now.drives.two.disk.past
+short_keeps whole part terms script first now net short =
+    elim short.left [
+      | inl still ↦ whole terms _ short.story net short.played now still.0
+      | inr line ↦ part terms _ short.story net short.played line.0 now line.2.left
+    ]

@@ -1,0 +1,26 @@
+use Rattle.std.proofs.Common.{◌≡◌, ◌∙◌, Err}
+use Rattle.rm_protocol.specs.World.{Noise, node}
+use Rattle.rm_script.specs.declared.event.Event.TheVariants as said
+use Rattle.rm_replay.specs.Asked.{step_of}
+use Rattle.rm_replay.specs.Meaning.{side_of}
+use Rattle.rm_replay.specs.Shows.{scene_of}
+use Rattle.rm_replay.specs.declared.ask.Call.TheVariants as call
+use Rattle.rm_replay.proofs.CallLemmas.{noise_call}
+use Rattle.rm_replay.proofs.EventLemmas.{cut_none, happens_call}
+use Rattle.rm_replay.proofs.happen.make_noise.Goals as goal
+
+pub returns-in-Err-Memory : goal.returns-in-Err-Memory
+returns-in-Err-Memory g c terms net w shows =
+    cut_none c.each_image_is_left.ensures terms w (said.Noise c.args.side c.args.bytes.now)
+    (scene_of g.M.Disk.past g.M.Disk.fuse g.M.Disk.faults g.W.Wire.packets c.args.stage.now) c.args.nodes.now shows
+
+pub returns : goal.returns
+returns g c terms net w shows =
+    let side = side_of c.args.side in
+    let refusal = c.in-Err-Refused.field-0-0 in
+    let old = scene_of g.M.Disk.past g.M.Disk.fuse g.M.Disk.faults g.W.Wire.packets c.args.stage.now in
+    let new = scene_of g.M.Disk.past g.M.Disk.fuse g.M.Disk.faults g.W.Wire.packets c.call.new.stage in
+    happens_call c.each_image_is_left.ensures terms w (said.Noise c.args.side c.args.bytes.now) (Noise side refusal) side
+    (step_of terms (node w side) (Err refusal) (call.Receive c.args.bytes)) old new c.call.new.nodes c.call.result
+    (noise_call terms w c.args.side c.args.bytes refusal ?)
+    (c.call.ensures.moves terms net (Err refusal) ? w shows) c.call.ensures.asked
