@@ -1,7 +1,8 @@
 -- A script while it is played: one line more.
 use Rattle.std.proofs.Common.{◌≡◌, ◌∙◌, ◌+◌, ℕ, List, [], ◌∷◌, ◌++◌, length, take, slice_get, append_assoc, append-nil}
 use Rattle.std.proofs.Common.{Bool, true, false, Option, Some, None, refl, sym, ap, subst, inl, inr}
-use Rattle.std.specs.Prelude.{◌⊎◌, Result, Ok, Err}
+use Rattle.std.specs.Prelude.{◌⊎◌, OnOk, Result, Ok, Err}
+use Rattle.std.proofs.lemmas.List.{length-map}
 use Rattle.std.proofs.Math.Seq.{take-append_seam, take-length}
 use Rattle.rm_protocol.specs.Node.{Node, State, Up, Writing, armed, end_of, mounted, records, said_after}
 use Rattle.rm_protocol.specs.Said.{sent_of}
@@ -13,9 +14,14 @@ use Rattle.rm_protocol.specs.Calls.{Answer, create, send, close, end, tick}
 use Rattle.rm_protocol.specs.Word.{IsPrefixOf}
 use Rattle.rm_base.specs.Numbered.{numbered}
 use Rattle.rm_disk.specs.Call.{Call}
+use Rattle.record_batch.specs.Batch.{batch_text}
 use Rattle.record_batch.specs.Fact.{Fact}
+use Rattle.rm_base.specs.declared.failures.Memory.{Memory}
+use Rattle.rm_journal.specs.EntryLemmas.{length-gates_from}
+use Rattle.node_store.specs.Has.{entries_of}
 use Rattle.rm_report.specs.Report.{down_text, line_text, lines_text}
 use Rattle.rm_report.specs.declared.line.Line.{Line}
+use Rattle.rm_report.specs.declared.line.Outcome.{Outcome}
 use Rattle.rm_script.specs.declared.event.Event.{Event as Said}
 use Rattle.rm_script.specs.declared.event.Side.{Side as Place}
 use Rattle.node_actor.specs.Actored.{Actored}
@@ -26,7 +32,9 @@ use Rattle.node_summary.specs.Summary.{node_text}
 use Rattle.rm_replay.specs.Meaning.{Means, comes_out, report_of, stepped}
 use Rattle.rm_replay.specs.Played.{Played, RanShort, Story, TellBoth, beginning, known_by, known_text, more, none}
 use Rattle.rm_replay.specs.Played.{told_on}
-use Rattle.rm_replay.specs.Playing.{AllPlayed, LinePlayed}
+use Rattle.rm_replay.specs.Happening.{Happened}
+use Rattle.rm_replay.specs.Net.{wire_packet}
+use Rattle.rm_replay.specs.Playing.{AllPlayed, LinePlayed, PlaysLine}
 use Rattle.rm_replay.specs.Shows.{Holds, IsCut, IsCutIn, IsLeftOfLine, Scene, Shows}
 use Rattle.rm_replay.specs.Tales.{Drive, Grew, Tells, tale_of}
 use Rattle.rm_replay.specs.declared.stage.Nodes.{Nodes}
@@ -189,6 +197,59 @@ cut_played each terms w line event old new nodes means shows one two = record {
   one = grew_told (tale_of terms w One line event) old.drives.one new.drives.one (crash_in-once One line _) one;
   two = grew_told (tale_of terms w Two line event) old.drives.two new.drives.two (crash_in-once Two line _) two;
 }
+
+-- ---- how many entries there are
+
+entries_by : (st : State) (entries : List (List Fact)) (past : List Call) (stored : Stored)
+    → StandsBy st entries past stored → length stored.journal.gates ≡ length entries
+entries_by Up entries past stored awake =
+    ap (λ (gates : List ℕ). length gates) awake.has.holds.journal.gates
+    ∙ length-gates_from 8 (entries_of entries) ∙ length-map entries batch_text
+entries_by (Writing delta) entries past stored asleep = asleep.count
+
+entries_is : (x : Node) (now : Told) (a : Actored) → Stands x now a
+    → length a.node.stored.journal.gates ≡ length x.entries
+entries_is x now a s = entries_by x.state x.entries now.past a.node.stored s.disk
+
+-- ---- a line and its report
+
+-- a line of the report
+abbrev told_line : ℕ → Outcome → ℕ → ℕ → ℕ → List Line
+told_line number outcome one two packets = record {
+  number = number;
+  outcome = outcome;
+  entries_one = one;
+  entries_two = two;
+  packets = packets;
+} ∷ []
+
+pub plays_line : EachIsLeft → (terms : Terms) (w : World) (number : ℕ) (line : Said) (old new : Scene) (nodes : Nodes)
+    (came : Option Outcome) (outcome : Outcome) (one two packets : ℕ) (before after : List ℕ)
+    (result : Result Unit Memory) → Happened terms w line old new nodes came → came ≡ Some outcome
+    → one ≡ length nodes.one.node.stored.journal.gates → two ≡ length nodes.two.node.stored.journal.gates
+    → packets ≡ length new.packets
+    → OnOk result (after ≡ before ++ lines_text (told_line number outcome one two packets))
+    → PlaysLine terms w number line old new nodes before after result
+plays_line each terms w number line old new nodes came outcome one two packets before after (Ok done) h is e f n put =
+    let v = stepped terms w h.event in
+    record {
+      event = h.event;
+      means = h.means;
+      shows = h.shows;
+      one = h.one;
+      two = h.two;
+      printed = put ∙ ap (λ (ls : List Line). before ++ lines_text ls)
+          (ap (λ (k : ℕ). told_line number outcome k two packets)
+          (e ∙ entries_is v.one new.drives.one.disk nodes.one h.shows.stand.one)
+          ∙ ap (λ (k : ℕ). told_line number outcome (length v.one.entries) k packets)
+          (f ∙ entries_is v.two new.drives.two.disk nodes.two h.shows.stand.two)
+          ∙ ap (λ (k : ℕ). told_line number outcome (length v.one.entries) (length v.two.entries) k)
+          (n ∙ ap (λ (ps : List (ℕ × List ℕ)). length ps) h.shows.wire ∙ length-map v.packets wire_packet)
+          ∙ ap (λ (o : Option Outcome). report_of number o v) (sym is ∙ h.comes));
+    }
+plays_line each terms w number line old new nodes came outcome one two packets before after (Err memory) h is e f n
+    put =
+    cut_played each terms w line h.event old new nodes h.means h.shows h.one h.two
 
 -- ---- what both nodes know in the end
 

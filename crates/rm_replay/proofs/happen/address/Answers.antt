@@ -6,6 +6,6 @@ use Rattle.rm_replay.proofs.happen.address.Goals as goal
 
 pub unreachable-requires-in-Err-NotText : goal.unreachable-requires-in-Err-NotText
 unreachable-requires-in-Err-NotText c =
-    c.in-Err-NotText.ensures.err.2
+    (rw c.in-Err-NotText.field-0-is at c.in-Err-NotText.ensures.err).2
     (subst (IsText 2048) (sym c.address_bytes.ensures)
     (address_is_text c.texts_are_tested.ensures (side_of c.args.side)))
