@@ -13,10 +13,10 @@ pub record Shown : Type 0 where
 abbrev pub shown_of : {M W : Type 0} → (M → List Call) → (W → List (ℕ × List ℕ)) → M → M → W → Shown
 shown_of past packets one two wire = record { one = past one; two = past two; packets = packets wire }
 
--- the headline, by the status of a replay: it holds of both disks where a report was made. Where memory was wanting, it
--- holds as well, or else no packet was sent, or nothing changed; and at each other status nothing changed.
+-- the headline, by the status of a replay: it holds of both disks where a report was made; where memory was wanting, it
+-- holds as well unless no packet was ever sent; and at each other status nothing changed
 pub record KeepsWord {T : Type 0} (status : ℕ) (old new : T) (shown : Shown) : Type 0 where
   pub done : status ≡ 0 → KeepsHeadline shown.one shown.two
   pub unwritten : status ≡ 5 → KeepsHeadline shown.one shown.two
-  pub short : status ≡ 10 → (new ≡ old) ⊎ ((shown.packets ≡ []) ⊎ KeepsHeadline shown.one shown.two)
+  pub short : status ≡ 10 → (shown.packets ≡ []) ⊎ KeepsHeadline shown.one shown.two
   pub other : status ≢ 0 → status ≢ 5 → status ≢ 10 → new ≡ old
