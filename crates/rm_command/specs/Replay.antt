@@ -5,25 +5,25 @@ use Rattle.rm_script.specs.declared.event.Event.{Event}
 use Rattle.rm_script.specs.Script.{lines_of, IsScript, IsFirstBad}
 use Rattle.rm_replay.specs.Net.{AreOfNet}
 use Rattle.rm_replay.specs.Played.{Ran, RanShort}
+use Rattle.rm_replay.specs.Shows.{Scene}
 use Rattle.rm_command.specs.declared.end.End.{End}
 use Rattle.rm_command.specs.declared.end.End.TheVariants.{BadLine}
 use Rattle.rm_command.specs.Edge.{Edge}
 use Rattle.rm_command.specs.Filter.{EndsFilter, IsFilterStatus}
-use Rattle.rm_command.specs.Stage.{Shown}
+use Rattle.rm_command.specs.Stage.{Staged}
 
 -- the bytes are a script, all its lines were played by the protocol, and this is the report
-pub record IsReportOf (shown : Shown) (bytes text : List ℕ) : Type 0 where
+pub record IsReportOf (first now : Scene) (bytes text : List ℕ) : Type 0 where
   pub events : List Event
   pub script : IsScript (lines_of bytes) events
-  pub ran : (terms : Terms) → AreOfNet terms → Ran terms events shown.one shown.two shown.packets text
+  pub ran : (terms : Terms) → AreOfNet terms → Ran terms events first now text
 
 -- the bytes are a script of which some first lines were played, and of the next one perhaps all but some last of its
 -- packets; or there is no packet, and nothing is said of the disks
-pub record IsCutShortOf (shown : Shown) (bytes : List ℕ) : Type 0 where
+pub record IsCutShortOf (first now : Scene) (bytes : List ℕ) : Type 0 where
   pub events : List Event
   pub script : IsScript (lines_of bytes) events
-  pub ran : (terms : Terms) → AreOfNet terms → (shown.packets ≡ [])
-      ⊎ RanShort terms events shown.one shown.two shown.packets
+  pub ran : (terms : Terms) → AreOfNet terms → (now.packets ≡ []) ⊎ RanShort terms events first now
 
 -- why replay refuses bytes: the first line that is not in the grammar; and then the stage is as it was
 abbrev pub RefusesScript : {T : Type 0} → T → T → List ℕ → End → Type 0
@@ -31,9 +31,10 @@ RefusesScript old new bytes (BadLine line) = IsFirstBad (lines_of bytes) line ×
 RefusesScript old new bytes _ = ⊥
 
 -- what replay did, by how it ended
-abbrev pub EndsReplay : {S K T : Type 0} → End → Edge S K → T → T → Shown → Type 0
-EndsReplay end e old new shown =
-    EndsFilter 16777216 (new ≡ old) (IsReportOf shown) (IsCutShortOf shown) (RefusesScript old new) end e
+abbrev pub EndsReplay : {S K T : Type 0} → End → Edge S K → Staged T → Staged T → Type 0
+EndsReplay end e old new =
+    EndsFilter 16777216 (new ≡ old) (IsReportOf old.scene new.scene) (IsCutShortOf old.scene new.scene)
+    (RefusesScript old new) end e
 
 -- the bytes are a script
 abbrev pub IsAScript : List ℕ → Type 0

@@ -8,7 +8,7 @@ use Rattle.rm_command.specs.Check.{EndsCheck}
 use Rattle.rm_command.specs.Edge.{Edge, KeepsInput, KeepsOutput, TookWithin, WasSaid}
 use Rattle.rm_command.specs.Policy.{EndsPolicy}
 use Rattle.rm_command.specs.Replay.{EndsReplay}
-use Rattle.rm_command.specs.Stage.{Shown}
+use Rattle.rm_command.specs.Stage.{Staged}
 use Rattle.rm_command.specs.Texts.{line_of}
 
 -- the one word replay
@@ -42,8 +42,8 @@ IsNamed word (Some Check) = word ≡ codes "check"
 IsNamed word (Some Policy) = word ≡ codes "policy"
 
 -- a run of replay
-pub record RunsReplay {S K T : Type 0} (end : End) (e : Edge S K) (old new : T) (shown : Shown) : Type 0 where
-  pub ends : EndsReplay end e old new shown
+pub record RunsReplay {S K T : Type 0} (end : End) (e : Edge S K) (old new : Staged T) : Type 0 where
+  pub ends : EndsReplay end e old new
   pub taken : TookWithin 16777216 end e.input e.input_after
 
 -- a run of check
@@ -63,9 +63,9 @@ pub record RunsNothing {S K : Type 0} (end : End) (e : Edge S K) : Type 0 where
   pub said : WasSaid e.out e.out_after (line_of Usage)
 
 -- what a run did, by its words and how it ended; only replay changes the stage
-pub record Runs {S K T : Type 0} (words : List (List ℕ)) (end : End) (e : Edge S K) (old new : T) (shown : Shown)
+pub record Runs {S K T : Type 0} (words : List (List ℕ)) (end : End) (e : Edge S K) (old new : Staged T)
     : Type 0 where
-  pub replay : AsksReplay words → RunsReplay end e old new shown
+  pub replay : AsksReplay words → RunsReplay end e old new
   pub check : AsksCheck words → RunsCheck end e
   pub policy : AsksPolicy words → RunsPolicy end e
   pub nothing : AsksNothing words → RunsNothing end e

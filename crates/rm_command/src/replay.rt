@@ -2,7 +2,7 @@
 ghost use Rattle.std.specs.Prelude.{◌≡◌, [], None};
 ghost use Rattle.rm_command.specs.Edge.{input_of, output_of, edge_of, KeepsEdge};
 ghost use Rattle.rm_command.specs.Replay.{EndsReplay};
-ghost use Rattle.rm_command.specs.Stage.{KeepsWord, shown_of};
+ghost use Rattle.rm_command.specs.Stage.{KeepsWord, staged_of};
 ghost use Rattle.rm_command.specs.Status.{status_of};
 
 use crate::end::{End, refuse_line};
@@ -28,11 +28,11 @@ pub fn replay<S: Source, K: Sink, M: CrashDisk, W: Wire>(
     requires one { M.fuse stage.old.one ≡ None }
     requires two { M.fuse stage.old.two ≡ None }
     requires silent { W.packets stage.old.wire ≡ [] }
-    ensures word { KeepsWord (status_of result) stage.old stage.new
-        (shown_of M.past W.packets stage.new.one stage.new.two stage.new.wire) }
+    ensures word { KeepsWord (status_of result) (staged_of M.past M.fuse M.faults W.packets stage.old)
+        (staged_of M.past M.fuse M.faults W.packets stage.new) }
     ensures ends { EndsReplay result (edge_of (input_of S.left S.faults S.taken S.is_sound)
-        (output_of K.held K.faults K.wants_memory K.is_sound) input.old input.new out.old out.new) stage.old stage.new
-        (shown_of M.past W.packets stage.new.one stage.new.two stage.new.wire) }
+        (output_of K.held K.faults K.wants_memory K.is_sound) input.old input.new out.old out.new)
+        (staged_of M.past M.fuse M.faults W.packets stage.old) (staged_of M.past M.fuse M.faults W.packets stage.new) }
     ensures kept { KeepsEdge 16777216 result (edge_of (input_of S.left S.faults S.taken S.is_sound)
         (output_of K.held K.faults K.wants_memory K.is_sound) input.old input.new out.old out.new) }
 {
