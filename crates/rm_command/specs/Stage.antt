@@ -17,13 +17,13 @@ staged_of past fuse faults packets s =
     record { stage = s; scene = scene_of past fuse faults packets s.one s.two s.wire }
 
 -- each two images of the disks keep the word
-abbrev pub KeepsWordNow : Scene → Type 0
-KeepsWordNow scene = KeepsHeadline scene.drives.one.disk.past scene.drives.two.disk.past
+abbrev pub KeepsHeadlineIn : Scene → Type 0
+KeepsHeadlineIn scene = KeepsHeadline scene.drives.one.disk.past scene.drives.two.disk.past
 
 -- the headline, by the status of a replay: it holds of both disks where a report was made; where memory was wanting, it
 -- holds as well unless no packet was ever sent; and at each other status nothing changed
-pub record KeepsWord {T : Type 0} (status : ℕ) (old new : Staged T) : Type 0 where
-  pub done : status ≡ 0 → KeepsWordNow new.scene
-  pub unwritten : status ≡ 5 → KeepsWordNow new.scene
-  pub short : status ≡ 10 → (new.scene.packets ≡ []) ⊎ KeepsWordNow new.scene
+pub record KeepsWordAt {T : Type 0} (status : ℕ) (old new : Staged T) : Type 0 where
+  pub done : status ≡ 0 → KeepsHeadlineIn new.scene
+  pub unwritten : status ≡ 5 → KeepsHeadlineIn new.scene
+  pub short : status ≡ 10 → (new.scene.packets ≡ []) ⊎ KeepsHeadlineIn new.scene
   pub other : status ≢ 0 → status ≢ 5 → status ≢ 10 → new ≡ old

@@ -5,7 +5,7 @@ ghost use Rattle.rm_command.specs.Edge.{input_of, output_of, edge_of};
 ghost use Rattle.rm_command.specs.Policy.{IsPolicyStatus};
 ghost use Rattle.rm_command.specs.Replay.{IsReplayStatus};
 ghost use Rattle.rm_command.specs.Run.{AsksReplay, AsksCheck, AsksPolicy, AsksNothing, Asks, IsNamed, Runs};
-ghost use Rattle.rm_command.specs.Stage.{KeepsWord, staged_of};
+ghost use Rattle.rm_command.specs.Stage.{KeepsWordAt, staged_of};
 ghost use Rattle.rm_command.specs.Status.{status_of};
 ghost use Rattle.rm_command.specs.declared.end.End.{End as AnEnd};
 
@@ -35,7 +35,7 @@ pub fn run<S: Source, K: Sink, M: CrashDisk, W: Wire>(
     requires silent { W.packets stage.old.wire ≡ [] }
 
     // The headline, over every input and output, over every two disks and every wire.
-    ensures word { AsksReplay words.now → KeepsWord result
+    ensures word { AsksReplay words.now → KeepsWordAt result
         (staged_of M.past M.fuse M.faults W.packets stage.old) (staged_of M.past M.fuse M.faults W.packets stage.new) }
     ensures others { ¬ (AsksReplay words.now) → stage.new ≡ stage.old }
 
@@ -69,7 +69,7 @@ fn obey<S: Source, K: Sink, M: CrashDisk, W: Wire>(
     requires one { M.fuse stage.old.one ≡ None }
     requires two { M.fuse stage.old.two ≡ None }
     requires silent { W.packets stage.old.wire ≡ [] }
-    ensures word { AsksReplay words.now → KeepsWord (status_of result)
+    ensures word { AsksReplay words.now → KeepsWordAt (status_of result)
         (staged_of M.past M.fuse M.faults W.packets stage.old) (staged_of M.past M.fuse M.faults W.packets stage.new) }
     ensures runs { Runs words.now result (edge_of (input_of S.left S.faults S.taken S.is_sound)
         (output_of K.held K.faults K.wants_memory K.is_sound) input.old input.new out.old out.new)

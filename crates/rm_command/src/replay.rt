@@ -2,7 +2,7 @@
 ghost use Rattle.std.specs.Prelude.{◌≡◌, [], None};
 ghost use Rattle.rm_command.specs.Edge.{input_of, output_of, edge_of, KeepsEdge};
 ghost use Rattle.rm_command.specs.Replay.{EndsReplay};
-ghost use Rattle.rm_command.specs.Stage.{KeepsWord, staged_of};
+ghost use Rattle.rm_command.specs.Stage.{KeepsWordAt, staged_of};
 ghost use Rattle.rm_command.specs.Status.{status_of};
 
 use crate::end::{End, refuse_line};
@@ -28,7 +28,7 @@ pub fn replay<S: Source, K: Sink, M: CrashDisk, W: Wire>(
     requires one { M.fuse stage.old.one ≡ None }
     requires two { M.fuse stage.old.two ≡ None }
     requires silent { W.packets stage.old.wire ≡ [] }
-    ensures word { KeepsWord (status_of result) (staged_of M.past M.fuse M.faults W.packets stage.old)
+    ensures word { KeepsWordAt (status_of result) (staged_of M.past M.fuse M.faults W.packets stage.old)
         (staged_of M.past M.fuse M.faults W.packets stage.new) }
     ensures ends { EndsReplay result (edge_of (input_of S.left S.faults S.taken S.is_sound)
         (output_of K.held K.faults K.wants_memory K.is_sound) input.old input.new out.old out.new)
@@ -36,6 +36,7 @@ pub fn replay<S: Source, K: Sink, M: CrashDisk, W: Wire>(
     ensures kept { KeepsEdge 16777216 result (edge_of (input_of S.left S.faults S.taken S.is_sound)
         (output_of K.held K.faults K.wants_memory K.is_sound) input.old input.new out.old out.new) }
 {
+    // A script says nothing beyond the limits that a run asks for.
     values_are_within();
     let bytes = match read_input(alloc, input, out, SCRIPT_LIMIT) {
         Ok(bytes) => bytes,
