@@ -14,7 +14,7 @@ pub record Staged (T : Type 0) : Type 0 where
 abbrev pub staged_of : {M W : Type 0} → (M → List Call) → (M → Option ℕ) → (M → ℕ) → (W → List (ℕ × List ℕ))
     → Stage M W → Staged (Stage M W)
 staged_of past fuse faults packets s =
-    record { stage = s; scene = scene_of past fuse faults packets s.one s.two s.wire }
+    record { stage = s; scene = scene_of past fuse faults packets s }
 
 -- each two images of the disks keep the word
 abbrev pub KeepsHeadlineIn : Scene → Type 0
