@@ -1,10 +1,11 @@
 -- What a run of `wsrm replay` is, by how it ended.
-use Rattle.std.specs.Prelude.{◌≡◌, ◌⊎◌, ℕ, List, []}
+use Rattle.std.specs.Prelude.{◌≡◌, ◌⊎◌, ℕ, List, [], take}
+use Rattle.rm_protocol.specs.Delivered.{TakesNew}
 use Rattle.rm_protocol.specs.Terms.{Terms}
 use Rattle.rm_script.specs.declared.event.Event.{Event}
 use Rattle.rm_script.specs.Script.{lines_of, IsScript, IsFirstBad}
 use Rattle.rm_replay.specs.Net.{AreOfNet}
-use Rattle.rm_replay.specs.Played.{Ran, RanShort}
+use Rattle.rm_replay.specs.Played.{Played, Ran, RanShort, Story}
 use Rattle.rm_replay.specs.Shows.{Scene}
 use Rattle.rm_command.specs.declared.end.End.{End}
 use Rattle.rm_command.specs.declared.end.End.TheVariants.{BadLine}
@@ -12,11 +13,14 @@ use Rattle.rm_command.specs.Edge.{Edge}
 use Rattle.rm_command.specs.Filter.{EndsFilter, IsFilterStatus}
 use Rattle.rm_command.specs.Stage.{Staged}
 
--- the bytes are a script, all its lines were played by the protocol, and this is the report
+-- the bytes are a script, all its lines were played by the protocol, and this is the report; and at each moment of the
+-- script a delivered message that is new is recorded by its line, and released where it closes the gap
 pub record IsReportOf (first now : Scene) (bytes text : List ℕ) : Type 0 where
   pub events : List Event
   pub script : IsScript (lines_of bytes) events
   pub ran : (terms : Terms) → AreOfNet terms → Ran terms events first now text
+  pub takes : (terms : Terms) (count : ℕ) (s : Story) → AreOfNet terms → Played terms (take count events) s
+      → TakesNew terms s.world
 
 -- the bytes are a script of which some first lines were played, and of the next one perhaps all but some last of its
 -- packets; or there is no packet, and nothing is said of the disks

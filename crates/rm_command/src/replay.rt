@@ -9,6 +9,7 @@ use crate::end::{End, refuse_line};
 use crate::filter::{read_input, write_text};
 use rm_base::{Memory, Sink, Source};
 use rm_disk::CrashDisk;
+use rm_replay::laws::a_delivered_message_is_taken;
 use rm_replay::{Stage, run_script};
 use rm_script::laws::values_are_within;
 use rm_script::{ScriptError, read_script};
@@ -36,8 +37,9 @@ pub fn replay<S: Source, K: Sink, M: CrashDisk, W: Wire>(
     ensures kept { KeepsEdge 16777216 result (edge_of (input_of S.left S.faults S.taken S.is_sound)
         (output_of K.held K.faults K.wants_memory K.is_sound) input.old input.new out.old out.new) }
 {
-    // A script says nothing beyond the limits that a run asks for.
+    // A script says nothing beyond the limits that a run asks for, and what it delivers is taken.
     values_are_within();
+    a_delivered_message_is_taken();
     let bytes = match read_input(alloc, input, out, SCRIPT_LIMIT) {
         Ok(bytes) => bytes,
         Err(end) => return end,
