@@ -4,12 +4,13 @@ use Rattle.rm_command.proofs.replay.replay.Goals as goal
 
 pub returns-in-Ok-run_script-clause-ends : goal.returns-in-Ok-run_script-clause-ends
 returns-in-Ok-run_script-clause-ends g c =
+    let events = c.in-Ok-read_script.events.items in
     writing_ends 16777216 _ _ _ _ _ c.write_text.result c.in-Ok.bytes c.in-Ok-run_script.report c.in-Ok.ensures.read
     (record {
-      events = c.in-Ok-read_script.events.items;
+      events = events;
       script = rw c.as_slice.ensures at c.in-Ok-read_script.ensures.script;
       ran = c.in-Ok-run_script.ensures.ok;
-      takes = λ terms count s. c.a_delivered_message_is_taken.ensures terms (take count c.in-Ok-read_script.events.items) s;
+      takes = λ terms count s. c.a_delivered_message_is_taken.ensures terms (take count events) s;
     })
     (rw (c.in-Ok.ensures.silent, c.as_slice-in-Ok-run_script.ensures) at c.write_text.ensures.ends)
 
