@@ -9,13 +9,13 @@ use Rattle.message_reader.specs.Message.{Wrong}
 use Rattle.message_reader.specs.Message as wrongs
 use Rattle.message_reader.specs.Refusals.{Spells, Refuses, refusal_of}
 use Rattle.message_reader.specs.Refusals as refused
-use Rattle.rm_world.specs.declared.event.Event.{Event}
-use Rattle.rm_world.specs.Script.{lines_of, IsScript, IsFirstBad}
-use Rattle.rm_world.specs.World.{World}
+use Rattle.rm_script.specs.declared.event.Event.{Event}
+use Rattle.rm_script.specs.Script.{lines_of, IsScript, IsFirstBad}
 use Rattle.rm_command.specs.Check.{HasFault, IsTextOf, RefusesMessage, IsAMessage, IsCheckStatus, is_of_bytes}
 use Rattle.rm_command.specs.Replay.{IsReportOf, IsCutShortOf, RefusesScript, IsAScript, IsReplayStatus}
 use Rattle.rm_command.specs.Edge.{Edge}
 use Rattle.rm_command.specs.Run.{RunsReplay, RunsCheck}
+use Rattle.rm_command.specs.Stage.{Staged}
 use Rattle.rm_command.specs.Status.{status_of}
 use Rattle.rm_command.proofs.RunLemmas.{filter_status}
 use Rattle.rm_command.specs.declared.end.End.{End}
@@ -64,22 +64,24 @@ module _ (never : (soap bytes : List ℕ) (m : Message) (refusal : Refusal) → 
       (λ bytes text prints. (prints.message, prints.spells)) refused_message e end ran.ends
 
 module _ (never_bad : (lines : List (List ℕ)) (events : List Event) (line : ℕ) → IsScript lines events
-    → ¬ (IsFirstBad lines line)) (old new : World) where
+    → ¬ (IsFirstBad lines line)) {T : Type 0} where
   -- what replay refuses is no script, and has status 3
-  pub refused_script : (bytes : List ℕ) (end : End) → RefusesScript old new bytes end
+  pub refused_script : (old new : Staged T) (bytes : List ℕ) (end : End) → RefusesScript old new bytes end
       → (¬ (IsAScript bytes)) × (status_of end ≡ 3)
-  refused_script bytes Done refuses = absurd refuses
-  refused_script bytes Usage refuses = absurd refuses
-  refused_script bytes (BadLine line) refuses = (λ is. never_bad (lines_of bytes) is.0 line is.1 refuses.0, refl)
-  refused_script bytes ReadFault refuses = absurd refuses
-  refused_script bytes WriteFault refuses = absurd refuses
-  refused_script bytes TooLong refuses = absurd refuses
-  refused_script bytes (Refused fault) refuses = absurd refuses
-  refused_script bytes Memory refuses = absurd refuses
+  refused_script old new bytes Done refuses = absurd refuses
+  refused_script old new bytes Usage refuses = absurd refuses
+  refused_script old new bytes (BadLine line) refuses =
+      (λ is. never_bad (lines_of bytes) is.0 line is.1 refuses.0, refl)
+  refused_script old new bytes ReadFault refuses = absurd refuses
+  refused_script old new bytes WriteFault refuses = absurd refuses
+  refused_script old new bytes TooLong refuses = absurd refuses
+  refused_script old new bytes (Refused fault) refuses = absurd refuses
+  refused_script old new bytes Memory refuses = absurd refuses
 
   -- which status comes of the bytes of a script
-  pub replay_status : {S K : Type 0} {e : Edge S K} {end : End} → RunsReplay end e old new
+  pub replay_status : {S K : Type 0} {e : Edge S K} {end : End} {old new : Staged T} → RunsReplay end e old new
       → IfSome e.input.left (λ bytes. IsReplayStatus bytes (status_of end))
-  replay_status {S} {K} {e} {end} ran =
-      filter_status 65536 3 (new ≡ old) (IsReportOf old new) (IsCutShortOf old new) (RefusesScript old new) IsAScript
-      (λ bytes text prints. (prints.events, prints.script)) refused_script e end ran.ends
+  replay_status {S} {K} {e} {end} {old} {new} ran =
+      filter_status 16777216 3 (new ≡ old) (IsReportOf old.scene new.scene) (IsCutShortOf old.scene new.scene)
+      (RefusesScript old new) IsAScript (λ bytes text prints. (prints.events, prints.script)) (refused_script old new)
+      e end ran.ends

@@ -4,5 +4,6 @@ pub mod Filter
 pub mod Policy
 pub mod Replay
 pub mod Run
+pub mod Stage
 pub mod Status
 pub mod Texts

@@ -1,6 +1,5 @@
 -- What the words ask for, and what a run of them is.
 use Rattle.std.specs.Prelude.{◌≡◌, ◌≢◌, ℕ, List, [], ◌∷◌, Option, Some, None, codes}
-use Rattle.rm_world.specs.World.{World}
 use Rattle.rm_command.specs.declared.command.Command.{Command}
 use Rattle.rm_command.specs.declared.command.Command.TheVariants.{Replay, Check, Policy}
 use Rattle.rm_command.specs.declared.end.End.{End}
@@ -9,6 +8,7 @@ use Rattle.rm_command.specs.Check.{EndsCheck}
 use Rattle.rm_command.specs.Edge.{Edge, KeepsInput, KeepsOutput, TookWithin, WasSaid}
 use Rattle.rm_command.specs.Policy.{EndsPolicy}
 use Rattle.rm_command.specs.Replay.{EndsReplay}
+use Rattle.rm_command.specs.Stage.{Staged}
 use Rattle.rm_command.specs.Texts.{line_of}
 
 -- the one word replay
@@ -42,9 +42,9 @@ IsNamed word (Some Check) = word ≡ codes "check"
 IsNamed word (Some Policy) = word ≡ codes "policy"
 
 -- a run of replay
-pub record RunsReplay {S K : Type 0} (end : End) (e : Edge S K) (old new : World) : Type 0 where
+pub record RunsReplay {S K T : Type 0} (end : End) (e : Edge S K) (old new : Staged T) : Type 0 where
   pub ends : EndsReplay end e old new
-  pub taken : TookWithin 65536 end e.input e.input_after
+  pub taken : TookWithin 16777216 end e.input e.input_after
 
 -- a run of check
 pub record RunsCheck {S K : Type 0} (end : End) (e : Edge S K) : Type 0 where
@@ -63,7 +63,8 @@ pub record RunsNothing {S K : Type 0} (end : End) (e : Edge S K) : Type 0 where
   pub said : WasSaid e.out e.out_after (line_of Usage)
 
 -- what a run did, by its words and how it ended; only replay changes the stage
-pub record Runs {S K : Type 0} (words : List (List ℕ)) (end : End) (e : Edge S K) (old new : World) : Type 0 where
+pub record Runs {S K T : Type 0} (words : List (List ℕ)) (end : End) (e : Edge S K) (old new : Staged T)
+    : Type 0 where
   pub replay : AsksReplay words → RunsReplay end e old new
   pub check : AsksCheck words → RunsCheck end e
   pub policy : AsksPolicy words → RunsPolicy end e

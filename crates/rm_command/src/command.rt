@@ -1,12 +1,11 @@
 //! The whole program over any input and output.
-ghost use Rattle.std.specs.Prelude.{◌≡◌, ◌↔◌, IfSome};
-ghost use Rattle.rm_world.specs.Stage.{world_of};
-ghost use Rattle.rm_world.specs.Word.{preset, KeepsWord};
+ghost use Rattle.std.specs.Prelude.{◌≡◌, ◌↔◌, [], None, IfSome};
 ghost use Rattle.rm_command.specs.Check.{IsCheckStatus};
 ghost use Rattle.rm_command.specs.Edge.{input_of, output_of, edge_of};
 ghost use Rattle.rm_command.specs.Policy.{IsPolicyStatus};
 ghost use Rattle.rm_command.specs.Replay.{IsReplayStatus};
 ghost use Rattle.rm_command.specs.Run.{AsksReplay, AsksCheck, AsksPolicy, AsksNothing, Asks, IsNamed, Runs};
+ghost use Rattle.rm_command.specs.Stage.{KeepsWordAt, staged_of};
 ghost use Rattle.rm_command.specs.Status.{status_of};
 ghost use Rattle.rm_command.specs.declared.end.End.{End as AnEnd};
 
@@ -16,29 +15,35 @@ use crate::policy::policy;
 use crate::replay::replay;
 use message_reader::laws::a_message_is_not_refused;
 use rm_base::{Blob, Sink, Source};
+use rm_disk::CrashDisk;
 use rm_policy::laws::one_reading;
-use rm_world::PlainStage;
-use rm_world::laws::no_bad_line;
+use rm_replay::Stage;
+use rm_script::laws::no_bad_line;
+use rm_wires::Wire;
 use std::alloc::Global;
 
 /// Does what the words say, those after the program's name, and answers the exit status.
-pub fn run<S: Source, K: Sink>(
+pub fn run<S: Source, K: Sink, M: CrashDisk, W: Wire>(
     alloc: Global,
     words: &[Blob],
     input: &mut S,
     out: &mut K,
-    stage: &mut PlainStage,
+    stage: &mut Stage<M, W>,
 ) -> u8
-    requires { world_of stage.old ≡ preset }
+    requires one { M.fuse stage.old.one ≡ None }
+    requires two { M.fuse stage.old.two ≡ None }
+    requires silent { W.packets stage.old.wire ≡ [] }
 
-    // The headline, at every status and over every source.
-    ensures word { KeepsWord (world_of stage.new) }
+    // The headline, over every input and output, over every two disks and every wire.
+    ensures word { AsksReplay words.now → KeepsWordAt result
+        (staged_of M.past M.fuse M.faults W.packets stage.old) (staged_of M.past M.fuse M.faults W.packets stage.new) }
+    ensures others { ¬ (AsksReplay words.now) → stage.new ≡ stage.old }
 
     // What was done, by the words and the status.
     ensures runs { (end : AnEnd) × (result ≡ status_of end)
         × Runs words.now end (edge_of (input_of S.left S.faults S.taken S.is_sound)
         (output_of K.held K.faults K.wants_memory K.is_sound) input.old input.new out.old out.new)
-        (world_of stage.old) (world_of stage.new) }
+        (staged_of M.past M.fuse M.faults W.packets stage.old) (staged_of M.past M.fuse M.faults W.packets stage.new) }
     ensures usage { (result ≡ 2) ↔ AsksNothing words.now }
 
     // Which status comes of bytes.
@@ -54,18 +59,21 @@ pub fn run<S: Source, K: Sink>(
 }
 
 // Does what the words say, and answers how it ended.
-fn obey<S: Source, K: Sink>(
+fn obey<S: Source, K: Sink, M: CrashDisk, W: Wire>(
     alloc: Global,
     words: &[Blob],
     input: &mut S,
     out: &mut K,
-    stage: &mut PlainStage,
+    stage: &mut Stage<M, W>,
 ) -> End
-    requires { world_of stage.old ≡ preset }
-    ensures word { KeepsWord (world_of stage.new) }
+    requires one { M.fuse stage.old.one ≡ None }
+    requires two { M.fuse stage.old.two ≡ None }
+    requires silent { W.packets stage.old.wire ≡ [] }
+    ensures word { AsksReplay words.now → KeepsWordAt (status_of result)
+        (staged_of M.past M.fuse M.faults W.packets stage.old) (staged_of M.past M.fuse M.faults W.packets stage.new) }
     ensures runs { Runs words.now result (edge_of (input_of S.left S.faults S.taken S.is_sound)
         (output_of K.held K.faults K.wants_memory K.is_sound) input.old input.new out.old out.new)
-        (world_of stage.old) (world_of stage.new) }
+        (staged_of M.past M.fuse M.faults W.packets stage.old) (staged_of M.past M.fuse M.faults W.packets stage.new) }
 {
     match command_of(words) {
         Some(Command::Replay) => replay(alloc, input, out, stage),

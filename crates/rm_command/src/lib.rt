@@ -1,8 +1,8 @@
-//! The commands of wsrm: `run` is the whole program over any input and output. `replay` reads a script, plays it over
-//! one preset sequence from node 1 to node 2, and prints the report; `check` reads an envelope, and prints how many
-//! header blocks it has, its payload and the bindings in force there; `policy` reads an assertion of reliable
-//! messaging, and prints what it says. It stands on rm_world, soap_envelope and rm_policy; the program, `rm_cli`, may
-//! use `run` and its contract.
+//! The commands of wsrm: `run` is the whole program over any input and output, any two disks and any wire. `replay`
+//! reads a script, plays it over two durable nodes and the wire between them, and prints the report; `check` reads an
+//! envelope, and prints what its message says; `policy` reads an assertion of reliable messaging, and prints what it
+//! says. It stands on rm_script and rm_replay, on message_reader and message_lines, and on rm_policy; the program,
+//! `rm_cli`, may use `run` and its contract.
 #![tactic(auto)]
 
 mod check;

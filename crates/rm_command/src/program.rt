@@ -6,7 +6,9 @@ ghost use Rattle.std.specs.Vec.Iter.{into_iter_items};
 use crate::command::run;
 use crate::end::End;
 use rm_base::{Blob, Items, Memory, StdSink, StdSource};
-use rm_world::preset_stage;
+use rm_disk::MemDisk;
+use rm_replay::Stage;
+use rm_wires::MemWire;
 use std::alloc::Global;
 use std::env;
 use std::io::ErrorKind;
@@ -30,7 +32,11 @@ pub fn start(rt: HostRuntime) -> ExitCode {
             };
             let mut input = StdSource::new(rt.stdin());
             let mut out = StdSink::new(rt.stdout());
-            let mut stage = preset_stage(rt.alloc());
+            let mut stage = Stage {
+                one: MemDisk::new(rt.alloc()),
+                two: MemDisk::new(rt.alloc()),
+                wire: MemWire::new(rt.alloc()),
+            };
             run(rt.alloc(), words, &mut input, &mut out, &mut stage)
         }
         Err(Memory) => End::Memory.status(),

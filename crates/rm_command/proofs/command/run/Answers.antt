@@ -1,13 +1,10 @@
-use Rattle.rm_world.specs.Stage.{world_of}
 use Rattle.rm_command.proofs.CheckLemmas.{check_status, replay_status}
 use Rattle.rm_command.proofs.PolicyLemmas.{policy_status}
 use Rattle.rm_command.proofs.command.run.Goals as goal
 
 pub returns-clause-replays : goal.returns-clause-replays
 returns-clause-replays g c =
-    let before = world_of c.args.stage.now in
-    let after = world_of c.obey.new.stage in
-    λ asked. rw c.status.ensures (replay_status c.no_bad_line.ensures before after (c.obey.ensures.runs.replay asked))
+    λ asked. rw c.status.ensures (replay_status c.no_bad_line.ensures (c.obey.ensures.runs.replay asked))
 
 pub returns-clause-checks : goal.returns-clause-checks
 returns-clause-checks g c =
