@@ -184,23 +184,26 @@ fn memory_is_wanting(rt: HostRuntime) -> Result<(), Fail> {
     Ok(())
 }
 
-// A comment of 64 bytes.
-const COMMENT: &[u8] = b"###############################################################\n";
+// A script of 16777216 bytes: comments.
+fn longest_script(alloc: Global) -> Result<Blob, Memory> {
+    let mut line = repeated(alloc, b"#", 1023)?;
+    line.push_all(b"\n")?;
+    repeated(alloc, line.as_slice(), 16384)
+}
 
 #[test]
 fn limits(rt: HostRuntime) -> Result<(), Fail> {
-    let script = repeated(rt.alloc(), COMMENT, 262144)?;
-    let mut longer = repeated(rt.alloc(), COMMENT, 262144)?;
+    let script = longest_script(rt.alloc())?;
+    let mut longer = longest_script(rt.alloc())?;
     longer.push_all(b"#")?;
     let too_long: &[u8] = b"too long\n";
     let read_fault: &[u8] = b"read fault\n";
     // the read that fails, and what comes then
-    let cases: [(&[u8], Option<u64>, u8, &[u8]); 6] = [
-        (script.as_slice(), None, 0, b""),
-        (longer.as_slice(), None, 8, too_long),
+    let cases: [(&[u8], Option<u64>, u8, &[u8]); 5] = [
         (script.as_slice(), Some(0), 4, read_fault),
         (script.as_slice(), Some(256), 4, read_fault),
         (script.as_slice(), Some(257), 0, b""),
+        (longer.as_slice(), None, 8, too_long),
         (longer.as_slice(), Some(257), 8, too_long),
     ];
     for (input, failing, want, line) in cases {

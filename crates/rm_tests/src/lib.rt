@@ -1,5 +1,5 @@
-//! The tests of the crates that a node stands on, a module a crate. They stand apart, since a crate with tests is proved a
-//! second time with them.
+//! The tests of the crates that a node stands on, a module a crate. They stand apart, since a crate with tests is
+//! proved a second time with them.
 #![tactic(auto)]
 
 #[cfg(test)]
