@@ -184,30 +184,46 @@ fn memory_is_wanting(rt: HostRuntime) -> Result<(), Fail> {
     Ok(())
 }
 
-// A script of 16777216 bytes: comments.
-fn longest_script(alloc: Global) -> Result<Blob, Memory> {
+// A comment of so many lines with 1024 bytes each.
+fn comment(alloc: Global, lines: u32) -> Result<Blob, Memory> {
     let mut line = repeated(alloc, b"#", 1023)?;
     line.push_all(b"\n")?;
-    repeated(alloc, line.as_slice(), 16384)
+    repeated(alloc, line.as_slice(), lines)
+}
+
+// A script of 16777216 bytes: the read with number 256 finds its end.
+#[test]
+fn the_longest_script(rt: HostRuntime) -> Result<(), Fail> {
+    let script = comment(rt.alloc(), 16384)?;
+    let (status, out) = run_whole(rt.alloc(), given(REPLAY, script.as_slice(), Some(257)))?;
+    assert_eq!(rt; status, 0);
+    assert_eq!(rt; out.as_slice(), b"".as_slice());
+    Ok(())
+}
+
+// One byte more, and no read behind it.
+#[test]
+fn a_longer_script(rt: HostRuntime) -> Result<(), Fail> {
+    let mut script = comment(rt.alloc(), 16384)?;
+    script.push_all(b"#")?;
+    let (status, out) = run_whole(rt.alloc(), given(REPLAY, script.as_slice(), Some(257)))?;
+    assert_eq!(rt; status, 8);
+    assert_eq!(rt; out.as_slice(), b"too long\n".as_slice());
+    Ok(())
 }
 
 #[test]
-fn limits(rt: HostRuntime) -> Result<(), Fail> {
-    let script = longest_script(rt.alloc())?;
-    let mut longer = longest_script(rt.alloc())?;
-    longer.push_all(b"#")?;
-    let too_long: &[u8] = b"too long\n";
-    let read_fault: &[u8] = b"read fault\n";
+fn reads_fail(rt: HostRuntime) -> Result<(), Fail> {
+    let script = comment(rt.alloc(), 65)?;
     // the read that fails, and what comes then
-    let cases: [(&[u8], Option<u64>, u8, &[u8]); 5] = [
-        (script.as_slice(), Some(0), 4, read_fault),
-        (script.as_slice(), Some(256), 4, read_fault),
-        (script.as_slice(), Some(257), 0, b""),
-        (longer.as_slice(), None, 8, too_long),
-        (longer.as_slice(), Some(257), 8, too_long),
+    let cases: [(Option<u64>, u8, &[u8]); 4] = [
+        (Some(0), 4, b"read fault\n"),
+        (Some(1), 4, b"read fault\n"),
+        (Some(2), 4, b"read fault\n"),
+        (Some(3), 0, b""),
     ];
-    for (input, failing, want, line) in cases {
-        let (status, out) = run_whole(rt.alloc(), given(REPLAY, input, failing))?;
+    for (failing, want, line) in cases {
+        let (status, out) = run_whole(rt.alloc(), given(REPLAY, script.as_slice(), failing))?;
         assert_eq!(rt; status, want, "with {failing:?}");
         assert_eq!(rt; out.as_slice(), line);
     }
