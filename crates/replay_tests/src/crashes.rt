@@ -1,13 +1,11 @@
 //! Disks that fail and crash, and a wire without memory.
 
 use crate::messages::IN_ORDER;
-use crate::stage::{joined, played};
+use crate::stage::{events_of, joined, played};
 use rm_base::{Blob, Memory};
 use rm_disk::MemDisk;
 use rm_journal::Journal;
 use rm_replay::{Stage, run_script};
-use rm_script::laws::values_are_within;
-use rm_script::read_script;
 use rm_wires::{MemWire, Packet, Wire};
 use std::alloc::Global;
 use std::test::Fail;
@@ -93,7 +91,6 @@ impl Wire for ShortWire {
 #[test]
 fn memory_is_wanting_for_a_packet(rt: HostRuntime) -> Result<(), Fail> {
     let alloc = rt.alloc();
-    values_are_within();
     let mut stage = Stage {
         one: MemDisk::new(alloc),
         two: MemDisk::new(alloc),
@@ -102,7 +99,7 @@ fn memory_is_wanting_for_a_packet(rt: HostRuntime) -> Result<(), Fail> {
             puts: 0,
         },
     };
-    let events = read_script(alloc, IN_ORDER)?;
+    let events = events_of(alloc, IN_ORDER)?;
     let ended = run_script(alloc, &mut stage, events);
     assert!(rt; matches!(ended, Err(Memory)));
     assert_eq!(rt; stage.wire.count(), 2);
