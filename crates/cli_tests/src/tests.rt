@@ -3,7 +3,10 @@ ghost use Rattle.std.specs.Prelude.{None};
 
 use rm_base::{Blob, Items, MemSink, MemSource, Memory, Numbers, Sink, SinkError};
 use rm_command::run;
-use rm_world::preset_stage;
+use rm_disk::MemDisk;
+use rm_journal::Journal;
+use rm_replay::Stage;
+use rm_wires::{MemWire, Packet, Wire};
 use std::alloc::Global;
 use std::test::Fail;
 
@@ -33,20 +36,35 @@ const POLICY: &[&[u8]] = &[b"policy"];
 
 const USAGE: &[u8] = b"usage: wsrm check,replay,soak,make,serve,send,push,close,end,inbox,policy\n";
 
-// Runs the program, and answers its status and how many packets were sent.
-fn run_on<K: Sink>(alloc: Global, given: Asked<'_>, out: &mut K) -> Result<(u8, usize), Memory> {
+// The words of a run.
+fn words_of(alloc: Global, given: Asked<'_>) -> Result<Items<Blob>, Memory> {
     let mut words = Items::new(alloc);
     for word in given.words {
         words.push(Blob::from_slice(alloc, word)?)?;
     }
+    Ok(words)
+}
+
+// The input of a run.
+fn input_of(alloc: Global, given: Asked<'_>) -> Result<MemSource, Memory> {
     let mut fail_at = Numbers::new(alloc);
     if let Some(number) = given.failing {
         fail_at.push(number.saturating_add(1))?;
     }
-    let mut input = MemSource::new(Blob::from_slice(alloc, given.input)?, fail_at);
-    let mut stage = preset_stage(alloc);
+    Ok(MemSource::new(Blob::from_slice(alloc, given.input)?, fail_at))
+}
+
+// Runs the program, and answers its status and how many packets were sent.
+fn run_on<K: Sink>(alloc: Global, given: Asked<'_>, out: &mut K) -> Result<(u8, u64), Memory> {
+    let words = words_of(alloc, given)?;
+    let mut input = input_of(alloc, given)?;
+    let mut stage = Stage {
+        one: MemDisk::new(alloc),
+        two: MemDisk::new(alloc),
+        wire: MemWire::new(alloc),
+    };
     let status = run(alloc, words.as_slice(), &mut input, out, &mut stage);
-    Ok((status, stage.packets.len()))
+    Ok((status, stage.wire.count()))
 }
 
 // The status of a run, and what it wrote.
@@ -65,84 +83,149 @@ fn repeated(alloc: Global, piece: &[u8], count: u32) -> Result<Blob, Memory> {
     Ok(bytes)
 }
 
-const ROW: &[u8] =
-    b"send 1 1 <p>1</p>\nsend 1 1 <p>2</p>\ndeliver 2\ndeliver 1\ndeliver 1\ndeliver 4\ndeliver 3\ndeliver 9\n";
+const ROW: &[u8] = b"create 1\ndeliver 1\ndeliver 2\n\
+        send 1 1 <p>1</p>\nsend 1 1 <p>2</p>\nsend 1 1 <p>3</p>\n\
+        deliver 3\ndeliver 4\ndeliver 5\ndeliver 6\ndeliver 7\ndeliver 8\n";
 
 const ROW_REPORT: &[u8] =
-    b"1 ok 1 0 1\n2 ok 2 0 2\n3 ok 2 1 3\n4 ok 2 2 4\n5 ok 2 2 5\n6 ok 3 2 5\n7 ok 3 2 5\n8 no-packet 3 2 5\n\
-        out 1 1 open accepted 2 acked 1-2\nin 2 1 open dfg received 1-2 inbox 2 discarded 0\n\
-        item 2 1 1 3c703e313c2f703e\nitem 2 1 2 3c703e323c2f703e\n";
+    b"1 ok 2 1 1\n2 ok 2 2 2\n3 ok 3 2 2\n4 ok 4 2 3\n5 ok 5 2 4\n6 ok 6 2 5\n7 ok 6 3 6\n8 ok 6 4 7\n9 ok 6 5 8\n\
+        10 ok 7 5 8\n11 ok 8 5 8\n12 ok 9 5 8\nout 1 1 open accepted 3 acked 1-3\n\
+        in 2 1 open dfg received 1-3 inbox 3 discarded 0\nitem 2 1 1 3c703e313c2f703e\n\
+        item 2 1 2 3c703e323c2f703e\nitem 2 1 3 3c703e333c2f703e\n";
 
 #[test]
 fn reports(rt: HostRuntime) -> Result<(), Fail> {
-    let full = repeated(rt.alloc(), b"send 1 1 x\n", 1025)?;
-    // a script, and its report or the end of it
-    let cases: [(&[u8], &[u8]); 6] = [
+    // a script, and its report
+    let cases: [(&[u8], &[u8]); 4] = [
         (ROW, ROW_REPORT),
+        (b"", b""),
+        // the second of three messages is lost, and so is each acknowledgement
         (
-            b"",
-            b"out 1 1 open accepted 0 acked -\nin 2 1 open dfg received - inbox 0 discarded 0\n",
+            b"# lost\n\ncreate 1\ndeliver 1\ndeliver 2\nsend 1 1 <p>1</p>\nsend 1 1 <p>2</p>\nsend 1 1 <p>3</p>\n\
+                deliver 3\ndeliver 5",
+            b"3 ok 2 1 1\n4 ok 2 2 2\n5 ok 3 2 2\n6 ok 4 2 3\n7 ok 5 2 4\n8 ok 6 2 5\n9 ok 6 3 6\n10 ok 6 4 7\n\
+                out 1 1 open accepted 3 acked -\nin 2 1 open dfg received 1-1,3-3 inbox 1 discarded 0\n\
+                item 2 1 1 3c703e313c2f703e\n",
         ),
-        // the second of three messages is lost, and so is each acknowledgement but the last, which is repeated
+        // what comes is no message, and what is named is not there
         (
-            b"# lost\n\nsend 1 1 a\nsend 1 1 b\nsend 1 1 c\ndeliver 1\ndeliver 3\ndeliver 5\ndeliver 5",
-            b"3 ok 1 0 1\n4 ok 2 0 2\n5 ok 3 0 3\n6 ok 3 1 4\n7 ok 3 2 5\n8 ok 4 2 5\n9 ok 4 2 5\n\
-                out 1 1 open accepted 3 acked 1-1,3-3\nin 2 1 open dfg received 1-1,3-3 inbox 1 discarded 0\n\
-                item 2 1 1 61\n",
-        ),
-        // all come in the other order, and the older acknowledgement last
-        (
-            b"send 1 1 a\nsend 1 1 b\ndeliver 2\ndeliver 1\ndeliver 4\ndeliver 3\n",
-            b"1 ok 1 0 1\n2 ok 2 0 2\n3 ok 2 1 3\n4 ok 2 2 4\n5 ok 3 2 4\n6 ok 3 2 4\n\
-                out 1 1 open accepted 2 acked 1-2\nin 2 1 open dfg received 1-2 inbox 2 discarded 0\nitem 2 1 1 61\n\
-                item 2 1 2 62\n",
-        ),
-        // a packet that isn't sent yet
-        (
-            b"deliver 1\nsend 1 1 a\ndeliver 1\ndeliver 65536\n",
-            b"1 no-packet 0 0 0\n2 ok 1 0 1\n3 ok 1 1 2\n4 no-packet 1 1 2\nout 1 1 open accepted 1 acked -\n\
-                in 2 1 open dfg received 1-1 inbox 1 discarded 0\nitem 2 1 1 61\n",
-        ),
-        (
-            full.as_slice(),
-            b"1024 ok 1024 0 1024\n1025 refused WindowFull 1024 0 1024\nout 1 1 open accepted 1024 acked -\n\
-                in 2 1 open dfg received - inbox 0 discarded 0\n",
+            b"noise 2 3c613e\ndeliver 1\ndeliver 9\nsend 1 1 <p>1</p>\n",
+            b"1 fault NotProfile 1 1 1\n2 ok 1 1 1\n3 no-packet 1 1 1\n4 no-sequence 1 1 1\n",
         ),
     ];
     for (input, report) in cases {
         let (status, out) = run_whole(rt.alloc(), given(REPLAY, input, None))?;
         assert_eq!(rt; status, 0, "at {input:?}");
-        if input.len() < 11275 {
-            assert_eq!(rt; out.as_slice(), report);
-        } else {
-            assert!(rt; out.as_slice().ends_with(report), "at the end");
-        }
+        assert_eq!(rt; out.as_slice(), report);
     }
     Ok(())
 }
 
 #[test]
-fn limits(rt: HostRuntime) -> Result<(), Fail> {
-    let script = repeated(rt.alloc(), b"#######\n", 8192)?;
-    let mut longer = repeated(rt.alloc(), b"#######\n", 8192)?;
-    longer.push_all(b"#")?;
-    let too_long: &[u8] = b"too long\n";
-    let read_fault: &[u8] = b"read fault\n";
-    // the read that fails, and what comes then
-    let cases: [(&[u8], Option<u64>, u8, &[u8]); 6] = [
-        (script.as_slice(), None, 0, b""),
-        (longer.as_slice(), None, 8, too_long),
-        (script.as_slice(), Some(0), 4, read_fault),
-        (script.as_slice(), Some(1), 4, read_fault),
-        (script.as_slice(), Some(2), 0, b""),
-        (longer.as_slice(), Some(2), 8, too_long),
-    ];
-    for (input, failing, want, line) in cases {
-        let (status, out) = run_whole(rt.alloc(), given(REPLAY, input, failing))?;
-        assert_eq!(rt; status, want, "with {failing:?}");
-        if want != 0 {
-            assert_eq!(rt; out.as_slice(), line);
+fn a_full_window(rt: HostRuntime) -> Result<(), Fail> {
+    let mut script = Blob::from_slice(rt.alloc(), b"create 1\ndeliver 1\ndeliver 2\n")?;
+    script.push_all(repeated(rt.alloc(), b"send 1 1 <p>1</p>\n", 1025)?.as_slice())?;
+    let (status, out) = run_whole(rt.alloc(), given(REPLAY, script.as_slice(), None))?;
+    assert_eq!(rt; status, 0);
+    let end = b"\n1027 ok 1027 2 1026\n1028 refused WindowFull 1027 2 1026\n\
+        out 1 1 open accepted 1024 acked -\nin 2 1 open dfg received - inbox 0 discarded 0\n";
+    assert!(rt; out.as_slice().ends_with(end.as_slice()));
+    Ok(())
+}
+
+// A wire that finds no memory for its third packet.
+#[derive(Debug, Drop)]
+struct ShortWire {
+    wire: MemWire,
+    puts: u64,
+}
+
+impl Wire for ShortWire {
+    ghost packets = { λ w. w.wire };
+
+    fn put(&mut self, to: u8, bytes: &[u8]) -> Result<bool, Memory> {
+        self.puts = self.puts.saturating_add(1);
+        if self.puts == 3 {
+            return Err(Memory);
         }
+        self.wire.put(to, bytes)
+    }
+
+    fn get(&self, k: u64) -> Option<Packet<'_>> {
+        self.wire.get(k)
+    }
+
+    fn count(&self) -> u64 {
+        self.wire.count()
+    }
+}
+
+// The record of a message is on the disk, and memory is wanting for its packet.
+#[test]
+fn memory_is_wanting(rt: HostRuntime) -> Result<(), Fail> {
+    let alloc = rt.alloc();
+    let asked = given(REPLAY, ROW, None);
+    let words = words_of(alloc, asked)?;
+    let mut input = input_of(alloc, asked)?;
+    let mut out = MemSink::new(alloc, Numbers::new(alloc));
+    let mut stage = Stage {
+        one: MemDisk::new(alloc),
+        two: MemDisk::new(alloc),
+        wire: ShortWire {
+            wire: MemWire::new(alloc),
+            puts: 0,
+        },
+    };
+    let status = run(alloc, words.as_slice(), &mut input, &mut out, &mut stage);
+    assert_eq!(rt; status, 10);
+    assert_eq!(rt; out.as_slice(), b"".as_slice());
+    assert_eq!(rt; stage.wire.count(), 2);
+    assert_eq!(rt; Journal::mount(alloc, &mut stage.one)?.count(), 4);
+    Ok(())
+}
+
+// A comment of so many lines with 1024 bytes each.
+fn comment(alloc: Global, lines: u32) -> Result<Blob, Memory> {
+    let mut line = repeated(alloc, b"#", 1023)?;
+    line.push_all(b"\n")?;
+    repeated(alloc, line.as_slice(), lines)
+}
+
+// A script of 16777216 bytes: the read with number 256 finds its end.
+#[test]
+fn the_longest_script(rt: HostRuntime) -> Result<(), Fail> {
+    let script = comment(rt.alloc(), 16384)?;
+    let (status, out) = run_whole(rt.alloc(), given(REPLAY, script.as_slice(), Some(257)))?;
+    assert_eq!(rt; status, 0);
+    assert_eq!(rt; out.as_slice(), b"".as_slice());
+    Ok(())
+}
+
+// One byte more, and no read behind it.
+#[test]
+fn a_longer_script(rt: HostRuntime) -> Result<(), Fail> {
+    let mut script = comment(rt.alloc(), 16384)?;
+    script.push_all(b"#")?;
+    let (status, out) = run_whole(rt.alloc(), given(REPLAY, script.as_slice(), Some(257)))?;
+    assert_eq!(rt; status, 8);
+    assert_eq!(rt; out.as_slice(), b"too long\n".as_slice());
+    Ok(())
+}
+
+#[test]
+fn reads_fail(rt: HostRuntime) -> Result<(), Fail> {
+    let script = comment(rt.alloc(), 65)?;
+    // the read that fails, and what comes then
+    let cases: [(Option<u64>, u8, &[u8]); 4] = [
+        (Some(0), 4, b"read fault\n"),
+        (Some(1), 4, b"read fault\n"),
+        (Some(2), 4, b"read fault\n"),
+        (Some(3), 0, b""),
+    ];
+    for (failing, want, line) in cases {
+        let (status, out) = run_whole(rt.alloc(), given(REPLAY, script.as_slice(), failing))?;
+        assert_eq!(rt; status, want, "with {failing:?}");
+        assert_eq!(rt; out.as_slice(), line);
     }
     Ok(())
 }
@@ -394,15 +477,15 @@ impl Sink for Narrow {
 
 // The words, the input and the read that fails; the status where all is written, and where it isn't; what is written;
 // and how many packets were sent.
-type Case<'a> = (Asked<'a>, u8, u8, &'a [u8], usize);
+type Case<'a> = (Asked<'a>, u8, u8, &'a [u8], u64);
 
 #[test]
 fn each_write_fails_in_turn(rt: HostRuntime) -> Result<(), Fail> {
     let cases: [Case<'_>; 14] = [
-        (given(REPLAY, ROW, None), 0, 5, ROW_REPORT, 5),
+        (given(REPLAY, ROW, None), 0, 5, ROW_REPORT, 8),
         (given(REPLAY, b"send 1 1\n", None), 3, 3, b"bad line 1\n", 0),
         (
-            given(REPLAY, b"\nsend 1 1 x\ndeliver 0", None),
+            given(REPLAY, b"\ncreate 1\ndeliver 0", None),
             3,
             3,
             b"bad line 3\n",
@@ -421,7 +504,7 @@ fn each_write_fails_in_turn(rt: HostRuntime) -> Result<(), Fail> {
         (given(&[b"check "], ROW, None), 2, 2, USAGE, 0),
     ];
     for (given, whole_status, cut_status, text, packets) in cases {
-        for calls_left in 0..80 {
+        for calls_left in 0..120 {
             let mut out = Narrow {
                 written: Blob::new(rt.alloc()),
                 calls_left,

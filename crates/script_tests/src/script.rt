@@ -99,7 +99,7 @@ fn three_payloads(rt: HostRuntime) -> Result<(), Fail> {
 
 #[test]
 fn all_lines(rt: HostRuntime) -> Result<(), Fail> {
-    let cases: [(&[u8], &[u8]); 17] = [
+    let cases: [(&[u8], &[u8]); 18] = [
         (b"", b""),
         (b"# a comment\n\n\n", b"\n\n\n"),
         (b"create 1 expires P1M", b"create 1 1 0\n"),
@@ -111,6 +111,10 @@ fn all_lines(rt: HostRuntime) -> Result<(), Fail> {
         ),
         (b"grant 2 des\ngrant 1 dfg", b"grant 2 des\ngrant 1 dfg\n"),
         (b"send 2 256  x y ", b"send 2 256  x y \n"),
+        (
+            b"#\xff\r\nsend 1 1 \xff\x00\r\n",
+            b"\nsend 1 1 \xff\x00\r\n",
+        ),
         (b"tick 2 2592000000", b"tick 2 2592000000\n"),
         (b"tick 1 0", b"tick 1 0\n"),
         (b"tick 1 200000000000000", b"tick 1 200000000000000\n"),
@@ -129,7 +133,7 @@ fn all_lines(rt: HostRuntime) -> Result<(), Fail> {
 
 #[test]
 fn bad_lines(rt: HostRuntime) -> Result<(), Fail> {
-    let cases: [(&[u8], u64); 34] = [
+    let cases: [(&[u8], u64); 44] = [
         (b"create 1 expires -P1D", 1),
         (b"send 1 1", 1),
         (b"send 1 1 ", 1),
@@ -154,6 +158,13 @@ fn bad_lines(rt: HostRuntime) -> Result<(), Fail> {
         (b"deliver 65537", 1),
         (b"deliver  1", 1),
         (b"deliver 1\r\n", 1),
+        (b"deliver 1 ", 1),
+        (b"deliver -1", 1),
+        (b"deliver 99999999999999999999999", 1),
+        (b"deliver\t1", 1),
+        (b"Deliver 1", 1),
+        (b" deliver 1", 1),
+        (b"send 1 1\tx", 1),
         (b"close 1 257", 1),
         (b"end 1 0", 1),
         (b"arm 1 0", 1),
@@ -163,6 +174,9 @@ fn bad_lines(rt: HostRuntime) -> Result<(), Fail> {
         (b"noise 1 3", 1),
         (b"noise 1 3g", 1),
         (b" # x", 1),
+        (b" ", 1),
+        (b"\t", 1),
+        (b"\r\n", 1),
         (b"deliver 1\n\xff\n", 2),
     ];
     for (script, line) in cases {
