@@ -1,7 +1,7 @@
 //! A disk in memory that tells nothing of what is on it, so that a test owes no proof of what it does with it.
-ghost use Rattle.std.specs.Prelude.{◌≡◌, ◌≤◌, ◌∸◌, [], false, None, is_err};
+ghost use Rattle.std.specs.Prelude.{◌≡◌, ◌≤◌, [], false, None, is_err};
 ghost use Rattle.rm_disk.specs.Cause.{HasCause};
-ghost use Rattle.rm_disk.specs.MemDisk.{faults_of, spare_of};
+ghost use Rattle.rm_disk.specs.MemDisk.{faults_of, past_of, spare_of};
 ghost use Rattle.rm_disk.specs.Spare.{Spends};
 
 use rm_base::{Failed, Memory};
@@ -38,6 +38,7 @@ impl Device {
 
     // One device call is made now: where it is the one that fails, the disk is told so.
     fn count(&mut self)
+        ensures past { past_of self.new.disk ≡ past_of self.old.disk }
         ensures faults { faults_of self.new.disk ≡ faults_of self.old.disk }
         ensures spare { spare_of self.new.disk ≡ spare_of self.old.disk }
     {
