@@ -61,15 +61,14 @@ fn a_sequence_is_asked_for(rt: HostRuntime) -> Result<(), Fail> {
 fn a_payload_is_sent(rt: HostRuntime) -> Result<(), Fail> {
     let alloc = rt.alloc();
     let mut peer = Peer::source(alloc)?;
-    let payload = joined(alloc, &[b"<p>1</p>"])?;
-    let sent = peer.node.send(&mut peer.disk, 1, payload)?;
+    let sent = peer.send(1, b"<p>1</p>")?;
     assert_eq!(rt; sent.number, 1);
     assert_eq!(rt; peer.entries(), 4);
     let blocks = b"<a:To>http://node2.example/</a:To><a:Action>urn:wsrm:payload</a:Action>\
                    <r:Sequence s:mustUnderstand=\"true\"><r:Identifier>urn:s</r:Identifier>\
                    <r:MessageNumber>1</r:MessageNumber></r:Sequence>";
     assert!(rt; is_sent(alloc, &sent.outs, NODE_2, blocks, b"<p>1</p>")?);
-    assert_eq!(rt; peer.send(1, b"<p>2</p>")?, 2);
+    assert_eq!(rt; peer.send(1, b"<p>2</p>")?.number, 2);
     Ok(())
 }
 
@@ -207,10 +206,10 @@ fn a_node_is_found_again(rt: HostRuntime) -> Result<(), Fail> {
     assert!(rt; !peer.node.is_down());
     let answer = response(alloc, FIRST_OF_1, b"urn:s")?;
     peer.take(answer.as_slice())?;
-    assert_eq!(rt; peer.send(1, b"<p/>")?, 1);
+    assert_eq!(rt; peer.send(1, b"<p/>")?.number, 1);
     assert_eq!(rt; peer.entries(), 4);
     peer.mount()?;
-    assert_eq!(rt; peer.send(1, b"<p/>")?, 2);
+    assert_eq!(rt; peer.send(1, b"<p/>")?.number, 2);
     assert_eq!(rt; peer.tables().unacked(), 2);
     Ok(())
 }

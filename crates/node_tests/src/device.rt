@@ -1,5 +1,5 @@
 //! A disk in memory that tells nothing of what is on it, so that a test owes no proof of what it does with it.
-ghost use Rattle.std.specs.Prelude.{◌≡◌, ◌≤◌, [], false, None, is_err};
+ghost use Rattle.std.specs.Prelude.{◌≡◌, [], false, None, is_err};
 ghost use Rattle.rm_disk.specs.Cause.{HasCause};
 ghost use Rattle.rm_disk.specs.MemDisk.{faults_of, past_of, spare_of};
 ghost use Rattle.rm_disk.specs.Spare.{Spends};
@@ -28,12 +28,10 @@ impl Device {
         self.left = Some(calls);
     }
 
-    /// The machine stops and starts again.
-    pub(crate) fn crash(&mut self, choice: u8) -> Result<(), Memory>
-        requires { choice ≤ 3 }
-    {
+    /// The machine stops and starts again. The choices go up to 3.
+    pub(crate) fn crash(&mut self, choice: u8) -> Result<(), Memory> {
         self.left = None;
-        self.disk.crash(choice)
+        self.disk.crash(choice.min(3))
     }
 
     // One device call is made now: where it is the one that fails, the disk is told so.

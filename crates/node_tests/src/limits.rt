@@ -112,6 +112,6 @@ fn a_payload_of_1048577_bytes(rt: HostRuntime) -> Result<(), Fail> {
     let refused = cause(peer.send(1, &longer));
     assert_eq!(rt; refused, Some(Cause::PayloadTooLong { length: 1048577 }));
     assert_eq!(rt; peer.entries(), 3);
-    assert_eq!(rt; peer.send(1, &longer[1..])?, 1);
+    assert_eq!(rt; peer.send(1, &longer[1..])?.number, 1);
     Ok(())
 }

@@ -5,7 +5,7 @@ use node_tables::Tables;
 use record_batch::Via;
 use rm_base::{Blob, Uri};
 use rm_elements::Lapse;
-use rm_node::{Cause, Made, MountError, Node, NodeError, Out, Outs, Reaction, Wish};
+use rm_node::{Cause, Made, MountError, Node, NodeError, Out, Outs, Reaction, Sent, Wish};
 use std::alloc::Global;
 use std::test::Fail;
 
@@ -25,14 +25,14 @@ impl Peer {
     /// Node 1.
     pub(crate) fn first(alloc: Global) -> Result<Peer, Fail> {
         let mut disk = Device::new(alloc);
-        let node = Node::make(alloc, &mut disk, 1, uri(alloc, NODE_1)?)?;
+        let node = make(alloc, &mut disk)?;
         Ok(Peer { alloc, disk, node })
     }
 
     /// Node 2.
     pub(crate) fn second(alloc: Global) -> Result<Peer, Fail> {
         let mut disk = Device::new(alloc);
-        let node = Node::make(alloc, &mut disk, 2, uri(alloc, NODE_2)?)?;
+        let node = Node::make(alloc, &mut disk, 2, Uri::from_slice(alloc, NODE_2)?)?;
         Ok(Peer { alloc, disk, node })
     }
 
@@ -78,11 +78,10 @@ impl Peer {
         self.take(text.as_slice())
     }
 
-    /// A payload is sent, and gets this number.
-    pub(crate) fn send(&mut self, seq: u32, text: &[u8]) -> Result<u64, NodeError> {
+    /// A payload is sent.
+    pub(crate) fn send(&mut self, seq: u32, text: &[u8]) -> Result<Sent, NodeError> {
         let payload = Blob::from_slice(self.alloc, text)?;
-        let sent = self.node.send(&mut self.disk, seq, payload)?;
-        Ok(sent.number)
+        self.node.send(&mut self.disk, seq, payload)
     }
 
     pub(crate) fn close(&mut self, seq: u32) -> Result<Outs, NodeError> {
@@ -99,7 +98,7 @@ impl Peer {
 
     /// The node is found on its disk again.
     pub(crate) fn mount(&mut self) -> Result<(), MountError> {
-        self.node = Node::mount(self.alloc, &mut self.disk)?;
+        self.node = find(self.alloc, &mut self.disk)?;
         Ok(())
     }
 
@@ -112,8 +111,17 @@ impl Peer {
     }
 }
 
-pub(crate) fn uri(alloc: Global, text: &[u8]) -> Result<Uri, Fail> {
-    Ok(Uri::from_slice(alloc, text)?)
+/// Node 1 is made on a disk.
+pub(crate) fn make(alloc: Global, disk: &mut Device) -> Result<Node, NodeError> {
+    let Ok(address) = Uri::from_slice(alloc, NODE_1) else {
+        return Err(NodeError::Memory);
+    };
+    Node::make(alloc, disk, 1, address)
+}
+
+/// A node is found on a disk.
+pub(crate) fn find(alloc: Global, disk: &mut Device) -> Result<Node, MountError> {
+    Node::mount(alloc, disk)
 }
 
 /// Whether these are one packet, which goes to an address and is this text.

@@ -1,8 +1,8 @@
 //! What is there again where the disk fails at a call of a node and the machine stops.
 use crate::device::Device;
-use crate::peer::{NODE_1, Peer, uri};
+use crate::peer::{Peer, find, make};
 use crate::texts::{acknowledgement, request};
-use rm_node::{MountError, Node, NodeError};
+use rm_node::{MountError, NodeError};
 use std::alloc::Global;
 use std::test::Fail;
 
@@ -100,9 +100,6 @@ fn stopped(
     peer.disk.arm(stop);
     let error = act(&mut peer, call).err();
     let was_down = peer.node.is_down();
-    if choice > 3 {
-        return Err("a choice".into());
-    }
     peer.disk.crash(choice)?;
     peer.mount()?;
     Ok((error, was_down, peer.entries().saturating_sub(entries)))
@@ -192,11 +189,11 @@ fn a_node_that_is_not_made(rt: HostRuntime) -> Result<(), Fail> {
     for stop in 1..8 {
         let mut disk = Device::new(alloc);
         disk.arm(stop);
-        let made = Node::make(alloc, &mut disk, 1, uri(alloc, NODE_1)?);
+        let made = make(alloc, &mut disk);
         assert_eq!(rt; made.err(), Some(NodeError::Disk), "stop {stop}");
         disk.crash(0)?;
-        let mounted = Node::mount(alloc, &mut disk);
-        assert_eq!(rt; mounted.err(), Some(MountError::NotAJournal), "stop {stop}");
+        let found = find(alloc, &mut disk);
+        assert_eq!(rt; found.err(), Some(MountError::NotAJournal), "stop {stop}");
     }
     Ok(())
 }
