@@ -3,7 +3,7 @@ use crate::device::Device;
 use crate::texts::{FIRST_OF_1, FIRST_OF_2, message, request, response};
 use node_tables::Tables;
 use record_batch::Via;
-use rm_base::{Blob, Uri};
+use rm_base::{Behaviour, Blob, Uri};
 use rm_elements::Lapse;
 use rm_node::{Cause, Made, MountError, Node, NodeError, Out, Outs, Reaction, Sent, Wish};
 use std::alloc::Global;
@@ -55,6 +55,11 @@ impl Peer {
 
     /// A sequence to node 2 is asked for, for ever and without an offer, whose answers come to the node's address.
     pub(crate) fn create(&mut self) -> Result<Made, NodeError> {
+        self.ask(None)
+    }
+
+    /// One is asked for, and perhaps one in the other direction is offered.
+    pub(crate) fn ask(&mut self, offer: Option<Behaviour>) -> Result<Made, NodeError> {
         let Ok(to) = Uri::from_slice(self.alloc, NODE_2) else {
             return Err(NodeError::Memory);
         };
@@ -62,7 +67,7 @@ impl Peer {
             to,
             via: Via::Direct,
             expires: Lapse { months: 0, ms: 0 },
-            offer: None,
+            offer,
         };
         self.node.create(&mut self.disk, wish)
     }

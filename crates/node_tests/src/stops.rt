@@ -1,8 +1,11 @@
 //! What is there again where the disk fails at a call of a node and the machine stops.
 use crate::device::Device;
 use crate::peer::{Peer, find, make};
-use crate::texts::{acknowledgement, request};
+use crate::texts::{FIRST_OF_1, acknowledgement, request, response};
+use rm_base::Behaviour;
+use rm_destination::InPhase;
 use rm_node::{MountError, NodeError};
+use rm_source::OutPhase;
 use std::alloc::Global;
 use std::test::Fail;
 
@@ -139,6 +142,57 @@ fn a_call_that_went_well(rt: HostRuntime) -> Result<(), Fail> {
         for choice in 0..4 {
             let came = stopped(rt.alloc(), call, 5, choice)?;
             assert_eq!(rt; came, (None, false, 1), "{call:?}, choice {choice}");
+        }
+    }
+    Ok(())
+}
+
+// The answer to a request with an offer comes, which does not take it: two records, of the sequence that was asked
+// for and of the one that was offered.
+fn answered(peer: &mut Peer) -> Result<(), NodeError> {
+    let text = response(peer.alloc, FIRST_OF_1, b"urn:s")?;
+    peer.take(text.as_slice())?;
+    Ok(())
+}
+
+// In which phases both are.
+fn phases(peer: &Peer) -> Option<(OutPhase, InPhase)> {
+    let outgoing = peer.tables().outgoing(1)?;
+    let incoming = peer.tables().incoming(2)?;
+    Some((outgoing.phase(), incoming.phase(0)))
+}
+
+// The device call of this number fails as the answer comes; then comes a crash, and the node is found on its disk
+// again.
+fn stopped_in_two(
+    alloc: Global,
+    stop: u64,
+    choice: u8,
+) -> Result<Option<(OutPhase, InPhase)>, Fail> {
+    let mut peer = Peer::first(alloc)?;
+    peer.ask(Some(Behaviour::FollowingFirstGap))?;
+    peer.disk.arm(stop);
+    let _answered = answered(&mut peer);
+    peer.disk.crash(choice)?;
+    peer.mount()?;
+    Ok(phases(&peer))
+}
+
+// Both records are there or none.
+#[test]
+fn two_records_in_one_entry(rt: HostRuntime) -> Result<(), Fail> {
+    for (choice, counts) in ADDED {
+        for (stop, added) in (1..5).zip(counts) {
+            let known = if added == 0 {
+                (OutPhase::Creating, InPhase::Open)
+            } else {
+                (OutPhase::Open, InPhase::Ended)
+            };
+            assert_eq!(rt;
+                stopped_in_two(rt.alloc(), stop, choice)?,
+                Some(known),
+                "choice {choice}, stop {stop}"
+            );
         }
     }
     Ok(())
