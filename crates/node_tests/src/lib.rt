@@ -1,0 +1,18 @@
+//! The tests of a node: messages in and packets out, what is refused, and what is left where the disk fails. They stand
+//! apart, since a crate with tests is proved a second time with them.
+#![tactic(auto)]
+
+#[cfg(test)]
+mod calls;
+#[cfg(test)]
+mod device;
+#[cfg(test)]
+mod limits;
+#[cfg(test)]
+mod peer;
+#[cfg(test)]
+mod stops;
+#[cfg(test)]
+mod texts;
+#[cfg(test)]
+mod verdicts;
