@@ -1,5 +1,5 @@
 -- The addresses of both nodes are texts.
-use Rattle.std.proofs.Common.{◌≡◌, ◌<◌, ℕ, true, List, [], length, codes, refl, arith}
+use Rattle.std.proofs.Common.{◌≡◌, ◌<◌, ℕ, true, List, length, refl, arith, []}
 use Rattle.std.specs.Prelude.{◌≢◌, ◌↔◌}
 use lib.Utf8.{encode}
 use Rattle.std.specs.Str.{chars, is_utf8}

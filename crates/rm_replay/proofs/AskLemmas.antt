@@ -1,5 +1,5 @@
 -- A call of a node of a script is a step of the protocol's node.
-use Rattle.std.proofs.Common.{◌≡◌, ℕ, Bool, true, false, refl, sym, subst}
+use Rattle.std.proofs.Common.{◌≡◌, ℕ, Bool, false, sym, subst}
 use Rattle.std.specs.Prelude.{Result, Ok, Err}
 use Rattle.rm_base.specs.declared.failures.Memory.{Memory}
 use Rattle.rm_protocol.specs.Calls.{Answer}

@@ -1,7 +1,8 @@
 -- Which step of a node a line is.
-use Rattle.std.proofs.Common.{◌≡◌, ◌∙◌, ◌-◌, ◌==◌, ℕ, zero, suc, cond, Bool, true, false, List, [], ◌∷◌, Option, Some, None}
+use Rattle.std.proofs.Common.{◌≡◌, ◌∙◌, ◌-◌, ◌==◌, ℕ, zero, suc, cond, Bool, true, false, List, ◌∷◌, Option, Some, None}
+use Rattle.std.proofs.Common.{[]}
 use Rattle.std.proofs.Common.{refl, sym, ap, subst, slice_get}
-use Rattle.std.specs.Prelude.{Result, Ok, Err}
+use Rattle.std.specs.Prelude.{Result, Err}
 use Rattle.std.specs.Borrow.{Bor}
 use Rattle.std.specs.List.{AllByRecursion}
 use Rattle.std.specs.Option.{option_map}
@@ -15,25 +16,23 @@ use Rattle.rm_base.specs.Numbered.{numbered}
 use Rattle.rm_elements.specs.declared.lapse.Lapse.{Lapse}
 use Rattle.rm_message.specs.declared.message.Message.{Message}
 use Rattle.rm_message.specs.declared.refusal.Refusal.{Refusal}
-use Rattle.record_batch.specs.Fact.{Fact}
 use Rattle.record_batch.specs.declared.record.Via.TheVariants.{Direct}
 use Rattle.rm_protocol.specs.Calls.{Answer}
-use Rattle.rm_protocol.specs.Node.{Node, State, Up, Writing, call_outcome, outcome_by}
-use Rattle.rm_protocol.specs.Sent.{Called, arrival_outcome, outcome_of}
+use Rattle.rm_protocol.specs.Node.{Node, State, Up, Writing, outcome_by}
+use Rattle.rm_protocol.specs.Sent.{Called, arrival_outcome}
 use Rattle.rm_protocol.specs.Terms.{Terms}
-use Rattle.rm_protocol.specs.World.{Packet, Side, One, Two, World, Close, Create, Deliver, End, Noise, Send, Tick, happens}
+use Rattle.rm_protocol.specs.World.{Packet, Side, One, Two, World, Close, Create, Deliver, End, Noise, Send, Tick}
+use Rattle.rm_protocol.specs.World.{happens}
 use Rattle.rm_protocol.specs.World.{arrives, node, other, place, with_clock}
-use Rattle.rm_script.specs.declared.event.Event.{Event as Said}
 use Rattle.rm_script.specs.declared.event.Event.TheVariants as said
 use Rattle.rm_script.specs.declared.event.Side.{Side as Place}
 use Rattle.sequence_table.specs.Words.{Text}
 use Rattle.rm_replay.specs.Asked.{step_of}
 use Rattle.rm_replay.specs.Happening.{Happened, moved}
-use Rattle.rm_replay.specs.Meaning.{Means, outcome_told, comes_out, side_of}
+use Rattle.rm_replay.specs.Meaning.{outcome_told, side_of}
 use Rattle.rm_replay.specs.Shows.{IsReadRight, Scene, Shows, address_of}
 use Rattle.rm_replay.specs.Net.{AreOfNet, number_of, read_as, text_of, wire_packet, wire_packets}
 use Rattle.rm_replay.specs.Tales.{Tells, fault_at, receiver}
-use Rattle.rm_replay.specs.declared.ask.Call.{Call}
 use Rattle.rm_replay.specs.declared.ask.Call.TheVariants as call
 use Rattle.rm_replay.specs.declared.stage.Nodes.{Nodes}
 use Rattle.rm_replay.proofs.EventLemmas.{IsCall}

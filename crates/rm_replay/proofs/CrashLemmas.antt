@@ -1,17 +1,16 @@
 -- A crash of one node in a world of two.
-use Rattle.std.proofs.Common.{◌≡◌, ◌∙◌, ℕ, Bool, true, false, List, [], ◌∷◌, ◌++◌, refl, sym, ap, subst, inl, inr}
+use Rattle.std.proofs.Common.{◌≡◌, ℕ, List, ◌∷◌, ◌++◌, refl, sym, subst, inl, inr, []}
 use Rattle.std.specs.Prelude.{◌⊎◌, OnErr, OnOk, Result, Ok, Err}
-use Rattle.record_batch.specs.Fact.{Fact}
 use Rattle.rm_base.specs.Count.{RoseBy}
 use Rattle.rm_base.specs.declared.failures.Memory.{Memory}
 use Rattle.rm_disk.specs.Call.{crashes_of}
 use Rattle.rm_protocol.specs.Node.{Node, mounted}
-use Rattle.rm_protocol.specs.World.{Side, One, Two, World}
+use Rattle.rm_protocol.specs.World.{One, Two, World}
 use Rattle.rm_script.specs.declared.event.Side.{Side as Place}
 use Rattle.rm_script.specs.declared.event.Side.TheVariants as place
 use Rattle.node_actor.specs.Actored.{Actored}
 use Rattle.node_actor.specs.Stands.{Crashed, Leaves, Stands}
-use Rattle.rm_replay.specs.Happening.{CrashedAt, CrashedShort, Crashes}
+use Rattle.rm_replay.specs.Happening.{Crashes}
 use Rattle.rm_replay.specs.Meaning.{side_of}
 use Rattle.rm_replay.specs.Shows.{Drives}
 use Rattle.rm_replay.specs.Tales.{Drive, Grew, Tells}

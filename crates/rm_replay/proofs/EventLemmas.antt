@@ -1,11 +1,10 @@
 -- What a line does is what its event does in the protocol.
-use Rattle.std.proofs.Common.{◌≡◌, ◌∙◌, ◌&&◌, ℕ, cond, Bool, true, false, List, [], ◌∷◌, Option, Some, None, map, take, refl}
+use Rattle.std.proofs.Common.{◌≡◌, ◌∙◌, ◌&&◌, ℕ, cond, Bool, false, List, Option, Some, None, take, refl, []}
 use Rattle.std.proofs.Common.{sym, ap, subst, inl, inr}
 use Rattle.std.specs.Prelude.{◌⊎◌, Result, Ok, Err}
 use Rattle.record_batch.specs.Fact.{Fact}
 use Rattle.rm_base.specs.declared.failures.Memory.{Memory}
 use Rattle.rm_base.specs.declared.message.Behaviour.{Behaviour}
-use Rattle.rm_disk.specs.Call.{crashes_of}
 use Rattle.rm_protocol.specs.Node.{Node, armed as armed_by, mounted}
 use Rattle.rm_protocol.specs.Sent.{Called, outcome_of, same_side}
 use Rattle.rm_protocol.specs.Terms.{Terms}
@@ -17,15 +16,15 @@ use Rattle.rm_script.specs.declared.event.Event.{Event as Said}
 use Rattle.rm_script.specs.declared.event.Event.TheVariants as said
 use Rattle.rm_script.specs.declared.event.Side.{Side as Place}
 use Rattle.node_actor.specs.Actored.{Actored}
-use Rattle.node_actor.specs.Outcomes.{call_told, is_disk_outcome}
+use Rattle.node_actor.specs.Outcomes.{is_disk_outcome}
 use Rattle.node_actor.specs.Stands.{Leaves, Stands}
 use Rattle.node_store.specs.Changes.{Told}
 use Rattle.rm_replay.specs.Asked.{Step, WereAsked}
-use Rattle.rm_replay.specs.Happening.{CrashedAt, CrashedShort, Crashes, Happened, Happens, Moves, WereAskedFor, armed}
+use Rattle.rm_replay.specs.Happening.{CrashedAt, CrashedShort, Happened, Happens, Moves, WereAskedFor, armed}
 use Rattle.rm_replay.specs.Happening.{granted, moved, moved_in_part, told_of}
-use Rattle.rm_replay.specs.Meaning.{Means, comes_out, outcome_told, side_of, stepped}
+use Rattle.rm_replay.specs.Meaning.{Means, comes_out, outcome_told, side_of}
 use Rattle.rm_replay.specs.Shows.{Drives, Holds, IsCut, IsCutIn, IsLeftOfLine, Scene, Shows, StandFor}
-use Rattle.rm_replay.specs.Tales.{Drive, Grew, Tale, Tells, crash_in, crash_of, fault_at, node_of, tale_of}
+use Rattle.rm_replay.specs.Tales.{Drive, Tale, Tells, crash_in, crash_of, fault_at, node_of}
 use Rattle.rm_replay.specs.declared.stage.Nodes.{Nodes}
 use Rattle.rm_replay.proofs.PutLemmas.{puts_behind, puts_in_part}
 use Rattle.rm_replay.proofs.TaleLemmas.{asked_still, grew_asked, grew_none, tells_asked, tells_none}

@@ -1,5 +1,5 @@
 -- From nodes of the protocol to the headline of two disks.
-use Rattle.std.proofs.Common.{◌≡◌, ◌∙◌, ℕ, Bool, true, false, List, [], ◌∷◌, ◌++◌, append_assoc, append-nil, refl, sym}
+use Rattle.std.proofs.Common.{◌≡◌, ◌∙◌, Bool, true, false, List, ◌∷◌, ◌++◌, append_assoc, append-nil, refl, sym, []}
 use Rattle.std.proofs.Common.{ap, subst, inl, inr}
 use Rattle.record_batch.specs.Fact.{Fact}
 use Rattle.rm_protocol.specs.Node.{Node, State, Up, Writing, entries_left, mounted, records, records_in}
@@ -12,7 +12,8 @@ records_push : (entries : List (List Fact)) (delta : List Fact)
     → records_in (entries ++ delta ∷ []) ≡ records_in entries ++ delta
 records_push [] delta = append-nil delta
 records_push (batch ∷ entries) delta =
-    ap (λ (r : List Fact). batch ++ r) (records_push entries delta) ∙ sym (append_assoc batch (records_in entries) delta)
+    ap (λ (r : List Fact). batch ++ r) (records_push entries delta)
+    ∙ sym (append_assoc batch (records_in entries) delta)
 
 left_by : (st : State) (kept : Bool) (entries : List (List Fact))
     → IsLeftWith (records_in entries) st (records_in (entries_left st kept entries))

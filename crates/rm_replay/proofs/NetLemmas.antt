@@ -1,15 +1,15 @@
 -- The terms of a network, and that they meet what the protocol asks of its terms.
-use Rattle.std.proofs.Common.{◌≡◌, ◌∙◌, ℕ, ◌+◌, ◌&&◌, nat_le, cond, Bool, true, false, List, [], ◌∷◌, length, map, refl}
+use Rattle.std.proofs.Common.{◌≡◌, ◌∙◌, ℕ, ◌+◌, ◌&&◌, nat_le, cond, Bool, true, false, List, ◌∷◌, length, map, refl, []}
 use Rattle.std.proofs.Common.{sym, ap, subst, inl, inr}
 use Rattle.std.specs.Prelude.{◌⊎◌, Result, Ok, Err}
 use Rattle.message_reader.specs.Refusals.{blind}
-use Rattle.record_batch.specs.Batch.{batch_text, made}
-use Rattle.record_batch.specs.Fact.{Fact, Made}
+use Rattle.record_batch.specs.Batch.{made}
+use Rattle.record_batch.specs.Fact.{Made}
 use Rattle.record_batch.specs.Format.{number32, number64, text}
 use Rattle.rm_message.specs.declared.message.Message.{Message}
 use Rattle.rm_message.specs.declared.refusal.FaultKind.TheVariants.{TooLong}
 use Rattle.rm_message.specs.declared.refusal.Refusal.{Refusal}
-use Rattle.rm_protocol.specs.Terms.{AreTerms, ReadsBack, Terms}
+use Rattle.rm_protocol.specs.Terms.{AreTerms, Terms}
 use Rattle.rm_protocol.specs.World.{AreMade}
 use Rattle.node_rules.specs.OwnTerms.{OwnAreTerms, ThereAreOwnTerms}
 use Rattle.rm_wires.specs.Wire.{has_room, texts_in}

@@ -1,6 +1,5 @@
 -- A script that was played is a run of the protocol.
-use Rattle.std.proofs.Common.{◌≡◌, ◌∙◌, ℕ, List, [], ◌∷◌, ◌++◌, Option, Some, None, refl, sym, ap, subst, inl, inr}
-use Rattle.std.specs.Prelude.{◌⊎◌}
+use Rattle.std.proofs.Common.{◌≡◌, ◌∙◌, List, ◌∷◌, ◌++◌, Option, Some, None, refl, sym, ap, subst, inl, inr, []}
 use Rattle.rm_protocol.specs.Terms.{Terms}
 use Rattle.rm_protocol.specs.Word.{KeepsAll}
 use Rattle.rm_protocol.specs.World.{AreMade, Event, World, happens, run, start}

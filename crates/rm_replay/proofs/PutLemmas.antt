@@ -1,6 +1,7 @@
 -- Packets that are put on a wire, and those of the protocol's network.
-use Rattle.std.proofs.Common.{◌≡◌, ◌∙◌, ◌+◌, ℕ, zero, suc, cond, Bool, true, false, List, [], ◌∷◌, ◌++◌, append_assoc, append-nil, length}
-use Rattle.std.proofs.Common.{map, take, drop, refl, sym, ap, subst}
+use Rattle.std.proofs.Common.{◌≡◌, ◌∙◌, ◌+◌, ℕ, zero, suc, cond, Bool, true, false, List, ◌∷◌, ◌++◌, append_assoc, []}
+use Rattle.std.proofs.Common.{append-nil, length}
+use Rattle.std.proofs.Common.{map, take, refl, sym, ap}
 use Rattle.std.proofs.Math.Seq.{take-append-add}
 use Rattle.std.specs.List.{AllByRecursion}
 use Rattle.rm_message.specs.declared.message.Message.{Message}

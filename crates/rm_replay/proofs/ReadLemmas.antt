@@ -1,7 +1,7 @@
 -- What a node says is read as it was said, or is too long to be read.
-use Rattle.std.proofs.Common.{◌≡◌, ◌∙◌, ◌<◌, ◌≤◌, ℕ, nat_le, cond, Bool, true, false, List, [], ◌∷◌, length, Option, Some}
-use Rattle.std.proofs.Common.{None, refl, sym, ap, subst}
-use Rattle.std.specs.Prelude.{IfSome, Result, Ok, Err}
+use Rattle.std.proofs.Common.{◌≡◌, ℕ, nat_le, cond, Bool, true, false, List, ◌∷◌, length, Option, []}
+use Rattle.std.proofs.Common.{None, refl}
+use Rattle.std.specs.Prelude.{Result, Ok, Err}
 use Rattle.std.specs.List.{AllByRecursion, filter}
 use Rattle.std.proofs.lemmas.Bool.{leb-true, leb-false}
 use Rattle.soap_profile.specs.Soap.{soap_space}
@@ -17,7 +17,7 @@ use Rattle.rm_disk.specs.Call.{Call as DeviceCall}
 use Rattle.rm_protocol.specs.Calls.{Answer}
 use Rattle.rm_protocol.specs.Node.{Node, State, Up, Writing, end_of, is_short, records, records_in, said_after, said_by}
 use Rattle.rm_protocol.specs.Node.{said_with}
-use Rattle.rm_protocol.specs.Said.{sent_of, leaves}
+use Rattle.rm_protocol.specs.Said.{leaves}
 use Rattle.rm_protocol.specs.Addresses.{place_of}
 use Rattle.rm_protocol.specs.Terms.{Terms}
 use Rattle.rm_wire.specs.Writable.{IsRefusalWritable}

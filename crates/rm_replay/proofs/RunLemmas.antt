@@ -1,16 +1,13 @@
 -- A script from two new nodes on.
-use Rattle.std.proofs.Common.{◌≡◌, ◌∙◌, ℕ, false, List, ◌++◌, append_assoc, refl, sym, ap, subst, inl, inr}
-use Rattle.std.specs.Prelude.{◌⊎◌}
+use Rattle.std.proofs.Common.{◌≡◌, ◌∙◌, ℕ, false, List, ◌++◌, append_assoc, ap, subst, inl, inr}
 use Rattle.rm_base.specs.Count.{RoseBy}
-use Rattle.rm_disk.specs.Call.{crashes_of}
 use Rattle.rm_protocol.specs.Terms.{Terms}
-use Rattle.rm_report.specs.Report.{lines_text}
 use Rattle.rm_script.specs.declared.event.Event.{Event as Said}
 use Rattle.rm_script.specs.declared.event.Side.TheVariants as place
 use Rattle.rm_replay.specs.Asked.{WasAsked}
 use Rattle.rm_replay.specs.Headline.{KeepsHeadline}
 use Rattle.rm_replay.specs.Net.{AreOfNet}
-use Rattle.rm_replay.specs.Played.{Played, Ran, RanShort, Story, TellBoth, end_text, known_text}
+use Rattle.rm_replay.specs.Played.{Played, Ran, RanShort, Story, TellBoth, known_text}
 use Rattle.rm_replay.specs.Playing.{AllPlayed}
 use Rattle.rm_replay.specs.Shows.{Holds, IsLeftOfLine, Scene}
 use Rattle.rm_replay.specs.Tales.{Drive, Tale, Tells}

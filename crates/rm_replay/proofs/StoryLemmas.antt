@@ -1,13 +1,14 @@
 -- A script while it is played: one line more.
-use Rattle.std.proofs.Common.{◌≡◌, ◌∙◌, ◌+◌, ℕ, List, [], ◌∷◌, ◌++◌, length, take, slice_get, append_assoc, append-nil}
+use Rattle.std.proofs.Common.{◌≡◌, ◌∙◌, ◌+◌, ℕ, List, ◌∷◌, ◌++◌, length, take, slice_get, append_assoc, append-nil, []}
 use Rattle.std.proofs.Common.{Bool, true, false, Option, Some, None, refl, sym, ap, subst, inl, inr}
-use Rattle.std.specs.Prelude.{◌⊎◌, OnOk, Result, Ok, Err}
+use Rattle.std.specs.Prelude.{OnOk, Result, Ok, Err}
 use Rattle.std.proofs.lemmas.List.{length-map}
 use Rattle.std.proofs.Math.Seq.{take-append_seam, take-length}
 use Rattle.rm_protocol.specs.Node.{Node, State, Up, Writing, armed, end_of, mounted, records, said_after}
 use Rattle.rm_protocol.specs.Said.{sent_of}
 use Rattle.rm_protocol.specs.Terms.{Terms}
-use Rattle.rm_protocol.specs.World.{Packet, Side, One, Two, World, Event, Create, Grant, Send, Tick, Deliver, Close, End, Arm, Crash}
+use Rattle.rm_protocol.specs.World.{Packet, Side, One, Two, World, Event, Create, Grant, Send, Tick, Deliver, Close}
+use Rattle.rm_protocol.specs.World.{End, Arm, Crash}
 use Rattle.rm_protocol.specs.World.{Noise, arrives, calls, happens, node, other, received_by, sent, wish_of, with_clock}
 use Rattle.rm_protocol.specs.World.{with_node}
 use Rattle.rm_protocol.specs.Calls.{Answer, create, send, close, end, tick}
@@ -30,13 +31,13 @@ use Rattle.node_store.specs.Changes.{Told}
 use Rattle.node_store.specs.Stored.{Stored}
 use Rattle.node_summary.specs.Summary.{node_text}
 use Rattle.rm_replay.specs.Meaning.{Means, comes_out, report_of, stepped}
-use Rattle.rm_replay.specs.Played.{Played, RanShort, Story, TellBoth, beginning, known_by, known_text, more, none}
+use Rattle.rm_replay.specs.Played.{Played, RanShort, beginning, known_by, more, none}
 use Rattle.rm_replay.specs.Played.{told_on}
 use Rattle.rm_replay.specs.Happening.{Happened}
 use Rattle.rm_replay.specs.Net.{wire_packet}
 use Rattle.rm_replay.specs.Playing.{AllPlayed, LinePlayed, PlaysLine}
-use Rattle.rm_replay.specs.Shows.{Holds, IsCut, IsCutIn, IsLeftOfLine, Scene, Shows}
-use Rattle.rm_replay.specs.Tales.{Drive, Grew, Tells, tale_of}
+use Rattle.rm_replay.specs.Shows.{IsCut, IsLeftOfLine, Scene, Shows}
+use Rattle.rm_replay.specs.Tales.{Tells, tale_of}
 use Rattle.rm_replay.specs.declared.stage.Nodes.{Nodes}
 use Rattle.rm_replay.proofs.EventLemmas.{EachIsLeft, holds_of}
 use Rattle.rm_replay.proofs.PutLemmas.{puts_behind}

@@ -1,14 +1,13 @@
 -- Where no line arms a disk, none fails and no node is down.
-use Rattle.std.proofs.Common.{◌≡◌, ◌∙◌, ◌+◌, ℕ, List, [], ◌∷◌, ◌++◌, length, Option, Some, None, refl, sym, ap, subst}
+use Rattle.std.proofs.Common.{◌≡◌, ◌∙◌, ◌+◌, ℕ, List, ◌∷◌, ◌++◌, length, Option, Some, None, refl, sym, ap, subst, []}
 use Rattle.std.specs.List.{AllByRecursion}
-use Rattle.rm_protocol.specs.Calls.{Cause, Outcome as Comes, NoSequence, WrongSide, PayloadTooLong, BadPayload, NotOpen}
+use Rattle.rm_protocol.specs.Calls.{Cause, NoSequence, WrongSide, PayloadTooLong, BadPayload, NotOpen}
 use Rattle.rm_protocol.specs.Calls.{WindowFull, NodeFull, Rollover, TooManySequences, StoreFull, Done, Refused, Judged}
-use Rattle.rm_protocol.specs.Node.{CallOutcome, Answered, DiskFault, IsDown}
+use Rattle.rm_protocol.specs.Node.{Answered, DiskFault, IsDown}
 use Rattle.rm_protocol.specs.Sent.{LineOutcome, Called, NoCall, NoPacket, outcome_of}
 use Rattle.rm_protocol.specs.Terms.{Terms}
 use Rattle.rm_protocol.specs.Unarmed.{AreUnarmed, IsFaultless, IsUnarmed}
 use Rattle.rm_protocol.specs.World.{Event, World, happens, run, start}
-use Rattle.rm_report.specs.declared.line.Line.{Line}
 use Rattle.rm_script.specs.declared.event.Event.{Event as Said}
 use Rattle.rm_script.specs.declared.event.Event.TheVariants as said
 use Rattle.sequence_table.specs.Words.{Text}

@@ -1,5 +1,5 @@
 -- What a node is asked for, or what comes to it, as a call of the protocol.
-use Rattle.std.specs.Prelude.{◌≡◌, ◌&&◌, ℕ, Bool, true, false, List, map, Result, Ok, Err}
+use Rattle.std.specs.Prelude.{◌≡◌, ◌&&◌, Bool, true, false, List, map, Result, Ok, Err}
 use Rattle.rm_base.specs.Text.{IsText}
 use Rattle.rm_base.specs.declared.failures.Memory.{Memory}
 use Rattle.rm_elements.specs.Writable.{IsLapseWritable}
@@ -8,7 +8,7 @@ use Rattle.rm_message.specs.declared.refusal.Refusal.{Refusal}
 use Rattle.record_batch.specs.declared.record.Via.TheVariants.{Direct}
 use Rattle.rm_node.specs.Came.{IsReadAs}
 use Rattle.rm_node.specs.Packets.{packet_of}
-use Rattle.rm_protocol.specs.Calls.{Answer, Wish, create, send, close, end, tick}
+use Rattle.rm_protocol.specs.Calls.{Answer, create, send, close, end, tick}
 use Rattle.rm_protocol.specs.Node.{CallOutcome, Node, after, call_outcome, end_of, records, said_after}
 use Rattle.rm_protocol.specs.Said.{sent_of}
 use Rattle.rm_protocol.specs.Terms.{Terms}

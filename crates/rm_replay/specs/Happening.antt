@@ -1,9 +1,9 @@
 -- What a line does to two nodes, their disks, and a wire.
-use Rattle.std.specs.Prelude.{◌≡◌, ◌⊎◌, ℕ, Bool, List, [], ◌∷◌, take, Option, Some, Result, Ok, Err}
+use Rattle.std.specs.Prelude.{◌≡◌, ◌⊎◌, ℕ, Bool, List, ◌∷◌, take, Option, Some, Result, Ok, Err, []}
 use Rattle.rm_base.specs.declared.failures.Memory.{Memory}
 use Rattle.rm_base.specs.declared.message.Behaviour.{Behaviour}
 use Rattle.rm_node.specs.declared.packets.Out.{Out}
-use Rattle.rm_protocol.specs.Node.{armed as armed_by, mounted}
+use Rattle.rm_protocol.specs.Node.{Node, armed as armed_by, mounted}
 use Rattle.rm_protocol.specs.Terms.{Terms}
 use Rattle.rm_protocol.specs.World.{Event, Side, One, Two, World, hands_out, node, with_node}
 use Rattle.rm_report.specs.declared.line.Outcome.{Outcome}
@@ -14,7 +14,7 @@ use Rattle.node_actor.specs.Stands.{Leaves}
 use Rattle.rm_replay.specs.Asked.{Step, WereAsked}
 use Rattle.rm_replay.specs.Meaning.{Means, comes_out, stepped}
 use Rattle.rm_replay.specs.Shows.{Drives, IsCut, Scene, Shows, StandFor}
-use Rattle.rm_replay.specs.Tales.{Grew, Tells, crash_of, tale_of}
+use Rattle.rm_replay.specs.Tales.{Grew, Tale, Tells, crash_of, tale_of}
 use Rattle.rm_replay.specs.declared.stage.Nodes.{Nodes}
 
 -- the world after a step of a node
@@ -76,12 +76,16 @@ granted w side behaviour = with_node w side (record (node w side) { granted = be
 abbrev pub armed : World → Side → ℕ → World
 armed w side calls = with_node w side (record (node w side) { fuse = armed_by calls (node w side).fuse })
 
+-- what a crash of the node at one side tells of that at another, which has these entries then
+abbrev pub crash_tale : Side → Side → ℕ → Node → Tale
+crash_tale side at choice x = record { crashes = crash_of side at choice x.entries; faults = 0 }
+
 -- a node crashed, and was mounted again
 pub record CrashedAt (w : World) (side : Side) (choice : ℕ) (old new : Drives) (nodes : Nodes) : Type 0 where
   pub kept : Bool
   pub stand : StandFor (with_node w side (mounted (node w side) kept)) new nodes
-  pub one : Tells (record { crashes = crash_of One side choice (mounted w.one kept).entries; faults = 0 }) old.one new.one
-  pub two : Tells (record { crashes = crash_of Two side choice (mounted w.two kept).entries; faults = 0 }) old.two new.two
+  pub one : Tells (crash_tale One side choice (mounted w.one kept)) old.one new.one
+  pub two : Tells (crash_tale Two side choice (mounted w.two kept)) old.two new.two
 
 -- where memory was wanting, each image of both disks is still the node's own
 pub record CrashedShort (w : World) (old new : Drives) : Type 0 where

@@ -1,5 +1,5 @@
 -- What a line of a script is to the protocol, and how it comes out.
-use Rattle.std.specs.Prelude.{◌≡◌, ℕ, Bool, List, [], ◌∷◌, length, Option, Some, None}
+use Rattle.std.specs.Prelude.{◌≡◌, ℕ, Bool, List, ◌∷◌, length, Option, Some, None, []}
 use Rattle.soap_profile.specs.Soap.{soap_space}
 use Rattle.message_reader.specs.Refusals.{Refuses, Spells}
 use Rattle.record_batch.specs.declared.record.Via.TheVariants.{Direct}

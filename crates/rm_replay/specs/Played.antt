@@ -1,6 +1,5 @@
 -- What the lines of a script come to.
-use Rattle.std.specs.Prelude.{◌≡◌, ◌⊎◌, ℕ, ◌+◌, List, [], ◌∷◌, ◌++◌, length, take, slice_get, Option, Some, Result, Ok}
-use Rattle.std.specs.Prelude.{Err}
+use Rattle.std.specs.Prelude.{◌≡◌, ◌⊎◌, ℕ, ◌+◌, List, ◌∷◌, ◌++◌, length, take, slice_get, Option, Some, []}
 use Rattle.rm_base.specs.declared.failures.Memory.{Memory}
 use Rattle.rm_protocol.specs.Node.{Node, State, Up, Writing, records}
 use Rattle.rm_protocol.specs.Terms.{Terms}

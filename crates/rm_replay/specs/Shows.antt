@@ -48,10 +48,11 @@ scene_of past fuse faults packets stage = record {
 abbrev pub IsReadRight : Packet → Type 0
 IsReadRight p = IsReadAs (text_of p.message) (read_as p.message)
 
--- the nodes' addresses
+-- the address of node 1
 abbrev pub address_one : List ℕ
 address_one = codes "http://node1.example/"
 
+-- and that of node 2
 abbrev pub address_two : List ℕ
 address_two = codes "http://node2.example/"
 

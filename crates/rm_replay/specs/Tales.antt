@@ -1,5 +1,5 @@
 -- What befalls the disks of two nodes while a script is played.
-use Rattle.std.specs.Prelude.{◌≡◌, ◌⊎◌, ℕ, ◌+◌, ◌&&◌, if◌then◌else◌, List, [], ◌∷◌, ◌++◌, Option, Some, None}
+use Rattle.std.specs.Prelude.{◌≡◌, ◌⊎◌, ℕ, ◌+◌, ◌&&◌, if◌then◌else◌, List, ◌∷◌, ◌++◌, Option, Some, None, []}
 use Rattle.std.specs.Option.{option_map}
 use Rattle.rm_base.specs.Count.{RoseBy}
 use Rattle.rm_base.specs.Numbered.{numbered}
@@ -7,7 +7,8 @@ use Rattle.record_batch.specs.Fact.{Fact}
 use Rattle.rm_disk.specs.Call.{crashes_of}
 use Rattle.rm_protocol.specs.Sent.{outcome_of, same_side}
 use Rattle.rm_protocol.specs.Terms.{Terms}
-use Rattle.rm_protocol.specs.World.{Packet, Side, World, Event, Create, Grant, Send, Tick, Deliver, Close, End, Arm, Crash}
+use Rattle.rm_protocol.specs.World.{Packet, Side, World, Event, Create, Grant, Send, Tick, Deliver, Close, End, Arm}
+use Rattle.rm_protocol.specs.World.{Crash}
 use Rattle.rm_protocol.specs.World.{Noise, node, other}
 use Rattle.rm_report.specs.declared.line.Outcome.{Outcome}
 use Rattle.rm_script.specs.declared.event.Event.{Event as Said}

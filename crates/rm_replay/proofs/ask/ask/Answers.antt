@@ -17,7 +17,8 @@ create-requires-clause-lapse g c = (subst IsCallWithin c.in-Create.is c.requires
 pub returns-in-Create-clause-steps : goal.returns-in-Create-clause-steps
 returns-in-Create-clause-steps g c terms own content by x s =
     as_asked terms x content c.args.call (call.Create c.in-Create.to c.in-Create.expires c.in-Create.offer)
-    (told (g.M.Disk.past c.create.new.disk) (g.M.Disk.fuse c.create.new.disk)) c.create.new.self c.create.result c.in-Create.is
+    (told (g.M.Disk.past c.create.new.disk) (g.M.Disk.fuse c.create.new.disk)) c.create.new.self c.create.result
+    c.in-Create.is
     (acts_step false x (create_of terms (records x) (end_of terms x.entries)
     (record { to = c.in-Create.to; via = Direct; expires = c.in-Create.expires; offer = c.in-Create.offer }))
     (told (g.M.Disk.past c.create.new.disk) (g.M.Disk.fuse c.create.new.disk)) c.create.new.self c.create.result
@@ -29,7 +30,8 @@ returns-in-Create-clause-asked g c = record { crashes = c.create.ensures.crashes
 pub returns-in-Send-clause-steps : goal.returns-in-Send-clause-steps
 returns-in-Send-clause-steps g c terms own content by x s =
     as_asked terms x content c.args.call (call.Send c.in-Send.seq c.in-Send.text)
-    (told (g.M.Disk.past c.send.new.disk) (g.M.Disk.fuse c.send.new.disk)) c.send.new.self c.send.result c.in-Send.is
+    (told (g.M.Disk.past c.send.new.disk) (g.M.Disk.fuse c.send.new.disk)) c.send.new.self c.send.result
+    c.in-Send.is
     (acts_step false x (send_of terms (records x) (end_of terms x.entries) c.in-Send.seq c.in-Send.text)
     (told (g.M.Disk.past c.send.new.disk) (g.M.Disk.fuse c.send.new.disk)) c.send.new.self c.send.result
     (c.send.ensures.acts terms own x s))
@@ -40,7 +42,8 @@ returns-in-Send-clause-asked g c = record { crashes = c.send.ensures.crashes; ca
 pub returns-in-Close-clause-steps : goal.returns-in-Close-clause-steps
 returns-in-Close-clause-steps g c terms own content by x s =
     as_asked terms x content c.args.call (call.Close c.in-Close.seq)
-    (told (g.M.Disk.past c.close.new.disk) (g.M.Disk.fuse c.close.new.disk)) c.close.new.self c.close.result c.in-Close.is
+    (told (g.M.Disk.past c.close.new.disk) (g.M.Disk.fuse c.close.new.disk)) c.close.new.self c.close.result
+    c.in-Close.is
     (acts_step false x (close_of terms (records x) (end_of terms x.entries) c.in-Close.seq x.clock)
     (told (g.M.Disk.past c.close.new.disk) (g.M.Disk.fuse c.close.new.disk)) c.close.new.self c.close.result
     (c.close.ensures.acts terms own x s))
@@ -51,7 +54,8 @@ returns-in-Close-clause-asked g c = record { crashes = c.close.ensures.crashes; 
 pub returns-in-End-clause-steps : goal.returns-in-End-clause-steps
 returns-in-End-clause-steps g c terms own content by x s =
     as_asked terms x content c.args.call (call.End c.in-End.seq)
-    (told (g.M.Disk.past c.end.new.disk) (g.M.Disk.fuse c.end.new.disk)) c.end.new.self c.end.result c.in-End.is
+    (told (g.M.Disk.past c.end.new.disk) (g.M.Disk.fuse c.end.new.disk)) c.end.new.self c.end.result
+    c.in-End.is
     (acts_step false x (end_call_of terms (records x) (end_of terms x.entries) c.in-End.seq)
     (told (g.M.Disk.past c.end.new.disk) (g.M.Disk.fuse c.end.new.disk)) c.end.new.self c.end.result
     (c.end.ensures.acts terms own x s))
@@ -62,7 +66,8 @@ returns-in-End-clause-asked g c = record { crashes = c.end.ensures.crashes; caus
 pub returns-in-Receive-clause-steps : goal.returns-in-Receive-clause-steps
 returns-in-Receive-clause-steps g c terms own content by x s =
     as_asked terms x content c.args.call (call.Receive c.in-Receive.bytes)
-    (told (g.M.Disk.past c.receive.new.disk) (g.M.Disk.fuse c.receive.new.disk)) c.receive.new.self c.receive.result c.in-Receive.is
+    (told (g.M.Disk.past c.receive.new.disk) (g.M.Disk.fuse c.receive.new.disk)) c.receive.new.self c.receive.result
+    c.in-Receive.is
     (acts_step true x (received_by terms x content)
     (told (g.M.Disk.past c.receive.new.disk) (g.M.Disk.fuse c.receive.new.disk)) c.receive.new.self c.receive.result
     (c.receive.ensures.acts terms own content
@@ -74,8 +79,10 @@ returns-in-Receive-clause-asked g c = record { crashes = c.receive.ensures.crash
 pub returns-in-Tick-clause-steps : goal.returns-in-Tick-clause-steps
 returns-in-Tick-clause-steps g c terms own content by x s =
     as_asked terms x content c.args.call (call.Tick c.in-Tick.now)
-    (told (g.M.Disk.past c.tick.new.disk) (g.M.Disk.fuse c.tick.new.disk)) c.tick.new.self c.tick.result c.in-Tick.is
-    (ticks_step x c.in-Tick.now (tick_of terms (records x) (end_of terms x.entries) c.in-Tick.now) (told (g.M.Disk.past c.tick.new.disk) (g.M.Disk.fuse c.tick.new.disk))
+    (told (g.M.Disk.past c.tick.new.disk) (g.M.Disk.fuse c.tick.new.disk)) c.tick.new.self c.tick.result
+    c.in-Tick.is
+    (ticks_step x c.in-Tick.now (tick_of terms (records x) (end_of terms x.entries) c.in-Tick.now)
+    (told (g.M.Disk.past c.tick.new.disk) (g.M.Disk.fuse c.tick.new.disk))
     c.tick.new.self c.tick.result (c.tick.ensures.acts terms own x s))
 
 pub returns-in-Tick-clause-asked : goal.returns-in-Tick-clause-asked

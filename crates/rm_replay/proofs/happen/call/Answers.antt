@@ -1,6 +1,6 @@
-use Rattle.std.proofs.Common.{◌≡◌, ◌∙◌, false, inl, refl, ap}
+use Rattle.std.proofs.Common.{◌∙◌, false, inl, refl, ap}
 use Rattle.std.proofs.lemmas.Result.{err_from_is_err_and}
-use Rattle.rm_protocol.specs.World.{Side, node}
+use Rattle.rm_protocol.specs.World.{node}
 use Rattle.rm_replay.specs.Asked.{step_of}
 use Rattle.rm_replay.specs.Meaning.{side_of}
 use Rattle.rm_replay.specs.Net.{number_of}

@@ -9,7 +9,8 @@ returns-in-One g c w stand =
     (drives_of g.M.Disk.past g.M.Disk.fuse g.M.Disk.faults c.args.one.now c.args.two.now)
     (drives_of g.M.Disk.past g.M.Disk.fuse g.M.Disk.faults c.crash.new.disk c.args.two.now)
     (record { one = c.crash.new.self; two = c.args.nodes.now.two }) c.crash.result c.in-One.is
-    (c.crash.ensures.ok w.one stand.one) (c.crash.ensures.err w.one stand.one) c.crash.ensures.more c.crash.ensures.faults
+    (c.crash.ensures.ok w.one stand.one) (c.crash.ensures.err w.one stand.one)
+    c.crash.ensures.more c.crash.ensures.faults
     stand.two (c.each_image_is_left.ensures w.two _ _ stand.two) refl
 
 pub returns-in-Two : goal.returns-in-Two
@@ -18,5 +19,6 @@ returns-in-Two g c w stand =
     (drives_of g.M.Disk.past g.M.Disk.fuse g.M.Disk.faults c.args.one.now c.args.two.now)
     (drives_of g.M.Disk.past g.M.Disk.fuse g.M.Disk.faults c.args.one.now c.crash-in-Two.new.disk)
     (record { one = c.args.nodes.now.one; two = c.crash-in-Two.new.self }) c.crash-in-Two.result c.in-Two.is
-    (c.crash-in-Two.ensures.ok w.two stand.two) (c.crash-in-Two.ensures.err w.two stand.two) c.crash-in-Two.ensures.more c.crash-in-Two.ensures.faults
+    (c.crash-in-Two.ensures.ok w.two stand.two) (c.crash-in-Two.ensures.err w.two stand.two)
+    c.crash-in-Two.ensures.more c.crash-in-Two.ensures.faults
     stand.one (c.each_image_is_left.ensures w.one _ _ stand.one) refl

@@ -1,4 +1,4 @@
-use Rattle.std.proofs.Common.{◌≡◌, ◌∙◌, Err, ap}
+use Rattle.std.proofs.Common.{◌∙◌, Err, ap}
 use Rattle.std.proofs.lemmas.Result.{err_from_is_err_and}
 use Rattle.message_reader.specs.Refusals.{blind}
 use Rattle.record_batch.specs.declared.record.Via.TheVariants.{Direct}

@@ -1,11 +1,7 @@
-use Rattle.std.proofs.Common.{◌≡◌, ◌∙◌, false, Err, Option, None, inl, refl, sym, ap}
-use Rattle.std.specs.Option.{option_map}
+use Rattle.std.proofs.Common.{◌∙◌, false, Err, inl, refl, ap}
 use Rattle.std.proofs.lemmas.Result.{err_from_is_err_and}
-use Rattle.rm_base.specs.Numbered.{numbered}
 use Rattle.rm_protocol.specs.World.{Deliver, node, other}
 use Rattle.rm_script.specs.declared.event.Event.TheVariants as said
-use Rattle.rm_wires.specs.Wire.{contents}
-use Rattle.rm_wires.specs.declared.wire.Packet.{Packet}
 use Rattle.rm_replay.specs.Asked.{step_of}
 use Rattle.rm_replay.specs.Meaning.{side_of}
 use Rattle.rm_replay.specs.Net.{number_of}

@@ -1,4 +1,4 @@
-use Rattle.std.proofs.Common.{◌≡◌, Err, Some, refl, sym, subst}
+use Rattle.std.proofs.Common.{Err, Some, refl, sym, subst}
 use Rattle.message_reader.specs.Refusals.{blind}
 use Rattle.rm_message.specs.declared.refusal.FaultKind.TheVariants.{TooLong}
 use Rattle.rm_protocol.specs.World.{Close, End, Send, Tick, node}

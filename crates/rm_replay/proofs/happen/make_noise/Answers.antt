@@ -1,4 +1,4 @@
-use Rattle.std.proofs.Common.{◌≡◌, ◌∙◌, Err}
+use Rattle.std.proofs.Common.{Err}
 use Rattle.soap_profile.specs.Soap.{soap_space}
 use Rattle.message_reader.specs.Refusals.{Refuses}
 use Rattle.rm_protocol.specs.World.{Noise, node}
@@ -24,7 +24,8 @@ returns g c terms net w shows =
     rw c.in-Err-Refused.field-0-is at c.in-Err-Refused.ensures.err in
     let old = scene_of g.M.Disk.past g.M.Disk.fuse g.M.Disk.faults g.W.Wire.packets c.args.stage.now in
     let new = scene_of g.M.Disk.past g.M.Disk.fuse g.M.Disk.faults g.W.Wire.packets c.call.new.stage in
-    happens_call c.each_image_is_left.ensures terms w (said.Noise c.args.side c.args.bytes.now) (Noise side refusal) side
+    happens_call c.each_image_is_left.ensures terms w (said.Noise c.args.side c.args.bytes.now) (Noise side refusal)
+    side
     (step_of terms (node w side) (Err refusal) (call.Receive c.args.bytes)) old new c.call.new.nodes c.call.result
     (noise_call terms w c.args.side c.args.bytes refusal refuses)
     (c.call.ensures.moves terms net (Err refusal) refuses w shows) c.call.ensures.asked

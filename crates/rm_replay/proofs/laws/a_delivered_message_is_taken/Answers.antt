@@ -9,5 +9,6 @@ pub returns : goal.returns
 returns c terms script s net played =
     let of = run_of c.a_run_goes_on.ensures.run terms script s played in
     subst (TakesNew terms) (sym of.1)
-    (c.a_delivered_message_is_taken.ensures terms address_one address_two (are_terms c.own_terms_are_terms.ensures terms net)
+    (c.a_delivered_message_is_taken.ensures terms address_one address_two
+    (are_terms c.own_terms_are_terms.ensures terms net)
     (are_made terms net) of.0)

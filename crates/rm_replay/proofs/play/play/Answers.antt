@@ -1,4 +1,4 @@
-use Rattle.std.proofs.Common.{◌≡◌, ◌∙◌, ◌+◌, ◌++◌, ◌∷◌, [], ℕ, ap, arith, refl, length-append}
+use Rattle.std.proofs.Common.{◌≡◌, ◌+◌, ◌++◌, ◌∷◌, ℕ, ap, arith, refl, length-append, []}
 use Rattle.std.proofs.lemmas.Result.{err_from_is_err_and}
 use Rattle.std.specs.Vec.Iter.{into_iter_items}
 use Rattle.rm_base.specs.IteratorLemmas.{taken_front}
@@ -9,7 +9,8 @@ use Rattle.rm_replay.proofs.play.play.Goals as goal
 pub loop-event-init : goal.loop-event-init
 loop-event-init g c = record {
   counted = refl;
-  played = λ terms net. played_none terms (scene_of g.M.Disk.past g.M.Disk.fuse g.M.Disk.faults g.W.Wire.packets c.args.stage.now)
+  played = λ terms net.
+      played_none terms (scene_of g.M.Disk.past g.M.Disk.fuse g.M.Disk.faults g.W.Wire.packets c.args.stage.now)
       c.args.nodes.now c.args.report.now c.requires.there c.requires.first;
 }
 
@@ -42,5 +43,6 @@ returns-in_err-play_line g c terms net =
     rw p.1 (short_line terms c.args.script.items loop.yielded (into_iter_items c.next.new.self) c.in-Some.event
     (scene_of g.M.Disk.past g.M.Disk.fuse g.M.Disk.faults g.W.Wire.packets c.args.stage.now)
     (scene_of g.M.Disk.past g.M.Disk.fuse g.M.Disk.faults g.W.Wire.packets loop.stage)
-    (scene_of g.M.Disk.past g.M.Disk.fuse g.M.Disk.faults g.W.Wire.packets c.play_line.new.stage) loop.nodes loop.report all events
+    (scene_of g.M.Disk.past g.M.Disk.fuse g.M.Disk.faults g.W.Wire.packets c.play_line.new.stage) loop.nodes
+    loop.report all events
     (c.in_err-play_line.ensures terms net all.story.world all.shows))

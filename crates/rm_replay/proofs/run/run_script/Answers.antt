@@ -1,4 +1,4 @@
-use Rattle.std.proofs.Common.{◌≡◌, ◌∙◌, inl, inr}
+use Rattle.std.proofs.Common.{inr}
 use Rattle.std.proofs.lemmas.Result.{err_from_is_err_and}
 use Rattle.rm_replay.specs.Shows.{scene_of}
 use Rattle.rm_replay.proofs.EventLemmas.{holds_of}
@@ -7,7 +7,8 @@ use Rattle.rm_replay.proofs.run.run_script.Goals as goal
 
 pub returns-in_err-push_known-clause-err : goal.returns-in_err-push_known-clause-err
 returns-in_err-push_known-clause-err g c terms net =
-    let p = err_from_is_err_and c.from_residual-in_err-push_known.result c.from_residual-in_err-push_known.ensures.1 in
+    let r = c.from_residual-in_err-push_known in
+    let p = err_from_is_err_and r.result r.ensures.1 in
     let old = scene_of g.M.Disk.past g.M.Disk.fuse g.M.Disk.faults g.W.Wire.packets c.args.stage.now in
     let mid = scene_of g.M.Disk.past g.M.Disk.fuse g.M.Disk.faults g.W.Wire.packets c.make.new.stage in
     let now = scene_of g.M.Disk.past g.M.Disk.fuse g.M.Disk.faults g.W.Wire.packets c.play.new.stage in
@@ -17,7 +18,8 @@ returns-in_err-push_known-clause-err g c terms net =
 
 pub returns-in_err-push_known-clause-short : goal.returns-in_err-push_known-clause-short
 returns-in_err-push_known-clause-short g c =
-    let p = err_from_is_err_and c.from_residual-in_err-push_known.result c.from_residual-in_err-push_known.ensures.1 in
+    let r = c.from_residual-in_err-push_known in
+    let p = err_from_is_err_and r.result r.ensures.1 in
     let n = c.there_are_nets.ensures in
     let all = c.in_ok-play.ensures n.0 n.1 in
     let now = scene_of g.M.Disk.past g.M.Disk.fuse g.M.Disk.faults g.W.Wire.packets c.play.new.stage in
@@ -26,7 +28,8 @@ returns-in_err-push_known-clause-short g c =
 
 pub returns-in_err-push_known-2-clause-err : goal.returns-in_err-push_known-2-clause-err
 returns-in_err-push_known-2-clause-err g c terms net =
-    let p = err_from_is_err_and c.from_residual-in_err-push_known-2.result c.from_residual-in_err-push_known-2.ensures.1 in
+    let r = c.from_residual-in_err-push_known-2 in
+    let p = err_from_is_err_and r.result r.ensures.1 in
     let old = scene_of g.M.Disk.past g.M.Disk.fuse g.M.Disk.faults g.W.Wire.packets c.args.stage.now in
     let mid = scene_of g.M.Disk.past g.M.Disk.fuse g.M.Disk.faults g.W.Wire.packets c.make.new.stage in
     let now = scene_of g.M.Disk.past g.M.Disk.fuse g.M.Disk.faults g.W.Wire.packets c.play.new.stage in
@@ -36,7 +39,8 @@ returns-in_err-push_known-2-clause-err g c terms net =
 
 pub returns-in_err-push_known-2-clause-short : goal.returns-in_err-push_known-2-clause-short
 returns-in_err-push_known-2-clause-short g c =
-    let p = err_from_is_err_and c.from_residual-in_err-push_known-2.result c.from_residual-in_err-push_known-2.ensures.1 in
+    let r = c.from_residual-in_err-push_known-2 in
+    let p = err_from_is_err_and r.result r.ensures.1 in
     let n = c.there_are_nets.ensures in
     let all = c.in_ok-play.ensures n.0 n.1 in
     let now = scene_of g.M.Disk.past g.M.Disk.fuse g.M.Disk.faults g.W.Wire.packets c.play.new.stage in
@@ -45,7 +49,8 @@ returns-in_err-push_known-2-clause-short g c =
 
 pub returns-in_err-play-clause-err : goal.returns-in_err-play-clause-err
 returns-in_err-play-clause-err g c terms net =
-    let p = err_from_is_err_and c.from_residual-in_err-play.result c.from_residual-in_err-play.ensures.1 in
+    let r = c.from_residual-in_err-play in
+    let p = err_from_is_err_and r.result r.ensures.1 in
     let old = scene_of g.M.Disk.past g.M.Disk.fuse g.M.Disk.faults g.W.Wire.packets c.args.stage.now in
     let mid = scene_of g.M.Disk.past g.M.Disk.fuse g.M.Disk.faults g.W.Wire.packets c.make.new.stage in
     let now = scene_of g.M.Disk.past g.M.Disk.fuse g.M.Disk.faults g.W.Wire.packets c.play.new.stage in
@@ -54,7 +59,8 @@ returns-in_err-play-clause-err g c terms net =
 
 pub returns-in_err-play-clause-short : goal.returns-in_err-play-clause-short
 returns-in_err-play-clause-short g c =
-    let p = err_from_is_err_and c.from_residual-in_err-play.result c.from_residual-in_err-play.ensures.1 in
+    let r = c.from_residual-in_err-play in
+    let p = err_from_is_err_and r.result r.ensures.1 in
     let n = c.there_are_nets.ensures in
     let keeps = c.a_played_script_keeps_the_headline.ensures in
     rw p.1 (inr (short_keeps keeps.whole keeps.short n.0 c.args.script.items
