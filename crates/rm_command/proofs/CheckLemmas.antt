@@ -1,9 +1,8 @@
 -- What of messages and of scripts excludes what, and which status comes of their bytes.
-use Rattle.std.proofs.Common.{◌≡◌, ℕ, ◌≤◌, ◌<◌, List, length, true, refl, arith}
+use Rattle.std.proofs.Common.{◌≡◌, ℕ, ◌≤◌, List, length, true, refl, arith}
 use Rattle.std.specs.Prelude.{IfSome}
 use Rattle.soap_profile.specs.Soap.{soap_space}
 use Rattle.rm_message.specs.declared.message.Message.{Message}
-use Rattle.rm_message.specs.declared.refusal.FaultKind.TheVariants as kinds
 use Rattle.rm_message.specs.declared.refusal.Refusal.{Refusal}
 use Rattle.message_reader.specs.Message.{Wrong}
 use Rattle.message_reader.specs.Message as wrongs
@@ -11,7 +10,7 @@ use Rattle.message_reader.specs.Refusals.{Spells, Refuses, refusal_of}
 use Rattle.message_reader.specs.Refusals as refused
 use Rattle.rm_script.specs.declared.event.Event.{Event}
 use Rattle.rm_script.specs.Script.{lines_of, IsScript, IsFirstBad}
-use Rattle.rm_command.specs.Check.{HasFault, IsTextOf, RefusesMessage, IsAMessage, IsCheckStatus, is_of_bytes}
+use Rattle.rm_command.specs.Check.{IsTextOf, RefusesMessage, IsAMessage, IsCheckStatus, is_of_bytes}
 use Rattle.rm_command.specs.Replay.{IsReportOf, IsCutShortOf, RefusesScript, IsAScript, IsReplayStatus}
 use Rattle.rm_command.specs.Edge.{Edge}
 use Rattle.rm_command.specs.Run.{RunsReplay, RunsCheck}
