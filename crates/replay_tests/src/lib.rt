@@ -7,6 +7,8 @@ mod crashes;
 #[cfg(test)]
 mod ends;
 #[cfg(test)]
+mod lives;
+#[cfg(test)]
 mod messages;
 #[cfg(test)]
 mod refusals;
