@@ -1,9 +1,17 @@
 //! Requests as peers write them, cut anywhere; and bad ones.
-use crate::peer::{Peer, ask};
+use crate::peer::{Peer, ask, asks, is_answer, repeated};
 use http_endpoint::{HttpError, read_request};
-use rm_base::{Blob, MemConn, Numbers};
+use rm_base::{Blob, MemConn, Memory, Numbers};
 use std::alloc::Global;
 use std::test::Fail;
+
+// What a request is answered with: its body, or why there is none.
+type Answer = Result<&'static [u8], HttpError>;
+
+// The fields of a head, or what else tells the cases apart, what follows, and the answer.
+type Case = (&'static [u8], &'static [u8], Answer);
+
+const LINE: &[u8] = b"POST / HTTP/1.1";
 
 const TYPE: &[u8] = b"Content-Type: application/soap+xml\r\n";
 
@@ -12,482 +20,508 @@ Transfer-Encoding: chunked\r\n\r\n3\r\nabc\r\n0A;x=\"y\"\r\n0123456789\r\n000\r\
 
 const INVITATION: &[u8] = b"HTTP/1.1 100 Continue\r\n\r\n";
 
-fn refused(status: u16) -> Result<&'static [u8], HttpError> {
-    Err(HttpError::Unsupported { status })
-}
+const NOTHING: Answer = Ok(b"");
+
+const BAD: Answer = Err(HttpError::BadHead);
+
+const CUT: Answer = Err(HttpError::CutShort);
+
+const LONG: Answer = Err(HttpError::TooLong { taken: 2097153 });
+
+const NO_POST: Answer = Err(HttpError::Unsupported { status: 405 });
+
+const NO_SOAP: Answer = Err(HttpError::Unsupported { status: 415 });
+
+const NO_CODING: Answer = Err(HttpError::Unsupported { status: 501 });
 
 // The first line, the fields, an empty line, and what follows.
-fn request(alloc: Global, line: &[u8], fields: &[u8], rest: &[u8]) -> Result<Blob, Fail> {
-    let mut text = Blob::from_slice(alloc, line)?;
-    text.push_all(b"\r\n")?;
-    text.push_all(fields)?;
-    text.push_all(b"\r\n")?;
-    text.push_all(rest)?;
-    Ok(text)
-}
-
-fn repeated(alloc: Global, piece: &[u8], count: usize) -> Result<Blob, Fail> {
+fn request(alloc: Global, line: &[u8], fields: &[u8], rest: &[u8]) -> Result<Blob, Memory> {
     let mut text = Blob::new(alloc);
-    for _ in 0..count {
+    for piece in [line, b"\r\n", fields, b"\r\n", rest] {
         text.push_all(piece)?;
     }
     Ok(text)
 }
 
-fn is_answer(answer: &Result<Blob, HttpError>, wanted: Result<&[u8], HttpError>) -> bool {
-    match answer {
-        Ok(body) => match wanted {
-            Ok(text) => body.as_slice() == text,
-            Err(_) => false,
-        },
-        Err(error) => match wanted {
-            Ok(_) => false,
-            Err(other) => *error == other,
-        },
-    }
+// The media type, and the fields after it.
+fn typed(alloc: Global, fields: &[u8]) -> Result<Blob, Memory> {
+    let mut all = Blob::from_slice(alloc, TYPE)?;
+    all.push_all(fields)?;
+    Ok(all)
 }
 
-// Each case, with the media type before its fields, cut in several ways.
-fn come_out(
-    alloc: Global,
-    cases: &[(&[u8], &[u8], Result<&[u8], HttpError>)],
-) -> Result<bool, Fail> {
-    for (fields, rest, wanted) in cases {
-        let mut all = Blob::from_slice(alloc, TYPE)?;
-        all.push_all(fields)?;
-        let text = request(alloc, b"POST / HTTP/1.1", all.as_slice(), rest)?;
-        for step in [1, 2, 3, 7, 4096] {
-            if !is_answer(&ask(alloc, text.as_slice(), step, false)?, *wanted) {
-                return Ok(false);
-            }
-        }
+// Whether a request of these fields, after the media type, cut in several ways, is answered so.
+fn comes_out(alloc: Global, case: &Case) -> Result<bool, Memory> {
+    let fields = typed(alloc, case.0)?;
+    let text = request(alloc, LINE, fields.as_slice(), case.1)?;
+    let mut is_so = true;
+    for step in [1, 2, 3, 7, 4096] {
+        is_so &= asks(alloc, text.as_slice(), step, false, case.2);
     }
-    Ok(true)
+    Ok(is_so)
 }
+
+// Whether all cases do.
+fn come_out(alloc: Global, cases: &[Case]) -> Result<bool, Memory> {
+    let mut are_so = true;
+    for case in cases {
+        are_so &= comes_out(alloc, case)?;
+    }
+    Ok(are_so)
+}
+
+const COUNTED: [Case; 9] = [
+    (b"Content-Length: 5\r\n", b"abcde", Ok(b"abcde")),
+    (b"CONTENT-length:5\r\n", b"abcde", Ok(b"abcde")),
+    (b"Content-Length: \t 005  \r\n", b"abcdefg", Ok(b"abcde")),
+    (
+        b"Content-Length: 5\nContent-Length: 5\n",
+        b"abcde",
+        Ok(b"abcde"),
+    ),
+    (b"", b"abcde", NOTHING),
+    (b"Content-Length: 0\r\n", b"", NOTHING),
+    (
+        b"Content-Length: 4\r\n",
+        b"\xEF\xBB\xBFa",
+        Ok(b"\xEF\xBB\xBFa"),
+    ),
+    (b"Content-Length: 6\r\n", b"abcde", CUT),
+    (b"Content-Length: 9223372036854775807\r\n", b"abcde", CUT),
+];
 
 #[test]
 fn counted_bodies(rt: HostRuntime) -> Result<(), Fail> {
-    let cut = Err(HttpError::CutShort);
-    let cases: [(&[u8], &[u8], Result<&[u8], HttpError>); 9] = [
-        (b"Content-Length: 5\r\n", b"abcde", Ok(b"abcde")),
-        (b"CONTENT-length:5\r\n", b"abcde", Ok(b"abcde")),
-        (b"Content-Length: \t 005  \r\n", b"abcdefg", Ok(b"abcde")),
-        (
-            b"Content-Length: 5\nContent-Length: 5\n",
-            b"abcde",
-            Ok(b"abcde"),
-        ),
-        (b"", b"abcde", Ok(b"")),
-        (b"Content-Length: 0\r\n", b"", Ok(b"")),
-        (
-            b"Content-Length: 4\r\n",
-            b"\xEF\xBB\xBFa",
-            Ok(b"\xEF\xBB\xBFa"),
-        ),
-        (b"Content-Length: 6\r\n", b"abcde", cut),
-        (b"Content-Length: 9223372036854775807\r\n", b"abcde", cut),
-    ];
-    assert!(rt; come_out(rt.alloc(), &cases)?);
+    assert!(rt; come_out(rt.alloc(), &COUNTED)?);
     Ok(())
 }
+
+const BAD_LENGTHS: [Case; 10] = [
+    (b"Content-Length: 9223372036854775808\r\n", b"abcde", BAD),
+    (
+        b"Content-Length: 99999999999999999999999999\r\n",
+        b"abcde",
+        BAD,
+    ),
+    (b"Content-Length: -1\r\n", b"abcde", BAD),
+    (b"Content-Length: +5\r\n", b"abcde", BAD),
+    (b"Content-Length: \r\n", b"abcde", BAD),
+    (b"Content-Length: 5, 5\r\n", b"abcde", BAD),
+    (
+        b"Content-Length: 5\r\nContent-Length: 6\r\n",
+        b"abcdef",
+        BAD,
+    ),
+    (b"Content-Length : 5\r\n", b"abcde", BAD),
+    (b"Content-Length: 5\r\n Folded: 1\r\n", b"abcde", BAD),
+    (
+        b"Content-Length: 3\r\nTransfer-Encoding: chunked\r\n",
+        b"0\r\n\r\n",
+        BAD,
+    ),
+];
 
 #[test]
 fn bad_lengths(rt: HostRuntime) -> Result<(), Fail> {
-    let bad = Err(HttpError::BadHead);
-    let cases: [(&[u8], &[u8], Result<&[u8], HttpError>); 10] = [
-        (b"Content-Length: 9223372036854775808\r\n", b"abcde", bad),
-        (
-            b"Content-Length: 99999999999999999999999999\r\n",
-            b"abcde",
-            bad,
-        ),
-        (b"Content-Length: -1\r\n", b"abcde", bad),
-        (b"Content-Length: +5\r\n", b"abcde", bad),
-        (b"Content-Length: \r\n", b"abcde", bad),
-        (b"Content-Length: 5, 5\r\n", b"abcde", bad),
-        (
-            b"Content-Length: 5\r\nContent-Length: 6\r\n",
-            b"abcdef",
-            bad,
-        ),
-        (b"Content-Length : 5\r\n", b"abcde", bad),
-        (b"Content-Length: 5\r\n Folded: 1\r\n", b"abcde", bad),
-        (
-            b"Content-Length: 3\r\nTransfer-Encoding: chunked\r\n",
-            b"0\r\n\r\n",
-            bad,
-        ),
-    ];
-    assert!(rt; come_out(rt.alloc(), &cases)?);
+    assert!(rt; come_out(rt.alloc(), &BAD_LENGTHS)?);
     Ok(())
 }
+
+const IN_CHUNKS: &[u8] = b"Transfer-Encoding: Chunked\r\n";
+
+const CHUNKED_BODIES: [Case; 9] = [
+    (
+        IN_CHUNKS,
+        b"A\r\n0123456789\r\n0\r\n\r\n",
+        Ok(b"0123456789"),
+    ),
+    (b"Transfer-Encoding: , chunked\r\n", b"0\r\n\r\n", NOTHING),
+    (
+        IN_CHUNKS,
+        b"3\r\nabc\r\n0\r\nA: b\nC: d\r\n\r\n",
+        Ok(b"abc"),
+    ),
+    (IN_CHUNKS, b"3\r\nabcd\r\n0\r\n\r\n", BAD),
+    (IN_CHUNKS, b"3\r\nabc\n0\r\n\r\n", BAD),
+    (IN_CHUNKS, b"-3\r\nabc\r\n0\r\n\r\n", BAD),
+    (IN_CHUNKS, b"10000000000000000\r\nabc", BAD),
+    (IN_CHUNKS, b"FFFFFFFFFFFFFFFF\r\nabc", CUT),
+    (IN_CHUNKS, b"0\r\nA b\r\n\r\n", BAD),
+];
 
 #[test]
 fn chunked_bodies(rt: HostRuntime) -> Result<(), Fail> {
-    let bad = Err(HttpError::BadHead);
-    let fields: &[u8] = b"Transfer-Encoding: Chunked\r\n";
-    let cases: [(&[u8], &[u8], Result<&[u8], HttpError>); 9] = [
-        (fields, b"A\r\n0123456789\r\n0\r\n\r\n", Ok(b"0123456789")),
-        (b"Transfer-Encoding: , chunked\r\n", b"0\r\n\r\n", Ok(b"")),
-        (fields, b"3\r\nabc\r\n0\r\nA: b\nC: d\r\n\r\n", Ok(b"abc")),
-        (fields, b"3\r\nabcd\r\n0\r\n\r\n", bad),
-        (fields, b"3\r\nabc\n0\r\n\r\n", bad),
-        (fields, b"-3\r\nabc\r\n0\r\n\r\n", bad),
-        (fields, b"10000000000000000\r\nabc", bad),
-        (fields, b"FFFFFFFFFFFFFFFF\r\nabc", Err(HttpError::CutShort)),
-        (fields, b"0\r\nA b\r\n\r\n", bad),
-    ];
-    assert!(rt; come_out(rt.alloc(), &cases)?);
+    assert!(rt; come_out(rt.alloc(), &CHUNKED_BODIES)?);
     Ok(())
 }
+
+const CODINGS: [Case; 6] = [
+    (b"Transfer-Encoding: gzip\r\n", b"", NO_CODING),
+    (
+        b"Transfer-Encoding: gzip, chunked\r\n",
+        b"0\r\n\r\n",
+        NO_CODING,
+    ),
+    (
+        b"Transfer-Encoding: chunked, chunked\r\n",
+        b"0\r\n\r\n",
+        NO_CODING,
+    ),
+    (b"Content-Encoding: gzip\r\n", b"", NO_SOAP),
+    (b"Content-Encoding: IDENTITY\r\n", b"", NOTHING),
+    (b"Content-Type: text/xml\r\n", b"", NO_SOAP),
+];
 
 #[test]
 fn codings(rt: HostRuntime) -> Result<(), Fail> {
-    let cases: [(&[u8], &[u8], Result<&[u8], HttpError>); 6] = [
-        (b"Transfer-Encoding: gzip\r\n", b"", refused(501)),
-        (
-            b"Transfer-Encoding: gzip, chunked\r\n",
-            b"0\r\n\r\n",
-            refused(501),
-        ),
-        (
-            b"Transfer-Encoding: chunked, chunked\r\n",
-            b"0\r\n\r\n",
-            refused(501),
-        ),
-        (b"Content-Encoding: gzip\r\n", b"", refused(415)),
-        (b"Content-Encoding: IDENTITY\r\n", b"", Ok(b"")),
-        (b"Content-Type: text/xml\r\n", b"", refused(415)),
-    ];
-    assert!(rt; come_out(rt.alloc(), &cases)?);
+    assert!(rt; come_out(rt.alloc(), &CODINGS)?);
     Ok(())
 }
 
-// Each case, with nothing behind the head, cut in several ways.
-fn heads_come_out(
-    alloc: Global,
-    cases: &[(&[u8], &[u8], Result<&[u8], HttpError>)],
-) -> Result<bool, Fail> {
-    for (line, fields, wanted) in cases {
-        let text = request(alloc, line, fields, b"")?;
-        for step in [1, 5, 4096] {
-            if !is_answer(&ask(alloc, text.as_slice(), step, false)?, *wanted) {
-                return Ok(false);
-            }
-        }
+// Whether a request of this first line and these fields, with nothing behind, cut in several ways, is answered so.
+fn head_comes_out(alloc: Global, case: &Case) -> Result<bool, Memory> {
+    let text = request(alloc, case.0, case.1, b"")?;
+    let mut is_so = true;
+    for step in [1, 5, 4096] {
+        is_so &= asks(alloc, text.as_slice(), step, false, case.2);
     }
-    Ok(true)
+    Ok(is_so)
 }
+
+fn heads_come_out(alloc: Global, cases: &[Case]) -> Result<bool, Memory> {
+    let mut are_so = true;
+    for case in cases {
+        are_so &= head_comes_out(alloc, case)?;
+    }
+    Ok(are_so)
+}
+
+const METHODS: [Case; 6] = [
+    (b"GET / HTTP/1.1", b"Host: h\r\n", NO_POST),
+    (b"post / HTTP/1.1", b"Host: h\r\n", NO_POST),
+    (b"GET / HTTP/1.1", b"Transfer-Encoding: gzip\r\n", NO_POST),
+    (b"GET / HTTP/1.1", b"Content-Length: x\r\n", BAD),
+    (b"POST / HTTP/1.1", b"Host: h\r\n", NO_SOAP),
+    (
+        b"POST / HTTP/1.1",
+        b"Transfer-Encoding: gzip\r\nContent-Encoding: gzip\r\n",
+        NO_CODING,
+    ),
+];
 
 #[test]
 fn methods_in_order(rt: HostRuntime) -> Result<(), Fail> {
-    let cases: [(&[u8], &[u8], Result<&[u8], HttpError>); 6] = [
-        (b"GET / HTTP/1.1", b"Host: h\r\n", refused(405)),
-        (b"post / HTTP/1.1", b"Host: h\r\n", refused(405)),
-        (
-            b"GET / HTTP/1.1",
-            b"Transfer-Encoding: gzip\r\n",
-            refused(405),
-        ),
-        (
-            b"GET / HTTP/1.1",
-            b"Content-Length: x\r\n",
-            Err(HttpError::BadHead),
-        ),
-        (b"POST / HTTP/1.1", b"Host: h\r\n", refused(415)),
-        (
-            b"POST / HTTP/1.1",
-            b"Transfer-Encoding: gzip\r\nContent-Encoding: gzip\r\n",
-            refused(501),
-        ),
-    ];
-    assert!(rt; heads_come_out(rt.alloc(), &cases)?);
+    assert!(rt; heads_come_out(rt.alloc(), &METHODS)?);
     Ok(())
 }
+
+const MEDIA_TYPES: [Case; 5] = [
+    (
+        b"POST / HTTP/1.1",
+        b"Content-Type: APPLICATION/Soap+XML ;charset=utf-8\r\n",
+        NOTHING,
+    ),
+    (
+        b"POST / HTTP/1.1",
+        b"Content-Type: application/soap+xml;action=\"urn:a\"\r\n",
+        NOTHING,
+    ),
+    (
+        b"POST / HTTP/1.1",
+        b"Content-Type: application/soap+xmlx\r\n",
+        NO_SOAP,
+    ),
+    (
+        b"POST / HTTP/1.1",
+        b"Content-Type: application/soap+xm\r\n",
+        NO_SOAP,
+    ),
+    (
+        b"POST / HTTP/1.1",
+        b"Content-Type: application/soap+xml x\r\n",
+        NO_SOAP,
+    ),
+];
 
 #[test]
 fn media_types(rt: HostRuntime) -> Result<(), Fail> {
-    let cases: [(&[u8], &[u8], Result<&[u8], HttpError>); 5] = [
-        (
-            b"POST / HTTP/1.1",
-            b"Content-Type: APPLICATION/Soap+XML ;charset=utf-8\r\n",
-            Ok(b""),
-        ),
-        (
-            b"POST / HTTP/1.1",
-            b"Content-Type: application/soap+xml;action=\"urn:a\"\r\n",
-            Ok(b""),
-        ),
-        (
-            b"POST / HTTP/1.1",
-            b"Content-Type: application/soap+xmlx\r\n",
-            refused(415),
-        ),
-        (
-            b"POST / HTTP/1.1",
-            b"Content-Type: application/soap+xm\r\n",
-            refused(415),
-        ),
-        (
-            b"POST / HTTP/1.1",
-            b"Content-Type: application/soap+xml x\r\n",
-            refused(415),
-        ),
-    ];
-    assert!(rt; heads_come_out(rt.alloc(), &cases)?);
+    assert!(rt; heads_come_out(rt.alloc(), &MEDIA_TYPES)?);
     Ok(())
 }
+
+const FIRST_LINES: [Case; 5] = [
+    (
+        b"\r\n\nPOST / HTTP/1.0",
+        b"content-type: application/soap+xml\n",
+        NOTHING,
+    ),
+    (b"POST /\xC3\xA4 HTTP/1.1", TYPE, NOTHING),
+    (b"POST /\xFF HTTP/1.1", TYPE, BAD),
+    (b"POST / HTTP/2.0", TYPE, BAD),
+    (b"POST  / HTTP/1.1", TYPE, BAD),
+];
 
 #[test]
 fn first_lines(rt: HostRuntime) -> Result<(), Fail> {
-    let bad = Err(HttpError::BadHead);
-    let cases: [(&[u8], &[u8], Result<&[u8], HttpError>); 5] = [
-        (
-            b"\r\n\nPOST / HTTP/1.0",
-            b"content-type: application/soap+xml\n",
-            Ok(b""),
-        ),
-        (b"POST /\xC3\xA4 HTTP/1.1", TYPE, Ok(b"")),
-        (b"POST /\xFF HTTP/1.1", TYPE, bad),
-        (b"POST / HTTP/2.0", TYPE, bad),
-        (b"POST  / HTTP/1.1", TYPE, bad),
-    ];
-    assert!(rt; heads_come_out(rt.alloc(), &cases)?);
+    assert!(rt; heads_come_out(rt.alloc(), &FIRST_LINES)?);
     Ok(())
 }
 
+// Whether each front of a text is answered so.
+fn fronts_come_out(alloc: Global, text: &[u8], step: usize, fails: bool, wanted: Answer) -> bool {
+    let mut are_so = true;
+    for len in 0..text.len() {
+        are_so &= asks(alloc, text.split_at(len).0, step, fails, wanted);
+    }
+    are_so
+}
+
 #[test]
-fn each_front_is_cut_short(rt: HostRuntime) -> Result<(), Fail> {
-    let alloc = rt.alloc();
-    for len in 0..CHUNKED.len() {
-        let front = CHUNKED.split_at(len).0;
-        for step in [1, 4096] {
-            assert!(rt;
-                is_answer(&ask(alloc, front, step, false)?, Err(HttpError::CutShort)),
-                "{len}"
-            );
-        }
-    }
+fn each_front_is_cut_short(rt: HostRuntime) {
+    assert!(rt; fronts_come_out(rt.alloc(), CHUNKED, 1, false, CUT));
+    assert!(rt; fronts_come_out(rt.alloc(), CHUNKED, 4096, false, CUT));
     for step in 1..70 {
-        assert!(rt;
-            is_answer(&ask(alloc, CHUNKED, step, false)?, Ok(b"abc0123456789")),
-            "{step}"
-        );
+        let is_so = asks(rt.alloc(), CHUNKED, step, false, Ok(b"abc0123456789"));
+        assert!(rt; is_so, "{step}");
     }
-    Ok(())
+}
+
+const WHOLE: [&[u8]; 6] = [
+    CHUNKED,
+    b"POST / HTTP/1.1\r\nContent-Type: application/soap+xml\r\nContent-Length: 3\r\n\r\nabc",
+    b"POST / HTTP/1.1\nContent-Type: application/soap+xml\n\n",
+    b"\r\n\r\nPOST / HTTP/1.1\r\nContent-Type: application/soap+xml\r\n\r\n",
+    b"POST / HTTP/1.1\r\nContent-Type: application/soap+xml\nTransfer-Encoding: chunked\n\n0\r\n\n",
+    b"POST / HTTP/1.1\r\nContent-Type: application/soap+xml\r\nTransfer-Encoding: chunked\r\n\r\n0\r\nA:b\n\r\n",
+];
+
+// Whether a text is answered in steps of each length, where the read behind it fails.
+fn is_read_in_steps(alloc: Global, text: &[u8]) -> bool {
+    let mut is_so = true;
+    for step in 1..40 {
+        is_so &= ask(alloc, text, step, true).is_ok();
+    }
+    is_so
 }
 
 // What stands whole is answered without a read more: the one behind it fails.
 #[test]
-fn no_read_behind_the_end(rt: HostRuntime) -> Result<(), Fail> {
-    let alloc = rt.alloc();
-    let texts: [&[u8]; 6] = [
-        CHUNKED,
-        b"POST / HTTP/1.1\r\nContent-Type: application/soap+xml\r\nContent-Length: 3\r\n\r\nabc",
-        b"POST / HTTP/1.1\nContent-Type: application/soap+xml\n\n",
-        b"\r\n\r\nPOST / HTTP/1.1\r\nContent-Type: application/soap+xml\r\n\r\n",
-        b"POST / HTTP/1.1\r\nContent-Type: application/soap+xml\nTransfer-Encoding: chunked\n\n0\r\n\n",
-        b"POST / HTTP/1.1\r\nContent-Type: application/soap+xml\r\nTransfer-Encoding: chunked\r\n\r\n0\r\nA:b\n\r\n",
-    ];
-    for text in texts {
-        for step in 1..40 {
-            assert!(rt; ask(alloc, text, step, true)?.is_ok(), "{step}");
-        }
-        for len in 0..text.len() {
-            let front = text.split_at(len).0;
-            assert!(rt;
-                is_answer(&ask(alloc, front, 3, true)?, Err(HttpError::ReadFault)),
-                "{len}"
-            );
-        }
+fn no_read_behind_the_end(rt: HostRuntime) {
+    let failed = Err(HttpError::ReadFault);
+    for text in &WHOLE {
+        assert!(rt; is_read_in_steps(rt.alloc(), text), "{text:?}");
+        assert!(rt;
+            fronts_come_out(rt.alloc(), text, 3, true, failed),
+            "{text:?}"
+        );
     }
+}
+
+// Whether a head of the media type and so many fields is answered so.
+fn many_fields(alloc: Global, count: usize, wanted: Answer) -> Result<bool, Memory> {
+    let fields = typed(alloc, repeated(alloc, b"a:\n", count)?.as_slice())?;
+    let text = request(alloc, LINE, fields.as_slice(), b"")?;
+    Ok(asks(alloc, text.as_slice(), 100, false, wanted))
+}
+
+#[test]
+fn limits_of_fields(rt: HostRuntime) -> Result<(), Fail> {
+    assert!(rt; many_fields(rt.alloc(), 63, NOTHING)?);
+    assert!(rt; many_fields(rt.alloc(), 64, BAD)?);
     Ok(())
+}
+
+// A head of so many bytes.
+fn long_head(alloc: Global, len: usize) -> Result<Blob, Memory> {
+    // "POST / HTTP/1.1" CR LF, the type, "X: " .. CR LF and CR LF are the other 60 bytes
+    let mut fields = typed(alloc, b"X: ")?;
+    fields.push_all(repeated(alloc, b"x", len.saturating_sub(60))?.as_slice())?;
+    fields.push_all(b"\r\n")?;
+    request(alloc, LINE, fields.as_slice(), b"")
+}
+
+// Whether it has so many, and is answered so in short steps and in long ones.
+fn long_head_comes_out(alloc: Global, len: usize, wanted: Answer) -> Result<bool, Memory> {
+    let text = long_head(alloc, len)?;
+    let by_one = asks(alloc, text.as_slice(), 1, false, wanted);
+    let by_many = asks(alloc, text.as_slice(), 4096, false, wanted);
+    Ok((text.len() == len) & by_one & by_many)
 }
 
 #[test]
 fn limits_of_heads(rt: HostRuntime) -> Result<(), Fail> {
-    let alloc = rt.alloc();
-    let line = b"POST / HTTP/1.1";
-    for (count, wanted) in [(63, Ok(b"".as_slice())), (64, Err(HttpError::BadHead))] {
-        let mut fields = Blob::from_slice(alloc, TYPE)?;
-        fields.push_all(repeated(alloc, b"a:\n", count)?.as_slice())?;
-        let text = request(alloc, line, fields.as_slice(), b"")?;
-        assert!(rt; is_answer(&ask(alloc, text.as_slice(), 100, false)?, wanted));
-    }
-    // "POST / HTTP/1.1" CR LF, the type, "X: " .. CR LF and CR LF are the other 60 bytes
-    for (len, wanted) in [
-        (16384_usize, Ok(b"".as_slice())),
-        (16385, Err(HttpError::BadHead)),
-    ] {
-        let mut fields = Blob::from_slice(alloc, TYPE)?;
-        fields.push_all(b"X: ")?;
-        fields.push_all(repeated(alloc, b"x", len.saturating_sub(60))?.as_slice())?;
-        fields.push_all(b"\r\n")?;
-        let text = request(alloc, line, fields.as_slice(), b"")?;
-        assert_eq!(rt; text.len(), len);
-        for step in [1, 4096] {
-            assert!(rt; is_answer(&ask(alloc, text.as_slice(), step, false)?, wanted));
-        }
-    }
-    let mut many = Blob::from_slice(alloc, b"POST / HTTP/1.1\r\n")?;
-    many.push_all(repeated(alloc, b"a:\n", 5000)?.as_slice())?;
-    assert!(rt;
-        is_answer(
-            &ask(alloc, many.as_slice(), 1, false)?,
-            Err(HttpError::CutShort)
-        )
-    );
-    let blank = repeated(alloc, b"\n", 16385)?;
-    assert!(rt;
-        is_answer(
-            &ask(alloc, blank.as_slice(), 1, false)?,
-            Err(HttpError::BadHead)
-        )
-    );
+    assert!(rt; long_head_comes_out(rt.alloc(), 16384, NOTHING)?);
+    assert!(rt; long_head_comes_out(rt.alloc(), 16385, BAD)?);
     Ok(())
 }
 
-fn chunked(alloc: Global, chunks: &[u8]) -> Result<Blob, Fail> {
+// Whether a text and then so many pieces, a byte at a time, are answered so.
+fn pieces_come_out(
+    alloc: Global,
+    first: &[u8],
+    piece: &[u8],
+    count: usize,
+    wanted: Answer,
+) -> Result<bool, Memory> {
+    let mut text = Blob::from_slice(alloc, first)?;
+    text.push_all(repeated(alloc, piece, count)?.as_slice())?;
+    Ok(asks(alloc, text.as_slice(), 1, false, wanted))
+}
+
+#[test]
+fn heads_without_an_end(rt: HostRuntime) -> Result<(), Fail> {
+    assert!(rt; pieces_come_out(rt.alloc(), b"POST / HTTP/1.1\r\n", b"a:\n", 5000, CUT)?);
+    assert!(rt; pieces_come_out(rt.alloc(), b"", b"\n", 16385, BAD)?);
+    Ok(())
+}
+
+fn chunked(alloc: Global, chunks: &[u8]) -> Result<Blob, Memory> {
     request(
         alloc,
-        b"POST / HTTP/1.1",
+        LINE,
         b"Content-Type: application/soap+xml\r\nTransfer-Encoding: chunked\r\n",
         chunks,
     )
 }
 
+// Whether chunks that begin so, go on with so many pieces and end so are answered so.
+fn chunks_come_out(
+    alloc: Global,
+    first: &[u8],
+    (piece, count): (&[u8], usize),
+    last: &[u8],
+    wanted: Answer,
+) -> Result<bool, Memory> {
+    let mut chunks = Blob::from_slice(alloc, first)?;
+    chunks.push_all(repeated(alloc, piece, count)?.as_slice())?;
+    chunks.push_all(last)?;
+    let text = chunked(alloc, chunks.as_slice())?;
+    Ok(asks(alloc, text.as_slice(), 1000, false, wanted))
+}
+
 #[test]
 fn limits_of_chunks(rt: HostRuntime) -> Result<(), Fail> {
-    let alloc = rt.alloc();
-    for (len, wanted) in [
-        (16384_usize, Ok(b"".as_slice())),
-        (16385, Err(HttpError::BadHead)),
-    ] {
-        let mut line = Blob::from_slice(alloc, b"0;")?;
-        line.push_all(repeated(alloc, b"x", len.saturating_sub(4))?.as_slice())?;
-        line.push_all(b"\r\n\r\n")?;
-        let text = chunked(alloc, line.as_slice())?;
-        assert!(rt; is_answer(&ask(alloc, text.as_slice(), 1000, false)?, wanted));
-    }
-    for (count, wanted) in [(64, Ok(b"".as_slice())), (65, Err(HttpError::BadHead))] {
-        let mut trailer = Blob::from_slice(alloc, b"0\r\n")?;
-        trailer.push_all(repeated(alloc, b"a:\n", count)?.as_slice())?;
-        trailer.push_all(b"\r\n")?;
-        let text = chunked(alloc, trailer.as_slice())?;
-        assert!(rt; is_answer(&ask(alloc, text.as_slice(), 1000, false)?, wanted));
-    }
-    // "X:" .. CR LF CR LF are the other 6 bytes
-    for (len, wanted) in [
-        (16384_usize, Ok(b"".as_slice())),
-        (16385, Err(HttpError::BadHead)),
-    ] {
-        let mut trailer = Blob::from_slice(alloc, b"0\r\nX:")?;
-        trailer.push_all(repeated(alloc, b"x", len.saturating_sub(6))?.as_slice())?;
-        trailer.push_all(b"\r\n\r\n")?;
-        let text = chunked(alloc, trailer.as_slice())?;
-        assert!(rt; is_answer(&ask(alloc, text.as_slice(), 1000, false)?, wanted));
-    }
+    // "0;" and CR LF CR LF around 16384 bytes less 4
+    assert!(rt; chunks_come_out(rt.alloc(), b"0;", (b"x", 16380), b"\r\n\r\n", NOTHING)?);
+    assert!(rt; chunks_come_out(rt.alloc(), b"0;", (b"x", 16381), b"\r\n\r\n", BAD)?);
     Ok(())
 }
+
+#[test]
+fn limits_of_trailers(rt: HostRuntime) -> Result<(), Fail> {
+    assert!(rt; chunks_come_out(rt.alloc(), b"0\r\n", (b"a:\n", 64), b"\r\n", NOTHING)?);
+    assert!(rt; chunks_come_out(rt.alloc(), b"0\r\n", (b"a:\n", 65), b"\r\n", BAD)?);
+    // "X:" .. CR LF CR LF are the other 6 bytes of 16384
+    assert!(rt; chunks_come_out(rt.alloc(), b"0\r\nX:", (b"x", 16378), b"\r\n\r\n", NOTHING)?);
+    assert!(rt; chunks_come_out(rt.alloc(), b"0\r\nX:", (b"x", 16379), b"\r\n\r\n", BAD)?);
+    Ok(())
+}
+
+// 2097152 bytes.
+fn longest_body(alloc: Global) -> Result<Blob, Memory> {
+    let line = b"0123456789abcdefghijklmnopqrstuvwxyz0123456789012345678901234567";
+    repeated(alloc, line, 32768)
+}
+
+// Whether a body that is counted so, with these bytes behind it, is answered so.
+fn counted_comes_out(
+    alloc: Global,
+    fields: &[u8],
+    body: &[u8],
+    behind: &[u8],
+    wanted: Result<&[u8], HttpError>,
+) -> Result<bool, Memory> {
+    let mut text = request(alloc, LINE, fields, body)?;
+    text.push_all(behind)?;
+    Ok(asks(alloc, text.as_slice(), 4096, false, wanted))
+}
+
+const FITS: &[u8] = b"Content-Type: application/soap+xml\r\nContent-Length: 2097152\r\n";
+
+const EXCEEDS: &[u8] = b"Content-Type: application/soap+xml\r\nContent-Length: 2097153\r\n";
 
 #[test]
 fn limits_of_bodies(rt: HostRuntime) -> Result<(), Fail> {
-    let alloc = rt.alloc();
-    let long = Err(HttpError::TooLong { taken: 2097153 });
-    let body = repeated(
-        alloc,
-        b"0123456789abcdefghijklmnopqrstuvwxyz0123456789012345678901234567",
-        32768,
-    )?;
-    assert_eq!(rt; body.len(), 2097152);
-    let whole = request(
-        alloc,
-        b"POST / HTTP/1.1",
-        b"Content-Type: application/soap+xml\r\nContent-Length: 2097152\r\n",
-        body.as_slice(),
-    )?;
-    assert!(rt;
-        is_answer(
-            &ask(alloc, whole.as_slice(), 4096, false)?,
-            Ok(body.as_slice())
-        )
-    );
-    let mut more = request(
-        alloc,
-        b"POST / HTTP/1.1",
-        b"Content-Type: application/soap+xml\r\nContent-Length: 2097153\r\n",
-        body.as_slice(),
-    )?;
-    assert!(rt;
-        is_answer(
-            &ask(alloc, more.as_slice(), 4096, false)?,
-            Err(HttpError::CutShort)
-        )
-    );
-    more.push_all(b"x")?;
-    assert!(rt; is_answer(&ask(alloc, more.as_slice(), 4096, false)?, long));
-    let mut chunks = chunked(alloc, b"200000\r\n")?;
-    chunks.push_all(body.as_slice())?;
-    chunks.push_all(b"\r\n")?;
-    let mut last = chunks.copy()?;
-    last.push_all(b"0\r\n\r\n")?;
-    assert!(rt;
-        is_answer(
-            &ask(alloc, last.as_slice(), 4096, false)?,
-            Ok(body.as_slice())
-        )
-    );
-    chunks.push_all(b"1\r\nx")?;
-    assert!(rt; is_answer(&ask(alloc, chunks.as_slice(), 4096, false)?, long));
+    let body = longest_body(rt.alloc())?;
+    assert!(rt; body.len() == 2097152);
+    assert!(rt; counted_comes_out(rt.alloc(), FITS, body.as_slice(), b"", Ok(body.as_slice()))?);
+    assert!(rt; counted_comes_out(rt.alloc(), EXCEEDS, body.as_slice(), b"", CUT)?);
+    assert!(rt; counted_comes_out(rt.alloc(), EXCEEDS, body.as_slice(), b"x", LONG)?);
     Ok(())
 }
 
+// Whether a chunk of this body, with these bytes behind it, is answered so.
+fn chunk_comes_out(
+    alloc: Global,
+    body: &[u8],
+    behind: &[u8],
+    wanted: Result<&[u8], HttpError>,
+) -> Result<bool, Memory> {
+    let mut text = chunked(alloc, b"200000\r\n")?;
+    text.push_all(body)?;
+    text.push_all(behind)?;
+    Ok(asks(alloc, text.as_slice(), 4096, false, wanted))
+}
+
 #[test]
-fn chunks_of_one_byte(rt: HostRuntime) -> Result<(), Fail> {
-    let alloc = rt.alloc();
-    let chunks = repeated(alloc, b"1\r\nx\r\n", 131072)?;
-    let mut text = chunked(alloc, chunks.as_slice())?;
-    text.push_all(b"0\r\n\r\n")?;
-    match ask(alloc, text.as_slice(), 4096, false)? {
-        Ok(body) => assert_eq!(rt; body.len(), 131072),
-        Err(error) => assert_eq!(rt; error, HttpError::Memory),
-    }
+fn limits_of_chunked_bodies(rt: HostRuntime) -> Result<(), Fail> {
+    let body = longest_body(rt.alloc())?;
+    let whole = Ok(body.as_slice());
+    assert!(rt; chunk_comes_out(rt.alloc(), body.as_slice(), b"\r\n0\r\n\r\n", whole)?);
+    assert!(rt; chunk_comes_out(rt.alloc(), body.as_slice(), b"\r\n1\r\nx", LONG)?);
     Ok(())
+}
+
+// How many bytes a body has that comes in so many chunks of one.
+fn small_chunks(alloc: Global, count: usize) -> Result<usize, HttpError> {
+    let mut text = chunked(alloc, repeated(alloc, b"1\r\nx\r\n", count)?.as_slice())?;
+    text.push_all(b"0\r\n\r\n")?;
+    Ok(ask(alloc, text.as_slice(), 4096, false)?.len())
+}
+
+#[test]
+fn chunks_of_one_byte(rt: HostRuntime) {
+    assert!(rt; small_chunks(rt.alloc(), 131072) == Ok(131072));
+}
+
+// The first line of a request, the fields after the media type, and what is written before its body is read.
+const INVITED: [(&[u8], &[u8], &[u8]); 5] = [
+    (
+        LINE,
+        b"Expect: 100-continue\r\nContent-Length: 3\r\n",
+        INVITATION,
+    ),
+    (
+        LINE,
+        b"expect: x, 100-Continue\r\nContent-Length: 3\r\n",
+        INVITATION,
+    ),
+    (LINE, b"Content-Length: 3\r\n", b""),
+    (
+        b"GET / HTTP/1.1",
+        b"Expect: 100-continue\r\nContent-Length: 3\r\n",
+        b"",
+    ),
+    (
+        LINE,
+        b"Expect: 100-continue\r\nContent-Encoding: gzip\r\n",
+        b"",
+    ),
+];
+
+// Whether this is written to who sends such a request.
+fn is_told(alloc: Global, line: &[u8], fields: &[u8], said: &[u8]) -> Result<bool, Memory> {
+    let fields = typed(alloc, fields)?;
+    let text = request(alloc, line, fields.as_slice(), b"abc")?;
+    let mut peer = Peer::new(alloc, text.as_slice(), 10, false)?;
+    let _ = read_request(alloc, &mut peer);
+    Ok(peer.written() == said)
 }
 
 #[test]
 fn who_is_invited(rt: HostRuntime) -> Result<(), Fail> {
-    let alloc = rt.alloc();
-    let cases: [(&[u8], &[u8], &[u8]); 5] = [
-        (
-            b"POST / HTTP/1.1",
-            b"Expect: 100-continue\r\nContent-Length: 3\r\n",
-            INVITATION,
-        ),
-        (
-            b"POST / HTTP/1.1",
-            b"expect: x, 100-Continue\r\nContent-Length: 3\r\n",
-            INVITATION,
-        ),
-        (b"POST / HTTP/1.1", b"Content-Length: 3\r\n", b""),
-        (
-            b"GET / HTTP/1.1",
-            b"Expect: 100-continue\r\nContent-Length: 3\r\n",
-            b"",
-        ),
-        (
-            b"POST / HTTP/1.1",
-            b"Expect: 100-continue\r\nContent-Encoding: gzip\r\n",
-            b"",
-        ),
-    ];
-    for (line, fields, said) in cases {
-        let mut all = Blob::from_slice(alloc, TYPE)?;
-        all.push_all(fields)?;
-        let text = request(alloc, line, all.as_slice(), b"abc")?;
-        let mut peer = Peer::new(alloc, text.as_slice(), 10, false)?;
-        let _ = read_request(alloc, &mut peer);
-        assert_eq!(rt; peer.written(), said);
+    for (line, fields, said) in &INVITED {
+        assert!(rt; is_told(rt.alloc(), line, fields, said)?, "{fields:?}");
     }
     Ok(())
 }
@@ -499,40 +533,47 @@ fn is_answered(
     number: u64,
     wanted: Result<&[u8], HttpError>,
     said: &[u8],
-) -> Result<bool, Fail> {
+) -> Result<bool, Memory> {
     let mut fail_at = Numbers::new(alloc);
     fail_at.push(number)?;
     let mut conn = MemConn::new(alloc, Blob::from_slice(alloc, text)?, fail_at);
     let got = read_request(alloc, &mut conn);
-    Ok(is_answer(&got, wanted) && conn.written() == said)
+    Ok(is_answer(&got, wanted) & (conn.written() == said))
+}
+
+// The number of the call that fails, the error, and what is written until then.
+const FAILING: [(u64, Answer, &[u8]); 6] = [
+    (1, Err(HttpError::ReadFault), b""),
+    (2, Err(HttpError::WriteFault), b""),
+    (3, Err(HttpError::ReadFault), INVITATION),
+    (4, Err(HttpError::ReadFault), INVITATION),
+    (5, Err(HttpError::ReadFault), INVITATION),
+    (6, Err(HttpError::ReadFault), INVITATION),
+];
+
+// A request whose body is waited for.
+fn waiting(alloc: Global, body: &[u8]) -> Result<Blob, Memory> {
+    let fields = typed(alloc, b"Expect: 100-continue\r\nContent-Length: 16384\r\n")?;
+    request(alloc, LINE, fields.as_slice(), body)
 }
 
 // Each call that fails in turn, of the two reads and the write in between.
 #[test]
 fn each_call_fails_in_turn(rt: HostRuntime) -> Result<(), Fail> {
-    let alloc = rt.alloc();
-    let mut fields = Blob::from_slice(alloc, TYPE)?;
-    fields.push_all(b"Expect: 100-continue\r\nContent-Length: 16384\r\n")?;
-    let body = repeated(alloc, b"x", 16384)?;
-    let text = request(
-        alloc,
-        b"POST / HTTP/1.1",
-        fields.as_slice(),
-        body.as_slice(),
-    )?;
-    let cases: [(u64, HttpError, &[u8]); 6] = [
-        (1, HttpError::ReadFault, b""),
-        (2, HttpError::WriteFault, b""),
-        (3, HttpError::ReadFault, INVITATION),
-        (4, HttpError::ReadFault, INVITATION),
-        (5, HttpError::ReadFault, INVITATION),
-        (6, HttpError::ReadFault, INVITATION),
-    ];
-    for (number, error, said) in cases {
-        let is_so = is_answered(alloc, text.as_slice(), number, Err(error), said)?;
+    let body = repeated(rt.alloc(), b"x", 16384)?;
+    let text = waiting(rt.alloc(), body.as_slice())?;
+    for (number, answer, said) in &FAILING {
+        let is_so = is_answered(rt.alloc(), text.as_slice(), *number, *answer, said)?;
         assert!(rt; is_so, "{number}");
     }
-    let is_so = is_answered(alloc, text.as_slice(), 7, Ok(body.as_slice()), INVITATION)?;
-    assert!(rt; is_so);
+    assert!(rt;
+        is_answered(
+            rt.alloc(),
+            text.as_slice(),
+            7,
+            Ok(body.as_slice()),
+            INVITATION
+        )?
+    );
     Ok(())
 }

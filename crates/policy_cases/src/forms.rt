@@ -2,14 +2,13 @@
 use rm_base::{Blob, Memory};
 use rm_policy::{Assertion, Assurance, PolicyError, read_assertion};
 use std::alloc::Global;
-use std::test::Fail;
 
 const ROOT: &[u8] = b"<p:RMAssertion xmlns:p=\"http://docs.oasis-open.org/ws-rx/wsrmp/200702\" \
     xmlns:w=\"http://www.w3.org/ns/ws-policy\" xmlns:v=\"http://schemas.xmlsoap.org/ws/2004/09/policy\" \
     xmlns:o=\"urn:o\"";
 
 /// A place in an assertion: what stands before it, behind the root's name and declarations, and what stands behind it.
-#[derive(Clone, Copy, Debug)]
+#[derive(Clone, Copy)]
 pub struct Place {
     before: &'static [u8],
     behind: &'static [u8],
@@ -61,40 +60,54 @@ pub fn says(
     content: &[u8],
     assurance: Assurance,
     in_order: bool,
-) -> Result<bool, Fail> {
+) -> Result<bool, Memory> {
     let text = assertion(alloc, place, content)?;
-    let found = read_assertion(alloc, text.as_slice())?;
-    Ok(
-        found
-            == Assertion {
-                assurance,
-                in_order,
-                optional: false,
-            },
-    )
+    match read_assertion(alloc, text.as_slice()) {
+        Ok(found) => Ok(
+            found
+                == Assertion {
+                    assurance,
+                    in_order,
+                    optional: false,
+                },
+        ),
+        Err(_) => Ok(false),
+    }
 }
 
-/// Whether the assertion with these attributes is optional. It says nothing of deliveries.
-pub fn is_optional(alloc: Global, attributes: &[u8]) -> Result<bool, Fail> {
+/// Whether the assertion with these attributes is optional, where it is read and says nothing of deliveries.
+pub fn optional(alloc: Global, attributes: &[u8]) -> Result<Option<bool>, Memory> {
     let text = assertion(alloc, ATTRIBUTES, attributes)?;
-    let found = read_assertion(alloc, text.as_slice())?;
-    Ok(found.optional && found.assurance == Assurance::Unsaid)
+    match read_assertion(alloc, text.as_slice()) {
+        Ok(found) if found.assurance == Assurance::Unsaid => Ok(Some(found.optional)),
+        _ => Ok(None),
+    }
 }
 
 /// Whether the assertion with this at a place is malformed.
-pub fn is_malformed(alloc: Global, place: Place, content: &[u8]) -> Result<bool, Fail> {
-    let text = assertion(alloc, place, content)?;
-    Ok(matches!(
-        read_assertion(alloc, text.as_slice()),
-        Err(PolicyError::Malformed)
-    ))
-}
-
-/// The name of what asks for security in the assertion with this at a place.
-pub fn security(alloc: Global, place: Place, content: &[u8]) -> Result<Option<Blob>, Fail> {
+pub fn is_malformed(alloc: Global, place: Place, content: &[u8]) -> Result<bool, Memory> {
     let text = assertion(alloc, place, content)?;
     match read_assertion(alloc, text.as_slice()) {
-        Err(PolicyError::SecurityUnsupported { name }) => Ok(Some(name)),
-        _ => Ok(None),
+        Err(PolicyError::Malformed) => Ok(true),
+        _ => Ok(false),
+    }
+}
+
+/// How many of these are malformed at a place, before the first that isn't.
+pub fn count_malformed(alloc: Global, place: Place, rows: &[&[u8]]) -> Result<usize, Memory> {
+    for i in 0..rows.len() {
+        if !is_malformed(alloc, place, rows[i])? {
+            return Ok(i);
+        }
+    }
+    Ok(rows.len())
+}
+
+/// Whether this is the name of what asks for security in the assertion with this at a place.
+pub fn asks_by(alloc: Global, place: Place, content: &[u8], name: &[u8]) -> Result<bool, Memory> {
+    let text = assertion(alloc, place, content)?;
+    match read_assertion(alloc, text.as_slice()) {
+        Err(PolicyError::SecurityUnsupported { name: found }) => Ok(found.as_slice() == name),
+        _ => Ok(false),
     }
 }

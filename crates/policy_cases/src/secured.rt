@@ -1,86 +1,82 @@
 //! Assertions that ask for security of sequences.
-use crate::forms::{ASSERTION, POLICY, Place, is_malformed, security};
+use crate::forms::{ASSERTION, POLICY, Place, asks_by, count_malformed};
+use rm_base::Memory;
 use std::alloc::Global;
-use std::test::Fail;
 
-// Whether this is the name of what asks for security in the assertion with this at a place.
-fn asks_by(alloc: Global, place: Place, content: &[u8], name: &[u8]) -> Result<bool, Fail> {
-    match security(alloc, place, content)? {
-        Some(found) => Ok(found.as_slice() == name),
-        None => Ok(false),
+// What stands at a place, and the name of what asks for security there.
+type Row = (Place, &'static [u8], &'static [u8]);
+
+// How many rows hold before the first that doesn't.
+fn count_asking(alloc: Global, rows: &[Row]) -> Result<usize, Memory> {
+    for i in 0..rows.len() {
+        let (place, content, name) = rows[i];
+        if !asks_by(alloc, place, content, name)? {
+            return Ok(i);
+        }
     }
+    Ok(rows.len())
 }
 
+const TOKEN: &[u8] = b"SequenceSTR";
+
+const TRANSPORT: &[u8] = b"SequenceTransportSecurity";
+
+const NAMES: [Row; 6] = [
+    (POLICY, b"<p:SequenceSTR/>", TOKEN),
+    (POLICY, b"<p:SequenceTransportSecurity/>", TRANSPORT),
+    (
+        POLICY,
+        b"<p:SequenceSTR/><p:SequenceTransportSecurity/>",
+        TOKEN,
+    ),
+    (
+        POLICY,
+        b"<p:SequenceTransportSecurity/><p:SequenceSTR/>",
+        TRANSPORT,
+    ),
+    (
+        POLICY,
+        b"<o:SequenceSTR/> <p:SequenceTransportSecurity x='y'/>",
+        TRANSPORT,
+    ),
+    (ASSERTION, b"<v:Policy><p:SequenceSTR/></v:Policy>", TOKEN),
+];
+
 #[test]
-fn names(rt: HostRuntime) -> Result<(), Fail> {
-    let alloc = rt.alloc();
-    let token = b"SequenceSTR";
-    let transport = b"SequenceTransportSecurity";
-    assert!(rt; asks_by(alloc, POLICY, b"<p:SequenceSTR/>", token)?);
-    assert!(rt; asks_by(alloc, POLICY, b"<p:SequenceTransportSecurity/>", transport)?);
-    assert!(rt;
-        asks_by(
-            alloc,
-            POLICY,
-            b"<p:SequenceSTR/><p:SequenceTransportSecurity/>",
-            token
-        )?
-    );
-    assert!(rt;
-        asks_by(
-            alloc,
-            POLICY,
-            b"<p:SequenceTransportSecurity/><p:SequenceSTR/>",
-            transport
-        )?
-    );
-    assert!(rt;
-        asks_by(
-            alloc,
-            POLICY,
-            b"<o:SequenceSTR/> <p:SequenceTransportSecurity x='y'/>",
-            transport
-        )?
-    );
-    assert!(rt;
-        asks_by(
-            alloc,
-            ASSERTION,
-            b"<v:Policy><p:SequenceSTR/></v:Policy>",
-            token
-        )?
-    );
+fn names(rt: HostRuntime) -> Result<(), Memory> {
+    assert_eq!(rt; count_asking(rt.alloc(), &NAMES)?, NAMES.len());
     Ok(())
 }
 
+const BEHIND: &[u8] =
+    b"<p:DeliveryAssurance><w:Policy><p:AtMostOnce/></w:Policy></p:DeliveryAssurance><p:SequenceSTR/>";
+
 #[test]
-fn behind_a_delivery_assurance(rt: HostRuntime) -> Result<(), Fail> {
-    let alloc = rt.alloc();
-    let content =
-        b"<p:DeliveryAssurance><w:Policy><p:AtMostOnce/></w:Policy></p:DeliveryAssurance><p:SequenceSTR/>";
-    assert!(rt; asks_by(alloc, POLICY, content, b"SequenceSTR")?);
+fn behind_a_delivery_assurance(rt: HostRuntime) -> Result<(), Memory> {
+    assert!(rt; asks_by(rt.alloc(), POLICY, BEHIND, TOKEN)?);
     Ok(())
 }
 
+const IN_POLICY: [&[u8]; 3] = [
+    b"<p:SequenceSTR/><p:DeliveryAssurance/>",
+    b"<p:SequenceSTR/>x",
+    b"<p:SequenceTransportSecurity/><p:Other/>",
+];
+
+const IN_ASSERTION: [&[u8]; 2] = [
+    b"<w:Policy><p:SequenceSTR/></w:Policy><w:Policy/>",
+    b"<p:InOrder/><w:Policy><p:SequenceSTR/></w:Policy>",
+];
+
 #[test]
-fn malformed_comes_first(rt: HostRuntime) -> Result<(), Fail> {
-    let alloc = rt.alloc();
-    assert!(rt; is_malformed(alloc, POLICY, b"<p:SequenceSTR/><p:DeliveryAssurance/>")?);
-    assert!(rt; is_malformed(alloc, POLICY, b"<p:SequenceSTR/>x")?);
-    assert!(rt; is_malformed(alloc, POLICY, b"<p:SequenceTransportSecurity/><p:Other/>")?);
-    assert!(rt;
-        is_malformed(
-            alloc,
-            ASSERTION,
-            b"<w:Policy><p:SequenceSTR/></w:Policy><w:Policy/>"
-        )?
+fn malformed_comes_first(rt: HostRuntime) -> Result<(), Memory> {
+    assert_eq!(rt;
+        count_malformed(rt.alloc(), POLICY, &IN_POLICY)?,
+        IN_POLICY.len()
     );
-    assert!(rt;
-        is_malformed(
-            alloc,
-            ASSERTION,
-            b"<p:InOrder/><w:Policy><p:SequenceSTR/></w:Policy>"
-        )?
+    assert_eq!(rt;
+        count_malformed(rt.alloc(), ASSERTION, &IN_ASSERTION)?,
+        IN_ASSERTION.len()
     );
     Ok(())
 }

@@ -1,9 +1,10 @@
 //! Tests of rm_base: each call on its happy path, the tables of texts and limits, and calls that fail in mid-stream.
+//! What a test does stands in a helper that answers a plain value, since a test with many steps is slow to prove.
 ghost use Rattle.std.specs.Prelude.{◌≤◌, IfOk};
 
 use rm_base::{
     Blob, Bytes, Clock, Failed, Ident, Items, MAX_NUMBER, MemClock, MemConn, MemSink, MemSource,
-    NumberSet, Numbers, ReadError, RoomyItems, Sink, SinkError, Source, StdClock, StdSink,
+    Memory, NumberSet, Numbers, ReadError, RoomyItems, Sink, SinkError, Source, StdClock, StdSink,
     StdSource, TextError, Uri, is_message_number, numbered, push_decimal, push_hex, read_up_to,
     write_all,
 };
@@ -11,188 +12,268 @@ use std::alloc::Global;
 use std::io::{Error, ErrorKind, Read, Write};
 use std::test::Fail;
 
-#[test]
-fn a_blob_holds_what_was_pushed(rt: HostRuntime) -> Result<(), Fail> {
-    let mut blob = Blob::new(rt.alloc());
-    assert!(rt; blob.is_empty());
+const ABCDE: &[u8] = b"abcde";
+
+fn numbers_of(alloc: Global, all: &[u64]) -> Result<Numbers, Memory> {
+    let mut numbers = Numbers::new(alloc);
+    for number in all {
+        numbers.push(*number)?;
+    }
+    Ok(numbers)
+}
+
+// Whether a new blob is empty, and then holds what is pushed, as its copy does.
+fn pieces_join(alloc: Global) -> Result<bool, Memory> {
+    let mut blob = Blob::new(alloc);
+    let was_empty = blob.is_empty();
     for piece in ["abc", "", "de"] {
         blob.push_all(piece.as_bytes())?;
     }
-    assert_eq!(rt; blob.as_slice(), b"abcde".as_slice());
-    assert_eq!(rt; blob.copy()?.len(), 5);
-    let again = Blob::from_slice(rt.alloc(), blob.as_slice())?;
-    assert_eq!(rt; again.as_slice(), blob.as_slice());
-    let moved = Blob::from_vec(again.into_vec());
-    assert_eq!(rt; moved.as_slice(), blob.as_slice());
+    let len = blob.copy()?.len();
+    Ok(was_empty & (len == 5) & (blob.as_slice() == ABCDE))
+}
+
+// Whether a blob keeps these bytes, by way of a vector too.
+fn is_kept(alloc: Global, bytes: &[u8]) -> Result<bool, Memory> {
+    let blob = Blob::from_slice(alloc, bytes)?;
+    let is_so = blob.as_slice() == bytes;
+    let moved = Blob::from_vec(blob.into_vec());
+    Ok(is_so & (moved.as_slice() == bytes))
+}
+
+#[test]
+fn a_blob_holds_what_was_pushed(rt: HostRuntime) -> Result<(), Fail> {
+    assert!(rt; pieces_join(rt.alloc())?);
+    assert!(rt; is_kept(rt.alloc(), ABCDE)?);
     Ok(())
+}
+
+const KEPT: [usize; 6] = [0, 1, 21, 22, 23, 31];
+
+const ALL_BYTES: &[u8] = b"0123456789abcdefghijABCDEFGHIJ-";
+
+// Whether the first bytes of all are kept, and their copy is.
+fn front_is_kept(alloc: Global, len: usize) -> Result<bool, Memory> {
+    let part = ALL_BYTES.split_at(len.min(ALL_BYTES.len())).0;
+    let kept = Bytes::from_slice(alloc, part)?;
+    let is_so = (kept.len() == len) & (kept.is_empty() == (len == 0)) & (kept.as_slice() == part);
+    let again = kept.copy(alloc)?;
+    Ok(is_so & (again.as_slice() == part))
 }
 
 #[test]
 fn keeps_few_and_many(rt: HostRuntime) -> Result<(), Fail> {
-    let all = b"0123456789abcdefghijABCDEFGHIJ-";
     assert!(rt; Bytes::new().is_empty());
-    for len in [0, 1, 21, 22, 23, 31] {
-        let part = &all[..len];
-        let kept = Bytes::from_slice(rt.alloc(), part)?;
-        assert_eq!(rt; kept.as_slice(), part);
-        assert_eq!(rt; kept.len(), len);
-        assert_eq!(rt; kept.is_empty(), len == 0);
-        let again = kept.copy(rt.alloc())?;
-        assert_eq!(rt; again.as_slice(), part);
+    for len in &KEPT {
+        assert!(rt; front_is_kept(rt.alloc(), *len)?, "{len}");
     }
     Ok(())
 }
 
-#[test]
-fn a_list_holds_what_was_pushed(rt: HostRuntime) -> Result<(), Fail> {
-    let mut items = Items::new(rt.alloc());
-    assert!(rt; items.is_empty());
-    for item in ['a', 'b', 'c'] {
+const LETTERS: [char; 3] = ['a', 'b', 'c'];
+
+// Whether a new list is empty, and then holds what is pushed.
+fn letters_are_held(alloc: Global) -> Result<bool, Memory> {
+    let mut items = Items::new(alloc);
+    let was_empty = items.is_empty();
+    for item in LETTERS {
         items.push(item)?;
     }
-    assert_eq!(rt; items.len(), 3);
-    assert_eq!(rt; items.get(1), Some(&'b'));
-    assert_eq!(rt; items.get(3), None);
+    let ends = (items.get(1) == Some(&'b')) & (items.get(3) == None);
+    let is_so = was_empty & (items.len() == 3) & ends;
     let again = Items::from_vec(items.into_vec());
-    assert_eq!(rt; again.as_slice(), ['a', 'b', 'c'].as_slice());
+    Ok(is_so & (again.as_slice() == LETTERS.as_slice()))
+}
+
+#[test]
+fn a_list_holds_what_was_pushed(rt: HostRuntime) -> Result<(), Fail> {
+    assert!(rt; letters_are_held(rt.alloc())?);
     Ok(())
+}
+
+// Each number that is inserted in turn, and whether it is new.
+const INSERTED: [(u64, bool); 6] = [
+    (5, true),
+    (2, true),
+    (9, true),
+    (5, false),
+    (1, true),
+    (9, false),
+];
+
+const ASKED: [(u64, bool); 5] = [
+    (1, true),
+    (3, false),
+    (9, true),
+    (10, false),
+    (u64::MAX, false),
+];
+
+// Inserts each in turn. Whether that tells of each number whether it is new.
+fn tells_new_ones(numbers: &mut NumberSet) -> Result<bool, Memory> {
+    let mut is_so = numbers.is_empty() & (numbers.greatest() == 0);
+    for (number, is_new) in &INSERTED {
+        is_so &= numbers.insert(*number)? == *is_new;
+    }
+    Ok(is_so)
+}
+
+// Whether it holds what was inserted, once and rising.
+fn holds_inserted(numbers: &NumberSet) -> bool {
+    let is_so = (numbers.len() == 4) & (numbers.greatest() == 9);
+    is_so & (numbers.get(2) == Some(&5)) & (numbers.as_slice() == [1, 2, 5, 9].as_slice())
 }
 
 #[test]
 fn holds_each_number_once_and_rising(rt: HostRuntime) -> Result<(), Fail> {
     let mut numbers = NumberSet::new(rt.alloc());
-    assert!(rt; numbers.is_empty());
-    assert_eq!(rt; numbers.greatest(), 0);
-    for (number, is_new) in [
-        (5, true),
-        (2, true),
-        (9, true),
-        (5, false),
-        (1, true),
-        (9, false),
-    ] {
-        assert_eq!(rt; numbers.insert(number)?, is_new, "at {number}");
-    }
-    assert_eq!(rt; numbers.as_slice(), [1, 2, 5, 9].as_slice());
-    assert_eq!(rt; numbers.len(), 4);
-    assert_eq!(rt; numbers.get(2), Some(&5));
-    assert_eq!(rt; numbers.greatest(), 9);
-    for (number, is_there) in [
-        (1, true),
-        (3, false),
-        (9, true),
-        (10, false),
-        (u64::MAX, false),
-    ] {
-        assert_eq!(rt; numbers.has(number), is_there, "at {number}");
+    assert!(rt; tells_new_ones(&mut numbers)?);
+    assert!(rt; holds_inserted(&numbers));
+    for (number, is_there) in &ASKED {
+        assert!(rt; numbers.has(*number) == *is_there, "at {number}");
     }
     Ok(())
+}
+
+// A set of numbers from 1 on.
+fn set_of(alloc: Global, numbers: &[u64]) -> Result<NumberSet, Memory> {
+    let mut set = NumberSet::new(alloc);
+    for number in numbers {
+        set.insert((*number).max(1))?;
+    }
+    Ok(set)
+}
+
+// Whether a union is new once, and then has all.
+fn union_is_new_once(odd: &NumberSet, low: &NumberSet) -> Result<bool, Memory> {
+    let mut both = odd.copy()?;
+    let first = both.unite(low)?;
+    let second = both.unite(low)?;
+    let third = both.unite(odd)?;
+    Ok(first & !second & !third & (both.as_slice() == [1, 2, 3, 5, u64::MAX].as_slice()))
 }
 
 #[test]
 fn unites_two_sets(rt: HostRuntime) -> Result<(), Fail> {
-    let mut odd = NumberSet::new(rt.alloc());
-    let mut low = NumberSet::new(rt.alloc());
-    for number in [1, 3, 5, u64::MAX] {
-        odd.insert(number)?;
-    }
-    for number in [1, 2, 3] {
-        low.insert(number)?;
-    }
-    let mut both = odd.copy()?;
-    assert_eq!(rt; both.unite(&low)?, true);
-    assert_eq!(rt; both.unite(&low)?, false);
-    assert_eq!(rt; both.unite(&odd)?, false);
-    assert_eq!(rt; both.as_slice(), [1, 2, 3, 5, u64::MAX].as_slice());
+    let odd = set_of(rt.alloc(), &[1, 3, 5, u64::MAX])?;
+    let low = set_of(rt.alloc(), &[1, 2, 3])?;
+    assert!(rt; union_is_new_once(&odd, &low)?);
     Ok(())
+}
+
+const REFUSALS: [(&[u8], TextError); 6] = [
+    (b"", TextError::Empty),
+    (b" http://a/", TextError::NotText),
+    (b"http://a/\n", TextError::NotText),
+    (b"a\x00b", TextError::NotText),
+    (b"a\xEF\xBF\xBF", TextError::NotText),
+    (b"a\xFF", TextError::NotText),
+];
+
+// Whether the bytes are refused with this error, as an address and as an identifier.
+fn is_refused(alloc: Global, bytes: &[u8], error: TextError) -> bool {
+    let of_uri = Uri::from_slice(alloc, bytes).err();
+    let of_ident = Ident::from_slice(alloc, bytes).err();
+    (of_uri == Some(error)) & (of_ident == Some(error))
+}
+
+// Whether the bytes are kept, as an address and as an identifier.
+fn is_text(alloc: Global, bytes: &[u8]) -> Result<bool, TextError> {
+    let uri = Uri::from_slice(alloc, bytes)?;
+    let ident = Ident::from_slice(alloc, bytes)?;
+    Ok((uri.as_slice() == bytes) & (ident.as_slice() == bytes))
 }
 
 #[test]
 fn addresses(rt: HostRuntime) -> Result<(), Fail> {
-    let alloc = rt.alloc();
-    let refusals: [(&[u8], TextError); 6] = [
-        (b"", TextError::Empty),
-        (b" http://a/", TextError::NotText),
-        (b"http://a/\n", TextError::NotText),
-        (b"a\x00b", TextError::NotText),
-        (b"a\xEF\xBF\xBF", TextError::NotText),
-        (b"a\xFF", TextError::NotText),
-    ];
-    for (bytes, error) in refusals {
-        assert_eq!(rt; Uri::from_slice(alloc, bytes).err(), Some(error));
-        assert_eq!(rt; Ident::from_slice(alloc, bytes).err(), Some(error));
+    for (bytes, error) in &REFUSALS {
+        assert!(rt; is_refused(rt.alloc(), bytes, *error), "{bytes:?}");
     }
-    let text = "urn:\u{20AC} 1";
-    assert_eq!(rt;
-        Uri::from_slice(alloc, text.as_bytes())?.as_slice(),
-        text.as_bytes()
-    );
-    assert_eq!(rt;
-        Ident::from_slice(alloc, text.as_bytes())?.as_slice(),
-        text.as_bytes()
-    );
+    assert!(rt; is_text(rt.alloc(), "urn:\u{20AC} 1".as_bytes())?);
     Ok(())
 }
 
+fn repeated(alloc: Global, piece: &[u8], count: usize) -> Result<Blob, Memory> {
+    let mut bytes = Blob::new(alloc);
+    for _ in 0..count {
+        bytes.push_all(piece)?;
+    }
+    Ok(bytes)
+}
+
+// How many bytes an address of so many has.
+fn uri_len(alloc: Global, len: usize) -> Result<usize, TextError> {
+    let bytes = repeated(alloc, b"a", len)?;
+    let uri = Uri::from_slice(alloc, bytes.as_slice())?;
+    Ok(uri.as_slice().len())
+}
+
+// How many bytes an identifier of so many has.
+fn ident_len(alloc: Global, len: usize) -> Result<usize, TextError> {
+    let bytes = repeated(alloc, b"a", len)?;
+    let ident = Ident::from_slice(alloc, bytes.as_slice())?;
+    Ok(ident.as_slice().len())
+}
+
 #[test]
-fn limits(rt: HostRuntime) -> Result<(), Fail> {
-    let alloc = rt.alloc();
-    let bytes = vec![in alloc; b'a'; 2049]?;
-    assert_eq!(rt; bytes.len(), 2049);
-    assert_eq!(rt;
-        Uri::from_slice(alloc, &bytes).err(),
-        Some(TextError::TooLong { len: 2049 })
-    );
-    assert_eq!(rt;
-        Uri::from_slice(alloc, &bytes[..2048])?.as_slice().len(),
-        2048
-    );
-    assert_eq!(rt;
-        Ident::from_slice(alloc, &bytes[..513]).err(),
-        Some(TextError::TooLong { len: 513 })
-    );
-    assert_eq!(rt;
-        Ident::from_slice(alloc, &bytes[..512])?.as_slice().len(),
-        512
-    );
-    Ok(())
+fn limits(rt: HostRuntime) {
+    let too_long = TextError::TooLong { len: 2049 };
+    assert!(rt; uri_len(rt.alloc(), 2049) == Err(too_long));
+    assert!(rt; uri_len(rt.alloc(), 2048) == Ok(2048));
+    let too_long = TextError::TooLong { len: 513 };
+    assert!(rt; ident_len(rt.alloc(), 513) == Err(too_long));
+    assert!(rt; ident_len(rt.alloc(), 512) == Ok(512));
+}
+
+// What each read gives in turn, and what then stands in the place read to.
+const READS: [(Result<usize, Failed>, &[u8]); 4] = [
+    (Ok(3), b"abc"),
+    (Err(Failed), b"abc"),
+    (Ok(2), b"dec"),
+    (Ok(0), b"dec"),
+];
+
+// Whether a source of five bytes, whose second call fails, is read so.
+fn reads_are_so(alloc: Global) -> Result<bool, Memory> {
+    let bytes = Blob::from_slice(alloc, ABCDE)?;
+    let mut source = MemSource::new(bytes, numbers_of(alloc, &[2])?);
+    let mut piece = [0; 3];
+    let mut is_so = true;
+    for (count, front) in &READS {
+        is_so &= source.read(&mut piece) == *count;
+        is_so &= piece.as_slice() == *front;
+    }
+    Ok(is_so)
 }
 
 #[test]
 fn reads_fail_at_their_numbers(rt: HostRuntime) -> Result<(), Fail> {
-    let mut fail_at = Numbers::new(rt.alloc());
-    fail_at.push(2)?;
-    let mut source = MemSource::new(Blob::from_slice(rt.alloc(), b"abcde")?, fail_at);
-    let mut piece = [0; 3];
-    for (count, front) in [
-        (Ok(3), "abc"),
-        (Err(Failed), "abc"),
-        (Ok(2), "dec"),
-        (Ok(0), "dec"),
-    ] {
-        assert_eq!(rt; source.read(&mut piece), count, "before {front}");
-        assert_eq!(rt; piece.as_slice(), front.as_bytes());
-    }
+    assert!(rt; reads_are_so(rt.alloc())?);
     Ok(())
+}
+
+// What is written in turn, and what each write gives.
+const WRITES: [(&[u8], Result<usize, SinkError>); 5] = [
+    (b"a", Err(SinkError::Failed)),
+    (b"bc", Ok(2)),
+    (b"d", Err(SinkError::Failed)),
+    (b"", Ok(0)),
+    (b"e", Ok(1)),
+];
+
+// Whether a sink whose calls of these numbers fail is written so.
+fn writes_are_so(alloc: Global, fail_at: &[u64]) -> Result<bool, Memory> {
+    let mut sink = MemSink::new(alloc, numbers_of(alloc, fail_at)?);
+    let mut is_so = true;
+    for (piece, count) in &WRITES {
+        is_so &= sink.write(piece) == *count;
+    }
+    Ok(is_so & (sink.as_slice() == b"bce".as_slice()))
 }
 
 #[test]
 fn writes_fail_at_their_numbers(rt: HostRuntime) -> Result<(), Fail> {
-    let mut fail_at = Numbers::new(rt.alloc());
-    fail_at.push(1)?;
-    fail_at.push(3)?;
-    let mut sink = MemSink::new(rt.alloc(), fail_at);
-    let failed = Err(SinkError::Failed);
-    for (piece, count) in [
-        ("a", failed),
-        ("bc", Ok(2)),
-        ("d", failed),
-        ("", Ok(0)),
-        ("e", Ok(1)),
-    ] {
-        assert_eq!(rt; sink.write(piece.as_bytes()), count, "at {piece}");
-    }
-    assert_eq!(rt; sink.as_slice(), b"bce".as_slice());
+    assert!(rt; writes_are_so(rt.alloc(), &[1, 3])?);
     Ok(())
 }
 
@@ -231,185 +312,243 @@ impl Write for Worn {
     }
 }
 
+// Whether all bytes of a reader come.
+fn a_reader_is_read(alloc: Global) -> Result<bool, ReadError> {
+    let mut source = StdSource::new(ABCDE);
+    let bytes = read_up_to(alloc, &mut source, 5)?;
+    Ok(bytes.as_slice() == ABCDE)
+}
+
+// Whether a writer gets all bytes.
+fn a_writer_is_written(alloc: Global) -> Result<bool, SinkError> {
+    let mut written = Vec::new(alloc);
+    write_all(&mut StdSink::new(&mut written), ABCDE)?;
+    Ok(written.as_slice() == ABCDE)
+}
+
 #[test]
 fn hands_on_what_a_reader_and_a_writer_do(rt: HostRuntime) -> Result<(), Fail> {
-    let mut source = StdSource::new(b"abcde".as_slice());
-    assert_eq!(rt;
-        read_up_to(rt.alloc(), &mut source, 5)?.as_slice(),
-        b"abcde".as_slice()
-    );
-    let mut written = Vec::new(rt.alloc());
-    write_all(&mut StdSink::new(&mut written), b"abcde")?;
-    assert_eq!(rt; written.as_slice(), b"abcde".as_slice());
+    assert!(rt; a_reader_is_read(rt.alloc())?);
+    assert!(rt; a_writer_is_written(rt.alloc())?);
     Ok(())
+}
+
+// What a call on the worn reader and writer moves in turn.
+const MOVED: [Option<usize>; 4] = [Some(2), Some(2), None, Some(2)];
+
+fn worn_reads_are_so() -> bool {
+    let mut source = StdSource::new(Worn { calls: 0 });
+    let mut piece = [0; 5];
+    let mut is_so = true;
+    for moved in &MOVED {
+        is_so &= source.read(&mut piece).ok() == *moved;
+    }
+    is_so
+}
+
+fn worn_writes_are_so() -> bool {
+    let mut sink = StdSink::new(Worn { calls: 0 });
+    let mut is_so = true;
+    for moved in &MOVED {
+        is_so &= sink.write(&[0; 5]).ok() == *moved;
+    }
+    is_so
+}
+
+// Whether the first four bytes are all written in two calls, and the next fails.
+fn a_whole_is_written_until_it_fails() -> bool {
+    let mut whole = StdSink::new(Worn { calls: 0 });
+    let first = write_all(&mut whole, b"abcd");
+    let second = write_all(&mut whole, b"abc");
+    (first == Ok(())) & (second == Err(SinkError::Failed))
 }
 
 #[test]
 fn answers_a_fault_for_an_error(rt: HostRuntime) {
-    let mut source = StdSource::new(Worn { calls: 0 });
-    let mut sink = StdSink::new(Worn { calls: 0 });
-    let mut piece = [0; 5];
-    for moved in [Some(2), Some(2), None, Some(2)] {
-        assert_eq!(rt; source.read(&mut piece).ok(), moved);
-        assert_eq!(rt; sink.write(&piece).ok(), moved);
-    }
-    let mut whole = StdSink::new(Worn { calls: 0 });
-    assert_eq!(rt; write_all(&mut whole, b"abcd"), Ok(()));
-    assert_eq!(rt;
-        write_all(&mut whole, b"abc").err(),
-        Some(SinkError::Failed)
-    );
+    assert!(rt; worn_reads_are_so());
+    assert!(rt; worn_writes_are_so());
+    assert!(rt; a_whole_is_written_until_it_fails());
 }
 
-// Reads so many sevens up to a limit from a source of which one call fails, or none.
-fn read_sevens(
-    alloc: Global,
-    len: u16,
-    limit: u16,
-    failing: Option<u8>,
-) -> Result<Blob, ReadError> {
-    let mut bytes = Blob::new(alloc);
-    for _ in 0..len {
-        bytes.push_all(b"7")?;
+// How many sevens are read up to a limit from a source of so many, of which the calls of these numbers fail.
+fn read_sevens(alloc: Global, len: u16, limit: u16, fail_at: &[u64]) -> Result<usize, ReadError> {
+    let bytes = repeated(alloc, b"7", usize::from(len))?;
+    let mut source = MemSource::new(bytes, numbers_of(alloc, fail_at)?);
+    let sevens = read_up_to(alloc, &mut source, usize::from(limit))?;
+    Ok(sevens.len())
+}
+
+// How many bytes there are, the limit, the calls that fail, and the error.
+const SEVENS: [(u16, u16, &[u64], Option<ReadError>); 10] = [
+    (0, 0, &[], None),
+    (1, 0, &[], Some(ReadError::TooLong)),
+    (5, 5, &[], None),
+    (5, 4, &[], Some(ReadError::TooLong)),
+    (5, 5, &[1], Some(ReadError::Failed)),
+    (5, 5, &[2], Some(ReadError::Failed)),
+    (5, 4, &[2], Some(ReadError::TooLong)),
+    (8193, 8193, &[], None),
+    (8193, 8192, &[], Some(ReadError::TooLong)),
+    (8193, 8193, &[2], Some(ReadError::Failed)),
+];
+
+// Whether all sevens are read, or reading them fails with this error.
+fn is_read_so(alloc: Global, row: &(u16, u16, &[u64], Option<ReadError>)) -> bool {
+    let (len, limit, fail_at, error) = row;
+    match read_sevens(alloc, *len, *limit, fail_at) {
+        Ok(count) => (count == usize::from(*len)) & error.is_none(),
+        Err(e) => *error == Some(e),
     }
-    let mut fail_at = Numbers::new(alloc);
-    if let Some(before) = failing {
-        fail_at.push(u64::from(before) + 1)?;
-    }
-    read_up_to(
-        alloc,
-        &mut MemSource::new(bytes, fail_at),
-        usize::from(limit),
-    )
 }
 
 #[test]
 fn reads_up_to_the_limit(rt: HostRuntime) {
-    // how many bytes there are, the limit, how many calls succeed before one fails, and the error
-    let cases = [
-        (0, 0, None, None),
-        (1, 0, None, Some(ReadError::TooLong)),
-        (5, 5, None, None),
-        (5, 4, None, Some(ReadError::TooLong)),
-        (5, 5, Some(0), Some(ReadError::Failed)),
-        (5, 5, Some(1), Some(ReadError::Failed)),
-        (5, 4, Some(1), Some(ReadError::TooLong)),
-        (8193, 8193, None, None),
-        (8193, 8192, None, Some(ReadError::TooLong)),
-        (8193, 8193, Some(1), Some(ReadError::Failed)),
-    ];
-    for (len, limit, failing, error) in cases {
-        match read_sevens(rt.alloc(), len, limit, failing) {
-            Ok(bytes) => {
-                assert_eq!(rt; bytes.len(), usize::from(len));
-                assert_eq!(rt; None, error, "of {len} up to {limit}");
-            }
-            Err(e) => assert_eq!(rt; Some(e), error, "of {len} up to {limit}"),
-        }
+    for row in &SEVENS {
+        assert!(rt; is_read_so(rt.alloc(), row), "of {} up to {}", row.0, row.1);
     }
+}
+
+// Whether a sink whose call of this number fails is written so.
+fn stops_at_two(sink: &mut MemSink) -> Result<bool, SinkError> {
+    write_all(sink, b"abc")?;
+    write_all(sink, b"")?;
+    let second = write_all(sink, b"de");
+    write_all(sink, b"f")?;
+    Ok((second == Err(SinkError::Failed)) & (sink.as_slice() == b"abcf".as_slice()))
 }
 
 #[test]
 fn stops_at_a_write_that_fails(rt: HostRuntime) -> Result<(), Fail> {
-    let mut fail_at = Numbers::new(rt.alloc());
-    fail_at.push(2)?;
-    let mut sink = MemSink::new(rt.alloc(), fail_at);
-    write_all(&mut sink, b"abc")?;
-    write_all(&mut sink, b"")?;
-    assert_eq!(rt; write_all(&mut sink, b"de"), Err(SinkError::Failed));
-    write_all(&mut sink, b"f")?;
-    assert_eq!(rt; sink.as_slice(), b"abcf".as_slice());
+    let mut sink = MemSink::new(rt.alloc(), numbers_of(rt.alloc(), &[2])?);
+    assert!(rt; stops_at_two(&mut sink)?);
     Ok(())
+}
+
+// Whether a new list is empty, and then holds what is pushed.
+fn room_is_made(alloc: Global) -> Result<bool, Memory> {
+    let mut items = RoomyItems::new(alloc);
+    let was_empty = items.is_empty();
+    items.reserve(2)?;
+    items.push(7)?;
+    items.push(9)?;
+    let is_so = was_empty & (items.len() == 2) & (items.get(1) == Some(&9));
+    let is_numbered = (items.item(1) == Some(&7)) & (items.item(0) == None);
+    let again = RoomyItems::from_vec(items.into_vec());
+    Ok(is_so & is_numbered & (again.as_slice() == [7, 9].as_slice()))
 }
 
 #[test]
 fn a_roomy_list_makes_room(rt: HostRuntime) -> Result<(), Fail> {
-    let mut items = RoomyItems::new(rt.alloc());
-    assert!(rt; items.is_empty());
-    items.reserve(2)?;
-    items.push(7)?;
-    items.push(9)?;
-    assert_eq!(rt; items.len(), 2);
-    assert_eq!(rt; items.get(1), Some(&9));
-    assert_eq!(rt; items.item(1), Some(&7));
-    assert_eq!(rt; items.item(0), None);
-    let again = RoomyItems::from_vec(items.into_vec());
-    assert_eq!(rt; again.as_slice(), [7, 9].as_slice());
+    assert!(rt; room_is_made(rt.alloc())?);
     Ok(())
+}
+
+const NUMBERED: [(u64, Option<char>); 5] = [
+    (0, None),
+    (1, Some('a')),
+    (2, Some('b')),
+    (3, None),
+    (u64::MAX, None),
+];
+
+// Whether the first item of a list has the number 1.
+fn first_is_one(alloc: Global) -> Result<bool, Memory> {
+    let mut list = Items::new(alloc);
+    list.push('a')?;
+    Ok(list.item(1) == Some(&'a'))
+}
+
+// Whether this is the item of this number, of two.
+fn is_numbered(number: u64, item: Option<char>) -> bool {
+    numbered(['a', 'b'].as_slice(), number).copied() == item
 }
 
 #[test]
 fn items_are_numbered_from_one(rt: HostRuntime) -> Result<(), Fail> {
-    let items = ['a', 'b'].as_slice();
-    for (number, item) in [
-        (0, None),
-        (1, Some('a')),
-        (2, Some('b')),
-        (3, None),
-        (u64::MAX, None),
-    ] {
-        assert_eq!(rt; numbered(items, number).copied(), item, "at {number}");
+    for (number, item) in &NUMBERED {
+        assert!(rt; is_numbered(*number, *item), "at {number}");
     }
-    let mut list = Items::new(rt.alloc());
-    list.push('a')?;
-    assert_eq!(rt; list.item(1), Some(&'a'));
+    assert!(rt; first_is_one(rt.alloc())?);
     Ok(())
+}
+
+const MESSAGE_NUMBERS: [(u64, bool); 4] = [
+    (0, false),
+    (1, true),
+    (9223372036854775807, true),
+    (9223372036854775808, false),
+];
+
+// Whether a number is told to be a message number, or to be none.
+fn is_told(number: u64, may_be: bool) -> bool {
+    is_message_number(number) == may_be
 }
 
 #[test]
 fn message_numbers(rt: HostRuntime) {
-    let numbers = [
-        (0, false),
-        (1, true),
-        (9223372036854775807, true),
-        (9223372036854775808, false),
-    ];
-    for (number, may_be) in numbers {
-        assert_eq!(rt; is_message_number(number), may_be, "at {number}");
+    for (number, may_be) in &MESSAGE_NUMBERS {
+        assert!(rt; is_told(*number, *may_be), "at {number}");
     }
-    assert_eq!(rt; MAX_NUMBER, 9223372036854775807);
+    assert!(rt; MAX_NUMBER == 9223372036854775807);
 }
 
-#[test]
-fn digits(rt: HostRuntime) -> Result<(), Fail> {
-    let mut out = Blob::new(rt.alloc());
+// Two numbers in decimal digits and three bytes in hexadecimal ones.
+fn written_digits(alloc: Global) -> Result<Blob, Memory> {
+    let mut out = Blob::new(alloc);
     push_decimal(&mut out, 0)?;
     out.push_all(b" ")?;
     push_decimal(&mut out, 18446744073709551615)?;
     out.push_all(b" ")?;
     push_hex(&mut out, b"\x00<\xff")?;
-    assert_eq!(rt; out.as_slice(), b"0 18446744073709551615 003cff".as_slice());
+    Ok(out)
+}
+
+const DIGITS: &[u8] = b"0 18446744073709551615 003cff";
+
+#[test]
+fn digits(rt: HostRuntime) -> Result<(), Fail> {
+    assert!(rt; written_digits(rt.alloc())?.as_slice() == DIGITS);
     Ok(())
+}
+
+// The first calls on a connection of five bytes, whose calls 3 and 4 fail. Whether they come out right.
+fn calls_are_so(conn: &mut MemConn) -> bool {
+    let mut piece = [0; 2];
+    let mut is_so = conn.read(&mut piece) == Ok(2);
+    is_so &= conn.write(b"xy") == Ok(2);
+    is_so &= conn.write(b"z") == Err(SinkError::Failed);
+    is_so &= conn.read(&mut piece) == Err(Failed);
+    is_so &= conn.read(&mut piece) == Ok(2);
+    is_so & (piece.as_slice() == b"cd".as_slice())
+}
+
+// Whether the calls after those do.
+fn later_calls_are_so(alloc: Global, conn: &mut MemConn) -> Result<bool, ReadError> {
+    let mut is_so = conn.write(b"z") == Ok(1);
+    is_so &= conn.written() == b"xyz".as_slice();
+    let rest = read_up_to(alloc, conn, 9)?;
+    Ok(is_so & (rest.as_slice() == b"e".as_slice()))
 }
 
 #[test]
 fn both_sides_of_a_connection_are_numbered_together(rt: HostRuntime) -> Result<(), Fail> {
-    let mut fail_at = Numbers::new(rt.alloc());
-    for number in [4, 3, 3] {
-        fail_at.push(number)?;
-    }
-    let mut conn = MemConn::new(rt.alloc(), Blob::from_slice(rt.alloc(), b"abcde")?, fail_at);
-    let mut piece = [0; 2];
-    assert_eq!(rt; conn.read(&mut piece), Ok(2));
-    assert_eq!(rt; conn.write(b"xy"), Ok(2));
-    assert_eq!(rt; conn.write(b"z"), Err(SinkError::Failed));
-    assert_eq!(rt; conn.read(&mut piece), Err(Failed));
-    assert_eq!(rt; conn.read(&mut piece), Ok(2));
-    assert_eq!(rt; piece.as_slice(), b"cd".as_slice());
-    assert_eq!(rt; conn.write(b"z"), Ok(1));
-    assert_eq!(rt; conn.written(), b"xyz".as_slice());
-    assert_eq!(rt;
-        read_up_to(rt.alloc(), &mut conn, 9)?.as_slice(),
-        b"e".as_slice()
-    );
+    let fail_at = numbers_of(rt.alloc(), &[4, 3, 3])?;
+    let mut conn = MemConn::new(rt.alloc(), Blob::from_slice(rt.alloc(), ABCDE)?, fail_at);
+    assert!(rt; calls_are_so(&mut conn));
+    assert!(rt; later_calls_are_so(rt.alloc(), &mut conn)?);
     Ok(())
+}
+
+// Whether a clock in memory stands still.
+fn stands_still() -> bool {
+    let mut still = MemClock::new(1700000000000);
+    let first = still.now();
+    (first == 1700000000000) & (still.now() == first)
 }
 
 #[test]
 fn clocks(rt: HostRuntime) {
-    let mut still = MemClock::new(1700000000000);
-    assert_eq!(rt; still.now(), 1700000000000);
-    assert_eq!(rt; still.now(), 1700000000000);
+    assert!(rt; stands_still());
     // The system's clock stands after 2020.
     let now = StdClock::new(&rt).now();
     assert!(rt; 1577836800000 < now, "at {now}");

@@ -1,11 +1,12 @@
 //! Tests of a disk in memory.
 
 use rm_disk::{CrashDisk, Disk, MemDisk};
+use rm_journal::JournalError;
 use std::alloc::Global;
 use std::test::Fail;
 
 // All that a read gives.
-fn bytes_of(alloc: Global, disk: &mut MemDisk) -> Result<Vec<u8>, Fail> {
+pub fn bytes_of(alloc: Global, disk: &mut MemDisk) -> Result<Vec<u8>, JournalError> {
     let len = disk.len()?;
     let mut bytes = vec![in alloc; 0; len as usize]?;
     disk.read(0, &mut bytes)?;
@@ -13,7 +14,7 @@ fn bytes_of(alloc: Global, disk: &mut MemDisk) -> Result<Vec<u8>, Fail> {
 }
 
 // Whether the write went well; one past the end isn't tried.
-fn put(disk: &mut MemDisk, at: u64, bytes: &[u8]) -> Result<bool, Fail> {
+fn put(disk: &mut MemDisk, at: u64, bytes: &[u8]) -> Result<bool, JournalError> {
     disk.reserve(1, bytes.len() as u64)?;
     let len = disk.len()?;
     if at > len {
@@ -22,7 +23,7 @@ fn put(disk: &mut MemDisk, at: u64, bytes: &[u8]) -> Result<bool, Fail> {
     Ok(disk.write_at(at, bytes).is_ok())
 }
 
-fn cut(disk: &mut MemDisk, to: u64) -> Result<bool, Fail> {
+fn cut(disk: &mut MemDisk, to: u64) -> Result<bool, JournalError> {
     disk.reserve(1, 0)?;
     let len = disk.len()?;
     if to > len {
@@ -31,63 +32,73 @@ fn cut(disk: &mut MemDisk, to: u64) -> Result<bool, Fail> {
     Ok(disk.cut(to).is_ok())
 }
 
-fn sync(disk: &mut MemDisk) -> Result<bool, Fail> {
+fn sync(disk: &mut MemDisk) -> Result<bool, JournalError> {
     disk.reserve(1, 0)?;
     Ok(disk.sync().is_ok())
 }
 
+// Whether there is nothing on a disk after a crash.
+fn has_no_bytes(disk: &mut MemDisk) -> Result<bool, JournalError> {
+    let is_room = disk.reserve(1, 1).is_ok();
+    disk.crash(0)?;
+    Ok(is_room & (disk.len() == Ok(0)))
+}
+
 #[test]
 fn a_new_disk_has_no_bytes(rt: HostRuntime) -> Result<(), Fail> {
-    let alloc = rt.alloc();
-    let mut disk = MemDisk::new(alloc);
-    assert!(rt; disk.reserve(1, 1).is_ok());
-    disk.crash(0)?;
-    assert_eq!(rt; disk.len()?, 0);
+    assert!(rt; has_no_bytes(&mut MemDisk::new(rt.alloc()))?);
     Ok(())
 }
 
 // Four bytes are on the disk, and then one of them is written over, one is added and two are cut off.
+fn changes(disk: &mut MemDisk) -> Result<bool, JournalError> {
+    let mut is_so = put(disk, 0, &[10, 11, 12, 13])?;
+    is_so &= sync(disk)?;
+    is_so &= put(disk, 1, &[21])?;
+    is_so &= put(disk, 4, &[24])?;
+    Ok(is_so & cut(disk, 3)?)
+}
+
+// Whether a crash by this choice, after those changes, leaves these bytes.
+fn leaves(alloc: Global, choice: u8, left: &[u8]) -> Result<bool, JournalError> {
+    let mut disk = MemDisk::new(alloc);
+    let is_so = changes(&mut disk)?;
+    disk.crash(choice.min(3))?;
+    Ok(is_so & (bytes_of(alloc, &mut disk)?.as_slice() == left))
+}
+
+// What each choice of a crash leaves.
+const LEFT: [(u8, &[u8]); 4] = [
+    (0, &[10, 11, 12, 13]),
+    (1, &[10, 21, 12]),
+    (2, &[10, 1, 12, 1, 1]),
+    (3, &[10, 0, 12]),
+];
+
 #[test]
 fn each_choice_of_a_crash(rt: HostRuntime) -> Result<(), Fail> {
-    let alloc = rt.alloc();
-    let table: [(u8, &[u8]); 4] = [
-        (0, &[10, 11, 12, 13]),
-        (1, &[10, 21, 12]),
-        (2, &[10, 1, 12, 1, 1]),
-        (3, &[10, 0, 12]),
-    ];
-    for (choice, left) in table {
-        let mut disk = MemDisk::new(alloc);
-        assert!(rt; put(&mut disk, 0, &[10, 11, 12, 13])?);
-        assert!(rt; sync(&mut disk)?);
-        assert!(rt; put(&mut disk, 1, &[21])?);
-        assert!(rt; put(&mut disk, 4, &[24])?);
-        assert!(rt; cut(&mut disk, 3)?);
-        if choice <= 3 {
-            disk.crash(choice)?;
-        }
-        assert_eq!(rt;
-            bytes_of(alloc, &mut disk)?.as_slice(),
-            left,
-            "choice {choice}"
-        );
+    for (choice, left) in &LEFT {
+        assert!(rt; leaves(rt.alloc(), *choice, left)?, "choice {choice}");
     }
     Ok(())
 }
 
 // The second call from `arm` on fails and changes nothing that is read, and so does each after it.
-#[test]
-fn an_armed_disk_fails_until_a_crash(rt: HostRuntime) -> Result<(), Fail> {
-    let alloc = rt.alloc();
-    let mut disk = MemDisk::new(alloc);
-    assert!(rt; put(&mut disk, 0, &[1, 2])?);
+fn fails_from_the_second_on(disk: &mut MemDisk) -> Result<bool, JournalError> {
     disk.reserve(1, 1)?;
     disk.arm(2);
-    assert!(rt; disk.sync().is_ok());
-    assert!(rt; disk.len().is_err());
+    let is_synced = disk.sync().is_ok();
+    let fails = disk.len().is_err();
     disk.arm(9);
-    assert!(rt; disk.len().is_err());
+    Ok(is_synced & fails & disk.len().is_err())
+}
+
+#[test]
+fn an_armed_disk_fails_until_a_crash(rt: HostRuntime) -> Result<(), Fail> {
+    let mut disk = MemDisk::new(rt.alloc());
+    assert!(rt; put(&mut disk, 0, &[1, 2])?);
+    assert!(rt; fails_from_the_second_on(&mut disk)?);
     disk.crash(2)?;
-    assert_eq!(rt; bytes_of(alloc, &mut disk)?.as_slice(), [1, 2].as_slice());
+    assert!(rt; bytes_of(rt.alloc(), &mut disk)?.as_slice() == [1, 2].as_slice());
     Ok(())
 }

@@ -1,5 +1,6 @@
 //! Tests of a journal on a disk in memory.
 
+use crate::disk::bytes_of;
 use rm_disk::{CrashDisk, Disk, MemDisk};
 use rm_journal::{Journal, JournalError};
 use std::alloc::Global;
@@ -9,164 +10,194 @@ const ONE_ENTRY: [u8; 16] = [
     0x57, 0x53, 0x52, 0x4d, 0x4a, 0x4e, 0x4c, 0x31, 0x01, 0x00, 0x00, 0x00, 0x02, 0x61, 0x62, 0x00,
 ];
 
-// All that a read gives.
-fn bytes_of(alloc: Global, disk: &mut MemDisk) -> Result<Vec<u8>, Fail> {
-    let len = disk.len()?;
-    let mut bytes = vec![in alloc; 0; len as usize]?;
-    disk.read(0, &mut bytes)?;
-    Ok(bytes)
-}
-
 // A disk with these bytes.
-fn disk_of(alloc: Global, bytes: &[u8]) -> Result<MemDisk, Fail> {
+fn disk_of(alloc: Global, bytes: &[u8]) -> Result<MemDisk, JournalError> {
     let mut disk = MemDisk::new(alloc);
     disk.reserve(1, bytes.len() as u64)?;
     disk.write_at(0, bytes)?;
     Ok(disk)
 }
 
-// Mounts the disk and adds an entry: the answer, and the journal.
+// What a new journal counts, where it ends and how much room it has.
+fn new_journal(alloc: Global, disk: &mut MemDisk) -> Result<(u64, u64, u64), JournalError> {
+    let journal = Journal::format(alloc, disk)?;
+    Ok((journal.count(), journal.end(), journal.room()))
+}
+
+// Mounts the disk and adds an entry: the answer, and where the journal ends then, or None where it is down.
 fn add(
     alloc: Global,
     disk: &mut MemDisk,
     entry: &[u8],
-) -> Result<(Journal, Result<(), JournalError>), Fail> {
+) -> Result<(Result<(), JournalError>, Option<u64>), JournalError> {
     let mut journal = Journal::mount(alloc, disk)?;
     let answer = journal.append(disk, entry);
-    Ok((journal, answer))
+    let end = if journal.is_down() {
+        None
+    } else {
+        Some(journal.end())
+    };
+    Ok((answer, end))
 }
 
-// Mounts the disk and reads an entry, counted from 1.
-fn entry_at(alloc: Global, disk: &mut MemDisk, i: u64) -> Result<Vec<u8>, Fail> {
+// Whether an entry is added so that the journal ends here.
+fn adds(alloc: Global, disk: &mut MemDisk, entry: &[u8], at: u64) -> Result<bool, JournalError> {
+    let (answer, end) = add(alloc, disk, entry)?;
+    Ok((answer == Ok(())) & (end == Some(at)))
+}
+
+// Whether the disk, mounted, has this entry of this number.
+fn has_entry(
+    alloc: Global,
+    disk: &mut MemDisk,
+    i: u64,
+    entry: &[u8],
+) -> Result<bool, JournalError> {
     let mut journal = Journal::mount(alloc, disk)?;
     if i == 0 || i > journal.count() {
-        return Ok(Vec::new(alloc));
+        return Ok(false);
     }
-    let blob = journal.entry(disk, i)?;
-    Ok(Vec::from_slice(alloc, blob.as_slice())?)
+    Ok(journal.entry(disk, i)?.as_slice() == entry)
 }
 
 #[test]
 fn one_entry(rt: HostRuntime) -> Result<(), Fail> {
-    let alloc = rt.alloc();
-    let mut disk = MemDisk::new(alloc);
-    let empty = Journal::format(alloc, &mut disk)?;
-    assert_eq!(rt; empty.count(), 0);
-    assert_eq!(rt; empty.end(), 8);
-    assert_eq!(rt; empty.room(), 268435442);
-    let (journal, answer) = add(alloc, &mut disk, b"ab")?;
-    assert_eq!(rt; answer, Ok(()));
-    assert_eq!(rt; journal.end(), 15);
-    assert!(rt; !journal.is_down());
-    assert_eq!(rt;
-        bytes_of(alloc, &mut disk)?.as_slice(),
-        ONE_ENTRY.as_slice()
-    );
-    assert_eq!(rt; entry_at(alloc, &mut disk, 1)?.as_slice(), b"ab".as_slice());
+    let mut disk = MemDisk::new(rt.alloc());
+    assert!(rt; new_journal(rt.alloc(), &mut disk)? == (0, 8, 268435442));
+    assert!(rt; adds(rt.alloc(), &mut disk, b"ab", 15)?);
+    assert!(rt; bytes_of(rt.alloc(), &mut disk)?.as_slice() == ONE_ENTRY.as_slice());
+    assert!(rt; has_entry(rt.alloc(), &mut disk, 1, b"ab")?);
     Ok(())
 }
+
+const EMPTY: &[u8] = b"WSRMJNL1\0";
 
 // Nothing of what was on the disk stands behind the gate of a new journal.
 #[test]
 fn nothing_stands_behind_a_new_journal(rt: HostRuntime) -> Result<(), Fail> {
-    let alloc = rt.alloc();
-    let mut disk = disk_of(alloc, &[7; 40])?;
-    let journal = Journal::format(alloc, &mut disk)?;
-    assert_eq!(rt; journal.count(), 0);
-    assert_eq!(rt;
-        bytes_of(alloc, &mut disk)?.as_slice(),
-        b"WSRMJNL1\0".as_slice()
-    );
+    let mut disk = disk_of(rt.alloc(), &[7; 40])?;
+    assert!(rt; new_journal(rt.alloc(), &mut disk)?.0 == 0);
+    assert!(rt; bytes_of(rt.alloc(), &mut disk)?.as_slice() == EMPTY);
     Ok(())
+}
+
+// What adding an entry of so many sevens answers.
+fn add_sevens(
+    alloc: Global,
+    disk: &mut MemDisk,
+    len: usize,
+) -> Result<Result<(), JournalError>, JournalError> {
+    let entry = vec![in alloc; 7; len]?;
+    let (answer, _end) = add(alloc, disk, &entry)?;
+    Ok(answer)
 }
 
 #[test]
 fn an_entry_that_is_too_long(rt: HostRuntime) -> Result<(), Fail> {
-    let alloc = rt.alloc();
-    let mut disk = disk_of(alloc, &ONE_ENTRY)?;
-    let long = vec![in alloc; 7; 4194305]?;
-    let (_journal, answer) = add(alloc, &mut disk, &long)?;
-    assert_eq!(rt; answer, Err(JournalError::EntryTooLong { len: 4194305 }));
-    let longest = vec![in alloc; 7; 4194304]?;
-    let (_journal, answer) = add(alloc, &mut disk, &longest)?;
-    assert_eq!(rt; answer, Ok(()));
+    let mut disk = disk_of(rt.alloc(), &ONE_ENTRY)?;
+    let too_long = JournalError::EntryTooLong { len: 4194305 };
+    assert!(rt; add_sevens(rt.alloc(), &mut disk, 4194305)? == Err(too_long));
+    assert!(rt; add_sevens(rt.alloc(), &mut disk, 4194304)? == Ok(()));
     Ok(())
 }
 
-// How many entries the bytes stand for.
+// Bytes, and how many entries they stand for.
+const LISTS: [(&[u8], Option<u64>); 9] = [
+    (b"", None),
+    (b"WSRMJNL1", None),
+    (b"WSRMJNL2\0", None),
+    (b"WSRMJNL1\0", Some(0)),
+    (b"WSRMJNL1\x02\0\0\0\x01a\0", Some(0)),
+    (b"WSRMJNL1\x01\0\0\0\x01a\x02b", Some(1)),
+    (b"WSRMJNL1\x01\0\0\0\x02a", None),
+    (b"WSRMJNL1\x01\0\0\0\x01a", None),
+    (b"WSRMJNL1\x01\0\x40\0\x01a\0", None),
+];
+
+// How many entries a disk has, mounted.
+fn count_of(alloc: Global, disk: &mut MemDisk) -> Result<u64, JournalError> {
+    Ok(Journal::mount(alloc, disk)?.count())
+}
+
+// Whether the bytes stand for so many entries, or are no journal.
+fn stands_for(alloc: Global, bytes: &[u8], count: Option<u64>) -> Result<bool, JournalError> {
+    let mut disk = disk_of(alloc, bytes)?;
+    let found = count_of(alloc, &mut disk);
+    Ok(found == count.ok_or(JournalError::NotAJournal))
+}
+
 #[test]
 fn bytes_that_stand_for_a_list(rt: HostRuntime) -> Result<(), Fail> {
-    let alloc = rt.alloc();
-    let table: [(&[u8], Option<u64>); 9] = [
-        (b"", None),
-        (b"WSRMJNL1", None),
-        (b"WSRMJNL2\0", None),
-        (b"WSRMJNL1\0", Some(0)),
-        (b"WSRMJNL1\x02\0\0\0\x01a\0", Some(0)),
-        (b"WSRMJNL1\x01\0\0\0\x01a\x02b", Some(1)),
-        (b"WSRMJNL1\x01\0\0\0\x02a", None),
-        (b"WSRMJNL1\x01\0\0\0\x01a", None),
-        (b"WSRMJNL1\x01\0\x40\0\x01a\0", None),
-    ];
-    for (bytes, count) in table {
-        let mut disk = disk_of(alloc, bytes)?;
-        match Journal::mount(alloc, &mut disk) {
-            Ok(journal) => assert_eq!(rt; Some(journal.count()), count),
-            Err(error) => {
-                assert_eq!(rt; error, JournalError::NotAJournal);
-                assert_eq!(rt; count, None);
-            }
-        }
+    for (bytes, count) in &LISTS {
+        assert!(rt; stands_for(rt.alloc(), bytes, *count)?, "{bytes:?}");
     }
     Ok(())
 }
 
 // One entry is there, and the device call of this number fails as a second is added, or none at 5. Then comes a crash.
 // Whether that went well, and how many entries there are.
-fn stopped(alloc: Global, stop: u64, choice: u8) -> Result<(bool, u64), Fail> {
+fn stopped(alloc: Global, stop: u64, choice: u8) -> Result<(bool, u64), JournalError> {
     let mut disk = disk_of(alloc, &ONE_ENTRY)?;
-    if stop > 5 || choice > 3 {
-        return Ok((false, 0));
-    }
     // Mounting takes three device calls.
-    disk.arm(3 + stop);
-    let (_journal, answer) = add(alloc, &mut disk, b"cde")?;
-    disk.crash(choice)?;
-    let mounted = Journal::mount(alloc, &mut disk)?;
-    Ok((answer.is_ok(), mounted.count()))
+    disk.arm(stop.min(5) + 3);
+    let (answer, _end) = add(alloc, &mut disk, b"cde")?;
+    disk.crash(choice.min(3))?;
+    Ok((answer.is_ok(), count_of(alloc, &mut disk)?))
 }
+
+// The choice of a crash, the number of the device call that fails, and how many entries there are.
+const STOPPED: [(u8, u64, u64); 20] = [
+    (0, 1, 1),
+    (0, 2, 1),
+    (0, 3, 1),
+    (0, 4, 1),
+    (0, 5, 2),
+    (1, 1, 1),
+    (1, 2, 1),
+    (1, 3, 1),
+    (1, 4, 2),
+    (1, 5, 2),
+    (2, 1, 1),
+    (2, 2, 1),
+    (2, 3, 2),
+    (2, 4, 2),
+    (2, 5, 2),
+    (3, 1, 1),
+    (3, 2, 1),
+    (3, 3, 1),
+    (3, 4, 1),
+    (3, 5, 2),
+];
 
 #[test]
 fn stops_at_each_device_call(rt: HostRuntime) -> Result<(), Fail> {
-    let alloc = rt.alloc();
-    let table: [(u8, [u64; 5]); 4] = [
-        (0, [1, 1, 1, 1, 2]),
-        (1, [1, 1, 1, 2, 2]),
-        (2, [1, 1, 2, 2, 2]),
-        (3, [1, 1, 1, 1, 2]),
-    ];
-    for (choice, counts) in table {
-        for (stop, count) in (1..6).zip(counts) {
-            let (went_well, found) = stopped(alloc, stop, choice)?;
-            assert_eq!(rt; went_well, stop == 5);
-            assert_eq!(rt; found, count, "choice {choice}, stop {stop}");
-        }
+    for (choice, stop, count) in &STOPPED {
+        let found = stopped(rt.alloc(), *stop, *choice)?;
+        assert!(rt;
+            found == (*stop == 5, *count),
+            "choice {choice}, stop {stop}"
+        );
     }
     Ok(())
+}
+
+// Whether adding to a disk fails, so that each call answers Down from then on.
+fn goes_down(alloc: Global, disk: &mut MemDisk) -> Result<bool, JournalError> {
+    let mut journal = Journal::mount(alloc, disk)?;
+    let first = journal.append(disk, b"cde");
+    if !journal.is_down() {
+        return Ok(false);
+    }
+    let second = journal.append(disk, b"f");
+    let are_so = (first == Err(JournalError::Disk)) & (second == Err(JournalError::Down));
+    Ok(are_so & journal.is_down() & (journal.count() == 1))
 }
 
 // After Disk each call answers Down.
 #[test]
 fn a_journal_that_is_down(rt: HostRuntime) -> Result<(), Fail> {
-    let alloc = rt.alloc();
-    let mut disk = disk_of(alloc, &ONE_ENTRY)?;
+    let mut disk = disk_of(rt.alloc(), &ONE_ENTRY)?;
     disk.arm(5);
-    let (mut journal, answer) = add(alloc, &mut disk, b"cde")?;
-    assert_eq!(rt; answer, Err(JournalError::Disk));
-    if journal.is_down() {
-        assert_eq!(rt; journal.append(&mut disk, b"f"), Err(JournalError::Down));
-    }
-    assert!(rt; journal.is_down());
-    assert_eq!(rt; journal.count(), 1);
+    assert!(rt; goes_down(rt.alloc(), &mut disk)?);
     Ok(())
 }

@@ -1,10 +1,10 @@
 //! Tests of ack_ranges.
 use ack_ranges::RangeSet;
-use rm_base::MAX_NUMBER;
+use rm_base::{MAX_NUMBER, Memory};
 use std::alloc::Global;
 use std::test::Fail;
 
-fn set_of(alloc: Global, ranges: &[(u64, u64)]) -> Result<RangeSet, Fail> {
+fn set_of(alloc: Global, ranges: &[(u64, u64)]) -> Result<RangeSet, Memory> {
     let mut set = RangeSet::new(alloc);
     for (lower, upper) in ranges {
         if 0 < *lower && *lower <= *upper && *upper <= MAX_NUMBER {
@@ -14,109 +14,141 @@ fn set_of(alloc: Global, ranges: &[(u64, u64)]) -> Result<RangeSet, Fail> {
     Ok(set)
 }
 
-fn pairs(alloc: Global, set: &RangeSet) -> Result<Vec<(u64, u64)>, Fail> {
-    let mut pairs = Vec::new(alloc);
-    for range in set.ranges() {
-        pairs.push((range.lower, range.upper))?;
+// Whether these are all ranges of a set.
+fn has_ranges(set: &RangeSet, wanted: &[(u64, u64)]) -> bool {
+    let mut are_so = set.ranges().len() == wanted.len();
+    for (range, (lower, upper)) in set.ranges().iter().zip(wanted) {
+        are_so &= (range.lower == *lower) & (range.upper == *upper);
     }
-    Ok(pairs)
+    are_so
+}
+
+// Whether these are the missing numbers, or the first so many of them.
+fn misses(set: &RangeSet, most: usize, wanted: &[u64]) -> Result<bool, Memory> {
+    Ok(set.missing(most)?.as_slice() == wanted)
+}
+
+fn inserts_one_two_and_five(set: &mut RangeSet) -> Result<bool, Memory> {
+    let mut is_so = set.insert(1)?;
+    is_so &= set.insert(2)?;
+    is_so &= set.insert(5)?;
+    Ok(is_so & (set.front() == 2) & (set.greatest() == 5))
+}
+
+fn inserts_three_once(set: &mut RangeSet) -> Result<bool, Memory> {
+    let is_new = set.insert(3)?;
+    let is_new_again = set.insert(3)?;
+    Ok(is_new & !is_new_again & set.has(3) & !set.has(4) & !set.has(0))
 }
 
 #[test]
 fn one_two_and_five(rt: HostRuntime) -> Result<(), Fail> {
     let mut set = RangeSet::new(rt.alloc());
-    assert!(rt; set.insert(1)?);
-    assert!(rt; set.insert(2)?);
-    assert!(rt; set.insert(5)?);
-    assert_eq!(rt; set.front(), 2);
-    assert_eq!(rt; set.greatest(), 5);
-    assert_eq!(rt; set.missing(9)?.as_slice(), [3, 4].as_slice());
-    assert_eq!(rt; set.missing(1)?.as_slice(), [3].as_slice());
-    assert!(rt; set.insert(3)?);
-    assert!(rt; !set.insert(3)?);
-    assert!(rt; set.has(3) && !set.has(4) && !set.has(0));
-    assert_eq!(rt;
-        pairs(rt.alloc(), &set)?.as_slice(),
-        [(1, 3), (5, 5)].as_slice()
-    );
+    assert!(rt; inserts_one_two_and_five(&mut set)?);
+    assert!(rt; misses(&set, 9, &[3, 4])?);
+    assert!(rt; misses(&set, 1, &[3])?);
+    assert!(rt; inserts_three_once(&mut set)?);
+    assert!(rt; has_ranges(&set, &[(1, 3), (5, 5)]));
     Ok(())
+}
+
+fn begins_at_the_last(set: &RangeSet) -> Result<bool, Memory> {
+    let are_so = (set.front() == 0) & (set.greatest() == MAX_NUMBER);
+    Ok(are_so & misses(set, 2, &[1, 2])?)
+}
+
+fn takes_all(set: &mut RangeSet) -> Result<bool, Memory> {
+    let is_new = set.insert_range(1, MAX_NUMBER)?;
+    let are_so = is_new & (set.front() == MAX_NUMBER) & misses(set, 2, &[])?;
+    Ok(are_so & !set.insert(MAX_NUMBER)?)
+}
+
+fn is_empty(set: &RangeSet) -> Result<bool, Memory> {
+    Ok((set.greatest() == 0) & misses(set, 3, &[])?)
 }
 
 #[test]
 fn the_borders(rt: HostRuntime) -> Result<(), Fail> {
     let mut set = set_of(rt.alloc(), &[(MAX_NUMBER, MAX_NUMBER)])?;
-    assert_eq!(rt; set.front(), 0);
-    assert_eq!(rt; set.greatest(), MAX_NUMBER);
-    assert_eq!(rt; set.missing(2)?.as_slice(), [1, 2].as_slice());
-    assert!(rt; set.insert_range(1, MAX_NUMBER)?);
-    assert_eq!(rt; set.front(), MAX_NUMBER);
-    assert_eq!(rt; set.missing(2)?.len(), 0);
-    assert!(rt; !set.insert(MAX_NUMBER)?);
-    let empty = RangeSet::new(rt.alloc());
-    assert_eq!(rt; empty.greatest(), 0);
-    assert_eq!(rt; empty.missing(3)?.len(), 0);
+    assert!(rt; begins_at_the_last(&set)?);
+    assert!(rt; takes_all(&mut set)?);
+    assert!(rt; is_empty(&RangeSet::new(rt.alloc()))?);
     Ok(())
 }
 
+// The ranges that are given, and those of the set that has them.
+const JOINED: [(&[(u64, u64)], &[(u64, u64)]); 6] = [
+    (&[(1, 2), (4, 5)], &[(1, 2), (4, 5)]),
+    (&[(1, 2), (4, 5), (3, 3)], &[(1, 5)]),
+    (&[(4, 5), (1, 2)], &[(1, 2), (4, 5)]),
+    (
+        &[(2, 3), (6, 7), (10, 11), (14, 15), (5, 12)],
+        &[(2, 3), (5, 12), (14, 15)],
+    ),
+    (
+        &[(2, 3), (6, 7), (10, 11), (4, 4)],
+        &[(2, 4), (6, 7), (10, 11)],
+    ),
+    (&[(5, 6), (9, 9), (1, 20)], &[(1, 20)]),
+];
+
 #[test]
 fn ranges_join_and_stay_apart(rt: HostRuntime) -> Result<(), Fail> {
-    let alloc = rt.alloc();
-    let table: [(&[(u64, u64)], &[(u64, u64)]); 6] = [
-        (&[(1, 2), (4, 5)], &[(1, 2), (4, 5)]),
-        (&[(1, 2), (4, 5), (3, 3)], &[(1, 5)]),
-        (&[(4, 5), (1, 2)], &[(1, 2), (4, 5)]),
-        (
-            &[(2, 3), (6, 7), (10, 11), (14, 15), (5, 12)],
-            &[(2, 3), (5, 12), (14, 15)],
-        ),
-        (
-            &[(2, 3), (6, 7), (10, 11), (4, 4)],
-            &[(2, 4), (6, 7), (10, 11)],
-        ),
-        (&[(5, 6), (9, 9), (1, 20)], &[(1, 20)]),
-    ];
-    for (given, want) in table {
-        assert_eq!(rt; pairs(alloc, &set_of(alloc, given)?)?.as_slice(), want);
+    for (given, want) in &JOINED {
+        let set = set_of(rt.alloc(), given)?;
+        assert!(rt; has_ranges(&set, want), "{given:?}");
     }
     Ok(())
 }
 
+// The ranges of a set and of another, whether a number of those is new, and the ranges of both.
+const UNITED: [(&[(u64, u64)], &[(u64, u64)], bool, &[(u64, u64)]); 6] = [
+    (&[], &[(1, 2)], true, &[(1, 2)]),
+    (&[(1, 9)], &[(2, 3), (5, 9)], false, &[(1, 9)]),
+    (
+        &[(1, 2), (6, 7)],
+        &[(4, 4), (9, 9)],
+        true,
+        &[(1, 2), (4, 4), (6, 7), (9, 9)],
+    ),
+    (
+        &[(3, 4), (8, 9)],
+        &[(1, 1), (5, 7), (20, 30)],
+        true,
+        &[(1, 1), (3, 9), (20, 30)],
+    ),
+    (
+        &[(10, 12)],
+        &[(1, 2), (4, 5), (11, 20)],
+        true,
+        &[(1, 2), (4, 5), (10, 20)],
+    ),
+    (
+        &[(1, 2), (4, 5), (11, 20)],
+        &[],
+        false,
+        &[(1, 2), (4, 5), (11, 20)],
+    ),
+];
+
+// Whether a set becomes one of these ranges by another, and so does its copy.
+fn unites_to(
+    set: &mut RangeSet,
+    other: &RangeSet,
+    is_new: bool,
+    want: &[(u64, u64)],
+) -> Result<bool, Memory> {
+    let was_new = set.unite(other)?;
+    let again = set.copy()?;
+    Ok((was_new == is_new) & has_ranges(set, want) & has_ranges(&again, want))
+}
+
 #[test]
 fn sets_unite(rt: HostRuntime) -> Result<(), Fail> {
-    let alloc = rt.alloc();
-    let table: [(&[(u64, u64)], &[(u64, u64)], bool, &[(u64, u64)]); 6] = [
-        (&[], &[(1, 2)], true, &[(1, 2)]),
-        (&[(1, 9)], &[(2, 3), (5, 9)], false, &[(1, 9)]),
-        (
-            &[(1, 2), (6, 7)],
-            &[(4, 4), (9, 9)],
-            true,
-            &[(1, 2), (4, 4), (6, 7), (9, 9)],
-        ),
-        (
-            &[(3, 4), (8, 9)],
-            &[(1, 1), (5, 7), (20, 30)],
-            true,
-            &[(1, 1), (3, 9), (20, 30)],
-        ),
-        (
-            &[(10, 12)],
-            &[(1, 2), (4, 5), (11, 20)],
-            true,
-            &[(1, 2), (4, 5), (10, 20)],
-        ),
-        (
-            &[(1, 2), (4, 5), (11, 20)],
-            &[],
-            false,
-            &[(1, 2), (4, 5), (11, 20)],
-        ),
-    ];
-    for (mine, others, is_new, want) in table {
-        let mut set = set_of(alloc, mine)?;
-        assert_eq!(rt; set.unite(&set_of(alloc, others)?)?, is_new);
-        assert_eq!(rt; pairs(alloc, &set)?.as_slice(), want);
-        assert_eq!(rt; pairs(alloc, &set.copy()?)?.as_slice(), want);
+    for (mine, others, is_new, want) in &UNITED {
+        let mut set = set_of(rt.alloc(), mine)?;
+        let other = set_of(rt.alloc(), others)?;
+        assert!(rt; unites_to(&mut set, &other, *is_new, want)?, "{mine:?}");
     }
     Ok(())
 }
@@ -129,28 +161,52 @@ fn room_is_made(rt: HostRuntime) -> Result<(), Fail> {
     Ok(())
 }
 
+// Ranges, and how many numbers they have.
+const COUNTED: [(&[(u64, u64)], u64); 6] = [
+    (&[], 0),
+    (&[(3, 3)], 1),
+    (&[(1, 2), (6, 9)], 6),
+    (&[(1, 2), (6, 9), (3, 5)], 9),
+    (&[(5, 6), (5, 6), (2, 8)], 7),
+    (&[(1, MAX_NUMBER)], MAX_NUMBER),
+];
+
+// Whether a set has so many numbers, and so has its copy; and whether its ranges are given as they stand.
+fn is_counted(set: &RangeSet, count: u64) -> Result<bool, Memory> {
+    let copied = set.copy()?.count();
+    let ranges = set.to_ranges()?;
+    Ok((set.count() == count) & (copied == count) & (ranges.as_slice() == set.ranges()))
+}
+
+// Whether another set tells beforehand if a number of this one is new to it, and none is afterwards.
+fn is_new_once(set: &RangeSet, both: &mut RangeSet) -> Result<bool, Memory> {
+    let is_new = both.is_new(set);
+    Ok((both.unite(set)? == is_new) & !both.is_new(set))
+}
+
+// How many numbers two sets have together.
+fn count_together(set: &RangeSet, both: &mut RangeSet) -> Result<u64, Memory> {
+    both.unite(set)?;
+    Ok(both.count())
+}
+
 #[test]
 fn numbers_are_counted(rt: HostRuntime) -> Result<(), Fail> {
-    let alloc = rt.alloc();
-    let table: [(&[(u64, u64)], u64); 6] = [
-        (&[], 0),
-        (&[(3, 3)], 1),
-        (&[(1, 2), (6, 9)], 6),
-        (&[(1, 2), (6, 9), (3, 5)], 9),
-        (&[(5, 6), (5, 6), (2, 8)], 7),
-        (&[(1, MAX_NUMBER)], MAX_NUMBER),
-    ];
-    for (given, count) in table {
-        let set = set_of(alloc, given)?;
-        assert_eq!(rt; set.count(), count);
-        assert_eq!(rt; set.copy()?.count(), count);
-        let mut both = set_of(alloc, &[(2, 3)])?;
-        assert_eq!(rt; both.is_new(&set), both.unite(&set)?);
-        assert!(rt; !both.is_new(&set));
-        assert_eq!(rt; set.to_ranges()?.as_slice(), set.ranges());
+    for (given, count) in &COUNTED {
+        let set = set_of(rt.alloc(), given)?;
+        assert!(rt; is_counted(&set, *count)?, "{given:?}");
+        assert!(rt;
+            is_new_once(&set, &mut set_of(rt.alloc(), &[(2, 3)])?)?,
+            "{given:?}"
+        );
     }
-    let mut both = set_of(alloc, &[(2, 3), (8, 9)])?;
-    both.unite(&set_of(alloc, &[(3, 4), (20, 20)])?)?;
-    assert_eq!(rt; both.count(), 6);
+    Ok(())
+}
+
+#[test]
+fn numbers_of_two_sets_are_counted(rt: HostRuntime) -> Result<(), Fail> {
+    let set = set_of(rt.alloc(), &[(3, 4), (20, 20)])?;
+    let mut both = set_of(rt.alloc(), &[(2, 3), (8, 9)])?;
+    assert!(rt; count_together(&set, &mut both)? == 6);
     Ok(())
 }

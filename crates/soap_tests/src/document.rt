@@ -1,7 +1,7 @@
 //! Tests of `soap_document`.
 ghost use Rattle.std.specs.Prelude.{◌≡◌};
 
-use rm_base::Memory;
+use rm_base::{Blob, Memory};
 use soap_document::{Handler, Reader, WrittenAttribute, cut};
 use std::alloc::Global;
 use std::test::Fail;
@@ -100,141 +100,164 @@ fn read(alloc: Global, document: &[u8]) -> Result<Option<Shown>, Memory> {
     }
 }
 
+// Whether a document is read as this tree.
+fn is_shown(alloc: Global, document: &[u8], tree: &[u8]) -> Result<bool, Memory> {
+    match read(alloc, document)? {
+        Some(shown) => Ok(shown.bytes.as_slice() == tree),
+        None => Ok(false),
+    }
+}
+
+// Whether a document is taken.
+fn is_taken(alloc: Global, document: &[u8]) -> Result<bool, Memory> {
+    Ok(read(alloc, document)?.is_some())
+}
+
+// Documents, and how they are shown.
+const TREES: [(&str, &str); 11] = [
+    ("<a/>", "a{}"),
+    ("<a></a>", "a{}"),
+    ("<p:a q:b='1' c=\"2\"/>", "p:a[q:b=1][c=2]{}"),
+    ("<a>t<b/>u</a>", "a{|t|b{}|u}"),
+    ("<a>t<!-- c -->u<![CDATA[<]]>v&amp;</a>", "a{|tu<v&}"),
+    ("<a><!-- c --></a>", "a{}"),
+    ("<a><b><c/></b><b>t</b></a>", "a{|b{|c{}}|b{|t}}"),
+    ("<a b=' x\ty&#9;'/>", "a[b= x y\t]{}"),
+    ("<a>\r\nx\r</a>", "a{|\nx\n}"),
+    ("<a b='1' b='2'/>", "a[b=1][b=2]{}"),
+    ("\u{feff}<?xml version='1.0'?><!-- c --> <a/> ", "a{}"),
+];
+
 #[test]
-fn trees(rt: HostRuntime) -> Result<(), Fail> {
-    let rows = [
-        ("<a/>", "a{}"),
-        ("<a></a>", "a{}"),
-        ("<p:a q:b='1' c=\"2\"/>", "p:a[q:b=1][c=2]{}"),
-        ("<a>t<b/>u</a>", "a{|t|b{}|u}"),
-        ("<a>t<!-- c -->u<![CDATA[<]]>v&amp;</a>", "a{|tu<v&}"),
-        ("<a><!-- c --></a>", "a{}"),
-        ("<a><b><c/></b><b>t</b></a>", "a{|b{|c{}}|b{|t}}"),
-        ("<a b=' x\ty&#9;'/>", "a[b= x y\t]{}"),
-        ("<a>\r\nx\r</a>", "a{|\nx\n}"),
-        ("<a b='1' b='2'/>", "a[b=1][b=2]{}"),
-        ("\u{feff}<?xml version='1.0'?><!-- c --> <a/> ", "a{}"),
-    ];
-    for (document, tree) in rows {
-        let shown = read(rt.alloc(), document.as_bytes())?.ok_or("refused")?;
-        let shown = std::str::from_utf8(&shown.bytes)?;
-        assert!(rt; shown == tree, "{document}: {shown}");
+fn trees(rt: HostRuntime) -> Result<(), Memory> {
+    for (document, tree) in TREES {
+        assert!(rt;
+            is_shown(rt.alloc(), document.as_bytes(), tree.as_bytes())?,
+            "{document}"
+        );
     }
     Ok(())
 }
 
-#[test]
-fn places(rt: HostRuntime) -> Result<(), Fail> {
-    let document = b"\xef\xbb\xbf<?xml version='1.0'?>\n<a><b x='1' >t&lt;<c/></b ></a>";
-    let shown = read(rt.alloc(), document)?.ok_or("refused")?;
-    let [root, inner, _, inner_end, root_end] = shown.places.as_slice() else {
-        return Err("other places".into());
+// The bytes of a document that stand between two of five places.
+fn between(
+    alloc: Global,
+    document: &[u8],
+    (first, last): (usize, usize),
+) -> Result<Option<&[u8]>, Memory> {
+    let Some(shown) = read(alloc, document)? else {
+        return Ok(None);
     };
-    let content = document.get(*root..*root_end);
+    let places = shown.places.as_slice();
+    match (places.get(first), places.get(last)) {
+        (Some(first), Some(last)) if places.len() == 5 => Ok(document.get(*first..*last)),
+        _ => Ok(None),
+    }
+}
+
+#[test]
+fn places(rt: HostRuntime) -> Result<(), Memory> {
+    let document = b"\xef\xbb\xbf<?xml version='1.0'?>\n<a><b x='1' >t&lt;<c/></b ></a>";
+    let content = between(rt.alloc(), document, (0, 4))?;
     assert!(rt; content == Some(b"<b x='1' >t&lt;<c/></b >".as_slice()));
-    let content = document.get(*inner..*inner_end);
+    let content = between(rt.alloc(), document, (1, 3))?;
     assert!(rt; content == Some(b"t&lt;<c/>".as_slice()));
     Ok(())
 }
 
+const TAKEN: [&str; 12] = [
+    "<?xml version=\"1.0\"?><a/>",
+    "<?xml version='1.0' encoding='utf-8'?><a/>",
+    "<?xml version='1.0' encoding=\"UTF-8\" standalone='yes' ?><a/>",
+    "<?xml version = '1.0' standalone = 'no'?><a/>",
+    "\u{feff}<a/>",
+    "\n<!-- c --><!----> <a/>\t<!-- - -->\r\n",
+    "<a ></a >",
+    "<a\tb = 'x>y'\n/>",
+    "<\u{e9}:\u{e9}1.2-3/>",
+    "<xml:a/>",
+    "<a>]] ></a>",
+    "<a><![CDATA[]]></a>",
+];
+
 #[test]
-fn takes(rt: HostRuntime) -> Result<(), Fail> {
-    let documents = [
-        "<?xml version=\"1.0\"?><a/>",
-        "<?xml version='1.0' encoding='utf-8'?><a/>",
-        "<?xml version='1.0' encoding=\"UTF-8\" standalone='yes' ?><a/>",
-        "<?xml version = '1.0' standalone = 'no'?><a/>",
-        "\u{feff}<a/>",
-        "\n<!-- c --><!----> <a/>\t<!-- - -->\r\n",
-        "<a ></a >",
-        "<a\tb = 'x>y'\n/>",
-        "<\u{e9}:\u{e9}1.2-3/>",
-        "<xml:a/>",
-        "<a>]] ></a>",
-        "<a><![CDATA[]]></a>",
-    ];
-    for document in documents {
-        assert!(rt;
-            read(rt.alloc(), document.as_bytes())?.is_some(),
-            "{document}"
-        );
+fn takes(rt: HostRuntime) -> Result<(), Memory> {
+    for document in TAKEN {
+        assert!(rt; is_taken(rt.alloc(), document.as_bytes())?, "{document}");
     }
     Ok(())
 }
 
+const REFUSED: [&str; 42] = [
+    "",
+    " ",
+    "<a>",
+    "</a>",
+    "<a/><b/>",
+    "<a></b>",
+    "<a></a b=''>",
+    "<a/>x",
+    "x<a/>",
+    "<![CDATA[]]><a/>",
+    "<!DOCTYPE a><a/>",
+    "<?pi x?><a/>",
+    "<a><?pi x?></a>",
+    "<a/><?pi x?>",
+    " <?xml version='1.0'?><a/>",
+    "<?xml?><a/>",
+    "<?xml version='1.1'?><a/>",
+    "<?xml version='1.0\"?><a/>",
+    "<?xml version='1.0'encoding='utf-8'?><a/>",
+    "<?xml version='1.0' encoding='latin1'?><a/>",
+    "<?xml version='1.0' standalone='yes' encoding='utf-8'?><a/>",
+    "<?xml version='1.0' standalone='maybe'?><a/>",
+    "\u{feff}\u{feff}<a/>",
+    "<a>]]></a>",
+    "<a><!-- -- --></a>",
+    "<a><!-- ---></a>",
+    "<a b='<'/>",
+    "<a b=c/>",
+    "<a b/>",
+    "<a b='1'c='2'/>",
+    "<a b='1\"/>",
+    "<a>&nbsp;</a>",
+    "<a>&#0;</a>",
+    "<a b='&amp'/>",
+    "<1/>",
+    "<a:/>",
+    "<:a/>",
+    "<a:b:c/>",
+    "< a/>",
+    "<a / >",
+    "<a b:='1'/>",
+    "<a>\u{0}</a>",
+];
+
 #[test]
-fn refuses(rt: HostRuntime) -> Result<(), Fail> {
-    let documents = [
-        "",
-        " ",
-        "<a>",
-        "</a>",
-        "<a/><b/>",
-        "<a></b>",
-        "<a></a b=''>",
-        "<a/>x",
-        "x<a/>",
-        "<![CDATA[]]><a/>",
-        "<!DOCTYPE a><a/>",
-        "<?pi x?><a/>",
-        "<a><?pi x?></a>",
-        "<a/><?pi x?>",
-        " <?xml version='1.0'?><a/>",
-        "<?xml?><a/>",
-        "<?xml version='1.1'?><a/>",
-        "<?xml version='1.0\"?><a/>",
-        "<?xml version='1.0'encoding='utf-8'?><a/>",
-        "<?xml version='1.0' encoding='latin1'?><a/>",
-        "<?xml version='1.0' standalone='yes' encoding='utf-8'?><a/>",
-        "<?xml version='1.0' standalone='maybe'?><a/>",
-        "\u{feff}\u{feff}<a/>",
-        "<a>]]></a>",
-        "<a><!-- -- --></a>",
-        "<a><!-- ---></a>",
-        "<a b='<'/>",
-        "<a b=c/>",
-        "<a b/>",
-        "<a b='1'c='2'/>",
-        "<a b='1\"/>",
-        "<a>&nbsp;</a>",
-        "<a>&#0;</a>",
-        "<a b='&amp'/>",
-        "<1/>",
-        "<a:/>",
-        "<:a/>",
-        "<a:b:c/>",
-        "< a/>",
-        "<a / >",
-        "<a b:='1'/>",
-        "<a>\u{0}</a>",
-    ];
-    for document in documents {
-        assert!(rt;
-            read(rt.alloc(), document.as_bytes())?.is_none(),
-            "{document}"
-        );
+fn refuses(rt: HostRuntime) -> Result<(), Memory> {
+    for document in REFUSED {
+        assert!(rt; !is_taken(rt.alloc(), document.as_bytes())?, "{document}");
     }
-    assert!(rt; read(rt.alloc(), b"<a>\xff</a>")?.is_none());
+    assert!(rt; !is_taken(rt.alloc(), b"<a>\xff</a>")?);
     Ok(())
 }
 
-fn nested(alloc: Global, depth: usize) -> Result<Vec<u8>, Fail> {
-    let mut document = Vec::new(alloc);
+// As many elements, each in the one before.
+fn is_nested_taken(alloc: Global, depth: usize) -> Result<bool, Memory> {
+    let mut document = Blob::new(alloc);
     for _ in 0..depth {
-        document.extend_from_slice(b"<x>")?;
+        document.push_all(b"<x>")?;
     }
     for _ in 0..depth {
-        document.extend_from_slice(b"</x>")?;
+        document.push_all(b"</x>")?;
     }
-    Ok(document)
+    is_taken(alloc, document.as_slice())
 }
 
 #[test]
-fn a_hundred_elements_nest(rt: HostRuntime) -> Result<(), Fail> {
-    let deep = nested(rt.alloc(), 100)?;
-    assert!(rt; read(rt.alloc(), &deep)?.is_some());
-    let deeper = nested(rt.alloc(), 101)?;
-    assert!(rt; read(rt.alloc(), &deeper)?.is_none());
+fn a_hundred_elements_nest(rt: HostRuntime) -> Result<(), Memory> {
+    assert!(rt; is_nested_taken(rt.alloc(), 100)?);
+    assert!(rt; !is_nested_taken(rt.alloc(), 101)?);
     Ok(())
 }
 
@@ -244,44 +267,52 @@ fn tokens_are_cut(rt: HostRuntime) {
     assert!(rt; cut(b':', b"pa") == None);
 }
 
-// The pieces are cut within a tag, a reference and a comment.
-#[test]
-fn pieces_make_a_document(rt: HostRuntime) -> Result<(), Fail> {
-    let mut reader = Reader::new(rt.alloc(), Shown::new(rt.alloc()));
+// A document that is cut within a tag, a reference and a comment.
+fn read_pieces(alloc: Global) -> Result<Option<Shown>, Memory> {
+    let mut reader = Reader::new(alloc, Shown::new(alloc));
     reader.feed(b"<?xml version='1.0'?><p")?;
     reader.feed(b":a b='1'>t&l")?;
     reader.feed(b"t;<!-")?;
     reader.feed(b"- - --><c/>\r\n</p:a>")?;
-    let shown = reader.finish().ok_or("refused")?;
-    assert_eq!(rt; shown.bytes.as_slice(), b"p:a[b=1]{|t<|c{}|\n}".as_slice());
+    Ok(reader.finish())
+}
+
+#[test]
+fn pieces_make_a_document(rt: HostRuntime) -> Result<(), Fail> {
+    let shown = read_pieces(rt.alloc())?.ok_or("refused")?;
+    assert!(rt; shown.bytes.as_slice() == b"p:a[b=1]{|t<|c{}|\n}".as_slice());
     Ok(())
 }
 
+// Whether a reader that is fed these bytes is refused.
+fn is_refused(alloc: Global, bytes: &[u8]) -> Result<bool, Memory> {
+    let mut reader = Reader::new(alloc, Shown::new(alloc));
+    reader.feed(bytes)?;
+    Ok(reader.is_refused())
+}
+
+const DECIDED: [&[u8]; 11] = [
+    b"<!D",
+    b"<!-x",
+    b" <![",
+    b"<a><!D",
+    b"<a>&x;",
+    b"<a>&#0;",
+    b"<a b='&x;",
+    b"<a/><b/",
+    b"<a></b>",
+    b"</",
+    b"<a><?",
+];
+
 // A reader that is fed these bytes is refused once the last of them was read, and not before.
 #[test]
-fn each_byte_decides(rt: HostRuntime) -> Result<(), Fail> {
-    let documents = [
-        "<!D",
-        "<!-x",
-        " <![",
-        "<a><!D",
-        "<a>&x;",
-        "<a>&#0;",
-        "<a b='&x;",
-        "<a/><b/",
-        "<a></b>",
-        "</",
-        "<a><?",
-    ];
-    for document in documents {
-        let bytes = document.as_bytes();
-        let last = bytes.len().saturating_sub(1);
-        let mut reader = Reader::new(rt.alloc(), Shown::new(rt.alloc()));
-        reader.feed(bytes.get(..last).ok_or("empty")?)?;
-        assert!(rt; !reader.is_refused(), "{document}");
-        let mut reader = Reader::new(rt.alloc(), Shown::new(rt.alloc()));
-        reader.feed(bytes)?;
-        assert!(rt; reader.is_refused(), "{document}");
+fn each_byte_decides(rt: HostRuntime) -> Result<(), Memory> {
+    for i in 0..DECIDED.len() {
+        assert!(rt; is_refused(rt.alloc(), DECIDED[i])?, "{i}");
+        if let Some((_, start)) = DECIDED[i].split_last() {
+            assert!(rt; !is_refused(rt.alloc(), start)?, "{i}");
+        }
     }
     Ok(())
 }

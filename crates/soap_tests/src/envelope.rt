@@ -1,11 +1,10 @@
 //! Envelopes, read.
-use soap_envelope::{Envelope, read_envelope};
+use rm_base::{Blob, Memory, Payload, push_decimal};
+use soap_frame::envelopes::read_envelope;
 use soap_profile::EnvelopeError;
-use std::alloc::{AllocError, Global};
-use std::process::Abort;
-use std::test::Fail;
+use std::alloc::Global;
 
-const REQUEST: [&str; 8] = [
+const REQUEST: &str = concat!(
     r#"<?xml version="1.0" encoding="UTF-8"?><!-- x -->"#,
     r#"<S:Envelope xmlns:S='http://www.w3.org/2003/05/soap-envelope'"#,
     r#" xmlns:wsa="http://www.w3.org/2005/08/addressing""#,
@@ -13,150 +12,165 @@ const REQUEST: [&str; 8] = [
     r#"<S:Header><wsa:Action S:mustUnderstand="1">urn:buy&amp;sell</wsa:Action>"#,
     r#"<rm:Sequence S:mustUnderstand="1"><rm:Identifier>urn:q</rm:Identifier>"#,
     r#"<rm:MessageNumber> 07 </rm:MessageNumber></rm:Sequence></S:Header>"#,
-    r#"<S:Body><o:x/></S:Body></S:Envelope>"#,
+    r#"<S:Body><o:x/></S:Body></S:Envelope>"#
+);
+
+// These parts in an Envelope.
+fn wrapped(alloc: Global, parts: &[u8]) -> Result<Blob, Memory> {
+    let mut text = Blob::from_slice(
+        alloc,
+        b"<S:Envelope xmlns:S='http://www.w3.org/2003/05/soap-envelope' xmlns='u'>",
+    )?;
+    text.push_all(parts)?;
+    text.push_all(b"</S:Envelope>")?;
+    Ok(text)
+}
+
+// Whether bytes are no envelope for this reason.
+fn is_refused(alloc: Global, bytes: &[u8], reason: EnvelopeError) -> bool {
+    match read_envelope(alloc, bytes) {
+        Ok(_) => false,
+        Err(error) => error == reason,
+    }
+}
+
+// An envelope as the counts of its header blocks, of the header's bindings and of the body's parts, then the payload's
+// bindings, and its bytes.
+pub fn shown(alloc: Global, document: &[u8]) -> Result<Blob, EnvelopeError> {
+    let envelope = read_envelope(alloc, document)?;
+    let mut out = Blob::new(alloc);
+    push_decimal(&mut out, envelope.headers.len() as u64)?;
+    out.push_all(b" ")?;
+    push_decimal(&mut out, envelope.header_scope.len() as u64)?;
+    out.push_all(b" ")?;
+    push_decimal(&mut out, envelope.body.len() as u64)?;
+    push_payload(&mut out, &envelope.payload)?;
+    Ok(out)
+}
+
+fn push_payload(out: &mut Blob, payload: &Payload) -> Result<(), Memory> {
+    for binding in payload.scope.as_slice() {
+        out.push_all(b" ")?;
+        out.push_all(binding.prefix.as_slice())?;
+        out.push_all(b"=")?;
+        out.push_all(binding.space.as_slice())?;
+    }
+    out.push_all(b" ")?;
+    out.push_all(payload.bytes.as_slice())
+}
+
+const REQUEST_SHOWN: &str = concat!(
+    "2 4 1 S=http://www.w3.org/2003/05/soap-envelope o=urn:o",
+    " rm=http://docs.oasis-open.org/ws-rx/wsrm/200702 wsa=http://www.w3.org/2005/08/addressing <o:x/>"
+);
+
+#[test]
+fn reads_a_request(rt: HostRuntime) -> Result<(), EnvelopeError> {
+    let shown = shown(rt.alloc(), REQUEST.as_bytes())?;
+    assert!(rt; shown.as_slice() == REQUEST_SHOWN.as_bytes());
+    Ok(())
+}
+
+#[test]
+fn a_request_is_whole(rt: HostRuntime) {
+    if let Some((_, cut)) = REQUEST.as_bytes().split_last() {
+        assert!(rt; is_refused(rt.alloc(), cut, EnvelopeError::NotProfile));
+    }
+}
+
+// Whether these parts have this between Body's tags, with two bindings and no header blocks.
+fn has_payload(alloc: Global, parts: &[u8], payload: &[u8]) -> Result<bool, EnvelopeError> {
+    let text = wrapped(alloc, parts)?;
+    let envelope = read_envelope(alloc, text.as_slice())?;
+    let is_alone = envelope.payload.scope.len() == 2 && envelope.headers.len() == 0;
+    Ok(is_alone && envelope.payload.bytes.as_slice() == payload)
+}
+
+const PAYLOADS: [(&[u8], &[u8]); 5] = [
+    (b"<S:Body/>", b""),
+    (b"<S:Body>t</S:Body>", b"t"),
+    (b"<S:Body>\r\n</S:Body>", b"\r\n"),
+    (b"<S:Body>&lt;<![CDATA[ ]]></S:Body>", b"&lt;<![CDATA[ ]]>"),
+    (
+        b"&#32;<S:Header/><![CDATA[ ]]><S:Body><a/></S:Body>\n<!-- c -->",
+        b"<a/>",
+    ),
 ];
 
-fn request(alloc: Global) -> Result<String, AllocError> {
-    let mut text = String::new(alloc);
-    for piece in REQUEST {
-        text.push_str(piece)?;
-    }
-    Ok(text)
-}
-
-// these parts in an Envelope
-fn wrapped(alloc: Global, parts: &str) -> Result<String, AllocError> {
-    let mut text = String::new(alloc);
-    text.push_str("<S:Envelope xmlns:S='http://www.w3.org/2003/05/soap-envelope' xmlns='u'>")?;
-    text.push_str(parts)?;
-    text.push_str("</S:Envelope>")?;
-    Ok(text)
-}
-
-fn expect_bindings(rt: &impl Abort, envelope: &Envelope, wanted: &[(&str, &str)]) {
-    let scope = envelope.payload.scope.as_slice();
-    assert_eq!(rt; scope.len(), wanted.len());
-    for (binding, (prefix, space)) in scope.iter().zip(wanted.iter()) {
-        assert_eq!(rt; binding.prefix.as_slice(), prefix.as_bytes());
-        assert_eq!(rt; binding.space.as_slice(), space.as_bytes());
-    }
-}
-
 #[test]
-fn reads_a_request(rt: HostRuntime) -> Result<(), Fail> {
-    let text = request(rt.alloc())?;
-    let envelope = read_envelope(rt.alloc(), text.as_bytes())?;
-    assert_eq!(rt; envelope.headers.len(), 2);
-    assert_eq!(rt; envelope.header_scope.len(), 4);
-    assert_eq!(rt; envelope.payload.bytes.as_slice(), b"<o:x/>".as_slice());
-    assert_eq!(rt; envelope.body.len(), 1);
-    expect_bindings(
-        &rt,
-        &envelope,
-        &[
-            ("S", "http://www.w3.org/2003/05/soap-envelope"),
-            ("o", "urn:o"),
-            ("rm", "http://docs.oasis-open.org/ws-rx/wsrm/200702"),
-            ("wsa", "http://www.w3.org/2005/08/addressing"),
-        ],
-    );
-    let (_, cut) = text.as_bytes().split_last().ok_or("no bytes")?;
-    assert!(rt; read_envelope(rt.alloc(), cut).is_err_and(|e| e == EnvelopeError::NotProfile));
-    Ok(())
-}
-
-#[test]
-fn takes_the_bytes_between_the_tags(rt: HostRuntime) -> Result<(), Fail> {
-    let rows = [
-        ("<S:Body/>", ""),
-        ("<S:Body>t</S:Body>", "t"),
-        ("<S:Body>\r\n</S:Body>", "\r\n"),
-        ("<S:Body>&lt;<![CDATA[ ]]></S:Body>", "&lt;<![CDATA[ ]]>"),
-        (
-            "&#32;<S:Header/><![CDATA[ ]]><S:Body><a/></S:Body>\n<!-- c -->",
-            "<a/>",
-        ),
-    ];
-    for i in 0..rows.len() {
-        let (parts, payload) = rows[i];
-        let text = wrapped(rt.alloc(), parts)?;
-        let envelope = read_envelope(rt.alloc(), text.as_bytes())?;
-        assert_eq!(rt; envelope.payload.bytes.as_slice(), payload.as_bytes());
-        assert_eq!(rt; envelope.payload.scope.len(), 2);
-        assert_eq!(rt; envelope.headers.len(), 0);
+fn takes_the_bytes_between_the_tags(rt: HostRuntime) -> Result<(), EnvelopeError> {
+    for i in 0..PAYLOADS.len() {
+        let (parts, payload) = PAYLOADS[i];
+        assert!(rt; has_payload(rt.alloc(), parts, payload)?, "{i}");
     }
     Ok(())
 }
 
+fn shown_wrapped(alloc: Global, parts: &[u8]) -> Result<Blob, EnvelopeError> {
+    let text = wrapped(alloc, parts)?;
+    shown(alloc, text.as_slice())
+}
+
 #[test]
-fn a_body_is_its_parts_alone(rt: HostRuntime) -> Result<(), Fail> {
-    let text = wrapped(rt.alloc(), "<S:Body xmlns:p='v' p:a='1'>t<p:b/></S:Body>")?;
-    let envelope = read_envelope(rt.alloc(), text.as_bytes())?;
-    assert_eq!(rt; envelope.body.len(), 2);
+fn a_body_is_its_parts_alone(rt: HostRuntime) -> Result<(), EnvelopeError> {
+    let shown = shown_wrapped(rt.alloc(), b"<S:Body xmlns:p='v' p:a='1'>t<p:b/></S:Body>")?;
+    let wanted = b"0 0 2 =u S=http://www.w3.org/2003/05/soap-envelope p=v t<p:b/>";
+    assert!(rt; shown.as_slice() == wanted.as_slice());
     Ok(())
 }
 
 #[test]
-fn text_in_header_is_passed_over(rt: HostRuntime) -> Result<(), Fail> {
-    let text = wrapped(
+fn text_in_header_is_passed_over(rt: HostRuntime) -> Result<(), EnvelopeError> {
+    let shown = shown_wrapped(
         rt.alloc(),
-        "<S:Header xmlns:p='v'>t<a/>u<p:b/></S:Header><S:Body xmlns=''/>",
+        b"<S:Header xmlns:p='v'>t<a/>u<p:b/></S:Header><S:Body xmlns=''/>",
     )?;
-    let envelope = read_envelope(rt.alloc(), text.as_bytes())?;
-    assert_eq!(rt; envelope.headers.len(), 2);
-    assert_eq!(rt; envelope.header_scope.len(), 3);
-    expect_bindings(
-        &rt,
-        &envelope,
-        &[("S", "http://www.w3.org/2003/05/soap-envelope")],
-    );
+    let wanted = b"2 3 0 S=http://www.w3.org/2003/05/soap-envelope ";
+    assert!(rt; shown.as_slice() == wanted.as_slice());
     Ok(())
 }
 
-#[test]
-fn refuses_other_parts(rt: HostRuntime) -> Result<(), Fail> {
-    let rows = [
-        "",
-        "<S:Header/>",
-        "<S:Body/><S:Header/>",
-        "<S:Body/><S:Body/>",
-        "<S:Header/><S:Header/><S:Body/>",
-        "<S:Header/>t<S:Body/>",
-        "<a/><S:Body/>",
-        "<Body/>",
-    ];
-    for i in 0..rows.len() {
-        let text = wrapped(rt.alloc(), rows[i])?;
-        let read = read_envelope(rt.alloc(), text.as_bytes());
-        assert!(rt; read.is_err_and(|e| e == EnvelopeError::NotEnvelope), "{i}");
-    }
-    Ok(())
-}
+const OTHER_PARTS: [&[u8]; 8] = [
+    b"",
+    b"<S:Header/>",
+    b"<S:Body/><S:Header/>",
+    b"<S:Body/><S:Body/>",
+    b"<S:Header/><S:Header/><S:Body/>",
+    b"<S:Header/>t<S:Body/>",
+    b"<a/><S:Body/>",
+    b"<Body/>",
+];
 
 #[test]
-fn tells_errors(rt: HostRuntime) -> Result<(), Fail> {
-    let rows = [
-        (b"".as_slice(), EnvelopeError::NotProfile),
-        (b"<!DOCTYPE a><a/>".as_slice(), EnvelopeError::NotProfile),
-        (
-            b"\x3c\xff".as_slice(),
-            EnvelopeError::NotUtf8 { valid_up_to: 1 },
-        ),
-        (
-            b"<Envelope xmlns=\"http://schemas.xmlsoap.org/soap/envelope/\"><Body/></Envelope>".as_slice(),
-            EnvelopeError::WrongVersion,
-        ),
-        (
-            b"<Fault xmlns='http://www.w3.org/2003/05/soap-envelope'><Body/></Fault>".as_slice(),
-            EnvelopeError::NotEnvelope,
-        ),
-    ];
-    for i in 0..rows.len() {
-        let (bytes, wanted) = rows[i];
+fn refuses_other_parts(rt: HostRuntime) -> Result<(), Memory> {
+    for i in 0..OTHER_PARTS.len() {
+        let text = wrapped(rt.alloc(), OTHER_PARTS[i])?;
         assert!(rt;
-            read_envelope(rt.alloc(), bytes).is_err_and(|e| e == wanted),
+            is_refused(rt.alloc(), text.as_slice(), EnvelopeError::NotEnvelope),
             "{i}"
         );
     }
     Ok(())
+}
+
+const REASONS: [(&[u8], EnvelopeError); 5] = [
+    (b"", EnvelopeError::NotProfile),
+    (b"<!DOCTYPE a><a/>", EnvelopeError::NotProfile),
+    (b"\x3c\xff", EnvelopeError::NotUtf8 { valid_up_to: 1 }),
+    (
+        b"<Envelope xmlns=\"http://schemas.xmlsoap.org/soap/envelope/\"><Body/></Envelope>",
+        EnvelopeError::WrongVersion,
+    ),
+    (
+        b"<Fault xmlns='http://www.w3.org/2003/05/soap-envelope'><Body/></Fault>",
+        EnvelopeError::NotEnvelope,
+    ),
+];
+
+#[test]
+fn tells_errors(rt: HostRuntime) {
+    for i in 0..REASONS.len() {
+        let (bytes, reason) = REASONS[i];
+        assert!(rt; is_refused(rt.alloc(), bytes, reason), "{i}");
+    }
 }

@@ -1,13 +1,13 @@
 //! The pieces of an element within a frame.
+use rm_base::Memory;
 use soap_nodes::{
     push_attribute, push_begin, push_bytes, push_close, push_declaration, push_leaf, push_number,
     push_text, push_void,
 };
-use std::test::Fail;
+use std::alloc::Global;
 
-#[test]
-fn pieces(rt: HostRuntime) -> Result<(), Fail> {
-    let mut out = Vec::new(rt.alloc());
+fn pieces(alloc: Global) -> Result<Vec<u8>, Memory> {
+    let mut out = Vec::new(alloc);
     push_begin(b"s:NotUnderstood", &mut out)?;
     push_attribute(b"qname", b"q:L\"\t", &mut out)?;
     push_declaration(b"q", b"urn:<q>", &mut out)?;
@@ -17,11 +17,18 @@ fn pieces(rt: HostRuntime) -> Result<(), Fail> {
     push_number(b"r:MessageNumber", 9223372036854775807, &mut out)?;
     push_void(b"r:Final", &mut out)?;
     push_close(b"s:NotUnderstood", &mut out)?;
-    let written = concat!(
-        "<s:NotUnderstood qname=\"q:L&quot;&#9;\" xmlns:q=\"urn:&lt;q&gt;\">a&lt;b",
-        "<r:Identifier>urn:1&amp;2</r:Identifier><r:MessageNumber>9223372036854775807</r:MessageNumber><r:Final/>",
-        "</s:NotUnderstood>"
-    );
-    assert_eq!(rt; out.as_slice(), written.as_bytes());
+    Ok(out)
+}
+
+const WRITTEN: &str = concat!(
+    "<s:NotUnderstood qname=\"q:L&quot;&#9;\" xmlns:q=\"urn:&lt;q&gt;\">a&lt;b",
+    "<r:Identifier>urn:1&amp;2</r:Identifier><r:MessageNumber>9223372036854775807</r:MessageNumber><r:Final/>",
+    "</s:NotUnderstood>"
+);
+
+#[test]
+fn pieces_are_written(rt: HostRuntime) -> Result<(), Memory> {
+    let out = pieces(rt.alloc())?;
+    assert!(rt; out.as_slice() == WRITTEN.as_bytes());
     Ok(())
 }

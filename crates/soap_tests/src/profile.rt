@@ -1,359 +1,444 @@
 //! Tests of `soap_profile`.
-use rm_base::Bytes;
+use rm_base::{Blob, Bytes, Memory, push_decimal};
 use soap_profile::{
     Attr, Attrs, Element, EnvelopeError, Item, MAX_LENGTH, Name, Parts, Shared, check_payload,
     is_part, read_element, strip,
 };
-use std::alloc::{AllocError, Global};
-use std::test::Fail;
+use std::alloc::Global;
 
-#[test]
-fn takes(rt: HostRuntime) -> Result<(), Fail> {
-    let documents = [
-        "<a/>",
-        "\u{feff}<a/>",
-        "<?xml version=\"1.0\"?><a/>",
-        "<?xml version='1.0' encoding='UTF-8' standalone='no' ?>\n<!-- c --><a></a > <!-- d -->",
-        "<p:a xmlns:p='u'/>",
-        "<a xmlns='u'><b xmlns=''><c xmlns='v'/></b></a>",
-        "<a xml:lang='en'/>",
-        "<a xmlns:xml='http://www.w3.org/XML/1998/namespace'/>",
-        "<e xmlns:a='u' xmlns:b='v' a:x='1' b:x='2' x='3'/>",
-        "<a>t&amp;&#65;&#x42;<![CDATA[<]]>u<!-- c -->v</a>",
-        "<a b=\"x&quot;y'\" c='d\n'/>",
-        "<\u{e9}l\u{e9}ment/>",
-    ];
-    for i in 0..documents.len() {
-        assert!(rt;
-            read_element(rt.alloc(), documents[i].as_bytes()).is_ok(),
-            "{i}"
-        );
+fn is_taken(alloc: Global, document: &[u8]) -> bool {
+    read_element(alloc, document).is_ok()
+}
+
+// Why a document is no element, where it is none.
+fn flaw(alloc: Global, document: &[u8]) -> Option<EnvelopeError> {
+    match read_element(alloc, document) {
+        Ok(_) => None,
+        Err(error) => Some(error),
     }
-    Ok(())
 }
 
+const TAKEN: [&str; 12] = [
+    "<a/>",
+    "\u{feff}<a/>",
+    "<?xml version=\"1.0\"?><a/>",
+    "<?xml version='1.0' encoding='UTF-8' standalone='no' ?>\n<!-- c --><a></a > <!-- d -->",
+    "<p:a xmlns:p='u'/>",
+    "<a xmlns='u'><b xmlns=''><c xmlns='v'/></b></a>",
+    "<a xml:lang='en'/>",
+    "<a xmlns:xml='http://www.w3.org/XML/1998/namespace'/>",
+    "<e xmlns:a='u' xmlns:b='v' a:x='1' b:x='2' x='3'/>",
+    "<a>t&amp;&#65;&#x42;<![CDATA[<]]>u<!-- c -->v</a>",
+    "<a b=\"x&quot;y'\" c='d\n'/>",
+    "<\u{e9}l\u{e9}ment/>",
+];
+
 #[test]
-fn refuses(rt: HostRuntime) -> Result<(), Fail> {
-    let documents = [
-        "",
-        "<a>",
-        "<a/><b/>",
-        "<a></b>",
-        "<a/>x",
-        "<!DOCTYPE a><a/>",
-        "<?pi x?><a/>",
-        "<a><?pi x?></a>",
-        " <?xml version='1.0'?><a/>",
-        "<?xml version='1.1'?><a/>",
-        "<?xml version='1.0' encoding='latin1'?><a/>",
-        "<a>]]></a>",
-        "<a><!-- -- --></a>",
-        "<a><!-- ---></a>",
-        "<a b='<'/>",
-        "<a b=c/>",
-        "<a b='1'c='2'/>",
-        "<a b='1' b='2'/>",
-        "<a>&nbsp;</a>",
-        "<a>&#0;</a>",
-        "<1/>",
-        "<p:a/>",
-        "<a p:b='1'/>",
-        "<a xmlns:p=''/>",
-        "<a xmlns:xml='u'/>",
-        "<a xmlns:p='http://www.w3.org/XML/1998/namespace'/>",
-        "<a xmlns:p='http://www.w3.org/2000/xmlns/'/>",
-        "<a xmlns:xmlns='u'/>",
-        "<e xmlns:a='u' xmlns:b='u' a:x='1' b:x='2'/>",
-        "<a xmlns:p='u'><p:b/></a><p:c/>",
-        "<a><b xmlns:p='u'/><p:c/></a>",
-        "<a xmlns:xml='http://www.w3.org/2000/xmlns/'/>",
-        "<xmlns:a/>",
-        "<a:b:c xmlns:a='u'/>",
-    ];
-    for i in 0..documents.len() {
-        let read = read_element(rt.alloc(), documents[i].as_bytes());
-        assert!(rt; read.is_err_and(|e| e == EnvelopeError::NotProfile), "{i}");
+fn takes(rt: HostRuntime) {
+    for document in TAKEN {
+        assert!(rt; is_taken(rt.alloc(), document.as_bytes()), "{document}");
     }
-    Ok(())
+}
+
+const REFUSED: [&str; 34] = [
+    "",
+    "<a>",
+    "<a/><b/>",
+    "<a></b>",
+    "<a/>x",
+    "<!DOCTYPE a><a/>",
+    "<?pi x?><a/>",
+    "<a><?pi x?></a>",
+    " <?xml version='1.0'?><a/>",
+    "<?xml version='1.1'?><a/>",
+    "<?xml version='1.0' encoding='latin1'?><a/>",
+    "<a>]]></a>",
+    "<a><!-- -- --></a>",
+    "<a><!-- ---></a>",
+    "<a b='<'/>",
+    "<a b=c/>",
+    "<a b='1'c='2'/>",
+    "<a b='1' b='2'/>",
+    "<a>&nbsp;</a>",
+    "<a>&#0;</a>",
+    "<1/>",
+    "<p:a/>",
+    "<a p:b='1'/>",
+    "<a xmlns:p=''/>",
+    "<a xmlns:xml='u'/>",
+    "<a xmlns:p='http://www.w3.org/XML/1998/namespace'/>",
+    "<a xmlns:p='http://www.w3.org/2000/xmlns/'/>",
+    "<a xmlns:xmlns='u'/>",
+    "<e xmlns:a='u' xmlns:b='u' a:x='1' b:x='2'/>",
+    "<a xmlns:p='u'><p:b/></a><p:c/>",
+    "<a><b xmlns:p='u'/><p:c/></a>",
+    "<a xmlns:xml='http://www.w3.org/2000/xmlns/'/>",
+    "<xmlns:a/>",
+    "<a:b:c xmlns:a='u'/>",
+];
+
+#[test]
+fn refuses(rt: HostRuntime) {
+    for document in REFUSED {
+        let flaw = flaw(rt.alloc(), document.as_bytes());
+        assert!(rt; flaw == Some(EnvelopeError::NotProfile), "{document}");
+    }
 }
 
 #[test]
-fn joins_text(rt: HostRuntime) -> Result<(), Fail> {
-    let tree = read_element(
-        rt.alloc(),
-        b"<a>t\r\n&#13;<![CDATA[<]]>u<!-- c -->v<b/><!-- d --></a>",
-    )?;
-    let [Item::Text(text), Item::Child(_)] = tree.items.as_slice() else {
-        return Err("not a text and an element".into());
-    };
-    assert_eq!(rt; text.as_slice(), b"t\n\r<uv".as_slice());
-    Ok(())
+fn tells_errors(rt: HostRuntime) {
+    let flaw = flaw(rt.alloc(), b"<a>\xff</a>");
+    assert!(rt; flaw == Some(EnvelopeError::NotUtf8 { valid_up_to: 3 }));
+}
+
+fn push_name(out: &mut Blob, mark: &[u8], name: &Name) -> Result<(), Memory> {
+    out.push_all(mark)?;
+    out.push_all(name.space())?;
+    out.push_all(b"}")?;
+    out.push_all(name.local())
+}
+
+fn push_item(out: &mut Blob, item: &Item) -> Result<(), Memory> {
+    match item {
+        Item::Declaration(declaration) => {
+            out.push_all(b" ")?;
+            out.push_all(declaration.prefix.as_slice())?;
+            out.push_all(b"=")?;
+            out.push_all(declaration.space.as_slice())
+        }
+        Item::Attribute(attribute) => push_name(out, b" @{", &attribute.name),
+        Item::Text(text) => {
+            out.push_all(b" '")?;
+            out.push_all(text.as_slice())
+        }
+        Item::Child(child) => push_name(out, b" <{", &child.name),
+    }
+}
+
+// The name of an element, and its items: declarations with a =, attributes with a @, texts with a ', elements with a <.
+fn shown(alloc: Global, element: &Element) -> Result<Blob, Memory> {
+    let mut out = Blob::new(alloc);
+    push_name(&mut out, b"{", &element.name)?;
+    for item in &element.items {
+        push_item(&mut out, item)?;
+    }
+    Ok(out)
+}
+
+// The item at this place, where it is an element.
+fn shown_child(alloc: Global, element: &Element, item: usize) -> Result<Blob, Memory> {
+    match element.items.get(item) {
+        Some(Item::Child(child)) => shown(alloc, child),
+        _ => Ok(Blob::new(alloc)),
+    }
+}
+
+fn is_shown(alloc: Global, document: &[u8], wanted: &[u8]) -> Result<bool, EnvelopeError> {
+    let tree = read_element(alloc, document)?;
+    let shown = shown(alloc, &tree)?;
+    Ok(shown.as_slice() == wanted)
 }
 
 #[test]
-fn tells_errors(rt: HostRuntime) -> Result<(), Fail> {
-    let read = read_element(rt.alloc(), b"<a>\xff</a>");
-    assert!(rt; read.is_err_and(|e| e == EnvelopeError::NotUtf8 { valid_up_to: 3 }));
+fn joins_text(rt: HostRuntime) -> Result<(), EnvelopeError> {
+    let document = b"<a>t\r\n&#13;<![CDATA[<]]>u<!-- c -->v<b/><!-- d --></a>";
+    assert!(rt; is_shown(rt.alloc(), document, b"{}a 't\n\r<uv <{}b")?);
     Ok(())
 }
 
 // 20000 attributes, and a last one
-fn many(alloc: Global, last: &str) -> Result<String, AllocError> {
-    let mut text = String::new(alloc);
-    text.push_str("<a")?;
-    for i in 0..20000u32 {
-        text.push_str(" b")?;
-        text.push_str(i.to_string(alloc)?.as_str())?;
-        text.push_str("='c'")?;
+fn many(alloc: Global, last: &[u8]) -> Result<Blob, Memory> {
+    let mut text = Blob::from_slice(alloc, b"<a")?;
+    for i in 0..20000u64 {
+        text.push_all(b" b")?;
+        push_decimal(&mut text, i)?;
+        text.push_all(b"='c'")?;
     }
-    text.push_str(last)?;
-    text.push_str("/>")?;
+    text.push_all(last)?;
+    text.push_all(b"/>")?;
     Ok(text)
 }
 
 #[test]
-fn takes_many_attributes(rt: HostRuntime) -> Result<(), Fail> {
-    let text = many(rt.alloc(), " last='c'")?;
-    assert!(rt; read_element(rt.alloc(), text.as_bytes()).is_ok());
-    let text = many(rt.alloc(), " b7='c'")?;
-    assert!(rt;
-        read_element(rt.alloc(), text.as_bytes()).is_err_and(|e| e == EnvelopeError::NotProfile)
-    );
+fn takes_many_attributes(rt: HostRuntime) -> Result<(), Memory> {
+    let text = many(rt.alloc(), b" last='c'")?;
+    assert!(rt; is_taken(rt.alloc(), text.as_slice()));
+    let text = many(rt.alloc(), b" b7='c'")?;
+    assert!(rt; flaw(rt.alloc(), text.as_slice()) == Some(EnvelopeError::NotProfile));
     Ok(())
 }
 
 #[test]
-fn names_are_expanded(rt: HostRuntime) -> Result<(), Fail> {
-    let tree = read_element(
-        rt.alloc(),
-        b"<a xmlns='u' b='1' xml:c='2'><b xmlns=''/></a>",
-    )?;
-    assert_eq!(rt; tree.name.space(), b"u".as_slice());
-    assert_eq!(rt; tree.name.local(), b"a".as_slice());
-    let [
-        Item::Declaration(declaration),
-        Item::Attribute(first),
-        Item::Attribute(second),
-        Item::Child(child),
-    ] = tree.items.as_slice()
-    else {
-        return Err("not a declaration, two attributes and an element".into());
-    };
-    assert!(rt; declaration.prefix.is_empty());
-    assert_eq!(rt; declaration.space.as_slice(), b"u".as_slice());
-    assert!(rt; first.name.space().is_empty());
-    assert_eq!(rt;
-        second.name.space(),
-        b"http://www.w3.org/XML/1998/namespace".as_slice()
-    );
-    assert!(rt; child.name.space().is_empty());
+fn names_are_expanded(rt: HostRuntime) -> Result<(), EnvelopeError> {
+    let document = b"<a xmlns='u' b='1' xml:c='2'><b xmlns=''/></a>";
+    let wanted = b"{u}a =u @{}b @{http://www.w3.org/XML/1998/namespace}c <{}b";
+    assert!(rt; is_shown(rt.alloc(), document, wanted)?);
     Ok(())
 }
 
-// the space of an item that is an element
-fn space_of(element: &Element, item: usize) -> &[u8] {
-    match element.items.get(item) {
-        Some(Item::Child(child)) => child.name.space(),
-        _ => b"none".as_slice(),
+#[test]
+fn bindings_end_with_their_elements(rt: HostRuntime) -> Result<(), EnvelopeError> {
+    let document =
+        b"<a xmlns='u' xmlns:p='v'><b xmlns=''/><c/><d xmlns='w'/><e/><f xmlns:p='x'/><p:g/></a>";
+    let wanted = b"{u}a =u p=v <{}b <{u}c <{w}d <{u}e <{u}f <{v}g";
+    assert!(rt; is_shown(rt.alloc(), document, wanted)?);
+    Ok(())
+}
+
+fn is_child_shown(alloc: Global, document: &[u8], wanted: &[u8]) -> Result<bool, EnvelopeError> {
+    let tree = read_element(alloc, document)?;
+    let shown = shown_child(alloc, &tree, 1)?;
+    Ok(shown.as_slice() == wanted)
+}
+
+#[test]
+fn default_namespaces_nest(rt: HostRuntime) -> Result<(), EnvelopeError> {
+    let document = b"<a xmlns='u'><b xmlns=''><c xmlns='v'/><d/></b></a>";
+    assert!(rt; is_child_shown(rt.alloc(), document, b"{}b = <{v}c <{}d")?);
+    Ok(())
+}
+
+const DECLARING: &[u8] = b"<p:a xmlns:p='u' b='1'>t<c xmlns='v'/></p:a>";
+
+#[test]
+fn declarations_are_kept(rt: HostRuntime) -> Result<(), EnvelopeError> {
+    assert!(rt; is_shown(rt.alloc(), DECLARING, b"{u}a p=u @{}b 't <{v}c")?);
+    Ok(())
+}
+
+// The element without its declarations.
+fn stripped(alloc: Global) -> Result<Element, EnvelopeError> {
+    let tree = read_element(alloc, DECLARING)?;
+    Ok(strip(alloc, &tree)?)
+}
+
+#[test]
+fn declarations_are_stripped(rt: HostRuntime) -> Result<(), EnvelopeError> {
+    let stripped = stripped(rt.alloc())?;
+    let shown = shown(rt.alloc(), &stripped)?;
+    assert!(rt; shown.as_slice() == b"{u}a @{}b 't <{v}c".as_slice());
+    Ok(())
+}
+
+#[test]
+fn a_child_is_stripped(rt: HostRuntime) -> Result<(), EnvelopeError> {
+    let stripped = stripped(rt.alloc())?;
+    let shown = shown_child(rt.alloc(), &stripped, 2)?;
+    assert!(rt; shown.as_slice() == b"{v}c".as_slice());
+    Ok(())
+}
+
+// A document with white space behind it, so long.
+fn padded(alloc: Global, len: usize) -> Result<Blob, Memory> {
+    let mut bytes = Blob::from_slice(alloc, b"<a/>")?;
+    for _ in 4..len {
+        bytes.push_all(b" ")?;
     }
+    Ok(bytes)
 }
 
 #[test]
-fn bindings_end_with_their_elements(rt: HostRuntime) -> Result<(), Fail> {
-    let tree = read_element(
-        rt.alloc(),
-        b"<a xmlns='u' xmlns:p='v'><b xmlns=''/><c/><d xmlns='w'/><e/><f xmlns:p='x'/><p:g/></a>",
-    )?;
-    let spaces = ["", "u", "w", "u", "u", "v"];
-    for i in 0..spaces.len() {
-        assert_eq!(rt; space_of(&tree, 2 + i), spaces[i].as_bytes(), "{i}");
-    }
+fn a_document_has_a_greatest_length(rt: HostRuntime) -> Result<(), Memory> {
+    let longest = padded(rt.alloc(), MAX_LENGTH)?;
+    assert!(rt; is_taken(rt.alloc(), longest.as_slice()));
+    let longer = padded(rt.alloc(), MAX_LENGTH + 1)?;
+    let flaw = flaw(rt.alloc(), longer.as_slice());
+    assert!(rt; flaw == Some(EnvelopeError::TooLong { len: 2097153 }));
     Ok(())
 }
 
-#[test]
-fn default_namespaces_nest(rt: HostRuntime) -> Result<(), Fail> {
-    let tree = read_element(
-        rt.alloc(),
-        b"<a xmlns='u'><b xmlns=''><c xmlns='v'/><d/></b></a>",
-    )?;
-    let Some(Item::Child(inner)) = tree.items.last() else {
-        return Err("no child".into());
-    };
-    assert!(rt; inner.name.space().is_empty());
-    assert_eq!(rt; space_of(inner, 1), b"v".as_slice());
-    assert_eq!(rt; space_of(inner, 2), b"".as_slice());
-    Ok(())
-}
+// Payloads, and whether they are closed.
+const PAYLOADS: [(&str, bool); 14] = [
+    ("", true),
+    (" <a/> ", true),
+    ("&#32;", true),
+    ("<![CDATA[ ]]><a/>", true),
+    ("<a/><b>x</b>", true),
+    ("<p:a xmlns:p='u'/>", true),
+    ("<a xml:lang='en'/>", true),
+    ("x", false),
+    ("<a/>x", false),
+    ("<p:a/>", false),
+    ("<a p:b='c'/>", false),
+    ("<p:a xmlns:p='u'/><p:b/>", false),
+    ("</a><a>", false),
+    ("<a>", false),
+];
 
 #[test]
-fn declarations_are_stripped(rt: HostRuntime) -> Result<(), Fail> {
-    let tree = read_element(rt.alloc(), b"<p:a xmlns:p='u' b='1'>t<c xmlns='v'/></p:a>")?;
-    assert!(rt; matches!(tree.items.first(), Some(Item::Declaration(_))));
-    let stripped = strip(rt.alloc(), &tree)?;
-    assert_eq!(rt; stripped.name.space(), b"u".as_slice());
-    let [Item::Attribute(_), Item::Text(_), Item::Child(child)] = stripped.items.as_slice() else {
-        return Err("not an attribute, a text and an element".into());
-    };
-    assert!(rt; child.items.is_empty());
-    assert_eq!(rt; child.name.space(), b"v".as_slice());
-    Ok(())
-}
-
-#[test]
-fn a_document_has_a_greatest_length(rt: HostRuntime) -> Result<(), Fail> {
-    let mut bytes = Vec::new(rt.alloc());
-    bytes.extend_from_slice(b"<a/>")?;
-    for _ in bytes.len()..MAX_LENGTH {
-        bytes.push(b' ')?;
-    }
-    assert!(rt; read_element(rt.alloc(), &bytes).is_ok());
-    bytes.push(b' ')?;
-    assert!(rt;
-        read_element(rt.alloc(), &bytes).is_err_and(|e| e
-            == EnvelopeError::TooLong { len: 2097153 })
-    );
-    Ok(())
-}
-
-#[test]
-fn payloads(rt: HostRuntime) -> Result<(), Fail> {
-    let rows = [
-        ("", true),
-        (" <a/> ", true),
-        ("&#32;", true),
-        ("<![CDATA[ ]]><a/>", true),
-        ("<a/><b>x</b>", true),
-        ("<p:a xmlns:p='u'/>", true),
-        ("<a xml:lang='en'/>", true),
-        ("x", false),
-        ("<a/>x", false),
-        ("<p:a/>", false),
-        ("<a p:b='c'/>", false),
-        ("<p:a xmlns:p='u'/><p:b/>", false),
-        ("</a><a>", false),
-        ("<a>", false),
-    ];
-    for i in 0..rows.len() {
-        let (payload, closed) = rows[i];
-        assert_eq!(rt;
-            check_payload(rt.alloc(), payload.as_bytes())?,
-            closed,
-            "{i}"
+fn payloads(rt: HostRuntime) -> Result<(), Memory> {
+    for (payload, closed) in PAYLOADS {
+        assert!(rt;
+            check_payload(rt.alloc(), payload.as_bytes())? == closed,
+            "{payload}"
         );
+    }
+    Ok(())
+}
+
+// The start of an element with so many declarations at this depth.
+fn push_declaring(text: &mut Blob, level: u64, declarations: u64) -> Result<(), Memory> {
+    text.push_all(b"<a")?;
+    for i in 0..declarations {
+        text.push_all(b" xmlns:p")?;
+        push_decimal(text, level)?;
+        text.push_all(b"x")?;
+        push_decimal(text, i)?;
+        text.push_all(b"='u'")?;
+    }
+    text.push_all(b">")
+}
+
+// So many elements with names that the outermost binds.
+fn push_named(text: &mut Blob, declarations: u64) -> Result<(), Memory> {
+    for i in 0..declarations {
+        text.push_all(b"<p0x")?;
+        push_decimal(text, i)?;
+        text.push_all(b":b/>")?;
     }
     Ok(())
 }
 
 // as many elements in one another, each with many declarations, around many names that the outermost bind
-fn nested(alloc: Global, depth: u32, declarations: u32) -> Result<String, AllocError> {
-    let mut text = String::new(alloc);
+fn nested(alloc: Global, depth: u64, declarations: u64) -> Result<Blob, Memory> {
+    let mut text = Blob::new(alloc);
     for level in 0..depth {
-        text.push_str("<a")?;
-        for i in 0..declarations {
-            text.push_str(format!(in alloc; " xmlns:p{level}x{i}='u'")?.as_str())?;
-        }
-        text.push_str(">")?;
+        push_declaring(&mut text, level, declarations)?;
     }
-    for i in 0..declarations {
-        text.push_str(format!(in alloc; "<p0x{i}:b/>")?.as_str())?;
-    }
+    push_named(&mut text, declarations)?;
     for _ in 0..depth {
-        text.push_str("</a>")?;
+        text.push_all(b"</a>")?;
     }
     Ok(text)
 }
 
 #[test]
-fn payloads_are_90_deep(rt: HostRuntime) -> Result<(), Fail> {
+fn payloads_are_90_deep(rt: HostRuntime) -> Result<(), Memory> {
     let text = nested(rt.alloc(), 90, 0)?;
-    assert!(rt; check_payload(rt.alloc(), text.as_bytes())?);
+    assert!(rt; check_payload(rt.alloc(), text.as_slice())?);
     let text = nested(rt.alloc(), 91, 0)?;
-    assert!(rt; !check_payload(rt.alloc(), text.as_bytes())?);
+    assert!(rt; !check_payload(rt.alloc(), text.as_slice())?);
     Ok(())
 }
 
 #[test]
-fn takes_many_declarations(rt: HostRuntime) -> Result<(), Fail> {
+fn takes_many_declarations(rt: HostRuntime) -> Result<(), Memory> {
     let text = nested(rt.alloc(), 99, 100)?;
-    assert!(rt; read_element(rt.alloc(), text.as_bytes()).is_ok());
+    assert!(rt; is_taken(rt.alloc(), text.as_slice()));
+    Ok(())
+}
+
+// As many elements in one with a long namespace.
+fn of_a_long_namespace(alloc: Global) -> Result<Blob, Memory> {
+    let mut text = Blob::from_slice(alloc, b"<a xmlns='")?;
+    for _ in 0..20000u32 {
+        text.push_all(b"urn:namespace:")?;
+    }
+    text.push_all(b"'>")?;
+    for _ in 0..20000u32 {
+        text.push_all(b"<b/>")?;
+    }
+    text.push_all(b"</a>")?;
+    Ok(text)
+}
+
+#[test]
+fn names_share_a_long_namespace(rt: HostRuntime) -> Result<(), Memory> {
+    let text = of_a_long_namespace(rt.alloc())?;
+    assert!(rt; is_taken(rt.alloc(), text.as_slice()));
     Ok(())
 }
 
 #[test]
-fn names_share_a_long_namespace(rt: HostRuntime) -> Result<(), Fail> {
-    let mut text = String::new(rt.alloc());
-    text.push_str("<a xmlns='")?;
-    for _ in 0..20000u32 {
-        text.push_str("urn:namespace:")?;
-    }
-    text.push_str("'>")?;
-    for _ in 0..20000u32 {
-        text.push_str("<b/>")?;
-    }
-    text.push_str("</a>")?;
-    assert!(rt; read_element(rt.alloc(), text.as_bytes()).is_ok());
-    Ok(())
-}
-
-#[test]
-fn holds_bytes(rt: HostRuntime) -> Result<(), Fail> {
+fn holds_bytes(rt: HostRuntime) -> Result<(), Memory> {
     let bytes = Shared::from_slice(rt.alloc(), b"abc")?;
     assert!(rt; !bytes.is_empty());
-    assert_eq!(rt; bytes.share()?.as_slice(), b"abc".as_slice());
+    assert!(rt; bytes.share()?.as_slice() == b"abc".as_slice());
+    Ok(())
+}
+
+#[test]
+fn holds_no_bytes(rt: HostRuntime) -> Result<(), Memory> {
     let none = Shared::from_slice(rt.alloc(), b"")?;
     assert!(rt; none.is_empty());
     assert!(rt; none.share()?.is_empty());
     Ok(())
 }
 
-#[test]
-fn holds_both_parts(rt: HostRuntime) -> Result<(), Fail> {
-    let space = Shared::from_slice(rt.alloc(), b"urn:u")?;
-    let name = Name::new(rt.alloc(), space, b"abc")?.share()?;
-    assert_eq!(rt; name.space(), b"urn:u".as_slice());
-    assert_eq!(rt; name.local(), b"abc".as_slice());
-    Ok(())
+fn name(alloc: Global, space: &[u8], local: &[u8]) -> Result<Name, Memory> {
+    let space = Shared::from_slice(alloc, space)?;
+    Name::new(alloc, space, local)
 }
 
 #[test]
-fn parts_are_a_list(rt: HostRuntime) -> Result<(), Fail> {
-    let document = b"<a xmlns:p='u' b='1'>t<c/></a>";
-    let Element { name: _, items } = read_element(rt.alloc(), document)?;
-    let mut parts = Parts::new(rt.alloc());
-    for item in items {
+fn holds_both_parts(rt: HostRuntime) -> Result<(), Memory> {
+    let name = name(rt.alloc(), b"urn:u", b"abc")?.share()?;
+    assert!(rt; name.space() == b"urn:u".as_slice());
+    assert!(rt; name.local() == b"abc".as_slice());
+    Ok(())
+}
+
+// The parts among an element's items.
+fn parts_of(alloc: Global, document: &[u8]) -> Result<Parts, EnvelopeError> {
+    let element = read_element(alloc, document)?;
+    let mut parts = Parts::new(alloc);
+    for item in element.items {
         if is_part(&item) {
             parts.push(item)?;
         }
     }
-    assert_eq!(rt; parts.len(), 2);
-    assert!(rt; !parts.is_empty());
-    let Some(Item::Text(text)) = parts.get(0) else {
-        return Err("no text".into());
-    };
-    assert_eq!(rt; text.as_slice(), b"t".as_slice());
+    Ok(parts)
+}
+
+// Each of the parts, as an item is shown.
+fn shown_parts(alloc: Global, document: &[u8]) -> Result<Blob, EnvelopeError> {
+    let parts = parts_of(alloc, document)?;
+    let mut out = Blob::new(alloc);
+    for i in 0..parts.len() {
+        if let Some(part) = parts.get(i) {
+            push_item(&mut out, part)?;
+        }
+    }
+    Ok(out)
+}
+
+const PARTS: &[u8] = b"<a xmlns:p='u' b='1'>t<c/></a>";
+
+#[test]
+fn parts_are_a_list(rt: HostRuntime) -> Result<(), EnvelopeError> {
+    let shown = shown_parts(rt.alloc(), PARTS)?;
+    assert!(rt; shown.as_slice() == b" 't <{}c".as_slice());
+    Ok(())
+}
+
+#[test]
+fn parts_are_counted(rt: HostRuntime) -> Result<(), EnvelopeError> {
+    let parts = parts_of(rt.alloc(), PARTS)?;
+    assert!(rt; parts.len() == 2 && !parts.is_empty());
     assert!(rt; matches!(parts.as_slice().get(1), Some(Item::Child(_))));
     assert!(rt; parts.get(2).is_none());
     Ok(())
 }
 
 #[test]
-fn parts_are_pushed(rt: HostRuntime) -> Result<(), Fail> {
+fn parts_are_pushed(rt: HostRuntime) -> Result<(), EnvelopeError> {
     let mut parts = Parts::new(rt.alloc());
     assert!(rt; parts.is_empty());
     parts.push(Item::Child(read_element(rt.alloc(), b"<a/>")?))?;
-    assert_eq!(rt; parts.len(), 1);
+    assert!(rt; parts.len() == 1);
     Ok(())
 }
 
 #[test]
-fn attributes_are_a_list(rt: HostRuntime) -> Result<(), Fail> {
-    let mut attrs: Attrs = Attrs::new(rt.alloc());
-    let name = Name::new(rt.alloc(), Shared::from_slice(rt.alloc(), b"u")?, b"a")?;
+fn attributes_are_a_list(rt: HostRuntime) -> Result<(), Memory> {
+    let name = name(rt.alloc(), b"u", b"a")?;
     let value = Bytes::from_slice(rt.alloc(), b"1")?;
+    let mut attrs: Attrs = Attrs::new(rt.alloc());
     attrs.push(Attr { name, value })?;
-    assert_eq!(rt; attrs.len(), 1);
-    let attr = attrs.get(0).ok_or("none")?;
-    assert_eq!(rt; attr.value.as_slice(), b"1".as_slice());
+    assert!(rt; attrs.len() == 1);
+    match attrs.get(0) {
+        Some(attr) => assert!(rt; attr.value.as_slice() == b"1".as_slice()),
+        None => assert!(rt; false),
+    }
     Ok(())
 }
