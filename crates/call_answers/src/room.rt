@@ -4,8 +4,8 @@ ghost use Rattle.std.specs.List.{AllByRecursion};
 ghost use Rattle.batch_size.specs.Room.{HasRoom};
 ghost use Rattle.batch_size.specs.Size.{capped};
 ghost use Rattle.batch_size.specs.Typed.{IsTyped};
-ghost use Rattle.record_batch.specs.Batch.{batch_text};
-ghost use Rattle.record_batch.specs.Fact.{fact_of};
+ghost use Rattle.rm_protocol.specs.batches.Batch.{batch_text};
+ghost use Rattle.rm_protocol.specs.batches.Fact.{fact_of};
 ghost use Rattle.rm_protocol.specs.Calls.{if_room as if_room_of, refusal as refusal_for};
 ghost use Rattle.rm_protocol.specs.Terms.{Terms};
 ghost use Rattle.rm_protocol.specs.Verdict.{has_room as has_room_for};
@@ -14,8 +14,8 @@ ghost use Rattle.call_answers.specs.Answers.{cause_seen, seen};
 
 use crate::answer::{Answer, Cause, Outcome};
 use batch_size::batch_len;
-use record_batch::Record;
 use rm_base::Memory;
+use rm_protocol::batches::Record;
 use std::alloc::Global;
 
 /// The most bytes of an entry of the journal.

@@ -2,10 +2,9 @@
 ghost use Rattle.std.specs.Prelude.{None};
 
 use rm_base::{Blob, Items, MemSink, MemSource, Memory, Numbers, Sink, SinkError};
-use rm_command::run;
+use rm_command::{Stage, run};
 use rm_disk::MemDisk;
 use rm_journal::Journal;
-use rm_replay::Stage;
 use rm_wires::{MemWire, Packet, Wire};
 use std::alloc::Global;
 use std::test::Fail;

@@ -2,12 +2,12 @@
 use Rattle.std.proofs.Common.{◌≡◌, ℕ, Bool, true, List, [], map, refl, sym, ap, ◌∙◌, subst, inl}
 use Rattle.std.specs.Prelude.{IfOk, Result, Ok, Err}
 use Rattle.rm_base.specs.declared.message.Behaviour.{Behaviour}
-use Rattle.rm_message.specs.declared.message.Message.{Message}
-use Rattle.rm_message.specs.declared.refusal.Refusal.{Refusal}
+use Rattle.rm_protocol.specs.message_types.declared.message.Message.{Message}
+use Rattle.rm_protocol.specs.message_types.declared.refusal.Refusal.{Refusal}
 use Rattle.rm_base.specs.declared.failures.Memory.{Memory}
-use Rattle.record_batch.specs.declared.record.Record.{Record}
-use Rattle.record_batch.specs.Fact.{Fact, fact_of}
-use Rattle.sequence_table.specs.Fits.{all_fit}
+use Rattle.rm_protocol.specs.batches.declared.record.Record.{Record}
+use Rattle.rm_protocol.specs.batches.Fact.{Fact, fact_of}
+use Rattle.rm_protocol.specs.sequences.Fits.{all_fit}
 use Rattle.rm_protocol.specs.Calls.{Answer}
 use Rattle.rm_protocol.specs.Next.{EachMayComeNext, HasNumbers}
 use Rattle.rm_protocol.specs.Terms.{Terms, EndsLater, ReadsBack}

@@ -7,11 +7,11 @@ use Rattle.std.specs.List.{AllByRecursion}
 use Rattle.std.specs.Option.{option_or}
 use Rattle.rm_base.specs.declared.failures.Memory.{Memory}
 use Rattle.rm_base.specs.declared.message.Behaviour.{Behaviour}
-use Rattle.rm_message.specs.declared.message.Message.{Message}
-use Rattle.rm_message.specs.declared.refusal.FaultKind.{FaultKind}
-use Rattle.rm_message.specs.declared.refusal.FaultKind.TheVariants.{StoreFull}
-use Rattle.record_batch.specs.Fact.{Fact}
-use Rattle.message_writer.specs.Faults.{fault_of}
+use Rattle.rm_protocol.specs.message_types.declared.message.Message.{Message}
+use Rattle.rm_protocol.specs.message_types.declared.refusal.FaultKind.{FaultKind}
+use Rattle.rm_protocol.specs.message_types.declared.refusal.FaultKind.TheVariants.{StoreFull}
+use Rattle.rm_protocol.specs.batches.Fact.{Fact}
+use Rattle.rm_wire.specs.writer.Faults.{fault_of}
 use Rattle.rm_protocol.specs.Calls.{Answer, Judged, adds, fault_block, judged, receive, refusal_of}
 use Rattle.rm_protocol.specs.Rows.{rows}
 use Rattle.rm_protocol.specs.Said.{said}

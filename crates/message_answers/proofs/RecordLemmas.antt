@@ -6,10 +6,10 @@ use Rattle.std.proofs.lemmas.Bool.Decides.{nat_tests}
 use Rattle.std.proofs.lemmas.Grind.{flat_map-append}
 use Rattle.std.proofs.lemmas.List.{length-append}
 use Rattle.batch_size.specs.Room.{HasRoom}
-use Rattle.record_batch.specs.Batch.{batch_text}
-use Rattle.record_batch.specs.Fact.{Fact, Made}
-use Rattle.sequence_table.specs.Fits.{all_fit}
-use Rattle.sequence_table.specs.Makers.{counter, draws_of, number}
+use Rattle.rm_protocol.specs.batches.Batch.{batch_text}
+use Rattle.rm_protocol.specs.batches.Fact.{Fact, Made}
+use Rattle.rm_protocol.specs.sequences.Fits.{all_fit}
+use Rattle.rm_protocol.specs.sequences.Makers.{counter, draws_of, number}
 use Rattle.node_rules.specs.Records.{BeginsWithMade}
 use Rattle.call_answers.specs.Serving.{Serves}
 

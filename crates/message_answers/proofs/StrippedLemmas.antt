@@ -1,14 +1,14 @@
 -- What is said to a message doesn't depend on what its payload has.
 use Rattle.std.proofs.Common.{◌≡◌, ℕ, List, ◌++◌, ◌∷◌, [], refl, ap, ◌∙◌, Option, Some, None}
-use Rattle.rm_elements.specs.declared.header.SeqHeader.{SeqHeader}
-use Rattle.rm_message.specs.declared.message.Body.{Body}
-use Rattle.rm_message.specs.declared.message.Body.TheVariants.{Empty, Payload, Lifecycle, Fault}
-use Rattle.rm_message.specs.declared.message.Message.{Message}
-use Rattle.rm_message.specs.declared.refusal.FaultKind.TheVariants.{StoreFull}
-use Rattle.message_writer.specs.Faults.{fault_of}
-use Rattle.wsa_headers.specs.declared.addressing.Addressing.{Addressing}
-use Rattle.record_batch.specs.Fact.{Fact}
-use Rattle.sequence_table.specs.Words.{Text}
+use Rattle.rm_protocol.specs.elements.declared.header.SeqHeader.{SeqHeader}
+use Rattle.rm_protocol.specs.message_types.declared.message.Body.{Body}
+use Rattle.rm_protocol.specs.message_types.declared.message.Body.TheVariants.{Empty, Payload, Lifecycle, Fault}
+use Rattle.rm_protocol.specs.message_types.declared.message.Message.{Message}
+use Rattle.rm_protocol.specs.message_types.declared.refusal.FaultKind.TheVariants.{StoreFull}
+use Rattle.rm_wire.specs.writer.Faults.{fault_of}
+use Rattle.rm_protocol.specs.addressing.declared.addressing.Addressing.{Addressing}
+use Rattle.rm_protocol.specs.batches.Fact.{Fact}
+use Rattle.rm_protocol.specs.sequences.Words.{Text}
 use Rattle.rm_protocol.specs.Calls.{Answer, Done, Judged, refusal_of}
 use Rattle.rm_protocol.specs.Said.{acks_said, answered, ask_acks, data_acks, data_ident, found_in, given_with}
 use Rattle.rm_protocol.specs.Said.{responses, said}

@@ -1,11 +1,11 @@
 -- The verdict that a message has before its records are worked out, and the answers to a message, each as one word.
 use Rattle.std.specs.Prelude.{ℕ, List, [], ◌∷◌, Option, None, Ok}
 use Rattle.rm_base.specs.declared.message.Behaviour.{Behaviour}
-use Rattle.rm_message.specs.declared.message.Message.{Message}
-use Rattle.rm_message.specs.declared.refusal.FaultKind.{FaultKind}
-use Rattle.rm_message.specs.declared.refusal.FaultKind.TheVariants.{StoreFull}
-use Rattle.record_batch.specs.Fact.{Fact}
-use Rattle.message_writer.specs.Faults.{fault_of}
+use Rattle.rm_protocol.specs.message_types.declared.message.Message.{Message}
+use Rattle.rm_protocol.specs.message_types.declared.refusal.FaultKind.{FaultKind}
+use Rattle.rm_protocol.specs.message_types.declared.refusal.FaultKind.TheVariants.{StoreFull}
+use Rattle.rm_protocol.specs.batches.Fact.{Fact}
+use Rattle.rm_wire.specs.writer.Faults.{fault_of}
 use Rattle.rm_protocol.specs.Calls.{Answer, Judged, adds, receive, refusal_of}
 use Rattle.rm_protocol.specs.Said.{said}
 use Rattle.rm_protocol.specs.Terms.{Terms}

@@ -3,9 +3,9 @@ ghost use Rattle.std.specs.Prelude.{◌≡◌, ◌<◌, ◌^◌, ◌++◌, [], t
 ghost use Rattle.std.specs.List.{AllByRecursion};
 ghost use Rattle.batch_size.specs.Room.{HasRoom};
 ghost use Rattle.batch_size.specs.Typed.{IsTyped};
-ghost use Rattle.record_batch.specs.Fact.{fact_of};
-ghost use Rattle.sequence_table.specs.Fits.{all_fit};
-ghost use Rattle.sequence_table.specs.Makers.{counter, number};
+ghost use Rattle.rm_protocol.specs.batches.Fact.{fact_of};
+ghost use Rattle.rm_protocol.specs.sequences.Fits.{all_fit};
+ghost use Rattle.rm_protocol.specs.sequences.Makers.{counter, number};
 ghost use Rattle.rm_protocol.specs.Calls.{receive as receive_of};
 ghost use Rattle.rm_protocol.specs.Next.{HasNumbers};
 ghost use Rattle.rm_protocol.specs.Terms.{Terms};
@@ -24,9 +24,9 @@ use message_verdict::early_verdict;
 use node_rules::laws::{own_terms_are_terms, there_are_own_terms};
 use node_tables::Tables;
 use rm_base::{Behaviour, Memory};
-use rm_message::{Message, Refusal};
 use rm_protocol::laws::each_record_may_come_next;
-use sequence_table::laws::a_byte_for_each_number;
+use rm_protocol::message_types::{Message, Refusal};
+use rm_protocol::sequences::laws::a_byte_for_each_number;
 use std::alloc::Global;
 use tables_ahead::Ahead;
 

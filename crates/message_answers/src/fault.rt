@@ -1,7 +1,7 @@
 //! The fault that a message is answered with.
 ghost use Rattle.std.specs.Prelude.{◌≡◌, ◌++◌, ◌∷◌, [], true, None, IfOk};
-ghost use Rattle.message_writer.specs.Faults.{fault_of};
-ghost use Rattle.sequence_table.specs.Fits.{all_fit};
+ghost use Rattle.rm_wire.specs.writer.Faults.{fault_of};
+ghost use Rattle.rm_protocol.specs.sequences.Fits.{all_fit};
 ghost use Rattle.rm_protocol.specs.Calls.{
   Judged,
   fault_block as fault_block_of,
@@ -9,7 +9,7 @@ ghost use Rattle.rm_protocol.specs.Calls.{
   refusal_of as refusal_for,
 };
 ghost use Rattle.rm_protocol.specs.Verdict.{target as target_of};
-ghost use Rattle.rm_message.specs.declared.refusal.FaultKind.TheVariants.{StoreFull};
+ghost use Rattle.rm_protocol.specs.message_types.declared.refusal.FaultKind.TheVariants.{StoreFull};
 ghost use Rattle.call_answers.specs.Answers.{seen};
 
 use call_answers::{Answer, Outcome};
@@ -17,8 +17,8 @@ use message_replies::fault_block;
 use message_verdict::target;
 use node_messages::{copy_ident, copy_relates, fault_endpoint};
 use rm_base::{Ident, Memory};
-use rm_elements::AckBlock;
-use rm_message::{FaultKind, Message, Names, Refusal};
+use rm_protocol::elements::AckBlock;
+use rm_protocol::message_types::{FaultKind, Message, Names, Refusal};
 use rm_wire::fault_message;
 use std::alloc::Global;
 use tables_ahead::Ahead;

@@ -7,13 +7,13 @@ use Rattle.soap_profile.specs.declared.name.Expanded.{Expanded as Name}
 use Rattle.soap_values.specs.Children.{name_in, value_among}
 use Rattle.soap_values.specs.Outcome.{◌>>=◌, optional, each, if_present}
 use Rattle.soap_values.specs.QNames.{within, qname_in}
-use Rattle.rm_elements.specs.Headers.{header_of}
-use Rattle.rm_elements.specs.Outcome.{rm, mc}
-use Rattle.rm_elements.specs.declared.error.ElementError.{ElementError}
-use Rattle.rm_elements.specs.declared.error.ElementError.TheVariants.{Rollover}
-use Rattle.rm_elements.specs.declared.header.AckBlock.{AckBlock}
-use Rattle.rm_elements.specs.declared.header.Header.{Header}
-use Rattle.rm_elements.specs.declared.header.Header.TheVariants.{Sequence, Ack, Ask, Pending}
+use Rattle.rm_message.specs.elements.Headers.{header_of}
+use Rattle.rm_message.specs.elements.Outcome.{rm, mc}
+use Rattle.rm_message.specs.elements.declared.error.ElementError.{ElementError}
+use Rattle.rm_message.specs.elements.declared.error.ElementError.TheVariants.{Rollover}
+use Rattle.rm_message.specs.elements.declared.header.AckBlock.{AckBlock}
+use Rattle.rm_message.specs.elements.declared.header.Header.{Header}
+use Rattle.rm_message.specs.elements.declared.header.Header.TheVariants.{Sequence, Ack, Ask, Pending}
 use Rattle.message_reader.specs.Blocks.{blocks}
 use Rattle.message_reader.specs.declared.headers.Numbered.{Numbered}
 use Rattle.message_reader.specs.declared.headers.Numbered.TheVariants.{Unnumbered, Within, RolledOver}

@@ -4,8 +4,8 @@ ghost use Rattle.soap_profile.specs.Tree.{children_of};
 ghost use Rattle.soap_profile.specs.View.{element_view, parts_view};
 ghost use Rattle.soap_values.specs.Children.{name_in};
 ghost use Rattle.soap_values.specs.Outcome.{Gives, single};
-ghost use Rattle.wsa_headers.specs.Addressing.{first_of};
-ghost use Rattle.rm_elements.specs.Lifecycle.{lifecycle_of};
+ghost use Rattle.rm_message.specs.addressing.Addressing.{first_of};
+ghost use Rattle.rm_message.specs.elements.Lifecycle.{lifecycle_of};
 ghost use Rattle.message_reader.specs.Bodies.{
   if_fault,
   fault_at,
@@ -22,8 +22,8 @@ ghost use Rattle.message_reader.specs.Bodies.{
 
 use crate::fault::read_fault;
 use rm_base::Payload;
-use rm_elements::{CONNECTION, ElementError, MESSAGING, read_lifecycle};
 use rm_message::Body;
+use rm_message::elements::{CONNECTION, ElementError, MESSAGING, read_lifecycle};
 use soap_profile::{Element, Item, Parts};
 use soap_values::{Flaw, is_named};
 use std::alloc::Global;

@@ -7,13 +7,13 @@ use Rattle.std.proofs.lemmas.Bool.Decides.{nat_tests}
 use Rattle.std.proofs.lemmas.List.{append-nil, append_assoc}
 use Rattle.rm_base.specs.Numbered.{numbered}
 use Rattle.rm_base.specs.declared.message.Behaviour.{Behaviour}
-use Rattle.rm_elements.specs.declared.lapse.Lapse.{Lapse}
-use Rattle.wsa_headers.specs.declared.endpoint.Epr.{Epr}
-use Rattle.record_batch.specs.Fact.{Fact, Creating, Granted}
-use Rattle.sequence_table.specs.Words.{Text}
-use Rattle.sequence_table.specs.Makers.{Maker, Incoming, makers, makers_of, maker, draws_of, counter}
-use Rattle.sequence_table.specs.Fits.{fits, all_fit}
-use Rattle.sequence_table.specs.NodeLemmas.{one_more}
+use Rattle.rm_protocol.specs.elements.declared.lapse.Lapse.{Lapse}
+use Rattle.rm_protocol.specs.addressing.declared.endpoint.Epr.{Epr}
+use Rattle.rm_protocol.specs.batches.Fact.{Fact, Creating, Granted}
+use Rattle.rm_protocol.specs.sequences.Words.{Text}
+use Rattle.rm_protocol.specs.sequences.Makers.{Maker, Incoming, makers, makers_of, maker, draws_of, counter}
+use Rattle.rm_protocol.specs.sequences.Fits.{fits, all_fit}
+use Rattle.rm_protocol.specs.sequences.NodeLemmas.{one_more}
 
 -- the number of a granted sequence is at most n
 abbrev pub IsDrawn : ℕ → Maker → Type 0

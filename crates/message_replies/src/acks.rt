@@ -2,8 +2,8 @@
 ghost use Rattle.std.specs.Prelude.{◌≡◌, ◌++◌, [], ℕ, true, IfOk, OnOk};
 ghost use Rattle.std.specs.Option.{option_copied};
 ghost use Rattle.rm_base.specs.NumberSet.{has_number};
-ghost use Rattle.sequence_table.specs.Find.{acks_to as acks_to_for, find_incoming};
-ghost use Rattle.sequence_table.specs.Fits.{all_fit};
+ghost use Rattle.rm_protocol.specs.sequences.Find.{acks_to as acks_to_for, find_incoming};
+ghost use Rattle.rm_protocol.specs.sequences.Fits.{all_fit};
 ghost use Rattle.rm_protocol.specs.Said.{
   ack_of,
   acks_said as acks_said_of,
@@ -19,10 +19,10 @@ use crate::block::block_of;
 use node_messages::{Ack, copy_endpoint};
 use node_tables::Maker;
 use rm_base::{Ident, Memory};
-use rm_message::{Body, Message};
+use rm_protocol::addressing::Epr;
+use rm_protocol::message_types::{Body, Message};
 use std::alloc::Global;
 use tables_ahead::Ahead;
-use wsa_headers::Epr;
 
 // The AcksTo of a sequence, where that is known.
 fn acks_to<'a>(ahead: &'a Ahead<'_>, seq: u32) -> Option<&'a Epr>

@@ -1,6 +1,6 @@
 //! The acknowledgement of one sequence, and the block that a fault carries.
 ghost use Rattle.std.specs.Prelude.{◌≡◌, ◌++◌, true, IfOk};
-ghost use Rattle.sequence_table.specs.Fits.{all_fit};
+ghost use Rattle.rm_protocol.specs.sequences.Fits.{all_fit};
 ghost use Rattle.rm_protocol.specs.Calls.{
   block_at as block_at_header,
   block_by as block_by_seq,
@@ -18,8 +18,8 @@ ghost use Rattle.rm_protocol.specs.Verdict.{
 use ack_ranges::Range;
 use node_messages::{ack_block, copy_block, copy_ident};
 use rm_base::{Ident, Memory};
-use rm_elements::{AckBlock, AckKind, SeqHeader};
-use rm_message::{FaultKind, Message};
+use rm_protocol::elements::{AckBlock, AckKind, SeqHeader};
+use rm_protocol::message_types::{FaultKind, Message};
 use std::alloc::Global;
 use tables_ahead::Ahead;
 

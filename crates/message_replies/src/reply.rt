@@ -1,14 +1,14 @@
 //! All that is said to a message without a verdict.
 ghost use Rattle.std.specs.Prelude.{◌≡◌, ◌<◌, ◌^◌, ◌++◌, true, IfOk};
-ghost use Rattle.sequence_table.specs.Fits.{all_fit};
-ghost use Rattle.sequence_table.specs.Makers.{counter, number};
+ghost use Rattle.rm_protocol.specs.sequences.Fits.{all_fit};
+ghost use Rattle.rm_protocol.specs.sequences.Makers.{counter, number};
 ghost use Rattle.rm_protocol.specs.Said.{said as said_of};
 
 use crate::acks::acks_said;
 use crate::responses::responses;
 use node_messages::answered;
 use rm_base::Memory;
-use rm_message::Message;
+use rm_protocol::message_types::Message;
 use std::alloc::Global;
 use tables_ahead::Ahead;
 

@@ -1,8 +1,8 @@
 //! The responses to a message: WS-ReliableMessaging 1.2, sections 3.4 to 3.6.
 ghost use Rattle.std.specs.Prelude.{◌≡◌, ◌+◌, ◌<◌, ◌^◌, ◌++◌, ◌∷◌, [], codes, true, IfOk};
-ghost use Rattle.sequence_table.specs.Find.{is_taken as is_taken_of};
-ghost use Rattle.sequence_table.specs.Fits.{all_fit};
-ghost use Rattle.sequence_table.specs.Makers.{counter, maker, number};
+ghost use Rattle.rm_protocol.specs.sequences.Find.{is_taken as is_taken_of};
+ghost use Rattle.rm_protocol.specs.sequences.Fits.{all_fit};
+ghost use Rattle.rm_protocol.specs.sequences.Makers.{counter, maker, number};
 ghost use Rattle.node_messages.specs.Homes.{IsHome};
 ghost use Rattle.rm_protocol.specs.Addresses.{reply_endpoint as reply_endpoint_of};
 ghost use Rattle.rm_protocol.specs.Said.{
@@ -18,11 +18,11 @@ use node_messages::{Home, close_response, grant_response, reply_endpoint, termin
 use node_tables::Maker;
 use node_tables::laws::a_node_with_a_number_has_an_address;
 use rm_base::{Ident, Memory, Uri};
-use rm_elements::Lifecycle;
-use rm_message::{Body, Message};
+use rm_protocol::addressing::Addressing;
+use rm_protocol::elements::Lifecycle;
+use rm_protocol::message_types::{Body, Message};
 use std::alloc::Global;
 use tables_ahead::Ahead;
-use wsa_headers::Addressing;
 
 // The node that speaks.
 fn home<'a>(ahead: &'a Ahead<'_>) -> Home<'a>

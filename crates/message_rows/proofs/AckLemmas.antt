@@ -6,16 +6,16 @@ use Rattle.std.specs.Prelude.{◌&&◌, ◌||◌, is_none, length, nat_le}
 use Rattle.std.proofs.lemmas.Grind.{flat_map-append}
 use Rattle.ack_ranges.specs.declared.range.Range.{Range}
 use Rattle.ack_ranges.specs.Changes.{covers_all, united}
-use Rattle.rm_elements.specs.declared.header.AckBlock.{AckBlock}
-use Rattle.rm_elements.specs.declared.lifecycle.Lifecycle.TheVariants as life
-use Rattle.rm_message.specs.declared.message.Body.{Body}
-use Rattle.rm_message.specs.declared.message.Body.TheVariants as body
-use Rattle.record_batch.specs.Fact.{Fact, Acked, ClosedOut}
-use Rattle.sequence_table.specs.Destinations.{received, received_of}
-use Rattle.sequence_table.specs.Find.{find_from, find_outgoing, is_granted}
-use Rattle.sequence_table.specs.Makers.{Maker, counter, draws_of, makers, makers_of}
-use Rattle.sequence_table.specs.Sources.{acked, is_sending, phase}
-use Rattle.sequence_table.specs.Words.{Text}
+use Rattle.rm_protocol.specs.elements.declared.header.AckBlock.{AckBlock}
+use Rattle.rm_protocol.specs.elements.declared.lifecycle.Lifecycle.TheVariants as life
+use Rattle.rm_protocol.specs.message_types.declared.message.Body.{Body}
+use Rattle.rm_protocol.specs.message_types.declared.message.Body.TheVariants as body
+use Rattle.rm_protocol.specs.batches.Fact.{Fact, Acked, ClosedOut}
+use Rattle.rm_protocol.specs.sequences.Destinations.{received, received_of}
+use Rattle.rm_protocol.specs.sequences.Find.{find_from, find_outgoing, is_granted}
+use Rattle.rm_protocol.specs.sequences.Makers.{Maker, counter, draws_of, makers, makers_of}
+use Rattle.rm_protocol.specs.sequences.Sources.{acked, is_sending, phase}
+use Rattle.rm_protocol.specs.sequences.Words.{Text}
 use Rattle.rm_protocol.specs.Addresses.{is_nowhere}
 use Rattle.rm_protocol.specs.Rows.{ack_at, ack_row, ack_rows, final_at, final_row, ranges_of}
 use Rattle.rm_protocol.specs.Verdict.{refuses_create}

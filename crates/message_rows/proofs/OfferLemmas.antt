@@ -5,10 +5,10 @@ use Rattle.std.specs.Prelude.{◌&&◌, not, slice_get}
 use Rattle.std.proofs.lemmas.Bool.{ne_eqb}
 use Rattle.std.proofs.lemmas.Option.{slice_get_past}
 use Rattle.rm_base.specs.declared.message.Cause.TheVariants.{NotTaken}
-use Rattle.record_batch.specs.Fact.{Ended}
-use Rattle.sequence_table.specs.Destinations.{has_end}
-use Rattle.sequence_table.specs.Find.{is_offered}
-use Rattle.sequence_table.specs.Makers.{maker, makers}
+use Rattle.rm_protocol.specs.batches.Fact.{Ended}
+use Rattle.rm_protocol.specs.sequences.Destinations.{has_end}
+use Rattle.rm_protocol.specs.sequences.Find.{is_offered}
+use Rattle.rm_protocol.specs.sequences.Makers.{maker, makers}
 use Rattle.rm_protocol.specs.Rows.{drop_at}
 use Rattle.tables_ahead.specs.Known.{Known}
 use Rattle.message_rows.specs.WithRow.{with_row}

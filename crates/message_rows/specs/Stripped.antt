@@ -1,8 +1,8 @@
 -- A message whose payload was moved out.
 use Rattle.std.specs.Prelude.{[]}
-use Rattle.rm_message.specs.declared.message.Body.{Body}
-use Rattle.rm_message.specs.declared.message.Body.TheVariants as body
-use Rattle.rm_message.specs.declared.message.Message.{Message}
+use Rattle.rm_protocol.specs.message_types.declared.message.Body.{Body}
+use Rattle.rm_protocol.specs.message_types.declared.message.Body.TheVariants as body
+use Rattle.rm_protocol.specs.message_types.declared.message.Message.{Message}
 
 -- a body without its payload
 abbrev pub emptied : Body → Body

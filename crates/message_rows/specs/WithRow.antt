@@ -1,6 +1,6 @@
 -- The records ahead with those that a row of the receiving table adds.
 use Rattle.std.specs.Prelude.{List, ◌++◌}
-use Rattle.record_batch.specs.Fact.{Fact}
+use Rattle.rm_protocol.specs.batches.Fact.{Fact}
 use Rattle.rm_protocol.specs.Rows.{Row}
 use Rattle.tables_ahead.specs.Known.{Known}
 

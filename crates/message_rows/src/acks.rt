@@ -1,7 +1,7 @@
 //! The rows of acknowledgements: WS-ReliableMessaging 1.2, section 3.9.
 ghost use Rattle.std.specs.Prelude.{◌≡◌, [], ◌∷◌, IfOk, OnOk};
 ghost use Rattle.ack_ranges.specs.Changes.{united};
-ghost use Rattle.sequence_table.specs.Sources.{is_sending as is_sending_in};
+ghost use Rattle.rm_protocol.specs.sequences.Sources.{is_sending as is_sending_in};
 ghost use Rattle.rm_protocol.specs.Rows.{
   ack_at as ack_at_of,
   ack_row as ack_row_of,
@@ -13,9 +13,9 @@ ghost use Rattle.rm_protocol.specs.Rows.{
 ghost use Rattle.message_rows.specs.WithRow.{with_row};
 
 use ack_ranges::{Range, RangeSet};
-use record_batch::Record;
 use rm_base::{MAX_NUMBER, Memory};
-use rm_elements::{AckBlock, AckKind};
+use rm_protocol::batches::Record;
+use rm_protocol::elements::{AckBlock, AckKind};
 use rm_source::OutPhase;
 use std::alloc::Global;
 use tables_ahead::Ahead;

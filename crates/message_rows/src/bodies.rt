@@ -1,8 +1,8 @@
 //! The rows of messages, and of the elements that answer, close and end a sequence: WS-ReliableMessaging 1.2, sections
 //! 3.4 to 3.7.
 ghost use Rattle.std.specs.Prelude.{◌≡◌, ℕ, [], OnOk};
-ghost use Rattle.sequence_table.specs.Destinations.{received};
-ghost use Rattle.sequence_table.specs.Find.{find_incoming, find_outgoing};
+ghost use Rattle.rm_protocol.specs.sequences.Destinations.{received};
+ghost use Rattle.rm_protocol.specs.sequences.Find.{find_incoming, find_outgoing};
 ghost use Rattle.rm_protocol.specs.Rows.{
   close_at,
   closed_at,
@@ -18,9 +18,9 @@ ghost use Rattle.message_rows.specs.WithRow.{with_row};
 
 use crate::offers::{copy_accept, drop_offer};
 use node_messages::copy_ident;
-use record_batch::Record;
 use rm_base::{Cause, Ident, Memory, Payload, Uri};
-use rm_elements::{CreateResponse, Finish, SeqHeader};
+use rm_protocol::batches::Record;
+use rm_protocol::elements::{CreateResponse, Finish, SeqHeader};
 use rm_source::OutPhase;
 use std::alloc::Global;
 use tables_ahead::Ahead;

@@ -1,6 +1,6 @@
 //! The row of a CreateSequence: WS-ReliableMessaging 1.2, section 3.4.
 ghost use Rattle.std.specs.Prelude.{◌≡◌, ◌<◌, ◌^◌, ◌++◌, length, false, OnOk};
-ghost use Rattle.sequence_table.specs.Makers.{counter, makers};
+ghost use Rattle.rm_protocol.specs.sequences.Makers.{counter, makers};
 ghost use Rattle.rm_protocol.specs.Rows.{create_at, create_row as create_row_of};
 ghost use Rattle.rm_protocol.specs.Terms.{Terms};
 ghost use Rattle.rm_protocol.specs.Verdict.{refuses_create};
@@ -10,10 +10,10 @@ ghost use Rattle.message_rows.specs.WithRow.{with_row};
 use crate::offers::taken_of;
 use node_messages::{copy_endpoint, copy_uri};
 use node_rules::laws::a_duration_ends_once;
-use record_batch::Record;
 use rm_base::{Behaviour, Memory, NOW_MAX, Uri};
-use rm_elements::{CreateSequence, Lapse, Lifecycle, deadline};
-use rm_message::Body;
+use rm_protocol::batches::Record;
+use rm_protocol::elements::{CreateSequence, Lapse, Lifecycle, deadline};
+use rm_protocol::message_types::Body;
 use std::alloc::Global;
 use tables_ahead::Ahead;
 

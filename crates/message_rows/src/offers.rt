@@ -1,8 +1,8 @@
 //! Offers of a sequence in the other direction, those of a peer and the node's own: WS-ReliableMessaging 1.2, section
 //! 3.4.
 ghost use Rattle.std.specs.Prelude.{◌≡◌, ◌+◌, ◌++◌, ◌&&◌, not, nat_lt, length, is_none, IfOk, OnOk};
-ghost use Rattle.sequence_table.specs.Find.{find_outgoing, is_offered as is_offered_by};
-ghost use Rattle.sequence_table.specs.Makers.{maker, makers};
+ghost use Rattle.rm_protocol.specs.sequences.Find.{find_outgoing, is_offered as is_offered_by};
+ghost use Rattle.rm_protocol.specs.sequences.Makers.{maker, makers};
 ghost use Rattle.rm_protocol.specs.Addresses.{
   is_anonymous as is_anonymous_text,
   is_nowhere as is_nowhere_text,
@@ -12,12 +12,12 @@ ghost use Rattle.message_rows.specs.WithRow.{with_row};
 
 use node_messages::{copy_endpoint, copy_ident, is_anonymous, is_nowhere};
 use node_tables::Maker;
-use record_batch::{PeerOffer, Record};
 use rm_base::{Cause, Memory};
-use rm_elements::Offer;
+use rm_protocol::addressing::Epr;
+use rm_protocol::batches::{PeerOffer, Record};
+use rm_protocol::elements::Offer;
 use std::alloc::Global;
 use tables_ahead::Ahead;
-use wsa_headers::Epr;
 
 /// What is kept of a peer's offer, where it is taken.
 pub(crate) fn taken_of(

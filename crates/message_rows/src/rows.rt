@@ -1,7 +1,7 @@
 //! The rows of the receiving table.
 ghost use Rattle.std.specs.Prelude.{◌≡◌, ℕ, ◌<◌, ◌^◌, ◌++◌, [], false, OnOk};
-ghost use Rattle.sequence_table.specs.Destinations.{received};
-ghost use Rattle.sequence_table.specs.Makers.{counter};
+ghost use Rattle.rm_protocol.specs.sequences.Destinations.{received};
+ghost use Rattle.rm_protocol.specs.sequences.Makers.{counter};
 ghost use Rattle.rm_protocol.specs.Rows.{body_row as body_row_of, rows};
 ghost use Rattle.rm_protocol.specs.Terms.{Terms};
 ghost use Rattle.rm_protocol.specs.Verdict.{refuses_create};
@@ -14,8 +14,8 @@ use crate::bodies::{close_row, closed_row, data_row, ended_row, response_row, te
 use crate::create::create_row;
 use crate::faults::fault_row;
 use rm_base::{Behaviour, Bindings, Blob, Memory, Payload};
-use rm_elements::Lifecycle;
-use rm_message::{Body, Message};
+use rm_protocol::elements::Lifecycle;
+use rm_protocol::message_types::{Body, Message};
 use std::alloc::Global;
 use std::mem;
 use tables_ahead::Ahead;

@@ -1,9 +1,11 @@
 //! Tests of `wsa_headers`.
 use rm_base::Blob;
+use rm_elements::addressing::{
+    AddressingError, read_addressing, read_epr, write_addressing, write_epr,
+};
 use soap_profile::{Elements, Item, read_element};
 use std::alloc::Global;
 use std::test::Fail;
-use wsa_headers::{AddressingError, read_addressing, read_epr, write_addressing, write_epr};
 
 // The children of an element with the prefixes of a frame.
 fn blocks(alloc: Global, inner: &str) -> Result<Elements, Fail> {

@@ -1,9 +1,9 @@
 //! Tests of `soap_values`.
-use soap_profile::read_element;
-use soap_values::{
+use rm_elements::values::{
     Flaw, find_all, find_optional, find_single, find_value, is_named, is_true_mark, read_ident,
     read_number, read_text, read_trimmed, read_uri, trim,
 };
+use soap_profile::read_element;
 use std::test::Fail;
 
 #[test]

@@ -1,13 +1,15 @@
 -- The verdicts that can be told before the records of a message are worked out.
 use Rattle.std.specs.Prelude.{ℕ, ◌&&◌, ◌||◌, not, Bool, List, [], ◌∷◌}
 use Rattle.std.specs.List.{list_any}
-use Rattle.rm_message.specs.declared.message.Message.{Message}
-use Rattle.rm_message.specs.declared.refusal.FaultKind.{FaultKind}
-use Rattle.rm_message.specs.declared.refusal.FaultKind.TheVariants.{WsrmRequired, UnknownSequence}
-use Rattle.rm_message.specs.declared.refusal.FaultKind.TheVariants.{SequenceTerminated, SequenceClosed}
-use Rattle.rm_message.specs.declared.refusal.FaultKind.TheVariants.{InvalidAcknowledgement, CreateSequenceRefused}
-use Rattle.rm_message.specs.declared.refusal.FaultKind.TheVariants.{MissingSelection, UnsupportedSelection}
-use Rattle.record_batch.specs.Fact.{Fact}
+use Rattle.rm_protocol.specs.message_types.declared.message.Message.{Message}
+use Rattle.rm_protocol.specs.message_types.declared.refusal.FaultKind.{FaultKind}
+use Rattle.rm_protocol.specs.message_types.declared.refusal.FaultKind.TheVariants.{WsrmRequired, UnknownSequence}
+use Rattle.rm_protocol.specs.message_types.declared.refusal.FaultKind.TheVariants.{SequenceTerminated, SequenceClosed}
+use Rattle.rm_protocol.specs.message_types.declared.refusal.FaultKind.TheVariants.{InvalidAcknowledgement}
+use Rattle.rm_protocol.specs.message_types.declared.refusal.FaultKind.TheVariants.{CreateSequenceRefused}
+use Rattle.rm_protocol.specs.message_types.declared.refusal.FaultKind.TheVariants.{MissingSelection}
+use Rattle.rm_protocol.specs.message_types.declared.refusal.FaultKind.TheVariants.{UnsupportedSelection}
+use Rattle.rm_protocol.specs.batches.Fact.{Fact}
 use Rattle.rm_protocol.specs.Verdict.{is_fault_body, lacks_header, is_unknown, target, names_none, is_ended_for}
 use Rattle.rm_protocol.specs.Verdict.{going_on, is_shut_for, is_invalid, refuses_create, lacks_selection}
 use Rattle.rm_protocol.specs.Verdict.{selects_other}

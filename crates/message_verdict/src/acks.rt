@@ -15,8 +15,8 @@ ghost use Rattle.rm_protocol.specs.Verdict.{
 
 use ack_ranges::Range;
 use rm_base::Ident;
-use rm_elements::{AckBlock, AckKind};
-use rm_message::{Body, Message};
+use rm_protocol::elements::{AckBlock, AckKind};
+use rm_protocol::message_types::{Body, Message};
 use tables_ahead::Ahead;
 
 fn knows_block(ahead: &Ahead<'_>, block: &AckBlock) -> bool

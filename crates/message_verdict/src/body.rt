@@ -1,7 +1,7 @@
 //! What the body of a message asks for: WS-ReliableMessaging 1.2, section 3.4, and WS-MakeConnection 1.1, section 3.2.
 ghost use Rattle.std.specs.Prelude.{◌≡◌, ◌++◌, ◌&&◌, ◌||◌, nat_le, is_none, length};
-ghost use Rattle.sequence_table.specs.Find.{find_grant as find_grant_in};
-ghost use Rattle.sequence_table.specs.Makers.{makers};
+ghost use Rattle.rm_protocol.specs.sequences.Find.{find_grant as find_grant_in};
+ghost use Rattle.rm_protocol.specs.sequences.Makers.{makers};
 ghost use Rattle.rm_protocol.specs.Addresses.{is_nowhere as is_nowhere_text};
 ghost use Rattle.rm_protocol.specs.Verdict.{
   is_fault_body as is_fault_body_of,
@@ -12,8 +12,8 @@ ghost use Rattle.rm_protocol.specs.Verdict.{
 
 use node_messages::is_nowhere;
 use rm_base::Uri;
-use rm_elements::{CreateSequence, Lifecycle};
-use rm_message::{Body, Message};
+use rm_protocol::elements::{CreateSequence, Lifecycle};
+use rm_protocol::message_types::{Body, Message};
 use tables_ahead::Ahead;
 
 /// The most sequences of a node.

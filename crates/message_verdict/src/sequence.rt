@@ -13,8 +13,8 @@ ghost use Rattle.rm_protocol.specs.Verdict.{
 };
 
 use rm_base::Ident;
-use rm_elements::Lifecycle;
-use rm_message::{Body, Message};
+use rm_protocol::elements::Lifecycle;
+use rm_protocol::message_types::{Body, Message};
 use tables_ahead::Ahead;
 
 /// Whether a message has a payload without a Sequence header.

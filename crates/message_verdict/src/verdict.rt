@@ -16,7 +16,7 @@ ghost use Rattle.message_verdict.specs.Early.{early_tests};
 use crate::acks::{has_invalid, names_none};
 use crate::body::{is_fault_body, lacks_selection, refuses_create, selects_other};
 use crate::sequence::{is_ended_for, is_shut_for, is_unknown, lacks_header};
-use rm_message::{FaultKind, Message};
+use rm_protocol::message_types::{FaultKind, Message};
 use tables_ahead::Ahead;
 
 // No fault, and a payload without a Sequence header.

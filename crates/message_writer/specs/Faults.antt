@@ -6,11 +6,11 @@ use Rattle.std.specs.Option.{option_to_list}
 use Rattle.soap_profile.specs.Soap.{soap_space}
 use Rattle.soap_profile.specs.Tree.{Element}
 use Rattle.soap_profile.specs.declared.name.Expanded.{Expanded as Name}
-use Rattle.soap_writer.specs.Frame.{addressing_space, messaging_space, connection_space}
+use Rattle.soap_frame.specs.markup.Frame.{addressing_space, messaging_space, connection_space}
 use Rattle.soap_nodes.specs.Node.{leaf, node_tree}
-use Rattle.wsa_headers.specs.declared.addressing.Addressing.{Addressing}
-use Rattle.rm_elements.specs.Texts.{r, identifier_node, ack_node}
-use Rattle.rm_elements.specs.declared.header.AckBlock.{AckBlock}
+use Rattle.rm_message.specs.addressing.declared.addressing.Addressing.{Addressing}
+use Rattle.rm_message.specs.elements.Texts.{r, identifier_node, ack_node}
+use Rattle.rm_message.specs.elements.declared.header.AckBlock.{AckBlock}
 use Rattle.message_writer.specs.declared.table.Vocabulary.{Vocabulary}
 use Rattle.message_writer.specs.declared.table.Vocabulary.TheVariants.{OfSoap, OfAddressing, OfMessaging, OfConnection}
 use Rattle.rm_message.specs.declared.message.Body.TheVariants as body

@@ -18,11 +18,11 @@ use crate::copies::{copy_elements, copy_uri, uri_of};
 use crate::table::{Vocabulary, code, inner, reason, subcode, whose as whose_of};
 use crate::trees::{ack_tree, ident_tree, max_tree};
 use rm_base::{Blob, Ident, Memory, Uri};
-use rm_elements::AckBlock;
+use rm_message::addressing::Addressing;
+use rm_message::elements::AckBlock;
 use rm_message::{Acks, Body, FaultBody, FaultKind, Idents, Message, Names, Refusal};
 use soap_profile::{Elements, Name, Shared};
 use std::alloc::Global;
-use wsa_headers::Addressing;
 
 fn name_in(
     alloc: Global,

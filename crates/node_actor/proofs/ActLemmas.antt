@@ -4,15 +4,15 @@ use Rattle.std.proofs.Common.{◌∷◌, length, Option, Some, None, Result, Ok,
 use Rattle.std.specs.Prelude.{IsTrue, MatchBool}
 use Rattle.std.proofs.lemmas.Bool.{ltb-true, ltb-false, le-leb, lt-leb}
 use Rattle.std.proofs.lemmas.List.{length-map}
-use Rattle.record_batch.specs.Batch.{batch_text}
-use Rattle.record_batch.specs.Fact.{Fact}
+use Rattle.rm_protocol.specs.batches.Batch.{batch_text}
+use Rattle.rm_protocol.specs.batches.Fact.{Fact}
 use Rattle.rm_base.specs.declared.failures.Memory.{Memory}
 use Rattle.rm_disk.specs.Call.{Call, crashes_of}
 use Rattle.rm_disk.specs.Fuse.{Burns}
 use Rattle.rm_disk.specs.ImageLemmas.{left_now}
 use Rattle.rm_journal.specs.EntryLemmas.{length-gates_from}
 use Rattle.rm_journal.specs.JournalState.{end_of as journal_end}
-use Rattle.rm_message.specs.declared.message.Message.{Message}
+use Rattle.rm_protocol.specs.message_types.declared.message.Message.{Message}
 use Rattle.rm_protocol.specs.Calls.{Answer, Cause, Outcome}
 use Rattle.rm_protocol.specs.Node.{Node, State, Up, Writing, Answered, DiskFault, after_by, burned, end_of, goes_down}
 use Rattle.rm_protocol.specs.Node.{is_short, outcome_by, outcome_with, records, said_by, said_with}

@@ -2,8 +2,8 @@
 use Rattle.std.proofs.Common.{◌≡◌, ◌∙◌, ℕ, Bool, true, false, List, [], ◌∷◌, None, sym, ap, subst}
 use Rattle.std.proofs.Common.{inl, inr}
 use Rattle.std.specs.List.{AllByRecursion}
-use Rattle.record_batch.specs.Fact.{Fact}
-use Rattle.record_batch.specs.Writable.{IsBatch}
+use Rattle.rm_protocol.specs.batches.Fact.{Fact}
+use Rattle.rm_protocol.specs.batches.Writable.{IsBatch}
 use Rattle.rm_base.specs.declared.message.Behaviour.{Behaviour}
 use Rattle.rm_disk.specs.Call.{Call, Crashed as Crashes, crashes_of, left_by, seen_of, state}
 use Rattle.rm_disk.specs.Image.{MayLeave, OnlyLeaves}

@@ -2,9 +2,9 @@
 ghost use Rattle.std.specs.Prelude.{◌≡◌, false, true, Result};
 ghost use Rattle.rm_disk.specs.Call.{crashes_of};
 ghost use Rattle.rm_disk.specs.Cause.{HasCause};
-ghost use Rattle.rm_elements.specs.Writable.{IsLapseWritable};
-ghost use Rattle.rm_message.specs.declared.message.Message.{Message as Said};
-ghost use Rattle.rm_message.specs.declared.refusal.Refusal.{Refusal as Refused};
+ghost use Rattle.rm_protocol.specs.elements.Writable.{IsLapseWritable};
+ghost use Rattle.rm_protocol.specs.message_types.declared.message.Message.{Message as Said};
+ghost use Rattle.rm_protocol.specs.message_types.declared.refusal.Refusal.{Refusal as Refused};
 ghost use Rattle.rm_protocol.specs.Calls.{
   close as close_of,
   create as create_of,

@@ -1,7 +1,7 @@
 //! A node is made, its disk is armed, and crashes, and the node is mounted again.
 ghost use Rattle.std.specs.Prelude.{◌≡◌, ◌⊎◌, ◌≤◌, ◌<◌, ◌^◌, ◌++◌, ◌∷◌, ℕ, [], List, None, false, OnOk};
 ghost use Rattle.std.specs.Prelude.{OnErr, IfOk};
-ghost use Rattle.record_batch.specs.Fact.{Fact};
+ghost use Rattle.rm_protocol.specs.batches.Fact.{Fact};
 ghost use Rattle.rm_disk.specs.Call.{crashes_of, seen_of};
 ghost use Rattle.rm_disk.specs.Image.{MayLeave, OnlyLeaves};
 ghost use Rattle.rm_protocol.specs.Node.{Node as Value, armed as armed_by};

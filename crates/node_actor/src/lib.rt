@@ -10,3 +10,4 @@ pub mod laws;
 mod outcome;
 
 pub use actor::{Actor, Came};
+pub use rm_node::{Out, Outs, Wish};

@@ -7,8 +7,8 @@ ghost use Rattle.node_actor.specs.Outcomes.{answer_told, refusal_told};
 
 use crate::actor::Came;
 use rm_base::Memory;
-use rm_message::FaultKind;
 use rm_node::{Cause, Made, NodeError, Outs, Reaction, Sent};
+use rm_protocol::message_types::FaultKind;
 use rm_report::{Outcome, Reason};
 use std::alloc::Global;
 

@@ -4,15 +4,15 @@ use Rattle.std.proofs.Common.{subst, ◌∙◌, Option, Some}
 use Rattle.std.specs.Prelude.{codes}
 use Rattle.std.specs.Option.{option_to_list}
 use Rattle.rm_base.specs.Numbered.{numbered}
-use Rattle.rm_elements.specs.declared.lifecycle.Lifecycle.TheVariants as life
-use Rattle.rm_message.specs.declared.message.Message.{Message}
-use Rattle.record_batch.specs.declared.record.OwnOffer.{OwnOffer}
-use Rattle.record_batch.specs.Fact.{Fact, Creating, Accepted, Closing, Ending}
-use Rattle.sequence_table.specs.Words.{Text, last_or}
-use Rattle.sequence_table.specs.Makers.{counter, makers}
-use Rattle.sequence_table.specs.Sources.{accepted, out_ident, tickets}
-use Rattle.sequence_table.specs.Find.{peer}
-use Rattle.sequence_table.specs.Fits.{all_fit}
+use Rattle.rm_protocol.specs.elements.declared.lifecycle.Lifecycle.TheVariants as life
+use Rattle.rm_protocol.specs.message_types.declared.message.Message.{Message}
+use Rattle.rm_protocol.specs.batches.declared.record.OwnOffer.{OwnOffer}
+use Rattle.rm_protocol.specs.batches.Fact.{Fact, Creating, Accepted, Closing, Ending}
+use Rattle.rm_protocol.specs.sequences.Words.{Text, last_or}
+use Rattle.rm_protocol.specs.sequences.Makers.{counter, makers}
+use Rattle.rm_protocol.specs.sequences.Sources.{accepted, out_ident, tickets}
+use Rattle.rm_protocol.specs.sequences.Find.{peer}
+use Rattle.rm_protocol.specs.sequences.Fits.{all_fit}
 use Rattle.rm_protocol.specs.Calls.{Wish, adds, offer_of}
 use Rattle.rm_protocol.specs.Messages.{finish_request, request_at}
 use Rattle.node_messages.specs.Requests.{create_with}

@@ -2,9 +2,9 @@
 use Rattle.std.proofs.Common.{◌≡◌, ℕ, ◌<◌, ◌≤◌, true, List, [], ◌∷◌, ◌++◌, arith}
 use Rattle.std.specs.Prelude.{nat_le}
 use Rattle.std.proofs.lemmas.Bool.{and_parts, leb-true}
-use Rattle.record_batch.specs.Fact.{Fact, Made}
-use Rattle.sequence_table.specs.Makers.{number}
-use Rattle.sequence_table.specs.Fits.{fits, all_fit}
+use Rattle.rm_protocol.specs.batches.Fact.{Fact, Made}
+use Rattle.rm_protocol.specs.sequences.Makers.{number}
+use Rattle.rm_protocol.specs.sequences.Fits.{fits, all_fit}
 use Rattle.node_rules.specs.Records.{BeginsWithMade}
 
 -- the node has a number

@@ -1,8 +1,8 @@
 -- What the records of a node give to its calls.
 use Rattle.std.specs.Prelude.{◌≡◌, ℕ, ◌<◌, true, List, []}
-use Rattle.record_batch.specs.Fact.{Fact}
-use Rattle.sequence_table.specs.Fits.{all_fit}
-use Rattle.sequence_table.specs.Makers.{counter}
+use Rattle.rm_protocol.specs.batches.Fact.{Fact}
+use Rattle.rm_protocol.specs.sequences.Fits.{all_fit}
+use Rattle.rm_protocol.specs.sequences.Makers.{counter}
 use Rattle.node_rules.specs.OwnTerms.{AreOwn}
 use Rattle.node_rules.specs.Records.{BeginsWithMade}
 use Rattle.rm_protocol.specs.Next.{AddsNext}

@@ -2,20 +2,20 @@
 ghost use Rattle.std.specs.Prelude.{◌≡◌, ℕ, ◌<◌, ◌^◌, ◌++◌, [], true, IfOk, IfSome};
 ghost use Rattle.std.specs.Option.{option_copied, option_map, option_to_list};
 ghost use Rattle.rm_protocol.specs.Calls.{final_ack as final_ack_of, made_by};
-ghost use Rattle.sequence_table.specs.Find.{acks_to as acks_to_in};
-ghost use Rattle.sequence_table.specs.Fits.{all_fit};
-ghost use Rattle.sequence_table.specs.Makers.{counter, maker};
-ghost use Rattle.sequence_table.specs.Words.{Text};
+ghost use Rattle.rm_protocol.specs.sequences.Find.{acks_to as acks_to_in};
+ghost use Rattle.rm_protocol.specs.sequences.Fits.{all_fit};
+ghost use Rattle.rm_protocol.specs.sequences.Makers.{counter, maker};
+ghost use Rattle.rm_protocol.specs.sequences.Words.{Text};
 
 use message_replies::block_of;
 use node_messages::{ack_message, copy_endpoint, is_anonymous};
 use node_tables::Maker;
 use rm_base::Memory;
-use rm_message::{Acks, Message};
-use sequence_table::issue;
+use rm_protocol::addressing::Epr;
+use rm_protocol::message_types::{Acks, Message};
+use rm_protocol::sequences::issue;
 use std::alloc::Global;
 use tables_ahead::Ahead;
-use wsa_headers::Epr;
 
 // Where the acknowledgements of an incoming sequence go, once that is known.
 fn acks_to<'a>(ahead: &'a Ahead<'_>, seq: u32) -> Option<&'a Epr>

@@ -4,14 +4,14 @@ ghost use Rattle.std.specs.List.{AllByRecursion};
 ghost use Rattle.std.specs.Option.{option_to_list};
 ghost use Rattle.batch_size.specs.Room.{HasRoom};
 ghost use Rattle.batch_size.specs.Typed.{IsTyped};
-ghost use Rattle.record_batch.specs.Fact.{fact_of};
+ghost use Rattle.rm_protocol.specs.batches.Fact.{fact_of};
 ghost use Rattle.rm_protocol.specs.Calls.{refusal};
 ghost use Rattle.call_answers.specs.Answers.{cause_seen, seen};
 ghost use Rattle.node_calls.specs.Comes.{done};
 
 use call_answers::{Answer, Cause, Outcome};
 use rm_base::Memory;
-use rm_message::Message;
+use rm_protocol::message_types::Message;
 use std::alloc::Global;
 use tables_ahead::Ahead;
 

@@ -1,6 +1,6 @@
 //! The calls of a node that no message brings.
 ghost use Rattle.std.specs.Prelude.{◌≡◌, map, IfOk};
-ghost use Rattle.record_batch.specs.Fact.{fact_of};
+ghost use Rattle.rm_protocol.specs.batches.Fact.{fact_of};
 ghost use Rattle.rm_protocol.specs.Calls.{
   close as close_of,
   create as create_of,

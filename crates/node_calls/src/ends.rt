@@ -4,7 +4,7 @@ ghost use Rattle.std.specs.List.{AllByRecursion};
 ghost use Rattle.rm_base.specs.declared.message.Cause.TheVariants.{Operator};
 ghost use Rattle.batch_size.specs.Room.{HasRoom};
 ghost use Rattle.batch_size.specs.Typed.{IsTyped};
-ghost use Rattle.record_batch.specs.Fact.{Closed, fact_of};
+ghost use Rattle.rm_protocol.specs.batches.Fact.{Closed, fact_of};
 ghost use Rattle.rm_protocol.specs.Calls.{
   close as close_of,
   close_in as close_in_of,
@@ -12,8 +12,8 @@ ghost use Rattle.rm_protocol.specs.Calls.{
   end as end_of,
 };
 ghost use Rattle.rm_protocol.specs.Terms.{Terms};
-ghost use Rattle.sequence_table.specs.Fits.{fits, is_incoming_side};
-ghost use Rattle.sequence_table.specs.Makers.{maker};
+ghost use Rattle.rm_protocol.specs.sequences.Fits.{fits, is_incoming_side};
+ghost use Rattle.rm_protocol.specs.sequences.Makers.{maker};
 ghost use Rattle.node_rules.specs.OwnTerms.{AreOwn};
 ghost use Rattle.call_answers.specs.Answers.{seen};
 ghost use Rattle.node_calls.specs.Comes.{closed as closed_of, closing as closing_of, ending as ending_of};
@@ -26,8 +26,8 @@ use crate::requests::{close_request, terminate_request};
 use batch_size::laws::a_batch_is_its_parts;
 use call_answers::{Answer, Cause, if_room};
 use node_tables::{Maker, Tables};
-use record_batch::Record;
 use rm_base::Memory;
+use rm_protocol::batches::Record;
 use std::alloc::Global;
 use tables_ahead::Ahead;
 

@@ -3,15 +3,15 @@ ghost use Rattle.std.specs.Prelude.{◌≡◌, ◌+◌, ◌^◌, ◌<◌, ◌≤
 ghost use Rattle.std.specs.List.{AllByRecursion};
 ghost use Rattle.batch_size.specs.Room.{HasRoom};
 ghost use Rattle.batch_size.specs.Typed.{IsTyped};
-ghost use Rattle.record_batch.specs.Fact.{fact_of};
-ghost use Rattle.rm_elements.specs.declared.lifecycle.Lifecycle.TheVariants as life;
+ghost use Rattle.rm_protocol.specs.batches.Fact.{fact_of};
+ghost use Rattle.rm_protocol.specs.elements.declared.lifecycle.Lifecycle.TheVariants as life;
 ghost use Rattle.rm_protocol.specs.Calls.{create as create_of, offer_of, wanted as wanted_of};
 ghost use Rattle.rm_protocol.specs.Messages.{finish_request, via_of as via_for};
 ghost use Rattle.rm_protocol.specs.Terms.{Terms};
-ghost use Rattle.sequence_table.specs.Find.{peer as peer_in};
-ghost use Rattle.sequence_table.specs.Makers.{maker, makers, number};
-ghost use Rattle.sequence_table.specs.Sources.{out_ident, tickets};
-ghost use Rattle.sequence_table.specs.Words.{last_or};
+ghost use Rattle.rm_protocol.specs.sequences.Find.{peer as peer_in};
+ghost use Rattle.rm_protocol.specs.sequences.Makers.{maker, makers, number};
+ghost use Rattle.rm_protocol.specs.sequences.Sources.{out_ident, tickets};
+ghost use Rattle.rm_protocol.specs.sequences.Words.{last_or};
 ghost use Rattle.node_messages.specs.Homes.{IsHome};
 ghost use Rattle.node_rules.specs.OwnTerms.{AreOwn};
 ghost use Rattle.call_answers.specs.Answers.{seen, wish_seen};
@@ -24,12 +24,12 @@ use call_answers::{Answer, Cause, Wish, if_room};
 use node_messages::{Home, copy_endpoint, copy_uri, create_request, plain_endpoint};
 use node_tables::laws::a_node_with_a_number_has_an_address;
 use node_tables::{Maker, Tables};
-use record_batch::{OwnOffer, Record, Via};
 use rm_base::{Behaviour, Memory, Uri};
-use rm_message::Message;
+use rm_protocol::addressing::Epr;
+use rm_protocol::batches::{OwnOffer, Record, Via};
+use rm_protocol::message_types::Message;
 use std::alloc::Global;
 use tables_ahead::Ahead;
-use wsa_headers::Epr;
 
 /// The most sequences of a node.
 const MAX_SEQUENCES: u64 = 256;

@@ -3,19 +3,19 @@ ghost use Rattle.std.specs.Prelude.{◌≡◌, ◌&&◌, ◌++◌, [], map, not,
 ghost use Rattle.std.specs.List.{AllByRecursion};
 ghost use Rattle.batch_size.specs.Room.{HasRoom};
 ghost use Rattle.batch_size.specs.Typed.{IsTyped};
-ghost use Rattle.record_batch.specs.Fact.{fact_of};
+ghost use Rattle.rm_protocol.specs.batches.Fact.{fact_of};
 ghost use Rattle.rm_protocol.specs.Calls.{expired_from, tick as tick_of};
 ghost use Rattle.rm_protocol.specs.Terms.{Terms};
-ghost use Rattle.sequence_table.specs.Destinations.{deadline_of, has_end, is_past as is_past_at};
-ghost use Rattle.sequence_table.specs.Makers.{maker, makers};
+ghost use Rattle.rm_protocol.specs.sequences.Destinations.{deadline_of, has_end, is_past as is_past_at};
+ghost use Rattle.rm_protocol.specs.sequences.Makers.{maker, makers};
 ghost use Rattle.node_rules.specs.OwnTerms.{AreOwn};
 ghost use Rattle.call_answers.specs.Answers.{seen};
 ghost use Rattle.node_calls.specs.Comes.{ending_if, fitting as fitting_of};
 
 use call_answers::{Answer, Outcome, has_room};
 use node_tables::Tables;
-use record_batch::Record;
 use rm_base::{Cause, Memory};
+use rm_protocol::batches::Record;
 use std::alloc::Global;
 use tables_ahead::Ahead;
 

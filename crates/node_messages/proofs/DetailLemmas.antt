@@ -5,8 +5,8 @@ use Rattle.std.proofs.lemmas.List.{reverse-append}
 use Rattle.xml_chars.specs.Classes.{is_space}
 use Rattle.soap_document.specs.Tokens.{is_nil}
 use Rattle.soap_profile.specs.Tree.{Element, element, Parts, none, text, child}
-use Rattle.soap_values.specs.Children.{text_among}
-use Rattle.soap_values.specs.Values.{trimmed_start, trimmed_end, trimmed_text, trimmed}
+use Rattle.rm_protocol.specs.values.Children.{text_among}
+use Rattle.rm_protocol.specs.values.Values.{trimmed_start, trimmed_end, trimmed_text, trimmed}
 use Rattle.rm_protocol.specs.Detail.{ident_of, onto_text, text_of, trimmed as trimmed_twice, trimmed_in, without_space}
 use Rattle.node_messages.specs.Details.{is_identifier}
 

@@ -11,10 +11,10 @@ use crate::name::Name;
 use crate::plain::plain;
 use ack_ranges::RangeSet;
 use rm_base::{Ident, Items, Memory};
-use rm_elements::{AckBlock, AckKind};
-use rm_message::{Acks, Body, Idents, Message};
+use rm_protocol::addressing::Epr;
+use rm_protocol::elements::{AckBlock, AckKind};
+use rm_protocol::message_types::{Acks, Body, Idents, Message};
 use std::alloc::Global;
-use wsa_headers::Epr;
 
 // The ranges of a set, or that there is no number.
 fn ranges_kind(alloc: Global, received: &RangeSet) -> Result<AckKind, Memory>

@@ -4,10 +4,10 @@ ghost use Rattle.soap_profile.specs.View.{element_view, item_view, items_view};
 ghost use Rattle.rm_base.specs.Text.{IsText};
 
 use rm_base::{Ident, Items, Memory, TextError, Uri};
-use rm_elements::{AckBlock, AckKind};
+use rm_protocol::addressing::Epr;
+use rm_protocol::elements::{AckBlock, AckKind};
 use soap_profile::{Attr, Declaration, Element, Elements, Item};
 use std::alloc::Global;
-use wsa_headers::Epr;
 
 /// An address, where the bytes are one.
 pub(crate) fn uri_of(alloc: Global, bytes: &[u8]) -> Result<Uri, Memory>

@@ -5,9 +5,9 @@ ghost use Rattle.rm_protocol.specs.Messages.{plain as plain_of};
 
 use crate::copies::uri_of;
 use rm_base::Memory;
-use rm_message::{Acks, Body, Idents, Message, Names};
+use rm_protocol::addressing::{Addressing, Epr};
+use rm_protocol::message_types::{Acks, Body, Idents, Message, Names};
 use std::alloc::Global;
-use wsa_headers::{Addressing, Epr};
 
 // The headers of a message to an endpoint.
 fn addressing_to(alloc: Global, to: Epr, action: &[u8]) -> Result<Addressing, Memory>

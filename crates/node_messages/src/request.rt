@@ -1,7 +1,7 @@
 //! Requests: WS-ReliableMessaging 1.2, sections 3.4 to 3.6.
 ghost use Rattle.std.specs.Prelude.{◌≡◌, ◌<◌, ◌^◌, List, IfOk, IfSome};
-ghost use Rattle.record_batch.specs.Fact.{Fact};
-ghost use Rattle.rm_elements.specs.declared.lifecycle.Lifecycle.TheVariants as life;
+ghost use Rattle.rm_protocol.specs.batches.Fact.{Fact};
+ghost use Rattle.rm_protocol.specs.elements.declared.lifecycle.Lifecycle.TheVariants as life;
 ghost use Rattle.rm_protocol.specs.Messages.{last_number as last_number_of, request_of};
 ghost use Rattle.node_messages.specs.Homes.{IsHome};
 ghost use Rattle.node_messages.specs.Names.{name_text};
@@ -12,13 +12,13 @@ use crate::endpoint::plain_endpoint;
 use crate::home::Home;
 use crate::name::Name;
 use crate::plain::plain;
-use record_batch::{OwnOffer, Via};
 use rm_base::{Ident, Memory, Uri};
-use rm_elements::{CreateSequence, Finish, Lapse, Lifecycle, Offer};
-use rm_message::{Body, Message};
-use sequence_table::issue;
+use rm_protocol::addressing::Epr;
+use rm_protocol::batches::{OwnOffer, Via};
+use rm_protocol::elements::{CreateSequence, Finish, Lapse, Lifecycle, Offer};
+use rm_protocol::message_types::{Body, Message};
+use rm_protocol::sequences::issue;
 use std::alloc::Global;
-use wsa_headers::Epr;
 
 // A request with a MessageID, to be answered in this way.
 fn request(

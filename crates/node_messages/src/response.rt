@@ -1,13 +1,13 @@
 //! Responses: WS-ReliableMessaging 1.2, sections 3.4 to 3.6.
 ghost use Rattle.std.specs.Prelude.{◌≡◌, ◌<◌, ◌^◌, ◌∷◌, [], List, true, false, IfOk, None, Some};
-ghost use Rattle.record_batch.specs.Fact.{Fact};
-ghost use Rattle.rm_elements.specs.declared.lifecycle.Lifecycle.TheVariants as life;
+ghost use Rattle.rm_protocol.specs.batches.Fact.{Fact};
+ghost use Rattle.rm_protocol.specs.elements.declared.lifecycle.Lifecycle.TheVariants as life;
 ghost use Rattle.rm_protocol.specs.Addresses.{reply_endpoint as reply_endpoint_of};
 ghost use Rattle.rm_protocol.specs.Messages.{response_of};
 ghost use Rattle.rm_protocol.specs.Said.{accept_by};
-ghost use Rattle.sequence_table.specs.Find.{plain_endpoint as plain_endpoint_of};
-ghost use Rattle.sequence_table.specs.Idents.{issue as issue_of};
-ghost use Rattle.sequence_table.specs.Makers.{number};
+ghost use Rattle.rm_protocol.specs.sequences.Find.{plain_endpoint as plain_endpoint_of};
+ghost use Rattle.rm_protocol.specs.sequences.Idents.{issue as issue_of};
+ghost use Rattle.rm_protocol.specs.sequences.Makers.{number};
 ghost use Rattle.node_messages.specs.Homes.{IsHome};
 ghost use Rattle.node_messages.specs.Names.{name_text};
 
@@ -17,11 +17,11 @@ use crate::home::Home;
 use crate::name::Name;
 use crate::plain::plain;
 use rm_base::{Behaviour, Ident, Memory, Uri};
-use rm_elements::{AckBlock, CreateResponse, Lapse, Lifecycle};
-use rm_message::{Acks, Body, Message};
-use sequence_table::issue;
+use rm_protocol::addressing::{Addressing, Epr};
+use rm_protocol::elements::{AckBlock, CreateResponse, Lapse, Lifecycle};
+use rm_protocol::message_types::{Acks, Body, Message};
+use rm_protocol::sequences::issue;
 use std::alloc::Global;
-use wsa_headers::{Addressing, Epr};
 
 // A response to a message, with the blocks that belong to it.
 fn response(

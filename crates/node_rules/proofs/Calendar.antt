@@ -15,8 +15,8 @@ use Rattle.jiff_core.proofs.DateLemmas.{days_from_civil-next_year}
 use Rattle.jiff_core.proofs.SignedLemmas.{signed_arith}
 use Rattle.jiff_span.specs.Months.{add_months, shifted_year, IsShiftable}
 use Rattle.jiff_span.proofs.MonthLemmas.{add_months-zero, add_months-forward}
-use Rattle.rm_elements.specs.Deadline.{IsZero, IsDateOf, sum_of, EndsAt}
-use Rattle.rm_elements.specs.declared.lapse.Lapse.{Lapse}
+use Rattle.rm_protocol.specs.elements.Deadline.{IsZero, IsDateOf, sum_of, EndsAt}
+use Rattle.rm_protocol.specs.elements.declared.lapse.Lapse.{Lapse}
 use Rattle.node_rules.specs.OwnTerms.{EndsAsTold}
 
 -- ---- dates

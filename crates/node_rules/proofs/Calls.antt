@@ -9,29 +9,31 @@ use Rattle.ack_ranges.specs.Laws.{RangeIsAdded}
 use Rattle.rm_base.specs.Text.{IsText}
 use Rattle.rm_base.specs.declared.message.Behaviour.{Behaviour}
 use Rattle.rm_base.specs.declared.message.Cause.TheVariants.{Operator, Expired}
-use Rattle.rm_elements.specs.Writable.{IsAckWritable, IsSequenceWritable}
-use Rattle.rm_elements.specs.declared.header.AckBlock.{AckBlock}
-use Rattle.rm_elements.specs.declared.header.SeqHeader.{SeqHeader}
-use Rattle.rm_elements.specs.declared.lifecycle.Lifecycle.TheVariants as life
-use Rattle.rm_message.specs.declared.message.Body.{Body}
-use Rattle.rm_message.specs.declared.message.Body.TheVariants as body
-use Rattle.rm_message.specs.declared.message.Message.{Message}
-use Rattle.rm_message.specs.declared.refusal.FaultKind.{FaultKind}
-use Rattle.rm_message.specs.declared.refusal.FaultKind.TheVariants.{UnknownSequence, SequenceTerminated}
-use Rattle.rm_message.specs.declared.refusal.FaultKind.TheVariants.{SequenceClosed, InvalidAcknowledgement}
-use Rattle.rm_message.specs.declared.refusal.Refusal.{Refusal}
+use Rattle.rm_protocol.specs.elements.Writable.{IsAckWritable, IsSequenceWritable}
+use Rattle.rm_protocol.specs.elements.declared.header.AckBlock.{AckBlock}
+use Rattle.rm_protocol.specs.elements.declared.header.SeqHeader.{SeqHeader}
+use Rattle.rm_protocol.specs.elements.declared.lifecycle.Lifecycle.TheVariants as life
+use Rattle.rm_protocol.specs.message_types.declared.message.Body.{Body}
+use Rattle.rm_protocol.specs.message_types.declared.message.Body.TheVariants as body
+use Rattle.rm_protocol.specs.message_types.declared.message.Message.{Message}
+use Rattle.rm_protocol.specs.message_types.declared.refusal.FaultKind.{FaultKind}
+use Rattle.rm_protocol.specs.message_types.declared.refusal.FaultKind.TheVariants.{UnknownSequence, SequenceTerminated}
+use Rattle.rm_protocol.specs.message_types.declared.refusal.FaultKind.TheVariants.{SequenceClosed}
+use Rattle.rm_protocol.specs.message_types.declared.refusal.FaultKind.TheVariants.{InvalidAcknowledgement}
+use Rattle.rm_protocol.specs.message_types.declared.refusal.Refusal.{Refusal}
 use Rattle.soap_profile.specs.Soap.{soap_space}
-use Rattle.message_writer.specs.Faults.{fault_of}
-use Rattle.message_writer.specs.Rules.{KeepsRules}
+use Rattle.rm_wire.specs.writer.Faults.{fault_of}
+use Rattle.rm_wire.specs.writer.Rules.{KeepsRules}
 use Rattle.rm_wire.specs.Writable.{IsRefusalWritable}
-use Rattle.record_batch.specs.Fact.{Fact, Creating, Accepted, Closing, Closed, Ending, Ended}
-use Rattle.sequence_table.specs.Words.{Text}
-use Rattle.sequence_table.specs.Idents.{issue}
-use Rattle.sequence_table.specs.Makers.{Maker, Outgoing, Offered, Incoming, Taken, makers, makers_of, maker, counter}
-use Rattle.sequence_table.specs.Makers.{number}
-use Rattle.sequence_table.specs.Sources.{accepted, phase, unacked, all_unacked}
-use Rattle.sequence_table.specs.Destinations.{has_end, is_past, is_over, deadline_of}
-use Rattle.sequence_table.specs.Find.{find_incoming, acks_to}
+use Rattle.rm_protocol.specs.batches.Fact.{Fact, Creating, Accepted, Closing, Closed, Ending, Ended}
+use Rattle.rm_protocol.specs.sequences.Words.{Text}
+use Rattle.rm_protocol.specs.sequences.Idents.{issue}
+use Rattle.rm_protocol.specs.sequences.Makers.{Maker, Outgoing, Offered, Incoming, Taken, makers, makers_of, maker}
+use Rattle.rm_protocol.specs.sequences.Makers.{counter}
+use Rattle.rm_protocol.specs.sequences.Makers.{number}
+use Rattle.rm_protocol.specs.sequences.Sources.{accepted, phase, unacked, all_unacked}
+use Rattle.rm_protocol.specs.sequences.Destinations.{has_end, is_past, is_over, deadline_of}
+use Rattle.rm_protocol.specs.sequences.Find.{find_incoming, acks_to}
 use Rattle.rm_protocol.specs.Calls.{Answer, Cause, NotOpen, PayloadTooLong, BadPayload, WindowFull, NodeFull}
 use Rattle.rm_protocol.specs.Calls.{Rollover, StoreFull, TooManySequences, refusal, adds, if_room, Wish, offer_of}
 use Rattle.rm_protocol.specs.Calls.{wanted, create, is_open, send_out, on_outgoing, send, final_ack, made_by}

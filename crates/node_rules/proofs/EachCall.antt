@@ -3,16 +3,16 @@ use Rattle.std.proofs.Common.{◌≡◌, ℕ, ◌≤◌, Bool, true, List, Optio
 use Rattle.std.specs.Prelude.{IfSome, Result, Ok, Err}
 use Rattle.std.specs.List.{AllByRecursion}
 use Rattle.ack_ranges.specs.declared.range.Range.{Range}
-use Rattle.rm_elements.specs.Writable.{IsAckWritable, IsKindWritable, IsRange, IsSequenceWritable}
-use Rattle.rm_elements.specs.declared.header.AckKind.{AckKind}
-use Rattle.rm_elements.specs.declared.header.AckKind.TheVariants as kind
-use Rattle.rm_elements.specs.declared.header.SeqHeader.{SeqHeader}
-use Rattle.rm_message.specs.declared.message.Message.{Message}
-use Rattle.rm_message.specs.declared.refusal.Refusal.{Refusal}
+use Rattle.rm_protocol.specs.elements.Writable.{IsAckWritable, IsKindWritable, IsRange, IsSequenceWritable}
+use Rattle.rm_protocol.specs.elements.declared.header.AckKind.{AckKind}
+use Rattle.rm_protocol.specs.elements.declared.header.AckKind.TheVariants as kind
+use Rattle.rm_protocol.specs.elements.declared.header.SeqHeader.{SeqHeader}
+use Rattle.rm_protocol.specs.message_types.declared.message.Message.{Message}
+use Rattle.rm_protocol.specs.message_types.declared.refusal.Refusal.{Refusal}
 use Rattle.soap_profile.specs.Soap.{soap_space}
-use Rattle.message_writer.specs.Rules.{KeepsRules}
-use Rattle.record_batch.specs.Fact.{Fact}
-use Rattle.sequence_table.specs.Fits.{all_fit}
+use Rattle.rm_wire.specs.writer.Rules.{KeepsRules}
+use Rattle.rm_protocol.specs.batches.Fact.{Fact}
+use Rattle.rm_protocol.specs.sequences.Fits.{all_fit}
 use Rattle.rm_protocol.specs.Calls.{Answer, create, send, close, end, tick, receive}
 use Rattle.rm_protocol.specs.Next.{BeginsAtOne, IsMessageNumber, IsReadable, AddsNext, EachMayComeNext}
 use Rattle.rm_protocol.specs.Rows.{ranges_of}

@@ -5,11 +5,11 @@ use Rattle.std.proofs.Common.{length-append}
 use Rattle.std.specs.Prelude.{nat_lt}
 use Rattle.std.proofs.lemmas.Bool.{and_parts, eqb-true, le-leb, lt-ltb}
 use Rattle.ack_ranges.specs.Laws.{RangeIsAdded}
-use Rattle.record_batch.specs.Fact.{Fact, Made, Accepted}
-use Rattle.sequence_table.specs.Makers.{makers, makers_of, maker}
-use Rattle.sequence_table.specs.Sources.{accepted_of, unacked, all_unacked}
-use Rattle.sequence_table.specs.Fits.{fits, all_fit, is_outgoing_side}
-use Rattle.sequence_table.specs.GatherLemmas.{flat_map-more}
+use Rattle.rm_protocol.specs.batches.Fact.{Fact, Made, Accepted}
+use Rattle.rm_protocol.specs.sequences.Makers.{makers, makers_of, maker}
+use Rattle.rm_protocol.specs.sequences.Sources.{accepted_of, unacked, all_unacked}
+use Rattle.rm_protocol.specs.sequences.Fits.{fits, all_fit, is_outgoing_side}
+use Rattle.rm_protocol.specs.sequences.GatherLemmas.{flat_map-more}
 use Rattle.node_rules.specs.Records.{KeepsLimits, HasValues, BeginsWithMade, IsKept, MadeIsKept}
 use Rattle.node_rules.proofs.Lists.{All-append, all_fit-append}
 use Rattle.node_rules.proofs.Near.{TakesNear, near-more, side-before}

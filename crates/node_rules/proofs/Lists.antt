@@ -7,9 +7,9 @@ use Rattle.std.specs.List.{AllByRecursion, flat_map}
 use Rattle.std.specs.Option.{option_to_list}
 use Rattle.std.proofs.lemmas.Bool.{and_parts}
 use Rattle.rm_base.specs.Numbered.{numbered}
-use Rattle.record_batch.specs.Fact.{Fact}
-use Rattle.sequence_table.specs.Words.{at_seq, first_or}
-use Rattle.sequence_table.specs.Fits.{fits, all_fit}
+use Rattle.rm_protocol.specs.batches.Fact.{Fact}
+use Rattle.rm_protocol.specs.sequences.Words.{at_seq, first_or}
+use Rattle.rm_protocol.specs.sequences.Fits.{fits, all_fit}
 
 pub All-weaker : {A : Type 0} (P Q : A → Type 0) → ((x : A) → P x → Q x) → (xs : List A) → AllByRecursion P xs
     → AllByRecursion Q xs

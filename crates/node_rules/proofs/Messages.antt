@@ -10,33 +10,33 @@ use Rattle.std.proofs.lemmas.Bool.Decides.{nat_tests}
 use Rattle.std.proofs.lemmas.Option.{slice_get_within}
 use Rattle.rm_base.specs.Numbered.{numbered}
 use Rattle.rm_base.specs.Text.{IsText}
-use Rattle.rm_elements.specs.Writable.{IsNumber, IsAckWritable, IsLifecycleWritable, IsFinishWritable}
-use Rattle.rm_elements.specs.Writable.{IsOfferWritable}
-use Rattle.rm_elements.specs.declared.header.AckBlock.{AckBlock}
-use Rattle.rm_elements.specs.declared.lifecycle.Finish.{Finish}
-use Rattle.rm_elements.specs.declared.lifecycle.Lifecycle.{Lifecycle}
-use Rattle.rm_elements.specs.declared.lifecycle.Lifecycle.TheVariants as life
-use Rattle.rm_message.specs.declared.message.Message.{Message}
+use Rattle.rm_protocol.specs.elements.Writable.{IsNumber, IsAckWritable, IsLifecycleWritable, IsFinishWritable}
+use Rattle.rm_protocol.specs.elements.Writable.{IsOfferWritable}
+use Rattle.rm_protocol.specs.elements.declared.header.AckBlock.{AckBlock}
+use Rattle.rm_protocol.specs.elements.declared.lifecycle.Finish.{Finish}
+use Rattle.rm_protocol.specs.elements.declared.lifecycle.Lifecycle.{Lifecycle}
+use Rattle.rm_protocol.specs.elements.declared.lifecycle.Lifecycle.TheVariants as life
+use Rattle.rm_protocol.specs.message_types.declared.message.Message.{Message}
 use Rattle.rm_source.specs.declared.phase.OutPhase.{OutPhase}
 use Rattle.rm_source.specs.declared.phase.OutPhase.TheVariants as out
 use Rattle.soap_lex.specs.Facts.{equal}
-use Rattle.soap_frame.specs.Framed.{sorted_scope}
+use Rattle.rm_wire.specs.frame.Framed.{sorted_scope}
 use Rattle.soap_profile.specs.Payload.{IsClosedContent}
 use Rattle.soap_profile.specs.Soap.{soap_space}
 use Rattle.soap_profile.specs.Tree.{Element}
-use Rattle.soap_values.specs.TextLaws.{literal_is_text}
-use Rattle.wsa_headers.specs.Writable.{IsEprWritable, IsAddressingWritable, IsParamWritable}
-use Rattle.wsa_headers.specs.declared.addressing.Addressing.{Addressing}
-use Rattle.wsa_headers.specs.declared.endpoint.Epr.{Epr}
-use Rattle.message_writer.specs.Rules.{KeepsRules, action_for, protocol_actions, HasItsId}
-use Rattle.record_batch.specs.declared.record.Via.{Via}
-use Rattle.record_batch.specs.declared.record.Via.TheVariants.{Direct, Polled, Back}
-use Rattle.record_batch.specs.Fact.{Fact}
-use Rattle.sequence_table.specs.Words.{Text, last_or}
-use Rattle.sequence_table.specs.Idents.{issue}
-use Rattle.sequence_table.specs.Makers.{Maker, Outgoing, Offered, maker, number}
-use Rattle.sequence_table.specs.Sources.{accepted, out_ident, phase, tickets}
-use Rattle.sequence_table.specs.Find.{peer, plain_endpoint}
+use Rattle.rm_protocol.specs.values.TextLaws.{literal_is_text}
+use Rattle.rm_protocol.specs.addressing.Writable.{IsEprWritable, IsAddressingWritable, IsParamWritable}
+use Rattle.rm_protocol.specs.addressing.declared.addressing.Addressing.{Addressing}
+use Rattle.rm_protocol.specs.addressing.declared.endpoint.Epr.{Epr}
+use Rattle.rm_wire.specs.writer.Rules.{KeepsRules, action_for, protocol_actions, HasItsId}
+use Rattle.rm_protocol.specs.batches.declared.record.Via.{Via}
+use Rattle.rm_protocol.specs.batches.declared.record.Via.TheVariants.{Direct, Polled, Back}
+use Rattle.rm_protocol.specs.batches.Fact.{Fact}
+use Rattle.rm_protocol.specs.sequences.Words.{Text, last_or}
+use Rattle.rm_protocol.specs.sequences.Idents.{issue}
+use Rattle.rm_protocol.specs.sequences.Makers.{Maker, Outgoing, Offered, maker, number}
+use Rattle.rm_protocol.specs.sequences.Sources.{accepted, out_ident, phase, tickets}
+use Rattle.rm_protocol.specs.sequences.Find.{peer, plain_endpoint}
 use Rattle.rm_protocol.specs.Addresses.{rm_action, payload_action, anonymous, own_address, reply_to}
 use Rattle.rm_protocol.specs.Messages.{written_scope, data_of, data_by, data_at, request_of, never, offer_by}
 use Rattle.rm_protocol.specs.Messages.{create_request, via_of, last_number, finish_of, finish_request, request_by}

@@ -8,13 +8,13 @@ use Rattle.std.proofs.lemmas.Bool.Decides.{nat_tests}
 use Rattle.rm_base.specs.Numbered.{numbered}
 use Rattle.rm_base.specs.NumberSet.{has_number}
 use Rattle.rm_base.specs.declared.message.Payload.{Payload}
-use Rattle.record_batch.specs.Fact.{Fact, Received}
-use Rattle.sequence_table.specs.Words.{with_message, sorted_onto, without_gap, numbers_of}
-use Rattle.sequence_table.specs.Makers.{Maker, makers, makers_of, maker}
-use Rattle.sequence_table.specs.Destinations.{received_of, received, held, front}
-use Rattle.sequence_table.specs.Fits.{fits, all_fit, is_incoming_side}
-use Rattle.sequence_table.specs.GatherLemmas.{flat_map-more}
-use Rattle.sequence_table.specs.NameLemmas.{names-fit, elsewhere_received, unnamed}
+use Rattle.rm_protocol.specs.batches.Fact.{Fact, Received}
+use Rattle.rm_protocol.specs.sequences.Words.{with_message, sorted_onto, without_gap, numbers_of}
+use Rattle.rm_protocol.specs.sequences.Makers.{Maker, makers, makers_of, maker}
+use Rattle.rm_protocol.specs.sequences.Destinations.{received_of, received, held, front}
+use Rattle.rm_protocol.specs.sequences.Fits.{fits, all_fit, is_incoming_side}
+use Rattle.rm_protocol.specs.sequences.GatherLemmas.{flat_map-more}
+use Rattle.rm_protocol.specs.sequences.NameLemmas.{names-fit, elsewhere_received, unnamed}
 
 -- ---- sequences that are there
 

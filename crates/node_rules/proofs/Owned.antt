@@ -4,16 +4,16 @@ use Rattle.std.proofs.Common.{Option, Some, None}
 use Rattle.std.specs.Prelude.{nat_le, IfSome, Result}
 use Rattle.std.proofs.lemmas.Bool.{leb-true}
 use Rattle.std.proofs.lemmas.Bool.Decides.{nat_tests}
-use Rattle.rm_elements.specs.declared.header.AckBlock.{AckBlock}
-use Rattle.rm_elements.specs.declared.lapse.Lapse.{Lapse}
-use Rattle.rm_message.specs.declared.message.Message.{Message}
-use Rattle.rm_message.specs.declared.refusal.FaultKind.{FaultKind}
-use Rattle.rm_message.specs.declared.refusal.FaultKind.TheVariants.{SequenceClosed}
-use Rattle.rm_message.specs.declared.refusal.Refusal.{Refusal}
-use Rattle.message_writer.specs.Faults.{acks_of, fault_of}
-use Rattle.record_batch.specs.Batch.{batch_text}
-use Rattle.record_batch.specs.Fact.{Fact}
-use Rattle.sequence_table.specs.Makers.{counter}
+use Rattle.rm_protocol.specs.elements.declared.header.AckBlock.{AckBlock}
+use Rattle.rm_protocol.specs.elements.declared.lapse.Lapse.{Lapse}
+use Rattle.rm_protocol.specs.message_types.declared.message.Message.{Message}
+use Rattle.rm_protocol.specs.message_types.declared.refusal.FaultKind.{FaultKind}
+use Rattle.rm_protocol.specs.message_types.declared.refusal.FaultKind.TheVariants.{SequenceClosed}
+use Rattle.rm_protocol.specs.message_types.declared.refusal.Refusal.{Refusal}
+use Rattle.rm_wire.specs.writer.Faults.{acks_of, fault_of}
+use Rattle.rm_protocol.specs.batches.Batch.{batch_text}
+use Rattle.rm_protocol.specs.batches.Fact.{Fact}
+use Rattle.rm_protocol.specs.sequences.Makers.{counter}
 use Rattle.rm_protocol.specs.Terms.{Terms, AreTerms, EndsLater, ReadsBack, IsFault, header_blocks}
 use Rattle.node_rules.specs.OwnTerms.{EndsAsTold, AreOwn}
 use Rattle.node_rules.proofs.Calendar.{has-deadline}

@@ -14,33 +14,36 @@ use Rattle.rm_base.specs.Text.{IsText}
 use Rattle.rm_base.specs.declared.message.Behaviour.{Behaviour}
 use Rattle.rm_base.specs.declared.message.Cause.TheVariants.{Peer, NotTaken}
 use Rattle.rm_base.specs.declared.message.Payload.{Payload}
-use Rattle.rm_elements.specs.Writable.{IsAckWritable, IsKindWritable, IsRange, IsOfferWritable, IsCreateWritable}
-use Rattle.rm_elements.specs.Writable.{IsResponseWritable}
-use Rattle.rm_elements.specs.declared.header.AckBlock.{AckBlock}
-use Rattle.rm_elements.specs.declared.header.AckKind.{AckKind}
-use Rattle.rm_elements.specs.declared.header.AckKind.TheVariants as kind
-use Rattle.rm_elements.specs.declared.header.SeqHeader.{SeqHeader}
-use Rattle.rm_elements.specs.declared.lifecycle.CreateResponse.{CreateResponse}
-use Rattle.rm_elements.specs.declared.lifecycle.CreateSequence.{CreateSequence}
-use Rattle.rm_elements.specs.declared.lifecycle.Lifecycle.TheVariants as life
-use Rattle.rm_elements.specs.declared.lifecycle.Offer.{Offer}
+use Rattle.rm_protocol.specs.elements.Writable.{IsAckWritable, IsKindWritable, IsRange, IsOfferWritable}
+use Rattle.rm_protocol.specs.elements.Writable.{IsCreateWritable}
+use Rattle.rm_protocol.specs.elements.Writable.{IsResponseWritable}
+use Rattle.rm_protocol.specs.elements.declared.header.AckBlock.{AckBlock}
+use Rattle.rm_protocol.specs.elements.declared.header.AckKind.{AckKind}
+use Rattle.rm_protocol.specs.elements.declared.header.AckKind.TheVariants as kind
+use Rattle.rm_protocol.specs.elements.declared.header.SeqHeader.{SeqHeader}
+use Rattle.rm_protocol.specs.elements.declared.lifecycle.CreateResponse.{CreateResponse}
+use Rattle.rm_protocol.specs.elements.declared.lifecycle.CreateSequence.{CreateSequence}
+use Rattle.rm_protocol.specs.elements.declared.lifecycle.Lifecycle.TheVariants as life
+use Rattle.rm_protocol.specs.elements.declared.lifecycle.Offer.{Offer}
 use Rattle.rm_source.specs.declared.phase.OutPhase.{OutPhase}
 use Rattle.rm_source.specs.declared.phase.OutPhase.TheVariants as out
-use Rattle.rm_message.specs.declared.message.Body.{Body}
-use Rattle.rm_message.specs.declared.message.Body.TheVariants as body
-use Rattle.rm_message.specs.declared.message.Message.{Message}
+use Rattle.rm_protocol.specs.message_types.declared.message.Body.{Body}
+use Rattle.rm_protocol.specs.message_types.declared.message.Body.TheVariants as body
+use Rattle.rm_protocol.specs.message_types.declared.message.Message.{Message}
 use Rattle.soap_profile.specs.Tree.{Element}
 use Rattle.soap_profile.specs.declared.name.Expanded.{Expanded as Name}
-use Rattle.wsa_headers.specs.declared.endpoint.Epr.{Epr}
-use Rattle.record_batch.specs.declared.record.PeerOffer.{PeerOffer}
-use Rattle.record_batch.specs.Fact.{Fact, Created, Granted, Acked, Received, ClosedOut, Closed, EndedOut, Ended, Failed}
-use Rattle.sequence_table.specs.Words.{Text}
-use Rattle.sequence_table.specs.Makers.{makers, makers_of, maker, counter}
-use Rattle.sequence_table.specs.Sources.{acked, is_sending, phase}
-use Rattle.sequence_table.specs.Destinations.{held, front, has_end, is_ended, is_over}
-use Rattle.sequence_table.specs.Find.{find_incoming, find_outgoing, find_grant, find_creating, is_granted, is_offered}
-use Rattle.sequence_table.specs.Find.{find_from}
-use Rattle.sequence_table.specs.GatherLemmas.{flat_map-more}
+use Rattle.rm_protocol.specs.addressing.declared.endpoint.Epr.{Epr}
+use Rattle.rm_protocol.specs.batches.declared.record.PeerOffer.{PeerOffer}
+use Rattle.rm_protocol.specs.batches.Fact.{Fact, Created, Granted, Acked, Received, ClosedOut, Closed, EndedOut, Ended}
+use Rattle.rm_protocol.specs.batches.Fact.{Failed}
+use Rattle.rm_protocol.specs.sequences.Words.{Text}
+use Rattle.rm_protocol.specs.sequences.Makers.{makers, makers_of, maker, counter}
+use Rattle.rm_protocol.specs.sequences.Sources.{acked, is_sending, phase}
+use Rattle.rm_protocol.specs.sequences.Destinations.{held, front, has_end, is_ended, is_over}
+use Rattle.rm_protocol.specs.sequences.Find.{find_incoming, find_outgoing, find_grant, find_creating, is_granted}
+use Rattle.rm_protocol.specs.sequences.Find.{is_offered}
+use Rattle.rm_protocol.specs.sequences.Find.{find_from}
+use Rattle.rm_protocol.specs.sequences.GatherLemmas.{flat_map-more}
 use Rattle.rm_protocol.specs.Addresses.{is_anonymous, is_nowhere}
 use Rattle.rm_protocol.specs.Detail.{named_in}
 use Rattle.rm_protocol.specs.Rows.{then_row, ranges_of, last_of, ack_at, ack_row, final_at, final_row, ack_rows}

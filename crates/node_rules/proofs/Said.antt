@@ -5,23 +5,23 @@ use Rattle.std.specs.Prelude.{codes, IfSome}
 use Rattle.std.specs.List.{AllByRecursion}
 use Rattle.rm_base.specs.NumberSet.{has_number}
 use Rattle.rm_base.specs.Text.{IsText}
-use Rattle.rm_elements.specs.Writable.{IsAckWritable, IsSequenceWritable, IsLifecycleWritable}
-use Rattle.rm_elements.specs.declared.header.AckBlock.{AckBlock}
-use Rattle.rm_elements.specs.declared.header.SeqHeader.{SeqHeader}
-use Rattle.rm_elements.specs.declared.lifecycle.Lifecycle.{Lifecycle}
-use Rattle.rm_elements.specs.declared.lifecycle.Lifecycle.TheVariants as life
-use Rattle.rm_message.specs.declared.message.Body.{Body}
-use Rattle.rm_message.specs.declared.message.Body.TheVariants as body
-use Rattle.rm_message.specs.declared.message.Message.{Message}
-use Rattle.wsa_headers.specs.Writable.{IsEprWritable, IsAddressingWritable}
-use Rattle.wsa_headers.specs.declared.addressing.Addressing.{Addressing}
-use Rattle.wsa_headers.specs.declared.endpoint.Epr.{Epr}
-use Rattle.message_writer.specs.Rules.{action_for, HasItsId}
-use Rattle.record_batch.specs.Fact.{Fact}
-use Rattle.sequence_table.specs.Words.{Text}
-use Rattle.sequence_table.specs.Idents.{issue}
-use Rattle.sequence_table.specs.Makers.{Maker, Incoming, maker, address, number}
-use Rattle.sequence_table.specs.Find.{acks_to, find_incoming, is_taken}
+use Rattle.rm_protocol.specs.elements.Writable.{IsAckWritable, IsSequenceWritable, IsLifecycleWritable}
+use Rattle.rm_protocol.specs.elements.declared.header.AckBlock.{AckBlock}
+use Rattle.rm_protocol.specs.elements.declared.header.SeqHeader.{SeqHeader}
+use Rattle.rm_protocol.specs.elements.declared.lifecycle.Lifecycle.{Lifecycle}
+use Rattle.rm_protocol.specs.elements.declared.lifecycle.Lifecycle.TheVariants as life
+use Rattle.rm_protocol.specs.message_types.declared.message.Body.{Body}
+use Rattle.rm_protocol.specs.message_types.declared.message.Body.TheVariants as body
+use Rattle.rm_protocol.specs.message_types.declared.message.Message.{Message}
+use Rattle.rm_protocol.specs.addressing.Writable.{IsEprWritable, IsAddressingWritable}
+use Rattle.rm_protocol.specs.addressing.declared.addressing.Addressing.{Addressing}
+use Rattle.rm_protocol.specs.addressing.declared.endpoint.Epr.{Epr}
+use Rattle.rm_wire.specs.writer.Rules.{action_for, HasItsId}
+use Rattle.rm_protocol.specs.batches.Fact.{Fact}
+use Rattle.rm_protocol.specs.sequences.Words.{Text}
+use Rattle.rm_protocol.specs.sequences.Idents.{issue}
+use Rattle.rm_protocol.specs.sequences.Makers.{Maker, Incoming, maker, address, number}
+use Rattle.rm_protocol.specs.sequences.Find.{acks_to, find_incoming, is_taken}
 use Rattle.rm_protocol.specs.Addresses.{anonymous, is_anonymous, reply_endpoint, reply_endpoint_by}
 use Rattle.rm_protocol.specs.Addresses.{fault_endpoint, fault_endpoint_by}
 use Rattle.rm_protocol.specs.Messages.{block_of, ack_message}

@@ -13,8 +13,8 @@ use Rattle.uuid.specs.Text.{is_hyphen_place, digit_place}
 use Rattle.uuid.proofs.TextLemmas.{by_index_length, nibble_small}
 use Rattle.xml_chars.specs.Classes.{is_char, is_space}
 use Rattle.rm_base.specs.Text.{IsText}
-use Rattle.soap_values.specs.TextLaws.{literal_is_text}
-use Rattle.sequence_table.specs.Idents.{issue, polled_address, upper_half, lower_half}
+use Rattle.rm_protocol.specs.values.TextLaws.{literal_is_text}
+use Rattle.rm_protocol.specs.sequences.Idents.{issue, polled_address, upper_half, lower_half}
 
 -- a character of ASCII that is seen
 abbrev is_mark : ℕ → Bool

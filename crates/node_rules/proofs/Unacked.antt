@@ -12,17 +12,19 @@ use Rattle.ack_ranges.specs.Laws.{RangeIsAdded}
 use Rattle.ack_ranges.specs.Ranges.{count_of}
 use Rattle.rm_source.specs.declared.phase.OutPhase.{OutPhase}
 use Rattle.rm_source.specs.declared.phase.OutPhase.TheVariants as out
-use Rattle.record_batch.specs.Fact.{Fact, Creating, Created, Granted, Accepted, Acked, Closing, ClosedOut, Ending}
-use Rattle.record_batch.specs.Fact.{EndedOut, Failed}
-use Rattle.sequence_table.specs.Words.{at_seq, last_or}
-use Rattle.sequence_table.specs.Makers.{Maker, Outgoing, Taken, makers, makers_of, maker}
-use Rattle.sequence_table.specs.Sources.{accepted, accepted_of, acked, acked_of, unacked, unacked_at, unacked_from}
-use Rattle.sequence_table.specs.Sources.{all_unacked, is_sending, phase, mark_of, marks, out_ident}
-use Rattle.sequence_table.specs.Fits.{fits, all_fit, follows, follows_at, is_outgoing_side}
-use Rattle.sequence_table.specs.Told.{opened_by}
-use Rattle.sequence_table.specs.GatherLemmas.{flat_map-more, at_seq-more, united-append}
-use Rattle.sequence_table.specs.NameLemmas.{names-fit, elsewhere_accepted, unnamed}
-use Rattle.sequence_table.specs.PhaseLemmas.{out_ident-more, creating-bare, created-creating, phase-more}
+use Rattle.rm_protocol.specs.batches.Fact.{Fact, Creating, Created, Granted, Accepted, Acked, Closing, ClosedOut}
+use Rattle.rm_protocol.specs.batches.Fact.{Ending}
+use Rattle.rm_protocol.specs.batches.Fact.{EndedOut, Failed}
+use Rattle.rm_protocol.specs.sequences.Words.{at_seq, last_or}
+use Rattle.rm_protocol.specs.sequences.Makers.{Maker, Outgoing, Taken, makers, makers_of, maker}
+use Rattle.rm_protocol.specs.sequences.Sources.{accepted, accepted_of, acked, acked_of, unacked, unacked_at}
+use Rattle.rm_protocol.specs.sequences.Sources.{unacked_from}
+use Rattle.rm_protocol.specs.sequences.Sources.{all_unacked, is_sending, phase, mark_of, marks, out_ident}
+use Rattle.rm_protocol.specs.sequences.Fits.{fits, all_fit, follows, follows_at, is_outgoing_side}
+use Rattle.rm_protocol.specs.sequences.Told.{opened_by}
+use Rattle.rm_protocol.specs.sequences.GatherLemmas.{flat_map-more, at_seq-more, united-append}
+use Rattle.rm_protocol.specs.sequences.NameLemmas.{names-fit, elsewhere_accepted, unnamed}
+use Rattle.rm_protocol.specs.sequences.PhaseLemmas.{out_ident-more, creating-bare, created-creating, phase-more}
 use Rattle.node_rules.specs.Records.{HasValues, AreValues}
 use Rattle.node_rules.proofs.Counts.{IsProper, canonical-proper, united-canonical, united-grows}
 use Rattle.node_rules.proofs.Lists.{All-flat_map, fit-induction}

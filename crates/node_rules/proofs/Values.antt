@@ -11,19 +11,20 @@ use Rattle.ack_ranges.specs.Changes.{with_range}
 use Rattle.rm_base.specs.Numbered.{numbered}
 use Rattle.rm_base.specs.Text.{IsText}
 use Rattle.rm_base.specs.declared.message.Payload.{Payload}
-use Rattle.rm_elements.specs.Writable.{IsNumber, IsRange, IsKindWritable, IsAckWritable, IsLapseWritable}
+use Rattle.rm_protocol.specs.elements.Writable.{IsNumber, IsRange, IsKindWritable, IsAckWritable, IsLapseWritable}
 use Rattle.soap_profile.specs.Payload.{IsClosedContent}
-use Rattle.wsa_headers.specs.Writable.{IsEprWritable}
-use Rattle.wsa_headers.specs.declared.endpoint.Epr.{Epr}
-use Rattle.record_batch.specs.Fact.{Fact, Made, Creating, Created, Granted, Accepted, Received}
-use Rattle.sequence_table.specs.Words.{Text, at_seq, numbers_of}
-use Rattle.sequence_table.specs.Makers.{Maker, Outgoing, Offered, Incoming, Taken, makers, makers_of, maker, address}
-use Rattle.sequence_table.specs.Makers.{created_of, created_from, created, ident_in}
-use Rattle.sequence_table.specs.Sources.{accepted, accepted_of, out_ident}
-use Rattle.sequence_table.specs.Destinations.{received, received_of, held, is_over}
-use Rattle.sequence_table.specs.Find.{plain_endpoint, peer_of, peer, accept_of, accepted_by, acks_to_of, acks_to}
-use Rattle.sequence_table.specs.Fits.{fits, all_fit, follows_at, is_incoming_side}
-use Rattle.sequence_table.specs.GatherLemmas.{flat_map-more}
+use Rattle.rm_protocol.specs.addressing.Writable.{IsEprWritable}
+use Rattle.rm_protocol.specs.addressing.declared.endpoint.Epr.{Epr}
+use Rattle.rm_protocol.specs.batches.Fact.{Fact, Made, Creating, Created, Granted, Accepted, Received}
+use Rattle.rm_protocol.specs.sequences.Words.{Text, at_seq, numbers_of}
+use Rattle.rm_protocol.specs.sequences.Makers.{Maker, Outgoing, Offered, Incoming, Taken, makers, makers_of, maker}
+use Rattle.rm_protocol.specs.sequences.Makers.{address}
+use Rattle.rm_protocol.specs.sequences.Makers.{created_of, created_from, created, ident_in}
+use Rattle.rm_protocol.specs.sequences.Sources.{accepted, accepted_of, out_ident}
+use Rattle.rm_protocol.specs.sequences.Destinations.{received, received_of, held, is_over}
+use Rattle.rm_protocol.specs.sequences.Find.{plain_endpoint, peer_of, peer, accept_of, accepted_by, acks_to_of, acks_to}
+use Rattle.rm_protocol.specs.sequences.Fits.{fits, all_fit, follows_at, is_incoming_side}
+use Rattle.rm_protocol.specs.sequences.GatherLemmas.{flat_map-more}
 use Rattle.rm_protocol.specs.Messages.{ranges_onto, kind_of, block_of}
 use Rattle.node_rules.specs.Records.{KeepsLimits, HasValues, IsKept}
 use Rattle.node_rules.proofs.Lists.{All-append, All-flat_map, All-numbered, All-at_seq, first_or-has, fit-induction}

@@ -2,14 +2,14 @@
 use Rattle.std.specs.Prelude.{ℕ, ◌≤◌, List, ◌++◌, length, Result}
 use Rattle.std.specs.List.{AllByRecursion}
 use Rattle.rm_base.specs.declared.message.Behaviour.{Behaviour}
-use Rattle.rm_message.specs.declared.message.Message.{Message}
-use Rattle.rm_message.specs.declared.refusal.Refusal.{Refusal}
+use Rattle.rm_protocol.specs.message_types.declared.message.Message.{Message}
+use Rattle.rm_protocol.specs.message_types.declared.refusal.Refusal.{Refusal}
 use Rattle.soap_profile.specs.Soap.{soap_space}
-use Rattle.message_reader.specs.Refusals.{Spells}
-use Rattle.message_writer.specs.Rules.{KeepsRules}
-use Rattle.message_writer.specs.Text.{message_text}
-use Rattle.record_batch.specs.Fact.{Fact}
-use Rattle.sequence_table.specs.Words.{Text}
+use Rattle.rm_wire.specs.reader.Refusals.{Spells}
+use Rattle.rm_wire.specs.writer.Rules.{KeepsRules}
+use Rattle.rm_wire.specs.writer.Text.{message_text}
+use Rattle.rm_protocol.specs.batches.Fact.{Fact}
+use Rattle.rm_protocol.specs.sequences.Words.{Text}
 use Rattle.rm_protocol.specs.Calls.{Answer, Wish, create, send, close, end, tick, receive}
 use Rattle.rm_protocol.specs.Terms.{Terms}
 use Rattle.node_rules.specs.OwnTerms.{AreOwn}

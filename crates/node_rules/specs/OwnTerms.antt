@@ -1,14 +1,14 @@
 -- Terms of a node's own: what the definitions take from the layers that write, read and date is what these layers do.
 use Rattle.std.specs.Prelude.{◌≡◌, ℕ, ◌<◌, ◌≤◌, Bool, List, length, Option, None, Result, IsTrue, ◌↔◌}
 use Rattle.soap_profile.specs.Payload.{IsClosedContent}
-use Rattle.rm_elements.specs.Deadline.{IsDeadline}
-use Rattle.rm_elements.specs.declared.header.AckBlock.{AckBlock}
-use Rattle.rm_elements.specs.declared.lapse.Lapse.{Lapse}
-use Rattle.rm_message.specs.declared.message.Message.{Message}
-use Rattle.rm_message.specs.declared.refusal.Refusal.{Refusal}
-use Rattle.message_writer.specs.Faults.{fault_of}
-use Rattle.record_batch.specs.Batch.{batch_text}
-use Rattle.record_batch.specs.Fact.{Fact}
+use Rattle.rm_protocol.specs.elements.Deadline.{IsDeadline}
+use Rattle.rm_protocol.specs.elements.declared.header.AckBlock.{AckBlock}
+use Rattle.rm_protocol.specs.elements.declared.lapse.Lapse.{Lapse}
+use Rattle.rm_protocol.specs.message_types.declared.message.Message.{Message}
+use Rattle.rm_protocol.specs.message_types.declared.refusal.Refusal.{Refusal}
+use Rattle.rm_wire.specs.writer.Faults.{fault_of}
+use Rattle.rm_protocol.specs.batches.Batch.{batch_text}
+use Rattle.rm_protocol.specs.batches.Fact.{Fact}
 use Rattle.rm_protocol.specs.Terms.{Terms, AreTerms, ReadsBack}
 
 -- a clock tells moments up to this one, and then a duration ends as the calendar says; what begins later never ends

@@ -2,12 +2,12 @@
 use Rattle.std.specs.Prelude.{None, IfSome, Result, Ok, Err}
 use Rattle.std.specs.List.{AllByRecursion}
 use Rattle.rm_base.specs.Text.{IsText}
-use Rattle.rm_elements.specs.Writable.{IsSequenceWritable, IsAckWritable, IsLapseWritable, IsLifecycleWritable}
-use Rattle.rm_message.specs.declared.message.Body.{Body}
-use Rattle.rm_message.specs.declared.message.Body.TheVariants as body
-use Rattle.rm_message.specs.declared.message.Message.{Message}
-use Rattle.rm_message.specs.declared.refusal.Refusal.{Refusal}
-use Rattle.wsa_headers.specs.Writable.{IsAddressingWritable}
+use Rattle.rm_protocol.specs.elements.Writable.{IsSequenceWritable, IsAckWritable, IsLapseWritable, IsLifecycleWritable}
+use Rattle.rm_protocol.specs.message_types.declared.message.Body.{Body}
+use Rattle.rm_protocol.specs.message_types.declared.message.Body.TheVariants as body
+use Rattle.rm_protocol.specs.message_types.declared.message.Message.{Message}
+use Rattle.rm_protocol.specs.message_types.declared.refusal.Refusal.{Refusal}
+use Rattle.rm_protocol.specs.addressing.Writable.{IsAddressingWritable}
 use Rattle.rm_wire.specs.Writable.{IsRefusalWritable}
 use Rattle.rm_protocol.specs.Calls.{Wish}
 

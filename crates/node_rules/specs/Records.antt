@@ -4,15 +4,15 @@ use Rattle.std.specs.List.{AllByRecursion}
 use Rattle.ack_ranges.specs.Ranges.{IsCanonical}
 use Rattle.rm_base.specs.NumberSet.{has_number}
 use Rattle.rm_base.specs.Text.{IsText}
-use Rattle.rm_elements.specs.Writable.{IsLapseWritable}
+use Rattle.rm_protocol.specs.elements.Writable.{IsLapseWritable}
 use Rattle.soap_profile.specs.Payload.{IsClosedContent}
-use Rattle.wsa_headers.specs.Writable.{IsEprWritable}
-use Rattle.record_batch.specs.declared.record.PeerOffer.{PeerOffer}
-use Rattle.record_batch.specs.Fact.{Fact, Made, Creating, Created, Granted, Accepted, Acked}
-use Rattle.sequence_table.specs.Makers.{makers, maker}
-use Rattle.sequence_table.specs.Sources.{unacked, all_unacked}
-use Rattle.sequence_table.specs.Destinations.{held, front}
-use Rattle.sequence_table.specs.Fits.{all_fit, is_outgoing_side, is_incoming_side}
+use Rattle.rm_protocol.specs.addressing.Writable.{IsEprWritable}
+use Rattle.rm_protocol.specs.batches.declared.record.PeerOffer.{PeerOffer}
+use Rattle.rm_protocol.specs.batches.Fact.{Fact, Made, Creating, Created, Granted, Accepted, Acked}
+use Rattle.rm_protocol.specs.sequences.Makers.{makers, maker}
+use Rattle.rm_protocol.specs.sequences.Sources.{unacked, all_unacked}
+use Rattle.rm_protocol.specs.sequences.Destinations.{held, front}
+use Rattle.rm_protocol.specs.sequences.Fits.{all_fit, is_outgoing_side, is_incoming_side}
 
 -- ---- one record
 

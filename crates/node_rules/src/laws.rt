@@ -1,7 +1,7 @@
 //! Laws of what the records of a node keep, and of what it says, each the contract of a function that does nothing but
 //! to bring in the laws that it stands on.
 ghost use Rattle.std.specs.Prelude.{◌≡◌};
-ghost use Rattle.soap_frame.specs.Framed.{sorted_scope};
+ghost use Rattle.rm_wire.specs.frame.Framed.{sorted_scope};
 ghost use Rattle.soap_profile.specs.Soap.{soap_space};
 ghost use Rattle.rm_protocol.specs.Messages.{written_scope};
 ghost use Rattle.node_rules.specs.Keeps.{EachCallKeeps, EachIsByTheRules, EachIsReadBack};
@@ -10,8 +10,8 @@ ghost use Rattle.node_rules.specs.Records.{MadeIsKept};
 
 use ack_ranges::range_is_added;
 use rm_protocol::laws::each_record_may_come_next;
+use rm_protocol::sequences::laws::a_byte_for_each_number;
 use rm_wire::laws::{a_fault_keeps_the_rules, what_is_written_is_read};
-use sequence_table::laws::a_byte_for_each_number;
 use soap_document::laws::{content_makes_a_document, document_is_read};
 
 /// Each call of a node keeps its records those of a node: what `mount` accepts before a call it accepts after it.

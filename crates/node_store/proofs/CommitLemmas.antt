@@ -10,8 +10,8 @@ use Rattle.std.proofs.lemmas.List.{get_or-append_right}
 use Rattle.batch_size.specs.Room.{HasRoom}
 use Rattle.batch_size.specs.Size.{batch_size}
 use Rattle.rm_base.specs.Text.{IsText}
-use Rattle.record_batch.specs.Batch.{batch_text}
-use Rattle.record_batch.specs.Fact.{Fact, Made}
+use Rattle.rm_protocol.specs.batches.Batch.{batch_text}
+use Rattle.rm_protocol.specs.batches.Fact.{Fact, Made}
 use Rattle.rm_disk.specs.Call.{Call, crashes_of}
 use Rattle.rm_disk.specs.Fuse.{Burns}
 use Rattle.rm_disk.specs.Image.{OnlyLeaves}
@@ -19,7 +19,7 @@ use Rattle.rm_disk.specs.ImageLemmas.{only_from, only_weaker}
 use Rattle.rm_journal.specs.Entries.{longest, StandsFor, StandsForEither}
 use Rattle.rm_journal.specs.Journal.{Fits, limit, refusal_of, with_entry}
 use Rattle.rm_journal.specs.JournalState.{JournalState, end_of, journal_of}
-use Rattle.sequence_table.specs.Makers.{counter, draws_of}
+use Rattle.rm_protocol.specs.sequences.Makers.{counter, draws_of}
 use Rattle.rm_protocol.specs.Node.{records_in}
 use Rattle.node_rules.specs.Records.{BeginsWithMade, IsKept}
 use Rattle.node_store.specs.Changes.{BurnsFor, Changes, Told, told}

@@ -6,10 +6,10 @@ use Rattle.std.proofs.lemmas.Grind.{flat_map-append}
 use Rattle.std.proofs.lemmas.List.{append-nil, map-append}
 use Rattle.batch_size.specs.Room.{HasRoom}
 use Rattle.batch_size.specs.Typed.{AreKept, IsTyped}
-use Rattle.record_batch.specs.Batch.{batch_at, batch_text}
-use Rattle.record_batch.specs.Fact.{Fact, Made, Creating, Created, Granted, Accepted, Acked, Received, Closing}
-use Rattle.record_batch.specs.Fact.{ClosedOut, Closed, Ending, EndedOut, Ended, Failed}
-use Rattle.record_batch.specs.Writable.{IsBatch, IsWritable}
+use Rattle.rm_protocol.specs.batches.Batch.{batch_at, batch_text}
+use Rattle.rm_protocol.specs.batches.Fact.{Fact, Made, Creating, Created, Granted, Accepted, Acked, Received, Closing}
+use Rattle.rm_protocol.specs.batches.Fact.{ClosedOut, Closed, Ending, EndedOut, Ended, Failed}
+use Rattle.rm_protocol.specs.batches.Writable.{IsBatch, IsWritable}
 use Rattle.rm_disk.specs.Call.{Call}
 use Rattle.rm_journal.specs.Entries.{block, bytes_of, prefix_of}
 use Rattle.rm_journal.specs.EntryLemmas.{end_is, length-block, length-prefix_of, prefix_of-push, stands_for_one}

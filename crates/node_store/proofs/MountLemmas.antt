@@ -2,16 +2,16 @@
 use Rattle.std.proofs.Common.{◌≡◌, ℕ, ◌<◌, ◌≤◌, List, [], ◌∷◌, length}
 use Rattle.std.proofs.Common.{refl, sym, ap, subst, ◌∙◌, arith, length-append}
 use Rattle.std.specs.List.{AllByRecursion, flat_map}
-use Rattle.record_batch.specs.Batch.{batch_text}
-use Rattle.record_batch.specs.Fact.{Fact}
-use Rattle.record_batch.specs.Writable.{IsBatch}
+use Rattle.rm_protocol.specs.batches.Batch.{batch_text}
+use Rattle.rm_protocol.specs.batches.Fact.{Fact}
+use Rattle.rm_protocol.specs.batches.Writable.{IsBatch}
 use Rattle.rm_disk.specs.Call.{Call, seen_of}
 use Rattle.rm_journal.specs.Entries.{block, StandsFor}
 use Rattle.rm_journal.specs.EntryLemmas.{end_is, length-block, length-prefix_of, stands_for_one}
 use Rattle.rm_journal.specs.Journal.{Fits}
 use Rattle.rm_journal.specs.JournalState.{JournalState, end_of}
 use Rattle.rm_protocol.specs.Node.{records_in}
-use Rattle.sequence_table.specs.Makers.{counter}
+use Rattle.rm_protocol.specs.sequences.Makers.{counter}
 use Rattle.node_rules.specs.Records.{AreValues}
 use Rattle.node_store.specs.Has.{AreOfNode, entries_of, Holds, StandsForBatches}
 use Rattle.node_store.specs.Mounted.{AreReplayed, Finds, KeepsWindows, Replays}

@@ -3,7 +3,7 @@ use Rattle.std.specs.Prelude.{◌≡◌, ◌⊎◌, ℕ, Bool, true, false, List
 use Rattle.rm_disk.specs.Call.{Call, crashes_of}
 use Rattle.rm_disk.specs.Fuse.{Burns}
 use Rattle.rm_disk.specs.Image.{OnlyLeaves}
-use Rattle.record_batch.specs.Fact.{Fact}
+use Rattle.rm_protocol.specs.batches.Fact.{Fact}
 use Rattle.node_store.specs.Has.{Holds, IsLeftBy}
 use Rattle.node_store.specs.Stored.{Stored, with_batch}
 

@@ -1,9 +1,9 @@
 -- The batches that a disk and a node have.
 use Rattle.std.specs.Prelude.{◌≡◌, ◌⊎◌, ◌≤◌, ℕ, List, length, map}
 use Rattle.std.specs.List.{AllByRecursion}
-use Rattle.record_batch.specs.Batch.{batch_text}
-use Rattle.record_batch.specs.Fact.{Fact}
-use Rattle.record_batch.specs.Writable.{IsBatch}
+use Rattle.rm_protocol.specs.batches.Batch.{batch_text}
+use Rattle.rm_protocol.specs.batches.Fact.{Fact}
+use Rattle.rm_protocol.specs.batches.Writable.{IsBatch}
 use Rattle.rm_disk.specs.Call.{Call}
 use Rattle.rm_journal.specs.Entries.{StandsFor, bytes_of}
 use Rattle.rm_journal.specs.Journal.{Fits}

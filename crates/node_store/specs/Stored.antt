@@ -1,10 +1,10 @@
 -- What is kept of a node, and what a call makes of it.
 use Rattle.std.specs.Prelude.{ℕ, ◌≤◌, ◌<◌, Bool, true, if◌then◌else◌, List, [], ◌∷◌, ◌++◌, length}
-use Rattle.record_batch.specs.Batch.{batch_text}
-use Rattle.record_batch.specs.Fact.{Fact, Made}
+use Rattle.rm_protocol.specs.batches.Batch.{batch_text}
+use Rattle.rm_protocol.specs.batches.Fact.{Fact, Made}
 use Rattle.rm_journal.specs.Journal.{with_entry}
 use Rattle.rm_journal.specs.JournalState.{JournalState, end_of, journal_of}
-use Rattle.sequence_table.specs.Makers.{counter}
+use Rattle.rm_protocol.specs.sequences.Makers.{counter}
 use Rattle.node_rules.specs.Records.{BeginsWithMade}
 
 -- the journal, and the records that the tables hold

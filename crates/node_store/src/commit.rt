@@ -1,11 +1,11 @@
 //! Records are written, all or none: the function that carries each promise of what a crash leaves.
 ghost use Rattle.std.specs.Prelude.{◌≡◌, ◌≢◌, ◌⊎◌, [], ◌∷◌, List, true, false, map, IsTrue, is_ok, IfOk, IfErr};
 ghost use Rattle.batch_size.specs.Room.{IsWithin};
-ghost use Rattle.record_batch.specs.Fact.{Fact, Made, fact_of};
+ghost use Rattle.rm_protocol.specs.batches.Fact.{Fact, Made, fact_of};
 ghost use Rattle.rm_base.specs.Text.{IsText};
 ghost use Rattle.rm_disk.specs.Cause.{HasCause};
 ghost use Rattle.rm_journal.specs.JournalState.{end_of};
-ghost use Rattle.sequence_table.specs.Fits.{all_fit};
+ghost use Rattle.rm_protocol.specs.sequences.Fits.{all_fit};
 ghost use Rattle.node_store.specs.Changes.{Changes, told};
 ghost use Rattle.node_store.specs.Has.{Holds};
 ghost use Rattle.node_store.specs.Failed.{is_disk};
@@ -15,10 +15,10 @@ ghost use Rattle.node_store.specs.declared.error.StoreError.TheVariants.{Memory 
 use crate::error::StoreError;
 use batch_size::laws::a_batch_that_fits_is_short;
 use node_tables::{TableError, Tables};
-use record_batch::{Record, write_batch};
 use rm_base::{Memory, Uri};
 use rm_disk::Disk;
 use rm_journal::{Journal, JournalError};
+use rm_protocol::batches::{Record, write_batch};
 use std::alloc::Global;
 
 /// The batch of a node that is made.

@@ -5,18 +5,18 @@ ghost use Rattle.soap_profile.specs.Namespaces.{is_new_name};
 ghost use Rattle.soap_profile.specs.Payload.{depth, height};
 ghost use Rattle.soap_profile.specs.Tree.{attrs_of};
 ghost use Rattle.soap_profile.specs.View.{attrs_view, element_view, parts_view};
-ghost use Rattle.record_batch.specs.Writable.{IsEndpointWritable};
-ghost use Rattle.wsa_headers.specs.Endpoint.{mark_name, params_length};
-ghost use Rattle.wsa_headers.specs.Writable.{IsEprWritable};
+ghost use Rattle.rm_protocol.specs.batches.Writable.{IsEndpointWritable};
+ghost use Rattle.rm_protocol.specs.addressing.Endpoint.{mark_name, params_length};
+ghost use Rattle.rm_protocol.specs.addressing.Writable.{IsEprWritable};
 ghost use Rattle.node_store.specs.Endpoints.{is_plain, may_go};
 
 use batch_size::parts::{endpoint_len, uri_len};
 use rm_base::Memory;
+use rm_protocol::addressing::{ADDRESSING, Epr};
+use rm_protocol::values::is_named;
 use soap_profile::{Element, Item};
 use soap_stripped::laws::elements_may_be_written;
-use soap_values::is_named;
 use std::alloc::Global;
-use wsa_headers::{ADDRESSING, Epr};
 
 const MOST_BYTES: u64 = 65536;
 

@@ -16,10 +16,10 @@ use crate::laws::batches_have_values;
 use crate::replay::replay;
 use crate::windows::{MOST_BYTES, keep_windows, may_serve};
 use node_tables::Tables;
-use record_batch::laws::what_is_written_is_read;
 use rm_disk::Disk;
 use rm_journal::{Journal, JournalError};
-use sequence_table::laws::a_byte_for_each_number;
+use rm_protocol::batches::laws::what_is_written_is_read;
+use rm_protocol::sequences::laws::a_byte_for_each_number;
 use std::alloc::Global;
 
 /// The journal of a node on a disk, and the tables of its records.

@@ -2,12 +2,12 @@
 ghost use Rattle.std.specs.Prelude.{◌≡◌, ◌⊎◌, ◌-◌, ◌≤◌, ◌++◌, ℕ, List, true, false, Err, None, Some, length, map};
 ghost use Rattle.std.specs.Prelude.{slice_get, IfErr, IfOk, IsTrue, OnOk};
 ghost use Rattle.std.specs.List.{AllByRecursion};
-ghost use Rattle.record_batch.specs.Batch.{batch_at, batch_text};
-ghost use Rattle.record_batch.specs.Fact.{Fact, fact_of};
-ghost use Rattle.record_batch.specs.Writable.{IsBatch, IsWritable};
+ghost use Rattle.rm_protocol.specs.batches.Batch.{batch_at, batch_text};
+ghost use Rattle.rm_protocol.specs.batches.Fact.{Fact, fact_of};
+ghost use Rattle.rm_protocol.specs.batches.Writable.{IsBatch, IsWritable};
 ghost use Rattle.rm_disk.specs.Cause.{HasCause};
 ghost use Rattle.rm_journal.specs.Journal.{Fits};
-ghost use Rattle.sequence_table.specs.Fits.{all_fit};
+ghost use Rattle.rm_protocol.specs.sequences.Fits.{all_fit};
 ghost use Rattle.node_rules.specs.Records.{KeepsLimits};
 ghost use Rattle.node_store.specs.Changes.{KeepsUnarmed};
 ghost use Rattle.node_store.specs.Mounted.{AreReplayed, has_failed, IsAdded, IsStuck, Replays};
@@ -17,11 +17,11 @@ ghost use Rattle.node_store.specs.declared.error.MountError.TheVariants.{NotAJou
 use crate::error::MountError;
 use crate::limits::keep_limits;
 use node_tables::{TableError, Tables};
-use record_batch::laws::what_is_written_is_read;
-use record_batch::{BatchError, Record, read_batch};
 use rm_base::Blob;
 use rm_disk::Disk;
 use rm_journal::{Journal, JournalError};
+use rm_protocol::batches::laws::what_is_written_is_read;
+use rm_protocol::batches::{BatchError, Record, read_batch};
 use std::alloc::Global;
 
 /// The tables of the records of a journal's entries, where each entry is a batch whose records may come after those

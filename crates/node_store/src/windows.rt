@@ -1,10 +1,10 @@
 //! Whether the records of tables keep what those of a node keep all together.
 ghost use Rattle.std.specs.Prelude.{◌≡◌, ◌↔◌, ◌≤◌, ℕ, true, IsTrue};
 ghost use Rattle.rm_base.specs.NumberSet.{has_number};
-ghost use Rattle.sequence_table.specs.Destinations.{front, held};
-ghost use Rattle.sequence_table.specs.Fits.{is_incoming_side, is_outgoing_side};
-ghost use Rattle.sequence_table.specs.Makers.{maker};
-ghost use Rattle.sequence_table.specs.Sources.{unacked};
+ghost use Rattle.rm_protocol.specs.sequences.Destinations.{front, held};
+ghost use Rattle.rm_protocol.specs.sequences.Fits.{is_incoming_side, is_outgoing_side};
+ghost use Rattle.rm_protocol.specs.sequences.Makers.{maker};
+ghost use Rattle.rm_protocol.specs.sequences.Sources.{unacked};
 ghost use Rattle.node_rules.specs.Records.{BeginsWithMade};
 ghost use Rattle.node_store.specs.Mounted.{AreNear, HasNear, HasWindow, KeepsWindow, KeepsWindows};
 ghost use Rattle.node_store.specs.Stored.{IsServing};

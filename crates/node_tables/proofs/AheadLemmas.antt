@@ -6,7 +6,7 @@ use Rattle.std.specs.List.{remove}
 use Rattle.std.specs.Option.{option_to_list}
 use Rattle.std.proofs.lemmas.List.{map-append}
 use Rattle.std.proofs.lemmas.Option.{none-some, same_Some}
-use Rattle.record_batch.specs.Fact.{Fact, Creating, Granted}
+use Rattle.sequence_table.specs.batches.Fact.{Fact, Creating, Granted}
 use Rattle.sequence_table.specs.Makers.{makers_of}
 use Rattle.sequence_table.specs.Told.{begun}
 use Rattle.sequence_row.specs.declared.row.Start.{Start}

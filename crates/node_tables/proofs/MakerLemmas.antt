@@ -10,7 +10,7 @@ use Rattle.std.proofs.lemmas.Option.{none-some, same_Some, slice_get-get_or}
 use Rattle.rm_base.specs.Numbered.{numbered}
 use Rattle.rm_source.specs.declared.phase.OutPhase.{OutPhase}
 use Rattle.rm_source.specs.declared.phase.OutPhase.TheVariants as out
-use Rattle.record_batch.specs.Fact.{Fact, Made, Closing, ClosedOut, Ending, EndedOut, Failed}
+use Rattle.sequence_table.specs.batches.Fact.{Fact, Made, Closing, ClosedOut, Ending, EndedOut, Failed}
 use Rattle.sequence_table.specs.Words.{Text, at_seq, first_or, is_empty, last_or}
 use Rattle.sequence_table.specs.Find.{find_from}
 use Rattle.sequence_table.specs.Fits.{all_fit, fits}

@@ -9,8 +9,9 @@ use Rattle.std.proofs.lemmas.List.{get_or-append_right, get_or-map, length-set, 
 use Rattle.std.proofs.lemmas.List.{set-append_right}
 use Rattle.std.proofs.lemmas.List.Sums.{sum_by-append, sum_by-cons}
 use Rattle.ack_ranges.specs.declared.range.Range.{Range}
-use Rattle.record_batch.specs.Fact.{Fact, Created, Accepted, Acked, Received, Closing, ClosedOut, Closed, Ending}
-use Rattle.record_batch.specs.Fact.{EndedOut, Ended, Failed}
+use Rattle.sequence_table.specs.batches.Fact.{Fact, Created, Accepted, Acked, Received, Closing, ClosedOut, Closed}
+use Rattle.sequence_table.specs.batches.Fact.{Ending}
+use Rattle.sequence_table.specs.batches.Fact.{EndedOut, Ended, Failed}
 use Rattle.sequence_table.specs.Told.{Side, Sends, Receives, Told, names}
 use Rattle.rm_base.specs.declared.message.Payload.{Payload}
 use Rattle.sequence_row.specs.Row.{Room, Seen, is_sender, side_step, takes, takes_message, takes_payload, with_room}

@@ -4,10 +4,11 @@ use Rattle.std.specs.Prelude.{Bool, ◌&&◌, ◌≡◌, ℕ, ◌+◌, ◌<◌, 
 use Rattle.std.specs.Prelude.{length, map, Option, None, Some, slice_index_or}
 use Rattle.std.specs.List.{flat_map}
 use Rattle.rm_base.specs.declared.message.Payload.{Payload}
-use Rattle.record_batch.specs.declared.record.Record.{Record}
-use Rattle.record_batch.specs.Fact.{Fact, fact_of, Made, Creating, Accepted, Acked, Received, Created, Granted}
+use Rattle.sequence_table.specs.batches.declared.record.Record.{Record}
+use Rattle.sequence_table.specs.batches.Fact.{Fact, fact_of, Made, Creating, Accepted, Acked, Received, Created}
+use Rattle.sequence_table.specs.batches.Fact.{Granted}
 use Rattle.sequence_table.specs.Words.{Text}
-use Rattle.wsa_headers.specs.declared.endpoint.Epr.{Epr}
+use Rattle.sequence_table.specs.addressing.declared.endpoint.Epr.{Epr}
 use Rattle.sequence_table.specs.Makers.{Maker, Taken, maker, makers, makers_of, created, counter, number, addresses_of}
 use Rattle.sequence_table.specs.Find.{accept_of}
 use Rattle.sequence_table.specs.Fits.{all_fit}

@@ -13,7 +13,7 @@ use Rattle.rm_destination.specs.Incoming.{inbox_of as inbox_by, last_number as l
 use Rattle.rm_destination.specs.declared.outcome.InPhase.TheVariants.{Open as is_open, Closed as is_closed}
 use Rattle.rm_destination.specs.declared.outcome.InPhase.TheVariants.{Ended as is_ended}
 use Rattle.rm_destination.specs.Messages as dest
-use Rattle.record_batch.specs.Fact.{Fact, Made}
+use Rattle.sequence_table.specs.batches.Fact.{Fact, Made}
 use Rattle.sequence_table.specs.Words.{contents_of, is_empty, sorted_onto, with_message, without_gap}
 use Rattle.sequence_table.specs.Makers.{Maker, Outgoing, Offered, Incoming, Taken, address, maker}
 use Rattle.sequence_table.specs.Makers.{number}

@@ -2,7 +2,7 @@
 use Rattle.std.specs.Prelude.{◌≡◌, ℕ, ◌+◌, ◌-◌, ◌≤◌, ◌<◌, ◌==◌, ◌&&◌, Bool, true, false, if◌then◌else◌, List, []}
 use Rattle.std.specs.Prelude.{◌∷◌, ◌++◌}
 use Rattle.std.specs.Prelude.{length, map, sum_by, slice_index_or, slice_set, None, Some}
-use Rattle.record_batch.specs.Fact.{Fact, Creating, Granted, Accepted, Acked, Received}
+use Rattle.sequence_table.specs.batches.Fact.{Fact, Creating, Granted, Accepted, Acked, Received}
 use Rattle.sequence_row.specs.declared.row.Start.{Start}
 use Rattle.sequence_row.specs.declared.row.Start.TheVariants as start
 use Rattle.sequence_row.specs.Row.{Room, Seen, is_sender, is_timed_start, no_room, started}

@@ -3,7 +3,7 @@ ghost use Rattle.std.specs.Prelude.{◌≡◌, ◌↔◌, ◌+◌, ◌≤◌, �
 ghost use Rattle.std.specs.Prelude.{IsTrue, vec_len, vec_capacity};
 ghost use Rattle.std.specs.List.{flat_map, list_all};
 ghost use Rattle.std.specs.Option.{option_to_list};
-ghost use Rattle.record_batch.specs.Fact.{fact_of};
+ghost use Rattle.sequence_table.specs.batches.Fact.{fact_of};
 ghost use Rattle.sequence_row.specs.declared.row.Start.{Start};
 ghost use Rattle.sequence_row.specs.Row.{is_timed_start, started};
 ghost use Rattle.sequence_table.specs.Makers.{makers_of};
@@ -12,9 +12,9 @@ ghost use Rattle.node_tables.specs.Kept.{is_timed_record, tolds};
 ghost use Rattle.node_tables.specs.Room.{AreBegun, all_spares, all_timed, spare_of, spares_ahead, starts, starts_of};
 
 use crate::note::Ahead;
-use record_batch::Record;
 use rm_base::Memory;
 use sequence_row::{Row, Start};
+use sequence_table::batches::Record;
 use std::alloc::Global;
 
 /// How the first sequence begins that a record makes.

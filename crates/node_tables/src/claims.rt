@@ -1,14 +1,14 @@
 //! Room for records to come.
 ghost use Rattle.std.specs.Prelude.{◌≡◌, ◌+◌, ◌-◌, ◌≤◌, map, IsOk, OnOk, vec_len, vec_capacity};
-ghost use Rattle.record_batch.specs.Fact.{fact_of};
+ghost use Rattle.sequence_table.specs.batches.Fact.{fact_of};
 ghost use Rattle.node_tables.specs.Kept.{tolds};
 ghost use Rattle.node_tables.specs.Room.{AreBegun, AreClaimed, AreEnough, HasPlaces, all_spares, starts};
 
 use crate::note::{Ahead, Named, Note, Origin};
 use crate::record::named_by;
-use record_batch::Record;
 use rm_base::Memory;
 use sequence_row::Row;
+use sequence_table::batches::Record;
 
 /// Makes room for so many records in each list.
 pub(crate) fn make_room(

@@ -1,16 +1,16 @@
 //! How a sequence came to be.
 ghost use Rattle.std.specs.Prelude.{◌≡◌, if◌then◌else◌, map, slice_get};
 ghost use Rattle.std.specs.Option.{option_map};
-ghost use Rattle.record_batch.specs.Fact.{fact_of};
+ghost use Rattle.sequence_table.specs.batches.Fact.{fact_of};
 ghost use Rattle.sequence_table.specs.Makers.{makers_of};
 ghost use Rattle.node_tables.specs.Kept.{kept_at};
 ghost use Rattle.node_tables.specs.Reads.{maker_seen};
 
 use crate::note::Origin;
-use record_batch::{Record, Via};
 use rm_base::{Behaviour, Ident, Uri};
-use rm_elements::Lapse;
-use wsa_headers::Epr;
+use sequence_table::addressing::Epr;
+use sequence_table::batches::{Record, Via};
+use sequence_table::elements::Lapse;
 
 /// How a sequence came to be, as the record that made it has it: WS-ReliableMessaging 1.2, section 3.4. Asked: with
 /// CreateSequence. Offered: the incoming one of its Offer. Granted: to a peer. Taken: the outgoing one of the peer's

@@ -3,7 +3,7 @@ ghost use Rattle.std.specs.Prelude.{◌≡◌, ◌↔◌, ◌+◌, ◌^◌, ◌+
 ghost use Rattle.std.specs.Prelude.{OnErr, IfErr, IsOk, List, map};
 ghost use Rattle.std.specs.Prelude.{min, vec_len, vec_capacity};
 ghost use Rattle.std.specs.Option.{option_copied, option_map};
-ghost use Rattle.record_batch.specs.Fact.{Fact, Accepted, Acked, Received, fact_of};
+ghost use Rattle.sequence_table.specs.batches.Fact.{Fact, Accepted, Acked, Received, fact_of};
 ghost use Rattle.rm_source.specs.Outgoing.{Sequence as OutSequence};
 ghost use Rattle.rm_destination.specs.Incoming.{Sequence as InSequence};
 ghost use Rattle.sequence_row.specs.Row.{Seen, draws_next};
@@ -28,14 +28,14 @@ use crate::note::{Ahead, Named, Note, Origin};
 use crate::record::{drawn_after, made_by, name, named_by, number_after, trace};
 use crate::rows::{accept_at, change, learn_at, receive_at, waiting_in};
 use ack_ranges::RangeSet;
-use record_batch::Record;
 use rm_base::{Blob, Ident, Memory, Payload, Uri, numbered};
 use rm_destination::Incoming;
 use rm_source::{OutPhase, Outgoing};
 use sequence_row::Row;
+use sequence_table::addressing::Epr;
+use sequence_table::batches::Record;
 use std::alloc::Global;
 use std::marker::Model;
-use wsa_headers::Epr;
 
 /// The records of a node, and what they say.
 #[derive(Debug, Drop)]

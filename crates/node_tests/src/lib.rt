@@ -5,11 +5,17 @@
 #[cfg(test)]
 mod calls;
 #[cfg(test)]
+mod destinations;
+#[cfg(test)]
 mod device;
+#[cfg(test)]
+mod given;
 #[cfg(test)]
 mod limits;
 #[cfg(test)]
 mod peer;
+#[cfg(test)]
+mod sources;
 #[cfg(test)]
 mod stops;
 #[cfg(test)]

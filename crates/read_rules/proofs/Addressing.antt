@@ -6,16 +6,17 @@ use Rattle.std.specs.List.{AllByRecursion, filter}
 use Rattle.rm_base.specs.Text.{IsText}
 use Rattle.soap_profile.specs.Tree.{Element}
 use Rattle.soap_stripped.specs.Resolved.{IsResolved}
-use Rattle.soap_values.specs.Outcome.{◌>>=◌, optional, each, if_present}
-use Rattle.soap_values.specs.TextLaws.{literal_is_text}
-use Rattle.wsa_headers.specs.Addressing.{is_header, is_marked, blocks_named, repeated, uri_header, epr_header, is_reply}
-use Rattle.wsa_headers.specs.Addressing.{first_of, relates_in, or_anonymous, params_of, Replies, replies_in}
-use Rattle.wsa_headers.specs.Addressing.{properties_in, is_missing, read_or_bad, read_unless, addressing_in}
-use Rattle.wsa_headers.specs.Endpoint.{uri_of, epr_of, param}
-use Rattle.wsa_headers.specs.Writable.{IsParamWritable, IsEprWritable, IsAddressingWritable}
-use Rattle.wsa_headers.specs.declared.addressing.Addressing.{Addressing}
-use Rattle.wsa_headers.specs.declared.endpoint.Epr.{Epr}
-use Rattle.wsa_headers.specs.declared.error.AddressingError.TheVariants as errors
+use Rattle.rm_wire.specs.values.Outcome.{◌>>=◌, optional, each, if_present}
+use Rattle.rm_wire.specs.values.TextLaws.{literal_is_text}
+use Rattle.rm_wire.specs.addressing.Addressing.{is_header, is_marked, blocks_named, repeated, uri_header, epr_header}
+use Rattle.rm_wire.specs.addressing.Addressing.{is_reply}
+use Rattle.rm_wire.specs.addressing.Addressing.{first_of, relates_in, or_anonymous, params_of, Replies, replies_in}
+use Rattle.rm_wire.specs.addressing.Addressing.{properties_in, is_missing, read_or_bad, read_unless, addressing_in}
+use Rattle.rm_wire.specs.addressing.Endpoint.{uri_of, epr_of, param}
+use Rattle.rm_wire.specs.addressing.Writable.{IsParamWritable, IsEprWritable, IsAddressingWritable}
+use Rattle.rm_wire.specs.addressing.declared.addressing.Addressing.{Addressing}
+use Rattle.rm_wire.specs.addressing.declared.endpoint.Epr.{Epr}
+use Rattle.rm_wire.specs.addressing.declared.error.AddressingError.TheVariants as errors
 use Rattle.read_rules.proofs.Lists.{all_filter, all_map, first_is, present_is, found_is}
 use Rattle.read_rules.proofs.Params.{param_is, epr_is}
 use Rattle.read_rules.proofs.Texts.{uri_is}

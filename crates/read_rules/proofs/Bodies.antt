@@ -12,23 +12,24 @@ use Rattle.soap_lex.specs.Facts.{same}
 use Rattle.soap_profile.specs.Tree.{Element, Parts, name_of, parts_of, children_of}
 use Rattle.soap_profile.specs.declared.name.Expanded.{Expanded as Name}
 use Rattle.soap_stripped.specs.Resolved.{AreInForce, IsResolved}
-use Rattle.soap_values.specs.Children.{name_in, has_name}
-use Rattle.soap_values.specs.Outcome.{◌>>=◌, single}
-use Rattle.wsa_headers.specs.Addressing.{first_of}
-use Rattle.rm_elements.specs.Lifecycle.{body_name, body_as, lifecycle_of, create_in, response_in, finish_in, make_in}
-use Rattle.rm_elements.specs.Headers.{identifier}
-use Rattle.rm_elements.specs.Outcome.{rm, mc, named}
-use Rattle.rm_elements.specs.declared.error.ElementError.{ElementError}
-use Rattle.rm_elements.specs.declared.lifecycle.Lifecycle.{Lifecycle}
-use Rattle.rm_elements.specs.declared.lifecycle.Lifecycle.TheVariants as life
-use Rattle.rm_elements.specs.declared.read.BodyName.{BodyName}
-use Rattle.rm_elements.specs.declared.read.BodyName.TheVariants as names
-use Rattle.rm_message.specs.declared.message.Body.{Body}
-use Rattle.rm_message.specs.declared.message.Body.TheVariants as bodies
-use Rattle.message_writer.specs.Rules.{action_for, bare_actions, protocol_actions, HasItsId}
-use Rattle.message_reader.specs.Bodies.{if_fault, fault_at, element_for, is_bare, is_protocol, lifecycle_from}
-use Rattle.message_reader.specs.Bodies.{lifecycle_in, body_for, numbered_body, unnumbered_body, body_in}
-use Rattle.message_reader.specs.Faults.{fault_in}
+use Rattle.rm_wire.specs.values.Children.{name_in, has_name}
+use Rattle.rm_wire.specs.values.Outcome.{◌>>=◌, single}
+use Rattle.rm_wire.specs.addressing.Addressing.{first_of}
+use Rattle.rm_wire.specs.elements.Lifecycle.{body_name, body_as, lifecycle_of, create_in, response_in, finish_in}
+use Rattle.rm_wire.specs.elements.Lifecycle.{make_in}
+use Rattle.rm_wire.specs.elements.Headers.{identifier}
+use Rattle.rm_wire.specs.elements.Outcome.{rm, mc, named}
+use Rattle.rm_wire.specs.elements.declared.error.ElementError.{ElementError}
+use Rattle.rm_wire.specs.elements.declared.lifecycle.Lifecycle.{Lifecycle}
+use Rattle.rm_wire.specs.elements.declared.lifecycle.Lifecycle.TheVariants as life
+use Rattle.rm_wire.specs.elements.declared.read.BodyName.{BodyName}
+use Rattle.rm_wire.specs.elements.declared.read.BodyName.TheVariants as names
+use Rattle.rm_wire.specs.message_types.declared.message.Body.{Body}
+use Rattle.rm_wire.specs.message_types.declared.message.Body.TheVariants as bodies
+use Rattle.rm_wire.specs.writer.Rules.{action_for, bare_actions, protocol_actions, HasItsId}
+use Rattle.rm_wire.specs.reader.Bodies.{if_fault, fault_at, element_for, is_bare, is_protocol, lifecycle_from}
+use Rattle.rm_wire.specs.reader.Bodies.{lifecycle_in, body_for, numbered_body, unnumbered_body, body_in}
+use Rattle.rm_wire.specs.reader.Faults.{fault_in}
 use Rattle.read_rules.specs.WasRead.{IsBodyRead}
 use Rattle.read_rules.proofs.Faults.{fault_is}
 use Rattle.read_rules.proofs.Lifecycles.{lifecycle_is}

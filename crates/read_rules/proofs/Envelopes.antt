@@ -8,9 +8,9 @@ use Rattle.std.specs.Str.{bytes_eq}
 use Rattle.soap_profile.specs.Document.{Document}
 use Rattle.soap_profile.specs.Namespaces.{bound}
 use Rattle.soap_profile.specs.Tree.{Binding, Element, element, Parts, decls_of, children_of}
-use Rattle.soap_envelope.specs.Envelope.{name_in, IsSpaced, bare, spaced, IsBodyAlone, IsOutline, headless, headed}
-use Rattle.soap_envelope.specs.Envelope.{IsHeader, without, blocks, Envelope, IsEnvelope}
-use Rattle.soap_envelope.specs.Scope.{declared, IsScope}
+use Rattle.rm_wire.specs.envelopes.Envelope.{name_in, IsSpaced, bare, spaced, IsBodyAlone, IsOutline, headless, headed}
+use Rattle.rm_wire.specs.envelopes.Envelope.{IsHeader, without, blocks, Envelope, IsEnvelope}
+use Rattle.rm_wire.specs.envelopes.Scope.{declared, IsScope}
 use Rattle.soap_stripped.specs.Resolved.{IsBinding, AreInForce, IsResolved}
 use Rattle.soap_stripped.specs.ResolvedLaws.{none_in_force, more_in_force, children_resolved}
 

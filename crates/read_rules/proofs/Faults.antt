@@ -6,21 +6,21 @@ use Rattle.std.specs.List.{AllByRecursion}
 use Rattle.soap_document.specs.Tokens.{is_nil}
 use Rattle.soap_profile.specs.Tree.{Binding, Element, without_declarations, parts_of, children_of}
 use Rattle.soap_profile.specs.declared.name.Expanded.{Expanded as Name}
-use Rattle.soap_writer.specs.Writable.{IsNameWritable}
-use Rattle.soap_writer.specs.Plain.{chars_from}
+use Rattle.rm_wire.specs.markup.Writable.{IsNameWritable}
+use Rattle.rm_wire.specs.markup.Plain.{chars_from}
 use Rattle.soap_stripped.specs.Resolved.{AreInForce, IsResolved}
 use Rattle.soap_stripped.specs.ResolvedLaws.{children_resolved}
-use Rattle.soap_values.specs.Children.{name_in, has_name, children_named}
-use Rattle.soap_values.specs.Outcome.{◌>>=◌}
-use Rattle.soap_values.specs.QNames.{within, qname_in}
-use Rattle.soap_values.specs.Values.{trimmed_text}
-use Rattle.wsa_headers.specs.Addressing.{first_of}
-use Rattle.rm_message.specs.declared.message.FaultBody.{FaultBody}
-use Rattle.rm_message.specs.declared.message.FaultCode.{FaultCode}
-use Rattle.message_writer.specs.Rules.{IsSubcodeWritable, IsDetailWritable, IsFaultWritable}
-use Rattle.message_reader.specs.Faults.{first_named, value_name, code_named, spaced, subcode_name, inner_name}
-use Rattle.message_reader.specs.Faults.{codes_with, codes_below, codes_in, codes_or_receiver, reason_in, or_empty}
-use Rattle.message_reader.specs.Faults.{stripped_in, detail_in, fault_with, fault_in}
+use Rattle.rm_wire.specs.values.Children.{name_in, has_name, children_named}
+use Rattle.rm_wire.specs.values.Outcome.{◌>>=◌}
+use Rattle.rm_wire.specs.values.QNames.{within, qname_in}
+use Rattle.rm_wire.specs.values.Values.{trimmed_text}
+use Rattle.rm_wire.specs.addressing.Addressing.{first_of}
+use Rattle.rm_wire.specs.message_types.declared.message.FaultBody.{FaultBody}
+use Rattle.rm_wire.specs.message_types.declared.message.FaultCode.{FaultCode}
+use Rattle.rm_wire.specs.writer.Rules.{IsSubcodeWritable, IsDetailWritable, IsFaultWritable}
+use Rattle.rm_wire.specs.reader.Faults.{first_named, value_name, code_named, spaced, subcode_name, inner_name}
+use Rattle.rm_wire.specs.reader.Faults.{codes_with, codes_below, codes_in, codes_or_receiver, reason_in, or_empty}
+use Rattle.rm_wire.specs.reader.Faults.{stripped_in, detail_in, fault_with, fault_in}
 use Rattle.read_rules.proofs.Envelopes.{declares}
 use Rattle.read_rules.proofs.Lists.{all_filter, all_map, first_is}
 use Rattle.read_rules.proofs.Names.{WrittenNames, Binds, qname_is}

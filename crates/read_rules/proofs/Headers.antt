@@ -7,23 +7,24 @@ use Rattle.std.proofs.lemmas.Bool.{ltb-false, eqb-false}
 use Rattle.rm_base.specs.Text.{IsText}
 use Rattle.soap_profile.specs.Tree.{Element, Parts, name_of, attrs_of, parts_of}
 use Rattle.soap_profile.specs.declared.tree.Attr.{Attr}
-use Rattle.soap_values.specs.Children.{name_in, children_named, value_among}
-use Rattle.soap_values.specs.Outcome.{◌>>=◌, optional, single, each}
-use Rattle.soap_values.specs.Values.{trimmed_text, whole_number}
+use Rattle.rm_wire.specs.values.Children.{name_in, children_named, value_among}
+use Rattle.rm_wire.specs.values.Outcome.{◌>>=◌, optional, single, each}
+use Rattle.rm_wire.specs.values.Values.{trimmed_text, whole_number}
 use Rattle.ack_ranges.specs.declared.range.Range.{Range}
-use Rattle.rm_elements.specs.Headers.{ident_of, identifier, counted, number_in, number_of, unless_zero, message_number}
-use Rattle.rm_elements.specs.Headers.{numbered_in, unless_rolled, bound_in, range_of, ack_of, ack_in}
-use Rattle.rm_elements.specs.Headers.{pending_in, header_name, header_as, header_of}
-use Rattle.rm_elements.specs.Outcome.{rm, named}
-use Rattle.rm_elements.specs.Writable.{IsNumber, IsRange, IsAckWritable, IsHeaderWritable}
-use Rattle.rm_elements.specs.declared.error.ElementError.TheVariants.{Rollover}
-use Rattle.rm_elements.specs.declared.header.AckBlock.{AckBlock}
-use Rattle.rm_elements.specs.declared.header.AckKind.TheVariants.{Ranges, Nothing, Nack}
-use Rattle.rm_elements.specs.declared.header.Header.{Header}
-use Rattle.rm_elements.specs.declared.header.Header.TheVariants.{Sequence, Ack, Ask, Pending}
-use Rattle.rm_elements.specs.declared.header.SeqHeader.{SeqHeader}
-use Rattle.rm_elements.specs.declared.read.HeaderName.{HeaderName}
-use Rattle.rm_elements.specs.declared.read.HeaderName.TheVariants as names
+use Rattle.rm_wire.specs.elements.Headers.{ident_of, identifier, counted, number_in, number_of, unless_zero}
+use Rattle.rm_wire.specs.elements.Headers.{message_number}
+use Rattle.rm_wire.specs.elements.Headers.{numbered_in, unless_rolled, bound_in, range_of, ack_of, ack_in}
+use Rattle.rm_wire.specs.elements.Headers.{pending_in, header_name, header_as, header_of}
+use Rattle.rm_wire.specs.elements.Outcome.{rm, named}
+use Rattle.rm_wire.specs.elements.Writable.{IsNumber, IsRange, IsAckWritable, IsHeaderWritable}
+use Rattle.rm_wire.specs.elements.declared.error.ElementError.TheVariants.{Rollover}
+use Rattle.rm_wire.specs.elements.declared.header.AckBlock.{AckBlock}
+use Rattle.rm_wire.specs.elements.declared.header.AckKind.TheVariants.{Ranges, Nothing, Nack}
+use Rattle.rm_wire.specs.elements.declared.header.Header.{Header}
+use Rattle.rm_wire.specs.elements.declared.header.Header.TheVariants.{Sequence, Ack, Ask, Pending}
+use Rattle.rm_wire.specs.elements.declared.header.SeqHeader.{SeqHeader}
+use Rattle.rm_wire.specs.elements.declared.read.HeaderName.{HeaderName}
+use Rattle.rm_wire.specs.elements.declared.read.HeaderName.TheVariants as names
 use Rattle.read_rules.proofs.Lists.{each_is}
 use Rattle.read_rules.proofs.Texts.{text_read}
 

@@ -9,31 +9,34 @@ use Rattle.rm_base.specs.declared.message.Behaviour.{Behaviour}
 use Rattle.soap_profile.specs.Tree.{Element, Parts, name_of, parts_of, children_of}
 use Rattle.soap_stripped.specs.Resolved.{IsResolved}
 use Rattle.soap_stripped.specs.ResolvedLaws.{children_resolved}
-use Rattle.soap_values.specs.Children.{has_name, children_named}
-use Rattle.soap_values.specs.Outcome.{◌>>=◌, optional, single, if_present}
-use Rattle.soap_values.specs.Values.{trimmed_text}
-use Rattle.wsa_headers.specs.Endpoint.{uri_of, epr_of}
-use Rattle.wsa_headers.specs.Writable.{IsEprWritable}
-use Rattle.wsa_headers.specs.declared.endpoint.Epr.{Epr}
-use Rattle.rm_elements.specs.Duration.{at_least_one, lapse_from, span_in, duration_in}
-use Rattle.rm_elements.specs.Headers.{identifier, number_of}
-use Rattle.rm_elements.specs.Lifecycle.{reference_in, lapse_at, expires_in, behaviour_in, offer_of, offer_in, create_in}
-use Rattle.rm_elements.specs.Lifecycle.{accept_of, accept_in, response_in, finish_in, has_other, make_in, body_name}
-use Rattle.rm_elements.specs.Lifecycle.{body_as, lifecycle_of}
-use Rattle.rm_elements.specs.Outcome.{rm, mc, named}
-use Rattle.rm_elements.specs.Writable.{IsNumber, IsLapseWritable, IsOfferWritable, IsCreateWritable, IsResponseWritable}
-use Rattle.rm_elements.specs.Writable.{IsFinishWritable, IsLifecycleWritable}
-use Rattle.rm_elements.specs.declared.duration.Span.{Span}
-use Rattle.rm_elements.specs.declared.lapse.Lapse.{Lapse}
-use Rattle.rm_elements.specs.declared.lifecycle.CreateResponse.{CreateResponse}
-use Rattle.rm_elements.specs.declared.lifecycle.CreateSequence.{CreateSequence}
-use Rattle.rm_elements.specs.declared.lifecycle.Finish.{Finish}
-use Rattle.rm_elements.specs.declared.lifecycle.Lifecycle.{Lifecycle}
-use Rattle.rm_elements.specs.declared.lifecycle.Lifecycle.TheVariants as bodies
-use Rattle.rm_elements.specs.declared.lifecycle.MakeConnection.{MakeConnection}
-use Rattle.rm_elements.specs.declared.lifecycle.Offer.{Offer}
-use Rattle.rm_elements.specs.declared.read.BodyName.{BodyName}
-use Rattle.rm_elements.specs.declared.read.BodyName.TheVariants as names
+use Rattle.rm_wire.specs.values.Children.{has_name, children_named}
+use Rattle.rm_wire.specs.values.Outcome.{◌>>=◌, optional, single, if_present}
+use Rattle.rm_wire.specs.values.Values.{trimmed_text}
+use Rattle.rm_wire.specs.addressing.Endpoint.{uri_of, epr_of}
+use Rattle.rm_wire.specs.addressing.Writable.{IsEprWritable}
+use Rattle.rm_wire.specs.addressing.declared.endpoint.Epr.{Epr}
+use Rattle.rm_wire.specs.elements.Duration.{at_least_one, lapse_from, span_in, duration_in}
+use Rattle.rm_wire.specs.elements.Headers.{identifier, number_of}
+use Rattle.rm_wire.specs.elements.Lifecycle.{reference_in, lapse_at, expires_in, behaviour_in, offer_of, offer_in}
+use Rattle.rm_wire.specs.elements.Lifecycle.{create_in}
+use Rattle.rm_wire.specs.elements.Lifecycle.{accept_of, accept_in, response_in, finish_in, has_other, make_in}
+use Rattle.rm_wire.specs.elements.Lifecycle.{body_name}
+use Rattle.rm_wire.specs.elements.Lifecycle.{body_as, lifecycle_of}
+use Rattle.rm_wire.specs.elements.Outcome.{rm, mc, named}
+use Rattle.rm_wire.specs.elements.Writable.{IsNumber, IsLapseWritable, IsOfferWritable, IsCreateWritable}
+use Rattle.rm_wire.specs.elements.Writable.{IsResponseWritable}
+use Rattle.rm_wire.specs.elements.Writable.{IsFinishWritable, IsLifecycleWritable}
+use Rattle.rm_wire.specs.elements.declared.duration.Span.{Span}
+use Rattle.rm_wire.specs.elements.declared.lapse.Lapse.{Lapse}
+use Rattle.rm_wire.specs.elements.declared.lifecycle.CreateResponse.{CreateResponse}
+use Rattle.rm_wire.specs.elements.declared.lifecycle.CreateSequence.{CreateSequence}
+use Rattle.rm_wire.specs.elements.declared.lifecycle.Finish.{Finish}
+use Rattle.rm_wire.specs.elements.declared.lifecycle.Lifecycle.{Lifecycle}
+use Rattle.rm_wire.specs.elements.declared.lifecycle.Lifecycle.TheVariants as bodies
+use Rattle.rm_wire.specs.elements.declared.lifecycle.MakeConnection.{MakeConnection}
+use Rattle.rm_wire.specs.elements.declared.lifecycle.Offer.{Offer}
+use Rattle.rm_wire.specs.elements.declared.read.BodyName.{BodyName}
+use Rattle.rm_wire.specs.elements.declared.read.BodyName.TheVariants as names
 use Rattle.read_rules.proofs.Headers.{identifier_is, number_is, IsAny}
 use Rattle.read_rules.proofs.Lists.{all_filter, single_is, present_is, found_is}
 use Rattle.read_rules.proofs.Params.{epr_is}

@@ -8,40 +8,40 @@ use Rattle.rm_base.specs.Text.{IsText}
 use Rattle.soap_lex.specs.Facts.{equal}
 use Rattle.soap_profile.specs.Tree.{Binding, Element, element, name_of, attrs_of}
 use Rattle.soap_profile.specs.declared.name.Expanded.{Expanded as Name}
-use Rattle.soap_writer.specs.Writable.{IsNameWritable}
-use Rattle.soap_envelope.specs.Envelope.{Envelope}
+use Rattle.rm_wire.specs.markup.Writable.{IsNameWritable}
+use Rattle.rm_wire.specs.envelopes.Envelope.{Envelope}
 use Rattle.soap_stripped.specs.Resolved.{AreInForce, IsResolved}
-use Rattle.soap_values.specs.Children.{name_in, value_among}
-use Rattle.soap_values.specs.Outcome.{◌>>=◌, optional, if_present}
-use Rattle.soap_values.specs.QNames.{within, qname_in}
-use Rattle.wsa_headers.specs.Addressing.{addressing_in, uri_header, is_header, blocks_named}
-use Rattle.wsa_headers.specs.Endpoint.{wsa, uri_of}
-use Rattle.wsa_headers.specs.Writable.{IsAddressingWritable}
-use Rattle.wsa_headers.specs.declared.addressing.Addressing.{Addressing}
-use Rattle.wsa_headers.specs.declared.error.AddressingError.{AddressingError}
-use Rattle.wsa_headers.specs.declared.error.AddressingError.TheVariants as errors
-use Rattle.rm_elements.specs.Headers.{header_of}
-use Rattle.rm_elements.specs.Outcome.{rm}
-use Rattle.rm_elements.specs.Writable.{IsAckWritable}
-use Rattle.rm_elements.specs.declared.error.ElementError.{ElementError}
-use Rattle.rm_elements.specs.declared.error.ElementError.TheVariants as flaws
-use Rattle.rm_elements.specs.declared.header.AckBlock.{AckBlock}
-use Rattle.rm_elements.specs.declared.header.Header.{Header}
-use Rattle.rm_elements.specs.declared.header.Header.TheVariants as heads
-use Rattle.rm_elements.specs.declared.header.SeqHeader.{SeqHeader}
-use Rattle.rm_message.specs.declared.message.Body.{Body}
-use Rattle.rm_message.specs.declared.message.Body.TheVariants as bodies
-use Rattle.rm_message.specs.declared.message.Message.{Message}
-use Rattle.message_reader.specs.Blocks.{is_block, blocks, has_block, is_not_understood, not_understood}
-use Rattle.message_reader.specs.Bodies.{fault_at, body_in}
-use Rattle.message_reader.specs.Headers.{ack_from, ask_from, numbered_from, ack_of, ask_of, acks_in, asks_in}
-use Rattle.message_reader.specs.Headers.{pending_in, numbered_of, sequence_name, listed, told_name}
-use Rattle.message_reader.specs.Headers.{told_names}
-use Rattle.message_reader.specs.Message.{Wrong, NotUnderstood, Cardinality, HeaderMissing, BadHeader, Malformed}
-use Rattle.message_reader.specs.Message.{Rollover, is_create, is_numbered, has_fault, lacks_id, unless_lacking}
-use Rattle.message_reader.specs.Message.{addressed, payload_of, Lists, lists_in, Marks, marks_in, content_in}
-use Rattle.message_reader.specs.Message.{with_content, with_addressing, unless_unknown}
-use Rattle.message_reader.specs.Message.{message_in}
+use Rattle.rm_wire.specs.values.Children.{name_in, value_among}
+use Rattle.rm_wire.specs.values.Outcome.{◌>>=◌, optional, if_present}
+use Rattle.rm_wire.specs.values.QNames.{within, qname_in}
+use Rattle.rm_wire.specs.addressing.Addressing.{addressing_in, uri_header, is_header, blocks_named}
+use Rattle.rm_wire.specs.addressing.Endpoint.{wsa, uri_of}
+use Rattle.rm_wire.specs.addressing.Writable.{IsAddressingWritable}
+use Rattle.rm_wire.specs.addressing.declared.addressing.Addressing.{Addressing}
+use Rattle.rm_wire.specs.addressing.declared.error.AddressingError.{AddressingError}
+use Rattle.rm_wire.specs.addressing.declared.error.AddressingError.TheVariants as errors
+use Rattle.rm_wire.specs.elements.Headers.{header_of}
+use Rattle.rm_wire.specs.elements.Outcome.{rm}
+use Rattle.rm_wire.specs.elements.Writable.{IsAckWritable}
+use Rattle.rm_wire.specs.elements.declared.error.ElementError.{ElementError}
+use Rattle.rm_wire.specs.elements.declared.error.ElementError.TheVariants as flaws
+use Rattle.rm_wire.specs.elements.declared.header.AckBlock.{AckBlock}
+use Rattle.rm_wire.specs.elements.declared.header.Header.{Header}
+use Rattle.rm_wire.specs.elements.declared.header.Header.TheVariants as heads
+use Rattle.rm_wire.specs.elements.declared.header.SeqHeader.{SeqHeader}
+use Rattle.rm_wire.specs.message_types.declared.message.Body.{Body}
+use Rattle.rm_wire.specs.message_types.declared.message.Body.TheVariants as bodies
+use Rattle.rm_wire.specs.message_types.declared.message.Message.{Message}
+use Rattle.rm_wire.specs.reader.Blocks.{is_block, blocks, has_block, is_not_understood, not_understood}
+use Rattle.rm_wire.specs.reader.Bodies.{fault_at, body_in}
+use Rattle.rm_wire.specs.reader.Headers.{ack_from, ask_from, numbered_from, ack_of, ask_of, acks_in, asks_in}
+use Rattle.rm_wire.specs.reader.Headers.{pending_in, numbered_of, sequence_name, listed, told_name}
+use Rattle.rm_wire.specs.reader.Headers.{told_names}
+use Rattle.rm_wire.specs.reader.Message.{Wrong, NotUnderstood, Cardinality, HeaderMissing, BadHeader, Malformed}
+use Rattle.rm_wire.specs.reader.Message.{Rollover, is_create, is_numbered, has_fault, lacks_id, unless_lacking}
+use Rattle.rm_wire.specs.reader.Message.{addressed, payload_of, Lists, lists_in, Marks, marks_in, content_in}
+use Rattle.rm_wire.specs.reader.Message.{with_content, with_addressing, unless_unknown}
+use Rattle.rm_wire.specs.reader.Message.{message_in}
 use Rattle.read_rules.specs.WasRead.{AreReadTogether, WasRead}
 use Rattle.read_rules.proofs.Addressing.{IsAddressed, addressing_is}
 use Rattle.read_rules.proofs.Bodies.{GoesTogether, IsBodyOf, CreatesById, body_is}

@@ -14,10 +14,10 @@ use Rattle.soap_document.specs.Tokens.{cut, starts_name, is_name, is_qname}
 use Rattle.soap_profile.specs.Namespaces.{split, element_name}
 use Rattle.soap_profile.specs.Tree.{Binding, Element, decls_of}
 use Rattle.soap_profile.specs.declared.name.Expanded.{Expanded as Name}
-use Rattle.soap_writer.specs.Writable.{IsNameWritable}
+use Rattle.rm_wire.specs.markup.Writable.{IsNameWritable}
 use Rattle.soap_stripped.specs.Resolved.{IsBinding, AreInForce}
 use Rattle.soap_stripped.specs.ResolvedLaws.{more_in_force}
-use Rattle.soap_values.specs.QNames.{within, is_name_value, qname_in}
+use Rattle.rm_wire.specs.values.QNames.{within, is_name_value, qname_in}
 use Rattle.read_rules.proofs.Lists.{all_flat_map}
 
 -- the law of names that this stands on

@@ -9,15 +9,15 @@ use Rattle.soap_profile.specs.Payload.{height, depth}
 use Rattle.soap_profile.specs.Tree.{Element, element, Parts, none, text, child, without_declarations, parts_without}
 use Rattle.soap_profile.specs.Tree.{attrs_of, parts_of, children_of}
 use Rattle.soap_profile.specs.declared.tree.Attr.{Attr}
-use Rattle.soap_writer.specs.Writable.{IsAttrWritable, IsWritable}
+use Rattle.rm_wire.specs.markup.Writable.{IsAttrWritable, IsWritable}
 use Rattle.soap_stripped.specs.Resolved.{IsResolved}
 use Rattle.soap_stripped.specs.ResolvedLaws.{children_resolved}
-use Rattle.soap_values.specs.Children.{has_name, children_named}
-use Rattle.soap_values.specs.Outcome.{◌>>=◌, single}
-use Rattle.wsa_headers.specs.Endpoint.{wsa, uri_of, address_in, mark_name, is_no_mark, unmarked, param}
-use Rattle.wsa_headers.specs.Endpoint.{params_in, params_length, may_keep, kept_params, epr_in, epr_of}
-use Rattle.wsa_headers.specs.Writable.{IsParamWritable, IsEprWritable}
-use Rattle.wsa_headers.specs.declared.endpoint.Epr.{Epr}
+use Rattle.rm_wire.specs.values.Children.{has_name, children_named}
+use Rattle.rm_wire.specs.values.Outcome.{◌>>=◌, single}
+use Rattle.rm_wire.specs.addressing.Endpoint.{wsa, uri_of, address_in, mark_name, is_no_mark, unmarked, param}
+use Rattle.rm_wire.specs.addressing.Endpoint.{params_in, params_length, may_keep, kept_params, epr_in, epr_of}
+use Rattle.rm_wire.specs.addressing.Writable.{IsParamWritable, IsEprWritable}
+use Rattle.rm_wire.specs.addressing.declared.endpoint.Epr.{Epr}
 use Rattle.read_rules.proofs.Lists.{all_filter, all_map, all_flat_map}
 use Rattle.read_rules.proofs.Texts.{uri_is}
 

@@ -9,9 +9,9 @@ use Rattle.std.proofs.lemmas.Str.{IsUtf8-from_is_utf8}
 use Rattle.xml_chars.specs.Classes.{is_space, is_char}
 use Rattle.rm_base.specs.Text.{IsText, is_text}
 use Rattle.soap_profile.specs.Tree.{Element}
-use Rattle.soap_values.specs.Outcome.{◌>>=◌}
-use Rattle.soap_values.specs.Values.{trimmed_text, text_within}
-use Rattle.wsa_headers.specs.Endpoint.{uri_of}
+use Rattle.rm_wire.specs.values.Outcome.{◌>>=◌}
+use Rattle.rm_wire.specs.values.Values.{trimmed_text, text_within}
+use Rattle.rm_wire.specs.addressing.Endpoint.{uri_of}
 
 -- each of six tests that are all true
 record Six (a b c d e f : Bool) : Type 0 where

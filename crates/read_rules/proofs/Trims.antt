@@ -9,11 +9,11 @@ use Rattle.xml_chars.specs.Classes.{is_space}
 use Rattle.soap_lex.specs.Characters.{IsChars}
 use Rattle.soap_document.specs.Tokens.{is_nil}
 use Rattle.soap_profile.specs.Tree.{Element, element, Parts, none, text, child, parts_without, parts_of}
-use Rattle.soap_writer.specs.Writable.{ArePartsWritable}
+use Rattle.rm_wire.specs.markup.Writable.{ArePartsWritable}
 use Rattle.soap_stripped.specs.CharLaws.{AreChars, AreHigh, chars_nil, chars_append, one_char, ascii_char, high_bytes}
 use Rattle.soap_stripped.specs.Resolved.{IsResolved}
-use Rattle.soap_values.specs.Children.{text_among}
-use Rattle.soap_values.specs.Values.{trimmed_start, trimmed_end, trimmed, trimmed_text}
+use Rattle.rm_wire.specs.values.Children.{text_among}
+use Rattle.rm_wire.specs.values.Values.{trimmed_start, trimmed_end, trimmed, trimmed_text}
 
 space_low : (b : ℕ) → is_space b ≡ true → b < 128
 space_low b e = grind (arith, nat_tests)

@@ -2,21 +2,21 @@
 use Rattle.std.proofs.Common.{ℕ, List, Option, Some, None, subst, arith}
 use Rattle.std.specs.Prelude.{IfSome}
 use Rattle.rm_base.specs.Text.{IsText}
-use Rattle.wsa_headers.specs.Writable.{IsEprWritable, IsAddressingWritable}
-use Rattle.wsa_headers.specs.declared.addressing.Addressing.{Addressing}
-use Rattle.wsa_headers.specs.declared.endpoint.Epr.{Epr}
-use Rattle.rm_message.specs.declared.message.Body.{Body}
-use Rattle.rm_message.specs.declared.message.Body.TheVariants as bodies
-use Rattle.rm_message.specs.declared.message.Message.{Message}
-use Rattle.rm_message.specs.declared.refusal.FaultKind.{FaultKind}
-use Rattle.rm_message.specs.declared.refusal.FaultKind.TheVariants as kinds
-use Rattle.rm_message.specs.declared.refusal.Refusal.{Refusal}
-use Rattle.message_writer.specs.Rules.{IsBodyWritable, BelongTogether, KeepsRules}
-use Rattle.message_reader.specs.Message.{Wrong, NotUnderstood, Cardinality, HeaderMissing, BadHeader, Malformed}
-use Rattle.message_reader.specs.Message.{Rollover}
-use Rattle.message_reader.specs.Refusals.{Spells, anonymous, fault_endpoint, blind, addressed_refusal, refusal_of}
-use Rattle.message_reader.specs.Refusals.{Refuses, too_long, not_utf8, not_profile, wrong_version, not_envelope}
-use Rattle.message_reader.specs.Refusals.{without_message}
+use Rattle.rm_wire.specs.addressing.Writable.{IsEprWritable, IsAddressingWritable}
+use Rattle.rm_wire.specs.addressing.declared.addressing.Addressing.{Addressing}
+use Rattle.rm_wire.specs.addressing.declared.endpoint.Epr.{Epr}
+use Rattle.rm_wire.specs.message_types.declared.message.Body.{Body}
+use Rattle.rm_wire.specs.message_types.declared.message.Body.TheVariants as bodies
+use Rattle.rm_wire.specs.message_types.declared.message.Message.{Message}
+use Rattle.rm_wire.specs.message_types.declared.refusal.FaultKind.{FaultKind}
+use Rattle.rm_wire.specs.message_types.declared.refusal.FaultKind.TheVariants as kinds
+use Rattle.rm_wire.specs.message_types.declared.refusal.Refusal.{Refusal}
+use Rattle.rm_wire.specs.writer.Rules.{IsBodyWritable, BelongTogether, KeepsRules}
+use Rattle.rm_wire.specs.reader.Message.{Wrong, NotUnderstood, Cardinality, HeaderMissing, BadHeader, Malformed}
+use Rattle.rm_wire.specs.reader.Message.{Rollover}
+use Rattle.rm_wire.specs.reader.Refusals.{Spells, anonymous, fault_endpoint, blind, addressed_refusal, refusal_of}
+use Rattle.rm_wire.specs.reader.Refusals.{Refuses, too_long, not_utf8, not_profile, wrong_version, not_envelope}
+use Rattle.rm_wire.specs.reader.Refusals.{without_message}
 use Rattle.rm_wire.specs.Writable.{IsRefusalWritable}
 use Rattle.read_rules.specs.WasRead.{IsBodyRead, AreReadTogether, WasRead, PayloadFits}
 use Rattle.read_rules.proofs.Addressing.{anonymous_is}

@@ -3,16 +3,16 @@
 use Rattle.std.specs.Prelude.{◌≡◌, ℕ, List, Option, None, IfSome, Contains}
 use Rattle.std.specs.List.{AllByRecursion}
 use Rattle.rm_base.specs.Text.{IsText}
-use Rattle.soap_writer.specs.Writable.{IsNameWritable}
-use Rattle.wsa_headers.specs.Writable.{IsAddressingWritable}
-use Rattle.wsa_headers.specs.declared.addressing.Addressing.{Addressing}
-use Rattle.rm_elements.specs.Writable.{IsSequenceWritable, IsAckWritable, IsLifecycleWritable}
-use Rattle.rm_elements.specs.declared.header.SeqHeader.{SeqHeader}
-use Rattle.rm_message.specs.declared.message.Body.{Body}
-use Rattle.rm_message.specs.declared.message.Body.TheVariants as body
-use Rattle.rm_message.specs.declared.message.Message.{Message}
-use Rattle.message_writer.specs.Rules.{IsFaultWritable, IsPayloadWritable, action_for, bare_actions, protocol_actions}
-use Rattle.message_writer.specs.Rules.{HasItsId, NoFaultFirst}
+use Rattle.rm_wire.specs.markup.Writable.{IsNameWritable}
+use Rattle.rm_wire.specs.addressing.Writable.{IsAddressingWritable}
+use Rattle.rm_wire.specs.addressing.declared.addressing.Addressing.{Addressing}
+use Rattle.rm_wire.specs.elements.Writable.{IsSequenceWritable, IsAckWritable, IsLifecycleWritable}
+use Rattle.rm_wire.specs.elements.declared.header.SeqHeader.{SeqHeader}
+use Rattle.rm_wire.specs.message_types.declared.message.Body.{Body}
+use Rattle.rm_wire.specs.message_types.declared.message.Body.TheVariants as body
+use Rattle.rm_wire.specs.message_types.declared.message.Message.{Message}
+use Rattle.rm_wire.specs.writer.Rules.{IsFaultWritable, IsPayloadWritable, action_for, bare_actions, protocol_actions}
+use Rattle.rm_wire.specs.writer.Rules.{HasItsId, NoFaultFirst}
 
 -- what stands in Body may be written, but for a payload, of which nothing is said
 abbrev pub IsBodyRead : Body → Type 0

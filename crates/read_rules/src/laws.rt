@@ -2,11 +2,11 @@
 //! it stands on.
 
 ghost use Rattle.std.specs.Prelude.{ℕ, List, None};
-ghost use Rattle.rm_message.specs.declared.message.Message.{Message as Value};
-ghost use Rattle.rm_message.specs.declared.refusal.Refusal.{Refusal as Refused};
-ghost use Rattle.message_reader.specs.Refusals.{Spells, Refuses};
-ghost use Rattle.message_writer.specs.Faults.{fault_of};
-ghost use Rattle.message_writer.specs.Rules.{KeepsRules};
+ghost use Rattle.rm_wire.specs.message_types.declared.message.Message.{Message as Value};
+ghost use Rattle.rm_wire.specs.message_types.declared.refusal.Refusal.{Refusal as Refused};
+ghost use Rattle.rm_wire.specs.reader.Refusals.{Spells, Refuses};
+ghost use Rattle.rm_wire.specs.writer.Faults.{fault_of};
+ghost use Rattle.rm_wire.specs.writer.Rules.{KeepsRules};
 ghost use Rattle.rm_wire.specs.Writable.{IsRefusalWritable};
 ghost use Rattle.read_rules.specs.WasRead.{WasRead, PayloadFits};
 

@@ -8,8 +8,8 @@ use Rattle.rm_base.specs.declared.message.Cause.{Cause}
 use Rattle.rm_base.specs.declared.message.Payload.{Payload}
 use Rattle.rm_elements.specs.declared.lapse.Lapse.{Lapse}
 use Rattle.soap_document.specs.Tokens.{is_nil}
-use Rattle.soap_values.specs.Outcome.{◌>>=◌}
-use Rattle.wsa_headers.specs.declared.endpoint.Epr.{Epr}
+use Rattle.rm_elements.specs.values.Outcome.{◌>>=◌}
+use Rattle.rm_elements.specs.addressing.declared.endpoint.Epr.{Epr}
 use Rattle.record_batch.specs.declared.record.OwnOffer.{OwnOffer}
 use Rattle.record_batch.specs.declared.record.PeerOffer.{PeerOffer}
 use Rattle.record_batch.specs.declared.record.Via.{Via}

@@ -1,6 +1,6 @@
 //! Batches of records from bytes.
 ghost use Rattle.std.specs.Prelude.{◌≡◌, ◌<◌, map, IfOk, IfErr, Some};
-ghost use Rattle.soap_values.specs.Outcome.{Gives};
+ghost use Rattle.rm_elements.specs.values.Outcome.{Gives};
 ghost use Rattle.record_batch.specs.Batch.{
   read_as,
   made,
@@ -41,7 +41,7 @@ use crate::readers::{
 };
 use crate::record::Record;
 use rm_base::{Cause, Items};
-use soap_values::Flaw;
+use rm_elements::values::Flaw;
 use std::alloc::Global;
 
 #[tactic(auto, unfolding(crate::specs::Batch::made))]

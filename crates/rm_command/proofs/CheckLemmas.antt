@@ -2,8 +2,8 @@
 use Rattle.std.proofs.Common.{◌≡◌, ℕ, ◌≤◌, List, length, true, refl, arith}
 use Rattle.std.specs.Prelude.{IfSome}
 use Rattle.soap_profile.specs.Soap.{soap_space}
-use Rattle.rm_message.specs.declared.message.Message.{Message}
-use Rattle.rm_message.specs.declared.refusal.Refusal.{Refusal}
+use Rattle.rm_protocol.specs.message_types.declared.message.Message.{Message}
+use Rattle.rm_protocol.specs.message_types.declared.refusal.Refusal.{Refusal}
 use Rattle.message_reader.specs.Message.{Wrong}
 use Rattle.message_reader.specs.Message as wrongs
 use Rattle.message_reader.specs.Refusals.{Spells, Refuses, refusal_of}

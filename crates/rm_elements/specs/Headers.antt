@@ -6,9 +6,9 @@ use Rattle.soap_document.specs.Tokens.{is_nil}
 use Rattle.soap_profile.specs.Tree.{Element, Parts, name_of, attrs_of, parts_of}
 use Rattle.soap_profile.specs.declared.name.Expanded.{Expanded as Name}
 use Rattle.soap_profile.specs.declared.tree.Attr.{Attr}
-use Rattle.soap_values.specs.Children.{name_in, is_same, children_named, value_among}
-use Rattle.soap_values.specs.Outcome.{◌>>=◌, optional, single, each}
-use Rattle.soap_values.specs.Values.{trimmed, trimmed_text, whole_number, is_true, text_within}
+use Rattle.wsa_headers.specs.values.Children.{name_in, is_same, children_named, value_among}
+use Rattle.wsa_headers.specs.values.Outcome.{◌>>=◌, optional, single, each}
+use Rattle.wsa_headers.specs.values.Values.{trimmed, trimmed_text, whole_number, is_true, text_within}
 use Rattle.ack_ranges.specs.declared.range.Range.{Range}
 use Rattle.rm_elements.specs.Outcome.{rm, mc, named}
 use Rattle.rm_elements.specs.declared.error.ElementError.{ElementError}

@@ -2,8 +2,9 @@
 -- and WS-MakeConnection 1.1, section 3.
 use Rattle.std.specs.Prelude.{ℕ, ◌+◌, ◌/◌, ◌%◌, ◌&&◌, ◌==◌, List, [], ◌∷◌, ◌++◌, Bool, if◌then◌else◌, Option, Some}
 use Rattle.std.specs.Prelude.{None, codes, decimal}
-use Rattle.soap_writer.specs.Frame.{of_soap, of_messaging, of_connection}
-use Rattle.soap_nodes.specs.Node.{Tag as NodeTag, framed, Note, plain, prefixed, Node, Nodes, full, void, nothing}
+use Rattle.wsa_headers.specs.markup.Frame.{of_soap, of_messaging, of_connection}
+use Rattle.soap_nodes.specs.Node.{Tag as NodeTag, framed, Note, plain, prefixed, Node, Nodes, full, void}
+use Rattle.soap_nodes.specs.Node.{nothing}
 use Rattle.soap_nodes.specs.Node.{more, leaf, each_node}
 use Rattle.ack_ranges.specs.declared.range.Range.{Range}
 use Rattle.rm_base.specs.declared.message.Behaviour.{Behaviour}

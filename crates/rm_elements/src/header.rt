@@ -2,8 +2,8 @@
 ghost use Rattle.std.specs.Prelude.{◌≡◌, ◌-◌, ◌^◌, min, option_map};
 ghost use Rattle.soap_document.specs.Tokens.{is_nil};
 ghost use Rattle.soap_profile.specs.View.{element_view, attrs_view, parts_view};
-ghost use Rattle.soap_values.specs.Outcome.{Gives, each};
-ghost use Rattle.soap_values.specs.Steps.{lent_trees};
+ghost use Rattle.wsa_headers.specs.values.Outcome.{Gives, each};
+ghost use Rattle.wsa_headers.specs.values.Steps.{lent_trees};
 ghost use Rattle.rm_elements.specs.Steps.{capped};
 ghost use Rattle.rm_elements.specs.Headers.{
   ident_of,
@@ -23,11 +23,11 @@ ghost use Rattle.rm_elements.specs.Headers.{
 use ack_ranges::Range;
 use rm_base::{Ident, Items, MAX_NUMBER, Numbers};
 use soap_profile::{Element, Item};
-use soap_values::{
+use std::alloc::Global;
+use wsa_headers::values::{
     Flaw, find_all, find_optional, find_single, find_value, is_true_mark, read_ident, read_number,
     read_trimmed, trim,
 };
-use std::alloc::Global;
 
 /// The namespace of WS-ReliableMessaging 1.2: section 1.2.
 pub const MESSAGING: &[u8] = b"http://docs.oasis-open.org/ws-rx/wsrm/200702";

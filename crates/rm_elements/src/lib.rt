@@ -30,3 +30,7 @@ pub use lifecycle::{
 pub use read::{BodyName, HeaderName, body_name, header_name, read_header, read_lifecycle};
 pub use tag::Tag;
 pub use write::{push_ack, push_ask, push_pending, push_sequence, write_header, write_lifecycle};
+
+// What the contracts here speak of, passed on to the layers above, which need not list these crates.
+pub use wsa_headers as addressing;
+pub use wsa_headers::{markup, nodes, values};

@@ -1,7 +1,7 @@
 //! Why bytes are no message, or a message is not taken.
 use crate::message::Names;
 use rm_base::{Ident, Uri};
-use wsa_headers::Epr;
+use rm_elements::addressing::Epr;
 
 /// The kinds of refusals, in the order in which they are tested. The first eleven depend on the bytes alone.
 #[derive(Clone, Copy, Debug, PartialEq, Eq)]

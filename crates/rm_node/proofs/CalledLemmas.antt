@@ -4,7 +4,7 @@ use Rattle.std.specs.Prelude.{is_ok, IfErr, IfOk, MatchBool, OnOk, Result, Ok, E
 use Rattle.std.specs.List.{AllByRecursion}
 use Rattle.batch_size.specs.Room.{HasRoom}
 use Rattle.batch_size.specs.Typed.{IsTyped}
-use Rattle.record_batch.specs.Fact.{Fact}
+use Rattle.rm_protocol.specs.batches.Fact.{Fact}
 use Rattle.rm_disk.specs.Call.{Call}
 use Rattle.rm_disk.specs.ImageLemmas.{only_from}
 use Rattle.rm_journal.specs.JournalState.{end_of}

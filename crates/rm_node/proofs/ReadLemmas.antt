@@ -4,15 +4,15 @@ use Rattle.std.specs.Prelude.{IfSome, Result, Ok, Err}
 use Rattle.std.specs.List.{AllByRecursion}
 use Rattle.ack_ranges.specs.declared.range.Range.{Range}
 use Rattle.soap_profile.specs.Soap.{soap_space}
-use Rattle.rm_elements.specs.Writable.{IsAckWritable, IsKindWritable, IsRange, IsSequenceWritable}
-use Rattle.rm_elements.specs.declared.header.AckKind.{AckKind}
-use Rattle.rm_elements.specs.declared.header.AckKind.TheVariants as kind
-use Rattle.rm_elements.specs.declared.header.SeqHeader.{SeqHeader}
-use Rattle.rm_message.specs.declared.message.Body.{Body}
-use Rattle.rm_message.specs.declared.message.Body.TheVariants as body
-use Rattle.rm_message.specs.declared.message.Message.{Message}
-use Rattle.rm_message.specs.declared.refusal.Refusal.{Refusal}
-use Rattle.message_reader.specs.Refusals.{Refuses, Spells}
+use Rattle.rm_protocol.specs.elements.Writable.{IsAckWritable, IsKindWritable, IsRange, IsSequenceWritable}
+use Rattle.rm_protocol.specs.elements.declared.header.AckKind.{AckKind}
+use Rattle.rm_protocol.specs.elements.declared.header.AckKind.TheVariants as kind
+use Rattle.rm_protocol.specs.elements.declared.header.SeqHeader.{SeqHeader}
+use Rattle.rm_protocol.specs.message_types.declared.message.Body.{Body}
+use Rattle.rm_protocol.specs.message_types.declared.message.Body.TheVariants as body
+use Rattle.rm_protocol.specs.message_types.declared.message.Message.{Message}
+use Rattle.rm_protocol.specs.message_types.declared.refusal.Refusal.{Refusal}
+use Rattle.rm_wire.specs.reader.Refusals.{Refuses, Spells}
 use Rattle.read_rules.specs.WasRead.{WasRead, IsBodyRead}
 use Rattle.rm_wire.specs.Writable.{IsRefusalWritable}
 use Rattle.rm_protocol.specs.Next.{BeginsAtOne, HasNumbers, IsMessageNumber}

@@ -1,6 +1,6 @@
 -- What a call does to a node and its disk: the step of the protocol.
 use Rattle.std.specs.Prelude.{◌≡◌, ◌≢◌, ◌⊎◌, Bool, true, List, [], IsTrue, MatchBool}
-use Rattle.record_batch.specs.Fact.{Fact}
+use Rattle.rm_protocol.specs.batches.Fact.{Fact}
 use Rattle.node_store.specs.Changes.{Changes, Told}
 use Rattle.node_store.specs.Has.{AreOfNode, Has}
 use Rattle.node_store.specs.Stored.{stored_after, with_batch}

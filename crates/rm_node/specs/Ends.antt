@@ -1,6 +1,6 @@
 -- How calls of a node end.
 use Rattle.std.specs.Prelude.{Bool, true, false, List, ◌++◌, Option, Some, None, Result, Ok, Err}
-use Rattle.rm_message.specs.declared.refusal.FaultKind.{FaultKind}
+use Rattle.rm_protocol.specs.message_types.declared.refusal.FaultKind.{FaultKind}
 use Rattle.rm_protocol.specs.Calls.{Cause, Outcome, Done, Judged, Refused as RefusedWith}
 use Rattle.call_answers.specs.Answers.{cause_seen}
 use Rattle.rm_node.specs.declared.calls.Made.{Made}

@@ -1,9 +1,9 @@
 -- What leaves a node: the text of each message, and the address that it goes to.
 use Rattle.std.specs.Prelude.{Bool, List, [], ◌∷◌, ◌++◌, map, Option, Some, None}
 use Rattle.soap_profile.specs.Soap.{soap_space}
-use Rattle.message_writer.specs.Text.{message_text}
-use Rattle.rm_message.specs.declared.message.Message.{Message}
-use Rattle.sequence_table.specs.Words.{Text}
+use Rattle.rm_wire.specs.writer.Text.{message_text}
+use Rattle.rm_protocol.specs.message_types.declared.message.Message.{Message}
+use Rattle.rm_protocol.specs.sequences.Words.{Text}
 use Rattle.rm_protocol.specs.Addresses.{anonymous}
 use Rattle.rm_protocol.specs.Said.{sent_of}
 use Rattle.rm_node.specs.declared.packets.Handed.{Handed}

@@ -1,6 +1,6 @@
 //! What an answer says is done: its records are written, and then its packets are handed out.
 ghost use Rattle.std.specs.Prelude.{◌≡◌, List, true, false, is_ok, map, IsTrue, IfErr, IfOk, OnOk};
-ghost use Rattle.record_batch.specs.Fact.{Fact, fact_of};
+ghost use Rattle.rm_protocol.specs.batches.Fact.{Fact, fact_of};
 ghost use Rattle.rm_disk.specs.Cause.{HasCause};
 ghost use Rattle.rm_journal.specs.JournalState.{end_of};
 ghost use Rattle.node_rules.specs.Keeps.{LeavesANode};

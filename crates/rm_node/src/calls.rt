@@ -1,8 +1,8 @@
 //! What a node does of its own: create, send, close, end and tick.
 ghost use Rattle.std.specs.Prelude.{◌≡◌, ◌+◌, List, false, true, length, IsTrue, IfOk};
-ghost use Rattle.record_batch.specs.Fact.{Fact};
+ghost use Rattle.rm_protocol.specs.batches.Fact.{Fact};
 ghost use Rattle.rm_disk.specs.Cause.{HasCause};
-ghost use Rattle.rm_elements.specs.Writable.{IsLapseWritable};
+ghost use Rattle.rm_protocol.specs.elements.Writable.{IsLapseWritable};
 ghost use Rattle.rm_journal.specs.JournalState.{end_of};
 ghost use Rattle.rm_protocol.specs.Calls.{
   close as close_of,
@@ -12,9 +12,9 @@ ghost use Rattle.rm_protocol.specs.Calls.{
   tick as tick_of,
 };
 ghost use Rattle.rm_protocol.specs.Terms.{Terms};
-ghost use Rattle.sequence_table.specs.Fits.{is_outgoing_side};
-ghost use Rattle.sequence_table.specs.Makers.{maker, makers};
-ghost use Rattle.sequence_table.specs.Sources.{accepted};
+ghost use Rattle.rm_protocol.specs.sequences.Fits.{is_outgoing_side};
+ghost use Rattle.rm_protocol.specs.sequences.Makers.{maker, makers};
+ghost use Rattle.rm_protocol.specs.sequences.Sources.{accepted};
 ghost use Rattle.node_rules.specs.OwnTerms.{AreOwn};
 ghost use Rattle.node_store.specs.Changes.{told};
 ghost use Rattle.node_store.specs.Has.{Holds};

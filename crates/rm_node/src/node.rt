@@ -1,6 +1,6 @@
 //! A node: what it keeps, and what it tells.
 ghost use Rattle.std.specs.Prelude.{◌≡◌, ◌⊎◌, ◌<◌, ◌^◌, [], ◌∷◌, false, Err, length, IsTrue, IfOk, IfErr};
-ghost use Rattle.record_batch.specs.Fact.{Made};
+ghost use Rattle.rm_protocol.specs.batches.Fact.{Made};
 ghost use Rattle.rm_base.specs.declared.message.Behaviour.TheVariants.{FollowingFirstGap as FirstGap};
 ghost use Rattle.rm_disk.specs.Call.{crashes_of, seen_of};
 ghost use Rattle.rm_disk.specs.Cause.{HasCause};

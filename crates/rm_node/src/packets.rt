@@ -6,7 +6,7 @@ ghost use Rattle.rm_node.specs.Packets.{handed_packets, packet_of, packets_of};
 
 use node_messages::{Place, copy_uri, is_anonymous, place_of};
 use rm_base::{Blob, Items, Memory, Uri};
-use rm_message::Message;
+use rm_protocol::message_types::Message;
 use rm_wire::encode;
 use std::alloc::Global;
 

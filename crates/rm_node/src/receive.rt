@@ -1,11 +1,11 @@
 //! What comes to a node.
 ghost use Rattle.std.specs.Prelude.{◌≡◌, List, false, true, map, IsTrue, IfOk, Result};
-ghost use Rattle.record_batch.specs.Fact.{Fact, fact_of};
+ghost use Rattle.rm_protocol.specs.batches.Fact.{Fact, fact_of};
 ghost use Rattle.rm_disk.specs.Call.{crashes_of};
 ghost use Rattle.rm_disk.specs.Cause.{HasCause};
 ghost use Rattle.rm_journal.specs.JournalState.{end_of};
-ghost use Rattle.rm_message.specs.declared.message.Message.{Message as Said};
-ghost use Rattle.rm_message.specs.declared.refusal.Refusal.{Refusal as Refused};
+ghost use Rattle.rm_protocol.specs.message_types.declared.message.Message.{Message as Said};
+ghost use Rattle.rm_protocol.specs.message_types.declared.refusal.Refusal.{Refusal as Refused};
 ghost use Rattle.rm_protocol.specs.Calls.{receive as receive_of};
 ghost use Rattle.rm_protocol.specs.Terms.{Terms};
 ghost use Rattle.node_rules.specs.OwnTerms.{AreOwn};
@@ -21,14 +21,14 @@ use crate::error::NodeError;
 use crate::node::Node;
 use crate::packets::{Handed, Outs, hand_out};
 use call_answers::{Answer, Outcome};
-use message_reader::laws::{a_message_is_not_refused, one_message, one_refusal};
 use node_rules::laws::each_call_keeps_the_records;
 use node_tables::Tables;
 use read_rules::laws::{a_refusal_may_be_answered, what_is_read_may_be_written};
 use rm_base::{Behaviour, Blob, Memory};
 use rm_disk::Disk;
-use rm_message::{DecodeError, FaultKind};
+use rm_protocol::message_types::{DecodeError, FaultKind};
 use rm_wire::decode;
+use rm_wire::reader::laws::{a_message_is_not_refused, one_message, one_refusal};
 use std::alloc::Global;
 
 /// What came of bytes that a node received: the fault with which it answered, if it did, what goes back on the

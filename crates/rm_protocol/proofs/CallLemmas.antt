@@ -5,16 +5,17 @@ use Rattle.std.specs.Prelude.{Option, Some, None, IfSome}
 use Rattle.std.specs.List.{AllByRecursion, flat_map}
 use Rattle.rm_base.specs.declared.message.Behaviour.{Behaviour}
 use Rattle.rm_base.specs.declared.message.Cause.TheVariants.{Operator, Expired}
-use Rattle.rm_elements.specs.declared.lapse.Lapse.{Lapse}
-use Rattle.rm_elements.specs.declared.lifecycle.Lifecycle.TheVariants as life
+use Rattle.rm_message.specs.elements.declared.lapse.Lapse.{Lapse}
+use Rattle.rm_message.specs.elements.declared.lifecycle.Lifecycle.TheVariants as life
 use Rattle.rm_source.specs.declared.phase.OutPhase.{OutPhase}
 use Rattle.rm_message.specs.declared.message.Body.TheVariants as body
 use Rattle.rm_message.specs.declared.message.Message.{Message}
-use Rattle.record_batch.specs.declared.record.OwnOffer.{OwnOffer}
-use Rattle.record_batch.specs.declared.record.PeerOffer.{PeerOffer}
-use Rattle.record_batch.specs.declared.record.Via.{Via}
-use Rattle.record_batch.specs.Fact.{Fact, Creating, Granted, Accepted, Closing, ClosedOut, Closed, Ending, EndedOut}
-use Rattle.record_batch.specs.Fact.{Ended, Failed}
+use Rattle.sequence_table.specs.batches.declared.record.OwnOffer.{OwnOffer}
+use Rattle.sequence_table.specs.batches.declared.record.PeerOffer.{PeerOffer}
+use Rattle.sequence_table.specs.batches.declared.record.Via.{Via}
+use Rattle.sequence_table.specs.batches.Fact.{Fact, Creating, Granted, Accepted, Closing, ClosedOut, Closed, Ending}
+use Rattle.sequence_table.specs.batches.Fact.{EndedOut}
+use Rattle.sequence_table.specs.batches.Fact.{Ended, Failed}
 use Rattle.sequence_table.specs.Words.{Text, is_empty, at_seq, last_or}
 use Rattle.sequence_table.specs.Idents.{issue}
 use Rattle.sequence_table.specs.Makers.{Maker, Outgoing, Offered, Incoming, Taken, makers, makers_of, maker, counter}

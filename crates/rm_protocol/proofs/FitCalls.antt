@@ -12,12 +12,12 @@ use Rattle.rm_base.specs.NumberSet.{has_number}
 use Rattle.rm_base.specs.declared.message.Behaviour.{Behaviour}
 use Rattle.rm_base.specs.declared.message.Cause.TheVariants.{Operator, Peer, Expired, NotTaken}
 use Rattle.rm_base.specs.declared.message.Payload.{Payload}
-use Rattle.rm_elements.specs.declared.header.AckBlock.{AckBlock}
-use Rattle.rm_elements.specs.declared.header.SeqHeader.{SeqHeader}
-use Rattle.rm_elements.specs.declared.lapse.Lapse.{Lapse}
-use Rattle.rm_elements.specs.declared.lifecycle.CreateResponse.{CreateResponse}
-use Rattle.rm_elements.specs.declared.lifecycle.CreateSequence.{CreateSequence}
-use Rattle.rm_elements.specs.declared.lifecycle.Lifecycle.TheVariants as life
+use Rattle.rm_message.specs.elements.declared.header.AckBlock.{AckBlock}
+use Rattle.rm_message.specs.elements.declared.header.SeqHeader.{SeqHeader}
+use Rattle.rm_message.specs.elements.declared.lapse.Lapse.{Lapse}
+use Rattle.rm_message.specs.elements.declared.lifecycle.CreateResponse.{CreateResponse}
+use Rattle.rm_message.specs.elements.declared.lifecycle.CreateSequence.{CreateSequence}
+use Rattle.rm_message.specs.elements.declared.lifecycle.Lifecycle.TheVariants as life
 use Rattle.rm_source.specs.declared.phase.OutPhase.{OutPhase}
 use Rattle.rm_source.specs.declared.phase.OutPhase.TheVariants as out
 use Rattle.rm_message.specs.declared.message.Body.{Body}
@@ -27,11 +27,12 @@ use Rattle.rm_message.specs.declared.refusal.Refusal.{Refusal}
 use Rattle.rm_message.specs.declared.message.Body.TheVariants as body
 use Rattle.soap_profile.specs.Tree.{Element}
 use Rattle.soap_profile.specs.declared.name.Expanded.{Expanded as Name}
-use Rattle.wsa_headers.specs.declared.endpoint.Epr.{Epr}
-use Rattle.record_batch.specs.Fact.{Fact, Creating, Created, Granted, Closing, ClosedOut, Accepted, Acked, Received}
-use Rattle.record_batch.specs.Fact.{Closed, Ending, EndedOut, Ended, Failed}
-use Rattle.record_batch.specs.declared.record.PeerOffer.{PeerOffer}
-use Rattle.record_batch.specs.declared.record.Via.{Via}
+use Rattle.rm_message.specs.addressing.declared.endpoint.Epr.{Epr}
+use Rattle.sequence_table.specs.batches.Fact.{Fact, Creating, Created, Granted, Closing, ClosedOut, Accepted, Acked}
+use Rattle.sequence_table.specs.batches.Fact.{Received}
+use Rattle.sequence_table.specs.batches.Fact.{Closed, Ending, EndedOut, Ended, Failed}
+use Rattle.sequence_table.specs.batches.declared.record.PeerOffer.{PeerOffer}
+use Rattle.sequence_table.specs.batches.declared.record.Via.{Via}
 use Rattle.sequence_table.specs.Words.{Text, at_seq}
 use Rattle.sequence_table.specs.Makers.{Maker, Outgoing, Offered, Incoming, Taken, makers, makers_of, maker, created}
 use Rattle.sequence_table.specs.Makers.{created_of, seq_in, counter}

@@ -12,7 +12,7 @@ use Rattle.rm_base.specs.NumberSet.{has_number}
 use Rattle.rm_base.specs.declared.message.Behaviour.{Behaviour}
 use Rattle.rm_base.specs.declared.message.Cause.TheVariants.{Peer}
 use Rattle.rm_base.specs.declared.message.Payload.{Payload}
-use Rattle.record_batch.specs.Fact.{Fact, Created, Granted, Acked, Received, Closed, Ended}
+use Rattle.sequence_table.specs.batches.Fact.{Fact, Created, Granted, Acked, Received, Closed, Ended}
 use Rattle.sequence_table.specs.Words.{Text, is_empty, sorted_onto, with_message, without_gap, numbers_of, contents_of}
 use Rattle.sequence_table.specs.Idents.{issue}
 use Rattle.sequence_table.specs.Makers.{Maker, Outgoing, Offered, Incoming, Taken, makers, makers_of, maker, counter}

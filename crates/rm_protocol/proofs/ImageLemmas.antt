@@ -4,7 +4,7 @@ use Rattle.std.proofs.Common.{append-nil, inl, inr}
 use Rattle.std.specs.Prelude.{Some}
 use Rattle.rm_base.specs.Numbered.{numbered}
 use Rattle.rm_base.specs.NumberSet.{has_number}
-use Rattle.record_batch.specs.Fact.{Fact}
+use Rattle.sequence_table.specs.batches.Fact.{Fact}
 use Rattle.sequence_table.specs.Words.{is_empty, at_seq, sorted_onto, numbers_of}
 use Rattle.sequence_table.specs.Makers.{makers, counter}
 use Rattle.sequence_table.specs.Sources.{accepted, marks}

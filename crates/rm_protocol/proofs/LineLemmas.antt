@@ -5,7 +5,7 @@ use Rattle.std.specs.Prelude.{Option, Some, None, Err, slice_get}
 use native.Mathlib.Numerals.{unary_clauses}
 use Rattle.rm_base.specs.Numbered.{numbered}
 use Rattle.rm_message.specs.declared.refusal.Refusal.{Refusal}
-use Rattle.record_batch.specs.Fact.{Fact}
+use Rattle.sequence_table.specs.batches.Fact.{Fact}
 use Rattle.rm_protocol.specs.Calls as Calls
 use Rattle.sequence_table.specs.Words.{Text}
 use Rattle.rm_protocol.specs.Calls.{Answer}

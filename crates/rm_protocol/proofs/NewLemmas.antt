@@ -10,9 +10,9 @@ use Rattle.rm_base.specs.Numbered.{numbered}
 use Rattle.rm_base.specs.NumberSet.{has_number}
 use Rattle.rm_base.specs.declared.message.Behaviour.{Behaviour}
 use Rattle.rm_base.specs.declared.message.Payload.{Payload}
-use Rattle.rm_elements.specs.declared.header.AckBlock.{AckBlock}
+use Rattle.rm_message.specs.elements.declared.header.AckBlock.{AckBlock}
 use Rattle.rm_message.specs.declared.message.Message.{Message}
-use Rattle.record_batch.specs.Fact.{Fact, Acked, Received, ClosedOut}
+use Rattle.sequence_table.specs.batches.Fact.{Fact, Acked, Received, ClosedOut}
 use Rattle.sequence_table.specs.Words.{Text, is_empty, at_seq, first_or, sorted_onto, with_message, without_gap}
 use Rattle.sequence_table.specs.Words.{numbers_of}
 use Rattle.sequence_table.specs.Makers.{makers, makers_of, maker, nodes_of, number}

@@ -6,8 +6,8 @@ use Rattle.std.specs.List.{list_any}
 use Rattle.rm_base.specs.Numbered.{numbered}
 use Rattle.rm_base.specs.NumberSet.{has_number}
 use Rattle.rm_base.specs.declared.message.Payload.{Payload}
-use Rattle.rm_elements.specs.declared.header.AckBlock.{AckBlock}
-use Rattle.rm_elements.specs.declared.header.SeqHeader.{SeqHeader}
+use Rattle.rm_message.specs.elements.declared.header.AckBlock.{AckBlock}
+use Rattle.rm_message.specs.elements.declared.header.SeqHeader.{SeqHeader}
 use Rattle.rm_message.specs.declared.message.Body.TheVariants as body
 use Rattle.rm_message.specs.declared.message.Message.{Message}
 use Rattle.rm_message.specs.declared.refusal.FaultKind.{FaultKind}
@@ -16,7 +16,7 @@ use Rattle.rm_message.specs.declared.refusal.FaultKind.TheVariants.{SequenceTerm
 use Rattle.rm_message.specs.declared.refusal.FaultKind.TheVariants.{InvalidAcknowledgement, CreateSequenceRefused}
 use Rattle.rm_message.specs.declared.refusal.FaultKind.TheVariants.{MissingSelection, UnsupportedSelection}
 use Rattle.rm_message.specs.declared.refusal.FaultKind.TheVariants.{StoreFull}
-use Rattle.record_batch.specs.Fact.{Fact}
+use Rattle.sequence_table.specs.batches.Fact.{Fact}
 use Rattle.sequence_table.specs.Words.{Text, is_empty}
 use Rattle.sequence_table.specs.Makers.{maker}
 use Rattle.sequence_table.specs.Destinations.{any_true, closes, deadline_of, held, is_ended, is_over, is_past, received}

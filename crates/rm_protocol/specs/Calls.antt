@@ -4,9 +4,9 @@ use Rattle.std.specs.Prelude.{◌++◌, length, Option, Some, None, Result, Ok, 
 use Rattle.std.specs.Option.{option_to_list}
 use Rattle.rm_base.specs.declared.message.Behaviour.{Behaviour}
 use Rattle.rm_base.specs.declared.message.Cause.TheVariants.{Operator, Expired}
-use Rattle.rm_elements.specs.declared.header.AckBlock.{AckBlock}
-use Rattle.rm_elements.specs.declared.header.SeqHeader.{SeqHeader}
-use Rattle.rm_elements.specs.declared.lapse.Lapse.{Lapse}
+use Rattle.rm_message.specs.elements.declared.header.AckBlock.{AckBlock}
+use Rattle.rm_message.specs.elements.declared.header.SeqHeader.{SeqHeader}
+use Rattle.rm_message.specs.elements.declared.lapse.Lapse.{Lapse}
 use Rattle.rm_source.specs.declared.phase.OutPhase.{OutPhase}
 use Rattle.rm_source.specs.declared.phase.OutPhase.TheVariants as out
 use Rattle.rm_message.specs.declared.message.Message.{Message}
@@ -14,9 +14,9 @@ use Rattle.rm_message.specs.declared.refusal.FaultKind.{FaultKind}
 use Rattle.rm_message.specs.declared.refusal.FaultKind.TheVariants.{UnknownSequence, SequenceTerminated}
 use Rattle.rm_message.specs.declared.refusal.FaultKind.TheVariants.{SequenceClosed, InvalidAcknowledgement}
 use Rattle.rm_message.specs.declared.refusal.Refusal.{Refusal}
-use Rattle.record_batch.specs.declared.record.OwnOffer.{OwnOffer}
-use Rattle.record_batch.specs.declared.record.Via.{Via}
-use Rattle.record_batch.specs.Fact.{Fact, Creating, Accepted, Closing, Closed, Ending, Ended}
+use Rattle.sequence_table.specs.batches.declared.record.OwnOffer.{OwnOffer}
+use Rattle.sequence_table.specs.batches.declared.record.Via.{Via}
+use Rattle.sequence_table.specs.batches.Fact.{Fact, Creating, Accepted, Closing, Closed, Ending, Ended}
 use Rattle.sequence_table.specs.Words.{Text}
 use Rattle.sequence_table.specs.Idents.{issue}
 use Rattle.sequence_table.specs.Makers.{Maker, Outgoing, Taken, makers, maker, counter, number}

@@ -3,7 +3,7 @@ use Rattle.std.specs.Prelude.{ℕ, ◌&&◌, if◌then◌else◌, List, [], ◌�
 use Rattle.std.specs.Str.{bytes_eq}
 use Rattle.soap_profile.specs.Tree.{Element, element, Parts, none, text, child}
 use Rattle.xml_chars.specs.Classes.{is_space}
-use Rattle.record_batch.specs.Fact.{Fact}
+use Rattle.sequence_table.specs.batches.Fact.{Fact}
 use Rattle.sequence_table.specs.Words.{Text}
 use Rattle.sequence_table.specs.Find.{find_outgoing}
 use Rattle.rm_protocol.specs.Addresses.{rm_space}

@@ -2,17 +2,17 @@
 -- WS-ReliableMessaging 1.2, sections 3.4 to 3.9.
 use Rattle.std.specs.Prelude.{ℕ, ◌+◌, Bool, true, false, if◌then◌else◌, List, [], ◌∷◌, ◌++◌, codes, Option, Some, None}
 use Rattle.std.specs.List.{filter}
-use Rattle.rm_elements.specs.declared.header.AckBlock.{AckBlock}
-use Rattle.rm_elements.specs.declared.header.SeqHeader.{SeqHeader}
-use Rattle.rm_elements.specs.declared.lifecycle.Lifecycle.{Lifecycle}
-use Rattle.rm_elements.specs.declared.lifecycle.Lifecycle.TheVariants as life
+use Rattle.rm_message.specs.elements.declared.header.AckBlock.{AckBlock}
+use Rattle.rm_message.specs.elements.declared.header.SeqHeader.{SeqHeader}
+use Rattle.rm_message.specs.elements.declared.lifecycle.Lifecycle.{Lifecycle}
+use Rattle.rm_message.specs.elements.declared.lifecycle.Lifecycle.TheVariants as life
 use Rattle.rm_base.specs.NumberSet.{has_number}
 use Rattle.rm_message.specs.declared.message.Body.{Body}
 use Rattle.rm_message.specs.declared.message.Body.TheVariants as body
 use Rattle.rm_message.specs.declared.message.Message.{Message}
-use Rattle.wsa_headers.specs.declared.addressing.Addressing.{Addressing}
-use Rattle.wsa_headers.specs.declared.endpoint.Epr.{Epr}
-use Rattle.record_batch.specs.Fact.{Fact}
+use Rattle.rm_message.specs.addressing.declared.addressing.Addressing.{Addressing}
+use Rattle.rm_message.specs.addressing.declared.endpoint.Epr.{Epr}
+use Rattle.sequence_table.specs.batches.Fact.{Fact}
 use Rattle.sequence_table.specs.Words.{Text}
 use Rattle.sequence_table.specs.Idents.{issue}
 use Rattle.sequence_table.specs.Makers.{Maker, Incoming, maker, address, number}

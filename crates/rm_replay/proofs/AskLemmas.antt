@@ -12,8 +12,8 @@ use Rattle.node_actor.specs.declared.actor.Came.{Came}
 use Rattle.node_store.specs.Changes.{Told}
 use Rattle.rm_replay.specs.Asked.{Step, Stepped, Steps, step_of}
 use Rattle.rm_replay.specs.declared.ask.Call.{Call}
-use Rattle.rm_message.specs.declared.message.Message.{Message}
-use Rattle.rm_message.specs.declared.refusal.Refusal.{Refusal}
+use Rattle.rm_protocol.specs.message_types.declared.message.Message.{Message}
+use Rattle.rm_protocol.specs.message_types.declared.refusal.Refusal.{Refusal}
 use Rattle.rm_protocol.specs.Terms.{Terms}
 
 -- the step of an answer

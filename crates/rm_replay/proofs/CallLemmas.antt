@@ -8,15 +8,15 @@ use Rattle.std.specs.List.{AllByRecursion}
 use Rattle.std.specs.Option.{option_map}
 use Rattle.std.proofs.lemmas.Option.{slice_get-map}
 use Rattle.soap_profile.specs.Soap.{soap_space}
-use Rattle.message_reader.specs.Refusals.{Refuses}
-use Rattle.rm_node.specs.Came.{IsReadAs}
+use Rattle.rm_wire.specs.reader.Refusals.{Refuses}
+use Rattle.node_actor.specs.Came.{IsReadAs}
 use Rattle.rm_report.specs.declared.line.Outcome.TheVariants as told
 use Rattle.rm_base.specs.declared.message.Behaviour.{Behaviour}
 use Rattle.rm_base.specs.Numbered.{numbered}
-use Rattle.rm_elements.specs.declared.lapse.Lapse.{Lapse}
-use Rattle.rm_message.specs.declared.message.Message.{Message}
-use Rattle.rm_message.specs.declared.refusal.Refusal.{Refusal}
-use Rattle.record_batch.specs.declared.record.Via.TheVariants.{Direct}
+use Rattle.rm_protocol.specs.elements.declared.lapse.Lapse.{Lapse}
+use Rattle.rm_protocol.specs.message_types.declared.message.Message.{Message}
+use Rattle.rm_protocol.specs.message_types.declared.refusal.Refusal.{Refusal}
+use Rattle.rm_protocol.specs.batches.declared.record.Via.TheVariants.{Direct}
 use Rattle.rm_protocol.specs.Calls.{Answer}
 use Rattle.rm_protocol.specs.Node.{Node, State, Up, Writing, outcome_by}
 use Rattle.rm_protocol.specs.Sent.{Called, arrival_outcome}
@@ -26,7 +26,7 @@ use Rattle.rm_protocol.specs.World.{happens}
 use Rattle.rm_protocol.specs.World.{arrives, node, other, place, with_clock}
 use Rattle.rm_script.specs.declared.event.Event.TheVariants as said
 use Rattle.rm_script.specs.declared.event.Side.{Side as Place}
-use Rattle.sequence_table.specs.Words.{Text}
+use Rattle.rm_protocol.specs.sequences.Words.{Text}
 use Rattle.rm_replay.specs.Asked.{step_of}
 use Rattle.rm_replay.specs.Happening.{Happened, moved}
 use Rattle.rm_replay.specs.Meaning.{outcome_told, side_of}

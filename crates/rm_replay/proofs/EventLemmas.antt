@@ -2,7 +2,7 @@
 use Rattle.std.proofs.Common.{◌≡◌, ◌∙◌, ◌&&◌, ℕ, cond, Bool, false, List, Option, Some, None, take, refl, []}
 use Rattle.std.proofs.Common.{sym, ap, subst, inl, inr}
 use Rattle.std.specs.Prelude.{◌⊎◌, Result, Ok, Err}
-use Rattle.record_batch.specs.Fact.{Fact}
+use Rattle.rm_protocol.specs.batches.Fact.{Fact}
 use Rattle.rm_base.specs.declared.failures.Memory.{Memory}
 use Rattle.rm_base.specs.declared.message.Behaviour.{Behaviour}
 use Rattle.rm_protocol.specs.Node.{Node, armed as armed_by, mounted}

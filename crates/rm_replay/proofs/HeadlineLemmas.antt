@@ -1,7 +1,7 @@
 -- From nodes of the protocol to the headline of two disks.
 use Rattle.std.proofs.Common.{◌≡◌, ◌∙◌, Bool, true, false, List, ◌∷◌, ◌++◌, append_assoc, append-nil, refl, sym, []}
 use Rattle.std.proofs.Common.{ap, subst, inl, inr}
-use Rattle.record_batch.specs.Fact.{Fact}
+use Rattle.rm_protocol.specs.batches.Fact.{Fact}
 use Rattle.rm_protocol.specs.Node.{Node, State, Up, Writing, entries_left, mounted, records, records_in}
 use Rattle.rm_protocol.specs.Word.{IsLeft, IsLeftWith, KeepsAll}
 use Rattle.rm_protocol.specs.World.{World}

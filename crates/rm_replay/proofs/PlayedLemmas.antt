@@ -5,7 +5,7 @@ use Rattle.rm_protocol.specs.Word.{KeepsAll}
 use Rattle.rm_protocol.specs.World.{AreMade, Event, World, happens, run, start}
 use Rattle.rm_protocol.specs.Terms.{AreTerms}
 use Rattle.rm_script.specs.declared.event.Event.{Event as Said}
-use Rattle.sequence_table.specs.Words.{Text}
+use Rattle.rm_protocol.specs.sequences.Words.{Text}
 use Rattle.node_rules.specs.OwnTerms.{OwnAreTerms}
 use Rattle.rm_replay.specs.Headline.{KeepsHeadline}
 use Rattle.rm_replay.specs.Meaning.{stepped}

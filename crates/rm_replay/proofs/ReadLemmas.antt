@@ -5,14 +5,14 @@ use Rattle.std.specs.Prelude.{Result, Ok, Err}
 use Rattle.std.specs.List.{AllByRecursion, filter}
 use Rattle.std.proofs.lemmas.Bool.{leb-true, leb-false}
 use Rattle.soap_profile.specs.Soap.{soap_space}
-use Rattle.message_reader.specs.Refusals.{Refuses, Spells, blind, too_long}
-use Rattle.rm_message.specs.declared.message.Body.{Body}
-use Rattle.rm_message.specs.declared.message.Body.TheVariants as body
-use Rattle.rm_message.specs.declared.message.Message.{Message}
-use Rattle.rm_message.specs.declared.refusal.FaultKind.TheVariants.{TooLong}
-use Rattle.rm_message.specs.declared.refusal.Refusal.{Refusal}
+use Rattle.rm_wire.specs.reader.Refusals.{Refuses, Spells, blind, too_long}
+use Rattle.rm_protocol.specs.message_types.declared.message.Body.{Body}
+use Rattle.rm_protocol.specs.message_types.declared.message.Body.TheVariants as body
+use Rattle.rm_protocol.specs.message_types.declared.message.Message.{Message}
+use Rattle.rm_protocol.specs.message_types.declared.refusal.FaultKind.TheVariants.{TooLong}
+use Rattle.rm_protocol.specs.message_types.declared.refusal.Refusal.{Refusal}
 use Rattle.read_rules.specs.WasRead.{WasRead, IsBodyRead}
-use Rattle.record_batch.specs.Fact.{Fact}
+use Rattle.rm_protocol.specs.batches.Fact.{Fact}
 use Rattle.rm_disk.specs.Call.{Call as DeviceCall}
 use Rattle.rm_protocol.specs.Calls.{Answer}
 use Rattle.rm_protocol.specs.Node.{Node, State, Up, Writing, end_of, is_short, records, records_in, said_after, said_by}
@@ -26,7 +26,7 @@ use Rattle.node_rules.specs.OwnTerms.{AreOwn}
 use Rattle.node_rules.specs.Read.{IsContentRead, IsBodyRead as IsBodyKept}
 use Rattle.node_rules.specs.Records.{IsKept}
 use Rattle.node_store.specs.Stored.{Stored}
-use Rattle.rm_node.specs.Came.{IsReadAs}
+use Rattle.node_actor.specs.Came.{IsReadAs}
 use Rattle.node_actor.specs.Stands.{StandsBy}
 use Rattle.rm_protocol.specs.World.{Side, One, Two, World, node}
 use Rattle.rm_replay.specs.Shows.{Drives, StandFor}

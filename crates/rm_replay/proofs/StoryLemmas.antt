@@ -15,8 +15,8 @@ use Rattle.rm_protocol.specs.Calls.{Answer, create, send, close, end, tick}
 use Rattle.rm_protocol.specs.Word.{IsPrefixOf}
 use Rattle.rm_base.specs.Numbered.{numbered}
 use Rattle.rm_disk.specs.Call.{Call}
-use Rattle.record_batch.specs.Batch.{batch_text}
-use Rattle.record_batch.specs.Fact.{Fact}
+use Rattle.rm_protocol.specs.batches.Batch.{batch_text}
+use Rattle.rm_protocol.specs.batches.Fact.{Fact}
 use Rattle.rm_base.specs.declared.failures.Memory.{Memory}
 use Rattle.rm_journal.specs.EntryLemmas.{length-gates_from}
 use Rattle.node_store.specs.Has.{entries_of}

@@ -3,7 +3,7 @@ use Rattle.std.proofs.Common.{◌≡◌, ◌∙◌, ◌&&◌, ◌+◌, ◌≤◌
 use Rattle.std.proofs.Common.{append-nil}
 use Rattle.std.proofs.Common.{refl, sym, ap, subst, inl, inr, arith}
 use Rattle.std.specs.Prelude.{◌⊎◌}
-use Rattle.record_batch.specs.Fact.{Fact}
+use Rattle.rm_protocol.specs.batches.Fact.{Fact}
 use Rattle.rm_base.specs.Count.{RoseBy}
 use Rattle.rm_base.specs.CountLemmas.{RoseBy-more}
 use Rattle.rm_disk.specs.Call.{crashes_of}

@@ -2,12 +2,12 @@
 use Rattle.std.specs.Prelude.{◌≡◌, ◌&&◌, Bool, true, false, List, map, Result, Ok, Err}
 use Rattle.rm_base.specs.Text.{IsText}
 use Rattle.rm_base.specs.declared.failures.Memory.{Memory}
-use Rattle.rm_elements.specs.Writable.{IsLapseWritable}
-use Rattle.rm_message.specs.declared.message.Message.{Message}
-use Rattle.rm_message.specs.declared.refusal.Refusal.{Refusal}
-use Rattle.record_batch.specs.declared.record.Via.TheVariants.{Direct}
-use Rattle.rm_node.specs.Came.{IsReadAs}
-use Rattle.rm_node.specs.Packets.{packet_of}
+use Rattle.rm_protocol.specs.elements.Writable.{IsLapseWritable}
+use Rattle.rm_protocol.specs.message_types.declared.message.Message.{Message}
+use Rattle.rm_protocol.specs.message_types.declared.refusal.Refusal.{Refusal}
+use Rattle.rm_protocol.specs.batches.declared.record.Via.TheVariants.{Direct}
+use Rattle.node_actor.specs.Came.{IsReadAs}
+use Rattle.node_actor.specs.Packets.{packet_of}
 use Rattle.rm_protocol.specs.Calls.{Answer, create, send, close, end, tick}
 use Rattle.rm_protocol.specs.Node.{CallOutcome, Node, after, call_outcome, end_of, records, said_after}
 use Rattle.rm_protocol.specs.Said.{sent_of}

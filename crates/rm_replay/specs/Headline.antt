@@ -1,6 +1,6 @@
 -- The headline of two disks.
 use Rattle.std.specs.Prelude.{ℕ, List}
-use Rattle.record_batch.specs.Fact.{Fact}
+use Rattle.rm_protocol.specs.batches.Fact.{Fact}
 use Rattle.rm_disk.specs.Call.{Call}
 use Rattle.rm_disk.specs.Image.{MayLeave}
 use Rattle.rm_protocol.specs.Node.{records_in}

@@ -1,11 +1,11 @@
 -- The network between two nodes: the bytes of its packets, and what they are read as.
 use Rattle.std.specs.Prelude.{◌≡◌, ℕ, nat_le, if◌then◌else◌, List, map, length, Result, Ok, Err}
 use Rattle.soap_profile.specs.Soap.{soap_space}
-use Rattle.message_reader.specs.Refusals.{blind}
-use Rattle.message_writer.specs.Text.{message_text}
-use Rattle.rm_message.specs.declared.message.Message.{Message}
-use Rattle.rm_message.specs.declared.refusal.FaultKind.TheVariants.{TooLong}
-use Rattle.rm_message.specs.declared.refusal.Refusal.{Refusal}
+use Rattle.rm_wire.specs.reader.Refusals.{blind}
+use Rattle.rm_wire.specs.writer.Text.{message_text}
+use Rattle.rm_protocol.specs.message_types.declared.message.Message.{Message}
+use Rattle.rm_protocol.specs.message_types.declared.refusal.FaultKind.TheVariants.{TooLong}
+use Rattle.rm_protocol.specs.message_types.declared.refusal.Refusal.{Refusal}
 use Rattle.rm_protocol.specs.Terms.{Terms}
 use Rattle.rm_protocol.specs.World.{Packet, Side, One, Two, other}
 use Rattle.node_rules.specs.OwnTerms.{AreOwn}

@@ -3,7 +3,7 @@ use Rattle.std.specs.Prelude.{◌≡◌, ◌⊎◌, ℕ, ◌+◌, ◌&&◌, if�
 use Rattle.std.specs.Option.{option_map}
 use Rattle.rm_base.specs.Count.{RoseBy}
 use Rattle.rm_base.specs.Numbered.{numbered}
-use Rattle.record_batch.specs.Fact.{Fact}
+use Rattle.rm_protocol.specs.batches.Fact.{Fact}
 use Rattle.rm_disk.specs.Call.{crashes_of}
 use Rattle.rm_protocol.specs.Sent.{outcome_of, same_side}
 use Rattle.rm_protocol.specs.Terms.{Terms}

@@ -4,8 +4,8 @@ ghost use Rattle.node_actor.specs.Outcomes.{is_disk};
 ghost use Rattle.node_actor.specs.Stands.{Stands};
 ghost use Rattle.node_rules.specs.OwnTerms.{AreOwn};
 ghost use Rattle.node_store.specs.Changes.{told};
-ghost use Rattle.rm_message.specs.declared.message.Message.{Message as Read};
-ghost use Rattle.rm_message.specs.declared.refusal.Refusal.{Refusal as Refused};
+ghost use Rattle.rm_protocol.specs.message_types.declared.message.Message.{Message as Read};
+ghost use Rattle.rm_protocol.specs.message_types.declared.refusal.Refusal.{Refusal as Refused};
 ghost use Rattle.rm_protocol.specs.Node.{Node as Value};
 ghost use Rattle.rm_protocol.specs.Terms.{Terms};
 ghost use Rattle.rm_protocol.specs.World.{World, node};
@@ -14,12 +14,11 @@ ghost use Rattle.rm_replay.specs.Meaning.{side_of};
 ghost use Rattle.rm_replay.specs.Shows.{StandFor, drive_of, drives_of};
 
 use crate::stage::Nodes;
-use node_actor::{Actor, Came};
-use record_batch::Via;
+use node_actor::{Actor, Came, Wish};
 use rm_base::{Behaviour, Blob, Memory, Uri};
 use rm_disk::CrashDisk;
-use rm_elements::Lapse;
-use rm_node::Wish;
+use rm_protocol::batches::Via;
+use rm_protocol::elements::Lapse;
 use rm_script::Side;
 
 /// What a line asks of a node, or brings to it.

@@ -1,9 +1,9 @@
 //! What one line of a script does.
 ghost use Rattle.std.specs.Prelude.{◌≡◌, ◌≤◌, IfOk, Result, false};
 ghost use Rattle.rm_base.specs.Text.{IsText};
-ghost use Rattle.rm_elements.specs.Writable.{IsLapseWritable};
-ghost use Rattle.rm_message.specs.declared.message.Message.{Message as Read};
-ghost use Rattle.rm_message.specs.declared.refusal.Refusal.{Refusal as Refused};
+ghost use Rattle.rm_protocol.specs.elements.Writable.{IsLapseWritable};
+ghost use Rattle.rm_protocol.specs.message_types.declared.message.Message.{Message as Read};
+ghost use Rattle.rm_protocol.specs.message_types.declared.refusal.Refusal.{Refusal as Refused};
 ghost use Rattle.rm_protocol.specs.Terms.{Terms};
 ghost use Rattle.rm_protocol.specs.World.{Side as Place, World, node, other as other_of};
 ghost use Rattle.rm_script.specs.Within.{IsWithin};
@@ -22,7 +22,7 @@ use read_rules::laws::{a_refusal_may_be_answered, what_is_read_may_be_written};
 use rm_base::laws::texts_are_tested;
 use rm_base::{Behaviour, Blob, Memory, TextError, Uri};
 use rm_disk::CrashDisk;
-use rm_elements::Lapse;
+use rm_protocol::elements::Lapse;
 use rm_report::Outcome;
 use rm_script::{Event, Side};
 use rm_wire::{DecodeError, decode};

@@ -1,12 +1,11 @@
 //! What left a node goes on the wire.
 ghost use Rattle.std.specs.Prelude.{◌≡◌, IfOk, OnErr, OnOk};
 ghost use Rattle.node_actor.specs.Outcomes.{packets_in};
-ghost use Rattle.rm_node.specs.Packets.{reply_packet};
+ghost use Rattle.node_actor.specs.Packets.{reply_packet};
 ghost use Rattle.rm_replay.specs.Happening.{IsPutInPart, with_all};
 
-use node_actor::Came;
+use node_actor::{Came, Out};
 use rm_base::{Blob, Memory};
-use rm_node::Out;
 use rm_report::Outcome;
 use rm_wires::Wire;
 

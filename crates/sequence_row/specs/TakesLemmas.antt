@@ -7,10 +7,11 @@ use Rattle.ack_ranges.specs.declared.range.Range.{Range}
 use Rattle.rm_base.specs.NumberSet.{has_number}
 use Rattle.rm_base.specs.declared.message.Cause.{Cause}
 use Rattle.rm_base.specs.declared.message.Payload.{Payload}
-use Rattle.wsa_headers.specs.declared.endpoint.Epr.{Epr}
+use Rattle.sequence_table.specs.addressing.declared.endpoint.Epr.{Epr}
 use Rattle.rm_destination.specs.Messages.{is_empty, any_true}
-use Rattle.record_batch.specs.Fact.{Fact, Made, Creating, Granted, Created, Accepted, Acked, Received, Closing}
-use Rattle.record_batch.specs.Fact.{ClosedOut, Closed, Ending, EndedOut, Ended, Failed}
+use Rattle.sequence_table.specs.batches.Fact.{Fact, Made, Creating, Granted, Created, Accepted, Acked, Received}
+use Rattle.sequence_table.specs.batches.Fact.{Closing}
+use Rattle.sequence_table.specs.batches.Fact.{ClosedOut, Closed, Ending, EndedOut, Ended, Failed}
 use Rattle.sequence_table.specs.Words.{is_empty as no_items}
 use Rattle.sequence_table.specs.Makers.{Maker, Outgoing, maker, counter}
 use Rattle.sequence_table.specs.Sources.{accepted, phase}

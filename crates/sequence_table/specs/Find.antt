@@ -3,7 +3,7 @@ use Rattle.std.specs.Prelude.{◌≡◌, ℕ, suc, ◌-◌, ◌&&◌, Bool, true
 use Rattle.std.specs.Prelude.{None, is_none}
 use Rattle.std.specs.List.{flat_map}
 use Rattle.std.specs.Str.{bytes_eq}
-use Rattle.wsa_headers.specs.declared.endpoint.Epr.{Epr}
+use Rattle.record_batch.specs.addressing.declared.endpoint.Epr.{Epr}
 use Rattle.record_batch.specs.Fact.{Fact, Created}
 use Rattle.sequence_table.specs.Words.{Text, is_empty, at_seq, first_or}
 use Rattle.sequence_table.specs.Idents.{issue}

@@ -1,13 +1,13 @@
 //! What tables answer after a few records.
 use node_tables::{Maker, TableError, Tables};
-use record_batch::{OwnOffer, Record, Via};
 use rm_base::{Behaviour, Blob, Ident, Items, Payload, Uri};
-use rm_elements::Lapse;
+use sequence_table::addressing::Epr;
+use sequence_table::batches::{OwnOffer, Record, Via};
+use sequence_table::elements::Lapse;
 use sequence_table::issue;
 use soap_profile::Elements;
 use std::alloc::Global;
 use std::test::Fail;
-use wsa_headers::Epr;
 
 fn uri(alloc: Global, text: &str) -> Result<Uri, Fail> {
     Ok(Uri::from_slice(alloc, text.as_bytes())?)

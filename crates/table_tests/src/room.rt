@@ -1,12 +1,12 @@
 //! Room that is made for records, also for records of sequences that others of them make.
 use node_tables::{TableError, Tables};
-use record_batch::{Record, Via};
 use rm_base::{Behaviour, Blob, Items, Payload, Uri};
-use rm_elements::Lapse;
+use sequence_table::addressing::Epr;
+use sequence_table::batches::{Record, Via};
+use sequence_table::elements::Lapse;
 use soap_profile::Elements;
 use std::alloc::Global;
 use std::test::Fail;
-use wsa_headers::Epr;
 
 fn uri(alloc: Global, text: &str) -> Result<Uri, Fail> {
     Ok(Uri::from_slice(alloc, text.as_bytes())?)

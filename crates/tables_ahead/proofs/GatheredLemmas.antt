@@ -13,7 +13,7 @@ use Rattle.ack_ranges.specs.Changes.{with_range, united}
 use Rattle.rm_base.specs.NumberSet.{has_number}
 use Rattle.rm_base.specs.declared.message.Payload.{Payload}
 use Rattle.rm_destination.specs.Messages.{ranges_onto}
-use Rattle.record_batch.specs.Fact.{Fact}
+use Rattle.sequence_table.specs.batches.Fact.{Fact}
 use Rattle.sequence_table.specs.Words.{Text, at_seq, is_empty, first_or, numbers_of}
 use Rattle.sequence_table.specs.Makers.{makers, makers_of, counter, draws_of, nodes_of, number, addresses_of}
 use Rattle.sequence_table.specs.Makers.{created, created_of, created_from, seq_in}

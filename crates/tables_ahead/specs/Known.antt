@@ -3,7 +3,7 @@ use Rattle.std.specs.Prelude.{◌≡◌, ℕ, ◌≤◌, Bool, true, false, List
 use Rattle.std.specs.List.{flat_map}
 use Rattle.ack_ranges.specs.declared.range.Range.{Range}
 use Rattle.ack_ranges.specs.Ranges.{Contents}
-use Rattle.record_batch.specs.Fact.{Fact, Made, Creating, Granted}
+use Rattle.sequence_table.specs.batches.Fact.{Fact, Made, Creating, Granted}
 use Rattle.rm_source.specs.declared.phase.OutPhase.{OutPhase}
 use Rattle.rm_source.specs.declared.phase.OutPhase.TheVariants as out
 use Rattle.sequence_table.specs.Words.{Text}

@@ -3,7 +3,7 @@ ghost use Rattle.std.specs.Prelude.{◌≡◌, ◌+◌, ◌^◌, ◌<◌, ◌++�
 ghost use Rattle.std.specs.Option.{option_copied, option_map};
 ghost use Rattle.ack_ranges.specs.Changes.{covers_all, united};
 ghost use Rattle.rm_base.specs.NumberSet.{has_number};
-ghost use Rattle.record_batch.specs.Fact.{fact_of};
+ghost use Rattle.sequence_table.specs.batches.Fact.{fact_of};
 ghost use Rattle.rm_destination.specs.Messages.{ranges_onto};
 ghost use Rattle.sequence_table.specs.Destinations.{deadline_of, front, has_end, held, is_ended, is_over, is_past};
 ghost use Rattle.sequence_table.specs.Destinations.{is_stopped, received};
@@ -25,12 +25,12 @@ use crate::record::made_by;
 use crate::sides;
 use ack_ranges::{Range, RangeSet};
 use node_tables::{Maker, Tables};
-use record_batch::Record;
 use rm_base::{Ident, Memory, Uri};
 use rm_source::OutPhase;
+use sequence_table::addressing::Epr;
+use sequence_table::batches::Record;
 use std::alloc::Global;
 use std::marker::Model;
-use wsa_headers::Epr;
 
 /// The tables of a node with records ahead, which are not written yet.
 #[derive(Debug, Drop)]
@@ -45,7 +45,7 @@ impl<'a> Model for Ahead<'a> {
     ghost use Rattle.std.specs.Prelude.{map};
     ghost use Rattle.std.specs.Coded.{codes};
     ghost use Rattle.soap_profile.specs.TreeCode.{tree_code};
-    ghost use Rattle.record_batch.specs.Fact.{fact_of};
+    ghost use Rattle.sequence_table.specs.batches.Fact.{fact_of};
     ghost use Rattle.tables_ahead.specs.Known.{Known, IsAhead};
 
     ghost Value = { Known };

@@ -2,7 +2,7 @@
 ghost use Rattle.std.specs.Prelude.{◌≡◌, ◌+◌, ◌≤◌, length, map, min, slice_get};
 ghost use Rattle.std.specs.List.{flat_map};
 ghost use Rattle.std.specs.Option.{option_copied, option_map};
-ghost use Rattle.record_batch.specs.Fact.{fact_of};
+ghost use Rattle.sequence_table.specs.batches.Fact.{fact_of};
 ghost use Rattle.sequence_table.specs.Destinations.{has_end, held, is_stopped};
 ghost use Rattle.sequence_table.specs.Find.{accept_of};
 ghost use Rattle.sequence_table.specs.Makers.{counter, created_from, ident_in, makers, seq_in};
@@ -17,10 +17,10 @@ use crate::record::{
     stops,
 };
 use node_tables::Maker;
-use record_batch::Record;
 use rm_base::Ident;
 use rm_source::OutPhase;
-use wsa_headers::Epr;
+use sequence_table::addressing::Epr;
+use sequence_table::batches::Record;
 
 /// How many numbers were drawn, after so many, or the greatest number of 64 bits.
 pub(crate) fn drawn_in(batch: &[Record], drawn: u64) -> u64

@@ -1,12 +1,12 @@
 //! How the sequences came to be that a record makes.
 ghost use Rattle.std.specs.Prelude.{◌≡◌, slice_get};
 ghost use Rattle.std.specs.Option.{option_map};
-ghost use Rattle.record_batch.specs.Fact.{fact_of};
+ghost use Rattle.sequence_table.specs.batches.Fact.{fact_of};
 ghost use Rattle.sequence_table.specs.Makers.{makers_of};
 ghost use Rattle.node_tables.specs.Reads.{maker_seen};
 
 use node_tables::Maker;
-use record_batch::Record;
+use sequence_table::batches::Record;
 
 /// How the sequence at a place came to be among those that a record makes, counted from 0.
 pub(crate) fn maker_by(given: &Record, place: usize) -> Option<Maker<'_>>

@@ -1,7 +1,7 @@
 //! What one record says.
 ghost use Rattle.std.specs.Prelude.{◌≡◌, ◌+◌, ◌≤◌, length, not, slice_get};
 ghost use Rattle.std.specs.Option.{option_copied, option_map};
-ghost use Rattle.record_batch.specs.Fact.{fact_of};
+ghost use Rattle.sequence_table.specs.batches.Fact.{fact_of};
 ghost use Rattle.sequence_table.specs.Destinations.{any_true, close_of, received_of};
 ghost use Rattle.sequence_table.specs.Find.{accept_of};
 ghost use Rattle.sequence_table.specs.Makers.{created_of, draws_of, ident_in, makers_of, seq_in};
@@ -10,10 +10,10 @@ ghost use Rattle.sequence_table.specs.Words.{at_seq, is_empty, last_or, numbers_
 ghost use Rattle.tables_ahead.specs.Known.{ranges_in};
 
 use ack_ranges::RangeSet;
-use record_batch::Record;
 use rm_base::Ident;
 use rm_source::OutPhase;
-use wsa_headers::Epr;
+use sequence_table::addressing::Epr;
+use sequence_table::batches::Record;
 
 /// How many sequences a record makes.
 pub(crate) fn made_by(given: &Record) -> u32

@@ -1,6 +1,6 @@
 //! What the tests share: envelopes in parts, and what is read from them.
 use rm_base::{Blob, Memory};
-use rm_message::Refusal;
+use rm_wire::message_types::Refusal;
 use rm_wire::{DecodeError, FaultKind, decode, encode, fault_message};
 use std::alloc::Global;
 use std::test::Fail;

@@ -23,3 +23,8 @@ pub use laws::{
 pub use read::{is_parameter, read_addressing};
 pub use tag::Tag;
 pub use write::{push_epr, write_addressing, write_epr};
+
+// What the contracts here speak of, passed on to the layers above, which need not list these crates.
+pub use soap_nodes as nodes;
+pub use soap_nodes::markup;
+pub use soap_values as values;

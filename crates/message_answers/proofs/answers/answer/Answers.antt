@@ -1,7 +1,7 @@
 use Rattle.std.proofs.Common.{◌≡◌, true, List, refl, sym, subst}
 use Rattle.std.specs.Prelude.{IfOk}
-use Rattle.record_batch.specs.Fact.{Fact}
-use Rattle.sequence_table.specs.Fits.{all_fit}
+use Rattle.rm_protocol.specs.batches.Fact.{Fact}
+use Rattle.rm_protocol.specs.sequences.Fits.{all_fit}
 use Rattle.rm_protocol.specs.Calls.{Answer}
 use Rattle.call_answers.specs.Answers.{seen}
 use Rattle.message_answers.proofs.FitLemmas.{nothing-stored}

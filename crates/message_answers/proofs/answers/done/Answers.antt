@@ -1,6 +1,6 @@
 use Rattle.std.proofs.Common.{List, ap, ◌∙◌}
-use Rattle.rm_message.specs.declared.message.Message.{Message}
-use Rattle.record_batch.specs.Fact.{Fact}
+use Rattle.rm_protocol.specs.message_types.declared.message.Message.{Message}
+use Rattle.rm_protocol.specs.batches.Fact.{Fact}
 use Rattle.rm_protocol.specs.Calls.{Answer, Done}
 use Rattle.message_answers.specs.Untold.{done_of}
 use Rattle.message_answers.proofs.answers.done.Goals as goal

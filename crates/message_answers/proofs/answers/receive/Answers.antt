@@ -1,6 +1,6 @@
 use Rattle.std.proofs.Common.{◌≡◌, map, sym, subst, ap, ◌∙◌}
 use Rattle.std.specs.Prelude.{IfOk}
-use Rattle.record_batch.specs.Fact.{fact_of}
+use Rattle.rm_protocol.specs.batches.Fact.{fact_of}
 use Rattle.tables_ahead.specs.Known.{Known}
 use Rattle.rm_protocol.specs.Calls.{Answer}
 use Rattle.call_answers.specs.Answers.{MayBeStored, seen}

@@ -1,6 +1,6 @@
 use Rattle.std.proofs.Common.{◌≡◌, ◌∷◌, [], None, sym, subst, ap}
 use Rattle.std.specs.Prelude.{IfOk}
-use Rattle.rm_message.specs.declared.message.Message.{Message}
+use Rattle.rm_protocol.specs.message_types.declared.message.Message.{Message}
 use Rattle.rm_protocol.specs.Calls.{Answer, Judged}
 use Rattle.call_answers.specs.Answers.{seen}
 use Rattle.message_answers.proofs.FitLemmas.{nothing-stored}

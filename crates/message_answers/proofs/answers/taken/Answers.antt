@@ -1,8 +1,8 @@
 use Rattle.std.proofs.Common.{◌≡◌, ◌<◌, ◌^◌, ◌++◌, true, List, sym, subst, ap, ◌∙◌}
 use Rattle.std.specs.Prelude.{IfOk}
-use Rattle.record_batch.specs.Fact.{Fact}
-use Rattle.sequence_table.specs.Fits.{all_fit}
-use Rattle.sequence_table.specs.Makers.{counter, number}
+use Rattle.rm_protocol.specs.batches.Fact.{Fact}
+use Rattle.rm_protocol.specs.sequences.Fits.{all_fit}
+use Rattle.rm_protocol.specs.sequences.Makers.{counter, number}
 use Rattle.rm_protocol.specs.Calls.{Answer}
 use Rattle.call_answers.specs.Answers.{MayBeStored, seen}
 use Rattle.message_answers.specs.Untold.{done_of, full_of}

@@ -1,5 +1,5 @@
 use Rattle.std.proofs.Common.{◌≡◌, ◌++◌, [], List, ap, ◌∙◌}
-use Rattle.sequence_table.specs.Words.{Text}
+use Rattle.rm_protocol.specs.sequences.Words.{Text}
 use Rattle.rm_protocol.specs.Said.{Ack, ask_acks, data_acks, data_ident, found_in, given_with}
 use Rattle.message_replies.proofs.GivenLemmas.{ask_acks-same}
 use Rattle.message_replies.proofs.acks.acks_said.Goals as goal

@@ -1,11 +1,11 @@
 use Rattle.std.proofs.Common.{◌≡◌, ◌≤◌, ◌+◌, ◌++◌, ◌∷◌, [], arith, codes, subst, sym, ap, ◌∙◌, Bool, Option, Some}
 use Rattle.std.proofs.lemmas.Result.{IfOk-weaker}
-use Rattle.rm_elements.specs.declared.lifecycle.Lifecycle.TheVariants as life
-use Rattle.rm_message.specs.declared.message.Message.{Message}
-use Rattle.wsa_headers.specs.declared.endpoint.Epr.{Epr}
-use Rattle.sequence_table.specs.Find.{is_taken}
-use Rattle.sequence_table.specs.Idents.{issue}
-use Rattle.sequence_table.specs.Makers.{Maker, counter, maker, number}
+use Rattle.rm_protocol.specs.elements.declared.lifecycle.Lifecycle.TheVariants as life
+use Rattle.rm_protocol.specs.message_types.declared.message.Message.{Message}
+use Rattle.rm_protocol.specs.addressing.declared.endpoint.Epr.{Epr}
+use Rattle.rm_protocol.specs.sequences.Find.{is_taken}
+use Rattle.rm_protocol.specs.sequences.Idents.{issue}
+use Rattle.rm_protocol.specs.sequences.Makers.{Maker, counter, maker, number}
 use Rattle.rm_protocol.specs.Addresses.{reply_endpoint}
 use Rattle.rm_protocol.specs.Messages.{response_of}
 use Rattle.rm_protocol.specs.Said.{accept_by, grant_response}

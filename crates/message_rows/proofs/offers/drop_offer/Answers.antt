@@ -1,5 +1,5 @@
 use Rattle.std.proofs.Common.{◌++◌, ◌≤◌, length, arith}
-use Rattle.sequence_table.specs.Makers.{makers}
+use Rattle.rm_protocol.specs.sequences.Makers.{makers}
 use Rattle.message_rows.proofs.OfferLemmas.{drop_at-last}
 use Rattle.message_rows.proofs.offers.drop_offer.Goals as goal
 

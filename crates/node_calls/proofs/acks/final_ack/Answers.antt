@@ -1,8 +1,8 @@
 use Rattle.std.proofs.Common.{ℕ, List, [], ◌∷◌, ◌++◌, sym, ap, ◌∙◌}
-use Rattle.rm_elements.specs.declared.header.AckBlock.{AckBlock}
-use Rattle.wsa_headers.specs.declared.endpoint.Epr.{Epr}
-use Rattle.sequence_table.specs.Words.{Text}
-use Rattle.sequence_table.specs.Idents.{issue}
+use Rattle.rm_protocol.specs.elements.declared.header.AckBlock.{AckBlock}
+use Rattle.rm_protocol.specs.addressing.declared.endpoint.Epr.{Epr}
+use Rattle.rm_protocol.specs.sequences.Words.{Text}
+use Rattle.rm_protocol.specs.sequences.Idents.{issue}
 use Rattle.rm_protocol.specs.Addresses.{is_anonymous}
 use Rattle.rm_protocol.specs.Messages.{ack_message, block_of}
 use Rattle.node_calls.proofs.AckLemmas.{final-said}

@@ -1,8 +1,8 @@
 use Rattle.std.proofs.Common.{◌≡◌, ◌∙◌, List, ◌++◌, map, refl, ap, inl, inr}
 use Rattle.std.proofs.lemmas.Result.{err_from_is_err_and}
-use Rattle.record_batch.specs.Batch.{batch_text}
-use Rattle.record_batch.specs.Fact.{Fact, fact_of}
-use Rattle.record_batch.specs.declared.record.Record.{Record}
+use Rattle.rm_protocol.specs.batches.Batch.{batch_text}
+use Rattle.rm_protocol.specs.batches.Fact.{Fact, fact_of}
+use Rattle.rm_protocol.specs.batches.declared.record.Record.{Record}
 use Rattle.node_store.specs.Stored.{stored}
 use Rattle.node_store.proofs.CommitLemmas.{broken_changes, grown_changes, refused_changes, still_changes}
 use Rattle.node_store.proofs.commit.commit.Goals as goal

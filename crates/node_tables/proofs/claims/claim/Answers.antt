@@ -1,5 +1,5 @@
 use Rattle.std.proofs.Common.{◌≡◌, ◌+◌, ◌-◌, ◌<◌, ◌≤◌, length, arith}
-use Rattle.record_batch.specs.Fact.{fact_of}
+use Rattle.sequence_table.specs.batches.Fact.{fact_of}
 use Rattle.sequence_table.specs.Told.{names}
 use Rattle.node_tables.specs.declared.note.Ahead.{Ahead}
 use Rattle.node_tables.proofs.AheadLemmas.{begun-set, starts-set}

@@ -1,5 +1,5 @@
 use Rattle.std.proofs.Common.{true, false, subst}
-use Rattle.record_batch.specs.declared.record.Via.TheVariants.{Direct}
+use Rattle.rm_protocol.specs.batches.declared.record.Via.TheVariants.{Direct}
 use Rattle.node_store.specs.Changes.{told}
 use Rattle.rm_protocol.specs.Calls.{close as close_of, create as create_of, end as end_call_of, send as send_of}
 use Rattle.rm_protocol.specs.Calls.{tick as tick_of}

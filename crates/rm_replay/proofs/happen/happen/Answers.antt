@@ -1,6 +1,6 @@
 use Rattle.std.proofs.Common.{Err, Some, refl, sym, subst}
-use Rattle.message_reader.specs.Refusals.{blind}
-use Rattle.rm_message.specs.declared.refusal.FaultKind.TheVariants.{TooLong}
+use Rattle.rm_wire.specs.reader.Refusals.{blind}
+use Rattle.rm_protocol.specs.message_types.declared.refusal.FaultKind.TheVariants.{TooLong}
 use Rattle.rm_protocol.specs.World.{Close, End, Send, Tick, node}
 use Rattle.rm_report.specs.declared.line.Outcome.TheVariants as told
 use Rattle.rm_script.specs.declared.event.Event.{Event as Said}

@@ -1,6 +1,6 @@
 use Rattle.std.proofs.Common.{Err}
 use Rattle.soap_profile.specs.Soap.{soap_space}
-use Rattle.message_reader.specs.Refusals.{Refuses}
+use Rattle.rm_wire.specs.reader.Refusals.{Refuses}
 use Rattle.rm_protocol.specs.World.{Noise, node}
 use Rattle.rm_script.specs.declared.event.Event.TheVariants as said
 use Rattle.rm_replay.specs.Asked.{step_of}

@@ -1,5 +1,5 @@
 use Rattle.std.proofs.Common.{◌≡◌, ◌<◌, ◌^◌, [], map, arith}
-use Rattle.record_batch.specs.Fact.{fact_of}
+use Rattle.rm_protocol.specs.batches.Fact.{fact_of}
 use Rattle.node_store.specs.Stored.{stored}
 use Rattle.node_store.proofs.CommitLemmas.{first_so, made_has, made_holds, made_serves}
 use Rattle.node_store.proofs.store.Store.make.Goals as goal

@@ -1,7 +1,7 @@
 use Rattle.std.proofs.Common.{◌∙◌, ◌++◌, List, map, ap, arith}
 use Rattle.std.specs.List.{flat_map}
 use Rattle.std.proofs.lemmas.List.{length-map}
-use Rattle.record_batch.specs.Fact.{fact_of}
+use Rattle.sequence_table.specs.batches.Fact.{fact_of}
 use Rattle.node_tables.specs.declared.note.Ahead.{Ahead}
 use Rattle.node_tables.specs.Room.{starts, starts_of}
 use Rattle.node_tables.proofs.CountLemmas.{all-timed}

@@ -1,8 +1,8 @@
 use Rattle.std.proofs.Common.{false, length, List, ap, ◌∙◌, arith}
 use Rattle.std.specs.Prelude.{Ok}
 use Rattle.std.proofs.lemmas.Result.{err_from_is_err_and}
-use Rattle.record_batch.specs.Fact.{Fact}
-use Rattle.sequence_table.specs.Makers.{makers}
+use Rattle.rm_protocol.specs.batches.Fact.{Fact}
+use Rattle.rm_protocol.specs.sequences.Makers.{makers}
 use Rattle.rm_journal.specs.JournalState.{end_of}
 use Rattle.rm_protocol.specs.Calls.{create}
 use Rattle.call_answers.specs.Answers.{wish_seen}

@@ -1,8 +1,8 @@
 use Rattle.std.proofs.Common.{◌+◌, false, length, List, ap, ◌∙◌}
 use Rattle.std.specs.Prelude.{Ok}
 use Rattle.std.proofs.lemmas.Result.{err_from_is_err_and}
-use Rattle.record_batch.specs.Fact.{Fact}
-use Rattle.sequence_table.specs.Sources.{accepted}
+use Rattle.rm_protocol.specs.batches.Fact.{Fact}
+use Rattle.rm_protocol.specs.sequences.Sources.{accepted}
 use Rattle.rm_journal.specs.JournalState.{end_of}
 use Rattle.rm_protocol.specs.Calls.{send}
 use Rattle.rm_node.specs.Ends.{error_end, sent_end}

@@ -1,8 +1,8 @@
 use Rattle.std.proofs.Common.{◌≡◌, ◌++◌, List, [], ◌∷◌, map, true, refl, sym, subst, ap, ◌∙◌, Some, None}
 use Rattle.std.specs.List.{flat_map}
 use Rattle.std.specs.Prelude.{slice_get}
-use Rattle.record_batch.specs.declared.record.Record.{Record}
-use Rattle.record_batch.specs.Fact.{fact_of}
+use Rattle.sequence_table.specs.batches.declared.record.Record.{Record}
+use Rattle.sequence_table.specs.batches.Fact.{fact_of}
 use Rattle.sequence_table.specs.Find.{accept_of, accepted_by}
 use Rattle.sequence_table.specs.Fits.{all_fit}
 use Rattle.sequence_table.specs.Words.{at_seq, first_or}

@@ -1,6 +1,6 @@
 use Rattle.std.proofs.Common.{◌+◌, ◌++◌, List, length, map, sym, ap, ◌∙◌}
-use Rattle.record_batch.specs.declared.record.Record.{Record}
-use Rattle.record_batch.specs.Fact.{fact_of}
+use Rattle.sequence_table.specs.batches.declared.record.Record.{Record}
+use Rattle.sequence_table.specs.batches.Fact.{fact_of}
 use Rattle.sequence_table.specs.Sources.{accepted}
 use Rattle.tables_ahead.specs.Known.{Known}
 use Rattle.tables_ahead.proofs.GatheredLemmas.{accepted-both}

@@ -1,7 +1,7 @@
 use Rattle.std.proofs.Common.{[], ◌++◌, List, map, sym, ap, ◌∙◌}
 use Rattle.ack_ranges.specs.Changes.{united}
-use Rattle.record_batch.specs.declared.record.Record.{Record}
-use Rattle.record_batch.specs.Fact.{fact_of}
+use Rattle.sequence_table.specs.batches.declared.record.Record.{Record}
+use Rattle.sequence_table.specs.batches.Fact.{fact_of}
 use Rattle.sequence_table.specs.Sources.{acked}
 use Rattle.tables_ahead.specs.Known.{Known}
 use Rattle.tables_ahead.proofs.GatheredLemmas.{acked-both}

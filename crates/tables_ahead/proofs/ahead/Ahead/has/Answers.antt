@@ -2,8 +2,8 @@ use Rattle.std.proofs.Common.{◌++◌, List, map, sym, ap, ◌∙◌}
 use Rattle.std.specs.Prelude.{◌||◌}
 use Rattle.rm_base.specs.NumberSet.{has_number}
 use Rattle.sequence_table.specs.Destinations.{held}
-use Rattle.record_batch.specs.declared.record.Record.{Record}
-use Rattle.record_batch.specs.Fact.{fact_of}
+use Rattle.sequence_table.specs.batches.declared.record.Record.{Record}
+use Rattle.sequence_table.specs.batches.Fact.{fact_of}
 use Rattle.tables_ahead.specs.Known.{Known}
 use Rattle.tables_ahead.proofs.GatheredLemmas.{has-both}
 use Rattle.tables_ahead.proofs.ahead.Ahead.has.Goals as goal

@@ -1,7 +1,7 @@
 use Rattle.std.proofs.Common.{◌++◌, List, length, map, sym, ap, ◌∙◌}
 use Rattle.std.specs.Option.{option_or}
-use Rattle.record_batch.specs.declared.record.Record.{Record}
-use Rattle.record_batch.specs.Fact.{fact_of}
+use Rattle.sequence_table.specs.batches.declared.record.Record.{Record}
+use Rattle.sequence_table.specs.batches.Fact.{fact_of}
 use Rattle.sequence_table.specs.Makers.{created_from, ident_in, makers}
 use Rattle.sequence_table.specs.Sources.{out_ident}
 use Rattle.tables_ahead.specs.Known.{Known}

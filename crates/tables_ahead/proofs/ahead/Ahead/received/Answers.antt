@@ -1,7 +1,7 @@
 use Rattle.std.proofs.Common.{◌≡◌, [], ◌++◌, List, map, true, sym, subst, ap, ◌∙◌}
 use Rattle.rm_destination.specs.Messages.{ranges_onto}
-use Rattle.record_batch.specs.declared.record.Record.{Record}
-use Rattle.record_batch.specs.Fact.{fact_of}
+use Rattle.sequence_table.specs.batches.declared.record.Record.{Record}
+use Rattle.sequence_table.specs.batches.Fact.{fact_of}
 use Rattle.sequence_table.specs.Destinations.{held}
 use Rattle.sequence_table.specs.Fits.{all_fit}
 use Rattle.tables_ahead.specs.Known.{Known, AreNumbers}
