@@ -1,204 +1,319 @@
-//! Tests of rm_destination.
-use rm_base::{Behaviour, Blob, Cause, Items, MAX_NUMBER, Payload};
+//! Tests of rm_destination. What a test does stands in a helper that answers a plain value, since a test with many
+//! steps is slow to prove.
+use rm_base::{Behaviour, Blob, Cause, Items, MAX_NUMBER, Memory, Payload};
 use rm_destination::{DestError, InPhase, Incoming, Took};
 use std::alloc::Global;
 use std::test::Fail;
 
-fn payload(alloc: Global, bytes: &[u8]) -> Result<Payload, Fail> {
+fn payload(alloc: Global, bytes: &[u8]) -> Result<Payload, Memory> {
     Ok(Payload {
         bytes: Blob::from_slice(alloc, bytes)?,
         scope: Items::new(alloc),
     })
 }
 
+// What taking a message answers, whose number is from 1 on.
+fn take(
+    alloc: Global,
+    inc: &mut Incoming,
+    number: u16,
+    bytes: &[u8],
+    now: u64,
+) -> Result<Took, DestError> {
+    let payload = payload(alloc, bytes)?;
+    inc.take(u64::from(number.max(1)), payload, now)
+}
+
 // A sequence that got these messages in this order, each with its number as its one byte.
-fn with(alloc: Global, behaviour: Behaviour, numbers: &[u8]) -> Result<Incoming, Fail> {
+fn with(alloc: Global, behaviour: Behaviour, numbers: &[u8]) -> Result<Incoming, DestError> {
     let mut inc = Incoming::new(alloc, behaviour, None);
     for number in numbers {
-        if *number > 0 {
-            let bytes = [*number];
-            inc.take(*number as u64, payload(alloc, bytes.as_slice())?, 0)?;
-        }
+        take(alloc, &mut inc, u16::from(*number), &[*number], 0)?;
     }
     Ok(inc)
 }
 
-// The one bytes of the inbox.
-fn released(alloc: Global, inc: &Incoming) -> Result<Blob, Fail> {
-    let mut bytes = Blob::new(alloc);
-    for i in 0..inc.inbox_len() {
-        let item = inc.inbox_item(i + 1).ok_or("an item")?;
-        bytes.push_all(item.bytes.as_slice())?;
+fn is_byte(payload: Option<&Payload>, byte: u8) -> bool {
+    match payload {
+        Some(payload) => payload.bytes.as_slice() == [byte].as_slice(),
+        None => false,
     }
-    Ok(bytes)
 }
 
-// The one bytes of what is discarded.
-fn discarded(alloc: Global, inc: &Incoming) -> Result<Blob, Fail> {
-    let mut bytes = Blob::new(alloc);
-    for i in 0..inc.discarded_len() {
-        let item = inc.discarded_item(i + 1).ok_or("an item")?;
-        bytes.push_all(item.bytes.as_slice())?;
+// Whether the payloads of the inbox are these bytes.
+fn releases(inc: &Incoming, bytes: &[u8]) -> bool {
+    let mut are_so = inc.inbox_len() == bytes.len() as u64;
+    for i in 0..bytes.len() {
+        are_so &= is_byte(inc.inbox_item(i as u64 + 1), bytes[i]);
     }
-    Ok(bytes)
+    are_so
+}
+
+// Whether the payloads that are discarded are these bytes.
+fn discards(inc: &Incoming, bytes: &[u8]) -> bool {
+    let mut are_so = inc.discarded_len() == bytes.len() as u64;
+    for i in 0..bytes.len() {
+        are_so &= is_byte(inc.discarded_item(i as u64 + 1), bytes[i]);
+    }
+    are_so
+}
+
+// Whether a sequence that got these messages has an empty inbox.
+fn releases_none(alloc: Global, numbers: &[u8]) -> Result<bool, DestError> {
+    let inc = with(alloc, Behaviour::FollowingFirstGap, numbers)?;
+    Ok(inc.inbox_len() == 0)
+}
+
+// Whether it is open, with the behaviour that it began with, and got two ranges of numbers up to 4.
+fn got_two_ranges(inc: &Incoming) -> bool {
+    let is_open = inc.phase(200000000000000) == InPhase::Open;
+    let is_same = inc.behaviour() == Behaviour::FollowingFirstGap;
+    let received = inc.received();
+    is_open & is_same & (received.ranges().len() == 2) & (received.greatest() == 4)
+}
+
+// Whether the inbox has two payloads, and none is discarded.
+fn inbox_ends_at_two(inc: &Incoming) -> bool {
+    let is_so = inc.inbox_item(0).is_none() & inc.inbox_item(3).is_none();
+    is_so & releases(inc, &[1, 2]) & (inc.discarded_len() == 0)
 }
 
 #[test]
 fn the_inbox_waits_for_the_gap(rt: HostRuntime) -> Result<(), Fail> {
-    let alloc = rt.alloc();
-    let inc = with(alloc, Behaviour::FollowingFirstGap, &[2, 4])?;
-    assert_eq!(rt; inc.inbox_len(), 0);
-    let inc = with(alloc, Behaviour::FollowingFirstGap, &[2, 4, 1])?;
-    assert_eq!(rt; released(alloc, &inc)?.as_slice(), [1, 2].as_slice());
-    assert_eq!(rt; inc.discarded_len(), 0);
-    assert!(rt; inc.inbox_item(0).is_none());
-    assert!(rt; inc.inbox_item(3).is_none());
-    assert_eq!(rt; inc.received().ranges().len(), 2);
-    assert_eq!(rt; inc.received().greatest(), 4);
-    assert_eq!(rt; inc.phase(200000000000000), InPhase::Open);
-    assert_eq!(rt; inc.behaviour(), Behaviour::FollowingFirstGap);
+    assert!(rt; releases_none(rt.alloc(), &[2, 4])?);
+    let inc = with(rt.alloc(), Behaviour::FollowingFirstGap, &[2, 4, 1])?;
+    assert!(rt; inbox_ends_at_two(&inc));
+    assert!(rt; got_two_ranges(&inc));
     Ok(())
+}
+
+// Whether the messages are these bytes, in the order in which they came.
+fn are_bytes(messages: &[(u64, Payload)], bytes: &[u8]) -> bool {
+    let mut are_so = messages.len() == bytes.len();
+    for (message, byte) in messages.iter().zip(bytes) {
+        are_so &= is_byte(Some(&message.1), *byte);
+    }
+    are_so
 }
 
 #[test]
 fn messages_stay_in_their_order(rt: HostRuntime) -> Result<(), Fail> {
-    let alloc = rt.alloc();
-    let inc = with(alloc, Behaviour::EntireSequence, &[3, 1, 3, 2, 1])?;
-    let mut numbers = Blob::new(alloc);
-    for message in inc.messages() {
-        assert_eq!(rt; message.1.bytes.len(), 1);
-        numbers.push_all(message.1.bytes.as_slice())?;
-    }
-    assert_eq!(rt; numbers.as_slice(), [3, 1, 2].as_slice());
+    let inc = with(rt.alloc(), Behaviour::EntireSequence, &[3, 1, 3, 2, 1])?;
+    assert!(rt; are_bytes(inc.messages(), &[3, 1, 2]));
     Ok(())
+}
+
+// A number that is probed at a time, and the answer.
+type Probed = (u64, u64, Result<Took, DestError>);
+
+fn is_probed_so(inc: &Incoming, row: &Probed) -> bool {
+    inc.probe(row.0, row.1) == row.2
+}
+
+const PROBED_WHEN_NEW: [Probed; 3] = [
+    (1024, 0, Ok(Took::New)),
+    (1025, 0, Ok(Took::PastWindow { front: 0 })),
+    (MAX_NUMBER, 0, Ok(Took::PastWindow { front: 0 })),
+];
+
+// Whether taking a message of this number at 0 answers so.
+fn is_taken_so(alloc: Global, inc: &mut Incoming, number: u16, bytes: &[u8], took: Took) -> bool {
+    take(alloc, inc, number, bytes, 0) == Ok(took)
+}
+
+// Whether the window moves by one as the first message comes.
+fn window_moves(alloc: Global, inc: &mut Incoming) -> bool {
+    let past = Took::PastWindow { front: 1 };
+    let mut is_so = is_taken_so(alloc, inc, 1, b"one", Took::New);
+    is_so &= is_taken_so(alloc, inc, 1025, b"far", Took::New);
+    is_so &= is_taken_so(alloc, inc, 1026, b"too far", past);
+    is_so & (inc.messages().len() == 2)
 }
 
 #[test]
 fn the_window_ends_1024_past_the_front(rt: HostRuntime) -> Result<(), Fail> {
-    let alloc = rt.alloc();
-    let mut inc = Incoming::new(alloc, Behaviour::FollowingFirstGap, None);
-    assert_eq!(rt; inc.probe(1024, 0), Ok(Took::New));
-    assert_eq!(rt; inc.probe(1025, 0), Ok(Took::PastWindow { front: 0 }));
-    assert_eq!(rt; inc.probe(MAX_NUMBER, 0), Ok(Took::PastWindow { front: 0 }));
-    assert_eq!(rt; inc.take(1, payload(alloc, b"one")?, 0)?, Took::New);
-    assert_eq!(rt; inc.take(1025, payload(alloc, b"far")?, 0)?, Took::New);
-    let past = inc.take(1026, payload(alloc, b"too far")?, 0)?;
-    assert_eq!(rt; past, Took::PastWindow { front: 1 });
-    assert_eq!(rt; inc.messages().len(), 2);
+    let mut inc = with(rt.alloc(), Behaviour::FollowingFirstGap, &[])?;
+    for row in &PROBED_WHEN_NEW {
+        assert!(rt; is_probed_so(&inc, row), "at {}", row.0);
+    }
+    assert!(rt; window_moves(rt.alloc(), &mut inc));
     Ok(())
+}
+
+// What closing it answers.
+fn close(inc: &mut Incoming, cause: Cause, last: Option<u64>) -> Result<(), DestError> {
+    inc.close(cause, last, 0)
 }
 
 #[test]
 fn a_closed_sequence_discards_what_follows_the_gap(rt: HostRuntime) -> Result<(), Fail> {
-    let alloc = rt.alloc();
-    let mut inc = with(alloc, Behaviour::FollowingFirstGap, &[1, 3, 4])?;
-    assert_eq!(rt; inc.close(Cause::Peer, Some(4), 0), Ok(()));
-    assert_eq!(rt; released(alloc, &inc)?.as_slice(), [1].as_slice());
-    assert_eq!(rt; discarded(alloc, &inc)?.as_slice(), [3, 4].as_slice());
+    let mut inc = with(rt.alloc(), Behaviour::FollowingFirstGap, &[1, 3, 4])?;
+    assert!(rt; close(&mut inc, Cause::Peer, Some(4)) == Ok(()));
+    assert!(rt; releases(&inc, &[1]));
+    assert!(rt; discards(&inc, &[3, 4]));
     assert!(rt; inc.discarded_item(0).is_none());
     assert!(rt; inc.discarded_item(3).is_none());
     Ok(())
 }
 
-// Behaviour EntireSequence: what was received, who closed with which last number, and how many payloads are released
-// and discarded then.
+// What was received by a sequence that is an entire one or none, who closed it with which last number, and how many
+// payloads are released and discarded then.
+const ENTIRE: [(&[u8], Cause, Option<u64>, u64, u64); 9] = [
+    (&[1, 3], Cause::Peer, Some(3), 0, 2),
+    (&[3, 1, 2], Cause::Peer, Some(3), 3, 0),
+    (&[3, 1, 2], Cause::Peer, None, 3, 0),
+    (&[1, 3], Cause::Peer, None, 0, 2),
+    (&[1, 2], Cause::Peer, Some(3), 0, 2),
+    (&[1, 2, 3], Cause::Peer, Some(2), 0, 3),
+    (&[2, 3], Cause::Peer, Some(2), 0, 2),
+    (&[1, 2, 3], Cause::Operator, Some(3), 0, 3),
+    (&[], Cause::Peer, None, 0, 0),
+];
+
+// Whether it has so many payloads in its inbox, and so many that are discarded.
+fn has_so_many(inc: &Incoming, inbox: u64, pile: u64) -> bool {
+    (inc.inbox_len() == inbox) & (inc.discarded_len() == pile)
+}
+
+// Whether closing it so turns it from one with no payload to one of so many.
+fn closes_to(inc: &mut Incoming, row: &(&[u8], Cause, Option<u64>, u64, u64)) -> bool {
+    let had_none = has_so_many(inc, 0, 0);
+    let closed = close(inc, row.1, row.2) == Ok(());
+    had_none & closed & has_so_many(inc, row.3, row.4)
+}
+
 #[test]
 fn an_entire_sequence_is_all_or_none(rt: HostRuntime) -> Result<(), Fail> {
-    let alloc = rt.alloc();
-    let rows = [
-        ([1, 3, 0], Cause::Peer, Some(3), 0, 2),
-        ([3, 1, 2], Cause::Peer, Some(3), 3, 0),
-        ([3, 1, 2], Cause::Peer, None, 3, 0),
-        ([1, 3, 0], Cause::Peer, None, 0, 2),
-        ([1, 2, 0], Cause::Peer, Some(3), 0, 2),
-        ([1, 2, 3], Cause::Peer, Some(2), 0, 3),
-        ([2, 3, 0], Cause::Peer, Some(2), 0, 2),
-        ([1, 2, 3], Cause::Operator, Some(3), 0, 3),
-        ([0, 0, 0], Cause::Peer, None, 0, 0),
-    ];
-    for (numbers, cause, last, inbox, pile) in &rows {
-        let mut inc = with(alloc, Behaviour::EntireSequence, numbers.as_slice())?;
-        assert_eq!(rt; inc.inbox_len(), 0);
-        assert_eq!(rt; inc.discarded_len(), 0);
-        assert_eq!(rt; inc.close(*cause, *last, 0), Ok(()));
-        assert_eq!(rt; inc.inbox_len(), *inbox);
-        assert_eq!(rt; inc.discarded_len(), *pile);
+    for row in &ENTIRE {
+        let mut inc = with(rt.alloc(), Behaviour::EntireSequence, row.0)?;
+        assert!(rt;
+            closes_to(&mut inc, row),
+            "{:?}, {:?}, {:?}",
+            row.0,
+            row.1,
+            row.2
+        );
     }
     Ok(())
 }
 
+// Whether the inbox is empty after this close, and the peer's end is the first.
+fn waits_for_an_end(inc: &mut Incoming, cause: Cause, last: Option<u64>) -> bool {
+    let closed = close(inc, cause, last);
+    let had_none = inc.inbox_len() == 0;
+    (closed == Ok(())) & had_none & inc.end(Cause::Peer, Some(2))
+}
+
+// Whether a sequence of two messages that is closed so, and ended by its peer then, has these payloads.
+fn ends_with(
+    alloc: Global,
+    cause: Cause,
+    last: Option<u64>,
+    inbox: &[u8],
+    pile: &[u8],
+) -> Result<bool, DestError> {
+    let mut inc = with(alloc, Behaviour::EntireSequence, &[2, 1])?;
+    let waits = waits_for_an_end(&mut inc, cause, last);
+    Ok(waits & releases(&inc, inbox) & discards(&inc, pile))
+}
+
 #[test]
 fn what_the_peer_told_first_counts(rt: HostRuntime) -> Result<(), Fail> {
-    let alloc = rt.alloc();
-    let mut inc = with(alloc, Behaviour::EntireSequence, &[2, 1])?;
-    assert_eq!(rt; inc.close(Cause::Operator, None, 0), Ok(()));
-    assert_eq!(rt; inc.inbox_len(), 0);
-    assert!(rt; inc.end(Cause::Peer, Some(2)));
-    assert_eq!(rt; released(alloc, &inc)?.as_slice(), [1, 2].as_slice());
-    let mut inc = with(alloc, Behaviour::EntireSequence, &[2, 1])?;
-    assert_eq!(rt; inc.close(Cause::Peer, Some(3), 0), Ok(()));
-    assert!(rt; inc.end(Cause::Peer, Some(2)));
-    assert_eq!(rt; inc.inbox_len(), 0);
-    assert_eq!(rt; discarded(alloc, &inc)?.as_slice(), [1, 2].as_slice());
+    assert!(rt; ends_with(rt.alloc(), Cause::Operator, None, &[1, 2], &[])?);
+    assert!(rt; ends_with(rt.alloc(), Cause::Peer, Some(3), &[], &[1, 2])?);
     Ok(())
+}
+
+// Its deadline, and the millisecond before.
+const DEADLINE: u64 = 5011200000;
+
+const IN_TIME: u64 = 5011199999;
+
+// Whether it takes messages up to its deadline.
+fn takes_in_time(alloc: Global, inc: &mut Incoming) -> bool {
+    let took = take(alloc, inc, 1, b"one", IN_TIME);
+    let is_open = inc.phase(IN_TIME) == InPhase::Open;
+    let is_ended = inc.phase(DEADLINE) == InPhase::Ended;
+    (took == Ok(Took::New)) & is_open & is_ended
+}
+
+// Whether each call is refused at its deadline.
+fn refuses_late(alloc: Global, inc: &mut Incoming) -> bool {
+    let mut is_so = inc.probe(1, DEADLINE) == Err(DestError::Terminated);
+    is_so &= take(alloc, inc, 2, b"two", DEADLINE) == Err(DestError::Terminated);
+    is_so &= inc.close(Cause::Peer, None, DEADLINE) == Err(DestError::Terminated);
+    is_so & has_so_many(inc, 1, 0)
+}
+
+// Whether its end is the first, and it is ended at each time then.
+fn ends(inc: &mut Incoming) -> bool {
+    inc.end(Cause::Expired, None) & (inc.phase(0) == InPhase::Ended)
 }
 
 #[test]
 fn a_sequence_ends_at_its_deadline(rt: HostRuntime) -> Result<(), Fail> {
-    let alloc = rt.alloc();
-    let mut inc = Incoming::new(alloc, Behaviour::FollowingFirstGap, Some(5011200000));
-    assert_eq!(rt;
-        inc.take(1, payload(alloc, b"one")?, 5011199999)?,
-        Took::New
-    );
-    assert_eq!(rt; inc.phase(5011199999), InPhase::Open);
-    assert_eq!(rt; inc.phase(5011200000), InPhase::Ended);
-    assert_eq!(rt; inc.probe(1, 5011200000), Err(DestError::Terminated));
-    let late = inc.take(2, payload(alloc, b"two")?, 5011200000);
-    assert_eq!(rt; late, Err(DestError::Terminated));
-    assert_eq!(rt;
-        inc.close(Cause::Peer, None, 5011200000),
-        Err(DestError::Terminated)
-    );
-    assert_eq!(rt; inc.inbox_len(), 1);
-    assert_eq!(rt; inc.discarded_len(), 0);
-    assert!(rt; inc.end(Cause::Expired, None));
-    assert_eq!(rt; inc.phase(0), InPhase::Ended);
+    let mut inc = Incoming::new(rt.alloc(), Behaviour::FollowingFirstGap, Some(DEADLINE));
+    assert!(rt; takes_in_time(rt.alloc(), &mut inc));
+    assert!(rt; refuses_late(rt.alloc(), &mut inc));
+    assert!(rt; ends(&mut inc));
     Ok(())
+}
+
+const PROBED_WHEN_CLOSED: [Probed; 3] = [
+    (1, 0, Ok(Took::Duplicate)),
+    (2, 0, Err(DestError::Closed)),
+    (5000, 0, Err(DestError::Closed)),
+];
+
+// Whether closing it brings it into phase Closed.
+fn is_closed(inc: &mut Incoming) -> bool {
+    let closed = close(inc, Cause::Peer, Some(1));
+    (closed == Ok(())) & (inc.phase(0) == InPhase::Closed)
+}
+
+// Whether it is ended once, and refuses each call then.
+fn is_ended_once(inc: &mut Incoming) -> bool {
+    let first = inc.end(Cause::Peer, Some(1));
+    let second = inc.end(Cause::Peer, Some(1));
+    let closed = close(inc, Cause::Operator, None);
+    let is_refused = inc.probe(1, 0) == Err(DestError::Terminated);
+    first & !second & (closed == Err(DestError::Terminated)) & is_refused
 }
 
 #[test]
 fn refusals_come_in_their_order(rt: HostRuntime) -> Result<(), Fail> {
-    let alloc = rt.alloc();
-    let mut inc = with(alloc, Behaviour::FollowingFirstGap, &[1])?;
-    assert_eq!(rt; inc.close(Cause::Peer, Some(1), 0), Ok(()));
-    assert_eq!(rt; inc.phase(0), InPhase::Closed);
-    assert_eq!(rt; inc.probe(1, 0), Ok(Took::Duplicate));
-    assert_eq!(rt; inc.probe(2, 0), Err(DestError::Closed));
-    assert_eq!(rt; inc.probe(5000, 0), Err(DestError::Closed));
-    assert_eq!(rt; inc.close(Cause::Operator, None, 0), Err(DestError::Closed));
-    assert!(rt; inc.end(Cause::Peer, Some(1)));
-    assert!(rt; !inc.end(Cause::Peer, Some(1)));
-    assert_eq!(rt;
-        inc.close(Cause::Operator, None, 0),
-        Err(DestError::Terminated)
-    );
-    assert_eq!(rt; inc.probe(1, 0), Err(DestError::Terminated));
+    let mut inc = with(rt.alloc(), Behaviour::FollowingFirstGap, &[1])?;
+    assert!(rt; is_closed(&mut inc));
+    for row in &PROBED_WHEN_CLOSED {
+        assert!(rt; is_probed_so(&inc, row), "at {}", row.0);
+    }
+    assert!(rt; close(&mut inc, Cause::Operator, None) == Err(DestError::Closed));
+    assert!(rt; is_ended_once(&mut inc));
     Ok(())
+}
+
+// A new sequence that kept a far message.
+fn with_far(alloc: Global) -> Result<Incoming, Memory> {
+    let mut inc = Incoming::new(alloc, Behaviour::FollowingFirstGap, None);
+    inc.keep(5000, payload(alloc, b"far")?)?;
+    Ok(inc)
+}
+
+// Whether it takes two messages, and a third after its room for them is given up.
+fn takes_three(alloc: Global, inc: &mut Incoming) -> bool {
+    let mut is_so = is_taken_so(alloc, inc, 2, b"two", Took::New);
+    is_so &= is_taken_so(alloc, inc, 1, b"one", Took::New);
+    inc.release();
+    is_so & is_taken_so(alloc, inc, 3, b"three", Took::New)
 }
 
 #[test]
 fn room_is_made_used_and_given_up(rt: HostRuntime) -> Result<(), Fail> {
-    let alloc = rt.alloc();
-    let mut inc = Incoming::new(alloc, Behaviour::FollowingFirstGap, None);
-    inc.keep(5000, payload(alloc, b"far")?)?;
+    let mut inc = with_far(rt.alloc())?;
     inc.reserve(1)?;
     inc.reserve(1)?;
-    assert_eq!(rt; inc.take(2, payload(alloc, b"two")?, 0)?, Took::New);
-    assert_eq!(rt; inc.take(1, payload(alloc, b"one")?, 0)?, Took::New);
-    inc.release();
-    assert_eq!(rt; inc.take(3, payload(alloc, b"three")?, 0)?, Took::New);
-    assert_eq!(rt; inc.inbox_len(), 3);
-    assert_eq!(rt; inc.messages().len(), 4);
+    assert!(rt; takes_three(rt.alloc(), &mut inc));
+    assert!(rt; inc.inbox_len() == 3);
+    assert!(rt; inc.messages().len() == 4);
     Ok(())
 }

@@ -1,11 +1,12 @@
-//! Tests of rm_source.
-use ack_ranges::RangeSet;
-use rm_base::{Blob, MAX_NUMBER};
+//! Tests of rm_source. What a test does stands in a helper that answers a plain value, since a test with many steps is
+//! slow to prove.
+use ack_ranges::{Range, RangeSet};
+use rm_base::{Blob, MAX_NUMBER, Memory};
 use rm_source::{OutPhase, Outgoing, SourceError};
 use std::alloc::Global;
 use std::test::Fail;
 
-fn numbers(alloc: Global, ranges: &[(u64, u64)]) -> Result<RangeSet, Fail> {
+fn numbers(alloc: Global, ranges: &[(u64, u64)]) -> Result<RangeSet, Memory> {
     let mut set = RangeSet::new(alloc);
     for (lower, upper) in ranges {
         if 0 < *lower && *lower <= *upper && *upper <= MAX_NUMBER {
@@ -15,115 +16,187 @@ fn numbers(alloc: Global, ranges: &[(u64, u64)]) -> Result<RangeSet, Fail> {
     Ok(set)
 }
 
-fn pairs(alloc: Global, set: &RangeSet) -> Result<Vec<(u64, u64)>, Fail> {
-    let mut pairs = Vec::new(alloc);
-    for range in set.ranges() {
-        pairs.push((range.lower, range.upper))?;
-    }
-    Ok(pairs)
+// What accepting these bytes answers.
+fn accept(alloc: Global, out: &mut Outgoing, bytes: &[u8]) -> Result<u64, SourceError> {
+    out.accept(Blob::from_slice(alloc, bytes)?)
 }
 
-fn open(alloc: Global, count: u64) -> Result<Outgoing, Fail> {
-    let mut out = Outgoing::new(alloc, OutPhase::Open);
+fn fresh(alloc: Global, phase: OutPhase) -> Outgoing {
+    Outgoing::new(alloc, phase)
+}
+
+// An open sequence that accepted so many payloads of no bytes.
+fn open(alloc: Global, count: u64) -> Result<Outgoing, SourceError> {
+    let mut out = fresh(alloc, OutPhase::Open);
     for _ in 0..count {
-        out.accept(Blob::new(alloc))?;
+        accept(alloc, &mut out, b"")?;
     }
     Ok(out)
 }
 
+// What learning that these numbers are acknowledged answers.
+fn learn(alloc: Global, out: &mut Outgoing, ranges: &[(u64, u64)]) -> Result<bool, SourceError> {
+    out.learn(&numbers(alloc, ranges)?)
+}
+
+// Whether it numbers two payloads from 1 on.
+fn numbers_two(alloc: Global, out: &mut Outgoing) -> Result<bool, SourceError> {
+    let first = accept(alloc, out, b"one")?;
+    let second = accept(alloc, out, b"two")?;
+    Ok((first == 1) & (second == 2) & (out.accepted_len() == 2))
+}
+
+// Whether its payload of this number has these bytes.
+fn has_payload(out: &Outgoing, number: u64, bytes: &[u8]) -> bool {
+    match out.accepted(number) {
+        Some(payload) => payload.as_slice() == bytes,
+        None => false,
+    }
+}
+
+fn has_none(out: &Outgoing, number: u64) -> bool {
+    out.accepted(number).is_none()
+}
+
 #[test]
 fn payloads_are_numbered_from_one(rt: HostRuntime) -> Result<(), Fail> {
-    let alloc = rt.alloc();
-    let mut out = Outgoing::new(alloc, OutPhase::Open);
-    assert_eq!(rt; out.accept(Blob::from_slice(alloc, b"one")?)?, 1);
-    assert_eq!(rt; out.accept(Blob::from_slice(alloc, b"two")?)?, 2);
-    assert_eq!(rt; out.accepted_len(), 2);
-    let second = out.accepted(2).ok_or("a second payload")?;
-    assert_eq!(rt; second.as_slice(), b"two".as_slice());
-    assert!(rt; out.accepted(0).is_none());
-    assert!(rt; out.accepted(3).is_none());
+    let mut out = fresh(rt.alloc(), OutPhase::Open);
+    assert!(rt; numbers_two(rt.alloc(), &mut out)?);
+    assert!(rt; has_payload(&out, 2, b"two"));
+    assert!(rt; has_none(&out, 0));
+    assert!(rt; has_none(&out, 3));
     Ok(())
+}
+
+fn is_range(range: &Range, wanted: &(u64, u64)) -> bool {
+    (range.lower == wanted.0) & (range.upper == wanted.1)
+}
+
+// Whether these are all ranges of a set.
+fn has_ranges(set: &RangeSet, wanted: &[(u64, u64)]) -> bool {
+    let ranges = set.ranges();
+    if ranges.len() != wanted.len() {
+        return false;
+    }
+    let mut are_so = true;
+    for i in 0..wanted.len() {
+        are_so &= is_range(&ranges[i], &wanted[i]);
+    }
+    are_so
 }
 
 #[test]
 fn acknowledgements_add_up(rt: HostRuntime) -> Result<(), Fail> {
-    let alloc = rt.alloc();
-    let mut out = open(alloc, 4)?;
-    assert!(rt; out.learn(&numbers(alloc, &[(3, 4)])?)?);
-    assert!(rt; out.learn(&numbers(alloc, &[(1, 1)])?)?);
-    assert!(rt; !out.learn(&numbers(alloc, &[(1, 1), (3, 3)])?)?);
-    assert_eq!(rt;
-        pairs(alloc, out.acked())?.as_slice(),
-        [(1, 1), (3, 4)].as_slice()
-    );
-    assert_eq!(rt; out.unacked(), 1);
+    let mut out = open(rt.alloc(), 4)?;
+    assert!(rt; learn(rt.alloc(), &mut out, &[(3, 4)])?);
+    assert!(rt; learn(rt.alloc(), &mut out, &[(1, 1)])?);
+    assert!(rt; !learn(rt.alloc(), &mut out, &[(1, 1), (3, 3)])?);
+    assert!(rt; has_ranges(out.acked(), &[(1, 1), (3, 4)]));
+    assert!(rt; out.unacked() == 1);
     Ok(())
+}
+
+// Whether acknowledging these numbers is refused for one that was never given.
+fn is_never_given(alloc: Global, out: &mut Outgoing, ranges: &[(u64, u64)], number: u64) -> bool {
+    learn(alloc, out, ranges) == Err(SourceError::InvalidAck { number })
 }
 
 #[test]
 fn a_number_that_was_never_given_is_refused(rt: HostRuntime) -> Result<(), Fail> {
-    let alloc = rt.alloc();
-    let mut out = open(alloc, 4)?;
-    let never = out.learn(&numbers(alloc, &[(1, 2), (9, 9)])?);
-    assert_eq!(rt; never, Err(SourceError::InvalidAck { number: 9 }));
-    let next = out.learn(&numbers(alloc, &[(5, 5)])?);
-    assert_eq!(rt; next, Err(SourceError::InvalidAck { number: 5 }));
-    assert_eq!(rt; out.unacked(), 4);
-    assert!(rt; out.learn(&numbers(alloc, &[(4, 4)])?)?);
+    let mut out = open(rt.alloc(), 4)?;
+    assert!(rt; is_never_given(rt.alloc(), &mut out, &[(1, 2), (9, 9)], 9));
+    assert!(rt; is_never_given(rt.alloc(), &mut out, &[(5, 5)], 5));
+    assert!(rt; out.unacked() == 4);
+    assert!(rt; learn(rt.alloc(), &mut out, &[(4, 4)])?);
     Ok(())
+}
+
+// Whether its window is full, at 1024 messages.
+fn is_full(alloc: Global, out: &mut Outgoing) -> bool {
+    accept(alloc, out, b"") == Err(SourceError::WindowFull { unacked: 1024 })
+}
+
+// What keeping one more answers, or None where it is not open.
+fn keep(alloc: Global, out: &mut Outgoing) -> Option<Result<u64, Memory>> {
+    if out.phase() == OutPhase::Open && out.accepted_len() < MAX_NUMBER {
+        return Some(out.keep(Blob::new(alloc)));
+    }
+    None
+}
+
+// Whether one more is kept in a full window.
+fn keeps_one_more(alloc: Global, out: &mut Outgoing) -> bool {
+    is_full(alloc, out) & (keep(alloc, out) == Some(Ok(1025)))
+}
+
+// Whether one more is accepted once two of 1025 are acknowledged.
+fn accepts_one_more(alloc: Global, out: &mut Outgoing) -> bool {
+    let is_new = learn(alloc, out, &[(7, 8)]) == Ok(true);
+    let unacked = out.unacked();
+    is_new & (unacked == 1023) & (accept(alloc, out, b"") == Ok(1026))
 }
 
 #[test]
 fn the_window_holds_1024(rt: HostRuntime) -> Result<(), Fail> {
-    let alloc = rt.alloc();
-    let mut out = open(alloc, 1024)?;
-    let full = out.accept(Blob::new(alloc));
-    assert_eq!(rt; full, Err(SourceError::WindowFull { unacked: 1024 }));
-    if out.phase() == OutPhase::Open && out.accepted_len() < MAX_NUMBER {
-        assert_eq!(rt; out.keep(Blob::new(alloc))?, 1025);
-    }
-    out.learn(&numbers(alloc, &[(7, 8)])?)?;
-    assert_eq!(rt; out.unacked(), 1023);
-    assert_eq!(rt; out.accept(Blob::new(alloc))?, 1026);
-    let full = out.accept(Blob::new(alloc));
-    assert_eq!(rt; full, Err(SourceError::WindowFull { unacked: 1024 }));
+    let mut out = open(rt.alloc(), 1024)?;
+    assert!(rt; keeps_one_more(rt.alloc(), &mut out));
+    assert!(rt; accepts_one_more(rt.alloc(), &mut out));
+    assert!(rt; is_full(rt.alloc(), &mut out));
     Ok(())
+}
+
+const NOT_OPEN: [OutPhase; 4] = [
+    OutPhase::Creating,
+    OutPhase::Closing,
+    OutPhase::Closed,
+    OutPhase::Failed,
+];
+
+// Whether it accepts nothing in this phase.
+fn accepts_nothing(alloc: Global, out: &mut Outgoing, phase: OutPhase) -> bool {
+    out.set_phase(phase);
+    let is_set = out.phase() == phase;
+    is_set & (accept(alloc, out, b"") == Err(SourceError::NotOpen { phase }))
+}
+
+// Whether it accepts its first payload once it is open.
+fn accepts_first(alloc: Global, out: &mut Outgoing) -> bool {
+    out.set_phase(OutPhase::Open);
+    accept(alloc, out, b"") == Ok(1)
 }
 
 #[test]
 fn only_an_open_sequence_accepts(rt: HostRuntime) -> Result<(), Fail> {
-    let alloc = rt.alloc();
-    let mut out = Outgoing::new(alloc, OutPhase::Creating);
-    for phase in [
-        OutPhase::Creating,
-        OutPhase::Closing,
-        OutPhase::Closed,
-        OutPhase::Failed,
-    ] {
-        out.set_phase(phase);
-        assert_eq!(rt; out.phase(), phase);
-        assert_eq!(rt;
-            out.accept(Blob::new(alloc)),
-            Err(SourceError::NotOpen { phase })
-        );
+    let mut out = fresh(rt.alloc(), OutPhase::Creating);
+    for phase in &NOT_OPEN {
+        assert!(rt; accepts_nothing(rt.alloc(), &mut out, *phase), "{phase:?}");
     }
-    out.set_phase(OutPhase::Open);
-    assert_eq!(rt; out.accept(Blob::new(alloc))?, 1);
+    assert!(rt; accepts_first(rt.alloc(), &mut out));
     Ok(())
+}
+
+// Whether it numbers three payloads, for two of which room is made.
+fn numbers_three(alloc: Global, out: &mut Outgoing) -> Result<bool, SourceError> {
+    out.reserve(2, 1)?;
+    out.reserve(1, 0)?;
+    let mut is_so = true;
+    for number in 1..4 {
+        is_so &= accept(alloc, out, b"")? == number;
+    }
+    Ok(is_so)
+}
+
+// Whether it numbers a fourth payload once two are acknowledged and its room is given up.
+fn numbers_a_fourth(alloc: Global, out: &mut Outgoing) -> bool {
+    let is_new = learn(alloc, out, &[(1, 2)]) == Ok(true);
+    out.release();
+    is_new & (accept(alloc, out, b"") == Ok(4)) & (out.unacked() == 2)
 }
 
 #[test]
 fn room_is_made_used_and_given_up(rt: HostRuntime) -> Result<(), Fail> {
-    let alloc = rt.alloc();
-    let mut out = Outgoing::new(alloc, OutPhase::Open);
-    out.reserve(2, 1)?;
-    out.reserve(1, 0)?;
-    for number in 1..4 {
-        assert_eq!(rt; out.accept(Blob::new(alloc))?, number);
-    }
-    assert!(rt; out.learn(&numbers(alloc, &[(1, 2)])?)?);
-    out.release();
-    assert_eq!(rt; out.accept(Blob::new(alloc))?, 4);
-    assert_eq!(rt; out.unacked(), 2);
+    let mut out = fresh(rt.alloc(), OutPhase::Open);
+    assert!(rt; numbers_three(rt.alloc(), &mut out)?);
+    assert!(rt; numbers_a_fourth(rt.alloc(), &mut out));
     Ok(())
 }

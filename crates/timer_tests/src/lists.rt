@@ -25,49 +25,100 @@ fn due_of(item: Option<Item>) -> Option<u64> {
     item.map(|item| item.due)
 }
 
-// What the row's calls answer in turn; then the slots that are spare at the end, 10 times the items that are due at 6,
-// and 100 times the slots that are spare where there are three items.
-fn three_items<L: Ledger>(alloc: Global, blank: Blank) -> Result<([Option<u64>; 7], u64), Memory>
+// Puts an item last into a list, where a slot is spare. Whether one was.
+fn put<L: Ledger>(links: &mut Links, list: u32, key: u64, due: u64, steps: &mut Steps<L>) -> bool
+    requires { list < length links.old.lists }
+    ensures { length links.new.lists ≡ length links.old.lists }
+{
+    if links.spare() == 0 {
+        return false;
+    }
+    links.add(list, key, due, steps);
+    true
+}
+
+// Takes the first item that is due, and tells when it was.
+fn take_due<L: Ledger>(links: &mut Links, now: u64, steps: &mut Steps<L>) -> Option<u64>
+    ensures { length links.new.lists ≡ length links.old.lists }
+{
+    due_of(links.take_due(now, steps))
+}
+
+// Takes the first item of a list, and tells when it is due.
+fn take_first<L: Ledger>(links: &mut Links, list: u32, steps: &mut Steps<L>) -> Option<u64>
+    requires { list < length links.old.lists }
+    ensures { length links.new.lists ≡ length links.old.lists }
+{
+    due_of(links.take_first(list, steps))
+}
+
+// Whether three items fill three slots.
+fn is_filled<L: Ledger>(links: &mut Links, steps: &mut Steps<L>) -> bool
+    requires { length links.old.lists ≡ 2 }
+    ensures { length links.new.lists ≡ 2 }
+{
+    let mut is_so = put(links, 0, 0, 5, steps);
+    is_so &= put(links, 0, 1, 6, steps);
+    is_so &= put(links, 0, 2, 7, steps);
+    is_so & (links.spare() == 0)
+}
+
+// Whether the second item is removed, so that one is due at 6, and none at 4.
+fn second_is_removed<L: Ledger>(links: &mut Links, steps: &mut Steps<L>) -> bool
+    requires { length links.old.lists ≡ 2 }
+    ensures { length links.new.lists ≡ 2 }
+{
+    let second = due_of(remove_nth(links, 0, 1, steps));
+    let none_at_4 = take_due(links, 4, steps);
+    (second == Some(6)) & (none_at_4 == None) & (links.due_front(0, 6, 1, steps) == 1)
+}
+
+// Whether the other two leave as they are due.
+fn two_leave<L: Ledger>(links: &mut Links, steps: &mut Steps<L>) -> bool
+    requires { length links.old.lists ≡ 2 }
+    ensures { length links.new.lists ≡ 2 }
+{
+    let first_at_9 = take_due(links, 9, steps);
+    let next_at_9 = take_due(links, 9, steps);
+    let none_at_9 = take_due(links, 9, steps);
+    (first_at_9 == Some(5)) & (next_at_9 == Some(7)) & (none_at_9 == None)
+}
+
+// Whether an item that goes into the second list, which has none, is its first.
+fn one_comes_and_leaves<L: Ledger>(links: &mut Links, steps: &mut Steps<L>) -> bool
+    requires { length links.old.lists ≡ 2 }
+{
+    let none_in_1 = take_first(links, 1, steps);
+    let is_put = put(links, 1, 8, 1, steps);
+    let one_in_1 = take_first(links, 1, steps);
+    is_put & (none_in_1 == None) & (one_in_1 == Some(1))
+}
+
+// What each step of the row tells in turn.
+fn three_items<L: Ledger>(alloc: Global, blank: Blank) -> Result<[bool; 4], Memory>
     requires name { blank.name ≡ L.name }
     requires parts { blank.parts ≡ L.parts }
     requires one { L.parts ≡ 1 }
 {
     let mut steps: Steps<L> = Steps::new(blank);
     let mut links = Links::with_slots(alloc, 3, 2)?;
-    links.add(0, 0, 5, &mut steps);
-    links.add(0, 1, 6, &mut steps);
-    links.add(0, 2, 7, &mut steps);
-    let full = links.spare() as u64;
-    let second = due_of(remove_nth(&mut links, 0, 1, &mut steps));
-    let none_at_4 = due_of(links.take_due(4, &mut steps));
-    let due_at_6 = links.due_front(0, 6, 1, &mut steps) as u64;
-    let first_at_9 = due_of(links.take_due(9, &mut steps));
-    let next_at_9 = due_of(links.take_due(9, &mut steps));
-    let none_at_9 = due_of(links.take_due(9, &mut steps));
-    let none_in_1 = due_of(links.take_first(1, &mut steps));
-    if links.spare() < 3 {
-        return Err(Memory);
-    }
-    links.add(1, 8, 1, &mut steps);
-    let one_in_1 = due_of(links.take_first(1, &mut steps));
-    let found = [
-        second, none_at_4, first_at_9, next_at_9, none_at_9, none_in_1, one_in_1,
-    ];
-    Ok((found, links.spare() as u64 + 10 * due_at_6 + 100 * full))
+    let is_filled = is_filled(&mut links, &mut steps);
+    let is_removed = second_is_removed(&mut links, &mut steps);
+    let leave = two_leave(&mut links, &mut steps) & (links.spare() == 3);
+    let comes = one_comes_and_leaves(&mut links, &mut steps) & (links.spare() == 3);
+    Ok([is_filled, is_removed, leave, comes])
 }
 
 #[test]
 fn items_leave_as_they_are_due(rt: HostRuntime) -> Result<(), Fail> {
-    let (found, spare) = three_items::<Brand>(rt.alloc(), Blank::new(1))?;
-    let dues = [Some(6), None, Some(5), Some(7), None, None, Some(1)];
-    assert_eq!(rt; found, dues);
-    assert_eq!(rt; spare, 13);
+    let are_so = three_items::<Brand>(rt.alloc(), Blank::new(1))?;
+    assert!(rt; are_so == [true; 4], "{are_so:?}");
     Ok(())
 }
 
 #[test]
 fn one_slot_is_spare(rt: HostRuntime) -> Result<(), Fail> {
-    assert_eq!(rt; Links::with_slots(rt.alloc(), 1, 1)?.spare(), 1);
+    assert!(rt; Links::with_slots(rt.alloc(), 1, 1)?.spare() == 1);
     Ok(())
 }
 
@@ -111,14 +162,20 @@ fn moves_among<L: Ledger>(alloc: Global, count: u32, blank: Blank) -> Result<(u3
     Ok((moved, links.spare()))
 }
 
+const COUNTS: [u32; 2] = [10, 4352];
+
+// Whether each of a hundred moves among so many items finds one, and each other slot is spare then.
+fn all_are_moved(alloc: Global, count: u32) -> Result<bool, Memory> {
+    let count = count.min(4352);
+    let answer = moves_among::<Brand>(alloc, count, Blank::new(1))?;
+    Ok(answer == (100, 4352 - count))
+}
+
 // The bound on the steps of a hundred moves, which is proved, is the same for few items and for many.
 #[test]
 fn many_items_cost_no_more_steps_than_few(rt: HostRuntime) -> Result<(), Fail> {
-    for count in [10, 4352] {
-        if count <= 4352 {
-            let answer = moves_among::<Brand>(rt.alloc(), count, Blank::new(1))?;
-            assert_eq!(rt; answer, (100, 4352 - count), "among {count}");
-        }
+    for count in &COUNTS {
+        assert!(rt; all_are_moved(rt.alloc(), *count)?, "among {count}");
     }
     Ok(())
 }

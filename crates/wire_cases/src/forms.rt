@@ -1,9 +1,7 @@
-//! What the tests share: envelopes in parts, and what is read from them.
+//! What the tests share: envelopes in parts, what is read from them, and why they are refused.
 use rm_base::{Blob, Memory};
-use rm_wire::message_types::Refusal;
-use rm_wire::{DecodeError, FaultKind, decode, encode, fault_message};
+use rm_wire::{DecodeError, FaultKind, decode, encode};
 use std::alloc::Global;
-use std::test::Fail;
 
 /// The start tag of an envelope in the form that is written.
 pub const START: &[u8] = b"<s:Envelope xmlns:s=\"http://www.w3.org/2003/05/soap-envelope\" \
@@ -22,45 +20,28 @@ pub fn envelope(alloc: Global, blocks: &[u8], body: &[u8]) -> Result<Blob, Memor
     Ok(text)
 }
 
-/// Whether the document has the message that is written with these blocks and this body.
-pub fn is_read(alloc: Global, document: &[u8], blocks: &[u8], body: &[u8]) -> Result<bool, Fail> {
-    let message = decode(alloc, document)?;
-    let written = encode(alloc, &message)?;
-    let text = envelope(alloc, blocks, body)?;
-    Ok(written.as_slice() == text.as_slice())
-}
-
-/// Whether the envelope with the blocks and the body that are given first has the message that is written with those
-/// that are given last.
-pub fn is_read_as(
-    alloc: Global,
-    (blocks, body): (&[u8], &[u8]),
-    written: &[u8],
-    written_body: &[u8],
-) -> Result<bool, Fail> {
-    let text = envelope(alloc, blocks, body)?;
-    is_read(alloc, text.as_slice(), written, written_body)
-}
-
-/// Whether an envelope with these blocks and this body is read, and written as it came.
-pub fn is_kept(alloc: Global, blocks: &[u8], body: &[u8]) -> Result<bool, Fail> {
-    is_read_as(alloc, (blocks, body), blocks, body)
-}
-
-/// The refusal of a document, where it is refused.
-pub fn refusal(alloc: Global, document: &[u8]) -> Result<Option<Refusal>, Memory> {
+// How the message of a document is written, where it has one.
+fn rewritten(alloc: Global, document: &[u8]) -> Result<Option<Blob>, Memory> {
     match decode(alloc, document) {
-        Ok(_) => Ok(None),
-        Err(DecodeError::Memory) => Err(Memory),
-        Err(DecodeError::Refused(refusal)) => Ok(Some(refusal)),
+        Ok(message) => Ok(Some(encode(alloc, &message)?)),
+        Err(_) => Ok(None),
+    }
+}
+
+/// Whether the document has the message that is written with these blocks and this body.
+pub fn is_read(alloc: Global, document: &[u8], blocks: &[u8], body: &[u8]) -> Result<bool, Memory> {
+    let text = envelope(alloc, blocks, body)?;
+    match rewritten(alloc, document)? {
+        Some(written) => Ok(written.as_slice() == text.as_slice()),
+        None => Ok(false),
     }
 }
 
 /// Whether a document is refused for this.
-pub fn is_refused(alloc: Global, document: &[u8], kind: FaultKind) -> Result<bool, Fail> {
-    match refusal(alloc, document)? {
-        Some(refusal) => Ok(refusal.kind == kind),
-        None => Ok(false),
+pub fn is_refused(alloc: Global, document: &[u8], kind: FaultKind) -> bool {
+    match decode(alloc, document) {
+        Err(DecodeError::Refused(refusal)) => refusal.kind == kind,
+        _ => false,
     }
 }
 
@@ -70,23 +51,7 @@ pub fn is_refused_with(
     blocks: &[u8],
     body: &[u8],
     kind: FaultKind,
-) -> Result<bool, Fail> {
+) -> Result<bool, Memory> {
     let text = envelope(alloc, blocks, body)?;
-    is_refused(alloc, text.as_slice(), kind)
-}
-
-/// Whether a document is refused, and its fault is written with these blocks and this body.
-pub fn is_answered(
-    alloc: Global,
-    document: &[u8],
-    blocks: &[u8],
-    body: &[u8],
-) -> Result<bool, Fail> {
-    let Some(refusal) = refusal(alloc, document)? else {
-        return Ok(false);
-    };
-    let message = fault_message(alloc, &refusal, None)?;
-    let written = encode(alloc, &message)?;
-    let text = envelope(alloc, blocks, body)?;
-    Ok(written.as_slice() == text.as_slice())
+    Ok(is_refused(alloc, text.as_slice(), kind))
 }

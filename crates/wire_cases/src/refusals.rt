@@ -3,7 +3,6 @@ use crate::forms::{is_refused, is_refused_with};
 use rm_base::{Blob, Memory};
 use rm_wire::FaultKind;
 use std::alloc::Global;
-use std::test::Fail;
 
 // These bytes, and so many spaces behind them.
 fn padded(alloc: Global, bytes: &[u8], spaces: u32) -> Result<Blob, Memory> {
@@ -14,258 +13,264 @@ fn padded(alloc: Global, bytes: &[u8], spaces: u32) -> Result<Blob, Memory> {
     Ok(text)
 }
 
-#[test]
-fn too_long(rt: HostRuntime) -> Result<(), Fail> {
-    let alloc = rt.alloc();
-    let longest = padded(alloc, b"<\xff", 2097150)?;
-    assert!(rt; is_refused(alloc, longest.as_slice(), FaultKind::NotUtf8)?);
-    let longer = padded(alloc, b"<\xff", 2097151)?;
-    assert!(rt; is_refused(alloc, longer.as_slice(), FaultKind::TooLong)?);
-    Ok(())
+// Whether no text, with so many spaces behind it, is refused for this.
+fn is_padded_refused(alloc: Global, spaces: u32, kind: FaultKind) -> Result<bool, Memory> {
+    let text = padded(alloc, b"<\xff", spaces)?;
+    Ok(is_refused(alloc, text.as_slice(), kind))
 }
 
 #[test]
-fn no_documents(rt: HostRuntime) -> Result<(), Fail> {
-    let alloc = rt.alloc();
-    let kind = FaultKind::NotProfile;
-    assert!(rt; is_refused(alloc, b"<!DOCTYPE a><Envelope xmlns='urn:e'/>", kind)?);
-    assert!(rt;
-        is_refused(
-            alloc,
-            b"<?xml-stylesheet href='x'?><Envelope xmlns='urn:e'/>",
-            kind
-        )?
-    );
-    assert!(rt;
-        is_refused(
-            alloc,
-            b" <?xml version='1.0'?><Envelope xmlns='urn:e'/>",
-            kind
-        )?
-    );
-    assert!(rt;
-        is_refused(
-            alloc,
-            b"<?xml version='1.1'?><Envelope xmlns='urn:e'/>",
-            kind
-        )?
-    );
-    assert!(rt; is_refused(alloc, b"<s:Envelope/>", kind)?);
-    assert!(rt;
-        is_refused(
-            alloc,
-            b"<Envelope xmlns='urn:e'/><Envelope xmlns='urn:e'/>",
-            kind
-        )?
-    );
-    assert!(rt; is_refused(alloc, b"\xff<Envelope", FaultKind::NotUtf8)?);
-    assert!(rt;
-        is_refused(
-            alloc,
-            b"<Envelope>\xed\xa0\x80</Envelope>",
-            FaultKind::NotUtf8
-        )?
-    );
+fn too_long(rt: HostRuntime) -> Result<(), Memory> {
+    assert!(rt; is_padded_refused(rt.alloc(), 2097150, FaultKind::NotUtf8)?);
+    assert!(rt; is_padded_refused(rt.alloc(), 2097151, FaultKind::TooLong)?);
     Ok(())
 }
 
+// Whether a text is refused for this.
+fn is_text_refused(alloc: Global, document: &str, kind: FaultKind) -> bool {
+    is_refused(alloc, document.as_bytes(), kind)
+}
+
+const NO_DOCUMENTS: [&str; 6] = [
+    "<!DOCTYPE a><Envelope xmlns='urn:e'/>",
+    "<?xml-stylesheet href='x'?><Envelope xmlns='urn:e'/>",
+    " <?xml version='1.0'?><Envelope xmlns='urn:e'/>",
+    "<?xml version='1.1'?><Envelope xmlns='urn:e'/>",
+    "<s:Envelope/>",
+    "<Envelope xmlns='urn:e'/><Envelope xmlns='urn:e'/>",
+];
+
 #[test]
-fn other_versions(rt: HostRuntime) -> Result<(), Fail> {
-    let alloc = rt.alloc();
-    let kind = FaultKind::WrongVersion;
-    assert!(rt;
-        is_refused(
-            alloc,
-            b"<e:Envelope xmlns:e='http://schemas.xmlsoap.org/soap/envelope/'><e:Body/></e:Envelope>",
-            kind
-        )?
-    );
-    assert!(rt; is_refused(alloc, b"<Envelope/>", kind)?);
-    assert!(rt; is_refused(alloc, b"<Envelope xmlns='urn:e'><a/></Envelope>", kind)?);
-    Ok(())
+fn no_documents(rt: HostRuntime) {
+    for document in &NO_DOCUMENTS {
+        assert!(rt;
+            is_text_refused(rt.alloc(), document, FaultKind::NotProfile),
+            "{document}"
+        );
+    }
+}
+
+const NO_TEXTS: [&[u8]; 2] = [b"\xff<Envelope", b"<Envelope>\xed\xa0\x80</Envelope>"];
+
+#[test]
+fn no_texts(rt: HostRuntime) {
+    for document in &NO_TEXTS {
+        assert!(rt;
+            is_refused(rt.alloc(), document, FaultKind::NotUtf8),
+            "{document:?}"
+        );
+    }
+}
+
+const OTHER_VERSIONS: [&str; 3] = [
+    "<e:Envelope xmlns:e='http://schemas.xmlsoap.org/soap/envelope/'><e:Body/></e:Envelope>",
+    "<Envelope/>",
+    "<Envelope xmlns='urn:e'><a/></Envelope>",
+];
+
+#[test]
+fn other_versions(rt: HostRuntime) {
+    for document in &OTHER_VERSIONS {
+        assert!(rt;
+            is_text_refused(rt.alloc(), document, FaultKind::WrongVersion),
+            "{document}"
+        );
+    }
 }
 
 // Whether a document with this between the tags of an Envelope is no envelope.
-fn is_no_envelope(alloc: Global, content: &[u8]) -> Result<bool, Fail> {
+fn is_no_envelope(alloc: Global, content: &str) -> Result<bool, Memory> {
     let mut text = Blob::from_slice(
         alloc,
         b"<Envelope xmlns='http://www.w3.org/2003/05/soap-envelope'>",
     )?;
-    text.push_all(content)?;
+    text.push_all(content.as_bytes())?;
     text.push_all(b"</Envelope>")?;
-    is_refused(alloc, text.as_slice(), FaultKind::NotEnvelope)
+    Ok(is_refused(alloc, text.as_slice(), FaultKind::NotEnvelope))
 }
 
+const NO_ENVELOPES: [&str; 7] = [
+    "",
+    "<Header/>",
+    "<Body/><Header/>",
+    "<Header/><Header/><Body/>",
+    "<Body/><Body/>",
+    "<Header/>x<Body/>",
+    "<Body xmlns='urn:b'/>",
+];
+
 #[test]
-fn no_envelopes(rt: HostRuntime) -> Result<(), Fail> {
-    let alloc = rt.alloc();
-    assert!(rt; is_refused(alloc, b"<html/>", FaultKind::NotEnvelope)?);
-    assert!(rt; is_no_envelope(alloc, b"")?);
-    assert!(rt; is_no_envelope(alloc, b"<Header/>")?);
-    assert!(rt; is_no_envelope(alloc, b"<Body/><Header/>")?);
-    assert!(rt; is_no_envelope(alloc, b"<Header/><Header/><Body/>")?);
-    assert!(rt; is_no_envelope(alloc, b"<Body/><Body/>")?);
-    assert!(rt; is_no_envelope(alloc, b"<Header/>x<Body/>")?);
-    assert!(rt; is_no_envelope(alloc, b"<Body xmlns='urn:b'/>")?);
+fn no_envelopes(rt: HostRuntime) -> Result<(), Memory> {
+    assert!(rt; is_refused(rt.alloc(), b"<html/>", FaultKind::NotEnvelope));
+    for content in &NO_ENVELOPES {
+        assert!(rt; is_no_envelope(rt.alloc(), content)?, "{content}");
+    }
     Ok(())
 }
 
-const ENDPOINT: &[u8] = b"<a:ReplyTo><a:Address>urn:b</a:Address></a:ReplyTo>\
-    <a:ReplyTo><a:Address>urn:b</a:Address></a:ReplyTo><a:Action>urn:x</a:Action>";
+// The blocks and the body of an envelope.
+type Parts = (&'static str, &'static str);
+
+fn are_refused(alloc: Global, row: &Parts, kind: FaultKind) -> Result<bool, Memory> {
+    is_refused_with(alloc, row.0.as_bytes(), row.1.as_bytes(), kind)
+}
+
+const CARDINALITIES: [Parts; 5] = [
+    (
+        "<a:ReplyTo><a:Address>urn:b</a:Address></a:ReplyTo>\
+        <a:ReplyTo><a:Address>urn:b</a:Address></a:ReplyTo><a:Action>urn:x</a:Action>",
+        "",
+    ),
+    ("<a:Action>urn:x</a:Action><a:Action>urn:x</a:Action>", ""),
+    (
+        "<a:To>urn:t</a:To><a:Action>urn:x</a:Action><a:To>urn:t</a:To>",
+        "",
+    ),
+    ("<a:Action>urn:x</a:Action><a:MessageID/><a:MessageID/>", ""),
+    ("<a:FaultTo/><a:FaultTo/>", ""),
+];
 
 #[test]
-fn cardinalities(rt: HostRuntime) -> Result<(), Fail> {
-    let alloc = rt.alloc();
-    let kind = FaultKind::Cardinality;
-    assert!(rt; is_refused_with(alloc, ENDPOINT, b"", kind)?);
-    assert!(rt;
-        is_refused_with(
-            alloc,
-            b"<a:Action>urn:x</a:Action><a:Action>urn:x</a:Action>",
-            b"",
-            kind
-        )?
-    );
-    assert!(rt;
-        is_refused_with(
-            alloc,
-            b"<a:To>urn:t</a:To><a:Action>urn:x</a:Action><a:To>urn:t</a:To>",
-            b"",
-            kind
-        )?
-    );
-    assert!(rt;
-        is_refused_with(
-            alloc,
-            b"<a:Action>urn:x</a:Action><a:MessageID/><a:MessageID/>",
-            b"",
-            kind
-        )?
-    );
-    assert!(rt; is_refused_with(alloc, b"<a:FaultTo/><a:FaultTo/>", b"", kind)?);
+fn cardinalities(rt: HostRuntime) -> Result<(), Memory> {
+    for row in &CARDINALITIES {
+        assert!(rt;
+            are_refused(rt.alloc(), row, FaultKind::Cardinality)?,
+            "{}",
+            row.0
+        );
+    }
     Ok(())
 }
 
-const CREATE_ACTION: &[u8] =
-    b"<a:Action>http://docs.oasis-open.org/ws-rx/wsrm/200702/CreateSequence</a:Action>";
+const MISSING_HEADERS: [Parts; 4] = [
+    ("", ""),
+    ("<a:To>urn:t</a:To>", "<s:Fault/>"),
+    ("<a:Action a:IsReferenceParameter='1'>urn:x</a:Action>", ""),
+    (
+        "<a:Action>http://docs.oasis-open.org/ws-rx/wsrm/200702/CreateSequence</a:Action>",
+        "<r:CreateSequence/>",
+    ),
+];
 
 #[test]
-fn missing_headers(rt: HostRuntime) -> Result<(), Fail> {
-    let alloc = rt.alloc();
-    let kind = FaultKind::HeaderMissing;
-    assert!(rt; is_refused_with(alloc, b"", b"", kind)?);
-    assert!(rt; is_refused_with(alloc, b"<a:To>urn:t</a:To>", b"<s:Fault/>", kind)?);
-    assert!(rt;
-        is_refused_with(
-            alloc,
-            b"<a:Action a:IsReferenceParameter='1'>urn:x</a:Action>",
-            b"",
-            kind
-        )?
-    );
-    assert!(rt; is_refused_with(alloc, CREATE_ACTION, b"<r:CreateSequence/>", kind)?);
+fn missing_headers(rt: HostRuntime) -> Result<(), Memory> {
+    for row in &MISSING_HEADERS {
+        assert!(rt;
+            are_refused(rt.alloc(), row, FaultKind::HeaderMissing)?,
+            "{}",
+            row.0
+        );
+    }
     Ok(())
 }
 
 // Whether an envelope with the Action urn:x and this block is refused for this.
-fn is_wrong(alloc: Global, block: &[u8], kind: FaultKind) -> Result<bool, Fail> {
+fn is_wrong(alloc: Global, block: &str, kind: FaultKind) -> Result<bool, Memory> {
     let mut blocks = Blob::from_slice(alloc, b"<a:Action>urn:x</a:Action>")?;
-    blocks.push_all(block)?;
+    blocks.push_all(block.as_bytes())?;
     is_refused_with(alloc, blocks.as_slice(), b"", kind)
 }
 
+const BAD_HEADERS: [&str; 6] = [
+    "<a:To/>",
+    "<a:MessageID>urn:<m/></a:MessageID>",
+    "<a:RelatesTo RelationshipType='urn:o'> </a:RelatesTo>",
+    "<a:ReplyTo>urn:b</a:ReplyTo>",
+    "<a:FaultTo><a:Address/></a:FaultTo>",
+    "<a:ReplyTo><a:Address>u</a:Address><a:Address>u</a:Address></a:ReplyTo>",
+];
+
+const EMPTY_ACTION: Parts = ("<a:Action> </a:Action>", "");
+
 #[test]
-fn bad_headers(rt: HostRuntime) -> Result<(), Fail> {
-    let alloc = rt.alloc();
-    let kind = FaultKind::BadHeader;
-    assert!(rt; is_wrong(alloc, b"<a:To/>", kind)?);
-    assert!(rt; is_wrong(alloc, b"<a:MessageID>urn:<m/></a:MessageID>", kind)?);
-    assert!(rt;
-        is_wrong(
-            alloc,
-            b"<a:RelatesTo RelationshipType='urn:o'> </a:RelatesTo>",
-            kind
-        )?
-    );
-    assert!(rt; is_wrong(alloc, b"<a:ReplyTo>urn:b</a:ReplyTo>", kind)?);
-    assert!(rt; is_wrong(alloc, b"<a:FaultTo><a:Address/></a:FaultTo>", kind)?);
-    assert!(rt;
-        is_wrong(
-            alloc,
-            b"<a:ReplyTo><a:Address>u</a:Address><a:Address>u</a:Address></a:ReplyTo>",
-            kind
-        )?
-    );
-    assert!(rt; is_refused_with(alloc, b"<a:Action> </a:Action>", b"", kind)?);
+fn bad_headers(rt: HostRuntime) -> Result<(), Memory> {
+    for block in &BAD_HEADERS {
+        assert!(rt;
+            is_wrong(rt.alloc(), block, FaultKind::BadHeader)?,
+            "{block}"
+        );
+    }
+    assert!(rt; are_refused(rt.alloc(), &EMPTY_ACTION, FaultKind::BadHeader)?);
     Ok(())
 }
 
-const SEQUENCES: &[u8] =
-    b"<r:Sequence><r:Identifier>i</r:Identifier><r:MessageNumber>1</r:MessageNumber></r:Sequence>\
-    <r:Sequence><r:Identifier>i</r:Identifier><r:MessageNumber>1</r:MessageNumber></r:Sequence>";
+const MALFORMED: [&str; 6] = [
+    "<r:Sequence><r:Identifier>i</r:Identifier><r:MessageNumber>1</r:MessageNumber></r:Sequence>\
+    <r:Sequence><r:Identifier>i</r:Identifier><r:MessageNumber>1</r:MessageNumber></r:Sequence>",
+    "<c:MessagePending/><c:MessagePending/>",
+    "<c:MessagePending pending='TRUE'/>",
+    "<r:AckRequested/>",
+    "<r:SequenceAcknowledgement><r:Identifier>i</r:Identifier><r:Final/></r:SequenceAcknowledgement>",
+    "<r:Sequence><r:Identifier>i</r:Identifier><r:MessageNumber>0</r:MessageNumber></r:Sequence>",
+];
 
 #[test]
-fn malformed(rt: HostRuntime) -> Result<(), Fail> {
-    let alloc = rt.alloc();
-    let kind = FaultKind::Malformed;
-    assert!(rt; is_wrong(alloc, SEQUENCES, kind)?);
-    assert!(rt; is_wrong(alloc, b"<c:MessagePending/><c:MessagePending/>", kind)?);
-    assert!(rt; is_wrong(alloc, b"<c:MessagePending pending='TRUE'/>", kind)?);
-    assert!(rt; is_wrong(alloc, b"<r:AckRequested/>", kind)?);
-    assert!(rt;
-        is_wrong(
-            alloc,
-            b"<r:SequenceAcknowledgement><r:Identifier>i</r:Identifier><r:Final/>\
-        </r:SequenceAcknowledgement>",
-            kind
-        )?
-    );
-    assert!(rt;
-        is_wrong(
-            alloc,
-            b"<r:Sequence><r:Identifier>i</r:Identifier><r:MessageNumber>0</r:MessageNumber>\
-        </r:Sequence>",
-            kind
-        )?
-    );
+fn malformed(rt: HostRuntime) -> Result<(), Memory> {
+    for block in &MALFORMED {
+        assert!(rt;
+            is_wrong(rt.alloc(), block, FaultKind::Malformed)?,
+            "{block}"
+        );
+    }
     Ok(())
 }
 
-const ACK_IN_SEQUENCE: &[u8] =
-    b"<a:Action>http://docs.oasis-open.org/ws-rx/wsrm/200702/SequenceAcknowledgement</a:Action><r:Sequence>\
+const ACK_IN_SEQUENCE: &str =
+    "<a:Action>http://docs.oasis-open.org/ws-rx/wsrm/200702/SequenceAcknowledgement</a:Action><r:Sequence>\
     <r:Identifier>i</r:Identifier><r:MessageNumber>1</r:MessageNumber></r:Sequence>";
 
-const POLL_IN_SEQUENCE: &[u8] =
-    b"<a:Action>http://docs.oasis-open.org/ws-rx/wsmc/200702/MakeConnection</a:Action><r:Sequence>\
+const POLL_IN_SEQUENCE: &str =
+    "<a:Action>http://docs.oasis-open.org/ws-rx/wsmc/200702/MakeConnection</a:Action><r:Sequence>\
     <r:Identifier>i</r:Identifier><r:MessageNumber>1</r:MessageNumber></r:Sequence>";
 
+const IN_SEQUENCES: [Parts; 3] = [
+    (ACK_IN_SEQUENCE, ""),
+    (ACK_IN_SEQUENCE, "<s:Fault/>"),
+    (POLL_IN_SEQUENCE, "<c:MakeConnection/>"),
+];
+
 #[test]
-fn control_messages_in_sequences(rt: HostRuntime) -> Result<(), Fail> {
-    let alloc = rt.alloc();
-    let kind = FaultKind::Malformed;
-    assert!(rt; is_refused_with(alloc, ACK_IN_SEQUENCE, b"", kind)?);
-    assert!(rt; is_refused_with(alloc, ACK_IN_SEQUENCE, b"<s:Fault/>", kind)?);
-    assert!(rt; is_refused_with(alloc, POLL_IN_SEQUENCE, b"<c:MakeConnection/>", kind)?);
+fn control_messages_in_sequences(rt: HostRuntime) -> Result<(), Memory> {
+    for row in &IN_SEQUENCES {
+        assert!(rt;
+            are_refused(rt.alloc(), row, FaultKind::Malformed)?,
+            "{}{}",
+            row.0,
+            row.1
+        );
+    }
     Ok(())
 }
 
-const TOO_GREAT: &[u8] = b"<r:Sequence><r:Identifier>i</r:Identifier>\
-    <r:MessageNumber>9223372036854775808</r:MessageNumber></r:Sequence>";
+// Blocks besides the Action urn:x, and what an envelope with both is refused for.
+const FIRST_REASONS: [(&str, FaultKind); 4] = [
+    (
+        "<r:Sequence><r:Identifier>i</r:Identifier>\
+        <r:MessageNumber>9223372036854775808</r:MessageNumber></r:Sequence>",
+        FaultKind::Rollover,
+    ),
+    (
+        "<r:Sequence><r:Identifier>i</r:Identifier>\
+        <r:MessageNumber>99999999999999999999999</r:MessageNumber></r:Sequence><r:AckRequested/>",
+        FaultKind::Malformed,
+    ),
+    (
+        "<x:h xmlns:x='urn:x' s:mustUnderstand='1'/><a:Action>urn:x</a:Action>",
+        FaultKind::NotUnderstood,
+    ),
+    ("<r:AckRequested/><a:To/>", FaultKind::BadHeader),
+];
 
-const TOO_GREAT_AND_MALFORMED: &[u8] = b"<r:Sequence><r:Identifier>i</r:Identifier>\
-    <r:MessageNumber>99999999999999999999999</r:MessageNumber></r:Sequence><r:AckRequested/>";
+const TWO_TOS: Parts = ("<a:To/><a:To/>", "");
 
-const STRANGE_AND_TWICE: &[u8] =
-    b"<x:h xmlns:x='urn:x' s:mustUnderstand='1'/><a:Action>urn:x</a:Action>";
+const NO_ACTION: Parts = ("<a:To/>", "");
 
 #[test]
-fn the_first_reason(rt: HostRuntime) -> Result<(), Fail> {
-    let alloc = rt.alloc();
-    assert!(rt; is_wrong(alloc, TOO_GREAT, FaultKind::Rollover)?);
-    assert!(rt; is_wrong(alloc, TOO_GREAT_AND_MALFORMED, FaultKind::Malformed)?);
-    assert!(rt; is_wrong(alloc, STRANGE_AND_TWICE, FaultKind::NotUnderstood)?);
-    assert!(rt; is_refused_with(alloc, b"<a:To/><a:To/>", b"", FaultKind::Cardinality)?);
-    assert!(rt; is_refused_with(alloc, b"<a:To/>", b"", FaultKind::HeaderMissing)?);
-    assert!(rt; is_wrong(alloc, b"<r:AckRequested/><a:To/>", FaultKind::BadHeader)?);
+fn the_first_reason(rt: HostRuntime) -> Result<(), Memory> {
+    for (block, kind) in &FIRST_REASONS {
+        assert!(rt; is_wrong(rt.alloc(), block, *kind)?, "{block}");
+    }
+    assert!(rt; are_refused(rt.alloc(), &TWO_TOS, FaultKind::Cardinality)?);
+    assert!(rt; are_refused(rt.alloc(), &NO_ACTION, FaultKind::HeaderMissing)?);
     Ok(())
 }

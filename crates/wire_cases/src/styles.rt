@@ -1,6 +1,14 @@
 //! Envelopes in the styles of several stacks, each with the message that it has.
 use crate::forms::is_read;
-use std::test::Fail;
+use rm_base::Memory;
+use std::alloc::Global;
+
+// What a document is named, its bytes, and the blocks and the body that its message is written with.
+type Style = (&'static str, &'static [u8], &'static [u8], &'static [u8]);
+
+fn is_style(alloc: Global, row: &Style) -> Result<bool, Memory> {
+    is_read(alloc, row.1, row.2, row.3)
+}
 
 // Default namespaces element for element, as Metro writes them.
 const METRO: &[u8] = b"<?xml version='1.0' encoding='UTF-8'?>\
@@ -55,19 +63,22 @@ const INDENTED_BODY: &[u8] =
     b"<r:CreateSequence><r:AcksTo><a:Address>http://a.example/</a:Address></r:AcksTo>\
     <r:Expires>PT3600S</r:Expires></r:CreateSequence>";
 
+const STACKS: [Style; 3] = [
+    (
+        "Metro",
+        METRO,
+        METRO_BLOCKS,
+        b"<order xmlns=\"urn:o\">1</order>",
+    ),
+    ("WCF", WCF, WCF_BLOCKS, b"<Ping xmlns=\"urn:p\"/>"),
+    ("indented", INDENTED, INDENTED_BLOCKS, INDENTED_BODY),
+];
+
 #[test]
-fn of_stacks(rt: HostRuntime) -> Result<(), Fail> {
-    let alloc = rt.alloc();
-    assert!(rt;
-        is_read(
-            alloc,
-            METRO,
-            METRO_BLOCKS,
-            b"<order xmlns=\"urn:o\">1</order>"
-        )?
-    );
-    assert!(rt; is_read(alloc, WCF, WCF_BLOCKS, b"<Ping xmlns=\"urn:p\"/>")?);
-    assert!(rt; is_read(alloc, INDENTED, INDENTED_BLOCKS, INDENTED_BODY)?);
+fn of_stacks(rt: HostRuntime) -> Result<(), Memory> {
+    for row in &STACKS {
+        assert!(rt; is_style(rt.alloc(), row)?, "{}", row.0);
+    }
     Ok(())
 }
 
@@ -99,12 +110,17 @@ const ASKING: &[u8] =
     b"<a:To>http://www.w3.org/2005/08/addressing/anonymous</a:To><a:Action>urn:x</a:Action>\
     <r:AckRequested><r:Identifier>urn:q</r:Identifier></r:AckRequested><c:MessagePending pending=\"true\"/>";
 
+const PREFIXES: [Style; 3] = [
+    ("one prefix", ONE_PREFIX, ASKING, b""),
+    ("many prefixes", MANY_PREFIXES, ASKING, b""),
+    ("no prefix", NO_PREFIX, ASKING, b""),
+];
+
 #[test]
-fn of_prefixes(rt: HostRuntime) -> Result<(), Fail> {
-    let alloc = rt.alloc();
-    assert!(rt; is_read(alloc, ONE_PREFIX, ASKING, b"")?);
-    assert!(rt; is_read(alloc, MANY_PREFIXES, ASKING, b"")?);
-    assert!(rt; is_read(alloc, NO_PREFIX, ASKING, b"")?);
+fn of_prefixes(rt: HostRuntime) -> Result<(), Memory> {
+    for row in &PREFIXES {
+        assert!(rt; is_style(rt.alloc(), row)?, "{}", row.0);
+    }
     Ok(())
 }
 
@@ -133,11 +149,21 @@ const REFERRED_BLOCKS: &[u8] =
 const BARE: &[u8] =
     b"<a:To>http://www.w3.org/2005/08/addressing/anonymous</a:To><a:Action>urn:x</a:Action>";
 
+const CHARACTERS: [Style; 3] = [
+    ("marked", MARKED, BARE, b"<\xc3\xa9/>"),
+    ("commented", COMMENTED, BARE, b"<!-- g --><p/>"),
+    (
+        "with references",
+        REFERRED,
+        REFERRED_BLOCKS,
+        b"<![CDATA[ ]]>",
+    ),
+];
+
 #[test]
-fn of_characters(rt: HostRuntime) -> Result<(), Fail> {
-    let alloc = rt.alloc();
-    assert!(rt; is_read(alloc, MARKED, BARE, b"<\xc3\xa9/>")?);
-    assert!(rt; is_read(alloc, COMMENTED, BARE, b"<!-- g --><p/>")?);
-    assert!(rt; is_read(alloc, REFERRED, REFERRED_BLOCKS, b"<![CDATA[ ]]>")?);
+fn of_characters(rt: HostRuntime) -> Result<(), Memory> {
+    for row in &CHARACTERS {
+        assert!(rt; is_style(rt.alloc(), row)?, "{}", row.0);
+    }
     Ok(())
 }
