@@ -1,9 +1,10 @@
 //! Each phase of an incoming sequence, and what comes for it then.
 use crate::given::{Given, text_of};
-use crate::peer::{NODE_1, Peer, is_packet};
+use crate::peer::{NODE_1, Peer, at_second, is_handed};
 use crate::texts::{FIRST_OF_2, envelope};
 use rm_destination::InPhase;
 use rm_message::FaultKind;
+use rm_node::NodeError;
 use std::alloc::Global;
 use std::test::Fail;
 
@@ -100,82 +101,65 @@ const EXPIRED_ROWS: [Row; COUNT] = [
     (Given::Invalid, None, 3, InPhase::Open),
 ];
 
-// What comes for the sequence at a moment.
-fn take(peer: &mut Peer, now: u64, given: Given) -> Result<Option<FaultKind>, Fail> {
+// What comes for a sequence in each phase, at a moment. It lasts for a second.
+const PHASES: [(InPhase, u64, &[Row]); 4] = [
+    (InPhase::Open, 999, &OPEN_ROWS),
+    (InPhase::Closed, 999, &CLOSED_ROWS),
+    (InPhase::Ended, 999, &ENDED_ROWS),
+    (InPhase::Open, 1000, &EXPIRED_ROWS),
+];
+
+// What comes for the sequence at a moment: the verdict.
+fn take(peer: &mut Peer, now: u64, given: Given) -> Result<Option<FaultKind>, NodeError> {
     let text = text_of(peer.alloc, given, FIRST_OF_2)?;
-    let reaction = peer.node.receive(&mut peer.disk, now, text.as_slice())?;
-    Ok(reaction.verdict)
+    peer.judge(now, text.as_slice())
 }
 
-// Node 2, whose sequence has its first message and is in this phase. It lasts for a second.
-fn in_phase(alloc: Global, phase: InPhase) -> Result<Peer, Fail> {
-    let mut peer = Peer::destination(alloc)?;
-    take(&mut peer, 0, Given::First)?;
-    match phase {
-        InPhase::Open => {}
-        InPhase::Closed => {
-            take(&mut peer, 0, Given::Close)?;
-        }
-        InPhase::Ended => {
-            take(&mut peer, 0, Given::End)?;
-        }
+// A sequence is asked for, its first message comes, and then what brings it into this phase.
+fn begin(peer: &mut Peer, phase: InPhase) -> Result<(), NodeError> {
+    peer.be_asked()?;
+    take(peer, 0, Given::First)?;
+    if phase == InPhase::Closed {
+        take(peer, 0, Given::Close)?;
     }
-    Ok(peer)
+    if phase == InPhase::Ended {
+        take(peer, 0, Given::End)?;
+    }
+    Ok(())
 }
 
-// What it comes to that something comes in this phase, at a moment.
+// What something comes to that comes in this phase at a moment: the verdict, how many entries there are, and the phase
+// then.
 fn outcome(
-    alloc: Global,
+    peer: &mut Peer,
     phase: InPhase,
     now: u64,
     given: Given,
-) -> Result<(Option<FaultKind>, u64, InPhase), Fail> {
-    let mut peer = in_phase(alloc, phase)?;
-    let verdict = take(&mut peer, now, given)?;
-    let incoming = peer.tables().incoming(1).ok_or("a sequence")?;
-    Ok((verdict, peer.entries(), incoming.phase(0)))
+) -> Result<(Option<FaultKind>, u64, Option<InPhase>), NodeError> {
+    begin(peer, phase)?;
+    let verdict = take(peer, now, given)?;
+    Ok((verdict, peer.entries(), peer.in_phase(1)))
 }
 
-// What first comes to something else at a moment than its row says, where something does.
-fn first_wrong(
-    alloc: Global,
-    phase: InPhase,
-    now: u64,
-    rows: &[Row],
-) -> Result<Option<Given>, Fail> {
-    for (given, verdict, entries, after) in rows {
-        if outcome(alloc, phase, now, *given)? != (*verdict, *entries, *after) {
-            return Ok(Some(*given));
+// Whether that is what its row says.
+fn is_so(alloc: Global, phase: InPhase, now: u64, row: &Row) -> Result<bool, NodeError> {
+    let (given, verdict, entries, after) = row;
+    let mut peer = Peer::second(alloc)?;
+    let found = outcome(&mut peer, phase, now, *given)?;
+    Ok(found == (*verdict, *entries, Some(*after)))
+}
+
+#[test]
+fn what_comes_for_a_sequence_in_each_phase(rt: HostRuntime) -> Result<(), Fail> {
+    for (phase, now, rows) in &PHASES {
+        for row in *rows {
+            assert!(rt;
+                is_so(rt.alloc(), *phase, *now, row)?,
+                "{phase:?} at {now}: {:?}",
+                row.0
+            );
         }
     }
-    Ok(None)
-}
-
-#[test]
-fn what_comes_for_one_that_is_open(rt: HostRuntime) -> Result<(), Fail> {
-    let wrong = first_wrong(rt.alloc(), InPhase::Open, 999, &OPEN_ROWS)?;
-    assert_eq!(rt; wrong, None);
-    Ok(())
-}
-
-#[test]
-fn what_comes_for_one_that_is_closed(rt: HostRuntime) -> Result<(), Fail> {
-    let wrong = first_wrong(rt.alloc(), InPhase::Closed, 999, &CLOSED_ROWS)?;
-    assert_eq!(rt; wrong, None);
-    Ok(())
-}
-
-#[test]
-fn what_comes_for_one_that_is_ended(rt: HostRuntime) -> Result<(), Fail> {
-    let wrong = first_wrong(rt.alloc(), InPhase::Ended, 999, &ENDED_ROWS)?;
-    assert_eq!(rt; wrong, None);
-    Ok(())
-}
-
-#[test]
-fn what_comes_for_one_that_is_past_its_deadline(rt: HostRuntime) -> Result<(), Fail> {
-    let wrong = first_wrong(rt.alloc(), InPhase::Open, 1000, &EXPIRED_ROWS)?;
-    assert_eq!(rt; wrong, None);
     Ok(())
 }
 
@@ -194,17 +178,18 @@ const REFUSAL_BODY: &[u8] = b"<s:Fault><s:Code><s:Value>s:Receiver</s:Value><s:S
     <s:Value xmlns:q=\"http://docs.oasis-open.org/ws-rx/wsrm/200702\">q:CreateSequenceRefused</s:Value></s:Subcode>\
     </s:Code><s:Reason><s:Text xml:lang=\"en\">CreateSequenceRefused</s:Text></s:Reason></s:Fault>";
 
+// Whether the request is refused, by a packet to where its answer goes, and how many entries and sequences there are.
+fn refuses(peer: &mut Peer) -> Result<(bool, u64, u32), NodeError> {
+    let asked = envelope(peer.alloc, NOWHERE, NOWHERE_BODY)?;
+    let reaction = peer.take(asked.as_slice())?;
+    let refusal = envelope(peer.alloc, REFUSAL, REFUSAL_BODY)?;
+    let is_refused = reaction.verdict == Some(FaultKind::CreateSequenceRefused);
+    let is_so = is_refused & is_handed(&reaction, NODE_1, refusal.as_slice());
+    Ok((is_so, peer.entries(), peer.sequences()))
+}
+
 #[test]
 fn acknowledgements_that_go_nowhere(rt: HostRuntime) -> Result<(), Fail> {
-    let alloc = rt.alloc();
-    let mut peer = Peer::second(alloc)?;
-    let asked = envelope(alloc, NOWHERE, NOWHERE_BODY)?;
-    let reaction = peer.take(asked.as_slice())?;
-    assert_eq!(rt; reaction.verdict, Some(FaultKind::CreateSequenceRefused));
-    assert_eq!(rt; peer.entries(), 1);
-    assert_eq!(rt; peer.tables().len(), 0);
-    assert!(rt; reaction.reply.is_none());
-    let refusal = envelope(alloc, REFUSAL, REFUSAL_BODY)?;
-    assert!(rt; is_packet(reaction.outs.as_slice(), NODE_1, refusal.as_slice()));
+    assert!(rt; at_second(rt.alloc(), refuses)? == (true, 1, 0));
     Ok(())
 }

@@ -185,17 +185,23 @@ fn fill(text: &mut Blob, form: &[u8], ident: &[u8], name: &[u8]) -> Result<(), M
     Ok(())
 }
 
+// Texts one behind the other, with an identifier and a name in them.
+fn filled(alloc: Global, forms: &[&[u8]], ident: &[u8], name: &[u8]) -> Result<Blob, Memory> {
+    let mut text = Blob::new(alloc);
+    for form in forms {
+        fill(&mut text, form, ident, name)?;
+    }
+    Ok(text)
+}
+
+const TO: &[u8] = b"<a:To>http://node.example/</a:To><a:Action>";
+
 /// The envelope of what comes for the sequence with an identifier. It relates to the first request of node 1.
 pub(crate) fn text_of(alloc: Global, given: Given, ident: &[u8]) -> Result<Blob, Memory> {
     let [action, block, body, name] = form_of(given);
-    let mut blocks = Blob::new(alloc);
-    blocks.push_all(b"<a:To>http://node.example/</a:To><a:Action>")?;
-    blocks.push_all(action)?;
-    blocks.push_all(b"</a:Action><a:RelatesTo>")?;
-    blocks.push_all(FIRST_OF_1)?;
-    blocks.push_all(b"</a:RelatesTo>")?;
-    fill(&mut blocks, block, ident, name)?;
-    let mut content = Blob::new(alloc);
-    fill(&mut content, body, ident, name)?;
+    let relates = b"</a:Action><a:RelatesTo>";
+    let forms = [TO, action, relates, FIRST_OF_1, b"</a:RelatesTo>", block];
+    let blocks = filled(alloc, &forms, ident, name)?;
+    let content = filled(alloc, &[body], ident, name)?;
     envelope(alloc, blocks.as_slice(), content.as_slice())
 }

@@ -1,117 +1,217 @@
 //! What a node refuses.
-use crate::peer::{Peer, cause};
-use crate::texts::response;
+use crate::peer::{Peer, at_first, at_second};
 use rm_node::{Cause, NodeError};
-use std::alloc::Global;
 use std::test::Fail;
+
+// The answer of a call that is refused.
+fn refused(cause: Cause) -> Option<NodeError> {
+    Some(NodeError::Refused(cause))
+}
+
+// How sending a payload comes out, and how many entries there are then.
+fn sent(peer: &mut Peer, seq: u32, payload: &[u8]) -> (Option<NodeError>, u64) {
+    let error = peer.accept(seq, payload).err();
+    (error, peer.entries())
+}
+
+// How sending what is not closed comes out.
+fn not_closed_sent(peer: &mut Peer) -> Result<(Option<NodeError>, u64), NodeError> {
+    peer.open()?;
+    Ok(sent(peer, 1, b"<p>"))
+}
 
 #[test]
 fn content_that_is_not_closed(rt: HostRuntime) -> Result<(), Fail> {
-    let mut peer = Peer::source(rt.alloc())?;
-    assert_eq!(rt; cause(peer.send(1, b"<p>")), Some(Cause::BadPayload));
-    assert_eq!(rt; peer.entries(), 3);
+    let came = at_first(rt.alloc(), not_closed_sent)?;
+    assert!(rt; came == (refused(Cause::BadPayload), 3));
     Ok(())
 }
 
-// This many payloads are sent.
-fn fill(peer: &mut Peer, seq: u32, count: u64) -> Result<(), NodeError> {
+// This many payloads are sent: how many entries there are then.
+fn fill(peer: &mut Peer, seq: u32, count: u64) -> Result<u64, NodeError> {
     for _ in 0..count {
-        peer.send(seq, b"<p/>")?;
+        peer.accept(seq, b"<p/>")?;
     }
-    Ok(())
+    Ok(peer.entries())
+}
+
+// A window is filled, and one more payload is sent: how many entries there are before it, how it comes out, and how
+// many messages wait for an acknowledgement.
+fn window_filled(peer: &mut Peer) -> Result<(u64, (Option<NodeError>, u64), u64), NodeError> {
+    peer.open()?;
+    let entries = fill(peer, 1, 1024)?;
+    Ok((entries, sent(peer, 1, b"<p/>"), peer.unacked()))
 }
 
 #[test]
 fn a_window_of_1024(rt: HostRuntime) -> Result<(), Fail> {
-    let mut peer = Peer::source(rt.alloc())?;
-    fill(&mut peer, 1, 1024)?;
-    assert_eq!(rt; peer.entries(), 1027);
-    let refused = cause(peer.send(1, b"<p/>"));
-    assert_eq!(rt; refused, Some(Cause::WindowFull { unacked: 1024 }));
-    assert_eq!(rt; peer.entries(), 1027);
-    assert_eq!(rt; peer.tables().unacked(), 1024);
+    let full = Cause::WindowFull { unacked: 1024 };
+    let came = at_first(rt.alloc(), window_filled)?;
+    assert!(rt; came == (1027, (refused(full), 1027), 1024));
     Ok(())
 }
 
-// One more sequence is asked for, and granted.
-fn open(alloc: Global, peer: &mut Peer, id: &[u8], ident: &[u8]) -> Result<(), Fail> {
-    peer.create()?;
-    let answer = response(alloc, id, ident)?;
-    peer.take(answer.as_slice())?;
-    Ok(())
-}
+// The message ids of five requests, and what is granted for each.
+const FIVE: [(&[u8], &[u8]); 5] = [
+    (b"urn:uuid:00000000-0000-8001-8000-000000000001", b"urn:a"),
+    (b"urn:uuid:00000000-0000-8001-8000-000000000002", b"urn:b"),
+    (b"urn:uuid:00000000-0000-8001-8000-000000000003", b"urn:c"),
+    (b"urn:uuid:00000000-0000-8001-8000-000000000004", b"urn:d"),
+    (b"urn:uuid:00000000-0000-8001-8000-000000000005", b"urn:e"),
+];
 
-// Node 1 with five sequences.
-fn of_five(alloc: Global) -> Result<Peer, Fail> {
-    let mut peer = Peer::first(alloc)?;
-    let table: [(&[u8], &[u8]); 5] = [
-        (b"urn:uuid:00000000-0000-8001-8000-000000000001", b"urn:a"),
-        (b"urn:uuid:00000000-0000-8001-8000-000000000002", b"urn:b"),
-        (b"urn:uuid:00000000-0000-8001-8000-000000000003", b"urn:c"),
-        (b"urn:uuid:00000000-0000-8001-8000-000000000004", b"urn:d"),
-        (b"urn:uuid:00000000-0000-8001-8000-000000000005", b"urn:e"),
-    ];
-    for (id, ident) in table {
-        open(alloc, &mut peer, id, ident)?;
+// Five sequences are asked for and granted.
+fn open_five(peer: &mut Peer) -> Result<(), NodeError> {
+    for (id, ident) in &FIVE {
+        peer.create()?;
+        peer.be_granted(id, ident)?;
     }
-    Ok(peer)
+    Ok(())
+}
+
+// The first four of them are filled: how many entries there are then.
+fn fill_four(peer: &mut Peer) -> Result<u64, NodeError> {
+    for seq in 1..5 {
+        fill(peer, seq, 1024)?;
+    }
+    Ok(peer.entries())
+}
+
+// A node is filled, and one more payload is sent: how many entries there are before it, and how it comes out.
+fn node_filled(peer: &mut Peer) -> Result<(u64, (Option<NodeError>, u64)), NodeError> {
+    open_five(peer)?;
+    let entries = fill_four(peer)?;
+    Ok((entries, sent(peer, 5, b"<p/>")))
 }
 
 #[test]
 fn a_node_of_4096(rt: HostRuntime) -> Result<(), Fail> {
-    let mut peer = of_five(rt.alloc())?;
-    for seq in 1..5 {
-        fill(&mut peer, seq, 1024)?;
-    }
-    assert_eq!(rt; peer.entries(), 4107);
-    let refused = cause(peer.send(5, b"<p/>"));
-    assert_eq!(rt; refused, Some(Cause::NodeFull { unacked: 4096 }));
-    assert_eq!(rt; peer.entries(), 4107);
+    let full = Cause::NodeFull { unacked: 4096 };
+    let came = at_first(rt.alloc(), node_filled)?;
+    assert!(rt; came == (4107, (refused(full), 4107)));
     Ok(())
+}
+
+// A call for a sequence.
+#[derive(Clone, Copy, Debug)]
+enum Call {
+    Send,
+    Close,
+    End,
+}
+
+// How a call for the sequence with a number comes out.
+fn error(peer: &mut Peer, call: Call, seq: u32) -> Option<NodeError> {
+    match call {
+        Call::Send => peer.accept(seq, b"<p/>").err(),
+        Call::Close => peer.shut(seq).err(),
+        Call::End => peer.finish(seq).err(),
+    }
+}
+
+// A call, the number of its sequence, and why it is refused.
+type Row = (Call, u32, Cause);
+
+// At a node with one incoming sequence.
+const NOT_THERE: [Row; 5] = [
+    (Call::Send, 0, Cause::NoSequence),
+    (Call::Send, 2, Cause::NoSequence),
+    (Call::Send, 1, Cause::WrongSide),
+    (Call::End, 1, Cause::WrongSide),
+    (Call::Close, 2, Cause::NoSequence),
+];
+
+// At a node that has asked for a sequence.
+const NOT_OPEN: [Row; 2] = [
+    (Call::Send, 1, Cause::NotOpen),
+    (Call::Close, 1, Cause::NotOpen),
+];
+
+// How many of these calls are refused so, up to the first that is not.
+fn refusals(peer: &mut Peer, rows: &[Row]) -> usize {
+    for (i, (call, seq, cause)) in rows.iter().enumerate() {
+        if error(peer, *call, *seq) != refused(*cause) {
+            return i;
+        }
+    }
+    rows.len()
+}
+
+// That, and how many entries there are then.
+fn not_there_refused(peer: &mut Peer) -> Result<(usize, u64), NodeError> {
+    peer.be_asked()?;
+    Ok((refusals(peer, &NOT_THERE), peer.entries()))
 }
 
 #[test]
 fn sequences_that_are_not_there(rt: HostRuntime) -> Result<(), Fail> {
-    let mut peer = Peer::destination(rt.alloc())?;
-    assert_eq!(rt; cause(peer.send(0, b"<p/>")), Some(Cause::NoSequence));
-    assert_eq!(rt; cause(peer.send(2, b"<p/>")), Some(Cause::NoSequence));
-    assert_eq!(rt; cause(peer.send(1, b"<p/>")), Some(Cause::WrongSide));
-    assert_eq!(rt; cause(peer.end(1)), Some(Cause::WrongSide));
-    assert_eq!(rt; cause(peer.close(2)), Some(Cause::NoSequence));
-    assert_eq!(rt; peer.entries(), 2);
+    let came = at_second(rt.alloc(), not_there_refused)?;
+    assert!(rt; came == (5, 2), "{} are refused so", came.0);
     Ok(())
+}
+
+// That, and how many entries there are then.
+fn not_open_refused(peer: &mut Peer) -> Result<(usize, u64), NodeError> {
+    peer.create()?;
+    Ok((refusals(peer, &NOT_OPEN), peer.entries()))
 }
 
 #[test]
 fn a_sequence_that_is_not_open(rt: HostRuntime) -> Result<(), Fail> {
-    let mut peer = Peer::first(rt.alloc())?;
-    peer.create()?;
-    assert_eq!(rt; cause(peer.send(1, b"<p/>")), Some(Cause::NotOpen));
-    assert_eq!(rt; cause(peer.close(1)), Some(Cause::NotOpen));
-    assert_eq!(rt; peer.entries(), 2);
+    let came = at_first(rt.alloc(), not_open_refused)?;
+    assert!(rt; came == (2, 2), "{} are refused so", came.0);
     Ok(())
+}
+
+// This many sequences are asked for: how many entries there are then.
+fn ask_for(peer: &mut Peer, count: u64) -> Result<u64, NodeError> {
+    for _ in 0..count {
+        peer.create()?;
+    }
+    Ok(peer.entries())
+}
+
+// As many as a node may have are asked for, and one more: how many entries there are before it, how it comes out, and
+// how many entries there are then.
+fn sequences_filled(peer: &mut Peer) -> Result<(u64, Option<NodeError>, u64), NodeError> {
+    let entries = ask_for(peer, 256)?;
+    let error = peer.create().err();
+    Ok((entries, error, peer.entries()))
 }
 
 #[test]
 fn more_than_256_sequences(rt: HostRuntime) -> Result<(), Fail> {
-    let mut peer = Peer::first(rt.alloc())?;
-    for _ in 0..256 {
-        peer.create()?;
-    }
-    assert_eq!(rt; peer.entries(), 257);
-    let refused = cause(peer.create());
-    assert_eq!(rt; refused, Some(Cause::TooManySequences { count: 256 }));
-    assert_eq!(rt; peer.entries(), 257);
+    let full = Cause::TooManySequences { count: 256 };
+    let came = at_first(rt.alloc(), sequences_filled)?;
+    assert!(rt; came == (257, refused(full), 257));
     Ok(())
+}
+
+// How sending so many spaces comes out, and how many entries there are then.
+fn send_spaces(peer: &mut Peer, len: usize) -> Result<(Result<u64, NodeError>, u64), NodeError> {
+    let Ok(spaces) = vec![in peer.alloc; 32; len] else {
+        return Err(NodeError::Memory);
+    };
+    let number = peer.accept(1, &spaces);
+    Ok((number, peer.entries()))
+}
+
+// How sending one space too many comes out.
+fn too_many_sent(peer: &mut Peer) -> Result<(Result<u64, NodeError>, u64), NodeError> {
+    peer.open()?;
+    send_spaces(peer, 1048577)
+}
+
+// And after it, one fewer.
+fn fewer_sent(peer: &mut Peer) -> Result<(Result<u64, NodeError>, u64), NodeError> {
+    let _refused = too_many_sent(peer)?;
+    send_spaces(peer, 1048576)
 }
 
 #[test]
 fn a_payload_of_1048577_bytes(rt: HostRuntime) -> Result<(), Fail> {
-    let mut peer = Peer::source(rt.alloc())?;
-    let longer = vec![in rt.alloc(); 32; 1048577]?;
-    let refused = cause(peer.send(1, &longer));
-    assert_eq!(rt; refused, Some(Cause::PayloadTooLong { length: 1048577 }));
-    assert_eq!(rt; peer.entries(), 3);
-    assert_eq!(rt; peer.send(1, &longer[1..])?.number, 1);
+    let too_long = NodeError::Refused(Cause::PayloadTooLong { length: 1048577 });
+    assert!(rt; at_first(rt.alloc(), too_many_sent)? == (Err(too_long), 3));
+    assert!(rt; at_first(rt.alloc(), fewer_sent)? == (Ok(1), 4));
     Ok(())
 }

@@ -1,13 +1,14 @@
 //! A node on its disk, and the first calls of a test.
 use crate::device::Device;
 use crate::texts::{FIRST_OF_1, FIRST_OF_2, message, request, response};
-use node_tables::Tables;
 use record_batch::Via;
 use rm_base::{Behaviour, Blob, Uri};
+use rm_destination::InPhase;
 use rm_elements::Lapse;
-use rm_node::{Cause, Made, MountError, Node, NodeError, Out, Outs, Reaction, Sent, Wish};
+use rm_message::FaultKind;
+use rm_node::{Made, MountError, Node, NodeError, Out, Outs, Reaction, Sent, Wish};
+use rm_source::OutPhase;
 use std::alloc::Global;
-use std::test::Fail;
 
 pub(crate) const NODE_1: &[u8] = b"http://node1.example/";
 
@@ -23,48 +24,44 @@ pub(crate) struct Peer {
 
 impl Peer {
     /// Node 1.
-    pub(crate) fn first(alloc: Global) -> Result<Peer, Fail> {
+    pub(crate) fn first(alloc: Global) -> Result<Peer, NodeError> {
         let mut disk = Device::new(alloc);
         let node = make(alloc, &mut disk)?;
         Ok(Peer { alloc, disk, node })
     }
 
     /// Node 2.
-    pub(crate) fn second(alloc: Global) -> Result<Peer, Fail> {
+    pub(crate) fn second(alloc: Global) -> Result<Peer, NodeError> {
         let mut disk = Device::new(alloc);
-        let node = Node::make(alloc, &mut disk, 2, Uri::from_slice(alloc, NODE_2)?)?;
+        let node = make_second(alloc, &mut disk)?;
         Ok(Peer { alloc, disk, node })
     }
 
-    /// Node 1 with an outgoing sequence `urn:s` to node 2: it has three entries.
-    pub(crate) fn source(alloc: Global) -> Result<Peer, Fail> {
-        let mut peer = Peer::first(alloc)?;
-        peer.create()?;
-        let answer = response(alloc, FIRST_OF_1, b"urn:s")?;
-        peer.take(answer.as_slice())?;
-        Ok(peer)
+    /// Node 1 asks for a sequence to node 2, and is granted `urn:s`: it has three entries then.
+    pub(crate) fn open(&mut self) -> Result<(), NodeError> {
+        self.create()?;
+        self.be_granted(FIRST_OF_1, b"urn:s")?;
+        Ok(())
     }
 
-    /// Node 2 with an incoming sequence from node 1 that lasts for a second: it has two entries.
-    pub(crate) fn destination(alloc: Global) -> Result<Peer, Fail> {
-        let mut peer = Peer::second(alloc)?;
-        let asked = request(alloc, b"urn:m", b"<r:Expires>PT1S</r:Expires>")?;
-        peer.take(asked.as_slice())?;
-        Ok(peer)
+    /// And it sends a payload there: it has four entries then.
+    pub(crate) fn open_and_send(&mut self) -> Result<(), NodeError> {
+        self.open()?;
+        self.accept(1, b"<p/>")?;
+        Ok(())
     }
 
-    /// A sequence to node 2 is asked for, for ever and without an offer, whose answers come to the node's address.
-    pub(crate) fn create(&mut self) -> Result<Made, NodeError> {
-        self.ask(None)
+    /// Node 2 grants a sequence to node 1 that lasts for a second: it has two entries then.
+    pub(crate) fn be_asked(&mut self) -> Result<(), NodeError> {
+        self.grant(b"urn:m", b"<r:Expires>PT1S</r:Expires>")?;
+        Ok(())
     }
 
-    /// One is asked for, and perhaps one in the other direction is offered.
+    /// A sequence to node 2 is asked for, for ever, whose answers come to the node's address, and perhaps one in the
+    /// other direction is offered.
     pub(crate) fn ask(&mut self, offer: Option<Behaviour>) -> Result<Made, NodeError> {
-        let Ok(to) = Uri::from_slice(self.alloc, NODE_2) else {
-            return Err(NodeError::Memory);
-        };
         let wish = Wish {
-            to,
+            to: uri(self.alloc, NODE_2)?,
             via: Via::Direct,
             expires: Lapse { months: 0, ms: 0 },
             offer,
@@ -72,9 +69,43 @@ impl Peer {
         self.node.create(&mut self.disk, wish)
     }
 
+    /// One is asked for without an offer: its number.
+    pub(crate) fn create(&mut self) -> Result<u32, NodeError> {
+        let made = self.ask(None)?;
+        Ok(made.seq)
+    }
+
+    /// One is asked for with an offer: its number.
+    pub(crate) fn offer(&mut self) -> Result<u32, NodeError> {
+        let made = self.ask(Some(Behaviour::FollowingFirstGap))?;
+        Ok(made.seq)
+    }
+
     /// Bytes come at moment 0.
     pub(crate) fn take(&mut self, bytes: &[u8]) -> Result<Reaction, NodeError> {
         self.node.receive(&mut self.disk, 0, bytes)
+    }
+
+    /// Bytes come at a moment: the verdict.
+    pub(crate) fn judge(&mut self, now: u64, bytes: &[u8]) -> Result<Option<FaultKind>, NodeError> {
+        let reaction = self.node.receive(&mut self.disk, now, bytes)?;
+        Ok(reaction.verdict)
+    }
+
+    /// The answer to the request with a message id comes, which grants an identifier: the verdict.
+    pub(crate) fn be_granted(
+        &mut self,
+        id: &[u8],
+        ident: &[u8],
+    ) -> Result<Option<FaultKind>, NodeError> {
+        let text = response(self.alloc, id, ident)?;
+        self.judge(0, text.as_slice())
+    }
+
+    /// A request with a message id comes: the verdict.
+    pub(crate) fn grant(&mut self, id: &[u8], more: &[u8]) -> Result<Option<FaultKind>, NodeError> {
+        let text = request(self.alloc, id, more)?;
+        self.judge(0, text.as_slice())
     }
 
     /// A message of the first incoming sequence of node 2 comes, with this number as it is written.
@@ -83,22 +114,50 @@ impl Peer {
         self.take(text.as_slice())
     }
 
+    /// The same: the verdict.
+    pub(crate) fn judge_number(&mut self, number: &[u8]) -> Result<Option<FaultKind>, NodeError> {
+        let reaction = self.take_number(number)?;
+        Ok(reaction.verdict)
+    }
+
     /// A payload is sent.
     pub(crate) fn send(&mut self, seq: u32, text: &[u8]) -> Result<Sent, NodeError> {
         let payload = Blob::from_slice(self.alloc, text)?;
         self.node.send(&mut self.disk, seq, payload)
     }
 
+    /// The same: its number.
+    pub(crate) fn accept(&mut self, seq: u32, text: &[u8]) -> Result<u64, NodeError> {
+        let sent = self.send(seq, text)?;
+        Ok(sent.number)
+    }
+
+    /// A sequence is closed.
     pub(crate) fn close(&mut self, seq: u32) -> Result<Outs, NodeError> {
         self.node.close(&mut self.disk, seq, 0)
     }
 
+    /// The same, without its packets.
+    pub(crate) fn shut(&mut self, seq: u32) -> Result<(), NodeError> {
+        self.close(seq)?;
+        Ok(())
+    }
+
+    /// A sequence is ended.
     pub(crate) fn end(&mut self, seq: u32) -> Result<Outs, NodeError> {
         self.node.end(&mut self.disk, seq)
     }
 
-    pub(crate) fn tick(&mut self, now: u64) -> Result<Outs, NodeError> {
-        self.node.tick(&mut self.disk, now)
+    /// The same, without its packets.
+    pub(crate) fn finish(&mut self, seq: u32) -> Result<(), NodeError> {
+        self.end(seq)?;
+        Ok(())
+    }
+
+    /// A moment comes: how many packets are handed out.
+    pub(crate) fn tick(&mut self, now: u64) -> Result<usize, NodeError> {
+        let outs = self.node.tick(&mut self.disk, now)?;
+        Ok(outs.len())
     }
 
     /// The node is found on its disk again.
@@ -107,21 +166,77 @@ impl Peer {
         Ok(())
     }
 
+    /// The same, at a node that is expected to be there.
+    pub(crate) fn find_again(&mut self) -> Result<(), NodeError> {
+        match self.mount() {
+            Ok(()) => Ok(()),
+            Err(_) => Err(NodeError::Disk),
+        }
+    }
+
     pub(crate) fn entries(&self) -> u64 {
         self.node.entries()
     }
 
-    pub(crate) fn tables(&self) -> &Tables {
-        self.node.tables()
+    /// How many sequences there are.
+    pub(crate) fn sequences(&self) -> u32 {
+        self.node.tables().len()
+    }
+
+    /// How many messages wait for an acknowledgement.
+    pub(crate) fn unacked(&self) -> u64 {
+        self.node.tables().unacked()
+    }
+
+    /// In which phase an outgoing sequence is, where there is one with the number.
+    pub(crate) fn out_phase(&self, seq: u32) -> Option<OutPhase> {
+        let outgoing = self.node.tables().outgoing(seq)?;
+        Some(outgoing.phase())
+    }
+
+    /// In which phase an incoming sequence is, where there is one with the number.
+    pub(crate) fn in_phase(&self, seq: u32) -> Option<InPhase> {
+        let incoming = self.node.tables().incoming(seq)?;
+        Some(incoming.phase(0))
+    }
+}
+
+/// What comes of doing something with node 1.
+pub(crate) fn at_first<T, F>(alloc: Global, act: F) -> Result<T, NodeError>
+where
+    F: FnOnce(&mut Peer) -> Result<T, NodeError> + Drop,
+    requires { F.IsAlwaysCallable act }
+{
+    let mut peer = Peer::first(alloc)?;
+    act(&mut peer)
+}
+
+/// What comes of doing something with node 2.
+pub(crate) fn at_second<T, F>(alloc: Global, act: F) -> Result<T, NodeError>
+where
+    F: FnOnce(&mut Peer) -> Result<T, NodeError> + Drop,
+    requires { F.IsAlwaysCallable act }
+{
+    let mut peer = Peer::second(alloc)?;
+    act(&mut peer)
+}
+
+// An address.
+fn uri(alloc: Global, bytes: &[u8]) -> Result<Uri, NodeError> {
+    match Uri::from_slice(alloc, bytes) {
+        Ok(address) => Ok(address),
+        Err(_) => Err(NodeError::Memory),
     }
 }
 
 /// Node 1 is made on a disk.
 pub(crate) fn make(alloc: Global, disk: &mut Device) -> Result<Node, NodeError> {
-    let Ok(address) = Uri::from_slice(alloc, NODE_1) else {
-        return Err(NodeError::Memory);
-    };
-    Node::make(alloc, disk, 1, address)
+    Node::make(alloc, disk, 1, uri(alloc, NODE_1)?)
+}
+
+// Node 2 is made on a disk.
+fn make_second(alloc: Global, disk: &mut Device) -> Result<Node, NodeError> {
+    Node::make(alloc, disk, 2, uri(alloc, NODE_2)?)
 }
 
 /// A node is found on a disk.
@@ -137,10 +252,7 @@ pub(crate) fn is_packet(outs: &[Out], address: &[u8], bytes: &[u8]) -> bool {
     }
 }
 
-/// Why a call was refused, where it was.
-pub(crate) fn cause<T: Drop>(given: Result<T, NodeError>) -> Option<Cause> {
-    match given {
-        Err(NodeError::Refused(cause)) => Some(cause),
-        _ => None,
-    }
+/// Whether a reaction hands out such a packet, and replies nothing.
+pub(crate) fn is_handed(reaction: &Reaction, address: &[u8], bytes: &[u8]) -> bool {
+    reaction.reply.is_none() && is_packet(reaction.outs.as_slice(), address, bytes)
 }

@@ -1,9 +1,9 @@
 //! Each phase of an outgoing sequence, and what comes for it then.
 use crate::given::{Given, text_of};
-use crate::peer::Peer;
-use rm_base::Behaviour;
+use crate::peer::{Peer, at_first};
 use rm_destination::InPhase;
 use rm_message::FaultKind;
+use rm_node::NodeError;
 use rm_source::OutPhase;
 use std::alloc::Global;
 use std::test::Fail;
@@ -150,130 +150,101 @@ const FAILED_ROWS: [Row; COUNT] = [
     (Given::Invalid, None, 5, OutPhase::Failed),
 ];
 
-// Node 1, whose sequence `urn:s` accepted one message, where that is open: it has four entries then.
-fn open(alloc: Global) -> Result<Peer, Fail> {
-    let mut peer = Peer::source(alloc)?;
-    peer.send(1, b"<p/>")?;
-    Ok(peer)
-}
+// What comes for a sequence in each phase.
+const PHASES: [(OutPhase, &[Row]); 7] = [
+    (OutPhase::Creating, &CREATING_ROWS),
+    (OutPhase::Open, &OPEN_ROWS),
+    (OutPhase::Closing, &CLOSING_ROWS),
+    (OutPhase::Closed, &CLOSED_ROWS),
+    (OutPhase::Ending, &ENDING_ROWS),
+    (OutPhase::Ended, &ENDED_ROWS),
+    (OutPhase::Failed, &FAILED_ROWS),
+];
 
-// What comes for the sequence.
-fn take(peer: &mut Peer, given: Given) -> Result<Option<FaultKind>, Fail> {
+// What comes for the sequence `urn:s`: the verdict.
+fn take(peer: &mut Peer, given: Given) -> Result<Option<FaultKind>, NodeError> {
     let text = text_of(peer.alloc, given, b"urn:s")?;
-    let reaction = peer.take(text.as_slice())?;
-    Ok(reaction.verdict)
+    peer.judge(0, text.as_slice())
 }
 
-// Node 1, whose sequence is in this phase.
-fn in_phase(alloc: Global, phase: OutPhase) -> Result<Peer, Fail> {
+// Node 1 asks for its sequence, and for a later phase sends one message in it: it has four entries then.
+fn begin(peer: &mut Peer, phase: OutPhase) -> Result<(), NodeError> {
     if phase == OutPhase::Creating {
-        let mut peer = Peer::first(alloc)?;
         peer.create()?;
-        return Ok(peer);
+        Ok(())
+    } else {
+        peer.open_and_send()
     }
-    let mut peer = open(alloc)?;
+}
+
+// From there the sequence comes into the phase.
+fn go_on(peer: &mut Peer, phase: OutPhase) -> Result<(), NodeError> {
     match phase {
-        OutPhase::Creating | OutPhase::Open => {}
-        OutPhase::Closing | OutPhase::Closed => {
-            peer.close(1)?;
-        }
-        OutPhase::Ending | OutPhase::Ended => {
-            peer.end(1)?;
-        }
+        OutPhase::Creating | OutPhase::Open => Ok(()),
+        OutPhase::Closing | OutPhase::Closed => peer.shut(1),
+        OutPhase::Ending | OutPhase::Ended => peer.finish(1),
         OutPhase::Failed => {
-            take(&mut peer, Given::Terminated)?;
+            take(peer, Given::Terminated)?;
+            Ok(())
         }
     }
+}
+
+// And where the answer of its peer brings it there, that comes.
+fn be_answered(peer: &mut Peer, phase: OutPhase) -> Result<(), NodeError> {
     if phase == OutPhase::Closed {
-        take(&mut peer, Given::Closed)?;
+        take(peer, Given::Closed)?;
     }
     if phase == OutPhase::Ended {
-        take(&mut peer, Given::Ended)?;
+        take(peer, Given::Ended)?;
     }
-    Ok(peer)
+    Ok(())
 }
 
-// What it comes to that something comes in this phase.
+// What something comes to that comes in this phase: the verdict, how many entries there are, and the phase then.
 fn outcome(
-    alloc: Global,
+    peer: &mut Peer,
     phase: OutPhase,
     given: Given,
-) -> Result<(Option<FaultKind>, u64, OutPhase), Fail> {
-    let mut peer = in_phase(alloc, phase)?;
-    let verdict = take(&mut peer, given)?;
-    let outgoing = peer.tables().outgoing(1).ok_or("a sequence")?;
-    Ok((verdict, peer.entries(), outgoing.phase()))
+) -> Result<(Option<FaultKind>, u64, Option<OutPhase>), NodeError> {
+    begin(peer, phase)?;
+    go_on(peer, phase)?;
+    be_answered(peer, phase)?;
+    let verdict = take(peer, given)?;
+    Ok((verdict, peer.entries(), peer.out_phase(1)))
 }
 
-// What first comes to something else than its row says, where one does.
-fn first_wrong(alloc: Global, phase: OutPhase, rows: &[Row]) -> Result<Option<Given>, Fail> {
-    for (given, verdict, entries, after) in rows {
-        if outcome(alloc, phase, *given)? != (*verdict, *entries, *after) {
-            return Ok(Some(*given));
+// Whether that is what its row says.
+fn is_so(alloc: Global, phase: OutPhase, row: &Row) -> Result<bool, NodeError> {
+    let (given, verdict, entries, after) = row;
+    let mut peer = Peer::first(alloc)?;
+    let found = outcome(&mut peer, phase, *given)?;
+    Ok(found == (*verdict, *entries, Some(*after)))
+}
+
+#[test]
+fn what_comes_for_a_sequence_in_each_phase(rt: HostRuntime) -> Result<(), Fail> {
+    for (phase, rows) in &PHASES {
+        for row in *rows {
+            assert!(rt; is_so(rt.alloc(), *phase, row)?, "{phase:?}: {:?}", row.0);
         }
     }
-    Ok(None)
-}
-
-#[test]
-fn what_comes_for_a_sequence_that_is_creating(rt: HostRuntime) -> Result<(), Fail> {
-    let wrong = first_wrong(rt.alloc(), OutPhase::Creating, &CREATING_ROWS)?;
-    assert_eq!(rt; wrong, None);
     Ok(())
 }
 
-#[test]
-fn what_comes_for_a_sequence_that_is_open(rt: HostRuntime) -> Result<(), Fail> {
-    let wrong = first_wrong(rt.alloc(), OutPhase::Open, &OPEN_ROWS)?;
-    assert_eq!(rt; wrong, None);
-    Ok(())
-}
-
-#[test]
-fn what_comes_for_a_sequence_that_is_closing(rt: HostRuntime) -> Result<(), Fail> {
-    let wrong = first_wrong(rt.alloc(), OutPhase::Closing, &CLOSING_ROWS)?;
-    assert_eq!(rt; wrong, None);
-    Ok(())
-}
-
-#[test]
-fn what_comes_for_a_sequence_that_is_closed(rt: HostRuntime) -> Result<(), Fail> {
-    let wrong = first_wrong(rt.alloc(), OutPhase::Closed, &CLOSED_ROWS)?;
-    assert_eq!(rt; wrong, None);
-    Ok(())
-}
-
-#[test]
-fn what_comes_for_a_sequence_that_is_ending(rt: HostRuntime) -> Result<(), Fail> {
-    let wrong = first_wrong(rt.alloc(), OutPhase::Ending, &ENDING_ROWS)?;
-    assert_eq!(rt; wrong, None);
-    Ok(())
-}
-
-#[test]
-fn what_comes_for_a_sequence_that_is_ended(rt: HostRuntime) -> Result<(), Fail> {
-    let wrong = first_wrong(rt.alloc(), OutPhase::Ended, &ENDED_ROWS)?;
-    assert_eq!(rt; wrong, None);
-    Ok(())
-}
-
-#[test]
-fn what_comes_for_a_sequence_that_is_failed(rt: HostRuntime) -> Result<(), Fail> {
-    let wrong = first_wrong(rt.alloc(), OutPhase::Failed, &FAILED_ROWS)?;
-    assert_eq!(rt; wrong, None);
-    Ok(())
+// The refusal of a request with an offer comes: the verdict, how many entries there are, and in which phases both are.
+fn refused(
+    peer: &mut Peer,
+) -> Result<(Option<FaultKind>, u64, Option<OutPhase>, Option<InPhase>), NodeError> {
+    peer.offer()?;
+    let verdict = take(peer, Given::Refused)?;
+    Ok((verdict, peer.entries(), peer.out_phase(1), peer.in_phase(2)))
 }
 
 // Where the request is refused, so is what was offered with it.
 #[test]
 fn an_offer_of_a_refused_request(rt: HostRuntime) -> Result<(), Fail> {
-    let mut peer = Peer::first(rt.alloc())?;
-    peer.ask(Some(Behaviour::FollowingFirstGap))?;
-    assert_eq!(rt; take(&mut peer, Given::Refused)?, None);
-    assert_eq!(rt; peer.entries(), 3);
-    let outgoing = peer.tables().outgoing(1).ok_or("a sequence")?;
-    assert_eq!(rt; outgoing.phase(), OutPhase::Failed);
-    let incoming = peer.tables().incoming(2).ok_or("an offer")?;
-    assert_eq!(rt; incoming.phase(0), InPhase::Ended);
+    let given_up = (None, 3, Some(OutPhase::Failed), Some(InPhase::Ended));
+    assert!(rt; at_first(rt.alloc(), refused)? == given_up);
     Ok(())
 }

@@ -1,8 +1,7 @@
 //! What is there again where the disk fails at a call of a node and the machine stops.
 use crate::device::Device;
 use crate::peer::{Peer, find, make};
-use crate::texts::{FIRST_OF_1, acknowledgement, request, response};
-use rm_base::Behaviour;
+use crate::texts::{FIRST_OF_1, acknowledgement};
 use rm_destination::InPhase;
 use rm_node::{MountError, NodeError};
 use rm_source::OutPhase;
@@ -35,16 +34,20 @@ const CALLS: [Call; 9] = [
     Call::Tick,
 ];
 
-// A node that may make the call.
-fn before(alloc: Global, call: Call) -> Result<Peer, Fail> {
+// The node that makes the call.
+fn node_of(alloc: Global, call: Call) -> Result<Peer, NodeError> {
     match call {
-        Call::Create | Call::Send | Call::Close | Call::End => Peer::source(alloc),
-        Call::Learn => {
-            let mut peer = Peer::source(alloc)?;
-            peer.send(1, b"<p/>")?;
-            Ok(peer)
-        }
-        Call::Grant | Call::Receive | Call::CloseIncoming | Call::Tick => Peer::destination(alloc),
+        Call::Grant | Call::Receive | Call::CloseIncoming | Call::Tick => Peer::second(alloc),
+        Call::Create | Call::Send | Call::Close | Call::End | Call::Learn => Peer::first(alloc),
+    }
+}
+
+// What makes the call one that it may make.
+fn prepare(peer: &mut Peer, call: Call) -> Result<(), NodeError> {
+    match call {
+        Call::Create | Call::Send | Call::Close | Call::End => peer.open(),
+        Call::Learn => peer.open_and_send(),
+        Call::Grant | Call::Receive | Call::CloseIncoming | Call::Tick => peer.be_asked(),
     }
 }
 
@@ -53,83 +56,87 @@ fn learn(peer: &mut Peer) -> Result<(), NodeError> {
     let block = b"<r:SequenceAcknowledgement><r:Identifier>urn:s</r:Identifier>\
         <r:AcknowledgementRange Lower=\"1\" Upper=\"1\"/></r:SequenceAcknowledgement>";
     let text = acknowledgement(peer.alloc, block)?;
-    peer.take(text.as_slice())?;
+    peer.judge(0, text.as_slice())?;
     Ok(())
 }
 
-// A sequence is asked for by a peer.
-fn grant(peer: &mut Peer) -> Result<(), NodeError> {
-    let text = request(peer.alloc, b"urn:another", b"")?;
-    peer.take(text.as_slice())?;
-    Ok(())
-}
-
-fn act(peer: &mut Peer, call: Call) -> Result<(), NodeError> {
+// How the call comes out.
+fn act(peer: &mut Peer, call: Call) -> Option<NodeError> {
     match call {
-        Call::Create => {
-            peer.create()?;
-        }
-        Call::Send => {
-            peer.send(1, b"<p/>")?;
-        }
-        Call::Close | Call::CloseIncoming => {
-            peer.close(1)?;
-        }
-        Call::End => {
-            peer.end(1)?;
-        }
-        Call::Learn => learn(peer)?,
-        Call::Grant => grant(peer)?,
-        Call::Receive => {
-            peer.take_number(b"1")?;
-        }
-        Call::Tick => {
-            peer.tick(1000)?;
-        }
+        Call::Create => peer.create().err(),
+        Call::Send => peer.accept(1, b"<p/>").err(),
+        Call::Close | Call::CloseIncoming => peer.shut(1).err(),
+        Call::End => peer.finish(1).err(),
+        Call::Learn => learn(peer).err(),
+        Call::Grant => peer.grant(b"urn:another", b"").err(),
+        Call::Receive => peer.judge_number(b"1").err(),
+        Call::Tick => peer.tick(1000).err(),
     }
-    Ok(())
 }
 
-// The device call of this number fails as the node makes the call, or none at 5; then comes a crash, and the node is
-// found on its disk again. How the call came out, whether the node was down after it, and how many entries were added.
-fn stopped(
-    alloc: Global,
-    call: Call,
-    stop: u64,
-    choice: u8,
-) -> Result<(Option<NodeError>, bool, u64), Fail> {
-    let mut peer = before(alloc, call)?;
-    let entries = peer.entries();
+// The device call of this number fails as the node makes the call, or none at 5. How the call came out, and whether the
+// node was down after it.
+fn broken(peer: &mut Peer, call: Call, stop: u64) -> (Option<NodeError>, bool) {
     peer.disk.arm(stop);
-    let error = act(&mut peer, call).err();
-    let was_down = peer.node.is_down();
+    let error = act(peer, call);
+    (error, peer.node.is_down())
+}
+
+// A crash comes, and the node is found on its disk again.
+fn crash(peer: &mut Peer, choice: u8) -> Result<(), NodeError> {
     peer.disk.crash(choice)?;
-    peer.mount()?;
+    peer.find_again()
+}
+
+// How the call came out, whether the node was down after it, and how many entries were added, as the node is found
+// again after a crash.
+type Stopped = (Option<NodeError>, bool, u64);
+
+fn stop_at(peer: &mut Peer, call: Call, stop: u64, choice: u8) -> Result<Stopped, NodeError> {
+    prepare(peer, call)?;
+    let entries = peer.entries();
+    let (error, was_down) = broken(peer, call, stop);
+    crash(peer, choice)?;
     Ok((error, was_down, peer.entries().saturating_sub(entries)))
 }
 
-// How many entries are added where the device call from 1 to 4 fails, by what the crash keeps: what was synced, what a
-// read gave, ones where anything may stand, or zeros there. The entry is written behind its gate, synced, the gate
-// opened, and that synced.
-const ADDED: [(u8, [u64; 4]); 4] = [
-    (0, [0, 0, 0, 0]),
-    (1, [0, 0, 0, 1]),
-    (2, [0, 0, 1, 1]),
-    (3, [0, 0, 0, 0]),
+// That of a node of its own.
+fn stopped(alloc: Global, call: Call, stop: u64, choice: u8) -> Result<Stopped, NodeError> {
+    let mut peer = node_of(alloc, call)?;
+    stop_at(&mut peer, call, stop, choice)
+}
+
+// The choice of a crash, the number of the device call that fails, and how many entries are added. A crash keeps what
+// was synced, or what a read gave, or puts ones or zeros where anything may stand. The entry is written behind its
+// gate, synced, the gate opened, and that synced.
+const ADDED: [(u8, u64, u64); 16] = [
+    (0, 1, 0),
+    (0, 2, 0),
+    (0, 3, 0),
+    (0, 4, 0),
+    (1, 1, 0),
+    (1, 2, 0),
+    (1, 3, 0),
+    (1, 4, 1),
+    (2, 1, 0),
+    (2, 2, 0),
+    (2, 3, 1),
+    (2, 4, 1),
+    (3, 1, 0),
+    (3, 2, 0),
+    (3, 3, 0),
+    (3, 4, 0),
 ];
 
 #[test]
 fn a_call_whose_disk_fails(rt: HostRuntime) -> Result<(), Fail> {
-    for call in CALLS {
-        for (choice, counts) in ADDED {
-            for (stop, added) in (1..5).zip(counts) {
-                let known = (Some(NodeError::Disk), true, added);
-                assert_eq!(rt;
-                    stopped(rt.alloc(), call, stop, choice)?,
-                    known,
-                    "{call:?}, choice {choice}, stop {stop}"
-                );
-            }
+    for call in &CALLS {
+        for (choice, stop, added) in &ADDED {
+            assert!(rt;
+                stopped(rt.alloc(), *call, *stop, *choice)?
+                    == (Some(NodeError::Disk), true, *added),
+                "{call:?}, choice {choice}, stop {stop}"
+            );
         }
     }
     Ok(())
@@ -138,86 +145,98 @@ fn a_call_whose_disk_fails(rt: HostRuntime) -> Result<(), Fail> {
 // Where no device call fails, the entry is there whatever the crash keeps.
 #[test]
 fn a_call_that_went_well(rt: HostRuntime) -> Result<(), Fail> {
-    for call in CALLS {
+    for call in &CALLS {
         for choice in 0..4 {
-            let came = stopped(rt.alloc(), call, 5, choice)?;
-            assert_eq!(rt; came, (None, false, 1), "{call:?}, choice {choice}");
+            let came = stopped(rt.alloc(), *call, 5, choice)?;
+            assert!(rt; came == (None, false, 1), "{call:?}, choice {choice}");
         }
     }
     Ok(())
 }
 
-// The answer to a request with an offer comes, which does not take it: two records, of the sequence that was asked
-// for and of the one that was offered.
-fn answered(peer: &mut Peer) -> Result<(), NodeError> {
-    let text = response(peer.alloc, FIRST_OF_1, b"urn:s")?;
-    peer.take(text.as_slice())?;
-    Ok(())
-}
+// In which phases a sequence that was asked for and one that was offered with it are.
+type Phases = (Option<OutPhase>, Option<InPhase>);
 
-// In which phases both are.
-fn phases(peer: &Peer) -> Option<(OutPhase, InPhase)> {
-    let outgoing = peer.tables().outgoing(1)?;
-    let incoming = peer.tables().incoming(2)?;
-    Some((outgoing.phase(), incoming.phase(0)))
-}
-
-// The device call of this number fails as the answer comes; then comes a crash, and the node is found on its disk
-// again.
-fn stopped_in_two(
-    alloc: Global,
-    stop: u64,
-    choice: u8,
-) -> Result<Option<(OutPhase, InPhase)>, Fail> {
-    let mut peer = Peer::first(alloc)?;
-    peer.ask(Some(Behaviour::FollowingFirstGap))?;
+// The answer to a request with an offer comes, which does not take it and makes two records, and the device call of
+// this number fails: in which phases both are after a crash, as the node is found again.
+fn stop_in_two(peer: &mut Peer, stop: u64, choice: u8) -> Result<Phases, NodeError> {
+    peer.offer()?;
     peer.disk.arm(stop);
-    let _answered = answered(&mut peer);
-    peer.disk.crash(choice)?;
-    peer.mount()?;
-    Ok(phases(&peer))
+    let _answered = peer.be_granted(FIRST_OF_1, b"urn:s");
+    crash(peer, choice)?;
+    Ok((peer.out_phase(1), peer.in_phase(2)))
+}
+
+// That of a node of its own.
+fn stopped_in_two(alloc: Global, stop: u64, choice: u8) -> Result<Phases, NodeError> {
+    let mut peer = Peer::first(alloc)?;
+    stop_in_two(&mut peer, stop, choice)
+}
+
+// In which phases both are where so many entries are added.
+fn phases(added: u64) -> Phases {
+    if added == 0 {
+        (Some(OutPhase::Creating), Some(InPhase::Open))
+    } else {
+        (Some(OutPhase::Open), Some(InPhase::Ended))
+    }
 }
 
 // Both records are there or none.
 #[test]
 fn two_records_in_one_entry(rt: HostRuntime) -> Result<(), Fail> {
-    for (choice, counts) in ADDED {
-        for (stop, added) in (1..5).zip(counts) {
-            let known = if added == 0 {
-                (OutPhase::Creating, InPhase::Open)
-            } else {
-                (OutPhase::Open, InPhase::Ended)
-            };
-            assert_eq!(rt;
-                stopped_in_two(rt.alloc(), stop, choice)?,
-                Some(known),
-                "choice {choice}, stop {stop}"
-            );
-        }
+    for (choice, stop, added) in &ADDED {
+        assert!(rt;
+            stopped_in_two(rt.alloc(), *stop, *choice)? == phases(*added),
+            "choice {choice}, stop {stop}"
+        );
     }
     Ok(())
+}
+
+// How a call comes out whose last device call fails, how it comes out again, and whether the entries stayed.
+type Twice = (Option<NodeError>, Option<NodeError>, bool);
+
+fn try_twice(peer: &mut Peer, call: Call) -> Result<Twice, NodeError> {
+    prepare(peer, call)?;
+    let entries = peer.entries();
+    let (first, _was_down) = broken(peer, call, 4);
+    let second = act(peer, call);
+    Ok((first, second, peer.entries() == entries))
+}
+
+// That of a node of its own.
+fn tried_twice(alloc: Global, call: Call) -> Result<Twice, NodeError> {
+    let mut peer = node_of(alloc, call)?;
+    try_twice(&mut peer, call)
 }
 
 // A call at a node that is down.
 #[test]
 fn a_node_that_is_down(rt: HostRuntime) -> Result<(), Fail> {
-    for call in CALLS {
-        let mut peer = before(rt.alloc(), call)?;
-        let entries = peer.entries();
-        peer.disk.arm(4);
-        assert_eq!(rt;
-            act(&mut peer, call).err(),
-            Some(NodeError::Disk),
-            "{call:?}"
-        );
-        assert_eq!(rt;
-            act(&mut peer, call).err(),
-            Some(NodeError::Down),
-            "{call:?}"
-        );
-        assert_eq!(rt; peer.entries(), entries, "{call:?}");
+    let known = (Some(NodeError::Disk), Some(NodeError::Down), true);
+    for call in &CALLS {
+        assert!(rt; tried_twice(rt.alloc(), *call)? == known, "{call:?}");
     }
     Ok(())
+}
+
+// The device call of this number fails as a node is found again: how that comes out, and how many entries there are as
+// it is found after a crash.
+type Found = (Option<MountError>, u64);
+
+fn find_twice(peer: &mut Peer, stop: u64, choice: u8) -> Result<Found, NodeError> {
+    peer.open()?;
+    peer.disk.arm(stop);
+    let error = peer.mount().err();
+    crash(peer, choice)?;
+    Ok((error, peer.entries()))
+}
+
+// That of a node of its own.
+fn found_twice(alloc: Global, stop: u64, choice: u8) -> Result<Found, NodeError> {
+    let mut peer = Peer::first(alloc)?;
+    find_twice(&mut peer, stop, choice)
 }
 
 // Mounting syncs, asks for the length and reads.
@@ -225,29 +244,46 @@ fn a_node_that_is_down(rt: HostRuntime) -> Result<(), Fail> {
 fn a_mount_whose_disk_fails(rt: HostRuntime) -> Result<(), Fail> {
     for choice in 0..4 {
         for stop in 1..4 {
-            let mut peer = Peer::source(rt.alloc())?;
-            peer.disk.arm(stop);
-            assert_eq!(rt; peer.mount(), Err(MountError::Disk));
-            peer.disk.crash(choice)?;
-            peer.mount()?;
-            assert_eq!(rt; peer.entries(), 3, "choice {choice}, stop {stop}");
+            assert!(rt;
+                found_twice(rt.alloc(), stop, choice)? == (Some(MountError::Disk), 3),
+                "choice {choice}, stop {stop}"
+            );
         }
     }
     Ok(())
 }
 
+// How making a node comes out.
+fn made(alloc: Global, disk: &mut Device) -> Option<NodeError> {
+    make(alloc, disk).err()
+}
+
+// How finding a node comes out.
+fn found(alloc: Global, disk: &mut Device) -> Option<MountError> {
+    find(alloc, disk).err()
+}
+
+// The device call of this number fails as a node is made: how that comes out, and how finding it after a crash does.
+fn stopped_in_making(
+    alloc: Global,
+    stop: u64,
+) -> Result<(Option<NodeError>, Option<MountError>), NodeError> {
+    let mut disk = Device::new(alloc);
+    disk.arm(stop);
+    let first = made(alloc, &mut disk);
+    disk.crash(0)?;
+    Ok((first, found(alloc, &mut disk)))
+}
+
 // A node is made by three device calls for the empty journal, and four for its first entry.
 #[test]
 fn a_node_that_is_not_made(rt: HostRuntime) -> Result<(), Fail> {
-    let alloc = rt.alloc();
+    let known = (Some(NodeError::Disk), Some(MountError::NotAJournal));
     for stop in 1..8 {
-        let mut disk = Device::new(alloc);
-        disk.arm(stop);
-        let made = make(alloc, &mut disk);
-        assert_eq!(rt; made.err(), Some(NodeError::Disk), "stop {stop}");
-        disk.crash(0)?;
-        let found = find(alloc, &mut disk);
-        assert_eq!(rt; found.err(), Some(MountError::NotAJournal), "stop {stop}");
+        assert!(rt;
+            stopped_in_making(rt.alloc(), stop)? == known,
+            "stop {stop}"
+        );
     }
     Ok(())
 }
