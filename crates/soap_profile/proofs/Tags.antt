@@ -20,11 +20,11 @@ use Rattle.soap_profile.specs.declared.tree.Item.TheVariants.{Attribute}
 
 -- ---- a name
 
-pub name_is : (space_of : List ℕ → Option (List ℕ)) (written kept prefix local space : List ℕ) (name : Name)
-    → kept ≡ written → (prefix, local) ≡ split written → space_of prefix ≡ Some space
-    → name ≡ record { space = space; local = local } → named (split kept).1 (space_of (split kept).0) ≡ Some name
-name_is space_of written kept prefix local space name k s f n =
-    ap (λ (parts : List ℕ × List ℕ). named parts.1 (space_of parts.0)) (ap split k ∙ sym s) ∙ ap (named local) f
+pub name_is : (space_of : List ℕ → Option (List ℕ)) (written prefix local space : List ℕ) (name : Name)
+    → (prefix, local) ≡ split written → space_of prefix ≡ Some space → name ≡ record { space = space; local = local }
+    → named (split written).1 (space_of (split written).0) ≡ Some name
+name_is space_of written prefix local space name s f n =
+    ap (λ (parts : List ℕ × List ℕ). named parts.1 (space_of parts.0)) (sym s) ∙ ap (named local) f
     ∙ ap (λ (x : Name). Some x) (sym n)
 
 -- ---- what stands in a tag

@@ -181,8 +181,7 @@ pub(crate) fn element_name(
         return Ok(None);
     };
     let name = Name::new(alloc, space, local)?;
-    let met = name.share()?;
-    scope.elements.keep(Bytes::from_slice(alloc, written)?, met);
+    scope.elements.keep(alloc, written, &name)?;
     Ok(Some(name))
 }
 
@@ -199,10 +198,7 @@ fn attribute_name(alloc: Global, written: &[u8], scope: &mut Scope) -> Result<Op
         return Ok(None);
     };
     let name = Name::new(alloc, space, local)?;
-    let met = name.share()?;
-    scope
-        .attributes
-        .keep(Bytes::from_slice(alloc, written)?, met);
+    scope.attributes.keep(alloc, written, &name)?;
     Ok(Some(name))
 }
 

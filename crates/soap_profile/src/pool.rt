@@ -1,7 +1,8 @@
 //! Written names that stand in a document again and again, and what they are resolved to.
-ghost use Rattle.std.specs.Prelude.{◌≡◌, ℕ, List, Option, Some, IfOk, IfSome};
+ghost use Rattle.std.specs.Prelude.{◌≡◌, ℕ, List, Option, Some, None, All, IfOk, IfSome, OnOk};
 ghost use Rattle.soap_profile.specs.Pool.{Knows};
 ghost use Rattle.soap_profile.specs.Tree.{Name as Expanded};
+ghost use Rattle.soap_profile.specs.declared.pool.Met.{Met};
 
 use crate::name::Name;
 use rm_base::Memory;
@@ -10,11 +11,17 @@ use std::alloc::Global;
 
 const SLOTS: usize = 64;
 
+// So many names are resolved before there are slots: a short document has no use for them.
+const FEW: u8 = 8;
+
 /// Names that were met. A name has one slot, and each slot keeps the name that came last. It is known in the era in
 /// which it was met, throughout which the bindings are the same.
 #[derive(Drop)]
 pub(crate) struct Pool {
+    // None at first.
     slots: Vec<Option<Met>>,
+    // How many names more are resolved before there are slots.
+    few: u8,
     // How often all names were forgotten: what was met in an era before is known no longer.
     era: u64,
 }
@@ -27,14 +34,14 @@ pub(crate) struct Met {
 }
 
 impl Pool {
-    pub(crate) fn new(alloc: Global) -> Result<Pool, Memory>
-        ensures { IfOk result (λ pool. (resolve : List ℕ → Option Expanded) → Knows resolve pool) }
+    pub(crate) fn new(alloc: Global) -> Pool
+        ensures { (resolve : List ℕ → Option Expanded) → Knows resolve result }
     {
-        let mut slots = Vec::with_capacity(alloc, SLOTS)?;
-        for _ in 0..SLOTS {
-            slots.push(None)?;
+        Pool {
+            slots: Vec::new(alloc),
+            few: FEW,
+            era: 0,
         }
-        Ok(Pool { slots, era: 0 })
     }
 
     /// What a name is resolved to, where it is known.
@@ -54,14 +61,27 @@ impl Pool {
         Some(&met.name)
     }
 
-    pub(crate) fn keep(&mut self, written: Bytes, name: Name)
-        ensures { (resolve : List ℕ → Option Expanded) → Knows resolve self.old → resolve written ≡ Some name
-            → Knows resolve self.new }
+    /// A name that was resolved may be known from now on.
+    pub(crate) fn keep(&mut self, alloc: Global, written: &[u8], name: &Name) -> Result<(), Memory>
+        ensures { (resolve : List ℕ → Option Expanded) → Knows resolve self.old → resolve written.now ≡ Some name.now
+            → OnOk result (Knows resolve self.new) }
     {
-        let era = self.era;
-        if let Some(slot) = self.slots.get_mut(slot_of(written.as_slice())) {
-            *slot = Some(Met { era, written, name });
+        if self.slots.is_empty() {
+            if self.few > 0 {
+                self.few -= 1;
+                return Ok(());
+            }
+            self.slots = empty_slots(alloc)?;
         }
+        let met = Met {
+            era: self.era,
+            written: Bytes::from_slice(alloc, written)?,
+            name: name.share()?,
+        };
+        if let Some(slot) = self.slots.get_mut(slot_of(written)) {
+            *slot = Some(met);
+        }
+        Ok(())
     }
 
     /// Forgets all names, whatever they are resolved to from now on.
@@ -76,6 +96,16 @@ impl Pool {
         };
         self.era = era;
     }
+}
+
+fn empty_slots(alloc: Global) -> Result<Vec<Option<Met>>, Memory>
+    ensures { IfOk result (λ slots. All (λ (slot : Option Met). slot ≡ None) slots.items) }
+{
+    let mut slots = Vec::with_capacity(alloc, SLOTS)?;
+    for _ in 0..SLOTS {
+        slots.push(None)?;
+    }
+    Ok(slots)
 }
 
 // The slot of a name, by its length and three of its bytes.

@@ -31,8 +31,8 @@ impl Scope {
     {
         Ok(Scope {
             stacks: BTreeMap::new(alloc),
-            elements: Pool::new(alloc)?,
-            attributes: Pool::new(alloc)?,
+            elements: Pool::new(alloc),
+            attributes: Pool::new(alloc),
             predeclared: Predeclared::new(alloc)?,
         })
     }

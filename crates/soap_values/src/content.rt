@@ -1,4 +1,5 @@
 //! The text of an element and the values of its attributes.
+ghost use Rattle.std.specs.Cow.{cow_slice_items};
 ghost use Rattle.std.specs.Prelude.{◌≡◌, option_map, map};
 ghost use Rattle.soap_profile.specs.View.{element_view, parts_view, attrs_view};
 ghost use Rattle.soap_values.specs.Children.{name_in, text_among, value_among};
@@ -9,10 +10,20 @@ use crate::children::is_named;
 use crate::flaw::Flaw;
 use soap_profile::{Element, Item};
 use std::alloc::Global;
+use std::borrow::CowSlice;
 use xml_chars::is_space;
 
-/// The text of content, put together. A child element makes it unreadable.
-pub fn read_text(alloc: Global, items: &[Item]) -> Result<Vec<u8>, Flaw>
+/// The text of content, which is copied only where it has to be put together. A child element makes it unreadable.
+pub fn read_text(alloc: Global, items: &[Item]) -> Result<CowSlice<'_, u8>, Flaw>
+    ensures { Gives cow_slice_items result (text_among (parts_view items.now)) }
+{
+    if let [Item::Text(bytes)] = items {
+        return Ok(CowSlice::Borrowed(bytes.as_slice()));
+    }
+    Ok(CowSlice::Owned(joined_text(alloc, items)?))
+}
+
+fn joined_text(alloc: Global, items: &[Item]) -> Result<Vec<u8>, Flaw>
     ensures { Gives (λ v. v.items) result (text_among (parts_view items.now)) }
 {
     let mut text = Vec::new(alloc);
@@ -30,8 +41,8 @@ pub fn read_text(alloc: Global, items: &[Item]) -> Result<Vec<u8>, Flaw>
 pub fn read_trimmed(alloc: Global, element: &Element) -> Result<Vec<u8>, Flaw>
     ensures { Gives (λ v. v.items) result (trimmed_text (element_view element.now)) }
 {
-    let bytes = read_text(alloc, element.items.as_slice())?;
-    Ok(Vec::from_slice(alloc, trim(bytes.as_slice()))?)
+    let text = read_text(alloc, element.items.as_slice())?;
+    Ok(Vec::from_slice(alloc, trim(text.as_slice()))?)
 }
 
 /// The bytes without white space at their ends.

@@ -11,10 +11,10 @@ returns-in-Some-clause-name c = λ bindings h.
 pub returns-clause-same : goal.returns-clause-same
 returns-clause-same c = λ bindings h.
     let space = sym (c.in_ok-space.ensures bindings h.stacks) ∙ c.in-Some-2.is in
-    let known : element_name bindings c.in_ok-from_slice.field-0 ≡ Some c.in_ok-met.met =
-    name_is (λ (prefix : List ℕ). element_space prefix bindings) c.args.written.now c.in_ok-from_slice.field-0 _ _ _ _
-    c.in_ok-from_slice.ensures c.split.ensures space (c.in_ok-met.ensures ∙ c.in_ok-name.ensures) in record {
+    let known : element_name bindings c.args.written.now ≡ Some c.in_ok-name.name =
+    name_is (λ (prefix : List ℕ). element_space prefix bindings) c.args.written.now _ _ _ _ c.split.ensures space
+    c.in_ok-name.ensures in record {
       stacks = h.stacks;
-      elements = c.keep.ensures (element_name bindings) h.elements known;
+      elements = c.in_ok-keep.ensures (element_name bindings) h.elements known;
       attributes = h.attributes;
     }

@@ -5,6 +5,6 @@ use Rattle.soap_profile.proofs.scope.Scope.new.Goals as goal
 pub returns : goal.returns
 returns c = record {
   stacks = search rules;
-  elements = c.in_ok-new.ensures (element_name []);
-  attributes = c.in_ok-new-2.ensures (attribute_name []);
+  elements = c.new-2.ensures (element_name []);
+  attributes = c.new-3.ensures (attribute_name []);
 }

@@ -1,7 +1,7 @@
 use Rattle.std.proofs.Common.{◌≡◌, ◌++◌, drop, option_map}
 use Rattle.soap_profile.specs.View.{parts_view}
 use Rattle.soap_values.specs.Children.{text_among}
-use Rattle.soap_values.proofs.content.read_text.Given as goal
+use Rattle.soap_values.proofs.content.joined_text.Given as goal
 
 -- the text so far, and that of what is left
 abbrev pub invariant-loop-item : goal.invariant-loop-item
