@@ -55,11 +55,35 @@ static void long_namespace(const char *folder) {
     fclose(file);
 }
 
+/* Names that each stand there once. */
+static void names(const char *folder) {
+    FILE *file = document(folder, "names");
+    int length = fprintf(file, "<a>");
+    for (int i = 0; length < MEGABYTE; i++) length += fprintf(file, "<name%d/>", i);
+    fprintf(file, "</a>");
+    fclose(file);
+}
+
+/* Elements side by side, in each of which 79 more stand in one another. */
+static void deep(const char *folder) {
+    enum { LEVELS = 80 };
+    FILE *file = document(folder, "deep");
+    int length = fprintf(file, "<a>");
+    while (length < MEGABYTE) {
+        for (int level = 0; level < LEVELS; level++) length += fprintf(file, "<d>");
+        for (int level = 0; level < LEVELS; level++) length += fprintf(file, "</d>");
+    }
+    fprintf(file, "</a>");
+    fclose(file);
+}
+
 int main(int argc, char **argv) {
     if (argc != 2) return 2;
     const char *folder = argv[1];
     repeated(folder, "ascii", "<a>", "The quick brown fox jumps over the lazy dog. ", "</a>");
     repeated(folder, "three", "<a>", "\xe6\xbc\xa2\xe5\xad\x97\xe3\x81\x8b\xe3\x81\xaa", "</a>");
+    repeated(folder, "cdata", "<a>", "<![CDATA[The quick & the <brown> fox.]]>", "</a>");
+    repeated(folder, "comments", "<a>", "The quick<!-- and rather lazy --> fox. ", "</a>");
     repeated(folder, "dense", "<p:t xmlns:p='urn:p' xmlns='urn:d'>",
              "<p:row id=\"17\" p:kind=\"x\"><p:cell a=\"b\">t</p:cell><q/></p:row>", "</p:t>");
     repeated(folder, "tiny", "<a>", "<b/>", "</a>");
@@ -67,5 +91,7 @@ int main(int argc, char **argv) {
     attributes(folder);
     declarations(folder);
     long_namespace(folder);
+    names(folder);
+    deep(folder);
     return 0;
 }
