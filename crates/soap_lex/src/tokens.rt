@@ -10,7 +10,7 @@ ghost use Rattle.soap_lex.specs.Coded.{BeginsWithChar};
 ghost use Rattle.soap_lex.specs.Text.{IsCharData, IsCdata, IsComment};
 ghost use Rattle.soap_lex.specs.Value.{IsPlainValue};
 
-use memchr::{memchr2, memchr3, memmem};
+use memchr::{memchr, memchr2, memchr3, memmem};
 use std::str;
 use xml_chars::{is_char, is_name_char, is_name_start};
 
@@ -255,7 +255,20 @@ fn is_plain(byte: u8) -> bool
 fn lacks(bytes: &[u8], word: &[u8]) -> bool
     ensures { IsTrue result ↔ ¬ (Holds bytes.now word.now) }
 {
+    if lacks_first(bytes, word) {
+        return true;
+    }
     memmem::find(bytes, word).is_none()
+}
+
+// No byte is the word's first, which is sooner found out than that the word stands nowhere.
+fn lacks_first(bytes: &[u8], word: &[u8]) -> bool
+    ensures { IsTrue result → ¬ (Holds bytes.now word.now) }
+{
+    match word {
+        [first, ..] => memchr(*first, bytes).is_none(),
+        [] => false,
+    }
 }
 
 // No byte begins markup.
