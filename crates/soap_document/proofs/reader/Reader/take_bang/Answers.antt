@@ -1,4 +1,4 @@
-use Rattle.std.proofs.Common.{[], IfOk, ap, ◌∙◌, arith}
+use Rattle.std.proofs.Common.{[], IfOk, refl, ap, ◌∙◌, arith}
 use Rattle.soap_lex.specs.Readers.{text_state}
 use Rattle.soap_document.specs.Machine.{nothing_open}
 use Rattle.soap_document.specs.Seen.{seen, TakenBy}
@@ -15,28 +15,30 @@ returns-then-opened-eq0-clause-sees g c =
     let text = old.scan.text.items in
     seeing stands old (λ s. IfOk c.take_text.result (TakenBy stands s c.take_text.new.self bytes)) (λ top below h.
     let s = seen old.scan top below in
-    let same = opened_none (text_state old.scan.words text) (text_state c.open.new.self text) bytes c.open.result
-    c.if-opened-eq0.true (c.open.ensures.takes text) in
+    let words = text_state c.open-opened.new.self text in
+    let same = opened_none (text_state old.scan.words text) words bytes c.open-opened.result
+    c.if-opened-eq0.true (c.open-opened.ensures.takes text) in
     c.take_text.ensures.sees s (sees stands _ top below s h (ap (λ w. record s { words = w }) same)))
 
 pub returns-clause-sees : goal.returns-clause-sees
 returns-clause-sees g c =
     let stands = g.H.Handler.stands in
     let bytes = c.args.bytes.now in
-    let words = text_state c.open.new.self c.args.self.now.scan.text.items in
-    seeing stands c.args.self.now (λ s. TakenBy stands s _ bytes c.open.result) (λ top below h.
+    let text = c.args.self.now.scan.text.items in
+    let words = text_state c.open-opened.new.self text in
+    seeing stands c.args.self.now (λ s. TakenBy stands s _ bytes c.open-opened.result) (λ top below h.
     let s = seen c.args.self.now.scan top below in
     let new = seen c.at_text.new.self top below in
     record {
       state = new;
       sees = record { is = refl; holds = h };
-      taken = taken_opened s new words bytes c.open.result c.requires.inside c.open.ensures.within
-          c.if-opened-eq0.false (c.open.ensures.takes c.args.self.now.scan.text.items) (c.at_text.ensures top below);
+      taken = taken_opened s new words bytes c.open-opened.result c.requires.inside c.open-opened.ensures.within
+          c.if-opened-eq0.false (c.open-opened.ensures.takes text) (c.at_text.ensures top below);
     })
 
 pub returns-clause-place : goal.returns-clause-place
 returns-clause-place g c = (
   omega (arith, c.if-opened-eq0.false),
-  c.open.ensures.within,
+  c.open-opened.ensures.within,
   ap (λ s. s.at) (c.at_text.ensures nothing_open []) ∙ after_text-at _,
 )

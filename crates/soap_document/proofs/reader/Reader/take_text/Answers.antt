@@ -1,4 +1,4 @@
-use Rattle.std.proofs.Common.{◌+◌, [], get_or, refl, sym, ap, ◌∙◌, arith}
+use Rattle.std.proofs.Common.{[], get_or, refl, sym, ap, ◌∙◌, arith}
 use Rattle.soap_lex.specs.Readers.{text_state}
 use Rattle.soap_document.specs.Machine.{nothing_open, at_chars, counted}
 use Rattle.soap_document.specs.Seen.{seen, TakenBy}
