@@ -56,12 +56,11 @@ none_answer test bytes (Some k) b e found =
     )
 
 -- a search for a word's first byte
-pub lacks_first_answer : (bytes word : List ℕ) (r : Option ℕ) (b : Bool) → 0 < length word → is_some r ≡ not b
-    → IsFirstByte (is_byte (get_or word 0 0)) bytes r → IsTrue b → ¬ (Holds bytes word)
-lacks_first_answer bytes [] r b some e found is h = absurd (omega (arith, some))
-lacks_first_answer bytes (w ∷ word) r b some e found is h =
-    NonePass-lacks w bytes ((none_answer (is_byte w) bytes r b e found).0 is)
-    (record { before = h.before; after = word ++ h.after; there = h.there })
+pub lacks_word : (bytes word : List ℕ) → 0 < length word → ¬ (Holds bytes (get_or word 0 0 ∷ []))
+    → ¬ (Holds bytes word)
+lacks_word bytes [] some lacks h = absurd (omega (arith, some))
+lacks_word bytes (w ∷ word) some lacks h =
+    lacks (record { before = h.before; after = word ++ h.after; there = h.there })
 
 left_false : (a b : Bool) → (a || b) ≡ false → a ≡ false
 left_false true b e = e

@@ -10,7 +10,7 @@ ghost use Rattle.soap_lex.specs.Coded.{BeginsWithChar};
 ghost use Rattle.soap_lex.specs.Text.{IsCharData, IsCdata, IsComment};
 ghost use Rattle.soap_lex.specs.Value.{IsPlainValue};
 
-use memchr::{memchr, memchr2, memchr3, memmem};
+use memchr::{memchr2, memchr3, memmem};
 use std::str;
 use xml_chars::{is_char, is_name_char, is_name_start};
 
@@ -266,9 +266,27 @@ fn lacks_first(bytes: &[u8], word: &[u8]) -> bool
     ensures { IsTrue result → ¬ (Holds bytes.now word.now) }
 {
     match word {
-        [first, ..] => memchr(*first, bytes).is_none(),
+        [first, ..] => lacks_byte(bytes, *first),
         [] => false,
     }
+}
+
+// No byte is the other; no exit from the loop either.
+fn lacks_byte(bytes: &[u8], other: u8) -> bool
+    ensures { IsTrue result → ¬ (Holds bytes.now (other ∷ [])) }
+{
+    let mut lacks = true;
+    for byte in bytes {
+        lacks &= is_not(*byte, other);
+    }
+    lacks
+}
+
+#[inline]
+fn is_not(byte: u8, other: u8) -> bool
+    ensures { IsTrue result → byte ≢ other }
+{
+    byte != other
 }
 
 // No byte begins markup.
