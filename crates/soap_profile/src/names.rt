@@ -1,6 +1,7 @@
 //! Names, declarations and attributes of a start tag.
-ghost use Rattle.std.specs.Prelude.{◌≡◌, ℕ, List, [], ◌∷◌, ◌++◌, if◌then◌else◌, IfOk, OnOk, Some, None, map};
+ghost use Rattle.std.specs.Prelude.{◌≡◌, ℕ, List, [], ◌∷◌, ◌++◌, if◌then◌else◌, IfOk, OnOk, Some, None, map, true};
 ghost use Rattle.std.specs.Prelude.{option_map};
+ghost use Rattle.soap_profile.specs.Bare.{is_bare, are_bare};
 ghost use Rattle.soap_profile.specs.Items.{a_declaration, an_attribute};
 ghost use Rattle.soap_profile.specs.Namespaces.{
   split,
@@ -283,6 +284,34 @@ fn is_new(name: &[u8], attributes: &[WrittenAttribute]) -> bool
     attributes
         .iter()
         .all(|attribute| attribute.name.as_slice() != name)
+}
+
+/// These are more than a few attributes, none of which has a prefix.
+pub(crate) fn are_many_bare(attributes: &[WrittenAttribute]) -> bool
+    ensures { result ≡ true → are_bare attributes.now ≡ true }
+{
+    if attributes.len() <= FEW {
+        return false;
+    }
+    are_bare(attributes)
+}
+
+fn are_bare(attributes: &[WrittenAttribute]) -> bool
+    ensures { result ≡ are_bare attributes.now }
+{
+    attributes
+        .iter()
+        .all(|attribute| is_bare(attribute.name.as_slice()))
+}
+
+// A written name has no prefix.
+fn is_bare(name: &[u8]) -> bool
+    ensures { result ≡ is_bare name.now }
+{
+    match cut(b':', name) {
+        Some(_) => false,
+        None => true,
+    }
 }
 
 /// No two attributes among these have the same expanded name.
