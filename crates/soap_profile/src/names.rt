@@ -261,7 +261,7 @@ pub(crate) fn are_distinct(alloc: Global, attributes: &[WrittenAttribute]) -> Re
     for attribute in attributes {
         keys.push((attribute.name.as_slice(), b"".as_slice()))?;
     }
-    all_differ(alloc, &keys)
+    all_differ(keys)
 }
 
 // The same, each compared with each behind it.
@@ -330,7 +330,7 @@ pub(crate) fn are_distinct_names(alloc: Global, items: &[Item]) -> Result<bool, 
             keys.push((attr.name.local(), attr.name.space()))?;
         }
     }
-    all_differ(alloc, &keys)
+    all_differ(keys)
 }
 
 // The same, each compared with each behind it.
