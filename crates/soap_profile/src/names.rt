@@ -26,6 +26,7 @@ ghost use Rattle.soap_profile.specs.View.{items_view, decls_view, attrs_view};
 
 use crate::keys::all_differ;
 use crate::name::Name;
+use crate::pool::Pool;
 use crate::scope::Scope;
 use crate::shared::Shared;
 use crate::tree::{Attr, Declaration, Item};
@@ -164,6 +165,22 @@ fn attribute_space(prefix: &[u8], scope: &Scope) -> Result<Option<Shared>, Memor
     shared(prefix_space(prefix, scope))
 }
 
+// The name of these two parts, which may be one that was met before.
+fn named(
+    alloc: Global,
+    written: &[u8],
+    space: Shared,
+    local: &[u8],
+    pool: &Pool,
+) -> Result<Name, Memory>
+    ensures { IfOk result (λ name. name ≡ record { space = space; local = local.now }) }
+{
+    if let Some(name) = pool.same(written, space.as_slice(), local) {
+        return name.share();
+    }
+    Name::new(alloc, space, local)
+}
+
 /// The expanded name of an element.
 pub(crate) fn element_name(
     alloc: Global,
@@ -181,7 +198,7 @@ pub(crate) fn element_name(
     let Some(space) = element_space(prefix, scope)? else {
         return Ok(None);
     };
-    let name = Name::new(alloc, space, local)?;
+    let name = named(alloc, written, space, local, &scope.elements)?;
     scope.elements.keep(alloc, written, &name)?;
     Ok(Some(name))
 }
@@ -198,7 +215,7 @@ fn attribute_name(alloc: Global, written: &[u8], scope: &mut Scope) -> Result<Op
     let Some(space) = attribute_space(prefix, scope)? else {
         return Ok(None);
     };
-    let name = Name::new(alloc, space, local)?;
+    let name = named(alloc, written, space, local, &scope.attributes)?;
     scope.attributes.keep(alloc, written, &name)?;
     Ok(Some(name))
 }
