@@ -27,6 +27,7 @@ ghost use Rattle.soap_profile.specs.View.{items_view, decls_view, attrs_view};
 use crate::keys::all_differ;
 use crate::name::Name;
 use crate::pool::Pool;
+use crate::recent::Recent;
 use crate::scope::Scope;
 use crate::shared::Shared;
 use crate::tree::{Attr, Declaration, Item};
@@ -86,13 +87,14 @@ pub(crate) fn declarations(
     alloc: Global,
     attributes: &[WrittenAttribute],
     items: &mut Vec<Item>,
+    recent: &mut Recent,
 ) -> Result<bool, Memory>
     ensures { IfOk result (λ taken.
         option_map (λ decls. items_view items.old.items ++ map a_declaration decls) (declarations attributes.now)
         ≡ (if taken then Some (items_view items.new.items) else None)) }
 {
     for attribute in attributes {
-        if !declare(alloc, attribute, items)? {
+        if !declare(alloc, attribute, items, recent)? {
             return Ok(false);
         }
     }
@@ -104,6 +106,7 @@ fn declare(
     alloc: Global,
     attribute: &WrittenAttribute,
     items: &mut Vec<Item>,
+    recent: &mut Recent,
 ) -> Result<bool, Memory>
     ensures { IfOk result (Declares attribute.now (items_view items.old.items) (items_view items.new.items)) }
 {
@@ -116,7 +119,7 @@ fn declare(
     }
     items.push(Item::Declaration(Declaration {
         prefix: Bytes::from_slice(alloc, prefix)?,
-        space: Shared::from_slice(alloc, space)?,
+        space: recent.shared(alloc, space)?,
     }))?;
     Ok(true)
 }

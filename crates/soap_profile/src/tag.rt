@@ -75,7 +75,7 @@ fn full_tag(
         return Ok(None);
     }
     let mut items = items;
-    if !declarations(alloc, attributes, &mut items)? {
+    if !declarations(alloc, attributes, &mut items, &mut scope.recent)? {
         return Ok(None);
     }
     if !items.is_empty() {
