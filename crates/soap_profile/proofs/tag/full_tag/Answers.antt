@@ -27,7 +27,8 @@ entered c bindings h = elim c.if-not-is_empty.branch [
         attributes = c.args.scope.now.attributes;
         predeclared = c.args.scope.now.predeclared;
         recent = c.declarations.new.recent;
-      }) (decls_view xs ++ bindings)) (sym none) (record { stacks = h.stacks; elements = h.elements; attributes = h.attributes }))
+      }) (decls_view xs ++ bindings)) (sym none)
+      (record { stacks = h.stacks; elements = h.elements; attributes = h.attributes }))
 ]
 
 pub returns-clause-tag : goal.returns-clause-tag
