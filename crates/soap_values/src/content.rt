@@ -13,7 +13,7 @@ use std::alloc::Global;
 use std::borrow::CowSlice;
 use xml_chars::is_space;
 
-/// The text of content, which is copied only where it has to be put together. A child element makes it unreadable.
+/// The text of content, put together; it is lent where nothing else stands there. A child element makes it unreadable.
 pub fn read_text(alloc: Global, items: &[Item]) -> Result<CowSlice<'_, u8>, Flaw>
     ensures { Gives cow_slice_items result (text_among (parts_view items.now)) }
 {
