@@ -10,10 +10,12 @@ mod issued;
 pub mod laws;
 pub mod maker;
 mod note;
+pub mod peer;
 mod record;
 mod rows;
 pub mod tables;
 
 pub use error::TableError;
 pub use maker::Maker;
+pub use peer::{Asked, Grant, Peer};
 pub use tables::Tables;

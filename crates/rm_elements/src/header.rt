@@ -26,7 +26,7 @@ use soap_profile::{Element, Item};
 use std::alloc::Global;
 use wsa_headers::values::{
     Flaw, find_all, find_optional, find_single, find_value, is_true_mark, read_ident, read_number,
-    read_trimmed, trim,
+    read_text, read_trimmed, trim,
 };
 
 /// The namespace of WS-ReliableMessaging 1.2: section 1.2.
@@ -70,8 +70,8 @@ pub enum Header {
 fn ident_within(alloc: Global, element: &Element) -> Result<Ident, Flaw>
     ensures { Gives (λ ident. ident) result (ident_of (element_view element.now)) }
 {
-    let bytes = read_trimmed(alloc, element)?;
-    read_ident(alloc, bytes.as_slice())
+    let text = read_text(alloc, element.items.as_slice())?;
+    read_ident(alloc, trim(text.as_slice()))
 }
 
 #[tactic(auto, unfolding(crate::specs::Headers::identifier))]
@@ -101,8 +101,8 @@ fn number_from(bytes: &[u8]) -> Result<u64, Flaw>
 pub(crate) fn number_within(alloc: Global, element: &Element) -> Result<u64, Flaw>
     ensures { Gives (λ n. n) result (number_of (element_view element.now)) }
 {
-    let bytes = read_trimmed(alloc, element)?;
-    number_from(bytes.as_slice())
+    let text = read_text(alloc, element.items.as_slice())?;
+    number_from(trim(text.as_slice()))
 }
 
 // The number of a Sequence block, where the greatest u64 stands for all greater ones.

@@ -4,7 +4,9 @@ use Rattle.std.proofs.Common.{None, Result, Ok, Err, OnOk, length, get_or, take,
 use Rattle.std.proofs.Common.{arith, length-take, length-drop}
 use Rattle.memchr.specs.Find.{IsFirstByte}
 use Rattle.soap_lex.specs.TextMachine.{TextState, begun as begun_text, halts as text_halts, is_refused}
-use Rattle.soap_lex.specs.TextMachine.{to_stop as text_to_stop}
+use Rattle.soap_lex.specs.TextMachine.{to_stop as text_to_stop, Takes, stay, on}
+use Rattle.std.proofs.lemmas.Bool.{true≢false}
+use Rattle.std.proofs.lemmas.List.{take-append-drop}
 use Rattle.soap_lex.specs.ValueMachine.{ValueState, halts, to_stop}
 use Rattle.soap_document.specs.Machine.{State, chars, value_inner, at_chars, in_less, refuse, stops, after_token}
 use Rattle.soap_document.specs.Machine.{step, run, counted, after_text, after_value}
@@ -13,7 +15,7 @@ use Rattle.soap_document.proofs.Answer.{feed_step, feed_end, take_rest}
 use Rattle.soap_document.proofs.Places.{after_token-at, chars-at, in_less-at, after_text-at, after_value-at}
 use Rattle.soap_document.proofs.Steps.{at_tag, tag_begins}
 use Rattle.soap_document.proofs.Values.{fed}
-use Rattle.soap_document.proofs.Words.{refused_halts, fed as text_fed}
+use Rattle.soap_document.proofs.Words.{refused_halts, fed as text_fed, takes_on, behind}
 use Rattle.soap_lex.specs.TextStops.{still as text_still}
 use Rattle.soap_lex.specs.ValueStops.{fed_halted, still}
 
@@ -166,6 +168,42 @@ taken_text s new t bytes n e high some ends kept =
           ∙ ap (λ m. run (record s { mode = m }) bytes) (sym e);
       place = ap (λ (x : State). x.at + length rest) kept ∙ ap (λ k. k + length rest) (after_text-at next) ∙ place;
     }
+
+takes_open : {v w : TextState} {bytes : List ℕ} → Takes v bytes w → 0 < length bytes → (b : Bool) → is_refused v.mode
+    ≡ b → is_refused v.mode ≡ false
+takes_open (stay v) some b e = absurd (omega (arith, some))
+takes_open (on v c bytes w h m) some false e = e
+takes_open (on v c bytes w h m) some true e =
+    absurd (true≢false (sym (refused_halts v.mode (v.token ++ c ∷ []) e) ∙ h))
+
+-- what begins a comment or a CDATA section is taken at once
+pub taken_opened : (s new : State) (t : TextState) (bytes : List ℕ) (n : ℕ) → s.mode ≡ chars → n ≤ length bytes
+    → n ≢ 0 → Takes s.words (take n bytes) t → new ≡ after_text (record s { words = t; at = s.at + n })
+    → Taken s new bytes n
+taken_opened s new t bytes n e high some takes kept =
+    let rest : List ℕ = drop n bytes in
+    let left : length rest ≡ length bytes - n = length-drop n bytes in
+    let size : length (take n bytes) ≡ n = omega (arith, length-take n bytes, high) in
+    let place : s.at + n + length rest ≡ s.at + length bytes = omega (arith, left, high) in
+    let next : State = record s { words = t; at = s.at + n } in
+    let runs = takes_open takes (omega (arith, size, some)) (is_refused s.words.mode) refl in
+    record {
+      some = omega (arith, some);
+      within = high;
+      meaning = ap (λ x. run x rest) (kept ∙ ap (λ m. after_text (record next { mode = m })) e)
+          ∙ ap (λ k. run (behind s t (s.at + k)) rest) (sym size) ∙ sym (takes_on s takes runs s.at rest)
+          ∙ ap (run (record s { mode = chars })) (take-append-drop n bytes)
+          ∙ ap (λ m. run (record s { mode = m }) bytes) (sym e);
+      place = ap (λ (x : State). x.at + length rest) kept ∙ ap (λ k. k + length rest) (after_text-at next) ∙ place;
+    }
+
+takes_none : {v w : TextState} {bytes : List ℕ} → Takes v bytes w → length bytes ≡ 0 → w ≡ v
+takes_none (stay v) e = refl
+takes_none (on v c bytes w h m) e = absurd (omega (arith, e))
+
+pub opened_none : (v w : TextState) (bytes : List ℕ) (n : ℕ) → n ≡ 0 → Takes v (take n bytes) w → w ≡ v
+opened_none v w bytes n e takes =
+    takes_none takes (omega (arith, length-take n bytes, e))
 
 -- where nothing of it was taken, it ends before the first byte
 pub text_ends : (w t : TextState) (bytes : List ℕ) (n : ℕ) → 0 < length bytes

@@ -67,12 +67,16 @@ module _ (base : State) where
       ap (λ x. run x (c ∷ (bytes ++ rest))) (behind_open s at e) ∙ ap (λ x. run x (bytes ++ rest)) (text_next s at c h)
       ∙ moved m (is_refused next.mode) refl (at + 1) rest ∙ ap (λ p. run (behind w p) rest) (omega arith)
 
+  pub takes_on : {v w : TextState} {bytes : List ℕ} → Takes v bytes w → is_refused v.mode ≡ false
+      → (at : ℕ) (rest : List ℕ) → run (within v at) (bytes ++ rest) ≡ run (behind w (at + length bytes)) rest
+  takes_on {v} {w} {bytes} m e at rest =
+      ap (λ x. run x (bytes ++ rest)) (sym (behind_open v at e)) ∙ moved m false e at rest
+
   pub text_moves : {v w : TextState} {bytes : List ℕ} → Takes v bytes w → is_refused v.mode ≡ false
       → is_refused w.mode ≡ false → (at : ℕ) (rest : List ℕ)
       → run (within v at) (bytes ++ rest) ≡ run (within w (at + length bytes)) rest
   text_moves {v} {w} {bytes} m e f at rest =
-      ap (λ x. run x (bytes ++ rest)) (sym (behind_open v at e)) ∙ moved m false e at rest
-      ∙ ap (λ x. run x rest) (behind_open w (at + length bytes) f)
+      takes_on m e at rest ∙ ap (λ x. run x rest) (behind_open w (at + length bytes) f)
 
   -- what a piece does, up to the end of a token
   fed_on : (v w : TextState) (c : ℕ) (bytes rest : List ℕ) (q p : ℕ) (a b : Bool) → halts v c ≡ a

@@ -146,6 +146,43 @@ impl<H: Handler> Reader<H> {
         if bytes.len() > 1 && bytes[0] == b'<' && bytes[1] != b'!' && self.scan.words.is_fresh() {
             return self.take_less(bytes);
         }
+        if bytes[0] == b'!' {
+            return self.take_bang(bytes);
+        }
+        self.take_text(bytes)
+    }
+
+    // A !, behind which a comment or a CDATA section may begin; what begins it is taken at once.
+    fn take_bang(&mut self, bytes: &[u8]) -> Result<usize, Memory>
+        requires inside { mode_of self.old.scan.mode ≡ chars }
+        requires some { 0 < length bytes.now }
+        requires fits { self.old.scan.at + length bytes.now < 2 ^ 64 }
+        requires told { IsTold H.depth self.old }
+        ensures told { OnOk result (IsTold H.depth self.new) }
+        ensures place { IfOk result (λ n. (0 < n) × (n ≤ length bytes.now)
+            × (fed_len self.new ≡ fed_len self.old + n)) }
+        ensures sees { (s : State) → Sees H.stands self.old s → IfOk result (TakenBy H.stands s self.new bytes.now) }
+    {
+        let opened = self.scan.words.open(bytes);
+        if opened == 0 {
+            return self.take_text(bytes);
+        }
+        self.scan.at += opened;
+        self.scan.at_text();
+        Ok(opened)
+    }
+
+    // The same, of any text.
+    fn take_text(&mut self, bytes: &[u8]) -> Result<usize, Memory>
+        requires inside { mode_of self.old.scan.mode ≡ chars }
+        requires some { 0 < length bytes.now }
+        requires fits { self.old.scan.at + length bytes.now < 2 ^ 64 }
+        requires told { IsTold H.depth self.old }
+        ensures told { OnOk result (IsTold H.depth self.new) }
+        ensures place { IfOk result (λ n. (0 < n) × (n ≤ length bytes.now)
+            × (fed_len self.new ≡ fed_len self.old + n)) }
+        ensures sees { (s : State) → Sees H.stands self.old s → IfOk result (TakenBy H.stands s self.new bytes.now) }
+    {
         let Ok(taken) = self.scan.words.feed(bytes, &mut self.scan.text) else {
             return Err(Memory);
         };

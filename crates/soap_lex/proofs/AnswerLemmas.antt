@@ -55,6 +55,13 @@ none_answer test bytes (Some k) b e found =
       λ none. absurd (two_values (sym (fails_at test bytes k none high) ∙ found.1)),
     )
 
+-- a search for a word's first byte
+pub lacks_word : (bytes word : List ℕ) → 0 < length word → ¬ (Holds bytes (get_or word 0 0 ∷ []))
+    → ¬ (Holds bytes word)
+lacks_word bytes [] some lacks h = absurd (omega (arith, some))
+lacks_word bytes (w ∷ word) some lacks h =
+    lacks (record { before = h.before; after = word ++ h.after; there = h.there })
+
 left_false : (a b : Bool) → (a || b) ≡ false → a ≡ false
 left_false true b e = e
 left_false false b e = refl

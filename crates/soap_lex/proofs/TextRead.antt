@@ -11,7 +11,7 @@ use Rattle.soap_lex.specs.Tests
 use Rattle.soap_lex.specs.Tests.{begins, is_char_data, is_comment, is_cdata, without}
 use Rattle.soap_lex.specs.TextMachine.{TextMode, chars, referring, opening, commenting, quoting, refused, TextState}
 use Rattle.soap_lex.specs.TextMachine.{begun, stops, opens, halts_in, halts, longer, step, run, ended, with_rest}
-use Rattle.soap_lex.specs.TextMachine.{reads}
+use Rattle.soap_lex.specs.TextMachine.{reads, is_less_in, is_less}
 use Rattle.soap_lex.proofs.EndLemmas.{comment_open, cdata_open}
 use Rattle.soap_lex.proofs.ReferenceTests.{Referred, reference_passes}
 use Rattle.soap_lex.proofs.TestLemmas.{data_passes, data_bytes, comment_passes, cdata_passes}
@@ -116,26 +116,20 @@ module _ (text : List ℕ) where
       → step (in_mode quoting (bytes ++ codes "]]")) 62 ≡ begun (text ++ with_line_ends bytes)
   cdata_end bytes h = rw (without-append (codes "]]") bytes, cdata_passes bytes h)
 
-  -- behind the < of a comment, up to its end
-  comment_takes : (bytes : List ℕ) → IsComment bytes
-      → Takes (in_mode opening (60 ∷ [])) (codes "!--" ++ (bytes ++ codes "-->")) (begun text)
-  comment_takes bytes h =
-      let inside = comment_run [] (bytes ++ codes "--") (λ a b e. comment_open bytes a b h e) in
-      let last = one (in_mode commenting (bytes ++ codes "--")) (begun text) 62 refl (comment_end bytes h) in
-      byte (in_mode opening (60 ∷ [])) (in_mode opening (codes "<!")) (begun text) 33 _ refl refl
-      (byte (in_mode opening (codes "<!")) (in_mode opening (codes "<!-")) (begun text) 45 _ refl refl
-      (byte (in_mode opening (codes "<!-")) (in_mode commenting []) (begun text) 45 _ refl refl
-      (over (append_assoc bytes (codes "--") (codes ">")) (then inside last))))
-
-  -- behind the < of a CDATA section, up to its end
-  cdata_takes : (bytes : List ℕ) → IsCdata bytes
-      → Takes (in_mode opening (60 ∷ [])) (codes "![CDATA[" ++ (bytes ++ codes "]]>"))
-      (begun (text ++ with_line_ends bytes))
-  cdata_takes bytes h =
-      let end = begun (text ++ with_line_ends bytes) in
+  -- behind a <, what begins a comment
+  pub comment_begins : Takes (in_mode opening (codes "<")) (codes "!--") (in_mode commenting [])
+  comment_begins =
+      let end = in_mode commenting [] in
       let at : List ℕ → TextState = in_mode opening in
-      let inside = cdata_run [] (bytes ++ codes "]]") (λ a b e. cdata_open bytes a b h e) in
-      let last = one (in_mode quoting (bytes ++ codes "]]")) end 62 refl (cdata_end bytes h) in
+      byte (at (codes "<")) (at (codes "<!")) end 33 _ refl refl
+      (byte (at (codes "<!")) (at (codes "<!-")) end 45 _ refl refl
+      (one (at (codes "<!-")) end 45 refl refl))
+
+  -- behind a <, what begins a CDATA section
+  pub cdata_begins : Takes (in_mode opening (codes "<")) (codes "![CDATA[") (in_mode quoting [])
+  cdata_begins =
+      let end = in_mode quoting [] in
+      let at : List ℕ → TextState = in_mode opening in
       byte (at (codes "<")) (at (codes "<!")) end 33 _ refl refl
       (byte (at (codes "<!")) (at (codes "<![")) end 91 _ refl refl
       (byte (at (codes "<![")) (at (codes "<![C")) end 67 _ refl refl
@@ -143,8 +137,42 @@ module _ (text : List ℕ) where
       (byte (at (codes "<![CD")) (at (codes "<![CDA")) end 65 _ refl refl
       (byte (at (codes "<![CDA")) (at (codes "<![CDAT")) end 84 _ refl refl
       (byte (at (codes "<![CDAT")) (at (codes "<![CDATA")) end 65 _ refl refl
-      (byte (at (codes "<![CDATA")) (in_mode quoting []) end 91 _ refl refl
-      (over (append_assoc bytes (codes "]]") (codes ">")) (then inside last)))))))))
+      (one (at (codes "<![CDATA")) end 91 refl refl)))))))
+
+  -- behind the < of a comment, up to its end
+  comment_takes : (bytes : List ℕ) → IsComment bytes
+      → Takes (in_mode opening (60 ∷ [])) (codes "!--" ++ (bytes ++ codes "-->")) (begun text)
+  comment_takes bytes h =
+      let inside = comment_run [] (bytes ++ codes "--") (λ a b e. comment_open bytes a b h e) in
+      let last = one (in_mode commenting (bytes ++ codes "--")) (begun text) 62 refl (comment_end bytes h) in
+      then comment_begins (over (append_assoc bytes (codes "--") (codes ">")) (then inside last))
+
+  -- behind the < of a CDATA section, up to its end
+  cdata_takes : (bytes : List ℕ) → IsCdata bytes
+      → Takes (in_mode opening (60 ∷ [])) (codes "![CDATA[" ++ (bytes ++ codes "]]>"))
+      (begun (text ++ with_line_ends bytes))
+  cdata_takes bytes h =
+      let end = begun (text ++ with_line_ends bytes) in
+      let inside = cdata_run [] (bytes ++ codes "]]") (λ a b e. cdata_open bytes a b h e) in
+      let last = one (in_mode quoting (bytes ++ codes "]]")) end 62 refl (cdata_end bytes h) in
+      then cdata_begins (over (append_assoc bytes (codes "]]") (codes ">")) (then inside last))
+
+  -- the state, where a < was read last
+  less_is : (mode : TextMode) (token : List ℕ) → is_less_in mode token ≡ true
+      → in_mode opening (codes "<") ≡ in_mode mode token
+  less_is chars token e = cc
+  less_is referring token e = cc
+  less_is opening token e = ap (in_mode opening) (sym (same token (codes "<") e))
+  less_is commenting token e = cc
+  less_is quoting token e = cc
+  less_is refused token e = cc
+
+  -- a word is taken where a < was read last
+  pub begins_at : (s t u : TextState) (a b : List ℕ) → s.text ≡ text → is_less s ≡ true
+      → Takes (in_mode opening (codes "<")) a t → b ≡ a → u ≡ t → Takes s b u
+  begins_at s t u a b f e m over_b at_u =
+      let here : in_mode opening (codes "<") ≡ s = less_is s.mode s.token e ∙ ap (λ x. record s { text = x }) (sym f) in
+      subst (λ x. Takes x b u) here (over (sym over_b) (retarget (sym at_u) m))
 
 -- character data ends before a < or a reference
 less_step : (text token : List ℕ) → is_char_data token ≡ true

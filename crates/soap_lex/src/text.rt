@@ -21,6 +21,8 @@ ghost use Rattle.soap_lex.specs.TextMachine.{
   is_less,
   is_refused,
   cdata_meaning,
+  text_in,
+  Takes,
 };
 ghost use Rattle.soap_lex.specs.Readers.{text_state, text_mode};
 
@@ -90,6 +92,27 @@ impl TextReader {
         Ok(end + 1)
     }
 
+    /// Where a `<` was read last and the piece goes on to a comment or a CDATA section, takes what begins it at once,
+    /// and says how many bytes these are. It takes none elsewhere.
+    pub fn open(&mut self, piece: &[u8]) -> usize
+        ensures within { result ≤ length piece.now }
+        ensures takes { (text : List ℕ)
+            → Takes (text_state self.old text) (take result piece.now) (text_state self.new text) }
+    {
+        if !self.is_less() {
+            return 0;
+        }
+        if begins_comment(piece) {
+            self.begin(TextMode::Commenting);
+            return 3;
+        }
+        if begins_cdata(piece) {
+            self.begin(TextMode::Quoting);
+            return 8;
+        }
+        0
+    }
+
     /// Appends what is still to be appended where the text ends, and says how many of the last bytes are no more of it;
     /// none where it was no text.
     pub fn finish(self, out: &mut Vec<u8>) -> Result<Option<usize>, Memory>
@@ -129,6 +152,14 @@ impl TextReader {
         ensures { (text : List ℕ) → IsTrue result ↔ (text_state self.now text ≡ begun text) }
     {
         self.mode == TextMode::Chars && self.token.is_empty()
+    }
+
+    // Nothing is read yet of what this mode reads.
+    fn begin(&mut self, mode: TextMode)
+        ensures { (text : List ℕ) → text_state self.new text ≡ text_in text (text_mode mode) [] }
+    {
+        self.mode = mode;
+        self.token.clear();
     }
 
     // Nothing more is read before this byte.
@@ -355,6 +386,30 @@ fn opens(token: &[u8], byte: u8) -> bool
     match token {
         [first] => *first == b'<' && byte == b'!',
         _ => goes_on(b"<!--", token, byte) || goes_on(b"<![CDATA[", token, byte),
+    }
+}
+
+// Behind a <, a comment begins.
+#[inline]
+fn begins_comment(bytes: &[u8]) -> bool
+    ensures within { IsTrue result → 3 ≤ length bytes.now }
+    ensures word { IsTrue result → take 3 bytes.now ≡ codes "!--" }
+{
+    match bytes {
+        [b'!', b'-', b'-', ..] => true,
+        _ => false,
+    }
+}
+
+// Behind a <, a CDATA section begins.
+#[inline]
+fn begins_cdata(bytes: &[u8]) -> bool
+    ensures within { IsTrue result → 8 ≤ length bytes.now }
+    ensures word { IsTrue result → take 8 bytes.now ≡ codes "![CDATA[" }
+{
+    match bytes {
+        [b'!', b'[', b'C', b'D', b'A', b'T', b'A', b'[', ..] => true,
+        _ => false,
     }
 }
 

@@ -255,7 +255,38 @@ fn is_plain(byte: u8) -> bool
 fn lacks(bytes: &[u8], word: &[u8]) -> bool
     ensures { IsTrue result ↔ ¬ (Holds bytes.now word.now) }
 {
+    if lacks_first(bytes, word) {
+        return true;
+    }
     memmem::find(bytes, word).is_none()
+}
+
+// No byte is the word's first, which is sooner found out than that the word stands nowhere.
+fn lacks_first(bytes: &[u8], word: &[u8]) -> bool
+    ensures { IsTrue result → ¬ (Holds bytes.now word.now) }
+{
+    match word {
+        [first, ..] => lacks_byte(bytes, *first),
+        [] => false,
+    }
+}
+
+// No byte is the other; no exit from the loop either.
+fn lacks_byte(bytes: &[u8], other: u8) -> bool
+    ensures { IsTrue result → ¬ (Holds bytes.now (other ∷ [])) }
+{
+    let mut lacks = true;
+    for byte in bytes {
+        lacks &= is_not(*byte, other);
+    }
+    lacks
+}
+
+#[inline]
+fn is_not(byte: u8, other: u8) -> bool
+    ensures { IsTrue result → byte ≢ other }
+{
+    byte != other
 }
 
 // No byte begins markup.

@@ -1,21 +1,28 @@
 -- Keys that all differ.
-use Rattle.std.proofs.Common.{◌≡◌, inl, inr, ℕ, ◌+◌, ◌<◌, ◌≤◌, Result, Ok, Err, IfOk, List, [], ◌∷◌, ◌++◌, Bool, true}
-use Rattle.std.proofs.Common.{false, not, ◌&&◌, ◌||◌, cond, map, take, drop, length, get_or, Ordering, Less, Equal}
-use Rattle.std.proofs.Common.{Greater, nat_cmp, is_eq, refl, sym, ap, ap₂, ◌∙◌, drop-cons, arith}
-use Rattle.std.proofs.Math.Numerals.{add-one}
-use Rattle.std.proofs.lemmas.List.{take-append-drop, take_more, take_all, map-append, append-nil}
+use Rattle.std.proofs.Common.{◌≡◌, ℕ, ◌+◌, ◌<◌, ◌≤◌, Result, Ok, Err, IfOk, List, [], ◌∷◌, ◌++◌, Bool, true}
+use Rattle.std.proofs.Common.{false, not, ◌&&◌, cond, map, take, length, get_or, Ordering, Less, Equal}
+use Rattle.std.proofs.Common.{Greater, nat_cmp, is_eq, refl, sym, ap, ap₂, ◌∙◌, subst, arith}
+use Rattle.std.proofs.lemmas.List.{take_more, take_all, map-append, append-nil}
 use Rattle.std.specs.Cmp.Lexicographic.{slice_cmp}
-use Rattle.std.specs.List.{list_all, list_any}
-use Rattle.std.specs.Ordering.{ordering_then}
+use Rattle.std.specs.Cmp.{IsTotalOrder}
+use Rattle.std.specs.List.{list_all, dedup, dedup_from, AllByRecursion, IsDistinct}
+use Rattle.std.specs.List.Sorted.{IsPermutation, IsSorted, IsStrictlySortedBy}
+use Rattle.std.specs.Ordering.{ordering_then, eq_by_cmp}
 use Rattle.std.specs.Str.{bytes_eq}
 use Rattle.std.proofs.Math.Bool.{and-true}
-use Rattle.std.proofs.lemmas.Bool.{and_parts, and_from, or_cases, true≢false}
+use Rattle.std.proofs.lemmas.Bool.{and_parts, and_from, true≢false}
+use Rattle.std.proofs.lemmas.Cmp.{then_total, on_total, nat_list_cmp_total, eq_by_cmp_equiv}
+use Rattle.std.proofs.lemmas.List.Kept.{IsStrictlySortedBy-dedup}
+use Rattle.std.proofs.lemmas.List.Sorted.{IsPermutation-sym}
+use Rattle.std.proofs.lemmas.Map.Keys.{IsDistinct-from_sorted, IsDistinct-head, IsDistinct-tail, IsDistinct-cons}
+use Rattle.std.proofs.lemmas.Map.Keys.{IsDistinct-IsPermutation}
 use Rattle.std.proofs.lemmas.Map.Text.{is_eq-slice_cmp}
 use Rattle.std.proofs.lemmas.Slice.Eq.{bytes_eq-Decides}
 use Rattle.soap_document.specs.declared.attribute.WrittenAttribute.{WrittenAttribute}
 use Rattle.soap_profile.proofs.Items.{item_attribute, items_push, attrs-append}
 use Rattle.soap_profile.specs.Items.{Item, a_declaration, an_attribute, a_text, a_child, attrs_among}
 use Rattle.soap_profile.specs.Keys.{Key, Lent, same_key, differ, key_of, keys_of}
+use Rattle.soap_profile.specs.Keys.{neighbours_differ}
 use Rattle.soap_profile.specs.Namespaces.{is_new, are_distinct, is_other, is_new_name, are_distinct_names}
 use Rattle.soap_profile.specs.Tree.{Attr, Element, Name}
 use Rattle.soap_profile.specs.View.{item_step, element_step, item_view, element_view, items_view, attrs_view}
@@ -50,54 +57,95 @@ cmp_same k q =
     ∙ ap₂ (λ x y. x && y) (is_eq-slice_cmp k.0.now q.0.now ∙ turned k.0.now q.0.now) (is_eq-slice_cmp k.1.now
     q.1.now ∙ turned k.1.now q.1.now)
 
--- ---- one key more
+-- ---- in order
 
-any_more : (p : Key → Bool) (xs : List Key) (x : Key) → list_any p (xs ++ x ∷ []) ≡ (p x || list_any p xs)
-any_more p [] x = refl
-any_more p (y ∷ xs) x = ap (λ b. p y || b) (any_more p xs x) ∙ swap_or (p y) (p x) (list_any p xs)
-  where
-    swap_or : (a b c : Bool) → (a || (b || c)) ≡ (b || (a || c))
-    swap_or true true c = refl
-    swap_or true false c = refl
-    swap_or false b c = refl
+lent_total : IsTotalOrder lent_cmp
+lent_total = then_total (on_total (λ (x : Lent). x.0.now) nat_list_cmp_total)
+    (on_total (λ (x : Lent). x.1.now) nat_list_cmp_total)
 
-all_more : (p : Key → Bool) (xs : List Key) (x : Key) → list_all p xs ≡ true → p x ≡ true
-    → list_all p (xs ++ x ∷ []) ≡ true
-all_more p [] x h e = rw e
-all_more p (y ∷ xs) x h e = let (here, later) = and_parts (p y) (list_all p xs) h in rw (here, all_more p xs x later e)
+abbrev Same : Lent → Lent → Bool
+Same = eq_by_cmp lent_cmp
 
-or_none : (a b : Bool) → (a || b) ≡ false → (a ≡ false) × (b ≡ false)
-or_none true b e = cc
-or_none false b e = (refl, e)
+flips : (x y : Lent) → Same x y ≡ Same y x
+flips x y = (eq_by_cmp_equiv lent_total).symm x y
 
--- a key that no earlier one is
-pub differ_more : (xs : List Key) (x : Key) → differ xs ≡ true → list_any (λ k. same_key k x) xs ≡ false
-    → differ (xs ++ x ∷ []) ≡ true
-differ_more [] x h e = refl
-differ_more (y ∷ xs) x h e =
-    let (here, later) = and_parts (list_all (λ o. not (same_key y o)) xs) (differ xs) h in
-    let (first, others) = or_none (same_key y x) (list_any (λ k. same_key k x) xs) e in
-    and_from _ _ (all_more (λ o. not (same_key y o)) xs x here (ap not first)) (differ_more xs x later others)
+not_true : (b : Bool) → not b ≡ true → b ≡ false
+not_true true e = cc
+not_true false e = refl
 
-all_fails : (p : Key → Bool) (xs ys : List Key) (x : Key) → p x ≡ false → list_all p (xs ++ x ∷ ys) ≡ false
-all_fails p [] ys x e = rw e
-all_fails p (y ∷ xs) ys x e = rw (all_fails p xs ys x e) (and_none (p y))
-  where
-    and_none : (b : Bool) → (b && false) ≡ false
-    and_none true = refl
-    and_none false = refl
+-- this key is another than all of these, as the definition says it, and as std does
+others_from : (x : Lent) (keys : List Lent) → list_all (λ o. not (same_key (key_of x) o)) (keys_of keys) ≡ true
+    → AllByRecursion (λ y. Same x y ≡ false) keys
+others_from x [] h = tt
+others_from x (y ∷ keys) h =
+    let (here, later) = and_parts (not (same_key (key_of x) (key_of y)))
+    (list_all (λ o. not (same_key (key_of x) o)) (keys_of keys)) h in
+    (cmp_same x y ∙ not_true _ here, others_from x keys later)
 
--- a key that an earlier one is
-pub differ_not : (xs ys : List Key) (x : Key) → list_any (λ k. same_key k x) xs ≡ true → differ (xs ++ x ∷ ys) ≡ false
-differ_not [] ys x e = cc
-differ_not (y ∷ xs) ys x e = elim (or_cases (same_key y x) (list_any (λ k. same_key k x) xs) e) [
-  | inl here ↦ ap (λ b. b && differ (xs ++ x ∷ ys)) (all_fails (λ o. not (same_key y o)) xs ys x (ap not here))
-  | inr later ↦ rw (differ_not xs ys x later) (and_none (list_all (λ o. not (same_key y o)) (xs ++ x ∷ ys)))
-]
-  where
-    and_none : (b : Bool) → (b && false) ≡ false
-    and_none true = refl
-    and_none false = refl
+others_to : (x : Lent) (keys : List Lent) → AllByRecursion (λ y. Same x y ≡ false) keys
+    → list_all (λ o. not (same_key (key_of x) o)) (keys_of keys) ≡ true
+others_to x [] h = refl
+others_to x (y ∷ keys) h = and_from _ _ (ap not (sym (cmp_same x y) ∙ h.0)) (others_to x keys h.1)
+
+IsDistinct-nil : (same : Lent → Lent → Bool) → IsDistinct same []
+unfolding IsDistinct
+IsDistinct-nil same = tt
+
+distinct_from : (keys : List Lent) → differ (keys_of keys) ≡ true → IsDistinct Same keys
+distinct_from [] h = IsDistinct-nil Same
+distinct_from (x ∷ keys) h =
+    let (here, later) = and_parts (list_all (λ o. not (same_key (key_of x) o)) (keys_of keys))
+    (differ (keys_of keys)) h in
+    IsDistinct-cons Same x keys (others_from x keys here) (distinct_from keys later)
+
+distinct_to : (keys : List Lent) → IsDistinct Same keys → differ (keys_of keys) ≡ true
+distinct_to [] h = refl
+distinct_to (x ∷ keys) h =
+    and_from _ _ (others_to x keys (IsDistinct-head Same x keys h)) (distinct_to keys (IsDistinct-tail Same x keys h))
+
+-- where no neighbours are the same, nothing is left out
+kept : (x : Lent) (keys : List Lent) → neighbours_differ (key_of x ∷ keys_of keys) ≡ true
+    → dedup_from Same x keys ≡ x ∷ keys
+kept x [] h = refl
+kept x (y ∷ keys) h =
+    let (here, later) = and_parts (not (same_key (key_of x) (key_of y)))
+    (neighbours_differ (key_of y ∷ keys_of keys)) h in
+    ap (λ b. cond b (dedup_from Same x keys) (x ∷ dedup_from Same y keys)) (flips y x ∙ cmp_same x y
+    ∙ not_true _ here) ∙ ap (λ (l : List Lent). x ∷ l) (kept y keys later)
+
+kept_all : (keys : List Lent) → neighbours_differ (keys_of keys) ≡ true → dedup Same keys ≡ keys
+kept_all [] h = refl
+kept_all (x ∷ keys) h = kept x keys h
+
+neighbours_from : (keys : List Lent) → differ (keys_of keys) ≡ true → neighbours_differ (keys_of keys) ≡ true
+neighbours_from [] h = refl
+neighbours_from (x ∷ []) h = refl
+neighbours_from (x ∷ y ∷ keys) h =
+    let (here, later) = and_parts (list_all (λ o. not (same_key (key_of x) o)) (keys_of (y ∷ keys)))
+    (differ (keys_of (y ∷ keys))) h in
+    let (first, others) = and_parts (not (same_key (key_of x) (key_of y)))
+    (list_all (λ o. not (same_key (key_of x) o)) (keys_of keys)) here in
+    and_from _ _ first (neighbours_from (y ∷ keys) later)
+
+-- keys in order, in which no neighbours are the same, all differ
+neighbours_to : (keys : List Lent) → IsSorted lent_cmp keys → neighbours_differ (keys_of keys) ≡ true
+    → IsDistinct Same keys
+neighbours_to keys s h =
+    IsDistinct-from_sorted lent_cmp keys (subst (λ (xs : List Lent). IsStrictlySortedBy lent_cmp xs) (kept_all keys h)
+    (IsStrictlySortedBy-dedup lent_total (λ x y. refl) keys s))
+
+alike : (a b : Bool) → (a ≡ true → b ≡ true) → (b ≡ true → a ≡ true) → a ≡ b
+alike true b f g = sym (f refl)
+alike false true f g = g refl
+alike false false f g = refl
+
+pub sorted_differ : (keys sorted : List Lent) → IsPermutation keys sorted → IsSorted lent_cmp sorted
+    → neighbours_differ (keys_of sorted) ≡ differ (keys_of keys)
+sorted_differ keys sorted p s = alike _ _
+    (λ h. distinct_to keys (IsDistinct-IsPermutation Same flips sorted keys (IsPermutation-sym keys sorted p)
+    (neighbours_to sorted s h)))
+    (λ h. neighbours_from sorted (distinct_to sorted (IsDistinct-IsPermutation Same flips keys sorted p
+    (distinct_from keys h))))
 
 -- ---- attributes
 
@@ -207,62 +255,7 @@ keys_other items i d keys h e n k =
     k ∙ ap (map name_key) (sym (attrs_more items i d h
     ∙ ap (λ (xs : List Attr). attrs_view (take i items) ++ xs) none ∙ append-nil (attrs_view (take i items))))
 
--- ---- the keys at places
-
-around : (keys : List Lent) (i : ℕ) (d : Lent) → i < length keys → keys_of keys
-    ≡ keys_of (take i keys) ++ key_of (get_or keys i d) ∷ keys_of (drop (i + 1) keys)
-around keys i d h = ap keys_of (sym (take-append-drop i keys)
-    ∙ ap (λ (x : List Lent). take i keys ++ x) (rw add-one (drop-cons keys i d h)))
-    ∙ keys-append (take i keys) (get_or keys i d ∷ drop (i + 1) keys)
-
-keys_more : (keys : List Lent) (i : ℕ) (d : Lent) → i < length keys → keys_of (take (i + 1) keys)
-    ≡ keys_of (take i keys) ++ key_of (get_or keys i d) ∷ []
-keys_more keys i d h = ap keys_of (take_more keys i d h) ∙ keys-snoc (take i keys) (get_or keys i d)
-  where
-    keys-snoc : (xs : List Lent) (x : Lent) → keys_of (xs ++ x ∷ []) ≡ keys_of xs ++ key_of x ∷ []
-    keys-snoc [] x = refl
-    keys-snoc (y ∷ xs) x = ap (λ (l : List Key). key_of y ∷ l) (keys-snoc xs x)
-
-not_is : (b c : Bool) → c ≡ not b → c ≡ false → b ≡ true
-not_is true c e f = refl
-not_is false c e f = let x : not false ≡ false = sym e ∙ f in cc
-
-not_isnt : (b c : Bool) → c ≡ not b → c ≡ true → b ≡ false
-not_isnt false c e f = refl
-not_isnt true c e f = let x : not true ≡ true = sym e ∙ f in cc
-
-abbrev Met : (Lent → Bool) → List Key → Type 0
-Met has keys = (q : Lent) → has q ≡ list_any (λ k. same_key k (key_of q)) keys
-
-pub met_before : (keys : List Lent) (i : ℕ) (d : Lent) (has : Lent → Bool) (added : Bool) → i < length keys
-    → Met has (keys_of (take i keys)) → added ≡ not (has (get_or keys i d)) → added ≡ false → false
-    ≡ differ (keys_of keys)
-met_before keys i d has added h met e f =
-    sym (ap differ (around keys i d h) ∙ differ_not (keys_of (take i keys)) (keys_of (drop (i + 1) keys)) (key_of
-    (get_or keys i d)) (sym (met (get_or keys i d)) ∙ not_is (has (get_or keys i d)) added e f))
-
-pub apart_more : (keys : List Lent) (i : ℕ) (d : Lent) (has : Lent → Bool) (added : Bool) → i < length keys
-    → Met has (keys_of (take i keys)) → differ (keys_of (take i keys)) ≡ true → added ≡ not (has (get_or keys i d))
-    → added ≡ true
-    → differ (keys_of (take (i + 1) keys)) ≡ true
-apart_more keys i d has added h met apart e f =
-    ap differ (keys_more keys i d h) ∙ differ_more (keys_of (take i keys)) (key_of (get_or keys i d)) apart (sym
-    (met (get_or keys i d)) ∙ not_isnt (has (get_or keys i d)) added e f)
-
-or_cond : (b c : Bool) → cond b true c ≡ (b || c)
-or_cond true c = refl
-or_cond false c = refl
-
-pub met_more : (keys : List Lent) (i : ℕ) (d : Lent) (has new : Lent → Bool) → i < length keys
-    → Met has (keys_of (take i keys))
-    → ((q : Lent) → new q ≡ cond (is_eq (lent_cmp (get_or keys i d) q)) true (has q))
-    → Met new (keys_of (take (i + 1) keys))
-met_more keys i d has new h met updates q =
-    let x = get_or keys i d in
-    updates q ∙ ap₂ (λ b c. cond b true c) (cmp_same x q) (met q)
-    ∙ or_cond (same_key (key_of x) (key_of q)) (list_any (λ k. same_key k (key_of q)) (keys_of (take i keys)))
-    ∙ sym (any_more (λ k. same_key k (key_of q)) (keys_of (take i keys)) (key_of x))
-    ∙ ap (list_any (λ k. same_key k (key_of q))) (sym (keys_more keys i d h))
+-- ---- answers
 
 pub same_answer : {E : Type 0} (r : Result Bool E) (x y : Bool) → IfOk r (λ answer. answer ≡ x) → x ≡ y
     → IfOk r (λ answer. answer ≡ y)

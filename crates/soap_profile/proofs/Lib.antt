@@ -1,3 +1,4 @@
+pub mod Bare
 pub mod Distinct
 pub mod Items
 pub mod Listing

@@ -1,7 +1,6 @@
 -- What a resolver stands for, by its open elements.
 use Rattle.std.proofs.Common.{◌≡◌, ◌≢◌, ℕ, List, [], ◌∷◌, ◌++◌, true, false, Option, Some, None, IfSome, option_map}
-use Rattle.std.proofs.Common.{map, reverse, nat_eq, length, refl, sym, ap, subst, ◌∙◌, arith}
-use Rattle.std.proofs.lemmas.Bool.{eqb-true}
+use Rattle.std.proofs.Common.{map, reverse, nat_eq, length, refl, sym, ap, subst, ◌∙◌}
 use Rattle.std.proofs.lemmas.List.{append-nil, map-append, reverse-append}
 use Rattle.std.specs.Option.{option_to_list}
 use Rattle.soap_document.specs.Machine.{Frame, with_parts}

@@ -3,9 +3,11 @@ use Rattle.std.proofs.Common.{◌≡◌, ℕ, List, [], ◌++◌, Bool, true, fa
 use Rattle.std.proofs.Common.{Ok, Err, IfOk, OnOk, IfSome, map, refl, ◌∷◌, sym, ap, subst, option_map, ◌∙◌}
 use Rattle.std.proofs.lemmas.List.{append-nil}
 use Rattle.soap_document.specs.declared.attribute.WrittenAttribute.{WrittenAttribute}
+use Rattle.soap_profile.proofs.Bare.{distinct_bare}
 use Rattle.soap_profile.proofs.Items.{item_attribute, items_push, decls-append, attrs-append, parts-append}
 use Rattle.soap_profile.proofs.Items.{decls-declarations, attrs-declarations, parts-declarations, decls-attributes}
 use Rattle.soap_profile.proofs.Items.{attrs-attributes, parts-attributes}
+use Rattle.soap_profile.specs.Bare.{are_bare}
 use Rattle.soap_profile.specs.Items.{Item, a_declaration, an_attribute, decls_among, attrs_among, parts_among}
 use Rattle.soap_profile.specs.Namespaces.{Resolved, split, named, declarations, element_name, resolved_with, tag_of}
 use Rattle.soap_profile.specs.Namespaces.{expanded, are_distinct, are_distinct_names}
@@ -74,6 +76,21 @@ tag_resolved decls wanted found old new name taken distinct o w f t d =
     let all = view ∙ ap (λ (xs : List Item). xs ++ map an_attribute attrs) o in
     let (ds, (ats, ps)) = seen decls attrs (items_view new) all in
     cc (resolved_as decls wanted found name attrs distinct w is (ap are_distinct_names (sym ats) ∙ d))
+
+-- the same of attributes without prefixes whose written names are distinct
+pub tag_bare : (scope decls : List Binding) (attributes : List WrittenAttribute) (wanted : Option Name)
+    (old new : List CodeItem) (name : Name) (taken : Bool) → items_view old ≡ map a_declaration decls
+    → wanted ≡ Some name → option_map (λ (attrs : List Attr). items_view old ++ map an_attribute attrs)
+    (expanded scope attributes) ≡ (if taken then Some (items_view new) else None) → taken ≡ true
+    → are_bare attributes ≡ true → are_distinct attributes ≡ true
+    → Some (element name (decls_view new) (attrs_view new) (parts_view new))
+    ≡ option_map start_tag (resolved_with decls wanted (expanded scope attributes))
+tag_bare scope decls attributes wanted old new name taken o w f t b d =
+    let (attrs, (is, view)) = attributes_of taken (items_view old) (items_view new) (expanded scope attributes) f t in
+    let all = view ∙ ap (λ (xs : List Item). xs ++ map an_attribute attrs) o in
+    let (ds, (ats, ps)) = seen decls attrs (items_view new) all in
+    tag_resolved decls wanted (expanded scope attributes) old new name taken true o w f t
+    (ap are_distinct_names ats ∙ distinct_bare scope attributes attrs b d is)
 
 -- ---- a tag with declarations
 

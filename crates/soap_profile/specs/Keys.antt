@@ -17,6 +17,16 @@ abbrev pub differ : List Key → Bool
 differ [] = true
 differ (key ∷ keys) = list_all (λ other. not (same_key key other)) keys && differ keys
 
+-- the first key is another than this
+abbrev pub starts_other : Key → List Key → Bool
+starts_other key [] = true
+starts_other key (first ∷ keys) = not (same_key key first)
+
+-- no key stands right behind the same
+abbrev pub neighbours_differ : List Key → Bool
+neighbours_differ [] = true
+neighbours_differ (key ∷ keys) = starts_other key keys && neighbours_differ keys
+
 -- the references to the parts of a key
 abbrev pub Lent : Type 0
 Lent = Bor (List ℕ) × Bor (List ℕ)

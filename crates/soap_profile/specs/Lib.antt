@@ -1,4 +1,5 @@
 pub mod Answer
+pub mod Bare
 pub mod Document
 pub mod Items
 pub mod Keys

@@ -14,6 +14,7 @@ pub mod place;
 mod pool;
 mod predeclared;
 pub mod read;
+mod recent;
 mod resolver;
 mod scope;
 pub mod shared;

@@ -1,6 +1,7 @@
 //! Names, declarations and attributes of a start tag.
-ghost use Rattle.std.specs.Prelude.{◌≡◌, ℕ, List, [], ◌∷◌, ◌++◌, if◌then◌else◌, IfOk, OnOk, Some, None, map};
+ghost use Rattle.std.specs.Prelude.{◌≡◌, ℕ, List, [], ◌∷◌, ◌++◌, if◌then◌else◌, IfOk, OnOk, Some, None, map, true};
 ghost use Rattle.std.specs.Prelude.{option_map};
+ghost use Rattle.soap_profile.specs.Bare.{is_bare, are_bare};
 ghost use Rattle.soap_profile.specs.Items.{a_declaration, an_attribute};
 ghost use Rattle.soap_profile.specs.Namespaces.{
   split,
@@ -25,6 +26,8 @@ ghost use Rattle.soap_profile.specs.View.{items_view, decls_view, attrs_view};
 
 use crate::keys::all_differ;
 use crate::name::Name;
+use crate::pool::Pool;
+use crate::recent::Recent;
 use crate::scope::Scope;
 use crate::shared::Shared;
 use crate::tree::{Attr, Declaration, Item};
@@ -84,13 +87,14 @@ pub(crate) fn declarations(
     alloc: Global,
     attributes: &[WrittenAttribute],
     items: &mut Vec<Item>,
+    recent: &mut Recent,
 ) -> Result<bool, Memory>
     ensures { IfOk result (λ taken.
         option_map (λ decls. items_view items.old.items ++ map a_declaration decls) (declarations attributes.now)
         ≡ (if taken then Some (items_view items.new.items) else None)) }
 {
     for attribute in attributes {
-        if !declare(alloc, attribute, items)? {
+        if !declare(alloc, attribute, items, recent)? {
             return Ok(false);
         }
     }
@@ -102,6 +106,7 @@ fn declare(
     alloc: Global,
     attribute: &WrittenAttribute,
     items: &mut Vec<Item>,
+    recent: &mut Recent,
 ) -> Result<bool, Memory>
     ensures { IfOk result (Declares attribute.now (items_view items.old.items) (items_view items.new.items)) }
 {
@@ -114,7 +119,7 @@ fn declare(
     }
     items.push(Item::Declaration(Declaration {
         prefix: Bytes::from_slice(alloc, prefix)?,
-        space: Shared::from_slice(alloc, space)?,
+        space: recent.shared(alloc, space)?,
     }))?;
     Ok(true)
 }
@@ -163,6 +168,22 @@ fn attribute_space(prefix: &[u8], scope: &Scope) -> Result<Option<Shared>, Memor
     shared(prefix_space(prefix, scope))
 }
 
+// The name of these two parts, which may be one that was met before.
+fn named(
+    alloc: Global,
+    written: &[u8],
+    space: Shared,
+    local: &[u8],
+    pool: &Pool,
+) -> Result<Name, Memory>
+    ensures { IfOk result (λ name. name ≡ record { space = space; local = local.now }) }
+{
+    if let Some(name) = pool.same(written, space.as_slice(), local) {
+        return name.share();
+    }
+    Name::new(alloc, space, local)
+}
+
 /// The expanded name of an element.
 pub(crate) fn element_name(
     alloc: Global,
@@ -180,7 +201,7 @@ pub(crate) fn element_name(
     let Some(space) = element_space(prefix, scope)? else {
         return Ok(None);
     };
-    let name = Name::new(alloc, space, local)?;
+    let name = named(alloc, written, space, local, &scope.elements)?;
     scope.elements.keep(alloc, written, &name)?;
     Ok(Some(name))
 }
@@ -197,7 +218,7 @@ fn attribute_name(alloc: Global, written: &[u8], scope: &mut Scope) -> Result<Op
     let Some(space) = attribute_space(prefix, scope)? else {
         return Ok(None);
     };
-    let name = Name::new(alloc, space, local)?;
+    let name = named(alloc, written, space, local, &scope.attributes)?;
     scope.attributes.keep(alloc, written, &name)?;
     Ok(Some(name))
 }
@@ -260,7 +281,7 @@ pub(crate) fn are_distinct(alloc: Global, attributes: &[WrittenAttribute]) -> Re
     for attribute in attributes {
         keys.push((attribute.name.as_slice(), b"".as_slice()))?;
     }
-    all_differ(alloc, &keys)
+    all_differ(keys)
 }
 
 // The same, each compared with each behind it.
@@ -285,6 +306,34 @@ fn is_new(name: &[u8], attributes: &[WrittenAttribute]) -> bool
         .all(|attribute| attribute.name.as_slice() != name)
 }
 
+/// These are more than a few attributes, none of which has a prefix.
+pub(crate) fn are_many_bare(attributes: &[WrittenAttribute]) -> bool
+    ensures { result ≡ true → are_bare attributes.now ≡ true }
+{
+    if attributes.len() <= FEW {
+        return false;
+    }
+    are_bare(attributes)
+}
+
+fn are_bare(attributes: &[WrittenAttribute]) -> bool
+    ensures { result ≡ are_bare attributes.now }
+{
+    attributes
+        .iter()
+        .all(|attribute| is_bare(attribute.name.as_slice()))
+}
+
+// A written name has no prefix.
+fn is_bare(name: &[u8]) -> bool
+    ensures { result ≡ is_bare name.now }
+{
+    match cut(b':', name) {
+        Some(_) => false,
+        None => true,
+    }
+}
+
 /// No two attributes among these have the same expanded name.
 pub(crate) fn are_distinct_names(alloc: Global, items: &[Item]) -> Result<bool, Memory>
     ensures { IfOk result (λ answer. answer ≡ are_distinct_names (attrs_view items.now)) }
@@ -301,7 +350,7 @@ pub(crate) fn are_distinct_names(alloc: Global, items: &[Item]) -> Result<bool, 
             keys.push((attr.name.local(), attr.name.space()))?;
         }
     }
-    all_differ(alloc, &keys)
+    all_differ(keys)
 }
 
 // The same, each compared with each behind it.

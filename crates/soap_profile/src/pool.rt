@@ -61,6 +61,22 @@ impl Pool {
         Some(&met.name)
     }
 
+    /// The name of these two parts, where it was met in any era and is still kept.
+    pub(crate) fn same(&self, written: &[u8], space: &[u8], local: &[u8]) -> Option<&Name>
+        ensures { IfSome result (λ name. name.now ≡ record { space = space.now; local = local.now }) }
+    {
+        let Some(Some(met)) = self.slots.get(slot_of(written)) else {
+            return None;
+        };
+        if met.name.local() != local {
+            return None;
+        }
+        if met.name.space() != space {
+            return None;
+        }
+        Some(&met.name)
+    }
+
     /// A name that was resolved may be known from now on.
     pub(crate) fn keep(&mut self, alloc: Global, written: &[u8], name: &Name) -> Result<(), Memory>
         ensures { (resolve : List ℕ → Option Expanded) → Knows resolve self.old → resolve written.now ≡ Some name.now

@@ -8,6 +8,7 @@ ghost use Rattle.soap_profile.specs.View.{decls_view};
 
 use crate::pool::Pool;
 use crate::predeclared::Predeclared;
+use crate::recent::Recent;
 use crate::shared::Shared;
 use crate::stacks::{Stacks, pop, push, top};
 use crate::tree::Item;
@@ -22,6 +23,7 @@ pub(crate) struct Scope {
     pub(crate) elements: Pool,
     pub(crate) attributes: Pool,
     predeclared: Predeclared,
+    pub(crate) recent: Recent,
 }
 
 impl Scope {
@@ -34,6 +36,7 @@ impl Scope {
             elements: Pool::new(alloc),
             attributes: Pool::new(alloc),
             predeclared: Predeclared::new(alloc)?,
+            recent: Recent::new(),
         })
     }
 

@@ -1,14 +1,16 @@
 //! Start tags with their names resolved.
-ghost use Rattle.std.specs.Prelude.{◌≡◌, ◌++◌, [], List, IfOk, OnOk, IfSome, map, option_map};
+ghost use Rattle.std.specs.Prelude.{◌≡◌, ◌++◌, [], List, IfOk, OnOk, IfSome, map, option_map, true};
 ghost use Rattle.soap_profile.specs.Items.{a_declaration};
 ghost use Rattle.soap_profile.specs.Namespaces.{tag_of, resolved_with, element_name};
-ghost use Rattle.soap_profile.specs.Namespaces.{expanded};
+ghost use Rattle.soap_profile.specs.Namespaces.{expanded, are_distinct};
 ghost use Rattle.soap_profile.specs.Opened.{start_tag};
 ghost use Rattle.soap_profile.specs.Scope.{InForce};
 ghost use Rattle.soap_profile.specs.Tree.{Binding as Bound};
 ghost use Rattle.soap_profile.specs.View.{element_view, items_view, decls_view};
 
-use crate::names::{are_distinct, are_distinct_names, declarations, element_name, expanded};
+use crate::names::{
+    are_distinct, are_distinct_names, are_many_bare, declarations, element_name, expanded,
+};
 use crate::scope::Scope;
 use crate::tree::{Element, Item};
 use rm_base::Memory;
@@ -73,7 +75,7 @@ fn full_tag(
         return Ok(None);
     }
     let mut items = items;
-    if !declarations(alloc, attributes, &mut items)? {
+    if !declarations(alloc, attributes, &mut items, &mut scope.recent)? {
         return Ok(None);
     }
     if !items.is_empty() {
@@ -90,6 +92,7 @@ fn tag_within(
     items: Vec<Item>,
     scope: &mut Scope,
 ) -> Result<Option<Element>, Memory>
+    requires { are_distinct attributes.now ≡ true }
     ensures tag { (bindings decls : List Bound) → InForce scope.old bindings
         → items_view items.items ≡ map a_declaration decls → IfOk result (λ found. option_map element_view found
         ≡ option_map start_tag (resolved_with decls (element_name bindings name.now)
@@ -104,6 +107,10 @@ fn tag_within(
     let mut items = items;
     if !expanded(alloc, attributes, &mut items, scope)? {
         return Ok(None);
+    }
+    // Names without prefixes that are distinct as they are written are so as they are expanded.
+    if are_many_bare(attributes) {
+        return Ok(Some(Element { name, items }));
     }
     if !are_distinct_names(alloc, items.as_slice())? {
         return Ok(None);

@@ -189,6 +189,24 @@ fn text_is_fed_in_pieces(rt: HostRuntime) {
     assert!(rt; out.as_slice() == b"a\nbc".as_slice());
 }
 
+// How many bytes are taken at once behind a <.
+fn opened(alloc: Global, piece: &[u8]) -> usize {
+    let mut reader = TextReader::new(alloc);
+    let mut out = Vec::new(alloc);
+    match reader.feed(b"<", &mut out) {
+        Ok(_) => reader.open(piece),
+        Err(_) => 100,
+    }
+}
+
+#[test]
+fn what_begins_a_section_is_taken_at_once(rt: HostRuntime) {
+    assert!(rt; opened(rt.alloc(), b"!--a-->") == 3);
+    assert!(rt; opened(rt.alloc(), b"![CDATA[a]]>") == 8);
+    assert!(rt; opened(rt.alloc(), b"!-") == 0);
+    assert!(rt; opened(rt.alloc(), b"a>") == 0);
+}
+
 // Pieces of a value, how much of each is read, and whether the value is closed then.
 const VALUE_PIECES: [(&[u8], usize, bool); 4] = [
     (b"&am", 1, false),

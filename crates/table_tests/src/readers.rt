@@ -1,8 +1,8 @@
 //! What tables answer after a few records.
-use node_tables::{Maker, TableError, Tables};
+use node_tables::{Maker, Peer, TableError, Tables};
 use rm_base::{Behaviour, Blob, Ident, Items, Payload, Uri};
 use sequence_table::addressing::Epr;
-use sequence_table::batches::{OwnOffer, Record, Via};
+use sequence_table::batches::{OwnOffer, PeerOffer, Record, Via};
 use sequence_table::elements::Lapse;
 use sequence_table::issue;
 use soap_profile::Elements;
@@ -100,6 +100,68 @@ fn makers_are_lent(rt: HostRuntime) -> Result<(), Fail> {
     assert!(rt; tables.maker(0).is_none());
     assert!(rt; tables.maker(3).is_none());
     Ok(())
+}
+
+// The address of a peer.
+fn address_of(tables: &Tables, seq: u32) -> Option<&[u8]> {
+    match tables.peer(seq)? {
+        Peer::Address(to) => Some(to.as_slice()),
+        Peer::Reference(endpoint) => Some(endpoint.address.as_slice()),
+    }
+}
+
+#[test]
+fn peers_are_told(rt: HostRuntime) -> Result<(), Fail> {
+    let alloc = rt.alloc();
+    let mut tables = source(alloc)?;
+    assert!(rt; address_of(&tables, 1) == Some(b"urn:b".as_slice()));
+    assert!(rt; address_of(&tables, 2).is_none());
+    tables.apply(Record::Created {
+        seq: 1,
+        ident: ident(alloc, "urn:s")?,
+        accept: Some(endpoint(alloc, "urn:acks")?),
+    })?;
+    assert!(rt; address_of(&tables, 2) == Some(b"urn:acks".as_slice()));
+    assert!(rt; address_of(&tables, 3).is_none());
+    Ok(())
+}
+
+// The sequence of the offer with which a sequence was asked for, or that was taken along with one.
+fn beside(tables: &Tables, seq: u32) -> Option<u32> {
+    match tables.asked(seq) {
+        Some(asked) => asked.offered,
+        None => tables.grant(seq)?.taken,
+    }
+}
+
+#[test]
+fn offers_are_told(rt: HostRuntime) -> Result<(), Fail> {
+    let alloc = rt.alloc();
+    let mut tables = source(alloc)?;
+    tables.apply(granted(alloc)?)?;
+    assert_eq!(rt; beside(&tables, 1), Some(2));
+    assert_eq!(rt; beside(&tables, 2), None);
+    assert_eq!(rt; beside(&tables, 3), Some(4));
+    assert_eq!(rt; beside(&tables, 4), None);
+    assert!(rt; address_of(&tables, 3) == Some(b"urn:c".as_slice()));
+    assert!(rt; address_of(&tables, 4) == Some(b"urn:d".as_slice()));
+    Ok(())
+}
+
+// Node 7 grants a sequence, and takes the offer that came along.
+fn granted(alloc: Global) -> Result<Record, Fail> {
+    Ok(Record::Granted {
+        counter: 3,
+        message_id: uri(alloc, "urn:m")?,
+        acks_to: endpoint(alloc, "urn:c")?,
+        behaviour: Behaviour::NoDiscard,
+        deadline: None,
+        lapse: NEVER,
+        offer: Some(PeerOffer {
+            ident: ident(alloc, "urn:t")?,
+            endpoint: endpoint(alloc, "urn:d")?,
+        }),
+    })
 }
 
 #[test]

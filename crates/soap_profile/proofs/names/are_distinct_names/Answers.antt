@@ -10,8 +10,7 @@ pub returns : goal.returns
 returns c =
     let all = c.args.items.now in
     same_answer c.all_differ.result _ _ c.all_differ.ensures
-    (ap (λ xs. differ (keys_of xs)) c.deref.ensures.value
-    ∙ ap differ (c.loop-item.invariant ∙ ap (λ xs. map name_key (attrs_view xs)) (taken_all c.loop-item.item-index all
+    (ap differ (c.loop-item.invariant ∙ ap (λ xs. map name_key (attrs_view xs)) (taken_all c.loop-item.item-index all
     c.loop-item-test.false)) ∙ sym (are_distinct_names-keys (attrs_view all)))
 
 pub returns-then-items-lt2 : goal.returns-then-items-lt2

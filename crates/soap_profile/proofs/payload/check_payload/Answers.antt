@@ -1,4 +1,4 @@
-use Rattle.std.proofs.Common.{◌≡◌, Bool, List, [], codes, Some, IsTrue, ◌↔◌, sym, ap, subst, ◌∙◌, arith}
+use Rattle.std.proofs.Common.{◌≡◌, Bool, List, codes, Some, IsTrue, ◌↔◌, sym, ap, subst, ◌∙◌}
 use Rattle.soap_document.specs.Machine.{run, start, State}
 use Rattle.soap_document.specs.Seen.{Sees}
 use Rattle.soap_document.specs.Inside.{around}

@@ -1,4 +1,4 @@
-use Rattle.std.proofs.Common.{◌≡◌, Some, sym, ap, ◌∙◌, arith}
+use Rattle.std.proofs.Common.{◌≡◌, Some, sym, ap, ◌∙◌}
 use Rattle.soap_document.specs.Machine.{run, start}
 use Rattle.soap_profile.specs.Opened.{rooted}
 use Rattle.soap_profile.specs.Resolving.{root_view}

@@ -16,12 +16,19 @@ entered c bindings h = elim c.if-not-is_empty.branch [
   | then-not-is_empty+in_ok-enter w ↦
       subst (λ (s : Scope). InForce s (decls_view c.declarations.new.items.items ++ bindings)) (sym w.scope-is)
       (subst (λ (xs : List Item). InForce w.enter.new.self (decls_view xs ++ bindings)) w.as_slice.ensures.value
-      (w.in_ok-enter.ensures bindings h))
+      (w.in_ok-enter.ensures bindings (record { stacks = h.stacks; elements = h.elements; attributes = h.attributes })))
   | else-not-is_empty w ↦
       let none = nil_from_len c.declarations.new.items.items c.declarations.new.items.len c.declarations.new.items.ok.0
       (sym c.is_empty.ensures ∙ w.if-not-is_empty.false) in
       subst (λ (s : Scope). InForce s (decls_view c.declarations.new.items.items ++ bindings)) (sym w.scope-is)
-      (subst (λ (xs : List Item). InForce c.args.scope.now (decls_view xs ++ bindings)) (sym none) h)
+      (subst (λ (xs : List Item). InForce (record {
+        stacks = c.args.scope.now.stacks;
+        elements = c.args.scope.now.elements;
+        attributes = c.args.scope.now.attributes;
+        predeclared = c.args.scope.now.predeclared;
+        recent = c.declarations.new.recent;
+      }) (decls_view xs ++ bindings)) (sym none)
+      (record { stacks = h.stacks; elements = h.elements; attributes = h.attributes }))
 ]
 
 pub returns-clause-tag : goal.returns-clause-tag

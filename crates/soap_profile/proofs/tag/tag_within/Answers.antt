@@ -4,8 +4,20 @@ use Rattle.soap_profile.specs.Namespaces.{are_distinct_names}
 use Rattle.soap_profile.specs.Tree.{Element}
 use Rattle.soap_profile.specs.View.{attrs_view}
 use Rattle.soap_profile.proofs.Items.{element_is, decls-declarations}
-use Rattle.soap_profile.proofs.Tags.{tag_resolved}
+use Rattle.soap_profile.proofs.Tags.{tag_resolved, tag_bare}
 use Rattle.soap_profile.proofs.tag.tag_within.Goals as goal
+
+pub returns-then-are_many_bare-clause-tag : goal.returns-then-are_many_bare-clause-tag
+returns-then-are_many_bare-clause-tag c = λ bindings decls h o.
+    ap (λ (e : Element). Some e) (element_is (record { name = c.in-Some.name; items = c.expanded.new.items }))
+    ∙ tag_bare bindings decls c.args.attributes.now _ c.args.items.items c.expanded.new.items.items c.in-Some.name _ o
+    (sym (c.in_ok-name.ensures.name bindings h) ∙ c.in-Some.is)
+    (c.in_ok-expanded.ensures.attrs bindings (c.in_ok-name.ensures.same bindings h)) c.if-not-branch.false
+    (c.are_many_bare.ensures c.if-are_many_bare.true) c.requires
+
+pub returns-then-are_many_bare-clause-decls : goal.returns-then-are_many_bare-clause-decls
+returns-then-are_many_bare-clause-decls c = λ decls o.
+    c.in_ok-expanded.ensures.decls ∙ ap decls_among o ∙ decls-declarations decls
 
 pub returns-then-not-branch-2-clause-tag : goal.returns-then-not-branch-2-clause-tag
 returns-then-not-branch-2-clause-tag c = λ bindings decls h o.

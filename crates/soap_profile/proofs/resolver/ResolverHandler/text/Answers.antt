@@ -1,4 +1,4 @@
-use Rattle.std.proofs.Common.{option_map, sym, ap, ◌∙◌}
+use Rattle.std.proofs.Common.{option_map, ap, ◌∙◌}
 use Rattle.soap_document.specs.Machine.{with_parts}
 use Rattle.soap_document.specs.Tree as written
 use Rattle.soap_profile.specs.Opened.{nest}
