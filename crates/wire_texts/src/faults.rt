@@ -35,8 +35,8 @@ fn is_frame_answered(alloc: Global, row: &Framed) -> Result<bool, Memory> {
 // A character, and spaces behind it: 2097153 bytes.
 fn too_long(alloc: Global) -> Result<Blob, Memory> {
     let mut text = Blob::from_slice(alloc, b"<")?;
-    for _ in 0..65536 {
-        text.push_all(b"                                ")?;
+    for _ in 0..2097152 {
+        text.push_all(b" ")?;
     }
     Ok(text)
 }
