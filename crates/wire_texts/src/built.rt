@@ -1,0 +1,117 @@
+//! The acknowledgement of the first message of a sequence, from its values to its text and back.
+use crate::forms::{START, rewritten};
+use ack_ranges::Range;
+use rm_base::{Blob, Ident, Memory, TextError, Uri};
+use rm_wire::addressing::Addressing;
+use rm_wire::elements::{AckBlock, AckKind, Ranges};
+use rm_wire::{Acks, Body, Idents, Message, Names, decode, encode};
+use soap_profile::Elements;
+use std::alloc::Global;
+
+const TO: &[u8] = b"http://node1.example/";
+
+const ACTION: &[u8] = b"http://docs.oasis-open.org/ws-rx/wsrm/200702/SequenceAcknowledgement";
+
+const IDENT: &[u8] = b"urn:uuid:00000000-0000-8002-8000-000000000001";
+
+// What stands behind the start tag of the envelope.
+const REST: &[u8] = b"<s:Header><a:To>http://node1.example/</a:To><a:Action>\
+    http://docs.oasis-open.org/ws-rx/wsrm/200702/SequenceAcknowledgement</a:Action><r:SequenceAcknowledgement>\
+    <r:Identifier>urn:uuid:00000000-0000-8002-8000-000000000001</r:Identifier><r:AcknowledgementRange Lower=\"1\" \
+    Upper=\"1\"/></r:SequenceAcknowledgement></s:Header><s:Body></s:Body></s:Envelope>";
+
+fn addressing(alloc: Global) -> Result<Addressing, TextError> {
+    Ok(Addressing {
+        to: Uri::from_slice(alloc, TO)?,
+        action: Uri::from_slice(alloc, ACTION)?,
+        message_id: None,
+        relates: None,
+        reply_to: None,
+        fault_to: None,
+        params: Elements::new(alloc),
+    })
+}
+
+fn acknowledgement(alloc: Global) -> Result<AckBlock, TextError> {
+    let mut ranges = Ranges::new(alloc);
+    ranges.push(Range { lower: 1, upper: 1 })?;
+    Ok(AckBlock {
+        ident: Ident::from_slice(alloc, IDENT)?,
+        kind: AckKind::Ranges(ranges),
+        last: false,
+    })
+}
+
+fn message(alloc: Global) -> Result<Message, TextError> {
+    let mut acks = Acks::new(alloc);
+    acks.push(acknowledgement(alloc)?)?;
+    Ok(Message {
+        addressing: addressing(alloc)?,
+        sequence: None,
+        acks,
+        asks: Idents::new(alloc),
+        pending: None,
+        not_understood: Names::new(alloc),
+        body: Body::Empty,
+    })
+}
+
+// Its text.
+fn text(alloc: Global) -> Result<Blob, Memory> {
+    let mut text = Blob::from_slice(alloc, START)?;
+    text.push_all(REST)?;
+    Ok(text)
+}
+
+// Whether the message is written so.
+fn is_written_so(alloc: Global) -> Result<bool, TextError> {
+    let message = message(alloc)?;
+    let written = encode(alloc, &message)?;
+    let text = text(alloc)?;
+    Ok(written.as_slice() == text.as_slice())
+}
+
+#[test]
+fn it_is_written(rt: HostRuntime) -> Result<(), TextError> {
+    assert!(rt; is_written_so(rt.alloc())?);
+    Ok(())
+}
+
+// Whether the text is read, and written as it came.
+fn is_read_so(alloc: Global) -> Result<bool, Memory> {
+    let text = text(alloc)?;
+    match rewritten(alloc, text.as_slice())? {
+        Some(written) => Ok(written.as_slice() == text.as_slice()),
+        None => Ok(false),
+    }
+}
+
+// Whether a message has this acknowledgement alone.
+fn has_acknowledgement(message: &Message) -> bool {
+    let [block] = message.acks.as_slice() else {
+        return false;
+    };
+    let AckKind::Ranges(ranges) = &block.kind else {
+        return false;
+    };
+    let [range] = ranges.as_slice() else {
+        return false;
+    };
+    (block.ident.as_slice() == IDENT) & (range.lower == 1) & (range.upper == 1) & !block.last
+}
+
+// Whether the text is read as this message.
+fn has_values(alloc: Global) -> Result<bool, Memory> {
+    let text = text(alloc)?;
+    match decode(alloc, text.as_slice()) {
+        Ok(message) => Ok(has_acknowledgement(&message) & matches!(message.body, Body::Empty)),
+        Err(_) => Ok(false),
+    }
+}
+
+#[test]
+fn it_is_read(rt: HostRuntime) -> Result<(), Memory> {
+    assert!(rt; is_read_so(rt.alloc())?);
+    assert!(rt; has_values(rt.alloc())?);
+    Ok(())
+}
