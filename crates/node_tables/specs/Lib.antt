@@ -1,6 +1,7 @@
 pub mod Kept
 pub mod Laws
 pub mod Peers
+pub mod PlaceLemmas
 pub mod Reads
 pub mod Ready
 pub mod RecordedLemmas
