@@ -1,7 +1,6 @@
 pub mod Kept
 pub mod Laws
 pub mod Peers
-pub mod PlaceLemmas
 pub mod Reads
 pub mod Ready
 pub mod RecordedLemmas

@@ -2,15 +2,14 @@
 use Rattle.std.proofs.Common.{◌≡◌, ℕ, zero, suc, ◌+◌, ◌-◌, ◌<◌, ◌≤◌, ◌==◌, Bool, cond, List, [], ◌∷◌}
 use Rattle.std.proofs.Common.{◌++◌, length, drop, get_or, refl, sym, ap, subst, ◌∙◌, arith, inl, inr, Some, None}
 use Rattle.std.specs.Prelude.{slice_get}
-use Rattle.std.proofs.lemmas.Bool.{cases_eq}
+use Rattle.std.proofs.lemmas.Bool.{cases_eq, ne_eqb}
 use Rattle.std.proofs.lemmas.List.{at_drop_more}
-use Rattle.std.proofs.lemmas.Option.{slice_get-get_or}
+use Rattle.std.proofs.lemmas.Option.{slice_get-get_or, slice_get_past}
 use Rattle.rm_base.specs.Numbered.{numbered}
 use Rattle.sequence_table.specs.batches.Fact.{Fact}
 use Rattle.sequence_table.specs.Makers.{Maker, makers, maker}
 use Rattle.sequence_table.specs.Find.{find_from}
 use Rattle.node_tables.specs.Kept.{no_maker}
-use Rattle.node_tables.specs.PlaceLemmas.{numbered-at}
 use Rattle.node_tables.specs.Reads.{passes}
 use Rattle.tables_ahead.proofs.GatheredLemmas.{makers-both}
 
@@ -23,6 +22,16 @@ pub get_behind : {A : Type 0} (xs ys : List A) (i j : ℕ) → i ≡ length xs +
 get_behind [] ys i j e = let same : i ≡ j = omega (arith, e) in ap (slice_get ys) same
 get_behind (x ∷ xs) ys zero j e = absurd (omega (arith, e))
 get_behind (x ∷ xs) ys (suc i) j e = get_behind xs ys i j (omega (arith, e))
+
+-- the item with a number that isn't 0
+pub numbered-at : {A : Type 0} (xs : List A) (n : ℕ) → 0 < n → numbered xs n ≡ slice_get xs (n - 1)
+numbered-at xs n lt =
+    ap (λ b. cond b None (slice_get xs (n - 1))) (ne_eqb n 0 (λ e. absurd (omega (arith, e, lt))))
+
+-- a number behind that of the last sequence
+pub maker-past : (r : List Fact) (s : ℕ) → length (makers r) < s → maker r s ≡ None
+maker-past r s lt =
+    numbered-at (makers r) s (omega (arith, lt)) ∙ slice_get_past (makers r) (s - 1) (omega (arith, lt))
 
 -- a sequence that the first records make
 pub maker-known : (r d : List Fact) (s : ℕ) → s ≤ length (makers r) → maker (r ++ d) s ≡ maker r s

@@ -1,6 +1,6 @@
 use Rattle.std.proofs.Common.{◌+◌, ◌<◌, ◌++◌, arith, length, sym}
 use Rattle.sequence_table.specs.Makers.{makers}
-use Rattle.node_tables.specs.PlaceLemmas.{maker-past}
+use Rattle.tables_ahead.proofs.FoundLemmas.{maker-past}
 use Rattle.tables_ahead.proofs.ahead.Ahead.maker_behind.Goals as goal
 
 pub returns-then-seq-len : goal.returns-then-seq-len
