@@ -1,3 +1,2 @@
 pub mod KnownBytes
-pub mod NumberSetFacts
 pub mod TextLemmas

@@ -1,10 +1,9 @@
--- Lemmas on rising lists of numbers that the crates above use too: membership, and where a number goes in.
+-- Lemmas on rising lists of numbers, which the crates above use: membership, and a number more.
 use Rattle.std.proofs.Common.{◌≡◌, ℕ, zero, suc, ◌<◌, ◌≤◌, true, false, cond, ◌==◌, nat_lt, ◌||◌, List, [], ◌∷◌, ◌++◌}
 use Rattle.std.proofs.Common.{length, get_or, refl, arith, ◌⊎◌, inl, inr}
-use Rattle.std.specs.List.{insert}
 use Rattle.std.proofs.lemmas.Bool.{ltb-true, ltb-false}
 use Rattle.std.proofs.lemmas.Bool.Decides.{nat_tests}
-use Rattle.rm_base.specs.NumberSet.{Rises, has_number, with_number, united, greatest_of}
+use Rattle.rm_base.specs.NumberSet.{Rises, has_number, with_number, greatest_of}
 
 -- what rises above b rises above a smaller a
 pub Rises-weaker : (a b : ℕ) (xs : List ℕ) → a ≤ b → Rises b xs → Rises a xs
@@ -45,21 +44,6 @@ has_number-at (x ∷ xs) (suc i) n h e =
     let rest : has_number xs n ≡ true = has_number-at xs i n (omega arith) e in
     grind (arith, nat_tests)
 
--- where the numbers before a place are below n and those from it on above, n is put there
-pub with_number-at : (n : ℕ) (xs : List ℕ) (i : ℕ) → i ≤ length xs → ((k : ℕ) → k < i → get_or xs k 0 < n)
-    → ((k : ℕ) → i ≤ k → k < length xs → n < get_or xs k 0) → with_number xs n ≡ insert xs i n
-with_number-at n [] zero h below above = refl
-with_number-at n [] (suc i) h below above = absurd (omega arith)
-with_number-at n (x ∷ xs) zero h below above =
-    let first : n < x = above 0 (omega arith) (omega arith) in
-    grind (arith, nat_tests)
-with_number-at n (x ∷ xs) (suc i) h below above =
-    let first : x < n = below 0 (omega arith) in
-    let rest : with_number xs n ≡ insert xs i n =
-    with_number-at n xs i (omega arith) (λ k l. below (suc k) (omega arith))
-    (λ k l m. above (suc k) (omega arith) (omega arith)) in
-    grind (arith, nat_tests, rest)
-
 pub Rises-with_number : (low n : ℕ) (xs : List ℕ) → Rises low xs → low < n → Rises low (with_number xs n)
 Rises-with_number low n [] r h = (h, tt)
 Rises-with_number low n (x ∷ xs) r h =
@@ -91,15 +75,6 @@ has_number-with [] n m = grind (arith, nat_tests)
 has_number-with (x ∷ xs) n m =
     let rest : has_number (with_number xs n) m ≡ (has_number xs m || (n == m)) = has_number-with xs n m in
     grind (arith, nat_tests, rest)
-
--- a number is one of both sets exactly where it is one of either
-pub has_number-united : (xs ys : List ℕ) (n : ℕ) → has_number (united xs ys) n ≡ (has_number xs n || has_number ys n)
-has_number-united xs [] n = grind (arith, nat_tests)
-has_number-united xs (y ∷ ys) n =
-    let rest : has_number (united (with_number xs y) ys) n ≡ (has_number (with_number xs y) n || has_number ys n) =
-    has_number-united (with_number xs y) ys n in
-    let more : has_number (with_number xs y) n ≡ (has_number xs n || (y == n)) = has_number-with xs y n in
-    grind (arith, nat_tests, rest, more)
 
 -- two rising lists with the same numbers are one
 pub Rises-same : (low : ℕ) (xs ys : List ℕ) → Rises low xs → Rises low ys

@@ -1,7 +1,7 @@
 //! What the definitions of sets of message numbers, of counts and of texts mean.
 ghost use Rattle.std.specs.Prelude.{◌≡◌, ◌+◌, ◌≤◌, ◌^◌, ◌<◌, ℕ, List, Bool, true, false, ◌||◌, ◌==◌, ◌↔◌};
 ghost use Rattle.rm_base.specs.Count.{RoseBy, raised_by};
-ghost use Rattle.rm_base.specs.NumberSet.{IsRising, has_number, with_number, united, brings_new, HasNew};
+ghost use Rattle.rm_base.specs.NumberSet.{IsRising, has_number, with_number};
 ghost use Rattle.rm_base.specs.Text.{IsText, is_text};
 
 /// A set with one number more has that number and those that it had.
@@ -9,24 +9,9 @@ pub fn one_more_is_added()
     ensures { (xs : List ℕ) (n m : ℕ) → has_number (with_number xs n) m ≡ (has_number xs m || (n == m)) }
 {}
 
-/// A number is in the union of two sets exactly where it is in one of them.
-pub fn union_has_both()
-    ensures { (xs ys : List ℕ) (n : ℕ) → has_number (united xs ys) n ≡ (has_number xs n || has_number ys n) }
-{}
-
-/// The union of two sets is a set again.
-pub fn union_rises()
-    ensures { (xs ys : List ℕ) → IsRising xs → IsRising ys → IsRising (united xs ys) }
-{}
-
 /// Two sets with the same numbers are one list.
 pub fn same_numbers_same_list()
     ensures { (xs ys : List ℕ) → IsRising xs → IsRising ys → ((n : ℕ) → has_number xs n ≡ has_number ys n) → xs ≡ ys }
-{}
-
-/// A set brings something new exactly where one of its numbers isn't in the other set.
-pub fn new_is_one_not_there()
-    ensures { (xs ys : List ℕ) → IsRising xs → IsRising ys → (brings_new xs ys ≡ true) ↔ HasNew xs ys }
 {}
 
 /// A count that rose by m, and then by n, rose by both together.

@@ -1,9 +1,9 @@
-//! What every crate of wsrm stands on: bytes and lists that contracts see as lists, sets of message numbers, payloads,
-//! addresses and identifiers, printing in digits, and the traits through which a program reaches the outside: `Source`,
-//! `Sink`, `Connection`, `Clock`. It stands on the classes of characters, `xml_chars`. The layer above may use the
-//! types as the lists that they are seen as, and of a source or a sink its count of faults, and what it has left or
-//! holds where it tells that. What the definitions mean stands in `laws`; lemmas that the layers above use stand in
-//! `specs/`, in the files that are named so.
+//! What every crate of wsrm stands on: bytes and lists that contracts see as lists, payloads, addresses and identifiers,
+//! printing in digits, and the traits through which a program reaches the outside: `Source`, `Sink`, `Connection`,
+//! `Clock`. It stands on the classes of characters, `xml_chars`. The layer above may use the types as the lists that
+//! they are seen as, and of a source or a sink its count of faults, and what it has left or holds where it tells that.
+//! What the definitions mean stands in `laws`; lemmas that the layers above use stand in `specs/`, in the files that
+//! are named so.
 #![tactic(auto)]
 
 pub mod blob;
@@ -15,7 +15,6 @@ pub mod items;
 pub mod laws;
 pub mod mem_streams;
 pub mod message;
-pub mod number_set;
 pub mod outside;
 pub mod streams;
 pub mod text;
@@ -29,7 +28,6 @@ pub use failures::{Failed, Memory};
 pub use items::{Items, Numbers, RoomyItems, numbered};
 pub use mem_streams::{MemConn, MemSink, MemSource};
 pub use message::{Behaviour, Binding, Bindings, Cause, MAX_NUMBER, Payload, is_message_number};
-pub use number_set::NumberSet;
 pub use outside::{Clock, Connection, NOW_MAX, Sink, SinkError, Source};
 pub use streams::{StdSink, StdSource};
 pub use text::{Ident, TextError, Uri};

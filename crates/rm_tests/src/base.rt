@@ -4,9 +4,8 @@ ghost use Rattle.std.specs.Prelude.{◌≤◌, IfOk};
 
 use rm_base::{
     Blob, Bytes, Clock, Failed, Ident, Items, MAX_NUMBER, MemClock, MemConn, MemSink, MemSource,
-    Memory, NumberSet, Numbers, ReadError, RoomyItems, Sink, SinkError, Source, StdClock, StdSink,
-    StdSource, TextError, Uri, is_message_number, numbered, push_decimal, push_hex, read_up_to,
-    write_all,
+    Memory, Numbers, ReadError, RoomyItems, Sink, SinkError, Source, StdClock, StdSink, StdSource,
+    TextError, Uri, is_message_number, numbered, push_decimal, push_hex, read_up_to, write_all,
 };
 use std::alloc::Global;
 use std::io::{Error, ErrorKind, Read, Write};
@@ -88,76 +87,6 @@ fn letters_are_held(alloc: Global) -> Result<bool, Memory> {
 #[test]
 fn a_list_holds_what_was_pushed(rt: HostRuntime) -> Result<(), Fail> {
     assert!(rt; letters_are_held(rt.alloc())?);
-    Ok(())
-}
-
-// Each number that is inserted in turn, and whether it is new.
-const INSERTED: [(u64, bool); 6] = [
-    (5, true),
-    (2, true),
-    (9, true),
-    (5, false),
-    (1, true),
-    (9, false),
-];
-
-const ASKED: [(u64, bool); 5] = [
-    (1, true),
-    (3, false),
-    (9, true),
-    (10, false),
-    (u64::MAX, false),
-];
-
-// Inserts each in turn. Whether that tells of each number whether it is new.
-fn tells_new_ones(numbers: &mut NumberSet) -> Result<bool, Memory> {
-    let mut is_so = numbers.is_empty() & (numbers.greatest() == 0);
-    for (number, is_new) in &INSERTED {
-        is_so &= numbers.insert(*number)? == *is_new;
-    }
-    Ok(is_so)
-}
-
-// Whether it holds what was inserted, once and rising.
-fn holds_inserted(numbers: &NumberSet) -> bool {
-    let is_so = (numbers.len() == 4) & (numbers.greatest() == 9);
-    is_so & (numbers.get(2) == Some(&5)) & (numbers.as_slice() == [1, 2, 5, 9].as_slice())
-}
-
-#[test]
-fn holds_each_number_once_and_rising(rt: HostRuntime) -> Result<(), Fail> {
-    let mut numbers = NumberSet::new(rt.alloc());
-    assert!(rt; tells_new_ones(&mut numbers)?);
-    assert!(rt; holds_inserted(&numbers));
-    for (number, is_there) in &ASKED {
-        assert!(rt; numbers.has(*number) == *is_there, "at {number}");
-    }
-    Ok(())
-}
-
-// A set of numbers from 1 on.
-fn set_of(alloc: Global, numbers: &[u64]) -> Result<NumberSet, Memory> {
-    let mut set = NumberSet::new(alloc);
-    for number in numbers {
-        set.insert((*number).max(1))?;
-    }
-    Ok(set)
-}
-
-// Whether a union is new once, and then has all.
-fn union_is_new_once(odd: &NumberSet, low: &NumberSet) -> Result<bool, Memory> {
-    let mut both = odd.copy()?;
-    let first = both.unite(low)?;
-    let second = both.unite(low)?;
-    let third = both.unite(odd)?;
-    Ok(first & !second & !third & (both.as_slice() == [1, 2, 3, 5, u64::MAX].as_slice()))
-}
-
-#[test]
-fn unites_two_sets(rt: HostRuntime) -> Result<(), Fail> {
-    let odd = set_of(rt.alloc(), &[1, 3, 5, u64::MAX])?;
-    let low = set_of(rt.alloc(), &[1, 2, 3])?;
-    assert!(rt; union_is_new_once(&odd, &low)?);
     Ok(())
 }
 
