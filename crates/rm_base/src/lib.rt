@@ -1,4 +1,4 @@
-//! What every crate of wsrm stands on: bytes and lists that contracts see as lists, payloads, addresses and identifiers,
+//! What every crate of wsrm stands on: bytes and lists that contracts see as lists, payloads, addresses, identifiers,
 //! printing in digits, and the traits through which a program reaches the outside: `Source`, `Sink`, `Connection`,
 //! `Clock`. It stands on the classes of characters, `xml_chars`. The layer above may use the types as the lists that
 //! they are seen as, and of a source or a sink its count of faults, and what it has left or holds where it tells that.
