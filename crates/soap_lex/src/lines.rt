@@ -4,6 +4,8 @@ ghost use Rattle.soap_lex.specs.Text.{with_line_ends, line_ends_after};
 ghost use Rattle.soap_lex.specs.Value.{with_spaces, space_of};
 
 use crate::Memory;
+use crate::tokens::lacks_byte;
+use crate::visible::append;
 use memchr::memchr;
 
 /// Appends the bytes with their line ends normalised: XML 1.0, section 2.11. After an error nothing is appended.
@@ -11,6 +13,10 @@ pub fn push_line_ends(bytes: &[u8], out: &mut Vec<u8>) -> Result<(), Memory>
     ensures ok { OnOk result (out.new.items ≡ out.old.items ++ with_line_ends bytes.now) }
     ensures err { OnErr result (out.new.items ≡ out.old.items) }
 {
+    // Most have no CR, which is sooner found out than where the first one stands.
+    if lacks_byte(bytes, b'\r') {
+        return append(bytes, out);
+    }
     let start = out.len();
     match push_lines(bytes, out) {
         Ok(()) => Ok(()),

@@ -272,7 +272,7 @@ fn lacks_first(bytes: &[u8], word: &[u8]) -> bool
 }
 
 // No byte is the other; no exit from the loop either.
-fn lacks_byte(bytes: &[u8], other: u8) -> bool
+pub(crate) fn lacks_byte(bytes: &[u8], other: u8) -> bool
     ensures { IsTrue result → ¬ (Holds bytes.now (other ∷ [])) }
 {
     let mut lacks = true;

@@ -1,6 +1,7 @@
 //! Names, declarations and attributes of a start tag.
 ghost use Rattle.std.specs.Prelude.{◌≡◌, ℕ, List, [], ◌∷◌, ◌++◌, if◌then◌else◌, IfOk, OnOk, Some, None, map, true};
-ghost use Rattle.std.specs.Prelude.{option_map};
+ghost use Rattle.std.specs.Prelude.{option_map, codes};
+ghost use Rattle.std.specs.Str.{bytes_eq};
 ghost use Rattle.soap_profile.specs.Bare.{is_bare, are_bare};
 ghost use Rattle.soap_profile.specs.Items.{a_declaration, an_attribute};
 ghost use Rattle.soap_profile.specs.Namespaces.{
@@ -60,14 +61,21 @@ fn declared_prefix(name: &[u8]) -> Option<&[u8]>
     let [b'x', ..] = name else {
         return None;
     };
-    if name == b"xmlns".as_slice() {
+    if is_xmlns(name) {
         return Some(b"".as_slice());
     }
     let (prefix, local) = split(name);
-    if prefix == b"xmlns".as_slice() {
-        Some(local)
-    } else {
-        None
+    if is_xmlns(prefix) { Some(local) } else { None }
+}
+
+// Letter by letter: for a word that is so short, a comparison of slices takes many times as long.
+#[inline]
+fn is_xmlns(name: &[u8]) -> bool
+    ensures { result ≡ bytes_eq name.now (codes "xmlns") }
+{
+    match name {
+        [a, b, c, d, e] => { *a == b'x' && *b == b'm' && *c == b'l' && *d == b'n' && *e == b's' }
+        _ => false,
     }
 }
 
