@@ -1,6 +1,6 @@
 //! What the tests share: envelopes in parts, what is read from them, and why they are refused.
 use rm_base::{Blob, Memory};
-use rm_wire::{DecodeError, FaultKind, decode, encode};
+use rm_wire::{DecodeError, FaultKind, Message, decode, encode};
 use std::alloc::Global;
 
 /// The start tag of an envelope in the form that is written.
@@ -20,10 +20,15 @@ pub fn envelope(alloc: Global, blocks: &[u8], body: &[u8]) -> Result<Blob, Memor
     Ok(text)
 }
 
+// How a message is written. No other function lets a message go, since the proof of that takes long.
+fn written(alloc: Global, message: Message) -> Result<Blob, Memory> {
+    encode(alloc, &message)
+}
+
 // How the message of a document is written, where it has one.
 fn rewritten(alloc: Global, document: &[u8]) -> Result<Option<Blob>, Memory> {
     match decode(alloc, document) {
-        Ok(message) => Ok(Some(encode(alloc, &message)?)),
+        Ok(message) => Ok(Some(written(alloc, message)?)),
         Err(_) => Ok(None),
     }
 }
@@ -37,11 +42,19 @@ pub fn is_read(alloc: Global, document: &[u8], blocks: &[u8], body: &[u8]) -> Re
     }
 }
 
+// Whether the bytes were refused for this.
+fn is_refusal(error: &DecodeError, kind: FaultKind) -> bool {
+    match error {
+        DecodeError::Refused(refusal) => refusal.kind == kind,
+        DecodeError::Memory => false,
+    }
+}
+
 /// Whether a document is refused for this.
 pub fn is_refused(alloc: Global, document: &[u8], kind: FaultKind) -> bool {
     match decode(alloc, document) {
-        Err(DecodeError::Refused(refusal)) => refusal.kind == kind,
-        _ => false,
+        Ok(_) => false,
+        Err(error) => is_refusal(&error, kind),
     }
 }
 

@@ -1,25 +1,38 @@
 //! The faults that documents are answered with which are no message: where they go, and what they relate to.
-use crate::forms::{Document, Framed, envelope, is_written};
+use crate::forms::{Document, Framed, envelope, is_written, written};
 use rm_base::{Blob, Memory};
-use rm_wire::{DecodeError, decode, encode, fault_message};
+use rm_wire::{DecodeError, Refusal, decode, fault_message};
 use std::alloc::Global;
 
-// The text of the fault that a document is answered with, where it is refused.
-fn answer(alloc: Global, document: &[u8]) -> Result<Option<Blob>, Memory> {
-    match decode(alloc, document) {
-        Err(DecodeError::Refused(refusal)) => {
-            let message = fault_message(alloc, &refusal, None)?;
-            Ok(Some(encode(alloc, &message)?))
-        }
-        _ => Ok(None),
+// The text of the fault that a refusal is answered with.
+fn fault(alloc: Global, refusal: &Refusal) -> Result<Blob, Memory> {
+    written(alloc, fault_message(alloc, refusal, None)?)
+}
+
+// Whether a refusal is answered with the fault with these blocks and this body.
+fn is_answer(alloc: Global, refusal: &Refusal, blocks: &[u8], body: &[u8]) -> Result<bool, Memory> {
+    let text = fault(alloc, refusal)?;
+    is_written(alloc, text.as_slice(), blocks, body)
+}
+
+// Whether bytes that were not decoded are refused, and that is answered so.
+fn is_refusal(
+    alloc: Global,
+    error: &DecodeError,
+    blocks: &[u8],
+    body: &[u8],
+) -> Result<bool, Memory> {
+    match error {
+        DecodeError::Refused(refusal) => is_answer(alloc, refusal, blocks, body),
+        DecodeError::Memory => Ok(false),
     }
 }
 
 // Whether a document is answered with the fault with these blocks and this body.
 fn is_answered(alloc: Global, document: &[u8], blocks: &[u8], body: &[u8]) -> Result<bool, Memory> {
-    match answer(alloc, document)? {
-        Some(text) => is_written(alloc, text.as_slice(), blocks, body),
-        None => Ok(false),
+    match decode(alloc, document) {
+        Ok(_) => Ok(false),
+        Err(error) => is_refusal(alloc, &error, blocks, body),
     }
 }
 

@@ -1,6 +1,6 @@
 //! What the tests share: envelopes in parts, and what is read from them.
 use rm_base::{Blob, Memory};
-use rm_wire::{decode, encode};
+use rm_wire::{Message, decode, encode};
 use std::alloc::Global;
 
 /// The start tag of an envelope in the form that is written.
@@ -30,10 +30,15 @@ pub fn is_written(alloc: Global, text: &[u8], blocks: &[u8], body: &[u8]) -> Res
     Ok(written.as_slice() == text)
 }
 
-/// How the message of a document is written, where it has one.
-pub fn rewritten(alloc: Global, document: &[u8]) -> Result<Option<Blob>, Memory> {
+/// How a message is written. No other function lets a message go, since the proof of that takes long.
+pub fn written(alloc: Global, message: Message) -> Result<Blob, Memory> {
+    encode(alloc, &message)
+}
+
+// How the message of a document is written, where it has one.
+fn rewritten(alloc: Global, document: &[u8]) -> Result<Option<Blob>, Memory> {
     match decode(alloc, document) {
-        Ok(message) => Ok(Some(encode(alloc, &message)?)),
+        Ok(message) => Ok(Some(written(alloc, message)?)),
         Err(_) => Ok(None),
     }
 }

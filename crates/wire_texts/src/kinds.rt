@@ -1,11 +1,11 @@
 //! The faults that refusals of each kind are answered with: SOAP 1.2 Part 1, section 5.4, WS-Addressing 1.0 SOAP
 //! Binding, section 6, WS-ReliableMessaging 1.2, section 4, and WS-MakeConnection 1.1, section 4. The reasons are ours.
-use crate::forms::is_written;
+use crate::forms::{is_written, written};
 use ack_ranges::Range;
 use rm_base::{Blob, Ident, Memory, TextError, Uri};
 use rm_wire::addressing::Epr;
 use rm_wire::elements::{AckBlock, AckKind, Ranges};
-use rm_wire::{FaultKind, Names, Refusal, encode, fault_message};
+use rm_wire::{FaultKind, Names, Refusal, fault_message};
 use soap_profile::{Elements, Name, Shared};
 use std::alloc::Global;
 
@@ -81,15 +81,13 @@ fn block(alloc: Global, kind: FaultKind) -> Result<Option<AckBlock>, TextError> 
     }
 }
 
-// The text of the fault of a refusal.
-fn text(alloc: Global, refusal: &Refusal) -> Result<Blob, TextError> {
-    let block = block(alloc, refusal.kind)?;
-    let message = fault_message(alloc, refusal, block)?;
-    Ok(encode(alloc, &message)?)
+// The text of the fault of a refusal, with this block.
+fn text(alloc: Global, refusal: &Refusal, block: Option<AckBlock>) -> Result<Blob, Memory> {
+    written(alloc, fault_message(alloc, refusal, block)?)
 }
 
 fn is_answer(alloc: Global, refusal: &Refusal, row: &Row) -> Result<bool, TextError> {
-    let text = text(alloc, refusal)?;
+    let text = text(alloc, refusal, block(alloc, refusal.kind)?)?;
     Ok(is_written(alloc, text.as_slice(), row.1, row.2)?)
 }
 
