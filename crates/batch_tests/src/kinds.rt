@@ -3,7 +3,7 @@ use crate::parts::{
     NEVER, accepted, acked, endpoint, ident, is_written, is_written_again, received, uri,
 };
 use record_batch::{OwnOffer, PeerOffer, Record, Via, read_batch};
-use rm_base::{Behaviour, Binding, Blob, Cause, Items, Payload};
+use rm_base::{Behaviour, Binding, Blob, Cause, Items, Memory, Payload};
 use rm_elements::Lapse;
 use std::alloc::Global;
 use std::test::Fail;
@@ -99,20 +99,28 @@ fn a_sequence_is_created(rt: HostRuntime) -> Result<(), Fail> {
     Ok(())
 }
 
-#[test]
-fn a_parameter_is_the_text_of_its_element(rt: HostRuntime) -> Result<(), Fail> {
-    let alloc = rt.alloc();
-    assert!(rt; is_written_again(alloc, WITH_PARAMETER)?);
-    let batch = read_batch(alloc, WITH_PARAMETER)?;
+// Whether the first record has one parameter of the endpoint that was accepted.
+fn has_parameter(batch: &Items<Record>) -> bool {
     match batch.get(0) {
         Some(
             Record::Created {
                 accept: Some(accept),
                 ..
             },
-        ) => assert_eq!(rt; accept.params.len(), 1),
-        _ => return Err("a parameter".into()),
+        ) => accept.params.len() == 1,
+        _ => false,
     }
+}
+
+fn is_parameter_read(alloc: Global, bytes: &[u8]) -> Result<bool, Fail> {
+    let batch = read_batch(alloc, bytes)?;
+    Ok(has_parameter(&batch))
+}
+
+#[test]
+fn a_parameter_is_the_text_of_its_element(rt: HostRuntime) -> Result<(), Fail> {
+    assert!(rt; is_written_again(rt.alloc(), WITH_PARAMETER)?);
+    assert!(rt; is_parameter_read(rt.alloc(), WITH_PARAMETER)?);
     Ok(())
 }
 
@@ -153,26 +161,35 @@ fn payloads_and_acknowledgements(rt: HostRuntime) -> Result<(), Fail> {
     Ok(())
 }
 
-#[test]
-fn bindings_of_a_payload(rt: HostRuntime) -> Result<(), Fail> {
-    let alloc = rt.alloc();
+fn binding(alloc: Global) -> Result<Binding, Memory> {
+    let prefix = Blob::from_slice(alloc, b"n")?;
+    let space = Blob::from_slice(alloc, b"urn:n")?;
+    Ok(Binding { prefix, space })
+}
+
+fn scope(alloc: Global) -> Result<Items<Binding>, Memory> {
     let mut scope = Items::new(alloc);
-    scope.push(Binding {
-        prefix: Blob::from_slice(alloc, b"n")?,
-        space: Blob::from_slice(alloc, b"urn:n")?,
-    })?;
-    let payload = Payload {
-        bytes: Blob::from_slice(alloc, b"<n:p/>")?,
-        scope,
-    };
-    let known = Record::Received {
+    scope.push(binding(alloc)?)?;
+    Ok(scope)
+}
+
+// A payload with a binding, as the last message of all.
+fn bound(alloc: Global) -> Result<Record, Memory> {
+    let bytes = Blob::from_slice(alloc, b"<n:p/>")?;
+    let scope = scope(alloc)?;
+    Ok(Record::Received {
         seq: 2,
         number: 9223372036854775807,
-        payload,
-    };
-    let bytes = b"\0\0\0\x01\x07\0\0\0\x02\x7f\xff\xff\xff\xff\xff\xff\xff\0\0\0\x06<n:p/>\
+        payload: Payload { bytes, scope },
+    })
+}
+
+const BOUND: &[u8] = b"\0\0\0\x01\x07\0\0\0\x02\x7f\xff\xff\xff\xff\xff\xff\xff\0\0\0\x06<n:p/>\
                   \0\0\0\x01\0\0\0\x01n\0\0\0\x05urn:n";
-    assert!(rt; is_written(alloc, known, bytes)?);
+
+#[test]
+fn bindings_of_a_payload(rt: HostRuntime) -> Result<(), Fail> {
+    assert!(rt; is_written(rt.alloc(), bound(rt.alloc())?, BOUND)?);
     Ok(())
 }
 

@@ -21,8 +21,9 @@ pub(crate) fn ident(alloc: Global, text: &str) -> Result<Ident, Fail> {
 }
 
 pub(crate) fn endpoint(alloc: Global, text: &str) -> Result<Epr, Fail> {
+    let address = uri(alloc, text)?;
     Ok(Epr {
-        address: uri(alloc, text)?,
+        address,
         params: Elements::new(alloc),
     })
 }
@@ -32,7 +33,7 @@ pub(crate) fn accepted(alloc: Global, seq: u32, text: &str) -> Result<Record, Fa
     Ok(Record::Accepted { seq, payload })
 }
 
-pub(crate) fn acked(alloc: Global, seq: u32, ranges: &[(u64, u64)]) -> Result<Record, Fail> {
+fn numbers(alloc: Global, ranges: &[(u64, u64)]) -> Result<RangeSet, Fail> {
     let mut numbers = RangeSet::new(alloc);
     for (lower, upper) in ranges {
         if *lower < 1 || *lower > *upper || *upper >= 1 << 63 {
@@ -40,12 +41,18 @@ pub(crate) fn acked(alloc: Global, seq: u32, ranges: &[(u64, u64)]) -> Result<Re
         }
         numbers.insert_range(*lower, *upper)?;
     }
+    Ok(numbers)
+}
+
+pub(crate) fn acked(alloc: Global, seq: u32, ranges: &[(u64, u64)]) -> Result<Record, Fail> {
+    let numbers = numbers(alloc, ranges)?;
     Ok(Record::Acked { seq, numbers })
 }
 
 pub(crate) fn received(alloc: Global, seq: u32, number: u64, text: &str) -> Result<Record, Fail> {
+    let bytes = Blob::from_slice(alloc, text.as_bytes())?;
     let payload = Payload {
-        bytes: Blob::from_slice(alloc, text.as_bytes())?,
+        bytes,
         scope: Items::new(alloc),
     };
     Ok(Record::Received {
@@ -55,7 +62,7 @@ pub(crate) fn received(alloc: Global, seq: u32, number: u64, text: &str) -> Resu
     })
 }
 
-pub(crate) fn written(alloc: Global, batch: &[Record]) -> Result<Blob, Fail> {
+fn written(alloc: Global, batch: &[Record]) -> Result<Blob, Fail> {
     a_batch_that_fits_is_short();
     if batch_len(alloc, batch)? > 4294967295 {
         return Err("a batch that fits".into());
@@ -63,18 +70,27 @@ pub(crate) fn written(alloc: Global, batch: &[Record]) -> Result<Blob, Fail> {
     Ok(write_batch(alloc, batch)?)
 }
 
+// How a batch that was read is written.
+fn written_again(alloc: Global, batch: Items<Record>) -> Result<Blob, Fail> {
+    written(alloc, batch.as_slice())
+}
+
 // Whether bytes are a batch, which is written as they are.
 pub(crate) fn is_written_again(alloc: Global, bytes: &[u8]) -> Result<bool, Fail> {
-    let batch = read_batch(alloc, bytes)?;
-    Ok(written(alloc, batch.as_slice())?.as_slice() == bytes)
+    let text = written_again(alloc, read_batch(alloc, bytes)?)?;
+    Ok(text.as_slice() == bytes)
+}
+
+// How a batch of one record is written.
+fn written_alone(alloc: Global, known: Record) -> Result<Blob, Fail> {
+    let batch = [known];
+    written(alloc, batch.as_slice())
 }
 
 // Whether a batch of one record has these bytes, and they are read and written again.
 pub(crate) fn is_written(alloc: Global, known: Record, bytes: &[u8]) -> Result<bool, Fail> {
-    let mut batch = Vec::new(alloc);
-    batch.push(known)?;
-    let text = written(alloc, batch.as_slice())?;
-    Ok(text.as_slice() == bytes && is_written_again(alloc, bytes)?)
+    let text = written_alone(alloc, known)?;
+    Ok((text.as_slice() == bytes) & is_written_again(alloc, bytes)?)
 }
 
 // Whether bytes are no batch, and this is the place.

@@ -4,7 +4,7 @@ ghost use Rattle.std.specs.Prelude.{None};
 use rm_base::{Blob, Items, MemSink, MemSource, Memory, Numbers, Sink, SinkError};
 use rm_command::{Stage, run};
 use rm_disk::MemDisk;
-use rm_journal::Journal;
+use rm_journal::{Journal, JournalError};
 use rm_wires::{MemWire, Packet, Wire};
 use std::alloc::Global;
 use std::test::Fail;
@@ -54,16 +54,21 @@ fn input_of(alloc: Global, given: Asked<'_>) -> Result<MemSource, Memory> {
 }
 
 // Runs the program, and answers its status and how many packets were sent.
-fn run_on<K: Sink>(alloc: Global, given: Asked<'_>, out: &mut K) -> Result<(u8, u64), Memory> {
-    let words = words_of(alloc, given)?;
-    let mut input = input_of(alloc, given)?;
+fn play<K: Sink>(alloc: Global, words: &[Blob], input: &mut MemSource, out: &mut K) -> (u8, u64) {
     let mut stage = Stage {
         one: MemDisk::new(alloc),
         two: MemDisk::new(alloc),
         wire: MemWire::new(alloc),
     };
-    let status = run(alloc, words.as_slice(), &mut input, out, &mut stage);
-    Ok((status, stage.wire.count()))
+    let status = run(alloc, words, input, out, &mut stage);
+    (status, stage.wire.count())
+}
+
+// The same, for what is asked.
+fn run_on<K: Sink>(alloc: Global, given: Asked<'_>, out: &mut K) -> Result<(u8, u64), Memory> {
+    let words = words_of(alloc, given)?;
+    let mut input = input_of(alloc, given)?;
+    Ok(play(alloc, words.as_slice(), &mut input, out))
 }
 
 // The status of a run, and what it wrote.
@@ -73,13 +78,30 @@ fn run_whole(alloc: Global, given: Asked<'_>) -> Result<(u8, MemSink), Memory> {
     Ok((status, out))
 }
 
-// A piece so many times.
-fn repeated(alloc: Global, piece: &[u8], count: u32) -> Result<Blob, Memory> {
-    let mut bytes = Blob::new(alloc);
+// Whether a run has this status and writes this text.
+fn prints(alloc: Global, given: Asked<'_>, status: u8, text: &[u8]) -> Result<bool, Memory> {
+    let (ended, out) = run_whole(alloc, given)?;
+    Ok((ended == status) & (out.as_slice() == text))
+}
+
+// Whether a run has this status and begins with this text.
+fn begins(alloc: Global, given: Asked<'_>, status: u8, text: &[u8]) -> Result<bool, Memory> {
+    let (ended, out) = run_whole(alloc, given)?;
+    Ok((ended == status) & out.as_slice().starts_with(text))
+}
+
+// Whether a run has this status and ends with this text.
+fn ends(alloc: Global, given: Asked<'_>, status: u8, text: &[u8]) -> Result<bool, Memory> {
+    let (ended, out) = run_whole(alloc, given)?;
+    Ok((ended == status) & out.as_slice().ends_with(text))
+}
+
+// Puts a piece down so many times.
+fn push_repeated(bytes: &mut Blob, piece: &[u8], count: u32) -> Result<(), Memory> {
     for _ in 0..count {
         bytes.push_all(piece)?;
     }
-    Ok(bytes)
+    Ok(())
 }
 
 const ROW: &[u8] = b"create 1\ndeliver 1\ndeliver 2\n\
@@ -92,43 +114,50 @@ const ROW_REPORT: &[u8] =
         in 2 1 open dfg received 1-3 inbox 3 discarded 0\nitem 2 1 1 3c703e313c2f703e\n\
         item 2 1 2 3c703e323c2f703e\nitem 2 1 3 3c703e333c2f703e\n";
 
+// A script, and its report.
+const REPORTS: [(&[u8], &[u8]); 4] = [
+    (ROW, ROW_REPORT),
+    (b"", b""),
+    // the second of three messages is lost, and so is each acknowledgement
+    (
+        b"# lost\n\ncreate 1\ndeliver 1\ndeliver 2\nsend 1 1 <p>1</p>\nsend 1 1 <p>2</p>\nsend 1 1 <p>3</p>\n\
+        deliver 3\ndeliver 5",
+        b"3 ok 2 1 1\n4 ok 2 2 2\n5 ok 3 2 2\n6 ok 4 2 3\n7 ok 5 2 4\n8 ok 6 2 5\n9 ok 6 3 6\n10 ok 6 4 7\n\
+        out 1 1 open accepted 3 acked -\nin 2 1 open dfg received 1-1,3-3 inbox 1 discarded 0\n\
+        item 2 1 1 3c703e313c2f703e\n",
+    ),
+    // what comes is no message, and what is named is not there
+    (
+        b"noise 2 3c613e\ndeliver 1\ndeliver 9\nsend 1 1 <p>1</p>\n",
+        b"1 fault NotProfile 1 1 1\n2 ok 1 1 1\n3 no-packet 1 1 1\n4 no-sequence 1 1 1\n",
+    ),
+];
+
 #[test]
-fn reports(rt: HostRuntime) -> Result<(), Fail> {
-    // a script, and its report
-    let cases: [(&[u8], &[u8]); 4] = [
-        (ROW, ROW_REPORT),
-        (b"", b""),
-        // the second of three messages is lost, and so is each acknowledgement
-        (
-            b"# lost\n\ncreate 1\ndeliver 1\ndeliver 2\nsend 1 1 <p>1</p>\nsend 1 1 <p>2</p>\nsend 1 1 <p>3</p>\n\
-                deliver 3\ndeliver 5",
-            b"3 ok 2 1 1\n4 ok 2 2 2\n5 ok 3 2 2\n6 ok 4 2 3\n7 ok 5 2 4\n8 ok 6 2 5\n9 ok 6 3 6\n10 ok 6 4 7\n\
-                out 1 1 open accepted 3 acked -\nin 2 1 open dfg received 1-1,3-3 inbox 1 discarded 0\n\
-                item 2 1 1 3c703e313c2f703e\n",
-        ),
-        // what comes is no message, and what is named is not there
-        (
-            b"noise 2 3c613e\ndeliver 1\ndeliver 9\nsend 1 1 <p>1</p>\n",
-            b"1 fault NotProfile 1 1 1\n2 ok 1 1 1\n3 no-packet 1 1 1\n4 no-sequence 1 1 1\n",
-        ),
-    ];
-    for (input, report) in cases {
-        let (status, out) = run_whole(rt.alloc(), given(REPLAY, input, None))?;
-        assert_eq!(rt; status, 0, "at {input:?}");
-        assert_eq!(rt; out.as_slice(), report);
+fn reports(rt: HostRuntime) -> Result<(), Memory> {
+    for (script, report) in &REPORTS {
+        assert!(rt;
+            prints(rt.alloc(), given(REPLAY, script, None), 0, report)?,
+            "{script:?}"
+        );
     }
     Ok(())
 }
 
-#[test]
-fn a_full_window(rt: HostRuntime) -> Result<(), Fail> {
-    let mut script = Blob::from_slice(rt.alloc(), b"create 1\ndeliver 1\ndeliver 2\n")?;
-    script.push_all(repeated(rt.alloc(), b"send 1 1 <p>1</p>\n", 1025)?.as_slice())?;
-    let (status, out) = run_whole(rt.alloc(), given(REPLAY, script.as_slice(), None))?;
-    assert_eq!(rt; status, 0);
-    let end = b"\n1027 ok 1027 2 1026\n1028 refused WindowFull 1027 2 1026\n\
+// A script that sends so many payloads.
+fn sending(alloc: Global, count: u32) -> Result<Blob, Memory> {
+    let mut script = Blob::from_slice(alloc, b"create 1\ndeliver 1\ndeliver 2\n")?;
+    push_repeated(&mut script, b"send 1 1 <p>1</p>\n", count)?;
+    Ok(script)
+}
+
+const FULL: &[u8] = b"\n1027 ok 1027 2 1026\n1028 refused WindowFull 1027 2 1026\n\
         out 1 1 open accepted 1024 acked -\nin 2 1 open dfg received - inbox 0 discarded 0\n";
-    assert!(rt; out.as_slice().ends_with(end.as_slice()));
+
+#[test]
+fn a_full_window(rt: HostRuntime) -> Result<(), Memory> {
+    let script = sending(rt.alloc(), 1025)?;
+    assert!(rt; ends(rt.alloc(), given(REPLAY, script.as_slice(), None), 0, FULL)?);
     Ok(())
 }
 
@@ -159,13 +188,12 @@ impl Wire for ShortWire {
     }
 }
 
-// The record of a message is on the disk, and memory is wanting for its packet.
-#[test]
-fn memory_is_wanting(rt: HostRuntime) -> Result<(), Fail> {
-    let alloc = rt.alloc();
-    let asked = given(REPLAY, ROW, None);
-    let words = words_of(alloc, asked)?;
-    let mut input = input_of(alloc, asked)?;
+// Runs the program on such a wire, and answers its status, how many bytes it wrote, and what was on its stage.
+fn play_short(
+    alloc: Global,
+    words: &[Blob],
+    input: &mut MemSource,
+) -> (u8, usize, Stage<MemDisk, ShortWire>) {
     let mut out = MemSink::new(alloc, Numbers::new(alloc));
     let mut stage = Stage {
         one: MemDisk::new(alloc),
@@ -175,56 +203,89 @@ fn memory_is_wanting(rt: HostRuntime) -> Result<(), Fail> {
             puts: 0,
         },
     };
-    let status = run(alloc, words.as_slice(), &mut input, &mut out, &mut stage);
-    assert_eq!(rt; status, 10);
-    assert_eq!(rt; out.as_slice(), b"".as_slice());
-    assert_eq!(rt; stage.wire.count(), 2);
-    assert_eq!(rt; Journal::mount(alloc, &mut stage.one)?.count(), 4);
+    let status = run(alloc, words, input, &mut out, &mut stage);
+    (status, out.as_slice().len(), stage)
+}
+
+// The same, for what is asked.
+fn run_short(
+    alloc: Global,
+    given: Asked<'_>,
+) -> Result<(u8, usize, Stage<MemDisk, ShortWire>), Memory> {
+    let words = words_of(alloc, given)?;
+    let mut input = input_of(alloc, given)?;
+    Ok(play_short(alloc, words.as_slice(), &mut input))
+}
+
+// How many entries a disk has.
+fn entries(alloc: Global, disk: &mut MemDisk) -> Result<u64, JournalError> {
+    Ok(Journal::mount(alloc, disk)?.count())
+}
+
+// The record of a message is on the disk, and memory is wanting for its packet.
+#[test]
+fn memory_is_wanting(rt: HostRuntime) -> Result<(), Fail> {
+    let (status, written, mut stage) = run_short(rt.alloc(), given(REPLAY, ROW, None))?;
+    assert!(rt; (status, written, stage.wire.count()) == (10, 0, 2));
+    assert!(rt; entries(rt.alloc(), &mut stage.one)? == 4);
     Ok(())
 }
 
 // A comment of so many lines with 1024 bytes each.
 fn comment(alloc: Global, lines: u32) -> Result<Blob, Memory> {
-    let mut line = repeated(alloc, b"#", 1023)?;
+    let mut line = Blob::new(alloc);
+    push_repeated(&mut line, b"#", 1023)?;
     line.push_all(b"\n")?;
-    repeated(alloc, line.as_slice(), lines)
+    let mut script = Blob::new(alloc);
+    push_repeated(&mut script, line.as_slice(), lines)?;
+    Ok(script)
 }
 
 // A script of 16777216 bytes: the read with number 256 finds its end.
 #[test]
-fn the_longest_script(rt: HostRuntime) -> Result<(), Fail> {
+fn the_longest_script(rt: HostRuntime) -> Result<(), Memory> {
     let script = comment(rt.alloc(), 16384)?;
-    let (status, out) = run_whole(rt.alloc(), given(REPLAY, script.as_slice(), Some(257)))?;
-    assert_eq!(rt; status, 0);
-    assert_eq!(rt; out.as_slice(), b"".as_slice());
+    assert!(rt;
+        prints(
+            rt.alloc(),
+            given(REPLAY, script.as_slice(), Some(257)),
+            0,
+            b""
+        )?
+    );
     Ok(())
 }
 
-// One byte more, and no read behind it.
-#[test]
-fn a_longer_script(rt: HostRuntime) -> Result<(), Fail> {
-    let mut script = comment(rt.alloc(), 16384)?;
+// One byte more.
+fn longer_comment(alloc: Global) -> Result<Blob, Memory> {
+    let mut script = comment(alloc, 16384)?;
     script.push_all(b"#")?;
-    let (status, out) = run_whole(rt.alloc(), given(REPLAY, script.as_slice(), Some(257)))?;
-    assert_eq!(rt; status, 8);
-    assert_eq!(rt; out.as_slice(), b"too long\n".as_slice());
+    Ok(script)
+}
+
+// And no read behind it.
+#[test]
+fn a_longer_script(rt: HostRuntime) -> Result<(), Memory> {
+    let script = longer_comment(rt.alloc())?;
+    let asked = given(REPLAY, script.as_slice(), Some(257));
+    assert!(rt; prints(rt.alloc(), asked, 8, b"too long\n")?);
     Ok(())
 }
 
+// The read that fails, and what comes then.
+const FAILING: [(u64, u8, &[u8]); 4] = [
+    (0, 4, b"read fault\n"),
+    (1, 4, b"read fault\n"),
+    (2, 4, b"read fault\n"),
+    (3, 0, b""),
+];
+
 #[test]
-fn reads_fail(rt: HostRuntime) -> Result<(), Fail> {
+fn reads_fail(rt: HostRuntime) -> Result<(), Memory> {
     let script = comment(rt.alloc(), 65)?;
-    // the read that fails, and what comes then
-    let cases: [(Option<u64>, u8, &[u8]); 4] = [
-        (Some(0), 4, b"read fault\n"),
-        (Some(1), 4, b"read fault\n"),
-        (Some(2), 4, b"read fault\n"),
-        (Some(3), 0, b""),
-    ];
-    for (failing, want, line) in cases {
-        let (status, out) = run_whole(rt.alloc(), given(REPLAY, script.as_slice(), failing))?;
-        assert_eq!(rt; status, want, "with {failing:?}");
-        assert_eq!(rt; out.as_slice(), line);
+    for (failing, status, text) in &FAILING {
+        let asked = given(REPLAY, script.as_slice(), Some(*failing));
+        assert!(rt; prints(rt.alloc(), asked, *status, text)?, "{failing}");
     }
     Ok(())
 }
@@ -249,7 +310,7 @@ fn padded(alloc: Global, spaces: u32) -> Result<Blob, Memory> {
         b"<Envelope xmlns=\"http://www.w3.org/2003/05/soap-envelope\"><Header><Action \
             xmlns=\"http://www.w3.org/2005/08/addressing\">urn:a</Action></Header><Body>",
     )?;
-    bytes.push_all(repeated(alloc, b" ", spaces)?.as_slice())?;
+    push_repeated(&mut bytes, b" ", spaces)?;
     bytes.push_all(b"</Body></Envelope>")?;
     Ok(bytes)
 }
@@ -276,112 +337,176 @@ fn with_block(alloc: Global, block: &[u8]) -> Result<Blob, Memory> {
 // The place of the end tag of Header in the envelope.
 const HEADER_END: usize = 428;
 
+// The bytes, the status, and how what is printed begins.
+const CHECKED: [(&[u8], u8, &[u8]); 6] = [
+    (ENVELOPE, 0, ENVELOPE_TEXT),
+    (b"<!DOCTYPE a><a/>", 9, b"fault NotProfile\n"),
+    (b"", 9, b"fault NotProfile\n"),
+    (b"<\xff", 9, b"fault NotUtf8\n"),
+    (
+        b"<Envelope xmlns=\"http://schemas.xmlsoap.org/soap/envelope/\"><Body/></Envelope>",
+        9,
+        b"fault WrongVersion\n",
+    ),
+    (
+        b"<e:Envelope xmlns:e=\"http://www.w3.org/2003/05/soap-envelope\"/>",
+        9,
+        b"fault NotEnvelope\n",
+    ),
+];
+
+// The message number, and the same.
+const NUMBERED: [(&[u8], u8, &[u8]); 3] = [
+    (
+        b"9223372036854775807",
+        0,
+        b"kind payload\nto http://www.w3.org/2005/08/addressing/anonymous\naction urn:buy&sell\n\
+        sequence urn:q 9223372036854775807\n",
+    ),
+    (b"9223372036854775808", 9, b"fault Rollover\n"),
+    (b"0", 9, b"fault Malformed\n"),
+];
+
+// The header block, and the same.
+const BLOCKS: [(&[u8], u8, &[u8]); 2] = [
+    (
+        b"<x:h xmlns:x=\"urn:x\" S:mustUnderstand=\"0\"/>",
+        0,
+        ENVELOPE_TEXT,
+    ),
+    (
+        b"<x:h xmlns:x=\"urn:x\" S:mustUnderstand=\"1\"/>",
+        9,
+        b"fault NotUnderstood\n",
+    ),
+];
+
+// The count of spaces in the payload, and the same.
+const PADDED: [(u32, u8, &[u8]); 2] = [
+    (
+        2096986,
+        0,
+        b"kind payload\nto http://www.w3.org/2005/08/addressing/anonymous\naction urn:a\npayload 2020",
+    ),
+    (2096987, 8, b"too long\n"),
+];
+
+fn is_number_checked(alloc: Global, row: &(&[u8], u8, &[u8])) -> Result<bool, Memory> {
+    let input = numbered(alloc, row.0)?;
+    begins(alloc, given(CHECK, input.as_slice(), None), row.1, row.2)
+}
+
+fn is_block_checked(alloc: Global, row: &(&[u8], u8, &[u8])) -> Result<bool, Memory> {
+    let input = with_block(alloc, row.0)?;
+    begins(alloc, given(CHECK, input.as_slice(), None), row.1, row.2)
+}
+
+fn is_padding_checked(alloc: Global, row: &(u32, u8, &[u8])) -> Result<bool, Memory> {
+    let input = padded(alloc, row.0)?;
+    begins(alloc, given(CHECK, input.as_slice(), None), row.1, row.2)
+}
+
 #[test]
-fn checks(rt: HostRuntime) -> Result<(), Fail> {
-    let alloc = rt.alloc();
-    let longest = padded(alloc, 2096986)?;
-    let longer = padded(alloc, 2096987)?;
+fn checks(rt: HostRuntime) -> Result<(), Memory> {
     let cut = ENVELOPE.split_at(ENVELOPE.len() - 1).0;
-    let greatest = numbered(alloc, b"9223372036854775807")?;
-    let over = numbered(alloc, b"9223372036854775808")?;
-    let none = numbered(alloc, b"0")?;
-    let strange = with_block(alloc, b"<x:h xmlns:x=\"urn:x\" S:mustUnderstand=\"1\"/>")?;
-    let passed = with_block(alloc, b"<x:h xmlns:x=\"urn:x\" S:mustUnderstand=\"0\"/>")?;
-    // the bytes, the status, and how what is printed begins
-    let cases: [(&[u8], u8, &[u8]); 14] = [
-        (ENVELOPE, 0, ENVELOPE_TEXT),
-        (passed.as_slice(), 0, ENVELOPE_TEXT),
-        (
-            greatest.as_slice(),
-            0,
-            b"kind payload\nto http://www.w3.org/2005/08/addressing/anonymous\naction urn:buy&sell\n\
-                sequence urn:q 9223372036854775807\n",
-        ),
-        (over.as_slice(), 9, b"fault Rollover\n"),
-        (none.as_slice(), 9, b"fault Malformed\n"),
-        (strange.as_slice(), 9, b"fault NotUnderstood\n"),
-        (
-            longest.as_slice(),
-            0,
-            b"kind payload\nto http://www.w3.org/2005/08/addressing/anonymous\naction urn:a\npayload 2020",
-        ),
-        (longer.as_slice(), 8, b"too long\n"),
-        (cut, 9, b"fault NotProfile\n"),
-        (b"<!DOCTYPE a><a/>", 9, b"fault NotProfile\n"),
-        (b"", 9, b"fault NotProfile\n"),
-        (b"<\xff", 9, b"fault NotUtf8\n"),
-        (
-            b"<Envelope xmlns=\"http://schemas.xmlsoap.org/soap/envelope/\"><Body/></Envelope>",
+    assert!(rt;
+        begins(
+            rt.alloc(),
+            given(CHECK, cut, None),
             9,
-            b"fault WrongVersion\n",
-        ),
-        (
-            b"<e:Envelope xmlns:e=\"http://www.w3.org/2003/05/soap-envelope\"/>",
-            9,
-            b"fault NotEnvelope\n",
-        ),
-    ];
-    for (input, want, text) in cases {
-        let (status, out) = run_whole(rt.alloc(), given(CHECK, input, None))?;
-        assert_eq!(rt; status, want, "before {text:?}");
-        assert!(rt; out.as_slice().starts_with(text), "{text:?}");
+            b"fault NotProfile\n"
+        )?
+    );
+    for (input, status, text) in &CHECKED {
+        assert!(rt;
+            begins(rt.alloc(), given(CHECK, input, None), *status, text)?,
+            "before {text:?}"
+        );
     }
     Ok(())
 }
 
-// Of each kind of message: its lines, but for those of the addressing properties and of bindings.
-const TAIL: &[u8] = b"</Header><Body>";
+#[test]
+fn checks_numbers_and_blocks(rt: HostRuntime) -> Result<(), Memory> {
+    for row in &NUMBERED {
+        assert!(rt; is_number_checked(rt.alloc(), row)?, "before {:?}", row.2);
+    }
+    for row in &BLOCKS {
+        assert!(rt; is_block_checked(rt.alloc(), row)?, "before {:?}", row.2);
+    }
+    Ok(())
+}
 
 #[test]
-fn kinds_of_messages(rt: HostRuntime) -> Result<(), Fail> {
-    let head: &[u8] = b"<Envelope xmlns=\"http://www.w3.org/2003/05/soap-envelope\" \
+fn checks_up_to_a_length(rt: HostRuntime) -> Result<(), Memory> {
+    for row in &PADDED {
+        assert!(rt; is_padding_checked(rt.alloc(), row)?, "before {:?}", row.2);
+    }
+    Ok(())
+}
+
+const HEAD: &[u8] = b"<Envelope xmlns=\"http://www.w3.org/2003/05/soap-envelope\" \
         xmlns:a=\"http://www.w3.org/2005/08/addressing\" \
         xmlns:r=\"http://docs.oasis-open.org/ws-rx/wsrm/200702\" \
         xmlns:c=\"http://docs.oasis-open.org/ws-rx/wsmc/200702\"><Header>";
-    // the header blocks, what stands in Body, and what is printed
-    let cases: [(&[u8], &[u8], &[u8]); 4] = [
-        (
-            b"<a:Action>http://docs.oasis-open.org/ws-rx/wsrm/200702/SequenceAcknowledgement</a:Action>\
-                <r:SequenceAcknowledgement><r:Identifier>urn:q</r:Identifier>\
-                <r:AcknowledgementRange Lower=\"4\" Upper=\"5\"/><r:AcknowledgementRange Lower=\"1\" Upper=\"2\"/>\
-                <r:Final/></r:SequenceAcknowledgement><r:SequenceAcknowledgement>\
-                <r:Identifier>urn:n</r:Identifier><r:Nack>3</r:Nack><r:Nack>9</r:Nack></r:SequenceAcknowledgement>\
-                <r:AckRequested><r:Identifier>urn:q z</r:Identifier></r:AckRequested>\
-                <c:MessagePending pending=\"true\"/>",
-            b"",
-            b"kind empty\nto http://www.w3.org/2005/08/addressing/anonymous\n\
-                action http://docs.oasis-open.org/ws-rx/wsrm/200702/SequenceAcknowledgement\n\
-                ack urn:q 4-5,1-2 final\nack urn:n nack 3,9\nask urn:q%20z\npending true\n",
-        ),
-        (
-            b"<a:To>urn:t</a:To><a:Action>http://docs.oasis-open.org/ws-rx/wsrm/200702/CreateSequence</a:Action>\
-                <a:MessageID>urn:m</a:MessageID>",
-            b"<r:CreateSequence><r:AcksTo><a:Address>urn:b</a:Address></r:AcksTo></r:CreateSequence>",
-            b"kind create\nto urn:t\naction http://docs.oasis-open.org/ws-rx/wsrm/200702/CreateSequence\nid urn:m\n",
-        ),
-        (
-            b"<a:Action>http://docs.oasis-open.org/ws-rx/wsrm/200702/CloseSequence</a:Action>",
-            b"<r:CloseSequence><r:Identifier>urn:q</r:Identifier><r:LastMsgNumber>3</r:LastMsgNumber>\
-                </r:CloseSequence>",
-            b"kind close\nto http://www.w3.org/2005/08/addressing/anonymous\n\
-                action http://docs.oasis-open.org/ws-rx/wsrm/200702/CloseSequence\nident urn:q\nlast 3\n",
-        ),
-        (
-            b"<a:Action>http://www.w3.org/2005/08/addressing/soap/fault</a:Action><a:RelatesTo>urn:m</a:RelatesTo>",
-            b"<Fault><Code><Value>Sender</Value></Code><Reason><Text xml:lang=\"en\">no</Text></Reason></Fault>",
-            b"kind fault\nto http://www.w3.org/2005/08/addressing/anonymous\n\
-                action http://www.w3.org/2005/08/addressing/soap/fault\nrelates urn:m\ncode Sender\n",
-        ),
-    ];
-    for (blocks, body, text) in cases {
-        let mut input = Blob::from_slice(rt.alloc(), head)?;
-        input.push_all(blocks)?;
-        input.push_all(TAIL)?;
-        input.push_all(body)?;
-        input.push_all(b"</Body></Envelope>")?;
-        let (status, out) = run_whole(rt.alloc(), given(CHECK, input.as_slice(), None))?;
-        assert_eq!(rt; status, 0, "before {text:?}");
-        assert_eq!(rt; out.as_slice(), text);
+
+const TAIL: &[u8] = b"</Header><Body>";
+
+// Of each kind of message: the header blocks, what stands in Body, and what is printed, which is its lines, but for
+// those of the addressing properties and of bindings.
+const KINDS: [(&[u8], &[u8], &[u8]); 4] = [
+    (
+        b"<a:Action>http://docs.oasis-open.org/ws-rx/wsrm/200702/SequenceAcknowledgement</a:Action>\
+            <r:SequenceAcknowledgement><r:Identifier>urn:q</r:Identifier>\
+            <r:AcknowledgementRange Lower=\"4\" Upper=\"5\"/><r:AcknowledgementRange Lower=\"1\" Upper=\"2\"/>\
+            <r:Final/></r:SequenceAcknowledgement><r:SequenceAcknowledgement>\
+            <r:Identifier>urn:n</r:Identifier><r:Nack>3</r:Nack><r:Nack>9</r:Nack></r:SequenceAcknowledgement>\
+            <r:AckRequested><r:Identifier>urn:q z</r:Identifier></r:AckRequested>\
+            <c:MessagePending pending=\"true\"/>",
+        b"",
+        b"kind empty\nto http://www.w3.org/2005/08/addressing/anonymous\n\
+            action http://docs.oasis-open.org/ws-rx/wsrm/200702/SequenceAcknowledgement\n\
+            ack urn:q 4-5,1-2 final\nack urn:n nack 3,9\nask urn:q%20z\npending true\n",
+    ),
+    (
+        b"<a:To>urn:t</a:To><a:Action>http://docs.oasis-open.org/ws-rx/wsrm/200702/CreateSequence</a:Action>\
+            <a:MessageID>urn:m</a:MessageID>",
+        b"<r:CreateSequence><r:AcksTo><a:Address>urn:b</a:Address></r:AcksTo></r:CreateSequence>",
+        b"kind create\nto urn:t\naction http://docs.oasis-open.org/ws-rx/wsrm/200702/CreateSequence\nid urn:m\n",
+    ),
+    (
+        b"<a:Action>http://docs.oasis-open.org/ws-rx/wsrm/200702/CloseSequence</a:Action>",
+        b"<r:CloseSequence><r:Identifier>urn:q</r:Identifier><r:LastMsgNumber>3</r:LastMsgNumber>\
+            </r:CloseSequence>",
+        b"kind close\nto http://www.w3.org/2005/08/addressing/anonymous\n\
+            action http://docs.oasis-open.org/ws-rx/wsrm/200702/CloseSequence\nident urn:q\nlast 3\n",
+    ),
+    (
+        b"<a:Action>http://www.w3.org/2005/08/addressing/soap/fault</a:Action><a:RelatesTo>urn:m</a:RelatesTo>",
+        b"<Fault><Code><Value>Sender</Value></Code><Reason><Text xml:lang=\"en\">no</Text></Reason></Fault>",
+        b"kind fault\nto http://www.w3.org/2005/08/addressing/anonymous\n\
+            action http://www.w3.org/2005/08/addressing/soap/fault\nrelates urn:m\ncode Sender\n",
+    ),
+];
+
+// The message with these header blocks and this in its Body.
+fn message(alloc: Global, blocks: &[u8], body: &[u8]) -> Result<Blob, Memory> {
+    let mut text = Blob::new(alloc);
+    for piece in [HEAD, blocks, TAIL, body, b"</Body></Envelope>"] {
+        text.push_all(piece)?;
+    }
+    Ok(text)
+}
+
+fn is_kind_checked(alloc: Global, row: &(&[u8], &[u8], &[u8])) -> Result<bool, Memory> {
+    let input = message(alloc, row.0, row.1)?;
+    prints(alloc, given(CHECK, input.as_slice(), None), 0, row.2)
+}
+
+#[test]
+fn kinds_of_messages(rt: HostRuntime) -> Result<(), Memory> {
+    for row in &KINDS {
+        assert!(rt; is_kind_checked(rt.alloc(), row)?, "before {:?}", row.2);
     }
     Ok(())
 }
@@ -397,53 +522,71 @@ const SECURED: &[u8] = b"<p:RMAssertion xmlns:p=\"http://docs.oasis-open.org/ws-
         xmlns:w=\"http://www.w3.org/ns/ws-policy\" w:Optional=\"true\"><w:Policy><p:SequenceSTR/><p:DeliveryAssurance>\
         <w:Policy><p:ExactlyOnce/><p:InOrder/></w:Policy></p:DeliveryAssurance></w:Policy></p:RMAssertion>";
 
+const BARE: &[u8] = b"<RMAssertion xmlns='http://docs.oasis-open.org/ws-rx/wsrmp/200702'/>";
+
+const UNSAID: &[u8] = b"assurance unsaid\nin-order no\noptional no\ngranted yes\n";
+
+// The bytes, the status, and what is printed.
+const POLICIES: [(&[u8], u8, &[u8]); 10] = [
+    (ASSERTION, 0, ASSERTION_TEXT),
+    (SECURED, 9, b"fault SecurityUnsupported\n"),
+    (b"", 9, b"fault NotProfile\n"),
+    (b"<a/>", 9, b"fault Malformed\n"),
+    (b"<\xff", 9, b"fault NotUtf8\n"),
+    (BARE, 0, UNSAID),
+    (ENVELOPE, 9, b"fault Malformed\n"),
+    (
+        b"<RMAssertion xmlns='http://docs.oasis-open.org/ws-rx/wsrmp/200702'><Policy \
+            xmlns='http://schemas.xmlsoap.org/ws/2004/09/policy'><DeliveryAssurance \
+            xmlns='http://docs.oasis-open.org/ws-rx/wsrmp/200702'><Policy xmlns='http://www.w3.org/ns/ws-policy'\
+            ><AtLeastOnce xmlns='http://docs.oasis-open.org/ws-rx/wsrmp/200702'/></Policy></DeliveryAssurance>\
+            </Policy></RMAssertion>",
+        0,
+        b"assurance at-least-once\nin-order no\noptional no\ngranted no\n",
+    ),
+    (
+        b"<RMAssertion xmlns='http://docs.oasis-open.org/ws-rx/wsrmp/200702' \
+            xmlns:w='http://www.w3.org/ns/ws-policy' w:Optional='false'><w:Policy><DeliveryAssurance><w:Policy>\
+            <AtMostOnce/><InOrder/></w:Policy></DeliveryAssurance></w:Policy></RMAssertion>",
+        0,
+        b"assurance at-most-once\nin-order yes\noptional no\ngranted no\n",
+    ),
+    (
+        b"<RMAssertion xmlns='http://docs.oasis-open.org/ws-rx/wsrmp/200702'>x</RMAssertion>",
+        9,
+        b"fault Malformed\n",
+    ),
+];
+
 #[test]
-fn policies(rt: HostRuntime) -> Result<(), Fail> {
-    // an assertion behind so many spaces
-    let bare: &[u8] = b"<RMAssertion xmlns='http://docs.oasis-open.org/ws-rx/wsrmp/200702'/>";
-    let mut longest = repeated(rt.alloc(), b" ", 2097084)?;
-    longest.push_all(bare)?;
-    let mut longer = repeated(rt.alloc(), b" ", 2097085)?;
-    longer.push_all(bare)?;
-    let unsaid = b"assurance unsaid\nin-order no\noptional no\ngranted yes\n".as_slice();
-    // the bytes, the status, and what is printed
-    let cases: [(&[u8], u8, &[u8]); 12] = [
-        (ASSERTION, 0, ASSERTION_TEXT),
-        (SECURED, 9, b"fault SecurityUnsupported\n"),
-        (b"", 9, b"fault NotProfile\n"),
-        (b"<a/>", 9, b"fault Malformed\n"),
-        (b"<\xff", 9, b"fault NotUtf8\n"),
-        (bare, 0, unsaid),
-        (longest.as_slice(), 0, unsaid),
-        (longer.as_slice(), 8, b"too long\n"),
-        (ENVELOPE, 9, b"fault Malformed\n"),
-        (
-            b"<RMAssertion xmlns='http://docs.oasis-open.org/ws-rx/wsrmp/200702'><Policy \
-                xmlns='http://schemas.xmlsoap.org/ws/2004/09/policy'><DeliveryAssurance \
-                xmlns='http://docs.oasis-open.org/ws-rx/wsrmp/200702'><Policy xmlns='http://www.w3.org/ns/ws-policy'\
-                ><AtLeastOnce xmlns='http://docs.oasis-open.org/ws-rx/wsrmp/200702'/></Policy></DeliveryAssurance>\
-                </Policy></RMAssertion>",
-            0,
-            b"assurance at-least-once\nin-order no\noptional no\ngranted no\n",
-        ),
-        (
-            b"<RMAssertion xmlns='http://docs.oasis-open.org/ws-rx/wsrmp/200702' \
-                xmlns:w='http://www.w3.org/ns/ws-policy' w:Optional='false'><w:Policy><DeliveryAssurance><w:Policy>\
-                <AtMostOnce/><InOrder/></w:Policy></DeliveryAssurance></w:Policy></RMAssertion>",
-            0,
-            b"assurance at-most-once\nin-order yes\noptional no\ngranted no\n",
-        ),
-        (
-            b"<RMAssertion xmlns='http://docs.oasis-open.org/ws-rx/wsrmp/200702'>x</RMAssertion>",
-            9,
-            b"fault Malformed\n",
-        ),
-    ];
-    for (input, want, text) in cases {
-        let (status, out) = run_whole(rt.alloc(), given(POLICY, input, None))?;
-        assert_eq!(rt; status, want, "before {text:?}");
-        assert_eq!(rt; out.as_slice(), text);
+fn policies(rt: HostRuntime) -> Result<(), Memory> {
+    for (input, status, text) in &POLICIES {
+        assert!(rt;
+            prints(rt.alloc(), given(POLICY, input, None), *status, text)?,
+            "before {text:?}"
+        );
     }
+    Ok(())
+}
+
+// An assertion behind so many spaces.
+fn behind_spaces(alloc: Global, spaces: u32) -> Result<Blob, Memory> {
+    let mut bytes = Blob::new(alloc);
+    push_repeated(&mut bytes, b" ", spaces)?;
+    bytes.push_all(BARE)?;
+    Ok(bytes)
+}
+
+// Whether it has this status, and this is printed.
+fn is_behind_spaces(alloc: Global, spaces: u32, status: u8, text: &[u8]) -> Result<bool, Memory> {
+    let input = behind_spaces(alloc, spaces)?;
+    prints(alloc, given(POLICY, input.as_slice(), None), status, text)
+}
+
+#[test]
+fn policies_up_to_a_length(rt: HostRuntime) -> Result<(), Memory> {
+    assert!(rt; is_behind_spaces(rt.alloc(), 2097084, 0, UNSAID)?);
+    assert!(rt; is_behind_spaces(rt.alloc(), 2097085, 8, b"too long\n")?);
     Ok(())
 }
 
@@ -476,48 +619,79 @@ impl Sink for Narrow {
 
 // The words, the input and the read that fails; the status where all is written, and where it isn't; what is written;
 // and how many packets were sent.
-type Case<'a> = (Asked<'a>, u8, u8, &'a [u8], u64);
+type Case = (
+    &'static [&'static [u8]],
+    &'static [u8],
+    Option<u64>,
+    u8,
+    u8,
+    &'static [u8],
+    u64,
+);
+
+const CASES: [Case; 14] = [
+    (REPLAY, ROW, None, 0, 5, ROW_REPORT, 8),
+    (REPLAY, b"send 1 1\n", None, 3, 3, b"bad line 1\n", 0),
+    (
+        REPLAY,
+        b"\ncreate 1\ndeliver 0",
+        None,
+        3,
+        3,
+        b"bad line 3\n",
+        0,
+    ),
+    (REPLAY, ROW, Some(0), 4, 4, b"read fault\n", 0),
+    (CHECK, ENVELOPE, None, 0, 5, ENVELOPE_TEXT, 0),
+    (CHECK, ENVELOPE, Some(1), 4, 4, b"read fault\n", 0),
+    (CHECK, b"<\xff", None, 9, 9, b"fault NotUtf8\n", 0),
+    (POLICY, ASSERTION, None, 0, 5, ASSERTION_TEXT, 0),
+    (POLICY, ASSERTION, Some(0), 4, 4, b"read fault\n", 0),
+    (POLICY, b"", None, 9, 9, b"fault NotProfile\n", 0),
+    (NOTHING, ROW, None, 2, 2, USAGE, 0),
+    (&[b"replay", b"x"], ROW, None, 2, 2, USAGE, 0),
+    (&[b"check", b"replay"], ROW, None, 2, 2, USAGE, 0),
+    (&[b"check "], ROW, None, 2, 2, USAGE, 0),
+];
+
+// A sink for so many calls.
+fn sink_for(alloc: Global, calls: u16) -> Narrow {
+    Narrow {
+        written: Blob::new(alloc),
+        calls_left: u64::from(calls),
+        faults: 0,
+    }
+}
+
+// What of a text is written by so many calls.
+fn front(text: &[u8], calls: u16) -> &[u8] {
+    let count = usize::from(calls) * 3;
+    text.split_at(text.len().min(count)).0
+}
+
+// Whether a run ends so where so many calls are made.
+fn ends_so(case: &Case, calls: u16, ended: (u8, u64)) -> bool {
+    let is_whole = front(case.5, calls).len() == case.5.len();
+    let status = if is_whole { case.3 } else { case.4 };
+    ended == (status, case.6)
+}
+
+// Whether a run writes what so many calls do, and ends so.
+fn is_cut(alloc: Global, case: &Case, calls: u16) -> Result<bool, Memory> {
+    let mut out = sink_for(alloc, calls);
+    let ended = run_on(alloc, given(case.0, case.1, case.2), &mut out)?;
+    Ok(ends_so(case, calls, ended) & (out.written.as_slice() == front(case.5, calls)))
+}
 
 #[test]
-fn each_write_fails_in_turn(rt: HostRuntime) -> Result<(), Fail> {
-    let cases: [Case<'_>; 14] = [
-        (given(REPLAY, ROW, None), 0, 5, ROW_REPORT, 8),
-        (given(REPLAY, b"send 1 1\n", None), 3, 3, b"bad line 1\n", 0),
-        (
-            given(REPLAY, b"\ncreate 1\ndeliver 0", None),
-            3,
-            3,
-            b"bad line 3\n",
-            0,
-        ),
-        (given(REPLAY, ROW, Some(0)), 4, 4, b"read fault\n", 0),
-        (given(CHECK, ENVELOPE, None), 0, 5, ENVELOPE_TEXT, 0),
-        (given(CHECK, ENVELOPE, Some(1)), 4, 4, b"read fault\n", 0),
-        (given(CHECK, b"<\xff", None), 9, 9, b"fault NotUtf8\n", 0),
-        (given(POLICY, ASSERTION, None), 0, 5, ASSERTION_TEXT, 0),
-        (given(POLICY, ASSERTION, Some(0)), 4, 4, b"read fault\n", 0),
-        (given(POLICY, b"", None), 9, 9, b"fault NotProfile\n", 0),
-        (given(NOTHING, ROW, None), 2, 2, USAGE, 0),
-        (given(&[b"replay", b"x"], ROW, None), 2, 2, USAGE, 0),
-        (given(&[b"check", b"replay"], ROW, None), 2, 2, USAGE, 0),
-        (given(&[b"check "], ROW, None), 2, 2, USAGE, 0),
-    ];
-    for (given, whole_status, cut_status, text, packets) in cases {
-        for calls_left in 0..120 {
-            let mut out = Narrow {
-                written: Blob::new(rt.alloc()),
-                calls_left,
-                faults: 0,
-            };
-            let ended = run_on(rt.alloc(), given, &mut out)?;
-            let count = text.len().min(calls_left as usize * 3);
-            assert_eq!(rt; out.written.as_slice(), &text[..count]);
-            let status = if count < text.len() {
-                cut_status
-            } else {
-                whole_status
-            };
-            assert_eq!(rt; ended, (status, packets), "after {calls_left} of {text:?}");
+fn each_write_fails_in_turn(rt: HostRuntime) -> Result<(), Memory> {
+    for case in &CASES {
+        for calls in 0..120 {
+            assert!(rt;
+                is_cut(rt.alloc(), case, calls)?,
+                "after {calls} of {:?}",
+                case.5
+            );
         }
     }
     Ok(())

@@ -2,7 +2,7 @@
 //! is slow to prove.
 use rm_base::{Blob, Memory};
 use rm_elements::addressing::{
-    AddressingError, read_addressing, read_epr, write_addressing, write_epr,
+    Addressing, AddressingError, Epr, read_addressing, read_epr, write_addressing, write_epr,
 };
 use soap_profile::{Element, Elements, EnvelopeError, Item, read_element};
 use std::alloc::Global;
@@ -33,12 +33,19 @@ const PROPERTIES: &[u8] =
     <a:FaultTo><a:Address>http://d/</a:Address></a:FaultTo>\
     <n:To xmlns:n=\"urn:n\" a:IsReferenceParameter=\"true\">2</n:To>";
 
-// How the properties of these headers are written.
-fn rewritten(alloc: Global, headers: &Elements) -> Result<Blob, AddressingError> {
-    let properties = read_addressing(alloc, headers)?;
+// How properties are written.
+fn written(alloc: Global, properties: &Addressing) -> Result<Blob, Memory> {
     let mut out = Blob::new(alloc);
-    write_addressing(alloc, &properties, &mut out)?;
+    write_addressing(alloc, properties, &mut out)?;
     Ok(out)
+}
+
+// How the properties of these headers are.
+fn rewritten(alloc: Global, headers: &Elements) -> Option<Blob> {
+    match read_addressing(alloc, headers) {
+        Ok(properties) => written(alloc, &properties).ok(),
+        Err(_) => None,
+    }
 }
 
 // Whether it has the To and the one parameter of these headers.
@@ -51,8 +58,8 @@ fn has_properties(alloc: Global, headers: &Elements) -> Result<bool, AddressingE
 // Whether these headers are written as they came.
 fn are_kept(alloc: Global, headers: &Elements) -> bool {
     match rewritten(alloc, headers) {
-        Ok(out) => out.as_slice() == PROPERTIES,
-        Err(_) => false,
+        Some(out) => out.as_slice() == PROPERTIES,
+        None => false,
     }
 }
 
@@ -91,12 +98,20 @@ fn headers_in_any_order(rt: HostRuntime) -> Result<(), EnvelopeError> {
 }
 
 // The kind of a refusal by its number, and the name of the header that is refused.
+fn kind_of(error: AddressingError) -> Option<(u8, Blob)> {
+    match error {
+        AddressingError::Cardinality { name } => Some((1, name)),
+        AddressingError::HeaderMissing { name } => Some((2, name)),
+        AddressingError::BadHeader { name } => Some((3, name)),
+        AddressingError::Memory => None,
+    }
+}
+
+// That of these headers.
 fn refusal(alloc: Global, headers: &Elements) -> Option<(u8, Blob)> {
     match read_addressing(alloc, headers) {
-        Err(AddressingError::Cardinality { name }) => Some((1, name)),
-        Err(AddressingError::HeaderMissing { name }) => Some((2, name)),
-        Err(AddressingError::BadHeader { name }) => Some((3, name)),
-        _ => None,
+        Ok(_) => None,
+        Err(error) => kind_of(error),
     }
 }
 
@@ -144,12 +159,19 @@ const REFERENCE: &[u8] =
 const REFERENCE_WRITTEN: &[u8] = b"<a:Address>http://c/</a:Address>\
     <a:ReferenceParameters><k z=\"1\"></k><l></l></a:ReferenceParameters>";
 
+// How a reference is written.
+fn written_reference(alloc: Global, reference: Epr) -> Result<Blob, Memory> {
+    let mut out = Blob::new(alloc);
+    write_epr(alloc, &reference, &mut out)?;
+    Ok(out)
+}
+
 // Whether an element is a reference with two parameters that is written so.
 fn is_reference(alloc: Global, tree: &Element, written: &[u8]) -> Result<bool, AddressingError> {
     let reference = read_epr(alloc, tree)?;
-    let mut out = Blob::new(alloc);
-    write_epr(alloc, &reference, &mut out)?;
-    Ok((reference.params.len() == 2) & (out.as_slice() == written))
+    let count = reference.params.len();
+    let out = written_reference(alloc, reference)?;
+    Ok((count == 2) & (out.as_slice() == written))
 }
 
 #[test]

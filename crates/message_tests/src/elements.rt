@@ -2,7 +2,7 @@
 //! is slow to prove.
 use rm_base::{Blob, Memory};
 use rm_elements::{
-    ElementError, Header, Lapse, deadline, read_duration, read_header, read_lifecycle,
+    ElementError, Header, Lapse, Lifecycle, deadline, read_duration, read_header, read_lifecycle,
     write_header, write_lifecycle,
 };
 use soap_profile::{Element, EnvelopeError, read_element};
@@ -28,14 +28,34 @@ fn tree(alloc: Global, name: &[u8], rest: &[u8]) -> Result<Element, EnvelopeErro
     read_element(alloc, text.as_slice())
 }
 
-// How an element is written, where it is a block or a body of ours.
+fn push_header(alloc: Global, header: Header, out: &mut Blob) -> Result<(), Memory> {
+    write_header(alloc, &header, out)
+}
+
+fn push_lifecycle(alloc: Global, body: Lifecycle, out: &mut Blob) -> Result<(), Memory> {
+    write_lifecycle(alloc, &body, out)
+}
+
+// Puts an element down, where it is a body of ours.
+fn push_body(alloc: Global, tree: &Element, out: &mut Blob) -> Result<(), ElementError> {
+    match read_lifecycle(alloc, tree)? {
+        Some(body) => Ok(push_lifecycle(alloc, body, out)?),
+        None => Ok(()),
+    }
+}
+
+// Puts an element down, where it is a block or a body of ours.
+fn push_tree(alloc: Global, tree: &Element, out: &mut Blob) -> Result<(), ElementError> {
+    match read_header(alloc, tree)? {
+        Some(header) => Ok(push_header(alloc, header, out)?),
+        None => push_body(alloc, tree, out),
+    }
+}
+
+// How an element is written.
 fn written(alloc: Global, tree: &Element) -> Result<Blob, ElementError> {
     let mut out = Blob::new(alloc);
-    if let Some(header) = read_header(alloc, tree)? {
-        write_header(alloc, &header, &mut out)?;
-    } else if let Some(body) = read_lifecycle(alloc, tree)? {
-        write_lifecycle(alloc, &body, &mut out)?;
-    }
+    push_tree(alloc, tree, &mut out)?;
     Ok(out)
 }
 
@@ -125,15 +145,15 @@ fn elements_are_read_and_written(rt: HostRuntime) -> Result<(), EnvelopeError> {
     Ok(())
 }
 
+fn is_flaw(error: &Option<ElementError>) -> bool {
+    matches!(error, Some(ElementError::Malformed { .. }))
+}
+
 // Whether an element is malformed, as a block or else as a body.
 fn is_malformed_tree(alloc: Global, tree: &Element) -> bool {
-    if let Err(ElementError::Malformed { .. }) = read_header(alloc, tree) {
-        return true;
-    }
-    matches!(
-        read_lifecycle(alloc, tree),
-        Err(ElementError::Malformed { .. })
-    )
+    let header_error = read_header(alloc, tree).err();
+    let body_error = read_lifecycle(alloc, tree).err();
+    is_flaw(&header_error) || is_flaw(&body_error)
 }
 
 fn is_malformed(alloc: Global, row: &Row) -> Result<bool, EnvelopeError> {
@@ -197,11 +217,19 @@ const IN_ANY_ORDER: &[u8] =
     b">x<r:MessageNumber> +5 </r:MessageNumber><r:Other><r:Identifier/></r:Other>\
     <r:Identifier>i</r:Identifier></r:Sequence>";
 
-// The number of the message in a block Sequence.
+// The number of the message in a block, where it is Sequence.
+fn number_in(header: &Option<Header>) -> Option<u64> {
+    match header {
+        Some(Header::Sequence(sequence)) => Some(sequence.number),
+        _ => None,
+    }
+}
+
+// That in an element.
 fn number_of(alloc: Global, tree: &Element) -> Option<u64> {
     match read_header(alloc, tree) {
-        Ok(Some(Header::Sequence(sequence))) => Some(sequence.number),
-        _ => None,
+        Ok(header) => number_in(&header),
+        Err(_) => None,
     }
 }
 
@@ -216,7 +244,8 @@ const TOO_GREAT: &[u8] =
     b"><r:Identifier>i</r:Identifier><r:MessageNumber>9223372036854775808</r:MessageNumber></r:Sequence>";
 
 fn rolls_over(alloc: Global, tree: &Element) -> bool {
-    matches!(read_header(alloc, tree), Err(ElementError::Rollover { .. }))
+    let error = read_header(alloc, tree).err();
+    matches!(&error, Some(ElementError::Rollover { .. }))
 }
 
 #[test]

@@ -142,11 +142,15 @@ fn outcome(
 }
 
 // Whether that is what its row says.
-fn is_so(alloc: Global, phase: InPhase, now: u64, row: &Row) -> Result<bool, NodeError> {
+fn comes_to(peer: &mut Peer, phase: InPhase, now: u64, row: &Row) -> Result<bool, NodeError> {
     let (given, verdict, entries, after) = row;
-    let mut peer = Peer::second(alloc)?;
-    let found = outcome(&mut peer, phase, now, *given)?;
+    let found = outcome(peer, phase, now, *given)?;
     Ok(found == (*verdict, *entries, Some(*after)))
+}
+
+fn is_so(alloc: Global, phase: InPhase, now: u64, row: &Row) -> Result<bool, NodeError> {
+    let mut peer = Peer::second(alloc)?;
+    comes_to(&mut peer, phase, now, row)
 }
 
 #[test]

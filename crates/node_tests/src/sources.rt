@@ -215,11 +215,15 @@ fn outcome(
 }
 
 // Whether that is what its row says.
-fn is_so(alloc: Global, phase: OutPhase, row: &Row) -> Result<bool, NodeError> {
+fn comes_to(peer: &mut Peer, phase: OutPhase, row: &Row) -> Result<bool, NodeError> {
     let (given, verdict, entries, after) = row;
-    let mut peer = Peer::first(alloc)?;
-    let found = outcome(&mut peer, phase, *given)?;
+    let found = outcome(peer, phase, *given)?;
     Ok(found == (*verdict, *entries, Some(*after)))
+}
+
+fn is_so(alloc: Global, phase: OutPhase, row: &Row) -> Result<bool, NodeError> {
+    let mut peer = Peer::first(alloc)?;
+    comes_to(&mut peer, phase, row)
 }
 
 #[test]

@@ -1,104 +1,188 @@
 //! What tables answer after a few records.
+use crate::parts::{NEVER, at_new, endpoint, ident, made, payload, uri};
 use node_tables::{Maker, Peer, TableError, Tables};
-use rm_base::{Behaviour, Blob, Ident, Items, Payload, Uri};
+use rm_base::{Behaviour, Blob, Ident, Uri};
 use sequence_table::addressing::Epr;
 use sequence_table::batches::{OwnOffer, PeerOffer, Record, Via};
-use sequence_table::elements::Lapse;
 use sequence_table::issue;
-use soap_profile::Elements;
 use std::alloc::Global;
 use std::test::Fail;
 
-fn uri(alloc: Global, text: &str) -> Result<Uri, Fail> {
-    Ok(Uri::from_slice(alloc, text.as_bytes())?)
-}
-
-fn endpoint(alloc: Global, text: &str) -> Result<Epr, Fail> {
-    Ok(Epr {
-        address: uri(alloc, text)?,
-        params: Elements::new(alloc),
-    })
-}
-
-const NEVER: Lapse = Lapse { months: 0, ms: 0 };
-
-// Node 7 asked for sequence 1 and offered sequence 2, was answered, and accepted a payload.
-fn source(alloc: Global) -> Result<Tables, Fail> {
-    let mut tables = Tables::new(alloc);
-    tables.apply(Record::Made {
-        node: 7,
-        address: uri(alloc, "urn:a")?,
-    })?;
-    let behaviour = Behaviour::NoDiscard;
-    tables.apply(Record::Creating {
+// Node 7 asks for sequence 1, and offers sequence 2.
+fn asked(alloc: Global) -> Result<Record, Fail> {
+    let to = uri(alloc, "urn:b")?;
+    Ok(Record::Creating {
         ticket: 1,
-        to: uri(alloc, "urn:b")?,
+        to,
         via: Via::Direct,
         lapse: NEVER,
         offer: Some(OwnOffer {
             counter: 2,
-            behaviour,
+            behaviour: Behaviour::NoDiscard,
         }),
-    })?;
-    Ok(tables)
+    })
 }
 
-// The text of the identifier that node 7 issues for a number.
-fn issued(alloc: Global, counter: u64) -> Result<Uri, Fail> {
+// Sequence 1 is granted, and the offer is taken.
+fn created(alloc: Global) -> Result<Record, Fail> {
+    let accept = endpoint(alloc, "urn:acks")?;
+    let ident = ident(alloc, "urn:s")?;
+    Ok(Record::Created {
+        seq: 1,
+        ident,
+        accept: Some(accept),
+    })
+}
+
+fn peer_offer(alloc: Global) -> Result<PeerOffer, Fail> {
+    let endpoint = endpoint(alloc, "urn:d")?;
+    let ident = ident(alloc, "urn:t")?;
+    Ok(PeerOffer { ident, endpoint })
+}
+
+// The record of these parts.
+fn grant_of(message_id: Uri, acks_to: Epr, offer: PeerOffer) -> Record {
+    Record::Granted {
+        counter: 3,
+        message_id,
+        acks_to,
+        behaviour: Behaviour::NoDiscard,
+        deadline: None,
+        lapse: NEVER,
+        offer: Some(offer),
+    }
+}
+
+// Node 7 grants a sequence, and takes the offer that came along.
+fn granted(alloc: Global) -> Result<Record, Fail> {
+    let message_id = uri(alloc, "urn:m")?;
+    let acks_to = endpoint(alloc, "urn:c")?;
+    Ok(grant_of(message_id, acks_to, peer_offer(alloc)?))
+}
+
+// Node 7 is made, and asks.
+fn begin(alloc: Global, tables: &mut Tables) -> Result<(), Fail> {
+    tables.apply(made(alloc)?)?;
+    tables.apply(asked(alloc)?)?;
+    Ok(())
+}
+
+// The identifier that node 7 issues for a number.
+fn issued(alloc: Global, counter: u64) -> Result<Ident, Fail> {
     if counter >= 1 << 62 {
         return Err("a small number".into());
     }
-    let ident = issue(alloc, 7, counter)?;
+    Ok(issue(alloc, 7, counter)?)
+}
+
+// Its text.
+fn issued_text(alloc: Global, counter: u64) -> Result<Uri, Fail> {
+    let ident = issued(alloc, counter)?;
     Ok(Uri::from_slice(alloc, ident.as_slice())?)
 }
 
-fn ident(alloc: Global, text: &str) -> Result<Ident, Fail> {
-    Ok(Ident::from_slice(alloc, text.as_bytes())?)
+// Whether this is the sequence that was asked for by the identifier of a number.
+fn is_asked_by(
+    alloc: Global,
+    tables: &Tables,
+    counter: u64,
+    seq: Option<u32>,
+) -> Result<bool, Fail> {
+    let text = issued_text(alloc, counter)?;
+    Ok(tables.find_creating(&text) == seq)
+}
+
+// Whether this is the incoming sequence with the identifier of a number.
+fn is_incoming(
+    alloc: Global,
+    tables: &Tables,
+    counter: u64,
+    seq: Option<u32>,
+) -> Result<bool, Fail> {
+    let ident = issued(alloc, counter)?;
+    Ok(tables.find_incoming(&ident) == seq)
+}
+
+// Whether both sequences are found by what the node issued.
+fn are_found(alloc: Global, tables: &Tables) -> Result<bool, Fail> {
+    let mut are_so = tables.len() == 2;
+    are_so &= is_asked_by(alloc, tables, 1, Some(1))?;
+    are_so &= is_asked_by(alloc, tables, 2, None)?;
+    are_so &= is_incoming(alloc, tables, 2, Some(2))?;
+    are_so &= is_incoming(alloc, tables, 1, None)?;
+    Ok(are_so & tables.ident(1).is_none())
+}
+
+// Whether the first sequence has this identifier.
+fn has_ident(tables: &Tables, bytes: &[u8]) -> bool {
+    match tables.ident(1) {
+        Some(ident) => ident.as_slice() == bytes,
+        None => false,
+    }
+}
+
+// Whether its peer takes the acknowledgements of what was offered here.
+fn is_taken_at(tables: &Tables, bytes: &[u8]) -> bool {
+    match tables.accepted_by(1) {
+        Some(endpoint) => endpoint.address.as_slice() == bytes,
+        None => false,
+    }
+}
+
+// Whether the first sequence is found by its identifier alone once it is granted.
+fn is_found_by_ident(alloc: Global, tables: &Tables) -> Result<bool, Fail> {
+    let is_gone = is_asked_by(alloc, tables, 1, None)?;
+    let is_found = tables.find_outgoing(b"urn:s") == Some(1);
+    Ok(is_gone & is_found & has_ident(tables, b"urn:s") & is_taken_at(tables, b"urn:acks"))
+}
+
+fn finds_sequences(alloc: Global, tables: &mut Tables) -> Result<bool, Fail> {
+    begin(alloc, tables)?;
+    let are_so = are_found(alloc, tables)?;
+    tables.apply(created(alloc)?)?;
+    Ok(are_so & is_found_by_ident(alloc, tables)?)
 }
 
 #[test]
 fn sequences_are_found_by_what_the_node_issued(rt: HostRuntime) -> Result<(), Fail> {
-    let alloc = rt.alloc();
-    let mut tables = source(alloc)?;
-    assert_eq!(rt; tables.len(), 2);
-    assert_eq!(rt; tables.find_creating(&issued(alloc, 1)?), Some(1));
-    assert_eq!(rt; tables.find_creating(&issued(alloc, 2)?), None);
-    assert_eq!(rt; tables.find_incoming(&issue(alloc, 7, 2)?), Some(2));
-    assert_eq!(rt; tables.find_incoming(&issue(alloc, 7, 1)?), None);
-    assert!(rt; tables.ident(1).is_none());
-    tables.apply(Record::Created {
-        seq: 1,
-        ident: ident(alloc, "urn:s")?,
-        accept: Some(endpoint(alloc, "urn:acks")?),
-    })?;
-    assert_eq!(rt; tables.find_creating(&issued(alloc, 1)?), None);
-    assert_eq!(rt; tables.find_outgoing(b"urn:s"), Some(1));
-    let given = tables.ident(1).ok_or("an identifier")?;
-    assert_eq!(rt; given.as_slice(), b"urn:s".as_slice());
-    let acks_to = tables.accepted_by(1).ok_or("an endpoint")?;
-    assert_eq!(rt; acks_to.address.as_slice(), b"urn:acks".as_slice());
+    assert!(rt; at_new(rt.alloc(), finds_sequences)?);
     Ok(())
+}
+
+// Whether this is the node's address.
+fn has_address(tables: &Tables, bytes: &[u8]) -> bool {
+    match tables.address() {
+        Some(address) => address.as_slice() == bytes,
+        None => false,
+    }
+}
+
+// Whether sequence 1 was asked for, by ticket 1 and at this address.
+fn was_asked_for(tables: &Tables, bytes: &[u8]) -> bool {
+    match tables.maker(1) {
+        Some(Maker::Asked { ticket, to, .. }) => (ticket == 1) & (to.as_slice() == bytes),
+        _ => false,
+    }
+}
+
+// Whether sequence 2 was offered, by number 2.
+fn was_offered(tables: &Tables) -> bool {
+    match tables.maker(2) {
+        Some(Maker::Offered { counter, .. }) => counter == 2,
+        _ => false,
+    }
+}
+
+fn lends_makers(alloc: Global, tables: &mut Tables) -> Result<bool, Fail> {
+    begin(alloc, tables)?;
+    let are_so = has_address(tables, b"urn:a") & was_asked_for(tables, b"urn:b");
+    let are_no_others = tables.maker(0).is_none() & tables.maker(3).is_none();
+    Ok(are_so & was_offered(tables) & are_no_others)
 }
 
 #[test]
 fn makers_are_lent(rt: HostRuntime) -> Result<(), Fail> {
-    let alloc = rt.alloc();
-    let tables = source(alloc)?;
-    let address = tables.address().ok_or("an address")?;
-    assert_eq!(rt; address.as_slice(), b"urn:a".as_slice());
-    match tables.maker(1) {
-        Some(Maker::Asked { ticket, to, .. }) => {
-            assert_eq!(rt; ticket, 1);
-            assert_eq!(rt; to.as_slice(), b"urn:b".as_slice());
-        }
-        _ => return Err("sequence 1 was asked for".into()),
-    }
-    match tables.maker(2) {
-        Some(Maker::Offered { counter, .. }) => assert_eq!(rt; counter, 2),
-        _ => return Err("sequence 2 was offered".into()),
-    }
-    assert!(rt; tables.maker(0).is_none());
-    assert!(rt; tables.maker(3).is_none());
+    assert!(rt; at_new(rt.alloc(), lends_makers)?);
     Ok(())
 }
 
@@ -110,19 +194,21 @@ fn address_of(tables: &Tables, seq: u32) -> Option<&[u8]> {
     }
 }
 
+// Whether this is the address of a peer, or there is none.
+fn is_at(tables: &Tables, seq: u32, address: Option<&[u8]>) -> bool {
+    address_of(tables, seq) == address
+}
+
+fn tells_peers(alloc: Global, tables: &mut Tables) -> Result<bool, Fail> {
+    begin(alloc, tables)?;
+    let are_so = is_at(tables, 1, Some(b"urn:b")) & is_at(tables, 2, None);
+    tables.apply(created(alloc)?)?;
+    Ok(are_so & is_at(tables, 2, Some(b"urn:acks")) & is_at(tables, 3, None))
+}
+
 #[test]
 fn peers_are_told(rt: HostRuntime) -> Result<(), Fail> {
-    let alloc = rt.alloc();
-    let mut tables = source(alloc)?;
-    assert!(rt; address_of(&tables, 1) == Some(b"urn:b".as_slice()));
-    assert!(rt; address_of(&tables, 2).is_none());
-    tables.apply(Record::Created {
-        seq: 1,
-        ident: ident(alloc, "urn:s")?,
-        accept: Some(endpoint(alloc, "urn:acks")?),
-    })?;
-    assert!(rt; address_of(&tables, 2) == Some(b"urn:acks".as_slice()));
-    assert!(rt; address_of(&tables, 3).is_none());
+    assert!(rt; at_new(rt.alloc(), tells_peers)?);
     Ok(())
 }
 
@@ -134,58 +220,47 @@ fn beside(tables: &Tables, seq: u32) -> Option<u32> {
     }
 }
 
+// A sequence, and the one beside it.
+const BESIDE: [(u32, Option<u32>); 4] = [(1, Some(2)), (2, None), (3, Some(4)), (4, None)];
+
+fn are_beside(tables: &Tables) -> bool {
+    let mut are_so = true;
+    for (seq, other) in &BESIDE {
+        are_so &= beside(tables, *seq) == *other;
+    }
+    are_so
+}
+
+fn tells_offers(alloc: Global, tables: &mut Tables) -> Result<bool, Fail> {
+    begin(alloc, tables)?;
+    tables.apply(granted(alloc)?)?;
+    let are_so = is_at(tables, 3, Some(b"urn:c")) & is_at(tables, 4, Some(b"urn:d"));
+    Ok(are_so & are_beside(tables))
+}
+
 #[test]
 fn offers_are_told(rt: HostRuntime) -> Result<(), Fail> {
-    let alloc = rt.alloc();
-    let mut tables = source(alloc)?;
-    tables.apply(granted(alloc)?)?;
-    assert_eq!(rt; beside(&tables, 1), Some(2));
-    assert_eq!(rt; beside(&tables, 2), None);
-    assert_eq!(rt; beside(&tables, 3), Some(4));
-    assert_eq!(rt; beside(&tables, 4), None);
-    assert!(rt; address_of(&tables, 3) == Some(b"urn:c".as_slice()));
-    assert!(rt; address_of(&tables, 4) == Some(b"urn:d".as_slice()));
+    assert!(rt; at_new(rt.alloc(), tells_offers)?);
     Ok(())
 }
 
-// Node 7 grants a sequence, and takes the offer that came along.
-fn granted(alloc: Global) -> Result<Record, Fail> {
-    Ok(Record::Granted {
-        counter: 3,
-        message_id: uri(alloc, "urn:m")?,
-        acks_to: endpoint(alloc, "urn:c")?,
-        behaviour: Behaviour::NoDiscard,
-        deadline: None,
-        lapse: NEVER,
-        offer: Some(PeerOffer {
-            ident: ident(alloc, "urn:t")?,
-            endpoint: endpoint(alloc, "urn:d")?,
-        }),
-    })
+// Message 5 of sequence 2.
+fn received(alloc: Global) -> Record {
+    Record::Received {
+        seq: 2,
+        number: 5,
+        payload: payload(Blob::new(alloc), alloc),
+    }
+}
+
+fn receives_once(alloc: Global, tables: &mut Tables) -> Result<bool, Fail> {
+    begin(alloc, tables)?;
+    tables.apply(received(alloc))?;
+    Ok(tables.apply(received(alloc)) == Err(TableError::Misfit))
 }
 
 #[test]
 fn a_number_is_received_once(rt: HostRuntime) -> Result<(), Fail> {
-    let alloc = rt.alloc();
-    let mut tables = source(alloc)?;
-    let payload = Payload {
-        bytes: Blob::new(alloc),
-        scope: Items::new(alloc),
-    };
-    let again = Payload {
-        bytes: Blob::new(alloc),
-        scope: Items::new(alloc),
-    };
-    tables.apply(Record::Received {
-        seq: 2,
-        number: 5,
-        payload,
-    })?;
-    let second = Record::Received {
-        seq: 2,
-        number: 5,
-        payload: again,
-    };
-    assert_eq!(rt; tables.apply(second), Err(TableError::Misfit));
+    assert!(rt; at_new(rt.alloc(), receives_once)?);
     Ok(())
 }
