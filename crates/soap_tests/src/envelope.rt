@@ -1,6 +1,6 @@
 //! Envelopes, read.
 use rm_base::{Blob, Memory, Payload, push_decimal};
-use soap_frame::envelopes::{Envelope, read_envelope};
+use soap_frame::envelopes::read_envelope;
 use soap_profile::EnvelopeError;
 use std::alloc::Global;
 
@@ -34,27 +34,17 @@ fn is_refused(alloc: Global, bytes: &[u8], reason: EnvelopeError) -> bool {
     }
 }
 
-// The counts of an envelope's header blocks, of the header's bindings and of the body's parts.
-fn push_counts(out: &mut Blob, envelope: &Envelope) -> Result<(), Memory> {
-    push_decimal(out, envelope.headers.len() as u64)?;
-    out.push_all(b" ")?;
-    push_decimal(out, envelope.header_scope.len() as u64)?;
-    out.push_all(b" ")?;
-    push_decimal(out, envelope.body.len() as u64)
-}
-
-fn push_envelope(out: &mut Blob, envelope: Envelope) -> Result<(), Memory> {
-    match push_counts(out, &envelope) {
-        Ok(()) => push_payload(out, &envelope.payload),
-        Err(error) => Err(error),
-    }
-}
-
-// An envelope as these counts, then the payload's bindings, and its bytes.
+// An envelope as the counts of its header blocks, of the header's bindings and of the body's parts, then the payload's
+// bindings, and its bytes.
 pub fn shown(alloc: Global, document: &[u8]) -> Result<Blob, EnvelopeError> {
     let envelope = read_envelope(alloc, document)?;
     let mut out = Blob::new(alloc);
-    push_envelope(&mut out, envelope)?;
+    push_decimal(&mut out, envelope.headers.len() as u64)?;
+    out.push_all(b" ")?;
+    push_decimal(&mut out, envelope.header_scope.len() as u64)?;
+    out.push_all(b" ")?;
+    push_decimal(&mut out, envelope.body.len() as u64)?;
+    push_payload(&mut out, &envelope.payload)?;
     Ok(out)
 }
 
@@ -88,19 +78,12 @@ fn a_request_is_whole(rt: HostRuntime) {
     }
 }
 
-// Whether an envelope has this between Body's tags, with two bindings and no header blocks.
-fn carries(envelope: &Envelope, payload: &[u8]) -> bool {
-    let is_alone = envelope.payload.scope.len() == 2 && envelope.headers.len() == 0;
-    is_alone && envelope.payload.bytes.as_slice() == payload
-}
-
-// Whether that of these parts does.
+// Whether these parts have this between Body's tags, with two bindings and no header blocks.
 fn has_payload(alloc: Global, parts: &[u8], payload: &[u8]) -> Result<bool, EnvelopeError> {
     let text = wrapped(alloc, parts)?;
-    match read_envelope(alloc, text.as_slice()) {
-        Ok(envelope) => Ok(carries(&envelope, payload)),
-        Err(error) => Err(error),
-    }
+    let envelope = read_envelope(alloc, text.as_slice())?;
+    let is_alone = envelope.payload.scope.len() == 2 && envelope.headers.len() == 0;
+    Ok(is_alone && envelope.payload.bytes.as_slice() == payload)
 }
 
 const PAYLOADS: [(&[u8], &[u8]); 5] = [

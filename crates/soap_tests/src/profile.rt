@@ -125,27 +125,17 @@ fn shown(alloc: Global, element: &Element) -> Result<Blob, Memory> {
     Ok(out)
 }
 
-// The same, of an element that is let go.
-fn shown_tree(alloc: Global, tree: Element) -> Result<Blob, Memory> {
-    shown(alloc, &tree)
-}
-
 // The item at this place, where it is an element.
-fn shown_item(alloc: Global, element: &Element, item: usize) -> Result<Blob, Memory> {
+fn shown_child(alloc: Global, element: &Element, item: usize) -> Result<Blob, Memory> {
     match element.items.get(item) {
         Some(Item::Child(child)) => shown(alloc, child),
         _ => Ok(Blob::new(alloc)),
     }
 }
 
-// The same, of an element that is let go.
-fn shown_child(alloc: Global, element: Element, item: usize) -> Result<Blob, Memory> {
-    shown_item(alloc, &element, item)
-}
-
 fn is_shown(alloc: Global, document: &[u8], wanted: &[u8]) -> Result<bool, EnvelopeError> {
     let tree = read_element(alloc, document)?;
-    let shown = shown_tree(alloc, tree)?;
+    let shown = shown(alloc, &tree)?;
     Ok(shown.as_slice() == wanted)
 }
 
@@ -197,7 +187,7 @@ fn bindings_end_with_their_elements(rt: HostRuntime) -> Result<(), EnvelopeError
 
 fn is_child_shown(alloc: Global, document: &[u8], wanted: &[u8]) -> Result<bool, EnvelopeError> {
     let tree = read_element(alloc, document)?;
-    let shown = shown_child(alloc, tree, 1)?;
+    let shown = shown_child(alloc, &tree, 1)?;
     Ok(shown.as_slice() == wanted)
 }
 
@@ -216,42 +206,25 @@ fn declarations_are_kept(rt: HostRuntime) -> Result<(), EnvelopeError> {
     Ok(())
 }
 
-// The element that another one is without its declarations.
-fn stripped_of(alloc: Global, tree: Element) -> Result<Element, Memory> {
-    strip(alloc, &tree)
-}
-
 // The element without its declarations.
 fn stripped(alloc: Global) -> Result<Element, EnvelopeError> {
     let tree = read_element(alloc, DECLARING)?;
-    Ok(stripped_of(alloc, tree)?)
-}
-
-// Whether it is shown so.
-fn is_stripped_shown(alloc: Global, wanted: &[u8]) -> Result<bool, EnvelopeError> {
-    let shown = shown_tree(alloc, stripped(alloc)?)?;
-    Ok(shown.as_slice() == wanted)
-}
-
-// Whether its item at this place is.
-fn is_stripped_child_shown(
-    alloc: Global,
-    item: usize,
-    wanted: &[u8],
-) -> Result<bool, EnvelopeError> {
-    let shown = shown_child(alloc, stripped(alloc)?, item)?;
-    Ok(shown.as_slice() == wanted)
+    Ok(strip(alloc, &tree)?)
 }
 
 #[test]
 fn declarations_are_stripped(rt: HostRuntime) -> Result<(), EnvelopeError> {
-    assert!(rt; is_stripped_shown(rt.alloc(), b"{u}a @{}b 't <{v}c")?);
+    let stripped = stripped(rt.alloc())?;
+    let shown = shown(rt.alloc(), &stripped)?;
+    assert!(rt; shown.as_slice() == b"{u}a @{}b 't <{v}c".as_slice());
     Ok(())
 }
 
 #[test]
 fn a_child_is_stripped(rt: HostRuntime) -> Result<(), EnvelopeError> {
-    assert!(rt; is_stripped_child_shown(rt.alloc(), 2, b"{v}c")?);
+    let stripped = stripped(rt.alloc())?;
+    let shown = shown_child(rt.alloc(), &stripped, 2)?;
+    assert!(rt; shown.as_slice() == b"{v}c".as_slice());
     Ok(())
 }
 
@@ -405,109 +378,67 @@ fn holds_both_parts(rt: HostRuntime) -> Result<(), Memory> {
     Ok(())
 }
 
-// Puts an item at the end, where it is a part.
-fn push_part(parts: &mut Parts, item: Item) -> Result<(), Memory> {
-    if is_part(&item) {
-        return parts.push(item);
-    }
-    Ok(())
-}
-
-fn push_parts(parts: &mut Parts, element: Element) -> Result<(), Memory> {
-    for item in element.items {
-        push_part(parts, item)?;
-    }
-    Ok(())
-}
-
 // The parts among an element's items.
 fn parts_of(alloc: Global, document: &[u8]) -> Result<Parts, EnvelopeError> {
     let element = read_element(alloc, document)?;
     let mut parts = Parts::new(alloc);
-    push_parts(&mut parts, element)?;
+    for item in element.items {
+        if is_part(&item) {
+            parts.push(item)?;
+        }
+    }
     Ok(parts)
 }
 
 // Each of the parts, as an item is shown.
-fn push_shown(out: &mut Blob, parts: &Parts) -> Result<(), Memory> {
+fn shown_parts(alloc: Global, document: &[u8]) -> Result<Blob, EnvelopeError> {
+    let parts = parts_of(alloc, document)?;
+    let mut out = Blob::new(alloc);
     for i in 0..parts.len() {
         if let Some(part) = parts.get(i) {
-            push_item(out, part)?;
+            push_item(&mut out, part)?;
         }
     }
-    Ok(())
-}
-
-fn shown_parts(alloc: Global, parts: Parts) -> Result<Blob, Memory> {
-    let mut out = Blob::new(alloc);
-    match push_shown(&mut out, &parts) {
-        Ok(()) => Ok(out),
-        Err(error) => Err(error),
-    }
+    Ok(out)
 }
 
 const PARTS: &[u8] = b"<a xmlns:p='u' b='1'>t<c/></a>";
 
-// Whether the parts of a document are shown so.
-fn are_shown(alloc: Global, document: &[u8], wanted: &[u8]) -> Result<bool, EnvelopeError> {
-    let parts = parts_of(alloc, document)?;
-    let shown = shown_parts(alloc, parts)?;
-    Ok(shown.as_slice() == wanted)
-}
-
 #[test]
 fn parts_are_a_list(rt: HostRuntime) -> Result<(), EnvelopeError> {
-    assert!(rt; are_shown(rt.alloc(), PARTS, b" 't <{}c")?);
+    let shown = shown_parts(rt.alloc(), PARTS)?;
+    assert!(rt; shown.as_slice() == b" 't <{}c".as_slice());
     Ok(())
-}
-
-// Whether these are two parts, of which the second is an element.
-fn are_two(parts: &Parts) -> bool {
-    let is_child = matches!(parts.as_slice().get(1), Some(Item::Child(_)));
-    (parts.len() == 2) & !parts.is_empty() & is_child & parts.get(2).is_none()
 }
 
 #[test]
 fn parts_are_counted(rt: HostRuntime) -> Result<(), EnvelopeError> {
     let parts = parts_of(rt.alloc(), PARTS)?;
-    assert!(rt; are_two(&parts));
+    assert!(rt; parts.len() == 2 && !parts.is_empty());
+    assert!(rt; matches!(parts.as_slice().get(1), Some(Item::Child(_))));
+    assert!(rt; parts.get(2).is_none());
     Ok(())
-}
-
-// Whether an element is the first of parts that had none.
-fn is_first(parts: &mut Parts, element: Element) -> Result<bool, Memory> {
-    let was_empty = parts.is_empty();
-    push_part(parts, Item::Child(element))?;
-    Ok(was_empty & (parts.len() == 1))
 }
 
 #[test]
 fn parts_are_pushed(rt: HostRuntime) -> Result<(), EnvelopeError> {
-    let element = read_element(rt.alloc(), b"<a/>")?;
     let mut parts = Parts::new(rt.alloc());
-    assert!(rt; is_first(&mut parts, element)?);
+    assert!(rt; parts.is_empty());
+    parts.push(Item::Child(read_element(rt.alloc(), b"<a/>")?))?;
+    assert!(rt; parts.len() == 1);
     Ok(())
-}
-
-fn attribute(alloc: Global) -> Result<Attr, Memory> {
-    let name = name(alloc, b"u", b"a")?;
-    let value = Bytes::from_slice(alloc, b"1")?;
-    Ok(Attr { name, value })
-}
-
-// Whether the first of these has this value.
-fn has_value(attrs: &Attrs, value: &[u8]) -> bool {
-    match attrs.get(0) {
-        Some(attr) => attr.value.as_slice() == value,
-        None => false,
-    }
 }
 
 #[test]
 fn attributes_are_a_list(rt: HostRuntime) -> Result<(), Memory> {
+    let name = name(rt.alloc(), b"u", b"a")?;
+    let value = Bytes::from_slice(rt.alloc(), b"1")?;
     let mut attrs: Attrs = Attrs::new(rt.alloc());
-    attrs.push(attribute(rt.alloc())?)?;
+    attrs.push(Attr { name, value })?;
     assert!(rt; attrs.len() == 1);
-    assert!(rt; has_value(&attrs, b"1"));
+    match attrs.get(0) {
+        Some(attr) => assert!(rt; attr.value.as_slice() == b"1".as_slice()),
+        None => assert!(rt; false),
+    }
     Ok(())
 }

@@ -1,30 +1,20 @@
 //! Elements, written.
-use rm_base::{Blob, Memory};
+use rm_base::Blob;
 use soap_nodes::markup::write_element;
 use soap_profile::{Element, EnvelopeError, read_element, strip};
 use std::alloc::Global;
 
-// How an element is written behind these bytes, as a reference parameter or not.
-fn written(alloc: Global, element: Element, is_marked: bool, front: &[u8]) -> Result<Blob, Memory> {
-    let mut out = Blob::from_slice(alloc, front)?;
-    write_element(alloc, &element, is_marked, &mut out)?;
-    Ok(out)
-}
-
-// The element that another one is without its declarations.
-fn stripped(alloc: Global, tree: Element) -> Result<Element, Memory> {
-    strip(alloc, &tree)
-}
-
 fn read(alloc: Global, text: &[u8]) -> Result<Element, EnvelopeError> {
     let tree = read_element(alloc, text)?;
-    Ok(stripped(alloc, tree)?)
+    Ok(strip(alloc, &tree)?)
 }
 
 // How the element with this text is written.
 fn rewritten(alloc: Global, text: &[u8]) -> Result<Blob, EnvelopeError> {
     let element = read(alloc, text)?;
-    Ok(written(alloc, element, false, b"")?)
+    let mut out = Blob::new(alloc);
+    write_element(alloc, &element, false, &mut out)?;
+    Ok(out)
 }
 
 // What is read, and how it is written.
@@ -43,17 +33,13 @@ const ELEMENTS: [(&str, &str); 6] = [
     ),
 ];
 
-// Whether the element with this text is written so, and written so again once that is read.
-fn is_rewritten(alloc: Global, text: &str, written: &str) -> Result<bool, EnvelopeError> {
-    let out = rewritten(alloc, text.as_bytes())?;
-    let again = rewritten(alloc, written.as_bytes())?;
-    Ok((out.as_slice() == written.as_bytes()) & (again.as_slice() == written.as_bytes()))
-}
-
 #[test]
 fn elements(rt: HostRuntime) -> Result<(), EnvelopeError> {
-    for (text, written) in &ELEMENTS {
-        assert!(rt; is_rewritten(rt.alloc(), text, written)?, "{text}");
+    for (text, written) in ELEMENTS {
+        let out = rewritten(rt.alloc(), text.as_bytes())?;
+        assert!(rt; out.as_slice() == written.as_bytes(), "{text}");
+        let again = rewritten(rt.alloc(), out.as_slice())?;
+        assert!(rt; again.as_slice() == out.as_slice(), "{text}");
     }
     Ok(())
 }
@@ -61,7 +47,9 @@ fn elements(rt: HostRuntime) -> Result<(), EnvelopeError> {
 // How an element is written behind a byte, as a reference parameter.
 fn marked(alloc: Global) -> Result<Blob, EnvelopeError> {
     let element = read(alloc, b"<p:a xmlns:p='u' b='1'><c/></p:a>")?;
-    Ok(written(alloc, element, true, b"x")?)
+    let mut out = Blob::from_slice(alloc, b"x")?;
+    write_element(alloc, &element, true, &mut out)?;
+    Ok(out)
 }
 
 const MARKED: &[u8] = b"x<n:a xmlns:n=\"u\" a:IsReferenceParameter=\"true\" b=\"1\"><c></c></n:a>";
