@@ -1,8 +1,9 @@
--- What the reader answers was a document: the bytes up to the next one that ends a token.
-use Rattle.std.proofs.Common.{◌≡◌, ℕ, ◌+◌, ◌⊎◌, inl, inr, List, [], ◌∷◌, ◌++◌, Bool, true, false, cond, Option, Some}
-use Rattle.std.proofs.Common.{None, length, refl, sym, ap, subst, ap₂, arith, append_assoc, append-nil}
+-- What the reader answers was a document: what was found among the bytes.
+use Rattle.std.proofs.Common.{◌≡◌, ℕ, ◌+◌, ◌≤◌, ◌⊎◌, inl, inr, List, [], ◌∷◌, ◌++◌, Bool, true, false, cond, Some}
+use Rattle.std.proofs.Common.{length, refl, sym, ap, subst, ◌∙◌, arith, append_assoc, append-nil, length-append}
 use Rattle.soap_document.specs.Tree.{Element}
-use Rattle.soap_document.specs.Machine.{State, stops, after_token, run, refuse, counted, root_of}
+use Rattle.soap_document.specs.Machine.{State, run, refuse, counted, root_of}
+use Rattle.soap_document.proofs.Moves.{place_append, place_one, place_nil}
 
 -- from a state on, the bytes are read to the end, and the root is u
 abbrev pub Accepts : State → List ℕ → Element → Type 0
@@ -13,10 +14,14 @@ refused_never s [] u h = cc
 refused_never s (c ∷ bytes) u h = refused_never (counted (refuse s)) bytes u h
 
 -- a test that was made, and passed
+pub sure : (t : Bool) (x y : State) (bytes : List ℕ) (u : Element) → Accepts (counted (cond t x y)) bytes u
+    → y ≡ refuse y → (t ≡ true) × Accepts (counted x) bytes u
+sure true x y bytes u h e = (refl, h)
+sure false x y bytes u h e = absurd (refused_never (counted y) bytes u (subst (λ s. Accepts (counted s) bytes u) e h))
+
 pub passed : (t : Bool) (x s : State) (bytes : List ℕ) (u : Element)
     → Accepts (counted (cond t x (refuse s))) bytes u → (t ≡ true) × Accepts (counted x) bytes u
-passed true x s bytes u h = (refl, h)
-passed false x s bytes u h = absurd (refused_never (counted s) bytes u h)
+passed t x s bytes u h = sure t x (refuse s) bytes u h refl
 
 -- a choice, as it went
 pub chosen : (t : Bool) (x y : State) (bytes : List ℕ) (u : Element) → Accepts (counted (cond t x y)) bytes u → ((t
@@ -24,65 +29,78 @@ pub chosen : (t : Bool) (x y : State) (bytes : List ℕ) (u : Element) → Accep
 chosen true x y bytes u h = inl (refl, h)
 chosen false x y bytes u h = inr (refl, h)
 
--- the bytes up to the next that ends the token
-pub record Next (s : State) (bytes : List ℕ) (u : Element) : Type 0 where
-  pub token : List ℕ
-  pub last : ℕ
+-- bytes behind a token: what the token has become with some of them, and what is known of the rest and its place
+pub record Found {X : Type 0} (P : X → List ℕ → Type 0) (K : X → ℕ → List ℕ → Type 0) (token : List ℕ) (at : ℕ)
+    (bytes : List ℕ) : Type 0 where
+  pub meaning : X
+  pub front : List ℕ
   pub rest : List ℕ
-  pub there : bytes ≡ token ++ last ∷ rest
-  pub stop : stops s.mode last ≡ true
-  pub later : Accepts (counted (after_token s.mode (record s { at = s.at + length token; token = s.token ++ token })
-      last)) rest u
+  pub there : bytes ≡ front ++ rest
+  pub is : P meaning (token ++ front)
+  pub later : K meaning (at + length front) rest
 
--- bytes cannot end here
-abbrev pub Unended : State → Type 0
-Unended s = (at : ℕ) (token : List ℕ) → root_of (record s { at = at; token = token }) ≡ None
+module _ {X : Type 0} {P : X → List ℕ → Type 0} {K : X → ℕ → List ℕ → Type 0} where
+  -- the token is whole
+  abbrev pub found_here : {token : List ℕ} {at : ℕ} {bytes : List ℕ} (x : X) → P x token → K x at bytes
+      → Found P K token at bytes
+  found_here {token} {at} {bytes} x p k = record {
+    meaning = x;
+    front = [];
+    rest = bytes;
+    there = refl;
+    is = subst (P x) (sym (append-nil token)) p;
+    later = subst (λ q. K x q bytes) (place_nil at) k;
+  }
 
-next_at : (s : State) (c : ℕ) (bytes : List ℕ) (u : Element) (t : Bool) → stops s.mode c ≡ t
-    → Accepts s (c ∷ bytes) u
-    → ((t ≡ true) × Accepts (counted (after_token s.mode s c)) bytes u) ⊎ ((t
-    ≡ false) × Accepts (record s { at = s.at + 1; token = s.token ++ c ∷ [] }) bytes u)
-next_at s c bytes u true e h = inl (
-  refl,
-  subst (λ t. Accepts (counted (cond t (after_token s.mode s c) (record s {
-    token
-        = s.token ++ c ∷ [];
-  }))) bytes u) e h,
-)
-next_at s c bytes u false e h = inr (
-  refl,
-  subst (λ t. Accepts (counted (cond t (after_token s.mode s c) (record s {
-    token = s.token ++ c ∷ [];
-  }))) bytes u) e h,
-)
+  -- one byte ends it
+  abbrev pub found_byte : {token : List ℕ} {at c : ℕ} {bytes : List ℕ} (x : X) → P x (token ++ c ∷ [])
+      → K x (at + 1) bytes → Found P K token at (c ∷ bytes)
+  found_byte {token} {at} {c} {bytes} x p k = record {
+    meaning = x;
+    front = c ∷ [];
+    rest = bytes;
+    there = refl;
+    is = p;
+    later = k;
+  }
 
-none_some : {u : Element} (o : Option Element) → o ≡ None → o ≡ Some u → ⊥
-none_some o e h = cc
+  -- one byte makes it longer
+  abbrev pub found_on : {token : List ℕ} {at c : ℕ} {bytes : List ℕ} → Found P K (token ++ c ∷ []) (at + 1) bytes
+      → Found P K token at (c ∷ bytes)
+  found_on {token} {at} {c} {bytes} f = record {
+    meaning = f.meaning;
+    front = c ∷ f.front;
+    rest = f.rest;
+    there = ap (λ (x : List ℕ). c ∷ x) f.there;
+    is = subst (P f.meaning) (append_assoc token (c ∷ []) f.front) f.is;
+    later = subst (λ q. K f.meaning q f.rest) (place_one at c f.front) f.later;
+  }
 
-pub next : (s : State) (bytes : List ℕ) (u : Element) → Unended s → Accepts s bytes u → Next s bytes u
-next s [] u unended h = absurd (none_some (root_of s) (unended s.at s.token) h)
-next s (c ∷ bytes) u unended h =
-    elim (next_at s c bytes u (stops s.mode c) refl h) [
-      | inl k ↦ record {
-        token = [];
-        last = c;
-        rest = bytes;
-        there = refl;
-        stop = k.0;
-        later = subst (λ (p : ℕ × List ℕ). Accepts (counted (after_token s.mode (record s { at = p.0; token = p.1 }) c))
-            bytes u)
-            (ap₂ (λ (x : ℕ) (y : List ℕ). (x, y)) (omega arith) (sym (append-nil s.token))) k.1;
-      }
-      | inr k ↦
-          let n = next (record s { at = s.at + 1; token = s.token ++ c ∷ [] }) bytes u unended k.1 in
-          record {
-            token = c ∷ n.token;
-            last = n.last;
-            rest = n.rest;
-            there = ap (λ (x : List ℕ). c ∷ x) n.there;
-            stop = n.stop;
-            later = subst (λ (p : ℕ × List ℕ). Accepts (counted (after_token s.mode (record s { at = p.0; token = p.1 })
-                n.last)) n.rest u)
-                (ap₂ (λ (x : ℕ) (y : List ℕ). (x, y)) (omega arith) (append_assoc s.token (c ∷ []) n.token)) n.later;
-          }
-    ]
+  -- behind other bytes, whatever these are
+  abbrev pub found_behind : {token : List ℕ} {at : ℕ} (front : List ℕ) {rest bytes : List ℕ} → bytes ≡ front ++ rest
+      → Found P K token (at + length front) rest → Found (λ _ _. Unit) K [] at bytes
+  found_behind {token} {at} front e f = record {
+    meaning = f.meaning;
+    front = front ++ f.front;
+    rest = f.rest;
+    there = e ∙ ap (λ (x : List ℕ). front ++ x) f.there ∙ sym (append_assoc front f.front f.rest);
+    is = tt;
+    later = subst (λ q. K f.meaning q f.rest) (place_append at front f.front) f.later;
+  }
+
+  -- the same bytes, for what they are
+  abbrev pub found_as : {Y : Type 0} {Q : Y → List ℕ → Type 0} {L : Y → ℕ → List ℕ → Type 0} {before token : List ℕ}
+      {at : ℕ} {bytes : List ℕ} (f : Found Q L before at bytes) (x : X) → P x (token ++ f.front)
+      → K x (at + length f.front) f.rest → Found P K token at bytes
+  found_as {token = token} f x p k = record {
+    meaning = x;
+    front = f.front;
+    rest = f.rest;
+    there = f.there;
+    is = p;
+    later = k;
+  }
+
+  pub no_longer : {token : List ℕ} {at : ℕ} {bytes : List ℕ} (f : Found P K token at bytes)
+      → length f.rest ≤ length bytes
+  no_longer f = omega (arith, ap length f.there, length-append f.front f.rest)

@@ -1,5 +1,5 @@
 -- How the reader moves over bytes: from a state at a place to one at the place behind them.
-use Rattle.std.proofs.Common.{◌≡◌, ℕ, ◌+◌, List, [], ◌∷◌, ◌++◌, Bool, true, false, length, sym, ap, ◌∙◌, arith}
+use Rattle.std.proofs.Common.{◌≡◌, ℕ, ◌+◌, List, [], ◌∷◌, ◌++◌, Bool, true, false, length, ap, ◌∙◌, arith}
 use Rattle.std.proofs.Common.{append_assoc, append-nil, length-append}
 use Rattle.std.specs.List.{AllByRecursion}
 use Rattle.soap_lex.specs.TextMachine.{begun}
@@ -30,7 +30,8 @@ stay at s rest = ap (λ p. run (s p) rest) (place_nil at)
 
 pub then : (at : ℕ) (b d : List ℕ) (s t u : At) → Moves at b s t → Moves (at + length b) d t u → Moves at (b ++ d) s u
 then at b d s t u m n rest =
-    ap (run (s at)) (append_assoc b d rest) ∙ m (d ++ rest) ∙ n rest ∙ ap (λ p. run (u p) rest) (place_append at b d)
+    ap (run (s at)) (append_assoc b d rest) ∙ m (d ++ rest) ∙ n rest
+    ∙ ap (λ p. run (u p) rest) (place_append at b d)
 
 pub byte : (at c : ℕ) (d : List ℕ) (s t u : At) → step (s at) c ≡ t (at + 1) → Moves (at + 1) d t u
     → Moves at (c ∷ d) s u
@@ -44,6 +45,9 @@ one at c s t m rest = ap (λ x. run x rest) m
 pub regroup : (at : ℕ) (b d : List ℕ) (s t : At) → b ≡ d → Moves at b s t → Moves at d s t
 regroup at b d s t e m = rw e at m
 
+pub retarget : (at : ℕ) (b : List ℕ) (s t u : At) → ((p : ℕ) → t p ≡ u p) → Moves at b s t → Moves at b s u
+retarget at b s t u e m rest = m rest ∙ ap (λ x. run x rest) (e (at + length b))
+
 -- no byte ends the token
 abbrev pub NoStops : Mode → List ℕ → Type 0
 NoStops mode bytes = AllByRecursion (λ c. stops mode c ≡ false) bytes
@@ -54,26 +58,31 @@ at_place s at = record s { at = at }
 abbrev pub longer : State → List ℕ → State
 longer s bytes = record s { token = s.token ++ bytes }
 
-kept_step : (s : State) (c : ℕ) → stops s.mode c ≡ false → step s c
-    ≡ record s { at = s.at + 1; token = s.token ++ c ∷ [] }
-kept_step s c e = rw e
+-- the same as a record, which shows the places, the bytes and the states to the check
+pub record Reads (at : ℕ) (b : List ℕ) (s t : At) : Type 0 where
+  pub moves : Moves at b s t
 
-pub retarget : (at : ℕ) (b : List ℕ) (s t u : At) → ((p : ℕ) → t p ≡ u p) → Moves at b s t → Moves at b s u
-retarget at b s t u e m rest = m rest ∙ ap (λ x. run x rest) (e (at + length b))
+pub no_byte : {at : ℕ} {s : At} → Reads at [] s s
+no_byte {at} {s} = record { moves = stay at s }
+
+pub and_then : {at : ℕ} {b d : List ℕ} {s t u : At} → Reads at b s t → Reads (at + length b) d t u
+    → Reads at (b ++ d) s u
+and_then {at} {b} {d} {s} {t} {u} m n = record { moves = then at b d s t u m.moves n.moves }
+
+pub next_byte : {at c : ℕ} {d : List ℕ} {s t u : At} → step (s at) c ≡ t (at + 1) → Reads (at + 1) d t u
+    → Reads at (c ∷ d) s u
+next_byte {at} {c} {d} {s} {t} {u} e n = record { moves = byte at c d s t u e n.moves }
+
+pub last_byte : {at c : ℕ} {s t : At} → step (s at) c ≡ t (at + 1) → Reads at (c ∷ []) s t
+last_byte {at} {c} {s} {t} e = record { moves = one at c s t e }
 
 -- bytes that end no token lengthen it
-pub kept : (s : State) (bytes : List ℕ) (at : ℕ) → NoStops s.mode bytes
-    → Moves at bytes (at_place s) (at_place (longer s bytes))
-kept s [] at h = retarget at [] (at_place s) (at_place s) (at_place (longer s [])) (λ p. ap (λ t. record s {
-  at = p;
-  token = t;
-}) (sym (append-nil s.token))) (stay at (at_place s))
-kept s (c ∷ bytes) at h =
+pub kept : (s : State) (bytes : List ℕ) {at : ℕ} → NoStops s.mode bytes
+    → Reads at bytes (at_place s) (at_place (longer s bytes))
+kept s [] h = rw append-nil no_byte
+kept s (c ∷ bytes) {at} h =
     let next = longer s (c ∷ []) in
-    byte at c bytes (at_place s) (at_place next) (at_place (longer s (c ∷ bytes))) (kept_step (at_place s at) c h.0)
-    (retarget (at + 1) bytes (at_place next) (at_place (longer next bytes)) (at_place (longer s (c ∷ bytes)))
-    (λ p. ap (λ t. record s { at = p; token = t }) (append_assoc s.token (c ∷ []) bytes)) (kept next bytes (at + 1)
-    h.1))
+    next_byte {t = at_place next} (rw h.0) (simp append_assoc at (kept next bytes {at = at + 1} h.1))
 
 -- ---- states
 

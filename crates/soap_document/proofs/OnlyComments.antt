@@ -1,12 +1,11 @@
 -- The reader takes comments outside of the root as the grammar has them.
 use Rattle.std.proofs.Common.{◌≡◌, ℕ, ◌+◌, List, [], ◌∷◌, ◌++◌, Bool, true, false, None, length, codes, nat_eq, refl}
-use Rattle.std.proofs.Common.{sym, ap, ◌∙◌, append_assoc, append-nil}
+use Rattle.std.proofs.Common.{sym, ap, ap₂, ◌∙◌, arith, append_assoc, append-nil, length-append}
 use Rattle.std.proofs.lemmas.Bool.{eqb-true}
 use Rattle.soap_lex.specs.Text.{IsComment}
-use Rattle.soap_document.specs.Machine.{marking, commenting, Frame, step, without}
-use Rattle.soap_document.proofs.Moves.{At, Moves, then, byte, one, regroup, retarget, stay, plain_at, chars_at, less_at}
-use Rattle.soap_lex.specs.Ends.{without-append}
-use Rattle.soap_lex.specs.Ends.{IsOpen, IsOpen-tail}
+use Rattle.soap_document.specs.Machine.{commenting, Frame, step, run, without}
+use Rattle.soap_document.proofs.Moves.{At, Moves, place_nil, place_one, plain_at, chars_at, less_at}
+use Rattle.soap_lex.specs.Ends.{without-append, IsOpen, IsOpen-tail}
 use Rattle.soap_document.proofs.Lexing.{Lexes}
 
 module _ (fresh : Bool) (mark : ℕ) (top : Frame) (below : List Frame) (text : List ℕ) where
@@ -21,38 +20,27 @@ module _ (fresh : Bool) (mark : ℕ) (top : Frame) (below : List Frame) (text : 
 
   comment_run : (token bytes : List ℕ) (at : ℕ) → IsOpen (codes "--") token bytes
       → Moves at bytes (in_comment token) (in_comment (token ++ bytes))
-  comment_run token [] at h = retarget at [] (in_comment token) (in_comment token) (in_comment (token ++ [])) (λ p.
-      ap (λ t. in_comment t p) (sym (append-nil token))) (stay at (in_comment token))
-  comment_run token (c ∷ bytes) at h =
-      let here : c ≡ 62 → without (codes "--") token ≡ None = λ e. ap (without (codes "--")) (sym (append-nil
-      token)) ∙ h [] bytes (ap (λ x. x ∷ bytes) e) in
-      byte at c bytes (in_comment token) (in_comment (token ++ c ∷ [])) (in_comment (token ++ (c ∷ bytes)))
-      (comment_step token c (nat_eq c 62) at refl here)
-      (retarget (at + 1) bytes (in_comment (token ++ c ∷ [])) (in_comment ((token ++ c ∷ []) ++ bytes)) (in_comment
-      (token ++ (c ∷ bytes)))
-      (λ p. ap (λ t. in_comment t p) (append_assoc token (c ∷ []) bytes))
-      (comment_run (token ++ c ∷ []) bytes (at + 1) (IsOpen-tail (codes "--") token c bytes h)))
-
-  comment_end : (lex : Lexes) → (bytes : List ℕ) (at : ℕ) → IsComment bytes → step (in_comment (bytes
-      ++ codes "--") at) 62
-      ≡ chars_at top below text [] (at + 1)
-  comment_end lex bytes at h = rw (without-append (codes "--") bytes, (lex.comment_test bytes).1 h)
+  comment_run token [] at h rest =
+      ap₂ (λ (p : ℕ) (t : List ℕ). run (in_comment t p) rest) (place_nil at) (sym (append-nil token))
+  comment_run token (c ∷ bytes) at h rest =
+      let here : c ≡ 62 → without (codes "--") token ≡ None =
+      λ e. ap (without (codes "--")) (sym (append-nil token)) ∙ h [] bytes (ap (λ x. x ∷ bytes) e) in
+      ap (λ x. run x (bytes ++ rest)) (comment_step token c (nat_eq c 62) at refl here)
+      ∙ comment_run (token ++ c ∷ []) bytes (at + 1) (IsOpen-tail (codes "--") token c bytes h) rest
+      ∙ ap₂ (λ (p : ℕ) (t : List ℕ). run (in_comment t p) rest) (place_one at c bytes) (append_assoc token (c ∷
+      []) bytes)
 
   -- behind the < of a comment, up to its end
   pub comment_moves : (lex : Lexes) → (bytes : List ℕ) (at : ℕ) → IsComment bytes
       → Moves at (codes "!--" ++ (bytes ++ codes "-->")) (less_at fresh mark top below text []) (chars_at top below
       text [])
-  comment_moves lex bytes at h =
-      let inside = comment_run [] (bytes ++ codes "--") (at + 1 + 1 + 1) (λ a b e. lex.comment_end bytes a b h e) in
-      let last = one (at + 1 + 1 + 1 + length (bytes ++ codes "--")) 62 (in_comment (bytes ++ codes "--")) (chars_at
-      top below text []) (comment_end lex bytes (at + 1 + 1 + 1 + length (bytes ++ codes "--")) h) in
-      byte at 33 (codes "--" ++ (bytes ++ codes "-->")) (less_at fresh mark top below text []) (plain_at marking
-      fresh mark top below text []) (chars_at top below text []) refl
-      (byte (at + 1) 45 (codes "-" ++ (bytes ++ codes "-->")) (plain_at marking fresh mark top below text [])
-      (plain_at marking fresh mark top below text (codes "-")) (chars_at top below text []) refl
-      (byte (at + 1 + 1) 45 (bytes ++ codes "-->") (plain_at marking fresh mark top below text (codes "-"))
-      (in_comment []) (chars_at top below text []) refl
-      (regroup (at + 1 + 1 + 1) ((bytes ++ codes "--") ++ codes ">") (bytes ++ codes "-->") (in_comment [])
-      (chars_at top below text []) (append_assoc bytes (codes "--") (codes ">"))
-      (then (at + 1 + 1 + 1) (bytes ++ codes "--") (codes ">") (in_comment []) (in_comment (bytes ++ codes "--"))
-      (chars_at top below text []) inside last))))
+  comment_moves lex bytes at h rest =
+      let token = bytes ++ codes "--" in
+      let place = at + 1 + 1 + 1 + length token in
+      let grouped : (bytes ++ codes "-->") ++ rest ≡ token ++ 62 ∷ rest = simp append_assoc in
+      let last : step (in_comment token place) 62 ≡ chars_at top below text [] (place + 1) =
+      rw (without-append (codes "--") bytes, (lex.comment_test bytes).1 h) in
+      ap (run (in_comment [] (at + 1 + 1 + 1))) grouped
+      ∙ comment_run [] token (at + 1 + 1 + 1) (λ a b e. lex.comment_end bytes a b h e) (62 ∷ rest)
+      ∙ ap (λ x. run x rest) last ∙ ap (λ p. run (chars_at top below text [] p) rest)
+      (omega (arith, length-append bytes (codes "--"), length-append bytes (codes "-->")))

@@ -1,20 +1,21 @@
 -- The reader takes elements and their content as the grammar has them.
 use Rattle.std.proofs.Common.{◌≡◌, ℕ, suc, ◌+◌, ◌<◌, ◌⊎◌, inl, inr, List, [], ◌∷◌, ◌++◌, Bool, true, false, length}
-use Rattle.std.proofs.Common.{codes, nat_eq, refl, sym, ap, ap₂, ◌∙◌, arith, append_assoc, length-append}
+use Rattle.std.proofs.Common.{codes, nat_eq, refl, sym, ap, ◌∙◌, arith, append_assoc, length-append}
 use Rattle.std.proofs.lemmas.Bool.{lt-ltb, ne_eqb, true≢false}
 use Rattle.xml_chars.specs.Classes.{is_space}
-use Rattle.soap_lex.specs.TextMachine.{chars}
-use Rattle.soap_lex.specs.TextMachine.{text_in}
+use Rattle.soap_lex.specs.Text.{IsText}
+use Rattle.soap_lex.specs.TextMachine.{chars, text_in}
 use Rattle.soap_document.specs.Tree.{Attribute, Element, element, Parts, none, text, child, onto}
 use Rattle.soap_document.specs.Grammar.{IsWhite, IsQName, IsAttributes, end, more, IsElement, full, empty, IsContent}
-use Rattle.soap_document.specs.Grammar.{last, start_tag, end_tag, empty_tag, max_depth}
-use Rattle.soap_document.specs.Machine.{no_value, less, ending, slashed, Frame, step, run, join, with_parts, has_room}
+use Rattle.soap_document.specs.Grammar.{last, start_tag, empty_tag, max_depth}
+use Rattle.soap_document.specs.Machine.{no_value, ending, slashed, Frame, step, run, join, with_parts, has_room}
 use Rattle.soap_document.specs.Machine.{is_name_end}
-use Rattle.soap_document.specs.Tokens
-use Rattle.soap_document.proofs.Moves.{At, Moves, place_one, NoStops, then, byte, one, regroup, retarget, kept, Tag}
-use Rattle.soap_document.proofs.Moves.{tag_at, between_at, plain_at, chars_at, less_at}
+use Rattle.soap_document.proofs.Moves.{At, Reads, and_then, next_byte, last_byte, kept, Tag, tag_at}
+use Rattle.soap_document.proofs.Moves.{between_at, plain_at, chars_at, less_at}
 use Rattle.soap_document.proofs.OnlyTags.{attributes_only}
-use Rattle.soap_document.proofs.TokenLaws.{qname_passes, qname_some, qname_less, qname_ending, white_ending, end_passes}
+use Rattle.soap_document.proofs.TokenLaws.{qname_passes, qname_some, qname_less, qname_ending, white_ending}
+use Rattle.soap_document.proofs.TokenLaws.{white_passes}
+use Rattle.soap_document.proofs.TokenLaws.{end_begins}
 use Rattle.soap_document.proofs.Words.{words_at, words_move, words_less}
 use Rattle.soap_document.proofs.Lexing.{Lexes}
 
@@ -42,135 +43,76 @@ abbrev pub Enters : At → ℕ → Bool → Frame → List Frame → List ℕ �
 Enters s at fresh top below x = (c : ℕ) (rest : List ℕ) → nat_eq c 33 ≡ false
     → run (s at) (60 ∷ c ∷ rest) ≡ run (less_at fresh at top below x [] (at + 1)) (c ∷ rest)
 
-enter : (at c : ℕ) (bytes : List ℕ) (s to : At) (fresh : Bool) (top : Frame) (below : List Frame) (x : List ℕ)
-    → Enters s at fresh top below x → nat_eq c 33 ≡ false
-    → Moves (at + 1) (c ∷ bytes) (less_at fresh at top below x []) to → Moves at (60 ∷ c ∷ bytes) s to
-enter at c bytes s to fresh top below x e h m rest =
-    e c (bytes ++ rest) h ∙ m rest ∙ ap (λ p. run (to p) rest) (place_one at 60 (c ∷ bytes))
-
 name_byte : (c : ℕ) → is_name_end c ≡ false → nat_eq c 33 ≡ false
 name_byte c h = ne_eqb c 33 (λ e. true≢false (sym (ap is_name_end e) ∙ h))
 
-enter_name : (at : ℕ) (name bytes : List ℕ) (s to : At) (fresh : Bool) (top : Frame) (below : List Frame) (x : List ℕ)
-    → Enters s at fresh top below x → Tokens.is_nil name ≡ false → NoStops less name
-    → Moves (at + 1) (name ++ bytes) (less_at fresh at top below x []) to → Moves at (60 ∷ (name ++ bytes)) s to
-enter_name at [] bytes s to fresh top below x e some h m = cc
-enter_name at (c ∷ name) bytes s to fresh top below x e some h m =
-    enter at c (name ++ bytes) s to fresh top below x e (name_byte c h.0) m
+module _ {s : At} {at : ℕ} (fresh : Bool) (top : Frame) (below : List Frame) (x : List ℕ) (enters : Enters s at fresh
+    top below x) where
+  enter : {c : ℕ} {bytes : List ℕ} {to : At} → nat_eq c 33 ≡ false
+      → Reads (at + 1) (c ∷ bytes) (less_at fresh at top below x []) to → Reads at (60 ∷ c ∷ bytes) s to
+  enter {c} {bytes} {to} h m = record {
+    moves = λ rest. enters c (bytes ++ rest) h ∙ m.moves rest
+        ∙ ap (λ p. run (to p) rest) (omega arith);
+  }
+
+  enter_name : (name bytes : List ℕ) {to : At} → IsQName name
+      → Reads (at + 1) (name ++ bytes) (less_at fresh at top below x []) to → Reads at (60 ∷ (name ++ bytes)) s to
+  enter_name [] bytes q m = let some = qname_some [] q in cc
+  enter_name (c ∷ name) bytes q m = enter (name_byte c (qname_less (c ∷ name) q).0) m
 
 -- ---- start tags
 
 abbrev IsTagByte : ℕ → Type 0
 IsTagByte c = (is_space c ≡ true) ⊎ ((c ≡ 62) ⊎ (c ≡ 47))
 
-record Begins (bytes : List ℕ) : Type 0 where
-  first : ℕ
-  others : List ℕ
-  there : bytes ≡ first ∷ others
-  is : IsTagByte first
-
-attributes_begin : {bytes : List ℕ} {attributes : List Attribute} → IsAttributes bytes attributes
-    → (c : ℕ) (rest : List ℕ) → IsTagByte c → Begins (bytes ++ c ∷ rest)
-attributes_begin (end [] h) c rest e = record { first = c; others = rest; there = refl; is = e }
-attributes_begin (end (b ∷ space) h) c rest e = record {
-  first = b;
-  others = space ++ c ∷ rest;
-  there = refl;
-  is =
-      inl h.0;
-}
-attributes_begin (more [] name left right quoted value tail attributes s q l r v h) c rest e = absurd (s.some refl)
-attributes_begin (more (b ∷ space) name left right quoted value tail attributes s q l r v h) c rest e =
-    record { first = b; others = _; there = refl; is = inl s.white.0 }
-
-module _ (fresh : Bool) (mark : ℕ) (top : Frame) (below : List Frame) (text name : List ℕ) where
-  abbrev tag_of : Tag
-  tag_of = record { fresh = fresh; markup = mark; top = with_parts top (onto text none); below = below; name = name }
-
-  tag_step : (c at : ℕ) → IsTagByte c → Tokens.is_nil name ≡ false → Tokens.is_qname name ≡ true
-      → has_room below top.parts ≡ true
-      → step (less_at fresh mark top below text name at) c ≡ step (between_at false tag_of [] at) c
-  tag_step c at (inl e) some passes room = rw (e, some, passes, room)
-  tag_step c at (inr (inl e)) some passes room = rw (e, some, passes, room)
-  tag_step c at (inr (inr e)) some passes room = rw (e, some, passes, room)
-
-  tag_moves : (bytes : List ℕ) (at : ℕ) (to : At) → Begins bytes → IsQName name → has_room below top.parts ≡ true
-      → Moves at bytes (between_at false tag_of []) to → Moves at bytes (less_at fresh mark top below text name) to
-  tag_moves bytes at to b q room m rest =
-      ap (λ x. run (less_at fresh mark top below text name at) (x ++ rest)) b.there
-      ∙ ap (λ s. run s (b.others ++ rest)) (tag_step b.first at b.is (qname_some name q) (qname_passes name q) room)
-      ∙ ap (λ x. run (between_at false tag_of [] at) (x ++ rest)) (sym b.there) ∙ m rest
-
-open_place : (at : ℕ) (name tag : List ℕ) → at + 1 + length name + length tag + 1 ≡ at + length (start_tag name tag)
-open_place at name tag = omega (arith, length-append name (tag ++ codes ">"), length-append tag (codes ">"))
-
-empty_place : (at : ℕ) (name tag : List ℕ) → at + 1 + length name + length tag + 1 + 1
-    ≡ at + length (empty_tag name tag)
-empty_place at name tag = omega (arith, length-append name (tag ++ codes "/>"), length-append tag (codes "/>"))
-
-module _ (fresh : Bool) (top : Frame) (below : List Frame) (text : List ℕ) (name tag : List ℕ) (attributes : List
-    Attribute) (at : ℕ) (q : IsQName name) (h : IsAttributes tag attributes) (room : has_room below top.parts
-    ≡ true) where
+module _ (fresh : Bool) (at : ℕ) (top : Frame) (below : List Frame) (text name : List ℕ) (q : IsQName name)
+    (room : has_room below top.parts ≡ true) where
   abbrev here : Tag
-  here = tag_of fresh at top below text name
+  here = record { fresh = fresh; markup = at; top = with_parts top (onto text none); below = below; name = name }
 
-  abbrev frame_at : ℕ → Frame
-  frame_at start = record { name = name; attributes = attributes; start = start; parts = none }
+  tag_step : (c p : ℕ) → IsTagByte c
+      → step (less_at fresh at top below text name p) c ≡ step (between_at false here [] p) c
+  tag_step c p (inl e) = rw (e, qname_some name q, qname_passes name q, room)
+  tag_step c p (inr (inl e)) = rw (e, qname_some name q, qname_passes name q, room)
+  tag_step c p (inr (inr e)) = rw (e, qname_some name q, qname_passes name q, room)
 
-  abbrev p3 : ℕ
-  p3 = at + 1 + length name + length tag
+  behind_name : {c : ℕ} {bytes : List ℕ} {p : ℕ} {to : At} → IsTagByte c
+      → Reads p (c ∷ bytes) (between_at false here []) to
+      → Reads p (c ∷ bytes) (less_at fresh at top below text name) to
+  behind_name {c} {bytes} {p} f m =
+      record { moves = λ rest. ap (λ s. run s (bytes ++ rest)) (tag_step c p f) ∙ m.moves rest }
 
-  open_step : (spaced : Bool) → step (between_at spaced here attributes p3) 62
-      ≡ chars_at (frame_at (p3 + 1)) (with_parts top (onto text none) ∷ below) [] [] (p3 + 1)
-  open_step true = refl
-  open_step false = refl
+  attributes_begin : {tag : List ℕ} {attributes : List Attribute} → IsAttributes tag attributes
+      → {c : ℕ} (bytes : List ℕ) {p : ℕ} {to : At} → IsTagByte c → Reads p (tag ++ c ∷ bytes) (between_at false here
+      []) to → Reads p (tag ++ c ∷ bytes) (less_at fresh at top below text name) to
+  attributes_begin (end [] h) bytes f m = behind_name f m
+  attributes_begin (end (b ∷ space) h) bytes f m = behind_name (inl h.0) m
+  attributes_begin (more [] n left right quoted value tail attributes s q l r v h) bytes f m = absurd (s.some refl)
+  attributes_begin (more (b ∷ space) n left right quoted value tail attributes s q l r v h) bytes f m =
+      behind_name (inl s.white.0) m
 
-  -- behind the < of a start tag, up to its end
-  open_moves : (lex : Lexes) → Moves (at + 1) (name ++ (tag ++ codes ">")) (less_at fresh at top below text [])
-      (chars_at (frame_at
-      (at + length (start_tag name tag))) (with_parts top (onto text none) ∷ below) [] [])
-  open_moves lex =
-      let inside = chars_at (frame_at (at + length (start_tag name tag))) (with_parts top (onto text none) ∷ below)
-      [] [] in
-      let attrs = attributes_only lex h here false [] (at + 1 + length name) in
-      let last_one = one p3 62 (between_at attrs.ends_spaced here attributes) inside
-      (open_step attrs.ends_spaced ∙ ap (λ k. chars_at (frame_at k) (with_parts top (onto text none) ∷ below) [] []
-      (p3 + 1)) (open_place at name tag)) in
-      then (at + 1) name (tag ++ codes ">") (less_at fresh at top below text []) (less_at fresh at top below text
-      name) inside
-      (kept (less_at fresh at top below text [] 0) name (at + 1) (qname_less name q))
-      (tag_moves fresh at top below text name (tag ++ codes ">") (at + 1 + length name) inside (attributes_begin h
-      62 [] (inr (inl refl))) q room
-      (then (at + 1 + length name) tag (codes ">") (between_at false here []) (between_at attrs.ends_spaced here
-      attributes) inside attrs.moves last_one))
+  -- a tag up to what ends it
+  tag_only : (lex : Lexes) → {tag : List ℕ} {attributes : List Attribute} → IsAttributes tag attributes
+      → {c : ℕ} {bytes : List ℕ} {s to : At} → IsTagByte c → Enters s at fresh top below text
+      → ((spaced : Bool) (p : ℕ) → p ≡ at + 1 + length name + length tag → Reads p (c ∷ bytes)
+      (between_at spaced here attributes) to) → Reads at (60 ∷ (name ++ (tag ++ c ∷ bytes))) s to
+  tag_only lex h f enters m =
+      let attrs = attributes_only lex h here false [] in
+      enter_name fresh top below text enters name _ q
+      (and_then (kept (less_at fresh at top below text [] 0) name (qname_less name q))
+      (attributes_begin h _ f (and_then (attrs.moves _) (m attrs.ends_spaced _ refl))))
 
-  slash_step : (spaced : Bool) → step (between_at spaced here attributes p3) 47
-      ≡ tag_at slashed here attributes [] no_value [] (p3 + 1)
-  slash_step true = refl
-  slash_step false = refl
+  open_step : (spaced : Bool) (attributes : List Attribute) (p start : ℕ) → p + 1 ≡ start
+      → step (between_at spaced here attributes p) 62
+      ≡ chars_at (record { name = name; attributes = attributes; start = start; parts = none })
+      (with_parts top (onto text none) ∷ below) [] [] (p + 1)
+  open_step true attributes p start e = rw e
+  open_step false attributes p start e = rw e
 
-  abbrev hollow : ℕ → Frame
-  hollow place = with_parts (with_parts top (onto text none)) (child (element name attributes place place none) none)
-
-  -- behind the < of an empty-element tag, up to its end
-  empty_moves : (lex : Lexes) → Moves (at + 1) (name ++ (tag ++ codes "/>")) (less_at fresh at top below text [])
-      (chars_at (hollow
-      (at + length (empty_tag name tag))) below [] [])
-  empty_moves lex =
-      let after = chars_at (hollow (at + length (empty_tag name tag))) below [] [] in
-      let attrs = attributes_only lex h here false [] (at + 1 + length name) in
-      let slash = tag_at slashed here attributes [] no_value [] in
-      let last_one = one (p3 + 1) 62 slash after (ap (λ k. chars_at (hollow k) below [] [] (p3 + 1 + 1))
-      (empty_place at name tag)) in
-      then (at + 1) name (tag ++ codes "/>") (less_at fresh at top below text []) (less_at fresh at top below text
-      name) after
-      (kept (less_at fresh at top below text [] 0) name (at + 1) (qname_less name q))
-      (tag_moves fresh at top below text name (tag ++ codes "/>") (at + 1 + length name) after (attributes_begin h
-      47 (codes ">") (inr (inr refl))) q room
-      (then (at + 1 + length name) tag (codes "/>") (between_at false here []) (between_at attrs.ends_spaced here
-      attributes) after attrs.moves
-      (byte p3 47 (codes ">") (between_at attrs.ends_spaced here attributes) slash after (slash_step
-      attrs.ends_spaced) last_one)))
+  slash_step : (spaced : Bool) (attributes : List Attribute) (p : ℕ) → step (between_at spaced here attributes p) 47
+      ≡ tag_at slashed here attributes [] no_value [] (p + 1)
+  slash_step true attributes p = refl
+  slash_step false attributes p = refl
 
 -- ---- end tags
 
@@ -178,109 +120,74 @@ module _ (top frame : Frame) (frames : List Frame) (mark : ℕ) where
   abbrev ending_at : List ℕ → At
   ending_at token = plain_at ending false mark top (frame ∷ frames) [] token
 
-  abbrev over : Frame
-  over = with_parts frame (child (element top.name top.attributes top.start mark top.parts) none)
-
-  close_step : (space : List ℕ) (at : ℕ) → IsWhite space → step (ending_at (top.name ++ space) at) 62
-      ≡ chars_at over frames [] [] (at + 1)
-  close_step space at h = rw (end_passes top.name space h)
-
   -- behind the </ of an end tag, up to its end
   close_moves : (space : List ℕ) (at : ℕ) → IsQName top.name → IsWhite space
-      → Moves at (top.name ++ (space ++ codes ">")) (ending_at []) (chars_at over frames [] [])
+      → Reads at (top.name ++ (space ++ codes ">")) (ending_at [])
+      (chars_at (with_parts frame (child (element top.name top.attributes top.start mark top.parts) none)) frames [] [])
   close_moves space at q h =
-      let after = chars_at over frames [] [] in
-      then at top.name (space ++ codes ">") (ending_at []) (ending_at top.name) after (kept (ending_at [] 0)
-      top.name at (qname_ending top.name q))
-      (then (at + length top.name) space (codes ">") (ending_at top.name) (ending_at (top.name ++ space)) after
-      (kept (ending_at top.name 0) space (at + length top.name) (white_ending space h))
-      (one (at + length top.name + length space) 62 (ending_at (top.name ++ space)) after (close_step space (at +
-      length top.name + length space) h)))
+      and_then (kept (ending_at [] 0) top.name (qname_ending top.name q))
+      (and_then (kept (ending_at top.name 0) space (white_ending space h))
+      (last_byte (rw (end_begins, white_passes space h))))
 
 -- ---- elements and content
 
-has_room_below : (frame : Frame) (frames : List Frame) (parts : Parts) (depth : ℕ) → length (frame ∷ frames) ≡ depth
-    → depth < max_depth → has_room (frame ∷ frames) parts ≡ true
-has_room_below frame frames parts depth e h = lt-ltb (length (frame ∷ frames)) max_depth (rw e h)
-
-full_bytes : (start content name space : List ℕ) → start ++ ((content ++ codes "</") ++ (name ++ (space ++ codes
-    ">"))) ≡ start ++ (content ++ end_tag name space)
-full_bytes start content name space = ap (λ (x : List ℕ). start ++ x) (append_assoc content (codes "</") (name ++
-    (space ++ codes ">")))
-
-content_bytes : (bytes inner rest : List ℕ) → bytes ++ (inner ++ (rest ++ codes "</"))
-    ≡ (bytes ++ (inner ++ rest)) ++ codes "</"
-content_bytes bytes inner rest = simp append_assoc
-
-content_place : (at : ℕ) (bytes inner rest : List ℕ) → at + length bytes + length inner + length rest
-    ≡ at + length (bytes ++ (inner ++ rest))
-content_place at bytes inner rest = omega (arith, length-append bytes (inner ++ rest), length-append inner rest)
+-- text within an element, up to a <
+text_only : (lex : Lexes) → {bytes meaning : List ℕ} → IsText bytes meaning → (top frame : Frame) (frames : List Frame)
+    → {at : ℕ} {more : List ℕ} {to : At} → ((s : At) → Enters s (at + length bytes) false top (frame ∷ frames) meaning
+    → Reads (at + length bytes) more s to) → Reads at (bytes ++ more) (chars_at top (frame ∷ frames) [] []) to
+text_only lex {bytes} {meaning} t top frame frames {at} m =
+    let ends = lex.text_taken _ _ [] t in
+    let before = words_at top frame frames (text_in ends.before chars ends.token) in
+    let words : Reads at bytes (chars_at top (frame ∷ frames) [] []) before =
+    record { moves = words_move top frame frames ends.takes refl refl at } in
+    and_then words (m before (words_less top frame frames [] meaning bytes ends (at + length bytes)))
 
 mutual
   pub element_only : (lex : Lexes) → {depth at : ℕ} {bytes : List ℕ} {u : Element} → IsElement depth at bytes u
       → (top : Frame) (below : List Frame) (x : List ℕ) (fresh : Bool) (s : At) → (depth < max_depth
-      → has_room below top.parts ≡ true) → length below ≡ depth
-      → Enters s at fresh top below x
-      → Moves at bytes s (chars_at (with_parts (with_parts top (onto x none)) (child u none)) below [] [])
+      → has_room below top.parts ≡ true) → length below ≡ depth → Enters s at fresh top below x
+      → Reads at bytes s (chars_at (with_parts (with_parts top (onto x none)) (child u none)) below [] [])
   element_only lex (full depth at name tag attributes content parts space d q h c w) top below x fresh s room deep
       enters =
       let start : ℕ = at + length (start_tag name tag) in
       let settled = with_parts top (onto x none) in
       let frame : Frame = record { name = name; attributes = attributes; start = start; parts = none } in
       let done : Frame = record { name = name; attributes = attributes; start = start; parts = parts } in
-      let mark : ℕ = start + length content in
-      let inside = chars_at frame (settled ∷ below) [] [] in
-      let closing = ending_at done settled below mark [] in
-      let after = chars_at (with_parts settled (child (element name attributes start mark parts) none)) below [] [] in
-      regroup at (start_tag name tag ++ ((content ++ codes "</") ++ (name ++ (space ++ codes ">")))) (start_tag name
-      tag ++ (content ++ end_tag name space)) s after
-      (full_bytes (start_tag name tag) content name space)
-      (then at (start_tag name tag) ((content ++ codes "</") ++ (name ++ (space ++ codes ">"))) s inside after
-      (enter_name at name (tag ++ codes ">") s inside fresh top below x enters (qname_some name q) (qname_less name q)
-      (open_moves fresh top below x name tag attributes at q h (room d) lex))
-      (then start (content ++ codes "</") (name ++ (space ++ codes ">")) inside closing after
-      (content_only lex c frame settled below (ap suc deep))
-      (close_moves done settled below mark space (start + length (content ++ codes "</")) q w)))
+      and_then {b = start_tag name tag} {t = chars_at frame (settled ∷ below) [] []}
+      (tag_only fresh at top below x name q (room d) lex h (inr (inl refl)) enters (λ spaced p e.
+      last_byte (open_step fresh at top below x name q (room d) spaced attributes p start (omega (
+        arith,
+        e,
+        length-append name (tag ++ codes ">"),
+        length-append tag (codes ">"),
+      )))))
+      (content_only lex c frame settled below (ap suc deep) (start + length content) refl (λ p.
+      close_moves done settled below (start + length content) space p q w))
   element_only lex (empty depth at name tag attributes d q h) top below x fresh s room deep enters =
-      let start : ℕ = at + length (empty_tag name tag) in
-      let after = chars_at (with_parts (with_parts top (onto x none)) (child (element name attributes start start
-      none) none)) below [] [] in
-      enter_name at name (tag ++ codes "/>") s after fresh top below x enters (qname_some name q) (qname_less name q)
-      (empty_moves fresh top below x name tag attributes at q h (room d) lex)
+      let slash = tag_at slashed (here fresh at top below x name q (room d)) attributes [] no_value [] in
+      tag_only fresh at top below x name q (room d) lex h (inr (inr refl)) enters (λ spaced p e.
+      let place : p + 1 + 1 ≡ at + length (empty_tag name tag) =
+      omega (arith, e, length-append name (tag ++ codes "/>"), length-append tag (codes "/>")) in
+      next_byte {t = slash} (slash_step fresh at top below x name q (room d) spaced attributes p)
+      (last_byte (rw place)))
 
+  -- the content of an element, its </ and what follows that
   pub content_only : (lex : Lexes) → {depth at : ℕ} {bytes : List ℕ} {parts : Parts} → IsContent depth at bytes parts
-      → (top frame : Frame) (frames : List Frame) → length (frame ∷ frames) ≡ depth
-      → Moves at (bytes ++ codes "</") (chars_at top (frame ∷ frames) [] []) (ending_at (with_parts top parts) frame
-      frames (at + length bytes) [])
-  content_only lex (last depth at bytes meaning t) top frame frames deep =
-      let ends = lex.text_taken _ _ [] t in
-      let below = frame ∷ frames in
-      let place : ℕ = at + length bytes in
-      let before = words_at top frame frames (text_in ends.before chars ends.token) in
-      let after = ending_at (with_parts top (onto meaning none)) frame frames place [] in
-      then at bytes (codes "</") (chars_at top below [] []) before after
-      (words_move top frame frames ends.takes refl refl at)
-      (enter place 47 [] before after false top below meaning (words_less top frame frames [] meaning bytes ends place)
-      refl (one (place + 1) 47 (less_at false place top below meaning []) after refl))
-  content_only lex (more depth at bytes meaning inner first rest parts t e c) top frame frames deep =
-      let ends = lex.text_taken _ _ [] t in
-      let below = frame ∷ frames in
-      let place : ℕ = at + length bytes in
-      let before = words_at top frame frames (text_in ends.before chars ends.token) in
+      → (top frame : Frame) (frames : List Frame) → length (frame ∷ frames) ≡ depth → (mark : ℕ)
+      → at + length bytes ≡ mark → {later : List ℕ} {to : At}
+      → ((p : ℕ) → Reads p later (ending_at (with_parts top parts) frame frames mark []) to)
+      → Reads at (bytes ++ 60 ∷ 47 ∷ later) (chars_at top (frame ∷ frames) [] []) to
+  content_only lex (last depth at bytes meaning t) top frame frames deep mark e m =
+      text_only lex t top frame frames (λ s enters. enter false top (frame ∷ frames) meaning enters refl
+      (next_byte (rw e) (m _)))
+  content_only lex (more depth at bytes meaning inner first rest parts t i c) top frame frames deep mark e m =
       let next = with_parts (with_parts top (onto meaning none)) (child first none) in
-      let middle = chars_at next below [] [] in
-      let mark : ℕ = place + length inner + length rest in
-      let after = ending_at (with_parts top (onto meaning (child first parts))) frame frames (at + length (bytes ++
-      (inner ++ rest))) [] in
-      regroup at (bytes ++ (inner ++ (rest ++ codes "</"))) ((bytes ++ (inner ++ rest)) ++ codes "</") (chars_at top
-      below [] []) after (content_bytes bytes inner rest)
-      (then at bytes (inner ++ (rest ++ codes "</")) (chars_at top below [] []) before after
-      (words_move top frame frames ends.takes refl refl at)
-      (then place inner (rest ++ codes "</") before middle after
-      (element_only lex e top below meaning false before (has_room_below frame frames top.parts depth deep) deep
-      (words_less top frame frames [] meaning bytes ends place))
-      (retarget (place + length inner) (rest ++ codes "</") middle (ending_at (with_parts next parts) frame frames
-      mark []) after
-      (λ p. ap₂ (λ (f : Frame) (m : ℕ). ending_at f frame frames m [] p) (grown top meaning first parts)
-      (content_place at bytes inner rest))
-      (content_only lex c next frame frames deep))))
+      rw (append_assoc, append_assoc) (text_only lex t top frame frames (λ s enters.
+      and_then (element_only lex i top (frame ∷ frames) meaning false s (λ h. lt-ltb (length (frame ∷ frames)) max_depth
+      (rw deep h)) deep enters)
+      (content_only lex c next frame frames deep mark (omega (
+        arith,
+        e,
+        length-append bytes (inner ++ rest),
+        length-append inner rest,
+      )) (λ p. rw (grown top meaning first parts) (m p)))))

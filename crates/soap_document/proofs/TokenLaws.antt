@@ -16,17 +16,15 @@ use Rattle.soap_lex.specs.NameBytes.{all_append, IsNameByte, name_bytes}
 
 -- ---- what the grammar has passes the tests, and no byte of it ends a token
 
--- white space is one of four bytes
-space_among : (c : ℕ) → is_space c ≡ true → (c ≡ 9) ⊎ ((c ≡ 10) ⊎ ((c ≡ 13) ⊎ (c ≡ 32)))
-space_among c e = grind (arith, nat_tests)
-
 is_space-name : (c : ℕ) → IsNameByte c → is_space c ≡ false
-is_space-name c h = false_from_ne_true (is_space c) (λ e. elim (space_among c e) as (λ _. ⊥) [
-  | inl a ↦ true≢false (sym (eq-eqb c 9 a) ∙ h 9 (omega arith) refl)
-  | inr (inl a) ↦ true≢false (sym (eq-eqb c 10 a) ∙ h 10 (omega arith) refl)
-  | inr (inr (inl a)) ↦ true≢false (sym (eq-eqb c 13 a) ∙ h 13 (omega arith) refl)
-  | inr (inr (inr a)) ↦ true≢false (sym (eq-eqb c 32 a) ∙ h 32 (omega arith) refl)
-])
+is_space-name c h = false_from_ne_true (is_space c) (λ e. grind (
+  arith,
+  nat_tests,
+  h 9 (omega arith) refl,
+  h 10 (omega arith) refl,
+  h 13 (omega arith) refl,
+  h 32 (omega arith) refl,
+))
 
 naming_byte : (c : ℕ) → IsNameByte c → stops naming c ≡ false
 naming_byte c h =
@@ -39,20 +37,14 @@ no_colon name h = all_weaker IsNameByte (λ c. nat_eq c 58 ≡ false) (λ c b. b
 pub qname_passes : (name : List ℕ) → IsQName name → is_qname name ≡ true
 unfolding is_qname
 qname_passes name (unprefixed n h) = rw (is_qname, cut_none 58 n (no_colon n (name_bytes n h))) (name_passes n h)
-qname_passes name (prefixed p n h k) = rw (
-  is_qname,
-  cut-append 58 p n (no_colon p (name_bytes p h)),
-  name_passes p
-      h,
-) (name_passes n k)
-
-prefix_some : (p n : List ℕ) → (p ++ 58 ∷ n) ≢ []
-prefix_some [] n e = cc
-prefix_some (c ∷ p) n e = cc
+qname_passes name (prefixed p n h k) =
+    let cuts = cut-append 58 p n (no_colon p (name_bytes p h)) in
+    rw (is_qname, cuts, name_passes p h) (name_passes n k)
 
 pub qname_some : (name : List ℕ) → IsQName name → is_nil name ≡ false
 qname_some name (unprefixed n h) = not_nil n (name_some n h)
-qname_some name (prefixed p n h k) = not_nil (p ++ 58 ∷ n) (prefix_some p n)
+qname_some name (prefixed [] n h k) = refl
+qname_some name (prefixed (c ∷ p) n h k) = refl
 
 qname_bytes : (P : ℕ → Type 0) → ((c : ℕ) → IsNameByte c → P c) → P 58 → (name : List ℕ) → IsQName name
     → AllByRecursion P name
@@ -62,9 +54,6 @@ qname_bytes P f colon name (prefixed p n h k) = all_append P p (58 ∷ n) (all_w
 
 pub qname_less : (name : List ℕ) → IsQName name → NoStops less name
 qname_less name h = qname_bytes (λ c. stops less c ≡ false) naming_byte refl name h
-
-pub qname_naming : (name : List ℕ) → IsQName name → NoStops naming name
-qname_naming name h = qname_bytes (λ c. stops naming c ≡ false) naming_byte refl name h
 
 pub qname_ending : (name : List ℕ) → IsQName name → NoStops ending name
 qname_ending name h = qname_bytes (λ c. stops ending c ≡ false) (λ c b. b 62 (omega arith) refl) refl name h
@@ -80,6 +69,6 @@ pub white_ending : (space : List ℕ) → IsWhite space → NoStops ending space
 white_ending space h = all_weaker (λ c. is_space c ≡ true) (λ c. stops ending c
     ≡ false) (λ c e. other is_space c 62 e refl) space h
 
-pub end_passes : (name space : List ℕ) → IsWhite space → is_end name (name ++ space) ≡ true
-end_passes [] space h = white_passes space h
-end_passes (b ∷ name) space h = rw (eq-eqb b b refl, end_passes name space h)
+pub end_begins : (name space : List ℕ) → is_end name (name ++ space) ≡ is_white space
+end_begins [] space = refl
+end_begins (b ∷ name) space = rw (eq-eqb b b refl) (end_begins name space)

@@ -1,20 +1,22 @@
 -- How the reader of documents reads text within an element: as the machine of text does.
-use Rattle.std.proofs.Common.{◌≡◌, ℕ, ◌+◌, ◌-◌, ◌<◌, List, [], ◌∷◌, ◌++◌, Bool, true, false, cond, nat_eq, codes}
+use Rattle.std.proofs.Common.{◌≡◌, ℕ, ◌+◌, ◌-◌, List, [], ◌∷◌, ◌++◌, Bool, true, false, cond, nat_eq, codes}
 use Rattle.std.proofs.Common.{Some, length, refl, sym, ap, subst, ◌∙◌, arith, length-append}
-use Rattle.std.proofs.lemmas.Bool.{true≢false}
+use Rattle.std.proofs.lemmas.Bool.{true≢false, false_from_ne_true, cond_both}
 use Rattle.soap_lex.specs.Text.{IsText}
 use Rattle.soap_lex.specs.TextMachine.{TextMode, chars as in_run, referring, opening, commenting, quoting, refused}
 use Rattle.soap_lex.specs.TextMachine.{TextState, begun, stops as text_stops, halts_in, halts, is_less_in, is_less}
-use Rattle.soap_lex.specs.TextMachine.{step as text_step, is_refused, longer as longer_text, to_stop, run as text_run}
-use Rattle.soap_lex.specs.TextMachine.{ended_in, ended, with_rest, reads}
+use Rattle.soap_lex.specs.TextMachine.{step as text_step, is_refused, to_stop, run as text_run, ended, with_rest}
 use Rattle.soap_lex.specs.TextMachine.{text_in as in_mode}
 use Rattle.soap_document.specs.Tree.{Element}
-use Rattle.soap_document.specs.Machine.{no_value, chars, Frame, State, step, run, refuse, counted, after_text, in_less}
+use Rattle.soap_document.specs.Machine.{chars, Frame, State, step, run, refuse, counted, after_text, in_less}
+use Rattle.soap_document.specs.Machine.{root_of}
 use Rattle.soap_document.proofs.Accepts.{Accepts, passed, refused_never}
-use Rattle.soap_document.proofs.Moves.{At, Moves, less_at}
+use Rattle.soap_document.proofs.Moves.{At, Moves, plain_at, less_at}
 use Rattle.soap_lex.specs.Facts.{same}
-use Rattle.soap_lex.specs.TextMachine.{Takes, stay as stays, on, TextEnds}
+use Rattle.soap_lex.specs.TextMachine.{Takes, stay, on, TextEnds}
 use Rattle.soap_document.proofs.Lexing.{Lexes}
+
+-- ---- the machine of text
 
 -- text that was refused is not read on
 pub refused_halts : (mode : TextMode) (token : List ℕ) → is_refused mode ≡ true → halts_in mode token ≡ true
@@ -25,13 +27,53 @@ refused_halts commenting token e = cc
 refused_halts quoting token e = cc
 refused_halts refused token e = refl
 
+-- where a < was read last
+less_state : (mode : TextMode) (token text : List ℕ) → is_less_in mode token ≡ true
+    → in_mode text mode token ≡ in_mode text opening (60 ∷ [])
+less_state in_run token text e = cc
+less_state referring token text e = cc
+less_state opening token text e = ap (in_mode text opening) (same token (codes "<") e)
+less_state commenting token text e = cc
+less_state quoting token text e = cc
+less_state refused token text e = cc
+
+-- it goes over bytes to a state, and leaves the others
+abbrev Goes : TextState → List ℕ → TextState × List ℕ → Type 0
+Goes v bytes x = (front : List ℕ) × Takes v front x.0 × (bytes ≡ front ++ x.1)
+
+one_more : (v : TextState) (c : ℕ) (bytes : List ℕ) (x : TextState × List ℕ) → halts v c ≡ false
+    → Goes (text_step v c) bytes x → Goes v (c ∷ bytes) x
+one_more v c bytes x e r = (c ∷ r.0, on v c r.0 x.0 e r.1, ap (λ (y : List ℕ). c ∷ y) r.2)
+
+stopped : (v : TextState) (bytes : List ℕ) → Goes v bytes (to_stop v bytes)
+stopped v [] = ([], stay v, refl)
+stopped v (c ∷ bytes) =
+    let next = text_step v c in
+    cond_both (halts v c) (v, c ∷ bytes) (cond (text_stops v.mode c) (next, bytes) (to_stop next bytes))
+    (Goes v (c ∷ bytes)) (λ e. ([], stay v, refl)) (λ e. one_more v c bytes _ e
+    (cond_both (text_stops v.mode c) (next, bytes) (to_stop next bytes) (Goes next bytes)
+    (λ f. ([], stay next, refl)) (λ f. stopped next bytes)))
+
+-- over all up to a byte before which it halts
+abbrev Ends : TextState → List ℕ → TextState × List ℕ → Type 0
+Ends v bytes x = Goes v bytes x × ((c : ℕ) (more : List ℕ) → x.1 ≡ c ∷ more → halts x.0 c ≡ true)
+
+run_ends : (v : TextState) (bytes : List ℕ) → Ends v bytes (text_run v bytes)
+run_ends v [] = (([], stay v, refl), λ c more f. cc)
+run_ends v (c ∷ bytes) =
+    let next = text_step v c in
+    cond_both (halts v c) (v, c ∷ bytes) (text_run next bytes) (Ends v (c ∷ bytes))
+    (λ e. (([], stay v, refl), λ d more f. let k : c ≡ d = cc in subst (λ b. halts v b ≡ true) k e))
+    (λ e. let r = run_ends next bytes in (one_more v c bytes (text_run next bytes) e r.0, r.1))
+
+-- ---- within text, all else as it is
+
 pub open_text : (s : State) → is_refused s.words.mode ≡ false → after_text s ≡ s
 open_text s e = rw e
 
 pub refused_text : (s : State) → is_refused s.words.mode ≡ true → after_text s ≡ refuse s
 refused_text s e = rw e
 
--- within text, all else as it is
 module _ (base : State) where
   abbrev pub within : TextState → ℕ → State
   within w at = record base { mode = chars; words = w; at = at }
@@ -40,146 +82,57 @@ module _ (base : State) where
   abbrev pub behind : TextState → ℕ → State
   behind w at = after_text (within w at)
 
-  behind_open : (w : TextState) (at : ℕ) → is_refused w.mode ≡ false → behind w at ≡ within w at
-  behind_open w at e = open_text (within w at) e
+  counted_behind : (w : TextState) (at : ℕ) → counted (behind w at) ≡ behind w (at + 1)
+  counted_behind w at = grind arith
 
-  behind_refused : (w : TextState) (at : ℕ) → is_refused w.mode ≡ true → behind w at ≡ refuse (within w at)
-  behind_refused w at e = refused_text (within w at) e
-
-  counted_behind : (w : TextState) (at : ℕ) (t : Bool) → is_refused w.mode ≡ t
-      → counted (behind w at) ≡ behind w (at + 1)
-  counted_behind w at true e = rw e
-  counted_behind w at false e = rw e
-
-  pub text_next : (w : TextState) (at c : ℕ) → halts w c ≡ false → step (within w at) c ≡ behind (text_step w c)
-      (at + 1)
+  text_next : (w : TextState) (at c : ℕ) → halts w c ≡ false → step (within w at) c ≡ behind (text_step w c) (at + 1)
   text_next w at c e =
       let first : step (within w at) c ≡ counted (behind (text_step w c) at) = rw e in
-      first ∙ counted_behind (text_step w c) at (is_refused (text_step w c).mode) refl
+      first ∙ counted_behind (text_step w c) at
 
-  -- what the grammar has
-  moved : {v w : TextState} {bytes : List ℕ} → Takes v bytes w → (t : Bool) → is_refused v.mode ≡ t
-      → (at : ℕ) (rest : List ℕ) → run (behind v at) (bytes ++ rest) ≡ run (behind w (at + length bytes)) rest
-  moved (stays s) t e at rest = ap (λ p. run (behind s p) rest) (omega arith)
-  moved (on s c bytes w h m) true e at rest = absurd (true≢false (sym (refused_halts s.mode (s.token ++ c ∷ []) e) ∙ h))
-  moved (on s c bytes w h m) false e at rest =
-      let next = text_step s c in
-      ap (λ x. run x (c ∷ (bytes ++ rest))) (behind_open s at e) ∙ ap (λ x. run x (bytes ++ rest)) (text_next s at c h)
-      ∙ moved m (is_refused next.mode) refl (at + 1) rest ∙ ap (λ p. run (behind w p) rest) (omega arith)
+  moved : {v w : TextState} {bytes : List ℕ} → Takes v bytes w → (at : ℕ) (rest : List ℕ)
+      → run (behind v at) (bytes ++ rest) ≡ run (behind w (at + length bytes)) rest
+  moved (stay s) at rest = ap (λ p. run (behind s p) rest) (omega arith)
+  moved (on s c bytes w h m) at rest =
+      let runs = false_from_ne_true (is_refused s.mode) (λ e. true≢false (sym (refused_halts s.mode (s.token ++ c
+      ∷ []) e) ∙ h)) in
+      ap (λ x. run x (c ∷ (bytes ++ rest))) (open_text (within s at) runs)
+      ∙ ap (λ x. run x (bytes ++ rest)) (text_next s at c h) ∙ moved m (at + 1) rest
+      ∙ ap (λ p. run (behind w p) rest) (omega arith)
 
   pub takes_on : {v w : TextState} {bytes : List ℕ} → Takes v bytes w → is_refused v.mode ≡ false
       → (at : ℕ) (rest : List ℕ) → run (within v at) (bytes ++ rest) ≡ run (behind w (at + length bytes)) rest
-  takes_on {v} {w} {bytes} m e at rest =
-      ap (λ x. run x (bytes ++ rest)) (sym (behind_open v at e)) ∙ moved m false e at rest
+  takes_on {v} {bytes = bytes} m e at rest =
+      ap (λ x. run x (bytes ++ rest)) (sym (open_text (within v at) e)) ∙ moved m at rest
 
-  pub text_moves : {v w : TextState} {bytes : List ℕ} → Takes v bytes w → is_refused v.mode ≡ false
-      → is_refused w.mode ≡ false → (at : ℕ) (rest : List ℕ)
-      → run (within v at) (bytes ++ rest) ≡ run (within w (at + length bytes)) rest
-  text_moves {v} {w} {bytes} m e f at rest =
-      takes_on m e at rest ∙ ap (λ x. run x rest) (behind_open w (at + length bytes) f)
+  goes_on : (v : TextState) (bytes : List ℕ) (x : TextState × List ℕ) (r : Goes v bytes x)
+      → is_refused v.mode ≡ false → (at : ℕ) → run (within v at) bytes ≡ run (behind x.0 (at + length r.0)) x.1
+  goes_on v bytes x r e at = ap (run (within v at)) r.2 ∙ takes_on r.1 e at x.1
 
   -- what a piece does, up to the end of a token
-  fed_on : (v w : TextState) (c : ℕ) (bytes rest : List ℕ) (q p : ℕ) (a b : Bool) → halts v c ≡ a
-      → text_stops v.mode c ≡ b → is_refused v.mode ≡ false → to_stop v (c ∷ bytes) ≡ (w, rest)
-      → p + length rest ≡ q + length (c ∷ bytes)
-      → (to_stop (longer_text v (c ∷ [])) bytes ≡ (w, rest) → p + length rest ≡ q + 1 + length bytes
-      → run (within (longer_text v (c ∷ [])) (q + 1)) bytes ≡ run (behind w p) rest)
-      → run (within v q) (c ∷ bytes) ≡ run (behind w p) rest
-  fed_on v w c bytes rest q p true b e f runs fed place later =
-      let halted : to_stop v (c ∷ bytes) ≡ (v, c ∷ bytes) = rw e in
-      let ends : (v, c ∷ bytes) ≡ (w, rest) = sym halted ∙ fed in
-      let size : length (c ∷ bytes) ≡ length rest = ap (λ (x : TextState × List ℕ). length x.1) ends in
-      let here : q ≡ p = omega (arith, place, size) in
-      ap (λ x. run x (c ∷ bytes)) (sym (behind_open v q runs))
-      ∙ ap (λ (x : TextState × List ℕ). run (behind x.0 q) x.1) ends ∙ ap (λ k. run (behind w k) rest) here
-  fed_on v w c bytes rest q p false true e f runs fed place later =
-      let stopped : to_stop v (c ∷ bytes) ≡ (text_step v c, bytes) = rw (e, f) in
-      let ends : (text_step v c, bytes) ≡ (w, rest) = sym stopped ∙ fed in
-      let size : length bytes ≡ length rest = ap (λ (x : TextState × List ℕ). length x.1) ends in
-      let here : q + 1 ≡ p = omega (arith, place, size) in
-      ap (λ x. run x bytes) (text_next v q c e) ∙ ap (λ (x : TextState × List ℕ). run (behind x.0 (q + 1)) x.1) ends
-      ∙ ap (λ k. run (behind w k) rest) here
-  fed_on v w c bytes rest q p false false e f runs fed place later =
-      let kept : text_step v c ≡ longer_text v (c ∷ []) = rw f in
-      let unstopped : to_stop v (c ∷ bytes) ≡ to_stop (text_step v c) bytes = rw (e, f) in
-      let next : to_stop (longer_text v (c ∷ [])) bytes ≡ (w, rest) =
-      ap (λ x. to_stop x bytes) (sym kept) ∙ sym unstopped ∙ fed in
-      ap (λ x. run x bytes) (text_next v q c e ∙ ap (λ x. behind x (q + 1)) kept
-      ∙ behind_open (longer_text v (c ∷ [])) (q + 1) runs) ∙ later next (omega (arith, place))
-
   pub fed : (v w : TextState) (bytes rest : List ℕ) (q p : ℕ) → is_refused v.mode ≡ false → to_stop v bytes ≡ (w, rest)
       → p + length rest ≡ q + length bytes → run (within v q) bytes ≡ run (behind w p) rest
-  fed v w [] rest q p runs e place =
-      let size : length {A = ℕ} [] ≡ length rest = ap (λ (x : TextState × List ℕ). length x.1) e in
-      let here : q ≡ p = omega (arith, place, size) in
-      ap (λ x. run x []) (sym (behind_open v q runs))
-      ∙ ap (λ (x : TextState × List ℕ). run (behind x.0 q) x.1) e ∙ ap (λ k. run (behind w k) rest) here
-  fed v w (c ∷ bytes) rest q p runs e place =
-      fed_on v w c bytes rest q p (halts v c) (text_stops v.mode c) refl refl runs e place
-      (λ g at. fed (longer_text v (c ∷ [])) w bytes rest (q + 1) p runs g at)
+  fed v w bytes rest q p runs e place =
+      let r = subst (Goes v bytes) e (stopped v bytes) in
+      let size : length bytes ≡ length (r.0 ++ rest) = ap length r.2 in
+      let here : q + length r.0 ≡ p = omega (arith, place, size, length-append r.0 rest) in
+      goes_on v bytes (w, rest) r runs q ∙ ap (λ k. run (behind w k) rest) here
 
 -- ---- where text ends
-
-less_ended : (mode : TextMode) (w : TextState) → is_less_in mode w.token ≡ true
-    → ended_in mode w ≡ Some (w.text, 60 ∷ [])
-less_ended in_run w e = cc
-less_ended referring w e = cc
-less_ended opening w e = ap (λ (x : List ℕ). Some (w.text, x)) (same w.token (codes "<") e)
-less_ended commenting w e = cc
-less_ended quoting w e = cc
-less_ended refused w e = cc
-
-less_reads : (w : TextState) (c : ℕ) (bytes : List ℕ) → halts w c ≡ true → is_less w ≡ true
-    → reads w (c ∷ bytes) ≡ Some (w.text, 60 ∷ c ∷ bytes)
-less_reads w c bytes e f =
-    let halted : text_run w (c ∷ bytes) ≡ (w, c ∷ bytes) = rw e in
-    ap (λ (x : TextState × List ℕ). with_rest (ended x.0) x.1) halted
-    ∙ ap (λ o. with_rest o (c ∷ bytes)) (less_ended w.mode w f)
-
-more_reads : (w : TextState) (c : ℕ) (bytes : List ℕ) → halts w c ≡ false
-    → reads w (c ∷ bytes) ≡ reads (text_step w c) bytes
-more_reads w c bytes e = rw e
-
--- a ! goes on behind a <
-no_bang : (mode : TextMode) (token : List ℕ) (c : ℕ) → is_less_in mode token ≡ true
-    → halts_in mode (token ++ c ∷ []) ≡ true → c ≡ 33 → ⊥
-no_bang in_run token c e h is = cc
-no_bang referring token c e h is = cc
-no_bang opening token c e h is =
-    let x : halts_in opening (codes "<" ++ c ∷ []) ≡ true =
-    subst (λ (t : List ℕ). halts_in opening (t ++ c ∷ []) ≡ true) (same token (codes "<") e) h in
-    let y : halts_in opening (codes "<" ++ 33 ∷ []) ≡ true =
-    subst (λ k. halts_in opening (codes "<" ++ k ∷ []) ≡ true) is x in
-    cc
-no_bang commenting token c e h is = cc
-no_bang quoting token c e h is = cc
-no_bang refused token c e h is = cc
 
 module _ (top frame : Frame) (frames : List Frame) where
   abbrev below : List Frame
   below = frame ∷ frames
 
   abbrev pub words_at : TextState → At
-  words_at w at = record {
-    mode = chars;
-    fresh = false;
-    at = at;
-    markup = 0;
-    token = [];
-    words = w;
-    name = [];
-    attributes = [];
-    attribute = [];
-    value = no_value;
-    top = top;
-    below = below;
-  }
+  words_at w at = record (plain_at chars false 0 top below [] [] at) { words = w }
 
   -- ---- what the grammar has
 
   pub words_move : {v w : TextState} {bytes : List ℕ} → Takes v bytes w → is_refused v.mode ≡ false
       → is_refused w.mode ≡ false → (at : ℕ) → Moves at bytes (words_at v) (words_at w)
-  words_move {v} m e f at rest = text_moves (words_at v at) m e f at rest
+  words_move {v} {w} {bytes} m e f at rest =
+      takes_on (words_at v at) m e at rest ∙ ap (λ x. run x rest) (open_text (words_at w (at + length bytes)) f)
 
   -- behind text, a < that no ! follows
   pub words_less : (text meaning bytes : List ℕ) (ends : TextEnds text bytes meaning) (at c : ℕ) (rest : List ℕ)
@@ -200,67 +153,21 @@ module _ (top frame : Frame) (frames : List Frame) where
   -- ---- what is read
 
   module _ (u : Element) where
-    record WordsRead (w : TextState) (bytes : List ℕ) (at : ℕ) : Type 0 where
-      meaning : List ℕ
-      rest : List ℕ
-      place : ℕ
-      is : reads w bytes ≡ Some (meaning, 60 ∷ rest)
-      so_far : place + length (60 ∷ rest) ≡ at + length bytes
-      plain_rest : (after : List ℕ) → rest ≡ 33 ∷ after → ⊥
-      later : Accepts (less_at false place top below meaning [] (place + 1)) rest u
-
-    abbrev behind_at : TextState → ℕ → State
-    behind_at w at = after_text (words_at w at)
-
-    -- what is read behind a byte, where it was not refused
-    behind_read : (w : TextState) (at : ℕ) (bytes : List ℕ) (t : Bool) → is_refused w.mode ≡ t
-        → (Accepts (words_at w at) bytes u → WordsRead w bytes at) → Accepts (behind_at w at) bytes u
-        → WordsRead w bytes at
-    behind_read w at bytes true e recur h =
-        absurd (refused_never (words_at w at) bytes u (subst (λ s. Accepts s bytes u) (behind_refused
-        (words_at w at) w at
-        e) h))
-    behind_read w at bytes false e recur h =
-        recur (subst (λ s. Accepts s bytes u) (behind_open (words_at w at) w at e) h)
-
-    word_step : (w : TextState) (at c : ℕ) (bytes : List ℕ) → 0 < at → (b : Bool) → halts w c ≡ b
-        → (Accepts (behind_at (text_step w c) (at + 1)) bytes u → WordsRead (text_step w c) bytes (at + 1))
-        → Accepts (words_at w at) (c ∷ bytes) u → WordsRead w (c ∷ bytes) at
-    word_step w at c bytes some true e recur h =
+    -- behind all of a text there is a <
+    words_end : (w : TextState) (at : ℕ) (rest : List ℕ) (t : Bool) → is_refused w.mode ≡ t
+        → ((c : ℕ) (more : List ℕ) → rest ≡ c ∷ more → halts w c ≡ true) → Accepts (after_text (words_at w at)) rest u
+        → (is_less w ≡ true) × Accepts (less_at false (at - 1) top below w.text [] at) rest u
+    words_end w at rest true e last h =
+        absurd (refused_never (words_at w at) rest u (subst (λ s. Accepts s rest u) (refused_text (words_at w at) e) h))
+    words_end w at [] false e last h =
+        let none : root_of (words_at w at) ≡ Some u = subst (λ s. Accepts s [] u) (open_text (words_at w at) e) h in
+        cc
+    words_end w at (c ∷ bytes) false e last h =
         let s : State = words_at w at in
         let next : State = in_less (less_at false (at - 1) top below w.text [] at) c in
-        let here : step s c ≡ counted (cond (is_less w) next (refuse s)) = rw e in
-        let p = passed (is_less w) next s bytes u (subst (λ x. Accepts x bytes u) here h) in
-        let place : at ≡ at - 1 + 1 = omega (arith, some) in
-        record {
-          meaning = w.text;
-          rest = c ∷ bytes;
-          place = at - 1;
-          is = less_reads w c bytes e p.0;
-          so_far = omega (arith, some);
-          plain_rest = λ after f. let k : c ≡ 33 = cc in no_bang w.mode w.token c p.0 e k;
-          later = subst (λ q. Accepts (less_at false (at - 1) top below w.text [] q) (c ∷ bytes) u) place p.1;
-        }
-    word_step w at c bytes some false e recur h =
-        let r = recur (subst (λ s. Accepts s bytes u) (text_next (words_at w at) w at c e) h) in
-        record {
-          meaning = r.meaning;
-          rest = r.rest;
-          place = r.place;
-          is = more_reads w c bytes e ∙ r.is;
-          so_far = r.so_far ∙ omega arith;
-          plain_rest = r.plain_rest;
-          later = r.later;
-        }
-
-    word_read : (w : TextState) (at : ℕ) (bytes : List ℕ) → 0 < at → Accepts (words_at w at) bytes u
-        → WordsRead w bytes at
-    word_read w at [] some h = cc
-    word_read w at (c ∷ bytes) some h =
-        let next = text_step w c in
-        word_step w at c bytes some (halts w c) refl
-        (λ k. behind_read next (at + 1) bytes (is_refused next.mode) refl
-        (λ j. word_read next (at + 1) bytes (omega arith) j) k) h
+        let halted = last c bytes refl in
+        let here : step s c ≡ counted (cond (is_less w) next (refuse s)) = rw halted in
+        passed (is_less w) next s bytes u (subst (λ x. Accepts x bytes u) (ap (λ x. step x c) (open_text s e) ∙ here) h)
 
     -- text up to a < that begins no markup of text
     pub record TextFound (bytes : List ℕ) (at : ℕ) : Type 0 where
@@ -274,25 +181,25 @@ module _ (top frame : Frame) (frames : List Frame) where
 
     pub text_found : (lex : Lexes) → (bytes : List ℕ) (at : ℕ) → Accepts (words_at (begun []) at) bytes u
         → TextFound bytes at
-    text_found lex [] at h = cc
-    text_found lex (c ∷ bytes) at h =
-        let next = text_step (begun []) c in
-        let first : step (words_at (begun []) at) c ≡ behind_at next (at + 1) =
-        text_next (words_at (begun []) at) (begun []) at c refl in
-        let r = behind_read next (at + 1) bytes (is_refused next.mode) refl
-        (λ k. word_read next (at + 1) bytes (omega arith) k) (subst (λ s. Accepts s bytes u) first h) in
-        let all : reads (begun []) (c ∷ bytes) ≡ Some (r.meaning, 60 ∷ r.rest) =
-        more_reads (begun []) c bytes refl ∙ r.is in
-        let v = lex.text_found (c ∷ bytes) [] r.meaning (60 ∷ r.rest) all in
-        let size : length (c ∷ bytes) ≡ length v.0 + length (60 ∷ r.rest) =
-        ap (λ (x : List ℕ). length x) v.2.there ∙ length-append v.0 (60 ∷ r.rest) in
-        let place : r.place ≡ at + length v.0 = omega (arith, r.so_far, size) in
+    text_found lex bytes at h =
+        let x = text_run (begun []) bytes in
+        let (r, last) = run_ends (begun []) bytes in
+        let (less, k) =
+        words_end x.0 (at + length r.0) x.1 (is_refused x.0.mode) refl last
+        (ap root_of (sym (goes_on (words_at (begun []) at) (begun []) bytes x r refl at)) ∙ h) in
+        let opens : x.0 ≡ in_mode x.0.text opening (60 ∷ []) = less_state x.0.mode x.0.token x.0.text less in
+        let v = lex.text_found bytes [] x.0.text (60 ∷ x.1) (ap (λ w. with_rest (ended w) x.1) opens) in
+        let sizes : length (r.0 ++ x.1) ≡ length (v.0 ++ 60 ∷ x.1) =
+        ap (λ (y : List ℕ). length y) (sym r.2 ∙ v.2.there) in
+        let place : at + length r.0 ≡ at + length v.0 + 1 =
+        omega (arith, sizes, length-append r.0 x.1, length-append v.0 (60 ∷ x.1)) in
         record {
           front = v.0;
-          meaning = r.meaning;
-          rest = r.rest;
+          meaning = x.0.text;
+          rest = x.1;
           there = v.2.there;
           is = subst (IsText v.0) (sym v.3) v.2.is;
-          plain_rest = r.plain_rest;
-          later = subst (λ p. Accepts (less_at false p top below r.meaning [] (p + 1)) r.rest u) place r.later;
+          plain_rest = λ after f. true≢false (sym (last 33 after f) ∙ ap (λ w. halts w 33) opens);
+          later = subst (λ m. Accepts (less_at false m top below x.0.text [] (at + length v.0 + 1)) x.1 u) (omega arith)
+              (subst (λ p. Accepts (less_at false (p - 1) top below x.0.text [] p) x.1 u) place k);
         }

@@ -2,7 +2,7 @@ use Rattle.std.proofs.Common.{rules, ◌≡◌, true, OnOk, sym, subst, ◌∙�
 use Rattle.soap_lex.specs.TextMachine.{halts}
 use Rattle.soap_document.specs.Machine.{State, at_chars}
 use Rattle.soap_document.specs.Seen.{seen, Sees}
-use Rattle.soap_document.proofs.Fed.{on_ok}
+use Rattle.std.proofs.lemmas.Result.{on_ok_weaker}
 use Rattle.soap_document.proofs.Seeing.{seeing, sees}
 use Rattle.soap_document.proofs.Steps.{begun_tag, chars_less}
 use Rattle.soap_document.proofs.reader.Reader.at_chars.Goals as goal
@@ -25,5 +25,5 @@ returns-clause-sees g c =
     seeing stands c.args.self.now (λ s. halts s.words byte ≡ true → OnOk c.go_on.result (Sees stands new (at_chars s
     byte))) (λ top below h halted.
     let s = seen c.args.self.now.scan top below in
-    on_ok c.go_on.result _ _ (subst (λ (x : State). Sees stands new x) (chars_less s byte halted ends))
+    on_ok_weaker c.go_on.result (subst (λ (x : State). Sees stands new x) (chars_less s byte halted ends))
     (c.go_on.ensures.sees (begun_tag s) (sees stands _ top below _ h (search (rules, c.restart.ensures text)))))

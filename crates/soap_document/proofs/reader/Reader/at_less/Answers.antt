@@ -2,7 +2,7 @@ use Rattle.std.proofs.Common.{rules, ◌≡◌, true, ◌&&◌, OnOk, refl, sym,
 use Rattle.soap_document.specs.Machine.{State, at_less, has_room, settle}
 use Rattle.soap_document.specs.Tokens.{is_qname}
 use Rattle.soap_document.specs.Seen.{seen, Sees}
-use Rattle.soap_document.proofs.Fed.{on_ok}
+use Rattle.std.proofs.lemmas.Result.{on_ok_weaker}
 use Rattle.soap_document.proofs.Seeing.{seeing, scans, sees}
 use Rattle.soap_document.proofs.Steps.{not_nil, less_named}
 use Rattle.soap_document.proofs.reader.Reader.at_less.Goals as goal
@@ -31,5 +31,5 @@ returns-clause-sees g c =
     search (rules, c.has_room.ensures top below h) in
     let settles = c.in_ok-settle.ensures.sees s (sees stands c.args.self.now top below s h refl) in
     let names = scans stands c.settle.new.self _ named (λ inner outer held. search rules) (settle s) settles in
-    on_ok c.at_tagging.result _ _ (subst (λ (x : State). Sees stands c.at_tagging.new.self x) (less_named s
+    on_ok_weaker c.at_tagging.result (subst (λ (x : State). Sees stands c.at_tagging.new.self x) (less_named s
     c.args.byte some fits)) (c.at_tagging.ensures.sees (named (settle s)) names))

@@ -5,4 +5,4 @@ use Rattle.soap_document.proofs.reader.Reader.at_naming.Goals as goal
 pub returns-clause-sees : goal.returns-clause-sees
 returns-clause-sees g c =
     scans_ok g.H.Handler.stands c.args.self.now c.at_attribute.new.self (λ (s : State). at_naming s c.args.byte)
-    c.at_attribute.result (λ top below h. c.at_attribute.ensures top below)
+    c.at_attribute.result c.at_attribute.ensures

@@ -1,4 +1,3 @@
-use Rattle.std.proofs.Common.{refl}
 use Rattle.soap_document.proofs.Seeing.{starts, goes_further}
 use Rattle.soap_document.proofs.reader.Reader.feed.Goals as goal
 
@@ -8,6 +7,5 @@ loop-rest-init g c = starts g.H.Handler.stands g.H.Handler.depth c.args.self.now
 pub loop-rest-preserved : goal.loop-rest-preserved
 loop-rest-preserved g c =
     let place = c.in_ok-taken.ensures.place in
-    goes_further g.H.Handler.stands g.H.Handler.depth c.args.self.now c.args.piece.now c.loop-rest.self _
-    c.loop-rest.rest.now c.in_ok-taken.taken c.loop-rest.invariant c.in_ok-taken.ensures.told place.1 place.2
-    c.in_ok-taken.ensures.sees
+    goes_further g.H.Handler.stands _ c.in_ok-taken.taken c.loop-rest.invariant c.in_ok-taken.ensures.told place.1
+    place.2 c.in_ok-taken.ensures.sees

@@ -12,8 +12,8 @@ overflow_add-self c = omega (arith, ap (λ s. s.at) (c.refuse.ensures nothing_op
 pub returns-then-taken-eq0-clause-taken : goal.returns-then-taken-eq0-clause-taken
 returns-then-taken-eq0-clause-taken c = λ top below.
     taken_none (seen c.args.self.now top below) (seen c.refuse.new.self top below)
-    (value_state c.feed.new.self c.feed.new.out.items) c.args.bytes.now c.in-Ok.taken c.requires.inside c.requires.some
-    c.in-Ok.ensures.ok.1 c.if-taken-eq0.true (c.refuse.ensures top below)
+    (value_state c.feed.new.self c.feed.new.out.items) c.args.bytes.now c.requires.inside c.requires.some
+    (rw c.if-taken-eq0.true at c.in-Ok.ensures.ok.1) (c.refuse.ensures top below)
 
 pub returns-clause-taken : goal.returns-clause-taken
 returns-clause-taken c = λ top below.
