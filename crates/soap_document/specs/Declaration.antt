@@ -4,6 +4,7 @@ use Rattle.std.specs.Prelude.{codes, drop, length}
 use Rattle.std.specs.Str.{bytes_eq, str_to_ascii_lowercase}
 use Rattle.xml_chars.specs.Classes.{is_space}
 use Rattle.soap_document.specs.Tokens.{begins, cut}
+use Rattle.soap_lex.specs.Bytes.{double_quote, single_quote}
 
 -- the bytes from the first that is no white space
 abbrev pub skip : List ℕ → List ℕ
@@ -17,7 +18,7 @@ after word bytes = if begins word bytes then Some (drop (length word) bytes) els
 -- the word between quotes, and what follows
 abbrev pub quoted : List ℕ → Option (List ℕ × List ℕ)
 quoted [] = None
-quoted (b ∷ bytes) = if (b == 34) || (b == 39) then cut b bytes else None
+quoted (b ∷ bytes) = if (b == double_quote) || (b == single_quote) then cut b bytes else None
 
 -- the value of a setting of this name, and what follows
 abbrev pub valued : Option (List ℕ) → Option (List ℕ × List ℕ)

@@ -13,6 +13,8 @@ use Rattle.soap_document.specs.Tree.{Attribute, Element, element, Parts, none, t
 use Rattle.soap_document.specs.Grammar.{max_depth}
 use Rattle.soap_document.specs.Tokens.{is_nil, is_white, is_qname, is_comment}
 use Rattle.soap_document.specs.Declaration.{is_declaration}
+use Rattle.soap_lex.specs.Bytes.{less_than, greater_than, double_quote, single_quote, slash, equals_sign}
+use Rattle.soap_lex.specs.Bytes.{exclamation_mark, question_mark}
 
 -- where the reader stands
 pub data Mode : Type 0 where
@@ -56,7 +58,7 @@ pub record State : Type 0 where
 
 -- where no value is read
 abbrev pub no_value : ValueState
-no_value = begun_value 34 []
+no_value = begun_value double_quote []
 
 -- parts before others
 abbrev pub join : Parts → Parts → Parts
@@ -87,15 +89,17 @@ settle s = record s { top = with_parts s.top (onto s.words.text none); words = b
 
 -- white space, or a byte that may stand behind a name in a tag
 abbrev pub is_name_end : ℕ → Bool
-is_name_end c = is_space c || ((c == 62) || ((c == 47) || ((c == 61) || ((c == 33) || (c == 63)))))
+is_name_end c =
+    is_space c || ((c == greater_than) || ((c == slash) || ((c == equals_sign) || ((c == exclamation_mark)
+    || (c == question_mark)))))
 
 -- whether a byte ends the token
 abbrev pub stops : Mode → ℕ → Bool
-stops beginning c = is_space c || (c == 60)
-stops declaring c = c == 62
-stops outside c = c == 60
+stops beginning c = is_space c || (c == less_than)
+stops declaring c = c == greater_than
+stops outside c = c == less_than
 stops marking c = true
-stops commenting c = c == 62
+stops commenting c = c == greater_than
 stops chars c = true
 stops less c = is_name_end c
 stops tagging c = true
@@ -104,7 +108,7 @@ stops named c = true
 stops valuing c = true
 stops value_inner c = true
 stops slashed c = true
-stops ending c = c == 62
+stops ending c = c == greater_than
 stops refused c = true
 
 -- a byte order mark, or nothing (4.3.3)
@@ -114,8 +118,9 @@ is_mark bytes = is_nil bytes || bytes_eq bytes (0xEF ∷ 0xBB ∷ 0xBF ∷ [])
 -- white space or a < ends what stands before all markup
 abbrev pub at_beginning : State → ℕ → State
 at_beginning s c =
-    if is_mark s.token then (if c == 60 then record s { mode = less; markup = s.at; token = [] } else calm s) else
-    refuse s
+    if is_mark s.token
+    then (if c == less_than then record s { mode = less; markup = s.at; token = [] } else calm s)
+    else refuse s
 
 -- a > ends the XML declaration
 abbrev pub at_declaring : State → State
@@ -124,7 +129,7 @@ at_declaring s = if is_declaration s.token then calm s else refuse s
 -- outside of the root there is only white space
 abbrev pub at_outside : State → ℕ → State
 at_outside s c =
-    if is_white s.token && (c == 60) then record s { mode = less; markup = s.at; token = [] } else refuse s
+    if is_white s.token && (c == less_than) then record s { mode = less; markup = s.at; token = [] } else refuse s
 
 -- the byte behind <! that makes this token: a comment begins with two dashes
 abbrev pub at_marking : State → List ℕ → State
@@ -135,7 +140,7 @@ at_marking s token =
 
 -- a comment ends, or holds a >
 abbrev pub at_commenting : State → Option (List ℕ) → State
-at_commenting s None = record s { token = s.token ++ 62 ∷ [] }
+at_commenting s None = record s { token = s.token ++ greater_than ∷ [] }
 at_commenting s (Some comment) = if is_comment comment then calm s else refuse s
 
 -- the start tag ends: an element is open
@@ -159,8 +164,8 @@ emptied s = calm (record s {
 abbrev pub at_tagging : State → ℕ → State
 at_tagging s c =
     if is_space c then record s { mode = naming; token = [] }
-    else if c == 62 then opened s
-    else if c == 47 then record s { mode = slashed; token = [] }
+    else if c == greater_than then opened s
+    else if c == slash then record s { mode = slashed; token = [] }
     else refuse s
 
 -- there are no parts
@@ -177,9 +182,9 @@ has_room frames parts = if is_nil frames then is_none parts else nat_lt (length 
 abbrev pub at_less : State → ℕ → State
 at_less s c =
     if is_nil s.token then
-    (if (c == 47) && not (is_nil s.below) then record (settle s) { mode = ending }
-    else if c == 33 then record s { mode = marking }
-    else if (c == 63) && s.fresh then record s { mode = declaring }
+    (if (c == slash) && not (is_nil s.below) then record (settle s) { mode = ending }
+    else if c == exclamation_mark then record s { mode = marking }
+    else if (c == question_mark) && s.fresh then record s { mode = declaring }
     else refuse s)
     else if is_qname s.token && has_room s.below s.top.parts then
     at_tagging (record (settle s) { name = s.token }) c
@@ -205,7 +210,7 @@ at_chars s c =
 -- a byte behind the name of an attribute
 abbrev pub at_named : State → ℕ → State
 at_named s c =
-    if is_space c then record s { mode = named } else if c == 61 then record s { mode = valuing } else refuse s
+    if is_space c then record s { mode = named } else if c == equals_sign then record s { mode = valuing } else refuse s
 
 -- a byte ends the name of an attribute, or stands where none is begun
 abbrev pub at_naming : State → ℕ → State
@@ -218,7 +223,7 @@ at_naming s c =
 abbrev pub at_valuing : State → ℕ → State
 at_valuing s c =
     if is_space c then s
-    else if (c == 34) || (c == 39) then record s { mode = value_inner; value = begun_value c [] }
+    else if (c == double_quote) || (c == single_quote) then record s { mode = value_inner; value = begun_value c [] }
     else refuse s
 
 -- the attribute ends where its value is closed; where that was refused, so are the bytes
@@ -269,7 +274,7 @@ after_token naming s c = at_naming s c
 after_token named s c = at_named s c
 after_token valuing s c = at_valuing s c
 after_token value_inner s c = at_value s c
-after_token slashed s c = if c == 62 then emptied s else refuse s
+after_token slashed s c = if c == greater_than then emptied s else refuse s
 after_token ending s c = closed s.below s
 after_token refused s c = s
 

@@ -8,10 +8,11 @@ use Rattle.soap_lex.specs.declared.error.LexError.{LexError}
 use Rattle.soap_lex.specs.declared.error.LexError.TheVariants.{Memory, NotProfile}
 use Rattle.soap_lex.specs.Text.{IsText}
 use Rattle.soap_lex.specs.Value.{IsValue}
+use Rattle.soap_lex.specs.Bytes.{less_than}
 
 -- text ends before these bytes: there are none, or they begin with a < that begins no CDATA section and no comment
 pub record EndsText (rest : List ℕ) : Type 0 where
-  pub less_or_none : (rest ≡ []) ⊎ ((after : List ℕ) × (rest ≡ 60 ∷ after))
+  pub less_or_none : (rest ≡ []) ⊎ ((after : List ℕ) × (rest ≡ less_than ∷ after))
   pub no_cdata : (after : List ℕ) → rest ≡ codes "<![CDATA[" ++ after → ⊥
   pub no_comment : (after : List ℕ) → rest ≡ codes "<!--" ++ after → ⊥
 

@@ -5,6 +5,7 @@ use Rattle.std.proofs.Common.{append-nil, length-append}
 use Rattle.std.specs.Str.{bytes_eq}
 use Rattle.soap_lex.specs.Facts.{same, differ, equal}
 use Rattle.soap_lex.specs.Tests.{is_nil, without}
+use Rattle.soap_lex.specs.Bytes.{greater_than}
 
 pub without-append : (word front : List ℕ) → without word (front ++ word) ≡ Some front
 without-append [] [] = refl
@@ -50,13 +51,13 @@ without_cases word bytes (Some x) h = sym (ap (without word) h ∙ without-appen
 
 -- no > in the bytes stands behind the word
 abbrev pub IsOpen : List ℕ → List ℕ → List ℕ → Type 0
-IsOpen word before bytes = (a b : List ℕ) → bytes ≡ a ++ 62 ∷ b → without word (before ++ a) ≡ None
+IsOpen word before bytes = (a b : List ℕ) → bytes ≡ a ++ greater_than ∷ b → without word (before ++ a) ≡ None
 
 pub IsOpen-tail : (word before : List ℕ) (c : ℕ) (bytes : List ℕ) → IsOpen word before (c ∷ bytes)
     → IsOpen word (before ++ c ∷ []) bytes
 IsOpen-tail word before c bytes h a b e = ap (without word) (append_assoc before (c ∷ []) a)
     ∙ h (c ∷ a) b (ap (λ x. c ∷ x) e)
 
-pub IsOpen-here : (word before : List ℕ) (c : ℕ) (bytes : List ℕ) → IsOpen word before (c ∷ bytes) → c ≡ 62
+pub IsOpen-here : (word before : List ℕ) (c : ℕ) (bytes : List ℕ) → IsOpen word before (c ∷ bytes) → c ≡ greater_than
     → without word before ≡ None
 IsOpen-here word before c bytes h e = ap (without word) (sym (append-nil before)) ∙ h [] bytes (ap (λ x. x ∷ bytes) e)

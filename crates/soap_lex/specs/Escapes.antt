@@ -2,17 +2,22 @@
 -- and 3.3.3 for the white space that a reader would otherwise change.
 use Rattle.std.specs.Prelude.{ℕ, Bool, List, [], ◌∷◌, ◌==◌, if◌then◌else◌, codes}
 use Rattle.std.specs.List.{flat_map}
+use Rattle.soap_lex.specs.Bytes.{less_than, greater_than, ampersand_sign, double_quote, tab, line_feed, carriage_return}
 
 -- a byte in text
 abbrev pub text_escape : ℕ → List ℕ
 text_escape byte =
-    if byte == 38 then codes "&amp;" else if byte == 60 then codes "&lt;" else if byte == 62 then codes "&gt;"
-    else if byte == 13 then codes "&#13;" else byte ∷ []
+    if byte == ampersand_sign then codes "&amp;"
+    else if byte == less_than then codes "&lt;"
+    else if byte == greater_than then codes "&gt;"
+    else if byte == carriage_return then codes "&#13;" else byte ∷ []
 
 -- a byte in an attribute value
 abbrev pub value_escape : ℕ → List ℕ
 value_escape byte =
-    if byte == 34 then codes "&quot;" else if byte == 9 then codes "&#9;" else if byte == 10 then codes "&#10;"
+    if byte == double_quote then codes "&quot;"
+    else if byte == tab then codes "&#9;"
+    else if byte == line_feed then codes "&#10;"
     else text_escape byte
 
 -- a byte in a value where quoted says so, else in text

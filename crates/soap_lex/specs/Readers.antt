@@ -11,6 +11,7 @@ use Rattle.soap_lex.specs.declared.value.Quote.TheVariants.{Double, Single}
 use Rattle.soap_lex.specs.declared.value.ValueMode.{ValueMode as CodeValueMode}
 use Rattle.soap_lex.specs.declared.value.ValueMode.TheVariants.{Plain, Referring as Refers, Closed, Refused as Refuses}
 use Rattle.soap_lex.specs.declared.value.ValueReader.{ValueReader}
+use Rattle.soap_lex.specs.Bytes.{double_quote, single_quote}
 
 -- where a reader of text stands
 abbrev pub text_mode : CodeMode → TextMode
@@ -27,8 +28,8 @@ text_state r text = record { mode = text_mode r.mode; token = r.token.items; tex
 
 -- the byte that a quote is
 abbrev pub quote_byte : Quote → ℕ
-quote_byte Double = 34
-quote_byte Single = 39
+quote_byte Double = double_quote
+quote_byte Single = single_quote
 
 -- where a reader of values stands
 abbrev pub value_mode : CodeValueMode → ValueMode

@@ -6,6 +6,7 @@ use Rattle.std.specs.Str.Parse.{digits_value}
 use Rattle.std.specs.List.{list_all}
 use Rattle.std.specs.Str.{is_utf8, chars, bytes_eq}
 use Rattle.xml_chars.specs.Classes.{is_char}
+use Rattle.soap_lex.specs.Bytes.{less_than, greater_than, ampersand_sign, semicolon, double_quote, single_quote}
 
 -- the list is empty
 abbrev pub is_nil : {X : Type 0} → List X → Bool
@@ -49,7 +50,7 @@ is_plain quote bytes = is_chars bytes && (not (holds bytes (codes "<")) && (not 
 abbrev pub before_semicolon : List ℕ → Option (List ℕ)
 before_semicolon [] = None
 before_semicolon (b ∷ bytes) = elim (before_semicolon bytes) [
-  | None ↦ (if (b == 59) && is_nil bytes then Some [] else None)
+  | None ↦ (if (b == semicolon) && is_nil bytes then Some [] else None)
   | Some front ↦ Some (b ∷ front)
 ]
 
@@ -70,9 +71,11 @@ numbered bytes =
 -- the character that the bytes refer to, if they do
 unfoldable pub reference : List ℕ → Option ℕ
 reference bytes =
-    if bytes_eq bytes (codes "&amp;") then Some 38 else if bytes_eq bytes (codes "&lt;") then Some 60
-    else if bytes_eq bytes (codes "&gt;") then Some 62 else if bytes_eq bytes (codes "&apos;") then Some 39
-    else if bytes_eq bytes (codes "&quot;") then Some 34 else numbered bytes
+    if bytes_eq bytes (codes "&amp;") then Some ampersand_sign
+    else if bytes_eq bytes (codes "&lt;") then Some less_than
+    else if bytes_eq bytes (codes "&gt;") then Some greater_than
+    else if bytes_eq bytes (codes "&apos;") then Some single_quote
+    else if bytes_eq bytes (codes "&quot;") then Some double_quote else numbered bytes
 
 -- the front of the bytes, where they end in the word
 abbrev pub without : List ℕ → List ℕ → Option (List ℕ)

@@ -2,16 +2,20 @@
 use Rattle.std.specs.Prelude.{ℕ, List, [], ◌∷◌, ◌++◌, Bool, false, ◌&&◌, ◌==◌, if◌then◌else◌, codes, encode_utf8}
 use Rattle.soap_lex.specs.Characters.{IsChars, Holds}
 use Rattle.soap_lex.specs.References.{IsReference}
+use Rattle.soap_lex.specs.Bytes.{line_feed, carriage_return}
 
 -- what a byte becomes, where after_return says that a CR stands just before it
 abbrev pub line_end : Bool → ℕ → List ℕ
 line_end after_return byte =
-    if byte == 13 then 10 ∷ [] else if after_return && (byte == 10) then [] else byte ∷ []
+    if byte == carriage_return then line_feed ∷ []
+    else if after_return && (byte == line_feed) then []
+    else byte ∷ []
 
 -- the same, where the byte before was a carriage return or was none
 abbrev pub line_ends_after : Bool → List ℕ → List ℕ
 line_ends_after after_return [] = []
-line_ends_after after_return (byte ∷ bytes) = line_end after_return byte ++ line_ends_after (byte == 13) bytes
+line_ends_after after_return (byte ∷ bytes) =
+    line_end after_return byte ++ line_ends_after (byte == carriage_return) bytes
 
 -- each CR LF, and each CR that no LF follows, becomes LF
 abbrev pub with_line_ends : List ℕ → List ℕ

@@ -5,6 +5,7 @@ use Rattle.std.specs.Prelude.{Some, None, codes, encode_utf8, length}
 use Rattle.std.specs.Str.{bytes_eq}
 use Rattle.soap_lex.specs.Text.{with_line_ends}
 use Rattle.soap_lex.specs.Tests.{begins, is_char_data, is_cdata, is_comment, reference, without}
+use Rattle.soap_lex.specs.Bytes.{less_than, greater_than, ampersand_sign, semicolon}
 
 -- where the reader stands
 pub data TextMode : Type 0 where
@@ -24,11 +25,11 @@ begun text = record { mode = chars; token = []; text = text }
 
 -- whether a byte ends the token
 abbrev pub stops : TextMode → ℕ → Bool
-stops chars c = (c == 60) || (c == 38)
-stops referring c = c == 59
+stops chars c = (c == less_than) || (c == ampersand_sign)
+stops referring c = c == semicolon
 stops opening c = true
-stops commenting c = c == 62
-stops quoting c = c == 62
+stops commenting c = c == greater_than
+stops quoting c = c == greater_than
 stops refused c = true
 
 -- the first bytes of a comment or of a CDATA section
@@ -82,8 +83,8 @@ longer s bytes = record s { token = s.token ++ bytes }
 abbrev pub at_chars : TextState → ℕ → TextState
 at_chars s c =
     if is_char_data s.token then
-    (if c == 60 then record { mode = opening; token = 60 ∷ []; text = s.text ++ with_line_ends s.token }
-    else record { mode = referring; token = 38 ∷ []; text = s.text ++ with_line_ends s.token })
+    (if c == less_than then record { mode = opening; token = less_than ∷ []; text = s.text ++ with_line_ends s.token }
+    else record { mode = referring; token = ampersand_sign ∷ []; text = s.text ++ with_line_ends s.token })
     else refuse s
 
 -- a reference ends
@@ -100,7 +101,7 @@ at_opening s token =
 
 -- a comment ends, or holds a >
 abbrev pub at_commenting : TextState → Option (List ℕ) → TextState
-at_commenting s None = longer s (62 ∷ [])
+at_commenting s None = longer s (greater_than ∷ [])
 at_commenting s (Some comment) = if is_comment comment then begun s.text else refuse s
 
 -- what a CDATA section means, where it ended and is one
@@ -110,13 +111,13 @@ cdata_meaning (Some bytes) = if is_cdata bytes then with_line_ends bytes else []
 
 -- a CDATA section ends, or holds a >
 abbrev pub at_quoting : TextState → Option (List ℕ) → TextState
-at_quoting s None = longer s (62 ∷ [])
+at_quoting s None = longer s (greater_than ∷ [])
 at_quoting s (Some bytes) = if is_cdata bytes then begun (s.text ++ with_line_ends bytes) else refuse s
 
 -- what a byte that ends the token does
 abbrev pub after_token : TextMode → TextState → ℕ → TextState
 after_token chars s c = at_chars s c
-after_token referring s c = at_referring s (reference (s.token ++ 59 ∷ []))
+after_token referring s c = at_referring s (reference (s.token ++ semicolon ∷ []))
 after_token opening s c = at_opening s (s.token ++ c ∷ [])
 after_token commenting s c = at_commenting s (without (codes "--") s.token)
 after_token quoting s c = at_quoting s (without (codes "]]") s.token)

@@ -4,10 +4,11 @@ use Rattle.std.specs.Prelude.{ℕ, List, [], ◌∷◌, ◌++◌, ◌||◌, ◌=
 use Rattle.soap_lex.specs.Characters.{IsChars, Holds}
 use Rattle.soap_lex.specs.References.{IsReference}
 use Rattle.soap_lex.specs.Text.{with_line_ends}
+use Rattle.soap_lex.specs.Bytes.{double_quote, single_quote, tab, line_feed, space_byte}
 
 -- a tab and an LF become a space
 abbrev pub space_of : ℕ → ℕ
-space_of byte = if (byte == 9) || (byte == 10) then 32 else byte
+space_of byte = if (byte == tab) || (byte == line_feed) then space_byte else byte
 
 -- each tab, LF, CR LF, and CR that no LF follows, becomes one space
 abbrev pub with_spaces : List ℕ → List ℕ
@@ -29,5 +30,7 @@ pub data IsInner (quote : ℕ) : List ℕ → List ℕ → Type 0 where
 
 -- a value in either kind of quotes
 pub data IsValue : List ℕ → List ℕ → Type 0 where
-  double : (inner value : List ℕ) → IsInner 34 inner value → IsValue (34 ∷ (inner ++ 34 ∷ [])) value
-  single : (inner value : List ℕ) → IsInner 39 inner value → IsValue (39 ∷ (inner ++ 39 ∷ [])) value
+  double : (inner value : List ℕ) → IsInner double_quote inner value
+      → IsValue (double_quote ∷ (inner ++ double_quote ∷ [])) value
+  single : (inner value : List ℕ) → IsInner single_quote inner value
+      → IsValue (single_quote ∷ (inner ++ single_quote ∷ [])) value

@@ -3,6 +3,7 @@ use Rattle.std.specs.Prelude.{◌≡◌, ℕ, List, [], ◌∷◌, ◌++◌, Boo
 use Rattle.std.specs.Prelude.{None, encode_utf8}
 use Rattle.soap_lex.specs.Value.{with_spaces}
 use Rattle.soap_lex.specs.Tests.{is_plain, reference}
+use Rattle.soap_lex.specs.Bytes.{ampersand_sign, semicolon}
 
 -- where the reader stands
 pub data ValueMode : Type 0 where
@@ -22,8 +23,8 @@ begun quote value = record { mode = plain; quote = quote; token = []; value = va
 
 -- whether a byte ends the token
 abbrev pub stops : ValueMode → ℕ → ℕ → Bool
-stops plain quote c = (c == quote) || (c == 38)
-stops referring quote c = c == 59
+stops plain quote c = (c == quote) || (c == ampersand_sign)
+stops referring quote c = c == semicolon
 stops closed quote c = true
 stops refused quote c = true
 
@@ -46,7 +47,8 @@ longer s bytes = record s { token = s.token ++ bytes }
 abbrev pub at_plain : ValueState → ℕ → ValueState
 at_plain s c =
     if is_plain s.quote s.token then
-    (if c == 38 then record s { mode = referring; token = 38 ∷ []; value = s.value ++ with_spaces s.token }
+    (if c == ampersand_sign
+    then record s { mode = referring; token = ampersand_sign ∷ []; value = s.value ++ with_spaces s.token }
     else record s { mode = closed; token = []; value = s.value ++ with_spaces s.token })
     else refuse s
 
@@ -58,7 +60,7 @@ at_referring s (Some c) = begun s.quote (s.value ++ encode_utf8 c)
 -- what a byte that ends the token does
 abbrev pub after_token : ValueMode → ValueState → ℕ → ValueState
 after_token plain s c = at_plain s c
-after_token referring s c = at_referring s (reference (s.token ++ 59 ∷ []))
+after_token referring s c = at_referring s (reference (s.token ++ semicolon ∷ []))
 after_token closed s c = refuse s
 after_token refused s c = refuse s
 
