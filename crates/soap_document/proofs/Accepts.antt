@@ -19,10 +19,6 @@ pub sure : (t : Bool) (x y : State) (bytes : List ℕ) (u : Element) → Accepts
 sure true x y bytes u h e = (refl, h)
 sure false x y bytes u h e = absurd (refused_never (counted y) bytes u (subst (λ s. Accepts (counted s) bytes u) e h))
 
-pub passed : (t : Bool) (x s : State) (bytes : List ℕ) (u : Element)
-    → Accepts (counted (cond t x (refuse s))) bytes u → (t ≡ true) × Accepts (counted x) bytes u
-passed t x s bytes u h = sure t x (refuse s) bytes u h refl
-
 -- a choice, as it went
 pub chosen : (t : Bool) (x y : State) (bytes : List ℕ) (u : Element) → Accepts (counted (cond t x y)) bytes u → ((t
     ≡ true) × Accepts (counted x) bytes u) ⊎ ((t ≡ false) × Accepts (counted y) bytes u)

@@ -25,29 +25,6 @@ At = ℕ → State
 abbrev pub Moves : ℕ → List ℕ → At → At → Type 0
 Moves at b from to = (rest : List ℕ) → run (from at) (b ++ rest) ≡ run (to (at + length b)) rest
 
-pub stay : (at : ℕ) (s : At) → Moves at [] s s
-stay at s rest = ap (λ p. run (s p) rest) (place_nil at)
-
-pub then : (at : ℕ) (b d : List ℕ) (s t u : At) → Moves at b s t → Moves (at + length b) d t u → Moves at (b ++ d) s u
-then at b d s t u m n rest =
-    ap (run (s at)) (append_assoc b d rest) ∙ m (d ++ rest) ∙ n rest
-    ∙ ap (λ p. run (u p) rest) (place_append at b d)
-
-pub byte : (at c : ℕ) (d : List ℕ) (s t u : At) → step (s at) c ≡ t (at + 1) → Moves (at + 1) d t u
-    → Moves at (c ∷ d) s u
-byte at c d s t u m n rest =
-    ap (λ x. run x (d ++ rest)) m ∙ n rest ∙ ap (λ p. run (u p) rest) (place_one at c d)
-
-pub one : (at c : ℕ) (s t : At) → step (s at) c ≡ t (at + 1) → Moves at (c ∷ []) s t
-one at c s t m rest = ap (λ x. run x rest) m
-
--- the same bytes, grouped otherwise
-pub regroup : (at : ℕ) (b d : List ℕ) (s t : At) → b ≡ d → Moves at b s t → Moves at d s t
-regroup at b d s t e m = rw e at m
-
-pub retarget : (at : ℕ) (b : List ℕ) (s t u : At) → ((p : ℕ) → t p ≡ u p) → Moves at b s t → Moves at b s u
-retarget at b s t u e m rest = m rest ∙ ap (λ x. run x rest) (e (at + length b))
-
 -- no byte ends the token
 abbrev pub NoStops : Mode → List ℕ → Type 0
 NoStops mode bytes = AllByRecursion (λ c. stops mode c ≡ false) bytes
@@ -63,18 +40,24 @@ pub record Reads (at : ℕ) (b : List ℕ) (s t : At) : Type 0 where
   pub moves : Moves at b s t
 
 pub no_byte : {at : ℕ} {s : At} → Reads at [] s s
-no_byte {at} {s} = record { moves = stay at s }
+no_byte {at} {s} = record { moves = λ rest. ap (λ p. run (s p) rest) (place_nil at) }
 
 pub and_then : {at : ℕ} {b d : List ℕ} {s t u : At} → Reads at b s t → Reads (at + length b) d t u
     → Reads at (b ++ d) s u
-and_then {at} {b} {d} {s} {t} {u} m n = record { moves = then at b d s t u m.moves n.moves }
+and_then {at} {b} {d} {s} {t} {u} m n = record {
+  moves = λ rest.
+      ap (run (s at)) (append_assoc b d rest) ∙ m.moves (d ++ rest) ∙ n.moves rest
+      ∙ ap (λ p. run (u p) rest) (place_append at b d);
+}
 
 pub next_byte : {at c : ℕ} {d : List ℕ} {s t u : At} → step (s at) c ≡ t (at + 1) → Reads (at + 1) d t u
     → Reads at (c ∷ d) s u
-next_byte {at} {c} {d} {s} {t} {u} e n = record { moves = byte at c d s t u e n.moves }
+next_byte {at} {c} {d} {s} {t} {u} e n = record {
+  moves = λ rest. ap (λ x. run x (d ++ rest)) e ∙ n.moves rest ∙ ap (λ p. run (u p) rest) (place_one at c d);
+}
 
 pub last_byte : {at c : ℕ} {s t : At} → step (s at) c ≡ t (at + 1) → Reads at (c ∷ []) s t
-last_byte {at} {c} {s} {t} e = record { moves = one at c s t e }
+last_byte {at} {c} {s} {t} e = record { moves = λ rest. ap (λ x. run x rest) e }
 
 -- bytes that end no token lengthen it
 pub kept : (s : State) (bytes : List ℕ) {at : ℕ} → NoStops s.mode bytes

@@ -10,7 +10,7 @@ use Rattle.soap_lex.specs.TextMachine.{text_in as in_mode}
 use Rattle.soap_document.specs.Tree.{Element}
 use Rattle.soap_document.specs.Machine.{chars, Frame, State, step, run, refuse, counted, after_text, in_less}
 use Rattle.soap_document.specs.Machine.{root_of}
-use Rattle.soap_document.proofs.Accepts.{Accepts, passed, refused_never}
+use Rattle.soap_document.proofs.Accepts.{Accepts, sure, refused_never}
 use Rattle.soap_document.proofs.Moves.{At, Moves, plain_at, less_at}
 use Rattle.soap_lex.specs.Facts.{same}
 use Rattle.soap_lex.specs.TextMachine.{Takes, stay, on, TextEnds}
@@ -167,7 +167,8 @@ module _ (top frame : Frame) (frames : List Frame) where
         let next : State = in_less (less_at false (at - 1) top below w.text [] at) c in
         let halted = last c bytes refl in
         let here : step s c ≡ counted (cond (is_less w) next (refuse s)) = rw halted in
-        passed (is_less w) next s bytes u (subst (λ x. Accepts x bytes u) (ap (λ x. step x c) (open_text s e) ∙ here) h)
+        sure (is_less w) next (refuse s) bytes u
+        (subst (λ x. Accepts x bytes u) (ap (λ x. step x c) (open_text s e) ∙ here) h) refl
 
     -- text up to a < that begins no markup of text
     pub record TextFound (bytes : List ℕ) (at : ℕ) : Type 0 where
