@@ -4,6 +4,7 @@ use Rattle.std.specs.List.{list_all, list_any}
 use Rattle.httparse.specs.Grammar.{is_ows}
 use Rattle.http1.specs.Text.{eq_ignore_case}
 use Rattle.http1.specs.Fields.{Header, is_named, is_blank}
+use Rattle.http_endpoint.specs.Bytes.{semicolon}
 
 -- there is a field with this name, in any case
 abbrev pub has_named : List ℕ → List Header → Bool
@@ -16,7 +17,7 @@ each_named name test headers = list_all (λ h. not (is_named name h) || test h.1
 -- white space, and then nothing or parameters (RFC 9110, section 5.6.6)
 abbrev pub ends_type : List ℕ → Bool
 ends_type [] = true
-ends_type (b ∷ bytes) = (b == 59) || (is_ows b && ends_type bytes)
+ends_type (b ∷ bytes) = (b == semicolon) || (is_ows b && ends_type bytes)
 
 -- the media type is that of SOAP 1.2, in any case, whatever its parameters (RFC 9110, section 8.3.1; RFC 3902)
 abbrev pub is_soap_type : List ℕ → Bool

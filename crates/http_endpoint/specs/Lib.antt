@@ -4,6 +4,7 @@ pub mod Part
 pub mod Parts
 pub mod PartLaws
 pub mod Body
+pub mod Bytes
 pub mod Fields
 pub mod Heads
 pub mod HeadLaws

@@ -17,6 +17,7 @@ use Rattle.http_endpoint.specs.declared.error.HttpError.TheVariants.{Unsupported
 use Rattle.http_endpoint.specs.declared.heads.RequestFacts.{RequestFacts}
 use Rattle.http_endpoint.specs.declared.heads.ResponseFacts.{ResponseFacts}
 use Rattle.http_endpoint.specs.declared.response.Response.{Response}
+use Rattle.http_endpoint.specs.Bytes.{carriage_return, line_feed}
 use Rattle.http_endpoint.specs.Part.{Grammar, HasNone, Never, ReadsUpTo, IsBad, IsShort, Stage, bad, short, part}
 use Rattle.http_endpoint.specs.Parts.{ReadsSize, ReadsTrailer, ReadsBreak, IsHalfBreak}
 use Rattle.http_endpoint.specs.Heads.{ReadsRequestFacts, ReadsResponseFacts, facts_of_request, facts_of_response}
@@ -128,16 +129,17 @@ trailer-ends bytes may never = never may.0 (length may.1) [] (may.1, may.2, may.
 
 -- the line's end is one in one way
 pub one-break : IsOne ReadsBreak
-one-break bytes r q a b x y = (refl, append_cancel_left (13 ∷ 10 ∷ []) r q (sym x ∙ y))
+one-break bytes r q a b x y = (refl, append_cancel_left (carriage_return ∷ line_feed ∷ []) r q (sym x ∙ y))
 
 -- what stands behind it may be cut off
 pub break-shrinks : Shrinks ReadsBreak
-break-shrinks bytes more a rest x = append_cancel_right bytes (13 ∷ 10 ∷ rest) more x
+break-shrinks bytes more a rest x = append_cancel_right bytes (carriage_return ∷ line_feed ∷ rest) more x
 
 -- where it has begun it may end
 pub break-ends : (bytes : List ℕ) → IsHalfBreak bytes → ¬ (Never ReadsBreak bytes)
-break-ends bytes (inl none) never = never (13 ∷ 10 ∷ []) tt [] (ap (λ b. b ++ 13 ∷ 10 ∷ []) none)
-break-ends bytes (inr half) never = never (10 ∷ []) tt [] (ap (λ b. b ++ 10 ∷ []) half)
+break-ends bytes (inl none) never =
+    never (carriage_return ∷ line_feed ∷ []) tt [] (ap (λ b. b ++ carriage_return ∷ line_feed ∷ []) none)
+break-ends bytes (inr half) never = never (line_feed ∷ []) tt [] (ap (λ b. b ++ line_feed ∷ []) half)
 
 -- a head of a request says one thing
 pub one-request-head : IsOne ReadsRequestFacts

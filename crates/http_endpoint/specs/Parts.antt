@@ -1,6 +1,7 @@
 -- The parts of a message, by httparse's grammar.
 use Rattle.std.specs.Prelude.{◌≡◌, ℕ, ◌⊎◌, List, [], ◌∷◌, length}
 use Rattle.httparse.specs.Grammar.{LineEnd, Field, ReadsSection, ChunkLine, chunk_size, ReadsChunkLine}
+use Rattle.http_endpoint.specs.Bytes.{carriage_return, line_feed}
 use Rattle.http_endpoint.specs.Part.{Grammar}
 
 -- a chunk's line that gives this size
@@ -14,8 +15,8 @@ ReadsTrailer bytes count rest =
 
 -- the CR LF that ends a chunk's data
 abbrev pub ReadsBreak : Grammar Unit
-ReadsBreak bytes unit rest = bytes ≡ 13 ∷ 10 ∷ rest
+ReadsBreak bytes unit rest = bytes ≡ carriage_return ∷ line_feed ∷ rest
 
 -- nothing or the first byte of it
 abbrev pub IsHalfBreak : List ℕ → Type 0
-IsHalfBreak bytes = (bytes ≡ []) ⊎ (bytes ≡ 13 ∷ [])
+IsHalfBreak bytes = (bytes ≡ []) ⊎ (bytes ≡ carriage_return ∷ [])

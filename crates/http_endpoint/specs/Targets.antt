@@ -4,12 +4,13 @@ use Rattle.std.specs.Prelude.{Err, if◌then◌else◌}
 use Rattle.url.specs.Host.{host_text}
 use Rattle.url.specs.Parts.{Parts, nonempty_host}
 use Rattle.url.specs.Parser.{Parsed, parse_url}
+use Rattle.http_endpoint.specs.Bytes.{question_mark}
 use Rattle.http_endpoint.specs.declared.target.Target.{Target}
 
 -- a query behind its question mark, where there is one
 abbrev pub query_text : Option (List ℕ) → List ℕ
 query_text None = []
-query_text (Some query) = 63 ∷ query
+query_text (Some query) = question_mark ∷ query
 
 -- the host as it is written, the port or else that of http, and the path with the query
 abbrev pub target_at : Parts → List ℕ → Target

@@ -21,15 +21,27 @@ use Rattle.rm_message.specs.declared.message.Message.{Message}
 
 -- ---- values
 
+-- ! is the first visible character of ASCII
+abbrev pub first_visible : ℕ
+first_visible = 0x21
+
+-- ~ is the last
+abbrev pub last_visible : ℕ
+last_visible = 0x7e
+
+-- % stands before the digits of a byte that is not written as it is
+abbrev pub percent_sign : ℕ
+percent_sign = 0x25
+
 -- the byte is a visible character of ASCII, and no %
 abbrev pub is_plain : ℕ → Bool
-is_plain byte = nat_le 0x21 byte && nat_le byte 0x7e && not (byte == 0x25)
+is_plain byte = nat_le first_visible byte && nat_le byte last_visible && not (byte == percent_sign)
 
 -- a byte as it is, or as % and two digits
 abbrev pub escaped_byte : ℕ → List ℕ
 escaped_byte byte =
     if is_plain byte then byte ∷ []
-    else 0x25 ∷ slice_index upper_digits (byte / 16) ∷ slice_index upper_digits (byte % 16) ∷ []
+    else percent_sign ∷ slice_index upper_digits (byte / 16) ∷ slice_index upper_digits (byte % 16) ∷ []
 
 -- bytes, each so
 abbrev pub escaped : List ℕ → List ℕ

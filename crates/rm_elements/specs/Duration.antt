@@ -6,6 +6,8 @@ use Rattle.std.specs.List.{list_any}
 use Rattle.std.specs.Str.Parse.{digits_value}
 use Rattle.rm_elements.specs.declared.duration.Span.{Span}
 use Rattle.rm_elements.specs.declared.lapse.Lapse.{Lapse}
+use Rattle.rm_elements.specs.Letters.{letter_p, letter_y, letter_m, letter_d, letter_t, letter_h, letter_s, full_stop}
+use Rattle.rm_elements.specs.Letters.{digit_zero}
 
 -- the digits at the front of bytes
 abbrev pub digits_of : List ℕ → List ℕ
@@ -57,7 +59,7 @@ thousandths fraction = digits_value 10 (take 3 (fraction ++ codes "000"))
 
 -- whether a digit is not zero
 abbrev pub is_some_part : List ℕ → Bool
-is_some_part fraction = list_any (λ digit. not (digit == 48)) fraction
+is_some_part fraction = list_any (λ digit. not (digit == digit_zero)) fraction
 
 -- in milliseconds, and whether a digit behind the point is not zero
 pub record Seconds : Type 0 where
@@ -82,20 +84,20 @@ with_fraction whole bytes fraction (Some rest) =
       rest = rest;
     }
 
--- the letter S is 83
+-- whole seconds, or with a point and digits, before S
 abbrev pub seconds_before : List ℕ → List ℕ → Option (List ℕ) → Option (List ℕ) → Seconds
 seconds_before whole bytes (Some rest) point =
     record { ms = digits_value 10 whole * 1000; is_part = false; is_there = true; rest = rest }
 seconds_before whole bytes None None = no_seconds bytes
 seconds_before whole bytes None (Some behind) =
-    with_fraction whole bytes (digits_of behind) (behind_letter 83 (behind_digits behind))
+    with_fraction whole bytes (digits_of behind) (behind_letter letter_s (behind_digits behind))
 
--- the seconds at the front of bytes; a point is 46
+-- the seconds at the front of bytes
 abbrev pub seconds : List ℕ → Seconds
 seconds bytes =
     if is_empty (digits_of bytes) then no_seconds bytes
-    else seconds_before (digits_of bytes) bytes (behind_letter 83 (behind_digits bytes))
-    (behind_letter 46 (behind_digits bytes))
+    else seconds_before (digits_of bytes) bytes (behind_letter letter_s (behind_digits bytes))
+    (behind_letter full_stop (behind_digits bytes))
 
 -- ---- time: hours, minutes and seconds, one of them at least, and nothing behind them
 
@@ -106,10 +108,11 @@ time_of h m s =
     else if h.is_there || m.is_there || s.is_there
     then Some (record { months = 0; ms = h.number * 3600000 + m.number * 60000 + s.ms; is_part = s.is_part }) else None
 
--- H is 72, M is 77
+-- the hours, minutes and seconds that bytes are
 abbrev pub time_in : List ℕ → Option Span
 time_in bytes =
-    time_of (field 72 bytes) (field 77 (field 72 bytes).rest) (seconds (field 77 (field 72 bytes).rest).rest)
+    time_of (field letter_h bytes) (field letter_m (field letter_h bytes).rest)
+    (seconds (field letter_m (field letter_h bytes).rest).rest)
 
 -- ---- the date: years, months and days, and the time behind them
 
@@ -117,10 +120,10 @@ time_in bytes =
 abbrev pub no_time : Span
 no_time = record { months = 0; ms = 0; is_part = false }
 
--- what stands behind the date: nothing, where one of its fields stands there, or T (84) and a time
+-- what stands behind the date: nothing, where one of its fields stands there, or T and a time
 abbrev pub time_behind : Bool → List ℕ → Option Span
 time_behind is_dated [] = if is_dated then Some no_time else None
-time_behind is_dated (b ∷ bytes) = if b == 84 then time_in bytes else None
+time_behind is_dated (b ∷ bytes) = if b == letter_t then time_in bytes else None
 
 -- twelve months are a year
 abbrev pub with_date : Field → Field → Field → Span → Span
@@ -131,15 +134,16 @@ with_date y m d t =
 abbrev pub dated : Field → Field → Field → Option Span
 dated y m d = option_map (with_date y m d) (time_behind (y.is_there || m.is_there || d.is_there) d.rest)
 
--- Y is 89, M is 77, D is 68
+-- the years, months and days that bytes begin with, and the time behind them
 abbrev pub date_in : List ℕ → Option Span
 date_in bytes =
-    dated (field 89 bytes) (field 77 (field 89 bytes).rest) (field 68 (field 77 (field 89 bytes).rest).rest)
+    dated (field letter_y bytes) (field letter_m (field letter_y bytes).rest)
+    (field letter_d (field letter_m (field letter_y bytes).rest).rest)
 
--- P (80) and the date
+-- P and the date
 abbrev pub span_in : List ℕ → Option Span
 span_in [] = None
-span_in (b ∷ bytes) = if b == 80 then date_in bytes else None
+span_in (b ∷ bytes) = if b == letter_p then date_in bytes else None
 
 -- ---- values
 

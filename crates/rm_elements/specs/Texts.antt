@@ -27,6 +27,7 @@ use Rattle.rm_elements.specs.declared.lifecycle.MakeConnection.{MakeConnection}
 use Rattle.rm_elements.specs.declared.lifecycle.Offer.{Offer}
 use Rattle.rm_elements.specs.declared.tag.Tag.{Tag}
 use Rattle.rm_elements.specs.declared.tag.Tag.TheVariants as tags
+use Rattle.rm_elements.specs.Letters.{digit_zero}
 
 -- a name with the prefix of WS-ReliableMessaging, and one with that of WS-MakeConnection
 abbrev pub r : List ℕ → NodeTag
@@ -131,7 +132,7 @@ months_text months = if months == 0 then [] else decimal months ++ codes "M"
 
 -- three digits of less than a thousand
 abbrev pub three_digits : ℕ → List ℕ
-three_digits n = (48 + n / 100) ∷ (48 + (n / 10) % 10) ∷ (48 + n % 10) ∷ []
+three_digits n = (digit_zero + n / 100) ∷ (digit_zero + (n / 10) % 10) ∷ (digit_zero + n % 10) ∷ []
 
 -- whole seconds, or with a point and three digits
 abbrev pub seconds_text : ℕ → List ℕ

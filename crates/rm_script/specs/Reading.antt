@@ -9,6 +9,7 @@ use Rattle.rm_base.specs.declared.message.Behaviour.{Behaviour}
 use Rattle.rm_base.specs.declared.message.Behaviour.TheVariants.{EntireSequence, FollowingFirstGap}
 use Rattle.rm_elements.specs.declared.lapse.Lapse.{Lapse}
 use Rattle.rm_elements.specs.Duration.{duration_in}
+use Rattle.rm_script.specs.Bytes.{space_byte, number_sign, digit_one, digit_two}
 use Rattle.rm_script.specs.declared.event.Side.{Side}
 use Rattle.rm_script.specs.declared.event.Side.TheVariants.{One, Two}
 use Rattle.rm_script.specs.declared.event.Event.{Event}
@@ -24,12 +25,12 @@ behind (c ∷ word) (b ∷ bytes) = if b == c then behind word bytes else None
 -- the bytes up to the first space
 abbrev pub word_of : List ℕ → List ℕ
 word_of [] = []
-word_of (b ∷ bytes) = if b == 32 then [] else b ∷ word_of bytes
+word_of (b ∷ bytes) = if b == space_byte then [] else b ∷ word_of bytes
 
 -- and those from it on
 abbrev pub behind_word : List ℕ → List ℕ
 behind_word [] = []
-behind_word (b ∷ bytes) = if b == 32 then b ∷ bytes else behind_word bytes
+behind_word (b ∷ bytes) = if b == space_byte then b ∷ bytes else behind_word bytes
 
 -- whether two texts are one
 abbrev pub is_same : List ℕ → List ℕ → Bool
@@ -50,10 +51,10 @@ behaviour_in word =
     if is_same word (codes "dfg") then Some FollowingFirstGap
     else if is_same word (codes "des") then Some EntireSequence else None
 
--- a node's number at the front, and what stands behind it; 1 is 49, 2 is 50
+-- a node's number at the front, and what stands behind it
 abbrev pub node_in : List ℕ → Option (Side × List ℕ)
 node_in [] = None
-node_in (b ∷ bytes) = if b == 49 then Some (One, bytes) else if b == 50 then Some (Two, bytes) else None
+node_in (b ∷ bytes) = if b == digit_one then Some (One, bytes) else if b == digit_two then Some (Two, bytes) else None
 
 -- what stands behind a node's number and a space
 abbrev pub behind_space : Side × List ℕ → Option (Side × List ℕ)
@@ -162,10 +163,10 @@ request_in line =
     (choose (behind (codes "send ") line) send_in (choose (behind (codes "tick ") line) tick_in
     (choose (behind (codes "close ") line) close_in (choose (behind (codes "end ") line) end_in (mishap_in line))))))
 
--- whether a line is empty, or a comment; # is 35
+-- whether a line is empty, or a comment
 abbrev pub is_blank : List ℕ → Bool
 is_blank [] = true
-is_blank (b ∷ line) = b == 35
+is_blank (b ∷ line) = b == number_sign
 
 -- what a line says
 abbrev pub event_in : List ℕ → Option Event

@@ -7,6 +7,7 @@ use Rattle.rm_base.specs.declared.message.Behaviour.{Behaviour}
 use Rattle.rm_base.specs.declared.message.Behaviour.TheVariants.{NoDiscard, EntireSequence, FollowingFirstGap}
 use Rattle.rm_elements.specs.declared.lapse.Lapse.{Lapse}
 use Rattle.rm_elements.specs.Duration.{duration_in}
+use Rattle.rm_script.specs.Bytes.{line_feed, space_byte}
 use Rattle.rm_script.specs.declared.event.Side.{Side}
 use Rattle.rm_script.specs.declared.event.Side.TheVariants.{One, Two}
 use Rattle.rm_script.specs.declared.event.Event.{Event}
@@ -21,7 +22,7 @@ onto_first byte (line ∷ lines) = (byte ∷ line) ∷ lines
 -- the lines of the bytes: each ends with LF, which the last may lack
 abbrev pub lines_of : List ℕ → List (List ℕ)
 lines_of [] = []
-lines_of (byte ∷ bytes) = if byte == 10 then [] ∷ lines_of bytes else onto_first byte (lines_of bytes)
+lines_of (byte ∷ bytes) = if byte == line_feed then [] ∷ lines_of bytes else onto_first byte (lines_of bytes)
 
 -- a node's number
 abbrev pub side_text : Side → List ℕ
@@ -30,7 +31,7 @@ side_text Two = codes "2"
 
 -- a word has no space
 abbrev pub IsWord : List ℕ → Type 0
-IsWord word = AllByRecursion (λ byte. byte ≢ 32) word
+IsWord word = AllByRecursion (λ byte. byte ≢ space_byte) word
 
 -- the word of a behaviour that a script may name
 abbrev pub IsBehaviour : List ℕ → Behaviour → Type 0
@@ -63,7 +64,7 @@ IsNumber low high word number = (low ≤ number) × (number ≤ high) × (word �
 
 -- two texts with a space between them
 abbrev pub spaced : List ℕ → List ℕ → List ℕ
-spaced front back = front ++ 32 ∷ back
+spaced front back = front ++ space_byte ∷ back
 
 -- a verb, the number of a node, and arguments
 abbrev pub call_text : List ℕ → Side → List ℕ → List ℕ
