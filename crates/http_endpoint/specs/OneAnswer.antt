@@ -1,12 +1,12 @@
 -- A message is read in one way: its bytes have one answer.
-use Rattle.std.proofs.Common.{◌≡◌, ◌≢◌, ℕ, zero, suc, ◌≤◌, ◌<◌, ◌+◌, List, [], ◌∷◌, ◌++◌, length, take, drop, min}
-use Rattle.std.proofs.Common.{inl, inr, arith, ap, sym, ◌∙◌, append-nil, append_assoc, refl, Option, Some, Result, Ok}
-use Rattle.std.proofs.Common.{Err, ◌⊎◌}
+use Rattle.std.proofs.Common.{◌≡◌, ℕ, List, [], ◌∷◌, ◌++◌, length, take, drop}
+use Rattle.std.proofs.Common.{inl, inr, arith, ap, sym, ◌∙◌, append-nil, append_assoc, refl, Result, Ok}
+use Rattle.std.proofs.Common.{Err}
 use Rattle.std.proofs.lemmas.Grind.{common_steps}
 use Rattle.std.proofs.lemmas.List.{append_cancel_left, append_cancel_right, take-append-drop}
-use Rattle.httparse.specs.Grammar.{Field, LineEnd, print_chunk_line, print_section, print_request, print_response}
-use Rattle.httparse.specs.Grammar.{MayBecomeChunkLine, MayBecomeSection, MayBecomeRequest, MayBecomeResponse}
-use Rattle.httparse.specs.Grammar.{EndsInTarget, chunk_size}
+use Rattle.httparse.specs.Grammar.{print_chunk_line, print_section, print_request, print_response}
+use Rattle.httparse.specs.Grammar.{MayBecomeChunkLine, MayBecomeSection, MayBecomeResponse}
+use Rattle.httparse.specs.Grammar.{chunk_size}
 use Rattle.httparse.proofs.GrammarLemmas.{section_unique, request_unique, response_unique}
 use Rattle.httparse.proofs.ChunkLemmas.{chunk_line_unique}
 use Rattle.http_endpoint.specs.declared.body.Framing.{Framing}
@@ -14,14 +14,10 @@ use Rattle.http_endpoint.specs.declared.body.Framing.TheVariants.{Empty, Counted
 use Rattle.http_endpoint.specs.declared.error.HttpError.{HttpError}
 use Rattle.http_endpoint.specs.declared.error.HttpError.TheVariants.{Memory, ReadFault, WriteFault, BadHead, TooLong}
 use Rattle.http_endpoint.specs.declared.error.HttpError.TheVariants.{Unsupported, CutShort}
-use Rattle.http_endpoint.specs.declared.heads.RequestFacts.{RequestFacts}
-use Rattle.http_endpoint.specs.declared.heads.ResponseFacts.{ResponseFacts}
-use Rattle.http_endpoint.specs.declared.response.Response.{Response}
 use Rattle.http_endpoint.specs.Bytes.{carriage_return, line_feed}
-use Rattle.http_endpoint.specs.Part.{Grammar, HasNone, Never, ReadsUpTo, IsBad, IsShort, Stage, bad, short, part}
+use Rattle.http_endpoint.specs.Part.{Grammar, Never, ReadsUpTo, IsBad, IsShort, Stage, bad, short, part}
 use Rattle.http_endpoint.specs.Parts.{ReadsSize, ReadsTrailer, ReadsBreak, IsHalfBreak}
 use Rattle.http_endpoint.specs.Heads.{ReadsRequestFacts, ReadsResponseFacts, facts_of_request, facts_of_response}
-use Rattle.http_endpoint.specs.Heads.{verdict, response_framing}
 use Rattle.http_endpoint.specs.Body.{TakesChunk, EndsBehind, last, too_long, cut, unbroken, EndsChunks, IsChunked}
 use Rattle.http_endpoint.specs.Body.{ends, chunk, IsCounted, IsBody, ended_by}
 

@@ -3,7 +3,6 @@ use Rattle.std.proofs.Common.{◌≡◌, ℕ, List, [], ◌++◌, arith, inl, in
 use Rattle.httparse.specs.Grammar.{MayBecomeRequest, MayBecomeResponse, EndsInTarget}
 use Rattle.http_endpoint.specs.declared.body.Framing.{Framing}
 use Rattle.http_endpoint.specs.declared.error.HttpError.{HttpError}
-use Rattle.http_endpoint.specs.declared.error.HttpError.TheVariants.{BadHead, CutShort}
 use Rattle.http_endpoint.specs.declared.heads.RequestFacts.{RequestFacts}
 use Rattle.http_endpoint.specs.declared.heads.ResponseFacts.{ResponseFacts}
 use Rattle.http_endpoint.specs.declared.response.Response.{Response}
@@ -13,7 +12,7 @@ use Rattle.http_endpoint.specs.Heads.{response_framing}
 use Rattle.http_endpoint.specs.Body.{IsBody}
 use Rattle.http_endpoint.specs.Messages.{IsRequest, bad, short, refused, accepted, IsFinal, unframed, framed}
 use Rattle.http_endpoint.specs.Messages.{IsAnswered, passed, unsound, final, with_status, IsResponse, invitation}
-use Rattle.http_endpoint.specs.OneAnswer.{read-not-bad, bad-not-short, one-stage, one-request-head, request-shrinks}
+use Rattle.http_endpoint.specs.OneAnswer.{read-not-bad, one-stage, one-request-head, request-shrinks}
 use Rattle.http_endpoint.specs.OneAnswer.{one-response-head, response-shrinks, response-ends, one-body}
 
 -- the same answer, and the same is written meanwhile

@@ -2,7 +2,7 @@
 use Rattle.std.proofs.Common.{◌≡◌, ◌++◌, List, [], ◌∷◌, ℕ, Bool, true, false, if◌then◌else◌, refl, map}
 use Rattle.std.specs.List.{filter}
 use Rattle.soap_profile.specs.Tree.{Element, name_of}
-use Rattle.soap_profile.specs.declared.name.Expanded.{Expanded as Name}
+use Rattle.soap_profile.specs.declared.name.Expanded.{Expanded}
 use Rattle.soap_profile.specs.View.{element_view}
 use Rattle.soap_profile.specs.declared.tree.Element.{Element as CodeElement}
 use Rattle.message_reader.specs.Blocks.{is_block, blocks, is_not_understood, not_understood}
@@ -11,7 +11,7 @@ kept : (b : Bool) (e : Element) (es : List Element) → (if b then e ∷ es else
 kept true e es = refl
 kept false e es = refl
 
-pub blocks_more : (name : Name) (x : CodeElement) (xs : List CodeElement)
+pub blocks_more : (name : Expanded) (x : CodeElement) (xs : List CodeElement)
     → blocks name (map element_view (x ∷ xs))
     ≡ (if is_block name (element_view x) then element_view x ∷ [] else []) ++ blocks name (map element_view xs)
 blocks_more name x xs =

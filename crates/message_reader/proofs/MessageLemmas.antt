@@ -5,7 +5,7 @@ use Rattle.std.specs.Prelude.{IfOk, IfErr, option_map}
 use Rattle.soap_profile.specs.Document.{IsReadable, IsTooLong, IsTextUpTo, HasNoTree}
 use Rattle.soap_profile.specs.Items.{Item, parts_among, listed}
 use Rattle.soap_profile.specs.Tree.{Parts, none, text, child}
-use Rattle.soap_profile.specs.declared.name.Expanded.{Expanded as Name}
+use Rattle.soap_profile.specs.declared.name.Expanded.{Expanded}
 use Rattle.soap_profile.specs.declared.error.EnvelopeError.{EnvelopeError}
 use Rattle.soap_profile.specs.declared.error.EnvelopeError.TheVariants as early
 use Rattle.soap_envelope.specs.Envelope.{Envelope, IsEnvelope}
@@ -26,7 +26,7 @@ parts_again (text bytes parts) = ap (text bytes) (parts_again parts)
 parts_again (child first parts) = ap (child first) (parts_again parts)
 
 -- blocks that had to be understood and are not
-pub unknown : (soap : List ℕ) (e : Envelope) (names : List Name) → (names ≡ [] → ⊥)
+pub unknown : (soap : List ℕ) (e : Envelope) (names : List Expanded) → (names ≡ [] → ⊥)
     → unless_unknown soap e names ≡ Err (NotUnderstood names)
 unknown soap e [] some = absurd (some refl)
 unknown soap e (name ∷ names) some = refl

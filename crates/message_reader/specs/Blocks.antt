@@ -4,33 +4,33 @@ use Rattle.std.specs.Prelude.{ℕ, List, ◌++◌, Bool, true, not, ◌&&◌, �
 use Rattle.std.specs.List.{filter, list_any}
 use Rattle.std.specs.Str.{bytes_eq}
 use Rattle.soap_profile.specs.Tree.{Element, name_of, attrs_of}
-use Rattle.soap_profile.specs.declared.name.Expanded.{Expanded as Name}
+use Rattle.soap_profile.specs.declared.name.Expanded.{Expanded}
 use Rattle.soap_values.specs.Children.{name_in, is_same, has_name, value_among}
 use Rattle.rm_message.specs.addressing.Addressing.{is_marked, says_so}
 use Rattle.rm_message.specs.addressing.Endpoint.{wsa}
 use Rattle.rm_message.specs.elements.Headers.{header_name}
 
 -- whether a block is the header of this name: a reference parameter is none, whatever it is called
-abbrev pub is_block : Name → Element → Bool
+abbrev pub is_block : Expanded → Element → Bool
 is_block name e = has_name name e && not (is_marked e)
 
 -- the header blocks of this name, in order
-abbrev pub blocks : Name → List Element → List Element
+abbrev pub blocks : Expanded → List Element → List Element
 blocks name headers = filter (is_block name) headers
 
 -- whether there is one
-abbrev pub has_block : Name → List Element → Bool
+abbrev pub has_block : Expanded → List Element → Bool
 has_block name headers = list_any (is_block name) headers
 
 -- the headers of WS-Addressing (Core, 3.2)
-abbrev pub is_addressing : Name → Bool
+abbrev pub is_addressing : Expanded → Bool
 is_addressing name =
     is_same name (wsa (codes "To")) || is_same name (wsa (codes "From")) || is_same name (wsa (codes "ReplyTo"))
     || is_same name (wsa (codes "FaultTo")) || is_same name (wsa (codes "Action"))
     || is_same name (wsa (codes "MessageID")) || is_same name (wsa (codes "RelatesTo"))
 
 -- the blocks that are understood: those of WS-Addressing, WS-ReliableMessaging and WS-MakeConnection, and NotUnderstood
-abbrev pub is_understood : List ℕ → Name → Bool
+abbrev pub is_understood : List ℕ → Expanded → Bool
 is_understood soap name =
     is_addressing name || is_some (header_name name) || is_same name (name_in soap (codes "NotUnderstood"))
 
@@ -55,5 +55,5 @@ is_not_understood soap e =
     && is_own soap (value_among (name_in soap (codes "role")) (attrs_of e))
 
 -- the names of all such blocks, in order
-abbrev pub not_understood : List ℕ → List Element → List Name
+abbrev pub not_understood : List ℕ → List Element → List Expanded
 not_understood soap headers = map name_of (filter (is_not_understood soap) headers)

@@ -5,7 +5,7 @@ use Rattle.std.specs.Prelude.{Ok, Err, codes}
 use Rattle.std.specs.Str.{bytes_eq}
 use Rattle.rm_base.specs.declared.message.Payload.{Payload}
 use Rattle.soap_profile.specs.Tree.{Binding, Element, Parts, children_of}
-use Rattle.soap_profile.specs.declared.name.Expanded.{Expanded as Name}
+use Rattle.soap_profile.specs.declared.name.Expanded.{Expanded}
 use Rattle.soap_values.specs.Children.{name_in, has_name}
 use Rattle.soap_values.specs.Outcome.{◌>>=◌, single}
 use Rattle.rm_message.specs.addressing.Addressing.{first_of}
@@ -28,7 +28,7 @@ fault_at soap numbered parts = if numbered then None else if_fault soap (first_o
 
 -- the element that a message with this action has in its Body (WS-ReliableMessaging 1.2, 3.4 to 3.6;
 -- WS-MakeConnection 1.1, 3.2)
-abbrev pub element_for : List ℕ → Option Name
+abbrev pub element_for : List ℕ → Option Expanded
 element_for action =
     if bytes_eq action (codes "http://docs.oasis-open.org/ws-rx/wsrm/200702/CreateSequence")
     then Some (rm (codes "CreateSequence"))
@@ -62,13 +62,13 @@ lifecycle_from (Ok (Some lifecycle)) = Some (bodies.Lifecycle lifecycle)
 lifecycle_from _ = None
 
 -- the one element in Body, where it has this name
-unfoldable pub lifecycle_in : Name → Parts → Option Body
+unfoldable pub lifecycle_in : Expanded → Parts → Option Body
 lifecycle_in name parts = do
   e ← single (children_of parts)
   if has_name name e then lifecycle_from (lifecycle_of e) else None
 
 -- what the action says that is there
-abbrev pub body_for : Option Name → Bool → Payload → Parts → Option Body
+abbrev pub body_for : Option Expanded → Bool → Payload → Parts → Option Body
 body_for (Some name) bare payload parts = lifecycle_in name parts
 body_for None bare payload parts = Some (if bare then bodies.Empty else bodies.Payload payload)
 

@@ -4,7 +4,7 @@ use Rattle.std.specs.Prelude.{ℕ, List, [], ◌∷◌, if◌then◌else◌, Opt
 use Rattle.std.specs.Str.{bytes_eq}
 use Rattle.soap_document.specs.Tokens.{is_nil}
 use Rattle.soap_profile.specs.Tree.{Binding, Element, parts_of, children_of, without_declarations}
-use Rattle.soap_profile.specs.declared.name.Expanded.{Expanded as Name}
+use Rattle.soap_profile.specs.declared.name.Expanded.{Expanded}
 use Rattle.soap_values.specs.Children.{name_in, children_named}
 use Rattle.soap_values.specs.Outcome.{◌>>=◌}
 use Rattle.soap_values.specs.QNames.{within, qname_in}
@@ -22,7 +22,7 @@ first_named soap local e = first_of (children_named (name_in soap local) (parts_
 
 -- the name in the Value of a Code or a Subcode that stands in these elements, the innermost of which comes first
 -- (5.4.1)
-unfoldable pub value_name : List ℕ → List Binding → Element → List Element → Option Name
+unfoldable pub value_name : List ℕ → List Binding → Element → List Element → Option Expanded
 value_name soap scope holder outer = do
   value ← first_named soap (codes "Value") holder
   bytes ← trimmed_text value
@@ -38,27 +38,27 @@ code_called local =
     else if bytes_eq local (codes "Receiver") then Some Receiver else None
 
 -- the code that a name is
-abbrev pub code_named : List ℕ → Name → Option FaultCode
+abbrev pub code_named : List ℕ → Expanded → Option FaultCode
 code_named soap name = if bytes_eq name.space soap then code_called name.local else None
 
 -- a name that is in a namespace
-abbrev pub spaced : Name → Option Name
+abbrev pub spaced : Expanded → Option Expanded
 spaced name = if is_nil name.space then None else Some name
 
 -- the name of a Subcode
-unfoldable pub subcode_name : List ℕ → List Binding → Element → List Element → Option Name
+unfoldable pub subcode_name : List ℕ → List Binding → Element → List Element → Option Expanded
 subcode_name soap scope subcode outer = do
   name ← value_name soap scope subcode outer
   spaced name
 
 -- the name of the Subcode within a Subcode
-unfoldable pub inner_name : List ℕ → List Binding → Element → List Element → Option Name
+unfoldable pub inner_name : List ℕ → List Binding → Element → List Element → Option Expanded
 inner_name soap scope subcode outer = do
   inner ← first_named soap (codes "Subcode") subcode
   subcode_name soap scope inner (subcode ∷ outer)
 
 -- with a code, the name of a Subcode, and the name of the one within it; without the first there is no second
-abbrev pub codes_with : FaultCode → Option Name → Option Name → Codes
+abbrev pub codes_with : FaultCode → Option Expanded → Option Expanded → Codes
 codes_with code None inner = record { code = code; subcode = None; inner = None }
 codes_with code (Some name) inner = record { code = code; subcode = Some name; inner = inner }
 

@@ -3,7 +3,7 @@
 use Rattle.std.specs.Prelude.{ℕ, List, [], ◌∷◌, Bool, Option, Some, None, Result, Ok, Err, codes}
 use Rattle.std.specs.List.{flat_map}
 use Rattle.soap_profile.specs.Tree.{Binding, Element, attrs_of}
-use Rattle.soap_profile.specs.declared.name.Expanded.{Expanded as Name}
+use Rattle.soap_profile.specs.declared.name.Expanded.{Expanded}
 use Rattle.soap_values.specs.Children.{name_in, value_among}
 use Rattle.soap_values.specs.Outcome.{◌>>=◌, optional, each, if_present}
 use Rattle.soap_values.specs.QNames.{within, qname_in}
@@ -71,7 +71,7 @@ numbered_of None = Some Unnumbered
 numbered_of (Some e) = numbered_from (header_of e)
 
 -- the number that a message has in a sequence
-abbrev pub sequence_name : Name
+abbrev pub sequence_name : Expanded
 sequence_name = rm (codes "Sequence")
 
 -- its one Sequence, or none
@@ -86,7 +86,7 @@ listed None = []
 listed (Some x) = x ∷ []
 
 -- the name in the attribute qname of a NotUnderstood block
-abbrev pub told_name : List Binding → Element → Option Name
+abbrev pub told_name : List Binding → Element → Option Expanded
 told_name scope e = do
   bytes ← value_among (name_in [] (codes "qname")) (attrs_of e)
   qname_in (within (e ∷ []) scope) bytes
@@ -94,6 +94,6 @@ told_name scope e = do
 -- the names that a peer did not understand, in order, where these bindings are in force in the header; a block without
 -- a
 -- name is passed over
-abbrev pub told_names : List ℕ → List Binding → List Element → List Name
+abbrev pub told_names : List ℕ → List Binding → List Element → List Expanded
 told_names soap scope headers =
     flat_map (λ e. listed (told_name scope e)) (blocks (name_in soap (codes "NotUnderstood")) headers)

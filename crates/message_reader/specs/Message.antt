@@ -5,7 +5,7 @@ use Rattle.std.specs.Prelude.{Result, Ok, Err, codes}
 use Rattle.std.specs.Str.{bytes_eq}
 use Rattle.rm_base.specs.declared.message.Payload.{Payload}
 use Rattle.soap_profile.specs.Tree.{Element}
-use Rattle.soap_profile.specs.declared.name.Expanded.{Expanded as Name}
+use Rattle.soap_profile.specs.declared.name.Expanded.{Expanded}
 use Rattle.soap_envelope.specs.Envelope.{Envelope}
 use Rattle.soap_values.specs.Outcome.{◌>>=◌}
 use Rattle.rm_message.specs.addressing.Addressing.{addressing_in, uri_header}
@@ -26,7 +26,7 @@ use Rattle.message_reader.specs.declared.read.Content.{Content}
 -- why an envelope has no message, in the order in which it is tested
 pub data Wrong : Type 0 where
   -- blocks that had to be understood (SOAP 1.2 Part 1, 2.4), by name
-  NotUnderstood : List Name → Wrong
+  NotUnderstood : List Expanded → Wrong
   -- a header stands there twice; one is missing; one has no value of its kind (SOAP Binding, 6.4.1)
   Cardinality : Wrong
   HeaderMissing : Wrong
@@ -138,7 +138,7 @@ with_addressing soap e (Err wrong) = Err wrong
 with_addressing soap e (Ok addressing) = with_content addressing (content_in soap addressing.action e)
 
 -- unless there are blocks that had to be understood
-abbrev pub unless_unknown : List ℕ → Envelope → List Name → Result Message Wrong
+abbrev pub unless_unknown : List ℕ → Envelope → List Expanded → Result Message Wrong
 unless_unknown soap e (name ∷ names) = Err (NotUnderstood (name ∷ names))
 unless_unknown soap e [] = with_addressing soap e (addressed soap e)
 

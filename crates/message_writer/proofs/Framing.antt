@@ -12,7 +12,7 @@ use Rattle.soap_document.specs.Grammar.{max_depth}
 use Rattle.soap_profile.specs.Namespaces.{bound}
 use Rattle.soap_profile.specs.Payload.{IsClosedContent}
 use Rattle.soap_profile.specs.Tree.{Element, Parts, none, child}
-use Rattle.soap_profile.specs.declared.name.Expanded.{Expanded as Name}
+use Rattle.soap_profile.specs.declared.name.Expanded.{Expanded}
 use Rattle.soap_frame.specs.envelopes.Envelope.{IsEnvelope}
 use Rattle.soap_frame.specs.markup.Frame.{frame_scope}
 use Rattle.soap_frame.specs.markup.ReadBack.{ReadsAs, ContentReadsAs}
@@ -92,7 +92,7 @@ pending_fit : Known → (soap : List ℕ) (x : Option Bool) → Fit soap (option
 pending_fit known soap None = tt
 pending_fit known soap (Some x) = (known.header soap (headers.Pending x) tt, tt)
 
-names_fit : (soap : List ℕ) (xs : List Name) → AllByRecursion IsNameWritable xs
+names_fit : (soap : List ℕ) (xs : List Expanded) → AllByRecursion IsNameWritable xs
     → Fit soap (map not_understood_node xs)
 names_fit soap [] all = tt
 names_fit soap (x ∷ xs) all = (not_understood_good soap x all.0, names_fit soap xs all.1)

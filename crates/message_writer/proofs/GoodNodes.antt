@@ -17,7 +17,7 @@ use Rattle.soap_document.specs.Grammar.{max_depth}
 use Rattle.soap_document.specs.Tokens.{is_nil}
 use Rattle.soap_profile.specs.Namespaces.{xml_space, xmlns_space, may_bind}
 use Rattle.soap_profile.specs.Tree.{Element}
-use Rattle.soap_profile.specs.declared.name.Expanded.{Expanded as Name}
+use Rattle.soap_profile.specs.declared.name.Expanded.{Expanded}
 use Rattle.soap_frame.specs.markup.Frame.{frame_scope}
 use Rattle.soap_frame.specs.markup.Plain.{chars_from}
 use Rattle.soap_frame.specs.markup.Writable.{IsNameWritable, IsTextWritable}
@@ -121,7 +121,7 @@ written_text false false local is = record {
   chars = chars-append (codes "q:") local (chars_from (codes "q:") refl) (name_is_chars local is);
 }
 
-qname_is_text : (name : Name) → IsNameWritable name → IsTextWritable (qname name)
+qname_is_text : (name : Expanded) → IsNameWritable name → IsTextWritable (qname name)
 qname_is_text name is = written_text (is_nil name.space) (bytes_eq name.space xml_space) name.local is.local
 
 -- its prefix may be bound to its namespace, where it is written
@@ -162,7 +162,7 @@ value_by soap space false false e f differs chars = record {
   resolved = rw (q_binds space e f differs) refl;
 }
 
-pub not_understood_good : (soap : List ℕ) (name : Name) → IsNameWritable name
+pub not_understood_good : (soap : List ℕ) (name : Expanded) → IsNameWritable name
     → IsGood soap 2 (frame_scope soap) (not_understood_node name)
 not_understood_good soap name is = (
   not_understood_by soap name.space (qname name) (is_nil name.space) (bytes_eq name.space xml_space) refl refl
@@ -170,7 +170,7 @@ not_understood_good soap name is = (
   omega arith,
 )
 
-value_good : (soap : List ℕ) (depth : ℕ) (name : Name) → IsNameWritable name → depth < max_depth
+value_good : (soap : List ℕ) (depth : ℕ) (name : Expanded) → IsNameWritable name → depth < max_depth
     → IsGood soap depth (frame_scope soap) (value_node name)
 value_good soap depth name is room = (
   value_by soap name.space (is_nil name.space) (bytes_eq name.space xml_space) refl refl is.no_xmlns is.space,
@@ -187,7 +187,7 @@ code_is_text DataEncodingUnknown = record { some = λ e. cc; chars = chars_from 
 code_is_text Sender = record { some = λ e. cc; chars = chars_from (codes "s:Sender") refl }
 code_is_text Receiver = record { some = λ e. cc; chars = chars_from (codes "s:Receiver") refl }
 
-subcode_good : (soap : List ℕ) (depth : ℕ) (name : Option Name) (inner : Nodes) → IfSome name IsSubcodeWritable
+subcode_good : (soap : List ℕ) (depth : ℕ) (name : Option Expanded) (inner : Nodes) → IfSome name IsSubcodeWritable
     → suc depth < max_depth → AreGood soap (suc depth) (frame_scope soap) inner
     → AreGood soap depth (frame_scope soap) (subcode_nodes name inner)
 subcode_good soap depth None inner is room good = tt

@@ -2,7 +2,7 @@
 use Rattle.std.proofs.Common.{◌≡◌, ◌++◌, ℕ, List, [], ◌∷◌, refl, ap}
 use Rattle.soap_profile.specs.Items.{Item, a_child, decls_among, attrs_among, parts_among, listed}
 use Rattle.soap_profile.specs.Tree.{element, Parts, none, text, child}
-use Rattle.soap_profile.specs.declared.name.Expanded.{Expanded as Name}
+use Rattle.soap_profile.specs.declared.name.Expanded.{Expanded}
 use Rattle.soap_nodes.specs.Node.{Node, Nodes, nothing, each_node, node_tree, nodes_tree}
 use Rattle.rm_message.specs.elements.Texts.{range_node, nack_node, kind_nodes}
 use Rattle.rm_message.specs.elements.declared.header.AckKind.{AckKind}
@@ -25,7 +25,7 @@ parts_same (text bytes ps) = ap (text bytes) (parts_same ps)
 parts_same (child e ps) = ap (child e) (parts_same ps)
 
 -- an element of such items has these parts, and nothing else
-pub only_parts : (name : Name) (items : List Item) (ps : Parts) → items ≡ listed ps
+pub only_parts : (name : Expanded) (items : List Item) (ps : Parts) → items ≡ listed ps
     → element name (decls_among items) (attrs_among items) (parts_among items) ≡ element name [] [] ps
 only_parts name items ps e = rw (e, decls_none ps, attrs_none ps, parts_same ps) refl
 

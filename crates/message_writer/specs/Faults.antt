@@ -5,7 +5,7 @@ use Rattle.std.specs.Prelude.{ℕ, List, [], ◌∷◌, ◌++◌, Option, Some, 
 use Rattle.std.specs.Option.{option_to_list}
 use Rattle.soap_profile.specs.Soap.{soap_space}
 use Rattle.soap_profile.specs.Tree.{Element}
-use Rattle.soap_profile.specs.declared.name.Expanded.{Expanded as Name}
+use Rattle.soap_profile.specs.declared.name.Expanded.{Expanded}
 use Rattle.soap_frame.specs.markup.Frame.{addressing_space, messaging_space, connection_space}
 use Rattle.soap_nodes.specs.Node.{leaf, node_tree}
 use Rattle.rm_message.specs.addressing.declared.addressing.Addressing.{Addressing}
@@ -93,7 +93,7 @@ space_of OfMessaging = messaging_space
 space_of OfConnection = connection_space
 
 -- a local name in it
-abbrev pub named : Vocabulary → List ℕ → Name
+abbrev pub named : Vocabulary → List ℕ → Expanded
 named whose local = record { space = space_of whose; local = local }
 
 -- ---- what goes with a fault
@@ -125,7 +125,7 @@ acks_of kinds.SequenceClosed block = option_to_list block
 acks_of _ block = []
 
 -- NotUnderstood names the headers that were not (SOAP 1.2 Part 1, 5.4.8)
-abbrev pub names_of : FaultKind → List Name → List Name
+abbrev pub names_of : FaultKind → List Expanded → List Expanded
 names_of kinds.NotUnderstood names = names
 names_of _ names = []
 

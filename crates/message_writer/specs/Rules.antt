@@ -7,7 +7,7 @@ use Rattle.rm_base.specs.declared.message.Payload.{Payload}
 use Rattle.soap_lex.specs.Characters.{IsChars}
 use Rattle.soap_profile.specs.Payload.{height, IsClosedContent}
 use Rattle.soap_profile.specs.Tree.{Element, Parts, none, child, name_of, children_of}
-use Rattle.soap_profile.specs.declared.name.Expanded.{Expanded as Name}
+use Rattle.soap_profile.specs.declared.name.Expanded.{Expanded}
 use Rattle.soap_frame.specs.envelopes.Envelope.{Envelope, name_in}
 use Rattle.soap_frame.specs.markup.Writable.{IsNameWritable, IsWritable}
 use Rattle.soap_frame.specs.Framed.{sorted_scope, framed_envelope}
@@ -30,7 +30,7 @@ use Rattle.message_writer.specs.Text.{header_blocks, body_text, fault_node}
 -- ---- a Fault
 
 -- a subcode is in a namespace (5.4.1.3)
-pub record IsSubcodeWritable (name : Name) : Type 0 where
+pub record IsSubcodeWritable (name : Expanded) : Type 0 where
   pub writable : IsNameWritable name
   pub spaced : name.space ≢ []
 

@@ -8,7 +8,7 @@ use Rattle.std.specs.Str.{bytes_eq}
 use Rattle.soap_document.specs.Tokens.{is_nil}
 use Rattle.soap_profile.specs.Namespaces.{xml_space}
 use Rattle.soap_profile.specs.Tree.{Element}
-use Rattle.soap_profile.specs.declared.name.Expanded.{Expanded as Name}
+use Rattle.soap_profile.specs.declared.name.Expanded.{Expanded}
 use Rattle.soap_frame.specs.markup.ElementText.{written_name}
 use Rattle.soap_frame.specs.markup.Frame.{of_soap}
 use Rattle.soap_frame.specs.Framed.{framed_text}
@@ -44,11 +44,11 @@ tag_of tag = framed of_soap (local_of tag)
 -- ---- names in values (Namespaces 6; SOAP 1.2 Part 1, sections 5.4.1.2, 5.4.1.3 and 5.4.8)
 
 -- a name, with the prefix q where it needs one: not in no namespace, and not in that of xml
-abbrev pub qname : Name → List ℕ
+abbrev pub qname : Expanded → List ℕ
 qname name = written_name (codes "q") name
 
 -- the declaration of that prefix
-abbrev pub qname_notes : Name → List Note
+abbrev pub qname_notes : Expanded → List Note
 qname_notes name =
     if is_nil name.space || bytes_eq name.space xml_space then [] else declared (codes "q") name.space ∷ []
 
@@ -61,7 +61,7 @@ node_list (words bytes) = []
 node_list (more node nodes) = node ∷ node_list nodes
 
 -- NotUnderstood (5.4.8)
-abbrev pub not_understood_node : Name → Node
+abbrev pub not_understood_node : Expanded → Node
 not_understood_node name = void (tag_of tags.NotUnderstood) (plain (codes "qname") (qname name) ∷ qname_notes name)
 
 -- the header blocks of a message, in order
@@ -86,11 +86,11 @@ code_text Sender = codes "s:Sender"
 code_text Receiver = codes "s:Receiver"
 
 -- Value of a Subcode (5.4.1.3)
-abbrev pub value_node : Name → Node
+abbrev pub value_node : Expanded → Node
 value_node name = full (tag_of tags.Value) (qname_notes name) (words (qname name))
 
 -- a Subcode, where there is one, and what stands within it behind its Value
-abbrev pub subcode_nodes : Option Name → Nodes → Nodes
+abbrev pub subcode_nodes : Option Expanded → Nodes → Nodes
 subcode_nodes None inner = nothing
 subcode_nodes (Some name) inner = more (full (tag_of tags.Subcode) [] (more (value_node name) inner)) nothing
 

@@ -7,7 +7,7 @@ use Rattle.soap_document.specs.Grammar.{IsDocument}
 use Rattle.soap_document.specs.Inside.{IsInside, around, root_around}
 use Rattle.soap_document.specs.Machine.{start, run, root_of}
 use Rattle.soap_document.specs.Tree as written
-use Rattle.soap_document.specs.declared.attribute.WrittenAttribute.{WrittenAttribute as Attribute}
+use Rattle.soap_document.specs.declared.attribute.WrittenAttribute.{WrittenAttribute}
 use Rattle.soap_profile.specs.Namespaces.{resolve_parts}
 use Rattle.soap_profile.specs.Payload.{depth, is_white_outside, IsClosedContent}
 use Rattle.soap_profile.specs.Tree.{Parts}
@@ -18,7 +18,7 @@ pub record Documents : Type 0 where
       → IsDocument bytes root ↔ (root_of (run start bytes) ≡ Some root)
   pub made : (bytes : List ℕ) (parts : written.Parts) → IsInside bytes parts
       → IsDocument (around bytes) (root_around bytes parts)
-  pub found : (bytes name : List ℕ) (attributes : List Attribute) (from to : ℕ) (parts : written.Parts)
+  pub found : (bytes name : List ℕ) (attributes : List WrittenAttribute) (from to : ℕ) (parts : written.Parts)
       → IsDocument (around bytes) (written.element name attributes from to parts) → from ≡ 3
       → to ≡ 3 + length bytes
       → IsInside bytes parts × (written.element name attributes from to parts ≡ root_around bytes parts)

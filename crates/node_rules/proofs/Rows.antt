@@ -31,7 +31,7 @@ use Rattle.rm_protocol.specs.message_types.declared.message.Body.{Body}
 use Rattle.rm_protocol.specs.message_types.declared.message.Body.TheVariants as body
 use Rattle.rm_protocol.specs.message_types.declared.message.Message.{Message}
 use Rattle.soap_profile.specs.Tree.{Element}
-use Rattle.soap_profile.specs.declared.name.Expanded.{Expanded as Name}
+use Rattle.soap_profile.specs.declared.name.Expanded.{Expanded}
 use Rattle.rm_protocol.specs.addressing.declared.endpoint.Epr.{Epr}
 use Rattle.rm_protocol.specs.batches.declared.record.PeerOffer.{PeerOffer}
 use Rattle.rm_protocol.specs.batches.Fact.{Fact, Created, Granted, Acked, Received, ClosedOut, Closed, EndedOut, Ended}
@@ -311,7 +311,7 @@ shut-quiet : (x : Option ℕ) (r : List Fact) → AllByRecursion IsQuiet (shut_a
 shut-quiet None r = tt
 shut-quiet (Some s) r = if-quiet (is_sending (phase r s)) (ClosedOut s ∷ []) (closed_out-quiet s)
 
-fault-quiet : (t : Option Text) (subcode : Option Name) (detail : List Element) (r : List Fact)
+fault-quiet : (t : Option Text) (subcode : Option Expanded) (detail : List Element) (r : List Fact)
     → AllByRecursion IsQuiet (fault_row t subcode detail r)
 fault-quiet t subcode detail r =
     chosen (is_fault _ subcode) (is_fault _ subcode) (is_fault _ subcode) (is_fault _ subcode) (is_fault _ subcode)

@@ -10,7 +10,7 @@ use Prim.Native.Nat.{zero}
 use Rattle.rm_base.specs.declared.message.Payload.{Payload}
 use Rattle.soap_lex.specs.Facts.{same}
 use Rattle.soap_profile.specs.Tree.{Element, Parts, name_of, parts_of, children_of}
-use Rattle.soap_profile.specs.declared.name.Expanded.{Expanded as Name}
+use Rattle.soap_profile.specs.declared.name.Expanded.{Expanded}
 use Rattle.soap_stripped.specs.Resolved.{AreInForce, IsResolved}
 use Rattle.rm_wire.specs.values.Children.{name_in, has_name}
 use Rattle.rm_wire.specs.values.Outcome.{◌>>=◌, single}
@@ -74,12 +74,12 @@ action_of names.TerminateResponseName =
 action_of names.MakeName = codes "http://docs.oasis-open.org/ws-rx/wsmc/200702/MakeConnection"
 
 -- the element that goes with an action
-record GoesWith (action : List ℕ) (name : Name) : Type 0 where
+record GoesWith (action : List ℕ) (name : Expanded) : Type 0 where
   body : BodyName
   named_so : body_name name ≡ Some body
   acts_so : action ≡ action_of body
 
-element_step : (action : List ℕ) (own name : Name) (body : BodyName) (t : Bool) (rest : Option Name)
+element_step : (action : List ℕ) (own name : Expanded) (body : BodyName) (t : Bool) (rest : Option Expanded)
     → bytes_eq action (action_of body) ≡ t → (if t then Some own else rest) ≡ Some name
     → body_name own ≡ Some body → (rest ≡ Some name → GoesWith action name) → GoesWith action name
 element_step action own name body false rest d e is more = more e
@@ -91,7 +91,7 @@ element_step action own name body true rest d e is more =
       acts_so = same action (action_of body) d;
     })
 
-goes_with : (action : List ℕ) (name : Name) → element_for action ≡ Some name → GoesWith action name
+goes_with : (action : List ℕ) (name : Expanded) → element_for action ≡ Some name → GoesWith action name
 goes_with action name e =
     element_step action (rm (codes "CreateSequence")) name names.CreateName _ _ refl e refl (λ e.
     element_step action (rm (codes "CreateSequenceResponse")) name names.CreateResponseName _ _ refl e refl (λ e.
@@ -121,13 +121,13 @@ acts_as names.TerminateResponseName parts x e =
     named_so (codes "TerminateSequenceResponse") life.TerminateResponse (identifier parts) x _ e (λ y. refl)
 acts_as names.MakeName parts x e = named_so (codes "MakeConnection") life.Make (make_in parts) x _ e (λ y. refl)
 
-name_is : (e : Element) (name : Name) → has_name name e ≡ true → name_of e ≡ name
+name_is : (e : Element) (name : Expanded) → has_name name e ≡ true → name_of e ≡ name
 name_is e name h =
     let each = and_parts (bytes_eq (name_of e).local name.local) (bytes_eq (name_of e).space name.space) h in
     ap₂ (λ (s l : List ℕ). record { space = s; local = l }) (same (name_of e).space name.space each.1)
     (same (name_of e).local name.local each.0)
 
-lifecycle_acts : (action : List ℕ) (name : Name) (e : Element) (x : Lifecycle) → GoesWith action name
+lifecycle_acts : (action : List ℕ) (name : Expanded) (e : Element) (x : Lifecycle) → GoesWith action name
     → has_name name e ≡ true → lifecycle_of e ≡ Ok (Some x) → action ≡ action_for x
 lifecycle_acts action name e x with_name h d =
     let as_named : body_as (Some with_name.body) (parts_of e) ≡ Ok (Some x) =
@@ -170,7 +170,7 @@ from_at (Ok (Some x)) body e = (x, refl, cc)
 from_at (Ok None) body e = cc
 from_at (Err wrong) body e = cc
 
-element_at : (action : List ℕ) (name : Name) (id : Option (List ℕ)) (e : Element) (body : Body) (t : Bool)
+element_at : (action : List ℕ) (name : Expanded) (id : Option (List ℕ)) (e : Element) (body : Body) (t : Bool)
     → GoesWith action name → CreatesById action id → IsResolved 2 e → has_name name e ≡ t
     → (if t then lifecycle_from (lifecycle_of e) else None) ≡ Some body → IsBodyOf false action id body
 element_at action name id e body false with_name by is h d = cc
@@ -182,7 +182,7 @@ element_at action name id e body true with_name by is h d =
       together = (refl, acts, has_its_id x action id acts by);
     })
 
-single_at : (action : List ℕ) (name : Name) (id : Option (List ℕ)) (xs : List Element) (body : Body)
+single_at : (action : List ℕ) (name : Expanded) (id : Option (List ℕ)) (xs : List Element) (body : Body)
     (o : Option Element) → GoesWith action name → CreatesById action id → AllByRecursion (IsResolved 2) xs
     → single xs ≡ o → (o >>= λ e. (if has_name name e then lifecycle_from (lifecycle_of e) else None)) ≡ Some body
     → IsBodyOf false action id body
@@ -190,7 +190,7 @@ single_at action name id xs body None with_name by all s d = cc
 single_at action name id xs body (Some e) with_name by all s d =
     element_at action name id e body (has_name name e) with_name by (single_is (IsResolved 2) xs e s all) refl d
 
-lifecycle_in_is : (action : List ℕ) (name : Name) (id : Option (List ℕ)) (parts : Parts) (body : Body)
+lifecycle_in_is : (action : List ℕ) (name : Expanded) (id : Option (List ℕ)) (parts : Parts) (body : Body)
     → GoesWith action name → CreatesById action id → AllByRecursion (IsResolved 2) (children_of parts)
     → lifecycle_in name parts ≡ Some body → IsBodyOf false action id body
 unfolding lifecycle_in
@@ -208,7 +208,8 @@ bare_at action id payload body false e b d =
     let other : is_protocol action ≡ false = rw (e, b) refl in
     subst (IsBodyOf false action id) is (record { read = tt; together = no_action action other })
 
-for_at : (action : List ℕ) (id : Option (List ℕ)) (payload : Payload) (parts : Parts) (body : Body) (o : Option Name)
+for_at : (action : List ℕ) (id : Option (List ℕ)) (payload : Payload) (parts : Parts) (body : Body)
+    (o : Option Expanded)
     → element_for action ≡ o → body_for o (is_bare action) payload parts ≡ Some body → CreatesById action id
     → AllByRecursion (IsResolved 2) (children_of parts) → IsBodyOf false action id body
 for_at action id payload parts body None f e by all = bare_at action id payload body (is_bare action) f refl e

@@ -5,7 +5,7 @@ use Rattle.std.specs.Prelude.{IfSome, IsSome}
 use Rattle.std.specs.List.{AllByRecursion}
 use Rattle.soap_document.specs.Tokens.{is_nil}
 use Rattle.soap_profile.specs.Tree.{Binding, Element, without_declarations, parts_of, children_of}
-use Rattle.soap_profile.specs.declared.name.Expanded.{Expanded as Name}
+use Rattle.soap_profile.specs.declared.name.Expanded.{Expanded}
 use Rattle.rm_wire.specs.markup.Writable.{IsNameWritable}
 use Rattle.rm_wire.specs.markup.Plain.{chars_from}
 use Rattle.soap_stripped.specs.Resolved.{AreInForce, IsResolved}
@@ -44,32 +44,32 @@ record AreCodes (found : FaultBody) : Type 0 where
   inner : IfSome found.inner IsSubcodeWritable
   within : IsSome found.inner → IsSome found.subcode
 
-some_space : (name : Name) → is_nil name.space ≡ false → name.space ≢ []
+some_space : (name : Expanded) → is_nil name.space ≡ false → name.space ≢ []
 some_space name e same = let x = rw same at e in cc
 
-spaced_at : (name : Name) (t : Bool) → is_nil name.space ≡ t → IsNameWritable name
+spaced_at : (name : Expanded) (t : Bool) → is_nil name.space ≡ t → IsNameWritable name
     → IfSome (if t then None else Some name) IsSubcodeWritable
 spaced_at name true e is = tt
 spaced_at name false e is = record { writable = is; spaced = some_space name e }
 
-spaced_from : (o : Option Name) → ((name : Name) → o ≡ Some name → IsNameWritable name)
+spaced_from : (o : Option Expanded) → ((name : Expanded) → o ≡ Some name → IsNameWritable name)
     → IfSome (o >>= λ name. spaced name) IsSubcodeWritable
 spaced_from None is = tt
 spaced_from (Some name) is = spaced_at name (is_nil name.space) refl (is name refl)
 
-codes_with_are : (code : FaultCode) (subcode inner : Option Name) → IfSome subcode IsSubcodeWritable
+codes_with_are : (code : FaultCode) (subcode inner : Option Expanded) → IfSome subcode IsSubcodeWritable
     → IfSome inner IsSubcodeWritable → AreCodes (fault_with (codes_with code subcode inner) [] [])
 codes_with_are code None inner s i = record { subcode = tt; inner = tt; within = λ x. x }
 codes_with_are code (Some name) inner s i = record { subcode = s; inner = i; within = λ x. refl }
 
 module _ (names : WrittenNames) (soap : List ℕ) (scope : List Binding) (outer : AreInForce scope) where
-  bytes_name : (elements : List Element) → AllByRecursion Binds elements → (o : Option (List ℕ)) (name : Name)
+  bytes_name : (elements : List Element) → AllByRecursion Binds elements → (o : Option (List ℕ)) (name : Expanded)
       → (o >>= λ bytes. qname_in (within elements scope) bytes) ≡ Some name → IsNameWritable name
   bytes_name elements all None name e = cc
   bytes_name elements all (Some bytes) name e = qname_is names elements scope all outer bytes name e
 
   value_at : (depth : ℕ) (holder : Element) (elements : List Element) → Binds holder → AllByRecursion Binds elements
-      → (o : Option Element) → IfSome o (IsResolved depth) → (name : Name)
+      → (o : Option Element) → IfSome o (IsResolved depth) → (name : Expanded)
       → (o >>= λ value. (trimmed_text value >>= λ bytes. qname_in (within (value ∷ holder ∷ elements) scope) bytes))
       ≡ Some name → IsNameWritable name
   value_at depth holder elements h all None is name e = cc
@@ -77,7 +77,7 @@ module _ (names : WrittenNames) (soap : List ℕ) (scope : List Binding) (outer 
       bytes_name (value ∷ holder ∷ elements) (declares depth value is, (h, all)) (trimmed_text value) name e
 
   value_is : (depth : ℕ) (holder : Element) (elements : List Element) → IsResolved depth holder
-      → AllByRecursion Binds elements → (name : Name) → value_name soap scope holder elements ≡ Some name
+      → AllByRecursion Binds elements → (name : Expanded) → value_name soap scope holder elements ≡ Some name
       → IsNameWritable name
   unfolding value_name
   value_is depth holder elements is all name e =
@@ -122,7 +122,7 @@ module _ (names : WrittenNames) (soap : List ℕ) (scope : List Binding) (outer 
       (first_resolved soap (codes "Subcode") depth holder is) (declares depth holder is, all)
 
   name_at : (depth : ℕ) (holder : Element) (elements : List Element) → IsResolved depth holder
-      → AllByRecursion Binds elements → (o : Option Name)
+      → AllByRecursion Binds elements → (o : Option Expanded)
       → IfSome (o >>= λ name. (code_named soap name >>= λ code. Some (codes_below soap scope code (first_named soap
       (codes "Subcode") holder) (holder ∷ elements)))) (λ found. AreCodes (fault_with found [] []))
   name_at depth holder elements is all None = tt

@@ -7,7 +7,7 @@ use Rattle.std.proofs.lemmas.Bool.{or_parts}
 use Rattle.rm_base.specs.Text.{IsText}
 use Rattle.soap_lex.specs.Facts.{equal}
 use Rattle.soap_profile.specs.Tree.{Binding, Element, element, name_of, attrs_of}
-use Rattle.soap_profile.specs.declared.name.Expanded.{Expanded as Name}
+use Rattle.soap_profile.specs.declared.name.Expanded.{Expanded}
 use Rattle.rm_wire.specs.markup.Writable.{IsNameWritable}
 use Rattle.rm_wire.specs.envelopes.Envelope.{Envelope}
 use Rattle.soap_stripped.specs.Resolved.{AreInForce, IsResolved}
@@ -89,7 +89,7 @@ not_numbered headers h = ap (λ (xs : List Element). optional xs) (none_pass (is
 -- ---- names that a peer did not understand
 
 module _ (names : WrittenNames) (scope : List Binding) (outer : AreInForce scope) where
-  told_at : (e : Element) → IsResolved 2 e → (o : Option (List ℕ)) (r : Option Name)
+  told_at : (e : Element) → IsResolved 2 e → (o : Option (List ℕ)) (r : Option Expanded)
       → (o >>= λ bytes. qname_in (within (e ∷ []) scope) bytes) ≡ r → AllByRecursion IsNameWritable (listed r)
   told_at e is o None d = tt
   told_at e is None (Some name) d = cc
@@ -201,7 +201,7 @@ together_numbered a s numbered (bodies.Lifecycle x) is not = absurd (not is.0)
 together_numbered a s numbered (bodies.Fault f) is not = absurd (not is)
 
 -- what is read where a Sequence may stand among the header blocks, and where this was read of it
-abbrev answer : Addressing → List Name → Option Lists → Option (Option Bool) → Option (Option Element) → Option Body
+abbrev answer : Addressing → List Expanded → Option Lists → Option (Option Bool) → Option (Option Element) → Option Body
     → Result Message Wrong
 answer a told x p o z = with_content a (x >>= λ lists. ((p >>= λ pending. ((o >>= λ found. numbered_of found)
     >>= λ number. let marks : Marks = (pending, number) in Some marks)) >>= λ marks. (z >>= λ body. Some (record {
@@ -213,7 +213,7 @@ answer a told x p o z = with_content a (x >>= λ lists. ((p >>= λ pending. ((o 
       body = body;
     }))))
 
-abbrev numbered_answer : Addressing → List Name → Lists → Option Bool → Result (Option Header) ElementError
+abbrev numbered_answer : Addressing → List Expanded → Lists → Option Bool → Result (Option Header) ElementError
     → Option Body → Result Message Wrong
 numbered_answer a told lists pending r z = with_content a ((numbered_from r >>= λ number.
     let marks : Marks = (pending, number) in Some marks) >>= λ marks. (z >>= λ body. Some (record {
@@ -225,7 +225,8 @@ numbered_answer a told lists pending r z = with_content a ((numbered_from r >>= 
       body = body;
     })))
 
-module _ (a : Addressing) (rules : IsAddressingWritable a) (told : List Name) (all : AllByRecursion IsNameWritable told)
+module _ (a : Addressing) (rules : IsAddressingWritable a) (told : List Expanded)
+    (all : AllByRecursion IsNameWritable told)
     (numbered : Bool) where
   sequence_is : (lists : Lists) (pending : Option Bool) (e : Element) (r : Result (Option Header) ElementError)
       (z : Option Body) → header_of e ≡ r → AreLists lists → (numbered ≡ false → ⊥)
@@ -317,7 +318,7 @@ module _ (names : WrittenNames) (soap : List ℕ) (e : Envelope) (parts : ArePar
       let addressed_so = addressing_is e.headers a parts.headers is.1 in
       content_is a addressed_so is.0
 
-  unknown_is : (unknown : List Name) → AllByRecursion IsNameWritable unknown
+  unknown_is : (unknown : List Expanded) → AllByRecursion IsNameWritable unknown
       → IsAnswer (unless_unknown soap e unknown)
   unknown_is [] all = with_addressing_is (addressed soap e) (unless_is (lacks_id soap e) (addressing_in e.headers))
   unknown_is (name ∷ unknown) all = all

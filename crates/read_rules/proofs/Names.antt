@@ -13,7 +13,7 @@ use Rattle.soap_document.specs.Grammar.{IsQName, unprefixed, prefixed}
 use Rattle.soap_document.specs.Tokens.{cut, starts_name, is_name, is_qname}
 use Rattle.soap_profile.specs.Namespaces.{split, element_name}
 use Rattle.soap_profile.specs.Tree.{Binding, Element, decls_of}
-use Rattle.soap_profile.specs.declared.name.Expanded.{Expanded as Name}
+use Rattle.soap_profile.specs.declared.name.Expanded.{Expanded}
 use Rattle.rm_wire.specs.markup.Writable.{IsNameWritable}
 use Rattle.soap_stripped.specs.Resolved.{IsBinding, AreInForce}
 use Rattle.soap_stripped.specs.ResolvedLaws.{more_in_force}
@@ -22,7 +22,7 @@ use Rattle.read_rules.proofs.Lists.{all_flat_map}
 
 -- the law of names that this stands on
 abbrev pub WrittenNames : Type 0
-WrittenNames = (scope : List Binding) (written : List ℕ) (name : Name) → AreInForce scope → IsQName written
+WrittenNames = (scope : List Binding) (written : List ℕ) (name : Expanded) → AreInForce scope → IsQName written
     → element_name scope written ≡ Some name → IsNameWritable name
 
 -- the declarations of an element
@@ -52,7 +52,7 @@ qname_told : (bytes : List ℕ) → is_qname bytes ≡ true → IsQName bytes
 unfolding is_qname
 qname_told bytes e = qname_at bytes (cut 58 bytes) refl e
 
-value_at : WrittenNames → (scope : List Binding) → AreInForce scope → (bytes : List ℕ) (name : Name) (t : Bool)
+value_at : WrittenNames → (scope : List Binding) → AreInForce scope → (bytes : List ℕ) (name : Expanded) (t : Bool)
     → is_name_value bytes ≡ t → (if t then element_name scope bytes else None) ≡ Some name → IsNameWritable name
 value_at names scope outer bytes name false d e = cc
 value_at names scope outer bytes name true d e =
@@ -61,7 +61,7 @@ value_at names scope outer bytes name true d e =
 
 -- the name that a value is, within elements of a document
 pub qname_is : WrittenNames → (elements : List Element) (scope : List Binding) → AllByRecursion Binds elements
-    → AreInForce scope → (bytes : List ℕ) (name : Name) → qname_in (within elements scope) bytes ≡ Some name
+    → AreInForce scope → (bytes : List ℕ) (name : Expanded) → qname_in (within elements scope) bytes ≡ Some name
     → IsNameWritable name
 qname_is names elements scope all outer bytes name e =
     let decls = all_flat_map Binds IsBinding decls_of (λ x is. is) elements all in

@@ -9,7 +9,7 @@ use Rattle.rm_base.specs.declared.message.Behaviour.{Behaviour}
 use Rattle.rm_base.specs.declared.message.Behaviour.TheVariants.{NoDiscard, EntireSequence, FollowingFirstGap}
 use Rattle.xml_chars.specs.Classes.{is_space}
 use Rattle.soap_profile.specs.Tree.{Element, element, Parts, none, text, parts_of}
-use Rattle.soap_profile.specs.declared.name.Expanded.{Expanded as Name}
+use Rattle.soap_profile.specs.declared.name.Expanded.{Expanded}
 use Rattle.soap_nodes.specs.Node.{Node, Nodes, nothing, more, leaf, node_tree, nodes_tree}
 use Rattle.wsa_headers.specs.values.Children.{is_same, has_name, children_named}
 use Rattle.wsa_headers.specs.values.Outcome.{◌>>=◌}
@@ -48,11 +48,11 @@ abbrev pub Known : Type 0
 Known = (soap : List ℕ) (x : Epr) → IsEprWritable x → epr_in (nodes_tree soap (epr_nodes x)) ≡ Some x
 
 -- an element of text, as it is read
-abbrev said : Name → List ℕ → Element
+abbrev said : Expanded → List ℕ → Element
 said name bytes = element name [] [] (text bytes none)
 
 -- the children of a name among nodes
-abbrev named_in : List ℕ → Name → Nodes → List Element
+abbrev named_in : List ℕ → Expanded → Nodes → List Element
 named_in soap name ns = children_named name (nodes_tree soap ns)
 
 -- ---- durations
@@ -78,21 +78,21 @@ lapse_trimmed lapse some = by_tests (nat_eq lapse.months 0) (nat_eq lapse.ms 0) 
         (ap (λ l. 80 ∷ (months_text lapse.months ++ l)) timed
         ∙ ap (λ l. 80 ∷ l) (sym (append_assoc (months_text lapse.months) (84 ∷ seconds_text lapse.ms) (83 ∷ []))))
 
-passed_unless : (soap : List ℕ) (name : Name) (test : Bool) (n : Node) (others : Nodes)
+passed_unless : (soap : List ℕ) (name : Expanded) (test : Bool) (n : Node) (others : Nodes)
     → has_name name (node_tree soap n) ≡ false
     → named_in soap name (if test then others else more n others) ≡ named_in soap name others
 passed_unless soap name true n others differs = refl
 passed_unless soap name false n others differs = rw differs refl
 
 -- Expires is passed over where another name is looked for
-expires_passed : (soap : List ℕ) (name : Name) (lapse : Lapse) (others : Nodes)
+expires_passed : (soap : List ℕ) (name : Expanded) (lapse : Lapse) (others : Nodes)
     → is_same (rm (codes "Expires")) name ≡ false
     → named_in soap name (expires_before lapse others) ≡ named_in soap name others
 expires_passed soap name lapse others differs =
     passed_unless soap name (nat_eq lapse.months 0 && nat_eq lapse.ms 0) (leaf (tag_of tags.Expires) (lapse_text lapse))
     others differs
 
-kept_unless : (soap : List ℕ) (name : Name) (test : Bool) (n : Node) (others : Nodes)
+kept_unless : (soap : List ℕ) (name : Expanded) (test : Bool) (n : Node) (others : Nodes)
     → has_name name (node_tree soap n) ≡ true → named_in soap name others ≡ []
     → named_in soap name (if test then others else more n others) ≡ (if test then [] else node_tree soap n ∷ [])
 kept_unless soap name true n others same later = later
@@ -170,7 +170,7 @@ offer_again known soap o is =
     (behaviour_again (parts_of e) o.behaviour
     (expires_passed soap (rm (codes "IncompleteSequenceBehavior")) o.expires last refl))
 
-offers_passed : (soap : List ℕ) (name : Name) (offer : Option Offer) → is_same (rm (codes "Offer")) name ≡ false
+offers_passed : (soap : List ℕ) (name : Expanded) (offer : Option Offer) → is_same (rm (codes "Offer")) name ≡ false
     → named_in soap name (offer_nodes offer) ≡ []
 offers_passed soap name None differs = refl
 offers_passed soap name (Some o) differs = rw differs refl
@@ -203,7 +203,7 @@ create_again known soap x is =
 
 -- ---- CreateSequenceResponse
 
-accept_passed : (soap : List ℕ) (name : Name) (accept : Option Epr) → is_same (rm (codes "Accept")) name ≡ false
+accept_passed : (soap : List ℕ) (name : Expanded) (accept : Option Epr) → is_same (rm (codes "Accept")) name ≡ false
     → named_in soap name (accept_nodes accept) ≡ []
 accept_passed soap name None differs = refl
 accept_passed soap name (Some x) differs = rw differs refl

@@ -4,7 +4,7 @@ use Rattle.std.specs.Prelude.{Some, None, is_some, option_map, Result, Ok, Err, 
 use Rattle.std.specs.Str.{bytes_eq}
 use Rattle.soap_document.specs.Tokens.{is_nil}
 use Rattle.soap_profile.specs.Tree.{Element, Parts, name_of, attrs_of, parts_of}
-use Rattle.soap_profile.specs.declared.name.Expanded.{Expanded as Name}
+use Rattle.soap_profile.specs.declared.name.Expanded.{Expanded}
 use Rattle.soap_profile.specs.declared.tree.Attr.{Attr}
 use Rattle.wsa_headers.specs.values.Children.{name_in, is_same, children_named, value_among}
 use Rattle.wsa_headers.specs.values.Outcome.{◌>>=◌, optional, single, each}
@@ -132,7 +132,7 @@ pending_in attrs = flag_of (value_among (name_in [] (codes "pending")) attrs)
 -- ---- all of them
 
 -- which header block a name is of
-abbrev pub header_name : Name → Option HeaderName
+abbrev pub header_name : Expanded → Option HeaderName
 header_name name =
     if is_same name (rm (codes "Sequence")) then Some names.SequenceName
     else if is_same name (rm (codes "SequenceAcknowledgement")) then Some names.AckName

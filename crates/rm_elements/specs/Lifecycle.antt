@@ -3,7 +3,7 @@ use Rattle.std.specs.Prelude.{ℕ, List, Bool, not, if◌then◌else◌, Option,
 use Rattle.std.specs.List.{list_any}
 use Rattle.std.specs.Str.{bytes_eq}
 use Rattle.soap_profile.specs.Tree.{Element, Parts, name_of, parts_of, children_of}
-use Rattle.soap_profile.specs.declared.name.Expanded.{Expanded as Name}
+use Rattle.soap_profile.specs.declared.name.Expanded.{Expanded}
 use Rattle.wsa_headers.specs.values.Children.{is_same, has_name, children_named}
 use Rattle.wsa_headers.specs.values.Outcome.{◌>>=◌, optional, single, if_present}
 use Rattle.wsa_headers.specs.values.Values.{trimmed_text}
@@ -123,7 +123,7 @@ make_in parts = do
   Some (record { address = address; other = has_other parts })
 
 -- which body element a name is of
-abbrev pub body_name : Name → Option BodyName
+abbrev pub body_name : Expanded → Option BodyName
 body_name name =
     if is_same name (rm (codes "CreateSequence")) then Some names.CreateName
     else if is_same name (rm (codes "CreateSequenceResponse")) then Some names.CreateResponseName

@@ -1,17 +1,17 @@
 -- What the readers of elements answer, and the names that they read.
 use Rattle.std.specs.Prelude.{◌≡◌, ℕ, List, Option, Some, None, Result, Ok, Err}
-use Rattle.soap_profile.specs.declared.name.Expanded.{Expanded as Name}
+use Rattle.soap_profile.specs.declared.name.Expanded.{Expanded}
 use Rattle.wsa_headers.specs.markup.Frame.{messaging_space, connection_space}
 use Rattle.wsa_headers.specs.values.Children.{name_in}
 use Rattle.rm_elements.specs.declared.error.ElementError.{ElementError}
 use Rattle.rm_elements.specs.declared.error.ElementError.TheVariants.{Memory, Malformed, Rollover}
 
 -- a name of WS-ReliableMessaging, and one of WS-MakeConnection
-abbrev pub rm : List ℕ → Name
+abbrev pub rm : List ℕ → Expanded
 rm local = name_in messaging_space local
 
 -- a name of WS-MakeConnection
-abbrev pub mc : List ℕ → Name
+abbrev pub mc : List ℕ → Expanded
 mc local = name_in connection_space local
 
 -- what was read, or that the element of this name is malformed

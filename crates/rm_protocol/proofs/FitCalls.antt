@@ -26,7 +26,7 @@ use Rattle.rm_message.specs.declared.refusal.FaultKind.{FaultKind}
 use Rattle.rm_message.specs.declared.refusal.Refusal.{Refusal}
 use Rattle.rm_message.specs.declared.message.Body.TheVariants as body
 use Rattle.soap_profile.specs.Tree.{Element}
-use Rattle.soap_profile.specs.declared.name.Expanded.{Expanded as Name}
+use Rattle.soap_profile.specs.declared.name.Expanded.{Expanded}
 use Rattle.rm_message.specs.addressing.declared.endpoint.Epr.{Epr}
 use Rattle.sequence_table.specs.batches.Fact.{Fact, Creating, Created, Granted, Closing, ClosedOut, Accepted, Acked}
 use Rattle.sequence_table.specs.batches.Fact.{Received}
@@ -372,7 +372,8 @@ shut_at-fits r detail h = by_found (named_in r detail) refl
         if-fit r (is_sending (phase r s)) (ClosedOut s)
         (λ k. follow r s (ClosedOut s) (named-found r detail s h e) (sending-follows (phase r s) s k))
 
-fault_row-fits : (r : List Fact) (t : Option Text) (subcode : Option Name) (detail : List Element) → all_fit [] r ≡ true
+fault_row-fits : (r : List Fact) (t : Option Text) (subcode : Option Expanded) (detail : List Element)
+    → all_fit [] r ≡ true
     → all_fit r (fault_row t subcode detail r) ≡ true
 fault_row-fits r t subcode detail h =
     chosen (is_fault _ subcode) (is_fault _ subcode) (is_fault _ subcode) (is_fault _ subcode) (is_fault _ subcode)

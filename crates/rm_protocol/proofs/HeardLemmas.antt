@@ -26,7 +26,7 @@ use Rattle.sequence_table.specs.Destinations.{held, front, has_end, is_ended, is
 use Rattle.sequence_table.specs.Find.{find_incoming, find_outgoing, find_grant, find_creating, is_offered}
 use Rattle.ack_ranges.specs.Changes.{covers_all, united}
 use Rattle.soap_profile.specs.Tree.{Element}
-use Rattle.soap_profile.specs.declared.name.Expanded.{Expanded as Name}
+use Rattle.soap_profile.specs.declared.name.Expanded.{Expanded}
 use Rattle.rm_protocol.specs.Detail.{named_in}
 use Rattle.rm_protocol.specs.Heard.{Heard}
 use Rattle.rm_protocol.specs.Rows.{then_row, ranges_of, last_of, ack_at, ack_row, final_at, final_row, ack_rows}
@@ -170,7 +170,7 @@ shut_at-heard : (m : Message) (x : Option ℕ) (r : List Fact) → AreHeard m (s
 shut_at-heard m None r = tt
 shut_at-heard m (Some s) r = if_heard m (is_sending (phase r s)) (ClosedOut s) tt
 
-fault_row-heard : (m : Message) (t : Option Text) (subcode : Option Name) (detail : List Element) (r : List Fact)
+fault_row-heard : (m : Message) (t : Option Text) (subcode : Option Expanded) (detail : List Element) (r : List Fact)
     → AreHeard m (fault_row t subcode detail r)
 fault_row-heard m t subcode detail r =
     chosen (is_fault _ subcode) (is_fault _ subcode) (is_fault _ subcode) (is_fault _ subcode) (is_fault _ subcode)

@@ -33,7 +33,7 @@ use Rattle.rm_protocol.specs.Sound.{SaysResponse, SaysFinal, Says, IsTold, IfWit
 use Rattle.rm_protocol.specs.Sound.{Keeps}
 use Rattle.ack_ranges.specs.Changes.{covers_all, united}
 use Rattle.soap_profile.specs.Tree.{Element}
-use Rattle.soap_profile.specs.declared.name.Expanded.{Expanded as Name}
+use Rattle.soap_profile.specs.declared.name.Expanded.{Expanded}
 use Rattle.std.specs.Str.{bytes_eq}
 use Rattle.std.proofs.lemmas.Slice.Eq.{bytes_eq-Decides}
 use Rattle.rm_protocol.specs.Addresses.{is_anonymous, is_nowhere}
@@ -332,7 +332,7 @@ shut_at-right : (r a b : List Fact) (x : Option ℕ) → Allows a b (shut_at x r
 shut_at-right r a b None = tt
 shut_at-right r a b (Some s) = if-allowed a b (is_sending (phase r s)) (ClosedOut s) tt tt
 
-fault_row-right : (r a b : List Fact) (t : Option Text) (subcode : Option Name) (detail : List Element)
+fault_row-right : (r a b : List Fact) (t : Option Text) (subcode : Option Expanded) (detail : List Element)
     → Allows a b (fault_row t subcode detail r)
 fault_row-right r a b t subcode detail =
     chosen (is_fault _ subcode) (is_fault _ subcode) (is_fault _ subcode) (is_fault _ subcode) (is_fault _ subcode)

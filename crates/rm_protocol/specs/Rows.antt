@@ -23,7 +23,7 @@ use Rattle.rm_message.specs.declared.message.Body.{Body}
 use Rattle.rm_message.specs.declared.message.Body.TheVariants as body
 use Rattle.rm_message.specs.declared.message.Message.{Message}
 use Rattle.soap_profile.specs.Tree.{Element}
-use Rattle.soap_profile.specs.declared.name.Expanded.{Expanded as Name}
+use Rattle.soap_profile.specs.declared.name.Expanded.{Expanded}
 use Rattle.rm_message.specs.addressing.declared.endpoint.Epr.{Epr}
 use Rattle.sequence_table.specs.batches.declared.record.PeerOffer.{PeerOffer}
 use Rattle.sequence_table.specs.batches.Fact.{Fact, Created, Granted, Acked, Received, ClosedOut, Closed, EndedOut}
@@ -195,12 +195,12 @@ shut_at None r = []
 shut_at (Some s) r = if is_sending (phase r s) then ClosedOut s ∷ [] else []
 
 -- the faults that a node acts on, by their subcode: section 4
-abbrev pub is_fault : Text → Option Name → Bool
+abbrev pub is_fault : Text → Option Expanded → Bool
 is_fault name None = false
 is_fault name (Some subcode) = bytes_eq subcode.space rm_space && bytes_eq subcode.local name
 
 -- the row of a fault: what it relates to, its subcode and its Detail
-abbrev pub fault_row : Option Text → Option Name → List Element → Row
+abbrev pub fault_row : Option Text → Option Expanded → List Element → Row
 fault_row relates subcode detail r =
     if is_fault (codes "CreateSequenceRefused") subcode then refused_row relates r
     else if is_fault (codes "SequenceTerminated") subcode then failed_at 14 (named_in r detail) r

@@ -8,7 +8,7 @@ use Rattle.std.specs.Str.{bytes_eq}
 use Rattle.std.proofs.lemmas.List.{map-append}
 use Rattle.std.proofs.lemmas.List.Elements.{filter-append}
 use Rattle.soap_profile.specs.Tree.{Element, element, none, name_of, children_of}
-use Rattle.soap_profile.specs.declared.name.Expanded.{Expanded as Name}
+use Rattle.soap_profile.specs.declared.name.Expanded.{Expanded}
 use Rattle.soap_profile.specs.declared.tree.Attr.{Attr}
 use Rattle.soap_frame.specs.markup.Frame.{addressing_space}
 use Rattle.rm_message.specs.nodes.Node.{Node, Nodes, nothing, words, more, declared, note_attrs, node_tree, nodes_tree}
@@ -104,14 +104,14 @@ no_attrs soap true prefix space = refl
 no_attrs soap false prefix space = refl
 
 -- the attribute that it has
-abbrev pub told_attr : Name → Attr
+abbrev pub told_attr : Expanded → Attr
 told_attr name = record { name = name_in [] (codes "qname"); value = qname name }
 
 -- its tree
-abbrev pub told_tree : List ℕ → Name → Element
+abbrev pub told_tree : List ℕ → Expanded → Element
 told_tree soap name = element (name_in soap (codes "NotUnderstood")) (declared_with name) (told_attr name ∷ []) none
 
-pub told_is : (soap : List ℕ) (name : Name) → node_tree soap (not_understood_node name) ≡ told_tree soap name
+pub told_is : (soap : List ℕ) (name : Expanded) → node_tree soap (not_understood_node name) ≡ told_tree soap name
 told_is soap name =
     let called = name_in soap (codes "NotUnderstood") in
     ap (λ (l : List Attr). element called (declared_with name) (told_attr name ∷ l) none)
@@ -123,7 +123,7 @@ last_not : (a : Bool) → (a && false) ≡ false
 last_not true = refl
 last_not false = refl
 
-pub addressing_passed : (name : Name) → bytes_eq addressing_space name.space ≡ false → (bs : List Element)
+pub addressing_passed : (name : Expanded) → bytes_eq addressing_space name.space ≡ false → (bs : List Element)
     → AllByRecursion IsAddressingBlock bs → blocks name bs ≡ []
 addressing_passed name other [] all = refl
 addressing_passed name other (e ∷ bs) all =

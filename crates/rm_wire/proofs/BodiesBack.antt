@@ -7,7 +7,7 @@ use Prim.Native.Nat.{zero, suc}
 use Rattle.rm_base.specs.declared.message.Payload.{Payload}
 use Rattle.soap_lex.specs.Facts.{differ, equal, same}
 use Rattle.soap_profile.specs.Tree.{Element, Parts, none, child, name_of, children_of}
-use Rattle.soap_profile.specs.declared.name.Expanded.{Expanded as Name}
+use Rattle.soap_profile.specs.declared.name.Expanded.{Expanded}
 use Rattle.soap_frame.specs.Framed.{sorted_scope}
 use Rattle.rm_message.specs.nodes.Node.{node_tree}
 use Rattle.rm_message.specs.values.Children.{name_in, has_name}
@@ -74,7 +74,7 @@ other_action action none_of =
 
 -- ---- a payload
 
-names_differ : (s t : Bool) (a b : Name) → bytes_eq a.local b.local ≡ s → bytes_eq a.space b.space ≡ t → a ≢ b
+names_differ : (s t : Bool) (a b : Expanded) → bytes_eq a.local b.local ≡ s → bytes_eq a.space b.space ≡ t → a ≢ b
     → (s && t) ≡ false
 names_differ false t a b e f ne = refl
 names_differ true false a b e f ne = refl
@@ -112,7 +112,7 @@ payload_back soap action None p parts scope other first =
 
 -- ---- a body element
 
-read_by : (name : Name) (e : Element) (x : Lifecycle) → has_name name e ≡ true → lifecycle_of e ≡ Ok (Some x)
+read_by : (name : Expanded) (e : Element) (x : Lifecycle) → has_name name e ≡ true → lifecycle_of e ≡ Ok (Some x)
     → lifecycle_in name (child e none) ≡ Some (body.Lifecycle x)
 unfolding lifecycle_in
 read_by name e x named read = rw (named, read) refl
@@ -121,7 +121,7 @@ read_by name e x named read = rw (named, read) refl
 abbrev tree_of : List ℕ → Lifecycle → Element
 tree_of soap x = node_tree soap (lifecycle_node x)
 
-element_back : Known → (soap : List ℕ) (payload : Payload) (name : Name) (x : Lifecycle) → IsLifecycleWritable x
+element_back : Known → (soap : List ℕ) (payload : Payload) (name : Expanded) (x : Lifecycle) → IsLifecycleWritable x
     → has_name (name_in soap (codes "Fault")) (tree_of soap x) ≡ false → element_for (action_for x) ≡ Some name
     → has_name name (tree_of soap x) ≡ true
     → body_in soap (action_for x) false payload (child (tree_of soap x) none) ≡ Some (body.Lifecycle x)

@@ -7,7 +7,7 @@ use Rattle.std.proofs.lemmas.List.{append-nil}
 use Rattle.rm_base.specs.declared.message.Binding.{Binding}
 use Rattle.soap_lex.specs.Facts.{equal, not_nil}
 use Rattle.soap_profile.specs.Tree.{Element, element, Parts, child, decls_of, children_of, without_declarations}
-use Rattle.soap_profile.specs.declared.name.Expanded.{Expanded as Name}
+use Rattle.soap_profile.specs.declared.name.Expanded.{Expanded}
 use Rattle.soap_profile.specs.declared.tree.Attr.{Attr}
 use Rattle.soap_frame.specs.Framed.{sorted_scope}
 use Rattle.rm_message.specs.nodes.Node.{Nodes, nothing, more, leaf, full, node_tree, nodes_tree}
@@ -32,12 +32,12 @@ use Rattle.rm_wire.proofs.Names.{declared_with, name_again, name_trimmed, soap_n
 
 -- ---- children by name
 
-here : (soap local : List ℕ) (name : Name) (decls : List Binding) (attrs : List Attr) (e : Element) (parts : Parts)
+here : (soap local : List ℕ) (name : Expanded) (decls : List Binding) (attrs : List Attr) (e : Element) (parts : Parts)
     → has_name (name_in soap local) e ≡ true
     → first_named soap local (element name decls attrs (child e parts)) ≡ Some e
 here soap local name decls attrs e parts is = rw is refl
 
-later : (soap local : List ℕ) (name : Name) (decls : List Binding) (attrs : List Attr) (e : Element) (parts : Parts)
+later : (soap local : List ℕ) (name : Expanded) (decls : List Binding) (attrs : List Attr) (e : Element) (parts : Parts)
     → has_name (name_in soap local) e ≡ false
     → first_named soap local (element name decls attrs (child e parts))
     ≡ first_named soap local (element name decls attrs parts)
@@ -46,7 +46,7 @@ later soap local name decls attrs e parts is = rw is refl
 -- ---- a Value
 
 value_from : (soap : List ℕ) (scope : List Binding) (holder : Element) (outer : List Element) (value : Element)
-    (bytes : List ℕ) (name : Name) → first_named soap (codes "Value") holder ≡ Some value
+    (bytes : List ℕ) (name : Expanded) → first_named soap (codes "Value") holder ≡ Some value
     → trimmed_text value ≡ Some bytes → qname_in (within (value ∷ holder ∷ outer) scope) bytes ≡ Some name
     → value_name soap scope holder outer ≡ Some name
 unfolding value_name
@@ -59,10 +59,10 @@ abbrev DeclareNone : List Element → Type 0
 DeclareNone outer = flat_map decls_of outer ≡ []
 
 -- the tree of a Subcode
-abbrev subcode_tree : List ℕ → Name → Nodes → Element
+abbrev subcode_tree : List ℕ → Expanded → Nodes → Element
 subcode_tree soap name inner = node_tree soap (full (tag_of tags.Subcode) [] (more (value_node name) inner))
 
-value_text : (soap : List ℕ) (name : Name) → IsSubcodeWritable name
+value_text : (soap : List ℕ) (name : Expanded) → IsSubcodeWritable name
     → trimmed_text (node_tree soap (value_node name)) ≡ Some (qname name)
 value_text soap name is =
     ap (λ l. Some (trimmed l)) (append-nil (qname name)) ∙ ap Some (name_trimmed name is.writable)
@@ -71,7 +71,7 @@ within_none : (ds : List Binding) (outer : List Element) (scope : List Binding) 
     → (ds ++ flat_map decls_of outer) ++ scope ≡ ds ++ scope
 within_none ds outer scope none = ap (λ l. (ds ++ l) ++ scope) none ∙ ap (λ l. l ++ scope) (append-nil ds)
 
-subcode_value : (soap : List ℕ) (name : Name) (inner : Nodes) (outer : List Element) → DeclareNone outer
+subcode_value : (soap : List ℕ) (name : Expanded) (inner : Nodes) (outer : List Element) → DeclareNone outer
     → IsSubcodeWritable name → value_name soap (sorted_scope soap) (subcode_tree soap name inner) outer ≡ Some name
 subcode_value soap name inner outer none is =
     let same = equal soap soap refl in
@@ -84,7 +84,7 @@ subcode_value soap name inner outer none is =
     (within_none (declared_with name) outer (sorted_scope soap) none)
     ∙ name_again soap name is.writable)
 
-subcode_back : (soap : List ℕ) (name : Name) (inner : Nodes) (outer : List Element) → DeclareNone outer
+subcode_back : (soap : List ℕ) (name : Expanded) (inner : Nodes) (outer : List Element) → DeclareNone outer
     → IsSubcodeWritable name → subcode_name soap (sorted_scope soap) (subcode_tree soap name inner) outer ≡ Some name
 unfolding subcode_name
 subcode_back soap name inner outer none is =
@@ -92,18 +92,18 @@ subcode_back soap name inner outer none is =
     let some = not_nil name.space is.spaced in
     rw (named, some) refl
 
-no_inner : (soap : List ℕ) (name : Name) (outer : List Element)
+no_inner : (soap : List ℕ) (name : Expanded) (outer : List Element)
     → inner_name soap (sorted_scope soap) (subcode_tree soap name nothing) outer ≡ None
 unfolding inner_name
 no_inner soap name outer = refl
 
 inner_from : (soap : List ℕ) (scope : List Binding) (subcode : Element) (outer : List Element) (inner : Element)
-    (name : Option Name) → first_named soap (codes "Subcode") subcode ≡ Some inner
+    (name : Option Expanded) → first_named soap (codes "Subcode") subcode ≡ Some inner
     → subcode_name soap scope inner (subcode ∷ outer) ≡ name → inner_name soap scope subcode outer ≡ name
 unfolding inner_name
 inner_from soap scope subcode outer inner name a b = rw a b
 
-inner_back : (soap : List ℕ) (name : Name) (inner : Option Name) (outer : List Element) → DeclareNone outer
+inner_back : (soap : List ℕ) (name : Expanded) (inner : Option Expanded) (outer : List Element) → DeclareNone outer
     → IfSome inner IsSubcodeWritable
     → inner_name soap (sorted_scope soap) (subcode_tree soap name (subcode_nodes inner nothing)) outer ≡ inner
 inner_back soap name None outer none is = no_inner soap name outer
@@ -151,7 +151,8 @@ code_named_by : (soap local : List ℕ) (code : FaultCode) → code_called local
 code_named_by soap local code called = let same = equal soap soap refl in rw same called
 
 -- what is below it
-below_back : (soap : List ℕ) (code : FaultCode) (subcode inner : Option Name) (holder : Element) (outer : List Element)
+below_back : (soap : List ℕ) (code : FaultCode) (subcode inner : Option Expanded) (holder : Element)
+    (outer : List Element)
     → DeclareNone outer → IfSome subcode IsSubcodeWritable → IfSome inner IsSubcodeWritable
     → (IsSome inner → IsSome subcode)
     → first_named soap (codes "Subcode") (element (name_in soap (codes "Code")) [] []
@@ -172,7 +173,7 @@ below_back soap code (Some name) inner holder outer none is also within at =
     ∙ ap (λ o. codes_with code o (inner_name soap (sorted_scope soap) (subcode_tree soap name nodes) outer)) first
     ∙ ap (codes_with code (Some name)) second
 
-codes_from : (soap : List ℕ) (scope : List Binding) (fault holder : Element) (name : Name) (code : FaultCode)
+codes_from : (soap : List ℕ) (scope : List Binding) (fault holder : Element) (name : Expanded) (code : FaultCode)
     → first_named soap (codes "Code") fault ≡ Some holder → value_name soap scope holder (fault ∷ []) ≡ Some name
     → code_named soap name ≡ Some code → codes_in soap scope fault
     ≡ Some (codes_below soap scope code (first_named soap (codes "Subcode") holder) (holder ∷ fault ∷ []))
@@ -263,7 +264,7 @@ detail_back known soap f is =
 
 -- ---- the fault
 
-whole : (code : FaultCode) (subcode inner : Option Name) (reason : List ℕ) (detail : List Element)
+whole : (code : FaultCode) (subcode inner : Option Expanded) (reason : List ℕ) (detail : List Element)
     → (IsSome inner → IsSome subcode) → fault_with (codes_with code subcode inner) reason detail
     ≡ record { code = code; subcode = subcode; inner = inner; reason = reason; detail = detail }
 whole code None None reason detail within = refl

@@ -13,7 +13,7 @@ use Rattle.soap_profile.specs.Namespaces.{xmlns_space}
 use Rattle.soap_profile.specs.Payload.{depth}
 use Rattle.soap_profile.specs.Soap.{soap_space}
 use Rattle.soap_profile.specs.Tree.{Element, Parts}
-use Rattle.soap_profile.specs.declared.name.Expanded.{Expanded as Name}
+use Rattle.soap_profile.specs.declared.name.Expanded.{Expanded}
 use Rattle.soap_frame.specs.markup.Frame.{frame_scope}
 use Rattle.soap_frame.specs.markup.Plain.{is_plain_name, is_plain_text, name_from, chars_from}
 use Rattle.soap_frame.specs.markup.Writable.{IsNameWritable, IsAttrWritable, IsTagWritable, IsWritable}
@@ -339,7 +339,7 @@ acks_writable kinds.MissingSelection block ack = tt
 acks_writable kinds.UnsupportedSelection block ack = tt
 acks_writable kinds.StoreFull block ack = tt
 
-names_writable : (kind : FaultKind) (names : List Name) → AllByRecursion IsNameWritable names
+names_writable : (kind : FaultKind) (names : List Expanded) → AllByRecursion IsNameWritable names
     → AllByRecursion IsNameWritable (names_of kind names)
 names_writable kinds.TooLong names all = tt
 names_writable kinds.NotUtf8 names all = tt

@@ -7,7 +7,7 @@ use Rattle.rm_base.specs.Text.{IsText}
 use Rattle.rm_base.specs.declared.message.Binding.{Binding}
 use Rattle.soap_lex.specs.Facts.{differ, equal}
 use Rattle.soap_profile.specs.Tree.{Element}
-use Rattle.soap_profile.specs.declared.name.Expanded.{Expanded as Name}
+use Rattle.soap_profile.specs.declared.name.Expanded.{Expanded}
 use Rattle.soap_frame.specs.markup.Frame.{addressing_space}
 use Rattle.soap_frame.specs.markup.Writable.{IsNameWritable}
 use Rattle.soap_frame.specs.Framed.{sorted_scope}
@@ -104,7 +104,7 @@ marks soap m bs own =
     (passed p soap not_understood_node (λ x. refl) m.not_understood)
     ∙ kept_if p soap pending_node (λ x. refl) m.pending
 
-told_block : (soap : List ℕ) (name : Name)
+told_block : (soap : List ℕ) (name : Expanded)
     → is_block (name_in soap (codes "NotUnderstood")) (node_tree soap (not_understood_node name)) ≡ true
 told_block soap name =
     ap (is_block (name_in soap (codes "NotUnderstood"))) (told_is soap name)
@@ -127,7 +127,7 @@ names soap m bs other own =
 
 -- none of them is one that had to be understood and is not
 
-told_understood : (soap : List ℕ) (name : Name)
+told_understood : (soap : List ℕ) (name : Expanded)
     → is_not_understood soap (node_tree soap (not_understood_node name)) ≡ false
 told_understood soap name =
     ap (is_not_understood soap) (told_is soap name) ∙ (let same = equal soap soap refl in rw same refl)
@@ -161,7 +161,7 @@ all_if : {A : Type 0} (soap : List ℕ) (f : A → Node) → ((x : A) → IsFore
 all_if soap f is None = tt
 all_if soap f is (Some x) = (is x, tt)
 
-told_foreign : (soap : List ℕ) → soap ≢ addressing_space → (name : Name)
+told_foreign : (soap : List ℕ) → soap ≢ addressing_space → (name : Expanded)
     → IsForeign (node_tree soap (not_understood_node name))
 told_foreign soap other name =
     let is : IsForeign (told_tree soap name) = record { unmarked = refl; space = differ soap addressing_space other } in
@@ -243,18 +243,18 @@ is_numbered_back soap m bs own =
 
 -- ---- the names that were not understood
 
-told_back : (soap : List ℕ) (name : Name) → IsNameWritable name
+told_back : (soap : List ℕ) (name : Expanded) → IsNameWritable name
     → told_name (sorted_scope soap) (node_tree soap (not_understood_node name)) ≡ Some name
 told_back soap name is =
     ap (told_name (sorted_scope soap)) (told_is soap name)
     ∙ ap (λ (l : List Binding). qname_in (l ++ sorted_scope soap) (qname name)) (append-nil (declared_with name))
     ∙ name_again soap name is
 
-told_each : (soap : List ℕ) (xs : List Name) → AllByRecursion IsNameWritable xs
+told_each : (soap : List ℕ) (xs : List Expanded) → AllByRecursion IsNameWritable xs
     → flat_map (λ e. listed (told_name (sorted_scope soap) e)) (trees soap not_understood_node xs) ≡ xs
 told_each soap [] all = refl
 told_each soap (x ∷ xs) all =
-    ap (λ (o : Option Name). listed o ++ flat_map (λ e. listed (told_name (sorted_scope soap) e))
+    ap (λ (o : Option Expanded). listed o ++ flat_map (λ e. listed (told_name (sorted_scope soap) e))
     (trees soap not_understood_node xs)) (told_back soap x all.0)
     ∙ ap (λ l. x ∷ l) (told_each soap xs all.1)
 

@@ -14,7 +14,7 @@ use Rattle.soap_lex.specs.Facts.{all_passes, all_weaker, same}
 use Rattle.soap_lex.specs.NameBytes.{IsNameByte, name_bytes}
 use Rattle.soap_lex.specs.Scalars.{all_scalar, name_char-scalar, name_each}
 use Rattle.soap_profile.specs.Namespaces.{split, xml_space, bound}
-use Rattle.soap_profile.specs.declared.name.Expanded.{Expanded as Name}
+use Rattle.soap_profile.specs.declared.name.Expanded.{Expanded}
 use Rattle.soap_frame.specs.Framed.{sorted_scope}
 use Rattle.rm_message.specs.nodes.Node.{note_bindings}
 use Rattle.rm_message.specs.values.QNames.{qname_in}
@@ -84,7 +84,7 @@ nil_from [] e = refl
 nil_from (b ∷ space) e = cc
 
 -- the bindings that are declared with a name
-abbrev pub declared_with : Name → List Binding
+abbrev pub declared_with : Expanded → List Binding
 declared_with name = flat_map note_bindings (qname_notes name)
 
 by_kind : (soap local space : List ℕ) (a b : Bool) → IsName local → is_nil space ≡ a → bytes_eq space xml_space ≡ b
@@ -96,7 +96,7 @@ by_kind soap local space false true is e f =
     rw (same space xml_space f) (xml_back (sorted_scope soap) local is)
 by_kind soap local space false false is e f = rw (e, f) (own_back (sorted_scope soap) local space is)
 
-pub name_again : (soap : List ℕ) (name : Name) → IsNameWritable name
+pub name_again : (soap : List ℕ) (name : Expanded) → IsNameWritable name
     → qname_in (declared_with name ++ sorted_scope soap) (qname name) ≡ Some name
 name_again soap name is =
     by_kind soap name.local name.space (is_nil name.space) (bytes_eq name.space xml_space) is.local refl refl
@@ -139,7 +139,7 @@ start_kept (b ∷ bytes) all = rw (all.0) refl
 plain_kept : (bytes : List ℕ) → IsPlain bytes → trimmed bytes ≡ bytes
 plain_kept bytes all = ap trimmed_end (start_kept bytes all) ∙ end_kept bytes all
 
-pub name_trimmed : (name : Name) → IsNameWritable name → trimmed (qname name) ≡ qname name
+pub name_trimmed : (name : Expanded) → IsNameWritable name → trimmed (qname name) ≡ qname name
 name_trimmed name is =
     plain_kept (qname name)
     (plain_by name.local name.space (is_nil name.space) (bytes_eq name.space xml_space) is.local refl refl)

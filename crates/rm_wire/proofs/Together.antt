@@ -6,7 +6,7 @@ use Rattle.std.specs.Str.{bytes_eq}
 use Rattle.std.proofs.lemmas.Bool.{true≢false}
 use Rattle.soap_lex.specs.Facts.{equal}
 use Rattle.soap_profile.specs.Tree.{Element, Parts, none, name_of, children_of}
-use Rattle.soap_profile.specs.declared.name.Expanded.{Expanded as Name}
+use Rattle.soap_profile.specs.declared.name.Expanded.{Expanded}
 use Rattle.soap_frame.specs.envelopes.Envelope.{Envelope, IsEnvelope}
 use Rattle.soap_profile.specs.Soap.{soap_space}
 use Rattle.soap_frame.specs.markup.Frame.{addressing_space}
@@ -216,7 +216,7 @@ lists_by hs acks asks a b = rw (a, b) refl
 
 -- a message with a number in a sequence or without
 content_by : Known → (soap : List ℕ) (a : Addressing) (x : Option SeqHeader) (e : Envelope) (lists : Lists)
-    (pending : Option Bool) (told : List Name) (b : Body) → IfSome x IsSequenceWritable
+    (pending : Option Bool) (told : List Expanded) (b : Body) → IfSome x IsSequenceWritable
     → lists_in e.headers ≡ Some lists → pending_in e.headers ≡ Some pending
     → blocks sequence_name e.headers ≡ tree_if soap sequence_node x
     → told_names soap e.header_scope e.headers ≡ told

@@ -4,7 +4,7 @@ use Rattle.std.proofs.Common.{ap, subst, ◌∙◌, arith, append_assoc, append-
 use Rattle.std.proofs.Math.Seq.{drop-append_seam, take-append_seam}
 use Rattle.soap_lex.specs.Text.{run}
 use Rattle.soap_lex.specs.Characters.{Holds}
-use Rattle.soap_document.specs.Tree.{Attribute, Element, element, Parts, none, text, child, onto}
+use Rattle.soap_document.specs.Tree.{Attribute, Element, element, Parts, none, child, onto}
 use Rattle.soap_document.specs.Grammar.{IsElement, full, empty, IsContent, last, more, start_tag, end_tag, empty_tag}
 use Rattle.soap_document.specs.Grammar.{IsDocument, document}
 use Rattle.soap_document.specs.Within.{IsWithin, root, deeper, IsAmong, here, behind_child, behind_text, between}

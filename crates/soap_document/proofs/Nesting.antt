@@ -1,6 +1,5 @@
 -- What the stack of open elements stands for where the innermost element ends.
-use Rattle.std.proofs.Common.{◌≡◌, List, [], ◌∷◌, ◌++◌, reverse, map, length, ℕ, true, false, not, refl, sym, ap, ◌∙◌}
-use Rattle.std.proofs.Common.{arith}
+use Rattle.std.proofs.Common.{◌≡◌, List, [], ◌∷◌, ◌++◌, reverse, map, true, false, not, refl, sym, ap, ◌∙◌}
 use Rattle.std.proofs.lemmas.List.{reverse-append}
 use Rattle.soap_document.specs.Tree.{Element, Parts, none, text, child}
 use Rattle.soap_document.specs.Machine.{Frame, with_parts, join, is_none}

@@ -1,9 +1,9 @@
 -- What is refused stays refused.
-use Rattle.std.proofs.Common.{◌≡◌, ℕ, List, [], ◌∷◌, ◌++◌, Bool, true, false, cond, ◌&&◌, Option, Some, None, refl}
-use Rattle.std.proofs.Common.{sym, ap, subst, ◌∙◌}
+use Rattle.std.proofs.Common.{◌≡◌, ℕ, List, [], ◌∷◌, true, None, refl}
+use Rattle.std.proofs.Common.{ap}
 use Rattle.soap_document.specs.Machine.{Mode, beginning, declaring, outside, marking, commenting, chars, less}
 use Rattle.soap_document.specs.Machine.{tagging, naming, named, valuing, value_inner, slashed, ending, refused, State}
-use Rattle.soap_document.specs.Machine.{stops, after_token, step, run, is_refused, is_outside_mode, root_of, counted}
+use Rattle.soap_document.specs.Machine.{step, run, is_refused, root_of}
 
 refused_is : (m : Mode) → is_refused m ≡ true → m ≡ refused
 refused_is refused e = refl

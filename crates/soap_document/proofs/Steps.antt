@@ -1,17 +1,17 @@
 -- What the code's steps do to the state that it stands for.
-use Rattle.std.proofs.Common.{◌≡◌, ◌≢◌, ℕ, suc, ◌+◌, ◌-◌, List, [], ◌∷◌, true, false, ◌||◌, ◌&&◌, nat_eq, length}
-use Rattle.std.proofs.Common.{refl, sym, ap, subst, ◌∙◌, arith, append-nil}
+use Rattle.std.proofs.Common.{◌≡◌, ◌≢◌, ℕ, ◌+◌, ◌-◌, List, [], ◌∷◌, true, false, ◌&&◌, nat_eq, length}
+use Rattle.std.proofs.Common.{refl, sym, ap, ◌∙◌, arith, append-nil}
 use Rattle.std.specs.Str.{is_utf8, chars as characters}
 use Rattle.std.proofs.lemmas.Bool.{eq-eqb, ne_eqb, true≢false}
 use Rattle.xml_chars.specs.Classes.{is_space}
 use Rattle.soap_lex.specs.Tests.{is_chars, is_char_data}
-use Rattle.soap_lex.specs.TextMachine.{opening, TextState, begun as begun_text, halts, is_less}
+use Rattle.soap_lex.specs.TextMachine.{begun as begun_text, halts, is_less}
 use Rattle.soap_lex.specs.ValueMachine.{begun}
 use Rattle.soap_lex.specs.Readers.{quote_byte}
 use Rattle.soap_lex.specs.declared.value.Quote.{Quote}
 use Rattle.soap_lex.specs.declared.value.Quote.TheVariants.{Double, Single}
-use Rattle.soap_document.specs.Tree.{Parts, none, text, child, onto}
-use Rattle.soap_document.specs.Machine.{chars, less, value_inner, Frame, State, join, with_parts, step, counted}
+use Rattle.soap_document.specs.Tree.{Parts, none, text, child}
+use Rattle.soap_document.specs.Machine.{chars, less, value_inner, Frame, State, join, step, counted}
 use Rattle.soap_document.specs.Machine.{in_less, at_chars, settle, has_room, at_valuing, at_tagging, at_less}
 use Rattle.soap_document.specs.Tokens.{is_nil, is_qname}
 

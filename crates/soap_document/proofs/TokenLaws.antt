@@ -1,8 +1,8 @@
 -- The tests of tokens, against the grammar.
-use Rattle.std.proofs.Common.{◌≡◌, ◌≢◌, ℕ, ◌⊎◌, inl, inr, List, [], ◌∷◌, ◌++◌, true, false, nat_eq, refl, sym, ◌∙◌}
+use Rattle.std.proofs.Common.{◌≡◌, ℕ, List, [], ◌∷◌, ◌++◌, true, false, nat_eq, refl}
 use Rattle.std.proofs.Common.{arith}
 use Rattle.std.specs.List.{AllByRecursion}
-use Rattle.std.proofs.lemmas.Bool.{eq-eqb, or_from, true≢false, false_from_ne_true}
+use Rattle.std.proofs.lemmas.Bool.{eq-eqb, or_from, false_from_ne_true}
 use Rattle.std.proofs.lemmas.Bool.Decides.{nat_tests}
 use Rattle.xml_chars.specs.Classes.{is_space}
 use Rattle.soap_document.specs.Grammar.{IsWhite, IsQName, unprefixed, prefixed}

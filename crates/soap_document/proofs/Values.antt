@@ -1,5 +1,5 @@
 -- How the reader of documents reads a value: as the machine of values does.
-use Rattle.std.proofs.Common.{◌≡◌, ℕ, ◌+◌, List, [], ◌∷◌, ◌++◌, Bool, true, false, ◌||◌, cond, Some, length, refl}
+use Rattle.std.proofs.Common.{◌≡◌, ℕ, ◌+◌, List, [], ◌∷◌, ◌++◌, true, false, ◌||◌, cond, Some, length, refl}
 use Rattle.std.proofs.Common.{sym, ap, subst, ◌∙◌, arith, length-append}
 use Rattle.std.proofs.lemmas.Bool.{true≢false, or_parts, cond_both}
 use Rattle.soap_lex.specs.ValueMachine.{ValueMode, plain, referring, closed, refused, ValueState}

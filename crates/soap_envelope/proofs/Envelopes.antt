@@ -7,7 +7,7 @@ use Rattle.std.specs.List.{slice_range}
 use Rattle.soap_document.specs.Tree as written
 use Rattle.soap_profile.specs.Document.{IsPlaced, place_of}
 use Rattle.soap_profile.specs.Tree.{Binding, Element, element, Parts, name_of, decls_of, parts_of, children_of}
-use Rattle.soap_profile.specs.declared.name.Expanded.{Expanded as Name}
+use Rattle.soap_profile.specs.declared.name.Expanded.{Expanded}
 use Rattle.soap_profile.specs.declared.tree.Attr.{Attr}
 use Rattle.soap_profile.specs.View.{element_view}
 use Rattle.soap_profile.specs.declared.place.Place.{Place}
@@ -41,8 +41,8 @@ some_blocks outer h e items parts decls scope is children p d s =
 abbrev attrs_of : Element → List Attr
 attrs_of (element name decls attrs parts) = attrs
 
-element_is : (t : Element) (n : Name) → name_of t ≡ n → t ≡ element n (decls_of t) (attrs_of t) (parts_of t)
-element_is (element name decls attrs parts) n e = ap (λ (m : Name). element m decls attrs parts) e
+element_is : (t : Element) (n : Expanded) → name_of t ≡ n → t ≡ element n (decls_of t) (attrs_of t) (parts_of t)
+element_is (element name decls attrs parts) n e = ap (λ (m : Expanded). element m decls attrs parts) e
 
 bytes_at : (bytes : List ℕ) (w : written.Element) (place : Place) → place_of w ≡ place
     → slice_range bytes place.start place.end ≡ bytes_within bytes w
@@ -77,7 +77,7 @@ is_envelope soap bytes tree last place header body decls envelope p at named o d
       content = c;
     }
 
-pub name_is : (n : Name) (space local : List ℕ) → n.space ≡ space → n.local ≡ local
+pub name_is : (n : Expanded) (space local : List ℕ) → n.space ≡ space → n.local ≡ local
     → n ≡ record { space = space; local = local }
 name_is n space local e f = ap (λ (s : List ℕ). record { space = s; local = n.local }) e
     ∙ ap (λ (l : List ℕ). record { space = space; local = l }) f

@@ -3,7 +3,7 @@ use Rattle.std.proofs.Common.{◌≡◌, ℕ, ◌⊎◌, inl, inr, List, Option,
 use Rattle.std.proofs.Common.{refl, sym, ap, subst, ◌∙◌, arith}
 use Rattle.soap_document.specs.Grammar.{IsWhite}
 use Rattle.soap_profile.specs.Tree.{Element, Parts, none, text, child, name_of}
-use Rattle.soap_profile.specs.declared.name.Expanded.{Expanded as Name}
+use Rattle.soap_profile.specs.declared.name.Expanded.{Expanded}
 use Rattle.soap_profile.specs.View.{element_view}
 use Rattle.soap_profile.specs.declared.tree.Element.{Element as CodeElement}
 use Rattle.soap_envelope.specs.Envelope.{name_in, IsSpaced, bare, spaced, IsBodyAlone, IsOutline, headless, headed}
@@ -97,9 +97,9 @@ pub outline_cases : (soap : List ℕ) (p : Parts) (h : Option Element) (b : Elem
 outline_cases soap p h b (headless _ _ alone) = inl (refl, alone)
 outline_cases soap p h b (headed _ rest x _ s n alone) = inr (x, rest, refl, s, n, alone)
 
-pub not_both : (soap : List ℕ) (n : Name) → n ≡ name_in soap (codes "Header") → n ≡ name_in soap (codes "Body") → ⊥
+pub not_both : (soap : List ℕ) (n : Expanded) → n ≡ name_in soap (codes "Header") → n ≡ name_in soap (codes "Body") → ⊥
 not_both soap n h b =
-    let same : codes "Header" ≡ codes "Body" = ap (λ (m : Name). m.local) (sym h ∙ b) in
+    let same : codes "Header" ≡ codes "Body" = ap (λ (m : Expanded). m.local) (sym h ∙ b) in
     let long : length (codes "Header") ≡ 4 = ap length same in omega arith
 
 pub no_outline_next : (soap : List ℕ) (p : Parts) (n : Next) (q : Parts) → Follows p n q → ((e : CodeElement)

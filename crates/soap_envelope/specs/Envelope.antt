@@ -5,12 +5,12 @@ use Rattle.soap_document.specs.Tree as written
 use Rattle.soap_profile.specs.Namespaces.{resolve, resolve_parts}
 use Rattle.soap_profile.specs.Tree.{Binding, Element, element, Parts, none, text, child, name_of, decls_of, parts_of}
 use Rattle.soap_profile.specs.Tree.{children_of}
-use Rattle.soap_profile.specs.declared.name.Expanded.{Expanded as Name}
+use Rattle.soap_profile.specs.declared.name.Expanded.{Expanded}
 use Rattle.soap_profile.specs.declared.tree.Attr.{Attr}
 use Rattle.soap_envelope.specs.Scope.{IsScope}
 
 -- a name of SOAP, where SOAP has this namespace
-abbrev pub name_in : List ℕ → List ℕ → Name
+abbrev pub name_in : List ℕ → List ℕ → Expanded
 name_in soap local = record { space = soap; local = local }
 
 -- parts, and the same with white space before them

@@ -11,7 +11,7 @@ use Rattle.std.proofs.Math.Seq.{take-append_seam, drop-append_seam}
 use Rattle.rm_base.specs.declared.message.Binding.{Binding}
 use Rattle.soap_lex.specs.Characters.{IsName}
 use Rattle.soap_lex.specs.Text.{IsText, run}
-use Rattle.soap_document.specs.declared.attribute.WrittenAttribute.{WrittenAttribute as Attribute}
+use Rattle.soap_document.specs.declared.attribute.WrittenAttribute.{WrittenAttribute}
 use Rattle.soap_document.specs.Grammar.{IsAttributes, IsElement, IsContent, IsDocument, document, unmarked, without}
 use Rattle.soap_document.specs.Grammar.{white, prefixed, end, full, last, more, start_tag, end_tag}
 use Rattle.soap_document.specs.Tokens.{is_nil}
@@ -30,7 +30,7 @@ use Rattle.soap_frame.specs.Framed.{framed_text, envelope_start, body_start, env
 
 -- what is known of attributes and content
 pub record Known : Type 0 where
-  pub attributes : (attributes : List Attribute) → AllByRecursion IsAttributeWritten attributes
+  pub attributes : (attributes : List WrittenAttribute) → AllByRecursion IsAttributeWritten attributes
       → IsAttributes (written_attributes attributes) attributes
   pub nothing : (depth at : ℕ) (scope : List Binding) → ContentReadsAs depth at scope [] none
   pub more : (depth at : ℕ) (scope : List Binding) (inner rest : List ℕ) (first : Element) (parts : Parts)
@@ -81,15 +81,15 @@ frame_IsScope soap may = record {
 
 -- ---- the start tag of the envelope
 
-abbrev declares : List ℕ → List ℕ → Attribute
+abbrev declares : List ℕ → List ℕ → WrittenAttribute
 declares prefix space = record { name = codes "xmlns" ++ (codes ":" ++ prefix); value = space }
 
-abbrev others : List Attribute
+abbrev others : List WrittenAttribute
 others =
     declares (codes "a") addressing_space ∷ declares (codes "r") messaging_space
     ∷ declares (codes "c") connection_space ∷ []
 
-abbrev frame_attributes : List ℕ → List Attribute
+abbrev frame_attributes : List ℕ → List WrittenAttribute
 frame_attributes soap = declares (codes "s") soap ∷ others
 
 frame_tag : Known → (soap : List ℕ) → MayBeSoap soap

@@ -3,7 +3,7 @@ use Rattle.std.proofs.Common.{◌≡◌, ℕ, List, [], ◌∷◌, ◌++◌, Boo
 use Rattle.std.proofs.Common.{option_map, codes, refl, sym, ap, ap₂, ◌∙◌, append_assoc}
 use Rattle.std.specs.Str.{bytes_eq}
 use Rattle.rm_base.specs.declared.message.Binding.{Binding}
-use Rattle.soap_document.specs.declared.attribute.WrittenAttribute.{WrittenAttribute as Attribute}
+use Rattle.soap_document.specs.declared.attribute.WrittenAttribute.{WrittenAttribute}
 use Rattle.soap_document.specs.Tokens.{is_nil}
 use Rattle.soap_document.specs.Tree as written
 use Rattle.soap_profile.specs.Namespaces.{bound, or_none, prefix_space, element_space, attribute_space, named}
@@ -12,7 +12,7 @@ use Rattle.soap_profile.specs.Namespaces.{declarations, with_attribute, unless_d
 use Rattle.soap_profile.specs.Namespaces.{Resolved, resolved_with, tag_within, declaring, tag_of, joined, resolve}
 use Rattle.soap_profile.specs.Namespaces.{resolve_parts}
 use Rattle.soap_profile.specs.Tree.{Element, element, Parts, text}
-use Rattle.soap_profile.specs.declared.name.Expanded.{Expanded as Name}
+use Rattle.soap_profile.specs.declared.name.Expanded.{Expanded}
 use Rattle.soap_profile.specs.declared.tree.Attr.{Attr}
 
 -- what is found stays found
@@ -63,38 +63,40 @@ attribute_space_more p ds frame s e =
     if_more (is_nil p) (Some []) (Some []) (prefix_space p ds) (prefix_space p (ds ++ frame)) s refl
     (prefix_more p ds frame s) e
 
-named_more : (local : List ℕ) (o q : Option (List ℕ)) (n : Name) → ((s : List ℕ) → o ≡ Some s → q ≡ Some s)
+named_more : (local : List ℕ) (o q : Option (List ℕ)) (n : Expanded) → ((s : List ℕ) → o ≡ Some s → q ≡ Some s)
     → named local o ≡ Some n → named local q ≡ Some n
 named_more local None q n f e = cc
 named_more local (Some s) q n f e = ap (named local) (f s refl) ∙ e
 
-element_name_more : (w : List ℕ) (ds frame : List Binding) (n : Name) → bound [] frame ≡ None
+element_name_more : (w : List ℕ) (ds frame : List Binding) (n : Expanded) → bound [] frame ≡ None
     → element_name ds w ≡ Some n → element_name (ds ++ frame) w ≡ Some n
 element_name_more w ds frame n free e =
     named_more (split w).1 (element_space (split w).0 ds) (element_space (split w).0 (ds ++ frame)) n
     (λ s. element_space_more (split w).0 ds frame s free) e
 
-attribute_name_more : (w : List ℕ) (ds frame : List Binding) (n : Name) → attribute_name ds w ≡ Some n
+attribute_name_more : (w : List ℕ) (ds frame : List Binding) (n : Expanded) → attribute_name ds w ≡ Some n
     → attribute_name (ds ++ frame) w ≡ Some n
 attribute_name_more w ds frame n e =
     named_more (split w).1 (attribute_space (split w).0 ds) (attribute_space (split w).0 (ds ++ frame)) n
     (λ s. attribute_space_more (split w).0 ds frame s) e
 
-with_more : (o q : Option Name) (value : List ℕ) (l m : Option (List Attr)) (attrs : List Attr)
-    → ((n : Name) → o ≡ Some n → q ≡ Some n) → ((as_ : List Attr) → l ≡ Some as_ → m ≡ Some as_)
+with_more : (o q : Option Expanded) (value : List ℕ) (l m : Option (List Attr)) (attrs : List Attr)
+    → ((n : Expanded) → o ≡ Some n → q ≡ Some n) → ((as_ : List Attr) → l ≡ Some as_ → m ≡ Some as_)
     → with_attribute o value l ≡ Some attrs → with_attribute q value m ≡ Some attrs
 with_more None q value l m attrs f g e = cc
 with_more (Some n) q value None m attrs f g e = cc
 with_more (Some n) q value (Some l) m attrs f g e =
-    ap₂ (λ (o : Option Name) (k : Option (List Attr)). with_attribute o value k) (f n refl) (g l refl) ∙ e
+    ap₂ (λ (o : Option Expanded) (k : Option (List Attr)). with_attribute o value k) (f n refl) (g l refl) ∙ e
 
-unless_more : (d : Option (List ℕ)) (o q : Option Name) (value : List ℕ) (l m : Option (List Attr)) (attrs : List Attr)
-    → ((n : Name) → o ≡ Some n → q ≡ Some n) → ((as_ : List Attr) → l ≡ Some as_ → m ≡ Some as_)
+unless_more : (d : Option (List ℕ)) (o q : Option Expanded) (value : List ℕ) (l m : Option (List Attr))
+    (attrs : List Attr)
+    → ((n : Expanded) → o ≡ Some n → q ≡ Some n) → ((as_ : List Attr) → l ≡ Some as_ → m ≡ Some as_)
     → unless_declared d o value l ≡ Some attrs → unless_declared d q value m ≡ Some attrs
 unless_more None o q value l m attrs f g e = with_more o q value l m attrs f g e
 unless_more (Some p) o q value l m attrs f g e = g attrs e
 
-expanded_more : (raws : List Attribute) (ds frame : List Binding) (attrs : List Attr) → expanded ds raws ≡ Some attrs
+expanded_more : (raws : List WrittenAttribute) (ds frame : List Binding) (attrs : List Attr)
+    → expanded ds raws ≡ Some attrs
     → expanded (ds ++ frame) raws ≡ Some attrs
 expanded_more [] ds frame attrs e = e
 expanded_more (a ∷ raws) ds frame attrs e =
@@ -102,15 +104,15 @@ expanded_more (a ∷ raws) ds frame attrs e =
     (expanded ds raws) (expanded (ds ++ frame) raws) attrs (λ n. attribute_name_more a.name ds frame n)
     (λ l. expanded_more raws ds frame l) e
 
-resolved_more : (decls : List Binding) (o q : Option Name) (l m : Option (List Attr)) (t : Resolved)
-    → ((n : Name) → o ≡ Some n → q ≡ Some n) → ((as_ : List Attr) → l ≡ Some as_ → m ≡ Some as_)
+resolved_more : (decls : List Binding) (o q : Option Expanded) (l m : Option (List Attr)) (t : Resolved)
+    → ((n : Expanded) → o ≡ Some n → q ≡ Some n) → ((as_ : List Attr) → l ≡ Some as_ → m ≡ Some as_)
     → resolved_with decls o l ≡ Some t → resolved_with decls q m ≡ Some t
 resolved_more decls None q l m t f g e = cc
 resolved_more decls (Some n) q None m t f g e = cc
 resolved_more decls (Some n) q (Some l) m t f g e =
-    ap₂ (λ (o : Option Name) (k : Option (List Attr)). resolved_with decls o k) (f n refl) (g l refl) ∙ e
+    ap₂ (λ (o : Option Expanded) (k : Option (List Attr)). resolved_with decls o k) (f n refl) (g l refl) ∙ e
 
-within_more : (decls ds frame : List Binding) (w : List ℕ) (raws : List Attribute) (t : Resolved)
+within_more : (decls ds frame : List Binding) (w : List ℕ) (raws : List WrittenAttribute) (t : Resolved)
     → bound [] frame ≡ None
     → tag_within decls ds w raws ≡ Some t → tag_within decls (ds ++ frame) w raws ≡ Some t
 within_more decls ds frame w raws t free e =
@@ -119,7 +121,7 @@ within_more decls ds frame w raws t free e =
     (expanded (decls ++ ds) raws) (expanded ((decls ++ ds) ++ frame) raws) t
     (λ n. element_name_more w (decls ++ ds) frame n free) (λ l. expanded_more raws (decls ++ ds) frame l) e
 
-declaring_more : (o : Option (List Binding)) (ds frame : List Binding) (w : List ℕ) (raws : List Attribute) (t :
+declaring_more : (o : Option (List Binding)) (ds frame : List Binding) (w : List ℕ) (raws : List WrittenAttribute) (t :
     Resolved)
     → bound [] frame ≡ None → declaring o ds w raws ≡ Some t → declaring o (ds ++ frame) w raws ≡ Some t
 declaring_more None ds frame w raws t free e = cc
@@ -130,7 +132,7 @@ tag_at : (b : Bool) (l m : Option Resolved) (t : Resolved) → (l ≡ Some t →
 tag_at true l m t f e = f e
 tag_at false l m t f e = e
 
-tag_more : (ds frame : List Binding) (w : List ℕ) (raws : List Attribute) (t : Resolved) → bound [] frame ≡ None
+tag_more : (ds frame : List Binding) (w : List ℕ) (raws : List WrittenAttribute) (t : Resolved) → bound [] frame ≡ None
     → tag_of ds w raws ≡ Some t → tag_of (ds ++ frame) w raws ≡ Some t
 tag_more ds frame w raws t free e =
     tag_at (are_distinct raws) (declaring (declarations raws) ds w raws) (declaring (declarations raws) (ds ++ frame)

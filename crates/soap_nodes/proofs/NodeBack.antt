@@ -5,13 +5,13 @@ use Rattle.std.specs.List.{AllByRecursion, flat_map}
 use Rattle.rm_base.specs.declared.message.Binding.{Binding}
 use Rattle.soap_lex.specs.Characters.{IsName}
 use Rattle.soap_lex.specs.Escapes.{escaped_text}
-use Rattle.soap_document.specs.declared.attribute.WrittenAttribute.{WrittenAttribute as Attribute}
+use Rattle.soap_document.specs.declared.attribute.WrittenAttribute.{WrittenAttribute}
 use Rattle.soap_document.specs.Grammar as grammar
 use Rattle.soap_document.specs.Grammar.{IsAttributes, IsQName, start_tag, end_tag, empty_tag}
 use Rattle.soap_document.specs.Tree as written
 use Rattle.soap_profile.specs.Namespaces.{bound, named, Resolved, resolved_with, resolve_parts}
 use Rattle.soap_profile.specs.Tree.{Element, element, Parts, none, text, child}
-use Rattle.soap_profile.specs.declared.name.Expanded.{Expanded as Name}
+use Rattle.soap_profile.specs.declared.name.Expanded.{Expanded}
 use Rattle.soap_writer.specs.ElementText.{quoted, element_text}
 use Rattle.soap_writer.specs.Frame.{Prefix, of_soap, of_addressing, of_messaging, of_connection, letter, space_of}
 use Rattle.soap_writer.specs.Plain.{is_plain_name, name_from}
@@ -26,7 +26,7 @@ use Rattle.soap_nodes.specs.Node.{node_tree, nodes_tree}
 
 -- what is known of attributes, elements and content
 pub record Known : Type 0 where
-  pub attributes : (attributes : List Attribute) → AllByRecursion IsAttributeWritten attributes
+  pub attributes : (attributes : List WrittenAttribute) → AllByRecursion IsAttributeWritten attributes
       → IsAttributes (written_attributes attributes) attributes
   pub elements : (marked : Bool) (tree : Element) (depth at : ℕ) (scope : List Binding)
       → MayStand marked depth scope tree → ReadsAs depth at scope (element_text marked tree) (written_tree marked tree)
@@ -121,7 +121,7 @@ mutual
       let tag = flat_map note_text notes in
       let attrs = flat_map (note_attrs soap) notes in
       let decls = flat_map note_bindings notes in
-      let name : Name = expanded_name soap t in
+      let name : Expanded = expanded_name soap t in
       let from = at + length (start_tag w tag) in
       let inner = nodes_back nodes known soap (suc depth) from (decls ++ scope) good.2 in
       subst (λ (l : List ℕ). ReadsAs depth at scope l (element name decls attrs (nodes_tree soap nodes)))
@@ -137,7 +137,7 @@ mutual
       let tag = flat_map note_text notes in
       let attrs = flat_map (note_attrs soap) notes in
       let decls = flat_map note_bindings notes in
-      let name : Name = expanded_name soap t in
+      let name : Expanded = expanded_name soap t in
       let from = at + length (empty_tag w tag) in
       subst (λ (l : List ℕ). ReadsAs depth at scope l (element name decls attrs none)) (void_text w tag) (record {
         raw = written.element w (note_attributes notes) from from written.none;

@@ -3,7 +3,7 @@ use Rattle.std.specs.Prelude.{◌≡◌, ℕ, suc, ◌<◌, List, [], ◌∷◌,
 use Rattle.std.specs.List.{AllByRecursion, flat_map}
 use Rattle.rm_base.specs.declared.message.Binding.{Binding}
 use Rattle.soap_lex.specs.Characters.{IsChars}
-use Rattle.soap_document.specs.declared.attribute.WrittenAttribute.{WrittenAttribute as Attribute}
+use Rattle.soap_document.specs.declared.attribute.WrittenAttribute.{WrittenAttribute}
 use Rattle.soap_document.specs.Grammar.{max_depth}
 use Rattle.soap_profile.specs.Namespaces.{tag_of}
 use Rattle.soap_writer.specs.Frame.{letter}
@@ -14,7 +14,7 @@ use Rattle.soap_nodes.specs.Node.{Tag, local_of, tag_name, expanded_name, Note, 
 use Rattle.soap_nodes.specs.Node.{note_attrs, note_bindings, Node, full, void, whole, Nodes, nothing, words, more}
 
 -- a note among the attributes of the tag as it is written
-abbrev pub note_attribute : Note → Attribute
+abbrev pub note_attribute : Note → WrittenAttribute
 note_attribute (plain local value) = record { name = local; value = value }
 note_attribute (prefixed prefix local value) =
     record { name = letter prefix ++ (codes ":" ++ local); value = value }
@@ -22,7 +22,7 @@ note_attribute (of_xml local value) = record { name = codes "xml" ++ (codes ":" 
 note_attribute (declared prefix space) = record { name = codes "xmlns" ++ (codes ":" ++ prefix); value = space }
 
 -- all of them
-abbrev pub note_attributes : List Note → List Attribute
+abbrev pub note_attributes : List Note → List WrittenAttribute
 note_attributes [] = []
 note_attributes (note ∷ notes) = note_attribute note ∷ note_attributes notes
 

@@ -6,7 +6,7 @@ use Rattle.soap_lex.specs.Escapes.{escaped_text}
 use Rattle.soap_document.specs.Grammar.{end_tag}
 use Rattle.soap_profile.specs.Namespaces.{xml_space}
 use Rattle.soap_profile.specs.Tree.{Element, element, Parts, none, text, child}
-use Rattle.soap_profile.specs.declared.name.Expanded.{Expanded as Name}
+use Rattle.soap_profile.specs.declared.name.Expanded.{Expanded}
 use Rattle.soap_profile.specs.declared.tree.Attr.{Attr}
 use Rattle.soap_writer.specs.ElementText.{quoted, element_text}
 use Rattle.soap_writer.specs.Frame.{Prefix, letter, space_of}
@@ -28,7 +28,7 @@ tag_name (framed prefix local) = letter prefix ++ (codes ":" ++ local)
 tag_name (bare local) = local
 
 -- the name that it stands for, where SOAP has this namespace
-abbrev pub expanded_name : List ℕ → Tag → Name
+abbrev pub expanded_name : List ℕ → Tag → Expanded
 expanded_name soap (framed prefix local) = record { space = space_of soap prefix; local = local }
 expanded_name soap (bare local) = record { space = []; local = local }
 

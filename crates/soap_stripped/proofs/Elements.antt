@@ -6,7 +6,7 @@ use Rattle.soap_lex.specs.Characters.{IsChars}
 use Rattle.soap_document.specs.Grammar.{IsElement, full, empty, IsContent, last, more}
 use Rattle.soap_document.specs.Grammar.{IsDocument, document, start_tag, end_tag, empty_tag}
 use Rattle.soap_document.specs.Tree as written
-use Rattle.soap_document.specs.declared.attribute.WrittenAttribute.{WrittenAttribute as Attribute}
+use Rattle.soap_document.specs.declared.attribute.WrittenAttribute.{WrittenAttribute}
 use Rattle.soap_profile.specs.Document.{Document}
 use Rattle.soap_profile.specs.Namespaces.{Resolved, tag_of, joined, resolve, resolve_parts}
 use Rattle.soap_profile.specs.Payload.{depth as nested}
@@ -30,7 +30,7 @@ record AreChildren (depth : ℕ) (parts : Parts) : Type 0 where
 
 -- ---- an element is built of its tag and of its parts
 
-record IsBuilt (scope : List Binding) (name : List ℕ) (attributes : List Attribute) (parts : written.Parts)
+record IsBuilt (scope : List Binding) (name : List ℕ) (attributes : List WrittenAttribute) (parts : written.Parts)
     (tree : Element) : Type 0 where
   tag : Resolved
   found : tag_of scope name attributes ≡ Some tag
@@ -38,7 +38,7 @@ record IsBuilt (scope : List Binding) (name : List ℕ) (attributes : List Attri
   resolved : resolve_parts (tag.decls ++ scope) parts ≡ Some inner
   same : element tag.name tag.decls tag.attrs inner ≡ tree
 
-built_with : (scope : List Binding) (name : List ℕ) (attributes : List Attribute) (parts : written.Parts)
+built_with : (scope : List Binding) (name : List ℕ) (attributes : List WrittenAttribute) (parts : written.Parts)
     (tree : Element) (tag : Resolved) (o : Option Parts) → tag_of scope name attributes ≡ Some tag
     → resolve_parts (tag.decls ++ scope) parts ≡ o
     → option_map (element tag.name tag.decls tag.attrs) o ≡ Some tree → IsBuilt scope name attributes parts tree
@@ -46,7 +46,7 @@ built_with scope name attributes parts tree tag None f r e = cc
 built_with scope name attributes parts tree tag (Some inner) f r e =
     record { tag = tag; found = f; inner = inner; resolved = r; same = cc }
 
-built_at : (scope : List Binding) (name : List ℕ) (attributes : List Attribute) (parts : written.Parts)
+built_at : (scope : List Binding) (name : List ℕ) (attributes : List WrittenAttribute) (parts : written.Parts)
     (tree : Element) (t : Option Resolved) → tag_of scope name attributes ≡ t
     → elim t [
       | None ↦ None
@@ -56,7 +56,8 @@ built_at scope name attributes parts tree None f e = cc
 built_at scope name attributes parts tree (Some tag) f e =
     built_with scope name attributes parts tree tag (resolve_parts (tag.decls ++ scope) parts) f refl e
 
-built : (scope : List Binding) (name : List ℕ) (attributes : List Attribute) (start stop : ℕ) (parts : written.Parts)
+built : (scope : List Binding) (name : List ℕ) (attributes : List WrittenAttribute) (start stop : ℕ)
+    (parts : written.Parts)
     (tree : Element) → resolve scope (written.element name attributes start stop parts) ≡ Some tree
     → IsBuilt scope name attributes parts tree
 built scope name attributes start stop parts tree e =

@@ -7,12 +7,12 @@ use Rattle.std.proofs.lemmas.Bool.{and_parts, or_cases, true≢false}
 use Rattle.soap_lex.specs.Characters.{IsChars, IsName}
 use Rattle.soap_lex.specs.Facts.{same, equal}
 use Rattle.soap_document.specs.Tokens.{is_nil}
-use Rattle.soap_document.specs.declared.attribute.WrittenAttribute.{WrittenAttribute as Attribute}
+use Rattle.soap_document.specs.declared.attribute.WrittenAttribute.{WrittenAttribute}
 use Rattle.soap_profile.specs.Namespaces.{xml_space, xmlns_space, split, declared_prefix, may_bind, with_declaration}
 use Rattle.soap_profile.specs.Namespaces.{declarations, bound, prefix_space, or_none, element_space, attribute_space}
 use Rattle.soap_profile.specs.Namespaces.{named, element_name, attribute_name}
 use Rattle.soap_profile.specs.Tree.{Binding}
-use Rattle.soap_profile.specs.declared.name.Expanded.{Expanded as Name}
+use Rattle.soap_profile.specs.declared.name.Expanded.{Expanded}
 use Rattle.soap_writer.specs.Plain.{chars_from}
 use Rattle.soap_writer.specs.ReadBack.{IsAttributeWritten}
 use Rattle.soap_writer.specs.Writable.{IsNameWritable, IsAttrWritable}
@@ -77,7 +77,7 @@ declare_at value None later decls e chars more = more decls e
 declare_at value (Some prefix) later decls e chars more =
     bind_at prefix value (may_bind prefix value) later decls refl e chars more
 
-pub declared_bind : (attributes : List Attribute) → AllByRecursion IsAttributeWritten attributes
+pub declared_bind : (attributes : List WrittenAttribute) → AllByRecursion IsAttributeWritten attributes
     → (decls : List Binding) → declarations attributes ≡ Some decls → AllByRecursion IsBinding decls
 declared_bind [] all decls e = let is : [] ≡ decls = cc in subst (AllByRecursion IsBinding) is tt
 declared_bind (a ∷ attributes) all decls e =
@@ -94,18 +94,19 @@ nothing_bindable = record {
 }
 
 -- a name with this local part, in a namespace to which the prefix may be bound
-record IsNamed (prefix local : List ℕ) (name : Name) : Type 0 where
+record IsNamed (prefix local : List ℕ) (name : Expanded) : Type 0 where
   same : name.local ≡ local
   bind : IsBindable prefix name.space
 
-named_at : (prefix local : List ℕ) (o : Option (List ℕ)) (name : Name) → named local o ≡ Some name
+named_at : (prefix local : List ℕ) (o : Option (List ℕ)) (name : Expanded) → named local o ≡ Some name
     → ((space : List ℕ) → o ≡ Some space → IsBindable prefix space) → IsNamed prefix local name
 named_at prefix local None name e bind = cc
 named_at prefix local (Some space) name e bind =
     let is : record { space = space; local = local } ≡ name = cc in
     subst (IsNamed prefix local) is (record { same = refl; bind = bind space refl })
 
-name_writable : (prefix local : List ℕ) (name : Name) → IsName local → IsNamed prefix local name → IsNameWritable name
+name_writable : (prefix local : List ℕ) (name : Expanded) → IsName local → IsNamed prefix local name
+    → IsNameWritable name
 name_writable prefix local name is h = record {
   local = subst IsName (sym h.same) is;
   space = h.bind.chars;
@@ -142,7 +143,7 @@ module _ (scope : List Binding) (outer : AreInForce scope) where
   attribute_at prefix space false d e = prefixed_at prefix space (bytes_eq prefix (codes "xml")) e
 
   -- the name of an element may be written
-  pub element_named : (written : List ℕ) (name : Name) → IsName (split written).1
+  pub element_named : (written : List ℕ) (name : Expanded) → IsName (split written).1
       → element_name scope written ≡ Some name → IsNameWritable name
   element_named written name is e =
       let prefix = (split written).0 in
@@ -151,7 +152,7 @@ module _ (scope : List Binding) (outer : AreInForce scope) where
       (λ space d. element_at prefix space (is_nil prefix) refl d))
 
   -- and so may an attribute that is no declaration
-  pub attribute_named : (written value : List ℕ) (name : Name) → IsParted written → IsChars value
+  pub attribute_named : (written value : List ℕ) (name : Expanded) → IsParted written → IsChars value
       → declared_prefix written ≡ None → attribute_name scope written ≡ Some name
       → IsAttrWritable (record { name = name; value = value })
   attribute_named written value name is chars other e =

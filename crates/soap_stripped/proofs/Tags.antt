@@ -4,12 +4,12 @@ use Rattle.std.proofs.Common.{codes, length, if◌then◌else◌, refl, subst, a
 use Rattle.std.specs.List.{AllByRecursion}
 use Rattle.std.proofs.lemmas.List.{length-append}
 use Rattle.soap_document.specs.Grammar.{IsQName, IsAttributes, end, more}
-use Rattle.soap_document.specs.declared.attribute.WrittenAttribute.{WrittenAttribute as Attribute}
+use Rattle.soap_document.specs.declared.attribute.WrittenAttribute.{WrittenAttribute}
 use Rattle.soap_profile.specs.Namespaces.{declared_prefix, declarations, element_name, attribute_name}
 use Rattle.soap_profile.specs.Namespaces.{unless_declared, expanded, are_distinct, are_distinct_names, Resolved}
 use Rattle.soap_profile.specs.Namespaces.{resolved_with, declaring, tag_of}
 use Rattle.soap_profile.specs.Tree.{Binding}
-use Rattle.soap_profile.specs.declared.name.Expanded.{Expanded as Name}
+use Rattle.soap_profile.specs.declared.name.Expanded.{Expanded}
 use Rattle.soap_profile.specs.declared.tree.Attr.{Attr}
 use Rattle.soap_writer.specs.ReadBack.{IsAttributeWritten}
 use Rattle.soap_writer.specs.Writable.{IsNameWritable, IsAttrWritable}
@@ -21,7 +21,7 @@ use Rattle.soap_stripped.proofs.Spaces.{declared_bind, element_named, attribute_
 
 -- ---- attributes as they are written
 
-pub attributes_written : {bytes : List ℕ} {attributes : List Attribute} → IsAttributes bytes attributes
+pub attributes_written : {bytes : List ℕ} {attributes : List WrittenAttribute} → IsAttributes bytes attributes
     → AllByRecursion IsAttributeWritten attributes
 attributes_written (end space h) = tt
 attributes_written (more space name left right quoted value rest attributes s q l r v h) =
@@ -35,7 +35,7 @@ length_behind : (space name left right quoted rest : List ℕ) → 1 ≤ length 
     → suc (length rest) ≤ length (space ++ (name ++ (left ++ (codes "=" ++ (right ++ (quoted ++ rest))))))
 length_behind space name left right quoted rest some = simp length-append (omega (arith, some))
 
-pub attributes_few : {bytes : List ℕ} {attributes : List Attribute} → IsAttributes bytes attributes
+pub attributes_few : {bytes : List ℕ} {attributes : List WrittenAttribute} → IsAttributes bytes attributes
     → length attributes ≤ length bytes
 attributes_few (end space h) = omega arith
 attributes_few (more space name left right quoted value rest attributes s q l r v h) =
@@ -50,9 +50,10 @@ pub record AreExpanded (n : ℕ) (attrs : List Attr) : Type 0 where
   pub each : AllByRecursion IsAttrWritable attrs
   pub few : length attrs ≤ n
 
-expanded_at : (value : List ℕ) (d : Option (List ℕ)) (o : Option Name) (later : Option (List Attr)) (attrs : List Attr)
+expanded_at : (value : List ℕ) (d : Option (List ℕ)) (o : Option Expanded) (later : Option (List Attr))
+    (attrs : List Attr)
     (n : ℕ) → unless_declared d o value later ≡ Some attrs
-    → (d ≡ None → (name : Name) → o ≡ Some name → IsAttrWritable (record { name = name; value = value }))
+    → (d ≡ None → (name : Expanded) → o ≡ Some name → IsAttrWritable (record { name = name; value = value }))
     → ((xs : List Attr) → later ≡ Some xs → AreExpanded n xs) → AreExpanded (suc n) attrs
 expanded_at value (Some prefix) o later attrs n e here behind =
     let is = behind attrs e in
@@ -65,7 +66,7 @@ expanded_at value None (Some name) (Some xs) attrs n e here behind =
     subst (AreExpanded (suc n)) is
     (record { each = (here refl name refl, rest.each); few = omega (arith, rest.few) })
 
-are_expanded : (scope : List Binding) → AreInForce scope → (attributes : List Attribute)
+are_expanded : (scope : List Binding) → AreInForce scope → (attributes : List WrittenAttribute)
     → AllByRecursion IsAttributeWritten attributes → (attrs : List Attr) → expanded scope attributes ≡ Some attrs
     → AreExpanded (length attributes) attrs
 are_expanded scope outer [] all attrs e =
@@ -85,7 +86,7 @@ pub record IsTag (n : ℕ) (tag : Resolved) : Type 0 where
   pub attrs : AreExpanded n tag.attrs
   pub distinct : are_distinct_names tag.attrs ≡ true
 
-distinct_at : (decls : List Binding) (name : Name) (attrs : List Attr) (tag : Resolved) (n : ℕ) (t : Bool)
+distinct_at : (decls : List Binding) (name : Expanded) (attrs : List Attr) (tag : Resolved) (n : ℕ) (t : Bool)
     → are_distinct_names attrs ≡ t
     → (if t then Some (record { name = name; decls = decls; attrs = attrs }) else None) ≡ Some tag
     → IsNameWritable name → AllByRecursion IsBinding decls → AreExpanded n attrs → IsTag n tag
@@ -94,16 +95,16 @@ distinct_at decls name attrs tag n true d e named bind each =
     let is : record { name = name; decls = decls; attrs = attrs } ≡ tag = cc in
     subst (IsTag n) is (record { named = named; decls = bind; attrs = each; distinct = d })
 
-within_at : (decls : List Binding) (o : Option Name) (p : Option (List Attr)) (tag : Resolved) (n : ℕ)
+within_at : (decls : List Binding) (o : Option Expanded) (p : Option (List Attr)) (tag : Resolved) (n : ℕ)
     → resolved_with decls o p ≡ Some tag → AllByRecursion IsBinding decls
-    → ((name : Name) → o ≡ Some name → IsNameWritable name)
+    → ((name : Expanded) → o ≡ Some name → IsNameWritable name)
     → ((attrs : List Attr) → p ≡ Some attrs → AreExpanded n attrs) → IsTag n tag
 within_at decls None p tag n e bind named each = cc
 within_at decls (Some name) None tag n e bind named each = cc
 within_at decls (Some name) (Some attrs) tag n e bind named each =
     distinct_at decls name attrs tag n (are_distinct_names attrs) refl e (named name refl) bind (each attrs refl)
 
-declaring_at : (o : Option (List Binding)) (scope : List Binding) (name : List ℕ) (attributes : List Attribute)
+declaring_at : (o : Option (List Binding)) (scope : List Binding) (name : List ℕ) (attributes : List WrittenAttribute)
     (tag : Resolved) → declarations attributes ≡ o → declaring o scope name attributes ≡ Some tag → IsQName name
     → AllByRecursion IsAttributeWritten attributes → AreInForce scope → IsTag (length attributes) tag
 declaring_at None scope name attributes tag d e q all outer = cc
@@ -115,14 +116,14 @@ declaring_at (Some decls) scope name attributes tag d e q all outer =
     (λ n h. element_named (decls ++ scope) inner name n (parted q).local h)
     (are_expanded (decls ++ scope) inner attributes all)
 
-tag_at : (t : Bool) (scope : List Binding) (name : List ℕ) (attributes : List Attribute) (tag : Resolved)
+tag_at : (t : Bool) (scope : List Binding) (name : List ℕ) (attributes : List WrittenAttribute) (tag : Resolved)
     → (if t then declaring (declarations attributes) scope name attributes else None) ≡ Some tag → IsQName name
     → AllByRecursion IsAttributeWritten attributes → AreInForce scope → IsTag (length attributes) tag
 tag_at false scope name attributes tag e q all outer = cc
 tag_at true scope name attributes tag e q all outer =
     declaring_at (declarations attributes) scope name attributes tag refl e q all outer
 
-pub tag_resolved : (scope : List Binding) (name : List ℕ) (attributes : List Attribute) (tag : Resolved)
+pub tag_resolved : (scope : List Binding) (name : List ℕ) (attributes : List WrittenAttribute) (tag : Resolved)
     → tag_of scope name attributes ≡ Some tag → IsQName name → AllByRecursion IsAttributeWritten attributes
     → AreInForce scope → IsTag (length attributes) tag
 tag_resolved scope name attributes tag e q all outer =

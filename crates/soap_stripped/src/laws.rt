@@ -6,13 +6,13 @@ ghost use Rattle.soap_document.specs.Grammar.{IsQName};
 ghost use Rattle.soap_profile.specs.Document.{Document};
 ghost use Rattle.soap_profile.specs.Namespaces.{element_name};
 ghost use Rattle.soap_profile.specs.Tree.{Element};
-ghost use Rattle.soap_profile.specs.declared.name.Expanded.{Expanded as Name};
+ghost use Rattle.soap_profile.specs.declared.name.Expanded.{Expanded};
 ghost use Rattle.soap_writer.specs.Writable.{IsNameWritable};
 ghost use Rattle.soap_stripped.specs.Resolved.{AreInForce, IsResolved};
 
 /// What a name means, as that of an element or in a value, may be written, where prefixes are bound as they may be.
 pub fn names_may_be_written()
-    ensures { (scope : List Binding) (written : List ℕ) (name : Name) → AreInForce scope → IsQName written
+    ensures { (scope : List Binding) (written : List ℕ) (name : Expanded) → AreInForce scope → IsQName written
         → element_name scope written ≡ Some name → IsNameWritable name }
 {}
 

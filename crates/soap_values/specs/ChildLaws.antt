@@ -2,7 +2,7 @@
 use Rattle.std.proofs.Common.{◌≡◌, ◌++◌, List, [], ◌∷◌, Bool, true, false, if◌then◌else◌, refl}
 use Rattle.soap_profile.specs.Items.{Item, a_declaration, an_attribute, a_text, a_child, parts_among}
 use Rattle.soap_profile.specs.Tree.{Element, element, children_of}
-use Rattle.soap_profile.specs.declared.name.Expanded.{Expanded as Name}
+use Rattle.soap_profile.specs.declared.name.Expanded.{Expanded}
 use Rattle.soap_profile.specs.View.{element_view, element_step, item_step, item_view, items_view, decls_view}
 use Rattle.soap_profile.specs.View.{attrs_view, parts_view}
 use Rattle.soap_profile.specs.declared.tree.Element.{Element as CodeElement, fold_out-Element}
@@ -18,7 +18,7 @@ kept : (b : Bool) (e : Element) (es : List Element) → (if b then e ∷ es else
 kept true e es = refl
 kept false e es = refl
 
-one_more : (name : Name) (i : Item) (is : List Item) → children_named name (parts_among (i ∷ is))
+one_more : (name : Expanded) (i : Item) (is : List Item) → children_named name (parts_among (i ∷ is))
     ≡ children_named name (parts_among (i ∷ [])) ++ children_named name (parts_among is)
 one_more name (a_declaration b) is = refl
 one_more name (an_attribute a) is = refl
@@ -26,7 +26,7 @@ one_more name (a_text bytes) is = refl
 one_more name (a_child e) is = kept (has_name name e) e (children_named name (parts_among is))
 
 -- and so do its children of a name
-pub children_more : (name : Name) (x : CodeItem) (xs : List CodeItem) → children_named name (parts_view (x ∷ xs))
+pub children_more : (name : Expanded) (x : CodeItem) (xs : List CodeItem) → children_named name (parts_view (x ∷ xs))
     ≡ children_named name (parts_view (x ∷ [])) ++ children_named name (parts_view xs)
 children_more name x xs = one_more name (item_view x) (items_view xs)
 

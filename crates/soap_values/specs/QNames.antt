@@ -5,7 +5,7 @@ use Rattle.std.specs.Str.{bytes_eq}
 use Rattle.soap_document.specs.Tokens.{is_qname}
 use Rattle.soap_profile.specs.Namespaces.{split, element_name}
 use Rattle.soap_profile.specs.Tree.{Binding, Element, decls_of}
-use Rattle.soap_profile.specs.declared.name.Expanded.{Expanded as Name}
+use Rattle.soap_profile.specs.declared.name.Expanded.{Expanded}
 
 -- the bindings in force within elements, the innermost of which comes first, around which these are in force
 abbrev pub within : List Element → List Binding → List Binding
@@ -17,5 +17,5 @@ is_name_value bytes = is_qname bytes && not (bytes_eq (split bytes).0 (codes "xm
 
 -- the name that bytes are where these bindings are in force: without a prefix it is in the default namespace, or in
 -- none
-abbrev pub qname_in : List Binding → List ℕ → Option Name
+abbrev pub qname_in : List Binding → List ℕ → Option Expanded
 qname_in bindings bytes = if is_name_value bytes then element_name bindings bytes else None

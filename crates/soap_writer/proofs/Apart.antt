@@ -4,10 +4,10 @@ use Rattle.std.proofs.Common.{length, refl, sym, ap, ◌∙◌, arith}
 use Rattle.std.specs.List.{AllByRecursion}
 use Rattle.std.specs.Str.{bytes_eq}
 use Rattle.std.proofs.lemmas.Bool.{and_parts, and_from, true≢false}
-use Rattle.soap_document.specs.declared.attribute.WrittenAttribute.{WrittenAttribute as Attribute}
+use Rattle.soap_document.specs.declared.attribute.WrittenAttribute.{WrittenAttribute}
 use Rattle.soap_document.specs.Tokens.{is_nil}
 use Rattle.soap_profile.specs.Namespaces.{split, is_new, are_distinct, is_other, is_new_name, are_distinct_names}
-use Rattle.soap_profile.specs.declared.name.Expanded.{Expanded as Name}
+use Rattle.soap_profile.specs.declared.name.Expanded.{Expanded}
 use Rattle.soap_profile.specs.declared.tree.Attr.{Attr}
 use Rattle.rm_base.specs.declared.message.Binding.{Binding}
 use Rattle.soap_writer.specs.ElementText.{attribute_prefix}
@@ -32,7 +32,7 @@ Fresh t i (a ∷ attrs) =
 not_false : (b : Bool) → b ≡ false → not b ≡ true
 not_false b e = rw e refl
 
-declared_new : (w : List ℕ) (t : Pair) (k : Kind) (prefix space : List ℕ) (rest : List Attribute) → split w ≡ t
+declared_new : (w : List ℕ) (t : Pair) (k : Kind) (prefix space : List ℕ) (rest : List WrittenAttribute) → split w ≡ t
     → (codes "xmlns", prefix) ≢ t → is_new w rest ≡ true → is_new w (declared k prefix space ++ rest) ≡ true
 declared_new w t bare prefix space rest s other e = e
 declared_new w t of_xml prefix space rest s other e = e
@@ -115,12 +115,12 @@ same_space own of_xml prefix other one two h g p q ne e =
     absurd (told (λ l. bytes_eq l (codes "xml")) prefix (codes "xml") p.no_xml refl e)
 same_space own own prefix other one two h g p q ne e = absurd (ne e)
 
-not_other : (name : Name) (a : Attr) → is_other name a ≡ true → a.name.local ≡ name.local
+not_other : (name : Expanded) (a : Attr) → is_other name a ≡ true → a.name.local ≡ name.local
     → a.name.space ≡ name.space → ⊥
 not_other name a h e f =
     true≢false (sym h ∙ rw (equal a.name.local name.local e, equal a.name.space name.space f) refl)
 
-attribute_fresh : (k : Kind) (prefix : List ℕ) (name : Name) (i : ℕ) (attrs : List Attr) → i + length attrs ≤ 2 ^ 64
+attribute_fresh : (k : Kind) (prefix : List ℕ) (name : Expanded) (i : ℕ) (attrs : List Attr) → i + length attrs ≤ 2 ^ 64
     → HasKind name.space k → IsOwnPrefix prefix → NotFrom i prefix → is_new_name name attrs ≡ true
     → Fresh (prefix_in k prefix, name.local) i attrs
 attribute_fresh k prefix name i [] few is p other new = tt
@@ -142,7 +142,7 @@ not_later : (i : ℕ) → i < 2 ^ 64 → NotFrom (i + 1) (attribute_prefix i)
 not_later i small j h below e = absurd (omega (arith, attribute_prefix-injective j i below small e))
 
 -- a declaration and what stands behind it
-declared_distinct : (k : Kind) (prefix space : List ℕ) (rest : List Attribute) → are_distinct rest ≡ true
+declared_distinct : (k : Kind) (prefix space : List ℕ) (rest : List WrittenAttribute) → are_distinct rest ≡ true
     → is_new (codes "xmlns" ++ (codes ":" ++ prefix)) rest ≡ true
     → are_distinct (declared k prefix space ++ rest) ≡ true
 declared_distinct bare prefix space rest e new = e
@@ -183,7 +183,7 @@ mark_distinct true attrs few all e =
     ) 0 attrs refl (omega arith) all
     (mark_fresh (codes "IsReferenceParameter") 0 attrs (omega arith))) e
 
-mark_new : (marked : Bool) (rest : List Attribute) → is_new (codes "xmlns:n") rest ≡ true
+mark_new : (marked : Bool) (rest : List WrittenAttribute) → is_new (codes "xmlns:n") rest ≡ true
     → is_new (codes "xmlns:n") (raw_mark marked ++ rest) ≡ true
 mark_new false rest e = e
 mark_new true rest e = e
@@ -192,7 +192,7 @@ mark_new true rest e = e
 n_apart : NotFrom 0 (codes "n")
 n_apart j h small = told (λ x. bytes_eq x (codes "n")) (attribute_prefix j) (codes "n") refl refl
 
-pub tag_distinct : (marked : Bool) (name : Name) (decls : List Binding) (attrs : List Attr)
+pub tag_distinct : (marked : Bool) (name : Expanded) (decls : List Binding) (attrs : List Attr)
     → IsTagWritable name decls attrs → are_distinct (raw_tag marked name attrs) ≡ true
 tag_distinct marked name decls attrs is =
     declared_distinct (kind name.space) (codes "n") name.space (raw_mark marked ++ raws 0 attrs)

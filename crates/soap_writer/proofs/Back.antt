@@ -17,7 +17,7 @@ use Rattle.soap_profile.specs.Namespaces.{bound, declarations, resolve_parts, jo
 use Rattle.soap_profile.specs.Namespaces.{resolved_with, are_distinct_names}
 use Rattle.soap_profile.specs.Payload.{height, depth as depth_of_parts}
 use Rattle.soap_profile.specs.Tree.{Element, element, Parts, none, text, child, without_declarations, parts_without}
-use Rattle.soap_profile.specs.declared.name.Expanded.{Expanded as Name}
+use Rattle.soap_profile.specs.declared.name.Expanded.{Expanded}
 use Rattle.soap_profile.specs.declared.tree.Attr.{Attr}
 use Rattle.soap_writer.specs.ElementText.{written_name, tag_text, element_text, parts_text}
 use Rattle.soap_writer.specs.ReadBack.{with_mark, MarkFits, MayStand, ReadsAs, ContentReadsAs, marks, declared_in}
@@ -31,7 +31,7 @@ use Rattle.soap_writer.proofs.Raws.{written_name-spelled, spelled-IsQName}
 
 -- ---- the start tag
 
-abbrev tag_read : Bool → Name → List Attr → Resolved
+abbrev tag_read : Bool → Expanded → List Attr → Resolved
 tag_read marked name attrs =
     record { name = name; decls = declared_in name attrs; attrs = marks marked ++ attrs }
 
@@ -40,13 +40,13 @@ mark_bound : (marked : Bool) (scope : List Binding) (tree : Element) → MarkFit
 mark_bound true scope tree fits = fits.prefix
 mark_bound false scope tree fits = tt
 
-marked_distinct : (marked : Bool) (scope : List Binding) (name : Name) (decls : List Binding) (attrs : List Attr)
+marked_distinct : (marked : Bool) (scope : List Binding) (name : Expanded) (decls : List Binding) (attrs : List Attr)
     (parts : Parts) → MarkFits marked scope (element name decls attrs parts) → are_distinct_names attrs ≡ true
     → are_distinct_names (marks marked ++ attrs) ≡ true
 marked_distinct true scope name decls attrs parts fits distinct = and_from _ _ fits.unmarked distinct
 marked_distinct false scope name decls attrs parts fits distinct = distinct
 
-tag_back : (marked : Bool) (scope : List Binding) (name : Name) (decls : List Binding) (attrs : List Attr)
+tag_back : (marked : Bool) (scope : List Binding) (name : Expanded) (decls : List Binding) (attrs : List Attr)
     (parts : Parts) → IsTagWritable name decls attrs → bound [] scope ≡ None
     → MarkFits marked scope (element name decls attrs parts)
     → tag_of scope (written_name (codes "n") name) (raw_tag marked name attrs) ≡ Some (tag_read marked name attrs)
@@ -56,21 +56,21 @@ tag_back marked scope name decls attrs parts is default fits =
     let w = written_name (codes "n") name in
     ap (λ b. if b then declaring (declarations raw) scope w raw else None) (tag_distinct marked name decls attrs is)
     ∙ ap (λ o. declaring o scope w raw) (tag_declarations marked name decls attrs is)
-    ∙ ap₂ (λ (n : Option Name) (found : Option (List Attr)). resolved_with bs n found)
+    ∙ ap₂ (λ (n : Option Expanded) (found : Option (List Attr)). resolved_with bs n found)
     (tag_named name decls attrs scope is default)
     (tag_expanded marked name decls attrs scope is (mark_bound marked scope (element name decls attrs parts) fits))
     ∙ ap (λ b. if b then Some (record { name = name; decls = bs; attrs = marks marked ++ attrs }) else None)
     (marked_distinct marked scope name decls attrs parts fits is.distinct)
     ∙ ap (λ ds. Some (record { name = name; decls = ds; attrs = marks marked ++ attrs })) (tag_bindings_is name attrs)
 
-name_IsQName : (name : Name) (decls : List Binding) (attrs : List Attr) → IsTagWritable name decls attrs
+name_IsQName : (name : Expanded) (decls : List Binding) (attrs : List Attr) → IsTagWritable name decls attrs
     → IsQName (written_name (codes "n") name)
 name_IsQName name decls attrs is =
     subst IsQName (sym (written_name-spelled (codes "n") name)) (spelled-IsQName (kind name.space) (codes "n")
     name.local n-IsName is.named.local)
 
 -- within it the default namespace is bound no more than around it
-inner_default : (name : Name) (attrs : List Attr) (scope : List Binding) → bound [] scope ≡ None
+inner_default : (name : Expanded) (attrs : List Attr) (scope : List Binding) → bound [] scope ≡ None
     → bound [] (declared_in name attrs ++ scope) ≡ None
 inner_default name attrs scope default =
     ap (λ (ds : List Binding). bound [] (ds ++ scope)) (sym (tag_bindings_is name attrs))
@@ -82,7 +82,7 @@ no_characters : IsChars []
 no_characters = record { characters = []; each = tt; coded = refl }
 
 -- an element from its tag and its content
-element_from : Known → (marked : Bool) (depth at : ℕ) (scope : List Binding) (name : Name) (decls : List Binding)
+element_from : Known → (marked : Bool) (depth at : ℕ) (scope : List Binding) (name : Expanded) (decls : List Binding)
     (attrs : List Attr) (parts read : Parts) → IsTagWritable name decls attrs → depth < max_depth
     → bound [] scope ≡ None → MarkFits marked scope (element name decls attrs parts)
     → ContentReadsAs (suc depth) (at + length (start_tag (written_name (codes "n") name) (tag_text marked name attrs)))

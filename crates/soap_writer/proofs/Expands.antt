@@ -6,13 +6,13 @@ use Rattle.std.specs.Str.{bytes_eq}
 use Rattle.std.proofs.lemmas.Bool.{true≢false}
 use Rattle.std.proofs.lemmas.List.{append-nil}
 use Rattle.soap_lex.specs.Characters.{IsName}
-use Rattle.soap_document.specs.declared.attribute.WrittenAttribute.{WrittenAttribute as Attribute}
+use Rattle.soap_document.specs.declared.attribute.WrittenAttribute.{WrittenAttribute}
 use Rattle.soap_document.specs.Tokens.{is_nil}
 use Rattle.soap_lex.specs.Facts.{differ, equal}
 use Rattle.soap_profile.specs.Namespaces.{xmlns_space, split, declared_prefix, may_bind, declarations, bound, named}
 use Rattle.soap_profile.specs.Namespaces.{or_none, attribute_space, element_space, attribute_name, element_name}
 use Rattle.soap_profile.specs.Namespaces.{expanded}
-use Rattle.soap_profile.specs.declared.name.Expanded.{Expanded as Name}
+use Rattle.soap_profile.specs.declared.name.Expanded.{Expanded}
 use Rattle.soap_profile.specs.declared.tree.Attr.{Attr}
 use Rattle.rm_base.specs.declared.message.Binding.{Binding}
 use Rattle.soap_writer.specs.Frame.{addressing_space}
@@ -61,7 +61,7 @@ own_may_bind : (prefix space : List ℕ) → IsOwnPrefix prefix → HasKind spac
 own_may_bind prefix space p k no_xmlns =
     rw (p.no_xml, k.1, differ space xmlns_space no_xmlns, p.some, k.0, p.no_xmlns) refl
 
-pub declared_declarations : (k : Kind) (prefix space : List ℕ) (rest : List Attribute) (later : List Binding)
+pub declared_declarations : (k : Kind) (prefix space : List ℕ) (rest : List WrittenAttribute) (later : List Binding)
     → HasKind space k → IsOwnPrefix prefix → space ≢ xmlns_space → declarations rest ≡ Some later
     → declarations (declared k prefix space ++ rest) ≡ Some (binding k prefix space ++ later)
 declared_declarations bare prefix space rest later is p no_xmlns e = e
@@ -104,11 +104,12 @@ raws_declarations i (a ∷ attrs) few all =
     (bindings (i + 1) attrs) (kind_is a.name.space) (attribute_prefix-IsOwnPrefix i small) all.0.name.no_xmlns
     (rw (raw_undeclared i a small all.0) (raws_declarations (i + 1) attrs (omega arith) all.1))
 
-mark_declarations : (marked : Bool) (rest : List Attribute) → declarations (raw_mark marked ++ rest) ≡ declarations rest
+mark_declarations : (marked : Bool) (rest : List WrittenAttribute)
+    → declarations (raw_mark marked ++ rest) ≡ declarations rest
 mark_declarations true rest = refl
 mark_declarations false rest = refl
 
-pub tag_declarations : (marked : Bool) (name : Name) (decls : List Binding) (attrs : List Attr)
+pub tag_declarations : (marked : Bool) (name : Expanded) (decls : List Binding) (attrs : List Attr)
     → IsTagWritable name decls attrs → declarations (raw_tag marked name attrs) ≡ Some (tag_bindings name attrs)
 tag_declarations marked name decls attrs is =
     declared_declarations (kind name.space) (codes "n") name.space (raw_mark marked ++ raws 0 attrs) (bindings 0 attrs)
@@ -128,21 +129,21 @@ IsBound bare prefix space scope = Unit {0}
 IsBound of_xml prefix space scope = Unit {0}
 IsBound own prefix space scope = bound prefix scope ≡ Some space
 
-attribute_space_at : (scope : List Binding) (k : Kind) (prefix : List ℕ) (name : Name) → HasKind name.space k
+attribute_space_at : (scope : List Binding) (k : Kind) (prefix : List ℕ) (name : Expanded) → HasKind name.space k
     → IsOwnPrefix prefix → IsBound k prefix name.space scope
     → named name.local (attribute_space (prefix_in k prefix) scope) ≡ Some name
 attribute_space_at scope bare prefix name is p b = ap (λ s. named name.local (Some s)) (sym is)
 attribute_space_at scope of_xml prefix name is p b = ap (λ s. named name.local (Some s)) (sym is)
 attribute_space_at scope own prefix name is p b = rw (p.some, p.no_xml, b) refl
 
-attribute_at : (scope : List Binding) (k : Kind) (prefix : List ℕ) (name : Name) → HasKind name.space k
+attribute_at : (scope : List Binding) (k : Kind) (prefix : List ℕ) (name : Expanded) → HasKind name.space k
     → IsOwnPrefix prefix → IsName name.local → IsBound k prefix name.space scope
     → attribute_name scope (spelled k prefix name.local) ≡ Some name
 attribute_at scope k prefix name is p l b =
     ap (λ (s : List ℕ × List ℕ). named s.1 (attribute_space s.0 scope)) (spelled_split k prefix name.local p.name l)
     ∙ attribute_space_at scope k prefix name is p b
 
-element_space_at : (scope : List Binding) (k : Kind) (prefix : List ℕ) (name : Name) → HasKind name.space k
+element_space_at : (scope : List Binding) (k : Kind) (prefix : List ℕ) (name : Expanded) → HasKind name.space k
     → IsOwnPrefix prefix → bound [] scope ≡ None → IsBound k prefix name.space scope
     → named name.local (element_space (prefix_in k prefix) scope) ≡ Some name
 element_space_at scope bare prefix name is p default b =
@@ -150,7 +151,7 @@ element_space_at scope bare prefix name is p default b =
 element_space_at scope of_xml prefix name is p default b = ap (λ s. named name.local (Some s)) (sym is)
 element_space_at scope own prefix name is p default b = rw (p.some, p.no_xml, b) refl
 
-element_at : (scope : List Binding) (k : Kind) (prefix : List ℕ) (name : Name) → HasKind name.space k
+element_at : (scope : List Binding) (k : Kind) (prefix : List ℕ) (name : Expanded) → HasKind name.space k
     → IsOwnPrefix prefix → IsName name.local → bound [] scope ≡ None → IsBound k prefix name.space scope
     → element_name scope (spelled k prefix name.local) ≡ Some name
 element_at scope k prefix name is p l default b =
@@ -164,7 +165,7 @@ AreBound scope i [] = Unit {0}
 AreBound scope i (a ∷ attrs) =
     IsBound (kind a.name.space) (attribute_prefix i) a.name.space scope × AreBound scope (i + 1) attrs
 
-declared_expanded : (scope : List Binding) (k : Kind) (prefix space : List ℕ) (rest : List Attribute)
+declared_expanded : (scope : List Binding) (k : Kind) (prefix space : List ℕ) (rest : List WrittenAttribute)
     → expanded scope (declared k prefix space ++ rest) ≡ expanded scope rest
 declared_expanded scope bare prefix space rest = refl
 declared_expanded scope of_xml prefix space rest = refl
@@ -190,7 +191,7 @@ abbrev pub MarkBound : Bool → List Binding → Type 0
 MarkBound true scope = bound (codes "a") scope ≡ Some addressing_space
 MarkBound false scope = Unit {0}
 
-mark_expanded : (scope : List Binding) (marked : Bool) (rest : List Attribute) (attrs : List Attr)
+mark_expanded : (scope : List Binding) (marked : Bool) (rest : List WrittenAttribute) (attrs : List Attr)
     → MarkBound marked scope → expanded scope rest ≡ Some attrs
     → expanded scope (raw_mark marked ++ rest) ≡ Some (marks marked ++ attrs)
 mark_expanded scope false rest attrs b e = e
@@ -253,25 +254,25 @@ raws_bound front outer i (a ∷ attrs) few free =
 
 -- ---- the tag
 
-abbrev tag_scope : Name → List Attr → List Binding → List Binding
+abbrev tag_scope : Expanded → List Attr → List Binding → List Binding
 tag_scope name attrs outer = tag_bindings name attrs ++ outer
 
 own_only : (k : Kind) (prefix space p : List ℕ) → bytes_eq prefix p ≡ false → bound p (binding k prefix space) ≡ None
 own_only k prefix space p other =
     ap (bound p) (sym (append-nil (binding k prefix space))) ∙ own_unbound k prefix space p [] other refl
 
-tag_unbound : (p : List ℕ) (name : Name) (attrs : List Attr) (outer : List Binding) → bytes_eq (codes "n") p ≡ false
+tag_unbound : (p : List ℕ) (name : Expanded) (attrs : List Attr) (outer : List Binding) → bytes_eq (codes "n") p ≡ false
     → ((j : ℕ) → bytes_eq (attribute_prefix j) p ≡ false) → bound p (tag_scope name attrs outer) ≡ bound p outer
 tag_unbound p name attrs outer first other =
     bound_behind p (tag_bindings name attrs) outer
     (own_unbound (kind name.space) (codes "n") name.space p (bindings 0 attrs) first (bindings_unbound p other 0 attrs))
 
 -- within the element the default namespace is bound no more than around it
-pub tag_default : (name : Name) (attrs : List Attr) (outer : List Binding) → bound [] outer ≡ None
+pub tag_default : (name : Expanded) (attrs : List Attr) (outer : List Binding) → bound [] outer ≡ None
     → bound [] (tag_bindings name attrs ++ outer) ≡ None
 tag_default name attrs outer default = tag_unbound [] name attrs outer refl (λ j. refl) ∙ default
 
-pub tag_named : (name : Name) (decls : List Binding) (attrs : List Attr) (outer : List Binding)
+pub tag_named : (name : Expanded) (decls : List Binding) (attrs : List Attr) (outer : List Binding)
     → IsTagWritable name decls attrs → bound [] outer ≡ None
     → element_name (tag_bindings name attrs ++ outer) (written_name (codes "n") name) ≡ Some name
 tag_named name decls attrs outer is default =
@@ -283,12 +284,12 @@ tag_named name decls attrs outer is default =
     (subst P (sym (append_assoc (binding k (codes "n") name.space) (bindings 0 attrs) outer))
     (own_bound k (codes "n") name.space (bindings 0 attrs ++ outer)))
 
-mark_within : (marked : Bool) (name : Name) (attrs : List Attr) (outer : List Binding) → MarkBound marked outer
+mark_within : (marked : Bool) (name : Expanded) (attrs : List Attr) (outer : List Binding) → MarkBound marked outer
     → MarkBound marked (tag_bindings name attrs ++ outer)
 mark_within true name attrs outer b = tag_unbound (codes "a") name attrs outer refl (λ j. refl) ∙ b
 mark_within false name attrs outer b = tt
 
-pub tag_expanded : (marked : Bool) (name : Name) (decls : List Binding) (attrs : List Attr) (outer : List Binding)
+pub tag_expanded : (marked : Bool) (name : Expanded) (decls : List Binding) (attrs : List Attr) (outer : List Binding)
     → IsTagWritable name decls attrs → MarkBound marked outer
     → expanded (tag_bindings name attrs ++ outer) (raw_tag marked name attrs) ≡ Some (marks marked ++ attrs)
 tag_expanded marked name decls attrs outer is b =

@@ -7,11 +7,11 @@ use Rattle.soap_lex.specs.Characters.{IsChars, IsName}
 use Rattle.soap_lex.specs.Escapes.{escaped_text, escaped_value}
 use Rattle.soap_lex.specs.Text.{IsText}
 use Rattle.soap_lex.specs.Value.{IsValue}
-use Rattle.soap_document.specs.declared.attribute.WrittenAttribute.{WrittenAttribute as Attribute}
+use Rattle.soap_document.specs.declared.attribute.WrittenAttribute.{WrittenAttribute}
 use Rattle.soap_document.specs.Grammar.{IsAttributes, end, more, IsQName, unprefixed, prefixed}
 use Rattle.soap_document.specs.Tokens.{is_nil}
 use Rattle.soap_profile.specs.Namespaces.{xml_space}
-use Rattle.soap_profile.specs.declared.name.Expanded.{Expanded as Name}
+use Rattle.soap_profile.specs.declared.name.Expanded.{Expanded}
 use Rattle.soap_profile.specs.declared.tree.Attr.{Attr}
 use Rattle.rm_base.specs.declared.message.Binding.{Binding}
 use Rattle.soap_writer.specs.ElementText.{quoted, written_name, declaration, attribute_text, attribute_prefix}
@@ -62,7 +62,7 @@ prefix_in bare prefix = []
 prefix_in of_xml prefix = codes "xml"
 prefix_in own prefix = prefix
 
-abbrev pub declared : Kind → List ℕ → List ℕ → List Attribute
+abbrev pub declared : Kind → List ℕ → List ℕ → List WrittenAttribute
 declared bare prefix space = []
 declared of_xml prefix space = []
 declared own prefix space = record { name = codes "xmlns" ++ (codes ":" ++ prefix); value = space } ∷ []
@@ -73,11 +73,11 @@ binding of_xml prefix space = []
 binding own prefix space = record { prefix = prefix; space = space } ∷ []
 
 -- one attribute before others
-abbrev pub raw_at : Kind → List ℕ → Attr → List Attribute → List Attribute
+abbrev pub raw_at : Kind → List ℕ → Attr → List WrittenAttribute → List WrittenAttribute
 raw_at k prefix a later =
     declared k prefix a.name.space ++ (record { name = spelled k prefix a.name.local; value = a.value } ∷ later)
 
-abbrev pub raws : ℕ → List Attr → List Attribute
+abbrev pub raws : ℕ → List Attr → List WrittenAttribute
 raws i [] = []
 raws i (a ∷ attrs) = raw_at (kind a.name.space) (attribute_prefix i) a (raws (i + 1) attrs)
 
@@ -85,14 +85,14 @@ abbrev pub bindings : ℕ → List Attr → List Binding
 bindings i [] = []
 bindings i (a ∷ attrs) = binding (kind a.name.space) (attribute_prefix i) a.name.space ++ bindings (i + 1) attrs
 
-abbrev pub raw_mark : Bool → List Attribute
+abbrev pub raw_mark : Bool → List WrittenAttribute
 raw_mark true = record { name = codes "a" ++ (codes ":" ++ codes "IsReferenceParameter"); value = codes "true" } ∷ []
 raw_mark false = []
 
-abbrev pub raw_tag : Bool → Name → List Attr → List Attribute
+abbrev pub raw_tag : Bool → Expanded → List Attr → List WrittenAttribute
 raw_tag marked name attrs = declared (kind name.space) (codes "n") name.space ++ (raw_mark marked ++ raws 0 attrs)
 
-abbrev pub tag_bindings : Name → List Attr → List Binding
+abbrev pub tag_bindings : Expanded → List Attr → List Binding
 tag_bindings name attrs = binding (kind name.space) (codes "n") name.space ++ bindings 0 attrs
 
 -- ---- what they declare
@@ -104,7 +104,8 @@ declared_at true b prefix space = refl
 declared_at false true prefix space = refl
 declared_at false false prefix space = refl
 
-declared_by_is : (prefix : List ℕ) (name : Name) → binding (kind name.space) prefix name.space ≡ declared_by prefix name
+declared_by_is : (prefix : List ℕ) (name : Expanded) → binding
+    (kind name.space) prefix name.space ≡ declared_by prefix name
 declared_by_is prefix name = declared_at (is_nil name.space) (bytes_eq name.space xml_space) prefix name.space
 
 declared_from_is : (i : ℕ) (attrs : List Attr) → bindings i attrs ≡ declared_from i attrs
@@ -112,7 +113,7 @@ declared_from_is i [] = refl
 declared_from_is i (a ∷ attrs) =
     ap₂ (λ (l m : List Binding). l ++ m) (declared_by_is (attribute_prefix i) a.name) (declared_from_is (i + 1) attrs)
 
-pub tag_bindings_is : (name : Name) (attrs : List Attr) → tag_bindings name attrs ≡ declared_in name attrs
+pub tag_bindings_is : (name : Expanded) (attrs : List Attr) → tag_bindings name attrs ≡ declared_in name attrs
 tag_bindings_is name attrs =
     ap₂ (λ (l m : List Binding). l ++ m) (declared_by_is (codes "n") name) (declared_from_is 0 attrs)
 
@@ -125,12 +126,12 @@ spelled_at true b prefix local = refl
 spelled_at false true prefix local = refl
 spelled_at false false prefix local = refl
 
-pub written_name-spelled : (prefix : List ℕ) (name : Name) → written_name prefix name
+pub written_name-spelled : (prefix : List ℕ) (name : Expanded) → written_name prefix name
     ≡ spelled (kind name.space) prefix name.local
 written_name-spelled prefix name =
     spelled_at (is_nil name.space) (bytes_eq name.space xml_space) prefix name.local
 
-declaration_at : (a b : Bool) (prefix space : List ℕ) (rest : List Attribute)
+declaration_at : (a b : Bool) (prefix space : List ℕ) (rest : List WrittenAttribute)
     → (if a || b then [] else codes " xmlns:" ++ (prefix ++ (codes "=" ++ quoted space))) ++ written_attributes rest
     ≡ written_attributes (declared (if a then bare else if b then of_xml else own) prefix space ++ rest)
 declaration_at true b prefix space rest = refl
@@ -138,13 +139,13 @@ declaration_at false true prefix space rest = refl
 declaration_at false false prefix space rest =
     ap (λ l. codes " xmlns:" ++ l) (append_assoc prefix (codes "=" ++ quoted space) (written_attributes rest))
 
-declaration_text : (prefix : List ℕ) (name : Name) (rest : List Attribute)
+declaration_text : (prefix : List ℕ) (name : Expanded) (rest : List WrittenAttribute)
     → declaration prefix name ++ written_attributes rest ≡ written_attributes (declared (kind name.space) prefix
     name.space ++ rest)
 declaration_text prefix name rest =
     declaration_at (is_nil name.space) (bytes_eq name.space xml_space) prefix name.space rest
 
-attribute_raw : (prefix : List ℕ) (a : Attr) (rest : List Attribute)
+attribute_raw : (prefix : List ℕ) (a : Attr) (rest : List WrittenAttribute)
     → attribute_text prefix a ++ written_attributes rest ≡ written_attributes (raw_at (kind a.name.space) prefix a rest)
 attribute_raw prefix a rest =
     let k = kind a.name.space in
@@ -161,12 +162,12 @@ attributes_raw i (a ∷ attrs) =
     ap (λ l. attribute_text (attribute_prefix i) a ++ l) (attributes_raw (i + 1) attrs)
     ∙ attribute_raw (attribute_prefix i) a (raws (i + 1) attrs)
 
-mark_raw : (marked : Bool) (rest : List Attribute) → mark marked ++ written_attributes rest ≡ written_attributes
+mark_raw : (marked : Bool) (rest : List WrittenAttribute) → mark marked ++ written_attributes rest ≡ written_attributes
     (raw_mark marked ++ rest)
 mark_raw true rest = refl
 mark_raw false rest = refl
 
-pub tag_raw : (marked : Bool) (name : Name) (attrs : List Attr) → tag_text marked name attrs
+pub tag_raw : (marked : Bool) (name : Expanded) (attrs : List Attr) → tag_text marked name attrs
     ≡ written_attributes (raw_tag marked name attrs)
 tag_raw marked name attrs =
     ap (λ l. declaration (codes "n") name ++ (mark marked ++ l)) (attributes_raw 0 attrs)
@@ -180,7 +181,7 @@ pub record Known : Type 0 where
   pub text : (bytes : List ℕ) → IsChars bytes → IsText (escaped_text bytes) bytes
   pub value : (bytes : List ℕ) → IsChars bytes → IsValue (34 ∷ (escaped_value bytes ++ 34 ∷ [])) bytes
 
-pub attributes_from : Known → (attributes : List Attribute) → AllByRecursion IsAttributeWritten attributes
+pub attributes_from : Known → (attributes : List WrittenAttribute) → AllByRecursion IsAttributeWritten attributes
     → IsAttributes (written_attributes attributes) attributes
 attributes_from known [] all = end [] tt
 attributes_from known (a ∷ attributes) all =
@@ -194,7 +195,7 @@ spelled-IsQName bare prefix local p l = unprefixed local l
 spelled-IsQName of_xml prefix local p l = prefixed (codes "xml") local xml-IsName l
 spelled-IsQName own prefix local p l = prefixed prefix local p l
 
-declared_each : (k : Kind) (prefix space : List ℕ) (rest : List Attribute) → IsName prefix → IsChars space
+declared_each : (k : Kind) (prefix space : List ℕ) (rest : List WrittenAttribute) → IsName prefix → IsChars space
     → AllByRecursion IsAttributeWritten rest → AllByRecursion IsAttributeWritten (declared k prefix space ++ rest)
 declared_each bare prefix space rest p s all = all
 declared_each of_xml prefix space rest p s all = all
@@ -215,7 +216,7 @@ raws_each i (a ∷ attrs) few all =
       raws_each (i + 1) attrs (omega arith) all.1,
     )
 
-mark_each : (marked : Bool) (rest : List Attribute) → AllByRecursion IsAttributeWritten rest
+mark_each : (marked : Bool) (rest : List WrittenAttribute) → AllByRecursion IsAttributeWritten rest
     → AllByRecursion IsAttributeWritten (raw_mark marked ++ rest)
 mark_each false rest all = all
 mark_each true rest all = (
@@ -224,7 +225,7 @@ mark_each true rest all = (
 )
 
 -- the attributes of a written tag are attributes
-pub tag_attributes : Known → (marked : Bool) (name : Name) (decls : List Binding) (attrs : List Attr)
+pub tag_attributes : Known → (marked : Bool) (name : Expanded) (decls : List Binding) (attrs : List Attr)
     → IsTagWritable name decls attrs → IsAttributes (tag_text marked name attrs) (raw_tag marked name attrs)
 tag_attributes known marked name decls attrs is =
     let P : List ℕ → Type 0 = λ l. IsAttributes l (raw_tag marked name attrs) in

@@ -7,7 +7,7 @@ use Rattle.soap_document.specs.Grammar.{start_tag, end_tag}
 use Rattle.soap_document.specs.Tokens.{is_nil}
 use Rattle.soap_profile.specs.Namespaces.{xml_space}
 use Rattle.soap_profile.specs.Tree.{Element, element, Parts, none, text, child}
-use Rattle.soap_profile.specs.declared.name.Expanded.{Expanded as Name}
+use Rattle.soap_profile.specs.declared.name.Expanded.{Expanded}
 use Rattle.soap_profile.specs.declared.tree.Attr.{Attr}
 
 -- a value between double quotes
@@ -15,13 +15,13 @@ abbrev pub quoted : List ℕ → List ℕ
 quoted value = codes "\"" ++ (escaped_value value ++ codes "\"")
 
 -- a name in no namespace, in that of xml, whose prefix is always bound, or in one that is bound to the prefix
-abbrev pub written_name : List ℕ → Name → List ℕ
+abbrev pub written_name : List ℕ → Expanded → List ℕ
 written_name prefix name =
     if is_nil name.space then name.local else if bytes_eq name.space xml_space then codes "xml:" ++ name.local
     else prefix ++ (codes ":" ++ name.local)
 
 -- the declaration of the prefix, where the name needs one
-abbrev pub declaration : List ℕ → Name → List ℕ
+abbrev pub declaration : List ℕ → Expanded → List ℕ
 declaration prefix name =
     if is_nil name.space || bytes_eq name.space xml_space then []
     else codes " xmlns:" ++ (prefix ++ (codes "=" ++ quoted name.space))
@@ -45,7 +45,7 @@ abbrev pub mark : Bool → List ℕ
 mark marked = if marked then codes " a:IsReferenceParameter=\"true\"" else []
 
 -- what stands behind the name in the start tag of an element
-abbrev pub tag_text : Bool → Name → List Attr → List ℕ
+abbrev pub tag_text : Bool → Expanded → List Attr → List ℕ
 tag_text marked name attrs = declaration (codes "n") name ++ (mark marked ++ attributes_text 0 attrs)
 
 -- an element, marked or not; those within it are not

@@ -7,12 +7,12 @@ use Rattle.soap_lex.specs.Characters.{IsChars}
 use Rattle.soap_document.specs.Grammar.{IsElement, IsContent, IsQName, max_depth}
 use Rattle.soap_document.specs.Tokens.{is_nil}
 use Rattle.soap_document.specs.Tree as written
-use Rattle.soap_document.specs.declared.attribute.WrittenAttribute.{WrittenAttribute as Attribute}
+use Rattle.soap_document.specs.declared.attribute.WrittenAttribute.{WrittenAttribute}
 use Rattle.rm_base.specs.declared.message.Binding.{Binding}
 use Rattle.soap_profile.specs.Namespaces.{bound, resolve, resolve_parts, is_new_name, xml_space}
 use Rattle.soap_profile.specs.Payload.{height}
 use Rattle.soap_profile.specs.Tree.{Element, element, Parts, none, text, child, attrs_of}
-use Rattle.soap_profile.specs.declared.name.Expanded.{Expanded as Name}
+use Rattle.soap_profile.specs.declared.name.Expanded.{Expanded}
 use Rattle.soap_profile.specs.declared.tree.Attr.{Attr}
 use Rattle.soap_writer.specs.ElementText.{attribute_prefix, element_text, quoted}
 use Rattle.soap_writer.specs.Frame.{addressing_space}
@@ -51,7 +51,7 @@ abbrev pub with_mark : Element → Element
 with_mark (element name decls attrs parts) = element name decls (reference_mark ∷ attrs) parts
 
 -- what a name declares of its prefix where it is written
-abbrev pub declared_by : List ℕ → Name → List Binding
+abbrev pub declared_by : List ℕ → Expanded → List Binding
 declared_by prefix name =
     if is_nil name.space || bytes_eq name.space xml_space then []
     else record { prefix = prefix; space = name.space } ∷ []
@@ -62,7 +62,7 @@ declared_from i [] = []
 declared_from i (a ∷ attrs) = declared_by (attribute_prefix i) a.name ++ declared_from (i + 1) attrs
 
 -- what a start tag declares
-abbrev pub declared_in : Name → List Attr → List Binding
+abbrev pub declared_in : Expanded → List Attr → List Binding
 declared_in name attrs = declared_by (codes "n") name ++ declared_from 0 attrs
 
 -- an element with the declarations, and the mark, with which it is written
@@ -107,12 +107,12 @@ content_of (first ∷ elements) = child first (content_of elements)
 -- ---- attributes as they are written
 
 -- a name, and a value of characters
-pub record IsAttributeWritten (a : Attribute) : Type 0 where
+pub record IsAttributeWritten (a : WrittenAttribute) : Type 0 where
   pub qname : IsQName a.name
   pub chars : IsChars a.value
 
 -- a space before each, and its value between double quotes
-abbrev pub written_attributes : List Attribute → List ℕ
+abbrev pub written_attributes : List WrittenAttribute → List ℕ
 written_attributes [] = []
 written_attributes (a ∷ attributes) =
     codes " " ++ (a.name ++ (codes "=" ++ (quoted a.value ++ written_attributes attributes)))

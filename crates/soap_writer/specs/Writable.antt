@@ -5,11 +5,11 @@ use Rattle.soap_lex.specs.Characters.{IsName, IsChars}
 use Rattle.soap_profile.specs.Namespaces.{xmlns_space, are_distinct_names}
 use Rattle.rm_base.specs.declared.message.Binding.{Binding}
 use Rattle.soap_profile.specs.Tree.{Element, element, Parts, none, text, child}
-use Rattle.soap_profile.specs.declared.name.Expanded.{Expanded as Name}
+use Rattle.soap_profile.specs.declared.name.Expanded.{Expanded}
 use Rattle.soap_profile.specs.declared.tree.Attr.{Attr}
 
 -- a local name without a colon, and a namespace of characters that is not the one of xmlns (Namespaces 3)
-pub record IsNameWritable (name : Name) : Type 0 where
+pub record IsNameWritable (name : Expanded) : Type 0 where
   pub local : IsName name.local
   pub space : IsChars name.space
   pub no_xmlns : name.space ≢ xmlns_space
@@ -21,7 +21,7 @@ pub record IsAttrWritable (a : Attr) : Type 0 where
   pub no_declaration : a.name.space ≡ [] → a.name.local ≢ codes "xmlns"
 
 -- a start tag without declarations, with attributes that a machine can count, none of them twice (Namespaces 6.3)
-pub record IsTagWritable (name : Name) (decls : List Binding) (attrs : List Attr) : Type 0 where
+pub record IsTagWritable (name : Expanded) (decls : List Binding) (attrs : List Attr) : Type 0 where
   pub named : IsNameWritable name
   pub no_decls : decls ≡ []
   pub each : AllByRecursion IsAttrWritable attrs

@@ -5,7 +5,7 @@ ghost use Rattle.std.specs.Prelude.{◌≡◌, ◌≤◌, ◌++◌, ℕ, List, [
 ghost use Rattle.std.specs.List.{AllByRecursion};
 ghost use Rattle.rm_base.specs.declared.message.Binding.{Binding};
 ghost use Rattle.soap_document.specs.Grammar.{IsAttributes, max_depth};
-ghost use Rattle.soap_document.specs.declared.attribute.WrittenAttribute.{WrittenAttribute as Attribute};
+ghost use Rattle.soap_document.specs.declared.attribute.WrittenAttribute.{WrittenAttribute};
 ghost use Rattle.soap_lex.specs.Escapes.{escaped_text};
 ghost use Rattle.soap_profile.specs.Document.{Document};
 ghost use Rattle.soap_profile.specs.Payload.{height};
@@ -68,7 +68,7 @@ pub fn content_is_read_back()
 
 /// Attributes of names and characters, each written behind a space, are the attributes of a tag.
 pub fn attributes_are_read_back()
-    ensures { (attributes : List Attribute) → AllByRecursion IsAttributeWritten attributes
+    ensures { (attributes : List WrittenAttribute) → AllByRecursion IsAttributeWritten attributes
         → IsAttributes (written_attributes attributes) attributes }
 {
     text_is_read_back();

@@ -4,7 +4,7 @@ use Rattle.std.specs.List.{filter}
 use Rattle.soap_profile.specs.Items.{Item, a_declaration, an_attribute, a_text, a_child, decls_among, attrs_among}
 use Rattle.soap_profile.specs.Items.{parts_among}
 use Rattle.soap_profile.specs.Tree.{element, text, child}
-use Rattle.soap_profile.specs.declared.name.Expanded.{Expanded as Name}
+use Rattle.soap_profile.specs.declared.name.Expanded.{Expanded}
 use Rattle.soap_profile.specs.declared.tree.Attr.{Attr}
 use Rattle.soap_profile.specs.View.{items_view}
 use Rattle.soap_profile.specs.declared.tree.Item.{Item as CodeItem}
@@ -51,7 +51,7 @@ parts_are (a_text bytes ∷ is) = ap (text bytes) (parts_are is)
 parts_are (a_child e ∷ is) = ap (child e) (parts_are is)
 
 -- what is kept of an element's items is the element without its mark
-pub unmarked_view : (name : Name) (xs ys : List CodeItem) → items_view ys ≡ unmarked_items (items_view xs)
+pub unmarked_view : (name : Expanded) (xs ys : List CodeItem) → items_view ys ≡ unmarked_items (items_view xs)
     → element name (decls_among (items_view ys)) (attrs_among (items_view ys)) (parts_among (items_view ys))
     ≡ unmarked (element name (decls_among (items_view xs)) (attrs_among (items_view xs)) (parts_among (items_view xs)))
 unmarked_view name xs ys e =

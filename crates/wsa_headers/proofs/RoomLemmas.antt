@@ -10,7 +10,7 @@ use Rattle.soap_profile.specs.Items.{Item, a_declaration, an_attribute, a_text, 
 use Rattle.soap_profile.specs.Namespaces.{xml_space}
 use Rattle.soap_profile.specs.Tree.{Element, element, Parts, none, text, child}
 use Rattle.soap_profile.specs.View.{item_view, items_view, parts_view}
-use Rattle.soap_profile.specs.declared.name.Expanded.{Expanded as Name}
+use Rattle.soap_profile.specs.declared.name.Expanded.{Expanded}
 use Rattle.soap_profile.specs.declared.tree.Attr.{Attr}
 use Rattle.soap_profile.specs.declared.tree.Item.{Item as CodeItem}
 use Rattle.soap_nodes.specs.markup.ElementText.{quoted, written_name, declaration, attribute_prefix, attribute_text}
@@ -78,7 +78,7 @@ value_is (byte ∷ bytes) room =
     (value_is bytes)
     ∙ ap (λ n. left_of n room) (sym (length-append (value_escape byte) (escaped_value bytes)))
 
-name_is : (prefix : List ℕ) (name : Name) → name_length (length prefix) name ≡ length (written_name prefix name)
+name_is : (prefix : List ℕ) (name : Expanded) → name_length (length prefix) name ≡ length (written_name prefix name)
 name_is prefix name = by_kind (is_nil name.space) (bytes_eq name.space xml_space)
   where
     by_kind : (bare xml : Bool) → (if bare then length name.local else if xml then 4 + length name.local
@@ -97,7 +97,7 @@ quoted_length value =
     let c : length (codes "\"") ≡ 1 = refl in
     omega (arith, a, b, c)
 
-declaration_is : (prefix : List ℕ) (name : Name) (room : ℕ)
+declaration_is : (prefix : List ℕ) (name : Expanded) (room : ℕ)
     → declaration_room (length prefix) name room ≡ left_of (length (declaration prefix name)) room
 unfolding declaration_room
 declaration_is prefix name room = by_kind (is_nil name.space || bytes_eq name.space xml_space)
@@ -166,7 +166,7 @@ attributes_are i (a ∷ attrs) room =
     (λ left. attributes_room (i + 1) attrs left) (attributes_are (i + 1) attrs)
     ∙ ap (λ n. left_of n room) (sym (length-append (attribute_text prefix a) (attributes_text (i + 1) attrs)))
 
-tags_are : (name : Name) (attrs : List Attr) (room : ℕ) → tags_room name attrs room
+tags_are : (name : Expanded) (attrs : List Attr) (room : ℕ) → tags_room name attrs room
     ≡ left_of (5 + length (written_name (codes "n") name) + (length (written_name (codes "n") name)
     + (length (declaration (codes "n") name) + length (attributes_text 0 attrs)))) room
 unfolding tags_room

@@ -4,7 +4,7 @@ use Rattle.std.specs.Prelude.{None, codes, length, map}
 use Rattle.std.specs.List.{filter, flat_map, list_all}
 use Rattle.soap_profile.specs.Payload.{height}
 use Rattle.soap_profile.specs.Tree.{Element, element, Parts, without_declarations, parts_of, children_of}
-use Rattle.soap_profile.specs.declared.name.Expanded.{Expanded as Name}
+use Rattle.soap_profile.specs.declared.name.Expanded.{Expanded}
 use Rattle.soap_profile.specs.declared.tree.Attr.{Attr}
 use Rattle.soap_nodes.specs.markup.ElementText.{element_text}
 use Rattle.soap_nodes.specs.markup.Frame.{addressing_space}
@@ -14,7 +14,7 @@ use Rattle.soap_values.specs.Values.{trimmed_text, text_within}
 use Rattle.wsa_headers.specs.declared.endpoint.Epr.{Epr}
 
 -- a name of WS-Addressing
-abbrev pub wsa : List ℕ → Name
+abbrev pub wsa : List ℕ → Expanded
 wsa local = name_in addressing_space local
 
 -- an element of text that is an address: at most 2048 bytes, trimmed
@@ -30,7 +30,7 @@ address_in parts = do
   uri_of e
 
 -- the name of the mark of a reference parameter (SOAP Binding, 3.3)
-abbrev pub mark_name : Name
+abbrev pub mark_name : Expanded
 mark_name = wsa (codes "IsReferenceParameter")
 
 -- an attribute that isn't the mark

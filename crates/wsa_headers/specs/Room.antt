@@ -7,7 +7,7 @@ use Rattle.soap_lex.specs.Escapes.{text_escape, value_escape}
 use Rattle.soap_document.specs.Tokens.{is_nil}
 use Rattle.soap_profile.specs.Namespaces.{xml_space}
 use Rattle.soap_profile.specs.Tree.{Element, element, Parts, none, text, child}
-use Rattle.soap_profile.specs.declared.name.Expanded.{Expanded as Name}
+use Rattle.soap_profile.specs.declared.name.Expanded.{Expanded}
 use Rattle.soap_profile.specs.declared.tree.Attr.{Attr}
 use Rattle.soap_values.specs.Outcome.{◌>>=◌}
 
@@ -26,13 +26,13 @@ value_room [] room = Some room
 value_room (byte ∷ bytes) room = left_of (length (value_escape byte)) room >>= λ left. value_room bytes left
 
 -- the length of a name with a prefix of so many bytes
-abbrev pub name_length : ℕ → Name → ℕ
+abbrev pub name_length : ℕ → Expanded → ℕ
 name_length prefix name =
     if is_nil name.space then length name.local else if bytes_eq name.space xml_space then 4 + length name.local
     else prefix + (1 + length name.local)
 
 -- behind the declaration of the prefix, where the name needs one: ` xmlns:`, the prefix, `=` and two quotation marks
-unfoldable pub declaration_room : ℕ → Name → ℕ → Option ℕ
+unfoldable pub declaration_room : ℕ → Expanded → ℕ → Option ℕ
 declaration_room prefix name room =
     if is_nil name.space || bytes_eq name.space xml_space then Some room
     else (left_of (10 + prefix) room >>= λ left. value_room name.space left)
@@ -51,7 +51,7 @@ attributes_room i (a ∷ attrs) room =
     attribute_room (1 + length (decimal i)) a room >>= λ left. attributes_room (i + 1) attrs left
 
 -- behind the tags of an element: `<`, `>`, `</`, `>`, its name twice, its declaration and its attributes
-unfoldable pub tags_room : Name → List Attr → ℕ → Option ℕ
+unfoldable pub tags_room : Expanded → List Attr → ℕ → Option ℕ
 tags_room name attrs room = do
   first ← left_of (5 + name_length 1 name) room
   second ← left_of (name_length 1 name) first
