@@ -1,5 +1,5 @@
 -- Sets of message numbers as rising lists. WS-ReliableMessaging 1.2, section 3.9: numbers are named from 1 on.
-use Rattle.std.specs.Prelude.{◌≡◌, ℕ, ◌+◌, ◌<◌, Bool, false, ◌||◌, ◌==◌, nat_lt, if◌then◌else◌, max, List, [], ◌∷◌}
+use Rattle.std.specs.Prelude.{ℕ, ◌+◌, ◌<◌, Bool, false, ◌||◌, ◌==◌, nat_lt, if◌then◌else◌, max, List, [], ◌∷◌}
 
 -- each number is above low and above those before it
 abbrev pub Rises : ℕ → List ℕ → Type 0

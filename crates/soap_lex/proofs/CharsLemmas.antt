@@ -1,21 +1,17 @@
 -- Bytes that are characters of a document, and names.
 use Rattle.std.proofs.Common.{◌≡◌, ℕ, suc, ◌<◌, Bool, true, false, ◌&&◌, ◌||◌, List, [], ◌∷◌, ◌++◌, length, get_or}
 use Rattle.std.proofs.Common.{take, refl, sym, ap, ◌∙◌, arith, inl, inr}
-use Rattle.std.specs.Prelude.{◌⊎◌, ◌≢◌, ◌≤◌, nat_lt, nat_le, IsTrue, encode_utf8_all}
+use Rattle.std.specs.Prelude.{◌≢◌, ◌≤◌, IsTrue, encode_utf8_all}
 use Rattle.std.specs.List.{All, AllByRecursion, list_all, list_any}
 use Rattle.std.specs.Str.{chars, IsUtf8}
-use Rattle.std.proofs.Math.Utf8.{scalar, scalars}
 use Rattle.std.proofs.lemmas.Bool.{and_parts}
-use Rattle.std.proofs.lemmas.Bool.Decides.{nat_tests}
 use Rattle.std.proofs.lemmas.List.{get_or_past, take_all}
 use Rattle.std.proofs.lemmas.List.Elements.{All-same}
 use Rattle.std.proofs.lemmas.Bool.{cases_lt}
 use Rattle.std.proofs.lemmas.Str.{chars-encodes, encodes-chars, encodes-append, encodes-IsAscii}
-use Rattle.xml_chars.specs.Classes.{is_within, is_char, is_name_start, is_name_char, char_ranges, name_start_ranges}
-use Rattle.xml_chars.specs.Classes.{name_more_ranges}
+use Rattle.xml_chars.specs.Classes.{is_char, is_name_start, is_name_char}
 use Rattle.soap_lex.specs.Characters.{IsChars, IsName}
-use Rattle.soap_lex.specs.Scalars.{all_scalar, is_char-scalar, name_char-scalar, name_each, IsUtf8-IsChars}
-use Rattle.soap_lex.specs.Scalars.{IsUtf8-IsName}
+use Rattle.soap_lex.specs.Scalars.{all_scalar, is_char-scalar, name_char-scalar, name_each}
 
 -- each element passes, as a test
 pub all-each : (p : ℕ → Bool) (xs : List ℕ) → AllByRecursion (λ c. IsTrue (p c)) xs → list_all p xs ≡ true

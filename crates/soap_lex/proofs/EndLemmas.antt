@@ -1,13 +1,12 @@
 -- What ends in a word, and where a comment and a CDATA section end.
-use Rattle.std.proofs.Common.{◌≡◌, ◌≢◌, ℕ, ◌⊎◌, inl, inr, List, [], ◌∷◌, ◌++◌, Bool, true, false, nat_eq, Option}
-use Rattle.std.proofs.Common.{Some, None, option_map, MatchOption, Bor, length, codes, refl, sym, ap, ap₂, ◌∙◌, arith}
+use Rattle.std.proofs.Common.{◌≡◌, ℕ, ◌⊎◌, inl, inr, List, [], ◌∷◌, ◌++◌, false, nat_eq, Option}
+use Rattle.std.proofs.Common.{Some, None, length, codes, refl, sym, ap, ap₂, ◌∙◌, arith}
 use Rattle.std.proofs.Common.{append_assoc, length-append}
-use Rattle.std.specs.Str.{bytes_eq}
 use Rattle.std.proofs.lemmas.Bool.{eq-eqb, true≢false}
 use Rattle.soap_lex.specs.Characters.{Holds}
 use Rattle.soap_lex.specs.Text.{IsCdata, IsComment}
 use Rattle.soap_lex.specs.Tests.{without}
-use Rattle.soap_lex.specs.Facts.{same, differ, equal}
+use Rattle.soap_lex.specs.Facts.{same}
 use Rattle.soap_lex.specs.Ends.{without_from}
 
 -- a list has a last element, or none

@@ -1,11 +1,9 @@
 -- Words that bytes hold, and tests of every byte.
 use Rattle.std.proofs.Common.{MatchOption, Bor, subst, append_assoc, ◌≡◌, ◌≢◌, ℕ, inl, inr, Bool, true, false, not}
-use Rattle.std.proofs.Common.{nat_eq, Option, Some, None, List, [], ◌∷◌, ◌++◌, length, drop, refl, sym, ap, ap₂, ◌∙◌}
+use Rattle.std.proofs.Common.{nat_eq, Option, Some, None, List, [], ◌∷◌, ◌++◌, length, drop, refl, sym, ap, ◌∙◌}
 use Rattle.std.proofs.Math.Bool.{or-true}
-use Rattle.std.specs.List.{AllByRecursion, list_all}
-use Rattle.std.specs.Str.{bytes_eq}
-use Rattle.std.proofs.lemmas.Bool.{eqb-true, eq-eqb, ne_eqb, and_parts, or_cases, true≢false, false_from_ne_true}
-use Rattle.std.proofs.lemmas.Slice.Eq.{bytes_eq-Decides}
+use Rattle.std.specs.List.{AllByRecursion}
+use Rattle.std.proofs.lemmas.Bool.{eq-eqb, ne_eqb, or_cases, false_from_ne_true}
 use Rattle.soap_lex.specs.Characters.{Holds}
 use Rattle.soap_lex.specs.Tests.{begins, holds}
 use Rattle.soap_lex.specs.Facts.{begins-append, front_from_begins}

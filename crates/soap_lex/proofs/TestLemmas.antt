@@ -1,20 +1,18 @@
 -- The tests of characters and of runs of characters, against the grammar.
-use Rattle.std.proofs.Common.{◌≡◌, ℕ, inl, inr, Bool, true, false, not, ◌&&◌, ◌||◌, nat_eq, nat_lt, nat_le, List, []}
-use Rattle.std.proofs.Common.{◌∷◌, ◌++◌, codes, refl, sym, ap, ◌∙◌, arith}
+use Rattle.std.proofs.Common.{◌≡◌, ℕ, Bool, true, false, not, ◌&&◌, ◌||◌, nat_eq, List, []}
+use Rattle.std.proofs.Common.{◌∷◌, ◌++◌, codes, sym, ap, ◌∙◌}
 use Rattle.std.specs.List.{AllByRecursion, list_all}
 use Rattle.std.specs.Str.{chars, is_utf8, IsUtf8}
-use Rattle.std.proofs.Math.Utf8.{scalar, scalars}
-use Rattle.std.proofs.lemmas.Bool.{and_parts, or_cases, or_from}
-use Rattle.std.proofs.lemmas.Bool.Decides.{nat_tests}
+use Rattle.std.proofs.lemmas.Bool.{and_parts, or_from}
 use Rattle.std.proofs.lemmas.Str.{chars-encodes, encodes-chars, IsUtf8-from_is_utf8, is_utf8-from_IsUtf8}
-use Rattle.xml_chars.specs.Classes.{is_within, is_char, char_ranges}
+use Rattle.xml_chars.specs.Classes.{is_char}
 use Rattle.soap_lex.specs.Characters.{IsChars}
 use Rattle.soap_lex.specs.Text.{IsCharData, IsCdata, IsComment}
 use Rattle.soap_lex.specs.Value.{IsPlainValue}
 use Rattle.soap_lex.specs.Tests.{is_chars, is_char_data, is_cdata, is_comment, is_plain, holds}
 use Rattle.soap_lex.proofs.HeldLemmas.{lacks, lacks_from, lacks_byte}
 use Rattle.soap_lex.specs.Facts.{all_passes, all_from_passes}
-use Rattle.soap_lex.specs.Scalars.{scalar_within, all_scalar}
+use Rattle.soap_lex.specs.Scalars.{all_scalar}
 use Rattle.soap_lex.specs.Scalars.{is_char-scalar}
 
 -- ---- the tests

@@ -1,6 +1,6 @@
 -- What feeding a piece of an attribute value does, up to the end of a token.
-use Rattle.std.proofs.Common.{◌≡◌, ℕ, suc, ◌+◌, ◌≤◌, List, [], ◌∷◌, ◌++◌, Bool, true, false, Some, None, Option}
-use Rattle.std.proofs.Common.{length, get_or, take, drop, refl, sym, ap, subst, ◌∙◌, arith, append_assoc, append-nil}
+use Rattle.std.proofs.Common.{◌≡◌, ℕ, ◌+◌, List, [], ◌∷◌, ◌++◌, Bool, true, false, Some, None, Option}
+use Rattle.std.proofs.Common.{length, get_or, take, drop, refl, sym, ap, subst, ◌∙◌, append_assoc, append-nil}
 use Rattle.memchr.specs.Find.{IsFirstByte}
 use Rattle.soap_lex.specs.ValueMachine.{ValueState, stops, halts, longer, after_token, to_stop, run}
 use Rattle.soap_lex.proofs.TextFed.{drop_whole}

@@ -4,7 +4,7 @@ use Rattle.std.proofs.Common.{option_map, MatchOption, Bor, length, refl, sym, a
 use Rattle.std.proofs.Common.{append-nil, length-append}
 use Rattle.std.specs.Str.{bytes_eq}
 use Rattle.soap_lex.specs.Facts.{same, differ, equal}
-use Rattle.soap_lex.specs.Tests.{is_nil, without}
+use Rattle.soap_lex.specs.Tests.{without}
 use Rattle.soap_lex.specs.Bytes.{greater_than}
 
 pub without-append : (word front : List ℕ) → without word (front ++ word) ≡ Some front

@@ -1,6 +1,6 @@
 -- The classes of characters of XML 1.0 (fifth edition), sections 2.2 and 2.3, each as the ranges that the standard
 -- prints.
-use Rattle.std.specs.Prelude.{ℕ, Bool, false, ◌&&◌, ◌||◌, nat_le, List, [], ◌∷◌, ◌++◌, IsTrue}
+use Rattle.std.specs.Prelude.{ℕ, Bool, false, ◌&&◌, ◌||◌, nat_le, List, [], ◌∷◌}
 
 -- c lies in one of the ranges, whose ends belong to them
 abbrev pub is_within : List (ℕ × ℕ) → ℕ → Bool

@@ -3,8 +3,7 @@
 #![tactic(auto)]
 
 ghost use Rattle.std.specs.Prelude.{◌≡◌};
-ghost use Rattle.xml_chars.specs.Classes.{is_within as within, is_char as char_class, is_space as space_class};
-ghost use Rattle.xml_chars.specs.Classes.{is_name_start as name_start_class, is_name_char as name_char_class};
+ghost use Rattle.xml_chars.specs.Classes.{is_within, is_char, is_space, is_name_start, is_name_char};
 
 /// Production 2, Char.
 const CHARS: [(u32, u32); 5] = [
@@ -48,35 +47,35 @@ const NAME_MORE: [(u32, u32); 5] = [
 
 /// A character that a document may hold: XML 1.0, section 2.2, production 2.
 pub fn is_char(c: char) -> bool
-    ensures { result ≡ char_class c }
+    ensures { result ≡ is_char c }
 {
     is_within(&CHARS, c as u32)
 }
 
 /// White space: XML 1.0, section 2.3, production 3.
 pub fn is_space(byte: u8) -> bool
-    ensures { result ≡ space_class byte }
+    ensures { result ≡ is_space byte }
 {
     is_within(&SPACES, byte as u32)
 }
 
 /// The first character of a name without a colon: XML 1.0, section 2.3, production 4.
 pub fn is_name_start(c: char) -> bool
-    ensures { result ≡ name_start_class c }
+    ensures { result ≡ is_name_start c }
 {
     is_within(&NAME_STARTS, c as u32)
 }
 
 /// A further character of a name without a colon: XML 1.0, section 2.3, production 4a.
 pub fn is_name_char(c: char) -> bool
-    ensures { result ≡ name_char_class c }
+    ensures { result ≡ is_name_char c }
 {
     is_name_start(c) || is_within(&NAME_MORE, c as u32)
 }
 
 // One of the ranges has the character; its ends belong to it.
 fn is_within(ranges: &[(u32, u32)], c: u32) -> bool
-    ensures { result ≡ within ranges.now c }
+    ensures { result ≡ is_within ranges.now c }
 {
     for range in ranges {
         if range.0 <= c && c <= range.1 {

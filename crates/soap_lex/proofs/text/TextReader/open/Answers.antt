@@ -1,4 +1,4 @@
-use Rattle.std.proofs.Common.{List, ℕ, codes, refl, sym, ◌∙◌}
+use Rattle.std.proofs.Common.{codes, refl, sym, ◌∙◌}
 use Rattle.soap_lex.specs.Readers.{text_state}
 use Rattle.soap_lex.specs.TextMachine.{stay}
 use Rattle.soap_lex.proofs.TextRead.{begins_at, comment_begins, cdata_begins}
