@@ -1,7 +1,6 @@
 -- The items that parts are.
-use Rattle.std.proofs.Common.{◌≡◌, List, [], ◌∷◌, ◌++◌, true, length, refl, sym, ap, subst, ◌∙◌}
+use Rattle.std.proofs.Common.{◌≡◌, List, [], ◌∷◌, ◌++◌, true, length, refl, ap, ◌∙◌}
 use Rattle.std.specs.List.{list_all}
-use Rattle.std.proofs.lemmas.Bool.{and_parts}
 use Rattle.std.proofs.lemmas.List.{length-map}
 use Rattle.soap_profile.specs.Items.{Item, a_declaration, an_attribute, a_text, a_child, is_part, listed, parts_among}
 use Rattle.soap_profile.specs.Steps.{join}
@@ -22,18 +21,6 @@ listed_parts items h = listed_among (items_view items) h
 
 pub length-listed : (items : List CodeItem) → AreParts items → length (listed (parts_view items)) ≡ length items
 length-listed items h = ap (λ (xs : List Item). length xs) (listed_parts items h) ∙ length-map items item_view
-
-all_push : (xs : List Item) (x : Item) → list_all is_part xs ≡ true → is_part x ≡ true
-    → list_all is_part (xs ++ x ∷ []) ≡ true
-all_push [] x e p = rw p
-all_push (y ∷ xs) x e p =
-    let (here, later) = and_parts (is_part y) (list_all is_part xs) e in rw (here, all_push xs x later p)
-
-pub AreParts-push : (xs : List CodeItem) (x : CodeItem) → AreParts xs → is_part (item_view x) ≡ true
-    → AreParts (xs ++ x ∷ [])
-AreParts-push xs x h p =
-    subst (λ (items : List Item). list_all is_part items ≡ true) (sym (items_push xs x))
-    (all_push (items_view xs) (item_view x) h p)
 
 pub parts_view-push : (xs : List CodeItem) (x : CodeItem) → parts_view (xs ++ x ∷ [])
     ≡ join (parts_view xs) (parts_view (x ∷ []))

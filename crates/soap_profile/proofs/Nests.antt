@@ -6,7 +6,7 @@ use Rattle.soap_document.specs.declared.attribute.WrittenAttribute.{WrittenAttri
 use Rattle.soap_profile.specs.Document.{place_of}
 use Rattle.soap_profile.specs.Namespaces.{Resolved, tag_of, resolve, resolve_parts, joined}
 use Rattle.soap_profile.specs.Opened.{Opened, Nest, Root, no_tag, last_place, inner_place, opened, within, within_all}
-use Rattle.soap_profile.specs.Opened.{nest, rooted}
+use Rattle.soap_profile.specs.Opened.{nest, lone, rooted}
 use Rattle.soap_profile.specs.Steps.{join}
 use Rattle.soap_profile.specs.Tree.{Binding, Element, element, Parts, none, text, child}
 use Rattle.soap_profile.specs.declared.place.Place.{Place}
@@ -309,34 +309,30 @@ stays_broken frame (Some outer) end e = broken_tag frame outer end _ refl e
 
 -- ---- the root
 
+-- the root with this tree, where there is one
+abbrev pub alone : Option Element → Option Place → Option Place → Option Root
+alone None place last = None
+alone (Some tree) None last = None
+alone (Some tree) (Some place) last = Some (record { tree = tree; place = place; last = last })
+
+pub lone-text : (ps : Parts) (bytes : List ℕ) → lone (join ps (text bytes none)) ≡ None
+lone-text none bytes = refl
+lone-text (text b ps) bytes = refl
+lone-text (child tree none) bytes = refl
+lone-text (child tree (text b ps)) bytes = refl
+lone-text (child tree (child second ps)) bytes = refl
+
+pub lone-child : (ps : Parts) (tree : Element) → (ps ≡ none → ⊥) → lone (join ps (child tree none)) ≡ None
+lone-child none tree h = absurd (h refl)
+lone-child (text b ps) tree h = refl
+lone-child (child first none) tree h = refl
+lone-child (child first (text b ps)) tree h = refl
+lone-child (child first (child second ps)) tree h = refl
+
 -- the root, where the document has one element and nothing else
-abbrev pub alone : Parts → Option Place → Option Place → Option Root
-alone none place last = None
-alone (text bytes parts) place last = None
-alone (child tree none) None last = None
-alone (child tree none) (Some place) last = Some (record { tree = tree; place = place; last = last })
-alone (child tree (text bytes parts)) place last = None
-alone (child tree (child second parts)) place last = None
-
-pub alone-text : (ps : Parts) (bytes : List ℕ) (place last : Option Place)
-    → alone (join ps (text bytes none)) place last ≡ None
-alone-text none bytes place last = refl
-alone-text (text b ps) bytes place last = refl
-alone-text (child tree none) bytes place last = refl
-alone-text (child tree (text b ps)) bytes place last = refl
-alone-text (child tree (child second ps)) bytes place last = refl
-
-pub alone-child : (ps : Parts) (tree : Element) (place last : Option Place) → (ps ≡ none → ⊥)
-    → alone (join ps (child tree none)) place last ≡ None
-alone-child none tree place last h = absurd (h refl)
-alone-child (text b ps) tree place last h = refl
-alone-child (child first none) tree place last h = refl
-alone-child (child first (text b ps)) tree place last h = refl
-alone-child (child first (child second ps)) tree place last h = refl
-
 abbrev pub alone_within : Option Nest → Option Root
 alone_within None = None
-alone_within (Some n) = alone n.top.parts n.top.last n.top.inner
+alone_within (Some n) = alone (lone n.top.parts) n.top.last n.top.inner
 
 abbrev alone_among : Frame → Option Parts → Option Root
 alone_among frame o = alone_within (option_map (around_parts frame (record { scope = []; tag = no_tag; below = [] })) o)

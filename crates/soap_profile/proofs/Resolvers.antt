@@ -10,12 +10,12 @@ use Rattle.soap_profile.specs.Items.{Item, a_declaration, an_attribute, a_text, 
 use Rattle.soap_profile.specs.Items.{parts_among}
 use Rattle.soap_profile.specs.Namespaces.{Resolved, resolve_parts}
 use Rattle.soap_profile.specs.Opened as abstract
+use Rattle.soap_profile.specs.Opened.{lone}
 use Rattle.soap_profile.specs.Resolving.{Stands, sound, broken, opened_view, nest_view}
 use Rattle.soap_profile.specs.Scope.{InForce}
 use Rattle.soap_profile.specs.Steps.{join}
 use Rattle.soap_profile.specs.Tree.{Attr, Binding, Element, element, Parts, text, child, none}
 use Rattle.soap_profile.specs.View.{element_view, item_view, items_view, decls_view, attrs_view, parts_view, tag_view}
-use Rattle.soap_profile.specs.declared.place.Place.{Place}
 use Rattle.soap_profile.specs.declared.resolver.Opened.{Opened}
 use Rattle.soap_profile.specs.declared.resolver.Resolver.{Resolver}
 use Rattle.soap_profile.specs.declared.scope.Scope.{Scope}
@@ -26,7 +26,7 @@ use Rattle.soap_profile.specs.declared.tree.Item.TheVariants.{Text, Child, rolls
 use Rattle.soap_profile.specs.declared.tree.Item.TheVariants.{rolls-Text, rolls-Child}
 use Rattle.soap_profile.proofs.Items.{item_declaration, item_attribute, item_text, item_child, element_is, items_push}
 use Rattle.soap_profile.proofs.Items.{decls-append, attrs-append, parts-append}
-use Rattle.soap_profile.proofs.Nests.{nest_broken, with_child, with_closed, tree_of, alone, alone-text, alone-child}
+use Rattle.soap_profile.proofs.Nests.{nest_broken, with_child, with_closed, tree_of, lone-text, lone-child}
 
 -- it has the open elements
 pub record IsSound (r : Resolver) (top : Frame) (below : List Frame) : Type 0 where
@@ -210,24 +210,22 @@ some_more : {A : Type 0} (xs : List A) (x : A) → xs ++ x ∷ [] ≡ [] → ⊥
 some_more [] x e = cc
 some_more (y ∷ xs) x e = cc
 
-other_last : (old new : List CodeItem) (x : CodeItem) (place last : Option Place) → old ≡ new ++ x ∷ [] → IsOther x
-    → IsUntagged old → alone (parts_view old) place last ≡ None
-other_last old new x place last e (is_declaration b s) u =
+other_last : (old new : List CodeItem) (x : CodeItem) → old ≡ new ++ x ∷ [] → IsOther x → IsUntagged old
+    → lone (parts_view old) ≡ None
+other_last old new x e (is_declaration b s) u =
     absurd (some_more (decls_view new) b (sym (decls-append (items_view new) (a_declaration b ∷ []))
     ∙ ap decls_among (sym (pushed new old x (a_declaration b) e s)) ∙ u.decls))
-other_last old new x place last e (is_attribute a s) u =
+other_last old new x e (is_attribute a s) u =
     absurd (some_more (attrs_view new) a (sym (attrs-append (items_view new) (an_attribute a ∷ []))
     ∙ ap attrs_among (sym (pushed new old x (an_attribute a) e s)) ∙ u.attrs))
-other_last old new x place last e (is_text bytes s) u =
-    ap (λ (ps : Parts). alone ps place last) (ap parts_among (pushed new old x (a_text bytes) e s)
-    ∙ parts-append (items_view new) (a_text bytes ∷ []))
-    ∙ alone-text (parts_view new) bytes place last
+other_last old new x e (is_text bytes s) u =
+    ap lone (ap parts_among (pushed new old x (a_text bytes) e s) ∙ parts-append (items_view new) (a_text bytes ∷ []))
+    ∙ lone-text (parts_view new) bytes
 
-pub not_child : (old new : List CodeItem) (r : Option CodeItem) (x : CodeItem) (place last : Option Place) → old
-    ≡ new ++ option_to_list r → r ≡ Some x → ((e : CodeElement) → x ≡ Child e → ⊥) → IsUntagged old
-    → alone (parts_view old) place last ≡ None
-not_child old new r x place last e s h u =
-    other_last old new x place last (last_is old new r x e s) (layer_other (out-Item x) x (roll-out-Item x) h) u
+pub not_child : (old new : List CodeItem) (r : Option CodeItem) (x : CodeItem) → old ≡ new ++ option_to_list r
+    → r ≡ Some x → ((e : CodeElement) → x ≡ Child e → ⊥) → IsUntagged old → lone (parts_view old) ≡ None
+not_child old new r x e s h u =
+    other_last old new x (last_is old new r x e s) (layer_other (out-Item x) x (roll-out-Item x) h) u
 
 nothing_among : (items : List Item) → decls_among items ≡ [] → attrs_among items ≡ [] → parts_among items ≡ none → items
     ≡ []
@@ -241,11 +239,15 @@ some_parts : (items : List CodeItem) → nat_eq (length items) 0 ≡ false → I
 some_parts [] n u p = cc
 some_parts (x ∷ xs) n u p = let wrong = nothing_among (items_view (x ∷ xs)) u.decls u.attrs p in cc
 
-pub child_more : (old new : List CodeItem) (r : Option CodeItem) (tree : CodeElement) (place last : Option Place) → old
-    ≡ new ++ option_to_list r → r ≡ Some (Child tree) → nat_eq (length new) 0 ≡ false → IsUntagged old
-    → alone (parts_view old) place last ≡ None
-child_more old new r tree place last e s n u =
+pub child_more : (old new : List CodeItem) (r : Option CodeItem) (tree : CodeElement) → old ≡ new ++ option_to_list r
+    → r ≡ Some (Child tree) → nat_eq (length new) 0 ≡ false → IsUntagged old → lone (parts_view old) ≡ None
+child_more old new r tree e s n u =
     let grows = grows_child new old tree (last_is old new r (Child tree) e s) in
     let inner : IsUntagged new = record { decls = sym grows.decls ∙ u.decls; attrs = sym grows.attrs ∙ u.attrs } in
-    ap (λ (ps : Parts). alone ps place last) grows.parts
-    ∙ alone-child (parts_view new) (element_view tree) place last (some_parts new n inner)
+    ap lone grows.parts ∙ lone-child (parts_view new) (element_view tree) (some_parts new n inner)
+
+pub child_only : (old new : List CodeItem) (r : Option CodeItem) (tree : CodeElement) → old ≡ new ++ option_to_list r
+    → r ≡ Some (Child tree) → new ≡ [] → lone (parts_view old) ≡ Some (element_view tree)
+child_only old new r tree e s n =
+    ap lone (grows_child new old tree (last_is old new r (Child tree) e s)).parts
+    ∙ ap (λ (xs : List CodeItem). lone (join (parts_view xs) (child (element_view tree) none))) n

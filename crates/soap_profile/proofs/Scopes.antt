@@ -188,17 +188,7 @@ pub none_declared : (ds : List Binding) (declares : Bool) → (ds ≢ [] → IsT
 none_declared [] declares h e = refl
 none_declared (d ∷ ds) declares h e = let t : declares ≡ true = h (λ some. cc) in cc
 
--- ---- bindings one more, and one less
-
-pub IsStacked-push : (m n : Stacks) (b : Binding) (bindings : List Binding)
-    → IsStacked m bindings
-    → ((cs : List ℕ)
-    → stack_at n cs ≡ (if bytes_eq b.prefix cs then stack_at m cs ++ b.space ∷ [] else stack_at m cs))
-    → IsStacked n (b ∷ bindings)
-IsStacked-push m n b bindings h pushed = record {
-  each = λ cs. pushed cs ∙ ap (λ (xs : List (List ℕ)). if bytes_eq b.prefix cs then xs ++ b.space ∷ []
-      else xs) (h.each cs);
-}
+-- ---- bindings one less
 
 -- the stack of the prefix, and what is left of it
 pub stacked_here : (m : Stacks) (b : Binding) (bindings : List Binding)

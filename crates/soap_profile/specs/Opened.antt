@@ -4,7 +4,7 @@ use Rattle.soap_document.specs.Machine.{Frame}
 use Rattle.soap_document.specs.Tree as written
 use Rattle.soap_profile.specs.Document.{place_of}
 use Rattle.soap_profile.specs.Namespaces.{Resolved, tag_of, resolve, resolve_parts}
-use Rattle.soap_profile.specs.Tree.{Binding, Element, element, Parts, none}
+use Rattle.soap_profile.specs.Tree.{Binding, Element, element, Parts, none, text, child}
 use Rattle.soap_profile.specs.declared.place.Place.{Place}
 
 -- an open element: its tag, where its content begins, its parts so far, the place of the last element among these, and
@@ -68,6 +68,14 @@ abbrev pub nest : Frame → List Frame → Option Nest
 nest frame [] = option_map (λ parts. record { scope = []; top = opened frame no_tag parts; below = [] })
     (resolve_parts [] frame.parts)
 nest frame (outer ∷ frames) = within_all frame (nest outer frames)
+
+-- the element that content is, where it is one element and nothing else
+abbrev pub lone : Parts → Option Element
+lone none = None
+lone (text bytes parts) = None
+lone (child tree none) = Some tree
+lone (child tree (text bytes parts)) = None
+lone (child tree (child second parts)) = None
 
 -- a root with its names resolved, its place, and that of the last element within it
 pub record Root : Type 0 where

@@ -1,11 +1,6 @@
 -- Names of SOAP 1.2 Part 1.
 use Rattle.std.specs.Prelude.{ℕ, List, codes}
-use Rattle.soap_profile.specs.Tree.{Name}
 
 -- the namespace of envelopes (1.1)
 abbrev pub soap_space : List ℕ
 soap_space = codes "http://www.w3.org/2003/05/soap-envelope"
-
--- a name in it
-abbrev pub soap_name : List ℕ → Name
-soap_name local = record { space = soap_space; local = local }

@@ -1,11 +1,14 @@
 //! Names, declarations and attributes of a start tag.
 ghost use Rattle.std.specs.Prelude.{◌≡◌, ℕ, List, [], ◌∷◌, ◌++◌, if◌then◌else◌, IfOk, OnOk, Some, None, map, true};
-ghost use Rattle.std.specs.Prelude.{option_map, codes};
+ghost use Rattle.std.specs.Prelude.{option_map, codes, not, ◌&&◌, ◌||◌};
+ghost use Rattle.soap_document.specs.Tokens.{is_nil};
 ghost use Rattle.std.specs.Str.{bytes_eq};
 ghost use Rattle.soap_profile.specs.Bare.{is_bare, are_bare};
 ghost use Rattle.soap_profile.specs.Items.{a_declaration, an_attribute};
 ghost use Rattle.soap_profile.specs.Namespaces.{
   split,
+  xml_space,
+  xmlns_space,
   declared_prefix,
   may_bind,
   declarations,
@@ -85,9 +88,22 @@ fn may_bind(prefix: &[u8], space: &[u8]) -> bool
     if prefix == b"xml".as_slice() {
         return space == XML_SPACE;
     }
-    space != XML_SPACE
-        && space != XMLNS_SPACE
-        && (prefix.is_empty() || (!space.is_empty() && prefix != b"xmlns".as_slice()))
+    may_bind_other(prefix, space)
+}
+
+// The same of a prefix other than `xml`.
+fn may_bind_other(prefix: &[u8], space: &[u8]) -> bool
+    ensures { result ≡ (not (bytes_eq space.now xml_space) && (not (bytes_eq space.now xmlns_space)
+        && (is_nil prefix.now || (not (is_nil space.now) && not (bytes_eq prefix.now (codes "xmlns")))))) }
+{
+    space != XML_SPACE && space != XMLNS_SPACE && may_declare(prefix, space)
+}
+
+// No prefix is undeclared, and `xmlns` is not declared.
+fn may_declare(prefix: &[u8], space: &[u8]) -> bool
+    ensures { result ≡ (is_nil prefix.now || (not (is_nil space.now) && not (bytes_eq prefix.now (codes "xmlns")))) }
+{
+    prefix.is_empty() || (!space.is_empty() && prefix != b"xmlns".as_slice())
 }
 
 /// Appends the declarations among attributes; whether each of them may stand.

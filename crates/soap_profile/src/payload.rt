@@ -1,10 +1,16 @@
 //! What a message may carry.
-ghost use Rattle.std.specs.Prelude.{◌≡◌, [], ◌∷◌, ◌↔◌, ◌&&◌, IsTrue, IfOk, nat_le};
+ghost use Rattle.std.specs.Prelude.{◌≡◌, ◌+◌, [], ◌∷◌, ◌↔◌, ◌&&◌, IsTrue, IfOk, OnOk, length, option_map};
+ghost use Rattle.std.specs.Prelude.{nat_eq, nat_le};
+ghost use Rattle.soap_document.specs.Inside.{around};
+ghost use Rattle.soap_document.specs.Machine.{root_of, run, start};
+ghost use Rattle.soap_document.specs.Seen.{fed_len, IsTold, Sees};
+ghost use Rattle.soap_profile.specs.Opened.{rooted};
 ghost use Rattle.soap_profile.specs.Payload.{depth, is_white_outside, IsClosedContent};
+ghost use Rattle.soap_profile.specs.Resolving.{Stands, open_count, root_view};
 ghost use Rattle.soap_profile.specs.View.{parts_view};
 
 use crate::place::Place;
-use crate::resolver::Resolver;
+use crate::resolver::{Resolver, Root, root_read};
 use crate::tree::Item;
 use rm_base::Memory;
 use soap_document::laws::{content_makes_a_document, document_is_read, pieces_are_joined};
@@ -22,22 +28,42 @@ pub fn check_payload(alloc: Global, bytes: &[u8]) -> Result<bool, Memory>
 {
     document_is_read();
     content_makes_a_document();
-    pieces_are_joined();
+    let Some(root) = read_around(alloc, bytes)? else {
+        return Ok(false);
+    };
+    Ok(is_whole(bytes, root.place) && is_payload(root.tree.items.as_slice()))
+}
+
+// The root of the document around the bytes.
+fn read_around(alloc: Global, bytes: &[u8]) -> Result<Option<Root>, Memory>
+    ensures { IfOk result (λ found. option_map root_view found ≡ rooted (root_of (run start (around bytes.now)))) }
+{
     let mut reader = Reader::new(alloc, Resolver::new(alloc)?);
+    feed_around(&mut reader, bytes)?;
+    Ok(root_read(reader))
+}
+
+// Feeds the document around the bytes.
+fn feed_around(reader: &mut Reader<Resolver>, bytes: &[u8]) -> Result<(), Memory>
+    requires told { IsTold open_count reader.old }
+    requires new { fed_len reader.old ≡ 0 }
+    ensures { Sees Stands reader.old start → OnOk result (Sees Stands reader.new (run start (around bytes.now))) }
+{
+    pieces_are_joined();
     reader.feed(b"<a>")?;
     reader.feed(bytes)?;
-    reader.feed(b"</a>")?;
-    let Some(resolver) = reader.finish() else {
-        return Ok(false);
-    };
-    let Some(root) = resolver.finish() else {
-        return Ok(false);
-    };
+    reader.feed(b"</a>")
+}
+
+// Whether this is the place of the content in the document around it.
+fn is_whole(bytes: &[u8], place: Place) -> bool
+    ensures { result ≡ (nat_eq place.start 3 && nat_eq place.end (3 + length bytes.now)) }
+{
     let whole = Place {
         start: 3,
         end: 3 + bytes.len(),
     };
-    Ok(root.place == whole && is_payload(root.tree.items.as_slice()))
+    place == whole
 }
 
 fn is_payload(items: &[Item]) -> bool

@@ -7,7 +7,7 @@ ghost use Rattle.soap_profile.specs.View.{element_view};
 
 use crate::error::EnvelopeError;
 use crate::place::Place;
-use crate::resolver::Resolver;
+use crate::resolver::{Resolver, root_read};
 use crate::tree::Element;
 use rm_base::Memory;
 use soap_document::Reader;
@@ -84,10 +84,7 @@ fn read_tree(alloc: Global, bytes: &[u8]) -> Result<Option<Placed>, Memory>
     document_is_utf8();
     let mut reader = Reader::new(alloc, Resolver::new(alloc)?);
     reader.feed(bytes)?;
-    let Some(resolver) = reader.finish() else {
-        return Ok(None);
-    };
-    let Some(root) = resolver.finish() else {
+    let Some(root) = root_read(reader) else {
         return Ok(None);
     };
     Ok(Some(Placed {

@@ -1,11 +1,12 @@
 //! The tree with expanded names, while a document is read.
 ghost use Rattle.std.specs.Prelude.{◌≡◌, ◌+◌, [], None, Some, true, IfOk, OnOk, option_map};
-ghost use Rattle.soap_document.specs.Machine.{Frame, nothing_open, only_child};
-ghost use Rattle.soap_profile.specs.Opened.{no_tag, rooted};
+ghost use Rattle.soap_document.specs.Machine.{Frame, State, nothing_open, only_child, root_of};
+ghost use Rattle.soap_document.specs.Seen.{Sees};
+ghost use Rattle.soap_profile.specs.Opened.{lone, no_tag, rooted};
 ghost use Rattle.soap_profile.specs.Resolving.{Stands, open_count, opened_view, root_view};
 ghost use Rattle.soap_profile.specs.Steps.{join};
 ghost use Rattle.soap_profile.specs.Tree.{child, none};
-ghost use Rattle.soap_profile.specs.View.{element_view};
+ghost use Rattle.soap_profile.specs.View.{element_view, decls_view, attrs_view, parts_view};
 
 use crate::name::Name;
 use crate::place::Place;
@@ -14,7 +15,7 @@ use crate::shared::Shared;
 use crate::tag::resolved_tag;
 use crate::tree::{Element, Item};
 use rm_base::Memory;
-use soap_document::{Bytes, Handler, WrittenAttribute};
+use soap_document::{Bytes, Handler, Reader, WrittenAttribute};
 use std::alloc::Global;
 use std::mem;
 
@@ -83,6 +84,21 @@ fn fitted(alloc: Global, items: Vec<Item>, spare: &mut Vec<Vec<Item>>) -> Result
     Ok(fitted)
 }
 
+// The element that these are, where they are one element and nothing else.
+fn lone(items: Vec<Item>) -> Option<Element>
+    ensures { decls_view items.items ≡ [] → attrs_view items.items ≡ []
+        → option_map element_view result ≡ lone (parts_view items.items) }
+{
+    let mut items = items;
+    let Item::Child(tree) = items.pop()? else {
+        return None;
+    };
+    if !items.is_empty() {
+        return None;
+    }
+    Some(tree)
+}
+
 /// A root, where its content stands, and where that of the last element within it stands.
 #[derive(Drop)]
 pub(crate) struct Root {
@@ -144,19 +160,22 @@ impl Resolver {
             last,
             inner,
         } = self.top;
-        let mut items = element.items;
-        let Item::Child(tree) = items.pop()? else {
-            return None;
-        };
-        if !items.is_empty() {
-            return None;
-        }
         Some(Root {
-            tree,
+            tree: lone(element.items)?,
             place: last?,
             last: inner,
         })
     }
+}
+
+/// The root that a reader read, where what it was fed is a document and no rule of namespaces was broken.
+pub(crate) fn root_read(reader: Reader<Resolver>) -> Option<Root>
+    ensures { (s : State) → Sees Stands reader s → option_map root_view result ≡ rooted (root_of s) }
+{
+    let Some(resolver) = reader.finish() else {
+        return None;
+    };
+    resolver.finish()
 }
 
 impl Handler for Resolver {

@@ -1,36 +1,23 @@
-use Rattle.std.proofs.Common.{◌≡◌, Some, sym, ap, ◌∙◌}
+use Rattle.std.proofs.Common.{◌≡◌, Some, sym}
 use Rattle.soap_document.specs.Machine.{run, start}
-use Rattle.soap_profile.specs.Opened.{rooted}
 use Rattle.soap_profile.specs.Resolving.{root_view}
 use Rattle.soap_profile.proofs.Roots.{read, has_root, placed, no_document}
 use Rattle.soap_profile.proofs.read.read_tree.Goals as goal
 
 pub returns-in_default-clause-none : goal.returns-in_default-clause-none
 returns-in_default-clause-none c =
-    let end = run start c.args.bytes.now in
-    let sees = c.in_ok-feed.ensures.sees start (c.new-reader.ensures.sees c.in_ok-new.ensures.stands) in
-    no_document c.document_is_read.ensures c.args.bytes.now (ap rooted (c.in_default.ensures end sees))
+    no_document c.document_is_read.ensures c.args.bytes.now (sym (c.in_default.ensures (run start c.args.bytes.now)
+    (c.in_ok-feed.ensures.sees start (c.new-reader.ensures.sees c.in_ok-new.ensures.stands))))
 
-pub returns-in_default-finish-clause-none : goal.returns-in_default-finish-clause-none
-returns-in_default-finish-clause-none c =
-    let end = run start c.args.bytes.now in
-    let whole = c.in-Some.ensures end (c.in_ok-feed.ensures.sees start
-    (c.new-reader.ensures.sees c.in_ok-new.ensures.stands)) in
-    no_document c.document_is_read.ensures c.args.bytes.now (ap rooted whole.0
-    ∙ sym (c.in_default-finish.ensures end.top whole.1))
-
-root_is : (c : goal.In-Some-finish) → read c.args.bytes.now ≡ Some (root_view c.in-Some-finish.root)
+root_is : (c : goal.In-Some) → read c.args.bytes.now ≡ Some (root_view c.in-Some.root)
 root_is c =
-    let end = run start c.args.bytes.now in
-    let whole = c.in-Some.ensures end (c.in_ok-feed.ensures.sees start
-    (c.new-reader.ensures.sees c.in_ok-new.ensures.stands)) in
-    ap rooted whole.0 ∙ sym (c.in-Some-finish.ensures end.top whole.1)
+    sym (c.in-Some.ensures (run start c.args.bytes.now) (c.in_ok-feed.ensures.sees start
+    (c.new-reader.ensures.sees c.in_ok-new.ensures.stands)))
 
 pub returns-clause-found : goal.returns-clause-found
-returns-clause-found c = placed c.document_is_read.ensures c.args.bytes.now (root_view c.in-Some-finish.root)
-    (root_is c)
+returns-clause-found c = placed c.document_is_read.ensures c.args.bytes.now (root_view c.in-Some.root) (root_is c)
 
 pub returns-clause-utf8 : goal.returns-clause-utf8
 returns-clause-utf8 c =
-    let root = has_root c.document_is_read.ensures c.args.bytes.now (root_view c.in-Some-finish.root) (root_is c) in
+    let root = has_root c.document_is_read.ensures c.args.bytes.now (root_view c.in-Some.root) (root_is c) in
     c.document_is_utf8.ensures c.args.bytes.now root.raw root.is
