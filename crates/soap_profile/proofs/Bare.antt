@@ -8,10 +8,10 @@ use Rattle.soap_document.specs.declared.attribute.WrittenAttribute.{WrittenAttri
 use Rattle.soap_profile.specs.Bare.{is_bare, are_bare}
 use Rattle.soap_profile.specs.Namespaces.{declared_prefix, attribute_space, named, attribute_name, unless_declared}
 use Rattle.soap_profile.specs.Namespaces.{expanded, is_new, are_distinct, is_new_name, are_distinct_names}
-use Rattle.soap_profile.specs.Tree.{Attr, Binding, Name}
+use Rattle.soap_profile.specs.Tree.{Attr, Binding, Expanded}
 
 -- the name in no namespace
-abbrev bare : List ℕ → Name
+abbrev bare : List ℕ → Expanded
 bare name = record { space = []; local = name }
 
 bare_cut : (scope : List Binding) (name : List ℕ) (parts : Option (List ℕ × List ℕ))
@@ -29,7 +29,7 @@ not_true : (b : Bool) → not b ≡ true → b ≡ false
 not_true true e = cc
 not_true false e = refl
 
-new_step : (name local value : List ℕ) (declared : Option (List ℕ)) (wanted : Option Name)
+new_step : (name local value : List ℕ) (declared : Option (List ℕ)) (wanted : Option Expanded)
     (later : Option (List Attr)) (attrs : List Attr) → wanted ≡ Some (bare local) → bytes_eq local name ≡ false
     → ((others : List Attr) → later ≡ Some others → is_new_name (bare name) others ≡ true)
     → unless_declared declared wanted value later ≡ Some attrs → is_new_name (bare name) attrs ≡ true
@@ -40,7 +40,7 @@ new_step name local value None (Some found) (Some others) attrs w n h e =
     let is : found ≡ bare local = cc in
     let all : attrs ≡ record { name = found; value = value } ∷ others = cc in
     ap (is_new_name (bare name)) all
-    ∙ and_from _ _ (ap (λ (x : Name). not (bytes_eq x.local name && bytes_eq x.space [])) is
+    ∙ and_from _ _ (ap (λ (x : Expanded). not (bytes_eq x.local name && bytes_eq x.space [])) is
     ∙ ap (λ b. not (b && true)) n) (h others refl)
 
 new_bare : (scope : List Binding) (name : List ℕ) (attributes : List WrittenAttribute) (attrs : List Attr)
@@ -55,7 +55,7 @@ new_bare scope name (a ∷ attributes) attrs b n e =
     attrs (bare_name scope a.name here) (not_true _ other)
     (λ xs is. new_bare scope name attributes xs later others is) e
 
-distinct_step : (local value : List ℕ) (declared : Option (List ℕ)) (wanted : Option Name)
+distinct_step : (local value : List ℕ) (declared : Option (List ℕ)) (wanted : Option Expanded)
     (later : Option (List Attr)) (attrs : List Attr) → wanted ≡ Some (bare local)
     → ((others : List Attr) → later ≡ Some others → is_new_name (bare local) others ≡ true)
     → ((others : List Attr) → later ≡ Some others → are_distinct_names others ≡ true)
@@ -67,7 +67,7 @@ distinct_step local value None (Some found) (Some others) attrs w n h e =
     let is : found ≡ bare local = cc in
     let all : attrs ≡ record { name = found; value = value } ∷ others = cc in
     ap are_distinct_names all
-    ∙ and_from _ _ (ap (λ (x : Name). is_new_name x others) is ∙ n others refl) (h others refl)
+    ∙ and_from _ _ (ap (λ (x : Expanded). is_new_name x others) is ∙ n others refl) (h others refl)
 
 pub distinct_bare : (scope : List Binding) (attributes : List WrittenAttribute) (attrs : List Attr)
     → are_bare attributes ≡ true → are_distinct attributes ≡ true → expanded scope attributes ≡ Some attrs

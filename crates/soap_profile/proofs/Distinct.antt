@@ -24,7 +24,7 @@ use Rattle.soap_profile.specs.Items.{Item, a_declaration, an_attribute, a_text, 
 use Rattle.soap_profile.specs.Keys.{Key, Lent, same_key, differ, key_of, keys_of}
 use Rattle.soap_profile.specs.Keys.{neighbours_differ}
 use Rattle.soap_profile.specs.Namespaces.{is_new, are_distinct, is_other, is_new_name, are_distinct_names}
-use Rattle.soap_profile.specs.Tree.{Attr, Element, Name}
+use Rattle.soap_profile.specs.Tree.{Attr, Element, Expanded}
 use Rattle.soap_profile.specs.View.{item_step, element_step, item_view, element_view, items_view, attrs_view}
 use Rattle.soap_profile.specs.declared.tree.Element.{Element as CodeElement}
 use Rattle.soap_profile.specs.declared.tree.Item.{Item as CodeItem, Item-F, map-Item, fold_out-Item, out-Item}
@@ -163,7 +163,7 @@ are_distinct-keys (a ∷ attributes) = ap₂ (λ x y. x && y) (is_new-keys a.nam
 abbrev pub name_key : Attr → Key
 name_key a = (a.name.local, a.name.space)
 
-is_new_name-keys : (name : Name) (attrs : List Attr) → is_new_name name attrs
+is_new_name-keys : (name : Expanded) (attrs : List Attr) → is_new_name name attrs
     ≡ list_all (λ o. not (same_key (name.local, name.space) o)) (map name_key attrs)
 is_new_name-keys name [] = refl
 is_new_name-keys name (a ∷ attrs) = ap (λ b. is_other name a && b) (is_new_name-keys name attrs)
@@ -197,7 +197,7 @@ keys-append : (xs ys : List Lent) → keys_of (xs ++ ys) ≡ keys_of xs ++ keys_
 keys-append [] ys = refl
 keys-append (x ∷ xs) ys = ap (λ (l : List Key). key_of x ∷ l) (keys-append xs ys)
 
-new-more : (name : Name) (item : Item) (items : List Item) → is_new_name name (attrs_among (item ∷ items))
+new-more : (name : Expanded) (item : Item) (items : List Item) → is_new_name name (attrs_among (item ∷ items))
     ≡ (is_new_name name (attrs_among (item ∷ [])) && is_new_name name (attrs_among items))
 new-more name (a_declaration b) items = refl
 new-more name (an_attribute a) items =
@@ -205,7 +205,7 @@ new-more name (an_attribute a) items =
 new-more name (a_text bytes) items = refl
 new-more name (a_child e) items = refl
 
-pub is_new_name-among : (name : Name) (items : List CodeItem)
+pub is_new_name-among : (name : Expanded) (items : List CodeItem)
     → list_all (λ item. is_new_name name (attrs_view (item ∷ []))) items ≡ is_new_name name (attrs_view items)
 is_new_name-among name [] = refl
 is_new_name-among name (item ∷ items) =

@@ -2,7 +2,7 @@
 use Rattle.std.proofs.Common.{◌≡◌, ℕ, List, [], ◌∷◌, ◌++◌, Option, Some, None, option_map, refl, sym, ap, subst, ◌∙◌}
 use Rattle.soap_document.specs.Machine.{Frame, join as written_join, with_parts, only_child}
 use Rattle.soap_document.specs.Tree as written
-use Rattle.soap_document.specs.declared.attribute.WrittenAttribute.{WrittenAttribute as Attribute}
+use Rattle.soap_document.specs.declared.attribute.WrittenAttribute.{WrittenAttribute}
 use Rattle.soap_profile.specs.Document.{place_of}
 use Rattle.soap_profile.specs.Namespaces.{Resolved, tag_of, resolve, resolve_parts, joined}
 use Rattle.soap_profile.specs.Opened.{Opened, Nest, Root, no_tag, last_place, inner_place, opened, within, within_all}
@@ -220,7 +220,7 @@ nest-child frame frames e =
 -- ---- the innermost element closed
 
 -- an element without parts
-abbrev pub begun : List ℕ → List Attribute → ℕ → Frame
+abbrev pub begun : List ℕ → List WrittenAttribute → ℕ → Frame
 begun name attributes start = record { name = name; attributes = attributes; start = start; parts = written.none }
 
 -- the element that an open one is, if it ends here

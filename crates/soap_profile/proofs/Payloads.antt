@@ -5,12 +5,12 @@ use Rattle.std.proofs.lemmas.Bool.{and_parts, and_from, leb-true, le-leb, eqb-tr
 use Rattle.soap_document.specs.Grammar.{IsDocument}
 use Rattle.soap_document.specs.Inside.{IsInside, around, root_around}
 use Rattle.soap_document.specs.Tree as written
-use Rattle.soap_document.specs.declared.attribute.WrittenAttribute.{WrittenAttribute as Attribute}
+use Rattle.soap_document.specs.declared.attribute.WrittenAttribute.{WrittenAttribute}
 use Rattle.soap_profile.specs.Document.{place_of}
 use Rattle.soap_profile.specs.Namespaces.{resolve, resolve_parts}
 use Rattle.soap_profile.specs.Opened.{Root}
 use Rattle.soap_profile.specs.Payload.{depth, is_white_outside, IsClosedContent}
-use Rattle.soap_profile.specs.Tree.{Binding, Name, Attr, Element, element, Parts}
+use Rattle.soap_profile.specs.Tree.{Binding, Expanded, Attr, Element, element, Parts}
 use Rattle.soap_profile.specs.declared.place.Place.{Place}
 use Rattle.soap_profile.proofs.Roots.{IsRead, read, root_with, has_root, only_root}
 
@@ -46,7 +46,7 @@ content_made bytes root raw (Some parts) is r e =
 pub record Frames : Type 0 where
   pub made : (bytes : List ℕ) (parts : written.Parts) → IsInside bytes parts
       → IsDocument (around bytes) (root_around bytes parts)
-  pub found : (bytes name : List ℕ) (attributes : List Attribute) (start end : ℕ) (parts : written.Parts)
+  pub found : (bytes name : List ℕ) (attributes : List WrittenAttribute) (start end : ℕ) (parts : written.Parts)
       → IsDocument (around bytes) (written.element name attributes start end parts) → start ≡ 3
       → end ≡ 3 + length bytes
       → IsInside bytes parts × (written.element name attributes start end parts ≡ root_around bytes parts)
@@ -116,7 +116,8 @@ module _ (law : IsRead) (frames : Frames) where
             90 k.shallow) k.white),
       )
 
-  pub closed : (bytes : List ℕ) (root : Root) (name : Name) (decls : List Binding) (attrs : List Attr) (parts : Parts)
+  pub closed : (bytes : List ℕ) (root : Root) (name : Expanded) (decls : List Binding) (attrs : List Attr)
+      (parts : Parts)
       (answer : Bool) → read (around bytes) ≡ Some root → is_whole bytes root.place ≡ true
       → root.tree ≡ element name decls attrs parts → answer ≡ is_payload parts → IsTrue answer ↔ IsClosedContent bytes
   closed bytes root name decls attrs parts answer e p t a =

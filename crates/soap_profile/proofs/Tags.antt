@@ -13,7 +13,7 @@ use Rattle.soap_profile.specs.Namespaces.{Resolved, split, named, declarations, 
 use Rattle.soap_profile.specs.Namespaces.{expanded, are_distinct, are_distinct_names}
 use Rattle.soap_profile.specs.Opened.{start_tag}
 use Rattle.soap_profile.specs.Scope.{InForce}
-use Rattle.soap_profile.specs.Tree.{Attr, Binding, element, Name, none}
+use Rattle.soap_profile.specs.Tree.{Attr, Binding, element, Expanded, none}
 use Rattle.soap_profile.specs.View.{item_view, element_view, items_view, decls_view, attrs_view, parts_view}
 use Rattle.soap_profile.specs.declared.scope.Scope.{Scope}
 use Rattle.soap_profile.specs.declared.tree.Element.{Element as CodeElement}
@@ -22,12 +22,12 @@ use Rattle.soap_profile.specs.declared.tree.Item.TheVariants.{Attribute}
 
 -- ---- a name
 
-pub name_is : (space_of : List ℕ → Option (List ℕ)) (written prefix local space : List ℕ) (name : Name)
+pub name_is : (space_of : List ℕ → Option (List ℕ)) (written prefix local space : List ℕ) (name : Expanded)
     → (prefix, local) ≡ split written → space_of prefix ≡ Some space → name ≡ record { space = space; local = local }
     → named (split written).1 (space_of (split written).0) ≡ Some name
 name_is space_of written prefix local space name s f n =
     ap (λ (parts : List ℕ × List ℕ). named parts.1 (space_of parts.0)) (sym s) ∙ ap (named local) f
-    ∙ ap (λ (x : Name). Some x) (sym n)
+    ∙ ap (λ (x : Expanded). Some x) (sym n)
 
 -- ---- what stands in a tag
 
@@ -57,7 +57,7 @@ seen decls attrs items e =
       ),
     )
 
-resolved_as : (decls : List Binding) (wanted : Option Name) (found : Option (List Attr)) (name : Name)
+resolved_as : (decls : List Binding) (wanted : Option Expanded) (found : Option (List Attr)) (name : Expanded)
     (attrs : List Attr) (distinct : Bool) → wanted ≡ Some name → found ≡ Some attrs
     → are_distinct_names attrs ≡ distinct → option_map start_tag (resolved_with decls wanted found)
     ≡ (if distinct then Some (element name decls attrs none) else None)
@@ -65,8 +65,9 @@ resolved_as decls wanted found name attrs true w f d = rw (w, f, d)
 resolved_as decls wanted found name attrs false w f d = rw (w, f, d)
 
 -- the tag of what the items are, where the names of the attributes among them are distinct, and none where they are not
-pub tag_resolved : (decls : List Binding) (wanted : Option Name) (found : Option (List Attr)) (old new : List CodeItem)
-    (name : Name) (taken distinct : Bool) → items_view old ≡ map a_declaration decls → wanted ≡ Some name
+pub tag_resolved : (decls : List Binding) (wanted : Option Expanded) (found : Option (List Attr))
+    (old new : List CodeItem)
+    (name : Expanded) (taken distinct : Bool) → items_view old ≡ map a_declaration decls → wanted ≡ Some name
     → option_map (λ (attrs : List Attr). items_view old ++ map an_attribute attrs) found
     ≡ (if taken then Some (items_view new) else None) → taken ≡ true → are_distinct_names (attrs_view new) ≡ distinct
     → (if distinct then Some (element name (decls_view new) (attrs_view new) (parts_view new)) else None)
@@ -78,8 +79,8 @@ tag_resolved decls wanted found old new name taken distinct o w f t d =
     cc (resolved_as decls wanted found name attrs distinct w is (ap are_distinct_names (sym ats) ∙ d))
 
 -- the same of attributes without prefixes whose written names are distinct
-pub tag_bare : (scope decls : List Binding) (attributes : List WrittenAttribute) (wanted : Option Name)
-    (old new : List CodeItem) (name : Name) (taken : Bool) → items_view old ≡ map a_declaration decls
+pub tag_bare : (scope decls : List Binding) (attributes : List WrittenAttribute) (wanted : Option Expanded)
+    (old new : List CodeItem) (name : Expanded) (taken : Bool) → items_view old ≡ map a_declaration decls
     → wanted ≡ Some name → option_map (λ (attrs : List Attr). items_view old ++ map an_attribute attrs)
     (expanded scope attributes) ≡ (if taken then Some (items_view new) else None) → taken ≡ true
     → are_bare attributes ≡ true → are_distinct attributes ≡ true

@@ -4,9 +4,9 @@ use Rattle.std.specs.Prelude.{option_map, codes}
 use Rattle.std.specs.List.{list_all}
 use Rattle.std.specs.Str.{bytes_eq}
 use Rattle.soap_document.specs.Tokens.{cut, is_nil}
-use Rattle.soap_document.specs.declared.attribute.WrittenAttribute.{WrittenAttribute as Attribute}
+use Rattle.soap_document.specs.declared.attribute.WrittenAttribute.{WrittenAttribute}
 use Rattle.soap_document.specs.Tree as written
-use Rattle.soap_profile.specs.Tree.{Name, Binding, Attr, Element, element, Parts, none, text, child}
+use Rattle.soap_profile.specs.Tree.{Expanded, Binding, Attr, Element, element, Parts, none, text, child}
 
 -- the two namespaces that are bound from the start (3)
 abbrev pub xml_space : List ℕ
@@ -42,7 +42,7 @@ with_declaration (Some prefix) space later =
     later else None
 
 -- the declarations among attributes, in order; none where one may not stand
-abbrev pub declarations : List Attribute → Option (List Binding)
+abbrev pub declarations : List WrittenAttribute → Option (List Binding)
 declarations [] = Some []
 declarations (a ∷ attributes) = with_declaration (declared_prefix a.name) a.value (declarations attributes)
 
@@ -69,48 +69,48 @@ abbrev pub attribute_space : List ℕ → List Binding → Option (List ℕ)
 attribute_space prefix scope = if is_nil prefix then Some [] else prefix_space prefix scope
 
 -- the local name in this namespace
-abbrev pub named : List ℕ → Option (List ℕ) → Option Name
+abbrev pub named : List ℕ → Option (List ℕ) → Option Expanded
 named local space = option_map (λ space. record { space = space; local = local }) space
 
 -- the expanded name of an element (6.1)
-abbrev pub element_name : List Binding → List ℕ → Option Name
+abbrev pub element_name : List Binding → List ℕ → Option Expanded
 element_name scope name = named (split name).1 (element_space (split name).0 scope)
 
 -- the expanded name of an attribute (6.1)
-abbrev pub attribute_name : List Binding → List ℕ → Option Name
+abbrev pub attribute_name : List Binding → List ℕ → Option Expanded
 attribute_name scope name = named (split name).1 (attribute_space (split name).0 scope)
 
 -- an attribute before those behind it
-abbrev pub with_attribute : Option Name → List ℕ → Option (List Attr) → Option (List Attr)
+abbrev pub with_attribute : Option Expanded → List ℕ → Option (List Attr) → Option (List Attr)
 with_attribute None value later = None
 with_attribute (Some name) value later = option_map (λ attrs. record { name = name; value = value } ∷ attrs) later
 
 -- the same, unless it is a declaration
-abbrev pub unless_declared : Option (List ℕ) → Option Name → List ℕ → Option (List Attr) → Option (List Attr)
+abbrev pub unless_declared : Option (List ℕ) → Option Expanded → List ℕ → Option (List Attr) → Option (List Attr)
 unless_declared None name value later = with_attribute name value later
 unless_declared (Some prefix) name value later = later
 
 -- the attributes that are no declarations, with expanded names
-abbrev pub expanded : List Binding → List Attribute → Option (List Attr)
+abbrev pub expanded : List Binding → List WrittenAttribute → Option (List Attr)
 expanded scope [] = Some []
 expanded scope (a ∷ attributes) = unless_declared (declared_prefix a.name) (attribute_name scope a.name) a.value
     (expanded scope attributes)
 
 -- no name stands twice among attributes as they are written (XML 1.0, 3.1), and none as it is expanded (6.3)
-abbrev pub is_new : List ℕ → List Attribute → Bool
+abbrev pub is_new : List ℕ → List WrittenAttribute → Bool
 is_new name attributes = list_all (λ a. not (bytes_eq a.name name)) attributes
 
 -- no name stands twice among attributes as they are written
-abbrev pub are_distinct : List Attribute → Bool
+abbrev pub are_distinct : List WrittenAttribute → Bool
 are_distinct [] = true
 are_distinct (a ∷ attributes) = is_new a.name attributes && are_distinct attributes
 
 -- an attribute with another expanded name
-abbrev pub is_other : Name → Attr → Bool
+abbrev pub is_other : Expanded → Attr → Bool
 is_other name a = not (bytes_eq a.name.local name.local && bytes_eq a.name.space name.space)
 
 -- no attribute has this expanded name
-abbrev pub is_new_name : Name → List Attr → Bool
+abbrev pub is_new_name : Expanded → List Attr → Bool
 is_new_name name attrs = list_all (is_other name) attrs
 
 -- no expanded name stands twice among attributes (6.3)
@@ -120,29 +120,29 @@ are_distinct_names (a ∷ attrs) = is_new_name a.name attrs && are_distinct_name
 
 -- a start tag with its names resolved
 pub record Resolved : Type 0 where
-  pub name : Name
+  pub name : Expanded
   pub decls : List Binding
   pub attrs : List Attr
 
 -- a start tag whose names these are
-abbrev pub resolved_with : List Binding → Option Name → Option (List Attr) → Option Resolved
+abbrev pub resolved_with : List Binding → Option Expanded → Option (List Attr) → Option Resolved
 resolved_with decls None attrs = None
 resolved_with decls (Some name) None = None
 resolved_with decls (Some name) (Some attrs) =
     if are_distinct_names attrs then Some (record { name = name; decls = decls; attrs = attrs }) else None
 
 -- with these declarations, within these bindings
-abbrev pub tag_within : List Binding → List Binding → List ℕ → List Attribute → Option Resolved
+abbrev pub tag_within : List Binding → List Binding → List ℕ → List WrittenAttribute → Option Resolved
 tag_within decls scope name attributes = resolved_with decls (element_name (decls ++ scope) name) (expanded (decls
     ++ scope) attributes)
 
 -- with these declarations, where they may stand
-abbrev pub declaring : Option (List Binding) → List Binding → List ℕ → List Attribute → Option Resolved
+abbrev pub declaring : Option (List Binding) → List Binding → List ℕ → List WrittenAttribute → Option Resolved
 declaring None scope name attributes = None
 declaring (Some decls) scope name attributes = tag_within decls scope name attributes
 
 -- a start tag within these bindings; none where a rule is broken
-abbrev pub tag_of : List Binding → List ℕ → List Attribute → Option Resolved
+abbrev pub tag_of : List Binding → List ℕ → List WrittenAttribute → Option Resolved
 tag_of scope name attributes = if are_distinct attributes then declaring (declarations attributes) scope name
     attributes else None
 

@@ -3,14 +3,14 @@ use Rattle.std.specs.Prelude.{ℕ, List, [], ◌∷◌}
 -- a prefix, which is empty for the default namespace, and what it is bound to
 pub use Rattle.rm_base.specs.declared.message.Binding.{Binding}
 -- a namespace, empty where there is none, and a local name
-pub use Rattle.soap_profile.specs.declared.name.Expanded.{Expanded as Name}
+pub use Rattle.soap_profile.specs.declared.name.Expanded.{Expanded}
 -- an expanded name and a value
 pub use Rattle.soap_profile.specs.declared.tree.Attr.{Attr}
 
 -- elements and their parts
 mutual
   pub data Element : Type 0 where
-    element : Name → List Binding → List Attr → Parts → Element
+    element : Expanded → List Binding → List Attr → Parts → Element
 
   pub data Parts : Type 0 where
     none : Parts
@@ -28,7 +28,7 @@ abbrev mutual
   parts_without (child first parts) = child (without_declarations first) (parts_without parts)
 
 -- what an element is called
-abbrev pub name_of : Element → Name
+abbrev pub name_of : Element → Expanded
 name_of (element name decls attrs parts) = name
 
 -- the bindings that an element declares

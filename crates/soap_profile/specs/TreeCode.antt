@@ -3,13 +3,13 @@ use Rattle.std.specs.Prelude.{◌≡◌, ◌⊎◌, ℕ, List, [], ◌∷◌, Op
 use Rattle.std.proofs.Common.{ap, ◌∙◌, inl, inr}
 use Rattle.std.specs.Coded.{Coded, code_by, coded×, coded⊎, coded_list, coded_option, coded_ℕ}
 use Rattle.rm_base.specs.declared.message.Binding.{Binding}
-use Rattle.soap_profile.specs.declared.name.Expanded.{Expanded as Name}
+use Rattle.soap_profile.specs.declared.name.Expanded.{Expanded}
 use Rattle.soap_profile.specs.declared.tree.Attr.{Attr}
 use Rattle.soap_profile.specs.Tree.{Element, element, Parts, none, text, child, parts_of}
 
 -- a start tag, a text, an end tag
 pub data Token : Type 0 where
-  opens : Name → List Binding → List Attr → Token
+  opens : Expanded → List Binding → List Attr → Token
   words : List ℕ → Token
   closes : Token
 
@@ -29,7 +29,7 @@ with_text bytes [] = []
 with_text bytes (top ∷ below) = text bytes top ∷ below
 
 -- the parts that are open innermost become an element before those around it
-abbrev pub with_element : Name → List Binding → List Attr → List Parts → List Parts
+abbrev pub with_element : Expanded → List Binding → List Attr → List Parts → List Parts
 with_element name decls attrs [] = []
 with_element name decls attrs (top ∷ []) = []
 with_element name decls attrs (top ∷ next ∷ below) = child (element name decls attrs top) next ∷ below
@@ -82,7 +82,7 @@ abbrev pub text_code : Coded (List ℕ)
 text_code = coded_list coded_ℕ
 
 -- a name is kept as its two texts
-abbrev pub name_code : Coded Name
+abbrev pub name_code : Coded Expanded
 name_code = code_by (List ℕ × List ℕ) (coded× text_code text_code) (λ n. (n.space, n.local))
     (λ p. record { space = p.0; local = p.1 }) (λ _. refl)
 
@@ -93,12 +93,12 @@ binding_code = code_by (List ℕ × List ℕ) (coded× text_code text_code) (λ 
 
 -- an attribute is kept as its name and its value
 abbrev pub attr_code : Coded Attr
-attr_code = code_by (Name × List ℕ) (coded× name_code text_code) (λ a. (a.name, a.value))
+attr_code = code_by (Expanded × List ℕ) (coded× name_code text_code) (λ a. (a.name, a.value))
     (λ p. record { name = p.0; value = p.1 }) (λ _. refl)
 
 -- what a start tag or a text has; an end tag has nothing
 abbrev pub Held : Type 0
-Held = (Name × (List Binding × List Attr)) ⊎ List ℕ
+Held = (Expanded × (List Binding × List Attr)) ⊎ List ℕ
 
 -- what a token has
 abbrev pub held_of : Token → Option Held

@@ -25,7 +25,7 @@ ghost use Rattle.soap_profile.specs.Namespaces.{
 };
 ghost use Rattle.soap_profile.specs.Scope.{InForce, IsStacked};
 ghost use Rattle.soap_profile.specs.Steps.{Declares, Expands};
-ghost use Rattle.soap_profile.specs.Tree.{Binding as Bound};
+ghost use Rattle.soap_profile.specs.Tree.{Binding};
 ghost use Rattle.soap_profile.specs.View.{items_view, decls_view, attrs_view};
 
 use crate::keys::all_differ;
@@ -99,7 +99,7 @@ fn may_bind_other(prefix: &[u8], space: &[u8]) -> bool
     space != XML_SPACE && space != XMLNS_SPACE && may_declare(prefix, space)
 }
 
-// No prefix is undeclared, and `xmlns` is not declared.
+// The prefix is empty, or it is bound to some namespace and is not `xmlns`.
 fn may_declare(prefix: &[u8], space: &[u8]) -> bool
     ensures { result ≡ (is_nil prefix.now || (not (is_nil space.now) && not (bytes_eq prefix.now (codes "xmlns")))) }
 {
@@ -149,7 +149,7 @@ fn declare(
 }
 
 fn prefix_space<'a>(prefix: &[u8], scope: &'a Scope) -> Option<&'a Shared>
-    ensures { (bindings : List Bound) → IsStacked scope.now.stacks bindings
+    ensures { (bindings : List Binding) → IsStacked scope.now.stacks bindings
         → option_map (λ x. x.now) result ≡ prefix_space prefix.now bindings }
 {
     if prefix == b"xml".as_slice() {
@@ -170,7 +170,7 @@ fn shared(space: Option<&Shared>) -> Result<Option<Shared>, Memory>
 }
 
 fn element_space(prefix: &[u8], scope: &Scope) -> Result<Option<Shared>, Memory>
-    ensures { (bindings : List Bound) → IsStacked scope.now.stacks bindings
+    ensures { (bindings : List Binding) → IsStacked scope.now.stacks bindings
         → IfOk result (λ found. found ≡ element_space prefix.now bindings) }
 {
     if !prefix.is_empty() {
@@ -183,7 +183,7 @@ fn element_space(prefix: &[u8], scope: &Scope) -> Result<Option<Shared>, Memory>
 }
 
 fn attribute_space(prefix: &[u8], scope: &Scope) -> Result<Option<Shared>, Memory>
-    ensures { (bindings : List Bound) → IsStacked scope.now.stacks bindings
+    ensures { (bindings : List Binding) → IsStacked scope.now.stacks bindings
         → IfOk result (λ found. found ≡ attribute_space prefix.now bindings) }
 {
     if prefix.is_empty() {
@@ -214,9 +214,9 @@ pub(crate) fn element_name(
     written: &[u8],
     scope: &mut Scope,
 ) -> Result<Option<Name>, Memory>
-    ensures name { (bindings : List Bound) → InForce scope.old bindings
+    ensures name { (bindings : List Binding) → InForce scope.old bindings
         → IfOk result (λ found. found ≡ element_name bindings written.now) }
-    ensures same { (bindings : List Bound) → InForce scope.old bindings → OnOk result (InForce scope.new bindings) }
+    ensures same { (bindings : List Binding) → InForce scope.old bindings → OnOk result (InForce scope.new bindings) }
 {
     if let Some(name) = scope.elements.find(written) {
         return Ok(Some(name.share()?));
@@ -231,9 +231,9 @@ pub(crate) fn element_name(
 }
 
 fn attribute_name(alloc: Global, written: &[u8], scope: &mut Scope) -> Result<Option<Name>, Memory>
-    ensures name { (bindings : List Bound) → InForce scope.old bindings
+    ensures name { (bindings : List Binding) → InForce scope.old bindings
         → IfOk result (λ found. found ≡ attribute_name bindings written.now) }
-    ensures same { (bindings : List Bound) → InForce scope.old bindings → OnOk result (InForce scope.new bindings) }
+    ensures same { (bindings : List Binding) → InForce scope.old bindings → OnOk result (InForce scope.new bindings) }
 {
     if let Some(name) = scope.attributes.find(written) {
         return Ok(Some(name.share()?));
@@ -254,11 +254,11 @@ pub(crate) fn expanded(
     items: &mut Vec<Item>,
     scope: &mut Scope,
 ) -> Result<bool, Memory>
-    ensures attrs { (bindings : List Bound) → InForce scope.old bindings → IfOk result (λ taken.
+    ensures attrs { (bindings : List Binding) → InForce scope.old bindings → IfOk result (λ taken.
         option_map (λ attrs. items_view items.old.items ++ map an_attribute attrs)
         (expanded bindings attributes.now) ≡ (if taken then Some (items_view items.new.items) else None)) }
     ensures decls { OnOk result (decls_view items.new.items ≡ decls_view items.old.items) }
-    ensures same { (bindings : List Bound) → InForce scope.old bindings → OnOk result (InForce scope.new bindings) }
+    ensures same { (bindings : List Binding) → InForce scope.old bindings → OnOk result (InForce scope.new bindings) }
 {
     for attribute in attributes {
         if !expand(alloc, attribute, items, scope)? {
@@ -275,10 +275,10 @@ fn expand(
     items: &mut Vec<Item>,
     scope: &mut Scope,
 ) -> Result<bool, Memory>
-    ensures attrs { (bindings : List Bound) → InForce scope.old bindings
+    ensures attrs { (bindings : List Binding) → InForce scope.old bindings
         → IfOk result (Expands bindings attribute.now (items_view items.old.items) (items_view items.new.items)) }
     ensures decls { OnOk result (decls_view items.new.items ≡ decls_view items.old.items) }
-    ensures same { (bindings : List Bound) → InForce scope.old bindings → OnOk result (InForce scope.new bindings) }
+    ensures same { (bindings : List Binding) → InForce scope.old bindings → OnOk result (InForce scope.new bindings) }
 {
     if declared_prefix(attribute.name.as_slice()).is_some() {
         return Ok(true);

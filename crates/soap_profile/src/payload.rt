@@ -43,7 +43,7 @@ fn read_around(alloc: Global, bytes: &[u8]) -> Result<Option<Root>, Memory>
     Ok(root_read(reader))
 }
 
-// Feeds the document around the bytes.
+// Feeds a new reader the document around the bytes.
 fn feed_around(reader: &mut Reader<Resolver>, bytes: &[u8]) -> Result<(), Memory>
     requires told { IsTold open_count reader.old }
     requires new { fed_len reader.old ≡ 0 }

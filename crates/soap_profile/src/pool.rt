@@ -1,7 +1,7 @@
 //! Written names that stand in a document again and again, and what they are resolved to.
 ghost use Rattle.std.specs.Prelude.{◌≡◌, ℕ, List, Option, Some, None, All, IfOk, IfSome, OnOk};
 ghost use Rattle.soap_profile.specs.Pool.{Knows};
-ghost use Rattle.soap_profile.specs.Tree.{Name as Expanded};
+ghost use Rattle.soap_profile.specs.Tree.{Expanded};
 ghost use Rattle.soap_profile.specs.declared.pool.Met.{Met};
 
 use crate::name::Name;

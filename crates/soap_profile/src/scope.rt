@@ -3,7 +3,7 @@ ghost use Rattle.std.specs.Prelude.{◌≡◌, [], ◌∷◌, ◌++◌, IsTrue, 
 ghost use Rattle.soap_profile.specs.Namespaces.{bound, element_name, attribute_name, xml_space};
 ghost use Rattle.soap_profile.specs.Pool.{Knows};
 ghost use Rattle.soap_profile.specs.Scope.{InForce, IsStacked};
-ghost use Rattle.soap_profile.specs.Tree.{Binding as Bound};
+ghost use Rattle.soap_profile.specs.Tree.{Binding};
 ghost use Rattle.soap_profile.specs.View.{decls_view};
 
 use crate::pool::Pool;
@@ -56,7 +56,7 @@ impl Scope {
 
     /// What a prefix is bound to.
     pub(crate) fn bound(&self, prefix: &[u8]) -> Option<&Shared>
-        ensures { (bindings : List Bound) → IsStacked self.now.stacks bindings
+        ensures { (bindings : List Binding) → IsStacked self.now.stacks bindings
             → option_map (λ x. x.now) result ≡ bound prefix.now bindings }
     {
         top(&self.stacks, prefix)
@@ -64,7 +64,7 @@ impl Scope {
 
     /// Within an element that has these declarations.
     pub(crate) fn enter(&mut self, alloc: Global, items: &[Item]) -> Result<(), Memory>
-        ensures { (bindings : List Bound) → InForce self.old bindings
+        ensures { (bindings : List Binding) → InForce self.old bindings
             → OnOk result (InForce self.new (decls_view items.now ++ bindings)) }
     {
         bind_all(alloc, items, &mut self.stacks)?;
@@ -74,7 +74,7 @@ impl Scope {
 
     /// Behind an element that has these declarations.
     pub(crate) fn leave(&mut self, items: &[Item])
-        ensures { (bindings : List Bound) → InForce self.old (decls_view items.now ++ bindings)
+        ensures { (bindings : List Binding) → InForce self.old (decls_view items.now ++ bindings)
             → InForce self.new bindings }
     {
         if !declares(items) {
@@ -86,7 +86,7 @@ impl Scope {
 
     // What was known of names holds no longer where bindings have changed.
     fn forget(&mut self)
-        ensures { (before bindings : List Bound) → Knows (element_name before) self.old.elements
+        ensures { (before bindings : List Binding) → Knows (element_name before) self.old.elements
             → Knows (attribute_name before) self.old.attributes → IsStacked self.old.stacks bindings
             → InForce self.new bindings }
     {
@@ -109,7 +109,7 @@ fn declares(items: &[Item]) -> bool
 
 // The first declaration is bound last: it is the innermost.
 fn bind_all(alloc: Global, items: &[Item], stacks: &mut Stacks) -> Result<(), Memory>
-    ensures { (bindings : List Bound) → IsStacked stacks.old bindings
+    ensures { (bindings : List Binding) → IsStacked stacks.old bindings
         → OnOk result (IsStacked stacks.new (decls_view items.now ++ bindings)) }
 {
     let mut left = items.len();
@@ -121,7 +121,7 @@ fn bind_all(alloc: Global, items: &[Item], stacks: &mut Stacks) -> Result<(), Me
 }
 
 fn bind(alloc: Global, item: &Item, stacks: &mut Stacks) -> Result<(), Memory>
-    ensures { (bindings : List Bound) → IsStacked stacks.old bindings
+    ensures { (bindings : List Binding) → IsStacked stacks.old bindings
         → OnOk result (IsStacked stacks.new (decls_view (item.now ∷ []) ++ bindings)) }
 {
     if let Item::Declaration(declaration) = item {
@@ -132,7 +132,7 @@ fn bind(alloc: Global, item: &Item, stacks: &mut Stacks) -> Result<(), Memory>
 }
 
 fn unbind_all(items: &[Item], stacks: &mut Stacks)
-    ensures { (bindings : List Bound) → IsStacked stacks.old (decls_view items.now ++ bindings)
+    ensures { (bindings : List Binding) → IsStacked stacks.old (decls_view items.now ++ bindings)
         → IsStacked stacks.new bindings }
 {
     for item in items {
@@ -141,7 +141,7 @@ fn unbind_all(items: &[Item], stacks: &mut Stacks)
 }
 
 fn unbind(item: &Item, stacks: &mut Stacks)
-    ensures { (bindings : List Bound) → IsStacked stacks.old (decls_view (item.now ∷ []) ++ bindings)
+    ensures { (bindings : List Binding) → IsStacked stacks.old (decls_view (item.now ∷ []) ++ bindings)
         → IsStacked stacks.new bindings }
 {
     if let Item::Declaration(declaration) = item {

@@ -5,7 +5,7 @@ ghost use Rattle.soap_profile.specs.Namespaces.{tag_of, resolved_with, element_n
 ghost use Rattle.soap_profile.specs.Namespaces.{expanded, are_distinct};
 ghost use Rattle.soap_profile.specs.Opened.{start_tag};
 ghost use Rattle.soap_profile.specs.Scope.{InForce};
-ghost use Rattle.soap_profile.specs.Tree.{Binding as Bound};
+ghost use Rattle.soap_profile.specs.Tree.{Binding};
 ghost use Rattle.soap_profile.specs.View.{element_view, items_view, decls_view};
 
 use crate::names::{
@@ -27,9 +27,9 @@ pub(crate) fn resolved_tag(
     scope: &mut Scope,
 ) -> Result<Option<Element>, Memory>
     requires { items.items ≡ [] }
-    ensures tag { (bindings : List Bound) → InForce scope.old bindings → IfOk result (λ found.
+    ensures tag { (bindings : List Binding) → InForce scope.old bindings → IfOk result (λ found.
         option_map element_view found ≡ option_map start_tag (tag_of bindings name.now attributes.now)) }
-    ensures within { (bindings : List Bound) → InForce scope.old bindings → IfOk result (λ found. IfSome found (λ e.
+    ensures within { (bindings : List Binding) → InForce scope.old bindings → IfOk result (λ found. IfSome found (λ e.
         InForce scope.new (decls_view e.items.items ++ bindings))) }
 {
     if attributes.is_empty() {
@@ -46,9 +46,9 @@ fn bare_tag(
     scope: &mut Scope,
 ) -> Result<Option<Element>, Memory>
     requires { items.items ≡ [] }
-    ensures tag { (bindings : List Bound) → InForce scope.old bindings → IfOk result (λ found.
+    ensures tag { (bindings : List Binding) → InForce scope.old bindings → IfOk result (λ found.
         option_map element_view found ≡ option_map start_tag (tag_of bindings name.now [])) }
-    ensures within { (bindings : List Bound) → InForce scope.old bindings → IfOk result (λ found. IfSome found (λ e.
+    ensures within { (bindings : List Binding) → InForce scope.old bindings → IfOk result (λ found. IfSome found (λ e.
         InForce scope.new (decls_view e.items.items ++ bindings))) }
 {
     let Some(name) = element_name(alloc, name, scope)? else {
@@ -66,9 +66,9 @@ fn full_tag(
     scope: &mut Scope,
 ) -> Result<Option<Element>, Memory>
     requires { items.items ≡ [] }
-    ensures tag { (bindings : List Bound) → InForce scope.old bindings → IfOk result (λ found.
+    ensures tag { (bindings : List Binding) → InForce scope.old bindings → IfOk result (λ found.
         option_map element_view found ≡ option_map start_tag (tag_of bindings name.now attributes.now)) }
-    ensures within { (bindings : List Bound) → InForce scope.old bindings → IfOk result (λ found. IfSome found (λ e.
+    ensures within { (bindings : List Binding) → InForce scope.old bindings → IfOk result (λ found. IfSome found (λ e.
         InForce scope.new (decls_view e.items.items ++ bindings))) }
 {
     if !are_distinct(alloc, attributes)? {
@@ -93,13 +93,13 @@ fn tag_within(
     scope: &mut Scope,
 ) -> Result<Option<Element>, Memory>
     requires { are_distinct attributes.now ≡ true }
-    ensures tag { (bindings decls : List Bound) → InForce scope.old bindings
+    ensures tag { (bindings decls : List Binding) → InForce scope.old bindings
         → items_view items.items ≡ map a_declaration decls → IfOk result (λ found. option_map element_view found
         ≡ option_map start_tag (resolved_with decls (element_name bindings name.now)
         (expanded bindings attributes.now))) }
-    ensures decls { (decls : List Bound) → items_view items.items ≡ map a_declaration decls
+    ensures decls { (decls : List Binding) → items_view items.items ≡ map a_declaration decls
         → IfOk result (λ found. IfSome found (λ e. decls_view e.items.items ≡ decls)) }
-    ensures same { (bindings : List Bound) → InForce scope.old bindings → OnOk result (InForce scope.new bindings) }
+    ensures same { (bindings : List Binding) → InForce scope.old bindings → OnOk result (InForce scope.new bindings) }
 {
     let Some(name) = element_name(alloc, name, scope)? else {
         return Ok(None);

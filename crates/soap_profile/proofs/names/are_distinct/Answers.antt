@@ -1,5 +1,5 @@
 use Rattle.std.proofs.Common.{[], map, sym, ap, ◌∙◌}
-use Rattle.soap_document.specs.declared.attribute.WrittenAttribute.{WrittenAttribute as Attribute}
+use Rattle.soap_document.specs.declared.attribute.WrittenAttribute.{WrittenAttribute}
 use Rattle.soap_profile.specs.Keys.{differ}
 use Rattle.soap_profile.proofs.Distinct.{same_answer, alone, are_distinct-keys, taken_all}
 use Rattle.soap_profile.proofs.names.are_distinct.Goals as goal
@@ -8,7 +8,7 @@ pub returns : goal.returns
 returns c =
     let all = c.args.attributes.now in
     same_answer c.all_differ.result _ _ c.all_differ.ensures
-    (ap differ (c.loop-attribute.invariant ∙ ap (map (λ (a : Attribute). (a.name, []))) (taken_all
+    (ap differ (c.loop-attribute.invariant ∙ ap (map (λ (a : WrittenAttribute). (a.name, []))) (taken_all
     c.loop-attribute.attribute-index all c.loop-attribute-test.false)) ∙ sym (are_distinct-keys all))
 
 pub returns-then-attributes-lt2 : goal.returns-then-attributes-lt2

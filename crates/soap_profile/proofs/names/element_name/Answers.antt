@@ -1,12 +1,12 @@
 use Rattle.std.proofs.Common.{◌≡◌, List, ℕ, Some, sym, ap, ◌∙◌}
 use Rattle.soap_profile.specs.Namespaces.{element_name, element_space}
-use Rattle.soap_profile.specs.Tree.{Name}
+use Rattle.soap_profile.specs.Tree.{Expanded}
 use Rattle.soap_profile.proofs.Tags.{name_is}
 use Rattle.soap_profile.proofs.names.element_name.Goals as goal
 
 pub returns-in-Some-clause-name : goal.returns-in-Some-clause-name
 returns-in-Some-clause-name c = λ bindings h.
-    ap (λ (x : Name). Some x) c.in_ok-share.ensures ∙ sym (c.in-Some.ensures (element_name bindings) h.elements)
+    ap (λ (x : Expanded). Some x) c.in_ok-share.ensures ∙ sym (c.in-Some.ensures (element_name bindings) h.elements)
 
 pub returns-clause-same : goal.returns-clause-same
 returns-clause-same c = λ bindings h.
