@@ -27,10 +27,15 @@ fn take(
 // A sequence that got these messages in this order, each with its number as its one byte.
 fn with(alloc: Global, behaviour: Behaviour, numbers: &[u8]) -> Result<Incoming, DestError> {
     let mut inc = Incoming::new(alloc, behaviour, None);
-    for number in numbers {
-        take(alloc, &mut inc, u16::from(*number), &[*number], 0)?;
-    }
+    take_all(alloc, &mut inc, numbers)?;
     Ok(inc)
+}
+
+fn take_all(alloc: Global, inc: &mut Incoming, numbers: &[u8]) -> Result<(), DestError> {
+    for number in numbers {
+        take(alloc, inc, u16::from(*number), &[*number], 0)?;
+    }
+    Ok(())
 }
 
 fn is_byte(payload: Option<&Payload>, byte: u8) -> bool {
@@ -80,7 +85,7 @@ fn inbox_ends_at_two(inc: &Incoming) -> bool {
 
 #[test]
 fn the_inbox_waits_for_the_gap(rt: HostRuntime) -> Result<(), Fail> {
-    assert!(rt; releases_none(rt.alloc(), &[2, 4])?);
+    assert!(rt; releases_none(rt.alloc(), &[2, 4]) == Ok(true));
     let inc = with(rt.alloc(), Behaviour::FollowingFirstGap, &[2, 4, 1])?;
     assert!(rt; inbox_ends_at_two(&inc));
     assert!(rt; got_two_ranges(&inc));
@@ -145,20 +150,26 @@ fn close(inc: &mut Incoming, cause: Cause, last: Option<u64>) -> Result<(), Dest
     inc.close(cause, last, 0)
 }
 
+// Whether two payloads of these bytes are discarded, and no more.
+fn discards_end_at_two(inc: &Incoming, bytes: &[u8]) -> bool {
+    let is_so = inc.discarded_item(0).is_none() & inc.discarded_item(3).is_none();
+    is_so & discards(inc, bytes)
+}
+
 #[test]
 fn a_closed_sequence_discards_what_follows_the_gap(rt: HostRuntime) -> Result<(), Fail> {
     let mut inc = with(rt.alloc(), Behaviour::FollowingFirstGap, &[1, 3, 4])?;
     assert!(rt; close(&mut inc, Cause::Peer, Some(4)) == Ok(()));
     assert!(rt; releases(&inc, &[1]));
-    assert!(rt; discards(&inc, &[3, 4]));
-    assert!(rt; inc.discarded_item(0).is_none());
-    assert!(rt; inc.discarded_item(3).is_none());
+    assert!(rt; discards_end_at_two(&inc, &[3, 4]));
     Ok(())
 }
 
 // What was received by a sequence that is an entire one or none, who closed it with which last number, and how many
 // payloads are released and discarded then.
-const ENTIRE: [(&[u8], Cause, Option<u64>, u64, u64); 9] = [
+type Entire = (&'static [u8], Cause, Option<u64>, u64, u64);
+
+const ENTIRE: [Entire; 9] = [
     (&[1, 3], Cause::Peer, Some(3), 0, 2),
     (&[3, 1, 2], Cause::Peer, Some(3), 3, 0),
     (&[3, 1, 2], Cause::Peer, None, 3, 0),
@@ -176,25 +187,29 @@ fn has_so_many(inc: &Incoming, inbox: u64, pile: u64) -> bool {
 }
 
 // Whether closing it so turns it from one with no payload to one of so many.
-fn closes_to(inc: &mut Incoming, row: &(&[u8], Cause, Option<u64>, u64, u64)) -> bool {
+fn closes_to(inc: &mut Incoming, row: &Entire) -> bool {
     let had_none = has_so_many(inc, 0, 0);
     let closed = close(inc, row.1, row.2) == Ok(());
     had_none & closed & has_so_many(inc, row.3, row.4)
 }
 
+// Whether a sequence that received these does.
+fn is_entire(alloc: Global, row: &Entire) -> Result<bool, DestError> {
+    let mut inc = with(alloc, Behaviour::EntireSequence, row.0)?;
+    Ok(closes_to(&mut inc, row))
+}
+
 #[test]
-fn an_entire_sequence_is_all_or_none(rt: HostRuntime) -> Result<(), Fail> {
+fn an_entire_sequence_is_all_or_none(rt: HostRuntime) {
     for row in &ENTIRE {
-        let mut inc = with(rt.alloc(), Behaviour::EntireSequence, row.0)?;
         assert!(rt;
-            closes_to(&mut inc, row),
+            is_entire(rt.alloc(), row) == Ok(true),
             "{:?}, {:?}, {:?}",
             row.0,
             row.1,
             row.2
         );
     }
-    Ok(())
 }
 
 // Whether the inbox is empty after this close, and the peer's end is the first.
@@ -218,10 +233,9 @@ fn ends_with(
 }
 
 #[test]
-fn what_the_peer_told_first_counts(rt: HostRuntime) -> Result<(), Fail> {
-    assert!(rt; ends_with(rt.alloc(), Cause::Operator, None, &[1, 2], &[])?);
-    assert!(rt; ends_with(rt.alloc(), Cause::Peer, Some(3), &[], &[1, 2])?);
-    Ok(())
+fn what_the_peer_told_first_counts(rt: HostRuntime) {
+    assert!(rt; ends_with(rt.alloc(), Cause::Operator, None, &[1, 2], &[]) == Ok(true));
+    assert!(rt; ends_with(rt.alloc(), Cause::Peer, Some(3), &[], &[1, 2]) == Ok(true));
 }
 
 // Its deadline, and the millisecond before.
@@ -251,12 +265,11 @@ fn ends(inc: &mut Incoming) -> bool {
 }
 
 #[test]
-fn a_sequence_ends_at_its_deadline(rt: HostRuntime) -> Result<(), Fail> {
+fn a_sequence_ends_at_its_deadline(rt: HostRuntime) {
     let mut inc = Incoming::new(rt.alloc(), Behaviour::FollowingFirstGap, Some(DEADLINE));
     assert!(rt; takes_in_time(rt.alloc(), &mut inc));
     assert!(rt; refuses_late(rt.alloc(), &mut inc));
     assert!(rt; ends(&mut inc));
-    Ok(())
 }
 
 const PROBED_WHEN_CLOSED: [Probed; 3] = [
@@ -294,14 +307,17 @@ fn refusals_come_in_their_order(rt: HostRuntime) -> Result<(), Fail> {
 
 // A new sequence that kept a far message.
 fn with_far(alloc: Global) -> Result<Incoming, Memory> {
+    let far = payload(alloc, b"far")?;
     let mut inc = Incoming::new(alloc, Behaviour::FollowingFirstGap, None);
-    inc.keep(5000, payload(alloc, b"far")?)?;
+    inc.keep(5000, far)?;
     Ok(inc)
 }
 
-// Whether it takes two messages, and a third after its room for them is given up.
+// Whether it makes room for a message twice, takes two, and a third after its room for them is given up.
 fn takes_three(alloc: Global, inc: &mut Incoming) -> bool {
-    let mut is_so = is_taken_so(alloc, inc, 2, b"two", Took::New);
+    let mut is_so = inc.reserve(1) == Ok(());
+    is_so &= inc.reserve(1) == Ok(());
+    is_so &= is_taken_so(alloc, inc, 2, b"two", Took::New);
     is_so &= is_taken_so(alloc, inc, 1, b"one", Took::New);
     inc.release();
     is_so & is_taken_so(alloc, inc, 3, b"three", Took::New)
@@ -310,8 +326,6 @@ fn takes_three(alloc: Global, inc: &mut Incoming) -> bool {
 #[test]
 fn room_is_made_used_and_given_up(rt: HostRuntime) -> Result<(), Fail> {
     let mut inc = with_far(rt.alloc())?;
-    inc.reserve(1)?;
-    inc.reserve(1)?;
     assert!(rt; takes_three(rt.alloc(), &mut inc));
     assert!(rt; inc.inbox_len() == 3);
     assert!(rt; inc.messages().len() == 4);

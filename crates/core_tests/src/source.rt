@@ -8,12 +8,17 @@ use std::test::Fail;
 
 fn numbers(alloc: Global, ranges: &[(u64, u64)]) -> Result<RangeSet, Memory> {
     let mut set = RangeSet::new(alloc);
+    insert_all(&mut set, ranges)?;
+    Ok(set)
+}
+
+fn insert_all(set: &mut RangeSet, ranges: &[(u64, u64)]) -> Result<(), Memory> {
     for (lower, upper) in ranges {
         if 0 < *lower && *lower <= *upper && *upper <= MAX_NUMBER {
             set.insert_range(*lower, *upper)?;
         }
     }
-    Ok(set)
+    Ok(())
 }
 
 // What accepting these bytes answers.
@@ -28,10 +33,15 @@ fn fresh(alloc: Global, phase: OutPhase) -> Outgoing {
 // An open sequence that accepted so many payloads of no bytes.
 fn open(alloc: Global, count: u64) -> Result<Outgoing, SourceError> {
     let mut out = fresh(alloc, OutPhase::Open);
-    for _ in 0..count {
-        accept(alloc, &mut out, b"")?;
-    }
+    accept_all(alloc, &mut out, count)?;
     Ok(out)
+}
+
+fn accept_all(alloc: Global, out: &mut Outgoing, count: u64) -> Result<(), SourceError> {
+    for _ in 0..count {
+        accept(alloc, out, b"")?;
+    }
+    Ok(())
 }
 
 // What learning that these numbers are acknowledged answers.
@@ -39,11 +49,20 @@ fn learn(alloc: Global, out: &mut Outgoing, ranges: &[(u64, u64)]) -> Result<boo
     out.learn(&numbers(alloc, ranges)?)
 }
 
+// Whether it learns that these numbers are acknowledged, one of which is new or none.
+fn learns(alloc: Global, out: &mut Outgoing, ranges: &[(u64, u64)], is_new: bool) -> bool {
+    learn(alloc, out, ranges) == Ok(is_new)
+}
+
+// Whether it gives these bytes this number.
+fn gives(alloc: Global, out: &mut Outgoing, bytes: &[u8], number: u64) -> bool {
+    accept(alloc, out, bytes) == Ok(number)
+}
+
 // Whether it numbers two payloads from 1 on.
-fn numbers_two(alloc: Global, out: &mut Outgoing) -> Result<bool, SourceError> {
-    let first = accept(alloc, out, b"one")?;
-    let second = accept(alloc, out, b"two")?;
-    Ok((first == 1) & (second == 2) & (out.accepted_len() == 2))
+fn numbers_two(alloc: Global, out: &mut Outgoing) -> bool {
+    let first = gives(alloc, out, b"one", 1);
+    first & gives(alloc, out, b"two", 2) & (out.accepted_len() == 2)
 }
 
 // Whether its payload of this number has these bytes.
@@ -59,13 +78,12 @@ fn has_none(out: &Outgoing, number: u64) -> bool {
 }
 
 #[test]
-fn payloads_are_numbered_from_one(rt: HostRuntime) -> Result<(), Fail> {
+fn payloads_are_numbered_from_one(rt: HostRuntime) {
     let mut out = fresh(rt.alloc(), OutPhase::Open);
-    assert!(rt; numbers_two(rt.alloc(), &mut out)?);
+    assert!(rt; numbers_two(rt.alloc(), &mut out));
     assert!(rt; has_payload(&out, 2, b"two"));
     assert!(rt; has_none(&out, 0));
     assert!(rt; has_none(&out, 3));
-    Ok(())
 }
 
 fn is_range(range: &Range, wanted: &(u64, u64)) -> bool {
@@ -88,9 +106,9 @@ fn has_ranges(set: &RangeSet, wanted: &[(u64, u64)]) -> bool {
 #[test]
 fn acknowledgements_add_up(rt: HostRuntime) -> Result<(), Fail> {
     let mut out = open(rt.alloc(), 4)?;
-    assert!(rt; learn(rt.alloc(), &mut out, &[(3, 4)])?);
-    assert!(rt; learn(rt.alloc(), &mut out, &[(1, 1)])?);
-    assert!(rt; !learn(rt.alloc(), &mut out, &[(1, 1), (3, 3)])?);
+    assert!(rt; learns(rt.alloc(), &mut out, &[(3, 4)], true));
+    assert!(rt; learns(rt.alloc(), &mut out, &[(1, 1)], true));
+    assert!(rt; learns(rt.alloc(), &mut out, &[(1, 1), (3, 3)], false));
     assert!(rt; has_ranges(out.acked(), &[(1, 1), (3, 4)]));
     assert!(rt; out.unacked() == 1);
     Ok(())
@@ -107,7 +125,7 @@ fn a_number_that_was_never_given_is_refused(rt: HostRuntime) -> Result<(), Fail>
     assert!(rt; is_never_given(rt.alloc(), &mut out, &[(1, 2), (9, 9)], 9));
     assert!(rt; is_never_given(rt.alloc(), &mut out, &[(5, 5)], 5));
     assert!(rt; out.unacked() == 4);
-    assert!(rt; learn(rt.alloc(), &mut out, &[(4, 4)])?);
+    assert!(rt; learns(rt.alloc(), &mut out, &[(4, 4)], true));
     Ok(())
 }
 
@@ -131,9 +149,9 @@ fn keeps_one_more(alloc: Global, out: &mut Outgoing) -> bool {
 
 // Whether one more is accepted once two of 1025 are acknowledged.
 fn accepts_one_more(alloc: Global, out: &mut Outgoing) -> bool {
-    let is_new = learn(alloc, out, &[(7, 8)]) == Ok(true);
+    let is_new = learns(alloc, out, &[(7, 8)], true);
     let unacked = out.unacked();
-    is_new & (unacked == 1023) & (accept(alloc, out, b"") == Ok(1026))
+    is_new & (unacked == 1023) & gives(alloc, out, b"", 1026)
 }
 
 #[test]
@@ -162,41 +180,38 @@ fn accepts_nothing(alloc: Global, out: &mut Outgoing, phase: OutPhase) -> bool {
 // Whether it accepts its first payload once it is open.
 fn accepts_first(alloc: Global, out: &mut Outgoing) -> bool {
     out.set_phase(OutPhase::Open);
-    accept(alloc, out, b"") == Ok(1)
+    gives(alloc, out, b"", 1)
 }
 
 #[test]
-fn only_an_open_sequence_accepts(rt: HostRuntime) -> Result<(), Fail> {
+fn only_an_open_sequence_accepts(rt: HostRuntime) {
     let mut out = fresh(rt.alloc(), OutPhase::Creating);
     for phase in &NOT_OPEN {
         assert!(rt; accepts_nothing(rt.alloc(), &mut out, *phase), "{phase:?}");
     }
     assert!(rt; accepts_first(rt.alloc(), &mut out));
-    Ok(())
 }
 
 // Whether it numbers three payloads, for two of which room is made.
-fn numbers_three(alloc: Global, out: &mut Outgoing) -> Result<bool, SourceError> {
-    out.reserve(2, 1)?;
-    out.reserve(1, 0)?;
-    let mut is_so = true;
+fn numbers_three(alloc: Global, out: &mut Outgoing) -> bool {
+    let mut is_so = out.reserve(2, 1) == Ok(());
+    is_so &= out.reserve(1, 0) == Ok(());
     for number in 1..4 {
-        is_so &= accept(alloc, out, b"")? == number;
+        is_so &= gives(alloc, out, b"", number);
     }
-    Ok(is_so)
+    is_so
 }
 
 // Whether it numbers a fourth payload once two are acknowledged and its room is given up.
 fn numbers_a_fourth(alloc: Global, out: &mut Outgoing) -> bool {
-    let is_new = learn(alloc, out, &[(1, 2)]) == Ok(true);
+    let is_new = learns(alloc, out, &[(1, 2)], true);
     out.release();
-    is_new & (accept(alloc, out, b"") == Ok(4)) & (out.unacked() == 2)
+    is_new & gives(alloc, out, b"", 4) & (out.unacked() == 2)
 }
 
 #[test]
-fn room_is_made_used_and_given_up(rt: HostRuntime) -> Result<(), Fail> {
+fn room_is_made_used_and_given_up(rt: HostRuntime) {
     let mut out = fresh(rt.alloc(), OutPhase::Open);
-    assert!(rt; numbers_three(rt.alloc(), &mut out)?);
+    assert!(rt; numbers_three(rt.alloc(), &mut out));
     assert!(rt; numbers_a_fourth(rt.alloc(), &mut out));
-    Ok(())
 }

@@ -15,21 +15,33 @@ const ABCDE: &[u8] = b"abcde";
 
 fn numbers_of(alloc: Global, all: &[u64]) -> Result<Numbers, Memory> {
     let mut numbers = Numbers::new(alloc);
-    for number in all {
-        numbers.push(*number)?;
-    }
+    push_numbers(&mut numbers, all)?;
     Ok(numbers)
 }
 
-// Whether a new blob is empty, and then holds what is pushed, as its copy does.
-fn pieces_join(alloc: Global) -> Result<bool, Memory> {
-    let mut blob = Blob::new(alloc);
-    let was_empty = blob.is_empty();
-    for piece in ["abc", "", "de"] {
+fn push_numbers(numbers: &mut Numbers, all: &[u64]) -> Result<(), Memory> {
+    for number in all {
+        numbers.push(*number)?;
+    }
+    Ok(())
+}
+
+const PIECES: [&str; 3] = ["abc", "", "de"];
+
+// How many bytes the copy of a blob has that these pieces are pushed to.
+fn push_pieces(blob: &mut Blob) -> Result<usize, Memory> {
+    for piece in &PIECES {
         blob.push_all(piece.as_bytes())?;
     }
-    let len = blob.copy()?.len();
-    Ok(was_empty & (len == 5) & (blob.as_slice() == ABCDE))
+    Ok(blob.copy()?.len())
+}
+
+// Whether a new blob is empty, and then holds what is pushed, as its copy does.
+fn pieces_join(alloc: Global) -> bool {
+    let mut blob = Blob::new(alloc);
+    let was_empty = blob.is_empty();
+    let len = push_pieces(&mut blob);
+    was_empty & (len == Ok(5)) & (blob.as_slice() == ABCDE)
 }
 
 // Whether a blob keeps these bytes, by way of a vector too.
@@ -41,53 +53,66 @@ fn is_kept(alloc: Global, bytes: &[u8]) -> Result<bool, Memory> {
 }
 
 #[test]
-fn a_blob_holds_what_was_pushed(rt: HostRuntime) -> Result<(), Fail> {
-    assert!(rt; pieces_join(rt.alloc())?);
-    assert!(rt; is_kept(rt.alloc(), ABCDE)?);
-    Ok(())
+fn a_blob_holds_what_was_pushed(rt: HostRuntime) {
+    assert!(rt; pieces_join(rt.alloc()));
+    assert!(rt; is_kept(rt.alloc(), ABCDE) == Ok(true));
 }
 
 const KEPT: [usize; 6] = [0, 1, 21, 22, 23, 31];
 
 const ALL_BYTES: &[u8] = b"0123456789abcdefghijABCDEFGHIJ-";
 
+// Whether these bytes are kept.
+fn are_kept(found: Result<Bytes, Memory>, part: &[u8]) -> bool {
+    match found {
+        Ok(kept) => kept.as_slice() == part,
+        Err(_) => false,
+    }
+}
+
 // Whether the first bytes of all are kept, and their copy is.
 fn front_is_kept(alloc: Global, len: usize) -> Result<bool, Memory> {
     let part = ALL_BYTES.split_at(len.min(ALL_BYTES.len())).0;
     let kept = Bytes::from_slice(alloc, part)?;
     let is_so = (kept.len() == len) & (kept.is_empty() == (len == 0)) & (kept.as_slice() == part);
-    let again = kept.copy(alloc)?;
-    Ok(is_so & (again.as_slice() == part))
+    Ok(is_so & are_kept(kept.copy(alloc), part))
 }
 
 #[test]
-fn keeps_few_and_many(rt: HostRuntime) -> Result<(), Fail> {
+fn keeps_few_and_many(rt: HostRuntime) {
     assert!(rt; Bytes::new().is_empty());
     for len in &KEPT {
-        assert!(rt; front_is_kept(rt.alloc(), *len)?, "{len}");
+        assert!(rt; front_is_kept(rt.alloc(), *len) == Ok(true), "{len}");
     }
-    Ok(())
 }
 
 const LETTERS: [char; 3] = ['a', 'b', 'c'];
 
+fn push_letters(items: &mut Items<char>) -> Result<(), Memory> {
+    for item in &LETTERS {
+        items.push(*item)?;
+    }
+    Ok(())
+}
+
+// Whether a list has three items, of which this is the second.
+fn are_three(items: &Items<char>) -> bool {
+    (items.get(1) == Some(&'b')) & (items.get(3) == None) & (items.len() == 3)
+}
+
 // Whether a new list is empty, and then holds what is pushed.
-fn letters_are_held(alloc: Global) -> Result<bool, Memory> {
+fn letters_are_held(alloc: Global) -> bool {
     let mut items = Items::new(alloc);
     let was_empty = items.is_empty();
-    for item in LETTERS {
-        items.push(item)?;
-    }
-    let ends = (items.get(1) == Some(&'b')) & (items.get(3) == None);
-    let is_so = was_empty & (items.len() == 3) & ends;
+    let pushed = push_letters(&mut items);
+    let is_so = was_empty & (pushed == Ok(())) & are_three(&items);
     let again = Items::from_vec(items.into_vec());
-    Ok(is_so & (again.as_slice() == LETTERS.as_slice()))
+    is_so & (again.as_slice() == LETTERS.as_slice())
 }
 
 #[test]
-fn a_list_holds_what_was_pushed(rt: HostRuntime) -> Result<(), Fail> {
-    assert!(rt; letters_are_held(rt.alloc())?);
-    Ok(())
+fn a_list_holds_what_was_pushed(rt: HostRuntime) {
+    assert!(rt; letters_are_held(rt.alloc()));
 }
 
 const REFUSALS: [(&[u8], TextError); 6] = [
@@ -99,49 +124,60 @@ const REFUSALS: [(&[u8], TextError); 6] = [
     (b"a\xFF", TextError::NotText),
 ];
 
-// Whether the bytes are refused with this error, as an address and as an identifier.
-fn is_refused(alloc: Global, bytes: &[u8], error: TextError) -> bool {
-    let of_uri = Uri::from_slice(alloc, bytes).err();
-    let of_ident = Ident::from_slice(alloc, bytes).err();
-    (of_uri == Some(error)) & (of_ident == Some(error))
+// Whether an address has these bytes, or why it is none.
+fn is_uri(alloc: Global, bytes: &[u8]) -> Result<bool, TextError> {
+    Ok(Uri::from_slice(alloc, bytes)?.as_slice() == bytes)
 }
 
-// Whether the bytes are kept, as an address and as an identifier.
-fn is_text(alloc: Global, bytes: &[u8]) -> Result<bool, TextError> {
-    let uri = Uri::from_slice(alloc, bytes)?;
-    let ident = Ident::from_slice(alloc, bytes)?;
-    Ok((uri.as_slice() == bytes) & (ident.as_slice() == bytes))
+// Whether an identifier has these bytes, or why it is none.
+fn is_ident(alloc: Global, bytes: &[u8]) -> Result<bool, TextError> {
+    Ok(Ident::from_slice(alloc, bytes)?.as_slice() == bytes)
+}
+
+// Whether the bytes are kept or refused so, as an address and as an identifier.
+fn is_either(alloc: Global, bytes: &[u8], answer: Result<bool, TextError>) -> bool {
+    (is_uri(alloc, bytes) == answer) & (is_ident(alloc, bytes) == answer)
 }
 
 #[test]
-fn addresses(rt: HostRuntime) -> Result<(), Fail> {
+fn addresses(rt: HostRuntime) {
     for (bytes, error) in &REFUSALS {
-        assert!(rt; is_refused(rt.alloc(), bytes, *error), "{bytes:?}");
+        assert!(rt; is_either(rt.alloc(), bytes, Err(*error)), "{bytes:?}");
     }
-    assert!(rt; is_text(rt.alloc(), "urn:\u{20AC} 1".as_bytes())?);
-    Ok(())
+    assert!(rt; is_either(rt.alloc(), "urn:\u{20AC} 1".as_bytes(), Ok(true)));
 }
 
 fn repeated(alloc: Global, piece: &[u8], count: usize) -> Result<Blob, Memory> {
     let mut bytes = Blob::new(alloc);
+    push_repeated(&mut bytes, piece, count)?;
+    Ok(bytes)
+}
+
+fn push_repeated(bytes: &mut Blob, piece: &[u8], count: usize) -> Result<(), Memory> {
     for _ in 0..count {
         bytes.push_all(piece)?;
     }
-    Ok(bytes)
+    Ok(())
 }
 
 // How many bytes an address of so many has.
 fn uri_len(alloc: Global, len: usize) -> Result<usize, TextError> {
     let bytes = repeated(alloc, b"a", len)?;
-    let uri = Uri::from_slice(alloc, bytes.as_slice())?;
-    Ok(uri.as_slice().len())
+    kept_uri_len(alloc, bytes.as_slice())
+}
+
+fn kept_uri_len(alloc: Global, bytes: &[u8]) -> Result<usize, TextError> {
+    Ok(Uri::from_slice(alloc, bytes)?.as_slice().len())
 }
 
 // How many bytes an identifier of so many has.
 fn ident_len(alloc: Global, len: usize) -> Result<usize, TextError> {
     let bytes = repeated(alloc, b"a", len)?;
-    let ident = Ident::from_slice(alloc, bytes.as_slice())?;
-    Ok(ident.as_slice().len())
+    kept_ident_len(alloc, bytes.as_slice())
+}
+
+fn kept_ident_len(alloc: Global, bytes: &[u8]) -> Result<usize, TextError> {
+    Ok(Ident::from_slice(alloc, bytes)?.as_slice().len())
 }
 
 #[test]
@@ -162,22 +198,28 @@ const READS: [(Result<usize, Failed>, &[u8]); 4] = [
     (Ok(0), b"dec"),
 ];
 
-// Whether a source of five bytes, whose second call fails, is read so.
-fn reads_are_so(alloc: Global) -> Result<bool, Memory> {
+// A source of five bytes, whose second call fails.
+fn source_of_five(alloc: Global) -> Result<MemSource, Memory> {
+    let fail_at = numbers_of(alloc, &[2])?;
     let bytes = Blob::from_slice(alloc, ABCDE)?;
-    let mut source = MemSource::new(bytes, numbers_of(alloc, &[2])?);
+    Ok(MemSource::new(bytes, fail_at))
+}
+
+// Whether it is read so.
+fn reads_are_so(source: &mut MemSource) -> bool {
     let mut piece = [0; 3];
     let mut is_so = true;
     for (count, front) in &READS {
         is_so &= source.read(&mut piece) == *count;
         is_so &= piece.as_slice() == *front;
     }
-    Ok(is_so)
+    is_so
 }
 
 #[test]
 fn reads_fail_at_their_numbers(rt: HostRuntime) -> Result<(), Fail> {
-    assert!(rt; reads_are_so(rt.alloc())?);
+    let mut source = source_of_five(rt.alloc())?;
+    assert!(rt; reads_are_so(&mut source));
     Ok(())
 }
 
@@ -190,19 +232,19 @@ const WRITES: [(&[u8], Result<usize, SinkError>); 5] = [
     (b"e", Ok(1)),
 ];
 
-// Whether a sink whose calls of these numbers fail is written so.
-fn writes_are_so(alloc: Global, fail_at: &[u64]) -> Result<bool, Memory> {
-    let mut sink = MemSink::new(alloc, numbers_of(alloc, fail_at)?);
+// Whether a sink whose calls of some numbers fail is written so.
+fn writes_are_so(sink: &mut MemSink) -> bool {
     let mut is_so = true;
     for (piece, count) in &WRITES {
         is_so &= sink.write(piece) == *count;
     }
-    Ok(is_so & (sink.as_slice() == b"bce".as_slice()))
+    is_so & (sink.as_slice() == b"bce".as_slice())
 }
 
 #[test]
 fn writes_fail_at_their_numbers(rt: HostRuntime) -> Result<(), Fail> {
-    assert!(rt; writes_are_so(rt.alloc(), &[1, 3])?);
+    let mut sink = MemSink::new(rt.alloc(), numbers_of(rt.alloc(), &[1, 3])?);
+    assert!(rt; writes_are_so(&mut sink));
     Ok(())
 }
 
@@ -256,10 +298,9 @@ fn a_writer_is_written(alloc: Global) -> Result<bool, SinkError> {
 }
 
 #[test]
-fn hands_on_what_a_reader_and_a_writer_do(rt: HostRuntime) -> Result<(), Fail> {
-    assert!(rt; a_reader_is_read(rt.alloc())?);
-    assert!(rt; a_writer_is_written(rt.alloc())?);
-    Ok(())
+fn hands_on_what_a_reader_and_a_writer_do(rt: HostRuntime) {
+    assert!(rt; a_reader_is_read(rt.alloc()) == Ok(true));
+    assert!(rt; a_writer_is_written(rt.alloc()) == Ok(true));
 }
 
 // What a call on the worn reader and writer moves in turn.
@@ -303,8 +344,12 @@ fn answers_a_fault_for_an_error(rt: HostRuntime) {
 fn read_sevens(alloc: Global, len: u16, limit: u16, fail_at: &[u64]) -> Result<usize, ReadError> {
     let bytes = repeated(alloc, b"7", usize::from(len))?;
     let mut source = MemSource::new(bytes, numbers_of(alloc, fail_at)?);
-    let sevens = read_up_to(alloc, &mut source, usize::from(limit))?;
-    Ok(sevens.len())
+    read_len(alloc, &mut source, limit)
+}
+
+// How many bytes are read from a source up to a limit.
+fn read_len(alloc: Global, source: &mut MemSource, limit: u16) -> Result<usize, ReadError> {
+    Ok(read_up_to(alloc, source, usize::from(limit))?.len())
 }
 
 // How many bytes there are, the limit, the calls that fail, and the error.
@@ -337,39 +382,55 @@ fn reads_up_to_the_limit(rt: HostRuntime) {
     }
 }
 
-// Whether a sink whose call of this number fails is written so.
-fn stops_at_two(sink: &mut MemSink) -> Result<bool, SinkError> {
-    write_all(sink, b"abc")?;
-    write_all(sink, b"")?;
-    let second = write_all(sink, b"de");
-    write_all(sink, b"f")?;
-    Ok((second == Err(SinkError::Failed)) & (sink.as_slice() == b"abcf".as_slice()))
+// What is written whole in turn, and what that answers.
+const WHOLES: [(&[u8], Result<(), SinkError>); 4] = [
+    (b"abc", Ok(())),
+    (b"", Ok(())),
+    (b"de", Err(SinkError::Failed)),
+    (b"f", Ok(())),
+];
+
+// Whether a sink whose second call fails is written so.
+fn stops_at_two(sink: &mut MemSink) -> bool {
+    let mut is_so = true;
+    for (whole, answer) in &WHOLES {
+        is_so &= write_all(sink, whole) == *answer;
+    }
+    is_so & (sink.as_slice() == b"abcf".as_slice())
 }
 
 #[test]
 fn stops_at_a_write_that_fails(rt: HostRuntime) -> Result<(), Fail> {
     let mut sink = MemSink::new(rt.alloc(), numbers_of(rt.alloc(), &[2])?);
-    assert!(rt; stops_at_two(&mut sink)?);
+    assert!(rt; stops_at_two(&mut sink));
     Ok(())
+}
+
+fn push_two(items: &mut RoomyItems<u64>) -> Result<(), Memory> {
+    items.reserve(2)?;
+    items.push(7)?;
+    items.push(9)
+}
+
+// Whether a list has two items, of which this is the second, and both are numbered from one.
+fn are_two(items: &RoomyItems<u64>) -> bool {
+    let is_so = (items.len() == 2) & (items.get(1) == Some(&9));
+    is_so & (items.item(1) == Some(&7)) & (items.item(0) == None)
 }
 
 // Whether a new list is empty, and then holds what is pushed.
-fn room_is_made(alloc: Global) -> Result<bool, Memory> {
+fn room_is_made(alloc: Global) -> bool {
     let mut items = RoomyItems::new(alloc);
     let was_empty = items.is_empty();
-    items.reserve(2)?;
-    items.push(7)?;
-    items.push(9)?;
-    let is_so = was_empty & (items.len() == 2) & (items.get(1) == Some(&9));
-    let is_numbered = (items.item(1) == Some(&7)) & (items.item(0) == None);
+    let pushed = push_two(&mut items);
+    let is_so = was_empty & (pushed == Ok(())) & are_two(&items);
     let again = RoomyItems::from_vec(items.into_vec());
-    Ok(is_so & is_numbered & (again.as_slice() == [7, 9].as_slice()))
+    is_so & (again.as_slice() == [7, 9].as_slice())
 }
 
 #[test]
-fn a_roomy_list_makes_room(rt: HostRuntime) -> Result<(), Fail> {
-    assert!(rt; room_is_made(rt.alloc())?);
-    Ok(())
+fn a_roomy_list_makes_room(rt: HostRuntime) {
+    assert!(rt; room_is_made(rt.alloc()));
 }
 
 const NUMBERED: [(u64, Option<char>); 5] = [
@@ -381,10 +442,10 @@ const NUMBERED: [(u64, Option<char>); 5] = [
 ];
 
 // Whether the first item of a list has the number 1.
-fn first_is_one(alloc: Global) -> Result<bool, Memory> {
+fn first_is_one(alloc: Global) -> bool {
     let mut list = Items::new(alloc);
-    list.push('a')?;
-    Ok(list.item(1) == Some(&'a'))
+    let pushed = list.push('a');
+    (pushed == Ok(())) & (list.item(1) == Some(&'a'))
 }
 
 // Whether this is the item of this number, of two.
@@ -393,12 +454,11 @@ fn is_numbered(number: u64, item: Option<char>) -> bool {
 }
 
 #[test]
-fn items_are_numbered_from_one(rt: HostRuntime) -> Result<(), Fail> {
+fn items_are_numbered_from_one(rt: HostRuntime) {
     for (number, item) in &NUMBERED {
         assert!(rt; is_numbered(*number, *item), "at {number}");
     }
-    assert!(rt; first_is_one(rt.alloc())?);
-    Ok(())
+    assert!(rt; first_is_one(rt.alloc()));
 }
 
 const MESSAGE_NUMBERS: [(u64, bool); 4] = [
@@ -422,22 +482,21 @@ fn message_numbers(rt: HostRuntime) {
 }
 
 // Two numbers in decimal digits and three bytes in hexadecimal ones.
-fn written_digits(alloc: Global) -> Result<Blob, Memory> {
-    let mut out = Blob::new(alloc);
-    push_decimal(&mut out, 0)?;
+fn push_digits(out: &mut Blob) -> Result<(), Memory> {
+    push_decimal(out, 0)?;
     out.push_all(b" ")?;
-    push_decimal(&mut out, 18446744073709551615)?;
+    push_decimal(out, 18446744073709551615)?;
     out.push_all(b" ")?;
-    push_hex(&mut out, b"\x00<\xff")?;
-    Ok(out)
+    push_hex(out, b"\x00<\xff")
 }
 
 const DIGITS: &[u8] = b"0 18446744073709551615 003cff";
 
 #[test]
-fn digits(rt: HostRuntime) -> Result<(), Fail> {
-    assert!(rt; written_digits(rt.alloc())?.as_slice() == DIGITS);
-    Ok(())
+fn digits(rt: HostRuntime) {
+    let mut out = Blob::new(rt.alloc());
+    assert!(rt; push_digits(&mut out) == Ok(()));
+    assert!(rt; out.as_slice() == DIGITS);
 }
 
 // The first calls on a connection of five bytes, whose calls 3 and 4 fail. Whether they come out right.
@@ -464,7 +523,7 @@ fn both_sides_of_a_connection_are_numbered_together(rt: HostRuntime) -> Result<(
     let fail_at = numbers_of(rt.alloc(), &[4, 3, 3])?;
     let mut conn = MemConn::new(rt.alloc(), Blob::from_slice(rt.alloc(), ABCDE)?, fail_at);
     assert!(rt; calls_are_so(&mut conn));
-    assert!(rt; later_calls_are_so(rt.alloc(), &mut conn)?);
+    assert!(rt; later_calls_are_so(rt.alloc(), &mut conn) == Ok(true));
     Ok(())
 }
 

@@ -3,18 +3,22 @@
 use rm_disk::{CrashDisk, Disk, MemDisk};
 use rm_journal::JournalError;
 use std::alloc::Global;
-use std::test::Fail;
 
 // All that a read gives.
-pub fn bytes_of(alloc: Global, disk: &mut MemDisk) -> Result<Vec<u8>, JournalError> {
+fn bytes_of(alloc: Global, disk: &mut MemDisk) -> Result<Vec<u8>, JournalError> {
     let len = disk.len()?;
     let mut bytes = vec![in alloc; 0; len as usize]?;
     disk.read(0, &mut bytes)?;
     Ok(bytes)
 }
 
+// Whether these are all that a read gives.
+pub fn has_bytes(alloc: Global, disk: &mut MemDisk, bytes: &[u8]) -> Result<bool, JournalError> {
+    Ok(bytes_of(alloc, disk)?.as_slice() == bytes)
+}
+
 // Whether the write went well; one past the end isn't tried.
-fn put(disk: &mut MemDisk, at: u64, bytes: &[u8]) -> Result<bool, JournalError> {
+pub fn put(disk: &mut MemDisk, at: u64, bytes: &[u8]) -> Result<bool, JournalError> {
     disk.reserve(1, bytes.len() as u64)?;
     let len = disk.len()?;
     if at > len {
@@ -45,9 +49,8 @@ fn has_no_bytes(disk: &mut MemDisk) -> Result<bool, JournalError> {
 }
 
 #[test]
-fn a_new_disk_has_no_bytes(rt: HostRuntime) -> Result<(), Fail> {
-    assert!(rt; has_no_bytes(&mut MemDisk::new(rt.alloc()))?);
-    Ok(())
+fn a_new_disk_has_no_bytes(rt: HostRuntime) {
+    assert!(rt; has_no_bytes(&mut MemDisk::new(rt.alloc())) == Ok(true));
 }
 
 // Four bytes are on the disk, and then one of them is written over, one is added and two are cut off.
@@ -61,10 +64,18 @@ fn changes(disk: &mut MemDisk) -> Result<bool, JournalError> {
 
 // Whether a crash by this choice, after those changes, leaves these bytes.
 fn leaves(alloc: Global, choice: u8, left: &[u8]) -> Result<bool, JournalError> {
-    let mut disk = MemDisk::new(alloc);
-    let is_so = changes(&mut disk)?;
+    leaves_of(alloc, &mut MemDisk::new(alloc), choice, left)
+}
+
+fn leaves_of(
+    alloc: Global,
+    disk: &mut MemDisk,
+    choice: u8,
+    left: &[u8],
+) -> Result<bool, JournalError> {
+    let is_so = changes(disk)?;
     disk.crash(choice.min(3))?;
-    Ok(is_so & (bytes_of(alloc, &mut disk)?.as_slice() == left))
+    Ok(is_so & has_bytes(alloc, disk, left)?)
 }
 
 // What each choice of a crash leaves.
@@ -76,11 +87,13 @@ const LEFT: [(u8, &[u8]); 4] = [
 ];
 
 #[test]
-fn each_choice_of_a_crash(rt: HostRuntime) -> Result<(), Fail> {
+fn each_choice_of_a_crash(rt: HostRuntime) {
     for (choice, left) in &LEFT {
-        assert!(rt; leaves(rt.alloc(), *choice, left)?, "choice {choice}");
+        assert!(rt;
+            leaves(rt.alloc(), *choice, left) == Ok(true),
+            "choice {choice}"
+        );
     }
-    Ok(())
 }
 
 // The second call from `arm` on fails and changes nothing that is read, and so does each after it.
@@ -94,11 +107,10 @@ fn fails_from_the_second_on(disk: &mut MemDisk) -> Result<bool, JournalError> {
 }
 
 #[test]
-fn an_armed_disk_fails_until_a_crash(rt: HostRuntime) -> Result<(), Fail> {
+fn an_armed_disk_fails_until_a_crash(rt: HostRuntime) {
     let mut disk = MemDisk::new(rt.alloc());
-    assert!(rt; put(&mut disk, 0, &[1, 2])?);
-    assert!(rt; fails_from_the_second_on(&mut disk)?);
-    disk.crash(2)?;
-    assert!(rt; bytes_of(rt.alloc(), &mut disk)?.as_slice() == [1, 2].as_slice());
-    Ok(())
+    assert!(rt; put(&mut disk, 0, &[1, 2]) == Ok(true));
+    assert!(rt; fails_from_the_second_on(&mut disk) == Ok(true));
+    assert!(rt; disk.crash(2) == Ok(()));
+    assert!(rt; has_bytes(rt.alloc(), &mut disk, &[1, 2]) == Ok(true));
 }

@@ -1,7 +1,7 @@
 //! Tests of a journal on a disk in memory.
 
-use crate::disk::bytes_of;
-use rm_disk::{CrashDisk, Disk, MemDisk};
+use crate::disk::{has_bytes, put};
+use rm_disk::{CrashDisk, MemDisk};
 use rm_journal::{Journal, JournalError};
 use std::alloc::Global;
 use std::test::Fail;
@@ -13,9 +13,16 @@ const ONE_ENTRY: [u8; 16] = [
 // A disk with these bytes.
 fn disk_of(alloc: Global, bytes: &[u8]) -> Result<MemDisk, JournalError> {
     let mut disk = MemDisk::new(alloc);
-    disk.reserve(1, bytes.len() as u64)?;
-    disk.write_at(0, bytes)?;
+    fill(&mut disk, bytes)?;
     Ok(disk)
+}
+
+fn fill(disk: &mut MemDisk, bytes: &[u8]) -> Result<(), JournalError> {
+    if put(disk, 0, bytes)? {
+        Ok(())
+    } else {
+        Err(JournalError::Disk)
+    }
 }
 
 // What a new journal counts, where it ends and how much room it has.
@@ -61,43 +68,57 @@ fn has_entry(
 }
 
 #[test]
-fn one_entry(rt: HostRuntime) -> Result<(), Fail> {
+fn one_entry(rt: HostRuntime) {
     let mut disk = MemDisk::new(rt.alloc());
-    assert!(rt; new_journal(rt.alloc(), &mut disk)? == (0, 8, 268435442));
-    assert!(rt; adds(rt.alloc(), &mut disk, b"ab", 15)?);
-    assert!(rt; bytes_of(rt.alloc(), &mut disk)?.as_slice() == ONE_ENTRY.as_slice());
-    assert!(rt; has_entry(rt.alloc(), &mut disk, 1, b"ab")?);
-    Ok(())
+    assert!(rt; new_journal(rt.alloc(), &mut disk) == Ok((0, 8, 268435442)));
+    assert!(rt; adds(rt.alloc(), &mut disk, b"ab", 15) == Ok(true));
+    assert!(rt; has_bytes(rt.alloc(), &mut disk, &ONE_ENTRY) == Ok(true));
+    assert!(rt; has_entry(rt.alloc(), &mut disk, 1, b"ab") == Ok(true));
 }
 
 const EMPTY: &[u8] = b"WSRMJNL1\0";
+
+// What a new journal counts.
+fn new_count(alloc: Global, disk: &mut MemDisk) -> Result<u64, JournalError> {
+    Ok(new_journal(alloc, disk)?.0)
+}
 
 // Nothing of what was on the disk stands behind the gate of a new journal.
 #[test]
 fn nothing_stands_behind_a_new_journal(rt: HostRuntime) -> Result<(), Fail> {
     let mut disk = disk_of(rt.alloc(), &[7; 40])?;
-    assert!(rt; new_journal(rt.alloc(), &mut disk)?.0 == 0);
-    assert!(rt; bytes_of(rt.alloc(), &mut disk)?.as_slice() == EMPTY);
+    assert!(rt; new_count(rt.alloc(), &mut disk) == Ok(0));
+    assert!(rt; has_bytes(rt.alloc(), &mut disk, EMPTY) == Ok(true));
     Ok(())
 }
 
-// What adding an entry of so many sevens answers.
-fn add_sevens(
+// Whether adding an entry answers so.
+fn answers(
+    alloc: Global,
+    disk: &mut MemDisk,
+    entry: &[u8],
+    answer: Result<(), JournalError>,
+) -> Result<bool, JournalError> {
+    Ok(add(alloc, disk, entry)?.0 == answer)
+}
+
+// Whether adding an entry of so many sevens answers so.
+fn adds_sevens(
     alloc: Global,
     disk: &mut MemDisk,
     len: usize,
-) -> Result<Result<(), JournalError>, JournalError> {
+    answer: Result<(), JournalError>,
+) -> Result<bool, JournalError> {
     let entry = vec![in alloc; 7; len]?;
-    let (answer, _end) = add(alloc, disk, &entry)?;
-    Ok(answer)
+    answers(alloc, disk, &entry, answer)
 }
 
 #[test]
 fn an_entry_that_is_too_long(rt: HostRuntime) -> Result<(), Fail> {
     let mut disk = disk_of(rt.alloc(), &ONE_ENTRY)?;
     let too_long = JournalError::EntryTooLong { len: 4194305 };
-    assert!(rt; add_sevens(rt.alloc(), &mut disk, 4194305)? == Err(too_long));
-    assert!(rt; add_sevens(rt.alloc(), &mut disk, 4194304)? == Ok(()));
+    assert!(rt; adds_sevens(rt.alloc(), &mut disk, 4194305, Err(too_long)) == Ok(true));
+    assert!(rt; adds_sevens(rt.alloc(), &mut disk, 4194304, Ok(())) == Ok(true));
     Ok(())
 }
 
@@ -127,11 +148,13 @@ fn stands_for(alloc: Global, bytes: &[u8], count: Option<u64>) -> Result<bool, J
 }
 
 #[test]
-fn bytes_that_stand_for_a_list(rt: HostRuntime) -> Result<(), Fail> {
+fn bytes_that_stand_for_a_list(rt: HostRuntime) {
     for (bytes, count) in &LISTS {
-        assert!(rt; stands_for(rt.alloc(), bytes, *count)?, "{bytes:?}");
+        assert!(rt;
+            stands_for(rt.alloc(), bytes, *count) == Ok(true),
+            "{bytes:?}"
+        );
     }
-    Ok(())
 }
 
 // One entry is there, and the device call of this number fails as a second is added, or none at 5. Then comes a crash.
@@ -140,9 +163,17 @@ fn stopped(alloc: Global, stop: u64, choice: u8) -> Result<(bool, u64), JournalE
     let mut disk = disk_of(alloc, &ONE_ENTRY)?;
     // Mounting takes three device calls.
     disk.arm(stop.min(5) + 3);
-    let (answer, _end) = add(alloc, &mut disk, b"cde")?;
+    add_and_crash(alloc, &mut disk, choice)
+}
+
+fn add_and_crash(
+    alloc: Global,
+    disk: &mut MemDisk,
+    choice: u8,
+) -> Result<(bool, u64), JournalError> {
+    let (answer, _end) = add(alloc, disk, b"cde")?;
     disk.crash(choice.min(3))?;
-    Ok((answer.is_ok(), count_of(alloc, &mut disk)?))
+    Ok((answer.is_ok(), count_of(alloc, disk)?))
 }
 
 // The choice of a crash, the number of the device call that fails, and how many entries there are.
@@ -170,15 +201,13 @@ const STOPPED: [(u8, u64, u64); 20] = [
 ];
 
 #[test]
-fn stops_at_each_device_call(rt: HostRuntime) -> Result<(), Fail> {
+fn stops_at_each_device_call(rt: HostRuntime) {
     for (choice, stop, count) in &STOPPED {
-        let found = stopped(rt.alloc(), *stop, *choice)?;
         assert!(rt;
-            found == (*stop == 5, *count),
+            stopped(rt.alloc(), *stop, *choice) == Ok((*stop == 5, *count)),
             "choice {choice}, stop {stop}"
         );
     }
-    Ok(())
 }
 
 // Whether adding to a disk fails, so that each call answers Down from then on.
@@ -198,6 +227,6 @@ fn goes_down(alloc: Global, disk: &mut MemDisk) -> Result<bool, JournalError> {
 fn a_journal_that_is_down(rt: HostRuntime) -> Result<(), Fail> {
     let mut disk = disk_of(rt.alloc(), &ONE_ENTRY)?;
     disk.arm(5);
-    assert!(rt; goes_down(rt.alloc(), &mut disk)?);
+    assert!(rt; goes_down(rt.alloc(), &mut disk) == Ok(true));
     Ok(())
 }

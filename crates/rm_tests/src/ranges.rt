@@ -6,12 +6,17 @@ use std::test::Fail;
 
 fn set_of(alloc: Global, ranges: &[(u64, u64)]) -> Result<RangeSet, Memory> {
     let mut set = RangeSet::new(alloc);
+    insert_all(&mut set, ranges)?;
+    Ok(set)
+}
+
+fn insert_all(set: &mut RangeSet, ranges: &[(u64, u64)]) -> Result<(), Memory> {
     for (lower, upper) in ranges {
         if 0 < *lower && *lower <= *upper && *upper <= MAX_NUMBER {
             set.insert_range(*lower, *upper)?;
         }
     }
-    Ok(set)
+    Ok(())
 }
 
 // Whether these are all ranges of a set.
@@ -42,14 +47,13 @@ fn inserts_three_once(set: &mut RangeSet) -> Result<bool, Memory> {
 }
 
 #[test]
-fn one_two_and_five(rt: HostRuntime) -> Result<(), Fail> {
+fn one_two_and_five(rt: HostRuntime) {
     let mut set = RangeSet::new(rt.alloc());
-    assert!(rt; inserts_one_two_and_five(&mut set)?);
-    assert!(rt; misses(&set, 9, &[3, 4])?);
-    assert!(rt; misses(&set, 1, &[3])?);
-    assert!(rt; inserts_three_once(&mut set)?);
+    assert!(rt; inserts_one_two_and_five(&mut set) == Ok(true));
+    assert!(rt; misses(&set, 9, &[3, 4]) == Ok(true));
+    assert!(rt; misses(&set, 1, &[3]) == Ok(true));
+    assert!(rt; inserts_three_once(&mut set) == Ok(true));
     assert!(rt; has_ranges(&set, &[(1, 3), (5, 5)]));
-    Ok(())
 }
 
 fn begins_at_the_last(set: &RangeSet) -> Result<bool, Memory> {
@@ -70,10 +74,15 @@ fn is_empty(set: &RangeSet) -> Result<bool, Memory> {
 #[test]
 fn the_borders(rt: HostRuntime) -> Result<(), Fail> {
     let mut set = set_of(rt.alloc(), &[(MAX_NUMBER, MAX_NUMBER)])?;
-    assert!(rt; begins_at_the_last(&set)?);
-    assert!(rt; takes_all(&mut set)?);
-    assert!(rt; is_empty(&RangeSet::new(rt.alloc()))?);
+    assert!(rt; begins_at_the_last(&set) == Ok(true));
+    assert!(rt; takes_all(&mut set) == Ok(true));
+    assert!(rt; is_empty(&RangeSet::new(rt.alloc())) == Ok(true));
     Ok(())
+}
+
+// Whether the set of some ranges has these.
+fn join_to(alloc: Global, given: &[(u64, u64)], want: &[(u64, u64)]) -> Result<bool, Memory> {
+    Ok(has_ranges(&set_of(alloc, given)?, want))
 }
 
 // The ranges that are given, and those of the set that has them.
@@ -93,16 +102,21 @@ const JOINED: [(&[(u64, u64)], &[(u64, u64)]); 6] = [
 ];
 
 #[test]
-fn ranges_join_and_stay_apart(rt: HostRuntime) -> Result<(), Fail> {
+fn ranges_join_and_stay_apart(rt: HostRuntime) {
     for (given, want) in &JOINED {
-        let set = set_of(rt.alloc(), given)?;
-        assert!(rt; has_ranges(&set, want), "{given:?}");
+        assert!(rt; join_to(rt.alloc(), given, want) == Ok(true), "{given:?}");
     }
-    Ok(())
 }
 
 // The ranges of a set and of another, whether a number of those is new, and the ranges of both.
-const UNITED: [(&[(u64, u64)], &[(u64, u64)], bool, &[(u64, u64)]); 6] = [
+type United = (
+    &'static [(u64, u64)],
+    &'static [(u64, u64)],
+    bool,
+    &'static [(u64, u64)],
+);
+
+const UNITED: [United; 6] = [
     (&[], &[(1, 2)], true, &[(1, 2)]),
     (&[(1, 9)], &[(2, 3), (5, 9)], false, &[(1, 9)]),
     (
@@ -143,22 +157,27 @@ fn unites_to(
     Ok((was_new == is_new) & has_ranges(set, want) & has_ranges(&again, want))
 }
 
-#[test]
-fn sets_unite(rt: HostRuntime) -> Result<(), Fail> {
-    for (mine, others, is_new, want) in &UNITED {
-        let mut set = set_of(rt.alloc(), mine)?;
-        let other = set_of(rt.alloc(), others)?;
-        assert!(rt; unites_to(&mut set, &other, *is_new, want)?, "{mine:?}");
-    }
-    Ok(())
+fn are_united(alloc: Global, row: &United) -> Result<bool, Memory> {
+    let other = set_of(alloc, row.1)?;
+    unites_with(&mut set_of(alloc, row.0)?, &other, row)
+}
+
+fn unites_with(set: &mut RangeSet, other: &RangeSet, row: &United) -> Result<bool, Memory> {
+    unites_to(set, other, row.2, row.3)
 }
 
 #[test]
-fn room_is_made(rt: HostRuntime) -> Result<(), Fail> {
+fn sets_unite(rt: HostRuntime) {
+    for row in &UNITED {
+        assert!(rt; are_united(rt.alloc(), row) == Ok(true), "{:?}", row.0);
+    }
+}
+
+#[test]
+fn room_is_made(rt: HostRuntime) {
     let mut set = RangeSet::new(rt.alloc());
-    set.reserve(1)?;
-    assert!(rt; set.insert(7)?);
-    Ok(())
+    assert!(rt; set.reserve(1) == Ok(()));
+    assert!(rt; set.insert(7) == Ok(true));
 }
 
 // Ranges, and how many numbers they have.
@@ -178,6 +197,16 @@ fn is_counted(set: &RangeSet, count: u64) -> Result<bool, Memory> {
     Ok((set.count() == count) & (copied == count) & (ranges.as_slice() == set.ranges()))
 }
 
+// Whether that is so of the set of these ranges, and it is new once to another.
+fn are_counted(alloc: Global, row: &(&[(u64, u64)], u64)) -> Result<bool, Memory> {
+    let mut both = set_of(alloc, &[(2, 3)])?;
+    is_counted_and_new(&set_of(alloc, row.0)?, &mut both, row.1)
+}
+
+fn is_counted_and_new(set: &RangeSet, both: &mut RangeSet, count: u64) -> Result<bool, Memory> {
+    Ok(is_counted(set, count)? & is_new_once(set, both)?)
+}
+
 // Whether another set tells beforehand if a number of this one is new to it, and none is afterwards.
 fn is_new_once(set: &RangeSet, both: &mut RangeSet) -> Result<bool, Memory> {
     let is_new = both.is_new(set);
@@ -191,22 +220,16 @@ fn count_together(set: &RangeSet, both: &mut RangeSet) -> Result<u64, Memory> {
 }
 
 #[test]
-fn numbers_are_counted(rt: HostRuntime) -> Result<(), Fail> {
-    for (given, count) in &COUNTED {
-        let set = set_of(rt.alloc(), given)?;
-        assert!(rt; is_counted(&set, *count)?, "{given:?}");
-        assert!(rt;
-            is_new_once(&set, &mut set_of(rt.alloc(), &[(2, 3)])?)?,
-            "{given:?}"
-        );
+fn numbers_are_counted(rt: HostRuntime) {
+    for row in &COUNTED {
+        assert!(rt; are_counted(rt.alloc(), row) == Ok(true), "{:?}", row.0);
     }
-    Ok(())
 }
 
 #[test]
 fn numbers_of_two_sets_are_counted(rt: HostRuntime) -> Result<(), Fail> {
     let set = set_of(rt.alloc(), &[(3, 4), (20, 20)])?;
     let mut both = set_of(rt.alloc(), &[(2, 3), (8, 9)])?;
-    assert!(rt; count_together(&set, &mut both)? == 6);
+    assert!(rt; count_together(&set, &mut both) == Ok(6));
     Ok(())
 }

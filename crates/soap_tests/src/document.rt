@@ -26,6 +26,15 @@ impl Shown {
     }
 }
 
+fn push_attribute(bytes: &mut Vec<u8>, attribute: &WrittenAttribute) -> Result<(), Memory> {
+    bytes.push(b'[')?;
+    bytes.extend_from_slice(attribute.name.as_slice())?;
+    bytes.push(b'=')?;
+    bytes.extend_from_slice(attribute.value.as_slice())?;
+    bytes.push(b']')?;
+    Ok(())
+}
+
 // A tag of an element, behind a mark where it stands inside another.
 fn push_tag(
     bytes: &mut Vec<u8>,
@@ -38,11 +47,7 @@ fn push_tag(
     }
     bytes.extend_from_slice(name)?;
     for attribute in attributes {
-        bytes.push(b'[')?;
-        bytes.extend_from_slice(attribute.name.as_slice())?;
-        bytes.push(b'=')?;
-        bytes.extend_from_slice(attribute.value.as_slice())?;
-        bytes.push(b']')?;
+        push_attribute(bytes, attribute)?;
     }
     bytes.push(b'{')?;
     Ok(())
@@ -94,23 +99,33 @@ impl Handler for Shown {
 fn read(alloc: Global, document: &[u8]) -> Result<Option<Shown>, Memory> {
     let mut reader = Reader::new(alloc, Shown::new(alloc));
     reader.feed(document)?;
-    match reader.finish() {
-        Some(shown) if !shown.bytes.is_empty() => Ok(Some(shown)),
-        _ => Ok(None),
+    Ok(reader.finish())
+}
+
+// Whether a document was read as this tree.
+fn has_tree(found: Option<Shown>, tree: &[u8]) -> bool {
+    match found {
+        Some(shown) => shown.bytes.as_slice() == tree,
+        None => false,
     }
 }
 
 // Whether a document is read as this tree.
-fn is_shown(alloc: Global, document: &[u8], tree: &[u8]) -> Result<bool, Memory> {
-    match read(alloc, document)? {
-        Some(shown) => Ok(shown.bytes.as_slice() == tree),
-        None => Ok(false),
+fn is_shown(alloc: Global, row: &(&str, &str)) -> Result<bool, Memory> {
+    Ok(has_tree(read(alloc, row.0.as_bytes())?, row.1.as_bytes()))
+}
+
+// Whether a document was read as a tree.
+fn has_any_tree(found: Option<Shown>) -> bool {
+    match found {
+        Some(shown) => !shown.bytes.is_empty(),
+        None => false,
     }
 }
 
 // Whether a document is taken.
 fn is_taken(alloc: Global, document: &[u8]) -> Result<bool, Memory> {
-    Ok(read(alloc, document)?.is_some())
+    Ok(has_any_tree(read(alloc, document)?))
 }
 
 // Documents, and how they are shown.
@@ -129,39 +144,31 @@ const TREES: [(&str, &str); 11] = [
 ];
 
 #[test]
-fn trees(rt: HostRuntime) -> Result<(), Memory> {
-    for (document, tree) in TREES {
-        assert!(rt;
-            is_shown(rt.alloc(), document.as_bytes(), tree.as_bytes())?,
-            "{document}"
-        );
+fn trees(rt: HostRuntime) {
+    for row in &TREES {
+        assert!(rt; is_shown(rt.alloc(), row) == Ok(true), "{}", row.0);
     }
-    Ok(())
 }
 
-// The bytes of a document that stand between two of five places.
-fn between(
-    alloc: Global,
-    document: &[u8],
-    (first, last): (usize, usize),
-) -> Result<Option<&[u8]>, Memory> {
-    let Some(shown) = read(alloc, document)? else {
-        return Ok(None);
-    };
+const PLACED: &[u8] = b"\xef\xbb\xbf<?xml version='1.0'?>\n<a><b x='1' >t&lt;<c/></b ></a>";
+
+// Whether these bytes of the document stand between two of five places.
+fn stand_between(shown: &Shown, first: usize, last: usize, wanted: &[u8]) -> bool {
     let places = shown.places.as_slice();
     match (places.get(first), places.get(last)) {
-        (Some(first), Some(last)) if places.len() == 5 => Ok(document.get(*first..*last)),
-        _ => Ok(None),
+        (Some(first), Some(last)) => {
+            (places.len() == 5) & (PLACED.get(*first..*last) == Some(wanted))
+        }
+        _ => false,
     }
 }
 
 #[test]
-fn places(rt: HostRuntime) -> Result<(), Memory> {
-    let document = b"\xef\xbb\xbf<?xml version='1.0'?>\n<a><b x='1' >t&lt;<c/></b ></a>";
-    let content = between(rt.alloc(), document, (0, 4))?;
-    assert!(rt; content == Some(b"<b x='1' >t&lt;<c/></b >".as_slice()));
-    let content = between(rt.alloc(), document, (1, 3))?;
-    assert!(rt; content == Some(b"t&lt;<c/>".as_slice()));
+fn places(rt: HostRuntime) -> Result<(), Fail> {
+    let shown = read(rt.alloc(), PLACED)?.ok_or("refused")?;
+    assert!(rt; !shown.bytes.is_empty());
+    assert!(rt; stand_between(&shown, 0, 4, b"<b x='1' >t&lt;<c/></b >"));
+    assert!(rt; stand_between(&shown, 1, 3, b"t&lt;<c/>"));
     Ok(())
 }
 
@@ -181,11 +188,13 @@ const TAKEN: [&str; 12] = [
 ];
 
 #[test]
-fn takes(rt: HostRuntime) -> Result<(), Memory> {
-    for document in TAKEN {
-        assert!(rt; is_taken(rt.alloc(), document.as_bytes())?, "{document}");
+fn takes(rt: HostRuntime) {
+    for document in &TAKEN {
+        assert!(rt;
+            is_taken(rt.alloc(), document.as_bytes()) == Ok(true),
+            "{document}"
+        );
     }
-    Ok(())
 }
 
 const REFUSED: [&str; 42] = [
@@ -234,31 +243,37 @@ const REFUSED: [&str; 42] = [
 ];
 
 #[test]
-fn refuses(rt: HostRuntime) -> Result<(), Memory> {
-    for document in REFUSED {
-        assert!(rt; !is_taken(rt.alloc(), document.as_bytes())?, "{document}");
+fn refuses(rt: HostRuntime) {
+    for document in &REFUSED {
+        assert!(rt;
+            is_taken(rt.alloc(), document.as_bytes()) == Ok(false),
+            "{document}"
+        );
     }
-    assert!(rt; !is_taken(rt.alloc(), b"<a>\xff</a>")?);
-    Ok(())
+    assert!(rt; is_taken(rt.alloc(), b"<a>\xff</a>") == Ok(false));
 }
 
 // As many elements, each in the one before.
 fn is_nested_taken(alloc: Global, depth: usize) -> Result<bool, Memory> {
     let mut document = Blob::new(alloc);
+    push_nested(&mut document, depth)?;
+    is_taken(alloc, document.as_slice())
+}
+
+fn push_nested(document: &mut Blob, depth: usize) -> Result<(), Memory> {
     for _ in 0..depth {
         document.push_all(b"<x>")?;
     }
     for _ in 0..depth {
         document.push_all(b"</x>")?;
     }
-    is_taken(alloc, document.as_slice())
+    Ok(())
 }
 
 #[test]
-fn a_hundred_elements_nest(rt: HostRuntime) -> Result<(), Memory> {
-    assert!(rt; is_nested_taken(rt.alloc(), 100)?);
-    assert!(rt; !is_nested_taken(rt.alloc(), 101)?);
-    Ok(())
+fn a_hundred_elements_nest(rt: HostRuntime) {
+    assert!(rt; is_nested_taken(rt.alloc(), 100) == Ok(true));
+    assert!(rt; is_nested_taken(rt.alloc(), 101) == Ok(false));
 }
 
 #[test]
@@ -278,9 +293,9 @@ fn read_pieces(alloc: Global) -> Result<Option<Shown>, Memory> {
 }
 
 #[test]
-fn pieces_make_a_document(rt: HostRuntime) -> Result<(), Fail> {
-    let shown = read_pieces(rt.alloc())?.ok_or("refused")?;
-    assert!(rt; shown.bytes.as_slice() == b"p:a[b=1]{|t<|c{}|\n}".as_slice());
+fn pieces_make_a_document(rt: HostRuntime) -> Result<(), Memory> {
+    let shown = read_pieces(rt.alloc())?;
+    assert!(rt; has_tree(shown, b"p:a[b=1]{|t<|c{}|\n}"));
     Ok(())
 }
 
@@ -289,6 +304,14 @@ fn is_refused(alloc: Global, bytes: &[u8]) -> Result<bool, Memory> {
     let mut reader = Reader::new(alloc, Shown::new(alloc));
     reader.feed(bytes)?;
     Ok(reader.is_refused())
+}
+
+// Whether a reader is refused that is fed these bytes but the last.
+fn is_start_refused(alloc: Global, bytes: &[u8]) -> Result<bool, Memory> {
+    match bytes.split_last() {
+        Some((_, start)) => is_refused(alloc, start),
+        None => Ok(true),
+    }
 }
 
 const DECIDED: [&[u8]; 11] = [
@@ -307,12 +330,17 @@ const DECIDED: [&[u8]; 11] = [
 
 // A reader that is fed these bytes is refused once the last of them was read, and not before.
 #[test]
-fn each_byte_decides(rt: HostRuntime) -> Result<(), Memory> {
-    for i in 0..DECIDED.len() {
-        assert!(rt; is_refused(rt.alloc(), DECIDED[i])?, "{i}");
-        if let Some((_, start)) = DECIDED[i].split_last() {
-            assert!(rt; !is_refused(rt.alloc(), start)?, "{i}");
-        }
+fn each_byte_decides(rt: HostRuntime) {
+    for bytes in &DECIDED {
+        assert!(rt;
+            is_refused(rt.alloc(), bytes) == Ok(true),
+            "{}",
+            bytes.escape_ascii()
+        );
+        assert!(rt;
+            is_start_refused(rt.alloc(), bytes) == Ok(false),
+            "{}",
+            bytes.escape_ascii()
+        );
     }
-    Ok(())
 }

@@ -1,6 +1,6 @@
 //! Envelopes, read.
 use rm_base::{Blob, Memory, Payload, push_decimal};
-use soap_frame::envelopes::read_envelope;
+use soap_frame::envelopes::{Envelope, read_envelope};
 use soap_profile::EnvelopeError;
 use std::alloc::Global;
 
@@ -17,13 +17,15 @@ const REQUEST: &str = concat!(
 
 // These parts in an Envelope.
 fn wrapped(alloc: Global, parts: &[u8]) -> Result<Blob, Memory> {
-    let mut text = Blob::from_slice(
-        alloc,
-        b"<S:Envelope xmlns:S='http://www.w3.org/2003/05/soap-envelope' xmlns='u'>",
-    )?;
-    text.push_all(parts)?;
-    text.push_all(b"</S:Envelope>")?;
+    let mut text = Blob::new(alloc);
+    push_wrapped(&mut text, parts)?;
     Ok(text)
+}
+
+fn push_wrapped(text: &mut Blob, parts: &[u8]) -> Result<(), Memory> {
+    text.push_all(b"<S:Envelope xmlns:S='http://www.w3.org/2003/05/soap-envelope' xmlns='u'>")?;
+    text.push_all(parts)?;
+    text.push_all(b"</S:Envelope>")
 }
 
 // Whether bytes are no envelope for this reason.
@@ -38,14 +40,30 @@ fn is_refused(alloc: Global, bytes: &[u8], reason: EnvelopeError) -> bool {
 // bindings, and its bytes.
 pub fn shown(alloc: Global, document: &[u8]) -> Result<Blob, EnvelopeError> {
     let envelope = read_envelope(alloc, document)?;
+    Ok(shown_envelope(alloc, &envelope)?)
+}
+
+// Whether a document is an envelope that is shown so.
+pub fn is_shown(alloc: Global, document: &[u8], wanted: &[u8]) -> bool {
+    match shown(alloc, document) {
+        Ok(found) => found.as_slice() == wanted,
+        Err(_) => false,
+    }
+}
+
+fn shown_envelope(alloc: Global, envelope: &Envelope) -> Result<Blob, Memory> {
     let mut out = Blob::new(alloc);
-    push_decimal(&mut out, envelope.headers.len() as u64)?;
-    out.push_all(b" ")?;
-    push_decimal(&mut out, envelope.header_scope.len() as u64)?;
-    out.push_all(b" ")?;
-    push_decimal(&mut out, envelope.body.len() as u64)?;
-    push_payload(&mut out, &envelope.payload)?;
+    push_envelope(&mut out, envelope)?;
     Ok(out)
+}
+
+fn push_envelope(out: &mut Blob, envelope: &Envelope) -> Result<(), Memory> {
+    push_decimal(out, envelope.headers.len() as u64)?;
+    out.push_all(b" ")?;
+    push_decimal(out, envelope.header_scope.len() as u64)?;
+    out.push_all(b" ")?;
+    push_decimal(out, envelope.body.len() as u64)?;
+    push_payload(out, &envelope.payload)
 }
 
 fn push_payload(out: &mut Blob, payload: &Payload) -> Result<(), Memory> {
@@ -65,10 +83,8 @@ const REQUEST_SHOWN: &str = concat!(
 );
 
 #[test]
-fn reads_a_request(rt: HostRuntime) -> Result<(), EnvelopeError> {
-    let shown = shown(rt.alloc(), REQUEST.as_bytes())?;
-    assert!(rt; shown.as_slice() == REQUEST_SHOWN.as_bytes());
-    Ok(())
+fn reads_a_request(rt: HostRuntime) {
+    assert!(rt; is_shown(rt.alloc(), REQUEST.as_bytes(), REQUEST_SHOWN.as_bytes()));
 }
 
 #[test]
@@ -79,11 +95,21 @@ fn a_request_is_whole(rt: HostRuntime) {
 }
 
 // Whether these parts have this between Body's tags, with two bindings and no header blocks.
-fn has_payload(alloc: Global, parts: &[u8], payload: &[u8]) -> Result<bool, EnvelopeError> {
-    let text = wrapped(alloc, parts)?;
-    let envelope = read_envelope(alloc, text.as_slice())?;
-    let is_alone = envelope.payload.scope.len() == 2 && envelope.headers.len() == 0;
-    Ok(is_alone && envelope.payload.bytes.as_slice() == payload)
+fn has_payload(alloc: Global, row: &(&[u8], &[u8])) -> Result<bool, Memory> {
+    Ok(reads_payload(alloc, wrapped(alloc, row.0)?.as_slice(), row.1))
+}
+
+// Whether an envelope has this between Body's tags, with two bindings and no header blocks.
+fn reads_payload(alloc: Global, text: &[u8], payload: &[u8]) -> bool {
+    match read_envelope(alloc, text) {
+        Ok(envelope) => is_alone(&envelope, payload),
+        Err(_) => false,
+    }
+}
+
+fn is_alone(envelope: &Envelope, payload: &[u8]) -> bool {
+    let are_so = (envelope.payload.scope.len() == 2) & (envelope.headers.len() == 0);
+    are_so & (envelope.payload.bytes.as_slice() == payload)
 }
 
 const PAYLOADS: [(&[u8], &[u8]); 5] = [
@@ -98,36 +124,44 @@ const PAYLOADS: [(&[u8], &[u8]); 5] = [
 ];
 
 #[test]
-fn takes_the_bytes_between_the_tags(rt: HostRuntime) -> Result<(), EnvelopeError> {
-    for i in 0..PAYLOADS.len() {
-        let (parts, payload) = PAYLOADS[i];
-        assert!(rt; has_payload(rt.alloc(), parts, payload)?, "{i}");
+fn takes_the_bytes_between_the_tags(rt: HostRuntime) {
+    for row in &PAYLOADS {
+        assert!(rt;
+            has_payload(rt.alloc(), row) == Ok(true),
+            "{}",
+            row.0.escape_ascii()
+        );
     }
-    Ok(())
 }
 
-fn shown_wrapped(alloc: Global, parts: &[u8]) -> Result<Blob, EnvelopeError> {
+// Parts, and how their envelope is shown: a body is its parts alone, and text in Header is passed over.
+const PARTS_SHOWN: [(&str, &str); 2] = [
+    (
+        "<S:Body xmlns:p='v' p:a='1'>t<p:b/></S:Body>",
+        "0 0 2 =u S=http://www.w3.org/2003/05/soap-envelope p=v t<p:b/>",
+    ),
+    (
+        "<S:Header xmlns:p='v'>t<a/>u<p:b/></S:Header><S:Body xmlns=''/>",
+        "2 3 0 S=http://www.w3.org/2003/05/soap-envelope ",
+    ),
+];
+
+fn are_parts_shown(alloc: Global, row: &(&str, &str)) -> Result<bool, Memory> {
+    let text = wrapped(alloc, row.0.as_bytes())?;
+    Ok(is_shown(alloc, text.as_slice(), row.1.as_bytes()))
+}
+
+#[test]
+fn parts_are_shown(rt: HostRuntime) {
+    for row in &PARTS_SHOWN {
+        assert!(rt; are_parts_shown(rt.alloc(), row) == Ok(true), "{}", row.0);
+    }
+}
+
+// Whether these parts make no envelope.
+fn are_refused(alloc: Global, parts: &[u8]) -> Result<bool, Memory> {
     let text = wrapped(alloc, parts)?;
-    shown(alloc, text.as_slice())
-}
-
-#[test]
-fn a_body_is_its_parts_alone(rt: HostRuntime) -> Result<(), EnvelopeError> {
-    let shown = shown_wrapped(rt.alloc(), b"<S:Body xmlns:p='v' p:a='1'>t<p:b/></S:Body>")?;
-    let wanted = b"0 0 2 =u S=http://www.w3.org/2003/05/soap-envelope p=v t<p:b/>";
-    assert!(rt; shown.as_slice() == wanted.as_slice());
-    Ok(())
-}
-
-#[test]
-fn text_in_header_is_passed_over(rt: HostRuntime) -> Result<(), EnvelopeError> {
-    let shown = shown_wrapped(
-        rt.alloc(),
-        b"<S:Header xmlns:p='v'>t<a/>u<p:b/></S:Header><S:Body xmlns=''/>",
-    )?;
-    let wanted = b"2 3 0 S=http://www.w3.org/2003/05/soap-envelope ";
-    assert!(rt; shown.as_slice() == wanted.as_slice());
-    Ok(())
+    Ok(is_refused(alloc, text.as_slice(), EnvelopeError::NotEnvelope))
 }
 
 const OTHER_PARTS: [&[u8]; 8] = [
@@ -142,15 +176,14 @@ const OTHER_PARTS: [&[u8]; 8] = [
 ];
 
 #[test]
-fn refuses_other_parts(rt: HostRuntime) -> Result<(), Memory> {
-    for i in 0..OTHER_PARTS.len() {
-        let text = wrapped(rt.alloc(), OTHER_PARTS[i])?;
+fn refuses_other_parts(rt: HostRuntime) {
+    for parts in &OTHER_PARTS {
         assert!(rt;
-            is_refused(rt.alloc(), text.as_slice(), EnvelopeError::NotEnvelope),
-            "{i}"
+            are_refused(rt.alloc(), parts) == Ok(true),
+            "{}",
+            parts.escape_ascii()
         );
     }
-    Ok(())
 }
 
 const REASONS: [(&[u8], EnvelopeError); 5] = [
@@ -169,8 +202,11 @@ const REASONS: [(&[u8], EnvelopeError); 5] = [
 
 #[test]
 fn tells_errors(rt: HostRuntime) {
-    for i in 0..REASONS.len() {
-        let (bytes, reason) = REASONS[i];
-        assert!(rt; is_refused(rt.alloc(), bytes, reason), "{i}");
+    for (bytes, reason) in &REASONS {
+        assert!(rt;
+            is_refused(rt.alloc(), bytes, *reason),
+            "{}",
+            bytes.escape_ascii()
+        );
     }
 }

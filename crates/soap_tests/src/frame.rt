@@ -1,19 +1,22 @@
 //! The frame of an envelope, written, and read back with what stands in it.
-use crate::envelope::shown;
+use crate::envelope;
 use rm_base::{Blob, Memory};
 use soap_frame::{begin_body, begin_envelope, end_envelope};
-use soap_profile::EnvelopeError;
 use std::alloc::Global;
 
 // The frame with these blocks and this between Body's tags.
 fn framed(alloc: Global, blocks: &[u8], body: &[u8]) -> Result<Blob, Memory> {
     let mut out = Blob::new(alloc);
-    begin_envelope(&mut out)?;
-    out.push_all(blocks)?;
-    begin_body(&mut out)?;
-    out.push_all(body)?;
-    end_envelope(&mut out)?;
+    push_framed(&mut out, blocks, body)?;
     Ok(out)
+}
+
+fn push_framed(out: &mut Blob, blocks: &[u8], body: &[u8]) -> Result<(), Memory> {
+    begin_envelope(out)?;
+    out.push_all(blocks)?;
+    begin_body(out)?;
+    out.push_all(body)?;
+    end_envelope(out)
 }
 
 const EMPTY: &str = concat!(
@@ -36,30 +39,28 @@ const PREFIXES: &str = concat!(
 );
 
 // Whether a document is shown by these counts, the prefixes of a frame and this payload.
-fn is_shown(
-    alloc: Global,
-    document: &[u8],
-    counts: &[u8],
-    payload: &[u8],
-) -> Result<bool, EnvelopeError> {
-    let mut wanted = Blob::from_slice(alloc, counts)?;
+fn is_shown(alloc: Global, document: &[u8], counts: &[u8], payload: &[u8]) -> Result<bool, Memory> {
+    let mut wanted = Blob::new(alloc);
+    push_wanted(&mut wanted, counts, payload)?;
+    Ok(envelope::is_shown(alloc, document, wanted.as_slice()))
+}
+
+fn push_wanted(wanted: &mut Blob, counts: &[u8], payload: &[u8]) -> Result<(), Memory> {
+    wanted.push_all(counts)?;
     wanted.push_all(PREFIXES.as_bytes())?;
-    wanted.push_all(payload)?;
-    let shown = shown(alloc, document)?;
-    Ok(shown.as_slice() == wanted.as_slice())
+    wanted.push_all(payload)
 }
 
 #[test]
-fn an_empty_frame_is_read(rt: HostRuntime) -> Result<(), EnvelopeError> {
-    assert!(rt; is_shown(rt.alloc(), EMPTY.as_bytes(), b"0 4 0", b"")?);
-    Ok(())
+fn an_empty_frame_is_read(rt: HostRuntime) {
+    assert!(rt; is_shown(rt.alloc(), EMPTY.as_bytes(), b"0 4 0", b"") == Ok(true));
 }
 
 const PAYLOAD: &[u8] = b" <!-- c --><x xmlns='u'><y a='1'/>t</x>\r\n";
 
 #[test]
-fn a_block_and_a_payload(rt: HostRuntime) -> Result<(), EnvelopeError> {
+fn a_block_and_a_payload(rt: HostRuntime) -> Result<(), Memory> {
     let out = framed(rt.alloc(), b"<a:To>urn:x</a:To>", PAYLOAD)?;
-    assert!(rt; is_shown(rt.alloc(), out.as_slice(), b"1 4 3", PAYLOAD)?);
+    assert!(rt; is_shown(rt.alloc(), out.as_slice(), b"1 4 3", PAYLOAD) == Ok(true));
     Ok(())
 }

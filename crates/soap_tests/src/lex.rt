@@ -6,35 +6,38 @@ use soap_lex::{
 };
 use std::alloc::{AllocError, Global};
 
+// Bytes, the end up to which they are read, and their meaning.
+type Read = (&'static [u8], usize, &'static [u8]);
+
 // Whether text is read up to this end with this meaning.
-fn reads_text(alloc: Global, bytes: &[u8], end: usize, meaning: &[u8]) -> bool {
+fn reads_text(alloc: Global, row: &Read) -> bool {
     let mut out = Vec::new(alloc);
-    let read = read_text(bytes, 0, &mut out);
-    read == Ok(end) && out.as_slice() == meaning
+    let read = read_text(row.0, 0, &mut out);
+    (read == Ok(row.1)) & (out.as_slice() == row.2)
 }
 
 // Whether text is refused with nothing written.
 fn refuses_text(alloc: Global, bytes: &[u8]) -> bool {
     let mut out = Vec::new(alloc);
     let read = read_text(bytes, 0, &mut out);
-    read == Err(LexError::NotProfile) && out.is_empty()
+    (read == Err(LexError::NotProfile)) & out.is_empty()
 }
 
 // Whether a value is read up to this end with this meaning.
-fn reads_value(alloc: Global, bytes: &[u8], end: usize, meaning: &[u8]) -> bool {
+fn reads_value(alloc: Global, row: &Read) -> bool {
     let mut out = Vec::new(alloc);
-    let read = read_attr(bytes, 0, &mut out);
-    read == Ok(end) && out.as_slice() == meaning
+    let read = read_attr(row.0, 0, &mut out);
+    (read == Ok(row.1)) & (out.as_slice() == row.2)
 }
 
 // Whether a value is refused with nothing written.
 fn refuses_value(alloc: Global, bytes: &[u8]) -> bool {
     let mut out = Vec::new(alloc);
     let read = read_attr(bytes, 0, &mut out);
-    read == Err(LexError::NotProfile) && out.is_empty()
+    (read == Err(LexError::NotProfile)) & out.is_empty()
 }
 
-const TEXTS: [(&[u8], usize, &[u8]); 17] = [
+const TEXTS: [Read; 17] = [
     (b"", 0, b""),
     (b"<a/>", 0, b""),
     (b"a b</p>", 3, b"a b"),
@@ -56,12 +59,8 @@ const TEXTS: [(&[u8], usize, &[u8]); 17] = [
 
 #[test]
 fn text_has_its_meaning(rt: HostRuntime) {
-    for (bytes, end, meaning) in TEXTS {
-        assert!(rt;
-            reads_text(rt.alloc(), bytes, end, meaning),
-            "{}",
-            bytes.escape_ascii()
-        );
+    for row in &TEXTS {
+        assert!(rt; reads_text(rt.alloc(), row), "{}", row.0.escape_ascii());
     }
 }
 
@@ -104,7 +103,7 @@ fn other_text_is_refused(rt: HostRuntime) {
     }
 }
 
-const VALUES: [(&[u8], usize, &[u8]); 7] = [
+const VALUES: [Read; 7] = [
     (b"\"\"", 2, b""),
     (b"'a\"b'c", 5, b"a\"b"),
     (b"\"a'>b\">", 6, b"a'>b"),
@@ -116,12 +115,8 @@ const VALUES: [(&[u8], usize, &[u8]); 7] = [
 
 #[test]
 fn values_have_their_meaning(rt: HostRuntime) {
-    for (bytes, end, meaning) in VALUES {
-        assert!(rt;
-            reads_value(rt.alloc(), bytes, end, meaning),
-            "{}",
-            bytes.escape_ascii()
-        );
+    for row in &VALUES {
+        assert!(rt; reads_value(rt.alloc(), row), "{}", row.0.escape_ascii());
     }
 }
 
@@ -148,13 +143,18 @@ fn other_values_are_refused(rt: HostRuntime) {
     }
 }
 
+// Whether each reading answers so, and what is appended is the meaning of both that came to an end.
+fn goes_on_at_a_place(alloc: Global) -> bool {
+    let mut out = Vec::new(alloc);
+    let text = read_text(b"<a b='c'>d<", 9, &mut out) == Ok(10);
+    let value = read_attr(b"<a b='c'>d<", 5, &mut out) == Ok(8);
+    let other = read_text(b"<a b='c'>d&<", 9, &mut out) == Err(LexError::NotProfile);
+    text & value & other & (out.as_slice() == b"dc".as_slice())
+}
+
 #[test]
 fn reading_goes_on_at_a_place(rt: HostRuntime) {
-    let mut out = Vec::new(rt.alloc());
-    assert!(rt; read_text(b"<a b='c'>d<", 9, &mut out) == Ok(10));
-    assert!(rt; read_attr(b"<a b='c'>d<", 5, &mut out) == Ok(8));
-    assert!(rt; read_text(b"<a b='c'>d&<", 9, &mut out) == Err(LexError::NotProfile));
-    assert!(rt; out.as_slice() == b"dc".as_slice());
+    assert!(rt; goes_on_at_a_place(rt.alloc()));
 }
 
 #[test]
@@ -175,17 +175,27 @@ const TEXT_PIECES: [(&[u8], usize, bool); 4] = [
     (b"b", 0, false),
 ];
 
+// Whether a piece of a text is read so.
+fn is_text_fed(reader: &mut TextReader, out: &mut Vec<u8>, row: &(&[u8], usize, bool)) -> bool {
+    let is_read = reader.feed(row.0, out) == Ok(row.1);
+    is_read & (reader.is_less() == row.2)
+}
+
+// Whether a reader that begins anew reads one more byte, and comes to its end.
+fn is_text_ended(mut reader: TextReader, out: &mut Vec<u8>) -> bool {
+    reader.restart();
+    let is_read = reader.feed(b"c", out) == Ok(1);
+    is_read & (reader.finish(out) == Ok(Some(0)))
+}
+
 #[test]
 fn text_is_fed_in_pieces(rt: HostRuntime) {
     let mut out = Vec::new(rt.alloc());
     let mut reader = TextReader::new(rt.alloc());
-    for (piece, end, is_less) in TEXT_PIECES {
-        assert!(rt; reader.feed(piece, &mut out) == Ok(end), "{end}");
-        assert!(rt; reader.is_less() == is_less, "{end}");
+    for row in &TEXT_PIECES {
+        assert!(rt; is_text_fed(&mut reader, &mut out, row), "{}", row.1);
     }
-    reader.restart();
-    assert!(rt; reader.feed(b"c", &mut out) == Ok(1));
-    assert!(rt; reader.finish(&mut out) == Ok(Some(0)));
+    assert!(rt; is_text_ended(reader, &mut out));
     assert!(rt; out.as_slice() == b"a\nbc".as_slice());
 }
 
@@ -199,12 +209,13 @@ fn opened(alloc: Global, piece: &[u8]) -> usize {
     }
 }
 
+const OPENED: [(&str, usize); 4] = [("!--a-->", 3), ("![CDATA[a]]>", 8), ("!-", 0), ("a>", 0)];
+
 #[test]
 fn what_begins_a_section_is_taken_at_once(rt: HostRuntime) {
-    assert!(rt; opened(rt.alloc(), b"!--a-->") == 3);
-    assert!(rt; opened(rt.alloc(), b"![CDATA[a]]>") == 8);
-    assert!(rt; opened(rt.alloc(), b"!-") == 0);
-    assert!(rt; opened(rt.alloc(), b"a>") == 0);
+    for (piece, count) in &OPENED {
+        assert!(rt; opened(rt.alloc(), piece.as_bytes()) == *count, "{piece}");
+    }
 }
 
 // Pieces of a value, how much of each is read, and whether the value is closed then.
@@ -215,16 +226,26 @@ const VALUE_PIECES: [(&[u8], usize, bool); 4] = [
     (b"d'e", 2, true),
 ];
 
+// Whether a piece of a value is read so.
+fn is_value_fed(reader: &mut ValueReader, out: &mut Vec<u8>, row: &(&[u8], usize, bool)) -> bool {
+    let is_read = reader.feed(row.0, out) == Ok(row.1);
+    is_read & (reader.is_closed() == row.2)
+}
+
+// Whether a reader that begins anew is open.
+fn is_value_open(reader: &mut ValueReader) -> bool {
+    reader.restart(Quote::Double);
+    !reader.is_closed()
+}
+
 #[test]
 fn values_are_fed_in_pieces(rt: HostRuntime) {
     let mut out = Vec::new(rt.alloc());
     let mut reader = ValueReader::new(rt.alloc(), Quote::Single);
-    for (piece, end, is_closed) in VALUE_PIECES {
-        assert!(rt; reader.feed(piece, &mut out) == Ok(end), "{end}");
-        assert!(rt; reader.is_closed() == is_closed, "{end}");
+    for row in &VALUE_PIECES {
+        assert!(rt; is_value_fed(&mut reader, &mut out, row), "{}", row.1);
     }
-    reader.restart(Quote::Double);
-    assert!(rt; !reader.is_closed());
+    assert!(rt; is_value_open(&mut reader));
     assert!(rt; out.as_slice() == b"&d".as_slice());
 }
 
@@ -240,87 +261,89 @@ fn goes_on(alloc: Global, character: &[u8]) -> Result<bool, AllocError> {
     Ok(is_name(&name))
 }
 
+// Whether a name begins with a character, and goes on with it.
+fn is_border(alloc: Global, (character, begins, further): &(char, bool, bool)) -> bool {
+    let mut room = [0; 4];
+    let first = character.encode_utf8(&mut room).as_bytes();
+    (is_name(first) == *begins) & (goes_on(alloc, first) == Ok(*further))
+}
+
 #[test]
 fn names_begin_and_go_on(rt: HostRuntime) {
-    // each border of each range, and the character outside it
-    for (c, begins, further) in NAME_BORDERS {
-        let c = char::from_u32(c).expect(&rt, "a character");
-        let mut room = [0; 4];
-        let first = c.encode_utf8(&mut room).as_bytes();
-        assert!(rt; is_name(first) == begins, "{c:?}");
-        assert!(rt;
-            goes_on(rt.alloc(), first).is_ok_and(|it| it == further),
-            "{c:?}"
-        );
+    // Each border of each range, and the character outside it.
+    for row in &NAME_BORDERS {
+        assert!(rt; is_border(rt.alloc(), row), "{:?}", row.0);
     }
 }
 
+const NO_NAMES: [&[u8]; 3] = [b"", b"a b", b"a\xC3"];
+
 #[test]
 fn no_names(rt: HostRuntime) {
-    assert!(rt; !is_name(b""));
-    assert!(rt; !is_name(b"a b"));
-    assert!(rt; !is_name(b"a\xC3"));
+    for bytes in NO_NAMES {
+        assert!(rt; !is_name(bytes), "{}", bytes.escape_ascii());
+    }
 }
 
-const NAME_BORDERS: [(u32, bool, bool); 58] = [
-    (0x2C, false, false),
-    (0x2D, false, true),
-    (0x2E, false, true),
-    (0x2F, false, false),
-    (0x30, false, true),
-    (0x39, false, true),
-    (0x3A, false, false),
-    (0x40, false, false),
-    (0x41, true, true),
-    (0x5A, true, true),
-    (0x5B, false, false),
-    (0x5E, false, false),
-    (0x5F, true, true),
-    (0x60, false, false),
-    (0x61, true, true),
-    (0x7A, true, true),
-    (0x7B, false, false),
-    (0xB6, false, false),
-    (0xB7, false, true),
-    (0xB8, false, false),
-    (0xBF, false, false),
-    (0xC0, true, true),
-    (0xD6, true, true),
-    (0xD7, false, false),
-    (0xD8, true, true),
-    (0xF6, true, true),
-    (0xF7, false, false),
-    (0xF8, true, true),
-    (0x2FF, true, true),
-    (0x300, false, true),
-    (0x36F, false, true),
-    (0x370, true, true),
-    (0x37D, true, true),
-    (0x37E, false, false),
-    (0x37F, true, true),
-    (0x1FFF, true, true),
-    (0x2000, false, false),
-    (0x200B, false, false),
-    (0x200C, true, true),
-    (0x200D, true, true),
-    (0x203E, false, false),
-    (0x203F, false, true),
-    (0x2040, false, true),
-    (0x2041, false, false),
-    (0x206F, false, false),
-    (0x2070, true, true),
-    (0x218F, true, true),
-    (0x2190, false, false),
-    (0x2BFF, false, false),
-    (0x2C00, true, true),
-    (0x2FEF, true, true),
-    (0x2FF0, false, false),
-    (0x3000, false, false),
-    (0x3001, true, true),
-    (0xD7FF, true, true),
-    (0xE000, false, false),
-    (0xF8FF, false, false),
-    (0xF900, true, true),
+const NAME_BORDERS: [(char, bool, bool); 58] = [
+    ('\u{2C}', false, false),
+    ('\u{2D}', false, true),
+    ('\u{2E}', false, true),
+    ('\u{2F}', false, false),
+    ('\u{30}', false, true),
+    ('\u{39}', false, true),
+    ('\u{3A}', false, false),
+    ('\u{40}', false, false),
+    ('\u{41}', true, true),
+    ('\u{5A}', true, true),
+    ('\u{5B}', false, false),
+    ('\u{5E}', false, false),
+    ('\u{5F}', true, true),
+    ('\u{60}', false, false),
+    ('\u{61}', true, true),
+    ('\u{7A}', true, true),
+    ('\u{7B}', false, false),
+    ('\u{B6}', false, false),
+    ('\u{B7}', false, true),
+    ('\u{B8}', false, false),
+    ('\u{BF}', false, false),
+    ('\u{C0}', true, true),
+    ('\u{D6}', true, true),
+    ('\u{D7}', false, false),
+    ('\u{D8}', true, true),
+    ('\u{F6}', true, true),
+    ('\u{F7}', false, false),
+    ('\u{F8}', true, true),
+    ('\u{2FF}', true, true),
+    ('\u{300}', false, true),
+    ('\u{36F}', false, true),
+    ('\u{370}', true, true),
+    ('\u{37D}', true, true),
+    ('\u{37E}', false, false),
+    ('\u{37F}', true, true),
+    ('\u{1FFF}', true, true),
+    ('\u{2000}', false, false),
+    ('\u{200B}', false, false),
+    ('\u{200C}', true, true),
+    ('\u{200D}', true, true),
+    ('\u{203E}', false, false),
+    ('\u{203F}', false, true),
+    ('\u{2040}', false, true),
+    ('\u{2041}', false, false),
+    ('\u{206F}', false, false),
+    ('\u{2070}', true, true),
+    ('\u{218F}', true, true),
+    ('\u{2190}', false, false),
+    ('\u{2BFF}', false, false),
+    ('\u{2C00}', true, true),
+    ('\u{2FEF}', true, true),
+    ('\u{2FF0}', false, false),
+    ('\u{3000}', false, false),
+    ('\u{3001}', true, true),
+    ('\u{D7FF}', true, true),
+    ('\u{E000}', false, false),
+    ('\u{F8FF}', false, false),
+    ('\u{F900}', true, true),
 ];
 
 const LAST_BORDERS: [(&str, bool); 11] = [
@@ -361,13 +384,16 @@ fn character_data(rt: HostRuntime) {
     }
 }
 
+// Bytes, and whether they may be a comment.
+const COMMENTS: [(&str, bool); 3] = [("a - b", true), ("a--b", false), ("ab-", false)];
+
 #[test]
 fn sections_and_comments(rt: HostRuntime) {
     assert!(rt; is_cdata(b"<&]]"));
     assert!(rt; !is_cdata(b"]]>"));
-    assert!(rt; is_comment(b"a - b"));
-    assert!(rt; !is_comment(b"a--b"));
-    assert!(rt; !is_comment(b"ab-"));
+    for (bytes, wanted) in &COMMENTS {
+        assert!(rt; is_comment(bytes.as_bytes()) == *wanted, "{bytes}");
+    }
 }
 
 #[test]
@@ -384,43 +410,74 @@ fn references(rt: HostRuntime) {
     assert!(rt; reference(b"&amp;x").is_none());
 }
 
+// Bytes, and how many of them are UTF-8.
+const PREFIXES: [(&[u8], usize); 7] = [
+    (b"a\xC0\x80", 1),
+    (b"a\xE0\x9F\xBF", 1),
+    (b"ab\xED\xA0\x80", 2),
+    (b"\xF4\x90\x80\x80", 0),
+    (b"\xF0\x8F\xBF\xBF", 0),
+    (b"ab\xE2\x82", 2),
+    (b"", 0),
+];
+
 #[test]
 fn utf8_ends_at_the_first_fault(rt: HostRuntime) {
     assert!(rt; utf8_prefix("aé€\u{10000}".as_bytes()) == 10);
-    assert!(rt; utf8_prefix(b"a\xC0\x80") == 1);
-    assert!(rt; utf8_prefix(b"a\xE0\x9F\xBF") == 1);
-    assert!(rt; utf8_prefix(b"ab\xED\xA0\x80") == 2);
-    assert!(rt; utf8_prefix(b"\xF4\x90\x80\x80") == 0);
-    assert!(rt; utf8_prefix(b"\xF0\x8F\xBF\xBF") == 0);
-    assert!(rt; utf8_prefix(b"ab\xE2\x82") == 2);
-    assert!(rt; utf8_prefix(b"") == 0);
+    for (bytes, count) in &PREFIXES {
+        assert!(rt; utf8_prefix(bytes) == *count, "{}", bytes.escape_ascii());
+    }
+}
+
+// What is written in turn, and all that is written then.
+const WRITTEN_TEXTS: [(&str, &str); 2] = [
+    ("a<b", "a&lt;b"),
+    ("]]>&\r\n\"'", "a&lt;b]]&gt;&amp;&#13;\n\"'"),
+];
+
+// Whether this is all that is written once a text is.
+fn is_text_written(out: &mut Vec<u8>, row: &(&str, &str)) -> bool {
+    let is_written = write_text(row.0.as_bytes(), out) == Ok(());
+    is_written & (out.as_slice() == row.1.as_bytes())
 }
 
 #[test]
-fn text_that_is_written_is_escaped(rt: HostRuntime) -> Result<(), Memory> {
+fn text_that_is_written_is_escaped(rt: HostRuntime) {
     let mut out = Vec::new(rt.alloc());
-    write_text(b"a<b", &mut out)?;
-    assert!(rt; out.as_slice() == b"a&lt;b".as_slice());
-    write_text(b"]]>&\r\n\"'", &mut out)?;
-    assert!(rt; out.as_slice() == b"a&lt;b]]&gt;&amp;&#13;\n\"'".as_slice());
-    Ok(())
+    for row in &WRITTEN_TEXTS {
+        assert!(rt; is_text_written(&mut out, row), "{}", row.0);
+    }
+}
+
+const WRITTEN_VALUES: [(&str, &str); 2] = [
+    ("\"", "&quot;"),
+    ("'\t\n\r<>&", "&quot;'&#9;&#10;&#13;&lt;&gt;&amp;"),
+];
+
+// Whether this is all that is written once a value is.
+fn is_value_written(out: &mut Vec<u8>, row: &(&str, &str)) -> bool {
+    let is_written = write_attr(row.0.as_bytes(), out) == Ok(());
+    is_written & (out.as_slice() == row.1.as_bytes())
 }
 
 #[test]
-fn values_that_are_written_are_escaped(rt: HostRuntime) -> Result<(), Memory> {
+fn values_that_are_written_are_escaped(rt: HostRuntime) {
     let mut out = Vec::new(rt.alloc());
-    write_attr(b"\"", &mut out)?;
-    assert!(rt; out.as_slice() == b"&quot;".as_slice());
-    write_attr(b"'\t\n\r<>&", &mut out)?;
-    assert!(rt; out.as_slice() == b"&quot;'&#9;&#10;&#13;&lt;&gt;&amp;".as_slice());
-    Ok(())
+    for row in &WRITTEN_VALUES {
+        assert!(rt; is_value_written(&mut out, row), "{}", row.0);
+    }
+}
+
+// Whether both runs are appended.
+fn are_runs_appended(out: &mut Vec<u8>) -> bool {
+    let ends = push_line_ends(b"a\r\n\rb", out) == Ok(());
+    let spaces = push_spaces(b"\ta\r\n\rb\n", out) == Ok(());
+    ends & spaces
 }
 
 #[test]
-fn runs_are_appended(rt: HostRuntime) -> Result<(), Memory> {
+fn runs_are_appended(rt: HostRuntime) {
     let mut out = Vec::new(rt.alloc());
-    push_line_ends(b"a\r\n\rb", &mut out)?;
-    push_spaces(b"\ta\r\n\rb\n", &mut out)?;
+    assert!(rt; are_runs_appended(&mut out));
     assert!(rt; out.as_slice() == b"a\n\nb a  b ".as_slice());
-    Ok(())
 }

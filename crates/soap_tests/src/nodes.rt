@@ -6,17 +6,25 @@ use soap_nodes::{
 };
 use std::alloc::Global;
 
+fn push_tag(out: &mut Vec<u8>) -> Result<(), Memory> {
+    push_begin(b"s:NotUnderstood", out)?;
+    push_attribute(b"qname", b"q:L\"\t", out)?;
+    push_declaration(b"q", b"urn:<q>", out)?;
+    push_bytes(b">", out)
+}
+
+fn push_parts(out: &mut Vec<u8>) -> Result<(), Memory> {
+    push_text(b"a<b", out)?;
+    push_leaf(b"r:Identifier", b"urn:1&2", out)?;
+    push_number(b"r:MessageNumber", 9223372036854775807, out)?;
+    push_void(b"r:Final", out)?;
+    push_close(b"s:NotUnderstood", out)
+}
+
 fn pieces(alloc: Global) -> Result<Vec<u8>, Memory> {
     let mut out = Vec::new(alloc);
-    push_begin(b"s:NotUnderstood", &mut out)?;
-    push_attribute(b"qname", b"q:L\"\t", &mut out)?;
-    push_declaration(b"q", b"urn:<q>", &mut out)?;
-    push_bytes(b">", &mut out)?;
-    push_text(b"a<b", &mut out)?;
-    push_leaf(b"r:Identifier", b"urn:1&2", &mut out)?;
-    push_number(b"r:MessageNumber", 9223372036854775807, &mut out)?;
-    push_void(b"r:Final", &mut out)?;
-    push_close(b"s:NotUnderstood", &mut out)?;
+    push_tag(&mut out)?;
+    push_parts(&mut out)?;
     Ok(out)
 }
 

@@ -10,11 +10,11 @@ fn is_taken(alloc: Global, document: &[u8]) -> bool {
     read_element(alloc, document).is_ok()
 }
 
-// Why a document is no element, where it is none.
-fn flaw(alloc: Global, document: &[u8]) -> Option<EnvelopeError> {
+// Whether a document is no element for this reason.
+fn is_refused(alloc: Global, document: &[u8], reason: EnvelopeError) -> bool {
     match read_element(alloc, document) {
-        Ok(_) => None,
-        Err(error) => Some(error),
+        Ok(_) => false,
+        Err(error) => error == reason,
     }
 }
 
@@ -35,7 +35,7 @@ const TAKEN: [&str; 12] = [
 
 #[test]
 fn takes(rt: HostRuntime) {
-    for document in TAKEN {
+    for document in &TAKEN {
         assert!(rt; is_taken(rt.alloc(), document.as_bytes()), "{document}");
     }
 }
@@ -77,18 +77,25 @@ const REFUSED: [&str; 34] = [
     "<a:b:c xmlns:a='u'/>",
 ];
 
+// Whether bytes are no document of the profile.
+fn is_no_document(alloc: Global, bytes: &[u8]) -> bool {
+    is_refused(alloc, bytes, EnvelopeError::NotProfile)
+}
+
 #[test]
 fn refuses(rt: HostRuntime) {
-    for document in REFUSED {
-        let flaw = flaw(rt.alloc(), document.as_bytes());
-        assert!(rt; flaw == Some(EnvelopeError::NotProfile), "{document}");
+    for document in &REFUSED {
+        assert!(rt;
+            is_no_document(rt.alloc(), document.as_bytes()),
+            "{document}"
+        );
     }
 }
 
 #[test]
 fn tells_errors(rt: HostRuntime) {
-    let flaw = flaw(rt.alloc(), b"<a>\xff</a>");
-    assert!(rt; flaw == Some(EnvelopeError::NotUtf8 { valid_up_to: 3 }));
+    let reason = EnvelopeError::NotUtf8 { valid_up_to: 3 };
+    assert!(rt; is_refused(rt.alloc(), b"<a>\xff</a>", reason));
 }
 
 fn push_name(out: &mut Blob, mark: &[u8], name: &Name) -> Result<(), Memory> {
@@ -133,98 +140,115 @@ fn shown_child(alloc: Global, element: &Element, item: usize) -> Result<Blob, Me
     }
 }
 
-fn is_shown(alloc: Global, document: &[u8], wanted: &[u8]) -> Result<bool, EnvelopeError> {
-    let tree = read_element(alloc, document)?;
-    let shown = shown(alloc, &tree)?;
-    Ok(shown.as_slice() == wanted)
+fn are_bytes(found: Result<Blob, Memory>, wanted: &[u8]) -> bool {
+    match found {
+        Ok(bytes) => bytes.as_slice() == wanted,
+        Err(_) => false,
+    }
 }
+
+fn is_shown(alloc: Global, document: &[u8], wanted: &[u8]) -> bool {
+    match read_element(alloc, document) {
+        Ok(tree) => are_bytes(shown(alloc, &tree), wanted),
+        Err(_) => false,
+    }
+}
+
+// Documents, and how they are shown: texts are joined, names are expanded, bindings end with their elements, and
+// declarations are kept.
+const SHOWN: [(&str, &str); 4] = [
+    (
+        "<a>t\r\n&#13;<![CDATA[<]]>u<!-- c -->v<b/><!-- d --></a>",
+        "{}a 't\n\r<uv <{}b",
+    ),
+    (
+        "<a xmlns='u' b='1' xml:c='2'><b xmlns=''/></a>",
+        "{u}a =u @{}b @{http://www.w3.org/XML/1998/namespace}c <{}b",
+    ),
+    (
+        "<a xmlns='u' xmlns:p='v'><b xmlns=''/><c/><d xmlns='w'/><e/><f xmlns:p='x'/><p:g/></a>",
+        "{u}a =u p=v <{}b <{u}c <{w}d <{u}e <{u}f <{v}g",
+    ),
+    (DECLARING, "{u}a p=u @{}b 't <{v}c"),
+];
 
 #[test]
-fn joins_text(rt: HostRuntime) -> Result<(), EnvelopeError> {
-    let document = b"<a>t\r\n&#13;<![CDATA[<]]>u<!-- c -->v<b/><!-- d --></a>";
-    assert!(rt; is_shown(rt.alloc(), document, b"{}a 't\n\r<uv <{}b")?);
-    Ok(())
+fn elements_are_shown(rt: HostRuntime) {
+    for (document, wanted) in &SHOWN {
+        assert!(rt;
+            is_shown(rt.alloc(), document.as_bytes(), wanted.as_bytes()),
+            "{document}"
+        );
+    }
 }
 
-// 20000 attributes, and a last one
-fn many(alloc: Global, last: &[u8]) -> Result<Blob, Memory> {
-    let mut text = Blob::from_slice(alloc, b"<a")?;
+fn push_numbered(text: &mut Blob, before: &[u8], number: u64, behind: &[u8]) -> Result<(), Memory> {
+    text.push_all(before)?;
+    push_decimal(text, number)?;
+    text.push_all(behind)
+}
+
+// An element with 20000 attributes, and a last one.
+fn push_many(text: &mut Blob, last: &[u8]) -> Result<(), Memory> {
+    text.push_all(b"<a")?;
     for i in 0..20000u64 {
-        text.push_all(b" b")?;
-        push_decimal(&mut text, i)?;
-        text.push_all(b"='c'")?;
+        push_numbered(text, b" b", i, b"='c'")?;
     }
     text.push_all(last)?;
-    text.push_all(b"/>")?;
+    text.push_all(b"/>")
+}
+
+fn many(alloc: Global, last: &[u8]) -> Result<Blob, Memory> {
+    let mut text = Blob::new(alloc);
+    push_many(&mut text, last)?;
     Ok(text)
 }
 
-#[test]
-fn takes_many_attributes(rt: HostRuntime) -> Result<(), Memory> {
-    let text = many(rt.alloc(), b" last='c'")?;
-    assert!(rt; is_taken(rt.alloc(), text.as_slice()));
-    let text = many(rt.alloc(), b" b7='c'")?;
-    assert!(rt; flaw(rt.alloc(), text.as_slice()) == Some(EnvelopeError::NotProfile));
-    Ok(())
+// Whether the element with this last attribute is taken, or refused as no document of the profile.
+fn is_many_taken(alloc: Global, last: &[u8]) -> Result<bool, Memory> {
+    Ok(is_taken(alloc, many(alloc, last)?.as_slice()))
+}
+
+fn is_many_refused(alloc: Global, last: &[u8]) -> Result<bool, Memory> {
+    Ok(is_no_document(alloc, many(alloc, last)?.as_slice()))
 }
 
 #[test]
-fn names_are_expanded(rt: HostRuntime) -> Result<(), EnvelopeError> {
-    let document = b"<a xmlns='u' b='1' xml:c='2'><b xmlns=''/></a>";
-    let wanted = b"{u}a =u @{}b @{http://www.w3.org/XML/1998/namespace}c <{}b";
-    assert!(rt; is_shown(rt.alloc(), document, wanted)?);
-    Ok(())
+fn takes_many_attributes(rt: HostRuntime) {
+    assert!(rt; is_many_taken(rt.alloc(), b" last='c'") == Ok(true));
+    assert!(rt; is_many_refused(rt.alloc(), b" b7='c'") == Ok(true));
+}
+
+fn is_child_shown(alloc: Global, document: &[u8], wanted: &[u8]) -> bool {
+    match read_element(alloc, document) {
+        Ok(tree) => are_bytes(shown_child(alloc, &tree, 1), wanted),
+        Err(_) => false,
+    }
 }
 
 #[test]
-fn bindings_end_with_their_elements(rt: HostRuntime) -> Result<(), EnvelopeError> {
-    let document =
-        b"<a xmlns='u' xmlns:p='v'><b xmlns=''/><c/><d xmlns='w'/><e/><f xmlns:p='x'/><p:g/></a>";
-    let wanted = b"{u}a =u p=v <{}b <{u}c <{w}d <{u}e <{u}f <{v}g";
-    assert!(rt; is_shown(rt.alloc(), document, wanted)?);
-    Ok(())
-}
-
-fn is_child_shown(alloc: Global, document: &[u8], wanted: &[u8]) -> Result<bool, EnvelopeError> {
-    let tree = read_element(alloc, document)?;
-    let shown = shown_child(alloc, &tree, 1)?;
-    Ok(shown.as_slice() == wanted)
-}
-
-#[test]
-fn default_namespaces_nest(rt: HostRuntime) -> Result<(), EnvelopeError> {
+fn default_namespaces_nest(rt: HostRuntime) {
     let document = b"<a xmlns='u'><b xmlns=''><c xmlns='v'/><d/></b></a>";
-    assert!(rt; is_child_shown(rt.alloc(), document, b"{}b = <{v}c <{}d")?);
-    Ok(())
+    assert!(rt; is_child_shown(rt.alloc(), document, b"{}b = <{v}c <{}d"));
 }
 
-const DECLARING: &[u8] = b"<p:a xmlns:p='u' b='1'>t<c xmlns='v'/></p:a>";
-
-#[test]
-fn declarations_are_kept(rt: HostRuntime) -> Result<(), EnvelopeError> {
-    assert!(rt; is_shown(rt.alloc(), DECLARING, b"{u}a p=u @{}b 't <{v}c")?);
-    Ok(())
-}
+const DECLARING: &str = "<p:a xmlns:p='u' b='1'>t<c xmlns='v'/></p:a>";
 
 // The element without its declarations.
 fn stripped(alloc: Global) -> Result<Element, EnvelopeError> {
-    let tree = read_element(alloc, DECLARING)?;
+    let tree = read_element(alloc, DECLARING.as_bytes())?;
     Ok(strip(alloc, &tree)?)
+}
+
+// Whether an element is shown so, and the child at its item 2.
+fn are_shown(alloc: Global, element: &Element, wanted: &[u8], child: &[u8]) -> bool {
+    are_bytes(shown(alloc, element), wanted) & are_bytes(shown_child(alloc, element, 2), child)
 }
 
 #[test]
 fn declarations_are_stripped(rt: HostRuntime) -> Result<(), EnvelopeError> {
     let stripped = stripped(rt.alloc())?;
-    let shown = shown(rt.alloc(), &stripped)?;
-    assert!(rt; shown.as_slice() == b"{u}a @{}b 't <{v}c".as_slice());
-    Ok(())
-}
-
-#[test]
-fn a_child_is_stripped(rt: HostRuntime) -> Result<(), EnvelopeError> {
-    let stripped = stripped(rt.alloc())?;
-    let shown = shown_child(rt.alloc(), &stripped, 2)?;
-    assert!(rt; shown.as_slice() == b"{v}c".as_slice());
+    assert!(rt; are_shown(rt.alloc(), &stripped, b"{u}a @{}b 't <{v}c", b"{v}c"));
     Ok(())
 }
 
@@ -237,14 +261,19 @@ fn padded(alloc: Global, len: usize) -> Result<Blob, Memory> {
     Ok(bytes)
 }
 
+fn is_padded_taken(alloc: Global, len: usize) -> Result<bool, Memory> {
+    Ok(is_taken(alloc, padded(alloc, len)?.as_slice()))
+}
+
+fn is_padded_refused(alloc: Global, len: usize, reason: EnvelopeError) -> Result<bool, Memory> {
+    Ok(is_refused(alloc, padded(alloc, len)?.as_slice(), reason))
+}
+
 #[test]
-fn a_document_has_a_greatest_length(rt: HostRuntime) -> Result<(), Memory> {
-    let longest = padded(rt.alloc(), MAX_LENGTH)?;
-    assert!(rt; is_taken(rt.alloc(), longest.as_slice()));
-    let longer = padded(rt.alloc(), MAX_LENGTH + 1)?;
-    let flaw = flaw(rt.alloc(), longer.as_slice());
-    assert!(rt; flaw == Some(EnvelopeError::TooLong { len: 2097153 }));
-    Ok(())
+fn a_document_has_a_greatest_length(rt: HostRuntime) {
+    assert!(rt; is_padded_taken(rt.alloc(), MAX_LENGTH) == Ok(true));
+    let reason = EnvelopeError::TooLong { len: 2097153 };
+    assert!(rt; is_padded_refused(rt.alloc(), MAX_LENGTH + 1, reason) == Ok(true));
 }
 
 // Payloads, and whether they are closed.
@@ -265,26 +294,28 @@ const PAYLOADS: [(&str, bool); 14] = [
     ("<a>", false),
 ];
 
+// Whether a payload is told to be closed, or to be none.
+fn is_told(alloc: Global, row: &(&str, bool)) -> bool {
+    check_payload(alloc, row.0.as_bytes()) == Ok(row.1)
+}
+
 #[test]
-fn payloads(rt: HostRuntime) -> Result<(), Memory> {
-    for (payload, closed) in PAYLOADS {
-        assert!(rt;
-            check_payload(rt.alloc(), payload.as_bytes())? == closed,
-            "{payload}"
-        );
+fn payloads(rt: HostRuntime) {
+    for row in &PAYLOADS {
+        assert!(rt; is_told(rt.alloc(), row), "{}", row.0);
     }
-    Ok(())
+}
+
+fn push_declaration(text: &mut Blob, level: u64, i: u64) -> Result<(), Memory> {
+    push_numbered(text, b" xmlns:p", level, b"x")?;
+    push_numbered(text, b"", i, b"='u'")
 }
 
 // The start of an element with so many declarations at this depth.
 fn push_declaring(text: &mut Blob, level: u64, declarations: u64) -> Result<(), Memory> {
     text.push_all(b"<a")?;
     for i in 0..declarations {
-        text.push_all(b" xmlns:p")?;
-        push_decimal(text, level)?;
-        text.push_all(b"x")?;
-        push_decimal(text, i)?;
-        text.push_all(b"='u'")?;
+        push_declaration(text, level, i)?;
     }
     text.push_all(b">")
 }
@@ -292,33 +323,42 @@ fn push_declaring(text: &mut Blob, level: u64, declarations: u64) -> Result<(), 
 // So many elements with names that the outermost binds.
 fn push_named(text: &mut Blob, declarations: u64) -> Result<(), Memory> {
     for i in 0..declarations {
-        text.push_all(b"<p0x")?;
-        push_decimal(text, i)?;
-        text.push_all(b":b/>")?;
+        push_numbered(text, b"<p0x", i, b":b/>")?;
     }
     Ok(())
 }
 
-// as many elements in one another, each with many declarations, around many names that the outermost bind
+fn push_repeated(text: &mut Blob, piece: &[u8], count: u64) -> Result<(), Memory> {
+    for _ in 0..count {
+        text.push_all(piece)?;
+    }
+    Ok(())
+}
+
+// As many elements in one another, each with many declarations, around many names that the outermost bind.
+fn push_nested(text: &mut Blob, depth: u64, declarations: u64) -> Result<(), Memory> {
+    for level in 0..depth {
+        push_declaring(text, level, declarations)?;
+    }
+    push_named(text, declarations)?;
+    push_repeated(text, b"</a>", depth)
+}
+
 fn nested(alloc: Global, depth: u64, declarations: u64) -> Result<Blob, Memory> {
     let mut text = Blob::new(alloc);
-    for level in 0..depth {
-        push_declaring(&mut text, level, declarations)?;
-    }
-    push_named(&mut text, declarations)?;
-    for _ in 0..depth {
-        text.push_all(b"</a>")?;
-    }
+    push_nested(&mut text, depth, declarations)?;
     Ok(text)
 }
 
+// Whether a payload of as many elements in one another is told to be closed.
+fn is_nested_closed(alloc: Global, depth: u64) -> Result<bool, Memory> {
+    check_payload(alloc, nested(alloc, depth, 0)?.as_slice())
+}
+
 #[test]
-fn payloads_are_90_deep(rt: HostRuntime) -> Result<(), Memory> {
-    let text = nested(rt.alloc(), 90, 0)?;
-    assert!(rt; check_payload(rt.alloc(), text.as_slice())?);
-    let text = nested(rt.alloc(), 91, 0)?;
-    assert!(rt; !check_payload(rt.alloc(), text.as_slice())?);
-    Ok(())
+fn payloads_are_90_deep(rt: HostRuntime) {
+    assert!(rt; is_nested_closed(rt.alloc(), 90) == Ok(true));
+    assert!(rt; is_nested_closed(rt.alloc(), 91) == Ok(false));
 }
 
 #[test]
@@ -329,16 +369,17 @@ fn takes_many_declarations(rt: HostRuntime) -> Result<(), Memory> {
 }
 
 // As many elements in one with a long namespace.
-fn of_a_long_namespace(alloc: Global) -> Result<Blob, Memory> {
-    let mut text = Blob::from_slice(alloc, b"<a xmlns='")?;
-    for _ in 0..20000u32 {
-        text.push_all(b"urn:namespace:")?;
-    }
+fn push_long(text: &mut Blob) -> Result<(), Memory> {
+    text.push_all(b"<a xmlns='")?;
+    push_repeated(text, b"urn:namespace:", 20000)?;
     text.push_all(b"'>")?;
-    for _ in 0..20000u32 {
-        text.push_all(b"<b/>")?;
-    }
-    text.push_all(b"</a>")?;
+    push_repeated(text, b"<b/>", 20000)?;
+    text.push_all(b"</a>")
+}
+
+fn of_a_long_namespace(alloc: Global) -> Result<Blob, Memory> {
+    let mut text = Blob::new(alloc);
+    push_long(&mut text)?;
     Ok(text)
 }
 
@@ -349,20 +390,27 @@ fn names_share_a_long_namespace(rt: HostRuntime) -> Result<(), Memory> {
     Ok(())
 }
 
-#[test]
-fn holds_bytes(rt: HostRuntime) -> Result<(), Memory> {
-    let bytes = Shared::from_slice(rt.alloc(), b"abc")?;
-    assert!(rt; !bytes.is_empty());
-    assert!(rt; bytes.share()?.as_slice() == b"abc".as_slice());
-    Ok(())
+fn are_shared_bytes(found: Result<Shared, Memory>, wanted: &[u8]) -> bool {
+    match found {
+        Ok(shared) => (shared.as_slice() == wanted) & (shared.is_empty() == wanted.is_empty()),
+        Err(_) => false,
+    }
+}
+
+// Whether these bytes are held, by another holder of them too.
+fn is_held(alloc: Global, bytes: &[u8]) -> bool {
+    match Shared::from_slice(alloc, bytes) {
+        Ok(shared) => {
+            (shared.is_empty() == bytes.is_empty()) & are_shared_bytes(shared.share(), bytes)
+        }
+        Err(_) => false,
+    }
 }
 
 #[test]
-fn holds_no_bytes(rt: HostRuntime) -> Result<(), Memory> {
-    let none = Shared::from_slice(rt.alloc(), b"")?;
-    assert!(rt; none.is_empty());
-    assert!(rt; none.share()?.is_empty());
-    Ok(())
+fn holds_bytes(rt: HostRuntime) {
+    assert!(rt; is_held(rt.alloc(), b"abc"));
+    assert!(rt; is_held(rt.alloc(), b""));
 }
 
 fn name(alloc: Global, space: &[u8], local: &[u8]) -> Result<Name, Memory> {
@@ -370,23 +418,39 @@ fn name(alloc: Global, space: &[u8], local: &[u8]) -> Result<Name, Memory> {
     Name::new(alloc, space, local)
 }
 
+fn is_name(found: Result<Name, Memory>, space: &[u8], local: &[u8]) -> bool {
+    match found {
+        Ok(name) => (name.space() == space) & (name.local() == local),
+        Err(_) => false,
+    }
+}
+
 #[test]
 fn holds_both_parts(rt: HostRuntime) -> Result<(), Memory> {
-    let name = name(rt.alloc(), b"urn:u", b"abc")?.share()?;
-    assert!(rt; name.space() == b"urn:u".as_slice());
-    assert!(rt; name.local() == b"abc".as_slice());
+    let name = name(rt.alloc(), b"urn:u", b"abc")?;
+    assert!(rt; is_name(name.share(), b"urn:u", b"abc"));
+    Ok(())
+}
+
+fn keep_part(parts: &mut Parts, item: Item) -> Result<(), Memory> {
+    if is_part(&item) {
+        parts.push(item)
+    } else {
+        Ok(())
+    }
+}
+
+fn keep_parts(parts: &mut Parts, element: Element) -> Result<(), Memory> {
+    for item in element.items {
+        keep_part(parts, item)?;
+    }
     Ok(())
 }
 
 // The parts among an element's items.
 fn parts_of(alloc: Global, document: &[u8]) -> Result<Parts, EnvelopeError> {
-    let element = read_element(alloc, document)?;
     let mut parts = Parts::new(alloc);
-    for item in element.items {
-        if is_part(&item) {
-            parts.push(item)?;
-        }
-    }
+    keep_parts(&mut parts, read_element(alloc, document)?)?;
     Ok(parts)
 }
 
@@ -411,21 +475,29 @@ fn parts_are_a_list(rt: HostRuntime) -> Result<(), EnvelopeError> {
     Ok(())
 }
 
+// Whether there are two parts, of which the second is a child.
+fn are_two(parts: &Parts) -> bool {
+    let is_child = matches!(parts.as_slice().get(1), Some(Item::Child(_)));
+    (parts.len() == 2) & !parts.is_empty() & is_child & parts.get(2).is_none()
+}
+
 #[test]
 fn parts_are_counted(rt: HostRuntime) -> Result<(), EnvelopeError> {
     let parts = parts_of(rt.alloc(), PARTS)?;
-    assert!(rt; parts.len() == 2 && !parts.is_empty());
-    assert!(rt; matches!(parts.as_slice().get(1), Some(Item::Child(_))));
-    assert!(rt; parts.get(2).is_none());
+    assert!(rt; are_two(&parts));
     Ok(())
+}
+
+fn push_child(parts: &mut Parts, child: Element) -> bool {
+    let was_empty = parts.is_empty();
+    let pushed = parts.push(Item::Child(child));
+    was_empty & (pushed == Ok(())) & (parts.len() == 1)
 }
 
 #[test]
 fn parts_are_pushed(rt: HostRuntime) -> Result<(), EnvelopeError> {
-    let mut parts = Parts::new(rt.alloc());
-    assert!(rt; parts.is_empty());
-    parts.push(Item::Child(read_element(rt.alloc(), b"<a/>")?))?;
-    assert!(rt; parts.len() == 1);
+    let child = read_element(rt.alloc(), b"<a/>")?;
+    assert!(rt; push_child(&mut Parts::new(rt.alloc()), child));
     Ok(())
 }
 
