@@ -195,9 +195,9 @@ quoted_from : (bytes : List ℕ) (p : List ℕ × List ℕ) → quoted bytes ≡
     → (mine : List ℕ) × IsQuoted p.0 mine × (bytes ≡ mine ++ p.1)
 quoted_from [] p h = cc
 quoted_from (b ∷ bytes) p h =
-    let (mark, e) = tested (nat_eq b 34 || nat_eq b 39) (cut b bytes) p h in
+    let (quoted, e) = tested (nat_eq b 34 || nat_eq b 39) (cut b bytes) p h in
     let is : IsQuoted p.0 (b ∷ (p.0 ++ b ∷ [])) =
-    elim (or_cases (nat_eq b 34) (nat_eq b 39) mark) [
+    elim (or_cases (nat_eq b 34) (nat_eq b 39) quoted) [
       | inl k ↦ rw (eqb-true b 34 k) double
       | inr k ↦ rw (eqb-true b 39 k) single
     ] in

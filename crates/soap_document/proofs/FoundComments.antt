@@ -14,23 +14,24 @@ use Rattle.soap_lex.specs.Facts.{same}
 use Rattle.soap_document.proofs.Lexing.{Lexes}
 
 -- a comment behind its first bytes
-abbrev pub IsMarked : List ℕ → List ℕ → List ℕ → Type 0
-IsMarked mark inner bytes = (bytes ≡ mark ++ (inner ++ codes "-->")) × IsComment inner
+abbrev pub HasComment : List ℕ → List ℕ → List ℕ → Type 0
+HasComment front inner bytes = (bytes ≡ front ++ (inner ++ codes "-->")) × IsComment inner
 
-module _ (fresh : Bool) (mark : ℕ) (top : Frame) (below : List Frame) (text : List ℕ) (u : Element) (lex : Lexes) where
+module _ (fresh : Bool) (markup : ℕ) (top : Frame) (below : List Frame) (text : List ℕ) (u : Element)
+    (lex : Lexes) where
   abbrev in_comment : List ℕ → At
-  in_comment token = plain_at commenting fresh mark top below text token
+  in_comment token = plain_at commenting fresh markup top below text token
 
   abbrev marked : List ℕ → At
-  marked token = plain_at marking fresh mark top below text token
+  marked token = plain_at marking fresh markup top below text token
 
   abbrev Behind : List ℕ → ℕ → List ℕ → Type 0
   Behind inner at rest = Accepts (chars_at top below text [] at) rest u
 
   comment_end : (at : ℕ) (token rest : List ℕ) (o : Option (List ℕ)) → without (codes "--") token ≡ o
-      → (Accepts (in_comment (token ++ 62 ∷ []) (at + 1)) rest u → Found (IsMarked []) Behind token at (62 ∷ rest))
+      → (Accepts (in_comment (token ++ 62 ∷ []) (at + 1)) rest u → Found (HasComment []) Behind token at (62 ∷ rest))
       → Accepts (counted (at_commenting (in_comment token at) o)) rest u
-      → Found (IsMarked []) Behind token at (62 ∷ rest)
+      → Found (HasComment []) Behind token at (62 ∷ rest)
   comment_end at token rest None e on h = on h
   comment_end at token rest (Some inner) e on h =
       let p = sure (is_comment inner) _ _ rest u h refl in
@@ -41,11 +42,11 @@ module _ (fresh : Bool) (mark : ℕ) (top : Frame) (below : List Frame) (text : 
       ) p.1
 
   comment_found : (token : List ℕ) (at : ℕ) (bytes : List ℕ) → Accepts (in_comment token at) bytes u
-      → Found (IsMarked []) Behind token at bytes
+      → Found (HasComment []) Behind token at bytes
   comment_found token at [] h = cc
   comment_found token at (c ∷ bytes) h =
       let on = λ (d : ℕ) (k : Accepts (in_comment (token ++ d ∷ []) (at + 1)) bytes u).
-      found_on {P = IsMarked []} {K = Behind} {token = token} {at = at} (comment_found (token ++ d ∷ []) (at + 1)
+      found_on {P = HasComment []} {K = Behind} {token = token} {at = at} (comment_found (token ++ d ∷ []) (at + 1)
       bytes k) in
       elim (chosen (nat_eq c 62) _ _ bytes u h) [
         | inl k ↦ rw (eqb-true c 62 k.0) (comment_end at token bytes (without (codes "--") token) refl (on 62) k.1)
@@ -68,7 +69,7 @@ module _ (fresh : Bool) (mark : ℕ) (top : Frame) (below : List Frame) (text : 
 
   -- behind <!, at this place
   pub marked_found : (at : ℕ) (bytes : List ℕ) → Accepts (marked [] at) bytes u
-      → Found (IsMarked (codes "<!--")) Behind (codes "<!") at bytes
+      → Found (HasComment (codes "<!--")) Behind (codes "<!") at bytes
   marked_found at bytes h =
       let d = dashes_found [] at bytes h in
       let c = comment_found [] (at + length d.front) d.rest d.later in

@@ -16,13 +16,13 @@ use Rattle.soap_document.proofs.Accepts.{Accepts, sure, chosen, Found, found_her
 use Rattle.soap_document.proofs.Accepts.{found_as, no_longer}
 use Rattle.soap_document.proofs.Declarations.{declaration_from}
 use Rattle.soap_document.proofs.FoundElements.{DeclaringFound, less_found, TagFound, element_from, content_found}
-use Rattle.soap_document.proofs.FoundComments.{IsMarked, marked_found}
+use Rattle.soap_document.proofs.FoundComments.{HasComment, marked_found}
 use Rattle.soap_document.proofs.Moves.{plain_at, chars_at, less_at}
 use Rattle.soap_document.proofs.TokenFacts.{white_from}
 use Rattle.soap_lex.specs.Facts.{same}
 use Rattle.soap_document.proofs.Lexing.{Lexes}
 
-misc_more : (front inner rest : List ℕ) → IsMarked (codes "<!--") inner front → IsMisc rest → IsMisc (front ++ rest)
+misc_more : (front inner rest : List ℕ) → HasComment (codes "<!--") inner front → IsMisc rest → IsMisc (front ++ rest)
 misc_more front inner rest c m = rw c.0 (simp append_assoc (comment [] inner rest tt c.1 m))
 
 misc_white : (space rest : List ℕ) → IsWhite space → IsMisc rest → IsMisc (space ++ rest)
@@ -53,14 +53,14 @@ module _ (u : Element) (lex : Lexes) where
     RecurMisc fuel = (at : ℕ) (bytes : List ℕ) → length bytes < fuel → Outside at bytes → MiscFound [] at bytes
 
     -- a declaration, or a comment or a tag
-    less_found_misc : (fuel : ℕ) → RecurMisc fuel → (fresh : Bool) (mark at : ℕ) (bytes : List ℕ)
-        → length bytes < fuel → Accepts (less_at fresh mark top [] [] [] (at + 1)) bytes u
-        → DeclaringFound fresh mark top [] [] u (at + 1) bytes ⊎ MiscFound [] at (60 ∷ bytes)
-    less_found_misc fuel recur fresh mark at bytes short h =
-        elim (less_found fresh mark top [] [] u lex (at + 1) bytes h) [
+    less_found_misc : (fuel : ℕ) → RecurMisc fuel → (fresh : Bool) (markup at : ℕ) (bytes : List ℕ)
+        → length bytes < fuel → Accepts (less_at fresh markup top [] [] [] (at + 1)) bytes u
+        → DeclaringFound fresh markup top [] [] u (at + 1) bytes ⊎ MiscFound [] at (60 ∷ bytes)
+    less_found_misc fuel recur fresh markup at bytes short h =
+        elim (less_found fresh markup top [] [] u lex (at + 1) bytes h) [
           | inl k ↦ absurd (true≢false k.2)
           | inr (inl k) ↦
-              let c0 = marked_found fresh mark top [] [] u lex (at + 1 + 1) k.0 k.2 in
+              let c0 = marked_found fresh markup top [] [] u lex (at + 1 + 1) k.0 k.2 in
               let c = found_on {token = []} {at = at} (found_on {token = codes "<"} {at = at + 1} c0) in
               let r = recur (at + length c.front) c.rest (omega (arith, no_longer c0, ap length k.1)) c.later in
               let all = found_behind c.front c.there r in
@@ -143,16 +143,16 @@ module _ (u : Element) (lex : Lexes) where
 
   -- ---- from the beginning
 
-  declaration_found : (mark : ℕ) (token : List ℕ) (at : ℕ) (bytes : List ℕ)
-      → Accepts (plain_at declaring true mark nothing_open [] [] token at) bytes u
+  declaration_found : (markup : ℕ) (token : List ℕ) (at : ℕ) (bytes : List ℕ)
+      → Accepts (plain_at declaring true markup nothing_open [] [] token at) bytes u
       → Found (λ (y : List ℕ) front. IsDeclaration front) (λ y p rest. BodyFound p rest) (60 ∷ 63 ∷ token) at bytes
-  declaration_found mark token at [] h = cc
-  declaration_found mark token at (c ∷ bytes) h = elim (chosen (nat_eq c 62) _ _ bytes u h) [
+  declaration_found markup token at [] h = cc
+  declaration_found markup token at (c ∷ bytes) h = elim (chosen (nat_eq c 62) _ _ bytes u h) [
     | inl k ↦
         let p = sure (is_declaration token) _ _ bytes u k.1 refl in
         found_byte [] (rw (eqb-true c 62 k.0) (declaration_from token p.0)) (body_found (at + 1)
         bytes p.1)
-    | inr k ↦ found_on (declaration_found mark (token ++ c ∷ []) (at + 1) bytes k.1)
+    | inr k ↦ found_on (declaration_found markup (token ++ c ∷ []) (at + 1) bytes k.1)
   ]
 
   -- at the first <

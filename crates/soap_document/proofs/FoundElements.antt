@@ -35,27 +35,27 @@ module _ (top : Frame) (below : List Frame) (x : List ℕ) (u : Element) where
 
 -- ---- behind a <
 
-module _ (fresh : Bool) (mark : ℕ) (top : Frame) (below : List Frame) (x : List ℕ) (u : Element) where
+module _ (fresh : Bool) (markup : ℕ) (top : Frame) (below : List Frame) (x : List ℕ) (u : Element) where
   abbrev settled : Frame
   settled = with_parts top (onto x none)
 
   -- where a declaration begins
   abbrev pub DeclaringFound : ℕ → List ℕ → Type 0
   DeclaringFound at bytes = (rest : List ℕ) × (bytes ≡ 63 ∷ rest) × (fresh ≡ true) × Accepts (plain_at declaring fresh
-      mark top below x [] (at + 1)) rest u
+      markup top below x [] (at + 1)) rest u
 
   -- what stands behind the <
   abbrev pub LessFound : ℕ → List ℕ → Type 0
   LessFound at bytes =
-      ((rest : List ℕ) × (bytes ≡ 47 ∷ rest) × (is_nil below ≡ false) × Accepts (plain_at ending fresh mark settled
+      ((rest : List ℕ) × (bytes ≡ 47 ∷ rest) × (is_nil below ≡ false) × Accepts (plain_at ending fresh markup settled
       below [] [] (at + 1)) rest u)
-      ⊎ ((rest : List ℕ) × (bytes ≡ 33 ∷ rest) × Accepts (plain_at marking fresh mark top below x [] (at + 1)) rest u)
+      ⊎ ((rest : List ℕ) × (bytes ≡ 33 ∷ rest) × Accepts (plain_at marking fresh markup top below x [] (at + 1)) rest u)
       ⊎ DeclaringFound at bytes
       ⊎ TagFound top below x u (codes "<") at bytes
 
   module _ (lex : Lexes) where
     tag_found : (b : ℕ) (name : List ℕ) (at : ℕ) (bytes : List ℕ)
-        → Accepts (less_at fresh mark top below x (b ∷ name) at) bytes u
+        → Accepts (less_at fresh markup top below x (b ∷ name) at) bytes u
         → TagFound top below x u (60 ∷ b ∷ name) at bytes
     tag_found b name at [] h = cc
     tag_found b name at (c ∷ bytes) h = elim (chosen (is_name_end c) _ _ bytes u h) [
@@ -64,7 +64,7 @@ module _ (fresh : Bool) (mark : ℕ) (top : Frame) (below : List Frame) (x : Lis
           let (passes, room) = and_parts (is_qname (b ∷ name)) (has_room below top.parts) p.0 in
           let a = attributes_found (record {
             fresh = fresh;
-            markup = mark;
+            markup = markup;
             top = settled;
             below = below;
             name = b ∷ name;
@@ -79,7 +79,7 @@ module _ (fresh : Bool) (mark : ℕ) (top : Frame) (below : List Frame) (x : Lis
       | inr k ↦ found_on (tag_found b (name ++ c ∷ []) (at + 1) bytes k.1)
     ]
 
-    pub less_found : (at : ℕ) (bytes : List ℕ) → Accepts (less_at fresh mark top below x [] at) bytes u
+    pub less_found : (at : ℕ) (bytes : List ℕ) → Accepts (less_at fresh markup top below x [] at) bytes u
         → LessFound at bytes
     less_found at [] h = cc
     less_found at (c ∷ bytes) h = elim (chosen (is_name_end c) _ _ bytes u h) [
@@ -135,12 +135,12 @@ module _ (u : Element) where
   RecurContent fuel = (top frame : Frame) (frames : List Frame) (at : ℕ) (bytes : List ℕ) → length bytes ≤ fuel
       → Accepts (chars_at top (frame ∷ frames) [] [] at) bytes u → ContentFound top frame frames at bytes
 
-  end_found : (top frame : Frame) (frames : List Frame) (mark : ℕ) (token : List ℕ) (at : ℕ) (bytes : List ℕ)
-      → Accepts (plain_at ending false mark top (frame ∷ frames) [] token at) bytes u
+  end_found : (top frame : Frame) (frames : List Frame) (markup : ℕ) (token : List ℕ) (at : ℕ) (bytes : List ℕ)
+      → Accepts (plain_at ending false markup top (frame ∷ frames) [] token at) bytes u
       → Found (IsEnd top.name) (λ space p rest. Accepts (chars_at (with_parts frame (child (element top.name
-      top.attributes top.start mark top.parts) none)) frames [] [] p) rest u) (60 ∷ 47 ∷ token) at bytes
-  end_found top frame frames mark token at [] h = cc
-  end_found top frame frames mark token at (c ∷ bytes) h = elim (chosen (nat_eq c 62) _ _ bytes u h) [
+      top.attributes top.start markup top.parts) none)) frames [] [] p) rest u) (60 ∷ 47 ∷ token) at bytes
+  end_found top frame frames markup token at [] h = cc
+  end_found top frame frames markup token at (c ∷ bytes) h = elim (chosen (nat_eq c 62) _ _ bytes u h) [
     | inl k ↦
         let p = sure (is_end top.name token) _ _ bytes u k.1 refl in
         let e = end_from top.name token p.0 in
@@ -148,7 +148,7 @@ module _ (u : Element) where
           ap₂ (λ (y : List ℕ) (k : ℕ). codes "</" ++ (y ++ k ∷ [])) e.1 (eqb-true c 62 k.0) ∙ simp append_assoc,
           e.2,
         ) p.1
-    | inr k ↦ found_on (end_found top frame frames mark (token ++ c ∷ []) (at + 1) bytes k.1)
+    | inr k ↦ found_on (end_found top frame frames markup (token ++ c ∷ []) (at + 1) bytes k.1)
   ]
 
   module _ (top : Frame) (below : List Frame) (x : List ℕ) where
@@ -175,14 +175,14 @@ module _ (u : Element) where
         let start : ℕ = at + length front in
         let opened : Frame = record { name = name; attributes = attributes; start = start; parts = none } in
         let c = recur opened settled below start rest short h in
-        let mark : ℕ = start + length c.front in
+        let markup : ℕ = start + length c.front in
         let (inner, is_end_tag, behind) = c.later in
         let done : Frame = with_parts opened c.meaning in
-        let e = found_on {token = []} {at = mark} (found_on {token = codes "<"} {at = mark + 1} (end_found done
-        settled below mark [] (mark + 1 + 1) inner behind)) in
+        let e = found_on {token = []} {at = markup} (found_on {token = codes "<"} {at = markup + 1} (end_found done
+        settled below markup [] (markup + 1 + 1) inner behind)) in
         let more = found_behind c.front (c.there ∙ ap (λ (y : List ℕ). c.front ++ y) is_end_tag) e in
         let all = found_behind front there more in
-        found_as all (element name attributes start mark c.meaning) (full_from (length below) at _ name attributes
+        found_as all (element name attributes start markup c.meaning) (full_from (length below) at _ name attributes
         front c.front e.front e.meaning c.meaning (room_depth below top.parts t.has_room) t c.is e.is) all.later
 
     pub element_from : (fuel : ℕ) → RecurContent fuel → (at : ℕ) (bytes : List ℕ)

@@ -71,11 +71,11 @@ kept s (c ∷ bytes) {at} h =
 
 -- outside of tags, where no text is being read
 abbrev pub plain_at : Mode → Bool → ℕ → Frame → List Frame → List ℕ → List ℕ → At
-plain_at mode fresh mark top below text token at = record {
+plain_at mode fresh markup top below text token at = record {
   mode = mode;
   fresh = fresh;
   at = at;
-  markup = mark;
+  markup = markup;
   token = token;
   words = begun text;
   name = [];
@@ -91,7 +91,7 @@ abbrev pub chars_at : Frame → List Frame → List ℕ → List ℕ → At
 chars_at top below text token = plain_at (text_mode below) false 0 top below text token
 
 abbrev pub less_at : Bool → ℕ → Frame → List Frame → List ℕ → List ℕ → At
-less_at fresh mark top below text token = plain_at less fresh mark top below text token
+less_at fresh markup top below text token = plain_at less fresh markup top below text token
 
 -- in a start tag
 pub record Tag : Type 0 where

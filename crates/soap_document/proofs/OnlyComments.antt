@@ -8,9 +8,9 @@ use Rattle.soap_document.proofs.Moves.{At, Moves, place_nil, place_one, plain_at
 use Rattle.soap_lex.specs.Ends.{without-append, IsOpen, IsOpen-tail}
 use Rattle.soap_document.proofs.Lexing.{Lexes}
 
-module _ (fresh : Bool) (mark : ℕ) (top : Frame) (below : List Frame) (text : List ℕ) where
+module _ (fresh : Bool) (markup : ℕ) (top : Frame) (below : List Frame) (text : List ℕ) where
   abbrev in_comment : List ℕ → At
-  in_comment token = plain_at commenting fresh mark top below text token
+  in_comment token = plain_at commenting fresh markup top below text token
 
   comment_step : (token : List ℕ) (c : ℕ) (b : Bool) (at : ℕ) → nat_eq c 62 ≡ b → (c ≡ 62
       → without (codes "--") token ≡ None) → step (in_comment token at) c ≡ in_comment (token ++ c ∷ []) (at + 1)
@@ -32,7 +32,7 @@ module _ (fresh : Bool) (mark : ℕ) (top : Frame) (below : List Frame) (text : 
 
   -- behind the < of a comment, up to its end
   pub comment_moves : (lex : Lexes) → (bytes : List ℕ) (at : ℕ) → IsComment bytes
-      → Moves at (codes "!--" ++ (bytes ++ codes "-->")) (less_at fresh mark top below text []) (chars_at top below
+      → Moves at (codes "!--" ++ (bytes ++ codes "-->")) (less_at fresh markup top below text []) (chars_at top below
       text [])
   comment_moves lex bytes at h rest =
       let token = bytes ++ codes "--" in

@@ -18,12 +18,12 @@ use Rattle.soap_lex.specs.Facts.{other}
 use Rattle.soap_document.proofs.Lexing.{Lexes}
 
 -- behind the < of a comment, up to its end and what follows it
-comment_only : (lex : Lexes) → (fresh : Bool) (mark : ℕ) (top : Frame) {comment rest : List ℕ} {at : ℕ} {to : At}
+comment_only : (lex : Lexes) → (fresh : Bool) (markup : ℕ) (top : Frame) {comment rest : List ℕ} {at : ℕ} {to : At}
     → IsComment comment → ((p : ℕ) → Reads p rest (chars_at top [] [] []) to)
-    → Reads at (codes "!--" ++ (comment ++ (codes "-->" ++ rest))) (less_at fresh mark top [] [] []) to
-comment_only lex fresh mark top {comment} {rest} {at} c m =
+    → Reads at (codes "!--" ++ (comment ++ (codes "-->" ++ rest))) (less_at fresh markup top [] [] []) to
+comment_only lex fresh markup top {comment} {rest} {at} c m =
     rw (← append_assoc comment (codes "-->") rest) (and_then {b = codes "!--" ++ (comment ++ codes "-->")}
-    {t = chars_at top [] [] []} (record { moves = comment_moves fresh mark top [] [] lex comment at c }) (m _))
+    {t = chars_at top [] [] []} (record { moves = comment_moves fresh markup top [] [] lex comment at c }) (m _))
 
 -- outside of the root, text ends in white space
 record MiscEnds (top : Frame) (bytes : List ℕ) : Type 0 where
@@ -104,7 +104,7 @@ misc_first lex (comment (b ∷ space) inner rest h c m) mark e =
     e h.0) (m _))
 
 abbrev declaring_at : ℕ → List ℕ → At
-declaring_at mark token = plain_at declaring true mark nothing_open [] [] token
+declaring_at markup token = plain_at declaring true markup nothing_open [] [] token
 
 declared_moves : (mark inner : List ℕ) (at : ℕ) → is_mark mark ≡ true → NoStops declaring inner
     → is_declaration inner ≡ true → Reads at (60 ∷ 63 ∷ (inner ++ 62 ∷ [])) (beginning_at mark) (outer_at [])

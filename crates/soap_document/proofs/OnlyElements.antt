@@ -116,14 +116,15 @@ module _ (fresh : Bool) (at : ℕ) (top : Frame) (below : List Frame) (text name
 
 -- ---- end tags
 
-module _ (top frame : Frame) (frames : List Frame) (mark : ℕ) where
+module _ (top frame : Frame) (frames : List Frame) (markup : ℕ) where
   abbrev ending_at : List ℕ → At
-  ending_at token = plain_at ending false mark top (frame ∷ frames) [] token
+  ending_at token = plain_at ending false markup top (frame ∷ frames) [] token
 
   -- behind the </ of an end tag, up to its end
   close_moves : (space : List ℕ) (at : ℕ) → IsQName top.name → IsWhite space
       → Reads at (top.name ++ (space ++ codes ">")) (ending_at [])
-      (chars_at (with_parts frame (child (element top.name top.attributes top.start mark top.parts) none)) frames [] [])
+      (chars_at (with_parts frame (child (element top.name top.attributes top.start markup top.parts) none)) frames
+      [] [])
   close_moves space at q h =
       and_then (kept (ending_at [] 0) top.name (qname_ending top.name q))
       (and_then (kept (ending_at top.name 0) space (white_ending space h))
@@ -173,19 +174,19 @@ mutual
 
   -- the content of an element, its </ and what follows that
   pub content_only : (lex : Lexes) → {depth at : ℕ} {bytes : List ℕ} {parts : Parts} → IsContent depth at bytes parts
-      → (top frame : Frame) (frames : List Frame) → length (frame ∷ frames) ≡ depth → (mark : ℕ)
-      → at + length bytes ≡ mark → {later : List ℕ} {to : At}
-      → ((p : ℕ) → Reads p later (ending_at (with_parts top parts) frame frames mark []) to)
+      → (top frame : Frame) (frames : List Frame) → length (frame ∷ frames) ≡ depth → (markup : ℕ)
+      → at + length bytes ≡ markup → {later : List ℕ} {to : At}
+      → ((p : ℕ) → Reads p later (ending_at (with_parts top parts) frame frames markup []) to)
       → Reads at (bytes ++ 60 ∷ 47 ∷ later) (chars_at top (frame ∷ frames) [] []) to
-  content_only lex (last depth at bytes meaning t) top frame frames deep mark e m =
+  content_only lex (last depth at bytes meaning t) top frame frames deep markup e m =
       text_only lex t top frame frames (λ s enters. enter false top (frame ∷ frames) meaning enters refl
       (next_byte (rw e) (m _)))
-  content_only lex (more depth at bytes meaning inner first rest parts t i c) top frame frames deep mark e m =
+  content_only lex (more depth at bytes meaning inner first rest parts t i c) top frame frames deep markup e m =
       let next = with_parts (with_parts top (onto meaning none)) (child first none) in
       rw (append_assoc, append_assoc) (text_only lex t top frame frames (λ s enters.
       and_then (element_only lex i top (frame ∷ frames) meaning false s (λ h. lt-ltb (length (frame ∷ frames)) max_depth
       (rw deep h)) deep enters)
-      (content_only lex c next frame frames deep mark (omega (
+      (content_only lex c next frame frames deep markup (omega (
         arith,
         e,
         length-append bytes (inner ++ rest),

@@ -56,8 +56,8 @@ pub tag_begins : (s : State) (t : List ℕ) (c : ℕ) → c ≢ 33
     → step (step (record s { mode = chars; words = begun_text t }) 60) c
     ≡ counted (in_less (at_tag (record s { mode = chars; words = begun_text t })) c)
 tag_begins s t c e =
-    let mark : s.at + 1 - 1 ≡ s.at = omega arith in
-    rw (no_data, append-nil, ne_eqb c 33 e, mark)
+    let back : s.at + 1 - 1 ≡ s.at = omega arith in
+    rw (no_data, append-nil, ne_eqb c 33 e, back)
 
 -- a tag has a name
 pub less_named : (s : State) (c : ℕ) → is_nil s.token ≡ false → (is_qname s.token && has_room s.below s.top.parts)

@@ -83,7 +83,7 @@ text_utf8 : {bytes meaning : List ℕ} → IsText bytes meaning → Utf8 bytes
 text_utf8 (IsText.run bytes h) = chars_utf8 h.chars
 text_utf8 (IsText.more bytes markup meaning rest text h m t) = chars_utf8 h.chars then markup_utf8 m then text_utf8 t
 
-inner_utf8 : {mark : ℕ} {bytes value : List ℕ} → IsInner mark bytes value → Utf8 bytes
+inner_utf8 : {quote : ℕ} {bytes value : List ℕ} → IsInner quote bytes value → Utf8 bytes
 inner_utf8 (IsInner.run bytes h) = chars_utf8 h.chars
 inner_utf8 (IsInner.more bytes token c rest value h r i) = chars_utf8 h.chars then reference_utf8 r then inner_utf8 i
 
