@@ -1,6 +1,6 @@
 //! Whole messages from bytes.
 ghost use Rattle.std.specs.Prelude.{◌≡◌, IfOk, IfErr};
-ghost use Rattle.soap_profile.specs.Soap.{soap_space};
+ghost use Rattle.soap_envelope.specs.Soap.{soap_space};
 ghost use Rattle.soap_envelope.specs.View.{envelope_view};
 ghost use Rattle.message_reader.specs.Message.{message_in};
 ghost use Rattle.message_reader.specs.Outcome.{Decodes, IsEarly, told_by, early_kind as early_kind_of};
@@ -10,12 +10,9 @@ use crate::read::read_message;
 use crate::refusal::{blind, refusal};
 use rm_base::Memory;
 use rm_message::{DecodeError, FaultKind, Message, Refusal};
-use soap_envelope::{Envelope, read_envelope};
+use soap_envelope::{Envelope, SOAP_SPACE, read_envelope};
 use soap_profile::EnvelopeError;
 use std::alloc::Global;
-
-/// The namespace of envelopes: SOAP 1.2 Part 1, section 5.1.
-const SOAP: &[u8] = b"http://www.w3.org/2003/05/soap-envelope";
 
 /// The message that the bytes spell, or the refusal of the first kind that holds, with where its fault goes. The bytes
 /// are SOAP 1.2.
@@ -24,7 +21,7 @@ pub fn decode(alloc: Global, bytes: &[u8]) -> Result<Message, DecodeError>
     ensures err { IfErr result (IsRefusal soap_space bytes.now) }
 {
     match read_envelope(alloc, bytes) {
-        Ok(envelope) => decode_envelope(alloc, SOAP, envelope),
+        Ok(envelope) => decode_envelope(alloc, SOAP_SPACE, envelope),
         Err(error) => Err(unread(alloc, error)),
     }
 }

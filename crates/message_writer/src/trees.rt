@@ -1,7 +1,7 @@
 //! The elements that stand in the Detail of a fault, as trees: WS-ReliableMessaging 1.2, sections 3.4, 3.9 and 4.3.
 ghost use Rattle.std.specs.Prelude.{◌≡◌, ◌++◌, [], ◌∷◌, IfOk, OnOk, decimal};
 ghost use Rattle.soap_profile.specs.Items.{a_text, a_child, an_attribute, listed};
-ghost use Rattle.soap_profile.specs.Soap.{soap_space};
+ghost use Rattle.soap_envelope.specs.Soap.{soap_space};
 ghost use Rattle.soap_profile.specs.Tree.{element};
 ghost use Rattle.soap_profile.specs.View.{
   element_view,

@@ -1,7 +1,7 @@
 //! Messages to bytes. Each writer of a piece appends it, up to a want of memory.
 ghost use Rattle.std.specs.Prelude.{◌≡◌, ◌++◌, IfOk, OnOk, map, option_map};
 ghost use Rattle.std.specs.Option.{option_to_list};
-ghost use Rattle.soap_profile.specs.Soap.{soap_space};
+ghost use Rattle.soap_envelope.specs.Soap.{soap_space};
 ghost use Rattle.soap_nodes.specs.Node.{node_text};
 ghost use Rattle.rm_message.specs.elements.Texts.{sequence_node, ack_node, ask_node, pending_node};
 ghost use Rattle.message_writer.specs.Text.{

@@ -21,7 +21,7 @@ use Rattle.rm_protocol.specs.message_types.declared.refusal.FaultKind.TheVariant
 use Rattle.rm_protocol.specs.message_types.declared.refusal.FaultKind.TheVariants.{SequenceClosed}
 use Rattle.rm_protocol.specs.message_types.declared.refusal.FaultKind.TheVariants.{InvalidAcknowledgement}
 use Rattle.rm_protocol.specs.message_types.declared.refusal.Refusal.{Refusal}
-use Rattle.soap_profile.specs.Soap.{soap_space}
+use Rattle.soap_envelope.specs.Soap.{soap_space}
 use Rattle.rm_wire.specs.writer.Faults.{fault_of}
 use Rattle.rm_wire.specs.writer.Rules.{KeepsRules}
 use Rattle.rm_wire.specs.Writable.{IsRefusalWritable}

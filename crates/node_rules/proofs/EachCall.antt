@@ -9,7 +9,7 @@ use Rattle.rm_protocol.specs.elements.declared.header.AckKind.TheVariants as kin
 use Rattle.rm_protocol.specs.elements.declared.header.SeqHeader.{SeqHeader}
 use Rattle.rm_protocol.specs.message_types.declared.message.Message.{Message}
 use Rattle.rm_protocol.specs.message_types.declared.refusal.Refusal.{Refusal}
-use Rattle.soap_profile.specs.Soap.{soap_space}
+use Rattle.soap_envelope.specs.Soap.{soap_space}
 use Rattle.rm_wire.specs.writer.Rules.{KeepsRules}
 use Rattle.rm_protocol.specs.batches.Fact.{Fact}
 use Rattle.rm_protocol.specs.sequences.Fits.{all_fit}

@@ -22,7 +22,7 @@ use Rattle.rm_source.specs.declared.phase.OutPhase.TheVariants as out
 use Rattle.soap_lex.specs.Facts.{equal}
 use Rattle.rm_wire.specs.frame.Framed.{sorted_scope}
 use Rattle.soap_profile.specs.Payload.{IsClosedContent}
-use Rattle.soap_profile.specs.Soap.{soap_space}
+use Rattle.soap_envelope.specs.Soap.{soap_space}
 use Rattle.soap_profile.specs.Tree.{Element}
 use Rattle.rm_protocol.specs.values.TextLaws.{literal_is_text}
 use Rattle.rm_protocol.specs.addressing.Writable.{IsEprWritable, IsAddressingWritable, IsParamWritable}

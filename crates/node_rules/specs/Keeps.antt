@@ -4,7 +4,7 @@ use Rattle.std.specs.List.{AllByRecursion}
 use Rattle.rm_base.specs.declared.message.Behaviour.{Behaviour}
 use Rattle.rm_protocol.specs.message_types.declared.message.Message.{Message}
 use Rattle.rm_protocol.specs.message_types.declared.refusal.Refusal.{Refusal}
-use Rattle.soap_profile.specs.Soap.{soap_space}
+use Rattle.soap_envelope.specs.Soap.{soap_space}
 use Rattle.rm_wire.specs.reader.Refusals.{Spells}
 use Rattle.rm_wire.specs.writer.Rules.{KeepsRules}
 use Rattle.rm_wire.specs.writer.Text.{message_text}

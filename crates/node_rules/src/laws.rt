@@ -2,7 +2,7 @@
 //! to bring in the laws that it stands on.
 ghost use Rattle.std.specs.Prelude.{◌≡◌};
 ghost use Rattle.rm_wire.specs.frame.Framed.{sorted_scope};
-ghost use Rattle.soap_profile.specs.Soap.{soap_space};
+ghost use Rattle.soap_envelope.specs.Soap.{soap_space};
 ghost use Rattle.rm_protocol.specs.Messages.{written_scope};
 ghost use Rattle.node_rules.specs.Keeps.{EachCallKeeps, EachIsByTheRules, EachIsReadBack};
 ghost use Rattle.node_rules.specs.OwnTerms.{EndsOnce, OwnAreTerms, ThereAreOwnTerms};

@@ -1,7 +1,7 @@
 -- What of messages and of scripts excludes what, and which status comes of their bytes.
 use Rattle.std.proofs.Common.{◌≡◌, ℕ, ◌≤◌, List, length, true, refl, arith}
 use Rattle.std.specs.Prelude.{IfSome}
-use Rattle.soap_profile.specs.Soap.{soap_space}
+use Rattle.soap_envelope.specs.Soap.{soap_space}
 use Rattle.rm_protocol.specs.message_types.declared.message.Message.{Message}
 use Rattle.rm_protocol.specs.message_types.declared.refusal.Refusal.{Refusal}
 use Rattle.message_reader.specs.Message.{Wrong}

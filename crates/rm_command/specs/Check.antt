@@ -1,6 +1,6 @@
 -- What a run of `wsrm check` is, by how it ended, and what it prints.
 use Rattle.std.specs.Prelude.{◌≡◌, ℕ, Bool, true, false, List, Option, Some, None}
-use Rattle.soap_profile.specs.Soap.{soap_space}
+use Rattle.soap_envelope.specs.Soap.{soap_space}
 use Rattle.rm_protocol.specs.message_types.declared.message.Message.{Message}
 use Rattle.rm_protocol.specs.message_types.declared.refusal.FaultKind.{FaultKind}
 use Rattle.rm_protocol.specs.message_types.declared.refusal.FaultKind.TheVariants as kinds

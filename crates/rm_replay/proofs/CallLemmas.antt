@@ -7,7 +7,7 @@ use Rattle.std.specs.Borrow.{Bor}
 use Rattle.std.specs.List.{AllByRecursion}
 use Rattle.std.specs.Option.{option_map}
 use Rattle.std.proofs.lemmas.Option.{slice_get-map}
-use Rattle.soap_profile.specs.Soap.{soap_space}
+use Rattle.soap_envelope.specs.Soap.{soap_space}
 use Rattle.rm_wire.specs.reader.Refusals.{Refuses}
 use Rattle.node_actor.specs.Came.{IsReadAs}
 use Rattle.rm_report.specs.declared.line.Outcome.TheVariants as told

@@ -4,7 +4,7 @@ use Rattle.std.proofs.Common.{None, refl}
 use Rattle.std.specs.Prelude.{Result, Ok, Err}
 use Rattle.std.specs.List.{AllByRecursion, filter}
 use Rattle.std.proofs.lemmas.Bool.{leb-true, leb-false}
-use Rattle.soap_profile.specs.Soap.{soap_space}
+use Rattle.soap_envelope.specs.Soap.{soap_space}
 use Rattle.rm_wire.specs.reader.Refusals.{Refuses, Spells, blind, too_long}
 use Rattle.rm_protocol.specs.message_types.declared.message.Body.{Body}
 use Rattle.rm_protocol.specs.message_types.declared.message.Body.TheVariants as body

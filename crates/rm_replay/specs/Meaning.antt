@@ -1,6 +1,6 @@
 -- What a line of a script is to the protocol, and how it comes out.
 use Rattle.std.specs.Prelude.{◌≡◌, ℕ, Bool, List, ◌∷◌, length, Option, Some, None, []}
-use Rattle.soap_profile.specs.Soap.{soap_space}
+use Rattle.soap_envelope.specs.Soap.{soap_space}
 use Rattle.rm_wire.specs.reader.Refusals.{Refuses, Spells}
 use Rattle.rm_protocol.specs.batches.declared.record.Via.TheVariants.{Direct}
 use Rattle.rm_protocol.specs.message_types.declared.message.Message.{Message}

@@ -1,6 +1,6 @@
 -- The network between two nodes: the bytes of its packets, and what they are read as.
 use Rattle.std.specs.Prelude.{◌≡◌, ℕ, nat_le, if◌then◌else◌, List, map, length, Result, Ok, Err}
-use Rattle.soap_profile.specs.Soap.{soap_space}
+use Rattle.soap_envelope.specs.Soap.{soap_space}
 use Rattle.rm_wire.specs.reader.Refusals.{blind}
 use Rattle.rm_wire.specs.writer.Text.{message_text}
 use Rattle.rm_protocol.specs.message_types.declared.message.Message.{Message}

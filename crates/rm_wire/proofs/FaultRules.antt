@@ -11,7 +11,7 @@ use Rattle.soap_lex.specs.Characters.{IsChars}
 use Rattle.soap_lex.specs.Facts.{equal}
 use Rattle.soap_profile.specs.Namespaces.{xmlns_space}
 use Rattle.soap_profile.specs.Payload.{depth}
-use Rattle.soap_profile.specs.Soap.{soap_space}
+use Rattle.soap_envelope.specs.Soap.{soap_space}
 use Rattle.soap_profile.specs.Tree.{Element, Parts}
 use Rattle.soap_profile.specs.declared.name.Expanded.{Expanded}
 use Rattle.soap_frame.specs.markup.Frame.{frame_scope}

@@ -8,7 +8,7 @@ use Rattle.soap_lex.specs.Facts.{equal}
 use Rattle.soap_profile.specs.Tree.{Element, Parts, none, name_of, children_of}
 use Rattle.soap_profile.specs.declared.name.Expanded.{Expanded}
 use Rattle.soap_frame.specs.envelopes.Envelope.{Envelope, IsEnvelope}
-use Rattle.soap_profile.specs.Soap.{soap_space}
+use Rattle.soap_envelope.specs.Soap.{soap_space}
 use Rattle.soap_frame.specs.markup.Frame.{addressing_space}
 use Rattle.soap_frame.specs.markup.Plain.{chars_from}
 use Rattle.soap_frame.specs.Framed.{framed_envelope, MayBeSoap}

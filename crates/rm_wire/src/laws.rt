@@ -2,7 +2,7 @@
 //! laws that it stands on.
 ghost use Rattle.std.specs.Prelude.{◌≡◌, ◌≢◌, ◌≤◌, ℕ, List, Option, length};
 ghost use Rattle.soap_frame.specs.Framed.{MayBeSoap};
-ghost use Rattle.soap_profile.specs.Soap.{soap_space};
+ghost use Rattle.soap_envelope.specs.Soap.{soap_space};
 ghost use Rattle.soap_frame.specs.markup.Frame.{addressing_space};
 ghost use Rattle.rm_message.specs.elements.declared.header.AckBlock.{AckBlock as Acknowledgement};
 ghost use Rattle.rm_message.specs.declared.message.Message.{Message as Value};

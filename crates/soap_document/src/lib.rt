@@ -12,7 +12,6 @@ pub mod laws;
 mod open_elements;
 pub mod reader;
 mod scan;
-mod search;
 mod tokens;
 
 pub use attribute::WrittenAttribute;

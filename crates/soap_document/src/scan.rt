@@ -28,11 +28,10 @@ ghost use Rattle.soap_document.specs.Seen.{seen, mode_of, Taken};
 
 use crate::attribute::WrittenAttribute;
 use crate::declaration::is_declaration;
-use crate::search::first_byte;
-use crate::tokens::{before, is_comment, is_mark, is_qname, is_white};
+use crate::tokens::{is_comment, is_mark, is_qname, is_white};
 use memchr::memchr;
 use rm_base::{Bytes, Memory};
-use soap_lex::{Quote, TextReader, ValueReader};
+use soap_lex::{Quote, TextReader, ValueReader, before, first_byte};
 use std::alloc::Global;
 use std::mem;
 use xml_chars::is_space;

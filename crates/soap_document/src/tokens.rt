@@ -1,6 +1,6 @@
 //! The tests of whole tokens.
 ghost use Rattle.std.specs.Prelude.{◌≡◌, option_map};
-ghost use Rattle.soap_document.specs.Machine.{is_mark, is_end, without};
+ghost use Rattle.soap_document.specs.Machine.{is_mark, is_end};
 ghost use Rattle.soap_document.specs.Tokens.{
   is_white,
   cut,
@@ -9,7 +9,7 @@ ghost use Rattle.soap_document.specs.Tokens.{
   is_comment,
 };
 
-use crate::search::first_byte;
+use soap_lex::first_byte;
 
 /// The three bytes of a byte order mark.
 const MARK: [u8; 3] = [0xEF, 0xBB, 0xBF];
@@ -68,11 +68,4 @@ pub(crate) fn is_end(name: &[u8], token: &[u8]) -> bool
         Some(space) => is_white(space),
         None => false,
     }
-}
-
-/// The front of the bytes, where they end in the word.
-pub(crate) fn before<'a>(word: &[u8], bytes: &'a [u8]) -> Option<&'a [u8]>
-    ensures { option_map (λ x. x.now) result ≡ without word.now bytes.now }
-{
-    bytes.strip_suffix(word)
 }

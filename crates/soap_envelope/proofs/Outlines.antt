@@ -1,7 +1,10 @@
 -- The outline of an Envelope: each outcome of the walk over its parts.
 use Rattle.std.proofs.Common.{◌≡◌, ℕ, ◌⊎◌, inl, inr, List, Option, Some, None, option_map, IfSome, codes, length}
-use Rattle.std.proofs.Common.{refl, sym, ap, subst, ◌∙◌, arith}
+use Rattle.std.proofs.Common.{refl, sym, ap, subst, ◌∙◌, arith, ◌↔◌, IsTrue}
+use Rattle.xml_chars.specs.Classes.{is_space}
+use Rattle.soap_lex.specs.Facts.{all_passes, all_from_passes}
 use Rattle.soap_document.specs.Grammar.{IsWhite}
+use Rattle.soap_document.specs.Tokens.{is_white}
 use Rattle.soap_profile.specs.Tree.{Element, Parts, none, text, child, name_of}
 use Rattle.soap_profile.specs.declared.name.Expanded.{Expanded}
 use Rattle.soap_profile.specs.View.{element_view}
@@ -10,6 +13,10 @@ use Rattle.soap_envelope.specs.Envelope.{name_in, IsSpaced, bare, spaced, IsBody
 use Rattle.soap_envelope.specs.Steps.{Comes, IsSpacing, IsOther, Follows, BodyFound, Outlined}
 use Rattle.soap_envelope.specs.declared.outline.Next.{Next}
 use Rattle.soap_envelope.specs.declared.outline.Next.TheVariants.{Child, Text, End}
+
+-- what the test of white space tells
+pub white_is_tested : (bytes : List ℕ) → IsTrue (is_white bytes) ↔ IsWhite bytes
+white_is_tested bytes = (all_from_passes is_space bytes, all_passes is_space bytes)
 
 pub spaced_cases : (p q : Parts) → IsSpaced p q → (p ≡ q) ⊎ ((s : List ℕ) × (p ≡ text s q) × IsWhite s)
 spaced_cases p q (bare _) = inl refl

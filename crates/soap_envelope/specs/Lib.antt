@@ -1,5 +1,6 @@
 pub mod Envelope
 pub mod Refusals
 pub mod Scope
+pub mod Soap
 pub mod Steps
 pub mod View

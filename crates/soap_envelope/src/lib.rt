@@ -10,4 +10,4 @@ pub mod read;
 mod scope;
 
 pub use envelope::Envelope;
-pub use read::read_envelope;
+pub use read::{SOAP_SPACE, read_envelope};

@@ -1,18 +1,16 @@
 //! The parts of an Envelope, taken apart: an optional Header, and a Body.
 ghost use Rattle.std.specs.Prelude.{◌≡◌, ◌∷◌, [], ◌++◌, ◌↔◌, IsTrue, IfSome, IfOk, OnOk, Some, option_map};
 ghost use Rattle.std.specs.Vec.Iter.{into_iter_items};
-ghost use Rattle.soap_document.specs.Grammar.{IsWhite};
 ghost use Rattle.soap_profile.specs.Tree.{none, name_of, decls_of, parts_of, children_of};
 ghost use Rattle.soap_profile.specs.View.{element_view, decls_view, parts_view};
 ghost use Rattle.soap_envelope.specs.Envelope.{IsSpaced, name_in};
 ghost use Rattle.soap_envelope.specs.Steps.{BodyFound, Comes, Follows, IsSpacing, Outlined};
 
 use rm_base::{Binding, Blob, Memory};
-use soap_document::Bytes;
+use soap_document::{Bytes, is_white};
 use soap_profile::{Element, Elements, Item, Name, Parts, is_part};
 use std::alloc::Global;
 use std::vec::IntoIter;
-use xml_chars::is_space;
 
 /// An element that is taken apart: its name, its declarations, and its parts among what it has.
 #[derive(Debug, Drop)]
@@ -137,6 +135,7 @@ fn next_part(parts: &mut IntoIter<Item>) -> Next
     Next::End
 }
 
+#[tactic(auto, using(crate::proofs::Outlines::white_is_tested))]
 fn is_spacing(next: &Next) -> bool
     ensures { IsTrue result ↔ IsSpacing next.now }
 {
@@ -144,12 +143,6 @@ fn is_spacing(next: &Next) -> bool
         Next::Text(text) => is_white(text.as_slice()),
         _ => false,
     }
-}
-
-fn is_white(bytes: &[u8]) -> bool
-    ensures { IsTrue result ↔ IsWhite bytes.now }
-{
-    bytes.iter().all(|byte| is_space(*byte))
 }
 
 /// The elements among what an element has.

@@ -1,7 +1,7 @@
 //! The reader of envelopes.
 ghost use Rattle.std.specs.Prelude.{◌≡◌, ◌≤◌, ◌↔◌, ◌++◌, ℕ, length, option_map, slice_range, IfOk, Err};
 ghost use Rattle.soap_profile.specs.Document.{IsPlaced, IsReadable, IsTooLong, IsTextUpTo, HasNoTree};
-ghost use Rattle.soap_profile.specs.Soap.{soap_space};
+ghost use Rattle.soap_envelope.specs.Soap.{soap_space};
 ghost use Rattle.soap_profile.specs.Tree.{decls_of, parts_of};
 ghost use Rattle.soap_profile.specs.View.{element_view};
 ghost use Rattle.soap_envelope.specs.Envelope.{IsEnvelope, IsHeader};
@@ -19,7 +19,7 @@ use soap_profile::{Element, Elements, EnvelopeError, Parts, Place, Placed, read_
 use std::alloc::Global;
 
 /// The namespace of envelopes: SOAP 1.2 Part 1, section 5.1.
-const SOAP_SPACE: &[u8] = b"http://www.w3.org/2003/05/soap-envelope";
+pub const SOAP_SPACE: &[u8] = b"http://www.w3.org/2003/05/soap-envelope";
 
 /// The envelope of SOAP 1.2 that the bytes are.
 pub fn read_envelope(alloc: Global, bytes: &[u8]) -> Result<Envelope, EnvelopeError>

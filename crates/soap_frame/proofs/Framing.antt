@@ -17,7 +17,7 @@ use Rattle.soap_document.specs.Grammar.{white, prefixed, end, full, last, more, 
 use Rattle.soap_document.specs.Tokens.{is_nil}
 use Rattle.soap_document.specs.Tree as written
 use Rattle.soap_profile.specs.Namespaces.{bound, declaring, resolve_parts, joined, Resolved, tag_of}
-use Rattle.soap_profile.specs.Soap.{soap_space}
+use Rattle.soap_envelope.specs.Soap.{soap_space}
 use Rattle.soap_profile.specs.Tree.{Element, element, Parts, none, child, children_of}
 use Rattle.soap_envelope.specs.Envelope.{name_in, IsEnvelope, headed, bare, IsHeader, blocks}
 use Rattle.soap_envelope.specs.Scope.{IsScope, in_force, declared as declared_in}

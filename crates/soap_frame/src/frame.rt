@@ -1,6 +1,6 @@
 //! The three pieces of a frame, of SOAP 1.2.
 ghost use Rattle.std.specs.Prelude.{◌≡◌, ◌++◌, OnOk, OnErr};
-ghost use Rattle.soap_profile.specs.Soap.{soap_space};
+ghost use Rattle.soap_envelope.specs.Soap.{soap_space};
 ghost use Rattle.soap_frame.specs.Framed.{envelope_start, body_start, envelope_end};
 
 use rm_base::{Blob, Memory};

@@ -6,7 +6,7 @@ ghost use Rattle.rm_base.specs.declared.message.Binding.{Binding};
 ghost use Rattle.soap_document.specs.Grammar.{max_depth};
 ghost use Rattle.soap_profile.specs.Namespaces.{bound};
 ghost use Rattle.soap_profile.specs.Payload.{IsClosedContent};
-ghost use Rattle.soap_profile.specs.Soap.{soap_space};
+ghost use Rattle.soap_envelope.specs.Soap.{soap_space};
 ghost use Rattle.soap_profile.specs.Tree.{Parts};
 ghost use Rattle.soap_envelope.specs.Envelope.{IsEnvelope};
 ghost use Rattle.soap_writer.specs.Frame.{frame_scope};

@@ -1,6 +1,6 @@
 -- The first byte that passes a test, and what stands around it.
 use Rattle.std.proofs.Common.{◌≡◌, ℕ, suc, ◌+◌, ◌-◌, ◌≤◌, ◌<◌, List, [], ◌∷◌, ◌++◌, Bool, true, false, Option}
-use Rattle.std.proofs.Common.{Some, None, length, get_or, take, drop, sym, ap, refl, ◌∙◌, arith, length-drop}
+use Rattle.std.proofs.Common.{◌||◌, Some, None, length, get_or, take, drop, sym, ap, refl, ◌∙◌, arith, length-drop}
 use Rattle.std.proofs.Common.{drop-cons, subst, inl, inr}
 use Prim.Native.Nat.{zero}
 use Rattle.std.specs.List.{AllByRecursion}
@@ -29,6 +29,23 @@ all_fail p bytes none = rw (sym (take_whole bytes)) (before_first p bytes (lengt
     take_whole : (xs : List ℕ) → take (length xs) xs ≡ xs
     take_whole [] = refl
     take_whole (x ∷ xs) = ap (λ (y : List ℕ). x ∷ y) (take_whole xs)
+
+pub or_same : (t : Bool) → (t || t) ≡ t
+or_same true = refl
+or_same false = refl
+
+-- it is the first that passes another test too, where the tests say the same
+pub first_same : (p q : ℕ → Bool) (bytes : List ℕ) (r : Option ℕ) → ((c : ℕ) → p c ≡ q c) → IsFirstByte p bytes r
+    → IsFirstByte q bytes r
+first_same p q bytes None same none = λ k low less e. none k low less (same (get_or bytes k 0) ∙ e)
+first_same p q bytes (Some n) same found = (
+  record {
+    low = found.0.low;
+    high = found.0.high;
+    before = λ k low less e. found.0.before k low less (same (get_or bytes k 0) ∙ e);
+  },
+  sym (same (get_or bytes n 0)) ∙ found.1,
+)
 
 -- the parts of the bytes around it
 pub around : (p : ℕ → Bool) (bytes : List ℕ) (n : ℕ) → IsFirstByte p bytes (Some n) → bytes

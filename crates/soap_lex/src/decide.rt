@@ -1,5 +1,5 @@
 //! The tests of whole tokens, as the machines make them.
-ghost use Rattle.std.specs.Prelude.{◌≡◌, ◌⊎◌, ◌++◌, ◌∷◌, [], option_map};
+ghost use Rattle.std.specs.Prelude.{◌≡◌, ◌⊎◌, ◌++◌, ◌∷◌, []};
 ghost use Rattle.soap_lex.specs.Tests.{
   begins,
   is_char_data,
@@ -7,7 +7,6 @@ ghost use Rattle.soap_lex.specs.Tests.{
   is_comment,
   is_plain,
   reference,
-  without,
 };
 
 pub(crate) fn is_char_data(bytes: &[u8]) -> bool
@@ -39,13 +38,6 @@ pub(crate) fn reference(bytes: &[u8]) -> Option<char>
     ensures { result ≡ reference bytes.now }
 {
     crate::reference(bytes)
-}
-
-/// The front of the bytes, where they end in the word.
-pub(crate) fn before<'a>(word: &[u8], bytes: &'a [u8]) -> Option<&'a [u8]>
-    ensures { option_map (λ x. x.now) result ≡ without word.now bytes.now }
-{
-    bytes.strip_suffix(word)
 }
 
 /// The word begins with the token and this byte.

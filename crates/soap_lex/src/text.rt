@@ -26,9 +26,9 @@ ghost use Rattle.soap_lex.specs.TextMachine.{
 };
 ghost use Rattle.soap_lex.specs.Readers.{text_state, text_mode};
 
-use crate::decide::{before, goes_on, is_cdata, is_char_data, is_comment, reference};
+use crate::decide::{goes_on, is_cdata, is_char_data, is_comment, reference};
 use crate::references::push_character;
-use crate::search::{first, first_of_two};
+use crate::search::{before, first, first_of_two};
 use crate::visible::{append, is_visible};
 use crate::{Memory, push_line_ends};
 use memchr::memchr;

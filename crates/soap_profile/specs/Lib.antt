@@ -9,7 +9,6 @@ pub mod Payload
 pub mod Pool
 pub mod Resolving
 pub mod Scope
-pub mod Soap
 pub mod Steps
 pub mod Tree
 pub mod TreeCode

@@ -1,4 +1,4 @@
-use Rattle.soap_profile.specs.Soap.{soap_space}
+use Rattle.soap_envelope.specs.Soap.{soap_space}
 use Rattle.soap_envelope.specs.View.{envelope_view}
 use Rattle.soap_envelope.specs.declared.envelope.Envelope.{Envelope}
 use Rattle.message_reader.proofs.MessageLemmas.{spelled, refused_so, early_is}

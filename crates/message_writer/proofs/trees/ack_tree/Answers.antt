@@ -1,5 +1,5 @@
 use Rattle.std.proofs.Common.{◌∙◌, codes}
-use Rattle.soap_profile.specs.Soap.{soap_space}
+use Rattle.soap_envelope.specs.Soap.{soap_space}
 use Rattle.soap_profile.specs.Tree.{child}
 use Rattle.soap_profile.specs.View.{items_view}
 use Rattle.soap_nodes.specs.Node.{nodes_tree}

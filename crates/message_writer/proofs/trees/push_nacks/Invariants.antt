@@ -1,6 +1,6 @@
 use Rattle.std.proofs.Common.{◌≡◌, ◌++◌, drop}
 use Rattle.soap_profile.specs.Items.{listed}
-use Rattle.soap_profile.specs.Soap.{soap_space}
+use Rattle.soap_envelope.specs.Soap.{soap_space}
 use Rattle.soap_profile.specs.View.{items_view}
 use Rattle.soap_nodes.specs.Node.{nothing, each_node, nodes_tree}
 use Rattle.rm_message.specs.elements.Texts.{nack_node}

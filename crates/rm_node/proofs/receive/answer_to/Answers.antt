@@ -1,4 +1,4 @@
-use Rattle.soap_profile.specs.Soap.{soap_space}
+use Rattle.soap_envelope.specs.Soap.{soap_space}
 use Rattle.rm_node.proofs.ReadLemmas.{has_numbers}
 use Rattle.rm_node.proofs.receive.answer_to.Goals as goal
 

@@ -1,5 +1,5 @@
 use Rattle.std.proofs.Common.{Err}
-use Rattle.soap_profile.specs.Soap.{soap_space}
+use Rattle.soap_envelope.specs.Soap.{soap_space}
 use Rattle.rm_wire.specs.reader.Refusals.{Refuses}
 use Rattle.rm_protocol.specs.World.{Noise, node}
 use Rattle.rm_script.specs.declared.event.Event.TheVariants as said

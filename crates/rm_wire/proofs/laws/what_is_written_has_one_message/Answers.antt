@@ -1,4 +1,4 @@
-use Rattle.soap_profile.specs.Soap.{soap_space}
+use Rattle.soap_envelope.specs.Soap.{soap_space}
 use Rattle.rm_wire.proofs.laws.what_is_written_has_one_message.Goals as goal
 
 pub returns-clause-one : goal.returns-clause-one

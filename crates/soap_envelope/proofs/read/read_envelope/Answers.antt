@@ -1,5 +1,5 @@
 use Rattle.std.proofs.Common.{subst}
-use Rattle.soap_profile.specs.Soap.{soap_space}
+use Rattle.soap_envelope.specs.Soap.{soap_space}
 use Rattle.soap_profile.specs.declared.error.EnvelopeError.TheVariants.{TooLong, NotUtf8, NotProfile}
 use Rattle.soap_profile.specs.declared.read.Placed.{Placed}
 use Rattle.soap_profile.specs.Answer.{same_error, errors_alike}

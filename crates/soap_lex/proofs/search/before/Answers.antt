@@ -1,6 +1,6 @@
 use Rattle.std.proofs.lemmas.Slice.Eq.{strip_suffix_is}
 use Rattle.std.proofs.lemmas.Bool.Decides.{Decides-eqb}
-use Rattle.soap_document.proofs.tokens.before.Goals as goal
+use Rattle.soap_lex.proofs.search.before.Goals as goal
 use Rattle.soap_lex.specs.Ends.{without_cases}
 
 pub returns : goal.returns
