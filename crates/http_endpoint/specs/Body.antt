@@ -3,6 +3,7 @@
 use Rattle.std.specs.Prelude.{◌≡◌, ℕ, ◌≤◌, ◌<◌, ◌+◌, List, [], ◌++◌, length, min, take, drop, Bool, true, false}
 use Rattle.std.specs.Prelude.{Option, Some, Result, Ok, Err, ⊤, if◌then◌else◌, nat_lt}
 use Rattle.httparse.specs.Grammar.{MayBecomeChunkLine, MayBecomeSection}
+use Rattle.rm_base.specs.Limits.{envelope_bytes}
 use Rattle.http_endpoint.specs.declared.body.Framing.{Framing}
 use Rattle.http_endpoint.specs.declared.body.Framing.TheVariants.{Empty, Counted, Chunked, ToEnd}
 use Rattle.http_endpoint.specs.declared.error.HttpError.{HttpError}
@@ -15,7 +16,7 @@ use Rattle.http_endpoint.specs.Parts.{ReadsSize, ReadsTrailer, ReadsBreak, IsHal
 pub record Moved (size : ℕ) (all body new : List ℕ) (after : Option (List ℕ)) : Type 0 where
   pub inside : size ≤ length all
   pub new_is : new ≡ body ++ take size all
-  pub within : length body + size ≤ 2097152
+  pub within : length body + size ≤ envelope_bytes
   pub after_is : after ≡ Some (drop size all)
 
 -- what came of moving so many bytes to a body
@@ -25,11 +26,11 @@ IsMove size all body (Err Memory) new after = ⊤
 IsMove size all body (Err ReadFault) new after = ⊤
 IsMove size all body (Err WriteFault) new after = ⊥
 IsMove size all body (Err BadHead) new after = ⊥
-IsMove size all body (Err (TooLong taken)) new after = (taken ≡ 2097153)
-    × (2097152 < length body + min size (length all))
+IsMove size all body (Err (TooLong taken)) new after = (taken ≡ envelope_bytes + 1)
+    × (envelope_bytes < length body + min size (length all))
 IsMove size all body (Err (Unsupported status)) new after = ⊥
 IsMove size all body (Err CutShort) new after =
-    (length all < size) × (length body + length all ≤ 2097152) × (new ≡ body ++ all)
+    (length all < size) × (length body + length all ≤ envelope_bytes) × (new ≡ body ++ all)
 
 -- a chunk: its line, its data, which goes to the body, and CR LF
 pub record TakesChunk (body bytes new rest : List ℕ) : Type 0 where
@@ -38,7 +39,7 @@ pub record TakesChunk (body bytes new rest : List ℕ) : Type 0 where
   pub line : ReadsUpTo 16384 ReadsSize bytes size after
   pub some : 0 < size
   pub inside : size ≤ length after
-  pub within : length body + size ≤ 2097152
+  pub within : length body + size ≤ envelope_bytes
   pub new_is : new ≡ body ++ take size after
   pub end : ReadsUpTo 16384 ReadsBreak (drop size after) tt rest
 
@@ -51,11 +52,12 @@ ended_by count body = if nat_lt 64 count then Err BadHead else Ok body
 pub data EndsBehind (result : Result (List ℕ) HttpError) (body : List ℕ) (size : ℕ) (after : List ℕ) : Type 0 where
   last : size ≡ 0 → Stage 16384 ReadsTrailer MayBecomeSection after result (λ count rest. result ≡ ended_by count body)
       → EndsBehind result body size after
-  too_long : 0 < size → 2097152 < length body + min size (length after) → result ≡ Err (TooLong 2097153)
+  too_long : 0 < size → envelope_bytes < length body + min size (length after)
+      → result ≡ Err (TooLong (envelope_bytes + 1))
       → EndsBehind result body size after
-  cut : length after < size → length body + length after ≤ 2097152 → result ≡ Err CutShort
+  cut : length after < size → length body + length after ≤ envelope_bytes → result ≡ Err CutShort
       → EndsBehind result body size after
-  unbroken : 0 < size → size ≤ length after → length body + size ≤ 2097152
+  unbroken : 0 < size → size ≤ length after → length body + size ≤ envelope_bytes
       → Stage 16384 ReadsBreak IsHalfBreak (drop size after) result (λ _ _. ⊥) → EndsBehind result body size after
 
 -- no whole chunk follows: the body ends at this line or behind it
@@ -77,18 +79,18 @@ pub data IsChunked (result : Result (List ℕ) HttpError) : List ℕ → List �
 
 -- so many bytes, or why they aren't there
 abbrev pub IsCounted : ℕ → List ℕ → Result (List ℕ) HttpError → Type 0
-IsCounted size all (Ok body) = (size ≤ length all) × (size ≤ 2097152) × (body ≡ take size all)
+IsCounted size all (Ok body) = (size ≤ length all) × (size ≤ envelope_bytes) × (body ≡ take size all)
 IsCounted size all (Err Memory) = ⊥
 IsCounted size all (Err ReadFault) = ⊥
 IsCounted size all (Err WriteFault) = ⊥
 IsCounted size all (Err BadHead) = ⊥
-IsCounted size all (Err (TooLong taken)) = (taken ≡ 2097153) × (2097152 < min size (length all))
+IsCounted size all (Err (TooLong taken)) = (taken ≡ envelope_bytes + 1) × (envelope_bytes < min size (length all))
 IsCounted size all (Err (Unsupported status)) = ⊥
-IsCounted size all (Err CutShort) = (length all < size) × (length all ≤ 2097152)
+IsCounted size all (Err CutShort) = (length all < size) × (length all ≤ envelope_bytes)
 
 -- all bytes that are left
 abbrev pub all_left : List ℕ → Result (List ℕ) HttpError
-all_left all = if nat_lt 2097152 (length all) then Err (TooLong 2097153) else Ok all
+all_left all = if nat_lt envelope_bytes (length all) then Err (TooLong (envelope_bytes + 1)) else Ok all
 
 -- more bytes than a body may have were to be moved: where they ended before, those that came are the body
 abbrev pub came_before : HttpError → List ℕ → Result (List ℕ) HttpError

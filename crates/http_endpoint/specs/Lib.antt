@@ -5,9 +5,11 @@ pub mod Parts
 pub mod PartLaws
 pub mod Body
 pub mod Bytes
+pub mod Ends
 pub mod Fields
 pub mod Heads
 pub mod HeadLaws
+pub mod Kept
 pub mod Messages
 pub mod Taken
 pub mod Targets

@@ -1,12 +1,22 @@
 -- How many bytes a reader takes at most of a connection.
-use Rattle.std.specs.Prelude.{ℕ}
+use Rattle.std.specs.Prelude.{ℕ, ◌+◌, ◌≤◌, max}
+use Rattle.rm_base.specs.Limits.{envelope_bytes}
+use Rattle.rm_base.specs.Outside.{Stream}
 use Rattle.http_endpoint.specs.declared.body.Framing.{Framing}
 use Rattle.http_endpoint.specs.declared.body.Framing.TheVariants.{Empty, Counted, Chunked, ToEnd}
 
--- for a body: the limit of 2097152 bytes and one more. In chunks each byte may have a chunk of its own, with a line and
--- an end of at most 16384 bytes each: 2097152 * 32769 bytes, and what is refused of one more chunk
+-- for a body: as many as an envelope may have and one more. In chunks each byte may have a chunk of its own, with a
+-- line and an end of at most 16384 bytes each: 2097152 * 32769 bytes, and what is refused of one more chunk
 abbrev pub most_taken : Framing → ℕ
 most_taken Empty = 0
-most_taken (Counted size) = 2097153
+most_taken (Counted size) = envelope_bytes + 1
 most_taken Chunked = 68723703810
-most_taken ToEnd = 2097153
+most_taken ToEnd = envelope_bytes + 1
+
+-- with so many bytes held before, no more than so many in all were taken
+abbrev pub TakesAtMost : (most held : ℕ) → Stream → Stream → Type 0
+TakesAtMost most held old new = new.taken + held ≤ old.taken + max held most
+
+-- with so many bytes held before and so many after, no more than so many were taken and used
+abbrev pub UsesAtMost : (most held after : ℕ) → Stream → Stream → Type 0
+UsesAtMost most held after old new = new.taken + held ≤ old.taken + (after + most)

@@ -2,21 +2,20 @@
 ghost use Rattle.std.specs.Prelude.{◌≡◌, ◌≢◌, ℕ, ◌≤◌, ◌<◌, ◌+◌, ◌-◌, ◌*◌, List, [], length, min, max, Some, Ok, Err};
 ghost use Rattle.std.specs.Prelude.{true};
 ghost use Rattle.std.specs.Prelude.{OnOk};
-ghost use Rattle.rm_base.specs.Count.{Rose};
+ghost use Rattle.rm_base.specs.Limits.{envelope_bytes};
 ghost use Rattle.http_endpoint.specs.Ahead.{ahead};
 ghost use Rattle.http_endpoint.specs.Part.{IfTold};
 ghost use Rattle.http_endpoint.specs.Body.{IsMove, IsChunk, IsChunked, IsCounted, IsBody, all_left, came_before};
-ghost use Rattle.http_endpoint.specs.Taken.{most_taken};
+ghost use Rattle.http_endpoint.specs.Kept.{KeepsSource};
+ghost use Rattle.http_endpoint.specs.Taken.{TakesAtMost, UsesAtMost, most_taken};
 
 use crate::error::HttpError;
 use crate::input::Input;
 use crate::part::read_part;
 use crate::parts::{ChunkSize, LineBreak, Trailer};
+use rm_base::limits::ENVELOPE_BYTES;
 use rm_base::{Blob, Source};
 use std::alloc::Global;
-
-/// The greatest length of a body.
-pub const BODY_LIMIT: usize = 2097152;
 
 /// The greatest number of fields of a head, and of a trailer.
 pub const FIELD_LIMIT: usize = 64;
@@ -37,29 +36,25 @@ pub fn move_bytes<S: Source>(
     size: u64,
     body: &mut Blob,
 ) -> Result<(), HttpError>
-    requires { length body.old ≤ 2097152 }
-    ensures answer { (all : List ℕ) → ahead (S.left from.old) input.old ≡ Some all
-        → IsMove size all body.old result body.new (ahead (S.left from.new) input.new) }
+    requires { length body.old ≤ envelope_bytes }
+    ensures answer { (all : List ℕ) → ahead (S.told from.old).left input.old ≡ Some all
+        → IsMove size all body.old result body.new (ahead (S.told from.new).left input.new) }
     ensures grown { OnOk result (length body.new ≡ length body.old + size) }
-    ensures within { OnOk result (length body.new ≤ 2097152) }
-    ensures stops { S.taken from.new + length input.old
-        ≤ S.taken from.old + max (length input.old) (min size (2097153 - length body.old)) }
-    ensures used { OnOk result (S.taken from.new + length input.old ≤ S.taken from.old + (length input.new + size)) }
-    ensures reads { result ≢ Err HttpError.WriteFault }
-    ensures failed { result ≡ Err HttpError.ReadFault → Rose (S.faults from.old) (S.faults from.new) }
-    ensures keeps { S.sent from.new ≡ S.sent from.old }
-    ensures never_falls { S.faults from.old ≤ S.faults from.new }
-    ensures sound { S.is_sound from.old ≡ true
-        → (S.is_sound from.new ≡ true) × (S.faults from.new ≡ S.faults from.old) }
+    ensures within { OnOk result (length body.new ≤ envelope_bytes) }
+    ensures stops { TakesAtMost (min size (2097153 - length body.old)) (length input.old)
+        (S.told from.old) (S.told from.new) }
+    ensures used { OnOk result (UsesAtMost size (length input.old) (length input.new)
+        (S.told from.old) (S.told from.new)) }
+    ensures keeps { KeepsSource result (S.told from.old) (S.told from.new) }
 {
     let mut left = size;
     while left > 0 {
-        let room = left.min((BODY_LIMIT + 1 - body.len()) as u64) as usize;
+        let room = left.min((ENVELOPE_BYTES + 1 - body.len()) as u64) as usize;
         if !input.has_more(from, room)? {
             return Err(HttpError::CutShort);
         }
         let count = input.move_to(body, room)?;
-        if body.len() > BODY_LIMIT {
+        if body.len() > ENVELOPE_BYTES {
             return Err(HttpError::TooLong {
                 taken: body.len() as u64,
             });
@@ -76,20 +71,15 @@ fn read_chunk<S: Source>(
     input: &mut Input,
     body: &mut Blob,
 ) -> Result<bool, HttpError>
-    requires { length body.old ≤ 2097152 }
-    ensures answer { (all : List ℕ) → ahead (S.left from.old) input.old ≡ Some all
-        → IsChunk all body.old result body.new (ahead (S.left from.new) input.new) }
-    ensures within { OnOk result (length body.new ≤ 2097152) }
+    requires { length body.old ≤ envelope_bytes }
+    ensures answer { (all : List ℕ) → ahead (S.told from.old).left input.old ≡ Some all
+        → IsChunk all body.old result body.new (ahead (S.told from.new).left input.new) }
+    ensures within { OnOk result (length body.new ≤ envelope_bytes) }
     ensures grown { result ≡ Ok true → length body.old < length body.new }
-    ensures stops { S.taken from.new + length input.old ≤ S.taken from.old + max (length input.old) 2129922 }
-    ensures used { result ≡ Ok true → S.taken from.new + (length input.old + 32769 * length body.old)
-        ≤ S.taken from.old + (length input.new + 32769 * length body.new) }
-    ensures reads { result ≢ Err HttpError.WriteFault }
-    ensures failed { result ≡ Err HttpError.ReadFault → Rose (S.faults from.old) (S.faults from.new) }
-    ensures keeps { S.sent from.new ≡ S.sent from.old }
-    ensures never_falls { S.faults from.old ≤ S.faults from.new }
-    ensures sound { S.is_sound from.old ≡ true
-        → (S.is_sound from.new ≡ true) × (S.faults from.new ≡ S.faults from.old) }
+    ensures stops { TakesAtMost 2129922 (length input.old) (S.told from.old) (S.told from.new) }
+    ensures used { result ≡ Ok true → (S.told from.new).taken + (length input.old + 32769 * length body.old)
+        ≤ (S.told from.old).taken + (length input.new + 32769 * length body.new) }
+    ensures keeps { KeepsSource result (S.told from.old) (S.told from.new) }
 {
     let size = read_part::<S, ChunkSize>(alloc, from, input)?;
     if size == 0 {
@@ -110,15 +100,10 @@ pub fn read_chunks<S: Source>(
     from: &mut S,
     input: &mut Input,
 ) -> Result<Blob, HttpError>
-    ensures answer { (all : List ℕ) → ahead (S.left from.old) input.old ≡ Some all
+    ensures answer { (all : List ℕ) → ahead (S.told from.old).left input.old ≡ Some all
         → IfTold result (IsChunked result [] all) }
-    ensures stops { S.taken from.new + length input.old ≤ S.taken from.old + max (length input.old) 68723703810 }
-    ensures reads { result ≢ Err HttpError.WriteFault }
-    ensures failed { result ≡ Err HttpError.ReadFault → Rose (S.faults from.old) (S.faults from.new) }
-    ensures keeps { S.sent from.new ≡ S.sent from.old }
-    ensures never_falls { S.faults from.old ≤ S.faults from.new }
-    ensures sound { S.is_sound from.old ≡ true
-        → (S.is_sound from.new ≡ true) × (S.faults from.new ≡ S.faults from.old) }
+    ensures stops { TakesAtMost 68723703810 (length input.old) (S.told from.old) (S.told from.new) }
+    ensures keeps { KeepsSource result (S.told from.old) (S.told from.new) }
 {
     let mut body = Blob::new(alloc);
     while read_chunk(alloc, from, input, &mut body)? {}
@@ -146,18 +131,13 @@ pub fn read_to_end<S: Source>(
     from: &mut S,
     input: &mut Input,
 ) -> Result<Blob, HttpError>
-    ensures answer { (all : List ℕ) → ahead (S.left from.old) input.old ≡ Some all
+    ensures answer { (all : List ℕ) → ahead (S.told from.old).left input.old ≡ Some all
         → IfTold result (result ≡ all_left all) }
-    ensures stops { S.taken from.new + length input.old ≤ S.taken from.old + max (length input.old) 2097153 }
-    ensures reads { result ≢ Err HttpError.WriteFault }
-    ensures failed { result ≡ Err HttpError.ReadFault → Rose (S.faults from.old) (S.faults from.new) }
-    ensures keeps { S.sent from.new ≡ S.sent from.old }
-    ensures never_falls { S.faults from.old ≤ S.faults from.new }
-    ensures sound { S.is_sound from.old ≡ true
-        → (S.is_sound from.new ≡ true) × (S.faults from.new ≡ S.faults from.old) }
+    ensures stops { TakesAtMost 2097153 (length input.old) (S.told from.old) (S.told from.new) }
+    ensures keeps { KeepsSource result (S.told from.old) (S.told from.new) }
 {
     let mut body = Blob::new(alloc);
-    match move_bytes(from, input, BODY_LIMIT as u64 + 1, &mut body) {
+    match move_bytes(from, input, ENVELOPE_BYTES as u64 + 1, &mut body) {
         Ok(()) => unreachable!(),
         Err(error) => came_before(error, body),
     }
@@ -170,15 +150,10 @@ fn read_counted<S: Source>(
     input: &mut Input,
     size: u64,
 ) -> Result<Blob, HttpError>
-    ensures answer { (all : List ℕ) → ahead (S.left from.old) input.old ≡ Some all
+    ensures answer { (all : List ℕ) → ahead (S.told from.old).left input.old ≡ Some all
         → IfTold result (IsCounted size all result) }
-    ensures stops { S.taken from.new + length input.old ≤ S.taken from.old + max (length input.old) (min size 2097153) }
-    ensures reads { result ≢ Err HttpError.WriteFault }
-    ensures failed { result ≡ Err HttpError.ReadFault → Rose (S.faults from.old) (S.faults from.new) }
-    ensures keeps { S.sent from.new ≡ S.sent from.old }
-    ensures never_falls { S.faults from.old ≤ S.faults from.new }
-    ensures sound { S.is_sound from.old ≡ true
-        → (S.is_sound from.new ≡ true) × (S.faults from.new ≡ S.faults from.old) }
+    ensures stops { TakesAtMost (min size 2097153) (length input.old) (S.told from.old) (S.told from.new) }
+    ensures keeps { KeepsSource result (S.told from.old) (S.told from.new) }
 {
     let mut body = Blob::new(alloc);
     move_bytes(from, input, size, &mut body)?;
@@ -192,16 +167,10 @@ pub fn read_body<S: Source>(
     input: &mut Input,
     framing: Framing,
 ) -> Result<Blob, HttpError>
-    ensures answer { (all : List ℕ) → ahead (S.left from.old) input.old ≡ Some all
+    ensures answer { (all : List ℕ) → ahead (S.told from.old).left input.old ≡ Some all
         → IfTold result (IsBody framing all result) }
-    ensures stops { S.taken from.new + length input.old
-        ≤ S.taken from.old + max (length input.old) (most_taken framing) }
-    ensures reads { result ≢ Err HttpError.WriteFault }
-    ensures failed { result ≡ Err HttpError.ReadFault → Rose (S.faults from.old) (S.faults from.new) }
-    ensures keeps { S.sent from.new ≡ S.sent from.old }
-    ensures never_falls { S.faults from.old ≤ S.faults from.new }
-    ensures sound { S.is_sound from.old ≡ true
-        → (S.is_sound from.new ≡ true) × (S.faults from.new ≡ S.faults from.old) }
+    ensures stops { TakesAtMost (most_taken framing) (length input.old) (S.told from.old) (S.told from.new) }
+    ensures keeps { KeepsSource result (S.told from.old) (S.told from.new) }
 {
     match framing {
         Framing::Empty => Ok(Blob::new(alloc)),

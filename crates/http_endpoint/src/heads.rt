@@ -1,6 +1,7 @@
 //! The heads of requests and responses, and what is done with them.
 ghost use Rattle.std.specs.Prelude.{◌≡◌, codes, bytes_eq};
 ghost use Rattle.httparse.specs.Grammar.{MayBecomeRequest, MayBecomeResponse};
+ghost use Rattle.http_endpoint.specs.Ends.{ends_head};
 ghost use Rattle.http_endpoint.specs.Heads.{ReadsRequestFacts, ReadsResponseFacts, is_misframed, is_bad};
 ghost use Rattle.http_endpoint.specs.Heads.{is_otherwise_coded, framing_or, verdict, response_framing};
 ghost use Rattle.http_endpoint.specs.HeadLaws.{request-grows, response-grows};
@@ -46,6 +47,8 @@ impl Part for HeadOfRequest {
 
     ghost begun = { MayBecomeRequest };
 
+    ghost ends = { ends_head };
+
     ghost grows = { request-grows };
 
     fn parse(alloc: Global, bytes: &[u8]) -> Result<Parsed<RequestFacts>, Memory> {
@@ -83,6 +86,8 @@ impl Part for HeadOfResponse {
     ghost reads = { ReadsResponseFacts };
 
     ghost begun = { MayBecomeResponse };
+
+    ghost ends = { ends_head };
 
     ghost grows = { response-grows };
 

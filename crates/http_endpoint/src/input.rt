@@ -2,8 +2,9 @@
 ghost use Rattle.std.specs.Prelude.{◌≡◌, ℕ, ◌≤◌, ◌<◌, ◌+◌, ◌⊎◌, ◌++◌, List, [], length, take, drop, min, max, IfOk};
 ghost use Rattle.std.specs.Prelude.{IfErr, OnOk, Ok, Err, true, false};
 ghost use Rattle.std.specs.Io.KnownBytes.{IsAtEnd};
-ghost use Rattle.rm_base.specs.Count.{Rose};
 ghost use Rattle.http_endpoint.specs.Ahead.{ahead, StillAhead};
+ghost use Rattle.http_endpoint.specs.Kept.{KeepsSource};
+ghost use Rattle.http_endpoint.specs.Taken.{TakesAtMost, UsesAtMost};
 
 use crate::error::HttpError;
 use rm_base::{Blob, Source};
@@ -61,18 +62,16 @@ impl Input {
     /// Reads some more bytes, at most so many, and answers whether there were any.
     pub fn fill<S: Source>(&mut self, from: &mut S, room: usize) -> Result<bool, HttpError>
         requires { 0 < room }
-        ensures kept { OnOk result (StillAhead (ahead (S.left from.old) self.old) (ahead (S.left from.new) self.new)) }
+        ensures kept { OnOk result (StillAhead (ahead (S.told from.old).left self.old)
+            (ahead (S.told from.new).left self.new)) }
         ensures more { result ≡ Ok true → length self.old < length self.new }
         ensures within { OnOk result (length self.new ≤ length self.old + room) }
-        ensures at_end { result ≡ Ok false → IsAtEnd (S.left from.new) × (self.new ≡ self.old) }
-        ensures stops { S.taken from.new ≤ S.taken from.old + room }
-        ensures taken { OnOk result (S.taken from.new + length self.old ≤ S.taken from.old + length self.new) }
-        ensures failed { result ≡ Err HttpError.ReadFault → Rose (S.faults from.old) (S.faults from.new) }
+        ensures at_end { result ≡ Ok false → IsAtEnd (S.told from.new).left × (self.new ≡ self.old) }
+        ensures stops { (S.told from.new).taken ≤ (S.told from.old).taken + room }
+        ensures taken { OnOk result (UsesAtMost 0 (length self.old) (length self.new)
+            (S.told from.old) (S.told from.new)) }
         ensures kinds { IfErr result (λ e. (e ≡ HttpError.ReadFault) ⊎ (e ≡ HttpError.Memory)) }
-        ensures keeps { S.sent from.new ≡ S.sent from.old }
-        ensures never_falls { S.faults from.old ≤ S.faults from.new }
-        ensures sound { S.is_sound from.old ≡ true
-            → (S.is_sound from.new ≡ true) × (S.faults from.new ≡ S.faults from.old) }
+        ensures keeps { KeepsSource result (S.told from.old) (S.told from.new) }
     {
         let mut piece = [0; PIECE];
         let count = from.read(&mut piece[..room.min(PIECE)])?;
@@ -86,17 +85,15 @@ impl Input {
     /// Whether there are bytes to use. Reads some where none are held, at most so many.
     pub fn has_more<S: Source>(&mut self, from: &mut S, room: usize) -> Result<bool, HttpError>
         requires { 0 < room }
-        ensures kept { OnOk result (StillAhead (ahead (S.left from.old) self.old) (ahead (S.left from.new) self.new)) }
+        ensures kept { OnOk result (StillAhead (ahead (S.told from.old).left self.old)
+            (ahead (S.told from.new).left self.new)) }
         ensures more { result ≡ Ok true → 0 < length self.new }
-        ensures at_end { result ≡ Ok false → IsAtEnd (S.left from.new) × (self.new ≡ []) }
-        ensures stops { S.taken from.new + length self.old ≤ S.taken from.old + max (length self.old) room }
-        ensures taken { OnOk result (S.taken from.new + length self.old ≤ S.taken from.old + length self.new) }
-        ensures failed { result ≡ Err HttpError.ReadFault → Rose (S.faults from.old) (S.faults from.new) }
+        ensures at_end { result ≡ Ok false → IsAtEnd (S.told from.new).left × (self.new ≡ []) }
+        ensures stops { TakesAtMost room (length self.old) (S.told from.old) (S.told from.new) }
+        ensures taken { OnOk result (UsesAtMost 0 (length self.old) (length self.new)
+            (S.told from.old) (S.told from.new)) }
         ensures kinds { IfErr result (λ e. (e ≡ HttpError.ReadFault) ⊎ (e ≡ HttpError.Memory)) }
-        ensures keeps { S.sent from.new ≡ S.sent from.old }
-        ensures never_falls { S.faults from.old ≤ S.faults from.new }
-        ensures sound { S.is_sound from.old ≡ true
-            → (S.is_sound from.new ≡ true) × (S.faults from.new ≡ S.faults from.old) }
+        ensures keeps { KeepsSource result (S.told from.old) (S.told from.new) }
     {
         if self.as_slice().is_empty() {
             self.fill(from, room)

@@ -21,5 +21,5 @@ pub use error::HttpError;
 pub use input::Input;
 pub use request::read_request;
 pub use response::{Response, read_response};
-pub use target::{Target, read_target};
+pub use target::{Target, TargetError, read_target};
 pub use write::{write_request, write_response};

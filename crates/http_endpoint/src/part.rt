@@ -1,8 +1,9 @@
 //! Parts of a message, and one reader for all of them.
-ghost use Rattle.std.specs.Prelude.{◌≡◌, ◌≢◌, ℕ, ◌≤◌, ◌+◌, List, ◌++◌, length, max, Some, IfOk, OnOk, Err, true};
-ghost use Rattle.rm_base.specs.Count.{Rose};
+ghost use Rattle.std.specs.Prelude.{Bool, ◌≡◌, ◌≢◌, ℕ, ◌≤◌, ◌+◌, List, ◌++◌, length, max, Some, IfOk, OnOk, Err, true};
 ghost use Rattle.http_endpoint.specs.Ahead.{ahead};
 ghost use Rattle.http_endpoint.specs.Part.{IsParse, IsAnswer};
+ghost use Rattle.http_endpoint.specs.Kept.{KeepsSource};
+ghost use Rattle.http_endpoint.specs.Taken.{TakesAtMost, UsesAtMost};
 
 use crate::error::HttpError;
 use crate::input::Input;
@@ -31,12 +32,16 @@ pub trait Part {
     /// The part has begun, and more bytes may end it.
     ghost begun: { List ℕ → Type 0 };
 
+    /// The part may end among the bytes from a place.
+    ghost ends: { List ℕ → ℕ → Bool };
+
     /// Parses the first bytes.
     fn parse(alloc: Global, bytes: &[u8]) -> Result<Parsed<Self::Out>, Memory>
         ensures { IfOk result (IsParse reads begun bytes.now) };
 
     /// Whether the part may end among the bytes from `from`, so that it is worth to parse them.
-    fn may_end(bytes: &[u8], from: usize) -> bool;
+    fn may_end(bytes: &[u8], from: usize) -> bool
+        ensures { result ≡ ends bytes.now from };
 
     ghost grows: { (bytes : List ℕ) (a : Self.Out) (rest more : List ℕ) → reads bytes a rest
         → reads (bytes ++ more) a (rest ++ more) };
@@ -48,16 +53,12 @@ pub fn read_part<S: Source, P: Part>(
     from: &mut S,
     input: &mut Input,
 ) -> Result<P::Out, HttpError>
-    ensures answer { (all : List ℕ) → ahead (S.left from.old) input.old ≡ Some all
-        → IsAnswer 16384 P.reads P.begun all result (ahead (S.left from.new) input.new) }
-    ensures stops { S.taken from.new + length input.old ≤ S.taken from.old + max (length input.old) 16385 }
-    ensures used { OnOk result (S.taken from.new + length input.old ≤ S.taken from.old + (length input.new + 16384)) }
-    ensures reads { result ≢ Err HttpError.WriteFault }
-    ensures failed { result ≡ Err HttpError.ReadFault → Rose (S.faults from.old) (S.faults from.new) }
-    ensures keeps { S.sent from.new ≡ S.sent from.old }
-    ensures never_falls { S.faults from.old ≤ S.faults from.new }
-    ensures sound { S.is_sound from.old ≡ true
-        → (S.is_sound from.new ≡ true) × (S.faults from.new ≡ S.faults from.old) }
+    ensures answer { (all : List ℕ) → ahead (S.told from.old).left input.old ≡ Some all
+        → IsAnswer 16384 P.reads P.begun all result (ahead (S.told from.new).left input.new) }
+    ensures stops { TakesAtMost 16385 (length input.old) (S.told from.old) (S.told from.new) }
+    ensures used { OnOk result (UsesAtMost 16384 (length input.old) (length input.new)
+        (S.told from.old) (S.told from.new)) }
+    ensures keeps { KeepsSource result (S.told from.old) (S.told from.new) }
 {
     let mut tried = 0;
     while input.as_slice().len() <= PART_LIMIT {

@@ -1,6 +1,7 @@
 //! The parts of a chunked body (RFC 9112, section 7.1).
 ghost use Rattle.std.specs.Prelude.{◌≡◌, ℕ, ◌≤◌, ◌*◌, length, IfOk};
 ghost use Rattle.httparse.specs.Grammar.{MayBecomeChunkLine, MayBecomeSection};
+ghost use Rattle.http_endpoint.specs.Ends.{ends_line, ends_head, begins_line_end, ends_trailer, ends_break};
 ghost use Rattle.http_endpoint.specs.Part.{IsParse};
 ghost use Rattle.http_endpoint.specs.Parts.{ReadsSize, ReadsTrailer, ReadsBreak, IsHalfBreak};
 ghost use Rattle.http_endpoint.specs.PartLaws.{size-grows, trailer-grows, break-grows};
@@ -20,6 +21,8 @@ impl Part for ChunkSize {
     ghost reads = { ReadsSize };
 
     ghost begun = { MayBecomeChunkLine };
+
+    ghost ends = { ends_line };
 
     ghost grows = { size-grows };
 
@@ -53,6 +56,8 @@ impl Part for Trailer {
 
     ghost begun = { MayBecomeSection };
 
+    ghost ends = { ends_trailer };
+
     ghost grows = { trailer-grows };
 
     fn parse(alloc: Global, bytes: &[u8]) -> Result<Parsed<usize>, Memory> {
@@ -65,7 +70,7 @@ impl Part for Trailer {
     }
 
     fn may_end(bytes: &[u8], from: usize) -> bool {
-        has_empty_line(bytes, from) || bytes.starts_with(b"\n") || bytes.starts_with(b"\r")
+        has_empty_line(bytes, from) || begins_line_end(bytes)
     }
 }
 
@@ -78,6 +83,8 @@ impl Part for LineBreak {
     ghost reads = { ReadsBreak };
 
     ghost begun = { IsHalfBreak };
+
+    ghost ends = { ends_break };
 
     ghost grows = { break-grows };
 
@@ -95,8 +102,19 @@ impl Part for LineBreak {
     }
 }
 
+fn begins_line_end(bytes: &[u8]) -> bool
+    ensures { result ≡ begins_line_end bytes.now }
+{
+    match bytes {
+        [first, ..] => *first == b'\n' || *first == b'\r',
+        [] => false,
+    }
+}
+
 // Whether, after some text, a line without any ends among the bytes from a place.
-pub(crate) fn has_empty_line(bytes: &[u8], from: usize) -> bool {
+pub(crate) fn has_empty_line(bytes: &[u8], from: usize) -> bool
+    ensures { result ≡ ends_head bytes.now from }
+{
     let mut has_text = false;
     let mut is_empty = false;
     for byte in bytes.split_at(from.saturating_sub(4).min(bytes.len())).1 {

@@ -2,9 +2,10 @@
 ghost use Rattle.std.specs.Prelude.{◌≡◌, ◌≤◌, ◌+◌, ℕ, ◌⊎◌, if◌then◌else◌, List, Some, Ok, Err, IfErr, OnOk, true, []};
 ghost use Rattle.std.specs.Io.KnownBytes.{Appends};
 ghost use Rattle.rm_base.specs.Count.{Rose};
-ghost use Rattle.rm_base.specs.Outside.{AppendsFront};
+ghost use Rattle.rm_base.specs.Outside.{AppendsFront, Lasts};
 ghost use Rattle.http_endpoint.specs.Part.{IfTold};
 ghost use Rattle.http_endpoint.specs.Messages.{continue_text, IsRequest};
+ghost use Rattle.http_endpoint.specs.Kept.{KeepsSink};
 ghost use Rattle.http_endpoint.specs.Taken.{most_taken};
 
 use crate::body::{Framing, read_body};
@@ -17,16 +18,10 @@ use std::alloc::Global;
 
 // Tells the peer to send the body, where it waits for that.
 fn invite<C: Connection>(conn: &mut C, expects: bool) -> Result<(), HttpError>
-    ensures said { OnOk result (Appends (C.held conn.old) (C.held conn.new) (if expects then continue_text else [])) }
-    ensures front { AppendsFront (C.held conn.old) (C.held conn.new) continue_text }
-    ensures keeps { C.Source.left conn.new ≡ C.Source.left conn.old }
-    ensures keeps_taken { C.Source.taken conn.new ≡ C.Source.taken conn.old }
-    ensures write_fault { result ≡ Err HttpError.WriteFault
-        → Rose (C.Source.faults conn.old) (C.Source.faults conn.new) }
-    ensures kinds { IfErr result (λ e. (e ≡ HttpError.WriteFault) ⊎ (e ≡ HttpError.Memory)) }
-    ensures never_falls { C.Source.faults conn.old ≤ C.Source.faults conn.new }
-    ensures sound { C.Source.is_sound conn.old ≡ true
-        → (C.Source.is_sound conn.new ≡ true) × (C.Source.faults conn.new ≡ C.Source.faults conn.old) }
+    ensures said { OnOk result (Appends (C.Source.told conn.old).held (C.Source.told conn.new).held
+        (if expects then continue_text else [])) }
+    ensures front { AppendsFront (C.Source.told conn.old).held (C.Source.told conn.new).held continue_text }
+    ensures keeps { KeepsSink result (C.Source.told conn.old) (C.Source.told conn.new) }
 {
     if expects {
         write_all(conn, b"HTTP/1.1 100 Continue\r\n\r\n")?;
@@ -38,17 +33,17 @@ fn invite<C: Connection>(conn: &mut C, expects: bool) -> Result<(), HttpError>
 /// want of memory or a fault it is exact which one comes, by the bytes that the connection has left, however they
 /// arrive. RFC 9112, sections 2 to 7; RFC 9110, section 10.1.1.
 pub fn read_request<C: Connection>(alloc: Global, conn: &mut C) -> Result<Blob, HttpError>
-    ensures answer { (all : List ℕ) → C.Source.left conn.old ≡ Some all
-        → IfTold result ((said : List ℕ) × Appends (C.held conn.old) (C.held conn.new) said
+    ensures answer { (all : List ℕ) → (C.Source.told conn.old).left ≡ Some all
+        → IfTold result ((said : List ℕ) × Appends (C.Source.told conn.old).held (C.Source.told conn.new).held said
         × IsRequest result said all) }
-    ensures stops { C.Source.taken conn.new ≤ C.Source.taken conn.old + (16385 + most_taken Framing.Chunked) }
-    ensures front { AppendsFront (C.held conn.old) (C.held conn.new) continue_text }
-    ensures read_fault { result ≡ Err HttpError.ReadFault → Rose (C.Source.faults conn.old) (C.Source.faults conn.new) }
+    ensures stops { (C.Source.told conn.new).taken
+        ≤ (C.Source.told conn.old).taken + (16385 + most_taken Framing.Chunked) }
+    ensures front { AppendsFront (C.Source.told conn.old).held (C.Source.told conn.new).held continue_text }
+    ensures read_fault { result ≡ Err HttpError.ReadFault
+        → Rose (C.Source.told conn.old).faults (C.Source.told conn.new).faults }
     ensures write_fault { result ≡ Err HttpError.WriteFault
-        → Rose (C.Source.faults conn.old) (C.Source.faults conn.new) }
-    ensures never_falls { C.Source.faults conn.old ≤ C.Source.faults conn.new }
-    ensures sound { C.Source.is_sound conn.old ≡ true
-        → (C.Source.is_sound conn.new ≡ true) × (C.Source.faults conn.new ≡ C.Source.faults conn.old) }
+        → Rose (C.Source.told conn.old).faults (C.Source.told conn.new).faults }
+    ensures lasts { Lasts (C.Source.told conn.old) (C.Source.told conn.new) }
 {
     let mut input = Input::new(alloc);
     let facts = read_part::<C, HeadOfRequest>(alloc, conn, &mut input)?;

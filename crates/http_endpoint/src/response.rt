@@ -1,10 +1,10 @@
 //! Responses, read from a source (RFC 9112).
 ghost use Rattle.std.specs.Prelude.{◌≡◌, ◌≢◌, ◌≤◌, ◌+◌, ℕ, List, length, max, Some, Err, true};
-ghost use Rattle.rm_base.specs.Count.{Rose};
 ghost use Rattle.http_endpoint.specs.Ahead.{ahead};
 ghost use Rattle.http_endpoint.specs.Part.{IfTold};
 ghost use Rattle.http_endpoint.specs.Messages.{IsFinal, IsResponse};
-ghost use Rattle.http_endpoint.specs.Taken.{most_taken};
+ghost use Rattle.http_endpoint.specs.Kept.{KeepsSource};
+ghost use Rattle.http_endpoint.specs.Taken.{TakesAtMost, most_taken};
 
 use crate::body::{Framing, read_body};
 use crate::error::HttpError;
@@ -28,15 +28,10 @@ fn read_final<S: Source>(
     input: &mut Input,
     facts: ResponseFacts,
 ) -> Result<Response, HttpError>
-    ensures answer { (all : List ℕ) → ahead (S.left from.old) input.old ≡ Some all
+    ensures answer { (all : List ℕ) → ahead (S.told from.old).left input.old ≡ Some all
         → IfTold result (IsFinal result facts all) }
-    ensures stops { S.taken from.new + length input.old
-        ≤ S.taken from.old + max (length input.old) (most_taken Framing.Chunked) }
-    ensures reads { result ≢ Err HttpError.WriteFault }
-    ensures failed { result ≡ Err HttpError.ReadFault → Rose (S.faults from.old) (S.faults from.new) }
-    ensures never_falls { S.faults from.old ≤ S.faults from.new }
-    ensures sound { S.is_sound from.old ≡ true
-        → (S.is_sound from.new ≡ true) × (S.faults from.new ≡ S.faults from.old) }
+    ensures stops { TakesAtMost (most_taken Framing.Chunked) (length input.old) (S.told from.old) (S.told from.new) }
+    ensures keeps { KeepsSource result (S.told from.old) (S.told from.new) }
 {
     let framing = response_framing(facts)?;
     let body = read_body(alloc, from, input, framing)?;
@@ -49,13 +44,9 @@ fn read_final<S: Source>(
 /// Reads one response. One of status 100 is passed over once. Of an error other than want of memory or a fault it is
 /// exact which one comes, by the bytes that the source has left, however they arrive. RFC 9112, sections 2 to 7.
 pub fn read_response<S: Source>(alloc: Global, from: &mut S) -> Result<Response, HttpError>
-    ensures answer { (all : List ℕ) → S.left from.old ≡ Some all → IfTold result (IsResponse result all) }
-    ensures stops { S.taken from.new ≤ S.taken from.old + (32769 + most_taken Framing.Chunked) }
-    ensures reads { result ≢ Err HttpError.WriteFault }
-    ensures failed { result ≡ Err HttpError.ReadFault → Rose (S.faults from.old) (S.faults from.new) }
-    ensures never_falls { S.faults from.old ≤ S.faults from.new }
-    ensures sound { S.is_sound from.old ≡ true
-        → (S.is_sound from.new ≡ true) × (S.faults from.new ≡ S.faults from.old) }
+    ensures answer { (all : List ℕ) → (S.told from.old).left ≡ Some all → IfTold result (IsResponse result all) }
+    ensures stops { (S.told from.new).taken ≤ (S.told from.old).taken + (32769 + most_taken Framing.Chunked) }
+    ensures keeps { KeepsSource result (S.told from.old) (S.told from.new) }
 {
     let mut input = Input::new(alloc);
     let facts = read_part::<S, HeadOfResponse>(alloc, from, &mut input)?;

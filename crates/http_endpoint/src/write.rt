@@ -2,10 +2,10 @@
 ghost use Rattle.std.specs.Prelude.{◌≡◌, ◌≤◌, ℕ, ◌⊎◌, ◌++◌, List, [], Ok, Err, IfOk, IfErr, OnOk, OnErr, length};
 ghost use Rattle.std.specs.Prelude.{decimal, true};
 ghost use Rattle.std.specs.Io.KnownBytes.{Appends};
-ghost use Rattle.rm_base.specs.Count.{Rose};
 ghost use Rattle.rm_base.specs.Outside.{AppendsFront};
 ghost use Rattle.http_endpoint.specs.Texts.{IsWritten, phrase_of, allow_line, type_line_of, type_line, last_lines};
 ghost use Rattle.http_endpoint.specs.Texts.{port_text, response_head, request_head, response_text, request_text};
+ghost use Rattle.http_endpoint.specs.Kept.{KeepsSink};
 
 use crate::error::HttpError;
 use crate::target::Target;
@@ -95,14 +95,9 @@ fn request_head(alloc: Global, target: &Target, len: usize) -> Result<Blob, Memo
 
 // Writes a head, and then a body.
 fn write_both<K: Sink>(out: &mut K, head: &[u8], body: &[u8]) -> Result<(), HttpError>
-    ensures ok { OnOk result (Appends (K.held out.old) (K.held out.new) (head.now ++ body.now)) }
-    ensures err { OnErr result (AppendsFront (K.held out.old) (K.held out.new) (head.now ++ body.now)) }
-    ensures failed { result ≡ Err HttpError.WriteFault → Rose (K.faults out.old) (K.faults out.new) }
-    ensures kinds { IfErr result (λ e. (e ≡ HttpError.WriteFault) ⊎ (e ≡ HttpError.Memory)) }
-    ensures keeps { K.unread out.new ≡ K.unread out.old }
-    ensures never_falls { K.faults out.old ≤ K.faults out.new }
-    ensures sound { K.is_sound out.old ≡ true
-        → (K.is_sound out.new ≡ true) × (K.faults out.new ≡ K.faults out.old) }
+    ensures ok { OnOk result (Appends (K.told out.old).held (K.told out.new).held (head.now ++ body.now)) }
+    ensures err { OnErr result (AppendsFront (K.told out.old).held (K.told out.new).held (head.now ++ body.now)) }
+    ensures keeps { KeepsSink result (K.told out.old) (K.told out.new) }
 {
     write_all(out, head)?;
     write_all(out, body)?;
@@ -117,14 +112,10 @@ pub fn write_response<K: Sink>(
     body: &[u8],
 ) -> Result<(), HttpError>
     requires { IsWritten status }
-    ensures ok { OnOk result (Appends (K.held out.old) (K.held out.new) (response_text status body.now)) }
-    ensures err { OnErr result (AppendsFront (K.held out.old) (K.held out.new) (response_text status body.now)) }
-    ensures failed { result ≡ Err HttpError.WriteFault → Rose (K.faults out.old) (K.faults out.new) }
-    ensures kinds { IfErr result (λ e. (e ≡ HttpError.WriteFault) ⊎ (e ≡ HttpError.Memory)) }
-    ensures keeps { K.unread out.new ≡ K.unread out.old }
-    ensures never_falls { K.faults out.old ≤ K.faults out.new }
-    ensures sound { K.is_sound out.old ≡ true
-        → (K.is_sound out.new ≡ true) × (K.faults out.new ≡ K.faults out.old) }
+    ensures ok { OnOk result (Appends (K.told out.old).held (K.told out.new).held (response_text status body.now)) }
+    ensures err { OnErr result (AppendsFront (K.told out.old).held (K.told out.new).held
+        (response_text status body.now)) }
+    ensures keeps { KeepsSink result (K.told out.old) (K.told out.new) }
 {
     let head = response_head(alloc, status, body.len())?;
     write_both(out, head.as_slice(), body)
@@ -137,14 +128,10 @@ pub fn write_request<K: Sink>(
     target: &Target,
     body: &[u8],
 ) -> Result<(), HttpError>
-    ensures ok { OnOk result (Appends (K.held out.old) (K.held out.new) (request_text target.now body.now)) }
-    ensures err { OnErr result (AppendsFront (K.held out.old) (K.held out.new) (request_text target.now body.now)) }
-    ensures failed { result ≡ Err HttpError.WriteFault → Rose (K.faults out.old) (K.faults out.new) }
-    ensures kinds { IfErr result (λ e. (e ≡ HttpError.WriteFault) ⊎ (e ≡ HttpError.Memory)) }
-    ensures keeps { K.unread out.new ≡ K.unread out.old }
-    ensures never_falls { K.faults out.old ≤ K.faults out.new }
-    ensures sound { K.is_sound out.old ≡ true
-        → (K.is_sound out.new ≡ true) × (K.faults out.new ≡ K.faults out.old) }
+    ensures ok { OnOk result (Appends (K.told out.old).held (K.told out.new).held (request_text target.now body.now)) }
+    ensures err { OnErr result (AppendsFront (K.told out.old).held (K.told out.new).held
+        (request_text target.now body.now)) }
+    ensures keeps { KeepsSink result (K.told out.old) (K.told out.new) }
 {
     let head = request_head(alloc, target, body.len())?;
     write_both(out, head.as_slice(), body)

@@ -2,10 +2,13 @@ pub mod Bytes
 pub mod Count
 pub mod CountLemmas
 pub mod IteratorLemmas
+pub mod Limits
 pub mod Message
 pub mod Numbered
 pub mod NumberSet
 pub mod NumberSetLemmas
 pub mod Outside
 pub mod Roomy
+pub mod StreamLemmas
 pub mod Text
+pub mod TextLemmas

@@ -1,9 +1,28 @@
 -- What sources and sinks show to contracts.
-use Rattle.std.specs.Prelude.{ℕ, ◌≤◌, ◌++◌, Bool, true, if◌then◌else◌, ◌&&◌, ◌==◌, nat_lt, min, List, length, take}
-use Rattle.std.specs.Prelude.{drop, Option, Result, Ok, Err}
+use Rattle.std.specs.Prelude.{◌≡◌, ℕ, ◌≤◌, ◌++◌, Bool, true, false, if◌then◌else◌, ◌&&◌, ◌==◌, nat_lt, min, List}
+use Rattle.std.specs.Prelude.{length, take, drop, Option, None, Some, Result, Ok, Err}
 use Rattle.std.specs.Io.KnownBytes.{Appends, Consumes}
 use Rattle.rm_base.specs.Count.{raised_by}
 use Rattle.rm_base.specs.NumberSet.{has_number}
+
+-- what a source or a sink tells, or a connection, which is both
+pub record Stream : Type 0 where
+  -- the bytes that it has left as a source, where it tells them
+  pub left : Option (List ℕ)
+  -- the bytes that it holds as a sink, where it tells them
+  pub held : Option (List ℕ)
+  -- how many bytes were taken from it, in a u64 that stands still at its greatest value
+  pub taken : ℕ
+  -- how many of its calls failed, or took nothing of a piece that isn't empty, counted in the same way
+  pub faults : ℕ
+  -- it tells that it never fails
+  pub sound : Bool
+
+-- what no call changes otherwise: the count of faults never falls, and stays where a stream tells that it never fails,
+-- which it does for good
+pub record Lasts (old new : Stream) : Type 0 where
+  pub never_falls : old.faults ≤ new.faults
+  pub sound : old.sound ≡ true → (new.sound ≡ true) × (new.faults ≡ old.faults)
 
 -- a source over memory: what is left, which of its calls fail, how many were made and failed, how many bytes were taken
 pub record Reading : Type 0 where
@@ -35,6 +54,42 @@ pub record Reader (R : Type 0) : Type 0 where
 pub record Writer (W : Type 0) : Type 0 where
   pub writer : W
   pub faults : ℕ
+
+-- what a source over memory tells: it never fails where none of its calls is to
+abbrev pub reading_told : Reading → Stream
+reading_told s = record {
+  left = Some s.left;
+  held = None;
+  taken = s.taken;
+  faults = s.faults;
+  sound = length s.fail_at == 0;
+}
+
+-- what a sink over memory tells
+abbrev pub writing_told : Writing → Stream
+writing_told s = record {
+  left = None;
+  held = Some s.written;
+  taken = 0;
+  faults = s.faults;
+  sound = length s.fail_at == 0;
+}
+
+-- what a connection over memory tells
+abbrev pub talking_told : Talking → Stream
+talking_told c = record (reading_told c.reading) { held = Some c.written }
+
+-- what a stream tells that tells no content: how many bytes were taken, and how many of its calls failed
+abbrev pub untold : ℕ → ℕ → Stream
+untold taken faults = record { left = None; held = None; taken = taken; faults = faults; sound = false }
+
+-- what a source over a reader tells
+abbrev pub reader_told : {R : Type 0} → Reader R → Stream
+reader_told s = untold s.taken s.faults
+
+-- what a sink over a writer tells
+abbrev pub writer_told : {W : Type 0} → Writer W → Stream
+writer_told s = untold 0 s.faults
 
 -- the call after so many calls is one of those that fail
 abbrev pub is_to_fail : List ℕ → ℕ → Bool

@@ -1,7 +1,8 @@
 //! A clock that stands at one moment, and the clock of the system.
 ghost use Rattle.std.specs.Prelude.{◌≡◌, ◌≤◌, ℕ, Some, None, IfSome, min};
 
-use crate::outside::{Clock, NOW_MAX};
+use crate::limits::NOW_MAX;
+use crate::outside::Clock;
 use std::marker::Model;
 use std::time::{Clock as SystemClock, SystemTime, UNIX_EPOCH};
 

@@ -5,6 +5,7 @@ ghost use Rattle.std.specs.Io.{ReadsAtMost, WritesAtMost};
 ghost use Rattle.std.specs.Io.KnownBytes.{ReadConsumes, WriteAppends};
 ghost use Rattle.rm_base.specs.Count.{Rose, raised_by};
 ghost use Rattle.rm_base.specs.NumberSet.{has_number};
+ghost use Rattle.rm_base.specs.Outside.{Lasts, reading_told, writing_told, talking_told};
 ghost use Rattle.rm_base.specs.Outside.{is_to_fail, after_call, moved_by, after_read, after_write, after_send};
 
 use crate::blob::Blob;
@@ -75,13 +76,7 @@ impl MemSource {
 }
 
 impl Source for MemSource {
-    ghost left = { λ s. Some s.left };
-
-    ghost faults = { λ s. s.faults };
-
-    ghost taken = { λ s. s.taken };
-
-    ghost is_sound = { λ s. length s.fail_at == 0 };
+    ghost told = { reading_told };
 
     /// Moves as many of the bytes that are left as there is room for.
     fn read(&mut self, buf: &mut [u8]) -> Result<usize, Failed>
@@ -89,10 +84,8 @@ impl Source for MemSource {
         ensures moved { ReadConsumes (Some self.old.left) (Some self.new.left) result buf.new }
         ensures counted { MatchResult result (λ n. self.new.taken ≡ raised_by self.old.taken n)
             (λ _. self.new.taken ≡ self.old.taken) }
-        ensures never_falls { self.old.faults ≤ self.new.faults }
+        ensures lasts { Lasts (reading_told self.old) (reading_told self.new) }
         ensures failed { OnErr result (Rose self.old.faults self.new.faults) }
-        ensures sound { (length self.old.fail_at == 0) ≡ true
-            → ((length self.new.fail_at == 0) ≡ true) × (self.new.faults ≡ self.old.faults) }
         ensures fails { is_err result ≡ is_to_fail self.old.fail_at self.old.calls }
         ensures count { IfOk result (λ n. n ≡ moved_by self.old (length buf.new)) }
         ensures after { self.new ≡ after_read self.old (length buf.new) }
@@ -165,22 +158,16 @@ impl MemSink {
 }
 
 impl Sink for MemSink {
-    ghost held = { λ s. Some s.written };
-
-    ghost faults = { λ s. s.faults };
-
-    ghost is_sound = { λ s. length s.fail_at == 0 };
+    ghost told = { writing_told };
 
     /// Takes the whole piece.
     fn write(&mut self, bytes: &[u8]) -> Result<usize, SinkError>
         ensures bound { WritesAtMost result bytes.now }
         ensures moved { WriteAppends (Some self.old.written) (Some self.new.written) result bytes.now }
-        ensures never_falls { self.old.faults ≤ self.new.faults }
+        ensures lasts { Lasts (writing_told self.old) (writing_told self.new) }
         ensures failed { result ≡ Err SinkError.Failed → Rose self.old.faults self.new.faults }
         ensures nothing { result ≡ Ok 0 → 0 < length bytes.now → Rose self.old.faults self.new.faults }
         ensures memory { true ≡ false → result ≢ Err SinkError.Memory }
-        ensures sound { (length self.old.fail_at == 0) ≡ true
-            → ((length self.new.fail_at == 0) ≡ true) × (self.new.faults ≡ self.old.faults) }
         ensures fails { (result ≡ Err SinkError.Failed) ↔ (is_to_fail self.old.fail_at self.old.calls ≡ true) }
         ensures whole { IfOk result (λ n. n ≡ length bytes.now) }
         ensures after { self.new ≡ after_write self.old bytes.now (is_ok result) }
@@ -236,15 +223,7 @@ impl MemConn {
 }
 
 impl Source for MemConn {
-    ghost left = { λ c. Some c.reading.left };
-
-    ghost sent = { λ c. Some c.written };
-
-    ghost faults = { λ c. c.reading.faults };
-
-    ghost taken = { λ c. c.reading.taken };
-
-    ghost is_sound = { λ c. length c.reading.fail_at == 0 };
+    ghost told = { talking_told };
 
     /// Moves as many of the bytes that are left as there is room for.
     fn read(&mut self, buf: &mut [u8]) -> Result<usize, Failed>
@@ -253,10 +232,8 @@ impl Source for MemConn {
         ensures keeps { Some self.new.written ≡ Some self.old.written }
         ensures counted { MatchResult result (λ n. self.new.reading.taken ≡ raised_by self.old.reading.taken n)
             (λ _. self.new.reading.taken ≡ self.old.reading.taken) }
-        ensures never_falls { self.old.reading.faults ≤ self.new.reading.faults }
+        ensures lasts { Lasts (talking_told self.old) (talking_told self.new) }
         ensures failed { OnErr result (Rose self.old.reading.faults self.new.reading.faults) }
-        ensures sound { (length self.old.reading.fail_at == 0) ≡ true
-            → ((length self.new.reading.fail_at == 0) ≡ true) × (self.new.reading.faults ≡ self.old.reading.faults) }
         ensures fails { is_err result ≡ is_to_fail self.old.reading.fail_at self.old.reading.calls }
         ensures count { IfOk result (λ n. n ≡ moved_by self.old.reading (length buf.new)) }
         ensures after { self.new ≡ record self.old { reading = after_read self.old.reading (length buf.new) } }
@@ -266,15 +243,7 @@ impl Source for MemConn {
 }
 
 impl Sink for MemConn {
-    ghost held = { λ c. Some c.written };
-
-    ghost unread = { λ c. Some c.reading.left };
-
-    ghost taken = { λ c. c.reading.taken };
-
-    ghost faults = { λ c. c.reading.faults };
-
-    ghost is_sound = { λ c. length c.reading.fail_at == 0 };
+    ghost told = { talking_told };
 
     /// Takes the whole piece.
     fn write(&mut self, bytes: &[u8]) -> Result<usize, SinkError>
@@ -282,12 +251,10 @@ impl Sink for MemConn {
         ensures moved { WriteAppends (Some self.old.written) (Some self.new.written) result bytes.now }
         ensures keeps { Some self.new.reading.left ≡ Some self.old.reading.left }
         ensures keeps_taken { self.new.reading.taken ≡ self.old.reading.taken }
-        ensures never_falls { self.old.reading.faults ≤ self.new.reading.faults }
+        ensures lasts { Lasts (talking_told self.old) (talking_told self.new) }
         ensures failed { result ≡ Err SinkError.Failed → Rose self.old.reading.faults self.new.reading.faults }
         ensures nothing { result ≡ Ok 0 → 0 < length bytes.now → Rose self.old.reading.faults self.new.reading.faults }
         ensures memory { true ≡ false → result ≢ Err SinkError.Memory }
-        ensures sound { (length self.old.reading.fail_at == 0) ≡ true
-            → ((length self.new.reading.fail_at == 0) ≡ true) × (self.new.reading.faults ≡ self.old.reading.faults) }
         ensures fails { (result ≡ Err SinkError.Failed)
             ↔ (is_to_fail self.old.reading.fail_at self.old.reading.calls ≡ true) }
         ensures whole { IfOk result (λ n. n ≡ length bytes.now) }
@@ -306,13 +273,5 @@ impl Sink for MemConn {
 impl Connection for MemConn {
     ghost use Rattle.std.specs.Prelude.{refl};
 
-    ghost one_left = { λ c. refl };
-
-    ghost one_held = { λ c. refl };
-
-    ghost one_taken = { λ c. refl };
-
-    ghost one_count = { λ c. refl };
-
-    ghost one_soundness = { λ c. refl };
+    ghost one = { λ c. refl };
 }

@@ -4,9 +4,7 @@ ghost use Rattle.rm_base.specs.Message.{is_number};
 
 use crate::blob::Blob;
 use crate::items::Items;
-
-/// The greatest message number: WS-ReliableMessaging 1.2, section 3.7.
-pub const MAX_NUMBER: u64 = 9223372036854775807;
+use crate::limits::MAX_NUMBER;
 
 /// Whether a message may have this number.
 pub fn is_message_number(number: u64) -> bool

@@ -4,7 +4,7 @@ ghost use Rattle.std.specs.Prelude.{Ok, IsTrue, OnErr, MatchResult, IfOk, is_err
 ghost use Rattle.std.specs.Io.{ReadsAtMost, WritesAtMost};
 ghost use Rattle.std.specs.Io.KnownBytes.{ReadConsumes, WriteAppends};
 ghost use Rattle.rm_base.specs.Count.{Rose, raised_by};
-ghost use Rattle.rm_base.specs.Outside.{counted_if, is_write_fault};
+ghost use Rattle.rm_base.specs.Outside.{Lasts, reader_told, writer_told, counted_if, is_write_fault};
 
 use crate::failures::Failed;
 use crate::outside::{Sink, SinkError, Source};
@@ -41,17 +41,13 @@ impl<R> StdSource<R> {
 }
 
 impl<R: Read> Source for StdSource<R> {
-    ghost left = { λ _. None };
-
-    ghost faults = { λ s. s.faults };
-
-    ghost taken = { λ s. s.taken };
+    ghost told = { reader_told };
 
     fn read(&mut self, buf: &mut [u8]) -> Result<usize, Failed>
         ensures bound { ReadsAtMost result buf.new }
         ensures counted { MatchResult result (λ n. self.new.taken ≡ raised_by self.old.taken n)
             (λ _. self.new.taken ≡ self.old.taken) }
-        ensures never_falls { self.old.faults ≤ self.new.faults }
+        ensures lasts { Lasts (reader_told self.old) (reader_told self.new) }
         ensures failed { OnErr result (Rose self.old.faults self.new.faults) }
         ensures faults { self.new.faults ≡ counted_if (is_err result) self.old.faults }
         ensures reads { ReadConsumes (R.remaining self.old.reader) (R.remaining self.new.reader) result buf.new }
@@ -94,15 +90,13 @@ impl<W> StdSink<W> {
 }
 
 impl<W: Write> Sink for StdSink<W> {
-    ghost held = { λ _. None };
-
-    ghost faults = { λ s. s.faults };
+    ghost told = { writer_told };
 
     ghost wants_memory = { false };
 
     fn write(&mut self, bytes: &[u8]) -> Result<usize, SinkError>
         ensures bound { WritesAtMost result bytes.now }
-        ensures never_falls { self.old.faults ≤ self.new.faults }
+        ensures lasts { Lasts (writer_told self.old) (writer_told self.new) }
         ensures failed { result ≡ Err SinkError.Failed → Rose self.old.faults self.new.faults }
         ensures nothing { result ≡ Ok 0 → 0 < length bytes.now → Rose self.old.faults self.new.faults }
         ensures never_memory { result ≢ Err SinkError.Memory }

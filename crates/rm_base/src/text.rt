@@ -8,17 +8,12 @@ ghost use Rattle.rm_base.specs.declared.text.TextError.TheVariants.{Memory as Wa
 
 use crate::blob::Blob;
 use crate::failures::Memory;
+use crate::limits::{IDENT_BYTES, URI_BYTES};
 use std::alloc::Global;
 use std::marker::Model;
 use std::str;
 use thiserror::Error;
 use xml_chars::{is_char, is_space};
-
-/// The most bytes of an address.
-const URI_BYTES: usize = 2048;
-
-/// The most bytes of an identifier.
-const IDENT_BYTES: usize = 512;
 
 /// Why bytes are no address or no identifier.
 #[derive(Clone, Copy, Debug, PartialEq, Eq, Error)]

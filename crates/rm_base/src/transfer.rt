@@ -3,7 +3,7 @@ ghost use Rattle.std.specs.Prelude.{◌≡◌, ◌≢◌, ℕ, ◌≤◌, ◌+�
 ghost use Rattle.std.specs.Prelude.{IfSome, OnErr, Err, true, false};
 ghost use Rattle.std.specs.Io.KnownBytes.{Appends, IsAtEnd};
 ghost use Rattle.rm_base.specs.Count.{Rose, RoseBy, raised_by};
-ghost use Rattle.rm_base.specs.Outside.{AppendsFront, ConsumesUpTo};
+ghost use Rattle.rm_base.specs.Outside.{AppendsFront, ConsumesUpTo, Lasts};
 ghost use Rattle.rm_base.specs.declared.transfer.ReadError.TheVariants.{Memory as WantsMemory, Failed as ReadFails};
 
 use crate::blob::Blob;
@@ -45,22 +45,23 @@ const PIECE: usize = 65536;
 /// Reads a source to its end, where it has at most `limit` bytes. At most `limit + 1` bytes are taken from it.
 pub fn read_up_to<S: Source>(alloc: Global, input: &mut S, limit: usize) -> Result<Blob, ReadError>
     requires { limit < 2 ^ 62 }
-    ensures at_end { OnOk result (IsAtEnd (S.left input.new)) }
+    ensures at_end { OnOk result (IsAtEnd (S.told input.new).left) }
     ensures within { IfOk result (λ bytes. length bytes ≤ limit) }
-    ensures whole { IfOk result (λ bytes. IfSome (S.left input.old) (λ left. bytes ≡ left)) }
-    ensures too_long { result ≡ Err ReadError.TooLong → RoseBy (S.taken input.old) (S.taken input.new) (limit + 1) }
-    ensures longer { result ≡ Err ReadError.TooLong → IfSome (S.left input.old) (λ left. limit < length left) }
+    ensures whole { IfOk result (λ bytes. IfSome (S.told input.old).left (λ left. bytes ≡ left)) }
+    ensures too_long { result ≡ Err ReadError.TooLong
+        → RoseBy (S.told input.old).taken (S.told input.new).taken (limit + 1) }
+    ensures longer { result ≡ Err ReadError.TooLong → IfSome (S.told input.old).left (λ left. limit < length left) }
     ensures taken { result ≢ Err ReadError.TooLong → result ≢ Err ReadError.Memory
-        → S.taken input.new ≤ S.taken input.old + limit }
-    ensures all_taken { IfOk result (λ bytes. S.taken input.new ≡ raised_by (S.taken input.old) (length bytes)) }
-    ensures one_more { result ≡ Err ReadError.TooLong → S.taken input.new ≡ raised_by (S.taken input.old) (limit + 1) }
-    ensures stops { S.taken input.new ≤ S.taken input.old + (limit + 1) }
-    ensures keeps { S.sent input.new ≡ S.sent input.old }
-    ensures front { ConsumesUpTo (S.left input.old) (S.left input.new) (limit + 1) }
-    ensures failed { result ≡ Err ReadError.Failed → Rose (S.faults input.old) (S.faults input.new) }
-    ensures never_falls { S.faults input.old ≤ S.faults input.new }
-    ensures sound { S.is_sound input.old ≡ true
-        → (S.is_sound input.new ≡ true) × (S.faults input.new ≡ S.faults input.old) }
+        → (S.told input.new).taken ≤ (S.told input.old).taken + limit }
+    ensures all_taken { IfOk result (λ bytes.
+        (S.told input.new).taken ≡ raised_by (S.told input.old).taken (length bytes)) }
+    ensures one_more { result ≡ Err ReadError.TooLong
+        → (S.told input.new).taken ≡ raised_by (S.told input.old).taken (limit + 1) }
+    ensures stops { (S.told input.new).taken ≤ (S.told input.old).taken + (limit + 1) }
+    ensures keeps { (S.told input.new).held ≡ (S.told input.old).held }
+    ensures front { ConsumesUpTo (S.told input.old).left (S.told input.new).left (limit + 1) }
+    ensures failed { result ≡ Err ReadError.Failed → Rose (S.told input.old).faults (S.told input.new).faults }
+    ensures lasts { Lasts (S.told input.old) (S.told input.new) }
 {
     let mut bytes = Blob::new(alloc);
     let mut piece = [0; PIECE];
@@ -77,15 +78,13 @@ pub fn read_up_to<S: Source>(alloc: Global, input: &mut S, limit: usize) -> Resu
 
 /// Writes all bytes, piece by piece as the sink takes them. After an `Err` some first bytes were written.
 pub fn write_all<K: Sink>(out: &mut K, bytes: &[u8]) -> Result<(), SinkError>
-    ensures ok { OnOk result (Appends (K.held out.old) (K.held out.new) bytes.now) }
-    ensures err { OnErr result (AppendsFront (K.held out.old) (K.held out.new) bytes.now) }
-    ensures failed { result ≡ Err SinkError.Failed → Rose (K.faults out.old) (K.faults out.new) }
+    ensures ok { OnOk result (Appends (K.told out.old).held (K.told out.new).held bytes.now) }
+    ensures err { OnErr result (AppendsFront (K.told out.old).held (K.told out.new).held bytes.now) }
+    ensures failed { result ≡ Err SinkError.Failed → Rose (K.told out.old).faults (K.told out.new).faults }
     ensures memory { K.wants_memory ≡ false → result ≢ Err SinkError.Memory }
-    ensures keeps { K.unread out.new ≡ K.unread out.old }
-    ensures keeps_taken { K.taken out.new ≡ K.taken out.old }
-    ensures never_falls { K.faults out.old ≤ K.faults out.new }
-    ensures sound { K.is_sound out.old ≡ true
-        → (K.is_sound out.new ≡ true) × (K.faults out.new ≡ K.faults out.old) }
+    ensures keeps { (K.told out.new).left ≡ (K.told out.old).left }
+    ensures keeps_taken { (K.told out.new).taken ≡ (K.told out.old).taken }
+    ensures lasts { Lasts (K.told out.old) (K.told out.new) }
 {
     let mut written = 0;
     while written < bytes.len() {

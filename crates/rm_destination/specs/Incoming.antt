@@ -106,7 +106,7 @@ close_answer Ended = Err Terminated
 abbrev pub last_number : ℕ → List (ℕ × Payload) → ℕ
 last_number n ms = if n == 0 then greatest_of (numbers_of ms) else n
 
--- the messages are exactly those from 1 to the last number
+-- there is no gap, and they are as many as the last number says
 abbrev pub is_whole : ℕ → List (ℕ × Payload) → Bool
 is_whole n ms = (length (without_gap 0 ms) == last_number n ms) && (length ms == last_number n ms)
 

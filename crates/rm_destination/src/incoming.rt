@@ -15,12 +15,10 @@ ghost use Rattle.rm_destination.specs.Incoming.{stopped_by, close_answer, inbox,
 use crate::arrivals::Arrivals;
 use crate::outcome::{DestError, InPhase, Took};
 use ack_ranges::RangeSet;
+use rm_base::limits::WINDOW;
 use rm_base::{Behaviour, Cause, Memory, Payload};
 use std::alloc::Global;
 use std::marker::Model;
-
-/// Messages further past the front than this are not received.
-pub const WINDOW: u64 = 1024;
 
 /// Why a sequence was closed or ended, and the last number that was told with it, 0 where there was none.
 #[derive(Clone, Copy, Debug)]

@@ -9,5 +9,5 @@ pub mod incoming;
 pub mod laws;
 pub mod outcome;
 
-pub use incoming::{Incoming, WINDOW};
+pub use incoming::Incoming;
 pub use outcome::{DestError, InPhase, Took};

@@ -11,5 +11,5 @@ pub mod phase;
 
 pub use error::SourceError;
 pub use laws::each_is_counted_once;
-pub use outgoing::{Outgoing, WINDOW};
+pub use outgoing::Outgoing;
 pub use phase::OutPhase;

@@ -12,12 +12,10 @@ ghost use Rattle.rm_source.specs.Outgoing.{learn_refusal, with_payload, with_ack
 use crate::error::SourceError;
 use crate::phase::OutPhase;
 use ack_ranges::{RangeSet, ends_are_right};
+use rm_base::limits::WINDOW;
 use rm_base::{Blob, MAX_NUMBER, Memory, RoomyItems};
 use std::alloc::Global;
 use std::marker::Model;
-
-/// No payload is accepted while this many are not acknowledged.
-pub const WINDOW: u64 = 1024;
 
 /// The source's side of one sequence. Room that was made for payloads and ranges to come counts until it is used or
 /// given up.

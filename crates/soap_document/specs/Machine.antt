@@ -111,7 +111,7 @@ stops slashed c = true
 stops ending c = c == greater_than
 stops refused c = true
 
--- a byte order mark, or nothing (4.3.3)
+-- a byte order mark, or nothing (XML 1.0, 4.3.3)
 abbrev pub is_mark : List ℕ → Bool
 is_mark bytes = is_nil bytes || bytes_eq bytes (0xEF ∷ 0xBB ∷ 0xBF ∷ [])
 

@@ -7,12 +7,10 @@ ghost use Rattle.soap_document.specs.Seen.{Counts, Holds};
 
 use crate::attribute::WrittenAttribute;
 use crate::handler::Handler;
+use rm_base::limits::DOCUMENT_DEPTH;
 use rm_base::{Bytes, Memory};
 use std::alloc::Global;
 use std::mem;
-
-/// How many elements may be open at a place.
-const MAX_DEPTH: usize = 100;
 
 /// The written names of the open elements, and what is made of them.
 #[derive(Drop)]
@@ -71,7 +69,7 @@ impl<H: Handler> OpenElements<H> {
         if self.is_outside() {
             !self.begun
         } else {
-            self.names.len() < MAX_DEPTH
+            self.names.len() < DOCUMENT_DEPTH
         }
     }
 

@@ -7,7 +7,3 @@ pub mod frame;
 pub mod laws;
 
 pub use frame::{begin_body, begin_envelope, end_envelope};
-
-// What the contracts here speak of, passed on to the layers above, which need not list these crates.
-pub use soap_envelope as envelopes;
-pub use soap_writer as markup;

@@ -10,6 +10,3 @@ pub use pieces::{
     push_attribute, push_begin, push_bytes, push_close, push_declaration, push_leaf, push_number,
     push_text, push_void,
 };
-
-// What the contracts here speak of, passed on to the layers above, which need not list these crates.
-pub use soap_writer as markup;

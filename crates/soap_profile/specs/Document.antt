@@ -1,6 +1,7 @@
 -- Documents, from their bytes to a tree with expanded names: XML 1.0 and Namespaces in XML 1.0.
 use Rattle.std.specs.Prelude.{◌≡◌, ◌≤◌, ◌<◌, ℕ, List, [], Option, Some, option_map, length, take}
 use Rattle.std.specs.Str.{IsUtf8}
+use Rattle.rm_base.specs.Limits.{envelope_bytes}
 use Rattle.soap_document.specs.Grammar.{IsDocument}
 use Rattle.soap_document.specs.Tree as written
 use Rattle.soap_profile.specs.Namespaces.{resolve}
@@ -31,16 +32,16 @@ pub record IsLongestText (bytes : List ℕ) (n : ℕ) : Type 0 where
 
 -- the bytes are not too many for a document, and are UTF-8
 abbrev pub IsReadable : List ℕ → Type 0
-IsReadable bytes = (length bytes ≤ 2097152) × IsUtf8 bytes
+IsReadable bytes = (length bytes ≤ envelope_bytes) × IsUtf8 bytes
 
 -- they are too many, and this is how many
 abbrev pub IsTooLong : List ℕ → ℕ → Type 0
-IsTooLong bytes len = (2097152 < length bytes) × (len ≡ length bytes)
+IsTooLong bytes len = (envelope_bytes < length bytes) × (len ≡ length bytes)
 
 -- they are not too many, and of their fronts that are UTF-8 the longest has this length
 abbrev pub IsTextUpTo : List ℕ → ℕ → Type 0
-IsTextUpTo bytes place = (length bytes ≤ 2097152) × (place < length bytes) × IsLongestText bytes place
+IsTextUpTo bytes place = (length bytes ≤ envelope_bytes) × (place < length bytes) × IsLongestText bytes place
 
 -- they could be read, but are no document
 abbrev pub HasNoTree : List ℕ → Type 0
-HasNoTree bytes = (length bytes ≤ 2097152) × IsUtf8 bytes × ((tree : Element) → ¬ (Document bytes tree))
+HasNoTree bytes = (length bytes ≤ envelope_bytes) × IsUtf8 bytes × ((tree : Element) → ¬ (Document bytes tree))

@@ -39,7 +39,8 @@ use rm_base::Memory;
 use soap_document::{Bytes, WrittenAttribute, cut};
 use std::alloc::Global;
 
-pub(crate) const XML_SPACE: &[u8] = b"http://www.w3.org/XML/1998/namespace";
+/// The namespace that the prefix `xml` is bound to: Namespaces in XML 1.0, section 3.
+pub const XML_SPACE: &[u8] = b"http://www.w3.org/XML/1998/namespace";
 
 // Up to so many attributes are compared each with each.
 const FEW: usize = 8;

@@ -1,27 +1,26 @@
 //! What a message may carry.
 ghost use Rattle.std.specs.Prelude.{◌≡◌, ◌+◌, [], ◌∷◌, ◌↔◌, ◌&&◌, IsTrue, IfOk, OnOk, length, option_map};
 ghost use Rattle.std.specs.Prelude.{nat_eq, nat_le};
+ghost use Rattle.rm_base.specs.Limits.{content_depth};
 ghost use Rattle.soap_document.specs.Inside.{around};
 ghost use Rattle.soap_document.specs.Machine.{root_of, run, start};
 ghost use Rattle.soap_document.specs.Seen.{fed_len, IsTold, Sees};
 ghost use Rattle.soap_profile.specs.Opened.{rooted};
-ghost use Rattle.soap_profile.specs.Payload.{depth, is_white_outside, IsClosedContent};
+ghost use Rattle.soap_profile.specs.Payload.{depth, height, is_white_outside, IsClosedContent};
 ghost use Rattle.soap_profile.specs.Resolving.{Stands, open_count, root_view};
-ghost use Rattle.soap_profile.specs.View.{parts_view};
+ghost use Rattle.soap_profile.specs.View.{element_view, parts_view};
 
 use crate::place::Place;
 use crate::resolver::{Resolver, Root, root_read};
-use crate::tree::Item;
+use crate::tree::{Element, Item};
 use rm_base::Memory;
+use rm_base::limits::CONTENT_DEPTH;
 use soap_document::laws::{content_makes_a_document, document_is_read, pieces_are_joined};
 use soap_document::{Reader, is_white};
 use std::alloc::Global;
 
-/// How many elements of a payload may stand in one another.
-pub const MAX_PAYLOAD_DEPTH: usize = 90;
-
 /// Whether the bytes are content that is closed under its own declarations: well formed within the profile between a
-/// start tag and an end tag where nothing but `xml` is bound, no deeper than `MAX_PAYLOAD_DEPTH`, and with no text but
+/// start tag and an end tag where nothing but `xml` is bound, no deeper than `CONTENT_DEPTH`, and with no text but
 /// white space beside its elements.
 pub fn check_payload(alloc: Global, bytes: &[u8]) -> Result<bool, Memory>
     ensures { IfOk result (λ answer. IsTrue answer ↔ IsClosedContent bytes.now) }
@@ -67,19 +66,30 @@ fn is_whole(bytes: &[u8], place: Place) -> bool
 }
 
 fn is_payload(items: &[Item]) -> bool
-    ensures { result ≡ (nat_le (depth (parts_view items.now)) 90
+    ensures { result ≡ (nat_le (depth (parts_view items.now)) content_depth
         && is_white_outside (parts_view items.now)) }
 {
-    is_within(items, MAX_PAYLOAD_DEPTH) && is_white_outside(items)
+    are_shallow(items, CONTENT_DEPTH) && is_white_outside(items)
 }
 
-// Whether no more elements than this stand in one another.
+/// Whether no more elements than so many stand in one another, this one counted.
 #[cycle(depth)]
-fn is_within(items: &[Item], levels: usize) -> bool
+pub fn is_shallow(element: &Element, levels: usize) -> bool
+    ensures { result ≡ nat_le (height (element_view element.now)) levels }
+{
+    if levels == 0 {
+        return false;
+    }
+    are_shallow(element.items.as_slice(), levels - 1)
+}
+
+/// Whether no more elements than so many stand in one another among these.
+#[cycle(depth)]
+pub fn are_shallow(items: &[Item], levels: usize) -> bool
     ensures { result ≡ nat_le (depth (parts_view items.now)) levels }
 {
     for item in items {
-        if !is_item_within(item, levels) {
+        if !is_item_shallow(item, levels) {
             return false;
         }
     }
@@ -87,16 +97,11 @@ fn is_within(items: &[Item], levels: usize) -> bool
 }
 
 #[cycle(depth)]
-fn is_item_within(item: &Item, levels: usize) -> bool
+fn is_item_shallow(item: &Item, levels: usize) -> bool
     ensures { result ≡ nat_le (depth (parts_view (item.now ∷ []))) levels }
 {
     match item {
-        Item::Child(element) => {
-            if levels == 0 {
-                return false;
-            }
-            is_within(element.items.as_slice(), levels - 1)
-        }
+        Item::Child(element) => is_shallow(element, levels),
         _ => true,
     }
 }

@@ -10,13 +10,11 @@ use crate::place::Place;
 use crate::resolver::{Resolver, root_read};
 use crate::tree::Element;
 use rm_base::Memory;
+use rm_base::limits::ENVELOPE_BYTES;
 use soap_document::Reader;
 use soap_document::laws::{document_is_read, document_is_utf8};
 use soap_lex::utf8_prefix;
 use std::alloc::Global;
-
-/// How many bytes a document may have.
-pub const MAX_LENGTH: usize = 2097152;
 
 /// A document's tree, and where in the document the content stands of the last element within the root.
 #[derive(Debug, Drop)]
@@ -58,7 +56,7 @@ pub fn read_placed(alloc: Global, bytes: &[u8]) -> Result<Placed, EnvelopeError>
     ensures no_version { result ≢ Err EnvelopeError.WrongVersion }
     ensures no_envelope { result ≢ Err EnvelopeError.NotEnvelope }
 {
-    if bytes.len() > MAX_LENGTH {
+    if bytes.len() > ENVELOPE_BYTES {
         return Err(EnvelopeError::TooLong { len: bytes.len() });
     }
     let refusal = match read_tree(alloc, bytes) {

@@ -1,14 +1,15 @@
 -- Laws: the test of a text tells what a text is, and a text is trimmed.
-use Rattle.std.proofs.Common.{◌≡◌, ℕ, ◌-◌, ◌≤◌, ◌<◌, Bool, true, false, not, ◌&&◌, if◌then◌else◌, List, [], ◌∷◌}
+use Rattle.std.proofs.Common.{◌≡◌, ℕ, ◌-◌, ◌<◌, Bool, true, false, if◌then◌else◌, List, [], ◌∷◌}
 use Rattle.std.proofs.Common.{length, get_or, suc, ap, ◌∙◌, refl, arith, subst, Some, None, nat_lt, nat_le}
 use Rattle.std.specs.Prelude.{slice_index}
 use Rattle.std.specs.List.{list_all}
 use Prim.Native.Nat.{zero}
-use Rattle.std.specs.Str.{is_utf8, chars, IsAscii}
-use Rattle.std.proofs.lemmas.Bool.{and_parts, lt-ltb, le-leb, ltb-true, leb-true}
-use Rattle.std.proofs.lemmas.Str.{is_utf8-from_IsUtf8, IsUtf8-from_is_utf8, IsUtf8-from_ascii, chars-IsAscii}
+use Rattle.std.specs.Str.{IsAscii}
+use Rattle.std.proofs.lemmas.Bool.{and_parts, ltb-true, leb-true}
+use Rattle.std.proofs.lemmas.Str.{IsUtf8-from_ascii, chars-IsAscii}
 use Rattle.xml_chars.specs.Classes.{is_space, is_char}
 use Rattle.rm_base.specs.Text.{IsText, is_text, IsTextError}
+use Rattle.rm_base.specs.TextLemmas.{is_text-IsText, IsText-is_text}
 use Rattle.rm_base.specs.declared.text.TextError.{TextError}
 use Rattle.rm_base.specs.declared.text.TextError.TheVariants as texts
 use Rattle.soap_values.specs.Outcome.{Fails}
@@ -22,52 +23,11 @@ text_trimmed limit bs is = trimmed_same bs is.some is.trimmed.begins is.trimmed.
 -- a text has the value that it is
 pub text_is : (limit : ℕ) (bs : List ℕ) → IsText limit bs → text_within limit bs ≡ Some bs
 unfolding text_within
-text_is limit bs is =
-    let some : nat_lt 0 (length bs) ≡ true = lt-ltb 0 (length bs) is.some in
-    let short : nat_le (length bs) limit ≡ true = le-leb (length bs) limit is.within in
-    let coded : is_utf8 bs ≡ true = is_utf8-from_IsUtf8 bs is.characters.utf8 in
-    let each : list_all is_char (chars bs) ≡ true = is.characters.each in
-    let first : is_space (slice_index bs 0) ≡ false = is.trimmed.begins in
-    let last : is_space (slice_index bs (length bs - 1)) ≡ false = is.trimmed.ends in
-    rw (some, short, coded, each, first, last) refl
-
-false_from : (b : Bool) → not b ≡ true → b ≡ false
-false_from false e = refl
-false_from true e = cc
-
--- each of six tests that are all true
-record Six (a b c d e f : Bool) : Type 0 where
-  one : a ≡ true
-  two : b ≡ true
-  three : c ≡ true
-  four : d ≡ true
-  five : e ≡ true
-  six : f ≡ true
-
-six_from : (a b c d e f : Bool) → (a && b && c && d && e && f) ≡ true → Six a b c d e f
-six_from true true true true true true h =
-    record { one = refl; two = refl; three = refl; four = refl; five = refl; six = refl }
-six_from false b c d e f h = absurd (cc)
-six_from true false c d e f h = absurd (cc)
-six_from true true false d e f h = absurd (cc)
-six_from true true true false e f h = absurd (cc)
-six_from true true true true false f h = absurd (cc)
-six_from true true true true true false h = absurd (cc)
-
-text_tells : (limit : ℕ) (bs : List ℕ) → is_text limit bs ≡ true → IsText limit bs
-text_tells limit bs e =
-    let each = six_from (nat_lt 0 (length bs)) (nat_le (length bs) limit) (is_utf8 bs) (list_all is_char (chars bs))
-    (not (is_space (slice_index bs 0))) (not (is_space (slice_index bs (length bs - 1)))) e in
-    record {
-      some = ltb-true 0 (length bs) each.one;
-      within = leb-true (length bs) limit each.two;
-      characters = record { utf8 = IsUtf8-from_is_utf8 bs each.three; each = each.four };
-      trimmed = record { begins = false_from _ each.five; ends = false_from _ each.six };
-    }
+text_is limit bs is = rw (IsText-is_text limit bs is) refl
 
 none_from : (limit : ℕ) (bs : List ℕ) (b : Bool) → is_text limit bs ≡ b → (IsText limit bs → ⊥)
     → (if b then Some bs else None) ≡ None
-none_from limit bs true e h = absurd (h (text_tells limit bs e))
+none_from limit bs true e h = absurd (h (is_text-IsText limit bs e))
 none_from limit bs false e h = refl
 
 -- why there is no text is a flaw

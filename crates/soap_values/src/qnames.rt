@@ -9,10 +9,8 @@ ghost use Rattle.soap_values.specs.Steps.{lent_trees};
 use crate::flaw::Flaw;
 use rm_base::Binding;
 use soap_document::{cut, is_qname};
-use soap_profile::{Element, Item, Name, Shared};
+use soap_profile::{Element, Item, Name, Shared, XML_SPACE};
 use std::alloc::Global;
-
-const XML_SPACE: &[u8] = b"http://www.w3.org/XML/1998/namespace";
 
 /// The name that bytes are within these elements, the innermost of which comes first, around which the outer bindings
 /// are in force. A name without a prefix is in the default namespace.

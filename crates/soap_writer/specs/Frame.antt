@@ -6,11 +6,11 @@ use Rattle.rm_base.specs.declared.message.Binding.{Binding}
 abbrev pub addressing_space : List ℕ
 addressing_space = codes "http://www.w3.org/2005/08/addressing"
 
--- the namespace of WS-ReliableMessaging 1.2 (section 1.2)
+-- the namespace of WS-ReliableMessaging 1.2 (section 1.4)
 abbrev pub messaging_space : List ℕ
 messaging_space = codes "http://docs.oasis-open.org/ws-rx/wsrm/200702"
 
--- the namespace of WS-MakeConnection 1.1 (section 1.2)
+-- the namespace of WS-MakeConnection 1.1 (section 1.4)
 abbrev pub connection_space : List ℕ
 connection_space = codes "http://docs.oasis-open.org/ws-rx/wsmc/200702"
 

@@ -13,9 +13,7 @@ ghost use Rattle.soap_writer.specs.Steps.{Grows, prefix_text};
 use itoa::Buffer;
 use rm_base::Memory;
 use soap_lex::{write_attr, write_text};
-use soap_profile::{Attr, Item, Name};
-
-const XML_SPACE: &[u8] = b"http://www.w3.org/XML/1998/namespace";
+use soap_profile::{Attr, Item, Name, XML_SPACE};
 
 // The prefix that the namespace of a name is bound to.
 #[derive(Clone, Copy, Debug)]

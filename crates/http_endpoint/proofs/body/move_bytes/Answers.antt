@@ -1,5 +1,6 @@
 use Rattle.std.proofs.Common.{◌≡◌, ◌+◌, ◌-◌, length, ◌∙◌, arith}
 use Rattle.std.proofs.lemmas.Grind.{common_steps}
+use Rattle.rm_base.specs.StreamLemmas.{Lasts-more}
 use Rattle.http_endpoint.specs.Ahead.{ahead}
 use Rattle.http_endpoint.proofs.BodyLemmas.{moved-on, moved-short, moved-long}
 use Rattle.http_endpoint.proofs.body.move_bytes.Goals as goal
@@ -9,17 +10,18 @@ returns-then-not-branch-clause-answer g c =
     let l = c.loop-left in
     let end = c.in_ok-has_more.ensures.at_end (grind (arith, c.if-not-branch.true)) in
     λ all is. moved-short (c.args.size - l.left) l.left c.args.size all c.args.body.now l.body c.has_more.new.self
-    (g.S.Source.left c.has_more.new.from) (ahead (g.S.Source.left l.from) l.input) c.in_ok-has_more.ensures.kept
+    (g.S.Source.told c.has_more.new.from).left (ahead (g.S.Source.told l.from).left l.input)
+    c.in_ok-has_more.ensures.kept
     (omega (arith, l.invariant.bound)) (omega (arith, c.loop-left-test.true)) end.0 end.1 (l.invariant.moved all is)
 
-pub returns-then-len-gt-BODY_LIMIT-clause-answer : goal.returns-then-len-gt-BODY_LIMIT-clause-answer
-returns-then-len-gt-BODY_LIMIT-clause-answer g c =
+pub returns-then-len-gt-ENVELOPE_BYTES-clause-answer : goal.returns-then-len-gt-ENVELOPE_BYTES-clause-answer
+returns-then-len-gt-ENVELOPE_BYTES-clause-answer g c =
     let l = c.loop-left in
     let moved = c.in_ok-count.ensures in
     let held = c.has_more.new.self in
     let mid_long : length c.move_to.new.body ≡ length l.body + c.in_ok-count.count =
     grind (arith, common_steps, moved.body, moved.count) in
-    let counted = c.len-then-len-gt-BODY_LIMIT.ensures in
+    let counted = c.len-then-len-gt-ENVELOPE_BYTES.ensures in
     λ all is. (
       omega (
         arith,
@@ -29,13 +31,15 @@ returns-then-len-gt-BODY_LIMIT-clause-answer g c =
         c.len.ensures,
         c.len-in-loop-left.ensures,
         mid_long,
-        c.if-len-gt-BODY_LIMIT.true,
+        c.if-len-gt-ENVELOPE_BYTES.true,
       ),
       moved-long (c.args.size - l.left) c.in_ok-count.count l.left c.args.size all c.args.body.now l.body held
-          (g.S.Source.left c.has_more.new.from) (ahead (g.S.Source.left l.from) l.input) c.in_ok-has_more.ensures.kept
+          (g.S.Source.told c.has_more.new.from).left (ahead (g.S.Source.told l.from).left l.input)
+          c.in_ok-has_more.ensures.kept
           (omega (arith, l.invariant.bound)) (omega (arith, c.min-room.ensures, moved.count))
           (omega (arith, moved.count))
-          (omega (arith, mid_long, c.len-in-loop-left.ensures, c.if-len-gt-BODY_LIMIT.true)) (l.invariant.moved all is),
+          (omega (arith, mid_long, c.len-in-loop-left.ensures, c.if-len-gt-ENVELOPE_BYTES.true))
+          (l.invariant.moved all is),
     )
 
 pub loop-left-preserved : goal.loop-left-preserved
@@ -50,14 +54,14 @@ loop-left-preserved g c =
     record {
       grown = omega (arith, l.invariant.bound, l.invariant.grown, mid_long, c.min-room.ensures, moved.count);
       bound = omega (arith, l.invariant.bound);
-      within = grind (arith, common_steps, c.if-len-gt-BODY_LIMIT.false);
+      within = grind (arith, common_steps, c.if-len-gt-ENVELOPE_BYTES.false);
       moved = λ all is. moved-on (c.args.size - l.left) c.in_ok-count.count
           (c.args.size - (l.left - c.in_ok-count.count)) all
-          c.args.body.now l.body c.move_to.new.body (g.S.Source.left c.has_more.new.from)
-          (ahead (g.S.Source.left l.from) l.input)
+          c.args.body.now l.body c.move_to.new.body (g.S.Source.told c.has_more.new.from).left
+          (ahead (g.S.Source.told l.from).left l.input)
           held c.move_to.new.self c.in_ok-has_more.ensures.kept (omega (arith, moved.count)) moved.body moved.rest
           (omega (arith, l.invariant.bound, c.min-room.ensures, moved.count))
-          (omega (arith, c.len-in-loop-left.ensures, c.if-len-gt-BODY_LIMIT.false)) (l.invariant.moved all is);
+          (omega (arith, c.len-in-loop-left.ensures, c.if-len-gt-ENVELOPE_BYTES.false)) (l.invariant.moved all is);
       used = omega (
         arith,
         l.invariant.used,
@@ -77,10 +81,8 @@ loop-left-preserved g c =
         c.min-room.ensures,
         c.len.ensures,
       );
-      keeps = c.has_more.ensures.keeps ∙ l.invariant.keeps;
-      faults = omega (arith, l.invariant.faults, c.in_ok-has_more.ensures.never_falls);
-      sound = λ is_sound. let before = l.invariant.sound is_sound in
-          let after = c.in_ok-has_more.ensures.sound before.0 in (after.0, after.1 ∙ before.1);
+      keeps = c.has_more.ensures.keeps.held ∙ l.invariant.keeps;
+      lasts = Lasts-more _ _ _ l.invariant.lasts c.has_more.ensures.keeps.lasts;
     }
 
 pub returns-clause-answer : goal.returns-clause-answer

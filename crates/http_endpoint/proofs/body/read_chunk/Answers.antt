@@ -12,7 +12,7 @@ pub returns-in_err-size-clause-answer : goal.returns-in_err-size-clause-answer
 returns-in_err-size-clause-answer g c = λ all is.
     let e = c.in_err-size.field-0.0 in
     let body = c.args.body.now in
-    let after = ahead (g.S.Source.left c.read_part.new.from) c.read_part.new.input in
+    let after = ahead (g.S.Source.told c.read_part.new.from).left c.read_part.new.input in
     handed-on c.from_residual.result e (λ r. IsChunk all body r body after) c.from_residual.ensures.1
     (stage-stops (List ℕ) 16384 ReadsSize MayBecomeChunkLine all e after
     (λ size behind. EndsBehind (Err e) body size behind)
@@ -24,7 +24,7 @@ returns-in_err-count-clause-answer g c = λ all is.
     let body = c.args.body.now in
     let line = c.in_ok-size.ensures.answer all is in
     let read = c.read_part-then-size-eq0.new in
-    let after = ahead (g.S.Source.left read.from) read.input in
+    let after = ahead (g.S.Source.told read.from).left read.input in
     let stops = stage-stops (List ℕ) 16384 ReadsTrailer MayBecomeSection line.0 e after
     (λ count rest. Err e ≡ ended_by count body)
     (c.in_err-count.ensures.answer line.0 line.1) in
@@ -56,7 +56,7 @@ returns-in_err-move_bytes-clause-answer g c = λ all is.
     let e = c.in_err-move_bytes.field-0.0 in
     let line = c.in_ok-size.ensures.answer all is in
     let new = c.move_bytes.new in
-    let after = ahead (g.S.Source.left new.from) new.input in
+    let after = ahead (g.S.Source.told new.from).left new.input in
     handed-on c.from_residual-in_err-move_bytes.result e (λ r. IsChunk all c.args.body.now r new.body after)
     c.from_residual-in_err-move_bytes.ensures.1
     (data-stops c.args.body.now new.body all c.in_ok-size.size line.0 e after (omega (arith, c.if-size-eq0.false))
@@ -71,7 +71,7 @@ returns-in_err-read_part-clause-answer g c = λ all is.
     let line = c.in_ok-size.ensures.answer all is in
     let moved = c.in_ok-move_bytes.ensures.answer line.0 line.1 in
     let behind = drop size line.0 in
-    let after = ahead (g.S.Source.left c.read_part-2.new.from) c.read_part-2.new.input in
+    let after = ahead (g.S.Source.told c.read_part-2.new.from).left c.read_part-2.new.input in
     let stops = stage-stops (List ℕ) 16384 ReadsBreak IsHalfBreak behind e after (λ _ _. ⊥)
     (c.in_err-read_part.ensures.answer behind moved.after_is) in
     handed-on c.from_residual-in_err-read_part.result e (λ r. IsChunk all body r c.move_bytes.new.body after)

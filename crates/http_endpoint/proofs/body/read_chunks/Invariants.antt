@@ -1,26 +1,25 @@
-use Rattle.std.proofs.Common.{◌≡◌, ℕ, ◌≤◌, ◌+◌, ◌*◌, ◌-◌, List, [], length, max, true, Some, Result}
+use Rattle.std.proofs.Common.{◌≡◌, ℕ, ◌≤◌, ◌+◌, ◌*◌, ◌-◌, List, [], length, max, Some, Result}
 use Rattle.http_endpoint.specs.declared.error.HttpError.{HttpError}
+use Rattle.rm_base.specs.Outside.{Lasts}
 use Rattle.http_endpoint.specs.Ahead.{ahead}
 use Rattle.http_endpoint.specs.Body.{IsChunked}
 use Rattle.http_endpoint.proofs.body.read_chunks.Given as goal
 
 abbrev pub invariant-loop-body : goal.invariant-loop-body
 invariant-loop-body g l =
-    let source = g.S.Source in
+    let told = g.S.Source.told in
     record {
       within : length l.body ≤ 2097152;
       chunks : (result : Result (List ℕ) HttpError) (all : List ℕ)
-          → ahead (source.left l.initial.from) l.initial.input ≡ Some all
-          → (bytes : List ℕ) × (ahead (source.left l.from) l.input ≡ Some bytes)
+          → ahead (told l.initial.from).left l.initial.input ≡ Some all
+          → (bytes : List ℕ) × (ahead (told l.from).left l.input ≡ Some bytes)
           × (IsChunked result l.body bytes → IsChunked result [] all);
-      stops : source.taken l.from + length l.initial.input
-          ≤ source.taken l.initial.from + max (length l.initial.input) (2129922 + 32769 * length l.body);
-      used : source.taken l.from + length l.initial.input
-          ≤ source.taken l.initial.from + (length l.input + 32769 * length l.body);
-      keeps : source.sent l.from ≡ source.sent l.initial.from;
-      faults : source.faults l.initial.from ≤ source.faults l.from;
-      sound : source.is_sound l.initial.from ≡ true
-          → (source.is_sound l.from ≡ true) × (source.faults l.from ≡ source.faults l.initial.from);
+      stops : (told l.from).taken + length l.initial.input
+          ≤ (told l.initial.from).taken + max (length l.initial.input) (2129922 + 32769 * length l.body);
+      used : (told l.from).taken + length l.initial.input
+          ≤ (told l.initial.from).taken + (length l.input + 32769 * length l.body);
+      keeps : (told l.from).held ≡ (told l.initial.from).held;
+      lasts : Lasts (told l.initial.from) (told l.from);
     }
 
 abbrev pub decreases-loop-body : goal.decreases-loop-body

@@ -9,6 +9,6 @@ returns-in_err-move_bytes-clause-answer g c = λ all is.
     let e = c.in_err-move_bytes.field-0.0 in
     let new = c.move_bytes.new in
     handed-on c.from_residual.result e (λ r. IfTold r (IsCounted c.args.size all r)) c.from_residual.ensures.1
-    (counted-stops c.args.size all c.new-body.result new.body e (ahead (g.S.Source.left new.from) new.input)
+    (counted-stops c.args.size all c.new-body.result new.body e (ahead (g.S.Source.told new.from).left new.input)
     c.new-body.ensures
     (c.in_err-move_bytes.ensures.answer all is))

@@ -8,7 +8,8 @@ pub returns-in-Found-clause-answer : goal.returns-in-Found-clause-answer
 returns-in-Found-clause-answer g c =
     let held = c.loop-input.input in
     let text = c.as_slice-then-may_end.result.now in
-    λ all is. found g.P.Part.reads g.P.Part.begun g.met.P.Part.grows (g.S.Source.left c.loop-input.from) text [] held
+    λ all is. found g.P.Part.reads g.P.Part.begun g.met.P.Part.grows (g.S.Source.told c.loop-input.from).left
+    text [] held
     c.skip.new.self all c.in_ok-len.field-0 c.in-Found.len 16384 c.in-Found.out
     (grind (arith, common_steps, c.as_slice-then-may_end.ensures))
     (grind (
@@ -25,7 +26,7 @@ returns-in-Found-3-clause-answer g c =
     let held = c.loop-input.input in
     let text = c.split_at.result.0.now in
     let front : text ≡ take 16384 held = c.split_at.ensures.front ∙ ap (take 16384) c.as_slice-2.ensures in
-    λ all is. found g.P.Part.reads g.P.Part.begun g.met.P.Part.grows (g.S.Source.left c.loop-input.from) text
+    λ all is. found g.P.Part.reads g.P.Part.begun g.met.P.Part.grows (g.S.Source.told c.loop-input.from).left text
     (drop 16384 held) held
     c.skip-in-Found-3.new.self all c.in_ok-len-3.field-0 c.in-Found-3.len 16384 c.in-Found-3.out
     (sym (take-append-drop 16384 held) ∙ ap (λ l. l ++ drop 16384 held) (sym front))
@@ -38,7 +39,7 @@ returns-in-Unfinished-3-clause-answer g c =
     let none = unfinished-none g.P.Part.reads g.P.Part.begun c.split_at.result.0.now (take 16384 held)
     c.in_ok-len-3.field-0
     c.in-Unfinished-3.is (c.in_ok-len-3.ensures) (c.split_at.ensures.front ∙ ap (take 16384) c.as_slice-2.ensures) in
-    λ all is. too_long g.P.Part.reads (g.S.Source.left c.loop-input.from) held all 16384
+    λ all is. too_long g.P.Part.reads (g.S.Source.told c.loop-input.from).left held all 16384
     (grind (arith, common_steps, c.loop-input-test.false, c.as_slice.ensures))
     none (c.loop-input.invariant.still all is)
 
@@ -48,6 +49,6 @@ returns-in-Refused-3-clause-answer g c =
     let none = refused-none g.P.Part.reads g.P.Part.begun c.split_at.result.0.now (take 16384 held)
     c.in_ok-len-3.field-0
     c.in-Refused-3.is (c.in_ok-len-3.ensures) (c.split_at.ensures.front ∙ ap (take 16384) c.as_slice-2.ensures) in
-    λ all is. too_long g.P.Part.reads (g.S.Source.left c.loop-input.from) held all 16384
+    λ all is. too_long g.P.Part.reads (g.S.Source.told c.loop-input.from).left held all 16384
     (grind (arith, common_steps, c.loop-input-test.false, c.as_slice.ensures))
     none (c.loop-input.invariant.still all is)

@@ -13,14 +13,13 @@ returns-in_err-facts-clause-answer g c = λ all is.
     let e = c.in_err-facts.field-0.0 in
     let old = c.args.conn.now in
     let new = c.read_part.new.from in
-    let held = g.C.Sink.held in
-    let one = g.met.C.Connection.one_held in
-    let same : held new ≡ held old = sym (one new) ∙ (c.read_part.ensures.keeps ∙ one old) in
-    let start = ahead-start (g.C.Source.left old) c.new-input.result all is c.new-input.ensures in
+    let told = g.C.Source.told in
+    let same = c.read_part.ensures.keeps.held in
+    let start = ahead-start (told old).left c.new-input.result all is c.new-input.ensures in
     handed-on c.from_residual.result e (λ r. IfTold r
-    ((said : List ℕ) × Appends (held old) (held new) said × IsRequest r said all))
+    ((said : List ℕ) × Appends (told old).held (told new).held said × IsRequest r said all))
     c.from_residual.ensures.1
-    (stops-request all e (ahead (g.C.Source.left new) c.read_part.new.input) (held old) (held new) same
+    (stops-request all e (ahead (told new).left c.read_part.new.input) (told old).held (told new).held same
     (c.in_err-facts.ensures.answer all start))
 
 pub returns-in_err-framing-clause-answer : goal.returns-in_err-framing-clause-answer
@@ -28,15 +27,15 @@ returns-in_err-framing-clause-answer g c = λ all is.
     let e = c.in_err-framing.field-0.0 in
     let old = c.args.conn.now in
     let new = c.read_part.new.from in
-    let held = g.C.Sink.held in
-    let one = g.met.C.Connection.one_held in
-    let same : held new ≡ held old = sym (one new) ∙ (c.read_part.ensures.keeps ∙ one old) in
-    let start = ahead-start (g.C.Source.left old) c.new-input.result all is c.new-input.ensures in
+    let told = g.C.Source.told in
+    let same = c.read_part.ensures.keeps.held in
+    let start = ahead-start (told old).left c.new-input.result all is c.new-input.ensures in
     let head = c.in_ok-facts.ensures.answer all start in
     handed-on c.from_residual-in_err-framing.result e
-    (λ r. IfTold r ((said : List ℕ) × Appends (held old) (held new) said × IsRequest r said all))
+    (λ r. IfTold r ((said : List ℕ) × Appends (told old).held (told new).held said × IsRequest r said all))
     c.from_residual-in_err-framing.ensures.1
-    (refused-request all e c.in_ok-facts.facts head.0 (held old) (held new) same head.2 (sym c.in_err-framing.ensures))
+    (refused-request all e c.in_ok-facts.facts head.0 (told old).held (told new).held same head.2
+    (sym c.in_err-framing.ensures))
 
 pub returns-clause-answer : goal.returns-clause-answer
 returns-clause-answer g c = λ all is.
@@ -45,15 +44,16 @@ returns-clause-answer g c = λ all is.
     let read = c.read_part.new.from in
     let invited = c.invite.new.conn in
     let new = c.read_body.new.from in
-    let held = g.C.Sink.held in
-    let one = g.met.C.Connection.one_held in
-    let before : held read ≡ held old = sym (one read) ∙ (c.read_part.ensures.keeps ∙ one old) in
-    let after : held new ≡ held invited = sym (one new) ∙ (c.read_body.ensures.keeps ∙ one invited) in
-    let start = ahead-start (g.C.Source.left old) c.new-input.result all is c.new-input.ensures in
+    let told = g.C.Source.told in
+    let before = c.read_part.ensures.keeps.held in
+    let after = c.read_body.ensures.keeps.held in
+    let start = ahead-start (told old).left c.new-input.result all is c.new-input.ensures in
     let head = c.in_ok-facts.ensures.answer all start in
-    let kept = ahead-kept (g.C.Source.left read) (g.C.Source.left invited) c.read_part.new.input head.0
-    c.invite.ensures.keeps head.1 in
-    let said = appends-between (held old) (held read) (held invited) (held new) (invitation facts) before after
+    let kept = ahead-kept (told read).left (told invited).left c.read_part.new.input head.0
+    c.invite.ensures.keeps.left head.1 in
+    let said = appends-between (told old).held (told read).held (told invited).held (told new).held
+    (invitation facts) before after
     c.in_ok-invite.ensures.said in
-    taken-request c.read_body.result all facts head.0 c.in_ok-framing.framing (held old) (held new) said head.2
+    taken-request c.read_body.result all facts head.0 c.in_ok-framing.framing (told old).held (told new).held said
+    head.2
     (sym c.in_ok-framing.ensures) (c.read_body.ensures.answer head.0 kept)

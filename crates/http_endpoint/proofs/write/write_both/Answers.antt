@@ -5,10 +5,10 @@ use Rattle.http_endpoint.proofs.write.write_both.Goals as goal
 
 pub returns-in_err-write_all-2-clause-err : goal.returns-in_err-write_all-2-clause-err
 returns-in_err-write_all-2-clause-err g c =
-    let held = g.K.Sink.held in
-    let old = held c.args.out.now in
-    let mid = held c.write_all.new.out in
-    let new = held c.write_all-2.new.out in
+    let told = g.K.Sink.told in
+    let old = (told c.args.out.now).held in
+    let mid = (told c.write_all.new.out).held in
+    let new = (told c.write_all-2.new.out).held in
     on-err c.from_residual-in_err-write_all-2.result (AppendsFront old new (c.args.head.now ++ c.args.body.now))
     (appends-front old mid new c.args.head.now c.args.body.now c.in_ok-write_all.ensures.ok
     c.in_err-write_all-2.ensures.err)

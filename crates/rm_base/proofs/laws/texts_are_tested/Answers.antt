@@ -1,4 +1,4 @@
-use Rattle.rm_base.proofs.TextLemmas.{is_text-IsText, IsText-is_text}
+use Rattle.rm_base.specs.TextLemmas.{is_text-IsText, IsText-is_text}
 use Rattle.rm_base.proofs.laws.texts_are_tested.Goals as goal
 
 pub returns : goal.returns

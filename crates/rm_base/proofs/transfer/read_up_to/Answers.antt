@@ -5,12 +5,12 @@ use Rattle.rm_base.proofs.transfer.read_up_to.Goals as goal
 
 pub returns-in_err-push_all-clause-front : goal.returns-in_err-push_all-clause-front
 returns-in_err-push_all-clause-front g c =
-    let left = g.S.Source.left in
+    let told = g.S.Source.told in
     let l = c.loop-piece in
     let k = c.in_ok-count in
     let piece = take k.count c.read.new.buf in (
       l.bytes ++ piece,
       grind (arith, common_steps, k.ensures.bound),
-      Consumes-more (left c.args.input.now) (left l.input) (left c.read.new.self)
+      Consumes-more (told c.args.input.now).left (told l.input).left (told c.read.new.self).left
           l.bytes piece l.invariant.left k.ensures.moved.0,
     )

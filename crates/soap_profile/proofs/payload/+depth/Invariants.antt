@@ -4,6 +4,6 @@ use Rattle.soap_profile.specs.View.{parts_view}
 use Rattle.soap_profile.proofs.payload.+depth.Given as goal
 
 -- those that are left decide
-abbrev pub invariant-is_within-loop-item : goal.invariant-is_within-loop-item
-invariant-is_within-loop-item l =
+abbrev pub invariant-are_shallow-loop-item : goal.invariant-are_shallow-loop-item
+invariant-are_shallow-loop-item l =
     nat_le (depth (parts_view (drop l.item-index l.items))) l.levels ≡ nat_le (depth (parts_view l.items)) l.levels

@@ -5,7 +5,7 @@ use Rattle.soap_profile.specs.Document.{Document, IsLongestText}
 use Rattle.soap_profile.specs.Tree.{Element as Tree}
 use Rattle.soap_profile.specs.declared.error.EnvelopeError.TheVariants.{Memory as WantsMemory, NotUtf8, NotProfile}
 use Rattle.soap_profile.specs.declared.read.Placed.{Placed}
-use Rattle.soap_profile.specs.declared.read.TheConstants.{MAX_LENGTH}
+use Rattle.rm_base.specs.Limits.{envelope_bytes}
 use Rattle.soap_profile.specs.Answer.{same_front}
 use Rattle.soap_profile.proofs.read.read_placed.Goals.{in-Ok-None, in-Err}
 use Rattle.soap_profile.proofs.read.read_placed.Goals as goal
@@ -19,9 +19,9 @@ returns-then-valid_up_to-bytes-clause-not_utf8 c = λ place.
       longest =
           c.utf8_prefix-valid_up_to.ensures.longest;
     } in
-    let fits : length bytes ≤ MAX_LENGTH = c.if-bytes-gt-MAX_LENGTH.false in
+    let fits : length bytes ≤ envelope_bytes = c.if-bytes-gt-ENVELOPE_BYTES.false in
     let inside : n < length bytes = c.if-valid_up_to-bytes.true in (
-      λ e. let same : n ≡ place = cc in subst (λ (k : ℕ). (length bytes ≤ MAX_LENGTH) × (k < length bytes) ×
+      λ e. let same : n ≡ place = cc in subst (λ (k : ℕ). (length bytes ≤ envelope_bytes) × (k < length bytes) ×
           IsLongestText bytes k) same (fits, inside, longest),
       λ h. ap (λ k. Err (NotUtf8 k)) (same_front bytes n place (omega arith) (omega arith) longest h.2),
     )
@@ -34,7 +34,7 @@ returns-clause-not_profile c = λ e. elim c.match-read_tree.branch [
       c.if-valid_up_to-bytes.false) c.utf8_prefix-valid_up_to.ensures.valid in
       let none : (tree : Tree) → ¬ (Document bytes tree) = subst (λ (o : Option Placed). IfNone o ((tree : Tree) → ¬
       (Document bytes tree))) w.in-Ok-None.field-0-is w.in-Ok-None.ensures.none in
-      (c.if-bytes-gt-MAX_LENGTH.false, utf8, none)
+      (c.if-bytes-gt-ENVELOPE_BYTES.false, utf8, none)
   | in-Err w ↦
       let same : c.match-read_tree.refusal ≡ NotProfile = cc in
       let other : WantsMemory ≡ NotProfile = sym w.into-refusal.ensures ∙ sym w.refusal-is ∙ same in cc

@@ -1,4 +1,4 @@
--- The test of a text decides what a text is.
+-- Lemmas on texts, which the crates above use: the test of a text decides what a text is.
 use Rattle.std.proofs.Common.{◌≡◌, ℕ, ◌-◌, Bool, true, false, not, ◌&&◌, nat_lt, nat_le, List, length, refl, arith}
 use Rattle.std.specs.Prelude.{slice_index}
 use Rattle.std.specs.List.{list_all}
