@@ -6,9 +6,9 @@ use Rattle.std.specs.Str.{bytes_eq}
 use Rattle.soap_profile.specs.Tree.{Element, name_of, attrs_of}
 use Rattle.soap_profile.specs.declared.name.Expanded.{Expanded}
 use Rattle.soap_values.specs.Children.{name_in, is_same, has_name, value_among}
-use Rattle.rm_message.specs.addressing.Addressing.{is_marked, says_so}
-use Rattle.rm_message.specs.addressing.Endpoint.{wsa}
-use Rattle.rm_message.specs.elements.Headers.{header_name}
+use Rattle.wsa_headers.specs.Addressing.{is_marked, says_so}
+use Rattle.wsa_headers.specs.Endpoint.{wsa}
+use Rattle.rm_elements.specs.Headers.{header_name}
 
 -- whether a block is the header of this name: a reference parameter is none, whatever it is called
 abbrev pub is_block : Expanded → Element → Bool

@@ -8,11 +8,11 @@ use Rattle.soap_profile.specs.Tree.{Binding, Element, Parts, children_of}
 use Rattle.soap_profile.specs.declared.name.Expanded.{Expanded}
 use Rattle.soap_values.specs.Children.{name_in, has_name}
 use Rattle.soap_values.specs.Outcome.{◌>>=◌, single}
-use Rattle.rm_message.specs.addressing.Addressing.{first_of}
-use Rattle.rm_message.specs.elements.Lifecycle.{lifecycle_of}
-use Rattle.rm_message.specs.elements.Outcome.{rm, mc}
-use Rattle.rm_message.specs.elements.declared.error.ElementError.{ElementError}
-use Rattle.rm_message.specs.elements.declared.lifecycle.Lifecycle.{Lifecycle}
+use Rattle.wsa_headers.specs.Addressing.{first_of}
+use Rattle.rm_elements.specs.Lifecycle.{lifecycle_of}
+use Rattle.rm_elements.specs.Outcome.{rm, mc}
+use Rattle.rm_elements.specs.declared.error.ElementError.{ElementError}
+use Rattle.rm_elements.specs.declared.lifecycle.Lifecycle.{Lifecycle}
 use Rattle.rm_message.specs.declared.message.Body.{Body}
 use Rattle.rm_message.specs.declared.message.Body.TheVariants as bodies
 use Rattle.message_reader.specs.Faults.{fault_in}

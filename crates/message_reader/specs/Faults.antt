@@ -9,7 +9,7 @@ use Rattle.soap_values.specs.Children.{name_in, children_named}
 use Rattle.soap_values.specs.Outcome.{◌>>=◌}
 use Rattle.soap_values.specs.QNames.{within, qname_in}
 use Rattle.soap_values.specs.Values.{trimmed_text}
-use Rattle.rm_message.specs.addressing.Addressing.{first_of}
+use Rattle.wsa_headers.specs.Addressing.{first_of}
 use Rattle.rm_message.specs.declared.message.FaultBody.{FaultBody}
 use Rattle.rm_message.specs.declared.message.FaultCode.{FaultCode}
 use Rattle.rm_message.specs.declared.message.FaultCode.TheVariants.{VersionMismatch, MustUnderstand}

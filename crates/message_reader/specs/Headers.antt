@@ -1,4 +1,4 @@
--- What the header blocks of WS-ReliableMessaging 1.2 (sections 3.7 to 3.9), WS-MakeConnection 1.1 (3.4) and SOAP 1.2
+-- What the header blocks of WS-ReliableMessaging 1.2 (sections 3.7 to 3.9), WS-MakeConnection 1.1 (3.3) and SOAP 1.2
 -- Part 1 (5.4.8) say, beside those of WS-Addressing.
 use Rattle.std.specs.Prelude.{ℕ, List, [], ◌∷◌, Bool, Option, Some, None, Result, Ok, Err, codes}
 use Rattle.std.specs.List.{flat_map}
@@ -7,13 +7,13 @@ use Rattle.soap_profile.specs.declared.name.Expanded.{Expanded}
 use Rattle.soap_values.specs.Children.{name_in, value_among}
 use Rattle.soap_values.specs.Outcome.{◌>>=◌, optional, each, if_present}
 use Rattle.soap_values.specs.QNames.{within, qname_in}
-use Rattle.rm_message.specs.elements.Headers.{header_of}
-use Rattle.rm_message.specs.elements.Outcome.{rm, mc}
-use Rattle.rm_message.specs.elements.declared.error.ElementError.{ElementError}
-use Rattle.rm_message.specs.elements.declared.error.ElementError.TheVariants.{Rollover}
-use Rattle.rm_message.specs.elements.declared.header.AckBlock.{AckBlock}
-use Rattle.rm_message.specs.elements.declared.header.Header.{Header}
-use Rattle.rm_message.specs.elements.declared.header.Header.TheVariants.{Sequence, Ack, Ask, Pending}
+use Rattle.rm_elements.specs.Headers.{header_of}
+use Rattle.rm_elements.specs.Outcome.{rm, mc}
+use Rattle.rm_elements.specs.declared.error.ElementError.{ElementError}
+use Rattle.rm_elements.specs.declared.error.ElementError.TheVariants.{Rollover}
+use Rattle.rm_elements.specs.declared.header.AckBlock.{AckBlock}
+use Rattle.rm_elements.specs.declared.header.Header.{Header}
+use Rattle.rm_elements.specs.declared.header.Header.TheVariants.{Sequence, Ack, Ask, Pending}
 use Rattle.message_reader.specs.Blocks.{blocks}
 use Rattle.message_reader.specs.declared.headers.Numbered.{Numbered}
 use Rattle.message_reader.specs.declared.headers.Numbered.TheVariants.{Unnumbered, Within, RolledOver}
@@ -70,7 +70,7 @@ abbrev pub numbered_of : Option Element → Option Numbered
 numbered_of None = Some Unnumbered
 numbered_of (Some e) = numbered_from (header_of e)
 
--- the number that a message has in a sequence
+-- the name of a Sequence block
 abbrev pub sequence_name : Expanded
 sequence_name = rm (codes "Sequence")
 
@@ -92,8 +92,7 @@ told_name scope e = do
   qname_in (within (e ∷ []) scope) bytes
 
 -- the names that a peer did not understand, in order, where these bindings are in force in the header; a block without
--- a
--- name is passed over
+-- a name is passed over
 abbrev pub told_names : List ℕ → List Binding → List Element → List Expanded
 told_names soap scope headers =
     flat_map (λ e. listed (told_name scope e)) (blocks (name_in soap (codes "NotUnderstood")) headers)

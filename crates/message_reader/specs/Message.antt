@@ -8,13 +8,13 @@ use Rattle.soap_profile.specs.Tree.{Element}
 use Rattle.soap_profile.specs.declared.name.Expanded.{Expanded}
 use Rattle.soap_envelope.specs.Envelope.{Envelope}
 use Rattle.soap_values.specs.Outcome.{◌>>=◌}
-use Rattle.rm_message.specs.addressing.Addressing.{addressing_in, uri_header}
-use Rattle.rm_message.specs.addressing.Endpoint.{wsa}
-use Rattle.rm_message.specs.addressing.declared.addressing.Addressing.{Addressing}
-use Rattle.rm_message.specs.addressing.declared.error.AddressingError.{AddressingError}
-use Rattle.rm_message.specs.addressing.declared.error.AddressingError.TheVariants as errors
-use Rattle.rm_message.specs.elements.declared.header.AckBlock.{AckBlock}
-use Rattle.rm_message.specs.elements.declared.header.SeqHeader.{SeqHeader}
+use Rattle.wsa_headers.specs.Addressing.{addressing_in, uri_header}
+use Rattle.wsa_headers.specs.Endpoint.{wsa}
+use Rattle.wsa_headers.specs.declared.addressing.Addressing.{Addressing}
+use Rattle.wsa_headers.specs.declared.error.AddressingError.{AddressingError}
+use Rattle.wsa_headers.specs.declared.error.AddressingError.TheVariants as errors
+use Rattle.rm_elements.specs.declared.header.AckBlock.{AckBlock}
+use Rattle.rm_elements.specs.declared.header.SeqHeader.{SeqHeader}
 use Rattle.rm_message.specs.declared.message.Message.{Message}
 use Rattle.message_reader.specs.Blocks.{has_block, not_understood}
 use Rattle.message_reader.specs.Bodies.{fault_at, body_in}

@@ -1,6 +1,6 @@
 -- What the functions below `decode` answer.
 use Rattle.std.specs.Prelude.{◌≡◌, Option, Some, None, option_map, Result, Ok, Err}
-use Rattle.rm_message.specs.addressing.declared.addressing.Addressing.{Addressing}
+use Rattle.wsa_headers.specs.declared.addressing.Addressing.{Addressing}
 use Rattle.rm_message.specs.declared.message.Message.{Message}
 use Rattle.rm_message.specs.declared.refusal.DecodeError.{DecodeError}
 use Rattle.rm_message.specs.declared.refusal.DecodeError.TheVariants as errors

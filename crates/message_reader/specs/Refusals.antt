@@ -4,9 +4,9 @@ use Rattle.std.specs.Prelude.{◌≡◌, ◌≤◌, ◌<◌, ℕ, List, [], leng
 use Rattle.soap_profile.specs.Document.{IsReadable, IsTextUpTo, HasNoTree}
 use Rattle.soap_envelope.specs.Envelope.{Envelope, IsEnvelope}
 use Rattle.soap_envelope.specs.Refusals.{WrongVersion, NotEnvelope}
-use Rattle.rm_message.specs.addressing.Addressing.{or_anonymous}
-use Rattle.rm_message.specs.addressing.declared.addressing.Addressing.{Addressing}
-use Rattle.rm_message.specs.addressing.declared.endpoint.Epr.{Epr}
+use Rattle.wsa_headers.specs.Addressing.{or_anonymous}
+use Rattle.wsa_headers.specs.declared.addressing.Addressing.{Addressing}
+use Rattle.wsa_headers.specs.declared.endpoint.Epr.{Epr}
 use Rattle.rm_message.specs.declared.message.Message.{Message}
 use Rattle.rm_message.specs.declared.refusal.DecodeError.{DecodeError}
 use Rattle.rm_message.specs.declared.refusal.DecodeError.TheVariants.{Memory, Refused}

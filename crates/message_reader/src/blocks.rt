@@ -19,12 +19,12 @@ ghost use Rattle.message_reader.specs.Blocks.{
 };
 
 use rm_base::{Items, Memory};
+use rm_elements::header_name;
 use rm_message::Names;
-use rm_message::addressing::{ADDRESSING, is_parameter};
-use rm_message::elements::header_name;
 use soap_profile::{Element, Name};
 use soap_values::{Flaw, find_value, is_named, is_true_mark};
 use std::alloc::Global;
+use wsa_headers::{ADDRESSING, is_parameter};
 
 fn is_block(block: &Element, space: &[u8], local: &[u8]) -> bool
     ensures { result ≡ is_block_of (name_in space.now local.now) (element_view block.now) }

@@ -4,8 +4,8 @@ ghost use Rattle.soap_profile.specs.Tree.{children_of};
 ghost use Rattle.soap_profile.specs.View.{element_view, parts_view};
 ghost use Rattle.soap_values.specs.Children.{name_in};
 ghost use Rattle.soap_values.specs.Outcome.{Gives, single};
-ghost use Rattle.rm_message.specs.addressing.Addressing.{first_of};
-ghost use Rattle.rm_message.specs.elements.Lifecycle.{lifecycle_of};
+ghost use Rattle.wsa_headers.specs.Addressing.{first_of};
+ghost use Rattle.rm_elements.specs.Lifecycle.{lifecycle_of};
 ghost use Rattle.message_reader.specs.Bodies.{
   if_fault,
   fault_at,
@@ -22,35 +22,11 @@ ghost use Rattle.message_reader.specs.Bodies.{
 
 use crate::fault::read_fault;
 use rm_base::Payload;
-use rm_message::Body;
-use rm_message::elements::{CONNECTION, ElementError, MESSAGING, read_lifecycle};
+use rm_elements::{CONNECTION, ElementError, MESSAGING, read_lifecycle};
+use rm_message::{Body, actions};
 use soap_profile::{Element, Item, Parts};
 use soap_values::{Flaw, is_named};
 use std::alloc::Global;
-
-/// The action of CreateSequence: WS-ReliableMessaging 1.2, section 3.4.
-pub(crate) const CREATE: &[u8] = b"http://docs.oasis-open.org/ws-rx/wsrm/200702/CreateSequence";
-
-const CREATE_RESPONSE: &[u8] =
-    b"http://docs.oasis-open.org/ws-rx/wsrm/200702/CreateSequenceResponse";
-
-const CLOSE: &[u8] = b"http://docs.oasis-open.org/ws-rx/wsrm/200702/CloseSequence";
-
-const CLOSE_RESPONSE: &[u8] = b"http://docs.oasis-open.org/ws-rx/wsrm/200702/CloseSequenceResponse";
-
-const TERMINATE: &[u8] = b"http://docs.oasis-open.org/ws-rx/wsrm/200702/TerminateSequence";
-
-const TERMINATE_RESPONSE: &[u8] =
-    b"http://docs.oasis-open.org/ws-rx/wsrm/200702/TerminateSequenceResponse";
-
-const MAKE: &[u8] = b"http://docs.oasis-open.org/ws-rx/wsmc/200702/MakeConnection";
-
-const ACKNOWLEDGEMENT: &[u8] =
-    b"http://docs.oasis-open.org/ws-rx/wsrm/200702/SequenceAcknowledgement";
-
-const ACK_REQUESTED: &[u8] = b"http://docs.oasis-open.org/ws-rx/wsrm/200702/AckRequested";
-
-const FAULT: &[u8] = b"http://docs.oasis-open.org/ws-rx/wsrm/200702/fault";
 
 // A name: a namespace and a local part.
 type Named = (&'static [u8], &'static [u8]);
@@ -59,25 +35,25 @@ type Named = (&'static [u8], &'static [u8]);
 fn element_for(action: &[u8]) -> Option<Named>
     ensures { option_map (λ name. name_in name.0.now name.1.now) result ≡ element_by action.now }
 {
-    if action == CREATE {
+    if action == actions::CREATE_SEQUENCE {
         return Some((MESSAGING, b"CreateSequence"));
     }
-    if action == CREATE_RESPONSE {
+    if action == actions::CREATE_SEQUENCE_RESPONSE {
         return Some((MESSAGING, b"CreateSequenceResponse"));
     }
-    if action == CLOSE {
+    if action == actions::CLOSE_SEQUENCE {
         return Some((MESSAGING, b"CloseSequence"));
     }
-    if action == CLOSE_RESPONSE {
+    if action == actions::CLOSE_SEQUENCE_RESPONSE {
         return Some((MESSAGING, b"CloseSequenceResponse"));
     }
-    if action == TERMINATE {
+    if action == actions::TERMINATE_SEQUENCE {
         return Some((MESSAGING, b"TerminateSequence"));
     }
-    if action == TERMINATE_RESPONSE {
+    if action == actions::TERMINATE_SEQUENCE_RESPONSE {
         return Some((MESSAGING, b"TerminateSequenceResponse"));
     }
-    if action == MAKE {
+    if action == actions::MAKE_CONNECTION {
         return Some((CONNECTION, b"MakeConnection"));
     }
     None
@@ -87,7 +63,9 @@ fn element_for(action: &[u8]) -> Option<Named>
 fn is_bare(action: &[u8]) -> bool
     ensures { result ≡ is_bare_action action.now }
 {
-    action == ACKNOWLEDGEMENT || action == ACK_REQUESTED || action == FAULT
+    action == actions::SEQUENCE_ACKNOWLEDGEMENT
+        || action == actions::ACK_REQUESTED
+        || action == actions::FAULT
 }
 
 fn is_protocol(action: &[u8]) -> bool

@@ -4,7 +4,7 @@ ghost use Rattle.message_reader.specs.declared.cause.Cause.TheVariants.{Memory a
 
 use rm_base::{Ident, Memory};
 use rm_message::Names;
-use rm_message::addressing::Addressing;
+use wsa_headers::Addressing;
 
 /// Why an envelope has no message. What its fault needs of the message is kept.
 #[derive(Debug, Drop)]

@@ -5,7 +5,7 @@ ghost use Rattle.soap_profile.specs.View.{element_view, parts_view};
 ghost use Rattle.soap_values.specs.Children.{name_in, children_named};
 ghost use Rattle.soap_values.specs.Outcome.{Gives};
 ghost use Rattle.soap_values.specs.Steps.{lent_trees};
-ghost use Rattle.rm_message.specs.addressing.Addressing.{first_of};
+ghost use Rattle.wsa_headers.specs.Addressing.{first_of};
 ghost use Rattle.message_reader.specs.Faults.{
   first_named,
   value_name,

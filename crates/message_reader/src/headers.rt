@@ -1,5 +1,5 @@
 //! What the header blocks say beside those of WS-Addressing: WS-ReliableMessaging 1.2, sections 3.7 to 3.9,
-//! WS-MakeConnection 1.1, section 3.4, and SOAP 1.2 Part 1, section 5.4.8.
+//! WS-MakeConnection 1.1, section 3.3, and SOAP 1.2 Part 1, section 5.4.8.
 ghost use Rattle.std.specs.Prelude.{◌≡◌, ◌++◌, map, option_map, IfOk, OnOk, Some};
 ghost use Rattle.std.specs.List.{flat_map};
 ghost use Rattle.soap_profile.specs.View.{element_view};
@@ -21,9 +21,7 @@ ghost use Rattle.message_reader.specs.Headers.{
 
 use crate::blocks::{find_block, find_blocks};
 use rm_base::{Binding, Ident, Items, Memory};
-use rm_message::elements::{
-    AckBlock, CONNECTION, ElementError, Header, MESSAGING, SeqHeader, read_header,
-};
+use rm_elements::{AckBlock, CONNECTION, ElementError, Header, MESSAGING, SeqHeader, read_header};
 use rm_message::{Acks, Idents, Names};
 use soap_profile::{Element, Name};
 use soap_values::{Flaw, find_value, read_qname};

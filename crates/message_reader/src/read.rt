@@ -3,7 +3,7 @@ ghost use Rattle.std.specs.Prelude.{◌≡◌, codes, map, IfOk};
 ghost use Rattle.soap_profile.specs.View.{element_view};
 ghost use Rattle.soap_envelope.specs.View.{envelope_view};
 ghost use Rattle.soap_values.specs.Outcome.{Gives};
-ghost use Rattle.rm_message.specs.addressing.Addressing.{uri_header};
+ghost use Rattle.wsa_headers.specs.Addressing.{uri_header};
 ghost use Rattle.message_reader.specs.Message.{
   is_create as is_create_by,
   has_fault as has_fault_by,
@@ -18,21 +18,19 @@ ghost use Rattle.message_reader.specs.Message.{
 ghost use Rattle.message_reader.specs.Outcome.{Answers};
 
 use crate::blocks::{find_block, has_block, not_understood};
-use crate::body::{CREATE, find_fault, items_of, read_body};
+use crate::body::{find_fault, items_of, read_body};
 use crate::cause::Cause;
 use crate::headers::{
     Numbered, read_acks, read_asks, read_numbered, read_pending, read_told_names,
 };
 use rm_base::Memory;
-use rm_message::addressing::{
-    ADDRESSING, Addressing, AddressingError, read_address_of, read_addressing,
-};
-use rm_message::elements::{MESSAGING, SeqHeader};
-use rm_message::{Acks, Body, Idents, Message, Names};
+use rm_elements::{MESSAGING, SeqHeader};
+use rm_message::{Acks, Body, Idents, Message, Names, actions};
 use soap_envelope::Envelope;
 use soap_profile::Element;
 use soap_values::Flaw;
 use std::alloc::Global;
+use wsa_headers::{ADDRESSING, Addressing, AddressingError, read_address_of, read_addressing};
 
 /// What a message has beside its addressing properties.
 #[derive(Debug, Drop)]
@@ -57,7 +55,7 @@ fn is_create(alloc: Global, headers: &[Element]) -> Result<bool, Memory>
         Err(Flaw::Malformed) => return Ok(false),
     };
     match read_address_of(alloc, block) {
-        Ok(action) => Ok(action.as_slice() == CREATE),
+        Ok(action) => Ok(action.as_slice() == actions::CREATE_SEQUENCE),
         Err(Flaw::Memory) => Err(Memory),
         Err(Flaw::Malformed) => Ok(false),
     }

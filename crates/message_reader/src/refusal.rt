@@ -1,7 +1,7 @@
 //! Refusals, with where their faults go: WS-Addressing 1.0 Core, section 3.4.
 ghost use Rattle.std.specs.Prelude.{◌≡◌, Option, Some, None, option_map, IfOk};
 ghost use Rattle.soap_values.specs.Outcome.{Gives};
-ghost use Rattle.rm_message.specs.addressing.Addressing.{or_anonymous};
+ghost use Rattle.wsa_headers.specs.Addressing.{or_anonymous};
 ghost use Rattle.message_reader.specs.Outcome.{wrong_of};
 ghost use Rattle.message_reader.specs.Refusals.{
   anonymous as back_on_the_connection,
@@ -13,11 +13,11 @@ ghost use Rattle.message_reader.specs.Refusals.{
 
 use crate::cause::Cause;
 use rm_base::{Ident, Items, Memory, Uri};
-use rm_message::addressing::{Addressing, Epr};
 use rm_message::{FaultKind, Names, Refusal};
 use soap_profile::Elements;
 use soap_values::{Flaw, read_uri};
 use std::alloc::Global;
+use wsa_headers::{Addressing, Epr};
 
 const ANONYMOUS: &[u8] = b"http://www.w3.org/2005/08/addressing/anonymous";
 

@@ -13,24 +13,24 @@ use Rattle.soap_profile.specs.Namespaces.{bound}
 use Rattle.soap_profile.specs.Payload.{IsClosedContent}
 use Rattle.soap_profile.specs.Tree.{Element, Parts, none, child}
 use Rattle.soap_profile.specs.declared.name.Expanded.{Expanded}
-use Rattle.soap_frame.specs.envelopes.Envelope.{IsEnvelope}
-use Rattle.soap_frame.specs.markup.Frame.{frame_scope}
-use Rattle.soap_frame.specs.markup.ReadBack.{ReadsAs, ContentReadsAs}
-use Rattle.soap_frame.specs.markup.Writable.{IsNameWritable}
+use Rattle.soap_envelope.specs.Envelope.{IsEnvelope}
+use Rattle.soap_writer.specs.Frame.{frame_scope}
+use Rattle.soap_writer.specs.ReadBack.{ReadsAs, ContentReadsAs}
+use Rattle.soap_writer.specs.Writable.{IsNameWritable}
 use Rattle.soap_frame.specs.Framed.{Block, IsBlock, MayBeSoap, bytes_of, trees_of, framed_text, framed_envelope}
 use Rattle.soap_nodes.specs.Good.{IsGood, AreGood}
 use Rattle.soap_nodes.specs.Node.{Node, Nodes, nothing, words, more, node_text, node_tree}
-use Rattle.rm_message.specs.addressing.Texts.{addressing_nodes}
-use Rattle.rm_message.specs.addressing.Writable.{IsAddressingWritable}
-use Rattle.rm_message.specs.addressing.declared.addressing.Addressing.{Addressing}
-use Rattle.rm_message.specs.elements.Texts.{header_node, sequence_node, ack_node, ask_node, pending_node}
-use Rattle.rm_message.specs.elements.Texts.{lifecycle_node}
-use Rattle.rm_message.specs.elements.Writable.{IsHeaderWritable, IsSequenceWritable, IsAckWritable, IsLifecycleWritable}
-use Rattle.rm_message.specs.elements.declared.header.AckBlock.{AckBlock}
-use Rattle.rm_message.specs.elements.declared.header.Header.{Header}
-use Rattle.rm_message.specs.elements.declared.header.Header.TheVariants as headers
-use Rattle.rm_message.specs.elements.declared.header.SeqHeader.{SeqHeader}
-use Rattle.rm_message.specs.elements.declared.lifecycle.Lifecycle.{Lifecycle}
+use Rattle.wsa_headers.specs.Texts.{addressing_nodes}
+use Rattle.wsa_headers.specs.Writable.{IsAddressingWritable}
+use Rattle.wsa_headers.specs.declared.addressing.Addressing.{Addressing}
+use Rattle.rm_elements.specs.Texts.{header_node, sequence_node, ack_node, ask_node, pending_node}
+use Rattle.rm_elements.specs.Texts.{lifecycle_node}
+use Rattle.rm_elements.specs.Writable.{IsHeaderWritable, IsSequenceWritable, IsAckWritable, IsLifecycleWritable}
+use Rattle.rm_elements.specs.declared.header.AckBlock.{AckBlock}
+use Rattle.rm_elements.specs.declared.header.Header.{Header}
+use Rattle.rm_elements.specs.declared.header.Header.TheVariants as headers
+use Rattle.rm_elements.specs.declared.header.SeqHeader.{SeqHeader}
+use Rattle.rm_elements.specs.declared.lifecycle.Lifecycle.{Lifecycle}
 use Rattle.rm_message.specs.declared.message.Body.{Body}
 use Rattle.rm_message.specs.declared.message.Body.TheVariants as body
 use Rattle.rm_message.specs.declared.message.Message.{Message}

@@ -18,12 +18,12 @@ use Rattle.soap_document.specs.Tokens.{is_nil}
 use Rattle.soap_profile.specs.Namespaces.{xml_space, xmlns_space, may_bind}
 use Rattle.soap_profile.specs.Tree.{Element}
 use Rattle.soap_profile.specs.declared.name.Expanded.{Expanded}
-use Rattle.soap_frame.specs.markup.Frame.{frame_scope}
-use Rattle.soap_frame.specs.markup.Plain.{chars_from}
-use Rattle.soap_frame.specs.markup.Writable.{IsNameWritable, IsTextWritable}
+use Rattle.soap_writer.specs.Frame.{frame_scope}
+use Rattle.soap_writer.specs.Plain.{chars_from}
+use Rattle.soap_writer.specs.Writable.{IsNameWritable, IsTextWritable}
 use Rattle.soap_nodes.specs.Good.{IsTagGood, IsGood, AreGood}
 use Rattle.soap_nodes.specs.Node.{tag_name, plain, declared, Nodes, nothing}
-use Rattle.rm_message.specs.addressing.Texts.{params_nodes}
+use Rattle.wsa_headers.specs.Texts.{params_nodes}
 use Rattle.rm_message.specs.declared.message.FaultBody.{FaultBody}
 use Rattle.rm_message.specs.declared.message.FaultCode.{FaultCode}
 use Rattle.rm_message.specs.declared.message.FaultCode.TheVariants.{VersionMismatch, MustUnderstand}

@@ -8,7 +8,7 @@ use Rattle.xml_chars.specs.Classes.{is_char, is_space}
 use Rattle.rm_base.specs.Text.{IsText}
 use Rattle.soap_lex.specs.Characters.{IsChars}
 use Rattle.soap_lex.specs.Scalars.{all_scalar, is_char-scalar, IsUtf8-IsChars}
-use Rattle.soap_frame.specs.markup.Plain.{is_plain_text, chars_from}
+use Rattle.soap_writer.specs.Plain.{is_plain_text, chars_from}
 
 all_each : (cs : List ℕ) → AllByRecursion (λ c. IsTrue (is_char c)) cs → list_all is_char cs ≡ true
 all_each [] each = refl

@@ -5,11 +5,11 @@ use Rattle.std.specs.Prelude.{true}
 use Rattle.soap_lex.specs.Escapes.{escaped_text}
 use Rattle.soap_profile.specs.Tree.{Element}
 use Rattle.soap_nodes.specs.Node.{Nodes, full, whole, leaf, node_text, nodes_text}
-use Rattle.rm_message.specs.addressing.Texts.{tag_of, params_nodes, epr_nodes, uri_before, epr_before, addressing_nodes}
-use Rattle.rm_message.specs.addressing.declared.addressing.Addressing.{Addressing}
-use Rattle.rm_message.specs.addressing.declared.endpoint.Epr.{Epr}
-use Rattle.rm_message.specs.addressing.declared.tag.Tag.{Tag}
-use Rattle.rm_message.specs.addressing.declared.tag.Tag.TheVariants as tags
+use Rattle.wsa_headers.specs.Texts.{tag_of, params_nodes, epr_nodes, uri_before, epr_before, addressing_nodes}
+use Rattle.wsa_headers.specs.declared.addressing.Addressing.{Addressing}
+use Rattle.wsa_headers.specs.declared.endpoint.Epr.{Epr}
+use Rattle.wsa_headers.specs.declared.tag.Tag.{Tag}
+use Rattle.wsa_headers.specs.declared.tag.Tag.TheVariants as tags
 use Rattle.rm_message.specs.declared.message.Message.{Message}
 use Rattle.message_writer.specs.Text.{node_list, header_blocks, blocks_text, words_of}
 use Rattle.message_writer.specs.Steps.{other_text}

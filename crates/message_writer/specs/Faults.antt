@@ -6,11 +6,11 @@ use Rattle.std.specs.Option.{option_to_list}
 use Rattle.soap_envelope.specs.Soap.{soap_space}
 use Rattle.soap_profile.specs.Tree.{Element}
 use Rattle.soap_profile.specs.declared.name.Expanded.{Expanded}
-use Rattle.soap_frame.specs.markup.Frame.{addressing_space, messaging_space, connection_space}
+use Rattle.soap_writer.specs.Frame.{addressing_space, messaging_space, connection_space}
 use Rattle.soap_nodes.specs.Node.{leaf, node_tree}
-use Rattle.rm_message.specs.addressing.declared.addressing.Addressing.{Addressing}
-use Rattle.rm_message.specs.elements.Texts.{r, identifier_node, ack_node}
-use Rattle.rm_message.specs.elements.declared.header.AckBlock.{AckBlock}
+use Rattle.wsa_headers.specs.declared.addressing.Addressing.{Addressing}
+use Rattle.rm_elements.specs.Texts.{r, identifier_node, ack_node}
+use Rattle.rm_elements.specs.declared.header.AckBlock.{AckBlock}
 use Rattle.message_writer.specs.declared.table.Vocabulary.{Vocabulary}
 use Rattle.message_writer.specs.declared.table.Vocabulary.TheVariants.{OfSoap, OfAddressing, OfMessaging, OfConnection}
 use Rattle.rm_message.specs.declared.message.Body.TheVariants as body
@@ -21,6 +21,7 @@ use Rattle.rm_message.specs.declared.message.Message.{Message}
 use Rattle.rm_message.specs.declared.refusal.FaultKind.{FaultKind}
 use Rattle.rm_message.specs.declared.refusal.FaultKind.TheVariants as kinds
 use Rattle.rm_message.specs.declared.refusal.Refusal.{Refusal}
+use Rattle.rm_message.specs.Kinds.{kind_name}
 
 -- ---- the table
 
@@ -49,33 +50,35 @@ with_inner reason code whose local inner =
 
 -- each kind's row
 abbrev pub table : FaultKind → Row
-table kinds.TooLong = plain (codes "TooLong") Sender
-table kinds.NotUtf8 = plain (codes "NotUtf8") Sender
-table kinds.NotProfile = plain (codes "NotProfile") Sender
-table kinds.WrongVersion = plain (codes "WrongVersion") VersionMismatch
-table kinds.NotEnvelope = plain (codes "NotEnvelope") Sender
-table kinds.NotUnderstood = plain (codes "NotUnderstood") MustUnderstand
+table kinds.TooLong = plain (kind_name kinds.TooLong) Sender
+table kinds.NotUtf8 = plain (kind_name kinds.NotUtf8) Sender
+table kinds.NotProfile = plain (kind_name kinds.NotProfile) Sender
+table kinds.WrongVersion = plain (kind_name kinds.WrongVersion) VersionMismatch
+table kinds.NotEnvelope = plain (kind_name kinds.NotEnvelope) Sender
+table kinds.NotUnderstood = plain (kind_name kinds.NotUnderstood) MustUnderstand
 table kinds.Cardinality =
-    with_inner (codes "Cardinality") Sender OfAddressing (codes "InvalidAddressingHeader") (codes "InvalidCardinality")
+    with_inner (kind_name kinds.Cardinality) Sender OfAddressing (codes "InvalidAddressingHeader")
+    (codes "InvalidCardinality")
 table kinds.HeaderMissing =
-    with_subcode (codes "HeaderMissing") Sender OfAddressing (codes "MessageAddressingHeaderRequired")
-table kinds.BadHeader = with_subcode (codes "BadHeader") Sender OfAddressing (codes "InvalidAddressingHeader")
-table kinds.Malformed = plain (codes "Malformed") Sender
-table kinds.Rollover = with_subcode (codes "Rollover") Sender OfMessaging (codes "MessageNumberRollover")
-table kinds.WsrmRequired = with_subcode (codes "WsrmRequired") Sender OfMessaging (codes "WSRMRequired")
-table kinds.UnknownSequence = with_subcode (codes "UnknownSequence") Sender OfMessaging (codes "UnknownSequence")
+    with_subcode (kind_name kinds.HeaderMissing) Sender OfAddressing (codes "MessageAddressingHeaderRequired")
+table kinds.BadHeader = with_subcode (kind_name kinds.BadHeader) Sender OfAddressing (codes "InvalidAddressingHeader")
+table kinds.Malformed = plain (kind_name kinds.Malformed) Sender
+table kinds.Rollover = with_subcode (kind_name kinds.Rollover) Sender OfMessaging (codes "MessageNumberRollover")
+table kinds.WsrmRequired = with_subcode (kind_name kinds.WsrmRequired) Sender OfMessaging (codes "WSRMRequired")
+table kinds.UnknownSequence =
+    with_subcode (kind_name kinds.UnknownSequence) Sender OfMessaging (codes "UnknownSequence")
 table kinds.SequenceTerminated =
-    with_subcode (codes "SequenceTerminated") Sender OfMessaging (codes "SequenceTerminated")
-table kinds.SequenceClosed = with_subcode (codes "SequenceClosed") Sender OfMessaging (codes "SequenceClosed")
+    with_subcode (kind_name kinds.SequenceTerminated) Sender OfMessaging (codes "SequenceTerminated")
+table kinds.SequenceClosed = with_subcode (kind_name kinds.SequenceClosed) Sender OfMessaging (codes "SequenceClosed")
 table kinds.InvalidAcknowledgement =
-    with_subcode (codes "InvalidAcknowledgement") Sender OfMessaging (codes "InvalidAcknowledgement")
+    with_subcode (kind_name kinds.InvalidAcknowledgement) Sender OfMessaging (codes "InvalidAcknowledgement")
 table kinds.CreateSequenceRefused =
-    with_subcode (codes "CreateSequenceRefused") Receiver OfMessaging (codes "CreateSequenceRefused")
+    with_subcode (kind_name kinds.CreateSequenceRefused) Receiver OfMessaging (codes "CreateSequenceRefused")
 table kinds.MissingSelection =
-    with_subcode (codes "MissingSelection") Receiver OfConnection (codes "MissingSelection")
+    with_subcode (kind_name kinds.MissingSelection) Receiver OfConnection (codes "MissingSelection")
 table kinds.UnsupportedSelection =
-    with_subcode (codes "UnsupportedSelection") Receiver OfConnection (codes "UnsupportedSelection")
-table kinds.StoreFull = plain (codes "StoreFull") Receiver
+    with_subcode (kind_name kinds.UnsupportedSelection) Receiver OfConnection (codes "UnsupportedSelection")
+table kinds.StoreFull = plain (kind_name kinds.StoreFull) Receiver
 
 -- the action of faults of a vocabulary: SOAP Binding, section 6.2, WS-ReliableMessaging 1.2, section 4, and
 -- WS-MakeConnection 1.1, section 4; those of SOAP have that of SOAP Binding, section 6.1
@@ -98,19 +101,20 @@ named whose local = record { space = space_of whose; local = local }
 
 -- ---- what goes with a fault
 
--- Identifier (WS-ReliableMessaging 1.2, 3.4) and MaxMessageNumber (4.3) as elements
+-- Identifier as an element (WS-ReliableMessaging 1.2, 3.4)
 abbrev pub ident_element : List ℕ → Element
 ident_element ident = node_tree soap_space (identifier_node ident)
 
--- MaxMessageNumber (4.3)
+-- MaxMessageNumber (WS-ReliableMessaging 1.2, 4.5)
 abbrev pub max_element : Element
 max_element = node_tree soap_space (leaf (r (codes "MaxMessageNumber")) (codes "9223372036854775807"))
 
--- SequenceAcknowledgement (3.9)
+-- SequenceAcknowledgement (WS-ReliableMessaging 1.2, 3.9)
 abbrev pub ack_element : AckBlock → Element
 ack_element block = node_tree soap_space (ack_node block)
 
--- Detail (4.2 to 4.7): the sequence that the fault speaks of, or the first acknowledgement that is refused
+-- Detail (WS-ReliableMessaging 1.2, 4.2 to 4.7): the sequence that the fault speaks of, or the first acknowledgement
+-- that is refused
 abbrev pub detail_of : FaultKind → Option (List ℕ) → Option AckBlock → List Element
 detail_of kinds.Rollover ident block = option_to_list (option_map ident_element ident) ++ max_element ∷ []
 detail_of kinds.UnknownSequence ident block = option_to_list (option_map ident_element ident)
@@ -119,7 +123,7 @@ detail_of kinds.SequenceClosed ident block = option_to_list (option_map ident_el
 detail_of kinds.InvalidAcknowledgement ident block = option_to_list (option_map ack_element block)
 detail_of _ ident block = []
 
--- SequenceClosed carries the final acknowledgement as a header (3.5)
+-- SequenceClosed carries the final acknowledgement as a header (WS-ReliableMessaging 1.2, 3.5)
 abbrev pub acks_of : FaultKind → Option AckBlock → List AckBlock
 acks_of kinds.SequenceClosed block = option_to_list block
 acks_of _ block = []

@@ -8,19 +8,19 @@ use Rattle.soap_lex.specs.Characters.{IsChars}
 use Rattle.soap_profile.specs.Payload.{height, IsClosedContent}
 use Rattle.soap_profile.specs.Tree.{Element, Parts, none, child, name_of, children_of}
 use Rattle.soap_profile.specs.declared.name.Expanded.{Expanded}
-use Rattle.soap_frame.specs.envelopes.Envelope.{Envelope, name_in}
-use Rattle.soap_frame.specs.markup.Writable.{IsNameWritable, IsWritable}
+use Rattle.soap_envelope.specs.Envelope.{Envelope, name_in}
+use Rattle.soap_writer.specs.Writable.{IsNameWritable, IsWritable}
 use Rattle.soap_frame.specs.Framed.{sorted_scope, framed_envelope}
 use Rattle.soap_nodes.specs.Node.{node_tree}
-use Rattle.rm_message.specs.values.Values.{trimmed}
-use Rattle.rm_message.specs.addressing.Addressing.{first_of}
-use Rattle.rm_message.specs.addressing.Writable.{IsAddressingWritable}
-use Rattle.rm_message.specs.addressing.declared.addressing.Addressing.{Addressing}
-use Rattle.rm_message.specs.elements.Texts.{lifecycle_node}
-use Rattle.rm_message.specs.elements.Writable.{IsSequenceWritable, IsAckWritable, IsLifecycleWritable}
-use Rattle.rm_message.specs.elements.declared.header.SeqHeader.{SeqHeader}
-use Rattle.rm_message.specs.elements.declared.lifecycle.Lifecycle.{Lifecycle}
-use Rattle.rm_message.specs.elements.declared.lifecycle.Lifecycle.TheVariants as life
+use Rattle.soap_values.specs.Values.{trimmed}
+use Rattle.wsa_headers.specs.Addressing.{first_of}
+use Rattle.wsa_headers.specs.Writable.{IsAddressingWritable}
+use Rattle.wsa_headers.specs.declared.addressing.Addressing.{Addressing}
+use Rattle.rm_elements.specs.Texts.{lifecycle_node}
+use Rattle.rm_elements.specs.Writable.{IsSequenceWritable, IsAckWritable, IsLifecycleWritable}
+use Rattle.rm_elements.specs.declared.header.SeqHeader.{SeqHeader}
+use Rattle.rm_elements.specs.declared.lifecycle.Lifecycle.{Lifecycle}
+use Rattle.rm_elements.specs.declared.lifecycle.Lifecycle.TheVariants as life
 use Rattle.rm_message.specs.declared.message.Body.{Body}
 use Rattle.rm_message.specs.declared.message.Body.TheVariants as body
 use Rattle.rm_message.specs.declared.message.FaultBody.{FaultBody}

@@ -14,15 +14,14 @@ ghost use Rattle.message_writer.specs.Faults.{
   addressing_of,
 };
 
-use crate::copies::{copy_elements, copy_uri, uri_of};
-use crate::table::{Vocabulary, code, inner, reason, subcode, whose as whose_of};
+use crate::table::{Vocabulary, code, inner, subcode, whose as whose_of};
 use crate::trees::{ack_tree, ident_tree, max_tree};
-use rm_base::{Blob, Ident, Memory, Uri};
-use rm_message::addressing::Addressing;
-use rm_message::elements::AckBlock;
+use rm_base::{Blob, Ident, Memory};
+use rm_elements::AckBlock;
 use rm_message::{Acks, Body, FaultBody, FaultKind, Idents, Message, Names, Refusal};
 use soap_profile::{Elements, Name, Shared};
 use std::alloc::Global;
+use wsa_headers::{Addressing, copy_elements, copy_optional_uri, copy_uri, uri_of};
 
 fn name_in(
     alloc: Global,
@@ -43,7 +42,7 @@ fn fault_body(alloc: Global, kind: FaultKind, detail: Elements) -> Result<FaultB
 {
     let subcode = name_in(alloc, whose_of(kind), subcode(kind))?;
     let inner = name_in(alloc, whose_of(kind), inner(kind))?;
-    let reason = Blob::from_slice(alloc, reason(kind))?;
+    let reason = Blob::from_slice(alloc, kind.name())?;
     Ok(FaultBody {
         code: code(kind),
         subcode,
@@ -181,21 +180,12 @@ fn names(alloc: Global, kind: FaultKind, names: &Names) -> Result<Names, Memory>
     }
 }
 
-fn relates(alloc: Global, relates: &Option<Uri>) -> Result<Option<Uri>, Memory>
-    ensures { IfOk result (λ copy. copy ≡ relates.now) }
-{
-    match relates {
-        Some(uri) => Ok(Some(copy_uri(alloc, uri)?)),
-        None => Ok(None),
-    }
-}
-
 fn addressing(alloc: Global, refusal: &Refusal) -> Result<Addressing, Memory>
     ensures { IfOk result (λ properties. properties ≡ addressing_of refusal.now) }
 {
     let to = copy_uri(alloc, &refusal.endpoint.address)?;
     let action = uri_of(alloc, whose_of(refusal.kind).action())?;
-    let relates = relates(alloc, &refusal.relates)?;
+    let relates = copy_optional_uri(alloc, &refusal.relates)?;
     let params = copy_elements(alloc, &refusal.endpoint.params)?;
     Ok(Addressing {
         to,

@@ -11,7 +11,7 @@ ghost use Rattle.soap_nodes.specs.Node.{
   nothing,
   whole,
 };
-ghost use Rattle.rm_message.specs.addressing.Texts.{params_nodes};
+ghost use Rattle.wsa_headers.specs.Texts.{params_nodes};
 ghost use Rattle.message_writer.specs.Text.{
   tag_of,
   code_text,
@@ -29,9 +29,9 @@ use crate::qname::{push_qname_declaration, qname};
 use crate::tag::Tag;
 use rm_base::{Blob, Memory};
 use rm_message::{FaultBody, FaultCode};
-use soap_frame::markup::write_element;
 use soap_nodes::{push_begin, push_bytes, push_close, push_leaf, push_text};
 use soap_profile::{Element, Elements, Name};
+use soap_writer::write_element;
 use std::alloc::Global;
 
 // The front of an element with content and without attributes.

@@ -1,17 +1,17 @@
 //! Laws of the text of a message, each the contract of a function that does nothing but to bring in the laws that it
 //! stands on.
 ghost use Rattle.std.specs.Prelude.{ℕ, List};
-ghost use Rattle.soap_frame.specs.envelopes.Envelope.{IsEnvelope};
+ghost use Rattle.soap_envelope.specs.Envelope.{IsEnvelope};
 ghost use Rattle.soap_frame.specs.Framed.{MayBeSoap};
 ghost use Rattle.rm_message.specs.declared.message.Message.{Message as Value};
 ghost use Rattle.message_writer.specs.Rules.{KeepsRules, message_envelope};
 ghost use Rattle.message_writer.specs.Text.{message_text};
 
-use rm_message::addressing::addressing_is_good;
-use rm_message::elements::{header_is_good, lifecycle_is_good};
+use rm_elements::{header_is_good, lifecycle_is_good};
 use soap_frame::laws::{closed_content_is_read_alike, frame_is_an_envelope};
-use soap_frame::markup::laws::content_is_read_back;
 use soap_nodes::laws::node_is_read_back;
+use soap_writer::laws::content_is_read_back;
+use wsa_headers::addressing_is_good;
 
 /// The text of a message that keeps the rules is an envelope: its header blocks are the trees of the message's blocks
 /// in order, its payload is what was written in Body, to the byte, and both stand within the bindings of a frame.

@@ -3,7 +3,6 @@
 //! frame of an envelope, `soap_frame`. The layers above may use the contracts and the laws, by `specs/`.
 #![tactic(auto)]
 
-mod copies;
 pub mod fault;
 mod fault_text;
 pub mod laws;

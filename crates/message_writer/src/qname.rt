@@ -8,10 +8,8 @@ ghost use Rattle.message_writer.specs.Text.{qname as qname_text, qname_notes};
 
 use rm_base::Memory;
 use soap_nodes::{push_bytes, push_declaration};
-use soap_profile::Name;
+use soap_profile::{Name, XML_SPACE};
 use std::alloc::Global;
-
-const XML_SPACE: &[u8] = b"http://www.w3.org/XML/1998/namespace";
 
 fn is_bare(name: &Name) -> bool
     ensures { result ≡ is_nil name.now.space }

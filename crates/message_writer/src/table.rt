@@ -4,7 +4,9 @@ ghost use Rattle.std.specs.Prelude.{◌≡◌, option_map};
 ghost use Rattle.message_writer.specs.Faults.{table, fault_action, space_of};
 ghost use Rattle.rm_base.specs.Text.{IsText};
 
-use rm_message::{FaultCode, FaultKind};
+use rm_elements::{CONNECTION, MESSAGING};
+use rm_message::{FaultCode, FaultKind, actions};
+use wsa_headers::ADDRESSING;
 
 /// The vocabulary that a fault is of.
 #[derive(Clone, Copy, Debug)]
@@ -22,9 +24,9 @@ impl Vocabulary {
     {
         match self {
             Vocabulary::OfSoap => b"http://www.w3.org/2003/05/soap-envelope",
-            Vocabulary::OfAddressing => b"http://www.w3.org/2005/08/addressing",
-            Vocabulary::OfMessaging => b"http://docs.oasis-open.org/ws-rx/wsrm/200702",
-            Vocabulary::OfConnection => b"http://docs.oasis-open.org/ws-rx/wsmc/200702",
+            Vocabulary::OfAddressing => ADDRESSING,
+            Vocabulary::OfMessaging => MESSAGING,
+            Vocabulary::OfConnection => CONNECTION,
         }
     }
 
@@ -36,8 +38,8 @@ impl Vocabulary {
         match self {
             Vocabulary::OfSoap => b"http://www.w3.org/2005/08/addressing/soap/fault",
             Vocabulary::OfAddressing => b"http://www.w3.org/2005/08/addressing/fault",
-            Vocabulary::OfMessaging => b"http://docs.oasis-open.org/ws-rx/wsrm/200702/fault",
-            Vocabulary::OfConnection => b"http://docs.oasis-open.org/ws-rx/wsmc/200702/fault",
+            Vocabulary::OfMessaging => actions::FAULT,
+            Vocabulary::OfConnection => actions::CONNECTION_FAULT,
         }
     }
 }
@@ -96,34 +98,6 @@ pub fn code(kind: FaultKind) -> FaultCode
     }
 }
 
-/// The reason of a kind's fault, which is the kind's name.
-pub fn reason(kind: FaultKind) -> &'static [u8]
-    ensures { result.now ≡ (table kind).reason }
-{
-    match kind {
-        FaultKind::TooLong => b"TooLong",
-        FaultKind::NotUtf8 => b"NotUtf8",
-        FaultKind::NotProfile => b"NotProfile",
-        FaultKind::WrongVersion => b"WrongVersion",
-        FaultKind::NotEnvelope => b"NotEnvelope",
-        FaultKind::NotUnderstood => b"NotUnderstood",
-        FaultKind::Cardinality => b"Cardinality",
-        FaultKind::HeaderMissing => b"HeaderMissing",
-        FaultKind::BadHeader => b"BadHeader",
-        FaultKind::Malformed => b"Malformed",
-        FaultKind::Rollover => b"Rollover",
-        FaultKind::WsrmRequired => b"WsrmRequired",
-        FaultKind::UnknownSequence => b"UnknownSequence",
-        FaultKind::SequenceTerminated => b"SequenceTerminated",
-        FaultKind::SequenceClosed => b"SequenceClosed",
-        FaultKind::InvalidAcknowledgement => b"InvalidAcknowledgement",
-        FaultKind::CreateSequenceRefused => b"CreateSequenceRefused",
-        FaultKind::MissingSelection => b"MissingSelection",
-        FaultKind::UnsupportedSelection => b"UnsupportedSelection",
-        FaultKind::StoreFull => b"StoreFull",
-    }
-}
-
 /// The local name of the subcode of a kind's fault, where it has one.
 pub fn subcode(kind: FaultKind) -> Option<&'static [u8]>
     ensures { option_map (λ local. local.now) result ≡ (table kind).subcode }
@@ -141,7 +115,7 @@ pub fn subcode(kind: FaultKind) -> Option<&'static [u8]>
         | FaultKind::InvalidAcknowledgement
         | FaultKind::CreateSequenceRefused
         | FaultKind::MissingSelection
-        | FaultKind::UnsupportedSelection => Some(reason(kind)),
+        | FaultKind::UnsupportedSelection => Some(kind.name()),
         FaultKind::TooLong
         | FaultKind::NotUtf8
         | FaultKind::NotProfile

@@ -1,4 +1,4 @@
-//! The elements that stand in the Detail of a fault, as trees: WS-ReliableMessaging 1.2, sections 3.4, 3.9 and 4.3.
+//! The elements that stand in the Detail of a fault, as trees: WS-ReliableMessaging 1.2, sections 3.4, 3.9 and 4.5.
 ghost use Rattle.std.specs.Prelude.{◌≡◌, ◌++◌, [], ◌∷◌, IfOk, OnOk, decimal};
 ghost use Rattle.soap_profile.specs.Items.{a_text, a_child, an_attribute, listed};
 ghost use Rattle.soap_envelope.specs.Soap.{soap_space};
@@ -11,14 +11,14 @@ ghost use Rattle.soap_profile.specs.View.{
   parts_view,
 };
 ghost use Rattle.soap_nodes.specs.Node.{leaf, void, nothing, node_tree, nodes_tree, each_node};
-ghost use Rattle.rm_message.specs.elements.Outcome.{rm};
-ghost use Rattle.rm_message.specs.elements.Texts.{r, range_node, nack_node, kind_nodes, final_nodes};
+ghost use Rattle.rm_elements.specs.Outcome.{rm};
+ghost use Rattle.rm_elements.specs.Texts.{r, range_node, nack_node, kind_nodes, final_nodes};
 ghost use Rattle.message_writer.specs.Faults.{ident_element, max_element, ack_element};
 
 use ack_ranges::Range;
 use itoa::Buffer;
 use rm_base::{Bytes, Ident, Memory};
-use rm_message::elements::{AckBlock, AckKind, MESSAGING};
+use rm_elements::{AckBlock, AckKind, MESSAGING};
 use soap_profile::{Attr, Element, Item, Name, Shared};
 use std::alloc::Global;
 

@@ -3,7 +3,7 @@ ghost use Rattle.std.specs.Prelude.{◌≡◌, ◌++◌, IfOk, OnOk, map, option
 ghost use Rattle.std.specs.Option.{option_to_list};
 ghost use Rattle.soap_envelope.specs.Soap.{soap_space};
 ghost use Rattle.soap_nodes.specs.Node.{node_text};
-ghost use Rattle.rm_message.specs.elements.Texts.{sequence_node, ack_node, ask_node, pending_node};
+ghost use Rattle.rm_elements.specs.Texts.{sequence_node, ack_node, ask_node, pending_node};
 ghost use Rattle.message_writer.specs.Text.{
   not_understood_node,
   header_blocks,
@@ -18,8 +18,7 @@ use crate::fault_text::push_fault;
 use crate::qname::{push_qname_declaration, qname};
 use crate::tag::Tag;
 use rm_base::{Blob, Ident, Memory};
-use rm_message::addressing::write_addressing;
-use rm_message::elements::{
+use rm_elements::{
     AckBlock, SeqHeader, push_ack, push_ask, push_pending, push_sequence, write_lifecycle,
 };
 use rm_message::{Body, FaultBody, Message};
@@ -27,6 +26,7 @@ use soap_frame::{begin_body, begin_envelope, end_envelope};
 use soap_nodes::{push_attribute, push_begin, push_bytes};
 use soap_profile::Name;
 use std::alloc::Global;
+use wsa_headers::write_addressing;
 
 fn push_sequence_of(sequence: &Option<SeqHeader>, out: &mut Vec<u8>) -> Result<(), Memory>
     ensures { OnOk result (out.new.items

@@ -11,11 +11,11 @@ use Rattle.soap_profile.specs.Tree.{Element, element, Parts, none, text, attrs_o
 use Rattle.soap_nodes.specs.Node.{Tag as NodeTag, expanded_name, Node, Nodes, nothing, more, each_node}
 use Rattle.soap_nodes.specs.Node.{node_tree}
 use Rattle.soap_nodes.specs.Node.{nodes_tree}
-use Rattle.wsa_headers.specs.values.Children.{name_in, text_among, value_among, children_named, has_name}
-use Rattle.wsa_headers.specs.values.Outcome.{optional, each}
-use Rattle.wsa_headers.specs.values.EachLaws.{each_again}
-use Rattle.wsa_headers.specs.values.NumberLaws.{number_back, decimal_number}
-use Rattle.wsa_headers.specs.values.TextLaws.{text_back}
+use Rattle.soap_values.specs.Children.{name_in, text_among, value_among, children_named, has_name}
+use Rattle.soap_values.specs.Outcome.{optional, each}
+use Rattle.soap_values.specs.EachLaws.{each_again}
+use Rattle.soap_values.specs.NumberLaws.{number_back, decimal_number}
+use Rattle.soap_values.specs.TextLaws.{text_back}
 use Rattle.ack_ranges.specs.declared.range.Range.{Range}
 use Rattle.rm_elements.specs.Headers.{ident_of, identifier, number_of, message_number, numbered_in, bound_in}
 use Rattle.rm_elements.specs.Headers.{range_of, ack_of, ack_in, header_of}

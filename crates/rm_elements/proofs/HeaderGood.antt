@@ -3,8 +3,8 @@ use Rattle.std.proofs.Common.{ℕ, Bool, true, false, List, [], ◌∷◌, refl,
 use Rattle.std.specs.List.{AllByRecursion}
 use Rattle.rm_base.specs.Text.{IsText}
 use Rattle.rm_base.specs.declared.message.Binding.{Binding}
-use Rattle.wsa_headers.specs.markup.Frame.{frame_scope}
-use Rattle.wsa_headers.specs.markup.Plain.{chars_from}
+use Rattle.soap_writer.specs.Frame.{frame_scope}
+use Rattle.soap_writer.specs.Plain.{chars_from}
 use Rattle.soap_nodes.specs.Good.{IsTagGood, IsGood, AreGood}
 use Rattle.soap_nodes.specs.Node.{tag_name, Node, Nodes, each_node}
 use Rattle.wsa_headers.specs.TextLaws.{text_writable}

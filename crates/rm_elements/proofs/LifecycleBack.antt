@@ -11,10 +11,10 @@ use Rattle.xml_chars.specs.Classes.{is_space}
 use Rattle.soap_profile.specs.Tree.{Element, element, Parts, none, text, parts_of}
 use Rattle.soap_profile.specs.declared.name.Expanded.{Expanded}
 use Rattle.soap_nodes.specs.Node.{Node, Nodes, nothing, more, leaf, node_tree, nodes_tree}
-use Rattle.wsa_headers.specs.values.Children.{is_same, has_name, children_named}
-use Rattle.wsa_headers.specs.values.Outcome.{◌>>=◌}
-use Rattle.wsa_headers.specs.values.TrimLaws.{trimmed_end-other}
-use Rattle.wsa_headers.specs.values.Values.{trimmed, trimmed_end, trimmed_text}
+use Rattle.soap_values.specs.Children.{is_same, has_name, children_named}
+use Rattle.soap_values.specs.Outcome.{◌>>=◌}
+use Rattle.soap_values.specs.TrimLaws.{trimmed_end-other}
+use Rattle.soap_values.specs.Values.{trimmed, trimmed_end, trimmed_text}
 use Rattle.wsa_headers.specs.Endpoint.{epr_in}
 use Rattle.wsa_headers.specs.TextLaws.{uri_back}
 use Rattle.wsa_headers.specs.Texts.{epr_nodes}

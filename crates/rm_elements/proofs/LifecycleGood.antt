@@ -6,9 +6,9 @@ use Rattle.rm_base.specs.Text.{IsText}
 use Rattle.rm_base.specs.declared.message.Behaviour.{Behaviour}
 use Rattle.rm_base.specs.declared.message.Behaviour.TheVariants.{NoDiscard, EntireSequence, FollowingFirstGap}
 use Rattle.rm_base.specs.declared.message.Binding.{Binding}
-use Rattle.wsa_headers.specs.markup.Frame.{frame_scope}
-use Rattle.wsa_headers.specs.markup.Plain.{chars_from}
-use Rattle.wsa_headers.specs.markup.Writable.{IsTextWritable}
+use Rattle.soap_writer.specs.Frame.{frame_scope}
+use Rattle.soap_writer.specs.Plain.{chars_from}
+use Rattle.soap_writer.specs.Writable.{IsTextWritable}
 use Rattle.soap_nodes.specs.Good.{IsGood, AreGood}
 use Rattle.soap_nodes.specs.Node.{Node, Nodes, leaf, more, nothing}
 use Rattle.wsa_headers.specs.TextLaws.{text_writable}

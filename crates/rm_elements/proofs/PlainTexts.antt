@@ -9,8 +9,8 @@ use Rattle.std.proofs.lemmas.Fmt.{decimal_is_IsNumeral, decimal_nonempty}
 use Rattle.std.proofs.lemmas.List.Folds.{list_all-append}
 use Rattle.std.proofs.lemmas.Str.Parse.{digit_from_value}
 use Rattle.xml_chars.specs.Classes.{is_char}
-use Rattle.wsa_headers.specs.markup.Plain.{is_ascii, is_plain_text, chars_from}
-use Rattle.wsa_headers.specs.markup.Writable.{IsTextWritable}
+use Rattle.soap_writer.specs.Plain.{is_ascii, is_plain_text, chars_from}
+use Rattle.soap_writer.specs.Writable.{IsTextWritable}
 use Rattle.rm_elements.specs.Texts.{months_text, three_digits, seconds_text, time_text, lapse_text}
 use Rattle.rm_elements.specs.Writable.{IsNumber, IsLapseWritable}
 use Rattle.rm_elements.specs.declared.lapse.Lapse.{Lapse}

@@ -1,4 +1,4 @@
--- Header blocks as values: WS-ReliableMessaging 1.2, sections 3.7 to 3.9, and WS-MakeConnection 1.1, section 3.4.
+-- Header blocks as values: WS-ReliableMessaging 1.2, sections 3.7 to 3.9, and WS-MakeConnection 1.1, section 3.3.
 use Rattle.std.specs.Prelude.{ℕ, List, [], Bool, true, false, not, ◌&&◌, ◌||◌, ◌==◌, nat_lt, if◌then◌else◌, Option}
 use Rattle.std.specs.Prelude.{Some, None, is_some, option_map, Result, Ok, Err, codes}
 use Rattle.std.specs.Str.{bytes_eq}
@@ -6,9 +6,9 @@ use Rattle.soap_document.specs.Tokens.{is_nil}
 use Rattle.soap_profile.specs.Tree.{Element, Parts, name_of, attrs_of, parts_of}
 use Rattle.soap_profile.specs.declared.name.Expanded.{Expanded}
 use Rattle.soap_profile.specs.declared.tree.Attr.{Attr}
-use Rattle.wsa_headers.specs.values.Children.{name_in, is_same, children_named, value_among}
-use Rattle.wsa_headers.specs.values.Outcome.{◌>>=◌, optional, single, each}
-use Rattle.wsa_headers.specs.values.Values.{trimmed, trimmed_text, whole_number, is_true, text_within}
+use Rattle.soap_values.specs.Children.{name_in, is_same, children_named, value_among}
+use Rattle.soap_values.specs.Outcome.{◌>>=◌, optional, single, each}
+use Rattle.soap_values.specs.Values.{trimmed, trimmed_text, whole_number, is_true, text_within}
 use Rattle.ack_ranges.specs.declared.range.Range.{Range}
 use Rattle.rm_elements.specs.Outcome.{rm, mc, named}
 use Rattle.rm_elements.specs.declared.error.ElementError.{ElementError}
@@ -70,7 +70,7 @@ numbered_in parts = do
   n ← message_number parts
   Some (record { ident = ident; number = n })
 
--- a number above the greatest is rolled over (4.3)
+-- a number above the greatest is rolled over (4.5)
 abbrev pub unless_rolled : Option SeqHeader → Result (Option Header) ElementError
 unless_rolled None = Err (Malformed (codes "Sequence"))
 unless_rolled (Some s) =
@@ -114,7 +114,7 @@ ack_in parts = do
   final ← optional (children_named (rm (codes "Final")) parts)
   ack_of ident ranges (is_some nothing) nacks (is_some final)
 
--- ---- MessagePending (WS-MakeConnection 1.1, 3.4)
+-- ---- MessagePending (WS-MakeConnection 1.1, 3.3)
 
 -- whether a mark says that something doesn't hold
 abbrev pub is_false : List ℕ → Bool

@@ -2,7 +2,7 @@
 -- and WS-MakeConnection 1.1, section 3.
 use Rattle.std.specs.Prelude.{ℕ, ◌+◌, ◌/◌, ◌%◌, ◌&&◌, ◌==◌, List, [], ◌∷◌, ◌++◌, Bool, if◌then◌else◌, Option, Some}
 use Rattle.std.specs.Prelude.{None, codes, decimal}
-use Rattle.wsa_headers.specs.markup.Frame.{of_soap, of_messaging, of_connection}
+use Rattle.soap_writer.specs.Frame.{of_soap, of_messaging, of_connection}
 use Rattle.soap_nodes.specs.Node.{Tag as NodeTag, framed, Note, plain, prefixed, Node, Nodes, full, void}
 use Rattle.soap_nodes.specs.Node.{nothing}
 use Rattle.soap_nodes.specs.Node.{more, leaf, each_node}
@@ -109,7 +109,7 @@ ack_node x = full (tag_of tags.SequenceAcknowledgement) []
 abbrev pub ask_node : List ℕ → Node
 ask_node ident = full (tag_of tags.AckRequested) [] (more (identifier_node ident) nothing)
 
--- MessagePending (WS-MakeConnection 1.1, 3.4)
+-- MessagePending (WS-MakeConnection 1.1, 3.3)
 abbrev pub flag_text : Bool → List ℕ
 flag_text flag = if flag then codes "true" else codes "false"
 

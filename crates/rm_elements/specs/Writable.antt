@@ -1,4 +1,4 @@
--- Header blocks, durations and body elements that are read back as they were written.
+-- Header blocks, durations and body elements of WS-ReliableMessaging 1.2 that are read back as they were written.
 use Rattle.std.specs.Prelude.{◌≡◌, ◌≢◌, ◌≤◌, ℕ, [], Bool, false, IfSome}
 use Rattle.std.specs.List.{AllByRecursion}
 use Rattle.rm_base.specs.Text.{IsText}

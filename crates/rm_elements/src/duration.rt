@@ -21,7 +21,7 @@ ghost use Rattle.rm_elements.specs.Duration.{
 };
 
 use crate::lapse::Lapse;
-use wsa_headers::values::number::number_of;
+use soap_values::number::number_of;
 
 const MOST_MONTHS: u64 = 100000;
 

@@ -2,8 +2,8 @@
 ghost use Rattle.std.specs.Prelude.{◌≡◌, ◌-◌, ◌^◌, min, option_map};
 ghost use Rattle.soap_document.specs.Tokens.{is_nil};
 ghost use Rattle.soap_profile.specs.View.{element_view, attrs_view, parts_view};
-ghost use Rattle.wsa_headers.specs.values.Outcome.{Gives, each};
-ghost use Rattle.wsa_headers.specs.values.Steps.{lent_trees};
+ghost use Rattle.soap_values.specs.Outcome.{Gives, each};
+ghost use Rattle.soap_values.specs.Steps.{lent_trees};
 ghost use Rattle.rm_elements.specs.Steps.{capped};
 ghost use Rattle.rm_elements.specs.Headers.{
   ident_of,
@@ -23,13 +23,13 @@ ghost use Rattle.rm_elements.specs.Headers.{
 use ack_ranges::Range;
 use rm_base::{Ident, Items, MAX_NUMBER, Numbers};
 use soap_profile::{Element, Item};
-use std::alloc::Global;
-use wsa_headers::values::{
+use soap_values::{
     Flaw, find_all, find_optional, find_single, find_value, is_true_mark, read_ident, read_number,
     read_text, read_trimmed, trim,
 };
+use std::alloc::Global;
 
-/// The namespace of WS-ReliableMessaging 1.2: section 1.2.
+/// The namespace of WS-ReliableMessaging 1.2: section 1.4.
 pub const MESSAGING: &[u8] = b"http://docs.oasis-open.org/ws-rx/wsrm/200702";
 
 /// Ranges as they were written, in any order, and they may overlap.

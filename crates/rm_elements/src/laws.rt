@@ -3,7 +3,7 @@
 
 ghost use Rattle.std.specs.Prelude.{◌≡◌, ℕ, List, Ok, None, Some};
 ghost use Rattle.soap_profile.specs.Tree.{Element as Tree, name_of};
-ghost use Rattle.wsa_headers.specs.markup.Frame.{addressing_space, frame_scope};
+ghost use Rattle.soap_writer.specs.Frame.{addressing_space, frame_scope};
 ghost use Rattle.soap_nodes.specs.Good.{IsGood};
 ghost use Rattle.soap_nodes.specs.Node.{node_tree};
 ghost use Rattle.wsa_headers.specs.Writable.{IsForeign};

@@ -4,6 +4,7 @@
 //! the laws that what is written is read back, by `specs/`.
 #![tactic(auto)]
 
+mod copies;
 pub mod duration;
 pub mod error;
 pub mod expiry;
@@ -15,6 +16,7 @@ pub mod read;
 pub mod tag;
 pub mod write;
 
+pub use copies::copy_block;
 pub use duration::read_duration;
 pub use error::ElementError;
 pub use expiry::deadline;
@@ -30,7 +32,3 @@ pub use lifecycle::{
 pub use read::{BodyName, HeaderName, body_name, header_name, read_header, read_lifecycle};
 pub use tag::Tag;
 pub use write::{push_ack, push_ask, push_pending, push_sequence, write_header, write_lifecycle};
-
-// What the contracts here speak of, passed on to the layers above, which need not list these crates.
-pub use wsa_headers as addressing;
-pub use wsa_headers::{markup, nodes, values};

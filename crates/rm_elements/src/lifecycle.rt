@@ -1,7 +1,7 @@
 //! Body elements: WS-ReliableMessaging 1.2, sections 3.4 to 3.6, and WS-MakeConnection 1.1, section 3.
 ghost use Rattle.std.specs.Prelude.{◌≡◌, ◌∷◌, [], option_map};
 ghost use Rattle.soap_profile.specs.View.{element_view, parts_view};
-ghost use Rattle.wsa_headers.specs.values.Outcome.{Gives, if_present};
+ghost use Rattle.soap_values.specs.Outcome.{Gives, if_present};
 ghost use Rattle.wsa_headers.specs.Endpoint.{uri_of};
 ghost use Rattle.rm_elements.specs.Headers.{number_of};
 ghost use Rattle.rm_elements.specs.Lifecycle.{
@@ -25,11 +25,11 @@ use crate::header::{MESSAGING, number_within, read_identifier};
 use crate::lapse::Lapse;
 use rm_base::{Behaviour, Ident, Uri};
 use soap_profile::{Element, Item};
+use soap_values::{Flaw, find_optional, find_single, is_named, read_trimmed};
 use std::alloc::Global;
-use wsa_headers::values::{Flaw, find_optional, find_single, is_named, read_trimmed};
 use wsa_headers::{Epr, read_address_of, read_reference};
 
-/// The namespace of WS-MakeConnection 1.1: section 1.2.
+/// The namespace of WS-MakeConnection 1.1: section 1.4.
 pub const CONNECTION: &[u8] = b"http://docs.oasis-open.org/ws-rx/wsmc/200702";
 
 /// An Offer of a sequence in the other direction.

@@ -220,7 +220,7 @@ fn flag(flag: bool) -> &'static [u8]
     if flag { b"true" } else { b"false" }
 }
 
-/// Appends a MessagePending block of WS-MakeConnection 1.1, section 3.4.
+/// Appends a MessagePending block of WS-MakeConnection 1.1, section 3.3.
 pub fn push_pending(pending: bool, out: &mut Vec<u8>) -> Result<(), Memory>
     ensures { OnOk result (out.new.items ≡ out.old.items ++ node_text (pending_node pending)) }
 {

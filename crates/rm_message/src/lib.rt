@@ -2,12 +2,9 @@
 //! `wsa_headers`, and on envelopes.
 #![tactic(auto)]
 
+pub mod actions;
 pub mod message;
 pub mod refusal;
 
 pub use message::{Acks, Body, FaultBody, FaultCode, Idents, Message, Names};
 pub use refusal::{DecodeError, FaultKind, Refusal};
-
-// What the contracts here speak of, passed on to the layers above, which need not list these crates.
-pub use rm_elements as elements;
-pub use rm_elements::{addressing, nodes, values};

@@ -13,5 +13,6 @@ pub mod write;
 
 pub use assertion::{Assertion, Assurance, grants};
 pub use error::PolicyError;
-pub use read::{read_assertion, read_assertion_element};
+pub use read::{find_security, read_assertion, read_assertion_element, read_form, read_optional};
+pub use word::{ASSERTION, OLDER_POLICY, POLICY};
 pub use write::write_assertion;

@@ -57,9 +57,9 @@ pub fn read_assertion_element(alloc: Global, element: &Element) -> Result<Assert
     }
 }
 
-// What an assertion says, whether or not it asks for security.
+/// What an assertion says, whether or not it asks for security. It takes no memory.
 #[tactic(auto, unfolding(crate::specs::Assertion::assertion_in))]
-fn read_form(element: &Element) -> Option<Assertion>
+pub fn read_form(element: &Element) -> Option<Assertion>
     ensures form { result ≡ assertion_in (element_view element.now) }
     ensures writable { IfSome result IsWritable }
 {
@@ -82,9 +82,10 @@ fn read_form(element: &Element) -> Option<Assertion>
     })
 }
 
-// Optional of either namespace: WS-Policy 1.5, section 4.3.1.
+/// Whether Optional of either namespace is set, and None where it is no truth value: WS-Policy 1.5, section 4.3.1. It
+/// takes no memory.
 #[tactic(auto, unfolding(crate::specs::Assertion::optional_in))]
-fn read_optional(items: &[Item]) -> Option<bool>
+pub fn read_optional(items: &[Item]) -> Option<bool>
     ensures { result ≡ optional_in (attrs_view items.now) }
 {
     let is_optional = read_truth(find_value(items, POLICY, b"Optional"))?;
@@ -171,8 +172,8 @@ fn read_qualities(policy: &Element) -> Option<Delivery>
     })
 }
 
-// The first element of the assertion's Policy that asks for security of sequences.
-fn find_security(element: &Element) -> Option<&Element>
+/// The first element of the assertion's Policy that asks for security of sequences. It takes no memory.
+pub fn find_security(element: &Element) -> Option<&Element>
     ensures { option_map (λ e. element_view e.now) result ≡ security_in (element_view element.now) }
 {
     let policy = find_first(element.items.as_slice(), Word::Policy)?;

@@ -9,13 +9,13 @@ use soap_profile::Name;
 use soap_values::is_named;
 
 /// The namespace of WS-RM Policy 1.2.
-pub(crate) const ASSERTION: &[u8] = b"http://docs.oasis-open.org/ws-rx/wsrmp/200702";
+pub const ASSERTION: &[u8] = b"http://docs.oasis-open.org/ws-rx/wsrmp/200702";
 
 /// The namespace of WS-Policy 1.5.
-pub(crate) const POLICY: &[u8] = b"http://www.w3.org/ns/ws-policy";
+pub const POLICY: &[u8] = b"http://www.w3.org/ns/ws-policy";
 
 /// The namespace of WS-Policy 1.2.
-pub(crate) const OLDER_POLICY: &[u8] = b"http://schemas.xmlsoap.org/ws/2004/09/policy";
+pub const OLDER_POLICY: &[u8] = b"http://schemas.xmlsoap.org/ws/2004/09/policy";
 
 /// What an element is in an assertion. `Assurance` is one of ExactlyOnce, AtLeastOnce and AtMostOnce, and `Security`
 /// one of SequenceSTR and SequenceTransportSecurity.

@@ -10,12 +10,12 @@ use Rattle.std.proofs.lemmas.List.Elements.{filter-append}
 use Rattle.soap_profile.specs.Tree.{Element, element, none, name_of, children_of}
 use Rattle.soap_profile.specs.declared.name.Expanded.{Expanded}
 use Rattle.soap_profile.specs.declared.tree.Attr.{Attr}
-use Rattle.soap_frame.specs.markup.Frame.{addressing_space}
-use Rattle.rm_message.specs.nodes.Node.{Node, Nodes, nothing, words, more, declared, note_attrs, node_tree, nodes_tree}
-use Rattle.rm_message.specs.values.Children.{name_in}
-use Rattle.rm_message.specs.addressing.Texts.{addressing_nodes}
-use Rattle.rm_message.specs.addressing.Writable.{addressing_blocks, IsAddressingBlock}
-use Rattle.rm_message.specs.elements.Texts.{sequence_node, ack_node, ask_node, pending_node}
+use Rattle.soap_writer.specs.Frame.{addressing_space}
+use Rattle.soap_nodes.specs.Node.{Node, Nodes, nothing, words, more, declared, note_attrs, node_tree, nodes_tree}
+use Rattle.soap_values.specs.Children.{name_in}
+use Rattle.wsa_headers.specs.Texts.{addressing_nodes}
+use Rattle.wsa_headers.specs.Writable.{addressing_blocks, IsAddressingBlock}
+use Rattle.rm_elements.specs.Texts.{sequence_node, ack_node, ask_node, pending_node}
 use Rattle.rm_message.specs.declared.message.Message.{Message}
 use Rattle.message_reader.specs.Blocks.{is_block, blocks, is_understood, is_own, is_not_understood}
 use Rattle.message_writer.specs.Rules.{header_trees}

@@ -9,17 +9,17 @@ use Rattle.soap_lex.specs.Facts.{differ, equal, same}
 use Rattle.soap_profile.specs.Tree.{Element, Parts, none, child, name_of, children_of}
 use Rattle.soap_profile.specs.declared.name.Expanded.{Expanded}
 use Rattle.soap_frame.specs.Framed.{sorted_scope}
-use Rattle.rm_message.specs.nodes.Node.{node_tree}
-use Rattle.rm_message.specs.values.Children.{name_in, has_name}
-use Rattle.rm_message.specs.addressing.Addressing.{first_of}
-use Rattle.rm_message.specs.addressing.declared.addressing.Addressing.{Addressing}
-use Rattle.rm_message.specs.elements.Lifecycle.{lifecycle_of}
-use Rattle.rm_message.specs.elements.Outcome.{rm, mc}
-use Rattle.rm_message.specs.elements.Texts.{lifecycle_node}
-use Rattle.rm_message.specs.elements.Writable.{IsLifecycleWritable}
-use Rattle.rm_message.specs.elements.declared.header.SeqHeader.{SeqHeader}
-use Rattle.rm_message.specs.elements.declared.lifecycle.Lifecycle.{Lifecycle}
-use Rattle.rm_message.specs.elements.declared.lifecycle.Lifecycle.TheVariants as life
+use Rattle.soap_nodes.specs.Node.{node_tree}
+use Rattle.soap_values.specs.Children.{name_in, has_name}
+use Rattle.wsa_headers.specs.Addressing.{first_of}
+use Rattle.wsa_headers.specs.declared.addressing.Addressing.{Addressing}
+use Rattle.rm_elements.specs.Lifecycle.{lifecycle_of}
+use Rattle.rm_elements.specs.Outcome.{rm, mc}
+use Rattle.rm_elements.specs.Texts.{lifecycle_node}
+use Rattle.rm_elements.specs.Writable.{IsLifecycleWritable}
+use Rattle.rm_elements.specs.declared.header.SeqHeader.{SeqHeader}
+use Rattle.rm_elements.specs.declared.lifecycle.Lifecycle.{Lifecycle}
+use Rattle.rm_elements.specs.declared.lifecycle.Lifecycle.TheVariants as life
 use Rattle.rm_message.specs.declared.message.Body.{Body}
 use Rattle.rm_message.specs.declared.message.Body.TheVariants as body
 use Rattle.rm_message.specs.declared.message.FaultBody.{FaultBody}

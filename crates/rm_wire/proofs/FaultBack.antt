@@ -10,12 +10,12 @@ use Rattle.soap_profile.specs.Tree.{Element, element, Parts, child, decls_of, ch
 use Rattle.soap_profile.specs.declared.name.Expanded.{Expanded}
 use Rattle.soap_profile.specs.declared.tree.Attr.{Attr}
 use Rattle.soap_frame.specs.Framed.{sorted_scope}
-use Rattle.rm_message.specs.nodes.Node.{Nodes, nothing, more, leaf, full, node_tree, nodes_tree}
-use Rattle.rm_message.specs.values.Children.{name_in, has_name, text_among}
-use Rattle.rm_message.specs.values.QNames.{within, qname_in}
-use Rattle.rm_message.specs.values.Values.{trimmed, trimmed_text}
-use Rattle.soap_frame.specs.markup.Plain.{is_plain_name, name_from}
-use Rattle.rm_message.specs.addressing.Texts.{params_nodes}
+use Rattle.soap_nodes.specs.Node.{Nodes, nothing, more, leaf, full, node_tree, nodes_tree}
+use Rattle.soap_values.specs.Children.{name_in, has_name, text_among}
+use Rattle.soap_values.specs.QNames.{within, qname_in}
+use Rattle.soap_values.specs.Values.{trimmed, trimmed_text}
+use Rattle.soap_writer.specs.Plain.{is_plain_name, name_from}
+use Rattle.wsa_headers.specs.Texts.{params_nodes}
 use Rattle.rm_message.specs.declared.message.FaultBody.{FaultBody}
 use Rattle.rm_message.specs.declared.message.FaultCode.{FaultCode}
 use Rattle.rm_message.specs.declared.message.FaultCode.TheVariants.{VersionMismatch, MustUnderstand}

@@ -14,26 +14,26 @@ use Rattle.soap_profile.specs.Payload.{depth}
 use Rattle.soap_envelope.specs.Soap.{soap_space}
 use Rattle.soap_profile.specs.Tree.{Element, Parts}
 use Rattle.soap_profile.specs.declared.name.Expanded.{Expanded}
-use Rattle.soap_frame.specs.markup.Frame.{frame_scope}
-use Rattle.soap_frame.specs.markup.Plain.{is_plain_name, is_plain_text, name_from, chars_from}
-use Rattle.soap_frame.specs.markup.Writable.{IsNameWritable, IsAttrWritable, IsTagWritable, IsWritable}
-use Rattle.soap_frame.specs.markup.Writable.{ArePartsWritable}
-use Rattle.rm_message.specs.nodes.Good.{IsGood, AreGood}
-use Rattle.rm_message.specs.nodes.Node.{Nodes, each_node, node_tree, nodes_tree}
-use Rattle.rm_message.specs.values.TextLaws.{literal_is_text}
-use Rattle.rm_message.specs.values.Values.{trimmed}
-use Rattle.rm_message.specs.addressing.TextLaws.{text_writable}
-use Rattle.rm_message.specs.addressing.Writable.{IsParamWritable}
+use Rattle.soap_writer.specs.Frame.{frame_scope}
+use Rattle.soap_writer.specs.Plain.{is_plain_name, is_plain_text, name_from, chars_from}
+use Rattle.soap_writer.specs.Writable.{IsNameWritable, IsAttrWritable, IsTagWritable, IsWritable}
+use Rattle.soap_writer.specs.Writable.{ArePartsWritable}
+use Rattle.soap_nodes.specs.Good.{IsGood, AreGood}
+use Rattle.soap_nodes.specs.Node.{Nodes, each_node, node_tree, nodes_tree}
+use Rattle.soap_values.specs.TextLaws.{literal_is_text}
+use Rattle.soap_values.specs.Values.{trimmed}
+use Rattle.wsa_headers.specs.TextLaws.{text_writable}
+use Rattle.wsa_headers.specs.Writable.{IsParamWritable}
 use Rattle.ack_ranges.specs.declared.range.Range.{Range}
-use Rattle.rm_message.specs.elements.Outcome.{rm}
-use Rattle.rm_message.specs.elements.Texts.{range_node, nack_node, final_nodes, kind_nodes}
-use Rattle.rm_message.specs.elements.Texts.{header_node}
-use Rattle.rm_message.specs.elements.Writable.{IsAckWritable, IsHeaderWritable}
-use Rattle.rm_message.specs.elements.declared.header.AckBlock.{AckBlock}
-use Rattle.rm_message.specs.elements.declared.header.AckKind.{AckKind}
-use Rattle.rm_message.specs.elements.declared.header.AckKind.TheVariants.{Ranges, Nothing, Nack}
-use Rattle.rm_message.specs.elements.declared.header.Header.{Header}
-use Rattle.rm_message.specs.elements.declared.header.Header.TheVariants as headers
+use Rattle.rm_elements.specs.Outcome.{rm}
+use Rattle.rm_elements.specs.Texts.{range_node, nack_node, final_nodes, kind_nodes}
+use Rattle.rm_elements.specs.Texts.{header_node}
+use Rattle.rm_elements.specs.Writable.{IsAckWritable, IsHeaderWritable}
+use Rattle.rm_elements.specs.declared.header.AckBlock.{AckBlock}
+use Rattle.rm_elements.specs.declared.header.AckKind.{AckKind}
+use Rattle.rm_elements.specs.declared.header.AckKind.TheVariants.{Ranges, Nothing, Nack}
+use Rattle.rm_elements.specs.declared.header.Header.{Header}
+use Rattle.rm_elements.specs.declared.header.Header.TheVariants as headers
 use Rattle.rm_message.specs.declared.message.FaultCode.{FaultCode}
 use Rattle.rm_message.specs.declared.refusal.FaultKind.{FaultKind}
 use Rattle.rm_message.specs.declared.refusal.FaultKind.TheVariants as kinds

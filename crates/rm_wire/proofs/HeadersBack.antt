@@ -8,21 +8,21 @@ use Rattle.rm_base.specs.declared.message.Binding.{Binding}
 use Rattle.soap_lex.specs.Facts.{differ, equal}
 use Rattle.soap_profile.specs.Tree.{Element}
 use Rattle.soap_profile.specs.declared.name.Expanded.{Expanded}
-use Rattle.soap_frame.specs.markup.Frame.{addressing_space}
-use Rattle.soap_frame.specs.markup.Writable.{IsNameWritable}
+use Rattle.soap_writer.specs.Frame.{addressing_space}
+use Rattle.soap_writer.specs.Writable.{IsNameWritable}
 use Rattle.soap_frame.specs.Framed.{sorted_scope}
-use Rattle.rm_message.specs.nodes.Node.{Node, node_tree}
-use Rattle.rm_message.specs.values.Children.{name_in}
-use Rattle.rm_message.specs.values.Outcome.{each}
-use Rattle.rm_message.specs.values.QNames.{qname_in}
-use Rattle.rm_message.specs.addressing.Addressing.{first_of}
-use Rattle.rm_message.specs.addressing.Writable.{IsAddressingBlock, IsForeign}
-use Rattle.rm_message.specs.elements.Outcome.{rm, mc}
-use Rattle.rm_message.specs.elements.Texts.{sequence_node, ack_node, ask_node, pending_node}
-use Rattle.rm_message.specs.elements.Writable.{IsAckWritable}
-use Rattle.rm_message.specs.elements.declared.header.AckBlock.{AckBlock}
-use Rattle.rm_message.specs.elements.declared.header.Header.TheVariants as headers
-use Rattle.rm_message.specs.elements.declared.header.SeqHeader.{SeqHeader}
+use Rattle.soap_nodes.specs.Node.{Node, node_tree}
+use Rattle.soap_values.specs.Children.{name_in}
+use Rattle.soap_values.specs.Outcome.{each}
+use Rattle.soap_values.specs.QNames.{qname_in}
+use Rattle.wsa_headers.specs.Addressing.{first_of}
+use Rattle.wsa_headers.specs.Writable.{IsAddressingBlock, IsForeign}
+use Rattle.rm_elements.specs.Outcome.{rm, mc}
+use Rattle.rm_elements.specs.Texts.{sequence_node, ack_node, ask_node, pending_node}
+use Rattle.rm_elements.specs.Writable.{IsAckWritable}
+use Rattle.rm_elements.specs.declared.header.AckBlock.{AckBlock}
+use Rattle.rm_elements.specs.declared.header.Header.TheVariants as headers
+use Rattle.rm_elements.specs.declared.header.SeqHeader.{SeqHeader}
 use Rattle.rm_message.specs.declared.message.Message.{Message}
 use Rattle.message_reader.specs.Blocks.{is_block, blocks, has_block, is_not_understood}
 use Rattle.message_reader.specs.Headers.{acks_in, asks_in, pending_in, sequence_name, told_name}

@@ -2,18 +2,18 @@
 use Rattle.std.proofs.Common.{◌≡◌, List, ◌++◌, ℕ, Some, Ok, false}
 use Rattle.std.specs.List.{AllByRecursion}
 use Rattle.soap_profile.specs.Tree.{Element, without_declarations}
-use Rattle.soap_frame.specs.markup.ReadBack.{written_tree}
-use Rattle.soap_frame.specs.markup.Writable.{IsWritable}
-use Rattle.rm_message.specs.nodes.Node.{node_tree}
-use Rattle.rm_message.specs.addressing.Addressing.{addressing_in}
-use Rattle.rm_message.specs.addressing.Writable.{IsAddressingWritable, addressing_blocks, IsAddressingBlock, IsForeign}
-use Rattle.rm_message.specs.addressing.declared.addressing.Addressing.{Addressing}
-use Rattle.rm_message.specs.elements.Headers.{header_of}
-use Rattle.rm_message.specs.elements.Lifecycle.{lifecycle_of}
-use Rattle.rm_message.specs.elements.Texts.{header_node, lifecycle_node}
-use Rattle.rm_message.specs.elements.Writable.{IsHeaderWritable, IsLifecycleWritable}
-use Rattle.rm_message.specs.elements.declared.header.Header.{Header}
-use Rattle.rm_message.specs.elements.declared.lifecycle.Lifecycle.{Lifecycle}
+use Rattle.soap_writer.specs.ReadBack.{written_tree}
+use Rattle.soap_writer.specs.Writable.{IsWritable}
+use Rattle.soap_nodes.specs.Node.{node_tree}
+use Rattle.wsa_headers.specs.Addressing.{addressing_in}
+use Rattle.wsa_headers.specs.Writable.{IsAddressingWritable, addressing_blocks, IsAddressingBlock, IsForeign}
+use Rattle.wsa_headers.specs.declared.addressing.Addressing.{Addressing}
+use Rattle.rm_elements.specs.Headers.{header_of}
+use Rattle.rm_elements.specs.Lifecycle.{lifecycle_of}
+use Rattle.rm_elements.specs.Texts.{header_node, lifecycle_node}
+use Rattle.rm_elements.specs.Writable.{IsHeaderWritable, IsLifecycleWritable}
+use Rattle.rm_elements.specs.declared.header.Header.{Header}
+use Rattle.rm_elements.specs.declared.lifecycle.Lifecycle.{Lifecycle}
 
 -- an element is kept but for its declarations
 abbrev pub KnowsTrees : Type 0

@@ -16,11 +16,11 @@ use Rattle.soap_lex.specs.Scalars.{all_scalar, name_char-scalar, name_each}
 use Rattle.soap_profile.specs.Namespaces.{split, xml_space, bound}
 use Rattle.soap_profile.specs.declared.name.Expanded.{Expanded}
 use Rattle.soap_frame.specs.Framed.{sorted_scope}
-use Rattle.rm_message.specs.nodes.Node.{note_bindings}
-use Rattle.rm_message.specs.values.QNames.{qname_in}
-use Rattle.rm_message.specs.values.Values.{trimmed_start, trimmed_end, trimmed}
-use Rattle.soap_frame.specs.markup.Plain.{name_from}
-use Rattle.soap_frame.specs.markup.Writable.{IsNameWritable}
+use Rattle.soap_nodes.specs.Node.{note_bindings}
+use Rattle.soap_values.specs.QNames.{qname_in}
+use Rattle.soap_values.specs.Values.{trimmed_start, trimmed_end, trimmed}
+use Rattle.soap_writer.specs.Plain.{name_from}
+use Rattle.soap_writer.specs.Writable.{IsNameWritable}
 use Rattle.message_writer.specs.Text.{qname, qname_notes}
 
 -- ---- a name, and where it is cut

@@ -7,29 +7,29 @@ use Rattle.std.proofs.lemmas.Bool.{true≢false}
 use Rattle.soap_lex.specs.Facts.{equal}
 use Rattle.soap_profile.specs.Tree.{Element, Parts, none, name_of, children_of}
 use Rattle.soap_profile.specs.declared.name.Expanded.{Expanded}
-use Rattle.soap_frame.specs.envelopes.Envelope.{Envelope, IsEnvelope}
+use Rattle.soap_envelope.specs.Envelope.{Envelope, IsEnvelope}
 use Rattle.soap_envelope.specs.Soap.{soap_space}
-use Rattle.soap_frame.specs.markup.Frame.{addressing_space}
-use Rattle.soap_frame.specs.markup.Plain.{chars_from}
+use Rattle.soap_writer.specs.Frame.{addressing_space}
+use Rattle.soap_writer.specs.Plain.{chars_from}
 use Rattle.soap_frame.specs.Framed.{framed_envelope, MayBeSoap}
-use Rattle.rm_message.specs.nodes.Node.{Nodes, more, leaf, nodes_tree}
-use Rattle.rm_message.specs.values.Outcome.{◌>>=◌}
-use Rattle.rm_message.specs.addressing.Addressing.{uri_header, is_missing, properties_in, read_or_bad, read_unless}
-use Rattle.rm_message.specs.addressing.Addressing.{repeated}
-use Rattle.rm_message.specs.addressing.Addressing.{addressing_in, or_anonymous, Replies, params_of, relates_in}
-use Rattle.rm_message.specs.addressing.Addressing.{replies_in}
-use Rattle.rm_message.specs.addressing.Endpoint.{wsa}
-use Rattle.rm_message.specs.addressing.Texts.{tag_of, params_nodes, uri_before, epr_before}
-use Rattle.rm_message.specs.addressing.Writable.{addressing_blocks}
-use Rattle.rm_message.specs.addressing.declared.addressing.Addressing.{Addressing}
-use Rattle.rm_message.specs.addressing.declared.error.AddressingError.TheVariants.{HeaderMissing}
-use Rattle.rm_message.specs.addressing.declared.tag.Tag.TheVariants as tags
-use Rattle.rm_message.specs.elements.Texts.{sequence_node}
-use Rattle.rm_message.specs.elements.Writable.{IsSequenceWritable}
-use Rattle.rm_message.specs.elements.declared.header.AckBlock.{AckBlock}
-use Rattle.rm_message.specs.elements.declared.header.Header.TheVariants as headers
-use Rattle.rm_message.specs.elements.declared.header.SeqHeader.{SeqHeader}
-use Rattle.rm_message.specs.elements.declared.lifecycle.Lifecycle.TheVariants as life
+use Rattle.soap_nodes.specs.Node.{Nodes, more, leaf, nodes_tree}
+use Rattle.soap_values.specs.Outcome.{◌>>=◌}
+use Rattle.wsa_headers.specs.Addressing.{uri_header, is_missing, properties_in, read_or_bad, read_unless}
+use Rattle.wsa_headers.specs.Addressing.{repeated}
+use Rattle.wsa_headers.specs.Addressing.{addressing_in, or_anonymous, Replies, params_of, relates_in}
+use Rattle.wsa_headers.specs.Addressing.{replies_in}
+use Rattle.wsa_headers.specs.Endpoint.{wsa}
+use Rattle.wsa_headers.specs.Texts.{tag_of, params_nodes, uri_before, epr_before}
+use Rattle.wsa_headers.specs.Writable.{addressing_blocks}
+use Rattle.wsa_headers.specs.declared.addressing.Addressing.{Addressing}
+use Rattle.wsa_headers.specs.declared.error.AddressingError.TheVariants.{HeaderMissing}
+use Rattle.wsa_headers.specs.declared.tag.Tag.TheVariants as tags
+use Rattle.rm_elements.specs.Texts.{sequence_node}
+use Rattle.rm_elements.specs.Writable.{IsSequenceWritable}
+use Rattle.rm_elements.specs.declared.header.AckBlock.{AckBlock}
+use Rattle.rm_elements.specs.declared.header.Header.TheVariants as headers
+use Rattle.rm_elements.specs.declared.header.SeqHeader.{SeqHeader}
+use Rattle.rm_elements.specs.declared.lifecycle.Lifecycle.TheVariants as life
 use Rattle.rm_message.specs.declared.message.Body.{Body}
 use Rattle.rm_message.specs.declared.message.Body.TheVariants as body
 use Rattle.rm_message.specs.declared.message.Message.{Message}

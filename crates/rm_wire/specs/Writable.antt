@@ -2,10 +2,10 @@
 use Rattle.std.specs.Prelude.{Option, IfSome}
 use Rattle.std.specs.List.{AllByRecursion}
 use Rattle.rm_base.specs.Text.{IsText}
-use Rattle.soap_frame.specs.markup.Writable.{IsNameWritable}
-use Rattle.rm_message.specs.addressing.Writable.{IsEprWritable}
-use Rattle.rm_message.specs.elements.Writable.{IsAckWritable}
-use Rattle.rm_message.specs.elements.declared.header.AckBlock.{AckBlock}
+use Rattle.soap_writer.specs.Writable.{IsNameWritable}
+use Rattle.wsa_headers.specs.Writable.{IsEprWritable}
+use Rattle.rm_elements.specs.Writable.{IsAckWritable}
+use Rattle.rm_elements.specs.declared.header.AckBlock.{AckBlock}
 use Rattle.rm_message.specs.declared.refusal.Refusal.{Refusal}
 
 -- an endpoint, an address, names and an identifier, and the acknowledgement that goes with it, if there is one

@@ -3,8 +3,8 @@
 ghost use Rattle.std.specs.Prelude.{◌≡◌, ◌≢◌, ◌≤◌, ℕ, List, Option, length};
 ghost use Rattle.soap_frame.specs.Framed.{MayBeSoap};
 ghost use Rattle.soap_envelope.specs.Soap.{soap_space};
-ghost use Rattle.soap_frame.specs.markup.Frame.{addressing_space};
-ghost use Rattle.rm_message.specs.elements.declared.header.AckBlock.{AckBlock as Acknowledgement};
+ghost use Rattle.soap_writer.specs.Frame.{addressing_space};
+ghost use Rattle.rm_elements.specs.declared.header.AckBlock.{AckBlock as Acknowledgement};
 ghost use Rattle.rm_message.specs.declared.message.Message.{Message as Value};
 ghost use Rattle.rm_message.specs.declared.refusal.Refusal.{Refusal as Refused};
 ghost use Rattle.message_reader.specs.Refusals.{Spells, Refuses};
@@ -15,11 +15,11 @@ ghost use Rattle.rm_wire.specs.Writable.{IsRefusalWritable};
 
 use message_reader::laws::{a_message_is_not_refused, one_message};
 use message_writer::text_is_an_envelope;
-use rm_message::addressing::{addressing_blocks_are_told, addressing_is_read_back};
-use rm_message::elements::laws::{
+use rm_elements::laws::{
     header_is_foreign, header_is_good, header_is_read_back, lifecycle_is_read_back,
 };
-use soap_frame::markup::laws::written_tree_is_the_tree;
+use soap_writer::laws::written_tree_is_the_tree;
+use wsa_headers::{addressing_blocks_are_told, addressing_is_read_back};
 
 /// The text of a message that keeps the rules spells this message, where it is no longer than a message may be: what
 /// is written is read. So it is with SOAP 1.2, and wherever SOAP has another namespace than WS-Addressing.

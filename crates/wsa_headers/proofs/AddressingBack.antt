@@ -6,8 +6,8 @@ use Rattle.std.specs.Prelude.{IfSome}
 use Rattle.std.specs.Str.{bytes_eq}
 use Rattle.rm_base.specs.Text.{IsText}
 use Rattle.soap_profile.specs.Tree.{Element, element, none, text, name_of, children_of}
-use Rattle.soap_nodes.specs.markup.Frame.{addressing_space}
-use Rattle.soap_nodes.specs.markup.ReadBack.{written_tree}
+use Rattle.soap_writer.specs.Frame.{addressing_space}
+use Rattle.soap_writer.specs.ReadBack.{written_tree}
 use Rattle.soap_nodes.specs.Node.{Nodes, nodes_tree}
 use Rattle.wsa_headers.specs.Addressing.{is_marked, is_header, blocks_named, is_repeated, repeated, uri_header}
 use Rattle.wsa_headers.specs.Addressing.{epr_header, relates_in, params_of, replies_in, properties_in, addressing_in}

@@ -4,8 +4,8 @@ use Rattle.std.specs.List.{AllByRecursion}
 use Rattle.std.specs.Prelude.{IfSome}
 use Rattle.rm_base.specs.Text.{IsText}
 use Rattle.soap_profile.specs.Tree.{Element}
-use Rattle.soap_nodes.specs.markup.Frame.{frame_scope}
-use Rattle.soap_nodes.specs.markup.ReadBack.{MarkFits}
+use Rattle.soap_writer.specs.Frame.{frame_scope}
+use Rattle.soap_writer.specs.ReadBack.{MarkFits}
 use Rattle.soap_nodes.specs.Good.{IsTagGood, IsGood, AreGood}
 use Rattle.soap_nodes.specs.Node.{tag_name, Nodes, leaf}
 use Rattle.wsa_headers.specs.TextLaws.{text_writable}

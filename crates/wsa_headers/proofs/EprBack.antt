@@ -9,8 +9,8 @@ use Rattle.soap_profile.specs.Namespaces.{is_new_name}
 use Rattle.soap_profile.specs.Payload.{height}
 use Rattle.soap_profile.specs.Tree.{Element, element, Parts, none, text, without_declarations, attrs_of, children_of}
 use Rattle.soap_profile.specs.declared.tree.Attr.{Attr}
-use Rattle.soap_nodes.specs.markup.ReadBack.{with_mark, written_tree}
-use Rattle.soap_nodes.specs.markup.Writable.{IsWritable}
+use Rattle.soap_writer.specs.ReadBack.{with_mark, written_tree}
+use Rattle.soap_writer.specs.Writable.{IsWritable}
 use Rattle.soap_nodes.specs.Node.{more, leaf, nodes_tree}
 use Rattle.soap_values.specs.Children.{children_named}
 use Rattle.wsa_headers.specs.Endpoint.{wsa, address_in, mark_name, is_no_mark, unmarked, param, params_length}

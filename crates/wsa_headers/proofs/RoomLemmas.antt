@@ -13,8 +13,8 @@ use Rattle.soap_profile.specs.View.{item_view, items_view, parts_view}
 use Rattle.soap_profile.specs.declared.name.Expanded.{Expanded}
 use Rattle.soap_profile.specs.declared.tree.Attr.{Attr}
 use Rattle.soap_profile.specs.declared.tree.Item.{Item as CodeItem}
-use Rattle.soap_nodes.specs.markup.ElementText.{quoted, written_name, declaration, attribute_prefix, attribute_text}
-use Rattle.soap_nodes.specs.markup.ElementText.{attributes_text, element_text, parts_text}
+use Rattle.soap_writer.specs.ElementText.{quoted, written_name, declaration, attribute_prefix, attribute_text}
+use Rattle.soap_writer.specs.ElementText.{attributes_text, element_text, parts_text}
 use Rattle.soap_values.specs.Outcome.{◌>>=◌}
 use Rattle.wsa_headers.specs.Endpoint.{params_length}
 use Rattle.wsa_headers.specs.Room.{left_of, text_room, value_room, name_length, declaration_room, attribute_room}

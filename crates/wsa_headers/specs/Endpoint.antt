@@ -6,8 +6,8 @@ use Rattle.soap_profile.specs.Payload.{height}
 use Rattle.soap_profile.specs.Tree.{Element, element, Parts, without_declarations, parts_of, children_of}
 use Rattle.soap_profile.specs.declared.name.Expanded.{Expanded}
 use Rattle.soap_profile.specs.declared.tree.Attr.{Attr}
-use Rattle.soap_nodes.specs.markup.ElementText.{element_text}
-use Rattle.soap_nodes.specs.markup.Frame.{addressing_space}
+use Rattle.soap_writer.specs.ElementText.{element_text}
+use Rattle.soap_writer.specs.Frame.{addressing_space}
 use Rattle.soap_values.specs.Children.{name_in, is_same, children_named}
 use Rattle.soap_values.specs.Outcome.{◌>>=◌, single}
 use Rattle.soap_values.specs.Values.{trimmed_text, text_within}

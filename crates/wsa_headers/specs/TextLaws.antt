@@ -9,7 +9,7 @@ use Rattle.std.proofs.lemmas.Str.{encodes-chars}
 use Rattle.xml_chars.specs.Classes.{is_char}
 use Rattle.rm_base.specs.Text.{IsText}
 use Rattle.soap_profile.specs.Tree.{Element, none, text, parts_of}
-use Rattle.soap_nodes.specs.markup.Writable.{IsTextWritable}
+use Rattle.soap_writer.specs.Writable.{IsTextWritable}
 use Rattle.soap_values.specs.Children.{text_among}
 use Rattle.soap_values.specs.TextLaws.{text_back}
 use Rattle.wsa_headers.specs.Endpoint.{uri_of}

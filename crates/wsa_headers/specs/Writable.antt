@@ -6,8 +6,8 @@ use Rattle.rm_base.specs.Text.{IsText}
 use Rattle.soap_profile.specs.Namespaces.{is_new_name}
 use Rattle.soap_profile.specs.Payload.{height}
 use Rattle.soap_profile.specs.Tree.{Element, name_of, attrs_of, children_of}
-use Rattle.soap_nodes.specs.markup.Frame.{addressing_space}
-use Rattle.soap_nodes.specs.markup.Writable.{IsWritable}
+use Rattle.soap_writer.specs.Frame.{addressing_space}
+use Rattle.soap_writer.specs.Writable.{IsWritable}
 use Rattle.soap_nodes.specs.Node.{nodes_tree}
 use Rattle.wsa_headers.specs.Addressing.{is_marked}
 use Rattle.wsa_headers.specs.Endpoint.{mark_name, params_length}

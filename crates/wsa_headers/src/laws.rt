@@ -4,8 +4,8 @@
 ghost use Rattle.std.specs.Prelude.{◌≡◌, ◌≤◌, ◌++◌, ℕ, List, Ok, Some, true};
 ghost use Rattle.std.specs.List.{AllByRecursion};
 ghost use Rattle.soap_profile.specs.Tree.{Element as Tree};
-ghost use Rattle.soap_nodes.specs.markup.Frame.{frame_scope};
-ghost use Rattle.soap_nodes.specs.markup.ReadBack.{written_tree};
+ghost use Rattle.soap_writer.specs.Frame.{frame_scope};
+ghost use Rattle.soap_writer.specs.ReadBack.{written_tree};
 ghost use Rattle.soap_nodes.specs.Good.{AreGood};
 ghost use Rattle.soap_nodes.specs.Node.{nodes_tree};
 ghost use Rattle.wsa_headers.specs.Addressing.{is_marked, addressing_in};
@@ -21,7 +21,7 @@ ghost use Rattle.wsa_headers.specs.Writable.{
 ghost use Rattle.wsa_headers.specs.declared.addressing.Addressing.{Addressing as Properties};
 ghost use Rattle.wsa_headers.specs.declared.endpoint.Epr.{Epr as Reference};
 
-use soap_nodes::markup::laws::written_tree_is_the_tree;
+use soap_writer::laws::written_tree_is_the_tree;
 
 /// What is written for an endpoint reference is read back as it, whatever the namespace of SOAP.
 pub fn epr_is_read_back()

@@ -5,6 +5,7 @@
 #![tactic(auto)]
 
 pub mod addressing;
+mod copies;
 pub mod endpoint;
 pub mod error;
 pub mod laws;
@@ -14,6 +15,7 @@ pub mod tag;
 pub mod write;
 
 pub use addressing::Addressing;
+pub use copies::{copy_elements, copy_endpoint, copy_ident, copy_optional_uri, copy_uri, uri_of};
 pub use endpoint::{ADDRESSING, Epr, read_address_of, read_epr, read_reference, unmark};
 pub use error::AddressingError;
 pub use laws::{
@@ -23,8 +25,3 @@ pub use laws::{
 pub use read::{is_parameter, read_addressing};
 pub use tag::Tag;
 pub use write::{push_epr, write_addressing, write_epr};
-
-// What the contracts here speak of, passed on to the layers above, which need not list these crates.
-pub use soap_nodes as nodes;
-pub use soap_nodes::markup;
-pub use soap_values as values;

@@ -6,7 +6,7 @@ ghost use Rattle.std.specs.Str.{bytes_eq};
 ghost use Rattle.soap_lex.specs.Escapes.{text_escape, value_escape};
 ghost use Rattle.soap_document.specs.Tokens.{is_nil};
 ghost use Rattle.soap_profile.specs.Namespaces.{xml_space};
-ghost use Rattle.soap_profile.specs.Payload.{height, depth};
+ghost use Rattle.soap_profile.specs.Payload.{height};
 ghost use Rattle.soap_profile.specs.View.{element_view, attrs_view, parts_view};
 ghost use Rattle.wsa_headers.specs.Endpoint.{may_keep as may_keep_of};
 ghost use Rattle.wsa_headers.specs.Room.{
@@ -24,64 +24,26 @@ ghost use Rattle.wsa_headers.specs.Room.{
 };
 
 use itoa::Buffer;
-use soap_profile::{Attr, Element, Item, Name};
-
-const MOST_BYTES: usize = 65536;
-
-const MOST_LEVELS: usize = 90;
-
-const XML_SPACE: &[u8] = b"http://www.w3.org/XML/1998/namespace";
+use rm_base::limits::{CONTENT_DEPTH, PARAMETER_BYTES};
+use soap_profile::{Attr, Element, Item, Name, XML_SPACE, is_shallow};
 
 /// Whether no parameter is nested too deeply, and their texts are together not too long.
 #[tactic(auto, using(crate::proofs::RoomLemmas::room_decides))]
 pub(crate) fn may_keep(params: &[Element]) -> bool
     ensures { result ≡ may_keep_of (map element_view params.now) }
 {
-    are_within(params, MOST_LEVELS) && after_elements(params, MOST_BYTES).is_some()
+    are_within(params, CONTENT_DEPTH) && after_elements(params, PARAMETER_BYTES).is_some()
 }
 
 fn are_within(params: &[Element], levels: usize) -> bool
     ensures { result ≡ list_all (λ p. nat_le (height p) levels) (map element_view params.now) }
 {
     for param in params {
-        if !is_within(param, levels) {
+        if !is_shallow(param, levels) {
             return false;
         }
     }
     true
-}
-
-// Whether no more elements stand in one another, this one counted.
-#[cycle(depth)]
-fn is_within(element: &Element, levels: usize) -> bool
-    ensures { result ≡ nat_le (height (element_view element.now)) levels }
-{
-    if levels == 0 {
-        return false;
-    }
-    are_items_within(element.items.as_slice(), levels - 1)
-}
-
-#[cycle(depth)]
-fn are_items_within(items: &[Item], levels: usize) -> bool
-    ensures { result ≡ nat_le (depth (parts_view items.now)) levels }
-{
-    for item in items {
-        if !is_item_within(item, levels) {
-            return false;
-        }
-    }
-    true
-}
-
-#[cycle(depth)]
-fn is_item_within(item: &Item, levels: usize) -> bool
-    ensures { result ≡ nat_le (depth (parts_view (item.now ∷ []))) levels }
-{
-    match item {
-        Item::Child(element) => is_within(element, levels),
-        _ => true,
-    }
 }
 
 fn after(cost: usize, room: usize) -> Option<usize>

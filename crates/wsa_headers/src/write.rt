@@ -1,7 +1,7 @@
 //! Header blocks and endpoint references to bytes. Each writer of a piece appends it, up to a want of memory.
 ghost use Rattle.std.specs.Prelude.{◌≡◌, ◌++◌, map, true, OnOk, OnErr};
 ghost use Rattle.soap_profile.specs.View.{element_view};
-ghost use Rattle.soap_nodes.specs.markup.ElementText.{element_text};
+ghost use Rattle.soap_writer.specs.ElementText.{element_text};
 ghost use Rattle.soap_nodes.specs.Node.{node_text, nodes_text, full, leaf, nothing};
 ghost use Rattle.wsa_headers.specs.Texts.{
   tag_of,
@@ -17,9 +17,9 @@ use crate::addressing::Addressing;
 use crate::endpoint::Epr;
 use crate::tag::Tag;
 use rm_base::{Blob, Memory, Uri};
-use soap_nodes::markup::write_element;
 use soap_nodes::{push_begin, push_bytes, push_close, push_leaf};
 use soap_profile::{Element, Elements};
+use soap_writer::write_element;
 use std::alloc::Global;
 use std::mem;
 

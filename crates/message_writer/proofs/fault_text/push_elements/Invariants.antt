@@ -1,7 +1,7 @@
 use Rattle.std.proofs.Common.{◌≡◌, ◌++◌, drop, map, false}
 use Rattle.soap_profile.specs.View.{element_view}
 use Rattle.soap_nodes.specs.Node.{nodes_text}
-use Rattle.rm_message.specs.addressing.Texts.{params_nodes}
+use Rattle.wsa_headers.specs.Texts.{params_nodes}
 use Rattle.message_writer.proofs.fault_text.push_elements.Given as goal
 
 -- those so far, and those of what is left

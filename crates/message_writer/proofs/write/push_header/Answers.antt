@@ -1,6 +1,6 @@
 use Rattle.std.proofs.Common.{◌++◌, ◌∙◌, sym, ap, append_assoc}
 use Rattle.soap_nodes.specs.Node.{nodes_text}
-use Rattle.rm_message.specs.addressing.Texts.{addressing_nodes}
+use Rattle.wsa_headers.specs.Texts.{addressing_nodes}
 use Rattle.message_writer.specs.Steps.{other_text}
 use Rattle.message_writer.proofs.TextLemmas.{header_text}
 use Rattle.message_writer.proofs.write.push_header.Goals as goal

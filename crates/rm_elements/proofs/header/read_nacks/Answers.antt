@@ -1,8 +1,8 @@
 use Rattle.std.proofs.lemmas.Result.{err_from_is_err_and}
 use Rattle.soap_profile.specs.View.{element_view}
-use Rattle.wsa_headers.specs.values.EachLaws.{each_goes_on, each_stops}
-use Rattle.wsa_headers.specs.values.Outcome.{each}
-use Rattle.wsa_headers.specs.values.Steps.{lent_trees}
+use Rattle.soap_values.specs.EachLaws.{each_goes_on, each_stops}
+use Rattle.soap_values.specs.Outcome.{each}
+use Rattle.soap_values.specs.Steps.{lent_trees}
 use Rattle.rm_elements.specs.Headers.{number_of}
 use Rattle.rm_elements.proofs.header.read_nacks.Goals as goal
 

@@ -1,6 +1,6 @@
 use Rattle.std.proofs.Common.{◌≡◌, drop}
-use Rattle.wsa_headers.specs.values.Outcome.{each}
-use Rattle.wsa_headers.specs.values.Steps.{onto, lent_trees}
+use Rattle.soap_values.specs.Outcome.{each}
+use Rattle.soap_values.specs.Steps.{onto, lent_trees}
 use Rattle.rm_elements.specs.Headers.{number_of}
 use Rattle.rm_elements.proofs.header.read_nacks.Given as goal
 

@@ -2,7 +2,7 @@ use Rattle.std.proofs.Common.{◌≡◌, ℕ, Bool, true, false, ◌&&◌, List,
 use Rattle.std.specs.Str.{bytes_eq}
 use Rattle.soap_profile.specs.Tree.{Element, name_of}
 use Rattle.soap_nodes.specs.Node.{node_tree}
-use Rattle.wsa_headers.specs.markup.Frame.{addressing_space, messaging_space, connection_space}
+use Rattle.soap_writer.specs.Frame.{addressing_space, messaging_space, connection_space}
 use Rattle.wsa_headers.specs.Writable.{IsForeign}
 use Rattle.rm_elements.specs.Headers.{header_of}
 use Rattle.rm_elements.specs.Texts.{header_node}
