@@ -7,11 +7,11 @@ use Rattle.rm_base.specs.declared.message.Binding.{Binding}
 use Rattle.rm_base.specs.declared.message.Payload.{Payload}
 use Rattle.soap_profile.specs.Tree.{Element}
 use Rattle.soap_profile.specs.Payload.{height}
-use Rattle.record_batch.specs.markup.ElementText.{element_text}
-use Rattle.record_batch.specs.markup.Writable.{IsWritable as IsElementWritable}
-use Rattle.record_batch.specs.addressing.declared.endpoint.Epr.{Epr}
-use Rattle.record_batch.specs.addressing.Endpoint.{params_length}
-use Rattle.record_batch.specs.addressing.Writable.{IsEprWritable, IsParamWritable as IsParamKept}
+use Rattle.soap_writer.specs.ElementText.{element_text}
+use Rattle.soap_writer.specs.Writable.{IsWritable as IsElementWritable}
+use Rattle.wsa_headers.specs.declared.endpoint.Epr.{Epr}
+use Rattle.wsa_headers.specs.Endpoint.{params_length}
+use Rattle.wsa_headers.specs.Writable.{IsEprWritable, IsParamWritable as IsParamKept}
 use Rattle.record_batch.specs.Batch.{batch_text}
 use Rattle.record_batch.specs.Fact.{Fact, Made, Creating, Created, Granted, Accepted, Acked, Received, Closing}
 use Rattle.record_batch.specs.Fact.{ClosedOut, Closed, Ending, EndedOut, Ended, Failed}

@@ -4,8 +4,8 @@ use Rattle.std.specs.List.{sum_by}
 use Rattle.rm_base.specs.declared.message.Binding.{Binding}
 use Rattle.rm_base.specs.declared.message.Payload.{Payload}
 use Rattle.soap_profile.specs.Tree.{Element}
-use Rattle.record_batch.specs.markup.ElementText.{element_text}
-use Rattle.record_batch.specs.addressing.declared.endpoint.Epr.{Epr}
+use Rattle.soap_writer.specs.ElementText.{element_text}
+use Rattle.wsa_headers.specs.declared.endpoint.Epr.{Epr}
 use Rattle.record_batch.specs.declared.record.OwnOffer.{OwnOffer}
 use Rattle.record_batch.specs.declared.record.PeerOffer.{PeerOffer}
 use Rattle.record_batch.specs.Fact.{Fact, Made, Creating, Created, Granted, Accepted, Acked, Received, Closing}

@@ -3,8 +3,8 @@ use Rattle.std.specs.Prelude.{◌<◌, List, [], ◌∷◌, Option, Some, None, 
 use Rattle.std.specs.List.{AllByRecursion}
 use Rattle.ack_ranges.specs.Ranges.{IsCanonical}
 use Rattle.rm_base.specs.Text.{IsText}
-use Rattle.record_batch.specs.addressing.Writable.{IsEprWritable}
-use Rattle.record_batch.specs.addressing.declared.endpoint.Epr.{Epr}
+use Rattle.wsa_headers.specs.Writable.{IsEprWritable}
+use Rattle.wsa_headers.specs.declared.endpoint.Epr.{Epr}
 use Rattle.record_batch.specs.declared.record.PeerOffer.{PeerOffer}
 use Rattle.record_batch.specs.Fact.{Fact, Made, Creating, Created, Granted, Accepted, Acked, Received, Closing}
 use Rattle.record_batch.specs.Fact.{ClosedOut, Closed, Ending, EndedOut, Ended, Failed}

@@ -4,7 +4,7 @@ ghost use Rattle.std.specs.List.{sum_by};
 ghost use Rattle.ack_ranges.specs.Ranges.{IsCanonical};
 ghost use Rattle.rm_base.specs.Text.{IsText};
 ghost use Rattle.soap_profile.specs.View.{element_view};
-ghost use Rattle.record_batch.specs.markup.ElementText.{element_text};
+ghost use Rattle.soap_writer.specs.ElementText.{element_text};
 ghost use Rattle.record_batch.specs.Writable.{IsLapseWritable, IsNumber32, IsNumber64, IsOwnOfferWritable};
 ghost use Rattle.batch_size.specs.Size.{
   capped,
@@ -20,13 +20,13 @@ ghost use Rattle.batch_size.specs.Size.{
 ghost use Rattle.batch_size.specs.Typed.{IsPeerOfferTyped};
 
 use ack_ranges::RangeSet;
-use record_batch::addressing::Epr;
-use record_batch::elements::Lapse;
-use record_batch::markup::write_element;
 use record_batch::{OwnOffer, PeerOffer};
 use rm_base::{Binding, Blob, Ident, Memory, Payload, Uri};
+use rm_elements::Lapse;
 use soap_profile::Element;
+use soap_writer::write_element;
 use std::alloc::Global;
+use wsa_headers::Epr;
 
 /// A number of four bytes.
 pub fn u32_len(number: u32) -> u64

@@ -15,11 +15,11 @@ use crate::parts::{
     peer_offer_len, ranges_len, u8_len, u32_len, u64_len, uri_len,
 };
 use ack_ranges::RangeSet;
-use record_batch::addressing::Epr;
-use record_batch::elements::Lapse;
 use record_batch::{OwnOffer, PeerOffer, Record};
 use rm_base::{Blob, Ident, Memory, Payload, Uri};
+use rm_elements::Lapse;
 use std::alloc::Global;
+use wsa_headers::Epr;
 
 fn made_len(node: u64, address: &Uri) -> u64
     ensures len { result ≡ 13 + length address.now }

@@ -6,37 +6,37 @@ use Rattle.std.specs.List.{remove}
 use Rattle.std.specs.Option.{option_to_list}
 use Rattle.std.proofs.lemmas.List.{map-append}
 use Rattle.std.proofs.lemmas.Option.{none-some, same_Some}
-use Rattle.sequence_table.specs.batches.Fact.{Fact, Creating, Granted}
+use Rattle.record_batch.specs.Fact.{Fact, Creating, Granted}
 use Rattle.sequence_table.specs.Makers.{makers_of}
 use Rattle.sequence_table.specs.Told.{begun}
 use Rattle.sequence_row.specs.declared.row.Start.{Start}
 use Rattle.sequence_row.specs.Row.{Seen, is_moment, started}
-use Rattle.node_tables.specs.declared.note.Ahead.{Ahead}
+use Rattle.node_tables.specs.declared.note.Coming.{Coming}
 use Rattle.node_tables.specs.Kept.{is_timed_record}
 use Rattle.node_tables.specs.Room.{AreBegun, all_spares, all_timed, spare_of, spares, spares_ahead, starts}
 use Rattle.node_tables.specs.Room.{starts_of}
 
-pub begun-more : (xs : List Ahead) (a : Ahead) → AreBegun xs → a.row.told ≡ started a.start → AreBegun (xs ++ a ∷ [])
+pub begun-more : (xs : List Coming) (a : Coming) → AreBegun xs → a.row.told ≡ started a.start → AreBegun (xs ++ a ∷ [])
 begun-more [] a h e = (e, tt)
 begun-more (x ∷ xs) a h e = (h.0, begun-more xs a h.1 e)
 
 -- the first of them is taken
-pub record Taken (xs : List Ahead) (a : Ahead) (s : Start) : Type 0 where
+pub record Taken (xs : List Coming) (a : Coming) (s : Start) : Type 0 where
   pub told : a.row.told ≡ started s
   pub begun_ : AreBegun (remove xs 0)
   pub starts_ : starts xs ≡ s ∷ starts (remove xs 0)
   pub room : spares_ahead xs ≡ spare_of a.row ∷ spares_ahead (remove xs 0)
 
-pub first-taken : (xs : List Ahead) (a : Ahead) (s : Start) → AreBegun xs → slice_get (starts xs) 0 ≡ Some s
+pub first-taken : (xs : List Coming) (a : Coming) (s : Start) → AreBegun xs → slice_get (starts xs) 0 ≡ Some s
     → a ≡ get_or xs 0 a → Taken xs a s
 first-taken [] a s h e is = absurd (none-some s e)
 first-taken (x ∷ xs) a s h e is =
     let same : x.start ≡ s = same_Some x.start s e in
     record {
-      told = ap (λ (y : Ahead). y.row.told) is ∙ h.0 ∙ ap started same;
+      told = ap (λ (y : Coming). y.row.told) is ∙ h.0 ∙ ap started same;
       begun_ = h.1;
       starts_ = ap (λ y. y ∷ starts xs) same;
-      room = ap (λ y. spare_of y ∷ spares_ahead xs) (sym (ap (λ (y : Ahead). y.row) is));
+      room = ap (λ y. spare_of y ∷ spares_ahead xs) (sym (ap (λ (y : Coming). y.row) is));
     }
 
 pub same-rest : (s : Start) (xs ys zs : List Start) → xs ≡ s ∷ ys → xs ≡ s ∷ zs → ys ≡ zs
@@ -78,7 +78,7 @@ second-timed (Granted counter message_id acks_to behaviour deadline lapse (Some 
 second-timed _ = refl
 
 -- a row more in place of the first of those to come
-pub row-moved : (rows rows2 : List Seen) (row : Seen) (old new : List Ahead) → rows2 ≡ rows ++ row ∷ []
+pub row-moved : (rows rows2 : List Seen) (row : Seen) (old new : List Coming) → rows2 ≡ rows ++ row ∷ []
     → spares_ahead old ≡ spare_of row ∷ spares_ahead new → all_spares rows2 new ≡ all_spares rows old
 row-moved rows rows2 row old new e h =
     ap (λ xs. spares xs ++ spares_ahead new) e
@@ -87,17 +87,17 @@ row-moved rows rows2 row old new e h =
     ∙ ap (λ xs. spares rows ++ xs) (sym h)
 
 -- of which one keeps how it begins, and what is known of its row
-pub begun-set : (xs : List Ahead) (j : ℕ) (a : Ahead) (row2 : Seen) → AreBegun xs → a ≡ get_or xs j a
+pub begun-set : (xs : List Coming) (j : ℕ) (a : Coming) (row2 : Seen) → AreBegun xs → a ≡ get_or xs j a
     → row2.told ≡ a.row.told → AreBegun (set xs j (record { start = a.start; row = row2 }))
 begun-set [] j a row2 h e told = tt
 begun-set (x ∷ xs) zero a row2 h e told =
-    (told ∙ ap (λ (y : Ahead). y.row.told) e ∙ h.0 ∙ ap started (sym (ap (λ (y : Ahead). y.start) e)), h.1)
+    (told ∙ ap (λ (y : Coming). y.row.told) e ∙ h.0 ∙ ap started (sym (ap (λ (y : Coming). y.start) e)), h.1)
 begun-set (x ∷ xs) (suc j) a row2 h e told = (h.0, begun-set xs j a row2 h.1 e told)
 
-pub starts-set : (xs : List Ahead) (j : ℕ) (a : Ahead) (row2 : Seen) → a ≡ get_or xs j a
+pub starts-set : (xs : List Coming) (j : ℕ) (a : Coming) (row2 : Seen) → a ≡ get_or xs j a
     → starts (set xs j (record { start = a.start; row = row2 })) ≡ starts xs
 starts-set [] j a row2 e = refl
-starts-set (x ∷ xs) zero a row2 e = ap (λ s. s ∷ starts xs) (ap (λ (y : Ahead). y.start) e)
+starts-set (x ∷ xs) zero a row2 e = ap (λ s. s ∷ starts xs) (ap (λ (y : Coming). y.start) e)
 starts-set (x ∷ xs) (suc j) a row2 e = ap (λ ss. x.start ∷ ss) (starts-set xs j a row2 e)
 
 -- the sequences of the first and of the second part

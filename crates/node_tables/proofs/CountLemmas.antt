@@ -5,7 +5,7 @@ use Rattle.std.specs.Prelude.{not}
 use Rattle.std.specs.List.{list_all}
 use Rattle.std.proofs.lemmas.Bool.{and_from, and_parts, cases_eq, eqb-true, false≢true, leb-true, lt-ltb}
 use Rattle.std.proofs.lemmas.List.{append-nil, append_assoc, length-append}
-use Rattle.sequence_table.specs.batches.Fact.{Fact, Creating, Granted, Closing, Ending}
+use Rattle.record_batch.specs.Fact.{Fact, Creating, Granted, Closing, Ending}
 use Rattle.sequence_table.specs.Words.{last_or}
 use Rattle.sequence_table.specs.Makers.{makers, makers_of, counter, draws_of}
 use Rattle.sequence_table.specs.Fits.{fits, all_fit, has_places, is_no_moment, offer_fits}

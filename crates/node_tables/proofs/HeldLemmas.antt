@@ -6,7 +6,7 @@ use Rattle.std.specs.List.{flat_map}
 use Rattle.std.proofs.lemmas.List.{get_or_append_left, length-append, length-map, map-append}
 use Rattle.std.proofs.lemmas.List.Concat.{flat_map-append}
 use Rattle.rm_base.specs.declared.message.Payload.{Payload}
-use Rattle.sequence_table.specs.batches.Fact.{Fact, Accepted, Received}
+use Rattle.record_batch.specs.Fact.{Fact, Accepted, Received}
 use Rattle.sequence_table.specs.Makers.{addresses_of, makers, makers_of, created, created_of, draws_of, counter, number}
 use Rattle.sequence_table.specs.Find.{accept_of}
 use Rattle.sequence_table.specs.GatherLemmas.{flat_map-more}

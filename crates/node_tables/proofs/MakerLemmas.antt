@@ -10,8 +10,9 @@ use Rattle.std.proofs.lemmas.Option.{none-some, same_Some, slice_get-get_or}
 use Rattle.rm_base.specs.Numbered.{numbered}
 use Rattle.rm_source.specs.declared.phase.OutPhase.{OutPhase}
 use Rattle.rm_source.specs.declared.phase.OutPhase.TheVariants as out
-use Rattle.sequence_table.specs.batches.Fact.{Fact, Made, Closing, ClosedOut, Ending, EndedOut, Failed}
-use Rattle.sequence_table.specs.Words.{Text, at_seq, first_or, is_empty, last_or}
+use Rattle.record_batch.specs.Fact.{Fact, Made, Closing, ClosedOut, Ending, EndedOut, Failed}
+use Rattle.rm_destination.specs.Messages.{is_empty}
+use Rattle.sequence_table.specs.Words.{Text, at_seq, first_or, last_or}
 use Rattle.sequence_table.specs.Find.{find_from}
 use Rattle.sequence_table.specs.Fits.{all_fit, fits}
 use Rattle.sequence_table.specs.Makers.{Maker, maker, makers_of, nodes_of}

@@ -9,14 +9,14 @@ use Rattle.std.proofs.lemmas.List.{get_or-append_right, get_or-map, length-set, 
 use Rattle.std.proofs.lemmas.List.{set-append_right}
 use Rattle.std.proofs.lemmas.List.Sums.{sum_by-append, sum_by-cons}
 use Rattle.ack_ranges.specs.declared.range.Range.{Range}
-use Rattle.sequence_table.specs.batches.Fact.{Fact, Created, Accepted, Acked, Received, Closing, ClosedOut, Closed}
-use Rattle.sequence_table.specs.batches.Fact.{Ending}
-use Rattle.sequence_table.specs.batches.Fact.{EndedOut, Ended, Failed}
+use Rattle.record_batch.specs.Fact.{Fact, Created, Accepted, Acked, Received, Closing, ClosedOut, Closed}
+use Rattle.record_batch.specs.Fact.{Ending}
+use Rattle.record_batch.specs.Fact.{EndedOut, Ended, Failed}
 use Rattle.sequence_table.specs.Told.{Side, Sends, Receives, Told, names}
 use Rattle.rm_base.specs.declared.message.Payload.{Payload}
 use Rattle.sequence_row.specs.Row.{Room, Seen, is_sender, side_step, takes, takes_message, takes_payload, with_room}
 use Rattle.sequence_row.specs.Row.{with_accepted, with_acked, with_received}
-use Rattle.node_tables.specs.declared.note.Ahead.{Ahead}
+use Rattle.node_tables.specs.declared.note.Coming.{Coming}
 use Rattle.node_tables.specs.Kept.{Tabled, row_at, tolds}
 use Rattle.node_tables.specs.Ready.{IsReady}
 use Rattle.node_tables.specs.Room.{AreClaimed, AreEnough, HasPlaces, IsClaimed, IsEnough, NodeRoom, Places, Spare}
@@ -253,11 +253,11 @@ spent-front xs ys k f lt =
     ∙ set-append_left xs ys k (spent (spare_at xs k) f) lt
 
 -- the room of tables
-abbrev pub room_with : ℕ → List Seen → List Ahead → NodeRoom
+abbrev pub room_with : ℕ → List Seen → List Coming → NodeRoom
 room_with slots rows ahead = record { slots = slots; rows = all_spares rows ahead; ahead = starts ahead }
 
 -- after a payload, a message or numbers of a row
-pub row-next : (old : Tabled) (r : List Fact) (rows rows2 : List Seen) (ahead : List Ahead) (slots slots2 : ℕ)
+pub row-next : (old : Tabled) (r : List Fact) (rows rows2 : List Seen) (ahead : List Coming) (slots slots2 : ℕ)
     (f : Fact) (more : List Fact) (k : ℕ) → IsReady old (f ∷ more) → old.room ≡ room_with slots rows ahead
     → starts_of f ≡ [] → names f ≡ k + 1 → k < length rows → slots ≤ slots2 + 1
     → spares rows2 ≡ spent_at (spares rows) k f
@@ -280,7 +280,7 @@ spare-row (x ∷ rows) zero lt = refl
 spare-row (x ∷ rows) (suc k) lt = spare-row rows k (omega (arith, lt))
 
 -- the room of a row
-row-enough : (old : Tabled) (rows : List Seen) (ahead : List Ahead) (slots : ℕ) (f : Fact) (more : List Fact) (k : ℕ)
+row-enough : (old : Tabled) (rows : List Seen) (ahead : List Coming) (slots : ℕ) (f : Fact) (more : List Fact) (k : ℕ)
     → IsReady old (f ∷ more) → old.room ≡ room_with slots rows ahead → k < length rows
     → IsEnough (spare_at (spares rows) k) (k + 1) (f ∷ more)
 row-enough old rows ahead slots f more k h is lt =
@@ -307,7 +307,7 @@ acked_side (Sends t) s rs h = refl
 acked_side (Receives t) s rs h = h
 
 -- the row has room for a payload
-pub payload-room : (old : Tabled) (rows : List Seen) (ahead : List Ahead) (slots s : ℕ) (payload : List ℕ)
+pub payload-room : (old : Tabled) (rows : List Seen) (ahead : List Coming) (slots s : ℕ) (payload : List ℕ)
     (more : List Fact) (k : ℕ) → IsReady old (Accepted s payload ∷ more) → old.room ≡ room_with slots rows ahead
     → s ≡ k + 1 → k < length rows → takes_payload (row_at (tolds rows) k).side ≡ true
     → 0 < (spare_at (spares rows) k).room.payloads
@@ -317,7 +317,7 @@ payload-room old rows ahead slots s payload more k h is at lt takes =
     omega (arith, was, sum_by-cons (payloads_for (k + 1)) (Accepted s payload) more, there s (k + 1) 1 at)
 
 -- the row has room for a message
-pub message-room : (old : Tabled) (rows : List Seen) (ahead : List Ahead) (slots s n : ℕ) (payload : Payload)
+pub message-room : (old : Tabled) (rows : List Seen) (ahead : List Coming) (slots s n : ℕ) (payload : Payload)
     (more : List Fact) (k : ℕ) → IsReady old (Received s n payload ∷ more) → old.room ≡ room_with slots rows ahead
     → s ≡ k + 1 → k < length rows → takes_message (row_at (tolds rows) k).side n ≡ true
     → 0 < (spare_at (spares rows) k).room.messages
@@ -327,7 +327,7 @@ message-room old rows ahead slots s n payload more k h is at lt takes =
     omega (arith, was, sum_by-cons (messages_for (k + 1)) (Received s n payload) more, there s (k + 1) 1 at)
 
 -- the row has room for the ranges of numbers
-pub ranges-room : (old : Tabled) (rows : List Seen) (ahead : List Ahead) (slots s : ℕ) (ranges : List Range)
+pub ranges-room : (old : Tabled) (rows : List Seen) (ahead : List Coming) (slots s : ℕ) (ranges : List Range)
     (more : List Fact) (k : ℕ) → IsReady old (Acked s ranges ∷ more) → old.room ≡ room_with slots rows ahead
     → s ≡ k + 1 → k < length rows → takes (row_at (tolds rows) k).side (Acked s ranges) ≡ true
     → length ranges ≤ (spare_at (spares rows) k).room.ranges
@@ -337,7 +337,7 @@ ranges-room old rows ahead slots s ranges more k h is at lt takes_it =
     omega (arith, was, sum_by-cons (ranges_for (k + 1)) (Acked s ranges) more, there s (k + 1) (length ranges) at)
 
 -- there is a place for the first record
-pub one-place : (old : Tabled) (rows : List Seen) (ahead : List Ahead) (slots : ℕ) (spare : Places) (f : Fact)
+pub one-place : (old : Tabled) (rows : List Seen) (ahead : List Coming) (slots : ℕ) (spare : Places) (f : Fact)
     (more : List Fact) → IsReady old (f ∷ more) → old.room ≡ room_with slots rows ahead → HasPlaces slots spare
     → HasPlaces 1 spare
 one-place old rows ahead slots spare f more h is places =
@@ -419,7 +419,7 @@ step-kind (Receives t) (Failed seq fault) = refl
 step-kind (Receives t) _ = refl
 
 -- a row made room
-pub claimed-front : (rows : List Seen) (ahead : List Ahead) (k : ℕ) (row row2 : Seen) (f : Fact) → k < length rows
+pub claimed-front : (rows : List Seen) (ahead : List Coming) (k : ℕ) (row row2 : Seen) (f : Fact) → k < length rows
     → row ≡ get_or rows k row → names f ≡ k + 1 → row2.told ≡ row.told
     → row2.room ≡ with_room row.told.side row.room f
     → AreClaimed (all_spares rows ahead) (all_spares (set rows k row2) ahead) f
@@ -438,11 +438,11 @@ claimed-front rows ahead k row row2 f lt e at told room =
     (subst (λ x. IsClaimed x (spare_of row2) (names f) f) old (claimed-row row row2 f told room)))
 
 -- the row of a sequence
-row_ahead : Ahead → Spare
+row_ahead : Coming → Spare
 row_ahead a = spare_of a.row
 
 -- a row that is to come made room
-pub claimed-back : (rows : List Seen) (ahead : List Ahead) (k n : ℕ) (a b : Ahead) (f : Fact) → n ≡ length rows
+pub claimed-back : (rows : List Seen) (ahead : List Coming) (k n : ℕ) (a b : Coming) (f : Fact) → n ≡ length rows
     → n ≤ k → k - n < length ahead → a ≡ get_or ahead (k - n) a → names f ≡ k + 1 → b.row.told ≡ a.row.told
     → b.row.room ≡ with_room a.row.told.side a.row.room f
     → AreClaimed (all_spares rows ahead) (all_spares rows (set ahead (k - n) b)) f
@@ -453,7 +453,7 @@ claimed-back rows ahead k n a b f count from lt e at told room =
     let within : k < length (all_spares rows ahead) =
     omega (arith, lt, from, len, length-append (spares rows) back, length-map ahead row_ahead) in
     let old : spare_of a.row ≡ spare_at (all_spares rows ahead) k =
-    ap (λ (x : Ahead). spare_of x.row) e
+    ap (λ (x : Coming). spare_of x.row) e
     ∙ sym (get_or-append_right (spares rows) back n k no_spare len from
     ∙ get_or-map row_ahead ahead (k - n) a no_spare lt) in
     let new : set (all_spares rows ahead) k (spare_of b.row) ≡ all_spares rows (set ahead (k - n) b) =

@@ -8,9 +8,9 @@ use Rattle.std.proofs.lemmas.Bool.{cases_eq, ne_eqb, false≢true, and_right, an
 use Rattle.std.proofs.lemmas.Option.{get_or_from_slice_get, slice_get-map, slice_get_cases}
 use Rattle.rm_base.specs.Numbered.{numbered}
 use Rattle.rm_base.specs.NumberSet.{has_number}
-use Rattle.sequence_table.specs.batches.Fact.{Fact, Created, Accepted, Acked, Received, Closing, ClosedOut, Closed}
-use Rattle.sequence_table.specs.batches.Fact.{Ending}
-use Rattle.sequence_table.specs.batches.Fact.{EndedOut, Ended, Failed}
+use Rattle.record_batch.specs.Fact.{Fact, Created, Accepted, Acked, Received, Closing, ClosedOut, Closed}
+use Rattle.record_batch.specs.Fact.{Ending}
+use Rattle.record_batch.specs.Fact.{EndedOut, Ended, Failed}
 use Rattle.sequence_table.specs.Makers.{Maker, makers, maker, counter}
 use Rattle.sequence_table.specs.Fits.{fits, follows, is_outgoing_side, is_incoming_side, is_up_to}
 use Rattle.sequence_table.specs.Sources.{accepted, phase}

@@ -13,7 +13,7 @@ use Rattle.rm_base.specs.declared.message.Payload.{Payload}
 use Rattle.rm_source.specs.declared.phase.OutPhase.{OutPhase}
 use Rattle.rm_source.specs.declared.phase.OutPhase.TheVariants as out
 use Rattle.rm_destination.specs.Messages.{is_empty, numbers_of}
-use Rattle.sequence_table.specs.batches.Fact.{Fact, Accepted, Acked, Received, Closed, Ended}
+use Rattle.record_batch.specs.Fact.{Fact, Accepted, Acked, Received, Closed, Ended}
 use Rattle.sequence_table.specs.Fits.{follows, is_up_to}
 use Rattle.sequence_table.specs.Told.{Told, Side, Sends, Receives, names, after, each_after}
 use Rattle.sequence_table.specs.ToldLemmas.{after-elsewhere, same_told}

@@ -6,7 +6,7 @@ use Rattle.std.proofs.lemmas.List.{append-nil, length-append, length-map}
 use Rattle.std.proofs.Math.Seq.{get_or-append_seam}
 use Rattle.ack_ranges.specs.Ranges.{Contents}
 use Rattle.rm_base.specs.declared.message.Payload.{Payload}
-use Rattle.sequence_table.specs.batches.Fact.{Fact, Made, Creating, Created, Granted, Accepted, Acked, Received}
+use Rattle.record_batch.specs.Fact.{Fact, Made, Creating, Created, Granted, Accepted, Acked, Received}
 use Rattle.std.specs.List.{flat_map}
 use Rattle.sequence_table.specs.Find.{accept_of}
 use Rattle.sequence_table.specs.Makers.{addresses_of, makers_of, created_of, draws_of}
@@ -14,7 +14,7 @@ use Rattle.sequence_table.specs.Fits.{fits}
 use Rattle.sequence_table.specs.OneMore.{number_after}
 use Rattle.sequence_table.specs.Told.{Told, Side, Sends, Receives, begun, each_after, names}
 use Rattle.sequence_table.specs.NameLemmas.{names-within}
-use Rattle.sequence_table.specs.batches.declared.record.Record.{Record}
+use Rattle.record_batch.specs.declared.record.Record.{Record}
 use Rattle.sequence_row.specs.Row.{Seen, takes, takes_message, takes_payload}
 use Rattle.node_tables.specs.declared.note.Note.{Note}
 use Rattle.node_tables.specs.declared.note.Note.TheVariants as note

@@ -4,11 +4,11 @@ use Rattle.std.specs.Prelude.{Bool, ◌&&◌, ◌≡◌, ℕ, ◌+◌, ◌<◌, 
 use Rattle.std.specs.Prelude.{length, map, Option, None, Some, slice_index_or}
 use Rattle.std.specs.List.{flat_map}
 use Rattle.rm_base.specs.declared.message.Payload.{Payload}
-use Rattle.sequence_table.specs.batches.declared.record.Record.{Record}
-use Rattle.sequence_table.specs.batches.Fact.{Fact, fact_of, Made, Creating, Accepted, Acked, Received, Created}
-use Rattle.sequence_table.specs.batches.Fact.{Granted}
+use Rattle.record_batch.specs.declared.record.Record.{Record}
+use Rattle.record_batch.specs.Fact.{Fact, fact_of, Made, Creating, Accepted, Acked, Received, Created}
+use Rattle.record_batch.specs.Fact.{Granted}
 use Rattle.sequence_table.specs.Words.{Text}
-use Rattle.sequence_table.specs.addressing.declared.endpoint.Epr.{Epr}
+use Rattle.wsa_headers.specs.declared.endpoint.Epr.{Epr}
 use Rattle.sequence_table.specs.Makers.{Maker, Taken, maker, makers, makers_of, created, counter, number, addresses_of}
 use Rattle.sequence_table.specs.Find.{accept_of}
 use Rattle.sequence_table.specs.Fits.{all_fit}
@@ -18,7 +18,7 @@ use Rattle.node_tables.specs.declared.note.Note.{Note}
 use Rattle.node_tables.specs.declared.note.Note.TheVariants as note
 use Rattle.node_tables.specs.declared.note.Origin.{Origin}
 use Rattle.node_tables.specs.declared.note.Named.{Named}
-use Rattle.node_tables.specs.declared.note.Ahead.{Ahead}
+use Rattle.node_tables.specs.declared.note.Coming.{Coming}
 use Rattle.node_tables.specs.Room.{AreBegun, HasPlaces, NodeRoom, Places}
 
 -- the payloads of a side that sends
@@ -172,7 +172,7 @@ pub record Holds (t : Table) : Type 0 where
   pub named_given : AreGiven t.kept t.named
 
 -- what is kept holds, and there is the room that was made and not used
-pub record IsSound (t : Table) (slots : ℕ) (spare : Places) (ahead : List Ahead) : Type 0 where
+pub record IsSound (t : Table) (slots : ℕ) (spare : Places) (ahead : List Coming) : Type 0 where
   pub holds : Holds t
   pub places : HasPlaces slots spare
   pub begun_ : AreBegun ahead

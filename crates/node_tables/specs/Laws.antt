@@ -6,7 +6,7 @@ use Rattle.rm_destination.specs.declared.outcome.InPhase.TheVariants.{Open, Ende
 use Rattle.rm_destination.specs.Incoming.{Receiving, is_stopped as stopped_in, phase_of, inbox as inbox_in}
 use Rattle.rm_destination.specs.Incoming.{discarded as discarded_in}
 use Rattle.rm_destination.specs.Messages.{any_true as any_in, front_of, numbers_of}
-use Rattle.sequence_table.specs.batches.Fact.{Fact}
+use Rattle.record_batch.specs.Fact.{Fact}
 use Rattle.sequence_table.specs.Makers.{address, number}
 use Rattle.sequence_table.specs.Destinations.{discarded, front, has_end, held, inbox, is_ended, is_over, is_stopped}
 use Rattle.sequence_table.specs.Told.{sending}

@@ -1,8 +1,8 @@
 -- Whom a sequence is with, and what it was asked for or granted with: WS-ReliableMessaging 1.2, section 3.4.
 use Rattle.std.specs.Prelude.{ℕ, ◌+◌, ◌-◌, if◌then◌else◌, List, Option, None, Some}
 use Rattle.std.specs.Option.{option_map}
-use Rattle.sequence_table.specs.addressing.declared.endpoint.Epr.{Epr}
-use Rattle.sequence_table.specs.batches.Fact.{Fact}
+use Rattle.wsa_headers.specs.declared.endpoint.Epr.{Epr}
+use Rattle.record_batch.specs.Fact.{Fact}
 use Rattle.sequence_table.specs.Find.{accepted_by, is_offered, is_taken}
 use Rattle.sequence_table.specs.Makers.{Maker, Outgoing, Offered, Incoming, Taken, maker}
 use Rattle.sequence_table.specs.Words.{Text}

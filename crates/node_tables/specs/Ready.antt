@@ -1,7 +1,7 @@
 -- There is room for records: applying them takes no memory. And what is left where not all records are applied.
 use Rattle.std.specs.Prelude.{◌≡◌, ◌≤◌, ◌↔◌, true, false, List, ◌∷◌, ◌++◌, length}
 use Rattle.std.specs.List.{flat_map}
-use Rattle.sequence_table.specs.batches.Fact.{Fact}
+use Rattle.record_batch.specs.Fact.{Fact}
 use Rattle.sequence_table.specs.Fits.{all_fit, fits}
 use Rattle.node_tables.specs.declared.error.TableError.{TableError}
 use Rattle.node_tables.specs.declared.error.TableError.TheVariants.{Misfit}

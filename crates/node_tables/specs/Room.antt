@@ -2,11 +2,11 @@
 use Rattle.std.specs.Prelude.{◌≡◌, ℕ, ◌+◌, ◌-◌, ◌≤◌, ◌<◌, ◌==◌, ◌&&◌, Bool, true, false, if◌then◌else◌, List, []}
 use Rattle.std.specs.Prelude.{◌∷◌, ◌++◌}
 use Rattle.std.specs.Prelude.{length, map, sum_by, slice_index_or, slice_set, None, Some}
-use Rattle.sequence_table.specs.batches.Fact.{Fact, Creating, Granted, Accepted, Acked, Received}
+use Rattle.record_batch.specs.Fact.{Fact, Creating, Granted, Accepted, Acked, Received}
 use Rattle.sequence_row.specs.declared.row.Start.{Start}
 use Rattle.sequence_row.specs.declared.row.Start.TheVariants as start
 use Rattle.sequence_row.specs.Row.{Room, Seen, is_sender, is_timed_start, no_room, started}
-use Rattle.node_tables.specs.declared.note.Ahead.{Ahead}
+use Rattle.node_tables.specs.declared.note.Coming.{Coming}
 
 -- a sequence: whether it sends, and the room for more
 pub record Spare : Type 0 where
@@ -94,19 +94,19 @@ abbrev pub spares : List Seen → List Spare
 spares rows = map spare_of rows
 
 -- the room of the sequences that records to come will make
-abbrev pub spares_ahead : List Ahead → List Spare
-spares_ahead ahead = map (λ (a : Ahead). spare_of a.row) ahead
+abbrev pub spares_ahead : List Coming → List Spare
+spares_ahead ahead = map (λ (a : Coming). spare_of a.row) ahead
 
 -- the room of each sequence, also of those that records to come will make
-abbrev pub all_spares : List Seen → List Ahead → List Spare
+abbrev pub all_spares : List Seen → List Coming → List Spare
 all_spares rows ahead = spares rows ++ spares_ahead ahead
 
 -- how they begin
-abbrev pub starts : List Ahead → List Start
-starts ahead = map (λ (a : Ahead). a.start) ahead
+abbrev pub starts : List Coming → List Start
+starts ahead = map (λ (a : Coming). a.start) ahead
 
 -- each row of them has begun so
-abbrev pub AreBegun : List Ahead → Type 0
+abbrev pub AreBegun : List Coming → Type 0
 AreBegun [] = Unit {0}
 AreBegun (a ∷ ahead) = (a.row.told ≡ started a.start) × AreBegun ahead
 

@@ -3,7 +3,7 @@ ghost use Rattle.std.specs.Prelude.{◌≡◌, ◌↔◌, ◌+◌, ◌≤◌, �
 ghost use Rattle.std.specs.Prelude.{IsTrue, vec_len, vec_capacity};
 ghost use Rattle.std.specs.List.{flat_map, list_all};
 ghost use Rattle.std.specs.Option.{option_to_list};
-ghost use Rattle.sequence_table.specs.batches.Fact.{fact_of};
+ghost use Rattle.record_batch.specs.Fact.{fact_of};
 ghost use Rattle.sequence_row.specs.declared.row.Start.{Start};
 ghost use Rattle.sequence_row.specs.Row.{is_timed_start, started};
 ghost use Rattle.sequence_table.specs.Makers.{makers_of};
@@ -11,10 +11,10 @@ ghost use Rattle.sequence_table.specs.Told.{begun};
 ghost use Rattle.node_tables.specs.Kept.{is_timed_record, tolds};
 ghost use Rattle.node_tables.specs.Room.{AreBegun, all_spares, all_timed, spare_of, spares_ahead, starts, starts_of};
 
-use crate::note::Ahead;
+use crate::note::Coming;
+use record_batch::Record;
 use rm_base::Memory;
 use sequence_row::{Row, Start};
-use sequence_table::batches::Record;
 use std::alloc::Global;
 
 /// How the first sequence begins that a record makes.
@@ -54,7 +54,7 @@ pub(crate) fn second_start(given: &Record) -> Option<Start>
 /// Puts the sequences that records will make behind the others.
 pub(crate) fn prepare_all(
     alloc: Global,
-    ahead: &mut Vec<Ahead>,
+    ahead: &mut Vec<Coming>,
     batch: &[Record],
 ) -> Result<(), Memory>
     requires { AreBegun ahead.old.items }
@@ -69,7 +69,7 @@ pub(crate) fn prepare_all(
 }
 
 /// Puts the sequences that a record will make behind the others.
-fn prepare(alloc: Global, ahead: &mut Vec<Ahead>, given: &Record) -> Result<(), Memory>
+fn prepare(alloc: Global, ahead: &mut Vec<Coming>, given: &Record) -> Result<(), Memory>
     requires { AreBegun ahead.old.items }
     ensures begun { AreBegun ahead.new.items }
     ensures starts { is_timed_record (fact_of given.now) ≡ true →
@@ -80,7 +80,7 @@ fn prepare(alloc: Global, ahead: &mut Vec<Ahead>, given: &Record) -> Result<(), 
 }
 
 /// Puts a sequence that begins so behind the others, where there is one and its deadline is a moment.
-fn prepare_one(alloc: Global, ahead: &mut Vec<Ahead>, start: Option<Start>) -> Result<(), Memory>
+fn prepare_one(alloc: Global, ahead: &mut Vec<Coming>, start: Option<Start>) -> Result<(), Memory>
     requires { AreBegun ahead.old.items }
     ensures begun { AreBegun ahead.new.items }
     ensures starts { all_timed (option_to_list start) ≡ true →
@@ -93,7 +93,7 @@ fn prepare_one(alloc: Global, ahead: &mut Vec<Ahead>, start: Option<Start>) -> R
             }
             ahead.reserve(1)?;
             let row = Row::new(alloc, start);
-            ahead.push_reserved(Ahead { start, row });
+            ahead.push_reserved(Coming { start, row });
             Ok(())
         }
         None => Ok(()),
@@ -111,7 +111,7 @@ fn is_timed(start: Start) -> bool
 }
 
 /// A sequence that begins so: the next one that was prepared, with its room, or else a new one. It takes no memory.
-fn take_ahead(alloc: Global, ahead: &mut Vec<Ahead>, start: Start) -> Row
+fn take_ahead(alloc: Global, ahead: &mut Vec<Coming>, start: Start) -> Row
     requires timed { is_timed_start start ≡ true }
     requires begun { AreBegun ahead.old.items }
     ensures told { result.told ≡ started start }
@@ -129,7 +129,7 @@ fn take_ahead(alloc: Global, ahead: &mut Vec<Ahead>, start: Start) -> Row
 }
 
 /// Whether the first of the sequences begins so.
-fn is_next(ahead: &[Ahead], start: Start) -> bool
+fn is_next(ahead: &[Coming], start: Start) -> bool
     ensures { (result ≡ true) ↔ (slice_get (starts ahead.now) 0 ≡ Some start) }
 {
     match ahead.first() {
@@ -139,7 +139,7 @@ fn is_next(ahead: &[Ahead], start: Start) -> bool
 }
 
 /// Puts a sequence that begins so behind the rows, where there is one. Where there is room for it, it takes no memory.
-fn begin_one(alloc: Global, rows: &mut Vec<Row>, ahead: &mut Vec<Ahead>, start: Option<Start>)
+fn begin_one(alloc: Global, rows: &mut Vec<Row>, ahead: &mut Vec<Coming>, start: Option<Start>)
     requires room { vec_len rows.old + 1 ≤ vec_capacity rows.old }
     requires timed { all_timed (option_to_list start) ≡ true }
     requires begun { AreBegun ahead.old.items }
@@ -159,7 +159,7 @@ fn begin_one(alloc: Global, rows: &mut Vec<Row>, ahead: &mut Vec<Ahead>, start: 
 }
 
 /// Puts the sequences that a record makes behind the rows. Where there is room for two, it takes no memory.
-pub(crate) fn begin(alloc: Global, rows: &mut Vec<Row>, ahead: &mut Vec<Ahead>, given: &Record)
+pub(crate) fn begin(alloc: Global, rows: &mut Vec<Row>, ahead: &mut Vec<Coming>, given: &Record)
     requires room { vec_len rows.old + 2 ≤ vec_capacity rows.old }
     requires timed { IsTrue (is_timed_record (fact_of given.now)) }
     requires begun { AreBegun ahead.old.items }

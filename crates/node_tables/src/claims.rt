@@ -1,14 +1,14 @@
 //! Room for records to come.
 ghost use Rattle.std.specs.Prelude.{◌≡◌, ◌+◌, ◌-◌, ◌≤◌, map, IsOk, OnOk, vec_len, vec_capacity};
-ghost use Rattle.sequence_table.specs.batches.Fact.{fact_of};
+ghost use Rattle.record_batch.specs.Fact.{fact_of};
 ghost use Rattle.node_tables.specs.Kept.{tolds};
 ghost use Rattle.node_tables.specs.Room.{AreBegun, AreClaimed, AreEnough, HasPlaces, all_spares, starts};
 
-use crate::note::{Ahead, Named, Note, Origin};
+use crate::note::{Coming, Named, Note, Origin};
 use crate::record::named_by;
+use record_batch::Record;
 use rm_base::Memory;
 use sequence_row::Row;
-use sequence_table::batches::Record;
 
 /// Makes room for so many records in each list.
 pub(crate) fn make_room(
@@ -66,7 +66,7 @@ pub(crate) fn release_all(rows: &mut Vec<Row>)
 /// Makes room for what records add to the sequences that they name.
 pub(crate) fn claim_all(
     rows: &mut Vec<Row>,
-    ahead: &mut Vec<Ahead>,
+    ahead: &mut Vec<Coming>,
     batch: &[Record],
 ) -> Result<(), Memory>
     requires { AreBegun ahead.old.items }
@@ -84,7 +84,7 @@ pub(crate) fn claim_all(
 }
 
 /// Makes room for what a record adds to the sequence that it names.
-fn claim(rows: &mut Vec<Row>, ahead: &mut Vec<Ahead>, given: &Record) -> Result<(), Memory>
+fn claim(rows: &mut Vec<Row>, ahead: &mut Vec<Coming>, given: &Record) -> Result<(), Memory>
     requires { AreBegun ahead.old.items }
     ensures told { tolds rows.new.items ≡ tolds rows.old.items }
     ensures starts { starts ahead.new.items ≡ starts ahead.old.items }

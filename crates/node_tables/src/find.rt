@@ -3,7 +3,7 @@ ghost use Rattle.std.specs.Prelude.{◌≡◌, ◌≤◌, length, map, false, sl
 ghost use Rattle.std.specs.List.{flat_map};
 ghost use Rattle.std.specs.Option.{option_copied, option_map};
 ghost use Rattle.std.specs.Str.{bytes_eq};
-ghost use Rattle.sequence_table.specs.batches.Fact.{fact_of};
+ghost use Rattle.record_batch.specs.Fact.{fact_of};
 ghost use Rattle.sequence_table.specs.Find.{accept_of, find_from, is_granted};
 ghost use Rattle.sequence_table.specs.Makers.{addresses_of, ident_in, seq_in};
 ghost use Rattle.sequence_table.specs.Words.{at_seq, first_or};
@@ -11,9 +11,9 @@ ghost use Rattle.node_tables.specs.Kept.{AreGiven, accept_at, ident_given, kept_
 ghost use Rattle.node_tables.specs.Reads.{ident_by, maker_from};
 
 use crate::note::{Named, Origin};
+use record_batch::Record;
 use rm_base::{Ident, Uri};
-use sequence_table::addressing::Epr;
-use sequence_table::batches::Record;
+use wsa_headers::Epr;
 
 /// The node's address, where a record gives one.
 pub(crate) fn find_address(kept: &[Record]) -> Option<&Uri>

@@ -17,7 +17,7 @@ fn upper_half(node: u64) -> u64
 }
 
 /// Whether a text is the identifier that a node issues for a number. It takes no memory.
-pub(crate) fn is_issued(node: u64, counter: u64, text: &[u8]) -> bool
+pub fn is_issued(node: u64, counter: u64, text: &[u8]) -> bool
     requires { node < 2 ^ 60 }
     ensures { result ≡ bytes_eq (issue node counter) text.now }
 {

@@ -16,6 +16,7 @@ mod rows;
 pub mod tables;
 
 pub use error::TableError;
-pub use maker::Maker;
+pub use issued::is_issued;
+pub use maker::{Maker, maker_by};
 pub use peer::{Asked, Grant, Peer};
 pub use tables::Tables;

@@ -1,16 +1,16 @@
 //! How a sequence came to be.
 ghost use Rattle.std.specs.Prelude.{◌≡◌, if◌then◌else◌, map, slice_get};
 ghost use Rattle.std.specs.Option.{option_map};
-ghost use Rattle.sequence_table.specs.batches.Fact.{fact_of};
+ghost use Rattle.record_batch.specs.Fact.{fact_of};
 ghost use Rattle.sequence_table.specs.Makers.{makers_of};
 ghost use Rattle.node_tables.specs.Kept.{kept_at};
 ghost use Rattle.node_tables.specs.Reads.{maker_seen};
 
 use crate::note::Origin;
+use record_batch::{Record, Via};
 use rm_base::{Behaviour, Ident, Uri};
-use sequence_table::addressing::Epr;
-use sequence_table::batches::{Record, Via};
-use sequence_table::elements::Lapse;
+use rm_elements::Lapse;
+use wsa_headers::Epr;
 
 /// How a sequence came to be, as the record that made it has it: WS-ReliableMessaging 1.2, section 3.4. Asked: with
 /// CreateSequence. Offered: the incoming one of its Offer. Granted: to a peer. Taken: the outgoing one of the peer's
@@ -52,12 +52,23 @@ pub(crate) fn maker_at(kept: &[Record], origin: Origin) -> Option<Maker<'_>>
     match kept.get(origin.made) {
         Some(known) => {
             if origin.is_second {
-                second_of(known)
+                maker_by(known, 1)
             } else {
-                first_of(known)
+                maker_by(known, 0)
             }
         }
         None => None,
+    }
+}
+
+/// How the sequence at a place came to be among those that a record makes, counted from 0.
+pub fn maker_by(known: &Record, place: usize) -> Option<Maker<'_>>
+    ensures { option_map maker_seen result ≡ slice_get (makers_of (fact_of known.now)) place }
+{
+    match place {
+        0 => first_of(known),
+        1 => second_of(known),
+        _ => None,
     }
 }
 

@@ -28,7 +28,7 @@ pub(crate) struct Named {
 
 /// A sequence that a record to come will make: how it begins, and its row, with room for records of it.
 #[derive(Debug, Drop)]
-pub(crate) struct Ahead {
+pub(crate) struct Coming {
     pub start: Start,
     pub row: Row,
 }

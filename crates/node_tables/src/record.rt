@@ -1,6 +1,6 @@
 //! What a record says of the node, and the traces that it leaves in the tables.
 ghost use Rattle.std.specs.Prelude.{◌≡◌, ◌+◌, ◌<◌, ◌≤◌, ◌++◌, length, vec_len, vec_capacity};
-ghost use Rattle.sequence_table.specs.batches.Fact.{fact_of};
+ghost use Rattle.record_batch.specs.Fact.{fact_of};
 ghost use Rattle.sequence_table.specs.Makers.{draws_of, makers_of};
 ghost use Rattle.sequence_table.specs.OneMore.{number_after};
 ghost use Rattle.sequence_table.specs.Told.{names};
@@ -8,7 +8,7 @@ ghost use Rattle.sequence_table.specs.Words.{last_or};
 ghost use Rattle.node_tables.specs.Kept.{names_for, origins_for};
 
 use crate::note::{Named, Origin};
-use sequence_table::batches::Record;
+use record_batch::Record;
 
 /// The sequence that a record names, and 0 where it names none.
 pub(crate) fn named_by(given: &Record) -> u32

@@ -1,7 +1,7 @@
 //! The rows of the tables, one a sequence: what a record changes of them.
 ghost use Rattle.std.specs.Prelude.{◌≡◌, ◌+◌, ◌-◌, ◌<◌, ◌≤◌, length, IfOk, IsOk, IsTrue, OnOk, OnErr};
 ghost use Rattle.std.specs.Prelude.{true, min, sum_by, vec_len, vec_capacity};
-ghost use Rattle.sequence_table.specs.batches.Fact.{Accepted, Acked, Received, fact_of};
+ghost use Rattle.record_batch.specs.Fact.{Accepted, Acked, Received, fact_of};
 ghost use Rattle.sequence_row.specs.Row.{Seen, step, takes, takes_message, takes_payload};
 ghost use Rattle.sequence_table.specs.Told.{each_after, names};
 ghost use Rattle.node_tables.specs.Kept.{accepted_in, is_whole, received_in, row_at, tolds};
@@ -10,10 +10,10 @@ ghost use Rattle.node_tables.specs.Room.{spare_at, spares, spent_at};
 
 use crate::record::named_by;
 use ack_ranges::RangeSet;
+use record_batch::Record;
 use rm_base::{Blob, Memory, Payload};
 use rm_source::OutPhase;
 use sequence_row::Row;
-use sequence_table::batches::Record;
 
 /// How many payloads a row has.
 fn payloads_of(row: &Row) -> usize

@@ -3,7 +3,7 @@ ghost use Rattle.std.specs.Prelude.{◌≡◌, ◌↔◌, ◌+◌, ◌^◌, ◌+
 ghost use Rattle.std.specs.Prelude.{OnErr, IfErr, IsOk, List, map};
 ghost use Rattle.std.specs.Prelude.{min, vec_len, vec_capacity};
 ghost use Rattle.std.specs.Option.{option_copied, option_map};
-ghost use Rattle.sequence_table.specs.batches.Fact.{Fact, Accepted, Acked, Received, fact_of};
+ghost use Rattle.record_batch.specs.Fact.{Fact, Accepted, Acked, Received, fact_of};
 ghost use Rattle.rm_source.specs.Outgoing.{Sequence as OutSequence};
 ghost use Rattle.rm_destination.specs.Incoming.{Sequence as InSequence};
 ghost use Rattle.sequence_row.specs.Row.{Seen, draws_next};
@@ -24,18 +24,18 @@ use crate::error::TableError;
 use crate::find::{find_accept, find_address, find_granted, find_ident, find_named};
 use crate::issued::is_issued;
 use crate::maker::{Maker, maker_at};
-use crate::note::{Ahead, Named, Note, Origin};
+use crate::note::{Coming, Named, Note, Origin};
 use crate::record::{drawn_after, made_by, name, named_by, number_after, trace};
 use crate::rows::{accept_at, change, learn_at, receive_at, waiting_in};
 use ack_ranges::RangeSet;
+use record_batch::Record;
 use rm_base::{Blob, Ident, Memory, Payload, Uri, numbered};
 use rm_destination::Incoming;
 use rm_source::{OutPhase, Outgoing};
 use sequence_row::Row;
-use sequence_table::addressing::Epr;
-use sequence_table::batches::Record;
 use std::alloc::Global;
 use std::marker::Model;
+use wsa_headers::Epr;
 
 /// The records of a node, and what they say.
 #[derive(Debug, Drop)]
@@ -46,7 +46,7 @@ pub struct Tables {
     notes: Vec<Note>,
     origins: Vec<Origin>,
     named: Vec<Named>,
-    ahead: Vec<Ahead>,
+    ahead: Vec<Coming>,
     slots: usize,
     number: u64,
     drawn: u64,
@@ -156,10 +156,11 @@ impl Tables {
         self.row(seq)?.ticket()
     }
 
-    /// How many messages of all outgoing sequences wait for an acknowledgement, or the greatest number of 64 bits.
+    /// How many messages of all outgoing sequences wait for an acknowledgement. They are no more than the records.
     pub fn unacked(&self) -> u64
-        ensures { result ≡ min (all_unacked self.now.records) 18446744073709551615 }
+        ensures { result ≡ all_unacked self.now.records }
     {
+        let _records = self.notes.as_slice().len();
         waiting_in(self.rows.as_slice())
     }
 

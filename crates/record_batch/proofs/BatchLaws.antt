@@ -11,11 +11,12 @@ use Rattle.rm_base.specs.declared.message.Cause.{Cause}
 use Rattle.rm_base.specs.declared.message.Payload.{Payload}
 use Rattle.rm_elements.specs.declared.lapse.Lapse.{Lapse}
 use Rattle.soap_profile.specs.Tree.{Element}
-use Rattle.rm_elements.specs.addressing.declared.endpoint.Epr.{Epr}
+use Rattle.wsa_headers.specs.declared.endpoint.Epr.{Epr}
 use Rattle.record_batch.specs.declared.record.OwnOffer.{OwnOffer}
 use Rattle.record_batch.specs.declared.record.PeerOffer.{PeerOffer}
 use Rattle.record_batch.specs.declared.record.Via.{Via}
-use Rattle.record_batch.specs.Batch.{made, creating, created, granted, accepted, acked, received, ticketed, stopped}
+use Rattle.record_batch.specs.Batch.{creating_of, granted_of, made, creating, created, granted, accepted, acked}
+use Rattle.record_batch.specs.Batch.{received, ticketed, stopped}
 use Rattle.record_batch.specs.Batch.{failed, fact_text, read_as, kind_at, fact_at, fact, batch_text, all_of}
 use Rattle.record_batch.specs.Batch.{batch_at}
 use Rattle.record_batch.specs.Fact.{Fact, Made, Creating, Created, Granted, Accepted, Acked, Received, Closing}
@@ -144,14 +145,14 @@ unfolding fact_at kind_at
 record-again below (Made node to) rest may =
     as-again made _ (λ x. Made x.0 x.1) (made-is below) (node, to) rest (may.0, may.1)
 record-again below (Creating ticket to v l offer) rest may =
-    as-again creating _ (λ x. Creating x.0 x.1.0 x.1.1.0 x.1.1.1.0 x.1.1.1.1) (creating-is below)
+    as-again creating _ creating_of (creating-is below)
     (ticket, (to, (v, (l, offer)))) rest (may.0, (may.1, (tt, (may.2, may.3))))
 record-again below (Created seq ident accept) rest may =
     as-again created _ (λ x. Created x.0 x.1.0 x.1.1) (created-is below) (seq, (ident, accept)) rest
     (may.0, (may.1, may.2))
 record-again below (Granted counter message_id acks_to v deadline l offer) rest may =
-    as-again granted _ (λ x. Granted x.0 x.1.0 x.1.1.0 x.1.1.1.0 x.1.1.1.1.0 x.1.1.1.1.1.0 x.1.1.1.1.1.1)
-    (granted-is below) (counter, (message_id, (acks_to, (v, (deadline, (l, offer)))))) rest
+    as-again granted _ granted_of (granted-is below)
+    (counter, (message_id, (acks_to, (v, (deadline, (l, offer)))))) rest
     (may.0, (may.1, (may.2, (tt, (may.3, (may.4, may.5))))))
 record-again below (Accepted seq t) rest may =
     as-again accepted _ (λ x. Accepted x.0 x.1) accepted-is (seq, t) rest (may.0, may.1)
@@ -203,14 +204,13 @@ kind-only below k bytes y rest h e =
     pick (eqb k 1) _ _ (y, rest) e
     (λ t. as-only made _ 1 (λ x. Made x.0 x.1) (made-is below) (λ x. refl) (λ x m. (m.0, m.1)) k t bytes y rest h)
     (λ e. pick (eqb k 2) _ _ (y, rest) e
-    (λ t. as-only creating _ 2 (λ x. Creating x.0 x.1.0 x.1.1.0 x.1.1.1.0 x.1.1.1.1) (creating-is below) (λ x. refl)
+    (λ t. as-only creating _ 2 creating_of (creating-is below) (λ x. refl)
     (λ x m. (m.0, m.1.0, m.1.1.1.0, m.1.1.1.1)) k t bytes y rest h)
     (λ e. pick (eqb k 3) _ _ (y, rest) e
     (λ t. as-only created _ 3 (λ x. Created x.0 x.1.0 x.1.1) (created-is below) (λ x. refl)
     (λ x m. (m.0, m.1.0, m.1.1)) k t bytes y rest h)
     (λ e. pick (eqb k 4) _ _ (y, rest) e
-    (λ t. as-only granted _ 4
-    (λ x. Granted x.0 x.1.0 x.1.1.0 x.1.1.1.0 x.1.1.1.1.0 x.1.1.1.1.1.0 x.1.1.1.1.1.1) (granted-is below) (λ x. refl)
+    (λ t. as-only granted _ 4 granted_of (granted-is below) (λ x. refl)
     (λ x m. (m.0, m.1.0, m.1.1.0, m.1.1.1.1.0, m.1.1.1.1.1.0, m.1.1.1.1.1.1)) k t bytes y rest h)
     (λ e. pick (eqb k 5) _ _ (y, rest) e
     (λ t. as-only accepted _ 5 (λ x. Accepted x.0 x.1) accepted-is (λ x. refl) (λ x m. (m.0, m.1)) k t bytes y rest h)

@@ -21,9 +21,9 @@ use Rattle.soap_document.specs.Tree as raw
 use Rattle.soap_profile.specs.Document.{Document, IsLongestText}
 use Rattle.soap_profile.specs.Namespaces.{resolve}
 use Rattle.soap_profile.specs.Tree.{Element, without_declarations}
-use Rattle.rm_elements.specs.values.Outcome.{◌>>=◌}
-use Rattle.rm_elements.specs.values.Values.{text_within}
-use Rattle.rm_elements.specs.markup.ElementText.{element_text}
+use Rattle.soap_values.specs.Outcome.{◌>>=◌}
+use Rattle.soap_values.specs.Values.{text_within}
+use Rattle.soap_writer.specs.ElementText.{element_text}
 use Rattle.record_batch.specs.declared.record.OwnOffer.{OwnOffer}
 use Rattle.record_batch.specs.declared.record.Via.{Via}
 use Rattle.record_batch.specs.declared.record.Via.TheVariants.{Direct, Polled, Back}

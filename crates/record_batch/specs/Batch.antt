@@ -8,8 +8,8 @@ use Rattle.rm_base.specs.declared.message.Cause.{Cause}
 use Rattle.rm_base.specs.declared.message.Payload.{Payload}
 use Rattle.rm_elements.specs.declared.lapse.Lapse.{Lapse}
 use Rattle.soap_document.specs.Tokens.{is_nil}
-use Rattle.rm_elements.specs.values.Outcome.{◌>>=◌}
-use Rattle.rm_elements.specs.addressing.declared.endpoint.Epr.{Epr}
+use Rattle.soap_values.specs.Outcome.{◌>>=◌}
+use Rattle.wsa_headers.specs.declared.endpoint.Epr.{Epr}
 use Rattle.record_batch.specs.declared.record.OwnOffer.{OwnOffer}
 use Rattle.record_batch.specs.declared.record.PeerOffer.{PeerOffer}
 use Rattle.record_batch.specs.declared.record.Via.{Via}
@@ -29,7 +29,7 @@ made = number64 & address
 unfoldable pub creating : Format (ℕ × (List ℕ × (Via × (Lapse × Option OwnOffer))))
 creating = number64 & address & via & lapse & optional own_offer
 
--- Created: the sequence, its identifier, and where an accepted offer's messages come from
+-- Created: the sequence, its identifier, and where the acknowledgements of an accepted offer's sequence go
 unfoldable pub created : Format (ℕ × (List ℕ × Option Epr))
 created = number32 & identifier & optional endpoint
 
@@ -86,14 +86,22 @@ fact_text (Failed seq fault) = 14 ∷ failed.written (seq, fault)
 abbrev pub read_as : {A : Type 0} → (A → Fact) → Format A → List ℕ → Option (Fact × List ℕ)
 read_as fact format bytes = format.read bytes >>= λ x. Some (fact x.0, x.1)
 
+-- Creating, of what it has
+abbrev pub creating_of : ℕ × (List ℕ × (Via × (Lapse × Option OwnOffer))) → Fact
+creating_of (ticket, (to, (way, (span, offer)))) = Creating ticket to way span offer
+
+-- Granted, of what it has
+abbrev pub granted_of :
+    ℕ × (List ℕ × (Epr × (Behaviour × (Option ℕ × (Lapse × Option PeerOffer))))) → Fact
+granted_of (drawn, (id, (to, (b, (until, (span, offer)))))) = Granted drawn id to b until span offer
+
 -- a record of a kind
 unfoldable pub kind_at : ℕ → List ℕ → Option (Fact × List ℕ)
 kind_at kind bytes =
     if kind == 1 then read_as (λ x. Made x.0 x.1) made bytes
-    else if kind == 2 then read_as (λ x. Creating x.0 x.1.0 x.1.1.0 x.1.1.1.0 x.1.1.1.1) creating bytes
+    else if kind == 2 then read_as creating_of creating bytes
     else if kind == 3 then read_as (λ x. Created x.0 x.1.0 x.1.1) created bytes
-    else if kind == 4
-    then read_as (λ x. Granted x.0 x.1.0 x.1.1.0 x.1.1.1.0 x.1.1.1.1.0 x.1.1.1.1.1.0 x.1.1.1.1.1.1) granted bytes
+    else if kind == 4 then read_as granted_of granted bytes
     else if kind == 5 then read_as (λ x. Accepted x.0 x.1) accepted bytes
     else if kind == 6 then read_as (λ x. Acked x.0 x.1) acked bytes
     else if kind == 7 then read_as (λ x. Received x.0 x.1.0 x.1.1) received bytes

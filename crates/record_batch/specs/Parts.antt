@@ -13,10 +13,10 @@ use Rattle.rm_elements.specs.declared.lapse.Lapse.{Lapse}
 use Rattle.soap_document.specs.Machine.{run, start, root_of}
 use Rattle.soap_profile.specs.Namespaces.{resolve}
 use Rattle.soap_profile.specs.Tree.{Element, without_declarations}
-use Rattle.rm_elements.specs.values.Outcome.{◌>>=◌}
-use Rattle.rm_elements.specs.values.Values.{text_within}
-use Rattle.rm_elements.specs.markup.ElementText.{element_text}
-use Rattle.rm_elements.specs.addressing.declared.endpoint.Epr.{Epr}
+use Rattle.soap_values.specs.Outcome.{◌>>=◌}
+use Rattle.soap_values.specs.Values.{text_within}
+use Rattle.soap_writer.specs.ElementText.{element_text}
+use Rattle.wsa_headers.specs.declared.endpoint.Epr.{Epr}
 use Rattle.record_batch.specs.declared.record.OwnOffer.{OwnOffer}
 use Rattle.record_batch.specs.declared.record.PeerOffer.{PeerOffer}
 use Rattle.record_batch.specs.declared.record.Via.{Via}

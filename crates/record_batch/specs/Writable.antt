@@ -9,8 +9,8 @@ use Rattle.rm_base.specs.declared.message.Payload.{Payload}
 use Rattle.rm_elements.specs.declared.lapse.Lapse.{Lapse}
 use Rattle.soap_profile.specs.Document.{Document}
 use Rattle.soap_profile.specs.Tree.{Element, without_declarations}
-use Rattle.rm_elements.specs.markup.ElementText.{element_text}
-use Rattle.rm_elements.specs.addressing.declared.endpoint.Epr.{Epr}
+use Rattle.soap_writer.specs.ElementText.{element_text}
+use Rattle.wsa_headers.specs.declared.endpoint.Epr.{Epr}
 use Rattle.record_batch.specs.declared.record.OwnOffer.{OwnOffer}
 use Rattle.record_batch.specs.declared.record.PeerOffer.{PeerOffer}
 use Rattle.record_batch.specs.Fact.{Fact, Made, Creating, Created, Granted, Accepted, Acked, Received, Closing}

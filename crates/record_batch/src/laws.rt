@@ -2,16 +2,16 @@
 ghost use Rattle.std.specs.Prelude.{◌≡◌, ◌≤◌, ℕ, List, Some, length, false};
 ghost use Rattle.soap_profile.specs.Payload.{height};
 ghost use Rattle.soap_profile.specs.Tree.{Element};
-ghost use Rattle.rm_elements.specs.markup.ElementText.{element_text};
-ghost use Rattle.rm_elements.specs.markup.Writable.{IsWritable as IsElementWritable};
+ghost use Rattle.soap_writer.specs.ElementText.{element_text};
+ghost use Rattle.soap_writer.specs.Writable.{IsWritable as IsElementWritable};
 ghost use Rattle.record_batch.specs.Batch.{batch_at, batch_text};
 ghost use Rattle.record_batch.specs.Fact.{Fact};
 ghost use Rattle.record_batch.specs.Format.{AreBytes};
 ghost use Rattle.record_batch.specs.Writable.{IsBatch, IsParamWritable, IsShortBatch};
 
 use rm_base::laws::texts_are_tested;
-use rm_elements::markup::laws::{document_is_read_back, written_tree_is_the_tree};
 use soap_document::laws::document_is_read;
+use soap_writer::laws::{document_is_read_back, written_tree_is_the_tree};
 
 /// What is written of a batch whose values keep the rules of their types is read again, and it can be written.
 pub fn what_is_written_is_read()

@@ -16,7 +16,3 @@ pub use error::BatchError;
 pub use read::read_batch;
 pub use record::{OwnOffer, PeerOffer, Record, Via};
 pub use write::write_batch;
-
-// What the contracts here speak of, passed on to the layers above, which need not list these crates.
-pub use rm_elements as elements;
-pub use rm_elements::{addressing, markup, values};

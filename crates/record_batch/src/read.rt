@@ -1,7 +1,9 @@
 //! Batches of records from bytes.
 ghost use Rattle.std.specs.Prelude.{◌≡◌, ◌<◌, map, IfOk, IfErr, Some};
-ghost use Rattle.rm_elements.specs.values.Outcome.{Gives};
+ghost use Rattle.soap_values.specs.Outcome.{Gives};
 ghost use Rattle.record_batch.specs.Batch.{
+  creating_of,
+  granted_of,
   read_as,
   made,
   creating,
@@ -41,7 +43,7 @@ use crate::readers::{
 };
 use crate::record::Record;
 use rm_base::{Cause, Items};
-use rm_elements::values::Flaw;
+use soap_values::Flaw;
 use std::alloc::Global;
 
 #[tactic(auto, unfolding(crate::specs::Batch::made))]
@@ -55,8 +57,7 @@ fn take_made(alloc: Global, bytes: &[u8]) -> Result<(Record, &[u8]), Flaw>
 
 #[tactic(auto, unfolding(crate::specs::Batch::creating))]
 fn take_creating(alloc: Global, bytes: &[u8]) -> Result<(Record, &[u8]), Flaw>
-    ensures { Gives (λ x. (fact_of x.0, x.1.now)) result
-        (read_as (λ x. Creating x.0 x.1.0 x.1.1.0 x.1.1.1.0 x.1.1.1.1) creating bytes.now) }
+    ensures { Gives (λ x. (fact_of x.0, x.1.now)) result (read_as creating_of creating bytes.now) }
 {
     let (ticket, rest) = take_u64(bytes)?;
     let (to, rest) = take_uri(alloc, rest)?;
@@ -85,8 +86,7 @@ fn take_created(alloc: Global, bytes: &[u8]) -> Result<(Record, &[u8]), Flaw>
 
 #[tactic(auto, unfolding(crate::specs::Batch::granted))]
 fn take_granted(alloc: Global, bytes: &[u8]) -> Result<(Record, &[u8]), Flaw>
-    ensures { Gives (λ x. (fact_of x.0, x.1.now)) result (read_as
-        (λ x. Granted x.0 x.1.0 x.1.1.0 x.1.1.1.0 x.1.1.1.1.0 x.1.1.1.1.1.0 x.1.1.1.1.1.1) granted bytes.now) }
+    ensures { Gives (λ x. (fact_of x.0, x.1.now)) result (read_as granted_of granted bytes.now) }
 {
     let (counter, rest) = take_u64(bytes)?;
     let (message_id, rest) = take_uri(alloc, rest)?;

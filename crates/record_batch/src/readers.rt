@@ -2,8 +2,8 @@
 ghost use Rattle.std.specs.Prelude.{◌≡◌, option_map, false, IfOk};
 ghost use Rattle.std.specs.Str.{bytes_eq};
 ghost use Rattle.soap_profile.specs.View.{element_view};
-ghost use Rattle.rm_elements.specs.values.Outcome.{Gives};
-ghost use Rattle.rm_elements.specs.markup.ElementText.{element_text};
+ghost use Rattle.soap_values.specs.Outcome.{Gives};
+ghost use Rattle.soap_writer.specs.ElementText.{element_text};
 ghost use Rattle.record_batch.specs.Format.{first_byte, number32, number64, text, optional, read_items};
 ghost use Rattle.record_batch.specs.Parts.{
   address as address_format,
@@ -35,12 +35,12 @@ use rm_base::{
     Behaviour, Binding, Bindings, Blob, Cause, Ident, Items, MAX_NUMBER, Memory, Payload, Uri,
 };
 use rm_elements::Lapse;
-use rm_elements::addressing::Epr;
-use rm_elements::markup::write_element;
-use rm_elements::values::{Flaw, read_ident, read_uri};
 use soap_document::laws::{document_is_read, document_is_utf8};
 use soap_profile::{Element, Elements, EnvelopeError, read_element, strip};
+use soap_values::{Flaw, read_ident, read_uri};
+use soap_writer::write_element;
 use std::alloc::Global;
+use wsa_headers::Epr;
 
 pub(crate) fn take_byte(bytes: &[u8]) -> Result<(u8, &[u8]), Flaw>
     ensures { Gives (λ x. (x.0, x.1.now)) result (first_byte bytes.now) }

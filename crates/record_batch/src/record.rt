@@ -2,7 +2,7 @@
 use ack_ranges::RangeSet;
 use rm_base::{Behaviour, Blob, Cause, Ident, Payload, Uri};
 use rm_elements::Lapse;
-use rm_elements::addressing::Epr;
+use wsa_headers::Epr;
 
 /// How answers come back: to the node's own address, to its polled address, or on the connection, by the anonymous
 /// address of WS-Addressing 1.0.

@@ -45,8 +45,8 @@ use crate::writers::{
 use ack_ranges::RangeSet;
 use rm_base::{Behaviour, Blob, Cause, Ident, Memory, Payload, Uri};
 use rm_elements::Lapse;
-use rm_elements::addressing::Epr;
 use std::alloc::Global;
+use wsa_headers::Epr;
 
 #[tactic(auto, unfolding(crate::specs::Batch::made))]
 fn put_made(node: u64, address: &Uri, out: &mut Vec<u8>) -> Result<(), Memory>

@@ -30,10 +30,10 @@ use crate::record::{OwnOffer, PeerOffer, Via};
 use ack_ranges::{Range, RangeSet};
 use rm_base::{Behaviour, Binding, Blob, Cause, Memory, Payload};
 use rm_elements::Lapse;
-use rm_elements::addressing::Epr;
-use rm_elements::markup::write_element;
 use soap_profile::Element;
+use soap_writer::write_element;
 use std::alloc::Global;
+use wsa_headers::Epr;
 
 #[tactic(auto, unfolding(crate::specs::Format::number32))]
 pub(crate) fn put_u32(number: u32, out: &mut Vec<u8>) -> Result<(), Memory>

@@ -14,9 +14,9 @@ use Rattle.rm_source.specs.Outgoing.{Sending}
 use Rattle.rm_destination.specs.Incoming.{Receiving}
 use Rattle.rm_destination.specs.Messages.{is_empty, any_true, numbers_of}
 use Rattle.std.specs.List.{list_all}
-use Rattle.sequence_table.specs.batches.Fact.{Fact, Created, Accepted, Acked, Received, Closing, ClosedOut, Closed}
-use Rattle.sequence_table.specs.batches.Fact.{Ending}
-use Rattle.sequence_table.specs.batches.Fact.{EndedOut, Ended, Failed}
+use Rattle.record_batch.specs.Fact.{Fact, Created, Accepted, Acked, Received, Closing, ClosedOut, Closed}
+use Rattle.record_batch.specs.Fact.{Ending}
+use Rattle.record_batch.specs.Fact.{EndedOut, Ended, Failed}
 use Rattle.sequence_table.specs.Makers.{Maker, maker, counter}
 use Rattle.sequence_table.specs.Fits.{fits, follows, is_up_to}
 use Rattle.sequence_table.specs.Told.{Told, Side, Sends, Receives, names, side_of, after}

@@ -9,9 +9,9 @@ use Rattle.rm_source.specs.declared.phase.OutPhase.{OutPhase}
 use Rattle.rm_source.specs.declared.phase.OutPhase.TheVariants as out
 use Rattle.rm_source.specs.Outgoing.{Sending}
 use Rattle.rm_destination.specs.Incoming.{Receiving}
-use Rattle.sequence_table.specs.batches.Fact.{Fact, Created, Accepted, Acked, Received, Closing, ClosedOut, Closed}
-use Rattle.sequence_table.specs.batches.Fact.{Ending}
-use Rattle.sequence_table.specs.batches.Fact.{EndedOut, Ended, Failed}
+use Rattle.record_batch.specs.Fact.{Fact, Created, Accepted, Acked, Received, Closing, ClosedOut, Closed}
+use Rattle.record_batch.specs.Fact.{Ending}
+use Rattle.record_batch.specs.Fact.{EndedOut, Ended, Failed}
 use Rattle.sequence_table.specs.Words.{at_seq, last_or}
 use Rattle.sequence_table.specs.Sources.{accepted_of, acked_of, mark_of, ticket_of}
 use Rattle.sequence_table.specs.Destinations.{close_of, received_of, told_of}

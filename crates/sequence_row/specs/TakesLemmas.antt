@@ -7,15 +7,16 @@ use Rattle.ack_ranges.specs.declared.range.Range.{Range}
 use Rattle.rm_base.specs.NumberSet.{has_number}
 use Rattle.rm_base.specs.declared.message.Cause.{Cause}
 use Rattle.rm_base.specs.declared.message.Payload.{Payload}
-use Rattle.sequence_table.specs.addressing.declared.endpoint.Epr.{Epr}
+use Rattle.wsa_headers.specs.declared.endpoint.Epr.{Epr}
 use Rattle.rm_destination.specs.Messages.{is_empty, any_true}
-use Rattle.sequence_table.specs.batches.Fact.{Fact, Made, Creating, Granted, Created, Accepted, Acked, Received}
-use Rattle.sequence_table.specs.batches.Fact.{Closing}
-use Rattle.sequence_table.specs.batches.Fact.{ClosedOut, Closed, Ending, EndedOut, Ended, Failed}
-use Rattle.sequence_table.specs.Words.{is_empty as no_items}
+use Rattle.record_batch.specs.Fact.{Fact, Made, Creating, Granted, Created, Accepted, Acked, Received}
+use Rattle.record_batch.specs.Fact.{Closing}
+use Rattle.record_batch.specs.Fact.{ClosedOut, Closed, Ending, EndedOut, Ended, Failed}
+use Rattle.rm_destination.specs.Messages.{is_empty as no_items}
 use Rattle.sequence_table.specs.Makers.{Maker, Outgoing, maker, counter}
 use Rattle.sequence_table.specs.Sources.{accepted, phase}
-use Rattle.sequence_table.specs.Destinations.{any_true as has_true, closes, held}
+use Rattle.rm_destination.specs.Messages.{any_true as has_true}
+use Rattle.sequence_table.specs.Destinations.{closes, held}
 use Rattle.sequence_table.specs.Fits.{fits, follows, is_outgoing_side, is_incoming_side, is_up_to}
 use Rattle.sequence_table.specs.Told.{names, side_of}
 use Rattle.sequence_row.specs.Row.{takes, draws_next, is_sender, is_receiver}

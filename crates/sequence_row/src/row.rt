@@ -5,7 +5,7 @@ ghost use Rattle.std.specs.List.{list_all};
 ghost use Rattle.rm_source.specs.Outgoing.{Sequence as OutSequence};
 ghost use Rattle.rm_destination.specs.Incoming.{Sequence as InSequence};
 ghost use Rattle.rm_destination.specs.Messages.{is_empty, any_true};
-ghost use Rattle.sequence_table.specs.batches.Fact.{fact_of};
+ghost use Rattle.record_batch.specs.Fact.{fact_of};
 ghost use Rattle.sequence_table.specs.Fits.{follows, is_up_to};
 ghost use Rattle.sequence_table.specs.Told.{Sends, Receives};
 ghost use Rattle.sequence_row.specs.Row.{
@@ -33,10 +33,10 @@ ghost use Rattle.sequence_row.specs.Row.{
 };
 
 use ack_ranges::RangeSet;
+use record_batch::Record;
 use rm_base::{Behaviour, Blob, Cause, MAX_NUMBER, Memory, Payload, is_message_number};
 use rm_destination::{InPhase, Incoming};
 use rm_source::{OutPhase, Outgoing, SourceError};
-use sequence_table::batches::Record;
 use std::alloc::Global;
 use std::marker::Model;
 

@@ -1,14 +1,15 @@
 -- What a list of records says of incoming sequences: WS-ReliableMessaging 1.2, sections 2.4, 3.4 to 3.6 and 3.9.
-use Rattle.std.specs.Prelude.{ℕ, ◌==◌, ◌&&◌, ◌||◌, not, nat_le, Bool, true, false, if◌then◌else◌, List, [], ◌∷◌}
+use Rattle.std.specs.Prelude.{ℕ, ◌==◌, ◌||◌, not, Bool, true, false, if◌then◌else◌, List, [], ◌∷◌}
 use Rattle.std.specs.Prelude.{length, drop, Option, Some, None, map}
 use Rattle.std.specs.List.{flat_map}
-use Rattle.rm_base.specs.NumberSet.{greatest_of}
 use Rattle.rm_base.specs.declared.message.Behaviour.{Behaviour}
-use Rattle.rm_base.specs.declared.message.Behaviour.TheVariants.{EntireSequence, FollowingFirstGap}
+use Rattle.rm_base.specs.declared.message.Behaviour.TheVariants.{FollowingFirstGap}
 use Rattle.rm_base.specs.declared.message.Cause.TheVariants.{Peer}
 use Rattle.rm_base.specs.declared.message.Payload.{Payload}
+use Rattle.rm_destination.specs.Incoming.{inbox_of, is_past, is_whole_by}
+use Rattle.rm_destination.specs.Messages.{any_true, contents_of, is_empty, numbers_of, sorted_onto, without_gap}
 use Rattle.record_batch.specs.Fact.{Fact, Received, Closed, Ended}
-use Rattle.sequence_table.specs.Words.{Text, is_empty, at_seq, sorted_onto, without_gap, numbers_of, contents_of}
+use Rattle.sequence_table.specs.Words.{Text, at_seq}
 use Rattle.sequence_table.specs.Makers.{Maker, Incoming, Offered, maker}
 
 -- the message that a record takes for sequence s
@@ -46,11 +47,6 @@ close_of _ = []
 abbrev pub closes : List Fact → ℕ → List Bool
 closes r s = at_seq s (flat_map close_of r)
 
--- one of them is true
-abbrev pub any_true : List Bool → Bool
-any_true [] = false
-any_true (x ∷ xs) = x || any_true xs
-
 -- there is a record by which the sequence was closed or ended
 abbrev pub is_stopped : List Fact → ℕ → Bool
 is_stopped r s = not (is_empty (closes r s))
@@ -63,11 +59,6 @@ has_end r s = any_true (closes r s)
 abbrev pub deadline_of : Option Maker → Option ℕ
 deadline_of (Some (Incoming counter message_id acks_to behaviour deadline lapse)) = deadline
 deadline_of _ = None
-
--- there is a deadline, and it is at most now
-abbrev pub is_past : Option ℕ → ℕ → Bool
-is_past None now = false
-is_past (Some moment) now = nat_le moment now
 
 -- ended at a moment: by a record, or by its deadline
 abbrev pub is_ended : List Fact → ℕ → ℕ → Bool
@@ -87,28 +78,9 @@ told_of _ = []
 abbrev pub told : List Fact → ℕ → List ℕ
 told r s = at_seq s (flat_map told_of r)
 
--- the number that was told, or the greatest that came where none was told
-abbrev pub last_number : ℕ → List (ℕ × Payload) → ℕ
-last_number n ms = if n == 0 then greatest_of (numbers_of ms) else n
-
--- the messages are exactly those from 1 to the last number
-abbrev pub is_whole : ℕ → List (ℕ × Payload) → Bool
-is_whole n ms = (length (without_gap 0 ms) == last_number n ms) && (length ms == last_number n ms)
-
--- by what the peer told first
-abbrev pub is_whole_by : List ℕ → List (ℕ × Payload) → Bool
-is_whole_by [] ms = false
-is_whole_by (n ∷ ns) ms = is_whole n ms
-
 -- its peer closed or ended the sequence, and all messages were received
 abbrev pub is_complete : List Fact → ℕ → Bool
 is_complete r s = is_whole_by (told r s) (messages r s)
-
--- IncompleteSequenceBehavior: section 3.4. DiscardEntireSequence: all messages of a complete sequence, else none.
--- Otherwise those up to the first gap
-abbrev pub inbox_of : Behaviour → List ℕ → List (ℕ × Payload) → List Payload
-inbox_of EntireSequence ns ms = if is_whole_by ns ms then contents_of ms else []
-inbox_of _ ns ms = without_gap 0 ms
 
 -- what was announced for a sequence that was made so
 abbrev pub behaviour_of : Option Maker → Behaviour

@@ -9,7 +9,7 @@ use Rattle.rm_source.specs.declared.phase.OutPhase.TheVariants as out
 use Rattle.record_batch.specs.declared.record.OwnOffer.{OwnOffer}
 use Rattle.record_batch.specs.Fact.{Fact, Made, Creating, Created, Granted, Accepted, Acked, Received, Closing}
 use Rattle.record_batch.specs.Fact.{ClosedOut, Closed, Ending, EndedOut, Ended, Failed}
-use Rattle.sequence_table.specs.Words.{is_empty}
+use Rattle.rm_destination.specs.Messages.{is_empty}
 use Rattle.sequence_table.specs.Makers.{Maker, Outgoing, Offered, Incoming, Taken, makers, makers_of, maker, counter}
 use Rattle.sequence_table.specs.Sources.{accepted, phase}
 use Rattle.sequence_table.specs.Destinations.{held, is_stopped, has_end}

@@ -14,8 +14,3 @@ pub mod Sources
 pub mod Told
 pub mod ToldLemmas
 pub mod Words
-pub use Rattle.record_batch.specs as batches
-pub use Rattle.record_batch.specs.addressing
-pub use Rattle.record_batch.specs.elements
-pub use Rattle.record_batch.specs.markup
-pub use Rattle.record_batch.specs.values

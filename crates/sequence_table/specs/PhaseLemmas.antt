@@ -7,7 +7,7 @@ use Rattle.std.proofs.lemmas.Bool.{and_parts, eqb-true, ne_eqb, false≢true}
 use Rattle.rm_source.specs.declared.phase.OutPhase.{OutPhase}
 use Rattle.rm_source.specs.declared.phase.OutPhase.TheVariants as out
 use Rattle.record_batch.specs.Fact.{Fact, Created, Granted, Closing, ClosedOut, Ending, EndedOut, Failed}
-use Rattle.record_batch.specs.addressing.declared.endpoint.Epr.{Epr}
+use Rattle.wsa_headers.specs.declared.endpoint.Epr.{Epr}
 use Rattle.sequence_table.specs.Words.{Text, at_seq, last_or}
 use Rattle.sequence_table.specs.Makers.{makers, maker, created_of, created_from, ident_in}
 use Rattle.sequence_table.specs.Sources.{mark_of, marks, out_ident, first_phase, phase}

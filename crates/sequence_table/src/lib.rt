@@ -6,7 +6,3 @@ pub mod idents;
 pub mod laws;
 
 pub use idents::issue;
-
-// What the contracts here speak of, passed on to the layers above, which need not list these crates.
-pub use record_batch as batches;
-pub use record_batch::{addressing, elements, markup, values};

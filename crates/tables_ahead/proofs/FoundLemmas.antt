@@ -6,7 +6,7 @@ use Rattle.std.proofs.lemmas.Bool.{cases_eq, ne_eqb}
 use Rattle.std.proofs.lemmas.List.{at_drop_more}
 use Rattle.std.proofs.lemmas.Option.{slice_get-get_or, slice_get_past}
 use Rattle.rm_base.specs.Numbered.{numbered}
-use Rattle.sequence_table.specs.batches.Fact.{Fact}
+use Rattle.record_batch.specs.Fact.{Fact}
 use Rattle.sequence_table.specs.Makers.{Maker, makers, maker}
 use Rattle.sequence_table.specs.Find.{find_from}
 use Rattle.node_tables.specs.Kept.{no_maker}

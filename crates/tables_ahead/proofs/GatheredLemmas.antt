@@ -13,12 +13,14 @@ use Rattle.ack_ranges.specs.Changes.{with_range, united}
 use Rattle.rm_base.specs.NumberSet.{has_number}
 use Rattle.rm_base.specs.declared.message.Payload.{Payload}
 use Rattle.rm_destination.specs.Messages.{ranges_onto}
-use Rattle.sequence_table.specs.batches.Fact.{Fact}
-use Rattle.sequence_table.specs.Words.{Text, at_seq, is_empty, first_or, numbers_of}
+use Rattle.record_batch.specs.Fact.{Fact}
+use Rattle.rm_destination.specs.Messages.{is_empty, numbers_of}
+use Rattle.sequence_table.specs.Words.{Text, at_seq, first_or}
 use Rattle.sequence_table.specs.Makers.{makers, makers_of, counter, draws_of, nodes_of, number, addresses_of}
 use Rattle.sequence_table.specs.Makers.{created, created_of, created_from, seq_in}
 use Rattle.sequence_table.specs.Sources.{accepted, accepted_of, acked, acked_of}
-use Rattle.sequence_table.specs.Destinations.{any_true, close_of, closes, has_end, held, is_stopped, received}
+use Rattle.rm_destination.specs.Messages.{any_true}
+use Rattle.sequence_table.specs.Destinations.{close_of, closes, has_end, held, is_stopped, received}
 use Rattle.sequence_table.specs.Destinations.{received_of}
 use Rattle.sequence_table.specs.Find.{find_outgoing}
 use Rattle.sequence_table.specs.GatherLemmas.{at_seq-append, united-append}

@@ -5,8 +5,9 @@ use Rattle.std.specs.Prelude.{◌&&◌, is_none}
 use Rattle.std.specs.Option.{option_or}
 use Rattle.rm_source.specs.declared.phase.OutPhase.{OutPhase}
 use Rattle.rm_source.specs.declared.phase.OutPhase.TheVariants as out
-use Rattle.sequence_table.specs.batches.Fact.{Fact}
-use Rattle.sequence_table.specs.Words.{Text, is_empty, last_or}
+use Rattle.record_batch.specs.Fact.{Fact}
+use Rattle.rm_destination.specs.Messages.{is_empty}
+use Rattle.sequence_table.specs.Words.{Text, last_or}
 use Rattle.sequence_table.specs.Makers.{makers, created, created_from, ident_in}
 use Rattle.sequence_table.specs.Sources.{first_phase, mark_of, marks, out_ident, phase}
 use Rattle.sequence_table.specs.GatherLemmas.{ident_in-append, last_or-append}

@@ -3,7 +3,7 @@ use Rattle.std.specs.Prelude.{◌≡◌, ℕ, ◌≤◌, Bool, true, false, List
 use Rattle.std.specs.List.{flat_map}
 use Rattle.ack_ranges.specs.declared.range.Range.{Range}
 use Rattle.ack_ranges.specs.Ranges.{Contents}
-use Rattle.sequence_table.specs.batches.Fact.{Fact, Made, Creating, Granted}
+use Rattle.record_batch.specs.Fact.{Fact, Made, Creating, Granted}
 use Rattle.rm_source.specs.declared.phase.OutPhase.{OutPhase}
 use Rattle.rm_source.specs.declared.phase.OutPhase.TheVariants as out
 use Rattle.sequence_table.specs.Words.{Text}
@@ -11,9 +11,13 @@ use Rattle.sequence_table.specs.Makers.{makers, nodes_of, addresses_of}
 use Rattle.sequence_table.specs.Fits.{all_fit, has_places}
 
 -- the records of the tables, and those ahead of them, oldest first
-pub record Known : Type 0 where
+pub record KnownRecords : Type 0 where
   pub records : List Fact
   pub delta : List Fact
+
+-- all that is known: the records of the tables and, behind them, those ahead
+abbrev pub all_records : KnownRecords → List Fact
+all_records known = known.records ++ known.delta
 
 -- the record may go ahead of r: it isn't that of the node itself, and a place is left for each sequence that it makes
 abbrev pub may_go_ahead : List Fact → Fact → Bool
@@ -37,7 +41,7 @@ abbrev pub ranges_in : Option Contents → List Range
 ranges_in None = []
 ranges_in (Some set) = set.ranges
 
--- each of them is a message number: section 3.7 of WS-ReliableMessaging 1.2
+-- each of them is a message number: WS-ReliableMessaging 1.2, section 3.7
 abbrev pub AreNumbers : List ℕ → Type 0
 AreNumbers [] = Unit {0}
 AreNumbers (n ∷ ns) = ((1 ≤ n) × (n ≤ 9223372036854775807)) × AreNumbers ns

@@ -2,7 +2,7 @@
 ghost use Rattle.std.specs.Prelude.{◌≡◌, ◌+◌, ◌≤◌, length, map, min, slice_get};
 ghost use Rattle.std.specs.List.{flat_map};
 ghost use Rattle.std.specs.Option.{option_copied, option_map};
-ghost use Rattle.sequence_table.specs.batches.Fact.{fact_of};
+ghost use Rattle.record_batch.specs.Fact.{fact_of};
 ghost use Rattle.sequence_table.specs.Destinations.{has_end, held, is_stopped};
 ghost use Rattle.sequence_table.specs.Find.{accept_of};
 ghost use Rattle.sequence_table.specs.Makers.{counter, created_from, ident_in, makers, seq_in};
@@ -11,16 +11,15 @@ ghost use Rattle.sequence_table.specs.Words.{at_seq, last_or};
 ghost use Rattle.rm_base.specs.NumberSet.{has_number};
 ghost use Rattle.node_tables.specs.Reads.{maker_seen};
 
-use crate::maker::maker_by;
 use crate::record::{
     accept_by, accepted_by, drawn_by, ends, ident_by, made_by, named_by, number_by, phase_after,
     stops,
 };
-use node_tables::Maker;
+use node_tables::{Maker, maker_by};
+use record_batch::Record;
 use rm_base::Ident;
 use rm_source::OutPhase;
-use sequence_table::addressing::Epr;
-use sequence_table::batches::Record;
+use wsa_headers::Epr;
 
 /// How many numbers were drawn, after so many, or the greatest number of 64 bits.
 pub(crate) fn drawn_in(batch: &[Record], drawn: u64) -> u64

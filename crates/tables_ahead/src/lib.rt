@@ -3,12 +3,10 @@
 //! `sequence_table`. The layer above works out a batch by it, record by record, each of which reads those before.
 #![tactic(auto)]
 
-pub mod ahead;
 mod batch;
-mod issued;
-mod maker;
+pub mod known;
 mod numbers;
 mod record;
 mod sides;
 
-pub use ahead::Ahead;
+pub use known::Known;

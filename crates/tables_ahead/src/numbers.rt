@@ -1,7 +1,7 @@
 //! Sets of message numbers with those that a batch adds.
 ghost use Rattle.std.specs.Prelude.{◌≡◌, [], map, false, OnOk};
 ghost use Rattle.ack_ranges.specs.Changes.{covers, covers_all, united};
-ghost use Rattle.sequence_table.specs.batches.Fact.{fact_of};
+ghost use Rattle.record_batch.specs.Fact.{fact_of};
 ghost use Rattle.rm_destination.specs.Messages.{ranges_onto};
 ghost use Rattle.sequence_table.specs.Destinations.{held};
 ghost use Rattle.sequence_table.specs.Sources.{acked, acked_of};
@@ -9,8 +9,8 @@ ghost use Rattle.tables_ahead.specs.Known.{AreNumbers};
 
 use crate::record::{acked_by, number_by};
 use ack_ranges::{Range, RangeSet};
+use record_batch::Record;
 use rm_base::Memory;
-use sequence_table::batches::Record;
 
 /// Whether the batch acknowledges numbers of a sequence.
 pub(crate) fn acks_in(batch: &[Record], seq: u32) -> bool

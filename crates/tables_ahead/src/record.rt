@@ -1,19 +1,21 @@
 //! What one record says.
 ghost use Rattle.std.specs.Prelude.{◌≡◌, ◌+◌, ◌≤◌, length, not, slice_get};
 ghost use Rattle.std.specs.Option.{option_copied, option_map};
-ghost use Rattle.sequence_table.specs.batches.Fact.{fact_of};
-ghost use Rattle.sequence_table.specs.Destinations.{any_true, close_of, received_of};
+ghost use Rattle.record_batch.specs.Fact.{fact_of};
+ghost use Rattle.rm_destination.specs.Messages.{any_true};
+ghost use Rattle.sequence_table.specs.Destinations.{close_of, received_of};
 ghost use Rattle.sequence_table.specs.Find.{accept_of};
 ghost use Rattle.sequence_table.specs.Makers.{created_of, draws_of, ident_in, makers_of, seq_in};
 ghost use Rattle.sequence_table.specs.Sources.{accepted_of, acked_of, mark_of};
-ghost use Rattle.sequence_table.specs.Words.{at_seq, is_empty, last_or, numbers_of};
+ghost use Rattle.rm_destination.specs.Messages.{is_empty, numbers_of};
+ghost use Rattle.sequence_table.specs.Words.{at_seq, last_or};
 ghost use Rattle.tables_ahead.specs.Known.{ranges_in};
 
 use ack_ranges::RangeSet;
+use record_batch::Record;
 use rm_base::Ident;
 use rm_source::OutPhase;
-use sequence_table::addressing::Epr;
-use sequence_table::batches::Record;
+use wsa_headers::Epr;
 
 /// How many sequences a record makes.
 pub(crate) fn made_by(given: &Record) -> u32

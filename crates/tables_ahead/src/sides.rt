@@ -11,10 +11,10 @@ use crate::numbers::has_all;
 use ack_ranges::{Range, RangeSet};
 use node_tables::Tables;
 use node_tables::laws::{an_incoming_sequence_is_as_recorded, an_outgoing_sequence_is_as_recorded};
+use record_batch::Record;
 use rm_base::{Cause, Memory};
 use rm_destination::laws::front_is_reached;
 use rm_source::OutPhase;
-use sequence_table::batches::Record;
 use std::alloc::Global;
 
 /// How many payloads were accepted.

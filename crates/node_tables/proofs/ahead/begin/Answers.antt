@@ -1,6 +1,6 @@
 use Rattle.std.proofs.Common.{◌∙◌, ◌++◌}
 use Rattle.std.specs.Option.{option_to_list}
-use Rattle.sequence_table.specs.batches.Fact.{fact_of}
+use Rattle.record_batch.specs.Fact.{fact_of}
 use Rattle.node_tables.proofs.AheadLemmas.{starts-parted}
 use Rattle.node_tables.proofs.ahead.begin.Goals as goal
 

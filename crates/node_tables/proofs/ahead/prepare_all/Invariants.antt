@@ -1,6 +1,6 @@
 use Rattle.std.proofs.Common.{◌≡◌, ◌++◌, true, drop, map}
 use Rattle.std.specs.List.{flat_map, list_all}
-use Rattle.sequence_table.specs.batches.Fact.{fact_of}
+use Rattle.record_batch.specs.Fact.{fact_of}
 use Rattle.node_tables.specs.Kept.{is_timed_record}
 use Rattle.node_tables.specs.Room.{AreBegun, starts, starts_of}
 use Rattle.node_tables.proofs.ahead.prepare_all.Given as goal

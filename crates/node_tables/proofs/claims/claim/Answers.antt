@@ -1,7 +1,7 @@
 use Rattle.std.proofs.Common.{◌≡◌, ◌+◌, ◌-◌, ◌<◌, ◌≤◌, length, arith}
-use Rattle.sequence_table.specs.batches.Fact.{fact_of}
+use Rattle.record_batch.specs.Fact.{fact_of}
 use Rattle.sequence_table.specs.Told.{names}
-use Rattle.node_tables.specs.declared.note.Ahead.{Ahead}
+use Rattle.node_tables.specs.declared.note.Coming.{Coming}
 use Rattle.node_tables.proofs.AheadLemmas.{begun-set, starts-set}
 use Rattle.node_tables.proofs.RoomLemmas.{claimed-back, claimed-front, told-same}
 use Rattle.node_tables.proofs.claims.claim.Goals as goal
@@ -54,7 +54,7 @@ returns-in_ok-claim-2-clause-claimed c =
     let k = c.named_by-seq.result - 1 in
     let n = c.len-len.result in
     let a = c.index_mut-then-place-len-2.result.now in
-    let b : Ahead = record { start = a.start; row = c.claim-then-place-len-2.new.self } in
+    let b : Coming = record { start = a.start; row = c.claim-then-place-len-2.new.self } in
     let count : n ≡ length rows = omega (arith, c.len-len.ensures) in
     let from : n ≤ k = omega (arith, c.if-place-len.false) in
     let lt : k - n < length ahead = omega (arith, c.if-place-len-2.true, c.len.ensures) in

@@ -1,6 +1,6 @@
 use Rattle.std.proofs.Common.{◌≡◌, map, take}
 use Rattle.std.specs.Prelude.{vec_len, vec_capacity}
-use Rattle.sequence_table.specs.batches.Fact.{fact_of}
+use Rattle.record_batch.specs.Fact.{fact_of}
 use Rattle.node_tables.specs.Kept.{tolds}
 use Rattle.node_tables.specs.Room.{AreBegun, AreEnough, all_spares, starts}
 use Rattle.node_tables.proofs.claims.claim_all.Given as goal

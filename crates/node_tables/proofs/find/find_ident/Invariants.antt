@@ -1,5 +1,5 @@
 use Rattle.std.proofs.Common.{◌≡◌, drop, map}
-use Rattle.sequence_table.specs.batches.Fact.{fact_of}
+use Rattle.record_batch.specs.Fact.{fact_of}
 use Rattle.sequence_table.specs.Makers.{ident_in}
 use Rattle.node_tables.specs.Kept.{named_at}
 use Rattle.node_tables.proofs.find.find_ident.Given as goal

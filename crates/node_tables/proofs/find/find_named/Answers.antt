@@ -1,6 +1,6 @@
 use Rattle.std.proofs.Common.{◌∙◌, ◌+◌, List, drop, map, cond, get_or, sym, ap, Some, Bool}
 use Rattle.std.proofs.lemmas.List.{at_drop_more}
-use Rattle.sequence_table.specs.batches.Fact.{fact_of}
+use Rattle.record_batch.specs.Fact.{fact_of}
 use Rattle.sequence_table.specs.Makers.{seq_in}
 use Rattle.node_tables.specs.declared.note.Named.{Named}
 use Rattle.node_tables.specs.Kept.{named_at}

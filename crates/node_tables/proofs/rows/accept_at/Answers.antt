@@ -1,5 +1,5 @@
 use Rattle.std.proofs.Common.{ap, ◌∙◌, ◌+◌, refl, arith}
-use Rattle.sequence_table.specs.batches.Fact.{Accepted}
+use Rattle.record_batch.specs.Fact.{Accepted}
 use Rattle.node_tables.specs.Kept.{row_at, tolds}
 use Rattle.sequence_row.specs.Row.{is_sender}
 use Rattle.node_tables.proofs.RoomLemmas.{accepted-kind, same-spare, spares-spent}

@@ -1,5 +1,5 @@
 use Rattle.std.proofs.Common.{◌≡◌, ap, ◌∙◌, ◌+◌, ◌-◌, ◌<◌, ◌≤◌, length, sym, subst, arith, true, ℕ}
-use Rattle.sequence_table.specs.batches.Fact.{fact_of}
+use Rattle.record_batch.specs.Fact.{fact_of}
 use Rattle.sequence_row.specs.Row.{is_sender, takes}
 use Rattle.sequence_table.specs.Told.{Told, names}
 use Rattle.node_tables.specs.Kept.{row_at, tolds}

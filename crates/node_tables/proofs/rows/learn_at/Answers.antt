@@ -1,5 +1,5 @@
 use Rattle.std.proofs.Common.{◌≡◌, ap, ◌∙◌, ◌+◌, refl, arith, subst, true}
-use Rattle.sequence_table.specs.batches.Fact.{Acked}
+use Rattle.record_batch.specs.Fact.{Acked}
 use Rattle.sequence_table.specs.Told.{Told}
 use Rattle.sequence_row.specs.Row.{takes_acked}
 use Rattle.node_tables.specs.Kept.{row_at, tolds}

@@ -1,5 +1,5 @@
 use Rattle.std.proofs.Common.{false}
-use Rattle.rm_elements.specs.markup.ReadBack.{written_tree}
+use Rattle.soap_writer.specs.ReadBack.{written_tree}
 use Rattle.record_batch.proofs.laws.parameters_are_read_back.Goals as goal
 
 pub returns : goal.returns

@@ -1,6 +1,6 @@
 use Rattle.std.proofs.Common.{◌≡◌, drop, map}
 use Rattle.rm_base.specs.NumberSet.{has_number}
-use Rattle.sequence_table.specs.batches.Fact.{fact_of}
+use Rattle.record_batch.specs.Fact.{fact_of}
 use Rattle.sequence_table.specs.Destinations.{held}
 use Rattle.tables_ahead.proofs.batch.has_in.Given as goal
 

@@ -1,6 +1,6 @@
 use Rattle.std.proofs.Common.{◌≡◌, drop, map}
 use Rattle.std.specs.Prelude.{slice_get}
-use Rattle.sequence_table.specs.batches.Fact.{fact_of}
+use Rattle.record_batch.specs.Fact.{fact_of}
 use Rattle.sequence_table.specs.Makers.{makers}
 use Rattle.tables_ahead.proofs.batch.maker_in.Given as goal
 

@@ -1,5 +1,5 @@
 use Rattle.std.proofs.Common.{◌≡◌, drop, map}
-use Rattle.sequence_table.specs.batches.Fact.{fact_of}
+use Rattle.record_batch.specs.Fact.{fact_of}
 use Rattle.sequence_table.specs.Sources.{marks}
 use Rattle.sequence_table.specs.Words.{last_or}
 use Rattle.tables_ahead.proofs.batch.phase_in.Given as goal

@@ -1,5 +1,5 @@
 use Rattle.std.proofs.Common.{◌≡◌, drop, map}
-use Rattle.sequence_table.specs.batches.Fact.{fact_of}
+use Rattle.record_batch.specs.Fact.{fact_of}
 use Rattle.rm_destination.specs.Messages.{ranges_onto}
 use Rattle.sequence_table.specs.Destinations.{held}
 use Rattle.tables_ahead.specs.Known.{AreNumbers}

@@ -1,7 +1,7 @@
 use Rattle.std.proofs.Common.{◌+◌, List, drop, map, sym, ap, ◌∙◌}
 use Rattle.ack_ranges.specs.Changes.{united}
-use Rattle.sequence_table.specs.batches.declared.record.Record.{Record}
-use Rattle.sequence_table.specs.batches.Fact.{fact_of}
+use Rattle.record_batch.specs.declared.record.Record.{Record}
+use Rattle.record_batch.specs.Fact.{fact_of}
 use Rattle.sequence_table.specs.GatherLemmas.{united-append}
 use Rattle.sequence_table.specs.Sources.{acked, acked_of}
 use Rattle.tables_ahead.proofs.LoopLemmas.{at_item}

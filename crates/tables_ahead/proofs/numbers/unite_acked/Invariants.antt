@@ -1,6 +1,6 @@
 use Rattle.std.proofs.Common.{◌≡◌, drop, map}
 use Rattle.ack_ranges.specs.Changes.{united}
-use Rattle.sequence_table.specs.batches.Fact.{fact_of}
+use Rattle.record_batch.specs.Fact.{fact_of}
 use Rattle.sequence_table.specs.Sources.{acked}
 use Rattle.tables_ahead.proofs.numbers.unite_acked.Given as goal
 

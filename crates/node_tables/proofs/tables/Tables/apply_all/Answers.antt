@@ -1,6 +1,6 @@
 use Rattle.std.proofs.Common.{◌≡◌, List, ◌∷◌, map, ap, subst}
 use Rattle.std.specs.Vec.Iter.{into_iter_items}
-use Rattle.sequence_table.specs.batches.Fact.{Fact, fact_of}
+use Rattle.record_batch.specs.Fact.{Fact, fact_of}
 use Rattle.node_tables.specs.Ready.{IsReady}
 use Rattle.node_tables.proofs.ApplyLemmas.{Applied, applied-more, applied-next, no-error}
 use Rattle.node_tables.proofs.tables.Tables.apply_all.Goals as goal

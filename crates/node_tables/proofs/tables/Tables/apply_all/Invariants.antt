@@ -1,6 +1,6 @@
 use Rattle.std.proofs.Common.{length, map}
 use Rattle.std.specs.Vec.Iter.{into_iter_items}
-use Rattle.sequence_table.specs.batches.Fact.{fact_of}
+use Rattle.record_batch.specs.Fact.{fact_of}
 use Rattle.node_tables.specs.Ready.{IsReady}
 use Rattle.node_tables.proofs.ApplyLemmas.{Applied}
 use Rattle.node_tables.proofs.tables.Tables.apply_all.Given as goal

@@ -5,7 +5,7 @@ use Rattle.sequence_table.specs.Find.{is_creating}
 use Rattle.sequence_table.specs.Idents.{issue}
 use Rattle.sequence_table.specs.Makers.{number}
 use Rattle.sequence_table.specs.Sources.{marks, out_ident}
-use Rattle.sequence_table.specs.Words.{is_empty}
+use Rattle.rm_destination.specs.Messages.{is_empty}
 use Rattle.node_tables.specs.Reads.{passes}
 use Rattle.node_tables.proofs.MakerLemmas.{and_right_true, is-creating}
 use Rattle.node_tables.proofs.tables.Tables.is_creating.Goals as goal

@@ -2,8 +2,8 @@ use Rattle.std.proofs.Common.{◌≡◌, ◌∙◌, ◌-◌, true, List, [], ◌
 use Rattle.std.proofs.Common.{subst, arith}
 use Rattle.std.proofs.lemmas.List.{length-map, map-append}
 use Rattle.std.proofs.lemmas.Result.{err_from_is_err_and}
-use Rattle.sequence_table.specs.batches.declared.record.Record.{Record}
-use Rattle.sequence_table.specs.batches.Fact.{fact_of}
+use Rattle.record_batch.specs.declared.record.Record.{Record}
+use Rattle.record_batch.specs.Fact.{fact_of}
 use Rattle.sequence_table.specs.Makers.{makers_of}
 use Rattle.sequence_table.specs.Fits.{fits}
 use Rattle.sequence_table.specs.Told.{Told, begun, each_after, names}

@@ -1,8 +1,8 @@
 use Rattle.std.proofs.Common.{◌∙◌, List, cond, map, ap, sym}
 use Rattle.std.specs.Prelude.{slice_get}
 use Rattle.rm_base.specs.Numbered.{numbered}
-use Rattle.sequence_table.specs.batches.declared.record.Record.{Record}
-use Rattle.sequence_table.specs.batches.Fact.{fact_of}
+use Rattle.record_batch.specs.declared.record.Record.{Record}
+use Rattle.record_batch.specs.Fact.{fact_of}
 use Rattle.sequence_table.specs.Makers.{maker, makers_of}
 use Rattle.node_tables.specs.declared.note.Origin.{Origin}
 use Rattle.node_tables.specs.Kept.{Tabled, kept_at}

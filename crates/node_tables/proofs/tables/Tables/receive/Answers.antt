@@ -1,7 +1,7 @@
 use Rattle.std.proofs.Common.{◌≡◌, ◌∙◌, ◌+◌, ◌-◌, ◌<◌, true, List, [], ◌∷◌, ◌++◌, length, refl, sym, ap}
 use Rattle.std.proofs.Common.{subst, arith}
 use Rattle.std.proofs.lemmas.List.{length-map}
-use Rattle.sequence_table.specs.batches.Fact.{Received}
+use Rattle.record_batch.specs.Fact.{Received}
 use Rattle.sequence_table.specs.Fits.{fits}
 use Rattle.sequence_row.specs.Row.{Seen}
 use Rattle.node_tables.specs.declared.note.Note.{Note}

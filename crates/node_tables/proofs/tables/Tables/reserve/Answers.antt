@@ -1,8 +1,8 @@
 use Rattle.std.proofs.Common.{◌∙◌, ◌++◌, List, map, ap, arith}
 use Rattle.std.specs.List.{flat_map}
 use Rattle.std.proofs.lemmas.List.{length-map}
-use Rattle.sequence_table.specs.batches.Fact.{fact_of}
-use Rattle.node_tables.specs.declared.note.Ahead.{Ahead}
+use Rattle.record_batch.specs.Fact.{fact_of}
+use Rattle.node_tables.specs.declared.note.Coming.{Coming}
 use Rattle.node_tables.specs.Room.{starts, starts_of}
 use Rattle.node_tables.proofs.CountLemmas.{all-timed}
 use Rattle.node_tables.proofs.tables.Tables.reserve.Goals as goal
@@ -15,6 +15,6 @@ returns-clause-ok c fit =
       ahead =
           c.claim_all.ensures.starts
           ∙ c.in_ok-prepare_all.ensures.starts (all-timed c.args.self.now.records batch fit)
-          ∙ ap (λ (xs : List Ahead). starts xs ++ flat_map starts_of batch) c.clear.ensures.items;
+          ∙ ap (λ (xs : List Coming). starts xs ++ flat_map starts_of batch) c.clear.ensures.items;
       enough = c.in_ok-claim_all.ensures.enough;
     }

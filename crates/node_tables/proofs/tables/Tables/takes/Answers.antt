@@ -2,7 +2,7 @@ use Rattle.std.proofs.Common.{◌∙◌, ap, sym}
 use Rattle.std.specs.Prelude.{◌&&◌}
 use Rattle.sequence_row.specs.Row.{takes}
 use Rattle.node_tables.specs.Kept.{told_in}
-use Rattle.sequence_table.specs.batches.Fact.{fact_of}
+use Rattle.record_batch.specs.Fact.{fact_of}
 use Rattle.node_tables.proofs.RowsLemmas.{taken-by}
 use Rattle.node_tables.proofs.tables.Tables.takes.Goals as goal
 

@@ -1,0 +1,30 @@
+use Rattle.std.proofs.Common.{◌∙◌, ◌+◌, ◌++◌, ◌<◌, drop, cond, length, sym, ap, arith, Some, Bool}
+use Rattle.sequence_table.specs.Find.{find_from, is_granted}
+use Rattle.sequence_table.specs.Makers.{maker, makers}
+use Rattle.node_tables.specs.Reads.{passes}
+use Rattle.tables_ahead.proofs.FoundLemmas.{found}
+use Rattle.tables_ahead.proofs.known.Known.find_grant.Goals as goal
+use Rattle.tables_ahead.specs.Known.{all_records}
+
+pub returns-then-is_granted : goal.returns-then-is_granted
+returns-then-is_granted c =
+    let r = all_records c.args.self.now in
+    let f = is_granted c.args.message_id.now in
+    let k = c.loop-before.before in
+    let lt : k < length (makers r) = omega (arith, c.len-before-end.ensures.count, c.loop-before-test.true) in
+    sym (sym c.loop-before.invariant ∙ found f (makers r) k lt
+    ∙ ap (λ (b : Bool). cond b (Some (k + 1)) (find_from f (k + 1) (drop (k + 1) (makers r))))
+    (sym (c.is_granted.ensures ∙ ap (λ t. passes (is_granted t) (k + 1) (maker r (k + 1))) c.as_slice.ensures.bytes)
+    ∙ c.if-is_granted.true))
+
+pub loop-before-preserved : goal.loop-before-preserved
+loop-before-preserved c =
+    let r = all_records c.args.self.now in
+    let f = is_granted c.args.message_id.now in
+    let k = c.loop-before.before in
+    let lt : k < length (makers r) = omega (arith, c.len-before-end.ensures.count, c.loop-before-test.true) in
+    sym (found f (makers r) k lt
+    ∙ ap (λ (b : Bool). cond b (Some (k + 1)) (find_from f (k + 1) (drop (k + 1) (makers r))))
+    (sym (c.is_granted.ensures ∙ ap (λ t. passes (is_granted t) (k + 1) (maker r (k + 1))) c.as_slice.ensures.bytes)
+    ∙ c.if-is_granted.false))
+    ∙ c.loop-before.invariant
