@@ -3,8 +3,8 @@ use Rattle.std.specs.Prelude.{◌≡◌, ℕ, true, List, map}
 use Rattle.std.specs.List.{AllByRecursion}
 use Rattle.batch_size.specs.Room.{HasRoom}
 use Rattle.batch_size.specs.Typed.{IsTyped}
-use Rattle.rm_protocol.specs.batches.Fact.{Fact, fact_of}
-use Rattle.rm_protocol.specs.sequences.Fits.{all_fit}
+use Rattle.record_batch.specs.Fact.{Fact, fact_of}
+use Rattle.sequence_table.specs.Fits.{all_fit}
 use Rattle.rm_protocol.specs.Calls.{Answer, Cause, Outcome, Wish, NoSequence, WrongSide, PayloadTooLong, BadPayload}
 use Rattle.rm_protocol.specs.Calls.{NotOpen, WindowFull, NodeFull, Rollover, TooManySequences, StoreFull, Done}
 use Rattle.rm_protocol.specs.Calls.{Refused, Judged}

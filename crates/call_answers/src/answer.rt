@@ -1,8 +1,8 @@
 //! What a call of a node comes to.
+use record_batch::{Record, Via};
 use rm_base::{Behaviour, Uri};
-use rm_protocol::batches::{Record, Via};
-use rm_protocol::elements::Lapse;
-use rm_protocol::message_types::{FaultKind, Message};
+use rm_elements::Lapse;
+use rm_message::{FaultKind, Message};
 
 /// Why a call is refused, in the order in which it is tested. Of a full window or node: how many messages wait for an
 /// acknowledgement. Of a full store: where its entries end, and how many bytes the entry would take.

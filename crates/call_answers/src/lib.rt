@@ -1,6 +1,6 @@
 //! What a call of a node comes to: whether it was done, the records that it adds, and what it says then. It stands on
 //! the definitions of the protocol, `rm_protocol`, on how long a batch is, `batch_size`, and on what a node's own terms
-//! are, `node_rules`. The layers above may use the contracts and the definitions of `specs/`.
+//! are, `node_laws`. The layers above may use the contracts and the definitions of `specs/`.
 #![tactic(auto)]
 
 pub mod answer;

@@ -4,25 +4,20 @@ ghost use Rattle.std.specs.List.{AllByRecursion};
 ghost use Rattle.batch_size.specs.Room.{HasRoom};
 ghost use Rattle.batch_size.specs.Size.{capped};
 ghost use Rattle.batch_size.specs.Typed.{IsTyped};
-ghost use Rattle.rm_protocol.specs.batches.Batch.{batch_text};
-ghost use Rattle.rm_protocol.specs.batches.Fact.{fact_of};
+ghost use Rattle.record_batch.specs.Batch.{batch_text};
+ghost use Rattle.record_batch.specs.Fact.{fact_of};
 ghost use Rattle.rm_protocol.specs.Calls.{if_room as if_room_of, refusal as refusal_for};
 ghost use Rattle.rm_protocol.specs.Terms.{Terms};
 ghost use Rattle.rm_protocol.specs.Verdict.{has_room as has_room_for};
-ghost use Rattle.node_rules.specs.OwnTerms.{AreOwn};
+ghost use Rattle.node_laws.specs.OwnTerms.{AreOwn};
 ghost use Rattle.call_answers.specs.Answers.{cause_seen, seen};
 
 use crate::answer::{Answer, Cause, Outcome};
 use batch_size::batch_len;
+use record_batch::Record;
 use rm_base::Memory;
-use rm_protocol::batches::Record;
+use rm_base::limits::{ENTRY_BYTES, JOURNAL_BYTES};
 use std::alloc::Global;
-
-/// The most bytes of an entry of the journal.
-const ENTRY_LIMIT: u64 = 4194304;
-
-/// The most bytes of the journal.
-const JOURNAL_LIMIT: u64 = 268435456;
 
 /// How many bytes an entry takes besides its batch.
 const AROUND_ENTRY: u64 = 6;
@@ -31,10 +26,10 @@ const AROUND_ENTRY: u64 = 6;
 fn is_within(end: u64, size: u64) -> bool
     ensures { result ≡ (nat_le size 4194304 && nat_le (end + 6 + size) 268435456) }
 {
-    if size > ENTRY_LIMIT {
+    if size > ENTRY_BYTES as u64 {
         return false;
     }
-    end <= JOURNAL_LIMIT - AROUND_ENTRY - size
+    end <= JOURNAL_BYTES - AROUND_ENTRY - size
 }
 
 // Whether a batch of so many bytes fits behind a place: there is nothing to be written, or it is within the limits.

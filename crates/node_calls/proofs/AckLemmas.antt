@@ -1,13 +1,13 @@
 -- The final acknowledgement as a message of its own.
 use Rattle.std.proofs.Common.{◌≡◌, ℕ, Bool, false, cond, List, [], ◌∷◌, sym, ap, ◌∙◌, Option, Some, None}
 use Rattle.std.specs.Option.{option_map}
-use Rattle.rm_protocol.specs.message_types.declared.message.Message.{Message}
-use Rattle.rm_protocol.specs.addressing.declared.endpoint.Epr.{Epr}
-use Rattle.rm_protocol.specs.batches.Fact.{Fact}
-use Rattle.rm_protocol.specs.sequences.Words.{Text}
-use Rattle.rm_protocol.specs.sequences.Idents.{issue}
-use Rattle.rm_protocol.specs.sequences.Makers.{number}
-use Rattle.rm_protocol.specs.sequences.Find.{acks_to}
+use Rattle.rm_message.specs.declared.message.Message.{Message}
+use Rattle.wsa_headers.specs.declared.endpoint.Epr.{Epr}
+use Rattle.record_batch.specs.Fact.{Fact}
+use Rattle.sequence_table.specs.Words.{Text}
+use Rattle.sequence_table.specs.Idents.{issue}
+use Rattle.sequence_table.specs.Makers.{number}
+use Rattle.sequence_table.specs.Find.{acks_to}
 use Rattle.rm_protocol.specs.Addresses.{is_anonymous}
 use Rattle.rm_protocol.specs.Calls.{final_ack}
 use Rattle.rm_protocol.specs.Messages.{ack_message, block_of}

@@ -5,10 +5,10 @@ use Rattle.std.proofs.Common.{None}
 use Rattle.std.specs.Prelude.{not, nat_le, nat_lt}
 use Rattle.std.specs.Option.{option_or}
 use Rattle.std.proofs.lemmas.Bool.Decides.{nat_tests}
-use Rattle.rm_protocol.specs.batches.Fact.{Fact}
-use Rattle.rm_protocol.specs.sequences.Words.{Text}
-use Rattle.rm_protocol.specs.sequences.Makers.{Maker, Outgoing, Offered, Incoming, Taken, maker}
-use Rattle.rm_protocol.specs.sequences.Sources.{accepted, all_unacked, phase, unacked}
+use Rattle.record_batch.specs.Fact.{Fact}
+use Rattle.sequence_table.specs.Words.{Text}
+use Rattle.sequence_table.specs.Makers.{Maker, Outgoing, Offered, Incoming, Taken, maker}
+use Rattle.sequence_table.specs.Sources.{accepted, all_unacked, phase, unacked}
 use Rattle.rm_protocol.specs.Calls.{Answer, Cause, PayloadTooLong, BadPayload, NotOpen, WindowFull, NodeFull, Rollover}
 use Rattle.rm_protocol.specs.Calls.{if_room, is_open, on_outgoing, refusal, send, send_out}
 use Rattle.rm_protocol.specs.Terms.{Terms}

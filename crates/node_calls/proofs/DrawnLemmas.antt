@@ -6,12 +6,12 @@ use Rattle.std.specs.Prelude.{slice_get}
 use Rattle.std.specs.List.{AllByRecursion}
 use Rattle.std.proofs.lemmas.Bool.{and_parts, eqb-true, ne_eqb}
 use Rattle.rm_base.specs.Numbered.{numbered}
-use Rattle.rm_protocol.specs.batches.Fact.{Fact, Creating, Granted}
-use Rattle.rm_protocol.specs.sequences.Makers.{Maker, Outgoing, Offered, Incoming, Taken, makers, makers_of, maker}
-use Rattle.rm_protocol.specs.sequences.Makers.{counter}
-use Rattle.rm_protocol.specs.sequences.Makers.{draws_of}
-use Rattle.rm_protocol.specs.sequences.Fits.{fits, all_fit}
-use Rattle.rm_protocol.specs.sequences.NodeLemmas.{one_more}
+use Rattle.record_batch.specs.Fact.{Fact, Creating, Granted}
+use Rattle.sequence_table.specs.Makers.{Maker, Outgoing, Offered, Incoming, Taken, makers, makers_of, maker}
+use Rattle.sequence_table.specs.Makers.{counter}
+use Rattle.sequence_table.specs.Makers.{draws_of}
+use Rattle.sequence_table.specs.Fits.{fits, all_fit}
+use Rattle.sequence_table.specs.NodeLemmas.{one_more}
 
 -- the item with the number behind n
 pub numbered-next : {A : Type 0} (xs : List A) (n : ℕ) → numbered xs (n + 1) ≡ slice_get xs n

@@ -6,27 +6,27 @@ use Rattle.std.specs.Option.{option_or}
 use Rattle.std.proofs.lemmas.Bool.{eq-eqb}
 use Rattle.std.proofs.lemmas.List.{length-append}
 use Rattle.rm_base.specs.Numbered.{numbered}
-use Rattle.rm_protocol.specs.elements.declared.lapse.Lapse.{Lapse}
-use Rattle.rm_protocol.specs.elements.declared.lifecycle.Lifecycle.TheVariants as life
-use Rattle.rm_protocol.specs.elements.declared.lifecycle.Offer.{Offer}
+use Rattle.rm_elements.specs.declared.lapse.Lapse.{Lapse}
+use Rattle.rm_elements.specs.declared.lifecycle.Lifecycle.TheVariants as life
+use Rattle.rm_elements.specs.declared.lifecycle.Offer.{Offer}
 use Rattle.rm_source.specs.declared.phase.OutPhase.{OutPhase}
 use Rattle.rm_source.specs.declared.phase.OutPhase.TheVariants as out
 use Rattle.rm_source.specs.Outgoing.{Sending}
-use Rattle.rm_protocol.specs.batches.declared.record.OwnOffer.{OwnOffer}
-use Rattle.rm_protocol.specs.batches.declared.record.Via.{Via}
-use Rattle.rm_protocol.specs.batches.Fact.{Fact, Creating, Accepted, Closing, Ending}
-use Rattle.rm_protocol.specs.sequences.Words.{Text, at_seq, last_or}
-use Rattle.rm_protocol.specs.sequences.Makers.{Outgoing, makers, makers_of, maker}
-use Rattle.rm_protocol.specs.sequences.Sources.{accepted, accepted_of, first_phase, mark_of, marks, out_ident, phase}
-use Rattle.rm_protocol.specs.sequences.Sources.{ticket_of, tickets}
-use Rattle.rm_protocol.specs.sequences.Find.{peer, plain_endpoint}
-use Rattle.rm_protocol.specs.sequences.Fits.{all_fit}
-use Rattle.rm_protocol.specs.sequences.GatherLemmas.{at_seq-more, flat_map-more, last_or-append}
-use Rattle.rm_protocol.specs.sequences.NameLemmas.{NamesUpTo, names-fit, names-more, unnamed_ident}
-use Rattle.rm_protocol.specs.sequences.NodeLemmas.{one_more}
-use Rattle.rm_protocol.specs.sequences.PhaseLemmas.{out_ident-more}
-use Rattle.rm_protocol.specs.sequences.ToldLemmas.{sending-unnamed}
-use Rattle.rm_protocol.specs.message_types.declared.message.Message.{Message}
+use Rattle.record_batch.specs.declared.record.OwnOffer.{OwnOffer}
+use Rattle.record_batch.specs.declared.record.Via.{Via}
+use Rattle.record_batch.specs.Fact.{Fact, Creating, Accepted, Closing, Ending}
+use Rattle.sequence_table.specs.Words.{Text, at_seq, last_or}
+use Rattle.sequence_table.specs.Makers.{Outgoing, makers, makers_of, maker}
+use Rattle.sequence_table.specs.Sources.{accepted, accepted_of, first_phase, mark_of, marks, out_ident, phase}
+use Rattle.sequence_table.specs.Sources.{ticket_of, tickets}
+use Rattle.sequence_table.specs.Find.{peer, plain_endpoint}
+use Rattle.sequence_table.specs.Fits.{all_fit}
+use Rattle.sequence_table.specs.GatherLemmas.{at_seq-more, flat_map-more, last_or-append}
+use Rattle.sequence_table.specs.NameLemmas.{NamesUpTo, names-fit, names-more, unnamed_ident}
+use Rattle.sequence_table.specs.NodeLemmas.{one_more}
+use Rattle.sequence_table.specs.PhaseLemmas.{out_ident-more}
+use Rattle.sequence_table.specs.ToldLemmas.{sending-unnamed}
+use Rattle.rm_message.specs.declared.message.Message.{Message}
 use Rattle.rm_protocol.specs.Addresses.{own_address}
 use Rattle.rm_protocol.specs.Messages.{create_request, finish_request, offer_by, request_at, request_by, request_of}
 use Rattle.node_messages.specs.Requests.{create_with, offer_with}

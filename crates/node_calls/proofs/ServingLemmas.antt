@@ -2,10 +2,10 @@
 use Rattle.std.proofs.Common.{◌≡◌, ℕ, ◌<◌, ◌≤◌, true, List, [], ◌∷◌, ◌++◌, arith}
 use Rattle.std.specs.Prelude.{nat_le}
 use Rattle.std.proofs.lemmas.Bool.{and_parts, leb-true}
-use Rattle.rm_protocol.specs.batches.Fact.{Fact, Made}
-use Rattle.rm_protocol.specs.sequences.Makers.{number}
-use Rattle.rm_protocol.specs.sequences.Fits.{fits, all_fit}
-use Rattle.node_rules.specs.Records.{BeginsWithMade}
+use Rattle.record_batch.specs.Fact.{Fact, Made}
+use Rattle.sequence_table.specs.Makers.{number}
+use Rattle.sequence_table.specs.Fits.{fits, all_fit}
+use Rattle.node_laws.specs.Records.{BeginsWithMade}
 
 -- the node has a number
 pub number-begun : (r d : List Fact) → BeginsWithMade r → all_fit [] r ≡ true → 0 < number (r ++ d)

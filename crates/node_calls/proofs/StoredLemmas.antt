@@ -5,9 +5,9 @@ use Rattle.std.specs.List.{AllByRecursion}
 use Rattle.rm_base.specs.declared.failures.Memory.{Memory}
 use Rattle.batch_size.specs.Room.{HasRoom}
 use Rattle.batch_size.specs.Typed.{IsTyped}
-use Rattle.rm_protocol.specs.batches.Fact.{Fact, fact_of}
+use Rattle.record_batch.specs.Fact.{Fact, fact_of}
 use Rattle.rm_protocol.specs.Calls.{Answer}
-use Rattle.rm_protocol.specs.sequences.Fits.{all_fit}
+use Rattle.sequence_table.specs.Fits.{all_fit}
 use Rattle.call_answers.specs.Answers.{MayBeStored, seen}
 use Rattle.call_answers.specs.declared.answer.Answer.{Answer as Given}
 

@@ -1,10 +1,10 @@
 -- Why a call is refused, apart from what it comes to where it isn't.
 use Rattle.std.specs.Prelude.{ℕ, not, nat_le, nat_lt, if◌then◌else◌, List, length, Option, Some, None}
 use Rattle.std.specs.Option.{option_or}
-use Rattle.rm_protocol.specs.batches.Fact.{Fact}
-use Rattle.rm_protocol.specs.sequences.Words.{Text}
-use Rattle.rm_protocol.specs.sequences.Makers.{Maker, Outgoing, Taken, maker}
-use Rattle.rm_protocol.specs.sequences.Sources.{accepted, all_unacked, phase, unacked}
+use Rattle.record_batch.specs.Fact.{Fact}
+use Rattle.sequence_table.specs.Words.{Text}
+use Rattle.sequence_table.specs.Makers.{Maker, Outgoing, Taken, maker}
+use Rattle.sequence_table.specs.Sources.{accepted, all_unacked, phase, unacked}
 use Rattle.rm_protocol.specs.Calls.{Answer, Cause, NoSequence, WrongSide, PayloadTooLong, BadPayload, NotOpen}
 use Rattle.rm_protocol.specs.Calls.{WindowFull, NodeFull, Rollover, is_open, refusal}
 use Rattle.rm_protocol.specs.Terms.{Terms}

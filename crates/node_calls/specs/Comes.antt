@@ -2,11 +2,11 @@
 use Rattle.std.specs.Prelude.{ℕ, ◌+◌, Bool, if◌then◌else◌, List, [], ◌∷◌, length}
 use Rattle.std.specs.Option.{option_to_list}
 use Rattle.rm_base.specs.declared.message.Cause.TheVariants.{Operator, Expired}
-use Rattle.rm_protocol.specs.message_types.declared.message.Message.{Message}
-use Rattle.rm_protocol.specs.batches.Fact.{Fact, Creating, Accepted, Closing, Closed, Ending, Ended}
-use Rattle.rm_protocol.specs.sequences.Words.{Text}
-use Rattle.rm_protocol.specs.sequences.Makers.{counter, maker, makers}
-use Rattle.rm_protocol.specs.sequences.Sources.{accepted}
+use Rattle.rm_message.specs.declared.message.Message.{Message}
+use Rattle.record_batch.specs.Fact.{Fact, Creating, Accepted, Closing, Closed, Ending, Ended}
+use Rattle.sequence_table.specs.Words.{Text}
+use Rattle.sequence_table.specs.Makers.{counter, maker, makers}
+use Rattle.sequence_table.specs.Sources.{accepted}
 use Rattle.rm_protocol.specs.Calls.{Answer, Done, Wish, adds, final_ack, made_by, offer_of}
 use Rattle.rm_protocol.specs.Messages.{data_at, request_at}
 use Rattle.rm_protocol.specs.Terms.{Terms}

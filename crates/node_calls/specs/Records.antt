@@ -1,18 +1,18 @@
 -- What the records of a node give to its calls.
-use Rattle.std.specs.Prelude.{◌≡◌, ℕ, ◌<◌, true, List, []}
-use Rattle.rm_protocol.specs.batches.Fact.{Fact}
-use Rattle.rm_protocol.specs.sequences.Fits.{all_fit}
-use Rattle.rm_protocol.specs.sequences.Makers.{counter}
-use Rattle.node_rules.specs.OwnTerms.{AreOwn}
-use Rattle.node_rules.specs.Records.{BeginsWithMade}
+use Rattle.std.specs.Prelude.{◌≡◌, ℕ, ◌<◌, ◌^◌, true, List, []}
+use Rattle.record_batch.specs.Fact.{Fact}
+use Rattle.sequence_table.specs.Fits.{all_fit}
+use Rattle.sequence_table.specs.Makers.{counter}
+use Rattle.node_laws.specs.OwnTerms.{AreOwn}
+use Rattle.node_laws.specs.Records.{BeginsWithMade}
 use Rattle.rm_protocol.specs.Next.{AddsNext}
 use Rattle.rm_protocol.specs.Terms.{Terms}
 
--- the first record is Made, each could come next, and fewer numbers were drawn than a journal has bytes
+-- the first record is Made, each could come next, and fewer numbers were drawn than memory can hold bytes
 pub record IsServing (r : List Fact) : Type 0 where
   pub begins : BeginsWithMade r
   pub fit : all_fit [] r ≡ true
-  pub drawn : counter r < 268435456
+  pub drawn : counter r < 2 ^ 61
 
 -- at some terms of a node's own, the records that each call adds may come next
 pub record CallsFit (r : List Fact) (place : ℕ) : Type 0 where

@@ -4,16 +4,16 @@ ghost use Rattle.std.specs.List.{AllByRecursion};
 ghost use Rattle.std.specs.Option.{option_to_list};
 ghost use Rattle.batch_size.specs.Room.{HasRoom};
 ghost use Rattle.batch_size.specs.Typed.{IsTyped};
-ghost use Rattle.rm_protocol.specs.batches.Fact.{fact_of};
+ghost use Rattle.record_batch.specs.Fact.{fact_of};
 ghost use Rattle.rm_protocol.specs.Calls.{refusal};
 ghost use Rattle.call_answers.specs.Answers.{cause_seen, seen};
 ghost use Rattle.node_calls.specs.Comes.{done};
 
 use call_answers::{Answer, Cause, Outcome};
 use rm_base::Memory;
-use rm_protocol::message_types::Message;
+use rm_message::Message;
 use std::alloc::Global;
-use tables_ahead::Ahead;
+use tables_ahead::Known;
 
 /// A call that is refused adds nothing and says nothing.
 pub(crate) fn refused(alloc: Global, cause: Cause) -> Answer
@@ -31,7 +31,7 @@ pub(crate) fn refused(alloc: Global, cause: Cause) -> Answer
 /// The records ahead are added, and the message is said, where there is one.
 pub(crate) fn added(
     alloc: Global,
-    ahead: Ahead<'_>,
+    ahead: Known<'_>,
     message: Option<Message>,
 ) -> Result<Answer, Memory>
     ensures { IfOk result (λ a. seen a ≡ done ahead.entry.delta (option_to_list message)) }

@@ -1,6 +1,6 @@
 //! The calls of a node that no message brings.
 ghost use Rattle.std.specs.Prelude.{◌≡◌, map, IfOk};
-ghost use Rattle.rm_protocol.specs.batches.Fact.{fact_of};
+ghost use Rattle.record_batch.specs.Fact.{fact_of};
 ghost use Rattle.rm_protocol.specs.Calls.{
   close as close_of,
   create as create_of,
@@ -9,14 +9,14 @@ ghost use Rattle.rm_protocol.specs.Calls.{
   tick as tick_of,
 };
 ghost use Rattle.rm_protocol.specs.Terms.{Terms};
-ghost use Rattle.node_rules.specs.OwnTerms.{AreOwn};
+ghost use Rattle.node_laws.specs.OwnTerms.{AreOwn};
 ghost use Rattle.call_answers.specs.Answers.{MayBeStored, seen, wish_seen};
 ghost use Rattle.call_answers.specs.Serving.{Serves};
 ghost use Rattle.node_calls.specs.Records.{CallsFit, IsServing};
 
 use crate::{ends, requests, sends, ticks};
 use call_answers::{Answer, Wish};
-use node_rules::laws::{own_terms_are_terms, there_are_own_terms};
+use node_laws::laws::{own_terms_are_terms, there_are_own_terms};
 use node_tables::Tables;
 use rm_base::{Blob, Memory};
 use rm_protocol::laws::each_record_may_come_next;

@@ -4,7 +4,7 @@ ghost use Rattle.std.specs.List.{AllByRecursion};
 ghost use Rattle.rm_base.specs.declared.message.Cause.TheVariants.{Operator};
 ghost use Rattle.batch_size.specs.Room.{HasRoom};
 ghost use Rattle.batch_size.specs.Typed.{IsTyped};
-ghost use Rattle.rm_protocol.specs.batches.Fact.{Closed, fact_of};
+ghost use Rattle.record_batch.specs.Fact.{Closed, fact_of};
 ghost use Rattle.rm_protocol.specs.Calls.{
   close as close_of,
   close_in as close_in_of,
@@ -12,9 +12,9 @@ ghost use Rattle.rm_protocol.specs.Calls.{
   end as end_of,
 };
 ghost use Rattle.rm_protocol.specs.Terms.{Terms};
-ghost use Rattle.rm_protocol.specs.sequences.Fits.{fits, is_incoming_side};
-ghost use Rattle.rm_protocol.specs.sequences.Makers.{maker};
-ghost use Rattle.node_rules.specs.OwnTerms.{AreOwn};
+ghost use Rattle.sequence_table.specs.Fits.{fits, is_incoming_side};
+ghost use Rattle.sequence_table.specs.Makers.{maker};
+ghost use Rattle.node_laws.specs.OwnTerms.{AreOwn};
 ghost use Rattle.call_answers.specs.Answers.{seen};
 ghost use Rattle.node_calls.specs.Comes.{closed as closed_of, closing as closing_of, ending as ending_of};
 ghost use Rattle.node_calls.specs.Records.{IsServing};
@@ -26,10 +26,10 @@ use crate::requests::{close_request, terminate_request};
 use batch_size::laws::a_batch_is_its_parts;
 use call_answers::{Answer, Cause, if_room};
 use node_tables::{Maker, Tables};
+use record_batch::Record;
 use rm_base::Memory;
-use rm_protocol::batches::Record;
 use std::alloc::Global;
-use tables_ahead::Ahead;
+use tables_ahead::Known;
 
 // An outgoing sequence is being closed, and asks for it.
 fn closing(alloc: Global, tables: &Tables, seq: u32) -> Result<Answer, Memory>
@@ -37,7 +37,7 @@ fn closing(alloc: Global, tables: &Tables, seq: u32) -> Result<Answer, Memory>
     ensures { IfOk result (λ a. seen a ≡ closing_of tables.now.records seq) }
 {
     let ticket = tables.counter() + 1;
-    let mut ahead = Ahead::new(alloc, tables);
+    let mut ahead = Known::new(alloc, tables);
     ahead.push(Record::Closing { seq, ticket })?;
     let request = close_request(alloc, &ahead, seq, ticket)?;
     added(alloc, ahead, request)
@@ -49,7 +49,7 @@ fn ending(alloc: Global, tables: &Tables, seq: u32) -> Result<Answer, Memory>
     ensures { IfOk result (λ a. seen a ≡ ending_of tables.now.records seq) }
 {
     let ticket = tables.counter() + 1;
-    let mut ahead = Ahead::new(alloc, tables);
+    let mut ahead = Known::new(alloc, tables);
     ahead.push(Record::Ending { seq, ticket })?;
     let request = terminate_request(alloc, &ahead, seq, ticket)?;
     added(alloc, ahead, request)
@@ -61,7 +61,7 @@ fn closed(alloc: Global, tables: &Tables, seq: u32, now: u64) -> Result<Answer, 
     requires fit { fits tables.now.records (Closed seq Operator 0) ≡ true }
     ensures { IfOk result (λ a. seen a ≡ closed_of tables.now.records seq now) }
 {
-    let mut ahead = Ahead::new(alloc, tables);
+    let mut ahead = Known::new(alloc, tables);
     ahead.push(Record::Closed {
         seq,
         cause: rm_base::Cause::Operator,

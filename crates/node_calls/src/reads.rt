@@ -2,9 +2,9 @@
 ghost use Rattle.std.specs.Prelude.{◌≡◌, ◌<◌, ◌≤◌, ◌++◌, [], length};
 ghost use Rattle.std.specs.Option.{option_map};
 ghost use Rattle.rm_protocol.specs.Calls.{is_open as is_open_in, may_end as may_end_in};
-ghost use Rattle.rm_protocol.specs.sequences.Destinations.{is_over};
-ghost use Rattle.rm_protocol.specs.sequences.Makers.{maker};
-ghost use Rattle.rm_protocol.specs.sequences.Sources.{phase};
+ghost use Rattle.sequence_table.specs.Destinations.{is_over};
+ghost use Rattle.sequence_table.specs.Makers.{maker};
+ghost use Rattle.sequence_table.specs.Sources.{phase};
 ghost use Rattle.call_answers.specs.Answers.{cause_seen};
 ghost use Rattle.node_calls.specs.Causes.{side_cause};
 
@@ -12,7 +12,7 @@ use call_answers::Cause;
 use node_tables::{Maker, Tables};
 use rm_source::OutPhase;
 use std::alloc::Global;
-use tables_ahead::Ahead;
+use tables_ahead::Known;
 
 /// Why a call for an outgoing sequence is refused, by how the sequence came to be.
 pub(crate) fn side_refusal(tables: &Tables, seq: u32) -> Option<Cause>
@@ -31,7 +31,7 @@ pub(crate) fn side_refusal(tables: &Tables, seq: u32) -> Option<Cause>
 pub(crate) fn phase(alloc: Global, tables: &Tables, seq: u32) -> OutPhase
     ensures { result ≡ phase tables.now.records seq }
 {
-    let ahead = Ahead::new(alloc, tables);
+    let ahead = Known::new(alloc, tables);
     ahead.phase(seq)
 }
 
@@ -61,6 +61,6 @@ pub(crate) fn may_end(phase: OutPhase) -> bool
 pub(crate) fn is_over(alloc: Global, tables: &Tables, seq: u32, now: u64) -> bool
     ensures { result ≡ is_over tables.now.records seq now }
 {
-    let ahead = Ahead::new(alloc, tables);
+    let ahead = Known::new(alloc, tables);
     ahead.is_over(seq, now)
 }

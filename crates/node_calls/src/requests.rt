@@ -3,56 +3,41 @@ ghost use Rattle.std.specs.Prelude.{◌≡◌, ◌+◌, ◌^◌, ◌<◌, ◌≤
 ghost use Rattle.std.specs.List.{AllByRecursion};
 ghost use Rattle.batch_size.specs.Room.{HasRoom};
 ghost use Rattle.batch_size.specs.Typed.{IsTyped};
-ghost use Rattle.rm_protocol.specs.batches.Fact.{fact_of};
-ghost use Rattle.rm_protocol.specs.elements.declared.lifecycle.Lifecycle.TheVariants as life;
+ghost use Rattle.record_batch.specs.Fact.{fact_of};
+ghost use Rattle.rm_elements.specs.declared.lifecycle.Lifecycle.TheVariants as life;
 ghost use Rattle.rm_protocol.specs.Calls.{create as create_of, offer_of, wanted as wanted_of};
 ghost use Rattle.rm_protocol.specs.Messages.{finish_request, via_of as via_for};
 ghost use Rattle.rm_protocol.specs.Terms.{Terms};
-ghost use Rattle.rm_protocol.specs.sequences.Find.{peer as peer_in};
-ghost use Rattle.rm_protocol.specs.sequences.Makers.{maker, makers, number};
-ghost use Rattle.rm_protocol.specs.sequences.Sources.{out_ident, tickets};
-ghost use Rattle.rm_protocol.specs.sequences.Words.{last_or};
-ghost use Rattle.node_messages.specs.Homes.{IsHome};
-ghost use Rattle.node_rules.specs.OwnTerms.{AreOwn};
+ghost use Rattle.sequence_table.specs.Find.{peer as peer_in};
+ghost use Rattle.sequence_table.specs.Makers.{maker, makers, number};
+ghost use Rattle.sequence_table.specs.Sources.{out_ident, tickets};
+ghost use Rattle.sequence_table.specs.Words.{last_or};
+ghost use Rattle.node_laws.specs.OwnTerms.{AreOwn};
 ghost use Rattle.call_answers.specs.Answers.{seen, wish_seen};
 ghost use Rattle.node_calls.specs.Comes.{asked as asked_of};
 ghost use Rattle.node_calls.specs.Records.{IsServing};
+ghost use Rattle.tables_ahead.specs.Known.{all_records};
 
 use crate::answers::{added, refused};
 use batch_size::laws::a_batch_is_its_parts;
 use call_answers::{Answer, Cause, Wish, if_room};
-use node_messages::{Home, copy_endpoint, copy_uri, create_request, plain_endpoint};
-use node_tables::laws::a_node_with_a_number_has_an_address;
+use node_messages::{create_request, plain_endpoint};
 use node_tables::{Maker, Tables};
+use receive_replies::home;
+use record_batch::{OwnOffer, Record, Via};
+use rm_base::limits::MOST_SEQUENCES;
 use rm_base::{Behaviour, Memory, Uri};
-use rm_protocol::addressing::Epr;
-use rm_protocol::batches::{OwnOffer, Record, Via};
-use rm_protocol::message_types::Message;
+use rm_message::Message;
 use std::alloc::Global;
-use tables_ahead::Ahead;
+use tables_ahead::Known;
+use wsa_headers::{Epr, copy_endpoint, copy_uri};
 
 /// The most sequences of a node.
-const MAX_SEQUENCES: u64 = 256;
-
-/// The node that speaks.
-fn speaker<'a>(ahead: &'a Ahead<'_>) -> Home<'a>
-    requires { 0 < number (ahead.now.records ++ ahead.now.delta) }
-    ensures is { IsHome result (ahead.now.records ++ ahead.now.delta) }
-    ensures bits { result.number < 2 ^ 60 }
-{
-    a_node_with_a_number_has_an_address();
-    match ahead.address() {
-        Some(address) => Home {
-            number: ahead.number(),
-            address,
-        },
-        None => unreachable!(),
-    }
-}
+const MAX_SEQUENCES: u64 = MOST_SEQUENCES as u64;
 
 /// Where the messages of an outgoing sequence go.
-pub(crate) fn peer(alloc: Global, ahead: &Ahead<'_>, seq: u32) -> Result<Option<Epr>, Memory>
-    ensures { IfOk result (λ to. to ≡ peer_in (ahead.now.records ++ ahead.now.delta) seq) }
+pub(crate) fn peer(alloc: Global, ahead: &Known<'_>, seq: u32) -> Result<Option<Epr>, Memory>
+    ensures { IfOk result (λ to. to ≡ peer_in (all_records ahead.now) seq) }
 {
     match ahead.maker(seq) {
         Some(Maker::Asked { to, .. }) => Ok(Some(plain_endpoint(alloc, copy_uri(alloc, to)?))),
@@ -64,8 +49,8 @@ pub(crate) fn peer(alloc: Global, ahead: &Ahead<'_>, seq: u32) -> Result<Option<
 }
 
 // How the answers of a sequence come back: those of one from an offer directly.
-fn via_of(ahead: &Ahead<'_>, seq: u32) -> Via
-    ensures { result ≡ via_for (maker (ahead.now.records ++ ahead.now.delta) seq) }
+fn via_of(ahead: &Known<'_>, seq: u32) -> Via
+    ensures { result ≡ via_for (maker (all_records ahead.now) seq) }
 {
     match ahead.maker(seq) {
         Some(Maker::Asked { via, .. }) => via,
@@ -80,14 +65,14 @@ fn via_of(ahead: &Ahead<'_>, seq: u32) -> Via
 /// it.
 pub(crate) fn close_request(
     alloc: Global,
-    ahead: &Ahead<'_>,
+    ahead: &Known<'_>,
     seq: u32,
     ticket: u64,
 ) -> Result<Option<Message>, Memory>
-    requires numbered { 0 < number (ahead.now.records ++ ahead.now.delta) }
+    requires numbered { 0 < number (all_records ahead.now) }
     requires small { ticket < 2 ^ 62 }
-    requires last { last_or 0 (tickets (ahead.now.records ++ ahead.now.delta) seq) ≡ ticket }
-    ensures { let r = ahead.now.records ++ ahead.now.delta in IfOk result (λ m. m
+    requires last { last_or 0 (tickets (all_records ahead.now) seq) ≡ ticket }
+    ensures { let r = all_records ahead.now in IfOk result (λ m. m
         ≡ finish_request r seq (peer_in r seq) (out_ident r seq) (codes "CloseSequence") life.Close) }
 {
     let Some(to) = peer(alloc, ahead, seq)? else {
@@ -98,15 +83,7 @@ pub(crate) fn close_request(
     };
     let via = via_of(ahead, seq);
     let count = ahead.accepted_len(seq);
-    let message = node_messages::close_request(
-        alloc,
-        speaker(ahead),
-        to,
-        via,
-        ticket,
-        ident,
-        count,
-    )?;
+    let message = node_messages::close_request(alloc, home(ahead), to, via, ticket, ident, count)?;
     Ok(Some(message))
 }
 
@@ -114,14 +91,14 @@ pub(crate) fn close_request(
 /// for it.
 pub(crate) fn terminate_request(
     alloc: Global,
-    ahead: &Ahead<'_>,
+    ahead: &Known<'_>,
     seq: u32,
     ticket: u64,
 ) -> Result<Option<Message>, Memory>
-    requires numbered { 0 < number (ahead.now.records ++ ahead.now.delta) }
+    requires numbered { 0 < number (all_records ahead.now) }
     requires small { ticket < 2 ^ 62 }
-    requires last { last_or 0 (tickets (ahead.now.records ++ ahead.now.delta) seq) ≡ ticket }
-    ensures { let r = ahead.now.records ++ ahead.now.delta in IfOk result (λ m. m
+    requires last { last_or 0 (tickets (all_records ahead.now) seq) ≡ ticket }
+    ensures { let r = all_records ahead.now in IfOk result (λ m. m
         ≡ finish_request r seq (peer_in r seq) (out_ident r seq) (codes "TerminateSequence") life.Terminate) }
 {
     let Some(to) = peer(alloc, ahead, seq)? else {
@@ -134,7 +111,7 @@ pub(crate) fn terminate_request(
     let last = ahead.accepted_len(seq);
     let message = node_messages::terminate_request(
         alloc,
-        speaker(ahead),
+        home(ahead),
         to,
         via,
         ticket,
@@ -157,7 +134,7 @@ fn wanted(offer: Option<Behaviour>) -> u64
 
 // An offer draws the number behind the ticket's.
 fn own_offer(drawn: u64, offer: Option<Behaviour>) -> Option<OwnOffer>
-    requires { drawn < 268435456 }
+    requires { drawn < 2 ^ 61 }
     ensures { result ≡ offer_of drawn offer }
 {
     match offer {
@@ -195,7 +172,7 @@ fn asked(alloc: Global, tables: &Tables, wish: Wish) -> Result<Answer, Memory>
     let drawn = tables.counter();
     let ticket = drawn + 1;
     let offer = own_offer(drawn, offer);
-    let mut ahead = Ahead::new(alloc, tables);
+    let mut ahead = Known::new(alloc, tables);
     ahead.push(Record::Creating {
         ticket,
         to,
@@ -203,7 +180,7 @@ fn asked(alloc: Global, tables: &Tables, wish: Wish) -> Result<Answer, Memory>
         lapse: expires,
         offer,
     })?;
-    let request = create_request(alloc, speaker(&ahead), again, via, ticket, expires, offer)?;
+    let request = create_request(alloc, home(&ahead), again, via, ticket, expires, offer)?;
     added(alloc, ahead, Some(request))
 }
 

@@ -5,18 +5,19 @@ ghost use Rattle.std.specs.Option.{option_map};
 ghost use Rattle.rm_base.specs.Numbered.{numbered};
 ghost use Rattle.batch_size.specs.Room.{HasRoom};
 ghost use Rattle.batch_size.specs.Typed.{IsTyped};
-ghost use Rattle.rm_protocol.specs.batches.Fact.{fact_of};
+ghost use Rattle.record_batch.specs.Fact.{fact_of};
 ghost use Rattle.rm_protocol.specs.Calls.{send as send_of};
 ghost use Rattle.rm_protocol.specs.Messages.{data_at};
 ghost use Rattle.rm_protocol.specs.Terms.{Terms};
-ghost use Rattle.rm_protocol.specs.sequences.Fits.{is_outgoing_side};
-ghost use Rattle.rm_protocol.specs.sequences.Makers.{maker};
-ghost use Rattle.rm_protocol.specs.sequences.Sources.{accepted, all_unacked};
-ghost use Rattle.node_rules.specs.OwnTerms.{AreOwn};
+ghost use Rattle.sequence_table.specs.Fits.{is_outgoing_side};
+ghost use Rattle.sequence_table.specs.Makers.{maker};
+ghost use Rattle.sequence_table.specs.Sources.{accepted};
+ghost use Rattle.node_laws.specs.OwnTerms.{AreOwn};
 ghost use Rattle.call_answers.specs.Answers.{cause_seen, seen};
 ghost use Rattle.node_calls.specs.Causes.{payload_cause, send_cause, window_cause};
 ghost use Rattle.node_calls.specs.Comes.{sent as sent_of};
 ghost use Rattle.node_calls.specs.Records.{IsServing};
+ghost use Rattle.tables_ahead.specs.Known.{all_records};
 
 use crate::answers::{added, refused};
 use crate::reads::{is_open, side_refusal};
@@ -26,19 +27,13 @@ use call_answers::{Answer, Cause, if_room};
 use node_messages::data_message;
 use node_tables::Tables;
 use node_tables::laws::an_outgoing_sequence_is_as_recorded;
+use record_batch::Record;
+use rm_base::limits::{MOST_UNACKED, PAYLOAD_BYTES, WINDOW};
 use rm_base::{Blob, Memory};
-use rm_protocol::batches::Record;
-use rm_protocol::message_types::Message;
-use rm_source::WINDOW;
+use rm_message::Message;
 use soap_profile::check_payload;
 use std::alloc::Global;
-use tables_ahead::Ahead;
-
-/// The most bytes of a payload.
-const MAX_PAYLOAD: u64 = 1048576;
-
-/// So many messages of all outgoing sequences may wait for an acknowledgement.
-const MAX_UNACKED: u64 = 4096;
+use tables_ahead::Known;
 
 // Why a payload may not be sent.
 fn payload_refusal(alloc: Global, payload: &Blob) -> Result<Option<Cause>, Memory>
@@ -47,7 +42,7 @@ fn payload_refusal(alloc: Global, payload: &Blob) -> Result<Option<Cause>, Memor
     ensures short { IfOk result (λ cause. cause ≡ None → length payload.now ≤ 1048576) }
 {
     let len = payload.len() as u64;
-    if len > MAX_PAYLOAD {
+    if len > PAYLOAD_BYTES as u64 {
         return Ok(Some(Cause::PayloadTooLong { length: len }));
     }
     if !check_payload(alloc, payload.as_slice())? {
@@ -56,21 +51,8 @@ fn payload_refusal(alloc: Global, payload: &Blob) -> Result<Option<Cause>, Memor
     Ok(None)
 }
 
-// How many messages of all outgoing sequences wait for an acknowledgement. No memory holds so many that the count
-// stands still at its greatest value.
-fn all_waiting(tables: &Tables) -> Result<u64, Memory>
-    ensures { IfOk result (λ all. all ≡ all_unacked tables.now.records) }
-{
-    let all = tables.unacked();
-    if all == u64::MAX {
-        return Err(Memory);
-    }
-    Ok(all)
-}
-
 // Why an outgoing sequence takes no message. It never has so many that their numbers are used up.
-fn window_refusal(tables: &Tables, seq: u32, all: u64) -> Option<Cause>
-    requires counted { all ≡ all_unacked tables.now.records }
+fn window_refusal(tables: &Tables, seq: u32) -> Option<Cause>
     requires side { is_outgoing_side (maker tables.now.records seq) ≡ true }
     ensures { option_map cause_seen result ≡ window_cause tables.now.records seq }
 {
@@ -86,7 +68,8 @@ fn window_refusal(tables: &Tables, seq: u32, all: u64) -> Option<Cause>
     if unacked >= WINDOW {
         return Some(Cause::WindowFull { unacked });
     }
-    if all >= MAX_UNACKED {
+    let all = tables.unacked();
+    if all >= MOST_UNACKED {
         return Some(Cause::NodeFull { unacked: all });
     }
     None
@@ -110,20 +93,19 @@ fn send_refusal(
     if let Some(cause) = payload_refusal(alloc, payload)? {
         return Ok(Some(cause));
     }
-    let all = all_waiting(tables)?;
-    Ok(window_refusal(tables, seq, all))
+    Ok(window_refusal(tables, seq))
 }
 
 // The last message of a sequence, once the records ahead are there.
 fn last_message(
     alloc: Global,
-    ahead: &Ahead<'_>,
+    ahead: &Known<'_>,
     seq: u32,
     payload: Blob,
 ) -> Result<Option<Message>, Memory>
-    requires { let sent = accepted (ahead.now.records ++ ahead.now.delta) seq in
+    requires { let sent = accepted (all_records ahead.now) seq in
         numbered sent (length sent) ≡ Some payload }
-    ensures { let r = ahead.now.records ++ ahead.now.delta in
+    ensures { let r = all_records ahead.now in
         IfOk result (λ m. m ≡ data_at r seq (length (accepted r seq))) }
 {
     let Some(to) = peer(alloc, ahead, seq)? else {
@@ -141,7 +123,7 @@ fn sent(alloc: Global, tables: &Tables, seq: u32, payload: Blob) -> Result<Answe
     ensures { IfOk result (λ a. seen a ≡ sent_of tables.now.records seq payload) }
 {
     let again = payload.copy()?;
-    let mut ahead = Ahead::new(alloc, tables);
+    let mut ahead = Known::new(alloc, tables);
     ahead.push(Record::Accepted { seq, payload })?;
     let message = last_message(alloc, &ahead, seq, again)?;
     added(alloc, ahead, message)

@@ -3,21 +3,22 @@ ghost use Rattle.std.specs.Prelude.{◌≡◌, ◌&&◌, ◌++◌, [], map, not,
 ghost use Rattle.std.specs.List.{AllByRecursion};
 ghost use Rattle.batch_size.specs.Room.{HasRoom};
 ghost use Rattle.batch_size.specs.Typed.{IsTyped};
-ghost use Rattle.rm_protocol.specs.batches.Fact.{fact_of};
+ghost use Rattle.record_batch.specs.Fact.{fact_of};
 ghost use Rattle.rm_protocol.specs.Calls.{expired_from, tick as tick_of};
 ghost use Rattle.rm_protocol.specs.Terms.{Terms};
-ghost use Rattle.rm_protocol.specs.sequences.Destinations.{deadline_of, has_end, is_past as is_past_at};
-ghost use Rattle.rm_protocol.specs.sequences.Makers.{maker, makers};
-ghost use Rattle.node_rules.specs.OwnTerms.{AreOwn};
+ghost use Rattle.rm_destination.specs.Incoming.{is_past as is_past_at};
+ghost use Rattle.sequence_table.specs.Destinations.{deadline_of, has_end};
+ghost use Rattle.sequence_table.specs.Makers.{maker, makers};
+ghost use Rattle.node_laws.specs.OwnTerms.{AreOwn};
 ghost use Rattle.call_answers.specs.Answers.{seen};
 ghost use Rattle.node_calls.specs.Comes.{ending_if, fitting as fitting_of};
 
 use call_answers::{Answer, Outcome, has_room};
 use node_tables::Tables;
+use record_batch::Record;
 use rm_base::{Cause, Memory};
-use rm_protocol::batches::Record;
 use std::alloc::Global;
-use tables_ahead::Ahead;
+use tables_ahead::Known;
 
 // Whether there is a deadline, and it is at most now.
 fn is_past(deadline: Option<u64>, now: u64) -> bool
@@ -30,7 +31,7 @@ fn is_past(deadline: Option<u64>, now: u64) -> bool
 }
 
 // Whether the time of a sequence has run out, and no record ends it yet.
-fn is_due(ahead: &Ahead<'_>, seq: u32, now: u64) -> bool
+fn is_due(ahead: &Known<'_>, seq: u32, now: u64) -> bool
     requires { ahead.now.delta ≡ [] }
     ensures { let r = ahead.now.records in
         result ≡ (is_past_at (deadline_of (maker r seq)) now && not (has_end r seq)) }
@@ -39,7 +40,7 @@ fn is_due(ahead: &Ahead<'_>, seq: u32, now: u64) -> bool
 }
 
 // The record that ends such a sequence.
-fn end_due(batch: &mut Vec<Record>, ahead: &Ahead<'_>, seq: u32, now: u64) -> Result<(), Memory>
+fn end_due(batch: &mut Vec<Record>, ahead: &Known<'_>, seq: u32, now: u64) -> Result<(), Memory>
     requires { ahead.now.delta ≡ [] }
     ensures { let r = ahead.now.records in
         OnOk result (map fact_of batch.new.items ≡ map fact_of batch.old.items ++ ending_if
@@ -56,7 +57,7 @@ fn end_due(batch: &mut Vec<Record>, ahead: &Ahead<'_>, seq: u32, now: u64) -> Re
 }
 
 // The records that end all such sequences.
-fn expired(alloc: Global, ahead: &Ahead<'_>, now: u64) -> Result<Vec<Record>, Memory>
+fn expired(alloc: Global, ahead: &Known<'_>, now: u64) -> Result<Vec<Record>, Memory>
     requires { ahead.now.delta ≡ [] }
     ensures { let r = ahead.now.records in
         IfOk result (λ batch. map fact_of batch.items ≡ expired_from r now 0 (makers r)) }
@@ -88,7 +89,7 @@ pub(crate) fn tick(alloc: Global, tables: &Tables, place: u64, now: u64) -> Resu
     ensures room { IfOk result (λ a. HasRoom place (map fact_of a.batch.items)) }
     ensures typed { IfOk result (λ a. AllByRecursion IsTyped (map fact_of a.batch.items)) }
 {
-    let ahead = Ahead::new(alloc, tables);
+    let ahead = Known::new(alloc, tables);
     let batch = fitting(alloc, place, expired(alloc, &ahead, now)?)?;
     Ok(Answer {
         outcome: Outcome::Done,

@@ -15,7 +15,7 @@ use Rattle.uuid.specs.Text.{is_hyphen_place, digit_place}
 use Rattle.uuid.proofs.TextLemmas.{by_index_length, nibble_small}
 use Rattle.xml_chars.specs.Classes.{is_char, is_space}
 use Rattle.rm_base.specs.Text.{IsText}
-use Rattle.rm_protocol.specs.sequences.Idents.{issue, polled_address, upper_half, lower_half}
+use Rattle.sequence_table.specs.Idents.{issue, polled_address, upper_half, lower_half}
 use Rattle.rm_protocol.specs.Addresses.{polled_prefix, rm_action}
 use Rattle.node_messages.specs.declared.name.Name.{Name}
 use Rattle.node_messages.specs.declared.name.Name.TheVariants as named

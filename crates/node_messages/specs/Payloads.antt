@@ -1,8 +1,8 @@
 -- What a message carries.
 use Rattle.std.specs.Prelude.{Option, Some, None}
-use Rattle.rm_protocol.specs.message_types.declared.message.Body.{Body}
-use Rattle.rm_protocol.specs.message_types.declared.message.Body.TheVariants as body
-use Rattle.rm_protocol.specs.sequences.Words.{Text}
+use Rattle.rm_message.specs.declared.message.Body.{Body}
+use Rattle.rm_message.specs.declared.message.Body.TheVariants as body
+use Rattle.sequence_table.specs.Words.{Text}
 
 -- the bytes of a payload
 abbrev pub payload_of : Body → Option Text

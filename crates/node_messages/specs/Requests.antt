@@ -1,16 +1,16 @@
 -- A CreateSequence with what it offers: WS-ReliableMessaging 1.2, section 3.4.
 use Rattle.std.specs.Prelude.{ℕ, ◌<◌, ◌^◌, List, codes, Option, Some, None}
-use Rattle.rm_protocol.specs.elements.declared.lapse.Lapse.{Lapse}
-use Rattle.rm_protocol.specs.elements.declared.lifecycle.Lifecycle.TheVariants as life
-use Rattle.rm_protocol.specs.elements.declared.lifecycle.Offer.{Offer}
-use Rattle.rm_protocol.specs.message_types.declared.message.Message.{Message}
-use Rattle.rm_protocol.specs.batches.declared.record.OwnOffer.{OwnOffer}
-use Rattle.rm_protocol.specs.batches.declared.record.Via.{Via}
-use Rattle.rm_protocol.specs.batches.Fact.{Fact}
-use Rattle.rm_protocol.specs.sequences.Find.{plain_endpoint}
-use Rattle.rm_protocol.specs.sequences.Idents.{issue}
-use Rattle.rm_protocol.specs.sequences.Makers.{number}
-use Rattle.rm_protocol.specs.sequences.Words.{Text}
+use Rattle.rm_elements.specs.declared.lapse.Lapse.{Lapse}
+use Rattle.rm_elements.specs.declared.lifecycle.Lifecycle.TheVariants as life
+use Rattle.rm_elements.specs.declared.lifecycle.Offer.{Offer}
+use Rattle.rm_message.specs.declared.message.Message.{Message}
+use Rattle.record_batch.specs.declared.record.OwnOffer.{OwnOffer}
+use Rattle.record_batch.specs.declared.record.Via.{Via}
+use Rattle.record_batch.specs.Fact.{Fact}
+use Rattle.sequence_table.specs.Find.{plain_endpoint}
+use Rattle.sequence_table.specs.Idents.{issue}
+use Rattle.sequence_table.specs.Makers.{number}
+use Rattle.sequence_table.specs.Words.{Text}
 use Rattle.rm_protocol.specs.Addresses.{own_address}
 use Rattle.rm_protocol.specs.Messages.{never, request_of}
 

@@ -5,16 +5,28 @@ ghost use Rattle.rm_protocol.specs.Messages.{
   ask_message as ask_message_of,
   kind_of,
 };
+ghost use Rattle.rm_protocol.specs.Rows.{ranges_of as ranges_in};
 ghost use Rattle.rm_protocol.specs.Said.{with_blocks as with_blocks_of};
 
 use crate::name::Name;
 use crate::plain::plain;
-use ack_ranges::RangeSet;
+use ack_ranges::{Range, RangeSet};
 use rm_base::{Ident, Items, Memory};
-use rm_protocol::addressing::Epr;
-use rm_protocol::elements::{AckBlock, AckKind};
-use rm_protocol::message_types::{Acks, Body, Idents, Message};
+use rm_elements::{AckBlock, AckKind};
+use rm_message::{Acks, Body, Idents, Message};
 use std::alloc::Global;
+use wsa_headers::Epr;
+
+/// The ranges of a block; None and Nack have none.
+pub fn ranges_of(kind: &AckKind) -> &[Range]
+    ensures { result.now ≡ ranges_in kind.now }
+{
+    match kind {
+        AckKind::Ranges(ranges) => ranges.as_slice(),
+        AckKind::Nothing => &[],
+        AckKind::Nack(_) => &[],
+    }
+}
 
 // The ranges of a set, or that there is no number.
 fn ranges_kind(alloc: Global, received: &RangeSet) -> Result<AckKind, Memory>

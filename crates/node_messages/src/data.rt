@@ -3,14 +3,13 @@ ghost use Rattle.std.specs.Prelude.{◌≡◌, ◌∷◌, [], ◌++◌, IfOk, On
 ghost use Rattle.rm_protocol.specs.Messages.{data_of, written_scope as scope_of};
 ghost use Rattle.node_messages.specs.Payloads.{payload_of};
 
-use crate::copies::copy_ident;
 use crate::name::application_action;
 use crate::plain::plain;
 use rm_base::{Binding, Bindings, Blob, Ident, Memory, Payload};
-use rm_protocol::addressing::Epr;
-use rm_protocol::elements::SeqHeader;
-use rm_protocol::message_types::{Body, Message};
+use rm_elements::SeqHeader;
+use rm_message::{Body, Message};
 use std::alloc::Global;
+use wsa_headers::{Epr, copy_ident};
 
 fn bind(alloc: Global, prefix: &[u8], space: &[u8], scope: &mut Bindings) -> Result<(), Memory>
     ensures { OnOk result (scope.new ≡ scope.old ++ record { prefix = prefix.now; space = space.now } ∷ []) }

@@ -5,9 +5,9 @@ ghost use Rattle.soap_profile.specs.View.{element_view};
 ghost use Rattle.node_messages.specs.Details.{is_identifier as is_identifier_in};
 
 use rm_base::{Blob, Memory};
-use rm_protocol::elements::MESSAGING;
-use rm_protocol::values::{Flaw, read_trimmed};
+use rm_elements::MESSAGING;
 use soap_profile::Element;
+use soap_values::{Flaw, read_trimmed};
 use std::alloc::Global;
 
 #[tactic(auto, unfolding(rm_protocol::specs::Addresses::rm_space))]

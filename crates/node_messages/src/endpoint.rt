@@ -6,14 +6,13 @@ ghost use Rattle.rm_protocol.specs.Addresses.{
   reply_endpoint as reply_endpoint_of,
   reply_endpoint_by,
 };
-ghost use Rattle.rm_protocol.specs.sequences.Find.{plain_endpoint as plain_endpoint_of};
+ghost use Rattle.sequence_table.specs.Find.{plain_endpoint as plain_endpoint_of};
 
 use crate::address::anonymous_bytes;
-use crate::copies::{copy_endpoint, uri_of};
 use rm_base::{Memory, Uri};
-use rm_protocol::addressing::{Addressing, Epr};
 use soap_profile::Elements;
 use std::alloc::Global;
+use wsa_headers::{Addressing, Epr, copy_endpoint, uri_of};
 
 /// An address without reference parameters.
 pub fn plain_endpoint(alloc: Global, address: Uri) -> Epr

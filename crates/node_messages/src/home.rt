@@ -1,19 +1,18 @@
 //! The node that speaks, and the addresses that it gives for answers.
 ghost use Rattle.std.specs.Prelude.{◌≡◌, ◌<◌, ◌≤◌, ◌^◌, List, length, drop, IfOk};
-ghost use Rattle.rm_protocol.specs.batches.Fact.{Fact};
+ghost use Rattle.record_batch.specs.Fact.{Fact};
 ghost use Rattle.rm_protocol.specs.Addresses.{own_address as own_address_of, reply_to as reply_to_of};
-ghost use Rattle.rm_protocol.specs.sequences.Find.{plain_endpoint as plain_endpoint_of};
-ghost use Rattle.rm_protocol.specs.sequences.Idents.{polled_address as polled_address_of};
+ghost use Rattle.sequence_table.specs.Find.{plain_endpoint as plain_endpoint_of};
+ghost use Rattle.sequence_table.specs.Idents.{polled_address as polled_address_of};
 ghost use Rattle.node_messages.specs.Homes.{IsHome};
 
 use crate::address::polled_bytes;
-use crate::copies::{copy_uri, uri_of};
 use crate::endpoint::{anonymous, plain_endpoint};
+use record_batch::Via;
 use rm_base::{Memory, Uri};
-use rm_protocol::addressing::Epr;
-use rm_protocol::batches::Via;
-use rm_protocol::sequences::issue;
+use sequence_table::issue;
 use std::alloc::Global;
+use wsa_headers::{Epr, copy_uri, uri_of};
 
 /// How many bytes stand before the UUID in an identifier.
 const URN_PREFIX: usize = 9;

@@ -5,7 +5,6 @@
 
 pub mod acks;
 pub mod address;
-mod copies;
 pub mod data;
 pub mod detail;
 pub mod endpoint;
@@ -16,9 +15,8 @@ pub mod request;
 pub mod response;
 pub mod said;
 
-pub use acks::{ack_block, ack_message, ask_message, with_blocks};
+pub use acks::{ack_block, ack_message, ask_message, ranges_of, with_blocks};
 pub use address::{Place, is_anonymous, is_nowhere, place_of};
-pub use copies::{copy_block, copy_endpoint, copy_ident, copy_relates, copy_uri};
 pub use data::{data_message, into_payload};
 pub use detail::ident_of;
 pub use endpoint::{anonymous, fault_endpoint, plain_endpoint, reply_endpoint};

@@ -4,6 +4,8 @@ ghost use Rattle.rm_base.specs.Text.{IsText};
 ghost use Rattle.rm_protocol.specs.Addresses.{payload_action, rm_action};
 ghost use Rattle.node_messages.specs.Names.{name_text};
 
+use rm_message::actions;
+
 /// A message of the protocol, named by the element that it is for.
 #[derive(Clone, Copy, Debug, PartialEq, Eq)]
 pub enum Name {
@@ -31,26 +33,14 @@ impl Name {
         ensures { result.now ≡ rm_action (name_text self) }
     {
         match self {
-            Name::CreateSequence => {
-                b"http://docs.oasis-open.org/ws-rx/wsrm/200702/CreateSequence"
-            }
-            Name::CreateSequenceResponse => {
-                b"http://docs.oasis-open.org/ws-rx/wsrm/200702/CreateSequenceResponse"
-            }
-            Name::CloseSequence => b"http://docs.oasis-open.org/ws-rx/wsrm/200702/CloseSequence",
-            Name::CloseSequenceResponse => {
-                b"http://docs.oasis-open.org/ws-rx/wsrm/200702/CloseSequenceResponse"
-            }
-            Name::TerminateSequence => {
-                b"http://docs.oasis-open.org/ws-rx/wsrm/200702/TerminateSequence"
-            }
-            Name::TerminateSequenceResponse => {
-                b"http://docs.oasis-open.org/ws-rx/wsrm/200702/TerminateSequenceResponse"
-            }
-            Name::SequenceAcknowledgement => {
-                b"http://docs.oasis-open.org/ws-rx/wsrm/200702/SequenceAcknowledgement"
-            }
-            Name::AckRequested => b"http://docs.oasis-open.org/ws-rx/wsrm/200702/AckRequested",
+            Name::CreateSequence => actions::CREATE_SEQUENCE,
+            Name::CreateSequenceResponse => actions::CREATE_SEQUENCE_RESPONSE,
+            Name::CloseSequence => actions::CLOSE_SEQUENCE,
+            Name::CloseSequenceResponse => actions::CLOSE_SEQUENCE_RESPONSE,
+            Name::TerminateSequence => actions::TERMINATE_SEQUENCE,
+            Name::TerminateSequenceResponse => actions::TERMINATE_SEQUENCE_RESPONSE,
+            Name::SequenceAcknowledgement => actions::SEQUENCE_ACKNOWLEDGEMENT,
+            Name::AckRequested => actions::ACK_REQUESTED,
         }
     }
 }

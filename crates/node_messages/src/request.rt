@@ -1,24 +1,31 @@
 //! Requests: WS-ReliableMessaging 1.2, sections 3.4 to 3.6.
 ghost use Rattle.std.specs.Prelude.{◌≡◌, ◌<◌, ◌^◌, List, IfOk, IfSome};
-ghost use Rattle.rm_protocol.specs.batches.Fact.{Fact};
-ghost use Rattle.rm_protocol.specs.elements.declared.lifecycle.Lifecycle.TheVariants as life;
+ghost use Rattle.record_batch.specs.Fact.{Fact};
+ghost use Rattle.rm_elements.specs.declared.lifecycle.Lifecycle.TheVariants as life;
 ghost use Rattle.rm_protocol.specs.Messages.{last_number as last_number_of, request_of};
 ghost use Rattle.node_messages.specs.Homes.{IsHome};
 ghost use Rattle.node_messages.specs.Names.{name_text};
 ghost use Rattle.node_messages.specs.Requests.{IsSmall, create_with, offer_with};
 
-use crate::copies::{copy_ident, ident_uri};
 use crate::endpoint::plain_endpoint;
 use crate::home::Home;
 use crate::name::Name;
 use crate::plain::plain;
+use record_batch::{OwnOffer, Via};
 use rm_base::{Ident, Memory, Uri};
-use rm_protocol::addressing::Epr;
-use rm_protocol::batches::{OwnOffer, Via};
-use rm_protocol::elements::{CreateSequence, Finish, Lapse, Lifecycle, Offer};
-use rm_protocol::message_types::{Body, Message};
-use rm_protocol::sequences::issue;
+use rm_elements::{CreateSequence, Finish, Lapse, Lifecycle, Offer};
+use rm_message::{Body, Message};
+use sequence_table::issue;
 use std::alloc::Global;
+use wsa_headers::{Epr, copy_ident, uri_of};
+
+// An identifier as an address: it is shorter than one may be.
+#[tactic(auto, using(crate::proofs::TextLemmas::ident_text))]
+fn ident_uri(alloc: Global, ident: &Ident) -> Result<Uri, Memory>
+    ensures { IfOk result (λ uri. uri ≡ ident.now) }
+{
+    uri_of(alloc, ident.as_slice())
+}
 
 // A request with a MessageID, to be answered in this way.
 fn request(

@@ -1,27 +1,26 @@
 //! Responses: WS-ReliableMessaging 1.2, sections 3.4 to 3.6.
 ghost use Rattle.std.specs.Prelude.{◌≡◌, ◌<◌, ◌^◌, ◌∷◌, [], List, true, false, IfOk, None, Some};
-ghost use Rattle.rm_protocol.specs.batches.Fact.{Fact};
-ghost use Rattle.rm_protocol.specs.elements.declared.lifecycle.Lifecycle.TheVariants as life;
+ghost use Rattle.record_batch.specs.Fact.{Fact};
+ghost use Rattle.rm_elements.specs.declared.lifecycle.Lifecycle.TheVariants as life;
 ghost use Rattle.rm_protocol.specs.Addresses.{reply_endpoint as reply_endpoint_of};
 ghost use Rattle.rm_protocol.specs.Messages.{response_of};
 ghost use Rattle.rm_protocol.specs.Said.{accept_by};
-ghost use Rattle.rm_protocol.specs.sequences.Find.{plain_endpoint as plain_endpoint_of};
-ghost use Rattle.rm_protocol.specs.sequences.Idents.{issue as issue_of};
-ghost use Rattle.rm_protocol.specs.sequences.Makers.{number};
+ghost use Rattle.sequence_table.specs.Find.{plain_endpoint as plain_endpoint_of};
+ghost use Rattle.sequence_table.specs.Idents.{issue as issue_of};
+ghost use Rattle.sequence_table.specs.Makers.{number};
 ghost use Rattle.node_messages.specs.Homes.{IsHome};
 ghost use Rattle.node_messages.specs.Names.{name_text};
 
-use crate::copies::{copy_ident, copy_relates, copy_uri};
 use crate::endpoint::{plain_endpoint, reply_endpoint};
 use crate::home::Home;
 use crate::name::Name;
 use crate::plain::plain;
 use rm_base::{Behaviour, Ident, Memory, Uri};
-use rm_protocol::addressing::{Addressing, Epr};
-use rm_protocol::elements::{AckBlock, CreateResponse, Lapse, Lifecycle};
-use rm_protocol::message_types::{Acks, Body, Message};
-use rm_protocol::sequences::issue;
+use rm_elements::{AckBlock, CreateResponse, Lapse, Lifecycle};
+use rm_message::{Acks, Body, Message};
+use sequence_table::issue;
 use std::alloc::Global;
+use wsa_headers::{Addressing, Epr, copy_ident, copy_optional_uri, copy_uri};
 
 // A response to a message, with the blocks that belong to it.
 fn response(
@@ -114,7 +113,7 @@ fn finish_response(
         (name_text name) content (block ∷ [])) }
 {
     let to = reply_endpoint(alloc, addressing)?;
-    let relates = copy_relates(alloc, &addressing.message_id)?;
+    let relates = copy_optional_uri(alloc, &addressing.message_id)?;
     let blocks = one_block(alloc, block)?;
     response(alloc, to, relates, name, content, blocks)
 }

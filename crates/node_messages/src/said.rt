@@ -13,10 +13,10 @@ use crate::acks::{ack_message, with_blocks};
 use crate::address::is_anonymous;
 use crate::response::one_block;
 use rm_base::Memory;
-use rm_protocol::addressing::Epr;
-use rm_protocol::elements::AckBlock;
-use rm_protocol::message_types::{Acks, Message};
+use rm_elements::AckBlock;
+use rm_message::{Acks, Message};
 use std::alloc::Global;
+use wsa_headers::Epr;
 
 /// An acknowledgement, and the AcksTo that it goes to.
 pub type Ack = (Epr, AckBlock);

@@ -1,16 +1,17 @@
 use Rattle.std.proofs.Common.{ℕ, List, [], ◌∷◌, ◌++◌, sym, ap, ◌∙◌}
-use Rattle.rm_protocol.specs.elements.declared.header.AckBlock.{AckBlock}
-use Rattle.rm_protocol.specs.addressing.declared.endpoint.Epr.{Epr}
-use Rattle.rm_protocol.specs.sequences.Words.{Text}
-use Rattle.rm_protocol.specs.sequences.Idents.{issue}
+use Rattle.rm_elements.specs.declared.header.AckBlock.{AckBlock}
+use Rattle.wsa_headers.specs.declared.endpoint.Epr.{Epr}
+use Rattle.sequence_table.specs.Words.{Text}
+use Rattle.sequence_table.specs.Idents.{issue}
 use Rattle.rm_protocol.specs.Addresses.{is_anonymous}
 use Rattle.rm_protocol.specs.Messages.{ack_message, block_of}
 use Rattle.node_calls.proofs.AckLemmas.{final-said}
 use Rattle.node_calls.proofs.acks.final_ack.Goals as goal
+use Rattle.tables_ahead.specs.Known.{all_records}
 
 pub returns : goal.returns
 returns c =
-    let r = c.args.ahead.now.records ++ c.args.ahead.now.delta in
+    let r = all_records c.args.ahead.now in
     let to = c.in-Some-acks_to.to.now in
     let far = sym (c.is_anonymous.ensures ∙ ap is_anonymous c.as_slice.ensures.bytes) ∙ c.if-is_anonymous.false in
     let ident = c.in_ok-ident.ensures ∙ ap (λ (k : ℕ). issue k c.in-Some.counter) c.number.ensures.value in

@@ -1,7 +1,7 @@
 use Rattle.std.proofs.Common.{true, ap, inl}
 use Rattle.std.specs.Prelude.{Result, Ok}
-use Rattle.rm_protocol.specs.message_types.declared.message.Message.{Message}
-use Rattle.rm_protocol.specs.message_types.declared.refusal.Refusal.{Refusal}
+use Rattle.rm_message.specs.declared.message.Message.{Message}
+use Rattle.rm_message.specs.declared.refusal.Refusal.{Refusal}
 use Rattle.rm_protocol.specs.Terms.{ReadsBack}
 use Rattle.node_calls.proofs.calls.serving.Goals as goal
 

@@ -11,7 +11,7 @@ returns-clause-is c =
     let drawn = c.counter-drawn.ensures in
     let is = with-pushed r _ c.new-ahead.result c.push.new.self c.new-ahead.ensures c.push.ensures.records
     c.in_ok-push.ensures.ok in
-    let said = c.in_ok-request.ensures _ c.speaker.ensures.is in
+    let said = c.in_ok-request.ensures _ c.home.ensures.home in
     let comes = comes-asked r (wish_seen c.args.wish) c.push.new.self c.in_ok-request.request _ _ _
     c.requires.serving.fit is (ap (λ n. n + 1) drawn) c.in_ok-again.ensures.is
     (c.own_offer-offer.ensures ∙ ap (λ n. offer_of n c.args.wish.offer) drawn) said in

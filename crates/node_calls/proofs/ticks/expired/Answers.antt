@@ -1,8 +1,8 @@
 use Rattle.std.proofs.Common.{◌≡◌, ◌+◌, ◌++◌, ◌<◌, List, [], drop, length, map, sym, ap, ◌∙◌, arith, append-nil}
 use Rattle.std.proofs.Common.{append_assoc}
 use Rattle.std.proofs.lemmas.List.{at_drop_all}
-use Rattle.rm_protocol.specs.batches.Fact.{Fact, fact_of}
-use Rattle.rm_protocol.specs.sequences.Makers.{makers}
+use Rattle.record_batch.specs.Fact.{Fact, fact_of}
+use Rattle.sequence_table.specs.Makers.{makers}
 use Rattle.rm_protocol.specs.Calls.{expired_from}
 use Rattle.node_calls.proofs.TickLemmas.{expired-next, same-count}
 use Rattle.node_calls.proofs.ticks.expired.Goals as goal

@@ -1,6 +1,0 @@
-use Rattle.std.proofs.Common.{◌∙◌}
-use Rattle.message_replies.proofs.GivenLemmas.{list_any-has_number}
-use Rattle.message_replies.proofs.acks.is_given.Goals as goal
-
-pub returns : goal.returns
-returns c = c.contains.ensures.value ∙ list_any-has_number c.args.seq c.args.given.now

@@ -1,9 +1,0 @@
-use Rattle.std.proofs.Common.{◌≡◌, ◌++◌, drop, map}
-use Rattle.soap_profile.specs.View.{element_view}
-use Rattle.rm_protocol.specs.Detail.{named_in}
-use Rattle.message_rows.proofs.faults.named_in.Given as goal
-
-abbrev pub invariant-loop-element : goal.invariant-loop-element
-invariant-loop-element l =
-    let r = l.ahead.records ++ l.ahead.delta in
-    named_in r (map element_view (drop l.element-index l.detail)) ≡ named_in r (map element_view l.detail)

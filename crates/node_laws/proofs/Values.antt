@@ -1,0 +1,259 @@
+-- What the records of a node say of their sequences keeps the limits.
+use Rattle.std.proofs.Common.{◌≡◌, ℕ, ◌+◌, ◌-◌, ◌<◌, ◌≤◌, ◌==◌, min, max, Bool, true, false, cond, List, [], ◌∷◌}
+use Rattle.std.proofs.Common.{◌++◌, length, refl, sym, ap, subst, ◌∙◌, arith, Option, Some, None, append-nil}
+use Rattle.std.proofs.Common.{length-append}
+use Rattle.std.specs.Prelude.{nat_le, nat_lt, IfSome}
+use Rattle.std.specs.List.{AllByRecursion, flat_map}
+use Rattle.std.proofs.lemmas.Bool.{and_parts, ltb-true, leb-true}
+use Rattle.std.proofs.lemmas.Bool.Decides.{nat_tests}
+use Rattle.ack_ranges.specs.declared.range.Range.{Range}
+use Rattle.ack_ranges.specs.Changes.{with_range}
+use Rattle.rm_base.specs.Numbered.{numbered}
+use Rattle.rm_base.specs.Text.{IsText}
+use Rattle.rm_base.specs.declared.message.Payload.{Payload}
+use Rattle.rm_elements.specs.Writable.{IsNumber, IsRange, IsKindWritable, IsAckWritable, IsLapseWritable}
+use Rattle.soap_profile.specs.Payload.{IsClosedContent}
+use Rattle.wsa_headers.specs.Writable.{IsEprWritable}
+use Rattle.wsa_headers.specs.declared.endpoint.Epr.{Epr}
+use Rattle.record_batch.specs.Fact.{Fact, Made, Creating, Created, Granted, Accepted, Received}
+use Rattle.rm_destination.specs.Messages.{numbers_of}
+use Rattle.sequence_table.specs.Words.{Text, at_seq}
+use Rattle.sequence_table.specs.Makers.{Maker, Outgoing, Offered, Incoming, Taken, makers, makers_of, maker}
+use Rattle.sequence_table.specs.Makers.{address}
+use Rattle.sequence_table.specs.Makers.{created_of, created_from, created, ident_in}
+use Rattle.sequence_table.specs.Sources.{accepted, accepted_of, out_ident}
+use Rattle.sequence_table.specs.Destinations.{received, received_of, held, is_over}
+use Rattle.sequence_table.specs.Find.{plain_endpoint, peer_of, peer, accept_of, accepted_by, acks_to_of, acks_to}
+use Rattle.sequence_table.specs.Fits.{fits, all_fit, follows_at, is_incoming_side}
+use Rattle.sequence_table.specs.GatherLemmas.{flat_map-more}
+use Rattle.rm_protocol.specs.Messages.{ranges_onto, kind_of, block_of}
+use Rattle.node_laws.specs.Records.{KeepsLimits, HasValues, IsKept}
+use Rattle.node_laws.proofs.Lists.{All-append, All-flat_map, All-numbered, All-at_seq, first_or-has, fit-induction}
+
+-- ---- how sequences were made
+
+-- a record that keeps its limits, of such values
+abbrev IsGood : Fact → Type 0
+IsGood f = KeepsLimits f × HasValues f
+
+all-good : (r : List Fact) → AllByRecursion KeepsLimits r → AllByRecursion HasValues r → AllByRecursion IsGood r
+all-good [] h v = tt
+all-good (f ∷ r) h v = ((h.0, v.0), all-good r h.1 v.1)
+
+-- what a sequence was made with keeps the limits
+abbrev pub IsMakerKept : Maker → Type 0
+IsMakerKept (Outgoing ticket to via lapse) = IsText 2048 to × IsLapseWritable lapse
+IsMakerKept (Offered ticket counter to behaviour) = Unit {0}
+IsMakerKept (Incoming counter message_id acks_to behaviour deadline lapse) =
+    IsText 2048 message_id × IsEprWritable acks_to × IsLapseWritable lapse
+IsMakerKept (Taken message_id ident endpoint) = IsEprWritable endpoint
+
+makers-one : (f : Fact) → IsGood f → AllByRecursion IsMakerKept (makers_of f)
+makers-one (Creating ticket to via lapse None) h = ((h.1, h.0), tt)
+makers-one (Creating ticket to via lapse (Some offer)) h = ((h.1, h.0), (tt, tt))
+makers-one (Granted counter message_id to behaviour deadline lapse None) h = ((h.1.0, h.0.0, h.0.1), tt)
+makers-one (Granted counter message_id to behaviour deadline lapse (Some offer)) h =
+    ((h.1.0, h.0.0, h.0.1), (h.0.2, tt))
+makers-one _ h = tt
+
+pub maker-kept : (r : List Fact) (s : ℕ) → IsKept r → IfSome (maker r s) IsMakerKept
+maker-kept r s h =
+    All-numbered IsMakerKept (makers r) s
+    (All-flat_map IsGood IsMakerKept makers_of makers-one r (all-good r h.node.each h.values))
+
+-- ---- identifiers, addresses and payloads
+
+-- a sequence with an identifier
+abbrev IsNamed : ℕ × Text → Type 0
+IsNamed c = IsText 512 c.1
+
+created-one : (k : ℕ) (f : Fact) → HasValues f → AllByRecursion IsNamed (created_of k f)
+created-one k (Created seq ident accept) h = (h, tt)
+created-one k (Granted counter message_id acks_to behaviour deadline lapse (Some offer)) h = (h.1, tt)
+created-one k _ h = tt
+
+created-named : (k : ℕ) (r : List Fact) → AllByRecursion HasValues r → AllByRecursion IsNamed (created_from k r)
+created-named k [] h = tt
+created-named k (f ∷ r) h =
+    All-append IsNamed (created_of k f) (created_from (k + length (makers_of f)) r) (created-one k f h.0)
+    (created-named (k + length (makers_of f)) r h.1)
+
+named-in : (cs : List (ℕ × Text)) (s : ℕ) → AllByRecursion IsNamed cs → IfSome (ident_in cs s) (IsText 512)
+named-in [] s h = tt
+named-in (c ∷ cs) s h = elim (c.0 == s) as (λ b. IfSome (cond b (Some c.1) (ident_in cs s)) (IsText 512)) [
+  | true ↦ h.0
+  | false ↦ named-in cs s h.1
+]
+
+pub ident-kept : (r : List Fact) (s : ℕ) → IsKept r → IfSome (out_ident r s) (IsText 512)
+ident-kept r s h = named-in (created r) s (created-named 0 r h.values)
+
+pub address-kept : (r : List Fact) → IsKept r → IsText 2048 (address r)
+address-kept [] h = absurd h.node.begins
+address-kept (Made node text ∷ r) h = h.values.0
+address-kept (_ ∷ r) h = absurd h.node.begins
+
+closed-one : (s : ℕ) (f : Fact) → KeepsLimits f → AllByRecursion IsClosedContent (accepted_of s f)
+closed-one s (Accepted seq payload) h =
+    elim (seq == s) as (λ b. AllByRecursion IsClosedContent (cond b (payload ∷ []) [])) [
+      | true ↦ (h, tt)
+      | false ↦ tt
+    ]
+closed-one s _ h = tt
+
+pub payload-kept : (r : List Fact) (s i : ℕ) → IsKept r → IfSome (numbered (accepted r s) i) IsClosedContent
+payload-kept r s i h =
+    All-numbered IsClosedContent (accepted r s) i
+    (All-flat_map KeepsLimits IsClosedContent (accepted_of s) (closed-one s) r h.node.each)
+
+-- ---- how many messages were accepted
+
+fits-few : (r : List Fact) (f : Fact) (s : ℕ) → fits r f ≡ true → length (accepted r s) ≤ 9223372036854775807
+    → length (accepted (r ++ f ∷ []) s) ≤ 9223372036854775807
+fits-few r (Accepted seq payload) s fit few =
+    let all : length (accepted (r ++ Accepted seq payload ∷ []) s)
+    ≡ length (accepted r s) + length (accepted_of s (Accepted seq payload)) =
+    ap length (flat_map-more (accepted_of s) r (Accepted seq payload))
+    ∙ length-append (accepted r s) (accepted_of s (Accepted seq payload)) in
+    let room : length (accepted r seq) < 9223372036854775807 =
+    ltb-true (length (accepted r seq)) 9223372036854775807
+    (and_parts (follows_at r seq (Accepted seq payload)) _ fit).1 in
+    elim (seq == s) as (λ b. (seq == s) ≡ b → length (accepted (r ++ Accepted seq payload ∷ []) s)
+    ≡ length (accepted r s) + length (cond b (payload ∷ []) [])
+    → length (accepted (r ++ Accepted seq payload ∷ []) s) ≤ 9223372036854775807) [
+      | true ↦ λ e same.
+          let is : seq ≡ s = grind (arith, nat_tests) in
+          let here : length (accepted r s) < 9223372036854775807 =
+          subst (λ n. length (accepted r n) < 9223372036854775807) is room in
+          omega (arith, same, here)
+      | false ↦ λ e same. omega (arith, same, few)
+    ] refl all
+fits-few r f s fit few =
+    let same : accepted (r ++ f ∷ []) s ≡ accepted r s =
+    flat_map-more (accepted_of s) r f ∙ append-nil (accepted r s) in
+    subst (λ z. length z ≤ 9223372036854775807) (sym same) few
+
+pub few-accepted : (r : List Fact) (s : ℕ) → all_fit [] r ≡ true → length (accepted r s) ≤ 9223372036854775807
+few-accepted r s h = fit-induction (λ x. length (accepted x s) ≤ 9223372036854775807) (omega arith)
+    (λ x f few fit. fits-few x f s fit few) r h
+
+-- ---- endpoints
+
+pub plain-kept : (to : Text) → IsText 2048 to → IsEprWritable (plain_endpoint to)
+plain-kept to h = record { address = h; each = tt; short = omega arith }
+
+peer-by : (m : Option Maker) → IfSome m IsMakerKept → IfSome (peer_of m) IsEprWritable
+peer-by (Some (Outgoing ticket to via lapse)) h = plain-kept to h.0
+peer-by (Some (Taken message_id ident endpoint)) h = h
+peer-by _ h = tt
+
+pub peer-kept : (r : List Fact) (s : ℕ) → IsKept r → IfSome (peer r s) IsEprWritable
+peer-kept r s h = peer-by (maker r s) (maker-kept r s h)
+
+-- an endpoint, where there is one
+abbrev MayBeSent : Option Epr → Type 0
+MayBeSent accept = IfSome accept IsEprWritable
+
+accept-one : (f : Fact) → KeepsLimits f → AllByRecursion (λ (x : ℕ × Option Epr). MayBeSent x.1) (accept_of f)
+accept-one (Created seq ident accept) h = (h, tt)
+accept-one _ h = tt
+
+accepted_by-kept : (r : List Fact) (s : ℕ) → IsKept r → MayBeSent (accepted_by r s)
+accepted_by-kept r s h =
+    first_or-has MayBeSent None (at_seq s (flat_map accept_of r)) tt
+    (All-at_seq MayBeSent s (flat_map accept_of r)
+    (All-flat_map KeepsLimits (λ (x : ℕ × Option Epr). MayBeSent x.1) accept_of accept-one r h.node.each))
+
+acks_to-by : (r : List Fact) (s : ℕ) → IsKept r → (m : Option Maker) → IfSome m IsMakerKept
+    → IfSome (acks_to_of r s m) IsEprWritable
+acks_to-by r s h (Some (Incoming counter message_id to behaviour deadline lapse)) k = k.1
+acks_to-by r s h (Some (Offered ticket counter to behaviour)) k = accepted_by-kept r (s - 1) h
+acks_to-by r s h _ k = tt
+
+pub acks_to-kept : (r : List Fact) (s : ℕ) → IsKept r → IfSome (acks_to r s) IsEprWritable
+acks_to-kept r s h = acks_to-by r s h (maker r s) (maker-kept r s h)
+
+-- ---- acknowledgements
+
+-- what was received has message numbers
+AreHeld : ℕ → List Fact → Type 0
+AreHeld s r = AllByRecursion (λ (m : ℕ × Payload). IsNumber m.0) (received r s)
+
+received-one : (r : List Fact) (f : Fact) (s : ℕ) → fits r f ≡ true
+    → AllByRecursion (λ (m : ℕ × Payload). IsNumber m.0) (received_of s f)
+received-one r (Received seq n payload) s fit =
+    let parts = and_parts (is_incoming_side (maker r seq)) _ fit in
+    let low = and_parts (nat_le 1 n) _ parts.1 in
+    let high = and_parts (nat_le n 9223372036854775807) _ low.1 in
+    let is : IsNumber n = record { low = leb-true 1 n low.0; high = leb-true n 9223372036854775807 high.0 } in
+    elim (seq == s) as (λ b. AllByRecursion (λ (m : ℕ × Payload). IsNumber m.0) (cond b ((n, payload) ∷ []) [])) [
+      | true ↦ (is, tt)
+      | false ↦ tt
+    ]
+received-one r _ s fit = tt
+
+are-held : (r : List Fact) (s : ℕ) → all_fit [] r ≡ true → AreHeld s r
+unfolding AreHeld
+are-held r s h = fit-induction (AreHeld s) tt
+    (λ x f old fit. subst (AllByRecursion (λ (m : ℕ × Payload). IsNumber m.0))
+    (sym (flat_map-more (received_of s) x f))
+    (All-append (λ (m : ℕ × Payload). IsNumber m.0) (received x s) (received_of s f) old (received-one x f s fit))) r h
+
+numbers-of : (ms : List (ℕ × Payload)) → AllByRecursion (λ (m : ℕ × Payload). IsNumber m.0) ms
+    → AllByRecursion IsNumber (numbers_of ms)
+numbers-of [] h = tt
+numbers-of (m ∷ ms) h = (h.0, numbers-of ms h.1)
+
+held-numbers : (r : List Fact) (s : ℕ) → all_fit [] r ≡ true → AllByRecursion IsNumber (held r s)
+unfolding AreHeld
+held-numbers r s h = numbers-of (received r s) (are-held r s h)
+
+-- a range of message numbers
+range-is : (lower upper : ℕ) → IsNumber lower → IsNumber upper → lower ≤ upper
+    → IsRange (record { lower = lower; upper = upper })
+range-is lower upper low high rises = record { lower = low; rises = rises; upper = high }
+
+with-range : (lower upper : ℕ) (rs : List Range) → IsNumber lower → IsNumber upper → lower ≤ upper
+    → AllByRecursion IsRange rs → AllByRecursion IsRange (with_range rs lower upper)
+with-range lower upper [] low high rises h = (range-is lower upper low high rises, tt)
+with-range lower upper (r ∷ rs) low high rises h =
+    let least : IsNumber (min r.lower lower) = record {
+      low = omega (arith, h.0.lower.low, low.low);
+      high = omega (arith, h.0.lower.high, low.high);
+    } in
+    let most : IsNumber (max r.upper upper) = record {
+      low = omega (arith, h.0.upper.low, high.low);
+      high = omega (arith, h.0.upper.high, high.high);
+    } in
+    let joined = with-range (min r.lower lower) (max r.upper upper) rs least most
+    (omega (arith, rises, h.0.rises)) h.1 in
+    elim (nat_lt (r.upper + 1) lower) as (λ x. AllByRecursion IsRange (cond x (r ∷ with_range rs lower upper)
+    (cond (nat_lt (upper + 1) r.lower) (record { lower = lower; upper = upper } ∷ r ∷ rs)
+    (with_range rs (min r.lower lower) (max r.upper upper))))) [
+      | true ↦ (h.0, with-range lower upper rs low high rises h.1)
+      | false ↦ elim (nat_lt (upper + 1) r.lower) as (λ x. AllByRecursion IsRange (cond x
+          (record { lower = lower; upper = upper } ∷ r ∷ rs)
+          (with_range rs (min r.lower lower) (max r.upper upper)))) [
+            | true ↦ (range-is lower upper low high rises, h)
+            | false ↦ joined
+          ]
+    ]
+
+onto-ranges : (rs : List Range) (ns : List ℕ) → AllByRecursion IsRange rs → AllByRecursion IsNumber ns
+    → AllByRecursion IsRange (ranges_onto rs ns)
+onto-ranges rs [] h k = h
+onto-ranges rs (n ∷ ns) h k =
+    onto-ranges (with_range rs n n) ns (with-range n n rs k.0 k.0 (omega arith) h) k.1
+
+kind-kept : (rs : List Range) (last : Bool) → AllByRecursion IsRange rs → IsKindWritable (kind_of rs) last
+kind-kept [] last h = tt
+kind-kept (r ∷ rs) last h = (λ e. absurd (cc), h)
+
+-- an acknowledgement of what was received may be written
+pub block-kept : (r : List Fact) (s : ℕ) (q : Text) (now : ℕ) → IsKept r → IsText 512 q
+    → IsAckWritable (block_of r s q now)
+block-kept r s q now h is = record {
+  ident = is;
+  kind = kind-kept (ranges_onto [] (held r s)) (is_over r s now)
+      (onto-ranges [] (held r s) tt (held-numbers r s h.node.fit));
+}

@@ -1,5 +1,0 @@
-use Rattle.node_rules.proofs.Kept.{made-kept}
-use Rattle.node_rules.proofs.laws.a_made_node_has_its_records.Goals as goal
-
-pub returns : goal.returns
-returns c = made-kept

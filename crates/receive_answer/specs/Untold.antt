@@ -1,0 +1,29 @@
+-- The verdict that a message has before its records are worked out, and the answers to a message, each as one word.
+use Rattle.std.specs.Prelude.{ℕ, List, [], ◌∷◌, Option, None, Ok}
+use Rattle.rm_base.specs.declared.message.Behaviour.{Behaviour}
+use Rattle.rm_message.specs.declared.message.Message.{Message}
+use Rattle.rm_message.specs.declared.refusal.FaultKind.{FaultKind}
+use Rattle.rm_message.specs.declared.refusal.FaultKind.TheVariants.{StoreFull}
+use Rattle.record_batch.specs.Fact.{Fact}
+use Rattle.message_writer.specs.Faults.{fault_of}
+use Rattle.rm_protocol.specs.Calls.{Answer, Judged, adds, receive, refusal_of}
+use Rattle.rm_protocol.specs.Said.{said}
+use Rattle.rm_protocol.specs.Terms.{Terms}
+use Rattle.rm_protocol.specs.Verdict.{first_held}
+use Rattle.receive_verdict.specs.Early.{early_tests}
+
+-- the kind of the first test that holds, but for that of room
+unfoldable pub early_kind : List Fact → ℕ → Message → Option FaultKind
+early_kind r now m = first_held (early_tests r now m)
+
+-- the answer to a message
+unfoldable pub told : Terms → List Fact → ℕ → ℕ → Behaviour → Message → Answer
+told terms r place now b m = receive terms r place now b (Ok m)
+
+-- the answer that adds these records, and says what is said then
+unfoldable pub done_of : List Fact → List Fact → ℕ → Message → Answer
+done_of r d now m = adds r d (λ after. said after now m)
+
+-- the answer to a message whose records don't fit the store
+unfoldable pub full_of : Message → Answer
+full_of m = record { outcome = Judged StoreFull; delta = []; outs = fault_of (refusal_of m StoreFull) None ∷ [] }
