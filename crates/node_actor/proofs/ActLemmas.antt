@@ -4,30 +4,31 @@ use Rattle.std.proofs.Common.{◌∷◌, length, Option, Some, None, Result, Ok,
 use Rattle.std.specs.Prelude.{IsTrue, MatchBool}
 use Rattle.std.proofs.lemmas.Bool.{ltb-true, ltb-false, le-leb, lt-leb}
 use Rattle.std.proofs.lemmas.List.{length-map}
-use Rattle.rm_protocol.specs.batches.Batch.{batch_text}
-use Rattle.rm_protocol.specs.batches.Fact.{Fact}
+use Rattle.record_batch.specs.Batch.{batch_text}
+use Rattle.record_batch.specs.Fact.{Fact}
 use Rattle.rm_base.specs.declared.failures.Memory.{Memory}
-use Rattle.rm_disk.specs.Call.{Call, crashes_of}
+use Rattle.rm_disk.specs.Call.{Call}
 use Rattle.rm_disk.specs.Fuse.{Burns}
 use Rattle.rm_disk.specs.ImageLemmas.{left_now}
 use Rattle.rm_journal.specs.EntryLemmas.{length-gates_from}
 use Rattle.rm_journal.specs.JournalState.{end_of as journal_end}
-use Rattle.rm_protocol.specs.message_types.declared.message.Message.{Message}
+use Rattle.rm_message.specs.declared.message.Message.{Message}
+use Rattle.sequence_table.specs.Words.{Text}
 use Rattle.rm_protocol.specs.Calls.{Answer, Cause, Outcome}
 use Rattle.rm_protocol.specs.Node.{Node, State, Up, Writing, Answered, DiskFault, after_by, burned, end_of, goes_down}
 use Rattle.rm_protocol.specs.Node.{is_short, outcome_by, outcome_with, records, said_by, said_with}
 use Rattle.rm_protocol.specs.Node.{with_batch as grows, written}
 use Rattle.rm_protocol.specs.Terms.{Terms}
-use Rattle.rm_protocol.specs.World.{clock_by, with_clock}
-use Rattle.node_rules.specs.OwnTerms.{AreOwn, ThereAreOwnTerms}
-use Rattle.node_store.specs.Changes.{BurnsFor, Changes, Told}
+use Rattle.rm_protocol.specs.World.{clock_by}
+use Rattle.rm_disk.specs.Told.{Told}
+use Rattle.node_store.specs.Changes.{BurnsFor, Changes}
 use Rattle.node_store.specs.Has.{AreOfNode, Holds, entries_of}
 use Rattle.node_store.specs.Stored.{Stored, grown, with_batch}
 use Rattle.rm_node.specs.Called.{Called, Does, Sleeps}
 use Rattle.rm_node.specs.declared.packets.Out.{Out}
 use Rattle.rm_node.specs.Ends.{Ended, Handed, Refused, Wanted, Broke, WasDown}
 use Rattle.rm_node.specs.Noded.{Noded}
-use Rattle.rm_node.specs.Packets.{packets_of}
+use Rattle.rm_node.specs.Packets.{IsReplyFirst, packets_of, reply_of, reply_packet}
 use Rattle.rm_report.specs.declared.line.Outcome.TheVariants as told
 use Rattle.node_actor.specs.Actored.{Actored}
 use Rattle.node_actor.specs.Comes.{ComesOut, IsTold}
@@ -66,13 +67,13 @@ asleep_of x delta now a s writing =
 
 -- nothing changed
 unchanged : (x : Node) (first now : Told) (old : Actored) (new : Noded) → Stands x first old
-    → new.granted ≡ old.node.granted → new.stored ≡ old.node.stored → now ≡ first
+    → new.kept ≡ old.node.kept → new.stored ≡ old.node.stored → now ≡ first
     → Stands x now (actored new old.clock)
-unchanged x first now old new s granted stored same = record {
+unchanged x first now old new s kept stored same = record {
   disk = subst (λ (t : Told). StandsBy x.state x.entries t.past new.stored) (sym same)
       (subst (λ (st : Stored). StandsBy x.state x.entries first.past st) (sym stored) s.disk);
   fuse = ap (λ (t : Told). t.fuse) same ∙ s.fuse;
-  granted = granted ∙ s.granted;
+  kept = kept ∙ s.kept;
   clock = s.clock;
 }
 
@@ -100,21 +101,21 @@ said_well fuse (f ∷ delta) outs well = ap (λ (b : Bool). cond b [] outs) (sym
 
 -- a batch was written, unless it is empty
 written_well : (x : Node) (delta : List Fact) (first now : Told) (old : Actored) (new : Noded) → Stands x first old
-    → x.state ≡ Up → new.granted ≡ old.node.granted
+    → x.state ≡ Up → new.kept ≡ old.node.kept
     → Changes first now old.node.stored new.stored delta true false
     → new.stored.journal.is_down ≡ old.node.stored.journal.is_down → AreOfNode (with_batch x.entries delta)
     → Stands (written x delta) now (actored new old.clock)
-written_well x [] first now old new s up granted changes same next =
+written_well x [] first now old new s up kept changes same next =
     let awake = awake_of x first old s up in record {
       disk = subst (λ (st : State). StandsBy st x.entries now.past new.stored) (sym up) (record {
         up = same ∙ awake.up;
         has = record { holds = changes.holds x.entries awake.has.holds refl; are = next };
       });
       fuse = (changes.fuse (inl refl)).0 ∙ s.fuse;
-      granted = granted ∙ s.granted;
+      kept = kept ∙ s.kept;
       clock = s.clock;
     }
-written_well x (f ∷ delta) first now old new s up granted changes same next =
+written_well x (f ∷ delta) first now old new s up kept changes same next =
     let awake = awake_of x first old s up in
     let burns = burns_well first.fuse now.fuse (changes.fuse (inl refl)) in
     let well : is_short 4 x.fuse ≡ false = ap (λ (fuse : Option ℕ). is_short 4 fuse) (sym s.fuse) ∙ burns.0 in
@@ -126,7 +127,7 @@ written_well x (f ∷ delta) first now old new s up granted changes same next =
             has = record { holds = changes.holds x.entries awake.has.holds refl; are = next };
           });
       fuse = burns.1 ∙ ap (λ (fuse : Option ℕ). burned 4 fuse) s.fuse;
-      granted = granted ∙ s.granted;
+      kept = kept ∙ s.kept;
       clock = s.clock;
     })
 
@@ -138,12 +139,12 @@ count_of x past stored awake =
 
 -- the disk failed
 fell : (x : Node) (delta : List Fact) (first now : Told) (old : Actored) (new : Noded) → Stands x first old
-    → x.state ≡ Up → new.granted ≡ old.node.granted
+    → x.state ≡ Up → new.kept ≡ old.node.kept
     → Changes first now old.node.stored new.stored delta false true
     → new.stored.journal.is_down ≡ true → new.stored.journal.gates ≡ old.node.stored.journal.gates
     → AreOfNode (with_batch x.entries delta) → now.fuse ≡ Some 0
     → Stands (goes_down x delta) now (actored new old.clock)
-fell x delta first now old new s up granted changes down gates next spent =
+fell x delta first now old new s up kept changes down gates next spent =
     let awake = awake_of x first old s up in record {
       disk = record {
         down = down;
@@ -154,11 +155,16 @@ fell x delta first now old new s up granted changes down gates next spent =
         count = ap (λ (l : List ℕ). length l) gates ∙ count_of x first.past old.node.stored awake;
       };
       fuse = spent;
-      granted = granted ∙ s.granted;
+      kept = kept ∙ s.kept;
       clock = s.clock;
     }
 
 -- ---- how a call of a node that is up ended
+
+-- nothing left the node
+nothing_left : (came : Came) → came.reply ≡ None → came.outs ≡ [] → packets_in came ≡ []
+nothing_left came back out =
+    ap (λ (r : Option Text). reply_packet r ++ came.outs) back ∙ out
 
 -- by what comes of its records
 by_state : (connected : Bool) (x : Node) (answer : Answer) (now : Told) (a : Actored) (came : Came) → x.state ≡ Up
@@ -177,19 +183,21 @@ down_grown old [] = refl
 down_grown old (f ∷ delta) = refl
 
 handed : (tells connected : Bool) (x : Node) (answer : Answer) (first now : Told) (old : Actored) (new : Noded)
-    (outcome : Outcome) (outs : List Out) (came : Came) → IsTrue tells → Stands x first old → x.state ≡ Up
-    → Called tells connected first now old.node new answer (Handed outcome outs)
-    → IsTold (answer_told outcome) outs came → Acted connected x answer now (actored new old.clock) came
-handed tells connected x answer first now old new outcome outs came t s up called is =
+    (outcome : Outcome) (reply : Option Text) (outs : List Out) (came : Came) → IsTrue tells → Stands x first old
+    → x.state ≡ Up → Called tells connected first now old.node new answer (Handed outcome reply outs)
+    → IsReplyFirst connected answer.outs → IsTold (answer_told outcome) reply outs came
+    → Acted connected x answer now (actored new old.clock) came
+handed tells connected x answer first now old new outcome reply outs came t s up called order is =
     let awake = awake_of x first old s up in
     let changes = called.wrote.changes t in
     let well = went_well x answer.delta first now s.fuse (changes.fuse (inl refl)) in
     by_state connected x answer now (actored new old.clock) came up
-    (written_well x answer.delta first now old new s up called.wrote.granted changes
+    (written_well x answer.delta first now old new s up called.wrote.kept changes
     (ap (λ (st : Stored). st.journal.is_down) called.wrote.stored ∙ down_grown old.node.stored answer.delta)
     (called.next t (inl refl) x.entries awake.has))
     (is.came_out ∙ ap answer_told called.ends.0 ∙ outcome_well x.fuse answer.delta answer.outcome well)
-    (is.left ∙ called.ends.1
+    (ap (λ (r : Option Text). reply_packet r ++ came.outs) (is.back ∙ called.ends.1)
+    ∙ ap (λ (os : List Out). reply_packet (reply_of connected answer.outs) ++ os) (is.out ∙ called.ends.2) ∙ order
     ∙ ap (λ (ms : List Message). packets_of connected ms) (said_well x.fuse answer.delta answer.outs well))
 
 abbrev answer_of : Outcome → List Fact → List Message → Answer
@@ -199,24 +207,24 @@ refused : (tells connected : Bool) (x : Node) (outcome : Outcome) (delta : List 
     (first now : Told) (old : Actored) (new : Noded) (cause : Cause) (came : Came) → IsTrue tells
     → Stands x first old → x.state ≡ Up
     → Called tells connected first now old.node new (answer_of outcome delta outs) (Refused cause)
-    → IsQuiet (answer_of outcome delta outs) → IsTold (refusal_told cause) [] came
+    → IsQuiet (answer_of outcome delta outs) → IsTold (refusal_told cause) None [] came
     → Acted connected x (answer_of outcome delta outs) now (actored new old.clock) came
 refused tells connected x outcome delta outs first now old new cause came t s up called quiet is =
     let none : delta ≡ [] = quiet.delta cause called.ends in
     let silent : outs ≡ [] = quiet.outs cause called.ends in
     by_state connected x (answer_of outcome delta outs) now (actored new old.clock) came up
     (subst (λ (d : List Fact). Stands (written x d) now (actored new old.clock)) (sym none)
-    (unchanged x first now old new s called.wrote.granted called.wrote.stored
+    (unchanged x first now old new s called.wrote.kept called.wrote.stored
     ((called.wrote.changes t).untouched refl refl)))
     (is.came_out ∙ ap answer_told (sym called.ends)
     ∙ ap (λ (d : List Fact). call_told (outcome_with x.fuse d outcome)) (sym none))
-    (is.left ∙ ap (λ (ms : List Message). packets_of connected ms) (sym silent)
+    (nothing_left came is.back is.out ∙ ap (λ (ms : List Message). packets_of connected ms) (sym silent)
     ∙ ap (λ (d : List Fact). packets_of connected (said_with x.fuse d outs)) (sym none))
 
 broke : (tells connected : Bool) (x : Node) (outcome : Outcome) (delta : List Fact) (outs : List Message)
     (first now : Told) (old : Actored) (new : Noded) (came : Came) → IsTrue tells → Stands x first old
     → x.state ≡ Up → Called tells connected first now old.node new (answer_of outcome delta outs) Broke
-    → IsTold told.Disk [] came → Acted connected x (answer_of outcome delta outs) now (actored new old.clock) came
+    → IsTold told.Disk None [] came → Acted connected x (answer_of outcome delta outs) now (actored new old.clock) came
 broke tells connected x outcome [] outs first now old new came t s up called is = absurd (called.ends refl)
 broke tells connected x outcome (f ∷ delta) outs first now old new came t s up called is =
     let awake = awake_of x first old s up in
@@ -225,33 +233,33 @@ broke tells connected x outcome (f ∷ delta) outs first now old new came t s up
     let short : is_short 4 x.fuse ≡ true = ap (λ (fuse : Option ℕ). is_short 4 fuse) (sym s.fuse) ∙ burns.0 in
     by_state connected x (answer_of outcome (f ∷ delta) outs) now (actored new old.clock) came up
     (subst (λ (b : Bool). Stands (cond b (goes_down x (f ∷ delta)) (grows x (f ∷ delta))) now
-    (actored new old.clock)) (sym short) (fell x (f ∷ delta) first now old new s up called.wrote.granted changes
+    (actored new old.clock)) (sym short) (fell x (f ∷ delta) first now old new s up called.wrote.kept changes
     (ap (λ (st : Stored). st.journal.is_down) called.wrote.stored)
     (ap (λ (st : Stored). st.journal.gates) called.wrote.stored)
     (called.next t (inr refl) x.entries awake.has) burns.1))
     (is.came_out ∙ ap (λ (b : Bool). call_told (cond b DiskFault (Answered outcome))) (sym short))
-    (is.left ∙ ap (λ (b : Bool). packets_of connected (cond b [] outs)) (sym short))
+    (nothing_left came is.back is.out ∙ ap (λ (b : Bool). packets_of connected (cond b [] outs)) (sym short))
 
 acts_up : (tells connected : Bool) (x : Node) (answer : Answer) (first now : Told) (old : Actored) (new : Noded)
     (ended : Ended) (r : Result Came Memory) → IsTrue tells → Stands x first old → x.state ≡ Up
-    → Called tells connected first now old.node new answer ended → IsQuiet answer → ComesOut ended r
-    → Acts connected x answer now (actored new old.clock) r
-acts_up tells connected x answer first now old new (Handed outcome outs) (Ok came) t s up called quiet is =
-    handed tells connected x answer first now old new outcome outs came t s up called is
-acts_up tells connected x answer first now old new (Handed outcome outs) (Err memory) t s up called quiet is =
-    absurd is
-acts_up tells connected x answer first now old new (Refused cause) (Ok came) t s up called quiet is =
+    → Called tells connected first now old.node new answer ended → IsQuiet answer → IsReplyFirst connected answer.outs
+    → ComesOut ended r → Acts connected x answer now (actored new old.clock) r
+acts_up tells connected x answer first now old new (Handed outcome reply outs) (Ok came) t s up called quiet order is =
+    handed tells connected x answer first now old new outcome reply outs came t s up called order is
+acts_up tells connected x answer first now old new (Handed outcome reply outs) (Err memory) t s up called quiet order
+    is = absurd is
+acts_up tells connected x answer first now old new (Refused cause) (Ok came) t s up called quiet order is =
     refused tells connected x answer.outcome answer.delta answer.outs first now old new cause came t s up called
     quiet is
-acts_up tells connected x answer first now old new (Refused cause) (Err memory) t s up called quiet is = absurd is
-acts_up tells connected x answer first now old new Wanted (Ok came) t s up called quiet is = absurd is
-acts_up tells connected x answer first now old new Wanted (Err memory) t s up called quiet is =
-    unchanged x first now old new s called.wrote.granted called.wrote.stored
+acts_up tells connected x answer first now old new (Refused cause) (Err memory) t s up called quiet order is = absurd is
+acts_up tells connected x answer first now old new Wanted (Ok came) t s up called quiet order is = absurd is
+acts_up tells connected x answer first now old new Wanted (Err memory) t s up called quiet order is =
+    unchanged x first now old new s called.wrote.kept called.wrote.stored
     ((called.wrote.changes t).untouched refl refl)
-acts_up tells connected x answer first now old new Broke (Ok came) t s up called quiet is =
+acts_up tells connected x answer first now old new Broke (Ok came) t s up called quiet order is =
     broke tells connected x answer.outcome answer.delta answer.outs first now old new came t s up called is
-acts_up tells connected x answer first now old new Broke (Err memory) t s up called quiet is = absurd is
-acts_up tells connected x answer first now old new WasDown r t s up called quiet is = absurd called.ends
+acts_up tells connected x answer first now old new Broke (Err memory) t s up called quiet order is = absurd is
+acts_up tells connected x answer first now old new WasDown r t s up called quiet order is = absurd called.ends
 
 -- ---- a node that is down
 
@@ -260,10 +268,11 @@ acts_down : (connected : Bool) (x : Node) (delta : List Fact) (answer : Answer) 
     → now ≡ first → ComesOut WasDown r → Acts connected x answer now (actored new old.clock) r
 acts_down connected x delta answer first now old new (Ok came) s down node disk is = record {
   stands = subst (λ (st : State). Stands (after_by x st answer) now (actored new old.clock)) (sym down)
-      (unchanged x first now old new s (ap (λ (n : Noded). n.granted) node) (ap (λ (n : Noded). n.stored) node)
+      (unchanged x first now old new s (ap (λ (n : Noded). n.kept) node) (ap (λ (n : Noded). n.stored) node)
       disk);
   outcome = is.came_out ∙ ap (λ (st : State). call_told (outcome_by x st answer)) (sym down);
-  outs = is.left ∙ ap (λ (st : State). packets_of connected (said_by x st answer)) (sym down);
+  outs = nothing_left came is.back is.out
+      ∙ ap (λ (st : State). packets_of connected (said_by x st answer)) (sym down);
 }
 acts_down connected x delta answer first now old new (Err memory) s down node disk is = absurd is
 
@@ -290,9 +299,10 @@ pub acts : (terms : Terms) (tells connected : Bool) (x : Node) (f : List Fact �
     → Stands x first old
     → Does tells connected first now old.node new
     (f old.node.stored.records (journal_end old.node.stored.journal)) ended
-    → IsQuiet (f (records x) (end_of terms x.entries)) → ComesOut ended r
+    → IsQuiet (f (records x) (end_of terms x.entries))
+    → IsReplyFirst connected (f (records x) (end_of terms x.entries)).outs → ComesOut ended r
     → Acts connected x (f (records x) (end_of terms x.entries)) now (actored new old.clock) r
-acts terms tells connected x f first now old new ended r ends t s does quiet is =
+acts terms tells connected x f first now old new ended r ends t s does quiet order is =
     let answer = f (records x) (end_of terms x.entries) in
     elim (x.state) as (λ (st : State). x.state ≡ st → Acts connected x answer now (actored new old.clock) r) [
       | Up ↦ λ up. acts_up tells connected x answer first now old new ended r t s up
@@ -301,7 +311,7 @@ acts terms tells connected x f first now old new ended r ends t s does quiet is 
           (subst (λ (b : Bool). MatchBool b (Sleeps first now old.node new ended)
           (Called tells connected first now old.node new
           (f old.node.stored.records (journal_end old.node.stored.journal)) ended))
-          (awake_of x first old s up).up does)) quiet is
+          (awake_of x first old s up).up does)) quiet order is
       | Writing delta ↦ λ down.
           let sleeps : Sleeps first now old.node new ended =
           subst (λ (b : Bool). MatchBool b (Sleeps first now old.node new ended)
@@ -312,45 +322,11 @@ acts terms tells connected x f first now old new ended r ends t s does quiet is 
           (subst (λ (e : Ended). ComesOut e r) sleeps.ends is)
     ] refl
 
--- ---- what else a call keeps
-
--- there are terms of a node's own
-pub some_terms : ThereAreOwnTerms → (terms : Terms) × AreOwn terms
-some_terms there =
-    let own = there (λ (ms : List Message) (m : Message). true) (λ (m : Message). Ok m) in (own.0, own.3)
-
--- no call crashes the disk
-pub no_crash : (tells connected : Bool) (first now : Told) (old new : Noded) (answer : Answer) (ended : Ended)
-    → IsTrue tells → Does tells connected first now old new answer ended
-    → crashes_of now.past ≡ crashes_of first.past
-no_crash tells connected first now old new answer ended t does =
-    elim (old.stored.journal.is_down) as (λ (b : Bool). MatchBool b (Sleeps first now old new ended)
-    (Called tells connected first now old new answer ended) → crashes_of now.past ≡ crashes_of first.past) [
-      | true ↦ λ sleeps. ap (λ (d : Told). crashes_of d.past) sleeps.disk
-      | false ↦ λ called. (called.wrote.changes t).crashes
-    ] does
-
 -- ---- the clock
 
-clock_is : (st : State) (entries : List (List Fact)) (past : List Call) (stored : Stored) (old clock now : ℕ)
+pub clock_is : (st : State) (entries : List (List Fact)) (past : List Call) (stored : Stored) (old clock now : ℕ)
     → StandsBy st entries past stored → old ≡ clock
     → cond stored.journal.is_down old now ≡ clock_by st clock now
 clock_is Up entries past stored old clock now awake e = ap (λ (b : Bool). cond b old now) awake.up
 clock_is (Writing delta) entries past stored old clock now asleep e =
     ap (λ (b : Bool). cond b old now) asleep.down ∙ e
-
--- a tick sets the clock of a node that isn't down
-pub clock_stands : (x : Node) (moment : ℕ) (now : Told) (a : Actored) → Stands x now a
-    → Stands (with_clock x moment) now (actored a.node (cond a.node.stored.journal.is_down a.clock moment))
-clock_stands x moment now a s = record {
-  disk = s.disk;
-  fuse = s.fuse;
-  granted = s.granted;
-  clock = clock_is x.state x.entries now.past a.node.stored a.clock x.clock moment s.disk s.clock;
-}
-
--- where it wanted memory, nothing changed
-pub ticks_short : (x : Node) (moment : ℕ) (now : Told) (node : Noded) (old clock : ℕ)
-    → Stands (with_clock x moment) now (actored node clock) → old ≡ x.clock → Stands x now (actored node old)
-ticks_short x moment now node old clock s e =
-    record { disk = s.disk; fuse = s.fuse; granted = s.granted; clock = e }

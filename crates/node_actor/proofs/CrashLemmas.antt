@@ -2,14 +2,14 @@
 use Rattle.std.proofs.Common.{◌≡◌, ◌∙◌, ℕ, Bool, true, false, List, [], ◌∷◌, None, sym, ap, subst}
 use Rattle.std.proofs.Common.{inl, inr}
 use Rattle.std.specs.List.{AllByRecursion}
-use Rattle.rm_protocol.specs.batches.Fact.{Fact}
-use Rattle.rm_protocol.specs.batches.Writable.{IsBatch}
+use Rattle.record_batch.specs.Fact.{Fact}
+use Rattle.record_batch.specs.Writable.{IsBatch}
 use Rattle.rm_base.specs.declared.message.Behaviour.{Behaviour}
 use Rattle.rm_disk.specs.Call.{Call, Crashed as Crashes, crashes_of, left_by, seen_of, state}
 use Rattle.rm_disk.specs.Image.{MayLeave, OnlyLeaves}
 use Rattle.rm_disk.specs.ImageLemmas.{crash_leaves_image, left_now, settled_only}
 use Rattle.rm_protocol.specs.Node.{Node, State, Up, Writing, entries_left}
-use Rattle.node_store.specs.Changes.{Told}
+use Rattle.rm_disk.specs.Told.{Told}
 use Rattle.node_store.specs.Has.{AreOfNode, Has, StandsForBatches}
 use Rattle.node_store.specs.Mounted.{Finds}
 use Rattle.node_store.specs.Stored.{Stored}
@@ -90,13 +90,13 @@ OneList =
 
 -- what is kept of a node
 abbrev pub noded : Stored → Behaviour → Noded
-noded stored granted = record { stored = stored; granted = granted }
+noded stored granted = record { stored = stored; kept = record { granted = granted } }
 
 -- the node is mounted
 pub crashed : OneList → (x : Node) (first now : Told) (a : Actored) (choice : ℕ) (past : List Call) (stored : Stored)
     → Stands x first a → past ≡ Crashes choice ∷ first.past → Finds past now.past stored
     → stored.journal.is_down ≡ false → crashes_of now.past ≡ crashes_of past → now.fuse ≡ None
-    → Crashed x choice first now (actored (noded stored a.node.granted) a.clock)
+    → Crashed x choice first now (actored (noded stored a.node.kept.granted) a.clock)
 crashed one x first now a choice past stored s is found up crashes fuse =
     let left = left_crashed x first a choice s in
     let bytes = left_by choice (state first.past) in
@@ -110,7 +110,7 @@ crashed one x first now a choice past stored s is found up crashes fuse =
       stands = record {
         disk = record { up = up; has = subst (λ (b : List (List Fact)). Has b now.past stored) same found.has };
         fuse = fuse;
-        granted = s.granted;
+        kept = s.kept;
         clock = s.clock;
       };
       bytes = bytes;

@@ -1,16 +1,16 @@
 -- How the code's node and its disk stand for a node of the protocol.
 use Rattle.std.specs.Prelude.{◌≡◌, ℕ, Bool, true, false, List, [], ◌++◌, ◌∷◌, length, Result, Ok, Err}
-use Rattle.rm_protocol.specs.batches.Fact.{Fact}
+use Rattle.record_batch.specs.Fact.{Fact}
 use Rattle.rm_disk.specs.Call.{Call, crashes_of}
 use Rattle.rm_disk.specs.Image.{MayLeave}
 use Rattle.rm_base.specs.declared.failures.Memory.{Memory}
 use Rattle.rm_protocol.specs.Calls.{Answer}
 use Rattle.rm_protocol.specs.Node.{Node, State, Up, Writing, after, call_outcome, mounted, said_after}
-use Rattle.rm_protocol.specs.World.{with_clock}
-use Rattle.node_store.specs.Changes.{Told}
+use Rattle.rm_disk.specs.Told.{Told}
 use Rattle.node_store.specs.Has.{AreOfNode, Has, IsLeftBy, StandsForBatches}
 use Rattle.node_store.specs.Stored.{Stored, with_batch}
 use Rattle.rm_node.specs.Packets.{packets_of}
+use Rattle.rm_node.specs.declared.kept.Kept.{Kept}
 use Rattle.node_actor.specs.Actored.{Actored}
 use Rattle.node_actor.specs.Outcomes.{call_told, packets_in}
 use Rattle.node_actor.specs.declared.actor.Came.{Came}
@@ -34,11 +34,15 @@ abbrev pub StandsBy : State → List (List Fact) → List Call → Stored → Ty
 StandsBy Up entries past stored = Awake entries past stored
 StandsBy (Writing delta) entries past stored = Asleep entries delta past stored
 
+-- what a node of the protocol keeps besides its entries
+abbrev pub kept_of : Node → Kept
+kept_of x = record { granted = x.granted }
+
 -- the code's node and its disk are this node of the protocol
 pub record Stands (x : Node) (now : Told) (a : Actored) : Type 0 where
   pub disk : StandsBy x.state x.entries now.past a.node.stored
   pub fuse : now.fuse ≡ x.fuse
-  pub granted : a.node.granted ≡ x.granted
+  pub kept : a.node.kept ≡ kept_of x
   pub clock : a.clock ≡ x.clock
 
 -- a call with this answer came out so, and this left the node
@@ -52,11 +56,6 @@ pub record Acted (connected : Bool) (x : Node) (answer : Answer) (now : Told) (n
 abbrev pub Acts : Bool → Node → Answer → Told → Actored → Result Came Memory → Type 0
 Acts connected x answer now new (Ok came) = Acted connected x answer now new came
 Acts connected x answer now new (Err memory) = Stands x now new
-
--- a tick sets the clock before the call; where memory was wanting, nothing has changed
-abbrev pub Ticks : Node → ℕ → Answer → Told → Actored → Result Came Memory → Type 0
-Ticks x moment answer now new (Ok came) = Acted false (with_clock x moment) answer now new came
-Ticks x moment answer now new (Err memory) = Stands x now new
 
 -- what a crash with this choice leaves: the node is mounted, and bytes that stand for its entries are what it left
 pub record Crashed (x : Node) (choice : ℕ) (first now : Told) (new : Actored) : Type 0 where

@@ -1,9 +1,11 @@
 //! A node of a script, and what comes of its calls.
 ghost use Rattle.std.specs.Prelude.{◌≡◌, if◌then◌else◌, length};
+ghost use Rattle.rm_node.specs.Noded.{granting};
+ghost use Rattle.node_actor.specs.Steps.{clock_after};
 
 use node_tables::Tables;
 use rm_base::{Behaviour, Blob};
-use rm_node::{Node, Outs};
+use rm_node::{Call, Node, Outs};
 use rm_report::Outcome;
 use std::alloc::Global;
 use std::marker::Model;
@@ -51,7 +53,7 @@ impl Actor {
 
     /// From now on the node announces this for the sequences that it grants, also after crashes.
     pub fn set_grant(&mut self, behaviour: Behaviour)
-        ensures { self.new ≡ record self.old { node = record self.old.node { granted = behaviour } } }
+        ensures { self.new ≡ record self.old { node = granting self.old.node behaviour } }
     {
         self.node.set_grant(behaviour);
     }
@@ -84,8 +86,17 @@ impl Actor {
         self.clock
     }
 
-    /// What the clock tells after a tick.
-    pub(crate) fn clock_after(&self, now: u64) -> u64
+    /// What the clock tells after a call: a tick sets it, unless the node is down.
+    pub(crate) fn clock_after(&self, call: &Call<'_>) -> u64
+        ensures { result ≡ clock_after call.now self.now }
+    {
+        match call {
+            Call::Tick { now } => self.clock_at(*now),
+            _ => self.clock,
+        }
+    }
+
+    fn clock_at(&self, now: u64) -> u64
         ensures { result ≡ (if self.now.node.stored.journal.is_down then self.now.clock else now) }
     {
         if self.node.is_down() {

@@ -10,8 +10,8 @@ use Rattle.std.proofs.lemmas.List.{get_or-append_right}
 use Rattle.batch_size.specs.Room.{HasRoom}
 use Rattle.batch_size.specs.Size.{batch_size}
 use Rattle.rm_base.specs.Text.{IsText}
-use Rattle.rm_protocol.specs.batches.Batch.{batch_text}
-use Rattle.rm_protocol.specs.batches.Fact.{Fact, Made}
+use Rattle.record_batch.specs.Batch.{batch_text}
+use Rattle.record_batch.specs.Fact.{Fact, Made}
 use Rattle.rm_disk.specs.Call.{Call, crashes_of}
 use Rattle.rm_disk.specs.Fuse.{Burns}
 use Rattle.rm_disk.specs.Image.{OnlyLeaves}
@@ -19,16 +19,17 @@ use Rattle.rm_disk.specs.ImageLemmas.{only_from, only_weaker}
 use Rattle.rm_journal.specs.Entries.{longest, StandsFor, StandsForEither}
 use Rattle.rm_journal.specs.Journal.{Fits, limit, refusal_of, with_entry}
 use Rattle.rm_journal.specs.JournalState.{JournalState, end_of, journal_of}
-use Rattle.rm_protocol.specs.sequences.Makers.{counter, draws_of}
+use Rattle.sequence_table.specs.Makers.{counter, draws_of}
 use Rattle.rm_protocol.specs.Node.{records_in}
-use Rattle.node_rules.specs.Records.{BeginsWithMade, IsKept}
-use Rattle.node_store.specs.Changes.{BurnsFor, Changes, Told, told}
+use Rattle.node_laws.specs.Records.{BeginsWithMade, IsKept}
+use Rattle.rm_disk.specs.Told.{Told}
+use Rattle.node_store.specs.Changes.{BurnsFor, Changes}
 use Rattle.node_store.specs.Has.{entries_of, Has, Holds, IsLeftBy}
 use Rattle.node_store.specs.Failed.{is_disk}
 use Rattle.node_store.specs.declared.error.StoreError.{StoreError}
 use Rattle.node_store.specs.declared.error.StoreError.TheVariants as Errors
 use Rattle.node_store.specs.Stored.{first_stored, grown, IsServing, Stored, stored, stored_after, with_batch}
-use Rattle.node_store.proofs.HasLemmas.{bytes_of-length, entries_of-push, records_in-push}
+use Rattle.node_store.proofs.HasLemmas.{entries_of-push, records_in-push}
 
 -- there is no refusal of an entry that fits
 pub no_refusal : (journal : JournalState) (len : ℕ) → journal.is_down ≡ false → len ≤ 4194304
@@ -178,50 +179,59 @@ pub some_of : {A B : Type 0} (f : A → B) (xs : List A) → (length xs ≡ 0 �
 some_of f [] some e = some refl
 some_of f (x ∷ xs) some e = absurd cc
 
+abbrev told : List Call → Option ℕ → ℕ → Told
+told past fuse faults = record { past = past; fuse = fuse; faults = faults }
+
 -- a call that was refused after the journal was asked: nothing happened either
-pub still_changes : (p p2 : List Call) (f f2 : Option ℕ) (old new : Stored) (d : List Fact) → p2 ≡ p → f2 ≡ f
-    → Changes (told p f) (told p2 f2) old new d false false
-still_changes p p2 f f2 old new d past fuse = record {
+pub still_changes : (first now : Told) (old new : Stored) (d : List Fact) → now.past ≡ first.past
+    → now.fuse ≡ first.fuse → now.faults ≡ first.faults → Changes first now old new d false false
+still_changes first now old new d past fuse faults = record {
   holds = λ batches h e. absurd cc;
   moments = λ batches h.
-      subst (λ (l : List Call). OnlyLeaves p l (IsLeftBy batches d)) (sym past) (no_moments p old batches d h);
-  untouched = λ e g. ap (λ (l : List Call). told l f2) past ∙ ap (λ (o : Option ℕ). told p o) fuse;
+      subst (λ (l : List Call). OnlyLeaves first.past l (IsLeftBy batches d)) (sym past)
+      (no_moments first.past old batches d h);
+  untouched = λ e g. ap (λ (l : List Call). told l now.fuse now.faults) past
+      ∙ ap (λ (o : Option ℕ). told first.past o now.faults) fuse
+      ∙ ap (λ (n : ℕ). told first.past first.fuse n) faults;
   fuse = λ h. elim h [ inl e ↦ absurd cc | inr e ↦ absurd cc ];
   crashes = ap crashes_of past;
 }
 
 -- the disk failed
-pub broken_changes : (p p2 : List Call) (f f2 : Option ℕ) (old new : Stored) (d : List Fact) (entry : List ℕ) → d ≢ []
+pub broken_changes : (first now : Told) (old new : Stored) (d : List Fact) (entry : List ℕ) → d ≢ []
     → entry ≡ batch_text d
-    → ((entries : List (List ℕ)) → Fits entries p old.journal → OnlyLeaves p p2 (StandsForEither entries entry))
-    → Burns 4 f f2 false → crashes_of p2 ≡ crashes_of p → Changes (told p f) (told p2 f2) old new d false true
-broken_changes p p2 f f2 old new d entry some text moments burns crashes = record {
+    → ((entries : List (List ℕ)) → Fits entries first.past old.journal
+    → OnlyLeaves first.past now.past (StandsForEither entries entry))
+    → Burns 4 first.fuse now.fuse false → crashes_of now.past ≡ crashes_of first.past
+    → Changes first now old new d false true
+broken_changes first now old new d entry some text moments burns crashes = record {
   holds = λ batches h e. absurd cc;
-  moments = λ batches h. moments_of p p2 batches d some
-      (subst (λ (x : List ℕ). OnlyLeaves p p2 (StandsForEither (entries_of batches) x)) text
+  moments = λ batches h. moments_of first.past now.past batches d some
+      (subst (λ (x : List ℕ). OnlyLeaves first.past now.past (StandsForEither (entries_of batches) x)) text
       (moments (entries_of batches) h.journal));
   untouched = λ e g. absurd cc;
-  fuse = λ h. burns-some d f f2 false some burns;
+  fuse = λ h. burns-some d first.fuse now.fuse false some burns;
   crashes = crashes;
 }
 
 -- all went well
-pub grown_changes : (p p2 : List Call) (f f2 : Option ℕ) (old : Stored) (journal : JournalState) (records d : List Fact)
+pub grown_changes : (first now : Told) (old : Stored) (journal : JournalState) (records d : List Fact)
     (entry : List ℕ) → d ≢ [] → entry ≡ batch_text d
-    → ((entries : List (List ℕ)) → Fits entries p old.journal → OnlyLeaves p p2 (StandsForEither entries entry))
-    → ((entries : List (List ℕ)) → Fits entries p old.journal → Fits (entries ++ entry ∷ []) p2 journal)
-    → records ≡ old.records ++ d → Burns 4 f f2 true → crashes_of p2 ≡ crashes_of p
-    → Changes (told p f) (told p2 f2) old (stored journal records) d true false
-grown_changes p p2 f f2 old journal records d entry some text moments fits are burns crashes = record {
-  holds = λ batches h e. holds_more batches d p2 old journal records some h.records
-      (subst (λ (x : List ℕ). Fits (entries_of batches ++ x ∷ []) p2 journal) text
+    → ((entries : List (List ℕ)) → Fits entries first.past old.journal
+    → OnlyLeaves first.past now.past (StandsForEither entries entry))
+    → ((entries : List (List ℕ)) → Fits entries first.past old.journal → Fits (entries ++ entry ∷ []) now.past journal)
+    → records ≡ old.records ++ d → Burns 4 first.fuse now.fuse true → crashes_of now.past ≡ crashes_of first.past
+    → Changes first now old (stored journal records) d true false
+grown_changes first now old journal records d entry some text moments fits are burns crashes = record {
+  holds = λ batches h e. holds_more batches d now.past old journal records some h.records
+      (subst (λ (x : List ℕ). Fits (entries_of batches ++ x ∷ []) now.past journal) text
       (fits (entries_of batches) h.journal))
       are;
-  moments = λ batches h. moments_of p p2 batches d some
-      (subst (λ (x : List ℕ). OnlyLeaves p p2 (StandsForEither (entries_of batches) x)) text
+  moments = λ batches h. moments_of first.past now.past batches d some
+      (subst (λ (x : List ℕ). OnlyLeaves first.past now.past (StandsForEither (entries_of batches) x)) text
       (moments (entries_of batches) h.journal));
   untouched = λ e g. absurd cc;
-  fuse = λ h. burns-some d f f2 true some burns;
+  fuse = λ h. burns-some d first.fuse now.fuse true some burns;
   crashes = crashes;
 }
 
@@ -244,9 +254,9 @@ made_serves size journal records number address text e =
 
 -- and its disk has the batch of its first record
 pub made_has : IsItsParts → (past : List Call) (s : Stored) (number : ℕ) (address : List ℕ) → number < 2 ^ 64
-    → IsText 2048 address → IsKept (Made number address ∷ []) → end_of s.journal < 268435456
+    → IsText 2048 address → IsKept (Made number address ∷ [])
     → Holds ((Made number address ∷ []) ∷ []) past s → Has ((Made number address ∷ []) ∷ []) past s
-made_has size past s number address few text kept short holds = record {
+made_has size past s number address few text kept holds = record {
   holds = holds;
   are = record {
     each = (
@@ -257,7 +267,6 @@ made_has size past s number address few text kept short holds = record {
       tt,
     );
     kept = kept;
-    short = omega (arith, short, bytes_of-length ((Made number address ∷ []) ∷ []) past s holds);
   };
 }
 

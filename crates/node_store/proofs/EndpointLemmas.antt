@@ -13,11 +13,11 @@ use Rattle.soap_profile.specs.Tree.{Element, attrs_of}
 use Rattle.soap_writer.specs.ElementText.{element_text}
 use Rattle.soap_writer.specs.Writable.{IsWritable}
 use Rattle.soap_stripped.specs.Resolved.{IsResolved}
-use Rattle.rm_protocol.specs.batches.Writable.{IsEndpointWritable, IsParamWritable as IsParamRead}
+use Rattle.record_batch.specs.Writable.{IsEndpointWritable, IsParamWritable as IsParamRead}
 use Rattle.batch_size.specs.Size.{capped, param_size}
-use Rattle.rm_protocol.specs.addressing.Endpoint.{mark_name, params_length}
-use Rattle.rm_protocol.specs.addressing.Writable.{IsEprWritable, IsParamWritable}
-use Rattle.rm_protocol.specs.addressing.declared.endpoint.Epr.{Epr}
+use Rattle.wsa_headers.specs.Endpoint.{mark_name, params_length}
+use Rattle.wsa_headers.specs.Writable.{IsEprWritable, IsParamWritable}
+use Rattle.wsa_headers.specs.declared.endpoint.Epr.{Epr}
 use Rattle.node_store.specs.Endpoints.{is_plain, may_go}
 
 -- the root of a document may be written without its declarations

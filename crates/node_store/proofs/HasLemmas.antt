@@ -6,18 +6,18 @@ use Rattle.std.proofs.lemmas.Grind.{flat_map-append}
 use Rattle.std.proofs.lemmas.List.{append-nil, map-append}
 use Rattle.batch_size.specs.Room.{HasRoom}
 use Rattle.batch_size.specs.Typed.{AreKept, IsTyped}
-use Rattle.rm_protocol.specs.batches.Batch.{batch_at, batch_text}
-use Rattle.rm_protocol.specs.batches.Fact.{Fact, Made, Creating, Created, Granted, Accepted, Acked, Received, Closing}
-use Rattle.rm_protocol.specs.batches.Fact.{ClosedOut, Closed, Ending, EndedOut, Ended, Failed}
-use Rattle.rm_protocol.specs.batches.Writable.{IsBatch, IsWritable}
+use Rattle.record_batch.specs.Batch.{batch_at, batch_text}
+use Rattle.record_batch.specs.Fact.{Fact, Made, Creating, Created, Granted, Accepted, Acked, Received, Closing}
+use Rattle.record_batch.specs.Fact.{ClosedOut, Closed, Ending, EndedOut, Ended, Failed}
+use Rattle.record_batch.specs.Writable.{IsBatch, IsWritable}
 use Rattle.rm_disk.specs.Call.{Call}
-use Rattle.rm_journal.specs.Entries.{block, bytes_of, prefix_of}
-use Rattle.rm_journal.specs.EntryLemmas.{end_is, length-block, length-prefix_of, prefix_of-push, stands_for_one}
+use Rattle.rm_journal.specs.Entries.{block}
+use Rattle.rm_journal.specs.EntryLemmas.{end_is, length-block, length-prefix_of, stands_for_one}
 use Rattle.rm_journal.specs.JournalState.{end_of}
 use Rattle.rm_protocol.specs.Node.{records_in, end_of as end_of_batches}
 use Rattle.rm_protocol.specs.Terms.{Terms}
-use Rattle.node_rules.specs.OwnTerms.{AreOwn}
-use Rattle.node_rules.specs.Records.{AreValues, HasValues, IsKept, KeepsLimits}
+use Rattle.node_laws.specs.OwnTerms.{AreOwn}
+use Rattle.node_laws.specs.Records.{AreValues, HasValues, IsKept, KeepsLimits}
 use Rattle.node_store.specs.Has.{AreOfNode, entries_of, Has, Holds, StandsForBatches}
 use Rattle.node_store.specs.Stored.{Stored, with_batch}
 
@@ -141,40 +141,11 @@ FitsReadBack =
     (facts : List Fact) → facts ≢ [] → length (batch_text facts) ≤ 4294967295 → AllByRecursion IsTyped facts
     → AllByRecursion AreKept facts → IsBatch facts
 
--- a journal of these batches has a byte more than where they end
-pub bytes_of-length : (batches : List (List Fact)) (past : List Call) (stored : Stored) → Holds batches past stored
-    → length (bytes_of (entries_of batches)) ≡ end_of stored.journal + 1
-bytes_of-length batches past stored holds =
-    omega (
-      arith,
-      length-append (prefix_of (entries_of batches)) (0 ∷ []),
-      end_is stored.journal (entries_of batches) holds.journal.gates,
-    )
-
-length-push : (batches : List (List Fact)) (delta : List Fact)
-    → length (bytes_of (entries_of (batches ++ delta ∷ [])))
-    ≡ length (bytes_of (entries_of batches)) + (5 + length (batch_text delta))
-length-push batches delta =
-    let entries = entries_of batches in
-    let entry = batch_text delta in
-    ap (λ (es : List (List ℕ)). length (bytes_of es)) (entries_of-push batches delta)
-    ∙ omega (
-      arith,
-      length-append (prefix_of (entries ++ entry ∷ [])) (0 ∷ []),
-      length-append (prefix_of entries) (0 ∷ []),
-      ap (λ (l : List ℕ). length l) (prefix_of-push entries entry),
-      length-append (prefix_of entries) (block entry),
-      length-block entry,
-    )
-
 more_of_node : (batches : List (List Fact)) (delta : List Fact) → AreOfNode batches → IsBatch delta
-    → IsKept (records_in batches ++ delta)
-    → length (bytes_of (entries_of batches)) + 5 + length (batch_text delta) ≤ 268435456
-    → AreOfNode (batches ++ delta ∷ [])
-more_of_node batches delta are batch kept room = record {
+    → IsKept (records_in batches ++ delta) → AreOfNode (batches ++ delta ∷ [])
+more_of_node batches delta are batch kept = record {
   each = all_more IsBatch batches delta are.each batch;
   kept = subst IsKept (sym (records_in-push batches delta)) kept;
-  short = omega (arith, length-push batches delta, room);
 }
 
 -- the batches of a node with one more, unless it is empty
@@ -188,4 +159,3 @@ one_more reads batches past old (f ∷ delta) has (inr within) typed kept =
     (all_places old.records (f ∷ delta) kept.node.each) in
     more_of_node batches (f ∷ delta) has.are batch
     (subst (λ (r : List Fact). IsKept (r ++ f ∷ delta)) has.holds.records kept)
-    (omega (arith, bytes_of-length batches past old has.holds, within.room))

@@ -1,23 +1,23 @@
 -- What a mount finds, and where it finds none.
-use Rattle.std.proofs.Common.{◌≡◌, ℕ, ◌<◌, ◌≤◌, List, [], ◌∷◌, length}
-use Rattle.std.proofs.Common.{refl, sym, ap, subst, ◌∙◌, arith, length-append}
+use Rattle.std.proofs.Common.{◌≡◌, ℕ, ◌<◌, ◌≤◌, ◌^◌, List, [], ◌∷◌, length}
+use Rattle.std.proofs.Common.{sym, ap, subst, ◌∙◌, arith, length-append}
 use Rattle.std.specs.List.{AllByRecursion, flat_map}
-use Rattle.rm_protocol.specs.batches.Batch.{batch_text}
-use Rattle.rm_protocol.specs.batches.Fact.{Fact}
-use Rattle.rm_protocol.specs.batches.Writable.{IsBatch}
+use Rattle.record_batch.specs.Batch.{batch_text}
+use Rattle.record_batch.specs.Fact.{Fact}
+use Rattle.record_batch.specs.Writable.{IsBatch}
 use Rattle.rm_disk.specs.Call.{Call, seen_of}
 use Rattle.rm_journal.specs.Entries.{block, StandsFor}
 use Rattle.rm_journal.specs.EntryLemmas.{end_is, length-block, length-prefix_of, stands_for_one}
 use Rattle.rm_journal.specs.Journal.{Fits}
 use Rattle.rm_journal.specs.JournalState.{JournalState, end_of}
 use Rattle.rm_protocol.specs.Node.{records_in}
-use Rattle.rm_protocol.specs.sequences.Makers.{counter}
-use Rattle.node_rules.specs.Records.{AreValues}
+use Rattle.sequence_table.specs.Makers.{counter}
+use Rattle.node_laws.specs.Records.{AreValues}
 use Rattle.node_store.specs.Has.{AreOfNode, entries_of, Holds, StandsForBatches}
 use Rattle.node_store.specs.Mounted.{AreReplayed, Finds, KeepsWindows, Replays}
 use Rattle.node_store.specs.Stored.{IsServing, stored}
 use Rattle.node_store.proofs.CommitLemmas.{DrawsFew, counter-more}
-use Rattle.node_store.proofs.HasLemmas.{ReadsBack, bytes_of-length, same_batches}
+use Rattle.node_store.proofs.HasLemmas.{ReadsBack, same_batches}
 
 -- the records of batches that are read back have values of their types
 abbrev pub HaveValues : Type 0
@@ -54,7 +54,6 @@ found values old now entries journal r stands fits replays serving windows =
             };
             values = values bs replays.replayed.each;
           };
-          short = omega (arith, serving.short, bytes_of-length bs now (stored journal r) holds);
         };
       };
     }
@@ -95,19 +94,15 @@ draws_few few (b ∷ batches) =
 -- a node may go on from them
 pub serving_of : DrawsFew → (batches : List (List Fact)) (entries : List (List ℕ)) (past : List Call)
     (journal : JournalState) (r : List Fact) → AreOfNode batches → AreReplayed batches entries
-    → Fits entries past journal → r ≡ records_in batches → IsServing journal r
-serving_of few batches entries past journal r node are fits records =
+    → Fits entries past journal → r ≡ records_in batches → end_of journal < 2 ^ 61 → IsServing journal r
+serving_of few batches entries past journal r node are fits records short =
     let gates = subst (λ (es : List (List ℕ)). Fits es past journal) are.are fits in
     let end = end_is journal (entries_of batches) gates.gates in
     let size = length-prefix_of (entries_of batches) in
     subst (IsServing journal) (sym records) (record {
       begins = node.kept.node.begins;
       drawn = omega (arith, draws_few few batches, end, size);
-      short = omega (
-        arith,
-        node.short,
-        bytes_of-length batches past (stored journal (records_in batches)) (record { journal = gates; records = refl }),
-      );
+      short = short;
     })
 
 -- they keep their windows
@@ -120,14 +115,3 @@ windows_of batches r node records =
       windows = kept.windows;
       each = λ s. record { window = kept.window s; near = kept.near s };
     })
-
--- their journal is not too long
-pub short_of : (batches : List (List Fact)) (entries : List (List ℕ)) (past : List Call) (journal : JournalState)
-    → AreOfNode batches → AreReplayed batches entries → Fits entries past journal → end_of journal < 268435456
-short_of batches entries past journal node are fits =
-    let gates = subst (λ (es : List (List ℕ)). Fits es past journal) are.are fits in
-    omega (
-      arith,
-      node.short,
-      bytes_of-length batches past (stored journal (records_in batches)) (record { journal = gates; records = refl }),
-    )

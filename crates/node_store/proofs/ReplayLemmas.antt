@@ -7,12 +7,12 @@ use Rattle.std.proofs.lemmas.Bool.{and_parts, true≢false}
 use Rattle.std.proofs.lemmas.Grind.{flat_map-append}
 use Rattle.std.proofs.lemmas.List.{append-nil, drop_more, take_more, take-append-drop}
 use Rattle.std.proofs.lemmas.Option.{get_or_from_slice_get, slice_get_within}
-use Rattle.rm_protocol.specs.batches.Batch.{batch_at, batch_text}
-use Rattle.rm_protocol.specs.batches.Fact.{Fact}
-use Rattle.rm_protocol.specs.batches.Writable.{IsBatch}
+use Rattle.record_batch.specs.Batch.{batch_at, batch_text}
+use Rattle.record_batch.specs.Fact.{Fact}
+use Rattle.record_batch.specs.Writable.{IsBatch}
 use Rattle.rm_protocol.specs.Node.{records_in}
-use Rattle.rm_protocol.specs.sequences.Fits.{all_fit, fits}
-use Rattle.node_rules.specs.Records.{KeepsLimits}
+use Rattle.sequence_table.specs.Fits.{all_fit, fits}
+use Rattle.node_laws.specs.Records.{KeepsLimits}
 use Rattle.node_tables.specs.Ready.{StopsAt}
 use Rattle.node_tables.specs.declared.error.TableError.{TableError}
 use Rattle.node_tables.specs.declared.error.TableError.TheVariants.{Misfit}

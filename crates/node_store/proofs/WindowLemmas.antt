@@ -13,12 +13,13 @@ use Rattle.rm_base.specs.declared.message.Payload.{Payload}
 use Rattle.rm_destination.specs.Incoming.{Receiving}
 use Rattle.rm_destination.specs.Laws.{FrontIsReached, IsFront}
 use Rattle.rm_destination.specs.Messages.{front_of, numbers_of}
-use Rattle.rm_protocol.specs.batches.Fact.{Fact, Made}
-use Rattle.rm_protocol.specs.sequences.Fits.{all_fit, fits, is_incoming_side, is_outgoing_side}
-use Rattle.rm_protocol.specs.sequences.Makers.{Maker, Outgoing, Offered, Incoming, Taken, maker, makers, nodes_of}
-use Rattle.rm_protocol.specs.sequences.Makers.{number}
-use Rattle.rm_protocol.specs.sequences.Words.{first_or, is_empty}
-use Rattle.node_rules.specs.Records.{BeginsWithMade}
+use Rattle.record_batch.specs.Fact.{Fact, Made}
+use Rattle.sequence_table.specs.Fits.{all_fit, fits, is_incoming_side, is_outgoing_side}
+use Rattle.sequence_table.specs.Makers.{Maker, Outgoing, Offered, Incoming, Taken, maker, makers, nodes_of}
+use Rattle.sequence_table.specs.Makers.{number}
+use Rattle.rm_destination.specs.Messages.{is_empty}
+use Rattle.sequence_table.specs.Words.{first_or}
+use Rattle.node_laws.specs.Records.{BeginsWithMade}
 use Rattle.node_tables.specs.Laws.{IncomingIsAsRecorded}
 use Rattle.node_tables.specs.Reads.{incoming_in, incoming_of}
 use Rattle.node_store.specs.Mounted.{AreNear, HasNear, KeepsWindow}

@@ -1,28 +1,21 @@
 -- What a call does to a disk and to what is kept of a node.
 use Rattle.std.specs.Prelude.{◌≡◌, ◌⊎◌, ℕ, Bool, true, false, List, [], ◌∷◌, Option, None}
-use Rattle.rm_disk.specs.Call.{Call, crashes_of}
+use Rattle.rm_disk.specs.Call.{crashes_of}
 use Rattle.rm_disk.specs.Fuse.{Burns}
 use Rattle.rm_disk.specs.Image.{OnlyLeaves}
-use Rattle.rm_protocol.specs.batches.Fact.{Fact}
+use Rattle.rm_disk.specs.Told.{Told}
+use Rattle.record_batch.specs.Fact.{Fact}
 use Rattle.node_store.specs.Has.{Holds, IsLeftBy}
 use Rattle.node_store.specs.Stored.{Stored, with_batch}
-
--- what a disk tells: its calls, newest first, and how many device calls are left up to the first that fails
-pub record Told : Type 0 where
-  pub past : List Call
-  pub fuse : Option ℕ
-
--- of these
-abbrev pub told : List Call → Option ℕ → Told
-told past fuse = record { past = past; fuse = fuse }
 
 -- a call that adds records makes four device calls, any other none
 abbrev pub BurnsFor : List Fact → Option ℕ → Option ℕ → Bool → Type 0
 BurnsFor [] old new well = (new ≡ old) × (well ≡ true)
 BurnsFor (f ∷ delta) old new well = Burns 4 old new well
 
--- A call that adds these records in one batch. Where all went well they are there for good, and a crash at any moment
--- of the call leaves the batches as they were or with this one. Where it was refused, nothing happened on the disk.
+-- A call that adds these records in one batch, on a disk that tells. Where all went well they are there for good, and a
+-- crash at any moment of the call leaves the batches as they were or with this one. Where it was refused, nothing
+-- happened on the disk.
 pub record Changes (first now : Told) (old new : Stored) (delta : List Fact) (ok failed : Bool) : Type 0 where
   pub holds : (batches : List (List Fact)) → Holds batches first.past old → ok ≡ true
       → Holds (with_batch batches delta) now.past new

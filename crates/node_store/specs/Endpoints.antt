@@ -4,7 +4,7 @@ use Rattle.std.specs.List.{list_all}
 use Rattle.soap_profile.specs.Namespaces.{is_new_name}
 use Rattle.soap_profile.specs.Payload.{height}
 use Rattle.soap_profile.specs.Tree.{Element, attrs_of}
-use Rattle.rm_protocol.specs.addressing.Endpoint.{mark_name, params_length}
+use Rattle.wsa_headers.specs.Endpoint.{mark_name, params_length}
 
 -- a parameter has no mark, and at most 90 elements in one another
 abbrev pub is_plain : Element → Bool

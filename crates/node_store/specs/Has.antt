@@ -1,14 +1,14 @@
 -- The batches that a disk and a node have.
-use Rattle.std.specs.Prelude.{◌≡◌, ◌⊎◌, ◌≤◌, ℕ, List, length, map}
+use Rattle.std.specs.Prelude.{◌≡◌, ◌⊎◌, ℕ, List, map}
 use Rattle.std.specs.List.{AllByRecursion}
-use Rattle.rm_protocol.specs.batches.Batch.{batch_text}
-use Rattle.rm_protocol.specs.batches.Fact.{Fact}
-use Rattle.rm_protocol.specs.batches.Writable.{IsBatch}
+use Rattle.record_batch.specs.Batch.{batch_text}
+use Rattle.record_batch.specs.Fact.{Fact}
+use Rattle.record_batch.specs.Writable.{IsBatch}
 use Rattle.rm_disk.specs.Call.{Call}
-use Rattle.rm_journal.specs.Entries.{StandsFor, bytes_of}
+use Rattle.rm_journal.specs.Entries.{StandsFor}
 use Rattle.rm_journal.specs.Journal.{Fits}
 use Rattle.rm_protocol.specs.Node.{records_in}
-use Rattle.node_rules.specs.Records.{IsKept}
+use Rattle.node_laws.specs.Records.{IsKept}
 use Rattle.node_store.specs.Stored.{Stored, with_batch}
 
 -- the entries of these batches
@@ -28,12 +28,11 @@ pub record Holds (batches : List (List Fact)) (past : List Call) (stored : Store
   pub journal : Fits (entries_of batches) past stored.journal
   pub records : stored.records ≡ records_in batches
 
--- They are the batches of a node: each is read back from its text, so that bytes stand for one list of batches; their
--- records are those of a node; and a journal of them has at most 268435456 bytes.
+-- They are the batches of a node: each is read back from its text, so that bytes stand for one list of batches, and
+-- their records are those of a node.
 pub record AreOfNode (batches : List (List Fact)) : Type 0 where
   pub each : AllByRecursion IsBatch batches
   pub kept : IsKept (records_in batches)
-  pub short : length (bytes_of (entries_of batches)) ≤ 268435456
 
 -- the disk and the tables have the batches of a node
 pub record Has (batches : List (List Fact)) (past : List Call) (stored : Stored) : Type 0 where

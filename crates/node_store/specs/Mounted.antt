@@ -5,15 +5,15 @@ use Rattle.rm_base.specs.NumberSet.{has_number}
 use Rattle.rm_base.specs.declared.message.Payload.{Payload}
 use Rattle.rm_destination.specs.Messages.{front_of, numbers_of}
 use Rattle.rm_disk.specs.Call.{Call, seen_of}
-use Rattle.rm_protocol.specs.batches.Batch.{batch_text}
-use Rattle.rm_protocol.specs.batches.Fact.{Fact}
-use Rattle.rm_protocol.specs.batches.Writable.{IsBatch}
+use Rattle.record_batch.specs.Batch.{batch_text}
+use Rattle.record_batch.specs.Fact.{Fact}
+use Rattle.record_batch.specs.Writable.{IsBatch}
 use Rattle.rm_protocol.specs.Node.{records_in}
-use Rattle.rm_protocol.specs.sequences.Destinations.{held, front}
-use Rattle.rm_protocol.specs.sequences.Fits.{all_fit, is_incoming_side, is_outgoing_side}
-use Rattle.rm_protocol.specs.sequences.Makers.{maker, makers}
-use Rattle.rm_protocol.specs.sequences.Sources.{all_unacked, unacked}
-use Rattle.node_rules.specs.Records.{KeepsLimits}
+use Rattle.sequence_table.specs.Destinations.{held, front}
+use Rattle.sequence_table.specs.Fits.{all_fit, is_incoming_side, is_outgoing_side}
+use Rattle.sequence_table.specs.Makers.{maker, makers}
+use Rattle.sequence_table.specs.Sources.{all_unacked, unacked}
+use Rattle.node_laws.specs.Records.{KeepsLimits}
 use Rattle.node_store.specs.declared.error.MountError.{MountError}
 use Rattle.node_store.specs.declared.error.MountError.TheVariants as Variant
 use Rattle.node_store.specs.Has.{AreOfNode, entries_of, Has, StandsForBatches}

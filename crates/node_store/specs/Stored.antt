@@ -1,11 +1,11 @@
 -- What is kept of a node, and what a call makes of it.
-use Rattle.std.specs.Prelude.{ℕ, ◌≤◌, ◌<◌, Bool, true, if◌then◌else◌, List, [], ◌∷◌, ◌++◌, length}
-use Rattle.rm_protocol.specs.batches.Batch.{batch_text}
-use Rattle.rm_protocol.specs.batches.Fact.{Fact, Made}
+use Rattle.std.specs.Prelude.{ℕ, ◌≤◌, ◌<◌, ◌^◌, Bool, true, if◌then◌else◌, List, [], ◌∷◌, ◌++◌, length}
+use Rattle.record_batch.specs.Batch.{batch_text}
+use Rattle.record_batch.specs.Fact.{Fact, Made}
 use Rattle.rm_journal.specs.Journal.{with_entry}
 use Rattle.rm_journal.specs.JournalState.{JournalState, end_of, journal_of}
-use Rattle.rm_protocol.specs.sequences.Makers.{counter}
-use Rattle.node_rules.specs.Records.{BeginsWithMade}
+use Rattle.sequence_table.specs.Makers.{counter}
+use Rattle.node_laws.specs.Records.{BeginsWithMade}
 
 -- the journal, and the records that the tables hold
 pub record Stored : Type 0 where
@@ -43,8 +43,8 @@ first_stored number address =
     grown (stored (journal_of []) []) (Made number address ∷ [])
 
 -- what a node keeps of its journal and its records, whatever the disk tells: the first record is Made, no more numbers
--- were drawn than bytes were written, and the journal has at most 268435456 bytes
+-- were drawn than bytes were written, and the journal is so short that memory can hold it
 pub record IsServing (journal : JournalState) (records : List Fact) : Type 0 where
   pub begins : BeginsWithMade records
   pub drawn : counter records ≤ end_of journal
-  pub short : end_of journal < 268435456
+  pub short : end_of journal < 2 ^ 61

@@ -1,12 +1,12 @@
 //! Records are written, all or none: the function that carries each promise of what a crash leaves.
 ghost use Rattle.std.specs.Prelude.{◌≡◌, ◌≢◌, ◌⊎◌, [], ◌∷◌, List, true, false, map, IsTrue, is_ok, IfOk, IfErr};
 ghost use Rattle.batch_size.specs.Room.{IsWithin};
-ghost use Rattle.rm_protocol.specs.batches.Fact.{Fact, Made, fact_of};
+ghost use Rattle.record_batch.specs.Fact.{Fact, Made, fact_of};
 ghost use Rattle.rm_base.specs.Text.{IsText};
 ghost use Rattle.rm_disk.specs.Cause.{HasCause};
 ghost use Rattle.rm_journal.specs.JournalState.{end_of};
-ghost use Rattle.rm_protocol.specs.sequences.Fits.{all_fit};
-ghost use Rattle.node_store.specs.Changes.{Changes, told};
+ghost use Rattle.sequence_table.specs.Fits.{all_fit};
+ghost use Rattle.node_store.specs.Changes.{Changes};
 ghost use Rattle.node_store.specs.Has.{Holds};
 ghost use Rattle.node_store.specs.Failed.{is_disk};
 ghost use Rattle.node_store.specs.Stored.{stored, stored_after};
@@ -15,10 +15,10 @@ ghost use Rattle.node_store.specs.declared.error.StoreError.TheVariants.{Memory 
 use crate::error::StoreError;
 use batch_size::laws::a_batch_that_fits_is_short;
 use node_tables::{TableError, Tables};
+use record_batch::{Record, write_batch};
 use rm_base::{Memory, Uri};
 use rm_disk::Disk;
 use rm_journal::{Journal, JournalError};
-use rm_protocol::batches::{Record, write_batch};
 use std::alloc::Global;
 
 /// The batch of a node that is made.
@@ -46,21 +46,21 @@ pub fn commit<D: Disk>(
 ) -> Result<(), StoreError>
     requires up { journal.old.is_down ≡ false }
     requires holds { IsTrue D.tells →
-        (batches : List (List Fact)) × Holds batches (D.past disk.old) (stored journal.old tables.old.records) }
+        (batches : List (List Fact)) × Holds batches (D.told disk.old).past (stored journal.old tables.old.records) }
     requires some { map fact_of batch.items ≢ [] }
     requires fit { all_fit tables.old.records (map fact_of batch.items) ≡ true }
     requires room { IsWithin (end_of journal.old) (map fact_of batch.items) }
     ensures stored { stored journal.new tables.new.records ≡ stored_after (stored journal.old tables.old.records)
         (map fact_of batch.items) (is_ok result) (is_disk result) }
 
-    // At Ok the records are there for good. A crash at any moment of the call leaves the batches as they were, or with
-    // this one.
-    ensures changes { IsTrue D.tells → Changes (told (D.past disk.old) (D.fuse disk.old))
-        (told (D.past disk.new) (D.fuse disk.new)) (stored journal.old tables.old.records)
+    // On a disk that tells, at Ok the records are there for good, and a crash at any moment of the call leaves the
+    // batches as they were, or with this one.
+    ensures changes { IsTrue D.tells → Changes (D.told disk.old)
+        (D.told disk.new) (stored journal.old tables.old.records)
         (stored journal.new tables.new.records) (map fact_of batch.items) (is_ok result) (is_disk result) }
 
     ensures refusals { IfErr result (λ error. (error ≡ WantsMemory) ⊎ (error ≡ DiskFails)) }
-    ensures cause { HasCause (D.faults disk.old) (D.faults disk.new) (is_disk result) }
+    ensures cause { HasCause (D.told disk.old).faults (D.told disk.new).faults (is_disk result) }
 {
     a_batch_that_fits_is_short();
     tables.reserve(&batch)?;

@@ -2,25 +2,21 @@
 ghost use Rattle.std.specs.Prelude.{◌≡◌, ◌↔◌, ◌<◌, ◌^◌, ◌∷◌, [], IfOk, IsTrue, length, map, nat_le};
 ghost use Rattle.std.specs.List.{list_all};
 ghost use Rattle.soap_profile.specs.Namespaces.{is_new_name};
-ghost use Rattle.soap_profile.specs.Payload.{depth, height};
 ghost use Rattle.soap_profile.specs.Tree.{attrs_of};
-ghost use Rattle.soap_profile.specs.View.{attrs_view, element_view, parts_view};
-ghost use Rattle.rm_protocol.specs.batches.Writable.{IsEndpointWritable};
-ghost use Rattle.rm_protocol.specs.addressing.Endpoint.{mark_name, params_length};
-ghost use Rattle.rm_protocol.specs.addressing.Writable.{IsEprWritable};
+ghost use Rattle.soap_profile.specs.View.{attrs_view, element_view};
+ghost use Rattle.record_batch.specs.Writable.{IsEndpointWritable};
+ghost use Rattle.wsa_headers.specs.Endpoint.{mark_name, params_length};
+ghost use Rattle.wsa_headers.specs.Writable.{IsEprWritable};
 ghost use Rattle.node_store.specs.Endpoints.{is_plain, may_go};
 
 use batch_size::parts::{endpoint_len, uri_len};
 use rm_base::Memory;
-use rm_protocol::addressing::{ADDRESSING, Epr};
-use rm_protocol::values::is_named;
-use soap_profile::{Element, Item};
+use rm_base::limits::{CONTENT_DEPTH, PARAMETER_BYTES};
+use soap_profile::{Element, Item, is_shallow};
 use soap_stripped::laws::elements_may_be_written;
+use soap_values::is_named;
 use std::alloc::Global;
-
-const MOST_BYTES: u64 = 65536;
-
-const MOST_LEVELS: usize = 90;
+use wsa_headers::{ADDRESSING, Epr};
 
 /// Whether an endpoint reference that was read from a record may be written into a message.
 pub(crate) fn is_endpoint_kept(alloc: Global, endpoint: &Epr) -> Result<bool, Memory>
@@ -49,7 +45,7 @@ fn is_short(alloc: Global, endpoint: &Epr) -> Result<bool, Memory>
 {
     let len = endpoint_len(alloc, endpoint)?;
     let around = 8 + uri_len(&endpoint.address) + 4 * endpoint.params.len() as u64;
-    Ok(len <= around + MOST_BYTES)
+    Ok(len <= around + PARAMETER_BYTES as u64)
 }
 
 fn are_plain(params: &[Element]) -> bool
@@ -66,7 +62,7 @@ fn are_plain(params: &[Element]) -> bool
 fn is_plain(param: &Element) -> bool
     ensures { result ≡ is_plain (element_view param.now) }
 {
-    is_unmarked(param) && is_within(param, MOST_LEVELS)
+    is_unmarked(param) && is_shallow(param, CONTENT_DEPTH)
 }
 
 // Whether it lacks the mark of a reference parameter in a header: SOAP Binding, section 3.3.
@@ -92,39 +88,6 @@ fn is_no_mark(item: &Item) -> bool
 {
     match item {
         Item::Attribute(attr) => !is_named(&attr.name, ADDRESSING, b"IsReferenceParameter"),
-        _ => true,
-    }
-}
-
-// Whether no more elements stand in one another, this one counted.
-#[cycle(depth)]
-fn is_within(element: &Element, levels: usize) -> bool
-    ensures { result ≡ nat_le (height (element_view element.now)) levels }
-{
-    if levels == 0 {
-        return false;
-    }
-    are_items_within(element.items.as_slice(), levels - 1)
-}
-
-#[cycle(depth)]
-fn are_items_within(items: &[Item], levels: usize) -> bool
-    ensures { result ≡ nat_le (depth (parts_view items.now)) levels }
-{
-    for item in items {
-        if !is_item_within(item, levels) {
-            return false;
-        }
-    }
-    true
-}
-
-#[cycle(depth)]
-fn is_item_within(item: &Item, levels: usize) -> bool
-    ensures { result ≡ nat_le (depth (parts_view (item.now ∷ []))) levels }
-{
-    match item {
-        Item::Child(element) => is_within(element, levels),
         _ => true,
     }
 }

@@ -17,11 +17,11 @@ use std::alloc::Global;
 /// Makes a disk an empty journal.
 pub fn format<D: Disk>(alloc: Global, disk: &mut D) -> Result<Journal, StoreError>
     ensures made { IfOk result (λ journal. journal ≡ journal_of []) }
-    ensures fits { IsTrue D.tells → IfOk result (Fits [] (D.past disk.new)) }
-    ensures unarmed { IsTrue D.tells → KeepsUnarmed (D.fuse disk.old) (D.fuse disk.new) (is_disk result) }
+    ensures fits { IsTrue D.tells → IfOk result (Fits [] (D.told disk.new).past) }
+    ensures unarmed { IsTrue D.tells → KeepsUnarmed (D.told disk.old).fuse (D.told disk.new).fuse (is_disk result) }
     ensures refusals { IfErr result (λ error. (error ≡ WantsMemory) ⊎ (error ≡ DiskFails)) }
-    ensures cause { HasCause (D.faults disk.old) (D.faults disk.new) (is_disk result) }
-    ensures crashes { IsTrue D.tells → crashes_of (D.past disk.new) ≡ crashes_of (D.past disk.old) }
+    ensures cause { HasCause (D.told disk.old).faults (D.told disk.new).faults (is_disk result) }
+    ensures crashes { IsTrue D.tells → crashes_of (D.told disk.new).past ≡ crashes_of (D.told disk.old).past }
 {
     match Journal::format(alloc, disk) {
         Ok(journal) => Ok(journal),

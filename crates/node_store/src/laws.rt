@@ -3,19 +3,19 @@ ghost use Rattle.std.specs.Prelude.{◌≡◌, ℕ, List, ◌++◌};
 ghost use Rattle.std.specs.List.{AllByRecursion};
 ghost use Rattle.batch_size.specs.Room.{HasRoom};
 ghost use Rattle.batch_size.specs.Typed.{IsTyped};
-ghost use Rattle.rm_protocol.specs.batches.Fact.{Fact};
-ghost use Rattle.rm_protocol.specs.batches.Writable.{IsBatch};
+ghost use Rattle.record_batch.specs.Fact.{Fact};
+ghost use Rattle.record_batch.specs.Writable.{IsBatch};
 ghost use Rattle.rm_disk.specs.Call.{Call};
 ghost use Rattle.rm_journal.specs.JournalState.{end_of};
 ghost use Rattle.rm_protocol.specs.Node.{end_of as end_of_batches, records_in};
 ghost use Rattle.rm_protocol.specs.Terms.{Terms};
-ghost use Rattle.node_rules.specs.OwnTerms.{AreOwn};
-ghost use Rattle.node_rules.specs.Records.{AreValues, IsKept};
+ghost use Rattle.node_laws.specs.OwnTerms.{AreOwn};
+ghost use Rattle.node_laws.specs.Records.{AreValues, IsKept};
 ghost use Rattle.node_store.specs.Has.{AreOfNode, Has, Holds, StandsForBatches};
 ghost use Rattle.node_store.specs.Stored.{Stored, with_batch};
 
 use batch_size::laws::a_batch_that_fits_is_read_back;
-use rm_protocol::batches::laws::what_is_written_is_read;
+use record_batch::laws::what_is_written_is_read;
 
 /// Bytes stand for one list of batches, where each is read back from its text.
 pub fn bytes_stand_for_one_list_of_batches()

@@ -1,20 +1,20 @@
 //! Whether the records of a batch keep their limits.
 ghost use Rattle.std.specs.Prelude.{◌↔◌, IfOk, IfSome, IsTrue, map};
 ghost use Rattle.std.specs.List.{AllByRecursion};
-ghost use Rattle.rm_protocol.specs.elements.Writable.{IsLapseWritable};
+ghost use Rattle.rm_elements.specs.Writable.{IsLapseWritable};
 ghost use Rattle.soap_profile.specs.Payload.{IsClosedContent};
-ghost use Rattle.rm_protocol.specs.batches.Fact.{fact_of};
-ghost use Rattle.rm_protocol.specs.batches.Writable.{IsEndpointWritable, IsPeerOfferWritable, IsWritable};
-ghost use Rattle.rm_protocol.specs.addressing.Writable.{IsEprWritable};
-ghost use Rattle.node_rules.specs.Records.{IsOfferKept, KeepsLimits};
+ghost use Rattle.record_batch.specs.Fact.{fact_of};
+ghost use Rattle.record_batch.specs.Writable.{IsEndpointWritable, IsPeerOfferWritable, IsWritable};
+ghost use Rattle.wsa_headers.specs.Writable.{IsEprWritable};
+ghost use Rattle.node_laws.specs.Records.{IsOfferKept, KeepsLimits};
 
 use crate::endpoints::is_endpoint_kept;
+use record_batch::{PeerOffer, Record};
 use rm_base::{Blob, Memory};
-use rm_protocol::addressing::Epr;
-use rm_protocol::batches::{PeerOffer, Record};
-use rm_protocol::elements::Lapse;
+use rm_elements::Lapse;
 use soap_profile::check_payload;
 use std::alloc::Global;
+use wsa_headers::Epr;
 
 const MOST_MONTHS: u64 = 100000;
 

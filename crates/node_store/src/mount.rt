@@ -14,34 +14,35 @@ ghost use Rattle.node_store.specs.declared.error.MountError.TheVariants.{NotAJou
 use crate::error::MountError;
 use crate::laws::batches_have_values;
 use crate::replay::replay;
-use crate::windows::{MOST_BYTES, keep_windows, may_serve};
+use crate::windows::{TOO_MANY_BYTES, keep_windows, may_serve};
 use node_tables::Tables;
+use record_batch::laws::what_is_written_is_read;
 use rm_disk::Disk;
 use rm_journal::{Journal, JournalError};
-use rm_protocol::batches::laws::what_is_written_is_read;
-use rm_protocol::sequences::laws::a_byte_for_each_number;
+use sequence_table::laws::a_byte_for_each_number;
 use std::alloc::Global;
 
 /// The journal of a node on a disk, and the tables of its records.
 pub(crate) fn find<D: Disk>(alloc: Global, disk: &mut D) -> Result<(Journal, Tables), MountError>
     ensures found { IsTrue D.tells →
-        IfOk result (λ x. Finds (D.past disk.old) (D.past disk.new) (stored x.0 x.1.records)) }
-    ensures none { IsTrue D.tells → result ≡ Err IsNoJournal → IsNoNode (seen_of (D.past disk.old)) }
+        IfOk result (λ x. Finds (D.told disk.old).past (D.told disk.new).past (stored x.0 x.1.records)) }
+    ensures none { IsTrue D.tells → result ≡ Err IsNoJournal → IsNoNode (seen_of (D.told disk.old).past) }
     ensures up { IfOk result (λ x. x.0.is_down ≡ false) }
     ensures serving { IfOk result (λ x. IsServing x.0 x.1.records) }
     ensures refusals { IfErr result (λ error. (error ≡ NoMemory) ⊎ (error ≡ DiskBroke) ⊎ (error ≡ IsNoJournal)) }
-    ensures seen { IsTrue D.tells → seen_of (D.past disk.new) ≡ seen_of (D.past disk.old) }
-    ensures moments { IsTrue D.tells → OnlyLeaves (D.past disk.old) (D.past disk.new) (MayLeave (D.past disk.old)) }
-    ensures unarmed { IsTrue D.tells → KeepsUnarmed (D.fuse disk.old) (D.fuse disk.new) (has_failed result) }
-    ensures cause { HasCause (D.faults disk.old) (D.faults disk.new) (has_failed result) }
-    ensures crashes { IsTrue D.tells → crashes_of (D.past disk.new) ≡ crashes_of (D.past disk.old) }
+    ensures seen { IsTrue D.tells → seen_of (D.told disk.new).past ≡ seen_of (D.told disk.old).past }
+    ensures moments { IsTrue D.tells →
+        OnlyLeaves (D.told disk.old).past (D.told disk.new).past (MayLeave (D.told disk.old).past) }
+    ensures unarmed { IsTrue D.tells → KeepsUnarmed (D.told disk.old).fuse (D.told disk.new).fuse (has_failed result) }
+    ensures cause { HasCause (D.told disk.old).faults (D.told disk.new).faults (has_failed result) }
+    ensures crashes { IsTrue D.tells → crashes_of (D.told disk.new).past ≡ crashes_of (D.told disk.old).past }
 {
     what_is_written_is_read();
     batches_have_values();
     a_byte_for_each_number();
     let mut journal = open(alloc, disk)?;
-    if journal.end() >= MOST_BYTES {
-        return Err(MountError::NotAJournal);
+    if journal.end() >= TOO_MANY_BYTES {
+        return Err(MountError::Memory);
     }
     let tables = replay(alloc, &mut journal, disk)?;
     if !may_serve(&journal, &tables) {
@@ -56,16 +57,17 @@ pub(crate) fn find<D: Disk>(alloc: Global, disk: &mut D) -> Result<(Journal, Tab
 /// The journal on a disk.
 fn open<D: Disk>(alloc: Global, disk: &mut D) -> Result<Journal, MountError>
     ensures fits { IsTrue D.tells → IfOk result (λ journal. (entries : List (List ℕ))
-        × StandsFor entries (seen_of (D.past disk.old)) × Fits entries (D.past disk.new) journal) }
+        × StandsFor entries (seen_of (D.told disk.old).past) × Fits entries (D.told disk.new).past journal) }
     ensures none { IsTrue D.tells → result ≡ Err IsNoJournal →
-        (entries : List (List ℕ)) → ¬ (StandsFor entries (seen_of (D.past disk.old))) }
+        (entries : List (List ℕ)) → ¬ (StandsFor entries (seen_of (D.told disk.old).past)) }
     ensures up { IfOk result (λ journal. journal.is_down ≡ false) }
     ensures refusals { IfErr result (λ error. (error ≡ NoMemory) ⊎ (error ≡ DiskBroke) ⊎ (error ≡ IsNoJournal)) }
-    ensures seen { IsTrue D.tells → seen_of (D.past disk.new) ≡ seen_of (D.past disk.old) }
-    ensures moments { IsTrue D.tells → OnlyLeaves (D.past disk.old) (D.past disk.new) (MayLeave (D.past disk.old)) }
-    ensures unarmed { IsTrue D.tells → KeepsUnarmed (D.fuse disk.old) (D.fuse disk.new) (has_failed result) }
-    ensures cause { HasCause (D.faults disk.old) (D.faults disk.new) (has_failed result) }
-    ensures crashes { IsTrue D.tells → crashes_of (D.past disk.new) ≡ crashes_of (D.past disk.old) }
+    ensures seen { IsTrue D.tells → seen_of (D.told disk.new).past ≡ seen_of (D.told disk.old).past }
+    ensures moments { IsTrue D.tells →
+        OnlyLeaves (D.told disk.old).past (D.told disk.new).past (MayLeave (D.told disk.old).past) }
+    ensures unarmed { IsTrue D.tells → KeepsUnarmed (D.told disk.old).fuse (D.told disk.new).fuse (has_failed result) }
+    ensures cause { HasCause (D.told disk.old).faults (D.told disk.new).faults (has_failed result) }
+    ensures crashes { IsTrue D.tells → crashes_of (D.told disk.new).past ≡ crashes_of (D.told disk.old).past }
 {
     match Journal::mount(alloc, disk) {
         Ok(journal) => Ok(journal),

@@ -2,13 +2,13 @@
 ghost use Rattle.std.specs.Prelude.{◌≡◌, ◌⊎◌, ◌-◌, ◌≤◌, ◌++◌, ℕ, List, true, false, Err, None, Some, length, map};
 ghost use Rattle.std.specs.Prelude.{slice_get, IfErr, IfOk, IsTrue, OnOk};
 ghost use Rattle.std.specs.List.{AllByRecursion};
-ghost use Rattle.rm_protocol.specs.batches.Batch.{batch_at, batch_text};
-ghost use Rattle.rm_protocol.specs.batches.Fact.{Fact, fact_of};
-ghost use Rattle.rm_protocol.specs.batches.Writable.{IsBatch, IsWritable};
+ghost use Rattle.record_batch.specs.Batch.{batch_at, batch_text};
+ghost use Rattle.record_batch.specs.Fact.{Fact, fact_of};
+ghost use Rattle.record_batch.specs.Writable.{IsBatch, IsWritable};
 ghost use Rattle.rm_disk.specs.Cause.{HasCause};
 ghost use Rattle.rm_journal.specs.Journal.{Fits};
-ghost use Rattle.rm_protocol.specs.sequences.Fits.{all_fit};
-ghost use Rattle.node_rules.specs.Records.{KeepsLimits};
+ghost use Rattle.sequence_table.specs.Fits.{all_fit};
+ghost use Rattle.node_laws.specs.Records.{KeepsLimits};
 ghost use Rattle.node_store.specs.Changes.{KeepsUnarmed};
 ghost use Rattle.node_store.specs.Mounted.{AreReplayed, has_failed, IsAdded, IsStuck, Replays};
 ghost use Rattle.node_store.specs.declared.error.MountError.TheVariants.{Memory as NoMemory, Disk as DiskBroke};
@@ -17,11 +17,11 @@ ghost use Rattle.node_store.specs.declared.error.MountError.TheVariants.{NotAJou
 use crate::error::MountError;
 use crate::limits::keep_limits;
 use node_tables::{TableError, Tables};
+use record_batch::laws::what_is_written_is_read;
+use record_batch::{BatchError, Record, read_batch};
 use rm_base::Blob;
 use rm_disk::Disk;
 use rm_journal::{Journal, JournalError};
-use rm_protocol::batches::laws::what_is_written_is_read;
-use rm_protocol::batches::{BatchError, Record, read_batch};
 use std::alloc::Global;
 
 /// The tables of the records of a journal's entries, where each entry is a batch whose records may come after those
@@ -32,16 +32,17 @@ pub(crate) fn replay<D: Disk>(
     disk: &mut D,
 ) -> Result<Tables, MountError>
     requires up { journal.old.is_down ≡ false }
-    requires fits { IsTrue D.tells → (entries : List (List ℕ)) × Fits entries (D.past disk.old) journal.old }
-    ensures found { IsTrue D.tells → (entries : List (List ℕ)) → Fits entries (D.past disk.old) journal.old →
+    requires fits { IsTrue D.tells → (entries : List (List ℕ)) × Fits entries (D.told disk.old).past journal.old }
+    ensures found { IsTrue D.tells → (entries : List (List ℕ)) → Fits entries (D.told disk.old).past journal.old →
         IfOk result (λ tables. Replays entries tables.records) }
     ensures none { IsTrue D.tells → result ≡ Err IsNoJournal → (entries : List (List ℕ)) →
-        Fits entries (D.past disk.old) journal.old → (batches : List (List Fact)) → ¬ (AreReplayed batches entries) }
+        Fits entries (D.told disk.old).past journal.old → (batches : List (List Fact)) →
+        ¬ (AreReplayed batches entries) }
     ensures journal { OnOk result (journal.new ≡ journal.old) }
     ensures refusals { IfErr result (λ error. (error ≡ NoMemory) ⊎ (error ≡ DiskBroke) ⊎ (error ≡ IsNoJournal)) }
-    ensures past { IsTrue D.tells → D.past disk.new ≡ D.past disk.old }
-    ensures unarmed { IsTrue D.tells → KeepsUnarmed (D.fuse disk.old) (D.fuse disk.new) (has_failed result) }
-    ensures cause { HasCause (D.faults disk.old) (D.faults disk.new) (has_failed result) }
+    ensures past { IsTrue D.tells → (D.told disk.new).past ≡ (D.told disk.old).past }
+    ensures unarmed { IsTrue D.tells → KeepsUnarmed (D.told disk.old).fuse (D.told disk.new).fuse (has_failed result) }
+    ensures cause { HasCause (D.told disk.old).faults (D.told disk.new).faults (has_failed result) }
 {
     what_is_written_is_read();
     let mut tables = Tables::new(alloc);
@@ -61,16 +62,16 @@ fn add_entry<D: Disk>(
 ) -> Result<(), MountError>
     requires number { (1 ≤ number) × (number ≤ length journal.old.gates) }
     requires up { journal.old.is_down ≡ false }
-    requires fits { IsTrue D.tells → (entries : List (List ℕ)) × Fits entries (D.past disk.old) journal.old }
-    ensures added { IsTrue D.tells → (entries : List (List ℕ)) → Fits entries (D.past disk.old) journal.old →
+    requires fits { IsTrue D.tells → (entries : List (List ℕ)) × Fits entries (D.told disk.old).past journal.old }
+    ensures added { IsTrue D.tells → (entries : List (List ℕ)) → Fits entries (D.told disk.old).past journal.old →
         OnOk result (IsAdded tables.old.records tables.new.records entries (number - 1)) }
     ensures none { IsTrue D.tells → result ≡ Err IsNoJournal → (entries : List (List ℕ)) →
-        Fits entries (D.past disk.old) journal.old → IsStuck tables.old.records entries (number - 1) }
+        Fits entries (D.told disk.old).past journal.old → IsStuck tables.old.records entries (number - 1) }
     ensures journal { OnOk result (journal.new ≡ journal.old) }
     ensures refusals { IfErr result (λ error. (error ≡ NoMemory) ⊎ (error ≡ DiskBroke) ⊎ (error ≡ IsNoJournal)) }
-    ensures past { IsTrue D.tells → D.past disk.new ≡ D.past disk.old }
-    ensures unarmed { IsTrue D.tells → KeepsUnarmed (D.fuse disk.old) (D.fuse disk.new) (has_failed result) }
-    ensures cause { HasCause (D.faults disk.old) (D.faults disk.new) (has_failed result) }
+    ensures past { IsTrue D.tells → (D.told disk.new).past ≡ (D.told disk.old).past }
+    ensures unarmed { IsTrue D.tells → KeepsUnarmed (D.told disk.old).fuse (D.told disk.new).fuse (has_failed result) }
+    ensures cause { HasCause (D.told disk.old).faults (D.told disk.new).faults (has_failed result) }
 {
     what_is_written_is_read();
     let entry = read_entry(journal, disk, number)?;
@@ -82,14 +83,14 @@ fn add_entry<D: Disk>(
 fn read_entry<D: Disk>(journal: &mut Journal, disk: &mut D, number: u64) -> Result<Blob, MountError>
     requires number { (1 ≤ number) × (number ≤ length journal.old.gates) }
     requires up { journal.old.is_down ≡ false }
-    requires fits { IsTrue D.tells → (entries : List (List ℕ)) × Fits entries (D.past disk.old) journal.old }
-    ensures value { IsTrue D.tells → (entries : List (List ℕ)) → Fits entries (D.past disk.old) journal.old →
+    requires fits { IsTrue D.tells → (entries : List (List ℕ)) × Fits entries (D.told disk.old).past journal.old }
+    ensures value { IsTrue D.tells → (entries : List (List ℕ)) → Fits entries (D.told disk.old).past journal.old →
         IfOk result (λ entry. slice_get entries (number - 1) ≡ Some entry) }
     ensures journal { OnOk result (journal.new ≡ journal.old) }
     ensures refusals { IfErr result (λ error. (error ≡ NoMemory) ⊎ (error ≡ DiskBroke)) }
-    ensures past { IsTrue D.tells → D.past disk.new ≡ D.past disk.old }
-    ensures unarmed { IsTrue D.tells → KeepsUnarmed (D.fuse disk.old) (D.fuse disk.new) (has_failed result) }
-    ensures cause { HasCause (D.faults disk.old) (D.faults disk.new) (has_failed result) }
+    ensures past { IsTrue D.tells → (D.told disk.new).past ≡ (D.told disk.old).past }
+    ensures unarmed { IsTrue D.tells → KeepsUnarmed (D.told disk.old).fuse (D.told disk.new).fuse (has_failed result) }
+    ensures cause { HasCause (D.told disk.old).faults (D.told disk.new).faults (has_failed result) }
 {
     match journal.entry(disk, number) {
         Ok(entry) => Ok(entry),

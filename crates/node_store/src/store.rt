@@ -2,13 +2,13 @@
 ghost use Rattle.std.specs.Prelude.{◌≡◌, ◌≢◌, ◌⊎◌, ◌<◌, ◌^◌, [], ◌∷◌, List, true, false, Err, length, map, IsTrue};
 ghost use Rattle.std.specs.Prelude.{is_ok, IfOk, IfErr};
 ghost use Rattle.batch_size.specs.Room.{HasRoom};
-ghost use Rattle.rm_protocol.specs.batches.Fact.{Fact, Made, fact_of};
+ghost use Rattle.record_batch.specs.Fact.{Fact, Made, fact_of};
 ghost use Rattle.rm_disk.specs.Call.{crashes_of, seen_of};
 ghost use Rattle.rm_disk.specs.Cause.{HasCause};
 ghost use Rattle.rm_disk.specs.Image.{MayLeave, OnlyLeaves};
 ghost use Rattle.rm_journal.specs.JournalState.{end_of};
-ghost use Rattle.rm_protocol.specs.sequences.Fits.{all_fit};
-ghost use Rattle.node_store.specs.Changes.{Changes, KeepsUnarmed, told};
+ghost use Rattle.sequence_table.specs.Fits.{all_fit};
+ghost use Rattle.node_store.specs.Changes.{Changes, KeepsUnarmed};
 ghost use Rattle.node_store.specs.Has.{Has, Holds};
 ghost use Rattle.node_store.specs.Failed.{is_disk};
 ghost use Rattle.node_store.specs.Mounted.{Finds, has_failed, IsNoNode};
@@ -22,14 +22,14 @@ use crate::error::{MountError, StoreError};
 use crate::format::format;
 use crate::mount::find;
 use batch_size::laws::a_batch_is_its_parts;
-use node_rules::laws::a_made_node_has_its_records;
+use node_laws::laws::a_made_node_has_its_records;
 use node_tables::Tables;
+use record_batch::Record;
+use record_batch::laws::what_is_written_is_read;
 use rm_base::Uri;
 use rm_disk::Disk;
 use rm_journal::Journal;
-use rm_protocol::batches::Record;
-use rm_protocol::batches::laws::what_is_written_is_read;
-use rm_protocol::sequences::laws::a_byte_for_each_number;
+use sequence_table::laws::a_byte_for_each_number;
 use std::alloc::Global;
 use std::marker::Model;
 
@@ -102,11 +102,11 @@ impl Store {
         requires within { number < 2 ^ 60 }
         ensures made { IfOk result (λ store. store ≡ first_stored number address) }
         ensures has { IsTrue D.tells →
-            IfOk result (Has ((Made number address ∷ []) ∷ []) (D.past disk.new)) }
-        ensures unarmed { IsTrue D.tells → KeepsUnarmed (D.fuse disk.old) (D.fuse disk.new) (is_disk result) }
+            IfOk result (Has ((Made number address ∷ []) ∷ []) (D.told disk.new).past) }
+        ensures unarmed { IsTrue D.tells → KeepsUnarmed (D.told disk.old).fuse (D.told disk.new).fuse (is_disk result) }
         ensures refusals { IfErr result (λ error. (error ≡ WantsMemory) ⊎ (error ≡ DiskFails)) }
-        ensures cause { HasCause (D.faults disk.old) (D.faults disk.new) (is_disk result) }
-        ensures crashes { IsTrue D.tells → crashes_of (D.past disk.new) ≡ crashes_of (D.past disk.old) }
+        ensures cause { HasCause (D.told disk.old).faults (D.told disk.new).faults (is_disk result) }
+        ensures crashes { IsTrue D.tells → crashes_of (D.told disk.new).past ≡ crashes_of (D.told disk.old).past }
     {
         a_made_node_has_its_records();
         a_batch_is_its_parts();
@@ -123,22 +123,25 @@ impl Store {
     }
 
     /// Finds the node that a disk holds. It answers NotAJournal exactly where the disk, as it reads, holds no batches
-    /// of a node. It writes nothing, and takes memory for the journal once and then for the tables and one entry.
+    /// of a node, however long its journal is: the limit is on what is added. It writes nothing, and takes memory for
+    /// the journal once and then for the tables and one entry.
     pub fn mount<D: Disk>(alloc: Global, disk: &mut D) -> Result<Store, MountError>
-        ensures found { IsTrue D.tells → IfOk result (Finds (D.past disk.old) (D.past disk.new)) }
-        ensures none { IsTrue D.tells → result ≡ Err IsNoJournal → IsNoNode (seen_of (D.past disk.old)) }
+        ensures found { IsTrue D.tells → IfOk result (Finds (D.told disk.old).past (D.told disk.new).past) }
+        ensures none { IsTrue D.tells → result ≡ Err IsNoJournal → IsNoNode (seen_of (D.told disk.old).past) }
         ensures up { IfOk result (λ store. store.journal.is_down ≡ false) }
         ensures refusals { IfErr result (λ error.
             (error ≡ NoMemory) ⊎ (error ≡ DiskBroke) ⊎ (error ≡ IsNoJournal)) }
 
-        // What is read stays, and a crash at any moment of the call leaves no more than one before it.
-        ensures seen { IsTrue D.tells → seen_of (D.past disk.new) ≡ seen_of (D.past disk.old) }
+        // On a disk that tells, what is read stays, and a crash at any moment of the call leaves no more than one
+        // before it.
+        ensures seen { IsTrue D.tells → seen_of (D.told disk.new).past ≡ seen_of (D.told disk.old).past }
         ensures moments { IsTrue D.tells →
-            OnlyLeaves (D.past disk.old) (D.past disk.new) (MayLeave (D.past disk.old)) }
+            OnlyLeaves (D.told disk.old).past (D.told disk.new).past (MayLeave (D.told disk.old).past) }
 
-        ensures unarmed { IsTrue D.tells → KeepsUnarmed (D.fuse disk.old) (D.fuse disk.new) (has_failed result) }
-        ensures cause { HasCause (D.faults disk.old) (D.faults disk.new) (has_failed result) }
-        ensures crashes { IsTrue D.tells → crashes_of (D.past disk.new) ≡ crashes_of (D.past disk.old) }
+        ensures unarmed { IsTrue D.tells →
+            KeepsUnarmed (D.told disk.old).fuse (D.told disk.new).fuse (has_failed result) }
+        ensures cause { HasCause (D.told disk.old).faults (D.told disk.new).faults (has_failed result) }
+        ensures crashes { IsTrue D.tells → crashes_of (D.told disk.new).past ≡ crashes_of (D.told disk.old).past }
     {
         let (journal, tables) = find(alloc, disk)?;
         Ok(Store {
@@ -152,16 +155,16 @@ impl Store {
     /// call.
     pub fn append<D: Disk>(&mut self, disk: &mut D, batch: Vec<Record>) -> Result<(), StoreError>
         requires up { self.old.journal.is_down ≡ false }
-        requires holds { IsTrue D.tells → (batches : List (List Fact)) × Holds batches (D.past disk.old) self.old }
+        requires holds { IsTrue D.tells → (batches : List (List Fact)) × Holds batches (D.told disk.old).past self.old }
         requires fit { all_fit self.old.records (map fact_of batch.items) ≡ true }
         requires room { HasRoom (end_of self.old.journal) (map fact_of batch.items) }
         ensures stored { self.new ≡ stored_after self.old (map fact_of batch.items) (is_ok result) (is_disk result) }
-        ensures changes { IsTrue D.tells → Changes (told (D.past disk.old) (D.fuse disk.old))
-            (told (D.past disk.new) (D.fuse disk.new)) self.old self.new (map fact_of batch.items) (is_ok result)
+        ensures changes { IsTrue D.tells → Changes (D.told disk.old)
+            (D.told disk.new) self.old self.new (map fact_of batch.items) (is_ok result)
             (is_disk result) }
         ensures some { is_disk result ≡ true → map fact_of batch.items ≢ [] }
         ensures refusals { IfErr result (λ error. (error ≡ WantsMemory) ⊎ (error ≡ DiskFails)) }
-        ensures cause { HasCause (D.faults disk.old) (D.faults disk.new) (is_disk result) }
+        ensures cause { HasCause (D.told disk.old).faults (D.told disk.new).faults (is_disk result) }
     {
         a_byte_for_each_number();
         if batch.is_empty() {

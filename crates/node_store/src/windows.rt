@@ -1,41 +1,35 @@
 //! Whether the records of tables keep what those of a node keep all together.
-ghost use Rattle.std.specs.Prelude.{◌≡◌, ◌↔◌, ◌≤◌, ℕ, true, IsTrue};
+ghost use Rattle.std.specs.Prelude.{◌≡◌, ◌↔◌, ◌≤◌, ◌<◌, ◌^◌, ℕ, true, IsTrue};
 ghost use Rattle.rm_base.specs.NumberSet.{has_number};
-ghost use Rattle.rm_protocol.specs.sequences.Destinations.{front, held};
-ghost use Rattle.rm_protocol.specs.sequences.Fits.{is_incoming_side, is_outgoing_side};
-ghost use Rattle.rm_protocol.specs.sequences.Makers.{maker};
-ghost use Rattle.rm_protocol.specs.sequences.Sources.{unacked};
-ghost use Rattle.node_rules.specs.Records.{BeginsWithMade};
+ghost use Rattle.rm_journal.specs.JournalState.{end_of};
+ghost use Rattle.sequence_table.specs.Destinations.{front, held};
+ghost use Rattle.sequence_table.specs.Fits.{is_incoming_side, is_outgoing_side};
+ghost use Rattle.sequence_table.specs.Makers.{maker};
+ghost use Rattle.sequence_table.specs.Sources.{unacked};
+ghost use Rattle.node_laws.specs.Records.{BeginsWithMade};
 ghost use Rattle.node_store.specs.Mounted.{AreNear, HasNear, HasWindow, KeepsWindow, KeepsWindows};
 ghost use Rattle.node_store.specs.Stored.{IsServing};
 
 use node_tables::Tables;
 use node_tables::laws::{an_incoming_sequence_is_as_recorded, an_outgoing_sequence_is_as_recorded};
+use rm_base::limits::{MOST_SEQUENCES, MOST_UNACKED, WINDOW};
 use rm_destination::Incoming;
 use rm_destination::laws::front_is_reached;
 use rm_journal::Journal;
 
-/// The greatest length of a journal.
-pub(crate) const MOST_BYTES: u64 = 268435456;
-
-const MOST_SEQUENCES: u32 = 256;
-
-const MOST_UNACKED: u64 = 4096;
-
-const WINDOW: u64 = 1024;
+/// No memory holds a journal of so many bytes.
+pub(crate) const TOO_MANY_BYTES: u64 = 1 << 61;
 
 /// Whether a node may go on from a journal and the records of its entries. A node draws fewer numbers than its journal
 /// has bytes; only a disk that tells nothing can give entries with more.
 pub(crate) fn may_serve(journal: &Journal, tables: &Tables) -> bool
+    requires { end_of journal.now < 2 ^ 61 }
     ensures { IsTrue result ↔ IsServing journal.now tables.now.records }
 {
     if !begins_with_made(tables) {
         return false;
     }
-    if tables.counter() > journal.end() {
-        return false;
-    }
-    journal.end() < MOST_BYTES
+    tables.counter() <= journal.end()
 }
 
 // The record Made comes first or not at all.

@@ -8,3 +8,4 @@ pub mod MemDisk
 pub mod RangeLemmas
 pub mod Spare
 pub mod StateLemmas
+pub mod Told

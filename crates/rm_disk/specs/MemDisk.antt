@@ -2,6 +2,7 @@
 use Rattle.std.specs.Prelude.{ℕ, List, Option}
 use Rattle.rm_disk.specs.Call.{Call, State}
 use Rattle.rm_disk.specs.Spare.{Spare}
+use Rattle.rm_disk.specs.Told.{Told}
 use Rattle.rm_disk.specs.Mem.{calls_of, content}
 use Rattle.rm_disk.specs.declared.mem.MemDisk.{MemDisk}
 
@@ -16,6 +17,10 @@ fuse_of d = d.fuse
 -- how often a device call has failed
 abbrev pub faults_of : MemDisk → ℕ
 faults_of d = d.faults
+
+-- what it tells
+abbrev pub told_of : MemDisk → Told
+told_of d = record { past = past_of d; fuse = fuse_of d; faults = faults_of d }
 
 -- the room that is there
 abbrev pub spare_of : MemDisk → Spare

@@ -4,6 +4,7 @@ ghost use Rattle.std.specs.Prelude.{◌≡◌, ◌+◌, ◌≤◌, ℕ, ◌∷�
 ghost use Rattle.std.specs.Prelude.{is_err, IsOk, IfOk, OnOk, OnErr, None, if◌then◌else◌};
 ghost use Rattle.rm_disk.specs.Call.{Call, Wrote, WriteFailed, CutTo, CutFailed, Synced, SyncFailed, Crashed, seen_of};
 ghost use Rattle.rm_disk.specs.Fuse.{Burns, armed};
+ghost use Rattle.rm_disk.specs.Told.{Told};
 ghost use Rattle.rm_disk.specs.Spare.{Spare, Covers, Spends};
 ghost use Rattle.rm_disk.specs.Cause.{HasCause};
 
@@ -15,34 +16,28 @@ pub trait Disk {
     /// Whether contracts see what is on the disk. A disk tells for good or never.
     ghost tells: { Bool };
 
-    /// The calls that changed it or failed to, newest first.
-    ghost past: { Self → List Call };
-
-    /// How many device calls are left up to the first that fails, if it is to fail.
-    ghost fuse: { Self → Option ℕ };
-
-    /// How often a device call has failed.
-    ghost faults: { Self → ℕ };
+    /// What it tells: its calls, its fuse, and how often a device call has failed.
+    ghost told: { Self → Told };
 
     /// For how many device calls and bytes there is room.
     ghost spare: { Self → Spare };
 
     /// The number of bytes.
     fn len(&mut self) -> Result<u64, Failed>
-        ensures gives { IsTrue tells → IfOk result (λ len. len ≡ length (seen_of (past self.old))) }
-        ensures past { IsTrue tells → past self.new ≡ past self.old }
-        ensures fuse { IsTrue tells → Burns 1 (fuse self.old) (fuse self.new) (is_ok result) }
-        ensures cause { HasCause (faults self.old) (faults self.new) (is_err result) }
+        ensures gives { IsTrue tells → IfOk result (λ len. len ≡ length (seen_of (told self.old).past)) }
+        ensures past { IsTrue tells → (told self.new).past ≡ (told self.old).past }
+        ensures fuse { IsTrue tells → Burns 1 (told self.old).fuse (told self.new).fuse (is_ok result) }
+        ensures cause { HasCause (told self.old).faults (told self.new).faults (is_err result) }
         ensures spare { Spends 0 0 (spare self.old) (spare self.new) };
 
     /// Fills the buffer with the bytes from a place on. After a failure the buffer holds anything.
     fn read(&mut self, at: u64, buf: &mut [u8]) -> Result<(), Failed>
-        requires { IsTrue tells → at + length buf.old ≤ length (seen_of (past self.old)) }
-        ensures gives { IsTrue tells → OnOk result (buf.new ≡ slice_range (seen_of (past self.old)) at
+        requires { IsTrue tells → at + length buf.old ≤ length (seen_of (told self.old).past) }
+        ensures gives { IsTrue tells → OnOk result (buf.new ≡ slice_range (seen_of (told self.old).past) at
             (at + length buf.old)) }
-        ensures past { IsTrue tells → past self.new ≡ past self.old }
-        ensures fuse { IsTrue tells → Burns 1 (fuse self.old) (fuse self.new) (is_ok result) }
-        ensures cause { HasCause (faults self.old) (faults self.new) (is_err result) }
+        ensures past { IsTrue tells → (told self.new).past ≡ (told self.old).past }
+        ensures fuse { IsTrue tells → Burns 1 (told self.old).fuse (told self.new).fuse (is_ok result) }
+        ensures cause { HasCause (told self.old).faults (told self.new).faults (is_err result) }
         ensures spare { Spends 0 0 (spare self.old) (spare self.new) };
 
     /// Makes room for so many calls that change the disk, and so many bytes written by them. It is no device call.
@@ -50,36 +45,37 @@ pub trait Disk {
         ensures covers { OnOk result (Covers (spare self.new) calls bytes) }
         ensures spare { Spends 0 0 (spare self.old) (spare self.new) }
         ensures enough { Covers (spare self.old) calls bytes → IsOk result }
-        ensures past { IsTrue tells → past self.new ≡ past self.old }
-        ensures fuse { IsTrue tells → fuse self.new ≡ fuse self.old }
-        ensures faults { faults self.new ≡ faults self.old };
+        ensures past { IsTrue tells → (told self.new).past ≡ (told self.old).past }
+        ensures fuse { IsTrue tells → (told self.new).fuse ≡ (told self.old).fuse }
+        ensures faults { (told self.new).faults ≡ (told self.old).faults };
 
     /// Writes over what is there, and past the end.
     fn write_at(&mut self, at: u64, bytes: &[u8]) -> Result<(), Failed>
-        requires within { IsTrue tells → at ≤ length (seen_of (past self.old)) }
+        requires within { IsTrue tells → at ≤ length (seen_of (told self.old).past) }
         requires room { Covers (spare self.old) 1 (length bytes.now) }
-        ensures past { IsTrue tells → past self.new ≡ (if is_ok result then Wrote at bytes.now else WriteFailed at
-            (length bytes.now)) ∷ past self.old }
-        ensures fuse { IsTrue tells → Burns 1 (fuse self.old) (fuse self.new) (is_ok result) }
-        ensures cause { HasCause (faults self.old) (faults self.new) (is_err result) }
+        ensures past { IsTrue tells → (told self.new).past
+            ≡ (if is_ok result then Wrote at bytes.now else WriteFailed at (length bytes.now)) ∷ (told self.old).past }
+        ensures fuse { IsTrue tells → Burns 1 (told self.old).fuse (told self.new).fuse (is_ok result) }
+        ensures cause { HasCause (told self.old).faults (told self.new).faults (is_err result) }
         ensures spare { Spends 1 (length bytes.now) (spare self.old) (spare self.new) };
 
     /// Cuts the file to a length.
     fn cut(&mut self, len: u64) -> Result<(), Failed>
-        requires within { IsTrue tells → len ≤ length (seen_of (past self.old)) }
+        requires within { IsTrue tells → len ≤ length (seen_of (told self.old).past) }
         requires room { Covers (spare self.old) 1 0 }
-        ensures past { IsTrue tells → past self.new ≡ (if is_ok result then CutTo len else CutFailed len) ∷ past
-            self.old }
-        ensures fuse { IsTrue tells → Burns 1 (fuse self.old) (fuse self.new) (is_ok result) }
-        ensures cause { HasCause (faults self.old) (faults self.new) (is_err result) }
+        ensures past { IsTrue tells →
+            (told self.new).past ≡ (if is_ok result then CutTo len else CutFailed len) ∷ (told self.old).past }
+        ensures fuse { IsTrue tells → Burns 1 (told self.old).fuse (told self.new).fuse (is_ok result) }
+        ensures cause { HasCause (told self.old).faults (told self.new).faults (is_err result) }
         ensures spare { Spends 1 0 (spare self.old) (spare self.new) };
 
     /// After it a crash leaves what a read gives.
     fn sync(&mut self) -> Result<(), Failed>
         requires { Covers (spare self.old) 1 0 }
-        ensures past { IsTrue tells → past self.new ≡ (if is_ok result then Synced else SyncFailed) ∷ past self.old }
-        ensures fuse { IsTrue tells → Burns 1 (fuse self.old) (fuse self.new) (is_ok result) }
-        ensures cause { HasCause (faults self.old) (faults self.new) (is_err result) }
+        ensures past { IsTrue tells →
+            (told self.new).past ≡ (if is_ok result then Synced else SyncFailed) ∷ (told self.old).past }
+        ensures fuse { IsTrue tells → Burns 1 (told self.old).fuse (told self.new).fuse (is_ok result) }
+        ensures cause { HasCause (told self.old).faults (told self.new).faults (is_err result) }
         ensures spare { Spends 1 0 (spare self.old) (spare self.new) };
 }
 
@@ -89,9 +85,9 @@ pub trait CrashDisk: Disk {
     /// It takes the place of an earlier `arm`, unless a call has failed by that already.
     fn arm(&mut self, calls: u64)
         requires { 1 ≤ calls }
-        ensures fuse { Self.fuse self.new ≡ armed calls (Self.fuse self.old) }
-        ensures past { Self.past self.new ≡ Self.past self.old }
-        ensures faults { Self.faults self.new ≡ Self.faults self.old }
+        ensures fuse { (Self.told self.new).fuse ≡ armed calls (Self.told self.old).fuse }
+        ensures past { (Self.told self.new).past ≡ (Self.told self.old).past }
+        ensures faults { (Self.told self.new).faults ≡ (Self.told self.old).faults }
         ensures spare { Self.spare self.new ≡ Self.spare self.old };
 
     /// The machine stops and starts again, and no call fails from then on until an `arm`. Of what wasn't synced
@@ -99,10 +95,10 @@ pub trait CrashDisk: Disk {
     /// may hold anything, choice 3 the smallest length and zeros there. What was spare may be gone.
     fn crash(&mut self, choice: u8) -> Result<(), Memory>
         requires { choice ≤ 3 }
-        ensures past { Self.past self.new ≡ (if is_ok result then Crashed choice ∷ Self.past self.old else Self.past
-            self.old) }
-        ensures fuse { Self.fuse self.new ≡ (if is_ok result then None else Self.fuse self.old) }
-        ensures faults { Self.faults self.new ≡ Self.faults self.old };
+        ensures past { (Self.told self.new).past
+            ≡ (if is_ok result then Crashed choice ∷ (Self.told self.old).past else (Self.told self.old).past) }
+        ensures fuse { (Self.told self.new).fuse ≡ (if is_ok result then None else (Self.told self.old).fuse) }
+        ensures faults { (Self.told self.new).faults ≡ (Self.told self.old).faults };
 
     /// It tells.
     ghost always_tells: { IsTrue Self.tells };

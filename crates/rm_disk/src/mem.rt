@@ -150,15 +150,11 @@ impl MemDisk {
 }
 
 impl Disk for MemDisk {
-    ghost use Rattle.rm_disk.specs.MemDisk.{past_of, fuse_of, faults_of, spare_of};
+    ghost use Rattle.rm_disk.specs.MemDisk.{told_of, spare_of};
 
     ghost tells = { true };
 
-    ghost past = { past_of };
-
-    ghost fuse = { fuse_of };
-
-    ghost faults = { faults_of };
+    ghost told = { told_of };
 
     ghost spare = { spare_of };
 

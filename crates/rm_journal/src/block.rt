@@ -28,12 +28,13 @@ pub fn body_of(alloc: Global, entry: &[u8]) -> Result<Vec<u8>, AllocError>
 
 /// Writes a block behind a closed gate and opens the gate.
 pub fn write_block<D: Disk>(disk: &mut D, gate: u64, body: &[u8]) -> Result<(), Failed>
-    requires within { IsTrue D.tells → gate < length (seen_of (D.past disk.old)) }
+    requires within { IsTrue D.tells → gate < length (seen_of (D.told disk.old).past) }
     requires fits { gate + 1 < 2 ^ 64 }
     requires room { Covers (D.spare disk.old) 4 (length body.now + 1) }
-    ensures calls { IsTrue D.tells → WritesBlock gate body.now (D.past disk.old) (D.past disk.new) (is_ok result) }
-    ensures fuse { IsTrue D.tells → Burns 4 (D.fuse disk.old) (D.fuse disk.new) (is_ok result) }
-    ensures cause { HasCause (D.faults disk.old) (D.faults disk.new) (is_err result) }
+    ensures calls { IsTrue D.tells →
+        WritesBlock gate body.now (D.told disk.old).past (D.told disk.new).past (is_ok result) }
+    ensures fuse { IsTrue D.tells → Burns 4 (D.told disk.old).fuse (D.told disk.new).fuse (is_ok result) }
+    ensures cause { HasCause (D.told disk.old).faults (D.told disk.new).faults (is_err result) }
 {
     disk.write_at(gate + 1, body)?;
     // What stands behind the gate has to be on the disk before the gate opens: a crash may leave anything there.

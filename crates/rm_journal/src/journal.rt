@@ -14,13 +14,12 @@ ghost use Rattle.rm_journal.specs.declared.error.JournalError.TheVariants.{NotAJ
 use crate::JournalError;
 use crate::block::{body_of, write_block};
 use crate::place::{read_bytes, span_of};
-use crate::scan::{LONGEST, gates_of};
+use crate::scan::gates_of;
 use rm_base::Blob;
+use rm_base::limits::{ENTRY_BYTES, JOURNAL_BYTES};
 use rm_disk::Disk;
 use std::alloc::Global;
 use std::marker::Model;
-
-const LIMIT: u64 = 268435456;
 
 /// The list of entries on a disk. It keeps the place of each, and none of their bytes.
 #[derive(Debug, Drop)]
@@ -48,21 +47,21 @@ impl Journal {
     /// anything, and must be formatted again.
     pub fn format<D: Disk>(alloc: Global, disk: &mut D) -> Result<Journal, JournalError>
         ensures made { IfOk result (λ journal. journal ≡ journal_of []) }
-        ensures fits { IsTrue D.tells → IfOk result (Fits [] (D.past disk.new)) }
+        ensures fits { IsTrue D.tells → IfOk result (Fits [] (D.told disk.new).past) }
 
         // The disk has a head and a closed gate, and nothing behind it.
-        ensures bytes { IsTrue D.tells → OnOk result (state (D.past disk.new) ≡ settled (bytes_of [])) }
+        ensures bytes { IsTrue D.tells → OnOk result (state (D.told disk.new).past ≡ settled (bytes_of [])) }
 
         ensures refusals { IfErr result (λ error. (error ≡ WantsMemory) ⊎ (error ≡ DiskFails)) }
 
         // Memory comes before any device call.
         ensures untouched { IsTrue D.tells → is_memory result ≡ true →
-            (D.past disk.new ≡ D.past disk.old) × (D.fuse disk.new ≡ D.fuse disk.old) }
+            ((D.told disk.new).past ≡ (D.told disk.old).past) × ((D.told disk.new).fuse ≡ (D.told disk.old).fuse) }
 
         ensures fuse { IsTrue D.tells → is_memory result ≡ false →
-            Burns 3 (D.fuse disk.old) (D.fuse disk.new) (is_ok result) }
-        ensures cause { HasCause (D.faults disk.old) (D.faults disk.new) (is_disk result) }
-        ensures crashes { IsTrue D.tells → crashes_of (D.past disk.new) ≡ crashes_of (D.past disk.old) }
+            Burns 3 (D.told disk.old).fuse (D.told disk.new).fuse (is_ok result) }
+        ensures cause { HasCause (D.told disk.old).faults (D.told disk.new).faults (is_disk result) }
+        ensures crashes { IsTrue D.tells → crashes_of (D.told disk.new).past ≡ crashes_of (D.told disk.old).past }
     {
         disk.reserve(3, 9)?;
         disk.cut(0)?;
@@ -78,26 +77,29 @@ impl Journal {
     /// Finds the journal on a disk. It makes three device calls: it syncs, asks for the length and reads all once.
     pub fn mount<D: Disk>(alloc: Global, disk: &mut D) -> Result<Journal, JournalError>
         ensures fits { IsTrue D.tells → IfOk result (λ journal. (entries : List (List ℕ)) ×
-            StandsFor entries (seen_of (D.past disk.old)) × Fits entries (D.past disk.new) journal) }
+            StandsFor entries (seen_of (D.told disk.old).past) × Fits entries (D.told disk.new).past journal) }
         ensures none { IsTrue D.tells → result ≡ Err NotAJournal →
-            (entries : List (List ℕ)) → StandsFor entries (seen_of (D.past disk.old)) → ⊥ }
+            (entries : List (List ℕ)) → StandsFor entries (seen_of (D.told disk.old).past) → ⊥ }
         ensures up { IfOk result (λ journal. journal.is_down ≡ false) }
         ensures refusals { IfErr result (λ error. (error ≡ WantsMemory) ⊎ (error ≡ DiskFails) ⊎ (error ≡ NotAJournal)) }
 
         // It changes nothing that is read, and a crash leaves no more than before. At Ok nothing is unsynced.
-        ensures settled { IsTrue D.tells → OnOk result (state (D.past disk.new) ≡ settled (seen_of (D.past disk.old))) }
-        ensures seen { IsTrue D.tells → seen_of (D.past disk.new) ≡ seen_of (D.past disk.old) }
-        ensures moments { IsTrue D.tells → OnlyLeaves (D.past disk.old) (D.past disk.new) (MayLeave (D.past disk.old)) }
+        ensures settled { IsTrue D.tells →
+            OnOk result (state (D.told disk.new).past ≡ settled (seen_of (D.told disk.old).past)) }
+        ensures seen { IsTrue D.tells → seen_of (D.told disk.new).past ≡ seen_of (D.told disk.old).past }
+        ensures moments { IsTrue D.tells →
+            OnlyLeaves (D.told disk.old).past (D.told disk.new).past (MayLeave (D.told disk.old).past) }
 
         ensures fuse { IsTrue D.tells → is_memory result ≡ false →
-            Burns 3 (D.fuse disk.old) (D.fuse disk.new) (not (is_disk result)) }
+            Burns 3 (D.told disk.old).fuse (D.told disk.new).fuse (not (is_disk result)) }
 
         // Memory comes before any device call, or after two or three that went well.
-        ensures memory { IsTrue D.tells → is_memory result ≡ true → (D.fuse disk.new ≡ D.fuse disk.old)
-            ⊎ Burns 2 (D.fuse disk.old) (D.fuse disk.new) true ⊎ Burns 3 (D.fuse disk.old) (D.fuse disk.new) true }
+        ensures memory { IsTrue D.tells → is_memory result ≡ true → ((D.told disk.new).fuse ≡ (D.told disk.old).fuse)
+            ⊎ Burns 2 (D.told disk.old).fuse (D.told disk.new).fuse true
+            ⊎ Burns 3 (D.told disk.old).fuse (D.told disk.new).fuse true }
 
-        ensures cause { HasCause (D.faults disk.old) (D.faults disk.new) (is_disk result) }
-        ensures crashes { IsTrue D.tells → crashes_of (D.past disk.new) ≡ crashes_of (D.past disk.old) }
+        ensures cause { HasCause (D.told disk.old).faults (D.told disk.new).faults (is_disk result) }
+        ensures crashes { IsTrue D.tells → crashes_of (D.told disk.new).past ≡ crashes_of (D.told disk.old).past }
     {
         disk.reserve(1, 0)?;
         disk.sync()?;
@@ -116,28 +118,28 @@ impl Journal {
     /// Adds an entry, in four device calls: it writes the entry behind the closed gate, syncs, opens the gate, syncs.
     /// After Disk the entry is on the disk or isn't, and the journal is down: mount the disk again.
     pub fn append<D: Disk>(&mut self, disk: &mut D, entry: &[u8]) -> Result<(), JournalError>
-        requires { IsTrue D.tells → FitsUnlessDown (D.past disk.old) self.old }
+        requires { IsTrue D.tells → FitsUnlessDown (D.told disk.old).past self.old }
 
         ensures refusals { Answers (refusal_of self.old (length entry.now)) result }
         ensures journal { self.new ≡ appended self.old (length entry.now) result }
 
-        // At Ok the entry is there for good. A crash at any moment of the call leaves the old entries, or these with
-        // the new one.
-        ensures ok { IsTrue D.tells → (entries : List (List ℕ)) → Fits entries (D.past disk.old) self.old →
-            OnOk result (Fits (entries ++ entry.now ∷ []) (D.past disk.new) self.new) }
-        ensures bytes { IsTrue D.tells → OnOk result (state (D.past disk.new) ≡
-            settled (with_block (seen_of (D.past disk.old)) (end_of self.old) entry.now)) }
-        ensures moments { IsTrue D.tells → (entries : List (List ℕ)) → Fits entries (D.past disk.old) self.old →
-            OnlyLeaves (D.past disk.old) (D.past disk.new) (StandsForEither entries entry.now) }
+        // On a disk that tells, at Ok the entry is there for good, and a crash at any moment of the call leaves the old
+        // entries, or these with the new one.
+        ensures ok { IsTrue D.tells → (entries : List (List ℕ)) → Fits entries (D.told disk.old).past self.old →
+            OnOk result (Fits (entries ++ entry.now ∷ []) (D.told disk.new).past self.new) }
+        ensures bytes { IsTrue D.tells → OnOk result (state (D.told disk.new).past ≡
+            settled (with_block (seen_of (D.told disk.old).past) (end_of self.old) entry.now)) }
+        ensures moments { IsTrue D.tells → (entries : List (List ℕ)) → Fits entries (D.told disk.old).past self.old →
+            OnlyLeaves (D.told disk.old).past (D.told disk.new).past (StandsForEither entries entry.now) }
 
         // Each answer but Ok and Disk comes before any device call.
         ensures untouched { IsTrue D.tells → IfErr result (λ error. error ≢ DiskFails →
-            (D.past disk.new ≡ D.past disk.old) × (D.fuse disk.new ≡ D.fuse disk.old)) }
+            ((D.told disk.new).past ≡ (D.told disk.old).past) × ((D.told disk.new).fuse ≡ (D.told disk.old).fuse)) }
 
         ensures fuse { IsTrue D.tells → (is_ok result ≡ true) ⊎ (is_disk result ≡ true) →
-            Burns 4 (D.fuse disk.old) (D.fuse disk.new) (is_ok result) }
-        ensures cause { HasCause (D.faults disk.old) (D.faults disk.new) (is_disk result) }
-        ensures crashes { IsTrue D.tells → crashes_of (D.past disk.new) ≡ crashes_of (D.past disk.old) }
+            Burns 4 (D.told disk.old).fuse (D.told disk.new).fuse (is_ok result) }
+        ensures cause { HasCause (D.told disk.old).faults (D.told disk.new).faults (is_disk result) }
+        ensures crashes { IsTrue D.tells → crashes_of (D.told disk.new).past ≡ crashes_of (D.told disk.old).past }
     {
         if let Some(refusal) = self.refusal(entry.len() as u64) {
             return Err(refusal);
@@ -158,20 +160,20 @@ impl Journal {
     /// stand in the entry's place are the answer, whatever they are.
     pub fn entry<D: Disk>(&mut self, disk: &mut D, i: u64) -> Result<Blob, JournalError>
         requires number { (1 ≤ i) × (i ≤ length self.old.gates) }
-        requires fits { IsTrue D.tells → FitsUnlessDown (D.past disk.old) self.old }
-        ensures value { IsTrue D.tells → (entries : List (List ℕ)) → Fits entries (D.past disk.old) self.old →
+        requires fits { IsTrue D.tells → FitsUnlessDown (D.told disk.old).past self.old }
+        ensures value { IsTrue D.tells → (entries : List (List ℕ)) → Fits entries (D.told disk.old).past self.old →
             IfOk result (λ bytes. slice_get entries (i - 1) ≡ Some bytes) }
         ensures down { IsErrOf result IsDown ↔ (self.old.is_down ≡ true) }
         ensures refusals { IfErr result (λ error. (error ≡ WantsMemory) ⊎ (error ≡ DiskFails) ⊎ (error ≡ IsDown)) }
         ensures journal { self.new ≡ after_reading self.old result }
-        ensures past { IsTrue D.tells → D.past disk.new ≡ D.past disk.old }
+        ensures past { IsTrue D.tells → (D.told disk.new).past ≡ (D.told disk.old).past }
 
         // Memory and Down come before the device call.
         ensures untouched { IsTrue D.tells → IfErr result (λ error. error ≢ DiskFails →
-            D.fuse disk.new ≡ D.fuse disk.old) }
+            (D.told disk.new).fuse ≡ (D.told disk.old).fuse) }
         ensures fuse { IsTrue D.tells → (is_ok result ≡ true) ⊎ (is_disk result ≡ true) →
-            Burns 1 (D.fuse disk.old) (D.fuse disk.new) (is_ok result) }
-        ensures cause { HasCause (D.faults disk.old) (D.faults disk.new) (is_disk result) }
+            Burns 1 (D.told disk.old).fuse (D.told disk.new).fuse (is_ok result) }
+        ensures cause { HasCause (D.told disk.old).faults (D.told disk.new).faults (is_disk result) }
     {
         if self.down {
             return Err(JournalError::Down);
@@ -208,7 +210,7 @@ impl Journal {
     pub fn room(&self) -> u64
         ensures { result ≡ 268435456 - end_of self.now - 6 }
     {
-        LIMIT.saturating_sub(self.end()).saturating_sub(6)
+        JOURNAL_BYTES.saturating_sub(self.end()).saturating_sub(6)
     }
 
     /// Whether a call has answered Disk.
@@ -225,12 +227,12 @@ impl Journal {
         if self.down {
             return Some(JournalError::Down);
         }
-        if len > LONGEST as u64 {
+        if len > ENTRY_BYTES as u64 {
             return Some(JournalError::EntryTooLong { len });
         }
         let end = self.end();
         let needed = len + 6;
-        if end > LIMIT - needed {
+        if end > JOURNAL_BYTES - needed {
             return Some(JournalError::Full { end, needed });
         }
         None

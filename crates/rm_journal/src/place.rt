@@ -39,15 +39,15 @@ pub fn read_bytes<D: Disk>(
     at: u64,
     len: u64,
 ) -> Result<Vec<u8>, JournalError>
-    requires { IsTrue D.tells → at + len ≤ length (seen_of (D.past disk.old)) }
+    requires { IsTrue D.tells → at + len ≤ length (seen_of (D.told disk.old).past) }
     ensures gives { IsTrue D.tells →
-        IfOk result (λ bytes. bytes.items ≡ take len (drop at (seen_of (D.past disk.old)))) }
+        IfOk result (λ bytes. bytes.items ≡ take len (drop at (seen_of (D.told disk.old).past))) }
     ensures refusals { IfErr result (λ error. (error ≡ WantsMemory) ⊎ (error ≡ DiskFails)) }
-    ensures past { IsTrue D.tells → D.past disk.new ≡ D.past disk.old }
-    ensures untouched { IsTrue D.tells → is_memory result ≡ true → D.fuse disk.new ≡ D.fuse disk.old }
+    ensures past { IsTrue D.tells → (D.told disk.new).past ≡ (D.told disk.old).past }
+    ensures untouched { IsTrue D.tells → is_memory result ≡ true → (D.told disk.new).fuse ≡ (D.told disk.old).fuse }
     ensures fuse { IsTrue D.tells → is_memory result ≡ false →
-        Burns 1 (D.fuse disk.old) (D.fuse disk.new) (is_ok result) }
-    ensures cause { HasCause (D.faults disk.old) (D.faults disk.new) (is_disk result) }
+        Burns 1 (D.told disk.old).fuse (D.told disk.new).fuse (is_ok result) }
+    ensures cause { HasCause (D.told disk.old).faults (D.told disk.new).faults (is_disk result) }
 {
     let mut bytes = vec![in alloc; 0; len as usize]?;
     disk.read(at, &mut bytes)?;

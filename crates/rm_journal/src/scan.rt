@@ -7,13 +7,11 @@ ghost use Rattle.rm_journal.specs.Scan.{IsFound};
 ghost use Rattle.rm_journal.specs.declared.error.JournalError.TheVariants.{Memory as WantsMemory, NotAJournal};
 
 use crate::JournalError;
+use rm_base::limits::ENTRY_BYTES;
 use std::alloc::Global;
 
 /// What a journal begins with.
 pub const HEAD: &[u8; 8] = b"WSRMJNL1";
-
-/// The greatest length of an entry.
-pub const LONGEST: usize = 4194304;
 
 /// What stands at a gate: it is closed, or an entry of this length follows, or neither.
 #[derive(Clone, Copy, Debug, PartialEq, Eq)]
@@ -52,7 +50,7 @@ pub fn look(rest: &[u8]) -> Found
         return Found::Bad;
     }
     let len = number(&rest[1..5]) as usize;
-    if len > LONGEST {
+    if len > ENTRY_BYTES {
         return Found::Bad;
     }
     if len > rest.len() - 5 {

@@ -1,29 +1,30 @@
 -- What a call does to a node: it sleeps, or it changes nothing, or the records of its answer are written.
-use Rattle.std.proofs.Common.{◌≡◌, inl, inr, ℕ, Bool, true, false, List, ◌++◌, refl, sym, ap, subst, ◌∙◌}
-use Rattle.std.specs.Prelude.{is_ok, IfErr, IfOk, MatchBool, OnOk, Result, Ok, Err}
+use Rattle.std.proofs.Common.{◌≡◌, inl, inr, ℕ, Bool, true, false, List, ◌++◌, Option, refl, sym, subst, arith}
+use Rattle.std.specs.Prelude.{MatchBool, Err}
 use Rattle.std.specs.List.{AllByRecursion}
 use Rattle.batch_size.specs.Room.{HasRoom}
 use Rattle.batch_size.specs.Typed.{IsTyped}
-use Rattle.rm_protocol.specs.batches.Fact.{Fact}
+use Rattle.record_batch.specs.Fact.{Fact}
 use Rattle.rm_disk.specs.Call.{Call}
 use Rattle.rm_disk.specs.ImageLemmas.{only_from}
 use Rattle.rm_journal.specs.JournalState.{end_of}
-use Rattle.rm_protocol.specs.Calls.{Answer, Done, Outcome}
-use Rattle.node_rules.specs.Keeps.{LeavesANode}
-use Rattle.node_rules.specs.Records.{IsKept}
-use Rattle.node_store.specs.Changes.{Changes, Told}
+use Rattle.sequence_table.specs.Words.{Text}
+use Rattle.rm_protocol.specs.Calls.{Answer, Outcome}
+use Rattle.node_laws.specs.Keeps.{LeavesANode}
+use Rattle.node_laws.specs.Records.{IsKept}
+use Rattle.rm_disk.specs.Cause.{HasCause}
+use Rattle.rm_disk.specs.Told.{Told}
+use Rattle.node_store.specs.Changes.{Changes}
 use Rattle.node_store.specs.Has.{AreOfNode, Has, IsLeftBy}
 use Rattle.node_store.specs.Stored.{Stored, with_batch}
 use Rattle.call_answers.specs.Answers.{MayBeStored}
 use Rattle.rm_node.specs.Called.{Called, Does, EndsBy, Sleeps, StaysANode, Wrote}
-use Rattle.rm_node.specs.Ends.{Ended, Handed, Wanted, WasDown, error_end, is_disk, is_refused}
-use Rattle.rm_node.specs.Ends.{outs_end}
+use Rattle.rm_node.specs.Ends.{Ended, Handed, Wanted, WasDown, error_end, is_disk}
 use Rattle.rm_node.specs.Noded.{Noded}
-use Rattle.rm_node.specs.Packets.{packets_of}
+use Rattle.rm_node.specs.Packets.{outs_of, reply_of}
 use Rattle.rm_node.specs.declared.error.NodeError.{NodeError}
 use Rattle.rm_node.specs.declared.error.NodeError.TheVariants as error
 use Rattle.rm_node.specs.declared.packets.Out.{Out}
-use Rattle.rm_node.proofs.ComesLemmas.{IsDone}
 
 -- ---- nothing happened
 
@@ -37,13 +38,18 @@ still_changes first s delta = record {
   crashes = refl;
 }
 
+-- no fault, no failure
+pub unfaulted : (n : ℕ) → HasCause n n false
+unfaulted n = record { later = omega arith; cause = refl }
+
 -- a call that changes nothing, whatever its answer
-pub still : (tells : Bool) (first : Told) (old : Noded) (delta : List Fact)
-    → Wrote tells first first old old delta false false
-still tells first old delta = record {
-  granted = refl;
+pub still : (tells : Bool) (first : Told) (old : Noded) (answer : Answer)
+    → Wrote tells first first old old answer false false
+still tells first old answer = record {
+  kept = refl;
   stored = refl;
-  changes = λ t. still_changes first old.stored delta;
+  changes = λ t. still_changes first old.stored answer.delta;
+  cause = unfaulted first.faults;
 }
 
 -- ---- one batch more
@@ -84,7 +90,7 @@ wanting : (tells connected : Bool) (first : Told) (old : Noded) (answer : Answer
     → Called tells connected first first old old answer Wanted
 wanting tells connected first old answer = record {
   ends = tt;
-  wrote = still tells first old answer.delta;
+  wrote = still tells first old answer;
   next = λ t h. elim h [ inl e ↦ absurd cc | inr e ↦ absurd cc ];
 }
 
@@ -96,11 +102,6 @@ wants tells connected first old answer ended up e =
     does tells connected first first old old answer ended up
     (subst (λ (x : Ended). Called tells connected first first old old answer x) (sym e)
     (wanting tells connected first old answer))
-
--- the answer that the code works out is the protocol's
-pub comes : (f : List Fact → ℕ → Answer) (r s : List Fact) (p q : ℕ) (a : Answer) → a ≡ f r p → r ≡ s → p ≡ q
-    → a ≡ f s q
-comes f r s p q a e same place = e ∙ ap (λ (x : List Fact). f x p) same ∙ ap (f s) place
 
 -- the records of an answer leave a node
 abbrev pub Leaves : Noded → Answer → Type 0
@@ -118,16 +119,16 @@ by-answer tells connected first now old new a answer ended up same leaves stays 
 
 -- all went well
 pub goes-well : (tells connected : Bool) (first now : Told) (old new : Noded) (a answer : Answer) (outcome : Outcome)
-    (outs : List Out) → old.stored.journal.is_down ≡ false → a ≡ answer → Leaves old answer
-    → (Leaves old a → StaysANode first old a) → Wrote tells first now old new a.delta true false
-    → outcome ≡ a.outcome → outs ≡ packets_of connected a.outs
-    → Does tells connected first now old new answer (Handed outcome outs)
-goes-well tells connected first now old new a answer outcome outs up same leaves stays wrote comes is =
-    by-answer tells connected first now old new a answer (Handed outcome outs) up same leaves stays
-    (λ node. record { ends = (comes, is); wrote = wrote; next = λ t h. node })
+    (reply : Option Text) (outs : List Out) → old.stored.journal.is_down ≡ false → a ≡ answer → Leaves old answer
+    → (Leaves old a → StaysANode first old a) → Wrote tells first now old new a true false → outcome ≡ a.outcome
+    → reply ≡ reply_of connected a.outs → outs ≡ outs_of a.outs
+    → Does tells connected first now old new answer (Handed outcome reply outs)
+goes-well tells connected first now old new a answer outcome reply outs up same leaves stays wrote comes back out =
+    by-answer tells connected first now old new a answer (Handed outcome reply outs) up same leaves stays
+    (λ node. record { ends = (comes, back, out); wrote = wrote; next = λ t h. node })
 
 fails-by : (tells connected : Bool) (first now : Told) (old new : Noded) (a : Answer) (e : NodeError)
-    → EndsBy false a (error_end e) → Wrote tells first now old new a.delta false (is_disk {T = List Out} (Err e))
+    → EndsBy false a (error_end e) → Wrote tells first now old new a false (is_disk {T = Unit {0}} (Err e))
     → StaysANode first old a → Called tells connected first now old new a (error_end e)
 fails-by tells connected first now old new a error.Memory ends wrote node =
     record { ends = ends; wrote = wrote; next = λ t h. node }
@@ -141,24 +142,9 @@ fails-by tells connected first now old new a (error.Refused cause) ends wrote no
 pub fails : (tells connected : Bool) (first now : Told) (old new : Noded) (a answer : Answer) (e : NodeError)
     (ended : Ended) → ended ≡ error_end e → old.stored.journal.is_down ≡ false → a ≡ answer → Leaves old answer
     → (Leaves old a → StaysANode first old a)
-    → Wrote tells first now old new a.delta false (is_disk {T = List Out} (Err e)) → EndsBy false a (error_end e)
+    → Wrote tells first now old new a false (is_disk {T = Unit {0}} (Err e)) → EndsBy false a (error_end e)
     → Does tells connected first now old new answer ended
 fails tells connected first now old new a answer e ended is up same leaves stays wrote ends =
     by-answer tells connected first now old new a answer ended up same leaves stays
     (λ node. subst (λ (x : Ended). Called tells connected first now old new a x) (sym is)
     (fails-by tells connected first now old new a e ends wrote node))
-
--- a call that no message brings
-pub carried : (tells : Bool) (first now : Told) (old new : Noded) (a answer : Answer)
-    (r : Result (List Out) NodeError) → old.stored.journal.is_down ≡ false → a ≡ answer → IsDone answer
-    → Leaves old answer → (Leaves old a → StaysANode first old a)
-    → Wrote tells first now old new a.delta (is_ok r) (is_disk r) → OnOk r (is_refused a.outcome ≡ false)
-    → IfOk r (λ (outs : List Out). outs ≡ packets_of false a.outs)
-    → IfErr r (λ (e : NodeError). EndsBy false a (error_end e))
-    → Does tells false first now old new answer (outs_end r)
-carried tells first now old new a answer (Ok outs) up same comes leaves stays wrote done is err =
-    let outcome = comes.done (subst (λ (x : Answer). is_refused x.outcome ≡ false) same done) in
-    goes-well tells false first now old new a answer Done outs up same leaves stays wrote
-    (sym (ap (λ (x : Answer). x.outcome) same ∙ outcome)) is
-carried tells first now old new a answer (Err e) up same comes leaves stays wrote done is err =
-    fails tells false first now old new a answer e (error_end e) refl up same leaves stays wrote err

@@ -1,32 +1,41 @@
 -- What a call does to a node and its disk: the step of the protocol.
-use Rattle.std.specs.Prelude.{◌≡◌, ◌≢◌, ◌⊎◌, Bool, true, List, [], IsTrue, MatchBool}
-use Rattle.rm_protocol.specs.batches.Fact.{Fact}
-use Rattle.node_store.specs.Changes.{Changes, Told}
-use Rattle.node_store.specs.Has.{AreOfNode, Has}
+use Rattle.std.specs.Prelude.{◌≡◌, ◌≢◌, ◌⊎◌, ℕ, Bool, true, false, List, [], IsTrue, MatchBool}
+use Rattle.rm_disk.specs.Call.{crashes_of}
+use Rattle.rm_disk.specs.Cause.{HasCause}
+use Rattle.rm_disk.specs.Told.{Told}
+use Rattle.rm_journal.specs.JournalState.{end_of}
+use Rattle.record_batch.specs.Fact.{Fact}
+use Rattle.node_store.specs.Changes.{Changes}
+use Rattle.node_store.specs.Has.{AreOfNode, Has, Holds}
 use Rattle.node_store.specs.Stored.{stored_after, with_batch}
+use Rattle.node_laws.specs.OwnTerms.{AreOwn}
 use Rattle.rm_protocol.specs.Calls.{Answer, Refused as RefusedWith}
+use Rattle.rm_protocol.specs.Terms.{Terms}
+use Rattle.rm_node.specs.Asked.{Asked, Asks, answer_to, is_connected}
 use Rattle.rm_node.specs.Ends.{Ended, Handed, Refused, Wanted, Broke, WasDown, is_handed, is_broken}
-use Rattle.rm_node.specs.Noded.{Noded}
-use Rattle.rm_node.specs.Packets.{packets_of}
+use Rattle.rm_node.specs.Noded.{Noded, kept_after}
+use Rattle.rm_node.specs.Packets.{outs_of, reply_of}
+use Rattle.rm_node.specs.declared.call.Call.{Call}
 
--- how a call with this answer may end. What is handed out is the text of what is said, and comes only where all went
--- well; a refusal is the answer's own; the disk fails only where there are records to be written; a node that is up
--- isn't down
+-- how a call with this answer may end. What is handed out is the text of what is said: the reply is the message for the
+-- connection, and no other packet is for that. It comes only where all went well; a refusal is the answer's own; the
+-- disk fails only where there are records to be written; a node that is up isn't down
 abbrev pub EndsBy : Bool → Answer → Ended → Type 0
-EndsBy connected answer (Handed outcome outs) =
-    (outcome ≡ answer.outcome) × (outs ≡ packets_of connected answer.outs)
+EndsBy connected answer (Handed outcome reply outs) =
+    (outcome ≡ answer.outcome) × (reply ≡ reply_of connected answer.outs) × (outs ≡ outs_of answer.outs)
 EndsBy connected answer (Refused cause) = answer.outcome ≡ RefusedWith cause
 EndsBy connected answer Wanted = Unit {0}
 EndsBy connected answer Broke = answer.delta ≢ []
 EndsBy connected answer WasDown = ⊥
 
--- Records are written in one batch: a crash at any moment of the call leaves the batches as they were or with this one.
--- Where all went well the disk and the node have the batch.
-pub record Wrote (tells : Bool) (first now : Told) (old new : Noded) (delta : List Fact) (ok failed : Bool)
+-- The records of an answer are written in one batch. Where all went well the disk and the node have the batch, and on a
+-- disk that tells a crash at any moment of the call leaves the batches as they were or with this one.
+pub record Wrote (tells : Bool) (first now : Told) (old new : Noded) (answer : Answer) (ok failed : Bool)
     : Type 0 where
-  pub granted : new.granted ≡ old.granted
-  pub stored : new.stored ≡ stored_after old.stored delta ok failed
-  pub changes : IsTrue tells → Changes first now old.stored new.stored delta ok failed
+  pub kept : new.kept ≡ kept_after old.kept answer ok
+  pub stored : new.stored ≡ stored_after old.stored answer.delta ok failed
+  pub changes : IsTrue tells → Changes first now old.stored new.stored answer.delta ok failed
+  pub cause : HasCause first.faults now.faults failed
 
 -- the batches with the answer's records are those of a node, where they were before
 abbrev pub StaysANode : Told → Noded → Answer → Type 0
@@ -38,7 +47,7 @@ StaysANode first old answer =
 pub record Called (tells connected : Bool) (first now : Told) (old new : Noded) (answer : Answer) (ended : Ended)
     : Type 0 where
   pub ends : EndsBy connected answer ended
-  pub wrote : Wrote tells first now old new answer.delta (is_handed ended) (is_broken ended)
+  pub wrote : Wrote tells first now old new answer (is_handed ended) (is_broken ended)
   pub next : IsTrue tells → (is_handed ended ≡ true) ⊎ (is_broken ended ≡ true) → StaysANode first old answer
 
 -- a node that is down does nothing
@@ -52,3 +61,23 @@ abbrev pub Does : (tells connected : Bool) → (first now : Told) → (old new :
 Does tells connected first now old new answer ended =
     MatchBool old.stored.journal.is_down (Sleeps first now old new ended)
     (Called tells connected first now old new answer ended)
+
+-- a node that is up has its batches, and so has its disk
+abbrev pub HasBatches : Bool → Told → Noded → Type 0
+HasBatches tells first old =
+    IsTrue tells → old.stored.journal.is_down ≡ false
+    → (batches : List (List Fact)) × Holds batches first.past old.stored
+
+-- what a node answers, at a moment
+abbrev pub answer_of : Terms → Noded → ℕ → Asked → Answer
+answer_of terms n now asked =
+    answer_to terms n.stored.records (end_of n.stored.journal) now n.kept asked
+
+-- a call at a moment is a step of the protocol. It fails by the disk only through a fault of the disk, and crashes
+-- nothing
+pub record Steps (tells : Bool) (first now : Told) (old new : Noded) (moment : ℕ) (call : Call) (ended : Ended)
+    : Type 0 where
+  pub does : (terms : Terms) → AreOwn terms → (asked : Asked) → Asks call asked
+      → Does tells (is_connected call) first now old new (answer_of terms old moment asked) ended
+  pub cause : HasCause first.faults now.faults (is_broken ended)
+  pub crashes : IsTrue tells → crashes_of now.past ≡ crashes_of first.past

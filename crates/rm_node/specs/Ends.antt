@@ -1,6 +1,7 @@
 -- How calls of a node end.
-use Rattle.std.specs.Prelude.{Bool, true, false, List, ◌++◌, Option, Some, None, Result, Ok, Err}
-use Rattle.rm_protocol.specs.message_types.declared.refusal.FaultKind.{FaultKind}
+use Rattle.std.specs.Prelude.{Bool, true, false, List, Option, Some, None, Result, Ok, Err}
+use Rattle.rm_message.specs.declared.refusal.FaultKind.{FaultKind}
+use Rattle.sequence_table.specs.Words.{Text}
 use Rattle.rm_protocol.specs.Calls.{Cause, Outcome, Done, Judged, Refused as RefusedWith}
 use Rattle.call_answers.specs.Answers.{cause_seen}
 use Rattle.rm_node.specs.declared.calls.Made.{Made}
@@ -8,12 +9,12 @@ use Rattle.rm_node.specs.declared.calls.Sent.{Sent}
 use Rattle.rm_node.specs.declared.error.NodeError.{NodeError}
 use Rattle.rm_node.specs.declared.error.NodeError.TheVariants as error
 use Rattle.rm_node.specs.declared.packets.Out.{Out}
-use Rattle.rm_node.specs.declared.receive.Reaction.{Reaction}
-use Rattle.rm_node.specs.Packets.{reply_packet}
+use Rattle.rm_node.specs.declared.step.Reaction.{Reaction}
 
--- it came out so, and this was handed out; it was refused; memory was wanting; the disk failed; the node was down
+-- it came out so, and this went back on the connection, and these packets out; it was refused; memory was wanting; the
+-- disk failed; the node was down
 pub data Ended : Type 0 where
-  Handed : (outcome : Outcome) → (outs : List Out) → Ended
+  Handed : (outcome : Outcome) → (reply : Option Text) → (outs : List Out) → Ended
   Refused : (cause : Cause) → Ended
   Wanted : Ended
   Broke : Ended
@@ -21,7 +22,7 @@ pub data Ended : Type 0 where
 
 -- all went well
 abbrev pub is_handed : Ended → Bool
-is_handed (Handed outcome outs) = true
+is_handed (Handed outcome reply outs) = true
 is_handed _ = false
 
 -- the disk failed
@@ -36,31 +37,30 @@ error_end error.Disk = Broke
 error_end error.Down = WasDown
 error_end (error.Refused cause) = Refused (cause_seen cause)
 
--- of what is handed out alone
-abbrev pub outs_end : Result (List Out) NodeError → Ended
-outs_end (Ok outs) = Handed Done outs
-outs_end (Err error) = error_end error
-
--- of a sequence that was asked for
-abbrev pub made_end : Result Made NodeError → Ended
-made_end (Ok made) = Handed Done made.outs
-made_end (Err error) = error_end error
-
--- of a payload that was accepted
-abbrev pub sent_end : Result Sent NodeError → Ended
-sent_end (Ok sent) = Handed Done sent.outs
-sent_end (Err error) = error_end error
-
 -- with a verdict or without
 abbrev pub verdict_outcome : Option FaultKind → Outcome
 verdict_outcome None = Done
 verdict_outcome (Some kind) = Judged kind
 
--- of a message that was received
+-- of a call
 abbrev pub reaction_end : Result Reaction NodeError → Ended
-reaction_end (Ok reaction) =
-    Handed (verdict_outcome reaction.verdict) (reply_packet reaction.reply ++ reaction.outs)
+reaction_end (Ok reaction) = Handed (verdict_outcome reaction.verdict) reaction.reply reaction.outs
 reaction_end (Err error) = error_end error
+
+-- of a sequence that was asked for
+abbrev pub made_end : Result Made NodeError → Ended
+made_end (Ok made) = Handed Done None made.outs
+made_end (Err error) = error_end error
+
+-- of a payload that was accepted
+abbrev pub sent_end : Result Sent NodeError → Ended
+sent_end (Ok sent) = Handed Done None sent.outs
+sent_end (Err error) = error_end error
+
+-- of what is handed out alone
+abbrev pub outs_end : Result (List Out) NodeError → Ended
+outs_end (Ok outs) = Handed Done None outs
+outs_end (Err error) = error_end error
 
 -- the call failed by the disk
 abbrev pub is_disk : {T : Type 0} → Result T NodeError → Bool

@@ -1,20 +1,27 @@
 //! One durable node: what it is asked for and what comes to it become records on its disk and packets that are handed
-//! out, and no crash takes back what it said. A call works out its answer (`node_calls`, `message_answers`), encodes
+//! out, and no crash takes back what it said. A call works out its answer (`node_calls`, `receive_answer`), encodes
 //! what it says, and appends the records in one batch (`node_store`); only then are the packets handed out. The layers
 //! above may use the contracts, which say each call as the step that `rm_protocol` defines.
 #![tactic(auto)]
 
 mod act;
+pub mod call;
 pub mod calls;
 pub mod error;
+pub mod kept;
+pub mod laws;
 pub mod node;
 pub mod packets;
-pub mod receive;
+mod receive;
+mod say;
+pub mod step;
 
+pub use call::Call;
 pub use call_answers::{Cause, Wish};
 pub use calls::{Made, Sent};
 pub use error::NodeError;
+pub use kept::Kept;
 pub use node::Node;
 pub use node_store::MountError;
 pub use packets::{Out, Outs};
-pub use receive::Reaction;
+pub use step::Reaction;

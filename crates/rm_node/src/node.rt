@@ -1,7 +1,6 @@
 //! A node: what it keeps, and what it tells.
 ghost use Rattle.std.specs.Prelude.{◌≡◌, ◌⊎◌, ◌<◌, ◌^◌, [], ◌∷◌, false, Err, length, IsTrue, IfOk, IfErr};
-ghost use Rattle.rm_protocol.specs.batches.Fact.{Made};
-ghost use Rattle.rm_base.specs.declared.message.Behaviour.TheVariants.{FollowingFirstGap as FirstGap};
+ghost use Rattle.record_batch.specs.Fact.{Made};
 ghost use Rattle.rm_disk.specs.Call.{crashes_of, seen_of};
 ghost use Rattle.rm_disk.specs.Cause.{HasCause};
 ghost use Rattle.rm_disk.specs.Image.{MayLeave, OnlyLeaves};
@@ -12,9 +11,10 @@ ghost use Rattle.node_store.specs.declared.error.MountError.TheVariants.{Memory 
 ghost use Rattle.node_store.specs.declared.error.MountError.TheVariants.{NotAJournal as IsNoJournal};
 ghost use Rattle.rm_node.specs.declared.error.NodeError.TheVariants.{Disk as DiskFails, Memory as WantsMemory};
 ghost use Rattle.rm_node.specs.Ends.{is_disk};
-ghost use Rattle.rm_node.specs.Noded.{first_noded};
+ghost use Rattle.rm_node.specs.Noded.{first_kept, first_noded, granting};
 
 use crate::error::NodeError;
+use crate::kept::Kept;
 use node_store::{MountError, Store, StoreError};
 use node_tables::Tables;
 use rm_base::{Behaviour, Uri};
@@ -22,13 +22,13 @@ use rm_disk::Disk;
 use std::alloc::Global;
 use std::marker::Model;
 
-/// A node on a disk: the journal and the tables of its records, and what it announces for the sequences that peers ask
-/// for from now on. The disk is passed to each call, and is always the same.
+/// A node on a disk: the journal and the tables of its records, and what it keeps besides. The disk is passed to each
+/// call, and is always the same.
 #[derive(Debug, Drop)]
 pub struct Node {
     pub(crate) alloc: Global,
     pub(crate) store: Store,
-    pub(crate) granted: Behaviour,
+    pub(crate) kept: Kept,
 }
 
 impl Model for Node {
@@ -40,7 +40,7 @@ impl Model for Node {
 
     ghost coded = { Prim.hlevel (codes, tree_code) };
 
-    ghost view = { λ n. record { stored = n.store; granted = n.granted } };
+    ghost view = { λ n. record { stored = n.store; kept = n.kept } };
 }
 
 impl Node {
@@ -56,17 +56,17 @@ impl Node {
         requires within { number < 2 ^ 60 }
         ensures made { IfOk result (λ node. node ≡ first_noded number address) }
         ensures has { IsTrue D.tells →
-            IfOk result (λ node. Has ((Made number address ∷ []) ∷ []) (D.past disk.new) node.stored) }
-        ensures unarmed { IsTrue D.tells → KeepsUnarmed (D.fuse disk.old) (D.fuse disk.new) (is_disk result) }
+            IfOk result (λ node. Has ((Made number address ∷ []) ∷ []) (D.told disk.new).past node.stored) }
+        ensures unarmed { IsTrue D.tells → KeepsUnarmed (D.told disk.old).fuse (D.told disk.new).fuse (is_disk result) }
         ensures refusals { IfErr result (λ error. (error ≡ WantsMemory) ⊎ (error ≡ DiskFails)) }
-        ensures cause { HasCause (D.faults disk.old) (D.faults disk.new) (is_disk result) }
-        ensures crashes { IsTrue D.tells → crashes_of (D.past disk.new) ≡ crashes_of (D.past disk.old) }
+        ensures cause { HasCause (D.told disk.old).faults (D.told disk.new).faults (is_disk result) }
+        ensures crashes { IsTrue D.tells → crashes_of (D.told disk.new).past ≡ crashes_of (D.told disk.old).past }
     {
         match Store::make(alloc, disk, number, address) {
             Ok(store) => Ok(Node {
                 alloc,
                 store,
-                granted: Behaviour::FollowingFirstGap,
+                kept: Kept::first(),
             }),
             Err(StoreError::Memory) => Err(NodeError::Memory),
             Err(StoreError::Disk) => Err(NodeError::Disk),
@@ -74,30 +74,32 @@ impl Node {
     }
 
     /// Finds the node that a disk holds. It answers NotAJournal exactly where the disk, as it reads, holds no batches
-    /// of a node. What the node announced is not on the disk.
+    /// of a node. What the node kept besides is not on the disk.
     pub fn mount<D: Disk>(alloc: Global, disk: &mut D) -> Result<Node, MountError>
         ensures found { IsTrue D.tells →
-            IfOk result (λ node. Finds (D.past disk.old) (D.past disk.new) node.stored) }
-        ensures none { IsTrue D.tells → result ≡ Err IsNoJournal → IsNoNode (seen_of (D.past disk.old)) }
+            IfOk result (λ node. Finds (D.told disk.old).past (D.told disk.new).past node.stored) }
+        ensures none { IsTrue D.tells → result ≡ Err IsNoJournal → IsNoNode (seen_of (D.told disk.old).past) }
         ensures up { IfOk result (λ node. node.stored.journal.is_down ≡ false) }
-        ensures granted { IfOk result (λ node. node.granted ≡ FirstGap) }
+        ensures kept { IfOk result (λ node. node.kept ≡ first_kept) }
         ensures refusals { IfErr result (λ error.
             (error ≡ NoMemory) ⊎ (error ≡ DiskBroke) ⊎ (error ≡ IsNoJournal)) }
 
-        // What is read stays, and a crash at any moment of the call leaves no more than one before it.
-        ensures seen { IsTrue D.tells → seen_of (D.past disk.new) ≡ seen_of (D.past disk.old) }
+        // On a disk that tells, what is read stays, and a crash at any moment of the call leaves no more than one
+        // before it.
+        ensures seen { IsTrue D.tells → seen_of (D.told disk.new).past ≡ seen_of (D.told disk.old).past }
         ensures moments { IsTrue D.tells →
-            OnlyLeaves (D.past disk.old) (D.past disk.new) (MayLeave (D.past disk.old)) }
+            OnlyLeaves (D.told disk.old).past (D.told disk.new).past (MayLeave (D.told disk.old).past) }
 
-        ensures unarmed { IsTrue D.tells → KeepsUnarmed (D.fuse disk.old) (D.fuse disk.new) (has_failed result) }
-        ensures cause { HasCause (D.faults disk.old) (D.faults disk.new) (has_failed result) }
-        ensures crashes { IsTrue D.tells → crashes_of (D.past disk.new) ≡ crashes_of (D.past disk.old) }
+        ensures unarmed { IsTrue D.tells →
+            KeepsUnarmed (D.told disk.old).fuse (D.told disk.new).fuse (has_failed result) }
+        ensures cause { HasCause (D.told disk.old).faults (D.told disk.new).faults (has_failed result) }
+        ensures crashes { IsTrue D.tells → crashes_of (D.told disk.new).past ≡ crashes_of (D.told disk.old).past }
     {
         match Store::mount(alloc, disk) {
             Ok(store) => Ok(Node {
                 alloc,
                 store,
-                granted: Behaviour::FollowingFirstGap,
+                kept: Kept::first(),
             }),
             Err(error) => Err(error),
         }
@@ -105,16 +107,16 @@ impl Node {
 
     /// What the node announces for the sequences that it grants.
     pub fn granted(&self) -> Behaviour
-        ensures { result ≡ self.now.granted }
+        ensures { result ≡ self.now.kept.granted }
     {
-        self.granted
+        self.kept.granted
     }
 
     /// From now on the node announces this for the sequences that it grants.
     pub fn set_grant(&mut self, behaviour: Behaviour)
-        ensures { self.new ≡ record self.old { granted = behaviour } }
+        ensures { self.new ≡ granting self.old behaviour }
     {
-        self.granted = behaviour;
+        self.kept.granted = behaviour;
     }
 
     /// How many entries the journal has.

@@ -1,14 +1,15 @@
 //! What leaves a node.
-ghost use Rattle.std.specs.Prelude.{◌≡◌, ◌++◌, ◌∷◌, [], false, true, None, IfOk, OnOk};
+ghost use Rattle.std.specs.Prelude.{◌≡◌, false, IfOk};
 ghost use Rattle.rm_protocol.specs.Addresses.{place_of as place_for};
-ghost use Rattle.rm_protocol.specs.Said.{leaves as leaves_of};
-ghost use Rattle.rm_node.specs.Packets.{handed_packets, packet_of, packets_of};
+ghost use Rattle.rm_protocol.specs.Said.{leaves};
+ghost use Rattle.rm_node.specs.Packets.{back_text, outs_of, packet_of, reply_of};
 
-use node_messages::{Place, copy_uri, is_anonymous, place_of};
+use message_writer::encode;
+use node_messages::{Place, is_anonymous, place_of};
 use rm_base::{Blob, Items, Memory, Uri};
-use rm_protocol::message_types::Message;
-use rm_wire::encode;
+use rm_message::Message;
 use std::alloc::Global;
+use wsa_headers::copy_uri;
 
 /// The text of a message, and the address that it goes to.
 #[derive(Debug, Drop)]
@@ -19,20 +20,20 @@ pub struct Out {
 
 pub type Outs = Items<Out>;
 
-/// What leaves a node where there is a connection: the reply on it, and the other packets.
+/// What leaves a node: the reply on the connection, where there is one, and the other packets.
 #[derive(Debug, Drop)]
 pub(crate) struct Handed {
     pub(crate) reply: Option<Blob>,
     pub(crate) outs: Outs,
 }
 
-/// Whether a message for an address leaves the node: one for the other end of the connection does where there is one.
-fn leaves(address: &[u8], connected: bool) -> bool
-    ensures { result ≡ leaves_of connected (place_for address.now) }
+/// Whether a message for an address goes out, and not back on a connection.
+fn goes_out(address: &[u8]) -> bool
+    ensures { result ≡ leaves false (place_for address.now) }
 {
     match place_of(address) {
-        Place::BackOn => connected,
         Place::Out => true,
+        Place::BackOn => false,
         Place::Nowhere => false,
         Place::Waits => false,
     }
@@ -48,52 +49,48 @@ fn packet(alloc: Global, message: &Message) -> Result<Out, Memory>
     })
 }
 
-/// The packets of what is said, where there is no connection.
-pub(crate) fn packets(alloc: Global, said: &[Message]) -> Result<Outs, Memory>
-    ensures { IfOk result (λ outs. outs ≡ packets_of false said.now) }
+/// The packets of what is said but for the reply.
+fn packets(alloc: Global, said: &[Message]) -> Result<Outs, Memory>
+    ensures { IfOk result (λ outs. outs ≡ outs_of said.now) }
 {
     let mut outs = Outs::new(alloc);
     for message in said {
-        if leaves(message.addressing.to.as_slice(), false) {
+        if goes_out(message.addressing.to.as_slice()) {
             outs.push(packet(alloc, message)?)?;
         }
     }
     Ok(outs)
 }
 
-impl Handed {
-    /// One packet more. The reply comes first.
-    fn put(&mut self, out: Out) -> Result<(), Memory>
-        ensures { OnOk result (handed_packets self.new ≡ handed_packets self.old ++ out ∷ []) }
-    {
-        if self.is_empty() && is_anonymous(out.address.as_slice()) {
-            let Out { bytes, .. } = out;
-            self.reply = Some(bytes);
-            return Ok(());
+/// The text of the message for whoever is at the other end of the connection.
+fn back(alloc: Global, said: &[Message]) -> Result<Option<Blob>, Memory>
+    ensures { IfOk result (λ text. text ≡ back_text said.now) }
+{
+    for message in said {
+        if is_anonymous(message.addressing.to.as_slice()) {
+            return Ok(Some(encode(alloc, message)?));
         }
-        self.outs.push(out)
     }
-
-    /// Whether nothing is handed out yet.
-    fn is_empty(&self) -> bool
-        ensures { result ≡ true → (self.now.reply ≡ None) × (self.now.outs ≡ []) }
-    {
-        self.reply.is_none() && self.outs.is_empty()
-    }
+    Ok(None)
 }
 
-/// The packets of what is said, where there is a connection.
-pub(crate) fn hand_out(alloc: Global, said: &[Message]) -> Result<Handed, Memory>
-    ensures { IfOk result (λ h. handed_packets h ≡ packets_of true said.now) }
+/// The reply. Only where there is a connection there is one.
+fn reply(alloc: Global, connected: bool, said: &[Message]) -> Result<Option<Blob>, Memory>
+    ensures { IfOk result (λ text. text ≡ reply_of connected said.now) }
 {
-    let mut handed = Handed {
-        reply: None,
-        outs: Outs::new(alloc),
-    };
-    for message in said {
-        if leaves(message.addressing.to.as_slice(), true) {
-            handed.put(packet(alloc, message)?)?;
-        }
+    if connected {
+        return back(alloc, said);
     }
-    Ok(handed)
+    Ok(None)
+}
+
+/// What leaves the node of what is said.
+pub(crate) fn hand_out(alloc: Global, connected: bool, said: &[Message]) -> Result<Handed, Memory>
+    ensures reply { IfOk result (λ h. h.reply ≡ reply_of connected said.now) }
+    ensures outs { IfOk result (λ h. h.outs ≡ outs_of said.now) }
+{
+    Ok(Handed {
+        reply: reply(alloc, connected, said)?,
+        outs: packets(alloc, said)?,
+    })
 }

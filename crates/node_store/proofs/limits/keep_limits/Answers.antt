@@ -1,6 +1,6 @@
 use Rattle.std.proofs.Common.{arith}
-use Rattle.rm_protocol.specs.batches.Fact.{fact_of}
-use Rattle.rm_protocol.specs.batches.Writable.{IsWritable}
+use Rattle.record_batch.specs.Fact.{fact_of}
+use Rattle.record_batch.specs.Writable.{IsWritable}
 use Rattle.node_store.proofs.LimitLemmas.{each-at}
 use Rattle.node_store.proofs.limits.keep_limits.Goals as goal
 

@@ -1,5 +1,5 @@
-use Rattle.rm_protocol.specs.batches.Fact.{fact_of}
-use Rattle.node_rules.specs.Records.{KeepsLimits}
+use Rattle.record_batch.specs.Fact.{fact_of}
+use Rattle.node_laws.specs.Records.{KeepsLimits}
 use Rattle.node_store.proofs.LimitLemmas.{LeftDecide}
 use Rattle.node_store.proofs.limits.keep_limits.Given as goal
 

@@ -1,8 +1,8 @@
 use Rattle.std.proofs.Common.{Bool, subst, sym}
 use Rattle.std.specs.Prelude.{◌↔◌, IfOk, IsTrue}
-use Rattle.rm_protocol.specs.batches.Fact.{fact_of}
-use Rattle.rm_protocol.specs.batches.declared.record.Record.{Record}
-use Rattle.node_rules.specs.Records.{KeepsLimits}
+use Rattle.record_batch.specs.Fact.{fact_of}
+use Rattle.record_batch.specs.declared.record.Record.{Record}
+use Rattle.node_laws.specs.Records.{KeepsLimits}
 use Rattle.node_store.proofs.limits.keeps_limits.Goals as goal
 
 pub returns-in-Accepted : goal.returns-in-Accepted

@@ -3,9 +3,10 @@ use Rattle.std.proofs.lemmas.Bool.{false≢true}
 use Rattle.std.proofs.lemmas.Result.{err_from_is_err_and}
 use Rattle.rm_disk.specs.Call.{seen_of}
 use Rattle.rm_journal.specs.Journal.{Fits}
+use Rattle.rm_journal.specs.JournalState.{end_of}
 use Rattle.node_store.specs.Has.{entries_of}
 use Rattle.node_store.specs.declared.error.MountError.{MountError}
-use Rattle.node_store.proofs.MountLemmas.{found, replayed_of, same_records, serving_of, short_of, windows_of}
+use Rattle.node_store.proofs.MountLemmas.{found, replayed_of, same_records, serving_of, windows_of}
 use Rattle.node_store.proofs.ReplayLemmas.{err_is}
 use Rattle.node_store.proofs.mount.find.Goals as goal
 
@@ -16,17 +17,14 @@ returns-in_err-journal-clause-none g c tells e batches node stands =
     ∙ ap (λ (x : MountError). Err x) (sym p.2 ∙ err_is p.0 _ c.from_residual.result p.1 e) in
     c.open.ensures.none tells none (entries_of batches) stands
 
-pub returns-then-end-ge-MOST_BYTES-clause-none : goal.returns-then-end-ge-MOST_BYTES-clause-none
-returns-then-end-ge-MOST_BYTES-clause-none g c tells e batches node stands =
-    let on = c.in_ok-journal.ensures.fits tells in
-    let are = replayed_of batches on.0 (seen_of (g.D.Disk.past c.args.disk.now)) node stands on.1 in
-    let short = short_of batches on.0 (g.D.Disk.past c.open.new.disk) c.in_ok-journal.journal node are on.2 in
-    absurd (omega (arith, short, c.end.ensures, c.if-end-ge-MOST_BYTES.true))
+pub may_serve-requires : goal.may_serve-requires
+may_serve-requires g c =
+    omega (arith, ap end_of c.in_ok-tables.ensures.journal, c.end.ensures, c.if-end-ge-TOO_MANY_BYTES.false)
 
 pub returns-in_err-tables-clause-none : goal.returns-in_err-tables-clause-none
 returns-in_err-tables-clause-none g c tells e batches node stands =
     let on = c.in_ok-journal.ensures.fits tells in
-    let are = replayed_of batches on.0 (seen_of (g.D.Disk.past c.args.disk.now)) node stands on.1 in
+    let are = replayed_of batches on.0 (seen_of (g.D.Disk.told c.args.disk.now).past) node stands on.1 in
     let p = err_from_is_err_and c.from_residual-in_err-tables.result c.from_residual-in_err-tables.ensures.1 in
     let none = c.in_err-tables.was
     ∙ ap (λ (x : MountError). Err x) (sym p.2 ∙ err_is p.0 _ c.from_residual-in_err-tables.result p.1 e) in
@@ -35,20 +33,21 @@ returns-in_err-tables-clause-none g c tells e batches node stands =
 pub returns-then-not-may_serve-clause-none : goal.returns-then-not-may_serve-clause-none
 returns-then-not-may_serve-clause-none g c tells e batches node stands =
     let on = c.in_ok-journal.ensures.fits tells in
-    let are = replayed_of batches on.0 (seen_of (g.D.Disk.past c.args.disk.now)) node stands on.1 in
+    let are = replayed_of batches on.0 (seen_of (g.D.Disk.told c.args.disk.now).past) node stands on.1 in
     let replays = c.in_ok-tables.ensures.found tells on.0 on.2 in
     let same = same_records c.what_is_written_is_read.ensures.read batches on.0 c.in_ok-tables.tables.records are
     replays in
-    let fits : Fits on.0 (g.D.Disk.past c.open.new.disk) c.replay.new.journal =
-    subst (Fits on.0 (g.D.Disk.past c.open.new.disk)) (sym c.in_ok-tables.ensures.journal) on.2 in
-    let serving = serving_of c.a_byte_for_each_number.ensures batches on.0 (g.D.Disk.past c.open.new.disk)
-    c.replay.new.journal c.in_ok-tables.tables.records node are fits same in
+    let fits : Fits on.0 (g.D.Disk.told c.open.new.disk).past c.replay.new.journal =
+    subst (Fits on.0 (g.D.Disk.told c.open.new.disk).past) (sym c.in_ok-tables.ensures.journal) on.2 in
+    let serving = serving_of c.a_byte_for_each_number.ensures batches on.0 (g.D.Disk.told c.open.new.disk).past
+    c.replay.new.journal c.in_ok-tables.tables.records node are fits same
+    (omega (arith, ap end_of c.in_ok-tables.ensures.journal, c.end.ensures, c.if-end-ge-TOO_MANY_BYTES.false)) in
     absurd (false≢true (sym c.if-not-may_serve.true ∙ c.may_serve.ensures.1 serving))
 
 pub returns-then-not-keep_windows-clause-none : goal.returns-then-not-keep_windows-clause-none
 returns-then-not-keep_windows-clause-none g c tells e batches node stands =
     let on = c.in_ok-journal.ensures.fits tells in
-    let are = replayed_of batches on.0 (seen_of (g.D.Disk.past c.args.disk.now)) node stands on.1 in
+    let are = replayed_of batches on.0 (seen_of (g.D.Disk.told c.args.disk.now).past) node stands on.1 in
     let replays = c.in_ok-tables.ensures.found tells on.0 on.2 in
     let same = same_records c.what_is_written_is_read.ensures.read batches on.0 c.in_ok-tables.tables.records are
     replays in
@@ -59,8 +58,8 @@ pub returns-clause-found : goal.returns-clause-found
 returns-clause-found g c tells =
     let on = c.in_ok-journal.ensures.fits tells in
     let replays = c.in_ok-tables.ensures.found tells on.0 on.2 in
-    let fits : Fits on.0 (g.D.Disk.past c.replay.new.disk) c.replay.new.journal =
+    let fits : Fits on.0 (g.D.Disk.told c.replay.new.disk).past c.replay.new.journal =
     rw (c.in_ok-tables.ensures.past tells, c.in_ok-tables.ensures.journal) on.2 in
-    found c.batches_have_values.ensures (g.D.Disk.past c.args.disk.now) (g.D.Disk.past c.replay.new.disk) on.0
+    found c.batches_have_values.ensures (g.D.Disk.told c.args.disk.now).past (g.D.Disk.told c.replay.new.disk).past on.0
     c.replay.new.journal c.in_ok-tables.tables.records on.1 fits replays
     (c.may_serve.ensures.0 c.if-not-may_serve.false) (c.keep_windows.ensures.0 c.if-not-keep_windows.false)

@@ -1,5 +1,5 @@
 use Rattle.std.proofs.Common.{map}
-use Rattle.rm_protocol.specs.batches.Fact.{fact_of}
+use Rattle.record_batch.specs.Fact.{fact_of}
 use Rattle.node_store.proofs.ReplayLemmas.{stopped_misfit}
 use Rattle.node_store.proofs.replay.add_batch.Goals as goal
 

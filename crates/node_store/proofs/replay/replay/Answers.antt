@@ -13,7 +13,7 @@ returns-in_err-add_entry-clause-none g c tells e entries fits batches replayed =
     let inv = c.loop-before.invariant in
     let i = c.loop-before.before in
     let r = c.loop-before.tables.records in
-    let here : Fits entries (g.D.Disk.past c.loop-before.disk) c.loop-before.journal =
+    let here : Fits entries (g.D.Disk.told c.loop-before.disk).past c.loop-before.journal =
     rw (inv.past tells, inv.journal) fits in
     let p = err_from_is_err_and c.from_residual.result c.from_residual.ensures.1 in
     let none = c.in_err-add_entry.was
@@ -32,7 +32,7 @@ loop-before-preserved g c =
     let back : i + 1 - 1 ≡ i = omega arith in
     record {
       replayed = λ tells entries fits.
-          let here : Fits entries (g.D.Disk.past c.loop-before.disk) c.loop-before.journal =
+          let here : Fits entries (g.D.Disk.told c.loop-before.disk).past c.loop-before.journal =
           rw (inv.past tells, inv.journal) fits in
           replays-more entries i c.loop-before.tables.records c.add_entry.new.tables.records
           (inv.replayed tells entries fits)

@@ -8,9 +8,9 @@ use Rattle.node_store.proofs.replay.replay.Given as goal
 abbrev pub invariant-loop-before : goal.invariant-loop-before
 invariant-loop-before g l = record {
   replayed : IsTrue g.D.Disk.tells → (entries : List (List ℕ)) →
-      Fits entries (g.D.Disk.past l.fn.disk) l.fn.journal → Replays (take l.before entries) l.tables.records;
+      Fits entries (g.D.Disk.told l.fn.disk).past l.fn.journal → Replays (take l.before entries) l.tables.records;
   journal : l.journal ≡ l.fn.journal;
-  past : IsTrue g.D.Disk.tells → g.D.Disk.past l.disk ≡ g.D.Disk.past l.fn.disk;
-  faults : g.D.Disk.faults l.disk ≡ g.D.Disk.faults l.fn.disk;
-  fuse : IsTrue g.D.Disk.tells → g.D.Disk.fuse l.fn.disk ≡ None → g.D.Disk.fuse l.disk ≡ None;
+  past : IsTrue g.D.Disk.tells → (g.D.Disk.told l.disk).past ≡ (g.D.Disk.told l.fn.disk).past;
+  faults : (g.D.Disk.told l.disk).faults ≡ (g.D.Disk.told l.fn.disk).faults;
+  fuse : IsTrue g.D.Disk.tells → (g.D.Disk.told l.fn.disk).fuse ≡ None → (g.D.Disk.told l.disk).fuse ≡ None;
 }

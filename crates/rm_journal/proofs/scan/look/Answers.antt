@@ -2,8 +2,8 @@ use Rattle.std.proofs.Common.{◌∙◌, length, arith}
 use Rattle.rm_journal.proofs.Walk.{entry_needed, length_read, has_block}
 use Rattle.rm_journal.proofs.scan.look.Goals as goal
 
-pub returns-then-len-gt-LONGEST : goal.returns-then-len-gt-LONGEST
-returns-then-len-gt-LONGEST c entries ends =
+pub returns-then-len-gt-ENTRY_BYTES : goal.returns-then-len-gt-ENTRY_BYTES
+returns-then-len-gt-ENTRY_BYTES c entries ends =
     let needed = entry_needed entries c.args.rest.now (c.is_open.ensures.0 c.if-not-is_open.false) ends in
     let same = length_read c.number-len.result (length needed.0) c.number-len.type_inv needed.1 (c.number-len.ensures
     ∙ needed.3) in

@@ -2,7 +2,6 @@ use Rattle.std.proofs.Common.{◌≡◌, ◌∙◌, sym, ap, subst, inl, inr}
 use Rattle.rm_disk.specs.Call.{crashes_of, left_by, state}
 use Rattle.std.proofs.lemmas.Result.{err_from_is_err_and}
 use Rattle.rm_base.specs.declared.message.Behaviour.{Behaviour}
-use Rattle.node_store.specs.Changes.{told}
 use Rattle.rm_node.specs.Noded.{Noded}
 use Rattle.node_actor.specs.Actored.{Actored}
 use Rattle.node_actor.specs.Stands.{Crashed, Stands}
@@ -13,32 +12,32 @@ use Rattle.node_actor.proofs.actor.Actor.crash.Goals as goal
 pub returns-in_err-crash-clause-err : goal.returns-in_err-crash-clause-err
 returns-in_err-crash-clause-err g c x s =
     let p = err_from_is_err_and c.from_residual.result c.from_residual.ensures.1 in
-    rw p.1 (leaves_still x (told (g.D.Disk.past c.args.disk.now) (g.D.Disk.fuse c.args.disk.now)) c.args.self.now
-    (g.D.Disk.past c.crash.new.self) s c.in_err-crash.ensures.past)
+    rw p.1 (leaves_still x (g.D.Disk.told c.args.disk.now) c.args.self.now
+    (g.D.Disk.told c.crash.new.self).past s c.in_err-crash.ensures.past)
 
 pub mount-requires-clause-node : goal.mount-requires-clause-node
 mount-requires-clause-node g c =
     let there = c.requires.there in
-    node_there there.0 (told (g.D.Disk.past c.args.disk.now) (g.D.Disk.fuse c.args.disk.now)) c.args.self.now
-    c.args.choice (g.D.Disk.past c.crash.new.self) there.1 c.in_ok-crash.ensures.past
+    node_there there.0 (g.D.Disk.told c.args.disk.now) c.args.self.now
+    c.args.choice (g.D.Disk.told c.crash.new.self).past there.1 c.in_ok-crash.ensures.past
 
 pub returns-in_err-node-clause-err : goal.returns-in_err-node-clause-err
 returns-in_err-node-clause-err g c x s =
     let p = err_from_is_err_and c.from_residual-in_err-node.result c.from_residual-in_err-node.ensures.1 in
-    rw p.1 (leaves_crashed x (told (g.D.Disk.past c.args.disk.now) (g.D.Disk.fuse c.args.disk.now)) c.args.self.now
-    c.args.choice (g.D.Disk.past c.crash.new.self) (g.D.Disk.past c.mount.new.disk) s c.in_ok-crash.ensures.past
-    c.in_err-node.ensures.moments)
+    rw p.1 (leaves_crashed x (g.D.Disk.told c.args.disk.now) c.args.self.now
+    c.args.choice (g.D.Disk.told c.crash.new.self).past (g.D.Disk.told c.mount.new.disk).past s
+    c.in_ok-crash.ensures.past c.in_err-node.ensures.moments)
 
 pub returns-clause-ok : goal.returns-clause-ok
 returns-clause-ok g c x s =
-    let first = told (g.D.Disk.past c.args.disk.now) (g.D.Disk.fuse c.args.disk.now) in
-    let now = told (g.D.Disk.past c.mount.new.disk) (g.D.Disk.fuse c.mount.new.disk) in
+    let first = g.D.Disk.told c.args.disk.now in
+    let now = g.D.Disk.told c.mount.new.disk in
     let stored = c.in_ok-node.node.stored in
-    let granted : c.set_grant.new.self ≡ noded stored c.self.inside.node.granted =
+    let granted : c.set_grant.new.self ≡ noded stored c.self.inside.node.kept.granted =
     c.set_grant.ensures ∙ ap (λ (b : Behaviour). noded stored b) c.granted-granted.ensures in
     subst (λ (n : Noded). Crashed x c.args.choice first now (actored n c.self.inside.clock)) (sym granted)
     (crashed c.bytes_stand_for_one_list_of_batches.ensures x first now
-    (actored c.self.inside.node c.self.inside.clock) c.args.choice (g.D.Disk.past c.crash.new.self) stored
+    (actored c.self.inside.node c.self.inside.clock) c.args.choice (g.D.Disk.told c.crash.new.self).past stored
     (subst (λ (a : Actored). Stands x first a) (sym c.self.view_is) s) c.in_ok-crash.ensures.past
     c.in_ok-node.ensures.found c.in_ok-node.ensures.up c.in_ok-node.ensures.crashes c.in_ok-node.ensures.fuse)
 
@@ -51,6 +50,6 @@ pub returns-in_err-node-clause-more : goal.returns-in_err-node-clause-more
 returns-in_err-node-clause-more g c =
     let p = err_from_is_err_and c.from_residual-in_err-node.result c.from_residual-in_err-node.ensures.1 in
     rw p.1 (inr (
-      left_by c.args.choice (state (g.D.Disk.past c.args.disk.now)),
+      left_by c.args.choice (state (g.D.Disk.told c.args.disk.now).past),
       c.in_err-node.ensures.crashes ∙ ap crashes_of c.in_ok-crash.ensures.past,
     ))

@@ -2,7 +2,7 @@ use Rattle.std.proofs.Common.{◌≡◌, ◌∙◌, map, sym, subst, arith}
 use Rattle.std.specs.Vec.{vec_len}
 use Rattle.std.proofs.lemmas.Bool.{eqb-true}
 use Rattle.batch_size.specs.Room.{HasRoom}
-use Rattle.rm_protocol.specs.batches.Fact.{fact_of}
+use Rattle.record_batch.specs.Fact.{fact_of}
 use Rattle.rm_journal.specs.JournalState.{end_of}
 use Rattle.node_store.specs.Stored.{Stored}
 use Rattle.node_store.proofs.CommitLemmas.{empty_changes, none_of, serving_after}

@@ -1,5 +1,5 @@
 use Rattle.std.proofs.Common.{◌≡◌, ◌<◌, ◌^◌, [], map, arith}
-use Rattle.rm_protocol.specs.batches.Fact.{fact_of}
+use Rattle.record_batch.specs.Fact.{fact_of}
 use Rattle.node_store.specs.Stored.{stored}
 use Rattle.node_store.proofs.CommitLemmas.{first_so, made_has, made_holds, made_serves}
 use Rattle.node_store.proofs.store.Store.make.Goals as goal
@@ -19,8 +19,6 @@ returns-clause-has g c tells =
     let e = first_so c.in_ok-journal.journal c.commit.new.journal c.new-tables.result.records
     c.commit.new.tables.records (map fact_of c.in_ok-batch.batch.items) c.args.number c.args.address
     c.in_ok-journal.ensures.made rs c.in_ok-batch.ensures.batch c.in_ok-commit.ensures.stored in
-    let serves = made_serves c.a_batch_is_its_parts.ensures c.commit.new.journal c.commit.new.tables.records
-    c.args.number c.args.address c.first_batch.ensures.text e in
     let few : c.args.number < 2 ^ 64 = omega arith in
     let kept = c.a_made_node_has_its_records.ensures c.args.number c.args.address (omega (arith, c.requires.from_one))
     c.requires.within c.first_batch.ensures.text in
@@ -29,4 +27,4 @@ returns-clause-has g c tells =
     c.args.address c.in_ok-batch.ensures.batch c.in_ok-journal.ensures.made rs (c.in_ok-journal.ensures.fits tells)
     (c.in_ok-commit.ensures.changes tells) in
     made_has c.a_batch_is_its_parts.ensures _ (stored c.commit.new.journal c.commit.new.tables.records) c.args.number
-    c.args.address few c.first_batch.ensures.text kept serves.short holds
+    c.args.address few c.first_batch.ensures.text kept holds

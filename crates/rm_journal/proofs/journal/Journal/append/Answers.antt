@@ -29,7 +29,7 @@ pub write_block-requires-clause-within : goal.write_block-requires-clause-within
 write_block-requires-clause-within g c tells =
     let up = up_and_short c.args.self.now (length c.args.entry.now) (sym c.refusal.ensures ∙ c.in_default.is) in
     let fits = c.requires tells up.0 in
-    let past = g.D.Disk.past c.args.disk.now in
+    let past = (g.D.Disk.told c.args.disk.now).past in
     let has = fits.1.images (seen_of past) (reads_as_image past) in
     let end : c.end-end.result ≡ length (prefix_of fits.0) = c.end-end.ensures
     ∙ end_is c.args.self.now fits.0 fits.1.gates in
@@ -38,7 +38,7 @@ write_block-requires-clause-within g c tells =
 
 pub returns-then-is_err-clause-moments : goal.returns-then-is_err-clause-moments
 returns-then-is_err-clause-moments g c tells entries fits =
-    let past = g.D.Disk.past c.args.disk.now in
+    let past = (g.D.Disk.told c.args.disk.now).past in
     let up = up_and_short c.args.self.now (length c.args.entry.now) (sym c.refusal.ensures ∙ c.in_default.is) in
     let end : c.end-end.result ≡ length (prefix_of entries) = c.end-end.ensures
     ∙ end_is c.args.self.now entries fits.gates in
@@ -48,12 +48,12 @@ returns-then-is_err-clause-moments g c tells entries fits =
       c.in_ok-body.ensures,
       c.in_ok-reserve-2.ensures.past tells,
     ) at c.write_block.ensures.calls tells in
-    block_moments past entries fits.images c.args.entry.now up.1 (g.D.Disk.past c.write_block.new.disk)
+    block_moments past entries fits.images c.args.entry.now up.1 (g.D.Disk.told c.write_block.new.disk).past
     (is_ok c.write_block.result) calls
 
 pub returns-clause-moments : goal.returns-clause-moments
 returns-clause-moments g c tells entries fits =
-    let past = g.D.Disk.past c.args.disk.now in
+    let past = (g.D.Disk.told c.args.disk.now).past in
     let up = up_and_short c.args.self.now (length c.args.entry.now) (sym c.refusal.ensures ∙ c.in_default.is) in
     let end : c.end-end.result ≡ length (prefix_of entries) = c.end-end.ensures
     ∙ end_is c.args.self.now entries fits.gates in
@@ -63,7 +63,7 @@ returns-clause-moments g c tells entries fits =
       c.in_ok-body.ensures,
       c.in_ok-reserve-2.ensures.past tells,
     ) at c.write_block.ensures.calls tells in
-    block_moments past entries fits.images c.args.entry.now up.1 (g.D.Disk.past c.write_block.new.disk)
+    block_moments past entries fits.images c.args.entry.now up.1 (g.D.Disk.told c.write_block.new.disk).past
     (is_ok c.write_block.result) calls
 
 pub returns-clause-ok : goal.returns-clause-ok
@@ -102,12 +102,12 @@ returns-clause-ok g c tells entries fits =
           ∙ sym (gates_from-push 8 entries entry);
       images =
           block_done
-          (g.D.Disk.past c.args.disk.now)
+          (g.D.Disk.told c.args.disk.now).past
           entries
           fits.images
           entry
           up.1
-          (g.D.Disk.past c.write_block.new.disk)
+          (g.D.Disk.told c.write_block.new.disk).past
           (is_ok c.write_block.result)
           well
           calls;
@@ -122,11 +122,11 @@ returns-clause-bytes g c tells =
       c.in_ok-reserve-2.ensures.past tells,
     ) at c.write_block.ensures.calls tells in
     let well : is_ok c.write_block.result ≡ true = c.is_err.ensures.negation ∙ ap not c.if-is_err.false in
-    let past = g.D.Disk.past c.args.disk.now in
+    let past = (g.D.Disk.told c.args.disk.now).past in
     let up = up_and_short c.args.self.now (length c.args.entry.now) (sym c.refusal.ensures ∙ c.in_default.is) in
     let fits = c.requires tells up.0 in
     let has = fits.1.images (seen_of past) (reads_as_image past) in
     let end = end_is c.args.self.now fits.0 fits.1.gates in
-    block_bytes past (g.D.Disk.past c.write_block.new.disk) (end_of c.args.self.now) c.args.entry.now
+    block_bytes past (g.D.Disk.told c.write_block.new.disk).past (end_of c.args.self.now) c.args.entry.now
     (is_ok c.write_block.result) well
     (omega (arith, end, ap length has.is, length-append (prefix_of fits.0) (has.gate ∷ has.behind))) calls

@@ -13,7 +13,7 @@ read_bytes-requires g c tells =
     let fits = c.requires.fits tells up in
     let entries = fits.0 in
     let k = c.args.i - 1 in
-    let past = g.D.Disk.past c.args.disk.now in
+    let past = (g.D.Disk.told c.args.disk.now).past in
     let are : c.deref.result.now ≡ gates_from 8 entries = c.deref.ensures.value ∙ ap (λ j. j.gates) c.self.view_is
     ∙ fits.1.gates in
     let below : k < length entries = omega (
@@ -31,7 +31,7 @@ read_bytes-requires g c tells =
 pub returns-in-Ok-clause-value : goal.returns-in-Ok-clause-value
 returns-in-Ok-clause-value g c tells entries fits =
     let k = c.args.i - 1 in
-    let past = g.D.Disk.past c.args.disk.now in
+    let past = (g.D.Disk.told c.args.disk.now).past in
     let are : c.deref.result.now ≡ gates_from 8 entries = c.deref.ensures.value ∙ ap (λ j. j.gates) c.self.view_is
     ∙ fits.gates in
     let below : k < length entries = omega (

@@ -6,8 +6,8 @@ use Rattle.rm_journal.proofs.journal.Journal.format.Goals as goal
 
 pub returns-clause-fits : goal.returns-clause-fits
 returns-clause-fits g c tells =
-    let old = g.D.Disk.past c.args.disk.now in
-    let new = g.D.Disk.past c.sync.new.self in
+    let old = (g.D.Disk.told c.args.disk.now).past in
+    let new = (g.D.Disk.told c.sync.new.self).past in
     let cut = c.in_ok-cut.ensures.past tells
     ∙ ap (λ (l : List Call). CutTo 0 ∷ l) (c.in_ok-reserve.ensures.past tells) in
     let wrote = c.in_ok-write_at.ensures.past tells ∙ ap (λ (l : List Call). Wrote 0 (head ++ 0 ∷ []) ∷ l) cut in

@@ -8,20 +8,20 @@ use Rattle.rm_journal.proofs.journal.Journal.mount.Goals as goal
 
 pub returns-in_err-reserve-clause-moments : goal.returns-in_err-reserve-clause-moments
 returns-in_err-reserve-clause-moments g c tells =
-    synced_moments (g.D.Disk.past c.args.disk.now) (g.D.Disk.past c.reserve.new.self)
+    synced_moments (g.D.Disk.told c.args.disk.now).past (g.D.Disk.told c.reserve.new.self).past
     (inl (c.in_err-reserve.ensures.past tells))
 
 pub returns-in_err-sync-clause-moments : goal.returns-in_err-sync-clause-moments
 returns-in_err-sync-clause-moments g c tells =
     let failed = c.in_err-sync.ensures.past tells
     ∙ ap (λ (l : List Call). SyncFailed ∷ l) (c.in_ok-reserve.ensures.past tells) in
-    synced_moments (g.D.Disk.past c.args.disk.now) (g.D.Disk.past c.sync.new.self) (inr (inl failed))
+    synced_moments (g.D.Disk.told c.args.disk.now).past (g.D.Disk.told c.sync.new.self).past (inr (inl failed))
 
 pub returns-in_err-len-clause-moments : goal.returns-in_err-len-clause-moments
 returns-in_err-len-clause-moments g c tells =
     let synced = c.in_ok-sync.ensures.past tells
     ∙ ap (λ (l : List Call). Synced ∷ l) (c.in_ok-reserve.ensures.past tells) in
-    synced_moments (g.D.Disk.past c.args.disk.now) (g.D.Disk.past c.len.new.self)
+    synced_moments (g.D.Disk.told c.args.disk.now).past (g.D.Disk.told c.len.new.self).past
     (inr (inr (c.in_err-len.ensures.past tells ∙ synced)))
 
 pub returns-in_err-bytes-clause-moments : goal.returns-in_err-bytes-clause-moments
@@ -29,28 +29,28 @@ returns-in_err-bytes-clause-moments g c tells =
     let synced = c.in_ok-sync.ensures.past tells
     ∙ ap (λ (l : List Call). Synced ∷ l) (c.in_ok-reserve.ensures.past tells) in
     let same = c.read_bytes.ensures.past tells ∙ c.in_ok-len.ensures.past tells ∙ synced in
-    synced_moments (g.D.Disk.past c.args.disk.now) (g.D.Disk.past c.read_bytes.new.disk) (inr (inr same))
+    synced_moments (g.D.Disk.told c.args.disk.now).past (g.D.Disk.told c.read_bytes.new.disk).past (inr (inr same))
 
 pub returns-in-Ok-clause-moments : goal.returns-in-Ok-clause-moments
 returns-in-Ok-clause-moments g c tells =
     let synced = c.in_ok-sync.ensures.past tells
     ∙ ap (λ (l : List Call). Synced ∷ l) (c.in_ok-reserve.ensures.past tells) in
     let same = c.read_bytes.ensures.past tells ∙ c.in_ok-len.ensures.past tells ∙ synced in
-    synced_moments (g.D.Disk.past c.args.disk.now) (g.D.Disk.past c.read_bytes.new.disk) (inr (inr same))
+    synced_moments (g.D.Disk.told c.args.disk.now).past (g.D.Disk.told c.read_bytes.new.disk).past (inr (inr same))
 
 pub returns-clause-moments : goal.returns-clause-moments
 returns-clause-moments g c tells =
     let synced = c.in_ok-sync.ensures.past tells
     ∙ ap (λ (l : List Call). Synced ∷ l) (c.in_ok-reserve.ensures.past tells) in
     let same = c.read_bytes.ensures.past tells ∙ c.in_ok-len.ensures.past tells ∙ synced in
-    synced_moments (g.D.Disk.past c.args.disk.now) (g.D.Disk.past c.read_bytes.new.disk) (inr (inr same))
+    synced_moments (g.D.Disk.told c.args.disk.now).past (g.D.Disk.told c.read_bytes.new.disk).past (inr (inr same))
 
 pub returns-clause-none : goal.returns-clause-none
 returns-clause-none g c tells none entries stands =
-    let old = g.D.Disk.past c.args.disk.now in
+    let old = (g.D.Disk.told c.args.disk.now).past in
     let synced = c.in_ok-sync.ensures.past tells
     ∙ ap (λ (l : List Call). Synced ∷ l) (c.in_ok-reserve.ensures.past tells) in
-    let seen : seen_of (g.D.Disk.past c.len.new.self) ≡ seen_of old = ap seen_of (c.in_ok-len.ensures.past tells
+    let seen : seen_of (g.D.Disk.told c.len.new.self).past ≡ seen_of old = ap seen_of (c.in_ok-len.ensures.past tells
     ∙ synced) in
     let long : c.in_ok-len.len ≡ length (seen_of old) = c.in_ok-len.ensures.gives tells
     ∙ ap (λ (l : List Call). length (seen_of l)) synced in

@@ -1,32 +1,21 @@
-use Rattle.std.proofs.Common.{ap, ◌∙◌}
+use Rattle.std.proofs.Common.{ap, refl}
 use Rattle.std.proofs.lemmas.Result.{err_from_is_err_and}
 use Rattle.rm_journal.specs.JournalState.{end_of}
-use Rattle.rm_protocol.specs.Calls.{end}
-use Rattle.rm_node.specs.Ends.{error_end, outs_end}
-use Rattle.rm_node.proofs.CalledLemmas.{carried, comes, sleeps, wants}
+use Rattle.rm_node.specs.Asked.{End}
+use Rattle.rm_node.specs.Ends.{outs_end}
 use Rattle.rm_node.proofs.ComesLemmas.{end-done}
+use Rattle.rm_node.proofs.StepLemmas.{failed, plain}
 use Rattle.rm_node.proofs.node.Node.end.Goals as goal
 
-pub returns-in_err-awake-clause-does : goal.returns-in_err-awake-clause-does
-returns-in_err-awake-clause-does g c terms own =
+pub returns-in_err-reaction : goal.returns-in_err-reaction
+returns-in_err-reaction g c =
     let p = err_from_is_err_and c.from_residual.result c.from_residual.ensures.1 in
-    let down = c.in_err-awake.ensures.down in
-    sleeps _ _ _ c.args.self.now _ _ down.1 (ap outs_end p.1 ∙ ap error_end (p.2 ∙ down.0))
+    failed _ _ _ c.args.self.now _ _ _ _ _ _ (ap outs_end p.1) p.2 c.in_err-reaction.ensures
 
-pub returns-in_err-answer-clause-does : goal.returns-in_err-answer-clause-does
-returns-in_err-answer-clause-does g c terms own =
-    let r = c.from_residual-in_err-answer in
-    let p = err_from_is_err_and r.result r.ensures.1 in
-    wants _ _ _ c.args.self.now _ _ c.in_ok-awake.ensures.up (ap outs_end p.1 ∙ ap error_end p.2)
-
-pub returns-clause-does : goal.returns-clause-does
-returns-clause-does g c terms own =
-    let did = c.act.ensures in
+pub returns : goal.returns
+returns g c =
     let s = c.args.self.now.stored in
-    let kept = c.kept-place.ensures in
-    let e = comes (λ r place. end terms r place c.args.seq) _ _ _ _ _
-    (c.in_ok-answer.ensures.is terms own) kept.records kept.place in
-    carried _ _ _ _ _ _ _ c.act.result c.in_ok-awake.ensures.up e
-    (end-done terms s.records (end_of s.journal) c.args.seq)
-    (λ h. (c.each_call_keeps_the_records.ensures terms _ _ own h).end_ c.args.seq)
-    did.stays did.wrote did.done did.outs did.err
+    plain _ _ _ c.args.self.now _ _ _ (End c.args.seq) c.in_ok-reaction.reaction
+    c.there_are_own_terms.ensures refl refl
+    (λ terms. end-done terms s.records (end_of s.journal) c.args.seq)
+    c.in_ok-reaction.ensures

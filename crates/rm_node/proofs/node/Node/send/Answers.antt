@@ -1,57 +1,35 @@
-use Rattle.std.proofs.Common.{◌+◌, false, length, List, ap, ◌∙◌}
-use Rattle.std.specs.Prelude.{Ok}
+use Rattle.std.proofs.Common.{◌≡◌, ◌+◌, List, length, true, ap, refl, subst, sym, ◌∙◌}
 use Rattle.std.proofs.lemmas.Result.{err_from_is_err_and}
-use Rattle.rm_protocol.specs.batches.Fact.{Fact}
-use Rattle.rm_protocol.specs.sequences.Sources.{accepted}
+use Rattle.record_batch.specs.Fact.{Fact}
+use Rattle.sequence_table.specs.Fits.{is_outgoing_side}
+use Rattle.sequence_table.specs.Makers.{maker}
+use Rattle.sequence_table.specs.Sources.{accepted}
 use Rattle.rm_journal.specs.JournalState.{end_of}
-use Rattle.rm_protocol.specs.Calls.{send}
-use Rattle.rm_node.specs.Ends.{error_end, sent_end}
-use Rattle.rm_node.proofs.CalledLemmas.{carried, comes, fails, sleeps, wants}
+use Rattle.rm_node.specs.Asked.{Send}
+use Rattle.rm_node.specs.Ends.{sent_end}
 use Rattle.rm_node.proofs.ComesLemmas.{send-done, send-side}
+use Rattle.rm_node.proofs.StepLemmas.{failed, plain, some_terms, was_taken}
 use Rattle.rm_node.proofs.node.Node.send.Goals as goal
 
-pub returns-in_err-awake-clause-does : goal.returns-in_err-awake-clause-does
-returns-in_err-awake-clause-does g c terms own =
+pub returns-in_err-reaction-clause-steps : goal.returns-in_err-reaction-clause-steps
+returns-in_err-reaction-clause-steps g c =
     let p = err_from_is_err_and c.from_residual.result c.from_residual.ensures.1 in
-    let down = c.in_err-awake.ensures.down in
-    sleeps _ _ _ c.args.self.now _ _ down.1 (ap sent_end p.1 ∙ ap error_end (p.2 ∙ down.0))
+    failed _ _ _ c.args.self.now _ _ _ _ _ _ (ap sent_end p.1) p.2 c.in_err-reaction.ensures
 
-pub returns-in_err-answer-clause-does : goal.returns-in_err-answer-clause-does
-returns-in_err-answer-clause-does g c terms own =
-    let r = c.from_residual-in_err-answer in
-    let p = err_from_is_err_and r.result r.ensures.1 in
-    wants _ _ _ c.args.self.now _ _ c.in_ok-awake.ensures.up (ap sent_end p.1 ∙ ap error_end p.2)
-
-pub returns-in_err-outs-clause-does : goal.returns-in_err-outs-clause-does
-returns-in_err-outs-clause-does g c terms own =
-    let r = c.from_residual-in_err-outs in
-    let p = err_from_is_err_and r.result r.ensures.1 in
-    let s = c.in_err-outs.ensures in
-    let kept = c.kept-place.ensures in
-    let e = comes (λ r place. send terms r place c.args.seq c.args.payload) _ _ _ _ _
-    (c.in_ok-answer.ensures.is terms own) kept.records kept.place in
-    fails _ _ _ _ _ _ _ _ c.in_err-outs.field-0.0 _ (ap sent_end p.1 ∙ ap error_end p.2)
-    c.in_ok-awake.ensures.up e
-    (λ h. (c.each_call_keeps_the_records.ensures terms _ _ own h).send_ c.args.seq c.args.payload)
-    s.stays s.wrote s.err
-
-pub returns-clause-does : goal.returns-clause-does
-returns-clause-does g c terms own =
-    let did = c.in_ok-outs.ensures in
+pub returns-clause-steps : goal.returns-clause-steps
+returns-clause-steps g c =
     let s = c.args.self.now.stored in
-    let kept = c.kept-place.ensures in
-    let e = comes (λ r place. send terms r place c.args.seq c.args.payload) _ _ _ _ _
-    (c.in_ok-answer.ensures.is terms own) kept.records kept.place in
-    carried _ _ _ _ _ _ _ (Ok c.in_ok-outs.outs) c.in_ok-awake.ensures.up e
-    (send-done terms s.records (end_of s.journal) c.args.seq c.args.payload)
-    (λ h. (c.each_call_keeps_the_records.ensures terms _ _ own h).send_ c.args.seq c.args.payload)
-    did.stays did.wrote did.done did.outs did.err
+    plain _ _ _ c.args.self.now _ _ _ (Send c.args.seq c.args.payload) c.in_ok-reaction.reaction
+    c.there_are_own_terms.ensures refl refl
+    (λ terms. send-done terms s.records (end_of s.journal) c.args.seq c.args.payload) c.in_ok-reaction.ensures
 
 pub returns-clause-number : goal.returns-clause-number
 returns-clause-number g c =
-    let own = c.there_are_own_terms.ensures (λ said m. false) (λ m. Ok m) in
-    let at = c.kept-place.result in
-    let side = send-side own.0 at.0.now.records at.1 c.args.seq c.args.payload _
-    (c.in_ok-answer.ensures.is own.0 own.3) c.in_ok-outs.ensures.done in
-    c.next_number-number.ensures side
-    ∙ ap (λ (r : List Fact). length (accepted r c.args.seq) + 1) c.kept-place.ensures.records
+    let own = some_terms c.there_are_own_terms.ensures in
+    let s = c.args.self.now.stored in
+    let taken = was_taken _ _ _ _ c.args.self.now _ _ _ _ _
+    (c.in_ok-reaction.ensures.does own.0 own.1 (Send c.args.seq c.args.payload) refl) in
+    let side = send-side own.0 s.records (end_of s.journal) c.args.seq c.args.payload _ refl taken in
+    c.next_number-number.ensures
+    (subst (λ (r : List Fact). is_outgoing_side (maker r c.args.seq) ≡ true) (sym c.tables.ensures) side)
+    ∙ ap (λ (r : List Fact). length (accepted r c.args.seq) + 1) c.tables.ensures

@@ -1,0 +1,120 @@
+-- A call of a node, whatever is asked.
+use Rattle.std.proofs.Common.{◌≡◌, ◌∙◌, ℕ, Bool, true, false, List, Result, Ok, Err, refl, sym, ap, subst}
+use Rattle.std.specs.Prelude.{IsTrue}
+use Rattle.rm_base.specs.declared.failures.Memory.{Memory}
+use Rattle.rm_disk.specs.Told.{Told}
+use Rattle.rm_journal.specs.JournalState.{end_of as journal_end}
+use Rattle.record_batch.specs.Fact.{Fact}
+use Rattle.rm_protocol.specs.Calls.{Cause, NoSequence, WrongSide, PayloadTooLong, BadPayload, NotOpen, WindowFull}
+use Rattle.rm_protocol.specs.Calls.{NodeFull, Rollover, TooManySequences, StoreFull, Outcome, Done, Judged}
+use Rattle.rm_protocol.specs.Calls.{Refused as RefusedWith}
+use Rattle.rm_protocol.specs.Node.{Node, end_of, records}
+use Rattle.rm_protocol.specs.Terms.{Terms}
+use Rattle.rm_node.specs.Asked.{Asked, Asks, Create, Send, Close, End, Tick, Receive, answer_to, is_connected}
+use Rattle.rm_node.specs.Called.{Does, answer_of as node_answer}
+use Rattle.rm_node.specs.Ends.{Ended, Handed, Refused, Wanted, Broke, WasDown, is_broken}
+use Rattle.rm_node.specs.Noded.{Noded}
+use Rattle.rm_node.specs.Packets.{IsReplyFirst}
+use Rattle.rm_node.specs.declared.kept.Kept.{Kept}
+use Rattle.rm_node.specs.declared.call.Call.{Call}
+use Rattle.rm_node.specs.declared.call.Call.TheVariants as call
+use Rattle.node_actor.specs.Actored.{Actored}
+use Rattle.node_actor.specs.Comes.{ComesOut}
+use Rattle.node_actor.specs.declared.actor.Came.{Came}
+use Rattle.node_actor.specs.Outcomes.{answer_told, is_disk, is_disk_outcome, refusal_told}
+use Rattle.node_actor.specs.Stands.{Acts, Stands, kept_of}
+use Rattle.node_actor.specs.Steps.{answer_of, clock_after, clock_of, clocked}
+use Rattle.node_actor.proofs.ActLemmas.{EndsThere, actored, acts, clock_is}
+use Rattle.node_actor.proofs.QuietLemmas.{IsQuiet, quiet_close, quiet_create, quiet_end, quiet_receive, quiet_send}
+use Rattle.node_actor.proofs.QuietLemmas.{quiet_tick}
+
+-- ---- what is told as a failure of the disk
+
+no_cause : (cause : Cause) → is_disk_outcome (refusal_told cause) ≡ false
+no_cause NoSequence = refl
+no_cause WrongSide = refl
+no_cause (PayloadTooLong length) = refl
+no_cause BadPayload = refl
+no_cause NotOpen = refl
+no_cause (WindowFull unacked) = refl
+no_cause (NodeFull unacked) = refl
+no_cause Rollover = refl
+no_cause (TooManySequences count) = refl
+no_cause (StoreFull end needed) = refl
+
+no_answer : (outcome : Outcome) → is_disk_outcome (answer_told outcome) ≡ false
+no_answer Done = refl
+no_answer (RefusedWith cause) = no_cause cause
+no_answer (Judged fault) = refl
+
+-- only a failure of the disk
+pub disk_told : (ended : Ended) (r : Result Came Memory) → ComesOut ended r → is_broken ended ≡ is_disk r
+disk_told (Handed outcome reply outs) (Ok came) is = sym (ap is_disk_outcome is.came_out ∙ no_answer outcome)
+disk_told (Handed outcome reply outs) (Err memory) is = absurd is
+disk_told (Refused cause) (Ok came) is = sym (ap is_disk_outcome is.came_out ∙ no_cause cause)
+disk_told (Refused cause) (Err memory) is = absurd is
+disk_told Wanted (Ok came) is = absurd is
+disk_told Wanted (Err memory) is = refl
+disk_told Broke (Ok came) is = sym (ap is_disk_outcome is.came_out)
+disk_told Broke (Err memory) is = absurd is
+disk_told WasDown (Ok came) is = sym (ap is_disk_outcome is.came_out)
+disk_told WasDown (Err memory) is = absurd is
+
+-- ---- what is asked
+
+quiet_asked : (terms : Terms) (now : ℕ) (kept : Kept) (asked : Asked) (r : List Fact) (place : ℕ)
+    → IsQuiet (answer_to terms r place now kept asked)
+quiet_asked terms now kept (Create wish) r place = quiet_create terms wish r place
+quiet_asked terms now kept (Send seq payload) r place = quiet_send terms seq payload r place
+quiet_asked terms now kept (Close seq) r place = quiet_close terms seq now r place
+quiet_asked terms now kept (End seq) r place = quiet_end terms seq r place
+quiet_asked terms now kept (Tick moment) r place = quiet_tick terms moment r place
+quiet_asked terms now kept (Receive content) r place = quiet_receive terms now kept.granted content r place
+
+-- the clock of the code's node is that of the protocol's
+clock_stands : (this : Call) (x : Node) (now : Told) (a : Actored) → Stands x now a
+    → clock_after this a ≡ clock_of this x
+clock_stands (call.Create wish) x now a s = s.clock
+clock_stands (call.Send seq payload) x now a s = s.clock
+clock_stands (call.Close seq) x now a s = s.clock
+clock_stands (call.End seq) x now a s = s.clock
+clock_stands (call.Tick moment) x now a s =
+    clock_is x.state x.entries now.past a.node.stored a.clock x.clock moment s.disk s.clock
+clock_stands (call.Receive bytes) x now a s = s.clock
+
+pub clocked_stands : (this : Call) (x : Node) (now : Told) (a : Actored) → Stands x now a
+    → Stands (clocked this x) now (actored a.node (clock_after this a))
+clocked_stands this x now a s =
+    record { disk = s.disk; fuse = s.fuse; kept = s.kept; clock = clock_stands this x now a s }
+
+-- ---- a call
+
+-- of all that a call says, the reply comes first
+abbrev pub ReplyFirst : Type 0
+ReplyFirst =
+    (terms : Terms) (r : List Fact) (place now : ℕ) (kept : Kept) (call : Call) (asked : Asked)
+    → Asks call asked → IsReplyFirst (is_connected call) (answer_to terms r place now kept asked).outs
+
+pub acted : (terms : Terms) (tells : Bool) (this : Call) (x : Node) (asked : Asked) (first now : Told) (old : Actored)
+    (new : Noded) (ended : Ended) (r : Result Came Memory) → EndsThere terms → IsTrue tells → Stands x first old
+    → ReplyFirst → Asks this asked
+    → Does tells (is_connected this) first now old.node new (node_answer terms old.node old.clock asked) ended
+    → ComesOut ended r
+    → Acts (is_connected this) (clocked this x) (answer_of terms x asked) now
+    (actored new (clock_after this old)) r
+acted terms tells this x asked first now old new ended r ends t s order asks does is =
+    let same = subst (λ (m : ℕ). Does tells (is_connected this) first now old.node new
+    (answer_to terms old.node.stored.records (journal_end old.node.stored.journal) m (kept_of x) asked) ended) s.clock
+    (subst (λ (k : Kept). Does tells (is_connected this) first now old.node new
+    (answer_to terms old.node.stored.records (journal_end old.node.stored.journal) old.clock k asked) ended) s.kept
+    does) in
+    acts terms tells (is_connected this) (clocked this x)
+    (λ r place. answer_to terms r place x.clock (kept_of x) asked) first now
+    (actored old.node (clock_after this old)) new ended r ends t (clocked_stands this x first old s) same
+    (quiet_asked terms x.clock (kept_of x) asked (records x) (end_of terms x.entries))
+    (order terms (records x) (end_of terms x.entries) x.clock (kept_of x) this asked asks) is
+
+-- the clock is as it was
+pub still : (this : Call) (x : Node) (now : Told) (new : Noded) (old clock : ℕ)
+    → Stands (clocked this x) now (actored new clock) → old ≡ x.clock → Stands x now (actored new old)
+still this x now new old clock s e = record { disk = s.disk; fuse = s.fuse; kept = s.kept; clock = e }

@@ -1,0 +1,31 @@
+//! A node is asked for something, or something comes to it.
+ghost use Rattle.rm_protocol.specs.Node.{Node};
+ghost use Rattle.rm_node.specs.Asked.{MayBeAsked};
+ghost use Rattle.node_actor.specs.Stands.{Stands};
+ghost use Rattle.node_actor.specs.Steps.{Steps};
+
+use crate::actor::{Actor, Came};
+use crate::outcome::told;
+use node_laws::laws::there_are_own_terms;
+use node_store::laws::a_journal_ends_with_its_batches;
+use rm_base::Memory;
+use rm_disk::CrashDisk;
+use rm_node::Call;
+use rm_node::laws::the_reply_comes_first;
+
+impl Actor {
+    /// Does what is asked, at the node's clock. A tick sets the clock of a node that isn't down.
+    pub fn ask<D: CrashDisk>(&mut self, disk: &mut D, call: Call<'_>) -> Result<Came, Memory>
+        requires there { (x : Node) × Stands x (D.told disk.old) self.old }
+        requires may { MayBeAsked call }
+        ensures { Steps (D.told disk.old) (D.told disk.new) self.old self.new call.entry result }
+    {
+        a_journal_ends_with_its_batches();
+        there_are_own_terms();
+        the_reply_comes_first();
+        let clock = self.clock_after(&call);
+        let came = told(self.alloc, self.node.step(disk, self.clock, call))?;
+        self.clock = clock;
+        Ok(came)
+    }
+}

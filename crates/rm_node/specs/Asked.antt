@@ -1,0 +1,58 @@
+-- A call of a node, and the protocol's.
+use Rattle.std.specs.Prelude.{◌≡◌, ℕ, Bool, true, false, List, Result}
+use Rattle.record_batch.specs.Fact.{Fact}
+use Rattle.rm_message.specs.declared.message.Message.{Message}
+use Rattle.rm_message.specs.declared.refusal.Refusal.{Refusal}
+use Rattle.sequence_table.specs.Words.{Text}
+use Rattle.rm_protocol.specs.Calls as protocol
+use Rattle.rm_protocol.specs.Calls.{Answer, Wish}
+use Rattle.rm_protocol.specs.Terms.{Terms}
+use Rattle.node_laws.specs.Read.{IsWishWritable}
+use Rattle.call_answers.specs.Answers.{wish_seen}
+use Rattle.rm_node.specs.Came.{IsReadAs}
+use Rattle.rm_node.specs.declared.kept.Kept.{Kept}
+use Rattle.rm_node.specs.declared.call.Call.{Call}
+use Rattle.rm_node.specs.declared.call.Call.TheVariants as call
+
+-- what a node of the protocol is asked for, or what comes to it: a message, or the refusal of bytes that are none
+pub data Asked : Type 0 where
+  Create : (wish : Wish) → Asked
+  Send : (seq : ℕ) (payload : Text) → Asked
+  Close : (seq : ℕ) → Asked
+  End : (seq : ℕ) → Asked
+  Tick : (now : ℕ) → Asked
+  Receive : (content : Result Message Refusal) → Asked
+
+-- what it answers, at records whose entries end at a place, at a moment, where it keeps this besides
+abbrev pub answer_to : Terms → List Fact → (place now : ℕ) → Kept → Asked → Answer
+answer_to terms r place now kept (Create wish) = protocol.create terms r place wish
+answer_to terms r place now kept (Send seq payload) = protocol.send terms r place seq payload
+answer_to terms r place now kept (Close seq) = protocol.close terms r place seq now
+answer_to terms r place now kept (End seq) = protocol.end terms r place seq
+answer_to terms r place now kept (Tick moment) = protocol.tick terms r place moment
+answer_to terms r place now kept (Receive content) = protocol.receive terms r place now kept.granted content
+
+-- bytes that come are read so
+pub record IsReceived (bytes : List ℕ) (asked : Asked) : Type 0 where
+  pub content : Result Message Refusal
+  pub read : IsReadAs bytes content
+  pub is : asked ≡ Receive content
+
+-- a call of the code's node asks this
+abbrev pub Asks : Call → Asked → Type 0
+Asks (call.Create wish) asked = asked ≡ Create (wish_seen wish)
+Asks (call.Send seq payload) asked = asked ≡ Send seq payload
+Asks (call.Close seq) asked = asked ≡ Close seq
+Asks (call.End seq) asked = asked ≡ End seq
+Asks (call.Tick now) asked = asked ≡ Tick now
+Asks (call.Receive bytes) asked = IsReceived bytes.now asked
+
+-- what is asked for may be written
+abbrev pub MayBeAsked : Call → Type 0
+MayBeAsked (call.Create wish) = IsWishWritable (wish_seen wish)
+MayBeAsked _ = Unit {0}
+
+-- it comes on a connection
+abbrev pub is_connected : Call → Bool
+is_connected (call.Receive bytes) = true
+is_connected _ = false

@@ -1,0 +1,38 @@
+//! The calls of a node.
+ghost use Rattle.std.specs.Prelude.{◌≡◌};
+ghost use Rattle.rm_node.specs.Asked.{is_connected};
+
+use call_answers::Wish;
+use rm_base::Blob;
+
+/// What a node is asked for, or what comes to it. `seq` is the place of a sequence among those of the node, counted
+/// from 1.
+#[derive(Debug, Drop)]
+pub enum Call<'a> {
+    /// Asks for a sequence: WS-ReliableMessaging 1.2, section 3.4.
+    Create { wish: Wish },
+    /// Accepts a payload for an outgoing sequence: section 3.7.
+    Send { seq: u32, payload: Blob },
+    /// Closes a sequence: an outgoing one asks its peer for it, section 3.5; an incoming one takes no message any more,
+    /// as its operator wants, and hands out the final acknowledgement.
+    Close { seq: u32 },
+    /// Ends an outgoing sequence: section 3.6.
+    End { seq: u32 },
+    /// Ends the incoming sequences whose time has run out at a moment, all in one batch, where it fits the journal.
+    Tick { now: u64 },
+    /// Takes bytes that came from a peer on a connection. It answers with a fault for all that is no message, and for
+    /// each message that it doesn't take.
+    Receive { bytes: &'a [u8] },
+}
+
+impl Call<'_> {
+    /// Whether it came on a connection.
+    pub fn is_connected(&self) -> bool
+        ensures { result ≡ is_connected self.now }
+    {
+        match self {
+            Call::Receive { .. } => true,
+            _ => false,
+        }
+    }
+}
