@@ -11,7 +11,7 @@ use Rattle.rm_destination.specs.Incoming.{Receiving, phase_of, inbox as inbox_in
 use Rattle.rm_destination.specs.Messages.{numbers_of, ranges_onto}
 use Rattle.rm_destination.specs.declared.outcome.InPhase.{InPhase}
 use Rattle.rm_destination.specs.declared.outcome.InPhase.TheVariants.{Open, Closed, Ended}
-use Rattle.sequence_table.specs.batches.Fact.{Fact}
+use Rattle.record_batch.specs.Fact.{Fact}
 use Rattle.sequence_table.specs.Makers.{Maker, Outgoing, Offered, Incoming, Taken, maker, makers}
 use Rattle.sequence_table.specs.Destinations.{behaviour, behaviour_of, discarded, held, inbox, is_ended}
 use Rattle.sequence_table.specs.Fits.{is_outgoing_side}

@@ -5,7 +5,7 @@ use Rattle.rm_base.specs.declared.message.Payload.{Payload}
 use Rattle.rm_destination.specs.Messages.{ranges_onto}
 use Rattle.rm_destination.specs.declared.outcome.InPhase.{InPhase}
 use Rattle.rm_destination.specs.declared.outcome.InPhase.TheVariants.{Open, Closed, Ended}
-use Rattle.sequence_table.specs.batches.Fact.{Fact}
+use Rattle.record_batch.specs.Fact.{Fact}
 use Rattle.sequence_table.specs.Makers.{makers, maker}
 use Rattle.sequence_table.specs.Sources.{accepted, acked, phase}
 use Rattle.sequence_table.specs.Destinations.{behaviour, discarded, held, inbox, is_ended, is_over}

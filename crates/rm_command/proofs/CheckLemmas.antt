@@ -2,8 +2,8 @@
 use Rattle.std.proofs.Common.{◌≡◌, ℕ, ◌≤◌, List, length, true, refl, arith}
 use Rattle.std.specs.Prelude.{IfSome}
 use Rattle.soap_envelope.specs.Soap.{soap_space}
-use Rattle.rm_protocol.specs.message_types.declared.message.Message.{Message}
-use Rattle.rm_protocol.specs.message_types.declared.refusal.Refusal.{Refusal}
+use Rattle.rm_message.specs.declared.message.Message.{Message}
+use Rattle.rm_message.specs.declared.refusal.Refusal.{Refusal}
 use Rattle.message_reader.specs.Message.{Wrong}
 use Rattle.message_reader.specs.Message as wrongs
 use Rattle.message_reader.specs.Refusals.{Spells, Refuses, refusal_of}
@@ -57,7 +57,7 @@ module _ (never : (soap bytes : List ℕ) (m : Message) (refusal : Refusal) → 
 
   -- which status comes of the bytes of a message
   pub check_status : {S K : Type 0} {e : Edge S K} {end : End} → RunsCheck end e
-      → IfSome e.input.left (λ bytes. IsCheckStatus bytes (status_of end))
+      → IfSome e.input.told.left (λ bytes. IsCheckStatus bytes (status_of end))
   check_status {S} {K} {e} {end} ran =
       filter_status 2097152 9 (Unit {0}) IsTextOf (λ _. ⊥) RefusesMessage IsAMessage
       (λ bytes text prints. (prints.message, prints.spells)) refused_message e end ran.ends
@@ -79,7 +79,7 @@ module _ (never_bad : (lines : List (List ℕ)) (events : List Event) (line : �
 
   -- which status comes of the bytes of a script
   pub replay_status : {S K : Type 0} {e : Edge S K} {end : End} {old new : Staged T} → RunsReplay end e old new
-      → IfSome e.input.left (λ bytes. IsReplayStatus bytes (status_of end))
+      → IfSome e.input.told.left (λ bytes. IsReplayStatus bytes (status_of end))
   replay_status {S} {K} {e} {end} {old} {new} ran =
       filter_status 16777216 3 (new ≡ old) (IsReportOf old.scene new.scene) (IsCutShortOf old.scene new.scene)
       (RefusesScript old new) IsAScript (λ bytes text prints. (prints.events, prints.script)) (refused_script old new)

@@ -1,4 +1,5 @@
 pub mod CheckLemmas
 pub mod PolicyLemmas
 pub mod RunLemmas
+pub mod StatusLemmas
 pub mod WordLemmas

@@ -55,7 +55,7 @@ module _ (reading : (bytes : List ℕ) (one other : Result Assertion PolicyError
 
   -- which status comes of the bytes of an assertion
   pub policy_status : {S K : Type 0} {e : Edge S K} {end : End} → RunsPolicy end e
-      → IfSome e.input.left (λ bytes. IsPolicyStatus bytes (status_of end))
+      → IfSome e.input.told.left (λ bytes. IsPolicyStatus bytes (status_of end))
   policy_status {S} {K} {e} {end} ran =
       filter_status 2097152 9 (Unit {0}) IsPolicyTextOf (λ _. ⊥) RefusesPolicy IsAnAssertion
       (λ bytes text prints. (prints.assertion, prints.is)) refused_policy e end ran.ends

@@ -23,8 +23,9 @@ module _ {S K : Type 0} (limit : ℕ) (Untouched : Type 0) (Prints : List ℕ �
   unread_ends Memory same ends = inl (same, ends)
 
   -- a text that was written, or was not
-  pub writing_ends : (end : End) (bytes text : List ℕ) → WasRead limit e.input e.input_after bytes → Prints bytes text
-      → EndsWriting text end e.out e.out_after → EndsFilter limit Untouched Prints Cuts Refuses end e
+  pub writing_ends : (end : End) (bytes text : List ℕ) → WasRead limit e.input.told e.input_after.told bytes
+      → Prints bytes text → EndsWriting text end e.out.told e.out_after.told
+      → EndsFilter limit Untouched Prints Cuts Refuses end e
   writing_ends Done bytes text read prints ends =
       record { bytes = bytes; text = text; read = read; prints = prints; written = ends }
   writing_ends Usage bytes text read prints ends = absurd ends
@@ -53,11 +54,12 @@ module _ {S K : Type 0} (limit refusal : ℕ) (Untouched : Type 0) (Prints : Lis
     (refuses : (bytes : List ℕ) (end : End) → Refuses bytes end → (¬ (Good bytes)) × (status_of end ≡ refusal))
     (e : Edge S K) where
   -- the bytes that were read are all, where they are known
-  good : (all : List ℕ) → e.input.left ≡ Some all → (bytes : List ℕ) → WasRead limit e.input e.input_after bytes
-      → Good bytes → (status : ℕ) → (status ≡ 0) ⊎ ((status ≡ 5) ⊎ ((status ≡ 4) ⊎ (status ≡ 10)))
+  good : (all : List ℕ) → e.input.told.left ≡ Some all → (bytes : List ℕ)
+      → WasRead limit e.input.told e.input_after.told bytes → Good bytes → (status : ℕ)
+      → (status ≡ 0) ⊎ ((status ≡ 5) ⊎ ((status ≡ 4) ⊎ (status ≡ 10)))
       → IsFilterStatus limit refusal (Good all) all status
   good all left bytes read is status comes =
-      let same : bytes ≡ all = known e.input.left all (λ x. bytes ≡ x) left read.whole in
+      let same : bytes ≡ all = known e.input.told.left all (λ x. bytes ≡ x) left read.whole in
       let short : length all ≤ limit = rw same at read.short in
       record {
         good = λ _ _. comes;
@@ -65,10 +67,11 @@ module _ {S K : Type 0} (limit refusal : ℕ) (Untouched : Type 0) (Prints : Lis
         longer = λ longer. absurd (omega (arith, short, longer));
       }
 
-  refused : (all : List ℕ) → e.input.left ≡ Some all → (bytes : List ℕ) → WasRead limit e.input e.input_after bytes
-      → (end : End) → Refuses bytes end → IsFilterStatus limit refusal (Good all) all (status_of end)
+  refused : (all : List ℕ) → e.input.told.left ≡ Some all → (bytes : List ℕ)
+      → WasRead limit e.input.told e.input_after.told bytes → (end : End) → Refuses bytes end
+      → IsFilterStatus limit refusal (Good all) all (status_of end)
   refused all left bytes read end why =
-      let same : bytes ≡ all = known e.input.left all (λ x. bytes ≡ x) left read.whole in
+      let same : bytes ≡ all = known e.input.told.left all (λ x. bytes ≡ x) left read.whole in
       let short : length all ≤ limit = rw same at read.short in
       record {
         good = λ _ is. absurd ((refuses bytes end why).0 (subst Good (sym same) is));
@@ -76,7 +79,7 @@ module _ {S K : Type 0} (limit refusal : ℕ) (Untouched : Type 0) (Prints : Lis
         longer = λ longer. absurd (omega (arith, short, longer));
       }
 
-  status : (all : List ℕ) → e.input.left ≡ Some all → (end : End)
+  status : (all : List ℕ) → e.input.told.left ≡ Some all → (end : End)
       → EndsFilter limit Untouched Prints Cuts Refuses end e
       → IsFilterStatus limit refusal (Good all) all (status_of end)
   status all left Done ran = good all left ran.bytes ran.read (prints ran.bytes ran.text ran.prints) 0 (inl refl)
@@ -87,7 +90,7 @@ module _ {S K : Type 0} (limit refusal : ℕ) (Untouched : Type 0) (Prints : Lis
   status all left WriteFault ran =
       good all left ran.1.bytes ran.1.read (prints ran.1.bytes ran.1.text ran.1.prints) 5 (inr (inl refl))
   status all left TooLong ran =
-      let long : limit < length all = known e.input.left all (λ x. limit < length x) left ran.1.0.longer in
+      let long : limit < length all = known e.input.told.left all (λ x. limit < length x) left ran.1.0.longer in
       record {
         good = λ short _. absurd (omega (arith, short, long));
         bad = λ short _. absurd (omega (arith, short, long));
@@ -99,7 +102,7 @@ module _ {S K : Type 0} (limit refusal : ℕ) (Untouched : Type 0) (Prints : Lis
 
   -- which status comes of bytes
   pub filter_status : (end : End) → EndsFilter limit Untouched Prints Cuts Refuses end e
-      → IfSome e.input.left (λ bytes. IsFilterStatus limit refusal (Good bytes) bytes (status_of end))
+      → IfSome e.input.told.left (λ bytes. IsFilterStatus limit refusal (Good bytes) bytes (status_of end))
   filter_status end ran =
-      if_some e.input.left (λ bytes. IsFilterStatus limit refusal (Good bytes) bytes (status_of end))
+      if_some e.input.told.left (λ bytes. IsFilterStatus limit refusal (Good bytes) bytes (status_of end))
       (λ all left. status all left end ran)

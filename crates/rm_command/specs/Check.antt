@@ -1,10 +1,10 @@
 -- What a run of `wsrm check` is, by how it ended, and what it prints.
 use Rattle.std.specs.Prelude.{◌≡◌, ℕ, Bool, true, false, List, Option, Some, None}
 use Rattle.soap_envelope.specs.Soap.{soap_space}
-use Rattle.rm_protocol.specs.message_types.declared.message.Message.{Message}
-use Rattle.rm_protocol.specs.message_types.declared.refusal.FaultKind.{FaultKind}
-use Rattle.rm_protocol.specs.message_types.declared.refusal.FaultKind.TheVariants as kinds
-use Rattle.rm_protocol.specs.message_types.declared.refusal.Refusal.{Refusal}
+use Rattle.rm_message.specs.declared.message.Message.{Message}
+use Rattle.rm_message.specs.declared.refusal.FaultKind.{FaultKind}
+use Rattle.rm_message.specs.declared.refusal.FaultKind.TheVariants as kinds
+use Rattle.rm_message.specs.declared.refusal.Refusal.{Refusal}
 use Rattle.message_reader.specs.Refusals.{Spells, Refuses}
 use Rattle.message_lines.specs.Lines.{message_lines}
 use Rattle.rm_command.specs.declared.end.End.{End}

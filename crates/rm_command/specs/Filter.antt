@@ -1,11 +1,12 @@
 -- What a command does that reads its input to the end and prints a text of it.
 use Rattle.std.specs.Prelude.{◌≡◌, ℕ, ◌<◌, ◌≤◌, ◌⊎◌, List, length, Result, Ok, Err}
 use Rattle.rm_base.specs.Count.{Rose}
+use Rattle.rm_base.specs.Outside.{Stream}
 use Rattle.rm_command.specs.declared.end.End.{End}
 use Rattle.rm_command.specs.declared.end.End.TheVariants.{Done, Usage, BadLine, ReadFault, WriteFault, TooLong}
 use Rattle.rm_command.specs.declared.end.End.TheVariants.{Refused, Memory}
 use Rattle.rm_base.specs.declared.blob.Blob.{Blob}
-use Rattle.rm_command.specs.Edge.{Edge, Output, WasRead, WasTooLong, WasWritten, WasBegun, WasSaid}
+use Rattle.rm_command.specs.Edge.{Edge, WasRead, WasTooLong, WasWritten, WasBegun, WasSaid}
 use Rattle.rm_command.specs.Status.{IsUnread, IsOutside}
 use Rattle.rm_command.specs.Texts.{line_of}
 
@@ -13,22 +14,22 @@ use Rattle.rm_command.specs.Texts.{line_of}
 pub record Printed {S K : Type 0} (limit : ℕ) (Prints : List ℕ → List ℕ → Type 0) (e : Edge S K) : Type 0 where
   pub bytes : List ℕ
   pub text : List ℕ
-  pub read : WasRead limit e.input e.input_after bytes
+  pub read : WasRead limit e.input.told e.input_after.told bytes
   pub prints : Prints bytes text
-  pub written : WasWritten e.out e.out_after text
+  pub written : WasWritten e.out.told e.out_after.told text
 
 -- at most so many bytes were read, and some first bytes of the text of them were written
 pub record PrintedInPart {S K : Type 0} (limit : ℕ) (Prints : List ℕ → List ℕ → Type 0) (e : Edge S K) : Type 0 where
   pub bytes : List ℕ
   pub text : List ℕ
-  pub read : WasRead limit e.input e.input_after bytes
+  pub read : WasRead limit e.input.told e.input_after.told bytes
   pub prints : Prints bytes text
-  pub begun : WasBegun e.out e.out_after text
+  pub begun : WasBegun e.out.told e.out_after.told text
 
 -- at most so many bytes were read, memory ran out while a text was made of them, and nothing was written
 pub record CutShort {S K : Type 0} (limit : ℕ) (Cuts : List ℕ → Type 0) (e : Edge S K) : Type 0 where
   pub bytes : List ℕ
-  pub read : WasRead limit e.input e.input_after bytes
+  pub read : WasRead limit e.input.told e.input_after.told bytes
   pub cut : Cuts bytes
   pub silent : e.out_after ≡ e.out
 
@@ -36,16 +37,18 @@ pub record CutShort {S K : Type 0} (limit : ℕ) (Cuts : List ℕ → Type 0) (e
 pub record RefusedInput {S K : Type 0} (limit : ℕ) (Refuses : List ℕ → End → Type 0) (end : End) (e : Edge S K)
     : Type 0 where
   pub bytes : List ℕ
-  pub read : WasRead limit e.input e.input_after bytes
+  pub read : WasRead limit e.input.told e.input_after.told bytes
   pub refuses : Refuses bytes end
-  pub said : WasSaid e.out e.out_after (line_of end)
+  pub said : WasSaid e.wants_memory e.out.told e.out_after.told (line_of end)
 
 -- the input was not read to its end, for one of three reasons
 abbrev pub EndsUnread : {S K : Type 0} → (limit : ℕ) → End → Edge S K → Type 0
 EndsUnread limit ReadFault e =
-    Rose e.input.faults e.input_after.faults × WasSaid e.out e.out_after (line_of ReadFault)
+    Rose e.input.told.faults e.input_after.told.faults
+    × WasSaid e.wants_memory e.out.told e.out_after.told (line_of ReadFault)
 EndsUnread limit TooLong e =
-    WasTooLong limit e.input e.input_after × WasSaid e.out e.out_after (line_of TooLong)
+    WasTooLong limit e.input.told e.input_after.told
+    × WasSaid e.wants_memory e.out.told e.out_after.told (line_of TooLong)
 EndsUnread limit Memory e = e.out_after ≡ e.out
 EndsUnread limit Done e = ⊥
 EndsUnread limit Usage e = ⊥
@@ -54,7 +57,7 @@ EndsUnread limit WriteFault e = ⊥
 EndsUnread limit (Refused fault) e = ⊥
 
 -- how a text was written, by how the call ended
-abbrev pub EndsWriting : {K : Type 0} → List ℕ → End → Output K → Output K → Type 0
+abbrev pub EndsWriting : List ℕ → End → Stream → Stream → Type 0
 EndsWriting text Done old new = WasWritten old new text
 EndsWriting text WriteFault old new = Rose old.faults new.faults × WasBegun old new text
 EndsWriting text Memory old new = WasBegun old new text
@@ -78,7 +81,7 @@ EndsFilter limit Untouched Prints Cuts Refuses Usage e = ⊥
 EndsFilter limit Untouched Prints Cuts Refuses (BadLine line) e = RefusedInput limit Refuses (BadLine line) e
 EndsFilter limit Untouched Prints Cuts Refuses ReadFault e = Untouched × EndsUnread limit ReadFault e
 EndsFilter limit Untouched Prints Cuts Refuses WriteFault e =
-    Rose e.out.faults e.out_after.faults × PrintedInPart limit Prints e
+    Rose e.out.told.faults e.out_after.told.faults × PrintedInPart limit Prints e
 EndsFilter limit Untouched Prints Cuts Refuses TooLong e = Untouched × EndsUnread limit TooLong e
 EndsFilter limit Untouched Prints Cuts Refuses (Refused fault) e = RefusedInput limit Refuses (Refused fault) e
 EndsFilter limit Untouched Prints Cuts Refuses Memory e =

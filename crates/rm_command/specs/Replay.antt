@@ -1,11 +1,11 @@
 -- What a run of `wsrm replay` is, by how it ended.
-use Rattle.std.specs.Prelude.{◌≡◌, ◌⊎◌, ℕ, List, [], take}
+use Rattle.std.specs.Prelude.{◌≡◌, ◌⊎◌, ℕ, List, take}
 use Rattle.rm_protocol.specs.Delivered.{TakesNew}
 use Rattle.rm_protocol.specs.Terms.{Terms}
 use Rattle.rm_script.specs.declared.event.Event.{Event}
 use Rattle.rm_script.specs.Script.{lines_of, IsScript, IsFirstBad}
 use Rattle.rm_replay.specs.Net.{AreOfNet}
-use Rattle.rm_replay.specs.Played.{Played, Ran, RanShort, Story}
+use Rattle.rm_replay.specs.Played.{IsUnmade, Played, Ran, RanShort, Story}
 use Rattle.rm_replay.specs.Shows.{Scene}
 use Rattle.rm_command.specs.declared.end.End.{End}
 use Rattle.rm_command.specs.declared.end.End.TheVariants.{BadLine}
@@ -13,8 +13,9 @@ use Rattle.rm_command.specs.Edge.{Edge}
 use Rattle.rm_command.specs.Filter.{EndsFilter, IsFilterStatus}
 use Rattle.rm_command.specs.Stage.{Staged}
 
--- the bytes are a script, all its lines were played by the protocol, and this is the report; and at each moment of the
--- script a delivered message that is new is recorded by its line, and released where it closes the gap
+-- the bytes are a script, all its lines were played by the protocol, this is the report, and what each source accepted
+-- is what it says was sent; and at each moment of the script a delivered message that is new is recorded by its line,
+-- and released where it closes the gap
 pub record IsReportOf (first now : Scene) (bytes text : List ℕ) : Type 0 where
   pub events : List Event
   pub script : IsScript (lines_of bytes) events
@@ -23,11 +24,11 @@ pub record IsReportOf (first now : Scene) (bytes text : List ℕ) : Type 0 where
       → TakesNew terms s.world
 
 -- the bytes are a script of which some first lines were played, and of the next one perhaps all but some last of its
--- packets; or there is no packet, and nothing is said of the disks
+-- packets; or a node was not made, and no line was played
 pub record IsCutShortOf (first now : Scene) (bytes : List ℕ) : Type 0 where
   pub events : List Event
   pub script : IsScript (lines_of bytes) events
-  pub ran : (terms : Terms) → AreOfNet terms → (now.packets ≡ []) ⊎ RanShort terms events first now
+  pub ran : (terms : Terms) → AreOfNet terms → IsUnmade first now ⊎ RanShort terms events first now
 
 -- why replay refuses bytes: the first line that is not in the grammar; and then the stage is as it was
 abbrev pub RefusesScript : {T : Type 0} → T → T → List ℕ → End → Type 0

@@ -1,13 +1,14 @@
 -- What the words ask for, and what a run of them is.
 use Rattle.std.specs.Prelude.{◌≡◌, ◌≢◌, ℕ, List, [], ◌∷◌, Option, Some, None, codes}
+use Rattle.rm_base.specs.Outside.{Lasts}
 use Rattle.rm_command.specs.declared.command.Command.{Command}
 use Rattle.rm_command.specs.declared.command.Command.TheVariants.{Replay, Check, Policy}
 use Rattle.rm_command.specs.declared.end.End.{End}
 use Rattle.rm_command.specs.declared.end.End.TheVariants.{Usage}
-use Rattle.rm_command.specs.Check.{EndsCheck}
-use Rattle.rm_command.specs.Edge.{Edge, KeepsInput, KeepsOutput, TookWithin, WasSaid}
-use Rattle.rm_command.specs.Policy.{EndsPolicy}
-use Rattle.rm_command.specs.Replay.{EndsReplay}
+use Rattle.rm_command.specs.Check.{EndsCheck, IsCheckStatus}
+use Rattle.rm_command.specs.Edge.{Edge, KeepsOutput, TookWithin, WasSaid}
+use Rattle.rm_command.specs.Policy.{EndsPolicy, IsPolicyStatus}
+use Rattle.rm_command.specs.Replay.{EndsReplay, IsReplayStatus}
 use Rattle.rm_command.specs.Stage.{Staged}
 use Rattle.rm_command.specs.Texts.{line_of}
 
@@ -41,26 +42,32 @@ IsNamed word (Some Replay) = word ≡ codes "replay"
 IsNamed word (Some Check) = word ≡ codes "check"
 IsNamed word (Some Policy) = word ≡ codes "policy"
 
+-- the status is one that comes of these bytes, by the words
+pub record IsStatusOf (words : List (List ℕ)) (bytes : List ℕ) (status : ℕ) : Type 0 where
+  pub replay : AsksReplay words → IsReplayStatus bytes status
+  pub check : AsksCheck words → IsCheckStatus bytes status
+  pub policy : AsksPolicy words → IsPolicyStatus bytes status
+
 -- a run of replay
 pub record RunsReplay {S K T : Type 0} (end : End) (e : Edge S K) (old new : Staged T) : Type 0 where
   pub ends : EndsReplay end e old new
-  pub taken : TookWithin 16777216 end e.input e.input_after
+  pub taken : TookWithin 16777216 end e.input.told e.input_after.told
 
 -- a run of check
 pub record RunsCheck {S K : Type 0} (end : End) (e : Edge S K) : Type 0 where
   pub ends : EndsCheck end e
-  pub taken : TookWithin 2097152 end e.input e.input_after
+  pub taken : TookWithin 2097152 end e.input.told e.input_after.told
 
 -- a run of policy
 pub record RunsPolicy {S K : Type 0} (end : End) (e : Edge S K) : Type 0 where
   pub ends : EndsPolicy end e
-  pub taken : TookWithin 2097152 end e.input e.input_after
+  pub taken : TookWithin 2097152 end e.input.told e.input_after.told
 
 -- the words are refused, and nothing was read
 pub record RunsNothing {S K : Type 0} (end : End) (e : Edge S K) : Type 0 where
   pub usage : end ≡ Usage
   pub unread : e.input_after ≡ e.input
-  pub said : WasSaid e.out e.out_after (line_of Usage)
+  pub said : WasSaid e.wants_memory e.out.told e.out_after.told (line_of Usage)
 
 -- what a run did, by its words and how it ended; only replay changes the stage
 pub record Runs {S K T : Type 0} (words : List (List ℕ)) (end : End) (e : Edge S K) (old new : Staged T)
@@ -70,5 +77,5 @@ pub record Runs {S K T : Type 0} (words : List (List ℕ)) (end : End) (e : Edge
   pub policy : AsksPolicy words → RunsPolicy end e
   pub nothing : AsksNothing words → RunsNothing end e
   pub stage : ¬ (AsksReplay words) → new ≡ old
-  pub input : KeepsInput e.input e.input_after
-  pub out : KeepsOutput end e.out e.out_after
+  pub input : Lasts e.input.told e.input_after.told
+  pub out : KeepsOutput e.wants_memory end e.out e.out_after

@@ -1,8 +1,9 @@
 -- What a run does to a stage, the disks of two nodes and the wire between them, and the headline.
-use Rattle.std.specs.Prelude.{◌≡◌, ◌≢◌, ◌⊎◌, ℕ, List, [], Option}
-use Rattle.rm_disk.specs.Call.{Call}
+use Rattle.std.specs.Prelude.{◌≡◌, ◌≢◌, ◌⊎◌, ℕ, List}
+use Rattle.rm_disk.specs.Told.{Told}
 use Rattle.rm_replay.specs.declared.stage.Stage.{Stage}
 use Rattle.rm_replay.specs.Headline.{KeepsHeadline}
+use Rattle.rm_replay.specs.Played.{IsUnmade}
 use Rattle.rm_replay.specs.Shows.{Scene, scene_of}
 
 -- a stage, and what its disks and its wire show
@@ -11,19 +12,17 @@ pub record Staged (T : Type 0) : Type 0 where
   pub scene : Scene
 
 -- what a stage shows, by the ghost members of its disks and of its wire
-abbrev pub staged_of : {M W : Type 0} → (M → List Call) → (M → Option ℕ) → (M → ℕ) → (W → List (ℕ × List ℕ))
-    → Stage M W → Staged (Stage M W)
-staged_of past fuse faults packets s =
-    record { stage = s; scene = scene_of past fuse faults packets s }
+abbrev pub staged_of : {M W : Type 0} → (M → Told) → (W → List (ℕ × List ℕ)) → Stage M W → Staged (Stage M W)
+staged_of told packets s = record { stage = s; scene = scene_of told packets s }
 
 -- each two images of the disks keep the word
 abbrev pub KeepsHeadlineIn : Scene → Type 0
 KeepsHeadlineIn scene = KeepsHeadline scene.drives.one.disk.past scene.drives.two.disk.past
 
 -- the headline, by the status of a replay: it holds of both disks where a report was made; where memory was wanting, it
--- holds as well unless no packet was ever sent; and at each other status nothing changed
+-- holds as well, unless the stage is as it was or a node was not made; and at each other status nothing changed
 pub record KeepsWordAt {T : Type 0} (status : ℕ) (old new : Staged T) : Type 0 where
   pub done : status ≡ 0 → KeepsHeadlineIn new.scene
   pub unwritten : status ≡ 5 → KeepsHeadlineIn new.scene
-  pub short : status ≡ 10 → (new.scene.packets ≡ []) ⊎ KeepsHeadlineIn new.scene
+  pub short : status ≡ 10 → (new ≡ old) ⊎ (IsUnmade old.scene new.scene ⊎ KeepsHeadlineIn new.scene)
   pub other : status ≢ 0 → status ≢ 5 → status ≢ 10 → new ≡ old

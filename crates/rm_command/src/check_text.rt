@@ -8,7 +8,7 @@ use crate::filter::NoText;
 use message_lines::message_lines;
 use message_reader::decode;
 use rm_base::Blob;
-use rm_protocol::message_types::{DecodeError, FaultKind, Refusal};
+use rm_message::{DecodeError, FaultKind, Refusal};
 use std::alloc::Global;
 
 /// What is printed of bytes, where they spell a message.

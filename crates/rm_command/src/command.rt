@@ -1,13 +1,11 @@
 //! The whole program over any input and output.
-ghost use Rattle.std.specs.Prelude.{◌≡◌, ◌↔◌, [], None, IfSome};
-ghost use Rattle.rm_command.specs.Check.{IsCheckStatus};
-ghost use Rattle.rm_command.specs.Edge.{input_of, output_of, edge_of};
-ghost use Rattle.rm_command.specs.Policy.{IsPolicyStatus};
-ghost use Rattle.rm_command.specs.Replay.{IsReplayStatus};
-ghost use Rattle.rm_command.specs.Run.{AsksReplay, AsksCheck, AsksPolicy, AsksNothing, Asks, IsNamed, Runs};
+ghost use Rattle.std.specs.Prelude.{◌≡◌, ◌↔◌, IfSome};
+ghost use Rattle.rm_command.specs.Edge.{edge_of};
+ghost use Rattle.rm_command.specs.Run.{AsksReplay, AsksNothing, Asks, IsNamed, IsStatusOf, Runs};
 ghost use Rattle.rm_command.specs.Stage.{KeepsWordAt, staged_of};
 ghost use Rattle.rm_command.specs.Status.{status_of};
 ghost use Rattle.rm_command.specs.declared.end.End.{End as AnEnd};
+ghost use Rattle.rm_replay.specs.Shows.{IsFresh, scene_of};
 
 use crate::check::check;
 use crate::end::{End, refuse};
@@ -16,10 +14,10 @@ use crate::replay::replay;
 use message_reader::laws::a_message_is_not_refused;
 use rm_base::{Blob, Sink, Source};
 use rm_disk::CrashDisk;
+use rm_network::Wire;
 use rm_policy::laws::one_reading;
 use rm_replay::Stage;
 use rm_script::laws::no_bad_line;
-use rm_wires::Wire;
 use std::alloc::Global;
 
 /// Does what the words say, those after the program's name, and answers the exit status.
@@ -30,26 +28,20 @@ pub fn run<S: Source, K: Sink, M: CrashDisk, W: Wire>(
     out: &mut K,
     stage: &mut Stage<M, W>,
 ) -> u8
-    requires one { M.fuse stage.old.one ≡ None }
-    requires two { M.fuse stage.old.two ≡ None }
-    requires silent { W.packets stage.old.wire ≡ [] }
+    requires fresh { IsFresh (scene_of M.told W.packets stage.old) }
 
     // The headline, over every input and output, over every two disks and every wire.
     ensures word { AsksReplay words.now → KeepsWordAt result
-        (staged_of M.past M.fuse M.faults W.packets stage.old) (staged_of M.past M.fuse M.faults W.packets stage.new) }
-    ensures others { ¬ (AsksReplay words.now) → stage.new ≡ stage.old }
+        (staged_of M.told W.packets stage.old) (staged_of M.told W.packets stage.new) }
 
     // What was done, by the words and the status.
     ensures runs { (end : AnEnd) × (result ≡ status_of end)
-        × Runs words.now end (edge_of (input_of S.left S.faults S.taken S.is_sound)
-        (output_of K.held K.faults K.wants_memory K.is_sound) input.old input.new out.old out.new)
-        (staged_of M.past M.fuse M.faults W.packets stage.old) (staged_of M.past M.fuse M.faults W.packets stage.new) }
+        × Runs words.now end (edge_of S.told K.told K.wants_memory input.old input.new out.old out.new)
+        (staged_of M.told W.packets stage.old) (staged_of M.told W.packets stage.new) }
     ensures usage { (result ≡ 2) ↔ AsksNothing words.now }
 
-    // Which status comes of bytes.
-    ensures replays { AsksReplay words.now → IfSome (S.left input.old) (λ bytes. IsReplayStatus bytes result) }
-    ensures checks { AsksCheck words.now → IfSome (S.left input.old) (λ bytes. IsCheckStatus bytes result) }
-    ensures policies { AsksPolicy words.now → IfSome (S.left input.old) (λ bytes. IsPolicyStatus bytes result) }
+    // Which status comes of bytes, where the input tells them.
+    ensures status { IfSome (S.told input.old).left (λ bytes. IsStatusOf words.now bytes result) }
 {
     // What bytes can't be at once decides which status comes of them.
     a_message_is_not_refused();
@@ -66,14 +58,11 @@ fn obey<S: Source, K: Sink, M: CrashDisk, W: Wire>(
     out: &mut K,
     stage: &mut Stage<M, W>,
 ) -> End
-    requires one { M.fuse stage.old.one ≡ None }
-    requires two { M.fuse stage.old.two ≡ None }
-    requires silent { W.packets stage.old.wire ≡ [] }
+    requires fresh { IsFresh (scene_of M.told W.packets stage.old) }
     ensures word { AsksReplay words.now → KeepsWordAt (status_of result)
-        (staged_of M.past M.fuse M.faults W.packets stage.old) (staged_of M.past M.fuse M.faults W.packets stage.new) }
-    ensures runs { Runs words.now result (edge_of (input_of S.left S.faults S.taken S.is_sound)
-        (output_of K.held K.faults K.wants_memory K.is_sound) input.old input.new out.old out.new)
-        (staged_of M.past M.fuse M.faults W.packets stage.old) (staged_of M.past M.fuse M.faults W.packets stage.new) }
+        (staged_of M.told W.packets stage.old) (staged_of M.told W.packets stage.new) }
+    ensures runs { Runs words.now result (edge_of S.told K.told K.wants_memory input.old input.new out.old out.new)
+        (staged_of M.told W.packets stage.old) (staged_of M.told W.packets stage.new) }
 {
     match command_of(words) {
         Some(Command::Replay) => replay(alloc, input, out, stage),

@@ -1,6 +1,7 @@
 //! How a run ends: its status, and the line of a refusal.
-ghost use Rattle.std.specs.Prelude.{◌≡◌, ◌≤◌, ◌⊎◌, true, IfOk};
-ghost use Rattle.rm_command.specs.Edge.{output_of, WasSaid, KeepsOutput};
+ghost use Rattle.std.specs.Prelude.{◌≡◌, ◌⊎◌, IfOk};
+ghost use Rattle.rm_base.specs.Outside.{Lasts};
+ghost use Rattle.rm_command.specs.Edge.{side_of, WasSaid, KeepsOutput};
 ghost use Rattle.rm_command.specs.Status.{status_of};
 ghost use Rattle.rm_command.specs.Texts.{line_of};
 
@@ -85,11 +86,10 @@ impl Fault {
 
 /// Refuses a script for its first bad line. Want of memory for the text is answered in its place, with nothing written.
 pub fn refuse_line<K: Sink>(alloc: Global, out: &mut K, line: u64) -> End
-    ensures said { ((result ≡ End.BadLine line) × WasSaid (output_of K.held K.faults K.wants_memory K.is_sound out.old)
-        (output_of K.held K.faults K.wants_memory K.is_sound out.new) (line_of (End.BadLine line)))
+    ensures said { ((result ≡ End.BadLine line)
+        × WasSaid K.wants_memory (K.told out.old) (K.told out.new) (line_of (End.BadLine line)))
         ⊎ ((result ≡ End.Memory) × (out.new ≡ out.old)) }
-    ensures kept { KeepsOutput result (output_of K.held K.faults K.wants_memory K.is_sound out.old)
-        (output_of K.held K.faults K.wants_memory K.is_sound out.new) }
+    ensures kept { KeepsOutput K.wants_memory result (side_of K.told out.old) (side_of K.told out.new) }
 {
     match bad_line(alloc, line) {
         Ok(text) => refuse(out, End::BadLine { line }, text.as_slice()),
@@ -110,10 +110,8 @@ fn bad_line(alloc: Global, line: u64) -> Result<Blob, Memory>
 /// Writes the line of a refusal, and answers the refusal: a write that fails leaves it as it is.
 pub fn refuse<K: Sink>(out: &mut K, refusal: End, line: &[u8]) -> End
     ensures same { result ≡ refusal }
-    ensures said { WasSaid (output_of K.held K.faults K.wants_memory K.is_sound out.old)
-        (output_of K.held K.faults K.wants_memory K.is_sound out.new) line.now }
-    ensures never_falls { K.faults out.old ≤ K.faults out.new }
-    ensures sound { K.is_sound out.old ≡ true → K.faults out.new ≡ K.faults out.old }
+    ensures said { WasSaid K.wants_memory (K.told out.old) (K.told out.new) line.now }
+    ensures lasts { Lasts (K.told out.old) (K.told out.new) }
 {
     let _ = write_all(out, line);
     refusal

@@ -1,6 +1,6 @@
 //! What commands share that read their input to the end and print a text of it: the reading, and the writing.
 ghost use Rattle.std.specs.Prelude.{◌≡◌, ◌<◌, ◌^◌, IfOk, IfErr, OnOk};
-ghost use Rattle.rm_command.specs.Edge.{input_of, output_of, edge_of, WasRead, KeepsEdge, KeepsOutput};
+ghost use Rattle.rm_command.specs.Edge.{side_of, edge_of, WasRead, KeepsEdge, KeepsOutput};
 ghost use Rattle.rm_command.specs.Filter.{EndsUnread, EndsWriting, end_of};
 ghost use Rattle.rm_command.specs.declared.filter.NoText.TheVariants.{Memory as WantsMemory};
 
@@ -31,13 +31,12 @@ pub fn read_input<S: Source, K: Sink>(
     limit: usize,
 ) -> Result<Blob, End>
     requires { limit < 2 ^ 62 }
-    ensures read { IfOk result (λ bytes. WasRead limit (input_of S.left S.faults S.taken S.is_sound input.old)
-        (input_of S.left S.faults S.taken S.is_sound input.new) bytes) }
+    ensures read { IfOk result (λ bytes. WasRead limit (S.told input.old) (S.told input.new) bytes) }
     ensures silent { OnOk result (out.new ≡ out.old) }
-    ensures refused { IfErr result (λ end. EndsUnread limit end (edge_of (input_of S.left S.faults S.taken S.is_sound)
-        (output_of K.held K.faults K.wants_memory K.is_sound) input.old input.new out.old out.new)) }
-    ensures kept { KeepsEdge limit (end_of result) (edge_of (input_of S.left S.faults S.taken S.is_sound)
-        (output_of K.held K.faults K.wants_memory K.is_sound) input.old input.new out.old out.new) }
+    ensures refused { IfErr result (λ end. EndsUnread limit end
+        (edge_of S.told K.told K.wants_memory input.old input.new out.old out.new)) }
+    ensures kept { KeepsEdge limit (end_of result)
+        (edge_of S.told K.told K.wants_memory input.old input.new out.old out.new) }
 {
     match read_up_to(alloc, input, limit) {
         Ok(bytes) => Ok(bytes),
@@ -49,10 +48,8 @@ pub fn read_input<S: Source, K: Sink>(
 
 /// Writes a text whole.
 pub fn write_text<K: Sink>(out: &mut K, text: &[u8]) -> End
-    ensures ends { EndsWriting text.now result (output_of K.held K.faults K.wants_memory K.is_sound out.old)
-        (output_of K.held K.faults K.wants_memory K.is_sound out.new) }
-    ensures kept { KeepsOutput result (output_of K.held K.faults K.wants_memory K.is_sound out.old)
-        (output_of K.held K.faults K.wants_memory K.is_sound out.new) }
+    ensures ends { EndsWriting text.now result (K.told out.old) (K.told out.new) }
+    ensures kept { KeepsOutput K.wants_memory result (side_of K.told out.old) (side_of K.told out.new) }
 {
     match write_all(out, text) {
         Ok(()) => End::Done,

@@ -1,24 +1,20 @@
 //! The command `policy`: reads an assertion of reliable messaging, and prints what it says.
-ghost use Rattle.rm_command.specs.Edge.{input_of, output_of, edge_of, KeepsEdge};
+ghost use Rattle.rm_command.specs.Edge.{edge_of, KeepsEdge};
 ghost use Rattle.rm_command.specs.Policy.{EndsPolicy};
 
 use crate::end::{End, refuse};
 use crate::filter::{NoText, read_input, write_text};
 use crate::policy_text::text_of;
+use rm_base::limits::ENVELOPE_BYTES;
 use rm_base::{Sink, Source};
 use std::alloc::Global;
 
-/// How many bytes an assertion has at most.
-pub const ASSERTION_LIMIT: usize = 2097152;
-
 /// Reads an assertion, and prints what it says.
 pub fn policy<S: Source, K: Sink>(alloc: Global, input: &mut S, out: &mut K) -> End
-    ensures ends { EndsPolicy result (edge_of (input_of S.left S.faults S.taken S.is_sound)
-        (output_of K.held K.faults K.wants_memory K.is_sound) input.old input.new out.old out.new) }
-    ensures kept { KeepsEdge 2097152 result (edge_of (input_of S.left S.faults S.taken S.is_sound)
-        (output_of K.held K.faults K.wants_memory K.is_sound) input.old input.new out.old out.new) }
+    ensures ends { EndsPolicy result (edge_of S.told K.told K.wants_memory input.old input.new out.old out.new) }
+    ensures kept { KeepsEdge 2097152 result (edge_of S.told K.told K.wants_memory input.old input.new out.old out.new) }
 {
-    let bytes = match read_input(alloc, input, out, ASSERTION_LIMIT) {
+    let bytes = match read_input(alloc, input, out, ENVELOPE_BYTES) {
         Ok(bytes) => bytes,
         Err(end) => return end,
     };

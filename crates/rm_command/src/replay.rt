@@ -1,23 +1,21 @@
 //! The command `replay`: reads a script, plays it over two nodes on two disks, and prints the report.
-ghost use Rattle.std.specs.Prelude.{◌≡◌, [], None};
-ghost use Rattle.rm_command.specs.Edge.{input_of, output_of, edge_of, KeepsEdge};
+ghost use Rattle.rm_command.specs.Edge.{edge_of, KeepsEdge};
 ghost use Rattle.rm_command.specs.Replay.{EndsReplay};
 ghost use Rattle.rm_command.specs.Stage.{KeepsWordAt, staged_of};
+ghost use Rattle.rm_replay.specs.Shows.{IsFresh, scene_of};
 ghost use Rattle.rm_command.specs.Status.{status_of};
 
 use crate::end::{End, refuse_line};
 use crate::filter::{read_input, write_text};
+use rm_base::limits::SCRIPT_BYTES;
 use rm_base::{Memory, Sink, Source};
 use rm_disk::CrashDisk;
+use rm_network::Wire;
 use rm_replay::laws::a_delivered_message_is_taken;
 use rm_replay::{Stage, run_script};
 use rm_script::laws::values_are_within;
 use rm_script::{ScriptError, read_script};
-use rm_wires::Wire;
 use std::alloc::Global;
-
-/// How many bytes a script has at most.
-pub const SCRIPT_LIMIT: usize = 16777216;
 
 /// Reads a script, plays it over the stage, and prints the report.
 pub fn replay<S: Source, K: Sink, M: CrashDisk, W: Wire>(
@@ -26,21 +24,18 @@ pub fn replay<S: Source, K: Sink, M: CrashDisk, W: Wire>(
     out: &mut K,
     stage: &mut Stage<M, W>,
 ) -> End
-    requires one { M.fuse stage.old.one ≡ None }
-    requires two { M.fuse stage.old.two ≡ None }
-    requires silent { W.packets stage.old.wire ≡ [] }
-    ensures word { KeepsWordAt (status_of result) (staged_of M.past M.fuse M.faults W.packets stage.old)
-        (staged_of M.past M.fuse M.faults W.packets stage.new) }
-    ensures ends { EndsReplay result (edge_of (input_of S.left S.faults S.taken S.is_sound)
-        (output_of K.held K.faults K.wants_memory K.is_sound) input.old input.new out.old out.new)
-        (staged_of M.past M.fuse M.faults W.packets stage.old) (staged_of M.past M.fuse M.faults W.packets stage.new) }
-    ensures kept { KeepsEdge 16777216 result (edge_of (input_of S.left S.faults S.taken S.is_sound)
-        (output_of K.held K.faults K.wants_memory K.is_sound) input.old input.new out.old out.new) }
+    requires fresh { IsFresh (scene_of M.told W.packets stage.old) }
+    ensures word { KeepsWordAt (status_of result) (staged_of M.told W.packets stage.old)
+        (staged_of M.told W.packets stage.new) }
+    ensures ends { EndsReplay result (edge_of S.told K.told K.wants_memory input.old input.new out.old out.new)
+        (staged_of M.told W.packets stage.old) (staged_of M.told W.packets stage.new) }
+    ensures kept { KeepsEdge 16777216 result
+        (edge_of S.told K.told K.wants_memory input.old input.new out.old out.new) }
 {
     // A script says nothing beyond the limits that a run asks for, and what it delivers is taken.
     values_are_within();
     a_delivered_message_is_taken();
-    let bytes = match read_input(alloc, input, out, SCRIPT_LIMIT) {
+    let bytes = match read_input(alloc, input, out, SCRIPT_BYTES) {
         Ok(bytes) => bytes,
         Err(end) => return end,
     };

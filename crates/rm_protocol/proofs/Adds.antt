@@ -6,7 +6,7 @@ use Rattle.std.specs.List.{flat_map}
 use Rattle.std.proofs.lemmas.List.{map-append}
 use Rattle.std.proofs.lemmas.List.Concat.{flat_map-append}
 use Rattle.rm_base.specs.Numbered.{numbered}
-use Rattle.sequence_table.specs.batches.Fact.{Fact, Creating, Created, Granted}
+use Rattle.record_batch.specs.Fact.{Fact, Creating, Created, Granted}
 use Rattle.sequence_table.specs.Words.{Text}
 use Rattle.sequence_table.specs.Makers.{Maker, Incoming, Taken, makers, makers_of, draws_of, counter, created}
 use Rattle.sequence_table.specs.Makers.{created_of, ident_in, seq_in}

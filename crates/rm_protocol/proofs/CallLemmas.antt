@@ -5,18 +5,19 @@ use Rattle.std.specs.Prelude.{Option, Some, None, IfSome}
 use Rattle.std.specs.List.{AllByRecursion, flat_map}
 use Rattle.rm_base.specs.declared.message.Behaviour.{Behaviour}
 use Rattle.rm_base.specs.declared.message.Cause.TheVariants.{Operator, Expired}
-use Rattle.rm_message.specs.elements.declared.lapse.Lapse.{Lapse}
-use Rattle.rm_message.specs.elements.declared.lifecycle.Lifecycle.TheVariants as life
+use Rattle.rm_elements.specs.declared.lapse.Lapse.{Lapse}
+use Rattle.rm_elements.specs.declared.lifecycle.Lifecycle.TheVariants as life
 use Rattle.rm_source.specs.declared.phase.OutPhase.{OutPhase}
 use Rattle.rm_message.specs.declared.message.Body.TheVariants as body
 use Rattle.rm_message.specs.declared.message.Message.{Message}
-use Rattle.sequence_table.specs.batches.declared.record.OwnOffer.{OwnOffer}
-use Rattle.sequence_table.specs.batches.declared.record.PeerOffer.{PeerOffer}
-use Rattle.sequence_table.specs.batches.declared.record.Via.{Via}
-use Rattle.sequence_table.specs.batches.Fact.{Fact, Creating, Granted, Accepted, Closing, ClosedOut, Closed, Ending}
-use Rattle.sequence_table.specs.batches.Fact.{EndedOut}
-use Rattle.sequence_table.specs.batches.Fact.{Ended, Failed}
-use Rattle.sequence_table.specs.Words.{Text, is_empty, at_seq, last_or}
+use Rattle.record_batch.specs.declared.record.OwnOffer.{OwnOffer}
+use Rattle.record_batch.specs.declared.record.PeerOffer.{PeerOffer}
+use Rattle.record_batch.specs.declared.record.Via.{Via}
+use Rattle.record_batch.specs.Fact.{Fact, Creating, Granted, Accepted, Closing, ClosedOut, Closed, Ending}
+use Rattle.record_batch.specs.Fact.{EndedOut}
+use Rattle.record_batch.specs.Fact.{Ended, Failed}
+use Rattle.rm_destination.specs.Messages.{is_empty}
+use Rattle.sequence_table.specs.Words.{Text, at_seq, last_or}
 use Rattle.sequence_table.specs.Idents.{issue}
 use Rattle.sequence_table.specs.Makers.{Maker, Outgoing, Offered, Incoming, Taken, makers, makers_of, maker, counter}
 use Rattle.sequence_table.specs.Makers.{number, address}
@@ -29,7 +30,8 @@ use Rattle.std.specs.Option.{option_to_list}
 use Rattle.rm_message.specs.declared.refusal.FaultKind.{FaultKind}
 use Rattle.rm_message.specs.declared.refusal.Refusal.{Refusal}
 use Rattle.sequence_table.specs.Sources.{first_phase, all_unacked, unacked}
-use Rattle.sequence_table.specs.Destinations.{is_past, deadline_of}
+use Rattle.rm_destination.specs.Incoming.{is_past}
+use Rattle.sequence_table.specs.Destinations.{deadline_of}
 use Rattle.rm_protocol.specs.Calls.{Answer, Cause, NoSequence, WrongSide, NotOpen, PayloadTooLong, BadPayload}
 use Rattle.rm_protocol.specs.Calls.{WindowFull, NodeFull, Rollover, StoreFull, TooManySequences, refusal, adds}
 use Rattle.rm_protocol.specs.Calls.{if_room, Wish, offer_of, wanted, create, is_open, send_out, on_outgoing, send}

@@ -6,18 +6,19 @@ use Rattle.std.specs.Prelude.{Option, Some, None, is_none, IfSome, Result, Ok, E
 use Rattle.std.specs.List.{AllByRecursion, flat_map, list_all, list_any}
 use Rattle.std.specs.Option.{option_to_list}
 use Rattle.std.proofs.lemmas.List.Concat.{flat_map-append}
+use Rattle.ack_ranges.specs.declared.range.Range.{Range}
 use Rattle.ack_ranges.specs.Changes.{united, covers_all}
 use Rattle.rm_base.specs.Numbered.{numbered}
 use Rattle.rm_base.specs.NumberSet.{has_number}
 use Rattle.rm_base.specs.declared.message.Behaviour.{Behaviour}
 use Rattle.rm_base.specs.declared.message.Cause.TheVariants.{Operator, Peer, Expired, NotTaken}
 use Rattle.rm_base.specs.declared.message.Payload.{Payload}
-use Rattle.rm_message.specs.elements.declared.header.AckBlock.{AckBlock}
-use Rattle.rm_message.specs.elements.declared.header.SeqHeader.{SeqHeader}
-use Rattle.rm_message.specs.elements.declared.lapse.Lapse.{Lapse}
-use Rattle.rm_message.specs.elements.declared.lifecycle.CreateResponse.{CreateResponse}
-use Rattle.rm_message.specs.elements.declared.lifecycle.CreateSequence.{CreateSequence}
-use Rattle.rm_message.specs.elements.declared.lifecycle.Lifecycle.TheVariants as life
+use Rattle.rm_elements.specs.declared.header.AckBlock.{AckBlock}
+use Rattle.rm_elements.specs.declared.header.SeqHeader.{SeqHeader}
+use Rattle.rm_elements.specs.declared.lapse.Lapse.{Lapse}
+use Rattle.rm_elements.specs.declared.lifecycle.CreateResponse.{CreateResponse}
+use Rattle.rm_elements.specs.declared.lifecycle.CreateSequence.{CreateSequence}
+use Rattle.rm_elements.specs.declared.lifecycle.Lifecycle.TheVariants as life
 use Rattle.rm_source.specs.declared.phase.OutPhase.{OutPhase}
 use Rattle.rm_source.specs.declared.phase.OutPhase.TheVariants as out
 use Rattle.rm_message.specs.declared.message.Body.{Body}
@@ -27,12 +28,12 @@ use Rattle.rm_message.specs.declared.refusal.Refusal.{Refusal}
 use Rattle.rm_message.specs.declared.message.Body.TheVariants as body
 use Rattle.soap_profile.specs.Tree.{Element}
 use Rattle.soap_profile.specs.declared.name.Expanded.{Expanded}
-use Rattle.rm_message.specs.addressing.declared.endpoint.Epr.{Epr}
-use Rattle.sequence_table.specs.batches.Fact.{Fact, Creating, Created, Granted, Closing, ClosedOut, Accepted, Acked}
-use Rattle.sequence_table.specs.batches.Fact.{Received}
-use Rattle.sequence_table.specs.batches.Fact.{Closed, Ending, EndedOut, Ended, Failed}
-use Rattle.sequence_table.specs.batches.declared.record.PeerOffer.{PeerOffer}
-use Rattle.sequence_table.specs.batches.declared.record.Via.{Via}
+use Rattle.wsa_headers.specs.declared.endpoint.Epr.{Epr}
+use Rattle.record_batch.specs.Fact.{Fact, Creating, Created, Granted, Closing, ClosedOut, Accepted, Acked}
+use Rattle.record_batch.specs.Fact.{Received}
+use Rattle.record_batch.specs.Fact.{Closed, Ending, EndedOut, Ended, Failed}
+use Rattle.record_batch.specs.declared.record.PeerOffer.{PeerOffer}
+use Rattle.record_batch.specs.declared.record.Via.{Via}
 use Rattle.sequence_table.specs.Words.{Text, at_seq}
 use Rattle.sequence_table.specs.Makers.{Maker, Outgoing, Offered, Incoming, Taken, makers, makers_of, maker, created}
 use Rattle.sequence_table.specs.Makers.{created_of, seq_in, counter}
@@ -41,7 +42,9 @@ use Rattle.sequence_table.specs.Find.{find_incoming, find_outgoing, find_creatin
 use Rattle.sequence_table.specs.Find.{is_offered, find_from}
 use Rattle.sequence_table.specs.Fits.{is_outgoing_side, is_incoming_side, follows, follows_at, is_up_to, fits}
 use Rattle.sequence_table.specs.Fits.{all_fit, is_no_moment, has_places}
-use Rattle.sequence_table.specs.Destinations.{held, front, close_of, closes, any_true, is_stopped, has_end, is_past}
+use Rattle.rm_destination.specs.Incoming.{is_past}
+use Rattle.rm_destination.specs.Messages.{any_true}
+use Rattle.sequence_table.specs.Destinations.{held, front, close_of, closes, is_stopped, has_end}
 use Rattle.sequence_table.specs.Destinations.{is_over, is_ended, deadline_of}
 use Rattle.rm_protocol.specs.Verdict.{tests, is_above, verdict, has_room, is_invalid, is_invalid_at, refuses_create}
 use Rattle.rm_protocol.specs.Addresses.{is_nowhere}
@@ -52,7 +55,7 @@ use Rattle.rm_protocol.specs.Calls.{close_by, close, may_end, end_out, end, expi
 use Rattle.rm_protocol.specs.Calls.{final_ack, made_by}
 use Rattle.rm_protocol.specs.Detail.{found_by, first_found, ident_of, named_in}
 use Rattle.rm_protocol.specs.Messages.{data_at, request_at}
-use Rattle.rm_protocol.specs.Next.{BeginsAtOne, IsMessageNumber, HasNumbers, IsReadable, AddsNext}
+use Rattle.rm_protocol.specs.Next.{HasRanges, IsMessageNumber, IsNumberRange, HasNumbers, IsReadable, AddsNext}
 use Rattle.rm_protocol.specs.Rows.{then_row, ranges_of, last_of, ack_at, ack_row, final_at, final_row, ack_rows}
 use Rattle.rm_protocol.specs.Rows.{data_row_at, data_row, taken_of, create_at, create_row, drop_at, drop_unless}
 use Rattle.rm_protocol.specs.Rows.{response_at, response_row, close_at, terminate_at, closed_in, ended_in, closed_at}
@@ -112,19 +115,24 @@ quiet-then r d e g h = record {
 -- a block that is not refused
 record IsValid (r : List Fact) (block : AckBlock) : Type 0 where
   valid : is_invalid r block ≡ false
-  begins : BeginsAtOne block
+  ranges : HasRanges block
 
 valid-kept : (r new : List Fact) (block : AckBlock) → Stays r new → IsValid r block → IsValid new block
 valid-kept r new block w h = record {
   valid =
       ap (λ z. is_invalid_at new (ranges_of block.kind) (seq_in z block.ident)) w.created_
       ∙ by_found (find_outgoing r block.ident) ∙ h.valid;
-  begins = h.begins;
+  ranges = h.ranges;
 }
   where
     by_found : (x : Option ℕ) → is_invalid_at new (ranges_of block.kind) x ≡ is_invalid_at r (ranges_of block.kind) x
     by_found None = refl
     by_found (Some s) = ap (λ z. is_above (length z) (ranges_of block.kind)) (w.accepted_ s)
+
+-- ranges of message numbers begin at 1 or later
+begin_at_one : (ranges : List Range) → AllByRecursion IsNumberRange ranges
+    → AllByRecursion (λ (range : Range). 1 ≤ range.lower) ranges
+begin_at_one ranges h = All-weaker IsNumberRange (λ (range : Range). 1 ≤ range.lower) (λ range is. is.lower) ranges h
 
 -- ranges, and Final
 ack_row-quiet : (r : List Fact) (block : AckBlock) → all_fit [] r ≡ true → IsValid r block
@@ -142,7 +150,8 @@ ack_row-quiet r block h v = by_found (find_outgoing r block.ident) refl v.valid
             (outgoing-found r block.ident s h e)
             (all-up_to (length (accepted r s)) (united [] (ranges_of block.kind))
             (united-up_to (length (accepted r s)) [] (ranges_of block.kind) tt
-            (not_above (length (accepted r s)) (ranges_of block.kind) v.begins k)))
+            (not_above (length (accepted r s)) (ranges_of block.kind)
+            (begin_at_one (ranges_of block.kind) v.ranges) k)))
 
         chosen : (x : Bool) → IsQuiet r (cond x [] (Acked s (united [] (ranges_of block.kind)) ∷ []))
         chosen true = none-quiet r
@@ -425,12 +434,12 @@ rows-fit r terms now y m l h n v k =
     (refuses-kept r new m.addressing.message_id m.body acks.stays.makers_ ∙ k))
 
 -- receive
-are-valid : (r : List Fact) (blocks : List AckBlock) → AllByRecursion BeginsAtOne blocks
+are-valid : (r : List Fact) (blocks : List AckBlock) → AllByRecursion HasRanges blocks
     → list_any (is_invalid r) blocks ≡ false → AllByRecursion (IsValid r) blocks
 are-valid r [] h e = tt
 are-valid r (block ∷ blocks) h e =
     let parts = neither (is_invalid r block) (list_any (is_invalid r) blocks) e in
-    (record { valid = parts.0; begins = h.0 }, are-valid r blocks h.1 parts.1)
+    (record { valid = parts.0; ranges = h.0 }, are-valid r blocks h.1 parts.1)
 
 receive-fits : (terms : Terms) (r : List Fact) (place now : ℕ) (y : Behaviour) (content : Result Message Refusal)
     → EndsLater terms → all_fit [] r ≡ true → IsReadable content

@@ -12,8 +12,9 @@ use Rattle.ack_ranges.specs.Changes.{with_range, united}
 use Rattle.rm_base.specs.Numbered.{numbered}
 use Rattle.rm_source.specs.declared.phase.OutPhase.{OutPhase}
 use Rattle.rm_source.specs.declared.phase.OutPhase.TheVariants as out
-use Rattle.sequence_table.specs.batches.Fact.{Fact, Created, Granted, ClosedOut}
-use Rattle.sequence_table.specs.Words.{Text, is_empty, last_or}
+use Rattle.record_batch.specs.Fact.{Fact, Created, Granted, ClosedOut}
+use Rattle.rm_destination.specs.Messages.{is_empty}
+use Rattle.sequence_table.specs.Words.{Text, last_or}
 use Rattle.sequence_table.specs.Idents.{issue}
 use Rattle.sequence_table.specs.Makers.{Maker, Outgoing, Offered, Incoming, Taken, makers, makers_of, maker, number}
 use Rattle.sequence_table.specs.Makers.{created, created_of, seq_in}

@@ -11,16 +11,17 @@ use Rattle.rm_base.specs.Numbered.{numbered}
 use Rattle.rm_base.specs.NumberSet.{has_number}
 use Rattle.rm_base.specs.declared.message.Cause.TheVariants.{Peer}
 use Rattle.rm_base.specs.declared.message.Payload.{Payload}
-use Rattle.rm_message.specs.elements.declared.header.AckBlock.{AckBlock}
-use Rattle.rm_message.specs.elements.declared.header.SeqHeader.{SeqHeader}
-use Rattle.rm_message.specs.elements.declared.lifecycle.Lifecycle.TheVariants as life
-use Rattle.rm_message.specs.elements.declared.lifecycle.Offer.{Offer}
+use Rattle.rm_elements.specs.declared.header.AckBlock.{AckBlock}
+use Rattle.rm_elements.specs.declared.header.SeqHeader.{SeqHeader}
+use Rattle.rm_elements.specs.declared.lifecycle.Lifecycle.TheVariants as life
+use Rattle.rm_elements.specs.declared.lifecycle.Offer.{Offer}
 use Rattle.rm_message.specs.declared.message.Body.{Body}
 use Rattle.rm_message.specs.declared.message.Body.TheVariants as body
 use Rattle.rm_message.specs.declared.message.Message.{Message}
-use Rattle.sequence_table.specs.batches.declared.record.PeerOffer.{PeerOffer}
-use Rattle.sequence_table.specs.batches.Fact.{Fact, Made, Created, Granted, Accepted, Acked, Received, Closed, Ended}
-use Rattle.sequence_table.specs.Words.{Text, is_empty, at_seq, first_or}
+use Rattle.record_batch.specs.declared.record.PeerOffer.{PeerOffer}
+use Rattle.record_batch.specs.Fact.{Fact, Made, Created, Granted, Accepted, Acked, Received, Closed, Ended}
+use Rattle.rm_destination.specs.Messages.{is_empty}
+use Rattle.sequence_table.specs.Words.{Text, at_seq, first_or}
 use Rattle.sequence_table.specs.Idents.{issue}
 use Rattle.sequence_table.specs.Makers.{Maker, Outgoing, Offered, Incoming, Taken, makers, makers_of, maker, counter}
 use Rattle.sequence_table.specs.Makers.{nodes_of, number, addresses_of, address, created, created_of, created_from}

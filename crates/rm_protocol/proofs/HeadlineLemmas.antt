@@ -12,14 +12,17 @@ use Rattle.rm_base.specs.NumberSet.{has_number}
 use Rattle.rm_base.specs.declared.message.Behaviour.{Behaviour}
 use Rattle.rm_base.specs.declared.message.Cause.TheVariants.{Peer}
 use Rattle.rm_base.specs.declared.message.Payload.{Payload}
-use Rattle.sequence_table.specs.batches.Fact.{Fact, Created, Granted, Acked, Received, Closed, Ended}
-use Rattle.sequence_table.specs.Words.{Text, is_empty, sorted_onto, with_message, without_gap, numbers_of, contents_of}
+use Rattle.record_batch.specs.Fact.{Fact, Created, Granted, Acked, Received, Closed, Ended}
+use Rattle.rm_destination.specs.Messages.{is_empty, sorted_onto, with_message, without_gap, numbers_of, contents_of}
+use Rattle.sequence_table.specs.Words.{Text}
 use Rattle.sequence_table.specs.Idents.{issue}
 use Rattle.sequence_table.specs.Makers.{Maker, Outgoing, Offered, Incoming, Taken, makers, makers_of, maker, counter}
 use Rattle.sequence_table.specs.Makers.{number, created_from, ident_in}
 use Rattle.sequence_table.specs.Sources.{accepted, acked, marks}
-use Rattle.sequence_table.specs.Destinations.{received, received_of, held, told, messages, inbox_of, behaviour}
-use Rattle.sequence_table.specs.Destinations.{texts, is_whole, is_whole_by, last_number as last_told}
+use Rattle.rm_destination.specs.Incoming.{inbox_of}
+use Rattle.sequence_table.specs.Destinations.{received, received_of, held, told, messages, behaviour}
+use Rattle.rm_destination.specs.Incoming.{is_whole, is_whole_by, last_number as last_told}
+use Rattle.sequence_table.specs.Destinations.{texts}
 use Rattle.sequence_table.specs.Find.{IsOutgoing, IsIncoming, incoming_of}
 use Rattle.rm_protocol.specs.Sound.{IsHeld, IsGranted, IsAgreed, IsSourced, AreKept, IsTold, IsWith, IfWith}
 use Rattle.rm_protocol.specs.Sound.{Justified, highest, drawn, Owns, Agree}

@@ -7,18 +7,18 @@ use Rattle.rm_base.specs.NumberSet.{has_number}
 use Rattle.rm_base.specs.declared.message.Behaviour.{Behaviour}
 use Rattle.rm_base.specs.declared.message.Cause.TheVariants.{Peer, NotTaken}
 use Rattle.rm_base.specs.declared.message.Payload.{Payload}
-use Rattle.rm_message.specs.elements.declared.header.AckBlock.{AckBlock}
-use Rattle.rm_message.specs.elements.declared.header.SeqHeader.{SeqHeader}
-use Rattle.rm_message.specs.elements.declared.lifecycle.CreateResponse.{CreateResponse}
-use Rattle.rm_message.specs.elements.declared.lifecycle.CreateSequence.{CreateSequence}
-use Rattle.rm_message.specs.elements.declared.lifecycle.Lifecycle.TheVariants as life
+use Rattle.rm_elements.specs.declared.header.AckBlock.{AckBlock}
+use Rattle.rm_elements.specs.declared.header.SeqHeader.{SeqHeader}
+use Rattle.rm_elements.specs.declared.lifecycle.CreateResponse.{CreateResponse}
+use Rattle.rm_elements.specs.declared.lifecycle.CreateSequence.{CreateSequence}
+use Rattle.rm_elements.specs.declared.lifecycle.Lifecycle.TheVariants as life
 use Rattle.rm_source.specs.declared.phase.OutPhase.{OutPhase}
 use Rattle.rm_source.specs.declared.phase.OutPhase.TheVariants as out
 use Rattle.rm_message.specs.declared.message.Body.{Body}
 use Rattle.rm_message.specs.declared.message.Body.TheVariants as body
 use Rattle.rm_message.specs.declared.message.Message.{Message}
-use Rattle.rm_message.specs.addressing.declared.endpoint.Epr.{Epr}
-use Rattle.sequence_table.specs.batches.Fact.{Fact, Acked, Received, ClosedOut, Closed, Ended}
+use Rattle.wsa_headers.specs.declared.endpoint.Epr.{Epr}
+use Rattle.record_batch.specs.Fact.{Fact, Acked, Received, ClosedOut, Closed, Ended}
 use Rattle.sequence_table.specs.Words.{Text}
 use Rattle.sequence_table.specs.Makers.{maker}
 use Rattle.sequence_table.specs.Sources.{acked, is_sending, phase}

@@ -4,18 +4,21 @@ use Rattle.std.proofs.Common.{append-nil, inl, inr}
 use Rattle.std.specs.Prelude.{Some}
 use Rattle.rm_base.specs.Numbered.{numbered}
 use Rattle.rm_base.specs.NumberSet.{has_number}
-use Rattle.sequence_table.specs.batches.Fact.{Fact}
-use Rattle.sequence_table.specs.Words.{is_empty, at_seq, sorted_onto, numbers_of}
+use Rattle.record_batch.specs.Fact.{Fact}
+use Rattle.rm_destination.specs.Messages.{is_empty, sorted_onto, numbers_of}
+use Rattle.sequence_table.specs.Words.{at_seq}
 use Rattle.sequence_table.specs.Makers.{makers, counter}
 use Rattle.sequence_table.specs.Sources.{accepted, marks}
-use Rattle.sequence_table.specs.Destinations.{told, messages, inbox, inbox_of, behaviour, behaviour_of, texts}
+use Rattle.rm_destination.specs.Incoming.{inbox_of}
+use Rattle.sequence_table.specs.Destinations.{told, messages, inbox, behaviour, behaviour_of, texts}
 use Rattle.rm_protocol.specs.Sound.{IsWith, Agree, Allows, Keeps, AreWith}
 use Rattle.std.proofs.Common.{◌^◌}
 use Rattle.sequence_table.specs.Idents.{IssuesOnce}
 use Rattle.rm_protocol.specs.Node.{Node, State, Up, Writing, records, end_of}
 use Rattle.rm_protocol.specs.Sound.{AllowsState, IsBounded, IsSound}
 use Rattle.rm_protocol.specs.Terms.{Terms, AreTerms}
-use Rattle.rm_protocol.specs.Word.{IsLeftWith, IsLeft, IsPrefixOf, Matches, IsThere, KeepsWord, KeepsAll}
+use Rattle.rm_protocol.specs.Crashes.{IsLeftWith, IsLeft, KeepsAll}
+use Rattle.rm_protocol.specs.Word.{IsPrefixOf, Matches, IsThere, KeepsWord}
 use Rattle.rm_protocol.specs.World.{World}
 use Rattle.rm_protocol.proofs.ListLemmas.{All-numbered}
 use Rattle.rm_protocol.proofs.Growth.{Grows}

@@ -5,7 +5,7 @@ use Rattle.std.specs.Prelude.{Option, Some, None, Err, slice_get}
 use native.Mathlib.Numerals.{unary_clauses}
 use Rattle.rm_base.specs.Numbered.{numbered}
 use Rattle.rm_message.specs.declared.refusal.Refusal.{Refusal}
-use Rattle.sequence_table.specs.batches.Fact.{Fact}
+use Rattle.record_batch.specs.Fact.{Fact}
 use Rattle.rm_protocol.specs.Calls as Calls
 use Rattle.sequence_table.specs.Words.{Text}
 use Rattle.rm_protocol.specs.Calls.{Answer}
@@ -15,7 +15,7 @@ use Rattle.rm_protocol.specs.Node.{outcome_with}
 use Rattle.rm_protocol.specs.Sent.{Called, arrival_outcome, outcome_of, line_of, lines}
 use Rattle.rm_protocol.specs.Terms.{Terms}
 use Rattle.rm_protocol.specs.Unarmed.{IsUnarmed, AreUnarmed, IsFaultless, AreFaultless}
-use Rattle.rm_protocol.specs.Word.{IsLeftWith, IsLeft, IsAfterCrashes}
+use Rattle.rm_protocol.specs.Crashes.{IsLeftWith, IsLeft, IsAfterCrashes}
 use Rattle.rm_protocol.specs.World as world
 use Rattle.rm_protocol.specs.World.{World, Packet, Side, One, Two, other, node, with_node, Event, Crash, calls}
 use Rattle.rm_protocol.specs.World.{received_by, arrives, wish_of, with_clock, happens, run, start}

@@ -10,15 +10,17 @@ use Rattle.rm_base.specs.Numbered.{numbered}
 use Rattle.rm_base.specs.NumberSet.{has_number}
 use Rattle.rm_base.specs.declared.message.Behaviour.{Behaviour}
 use Rattle.rm_base.specs.declared.message.Payload.{Payload}
-use Rattle.rm_message.specs.elements.declared.header.AckBlock.{AckBlock}
+use Rattle.rm_elements.specs.declared.header.AckBlock.{AckBlock}
 use Rattle.rm_message.specs.declared.message.Message.{Message}
-use Rattle.sequence_table.specs.batches.Fact.{Fact, Acked, Received, ClosedOut}
-use Rattle.sequence_table.specs.Words.{Text, is_empty, at_seq, first_or, sorted_onto, with_message, without_gap}
-use Rattle.sequence_table.specs.Words.{numbers_of}
+use Rattle.record_batch.specs.Fact.{Fact, Acked, Received, ClosedOut}
+use Rattle.rm_destination.specs.Messages.{is_empty, sorted_onto, with_message, without_gap}
+use Rattle.sequence_table.specs.Words.{Text, at_seq, first_or}
+use Rattle.rm_destination.specs.Messages.{numbers_of}
 use Rattle.sequence_table.specs.Makers.{makers, makers_of, maker, nodes_of, number}
 use Rattle.sequence_table.specs.Sources.{acked, is_sending, phase}
 use Rattle.sequence_table.specs.Destinations.{received, received_of, held, close_of, told, front, is_over}
-use Rattle.sequence_table.specs.Destinations.{is_stopped, messages, inbox, inbox_of, behaviour, behaviour_of}
+use Rattle.rm_destination.specs.Incoming.{inbox_of}
+use Rattle.sequence_table.specs.Destinations.{is_stopped, messages, inbox, behaviour, behaviour_of}
 use Rattle.sequence_table.specs.Find.{find_from, find_incoming, find_outgoing, is_incoming}
 use Rattle.rm_base.specs.declared.message.Behaviour.TheVariants.{FollowingFirstGap}
 use Rattle.ack_ranges.specs.Changes.{covers_all, united}
@@ -27,7 +29,8 @@ use Rattle.rm_protocol.specs.Rows.{data_row, body_row, rows}
 use Rattle.rm_protocol.specs.Recorded.{IsNew, AreNumbers}
 use Rattle.rm_protocol.specs.Terms.{Terms}
 use Rattle.rm_protocol.proofs.ListLemmas.{All-append, numbered-next}
-use Rattle.sequence_table.specs.Destinations.{is_past, deadline_of}
+use Rattle.rm_destination.specs.Incoming.{is_past}
+use Rattle.sequence_table.specs.Destinations.{deadline_of}
 
 -- what acknowledgements bring says nothing of incoming sequences
 abbrev IsAck : Fact → Type 0

@@ -7,7 +7,7 @@ use Rattle.std.proofs.lemmas.Bool.Decides.{nat_tests}
 use Rattle.std.proofs.lemmas.List.Concat.{flat_map-append}
 use Rattle.rm_base.specs.Numbered.{numbered}
 use Rattle.rm_message.specs.declared.message.Message.{Message}
-use Rattle.sequence_table.specs.batches.Fact.{Fact, Made}
+use Rattle.record_batch.specs.Fact.{Fact, Made}
 use Rattle.sequence_table.specs.Words.{Text}
 use Rattle.sequence_table.specs.Makers.{makers, makers_of, draws_of, counter}
 use Rattle.rm_protocol.specs.Sound.{Says, IsWith, Owns, Agree, Allows, Keeps, AreWith}

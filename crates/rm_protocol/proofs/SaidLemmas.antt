@@ -7,19 +7,20 @@ use Rattle.std.proofs.lemmas.Bool.{eqb-true}
 use Rattle.ack_ranges.specs.Ranges.{in_ranges}
 use Rattle.rm_base.specs.Numbered.{numbered}
 use Rattle.rm_base.specs.NumberSet.{has_number}
-use Rattle.rm_message.specs.elements.declared.header.AckBlock.{AckBlock}
-use Rattle.rm_message.specs.elements.declared.header.SeqHeader.{SeqHeader}
-use Rattle.rm_message.specs.elements.declared.lifecycle.Lifecycle.TheVariants as life
-use Rattle.rm_message.specs.elements.declared.lifecycle.Offer.{Offer}
+use Rattle.rm_elements.specs.declared.header.AckBlock.{AckBlock}
+use Rattle.rm_elements.specs.declared.header.SeqHeader.{SeqHeader}
+use Rattle.rm_elements.specs.declared.lifecycle.Lifecycle.TheVariants as life
+use Rattle.rm_elements.specs.declared.lifecycle.Offer.{Offer}
 use Rattle.rm_source.specs.declared.phase.OutPhase.{OutPhase}
 use Rattle.rm_source.specs.declared.phase.OutPhase.TheVariants as out
 use Rattle.rm_message.specs.declared.message.Body.{Body}
 use Rattle.rm_message.specs.declared.message.Body.TheVariants as body
 use Rattle.rm_message.specs.declared.message.Message.{Message}
-use Rattle.rm_message.specs.addressing.declared.endpoint.Epr.{Epr}
-use Rattle.sequence_table.specs.batches.declared.record.Via.{Via}
-use Rattle.sequence_table.specs.batches.Fact.{Fact}
-use Rattle.sequence_table.specs.Words.{Text, is_empty, at_seq, last_or, numbers_of}
+use Rattle.wsa_headers.specs.declared.endpoint.Epr.{Epr}
+use Rattle.record_batch.specs.declared.record.Via.{Via}
+use Rattle.record_batch.specs.Fact.{Fact}
+use Rattle.rm_destination.specs.Messages.{is_empty, numbers_of}
+use Rattle.sequence_table.specs.Words.{Text, at_seq, last_or}
 use Rattle.sequence_table.specs.Idents.{issue}
 use Rattle.sequence_table.specs.Makers.{Maker, Outgoing, Offered, Incoming, Taken, makers, maker, number}
 use Rattle.sequence_table.specs.Sources.{accepted, marks, out_ident, phase}
@@ -29,7 +30,7 @@ use Rattle.rm_protocol.specs.Sound.{IsGranted, IsFinal, SaysData, SaysBlock, Say
 use Rattle.rm_protocol.specs.Sound.{Says, Keeps}
 use Rattle.std.specs.Option.{option_to_list}
 use Rattle.std.proofs.lemmas.Slice.Eq.{bytes_eq-Decides}
-use Rattle.rm_message.specs.addressing.declared.addressing.Addressing.{Addressing}
+use Rattle.wsa_headers.specs.declared.addressing.Addressing.{Addressing}
 use Rattle.rm_message.specs.declared.message.FaultBody.{FaultBody}
 use Rattle.rm_message.specs.declared.refusal.FaultKind.{FaultKind}
 use Rattle.rm_message.specs.declared.refusal.FaultKind.TheVariants.{SequenceClosed}

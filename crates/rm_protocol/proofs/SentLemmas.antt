@@ -10,7 +10,7 @@ use Rattle.rm_base.specs.Numbered.{numbered}
 use Rattle.rm_base.specs.declared.message.Behaviour.{Behaviour}
 use Rattle.rm_base.specs.declared.message.Cause.TheVariants.{Operator, Expired}
 use Rattle.rm_message.specs.declared.message.Message.{Message}
-use Rattle.sequence_table.specs.batches.Fact.{Fact, Creating, Accepted, Closing, Closed, Ending, Ended}
+use Rattle.record_batch.specs.Fact.{Fact, Creating, Accepted, Closing, Closed, Ending, Ended}
 use Rattle.sequence_table.specs.Words.{Text}
 use Rattle.sequence_table.specs.Makers.{Maker, Outgoing, Offered, Incoming, Taken, makers, maker, counter}
 use Rattle.sequence_table.specs.Sources.{accepted, accepted_of, phase}
@@ -19,7 +19,8 @@ use Rattle.std.specs.Prelude.{Result, Ok, Err}
 use Rattle.rm_message.specs.declared.refusal.FaultKind.{FaultKind}
 use Rattle.rm_message.specs.declared.refusal.Refusal.{Refusal}
 use Rattle.sequence_table.specs.Sources.{all_unacked, unacked}
-use Rattle.sequence_table.specs.Destinations.{is_past, deadline_of}
+use Rattle.rm_destination.specs.Incoming.{is_past}
+use Rattle.sequence_table.specs.Destinations.{deadline_of}
 use Rattle.rm_protocol.specs.Calls
 use Rattle.rm_protocol.specs.Calls.{Answer, Cause, Outcome, Done, Refused, Judged, refusal, adds, if_room, Wish}
 use Rattle.rm_protocol.specs.Calls.{wanted, is_open, send_out, on_outgoing, close_out, close_in, close_by, may_end}

@@ -6,8 +6,8 @@ use Rattle.std.specs.List.{list_any}
 use Rattle.rm_base.specs.Numbered.{numbered}
 use Rattle.rm_base.specs.NumberSet.{has_number}
 use Rattle.rm_base.specs.declared.message.Payload.{Payload}
-use Rattle.rm_message.specs.elements.declared.header.AckBlock.{AckBlock}
-use Rattle.rm_message.specs.elements.declared.header.SeqHeader.{SeqHeader}
+use Rattle.rm_elements.specs.declared.header.AckBlock.{AckBlock}
+use Rattle.rm_elements.specs.declared.header.SeqHeader.{SeqHeader}
 use Rattle.rm_message.specs.declared.message.Body.TheVariants as body
 use Rattle.rm_message.specs.declared.message.Message.{Message}
 use Rattle.rm_message.specs.declared.refusal.FaultKind.{FaultKind}
@@ -16,10 +16,13 @@ use Rattle.rm_message.specs.declared.refusal.FaultKind.TheVariants.{SequenceTerm
 use Rattle.rm_message.specs.declared.refusal.FaultKind.TheVariants.{InvalidAcknowledgement, CreateSequenceRefused}
 use Rattle.rm_message.specs.declared.refusal.FaultKind.TheVariants.{MissingSelection, UnsupportedSelection}
 use Rattle.rm_message.specs.declared.refusal.FaultKind.TheVariants.{StoreFull}
-use Rattle.sequence_table.specs.batches.Fact.{Fact}
-use Rattle.sequence_table.specs.Words.{Text, is_empty}
+use Rattle.record_batch.specs.Fact.{Fact}
+use Rattle.rm_destination.specs.Messages.{is_empty}
+use Rattle.sequence_table.specs.Words.{Text}
 use Rattle.sequence_table.specs.Makers.{maker}
-use Rattle.sequence_table.specs.Destinations.{any_true, closes, deadline_of, held, is_ended, is_over, is_past, received}
+use Rattle.rm_destination.specs.Incoming.{is_past}
+use Rattle.rm_destination.specs.Messages.{any_true}
+use Rattle.sequence_table.specs.Destinations.{closes, deadline_of, held, is_ended, is_over, received}
 use Rattle.rm_protocol.specs.Calls.{Answer, Done, judged}
 use Rattle.rm_protocol.specs.Delivered.{Brings, Takes, IsWriting, TakesUnless, TakesNew}
 use Rattle.rm_protocol.specs.Node.{Node, State, Up, Writing, records, end_of, is_short, goes_down}

@@ -2,11 +2,11 @@
 -- WS-ReliableMessaging 1.2, section 1.4.
 use Rattle.std.specs.Prelude.{◌&&◌, nat_lt, Bool, if◌then◌else◌, List, ◌++◌, length, take, codes, Option, Some, None}
 use Rattle.std.specs.Str.{bytes_eq}
-use Rattle.rm_message.specs.addressing.declared.addressing.Addressing.{Addressing}
-use Rattle.rm_message.specs.addressing.declared.endpoint.Epr.{Epr}
-use Rattle.sequence_table.specs.batches.declared.record.Via.{Via}
-use Rattle.sequence_table.specs.batches.declared.record.Via.TheVariants.{Direct, Polled, Back}
-use Rattle.sequence_table.specs.batches.Fact.{Fact}
+use Rattle.wsa_headers.specs.declared.addressing.Addressing.{Addressing}
+use Rattle.wsa_headers.specs.declared.endpoint.Epr.{Epr}
+use Rattle.record_batch.specs.declared.record.Via.{Via}
+use Rattle.record_batch.specs.declared.record.Via.TheVariants.{Direct, Polled, Back}
+use Rattle.record_batch.specs.Fact.{Fact}
 use Rattle.sequence_table.specs.Words.{Text}
 use Rattle.sequence_table.specs.Idents.{polled_address}
 use Rattle.sequence_table.specs.Makers.{number, address}

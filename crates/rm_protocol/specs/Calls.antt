@@ -4,9 +4,9 @@ use Rattle.std.specs.Prelude.{◌++◌, length, Option, Some, None, Result, Ok, 
 use Rattle.std.specs.Option.{option_to_list}
 use Rattle.rm_base.specs.declared.message.Behaviour.{Behaviour}
 use Rattle.rm_base.specs.declared.message.Cause.TheVariants.{Operator, Expired}
-use Rattle.rm_message.specs.elements.declared.header.AckBlock.{AckBlock}
-use Rattle.rm_message.specs.elements.declared.header.SeqHeader.{SeqHeader}
-use Rattle.rm_message.specs.elements.declared.lapse.Lapse.{Lapse}
+use Rattle.rm_elements.specs.declared.header.AckBlock.{AckBlock}
+use Rattle.rm_elements.specs.declared.header.SeqHeader.{SeqHeader}
+use Rattle.rm_elements.specs.declared.lapse.Lapse.{Lapse}
 use Rattle.rm_source.specs.declared.phase.OutPhase.{OutPhase}
 use Rattle.rm_source.specs.declared.phase.OutPhase.TheVariants as out
 use Rattle.rm_message.specs.declared.message.Message.{Message}
@@ -14,14 +14,15 @@ use Rattle.rm_message.specs.declared.refusal.FaultKind.{FaultKind}
 use Rattle.rm_message.specs.declared.refusal.FaultKind.TheVariants.{UnknownSequence, SequenceTerminated}
 use Rattle.rm_message.specs.declared.refusal.FaultKind.TheVariants.{SequenceClosed, InvalidAcknowledgement}
 use Rattle.rm_message.specs.declared.refusal.Refusal.{Refusal}
-use Rattle.sequence_table.specs.batches.declared.record.OwnOffer.{OwnOffer}
-use Rattle.sequence_table.specs.batches.declared.record.Via.{Via}
-use Rattle.sequence_table.specs.batches.Fact.{Fact, Creating, Accepted, Closing, Closed, Ending, Ended}
+use Rattle.record_batch.specs.declared.record.OwnOffer.{OwnOffer}
+use Rattle.record_batch.specs.declared.record.Via.{Via}
+use Rattle.record_batch.specs.Fact.{Fact, Creating, Accepted, Closing, Closed, Ending, Ended}
 use Rattle.sequence_table.specs.Words.{Text}
 use Rattle.sequence_table.specs.Idents.{issue}
 use Rattle.sequence_table.specs.Makers.{Maker, Outgoing, Taken, makers, maker, counter, number}
 use Rattle.sequence_table.specs.Sources.{accepted, phase, unacked, all_unacked}
-use Rattle.sequence_table.specs.Destinations.{has_end, is_past, is_over, deadline_of}
+use Rattle.rm_destination.specs.Incoming.{is_past}
+use Rattle.sequence_table.specs.Destinations.{has_end, is_over, deadline_of}
 use Rattle.sequence_table.specs.Find.{incoming_of, find_incoming, acks_to}
 use Rattle.rm_protocol.specs.Addresses.{fault_endpoint}
 use Rattle.rm_protocol.specs.Messages.{data_at, request_at, block_of}
@@ -93,7 +94,7 @@ create terms r end wish =
     if nat_lt 256 (length (makers r) + wanted wish.offer) then refusal (TooManySequences (length (makers r)))
     else if_room terms end (adds r
     (Creating (counter r + 1) wish.to wish.via wish.expires (offer_of (counter r) wish.offer) ∷ [])
-    (λ now. option_to_list (request_at now (length (makers r) + 1))))
+    (λ after. option_to_list (request_at after (length (makers r) + 1))))
 
 -- messages are accepted in phase Open alone
 abbrev pub is_open : OutPhase → Bool
@@ -110,7 +111,7 @@ send_out terms r end s payload =
     else if nat_le 4096 (all_unacked r) then refusal (NodeFull (all_unacked r))
     else if nat_le 9223372036854775807 (length (accepted r s)) then refusal Rollover
     else if_room terms end (adds r (Accepted s payload ∷ [])
-    (λ now. option_to_list (data_at now s (length (accepted r s) + 1))))
+    (λ after. option_to_list (data_at after s (length (accepted r s) + 1))))
 
 -- a call for an outgoing sequence
 abbrev pub on_outgoing : Option Maker → Answer → Answer
@@ -127,7 +128,7 @@ send terms r end s payload = on_outgoing (maker r s) (send_out terms r end s pay
 abbrev pub close_out : Terms → List Fact → ℕ → ℕ → Answer
 close_out terms r end s =
     if is_open (phase r s) then if_room terms end (adds r (Closing s (counter r + 1) ∷ [])
-    (λ now. option_to_list (request_at now s)))
+    (λ after. option_to_list (request_at after s)))
     else refusal NotOpen
 
 -- the acknowledgement of an incoming sequence as a message of its own, where its AcksTo is known
@@ -169,7 +170,7 @@ may_end _ = false
 abbrev pub end_out : Terms → List Fact → ℕ → ℕ → Answer
 end_out terms r end s =
     if may_end (phase r s) then if_room terms end (adds r (Ending s (counter r + 1) ∷ [])
-    (λ now. option_to_list (request_at now s)))
+    (λ after. option_to_list (request_at after s)))
     else refusal NotOpen
 
 -- end, of any sequence

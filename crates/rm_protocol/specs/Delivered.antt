@@ -7,7 +7,7 @@ use Rattle.rm_base.specs.declared.message.Behaviour.TheVariants.{FollowingFirstG
 use Rattle.rm_base.specs.declared.message.Payload.{Payload}
 use Rattle.rm_message.specs.declared.message.Message.{Message}
 use Rattle.rm_message.specs.declared.refusal.FaultKind.TheVariants.{InvalidAcknowledgement, StoreFull}
-use Rattle.sequence_table.specs.batches.Fact.{Fact}
+use Rattle.record_batch.specs.Fact.{Fact}
 use Rattle.sequence_table.specs.Destinations.{behaviour, front, inbox, received}
 use Rattle.rm_protocol.specs.Calls.{Done, Judged}
 use Rattle.rm_protocol.specs.Node.{Node, State, Up, Writing, records, end_of, is_short, Answered, DiskFault, IsDown}

@@ -1,13 +1,13 @@
 -- Terms that meet what is asked of them, and scripts with them.
 use Rattle.std.specs.Prelude.{ℕ, ◌+◌, ◌==◌, if◌then◌else◌, true, false, List, [], ◌∷◌, codes, Option, Some, None, Ok}
 use Rattle.rm_base.specs.declared.message.Behaviour.TheVariants.{EntireSequence, FollowingFirstGap}
-use Rattle.rm_message.specs.elements.declared.header.AckBlock.{AckBlock}
-use Rattle.rm_message.specs.elements.declared.lapse.Lapse.{Lapse}
+use Rattle.rm_elements.specs.declared.header.AckBlock.{AckBlock}
+use Rattle.rm_elements.specs.declared.lapse.Lapse.{Lapse}
 use Rattle.rm_message.specs.declared.message.Body.TheVariants as body
 use Rattle.rm_message.specs.declared.message.FaultCode.TheVariants.{Sender}
 use Rattle.rm_message.specs.declared.message.Message.{Message}
 use Rattle.rm_message.specs.declared.refusal.Refusal.{Refusal}
-use Rattle.sequence_table.specs.batches.declared.record.Via.TheVariants.{Direct}
+use Rattle.record_batch.specs.declared.record.Via.TheVariants.{Direct}
 use Rattle.sequence_table.specs.Makers.{counter}
 use Rattle.rm_protocol.specs.Addresses.{rm_action}
 use Rattle.rm_protocol.specs.Messages.{never, plain}

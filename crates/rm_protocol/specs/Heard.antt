@@ -2,13 +2,13 @@
 use Rattle.std.specs.Prelude.{◌≡◌, ◌⊎◌, ℕ, [], Some, slice_get}
 use Rattle.ack_ranges.specs.Changes.{united}
 use Rattle.rm_base.specs.declared.message.Cause.TheVariants.{Peer, NotTaken}
-use Rattle.rm_message.specs.elements.declared.header.AckBlock.{AckBlock}
-use Rattle.rm_message.specs.elements.declared.lifecycle.CreateSequence.{CreateSequence}
-use Rattle.rm_message.specs.elements.declared.lifecycle.Lifecycle.TheVariants as life
+use Rattle.rm_elements.specs.declared.header.AckBlock.{AckBlock}
+use Rattle.rm_elements.specs.declared.lifecycle.CreateSequence.{CreateSequence}
+use Rattle.rm_elements.specs.declared.lifecycle.Lifecycle.TheVariants as life
 use Rattle.rm_message.specs.declared.message.Body.TheVariants as body
 use Rattle.rm_message.specs.declared.message.Message.{Message}
-use Rattle.sequence_table.specs.batches.Fact.{Fact, Made, Creating, Granted, Accepted, Acked, Received, Closing, Closed}
-use Rattle.sequence_table.specs.batches.Fact.{Ending, Ended}
+use Rattle.record_batch.specs.Fact.{Fact, Made, Creating, Granted, Accepted, Acked, Received, Closing, Closed}
+use Rattle.record_batch.specs.Fact.{Ending, Ended}
 use Rattle.sequence_table.specs.Words.{Text}
 use Rattle.rm_protocol.specs.Rows.{ranges_of}
 

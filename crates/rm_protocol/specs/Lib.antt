@@ -1,5 +1,6 @@
 pub mod Addresses
 pub mod Calls
+pub mod Crashes
 pub mod Delivered
 pub mod Detail
 pub mod Examples
@@ -17,9 +18,3 @@ pub mod Unarmed
 pub mod Verdict
 pub mod Word
 pub mod World
-pub use Rattle.rm_message.specs as message_types
-pub use Rattle.rm_message.specs.addressing
-pub use Rattle.rm_message.specs.elements
-pub use Rattle.rm_message.specs.values
-pub use Rattle.sequence_table.specs as sequences
-pub use Rattle.sequence_table.specs.batches

@@ -5,23 +5,23 @@ use Rattle.ack_ranges.specs.declared.range.Range.{Range}
 use Rattle.ack_ranges.specs.Changes.{with_range}
 use Rattle.rm_base.specs.Numbered.{numbered}
 use Rattle.rm_base.specs.declared.message.Binding.{Binding}
-use Rattle.rm_message.specs.elements.declared.header.AckBlock.{AckBlock}
-use Rattle.rm_message.specs.elements.declared.header.AckKind.{AckKind}
-use Rattle.rm_message.specs.elements.declared.header.AckKind.TheVariants as kind
-use Rattle.rm_message.specs.elements.declared.lapse.Lapse.{Lapse}
-use Rattle.rm_message.specs.elements.declared.lifecycle.Finish.{Finish}
-use Rattle.rm_message.specs.elements.declared.lifecycle.Lifecycle.{Lifecycle}
-use Rattle.rm_message.specs.elements.declared.lifecycle.Lifecycle.TheVariants as life
-use Rattle.rm_message.specs.elements.declared.lifecycle.Offer.{Offer}
+use Rattle.rm_elements.specs.declared.header.AckBlock.{AckBlock}
+use Rattle.rm_elements.specs.declared.header.AckKind.{AckKind}
+use Rattle.rm_elements.specs.declared.header.AckKind.TheVariants as kind
+use Rattle.rm_elements.specs.declared.lapse.Lapse.{Lapse}
+use Rattle.rm_elements.specs.declared.lifecycle.Finish.{Finish}
+use Rattle.rm_elements.specs.declared.lifecycle.Lifecycle.{Lifecycle}
+use Rattle.rm_elements.specs.declared.lifecycle.Lifecycle.TheVariants as life
+use Rattle.rm_elements.specs.declared.lifecycle.Offer.{Offer}
 use Rattle.rm_source.specs.declared.phase.OutPhase.{OutPhase}
 use Rattle.rm_source.specs.declared.phase.OutPhase.TheVariants as out
 use Rattle.rm_message.specs.declared.message.Body.{Body}
 use Rattle.rm_message.specs.declared.message.Body.TheVariants as body
 use Rattle.rm_message.specs.declared.message.Message.{Message}
-use Rattle.rm_message.specs.addressing.declared.endpoint.Epr.{Epr}
-use Rattle.sequence_table.specs.batches.declared.record.Via.{Via}
-use Rattle.sequence_table.specs.batches.declared.record.Via.TheVariants.{Direct}
-use Rattle.sequence_table.specs.batches.Fact.{Fact}
+use Rattle.wsa_headers.specs.declared.endpoint.Epr.{Epr}
+use Rattle.record_batch.specs.declared.record.Via.{Via}
+use Rattle.record_batch.specs.declared.record.Via.TheVariants.{Direct}
+use Rattle.record_batch.specs.Fact.{Fact}
 use Rattle.sequence_table.specs.Words.{Text, last_or}
 use Rattle.sequence_table.specs.Idents.{issue}
 use Rattle.sequence_table.specs.Makers.{Maker, Outgoing, Offered, maker, number}

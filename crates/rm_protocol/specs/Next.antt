@@ -3,29 +3,35 @@ use Rattle.std.specs.Prelude.{◌≡◌, ℕ, ◌≤◌, true, List, [], IfSome,
 use Rattle.std.specs.List.{AllByRecursion}
 use Rattle.ack_ranges.specs.declared.range.Range.{Range}
 use Rattle.rm_base.specs.declared.message.Behaviour.{Behaviour}
-use Rattle.rm_message.specs.elements.declared.header.AckBlock.{AckBlock}
-use Rattle.rm_message.specs.elements.declared.header.SeqHeader.{SeqHeader}
+use Rattle.rm_elements.specs.declared.header.AckBlock.{AckBlock}
+use Rattle.rm_elements.specs.declared.header.SeqHeader.{SeqHeader}
 use Rattle.rm_message.specs.declared.message.Message.{Message}
 use Rattle.rm_message.specs.declared.refusal.Refusal.{Refusal}
-use Rattle.sequence_table.specs.batches.Fact.{Fact}
+use Rattle.record_batch.specs.Fact.{Fact}
 use Rattle.sequence_table.specs.Fits.{all_fit}
 use Rattle.sequence_table.specs.Words.{Text}
 use Rattle.rm_protocol.specs.Calls.{Wish, create, send, close, end, tick, receive}
 use Rattle.rm_protocol.specs.Rows.{ranges_of}
 use Rattle.rm_protocol.specs.Terms.{Terms, EndsLater}
 
--- the ranges of a block begin at 1 or later: section 3.9
-abbrev pub BeginsAtOne : AckBlock → Type 0
-BeginsAtOne block = AllByRecursion (λ (range : Range). 1 ≤ range.lower) (ranges_of block.kind)
+-- a range of message numbers, which are from 1 to 9223372036854775807: WS-ReliableMessaging 1.2, section 3.9
+pub record IsNumberRange (range : Range) : Type 0 where
+  pub lower : 1 ≤ range.lower
+  pub rises : range.lower ≤ range.upper
+  pub upper : range.upper ≤ 9223372036854775807
 
--- a MessageNumber is from 1 to 9223372036854775807: section 3.7
+-- the ranges of a block are ranges of message numbers
+abbrev pub HasRanges : AckBlock → Type 0
+HasRanges block = AllByRecursion IsNumberRange (ranges_of block.kind)
+
+-- a MessageNumber is from 1 to 9223372036854775807: WS-ReliableMessaging 1.2, section 3.7
 abbrev pub IsMessageNumber : SeqHeader → Type 0
 IsMessageNumber header = (1 ≤ header.number) × (header.number ≤ 9223372036854775807)
 
 -- the numbers of a message are message numbers
 pub record HasNumbers (m : Message) : Type 0 where
   pub sequence : IfSome m.sequence IsMessageNumber
-  pub acks : AllByRecursion BeginsAtOne m.acks
+  pub acks : AllByRecursion HasRanges m.acks
 
 -- what came is such a message, or was refused when it was read
 abbrev pub IsReadable : Result Message Refusal → Type 0

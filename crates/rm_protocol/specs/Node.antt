@@ -4,7 +4,7 @@ use Rattle.std.specs.Prelude.{Some, None}
 use Rattle.std.specs.List.{flat_map}
 use Rattle.rm_base.specs.declared.message.Behaviour.{Behaviour}
 use Rattle.rm_message.specs.declared.message.Message.{Message}
-use Rattle.sequence_table.specs.batches.Fact.{Fact}
+use Rattle.record_batch.specs.Fact.{Fact}
 use Rattle.rm_protocol.specs.Calls.{Answer, Outcome}
 use Rattle.rm_protocol.specs.Terms.{Terms}
 

@@ -9,14 +9,14 @@ use Rattle.rm_base.specs.NumberSet.{has_number}
 use Rattle.rm_base.specs.declared.message.Behaviour.{Behaviour}
 use Rattle.rm_base.specs.declared.message.Cause.TheVariants.{Peer, NotTaken}
 use Rattle.rm_base.specs.declared.message.Payload.{Payload}
-use Rattle.rm_message.specs.elements.declared.header.AckBlock.{AckBlock}
-use Rattle.rm_message.specs.elements.declared.header.AckKind.{AckKind}
-use Rattle.rm_message.specs.elements.declared.header.AckKind.TheVariants as kind
-use Rattle.rm_message.specs.elements.declared.header.SeqHeader.{SeqHeader}
-use Rattle.rm_message.specs.elements.declared.lifecycle.CreateResponse.{CreateResponse}
-use Rattle.rm_message.specs.elements.declared.lifecycle.CreateSequence.{CreateSequence}
-use Rattle.rm_message.specs.elements.declared.lifecycle.Lifecycle.TheVariants as life
-use Rattle.rm_message.specs.elements.declared.lifecycle.Offer.{Offer}
+use Rattle.rm_elements.specs.declared.header.AckBlock.{AckBlock}
+use Rattle.rm_elements.specs.declared.header.AckKind.{AckKind}
+use Rattle.rm_elements.specs.declared.header.AckKind.TheVariants as kind
+use Rattle.rm_elements.specs.declared.header.SeqHeader.{SeqHeader}
+use Rattle.rm_elements.specs.declared.lifecycle.CreateResponse.{CreateResponse}
+use Rattle.rm_elements.specs.declared.lifecycle.CreateSequence.{CreateSequence}
+use Rattle.rm_elements.specs.declared.lifecycle.Lifecycle.TheVariants as life
+use Rattle.rm_elements.specs.declared.lifecycle.Offer.{Offer}
 use Rattle.rm_source.specs.declared.phase.OutPhase.{OutPhase}
 use Rattle.rm_source.specs.declared.phase.OutPhase.TheVariants as out
 use Rattle.rm_message.specs.declared.message.Body.{Body}
@@ -24,10 +24,10 @@ use Rattle.rm_message.specs.declared.message.Body.TheVariants as body
 use Rattle.rm_message.specs.declared.message.Message.{Message}
 use Rattle.soap_profile.specs.Tree.{Element}
 use Rattle.soap_profile.specs.declared.name.Expanded.{Expanded}
-use Rattle.rm_message.specs.addressing.declared.endpoint.Epr.{Epr}
-use Rattle.sequence_table.specs.batches.declared.record.PeerOffer.{PeerOffer}
-use Rattle.sequence_table.specs.batches.Fact.{Fact, Created, Granted, Acked, Received, ClosedOut, Closed, EndedOut}
-use Rattle.sequence_table.specs.batches.Fact.{Ended, Failed}
+use Rattle.wsa_headers.specs.declared.endpoint.Epr.{Epr}
+use Rattle.record_batch.specs.declared.record.PeerOffer.{PeerOffer}
+use Rattle.record_batch.specs.Fact.{Fact, Created, Granted, Acked, Received, ClosedOut, Closed, EndedOut}
+use Rattle.record_batch.specs.Fact.{Ended, Failed}
 use Rattle.sequence_table.specs.Words.{Text}
 use Rattle.sequence_table.specs.Makers.{makers, maker, counter}
 use Rattle.sequence_table.specs.Sources.{acked, is_sending, phase}

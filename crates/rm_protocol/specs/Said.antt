@@ -2,17 +2,17 @@
 -- WS-ReliableMessaging 1.2, sections 3.4 to 3.9.
 use Rattle.std.specs.Prelude.{ℕ, ◌+◌, Bool, true, false, if◌then◌else◌, List, [], ◌∷◌, ◌++◌, codes, Option, Some, None}
 use Rattle.std.specs.List.{filter}
-use Rattle.rm_message.specs.elements.declared.header.AckBlock.{AckBlock}
-use Rattle.rm_message.specs.elements.declared.header.SeqHeader.{SeqHeader}
-use Rattle.rm_message.specs.elements.declared.lifecycle.Lifecycle.{Lifecycle}
-use Rattle.rm_message.specs.elements.declared.lifecycle.Lifecycle.TheVariants as life
+use Rattle.rm_elements.specs.declared.header.AckBlock.{AckBlock}
+use Rattle.rm_elements.specs.declared.header.SeqHeader.{SeqHeader}
+use Rattle.rm_elements.specs.declared.lifecycle.Lifecycle.{Lifecycle}
+use Rattle.rm_elements.specs.declared.lifecycle.Lifecycle.TheVariants as life
 use Rattle.rm_base.specs.NumberSet.{has_number}
 use Rattle.rm_message.specs.declared.message.Body.{Body}
 use Rattle.rm_message.specs.declared.message.Body.TheVariants as body
 use Rattle.rm_message.specs.declared.message.Message.{Message}
-use Rattle.rm_message.specs.addressing.declared.addressing.Addressing.{Addressing}
-use Rattle.rm_message.specs.addressing.declared.endpoint.Epr.{Epr}
-use Rattle.sequence_table.specs.batches.Fact.{Fact}
+use Rattle.wsa_headers.specs.declared.addressing.Addressing.{Addressing}
+use Rattle.wsa_headers.specs.declared.endpoint.Epr.{Epr}
+use Rattle.record_batch.specs.Fact.{Fact}
 use Rattle.sequence_table.specs.Words.{Text}
 use Rattle.sequence_table.specs.Idents.{issue}
 use Rattle.sequence_table.specs.Makers.{Maker, Incoming, maker, address, number}
@@ -20,12 +20,12 @@ use Rattle.sequence_table.specs.Find.{acks_to, find_incoming, find_grant, is_tak
 use Rattle.rm_protocol.specs.Addresses.{Place, BackOn, Out, place_of, is_anonymous, reply_endpoint}
 use Rattle.rm_protocol.specs.Messages.{block_of, ack_message, response_of}
 
--- the response to a CreateSequence: what Granted has, and Accept with the node's address where its offer was taken
+-- Accept, with the node's address, where the offer of a CreateSequence was taken
 abbrev pub accept_by : List Fact → Bool → Option Epr
 accept_by r false = None
 accept_by r true = Some (plain_endpoint (address r))
 
--- the response for sequence s, which was made so
+-- the response for sequence s, which was made so: what Granted has, and Accept
 abbrev pub grant_response : List Fact → Epr → Text → ℕ → Option Maker → List Message
 grant_response r to t s (Some (Incoming counter message_id acks_to behaviour deadline lapse)) =
     response_of to (Some t) (codes "CreateSequenceResponse") (life.CreateResponse (record {
@@ -88,22 +88,22 @@ abbrev pub found_in : List Fact → Option Text → Option ℕ
 found_in r None = None
 found_in r (Some q) = find_incoming r q
 
--- data: new, a duplicate or past the window
+-- the acknowledgement of data, whether new, a duplicate or past the window
 abbrev pub data_acks : List Fact → ℕ → Option Text → List Ack
 data_acks r now None = []
 data_acks r now (Some q) = ack_of r now q (find_incoming r q)
 
--- AckRequested, where none is given yet for the sequence: once for each sequence
+-- the sequences that have their acknowledgement, and one more
 abbrev pub given_with : Option ℕ → List ℕ → List ℕ
 given_with None given = given
 given_with (Some s) given = s ∷ given
 
--- what one AckRequested gets, where these sequences have theirs
+-- what one AckRequested gets: the acknowledgement of its sequence, unless that is one of these, which have theirs
 abbrev pub ask_ack : List Fact → ℕ → List ℕ → Text → Option ℕ → List Ack
 ask_ack r now given q None = []
 ask_ack r now given q (Some s) = if has_number given s then [] else ack_of r now q (Some s)
 
--- what all of them get
+-- what all of them get: once for each sequence
 abbrev pub ask_acks : List Fact → ℕ → List ℕ → List Text → List Ack
 ask_acks r now given [] = []
 ask_acks r now given (q ∷ qs) =
@@ -120,13 +120,13 @@ abbrev pub back_blocks : List Ack → List AckBlock
 back_blocks [] = []
 back_blocks (ack ∷ acks) = if is_anonymous ack.0.address then ack.1 ∷ back_blocks acks else back_blocks acks
 
--- where there is no other reply, they are one
+-- where no response goes back there, they are one message, which goes to the first of their endpoints
 abbrev pub back_message : List Ack → List Message
 back_message [] = []
 back_message (ack ∷ acks) =
     if is_anonymous ack.0.address then ack_message ack.0 (ack.1 ∷ back_blocks acks) ∷ [] else back_message acks
 
--- each other one is a message of its own
+-- each acknowledgement that goes elsewhere is a message of its own
 abbrev pub own_messages : List Ack → List Message
 own_messages [] = []
 own_messages (ack ∷ acks) =

@@ -1,8 +1,8 @@
--- The lines of a report, and from them alone what a node was sent.
+-- The lines of a report, and what they say a source was given to send.
 use Rattle.std.specs.Prelude.{◌≡◌, ◌⊎◌, ℕ, ◌+◌, ◌==◌, ◌&&◌, Bool, true, false, if◌then◌else◌, List, [], ◌∷◌, ◌++◌}
 use Rattle.std.specs.Prelude.{length, Option, Some, None, Err}
 use Rattle.rm_base.specs.Numbered.{numbered}
-use Rattle.sequence_table.specs.batches.Fact.{Fact}
+use Rattle.record_batch.specs.Fact.{Fact}
 use Rattle.sequence_table.specs.Words.{Text}
 use Rattle.sequence_table.specs.Sources.{accepted}
 use Rattle.rm_protocol.specs.Calls.{Done, create, send, close, end, tick}

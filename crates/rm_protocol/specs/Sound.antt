@@ -7,18 +7,19 @@ use Rattle.ack_ranges.specs.Ranges.{in_ranges}
 use Rattle.rm_base.specs.Numbered.{numbered}
 use Rattle.rm_base.specs.NumberSet.{has_number}
 use Rattle.rm_base.specs.declared.message.Cause.TheVariants.{Peer}
-use Rattle.rm_message.specs.elements.declared.header.AckBlock.{AckBlock}
-use Rattle.rm_message.specs.elements.declared.header.SeqHeader.{SeqHeader}
-use Rattle.rm_message.specs.elements.declared.lifecycle.Lifecycle.TheVariants as life
-use Rattle.rm_message.specs.elements.declared.lifecycle.Offer.{Offer}
+use Rattle.rm_elements.specs.declared.header.AckBlock.{AckBlock}
+use Rattle.rm_elements.specs.declared.header.SeqHeader.{SeqHeader}
+use Rattle.rm_elements.specs.declared.lifecycle.Lifecycle.TheVariants as life
+use Rattle.rm_elements.specs.declared.lifecycle.Offer.{Offer}
 use Rattle.rm_message.specs.declared.message.Body.{Body}
 use Rattle.rm_message.specs.declared.message.Body.TheVariants as body
 use Rattle.rm_message.specs.declared.message.Message.{Message}
-use Rattle.sequence_table.specs.batches.declared.record.OwnOffer.{OwnOffer}
-use Rattle.sequence_table.specs.batches.declared.record.PeerOffer.{PeerOffer}
-use Rattle.sequence_table.specs.batches.Fact.{Fact, Made, Creating, Created, Granted, Accepted, Acked, Received, Closed}
-use Rattle.sequence_table.specs.batches.Fact.{Ended}
-use Rattle.sequence_table.specs.Words.{Text, is_empty}
+use Rattle.record_batch.specs.declared.record.OwnOffer.{OwnOffer}
+use Rattle.record_batch.specs.declared.record.PeerOffer.{PeerOffer}
+use Rattle.record_batch.specs.Fact.{Fact, Made, Creating, Created, Granted, Accepted, Acked, Received, Closed}
+use Rattle.record_batch.specs.Fact.{Ended}
+use Rattle.rm_destination.specs.Messages.{is_empty}
+use Rattle.sequence_table.specs.Words.{Text}
 use Rattle.sequence_table.specs.Idents.{issue}
 use Rattle.sequence_table.specs.Makers.{Maker, Outgoing, Offered, Incoming, Taken, makers, maker, draws_of, counter}
 use Rattle.sequence_table.specs.Makers.{nodes_of, number, addresses_of, address, created, seq_in}

@@ -6,9 +6,9 @@ use Rattle.std.specs.List.{list_any}
 use Rattle.ack_ranges.specs.declared.range.Range.{Range}
 use Rattle.rm_base.specs.NumberSet.{has_number}
 use Rattle.rm_base.specs.declared.message.Behaviour.{Behaviour}
-use Rattle.rm_message.specs.elements.declared.header.AckBlock.{AckBlock}
-use Rattle.rm_message.specs.elements.declared.header.SeqHeader.{SeqHeader}
-use Rattle.rm_message.specs.elements.declared.lifecycle.Lifecycle.TheVariants as life
+use Rattle.rm_elements.specs.declared.header.AckBlock.{AckBlock}
+use Rattle.rm_elements.specs.declared.header.SeqHeader.{SeqHeader}
+use Rattle.rm_elements.specs.declared.lifecycle.Lifecycle.TheVariants as life
 use Rattle.rm_message.specs.declared.message.Body.{Body}
 use Rattle.rm_message.specs.declared.message.Body.TheVariants as body
 use Rattle.rm_message.specs.declared.message.Message.{Message}
@@ -18,7 +18,7 @@ use Rattle.rm_message.specs.declared.refusal.FaultKind.TheVariants.{SequenceTerm
 use Rattle.rm_message.specs.declared.refusal.FaultKind.TheVariants.{InvalidAcknowledgement, CreateSequenceRefused}
 use Rattle.rm_message.specs.declared.refusal.FaultKind.TheVariants.{MissingSelection, UnsupportedSelection}
 use Rattle.rm_message.specs.declared.refusal.FaultKind.TheVariants.{StoreFull}
-use Rattle.sequence_table.specs.batches.Fact.{Fact}
+use Rattle.record_batch.specs.Fact.{Fact}
 use Rattle.sequence_table.specs.Words.{Text}
 use Rattle.sequence_table.specs.Makers.{makers}
 use Rattle.sequence_table.specs.Sources.{accepted}
@@ -45,7 +45,7 @@ abbrev pub is_unknown : List Fact → Option Text → Bool
 is_unknown r None = false
 is_unknown r (Some q) = is_none (find_incoming r q)
 
--- one of the blocks or requests names a sequence of ours on the fitting side
+-- an acknowledgement names an outgoing sequence of ours
 abbrev pub knows_block : List Fact → AckBlock → Bool
 knows_block r block = is_some (find_outgoing r block.ident)
 
@@ -53,13 +53,14 @@ knows_block r block = is_some (find_outgoing r block.ident)
 abbrev pub knows_ask : List Fact → Text → Bool
 knows_ask r q = is_some (find_incoming r q)
 
--- there are such, the body is empty, and none of them does
+-- there are acknowledgements or requests for one, none of them names a sequence of ours, and the body is empty
 abbrev pub names_none : List Fact → List AckBlock → List Text → Body → Bool
 names_none r [] [] content = false
 names_none r blocks asks body.Empty = not (list_any (knows_block r) blocks || list_any (knows_ask r) asks)
 names_none r blocks asks _ = false
 
--- the sequence that a message would go on with: TerminateSequence ends one that is ended already
+-- the sequence that a message would go on with: of its Sequence header, or of its CloseSequence. A TerminateSequence
+-- goes on with none, so that it is answered again for a sequence that is ended already
 abbrev pub going_on : Option SeqHeader → Body → Option Text
 going_on (Some h) content = Some h.ident
 going_on None (body.Lifecycle (life.Close f)) = Some f.ident
@@ -104,7 +105,7 @@ refuses_create r (Some t) (body.Lifecycle (life.Create c)) =
     is_none (find_grant r t) && (is_nowhere c.acks_to.address || nat_le 256 (length (makers r)))
 refuses_create r _ _ = false
 
--- MakeConnection: no address and nothing else selected; something else selected
+-- a MakeConnection that selects neither an address nor something else: WS-MakeConnection 1.1, section 3.2
 abbrev pub lacks_selection : Body → Bool
 lacks_selection (body.Lifecycle (life.Make selection)) = is_none selection.address && not selection.other
 lacks_selection _ = false

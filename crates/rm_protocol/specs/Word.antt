@@ -1,16 +1,14 @@
--- The headline.
-use Rattle.std.specs.Prelude.{◌≡◌, ◌⊎◌, ℕ, Bool, true, false, List, [], ◌∷◌, ◌++◌}
+-- The headline of two nodes, by their records.
+use Rattle.std.specs.Prelude.{◌≡◌, ◌⊎◌, ℕ, true, false, List, [], ◌++◌}
 use Rattle.ack_ranges.specs.Ranges.{in_ranges}
 use Rattle.rm_base.specs.NumberSet.{has_number}
 use Rattle.rm_base.specs.declared.message.Behaviour.TheVariants.{EntireSequence}
-use Rattle.sequence_table.specs.batches.Fact.{Fact}
-use Rattle.sequence_table.specs.Words.{Text, is_empty}
+use Rattle.record_batch.specs.Fact.{Fact}
+use Rattle.rm_destination.specs.Messages.{is_empty}
+use Rattle.sequence_table.specs.Words.{Text}
 use Rattle.sequence_table.specs.Sources.{accepted, acked, marks}
 use Rattle.sequence_table.specs.Destinations.{held, inbox, behaviour, texts}
 use Rattle.sequence_table.specs.Find.{IsOutgoing, IsIncoming}
-use Rattle.rm_protocol.specs.Node.{Node, State, Up, Writing, records}
-use Rattle.rm_protocol.specs.Terms.{Terms}
-use Rattle.rm_protocol.specs.World.{World, One, Two, Crash, run}
 
 -- ys begins with xs
 abbrev pub IsPrefixOf : {A : Type 0} → List A → List A → Type 0
@@ -45,25 +43,3 @@ pub record KeepsWord (a b : List Fact) : Type 0 where
   pub held : (s t : ℕ) → Matches a b s t → (n : ℕ) → in_ranges (acked a s) n ≡ true → has_number (held b t) n ≡ true
   pub none : (t : ℕ) → IsThere b t → HasNoSource a b t → inbox b t ≡ []
   pub matched : (s : ℕ) (q : Text) → IsOutgoing a s q → (t : ℕ) × Matches a b s t
-
--- the records for which an image of the node's disk may stand: after a call that failed, those before it, or with its
--- batch
-abbrev pub IsLeftWith : List Fact → State → List Fact → Type 0
-IsLeftWith r Up image = image ≡ r
-IsLeftWith r (Writing delta) image = (image ≡ r) ⊎ (image ≡ r ++ delta)
-
--- the records for which an image of a node's disk may stand
-abbrev pub IsLeft : Node → List Fact → Type 0
-IsLeft x image = IsLeftWith (records x) x.state image
-
--- at each pair of images of both disks, in both directions
-pub record KeepsAll (w : World) : Type 0 where
-  pub one : (a b : List Fact) → IsLeft w.one a → IsLeft w.two b → KeepsWord a b
-  pub two : (a b : List Fact) → IsLeft w.two a → IsLeft w.one b → KeepsWord a b
-
--- two more crashes leave these records
-pub record IsAfterCrashes (terms : Terms) (w : World) (a b : List Fact) : Type 0 where
-  pub kept_one : Bool
-  pub kept_two : Bool
-  pub one : records (run terms (Crash One kept_one ∷ Crash Two kept_two ∷ []) w).one ≡ a
-  pub two : records (run terms (Crash One kept_one ∷ Crash Two kept_two ∷ []) w).two ≡ b

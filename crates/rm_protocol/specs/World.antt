@@ -4,11 +4,11 @@ use Rattle.std.specs.Prelude.{Result, Err}
 use Rattle.rm_base.specs.Numbered.{numbered}
 use Rattle.rm_base.specs.declared.message.Behaviour.{Behaviour}
 use Rattle.rm_base.specs.declared.message.Behaviour.TheVariants.{FollowingFirstGap}
-use Rattle.rm_message.specs.elements.declared.lapse.Lapse.{Lapse}
+use Rattle.rm_elements.specs.declared.lapse.Lapse.{Lapse}
 use Rattle.rm_message.specs.declared.message.Message.{Message}
 use Rattle.rm_message.specs.declared.refusal.Refusal.{Refusal}
-use Rattle.sequence_table.specs.batches.declared.record.Via.{Via}
-use Rattle.sequence_table.specs.batches.Fact.{Made}
+use Rattle.record_batch.specs.declared.record.Via.{Via}
+use Rattle.record_batch.specs.Fact.{Made}
 use Rattle.sequence_table.specs.Words.{Text}
 use Rattle.rm_protocol.specs.Calls.{Answer, Wish, create, send, close, end, tick, receive}
 use Rattle.rm_protocol.specs.Node.{Node, State, Up, records, end_of, armed, mounted, after, said_after}
@@ -71,11 +71,11 @@ pub data Event : Type 0 where
 abbrev pub sent : Side → List Message → List Packet
 sent from outs = map (λ (m : Message). record { from = from; message = m }) outs
 
--- packets behind others: one for which the network has no room is lost
+-- the messages of packets
 abbrev pub messages_in : List Packet → List Message
 messages_in packets = map (λ (p : Packet). p.message) packets
 
--- the packets after more were put, one after the other
+-- the packets after more were put, one after the other: one for which the network has no room is lost
 abbrev pub puts : Terms → List Packet → List Packet → List Packet
 puts terms packets [] = packets
 puts terms packets (p ∷ more) =

@@ -3,7 +3,7 @@ ghost use Rattle.std.specs.Prelude.{◌≡◌, ℕ, ◌+◌, ◌++◌, ◌∷◌
 ghost use Rattle.std.specs.Prelude.{slice_get, take};
 ghost use Rattle.rm_base.specs.Numbered.{numbered};
 ghost use Rattle.rm_message.specs.declared.refusal.Refusal.{Refusal};
-ghost use Rattle.sequence_table.specs.batches.Fact.{Fact};
+ghost use Rattle.record_batch.specs.Fact.{Fact};
 ghost use Rattle.rm_protocol.specs.Delivered.{TakesNew};
 ghost use Rattle.rm_protocol.specs.Examples.{with_a_close, with_an_end, with_an_expiry, example_terms, in_order};
 ghost use Rattle.rm_protocol.specs.Examples.{played, with_a_crash, with_a_gap, with_an_offer};
@@ -14,7 +14,7 @@ ghost use Rattle.rm_protocol.specs.Sent.{AcceptedIsSent, line_of, lines, outcome
 ghost use Rattle.rm_protocol.specs.Sound.{IsSound};
 ghost use Rattle.rm_protocol.specs.Terms.{AreTerms, Terms};
 ghost use Rattle.rm_protocol.specs.Unarmed.{AreFaultless, AreUnarmed, IsFaultless};
-ghost use Rattle.rm_protocol.specs.Word.{IsAfterCrashes, IsLeft, KeepsAll};
+ghost use Rattle.rm_protocol.specs.Crashes.{IsAfterCrashes, IsLeft, KeepsAll};
 ghost use Rattle.rm_protocol.specs.World.{AreMade, Crash, Deliver, Event, Noise, Packet, Side, World};
 ghost use Rattle.rm_protocol.specs.World.{happens, node, other, run, start};
 ghost use Rattle.sequence_table.specs.Destinations.{discarded, inbox, texts};

@@ -4,9 +4,3 @@
 #![tactic(auto)]
 
 pub mod laws;
-
-// What the contracts here speak of, passed on to the layers above, which need not list these crates.
-pub use rm_message as message_types;
-pub use rm_message::{addressing, elements, values};
-pub use sequence_table as sequences;
-pub use sequence_table::batches;

@@ -8,16 +8,16 @@ use Rattle.std.specs.List.{AllByRecursion}
 use Rattle.std.specs.Option.{option_map}
 use Rattle.std.proofs.lemmas.Option.{slice_get-map}
 use Rattle.soap_envelope.specs.Soap.{soap_space}
-use Rattle.rm_wire.specs.reader.Refusals.{Refuses}
+use Rattle.message_reader.specs.Refusals.{Refuses}
 use Rattle.node_actor.specs.Came.{IsReadAs}
 use Rattle.rm_report.specs.declared.line.Outcome.TheVariants as told
 use Rattle.rm_base.specs.declared.message.Behaviour.{Behaviour}
 use Rattle.rm_base.specs.Numbered.{numbered}
-use Rattle.rm_protocol.specs.elements.declared.lapse.Lapse.{Lapse}
-use Rattle.rm_protocol.specs.message_types.declared.message.Message.{Message}
-use Rattle.rm_protocol.specs.message_types.declared.refusal.Refusal.{Refusal}
-use Rattle.rm_protocol.specs.batches.declared.record.Via.TheVariants.{Direct}
-use Rattle.rm_protocol.specs.Calls.{Answer}
+use Rattle.rm_elements.specs.declared.lapse.Lapse.{Lapse}
+use Rattle.rm_message.specs.declared.message.Message.{Message}
+use Rattle.rm_message.specs.declared.refusal.Refusal.{Refusal}
+use Rattle.record_batch.specs.declared.record.Via.TheVariants.{Direct}
+use Rattle.rm_protocol.specs.Calls.{Answer, Wish as Wished}
 use Rattle.rm_protocol.specs.Node.{Node, State, Up, Writing, outcome_by}
 use Rattle.rm_protocol.specs.Sent.{Called, arrival_outcome}
 use Rattle.rm_protocol.specs.Terms.{Terms}
@@ -26,34 +26,45 @@ use Rattle.rm_protocol.specs.World.{happens}
 use Rattle.rm_protocol.specs.World.{arrives, node, other, place, with_clock}
 use Rattle.rm_script.specs.declared.event.Event.TheVariants as said
 use Rattle.rm_script.specs.declared.event.Side.{Side as Place}
-use Rattle.rm_protocol.specs.sequences.Words.{Text}
+use Rattle.sequence_table.specs.Words.{Text}
 use Rattle.rm_replay.specs.Asked.{step_of}
 use Rattle.rm_replay.specs.Happening.{Happened, moved}
 use Rattle.rm_replay.specs.Meaning.{outcome_told, side_of}
 use Rattle.rm_replay.specs.Shows.{IsReadRight, Scene, Shows, address_of}
 use Rattle.rm_replay.specs.Net.{AreOfNet, number_of, read_as, text_of, wire_packet, wire_packets}
 use Rattle.rm_replay.specs.Tales.{Tells, fault_at, receiver}
-use Rattle.rm_replay.specs.declared.ask.Call.TheVariants as call
+use Rattle.node_actor.specs.Asked as asks
+use Rattle.node_actor.specs.Call.TheVariants as call
+use Rattle.node_actor.specs.Wish.{Wish}
 use Rattle.rm_replay.specs.declared.stage.Nodes.{Nodes}
 use Rattle.rm_replay.proofs.EventLemmas.{IsCall}
 use Rattle.rm_replay.proofs.TaleLemmas.{tells_none}
 
 -- ---- what a line asks for
 
+-- a sequence is asked for with no polled queue
+abbrev pub wished : Text → Lapse → Option Behaviour → Wished
+wished to expires offer = record { to = to; via = Direct; expires = expires; offer = offer }
+
+-- and so the code asks
+abbrev pub wish : Text → Lapse → Option Behaviour → Wish
+wish to expires offer = record { to = to; via = Direct; expires = expires; offer = offer }
+
 place_is : (w : World) (scene : Scene) (nodes : Nodes) (side : Side) → Shows w scene nodes
     → address_of side ≡ place w side
 place_is w scene nodes One shows = sym shows.at_one
 place_is w scene nodes Two shows = sym shows.at_two
 
-pub create_call : (terms : Terms) (w : World) (scene : Scene) (nodes : Nodes) (content : Result Message Refusal)
+pub create_call : (terms : Terms) (w : World) (scene : Scene) (nodes : Nodes)
     (at : Place) (to : Text) (expires : Lapse) (offer : Option Behaviour) → Shows w scene nodes
     → to ≡ address_of (other (side_of at))
     → IsCall terms w (said.Create at expires offer) (Create (side_of at) Direct expires offer) (side_of at)
-    (step_of terms (node w (side_of at)) content (call.Create to expires offer))
-create_call terms w scene nodes content at to expires offer shows is =
+    (step_of terms (node w (side_of at)) (asks.Create (wished to expires offer)) (call.Create (wish to expires offer)))
+create_call terms w scene nodes at to expires offer shows is =
     subst (λ (address : Text). IsCall terms w (said.Create at expires offer)
     (Create (side_of at) Direct expires offer) (side_of at)
-    (step_of terms (node w (side_of at)) content (call.Create address expires offer)))
+    (step_of terms (node w (side_of at)) (asks.Create (wished address expires offer))
+    (call.Create (wish address expires offer))))
     (sym (is ∙ place_is w scene nodes (other (side_of at)) shows))
     (record {
       means = refl;
@@ -63,10 +74,10 @@ create_call terms w scene nodes content at to expires offer shows is =
       outcome = refl;
     })
 
-pub send_call : (terms : Terms) (w : World) (content : Result Message Refusal) (at : Place) (seq : ℕ) (text : Text)
+pub send_call : (terms : Terms) (w : World) (at : Place) (seq : ℕ) (text : Text)
     → IsCall terms w (said.Send at seq text) (Send (side_of at) seq text) (side_of at)
-    (step_of terms (node w (side_of at)) content (call.Send seq text))
-send_call terms w content at seq text = record {
+    (step_of terms (node w (side_of at)) (asks.Send seq text) (call.Send seq text))
+send_call terms w at seq text = record {
   means = refl;
   quiet = λ side entries. refl;
   at = refl;
@@ -74,10 +85,10 @@ send_call terms w content at seq text = record {
   outcome = refl;
 }
 
-pub close_call : (terms : Terms) (w : World) (content : Result Message Refusal) (at : Place) (seq : ℕ)
+pub close_call : (terms : Terms) (w : World) (at : Place) (seq : ℕ)
     → IsCall terms w (said.Close at seq) (Close (side_of at) seq) (side_of at)
-    (step_of terms (node w (side_of at)) content (call.Close seq))
-close_call terms w content at seq = record {
+    (step_of terms (node w (side_of at)) (asks.Close seq) (call.Close seq))
+close_call terms w at seq = record {
   means = refl;
   quiet = λ side entries. refl;
   at = refl;
@@ -85,10 +96,10 @@ close_call terms w content at seq = record {
   outcome = refl;
 }
 
-pub end_call : (terms : Terms) (w : World) (content : Result Message Refusal) (at : Place) (seq : ℕ)
+pub end_call : (terms : Terms) (w : World) (at : Place) (seq : ℕ)
     → IsCall terms w (said.End at seq) (End (side_of at) seq) (side_of at)
-    (step_of terms (node w (side_of at)) content (call.End seq))
-end_call terms w content at seq = record {
+    (step_of terms (node w (side_of at)) (asks.End seq) (call.End seq))
+end_call terms w at seq = record {
   means = refl;
   quiet = λ side entries. refl;
   at = refl;
@@ -102,19 +113,19 @@ outcome_clocked : (x : Node) (now : ℕ) (st : State) (answer : Answer)
 outcome_clocked x now Up answer = refl
 outcome_clocked x now (Writing delta) answer = refl
 
-tick_moves : (terms : Terms) (w : World) (side : Side) (content : Result Message Refusal) (now : ℕ)
-    → happens terms w (Tick side now) ≡ moved terms w side (step_of terms (node w side) content (call.Tick now))
-tick_moves terms w One content now = refl
-tick_moves terms w Two content now = refl
+tick_moves : (terms : Terms) (w : World) (side : Side) (now : ℕ)
+    → happens terms w (Tick side now) ≡ moved terms w side (step_of terms (node w side) (asks.Tick now) (call.Tick now))
+tick_moves terms w One now = refl
+tick_moves terms w Two now = refl
 
-pub tick_call : (terms : Terms) (w : World) (content : Result Message Refusal) (at : Place) (now : ℕ)
+pub tick_call : (terms : Terms) (w : World) (at : Place) (now : ℕ)
     → IsCall terms w (said.Tick at now) (Tick (side_of at) now) (side_of at)
-    (step_of terms (node w (side_of at)) content (call.Tick now))
-tick_call terms w content at now = record {
+    (step_of terms (node w (side_of at)) (asks.Tick now) (call.Tick now))
+tick_call terms w at now = record {
   means = refl;
   quiet = λ side entries. refl;
   at = refl;
-  moves = tick_moves terms w (side_of at) content now;
+  moves = tick_moves terms w (side_of at) now;
   outcome = ap Called (outcome_clocked (node w (side_of at)) now (node w (side_of at)).state _);
 }
 
@@ -123,7 +134,7 @@ tick_call terms w content at now = record {
 pub noise_call : (terms : Terms) (w : World) (at : Place) (bytes : Bor (List ℕ)) (refusal : Refusal)
     → Refuses soap_space bytes.now refusal
     → IsCall terms w (said.Noise at bytes.now) (Noise (side_of at) refusal) (side_of at)
-    (step_of terms (node w (side_of at)) (Err refusal) (call.Receive bytes))
+    (step_of terms (node w (side_of at)) (asks.Receive (Err refusal)) (call.Receive bytes))
 noise_call terms w at bytes refusal refuses = record {
   means = (refusal, refuses, refl);
   quiet = λ side entries. refl;
@@ -135,7 +146,7 @@ noise_call terms w at bytes refusal refuses = record {
 pub deliver_call : (terms : Terms) (w : World) (k : ℕ) (p : Packet) (bytes : Bor (List ℕ))
     → numbered w.packets k ≡ Some p
     → IsCall terms w (said.Deliver k) (Deliver k) (other p.from)
-    (step_of terms (node w (other p.from)) (terms.read p.message) (call.Receive bytes))
+    (step_of terms (node w (other p.from)) (asks.Receive (terms.read p.message)) (call.Receive bytes))
 deliver_call terms w k p bytes there = record {
   means = refl;
   quiet = λ side entries. refl;
@@ -148,10 +159,10 @@ deliver_call terms w k p bytes there = record {
 pub deliver_at : (terms : Terms) (w : World) (k : ℕ) (p : Packet) (side : Side) (bytes : Bor (List ℕ))
     → numbered w.packets k ≡ Some p → side ≡ other p.from
     → IsCall terms w (said.Deliver k) (Deliver k) side
-    (step_of terms (node w side) (terms.read p.message) (call.Receive bytes))
+    (step_of terms (node w side) (asks.Receive (terms.read p.message)) (call.Receive bytes))
 deliver_at terms w k p side bytes there is =
     subst (λ (s : Side). IsCall terms w (said.Deliver k) (Deliver k) s
-    (step_of terms (node w s) (terms.read p.message) (call.Receive bytes))) (sym is)
+    (step_of terms (node w s) (asks.Receive (terms.read p.message)) (call.Receive bytes))) (sym is)
     (deliver_call terms w k p bytes there)
 
 -- ---- packets with a number

@@ -6,6 +6,7 @@ use Rattle.rm_base.specs.declared.failures.Memory.{Memory}
 use Rattle.rm_disk.specs.Call.{crashes_of}
 use Rattle.rm_protocol.specs.Node.{Node, mounted}
 use Rattle.rm_protocol.specs.World.{One, Two, World}
+use Rattle.rm_script.specs.declared.event.Event.TheVariants as said
 use Rattle.rm_script.specs.declared.event.Side.{Side as Place}
 use Rattle.rm_script.specs.declared.event.Side.TheVariants as place
 use Rattle.node_actor.specs.Actored.{Actored}
@@ -34,13 +35,14 @@ OneMore choice old new =
     (crashes_of new.disk.past ≡ crashes_of old.disk.past)
     ⊎ ((bytes : List ℕ) × (crashes_of new.disk.past ≡ crashes_of old.disk.past ++ (choice, bytes) ∷ []))
 
-grew_one : (choice : ℕ) (old new : Drive) → OneMore choice old new → new.failed ≡ old.failed → Grew old new
-grew_one choice old new (inl same) failed = record {
+grew_at : (at : Place) (choice : ℕ) (old new : Drive) → OneMore choice old new → new.failed ≡ old.failed
+    → Grew (side_of at) (said.Crash at choice) old new
+grew_at at choice old new (inl same) failed = record {
   crashes = inl same;
   faults = subst (λ (n : ℕ). RoseBy old.failed n 0) (sym failed) (tells_none old).faults;
 }
-grew_one choice old new (inr (bytes, one)) failed = record {
-  crashes = inr ((choice, bytes), one);
+grew_at at choice old new (inr (bytes, one)) failed = record {
+  crashes = inr (refl, (bytes, one));
   faults = subst (λ (n : ℕ). RoseBy old.failed n 0) (sym failed) (tells_none old).faults;
 }
 
@@ -48,7 +50,7 @@ by_one : (w : World) (choice : ℕ) (old new : Drives) (nodes : Nodes) (result :
     → OnOk result (Crashed w.one choice old.one.disk new.one.disk nodes.one)
     → OnErr result (Leaves w.one new.one.disk.past) → OnErr result (OneMore choice old.one new.one)
     → new.one.failed ≡ old.one.failed → Stands w.two new.two.disk nodes.two → Leaves w.two new.two.disk.past
-    → new.two ≡ old.two → Crashes w One choice old new nodes result
+    → new.two ≡ old.two → Crashes w place.One choice old new nodes result
 by_one w choice old new nodes (Ok done) ok err more failed stands leaves same = record {
   kept = ok.kept;
   stand = record { one = ok.stands; two = stands };
@@ -58,15 +60,16 @@ by_one w choice old new nodes (Ok done) ok err more failed stands leaves same = 
 by_one w choice old new nodes (Err memory) ok err more failed stands leaves same = record {
   one = err;
   two = leaves;
-  grew_one = grew_one choice old.one new.one more failed;
-  grew_two = subst (λ (d : Drive). Grew old.two d) (sym same) (grew_none old.two);
+  grew_one = grew_at place.One choice old.one new.one more failed;
+  grew_two = subst (λ (d : Drive). Grew Two (said.Crash place.One choice) old.two d) (sym same)
+      (grew_none Two (said.Crash place.One choice) old.two);
 }
 
 by_two : (w : World) (choice : ℕ) (old new : Drives) (nodes : Nodes) (result : Result Unit Memory)
     → OnOk result (Crashed w.two choice old.two.disk new.two.disk nodes.two)
     → OnErr result (Leaves w.two new.two.disk.past) → OnErr result (OneMore choice old.two new.two)
     → new.two.failed ≡ old.two.failed → Stands w.one new.one.disk nodes.one → Leaves w.one new.one.disk.past
-    → new.one ≡ old.one → Crashes w Two choice old new nodes result
+    → new.one ≡ old.one → Crashes w place.Two choice old new nodes result
 by_two w choice old new nodes (Ok done) ok err more failed stands leaves same = record {
   kept = ok.kept;
   stand = record { one = stands; two = ok.stands };
@@ -76,8 +79,9 @@ by_two w choice old new nodes (Ok done) ok err more failed stands leaves same = 
 by_two w choice old new nodes (Err memory) ok err more failed stands leaves same = record {
   one = leaves;
   two = err;
-  grew_one = subst (λ (d : Drive). Grew old.one d) (sym same) (grew_none old.one);
-  grew_two = grew_one choice old.two new.two more failed;
+  grew_one = subst (λ (d : Drive). Grew One (said.Crash place.Two choice) old.one d) (sym same)
+      (grew_none One (said.Crash place.Two choice) old.one);
+  grew_two = grew_at place.Two choice old.two new.two more failed;
 }
 
 pub crash_at_one : (w : World) (at : Place) (choice : ℕ) (old new : Drives) (nodes : Nodes)
@@ -85,9 +89,9 @@ pub crash_at_one : (w : World) (at : Place) (choice : ℕ) (old new : Drives) (n
     → OnOk result (Crashed w.one choice old.one.disk new.one.disk nodes.one)
     → OnErr result (Leaves w.one new.one.disk.past) → OnErr result (OneMore choice old.one new.one)
     → new.one.failed ≡ old.one.failed → Stands w.two new.two.disk nodes.two → Leaves w.two new.two.disk.past
-    → new.two ≡ old.two → Crashes w (side_of at) choice old new nodes result
+    → new.two ≡ old.two → Crashes w at choice old new nodes result
 crash_at_one w at choice old new nodes result is ok err more failed stands leaves same =
-    subst (λ (p : Place). Crashes w (side_of p) choice old new nodes result) (sym is)
+    subst (λ (p : Place). Crashes w p choice old new nodes result) (sym is)
     (by_one w choice old new nodes result ok err more failed stands leaves same)
 
 pub crash_at_two : (w : World) (at : Place) (choice : ℕ) (old new : Drives) (nodes : Nodes)
@@ -95,7 +99,7 @@ pub crash_at_two : (w : World) (at : Place) (choice : ℕ) (old new : Drives) (n
     → OnOk result (Crashed w.two choice old.two.disk new.two.disk nodes.two)
     → OnErr result (Leaves w.two new.two.disk.past) → OnErr result (OneMore choice old.two new.two)
     → new.two.failed ≡ old.two.failed → Stands w.one new.one.disk nodes.one → Leaves w.one new.one.disk.past
-    → new.one ≡ old.one → Crashes w (side_of at) choice old new nodes result
+    → new.one ≡ old.one → Crashes w at choice old new nodes result
 crash_at_two w at choice old new nodes result is ok err more failed stands leaves same =
-    subst (λ (p : Place). Crashes w (side_of p) choice old new nodes result) (sym is)
+    subst (λ (p : Place). Crashes w p choice old new nodes result) (sym is)
     (by_two w choice old new nodes result ok err more failed stands leaves same)

@@ -2,7 +2,7 @@
 use Rattle.std.proofs.Common.{◌≡◌, ◌∙◌, ◌&&◌, ℕ, cond, Bool, false, List, Option, Some, None, take, refl, []}
 use Rattle.std.proofs.Common.{sym, ap, subst, inl, inr}
 use Rattle.std.specs.Prelude.{◌⊎◌, Result, Ok, Err}
-use Rattle.rm_protocol.specs.batches.Fact.{Fact}
+use Rattle.record_batch.specs.Fact.{Fact}
 use Rattle.rm_base.specs.declared.failures.Memory.{Memory}
 use Rattle.rm_base.specs.declared.message.Behaviour.{Behaviour}
 use Rattle.rm_protocol.specs.Node.{Node, armed as armed_by, mounted}
@@ -18,7 +18,7 @@ use Rattle.rm_script.specs.declared.event.Side.{Side as Place}
 use Rattle.node_actor.specs.Actored.{Actored}
 use Rattle.node_actor.specs.Outcomes.{is_disk_outcome}
 use Rattle.node_actor.specs.Stands.{Leaves, Stands}
-use Rattle.node_store.specs.Changes.{Told}
+use Rattle.rm_disk.specs.Told.{Told}
 use Rattle.rm_replay.specs.Asked.{Step, WereAsked}
 use Rattle.rm_replay.specs.Happening.{CrashedAt, CrashedShort, Happened, Happens, Moves, WereAskedFor, armed}
 use Rattle.rm_replay.specs.Happening.{granted, moved, moved_in_part, told_of}
@@ -110,8 +110,8 @@ happens_call each terms w line event side step old new nodes (Ok outcome) is mov
     }
 happens_call each terms w line event side step old new nodes (Err memory) is moves (failed, asked) = record {
   left = left_of each terms w line event side step new nodes is moves;
-  one = grew_asked old.drives.one new.drives.one (same_side side One && failed) asked.one;
-  two = grew_asked old.drives.two new.drives.two (same_side side Two && failed) asked.two;
+  one = grew_asked One line old.drives.one new.drives.one (same_side side One && failed) asked.one;
+  two = grew_asked Two line old.drives.two new.drives.two (same_side side Two && failed) asked.two;
 }
 
 -- a line that is this one
@@ -145,8 +145,8 @@ pub cut_none : EachIsLeft → (terms : Terms) (w : World) (line : Said) (scene :
     → Shows w scene nodes → IsCut terms w line scene scene
 cut_none each terms w line scene nodes shows = record {
   left = inl (holds_of each w scene nodes shows);
-  one = grew_none scene.drives.one;
-  two = grew_none scene.drives.two;
+  one = grew_none One line scene.drives.one;
+  two = grew_none Two line scene.drives.two;
 }
 
 -- ---- lines that change one node
@@ -254,9 +254,10 @@ happens_crash terms w at choice old new before nodes shows same crashed = record
   two = tale_crash_two terms w (side_of at) choice crashed.kept old.drives new.drives crashed.two;
 }
 
-pub cut_crash : (terms : Terms) (w : World) (line : Said) (old new : Scene) (before : Nodes) → Shows w old before
-    → new.packets ≡ old.packets → CrashedShort w old.drives new.drives → IsCut terms w line old new
-cut_crash terms w line old new before shows same crashed = record {
+pub cut_crash : (terms : Terms) (w : World) (at : Place) (choice : ℕ) (old new : Scene) (before : Nodes)
+    → Shows w old before → new.packets ≡ old.packets → CrashedShort w at choice old.drives new.drives
+    → IsCut terms w (said.Crash at choice) old new
+cut_crash terms w at choice old new before shows same crashed = record {
   left = inl (record { one = crashed.one; two = crashed.two; wire = same ∙ shows.wire });
   one = crashed.grew_one;
   two = crashed.grew_two;

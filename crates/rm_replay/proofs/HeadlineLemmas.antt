@@ -1,14 +1,14 @@
 -- From nodes of the protocol to the headline of two disks.
 use Rattle.std.proofs.Common.{◌≡◌, ◌∙◌, Bool, true, false, List, ◌∷◌, ◌++◌, append_assoc, append-nil, refl, sym, []}
 use Rattle.std.proofs.Common.{ap, subst, inl, inr}
-use Rattle.rm_protocol.specs.batches.Fact.{Fact}
+use Rattle.record_batch.specs.Fact.{Fact}
 use Rattle.rm_protocol.specs.Node.{Node, State, Up, Writing, entries_left, mounted, records, records_in}
-use Rattle.rm_protocol.specs.Word.{IsLeft, IsLeftWith, KeepsAll}
+use Rattle.rm_protocol.specs.Crashes.{IsLeft, IsLeftWith, KeepsAll}
 use Rattle.rm_protocol.specs.World.{World}
 use Rattle.rm_replay.specs.Headline.{KeepsHeadline}
 use Rattle.rm_replay.specs.Shows.{Holds, Scene}
 
-records_push : (entries : List (List Fact)) (delta : List Fact)
+pub records_push : (entries : List (List Fact)) (delta : List Fact)
     → records_in (entries ++ delta ∷ []) ≡ records_in entries ++ delta
 records_push [] delta = append-nil delta
 records_push (batch ∷ entries) delta =
@@ -38,8 +38,8 @@ headline_of w scene keeps holds x y may_x may_y =
       two = (mounted w.two b.kept).entries;
       stands_one = a.stands;
       stands_two = b.stands;
-      are_one = a.are;
-      are_two = b.are;
+      each_one = a.are.each;
+      each_two = b.are.each;
       there = keeps.one (records (mounted w.one a.kept)) (records (mounted w.two b.kept)) left_a left_b;
       back = keeps.two (records (mounted w.two b.kept)) (records (mounted w.one a.kept)) left_b left_a;
     }

@@ -1,6 +1,7 @@
 mod NetLemmas
 mod HeadlineLemmas
 mod PlayedLemmas
+mod SentLemmas
 mod PutLemmas
 mod ReadLemmas
 mod TaleLemmas

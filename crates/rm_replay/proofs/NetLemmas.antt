@@ -2,17 +2,17 @@
 use Rattle.std.proofs.Common.{◌≡◌, ◌∙◌, ℕ, ◌+◌, ◌&&◌, nat_le, cond, Bool, true, false, List, ◌∷◌, length, map, refl, []}
 use Rattle.std.proofs.Common.{sym, ap, subst, inl, inr}
 use Rattle.std.specs.Prelude.{◌⊎◌, Result, Ok, Err}
-use Rattle.rm_wire.specs.reader.Refusals.{blind}
-use Rattle.rm_protocol.specs.batches.Batch.{made}
-use Rattle.rm_protocol.specs.batches.Fact.{Made}
-use Rattle.rm_protocol.specs.batches.Format.{number32, number64, text}
-use Rattle.rm_protocol.specs.message_types.declared.message.Message.{Message}
-use Rattle.rm_protocol.specs.message_types.declared.refusal.FaultKind.TheVariants.{TooLong}
-use Rattle.rm_protocol.specs.message_types.declared.refusal.Refusal.{Refusal}
+use Rattle.message_reader.specs.Refusals.{blind}
+use Rattle.record_batch.specs.Batch.{made}
+use Rattle.record_batch.specs.Fact.{Made}
+use Rattle.record_batch.specs.Format.{number32, number64, text}
+use Rattle.rm_message.specs.declared.message.Message.{Message}
+use Rattle.rm_message.specs.declared.refusal.FaultKind.TheVariants.{TooLong}
+use Rattle.rm_message.specs.declared.refusal.Refusal.{Refusal}
 use Rattle.rm_protocol.specs.Terms.{AreTerms, Terms}
 use Rattle.rm_protocol.specs.World.{AreMade}
-use Rattle.node_rules.specs.OwnTerms.{OwnAreTerms, ThereAreOwnTerms}
-use Rattle.rm_wires.specs.Wire.{has_room, texts_in}
+use Rattle.node_laws.specs.OwnTerms.{OwnAreTerms, ThereAreOwnTerms}
+use Rattle.rm_network.specs.Wire.{has_room, texts_in}
 use Rattle.rm_replay.specs.Net.{AreOfNet, read_as, text_of}
 use Rattle.rm_replay.specs.Shows.{address_one, address_two}
 

@@ -1,12 +1,12 @@
 -- A script that was played is a run of the protocol.
 use Rattle.std.proofs.Common.{◌≡◌, ◌∙◌, List, ◌∷◌, ◌++◌, Option, Some, None, refl, sym, ap, subst, inl, inr, []}
 use Rattle.rm_protocol.specs.Terms.{Terms}
-use Rattle.rm_protocol.specs.Word.{KeepsAll}
+use Rattle.rm_protocol.specs.Crashes.{KeepsAll}
 use Rattle.rm_protocol.specs.World.{AreMade, Event, World, happens, run, start}
 use Rattle.rm_protocol.specs.Terms.{AreTerms}
 use Rattle.rm_script.specs.declared.event.Event.{Event as Said}
-use Rattle.rm_protocol.specs.sequences.Words.{Text}
-use Rattle.node_rules.specs.OwnTerms.{OwnAreTerms}
+use Rattle.sequence_table.specs.Words.{Text}
+use Rattle.node_laws.specs.OwnTerms.{OwnAreTerms}
 use Rattle.rm_replay.specs.Headline.{KeepsHeadline}
 use Rattle.rm_replay.specs.Meaning.{stepped}
 use Rattle.rm_replay.specs.Net.{AreOfNet}

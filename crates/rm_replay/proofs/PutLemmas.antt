@@ -4,13 +4,13 @@ use Rattle.std.proofs.Common.{append-nil, length}
 use Rattle.std.proofs.Common.{map, take, refl, sym, ap}
 use Rattle.std.proofs.Math.Seq.{take-append-add}
 use Rattle.std.specs.List.{AllByRecursion}
-use Rattle.rm_protocol.specs.message_types.declared.message.Message.{Message}
+use Rattle.rm_message.specs.declared.message.Message.{Message}
 use Rattle.node_actor.specs.Packets.{packet_of}
 use Rattle.node_actor.specs.Out.{Out}
 use Rattle.rm_protocol.specs.Terms.{Terms}
 use Rattle.rm_protocol.specs.Word.{IsPrefixOf}
 use Rattle.rm_protocol.specs.World.{Packet, Side, messages_in, other, puts, sent}
-use Rattle.rm_wires.specs.Wire.{has_room, texts_in, with_packet}
+use Rattle.rm_network.specs.Wire.{has_room, texts_in, with_packet}
 use Rattle.rm_replay.specs.Happening.{IsPutInPart, with_all}
 use Rattle.rm_replay.specs.Net.{AreOfNet, number_of, text_of, wire_packet, wire_packets}
 use Rattle.rm_replay.specs.Shows.{IsReadRight}

@@ -1,18 +1,18 @@
 -- What a node says is read as it was said, or is too long to be read.
 use Rattle.std.proofs.Common.{◌≡◌, ℕ, nat_le, cond, Bool, true, false, List, ◌∷◌, length, Option, []}
-use Rattle.std.proofs.Common.{None, refl}
+use Rattle.std.proofs.Common.{None, refl, subst, sym}
 use Rattle.std.specs.Prelude.{Result, Ok, Err}
 use Rattle.std.specs.List.{AllByRecursion, filter}
 use Rattle.std.proofs.lemmas.Bool.{leb-true, leb-false}
 use Rattle.soap_envelope.specs.Soap.{soap_space}
-use Rattle.rm_wire.specs.reader.Refusals.{Refuses, Spells, blind, too_long}
-use Rattle.rm_protocol.specs.message_types.declared.message.Body.{Body}
-use Rattle.rm_protocol.specs.message_types.declared.message.Body.TheVariants as body
-use Rattle.rm_protocol.specs.message_types.declared.message.Message.{Message}
-use Rattle.rm_protocol.specs.message_types.declared.refusal.FaultKind.TheVariants.{TooLong}
-use Rattle.rm_protocol.specs.message_types.declared.refusal.Refusal.{Refusal}
-use Rattle.read_rules.specs.WasRead.{WasRead, IsBodyRead}
-use Rattle.rm_protocol.specs.batches.Fact.{Fact}
+use Rattle.message_reader.specs.Refusals.{Refuses, Spells, blind, too_long}
+use Rattle.rm_message.specs.declared.message.Body.{Body}
+use Rattle.rm_message.specs.declared.message.Body.TheVariants as body
+use Rattle.rm_message.specs.declared.message.Message.{Message}
+use Rattle.rm_message.specs.declared.refusal.FaultKind.TheVariants.{TooLong}
+use Rattle.rm_message.specs.declared.refusal.Refusal.{Refusal}
+use Rattle.read_laws.specs.WasRead.{WasRead, IsBodyRead}
+use Rattle.record_batch.specs.Fact.{Fact}
 use Rattle.rm_disk.specs.Call.{Call as DeviceCall}
 use Rattle.rm_protocol.specs.Calls.{Answer}
 use Rattle.rm_protocol.specs.Node.{Node, State, Up, Writing, end_of, is_short, records, records_in, said_after, said_by}
@@ -21,20 +21,22 @@ use Rattle.rm_protocol.specs.Said.{leaves}
 use Rattle.rm_protocol.specs.Addresses.{place_of}
 use Rattle.rm_protocol.specs.Terms.{Terms}
 use Rattle.rm_wire.specs.Writable.{IsRefusalWritable}
-use Rattle.node_rules.specs.Keeps.{EachIsReadBack, IsReadBack}
-use Rattle.node_rules.specs.OwnTerms.{AreOwn}
-use Rattle.node_rules.specs.Read.{IsContentRead, IsBodyRead as IsBodyKept}
-use Rattle.node_rules.specs.Records.{IsKept}
+use Rattle.node_laws.specs.Keeps.{EachIsReadBack, IsReadBack}
+use Rattle.node_laws.specs.OwnTerms.{AreOwn}
+use Rattle.node_laws.specs.Read.{IsContentRead, IsBodyRead as IsBodyKept}
+use Rattle.node_laws.specs.Records.{IsKept}
 use Rattle.node_store.specs.Stored.{Stored}
 use Rattle.node_actor.specs.Came.{IsReadAs}
 use Rattle.node_actor.specs.Stands.{StandsBy}
 use Rattle.rm_protocol.specs.World.{Side, One, Two, World, node}
 use Rattle.rm_replay.specs.Shows.{Drives, StandFor}
 use Rattle.rm_replay.specs.declared.stage.Nodes.{Nodes}
-use Rattle.rm_replay.specs.Asked.{IsCallWithin, IsReadBy, answer_of, clocked, is_connected, step_of}
+use Rattle.node_actor.specs.Asked.{Asked, Asks, MayBeAsked, is_connected}
+use Rattle.node_actor.specs.Steps.{answer_of, clocked}
+use Rattle.rm_replay.specs.Asked.{step_of}
 use Rattle.rm_replay.specs.Net.{read_as, text_of}
-use Rattle.rm_replay.specs.declared.ask.Call.{Call}
-use Rattle.rm_replay.specs.declared.ask.Call.TheVariants as call
+use Rattle.node_actor.specs.Call.{Call}
+use Rattle.node_actor.specs.Call.TheVariants as call
 
 -- ---- what comes is as it is read
 
@@ -118,29 +120,35 @@ kept_at w d nodes One stand = kept_by w.one.state w.one.entries d.one.disk.past 
 kept_at w d nodes Two stand = kept_by w.two.state w.two.entries d.two.disk.past nodes.two.node.stored stand.two.disk
 
 answer_read : ReadsRight → RefusesRight → EachIsReadBack → (terms : Terms) → AreOwn terms → (x : Node)
-    → IsKept (records x) → (content : Result Message Refusal) (asked : Call) → IsCallWithin asked
-    → IsReadBy asked content → AllByRecursion IsReadBack (answer_of terms x content asked).outs
-answer_read reads refuses each terms own x kept content (call.Create to expires offer) within by =
-    (each terms (records x) (end_of terms x.entries) own kept).create_ _ (record { to = within.0; expires = within.1 })
-answer_read reads refuses each terms own x kept content (call.Send seq text) within by =
-    (each terms (records x) (end_of terms x.entries) own kept).send_ seq text
-answer_read reads refuses each terms own x kept content (call.Close seq) within by =
-    (each terms (records x) (end_of terms x.entries) own kept).close_ seq x.clock
-answer_read reads refuses each terms own x kept content (call.End seq) within by =
-    (each terms (records x) (end_of terms x.entries) own kept).end_ seq
-answer_read reads refuses each terms own x kept content (call.Tick now) within by =
-    (each terms (records x) (end_of terms x.entries) own kept).tick_ now
-answer_read reads refuses each terms own x kept content (call.Receive bytes) within by =
-    (each terms (records x) (end_of terms x.entries) own kept).receive_ x.clock x.granted content
-    (content_read reads refuses bytes.now content by)
+    → IsKept (records x) → (asked : Asked) (this : Call) → MayBeAsked this → Asks this asked
+    → AllByRecursion IsReadBack (answer_of terms x asked).outs
+answer_read reads refuses each terms own x kept asked (call.Create wish) may is =
+    subst (λ (a : Asked). AllByRecursion IsReadBack (answer_of terms x a).outs) (sym is)
+    ((each terms (records x) (end_of terms x.entries) own kept).create_ _ may)
+answer_read reads refuses each terms own x kept asked (call.Send seq payload) may is =
+    subst (λ (a : Asked). AllByRecursion IsReadBack (answer_of terms x a).outs) (sym is)
+    ((each terms (records x) (end_of terms x.entries) own kept).send_ seq payload)
+answer_read reads refuses each terms own x kept asked (call.Close seq) may is =
+    subst (λ (a : Asked). AllByRecursion IsReadBack (answer_of terms x a).outs) (sym is)
+    ((each terms (records x) (end_of terms x.entries) own kept).close_ seq x.clock)
+answer_read reads refuses each terms own x kept asked (call.End seq) may is =
+    subst (λ (a : Asked). AllByRecursion IsReadBack (answer_of terms x a).outs) (sym is)
+    ((each terms (records x) (end_of terms x.entries) own kept).end_ seq)
+answer_read reads refuses each terms own x kept asked (call.Tick now) may is =
+    subst (λ (a : Asked). AllByRecursion IsReadBack (answer_of terms x a).outs) (sym is)
+    ((each terms (records x) (end_of terms x.entries) own kept).tick_ now)
+answer_read reads refuses each terms own x kept asked (call.Receive bytes) may is =
+    subst (λ (a : Asked). AllByRecursion IsReadBack (answer_of terms x a).outs) (sym is.is)
+    ((each terms (records x) (end_of terms x.entries) own kept).receive_ x.clock x.granted is.content
+    (content_read reads refuses bytes.now is.content is.read))
 
 -- all that a node says in a call
 pub said_is_read : ReadsRight → RefusesRight → EachIsReadBack → (terms : Terms) → AreOwn terms → (x : Node)
-    → IsKept (records x) → (content : Result Message Refusal) (asked : Call) → IsCallWithin asked
-    → IsReadBy asked content → AllByRecursion IsReadMessage (step_of terms x content asked).said
-said_is_read reads refuses each terms own x kept content asked within by =
-    let answer = answer_of terms x content asked in
-    let y = clocked asked x in
-    let all = read_messages answer.outs (answer_read reads refuses each terms own x kept content asked within by) in
-    all_filter IsReadMessage (λ (m : Message). leaves (is_connected asked) (place_of m.addressing.to))
+    → IsKept (records x) → (asked : Asked) (this : Call) → MayBeAsked this
+    → Asks this asked → AllByRecursion IsReadMessage (step_of terms x asked this).said
+said_is_read reads refuses each terms own x kept asked this within by =
+    let answer = answer_of terms x asked in
+    let y = clocked this x in
+    let all = read_messages answer.outs (answer_read reads refuses each terms own x kept asked this within by) in
+    all_filter IsReadMessage (λ (m : Message). leaves (is_connected this) (place_of m.addressing.to))
     (said_after y answer) (all_said IsReadMessage y y.state answer all)

@@ -1,14 +1,16 @@
 -- A script from two new nodes on.
-use Rattle.std.proofs.Common.{◌≡◌, ◌∙◌, ℕ, false, List, ◌++◌, append_assoc, ap, subst, inl, inr}
+use Rattle.std.proofs.Common.{◌≡◌, ◌∙◌, ℕ, false, List, ◌++◌, append_assoc, ap, subst, inl, inr, arith}
 use Rattle.rm_base.specs.Count.{RoseBy}
+use Rattle.rm_disk.specs.Call.{crashes_of}
 use Rattle.rm_protocol.specs.Terms.{Terms}
 use Rattle.rm_script.specs.declared.event.Event.{Event as Said}
 use Rattle.rm_script.specs.declared.event.Side.TheVariants as place
-use Rattle.rm_replay.specs.Asked.{WasAsked}
+use Rattle.rm_replay.specs.Asked.{WasAsked, WereSpared}
 use Rattle.rm_replay.specs.Headline.{KeepsHeadline}
 use Rattle.rm_replay.specs.Net.{AreOfNet}
 use Rattle.rm_replay.specs.Played.{Played, Ran, RanShort, Story, TellBoth, known_text}
 use Rattle.rm_replay.specs.Playing.{AllPlayed}
+use Rattle.rm_replay.specs.Sent.{AcceptedIsSent}
 use Rattle.rm_replay.specs.Shows.{Holds, IsLeftOfLine, Scene}
 use Rattle.rm_replay.specs.Tales.{Drive, Tale, Tells}
 use Rattle.rm_replay.specs.declared.stage.Nodes.{Nodes}
@@ -17,10 +19,10 @@ use Rattle.rm_replay.proofs.StoryLemmas.{short_end}
 
 -- ---- the nodes were made, and nothing befell the disks
 
--- of both disks
-pub record WereMade (old mid : Scene) : Type 0 where
-  pub one : WasAsked false old.drives.one mid.drives.one
-  pub two : WasAsked false old.drives.two mid.drives.two
+pub spared_by : (old new : Drive) → crashes_of new.disk.past ≡ crashes_of old.disk.past → new.failed ≡ old.failed
+    → WasAsked false old new
+spared_by old new crashes same =
+    record { crashes = crashes; cause = record { later = omega (arith, same); cause = same } }
 
 tells_from : (tale : Tale) (old mid now : Drive) → WasAsked false old mid → Tells tale mid now → Tells tale old now
 tells_from tale old mid now asked tells = record {
@@ -30,7 +32,8 @@ tells_from tale old mid now asked tells = record {
   faults = subst (λ (n : ℕ). RoseBy n now.failed tale.faults) asked.cause.cause tells.faults;
 }
 
-tell_from : (s : Story) (old mid now : Scene) → WereMade old mid → TellBoth s mid now → TellBoth s old now
+tell_from : (s : Story) (old mid now : Scene) → WereSpared old.drives mid.drives → TellBoth s mid now
+    → TellBoth s old now
 tell_from s old mid now made tell = record {
   one = tells_from s.one old.drives.one mid.drives.one now.drives.one made.one tell.one;
   two = tells_from s.two old.drives.two mid.drives.two now.drives.two made.two tell.two;
@@ -38,11 +41,17 @@ tell_from s old mid now made tell = record {
 
 -- ---- all lines were played
 
-pub ran_of : EachIsLeft → (terms : Terms) (script : List Said) (old mid now : Scene) (nodes : Nodes)
-    (text one two : List ℕ) → WereMade old mid → (all : AllPlayed terms script mid now nodes text)
+-- what a played script made is what was sent
+abbrev pub PlayedIsSent : Type 0
+PlayedIsSent =
+    (terms : Terms) (script : List Said) (s : Story) → Played terms script s → (scene : Scene)
+    → Holds s.world scene → AcceptedIsSent script s.report scene
+
+pub ran_of : EachIsLeft → PlayedIsSent → (terms : Terms) (script : List Said) (old mid now : Scene) (nodes : Nodes)
+    (text one two : List ℕ) → WereSpared old.drives mid.drives → (all : AllPlayed terms script mid now nodes text)
     → one ≡ text ++ known_text place.One all.story.world.one
     → two ≡ one ++ known_text place.Two all.story.world.two → Ran terms script old now two
-ran_of each terms script old mid now nodes text one two made all first second =
+ran_of each law terms script old mid now nodes text one two made all first second =
     let w = all.story.world in
     let a = known_text place.One w.one in
     let b = known_text place.Two w.two in
@@ -53,11 +62,12 @@ ran_of each terms script old mid now nodes text one two made all first second =
       tell = tell_from all.story old mid now made all.tell;
       printed = second ∙ ap (λ (t : List ℕ). t ++ b) first ∙ append_assoc text a b
           ∙ ap (λ (t : List ℕ). t ++ (a ++ b)) all.printed;
+      sent = law terms script all.story all.played now (holds_of each w now nodes all.shows);
     }
 
 -- ---- memory was wanting
 
-pub short_from : (terms : Terms) (script : List Said) (old mid now : Scene) → WereMade old mid
+pub short_from : (terms : Terms) (script : List Said) (old mid now : Scene) → WereSpared old.drives mid.drives
     → RanShort terms script mid now → RanShort terms script old now
 short_from terms script old mid now made short = record {
   count = short.count;
@@ -69,7 +79,8 @@ short_from terms script old mid now made short = record {
 }
 
 pub short_told : EachIsLeft → (terms : Terms) (script : List Said) (old mid now : Scene) (nodes : Nodes)
-    (text : List ℕ) → WereMade old mid → AllPlayed terms script mid now nodes text → RanShort terms script old now
+    (text : List ℕ) → WereSpared old.drives mid.drives → AllPlayed terms script mid now nodes text
+    → RanShort terms script old now
 short_told each terms script old mid now nodes text made all =
     short_from terms script old mid now made (short_end each terms script mid now nodes text all)
 

@@ -3,7 +3,7 @@ use Rattle.std.proofs.Common.{◌≡◌, ◌∙◌, ℕ, zero, suc, Bool, false,
 use Rattle.std.specs.Prelude.{IfOk, OnErr, OnOk, Result, Ok, Err}
 use Rattle.std.specs.List.{AllByRecursion}
 use Rattle.rm_base.specs.declared.failures.Memory.{Memory}
-use Rattle.rm_protocol.specs.message_types.declared.message.Message.{Message}
+use Rattle.rm_message.specs.declared.message.Message.{Message}
 use Rattle.node_actor.specs.Packets.{packet_of}
 use Rattle.node_actor.specs.Out.{Out}
 use Rattle.rm_protocol.specs.Node.{Node}

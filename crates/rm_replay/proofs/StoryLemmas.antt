@@ -15,8 +15,8 @@ use Rattle.rm_protocol.specs.Calls.{Answer, create, send, close, end, tick}
 use Rattle.rm_protocol.specs.Word.{IsPrefixOf}
 use Rattle.rm_base.specs.Numbered.{numbered}
 use Rattle.rm_disk.specs.Call.{Call}
-use Rattle.rm_protocol.specs.batches.Batch.{batch_text}
-use Rattle.rm_protocol.specs.batches.Fact.{Fact}
+use Rattle.record_batch.specs.Batch.{batch_text}
+use Rattle.record_batch.specs.Fact.{Fact}
 use Rattle.rm_base.specs.declared.failures.Memory.{Memory}
 use Rattle.rm_journal.specs.EntryLemmas.{length-gates_from}
 use Rattle.node_store.specs.Has.{entries_of}
@@ -27,7 +27,7 @@ use Rattle.rm_script.specs.declared.event.Event.{Event as Said}
 use Rattle.rm_script.specs.declared.event.Side.{Side as Place}
 use Rattle.node_actor.specs.Actored.{Actored}
 use Rattle.node_actor.specs.Stands.{Stands, StandsBy}
-use Rattle.node_store.specs.Changes.{Told}
+use Rattle.rm_disk.specs.Told.{Told}
 use Rattle.node_store.specs.Stored.{Stored}
 use Rattle.node_summary.specs.Summary.{node_text}
 use Rattle.rm_replay.specs.Meaning.{Means, comes_out, report_of, stepped}
@@ -41,7 +41,7 @@ use Rattle.rm_replay.specs.Tales.{Tells, tale_of}
 use Rattle.rm_replay.specs.declared.stage.Nodes.{Nodes}
 use Rattle.rm_replay.proofs.EventLemmas.{EachIsLeft, holds_of}
 use Rattle.rm_replay.proofs.PutLemmas.{puts_behind}
-use Rattle.rm_replay.proofs.TaleLemmas.{crash_in-once, grew_told, tells_none, tells_then}
+use Rattle.rm_replay.proofs.TaleLemmas.{grew_line, tells_none, tells_then}
 
 -- ---- the report
 
@@ -195,8 +195,10 @@ pub cut_played : EachIsLeft → (terms : Terms) (w : World) (line : Said) (event
     → Tells (tale_of terms w Two line event) old.drives.two new.drives.two → IsCut terms w line old new
 cut_played each terms w line event old new nodes means shows one two = record {
   left = left_played each terms w line event new nodes means shows;
-  one = grew_told (tale_of terms w One line event) old.drives.one new.drives.one (crash_in-once One line _) one;
-  two = grew_told (tale_of terms w Two line event) old.drives.two new.drives.two (crash_in-once Two line _) two;
+  one = grew_line One line (node (stepped terms w event) One).entries (tale_of terms w One line event) old.drives.one
+      new.drives.one refl one;
+  two = grew_line Two line (node (stepped terms w event) Two).entries (tale_of terms w Two line event) old.drives.two
+      new.drives.two refl two;
 }
 
 -- ---- how many entries there are

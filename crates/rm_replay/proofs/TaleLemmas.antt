@@ -1,20 +1,19 @@
 -- What befalls the disks, line by line.
-use Rattle.std.proofs.Common.{◌≡◌, ◌∙◌, ◌&&◌, ◌+◌, ◌≤◌, ℕ, cond, Bool, true, false, List, ◌∷◌, ◌++◌, append_assoc, []}
+use Rattle.std.proofs.Common.{◌≡◌, ◌∙◌, ◌&&◌, ◌≤◌, ℕ, cond, Bool, true, false, List, ◌∷◌, ◌++◌, append_assoc, []}
 use Rattle.std.proofs.Common.{append-nil}
 use Rattle.std.proofs.Common.{refl, sym, ap, subst, inl, inr, arith}
 use Rattle.std.specs.Prelude.{◌⊎◌}
-use Rattle.rm_protocol.specs.batches.Fact.{Fact}
+use Rattle.record_batch.specs.Fact.{Fact}
 use Rattle.rm_base.specs.Count.{RoseBy}
 use Rattle.rm_base.specs.CountLemmas.{RoseBy-more}
 use Rattle.rm_disk.specs.Call.{crashes_of}
 use Rattle.rm_disk.specs.Cause.{HasCause}
 use Rattle.rm_replay.specs.Asked.{WasAsked}
-use Rattle.rm_protocol.specs.Sent.{same_side}
-use Rattle.rm_protocol.specs.World.{Side}
+use Rattle.rm_protocol.specs.World.{Side, One, Two}
 use Rattle.rm_script.specs.declared.event.Event.{Event as Said}
 use Rattle.rm_script.specs.declared.event.Event.TheVariants as said
 use Rattle.rm_replay.specs.Meaning.{side_of}
-use Rattle.rm_replay.specs.Tales.{AreLeftBy, Drive, Grew, Tale, Tells, crash_in, joined}
+use Rattle.rm_replay.specs.Tales.{AreLeftBy, Drive, Grew, HasCrashed, Tale, Tells, crash_in, crash_of, joined}
 
 -- ---- the same disk
 
@@ -57,14 +56,15 @@ tells_asked old new failed asked = record {
 risen : (old new : ℕ) → old ≤ new → RoseBy old new 0
 risen old new later = inl (omega (arith, later))
 
-pub grew_asked : (old new : Drive) (failed : Bool) → WasAsked failed old new → Grew old new
-grew_asked old new failed asked = record {
+pub grew_asked : (side : Side) (line : Said) (old new : Drive) (failed : Bool) → WasAsked failed old new
+    → Grew side line old new
+grew_asked side line old new failed asked = record {
   crashes = inl asked.crashes;
   faults = risen old.failed new.failed asked.cause.later;
 }
 
-pub grew_none : (d : Drive) → Grew d d
-grew_none d = grew_asked d d false (asked_none d)
+pub grew_none : (side : Side) (line : Said) (d : Drive) → Grew side line d d
+grew_none side line d = grew_asked side line d d false (asked_none d)
 
 -- ---- one tale behind another
 
@@ -87,47 +87,56 @@ tells_then one two first mid now a b = record {
 
 -- ---- a tale of one line
 
--- there is no crash in it, or one
-abbrev pub IsOfOneLine : List (ℕ × List (List Fact)) → Type 0
-IsOfOneLine crashes = (crashes ≡ []) ⊎ ((crash : ℕ × List (List Fact)) × (crashes ≡ crash ∷ []))
-
 rose_some : (old new n : ℕ) → RoseBy old new n → RoseBy old new 0
 rose_some old new n (inl rose) = inl (omega (arith, rose))
 rose_some old new n (inr most) = inr most
 
-grew_pairs : (old all pairs : List (ℕ × List ℕ)) (crashes : List (ℕ × List (List Fact))) → all ≡ old ++ pairs
-    → AreLeftBy crashes pairs → IsOfOneLine crashes
-    → (all ≡ old) ⊎ ((pair : ℕ × List ℕ) × (all ≡ old ++ pair ∷ []))
-grew_pairs old all [] crashes is left of = inl (is ∙ append-nil old)
-grew_pairs old all (pair ∷ []) crashes is left of = inr (pair, is)
-grew_pairs old all (pair ∷ other ∷ more) [] is left of = absurd left
-grew_pairs old all (pair ∷ other ∷ more) (one ∷ []) is left of = absurd left.2
-grew_pairs old all (pair ∷ other ∷ more) (one ∷ two ∷ crashes) is left (inl none) =
-    let e : one ∷ two ∷ crashes ≡ [] = none in absurd cc
-grew_pairs old all (pair ∷ other ∷ more) (one ∷ two ∷ crashes) is left (inr (crash, single)) =
-    let e : one ∷ two ∷ crashes ≡ crash ∷ [] = single in absurd cc
+-- no crash was told
+none_more : (old all pairs : List (ℕ × List ℕ)) → all ≡ old ++ pairs → AreLeftBy [] pairs → all ≡ old
+none_more old all [] is left = is ∙ append-nil old
+none_more old all (pair ∷ pairs) is left = absurd left
 
-pub grew_told : (tale : Tale) (old new : Drive) → IsOfOneLine tale.crashes → Tells tale old new → Grew old new
-grew_told tale old new of tells = record {
-  crashes = grew_pairs (crashes_of old.disk.past) (crashes_of new.disk.past) tells.pairs tale.crashes tells.crashes
-      tells.left of;
+-- or one of the node at this side
+abbrev OneMore : Side → Side → ℕ → List (ℕ × List ℕ) → List (ℕ × List ℕ) → Type 0
+OneMore side at choice old all =
+    (all ≡ old) ⊎ ((at ≡ side) × ((bytes : List ℕ) × (all ≡ old ++ (choice, bytes) ∷ [])))
+
+one_more : (choice : ℕ) (entries : List (List Fact)) (old all pairs : List (ℕ × List ℕ)) → all ≡ old ++ pairs
+    → AreLeftBy ((choice, entries) ∷ []) pairs → (bytes : List ℕ) × (all ≡ old ++ (choice, bytes) ∷ [])
+one_more choice entries old all [] is left = absurd left
+one_more choice entries old all ((same, bytes) ∷ []) is left =
+    (bytes, is ∙ ap (λ (n : ℕ). old ++ (n, bytes) ∷ []) left.0)
+one_more choice entries old all (pair ∷ other ∷ more) is left = absurd left.2
+
+one_of : (side at : Side) (choice : ℕ) (entries : List (List Fact)) (old all pairs : List (ℕ × List ℕ))
+    → all ≡ old ++ pairs → AreLeftBy (crash_of side at choice entries) pairs → OneMore side at choice old all
+one_of One One choice entries old all pairs is left = inr (refl, one_more choice entries old all pairs is left)
+one_of Two Two choice entries old all pairs is left = inr (refl, one_more choice entries old all pairs is left)
+one_of One Two choice entries old all pairs is left = inl (none_more old all pairs is left)
+one_of Two One choice entries old all pairs is left = inl (none_more old all pairs is left)
+
+-- the crash that a line makes
+crashes_told : (side : Side) (line : Said) (entries : List (List Fact)) (old new : Drive) (pairs : List (ℕ × List ℕ))
+    → crashes_of new.disk.past ≡ crashes_of old.disk.past ++ pairs → AreLeftBy (crash_in side line entries) pairs
+    → (crashes_of new.disk.past ≡ crashes_of old.disk.past) ⊎ HasCrashed side line old new
+crashes_told side said.Nothing entries old new pairs is left = inl (none_more _ _ pairs is left)
+crashes_told side (said.Create at expires offer) entries old new pairs is left = inl (none_more _ _ pairs is left)
+crashes_told side (said.Grant at behaviour) entries old new pairs is left = inl (none_more _ _ pairs is left)
+crashes_told side (said.Send at seq text) entries old new pairs is left = inl (none_more _ _ pairs is left)
+crashes_told side (said.Tick at now) entries old new pairs is left = inl (none_more _ _ pairs is left)
+crashes_told side (said.Deliver packet) entries old new pairs is left = inl (none_more _ _ pairs is left)
+crashes_told side (said.Close at seq) entries old new pairs is left = inl (none_more _ _ pairs is left)
+crashes_told side (said.End at seq) entries old new pairs is left = inl (none_more _ _ pairs is left)
+crashes_told side (said.Arm at calls) entries old new pairs is left = inl (none_more _ _ pairs is left)
+crashes_told side (said.Crash at choice) entries old new pairs is left =
+    one_of side (side_of at) choice entries (crashes_of old.disk.past) (crashes_of new.disk.past) pairs is left
+crashes_told side (said.Noise at bytes) entries old new pairs is left = inl (none_more _ _ pairs is left)
+
+-- so a line that was played tells it
+pub grew_line : (side : Side) (line : Said) (entries : List (List Fact)) (tale : Tale) (old new : Drive)
+    → tale.crashes ≡ crash_in side line entries → Tells tale old new → Grew side line old new
+grew_line side line entries tale old new of tells = record {
+  crashes = crashes_told side line entries old new tells.pairs tells.crashes
+      (subst (λ (c : List (ℕ × List (List Fact))). AreLeftBy c tells.pairs) of tells.left);
   faults = rose_some old.failed new.failed tale.faults tells.faults;
 }
-
-of_one : (b : Bool) (crash : ℕ × List (List Fact)) → IsOfOneLine (cond b (crash ∷ []) [])
-of_one true crash = inr (crash, refl)
-of_one false crash = inl refl
-
--- a line makes a node crash once at most
-pub crash_in-once : (side : Side) (line : Said) (entries : List (List Fact)) → IsOfOneLine (crash_in side line entries)
-crash_in-once side said.Nothing entries = inl refl
-crash_in-once side (said.Create at expires offer) entries = inl refl
-crash_in-once side (said.Grant at behaviour) entries = inl refl
-crash_in-once side (said.Send at seq text) entries = inl refl
-crash_in-once side (said.Tick at now) entries = inl refl
-crash_in-once side (said.Deliver packet) entries = inl refl
-crash_in-once side (said.Close at seq) entries = inl refl
-crash_in-once side (said.End at seq) entries = inl refl
-crash_in-once side (said.Arm at calls) entries = inl refl
-crash_in-once side (said.Crash at choice) entries = of_one (same_side (side_of at) side) (choice, entries)
-crash_in-once side (said.Noise at bytes) entries = inl refl

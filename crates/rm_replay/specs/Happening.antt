@@ -8,11 +8,13 @@ use Rattle.rm_protocol.specs.Terms.{Terms}
 use Rattle.rm_protocol.specs.World.{Event, Side, One, Two, World, hands_out, node, with_node}
 use Rattle.rm_report.specs.declared.line.Outcome.{Outcome}
 use Rattle.rm_script.specs.declared.event.Event.{Event as Said}
-use Rattle.rm_wires.specs.Wire.{with_packet}
+use Rattle.rm_script.specs.declared.event.Event.TheVariants as said
+use Rattle.rm_script.specs.declared.event.Side.{Side as Place}
+use Rattle.rm_network.specs.Wire.{with_packet}
 use Rattle.node_actor.specs.Outcomes.{call_told, is_disk_outcome}
 use Rattle.node_actor.specs.Stands.{Leaves}
 use Rattle.rm_replay.specs.Asked.{Step, WereAsked}
-use Rattle.rm_replay.specs.Meaning.{Means, comes_out, stepped}
+use Rattle.rm_replay.specs.Meaning.{Means, comes_out, side_of, stepped}
 use Rattle.rm_replay.specs.Shows.{Drives, IsCut, Scene, Shows, StandFor}
 use Rattle.rm_replay.specs.Tales.{Grew, Tale, Tells, crash_of, tale_of}
 use Rattle.rm_replay.specs.declared.stage.Nodes.{Nodes}
@@ -88,13 +90,13 @@ pub record CrashedAt (w : World) (side : Side) (choice : ℕ) (old new : Drives)
   pub two : Tells (crash_tale Two side choice (mounted w.two kept)) old.two new.two
 
 -- where memory was wanting, each image of both disks is still the node's own
-pub record CrashedShort (w : World) (old new : Drives) : Type 0 where
+pub record CrashedShort (w : World) (at : Place) (choice : ℕ) (old new : Drives) : Type 0 where
   pub one : Leaves w.one new.one.disk.past
   pub two : Leaves w.two new.two.disk.past
-  pub grew_one : Grew old.one new.one
-  pub grew_two : Grew old.two new.two
+  pub grew_one : Grew One (said.Crash at choice) old.one new.one
+  pub grew_two : Grew Two (said.Crash at choice) old.two new.two
 
 -- a crash
-abbrev pub Crashes : World → Side → ℕ → Drives → Drives → Nodes → Result Unit Memory → Type 0
-Crashes w side choice old new nodes (Ok done) = CrashedAt w side choice old new nodes
-Crashes w side choice old new nodes (Err memory) = CrashedShort w old new
+abbrev pub Crashes : World → Place → ℕ → Drives → Drives → Nodes → Result Unit Memory → Type 0
+Crashes w at choice old new nodes (Ok done) = CrashedAt w (side_of at) choice old new nodes
+Crashes w at choice old new nodes (Err memory) = CrashedShort w at choice old new

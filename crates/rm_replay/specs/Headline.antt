@@ -1,20 +1,23 @@
 -- The headline of two disks.
 use Rattle.std.specs.Prelude.{ℕ, List}
-use Rattle.rm_protocol.specs.batches.Fact.{Fact}
+use Rattle.std.specs.List.{AllByRecursion}
+use Rattle.record_batch.specs.Fact.{Fact}
+use Rattle.record_batch.specs.Writable.{IsBatch}
 use Rattle.rm_disk.specs.Call.{Call}
 use Rattle.rm_disk.specs.Image.{MayLeave}
 use Rattle.rm_protocol.specs.Node.{records_in}
 use Rattle.rm_protocol.specs.Word.{KeepsWord}
-use Rattle.node_store.specs.Has.{AreOfNode, StandsForBatches}
+use Rattle.node_store.specs.Has.{StandsForBatches}
 
--- two images stand for the batches of two nodes, and both directions between these keep the word
+-- two images stand for the batches of two nodes, each of which is read back from its text, so that they stand for no
+-- others; and both directions between these keep the word
 pub record KeepWord (image_one image_two : List ℕ) : Type 0 where
   pub one : List (List Fact)
   pub two : List (List Fact)
   pub stands_one : StandsForBatches one image_one
   pub stands_two : StandsForBatches two image_two
-  pub are_one : AreOfNode one
-  pub are_two : AreOfNode two
+  pub each_one : AllByRecursion IsBatch one
+  pub each_two : AllByRecursion IsBatch two
   pub there : KeepsWord (records_in one) (records_in two)
   pub back : KeepsWord (records_in two) (records_in one)
 

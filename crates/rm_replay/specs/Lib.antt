@@ -5,6 +5,7 @@ pub mod Meaning
 pub mod Net
 pub mod Played
 pub mod Playing
+pub mod Sent
 pub mod Shows
 pub mod Tales
 pub mod Unarmed

@@ -1,10 +1,10 @@
 -- What a line of a script is to the protocol, and how it comes out.
 use Rattle.std.specs.Prelude.{◌≡◌, ℕ, Bool, List, ◌∷◌, length, Option, Some, None, []}
 use Rattle.soap_envelope.specs.Soap.{soap_space}
-use Rattle.rm_wire.specs.reader.Refusals.{Refuses, Spells}
-use Rattle.rm_protocol.specs.batches.declared.record.Via.TheVariants.{Direct}
-use Rattle.rm_protocol.specs.message_types.declared.message.Message.{Message}
-use Rattle.rm_protocol.specs.message_types.declared.refusal.Refusal.{Refusal}
+use Rattle.message_reader.specs.Refusals.{Refuses, Spells}
+use Rattle.record_batch.specs.declared.record.Via.TheVariants.{Direct}
+use Rattle.rm_message.specs.declared.message.Message.{Message}
+use Rattle.rm_message.specs.declared.refusal.Refusal.{Refusal}
 use Rattle.rm_protocol.specs.Sent.{LineOutcome, Called, NoPacket, NoCall, outcome_of}
 use Rattle.rm_protocol.specs.Terms.{Terms}
 use Rattle.rm_protocol.specs.World.{Side, One, Two, Event, Create, Grant, Send, Tick, Deliver, Close, End, Arm, Crash}

@@ -1,15 +1,15 @@
 -- The network between two nodes: the bytes of its packets, and what they are read as.
 use Rattle.std.specs.Prelude.{◌≡◌, ℕ, nat_le, if◌then◌else◌, List, map, length, Result, Ok, Err}
 use Rattle.soap_envelope.specs.Soap.{soap_space}
-use Rattle.rm_wire.specs.reader.Refusals.{blind}
-use Rattle.rm_wire.specs.writer.Text.{message_text}
-use Rattle.rm_protocol.specs.message_types.declared.message.Message.{Message}
-use Rattle.rm_protocol.specs.message_types.declared.refusal.FaultKind.TheVariants.{TooLong}
-use Rattle.rm_protocol.specs.message_types.declared.refusal.Refusal.{Refusal}
+use Rattle.message_reader.specs.Refusals.{blind}
+use Rattle.message_writer.specs.Text.{message_text}
+use Rattle.rm_message.specs.declared.message.Message.{Message}
+use Rattle.rm_message.specs.declared.refusal.FaultKind.TheVariants.{TooLong}
+use Rattle.rm_message.specs.declared.refusal.Refusal.{Refusal}
 use Rattle.rm_protocol.specs.Terms.{Terms}
 use Rattle.rm_protocol.specs.World.{Packet, Side, One, Two, other}
-use Rattle.node_rules.specs.OwnTerms.{AreOwn}
-use Rattle.rm_wires.specs.Wire.{has_room, texts_in}
+use Rattle.node_laws.specs.OwnTerms.{AreOwn}
+use Rattle.rm_network.specs.Wire.{has_room, texts_in}
 
 -- the text of a message
 abbrev pub text_of : Message → List ℕ

@@ -1,6 +1,5 @@
 -- What the lines of a script come to.
 use Rattle.std.specs.Prelude.{◌≡◌, ◌⊎◌, ℕ, ◌+◌, List, ◌∷◌, ◌++◌, length, take, slice_get, Option, Some, []}
-use Rattle.rm_base.specs.declared.failures.Memory.{Memory}
 use Rattle.rm_protocol.specs.Node.{Node, State, Up, Writing, records}
 use Rattle.rm_protocol.specs.Terms.{Terms}
 use Rattle.rm_protocol.specs.World.{One, Two, World, Event, start}
@@ -9,8 +8,11 @@ use Rattle.rm_report.specs.declared.line.Line.{Line}
 use Rattle.rm_script.specs.declared.event.Event.{Event as Said}
 use Rattle.rm_script.specs.declared.event.Side.{Side as Place}
 use Rattle.rm_script.specs.declared.event.Side.TheVariants as place
+use Rattle.node_actor.specs.Stands.{Leaves}
 use Rattle.node_summary.specs.Summary.{node_text}
+use Rattle.rm_replay.specs.Asked.{WereSpared}
 use Rattle.rm_replay.specs.Meaning.{Means, comes_out, report_of, stepped}
+use Rattle.rm_replay.specs.Sent.{AcceptedIsSent}
 use Rattle.rm_replay.specs.Shows.{Holds, IsCut, Scene, address_one, address_two}
 use Rattle.rm_replay.specs.Tales.{Tale, Tells, joined, tale_of}
 
@@ -68,13 +70,22 @@ pub record TellBoth (s : Story) (first now : Scene) : Type 0 where
   pub one : Tells s.one first.drives.one now.drives.one
   pub two : Tells s.two first.drives.two now.drives.two
 
--- all lines were played, the disks and the wire hold what is there then, and this is the report
+-- all lines were played, the disks and the wire hold what is there then, this is the report, and what each source
+-- accepted is what the report says was sent
 pub record Ran (terms : Terms) (script : List Said) (first now : Scene) (text : List ℕ) : Type 0 where
   pub story : Story
   pub played : Played terms script story
   pub holds : Holds story.world now
   pub tell : TellBoth story first now
   pub printed : text ≡ lines_text story.report ++ end_text story.world
+  pub sent : AcceptedIsSent script story.report now
+
+-- Memory was wanting for a node that was to be made, and no line was played: there is no packet, neither disk had a
+-- crash or a fault, and the disk of node 2 is as it was, or that of node 1 has its node.
+pub record IsUnmade (first now : Scene) : Type 0 where
+  pub silent : now.packets ≡ []
+  pub spared : WereSpared first.drives now.drives
+  pub which : (now.drives.two ≡ first.drives.two) ⊎ Leaves start_world.one now.drives.one.disk.past
 
 -- Memory was wanting. Some first lines were played: the disks and the wire held what was there then, and hold it still,
 -- or what a further line made but for some last of its packets.

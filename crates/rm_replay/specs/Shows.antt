@@ -1,12 +1,11 @@
 -- How two disks, the nodes over them, and a wire stand for a world of the protocol.
-use Rattle.std.specs.Prelude.{◌≡◌, ◌⊎◌, ℕ, List, Option, Some, codes}
+use Rattle.std.specs.Prelude.{◌≡◌, ◌⊎◌, ℕ, List, [], Some, None, codes}
 use Rattle.std.specs.List.{AllByRecursion}
-use Rattle.rm_disk.specs.Call.{Call}
+use Rattle.rm_disk.specs.Told.{Told}
 use Rattle.rm_protocol.specs.Terms.{Terms}
 use Rattle.rm_protocol.specs.Word.{IsPrefixOf}
 use Rattle.rm_protocol.specs.World.{Packet, Side, One, Two, World, Event, happens}
 use Rattle.rm_script.specs.declared.event.Event.{Event as Said}
-use Rattle.node_store.specs.Changes.{told}
 use Rattle.node_actor.specs.Came.{IsReadAs}
 use Rattle.node_actor.specs.Stands.{Leaves, Stands}
 use Rattle.rm_replay.specs.declared.stage.Nodes.{Nodes}
@@ -26,23 +25,25 @@ pub record Scene : Type 0 where
   pub packets : List (ℕ × List ℕ)
 
 -- of what a disk tells
-abbrev pub drive_of : {M : Type 0} → (M → List Call) → (M → Option ℕ) → (M → ℕ) → M → Drive
-drive_of past fuse faults disk = record { disk = told (past disk) (fuse disk); failed = faults disk }
+abbrev pub drive_of : {M : Type 0} → (M → Told) → M → Drive
+drive_of told disk = record { disk = told disk; failed = (told disk).faults }
 
 -- of what two disks tell
-abbrev pub drives_of : {M : Type 0} → (M → List Call) → (M → Option ℕ) → (M → ℕ) → M → M → Drives
-drives_of past fuse faults one two = record {
-  one = drive_of past fuse faults one;
-  two = drive_of past fuse faults two;
-}
+abbrev pub drives_of : {M : Type 0} → (M → Told) → M → M → Drives
+drives_of told one two = record { one = drive_of told one; two = drive_of told two }
 
 -- of what the disks and the wire of a stage tell
-abbrev pub scene_of : {M W : Type 0} → (M → List Call) → (M → Option ℕ) → (M → ℕ) → (W → List (ℕ × List ℕ))
-    → Stage M W → Scene
-scene_of past fuse faults packets stage = record {
-  drives = drives_of past fuse faults stage.one stage.two;
+abbrev pub scene_of : {M W : Type 0} → (M → Told) → (W → List (ℕ × List ℕ)) → Stage M W → Scene
+scene_of told packets stage = record {
+  drives = drives_of told stage.one stage.two;
   packets = packets stage.wire;
 }
+
+-- neither disk is armed, and the wire has no packet
+pub record IsFresh (scene : Scene) : Type 0 where
+  pub one : scene.drives.one.disk.fuse ≡ None
+  pub two : scene.drives.two.disk.fuse ≡ None
+  pub silent : scene.packets ≡ []
 
 -- a packet's text is read as it should be
 abbrev pub IsReadRight : Packet → Type 0
@@ -96,5 +97,5 @@ IsLeftOfLine terms w line scene =
 -- where memory was wanting in a line
 pub record IsCut (terms : Terms) (w : World) (line : Said) (old new : Scene) : Type 0 where
   pub left : IsLeftOfLine terms w line new
-  pub one : Grew old.drives.one new.drives.one
-  pub two : Grew old.drives.two new.drives.two
+  pub one : Grew One line old.drives.one new.drives.one
+  pub two : Grew Two line old.drives.two new.drives.two

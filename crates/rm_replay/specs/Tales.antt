@@ -3,7 +3,7 @@ use Rattle.std.specs.Prelude.{◌≡◌, ◌⊎◌, ℕ, ◌+◌, ◌&&◌, if�
 use Rattle.std.specs.Option.{option_map}
 use Rattle.rm_base.specs.Count.{RoseBy}
 use Rattle.rm_base.specs.Numbered.{numbered}
-use Rattle.rm_protocol.specs.batches.Fact.{Fact}
+use Rattle.record_batch.specs.Fact.{Fact}
 use Rattle.rm_disk.specs.Call.{crashes_of}
 use Rattle.rm_protocol.specs.Sent.{outcome_of, same_side}
 use Rattle.rm_protocol.specs.Terms.{Terms}
@@ -14,7 +14,7 @@ use Rattle.rm_report.specs.declared.line.Outcome.{Outcome}
 use Rattle.rm_script.specs.declared.event.Event.{Event as Said}
 use Rattle.rm_script.specs.declared.event.Event.TheVariants as said
 use Rattle.node_actor.specs.Outcomes.{is_disk_outcome}
-use Rattle.node_store.specs.Changes.{Told}
+use Rattle.rm_disk.specs.Told.{Told}
 use Rattle.node_store.specs.Has.{StandsForBatches}
 use Rattle.rm_replay.specs.Meaning.{outcome_told, side_of, stepped}
 
@@ -91,8 +91,14 @@ pub record Tells (tale : Tale) (first now : Drive) : Type 0 where
   pub left : AreLeftBy tale.crashes pairs
   pub faults : RoseBy first.failed now.failed tale.faults
 
--- where memory was wanting: there may be one crash more, and the count of faults has not fallen
-pub record Grew (first now : Drive) : Type 0 where
-  pub crashes : (crashes_of now.disk.past ≡ crashes_of first.disk.past)
-      ⊎ ((pair : ℕ × List ℕ) × (crashes_of now.disk.past ≡ crashes_of first.disk.past ++ pair ∷ []))
+-- a disk had one crash more: that of the line, which is its own node's, with the line's choice
+abbrev pub HasCrashed : Side → Said → Drive → Drive → Type 0
+HasCrashed side (said.Crash at choice) first now =
+    (side_of at ≡ side)
+    × ((bytes : List ℕ) × (crashes_of now.disk.past ≡ crashes_of first.disk.past ++ (choice, bytes) ∷ []))
+HasCrashed side _ first now = ⊥
+
+-- where memory was wanting in a line: there may be the line's crash more, and the count of faults has not fallen
+pub record Grew (side : Side) (line : Said) (first now : Drive) : Type 0 where
+  pub crashes : (crashes_of now.disk.past ≡ crashes_of first.disk.past) ⊎ HasCrashed side line first now
   pub faults : RoseBy first.failed now.failed 0

@@ -1,32 +1,34 @@
 //! What one line of a script does.
-ghost use Rattle.std.specs.Prelude.{◌≡◌, ◌≤◌, IfOk, Result, false};
+ghost use Rattle.std.specs.Prelude.{◌≡◌, ◌≤◌, IfOk, false};
 ghost use Rattle.rm_base.specs.Text.{IsText};
-ghost use Rattle.rm_protocol.specs.elements.Writable.{IsLapseWritable};
-ghost use Rattle.rm_protocol.specs.message_types.declared.message.Message.{Message as Read};
-ghost use Rattle.rm_protocol.specs.message_types.declared.refusal.Refusal.{Refusal as Refused};
+ghost use Rattle.rm_elements.specs.Writable.{IsLapseWritable};
 ghost use Rattle.rm_protocol.specs.Terms.{Terms};
 ghost use Rattle.rm_protocol.specs.World.{Side as Place, World, node, other as other_of};
 ghost use Rattle.rm_script.specs.Within.{IsWithin};
-ghost use Rattle.rm_replay.specs.Asked.{IsCallWithin, IsReadBy, WereAsked, step_of};
+ghost use Rattle.node_actor.specs.Asked.{Asked, Asks, MayBeAsked};
+ghost use Rattle.rm_replay.specs.Asked.{WereAsked, step_of};
 ghost use Rattle.rm_replay.specs.Happening.{Crashes, Happens, Moves, WereAskedFor, armed, granted, told_of};
 ghost use Rattle.rm_replay.specs.Meaning.{side_of};
 ghost use Rattle.rm_replay.specs.Net.{AreOfNet, number_of};
 ghost use Rattle.rm_replay.specs.Shows.{Drives, Shows, StandFor, address_of, drives_of, scene_of};
 
-use crate::ask::{Call, ask_at};
+use crate::ask::ask_at;
 use crate::stage::{Nodes, Stage};
 use crate::wire::put_came;
+use message_reader::decode;
 use node_actor::laws::each_image_is_left;
-use node_rules::laws::each_message_is_read_back;
-use read_rules::laws::{a_refusal_may_be_answered, what_is_read_may_be_written};
+use node_actor::{Call, Wish};
+use node_laws::laws::each_message_is_read_back;
+use read_laws::laws::{a_refusal_may_be_answered, what_is_read_may_be_written};
+use record_batch::Via;
 use rm_base::laws::texts_are_tested;
 use rm_base::{Behaviour, Blob, Memory, TextError, Uri};
 use rm_disk::CrashDisk;
-use rm_protocol::elements::Lapse;
+use rm_elements::Lapse;
+use rm_message::DecodeError;
+use rm_network::Wire;
 use rm_report::Outcome;
 use rm_script::{Event, Side};
-use rm_wire::{DecodeError, decode};
-use rm_wires::Wire;
 use std::alloc::Global;
 
 fn address_bytes(side: Side) -> &'static [u8]
@@ -99,15 +101,15 @@ fn call<M: CrashDisk, W: Wire>(
     call: Call<'_>,
 ) -> Result<Outcome, Memory>
     requires there { (w : World) × Shows w
-        (scene_of M.past M.fuse M.faults W.packets stage.old) nodes.old }
-    requires within { IsCallWithin call }
-    ensures moves { (terms : Terms) → AreOfNet terms → (content : Result Read Refused) → IsReadBy call.entry content
-        → (w : World) → Shows w (scene_of M.past M.fuse M.faults W.packets stage.old) nodes.old
-        → Moves terms w (side_of side) (step_of terms (node w (side_of side)) content call.entry)
-        (scene_of M.past M.fuse M.faults W.packets stage.new) nodes.new result }
+        (scene_of M.told W.packets stage.old) nodes.old }
+    requires may { MayBeAsked call }
+    ensures moves { (terms : Terms) → AreOfNet terms → (asked : Asked) → Asks call.entry asked
+        → (w : World) → Shows w (scene_of M.told W.packets stage.old) nodes.old
+        → Moves terms w (side_of side) (step_of terms (node w (side_of side)) asked call.entry)
+        (scene_of M.told W.packets stage.new) nodes.new result }
     ensures asked { WereAskedFor (side_of side) result
-        (drives_of M.past M.fuse M.faults stage.old.one stage.old.two)
-        (drives_of M.past M.fuse M.faults stage.new.one stage.new.two) }
+        (drives_of M.told stage.old.one stage.old.two)
+        (drives_of M.told stage.new.one stage.new.two) }
 {
     each_message_is_read_back();
     what_is_read_may_be_written();
@@ -125,17 +127,23 @@ fn create<M: CrashDisk, W: Wire>(
     expires: Lapse,
     offer: Option<Behaviour>,
 ) -> Result<Outcome, Memory>
-    requires there { (w : World) × Shows w (scene_of M.past M.fuse M.faults W.packets stage.old) nodes.old }
+    requires there { (w : World) × Shows w (scene_of M.told W.packets stage.old) nodes.old }
     requires lapse { IsLapseWritable expires }
     ensures { (terms : Terms) → AreOfNet terms → (w : World)
-        → Shows w (scene_of M.past M.fuse M.faults W.packets stage.old) nodes.old
+        → Shows w (scene_of M.told W.packets stage.old) nodes.old
         → Happens terms w (Event.Create side expires offer)
-        (scene_of M.past M.fuse M.faults W.packets stage.old)
-        (scene_of M.past M.fuse M.faults W.packets stage.new) nodes.new (told_of result) }
+        (scene_of M.told W.packets stage.old)
+        (scene_of M.told W.packets stage.new) nodes.new (told_of result) }
 {
     each_image_is_left();
     let to = address(alloc, other(side))?;
-    call(stage, nodes, side, Call::Create { to, expires, offer })
+    let wish = Wish {
+        to,
+        via: Via::Direct,
+        expires,
+        offer,
+    };
+    call(stage, nodes, side, Call::Create { wish })
 }
 
 /// A packet comes to its node.
@@ -145,11 +153,11 @@ fn deliver<M: CrashDisk, W: Wire>(
     packet: u64,
 ) -> Result<Outcome, Memory>
     requires there { (w : World) × Shows w
-        (scene_of M.past M.fuse M.faults W.packets stage.old) nodes.old }
+        (scene_of M.told W.packets stage.old) nodes.old }
     ensures { (terms : Terms) → AreOfNet terms → (w : World)
-        → Shows w (scene_of M.past M.fuse M.faults W.packets stage.old) nodes.old
-        → Happens terms w (Event.Deliver packet) (scene_of M.past M.fuse M.faults W.packets stage.old)
-        (scene_of M.past M.fuse M.faults W.packets stage.new) nodes.new (told_of result) }
+        → Shows w (scene_of M.told W.packets stage.old) nodes.old
+        → Happens terms w (Event.Deliver packet) (scene_of M.told W.packets stage.old)
+        (scene_of M.told W.packets stage.new) nodes.new (told_of result) }
 {
     each_message_is_read_back();
     what_is_read_may_be_written();
@@ -175,11 +183,11 @@ fn make_noise<M: CrashDisk, W: Wire>(
     bytes: &[u8],
 ) -> Result<Outcome, Memory>
     requires there { (w : World) × Shows w
-        (scene_of M.past M.fuse M.faults W.packets stage.old) nodes.old }
+        (scene_of M.told W.packets stage.old) nodes.old }
     ensures { (terms : Terms) → AreOfNet terms → (w : World)
-        → Shows w (scene_of M.past M.fuse M.faults W.packets stage.old) nodes.old
-        → Happens terms w (Event.Noise side bytes.now) (scene_of M.past M.fuse M.faults W.packets stage.old)
-        (scene_of M.past M.fuse M.faults W.packets stage.new) nodes.new (told_of result) }
+        → Shows w (scene_of M.told W.packets stage.old) nodes.old
+        → Happens terms w (Event.Noise side bytes.now) (scene_of M.told W.packets stage.old)
+        (scene_of M.told W.packets stage.new) nodes.new (told_of result) }
 {
     each_image_is_left();
     match decode(alloc, bytes) {
@@ -203,10 +211,10 @@ fn grant(nodes: &mut Nodes, side: Side, behaviour: Behaviour)
 /// A disk is to fail.
 fn arm<M: CrashDisk>(one: &mut M, two: &mut M, nodes: &Nodes, side: Side, calls: u64)
     requires { 1 ≤ calls }
-    ensures stand { (w : World) → StandFor w (drives_of M.past M.fuse M.faults one.old two.old) nodes.now
-        → StandFor (armed w (side_of side) calls) (drives_of M.past M.fuse M.faults one.new two.new) nodes.now }
-    ensures asked { WereAsked (side_of side) false (drives_of M.past M.fuse M.faults one.old two.old)
-        (drives_of M.past M.fuse M.faults one.new two.new) }
+    ensures stand { (w : World) → StandFor w (drives_of M.told one.old two.old) nodes.now
+        → StandFor (armed w (side_of side) calls) (drives_of M.told one.new two.new) nodes.now }
+    ensures asked { WereAsked (side_of side) false (drives_of M.told one.old two.old)
+        (drives_of M.told one.new two.new) }
 {
     match side {
         Side::One => nodes.one.arm(one, calls),
@@ -222,11 +230,11 @@ fn crash<M: CrashDisk>(
     side: Side,
     choice: u8,
 ) -> Result<(), Memory>
-    requires there { (w : World) × StandFor w (drives_of M.past M.fuse M.faults one.old two.old) nodes.old }
+    requires there { (w : World) × StandFor w (drives_of M.told one.old two.old) nodes.old }
     requires choice { choice ≤ 3 }
-    ensures { (w : World) → StandFor w (drives_of M.past M.fuse M.faults one.old two.old) nodes.old
-        → Crashes w (side_of side) choice (drives_of M.past M.fuse M.faults one.old two.old)
-        (drives_of M.past M.fuse M.faults one.new two.new) nodes.new result }
+    ensures { (w : World) → StandFor w (drives_of M.told one.old two.old) nodes.old
+        → Crashes w side choice (drives_of M.told one.old two.old)
+        (drives_of M.told one.new two.new) nodes.new result }
 {
     each_image_is_left();
     match side {
@@ -244,11 +252,11 @@ pub(crate) fn happen<M: CrashDisk, W: Wire>(
 ) -> Result<Option<Outcome>, Memory>
     requires within { IsWithin event }
     requires there { (w : World) × Shows w
-        (scene_of M.past M.fuse M.faults W.packets stage.old) nodes.old }
+        (scene_of M.told W.packets stage.old) nodes.old }
     ensures { (terms : Terms) → AreOfNet terms → (w : World)
-        → Shows w (scene_of M.past M.fuse M.faults W.packets stage.old) nodes.old
-        → Happens terms w event (scene_of M.past M.fuse M.faults W.packets stage.old)
-        (scene_of M.past M.fuse M.faults W.packets stage.new) nodes.new result }
+        → Shows w (scene_of M.told W.packets stage.old) nodes.old
+        → Happens terms w event (scene_of M.told W.packets stage.old)
+        (scene_of M.told W.packets stage.new) nodes.new result }
 {
     each_image_is_left();
     match event {
@@ -262,7 +270,12 @@ pub(crate) fn happen<M: CrashDisk, W: Wire>(
             grant(nodes, node, behaviour);
             Ok(Some(Outcome::Done))
         }
-        Event::Send { node, seq, text } => some(call(stage, nodes, node, Call::Send { seq, text })),
+        Event::Send { node, seq, text } => some(call(
+            stage,
+            nodes,
+            node,
+            Call::Send { seq, payload: text },
+        )),
         Event::Tick { node, now } => some(call(stage, nodes, node, Call::Tick { now })),
         Event::Deliver { packet } => some(deliver(stage, nodes, packet)),
         Event::Close { node, seq } => some(call(stage, nodes, node, Call::Close { seq })),

@@ -7,16 +7,18 @@ ghost use Rattle.rm_script.specs.declared.event.Event.{Event as Said};
 ghost use Rattle.rm_replay.specs.Headline.{KeepsHeadline};
 ghost use Rattle.rm_replay.specs.Net.{AreOfNet};
 ghost use Rattle.rm_replay.specs.Played.{Played, Story, start_world};
+ghost use Rattle.rm_replay.specs.Sent.{AcceptedIsSent};
 ghost use Rattle.rm_replay.specs.Shows.{Holds, IsLeftOfLine, Scene};
 ghost use Rattle.rm_replay.specs.Unarmed.{ArmsNone, TellsCalm};
 ghost use Rattle.std.specs.List.{AllByRecursion};
 
-use node_rules::laws::{own_terms_are_terms, there_are_own_terms};
+use node_laws::laws::{own_terms_are_terms, there_are_own_terms};
+use node_store::laws::bytes_stand_for_one_list_of_batches;
+use rm_network::laws::room_goes_by_the_bytes;
 use rm_protocol::laws::{
-    a_delivered_message_is_taken as a_message_is_taken, a_run_goes_on, every_run_keeps_the_word,
-    without_an_arm_nothing_fails,
+    a_delivered_message_is_taken as a_message_is_taken, a_run_goes_on, accepted_is_sent,
+    every_run_keeps_the_word, without_an_arm_nothing_fails,
 };
-use rm_wires::laws::room_goes_by_the_bytes;
 
 /// There are terms of nodes with a network.
 pub fn there_are_nets()
@@ -47,6 +49,16 @@ pub fn a_played_script_keeps_the_headline()
     a_run_goes_on();
     every_run_keeps_the_word();
     own_terms_are_terms();
+}
+
+/// At each image of each disk, what a source accepted is what the report of a played script says was sent.
+pub fn what_was_accepted_was_sent()
+    ensures { (terms : Terms) (script : List Said) (s : Story) → Played terms script s → (scene : Scene)
+        → Holds s.world scene → AcceptedIsSent script s.report scene }
+{
+    a_run_goes_on();
+    accepted_is_sent();
+    bytes_stand_for_one_list_of_batches();
 }
 
 /// At each moment of a script, a delivered message that is new, within the window and for an open sequence is recorded

@@ -1,6 +1,6 @@
 //! Two durable nodes on two disks, a wire between them, and the scripts that are played over them. It stands on one
 //! node of a script, `node_actor`, on scripts and reports, `rm_script`, `rm_report` and `node_summary`, and on wires,
-//! `rm_wires`. The layer above may use `run_script` by the definitions of `specs/`, and the laws.
+//! `rm_network`. The layer above may use `run_script` by the definitions of `specs/`, and the laws.
 #![tactic(auto)]
 
 mod ask;

@@ -15,9 +15,9 @@ use crate::stage::{Nodes, Stage};
 use node_actor::laws::each_image_is_left;
 use rm_base::{Blob, Memory};
 use rm_disk::CrashDisk;
+use rm_network::Wire;
 use rm_report::{Line, push_lines};
 use rm_script::Event;
-use rm_wires::Wire;
 use std::alloc::Global;
 
 /// Does what one line says, and appends the report's line of it.
@@ -31,12 +31,12 @@ fn play_line<M: CrashDisk, W: Wire>(
 ) -> Result<(), Memory>
     requires within { IsWithin event }
     requires there { (w : World) × Shows w
-        (scene_of M.past M.fuse M.faults W.packets stage.old) nodes.old }
+        (scene_of M.told W.packets stage.old) nodes.old }
     ensures { (terms : Terms) → AreOfNet terms → (w : World)
-        → Shows w (scene_of M.past M.fuse M.faults W.packets stage.old) nodes.old
+        → Shows w (scene_of M.told W.packets stage.old) nodes.old
         → PlaysLine terms w number event
-        (scene_of M.past M.fuse M.faults W.packets stage.old)
-        (scene_of M.past M.fuse M.faults W.packets stage.new) nodes.new
+        (scene_of M.told W.packets stage.old)
+        (scene_of M.told W.packets stage.new) nodes.new
         report.old report.new result }
 {
     each_image_is_left();
@@ -63,11 +63,11 @@ pub(crate) fn play<M: CrashDisk, W: Wire>(
 ) -> Result<(), Memory>
     requires within { AllByRecursion IsWithin script.items }
     requires there { Shows start_world
-        (scene_of M.past M.fuse M.faults W.packets stage.old) nodes.old }
+        (scene_of M.told W.packets stage.old) nodes.old }
     requires first { report.old ≡ [] }
     ensures { (terms : Terms) → AreOfNet terms → Plays terms script.items
-        (scene_of M.past M.fuse M.faults W.packets stage.old)
-        (scene_of M.past M.fuse M.faults W.packets stage.new) nodes.new report.new result }
+        (scene_of M.told W.packets stage.old)
+        (scene_of M.told W.packets stage.new) nodes.new report.new result }
 {
     there_are_nets();
     let mut number: u64 = 0;

@@ -2,7 +2,7 @@
 
 use node_actor::Actor;
 use rm_disk::CrashDisk;
-use rm_wires::Wire;
+use rm_network::Wire;
 
 /// The disks of two nodes, and the wire between them.
 #[derive(Debug, Drop)]

@@ -6,8 +6,8 @@ ghost use Rattle.rm_replay.specs.Happening.{IsPutInPart, with_all};
 
 use node_actor::{Came, Out};
 use rm_base::{Blob, Memory};
+use rm_network::Wire;
 use rm_report::Outcome;
-use rm_wires::Wire;
 
 /// Puts packets for a node on the wire, one after the other.
 fn put_all<W: Wire>(wire: &mut W, to: u8, outs: &[Out]) -> Result<(), Memory>

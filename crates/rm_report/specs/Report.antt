@@ -6,8 +6,7 @@ use Rattle.rm_base.specs.declared.message.Behaviour.{Behaviour}
 use Rattle.rm_base.specs.declared.message.Behaviour.TheVariants.{NoDiscard, EntireSequence, FollowingFirstGap}
 use Rattle.rm_destination.specs.declared.outcome.InPhase.{InPhase}
 use Rattle.rm_destination.specs.declared.outcome.InPhase.TheVariants as incoming
-use Rattle.rm_message.specs.declared.refusal.FaultKind.{FaultKind}
-use Rattle.rm_message.specs.declared.refusal.FaultKind.TheVariants as fault
+use Rattle.rm_message.specs.Kinds.{kind_name}
 use Rattle.rm_report.specs.declared.line.Line.{Line}
 use Rattle.rm_report.specs.declared.line.Outcome.{Outcome}
 use Rattle.rm_report.specs.declared.line.Outcome.TheVariants.{NoPacket, NoNoise, Down, NoSequence, Refused, Disk, Fault}
@@ -21,29 +20,6 @@ use Rattle.rm_source.specs.declared.phase.OutPhase.{OutPhase}
 use Rattle.rm_source.specs.declared.phase.OutPhase.TheVariants as outgoing
 
 -- ---- a line for a line of the script
-
--- the name of a fault
-abbrev pub fault_text : FaultKind → List ℕ
-fault_text fault.TooLong = codes "TooLong"
-fault_text fault.NotUtf8 = codes "NotUtf8"
-fault_text fault.NotProfile = codes "NotProfile"
-fault_text fault.WrongVersion = codes "WrongVersion"
-fault_text fault.NotEnvelope = codes "NotEnvelope"
-fault_text fault.NotUnderstood = codes "NotUnderstood"
-fault_text fault.Cardinality = codes "Cardinality"
-fault_text fault.HeaderMissing = codes "HeaderMissing"
-fault_text fault.BadHeader = codes "BadHeader"
-fault_text fault.Malformed = codes "Malformed"
-fault_text fault.Rollover = codes "Rollover"
-fault_text fault.WsrmRequired = codes "WsrmRequired"
-fault_text fault.UnknownSequence = codes "UnknownSequence"
-fault_text fault.SequenceTerminated = codes "SequenceTerminated"
-fault_text fault.SequenceClosed = codes "SequenceClosed"
-fault_text fault.InvalidAcknowledgement = codes "InvalidAcknowledgement"
-fault_text fault.CreateSequenceRefused = codes "CreateSequenceRefused"
-fault_text fault.MissingSelection = codes "MissingSelection"
-fault_text fault.UnsupportedSelection = codes "UnsupportedSelection"
-fault_text fault.StoreFull = codes "StoreFull"
 
 -- the name of a reason for which a node refuses a call
 abbrev pub reason_text : Reason → List ℕ
@@ -66,7 +42,7 @@ outcome_text Down = codes "down"
 outcome_text NoSequence = codes "no-sequence"
 outcome_text (Refused reason) = codes "refused " ++ reason_text reason
 outcome_text Disk = codes "disk"
-outcome_text (Fault kind) = codes "fault " ++ fault_text kind
+outcome_text (Fault kind) = codes "fault " ++ kind_name kind
 outcome_text Done = codes "ok"
 
 -- LINE OUTCOME E1 E2 PACKETS
@@ -125,26 +101,31 @@ behaviour_text FollowingFirstGap = codes "dfg"
 abbrev pub place_text : Place → List ℕ
 place_text place = side_text place.node ++ codes " " ++ decimal place.seq
 
+-- PHASE accepted A acked R
+abbrev pub sending_text : OutPhase → ℕ → List Range → List ℕ
+sending_text phase accepted acked =
+    out_phase phase ++ codes " accepted " ++ decimal accepted ++ codes " acked " ++ ranges_text acked ++ codes "\n"
+
 -- out N K PHASE accepted A acked R
 abbrev pub out_text : Place → OutPhase → ℕ → List Range → List ℕ
 out_text place phase accepted acked =
-    codes "out " ++ place_text place ++ codes " " ++ out_phase phase ++ codes " accepted " ++ decimal accepted
-    ++ codes " acked "
-    ++ ranges_text acked
-    ++ codes "\n"
+    codes "out " ++ place_text place ++ codes " " ++ sending_text phase accepted acked
 
 -- how many payloads are in the inbox, and how many are discarded
 abbrev pub counts_text : ℕ → ℕ → List ℕ
 counts_text inbox discarded = codes " inbox " ++ decimal inbox ++ codes " discarded " ++ decimal discarded
 
+-- PHASE B received R inbox I discarded J
+abbrev pub receiving_text : InPhase → Behaviour → List Range → ℕ → ℕ → List ℕ
+receiving_text phase behaviour received inbox discarded =
+    in_phase phase ++ codes " " ++ behaviour_text behaviour ++ codes " received " ++ ranges_text received
+    ++ counts_text inbox discarded
+    ++ codes "\n"
+
 -- in N K PHASE B received R inbox I discarded J
 abbrev pub in_text : Place → InPhase → Behaviour → List Range → ℕ → ℕ → List ℕ
 in_text place phase behaviour received inbox discarded =
-    codes "in " ++ place_text place ++ codes " " ++ in_phase phase ++ codes " " ++ behaviour_text behaviour
-    ++ codes " received "
-    ++ ranges_text received
-    ++ counts_text inbox discarded
-    ++ codes "\n"
+    codes "in " ++ place_text place ++ codes " " ++ receiving_text phase behaviour received inbox discarded
 
 -- item N K I HEX
 abbrev pub item_text : Place → ℕ → List ℕ → List ℕ

@@ -8,5 +8,6 @@ mod names;
 pub mod summary;
 
 pub use line::{Line, Outcome, Reason, push_lines};
-pub use names::fault_name;
-pub use summary::{Place, push_down, push_in, push_item, push_out, push_ranges};
+pub use summary::{
+    Place, push_down, push_in, push_item, push_out, push_ranges, push_receiving, push_sending,
+};

@@ -2,7 +2,7 @@
 ghost use Rattle.std.specs.Prelude.{◌≡◌, ◌++◌, codes, decimal, OnOk};
 ghost use Rattle.rm_report.specs.Report.{line_text, lines_text, outcome_text};
 
-use crate::names::{fault_name, reason_name};
+use crate::names::reason_name;
 use rm_base::{Blob, Memory, push_decimal};
 use rm_message::FaultKind;
 
@@ -99,7 +99,7 @@ fn push_outcome(out: &mut Blob, outcome: Outcome) -> Result<(), Memory>
         Outcome::Disk => out.push_all(b"disk"),
         Outcome::Fault { kind } => {
             out.push_all(b"fault ")?;
-            out.push_all(fault_name(kind))
+            out.push_all(kind.name())
         }
         Outcome::Done => out.push_all(b"ok"),
     }

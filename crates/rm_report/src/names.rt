@@ -1,42 +1,13 @@
 //! The words of a report.
 ghost use Rattle.std.specs.Prelude.{◌≡◌};
-ghost use Rattle.rm_report.specs.Report.{fault_text, reason_text, out_phase, in_phase, behaviour_text};
+ghost use Rattle.rm_report.specs.Report.{reason_text, out_phase, in_phase, behaviour_text};
 ghost use Rattle.rm_script.specs.Script.{side_text};
 
 use crate::line::Reason;
 use rm_base::Behaviour;
 use rm_destination::InPhase;
-use rm_message::FaultKind;
 use rm_script::Side;
 use rm_source::OutPhase;
-
-/// The name of a fault, as reports and answers to `check` print it.
-pub fn fault_name(kind: FaultKind) -> &'static [u8]
-    ensures { result.now ≡ fault_text kind }
-{
-    match kind {
-        FaultKind::TooLong => b"TooLong",
-        FaultKind::NotUtf8 => b"NotUtf8",
-        FaultKind::NotProfile => b"NotProfile",
-        FaultKind::WrongVersion => b"WrongVersion",
-        FaultKind::NotEnvelope => b"NotEnvelope",
-        FaultKind::NotUnderstood => b"NotUnderstood",
-        FaultKind::Cardinality => b"Cardinality",
-        FaultKind::HeaderMissing => b"HeaderMissing",
-        FaultKind::BadHeader => b"BadHeader",
-        FaultKind::Malformed => b"Malformed",
-        FaultKind::Rollover => b"Rollover",
-        FaultKind::WsrmRequired => b"WsrmRequired",
-        FaultKind::UnknownSequence => b"UnknownSequence",
-        FaultKind::SequenceTerminated => b"SequenceTerminated",
-        FaultKind::SequenceClosed => b"SequenceClosed",
-        FaultKind::InvalidAcknowledgement => b"InvalidAcknowledgement",
-        FaultKind::CreateSequenceRefused => b"CreateSequenceRefused",
-        FaultKind::MissingSelection => b"MissingSelection",
-        FaultKind::UnsupportedSelection => b"UnsupportedSelection",
-        FaultKind::StoreFull => b"StoreFull",
-    }
-}
 
 pub(crate) fn reason_name(reason: Reason) -> &'static [u8]
     ensures { result.now ≡ reason_text reason }

@@ -1,7 +1,7 @@
 //! The lines of a report behind the last line of its script: what the nodes know.
 ghost use Rattle.std.specs.Prelude.{◌≡◌, ◌++◌, OnOk};
 ghost use Rattle.rm_report.specs.Report.{out_text, in_text, counts_text, item_text, down_text, place_text, ranges_text};
-ghost use Rattle.rm_report.specs.Report.{range_text};
+ghost use Rattle.rm_report.specs.Report.{range_text, receiving_text, sending_text};
 
 use crate::names::{behaviour_name, in_phase_name, out_phase_name, side_name};
 use ack_ranges::Range;
@@ -31,6 +31,18 @@ pub fn push_out(
     out.push_all(b"out ")?;
     push_place(out, place)?;
     out.push_all(b" ")?;
+    push_sending(out, phase, accepted, acked)
+}
+
+/// Appends what is known of an outgoing sequence, without its place.
+pub fn push_sending(
+    out: &mut Blob,
+    phase: OutPhase,
+    accepted: u64,
+    acked: &[Range],
+) -> Result<(), Memory>
+    ensures { OnOk result (out.new ≡ out.old ++ sending_text phase accepted acked.now) }
+{
     out.push_all(out_phase_name(phase))?;
     out.push_all(b" accepted ")?;
     push_decimal(out, accepted)?;
@@ -55,6 +67,21 @@ pub fn push_in(
     out.push_all(b"in ")?;
     push_place(out, place)?;
     out.push_all(b" ")?;
+    push_receiving(out, phase, behaviour, received, inbox, discarded)
+}
+
+/// Appends what is known of an incoming sequence, without its place.
+pub fn push_receiving(
+    out: &mut Blob,
+    phase: InPhase,
+    behaviour: Behaviour,
+    received: &[Range],
+    inbox: u64,
+    discarded: u64,
+) -> Result<(), Memory>
+    ensures { OnOk result (out.new
+        ≡ out.old ++ receiving_text phase behaviour received.now inbox discarded) }
+{
     out.push_all(in_phase_name(phase))?;
     out.push_all(b" ")?;
     out.push_all(behaviour_name(behaviour))?;

@@ -23,15 +23,10 @@ ghost use Rattle.rm_script.specs.Reading.{
 use crate::event::{Event, Side};
 use crate::word::{behaviour, behind, call, cut_word, node, number, numbered};
 use hex::FromHexError;
+use rm_base::limits::{MOST_SEQUENCES, NOW_MAX};
 use rm_base::{Behaviour, Blob, Memory};
 use rm_elements::{Lapse, read_duration};
 use std::alloc::Global;
-
-/// The most sequences of a node.
-const MOST_SEQUENCES: u64 = 256;
-
-/// The last moment to which a clock is set.
-const LAST_TICK: u64 = 200000000000000;
 
 /// The greatest number of a packet.
 const MOST_PACKETS: u64 = 65536;
@@ -157,7 +152,7 @@ fn send(alloc: Global, bytes: &[u8]) -> Result<Option<Event>, Memory>
         return Ok(None);
     };
     let (word, rest) = cut_word(arguments.rest);
-    let Some(seq) = number(word, 1, MOST_SEQUENCES) else {
+    let Some(seq) = number(word, 1, u64::from(MOST_SEQUENCES)) else {
         return Ok(None);
     };
     let Some(text) = behind(rest, b" ") else {
@@ -176,7 +171,7 @@ fn send(alloc: Global, bytes: &[u8]) -> Result<Option<Event>, Memory>
 fn tick(bytes: &[u8]) -> Option<Event>
     ensures { result ≡ tick_in bytes.now }
 {
-    let (node, now) = numbered(bytes, 0, LAST_TICK)?;
+    let (node, now) = numbered(bytes, 0, NOW_MAX)?;
     Some(Event::Tick { node, now })
 }
 
@@ -190,7 +185,7 @@ fn deliver(bytes: &[u8]) -> Option<Event>
 fn close(bytes: &[u8]) -> Option<Event>
     ensures { result ≡ close_in bytes.now }
 {
-    let (node, seq) = numbered(bytes, 1, MOST_SEQUENCES)?;
+    let (node, seq) = numbered(bytes, 1, u64::from(MOST_SEQUENCES))?;
     Some(Event::Close {
         node,
         seq: seq as u32,
@@ -200,7 +195,7 @@ fn close(bytes: &[u8]) -> Option<Event>
 fn end(bytes: &[u8]) -> Option<Event>
     ensures { result ≡ end_in bytes.now }
 {
-    let (node, seq) = numbered(bytes, 1, MOST_SEQUENCES)?;
+    let (node, seq) = numbered(bytes, 1, u64::from(MOST_SEQUENCES))?;
     Some(Event::End {
         node,
         seq: seq as u32,

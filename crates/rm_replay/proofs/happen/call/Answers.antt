@@ -13,12 +13,12 @@ pub ask_at-requires-clause-there : goal.ask_at-requires-clause-there
 ask_at-requires-clause-there g c = (c.requires.there.0, c.requires.there.1.stand)
 
 pub returns-in_err-came-clause-moves : goal.returns-in_err-came-clause-moves
-returns-in_err-came-clause-moves g c terms net content by w shows =
+returns-in_err-came-clause-moves g c terms net asked by w shows =
     let p = err_from_is_err_and c.from_residual.result c.from_residual.ensures.1 in
-    rw p.1 (inl (shows_still w (scene_of g.M.Disk.past g.M.Disk.fuse g.M.Disk.faults g.W.Wire.packets c.args.stage.now)
-    (scene_by (drives_of g.M.Disk.past g.M.Disk.fuse g.M.Disk.faults c.ask_at.new.one c.ask_at.new.two)
+    rw p.1 (inl (shows_still w (scene_of g.M.Disk.told g.W.Wire.packets c.args.stage.now)
+    (scene_by (drives_of g.M.Disk.told c.ask_at.new.one c.ask_at.new.two)
     (g.W.Wire.packets c.args.stage.now.wire)) c.args.nodes.now c.ask_at.new.nodes shows
-    (c.in_err-came.ensures.steps terms net.own content by w shows.stand) refl))
+    (c.in_err-came.ensures.steps terms net.own asked by w shows.stand) refl))
 
 pub returns-in_err-came-clause-asked : goal.returns-in_err-came-clause-asked
 returns-in_err-came-clause-asked g c =
@@ -26,23 +26,23 @@ returns-in_err-came-clause-asked g c =
     rw p.1 (false, c.in_err-came.ensures.asked)
 
 pub returns-clause-moves : goal.returns-clause-moves
-returns-clause-moves g c terms net content by w shows =
+returns-clause-moves g c terms net asked by w shows =
     let side = side_of c.args.side in
-    let d = drives_of g.M.Disk.past g.M.Disk.fuse g.M.Disk.faults c.args.stage.now.one c.args.stage.now.two in
-    call_moves terms net w side (step_of terms (node w side) content c.args.call)
-    (scene_of g.M.Disk.past g.M.Disk.fuse g.M.Disk.faults g.W.Wire.packets c.args.stage.now)
-    (scene_by (drives_of g.M.Disk.past g.M.Disk.fuse g.M.Disk.faults c.ask_at.new.one c.ask_at.new.two)
+    let d = drives_of g.M.Disk.told c.args.stage.now.one c.args.stage.now.two in
+    call_moves terms net w side (step_of terms (node w side) asked c.args.call)
+    (scene_of g.M.Disk.told g.W.Wire.packets c.args.stage.now)
+    (scene_by (drives_of g.M.Disk.told c.ask_at.new.one c.ask_at.new.two)
     (g.W.Wire.packets c.put_came.new.wire)) c.args.nodes.now c.ask_at.new.nodes c.number.result c.in_ok-came.came
-    c.put_came.result shows (c.in_ok-came.ensures.steps terms net.own content by w shows.stand)
+    c.put_came.result shows (c.in_ok-came.ensures.steps terms net.own asked by w shows.stand)
     (c.number.ensures ∙ ap number_of c.other.ensures) c.put_came.ensures.ok c.put_came.ensures.outcome
     c.put_came.ensures.err
     (said_is_read c.what_is_read_may_be_written.ensures c.a_refusal_may_be_answered.ensures.refusal
     c.each_message_is_read_back.ensures terms net.own (node w side)
-    (kept_at w d c.args.nodes.now side shows.stand) content c.args.call c.requires.within by)
+    (kept_at w d c.args.nodes.now side shows.stand) asked c.args.call c.requires.may by)
 
 pub returns-clause-asked : goal.returns-clause-asked
 returns-clause-asked g c =
     asked_for (side_of c.args.side) c.in_ok-came.came c.put_came.result
-    (drives_of g.M.Disk.past g.M.Disk.fuse g.M.Disk.faults c.args.stage.now.one c.args.stage.now.two)
-    (drives_of g.M.Disk.past g.M.Disk.fuse g.M.Disk.faults c.ask_at.new.one c.ask_at.new.two) c.in_ok-came.ensures.asked
+    (drives_of g.M.Disk.told c.args.stage.now.one c.args.stage.now.two)
+    (drives_of g.M.Disk.told c.ask_at.new.one c.ask_at.new.two) c.in_ok-came.ensures.asked
     c.put_came.ensures.outcome

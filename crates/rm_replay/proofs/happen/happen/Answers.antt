@@ -1,6 +1,6 @@
 use Rattle.std.proofs.Common.{Err, Some, refl, sym, subst}
-use Rattle.rm_wire.specs.reader.Refusals.{blind}
-use Rattle.rm_protocol.specs.message_types.declared.refusal.FaultKind.TheVariants.{TooLong}
+use Rattle.message_reader.specs.Refusals.{blind}
+use Rattle.rm_message.specs.declared.refusal.FaultKind.TheVariants.{TooLong}
 use Rattle.rm_protocol.specs.World.{Close, End, Send, Tick, node}
 use Rattle.rm_report.specs.declared.line.Outcome.TheVariants as told
 use Rattle.rm_script.specs.declared.event.Event.{Event as Said}
@@ -9,7 +9,8 @@ use Rattle.rm_replay.specs.Asked.{step_of}
 use Rattle.rm_replay.specs.Happening.{Happened}
 use Rattle.rm_replay.specs.Meaning.{side_of}
 use Rattle.rm_replay.specs.Shows.{drives_of, scene_of}
-use Rattle.rm_replay.specs.declared.ask.Call.TheVariants as call
+use Rattle.node_actor.specs.Asked as asks
+use Rattle.node_actor.specs.Call.TheVariants as call
 use Rattle.rm_replay.proofs.CallLemmas.{close_call, end_call, send_call, tick_call}
 use Rattle.rm_replay.proofs.EventLemmas.{happens_arm, happens_call, happens_crash, happens_grant, happens_line}
 use Rattle.rm_replay.proofs.StepLemmas.{scene_by}
@@ -18,70 +19,70 @@ use Rattle.rm_replay.proofs.happen.happen.Goals as goal
 pub returns-in-Send : goal.returns-in-Send
 returns-in-Send g c terms net w shows =
     let at = c.in-Send.node in
-    let content = Err (blind TooLong) in
-    let old = scene_of g.M.Disk.past g.M.Disk.fuse g.M.Disk.faults g.W.Wire.packets c.args.stage.now in
-    let new = scene_of g.M.Disk.past g.M.Disk.fuse g.M.Disk.faults g.W.Wire.packets c.call.new.stage in
+    let asked = asks.Send c.in-Send.seq c.in-Send.text in
+    let old = scene_of g.M.Disk.told g.W.Wire.packets c.args.stage.now in
+    let new = scene_of g.M.Disk.told g.W.Wire.packets c.call.new.stage in
     happens_line terms w old new c.call.new.nodes c.args.event (said.Send at c.in-Send.seq c.in-Send.text)
     c.call.result c.some-in-Send.result c.in-Send.is c.some-in-Send.ensures
     (happens_call c.each_image_is_left.ensures terms w (said.Send at c.in-Send.seq c.in-Send.text)
     (Send (side_of at) c.in-Send.seq c.in-Send.text) (side_of at)
-    (step_of terms (node w (side_of at)) content (call.Send c.in-Send.seq c.in-Send.text)) old new
-    c.call.new.nodes c.call.result (send_call terms w content at c.in-Send.seq c.in-Send.text)
-    (c.call.ensures.moves terms net content tt w shows) c.call.ensures.asked)
+    (step_of terms (node w (side_of at)) asked (call.Send c.in-Send.seq c.in-Send.text)) old new
+    c.call.new.nodes c.call.result (send_call terms w at c.in-Send.seq c.in-Send.text)
+    (c.call.ensures.moves terms net asked refl w shows) c.call.ensures.asked)
 
 pub returns-in-Tick : goal.returns-in-Tick
 returns-in-Tick g c terms net w shows =
     let at = c.in-Tick.node in
-    let content = Err (blind TooLong) in
-    let old = scene_of g.M.Disk.past g.M.Disk.fuse g.M.Disk.faults g.W.Wire.packets c.args.stage.now in
-    let new = scene_of g.M.Disk.past g.M.Disk.fuse g.M.Disk.faults g.W.Wire.packets c.call-in-Tick.new.stage in
+    let asked = asks.Tick c.in-Tick.now in
+    let old = scene_of g.M.Disk.told g.W.Wire.packets c.args.stage.now in
+    let new = scene_of g.M.Disk.told g.W.Wire.packets c.call-in-Tick.new.stage in
     happens_line terms w old new c.call-in-Tick.new.nodes c.args.event (said.Tick at c.in-Tick.now)
     c.call-in-Tick.result c.some-in-Tick.result c.in-Tick.is c.some-in-Tick.ensures
     (happens_call c.each_image_is_left.ensures terms w (said.Tick at c.in-Tick.now)
     (Tick (side_of at) c.in-Tick.now) (side_of at)
-    (step_of terms (node w (side_of at)) content (call.Tick c.in-Tick.now)) old new
-    c.call-in-Tick.new.nodes c.call-in-Tick.result (tick_call terms w content at c.in-Tick.now)
-    (c.call-in-Tick.ensures.moves terms net content tt w shows) c.call-in-Tick.ensures.asked)
+    (step_of terms (node w (side_of at)) asked (call.Tick c.in-Tick.now)) old new
+    c.call-in-Tick.new.nodes c.call-in-Tick.result (tick_call terms w at c.in-Tick.now)
+    (c.call-in-Tick.ensures.moves terms net asked refl w shows) c.call-in-Tick.ensures.asked)
 
 pub returns-in-Close : goal.returns-in-Close
 returns-in-Close g c terms net w shows =
     let at = c.in-Close.node in
-    let content = Err (blind TooLong) in
-    let old = scene_of g.M.Disk.past g.M.Disk.fuse g.M.Disk.faults g.W.Wire.packets c.args.stage.now in
-    let new = scene_of g.M.Disk.past g.M.Disk.fuse g.M.Disk.faults g.W.Wire.packets c.call-in-Close.new.stage in
+    let asked = asks.Close c.in-Close.seq in
+    let old = scene_of g.M.Disk.told g.W.Wire.packets c.args.stage.now in
+    let new = scene_of g.M.Disk.told g.W.Wire.packets c.call-in-Close.new.stage in
     happens_line terms w old new c.call-in-Close.new.nodes c.args.event (said.Close at c.in-Close.seq)
     c.call-in-Close.result c.some-in-Close.result c.in-Close.is c.some-in-Close.ensures
     (happens_call c.each_image_is_left.ensures terms w (said.Close at c.in-Close.seq)
     (Close (side_of at) c.in-Close.seq) (side_of at)
-    (step_of terms (node w (side_of at)) content (call.Close c.in-Close.seq)) old new
-    c.call-in-Close.new.nodes c.call-in-Close.result (close_call terms w content at c.in-Close.seq)
-    (c.call-in-Close.ensures.moves terms net content tt w shows) c.call-in-Close.ensures.asked)
+    (step_of terms (node w (side_of at)) asked (call.Close c.in-Close.seq)) old new
+    c.call-in-Close.new.nodes c.call-in-Close.result (close_call terms w at c.in-Close.seq)
+    (c.call-in-Close.ensures.moves terms net asked refl w shows) c.call-in-Close.ensures.asked)
 
 pub returns-in-End : goal.returns-in-End
 returns-in-End g c terms net w shows =
     let at = c.in-End.node in
-    let content = Err (blind TooLong) in
-    let old = scene_of g.M.Disk.past g.M.Disk.fuse g.M.Disk.faults g.W.Wire.packets c.args.stage.now in
-    let new = scene_of g.M.Disk.past g.M.Disk.fuse g.M.Disk.faults g.W.Wire.packets c.call-in-End.new.stage in
+    let asked = asks.End c.in-End.seq in
+    let old = scene_of g.M.Disk.told g.W.Wire.packets c.args.stage.now in
+    let new = scene_of g.M.Disk.told g.W.Wire.packets c.call-in-End.new.stage in
     happens_line terms w old new c.call-in-End.new.nodes c.args.event (said.End at c.in-End.seq)
     c.call-in-End.result c.some-in-End.result c.in-End.is c.some-in-End.ensures
     (happens_call c.each_image_is_left.ensures terms w (said.End at c.in-End.seq)
     (End (side_of at) c.in-End.seq) (side_of at)
-    (step_of terms (node w (side_of at)) content (call.End c.in-End.seq)) old new
-    c.call-in-End.new.nodes c.call-in-End.result (end_call terms w content at c.in-End.seq)
-    (c.call-in-End.ensures.moves terms net content tt w shows) c.call-in-End.ensures.asked)
+    (step_of terms (node w (side_of at)) asked (call.End c.in-End.seq)) old new
+    c.call-in-End.new.nodes c.call-in-End.result (end_call terms w at c.in-End.seq)
+    (c.call-in-End.ensures.moves terms net asked refl w shows) c.call-in-End.ensures.asked)
 
 pub returns-in-Grant : goal.returns-in-Grant
 returns-in-Grant g c terms net w shows =
-    let scene = scene_of g.M.Disk.past g.M.Disk.fuse g.M.Disk.faults g.W.Wire.packets c.args.stage.now in
+    let scene = scene_of g.M.Disk.told g.W.Wire.packets c.args.stage.now in
     subst (λ (line : Said). Happened terms w line scene scene c.grant.new.nodes (Some told.Done)) (sym c.in-Grant.is)
     (happens_grant terms w c.in-Grant.node c.in-Grant.behaviour scene c.args.nodes.now c.grant.new.nodes shows
     (c.grant.ensures w scene.drives shows.stand))
 
 pub returns-in-Arm : goal.returns-in-Arm
 returns-in-Arm g c terms net w shows =
-    let old = scene_of g.M.Disk.past g.M.Disk.fuse g.M.Disk.faults g.W.Wire.packets c.args.stage.now in
-    let new = scene_by (drives_of g.M.Disk.past g.M.Disk.fuse g.M.Disk.faults c.arm.new.one c.arm.new.two)
+    let old = scene_of g.M.Disk.told g.W.Wire.packets c.args.stage.now in
+    let new = scene_by (drives_of g.M.Disk.told c.arm.new.one c.arm.new.two)
     (g.W.Wire.packets c.args.stage.now.wire) in
     subst (λ (line : Said). Happened terms w line old new c.args.nodes.now (Some told.Done)) (sym c.in-Arm.is)
     (happens_arm terms w c.in-Arm.node c.in-Arm.calls old new c.args.nodes.now c.args.nodes.now shows
@@ -89,8 +90,8 @@ returns-in-Arm g c terms net w shows =
 
 pub returns-in_ok-crash-in-Crash : goal.returns-in_ok-crash-in-Crash
 returns-in_ok-crash-in-Crash g c terms net w shows =
-    let old = scene_of g.M.Disk.past g.M.Disk.fuse g.M.Disk.faults g.W.Wire.packets c.args.stage.now in
-    let new = scene_by (drives_of g.M.Disk.past g.M.Disk.fuse g.M.Disk.faults c.crash.new.one c.crash.new.two)
+    let old = scene_of g.M.Disk.told g.W.Wire.packets c.args.stage.now in
+    let new = scene_by (drives_of g.M.Disk.told c.crash.new.one c.crash.new.two)
     (g.W.Wire.packets c.args.stage.now.wire) in
     subst (λ (line : Said). Happened terms w line old new c.crash.new.nodes (Some told.Done)) (sym c.in-Crash.is)
     (happens_crash terms w c.in-Crash.node c.in-Crash.choice old new c.args.nodes.now c.crash.new.nodes shows refl

@@ -10,16 +10,16 @@ pub loop-event-init : goal.loop-event-init
 loop-event-init g c = record {
   counted = refl;
   played = λ terms net.
-      played_none terms (scene_of g.M.Disk.past g.M.Disk.fuse g.M.Disk.faults g.W.Wire.packets c.args.stage.now)
+      played_none terms (scene_of g.M.Disk.told g.W.Wire.packets c.args.stage.now)
       c.args.nodes.now c.args.report.now c.requires.there c.requires.first;
 }
 
 pub loop-event-preserved : goal.loop-event-preserved
 loop-event-preserved g c =
     let loop = c.loop-event in
-    let first = scene_of g.M.Disk.past g.M.Disk.fuse g.M.Disk.faults g.W.Wire.packets c.args.stage.now in
-    let old = scene_of g.M.Disk.past g.M.Disk.fuse g.M.Disk.faults g.W.Wire.packets loop.stage in
-    let new = scene_of g.M.Disk.past g.M.Disk.fuse g.M.Disk.faults g.W.Wire.packets c.play_line.new.stage in
+    let first = scene_of g.M.Disk.told g.W.Wire.packets c.args.stage.now in
+    let old = scene_of g.M.Disk.told g.W.Wire.packets loop.stage in
+    let new = scene_of g.M.Disk.told g.W.Wire.packets c.play_line.new.stage in
     record {
       counted = omega (arith, loop.invariant.counted, length-append loop.yielded (c.in-Some.event ∷ []));
       played = λ terms net.
@@ -41,8 +41,8 @@ returns-in_err-play_line g c terms net =
     cc (taken, next.0, first.0) in
     let all = loop.invariant.played terms net in
     rw p.1 (short_line terms c.args.script.items loop.yielded (into_iter_items c.next.new.self) c.in-Some.event
-    (scene_of g.M.Disk.past g.M.Disk.fuse g.M.Disk.faults g.W.Wire.packets c.args.stage.now)
-    (scene_of g.M.Disk.past g.M.Disk.fuse g.M.Disk.faults g.W.Wire.packets loop.stage)
-    (scene_of g.M.Disk.past g.M.Disk.fuse g.M.Disk.faults g.W.Wire.packets c.play_line.new.stage) loop.nodes
+    (scene_of g.M.Disk.told g.W.Wire.packets c.args.stage.now)
+    (scene_of g.M.Disk.told g.W.Wire.packets loop.stage)
+    (scene_of g.M.Disk.told g.W.Wire.packets c.play_line.new.stage) loop.nodes
     loop.report all events
     (c.in_err-play_line.ensures terms net all.story.world all.shows))

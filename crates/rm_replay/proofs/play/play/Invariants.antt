@@ -10,6 +10,6 @@ abbrev pub invariant-loop-event : goal.invariant-loop-event
 invariant-loop-event g l = record {
   counted : l.number ≡ length l.yielded;
   played : (terms : Terms) → AreOfNet terms → AllPlayed terms l.yielded
-      (scene_of g.M.Disk.past g.M.Disk.fuse g.M.Disk.faults g.W.Wire.packets l.fn.stage)
-      (scene_of g.M.Disk.past g.M.Disk.fuse g.M.Disk.faults g.W.Wire.packets l.stage) l.nodes l.report;
+      (scene_of g.M.Disk.told g.W.Wire.packets l.fn.stage)
+      (scene_of g.M.Disk.told g.W.Wire.packets l.stage) l.nodes l.report;
 }
