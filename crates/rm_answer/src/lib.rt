@@ -1,0 +1,7 @@
+//! The answers of a node on HTTP: the status of each, and the fault for a body that is too long. It stands on the
+//! writers of messages, and on `http_endpoint`. The layer above may use the reply that each outcome has.
+#![tactic(auto)]
+
+pub mod reply;
+
+pub use reply::{Reply, refusal_to, reply_to};

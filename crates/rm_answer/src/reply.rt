@@ -1,0 +1,133 @@
+//! What goes back on a connection: a status and a body.
+ghost use Rattle.std.specs.Prelude.{◌≡◌, [], IfOk, IfSome};
+ghost use Rattle.http_endpoint.specs.Texts.{IsWritten};
+ghost use Rattle.rm_answer.specs.Replies.{refusal_to, reply_to, status_of, status_of_code, too_long_text};
+ghost use Rattle.rm_answer.specs.Replies.{refused_with};
+ghost use Rattle.std.specs.Prelude.{None};
+ghost use Rattle.soap_envelope.specs.Soap.{soap_space};
+ghost use Rattle.message_reader.specs.Refusals.{blind};
+ghost use Rattle.message_writer.specs.Faults.{fault_of};
+ghost use Rattle.message_writer.specs.Text.{message_text};
+
+use http_endpoint::HttpError;
+use message_writer::table::code;
+use message_writer::{encode, fault_message};
+use node_messages::{anonymous, plain_endpoint};
+use rm_base::{Blob, Memory};
+use rm_message::{FaultCode, FaultKind, Names, Refusal};
+use std::alloc::Global;
+
+/// The status of a response, and its body.
+#[derive(Debug, Drop)]
+pub struct Reply {
+    pub status: u16,
+    pub body: Blob,
+}
+
+/// The response to a message that the node took.
+pub fn reply_to(alloc: Global, verdict: Option<FaultKind>, reply: Option<Blob>) -> Reply
+    ensures is { result ≡ reply_to verdict reply }
+    ensures status { IsWritten result.status }
+{
+    match reply {
+        Some(body) => Reply {
+            status: status_of(verdict),
+            body,
+        },
+        None => Reply {
+            status: 202,
+            body: Blob::new(alloc),
+        },
+    }
+}
+
+// The status with which a reply goes back.
+fn status_of(verdict: Option<FaultKind>) -> u16
+    ensures is { result ≡ status_of verdict }
+    ensures status { IsWritten result }
+{
+    match verdict {
+        None => 200,
+        Some(kind) => status_of_code(code(kind)),
+    }
+}
+
+fn status_of_code(code: FaultCode) -> u16
+    ensures is { result ≡ status_of_code code }
+    ensures status { IsWritten result }
+{
+    match code {
+        FaultCode::Sender => 400,
+        _ => 500,
+    }
+}
+
+/// The response to a request that could not be read, where it gets one.
+pub fn refusal_to(alloc: Global, error: HttpError) -> Result<Option<Reply>, Memory>
+    ensures is { IfOk result (λ reply. reply ≡ refusal_to error) }
+    ensures status { IfOk result (λ reply. IfSome reply (λ r. IsWritten r.status)) }
+{
+    match error {
+        HttpError::BadHead => Ok(Some(bare(alloc, 400))),
+        HttpError::TooLong { .. } => Ok(Some(Reply {
+            status: 400,
+            body: too_long(alloc)?,
+        })),
+        HttpError::Unsupported { status } => Ok(Some(bare(alloc, refused_with(status)))),
+        HttpError::Memory => Ok(None),
+        HttpError::ReadFault => Ok(None),
+        HttpError::WriteFault => Ok(None),
+        HttpError::CutShort => Ok(None),
+    }
+}
+
+fn bare(alloc: Global, status: u16) -> Reply
+    ensures { result ≡ record { status = status; body = [] } }
+{
+    Reply {
+        status,
+        body: Blob::new(alloc),
+    }
+}
+
+// A status with which a request is refused.
+fn refused_with(status: u16) -> u16
+    ensures is { result ≡ refused_with status }
+    ensures status { IsWritten result }
+{
+    match status {
+        405 => 405,
+        415 => 415,
+        _ => 501,
+    }
+}
+
+// The refusal of a body that is too long.
+fn too_long_refusal(alloc: Global) -> Result<Refusal, Memory>
+    ensures { IfOk result (λ refusal. refusal ≡ blind FaultKind.TooLong) }
+{
+    let address = anonymous(alloc)?;
+    Ok(Refusal {
+        kind: FaultKind::TooLong,
+        endpoint: plain_endpoint(alloc, address),
+        relates: None,
+        names: Names::new(alloc),
+        ident: None,
+    })
+}
+
+// The fault that answers a refusal, as a text.
+fn fault_text(alloc: Global, refusal: &Refusal) -> Result<Blob, Memory>
+    ensures { IfOk result (λ text. text ≡ message_text soap_space (fault_of refusal.now None)) }
+{
+    let message = fault_message(alloc, refusal, None)?;
+    encode(alloc, &message)
+}
+
+// The fault that answers a body that is too long.
+fn too_long(alloc: Global) -> Result<Blob, Memory>
+    ensures { IfOk result (λ text. text ≡ too_long_text) }
+{
+    let refusal = too_long_refusal(alloc)?;
+    fault_text(alloc, &refusal)
+}

@@ -1,0 +1,15 @@
+//! The commands of one node over a disk, a link and a clock.
+#![tactic(auto)]
+
+pub mod commands;
+pub mod end;
+pub mod host;
+pub mod program;
+pub mod send;
+pub mod serve;
+pub mod words;
+
+pub use end::End;
+pub use host::Host;
+pub use program::{explain_disk, start};
+pub use words::is_command;

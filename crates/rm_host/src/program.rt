@@ -1,0 +1,121 @@
+//! The program at its edge: a file, the network, the clock, standard input and output.
+ghost use Rattle.std.specs.Prelude.{◌≡◌, false};
+
+use crate::commands::{close, end, inbox, make, push};
+use crate::end::End;
+use crate::host::Host;
+use crate::send::send;
+use crate::serve::serve;
+use crate::words::{Command, command_of};
+use rm_base::{
+    Blob, Clock, Items, Memory, Sink, SinkError, Source, StdClock, StdSink, StdSource, write_all,
+};
+use rm_disk::Disk;
+use rm_file::{Fault as DiskFault, FileDisk, NAME};
+use rm_link::{Fault as LinkFault, Link, TcpLink};
+use std::alloc::Global;
+use std::env;
+use std::io::ErrorKind;
+use std::process::ExitCode;
+
+/// Does what the words say, and answers the exit status.
+pub fn run<S: Source, K: Sink, D: Disk, L: Link, C: Clock>(
+    alloc: Global,
+    words: &[Blob],
+    input: &mut S,
+    out: &mut K,
+    host: &mut Host<D, L, C>,
+) -> u8
+    requires silent { D.tells ≡ false }
+{
+    match obey(alloc, words, input, host) {
+        Ok(text) => match write_all(out, text.as_slice()) {
+            Ok(()) => 0,
+            Err(SinkError::Failed) => End::WriteFault.status(),
+            Err(SinkError::Memory) => End::Memory.status(),
+        },
+        Err(end) => {
+            let _ = write_all(out, end.line());
+            end.status()
+        }
+    }
+}
+
+fn obey<S: Source, D: Disk, L: Link, C: Clock>(
+    alloc: Global,
+    words: &[Blob],
+    input: &mut S,
+    host: &mut Host<D, L, C>,
+) -> Result<Blob, End>
+    requires silent { D.tells ≡ false }
+{
+    match command_of(alloc, words)? {
+        Command::Make { number, address } => make(alloc, host, number, address),
+        Command::Serve { port, count, grant } => serve(alloc, host, port, count, grant),
+        Command::Send { to } => send(alloc, host, input, to),
+        Command::Push => push(alloc, host),
+        Command::Close { seq } => close(alloc, host, seq),
+        Command::Finish { seq } => end(alloc, host, seq),
+        Command::Inbox { seq } => inbox(alloc, host, seq),
+    }
+}
+
+/// Runs the program over the words it was given, standard input and output, the file in the current folder, the
+/// network and the clock.
+pub fn start(rt: HostRuntime) -> ExitCode {
+    let given = match env::args(&rt) {
+        Ok(args) => texts_of(rt.alloc(), args),
+        Err(error) => match error.kind() {
+            ErrorKind::InvalidData => Ok(Items::new(rt.alloc())),
+            _ => Err(Memory),
+        },
+    };
+    let status = match given {
+        Ok(given) => {
+            let words = match given.as_slice().split_first() {
+                Some((_program, words)) => words,
+                None => &[],
+            };
+            let mut input = StdSource::new(rt.stdin());
+            let mut out = StdSink::new(rt.stdout());
+            let mut host = Host {
+                disk: FileDisk::new(&rt),
+                link: TcpLink::new(&rt),
+                clock: StdClock::new(&rt),
+            };
+            let status = run(rt.alloc(), words, &mut input, &mut out, &mut host);
+            if status == End::DiskFault.status() {
+                explain_disk(&rt, host.disk.last_fault());
+            }
+            if status == End::LinkFault.status() {
+                explain_link(&rt, host.link.last_fault());
+            }
+            status
+        }
+        Err(Memory) => End::Memory.status(),
+    };
+    ExitCode::from(status)
+}
+
+/// Says on standard error which call on the disk failed, and why.
+pub fn explain_disk<R: Eprint>(rt: &R, fault: Option<&DiskFault>) {
+    if let Some(fault) = fault {
+        let _ = eprintln!(rt; "wsrm: {NAME}: {fault}");
+    }
+}
+
+// Says on standard error which call on the network failed, and why.
+fn explain_link<R: Eprint>(rt: &R, fault: Option<&LinkFault>) {
+    if let Some(fault) = fault {
+        let _ = eprintln!(rt; "wsrm: {fault}");
+    }
+}
+
+// The texts that were given, of which the first is the program's name.
+fn texts_of(alloc: Global, given: env::Args) -> Result<Items<Blob>, Memory> {
+    let mut texts = Items::new(alloc);
+    for text in given {
+        texts.push(Blob::from_slice(alloc, text.as_bytes())?)?;
+    }
+    Ok(texts)
+}

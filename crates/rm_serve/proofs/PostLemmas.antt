@@ -1,0 +1,232 @@
+-- Packets that are posted, one after the other.
+use Rattle.std.proofs.Common.{◌≡◌, ℕ, suc, Bool, List, [], ◌∷◌, ◌++◌, Option, Some, None, refl, sym, subst, ap, ◌∙◌}
+use Rattle.std.proofs.Common.{Result, Ok, Err, append_assoc, arith, zero, ◌<◌, ◌-◌}
+use Rattle.http_endpoint.specs.Targets.{target_of}
+use Rattle.rm_link.specs.Lines.{Net}
+use Rattle.rm_link.specs.Posts.{IsPost}
+use Rattle.rm_link.specs.declared.packet.Fate.{Fate}
+use Rattle.rm_node.specs.declared.error.NodeError.{NodeError}
+use Rattle.rm_node.specs.declared.error.NodeError.TheVariants as error
+use Rattle.rm_node.specs.declared.packets.Out.{Out}
+use Rattle.rm_node.specs.declared.step.Reaction.{Reaction}
+use Rattle.rm_serve.specs.Reacts.{Reacts, broke, crashed, reacted, slept, starving, took}
+use Rattle.rm_serve.specs.Posts.{Goes, Hears, HearsBy, Posting, Takes, heard_of, none_posted, with_post}
+use Rattle.rm_serve.specs.Posts.{all, asleep, broken, down, empty, failed, lost, over, quiet, starved, taken, wanting}
+use Rattle.rm_serve.specs.Steps.{MakesAll, Place, Stays, Step}
+use Rattle.rm_serve.proofs.StepLemmas.{no-step, then-all}
+use Rattle.rm_serve.specs.declared.posting.Posted.{Posted}
+
+-- what a response that was heard makes of one packet
+
+goes-taken : (moment : ℕ) (out : Out) (queue more : List Out) (posted : Posted) (old mid : Net) (fate : Fate)
+    (body : List ℕ) (steps : List Step) (result : Result (Unit {0}) NodeError)
+    → IsPost old mid (target_of out.address) fate → heard_of fate ≡ Some body
+    → Takes moment body queue more steps result → result ≡ Ok tt
+    → Goes moment out queue more posted old mid steps (Ok (with_post fate posted))
+goes-taken moment out queue more posted old mid fate body _ _ is heard (all content verdict reply outs reads same) e =
+    λ n new rest result after.
+    taken n out queue posted old mid new fate body rest result content verdict reply outs is heard reads
+    (subst (λ (q : List Out). Posting moment n q (with_post fate posted) mid new rest result) same after)
+goes-taken moment out queue more posted old mid fate body _ _ is heard (lost content verdict reply outs reads) e =
+    absurd cc
+goes-taken moment out queue more posted old mid fate body _ _ is heard starved e = absurd cc
+goes-taken moment out queue more posted old mid fate body _ _ is heard (failed content reads) e = absurd cc
+goes-taken moment out queue more posted old mid fate body _ _ is heard asleep e = absurd cc
+
+goes-by : (moment : ℕ) (out : Out) (queue more : List Out) (posted : Posted) (old mid : Net) (fate : Fate)
+    (steps : List Step) (h : Option (List ℕ))
+    → IsPost old mid (target_of out.address) fate → heard_of fate ≡ h
+    → HearsBy moment h queue more steps (Ok tt)
+    → Goes moment out queue more posted old mid steps (Ok (with_post fate posted))
+goes-by moment out queue more posted old mid fate steps None is heard hears = λ n new rest result after.
+    let on = subst (λ (q : List Out). Posting moment n q (with_post fate posted) mid new rest result) hears.0 after in
+    subst (λ (s : List Step). Posting moment (suc n) (out ∷ queue) posted old new (s ++ rest) result)
+    (sym hears.1) (quiet n out queue posted old mid new fate rest result is heard on)
+goes-by moment out queue more posted old mid fate steps (Some body) is heard hears =
+    goes-taken moment out queue more posted old mid fate body steps (Ok tt) is heard hears refl
+
+-- it was heard
+pub goes-on : (moment : ℕ) (out : Out) (queue more : List Out) (posted : Posted) (old mid : Net) (fate : Fate)
+    (steps : List Step)
+    → IsPost old mid (target_of out.address) fate → Hears moment fate queue more steps (Ok tt)
+    → Goes moment out queue more posted old mid steps (Ok (with_post fate posted))
+goes-on moment out queue more posted old mid fate steps is hears =
+    goes-by moment out queue more posted old mid fate steps (heard_of fate) is refl hears
+
+stops-taken : (moment : ℕ) (out : Out) (queue more : List Out) (posted : Posted) (old mid : Net) (fate : Fate)
+    (body : List ℕ) (steps : List Step) (result : Result (Unit {0}) NodeError) (e : NodeError)
+    → IsPost old mid (target_of out.address) fate → heard_of fate ≡ Some body
+    → Takes moment body queue more steps result → result ≡ Err e
+    → Goes moment out queue more posted old mid steps (Err e)
+stops-taken moment out queue more posted old mid fate body _ _ e is heard (all content verdict reply outs reads same)
+    f = absurd cc
+stops-taken moment out queue more posted old mid fate body _ _ e is heard (lost content verdict reply outs reads) f =
+    λ n. let same : e ≡ _ = cc in
+    rw same (taken n out queue posted old mid mid fate body [] _ content verdict reply outs is heard reads
+    (wanting n (queue ++ outs) (with_post fate posted) mid mid))
+stops-taken moment out queue more posted old mid fate body _ _ e is heard starved f =
+    λ n. let same : e ≡ _ = cc in rw same (wanting (suc n) (out ∷ queue) posted old mid)
+stops-taken moment out queue more posted old mid fate body _ _ e is heard (failed content reads) f =
+    λ n. let same : e ≡ _ = cc in rw same (broken n out queue posted old mid fate body content is heard reads)
+stops-taken moment out queue more posted old mid fate body _ _ e is heard asleep f =
+    λ n. let same : e ≡ _ = cc in rw same (down n out queue posted old mid fate body is heard)
+
+stops-by : (moment : ℕ) (out : Out) (queue more : List Out) (posted : Posted) (old mid : Net) (fate : Fate)
+    (steps : List Step) (h : Option (List ℕ)) (e : NodeError)
+    → IsPost old mid (target_of out.address) fate → heard_of fate ≡ h
+    → HearsBy moment h queue more steps (Err e)
+    → Goes moment out queue more posted old mid steps (Err e)
+stops-by moment out queue more posted old mid fate steps None e is heard hears = absurd cc
+stops-by moment out queue more posted old mid fate steps (Some body) e is heard hears =
+    stops-taken moment out queue more posted old mid fate body steps (Err e) e is heard hears refl
+
+-- it failed
+pub goes-no-further : (moment : ℕ) (out : Out) (queue more : List Out) (posted : Posted) (old mid : Net) (fate : Fate)
+    (steps : List Step) (e : NodeError)
+    → IsPost old mid (target_of out.address) fate → Hears moment fate queue more steps (Err e)
+    → Goes moment out queue more posted old mid steps (Err e)
+goes-no-further moment out queue more posted old mid fate steps e is hears =
+    stops-by moment out queue more posted old mid fate steps (heard_of fate) e is refl hears
+
+-- memory was wanting for a packet
+pub goes-wanting : (moment : ℕ) (out : Out) (queue : List Out) (posted : Posted) (old mid : Net)
+    → Goes moment out queue queue posted old mid [] (Err error.Memory)
+goes-wanting moment out queue posted old mid = λ n. wanting (suc n) (out ∷ queue) posted old mid
+
+-- ---- the whole row
+
+-- what was posted so far, and what is said of the whole by what is posted from here on
+pub record Far (tells : Bool) (moment : ℕ) (first now : Place) (outs queue : List Out) (posted : Posted) (left : ℕ)
+    (old mid : Net) : Type 0 where
+  pub steps : List Step
+  pub makes : MakesAll tells first now steps
+  pub goes : (new : Net) (more : List Step) (result : Result Posted NodeError)
+      → Posting moment left queue posted mid new more result
+      → Posting moment 256 outs none_posted old new (steps ++ more) result
+
+-- nothing yet
+pub far-first : (tells : Bool) (moment : ℕ) (first now : Place) (outs queue : List Out) (net : Net)
+    → Stays tells first now → queue ≡ outs
+    → Far tells moment first now outs queue none_posted 256 net net
+far-first tells moment first now outs queue net stays same = record {
+  steps = [];
+  makes = no-step tells first now stays;
+  goes = λ new more result after.
+      subst (λ (q : List Out). Posting moment 256 q none_posted net new more result) same after;
+}
+
+-- one packet more
+pub far-on : (tells : Bool) (moment : ℕ) (first mid now : Place) (outs queue rest more : List Out) (out : Out)
+    (posted next : Posted) (left less : ℕ) (old was is : Net) (steps : List Step)
+    → Far tells moment first mid outs queue posted left old was → left ≡ suc less → queue ≡ out ∷ rest
+    → MakesAll tells mid now steps → Goes moment out rest more posted was is steps (Ok next)
+    → Far tells moment first now outs more next less old is
+far-on tells moment first mid now outs queue rest more out posted next left less old was is steps far one same makes
+    goes = record {
+      steps = far.steps ++ steps;
+      makes = then-all tells first mid now far.steps steps far.makes makes;
+      goes = λ new more_steps result after.
+          subst (λ (s : List Step). Posting moment 256 outs none_posted old new s result)
+          (sym (append_assoc far.steps steps more_steps))
+          (far.goes new (steps ++ more_steps) result
+          (subst (λ (n : ℕ). Posting moment n queue posted was new (steps ++ more_steps) result) (sym one)
+          (subst (λ (q : List Out). Posting moment (suc less) q posted was new (steps ++ more_steps) result) (sym same)
+          (goes less new more_steps result after))));
+    }
+
+-- a number above 0 is one more than the number before it
+pub one-more : (n : ℕ) → 0 < n → n ≡ suc (n - 1)
+one-more zero above = absurd (omega (arith, above))
+one-more (suc n) above = let e : suc n - 1 ≡ n = omega arith in rw e refl
+
+-- what the whole comes to, by what is posted from here on
+abbrev pub Whole : Bool → ℕ → Place → Place → List Out → Net → Net → Result Posted NodeError → Type 0
+Whole tells moment first last outs old new result =
+    (steps : List Step) × MakesAll tells first last steps × Posting moment 256 outs none_posted old new steps result
+
+far-end : (tells : Bool) (moment : ℕ) (first now last : Place) (outs queue : List Out) (posted : Posted) (left : ℕ)
+    (old mid new : Net) (steps : List Step) (result : Result Posted NodeError)
+    → Far tells moment first now outs queue posted left old mid → MakesAll tells now last steps
+    → Posting moment left queue posted mid new steps result → Whole tells moment first last outs old new result
+far-end tells moment first now last outs queue posted left old mid new steps result far makes posting = (
+  far.steps ++ steps,
+  then-all tells first now last far.steps steps far.makes makes,
+  far.goes new steps result posting,
+)
+
+stands : (tells : Bool) (x : Place) → MakesAll tells x x []
+stands tells x = no-step tells x x (record { node = refl; told = λ t. refl })
+
+-- no packet is left
+pub far-empty : (tells : Bool) (moment : ℕ) (first now : Place) (outs queue : List Out) (posted : Posted) (left : ℕ)
+    (old mid : Net) → Far tells moment first now outs queue posted left old mid → queue ≡ []
+    → Whole tells moment first now outs old mid (Ok posted)
+far-empty tells moment first now outs queue posted left old mid far none =
+    far-end tells moment first now now outs queue posted left old mid mid [] (Ok posted) far (stands tells now)
+    (subst (λ (q : List Out). Posting moment left q posted mid mid [] (Ok posted)) (sym none) (empty left posted mid))
+
+-- so many were posted as may be
+pub far-over : (tells : Bool) (moment : ℕ) (first now : Place) (outs queue : List Out) (posted : Posted) (left : ℕ)
+    (old mid : Net) → Far tells moment first now outs queue posted left old mid → left ≡ 0
+    → Whole tells moment first now outs old mid (Ok posted)
+far-over tells moment first now outs queue posted left old mid far none =
+    far-end tells moment first now now outs queue posted left old mid mid [] (Ok posted) far (stands tells now)
+    (subst (λ (n : ℕ). Posting moment n queue posted mid mid [] (Ok posted)) (sym none) (over queue posted mid))
+
+-- it stops with a packet
+pub far-stop : (tells : Bool) (moment : ℕ) (first now last : Place) (outs queue rest more : List Out) (out : Out)
+    (posted : Posted) (left less : ℕ) (old was is : Net) (steps : List Step) (e : NodeError)
+    (result : Result Posted NodeError)
+    → Far tells moment first now outs queue posted left old was → left ≡ suc less → queue ≡ out ∷ rest
+    → MakesAll tells now last steps → Goes moment out rest more posted was is steps (Err e) → result ≡ Err e
+    → Whole tells moment first last outs old is result
+far-stop tells moment first now last outs queue rest more out posted left less old was is steps e result far one same
+    makes goes fails =
+    subst (λ (r : Result Posted NodeError). Whole tells moment first last outs old is r) (sym fails)
+    (far-end tells moment first now last outs queue posted left old was is steps (Err e) far makes
+    (subst (λ (n : ℕ). Posting moment n queue posted was is steps (Err e)) (sym one)
+    (subst (λ (q : List Out). Posting moment (suc less) q posted was is steps (Err e)) (sym same) (goes less))))
+
+-- ---- a body
+
+-- one packet more at the end of the queue
+pub queued : (q r rest less whole : List Out) (out : Out) → r ≡ q ++ out ∷ [] → rest ≡ out ∷ less → q ++ rest ≡ whole
+    → r ++ less ≡ whole
+queued q r rest less whole out pushed came is =
+    ap (λ (x : List Out). x ++ less) pushed ∙ (append_assoc q (out ∷ []) less
+    ∙ (ap (λ (x : List Out). q ++ x) (sym came) ∙ is))
+
+pub take-failed : (moment : ℕ) (bytes : List ℕ) (queue : List Out) (steps : List Step)
+    (r : Result Reaction NodeError) (e : NodeError) (s : Result (Unit {0}) NodeError)
+    → Reacts moment bytes steps r → r ≡ Err e → s ≡ Err e → Takes moment bytes queue queue steps s
+take-failed moment bytes queue _ _ e s (reacted content verdict reply outs reads) is gives = absurd cc
+take-failed moment bytes queue _ _ e s (crashed content reads) is gives =
+    let to : s ≡ Err error.Disk = cc in
+    subst (λ (x : Result (Unit {0}) NodeError). Takes moment bytes queue queue (broke moment content ∷ []) x) (sym to)
+    (failed content reads)
+take-failed moment bytes queue _ _ e s slept is gives =
+    let to : s ≡ Err error.Down = cc in
+    subst (λ (x : Result (Unit {0}) NodeError). Takes moment bytes queue queue [] x) (sym to) asleep
+take-failed moment bytes queue _ _ e s starving is gives =
+    let to : s ≡ Err error.Memory = cc in
+    subst (λ (x : Result (Unit {0}) NodeError). Takes moment bytes queue queue [] x) (sym to) starved
+
+pub take-lost : (moment : ℕ) (bytes : List ℕ) (queue more : List Out) (steps : List Step)
+    (r : Result Reaction NodeError) (x : Reaction) (s : Result (Unit {0}) NodeError)
+    → Reacts moment bytes steps r → r ≡ Ok x → s ≡ Err error.Memory → Takes moment bytes queue more steps s
+take-lost moment bytes queue more _ _ x s (reacted content verdict reply outs reads) is gives =
+    subst (λ (y : Result (Unit {0}) NodeError). Takes moment bytes queue more
+    (took moment content verdict reply outs ∷ []) y) (sym gives) (lost content verdict reply outs reads)
+take-lost moment bytes queue more _ _ x s (crashed content reads) is gives = absurd cc
+take-lost moment bytes queue more _ _ x s slept is gives = absurd cc
+take-lost moment bytes queue more _ _ x s starving is gives = absurd cc
+
+pub take-done : (moment : ℕ) (bytes : List ℕ) (queue more : List Out) (steps : List Step)
+    (r : Result Reaction NodeError) (x : Reaction)
+    → Reacts moment bytes steps r → r ≡ Ok x → more ≡ queue ++ x.outs → Takes moment bytes queue more steps (Ok tt)
+take-done moment bytes queue more _ _ x (reacted content verdict reply outs reads) is same =
+    let to : x ≡ record { verdict = verdict; reply = reply; outs = outs } = cc in
+    all content verdict reply outs reads (same ∙ ap (λ (y : Reaction). queue ++ y.outs) to)
+take-done moment bytes queue more _ _ x (crashed content reads) is same = absurd cc
+take-done moment bytes queue more _ _ x slept is same = absurd cc
+take-done moment bytes queue more _ _ x starving is same = absurd cc

@@ -1,0 +1,20 @@
+use Rattle.std.proofs.Common.{◌≡◌, ◌+◌, ◌≤◌}
+use Rattle.rm_serve.specs.Steps.{IsReady, place_of}
+use Rattle.rm_serve.proofs.PostLemmas.{Far}
+use Rattle.rm_serve.proofs.posting.post_due.Given as goal
+
+abbrev pub invariant-loop-left : goal.invariant-loop-left
+invariant-loop-left g l =
+    let net = g.L.Link.told in
+    record {
+      far : Far g.D.Disk.tells l.now (place_of (g.D.Disk.told l.fn.disk) l.fn.node)
+          (place_of (g.D.Disk.told l.disk) l.node) l.fn.outs l.queue.items l.posted l.left
+          (net l.fn.link) (net l.link);
+      count : l.posted.sent + l.posted.missed + l.left ≡ 256;
+      dials : l.posted.undialled ≤ l.posted.missed;
+      ready : IsReady g.D.Disk.tells (place_of (g.D.Disk.told l.disk) l.node);
+      faults : (g.D.Disk.told l.disk).faults ≡ (g.D.Disk.told l.fn.disk).faults;
+    }
+
+abbrev pub decreases-loop-left : goal.decreases-loop-left
+decreases-loop-left g l = l.left

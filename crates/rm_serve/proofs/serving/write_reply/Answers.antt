@@ -1,0 +1,45 @@
+use Rattle.std.proofs.Common.{◌≡◌, ◌≤◌, ℕ, List, Err, ap, ◌∙◌, inl, inr, refl, subst}
+use Rattle.std.specs.Io.KnownBytes.{Appends}
+use Rattle.rm_base.specs.Count.{Rose}
+use Rattle.rm_base.specs.Outside.{AppendsFront, Stream}
+use Rattle.http_endpoint.specs.Texts.{response_text}
+use Rattle.http_endpoint.specs.declared.error.HttpError.TheVariants as http
+use Rattle.rm_serve.proofs.ServeLemmas.{both-sides}
+use Rattle.rm_serve.proofs.serving.write_reply.Goals as goal
+
+pub returns-in-Ok : goal.returns-in-Ok
+returns-in-Ok g c =
+    let old = c.args.conn.now in
+    let new = c.write_response.new.out in
+    let one = g.met.C.Connection.one in
+    let whole = subst (λ (b : List ℕ). Appends (g.C.Sink.told old).held (g.C.Sink.told new).held
+    (response_text c.args.reply.now.status b)) c.as_slice.ensures c.in-Ok.ensures.ok in
+    record {
+      puts = inl (both-sides (λ (s t : Stream). Appends s.held t.held
+          (response_text c.args.reply.now.status c.args.reply.now.body)) _ _ _ _ (one old) (one new) whole);
+      ends = tt;
+      never_falls = both-sides (λ (s t : Stream). s.faults ≤ t.faults) _ _ _ _ (one old) (one new)
+          c.write_response.ensures.keeps.lasts.never_falls;
+    }
+
+pub returns-in-Err-WriteFault : goal.returns-in-Err-WriteFault
+returns-in-Err-WriteFault g c =
+    let old = c.args.conn.now in
+    let new = c.write_response.new.out in
+    let one = g.met.C.Connection.one in
+    let is : c.write_response.result ≡ Err http.WriteFault =
+    c.in-Err-WriteFault.is ∙ ap Err c.in-Err-WriteFault.field-0-is in
+    let rose = both-sides (λ (s t : Stream). Rose s.faults t.faults) _ _ _ _ (one old) (one new)
+    (c.write_response.ensures.keeps.failed is) in
+    let front = subst (λ (b : List ℕ). AppendsFront (g.C.Sink.told old).held (g.C.Sink.told new).held
+    (response_text c.args.reply.now.status b)) c.as_slice.ensures c.in-Err-WriteFault.ensures.err in
+    record {
+      puts = inr (
+        both-sides (λ (s t : Stream). AppendsFront s.held t.held
+            (response_text c.args.reply.now.status c.args.reply.now.body)) _ _ _ _ (one old) (one new) front,
+        rose,
+      );
+      ends = (refl, rose);
+      never_falls = both-sides (λ (s t : Stream). s.faults ≤ t.faults) _ _ _ _ (one old) (one new)
+          c.write_response.ensures.keeps.lasts.never_falls;
+    }

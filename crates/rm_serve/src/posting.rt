@@ -1,0 +1,199 @@
+//! Packets that leave a node: each is posted on a connection of its own, and what comes back is given to the node.
+ghost use Rattle.std.specs.Prelude.{◌≡◌, ◌≤◌, ◌<◌, ◌+◌, ◌++◌, List, IfOk, OnOk};
+ghost use Rattle.std.specs.Option.{option_map};
+ghost use Rattle.rm_disk.specs.Cause.{HasCause};
+ghost use Rattle.rm_node.specs.Ends.{is_disk};
+ghost use Rattle.rm_serve.specs.Posts.{Goes, Hears, IsNext, Posting, Takes, heard_of, none_posted, with_post};
+ghost use Rattle.rm_serve.specs.Steps.{IsReady, MakesAll, Step, place_of};
+
+use crate::taking;
+use rm_base::Memory;
+use rm_disk::Disk;
+use rm_link::{Fate, Link, post};
+use rm_node::{Node, NodeError, Out, Outs, Reaction};
+use std::alloc::Global;
+use std::collections::VecDeque;
+
+/// How many packets were posted well, how many were not, and to how many of these no connection was made.
+#[derive(Clone, Copy, Debug, PartialEq, Eq)]
+pub struct Posted {
+    pub sent: u32,
+    pub missed: u32,
+    pub undialled: u32,
+}
+
+/// How many packets one `post_due` handles.
+const MOST: u32 = 256;
+
+/// Posts packets, one after the other, and gives each response that has a body to the node. What the node hands out
+/// then is posted too, up to 256 packets in all.
+pub fn post_due<D: Disk, L: Link>(
+    alloc: Global,
+    node: &mut Node,
+    disk: &mut D,
+    link: &mut L,
+    now: u64,
+    outs: Outs,
+) -> Result<Posted, NodeError>
+    requires ready { IsReady D.tells (place_of (D.told disk.old) node.old) }
+    ensures posts { (steps : List Step) × MakesAll D.tells (place_of (D.told disk.old) node.old)
+        (place_of (D.told disk.new) node.new) steps
+        × Posting now 256 outs none_posted
+        (L.told link.old)
+        (L.told link.new) steps result }
+    ensures ready { IsReady D.tells (place_of (D.told disk.new) node.new) }
+    ensures cause { HasCause (D.told disk.old).faults (D.told disk.new).faults (is_disk result) }
+{
+    let mut queue = VecDeque::new(alloc);
+    push_all(&mut queue, outs)?;
+    let mut posted = Posted {
+        sent: 0,
+        missed: 0,
+        undialled: 0,
+    };
+    let mut left = MOST;
+    while left > 0 {
+        match next_packet(&mut queue) {
+            Some(out) => {
+                posted = post_one(alloc, node, disk, link, now, out, &mut queue, posted)?;
+                left -= 1;
+            }
+            None => return Ok(posted),
+        }
+    }
+    Ok(posted)
+}
+
+// The first packet of a queue, which leaves it, where there is one.
+fn next_packet(queue: &mut VecDeque<Out>) -> Option<Out>
+    ensures { IsNext queue.old.items queue.new.items result }
+{
+    queue.pop_front()
+}
+
+// Posts one packet, gives the response to the node, and puts what is handed out at the end of the queue.
+fn post_one<D: Disk, L: Link>(
+    alloc: Global,
+    node: &mut Node,
+    disk: &mut D,
+    link: &mut L,
+    now: u64,
+    out: Out,
+    queue: &mut VecDeque<Out>,
+    posted: Posted,
+) -> Result<Posted, NodeError>
+    requires ready { IsReady D.tells (place_of (D.told disk.old) node.old) }
+    requires room { posted.sent + posted.missed < 256 }
+    requires dials { posted.undialled ≤ posted.missed }
+    ensures goes { (steps : List Step) × MakesAll D.tells (place_of (D.told disk.old) node.old)
+        (place_of (D.told disk.new) node.new) steps
+        × Goes now out queue.old.items queue.new.items posted
+        (L.told link.old)
+        (L.told link.new) steps result }
+    ensures ready { IsReady D.tells (place_of (D.told disk.new) node.new) }
+    ensures count { IfOk result (λ p. p.sent + p.missed ≡ posted.sent + posted.missed + 1) }
+    ensures dials { IfOk result (λ p. p.undialled ≤ p.missed) }
+    ensures cause { HasCause (D.told disk.old).faults (D.told disk.new).faults (is_disk result) }
+{
+    let fate = post(alloc, link, &out.address, out.bytes.as_slice())?;
+    let next = counted(&fate, posted);
+    hear(alloc, node, disk, now, &fate, queue)?;
+    Ok(next)
+}
+
+// A packet more.
+fn counted(fate: &Fate, posted: Posted) -> Posted
+    requires room { posted.sent + posted.missed < 256 }
+    requires dials { posted.undialled ≤ posted.missed }
+    ensures is { result ≡ with_post fate.now posted }
+    ensures count { result.sent + result.missed ≡ posted.sent + posted.missed + 1 }
+    ensures dials { result.undialled ≤ result.missed }
+{
+    match fate {
+        Fate::Answered(_) => Posted {
+            sent: posted.sent + 1,
+            missed: posted.missed,
+            undialled: posted.undialled,
+        },
+        Fate::Missed => Posted {
+            sent: posted.sent,
+            missed: posted.missed + 1,
+            undialled: posted.undialled,
+        },
+        Fate::Undialled => Posted {
+            sent: posted.sent,
+            missed: posted.missed + 1,
+            undialled: posted.undialled + 1,
+        },
+    }
+}
+
+// Gives a response to the node, unless there is none or it is empty, and queues what is handed out.
+fn hear<D: Disk>(
+    alloc: Global,
+    node: &mut Node,
+    disk: &mut D,
+    now: u64,
+    fate: &Fate,
+    queue: &mut VecDeque<Out>,
+) -> Result<(), NodeError>
+    requires ready { IsReady D.tells (place_of (D.told disk.old) node.old) }
+    ensures hears { (steps : List Step) × MakesAll D.tells (place_of (D.told disk.old) node.old)
+        (place_of (D.told disk.new) node.new) steps
+        × Hears now fate.now queue.old.items queue.new.items steps result }
+    ensures ready { IsReady D.tells (place_of (D.told disk.new) node.new) }
+    ensures cause { HasCause (D.told disk.old).faults (D.told disk.new).faults (is_disk result) }
+{
+    match heard(fate) {
+        Some(bytes) => take(alloc, node, disk, now, bytes, queue),
+        None => Ok(()),
+    }
+}
+
+// The body of a response, where there is one that isn't empty.
+fn heard(fate: &Fate) -> Option<&[u8]>
+    ensures { option_map (λ bytes. bytes.now) result ≡ heard_of fate.now }
+{
+    match fate {
+        Fate::Answered(body) => {
+            if body.is_empty() {
+                return None;
+            }
+            Some(body.as_slice())
+        }
+        Fate::Missed => None,
+        Fate::Undialled => None,
+    }
+}
+
+// Gives bytes to the node, and queues what is handed out.
+fn take<D: Disk>(
+    alloc: Global,
+    node: &mut Node,
+    disk: &mut D,
+    now: u64,
+    bytes: &[u8],
+    queue: &mut VecDeque<Out>,
+) -> Result<(), NodeError>
+    requires ready { IsReady D.tells (place_of (D.told disk.old) node.old) }
+    ensures takes { (steps : List Step) × MakesAll D.tells (place_of (D.told disk.old) node.old)
+        (place_of (D.told disk.new) node.new) steps
+        × Takes now bytes.now queue.old.items queue.new.items steps result }
+    ensures ready { IsReady D.tells (place_of (D.told disk.new) node.new) }
+    ensures cause { HasCause (D.told disk.old).faults (D.told disk.new).faults (is_disk result) }
+{
+    let Reaction { outs, .. } = taking::hear(alloc, node, disk, now, bytes)?;
+    push_all(queue, outs)?;
+    Ok(())
+}
+
+// Puts packets at the end of the queue.
+fn push_all(queue: &mut VecDeque<Out>, outs: Outs) -> Result<(), Memory>
+    ensures { OnOk result (queue.new.items ≡ queue.old.items ++ outs) }
+{
+    let mut rest = outs.into_vec().into_iter();
+    while let Some(out) = rest.next() {
+        queue.push_back(out)?;
+    }
+    Ok(())
+}

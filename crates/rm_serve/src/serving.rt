@@ -1,0 +1,153 @@
+//! One connection that came: a request is read, its body given to the node, and the answer written.
+ghost use Rattle.std.specs.Prelude.{◌≡◌, List, IfErr, IfOk, OnOk, Some, None, [], false, ◌≤◌};
+ghost use Rattle.http_endpoint.specs.Texts.{IsWritten};
+ghost use Rattle.rm_answer.specs.Replies.{refusal_to as refusal_for};
+ghost use Rattle.rm_disk.specs.Cause.{HasCause};
+ghost use Rattle.rm_node.specs.Ends.{is_disk};
+ghost use Rattle.rm_serve.specs.Serves.{Answering, EndsWell, Puts, Serving, is_want, reply_text};
+ghost use Rattle.rm_serve.specs.Steps.{IsReady, MakesAll, Step, place_of};
+
+use crate::taking::hear;
+use http_endpoint::{HttpError, read_request, write_response};
+use rm_answer::{Reply, refusal_to, reply_to};
+use rm_base::{Blob, Connection, Memory};
+use rm_disk::Disk;
+use rm_node::{Node, NodeError, Outs, Reaction};
+use std::alloc::Global;
+
+/// How a connection ended: its request was answered, or it was given up for this error.
+#[derive(Clone, Copy, Debug, PartialEq, Eq)]
+pub enum ConnEnd {
+    Done,
+    Dropped(HttpError),
+}
+
+/// What came of a connection: the body that the node took, if it took one, what it hands out besides the answer, and
+/// how the connection ended.
+#[derive(Debug, Drop)]
+pub struct Served {
+    pub taken: Option<Blob>,
+    pub outs: Outs,
+    pub finish: ConnEnd,
+}
+
+/// Reads one request, gives its body to the node, and writes the answer.
+pub fn serve_one<D: Disk, C: Connection>(
+    alloc: Global,
+    node: &mut Node,
+    disk: &mut D,
+    conn: &mut C,
+    now: u64,
+) -> Result<Served, NodeError>
+    requires ready { IsReady D.tells (place_of (D.told disk.old) node.old) }
+    ensures serves { (steps : List Step) × MakesAll D.tells (place_of (D.told disk.old) node.old)
+        (place_of (D.told disk.new) node.new) steps
+        × Serving now (C.Source.told conn.old)
+        (C.Source.told conn.new) steps result }
+    ensures ready { IsReady D.tells (place_of (D.told disk.new) node.new) }
+    ensures cause { HasCause (D.told disk.old).faults (D.told disk.new).faults (is_disk result) }
+{
+    match read_request(alloc, conn) {
+        Ok(body) => answer(alloc, node, disk, conn, now, body),
+        Err(error) => refuse(alloc, conn, error),
+    }
+}
+
+// Gives a body to the node, and writes its answer.
+fn answer<D: Disk, C: Connection>(
+    alloc: Global,
+    node: &mut Node,
+    disk: &mut D,
+    conn: &mut C,
+    now: u64,
+    body: Blob,
+) -> Result<Served, NodeError>
+    requires ready { IsReady D.tells (place_of (D.told disk.old) node.old) }
+    ensures answers { (steps : List Step) × MakesAll D.tells (place_of (D.told disk.old) node.old)
+        (place_of (D.told disk.new) node.new) steps
+        × Answering now (C.Source.told conn.old)
+        (C.Source.told conn.new) body steps result }
+    ensures ready { IsReady D.tells (place_of (D.told disk.new) node.new) }
+    ensures cause { HasCause (D.told disk.old).faults (D.told disk.new).faults (is_disk result) }
+{
+    let Reaction {
+        verdict,
+        reply,
+        outs,
+    } = hear(alloc, node, disk, now, body.as_slice())?;
+    let reply = reply_to(alloc, verdict, reply);
+    let finish = write_reply(alloc, conn, &reply)?;
+    Ok(Served {
+        taken: Some(body),
+        outs,
+        finish,
+    })
+}
+
+// Writes a response.
+fn write_reply<C: Connection>(alloc: Global, conn: &mut C, reply: &Reply) -> Result<ConnEnd, Memory>
+    requires { IsWritten reply.now.status }
+    ensures puts { IfOk result (λ finish. Puts (C.Source.told conn.old)
+        (C.Source.told conn.new) (reply_text (Some reply.now))) }
+    ensures ends { IfOk result (EndsWell (C.Source.told conn.old)
+        (C.Source.told conn.new)) }
+    ensures never_falls { (C.Source.told conn.old).faults ≤ (C.Source.told conn.new).faults }
+{
+    match write_response(alloc, conn, reply.status, reply.body.as_slice()) {
+        Ok(()) => Ok(ConnEnd::Done),
+        Err(HttpError::WriteFault) => Ok(ConnEnd::Dropped(HttpError::WriteFault)),
+        Err(HttpError::Memory) => Err(Memory),
+        Err(_) => unreachable!(),
+    }
+}
+
+// Answers a request that could not be read, where it gets an answer. The error of the request is told, whatever comes
+// of its answer.
+fn refuse<C: Connection>(alloc: Global, conn: &mut C, error: HttpError) -> Result<Served, NodeError>
+    ensures is { IfOk result (λ served. served ≡ record { taken = None; outs = []; finish = ConnEnd.Dropped error }) }
+    ensures kind { OnOk result (is_want error ≡ false) }
+    ensures puts { OnOk result (Puts (C.Source.told conn.old)
+        (C.Source.told conn.new) (reply_text (refusal_for error))) }
+    ensures never_falls { (C.Source.told conn.old).faults ≤ (C.Source.told conn.new).faults }
+    ensures err { IfErr result (λ e. e ≡ NodeError.Memory) }
+{
+    if is_want(error) {
+        return Err(NodeError::Memory);
+    }
+    say(alloc, conn, error)?;
+    Ok(Served {
+        taken: None,
+        outs: Outs::new(alloc),
+        finish: ConnEnd::Dropped(error),
+    })
+}
+
+// Whether memory was wanting.
+fn is_want(error: HttpError) -> bool
+    ensures { result ≡ is_want error }
+{
+    match error {
+        HttpError::Memory => true,
+        HttpError::ReadFault => false,
+        HttpError::WriteFault => false,
+        HttpError::BadHead => false,
+        HttpError::TooLong { .. } => false,
+        HttpError::Unsupported { .. } => false,
+        HttpError::CutShort => false,
+    }
+}
+
+// Writes the answer to a request that could not be read, where it gets one.
+fn say<C: Connection>(alloc: Global, conn: &mut C, error: HttpError) -> Result<(), Memory>
+    ensures puts { OnOk result (Puts (C.Source.told conn.old)
+        (C.Source.told conn.new) (reply_text (refusal_for error))) }
+    ensures never_falls { (C.Source.told conn.old).faults ≤ (C.Source.told conn.new).faults }
+{
+    match refusal_to(alloc, error)? {
+        Some(reply) => {
+            write_reply(alloc, conn, &reply)?;
+            Ok(())
+        }
+        None => Ok(()),
+    }
+}

@@ -1,0 +1,95 @@
+//! A message from one node to another, by child processes.
+
+use std::alloc::Global;
+use std::io::{self, Write};
+use std::path::PathBuf;
+use std::process::{self, Command, Output, Stdio};
+use std::time::Duration;
+use std::{env, fs, thread};
+
+/// Where the server is reached.
+const SERVER: &str = "http://localhost:18473/";
+
+/// Where the client would be.
+const CLIENT: &str = "http://localhost:18474/";
+
+/// How often a message is sent at most until the server listens.
+const TRIES: u32 = 1000;
+
+/// The exit status of a command that found no connection.
+const LINK_FAULT: i32 = 7;
+
+/// Makes two nodes, sends a message while the one serves, and prints what each command printed.
+pub fn play(rt: &HostRuntime) -> io::Result<()> {
+    let server = folder(rt, "server")?;
+    show(rt, run(rt, &server, &["make", "1", SERVER], b"")?)?;
+    let serving = command(rt, &server, &["serve", "18473", "2", "dfg"])?
+        .stdout(Stdio::piped())
+        .spawn(rt)?;
+    show(rt, send(rt)?)?;
+    show(rt, serving.wait_with_output(rt.alloc())?)?;
+    show(rt, run(rt, &server, &["inbox", "1"], b"")?)?;
+    fs::remove_dir_all(rt, &server)
+}
+
+// Sends a message from a node that is just made, again from another one as long as the server does not listen.
+fn send(rt: &HostRuntime) -> io::Result<Output> {
+    for _turn in 0..TRIES {
+        let client = folder(rt, "client")?;
+        run(rt, &client, &["make", "2", CLIENT], b"")?;
+        let output = run(rt, &client, &["send", SERVER], b"<p>1</p>")?;
+        fs::remove_dir_all(rt, &client)?;
+        if output.status.code() != Some(LINK_FAULT) {
+            return Ok(output);
+        }
+        thread::sleep(rt, Duration::from_millis(10));
+    }
+    Err(io::Error::from(io::ErrorKind::TimedOut))
+}
+
+// A new folder for a node, whose name no other process uses.
+fn folder(rt: &HostRuntime, name: &str) -> io::Result<PathBuf> {
+    let place = env::temp_dir(rt)?;
+    let number = process::id(rt.process());
+    let folder = place.join(
+        rt.alloc(),
+        format!(in rt.alloc(); "wsrm-{number}-{name}")?.as_str(),
+    )?;
+    fs::create_dir(rt, &folder)?;
+    Ok(folder)
+}
+
+// This very program, by the name by which it was started.
+fn program(rt: &HostRuntime) -> io::Result<PathBuf> {
+    match env::args(rt)?.next() {
+        Some(name) => Ok(env::current_dir(rt)?.join(rt.alloc(), name.as_str())?),
+        None => Err(io::Error::from(io::ErrorKind::NotFound)),
+    }
+}
+
+// A command of this program in a folder.
+fn command(rt: &HostRuntime, folder: &PathBuf, words: &[&str]) -> io::Result<Command<Global>> {
+    let mut command = Command::new(rt.alloc(), program(rt)?)?;
+    command.current_dir(folder)?;
+    for word in words {
+        command.arg(*word)?;
+    }
+    Ok(command)
+}
+
+// Runs a command to its end, with this input.
+fn run(rt: &HostRuntime, folder: &PathBuf, words: &[&str], input: &[u8]) -> io::Result<Output> {
+    let mut child = command(rt, folder, words)?
+        .stdin(Stdio::piped())
+        .stdout(Stdio::piped())
+        .spawn(rt)?;
+    if let Some(mut stdin) = child.stdin.take() {
+        stdin.write_all(input)?;
+    }
+    child.wait_with_output(rt.alloc())
+}
+
+// Prints what a command printed.
+fn show(rt: &HostRuntime, output: Output) -> io::Result<()> {
+    rt.stdout().write_all(output.stdout.as_slice())
+}
