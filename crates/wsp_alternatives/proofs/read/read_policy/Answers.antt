@@ -1,0 +1,20 @@
+use Rattle.std.proofs.lemmas.Result.{err_from_is_err_and}
+use Rattle.soap_profile.specs.View.{element_view}
+use Rattle.soap_profile.specs.declared.tree.Element.{Element}
+use Rattle.wsp_alternatives.proofs.ReadLemmas.{refused, read_from}
+use Rattle.wsp_alternatives.specs.Reading.{policy_of}
+use Rattle.wsp_alternatives.specs.Tree.{policy_view}
+use Rattle.wsp_alternatives.proofs.read.read_policy.Goals as goal
+
+pub returns-in_err-root : goal.returns-in_err-root
+returns-in_err-root c =
+    let p = err_from_is_err_and c.from_residual.result c.from_residual.ensures.1 in
+    let why = c.in_err-root.ensures in
+    rw (p.1, p.2) (refused Element policy_of policy_view c.args.bytes.now c.in_err-root.field-0.0 why.too_long
+    why.not_utf8
+    why.not_profile why.no_version why.no_envelope)
+
+pub returns : goal.returns
+returns c =
+    read_from policy_of policy_view c.args.bytes.now (element_view c.in_ok-root.root) c.in_ok-root.ensures.ok
+    c.in_ok-root.ensures.fits c.policy_at.result c.policy_at.ensures

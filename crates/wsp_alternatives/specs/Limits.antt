@@ -1,0 +1,43 @@
+-- The limits of normal forms: 64 terms of a policy, 256 alternatives of each operator, over as many of its first
+-- policies as one
+-- likes.
+use Rattle.std.specs.Prelude.{◌≡◌, ◌↔◌, ℕ, ◌<◌, true, ◌⊎◌}
+use Rattle.std.specs.FinSet.{contains, len}
+use Rattle.wsp_alternatives.specs.Admits.{Admits}
+use Rattle.wsp_alternatives.specs.Sets.{TermSet, Choices}
+use Rattle.wsp_alternatives.specs.Tree.{Policy, Policies, all, exactly_one, assertion, none, and, first}
+use Rattle.wsp_alternatives.specs.declared.term.Term.{Term}
+
+-- a policy has more than so many alternatives: there are more sets that it admits
+abbrev pub HasMore : ℕ → Policy → Type 0
+HasMore n p = (c : Choices) × ((x : TermSet) → contains c x ≡ true → Admits p x) × (n < len c)
+
+-- so it is with an operator over some of its first policies, somewhere in the tree
+abbrev mutual
+  pub HasTooMany : ℕ → Policy → Type 0
+  HasTooMany n (assertion t optional) = ⊥
+  HasTooMany n (exactly_one ps) = OneHasTooMany n ps ⊎ ((k : ℕ) × HasMore n (exactly_one (first k ps)))
+  HasTooMany n (all ps) = OneHasTooMany n ps ⊎ ((k : ℕ) × HasMore n (all (first k ps)))
+
+  pub OneHasTooMany : ℕ → Policies → Type 0
+  OneHasTooMany n none = ⊥
+  OneHasTooMany n (and p ps) = HasTooMany n p ⊎ OneHasTooMany n ps
+
+-- a term stands in the policy
+abbrev mutual
+  pub Mentions : Policy → Term → Type 0
+  Mentions (assertion t optional) u = u ≡ t
+  Mentions (exactly_one ps) u = OneMentions ps u
+  Mentions (all ps) u = OneMentions ps u
+
+  pub OneMentions : Policies → Term → Type 0
+  OneMentions none u = ⊥
+  OneMentions (and p ps) u = Mentions p u ⊎ OneMentions ps u
+
+-- exactly the terms that stand in it
+abbrev pub AreTerms : Policy → TermSet → Type 0
+AreTerms p x = (t : Term) → Mentions p t ↔ (contains x t ≡ true)
+
+-- it has so many different terms
+abbrev pub HasTerms : Policy → ℕ → Type 0
+HasTerms p n = (x : TermSet) × AreTerms p x × (n ≡ len x)
