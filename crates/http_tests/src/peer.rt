@@ -35,13 +35,10 @@ impl Peer {
 }
 
 impl Source for Peer {
-    ghost use Rattle.std.specs.Prelude.{None, ◌^◌, ◌-◌};
+    ghost use Rattle.std.specs.Prelude.{◌^◌, ◌-◌};
+    ghost use Rattle.rm_base.specs.Outside.{untold};
 
-    ghost left = { λ _. None };
-
-    ghost faults = { λ _. 2 ^ 64 - 1 };
-
-    ghost taken = { λ _. 2 ^ 64 - 1 };
+    ghost told = { λ _. untold (2 ^ 64 - 1) (2 ^ 64 - 1) };
 
     fn read(&mut self, buf: &mut [u8]) -> Result<usize, Failed> {
         let start = self.at.min(self.bytes.len());
@@ -57,13 +54,10 @@ impl Source for Peer {
 }
 
 impl Sink for Peer {
-    ghost use Rattle.std.specs.Prelude.{None, ◌^◌, ◌-◌};
+    ghost use Rattle.std.specs.Prelude.{◌^◌, ◌-◌};
+    ghost use Rattle.rm_base.specs.Outside.{untold};
 
-    ghost held = { λ _. None };
-
-    ghost faults = { λ _. 2 ^ 64 - 1 };
-
-    ghost taken = { λ _. 2 ^ 64 - 1 };
+    ghost told = { λ _. untold (2 ^ 64 - 1) (2 ^ 64 - 1) };
 
     fn write(&mut self, bytes: &[u8]) -> Result<usize, SinkError> {
         match self.written.push_all(bytes) {
@@ -76,15 +70,7 @@ impl Sink for Peer {
 impl Connection for Peer {
     ghost use Rattle.std.specs.Prelude.{refl};
 
-    ghost one_left = { λ _. refl };
-
-    ghost one_held = { λ _. refl };
-
-    ghost one_taken = { λ _. refl };
-
-    ghost one_count = { λ _. refl };
-
-    ghost one_soundness = { λ _. refl };
+    ghost one = { λ _. refl };
 }
 
 /// So many times these bytes.

@@ -100,7 +100,10 @@ fn has_target(
     wanted: &Option<(&str, u16, &str)>,
 ) -> Result<bool, TextError> {
     let address = Uri::from_slice(alloc, text.as_bytes())?;
-    Ok(match (read_target(alloc, &address)?, wanted) {
+    let Ok(found) = read_target(alloc, &address) else {
+        return Ok(false);
+    };
+    Ok(match (found, wanted) {
         (Some(target), Some((host, port, path))) => is_target(&target, host, *port, path),
         (target, _) => target.is_none() & wanted.is_none(),
     })

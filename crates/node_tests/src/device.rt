@@ -64,11 +64,7 @@ impl Disk for Device {
 
     ghost tells = { false };
 
-    ghost past = { λ _. [] };
-
-    ghost fuse = { λ _. None };
-
-    ghost faults = { λ d. faults_of d.disk };
+    ghost told = { λ d. record { past = []; fuse = None; faults = faults_of d.disk } };
 
     ghost spare = { λ d. spare_of d.disk };
 

@@ -15,6 +15,8 @@ mod limits;
 #[cfg(test)]
 mod peer;
 #[cfg(test)]
+mod rows;
+#[cfg(test)]
 mod sources;
 #[cfg(test)]
 mod stops;

@@ -6,7 +6,7 @@ use rm_base::{Behaviour, Blob, Uri};
 use rm_destination::InPhase;
 use rm_elements::Lapse;
 use rm_message::FaultKind;
-use rm_node::{Made, MountError, Node, NodeError, Out, Outs, Reaction, Sent, Wish};
+use rm_node::{Call, Made, MountError, Node, NodeError, Out, Outs, Reaction, Sent, Wish};
 use rm_source::OutPhase;
 use std::alloc::Global;
 
@@ -83,12 +83,14 @@ impl Peer {
 
     /// Bytes come at moment 0.
     pub(crate) fn take(&mut self, bytes: &[u8]) -> Result<Reaction, NodeError> {
-        self.node.receive(&mut self.disk, 0, bytes)
+        self.node.step(&mut self.disk, 0, Call::Receive { bytes })
     }
 
     /// Bytes come at a moment: the verdict.
     pub(crate) fn judge(&mut self, now: u64, bytes: &[u8]) -> Result<Option<FaultKind>, NodeError> {
-        let reaction = self.node.receive(&mut self.disk, now, bytes)?;
+        let reaction = self
+            .node
+            .step(&mut self.disk, now, Call::Receive { bytes })?;
         Ok(reaction.verdict)
     }
 

@@ -1,5 +1,5 @@
 //! Assertions that ask for security of sequences.
-use crate::forms::{ASSERTION, POLICY, Place, asks_by, count_malformed};
+use crate::forms::{ASSERTION, POLICY, Place, asks_by};
 use rm_base::Memory;
 use std::alloc::Global;
 
@@ -54,29 +54,5 @@ const BEHIND: &[u8] =
 #[test]
 fn behind_a_delivery_assurance(rt: HostRuntime) -> Result<(), Memory> {
     assert!(rt; asks_by(rt.alloc(), POLICY, BEHIND, TOKEN)?);
-    Ok(())
-}
-
-const IN_POLICY: [&[u8]; 3] = [
-    b"<p:SequenceSTR/><p:DeliveryAssurance/>",
-    b"<p:SequenceSTR/>x",
-    b"<p:SequenceTransportSecurity/><p:Other/>",
-];
-
-const IN_ASSERTION: [&[u8]; 2] = [
-    b"<w:Policy><p:SequenceSTR/></w:Policy><w:Policy/>",
-    b"<p:InOrder/><w:Policy><p:SequenceSTR/></w:Policy>",
-];
-
-#[test]
-fn malformed_comes_first(rt: HostRuntime) -> Result<(), Memory> {
-    assert_eq!(rt;
-        count_malformed(rt.alloc(), POLICY, &IN_POLICY)?,
-        IN_POLICY.len()
-    );
-    assert_eq!(rt;
-        count_malformed(rt.alloc(), ASSERTION, &IN_ASSERTION)?,
-        IN_ASSERTION.len()
-    );
     Ok(())
 }

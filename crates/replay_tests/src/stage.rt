@@ -5,10 +5,10 @@ ghost use Rattle.rm_script.specs.Within.{IsWithin};
 
 use rm_base::{Blob, Memory};
 use rm_disk::MemDisk;
+use rm_network::MemWire;
 use rm_replay::{Stage, run_script};
 use rm_script::laws::values_are_within;
 use rm_script::{Event, ScriptError, read_script};
-use rm_wires::MemWire;
 use std::alloc::Global;
 
 /// The events of a script.
@@ -17,12 +17,6 @@ pub(crate) fn events_of(alloc: Global, script: &[u8]) -> Result<Vec<Event>, Scri
 {
     values_are_within();
     read_script(alloc, script)
-}
-
-/// The report of a script that is played over two disks and a wire in memory.
-pub(crate) fn played(alloc: Global, script: &[u8]) -> Result<Blob, ScriptError> {
-    let (report, _wire) = played_with_wire(alloc, script)?;
-    Ok(report)
 }
 
 /// The report of a script, and the wire behind its last line.
@@ -44,15 +38,6 @@ pub(crate) fn played_with_wire(
 pub(crate) fn joined(alloc: Global, pieces: &[&[u8]]) -> Result<Blob, Memory> {
     let mut bytes = Blob::new(alloc);
     for piece in pieces {
-        bytes.push_all(piece)?;
-    }
-    Ok(bytes)
-}
-
-/// A piece so many times.
-pub(crate) fn repeated(alloc: Global, piece: &[u8], count: u32) -> Result<Blob, Memory> {
-    let mut bytes = Blob::new(alloc);
-    for _ in 0..count {
         bytes.push_all(piece)?;
     }
     Ok(bytes)

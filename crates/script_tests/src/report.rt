@@ -4,8 +4,7 @@ use rm_base::{Behaviour, Blob};
 use rm_destination::InPhase;
 use rm_message::FaultKind;
 use rm_report::{
-    Line, Outcome, Place, Reason, fault_name, push_down, push_in, push_item, push_lines, push_out,
-    push_ranges,
+    Line, Outcome, Place, Reason, push_down, push_in, push_item, push_lines, push_out, push_ranges,
 };
 use rm_script::Side;
 use rm_source::OutPhase;
@@ -42,7 +41,7 @@ fn lines(rt: HostRuntime) -> Result<(), Fail> {
     let mut out = Blob::new(rt.alloc());
     push_lines(&mut out, &lines)?;
     assert_eq!(rt; out.as_slice(), want.as_slice());
-    assert_eq!(rt; fault_name(FaultKind::StoreFull), b"StoreFull".as_slice());
+    assert_eq!(rt; FaultKind::StoreFull.name(), b"StoreFull".as_slice());
     Ok(())
 }
 

@@ -1,6 +1,6 @@
 //! Tests of rm_script.
 use rm_base::{Behaviour, Blob, push_decimal, push_hex};
-use rm_script::{Event, ScriptError, Side, read_script};
+use rm_script::{Event, Side, read_script};
 use std::alloc::Global;
 use std::test::Fail;
 
@@ -127,63 +127,6 @@ fn all_lines(rt: HostRuntime) -> Result<(), Fail> {
     ];
     for (script, want) in cases {
         assert_eq!(rt; events_of(rt.alloc(), script)?.as_slice(), want);
-    }
-    Ok(())
-}
-
-#[test]
-fn bad_lines(rt: HostRuntime) -> Result<(), Fail> {
-    let cases: [(&[u8], u64); 44] = [
-        (b"create 1 expires -P1D", 1),
-        (b"send 1 1", 1),
-        (b"send 1 1 ", 1),
-        (b"\n#\nsend 1 257 x", 3),
-        (b"send 1 0 x\nsend", 1),
-        (b"create 1\ncreate 3\ncreate 4", 2),
-        (b"create 1 ", 1),
-        (b"create 1 expires ", 1),
-        (b"create 1 expires P1D ", 1),
-        (b"create 1 offer nod", 1),
-        (b"create 1 offer dfg expires P1D", 1),
-        (b"create 1 polled", 1),
-        (b"create 1  offer dfg", 1),
-        (b"grant 1", 1),
-        (b"grant 1 dfg ", 1),
-        (b"tick 1 200000000000001", 1),
-        (b"tick 1 -1", 1),
-        (b"tick 1 01", 1),
-        (b"tick 1 +1", 1),
-        (b"tick 1 18446744073709551616", 1),
-        (b"deliver 0", 1),
-        (b"deliver 65537", 1),
-        (b"deliver  1", 1),
-        (b"deliver 1\r\n", 1),
-        (b"deliver 1 ", 1),
-        (b"deliver -1", 1),
-        (b"deliver 99999999999999999999999", 1),
-        (b"deliver\t1", 1),
-        (b"Deliver 1", 1),
-        (b" deliver 1", 1),
-        (b"send 1 1\tx", 1),
-        (b"close 1 257", 1),
-        (b"end 1 0", 1),
-        (b"arm 1 0", 1),
-        (b"arm 1 1001", 1),
-        (b"crash 1 4", 1),
-        (b"noise 1 ", 1),
-        (b"noise 1 3", 1),
-        (b"noise 1 3g", 1),
-        (b" # x", 1),
-        (b" ", 1),
-        (b"\t", 1),
-        (b"\r\n", 1),
-        (b"deliver 1\n\xff\n", 2),
-    ];
-    for (script, line) in cases {
-        match read_script(rt.alloc(), script) {
-            Err(ScriptError::BadLine { line: found }) => assert_eq!(rt; found, line),
-            _ => return Err("no bad line".into()),
-        }
     }
     Ok(())
 }

@@ -1,6 +1,6 @@
 //! Envelopes, read.
 use rm_base::{Blob, Memory, Payload, push_decimal};
-use soap_frame::envelopes::{Envelope, read_envelope};
+use soap_envelope::{Envelope, read_envelope};
 use soap_profile::EnvelopeError;
 use std::alloc::Global;
 

@@ -1,8 +1,9 @@
 //! Tests of `soap_profile`.
+use rm_base::limits::ENVELOPE_BYTES;
 use rm_base::{Blob, Bytes, Memory, push_decimal};
 use soap_profile::{
-    Attr, Attrs, Element, EnvelopeError, Item, MAX_LENGTH, Name, Parts, Shared, check_payload,
-    is_part, read_element, strip,
+    Attr, Attrs, Element, EnvelopeError, Item, Name, Parts, Shared, check_payload, is_part,
+    read_element, strip,
 };
 use std::alloc::Global;
 
@@ -271,9 +272,9 @@ fn is_padded_refused(alloc: Global, len: usize, reason: EnvelopeError) -> Result
 
 #[test]
 fn a_document_has_a_greatest_length(rt: HostRuntime) {
-    assert!(rt; is_padded_taken(rt.alloc(), MAX_LENGTH) == Ok(true));
+    assert!(rt; is_padded_taken(rt.alloc(), ENVELOPE_BYTES) == Ok(true));
     let reason = EnvelopeError::TooLong { len: 2097153 };
-    assert!(rt; is_padded_refused(rt.alloc(), MAX_LENGTH + 1, reason) == Ok(true));
+    assert!(rt; is_padded_refused(rt.alloc(), ENVELOPE_BYTES + 1, reason) == Ok(true));
 }
 
 // Payloads, and whether they are closed.

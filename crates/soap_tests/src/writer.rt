@@ -1,7 +1,7 @@
 //! Elements, written.
 use rm_base::{Blob, Memory};
-use soap_nodes::markup::write_element;
 use soap_profile::{Element, EnvelopeError, read_element, strip};
+use soap_writer::write_element;
 use std::alloc::Global;
 
 fn read(alloc: Global, text: &[u8]) -> Result<Element, EnvelopeError> {

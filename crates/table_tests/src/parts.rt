@@ -1,13 +1,13 @@
 //! New tables, and the parts of records. What a test does stands in a helper that is lent the tables: the proof of a
 //! function that lets them go takes long.
 use node_tables::Tables;
+use record_batch::Record;
 use rm_base::{Blob, Ident, Items, Payload, Uri};
-use sequence_table::addressing::Epr;
-use sequence_table::batches::Record;
-use sequence_table::elements::Lapse;
+use rm_elements::Lapse;
 use soap_profile::Elements;
 use std::alloc::Global;
 use std::test::Fail;
+use wsa_headers::Epr;
 
 pub(crate) const NEVER: Lapse = Lapse { months: 0, ms: 0 };
 

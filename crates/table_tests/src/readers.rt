@@ -1,12 +1,12 @@
 //! What tables answer after a few records.
 use crate::parts::{NEVER, at_new, endpoint, ident, made, payload, uri};
 use node_tables::{Maker, Peer, TableError, Tables};
+use record_batch::{OwnOffer, PeerOffer, Record, Via};
 use rm_base::{Behaviour, Blob, Ident, Uri};
-use sequence_table::addressing::Epr;
-use sequence_table::batches::{OwnOffer, PeerOffer, Record, Via};
 use sequence_table::issue;
 use std::alloc::Global;
 use std::test::Fail;
+use wsa_headers::Epr;
 
 // Node 7 asks for sequence 1, and offers sequence 2.
 fn asked(alloc: Global) -> Result<Record, Fail> {

@@ -1,8 +1,8 @@
 //! Room that is made for records, also for records of sequences that others of them make.
 use crate::parts::{NEVER, at_new, endpoint, made, payload, uri};
 use node_tables::{TableError, Tables};
+use record_batch::{Record, Via};
 use rm_base::{Behaviour, Blob};
-use sequence_table::batches::{Record, Via};
 use std::alloc::Global;
 use std::test::Fail;
 

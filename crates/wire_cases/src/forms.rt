@@ -1,6 +1,8 @@
 //! What the tests share: envelopes in parts, what is read from them, and why they are refused.
+use message_reader::decode;
+use message_writer::encode;
 use rm_base::{Blob, Memory};
-use rm_wire::{DecodeError, FaultKind, Message, decode, encode};
+use rm_message::{DecodeError, FaultKind, Message};
 use std::alloc::Global;
 
 /// The start tag of an envelope in the form that is written.
@@ -56,15 +58,4 @@ pub fn is_refused(alloc: Global, document: &[u8], kind: FaultKind) -> bool {
         Ok(_) => false,
         Err(error) => is_refusal(&error, kind),
     }
-}
-
-/// Whether an envelope with these blocks and this body is refused for this.
-pub fn is_refused_with(
-    alloc: Global,
-    blocks: &[u8],
-    body: &[u8],
-    kind: FaultKind,
-) -> Result<bool, Memory> {
-    let text = envelope(alloc, blocks, body)?;
-    Ok(is_refused(alloc, text.as_slice(), kind))
 }

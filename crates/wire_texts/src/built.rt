@@ -1,12 +1,13 @@
 //! The acknowledgement of the first message of a sequence, from its values to its text and back.
 use crate::forms::{START, written};
 use ack_ranges::Range;
+use message_reader::decode;
 use rm_base::{Blob, Ident, Memory, TextError, Uri};
-use rm_wire::addressing::Addressing;
-use rm_wire::elements::{AckBlock, AckKind, Ranges};
-use rm_wire::{Acks, Body, Idents, Message, Names, decode};
+use rm_elements::{AckBlock, AckKind, Ranges};
+use rm_message::{Acks, Body, Idents, Message, Names};
 use soap_profile::Elements;
 use std::alloc::Global;
+use wsa_headers::Addressing;
 
 const TO: &[u8] = b"http://node1.example/";
 

@@ -1,7 +1,9 @@
 //! The faults that documents are answered with which are no message: where they go, and what they relate to.
 use crate::forms::{Document, Framed, envelope, is_written, written};
+use message_reader::decode;
+use message_writer::fault_message;
 use rm_base::{Blob, Memory};
-use rm_wire::{DecodeError, Refusal, decode, fault_message};
+use rm_message::{DecodeError, Refusal};
 use std::alloc::Global;
 
 // The text of the fault that a refusal is answered with.

@@ -1,6 +1,8 @@
 //! What the tests share: envelopes in parts, and what is read from them.
+use message_reader::decode;
+use message_writer::encode;
 use rm_base::{Blob, Memory};
-use rm_wire::{Message, decode, encode};
+use rm_message::Message;
 use std::alloc::Global;
 
 /// The start tag of an envelope in the form that is written.

@@ -2,12 +2,13 @@
 //! Binding, section 6, WS-ReliableMessaging 1.2, section 4, and WS-MakeConnection 1.1, section 4. The reasons are ours.
 use crate::forms::{is_written, written};
 use ack_ranges::Range;
+use message_writer::fault_message;
 use rm_base::{Blob, Ident, Memory, TextError, Uri};
-use rm_wire::addressing::Epr;
-use rm_wire::elements::{AckBlock, AckKind, Ranges};
-use rm_wire::{FaultKind, Names, Refusal, fault_message};
+use rm_elements::{AckBlock, AckKind, Ranges};
+use rm_message::{FaultKind, Names, Refusal};
 use soap_profile::{Elements, Name, Shared};
 use std::alloc::Global;
+use wsa_headers::Epr;
 
 // A kind, and the blocks and the body of its fault.
 type Row = (FaultKind, &'static [u8], &'static [u8]);

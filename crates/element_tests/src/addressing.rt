@@ -1,11 +1,11 @@
 //! Tests of `wsa_headers`. What a test does stands in a helper that answers a plain value, since a test with many steps
 //! is slow to prove.
 use rm_base::{Blob, Memory};
-use rm_elements::addressing::{
-    Addressing, AddressingError, Epr, read_addressing, read_epr, write_addressing, write_epr,
-};
 use soap_profile::{Element, Elements, EnvelopeError, Item, read_element};
 use std::alloc::Global;
+use wsa_headers::{
+    Addressing, AddressingError, Epr, read_addressing, read_epr, write_addressing, write_epr,
+};
 
 fn children(alloc: Global, element: Element) -> Result<Elements, Memory> {
     let mut children = Elements::new(alloc);

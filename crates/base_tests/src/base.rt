@@ -10,6 +10,7 @@ use rm_base::{
 use std::alloc::Global;
 use std::io::{Error, ErrorKind, Read, Write};
 use std::test::Fail;
+use std::time::{Clock as SystemClock, SystemTime, UNIX_EPOCH};
 
 const ABCDE: &[u8] = b"abcde";
 
@@ -534,10 +535,51 @@ fn stands_still() -> bool {
     (first == 1700000000000) & (still.now() == first)
 }
 
+// The system's time, in milliseconds since 1970 UTC.
+fn system_millis(system: &impl SystemClock) -> u64 {
+    let Ok(time) = SystemTime::now(system) else {
+        return 0;
+    };
+    match time.duration_since(UNIX_EPOCH) {
+        Ok(since) => since.as_millis().min(u64::MAX as u128) as u64,
+        Err(_) => 0,
+    }
+}
+
+// What a clock tells, where it lies between two readings of the system's time.
+fn told_between(clock: &mut impl Clock, system: &impl SystemClock) -> Option<u64> {
+    let before = system_millis(system);
+    let now = clock.now();
+    let after = system_millis(system);
+    if 0 < before && before <= now && now <= after {
+        return Some(now);
+    }
+    None
+}
+
+// Lets the system's time pass a moment.
+fn pass(moment: u64, system: &impl SystemClock) {
+    for _ in 0..100000000u32 {
+        if moment < system_millis(system) {
+            return;
+        }
+    }
+}
+
+// Whether one clock tells the system's time, and tells it again when it has gone on.
+fn goes_on(clock: &mut impl Clock, system: &impl SystemClock) -> bool {
+    let Some(first) = told_between(clock, system) else {
+        return false;
+    };
+    pass(first, system);
+    match told_between(clock, system) {
+        Some(second) => first < second,
+        None => false,
+    }
+}
+
 #[test]
 fn clocks(rt: HostRuntime) {
     assert!(rt; stands_still());
-    // The system's clock stands after 2020.
-    let now = StdClock::new(&rt).now();
-    assert!(rt; 1577836800000 < now, "at {now}");
+    assert!(rt; goes_on(&mut StdClock::new(&rt), &rt));
 }

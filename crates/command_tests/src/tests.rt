@@ -1,11 +1,12 @@
-//! What no clause says: the texts of worked runs, and that ample memory gives each status where its cause holds.
+//! What neither a clause nor a case says: that ample memory gives each status where its cause holds, for long inputs,
+//! and for reads, writes and packets that fail.
 ghost use Rattle.std.specs.Prelude.{None};
 
 use rm_base::{Blob, Items, MemSink, MemSource, Memory, Numbers, Sink, SinkError};
 use rm_command::{Stage, run};
 use rm_disk::MemDisk;
 use rm_journal::{Journal, JournalError};
-use rm_wires::{MemWire, Packet, Wire};
+use rm_network::{MemWire, Packet, Wire};
 use std::alloc::Global;
 use std::test::Fail;
 
@@ -90,12 +91,6 @@ fn begins(alloc: Global, given: Asked<'_>, status: u8, text: &[u8]) -> Result<bo
     Ok((ended == status) & out.as_slice().starts_with(text))
 }
 
-// Whether a run has this status and ends with this text.
-fn ends(alloc: Global, given: Asked<'_>, status: u8, text: &[u8]) -> Result<bool, Memory> {
-    let (ended, out) = run_whole(alloc, given)?;
-    Ok((ended == status) & out.as_slice().ends_with(text))
-}
-
 // Puts a piece down so many times.
 fn push_repeated(bytes: &mut Blob, piece: &[u8], count: u32) -> Result<(), Memory> {
     for _ in 0..count {
@@ -113,53 +108,6 @@ const ROW_REPORT: &[u8] =
         10 ok 7 5 8\n11 ok 8 5 8\n12 ok 9 5 8\nout 1 1 open accepted 3 acked 1-3\n\
         in 2 1 open dfg received 1-3 inbox 3 discarded 0\nitem 2 1 1 3c703e313c2f703e\n\
         item 2 1 2 3c703e323c2f703e\nitem 2 1 3 3c703e333c2f703e\n";
-
-// A script, and its report.
-const REPORTS: [(&[u8], &[u8]); 4] = [
-    (ROW, ROW_REPORT),
-    (b"", b""),
-    // the second of three messages is lost, and so is each acknowledgement
-    (
-        b"# lost\n\ncreate 1\ndeliver 1\ndeliver 2\nsend 1 1 <p>1</p>\nsend 1 1 <p>2</p>\nsend 1 1 <p>3</p>\n\
-        deliver 3\ndeliver 5",
-        b"3 ok 2 1 1\n4 ok 2 2 2\n5 ok 3 2 2\n6 ok 4 2 3\n7 ok 5 2 4\n8 ok 6 2 5\n9 ok 6 3 6\n10 ok 6 4 7\n\
-        out 1 1 open accepted 3 acked -\nin 2 1 open dfg received 1-1,3-3 inbox 1 discarded 0\n\
-        item 2 1 1 3c703e313c2f703e\n",
-    ),
-    // what comes is no message, and what is named is not there
-    (
-        b"noise 2 3c613e\ndeliver 1\ndeliver 9\nsend 1 1 <p>1</p>\n",
-        b"1 fault NotProfile 1 1 1\n2 ok 1 1 1\n3 no-packet 1 1 1\n4 no-sequence 1 1 1\n",
-    ),
-];
-
-#[test]
-fn reports(rt: HostRuntime) -> Result<(), Memory> {
-    for (script, report) in &REPORTS {
-        assert!(rt;
-            prints(rt.alloc(), given(REPLAY, script, None), 0, report)?,
-            "{script:?}"
-        );
-    }
-    Ok(())
-}
-
-// A script that sends so many payloads.
-fn sending(alloc: Global, count: u32) -> Result<Blob, Memory> {
-    let mut script = Blob::from_slice(alloc, b"create 1\ndeliver 1\ndeliver 2\n")?;
-    push_repeated(&mut script, b"send 1 1 <p>1</p>\n", count)?;
-    Ok(script)
-}
-
-const FULL: &[u8] = b"\n1027 ok 1027 2 1026\n1028 refused WindowFull 1027 2 1026\n\
-        out 1 1 open accepted 1024 acked -\nin 2 1 open dfg received - inbox 0 discarded 0\n";
-
-#[test]
-fn a_full_window(rt: HostRuntime) -> Result<(), Memory> {
-    let script = sending(rt.alloc(), 1025)?;
-    assert!(rt; ends(rt.alloc(), given(REPLAY, script.as_slice(), None), 0, FULL)?);
-    Ok(())
-}
 
 // A wire that finds no memory for its third packet.
 #[derive(Debug, Drop)]
@@ -315,73 +263,7 @@ fn padded(alloc: Global, spaces: u32) -> Result<Blob, Memory> {
     Ok(bytes)
 }
 
-// The envelope with this as its message number.
-fn numbered(alloc: Global, number: &[u8]) -> Result<Blob, Memory> {
-    let mut bytes = Blob::from_slice(alloc, &ENVELOPE[..NUMBER_AT])?;
-    bytes.push_all(number)?;
-    bytes.push_all(&ENVELOPE[NUMBER_AT + 4..])?;
-    Ok(bytes)
-}
-
-// The place of ` 07 ` in the envelope.
-const NUMBER_AT: usize = 391;
-
-// The envelope with one header block more.
-fn with_block(alloc: Global, block: &[u8]) -> Result<Blob, Memory> {
-    let mut bytes = Blob::from_slice(alloc, &ENVELOPE[..HEADER_END])?;
-    bytes.push_all(block)?;
-    bytes.push_all(&ENVELOPE[HEADER_END..])?;
-    Ok(bytes)
-}
-
-// The place of the end tag of Header in the envelope.
-const HEADER_END: usize = 428;
-
-// The bytes, the status, and how what is printed begins.
-const CHECKED: [(&[u8], u8, &[u8]); 6] = [
-    (ENVELOPE, 0, ENVELOPE_TEXT),
-    (b"<!DOCTYPE a><a/>", 9, b"fault NotProfile\n"),
-    (b"", 9, b"fault NotProfile\n"),
-    (b"<\xff", 9, b"fault NotUtf8\n"),
-    (
-        b"<Envelope xmlns=\"http://schemas.xmlsoap.org/soap/envelope/\"><Body/></Envelope>",
-        9,
-        b"fault WrongVersion\n",
-    ),
-    (
-        b"<e:Envelope xmlns:e=\"http://www.w3.org/2003/05/soap-envelope\"/>",
-        9,
-        b"fault NotEnvelope\n",
-    ),
-];
-
-// The message number, and the same.
-const NUMBERED: [(&[u8], u8, &[u8]); 3] = [
-    (
-        b"9223372036854775807",
-        0,
-        b"kind payload\nto http://www.w3.org/2005/08/addressing/anonymous\naction urn:buy&sell\n\
-        sequence urn:q 9223372036854775807\n",
-    ),
-    (b"9223372036854775808", 9, b"fault Rollover\n"),
-    (b"0", 9, b"fault Malformed\n"),
-];
-
-// The header block, and the same.
-const BLOCKS: [(&[u8], u8, &[u8]); 2] = [
-    (
-        b"<x:h xmlns:x=\"urn:x\" S:mustUnderstand=\"0\"/>",
-        0,
-        ENVELOPE_TEXT,
-    ),
-    (
-        b"<x:h xmlns:x=\"urn:x\" S:mustUnderstand=\"1\"/>",
-        9,
-        b"fault NotUnderstood\n",
-    ),
-];
-
-// The count of spaces in the payload, and the same.
+// The count of spaces in the payload, the status, and how what is printed begins.
 const PADDED: [(u32, u8, &[u8]); 2] = [
     (
         2096986,
@@ -391,122 +273,15 @@ const PADDED: [(u32, u8, &[u8]); 2] = [
     (2096987, 8, b"too long\n"),
 ];
 
-fn is_number_checked(alloc: Global, row: &(&[u8], u8, &[u8])) -> Result<bool, Memory> {
-    let input = numbered(alloc, row.0)?;
-    begins(alloc, given(CHECK, input.as_slice(), None), row.1, row.2)
-}
-
-fn is_block_checked(alloc: Global, row: &(&[u8], u8, &[u8])) -> Result<bool, Memory> {
-    let input = with_block(alloc, row.0)?;
-    begins(alloc, given(CHECK, input.as_slice(), None), row.1, row.2)
-}
-
 fn is_padding_checked(alloc: Global, row: &(u32, u8, &[u8])) -> Result<bool, Memory> {
     let input = padded(alloc, row.0)?;
     begins(alloc, given(CHECK, input.as_slice(), None), row.1, row.2)
 }
 
 #[test]
-fn checks(rt: HostRuntime) -> Result<(), Memory> {
-    let cut = ENVELOPE.split_at(ENVELOPE.len() - 1).0;
-    assert!(rt;
-        begins(
-            rt.alloc(),
-            given(CHECK, cut, None),
-            9,
-            b"fault NotProfile\n"
-        )?
-    );
-    for (input, status, text) in &CHECKED {
-        assert!(rt;
-            begins(rt.alloc(), given(CHECK, input, None), *status, text)?,
-            "before {text:?}"
-        );
-    }
-    Ok(())
-}
-
-#[test]
-fn checks_numbers_and_blocks(rt: HostRuntime) -> Result<(), Memory> {
-    for row in &NUMBERED {
-        assert!(rt; is_number_checked(rt.alloc(), row)?, "before {:?}", row.2);
-    }
-    for row in &BLOCKS {
-        assert!(rt; is_block_checked(rt.alloc(), row)?, "before {:?}", row.2);
-    }
-    Ok(())
-}
-
-#[test]
 fn checks_up_to_a_length(rt: HostRuntime) -> Result<(), Memory> {
     for row in &PADDED {
         assert!(rt; is_padding_checked(rt.alloc(), row)?, "before {:?}", row.2);
-    }
-    Ok(())
-}
-
-const HEAD: &[u8] = b"<Envelope xmlns=\"http://www.w3.org/2003/05/soap-envelope\" \
-        xmlns:a=\"http://www.w3.org/2005/08/addressing\" \
-        xmlns:r=\"http://docs.oasis-open.org/ws-rx/wsrm/200702\" \
-        xmlns:c=\"http://docs.oasis-open.org/ws-rx/wsmc/200702\"><Header>";
-
-const TAIL: &[u8] = b"</Header><Body>";
-
-// Of each kind of message: the header blocks, what stands in Body, and what is printed, which is its lines, but for
-// those of the addressing properties and of bindings.
-const KINDS: [(&[u8], &[u8], &[u8]); 4] = [
-    (
-        b"<a:Action>http://docs.oasis-open.org/ws-rx/wsrm/200702/SequenceAcknowledgement</a:Action>\
-            <r:SequenceAcknowledgement><r:Identifier>urn:q</r:Identifier>\
-            <r:AcknowledgementRange Lower=\"4\" Upper=\"5\"/><r:AcknowledgementRange Lower=\"1\" Upper=\"2\"/>\
-            <r:Final/></r:SequenceAcknowledgement><r:SequenceAcknowledgement>\
-            <r:Identifier>urn:n</r:Identifier><r:Nack>3</r:Nack><r:Nack>9</r:Nack></r:SequenceAcknowledgement>\
-            <r:AckRequested><r:Identifier>urn:q z</r:Identifier></r:AckRequested>\
-            <c:MessagePending pending=\"true\"/>",
-        b"",
-        b"kind empty\nto http://www.w3.org/2005/08/addressing/anonymous\n\
-            action http://docs.oasis-open.org/ws-rx/wsrm/200702/SequenceAcknowledgement\n\
-            ack urn:q 4-5,1-2 final\nack urn:n nack 3,9\nask urn:q%20z\npending true\n",
-    ),
-    (
-        b"<a:To>urn:t</a:To><a:Action>http://docs.oasis-open.org/ws-rx/wsrm/200702/CreateSequence</a:Action>\
-            <a:MessageID>urn:m</a:MessageID>",
-        b"<r:CreateSequence><r:AcksTo><a:Address>urn:b</a:Address></r:AcksTo></r:CreateSequence>",
-        b"kind create\nto urn:t\naction http://docs.oasis-open.org/ws-rx/wsrm/200702/CreateSequence\nid urn:m\n",
-    ),
-    (
-        b"<a:Action>http://docs.oasis-open.org/ws-rx/wsrm/200702/CloseSequence</a:Action>",
-        b"<r:CloseSequence><r:Identifier>urn:q</r:Identifier><r:LastMsgNumber>3</r:LastMsgNumber>\
-            </r:CloseSequence>",
-        b"kind close\nto http://www.w3.org/2005/08/addressing/anonymous\n\
-            action http://docs.oasis-open.org/ws-rx/wsrm/200702/CloseSequence\nident urn:q\nlast 3\n",
-    ),
-    (
-        b"<a:Action>http://www.w3.org/2005/08/addressing/soap/fault</a:Action><a:RelatesTo>urn:m</a:RelatesTo>",
-        b"<Fault><Code><Value>Sender</Value></Code><Reason><Text xml:lang=\"en\">no</Text></Reason></Fault>",
-        b"kind fault\nto http://www.w3.org/2005/08/addressing/anonymous\n\
-            action http://www.w3.org/2005/08/addressing/soap/fault\nrelates urn:m\ncode Sender\n",
-    ),
-];
-
-// The message with these header blocks and this in its Body.
-fn message(alloc: Global, blocks: &[u8], body: &[u8]) -> Result<Blob, Memory> {
-    let mut text = Blob::new(alloc);
-    for piece in [HEAD, blocks, TAIL, body, b"</Body></Envelope>"] {
-        text.push_all(piece)?;
-    }
-    Ok(text)
-}
-
-fn is_kind_checked(alloc: Global, row: &(&[u8], &[u8], &[u8])) -> Result<bool, Memory> {
-    let input = message(alloc, row.0, row.1)?;
-    prints(alloc, given(CHECK, input.as_slice(), None), 0, row.2)
-}
-
-#[test]
-fn kinds_of_messages(rt: HostRuntime) -> Result<(), Memory> {
-    for row in &KINDS {
-        assert!(rt; is_kind_checked(rt.alloc(), row)?, "before {:?}", row.2);
     }
     Ok(())
 }
@@ -518,56 +293,9 @@ const ASSERTION: &[u8] =
 
 const ASSERTION_TEXT: &[u8] = b"assurance exactly-once\nin-order yes\noptional yes\ngranted yes\n";
 
-const SECURED: &[u8] = b"<p:RMAssertion xmlns:p=\"http://docs.oasis-open.org/ws-rx/wsrmp/200702\" \
-        xmlns:w=\"http://www.w3.org/ns/ws-policy\" w:Optional=\"true\"><w:Policy><p:SequenceSTR/><p:DeliveryAssurance>\
-        <w:Policy><p:ExactlyOnce/><p:InOrder/></w:Policy></p:DeliveryAssurance></w:Policy></p:RMAssertion>";
-
 const BARE: &[u8] = b"<RMAssertion xmlns='http://docs.oasis-open.org/ws-rx/wsrmp/200702'/>";
 
 const UNSAID: &[u8] = b"assurance unsaid\nin-order no\noptional no\ngranted yes\n";
-
-// The bytes, the status, and what is printed.
-const POLICIES: [(&[u8], u8, &[u8]); 10] = [
-    (ASSERTION, 0, ASSERTION_TEXT),
-    (SECURED, 9, b"fault SecurityUnsupported\n"),
-    (b"", 9, b"fault NotProfile\n"),
-    (b"<a/>", 9, b"fault Malformed\n"),
-    (b"<\xff", 9, b"fault NotUtf8\n"),
-    (BARE, 0, UNSAID),
-    (ENVELOPE, 9, b"fault Malformed\n"),
-    (
-        b"<RMAssertion xmlns='http://docs.oasis-open.org/ws-rx/wsrmp/200702'><Policy \
-            xmlns='http://schemas.xmlsoap.org/ws/2004/09/policy'><DeliveryAssurance \
-            xmlns='http://docs.oasis-open.org/ws-rx/wsrmp/200702'><Policy xmlns='http://www.w3.org/ns/ws-policy'\
-            ><AtLeastOnce xmlns='http://docs.oasis-open.org/ws-rx/wsrmp/200702'/></Policy></DeliveryAssurance>\
-            </Policy></RMAssertion>",
-        0,
-        b"assurance at-least-once\nin-order no\noptional no\ngranted no\n",
-    ),
-    (
-        b"<RMAssertion xmlns='http://docs.oasis-open.org/ws-rx/wsrmp/200702' \
-            xmlns:w='http://www.w3.org/ns/ws-policy' w:Optional='false'><w:Policy><DeliveryAssurance><w:Policy>\
-            <AtMostOnce/><InOrder/></w:Policy></DeliveryAssurance></w:Policy></RMAssertion>",
-        0,
-        b"assurance at-most-once\nin-order yes\noptional no\ngranted no\n",
-    ),
-    (
-        b"<RMAssertion xmlns='http://docs.oasis-open.org/ws-rx/wsrmp/200702'>x</RMAssertion>",
-        9,
-        b"fault Malformed\n",
-    ),
-];
-
-#[test]
-fn policies(rt: HostRuntime) -> Result<(), Memory> {
-    for (input, status, text) in &POLICIES {
-        assert!(rt;
-            prints(rt.alloc(), given(POLICY, input, None), *status, text)?,
-            "before {text:?}"
-        );
-    }
-    Ok(())
-}
 
 // An assertion behind so many spaces.
 fn behind_spaces(alloc: Global, spaces: u32) -> Result<Blob, Memory> {
@@ -599,9 +327,9 @@ struct Narrow {
 }
 
 impl Sink for Narrow {
-    ghost held = { λ _. None };
+    ghost use Rattle.rm_base.specs.Outside.{untold};
 
-    ghost faults = { λ s. s.faults };
+    ghost told = { λ s. untold 0 s.faults };
 
     fn write(&mut self, bytes: &[u8]) -> Result<usize, SinkError> {
         if self.calls_left == 0 {

@@ -1,6 +1,6 @@
 //! Tests of a wire in memory.
 
-use rm_wires::{MemWire, Wire};
+use rm_network::{MemWire, Wire};
 use std::test::Fail;
 
 #[test]
