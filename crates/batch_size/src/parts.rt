@@ -21,8 +21,7 @@ ghost use Rattle.batch_size.specs.Typed.{IsPeerOfferTyped};
 
 use ack_ranges::RangeSet;
 use record_batch::{OwnOffer, PeerOffer};
-use rm_base::{Binding, Blob, Ident, Memory, Payload, Uri};
-use rm_elements::Lapse;
+use rm_base::{Binding, Blob, Ident, Lapse, Memory, Payload, Uri};
 use soap_profile::Element;
 use soap_writer::write_element;
 use std::alloc::Global;

@@ -16,8 +16,7 @@ use crate::parts::{
 };
 use ack_ranges::RangeSet;
 use record_batch::{OwnOffer, PeerOffer, Record};
-use rm_base::{Blob, Ident, Memory, Payload, Uri};
-use rm_elements::Lapse;
+use rm_base::{Blob, Ident, Lapse, Memory, Payload, Uri};
 use std::alloc::Global;
 use wsa_headers::Epr;
 

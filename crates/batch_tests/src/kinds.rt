@@ -3,8 +3,7 @@ use crate::parts::{
     NEVER, accepted, acked, endpoint, ident, is_written, is_written_again, received, uri,
 };
 use record_batch::{OwnOffer, PeerOffer, Record, Via, read_batch};
-use rm_base::{Behaviour, Binding, Blob, Cause, Items, Memory, Payload};
-use rm_elements::Lapse;
+use rm_base::{Behaviour, Binding, Blob, Cause, Items, Lapse, Memory, Payload};
 use std::alloc::Global;
 use std::test::Fail;
 

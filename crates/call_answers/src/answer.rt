@@ -1,7 +1,6 @@
 //! What a call of a node comes to.
 use record_batch::{Record, Via};
-use rm_base::{Behaviour, Uri};
-use rm_elements::Lapse;
+use rm_base::{Behaviour, Lapse, Uri};
 use rm_message::{FaultKind, Message};
 
 /// Why a call is refused, in the order in which it is tested. Of a full window or node: how many messages wait for an

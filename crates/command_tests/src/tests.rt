@@ -3,10 +3,11 @@
 ghost use Rattle.std.specs.Prelude.{None};
 
 use rm_base::{Blob, Items, MemSink, MemSource, Memory, Numbers, Sink, SinkError};
-use rm_command::{Stage, run};
+use rm_command::run;
 use rm_disk::MemDisk;
 use rm_journal::{Journal, JournalError};
 use rm_network::{MemWire, Packet, Wire};
+use rm_replay::Stage;
 use std::alloc::Global;
 use std::test::Fail;
 

@@ -1,8 +1,8 @@
 //! Tests of `rm_elements`. What a test does stands in a helper that answers a plain value, since a test with many steps
 //! is slow to prove.
-use rm_base::{Blob, Memory};
+use rm_base::{Blob, Lapse, Memory};
 use rm_elements::{
-    ElementError, Header, Lapse, Lifecycle, deadline, read_duration, read_header, read_lifecycle,
+    ElementError, Header, Lifecycle, deadline, read_duration, read_header, read_lifecycle,
     write_header, write_lifecycle,
 };
 use soap_profile::{Element, EnvelopeError, read_element};

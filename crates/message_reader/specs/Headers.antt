@@ -2,7 +2,8 @@
 -- Part 1 (5.4.8) say, beside those of WS-Addressing.
 use Rattle.std.specs.Prelude.{ℕ, List, [], ◌∷◌, Bool, Option, Some, None, Result, Ok, Err, codes}
 use Rattle.std.specs.List.{flat_map}
-use Rattle.soap_profile.specs.Tree.{Binding, Element, attrs_of}
+use Rattle.soap_profile.specs.Tree.{Element, attrs_of}
+use Rattle.rm_base.specs.declared.message.Binding.{Binding}
 use Rattle.soap_profile.specs.declared.name.Expanded.{Expanded}
 use Rattle.soap_values.specs.Children.{name_in, value_among}
 use Rattle.soap_values.specs.Outcome.{◌>>=◌, optional, each, if_present}

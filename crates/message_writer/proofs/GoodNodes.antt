@@ -14,7 +14,7 @@ use Rattle.rm_base.specs.declared.message.Binding.{Binding}
 use Rattle.soap_lex.specs.Characters.{IsChars, IsName}
 use Rattle.soap_lex.specs.Scalars.{name_each}
 use Rattle.soap_document.specs.Grammar.{max_depth}
-use Rattle.soap_document.specs.Tokens.{is_nil}
+use Rattle.soap_lex.specs.Tests.{is_nil}
 use Rattle.soap_profile.specs.Namespaces.{xml_space, xmlns_space, may_bind}
 use Rattle.soap_profile.specs.Tree.{Element}
 use Rattle.soap_profile.specs.declared.name.Expanded.{Expanded}

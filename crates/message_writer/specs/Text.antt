@@ -5,7 +5,7 @@ use Rattle.std.specs.Prelude.{option_map}
 use Rattle.std.specs.List.{flat_map}
 use Rattle.std.specs.Option.{option_to_list}
 use Rattle.std.specs.Str.{bytes_eq}
-use Rattle.soap_document.specs.Tokens.{is_nil}
+use Rattle.soap_lex.specs.Tests.{is_nil}
 use Rattle.soap_profile.specs.Namespaces.{xml_space}
 use Rattle.soap_profile.specs.Tree.{Element}
 use Rattle.soap_profile.specs.declared.name.Expanded.{Expanded}

@@ -1,7 +1,7 @@
 //! Names in values: the name of a header that was not understood, and a subcode.
 ghost use Rattle.std.specs.Prelude.{◌≡◌, ◌++◌, IfOk, OnOk};
 ghost use Rattle.std.specs.Str.{bytes_eq};
-ghost use Rattle.soap_document.specs.Tokens.{is_nil};
+ghost use Rattle.soap_lex.specs.Tests.{is_nil};
 ghost use Rattle.soap_profile.specs.Namespaces.{xml_space};
 ghost use Rattle.soap_nodes.specs.Node.{notes_text};
 ghost use Rattle.message_writer.specs.Text.{qname as qname_text, qname_notes};

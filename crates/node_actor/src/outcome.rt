@@ -6,9 +6,10 @@ ghost use Rattle.node_actor.specs.Comes.{ComesOut, IsTold};
 ghost use Rattle.node_actor.specs.Outcomes.{answer_told, refusal_told};
 
 use crate::actor::Came;
+use call_answers::Cause;
 use rm_base::Memory;
 use rm_message::FaultKind;
-use rm_node::{Cause, NodeError, Outs, Reaction};
+use rm_node::{NodeError, Outs, Reaction};
 use rm_report::{Outcome, Reason};
 use std::alloc::Global;
 

@@ -6,7 +6,7 @@ use Rattle.std.specs.Option.{option_or}
 use Rattle.std.proofs.lemmas.Bool.{eq-eqb}
 use Rattle.std.proofs.lemmas.List.{length-append}
 use Rattle.rm_base.specs.Numbered.{numbered}
-use Rattle.rm_elements.specs.declared.lapse.Lapse.{Lapse}
+use Rattle.rm_base.specs.declared.lapse.Lapse.{Lapse}
 use Rattle.rm_elements.specs.declared.lifecycle.Lifecycle.TheVariants as life
 use Rattle.rm_elements.specs.declared.lifecycle.Offer.{Offer}
 use Rattle.rm_source.specs.declared.phase.OutPhase.{OutPhase}

@@ -10,8 +10,7 @@ ghost use Rattle.node_laws.specs.Records.{IsOfferKept, KeepsLimits};
 
 use crate::endpoints::is_endpoint_kept;
 use record_batch::{PeerOffer, Record};
-use rm_base::{Blob, Memory};
-use rm_elements::Lapse;
+use rm_base::{Blob, Lapse, Memory};
 use soap_profile::check_payload;
 use std::alloc::Global;
 use wsa_headers::Epr;

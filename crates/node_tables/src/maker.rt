@@ -8,8 +8,7 @@ ghost use Rattle.node_tables.specs.Reads.{maker_seen};
 
 use crate::note::Origin;
 use record_batch::{Record, Via};
-use rm_base::{Behaviour, Ident, Uri};
-use rm_elements::Lapse;
+use rm_base::{Behaviour, Ident, Lapse, Uri};
 use wsa_headers::Epr;
 
 /// How a sequence came to be, as the record that made it has it: WS-ReliableMessaging 1.2, section 3.4. Asked: with

@@ -9,8 +9,7 @@ ghost use Rattle.node_tables.specs.Reads.{maker_seen};
 use crate::maker::Maker;
 use crate::tables::Tables;
 use record_batch::Via;
-use rm_base::Uri;
-use rm_elements::Lapse;
+use rm_base::{Lapse, Uri};
 use wsa_headers::Epr;
 
 /// Where messages to the peer of a sequence go: a node knows the address alone of one that it asked for a sequence.

@@ -1,6 +1,7 @@
 //! What a node refuses.
 use crate::peer::{Peer, at_first, at_second};
-use rm_node::{Cause, NodeError};
+use call_answers::Cause;
+use rm_node::NodeError;
 use std::test::Fail;
 
 // The answer of a call that is refused.

@@ -1,12 +1,13 @@
 //! A node on its disk, and the first calls of a test.
 use crate::device::Device;
 use crate::texts::{FIRST_OF_1, FIRST_OF_2, message, request, response};
+use call_answers::Wish;
+use node_store::MountError;
 use record_batch::Via;
-use rm_base::{Behaviour, Blob, Uri};
+use rm_base::{Behaviour, Blob, Lapse, Uri};
 use rm_destination::InPhase;
-use rm_elements::Lapse;
 use rm_message::FaultKind;
-use rm_node::{Call, Made, MountError, Node, NodeError, Out, Outs, Reaction, Sent, Wish};
+use rm_node::{Call, Made, Node, NodeError, Out, Outs, Reaction, Sent};
 use rm_source::OutPhase;
 use std::alloc::Global;
 

@@ -27,7 +27,7 @@ use Rattle.rm_elements.specs.Writable.{IsNumber, IsLapseWritable, IsOfferWritabl
 use Rattle.rm_elements.specs.Writable.{IsResponseWritable}
 use Rattle.rm_elements.specs.Writable.{IsFinishWritable, IsLifecycleWritable}
 use Rattle.rm_elements.specs.declared.duration.Span.{Span}
-use Rattle.rm_elements.specs.declared.lapse.Lapse.{Lapse}
+use Rattle.rm_base.specs.declared.lapse.Lapse.{Lapse}
 use Rattle.rm_elements.specs.declared.lifecycle.CreateResponse.{CreateResponse}
 use Rattle.rm_elements.specs.declared.lifecycle.CreateSequence.{CreateSequence}
 use Rattle.rm_elements.specs.declared.lifecycle.Finish.{Finish}

@@ -12,7 +12,8 @@ use Rattle.soap_document.specs.Cuts.{cut_from}
 use Rattle.soap_document.specs.Grammar.{IsQName, unprefixed, prefixed}
 use Rattle.soap_document.specs.Tokens.{cut, starts_name, is_name, is_qname}
 use Rattle.soap_profile.specs.Namespaces.{split, element_name}
-use Rattle.soap_profile.specs.Tree.{Binding, Element, decls_of}
+use Rattle.soap_profile.specs.Tree.{Element, decls_of}
+use Rattle.rm_base.specs.declared.message.Binding.{Binding}
 use Rattle.soap_profile.specs.declared.name.Expanded.{Expanded}
 use Rattle.soap_writer.specs.Writable.{IsNameWritable}
 use Rattle.soap_stripped.specs.Resolved.{IsBinding, AreInForce}

@@ -6,8 +6,8 @@ use Rattle.ack_ranges.specs.declared.range.Range.{Range}
 use Rattle.rm_base.specs.declared.message.Behaviour.{Behaviour}
 use Rattle.rm_base.specs.declared.message.Cause.{Cause}
 use Rattle.rm_base.specs.declared.message.Payload.{Payload}
-use Rattle.rm_elements.specs.declared.lapse.Lapse.{Lapse}
-use Rattle.soap_document.specs.Tokens.{is_nil}
+use Rattle.rm_base.specs.declared.lapse.Lapse.{Lapse}
+use Rattle.soap_lex.specs.Tests.{is_nil}
 use Rattle.soap_values.specs.Outcome.{◌>>=◌}
 use Rattle.wsa_headers.specs.declared.endpoint.Epr.{Epr}
 use Rattle.record_batch.specs.declared.record.OwnOffer.{OwnOffer}

@@ -9,7 +9,7 @@ use Rattle.rm_base.specs.declared.message.Binding.{Binding}
 use Rattle.rm_base.specs.declared.message.Cause.{Cause}
 use Rattle.rm_base.specs.declared.message.Cause.TheVariants.{Peer, Operator, Expired, NotTaken}
 use Rattle.rm_base.specs.declared.message.Payload.{Payload}
-use Rattle.rm_elements.specs.declared.lapse.Lapse.{Lapse}
+use Rattle.rm_base.specs.declared.lapse.Lapse.{Lapse}
 use Rattle.soap_document.specs.Machine.{run, start, root_of}
 use Rattle.soap_profile.specs.Namespaces.{resolve}
 use Rattle.soap_profile.specs.Tree.{Element, without_declarations}

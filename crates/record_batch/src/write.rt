@@ -43,8 +43,7 @@ use crate::writers::{
     put_payload, put_peer_offer, put_ranges, put_text, put_u32, put_u64, via_byte,
 };
 use ack_ranges::RangeSet;
-use rm_base::{Behaviour, Blob, Cause, Ident, Memory, Payload, Uri};
-use rm_elements::Lapse;
+use rm_base::{Behaviour, Blob, Cause, Ident, Lapse, Memory, Payload, Uri};
 use std::alloc::Global;
 use wsa_headers::Epr;
 

@@ -18,4 +18,3 @@ mod replay;
 pub use command::run;
 pub use end::{End, Fault};
 pub use program::start;
-pub use rm_replay::Stage;

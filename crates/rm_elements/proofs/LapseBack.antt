@@ -18,7 +18,7 @@ use Rattle.rm_elements.specs.Duration.{lapse_of, lapse_from, duration_in}
 use Rattle.rm_elements.specs.Texts.{months_text, three_digits, seconds_text, time_text, lapse_text}
 use Rattle.rm_elements.specs.Writable.{IsLapseWritable}
 use Rattle.rm_elements.specs.declared.duration.Span.{Span}
-use Rattle.rm_elements.specs.declared.lapse.Lapse.{Lapse}
+use Rattle.rm_base.specs.declared.lapse.Lapse.{Lapse}
 
 -- ---- digits before another byte
 

@@ -32,7 +32,7 @@ use Rattle.rm_elements.specs.Texts.{offer_nodes, create_node, accept_nodes, resp
 use Rattle.rm_elements.specs.Texts.{address_before, lifecycle_node}
 use Rattle.rm_elements.specs.Writable.{IsNumber, IsLapseWritable, IsOfferWritable, IsCreateWritable}
 use Rattle.rm_elements.specs.Writable.{IsResponseWritable, IsLifecycleWritable}
-use Rattle.rm_elements.specs.declared.lapse.Lapse.{Lapse}
+use Rattle.rm_base.specs.declared.lapse.Lapse.{Lapse}
 use Rattle.rm_elements.specs.declared.lifecycle.CreateResponse.{CreateResponse}
 use Rattle.rm_elements.specs.declared.lifecycle.CreateSequence.{CreateSequence}
 use Rattle.rm_elements.specs.declared.lifecycle.Lifecycle.{Lifecycle}

@@ -9,7 +9,7 @@ use Rattle.rm_elements.specs.Texts.{tag_of, kind_nodes, range_node, nack_node, e
 use Rattle.rm_elements.specs.Texts.{address_before}
 use Rattle.rm_elements.specs.declared.header.AckKind.{AckKind}
 use Rattle.rm_elements.specs.declared.header.AckKind.TheVariants.{Ranges, Nothing, Nack}
-use Rattle.rm_elements.specs.declared.lapse.Lapse.{Lapse}
+use Rattle.rm_base.specs.declared.lapse.Lapse.{Lapse}
 use Rattle.rm_elements.specs.declared.tag.Tag.TheVariants as tags
 
 each_first : {A : Type 0} (f : A → Node) (xs : List A) (others : Nodes)

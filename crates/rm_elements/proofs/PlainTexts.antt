@@ -13,7 +13,7 @@ use Rattle.soap_writer.specs.Plain.{is_ascii, is_plain_text, chars_from}
 use Rattle.soap_writer.specs.Writable.{IsTextWritable}
 use Rattle.rm_elements.specs.Texts.{months_text, three_digits, seconds_text, time_text, lapse_text}
 use Rattle.rm_elements.specs.Writable.{IsNumber, IsLapseWritable}
-use Rattle.rm_elements.specs.declared.lapse.Lapse.{Lapse}
+use Rattle.rm_base.specs.declared.lapse.Lapse.{Lapse}
 
 plain_both : (xs ys : List ℕ) → is_plain_text xs ≡ true → is_plain_text ys ≡ true → is_plain_text (xs ++ ys) ≡ true
 plain_both xs ys e f =

@@ -5,7 +5,7 @@ use Rattle.std.specs.Char.{is_ascii_digit}
 use Rattle.std.specs.List.{list_any}
 use Rattle.std.specs.Str.Parse.{digits_value}
 use Rattle.rm_elements.specs.declared.duration.Span.{Span}
-use Rattle.rm_elements.specs.declared.lapse.Lapse.{Lapse}
+use Rattle.rm_base.specs.declared.lapse.Lapse.{Lapse}
 use Rattle.rm_elements.specs.Letters.{letter_p, letter_y, letter_m, letter_d, letter_t, letter_h, letter_s, full_stop}
 use Rattle.rm_elements.specs.Letters.{digit_zero}
 

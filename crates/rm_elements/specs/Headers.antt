@@ -2,7 +2,7 @@
 use Rattle.std.specs.Prelude.{ℕ, List, [], Bool, true, false, not, ◌&&◌, ◌||◌, ◌==◌, nat_lt, if◌then◌else◌, Option}
 use Rattle.std.specs.Prelude.{Some, None, is_some, option_map, Result, Ok, Err, codes}
 use Rattle.std.specs.Str.{bytes_eq}
-use Rattle.soap_document.specs.Tokens.{is_nil}
+use Rattle.soap_lex.specs.Tests.{is_nil}
 use Rattle.soap_profile.specs.Tree.{Element, Parts, name_of, attrs_of, parts_of}
 use Rattle.soap_profile.specs.declared.name.Expanded.{Expanded}
 use Rattle.soap_profile.specs.declared.tree.Attr.{Attr}

@@ -15,7 +15,7 @@ use Rattle.rm_elements.specs.Duration.{duration_in}
 use Rattle.rm_elements.specs.Headers.{identifier, number_of}
 use Rattle.rm_elements.specs.Outcome.{rm, mc, named}
 use Rattle.rm_elements.specs.declared.error.ElementError.{ElementError}
-use Rattle.rm_elements.specs.declared.lapse.Lapse.{Lapse}
+use Rattle.rm_base.specs.declared.lapse.Lapse.{Lapse}
 use Rattle.rm_elements.specs.declared.lifecycle.CreateResponse.{CreateResponse}
 use Rattle.rm_elements.specs.declared.lifecycle.CreateSequence.{CreateSequence}
 use Rattle.rm_elements.specs.declared.lifecycle.Finish.{Finish}

@@ -17,7 +17,7 @@ use Rattle.rm_elements.specs.declared.header.AckKind.TheVariants.{Ranges, Nothin
 use Rattle.rm_elements.specs.declared.header.Header.{Header}
 use Rattle.rm_elements.specs.declared.header.Header.TheVariants as headers
 use Rattle.rm_elements.specs.declared.header.SeqHeader.{SeqHeader}
-use Rattle.rm_elements.specs.declared.lapse.Lapse.{Lapse}
+use Rattle.rm_base.specs.declared.lapse.Lapse.{Lapse}
 use Rattle.rm_elements.specs.declared.lifecycle.CreateResponse.{CreateResponse}
 use Rattle.rm_elements.specs.declared.lifecycle.CreateSequence.{CreateSequence}
 use Rattle.rm_elements.specs.declared.lifecycle.Finish.{Finish}

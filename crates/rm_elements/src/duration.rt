@@ -20,7 +20,7 @@ ghost use Rattle.rm_elements.specs.Duration.{
   duration_in,
 };
 
-use crate::lapse::Lapse;
+use rm_base::Lapse;
 use soap_values::number::number_of;
 
 const MOST_MONTHS: u64 = 100000;

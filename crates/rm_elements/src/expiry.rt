@@ -4,10 +4,9 @@ ghost use Rattle.jiff_core.specs.Date.{epoch_day};
 ghost use Rattle.jiff_span.specs.Months.{add_months as months_later, IsShiftable};
 ghost use Rattle.rm_elements.specs.Deadline.{IsDateOf, IsZero, EndsAt, IsDeadline};
 
-use crate::lapse::Lapse;
 use jiff_core::civil::Date;
 use jiff_span::date::add_months;
-use rm_base::{Memory, NOW_MAX};
+use rm_base::{Lapse, Memory, NOW_MAX};
 
 const DAY: u64 = 86400000;
 

@@ -1,6 +1,6 @@
 //! Header blocks: WS-ReliableMessaging 1.2, sections 3.7 to 3.9, and WS-MakeConnection 1.1, section 3.
 ghost use Rattle.std.specs.Prelude.{◌≡◌, ◌-◌, ◌^◌, min, option_map};
-ghost use Rattle.soap_document.specs.Tokens.{is_nil};
+ghost use Rattle.soap_lex.specs.Tests.{is_nil};
 ghost use Rattle.soap_profile.specs.View.{element_view, attrs_view, parts_view};
 ghost use Rattle.soap_values.specs.Outcome.{Gives, each};
 ghost use Rattle.soap_values.specs.Steps.{lent_trees};

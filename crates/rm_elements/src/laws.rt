@@ -14,7 +14,7 @@ ghost use Rattle.rm_elements.specs.Lifecycle.{lifecycle_of};
 ghost use Rattle.rm_elements.specs.Texts.{header_node, lapse_text, lifecycle_node};
 ghost use Rattle.rm_elements.specs.Writable.{IsHeaderWritable, IsLapseWritable, IsLifecycleWritable};
 ghost use Rattle.rm_elements.specs.declared.header.Header.{Header as Value};
-ghost use Rattle.rm_elements.specs.declared.lapse.Lapse.{Lapse as Duration};
+ghost use Rattle.rm_base.specs.declared.lapse.Lapse.{Lapse as Duration};
 ghost use Rattle.rm_elements.specs.declared.lifecycle.Lifecycle.{Lifecycle as Body};
 
 use wsa_headers::{epr_is_good, epr_is_read_back};

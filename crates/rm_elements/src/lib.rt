@@ -9,7 +9,6 @@ pub mod duration;
 pub mod error;
 pub mod expiry;
 pub mod header;
-pub mod lapse;
 pub mod laws;
 pub mod lifecycle;
 pub mod read;
@@ -21,7 +20,6 @@ pub use duration::read_duration;
 pub use error::ElementError;
 pub use expiry::deadline;
 pub use header::{AckBlock, AckKind, Header, MESSAGING, Ranges, SeqHeader};
-pub use lapse::Lapse;
 pub use laws::{
     header_is_foreign, header_is_good, header_is_read_back, lapse_is_read_back, lifecycle_is_good,
     lifecycle_is_read_back,

@@ -22,8 +22,7 @@ ghost use Rattle.rm_elements.specs.Lifecycle.{
 
 use crate::duration::read_duration;
 use crate::header::{MESSAGING, number_within, read_identifier};
-use crate::lapse::Lapse;
-use rm_base::{Behaviour, Ident, Uri};
+use rm_base::{Behaviour, Ident, Lapse, Uri};
 use soap_profile::{Element, Item};
 use soap_values::{Flaw, find_optional, find_single, is_named, read_trimmed};
 use std::alloc::Global;

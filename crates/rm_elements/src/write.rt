@@ -49,12 +49,11 @@ ghost use Rattle.rm_elements.specs.Texts.{
 };
 
 use crate::header::{AckBlock, AckKind, Header, SeqHeader};
-use crate::lapse::Lapse;
 use crate::lifecycle::{CreateResponse, CreateSequence, Finish, Lifecycle, MakeConnection, Offer};
 use crate::tag::Tag;
 use ack_ranges::Range;
 use itoa::Buffer;
-use rm_base::{Behaviour, Blob, Ident, Memory, Uri};
+use rm_base::{Behaviour, Blob, Ident, Lapse, Memory, Uri};
 use soap_nodes::{
     push_attribute, push_begin, push_bytes, push_close, push_leaf, push_number, push_void,
 };

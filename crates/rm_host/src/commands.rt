@@ -3,12 +3,13 @@ ghost use Rattle.std.specs.Prelude.{◌≡◌, ◌<◌, ◌≤◌, ◌^◌, fals
 
 use crate::end::End;
 use crate::host::Host;
+use call_answers::Cause;
 use node_tables::Tables;
 use rm_base::{Blob, Clock, Memory, Uri, push_decimal, push_hex};
 use rm_destination::Incoming;
 use rm_disk::Disk;
 use rm_link::Link;
-use rm_node::{Cause, Node, Outs};
+use rm_node::{Node, Outs};
 use rm_serve::{Posted, post_due};
 use std::alloc::Global;
 

@@ -3,14 +3,14 @@ ghost use Rattle.std.specs.Prelude.{◌≡◌, ◌≤◌, false, IfSome};
 
 use crate::end::End;
 use crate::host::Host;
+use call_answers::Wish;
 use node_tables::{Peer, Tables};
 use record_batch::Via;
 use rm_base::limits::PAYLOAD_BYTES;
-use rm_base::{Blob, Clock, Memory, ReadError, Source, Uri, push_decimal, read_up_to};
+use rm_base::{Blob, Clock, Lapse, Memory, ReadError, Source, Uri, push_decimal, read_up_to};
 use rm_disk::Disk;
-use rm_elements::Lapse;
 use rm_link::Link;
-use rm_node::{Node, Wish};
+use rm_node::Node;
 use rm_serve::post_due;
 use rm_source::OutPhase;
 use std::alloc::Global;

@@ -17,11 +17,9 @@ mod say;
 pub mod step;
 
 pub use call::Call;
-pub use call_answers::{Cause, Wish};
 pub use calls::{Made, Sent};
 pub use error::NodeError;
 pub use kept::Kept;
 pub use node::Node;
-pub use node_store::MountError;
 pub use packets::{Out, Outs};
 pub use step::Reaction;

@@ -2,7 +2,7 @@
 use Rattle.std.specs.Prelude.{ℕ, ◌+◌, ◌==◌, if◌then◌else◌, true, false, List, [], ◌∷◌, codes, Option, Some, None, Ok}
 use Rattle.rm_base.specs.declared.message.Behaviour.TheVariants.{EntireSequence, FollowingFirstGap}
 use Rattle.rm_elements.specs.declared.header.AckBlock.{AckBlock}
-use Rattle.rm_elements.specs.declared.lapse.Lapse.{Lapse}
+use Rattle.rm_base.specs.declared.lapse.Lapse.{Lapse}
 use Rattle.rm_message.specs.declared.message.Body.TheVariants as body
 use Rattle.rm_message.specs.declared.message.FaultCode.TheVariants.{Sender}
 use Rattle.rm_message.specs.declared.message.Message.{Message}

@@ -8,7 +8,7 @@ use Rattle.rm_base.specs.declared.message.Binding.{Binding}
 use Rattle.rm_elements.specs.declared.header.AckBlock.{AckBlock}
 use Rattle.rm_elements.specs.declared.header.AckKind.{AckKind}
 use Rattle.rm_elements.specs.declared.header.AckKind.TheVariants as kind
-use Rattle.rm_elements.specs.declared.lapse.Lapse.{Lapse}
+use Rattle.rm_base.specs.declared.lapse.Lapse.{Lapse}
 use Rattle.rm_elements.specs.declared.lifecycle.Finish.{Finish}
 use Rattle.rm_elements.specs.declared.lifecycle.Lifecycle.{Lifecycle}
 use Rattle.rm_elements.specs.declared.lifecycle.Lifecycle.TheVariants as life

@@ -5,8 +5,8 @@ use Rattle.rm_disk.specs.Told.{Told}
 use Rattle.rm_protocol.specs.Node.{Node}
 use Rattle.rm_protocol.specs.Terms.{Terms}
 use Rattle.node_actor.specs.Actored.{Actored}
-use Rattle.node_actor.specs.Asked.{Asked}
-use Rattle.node_actor.specs.Call.{Call}
+use Rattle.rm_node.specs.Asked.{Asked}
+use Rattle.rm_node.specs.declared.call.Call.{Call}
 use Rattle.node_actor.specs.declared.actor.Came.{Came}
 use Rattle.node_actor.specs.Steps.{Plays, Steps as CallSteps}
 use Rattle.node_actor.specs.Outcomes.{is_disk}

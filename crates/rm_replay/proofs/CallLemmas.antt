@@ -9,11 +9,11 @@ use Rattle.std.specs.Option.{option_map}
 use Rattle.std.proofs.lemmas.Option.{slice_get-map}
 use Rattle.soap_envelope.specs.Soap.{soap_space}
 use Rattle.message_reader.specs.Refusals.{Refuses}
-use Rattle.node_actor.specs.Came.{IsReadAs}
+use Rattle.rm_node.specs.Came.{IsReadAs}
 use Rattle.rm_report.specs.declared.line.Outcome.TheVariants as told
 use Rattle.rm_base.specs.declared.message.Behaviour.{Behaviour}
 use Rattle.rm_base.specs.Numbered.{numbered}
-use Rattle.rm_elements.specs.declared.lapse.Lapse.{Lapse}
+use Rattle.rm_base.specs.declared.lapse.Lapse.{Lapse}
 use Rattle.rm_message.specs.declared.message.Message.{Message}
 use Rattle.rm_message.specs.declared.refusal.Refusal.{Refusal}
 use Rattle.record_batch.specs.declared.record.Via.TheVariants.{Direct}
@@ -33,9 +33,9 @@ use Rattle.rm_replay.specs.Meaning.{outcome_told, side_of}
 use Rattle.rm_replay.specs.Shows.{IsReadRight, Scene, Shows, address_of}
 use Rattle.rm_replay.specs.Net.{AreOfNet, number_of, read_as, text_of, wire_packet, wire_packets}
 use Rattle.rm_replay.specs.Tales.{Tells, fault_at, receiver}
-use Rattle.node_actor.specs.Asked as asks
-use Rattle.node_actor.specs.Call.TheVariants as call
-use Rattle.node_actor.specs.Wish.{Wish}
+use Rattle.rm_node.specs.Asked as asks
+use Rattle.rm_node.specs.declared.call.Call.TheVariants as call
+use Rattle.call_answers.specs.declared.answer.Wish.{Wish}
 use Rattle.rm_replay.specs.declared.stage.Nodes.{Nodes}
 use Rattle.rm_replay.proofs.EventLemmas.{IsCall}
 use Rattle.rm_replay.proofs.TaleLemmas.{tells_none}

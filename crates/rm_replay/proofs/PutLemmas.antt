@@ -5,8 +5,8 @@ use Rattle.std.proofs.Common.{map, take, refl, sym, ap}
 use Rattle.std.proofs.Math.Seq.{take-append-add}
 use Rattle.std.specs.List.{AllByRecursion}
 use Rattle.rm_message.specs.declared.message.Message.{Message}
-use Rattle.node_actor.specs.Packets.{packet_of}
-use Rattle.node_actor.specs.Out.{Out}
+use Rattle.rm_node.specs.Packets.{packet_of}
+use Rattle.rm_node.specs.declared.packets.Out.{Out}
 use Rattle.rm_protocol.specs.Terms.{Terms}
 use Rattle.rm_protocol.specs.Word.{IsPrefixOf}
 use Rattle.rm_protocol.specs.World.{Packet, Side, messages_in, other, puts, sent}

@@ -26,17 +26,17 @@ use Rattle.node_laws.specs.OwnTerms.{AreOwn}
 use Rattle.node_laws.specs.Read.{IsContentRead, IsBodyRead as IsBodyKept}
 use Rattle.node_laws.specs.Records.{IsKept}
 use Rattle.node_store.specs.Stored.{Stored}
-use Rattle.node_actor.specs.Came.{IsReadAs}
+use Rattle.rm_node.specs.Came.{IsReadAs}
 use Rattle.node_actor.specs.Stands.{StandsBy}
 use Rattle.rm_protocol.specs.World.{Side, One, Two, World, node}
 use Rattle.rm_replay.specs.Shows.{Drives, StandFor}
 use Rattle.rm_replay.specs.declared.stage.Nodes.{Nodes}
-use Rattle.node_actor.specs.Asked.{Asked, Asks, MayBeAsked, is_connected}
+use Rattle.rm_node.specs.Asked.{Asked, Asks, MayBeAsked, is_connected}
 use Rattle.node_actor.specs.Steps.{answer_of, clocked}
 use Rattle.rm_replay.specs.Asked.{step_of}
 use Rattle.rm_replay.specs.Net.{read_as, text_of}
-use Rattle.node_actor.specs.Call.{Call}
-use Rattle.node_actor.specs.Call.TheVariants as call
+use Rattle.rm_node.specs.declared.call.Call.{Call}
+use Rattle.rm_node.specs.declared.call.Call.TheVariants as call
 
 -- ---- what comes is as it is read
 

@@ -4,8 +4,8 @@ use Rattle.std.specs.Prelude.{IfOk, OnErr, OnOk, Result, Ok, Err}
 use Rattle.std.specs.List.{AllByRecursion}
 use Rattle.rm_base.specs.declared.failures.Memory.{Memory}
 use Rattle.rm_message.specs.declared.message.Message.{Message}
-use Rattle.node_actor.specs.Packets.{packet_of}
-use Rattle.node_actor.specs.Out.{Out}
+use Rattle.rm_node.specs.Packets.{packet_of}
+use Rattle.rm_node.specs.declared.packets.Out.{Out}
 use Rattle.rm_protocol.specs.Node.{Node}
 use Rattle.rm_protocol.specs.Terms.{Terms}
 use Rattle.rm_protocol.specs.World.{Side, One, Two, World, hands_out, other, with_node}

@@ -2,7 +2,7 @@
 use Rattle.std.specs.Prelude.{◌≡◌, ◌&&◌, Bool, false, List, map, Result, Ok, Err}
 use Rattle.rm_base.specs.declared.failures.Memory.{Memory}
 use Rattle.rm_message.specs.declared.message.Message.{Message}
-use Rattle.node_actor.specs.Packets.{packet_of}
+use Rattle.rm_node.specs.Packets.{packet_of}
 use Rattle.rm_protocol.specs.Node.{CallOutcome, Node, after, call_outcome, said_after}
 use Rattle.rm_protocol.specs.Said.{sent_of}
 use Rattle.rm_protocol.specs.Terms.{Terms}
@@ -11,13 +11,13 @@ use Rattle.rm_protocol.specs.Sent.{same_side}
 use Rattle.rm_disk.specs.Call.{crashes_of}
 use Rattle.rm_disk.specs.Cause.{HasCause}
 use Rattle.node_actor.specs.Actored.{Actored}
-use Rattle.node_actor.specs.Asked.{Asked, is_connected}
+use Rattle.rm_node.specs.Asked.{Asked, is_connected}
 use Rattle.node_actor.specs.Steps.{answer_of, clocked}
 use Rattle.node_actor.specs.Outcomes.{call_told, packets_in}
 use Rattle.node_actor.specs.Stands.{Stands}
 use Rattle.node_actor.specs.declared.actor.Came.{Came}
 use Rattle.rm_disk.specs.Told.{Told}
-use Rattle.node_actor.specs.Call.{Call}
+use Rattle.rm_node.specs.declared.call.Call.{Call}
 use Rattle.rm_replay.specs.Shows.{Drives, StandFor}
 use Rattle.rm_replay.specs.Tales.{Drive}
 use Rattle.rm_replay.specs.declared.stage.Nodes.{Nodes}

@@ -2,7 +2,7 @@
 use Rattle.std.specs.Prelude.{◌≡◌, ◌⊎◌, ℕ, Bool, List, ◌∷◌, take, Option, Some, Result, Ok, Err, []}
 use Rattle.rm_base.specs.declared.failures.Memory.{Memory}
 use Rattle.rm_base.specs.declared.message.Behaviour.{Behaviour}
-use Rattle.node_actor.specs.Out.{Out}
+use Rattle.rm_node.specs.declared.packets.Out.{Out}
 use Rattle.rm_protocol.specs.Node.{Node, armed as armed_by, mounted}
 use Rattle.rm_protocol.specs.Terms.{Terms}
 use Rattle.rm_protocol.specs.World.{Event, Side, One, Two, World, hands_out, node, with_node}

@@ -1,6 +1,6 @@
 //! A node is asked for something, or something comes to it.
 ghost use Rattle.node_actor.specs.Outcomes.{is_disk};
-ghost use Rattle.node_actor.specs.Asked.{Asked, Asks, MayBeAsked};
+ghost use Rattle.rm_node.specs.Asked.{Asked, Asks, MayBeAsked};
 ghost use Rattle.node_laws.specs.OwnTerms.{AreOwn};
 ghost use Rattle.rm_protocol.specs.Terms.{Terms};
 ghost use Rattle.rm_protocol.specs.World.{World, node};
@@ -9,9 +9,10 @@ ghost use Rattle.rm_replay.specs.Meaning.{side_of};
 ghost use Rattle.rm_replay.specs.Shows.{StandFor, drives_of};
 
 use crate::stage::Nodes;
-use node_actor::{Call, Came};
+use node_actor::Came;
 use rm_base::Memory;
 use rm_disk::CrashDisk;
+use rm_node::Call;
 use rm_script::Side;
 
 /// Asks the node at a side.

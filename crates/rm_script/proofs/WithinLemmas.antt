@@ -10,7 +10,7 @@ use Rattle.rm_base.specs.declared.message.Behaviour.TheVariants.{NoDiscard, Enti
 use Rattle.rm_elements.specs.Duration.{duration_in, span_in, lapse_from, at_least_one}
 use Rattle.rm_elements.specs.Writable.{IsLapseWritable}
 use Rattle.rm_elements.specs.declared.duration.Span.{Span}
-use Rattle.rm_elements.specs.declared.lapse.Lapse.{Lapse}
+use Rattle.rm_base.specs.declared.lapse.Lapse.{Lapse}
 use Rattle.rm_script.specs.Script.{IsBehaviour, IsExpiry, IsOffer, Says, IsScript}
 use Rattle.rm_script.specs.Within.{IsWithin}
 use Rattle.rm_script.specs.declared.event.Event.{Event}

@@ -5,7 +5,7 @@ use Rattle.std.specs.List.{AllByRecursion}
 use Rattle.hex.specs.Hex.{decode_of}
 use Rattle.rm_base.specs.declared.message.Behaviour.{Behaviour}
 use Rattle.rm_base.specs.declared.message.Behaviour.TheVariants.{NoDiscard, EntireSequence, FollowingFirstGap}
-use Rattle.rm_elements.specs.declared.lapse.Lapse.{Lapse}
+use Rattle.rm_base.specs.declared.lapse.Lapse.{Lapse}
 use Rattle.rm_elements.specs.Duration.{duration_in}
 use Rattle.rm_script.specs.Bytes.{line_feed, space_byte}
 use Rattle.rm_script.specs.declared.event.Side.{Side}

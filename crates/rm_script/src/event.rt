@@ -1,6 +1,5 @@
 //! What a line of a script says.
-use rm_base::{Behaviour, Blob};
-use rm_elements::Lapse;
+use rm_base::{Behaviour, Blob, Lapse};
 use std::mem::size_of;
 
 const _: () = prove!(size_of::<Event>() == 32);

@@ -8,7 +8,8 @@ use Rattle.std.proofs.lemmas.Str.{chars-encodes, is_utf8-from_IsUtf8}
 use Rattle.xml_chars.specs.Classes.{is_space, is_name_char}
 use Rattle.rm_base.specs.declared.message.Binding.{Binding}
 use Rattle.soap_document.specs.Cuts.{cut_none, cut-append}
-use Rattle.soap_document.specs.Tokens.{is_nil, is_name, is_qname}
+use Rattle.soap_document.specs.Tokens.{is_name, is_qname}
+use Rattle.soap_lex.specs.Tests.{is_nil}
 use Rattle.soap_lex.specs.Characters.{IsName}
 use Rattle.soap_lex.specs.Facts.{all_passes, all_weaker, same}
 use Rattle.soap_lex.specs.NameBytes.{IsNameByte, name_bytes}

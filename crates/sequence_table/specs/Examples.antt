@@ -2,7 +2,7 @@
 use Rattle.std.specs.Prelude.{ℕ, ◌∷◌, [], List, None, Some, codes}
 use Rattle.rm_base.specs.declared.message.Behaviour.TheVariants.{EntireSequence}
 use Rattle.rm_base.specs.declared.message.Payload.{Payload}
-use Rattle.rm_elements.specs.declared.lapse.Lapse.{Lapse}
+use Rattle.rm_base.specs.declared.lapse.Lapse.{Lapse}
 use Rattle.record_batch.specs.declared.record.Via.TheVariants.{Direct}
 use Rattle.record_batch.specs.Fact.{Fact, Made, Creating, Created, Granted, Accepted, Acked, Received, Closing}
 use Rattle.sequence_table.specs.Find.{plain_endpoint}

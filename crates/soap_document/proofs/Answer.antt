@@ -7,7 +7,8 @@ use Rattle.std.proofs.lemmas.List.{take_all}
 use Rattle.memchr.specs.Find.{IsFirstByte, is_byte}
 use Rattle.soap_document.specs.Machine.{is_end}
 use Rattle.soap_document.specs.Declaration.{after}
-use Rattle.soap_document.specs.Tokens.{is_name, is_qname, begins, cut}
+use Rattle.soap_document.specs.Tokens.{is_name, is_qname, cut}
+use Rattle.soap_lex.specs.Tests.{begins}
 use Rattle.soap_document.proofs.Declarations.{after-append}
 use Rattle.soap_document.specs.Cuts.{cut-append}
 use Rattle.soap_lex.specs.Facts.{front_from_begins}

@@ -16,7 +16,8 @@ use Rattle.soap_document.specs.Grammar.{IsWhite, IsQuoted, double, single, IsSet
 use Rattle.soap_document.specs.Grammar.{IsEncoding, unsaid as no_encoding, utf8, IsStandalone}
 use Rattle.soap_document.specs.Grammar.{unsaid as no_standalone, yes, no, IsDeclaration, without, declared}
 use Rattle.soap_document.specs.Machine.{declaring}
-use Rattle.soap_document.specs.Tokens.{begins, cut}
+use Rattle.soap_document.specs.Tokens.{cut}
+use Rattle.soap_lex.specs.Tests.{begins}
 use Rattle.soap_document.proofs.Moves.{NoStops}
 use Rattle.soap_document.specs.Cuts.{cut-append, cut_from}
 use Rattle.soap_lex.specs.Facts.{all_passes, all_from_passes, all_weaker, other, same, begins-append, front_from_begins}

@@ -5,8 +5,8 @@ use Rattle.std.specs.Str.{bytes_eq}
 use Rattle.std.proofs.lemmas.Bool.{eqb-true}
 use Rattle.soap_lex.specs.Text.{IsComment}
 use Rattle.soap_document.specs.Tree.{Element}
-use Rattle.soap_document.specs.Machine.{marking, commenting, Frame, counted, at_commenting, without}
-use Rattle.soap_document.specs.Tokens.{is_comment}
+use Rattle.soap_document.specs.Machine.{marking, commenting, Frame, counted, at_commenting}
+use Rattle.soap_lex.specs.Tests.{without, is_comment}
 use Rattle.soap_document.proofs.Accepts.{Accepts, sure, chosen, Found, found_byte, found_on, found_behind, found_as}
 use Rattle.soap_document.proofs.Moves.{At, plain_at, chars_at}
 use Rattle.soap_lex.specs.Ends.{without_from}

@@ -8,7 +8,8 @@ use Rattle.soap_document.specs.Tree.{Attribute, Element, element, Parts, none, c
 use Rattle.soap_document.specs.Grammar.{IsWhite, IsQName, IsAttributes, IsElement, full, empty, IsContent}
 use Rattle.soap_document.specs.Grammar.{last as last_text, more as then_child, max_depth, end_tag}
 use Rattle.soap_document.specs.Machine.{ending, marking, declaring, Frame, with_parts, has_room, is_end, is_name_end}
-use Rattle.soap_document.specs.Tokens.{is_nil, is_qname}
+use Rattle.soap_document.specs.Tokens.{is_qname}
+use Rattle.soap_lex.specs.Tests.{is_nil}
 use Rattle.soap_document.proofs.Accepts.{Accepts, sure, chosen, Found, found_byte, found_on, found_behind, found_as}
 use Rattle.soap_document.proofs.FoundTags.{closing, behind_tag, attributes_found}
 use Rattle.soap_document.proofs.Moves.{plain_at, chars_at, less_at}

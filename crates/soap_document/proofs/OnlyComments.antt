@@ -3,7 +3,8 @@ use Rattle.std.proofs.Common.{◌≡◌, ℕ, ◌+◌, List, [], ◌∷◌, ◌+
 use Rattle.std.proofs.Common.{sym, ap, ap₂, ◌∙◌, arith, append_assoc, append-nil, length-append}
 use Rattle.std.proofs.lemmas.Bool.{eqb-true}
 use Rattle.soap_lex.specs.Text.{IsComment}
-use Rattle.soap_document.specs.Machine.{commenting, Frame, step, run, without}
+use Rattle.soap_document.specs.Machine.{commenting, Frame, step, run}
+use Rattle.soap_lex.specs.Tests.{without}
 use Rattle.soap_document.proofs.Moves.{At, Moves, place_nil, place_one, plain_at, chars_at, less_at}
 use Rattle.soap_lex.specs.Ends.{without-append, IsOpen, IsOpen-tail}
 use Rattle.soap_document.proofs.Lexing.{Lexes}

@@ -4,7 +4,7 @@ use Rattle.std.proofs.Common.{refl, sym, ap, ◌∙◌, arith, append-nil}
 use Rattle.std.specs.Str.{is_utf8, chars as characters}
 use Rattle.std.proofs.lemmas.Bool.{eq-eqb, ne_eqb, true≢false}
 use Rattle.xml_chars.specs.Classes.{is_space}
-use Rattle.soap_lex.specs.Tests.{is_chars, is_char_data}
+use Rattle.soap_lex.specs.Tests.{is_chars, is_char_data, is_nil}
 use Rattle.soap_lex.specs.TextMachine.{begun as begun_text, halts, is_less}
 use Rattle.soap_lex.specs.ValueMachine.{begun}
 use Rattle.soap_lex.specs.Readers.{quote_byte}
@@ -13,7 +13,7 @@ use Rattle.soap_lex.specs.declared.value.Quote.TheVariants.{Double, Single}
 use Rattle.soap_document.specs.Tree.{Parts, none, text, child}
 use Rattle.soap_document.specs.Machine.{chars, less, value_inner, Frame, State, join, step, counted}
 use Rattle.soap_document.specs.Machine.{in_less, at_chars, settle, has_room, at_valuing, at_tagging, at_less}
-use Rattle.soap_document.specs.Tokens.{is_nil, is_qname}
+use Rattle.soap_document.specs.Tokens.{is_qname}
 
 pub not_nil : {A : Type 0} (xs : List A) (n : ℕ) → n ≡ length xs → nat_eq n 0 ≡ false → is_nil xs ≡ false
 not_nil [] n e h = absurd (true≢false (sym (eq-eqb n 0 e) ∙ h))

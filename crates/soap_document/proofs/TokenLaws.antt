@@ -7,7 +7,8 @@ use Rattle.std.proofs.lemmas.Bool.Decides.{nat_tests}
 use Rattle.xml_chars.specs.Classes.{is_space}
 use Rattle.soap_document.specs.Grammar.{IsWhite, IsQName, unprefixed, prefixed}
 use Rattle.soap_document.specs.Machine.{outside, less, naming, ending, stops, is_end}
-use Rattle.soap_document.specs.Tokens.{is_nil, is_white, is_qname}
+use Rattle.soap_document.specs.Tokens.{is_white, is_qname}
+use Rattle.soap_lex.specs.Tests.{is_nil}
 use Rattle.soap_document.proofs.Moves.{NoStops}
 use Rattle.soap_document.proofs.Names.{name_passes, name_some}
 use Rattle.soap_document.specs.Cuts.{cut_none, cut-append}

@@ -3,7 +3,8 @@ use Rattle.std.specs.Prelude.{ℕ, List, [], ◌∷◌, Bool, false, ◌&&◌, �
 use Rattle.std.specs.Prelude.{codes, drop, length}
 use Rattle.std.specs.Str.{bytes_eq, str_to_ascii_lowercase}
 use Rattle.xml_chars.specs.Classes.{is_space}
-use Rattle.soap_document.specs.Tokens.{begins, cut}
+use Rattle.soap_document.specs.Tokens.{cut}
+use Rattle.soap_lex.specs.Tests.{begins}
 use Rattle.soap_lex.specs.Bytes.{double_quote, single_quote}
 
 -- the bytes from the first that is no white space

@@ -4,14 +4,14 @@ use Rattle.std.specs.Prelude.{ℕ, ◌+◌, ◌-◌, List, [], ◌∷◌, ◌++�
 use Rattle.std.specs.Prelude.{if◌then◌else◌, Option, Some, None, codes, length}
 use Rattle.std.specs.Str.{bytes_eq}
 use Rattle.xml_chars.specs.Classes.{is_space}
-pub use Rattle.soap_lex.specs.Tests.{without}
 use Rattle.soap_lex.specs.TextMachine.{TextState, begun as begun_text, halts as text_halts, is_less}
 use Rattle.soap_lex.specs.TextMachine.{is_refused as text_refused, step as text_step}
 use Rattle.soap_lex.specs.ValueMachine.{ValueState, begun as begun_value, halts as value_halts, is_closed}
 use Rattle.soap_lex.specs.ValueMachine.{is_refused as value_refused, step as value_step}
 use Rattle.soap_document.specs.Tree.{Attribute, Element, element, Parts, none, text, child, onto}
 use Rattle.soap_document.specs.Grammar.{max_depth}
-use Rattle.soap_document.specs.Tokens.{is_nil, is_white, is_qname, is_comment}
+use Rattle.soap_document.specs.Tokens.{is_white, is_qname}
+use Rattle.soap_lex.specs.Tests.{is_nil, is_comment, without}
 use Rattle.soap_document.specs.Declaration.{is_declaration}
 use Rattle.soap_lex.specs.Bytes.{less_than, greater_than, double_quote, single_quote, slash, equals_sign}
 use Rattle.soap_lex.specs.Bytes.{exclamation_mark, question_mark}

@@ -4,7 +4,6 @@ use Rattle.std.specs.Prelude.{ℕ, List, [], ◌∷◌, Bool, false, ◌&&◌, �
 use Rattle.std.specs.List.{list_all}
 use Rattle.std.specs.Str.{is_utf8, chars}
 use Rattle.xml_chars.specs.Classes.{is_space, is_name_start, is_name_char}
-pub use Rattle.soap_lex.specs.Tests.{is_nil, begins, is_comment}
 
 -- white space, or nothing (2.3, production 3)
 abbrev pub is_white : List ℕ → Bool

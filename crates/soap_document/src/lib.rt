@@ -17,5 +17,4 @@ mod tokens;
 pub use attribute::WrittenAttribute;
 pub use handler::Handler;
 pub use reader::Reader;
-pub use rm_base::Bytes;
 pub use tokens::{cut, is_qname, is_white};

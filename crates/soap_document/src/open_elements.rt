@@ -1,7 +1,7 @@
 //! The elements that are open.
 ghost use Rattle.std.specs.Prelude.{◌≡◌, ◌≢◌, ◌==◌, ◌<◌, ◌∷◌, [], ℕ, List, OnOk, vec_len};
 ghost use Rattle.soap_document.specs.Machine.{Frame, with_parts, nothing_open, has_room};
-ghost use Rattle.soap_document.specs.Tokens.{is_nil};
+ghost use Rattle.soap_lex.specs.Tests.{is_nil};
 ghost use Rattle.soap_document.specs.Tree.{element, onto, none, child};
 ghost use Rattle.soap_document.specs.Seen.{Counts, Holds};
 

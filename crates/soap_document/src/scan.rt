@@ -1,7 +1,7 @@
 //! What of a document is read between its elements' events: the token that is not ended.
 ghost use Rattle.std.specs.Prelude.{◌≡◌, ◌≢◌, ◌++◌, ◌+◌, ◌<◌, ◌≤◌, ◌^◌, ◌∷◌, [], List, length, OnOk, IfOk, true};
 ghost use Rattle.std.specs.Prelude.{◌||◌, ◌==◌};
-ghost use Rattle.soap_document.specs.Tokens.{is_nil};
+ghost use Rattle.soap_lex.specs.Tests.{is_nil};
 ghost use Rattle.soap_document.specs.Machine.{
   Frame,
   nothing_open,

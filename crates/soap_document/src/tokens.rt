@@ -1,13 +1,8 @@
 //! The tests of whole tokens.
 ghost use Rattle.std.specs.Prelude.{◌≡◌, option_map};
 ghost use Rattle.soap_document.specs.Machine.{is_mark, is_end};
-ghost use Rattle.soap_document.specs.Tokens.{
-  is_white,
-  cut,
-  is_name,
-  is_qname,
-  is_comment,
-};
+ghost use Rattle.soap_document.specs.Tokens.{is_white, cut, is_name, is_qname};
+ghost use Rattle.soap_lex.specs.Tests.{is_comment};
 
 use soap_lex::first_byte;
 

@@ -6,7 +6,8 @@ use Rattle.std.specs.Cmp.Lexicographic.{pointwise}
 use Rattle.std.specs.List.{slice_range}
 use Rattle.soap_document.specs.Tree as written
 use Rattle.soap_profile.specs.Document.{IsPlaced, place_of}
-use Rattle.soap_profile.specs.Tree.{Binding, Element, element, Parts, name_of, decls_of, parts_of, children_of}
+use Rattle.soap_profile.specs.Tree.{Element, element, Parts, name_of, decls_of, parts_of, children_of}
+use Rattle.rm_base.specs.declared.message.Binding.{Binding}
 use Rattle.soap_profile.specs.declared.name.Expanded.{Expanded}
 use Rattle.soap_profile.specs.declared.tree.Attr.{Attr}
 use Rattle.soap_profile.specs.View.{element_view}

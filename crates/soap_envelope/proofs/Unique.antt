@@ -11,7 +11,8 @@ use Rattle.soap_document.specs.Grammar.{IsDocument}
 use Rattle.soap_document.specs.Tree as written
 use Rattle.soap_profile.specs.Document.{Document}
 use Rattle.soap_profile.specs.Namespaces.{bound, resolve}
-use Rattle.soap_profile.specs.Tree.{Binding, Element, element, Parts, name_of, decls_of, parts_of}
+use Rattle.soap_profile.specs.Tree.{Element, element, Parts, name_of, decls_of, parts_of}
+use Rattle.rm_base.specs.declared.message.Binding.{Binding}
 use Rattle.soap_envelope.specs.Envelope.{name_in, bytes_within, IsBodyAlone, IsOutline, IsHeader, without, blocks}
 use Rattle.soap_envelope.specs.Envelope.{Envelope, IsEnvelope}
 use Rattle.soap_envelope.specs.Refusals.{IsOtherVersion, WrongVersion, NotEnvelope}

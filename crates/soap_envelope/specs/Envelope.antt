@@ -3,7 +3,8 @@ use Rattle.std.specs.Prelude.{◌≡◌, ℕ, ◌-◌, List, [], ◌++◌, Optio
 use Rattle.soap_document.specs.Grammar.{IsContent, IsDocument, IsWhite}
 use Rattle.soap_document.specs.Tree as written
 use Rattle.soap_profile.specs.Namespaces.{resolve, resolve_parts}
-use Rattle.soap_profile.specs.Tree.{Binding, Element, element, Parts, none, text, child, name_of, decls_of, parts_of}
+use Rattle.soap_profile.specs.Tree.{Element, element, Parts, none, text, child, name_of, decls_of, parts_of}
+use Rattle.rm_base.specs.declared.message.Binding.{Binding}
 use Rattle.soap_profile.specs.Tree.{children_of}
 use Rattle.soap_profile.specs.declared.name.Expanded.{Expanded}
 use Rattle.soap_profile.specs.declared.tree.Attr.{Attr}

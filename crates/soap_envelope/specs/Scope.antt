@@ -5,7 +5,7 @@ use Rattle.std.specs.Cmp.Lexicographic.{slice_cmp}
 use Rattle.std.specs.List.{AllByRecursion}
 use Rattle.std.specs.Str.{bytes_eq}
 use Rattle.soap_profile.specs.Namespaces.{bound}
-use Rattle.soap_profile.specs.Tree.{Binding}
+use Rattle.rm_base.specs.declared.message.Binding.{Binding}
 
 -- a default namespace that is undeclared is bound to nothing (6.2)
 abbrev pub declared : Option (List ℕ) → Option (List ℕ)

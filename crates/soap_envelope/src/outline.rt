@@ -6,8 +6,8 @@ ghost use Rattle.soap_profile.specs.View.{element_view, decls_view, parts_view};
 ghost use Rattle.soap_envelope.specs.Envelope.{IsSpaced, name_in};
 ghost use Rattle.soap_envelope.specs.Steps.{BodyFound, Comes, Follows, IsSpacing, Outlined};
 
-use rm_base::{Binding, Blob, Memory};
-use soap_document::{Bytes, is_white};
+use rm_base::{Binding, Blob, Bytes, Memory};
+use soap_document::is_white;
 use soap_profile::{Element, Elements, Item, Name, Parts, is_part};
 use std::alloc::Global;
 use std::vec::IntoIter;

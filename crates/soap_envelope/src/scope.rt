@@ -1,7 +1,7 @@
 //! The bindings in force at a place.
 ghost use Rattle.std.specs.Prelude.{◌≡◌, ◌∷◌, [], ◌++◌, List, IfOk, OnOk};
 ghost use Rattle.std.specs.BTreeMap.{IsOrdered};
-ghost use Rattle.soap_profile.specs.Tree.{Binding as Bound};
+ghost use Rattle.rm_base.specs.declared.message.Binding.{Binding as Bound};
 ghost use Rattle.soap_envelope.specs.Scope.{IsScope};
 ghost use Rattle.soap_envelope.specs.Steps.{Binds, kept, kept_one, lent_cmp};
 

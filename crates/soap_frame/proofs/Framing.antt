@@ -14,7 +14,7 @@ use Rattle.soap_lex.specs.Text.{IsText, run}
 use Rattle.soap_document.specs.declared.attribute.WrittenAttribute.{WrittenAttribute}
 use Rattle.soap_document.specs.Grammar.{IsAttributes, IsElement, IsContent, IsDocument, document, unmarked, without}
 use Rattle.soap_document.specs.Grammar.{white, prefixed, end, full, last, more, start_tag, end_tag}
-use Rattle.soap_document.specs.Tokens.{is_nil}
+use Rattle.soap_lex.specs.Tests.{is_nil}
 use Rattle.soap_document.specs.Tree as written
 use Rattle.soap_profile.specs.Namespaces.{bound, declaring, resolve_parts, joined, Resolved, tag_of}
 use Rattle.soap_envelope.specs.Soap.{soap_space}

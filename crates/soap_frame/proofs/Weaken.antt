@@ -4,7 +4,7 @@ use Rattle.std.proofs.Common.{option_map, codes, refl, sym, ap, ap₂, ◌∙◌
 use Rattle.std.specs.Str.{bytes_eq}
 use Rattle.rm_base.specs.declared.message.Binding.{Binding}
 use Rattle.soap_document.specs.declared.attribute.WrittenAttribute.{WrittenAttribute}
-use Rattle.soap_document.specs.Tokens.{is_nil}
+use Rattle.soap_lex.specs.Tests.{is_nil}
 use Rattle.soap_document.specs.Tree as written
 use Rattle.soap_profile.specs.Namespaces.{bound, or_none, prefix_space, element_space, attribute_space, named}
 use Rattle.soap_profile.specs.Namespaces.{element_name, attribute_name, split, xml_space, declared_prefix}

@@ -8,7 +8,8 @@ use Rattle.soap_document.specs.declared.attribute.WrittenAttribute.{WrittenAttri
 use Rattle.soap_profile.specs.Bare.{is_bare, are_bare}
 use Rattle.soap_profile.specs.Namespaces.{declared_prefix, attribute_space, named, attribute_name, unless_declared}
 use Rattle.soap_profile.specs.Namespaces.{expanded, is_new, are_distinct, is_new_name, are_distinct_names}
-use Rattle.soap_profile.specs.Tree.{Attr, Binding, Expanded}
+use Rattle.soap_profile.specs.Tree.{Attr, Expanded}
+use Rattle.rm_base.specs.declared.message.Binding.{Binding}
 
 -- the name in no namespace
 abbrev bare : List ℕ → Expanded

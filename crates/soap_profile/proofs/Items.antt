@@ -4,7 +4,8 @@ use Rattle.std.proofs.lemmas.List.{map-append}
 use Rattle.soap_profile.specs.Items.{Item, a_declaration, an_attribute, a_text, a_child, decls_among, attrs_among}
 use Rattle.soap_profile.specs.Items.{parts_among, stripped_items}
 use Rattle.soap_profile.specs.Steps.{join}
-use Rattle.soap_profile.specs.Tree.{Attr, Binding, Element, element, Parts, none, text, child, without_declarations}
+use Rattle.soap_profile.specs.Tree.{Attr, Element, element, Parts, none, text, child, without_declarations}
+use Rattle.rm_base.specs.declared.message.Binding.{Binding}
 use Rattle.soap_profile.specs.Tree.{parts_without}
 use Rattle.soap_profile.specs.View.{item_step, element_step, item_view, element_view, items_view, decls_view}
 use Rattle.soap_profile.specs.View.{attrs_view, parts_view}

@@ -8,7 +8,8 @@ use Rattle.soap_profile.specs.Namespaces.{Resolved, tag_of, resolve, resolve_par
 use Rattle.soap_profile.specs.Opened.{Opened, Nest, Root, no_tag, last_place, inner_place, opened, within, within_all}
 use Rattle.soap_profile.specs.Opened.{nest, lone, rooted}
 use Rattle.soap_profile.specs.Steps.{join}
-use Rattle.soap_profile.specs.Tree.{Binding, Element, element, Parts, none, text, child}
+use Rattle.soap_profile.specs.Tree.{Element, element, Parts, none, text, child}
+use Rattle.rm_base.specs.declared.message.Binding.{Binding}
 use Rattle.soap_profile.specs.declared.place.Place.{Place}
 
 -- ---- parts before others

@@ -10,7 +10,8 @@ use Rattle.soap_profile.specs.Document.{place_of}
 use Rattle.soap_profile.specs.Namespaces.{resolve, resolve_parts}
 use Rattle.soap_profile.specs.Opened.{Root}
 use Rattle.soap_profile.specs.Payload.{depth, is_white_outside, IsClosedContent}
-use Rattle.soap_profile.specs.Tree.{Binding, Expanded, Attr, Element, element, Parts}
+use Rattle.soap_profile.specs.Tree.{Expanded, Attr, Element, element, Parts}
+use Rattle.rm_base.specs.declared.message.Binding.{Binding}
 use Rattle.soap_profile.specs.declared.place.Place.{Place}
 use Rattle.soap_profile.proofs.Roots.{IsRead, read, root_with, has_root, only_root}
 

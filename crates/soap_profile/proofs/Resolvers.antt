@@ -14,7 +14,8 @@ use Rattle.soap_profile.specs.Opened.{lone}
 use Rattle.soap_profile.specs.Resolving.{Stands, sound, broken, opened_view, nest_view}
 use Rattle.soap_profile.specs.Scope.{InForce}
 use Rattle.soap_profile.specs.Steps.{join}
-use Rattle.soap_profile.specs.Tree.{Attr, Binding, Element, element, Parts, text, child, none}
+use Rattle.soap_profile.specs.Tree.{Attr, Element, element, Parts, text, child, none}
+use Rattle.rm_base.specs.declared.message.Binding.{Binding}
 use Rattle.soap_profile.specs.View.{element_view, item_view, items_view, decls_view, attrs_view, parts_view, tag_view}
 use Rattle.soap_profile.specs.declared.resolver.Opened.{Opened}
 use Rattle.soap_profile.specs.declared.resolver.Resolver.{Resolver}

@@ -21,7 +21,7 @@ use Rattle.std.specs.declared.alloc.Global.{Global}
 use Rattle.soap_profile.specs.Items.{Item, decls_among}
 use Rattle.soap_profile.specs.Namespaces.{bound}
 use Rattle.soap_profile.specs.Scope.{Stacks, stack_at, last_of, stacked, IsStacked}
-use Rattle.soap_profile.specs.Tree.{Binding}
+use Rattle.rm_base.specs.declared.message.Binding.{Binding}
 use Rattle.soap_profile.specs.View.{item_view, items_view, decls_view}
 use Rattle.soap_profile.specs.declared.tree.Item.{Item as CodeItem}
 use Rattle.soap_profile.specs.declared.tree.Item.TheVariants.{Declaration}

@@ -13,7 +13,8 @@ use Rattle.soap_profile.specs.Namespaces.{Resolved, split, named, declarations, 
 use Rattle.soap_profile.specs.Namespaces.{expanded, are_distinct, are_distinct_names}
 use Rattle.soap_profile.specs.Opened.{start_tag}
 use Rattle.soap_profile.specs.Scope.{InForce}
-use Rattle.soap_profile.specs.Tree.{Attr, Binding, element, Expanded, none}
+use Rattle.soap_profile.specs.Tree.{Attr, element, Expanded, none}
+use Rattle.rm_base.specs.declared.message.Binding.{Binding}
 use Rattle.soap_profile.specs.View.{item_view, element_view, items_view, decls_view, attrs_view, parts_view}
 use Rattle.soap_profile.specs.declared.scope.Scope.{Scope}
 use Rattle.soap_profile.specs.declared.tree.Element.{Element as CodeElement}

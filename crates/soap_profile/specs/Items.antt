@@ -1,7 +1,8 @@
 -- What an element has, in order: its declarations, its attributes and its parts.
 use Rattle.std.specs.Prelude.{ℕ, List, [], ◌∷◌, Bool, true, false}
 use Rattle.std.specs.List.{flat_map}
-use Rattle.soap_profile.specs.Tree.{Binding, Attr, Element, Parts, none, text, child, without_declarations}
+use Rattle.soap_profile.specs.Tree.{Attr, Element, Parts, none, text, child, without_declarations}
+use Rattle.rm_base.specs.declared.message.Binding.{Binding}
 
 -- one thing that an element has
 pub data Item : Type 0 where

@@ -3,10 +3,12 @@ use Rattle.std.specs.Prelude.{ℕ, List, [], ◌∷◌, ◌++◌, Bool, true, no
 use Rattle.std.specs.Prelude.{option_map, codes}
 use Rattle.std.specs.List.{list_all}
 use Rattle.std.specs.Str.{bytes_eq}
-use Rattle.soap_document.specs.Tokens.{cut, is_nil}
+use Rattle.soap_document.specs.Tokens.{cut}
+use Rattle.soap_lex.specs.Tests.{is_nil}
 use Rattle.soap_document.specs.declared.attribute.WrittenAttribute.{WrittenAttribute}
 use Rattle.soap_document.specs.Tree as written
-use Rattle.soap_profile.specs.Tree.{Expanded, Binding, Attr, Element, element, Parts, none, text, child}
+use Rattle.soap_profile.specs.Tree.{Expanded, Attr, Element, element, Parts, none, text, child}
+use Rattle.rm_base.specs.declared.message.Binding.{Binding}
 
 -- the two namespaces that are bound from the start (3)
 abbrev pub xml_space : List ℕ

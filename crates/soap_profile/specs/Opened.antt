@@ -4,7 +4,8 @@ use Rattle.soap_document.specs.Machine.{Frame}
 use Rattle.soap_document.specs.Tree as written
 use Rattle.soap_profile.specs.Document.{place_of}
 use Rattle.soap_profile.specs.Namespaces.{Resolved, tag_of, resolve, resolve_parts}
-use Rattle.soap_profile.specs.Tree.{Binding, Element, element, Parts, none, text, child}
+use Rattle.soap_profile.specs.Tree.{Element, element, Parts, none, text, child}
+use Rattle.rm_base.specs.declared.message.Binding.{Binding}
 use Rattle.soap_profile.specs.declared.place.Place.{Place}
 
 -- an open element: its tag, where its content begins, its parts so far, the place of the last element among these, and

@@ -3,7 +3,7 @@ use Rattle.std.specs.Prelude.{◌≡◌, ℕ, List, map, reverse, true, false, S
 use Rattle.soap_document.specs.Machine.{Frame}
 use Rattle.soap_profile.specs.Opened as abstract
 use Rattle.soap_profile.specs.Scope.{InForce}
-use Rattle.soap_profile.specs.Tree.{Binding}
+use Rattle.rm_base.specs.declared.message.Binding.{Binding}
 use Rattle.soap_profile.specs.View.{element_view, parts_view, tag_view}
 use Rattle.soap_profile.specs.declared.resolver.Opened.{Opened}
 use Rattle.soap_profile.specs.declared.resolver.Resolver.{Resolver}

@@ -9,7 +9,7 @@ use Rattle.std.specs.declared.vec.Vec.{Vec}
 use Rattle.std.specs.declared.alloc.Global.{Global}
 use Rattle.soap_profile.specs.Namespaces.{element_name, attribute_name}
 use Rattle.soap_profile.specs.Pool.{Knows}
-use Rattle.soap_profile.specs.Tree.{Binding}
+use Rattle.rm_base.specs.declared.message.Binding.{Binding}
 use Rattle.soap_profile.specs.declared.scope.Scope.{Scope}
 
 -- of each prefix, what it was bound to

@@ -3,7 +3,8 @@ use Rattle.std.specs.Prelude.{◌≡◌, List, ◌∷◌, ◌++◌, Bool, if◌t
 use Rattle.soap_document.specs.declared.attribute.WrittenAttribute.{WrittenAttribute}
 use Rattle.soap_profile.specs.Items.{Item, a_declaration, an_attribute}
 use Rattle.soap_profile.specs.Namespaces.{declarations, expanded}
-use Rattle.soap_profile.specs.Tree.{Binding, Parts, none, text, child}
+use Rattle.soap_profile.specs.Tree.{Parts, none, text, child}
+use Rattle.rm_base.specs.declared.message.Binding.{Binding}
 
 -- one attribute before others: whether its declaration may stand
 abbrev pub Declares : WrittenAttribute → List Item → List Item → Bool → Type 0

@@ -1,7 +1,7 @@
 -- The tree of a document with expanded names: the declarations of an element stand apart from its attributes.
 use Rattle.std.specs.Prelude.{ℕ, List, [], ◌∷◌}
 -- a prefix, which is empty for the default namespace, and what it is bound to
-pub use Rattle.rm_base.specs.declared.message.Binding.{Binding}
+use Rattle.rm_base.specs.declared.message.Binding.{Binding}
 -- a namespace, empty where there is none, and a local name
 pub use Rattle.soap_profile.specs.declared.name.Expanded.{Expanded}
 -- an expanded name and a value

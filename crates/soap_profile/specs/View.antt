@@ -4,7 +4,8 @@ use Rattle.std.specs.List.{list_all}
 use Rattle.soap_profile.specs.Items.{Item, a_declaration, an_attribute, a_text, a_child, decls_among, attrs_among}
 use Rattle.soap_profile.specs.Items.{parts_among, is_part}
 use Rattle.soap_profile.specs.Namespaces.{Resolved}
-use Rattle.soap_profile.specs.Tree.{Attr, Binding, Element, element, Parts}
+use Rattle.soap_profile.specs.Tree.{Attr, Element, element, Parts}
+use Rattle.rm_base.specs.declared.message.Binding.{Binding}
 use Rattle.soap_profile.specs.declared.tree.Element.{Element as CodeElement, Element-F, fold-Element}
 use Rattle.soap_profile.specs.declared.tree.Item.{Item as CodeItem, Item-F, fold-Item}
 use Rattle.soap_profile.specs.declared.tree.Item.TheOpen

@@ -1,9 +1,11 @@
 //! Expanded names.
 ghost use Rattle.std.specs.Prelude.{◌≡◌, IsTrue, ◌↔◌, IfOk};
+ghost use Rattle.std.specs.Str.{bytes_eq};
+ghost use Rattle.soap_lex.specs.Tests.{is_nil};
+ghost use Rattle.soap_profile.specs.Namespaces.{xml_space};
 
 use crate::shared::Shared;
-use rm_base::Memory;
-use soap_document::Bytes;
+use rm_base::{Bytes, Memory};
 use std::alloc::Global;
 use std::marker::Model;
 use std::mem::size_of;

@@ -1,7 +1,7 @@
 //! Names, declarations and attributes of a start tag.
 ghost use Rattle.std.specs.Prelude.{◌≡◌, ℕ, List, [], ◌∷◌, ◌++◌, if◌then◌else◌, IfOk, OnOk, Some, None, map, true};
 ghost use Rattle.std.specs.Prelude.{option_map, codes, not, ◌&&◌, ◌||◌};
-ghost use Rattle.soap_document.specs.Tokens.{is_nil};
+ghost use Rattle.soap_lex.specs.Tests.{is_nil};
 ghost use Rattle.std.specs.Str.{bytes_eq};
 ghost use Rattle.soap_profile.specs.Bare.{is_bare, are_bare};
 ghost use Rattle.soap_profile.specs.Items.{a_declaration, an_attribute};
@@ -25,7 +25,7 @@ ghost use Rattle.soap_profile.specs.Namespaces.{
 };
 ghost use Rattle.soap_profile.specs.Scope.{InForce, IsStacked};
 ghost use Rattle.soap_profile.specs.Steps.{Declares, Expands};
-ghost use Rattle.soap_profile.specs.Tree.{Binding};
+ghost use Rattle.rm_base.specs.declared.message.Binding.{Binding};
 ghost use Rattle.soap_profile.specs.View.{items_view, decls_view, attrs_view};
 
 use crate::keys::all_differ;
@@ -35,8 +35,8 @@ use crate::recent::Recent;
 use crate::scope::Scope;
 use crate::shared::Shared;
 use crate::tree::{Attr, Declaration, Item};
-use rm_base::Memory;
-use soap_document::{Bytes, WrittenAttribute, cut};
+use rm_base::{Bytes, Memory};
+use soap_document::{WrittenAttribute, cut};
 use std::alloc::Global;
 
 /// The namespace that the prefix `xml` is bound to: Namespaces in XML 1.0, section 3.

@@ -5,8 +5,7 @@ ghost use Rattle.soap_profile.specs.Tree.{Expanded};
 ghost use Rattle.soap_profile.specs.declared.pool.Met.{Met};
 
 use crate::name::Name;
-use rm_base::Memory;
-use soap_document::Bytes;
+use rm_base::{Bytes, Memory};
 use std::alloc::Global;
 
 const SLOTS: usize = 64;

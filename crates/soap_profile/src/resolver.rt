@@ -14,8 +14,8 @@ use crate::scope::Scope;
 use crate::shared::Shared;
 use crate::tag::resolved_tag;
 use crate::tree::{Element, Item};
-use rm_base::Memory;
-use soap_document::{Bytes, Handler, Reader, WrittenAttribute};
+use rm_base::{Bytes, Memory};
+use soap_document::{Handler, Reader, WrittenAttribute};
 use std::alloc::Global;
 use std::mem;
 

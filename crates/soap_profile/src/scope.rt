@@ -3,7 +3,7 @@ ghost use Rattle.std.specs.Prelude.{◌≡◌, [], ◌∷◌, ◌++◌, IsTrue, 
 ghost use Rattle.soap_profile.specs.Namespaces.{bound, element_name, attribute_name, xml_space};
 ghost use Rattle.soap_profile.specs.Pool.{Knows};
 ghost use Rattle.soap_profile.specs.Scope.{InForce, IsStacked};
-ghost use Rattle.soap_profile.specs.Tree.{Binding};
+ghost use Rattle.rm_base.specs.declared.message.Binding.{Binding};
 ghost use Rattle.soap_profile.specs.View.{decls_view};
 
 use crate::pool::Pool;

@@ -5,7 +5,7 @@ ghost use Rattle.soap_profile.specs.Namespaces.{tag_of, resolved_with, element_n
 ghost use Rattle.soap_profile.specs.Namespaces.{expanded, are_distinct};
 ghost use Rattle.soap_profile.specs.Opened.{start_tag};
 ghost use Rattle.soap_profile.specs.Scope.{InForce};
-ghost use Rattle.soap_profile.specs.Tree.{Binding};
+ghost use Rattle.rm_base.specs.declared.message.Binding.{Binding};
 ghost use Rattle.soap_profile.specs.View.{element_view, items_view, decls_view};
 
 use crate::names::{

@@ -1,8 +1,7 @@
 //! The tree of a document, as the code keeps it.
 use crate::name::Name;
 use crate::shared::Shared;
-use rm_base::Items;
-use soap_document::Bytes;
+use rm_base::{Bytes, Items};
 use std::marker::Model;
 use std::mem::size_of;
 

@@ -10,7 +10,8 @@ use Rattle.soap_document.specs.declared.attribute.WrittenAttribute.{WrittenAttri
 use Rattle.soap_profile.specs.Document.{Document}
 use Rattle.soap_profile.specs.Namespaces.{Resolved, tag_of, joined, resolve, resolve_parts}
 use Rattle.soap_profile.specs.Payload.{depth as nested}
-use Rattle.soap_profile.specs.Tree.{Binding, Element, element, Parts, none, text, child, parts_without}
+use Rattle.soap_profile.specs.Tree.{Element, element, Parts, none, text, child, parts_without}
+use Rattle.rm_base.specs.declared.message.Binding.{Binding}
 use Rattle.soap_writer.specs.Writable.{NoText, ArePartsWritable}
 use Rattle.soap_stripped.specs.Resolved.{AreInForce, PartsDeclare, IsResolved}
 use Rattle.soap_stripped.proofs.Meanings.{text_chars}

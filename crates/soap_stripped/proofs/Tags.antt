@@ -8,7 +8,7 @@ use Rattle.soap_document.specs.declared.attribute.WrittenAttribute.{WrittenAttri
 use Rattle.soap_profile.specs.Namespaces.{declared_prefix, declarations, element_name, attribute_name}
 use Rattle.soap_profile.specs.Namespaces.{unless_declared, expanded, are_distinct, are_distinct_names, Resolved}
 use Rattle.soap_profile.specs.Namespaces.{resolved_with, declaring, tag_of}
-use Rattle.soap_profile.specs.Tree.{Binding}
+use Rattle.rm_base.specs.declared.message.Binding.{Binding}
 use Rattle.soap_profile.specs.declared.name.Expanded.{Expanded}
 use Rattle.soap_profile.specs.declared.tree.Attr.{Attr}
 use Rattle.soap_writer.specs.ReadBack.{IsAttributeWritten}

@@ -5,7 +5,8 @@ use Rattle.std.specs.List.{AllByRecursion}
 use Rattle.soap_lex.specs.Characters.{IsChars}
 use Rattle.soap_profile.specs.Namespaces.{xmlns_space, bound}
 use Rattle.soap_profile.specs.Payload.{height}
-use Rattle.soap_profile.specs.Tree.{Binding, Element, element, Parts, none, text, child, without_declarations}
+use Rattle.soap_profile.specs.Tree.{Element, element, Parts, none, text, child, without_declarations}
+use Rattle.rm_base.specs.declared.message.Binding.{Binding}
 use Rattle.soap_writer.specs.Writable.{IsWritable}
 
 -- a prefix may be bound so: to characters, not to the namespace of declarations, and to nothing only if it is the

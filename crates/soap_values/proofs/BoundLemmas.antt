@@ -5,7 +5,8 @@ use Rattle.std.proofs.lemmas.List.{drop_more}
 use Rattle.std.specs.Borrow.{Bor}
 use Rattle.std.specs.Str.{bytes_eq}
 use Rattle.soap_profile.specs.Namespaces.{bound}
-use Rattle.soap_profile.specs.Tree.{Binding, Element, decls_of}
+use Rattle.soap_profile.specs.Tree.{Element, decls_of}
+use Rattle.rm_base.specs.declared.message.Binding.{Binding}
 use Rattle.soap_profile.specs.View.{element_view, decls_view}
 use Rattle.soap_profile.specs.declared.tree.Element.{Element as CodeElement}
 use Rattle.soap_values.specs.ChildLaws.{element_is}

@@ -5,7 +5,7 @@ use Rattle.std.proofs.lemmas.List.{take_more, take-append-drop}
 use Rattle.std.proofs.Math.ListN.{drop_of_length-le}
 use Rattle.std.proofs.Math.Seq.{drop-cons}
 use Rattle.xml_chars.specs.Classes.{is_space}
-use Rattle.soap_document.specs.Tokens.{is_nil}
+use Rattle.soap_lex.specs.Tests.{is_nil}
 use Rattle.soap_values.specs.Values.{trimmed_start, trimmed_end, trimmed}
 
 last_taken : (bs : List ℕ) (n : ℕ) → 0 < n → n ≤ length bs → take n bs ≡ take (n - 1) bs ++ get_or bs (n - 1) 0 ∷ []

@@ -7,7 +7,7 @@ use Rattle.std.proofs.lemmas.Bool.{true≢false}
 use Rattle.std.proofs.lemmas.List.{append-nil}
 use Rattle.soap_lex.specs.Characters.{IsName}
 use Rattle.soap_document.specs.declared.attribute.WrittenAttribute.{WrittenAttribute}
-use Rattle.soap_document.specs.Tokens.{is_nil}
+use Rattle.soap_lex.specs.Tests.{is_nil}
 use Rattle.soap_lex.specs.Facts.{differ, equal}
 use Rattle.soap_profile.specs.Namespaces.{xmlns_space, split, declared_prefix, may_bind, declarations, bound, named}
 use Rattle.soap_profile.specs.Namespaces.{or_none, attribute_space, element_space, attribute_name, element_name}

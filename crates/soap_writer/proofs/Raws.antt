@@ -9,7 +9,7 @@ use Rattle.soap_lex.specs.Text.{IsText}
 use Rattle.soap_lex.specs.Value.{IsValue}
 use Rattle.soap_document.specs.declared.attribute.WrittenAttribute.{WrittenAttribute}
 use Rattle.soap_document.specs.Grammar.{IsAttributes, end, more, IsQName, unprefixed, prefixed}
-use Rattle.soap_document.specs.Tokens.{is_nil}
+use Rattle.soap_lex.specs.Tests.{is_nil}
 use Rattle.soap_profile.specs.Namespaces.{xml_space}
 use Rattle.soap_profile.specs.declared.name.Expanded.{Expanded}
 use Rattle.soap_profile.specs.declared.tree.Attr.{Attr}

@@ -4,7 +4,7 @@ use Rattle.std.specs.Prelude.{ℕ, ◌+◌, List, [], ◌∷◌, ◌++◌, Bool,
 use Rattle.std.specs.Str.{bytes_eq}
 use Rattle.soap_lex.specs.Escapes.{escaped_text, escaped_value}
 use Rattle.soap_document.specs.Grammar.{start_tag, end_tag}
-use Rattle.soap_document.specs.Tokens.{is_nil}
+use Rattle.soap_lex.specs.Tests.{is_nil}
 use Rattle.soap_profile.specs.Namespaces.{xml_space}
 use Rattle.soap_profile.specs.Tree.{Element, element, Parts, none, text, child}
 use Rattle.soap_profile.specs.declared.name.Expanded.{Expanded}

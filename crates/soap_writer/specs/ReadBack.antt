@@ -5,7 +5,7 @@ use Rattle.std.specs.List.{flat_map}
 use Rattle.std.specs.Str.{bytes_eq}
 use Rattle.soap_lex.specs.Characters.{IsChars}
 use Rattle.soap_document.specs.Grammar.{IsElement, IsContent, IsQName, max_depth}
-use Rattle.soap_document.specs.Tokens.{is_nil}
+use Rattle.soap_lex.specs.Tests.{is_nil}
 use Rattle.soap_document.specs.Tree as written
 use Rattle.soap_document.specs.declared.attribute.WrittenAttribute.{WrittenAttribute}
 use Rattle.rm_base.specs.declared.message.Binding.{Binding}

@@ -2,7 +2,7 @@
 ghost use Rattle.std.specs.Prelude.{◌≡◌, ◌<◌, ◌+◌, ◌^◌, [], ◌∷◌, ◌++◌, length, codes, IfOk, OnOk, OnErr};
 ghost use Rattle.std.specs.Str.{bytes_eq};
 ghost use Rattle.soap_document.specs.Grammar.{start_tag, end_tag};
-ghost use Rattle.soap_document.specs.Tokens.{is_nil};
+ghost use Rattle.soap_lex.specs.Tests.{is_nil};
 ghost use Rattle.soap_profile.specs.Namespaces.{xml_space};
 ghost use Rattle.soap_profile.specs.View.{attrs_view};
 ghost use Rattle.soap_lex.specs.Escapes.{escaped_text, escaped_value};

@@ -2,8 +2,7 @@
 //! function that lets them go takes long.
 use node_tables::Tables;
 use record_batch::Record;
-use rm_base::{Blob, Ident, Items, Payload, Uri};
-use rm_elements::Lapse;
+use rm_base::{Blob, Ident, Items, Lapse, Payload, Uri};
 use soap_profile::Elements;
 use std::alloc::Global;
 use std::test::Fail;

@@ -4,7 +4,7 @@ ghost use Rattle.std.specs.Prelude.{◌≡◌, ◌<◌, ◌+◌, ◌^◌, ◌∷
 ghost use Rattle.std.specs.List.{list_all};
 ghost use Rattle.std.specs.Str.{bytes_eq};
 ghost use Rattle.soap_lex.specs.Escapes.{text_escape, value_escape};
-ghost use Rattle.soap_document.specs.Tokens.{is_nil};
+ghost use Rattle.soap_lex.specs.Tests.{is_nil};
 ghost use Rattle.soap_profile.specs.Namespaces.{xml_space};
 ghost use Rattle.soap_profile.specs.Payload.{height};
 ghost use Rattle.soap_profile.specs.View.{element_view, attrs_view, parts_view};

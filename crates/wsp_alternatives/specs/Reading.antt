@@ -2,7 +2,8 @@
 use Rattle.std.specs.Prelude.{◌≡◌, ℕ, ◌+◌, min, nat_lt, List, [], ◌∷◌, Bool, true, false, ◌&&◌, ◌||◌}
 use Rattle.std.specs.Prelude.{if◌then◌else◌, Option, Some, None, option_map, Result, Ok, Err, codes}
 use Rattle.std.specs.Str.{bytes_eq}
-use Rattle.soap_document.specs.Tokens.{is_white, is_nil}
+use Rattle.soap_document.specs.Tokens.{is_white}
+use Rattle.soap_lex.specs.Tests.{is_nil}
 use Rattle.soap_profile.specs.Document.{Document, IsReadable}
 use Rattle.soap_profile.specs.Payload.{is_white_outside}
 use Rattle.soap_profile.specs.Tree as tree

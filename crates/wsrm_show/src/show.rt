@@ -1,11 +1,12 @@
 //! What a node knows, as text.
 ghost use Rattle.std.specs.Prelude.{◌≡◌, false};
 
+use node_store::MountError;
 use node_tables::Tables;
 use rm_base::{Blob, Memory, push_decimal};
 use rm_disk::Disk;
 use rm_host::End;
-use rm_node::{MountError, Node};
+use rm_node::Node;
 use rm_report::{push_receiving, push_sending};
 use std::alloc::Global;
 

@@ -6,9 +6,9 @@ use Rattle.rm_replay.specs.Asked.{step_of}
 use Rattle.rm_replay.specs.Meaning.{side_of}
 use Rattle.rm_replay.specs.Net.{number_of}
 use Rattle.rm_replay.specs.Shows.{drives_of, scene_of}
-use Rattle.node_actor.specs.Asked as asks
-use Rattle.node_actor.specs.Asked.{IsReceived}
-use Rattle.node_actor.specs.Call.TheVariants as call
+use Rattle.rm_node.specs.Asked as asks
+use Rattle.rm_node.specs.Asked.{IsReceived}
+use Rattle.rm_node.specs.declared.call.Call.TheVariants as call
 use Rattle.rm_replay.proofs.CallLemmas.{deliver_at, happens_lost, lost, packet_read, there_of}
 use Rattle.rm_replay.proofs.EventLemmas.{happens_call}
 use Rattle.rm_replay.proofs.ReadLemmas.{kept_at, said_is_read}

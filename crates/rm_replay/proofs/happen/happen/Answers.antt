@@ -9,8 +9,8 @@ use Rattle.rm_replay.specs.Asked.{step_of}
 use Rattle.rm_replay.specs.Happening.{Happened}
 use Rattle.rm_replay.specs.Meaning.{side_of}
 use Rattle.rm_replay.specs.Shows.{drives_of, scene_of}
-use Rattle.node_actor.specs.Asked as asks
-use Rattle.node_actor.specs.Call.TheVariants as call
+use Rattle.rm_node.specs.Asked as asks
+use Rattle.rm_node.specs.declared.call.Call.TheVariants as call
 use Rattle.rm_replay.proofs.CallLemmas.{close_call, end_call, send_call, tick_call}
 use Rattle.rm_replay.proofs.EventLemmas.{happens_arm, happens_call, happens_crash, happens_grant, happens_line}
 use Rattle.rm_replay.proofs.StepLemmas.{scene_by}

@@ -6,8 +6,8 @@ use Rattle.rm_script.specs.declared.event.Event.TheVariants as said
 use Rattle.rm_replay.specs.Asked.{step_of}
 use Rattle.rm_replay.specs.Meaning.{side_of}
 use Rattle.rm_replay.specs.Shows.{scene_of}
-use Rattle.node_actor.specs.Asked as asks
-use Rattle.node_actor.specs.Call.TheVariants as call
+use Rattle.rm_node.specs.Asked as asks
+use Rattle.rm_node.specs.declared.call.Call.TheVariants as call
 use Rattle.rm_replay.proofs.CallLemmas.{noise_call}
 use Rattle.rm_replay.proofs.EventLemmas.{cut_none, happens_call}
 use Rattle.rm_replay.proofs.happen.make_noise.Goals as goal

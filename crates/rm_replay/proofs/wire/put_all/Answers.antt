@@ -1,6 +1,6 @@
 use Rattle.std.proofs.Common.{◌≡◌, ◌∙◌, ◌+◌, ◌∷◌, ◌++◌, List, ℕ, take, sym, ap, arith, []}
 use Rattle.std.proofs.lemmas.List.{take_more}
-use Rattle.node_actor.specs.Out.{Out}
+use Rattle.rm_node.specs.declared.packets.Out.{Out}
 use Rattle.rm_network.specs.Wire.{with_packet}
 use Rattle.rm_replay.specs.Happening.{with_all}
 use Rattle.rm_replay.proofs.PutLemmas.{with_all_push}

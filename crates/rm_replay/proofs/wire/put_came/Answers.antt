@@ -1,7 +1,7 @@
 use Rattle.std.proofs.Common.{◌∙◌, List, ℕ, sym, ap, subst}
 use Rattle.std.proofs.lemmas.Result.{err_from_is_err_and}
-use Rattle.node_actor.specs.Packets.{reply_packet}
-use Rattle.node_actor.specs.Out.{Out}
+use Rattle.rm_node.specs.Packets.{reply_packet}
+use Rattle.rm_node.specs.declared.packets.Out.{Out}
 use Rattle.node_actor.specs.Outcomes.{packets_in}
 use Rattle.rm_replay.specs.Happening.{IsPutInPart, with_all}
 use Rattle.rm_replay.proofs.PutLemmas.{put_behind, put_none, with_all_append}

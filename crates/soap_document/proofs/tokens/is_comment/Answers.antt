@@ -1,6 +1,6 @@
 use Rattle.soap_lex.specs.Facts.{same_test}
 use Rattle.soap_lex.specs.Text.{IsComment}
-use Rattle.soap_document.specs.Tokens.{is_comment}
+use Rattle.soap_lex.specs.Tests.{is_comment}
 use Rattle.soap_document.proofs.tokens.is_comment.Goals as goal
 
 pub returns : goal.returns

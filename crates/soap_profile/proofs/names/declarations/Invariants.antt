@@ -1,7 +1,7 @@
 use Rattle.std.proofs.Common.{◌≡◌, ◌++◌, List, map, option_map, drop}
 use Rattle.soap_profile.specs.Items.{a_declaration}
 use Rattle.soap_profile.specs.Namespaces.{declarations}
-use Rattle.soap_profile.specs.Tree.{Binding}
+use Rattle.rm_base.specs.declared.message.Binding.{Binding}
 use Rattle.soap_profile.specs.View.{items_view}
 use Rattle.soap_profile.proofs.names.declarations.Given as goal
 

@@ -2,7 +2,8 @@ use Rattle.std.proofs.Common.{◌≡◌, ◌++◌, List, map, option_map, drop}
 use Rattle.soap_profile.specs.Items.{an_attribute}
 use Rattle.soap_profile.specs.Namespaces.{expanded}
 use Rattle.soap_profile.specs.Scope.{InForce}
-use Rattle.soap_profile.specs.Tree.{Attr, Binding}
+use Rattle.soap_profile.specs.Tree.{Attr}
+use Rattle.rm_base.specs.declared.message.Binding.{Binding}
 use Rattle.soap_profile.specs.View.{items_view, decls_view}
 use Rattle.soap_profile.proofs.names.expanded.Given as goal
 

@@ -1,7 +1,7 @@
 use Rattle.std.proofs.Common.{◌≡◌, ◌∷◌, ◌++◌, ℕ, List, ap, subst, ◌∙◌, if◌then◌else◌}
 use Rattle.std.specs.Str.{bytes_eq}
 use Rattle.soap_profile.specs.Scope.{stack_at, stacked, IsStacked}
-use Rattle.soap_profile.specs.Tree.{Binding}
+use Rattle.rm_base.specs.declared.message.Binding.{Binding}
 use Rattle.soap_profile.proofs.Scopes.{IsStacked-pop, stacked_here, declared}
 use Rattle.soap_profile.proofs.scope.unbind.Goals as goal
 

@@ -1,6 +1,6 @@
 use Rattle.std.proofs.Common.{List, ◌++◌, drop}
 use Rattle.soap_profile.specs.Scope.{IsStacked}
-use Rattle.soap_profile.specs.Tree.{Binding}
+use Rattle.rm_base.specs.declared.message.Binding.{Binding}
 use Rattle.soap_profile.specs.View.{decls_view}
 use Rattle.soap_profile.proofs.scope.unbind_all.Given as goal
 

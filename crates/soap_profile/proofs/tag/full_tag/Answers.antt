@@ -2,7 +2,7 @@ use Rattle.std.proofs.Common.{◌≡◌, ◌++◌, List, true, sym, subst, ◌�
 use Rattle.soap_lex.specs.Facts.{nil_from_len}
 use Rattle.soap_profile.specs.Namespaces.{declarations, are_distinct}
 use Rattle.soap_profile.specs.Scope.{InForce}
-use Rattle.soap_profile.specs.Tree.{Binding}
+use Rattle.rm_base.specs.declared.message.Binding.{Binding}
 use Rattle.soap_profile.specs.View.{items_view, decls_view}
 use Rattle.soap_profile.specs.declared.scope.Scope.{Scope}
 use Rattle.soap_profile.specs.declared.tree.Item.{Item}

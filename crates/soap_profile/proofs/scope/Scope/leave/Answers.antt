@@ -1,6 +1,6 @@
 use Rattle.std.proofs.Common.{◌++◌, List, subst}
 use Rattle.soap_profile.specs.Scope.{InForce}
-use Rattle.soap_profile.specs.Tree.{Binding}
+use Rattle.rm_base.specs.declared.message.Binding.{Binding}
 use Rattle.soap_profile.specs.View.{decls_view}
 use Rattle.soap_profile.proofs.Scopes.{none_declared}
 use Rattle.soap_profile.proofs.scope.Scope.leave.Goals as goal
