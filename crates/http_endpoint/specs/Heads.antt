@@ -44,14 +44,15 @@ ReadsRequestFacts bytes facts rest = (h : RequestHead) × ReadsRequest bytes h r
 abbrev pub ReadsResponseFacts : Grammar ResponseFacts
 ReadsResponseFacts bytes facts rest = (h : ResponseHead) × ReadsResponse bytes h rest × (facts ≡ facts_of_response h)
 
+-- there is no Transfer-Encoding
+abbrev pub is_absent : TransferEncoding → Bool
+is_absent Coding.Absent = true
+is_absent _ = false
+
 -- a Content-Length is no number, or too great, or stands beside a Transfer-Encoding (RFC 9112, section 6.3)
 abbrev pub is_misframed : ContentLength → TransferEncoding → Bool
 is_misframed Length.Absent coding = false
-is_misframed (Length.Value n) Coding.Absent = nat_lt (2 ^ 63 - 1) n
-is_misframed (Length.Value n) Coding.Chunked = true
-is_misframed (Length.Value n) Coding.Other = true
-is_misframed (Length.Value n) Coding.Blank = true
-is_misframed (Length.Value n) Coding.Invalid = true
+is_misframed (Length.Value n) coding = nat_lt (2 ^ 63 - 1) n || not (is_absent coding)
 is_misframed Length.Invalid coding = true
 
 -- a head that no body can follow: too many fields, or a body that is told wrongly

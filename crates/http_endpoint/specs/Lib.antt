@@ -6,6 +6,7 @@ pub mod PartLaws
 pub mod Body
 pub mod Bytes
 pub mod Ends
+pub mod EndLaws
 pub mod Fields
 pub mod Heads
 pub mod HeadLaws

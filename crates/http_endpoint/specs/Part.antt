@@ -1,6 +1,7 @@
 -- Reading one part of a message: a head, a chunk's line, the trailer. Each is read up to a limit, in a grammar of
 -- which a parser tells what begins a list of bytes.
-use Rattle.std.specs.Prelude.{◌≡◌, ℕ, ◌≤◌, ◌<◌, ◌⊎◌, List, ◌++◌, length, take, drop, Option, Some, Result, Ok, Err, ⊤}
+use Rattle.std.specs.Prelude.{◌≡◌, ℕ, ◌+◌, ◌≤◌, ◌<◌, ◌⊎◌, Bool, true, List, ◌++◌, length, take, drop, Option, Some}
+use Rattle.std.specs.Prelude.{Result, Ok, Err, ⊤}
 use Rattle.http_endpoint.specs.declared.error.HttpError.{HttpError}
 use Rattle.http_endpoint.specs.declared.error.HttpError.TheVariants.{Memory, ReadFault, WriteFault, BadHead, TooLong}
 use Rattle.http_endpoint.specs.declared.error.HttpError.TheVariants.{Unsupported, CutShort}
@@ -15,6 +16,11 @@ Grammar A = List ℕ → A → List ℕ → Type 0
 abbrev pub Grows : {A : Type 0} → Grammar A → Type 0
 Grows {A} reads = (bytes : List ℕ) (a : A) (rest more : List ℕ) → reads bytes a rest
     → reads (bytes ++ more) a (rest ++ more)
+
+-- a text that ends behind a place may end among the bytes from there
+abbrev pub TellsEnds : {A : Type 0} → Grammar A → (List ℕ → ℕ → Bool) → Type 0
+TellsEnds {A} reads ends = (bytes : List ℕ) (a : A) (rest : List ℕ) (from : ℕ) → reads bytes a rest
+    → from + length rest < length bytes → ends bytes from ≡ true
 
 -- no first bytes are a text
 abbrev pub HasNone : {A : Type 0} → Grammar A → List ℕ → Type 0

@@ -2,9 +2,9 @@
 ghost use Rattle.std.specs.Prelude.{◌≡◌, codes, bytes_eq};
 ghost use Rattle.httparse.specs.Grammar.{MayBecomeRequest, MayBecomeResponse};
 ghost use Rattle.http_endpoint.specs.Ends.{ends_head};
-ghost use Rattle.http_endpoint.specs.Heads.{ReadsRequestFacts, ReadsResponseFacts, is_misframed, is_bad};
+ghost use Rattle.http_endpoint.specs.Heads.{ReadsRequestFacts, ReadsResponseFacts, is_absent, is_misframed, is_bad};
 ghost use Rattle.http_endpoint.specs.Heads.{is_otherwise_coded, framing_or, verdict, response_framing};
-ghost use Rattle.http_endpoint.specs.HeadLaws.{request-grows, response-grows};
+ghost use Rattle.http_endpoint.specs.HeadLaws.{request-grows, request-tells, response-grows, response-tells};
 
 use crate::body::{FIELD_LIMIT, Framing};
 use crate::error::HttpError;
@@ -49,6 +49,8 @@ impl Part for HeadOfRequest {
 
     ghost ends = { ends_head };
 
+    ghost tells = { request-tells };
+
     ghost grows = { request-grows };
 
     fn parse(alloc: Global, bytes: &[u8]) -> Result<Parsed<RequestFacts>, Memory> {
@@ -89,6 +91,8 @@ impl Part for HeadOfResponse {
 
     ghost ends = { ends_head };
 
+    ghost tells = { response-tells };
+
     ghost grows = { response-grows };
 
     fn parse(alloc: Global, bytes: &[u8]) -> Result<Parsed<ResponseFacts>, Memory> {
@@ -120,18 +124,24 @@ fn is_post(method: &[u8]) -> bool
     method == b"POST".as_slice()
 }
 
+fn is_absent(coding: TransferEncoding) -> bool
+    ensures { result ≡ is_absent coding }
+{
+    match coding {
+        TransferEncoding::Absent => true,
+        TransferEncoding::Chunked => false,
+        TransferEncoding::Other => false,
+        TransferEncoding::Blank => false,
+        TransferEncoding::Invalid => false,
+    }
+}
+
 fn is_misframed(length: ContentLength, coding: TransferEncoding) -> bool
     ensures { result ≡ is_misframed length coding }
 {
     match length {
         ContentLength::Absent => false,
-        ContentLength::Value(n) => match coding {
-            TransferEncoding::Absent => n > (1 << 63) - 1,
-            TransferEncoding::Chunked => true,
-            TransferEncoding::Other => true,
-            TransferEncoding::Blank => true,
-            TransferEncoding::Invalid => true,
-        },
+        ContentLength::Value(n) => n > (1 << 63) - 1 || !is_absent(coding),
         ContentLength::Invalid => true,
     }
 }

@@ -1,5 +1,6 @@
 //! Parts of a message, and one reader for all of them.
-ghost use Rattle.std.specs.Prelude.{Bool, ◌≡◌, ◌≢◌, ℕ, ◌≤◌, ◌+◌, List, ◌++◌, length, max, Some, IfOk, OnOk, Err, true};
+ghost use Rattle.std.specs.Prelude.{Bool, ◌≡◌, ◌≢◌, ℕ, ◌<◌, ◌≤◌, ◌+◌, List, ◌++◌, length, max, Some, IfOk, OnOk};
+ghost use Rattle.std.specs.Prelude.{Err, true};
 ghost use Rattle.http_endpoint.specs.Ahead.{ahead};
 ghost use Rattle.http_endpoint.specs.Part.{IsParse, IsAnswer};
 ghost use Rattle.http_endpoint.specs.Kept.{KeepsSource};
@@ -32,7 +33,7 @@ pub trait Part {
     /// The part has begun, and more bytes may end it.
     ghost begun: { List ℕ → Type 0 };
 
-    /// The part may end among the bytes from a place.
+    /// The part may end among the bytes from a place: it may where a text of it ends behind that place.
     ghost ends: { List ℕ → ℕ → Bool };
 
     /// Parses the first bytes.
@@ -42,6 +43,9 @@ pub trait Part {
     /// Whether the part may end among the bytes from `from`, so that it is worth to parse them.
     fn may_end(bytes: &[u8], from: usize) -> bool
         ensures { result ≡ ends bytes.now from };
+
+    ghost tells: { (bytes : List ℕ) (a : Self.Out) (rest : List ℕ) (from : ℕ) → reads bytes a rest
+        → from + length rest < length bytes → ends bytes from ≡ true };
 
     ghost grows: { (bytes : List ℕ) (a : Self.Out) (rest more : List ℕ) → reads bytes a rest
         → reads (bytes ++ more) a (rest ++ more) };

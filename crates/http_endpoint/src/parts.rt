@@ -4,7 +4,8 @@ ghost use Rattle.httparse.specs.Grammar.{MayBecomeChunkLine, MayBecomeSection};
 ghost use Rattle.http_endpoint.specs.Ends.{ends_line, ends_head, begins_line_end, ends_trailer, ends_break};
 ghost use Rattle.http_endpoint.specs.Part.{IsParse};
 ghost use Rattle.http_endpoint.specs.Parts.{ReadsSize, ReadsTrailer, ReadsBreak, IsHalfBreak};
-ghost use Rattle.http_endpoint.specs.PartLaws.{size-grows, trailer-grows, break-grows};
+ghost use Rattle.http_endpoint.specs.PartLaws.{break-grows, break-tells, size-grows, size-tells, trailer-grows};
+ghost use Rattle.http_endpoint.specs.PartLaws.{trailer-tells};
 
 use crate::part::{Parsed, Part};
 use httparse::spans::{EMPTY_HEADER_SPAN, HeaderSpan, parse_headers};
@@ -23,6 +24,8 @@ impl Part for ChunkSize {
     ghost begun = { MayBecomeChunkLine };
 
     ghost ends = { ends_line };
+
+    ghost tells = { size-tells };
 
     ghost grows = { size-grows };
 
@@ -58,6 +61,8 @@ impl Part for Trailer {
 
     ghost ends = { ends_trailer };
 
+    ghost tells = { trailer-tells };
+
     ghost grows = { trailer-grows };
 
     fn parse(alloc: Global, bytes: &[u8]) -> Result<Parsed<usize>, Memory> {
@@ -85,6 +90,8 @@ impl Part for LineBreak {
     ghost begun = { IsHalfBreak };
 
     ghost ends = { ends_break };
+
+    ghost tells = { break-tells };
 
     ghost grows = { break-grows };
 
