@@ -188,21 +188,6 @@ read-at before room read h le lt =
     let e = behind-room before room read le in
     rw (← e) (at.0, at.1, at.2, tt)
 
-pub merging-begun : (before others : List Range) → length others ≤ length before →
-    Merging before before others (length others) 0 0
-merging-begun before others le = record {
-  begun = omega arith;
-  read_within = le;
-  next_within = omega arith;
-  behind = omega arith;
-  rest = refl;
-  canonical = tt;
-  numbers = λ n. ap (λ k. in_ranges
-      (take k (drop (length others) before)) n || false) {x = 0} {y = length others - length others} (omega arith);
-  before_read = λ lt. tt;
-  before_next = λ lt. tt;
-}
-
 or_swap : (x y z : Bool) → ((x || y) || z) ≡ ((x || z) || y)
 or_swap x y z = sym (or_assoc x y z) ∙ ap (λ b. x || b) (or_comm y z) ∙ or_assoc x z y
 

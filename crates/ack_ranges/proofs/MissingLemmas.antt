@@ -1,7 +1,7 @@
 -- Collecting the numbers that ranges lack, from 1 on.
 use Rattle.std.proofs.Common.{◌≡◌, ℕ, ◌+◌, ◌-◌, ◌<◌, ◌≤◌, true, false, ◌||◌, ◌==◌, List, [], ◌∷◌, ◌++◌, length, refl}
 use Rattle.std.proofs.Common.{sym, ap, ◌∙◌, arith, inl, inr}
-use Rattle.std.proofs.lemmas.Bool.{cases_lt, or_cases, or_left, or_right, both_ways, eqb-true, eq-eqb, false≢true}
+use Rattle.std.proofs.lemmas.Bool.{cases_lt, or_cases, or_left, or_right, both_ways, eqb-true, eq-eqb}
 use Rattle.std.proofs.lemmas.List.{length_push}
 use Rattle.rm_base.specs.NumberSet.{IsRising, has_number, greatest_of as greatest_number}
 use Rattle.rm_base.specs.NumberSetLemmas.{Rises-push}
@@ -18,15 +18,6 @@ pub record MissingBelow (ranges : List Range) (most next : ℕ) (numbers : List 
   pub from_one : 0 < next
   pub missing : (n : ℕ) → has_number numbers n ≡ true → Lacks ranges n × (n < next)
   pub collected : (n : ℕ) → Lacks ranges n → n < next → has_number numbers n ≡ true
-
-pub missing-none : (ranges : List Range) (most : ℕ) → MissingBelow ranges most 1 []
-missing-none ranges most = record {
-  at_most = omega arith;
-  rising = tt;
-  from_one = omega arith;
-  missing = λ n t. absurd (false≢true t);
-  collected = λ n lacks lt. absurd (omega (arith, lacks.0));
-}
 
 has_number-push : (xs : List ℕ) (y n : ℕ) → has_number (xs ++ y ∷ []) n ≡ (has_number xs n || (y == n))
 has_number-push [] y n = or-false (y == n)

@@ -16,16 +16,6 @@ take-add n k all inside =
     ∙ (ap (λ i. take (i + k) (take n all ++ drop n all)) (sym len)
     ∙ take-append-add (take n all) (drop n all) k))
 
--- none was moved yet
-pub moved-none : (all body : List ℕ) (after : Option (List ℕ)) → length body ≤ 2097152 → after ≡ Some all
-    → Moved 0 all body body after
-moved-none all body after within is_after = record {
-  inside = omega arith;
-  new_is = grind (arith, common_steps);
-  within = omega arith;
-  after_is = is_after;
-}
-
 -- the first k bytes of those that are held are moved too
 pub moved-on : (n k n2 : ℕ) (all body mid new : List ℕ) (from old : Option (List ℕ)) (held held2 : List ℕ)
     → StillAhead old (ahead from held) → k ≤ length held → new ≡ mid ++ take k held → held2 ≡ drop k held → n2 ≡ n + k

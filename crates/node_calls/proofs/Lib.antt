@@ -3,6 +3,5 @@ mod CauseLemmas
 mod ComesLemmas
 mod DrawnLemmas
 mod RequestLemmas
-mod ServingLemmas
 mod StoredLemmas
 mod TickLemmas

@@ -1,10 +1,9 @@
 -- What a commit does to the disk and to what is kept.
 use Rattle.std.proofs.Common.{◌≡◌, ◌≢◌, inl, inr, ℕ, ◌+◌, ◌-◌, ◌≤◌, ◌<◌, ◌^◌, Bool, true, false, List, [], ◌∷◌}
-use Rattle.std.proofs.Common.{◌++◌, length, map, Option, None, get_or, refl, sym, ap, subst, ◌∙◌, arith}
+use Rattle.std.proofs.Common.{◌++◌, length, map, Option, get_or, refl, sym, ap, subst, ◌∙◌, arith}
 use Rattle.std.proofs.Common.{length-append}
-use Rattle.std.specs.Prelude.{is_ok, nat_lt, Result, Err}
+use Rattle.std.specs.Prelude.{is_ok, Result, Err}
 use Rattle.std.specs.List.{flat_map}
-use Rattle.std.proofs.lemmas.Bool.{le-ltb}
 use Rattle.std.proofs.lemmas.Grind.{flat_map-append}
 use Rattle.std.proofs.lemmas.List.{get_or-append_right}
 use Rattle.batch_size.specs.Room.{HasRoom}
@@ -16,8 +15,8 @@ use Rattle.rm_disk.specs.Call.{Call, crashes_of}
 use Rattle.rm_disk.specs.Fuse.{Burns}
 use Rattle.rm_disk.specs.Image.{OnlyLeaves}
 use Rattle.rm_disk.specs.ImageLemmas.{only_from, only_weaker}
-use Rattle.rm_journal.specs.Entries.{longest, StandsFor, StandsForEither}
-use Rattle.rm_journal.specs.Journal.{Fits, limit, refusal_of, with_entry}
+use Rattle.rm_journal.specs.Entries.{StandsFor, StandsForEither}
+use Rattle.rm_journal.specs.Journal.{Fits, with_entry}
 use Rattle.rm_journal.specs.JournalState.{JournalState, end_of, journal_of}
 use Rattle.sequence_table.specs.Makers.{counter, draws_of}
 use Rattle.rm_protocol.specs.Node.{records_in}
@@ -31,22 +30,9 @@ use Rattle.node_store.specs.declared.error.StoreError.TheVariants as Errors
 use Rattle.node_store.specs.Stored.{first_stored, grown, IsServing, Stored, stored, stored_after, with_batch}
 use Rattle.node_store.proofs.HasLemmas.{entries_of-push, records_in-push}
 
--- there is no refusal of an entry that fits
-pub no_refusal : (journal : JournalState) (len : ℕ) → journal.is_down ≡ false → len ≤ 4194304
-    → end_of journal + 6 + len ≤ 268435456 → refusal_of journal len ≡ None
-no_refusal journal len up short room =
-    let long : nat_lt longest len ≡ false = le-ltb longest len short in
-    let full : nat_lt limit (end_of journal + 6 + len) ≡ false = le-ltb limit (end_of journal + 6 + len) room in
-    rw (up, long, full) refl
-
 pub with_batch-some : (batches : List (List Fact)) (d : List Fact) → d ≢ [] → with_batch batches d ≡ batches ++ d ∷ []
 with_batch-some batches [] some = absurd (some refl)
 with_batch-some batches (f ∷ d) some = refl
-
-pub grown-some : (old : Stored) (d : List Fact) → d ≢ []
-    → grown old d ≡ stored (with_entry old.journal (length (batch_text d))) (old.records ++ d)
-grown-some old [] some = absurd (some refl)
-grown-some old (f ∷ d) some = refl
 
 pub burns-some : (d : List Fact) (old new : Option ℕ) (well : Bool) → d ≢ [] → Burns 4 old new well
     → BurnsFor d old new well
@@ -174,10 +160,6 @@ empty_changes first s d none =
 pub none_of : {A B : Type 0} (f : A → B) (xs : List A) → length xs ≡ 0 → map f xs ≡ []
 none_of f [] e = refl
 none_of f (x ∷ xs) e = absurd (omega (arith, e))
-
-pub some_of : {A B : Type 0} (f : A → B) (xs : List A) → (length xs ≡ 0 → ⊥) → map f xs ≢ []
-some_of f [] some e = some refl
-some_of f (x ∷ xs) some e = absurd cc
 
 abbrev told : List Call → Option ℕ → ℕ → Told
 told past fuse faults = record { past = past; fuse = fuse; faults = faults }

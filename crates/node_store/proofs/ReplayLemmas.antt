@@ -76,14 +76,6 @@ all_rest P (x ∷ xs) ys h = all_rest P xs ys h.1
 
 -- ---- one entry after the others
 
--- no entry was read yet
-pub replays-none : (entries : List (List ℕ)) → Replays (take 0 entries) []
-replays-none entries = record {
-  batches = [];
-  replayed = record { are = refl; each = tt; fit = refl; kept = tt };
-  records = refl;
-}
-
 place_next : {A : Type 0} (xs : List A) (i : ℕ) (x : A) → slice_get xs i ≡ Some x
     → take (i + 1) xs ≡ take i xs ++ x ∷ []
 place_next {A} xs i x at =

@@ -7,7 +7,6 @@ use Rattle.record_batch.specs.Fact.{Fact}
 use Rattle.sequence_table.specs.Fits.{all_fit, fits}
 use Rattle.node_tables.specs.declared.error.TableError.{TableError}
 use Rattle.node_tables.specs.declared.error.TableError.TheVariants.{Memory as WantsMemory, Misfit}
-use Rattle.node_tables.specs.Ready.{StopsAt}
 
 -- some first records of the batch are applied, and these are left
 pub record Applied (old new batch rest : List Fact) : Type 0 where
@@ -25,9 +24,6 @@ all_fit-more r (g ∷ xs) f h e =
     (all_fit-more (r ++ g ∷ []) xs f parts.1
     (subst (λ rs. fits rs f ≡ true) (sym (append_assoc r (g ∷ []) xs)) e))
 
-pub applied-none : (old batch : List Fact) → Applied old old batch batch
-applied-none old batch = record { applied = []; parts = refl; fit = refl; now = sym (append-nil old) }
-
 pub applied-more : (old new new2 batch rest : List Fact) (f : Fact) → Applied old new batch (f ∷ rest)
     → fits new f ≡ true → new2 ≡ new ++ f ∷ [] → Applied old new2 batch rest
 applied-more old new new2 batch rest f h fit e = record {
@@ -35,25 +31,6 @@ applied-more old new new2 batch rest f h fit e = record {
   parts = h.parts ∙ sym (append_assoc h.applied (f ∷ []) rest);
   fit = all_fit-more old h.applied f h.fit (subst (λ rs. fits rs f ≡ true) h.now fit);
   now = e ∙ ap (λ rs. rs ++ f ∷ []) h.now ∙ append_assoc old h.applied (f ∷ []);
-}
-
-pub applied-now : (old new batch : List Fact) → Applied old new batch [] → new ≡ old ++ batch
-applied-now old new batch h = h.now ∙ ap (λ xs. old ++ xs) (sym (h.parts ∙ append-nil h.applied))
-
-pub applied-fit : (old new batch : List Fact) → Applied old new batch [] → all_fit old batch ≡ true
-applied-fit old new batch h = ap (λ xs. all_fit old xs) (h.parts ∙ append-nil h.applied) ∙ h.fit
-
-pub applied-stops : (old new new2 batch rest : List Fact) (f : Fact) (error : TableError)
-    → Applied old new batch (f ∷ rest) → new2 ≡ new → (error ≡ Misfit) ↔ (fits new f ≡ false)
-    → StopsAt old new2 batch error
-applied-stops old new new2 batch rest f error h e why = record {
-  applied = h.applied;
-  given = f;
-  more = rest;
-  parts = h.parts;
-  fit = h.fit;
-  now = e ∙ h.now;
-  why = subst (λ rs. (error ≡ Misfit) ↔ (fits rs f ≡ false)) (sym e) why;
 }
 
 fits-next : (r xs more : List Fact) (f : Fact) → all_fit r (xs ++ f ∷ more) ≡ true → fits (r ++ xs) f ≡ true

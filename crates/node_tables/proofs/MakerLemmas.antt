@@ -46,10 +46,6 @@ maker-by : (t : Table) (s : ℕ) → Holds t
     → maker (records_in t) s ≡ option_map (maker_at t.kept) (numbered t.origins s)
 maker-by t s h = ap (λ ms. numbered ms s) h.makers_ ∙ sym (numbered-map (maker_at t.kept) t.origins s)
 
--- a sequence that is not there
-pub maker-none : (t : Table) (s : ℕ) → Holds t → numbered t.origins s ≡ None → maker (records_in t) s ≡ None
-maker-none t s h e = maker-by t s h ∙ ap (λ o. option_map (maker_at t.kept) o) e
-
 -- a sequence that is there
 pub maker-some : (t : Table) (s : ℕ) (o : Origin) → Holds t → numbered t.origins s ≡ Some o
     → maker (records_in t) s ≡ slice_get (makers_of (kept_at t.kept o.made)) (cond o.is_second 1 0)

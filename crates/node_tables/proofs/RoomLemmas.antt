@@ -1,13 +1,12 @@
 -- Room that is made for records, and what is left of it after the first of them.
 use Rattle.std.proofs.Common.{◌≡◌, ◌≢◌, ℕ, zero, suc, ◌+◌, ◌-◌, ◌<◌, ◌≤◌, ◌==◌, Bool, true, false, cond, List, []}
 use Rattle.std.proofs.Common.{◌∷◌, ◌++◌, length, get_or, set, refl, sym, ap, subst, ◌∙◌, arith, inl, inr}
-use Rattle.std.specs.Prelude.{sum_by}
 use Rattle.std.specs.List.{flat_map}
 use Rattle.std.proofs.lemmas.Bool.{cases_eq, eq-eqb, ne_eqb, false≢true}
 use Rattle.std.proofs.lemmas.List.{get_or_append_left, get_or-set_other, get_or-set_same, length-append, length-map}
 use Rattle.std.proofs.lemmas.List.{get_or-append_right, get_or-map, length-set, map-set, set-append_left}
 use Rattle.std.proofs.lemmas.List.{set-append_right}
-use Rattle.std.proofs.lemmas.List.Sums.{sum_by-append, sum_by-cons}
+use Rattle.std.proofs.lemmas.List.Sums.{sum_by-cons}
 use Rattle.ack_ranges.specs.declared.range.Range.{Range}
 use Rattle.record_batch.specs.Fact.{Fact, Created, Accepted, Acked, Received, Closing, ClosedOut, Closed}
 use Rattle.record_batch.specs.Fact.{Ending}
@@ -110,41 +109,6 @@ ready-whole old new f more h slots ahead rows = record {
       (λ i lt. enough-later (spare_at old.room.rows i) (i + 1) f more (h.enough i lt));
 }
 
--- room is enough for no records
-pub enough-none : (rows : List Spare) → AreEnough rows []
-enough-none rows i lt =
-    record { payloads = λ e. omega arith; ranges = λ e. omega arith; messages = λ e. omega arith }
-
-plus_none : (n : ℕ) → n + 0 ≡ n
-plus_none n = omega arith
-
-sum-more : (g : Fact → ℕ) (past : List Fact) (f : Fact) → sum_by g (past ++ f ∷ []) ≡ sum_by g past + g f
-sum-more g past f = sum_by-append g past (f ∷ []) ∙ ap (λ n. sum_by g past + n) (sum_by-cons g f [] ∙ plus_none (g f))
-
-enough-claimed : (x y : Spare) (s : ℕ) (past : List Fact) (f : Fact) → IsClaimed x y s f → IsEnough x s past
-    → IsEnough y s (past ++ f ∷ [])
-enough-claimed x y s past f c h = record {
-  payloads = λ e.
-      let was = h.payloads (sym c.same ∙ e) in
-      let more = c.payloads (sym c.same ∙ e) in
-      omega (arith, was, more, sum-more (payloads_for s) past f);
-  ranges = λ e.
-      let was = h.ranges (sym c.same ∙ e) in
-      let more = c.ranges (sym c.same ∙ e) in
-      omega (arith, was, more, sum-more (ranges_for s) past f);
-  messages = λ e.
-      let was = h.messages (sym c.same ∙ e) in
-      let more = c.messages (sym c.same ∙ e) in
-      omega (arith, was, more, sum-more (messages_for s) past f);
-}
-
--- room was made for one more record
-pub are-claimed : (old new : List Spare) (past : List Fact) (f : Fact) → AreClaimed old new f → AreEnough old past
-    → AreEnough new (past ++ f ∷ [])
-are-claimed old new past f c h i lt =
-    let within : i < length old = omega (arith, lt, c.len) in
-    enough-claimed (spare_at old i) (spare_at new i) (i + 1) past f (c.each i within) (h i within)
-
 -- a record adds nothing to a sequence that it doesn't name
 payloads_elsewhere : (f : Fact) (s : ℕ) → names f ≢ s → payloads_for s f ≡ 0
 payloads_elsewhere (Accepted seq payload) s ne = ap (λ b. cond b 1 0) (ne_eqb seq s ne)
@@ -165,12 +129,6 @@ claimed-elsewhere x s f ne = record {
   ranges = λ e. omega (arith, ranges_elsewhere f s ne);
   messages = λ e. omega (arith, messages_elsewhere f s ne);
 }
-
--- no row is named
-pub claimed-none : (rows : List Spare) (f : Fact) → ((i : ℕ) → i < length rows → names f ≢ i + 1)
-    → AreClaimed rows rows f
-claimed-none rows f ne =
-    record { len = refl; each = λ i lt. claimed-elsewhere (spare_at rows i) (i + 1) f (ne i lt) }
 
 -- the row at a place is named
 pub claimed-set : (rows : List Spare) (k : ℕ) (y : Spare) (f : Fact) → k < length rows → names f ≡ k + 1

@@ -108,9 +108,6 @@ pub taken-by : (r : List Fact) (f : Fact) (t : Told) (x : Bool) → is_naming f 
     → x ≡ (draws_next r f && takes t.side f) → x ≡ fits r f
 taken-by r f t x is e h = h ∙ ap (λ o. takes_at o (draws_next r f) f) (sym e) ∙ fits-at r f is
 
-pub taken-none : (r : List Fact) (f : Fact) → is_naming f ≡ true → told_in r (names f) ≡ None → false ≡ fits r f
-taken-none r f is e = ap (λ o. takes_at o (draws_next r f) f) (sym e) ∙ fits-at r f is
-
 -- the row that a record names is there, and takes it
 pub record IsTaken (t : Table) (f : Fact) : Type 0 where
   pub one : 1 ≤ names f

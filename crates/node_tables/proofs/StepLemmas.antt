@@ -8,16 +8,15 @@ use Rattle.std.proofs.lemmas.List.{get_or-map, length-map, map-set}
 use Rattle.ack_ranges.specs.declared.range.Range.{Range}
 use Rattle.ack_ranges.specs.Ranges.{greatest_of}
 use Rattle.rm_base.specs.NumberSet.{has_number}
-use Rattle.rm_base.specs.declared.message.Cause.{Cause}
 use Rattle.rm_base.specs.declared.message.Payload.{Payload}
 use Rattle.rm_source.specs.declared.phase.OutPhase.{OutPhase}
 use Rattle.rm_source.specs.declared.phase.OutPhase.TheVariants as out
 use Rattle.rm_destination.specs.Messages.{is_empty, numbers_of}
-use Rattle.record_batch.specs.Fact.{Fact, Accepted, Acked, Received, Closed, Ended}
+use Rattle.record_batch.specs.Fact.{Fact, Accepted, Acked, Received}
 use Rattle.sequence_table.specs.Fits.{follows, is_up_to}
 use Rattle.sequence_table.specs.Told.{Told, Side, Sends, Receives, names, after, each_after}
 use Rattle.sequence_table.specs.ToldLemmas.{after-elsewhere, same_told}
-use Rattle.sequence_row.specs.Row.{Seen, is_open, is_receiving, step, takes, takes_acked, takes_end, takes_message}
+use Rattle.sequence_row.specs.Row.{Seen, is_open, step, takes, takes_acked, takes_message}
 use Rattle.sequence_row.specs.Row.{side_step, takes_payload, ticket_step}
 use Rattle.sequence_row.specs.StepLemmas.{after-step}
 use Rattle.node_tables.specs.Kept.{no_row, row_at, tolds}
@@ -101,11 +100,3 @@ greatest_up_to n (r ∷ s ∷ rs) h =
 pub takes-acked : (x : Side) (s : ℕ) (rs : List Range) → takes x (Acked s rs) ≡ true → takes_acked x rs ≡ true
 takes-acked (Sends t) s rs h = greatest_up_to (length t.accepted) rs h
 takes-acked (Receives t) s rs h = absurd (false≢true h)
-
-pub takes-closed : (x : Side) (s : ℕ) (cause : Cause) (last : ℕ) → takes x (Closed s cause last) ≡ is_receiving x
-takes-closed (Sends t) s cause last = refl
-takes-closed (Receives t) s cause last = refl
-
-pub takes-ended : (x : Side) (s : ℕ) (cause : Cause) (last : ℕ) → takes x (Ended s cause last) ≡ takes_end x
-takes-ended (Sends t) s cause last = refl
-takes-ended (Receives t) s cause last = refl

@@ -1,8 +1,7 @@
 -- The acknowledgements that are asked for depend on which sequences have theirs, and not on their order.
-use Rattle.std.proofs.Common.{◌≡◌, ℕ, ◌==◌, Bool, true, false, cond, List, [], ◌∷◌, ◌++◌, refl, ap, subst, ◌∙◌, arith}
+use Rattle.std.proofs.Common.{◌≡◌, ℕ, ◌==◌, Bool, true, false, cond, List, [], ◌∷◌, ◌++◌, refl, ap, ◌∙◌, arith}
 use Rattle.std.specs.Prelude.{◌||◌, nat_eq, Option, Some, None}
 use Rattle.std.specs.List.{list_any}
-use Rattle.std.proofs.lemmas.Bool.{eqb-true}
 use Rattle.std.proofs.lemmas.Bool.Decides.{nat_tests}
 use Rattle.rm_base.specs.NumberSet.{has_number}
 use Rattle.record_batch.specs.Fact.{Fact}
@@ -29,14 +28,6 @@ given-push [] s n = refl
 given-push (x ∷ xs) s n =
     ap (λ b. (x == n) || b) (given-push xs s n) ∙ or_swap (x == n) (s == n) (has_number xs n)
 
--- one that is there already adds none
-pub given-there : (xs : List ℕ) (s n : ℕ) → has_number xs s ≡ true → has_number xs n ≡ has_number (s ∷ xs) n
-given-there xs s n h =
-    elim (s == n) as (λ b. (s == n) ≡ b → has_number xs n ≡ (b || has_number xs n)) [
-      | true ↦ λ e. subst (λ k. has_number xs k ≡ true) (eqb-true s n e) h
-      | false ↦ λ e. refl
-    ] refl
-
 with_same : (o : Option ℕ) (g h : List ℕ) → ((n : ℕ) → has_number g n ≡ has_number h n) → (n : ℕ)
     → has_number (given_with o g) n ≡ has_number (given_with o h) n
 with_same None g h e n = e n
@@ -55,8 +46,3 @@ ask_acks-same r now g h (q ∷ qs) e =
     ap (λ acks. acks ++ ask_acks r now (given_with o g) qs) (ask_ack-same r now g h q o e)
     ∙ ap (λ acks. ask_ack r now h q o ++ acks)
     (ask_acks-same r now (given_with o g) (given_with o h) qs (with_same o g h e))
-
--- where none has its acknowledgement, what is asked for is given
-pub ask_ack-first : (r : List Fact) (now : ℕ) (q : Text) (o : Option ℕ) → ask_ack r now [] q o ≡ ack_of r now q o
-ask_ack-first r now q None = refl
-ask_ack-first r now q (Some s) = refl

@@ -1,5 +1,5 @@
 -- Lemmas on counts that only rise, which the crates above use too.
-use Rattle.std.proofs.Common.{◌≡◌, ℕ, ◌+◌, ◌-◌, ◌^◌, ◌≤◌, inl, inr, true, false, nat_le, refl, arith}
+use Rattle.std.proofs.Common.{◌≡◌, ℕ, ◌+◌, ◌-◌, ◌^◌, inl, inr, true, false, nat_le, refl, arith}
 use Rattle.std.proofs.lemmas.Bool.{leb-true, leb-false}
 use Rattle.rm_base.specs.Count.{RoseBy, raised_by}
 
@@ -8,11 +8,6 @@ pub RoseBy-more : (old mid new m n : ℕ) → RoseBy old mid m → RoseBy mid ne
 RoseBy-more old mid new m n (inl r) (inl s) = inl (omega arith)
 RoseBy-more old mid new m n (inr r) (inl s) = inr (omega arith)
 RoseBy-more old mid new m n r (inr s) = inr s
-
--- a count that rose stays risen where it doesn't fall
-pub RoseBy-kept : (old mid new n : ℕ) → RoseBy old mid n → mid ≤ new → RoseBy old new n
-RoseBy-kept old mid new n (inl r) s = inl (omega arith)
-RoseBy-kept old mid new n (inr r) s = inr (omega arith)
 
 -- what a count is raised by, it rose by
 pub RoseBy-raised_by : (count n : ℕ) → RoseBy count (raised_by count n) n

@@ -4,7 +4,6 @@ use Rattle.std.proofs.Common.{length, take, drop, refl, sym, ap, ◌∙◌, arit
 use Rattle.std.specs.Prelude.{slice_get}
 use Rattle.std.proofs.Math.Seq.{take-length}
 use Rattle.std.proofs.lemmas.Bool.Decides.{nat_tests}
-use Rattle.std.proofs.lemmas.List.{length-map, length-take}
 use Rattle.rm_base.specs.declared.message.Behaviour.{Behaviour}
 use Rattle.rm_base.specs.declared.message.Behaviour.TheVariants.{NoDiscard, EntireSequence, FollowingFirstGap}
 use Rattle.rm_base.specs.declared.message.Payload.{Payload}
@@ -57,18 +56,6 @@ inbox-take f = inbox_of-take f.behaviour f.told (by_number f.received)
 pub numbered-inbox : (f : Receiving) (i : ℕ) → 0 < i → i ≤ length (inbox f)
     → slice_get (contents_of (by_number f.received)) (i - 1) ≡ numbered (inbox f) i
 numbered-inbox f i from to = numbered-first (contents_of (by_number f.received)) (inbox f) i (inbox-take f) from to
-
--- the inbox has no more than all messages
-pub length-inbox : (f : Receiving) → length (inbox f) ≤ length (by_number f.received)
-length-inbox f =
-    let part : length (inbox f) ≡ length (take (length (inbox f)) (contents_of (by_number f.received)))
-    = ap length (inbox-take f) in
-    omega (
-      arith,
-      part,
-      length-take (length (inbox f)) (contents_of (by_number f.received)),
-      length-map (by_number f.received) (λ (m : ℕ × Payload). m.1),
-    )
 
 -- what is discarded
 discarded_of-numbered : (closes : List Bool) (box : List Payload) (ms : List (ℕ × Payload)) (i : ℕ) → 0 < i

@@ -79,18 +79,6 @@ number_at [] k = refl
 number_at (p ∷ places) zero = refl
 number_at (p ∷ places) (suc k) = number_at places k
 
--- as many places as messages by number
-pub length-places : (came : List (ℕ × Payload)) (places : List Place) → IsSorting came places
-    → length places ≡ length (by_number came)
-length-places came places s =
-    let numbers : length (numbers_at places) ≡ length (numbers_of (by_number came)) = ap length s.numbers in
-    omega (
-      arith,
-      length-map places (λ (p : Place). p.number),
-      length-map (by_number came) (λ (m : ℕ × Payload). m.0),
-      numbers,
-    )
-
 -- a number that is none of them is below those that are not below it
 above_strictly : (xs : List ℕ) (n k : ℕ) → has_number xs n ≡ false → k < length xs → n ≤ get_or xs k 0
     → n < get_or xs k 0

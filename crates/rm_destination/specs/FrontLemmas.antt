@@ -1,5 +1,5 @@
 -- The front of rising numbers: what is up to it is there, and the next number is not.
-use Rattle.std.proofs.Common.{◌≡◌, ℕ, ◌+◌, ◌<◌, ◌≤◌, true, false, List, [], ◌∷◌, length, refl, arith}
+use Rattle.std.proofs.Common.{◌≡◌, ℕ, ◌+◌, ◌<◌, ◌≤◌, true, false, List, [], ◌∷◌, refl, arith}
 use Rattle.std.proofs.lemmas.Bool.Decides.{nat_tests}
 use Rattle.rm_base.specs.NumberSetLemmas.{has_number-below}
 use Rattle.rm_base.specs.NumberSet.{Rises, has_number, front_after}
@@ -9,13 +9,6 @@ pub front_after-from : (n : ℕ) (xs : List ℕ) → n ≤ front_after n xs
 front_after-from n [] = omega arith
 front_after-from n (x ∷ xs) =
     let rest : x ≤ front_after x xs = front_after-from x xs in
-    grind (arith, nat_tests)
-
--- by at most as many as there are
-pub front_after-to : (n : ℕ) (xs : List ℕ) → front_after n xs ≤ n + length xs
-front_after-to n [] = omega arith
-front_after-to n (x ∷ xs) =
-    let rest : front_after x xs ≤ x + length xs = front_after-to x xs in
     grind (arith, nat_tests)
 
 -- each number up to the front is there

@@ -1,6 +1,6 @@
 -- Lemmas on images and moments, beside the definitions so that the proofs of the layers above may cite them.
 use Rattle.std.proofs.Common.{◌≡◌, ◌⊎◌, ℕ, ◌<◌, ◌≤◌, Bool, true, false, ◌||◌, cond, ◌==◌, List, [], ◌∷◌, ◌++◌, length}
-use Rattle.std.proofs.Common.{slice_index, refl, sym, ◌∙◌, ap, subst, inl, inr, arith, length-append, append_assoc}
+use Rattle.std.proofs.Common.{slice_index, refl, sym, ◌∙◌, ap, subst, inl, inr, arith, length-append}
 use Rattle.std.proofs.lemmas.Bool.{leb-false, lt-leb}
 use Rattle.std.proofs.lemmas.List.{ext_get_or, get_or-take}
 use Rattle.rm_disk.specs.Call.{Call, Wrote, WriteFailed, CutTo, CutFailed, Synced, SyncFailed, Crashed, State, settled}
@@ -160,21 +160,3 @@ left_in_two (call ∷ added) middle t bytes (inr before) =
       | inl later ↦ inl (inr (omega (arith, length-append added middle), later))
       | inr earlier ↦ inr earlier
     ]
-
--- one span of calls after another
-pub only_joined : (old middle new : List Call) (P : List ℕ → Type 0) → OnlyLeaves old middle P
-    → OnlyLeaves middle new P → OnlyLeaves old new P
-only_joined old middle new P first second =
-    let added = second.later.0 in
-    let is = second.later.1 in record {
-      later = (
-        added ++ first.later.0,
-        is ∙ ap (λ (l : List Call). added ++ l) first.later.1
-            ∙ sym (append_assoc added first.later.0 old),
-      );
-      each = λ bytes left. elim (left_in_two added middle (length old) bytes (subst (λ l. LeftSince l
-          (length old) bytes) is left)) [
-            | inl later ↦ second.each bytes (subst (λ l. LeftSince l (length middle) bytes) (sym is) later)
-            | inr earlier ↦ first.each bytes earlier
-          ];
-    }

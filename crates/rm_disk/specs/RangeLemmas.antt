@@ -29,17 +29,6 @@ is_written-push ranges range i e =
     (sym (list_any-append (is_within i) ranges (range ∷ [])) ∙ e) in
     (parts.0, (or_parts (is_within i range) false parts.1).0)
 
-pub length-overwritten : (old : List ℕ) (at : ℕ) (bytes : List ℕ) → at ≤ length old
-    → length (overwritten old at bytes) ≡ max (length old) (at + length bytes)
-length-overwritten old at bytes within =
-    omega (
-      arith,
-      length-append (take at old ++ bytes) (drop (at + length bytes) old),
-      length-append (take at old) bytes,
-      length-take at old,
-      length-drop (at + length bytes) old,
-    )
-
 pub overwritten-no_longer : (old : List ℕ) (at : ℕ) (bytes : List ℕ)
     → length (overwritten old at bytes) ≤ max (length old) (at + length bytes)
 overwritten-no_longer old at bytes =

@@ -21,11 +21,6 @@ ends_here (gate ∷ behind) long closed = record {
   is = refl;
 }
 
--- bytes too short for a gate end no list
-pub ends_nothing : (entries : List (List ℕ)) → EndsBlocks entries [] → ⊥
-ends_nothing entries ends =
-    omega (arith, ap length ends.is, length-append (flat_map block entries) (ends.gate ∷ ends.behind))
-
 -- At an open gate an entry stands, and so do the bytes of its length.
 pub entry_needed : (entries : List (List ℕ)) (rest : List ℕ) → slice_index rest 0 ≡ 1 → EndsBlocks entries rest
     → (entry : List ℕ) × (length entry ≤ longest) × (5 + length entry ≤ length rest)
@@ -111,18 +106,3 @@ walked_nowhere bytes gates rest at walked none all stands =
     append_cancel_left head ends.0 (blocks ++ rest) (sym ends.1 ∙ walked.is ∙ append_assoc head blocks rest) in
     let after = ends_after walked.entries all rest walked.fit (subst (EndsBlocks all) behind ends.2) in
     none after.0 after.2
-
--- at a gate that isn't open the bytes stand for the entries of the walk
-pub walked_all : (bytes gates rest : List ℕ) (at : ℕ) → IsWalked bytes gates at rest → EndsBlocks [] rest
-    → (entries : List (List ℕ)) × StandsFor entries bytes × (gates ≡ gates_from 8 entries)
-walked_all bytes gates rest at walked ends = (
-  walked.entries,
-  record {
-    fit = walked.fit;
-    gate = ends.gate;
-    behind = ends.behind;
-    closed = ends.closed;
-    is = walked.is ∙ ap (λ (l : List ℕ). head ++ flat_map block walked.entries ++ l) ends.is;
-  },
-  walked.gates,
-)

@@ -55,17 +55,6 @@ fit_cons entry entries short fit (suc k) d low = fit k d (omega arith)
 pub fit_rest : (entry : List ℕ) (entries : List (List ℕ)) → AllFit (entry ∷ entries) → AllFit entries
 fit_rest entry entries fit k d low = fit (suc k) d (omega arith)
 
-pub ends_cons : (entry : List ℕ) (entries : List (List ℕ)) (rest : List ℕ) → length entry ≤ longest
-    → EndsBlocks entries rest → EndsBlocks (entry ∷ entries) (block entry ++ rest)
-ends_cons entry entries rest short ends = record {
-  fit = fit_cons entry entries short ends.fit;
-  gate = ends.gate;
-  behind = ends.behind;
-  closed = ends.closed;
-  is = ap (λ (l : List ℕ). block entry ++ l) ends.is
-      ∙ sym (append_assoc (block entry) (flat_map block entries) (ends.gate ∷ ends.behind));
-}
-
 -- the bytes behind the first block
 pub record HasFirst (entry : List ℕ) (entries : List (List ℕ)) (bytes : List ℕ) : Type 0 where
   pub short : length entry ≤ longest
@@ -107,15 +96,6 @@ ends_after (entry ∷ entries) (other ∷ all) rest fit ends =
           ∙ ap (λ (x : List ℕ). x ∷ (entries ++ inner.0)) (sym same.0),
       inner.2,
     )
-
--- and the other way round
-pub ends_before : (entries more : List (List ℕ)) (rest : List ℕ) → AllFit entries → EndsBlocks more rest
-    → EndsBlocks (entries ++ more) (flat_map block entries ++ rest)
-ends_before [] more rest fit ends = ends
-ends_before (entry ∷ entries) more rest fit ends =
-    subst (EndsBlocks (entry ∷ (entries ++ more))) (sym (append_assoc (block entry) (flat_map block entries) rest)) (
-    ends_cons entry (entries ++ more) _ (fit 0 [] (omega arith))
-    (ends_before entries more rest (fit_rest entry entries fit) ends))
 
 ends_one : (a b : List (List ℕ)) (bytes : List ℕ) → EndsBlocks a bytes → EndsBlocks b bytes → a ≡ b
 ends_one a b bytes is_a is_b =

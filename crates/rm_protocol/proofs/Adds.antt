@@ -31,11 +31,6 @@ counter-add r rec =
     ap length (flat_map-append draws_of r (rec ∷ []) ∙ ap (λ z. flat_map draws_of r ++ z) (append-nil (draws_of rec)))
     ∙ length-append (flat_map draws_of r) (draws_of rec)
 
-makers-add : (r : List Fact) (rec : Fact) → length (makers (r ++ rec ∷ [])) ≡ length (makers r) + length (makers_of rec)
-makers-add r rec =
-    ap length (flat_map-append makers_of r (rec ∷ []) ∙ ap (λ z. makers r ++ z) (append-nil (makers_of rec)))
-    ∙ length-append (makers r) (makers_of rec)
-
 -- the numbers stay in order
 record Numbers (r : List Fact) : Type 0 where
   rising : Rises 0 (drawn_in r)

@@ -208,11 +208,6 @@ sending-follows out.Open s e = refl
 sending-follows out.Closing s e = refl
 sending-follows _ s e = absurd (cc)
 
-shut-fits : (r : List Fact) (s : ℕ) → is_outgoing_side (maker r s) ≡ true
-    → all_fit r (cond (is_sending (phase r s)) (ClosedOut s ∷ []) []) ≡ true
-shut-fits r s h = if-fit r (is_sending (phase r s)) (ClosedOut s)
-    (λ e. follow r s (ClosedOut s) h (sending-follows (phase r s) s e))
-
 -- ranges between 1 and n
 abbrev UpTo : ℕ → Range → Type 0
 UpTo n range = (1 ≤ range.lower) × (range.upper ≤ n)

@@ -11,7 +11,7 @@ use Rattle.record_batch.specs.Fact.{Fact}
 use Rattle.sequence_table.specs.Words.{Text, first_or}
 use Rattle.sequence_table.specs.Idents.{issue}
 use Rattle.sequence_table.specs.Makers.{Maker, makers, makers_of, maker, draws_of, counter, nodes_of, number}
-use Rattle.sequence_table.specs.Makers.{addresses_of, address, created, created_of, ident_in, seq_in}
+use Rattle.sequence_table.specs.Makers.{addresses_of, created, created_of, ident_in, seq_in}
 use Rattle.sequence_table.specs.Sources.{accepted_of, acked, acked_of, mark_of, out_ident}
 use Rattle.sequence_table.specs.Destinations.{received_of, close_of, told_of}
 use Rattle.sequence_table.specs.Find.{IsIncoming, incoming_of, find_outgoing}
@@ -77,9 +77,6 @@ Keeps-adds r a (rec ∷ delta) k =
 
 pub kept-number : (r a : List Fact) → Keeps r a → number r ≡ number a
 kept-number r a k = ap (first_or 0) k.nodes_
-
-pub kept-address : (r a : List Fact) → Keeps r a → address r ≡ address a
-kept-address r a k = ap (first_or []) k.addresses_
 
 pub kept-counter : (r a : List Fact) → Keeps r a → counter r ≡ counter a
 kept-counter r a k = ap length k.draws_

@@ -1,5 +1,5 @@
 -- The addresses of both nodes are texts.
-use Rattle.std.proofs.Common.{◌≡◌, ◌<◌, ℕ, true, List, length, refl, arith, []}
+use Rattle.std.proofs.Common.{◌≡◌, ℕ, true, List, refl, []}
 use Rattle.std.specs.Prelude.{◌≢◌, ◌↔◌}
 use lib.Utf8.{encode}
 use Rattle.std.specs.Str.{chars, is_utf8}
@@ -20,7 +20,3 @@ address_is_text tested Two = (tested 2048 (address_of Two)).0 refl
 pub not_empty : (side : Side) → address_of side ≢ []
 not_empty One = λ e. absurd cc
 not_empty Two = λ e. absurd cc
-
-pub not_long : (side : Side) (len : ℕ) → 2048 < length (address_of side) → len ≡ length (address_of side) → ⊥
-not_long One len long is = absurd (omega (arith, long))
-not_long Two len long is = absurd (omega (arith, long))

@@ -1,5 +1,5 @@
 -- What a line does is what its event does in the protocol.
-use Rattle.std.proofs.Common.{◌≡◌, ◌∙◌, ◌&&◌, ℕ, cond, Bool, false, List, Option, Some, None, take, refl, []}
+use Rattle.std.proofs.Common.{◌≡◌, ◌∙◌, ◌&&◌, ℕ, cond, Bool, false, List, Option, Some, take, refl, []}
 use Rattle.std.proofs.Common.{sym, ap, subst, inl, inr}
 use Rattle.std.specs.Prelude.{◌⊎◌, Result, Ok, Err}
 use Rattle.record_batch.specs.Fact.{Fact}
@@ -20,14 +20,14 @@ use Rattle.node_actor.specs.Outcomes.{is_disk_outcome}
 use Rattle.node_actor.specs.Stands.{Leaves, Stands}
 use Rattle.rm_disk.specs.Told.{Told}
 use Rattle.rm_replay.specs.Asked.{Step, WereAsked}
-use Rattle.rm_replay.specs.Happening.{CrashedAt, CrashedShort, Happened, Happens, Moves, WereAskedFor, armed}
+use Rattle.rm_replay.specs.Happening.{CrashedAt, Happened, Happens, Moves, WereAskedFor, armed}
 use Rattle.rm_replay.specs.Happening.{granted, moved, moved_in_part, told_of}
-use Rattle.rm_replay.specs.Meaning.{Means, comes_out, outcome_told, side_of}
+use Rattle.rm_replay.specs.Meaning.{Means, outcome_told, side_of}
 use Rattle.rm_replay.specs.Shows.{Drives, Holds, IsCut, IsCutIn, IsLeftOfLine, Scene, Shows, StandFor}
 use Rattle.rm_replay.specs.Tales.{Drive, Tale, Tells, crash_in, crash_of, fault_at, node_of}
 use Rattle.rm_replay.specs.declared.stage.Nodes.{Nodes}
 use Rattle.rm_replay.proofs.PutLemmas.{puts_behind, puts_in_part}
-use Rattle.rm_replay.proofs.TaleLemmas.{asked_still, grew_asked, grew_none, tells_asked, tells_none}
+use Rattle.rm_replay.proofs.TaleLemmas.{asked_still, grew_asked, grew_none, tells_asked}
 
 -- each image of a node's disk is left by it
 abbrev pub EachIsLeft : Type 0
@@ -123,22 +123,6 @@ happens_line terms w old new nodes line this came result is same happens =
     (subst (λ (r : Result (Option Outcome) Memory). Happens terms w this old new nodes r) (sym same) happens)
 
 -- ---- lines that nothing comes of
-
--- nothing is done
-pub happens_none : (terms : Terms) (w : World) (line : Said) (scene : Scene) (nodes : Nodes) (outcome : Option Outcome)
-    → Means line None → outcome ≡ comes_out terms w line None
-    → ((at : Side) (entries : List (List Fact)) → crash_in at line entries ≡ []) → Shows w scene nodes
-    → Happened terms w line scene scene nodes outcome
-happens_none terms w line scene nodes outcome means comes quiet shows = record {
-  event = None;
-  means = means;
-  comes = comes;
-  shows = shows;
-  one = subst (λ (c : List (ℕ × List (List Fact))). Tells (tale c 0) scene.drives.one scene.drives.one)
-      (sym (quiet One _)) (tells_none scene.drives.one);
-  two = subst (λ (c : List (ℕ × List (List Fact))). Tells (tale c 0) scene.drives.two scene.drives.two)
-      (sym (quiet Two _)) (tells_none scene.drives.two);
-}
 
 -- memory was wanting before anything was done
 pub cut_none : EachIsLeft → (terms : Terms) (w : World) (line : Said) (scene : Scene) (nodes : Nodes)
@@ -252,13 +236,4 @@ happens_crash terms w at choice old new before nodes shows same crashed = record
       crashed.stand same;
   one = tale_crash terms w (side_of at) choice crashed.kept old.drives new.drives crashed.one;
   two = tale_crash_two terms w (side_of at) choice crashed.kept old.drives new.drives crashed.two;
-}
-
-pub cut_crash : (terms : Terms) (w : World) (at : Place) (choice : ℕ) (old new : Scene) (before : Nodes)
-    → Shows w old before → new.packets ≡ old.packets → CrashedShort w at choice old.drives new.drives
-    → IsCut terms w (said.Crash at choice) old new
-cut_crash terms w at choice old new before shows same crashed = record {
-  left = inl (record { one = crashed.one; two = crashed.two; wire = same ∙ shows.wire });
-  one = crashed.grew_one;
-  two = crashed.grew_two;
 }

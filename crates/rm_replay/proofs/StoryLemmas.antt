@@ -20,18 +20,16 @@ use Rattle.record_batch.specs.Fact.{Fact}
 use Rattle.rm_base.specs.declared.failures.Memory.{Memory}
 use Rattle.rm_journal.specs.EntryLemmas.{length-gates_from}
 use Rattle.node_store.specs.Has.{entries_of}
-use Rattle.rm_report.specs.Report.{down_text, line_text, lines_text}
+use Rattle.rm_report.specs.Report.{line_text, lines_text}
 use Rattle.rm_report.specs.declared.line.Line.{Line}
 use Rattle.rm_report.specs.declared.line.Outcome.{Outcome}
 use Rattle.rm_script.specs.declared.event.Event.{Event as Said}
-use Rattle.rm_script.specs.declared.event.Side.{Side as Place}
 use Rattle.node_actor.specs.Actored.{Actored}
 use Rattle.node_actor.specs.Stands.{Stands, StandsBy}
 use Rattle.rm_disk.specs.Told.{Told}
 use Rattle.node_store.specs.Stored.{Stored}
-use Rattle.node_summary.specs.Summary.{node_text}
 use Rattle.rm_replay.specs.Meaning.{Means, comes_out, report_of, stepped}
-use Rattle.rm_replay.specs.Played.{Played, RanShort, beginning, known_by, more, none}
+use Rattle.rm_replay.specs.Played.{Played, RanShort, beginning, more, none}
 use Rattle.rm_replay.specs.Played.{told_on}
 use Rattle.rm_replay.specs.Happening.{Happened}
 use Rattle.rm_replay.specs.Net.{wire_packet}
@@ -255,15 +253,3 @@ plays_line each terms w number line old new nodes came outcome one two packets b
     cut_played each terms w line h.event old new nodes h.means h.shows h.one h.two
 
 -- ---- what both nodes know in the end
-
-known_down : (at : Place) (x : Node) (st : State) (past : List Call) (stored : Stored)
-    → StandsBy st x.entries past stored → stored.journal.is_down ≡ true → known_by at x st ≡ down_text at
-known_down at x Up past stored awake down = absurd cc
-known_down at x (Writing delta) past stored asleep down = refl
-
-known_up : (at : Place) (x : Node) (st : State) (past : List Call) (stored : Stored)
-    → StandsBy st x.entries past stored → stored.journal.is_down ≡ false
-    → known_by at x st ≡ node_text at stored.records x.clock
-known_up at x Up past stored awake up =
-    ap (λ (r : List Fact). node_text at r x.clock) (sym awake.has.holds.records)
-known_up at x (Writing delta) past stored asleep up = absurd cc

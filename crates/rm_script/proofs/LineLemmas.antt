@@ -141,9 +141,6 @@ IsScript-length [] (a ∷ events) s = absurd s
 IsScript-length (l ∷ lines) [] s = absurd s
 IsScript-length (l ∷ lines) (a ∷ events) s = ap suc (IsScript-length lines events s.1)
 
-pub read_nothing : (lines : List (List ℕ)) → ReadSoFar lines lines []
-read_nothing lines = record { before = []; parts = refl; script = tt }
-
 pub read_more : (lines rest : List (List ℕ)) (events : List Event) (line : List ℕ) (event : Event)
     → ReadSoFar lines (line ∷ rest) events → Says line event → ReadSoFar lines rest (events ++ event ∷ [])
 read_more lines rest events line event r e = record {

@@ -106,13 +106,6 @@ is_same-is (x ∷ xs) (y ∷ ys) h =
     let first : x ≡ y = eqb-true x y here in
     let rest : xs ≡ ys = is_same-is xs ys more in cc
 
-pub is_same-other : (xs ys : List ℕ) → xs ≢ ys → is_same xs ys ≡ false
-is_same-other xs ys h =
-    elim (is_same xs ys) as (λ t. is_same xs ys ≡ t → t ≡ false) [
-      | true ↦ λ e. absurd (h (is_same-is xs ys e))
-      | false ↦ λ e. refl
-    ] refl
-
 -- digits tell their number
 pub decimal_value : (n : ℕ) → n < 2 ^ 64 → digits_value 10 (decimal n) ≡ n
 decimal_value n h = (decimal_is_IsNumeral n h).1

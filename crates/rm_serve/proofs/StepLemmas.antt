@@ -1,15 +1,12 @@
 -- Calls of a node, one after the other.
-use Rattle.std.proofs.Common.{◌≡◌, Bool, true, false, List, [], ◌∷◌, ◌++◌, refl, sym, subst}
+use Rattle.std.proofs.Common.{◌≡◌, Bool, true, false, List, [], ◌∷◌, ◌++◌, refl, subst}
 use Rattle.std.specs.Prelude.{MatchBool}
-use Rattle.rm_disk.specs.Told.{Told}
-use Rattle.node_store.specs.Has.{Holds}
 use Rattle.node_store.specs.Stored.{with_batch}
 use Rattle.rm_protocol.specs.Calls.{Answer}
 use Rattle.rm_protocol.specs.Terms.{Terms}
 use Rattle.node_laws.specs.OwnTerms.{AreOwn}
 use Rattle.rm_node.specs.Called.{Called, Does, Sleeps, answer_of}
 use Rattle.rm_node.specs.Ends.{Ended, Handed, Refused, Wanted, Broke, WasDown}
-use Rattle.rm_node.specs.Noded.{Noded}
 use Rattle.rm_serve.specs.Steps.{IsReady, Makes, MakesAll, Place, Stays, Step, done, is_received}
 use Rattle.rm_serve.specs.Steps.{makes, rests}
 
@@ -38,15 +35,6 @@ pub one-step : (tells : Bool) (x z : Place) (step : Step)
     (answer_of terms x.node step.moment step.asked) step.ended)
     → MakesAll tells x z (step ∷ [])
 one-step tells x z step does terms own = makes x z z step [] (does terms own) (done z)
-
--- a node stays ready that stays
-pub still-ready : (tells : Bool) (x z : Place) → Stays tells x z → IsReady tells x → IsReady tells z
-still-ready tells x z stays ready = λ t up.
-    let before = ready t (subst (λ (n : Noded). n.stored.journal.is_down ≡ false) stays.node up) in (
-      before.0,
-      subst (λ (n : Noded). Holds before.0 z.told.past n.stored) (sym stays.node)
-          (subst (λ (d : Told). Holds before.0 d.past x.node.stored) (sym (stays.told t)) before.1),
-    )
 
 ready-called : (tells connected : Bool) (x z : Place) (answer : Answer) (ended : Ended)
     → Called tells connected x.told z.told x.node z.node answer ended → x.node.stored.journal.is_down ≡ false

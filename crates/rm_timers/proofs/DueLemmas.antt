@@ -11,7 +11,7 @@ use Rattle.std.proofs.lemmas.Option.{slice_get-map}
 use Rattle.due_links.specs.declared.links.Item.{Item}
 use Rattle.due_links.specs.Items.{first_due, due_count, list_at}
 use Rattle.rm_timers.specs.declared.table.Cell.{Cell}
-use Rattle.rm_timers.specs.Table.{Each, cell_at, front, fronts, entry_of, entries}
+use Rattle.rm_timers.specs.Table.{cell_at, front, fronts, entry_of, entries}
 use Rattle.rm_timers.specs.Waits.{Entry, in_class, by_class, class_at, classes_in_order, due_at}
 use Rattle.rm_timers.proofs.PlainLemmas.{AllPairs-tail, at_class}
 use Rattle.rm_timers.proofs.TimedLemmas.{InOrder}
@@ -196,13 +196,6 @@ count_short now (x ∷ xs) (suc k) e = elim (cases_lt now x.due) [
 pub fronts_more : (now : ℕ) (lists : List (List Item)) (i : ℕ) → i < length lists →
     fronts now (drop i lists) ≡ front now (list_at lists i) ++ fronts now (drop (i + 1) lists)
 fronts_more now lists i lt = at_drop_more (fronts now) lists i [] lt
-
--- what holds of each holds of the one at a place
-pub Each-get : (P : Item → Type 0) (xs : List Item) (k : ℕ) (item : Item) → Each P xs → slice_get xs k ≡ Some item →
-    P item
-Each-get P [] k item each e = absurd (cc)
-Each-get P (x ∷ xs) zero item each e = let same : x ≡ item = cc in subst P same each.0
-Each-get P (x ∷ xs) (suc k) item each e = Each-get P xs k item each.1 e
 
 -- a key, by the cell or by the entry
 pub option_key : (cells : List Cell) (o : Option Item) →

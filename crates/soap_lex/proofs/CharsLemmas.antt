@@ -8,7 +8,7 @@ use Rattle.std.proofs.lemmas.Bool.{and_parts}
 use Rattle.std.proofs.lemmas.List.{get_or_past, take_all}
 use Rattle.std.proofs.lemmas.List.Elements.{All-same}
 use Rattle.std.proofs.lemmas.Bool.{cases_lt}
-use Rattle.std.proofs.lemmas.Str.{chars-encodes, encodes-chars, encodes-append, encodes-IsAscii}
+use Rattle.std.proofs.lemmas.Str.{chars-encodes, encodes-chars, encodes-IsAscii}
 use Rattle.xml_chars.specs.Classes.{is_char, is_name_start, is_name_char}
 use Rattle.soap_lex.specs.Characters.{IsChars, IsName}
 use Rattle.soap_lex.specs.Scalars.{all_scalar, is_char-scalar, name_char-scalar, name_each}
@@ -41,14 +41,6 @@ pub each-append : (p : ℕ → Bool) (xs ys : List ℕ) → AllByRecursion (λ c
     → AllByRecursion (λ c. IsTrue (p c)) ys → AllByRecursion (λ c. IsTrue (p c)) (xs ++ ys)
 each-append p [] ys a b = b
 each-append p (x ∷ xs) ys a b = (a.0, each-append p xs ys a.1 b)
-
-pub IsChars-append : (xs ys : List ℕ) → IsChars xs → IsChars ys → IsChars (xs ++ ys)
-IsChars-append xs ys a b = record {
-  characters = a.characters ++ b.characters;
-  each = each-append is_char a.characters b.characters a.each b.each;
-  coded = ap (λ l. l ++ ys) a.coded ∙ ap (λ l. encode_utf8_all a.characters ++ l) b.coded
-      ∙ sym (encodes-append a.characters b.characters);
-}
 
 pub each-places : (p : ℕ → Bool) (xs : List ℕ) → ((k : ℕ) → k < length xs → p (get_or xs k 0) ≡ true)
     → AllByRecursion (λ c. IsTrue (p c)) xs

@@ -7,7 +7,7 @@ use Rattle.std.proofs.Math.Bool.{or-true}
 use Rattle.std.proofs.Math.Dec.{ltb}
 use Rattle.std.proofs.Math.Utf8.{encode}
 use Rattle.std.proofs.lemmas.Bool.{le-leb, le-ltb, lt-ltb}
-use Rattle.std.proofs.lemmas.Str.{cons_from_encodes, encode_ascii}
+use Rattle.std.proofs.lemmas.Str.{cons_from_encodes}
 use Rattle.xml_chars.specs.Classes.{is_within, is_char, char_ranges}
 use Rattle.soap_lex.specs.Characters.{IsChars}
 use Rattle.soap_lex.specs.Coded.{BeginsWithChar}
@@ -52,9 +52,6 @@ pub high_char : (c : ℕ) → 0xE000 ≤ c → c ≤ 0xFFFD → is_char c ≡ tr
 high_char c h k = within_range ((0x9, 0xA) ∷ (0xD, 0xD) ∷ (0x20, 0xD7FF) ∷ []) 0xE000 0xFFFD (drop 4 char_ranges) c h k
 
 -- ---- the bytes of a character
-
-pub one_coded : (a : ℕ) (rest : List ℕ) → a < 128 → is_char a ≡ true → BeginsWithChar (a ∷ rest) rest
-one_coded a rest h is = record { character = a; is = is; there = ap (λ l. l ++ rest) (sym (encode_ascii a h)) }
 
 encode_two : (c : ℕ) → 128 ≤ c → c < 2048 → encode c ≡ (192 + c / 64) ∷ (128 + c % 64) ∷ []
 unfolding encode

@@ -1,11 +1,11 @@
 -- What the writers have appended so far.
-use Rattle.std.proofs.Common.{◌≡◌, ℕ, ◌+◌, ◌-◌, ◌<◌, ◌≤◌, Bool, List, [], ◌∷◌, ◌++◌, length, take, drop, get_or, refl}
+use Rattle.std.proofs.Common.{◌≡◌, ℕ, ◌+◌, ◌-◌, ◌<◌, ◌≤◌, Bool, List, [], ◌∷◌, ◌++◌, length, take, drop, get_or}
 use Rattle.std.proofs.Common.{sym, ap, subst, ◌∙◌, append_assoc, arith, length-drop, get_or-drop}
 use Rattle.std.specs.List.{flat_map}
-use Rattle.std.proofs.lemmas.List.{take_more, append-nil, take_all, take_rest}
+use Rattle.std.proofs.lemmas.List.{take_more, append-nil}
 use Rattle.std.proofs.lemmas.List.Concat.{flat_map-append}
 use Rattle.soap_lex.specs.Escapes.{escape_of}
-use Rattle.soap_lex.proofs.LineLemmas.{front_kept, front_start}
+use Rattle.soap_lex.proofs.LineLemmas.{front_kept}
 
 -- the bytes before i are written, but for those from start on, which stand for themselves
 pub record Escaped (quoted : Bool) (old bytes out : List ℕ) (start i : ℕ) : Type 0 where
@@ -32,9 +32,6 @@ run_more bytes start i low h =
     ap (λ n. take n (drop start bytes)) count ∙ take_more (drop start bytes) (i - start) 0 within
     ∙ ap (λ x. take (i - start) (drop start bytes) ++ x ∷ []) (get_or-drop start bytes (i - start) 0
     ∙ ap (λ n. get_or bytes n 0) place)
-
-pub Escaped-start : (quoted : Bool) (old bytes : List ℕ) → Escaped quoted old bytes old 0 0
-Escaped-start quoted old bytes = record { low = omega arith; high = omega arith; so = refl; kept = front_start old }
 
 -- a byte that stands for itself
 pub Escaped-plain : (quoted : Bool) (old bytes out : List ℕ) (start i : ℕ) → Escaped quoted old bytes out start i
@@ -74,17 +71,6 @@ Escaped-reference quoted old bytes out reference start i so h same =
       kept = ap (λ l. take (length old) l) (append_assoc out run reference)
           ∙ front_kept old out (run ++ reference) so.kept;
     }
-
--- all bytes
-pub Escaped-done : (quoted : Bool) (old bytes out : List ℕ) (start i : ℕ) → Escaped quoted old bytes out start i
-    → length bytes ≤ i
-    → out ++ drop start bytes ≡ old ++ flat_map (escape_of quoted) bytes
-Escaped-done quoted old bytes out start i so h =
-    let high : i ≤ length bytes = so.high in
-    let all : i ≡ length bytes = omega arith in
-    let rest : take (i - start) (drop start bytes) ≡ drop start bytes =
-    ap (λ n. take (n - start) (drop start bytes)) all ∙ take_rest bytes start in
-    ap (λ l. out ++ l) (sym rest) ∙ so.so ∙ ap (λ l. old ++ flat_map (escape_of quoted) l) (take_all i bytes h)
 
 pub Escaped-moved : (quoted : Bool) (old bytes : List ℕ) {out next : List ℕ} {start place i : ℕ} → next ≡ out
     → place ≡ start

@@ -1,5 +1,5 @@
 -- Line ends, and the white space of attribute values.
-use Rattle.std.proofs.Common.{◌≡◌, ℕ, ◌+◌, ◌<◌, ◌≤◌, true, false, ◌==◌, List, [], ◌∷◌, ◌++◌, length, take, drop, get_or}
+use Rattle.std.proofs.Common.{◌≡◌, ℕ, ◌+◌, ◌<◌, ◌≤◌, true, false, List, [], ◌∷◌, ◌++◌, length, take, drop, get_or}
 use Rattle.std.proofs.Common.{Some, None, refl, sym, ap, ◌∙◌, append_assoc, arith, length-take, eqb-true}
 use Rattle.std.specs.Str.{NonePass}
 use Rattle.std.proofs.lemmas.List.{append-nil, take-append-le, take_all, take-append-drop, drop_more, drop_all}
@@ -18,19 +18,11 @@ line_ends-run (x ∷ run) rest none = rw none.0 (ap (λ l. x ∷ l) (line_ends-r
 pub line_ends-none : (run : List ℕ) → NonePass (is_byte 13) run → with_line_ends run ≡ run
 line_ends-none run none = ap with_line_ends (sym (append-nil run)) ∙ line_ends-run run [] none ∙ append-nil run
 
--- a byte other than LF after a CR
-pub line_ends-other : (x : ℕ) (rest : List ℕ) → (x == 10) ≡ false
-    → line_ends_after false (x ∷ rest) ≡ line_ends_after true (x ∷ rest)
-line_ends-other x rest other = rw other refl
-
 -- what stood in front stays there
 pub front_kept : (start out more : List ℕ) → take (length start) out ≡ start → take (length start) (out ++ more) ≡ start
 front_kept start out more kept =
     let fits : length start ≤ length out = omega (arith, ap length kept, length-take (length start) out) in
     take-append-le (length start) out more fits ∙ kept
-
-pub front_start : (start : List ℕ) → take (length start) start ≡ start
-front_start start = take_all (length start) start (omega arith)
 
 -- one line is appended, up to its CR
 pub lines_step : (start out rest bytes after : List ℕ) (k : ℕ)

@@ -19,9 +19,6 @@ pub record NameSo (text rest : List ℕ) (end : ℕ) : Type 0 where
   pub there : text ≡ encode_utf8_all characters ++ rest
   pub size : length (encode_utf8_all characters) ≡ end
 
-pub NameSo-start : (text : List ℕ) → NameSo text text 0
-NameSo-start text = record { characters = []; each = tt; there = refl; size = refl }
-
 pub NameSo-step : (text rest after : List ℕ) (end c : ℕ) → NameSo text rest end → rest ≡ encode_utf8 c ++ after
     → IsTrue (is_name_char c)
     → NameSo text after (end + length (encode_utf8 c))

@@ -1,5 +1,5 @@
 -- The number that digits write, read from the left and held at one above all characters.
-use Rattle.std.proofs.Common.{◌≡◌, ℕ, ◌+◌, ◌*◌, ◌<◌, ◌≤◌, List, [], ◌∷◌, refl, ap, ◌∙◌, arith, inl, inr}
+use Rattle.std.proofs.Common.{◌≡◌, ℕ, ◌+◌, ◌*◌, ◌<◌, ◌≤◌, List, [], ◌∷◌, ap, ◌∙◌, arith, inl, inr}
 use Rattle.std.specs.Prelude.{min, ◌⊎◌}
 use Rattle.std.specs.Char.{digit_value}
 use Rattle.std.specs.Str.Parse.{AllDigits, digits_value_after, digits_value}
@@ -47,15 +47,6 @@ NumberSo-step base number d digits rest h fits so = record {
   low = omega arith;
   value = value_held base (number * base + digit_value d) rest h ∙ so.value;
 }
-
-pub NumberSo-done : (base number : ℕ) (digits : List ℕ) → NumberSo base number digits [] → AllDigits base digits
-    × (number ≡ min (digits_value base digits) 0x110000)
-NumberSo-done base number digits so =
-    let low : number ≤ 0x110000 = so.low in
-    (so.back tt, (omega arith) ∙ so.value)
-
-pub NumberSo-start : (base : ℕ) (digits : List ℕ) → NumberSo base 0 digits digits
-NumberSo-start base digits = record { back = λ all. all; on = λ all. all; low = omega arith; value = refl }
 
 pub base_above : (base : ℕ) → (base ≡ 10) ⊎ (base ≡ 16) → 1 ≤ base
 base_above base (inl e) = omega arith

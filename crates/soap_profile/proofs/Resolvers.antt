@@ -8,7 +8,7 @@ use Rattle.soap_document.specs.Tree as written
 use Rattle.soap_profile.specs.Document.{place_of}
 use Rattle.soap_profile.specs.Items.{Item, a_declaration, an_attribute, a_text, a_child, decls_among, attrs_among}
 use Rattle.soap_profile.specs.Items.{parts_among}
-use Rattle.soap_profile.specs.Namespaces.{Resolved, resolve_parts}
+use Rattle.soap_profile.specs.Namespaces.{Resolved}
 use Rattle.soap_profile.specs.Opened as abstract
 use Rattle.soap_profile.specs.Opened.{lone}
 use Rattle.soap_profile.specs.Resolving.{Stands, sound, broken, opened_view, nest_view}
@@ -170,23 +170,6 @@ child_closed n end top inner outer replaced new made below i r b m e =
 pub record IsUntagged (items : List CodeItem) : Type 0 where
   pub decls : decls_view items ≡ []
   pub attrs : attrs_view items ≡ []
-
-document_top : (top : Frame) (o : Option Parts) (n : abstract.Nest)
-    → option_map (λ (parts : Parts). record {
-      scope = [];
-      top = abstract.opened top abstract.no_tag parts;
-      below = [];
-    }) o ≡ Some n → n.top.tag ≡ abstract.no_tag
-document_top top None n e = absurd (cc)
-document_top top (Some parts) n e =
-    let is : record { scope = []; top = abstract.opened top abstract.no_tag parts; below = [] } ≡ n = cc in
-    sym (ap (λ (n : abstract.Nest). n.top.tag) is)
-
-pub document_untagged : (r : Resolver) (top : Frame) (bindings : List Binding)
-    → abstract.nest top [] ≡ Some (nest_view r bindings) → IsUntagged r.top.element.items.items
-document_untagged r top bindings e =
-    let none = document_top top (resolve_parts [] top.parts) (nest_view r bindings) e in
-    record { decls = ap (λ (t : Resolved). t.decls) none; attrs = ap (λ (t : Resolved). t.attrs) none }
 
 last_is : (old new : List CodeItem) (r : Option CodeItem) (x : CodeItem) → old ≡ new ++ option_to_list r → r ≡ Some x
     → old ≡ new ++ x ∷ []

@@ -1,9 +1,8 @@
 -- Laws: reading each of a list, as a loop does.
-use Rattle.std.proofs.Common.{◌≡◌, List, [], ◌∷◌, ◌++◌, ℕ, ◌+◌, ◌<◌, ◌≤◌, drop, get_or, length, map, Option, Some}
+use Rattle.std.proofs.Common.{◌≡◌, List, [], ◌∷◌, ◌++◌, ℕ, ◌+◌, ◌<◌, drop, get_or, length, map, Option, Some}
 use Rattle.std.proofs.Common.{None, refl, sym, ap, ◌∙◌, append_assoc, arith}
 use Rattle.std.specs.List.{AllByRecursion}
-use Rattle.std.proofs.lemmas.List.{append-nil, drop_more}
-use Rattle.std.proofs.Math.ListN.{drop_of_length-le}
+use Rattle.std.proofs.lemmas.List.{drop_more}
 use Rattle.soap_values.specs.Outcome.{◌>>=◌, Fails, each}
 use Rattle.soap_values.specs.Steps.{onto}
 use Rattle.soap_values.specs.declared.flaw.Flaw.{Flaw}
@@ -35,14 +34,6 @@ each_stops read v front xs i x Memory total within is fails so_far = tt
 each_stops read v front xs i x Malformed total within is fails so_far =
     let cut : drop i xs ≡ x ∷ drop (i + 1) xs = drop_more xs i x within ∙ ap (λ z. z ∷ drop (i + 1) xs) (sym is) in
     let one : onto front (each read (map v (drop i xs))) ≡ None = rw (cut, fails) refl in
-    sym so_far ∙ one
-
--- all were read
-pub each_done : {A B E : Type 0} (read : E → Option B) (v : A → E) (front : List B) (xs : List A) (i : ℕ)
-    (total : Option (List B)) → length xs ≤ i → onto front (each read (map v (drop i xs))) ≡ total → total ≡ Some front
-each_done read v front xs i total past so_far =
-    let cut : drop i xs ≡ [] = drop_of_length-le xs past in
-    let one : onto front (each read (map v (drop i xs))) ≡ Some front = rw cut (ap Some (append-nil front)) in
     sym so_far ∙ one
 
 -- what each is written as is read as they are

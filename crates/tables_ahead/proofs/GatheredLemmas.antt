@@ -15,8 +15,8 @@ use Rattle.rm_base.specs.declared.message.Payload.{Payload}
 use Rattle.rm_destination.specs.Messages.{ranges_onto}
 use Rattle.record_batch.specs.Fact.{Fact}
 use Rattle.rm_destination.specs.Messages.{is_empty, numbers_of}
-use Rattle.sequence_table.specs.Words.{Text, at_seq, first_or}
-use Rattle.sequence_table.specs.Makers.{makers, makers_of, counter, draws_of, nodes_of, number, addresses_of}
+use Rattle.sequence_table.specs.Words.{Text, at_seq}
+use Rattle.sequence_table.specs.Makers.{makers, makers_of, counter, draws_of}
 use Rattle.sequence_table.specs.Makers.{created, created_of, created_from, seq_in}
 use Rattle.sequence_table.specs.Sources.{accepted, accepted_of, acked, acked_of}
 use Rattle.rm_destination.specs.Messages.{any_true}
@@ -39,18 +39,6 @@ makers-count r d = ap length (makers-both r d) ∙ length-append (makers r) (mak
 pub counter-both : (r d : List Fact) → counter (r ++ d) ≡ counter r + counter d
 counter-both r d =
     ap length (flat_map-append draws_of r d) ∙ length-append (flat_map draws_of r) (flat_map draws_of d)
-
--- where the records ahead give no number to the node
-pub number-both : (r d : List Fact) → flat_map nodes_of d ≡ [] → number (r ++ d) ≡ number r
-number-both r d none =
-    ap (first_or 0) (flat_map-append nodes_of r d ∙ ap (λ ns. flat_map nodes_of r ++ ns) none
-    ∙ append-nil (flat_map nodes_of r))
-
-pub addresses-both : (r d : List Fact) → flat_map addresses_of d ≡ []
-    → flat_map addresses_of (r ++ d) ≡ flat_map addresses_of r
-addresses-both r d none =
-    flat_map-append addresses_of r d ∙ ap (λ ns. flat_map addresses_of r ++ ns) none
-    ∙ append-nil (flat_map addresses_of r)
 
 pub created_from-both : (k : ℕ) (r d : List Fact)
     → created_from k (r ++ d) ≡ created_from k r ++ created_from (k + length (makers r)) d

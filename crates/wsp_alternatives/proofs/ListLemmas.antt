@@ -121,9 +121,6 @@ all_taken [] (suc i) h = refl
 all_taken (m ∷ ms) zero h = absurd (omega arith)
 all_taken (m ∷ ms) (suc i) h = ap (λ l. m ∷ l) (all_taken ms i (omega arith))
 
-pub listed-none : (ts : List Term) → ListedSoFar ts (λ m. ⊥) []
-listed-none ts = record { rises = tt; each = tt; exact = λ x. ((λ h. absurd h), (λ h. absurd h.1)) }
-
 pub listed-more : (ts : List Term) (seen later : ℕ → Type 0) (n : ℕ) (ls : List (List Term)) → Rises term_cmp ts
     → ((m : ℕ) → later m ↔ (seen m ⊎ (n ≡ m))) → ListedSoFar ts seen ls → ListedSoFar ts later (insert_key list_cmp ls
     (picked_list 0 ts n))
@@ -260,12 +257,6 @@ any_at i t ts m = elim (bit_at m i == 1) as (λ (x : Bool).
       | true ↦ sym (or_right (has_any (picked_list (suc i) ts m)) refl)
       | false ↦ sym (or_none (has_any (picked_list (suc i) ts m)))
     ]
-
-pub Rises-drop : (ts : List Term) (i : ℕ) → Rises term_cmp ts → Rises term_cmp (drop i ts)
-Rises-drop [] zero h = tt
-Rises-drop [] (suc i) h = tt
-Rises-drop (t ∷ ts) zero h = h
-Rises-drop (t ∷ ts) (suc i) h = Rises-drop ts i h.1
 
 -- the order, and whether there are any, with the term at a place
 order_from : (ts : List Term) (k i m n : ℕ) → k < length ts → Rises term_cmp ts

@@ -169,12 +169,6 @@ has_mask-get (x ∷ xs) (suc i) h =
     let rest : has_mask xs (get_or xs i 0) ≡ true = has_mask-get xs i (omega arith) in
     grind (arith, nat_tests, rest)
 
-pub has_mask-drop : (xs : List ℕ) (i m : ℕ) → has_mask (drop i xs) m ≡ true → has_mask xs m ≡ true
-has_mask-drop [] zero m h = h
-has_mask-drop [] (suc i) m h = h
-has_mask-drop (x ∷ xs) zero m h = h
-has_mask-drop (x ∷ xs) (suc i) m h = or_right (x == m) (has_mask-drop xs i m h)
-
 -- what is left of the pairs, at a next first mask
 pub pairs_next : (a b : List ℕ) (i m : ℕ) → i < length a → OfBoth (drop i a) b m
     → ((y : ℕ) × (has_mask b y ≡ true) × (m ≡ bit_or (get_or a i 0) y)) ⊎ OfBoth (drop (i + 1) a) b m

@@ -2,16 +2,10 @@
 use Rattle.std.proofs.Common.{◌≡◌, ℕ, List, [], ◌∷◌, Bool, true, false, refl, ap, sym, ◌∙◌, eqb}
 use Rattle.std.specs.List.{list_any}
 use Rattle.std.specs.Ordering.{eq_by_cmp}
-use Rattle.std.specs.Ordering.{nat_cmp, is_eq, ordering_then}
-use Rattle.std.specs.declared.cmp.Ordering.{Ordering}
+use Rattle.std.specs.Ordering.{is_eq}
 use Rattle.std.specs.declared.cmp.Ordering.TheVariants.{Less, Equal, Greater}
-use Rattle.std.specs.Str.{bytes_eq}
-use Rattle.std.proofs.lemmas.Map.Text.{is_eq-slice_cmp}
 use Rattle.std.proofs.lemmas.Bool.{false≢true}
-use Rattle.std.proofs.Common.{◌&&◌}
-use Rattle.soap_profile.specs.declared.name.Expanded.{Expanded}
 use Rattle.std.specs.Cmp.{IsTotalOrder}
-use Rattle.std.specs.Cmp.Lexicographic.{slice_cmp}
 use Rattle.std.proofs.lemmas.Cmp.{on_total, lists_total, nat_list_cmp_total}
 use Rattle.std.specs.FinSet.{IsAntisymmetric, nat_cmp-IsAntisymmetric, slice_cmp-IsAntisymmetric, items}
 use Rattle.std.specs.FinSet.{contains-items, same_set}
@@ -75,21 +69,6 @@ same_items x y e =
 
 pub set_cmp_exact : IsAntisymmetric set_cmp
 set_cmp_exact x y tie = same_items x y (slice_cmp-IsAntisymmetric term_cmp_exact (items x) (items y) tie)
-
-ties : (a b : Ordering) → is_eq (ordering_then a (ordering_then b Equal)) ≡ (is_eq a && is_eq b)
-ties Less b = refl
-ties Equal Less = refl
-ties Equal Equal = refl
-ties Equal Greater = refl
-ties Greater b = refl
-
--- names tie by their parts
-pub same_name : (n m : Expanded) → eq_by_cmp term_cmp (Other n) (Other m)
-    ≡ (bytes_eq n.space m.space && bytes_eq n.local m.local)
-same_name n m =
-    ties (slice_cmp nat_cmp n.space m.space) (slice_cmp nat_cmp n.local m.local)
-    ∙ ap (λ b. b && is_eq (slice_cmp nat_cmp n.local m.local)) (is_eq-slice_cmp n.space m.space)
-    ∙ ap (λ b. bytes_eq n.space m.space && b) (is_eq-slice_cmp n.local m.local)
 
 -- what ties is the same
 pub same_term : (t u : Term) → eq_by_cmp term_cmp t u ≡ true → t ≡ u

@@ -2,7 +2,7 @@
 use Rattle.std.proofs.Common.{zero, suc, ◌<◌, length, drop, get_or, add-one}
 use Rattle.std.proofs.Common.{◌≡◌, ◌≢◌, ◌+◌, ◌++◌, ℕ, List, [], ◌∷◌, Bool, true, false, ◌&&◌, ◌↔◌, Option, Some}
 use Rattle.std.proofs.Common.{None}
-use Rattle.std.proofs.Common.{Result, Ok, Err, map, option_map, refl, ap, sym, ◌∙◌, min, arith}
+use Rattle.std.proofs.Common.{Result, Ok, Err, map, option_map, refl, ap, sym, ◌∙◌, arith}
 use Rattle.std.specs.Prelude.{if◌then◌else◌}
 use Rattle.std.proofs.lemmas.List.{map-append}
 use Rattle.soap_document.specs.Tokens.{is_white}
@@ -17,7 +17,7 @@ use Rattle.soap_profile.specs.declared.error.EnvelopeError.TheVariants as docume
 use Rattle.soap_profile.specs.declared.tree.Item.{Item as CodeItem}
 use Rattle.wsp_alternatives.specs.Reading.{policy_in, policies_in, before, is_childless, asked_among, asked_in}
 use Rattle.wsp_alternatives.specs.Reading.{first_of}
-use Rattle.wsp_alternatives.specs.Reading.{count_among, counted, Reads, Answers}
+use Rattle.wsp_alternatives.specs.Reading.{count_among, Reads, Answers}
 use Rattle.wsp_alternatives.specs.Refusal.{refusal_of}
 use Rattle.wsp_alternatives.specs.Tree.{Policy, Policies, none, and, policies_of, policies_found, put_to, policy_view}
 use Rattle.wsp_alternatives.specs.Tree.{policies_view}
@@ -134,10 +134,6 @@ count_item (a_child e) is = omega arith
 pub count_more : (x : CodeItem) (xs : List CodeItem) → count_among (parts_view (x ∷ xs))
     ≡ count_among (parts_view (x ∷ [])) + count_among (parts_view xs)
 count_more x xs = count_item (item_view x) (items_view xs)
-
--- counts that are capped add up as they are
-pub counted_more : (n a : ℕ) → min (n + counted a) 18446744073709551615 ≡ counted (n + a)
-counted_more n a = omega arith
 
 childless_item : (i : Item) (is : List Item) → is_childless (parts_among (i ∷ is))
     ≡ (is_childless (parts_among (i ∷ [])) && is_childless (parts_among is))
