@@ -1,13 +1,14 @@
 -- Whether a batch fits into a journal.
 use Rattle.std.specs.Prelude.{◌≡◌, ◌⊎◌, ◌≤◌, ℕ, ◌+◌, List, [], length}
+use Rattle.rm_base.specs.Limits as limits
 use Rattle.record_batch.specs.Batch.{batch_text}
 use Rattle.record_batch.specs.Fact.{Fact}
 
 -- it fits behind this place: an entry has at most 4194304 bytes, and a journal, with 6 bytes more for each of them,
 -- 268435456
 pub record IsWithin (end : ℕ) (facts : List Fact) : Type 0 where
-  pub short : length (batch_text facts) ≤ 4194304
-  pub room : end + 6 + length (batch_text facts) ≤ 268435456
+  pub short : length (batch_text facts) ≤ limits.entry_bytes
+  pub room : end + 6 + length (batch_text facts) ≤ limits.journal_bytes
 
 -- there is nothing to be written, or it fits
 abbrev pub HasRoom : ℕ → List Fact → Type 0

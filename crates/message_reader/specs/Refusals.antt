@@ -1,6 +1,7 @@
 -- Which message bytes spell, or why they spell none, and where the fault that says so goes: SOAP 1.2 Part 1, sections
 -- 2.6 and 5.4, and WS-Addressing 1.0 Core, section 3.4.
 use Rattle.std.specs.Prelude.{◌≡◌, ◌≤◌, ◌<◌, ℕ, List, [], length, Option, Some, None, Result, Ok, Err, codes}
+use Rattle.rm_base.specs.Limits as limits
 use Rattle.soap_profile.specs.Document.{IsReadable, IsTextUpTo, HasNoTree}
 use Rattle.soap_envelope.specs.Envelope.{Envelope, IsEnvelope}
 use Rattle.soap_envelope.specs.Refusals.{WrongVersion, NotEnvelope}
@@ -20,7 +21,7 @@ use Rattle.message_reader.specs.Message.{Rollover, message_in}
 pub record Spells (soap bytes : List ℕ) (m : Message) : Type 0 where
   pub envelope : Envelope
   pub is : IsEnvelope soap bytes envelope
-  pub fits : length bytes ≤ 2097152
+  pub fits : length bytes ≤ limits.envelope_bytes
   pub reads : message_in soap envelope ≡ Ok m
 
 -- back on the connection that a message came on (Core, 2.1)
@@ -58,7 +59,7 @@ refusal_of (Rollover addressing ident) = addressed_refusal kinds.Rollover addres
 
 -- bytes spell no message, and this is the refusal of the first kind that holds
 pub data Refuses (soap bytes : List ℕ) : Refusal → Type 0 where
-  too_long : 2097152 < length bytes → Refuses soap bytes (blind kinds.TooLong)
+  too_long : limits.envelope_bytes < length bytes → Refuses soap bytes (blind kinds.TooLong)
   not_utf8 : (place : ℕ) → IsTextUpTo bytes place → Refuses soap bytes (blind kinds.NotUtf8)
   not_profile : HasNoTree bytes → Refuses soap bytes (blind kinds.NotProfile)
   wrong_version : IsReadable bytes → WrongVersion soap bytes → Refuses soap bytes (blind kinds.WrongVersion)

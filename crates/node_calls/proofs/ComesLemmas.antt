@@ -35,7 +35,7 @@ with-pushed r f empty k none records delta = record {
 }
 
 -- so it is behind r
-pub both : (r : List Fact) (f : Fact) (k : KnownRecords) → IsWith r f k → k.records ++ k.delta ≡ r ++ f ∷ []
+pub both : (r : List Fact) (f : Fact) (k : KnownRecords) → IsWith r f k → all_records k ≡ r ++ f ∷ []
 both r f k is = ap (λ rs. rs ++ k.delta) is.records ∙ ap (λ d. r ++ d) is.delta
 
 -- ---- what is asked of the records
@@ -79,7 +79,7 @@ comes-asked r w k m t again o fit is et ea eo em =
     let here : IsWith r f k =
     subst (λ (x : ℕ). IsWith r (Creating x w.to w.via w.expires own) k) et
     (subst (λ (x : Option OwnOffer). IsWith r (Creating t w.to w.via w.expires x) k) eo is) in
-    let now = k.records ++ k.delta in
+    let now = all_records k in
     let said : m ≡ create_with now w.to w.via (counter r + 1) w.expires own =
     em ∙ ap (λ (x : Text). create_with now x w.via t w.expires o) ea
     ∙ ap (λ (x : ℕ). create_with now w.to w.via x w.expires o) et

@@ -1,6 +1,7 @@
 -- Why a call is refused, apart from what it comes to where it isn't.
 use Rattle.std.specs.Prelude.{ℕ, not, nat_le, nat_lt, if◌then◌else◌, List, length, Option, Some, None}
 use Rattle.std.specs.Option.{option_or}
+use Rattle.rm_base.specs.Limits as limits
 use Rattle.record_batch.specs.Fact.{Fact}
 use Rattle.sequence_table.specs.Words.{Text}
 use Rattle.sequence_table.specs.Makers.{Maker, Outgoing, Taken, maker}
@@ -24,7 +25,7 @@ side_cause (Some _) = Some WrongSide
 -- why a payload may not be sent
 abbrev pub payload_cause : Terms → Text → Option Cause
 payload_cause terms payload =
-    if nat_lt 1048576 (length payload) then Some (PayloadTooLong (length payload))
+    if nat_lt limits.payload_bytes (length payload) then Some (PayloadTooLong (length payload))
     else if not (terms.is_content payload) then Some BadPayload
     else None
 
@@ -32,8 +33,8 @@ payload_cause terms payload =
 abbrev pub window_cause : List Fact → ℕ → Option Cause
 window_cause r s =
     if not (is_open (phase r s)) then Some NotOpen
-    else if nat_le 1024 (unacked r s) then Some (WindowFull (unacked r s))
-    else if nat_le 4096 (all_unacked r) then Some (NodeFull (all_unacked r))
+    else if nat_le limits.window (unacked r s) then Some (WindowFull (unacked r s))
+    else if nat_le limits.most_unacked (all_unacked r) then Some (NodeFull (all_unacked r))
     else if nat_le 9223372036854775807 (length (accepted r s)) then Some Rollover
     else None
 

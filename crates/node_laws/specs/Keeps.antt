@@ -1,6 +1,7 @@
 -- Each call of a node keeps what holds of its records, and all that it says may be written.
 use Rattle.std.specs.Prelude.{ℕ, ◌≤◌, List, ◌++◌, length, Result}
 use Rattle.std.specs.List.{AllByRecursion}
+use Rattle.rm_base.specs.Limits as limits
 use Rattle.rm_base.specs.declared.message.Behaviour.{Behaviour}
 use Rattle.rm_message.specs.declared.message.Message.{Message}
 use Rattle.rm_message.specs.declared.refusal.Refusal.{Refusal}
@@ -46,7 +47,8 @@ EachIsByTheRules =
 
 -- a message is read back from its text, where that is no longer than a message may be
 abbrev pub IsReadBack : Message → Type 0
-IsReadBack m = length (message_text soap_space m) ≤ 2097152 → Spells soap_space (message_text soap_space m) m
+IsReadBack m =
+    length (message_text soap_space m) ≤ limits.envelope_bytes → Spells soap_space (message_text soap_space m) m
 
 -- all that an answer says is read back
 abbrev pub SaysWhatIsRead : Answer → Type 0

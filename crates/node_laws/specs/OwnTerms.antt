@@ -1,5 +1,6 @@
 -- Terms of a node's own: what the definitions take from the layers that write, read and date is what these layers do.
 use Rattle.std.specs.Prelude.{◌≡◌, ℕ, ◌<◌, ◌≤◌, Bool, List, length, Option, None, Result, IsTrue, ◌↔◌}
+use Rattle.rm_base.specs.Limits as limits
 use Rattle.soap_profile.specs.Payload.{IsClosedContent}
 use Rattle.rm_elements.specs.Deadline.{IsDeadline}
 use Rattle.rm_elements.specs.declared.header.AckBlock.{AckBlock}
@@ -13,8 +14,8 @@ use Rattle.rm_protocol.specs.Terms.{Terms, AreTerms, ReadsBack}
 
 -- a clock tells moments up to this one, and then a duration ends as the calendar says; what begins later never ends
 pub record EndsAsTold (now : ℕ) (lapse : Lapse) (end : Option ℕ) : Type 0 where
-  pub told : now ≤ 200000000000000 → IsDeadline now lapse end
-  pub later : 200000000000000 < now → end ≡ None
+  pub told : now ≤ limits.now_max → IsDeadline now lapse end
+  pub later : limits.now_max < now → end ≡ None
 
 -- a batch takes the bytes of its text, a duration ends as the calendar says, what may stand in a Body is closed
 -- content, and a refusal is answered with its fault

@@ -1,6 +1,7 @@
 -- The records of a node: those that it accepts when it is mounted, and what the types of their values give for nothing.
 use Rattle.std.specs.Prelude.{◌≡◌, ℕ, ◌+◌, ◌^◌, ◌<◌, ◌≤◌, true, List, [], ◌∷◌, length, IfSome}
 use Rattle.std.specs.List.{AllByRecursion}
+use Rattle.rm_base.specs.Limits as limits
 use Rattle.ack_ranges.specs.Ranges.{IsCanonical}
 use Rattle.rm_base.specs.NumberSet.{has_number}
 use Rattle.rm_base.specs.Text.{IsText}
@@ -57,10 +58,11 @@ pub record IsNode (r : List Fact) : Type 0 where
   pub begins : BeginsWithMade r
   pub fit : all_fit [] r ≡ true
   pub each : AllByRecursion KeepsLimits r
-  pub sequences : length (makers r) ≤ 256
-  pub window : (s : ℕ) → is_outgoing_side (maker r s) ≡ true → unacked r s ≤ 1024
-  pub windows : all_unacked r ≤ 4096
-  pub near : (s n : ℕ) → is_incoming_side (maker r s) ≡ true → has_number (held r s) n ≡ true → n ≤ front r s + 1024
+  pub sequences : length (makers r) ≤ limits.most_sequences
+  pub window : (s : ℕ) → is_outgoing_side (maker r s) ≡ true → unacked r s ≤ limits.window
+  pub windows : all_unacked r ≤ limits.most_unacked
+  pub near : (s n : ℕ) → is_incoming_side (maker r s) ≡ true → has_number (held r s) n ≡ true
+      → n ≤ front r s + limits.window
 
 -- the values of records are those of their types
 abbrev pub AreValues : List Fact → Type 0

@@ -1,6 +1,7 @@
 -- What a mount finds on a disk.
 use Rattle.std.specs.Prelude.{◌≡◌, ◌+◌, ◌≤◌, ℕ, Bool, true, false, List, [], ◌++◌, length, Result, Err, Some, slice_get}
 use Rattle.std.specs.List.{AllByRecursion}
+use Rattle.rm_base.specs.Limits as limits
 use Rattle.rm_base.specs.NumberSet.{has_number}
 use Rattle.rm_base.specs.declared.message.Payload.{Payload}
 use Rattle.rm_destination.specs.Messages.{front_of, numbers_of}
@@ -74,16 +75,16 @@ pub record Replays (entries : List (List ℕ)) (r : List Fact) : Type 0 where
 
 -- no number is more than 1024 past the front of those that came
 abbrev pub AreNear : List (ℕ × Payload) → Type 0
-AreNear came = (n : ℕ) → has_number (numbers_of came) n ≡ true → n ≤ front_of came + 1024
+AreNear came = (n : ℕ) → has_number (numbers_of came) n ≡ true → n ≤ front_of came + limits.window
 
 -- an outgoing sequence has at most 1024 messages that are not acknowledged
 abbrev pub HasWindow : List Fact → ℕ → Type 0
-HasWindow r s = is_outgoing_side (maker r s) ≡ true → unacked r s ≤ 1024
+HasWindow r s = is_outgoing_side (maker r s) ≡ true → unacked r s ≤ limits.window
 
 -- no number of an incoming sequence is more than 1024 past its front
 abbrev pub HasNear : List Fact → ℕ → Type 0
 HasNear r s =
-    (n : ℕ) → is_incoming_side (maker r s) ≡ true → has_number (held r s) n ≡ true → n ≤ front r s + 1024
+    (n : ℕ) → is_incoming_side (maker r s) ≡ true → has_number (held r s) n ≡ true → n ≤ front r s + limits.window
 
 -- a sequence keeps its window
 pub record KeepsWindow (r : List Fact) (s : ℕ) : Type 0 where
@@ -92,6 +93,6 @@ pub record KeepsWindow (r : List Fact) (s : ℕ) : Type 0 where
 
 -- there are at most 256 sequences, each keeps its window, and at most 4096 messages wait for an acknowledgement
 pub record KeepsWindows (r : List Fact) : Type 0 where
-  pub sequences : length (makers r) ≤ 256
-  pub windows : all_unacked r ≤ 4096
+  pub sequences : length (makers r) ≤ limits.most_sequences
+  pub windows : all_unacked r ≤ limits.most_unacked
   pub each : (s : ℕ) → KeepsWindow r s

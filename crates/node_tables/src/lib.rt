@@ -6,7 +6,6 @@ mod ahead;
 mod claims;
 mod error;
 mod find;
-mod issued;
 pub mod laws;
 pub mod maker;
 mod note;
@@ -16,7 +15,6 @@ mod rows;
 pub mod tables;
 
 pub use error::TableError;
-pub use issued::is_issued;
 pub use maker::{Maker, maker_by};
 pub use peer::{Asked, Grant, Peer};
 pub use tables::Tables;

@@ -2,6 +2,7 @@
 use Rattle.std.specs.Prelude.{ℕ, zero, suc, ◌+◌, ◌&&◌, nat_lt, nat_le, Bool, true, if◌then◌else◌, List, [], ◌∷◌}
 use Rattle.std.specs.Prelude.{length, Option, Some, None, false}
 use Rattle.std.specs.Str.{bytes_eq}
+use Rattle.rm_base.specs.Limits as limits
 use Rattle.ack_ranges.specs.declared.range.Range.{Range}
 use Rattle.rm_base.specs.declared.message.Behaviour.{Behaviour}
 use Rattle.rm_base.specs.declared.message.Behaviour.TheVariants.{NoDiscard, EntireSequence, FollowingFirstGap}
@@ -152,7 +153,7 @@ payload = written_as (λ p. (p.bytes, p.scope)) payload_of (text & counted bindi
 -- the tree of a document of at most 2097152 bytes, where the bytes are one
 unfoldable pub tree_of : List ℕ → Option Element
 tree_of bytes =
-    if nat_lt 2097152 (length bytes) then None else (root_of (run start bytes) >>= λ raw. resolve [] raw)
+    if nat_lt limits.envelope_bytes (length bytes) then None else (root_of (run start bytes) >>= λ raw. resolve [] raw)
 
 -- the element that bytes are the text of: what is read of them, without its declarations, is written as these bytes
 unfoldable pub param_of : List ℕ → Option Element

@@ -1,6 +1,7 @@
 -- What has a text, and what is read back.
 use Rattle.std.specs.Prelude.{◌≡◌, ℕ, ◌<◌, ◌≤◌, ◌^◌, List, length, IfSome, false}
 use Rattle.std.specs.List.{AllByRecursion}
+use Rattle.rm_base.specs.Limits as limits
 use Rattle.ack_ranges.specs.Ranges.{IsCanonical}
 use Rattle.ack_ranges.specs.declared.range.Range.{Range}
 use Rattle.rm_base.specs.Text.{IsText}
@@ -100,7 +101,7 @@ pub record IsPayloadWritable (p : Payload) : Type 0 where
 
 -- an element whose text, of at most 2097152 bytes, is a document of which it is read back, without its declarations
 pub record IsParamWritable (p : Element) : Type 0 where
-  pub few : length (element_text false p) ≤ 2097152
+  pub few : length (element_text false p) ≤ limits.envelope_bytes
   pub tree : Element
   pub document : Document (element_text false p) tree
   pub same : without_declarations tree ≡ p

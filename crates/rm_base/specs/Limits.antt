@@ -1,5 +1,6 @@
--- The limits of a node, of its journal and of what it reads, each of them once. The greatest message number stands in
--- `Message`, and how many elements may be open at a place of a document in the grammar of documents.
+-- The limits of a node, of its journal and of what it reads, each of them a number that stands here once; definitions
+-- cite it from here. That of an address and that of an identifier stand in `IsText 2048` and `IsText 512`, the greatest
+-- message number in `Message`, and how many elements may be open at a place of a document in its grammar.
 use Rattle.std.specs.Prelude.{ℕ}
 
 -- how far past the front of a sequence a number is taken, and how many of its messages may be unacknowledged
@@ -49,6 +50,10 @@ parameter_bytes = 65536
 -- how many elements of a payload, or of a reference parameter, may stand in one another
 abbrev pub content_depth : ℕ
 content_depth = 90
+
+-- the most packets of a network in memory
+abbrev pub most_packets : ℕ
+most_packets = 65536
 
 -- the greatest moment that a program speaks of, in milliseconds since 1970 UTC
 abbrev pub now_max : ℕ

@@ -1,5 +1,6 @@
 //! A clock that stands at one moment, and the clock of the system.
 ghost use Rattle.std.specs.Prelude.{◌≡◌, ◌≤◌, ℕ, Some, None, IfSome, min};
+ghost use Rattle.rm_base.specs.Limits.{now_max};
 
 use crate::limits::NOW_MAX;
 use crate::outside::Clock;
@@ -17,13 +18,13 @@ impl Model for MemClock {
 
     ghost view = { λ c. c.moment };
 
-    ghost invariant = { λ c. c.moment ≤ 200000000000000 };
+    ghost invariant = { λ c. c.moment ≤ now_max };
 }
 
 impl MemClock {
     /// A clock that stands at this moment, in milliseconds since 1970 UTC.
     pub fn new(now: u64) -> Self
-        requires { now ≤ 200000000000000 }
+        requires { now ≤ now_max }
         ensures { result ≡ now }
     {
         MemClock { moment: now }
@@ -34,7 +35,7 @@ impl Clock for MemClock {
     ghost next = { λ c. Some c };
 
     fn now(&mut self) -> u64
-        ensures within { result ≤ 200000000000000 }
+        ensures within { result ≤ now_max }
         ensures told { result ≡ self.old }
         ensures same { self.new ≡ self.old }
     {
@@ -72,7 +73,7 @@ impl<C: SystemClock> Clock for StdClock<C> {
 
 // The moment that is nearest to so many milliseconds.
 fn nearest(millis: u128) -> u64
-    ensures { result ≡ min millis 200000000000000 }
+    ensures { result ≡ min millis now_max }
 {
     millis.min(NOW_MAX as u128) as u64
 }

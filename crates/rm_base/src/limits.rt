@@ -1,5 +1,5 @@
-//! The limits of a node, of its journal and of what it reads, each of them once. The definitions of contracts have them
-//! as numbers in `specs/Limits`, the greatest message number in `specs/Message`.
+//! The limits of a node, of its journal and of what it reads, each of them once for the code. Definitions have them as
+//! numbers from `specs/Limits`, and the greatest message number from `specs/Message`.
 
 /// How far past the front of a sequence a number is taken, and how many of its messages may be unacknowledged.
 pub const WINDOW: u64 = 1024;
@@ -42,6 +42,9 @@ pub const CONTENT_DEPTH: usize = 90;
 
 /// The greatest message number: WS-ReliableMessaging 1.2, section 3.7.
 pub const MAX_NUMBER: u64 = 9223372036854775807;
+
+/// The most packets of a network in memory.
+pub const MOST_PACKETS: usize = 65536;
 
 /// The greatest moment that a program speaks of, in milliseconds since 1970 UTC.
 pub const NOW_MAX: u64 = 200000000000000;

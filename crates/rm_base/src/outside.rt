@@ -4,6 +4,7 @@ ghost use Rattle.std.specs.Prelude.{Err, Ok, IfSome};
 ghost use Rattle.std.specs.Io.{ReadsAtMost, WritesAtMost};
 ghost use Rattle.std.specs.Io.KnownBytes.{ReadConsumes, WriteAppends};
 ghost use Rattle.rm_base.specs.Count.{Rose, raised_by};
+ghost use Rattle.rm_base.specs.Limits.{now_max};
 ghost use Rattle.rm_base.specs.Outside.{Stream, Lasts};
 
 use crate::failures::{Failed, Memory};
@@ -66,6 +67,6 @@ pub trait Clock {
 
     /// The moment, in milliseconds since 1970 UTC.
     fn now(&mut self) -> u64
-        ensures within { result ≤ 200000000000000 }
+        ensures within { result ≤ now_max }
         ensures told { IfSome (next self.old) (λ moment. result ≡ moment) };
 }

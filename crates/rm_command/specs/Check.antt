@@ -1,5 +1,6 @@
 -- What a run of `wsrm check` is, by how it ended, and what it prints.
 use Rattle.std.specs.Prelude.{◌≡◌, ℕ, Bool, true, false, List, Option, Some, None}
+use Rattle.rm_base.specs.Limits as limits
 use Rattle.soap_envelope.specs.Soap.{soap_space}
 use Rattle.rm_message.specs.declared.message.Message.{Message}
 use Rattle.rm_message.specs.declared.refusal.FaultKind.{FaultKind}
@@ -63,7 +64,7 @@ RefusesMessage bytes _ = ⊥
 
 -- what check did, by how it ended
 abbrev pub EndsCheck : {S K : Type 0} → End → Edge S K → Type 0
-EndsCheck end e = EndsFilter 2097152 (Unit {0}) IsTextOf (λ _. ⊥) RefusesMessage end e
+EndsCheck end e = EndsFilter limits.envelope_bytes (Unit {0}) IsTextOf (λ _. ⊥) RefusesMessage end e
 
 -- the bytes spell a message, in SOAP 1.2
 abbrev pub IsAMessage : List ℕ → Type 0
@@ -71,4 +72,4 @@ IsAMessage bytes = (m : Message) × Spells soap_space bytes m
 
 -- of a message comes 0, of other bytes 9, of more bytes 8, unless the input, the output or the machine fails
 abbrev pub IsCheckStatus : List ℕ → ℕ → Type 0
-IsCheckStatus bytes status = IsFilterStatus 2097152 9 (IsAMessage bytes) bytes status
+IsCheckStatus bytes status = IsFilterStatus limits.envelope_bytes 9 (IsAMessage bytes) bytes status

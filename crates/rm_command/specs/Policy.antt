@@ -1,6 +1,7 @@
 -- What a run of `wsrm policy` is, by how it ended, and what it prints.
 use Rattle.std.specs.Prelude.{◌≡◌, ℕ, Bool, true, false, List, ◌++◌, Ok, Err, codes}
 use Rattle.std.specs.Str.{IsUtf8}
+use Rattle.rm_base.specs.Limits as limits
 use Rattle.soap_profile.specs.Document.{Document}
 use Rattle.soap_profile.specs.Tree.{Element}
 use Rattle.rm_policy.specs.Assertion.{is_granted}
@@ -57,7 +58,7 @@ RefusesPolicy bytes _ = ⊥
 
 -- what policy did, by how it ended
 abbrev pub EndsPolicy : {S K : Type 0} → End → Edge S K → Type 0
-EndsPolicy end e = EndsFilter 2097152 (Unit {0}) IsPolicyTextOf (λ _. ⊥) RefusesPolicy end e
+EndsPolicy end e = EndsFilter limits.envelope_bytes (Unit {0}) IsPolicyTextOf (λ _. ⊥) RefusesPolicy end e
 
 -- the bytes are an assertion
 abbrev pub IsAnAssertion : List ℕ → Type 0
@@ -65,4 +66,4 @@ IsAnAssertion bytes = (a : Assertion) × ReadsAs bytes (Ok a)
 
 -- of an assertion comes 0, of other bytes 9, of more bytes 8, unless the input, the output or the machine fails
 abbrev pub IsPolicyStatus : List ℕ → ℕ → Type 0
-IsPolicyStatus bytes status = IsFilterStatus 2097152 9 (IsAnAssertion bytes) bytes status
+IsPolicyStatus bytes status = IsFilterStatus limits.envelope_bytes 9 (IsAnAssertion bytes) bytes status

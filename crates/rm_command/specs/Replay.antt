@@ -1,5 +1,6 @@
 -- What a run of `wsrm replay` is, by how it ended.
 use Rattle.std.specs.Prelude.{◌≡◌, ◌⊎◌, ℕ, List, take}
+use Rattle.rm_base.specs.Limits as limits
 use Rattle.rm_protocol.specs.Delivered.{TakesNew}
 use Rattle.rm_protocol.specs.Terms.{Terms}
 use Rattle.rm_script.specs.declared.event.Event.{Event}
@@ -38,7 +39,7 @@ RefusesScript old new bytes _ = ⊥
 -- what replay did, by how it ended
 abbrev pub EndsReplay : {S K T : Type 0} → End → Edge S K → Staged T → Staged T → Type 0
 EndsReplay end e old new =
-    EndsFilter 16777216 (new ≡ old) (IsReportOf old.scene new.scene) (IsCutShortOf old.scene new.scene)
+    EndsFilter limits.script_bytes (new ≡ old) (IsReportOf old.scene new.scene) (IsCutShortOf old.scene new.scene)
     (RefusesScript old new) end e
 
 -- the bytes are a script
@@ -47,4 +48,4 @@ IsAScript bytes = (events : List Event) × IsScript (lines_of bytes) events
 
 -- of a script comes 0, of other bytes 3, of more bytes 8, unless the input, the output or the machine fails
 abbrev pub IsReplayStatus : List ℕ → ℕ → Type 0
-IsReplayStatus bytes status = IsFilterStatus 16777216 3 (IsAScript bytes) bytes status
+IsReplayStatus bytes status = IsFilterStatus limits.script_bytes 3 (IsAScript bytes) bytes status

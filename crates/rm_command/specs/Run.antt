@@ -1,5 +1,6 @@
 -- What the words ask for, and what a run of them is.
 use Rattle.std.specs.Prelude.{◌≡◌, ◌≢◌, ℕ, List, [], ◌∷◌, Option, Some, None, codes}
+use Rattle.rm_base.specs.Limits as limits
 use Rattle.rm_base.specs.Outside.{Lasts}
 use Rattle.rm_command.specs.declared.command.Command.{Command}
 use Rattle.rm_command.specs.declared.command.Command.TheVariants.{Replay, Check, Policy}
@@ -51,17 +52,17 @@ pub record IsStatusOf (words : List (List ℕ)) (bytes : List ℕ) (status : ℕ
 -- a run of replay
 pub record RunsReplay {S K T : Type 0} (end : End) (e : Edge S K) (old new : Staged T) : Type 0 where
   pub ends : EndsReplay end e old new
-  pub taken : TookWithin 16777216 end e.input.told e.input_after.told
+  pub taken : TookWithin limits.script_bytes end e.input.told e.input_after.told
 
 -- a run of check
 pub record RunsCheck {S K : Type 0} (end : End) (e : Edge S K) : Type 0 where
   pub ends : EndsCheck end e
-  pub taken : TookWithin 2097152 end e.input.told e.input_after.told
+  pub taken : TookWithin limits.envelope_bytes end e.input.told e.input_after.told
 
 -- a run of policy
 pub record RunsPolicy {S K : Type 0} (end : End) (e : Edge S K) : Type 0 where
   pub ends : EndsPolicy end e
-  pub taken : TookWithin 2097152 end e.input.told e.input_after.told
+  pub taken : TookWithin limits.envelope_bytes end e.input.told e.input_after.told
 
 -- the words are refused, and nothing was read
 pub record RunsNothing {S K : Type 0} (end : End) (e : Edge S K) : Type 0 where

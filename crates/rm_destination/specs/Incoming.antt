@@ -1,6 +1,7 @@
 -- The destination's side of one sequence: WS-ReliableMessaging 1.2, sections 2.4, 3.4 to 3.7 and 3.9.
 use Rattle.std.specs.Prelude.{◌≡◌, ℕ, ◌+◌, ◌-◌, ◌==◌, ◌&&◌, ◌||◌, not, nat_le, nat_lt, Bool, false, if◌then◌else◌}
 use Rattle.std.specs.Prelude.{List, [], ◌∷◌, ◌++◌, length, drop, Option, Some, None, unwrap_or, Result, Ok, Err}
+use Rattle.rm_base.specs.Limits as limits
 use Rattle.rm_base.specs.NumberSet.{has_number, greatest_of}
 use Rattle.rm_base.specs.declared.message.Behaviour.{Behaviour}
 use Rattle.rm_base.specs.declared.message.Behaviour.TheVariants.{EntireSequence}
@@ -60,7 +61,7 @@ abbrev pub kind_of : Receiving → ℕ → Result Took DestError
 kind_of f number =
     if has_number (numbers_of f.received) number then Ok Duplicate
     else if is_stopped f.closes then Err IsClosed
-    else if nat_lt (front_of f.received + 1024) number then Ok (PastWindow (front_of f.received))
+    else if nat_lt (front_of f.received + limits.window) number then Ok (PastWindow (front_of f.received))
     else Ok New
 
 -- the answer to a message with this number at a moment

@@ -1,5 +1,6 @@
 -- The moment at which a duration ends: a date that many months later, with the time of day and the milliseconds added.
 use Rattle.std.specs.Prelude.{◌≡◌, ℕ, ◌+◌, ◌/◌, ◌%◌, ◌≤◌, ◌⊎◌, Option, Some, None, ℤ, pos, ◌+ℤ◌, ◌*ℤ◌, ◌<ℤ◌}
+use Rattle.rm_base.specs.Limits as limits
 use Rattle.jiff_core.specs.declared.civil.date.Date.{Date}
 use Rattle.jiff_core.specs.Date.{epoch_day}
 use Rattle.jiff_span.specs.Months.{add_months, IsShiftable}
@@ -23,9 +24,9 @@ sum_of date now lapse =
 -- (with the year 9999), or where the sum is later than any moment
 abbrev pub EndsAt : Date → ℕ → Lapse → Option ℕ → Type 0
 EndsAt date now lapse (Some end) =
-    ¬ (IsZero lapse) × IsShiftable date (pos lapse.months) × (pos end ≡ sum_of date now lapse) × (end ≤ 200000000000000)
+    ¬ (IsZero lapse) × IsShiftable date (pos lapse.months) × (pos end ≡ sum_of date now lapse) × (end ≤ limits.now_max)
 EndsAt date now lapse None =
-    IsZero lapse ⊎ ¬ (IsShiftable date (pos lapse.months)) ⊎ (pos 200000000000000 <ℤ sum_of date now lapse)
+    IsZero lapse ⊎ ¬ (IsShiftable date (pos lapse.months)) ⊎ (pos limits.now_max <ℤ sum_of date now lapse)
 
 -- the same for the date of the moment
 abbrev pub IsDeadline : ℕ → Lapse → Option ℕ → Type 0

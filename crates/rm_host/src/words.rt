@@ -3,6 +3,7 @@ ghost use Rattle.std.specs.Prelude.{◌≤◌, IfOk};
 
 use crate::end::End;
 use http_endpoint::read_target;
+use rm_base::limits::MOST_SEQUENCES;
 use rm_base::{Behaviour, Blob, Uri};
 use std::alloc::Global;
 use std::str;
@@ -107,7 +108,7 @@ fn send_of(alloc: Global, words: &[Blob]) -> Result<Command, End> {
 
 fn seq_of(words: &[Blob]) -> Result<u32, End> {
     match words {
-        [seq] => Ok(number_in(seq, 1, 256)? as u32),
+        [seq] => Ok(number_in(seq, 1, u64::from(MOST_SEQUENCES))? as u32),
         _ => Err(End::Usage),
     }
 }

@@ -2,10 +2,11 @@
 use Rattle.std.specs.Prelude.{◌≡◌, ◌≢◌, ◌⊎◌, ◌≤◌, ℕ, ◌+◌, List, [], ◌∷◌, ◌++◌, length, slice_index, codes, All}
 use Rattle.std.specs.List.{flat_map}
 use Rattle.std.specs.Int.{w32, to_be_bytes}
+use Rattle.rm_base.specs.Limits as limits
 
 -- the greatest length of an entry
 abbrev pub longest : ℕ
-longest = 4194304
+longest = limits.entry_bytes
 
 -- what a journal begins with
 abbrev pub head : List ℕ

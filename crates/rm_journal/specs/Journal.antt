@@ -1,6 +1,7 @@
 -- How a journal fits a disk, and what its calls answer.
 use Rattle.std.specs.Prelude.{◌≡◌, ◌⊎◌, ℕ, ◌+◌, Bool, true, false, nat_lt, if◌then◌else◌, List, [], ◌∷◌, ◌++◌, Option}
 use Rattle.std.specs.Prelude.{Some, None, Result, Ok, Err}
+use Rattle.rm_base.specs.Limits as limits
 use Rattle.rm_disk.specs.Call.{Call, overwritten}
 use Rattle.rm_disk.specs.Image.{MayLeave}
 use Rattle.rm_journal.specs.Entries.{longest, block, StandsFor, gates_from}
@@ -10,7 +11,7 @@ use Rattle.rm_journal.specs.declared.error.JournalError.TheVariants as Variant
 
 -- the greatest length of a journal
 abbrev pub limit : ℕ
-limit = 268435456
+limit = limits.journal_bytes
 
 -- The journal has these entries, and so has the disk: as it reads, which is one of its images, and after any crash now.
 pub record Fits (entries : List (List ℕ)) (past : List Call) (journal : JournalState) : Type 0 where

@@ -1,6 +1,7 @@
 -- What contracts see of a wire in memory.
 use Rattle.std.specs.Prelude.{◌≡◌, ℕ, ◌≤◌, List, map, length, slice_range}
 use Rattle.std.specs.List.{AllByRecursion}
+use Rattle.rm_base.specs.Limits.{most_packets}
 use Rattle.rm_network.specs.Wire.{bytes_in}
 use Rattle.rm_network.specs.declared.mem.Place.{Place}
 
@@ -21,5 +22,5 @@ pub record IsWithin (len : ℕ) (place : Place) : Type 0 where
 pub record AreStored (bytes : List ℕ) (places : List Place) : Type 0 where
   pub within : AllByRecursion (IsWithin (length bytes)) places
   pub sum : bytes_in (packets_at bytes places) ≡ length bytes
-  pub few : length places ≤ 65536
+  pub few : length places ≤ most_packets
   pub size : length bytes ≤ 536870912

@@ -5,12 +5,11 @@ ghost use Rattle.rm_network.specs.Wire.{has_room};
 
 use crate::wire::{Packet, Wire};
 use rm_base::Memory;
+use rm_base::limits::MOST_PACKETS;
 use std::alloc::Global;
 use std::marker::Model;
 
-// The most packets of a wire, and the most bytes of all its packets together.
-const MAX_PACKETS: usize = 65536;
-
+// The most bytes of all packets of a wire together.
 const MAX_BYTES: usize = 536870912;
 
 // Which node a packet goes to, and where its bytes are.
@@ -55,7 +54,7 @@ impl MemWire {
     fn has_room(&self, more: usize) -> bool
         ensures { result ≡ has_room self.now more }
     {
-        self.places.len() < MAX_PACKETS && more <= MAX_BYTES - self.bytes.len()
+        self.places.len() < MOST_PACKETS && more <= MAX_BYTES - self.bytes.len()
     }
 }
 

@@ -2,6 +2,7 @@
 use Rattle.std.specs.Prelude.{ℕ, ◌+◌, ◌&&◌, not, nat_le, nat_lt, Bool, true, false, if◌then◌else◌, List, [], ◌∷◌}
 use Rattle.std.specs.Prelude.{◌++◌, length, Option, Some, None, Result, Ok, Err}
 use Rattle.std.specs.Option.{option_to_list}
+use Rattle.rm_base.specs.Limits as limits
 use Rattle.rm_base.specs.declared.message.Behaviour.{Behaviour}
 use Rattle.rm_base.specs.declared.message.Cause.TheVariants.{Operator, Expired}
 use Rattle.rm_elements.specs.declared.header.AckBlock.{AckBlock}
@@ -91,7 +92,8 @@ wanted (Some behaviour) = 2
 -- create: Creating, and the request of the new sequence
 abbrev pub create : Terms → List Fact → ℕ → Wish → Answer
 create terms r end wish =
-    if nat_lt 256 (length (makers r) + wanted wish.offer) then refusal (TooManySequences (length (makers r)))
+    if nat_lt limits.most_sequences (length (makers r) + wanted wish.offer)
+    then refusal (TooManySequences (length (makers r)))
     else if_room terms end (adds r
     (Creating (counter r + 1) wish.to wish.via wish.expires (offer_of (counter r) wish.offer) ∷ [])
     (λ after. option_to_list (request_at after (length (makers r) + 1))))
@@ -104,11 +106,11 @@ is_open _ = false
 -- send: Accepted, and the message
 abbrev pub send_out : Terms → List Fact → ℕ → ℕ → Text → Answer
 send_out terms r end s payload =
-    if nat_lt 1048576 (length payload) then refusal (PayloadTooLong (length payload))
+    if nat_lt limits.payload_bytes (length payload) then refusal (PayloadTooLong (length payload))
     else if not (terms.is_content payload) then refusal BadPayload
     else if not (is_open (phase r s)) then refusal NotOpen
-    else if nat_le 1024 (unacked r s) then refusal (WindowFull (unacked r s))
-    else if nat_le 4096 (all_unacked r) then refusal (NodeFull (all_unacked r))
+    else if nat_le limits.window (unacked r s) then refusal (WindowFull (unacked r s))
+    else if nat_le limits.most_unacked (all_unacked r) then refusal (NodeFull (all_unacked r))
     else if nat_le 9223372036854775807 (length (accepted r s)) then refusal Rollover
     else if_room terms end (adds r (Accepted s payload ∷ [])
     (λ after. option_to_list (data_at after s (length (accepted r s) + 1))))

@@ -2,6 +2,7 @@
 -- WS-ReliableMessaging 1.2, section 2.4.
 use Rattle.std.specs.Prelude.{◌≡◌, ℕ, ◌+◌, ◌≤◌, ◌<◌, true, false, List, [], ◌∷◌, ◌++◌, Some}
 use Rattle.std.specs.List.{AllByRecursion}
+use Rattle.rm_base.specs.Limits as limits
 use Rattle.rm_base.specs.Numbered.{numbered}
 use Rattle.rm_base.specs.NumberSet.{has_number}
 use Rattle.rm_base.specs.declared.message.Behaviour.{Behaviour}
@@ -29,7 +30,7 @@ pub record IsNew (r : List Fact) (now : ℕ) (m : Message) (s i : ℕ) (p : Payl
   pub incoming : find_incoming r ident ≡ Some s
   pub new : has_number (held r s) i ≡ false
   pub open_ : is_over r s now ≡ false
-  pub near : i ≤ front r s + 1024
+  pub near : i ≤ front r s + limits.window
 
 -- what was received has numbers from 1 on
 abbrev pub AreNumbers : List (ℕ × Payload) → Type 0

@@ -3,6 +3,7 @@
 use Rattle.std.specs.Prelude.{ℕ, ◌+◌, ◌&&◌, not, nat_lt, Bool, true, false, if◌then◌else◌, List, [], ◌∷◌, ◌++◌}
 use Rattle.std.specs.Prelude.{length, codes, Option, Some, None, is_none}
 use Rattle.std.specs.Str.{bytes_eq}
+use Rattle.rm_base.specs.Limits as limits
 use Rattle.ack_ranges.specs.declared.range.Range.{Range}
 use Rattle.ack_ranges.specs.Changes.{covers_all, united}
 use Rattle.rm_base.specs.NumberSet.{has_number}
@@ -82,7 +83,7 @@ data_row_at now None n p r = []
 data_row_at now (Some s) n p r =
     if has_number (held r s) n then []
     else if is_over r s now then []
-    else if nat_lt (front r s + 1024) n then []
+    else if nat_lt (front r s + limits.window) n then []
     else Received s n p ∷ []
 
 -- the row of a Sequence header and its payload

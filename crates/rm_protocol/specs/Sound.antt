@@ -2,6 +2,7 @@
 use Rattle.std.specs.Prelude.{◌≡◌, ℕ, ◌+◌, ◌<◌, ◌≤◌, true, false, length, List, [], ◌∷◌, ◌++◌, map, Option, Some}
 use Rattle.std.specs.Prelude.{None, IfSome}
 use Rattle.std.specs.List.{AllByRecursion, flat_map}
+use Rattle.rm_base.specs.Limits as limits
 use Rattle.ack_ranges.specs.declared.range.Range.{Range}
 use Rattle.ack_ranges.specs.Ranges.{in_ranges}
 use Rattle.rm_base.specs.Numbered.{numbered}
@@ -240,7 +241,7 @@ AreWith theirs r = AllByRecursion (IsWith theirs) (makers r)
 
 -- the store has room for the batch
 abbrev pub HasRoom : Terms → Node → List Fact → Type 0
-HasRoom terms x delta = end_of terms x.entries + 6 + terms.size delta ≤ 268435456
+HasRoom terms x delta = end_of terms x.entries + 6 + terms.size delta ≤ limits.journal_bytes
 
 -- the batch of a call that failed may be added
 abbrev pub AllowsState : Terms → Node → List Fact → State → Type 0
@@ -250,7 +251,7 @@ AllowsState terms x theirs Up = Unit {0}
 -- each number that the node drew takes room on its disk, which is bounded
 pub record IsBounded (terms : Terms) (x : Node) : Type 0 where
   pub below : counter x.whole ≤ end_of terms x.entries
-  pub store : end_of terms x.entries ≤ 268435456
+  pub store : end_of terms x.entries ≤ limits.journal_bytes
 
 -- a packet says what is so by the records of the node that sent it
 abbrev pub SaysPacket : World → Packet → Type 0

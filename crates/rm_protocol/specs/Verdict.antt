@@ -3,6 +3,7 @@
 use Rattle.std.specs.Prelude.{ℕ, ◌+◌, ◌&&◌, ◌||◌, not, nat_le, nat_lt, Bool, true, false, if◌then◌else◌, List, []}
 use Rattle.std.specs.Prelude.{◌∷◌, length, Option, Some, None, is_none, is_some}
 use Rattle.std.specs.List.{list_any}
+use Rattle.rm_base.specs.Limits as limits
 use Rattle.ack_ranges.specs.declared.range.Range.{Range}
 use Rattle.rm_base.specs.NumberSet.{has_number}
 use Rattle.rm_base.specs.declared.message.Behaviour.{Behaviour}
@@ -102,7 +103,7 @@ is_invalid r block = is_invalid_at r (ranges_of block.kind) (find_outgoing r blo
 -- a new CreateSequence whose AcksTo is None, or with 256 sequences there
 abbrev pub refuses_create : List Fact → Option Text → Body → Bool
 refuses_create r (Some t) (body.Lifecycle (life.Create c)) =
-    is_none (find_grant r t) && (is_nowhere c.acks_to.address || nat_le 256 (length (makers r)))
+    is_none (find_grant r t) && (is_nowhere c.acks_to.address || nat_le limits.most_sequences (length (makers r)))
 refuses_create r _ _ = false
 
 -- a MakeConnection that selects neither an address nor something else: WS-MakeConnection 1.1, section 3.2
@@ -118,7 +119,8 @@ selects_other _ = false
 -- the batch fits the store, which ends at this place: an entry has at most 4194304 bytes, a journal 268435456
 abbrev pub has_room : Terms → ℕ → List Fact → Bool
 has_room terms end [] = true
-has_room terms end delta = nat_le (terms.size delta) 4194304 && nat_le (end + 6 + terms.size delta) 268435456
+has_room terms end delta =
+    nat_le (terms.size delta) limits.entry_bytes && nat_le (end + 6 + terms.size delta) limits.journal_bytes
 
 -- the body is a Fault
 abbrev pub is_fault_body : Body → Bool

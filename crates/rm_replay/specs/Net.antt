@@ -1,5 +1,6 @@
 -- The network between two nodes: the bytes of its packets, and what they are read as.
 use Rattle.std.specs.Prelude.{◌≡◌, ℕ, nat_le, if◌then◌else◌, List, map, length, Result, Ok, Err}
+use Rattle.rm_base.specs.Limits as limits
 use Rattle.soap_envelope.specs.Soap.{soap_space}
 use Rattle.message_reader.specs.Refusals.{blind}
 use Rattle.message_writer.specs.Text.{message_text}
@@ -30,7 +31,7 @@ wire_packets packets = map wire_packet packets
 
 -- a text is read as the message that was said, unless it is longer than a message may be
 abbrev pub read_as : Message → Result Message Refusal
-read_as m = if nat_le (length (text_of m)) 2097152 then Ok m else Err (blind TooLong)
+read_as m = if nat_le (length (text_of m)) limits.envelope_bytes then Ok m else Err (blind TooLong)
 
 -- the terms of nodes with such a network: a node's own, room as on a wire that has these texts, and texts that are read
 -- so

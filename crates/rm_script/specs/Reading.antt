@@ -3,6 +3,7 @@
 use Rattle.std.specs.Prelude.{ℕ, ◌==◌, ◌&&◌, if◌then◌else◌, nat_le, Bool, List, [], ◌∷◌, Option, Some, None}
 use Rattle.std.specs.Prelude.{Result, Ok, Err, option_map, option_and_then, true, false, codes, decimal}
 use Rattle.std.specs.Str.Parse.{digits_value}
+use Rattle.rm_base.specs.Limits as limits
 use Rattle.hex.specs.Hex.{decode_of}
 use Rattle.hex.specs.declared.error.FromHexError.{FromHexError}
 use Rattle.rm_base.specs.declared.message.Behaviour.{Behaviour}
@@ -107,23 +108,23 @@ text_behind arguments = option_and_then text_in (behind (codes " ") (behind_word
 abbrev pub send_in : List ℕ → Option Event
 send_in bytes =
     option_and_then (λ n. option_and_then (λ seq. option_map (λ text. Send n.0 seq text) (text_behind n.1))
-    (number_in 1 256 (word_of n.1))) (call_in bytes)
+    (number_in 1 limits.most_sequences (word_of n.1))) (call_in bytes)
 
 -- tick N MS
 abbrev pub tick_in : List ℕ → Option Event
-tick_in bytes = option_map (λ n. Tick n.0 n.1) (numbered_in 0 200000000000000 bytes)
+tick_in bytes = option_map (λ n. Tick n.0 n.1) (numbered_in 0 limits.now_max bytes)
 
 -- deliver P
 abbrev pub deliver_in : List ℕ → Option Event
-deliver_in bytes = option_map (λ packet. Deliver packet) (number_in 1 65536 bytes)
+deliver_in bytes = option_map (λ packet. Deliver packet) (number_in 1 limits.most_packets bytes)
 
 -- close N K
 abbrev pub close_in : List ℕ → Option Event
-close_in bytes = option_map (λ n. Close n.0 n.1) (numbered_in 1 256 bytes)
+close_in bytes = option_map (λ n. Close n.0 n.1) (numbered_in 1 limits.most_sequences bytes)
 
 -- end N K
 abbrev pub end_in : List ℕ → Option Event
-end_in bytes = option_map (λ n. End n.0 n.1) (numbered_in 1 256 bytes)
+end_in bytes = option_map (λ n. End n.0 n.1) (numbered_in 1 limits.most_sequences bytes)
 
 -- arm N C
 abbrev pub arm_in : List ℕ → Option Event

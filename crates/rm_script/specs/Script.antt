@@ -2,6 +2,7 @@
 use Rattle.std.specs.Prelude.{◌≡◌, ◌≢◌, ℕ, ◌-◌, ◌<◌, ◌≤◌, ◌==◌, if◌then◌else◌, ◌⊎◌, List, [], ◌∷◌, ◌++◌, slice_get}
 use Rattle.std.specs.Prelude.{take, Option, Some, None, Ok, codes, decimal}
 use Rattle.std.specs.List.{AllByRecursion}
+use Rattle.rm_base.specs.Limits as limits
 use Rattle.hex.specs.Hex.{decode_of}
 use Rattle.rm_base.specs.declared.message.Behaviour.{Behaviour}
 use Rattle.rm_base.specs.declared.message.Behaviour.TheVariants.{NoDiscard, EntireSequence, FollowingFirstGap}
@@ -78,12 +79,16 @@ Says line (Create side expires offer) =
 Says line (Grant side behaviour) =
     (word : List ℕ) × IsBehaviour word behaviour × (line ≡ call_text (codes "grant") side word)
 Says line (Send side seq text) =
-    (k : List ℕ) × IsNumber 1 256 k seq × (text ≢ []) × (line ≡ call_text (codes "send") side (spaced k text))
+    (k : List ℕ) × IsNumber 1 limits.most_sequences k seq × (text ≢ [])
+    × (line ≡ call_text (codes "send") side (spaced k text))
 Says line (Tick side now) =
-    (ms : List ℕ) × IsNumber 0 200000000000000 ms now × (line ≡ call_text (codes "tick") side ms)
-Says line (Deliver packet) = (p : List ℕ) × IsNumber 1 65536 p packet × (line ≡ spaced (codes "deliver") p)
-Says line (Close side seq) = (k : List ℕ) × IsNumber 1 256 k seq × (line ≡ call_text (codes "close") side k)
-Says line (End side seq) = (k : List ℕ) × IsNumber 1 256 k seq × (line ≡ call_text (codes "end") side k)
+    (ms : List ℕ) × IsNumber 0 limits.now_max ms now × (line ≡ call_text (codes "tick") side ms)
+Says line (Deliver packet) =
+    (p : List ℕ) × IsNumber 1 limits.most_packets p packet × (line ≡ spaced (codes "deliver") p)
+Says line (Close side seq) =
+    (k : List ℕ) × IsNumber 1 limits.most_sequences k seq × (line ≡ call_text (codes "close") side k)
+Says line (End side seq) =
+    (k : List ℕ) × IsNumber 1 limits.most_sequences k seq × (line ≡ call_text (codes "end") side k)
 Says line (Arm side calls) = (c : List ℕ) × IsNumber 1 1000 c calls × (line ≡ call_text (codes "arm") side c)
 Says line (Crash side choice) = (x : List ℕ) × IsNumber 0 3 x choice × (line ≡ call_text (codes "crash") side x)
 Says line (Noise side bytes) =

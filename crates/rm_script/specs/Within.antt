@@ -1,6 +1,7 @@
 -- The limits of what scripts say.
 use Rattle.std.specs.Prelude.{◌≢◌, ℕ, ◌≤◌, [], ⊤}
 use Rattle.std.specs.Option.{IfSome}
+use Rattle.rm_base.specs.Limits as limits
 use Rattle.rm_base.specs.declared.message.Behaviour.TheVariants.{NoDiscard}
 use Rattle.rm_elements.specs.Writable.{IsLapseWritable}
 use Rattle.rm_script.specs.declared.event.Event.{Event}
@@ -16,11 +17,11 @@ abbrev pub IsWithin : Event → Type 0
 IsWithin Nothing = ⊤
 IsWithin (Create side expires offer) = IsLapseWritable expires × IfSome offer (λ behaviour. behaviour ≢ NoDiscard)
 IsWithin (Grant side behaviour) = behaviour ≢ NoDiscard
-IsWithin (Send side seq text) = IsFromTo 1 256 seq × (text ≢ [])
-IsWithin (Tick side now) = now ≤ 200000000000000
-IsWithin (Deliver packet) = IsFromTo 1 65536 packet
-IsWithin (Close side seq) = IsFromTo 1 256 seq
-IsWithin (End side seq) = IsFromTo 1 256 seq
+IsWithin (Send side seq text) = IsFromTo 1 limits.most_sequences seq × (text ≢ [])
+IsWithin (Tick side now) = now ≤ limits.now_max
+IsWithin (Deliver packet) = IsFromTo 1 limits.most_packets packet
+IsWithin (Close side seq) = IsFromTo 1 limits.most_sequences seq
+IsWithin (End side seq) = IsFromTo 1 limits.most_sequences seq
 IsWithin (Arm side calls) = IsFromTo 1 1000 calls
 IsWithin (Crash side choice) = choice ≤ 3
 IsWithin (Noise side bytes) = bytes ≢ []

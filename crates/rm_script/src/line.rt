@@ -23,13 +23,10 @@ ghost use Rattle.rm_script.specs.Reading.{
 use crate::event::{Event, Side};
 use crate::word::{behaviour, behind, call, cut_word, node, number, numbered};
 use hex::FromHexError;
-use rm_base::limits::{MOST_SEQUENCES, NOW_MAX};
-use rm_base::{Behaviour, Blob, Lapse, Memory};
-use rm_elements::read_duration;
+use rm_base::limits::{MOST_PACKETS, MOST_SEQUENCES, NOW_MAX};
+use rm_base::{Behaviour, Blob, Memory};
+use rm_elements::{Lapse, read_duration};
 use std::alloc::Global;
-
-/// The greatest number of a packet.
-const MOST_PACKETS: u64 = 65536;
 
 /// The most device calls up to one that fails.
 const MOST_CALLS: u64 = 1000;
@@ -178,7 +175,7 @@ fn tick(bytes: &[u8]) -> Option<Event>
 fn deliver(bytes: &[u8]) -> Option<Event>
     ensures { result ≡ deliver_in bytes.now }
 {
-    let packet = number(bytes, 1, MOST_PACKETS)?;
+    let packet = number(bytes, 1, MOST_PACKETS as u64)?;
     Some(Event::Deliver { packet })
 }
 

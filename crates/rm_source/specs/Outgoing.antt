@@ -1,6 +1,7 @@
 -- The source's side of one sequence: WS-ReliableMessaging 1.2, sections 2.4, 3.7 and 3.9.
 use Rattle.std.specs.Prelude.{ℕ, ◌-◌, nat_le, nat_lt, if◌then◌else◌, List, [], ◌∷◌, ◌++◌, length, Option, Some, None}
 use Rattle.std.specs.Option.{option_or}
+use Rattle.rm_base.specs.Limits as limits
 use Rattle.ack_ranges.specs.declared.range.Range.{Range}
 use Rattle.ack_ranges.specs.Changes.{united}
 use Rattle.ack_ranges.specs.Ranges.{count_of, greatest_of}
@@ -42,7 +43,7 @@ phase_refusal phase = Some (NotOpen phase)
 -- numbers up to 9223372036854775807 are used up
 abbrev pub count_refusal : ℕ → ℕ → Option SourceError
 count_refusal accepted unacked =
-    if nat_le 1024 unacked then Some (WindowFull unacked)
+    if nat_le limits.window unacked then Some (WindowFull unacked)
     else if nat_le 9223372036854775807 accepted then Some Rollover
     else None
 

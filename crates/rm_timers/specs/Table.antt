@@ -2,6 +2,7 @@
 -- No public clause cites this module.
 use Rattle.std.specs.Prelude.{◌≡◌, ◌≢◌, ℕ, ◌+◌, ◌<◌, ◌≤◌, Bool, true, false, cond, min, nat_le, List, [], ◌∷◌, ◌++◌}
 use Rattle.std.specs.Prelude.{map, length, slice_index_or, slice_set, All, AllPairs, flat_map}
+use Rattle.rm_base.specs.Limits as limits
 use Rattle.due_links.specs.declared.links.Item.{Item}
 use Rattle.due_links.specs.Items.{Stands, list_at}
 use Rattle.rm_timers.specs.declared.table.Cell.{Cell}
@@ -98,7 +99,7 @@ pub record AreFree (free : List ℕ) (waits : List Entry) : Type 0 where
 -- lists, cells and free slots are kept so, for some plain list
 pub record IsKept (lists : List (List Item)) (cells : List Cell) (free : List ℕ) (room time spare : ℕ) : Type 0 where
   pub tied : IsTied lists cells
-  pub now : time ≤ 200000000000000
+  pub now : time ≤ limits.now_max
   pub count : length free ≡ spare
   pub has_room : 4352 ≤ room
   pub waits : List Entry

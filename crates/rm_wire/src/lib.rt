@@ -1,6 +1,6 @@
-//! Whole messages on the wire: `encode` to bytes, `decode` from bytes, and `fault_message`, the fault that a refusal is
-//! answered with, beside the types that these speak of, and the laws that join writing and reading. It has no code of
-//! its own: it stands on `message_writer` and `message_reader`.
+//! The laws that join the writing and the reading of whole messages: that what is written of a message which keeps the
+//! rules is read back as this message and no other, and that the fault which answers a refusal keeps the rules. It has
+//! no code: it stands on `message_writer` and `message_reader`.
 #![tactic(auto)]
 
 pub mod laws;

@@ -1,5 +1,6 @@
 //! The identifiers that a node issues: UUIDs of version 8, RFC 9562, section 5.8, as URNs.
 ghost use Rattle.std.specs.Prelude.{◌≡◌, ◌<◌, ◌^◌, IfOk};
+ghost use Rattle.std.specs.Str.{bytes_eq};
 ghost use Rattle.sequence_table.specs.Idents.{
   issue as issue_of,
   lower_half as lower_half_of,
@@ -46,4 +47,16 @@ pub fn issue(alloc: Global, node: u64, counter: u64) -> Result<Ident, Memory>
         Err(TextError::TooLong { len: _ }) => unreachable!(),
         Err(TextError::NotText) => unreachable!(),
     }
+}
+
+/// Whether a text is the identifier that a node issues for a number. It takes no memory.
+pub fn is_issued(node: u64, counter: u64, text: &[u8]) -> bool
+    requires { node < 2 ^ 60 }
+    ensures { result ≡ bytes_eq (issue_of node counter) text.now }
+{
+    let upper = (upper_half(node) as u128) * (1 << 64);
+    let uuid = Uuid::from_u128(upper + ((1 << 63) + counter as u128));
+    let mut buffer = [0; LENGTH];
+    let issued = uuid.urn().encode_lower(&mut buffer);
+    issued.as_bytes() == text
 }

@@ -2,6 +2,7 @@
 use Rattle.std.specs.Prelude.{ℕ, ◌+◌, List, [], ◌∷◌, Bool, false, not, ◌&&◌, nat_le, if◌then◌else◌, Option, Some}
 use Rattle.std.specs.Prelude.{None, codes, length, map}
 use Rattle.std.specs.List.{filter, flat_map, list_all}
+use Rattle.rm_base.specs.Limits as limits
 use Rattle.soap_profile.specs.Payload.{height}
 use Rattle.soap_profile.specs.Tree.{Element, element, Parts, without_declarations, parts_of, children_of}
 use Rattle.soap_profile.specs.declared.name.Expanded.{Expanded}
@@ -60,7 +61,9 @@ params_length (p ∷ params) = length (element_text false p) + params_length par
 
 -- whether none of them has more than 90 elements in one another, and together they are at most 65536 bytes
 abbrev pub may_keep : List Element → Bool
-may_keep params = list_all (λ p. nat_le (height p) 90) params && nat_le (params_length params) 65536
+may_keep params =
+    list_all (λ p. nat_le (height p) limits.content_depth) params
+    && nat_le (params_length params) limits.parameter_bytes
 
 -- parameters that may be kept
 abbrev pub kept_params : List Element → Option (List Element)

@@ -2,6 +2,7 @@
 use Rattle.std.specs.Prelude.{◌≡◌, ◌≤◌, ◌⊎◌, ℕ, List, [], true, false, IfSome}
 use Rattle.std.specs.List.{AllByRecursion}
 use Rattle.std.specs.Str.{bytes_eq}
+use Rattle.rm_base.specs.Limits as limits
 use Rattle.rm_base.specs.Text.{IsText}
 use Rattle.soap_profile.specs.Namespaces.{is_new_name}
 use Rattle.soap_profile.specs.Payload.{height}
@@ -25,8 +26,8 @@ pub record IsParamWritable (levels : ℕ) (e : Element) : Type 0 where
 -- an address, and parameters that keep the limits of an endpoint reference
 pub record IsEprWritable (x : Epr) : Type 0 where
   pub address : IsText 2048 x.address
-  pub each : AllByRecursion (IsParamWritable 90) x.params
-  pub short : params_length x.params ≤ 65536
+  pub each : AllByRecursion (IsParamWritable limits.content_depth) x.params
+  pub short : params_length x.params ≤ limits.parameter_bytes
 
 -- addresses, endpoint references, and parameters that fit into a header, where two elements stand around them
 pub record IsAddressingWritable (a : Addressing) : Type 0 where

@@ -8,14 +8,12 @@ ghost use Rattle.wsp_alternatives.specs.Normal.{AreAlternatives};
 ghost use Rattle.wsp_alternatives.specs.Sets.{Rises, list_cmp};
 
 use crate::error::WspError;
+use crate::masks::ALTERNATIVES;
 use crate::order::{compare_lists, copy};
 use crate::term::{Alternatives, Term, Terms};
 use rm_base::Memory;
 use std::alloc::Global;
 use std::cmp::Ordering;
-
-/// How many alternatives two policies may have in common.
-const ALTERNATIVES: usize = 256;
 
 /// The unions of an alternative of either policy where these are compatible, which they are where they are equal. Of
 /// lists that are no alternatives nothing is said.

@@ -8,8 +8,8 @@ use rm_base::Memory;
 use std::alloc::Global;
 use std::marker::Model;
 
-/// How many alternatives an operator may have.
-const ALTERNATIVES: usize = 256;
+/// How many alternatives an operator may have, and two policies in common.
+pub(crate) const ALTERNATIVES: usize = 256;
 
 /// Masks. Where each was added to others that rose, they rise.
 #[derive(Debug, Drop)]

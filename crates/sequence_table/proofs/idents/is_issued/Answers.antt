@@ -3,7 +3,7 @@ use Rattle.std.specs.Int.{w128, to_be_bytes}
 use Rattle.std.specs.Str.{bytes_eq}
 use Rattle.uuid.specs.Text.{lower, urn_text}
 use Rattle.sequence_table.specs.Idents.{issue, upper_half}
-use Rattle.node_tables.proofs.issued.is_issued.Goals as goal
+use Rattle.sequence_table.proofs.idents.is_issued.Goals as goal
 
 issued : (node counter high : ℕ) (urn uuid text bytes : List ℕ) → bytes ≡ text → text ≡ urn_text lower urn
     → urn ≡ uuid → uuid ≡ to_be_bytes w128 (high * 2 ^ 64 + (2 ^ 63 + counter)) → high ≡ upper_half node
