@@ -16,12 +16,12 @@ ghost use Rattle.message_writer.specs.Faults.{
 
 use crate::table::{Vocabulary, code, inner, subcode, whose as whose_of};
 use crate::trees::{ack_tree, ident_tree, max_tree};
-use rm_base::{Blob, Ident, Memory};
+use rm_base::{Blob, Ident, Memory, copy_optional_uri, uri_of};
 use rm_elements::AckBlock;
 use rm_message::{Acks, Body, FaultBody, FaultKind, Idents, Message, Names, Refusal};
 use soap_profile::{Elements, Name, Shared};
 use std::alloc::Global;
-use wsa_headers::{Addressing, copy_elements, copy_optional_uri, copy_uri, uri_of};
+use wsa_headers::Addressing;
 
 fn name_in(
     alloc: Global,
@@ -88,21 +88,7 @@ fn detail(alloc: Global, refusal: &Refusal, block: &Option<AckBlock>) -> Result<
         FaultKind::UnknownSequence | FaultKind::SequenceTerminated | FaultKind::SequenceClosed =>
             ident_detail(alloc, &refusal.ident),
         FaultKind::InvalidAcknowledgement => ack_detail(alloc, block),
-        FaultKind::TooLong
-        | FaultKind::NotUtf8
-        | FaultKind::NotProfile
-        | FaultKind::WrongVersion
-        | FaultKind::NotEnvelope
-        | FaultKind::NotUnderstood
-        | FaultKind::Cardinality
-        | FaultKind::HeaderMissing
-        | FaultKind::BadHeader
-        | FaultKind::Malformed
-        | FaultKind::WsrmRequired
-        | FaultKind::CreateSequenceRefused
-        | FaultKind::MissingSelection
-        | FaultKind::UnsupportedSelection
-        | FaultKind::StoreFull => Ok(Elements::new(alloc)),
+        _ => Ok(Elements::new(alloc)),
     }
 }
 
@@ -121,25 +107,7 @@ fn acks(alloc: Global, kind: FaultKind, block: Option<AckBlock>) -> Result<Acks,
 {
     match kind {
         FaultKind::SequenceClosed => one_ack(alloc, block),
-        FaultKind::TooLong
-        | FaultKind::NotUtf8
-        | FaultKind::NotProfile
-        | FaultKind::WrongVersion
-        | FaultKind::NotEnvelope
-        | FaultKind::NotUnderstood
-        | FaultKind::Cardinality
-        | FaultKind::HeaderMissing
-        | FaultKind::BadHeader
-        | FaultKind::Malformed
-        | FaultKind::Rollover
-        | FaultKind::WsrmRequired
-        | FaultKind::UnknownSequence
-        | FaultKind::SequenceTerminated
-        | FaultKind::InvalidAcknowledgement
-        | FaultKind::CreateSequenceRefused
-        | FaultKind::MissingSelection
-        | FaultKind::UnsupportedSelection
-        | FaultKind::StoreFull => Ok(Acks::new(alloc)),
+        _ => Ok(Acks::new(alloc)),
     }
 }
 
@@ -158,35 +126,17 @@ fn names(alloc: Global, kind: FaultKind, names: &Names) -> Result<Names, Memory>
 {
     match kind {
         FaultKind::NotUnderstood => share_names(alloc, names),
-        FaultKind::TooLong
-        | FaultKind::NotUtf8
-        | FaultKind::NotProfile
-        | FaultKind::WrongVersion
-        | FaultKind::NotEnvelope
-        | FaultKind::Cardinality
-        | FaultKind::HeaderMissing
-        | FaultKind::BadHeader
-        | FaultKind::Malformed
-        | FaultKind::Rollover
-        | FaultKind::WsrmRequired
-        | FaultKind::UnknownSequence
-        | FaultKind::SequenceTerminated
-        | FaultKind::SequenceClosed
-        | FaultKind::InvalidAcknowledgement
-        | FaultKind::CreateSequenceRefused
-        | FaultKind::MissingSelection
-        | FaultKind::UnsupportedSelection
-        | FaultKind::StoreFull => Ok(Names::new(alloc)),
+        _ => Ok(Names::new(alloc)),
     }
 }
 
 fn addressing(alloc: Global, refusal: &Refusal) -> Result<Addressing, Memory>
     ensures { IfOk result (λ properties. properties ≡ addressing_of refusal.now) }
 {
-    let to = copy_uri(alloc, &refusal.endpoint.address)?;
+    let to = refusal.endpoint.address.copy()?;
     let action = uri_of(alloc, whose_of(refusal.kind).action())?;
-    let relates = copy_optional_uri(alloc, &refusal.relates)?;
-    let params = copy_elements(alloc, &refusal.endpoint.params)?;
+    let relates = copy_optional_uri(&refusal.relates)?;
+    let params = refusal.endpoint.params.copy(alloc)?;
     Ok(Addressing {
         to,
         action,

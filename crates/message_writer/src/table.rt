@@ -59,14 +59,7 @@ pub fn whose(kind: FaultKind) -> Vocabulary
         | FaultKind::InvalidAcknowledgement
         | FaultKind::CreateSequenceRefused => Vocabulary::OfMessaging,
         FaultKind::MissingSelection | FaultKind::UnsupportedSelection => Vocabulary::OfConnection,
-        FaultKind::TooLong
-        | FaultKind::NotUtf8
-        | FaultKind::NotProfile
-        | FaultKind::WrongVersion
-        | FaultKind::NotEnvelope
-        | FaultKind::NotUnderstood
-        | FaultKind::Malformed
-        | FaultKind::StoreFull => Vocabulary::OfSoap,
+        _ => Vocabulary::OfSoap,
     }
 }
 
@@ -81,20 +74,7 @@ pub fn code(kind: FaultKind) -> FaultCode
         | FaultKind::MissingSelection
         | FaultKind::UnsupportedSelection
         | FaultKind::StoreFull => FaultCode::Receiver,
-        FaultKind::TooLong
-        | FaultKind::NotUtf8
-        | FaultKind::NotProfile
-        | FaultKind::NotEnvelope
-        | FaultKind::Cardinality
-        | FaultKind::HeaderMissing
-        | FaultKind::BadHeader
-        | FaultKind::Malformed
-        | FaultKind::Rollover
-        | FaultKind::WsrmRequired
-        | FaultKind::UnknownSequence
-        | FaultKind::SequenceTerminated
-        | FaultKind::SequenceClosed
-        | FaultKind::InvalidAcknowledgement => FaultCode::Sender,
+        _ => FaultCode::Sender,
     }
 }
 
@@ -116,14 +96,7 @@ pub fn subcode(kind: FaultKind) -> Option<&'static [u8]>
         | FaultKind::CreateSequenceRefused
         | FaultKind::MissingSelection
         | FaultKind::UnsupportedSelection => Some(kind.name()),
-        FaultKind::TooLong
-        | FaultKind::NotUtf8
-        | FaultKind::NotProfile
-        | FaultKind::WrongVersion
-        | FaultKind::NotEnvelope
-        | FaultKind::NotUnderstood
-        | FaultKind::Malformed
-        | FaultKind::StoreFull => None,
+        _ => None,
     }
 }
 
@@ -133,24 +106,6 @@ pub fn inner(kind: FaultKind) -> Option<&'static [u8]>
 {
     match kind {
         FaultKind::Cardinality => Some(b"InvalidCardinality".as_slice()),
-        FaultKind::TooLong
-        | FaultKind::NotUtf8
-        | FaultKind::NotProfile
-        | FaultKind::WrongVersion
-        | FaultKind::NotEnvelope
-        | FaultKind::NotUnderstood
-        | FaultKind::HeaderMissing
-        | FaultKind::BadHeader
-        | FaultKind::Malformed
-        | FaultKind::Rollover
-        | FaultKind::WsrmRequired
-        | FaultKind::UnknownSequence
-        | FaultKind::SequenceTerminated
-        | FaultKind::SequenceClosed
-        | FaultKind::InvalidAcknowledgement
-        | FaultKind::CreateSequenceRefused
-        | FaultKind::MissingSelection
-        | FaultKind::UnsupportedSelection
-        | FaultKind::StoreFull => None,
+        _ => None,
     }
 }

@@ -15,7 +15,6 @@ use rm_message::{Acks, Message};
 use sequence_table::issue;
 use std::alloc::Global;
 use tables_ahead::Known;
-use wsa_headers::copy_endpoint;
 
 // The number that the identifier of an incoming sequence was drawn with.
 fn counter_of(ahead: &Known<'_>, seq: u32) -> Option<u64>
@@ -60,6 +59,6 @@ pub(crate) fn final_ack(
     let ident = issue(alloc, ahead.number(), counter)?;
     let mut blocks = Acks::new(alloc);
     blocks.push(block_of(alloc, ahead, seq, &ident, now)?)?;
-    let to = copy_endpoint(alloc, to)?;
+    let to = to.copy(alloc)?;
     Ok(Some(ack_message(alloc, to, blocks)?))
 }

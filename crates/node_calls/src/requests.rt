@@ -30,7 +30,7 @@ use rm_base::{Behaviour, Memory, Uri};
 use rm_message::Message;
 use std::alloc::Global;
 use tables_ahead::Known;
-use wsa_headers::{Epr, copy_endpoint, copy_uri};
+use wsa_headers::Epr;
 
 /// The most sequences of a node.
 const MAX_SEQUENCES: u64 = MOST_SEQUENCES as u64;
@@ -40,8 +40,8 @@ pub(crate) fn peer(alloc: Global, ahead: &Known<'_>, seq: u32) -> Result<Option<
     ensures { IfOk result (λ to. to ≡ peer_in (all_records ahead.now) seq) }
 {
     match ahead.maker(seq) {
-        Some(Maker::Asked { to, .. }) => Ok(Some(plain_endpoint(alloc, copy_uri(alloc, to)?))),
-        Some(Maker::Taken { endpoint, .. }) => Ok(Some(copy_endpoint(alloc, endpoint)?)),
+        Some(Maker::Asked { to, .. }) => Ok(Some(plain_endpoint(alloc, to.copy()?))),
+        Some(Maker::Taken { endpoint, .. }) => Ok(Some(endpoint.copy(alloc)?)),
         Some(Maker::Offered { .. }) => Ok(None),
         Some(Maker::Granted { .. }) => Ok(None),
         None => Ok(None),
@@ -147,12 +147,12 @@ fn own_offer(drawn: u64, offer: Option<Behaviour>) -> Option<OwnOffer>
 }
 
 // The same address again, and how long it is at most.
-fn address_again(alloc: Global, to: &Uri) -> Result<Uri, Memory>
+fn address_again(to: &Uri) -> Result<Uri, Memory>
     ensures is { IfOk result (λ uri. uri ≡ to.now) }
     ensures short { length to.now ≤ 2048 }
 {
     let _bytes = to.as_slice();
-    copy_uri(alloc, to)
+    to.copy()
 }
 
 // A sequence is asked for, for which there is a place.
@@ -168,7 +168,7 @@ fn asked(alloc: Global, tables: &Tables, wish: Wish) -> Result<Answer, Memory>
         expires,
         offer,
     } = wish;
-    let again = address_again(alloc, &to)?;
+    let again = address_again(&to)?;
     let drawn = tables.counter();
     let ticket = drawn + 1;
     let offer = own_offer(drawn, offer);

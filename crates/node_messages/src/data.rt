@@ -9,7 +9,7 @@ use rm_base::{Binding, Bindings, Blob, Ident, Memory, Payload};
 use rm_elements::SeqHeader;
 use rm_message::{Body, Message};
 use std::alloc::Global;
-use wsa_headers::{Epr, copy_ident};
+use wsa_headers::Epr;
 
 fn bind(alloc: Global, prefix: &[u8], space: &[u8], scope: &mut Bindings) -> Result<(), Memory>
     ensures { OnOk result (scope.new ≡ scope.old ++ record { prefix = prefix.now; space = space.now } ∷ []) }
@@ -62,7 +62,7 @@ pub fn data_message(
 ) -> Result<Message, Memory>
     ensures { IfOk result (λ m. m ≡ data_of to ident.now number payload) }
 {
-    let ident = copy_ident(alloc, ident)?;
+    let ident = ident.copy()?;
     let scope = written_scope(alloc)?;
     let body = Body::Payload(Payload {
         bytes: payload,

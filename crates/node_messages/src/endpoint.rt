@@ -9,10 +9,10 @@ ghost use Rattle.rm_protocol.specs.Addresses.{
 ghost use Rattle.sequence_table.specs.Find.{plain_endpoint as plain_endpoint_of};
 
 use crate::address::anonymous_bytes;
-use rm_base::{Memory, Uri};
+use rm_base::{Memory, Uri, uri_of};
 use soap_profile::Elements;
 use std::alloc::Global;
-use wsa_headers::{Addressing, Epr, copy_endpoint, uri_of};
+use wsa_headers::{Addressing, Epr};
 
 /// An address without reference parameters.
 pub fn plain_endpoint(alloc: Global, address: Uri) -> Epr
@@ -35,7 +35,7 @@ fn reply_to_or_anonymous(alloc: Global, reply_to: &Option<Epr>) -> Result<Epr, M
     ensures { IfOk result (λ endpoint. endpoint ≡ reply_endpoint_by reply_to.now) }
 {
     match reply_to {
-        Some(endpoint) => copy_endpoint(alloc, endpoint),
+        Some(endpoint) => endpoint.copy(alloc),
         None => Ok(plain_endpoint(alloc, anonymous(alloc)?)),
     }
 }
@@ -52,7 +52,7 @@ pub fn fault_endpoint(alloc: Global, addressing: &Addressing) -> Result<Epr, Mem
     ensures { IfOk result (λ endpoint. endpoint ≡ fault_endpoint_of addressing.now) }
 {
     match &addressing.fault_to {
-        Some(endpoint) => copy_endpoint(alloc, endpoint),
+        Some(endpoint) => endpoint.copy(alloc),
         None => reply_to_or_anonymous(alloc, &addressing.reply_to),
     }
 }

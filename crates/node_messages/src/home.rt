@@ -9,10 +9,10 @@ ghost use Rattle.node_messages.specs.Homes.{IsHome};
 use crate::address::polled_bytes;
 use crate::endpoint::{anonymous, plain_endpoint};
 use record_batch::Via;
-use rm_base::{Memory, Uri};
+use rm_base::{Memory, Uri, uri_of};
 use sequence_table::issue;
 use std::alloc::Global;
-use wsa_headers::{Epr, copy_uri, uri_of};
+use wsa_headers::Epr;
 
 /// How many bytes stand before the UUID in an identifier.
 const URN_PREFIX: usize = 9;
@@ -51,7 +51,7 @@ impl Home<'_> {
         ensures { (r : List Fact) → IsHome self.entry r → IfOk result (λ uri. uri ≡ own_address_of r via) }
     {
         match via {
-            Via::Direct => copy_uri(alloc, self.address),
+            Via::Direct => self.address.copy(),
             Via::Polled => polled_address(alloc, self.number),
             Via::Back => anonymous(alloc),
         }

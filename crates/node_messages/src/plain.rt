@@ -3,10 +3,10 @@ ghost use Rattle.std.specs.Prelude.{◌≡◌, IfOk, None};
 ghost use Rattle.rm_base.specs.Text.{IsText};
 ghost use Rattle.rm_protocol.specs.Messages.{plain as plain_of};
 
-use rm_base::Memory;
+use rm_base::{Memory, uri_of};
 use rm_message::{Acks, Body, Idents, Message, Names};
 use std::alloc::Global;
-use wsa_headers::{Addressing, Epr, uri_of};
+use wsa_headers::{Addressing, Epr};
 
 // The headers of a message to an endpoint.
 fn addressing_to(alloc: Global, to: Epr, action: &[u8]) -> Result<Addressing, Memory>

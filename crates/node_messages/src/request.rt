@@ -12,12 +12,12 @@ use crate::home::Home;
 use crate::name::Name;
 use crate::plain::plain;
 use record_batch::{OwnOffer, Via};
-use rm_base::{Ident, Lapse, Memory, Uri};
-use rm_elements::{CreateSequence, Finish, Lifecycle, Offer};
+use rm_base::{Ident, Memory, Uri, uri_of};
+use rm_elements::{CreateSequence, Finish, Lapse, Lifecycle, Offer};
 use rm_message::{Body, Message};
 use sequence_table::issue;
 use std::alloc::Global;
-use wsa_headers::{Epr, copy_ident, uri_of};
+use wsa_headers::Epr;
 
 // An identifier as an address: it is shorter than one may be.
 #[tactic(auto, using(crate::proofs::TextLemmas::ident_text))]
@@ -126,7 +126,7 @@ pub fn close_request(
         (life.Close (record { ident = ident.now; last_number = last_number_of count }))) }
 {
     let content = Lifecycle::Close(Finish {
-        ident: copy_ident(alloc, ident)?,
+        ident: ident.copy()?,
         last_number: last_number(count),
     });
     request(alloc, home, to, via, ticket, Name::CloseSequence, content)
@@ -149,7 +149,7 @@ pub fn terminate_request(
         (life.Terminate (record { ident = ident.now; last_number = last_number_of count }))) }
 {
     let content = Lifecycle::Terminate(Finish {
-        ident: copy_ident(alloc, ident)?,
+        ident: ident.copy()?,
         last_number: last_number(count),
     });
     request(

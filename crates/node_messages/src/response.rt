@@ -15,12 +15,12 @@ use crate::endpoint::{plain_endpoint, reply_endpoint};
 use crate::home::Home;
 use crate::name::Name;
 use crate::plain::plain;
-use rm_base::{Behaviour, Ident, Lapse, Memory, Uri};
-use rm_elements::{AckBlock, CreateResponse, Lifecycle};
+use rm_base::{Behaviour, Ident, Memory, Uri, copy_optional_uri};
+use rm_elements::{AckBlock, CreateResponse, Lapse, Lifecycle};
 use rm_message::{Acks, Body, Message};
 use sequence_table::issue;
 use std::alloc::Global;
-use wsa_headers::{Addressing, Epr, copy_ident, copy_optional_uri, copy_uri};
+use wsa_headers::{Addressing, Epr};
 
 // A response to a message, with the blocks that belong to it.
 fn response(
@@ -47,7 +47,7 @@ fn accept(alloc: Global, address: &Uri, is_taken: bool) -> Result<Option<Epr>, M
     if !is_taken {
         return Ok(None);
     }
-    Ok(Some(plain_endpoint(alloc, copy_uri(alloc, address)?)))
+    Ok(Some(plain_endpoint(alloc, address.copy()?)))
 }
 
 /// The response to a CreateSequence for which a sequence was granted: its identifier was drawn with the counter, and
@@ -81,7 +81,7 @@ pub fn grant_response(
         behaviour,
         accept,
     });
-    let relates = Some(copy_uri(alloc, relates)?);
+    let relates = Some(relates.copy()?);
     response(
         alloc,
         to,
@@ -113,7 +113,7 @@ fn finish_response(
         (name_text name) content (block ∷ [])) }
 {
     let to = reply_endpoint(alloc, addressing)?;
-    let relates = copy_optional_uri(alloc, &addressing.message_id)?;
+    let relates = copy_optional_uri(&addressing.message_id)?;
     let blocks = one_block(alloc, block)?;
     response(alloc, to, relates, name, content, blocks)
 }
@@ -128,7 +128,7 @@ pub fn close_response(
     ensures { IfOk result (λ m. m ≡ response_of (reply_endpoint_of addressing.now) addressing.now.message_id
         (name_text Name.CloseSequenceResponse) (life.CloseResponse ident.now) (block ∷ [])) }
 {
-    let content = Lifecycle::CloseResponse(copy_ident(alloc, ident)?);
+    let content = Lifecycle::CloseResponse(ident.copy()?);
     finish_response(
         alloc,
         addressing,
@@ -148,7 +148,7 @@ pub fn terminate_response(
     ensures { IfOk result (λ m. m ≡ response_of (reply_endpoint_of addressing.now) addressing.now.message_id
         (name_text Name.TerminateSequenceResponse) (life.TerminateResponse ident.now) (block ∷ [])) }
 {
-    let content = Lifecycle::TerminateResponse(copy_ident(alloc, ident)?);
+    let content = Lifecycle::TerminateResponse(ident.copy()?);
     finish_response(
         alloc,
         addressing,

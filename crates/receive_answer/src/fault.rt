@@ -18,12 +18,11 @@ use message_writer::fault_message;
 use node_messages::fault_endpoint;
 use receive_replies::fault_block;
 use receive_verdict::target;
-use rm_base::{Ident, Memory};
+use rm_base::{Ident, Memory, copy_optional_uri};
 use rm_elements::AckBlock;
 use rm_message::{FaultKind, Message, Names, Refusal};
 use std::alloc::Global;
 use tables_ahead::Known;
-use wsa_headers::{copy_ident, copy_optional_uri};
 
 /// The answer to what was refused: its fault, with the block that it carries or repeats.
 pub(crate) fn fault_answer(
@@ -48,40 +47,23 @@ pub(crate) fn fault_answer(
 }
 
 // The identifier of the sequence that a message is for, again.
-fn copy_target(alloc: Global, message: &Message) -> Result<Option<Ident>, Memory>
+fn copy_target(message: &Message) -> Result<Option<Ident>, Memory>
     ensures { IfOk result (λ ident. ident ≡ target_of message.now.sequence message.now.body) }
 {
     match target(message) {
-        Some(ident) => Ok(Some(copy_ident(alloc, ident)?)),
+        Some(ident) => Ok(Some(ident.copy()?)),
         None => Ok(None),
     }
 }
 
 // The sequence that a fault speaks of.
-fn fault_ident(alloc: Global, message: &Message, kind: FaultKind) -> Result<Option<Ident>, Memory>
+fn fault_ident(message: &Message, kind: FaultKind) -> Result<Option<Ident>, Memory>
     ensures { IfOk result (λ ident. ident ≡ fault_ident_of message.now kind) }
 {
     match kind {
-        FaultKind::UnknownSequence => copy_target(alloc, message),
-        FaultKind::SequenceTerminated => copy_target(alloc, message),
-        FaultKind::SequenceClosed => copy_target(alloc, message),
-        FaultKind::TooLong
-        | FaultKind::NotUtf8
-        | FaultKind::NotProfile
-        | FaultKind::WrongVersion
-        | FaultKind::NotEnvelope
-        | FaultKind::NotUnderstood
-        | FaultKind::Cardinality
-        | FaultKind::HeaderMissing
-        | FaultKind::BadHeader
-        | FaultKind::Malformed
-        | FaultKind::Rollover
-        | FaultKind::WsrmRequired
-        | FaultKind::InvalidAcknowledgement
-        | FaultKind::CreateSequenceRefused
-        | FaultKind::MissingSelection
-        | FaultKind::UnsupportedSelection
-        | FaultKind::StoreFull => Ok(None),
+        FaultKind::UnknownSequence | FaultKind::SequenceTerminated | FaultKind::SequenceClosed =>
+            copy_target(message),
+        _ => Ok(None),
     }
 }
 
@@ -90,8 +72,8 @@ fn refusal_of(alloc: Global, message: &Message, kind: FaultKind) -> Result<Refus
     ensures { IfOk result (λ refusal. refusal ≡ refusal_for message.now kind) }
 {
     let endpoint = fault_endpoint(alloc, &message.addressing)?;
-    let relates = copy_optional_uri(alloc, &message.addressing.message_id)?;
-    let ident = fault_ident(alloc, message, kind)?;
+    let relates = copy_optional_uri(&message.addressing.message_id)?;
+    let ident = fault_ident(message, kind)?;
     Ok(Refusal {
         kind,
         endpoint,

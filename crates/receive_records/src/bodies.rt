@@ -24,7 +24,6 @@ use rm_elements::{CreateResponse, Finish, SeqHeader};
 use rm_source::OutPhase;
 use std::alloc::Global;
 use tables_ahead::Known;
-use wsa_headers::copy_ident;
 
 /// Received with the payload of a message, by its Sequence header.
 pub(crate) fn data_row(
@@ -108,7 +107,7 @@ fn created(
 {
     let given = Record::Created {
         seq,
-        ident: copy_ident(alloc, &response.ident)?,
+        ident: response.ident.copy()?,
         accept: copy_accept(alloc, &response.accept)?,
     };
     ahead.push(given)?;

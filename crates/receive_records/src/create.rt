@@ -16,7 +16,6 @@ use rm_elements::{CreateSequence, Lifecycle, deadline};
 use rm_message::Body;
 use std::alloc::Global;
 use tables_ahead::Known;
-use wsa_headers::{copy_endpoint, copy_uri};
 
 /// Granted, where no sequence was granted for this MessageID yet.
 pub(crate) fn create_row(
@@ -60,8 +59,8 @@ fn grant(
 {
     let given = Record::Granted {
         counter: ahead.counter() + 1,
-        message_id: copy_uri(alloc, message_id)?,
-        acks_to: copy_endpoint(alloc, &create.acks_to)?,
+        message_id: message_id.copy()?,
+        acks_to: create.acks_to.copy(alloc)?,
         behaviour: granted,
         deadline: deadline_of(now, create.expires),
         lapse: create.expires,

@@ -39,19 +39,19 @@ pub(crate) fn fault_row(
 {
     let subcode = &fault.subcode;
     let detail = fault.detail.as_slice();
-    if is_fault(b"CreateSequenceRefused", subcode) {
+    if is_fault(FaultKind::CreateSequenceRefused.name(), subcode) {
         return refused_row(ahead, relates);
     }
-    if is_fault(b"SequenceTerminated", subcode) {
+    if is_fault(FaultKind::SequenceTerminated.name(), subcode) {
         return failed_row(alloc, ahead, FaultKind::SequenceTerminated, detail);
     }
-    if is_fault(b"UnknownSequence", subcode) {
+    if is_fault(FaultKind::UnknownSequence.name(), subcode) {
         return failed_row(alloc, ahead, FaultKind::UnknownSequence, detail);
     }
     if is_fault(b"MessageNumberRollover", subcode) {
         return failed_row(alloc, ahead, FaultKind::Rollover, detail);
     }
-    if is_fault(b"SequenceClosed", subcode) {
+    if is_fault(FaultKind::SequenceClosed.name(), subcode) {
         return shut_row(alloc, ahead, detail);
     }
     Ok(())

@@ -18,7 +18,7 @@ use rm_base::{Cause, Memory};
 use rm_elements::Offer;
 use std::alloc::Global;
 use tables_ahead::Known;
-use wsa_headers::{Epr, copy_endpoint, copy_ident};
+use wsa_headers::Epr;
 
 /// What is kept of a peer's offer, where it is taken.
 pub(crate) fn taken_of(
@@ -34,8 +34,8 @@ pub(crate) fn taken_of(
     if !is_takable(ahead, offer) {
         return Ok(None);
     }
-    let ident = copy_ident(alloc, &offer.ident)?;
-    let endpoint = copy_endpoint(alloc, &offer.endpoint)?;
+    let ident = offer.ident.copy()?;
+    let endpoint = offer.endpoint.copy(alloc)?;
     Ok(Some(PeerOffer { ident, endpoint }))
 }
 
@@ -63,7 +63,7 @@ pub(crate) fn copy_accept(alloc: Global, accept: &Option<Epr>) -> Result<Option<
     ensures { IfOk result (λ copy. copy ≡ accept.now) }
 {
     match accept {
-        Some(endpoint) => Ok(Some(copy_endpoint(alloc, endpoint)?)),
+        Some(endpoint) => Ok(Some(endpoint.copy(alloc)?)),
         None => Ok(None),
     }
 }

@@ -23,7 +23,7 @@ use rm_base::{Ident, Memory};
 use rm_message::{Body, Message};
 use std::alloc::Global;
 use tables_ahead::Known;
-use wsa_headers::{Epr, copy_endpoint};
+use wsa_headers::Epr;
 
 /// The AcksTo of a sequence, where that is known.
 pub fn acks_to<'a>(ahead: &'a Known<'_>, seq: u32) -> Option<&'a Epr>
@@ -54,7 +54,7 @@ fn push_ack(
 {
     match acks_to(ahead, seq) {
         Some(to) => {
-            let to = copy_endpoint(alloc, to)?;
+            let to = to.copy(alloc)?;
             let block = block_of(alloc, ahead, seq, ident, now)?;
             acks.push((to, block))?;
             Ok(())

@@ -17,7 +17,6 @@ use rm_elements::{AckBlock, SeqHeader, copy_block};
 use rm_message::{FaultKind, Message};
 use std::alloc::Global;
 use tables_ahead::Known;
-use wsa_headers::copy_ident;
 
 /// The acknowledgement of an incoming sequence.
 pub fn block_of(
@@ -30,7 +29,7 @@ pub fn block_of(
     requires fit { all_fit ahead.now.records ahead.now.delta ≡ true }
     ensures { IfOk result (λ b. b ≡ block_for (all_records ahead.now) seq ident.now now) }
 {
-    let ident = copy_ident(alloc, ident)?;
+    let ident = ident.copy()?;
     let received = ahead.received(seq)?;
     let block = ack_block(alloc, ident, &received, ahead.is_over(seq, now))?;
     Ok(block)
@@ -103,23 +102,6 @@ pub fn fault_block(
     match kind {
         FaultKind::SequenceClosed => block_at(alloc, ahead, now, &message.sequence),
         FaultKind::InvalidAcknowledgement => first_invalid(alloc, ahead, message.acks.as_slice()),
-        FaultKind::TooLong
-        | FaultKind::NotUtf8
-        | FaultKind::NotProfile
-        | FaultKind::WrongVersion
-        | FaultKind::NotEnvelope
-        | FaultKind::NotUnderstood
-        | FaultKind::Cardinality
-        | FaultKind::HeaderMissing
-        | FaultKind::BadHeader
-        | FaultKind::Malformed
-        | FaultKind::Rollover
-        | FaultKind::WsrmRequired
-        | FaultKind::UnknownSequence
-        | FaultKind::SequenceTerminated
-        | FaultKind::CreateSequenceRefused
-        | FaultKind::MissingSelection
-        | FaultKind::UnsupportedSelection
-        | FaultKind::StoreFull => Ok(None),
+        _ => Ok(None),
     }
 }

@@ -34,5 +34,5 @@ pub use mem_streams::{MemConn, MemSink, MemSource};
 pub use message::{Behaviour, Binding, Bindings, Cause, Payload, is_message_number};
 pub use outside::{Clock, Connection, Sink, SinkError, Source};
 pub use streams::{StdSink, StdSource};
-pub use text::{Ident, TextError, Uri};
+pub use text::{Ident, TextError, Uri, copy_optional_uri, uri_of};
 pub use transfer::{ReadError, read_up_to, write_all};

@@ -71,6 +71,35 @@ impl Uri {
         let _bytes = &self.bytes;
         self.bytes.as_slice()
     }
+
+    /// The same address again.
+    pub fn copy(&self) -> Result<Self, Memory>
+        ensures { IfOk result (λ copy. copy ≡ self.now) }
+    {
+        Ok(Uri {
+            bytes: self.bytes.copy()?,
+        })
+    }
+}
+
+/// An address, where the bytes are one.
+pub fn uri_of(alloc: Global, bytes: &[u8]) -> Result<Uri, Memory>
+    requires { IsText 2048 bytes.now }
+    ensures { IfOk result (λ uri. uri ≡ bytes.now) }
+{
+    Ok(Uri {
+        bytes: Blob::from_slice(alloc, bytes)?,
+    })
+}
+
+/// The same address again, where there is one.
+pub fn copy_optional_uri(uri: &Option<Uri>) -> Result<Option<Uri>, Memory>
+    ensures { IfOk result (λ copy. copy ≡ uri.now) }
+{
+    match uri {
+        Some(uri) => Ok(Some(uri.copy()?)),
+        None => Ok(None),
+    }
 }
 
 /// An identifier of a sequence: 1 to 512 bytes of characters that a document may hold, without white space at either
@@ -107,6 +136,15 @@ impl Ident {
     {
         let _bytes = &self.bytes;
         self.bytes.as_slice()
+    }
+
+    /// The same identifier again.
+    pub fn copy(&self) -> Result<Self, Memory>
+        ensures { IfOk result (λ copy. copy ≡ self.now) }
+    {
+        Ok(Ident {
+            bytes: self.bytes.copy()?,
+        })
     }
 }
 

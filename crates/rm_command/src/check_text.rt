@@ -51,15 +51,6 @@ fn fault_named(kind: FaultKind) -> Option<Fault>
         FaultKind::BadHeader => Some(Fault::BadHeader),
         FaultKind::Malformed => Some(Fault::Malformed),
         FaultKind::Rollover => Some(Fault::Rollover),
-        FaultKind::TooLong
-        | FaultKind::WsrmRequired
-        | FaultKind::UnknownSequence
-        | FaultKind::SequenceTerminated
-        | FaultKind::SequenceClosed
-        | FaultKind::InvalidAcknowledgement
-        | FaultKind::CreateSequenceRefused
-        | FaultKind::MissingSelection
-        | FaultKind::UnsupportedSelection
-        | FaultKind::StoreFull => None,
+        _ => None,
     }
 }

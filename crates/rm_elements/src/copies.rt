@@ -4,7 +4,6 @@ ghost use Rattle.std.specs.Prelude.{◌≡◌, IfOk};
 use crate::header::{AckBlock, AckKind};
 use rm_base::{Items, Memory};
 use std::alloc::Global;
-use wsa_headers::copy_ident;
 
 fn copy_items<T: Copy>(alloc: Global, items: &Items<T>) -> Result<Items<T>, Memory>
     ensures { IfOk result (λ copy. copy ≡ items.now) }
@@ -26,7 +25,7 @@ fn copy_kind(alloc: Global, kind: &AckKind) -> Result<AckKind, Memory>
 pub fn copy_block(alloc: Global, block: &AckBlock) -> Result<AckBlock, Memory>
     ensures { IfOk result (λ copy. copy ≡ block.now) }
 {
-    let ident = copy_ident(alloc, &block.ident)?;
+    let ident = block.ident.copy()?;
     let kind = copy_kind(alloc, &block.kind)?;
     Ok(AckBlock {
         ident,

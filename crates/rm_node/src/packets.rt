@@ -9,7 +9,6 @@ use node_messages::{Place, is_anonymous, place_of};
 use rm_base::{Blob, Items, Memory, Uri};
 use rm_message::Message;
 use std::alloc::Global;
-use wsa_headers::copy_uri;
 
 /// The text of a message, and the address that it goes to.
 #[derive(Debug, Drop)]
@@ -44,7 +43,7 @@ fn packet(alloc: Global, message: &Message) -> Result<Out, Memory>
     ensures { IfOk result (λ out. out ≡ packet_of message.now) }
 {
     Ok(Out {
-        address: copy_uri(alloc, &message.addressing.to)?,
+        address: message.addressing.to.copy()?,
         bytes: encode(alloc, message)?,
     })
 }

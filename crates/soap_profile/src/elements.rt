@@ -1,8 +1,8 @@
 //! Elements in order, which contracts see as a list of trees.
-ghost use Rattle.std.specs.Prelude.{◌≡◌, [], ◌∷◌, ◌++◌, ◌↔◌, length, map, option_map, slice_get};
-ghost use Rattle.std.specs.Prelude.{IsTrue, IfOk, OnOk, OnErr};
+ghost use Rattle.std.specs.Prelude.{◌≡◌, [], ◌∷◌, ◌++◌, ◌↔◌, length, map, option_map, slice_get, IsTrue, IfOk, OnOk, OnErr};
 ghost use Rattle.soap_profile.specs.View.{element_view};
 
+use crate::copies::copy_element;
 use crate::tree::Element;
 use rm_base::Memory;
 use std::alloc::Global;
@@ -73,6 +73,17 @@ impl Elements {
     {
         self.items.push(item)?;
         Ok(())
+    }
+
+    /// The same elements again, with their declarations.
+    pub fn copy(&self, alloc: Global) -> Result<Self, Memory>
+        ensures { IfOk result (λ copy. copy ≡ self.now) }
+    {
+        let mut copy = Elements::new(alloc);
+        for element in self.as_slice() {
+            copy.push(copy_element(alloc, element)?)?;
+        }
+        Ok(copy)
     }
 
     /// A vector's elements. It takes no memory.

@@ -3,6 +3,7 @@
 //! and the contracts of the readers, by `specs/Document` and `specs/Payload`.
 #![tactic(auto)]
 
+mod copies;
 pub mod elements;
 pub mod error;
 mod keys;

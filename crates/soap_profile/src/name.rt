@@ -1,9 +1,10 @@
 //! Expanded names.
 ghost use Rattle.std.specs.Prelude.{◌≡◌, IsTrue, ◌↔◌, IfOk};
 ghost use Rattle.std.specs.Str.{bytes_eq};
-ghost use Rattle.soap_lex.specs.Tests.{is_nil};
+ghost use Rattle.soap_document.specs.Tokens.{is_nil};
 ghost use Rattle.soap_profile.specs.Namespaces.{xml_space};
 
+use crate::names::XML_SPACE;
 use crate::shared::Shared;
 use rm_base::{Bytes, Memory};
 use std::alloc::Global;
@@ -56,6 +57,20 @@ impl Name {
         ensures { result.now ≡ self.now.local }
     {
         self.expanded.local.as_slice()
+    }
+
+    /// Whether it is in no namespace.
+    pub fn is_bare(&self) -> bool
+        ensures { result ≡ is_nil self.now.space }
+    {
+        self.space().is_empty()
+    }
+
+    /// Whether it is in the namespace that the prefix `xml` is bound to.
+    pub fn is_of_xml(&self) -> bool
+        ensures { result ≡ bytes_eq self.now.space xml_space }
+    {
+        self.space() == XML_SPACE
     }
 
     /// The same name, of which nothing is copied: it wants memory only where the count of those who share it is full.

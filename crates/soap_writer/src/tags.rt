@@ -1,9 +1,6 @@
 //! The pieces of a start tag. Each writer appends its piece, up to a want of memory.
 ghost use Rattle.std.specs.Prelude.{◌≡◌, ◌<◌, ◌+◌, ◌^◌, [], ◌∷◌, ◌++◌, length, codes, IfOk, OnOk, OnErr};
-ghost use Rattle.std.specs.Str.{bytes_eq};
 ghost use Rattle.soap_document.specs.Grammar.{start_tag, end_tag};
-ghost use Rattle.soap_lex.specs.Tests.{is_nil};
-ghost use Rattle.soap_profile.specs.Namespaces.{xml_space};
 ghost use Rattle.soap_profile.specs.View.{attrs_view};
 ghost use Rattle.soap_lex.specs.Escapes.{escaped_text, escaped_value};
 ghost use Rattle.soap_writer.specs.ElementText.{quoted, written_name, declaration, attribute_text, attributes_text};
@@ -13,7 +10,7 @@ ghost use Rattle.soap_writer.specs.Steps.{Grows, prefix_text};
 use itoa::Buffer;
 use rm_base::Memory;
 use soap_lex::{write_attr, write_text};
-use soap_profile::{Attr, Item, Name, XML_SPACE};
+use soap_profile::{Attr, Item, Name};
 
 // The prefix that the namespace of a name is bound to.
 #[derive(Clone, Copy, Debug)]
@@ -72,27 +69,14 @@ pub(crate) fn push_text(text: &[u8], out: &mut Vec<u8>) -> Result<(), Memory>
     }
 }
 
-// In no namespace.
-fn is_bare(name: &Name) -> bool
-    ensures { result ≡ is_nil name.now.space }
-{
-    name.space().is_empty()
-}
-
-fn is_of_xml(name: &Name) -> bool
-    ensures { result ≡ bytes_eq name.now.space xml_space }
-{
-    name.space() == XML_SPACE
-}
-
 fn push_name(prefix: Prefix, name: &Name, out: &mut Vec<u8>) -> Result<(), Memory>
     ensures ok { OnOk result (out.new.items ≡ out.old.items ++ written_name (prefix_text prefix) name.now) }
     ensures err { OnErr result (Grows out.old.items out.new.items) }
 {
-    if is_bare(name) {
+    if name.is_bare() {
         return push(name.local(), out);
     }
-    if is_of_xml(name) {
+    if name.is_of_xml() {
         push(b"xml:", out)?;
         return push(name.local(), out);
     }
@@ -105,7 +89,7 @@ fn push_declaration(prefix: Prefix, name: &Name, out: &mut Vec<u8>) -> Result<()
     ensures ok { OnOk result (out.new.items ≡ out.old.items ++ declaration (prefix_text prefix) name.now) }
     ensures err { OnErr result (Grows out.old.items out.new.items) }
 {
-    if is_bare(name) || is_of_xml(name) {
+    if name.is_bare() || name.is_of_xml() {
         return Ok(());
     }
     push(b" xmlns:", out)?;

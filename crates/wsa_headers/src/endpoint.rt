@@ -27,6 +27,17 @@ pub struct Epr {
     pub params: Elements,
 }
 
+impl Epr {
+    /// The same endpoint reference again.
+    pub fn copy(&self, alloc: Global) -> Result<Self, Memory>
+        ensures { IfOk result (λ copy. copy ≡ self.now) }
+    {
+        let address = self.address.copy()?;
+        let params = self.params.copy(alloc)?;
+        Ok(Epr { address, params })
+    }
+}
+
 /// An element of text that is an address.
 pub fn read_address_of(alloc: Global, element: &Element) -> Result<Uri, Flaw>
     ensures { Gives (λ uri. uri) result (uri_of (element_view element.now)) }

@@ -5,7 +5,6 @@
 #![tactic(auto)]
 
 pub mod addressing;
-mod copies;
 pub mod endpoint;
 pub mod error;
 pub mod laws;
@@ -15,7 +14,6 @@ pub mod tag;
 pub mod write;
 
 pub use addressing::Addressing;
-pub use copies::{copy_elements, copy_endpoint, copy_ident, copy_optional_uri, copy_uri, uri_of};
 pub use endpoint::{ADDRESSING, Epr, read_address_of, read_epr, read_reference, unmark};
 pub use error::AddressingError;
 pub use laws::{

@@ -2,10 +2,7 @@
 //! is room, since a namespace that is declared once is written wherever it is used.
 ghost use Rattle.std.specs.Prelude.{◌≡◌, ◌<◌, ◌+◌, ◌^◌, ◌∷◌, [], length, map, decimal, nat_le};
 ghost use Rattle.std.specs.List.{list_all};
-ghost use Rattle.std.specs.Str.{bytes_eq};
 ghost use Rattle.soap_lex.specs.Escapes.{text_escape, value_escape};
-ghost use Rattle.soap_lex.specs.Tests.{is_nil};
-ghost use Rattle.soap_profile.specs.Namespaces.{xml_space};
 ghost use Rattle.soap_profile.specs.Payload.{height};
 ghost use Rattle.soap_profile.specs.View.{element_view, attrs_view, parts_view};
 ghost use Rattle.wsa_headers.specs.Endpoint.{may_keep as may_keep_of};
@@ -25,7 +22,7 @@ ghost use Rattle.wsa_headers.specs.Room.{
 
 use itoa::Buffer;
 use rm_base::limits::{CONTENT_DEPTH, PARAMETER_BYTES};
-use soap_profile::{Attr, Element, Item, Name, XML_SPACE, is_shallow};
+use soap_profile::{Attr, Element, Item, Name, is_shallow};
 
 /// Whether no parameter is nested too deeply, and their texts are together not too long.
 #[tactic(auto, using(crate::proofs::RoomLemmas::room_decides))]
@@ -98,28 +95,16 @@ fn after_value(value: &[u8], room: usize) -> Option<usize>
     Some(left)
 }
 
-fn is_bare(name: &Name) -> bool
-    ensures { result ≡ is_nil name.now.space }
-{
-    name.space().is_empty()
-}
-
-fn is_of_xml(name: &Name) -> bool
-    ensures { result ≡ bytes_eq name.now.space xml_space }
-{
-    name.space() == XML_SPACE
-}
-
 // The length of a name with a prefix of so many bytes.
 fn name_length(prefix: usize, name: &Name) -> usize
     requires { prefix < 100 }
     ensures value { result ≡ name_length_of prefix name.now }
     ensures bound { result < 2 ^ 63 + 101 }
 {
-    if is_bare(name) {
+    if name.is_bare() {
         return name.local().len();
     }
-    if is_of_xml(name) {
+    if name.is_of_xml() {
         return 4 + name.local().len();
     }
     prefix + (1 + name.local().len())
@@ -130,7 +115,7 @@ fn after_declaration(prefix: usize, name: &Name, room: usize) -> Option<usize>
     requires { prefix < 100 }
     ensures { result ≡ declaration_room prefix name.now room }
 {
-    if is_bare(name) || is_of_xml(name) {
+    if name.is_bare() || name.is_of_xml() {
         return Some(room);
     }
     let left = after(10 + prefix, room)?;

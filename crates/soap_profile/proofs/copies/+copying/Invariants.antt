@@ -1,6 +1,6 @@
 use Rattle.std.proofs.Common.{◌≡◌, ◌++◌, drop}
 use Rattle.soap_profile.specs.View.{items_view}
-use Rattle.wsa_headers.proofs.copies.+copying.Given as goal
+use Rattle.soap_profile.proofs.copies.+copying.Given as goal
 
 -- the items so far, and those of what is left
 abbrev pub invariant-copy_items-loop-item : goal.invariant-copy_items-loop-item

@@ -1,6 +1,6 @@
 use Rattle.std.proofs.Common.{◌≡◌, ◌++◌, drop, map}
 use Rattle.soap_profile.specs.View.{element_view}
-use Rattle.wsa_headers.proofs.copies.copy_elements.Given as goal
+use Rattle.soap_profile.proofs.elements.Elements.copy.Given as goal
 
 -- those so far, and those of what is left
 abbrev pub invariant-loop-element : goal.invariant-loop-element
