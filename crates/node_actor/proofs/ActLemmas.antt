@@ -74,6 +74,7 @@ unchanged x first now old new s kept stored same = record {
       (subst (λ (st : Stored). StandsBy x.state x.entries first.past st) (sym stored) s.disk);
   fuse = ap (λ (t : Told). t.fuse) same ∙ s.fuse;
   kept = kept ∙ s.kept;
+  in_order = s.in_order;
   clock = s.clock;
 }
 
@@ -113,6 +114,7 @@ written_well x [] first now old new s up kept changes same next =
       });
       fuse = (changes.fuse (inl refl)).0 ∙ s.fuse;
       kept = kept ∙ s.kept;
+      in_order = s.in_order;
       clock = s.clock;
     }
 written_well x (f ∷ delta) first now old new s up kept changes same next =
@@ -128,6 +130,7 @@ written_well x (f ∷ delta) first now old new s up kept changes same next =
           });
       fuse = burns.1 ∙ ap (λ (fuse : Option ℕ). burned 4 fuse) s.fuse;
       kept = kept ∙ s.kept;
+      in_order = s.in_order;
       clock = s.clock;
     })
 
@@ -156,6 +159,7 @@ fell x delta first now old new s up kept changes down gates next spent =
       };
       fuse = spent;
       kept = kept ∙ s.kept;
+      in_order = s.in_order;
       clock = s.clock;
     }
 

@@ -111,6 +111,7 @@ crashed one x first now a choice past stored s is found up crashes fuse =
         disk = record { up = up; has = subst (λ (b : List (List Fact)). Has b now.past stored) same found.has };
         fuse = fuse;
         kept = s.kept;
+        in_order = s.in_order;
         clock = s.clock;
       };
       bytes = bytes;

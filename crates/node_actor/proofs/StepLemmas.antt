@@ -84,8 +84,13 @@ clock_stands (call.Receive bytes) x now a s = s.clock
 
 pub clocked_stands : (this : Call) (x : Node) (now : Told) (a : Actored) → Stands x now a
     → Stands (clocked this x) now (actored a.node (clock_after this a))
-clocked_stands this x now a s =
-    record { disk = s.disk; fuse = s.fuse; kept = s.kept; clock = clock_stands this x now a s }
+clocked_stands this x now a s = record {
+  disk = s.disk;
+  fuse = s.fuse;
+  kept = s.kept;
+  in_order = s.in_order;
+  clock = clock_stands this x now a s;
+}
 
 -- ---- a call
 
@@ -117,4 +122,5 @@ acted terms tells this x asked first now old new ended r ends t s order asks doe
 -- the clock is as it was
 pub still : (this : Call) (x : Node) (now : Told) (new : Noded) (old clock : ℕ)
     → Stands (clocked this x) now (actored new clock) → old ≡ x.clock → Stands x now (actored new old)
-still this x now new old clock s e = record { disk = s.disk; fuse = s.fuse; kept = s.kept; clock = e }
+still this x now new old clock s e =
+    record { disk = s.disk; fuse = s.fuse; kept = s.kept; in_order = s.in_order; clock = e }

@@ -4,6 +4,7 @@ use Rattle.record_batch.specs.Fact.{Fact}
 use Rattle.rm_disk.specs.Call.{Call, crashes_of}
 use Rattle.rm_disk.specs.Image.{MayLeave}
 use Rattle.rm_base.specs.declared.failures.Memory.{Memory}
+use Rattle.sequence_table.specs.Fits.{is_in_order}
 use Rattle.rm_protocol.specs.Calls.{Answer}
 use Rattle.rm_protocol.specs.Node.{Node, State, Up, Writing, after, call_outcome, mounted, said_after}
 use Rattle.rm_disk.specs.Told.{Told}
@@ -38,11 +39,12 @@ StandsBy (Writing delta) entries past stored = Asleep entries delta past stored
 abbrev pub kept_of : Node → Kept
 kept_of x = record { granted = x.granted }
 
--- the code's node and its disk are this node of the protocol
+-- the code's node and its disk are this node of the protocol, which announces no NoDiscard
 pub record Stands (x : Node) (now : Told) (a : Actored) : Type 0 where
   pub disk : StandsBy x.state x.entries now.past a.node.stored
   pub fuse : now.fuse ≡ x.fuse
   pub kept : a.node.kept ≡ kept_of x
+  pub in_order : is_in_order x.granted ≡ true
   pub clock : a.clock ≡ x.clock
 
 -- a call with this answer came out so, and this left the node

@@ -10,7 +10,7 @@ use Rattle.record_batch.specs.Fact.{Fact, Creating, Granted}
 use Rattle.sequence_table.specs.Makers.{Maker, Outgoing, Offered, Incoming, Taken, makers, makers_of, maker}
 use Rattle.sequence_table.specs.Makers.{counter}
 use Rattle.sequence_table.specs.Makers.{draws_of}
-use Rattle.sequence_table.specs.Fits.{fits, all_fit}
+use Rattle.sequence_table.specs.Fits.{fits, all_fit, offer_fits}
 use Rattle.sequence_table.specs.NodeLemmas.{one_more}
 
 -- the item with the number behind n
@@ -62,8 +62,9 @@ new-drawn r (Creating ticket to via lapse None) h =
 new-drawn r (Creating ticket to via lapse (Some offer)) h =
     let parts = and_parts (ticket == counter r + 1) _ h in
     let t : ticket ≡ counter r + 1 = eqb-true ticket (counter r + 1) parts.0 in
+    let offered = and_parts (offer_fits (counter r) (Some offer)) _ parts.1 in
     let o : offer.counter ≡ counter r + 2 =
-    eqb-true offer.counter (counter r + 2) (and_parts (offer.counter == counter r + 2) _ parts.1).0 in
+    eqb-true offer.counter (counter r + 2) (and_parts (offer.counter == counter r + 2) _ offered.0).0 in
     (omega (arith, t), (omega (arith, o), tt))
 new-drawn r (Granted drawn message_id acks_to behaviour deadline lapse None) h =
     let t : drawn ≡ counter r + 1 = eqb-true drawn (counter r + 1) (and_parts (drawn == counter r + 1) _ h).0 in

@@ -47,7 +47,7 @@ use Rattle.rm_protocol.specs.Said.{ack_to, said}
 use Rattle.rm_protocol.specs.Terms.{Terms}
 use Rattle.rm_protocol.specs.Verdict.{first_held, has_room, is_invalid, target, tests, verdict}
 use Rattle.node_laws.specs.OwnTerms.{AreOwn}
-use Rattle.node_laws.specs.Read.{IsBodyRead, IsContentRead, IsWishWritable, WasRead}
+use Rattle.node_laws.specs.Read.{IsBodyRead, IsContentRead, MayBeWished, WasRead}
 use Rattle.node_laws.specs.Records.{IsKept}
 use Rattle.node_laws.proofs.Kept.{AreAllowed}
 use Rattle.node_laws.proofs.Lists.{to_list}
@@ -111,7 +111,7 @@ places-left r drawn wish = by_offer wish.offer
     by_offer None e = grind (arith, nat_tests)
     by_offer (Some behaviour) e = grind (arith, nat_tests)
 
-pub create-good : (terms : Terms) (r : List Fact) (place : ℕ) (wish : Wish) → IsWishWritable wish
+pub create-good : (terms : Terms) (r : List Fact) (place : ℕ) (wish : Wish) → MayBeWished wish
     → IsGoodAnswer r (create terms r place wish)
 create-good terms r place wish h =
     let f = Creating (counter r + 1) wish.to wish.via wish.expires (offer_of (counter r) wish.offer) in

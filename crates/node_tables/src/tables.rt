@@ -24,7 +24,9 @@ use crate::error::TableError;
 use crate::find::{find_accept, find_address, find_granted, find_ident, find_named};
 use crate::maker::{Maker, maker_at};
 use crate::note::{Coming, Named, Note, Origin};
-use crate::record::{drawn_after, made_by, name, named_by, number_after, trace};
+use crate::record::{
+    drawn_after, is_in_order, made_by, name, named_by, number_after, offer_fits, trace,
+};
 use crate::rows::{accept_at, change, learn_at, receive_at, waiting_in};
 use ack_ranges::RangeSet;
 use record_batch::Record;
@@ -279,20 +281,21 @@ impl Tables {
         match given {
             Record::Made { node, .. } => self.notes.is_empty() && *node > 0 && *node < 1 << 60,
             Record::Creating { ticket, offer, .. } => {
-                let next = match offer {
-                    Some(offer) => offer.counter > 1 && offer.counter - 2 == self.drawn,
-                    None => true,
-                };
-                *ticket > 0 && *ticket - 1 == self.drawn && next && self.has_places(given)
+                *ticket > 0
+                    && *ticket - 1 == self.drawn
+                    && offer_fits(self.drawn, *offer)
+                    && self.has_places(given)
             }
             Record::Granted {
                 counter,
+                behaviour,
                 deadline,
                 ..
             } => {
                 *counter > 0
                     && *counter - 1 == self.drawn
                     && *deadline != Some(0)
+                    && is_in_order(*behaviour)
                     && self.has_places(given)
             }
             Record::Created { .. } | Record::Accepted { .. } | Record::Acked { .. } => {

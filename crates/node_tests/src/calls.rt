@@ -49,7 +49,7 @@ const CREATE: &[u8] =
 // Whether a new node has one entry, and asks for its first sequence by a second one and this packet.
 fn asks(peer: &mut Peer) -> Result<bool, NodeError> {
     let before = peer.entries();
-    let made = peer.ask(None)?;
+    let made = peer.ask()?;
     let is_so = (before == 1) & (made.seq == 1) & (peer.entries() == 2);
     Ok(is_so & is_request(peer.alloc, &made.outs, b"CreateSequence", b"1", CREATE)?)
 }

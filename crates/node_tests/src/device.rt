@@ -34,6 +34,16 @@ impl Device {
         self.disk.crash(choice.min(3))
     }
 
+    /// Another byte stands so many bytes before the end from now on.
+    pub(crate) fn turn(&mut self, back: u64, byte: u8) -> Result<(), Memory> {
+        self.reserve(1, 1)?;
+        let Ok(len) = self.len() else {
+            return Ok(());
+        };
+        let _ = self.write_at(len.saturating_sub(back), &[byte]);
+        Ok(())
+    }
+
     // One device call is made now: where it is the one that fails, the disk is told so.
     fn count(&mut self)
         ensures past { past_of self.new.disk ≡ past_of self.old.disk }

@@ -58,27 +58,32 @@ impl Peer {
         Ok(())
     }
 
-    /// A sequence to node 2 is asked for, for ever, whose answers come to the node's address, and perhaps one in the
-    /// other direction is offered.
-    pub(crate) fn ask(&mut self, offer: Option<Behaviour>) -> Result<Made, NodeError> {
+    /// A sequence to node 2 is asked for, for ever, whose answers come to the node's address.
+    pub(crate) fn ask(&mut self) -> Result<Made, NodeError> {
         let wish = Wish {
             to: uri(self.alloc, NODE_2)?,
             via: Via::Direct,
             expires: Lapse { months: 0, ms: 0 },
-            offer,
+            offer: None,
         };
         self.node.create(&mut self.disk, wish)
     }
 
-    /// One is asked for without an offer: its number.
+    /// The same: its number.
     pub(crate) fn create(&mut self) -> Result<u32, NodeError> {
-        let made = self.ask(None)?;
+        let made = self.ask()?;
         Ok(made.seq)
     }
 
-    /// One is asked for with an offer: its number.
+    /// The same, and one in the other direction is offered.
     pub(crate) fn offer(&mut self) -> Result<u32, NodeError> {
-        let made = self.ask(Some(Behaviour::FollowingFirstGap))?;
+        let wish = Wish {
+            to: uri(self.alloc, NODE_2)?,
+            via: Via::Direct,
+            expires: Lapse { months: 0, ms: 0 },
+            offer: Some(Behaviour::FollowingFirstGap),
+        };
+        let made = self.node.create(&mut self.disk, wish)?;
         Ok(made.seq)
     }
 

@@ -288,3 +288,23 @@ fn a_node_that_is_not_made(rt: HostRuntime) -> Result<(), Fail> {
     }
     Ok(())
 }
+
+// How finding node 2 comes out where the behaviour that its grant announces is this byte. The grant is the last entry:
+// behind the byte stand the moment at which the sequence ends, for how long it was asked for, that nothing was offered,
+// and the gate of the journal.
+fn announced(alloc: Global, byte: u8) -> Result<Option<MountError>, NodeError> {
+    let mut peer = Peer::second(alloc)?;
+    peer.be_asked()?;
+    peer.disk.turn(9 + 16 + 1 + 1 + 1, byte)?;
+    Ok(peer.mount().err())
+}
+
+// 0 is NoDiscard, which no node announces, 1 and 2 are the others, and 3 is none.
+#[test]
+fn a_journal_that_announces_no_discard(rt: HostRuntime) -> Result<(), Fail> {
+    let no_node = Some(MountError::NotAJournal);
+    for (byte, known) in [(0, no_node), (1, None), (2, None), (3, no_node)] {
+        assert!(rt; announced(rt.alloc(), byte)? == known, "byte {byte}");
+    }
+    Ok(())
+}

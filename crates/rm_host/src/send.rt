@@ -1,5 +1,6 @@
 //! The command `send`.
-ghost use Rattle.std.specs.Prelude.{◌≡◌, ◌≤◌, false, IfSome};
+ghost use Rattle.std.specs.Prelude.{◌≡◌, ◌≤◌, true, false, IfSome};
+ghost use Rattle.sequence_table.specs.Fits.{is_in_order};
 
 use crate::end::End;
 use crate::host::Host;
@@ -82,6 +83,7 @@ fn reach<D: Disk, L: Link, C: Clock>(
 fn wish(to: Uri) -> Wish
     ensures months { result.expires.months ≡ 0 }
     ensures ms { result.expires.ms ≡ 0 }
+    ensures offer { IfSome result.offer (λ behaviour. is_in_order behaviour ≡ true) }
 {
     Wish {
         to,

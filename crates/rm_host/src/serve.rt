@@ -3,7 +3,8 @@ ghost use Rattle.std.specs.Prelude.{◌≡◌, false};
 
 use crate::end::End;
 use crate::host::Host;
-use rm_base::{Behaviour, Blob, Clock, Memory, push_decimal};
+use crate::words::Grant;
+use rm_base::{Blob, Clock, Memory, push_decimal};
 use rm_disk::Disk;
 use rm_link::Link;
 use rm_node::{Node, Outs};
@@ -23,12 +24,12 @@ pub fn serve<D: Disk, L: Link, C: Clock>(
     host: &mut Host<D, L, C>,
     port: u16,
     count: u16,
-    grant: Behaviour,
+    grant: Grant,
 ) -> Result<Blob, End>
     requires silent { D.tells ≡ false }
 {
     let mut node = Node::mount(alloc, &mut host.disk)?;
-    node.set_grant(grant);
+    node.set_grant(grant.behaviour());
     if host.link.listen(port).is_err() {
         return Err(End::LinkFault);
     }

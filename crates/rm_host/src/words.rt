@@ -1,5 +1,6 @@
 //! The words of a command.
-ghost use Rattle.std.specs.Prelude.{◌≤◌, IfOk};
+ghost use Rattle.std.specs.Prelude.{◌≡◌, ◌≤◌, true, IfOk};
+ghost use Rattle.sequence_table.specs.Fits.{is_in_order};
 
 use crate::end::End;
 use http_endpoint::read_target;
@@ -8,31 +9,35 @@ use rm_base::{Behaviour, Blob, Uri};
 use std::alloc::Global;
 use std::str;
 
+/// What a node that serves announces: that a closed sequence drops what follows its first gap, or all of it.
+#[derive(Clone, Copy, Debug)]
+pub enum Grant {
+    DropsFollowing,
+    DropsEntire,
+}
+
+impl Grant {
+    /// What is announced for the sequences that are granted. It is never NoDiscard.
+    pub fn behaviour(self) -> Behaviour
+        ensures { is_in_order result ≡ true }
+    {
+        match self {
+            Grant::DropsFollowing => Behaviour::FollowingFirstGap,
+            Grant::DropsEntire => Behaviour::EntireSequence,
+        }
+    }
+}
+
 /// What the words ask for.
 #[derive(Debug, Drop)]
 pub enum Command {
-    Make {
-        number: u64,
-        address: Uri,
-    },
-    Serve {
-        port: u16,
-        count: u16,
-        grant: Behaviour,
-    },
-    Send {
-        to: Uri,
-    },
+    Make { number: u64, address: Uri },
+    Serve { port: u16, count: u16, grant: Grant },
+    Send { to: Uri },
     Push,
-    Close {
-        seq: u32,
-    },
-    Finish {
-        seq: u32,
-    },
-    Inbox {
-        seq: u32,
-    },
+    Close { seq: u32 },
+    Finish { seq: u32 },
+    Inbox { seq: u32 },
 }
 
 /// Whether a word is the name of a command.
@@ -113,12 +118,12 @@ fn seq_of(words: &[Blob]) -> Result<u32, End> {
     }
 }
 
-fn grant_of(word: &Blob) -> Result<Behaviour, End> {
+fn grant_of(word: &Blob) -> Result<Grant, End> {
     if word.as_slice() == b"dfg".as_slice() {
-        return Ok(Behaviour::FollowingFirstGap);
+        return Ok(Grant::DropsFollowing);
     }
     if word.as_slice() == b"des".as_slice() {
-        return Ok(Behaviour::EntireSequence);
+        return Ok(Grant::DropsEntire);
     }
     Err(End::Usage)
 }

@@ -7,6 +7,7 @@ use Rattle.rm_journal.specs.JournalState.{end_of}
 use Rattle.record_batch.specs.Fact.{Fact}
 use Rattle.rm_message.specs.declared.message.Message.{Message}
 use Rattle.rm_message.specs.declared.refusal.FaultKind.{FaultKind}
+use Rattle.sequence_table.specs.Fits.{is_in_order}
 use Rattle.sequence_table.specs.Words.{Text}
 use Rattle.rm_protocol.specs.Calls.{Answer, Done, Outcome}
 use Rattle.rm_protocol.specs.Terms.{Terms}
@@ -67,22 +68,22 @@ step_unsaid tells first old moment call (error.Refused cause) ended unsaid e = a
 
 -- the records of each answer leave a node
 pub leaves_each : ReadsRight → RefusesRight → (terms : Terms) (r : List Fact) (place now : ℕ) (kept : Kept)
-    (call : Call) (asked : Asked) → MayBeAsked call → Asks call asked
+    (call : Call) (asked : Asked) → is_in_order kept.granted ≡ true → MayBeAsked call → Asks call asked
     → OfEachCall terms r place (LeavesANode r) → LeavesANode r (answer_to terms r place now kept asked)
-leaves_each reads refuses terms r place now kept (call.Create wish) asked may is each =
+leaves_each reads refuses terms r place now kept (call.Create wish) asked in_order may is each =
     subst (λ (x : Asked). LeavesANode r (answer_to terms r place now kept x)) (sym is)
     (each.create_ (wish_seen wish) may)
-leaves_each reads refuses terms r place now kept (call.Send seq payload) asked may is each =
+leaves_each reads refuses terms r place now kept (call.Send seq payload) asked in_order may is each =
     subst (λ (x : Asked). LeavesANode r (answer_to terms r place now kept x)) (sym is) (each.send_ seq payload)
-leaves_each reads refuses terms r place now kept (call.Close seq) asked may is each =
+leaves_each reads refuses terms r place now kept (call.Close seq) asked in_order may is each =
     subst (λ (x : Asked). LeavesANode r (answer_to terms r place now kept x)) (sym is) (each.close_ seq now)
-leaves_each reads refuses terms r place now kept (call.End seq) asked may is each =
+leaves_each reads refuses terms r place now kept (call.End seq) asked in_order may is each =
     subst (λ (x : Asked). LeavesANode r (answer_to terms r place now kept x)) (sym is) (each.end_ seq)
-leaves_each reads refuses terms r place now kept (call.Tick moment) asked may is each =
+leaves_each reads refuses terms r place now kept (call.Tick moment) asked in_order may is each =
     subst (λ (x : Asked). LeavesANode r (answer_to terms r place now kept x)) (sym is) (each.tick_ moment)
-leaves_each reads refuses terms r place now kept (call.Receive bytes) asked may is each =
+leaves_each reads refuses terms r place now kept (call.Receive bytes) asked in_order may is each =
     subst (λ (x : Asked). LeavesANode r (answer_to terms r place now kept x)) (sym is.is)
-    (each.receive_ now kept.granted is.content (content_read reads refuses bytes.now is.content is.read))
+    (each.receive_ now kept.granted is.content in_order (content_read reads refuses bytes.now is.content is.read))
 
 -- ---- what is said is written
 
@@ -91,13 +92,13 @@ abbrev pub Writes : Told → Noded → Answer → Type 0
 Writes first old a = Leaves old a → StaysANode first old a
 
 -- the records of what is said leave a node
-leaves_said : ReadsRight → RefusesRight → EachCallKeeps → (old : Noded) (moment : ℕ) (call : Call) → MayBeAsked call
-    → (terms : Terms) → AreOwn terms → (asked : Asked) → Asks call asked
-    → Leaves old (answer_of terms old moment asked)
-leaves_said reads refuses keeps old moment call may terms own asked is h =
+leaves_said : ReadsRight → RefusesRight → EachCallKeeps → (old : Noded) (moment : ℕ) (call : Call)
+    → is_in_order old.kept.granted ≡ true → MayBeAsked call → (terms : Terms) → AreOwn terms → (asked : Asked)
+    → Asks call asked → Leaves old (answer_of terms old moment asked)
+leaves_said reads refuses keeps old moment call in_order may terms own asked is h =
     let r = old.stored.records in
     let place = end_of old.stored.journal in
-    leaves_each reads refuses terms r place moment old.kept call asked may is (keeps terms r place own h)
+    leaves_each reads refuses terms r place moment old.kept call asked in_order may is (keeps terms r place own h)
 
 -- all went well
 pub step_well : ReadsRight → RefusesRight → EachCallKeeps → (tells : Bool) (first now : Told) (old new : Noded)
@@ -108,7 +109,8 @@ pub step_well : ReadsRight → RefusesRight → EachCallKeeps → (tells : Bool)
 step_well reads refuses keeps tells first now old new moment call said outcome may says stays wrote comes = record {
   does = λ terms own asked is. goes-well tells (is_connected call) first now old new (seen said.answer) _ outcome
       said.handed.reply said.handed.outs says.up (says.is terms own asked is)
-      (leaves_said reads refuses keeps old moment call may terms own asked is) stays wrote comes says.reply says.outs;
+      (leaves_said reads refuses keeps old moment call says.in_order may terms own asked is) stays wrote comes
+      says.reply says.outs;
   cause = wrote.cause;
   crashes = λ t. (wrote.changes t).crashes;
 }
@@ -123,7 +125,7 @@ pub step_fails : ReadsRight → RefusesRight → EachCallKeeps → (tells : Bool
 step_fails reads refuses keeps tells first now old new moment call said e ended may says stays wrote ends is = record {
   does = λ terms own asked asks. fails tells (is_connected call) first now old new (seen said.answer) _ e ended is
       says.up (says.is terms own asked asks)
-      (leaves_said reads refuses keeps old moment call may terms own asked asks) stays wrote ends;
+      (leaves_said reads refuses keeps old moment call says.in_order may terms own asked asks) stays wrote ends;
   cause = subst (λ (b : Bool). HasCause first.faults now.faults b) (broken_by (Unit {0}) e ∙ ap is_broken (sym is))
       wrote.cause;
   crashes = λ t. (wrote.changes t).crashes;

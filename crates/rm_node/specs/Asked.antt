@@ -7,7 +7,7 @@ use Rattle.sequence_table.specs.Words.{Text}
 use Rattle.rm_protocol.specs.Calls as protocol
 use Rattle.rm_protocol.specs.Calls.{Answer, Wish}
 use Rattle.rm_protocol.specs.Terms.{Terms}
-use Rattle.node_laws.specs.Read.{IsWishWritable}
+use Rattle.node_laws.specs.Read.{MayBeWished}
 use Rattle.call_answers.specs.Answers.{wish_seen}
 use Rattle.rm_node.specs.Came.{IsReadAs}
 use Rattle.rm_node.specs.declared.kept.Kept.{Kept}
@@ -47,9 +47,9 @@ Asks (call.End seq) asked = asked ≡ End seq
 Asks (call.Tick now) asked = asked ≡ Tick now
 Asks (call.Receive bytes) asked = IsReceived bytes.now asked
 
--- what is asked for may be written
+-- what a node may be asked for: it can be written, and no sequence of NoDiscard is offered
 abbrev pub MayBeAsked : Call → Type 0
-MayBeAsked (call.Create wish) = IsWishWritable (wish_seen wish)
+MayBeAsked (call.Create wish) = MayBeWished (wish_seen wish)
 MayBeAsked _ = Unit {0}
 
 -- it comes on a connection

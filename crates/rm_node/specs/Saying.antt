@@ -1,6 +1,7 @@
 -- What a node says to a call, before anything is written.
 use Rattle.std.specs.Prelude.{◌≡◌, ℕ, true, false}
 use Rattle.rm_journal.specs.JournalState.{end_of}
+use Rattle.sequence_table.specs.Fits.{is_in_order}
 use Rattle.rm_protocol.specs.Terms.{Terms}
 use Rattle.node_laws.specs.OwnTerms.{AreOwn}
 use Rattle.call_answers.specs.Answers.{MayBeStored, seen}
@@ -13,9 +14,11 @@ use Rattle.rm_node.specs.declared.error.NodeError.{NodeError}
 use Rattle.rm_node.specs.declared.error.NodeError.TheVariants as error
 use Rattle.rm_node.specs.declared.say.Said.{Said}
 
--- the node is up; the answer is the protocol's, and may be stored; what is to be handed out is the text of what it says
+-- the node is up, and announces no NoDiscard; the answer is the protocol's, and may be stored; what is to be handed out
+-- is the text of what it says
 pub record Says (n : Noded) (moment : ℕ) (call : Call) (said : Said) : Type 0 where
   pub up : n.stored.journal.is_down ≡ false
+  pub in_order : is_in_order n.kept.granted ≡ true
   pub is : (terms : Terms) → AreOwn terms → (asked : Asked) → Asks call asked
       → seen said.answer ≡ answer_of terms n moment asked
   pub stored : MayBeStored n.stored.records (end_of n.stored.journal) (seen said.answer).delta

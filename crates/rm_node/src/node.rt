@@ -1,9 +1,10 @@
 //! A node: what it keeps, and what it tells.
-ghost use Rattle.std.specs.Prelude.{◌≡◌, ◌⊎◌, ◌<◌, ◌^◌, [], ◌∷◌, false, Err, length, IsTrue, IfOk, IfErr};
+ghost use Rattle.std.specs.Prelude.{◌≡◌, ◌⊎◌, ◌<◌, ◌^◌, [], ◌∷◌, true, false, Err, length, IsTrue, IfOk, IfErr};
 ghost use Rattle.record_batch.specs.Fact.{Made};
 ghost use Rattle.rm_disk.specs.Call.{crashes_of, seen_of};
 ghost use Rattle.rm_disk.specs.Cause.{HasCause};
 ghost use Rattle.rm_disk.specs.Image.{MayLeave, OnlyLeaves};
+ghost use Rattle.sequence_table.specs.Fits.{is_in_order};
 ghost use Rattle.node_store.specs.Changes.{KeepsUnarmed};
 ghost use Rattle.node_store.specs.Has.{Has};
 ghost use Rattle.node_store.specs.Mounted.{Finds, has_failed, IsNoNode};
@@ -34,6 +35,8 @@ pub struct Node {
 impl Model for Node {
     ghost use Rattle.std.specs.Coded.{codes};
     ghost use Rattle.soap_profile.specs.TreeCode.{tree_code};
+    ghost use Rattle.std.specs.Prelude.{◌≡◌, true};
+    ghost use Rattle.sequence_table.specs.Fits.{is_in_order};
     ghost use Rattle.rm_node.specs.Noded.{Noded};
 
     ghost Value = { Noded };
@@ -41,6 +44,8 @@ impl Model for Node {
     ghost coded = { Prim.hlevel (codes, tree_code) };
 
     ghost view = { λ n. record { stored = n.store; kept = n.kept } };
+
+    ghost invariant = { λ n. is_in_order n.kept.granted ≡ true };
 }
 
 impl Node {
@@ -107,13 +112,16 @@ impl Node {
 
     /// What the node announces for the sequences that it grants.
     pub fn granted(&self) -> Behaviour
-        ensures { result ≡ self.now.kept.granted }
+        ensures kept { result ≡ self.now.kept.granted }
+        ensures in_order { is_in_order result ≡ true }
     {
         self.kept.granted
     }
 
-    /// From now on the node announces this for the sequences that it grants.
+    /// From now on the node announces this for the sequences that it grants. It is not NoDiscard: there is no receiver
+    /// that releases messages as they come.
     pub fn set_grant(&mut self, behaviour: Behaviour)
+        requires { is_in_order behaviour ≡ true }
         ensures { self.new ≡ granting self.old behaviour }
     {
         self.kept.granted = behaviour;

@@ -1,6 +1,7 @@
 //! What comes to a node.
-ghost use Rattle.std.specs.Prelude.{◌≡◌, map, IfOk, Result};
+ghost use Rattle.std.specs.Prelude.{◌≡◌, true, map, IfOk, Result};
 ghost use Rattle.record_batch.specs.Fact.{fact_of};
+ghost use Rattle.sequence_table.specs.Fits.{is_in_order};
 ghost use Rattle.rm_message.specs.declared.message.Message.{Message as Said};
 ghost use Rattle.rm_message.specs.declared.refusal.Refusal.{Refusal as Refused};
 ghost use Rattle.rm_protocol.specs.Calls.{receive as receive_of};
@@ -29,6 +30,7 @@ pub(crate) fn answer_to_bytes(
     bytes: &[u8],
 ) -> Result<Answer, Memory>
     requires serves { Serves tables.now.records place }
+    requires in_order { is_in_order granted ≡ true }
     ensures is { (terms : Terms) → AreOwn terms → (content : Result Said Refused) → IsReadAs bytes.now content
         → IfOk result (λ a. seen a ≡ receive_of terms tables.now.records place now granted content) }
     ensures stored { IfOk result (λ a. MayBeStored tables.now.records place (map fact_of a.batch.items)) }

@@ -1,11 +1,12 @@
 //! What a node says to a call.
-ghost use Rattle.std.specs.Prelude.{◌≡◌, map, IfErr, IfOk};
+ghost use Rattle.std.specs.Prelude.{◌≡◌, true, map, IfErr, IfOk};
 ghost use Rattle.record_batch.specs.Fact.{fact_of};
+ghost use Rattle.sequence_table.specs.Fits.{is_in_order};
 ghost use Rattle.rm_protocol.specs.Terms.{Terms};
 ghost use Rattle.node_laws.specs.OwnTerms.{AreOwn};
 ghost use Rattle.call_answers.specs.Answers.{MayBeStored, seen};
 ghost use Rattle.call_answers.specs.Serving.{Serves};
-ghost use Rattle.rm_node.specs.Asked.{Asked, Asks, answer_to as protocol_answer};
+ghost use Rattle.rm_node.specs.Asked.{Asked, Asks, MayBeAsked, answer_to as protocol_answer};
 ghost use Rattle.rm_node.specs.Saying.{IsUnsaid, Says};
 
 use crate::call::Call;
@@ -36,6 +37,8 @@ fn answer_to(
     call: Call<'_>,
 ) -> Result<Answer, Memory>
     requires serves { Serves tables.now.records place }
+    requires in_order { is_in_order kept.granted ≡ true }
+    requires may { MayBeAsked call }
     ensures is { (terms : Terms) → AreOwn terms → (asked : Asked) → Asks call.entry asked
         → IfOk result (λ a. seen a ≡ protocol_answer terms tables.now.records place now kept asked) }
     ensures stored { IfOk result (λ a. MayBeStored tables.now.records place (map fact_of a.batch.items)) }
@@ -54,6 +57,7 @@ impl Node {
     /// Answers a call at a moment, and encodes what is said. Nothing is written, and nothing of the node changes: it is
     /// all that a call does which adds no records.
     pub(crate) fn say(&self, now: u64, call: Call<'_>) -> Result<Said, NodeError>
+        requires { MayBeAsked call }
         ensures says { IfOk result (Says self.now now call.entry) }
         ensures err { IfErr result (IsUnsaid self.now) }
     {

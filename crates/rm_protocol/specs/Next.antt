@@ -8,7 +8,7 @@ use Rattle.rm_elements.specs.declared.header.SeqHeader.{SeqHeader}
 use Rattle.rm_message.specs.declared.message.Message.{Message}
 use Rattle.rm_message.specs.declared.refusal.Refusal.{Refusal}
 use Rattle.record_batch.specs.Fact.{Fact}
-use Rattle.sequence_table.specs.Fits.{all_fit}
+use Rattle.sequence_table.specs.Fits.{all_fit, is_in_order}
 use Rattle.sequence_table.specs.Words.{Text}
 use Rattle.rm_protocol.specs.Calls.{Wish, create, send, close, end, tick, receive}
 use Rattle.rm_protocol.specs.Rows.{ranges_of}
@@ -38,15 +38,16 @@ abbrev pub IsReadable : Result Message Refusal → Type 0
 IsReadable (Ok m) = HasNumbers m
 IsReadable (Err refusal) = Unit {0}
 
--- the records that each call adds to r may come next, one after the other
+-- the records that each call adds to r may come next, one after the other, where it announces no NoDiscard
 pub record AddsNext (terms : Terms) (r : List Fact) (place : ℕ) : Type 0 where
-  pub create_ : (wish : Wish) → all_fit r (create terms r place wish).delta ≡ true
+  pub create_ : (wish : Wish) → IfSome wish.offer (λ behaviour. is_in_order behaviour ≡ true)
+      → all_fit r (create terms r place wish).delta ≡ true
   pub send_ : (s : ℕ) (payload : Text) → all_fit r (send terms r place s payload).delta ≡ true
   pub close_ : (s now : ℕ) → all_fit r (close terms r place s now).delta ≡ true
   pub end_ : (s : ℕ) → all_fit r (end terms r place s).delta ≡ true
   pub tick_ : (now : ℕ) → all_fit r (tick terms r place now).delta ≡ true
-  pub receive_ : (now : ℕ) (behaviour : Behaviour) (content : Result Message Refusal) → IsReadable content
-      → all_fit r (receive terms r place now behaviour content).delta ≡ true
+  pub receive_ : (now : ℕ) (behaviour : Behaviour) (content : Result Message Refusal) → is_in_order behaviour ≡ true
+      → IsReadable content → all_fit r (receive terms r place now behaviour content).delta ≡ true
 
 -- so it is for a list of records each of which could come next
 abbrev pub EachMayComeNext : Type 0

@@ -14,6 +14,7 @@ use Rattle.rm_message.specs.declared.refusal.Refusal.{Refusal}
 use Rattle.read_laws.specs.WasRead.{WasRead, IsBodyRead}
 use Rattle.record_batch.specs.Fact.{Fact}
 use Rattle.rm_disk.specs.Call.{Call as DeviceCall}
+use Rattle.sequence_table.specs.Fits.{is_in_order}
 use Rattle.rm_protocol.specs.Calls.{Answer}
 use Rattle.rm_protocol.specs.Node.{Node, State, Up, Writing, end_of, is_short, records, records_in, said_after, said_by}
 use Rattle.rm_protocol.specs.Node.{said_with}
@@ -119,36 +120,43 @@ pub kept_at : (w : World) (d : Drives) (nodes : Nodes) (side : Side) → StandFo
 kept_at w d nodes One stand = kept_by w.one.state w.one.entries d.one.disk.past nodes.one.node.stored stand.one.disk
 kept_at w d nodes Two stand = kept_by w.two.state w.two.entries d.two.disk.past nodes.two.node.stored stand.two.disk
 
+-- so does what is announced
+pub in_order_at : (w : World) (d : Drives) (nodes : Nodes) (side : Side) → StandFor w d nodes
+    → is_in_order (node w side).granted ≡ true
+in_order_at w d nodes One stand = stand.one.in_order
+in_order_at w d nodes Two stand = stand.two.in_order
+
 answer_read : ReadsRight → RefusesRight → EachIsReadBack → (terms : Terms) → AreOwn terms → (x : Node)
-    → IsKept (records x) → (asked : Asked) (this : Call) → MayBeAsked this → Asks this asked
-    → AllByRecursion IsReadBack (answer_of terms x asked).outs
-answer_read reads refuses each terms own x kept asked (call.Create wish) may is =
+    → IsKept (records x) → is_in_order x.granted ≡ true → (asked : Asked) (this : Call) → MayBeAsked this
+    → Asks this asked → AllByRecursion IsReadBack (answer_of terms x asked).outs
+answer_read reads refuses each terms own x kept in_order asked (call.Create wish) may is =
     subst (λ (a : Asked). AllByRecursion IsReadBack (answer_of terms x a).outs) (sym is)
     ((each terms (records x) (end_of terms x.entries) own kept).create_ _ may)
-answer_read reads refuses each terms own x kept asked (call.Send seq payload) may is =
+answer_read reads refuses each terms own x kept in_order asked (call.Send seq payload) may is =
     subst (λ (a : Asked). AllByRecursion IsReadBack (answer_of terms x a).outs) (sym is)
     ((each terms (records x) (end_of terms x.entries) own kept).send_ seq payload)
-answer_read reads refuses each terms own x kept asked (call.Close seq) may is =
+answer_read reads refuses each terms own x kept in_order asked (call.Close seq) may is =
     subst (λ (a : Asked). AllByRecursion IsReadBack (answer_of terms x a).outs) (sym is)
     ((each terms (records x) (end_of terms x.entries) own kept).close_ seq x.clock)
-answer_read reads refuses each terms own x kept asked (call.End seq) may is =
+answer_read reads refuses each terms own x kept in_order asked (call.End seq) may is =
     subst (λ (a : Asked). AllByRecursion IsReadBack (answer_of terms x a).outs) (sym is)
     ((each terms (records x) (end_of terms x.entries) own kept).end_ seq)
-answer_read reads refuses each terms own x kept asked (call.Tick now) may is =
+answer_read reads refuses each terms own x kept in_order asked (call.Tick now) may is =
     subst (λ (a : Asked). AllByRecursion IsReadBack (answer_of terms x a).outs) (sym is)
     ((each terms (records x) (end_of terms x.entries) own kept).tick_ now)
-answer_read reads refuses each terms own x kept asked (call.Receive bytes) may is =
+answer_read reads refuses each terms own x kept in_order asked (call.Receive bytes) may is =
     subst (λ (a : Asked). AllByRecursion IsReadBack (answer_of terms x a).outs) (sym is.is)
-    ((each terms (records x) (end_of terms x.entries) own kept).receive_ x.clock x.granted is.content
+    ((each terms (records x) (end_of terms x.entries) own kept).receive_ x.clock x.granted is.content in_order
     (content_read reads refuses bytes.now is.content is.read))
 
 -- all that a node says in a call
 pub said_is_read : ReadsRight → RefusesRight → EachIsReadBack → (terms : Terms) → AreOwn terms → (x : Node)
-    → IsKept (records x) → (asked : Asked) (this : Call) → MayBeAsked this
+    → IsKept (records x) → is_in_order x.granted ≡ true → (asked : Asked) (this : Call) → MayBeAsked this
     → Asks this asked → AllByRecursion IsReadMessage (step_of terms x asked this).said
-said_is_read reads refuses each terms own x kept asked this within by =
+said_is_read reads refuses each terms own x kept in_order asked this within by =
     let answer = answer_of terms x asked in
     let y = clocked this x in
-    let all = read_messages answer.outs (answer_read reads refuses each terms own x kept asked this within by) in
+    let all = read_messages answer.outs
+    (answer_read reads refuses each terms own x kept in_order asked this within by) in
     all_filter IsReadMessage (λ (m : Message). leaves (is_connected this) (place_of m.addressing.to))
     (said_after y answer) (all_said IsReadMessage y y.state answer all)

@@ -4,6 +4,8 @@ use Rattle.std.specs.Prelude.{length, Option, Some, None}
 use Rattle.std.specs.List.{list_all}
 use Rattle.ack_ranges.specs.declared.range.Range.{Range}
 use Rattle.rm_base.specs.NumberSet.{has_number}
+use Rattle.rm_base.specs.declared.message.Behaviour.{Behaviour}
+use Rattle.rm_base.specs.declared.message.Behaviour.TheVariants.{NoDiscard}
 use Rattle.rm_source.specs.declared.phase.OutPhase.{OutPhase}
 use Rattle.rm_source.specs.declared.phase.OutPhase.TheVariants as out
 use Rattle.record_batch.specs.declared.record.OwnOffer.{OwnOffer}
@@ -47,10 +49,16 @@ follows _ _ = false
 abbrev pub follows_at : List Fact → ℕ → Fact → Bool
 follows_at r s rec = is_outgoing_side (maker r s) && follows (phase r s) rec
 
--- the second number is the next one after that of the ticket
+-- a sequence of this behaviour releases its messages in order: as long as there is no receiver for NoDiscard, which
+-- releases them as they come, none is announced (WS-ReliableMessaging 1.2, section 3.4)
+abbrev pub is_in_order : Behaviour → Bool
+is_in_order NoDiscard = false
+is_in_order _ = true
+
+-- the second number is the next one after that of the ticket, and the sequence releases in order
 abbrev pub offer_fits : ℕ → Option OwnOffer → Bool
 offer_fits drawn None = true
-offer_fits drawn (Some offer) = offer.counter == drawn + 2
+offer_fits drawn (Some offer) = (offer.counter == drawn + 2) && is_in_order offer.behaviour
 
 -- a deadline that is no moment: 0
 abbrev pub is_no_moment : Option ℕ → Bool
@@ -72,8 +80,8 @@ fits r (Creating ticket to via lapse offer) =
     (ticket == counter r + 1) && (offer_fits (counter r) offer && has_places r (Creating ticket to via lapse offer))
 fits r (Created seq ident accept) = follows_at r seq (Created seq ident accept)
 fits r (Granted drawn message_id acks_to behaviour deadline lapse offer) =
-    (drawn == counter r + 1) && (not (is_no_moment deadline)
-    && has_places r (Granted drawn message_id acks_to behaviour deadline lapse offer))
+    (drawn == counter r + 1) && (not (is_no_moment deadline) && (is_in_order behaviour
+    && has_places r (Granted drawn message_id acks_to behaviour deadline lapse offer)))
 fits r (Accepted seq payload) =
     follows_at r seq (Accepted seq payload) && nat_lt (length (accepted r seq)) 9223372036854775807
 fits r (Acked seq ranges) = is_outgoing_side (maker r seq) && list_all (is_up_to (length (accepted r seq))) ranges

@@ -8,8 +8,8 @@ use std::alloc::Global;
 use std::test::Fail;
 use wsa_headers::Epr;
 
-// Node 7 asks for sequence 1, and offers sequence 2.
-fn asked(alloc: Global) -> Result<Record, Fail> {
+// Node 7 asks for sequence 1, and offers sequence 2, which has this behaviour.
+fn asked_with(alloc: Global, behaviour: Behaviour) -> Result<Record, Fail> {
     let to = uri(alloc, "urn:b")?;
     Ok(Record::Creating {
         ticket: 1,
@@ -18,9 +18,14 @@ fn asked(alloc: Global) -> Result<Record, Fail> {
         lapse: NEVER,
         offer: Some(OwnOffer {
             counter: 2,
-            behaviour: Behaviour::NoDiscard,
+            behaviour,
         }),
     })
+}
+
+// One that drops what follows its first gap.
+fn asked(alloc: Global) -> Result<Record, Fail> {
+    asked_with(alloc, Behaviour::FollowingFirstGap)
 }
 
 // Sequence 1 is granted, and the offer is taken.
@@ -41,23 +46,28 @@ fn peer_offer(alloc: Global) -> Result<PeerOffer, Fail> {
 }
 
 // The record of these parts.
-fn grant_of(message_id: Uri, acks_to: Epr, offer: PeerOffer) -> Record {
+fn grant_of(message_id: Uri, acks_to: Epr, behaviour: Behaviour, offer: PeerOffer) -> Record {
     Record::Granted {
         counter: 3,
         message_id,
         acks_to,
-        behaviour: Behaviour::NoDiscard,
+        behaviour,
         deadline: None,
         lapse: NEVER,
         offer: Some(offer),
     }
 }
 
-// Node 7 grants a sequence, and takes the offer that came along.
-fn granted(alloc: Global) -> Result<Record, Fail> {
+// Node 7 grants a sequence, which has this behaviour, and takes the offer that came along.
+fn granted_with(alloc: Global, behaviour: Behaviour) -> Result<Record, Fail> {
     let message_id = uri(alloc, "urn:m")?;
     let acks_to = endpoint(alloc, "urn:c")?;
-    Ok(grant_of(message_id, acks_to, peer_offer(alloc)?))
+    Ok(grant_of(message_id, acks_to, behaviour, peer_offer(alloc)?))
+}
+
+// One that drops all of it.
+fn granted(alloc: Global) -> Result<Record, Fail> {
+    granted_with(alloc, Behaviour::EntireSequence)
 }
 
 // Node 7 is made, and asks.
@@ -262,5 +272,21 @@ fn receives_once(alloc: Global, tables: &mut Tables) -> Result<bool, Fail> {
 #[test]
 fn a_number_is_received_once(rt: HostRuntime) -> Result<(), Fail> {
     assert!(rt; at_new(rt.alloc(), receives_once)?);
+    Ok(())
+}
+
+// Node 7 asks for no sequence with an offer of NoDiscard, and grants none.
+fn refuses_no_discard(alloc: Global, tables: &mut Tables) -> Result<bool, Fail> {
+    tables.apply(made(alloc)?)?;
+    let first = tables.apply(asked_with(alloc, Behaviour::NoDiscard)?);
+    tables.apply(asked(alloc)?)?;
+    let second = tables.apply(granted_with(alloc, Behaviour::NoDiscard)?);
+    tables.apply(granted(alloc)?)?;
+    Ok((first == Err(TableError::Misfit)) & (second == Err(TableError::Misfit)))
+}
+
+#[test]
+fn a_sequence_releases_in_order(rt: HostRuntime) -> Result<(), Fail> {
+    assert!(rt; at_new(rt.alloc(), refuses_no_discard)?);
     Ok(())
 }

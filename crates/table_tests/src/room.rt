@@ -14,7 +14,7 @@ fn grant(alloc: Global) -> Result<Record, Fail> {
         counter: 1,
         message_id,
         acks_to,
-        behaviour: Behaviour::NoDiscard,
+        behaviour: Behaviour::FollowingFirstGap,
         deadline: Some(100),
         lapse: NEVER,
         offer: None,

@@ -3,6 +3,7 @@ use Rattle.message_reader.specs.Refusals.{blind}
 use Rattle.rm_message.specs.declared.refusal.FaultKind.TheVariants.{TooLong}
 use Rattle.rm_protocol.specs.World.{Close, End, Send, Tick, node}
 use Rattle.rm_report.specs.declared.line.Outcome.TheVariants as told
+use Rattle.rm_script.specs.Within.{IsWithin}
 use Rattle.rm_script.specs.declared.event.Event.{Event as Said}
 use Rattle.rm_script.specs.declared.event.Event.TheVariants as said
 use Rattle.rm_replay.specs.Asked.{step_of}
@@ -13,8 +14,16 @@ use Rattle.rm_node.specs.Asked as asks
 use Rattle.rm_node.specs.declared.call.Call.TheVariants as call
 use Rattle.rm_replay.proofs.CallLemmas.{close_call, end_call, send_call, tick_call}
 use Rattle.rm_replay.proofs.EventLemmas.{happens_arm, happens_call, happens_crash, happens_grant, happens_line}
+use Rattle.rm_replay.proofs.OrderLemmas.{in_order-all, in_order-offer}
 use Rattle.rm_replay.proofs.StepLemmas.{scene_by}
 use Rattle.rm_replay.proofs.happen.happen.Goals as goal
+
+pub create-requires-clause-offer : goal.create-requires-clause-offer
+create-requires-clause-offer g c =
+    in_order-offer c.in-Create.offer (subst IsWithin c.in-Create.is c.requires.within).1
+
+pub grant-requires : goal.grant-requires
+grant-requires g c = in_order-all c.in-Grant.behaviour (subst IsWithin c.in-Grant.is c.requires.within)
 
 pub returns-in-Send : goal.returns-in-Send
 returns-in-Send g c terms net w shows =

@@ -34,7 +34,7 @@ returns-clause-ok g c x s =
     let now = g.D.Disk.told c.mount.new.disk in
     let stored = c.in_ok-node.node.stored in
     let granted : c.set_grant.new.self ≡ noded stored c.self.inside.node.kept.granted =
-    c.set_grant.ensures ∙ ap (λ (b : Behaviour). noded stored b) c.granted-granted.ensures in
+    c.set_grant.ensures ∙ ap (λ (b : Behaviour). noded stored b) c.granted-granted.ensures.kept in
     subst (λ (n : Noded). Crashed x c.args.choice first now (actored n c.self.inside.clock)) (sym granted)
     (crashed c.bytes_stand_for_one_list_of_batches.ensures x first now
     (actored c.self.inside.node c.self.inside.clock) c.args.choice (g.D.Disk.told c.crash.new.self).past stored

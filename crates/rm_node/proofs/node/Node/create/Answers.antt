@@ -11,7 +11,8 @@ use Rattle.rm_node.proofs.StepLemmas.{failed, plain, some_terms, was_taken}
 use Rattle.rm_node.proofs.node.Node.create.Goals as goal
 
 pub step-requires-clause-may : goal.step-requires-clause-may
-step-requires-clause-may g c = record { to = c.as_slice-to.ensures.is_text; expires = c.requires.lapse }
+step-requires-clause-may g c =
+    record { to = c.as_slice-to.ensures.is_text; expires = c.requires.lapse; offer = c.requires.offer }
 
 pub returns-in_err-reaction-clause-steps : goal.returns-in_err-reaction-clause-steps
 returns-in_err-reaction-clause-steps g c =

@@ -1,6 +1,7 @@
-use Rattle.std.proofs.Common.{◌∙◌, ℕ, Bool, List, map, ap, subst}
+use Rattle.std.proofs.Common.{◌≡◌, ◌∙◌, ℕ, Bool, true, List, map, ap, subst}
 use Rattle.rm_journal.specs.JournalState.{end_of}
 use Rattle.record_batch.specs.Fact.{Fact, fact_of}
+use Rattle.sequence_table.specs.Fits.{is_in_order}
 use Rattle.call_answers.specs.Answers.{MayBeStored}
 use Rattle.rm_node.specs.Asked.{answer_to, is_connected}
 use Rattle.rm_node.specs.Noded.{Noded}
@@ -16,6 +17,7 @@ returns-clause-says c =
     let delta = map fact_of c.in_ok-answer.answer.batch.items in
     record {
       up = c.in_ok-check_up.ensures.up;
+      in_order = subst (λ (m : Noded). is_in_order m.kept.granted ≡ true) c.self.view_is c.self.invariant;
       is = λ terms own asked asks. c.in_ok-answer.ensures.is terms own asked asks
           ∙ ap (λ (m : Noded). answer_to terms at.0.now.records at.1 now m.kept asked) c.self.view_is
           ∙ ap (λ (r : List Fact). answer_to terms r at.1 now n.kept asked) same.records
