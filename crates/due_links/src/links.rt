@@ -31,7 +31,7 @@ pub struct Item {
 }
 
 /// Lists of items in one table of slots. After `with_slots` no call takes memory.
-#[derive(Drop)]
+#[derive(Debug, Drop)]
 pub struct Links {
     nodes: Vec<Node>,
     slots: u32,

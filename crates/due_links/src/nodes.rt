@@ -25,7 +25,7 @@ use std::alloc::Global;
 use std::sync::ledger::{Blank, Ledger};
 
 /// A slot, or behind the slots the two ends of a list: its first slot is next, and its last is previous.
-#[derive(Clone, Copy)]
+#[derive(Clone, Copy, Debug)]
 pub(crate) struct Node {
     pub(crate) prev: usize,
     pub(crate) next: usize,

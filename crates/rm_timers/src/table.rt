@@ -24,7 +24,7 @@ use std::alloc::Global;
 use std::sync::ledger::{Blank, Ledger};
 
 /// A key, and the slot in the lists where it now stands.
-#[derive(Clone, Copy)]
+#[derive(Clone, Copy, Debug)]
 pub(crate) struct Cell {
     pub(crate) key: Key,
     pub(crate) at: u32,

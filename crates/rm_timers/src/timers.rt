@@ -34,7 +34,7 @@ pub struct Key {
 
 /// The keys that wait to be emitted, at most 4352. After `new` no call takes memory.
 /// Moments are milliseconds since 1970 UTC.
-#[derive(Drop)]
+#[derive(Debug, Drop)]
 pub struct Timers {
     links: Links,
     cells: Vec<Cell>,

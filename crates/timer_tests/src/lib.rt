@@ -3,6 +3,8 @@
 #![tactic(auto)]
 
 #[cfg(test)]
+mod keyed;
+#[cfg(test)]
 mod lists;
 mod plain;
 #[cfg(test)]
