@@ -9,6 +9,7 @@ mod Lists
 mod Messages
 mod Near
 mod Owned
+mod Room
 mod Rows
 mod Said
 mod Texts

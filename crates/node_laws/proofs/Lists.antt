@@ -62,19 +62,6 @@ to_list P (Some x) h = (h, tt)
 
 -- ---- records that fit
 
-induct : (P : List Fact → Type 0) → ((r : List Fact) (f : Fact) → P r → fits r f ≡ true → P (r ++ f ∷ []))
-    → (r xs : List Fact) → P r → all_fit r xs ≡ true → P (r ++ xs)
-induct P step r [] h e = subst P (sym (append-nil r)) h
-induct P step r (f ∷ xs) h e =
-    let parts = and_parts (fits r f) (all_fit (r ++ f ∷ []) xs) e in
-    subst P (append_assoc r (f ∷ []) xs) (induct P step (r ++ f ∷ []) xs (step r f h parts.0) parts.1)
-
--- what holds of no records, and stays with each that fits, holds of all that fit
-pub fit-induction : (P : List Fact → Type 0) → P []
-    → ((r : List Fact) (f : Fact) → P r → fits r f ≡ true → P (r ++ f ∷ [])) → (r : List Fact)
-    → all_fit [] r ≡ true → P r
-fit-induction P none step r e = induct P step [] r none e
-
 pub all_fit-append : (r xs ys : List Fact) → all_fit r xs ≡ true → all_fit (r ++ xs) ys ≡ true
     → all_fit r (xs ++ ys) ≡ true
 all_fit-append r [] ys h k = subst (λ z. all_fit z ys ≡ true) (append-nil r) k

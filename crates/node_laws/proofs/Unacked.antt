@@ -1,10 +1,9 @@
 -- How many messages are not acknowledged, after one more record.
 use Rattle.std.proofs.Common.{◌≡◌, ℕ, ◌+◌, ◌<◌, ◌≤◌, ◌==◌, ◌⊎◌, Bool, true, false, cond, List, []}
 use Rattle.std.proofs.Common.{◌∷◌, ◌++◌, length, refl, sym, ap, subst, ◌∙◌, arith, inl, inr, length-append}
-use Rattle.std.proofs.Common.{append-nil, Option, Some, None}
+use Rattle.std.proofs.Common.{append-nil}
 use Rattle.std.specs.Prelude.{nat_lt}
 use Rattle.std.specs.List.{AllByRecursion}
-use Rattle.std.specs.Option.{option_or}
 use Rattle.std.proofs.lemmas.Bool.{and_parts, eqb-true, false≢true}
 use Rattle.std.proofs.lemmas.Bool.Decides.{nat_tests}
 use Rattle.ack_ranges.specs.Changes.{united}
@@ -19,15 +18,16 @@ use Rattle.sequence_table.specs.Words.{at_seq, last_or}
 use Rattle.sequence_table.specs.Makers.{Maker, Outgoing, Taken, makers, makers_of, maker}
 use Rattle.sequence_table.specs.Sources.{accepted, accepted_of, acked, acked_of, unacked, unacked_at}
 use Rattle.sequence_table.specs.Sources.{unacked_from}
-use Rattle.sequence_table.specs.Sources.{all_unacked, is_sending, phase, mark_of, marks, out_ident}
+use Rattle.sequence_table.specs.Sources.{all_unacked, is_sending, phase, mark_of}
 use Rattle.sequence_table.specs.Fits.{fits, all_fit, follows, follows_at, is_outgoing_side}
 use Rattle.sequence_table.specs.Told.{opened_by}
-use Rattle.sequence_table.specs.GatherLemmas.{flat_map-more, at_seq-more, united-append}
+use Rattle.sequence_table.specs.GatherLemmas.{flat_map-more, united-append}
 use Rattle.sequence_table.specs.NameLemmas.{names-fit, elsewhere_accepted, unnamed}
-use Rattle.sequence_table.specs.PhaseLemmas.{out_ident-more, creating-bare, created-creating, phase-more}
+use Rattle.sequence_table.specs.PhaseLemmas.{created-creating, phase-more}
+use Rattle.rm_protocol.specs.FitInduction.{creating-accepts-none}
 use Rattle.node_laws.specs.Records.{HasValues, AreValues}
 use Rattle.node_laws.proofs.Counts.{IsProper, canonical-proper, united-canonical, united-grows}
-use Rattle.node_laws.proofs.Lists.{All-flat_map, fit-induction}
+use Rattle.node_laws.proofs.Lists.{All-flat_map}
 
 -- ---- of one sequence
 
@@ -40,7 +40,7 @@ acked-one s (Acked seq ranges) h =
     ]
 acked-one s _ h = tt
 
-acked-proper : (s : ℕ) (r : List Fact) → AreValues r → AllByRecursion IsProper (acked r s)
+pub acked-proper : (s : ℕ) (r : List Fact) → AreValues r → AllByRecursion IsProper (acked r s)
 acked-proper s r h = All-flat_map HasValues IsProper (acked_of s) (acked-one s) r h
 
 -- of a sequence, at most what one more record accepts for it is not acknowledged more
@@ -65,51 +65,6 @@ none-accepted r s h past =
 
 pub none-unacked : (r : List Fact) (s : ℕ) → accepted r s ≡ [] → unacked r s ≡ 0
 none-unacked r s e = let none : length (accepted r s) ≡ 0 = ap length e in omega (arith, none)
-
--- ---- sequences that are asked for
-
-no_option : {A : Type 0} (o p : Option A) → option_or o p ≡ None → o ≡ None
-no_option None p e = refl
-no_option (Some x) p e = absurd (cc)
-
-no_front : {A : Type 0} (xs ys : List A) → xs ++ ys ≡ [] → xs ≡ []
-no_front [] ys e = refl
-no_front (x ∷ xs) ys e = absurd (cc)
-
--- nothing was accepted for a sequence in phase Creating
-IsBare : List Fact → Type 0
-IsBare r = (s : ℕ) → phase r s ≡ out.Creating → accepted r s ≡ []
-
-accepts-none : (r : List Fact) (f : Fact) (s : ℕ) → fits r f ≡ true → phase r s ≡ out.Creating → accepted_of s f ≡ []
-accepts-none r (Accepted seq payload) s fit is =
-    elim (seq == s) as (λ b. (seq == s) ≡ b → cond b (payload ∷ []) [] ≡ []) [
-      | true ↦ λ e.
-          let there : follows_at r seq (Accepted seq payload) ≡ true =
-          (and_parts (follows_at r seq (Accepted seq payload)) _ fit).0 in
-          let may : follows (phase r seq) (Accepted seq payload) ≡ true =
-          (and_parts (is_outgoing_side (maker r seq)) _ there).1 in
-          let creating : phase r seq ≡ out.Creating =
-          subst (λ n. phase r n ≡ out.Creating) (sym (eqb-true seq s e)) is in
-          absurd (false≢true (subst (λ p. follows p (Accepted seq payload) ≡ true) creating may))
-      | false ↦ λ e. refl
-    ] refl
-accepts-none r _ s fit is = refl
-
-bare-more : (r : List Fact) (f : Fact) → IsBare r → fits r f ≡ true → IsBare (r ++ f ∷ [])
-unfolding IsBare
-bare-more r f h fit s is =
-    let bare = creating-bare (r ++ f ∷ []) s is in
-    let ident : out_ident r s ≡ None =
-    no_option (out_ident r s) _ (sym (out_ident-more r f s) ∙ bare.0) in
-    let mark : marks r s ≡ [] =
-    no_front (marks r s) (at_seq s (mark_of f)) (sym (at_seq-more s mark_of r f) ∙ bare.1) in
-    let before : phase r s ≡ out.Creating = rw (ident, mark) refl in
-    flat_map-more (accepted_of s) r f ∙ rw (h s before, accepts-none r f s fit before) refl
-
-pub creating-accepts-none : (r : List Fact) (s : ℕ) → all_fit [] r ≡ true → phase r s ≡ out.Creating
-    → accepted r s ≡ []
-unfolding IsBare
-creating-accepts-none r s h is = fit-induction IsBare (λ s e. refl) bare-more r h s is
 
 -- ---- sequences that are sent
 

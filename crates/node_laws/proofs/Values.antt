@@ -26,9 +26,10 @@ use Rattle.sequence_table.specs.Destinations.{received, received_of, held, is_ov
 use Rattle.sequence_table.specs.Find.{plain_endpoint, peer_of, peer, accept_of, accepted_by, acks_to_of, acks_to}
 use Rattle.sequence_table.specs.Fits.{fits, all_fit, follows_at, is_incoming_side}
 use Rattle.sequence_table.specs.GatherLemmas.{flat_map-more}
+use Rattle.rm_protocol.specs.FitInduction.{fit-induction}
 use Rattle.rm_protocol.specs.Messages.{ranges_onto, kind_of, block_of}
 use Rattle.node_laws.specs.Records.{KeepsLimits, HasValues, IsKept}
-use Rattle.node_laws.proofs.Lists.{All-append, All-flat_map, All-numbered, All-at_seq, first_or-has, fit-induction}
+use Rattle.node_laws.proofs.Lists.{All-append, All-flat_map, All-numbered, All-at_seq, first_or-has}
 
 -- ---- how sequences were made
 

@@ -14,6 +14,7 @@ use Rattle.sequence_table.specs.Makers.{makers, maker}
 use Rattle.sequence_table.specs.Sources.{unacked, all_unacked}
 use Rattle.sequence_table.specs.Destinations.{held, front}
 use Rattle.sequence_table.specs.Fits.{all_fit, is_outgoing_side, is_incoming_side}
+use Rattle.rm_protocol.specs.Waiting.{waiting_keys}
 
 -- ---- one record
 
@@ -78,3 +79,7 @@ abbrev pub MadeIsKept : Type 0
 MadeIsKept =
     (number : ℕ) (address : List ℕ) → 1 ≤ number → number < 2 ^ 60 → IsText 2048 address
     → IsKept (Made number address ∷ [])
+
+-- at most so many keys wait at a node: its messages that are not acknowledged, and a request of each sequence
+abbrev pub HasRoomForKeys : Type 0
+HasRoomForKeys = (r : List Fact) → IsKept r → length (waiting_keys r) ≤ 4352

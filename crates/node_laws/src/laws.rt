@@ -6,10 +6,10 @@ ghost use Rattle.soap_envelope.specs.Soap.{soap_space};
 ghost use Rattle.rm_protocol.specs.Messages.{written_scope};
 ghost use Rattle.node_laws.specs.Keeps.{EachCallKeeps, EachIsByTheRules, EachIsReadBack};
 ghost use Rattle.node_laws.specs.OwnTerms.{EndsOnce, OwnAreTerms, ThereAreOwnTerms};
-ghost use Rattle.node_laws.specs.Records.{MadeIsKept};
+ghost use Rattle.node_laws.specs.Records.{HasRoomForKeys, MadeIsKept};
 
 use ack_ranges::range_is_added;
-use rm_protocol::laws::each_record_may_come_next;
+use rm_protocol::laws::{each_record_may_come_next, what_is_acknowledged_was_accepted};
 use rm_wire::laws::{a_fault_keeps_the_rules, what_is_written_is_read};
 use sequence_table::laws::a_byte_for_each_number;
 use soap_document::laws::{content_makes_a_document, document_is_read};
@@ -73,3 +73,11 @@ pub fn a_made_node_has_its_records()
 pub fn written_scope_is_the_frames()
     ensures { written_scope ≡ sorted_scope soap_space }
 {}
+
+/// At most 4352 keys wait at a node.
+pub fn a_node_has_room_for_its_keys()
+    ensures { HasRoomForKeys }
+{
+    range_is_added();
+    what_is_acknowledged_was_accepted();
+}

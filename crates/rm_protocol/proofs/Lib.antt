@@ -17,3 +17,5 @@ mod SentLemmas
 mod TakenLemmas
 mod LineLemmas
 mod FinalLemmas
+mod WaitingLemmas
+mod ExactLemmas

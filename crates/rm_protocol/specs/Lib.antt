@@ -3,7 +3,9 @@ pub mod Calls
 pub mod Crashes
 pub mod Delivered
 pub mod Detail
+pub mod Exact
 pub mod Examples
+pub mod FitInduction
 pub mod Heard
 pub mod Messages
 pub mod Next
@@ -16,5 +18,6 @@ pub mod Sound
 pub mod Terms
 pub mod Unarmed
 pub mod Verdict
+pub mod Waiting
 pub mod Word
 pub mod World

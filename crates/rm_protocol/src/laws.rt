@@ -5,6 +5,8 @@ ghost use Rattle.rm_base.specs.Numbered.{numbered};
 ghost use Rattle.rm_message.specs.declared.refusal.Refusal.{Refusal};
 ghost use Rattle.record_batch.specs.Fact.{Fact};
 ghost use Rattle.rm_protocol.specs.Delivered.{TakesNew};
+ghost use Rattle.rm_protocol.specs.Exact.{AckedWereAccepted, IsExactAtFirst, OthersWaitOn, RecordBegins, StaysExact};
+ghost use Rattle.rm_protocol.specs.Exact.{WhatBeginsWaits};
 ghost use Rattle.rm_protocol.specs.Examples.{with_a_close, with_an_end, with_an_expiry, example_terms, in_order};
 ghost use Rattle.rm_protocol.specs.Examples.{played, with_a_crash, with_a_gap, with_an_offer};
 ghost use Rattle.rm_protocol.specs.Next.{EachMayComeNext};
@@ -181,4 +183,30 @@ pub fn a_sequence_expires()
     ensures two { length (played with_an_expiry).two.entries ≡ 4 }
     ensures packets { length (played with_an_expiry).packets ≡ 6 }
     ensures inbox { texts (inbox (records (played with_an_expiry).two) 1) ≡ (1 ∷ []) ∷ [] }
+{}
+
+/// A key that waits after one more record waited before it, or begins with that record.
+pub fn a_record_begins_no_other_key()
+    ensures { RecordBegins }
+{}
+
+/// A key that waits, waits on after records that name other sequences.
+pub fn records_leave_other_keys()
+    ensures { OthersWaitOn }
+{}
+
+/// The key that a record begins waits by the records then.
+pub fn what_begins_waits()
+    ensures { WhatBeginsWaits }
+{}
+
+/// What waits has exactly the keys that wait by the records: after a mount, and after each call as before it.
+pub fn what_waits_stays_exact()
+    ensures mounted { IsExactAtFirst }
+    ensures after { StaysExact }
+{}
+
+/// The acknowledged numbers of a sequence are numbers of accepted messages.
+pub fn what_is_acknowledged_was_accepted()
+    ensures { AckedWereAccepted }
 {}

@@ -1,0 +1,342 @@
+-- The keys that wait at a node stay exactly those that wait by its records.
+use Rattle.std.proofs.Common.{◌≡◌, ◌⊎◌, ℕ, zero, suc, ◌+◌, ◌<◌, ◌≤◌, ◌==◌, ◌&&◌, ◌||◌, not, nat_le, cond, Bool, true}
+use Rattle.std.proofs.Common.{false}
+use Rattle.std.proofs.Common.{List, [], ◌∷◌, ◌++◌, length, map, filter, refl, sym, ap, ap₂, ◌∙◌, subst, arith, inl, inr}
+use Rattle.std.proofs.Common.{append-nil, append_assoc, length-append}
+use Rattle.std.specs.Prelude.{Option, Some, None, slice_get}
+use Rattle.std.specs.List.{list_all}
+use Rattle.std.proofs.lemmas.Bool.{and_parts, eqb-true, false≢true}
+use Rattle.std.proofs.lemmas.Bool.Decides.{nat_tests}
+use Rattle.ack_ranges.specs.declared.range.Range.{Range}
+use Rattle.ack_ranges.specs.Ranges.{in_range, in_ranges}
+use Rattle.rm_timers.specs.declared.timers.Key.{Key}
+use Rattle.key_timers.specs.Waits.{Wait, same_key, has_key, keys_of, at_key, without, moved_last, begun, urged, sent}
+use Rattle.key_timers.specs.Waits.{begin_all}
+use Rattle.key_timers.specs.KeyLemmas.{same_key-is, same_key-refl, same_key-sym}
+use Rattle.key_timers.specs.Waits.{urge_all, send_all, emitted, put_into, fresh}
+use Rattle.record_batch.specs.Fact.{Fact, Acked}
+use Rattle.rm_base.specs.Numbered.{numbered}
+use Rattle.sequence_table.specs.Makers.{Maker, Outgoing, Offered, Incoming, Taken, makers, maker}
+use Rattle.sequence_table.specs.Sources.{is_sending, accepted, accepted_of, acked, acked_of, phase}
+use Rattle.sequence_table.specs.Fits.{fits, all_fit, is_outgoing_side, is_up_to}
+use Rattle.sequence_table.specs.Told.{sending}
+use Rattle.sequence_table.specs.GatherLemmas.{flat_map-more}
+use Rattle.rm_protocol.specs.FitInduction.{fit-induction, creating-accepts-none}
+use Rattle.rm_protocol.proofs.RangeLemmas.{canonical-has}
+use Rattle.rm_protocol.proofs.WaitingLemmas.{one-begins}
+use Rattle.rm_protocol.specs.Exact.{AreExactly, AreWithin}
+use Rattle.rm_protocol.specs.Waiting.{Moves, is_waiting, begun_of, begun_by, still, waits_after, key, numbers_from}
+use Rattle.rm_protocol.specs.Waiting.{key_count}
+use Rattle.rm_protocol.specs.Waiting.{keys_at, keys_from, waiting_keys, mounted_waits, waits_in, waits_of}
+use Rattle.rm_protocol.proofs.ListLemmas.{numbered-next}
+
+-- ---- acknowledged numbers, record by record
+
+FlatWithin : List Fact → Type 0
+FlatWithin r = (s n : ℕ) → in_ranges (acked r s) n ≡ true → n ≤ length (accepted r s)
+
+either-range : (xs ys : List Range) (n : ℕ) → in_ranges (xs ++ ys) n ≡ true
+    → (in_ranges xs n ≡ true) ⊎ (in_ranges ys n ≡ true)
+either-range [] ys n h = inr h
+either-range (x ∷ xs) ys n h =
+    elim (in_range x n) as (λ b. (b || in_ranges (xs ++ ys) n) ≡ true
+    → ((b || in_ranges xs n) ≡ true) ⊎ (in_ranges ys n ≡ true)) [
+      | true ↦ λ e. inl refl
+      | false ↦ λ e. either-range xs ys n e
+    ] h
+
+up-to : (m n : ℕ) (ranges : List Range) → list_all (is_up_to m) ranges ≡ true → in_ranges ranges n ≡ true → n ≤ m
+up-to m n [] h e = absurd (cc)
+up-to m n (x ∷ ranges) h e =
+    let parts = and_parts (is_up_to m x) (list_all (is_up_to m) ranges) h in
+    elim (in_range x n) as (λ b. in_range x n ≡ b → (b || in_ranges ranges n) ≡ true → n ≤ m) [
+      | true ↦ λ d k. grind (arith, nat_tests, d, parts.0)
+      | false ↦ λ d k. up-to m n ranges parts.1 k
+    ] refl e
+
+acked-within : (r : List Fact) (f : Fact) (s n : ℕ) → fits r f ≡ true → in_ranges (acked_of s f) n ≡ true
+    → n ≤ length (accepted r s)
+acked-within r (Acked seq ranges) s n fit h =
+    elim (seq == s) as (λ b. (seq == s) ≡ b → in_ranges (cond b ranges []) n ≡ true → n ≤ length (accepted r s)) [
+      | true ↦ λ e k.
+          let all = (and_parts (is_outgoing_side (maker r seq)) (list_all (is_up_to (length (accepted r seq))) ranges)
+          fit).1 in
+          subst (λ z. n ≤ length (accepted r z)) (eqb-true seq s e) (up-to (length (accepted r seq)) n ranges all k)
+      | false ↦ λ e k. absurd (cc)
+    ] refl h
+acked-within r _ s n fit h = absurd (cc)
+
+within-more : (r : List Fact) (f : Fact) → FlatWithin r → fits r f ≡ true → FlatWithin (r ++ f ∷ [])
+unfolding FlatWithin
+within-more r f h fit s n e =
+    let long : length (accepted (r ++ f ∷ []) s) ≡ length (accepted r s) + length (accepted_of s f) =
+    ap length (flat_map-more (accepted_of s) r f) ∙ length-append (accepted r s) (accepted_of s f) in
+    let low : n ≤ length (accepted r s) =
+    elim (either-range (acked r s) (acked_of s f) n
+    (ap (λ (v : List Range). in_ranges v n) (sym (flat_map-more (acked_of s) r f)) ∙ e)) [
+      | inl x ↦ h s n x
+      | inr x ↦ acked-within r f s n fit x
+    ] in
+    omega (arith, long, low)
+
+pub all-within : (r : List Fact) → all_fit [] r ≡ true → AreWithin r
+unfolding FlatWithin
+all-within r h s n e =
+    fit-induction FlatWithin (λ t m k. absurd (cc)) within-more r h s n (canonical-has (acked r s) n e)
+
+-- ---- batches
+
+fits-more : (xs base : List Fact) (g : Fact) → all_fit base xs ≡ true → fits (base ++ xs) g ≡ true
+    → all_fit base (xs ++ g ∷ []) ≡ true
+fits-more [] base g a b = rw (subst (λ z. fits z g ≡ true) (append-nil base) b) refl
+fits-more (x ∷ xs) base g a b =
+    let parts = and_parts (fits base x) (all_fit (base ++ x ∷ []) xs) a in
+    rw (
+      parts.0,
+      fits-more xs (base ++ x ∷ []) g parts.1
+          (subst (λ z. fits z g ≡ true) (sym (append_assoc base (x ∷ []) xs)) b),
+    ) refl
+
+has-append : (xs ys : List Key) (k : Key) → has_key (xs ++ ys) k ≡ (has_key xs k || has_key ys k)
+has-append [] ys k = refl
+has-append (x ∷ xs) ys k =
+    ap (λ (b : Bool). same_key k x || b) (has-append xs ys k)
+    ∙ elim (same_key k x) as (λ a. (a || (has_key xs k || has_key ys k)) ≡ ((a || has_key xs k) || has_key ys k)) [
+      | true ↦ refl
+      | false ↦ refl
+    ]
+
+or-back : (a b : Bool) → b ≡ true → (a || b) ≡ true
+or-back true b h = refl
+or-back false b h = h
+
+or-front : (a b : Bool) → a ≡ true → (a || b) ≡ true
+or-front true b h = refl
+or-front false b h = absurd (cc)
+
+-- a key that waits after a batch waited before it, or begins with it
+pub batch-begins : (delta r : List Fact) (k : Key) → all_fit [] r ≡ true → all_fit r delta ≡ true
+    → is_waiting (r ++ delta) k ≡ true → (is_waiting r k ≡ true) ⊎ (has_key (begun_by r delta) k ≡ true)
+batch-begins [] r k h fit w = inl (subst (λ z. is_waiting z k ≡ true) (append-nil r) w)
+batch-begins (f ∷ delta) r k h fit w =
+    let parts = and_parts (fits r f) (all_fit (r ++ f ∷ []) delta) fit in
+    let both = has-append (begun_of r f) (begun_by (r ++ f ∷ []) delta) k in
+    elim (batch-begins delta (r ++ f ∷ []) k (fits-more r [] f h parts.0) parts.1
+    (subst (λ z. is_waiting z k ≡ true) (sym (append_assoc r (f ∷ []) delta)) w)) [
+      | inl x ↦ elim (one-begins r f k h parts.0 (λ s. creating-accepts-none r s h) x) [
+        | inl y ↦ inl y
+        | inr y ↦ inr (both ∙ or-front (has_key (begun_of r f) k) (has_key (begun_by (r ++ f ∷ []) delta) k) y)
+      ]
+      | inr x ↦ inr (both ∙ or-back (has_key (begun_of r f) k) (has_key (begun_by (r ++ f ∷ []) delta) k) x)
+    ]
+
+-- ---- the keys of plain lists
+
+has-filter : (p : Key → Bool) (waits : List Wait) (k : Key)
+    → has_key (keys_of (filter (λ (w : Wait). p w.key) waits)) k ≡ (has_key (keys_of waits) k && p k)
+has-filter p [] k = refl
+has-filter p (w ∷ waits) k =
+    elim (p w.key) as (λ b. p w.key ≡ b
+    → has_key (keys_of (cond b (w ∷ filter (λ (v : Wait). p v.key) waits) (filter (λ (v : Wait). p v.key) waits))) k
+    ≡ ((same_key k w.key || has_key (keys_of waits) k) && p k)) [
+      | true ↦ λ e.
+          ap (λ (b : Bool). same_key k w.key || b) (has-filter p waits k)
+          ∙ elim (same_key k w.key) as (λ b. same_key k w.key ≡ b
+          → (b || (has_key (keys_of waits) k && p k)) ≡ ((b || has_key (keys_of waits) k) && p k)) [
+            | true ↦ λ d. sym (ap p (same_key-is k w.key d) ∙ e)
+            | false ↦ λ d. refl
+          ] refl
+      | false ↦ λ e.
+          has-filter p waits k
+          ∙ elim (same_key k w.key) as (λ b. same_key k w.key ≡ b
+          → (has_key (keys_of waits) k && p k) ≡ ((b || has_key (keys_of waits) k) && p k)) [
+            | true ↦ λ d.
+                let no : p k ≡ false = ap p (same_key-is k w.key d) ∙ e in
+                rw no (elim (has_key (keys_of waits) k) as (λ b. (b && false) ≡ false) [ true ↦ refl | false ↦ refl ])
+            | false ↦ λ d. refl
+          ] refl
+    ] refl
+
+keys-append : (xs ys : List Wait) → keys_of (xs ++ ys) ≡ keys_of xs ++ keys_of ys
+keys-append [] ys = refl
+keys-append (x ∷ xs) ys = ap (λ (v : List Key). x.key ∷ v) (keys-append xs ys)
+
+keys-moved : (change : Wait → Wait) → ((w : Wait) → (change w).key ≡ w.key) → (waits : List Wait)
+    → keys_of (map change waits) ≡ keys_of waits
+keys-moved change same [] = refl
+keys-moved change same (w ∷ waits) = ap₂ (λ (k : Key) (v : List Key). k ∷ v) (same w) (keys-moved change same waits)
+
+split-or : (h x : Bool) → ((h && not x) || (h && x)) ≡ h
+split-or true true = refl
+split-or true false = refl
+split-or false x = refl
+
+has-moved : (change : Wait → Wait) → ((w : Wait) → (change w).key ≡ w.key) → (key : Key) (waits : List Wait) (k : Key)
+    → has_key (keys_of (moved_last change key waits)) k ≡ has_key (keys_of waits) k
+has-moved change same key waits k =
+    ap (λ (v : List Key). has_key v k) (keys-append (without key waits) (map change (at_key key waits))
+    ∙ ap (λ (v : List Key). keys_of (without key waits) ++ v) (keys-moved change same (at_key key waits)))
+    ∙ has-append (keys_of (without key waits)) (keys_of (at_key key waits)) k
+    ∙ ap₂ (λ (a b : Bool). a || b) (has-filter (λ (j : Key). not (same_key key j)) waits k)
+    (has-filter (λ (j : Key). same_key key j) waits k)
+    ∙ split-or (has_key (keys_of waits) k) (same_key key k)
+
+has-urged : (keys : List Key) (waits : List Wait) (k : Key)
+    → has_key (keys_of (urge_all keys waits)) k ≡ has_key (keys_of waits) k
+has-urged [] waits k = refl
+has-urged (x ∷ keys) waits k =
+    has-urged keys (urged x waits) k ∙ has-moved (put_into 0 0) (λ w. refl) x waits k
+
+has-sent : (time : ℕ) (keys : List Key) (waits : List Wait) (k : Key)
+    → has_key (keys_of (send_all time keys waits)) k ≡ has_key (keys_of waits) k
+has-sent time [] waits k = refl
+has-sent time (x ∷ keys) waits k =
+    has-sent time keys (sent time x waits) k ∙ has-moved (emitted time) (λ w. refl) x waits k
+
+begun-or : (h x : Bool) → ((h && not x) || (x || false)) ≡ (x || h)
+begun-or true true = refl
+begun-or true false = refl
+begun-or false true = refl
+begun-or false false = refl
+
+has-begun : (key : Key) (waits : List Wait) (k : Key)
+    → has_key (keys_of (begun key waits)) k ≡ (same_key k key || has_key (keys_of waits) k)
+has-begun key waits k =
+    ap (λ (v : List Key). has_key v k) (keys-append (without key waits) (record { key = key; class = 0; due = 0 } ∷ []))
+    ∙ has-append (keys_of (without key waits)) (key ∷ []) k
+    ∙ ap (λ (b : Bool). b || (same_key k key || false)) (has-filter (λ (j : Key). not (same_key key j)) waits k
+    ∙ ap (λ (b : Bool). has_key (keys_of waits) k && not b) (same_key-sym key k))
+    ∙ begun-or (has_key (keys_of waits) k) (same_key k key)
+
+swap-or : (a b c : Bool) → (a || (b || c)) ≡ ((b || a) || c)
+swap-or true true c = refl
+swap-or true false c = refl
+swap-or false true c = refl
+swap-or false false c = refl
+
+has-begin : (keys : List Key) (waits : List Wait) (k : Key)
+    → has_key (keys_of (begin_all keys waits)) k ≡ (has_key keys k || has_key (keys_of waits) k)
+has-begin [] waits k = refl
+has-begin (x ∷ keys) waits k =
+    has-begin keys (begun x waits) k ∙ ap (λ (b : Bool). has_key keys k || b) (has-begun x waits k)
+    ∙ swap-or (has_key keys k) (same_key k x) (has_key (keys_of waits) k)
+
+-- ---- a call
+
+exact-or : (x y z : Bool) → (z ≡ true → (x ≡ true) ⊎ (y ≡ true)) → (y ≡ true → z ≡ true) → (y || (x && z)) ≡ z
+exact-or true true true h g = refl
+exact-or true false true h g = refl
+exact-or false true true h g = refl
+exact-or false false true h g = elim (h refl) [ inl e ↦ absurd (cc) | inr e ↦ absurd (cc) ]
+exact-or true true false h g = absurd (false≢true (g refl))
+exact-or true false false h g = refl
+exact-or false true false h g = absurd (false≢true (g refl))
+exact-or false false false h g = refl
+
+pub exact-after : (r delta : List Fact) (moves : Moves) (time : ℕ) (waits : List Wait) → all_fit [] r ≡ true
+    → all_fit r delta ≡ true
+    → ((k : Key) → has_key (begun_by r delta) k ≡ true → is_waiting (r ++ delta) k ≡ true)
+    → AreExactly r waits → AreExactly (r ++ delta) (waits_after r delta moves time waits)
+exact-after r delta moves time waits h fit begins exact k =
+    has-sent time (begun_by r delta ++ moves.emitted) _ k
+    ∙ has-urged moves.urged _ k
+    ∙ has-begin (begun_by r delta) (still (r ++ delta) waits) k
+    ∙ ap (λ (b : Bool). has_key (begun_by r delta) k || b)
+    (has-filter (is_waiting (r ++ delta)) waits k
+    ∙ ap (λ (b : Bool). b && is_waiting (r ++ delta) k) (exact k))
+    ∙ exact-or (is_waiting r k) (has_key (begun_by r delta) k) (is_waiting (r ++ delta) k)
+    (batch-begins delta r k h fit) (begins k)
+
+-- ---- a mount
+
+has-numbers : (s from count i : ℕ) → from ≤ i → i < from + count
+    → has_key (map (key s) (numbers_from from count)) (key s i) ≡ true
+has-numbers s from zero i le lt = absurd (omega arith)
+has-numbers s from (suc count) i le lt =
+    elim (from == i) as (λ b. (from == i) ≡ b
+    → has_key (map (key s) (numbers_from from (suc count))) (key s i) ≡ true) [
+      | true ↦ λ e.
+          let is : from ≡ i = eqb-true from i e in
+          or-front (same_key (key s i) (key s from)) (has_key (map (key s) (numbers_from (from + 1) count)) (key s i))
+          (subst (λ n. same_key (key s i) (key s n) ≡ true) (sym is) (same_key-refl (key s i)))
+      | false ↦ λ e.
+          let other : from + 1 ≤ i = grind (arith, nat_tests, e, le) in
+          or-back (same_key (key s i) (key s from)) (has_key (map (key s) (numbers_from (from + 1) count)) (key s i))
+          (has-numbers s (from + 1) count i other (omega arith))
+    ] refl
+
+has-from : (r : List Fact) (ms : List Maker) (n j : ℕ) (m : Maker) (k : Key) → slice_get ms j ≡ Some m
+    → k.seq ≡ n + 1 + j → k.number < key_count r k.seq m → has_key (keys_from r n ms) k ≡ true
+has-from r [] n j m k e at lt = absurd (cc)
+has-from r (x ∷ ms) n zero m k e at lt =
+    let is : x ≡ m = cc in
+    let place : k.seq ≡ n + 1 = omega (arith, at) in
+    let here : has_key (map (key k.seq) (numbers_from 0 (key_count r k.seq x))) (key k.seq k.number) ≡ true =
+    has-numbers k.seq 0 (key_count r k.seq x) k.number (omega arith)
+    (subst (λ z. k.number < 0 + key_count r k.seq z) (sym is) (omega (arith, lt))) in
+    has-append (keys_at r (n + 1) x) (keys_from r (n + 1) ms) k
+    ∙ or-front (has_key (keys_at r (n + 1) x) k) (has_key (keys_from r (n + 1) ms) k)
+    (subst (λ s. has_key (map (key s) (numbers_from 0 (key_count r s x))) k ≡ true) place here)
+has-from r (x ∷ ms) n (suc j) m k e at lt =
+    has-append (keys_at r (n + 1) x) (keys_from r (n + 1) ms) k
+    ∙ or-back (has_key (keys_at r (n + 1) x) k) (has_key (keys_from r (n + 1) ms) k)
+    (has-from r ms (n + 1) j m k e (omega (arith, at)) lt)
+
+counted : (r : List Fact) (s i : ℕ) → waits_in (sending r s) i ≡ true → i < length (accepted r s) + 1
+counted r s zero h = omega arith
+counted r s (suc i) h =
+    let one = and_parts (is_sending (phase r s)) _ h in
+    let two = and_parts (nat_le (suc i) (length (accepted r s))) _ one.1 in
+    grind (arith, nat_tests, two.0)
+
+waiting-there : (r : List Fact) (k : Key) (x : Option Maker) → maker r k.seq ≡ x
+    → waits_of r k.seq k.number x ≡ true → has_key (keys_from r 0 (makers r)) k ≡ true
+waiting-there r k None e w = absurd (false≢true w)
+waiting-there r k (Some m) e w = by_seq k.seq refl
+  where
+    few : (z : Maker) → waits_of r k.seq k.number (Some z) ≡ true → k.number < key_count r k.seq z
+    few (Outgoing t to v l) h = counted r k.seq k.number h
+    few (Taken t q p) h = counted r k.seq k.number h
+    few (Offered t c to y) h = absurd (false≢true h)
+    few (Incoming c t p y d l) h = absurd (false≢true h)
+
+    by_seq : (s : ℕ) → k.seq ≡ s → has_key (keys_from r 0 (makers r)) k ≡ true
+    by_seq zero d =
+        let none : numbered (makers r) 0 ≡ Some m = subst (λ s. numbered (makers r) s ≡ Some m) d e in absurd (cc)
+    by_seq (suc j) d =
+        let there : slice_get (makers r) j ≡ Some m =
+        sym (numbered-next (makers r) j) ∙ subst (λ s. numbered (makers r) s ≡ Some m) d e in
+        has-from r (makers r) 0 j m k there (omega (arith, d)) (few m w)
+
+keys-fresh : (keys : List Key) → keys_of (fresh keys) ≡ keys
+keys-fresh [] = refl
+keys-fresh (k ∷ keys) = ap (λ (v : List Key). k ∷ v) (keys-fresh keys)
+
+has-those : (p : Key → Bool) (keys : List Key) (k : Key) → has_key (filter p keys) k ≡ (has_key keys k && p k)
+has-those p keys k =
+    ap (λ (v : List Key). has_key v k) (sym (keys-fresh (filter p keys)) ∙ ap keys_of (fresh-filter p keys))
+    ∙ has-filter p (fresh keys) k
+    ∙ ap (λ (v : List Key). has_key v k && p k) (keys-fresh keys)
+  where
+    fresh-filter : (p : Key → Bool) (keys : List Key)
+        → fresh (filter p keys) ≡ filter (λ (w : Wait). p w.key) (fresh keys)
+    fresh-filter p [] = refl
+    fresh-filter p (x ∷ keys) =
+        elim (p x) as (λ b. fresh (cond b (x ∷ filter p keys) (filter p keys))
+        ≡ cond b (record { key = x; class = 0; due = 0 } ∷ filter (λ (w : Wait). p w.key) (fresh keys))
+        (filter (λ (w : Wait). p w.key) (fresh keys))) [
+          | true ↦ ap (λ (v : List Wait). record { key = x; class = 0; due = 0 } ∷ v) (fresh-filter p keys)
+          | false ↦ fresh-filter p keys
+        ]
+
+pub exact-mounted : (r : List Fact) → AreExactly r (mounted_waits r)
+exact-mounted r k =
+    ap (λ (v : List Key). has_key v k) (keys-fresh (waiting_keys r))
+    ∙ has-those (is_waiting r) (keys_from r 0 (makers r)) k
+    ∙ elim (is_waiting r k) as (λ b. is_waiting r k ≡ b → (has_key (keys_from r 0 (makers r)) k && b) ≡ b) [
+      | true ↦ λ e. rw (waiting-there r k (maker r k.seq) refl e) refl
+      | false ↦ λ e. elim (has_key (keys_from r 0 (makers r)) k) as (λ x. (x && false) ≡ false) [
+        | true ↦ refl
+        | false ↦ refl
+      ]
+    ] refl
