@@ -1,0 +1,5 @@
+mod MoveLemmas
+mod SettleLemmas
+mod FillLemmas
+mod AfterLemmas
+mod RoomLemmas
