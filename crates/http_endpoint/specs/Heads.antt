@@ -1,5 +1,5 @@
 -- What the heads of requests and responses say, and what is done with them.
-use Rattle.std.specs.Prelude.{◌≡◌, ℕ, ◌-◌, ◌^◌, Bool, true, false, not, ◌||◌, map, length, codes, bytes_eq, Result}
+use Rattle.std.specs.Prelude.{◌≡◌, ℕ, ◌⊎◌, ⊤, ◌-◌, ◌^◌, Bool, true, false, not, ◌||◌, map, length, codes, bytes_eq, Result}
 use Rattle.std.specs.Prelude.{Ok, Err, if◌then◌else◌, nat_lt}
 use Rattle.httparse.specs.Grammar.{RequestHead, ReadsRequest, ResponseHead, ReadsResponse, status_code}
 use Rattle.httparse.specs.Spans.{name_and_value}
@@ -86,6 +86,11 @@ verdict facts =
     else (if not facts.is_plain then Err (Unsupported 415)
     else (if not facts.is_soap then Err (Unsupported 415)
     else Ok (framing_or Empty facts.known.content_length facts.known.transfer_encoding)))))
+
+-- a request that is refused for what it asks gets one of three statuses: no POST, a coding of the transfer, the content
+abbrev pub IsRefusal : HttpError → Type 0
+IsRefusal (Unsupported status) = (status ≡ 405) ⊎ ((status ≡ 415) ⊎ (status ≡ 501))
+IsRefusal _ = ⊤
 
 -- how a response's body is read
 abbrev pub response_framing : ResponseFacts → Result Framing HttpError

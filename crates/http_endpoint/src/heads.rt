@@ -1,10 +1,10 @@
 //! The heads of requests and responses, and what is done with them.
-ghost use Rattle.std.specs.Prelude.{◌≡◌, codes, bytes_eq};
+ghost use Rattle.std.specs.Prelude.{◌≡◌, codes, bytes_eq, IfErr};
 ghost use Rattle.httparse.specs.Grammar.{MayBecomeRequest, MayBecomeResponse};
 ghost use Rattle.http_endpoint.specs.Ends.{ends_head};
-ghost use Rattle.http_endpoint.specs.Heads.{ReadsRequestFacts, ReadsResponseFacts, is_absent, is_misframed, is_bad};
-ghost use Rattle.http_endpoint.specs.Heads.{is_otherwise_coded, framing_or, verdict, response_framing};
-ghost use Rattle.http_endpoint.specs.HeadLaws.{request-grows, request-tells, response-grows, response-tells};
+ghost use Rattle.http_endpoint.specs.Heads.{ReadsRequestFacts, ReadsResponseFacts, is_misframed, is_bad};
+ghost use Rattle.http_endpoint.specs.Heads.{is_otherwise_coded, framing_or, verdict, response_framing, IsRefusal};
+ghost use Rattle.http_endpoint.specs.HeadLaws.{request-grows, response-grows};
 
 use crate::body::{FIELD_LIMIT, Framing};
 use crate::error::HttpError;
@@ -182,7 +182,8 @@ fn framing_or(otherwise: Framing, length: ContentLength, coding: TransferEncodin
 
 /// How the body of a request is read, or the first reason to refuse it.
 pub fn verdict(facts: RequestFacts) -> Result<Framing, HttpError>
-    ensures { result ≡ verdict facts }
+    ensures is { result ≡ verdict facts }
+    ensures refusal { IfErr result IsRefusal }
 {
     if is_bad(facts.field_count, facts.known) {
         return Err(HttpError::BadHead);

@@ -4,6 +4,7 @@ ghost use Rattle.std.specs.Io.KnownBytes.{Appends};
 ghost use Rattle.rm_base.specs.Count.{Rose};
 ghost use Rattle.rm_base.specs.Outside.{AppendsFront, Lasts};
 ghost use Rattle.http_endpoint.specs.Part.{IfTold};
+ghost use Rattle.http_endpoint.specs.Heads.{IsRefusal};
 ghost use Rattle.http_endpoint.specs.Messages.{continue_text, IsRequest};
 ghost use Rattle.http_endpoint.specs.Kept.{KeepsSink};
 ghost use Rattle.http_endpoint.specs.Taken.{most_taken};
@@ -43,6 +44,7 @@ pub fn read_request<C: Connection>(alloc: Global, conn: &mut C) -> Result<Blob, 
         → Rose (C.Source.told conn.old).faults (C.Source.told conn.new).faults }
     ensures write_fault { result ≡ Err HttpError.WriteFault
         → Rose (C.Source.told conn.old).faults (C.Source.told conn.new).faults }
+    ensures refusal { IfErr result IsRefusal }
     ensures lasts { Lasts (C.Source.told conn.old) (C.Source.told conn.new) }
 {
     let mut input = Input::new(alloc);

@@ -1,5 +1,5 @@
 -- What goes back on a connection.
-use Rattle.std.specs.Prelude.{◌≡◌, ℕ, ◌==◌, List, [], Option, Some, None, if◌then◌else◌}
+use Rattle.std.specs.Prelude.{ℕ, List, [], Option, Some, None}
 use Rattle.http_endpoint.specs.declared.error.HttpError.{HttpError}
 use Rattle.http_endpoint.specs.declared.error.HttpError.TheVariants as http
 use Rattle.soap_envelope.specs.Soap.{soap_space}
@@ -31,13 +31,9 @@ reply_to verdict None = record { status = 202; body = [] }
 abbrev pub too_long_text : List ℕ
 too_long_text = message_text soap_space (fault_of (blind BodyTooLong) None)
 
--- the status with which a request is refused
-abbrev pub refused_with : ℕ → ℕ
-refused_with status = if status == 405 then 405 else (if status == 415 then 415 else 501)
-
 -- the response to a request that could not be read, where it gets one
 abbrev pub refusal_to : HttpError → Option Reply
 refusal_to http.BadHead = Some (record { status = 400; body = [] })
 refusal_to (http.TooLong taken) = Some (record { status = 400; body = too_long_text })
-refusal_to (http.Unsupported status) = Some (record { status = refused_with status; body = [] })
+refusal_to (http.Unsupported status) = Some (record { status = status; body = [] })
 refusal_to _ = None

@@ -1,8 +1,8 @@
 //! What goes back on a connection: a status and a body.
 ghost use Rattle.std.specs.Prelude.{◌≡◌, [], IfOk, IfSome};
+ghost use Rattle.http_endpoint.specs.Heads.{IsRefusal};
 ghost use Rattle.http_endpoint.specs.Texts.{IsWritten};
 ghost use Rattle.rm_answer.specs.Replies.{refusal_to, reply_to, status_of, status_of_code, too_long_text};
-ghost use Rattle.rm_answer.specs.Replies.{refused_with};
 ghost use Rattle.std.specs.Prelude.{None};
 ghost use Rattle.soap_envelope.specs.Soap.{soap_space};
 ghost use Rattle.message_reader.specs.Refusals.{blind};
@@ -64,6 +64,7 @@ fn status_of_code(code: FaultCode) -> u16
 
 /// The response to a request that could not be read, where it gets one.
 pub fn refusal_to(alloc: Global, error: HttpError) -> Result<Option<Reply>, Memory>
+    requires { IsRefusal error }
     ensures is { IfOk result (λ reply. reply ≡ refusal_to error) }
     ensures status { IfOk result (λ reply. IfSome reply (λ r. IsWritten r.status)) }
 {
@@ -73,7 +74,7 @@ pub fn refusal_to(alloc: Global, error: HttpError) -> Result<Option<Reply>, Memo
             status: 400,
             body: too_long(alloc)?,
         })),
-        HttpError::Unsupported { status } => Ok(Some(bare(alloc, refused_with(status)))),
+        HttpError::Unsupported { status } => Ok(Some(bare(alloc, status))),
         HttpError::Memory => Ok(None),
         HttpError::ReadFault => Ok(None),
         HttpError::WriteFault => Ok(None),
@@ -87,18 +88,6 @@ fn bare(alloc: Global, status: u16) -> Reply
     Reply {
         status,
         body: Blob::new(alloc),
-    }
-}
-
-// A status with which a request is refused.
-fn refused_with(status: u16) -> u16
-    ensures is { result ≡ refused_with status }
-    ensures status { IsWritten result }
-{
-    match status {
-        405 => 405,
-        415 => 415,
-        _ => 501,
     }
 }
 

@@ -6,6 +6,7 @@ use Rattle.std.proofs.Math.Seq.{take-append-add}
 use Rattle.std.proofs.lemmas.List.{length-append}
 use Rattle.rm_base.specs.Count.{Rose}
 use Rattle.rm_base.specs.Outside.{AppendsFront, Stream}
+use Rattle.http_endpoint.specs.Heads.{IsRefusal}
 use Rattle.http_endpoint.specs.Messages.{IsRequest, continue_text}
 use Rattle.http_endpoint.specs.Part.{IfTold}
 use Rattle.http_endpoint.specs.declared.error.HttpError.{HttpError}
@@ -162,7 +163,7 @@ reasons old mid new http.ReadFault r later = rose-before old.faults mid.faults n
 reasons old mid new http.WriteFault r later = rose-before old.faults mid.faults new.faults r later
 reasons old mid new http.BadHead r later = tt
 reasons old mid new (http.TooLong n) r later = tt
-reasons old mid new (http.Unsupported s) r later = tt
+reasons old mid new (http.Unsupported s) r later = r
 reasons old mid new http.CutShort r later = tt
 
 -- and one whose request was not is refused
@@ -177,14 +178,15 @@ served-not moment old mid new e s falls reason later a puts same =
 -- why a request was not read
 pub reason-of : (old mid : Stream) (e : HttpError) (r : Result (List ℕ) HttpError) → r ≡ Err e → is_want e ≡ false
     → (r ≡ Err http.ReadFault → Rose old.faults mid.faults)
-    → (r ≡ Err http.WriteFault → Rose old.faults mid.faults) → HasReason old mid e
-reason-of old mid http.Memory r is want read write = absurd cc
-reason-of old mid http.ReadFault r is want read write = read is
-reason-of old mid http.WriteFault r is want read write = write is
-reason-of old mid http.BadHead r is want read write = tt
-reason-of old mid (http.TooLong n) r is want read write = tt
-reason-of old mid (http.Unsupported s) r is want read write = tt
-reason-of old mid http.CutShort r is want read write = tt
+    → (r ≡ Err http.WriteFault → Rose old.faults mid.faults) → IfErr r IsRefusal → HasReason old mid e
+reason-of old mid http.Memory r is want read write refusal = absurd cc
+reason-of old mid http.ReadFault r is want read write refusal = read is
+reason-of old mid http.WriteFault r is want read write refusal = write is
+reason-of old mid http.BadHead r is want read write refusal = tt
+reason-of old mid (http.TooLong n) r is want read write refusal = tt
+reason-of old mid (http.Unsupported s) r is want read write refusal =
+    subst (λ (x : Result (List ℕ) HttpError). IfErr x IsRefusal) is refusal
+reason-of old mid http.CutShort r is want read write refusal = tt
 
 -- a request that could not be read was answered, or memory was wanting
 pub served-by : (tells : Bool) (x : Place) (moment : ℕ) (old mid new : Stream) (e : HttpError)

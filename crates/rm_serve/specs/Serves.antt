@@ -4,6 +4,7 @@ use Rattle.std.specs.Prelude.{Err}
 use Rattle.std.specs.Io.KnownBytes.{Appends}
 use Rattle.rm_base.specs.Count.{Rose}
 use Rattle.rm_base.specs.Outside.{AppendsFront, Stream}
+use Rattle.http_endpoint.specs.Heads.{IsRefusal}
 use Rattle.http_endpoint.specs.Messages.{IsRequest}
 use Rattle.http_endpoint.specs.Part.{IfTold}
 use Rattle.http_endpoint.specs.Texts.{response_text}
@@ -55,6 +56,7 @@ abbrev pub HasReason : Stream → Stream → HttpError → Type 0
 HasReason old new http.Memory = ⊥
 HasReason old new http.ReadFault = Rose old.faults new.faults
 HasReason old new http.WriteFault = Rose old.faults new.faults
+HasReason old new (http.Unsupported status) = IsRefusal (http.Unsupported status)
 HasReason old new _ = ⊤
 
 -- A request's body is given to the node, and answered.

@@ -1,5 +1,6 @@
 //! One connection that came: a request is read, its body given to the node, and the answer written.
 ghost use Rattle.std.specs.Prelude.{◌≡◌, List, IfErr, IfOk, OnOk, Some, None, [], false, ◌≤◌};
+ghost use Rattle.http_endpoint.specs.Heads.{IsRefusal};
 ghost use Rattle.http_endpoint.specs.Texts.{IsWritten};
 ghost use Rattle.rm_answer.specs.Replies.{refusal_to as refusal_for};
 ghost use Rattle.rm_disk.specs.Cause.{HasCause};
@@ -104,6 +105,7 @@ fn write_reply<C: Connection>(alloc: Global, conn: &mut C, reply: &Reply) -> Res
 // Answers a request that could not be read, where it gets an answer. The error of the request is told, whatever comes
 // of its answer.
 fn refuse<C: Connection>(alloc: Global, conn: &mut C, error: HttpError) -> Result<Served, NodeError>
+    requires { IsRefusal error }
     ensures is { IfOk result (λ served. served ≡ record { taken = None; outs = []; finish = ConnEnd.Dropped error }) }
     ensures kind { OnOk result (is_want error ≡ false) }
     ensures puts { OnOk result (Puts (C.Source.told conn.old)
@@ -139,6 +141,7 @@ fn is_want(error: HttpError) -> bool
 
 // Writes the answer to a request that could not be read, where it gets one.
 fn say<C: Connection>(alloc: Global, conn: &mut C, error: HttpError) -> Result<(), Memory>
+    requires { IsRefusal error }
     ensures puts { OnOk result (Puts (C.Source.told conn.old)
         (C.Source.told conn.new) (reply_text (refusal_for error))) }
     ensures never_falls { (C.Source.told conn.old).faults ≤ (C.Source.told conn.new).faults }

@@ -35,7 +35,7 @@ returns-in_err-framing-clause-answer g c = λ all is.
     (λ r. IfTold r ((said : List ℕ) × Appends (told old).held (told new).held said × IsRequest r said all))
     c.from_residual-in_err-framing.ensures.1
     (refused-request all e c.in_ok-facts.facts head.0 (told old).held (told new).held same head.2
-    (sym c.in_err-framing.ensures))
+    (sym c.in_err-framing.ensures.is))
 
 pub returns-clause-answer : goal.returns-clause-answer
 returns-clause-answer g c = λ all is.
@@ -56,4 +56,4 @@ returns-clause-answer g c = λ all is.
     c.in_ok-invite.ensures.said in
     taken-request c.read_body.result all facts head.0 c.in_ok-framing.framing (told old).held (told new).held said
     head.2
-    (sym c.in_ok-framing.ensures) (c.read_body.ensures.answer head.0 kept)
+    (sym c.in_ok-framing.ensures.is) (c.read_body.ensures.answer head.0 kept)

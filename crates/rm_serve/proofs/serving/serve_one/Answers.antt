@@ -28,5 +28,5 @@ returns-in-Err-clause-serves g c =
     c.args.now old mid new e c.refuse.result c.read_request.ensures.lasts.never_falls
     (asks old mid (Err e) c.in-Err.ensures.answer c.read_request.ensures.front)
     (λ want. reason-of old mid e c.read_request.result c.in-Err.is want c.read_request.ensures.read_fault
-    c.read_request.ensures.write_fault)
+    c.read_request.ensures.write_fault c.read_request.ensures.refusal)
     r.never_falls r.is r.kind r.puts r.err
