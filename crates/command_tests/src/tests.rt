@@ -35,7 +35,12 @@ const CHECK: &[&[u8]] = &[b"check"];
 
 const POLICY: &[&[u8]] = &[b"policy"];
 
-const USAGE: &[u8] = b"usage: wsrm check,replay,soak,make,serve,send,push,close,end,inbox,policy\n";
+const NORMAL: &[&[u8]] = &[b"normal"];
+
+const INTERSECT: &[&[u8]] = &[b"intersect"];
+
+const USAGE: &[u8] = b"usage: wsrm check,replay,soak,make,serve,send,push,close,end,inbox,\
+        policy,compact,consume,import,normal,intersect\n";
 
 // The words of a run.
 fn words_of(alloc: Global, given: Asked<'_>) -> Result<Items<Blob>, Memory> {
@@ -298,17 +303,17 @@ const BARE: &[u8] = b"<RMAssertion xmlns='http://docs.oasis-open.org/ws-rx/wsrmp
 
 const UNSAID: &[u8] = b"assurance unsaid\nin-order no\noptional no\ngranted yes\n";
 
-// An assertion behind so many spaces.
-fn behind_spaces(alloc: Global, spaces: u32) -> Result<Blob, Memory> {
+// A document behind so many spaces.
+fn behind_spaces(alloc: Global, document: &[u8], spaces: u32) -> Result<Blob, Memory> {
     let mut bytes = Blob::new(alloc);
     push_repeated(&mut bytes, b" ", spaces)?;
-    bytes.push_all(BARE)?;
+    bytes.push_all(document)?;
     Ok(bytes)
 }
 
-// Whether it has this status, and this is printed.
+// Whether an assertion behind so many spaces has this status, and this is printed.
 fn is_behind_spaces(alloc: Global, spaces: u32, status: u8, text: &[u8]) -> Result<bool, Memory> {
-    let input = behind_spaces(alloc, spaces)?;
+    let input = behind_spaces(alloc, BARE, spaces)?;
     prints(alloc, given(POLICY, input.as_slice(), None), status, text)
 }
 
@@ -318,6 +323,30 @@ fn policies_up_to_a_length(rt: HostRuntime) -> Result<(), Memory> {
     assert!(rt; is_behind_spaces(rt.alloc(), 2097085, 8, b"too long\n")?);
     Ok(())
 }
+
+const EMPTY: &[u8] = b"<Policy xmlns='http://www.w3.org/ns/ws-policy'/>";
+
+// Whether an empty policy behind so many spaces has this status, and this is printed.
+fn is_normal(alloc: Global, spaces: u32, status: u8, text: &[u8]) -> Result<bool, Memory> {
+    let input = behind_spaces(alloc, EMPTY, spaces)?;
+    prints(alloc, given(NORMAL, input.as_slice(), None), status, text)
+}
+
+#[test]
+fn normal_forms_up_to_a_length(rt: HostRuntime) -> Result<(), Memory> {
+    assert!(rt; is_normal(rt.alloc(), 2097104, 0, b"alternatives 1\nalt 1 -\n")?);
+    assert!(rt; is_normal(rt.alloc(), 2097105, 8, b"too long\n")?);
+    Ok(())
+}
+
+const CHOICE: &[u8] = b"<w:Policy xmlns:w='http://www.w3.org/ns/ws-policy' xmlns:x='urn:x'>\
+        <x:a/><w:ExactlyOne><x:b/><x:c w:Optional='true'/></w:ExactlyOne></w:Policy>";
+
+const CHOICE_TEXT: &[u8] =
+    b"alternatives 3\nalt 1 {urn:x}a\nalt 2 {urn:x}a,{urn:x}b\nalt 3 {urn:x}a,{urn:x}c\n";
+
+const PAIR: &[u8] = b"<pair xmlns:w='http://www.w3.org/ns/ws-policy' xmlns:x='urn:x'>\
+        <w:Policy><x:a w:Optional='true'/></w:Policy><w:Policy><x:a/></w:Policy></pair>";
 
 // A sink that takes at most three bytes a call, and after so many calls nothing more.
 #[derive(Drop)]
@@ -358,7 +387,7 @@ type Case = (
     u64,
 );
 
-const CASES: [Case; 14] = [
+const CASES: [Case; 18] = [
     (REPLAY, ROW, None, 0, 5, ROW_REPORT, 8),
     (REPLAY, b"send 1 1\n", None, 3, 3, b"bad line 1\n", 0),
     (
@@ -377,6 +406,18 @@ const CASES: [Case; 14] = [
     (POLICY, ASSERTION, None, 0, 5, ASSERTION_TEXT, 0),
     (POLICY, ASSERTION, Some(0), 4, 4, b"read fault\n", 0),
     (POLICY, b"", None, 9, 9, b"fault NotProfile\n", 0),
+    (NORMAL, CHOICE, None, 0, 5, CHOICE_TEXT, 0),
+    (NORMAL, PAIR, None, 9, 9, b"fault Malformed\n", 0),
+    (
+        INTERSECT,
+        PAIR,
+        None,
+        0,
+        5,
+        b"alternatives 1\nalt 1 {urn:x}a\n",
+        0,
+    ),
+    (INTERSECT, PAIR, Some(1), 4, 4, b"read fault\n", 0),
     (NOTHING, ROW, None, 2, 2, USAGE, 0),
     (&[b"replay", b"x"], ROW, None, 2, 2, USAGE, 0),
     (&[b"check", b"replay"], ROW, None, 2, 2, USAGE, 0),

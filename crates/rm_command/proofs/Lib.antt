@@ -1,3 +1,4 @@
+pub mod AlternativesLemmas
 pub mod CheckLemmas
 pub mod PolicyLemmas
 pub mod RunLemmas

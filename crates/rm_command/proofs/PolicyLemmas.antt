@@ -17,6 +17,7 @@ use Rattle.rm_command.specs.declared.end.Fault.{Fault}
 use Rattle.rm_command.specs.declared.end.Fault.TheVariants.{NotUtf8, NotProfile, WrongVersion, NotEnvelope}
 use Rattle.rm_command.specs.declared.end.Fault.TheVariants.{NotUnderstood, Cardinality, HeaderMissing, BadHeader}
 use Rattle.rm_command.specs.declared.end.Fault.TheVariants.{Malformed, Rollover, SecurityUnsupported}
+use Rattle.rm_command.specs.declared.end.Fault.TheVariants.{TooLarge, TooManyTerms, TooManyAlternatives}
 
 -- a value is no error
 differ : (a : Assertion) (error : PolicyError) → Ok a ≡ Err error → ⊥
@@ -36,6 +37,9 @@ module _ (reading : (bytes : List ℕ) (one other : Result Assertion PolicyError
   no_fault bytes HeaderMissing fault a is = fault
   no_fault bytes BadHeader fault a is = fault
   no_fault bytes Rollover fault a is = fault
+  no_fault bytes TooLarge fault a is = fault
+  no_fault bytes TooManyTerms fault a is = fault
+  no_fault bytes TooManyAlternatives fault a is = fault
   no_fault bytes Malformed fault a is =
       differ a errors.Malformed (reading bytes (Ok a) (Err errors.Malformed) is fault)
   no_fault bytes SecurityUnsupported fault a is = differ a (errors.SecurityUnsupported fault.0)

@@ -14,10 +14,11 @@ use Rattle.rm_command.specs.declared.end.Fault.{Fault}
 use Rattle.rm_command.specs.declared.end.Fault.TheVariants.{NotUtf8, NotProfile, WrongVersion, NotEnvelope}
 use Rattle.rm_command.specs.declared.end.Fault.TheVariants.{NotUnderstood, Cardinality, HeaderMissing, BadHeader}
 use Rattle.rm_command.specs.declared.end.Fault.TheVariants.{Malformed, Rollover, SecurityUnsupported}
+use Rattle.rm_command.specs.declared.end.Fault.TheVariants.{TooLarge, TooManyTerms, TooManyAlternatives}
 use Rattle.rm_command.specs.Edge.{Edge}
 use Rattle.rm_command.specs.Filter.{EndsFilter, IsFilterStatus}
 
--- the kind of a fault; none of messages speaks of security
+-- the kind of a fault; none of messages speaks of security or of the limits of policies
 abbrev pub kind_of : Fault → Option FaultKind
 kind_of NotUtf8 = Some kinds.NotUtf8
 kind_of NotProfile = Some kinds.NotProfile
@@ -30,6 +31,9 @@ kind_of BadHeader = Some kinds.BadHeader
 kind_of Malformed = Some kinds.Malformed
 kind_of Rollover = Some kinds.Rollover
 kind_of SecurityUnsupported = None
+kind_of TooLarge = None
+kind_of TooManyTerms = None
+kind_of TooManyAlternatives = None
 
 -- the kinds of refusals that depend on the bytes alone, but for that of their length
 abbrev pub is_of_bytes : FaultKind → Bool

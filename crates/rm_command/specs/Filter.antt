@@ -88,8 +88,7 @@ EndsFilter limit Untouched Prints Cuts Refuses Memory e =
     (Untouched × EndsUnread limit Memory e) ⊎ (PrintedInPart limit Prints e ⊎ CutShort limit Cuts e)
 
 -- of good bytes comes 0, of others the status of a refusal, of more bytes 8, unless the input, the output or the
--- machine
--- fails
+-- machine fails
 pub record IsFilterStatus (limit refusal : ℕ) (Good : Type 0) (bytes : List ℕ) (status : ℕ) : Type 0 where
   pub good : length bytes ≤ limit → Good → (status ≡ 0) ⊎ IsOutside status
   pub bad : length bytes ≤ limit → ¬ Good → (status ≡ refusal) ⊎ IsUnread status

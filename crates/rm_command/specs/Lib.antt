@@ -1,3 +1,4 @@
+pub mod Alternatives
 pub mod Check
 pub mod Edge
 pub mod Filter

@@ -3,9 +3,10 @@ use Rattle.std.specs.Prelude.{◌≡◌, ◌≢◌, ℕ, List, [], ◌∷◌, Op
 use Rattle.rm_base.specs.Limits as limits
 use Rattle.rm_base.specs.Outside.{Lasts}
 use Rattle.rm_command.specs.declared.command.Command.{Command}
-use Rattle.rm_command.specs.declared.command.Command.TheVariants.{Replay, Check, Policy}
+use Rattle.rm_command.specs.declared.command.Command.TheVariants.{Replay, Check, Policy, Normal, Intersect}
 use Rattle.rm_command.specs.declared.end.End.{End}
 use Rattle.rm_command.specs.declared.end.End.TheVariants.{Usage}
+use Rattle.rm_command.specs.Alternatives.{EndsIntersect, EndsNormal, IsIntersectStatus, IsNormalStatus}
 use Rattle.rm_command.specs.Check.{EndsCheck, IsCheckStatus}
 use Rattle.rm_command.specs.Edge.{Edge, KeepsOutput, TookWithin, WasSaid}
 use Rattle.rm_command.specs.Policy.{EndsPolicy, IsPolicyStatus}
@@ -25,9 +26,18 @@ AsksCheck words = words ≡ codes "check" ∷ []
 abbrev pub AsksPolicy : List (List ℕ) → Type 0
 AsksPolicy words = words ≡ codes "policy" ∷ []
 
+-- the one word normal
+abbrev pub AsksNormal : List (List ℕ) → Type 0
+AsksNormal words = words ≡ codes "normal" ∷ []
+
+-- the one word intersect
+abbrev pub AsksIntersect : List (List ℕ) → Type 0
+AsksIntersect words = words ≡ codes "intersect" ∷ []
+
 -- other words, or none
 abbrev pub AsksNothing : List (List ℕ) → Type 0
-AsksNothing words = ¬ (AsksReplay words) × ¬ (AsksCheck words) × ¬ (AsksPolicy words)
+AsksNothing words =
+    ¬ (AsksReplay words) × ¬ (AsksCheck words) × ¬ (AsksPolicy words) × ¬ (AsksNormal words) × ¬ (AsksIntersect words)
 
 -- the command that the words ask for
 abbrev pub Asks : List (List ℕ) → Option Command → Type 0
@@ -35,19 +45,27 @@ Asks words None = AsksNothing words
 Asks words (Some Replay) = AsksReplay words
 Asks words (Some Check) = AsksCheck words
 Asks words (Some Policy) = AsksPolicy words
+Asks words (Some Normal) = AsksNormal words
+Asks words (Some Intersect) = AsksIntersect words
 
 -- the command with a name
 abbrev pub IsNamed : List ℕ → Option Command → Type 0
-IsNamed word None = (word ≢ codes "replay") × (word ≢ codes "check") × (word ≢ codes "policy")
+IsNamed word None =
+    (word ≢ codes "replay") × (word ≢ codes "check") × (word ≢ codes "policy") × (word ≢ codes "normal")
+    × (word ≢ codes "intersect")
 IsNamed word (Some Replay) = word ≡ codes "replay"
 IsNamed word (Some Check) = word ≡ codes "check"
 IsNamed word (Some Policy) = word ≡ codes "policy"
+IsNamed word (Some Normal) = word ≡ codes "normal"
+IsNamed word (Some Intersect) = word ≡ codes "intersect"
 
 -- the status is one that comes of these bytes, by the words
 pub record IsStatusOf (words : List (List ℕ)) (bytes : List ℕ) (status : ℕ) : Type 0 where
   pub replay : AsksReplay words → IsReplayStatus bytes status
   pub check : AsksCheck words → IsCheckStatus bytes status
   pub policy : AsksPolicy words → IsPolicyStatus bytes status
+  pub normal : AsksNormal words → IsNormalStatus bytes status
+  pub intersect : AsksIntersect words → IsIntersectStatus bytes status
 
 -- a run of replay
 pub record RunsReplay {S K T : Type 0} (end : End) (e : Edge S K) (old new : Staged T) : Type 0 where
@@ -64,6 +82,16 @@ pub record RunsPolicy {S K : Type 0} (end : End) (e : Edge S K) : Type 0 where
   pub ends : EndsPolicy end e
   pub taken : TookWithin limits.envelope_bytes end e.input.told e.input_after.told
 
+-- a run of normal
+pub record RunsNormal {S K : Type 0} (end : End) (e : Edge S K) : Type 0 where
+  pub ends : EndsNormal end e
+  pub taken : TookWithin 2097152 end e.input.told e.input_after.told
+
+-- a run of intersect
+pub record RunsIntersect {S K : Type 0} (end : End) (e : Edge S K) : Type 0 where
+  pub ends : EndsIntersect end e
+  pub taken : TookWithin 2097152 end e.input.told e.input_after.told
+
 -- the words are refused, and nothing was read
 pub record RunsNothing {S K : Type 0} (end : End) (e : Edge S K) : Type 0 where
   pub usage : end ≡ Usage
@@ -76,6 +104,8 @@ pub record Runs {S K T : Type 0} (words : List (List ℕ)) (end : End) (e : Edge
   pub replay : AsksReplay words → RunsReplay end e old new
   pub check : AsksCheck words → RunsCheck end e
   pub policy : AsksPolicy words → RunsPolicy end e
+  pub normal : AsksNormal words → RunsNormal end e
+  pub intersect : AsksIntersect words → RunsIntersect end e
   pub nothing : AsksNothing words → RunsNothing end e
   pub stage : ¬ (AsksReplay words) → new ≡ old
   pub input : Lasts e.input.told e.input_after.told

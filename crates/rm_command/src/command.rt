@@ -7,6 +7,7 @@ ghost use Rattle.rm_command.specs.Status.{status_of};
 ghost use Rattle.rm_command.specs.declared.end.End.{End as AnEnd};
 ghost use Rattle.rm_replay.specs.Shows.{IsFresh, scene_of};
 
+use crate::alternatives::{intersect, normal};
 use crate::check::check;
 use crate::end::{End, refuse};
 use crate::policy::policy;
@@ -19,6 +20,7 @@ use rm_policy::laws::one_reading;
 use rm_replay::Stage;
 use rm_script::laws::no_bad_line;
 use std::alloc::Global;
+use wsp_alternatives::laws::what_is_found_is_not_refused;
 
 /// Does what the words say, those after the program's name, and answers the exit status.
 pub fn run<S: Source, K: Sink, M: CrashDisk, W: Wire>(
@@ -47,6 +49,7 @@ pub fn run<S: Source, K: Sink, M: CrashDisk, W: Wire>(
     a_message_is_not_refused();
     one_reading();
     no_bad_line();
+    what_is_found_is_not_refused();
     obey(alloc, words, input, out, stage).status()
 }
 
@@ -68,13 +71,15 @@ fn obey<S: Source, K: Sink, M: CrashDisk, W: Wire>(
         Some(Command::Replay) => replay(alloc, input, out, stage),
         Some(Command::Check) => check(alloc, input, out),
         Some(Command::Policy) => policy(alloc, input, out),
+        Some(Command::Normal) => normal(alloc, input, out),
+        Some(Command::Intersect) => intersect(alloc, input, out),
         None => refuse(out, End::Usage, USAGE_LINE),
     }
 }
 
 // What is printed where the words are no command: every command that there is to be.
-const USAGE_LINE: &[u8] =
-    b"usage: wsrm check,replay,soak,make,serve,send,push,close,end,inbox,policy\n";
+const USAGE_LINE: &[u8] = b"usage: wsrm check,replay,soak,make,serve,send,push,close,end,inbox,\
+        policy,compact,consume,import,normal,intersect\n";
 
 // What the words may ask for.
 #[derive(Clone, Copy, Debug, PartialEq, Eq)]
@@ -82,6 +87,8 @@ enum Command {
     Replay,
     Check,
     Policy,
+    Normal,
+    Intersect,
 }
 
 // The command that the words ask for: it is the only word.
@@ -106,6 +113,12 @@ fn command_named(name: &[u8]) -> Option<Command>
     }
     if name == b"policy".as_slice() {
         return Some(Command::Policy);
+    }
+    if name == b"normal".as_slice() {
+        return Some(Command::Normal);
+    }
+    if name == b"intersect".as_slice() {
+        return Some(Command::Intersect);
     }
     None
 }

@@ -8,7 +8,7 @@ ghost use Rattle.rm_command.specs.Texts.{line_of};
 use rm_base::{Blob, Memory, Sink, push_decimal, write_all};
 use std::alloc::Global;
 
-/// What keeps bytes from being a message, or an assertion.
+/// What keeps bytes from being a message, an assertion, or a policy within the limits.
 #[derive(Clone, Copy, Debug, PartialEq, Eq)]
 pub enum Fault {
     NotUtf8,
@@ -22,6 +22,9 @@ pub enum Fault {
     Malformed,
     Rollover,
     SecurityUnsupported,
+    TooLarge,
+    TooManyTerms,
+    TooManyAlternatives,
 }
 
 /// How a run ends.
@@ -80,6 +83,9 @@ impl Fault {
             Fault::Malformed => b"fault Malformed\n",
             Fault::Rollover => b"fault Rollover\n",
             Fault::SecurityUnsupported => b"fault SecurityUnsupported\n",
+            Fault::TooLarge => b"fault TooLarge\n",
+            Fault::TooManyTerms => b"fault TooManyTerms\n",
+            Fault::TooManyAlternatives => b"fault TooManyAlternatives\n",
         }
     }
 }

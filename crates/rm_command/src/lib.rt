@@ -1,10 +1,12 @@
 //! The commands of wsrm: `run` is the whole program over any input and output, any two disks and any wire. `replay`
 //! reads a script, plays it over two durable nodes and the wire between them, and prints the report; `check` reads an
 //! envelope, and prints what its message says; `policy` reads an assertion of reliable messaging, and prints what it
-//! says. It stands on rm_script and rm_replay, on message_reader and message_lines, and on rm_policy; the program,
-//! `rm_cli`, may use `run` and its contract.
+//! says; `normal` and `intersect` read policies, and print the normal form of one, or what two have in common. It
+//! stands on rm_script and rm_replay, on message_reader and message_lines, on rm_policy and wsp_alternatives; the
+//! program, `rm_cli`, may use `run` and its contract.
 #![tactic(auto)]
 
+mod alternatives;
 mod check;
 mod check_text;
 mod command;

@@ -11,4 +11,6 @@ pub mod ListLemmas
 pub mod CommonLemmas
 pub mod TextLemmas
 pub mod ReadLemmas
-pub mod PrintLemmas
+pub mod FindLemmas
+pub mod PieceLemmas
+pub mod SendLemmas

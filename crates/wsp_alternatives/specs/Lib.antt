@@ -11,4 +11,6 @@ pub mod Listed
 pub mod Texts
 pub mod Refusal
 pub mod Reading
-pub mod Prints
+pub mod Pieces
+pub mod Finds
+pub mod Sending

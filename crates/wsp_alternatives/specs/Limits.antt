@@ -1,6 +1,5 @@
 -- The limits of normal forms: 64 terms of a policy, 256 alternatives of each operator, over as many of its first
--- policies as one
--- likes.
+-- policies as one likes.
 use Rattle.std.specs.Prelude.{◌≡◌, ◌↔◌, ℕ, ◌<◌, true, ◌⊎◌}
 use Rattle.std.specs.FinSet.{contains, len}
 use Rattle.wsp_alternatives.specs.Admits.{Admits}

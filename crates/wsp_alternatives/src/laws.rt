@@ -1,10 +1,15 @@
 //! Laws of normal forms, each the contract of a function that does nothing but to bring in the laws that it stands on.
-ghost use Rattle.std.specs.Prelude.{◌≡◌, ◌↔◌, List};
+ghost use Rattle.std.specs.Prelude.{◌≡◌, ◌↔◌, ℕ, List, Ok, Err};
+ghost use Rattle.wsp_alternatives.specs.Finds.{FindsCommon, FindsNormal};
 ghost use Rattle.wsp_alternatives.specs.Laws.{AdmitSame};
 ghost use Rattle.wsp_alternatives.specs.Normal.{IsNormal};
 ghost use Rattle.wsp_alternatives.specs.Texts.{AreNamed, normal_text};
 ghost use Rattle.wsp_alternatives.specs.Tree.{Policy as ATree};
+ghost use Rattle.wsp_alternatives.specs.declared.error.WspError.{WspError as AnError};
+ghost use Rattle.wsp_alternatives.specs.declared.error.WspError.TheVariants.{Memory as WantsMemory};
 ghost use Rattle.wsp_alternatives.specs.declared.term.Term.{Term as ATerm};
+
+use soap_document::laws::one_tree;
 
 /// A policy has one normal form at most, and two policies have the same exactly where they admit the same sets.
 pub fn normal_forms_tell()
@@ -18,3 +23,13 @@ pub fn normal_texts_tell()
     ensures { (p q : ATree) (list other : List (List ATerm)) → IsNormal p list → IsNormal q other → AreNamed list
         → AreNamed other → (normal_text list ≡ normal_text other) ↔ AdmitSame p q }
 {}
+
+/// Of bytes of which alternatives are found, by either call, nothing is refused but for a want of memory.
+pub fn what_is_found_is_not_refused()
+    ensures normal { (bytes : List ℕ) (lists : List (List ATerm)) (error : AnError) → FindsNormal bytes (Ok lists)
+        → FindsNormal bytes (Err error) → error ≡ WantsMemory }
+    ensures common { (bytes : List ℕ) (lists : List (List ATerm)) (error : AnError) → FindsCommon bytes (Ok lists)
+        → FindsCommon bytes (Err error) → error ≡ WantsMemory }
+{
+    one_tree();
+}

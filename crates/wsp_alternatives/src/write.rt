@@ -1,101 +1,57 @@
-//! Alternatives as text. Each writer appends, up to a want of memory.
-ghost use Rattle.std.specs.Prelude.{◌≡◌, ◌<◌, ◌+◌, ◌^◌, ◌++◌, IfOk, OnOk, length, slice_index};
+//! Alternatives as text: in memory, or to an output, block by block.
+ghost use Rattle.std.specs.Prelude.{◌≡◌, ◌≢◌, ◌<◌, ◌++◌, [], Err, false, IfOk, OnErr, OnOk, slice_index};
+ghost use Rattle.std.specs.Io.KnownBytes.{Appends};
 ghost use Rattle.hex.specs.Hex.{upper_digits};
+ghost use Rattle.rm_base.specs.Count.{Rose};
+ghost use Rattle.rm_base.specs.Outside.{AppendsFront, Lasts};
+ghost use Rattle.wsp_alternatives.specs.Pieces.{piece_text, pieces_text};
+ghost use Rattle.wsp_alternatives.specs.Sending.{Goes};
 ghost use Rattle.wsp_alternatives.specs.Texts.{
-  alternative_line,
-  assurance_word as word_for,
   escaped,
   escaped_byte,
   is_plain as is_written_so,
-  lines_from,
   normal_text,
-  order_text,
-  term_text,
-  terms_text,
 };
 
-use crate::term::{Alternatives, Term, Terms};
-use rm_base::{Blob, Memory, push_decimal};
-use rm_policy::Assurance;
+use crate::pieces::{Piece, pieces_of};
+use crate::term::Alternatives;
+use arrayvec::ArrayVec;
+use rm_base::{Blob, Memory, Sink, SinkError, write_all};
 use std::alloc::Global;
+
+/// How many bytes an output is given at once.
+const BLOCK: usize = 4096;
+
+// Bytes that wait to be written.
+type Block = ArrayVec<u8, BLOCK>;
 
 /// The text of alternatives. It may be far longer than the policy that they were read from, and then memory runs out.
 pub fn write_normal(alloc: Global, alternatives: &Alternatives) -> Result<Blob, Memory>
     ensures { IfOk result (λ text. text ≡ normal_text alternatives.now) }
 {
-    let mut text = Blob::from_slice(alloc, b"alternatives ")?;
-    push_decimal(&mut text, alternatives.len() as u64)?;
-    text.push_all(b"\n")?;
-    push_lines(&mut text, alternatives.as_slice())?;
+    let pieces = pieces_of(alloc, alternatives)?;
+    let mut text = Blob::new(alloc);
+    push_pieces(&mut text, pieces.as_slice())?;
     Ok(text)
 }
 
-fn push_lines(out: &mut Blob, lists: &[Terms]) -> Result<(), Memory>
-    ensures { OnOk result (out.new ≡ out.old ++ lines_from 1 lists.now) }
+fn push_pieces(out: &mut Blob, pieces: &[Piece<'_>]) -> Result<(), Memory>
+    ensures { OnOk result (out.new ≡ out.old ++ pieces_text pieces.now) }
 {
-    for (i, terms) in lists.iter().enumerate() {
-        push_line(out, i as u64 + 1, terms.as_slice())?;
+    for piece in pieces {
+        push_piece(out, piece)?;
     }
     Ok(())
 }
 
-fn push_line(out: &mut Blob, number: u64, terms: &[Term]) -> Result<(), Memory>
-    ensures { OnOk result (out.new ≡ out.old ++ alternative_line number terms.now) }
+fn push_piece(out: &mut Blob, piece: &Piece<'_>) -> Result<(), Memory>
+    ensures { OnOk result (out.new ≡ out.old ++ piece_text piece.now) }
 {
-    out.push_all(b"alt ")?;
-    push_decimal(out, number)?;
-    out.push_all(b" ")?;
-    push_terms(out, terms)?;
-    out.push_all(b"\n")
-}
-
-fn push_terms(out: &mut Blob, terms: &[Term]) -> Result<(), Memory>
-    ensures { OnOk result (out.new ≡ out.old ++ terms_text terms.now) }
-{
-    let Some((first, rest)) = terms.split_first() else {
-        return out.push_all(b"-");
-    };
-    push_term(out, first)?;
-    for term in rest {
-        out.push_all(b",")?;
-        push_term(out, term)?;
+    match piece {
+        Piece::Word(word) => out.push_all(word),
+        Piece::Number(digits) => out.push_all(digits.as_slice()),
+        Piece::Name(bytes) => push_escaped(out, bytes),
     }
-    Ok(())
-}
-
-fn push_term(out: &mut Blob, term: &Term) -> Result<(), Memory>
-    ensures { OnOk result (out.new ≡ out.old ++ term_text term.now) }
-{
-    match term {
-        Term::Rm(assurance, in_order) => {
-            out.push_all(b"rm:")?;
-            out.push_all(assurance_word(*assurance))?;
-            out.push_all(order_word(*in_order))
-        }
-        Term::Other(name) => {
-            out.push_all(b"{")?;
-            push_escaped(out, name.space())?;
-            out.push_all(b"}")?;
-            push_escaped(out, name.local())
-        }
-    }
-}
-
-fn assurance_word(assurance: Assurance) -> &'static [u8]
-    ensures { result.now ≡ word_for assurance }
-{
-    match assurance {
-        Assurance::Unsaid => b"unsaid",
-        Assurance::ExactlyOnce => b"exactly-once",
-        Assurance::AtLeastOnce => b"at-least-once",
-        Assurance::AtMostOnce => b"at-most-once",
-    }
-}
-
-fn order_word(in_order: bool) -> &'static [u8]
-    ensures { result.now ≡ order_text in_order }
-{
-    if in_order { b"+in-order" } else { b"" }
 }
 
 // Appends bytes, each as it is or as `%` and two digits.
@@ -115,6 +71,90 @@ fn push_byte(out: &mut Blob, byte: u8) -> Result<(), Memory>
         return out.push_all(&[byte]);
     }
     out.push_all(&[b'%', upper_digit(byte / 16), upper_digit(byte % 16)])
+}
+
+/// Writes the text of pieces to an output, and takes no memory. After an `Err` some first bytes were written.
+pub fn write_pieces<K: Sink>(out: &mut K, pieces: &[Piece<'_>]) -> Result<(), SinkError>
+    ensures ok { OnOk result (Appends (K.told out.old).held (K.told out.new).held (pieces_text pieces.now)) }
+    ensures err { OnErr result (AppendsFront (K.told out.old).held (K.told out.new).held (pieces_text pieces.now)) }
+    ensures failed { result ≡ Err SinkError.Failed → Rose (K.told out.old).faults (K.told out.new).faults }
+    ensures memory { K.wants_memory ≡ false → result ≢ Err SinkError.Memory }
+    ensures lasts { Lasts (K.told out.old) (K.told out.new) }
+{
+    let mut block = Block::new();
+    put_pieces(out, &mut block, pieces)?;
+    write_all(out, block.as_slice())
+}
+
+fn put_pieces<K: Sink>(
+    out: &mut K,
+    block: &mut Block,
+    pieces: &[Piece<'_>],
+) -> Result<(), SinkError>
+    ensures { Goes K.wants_memory (K.told out.old) (K.told out.new) block.old.items (pieces_text pieces.now)
+        block.new.items result }
+{
+    for piece in pieces {
+        put_piece(out, block, piece)?;
+    }
+    Ok(())
+}
+
+fn put_piece<K: Sink>(out: &mut K, block: &mut Block, piece: &Piece<'_>) -> Result<(), SinkError>
+    ensures { Goes K.wants_memory (K.told out.old) (K.told out.new) block.old.items (piece_text piece.now)
+        block.new.items result }
+{
+    match piece {
+        Piece::Word(word) => put(out, block, word),
+        Piece::Number(digits) => put(out, block, digits.as_slice()),
+        Piece::Name(bytes) => put_escaped(out, block, bytes),
+    }
+}
+
+fn put_escaped<K: Sink>(out: &mut K, block: &mut Block, bytes: &[u8]) -> Result<(), SinkError>
+    ensures { Goes K.wants_memory (K.told out.old) (K.told out.new) block.old.items (escaped bytes.now)
+        block.new.items result }
+{
+    for byte in bytes {
+        put_byte(out, block, *byte)?;
+    }
+    Ok(())
+}
+
+fn put_byte<K: Sink>(out: &mut K, block: &mut Block, byte: u8) -> Result<(), SinkError>
+    ensures { Goes K.wants_memory (K.told out.old) (K.told out.new) block.old.items (escaped_byte byte)
+        block.new.items result }
+{
+    if is_plain(byte) {
+        return put(out, block, &[byte]);
+    }
+    put(
+        out,
+        block,
+        &[b'%', upper_digit(byte / 16), upper_digit(byte % 16)],
+    )
+}
+
+// Puts bytes behind those that wait, which are written where there is no room for more.
+fn put<K: Sink>(out: &mut K, block: &mut Block, bytes: &[u8]) -> Result<(), SinkError>
+    ensures { Goes K.wants_memory (K.told out.old) (K.told out.new) block.old.items bytes.now block.new.items result }
+{
+    match block.try_extend_from_slice(bytes) {
+        Ok(()) => Ok(()),
+        Err(_) => begin(out, block, bytes),
+    }
+}
+
+// Writes the bytes that wait, and lets others wait, or writes them too where they are more than a block.
+fn begin<K: Sink>(out: &mut K, block: &mut Block, bytes: &[u8]) -> Result<(), SinkError>
+    ensures { Goes K.wants_memory (K.told out.old) (K.told out.new) block.old.items bytes.now block.new.items result }
+{
+    write_all(out, block.as_slice())?;
+    block.clear();
+    match block.try_extend_from_slice(bytes) {
+        Ok(()) => Ok(()),
+        Err(_) => write_all(out, bytes),
+    }
 }
 
 // Whether a byte is a visible character of ASCII that is neither `%` nor a comma.

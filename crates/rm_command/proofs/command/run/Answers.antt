@@ -1,7 +1,9 @@
 use Rattle.rm_command.specs.Status.{status_of}
+use Rattle.rm_command.proofs.AlternativesLemmas.{finding_status}
 use Rattle.rm_command.proofs.CheckLemmas.{check_status, replay_status}
 use Rattle.rm_command.proofs.PolicyLemmas.{policy_status}
 use Rattle.rm_command.proofs.StatusLemmas.{status_by}
+use Rattle.wsp_alternatives.specs.Finds.{FindsCommon, FindsNormal}
 use Rattle.rm_command.proofs.command.run.Goals as goal
 
 pub returns-clause-status : goal.returns-clause-status
@@ -9,4 +11,8 @@ returns-clause-status g c =
     rw c.status.ensures (status_by c.args.words.now (g.S.Source.told c.args.input.now).left (status_of c.obey.result)
     (λ asked. replay_status c.no_bad_line.ensures (c.obey.ensures.runs.replay asked))
     (λ asked. check_status c.a_message_is_not_refused.ensures (c.obey.ensures.runs.check asked))
-    (λ asked. policy_status c.one_reading.ensures (c.obey.ensures.runs.policy asked)))
+    (λ asked. policy_status c.one_reading.ensures (c.obey.ensures.runs.policy asked))
+    (λ asked. finding_status FindsNormal c.what_is_found_is_not_refused.ensures.normal _ _
+    (c.obey.ensures.runs.normal asked).ends)
+    (λ asked. finding_status FindsCommon c.what_is_found_is_not_refused.ensures.common _ _
+    (c.obey.ensures.runs.intersect asked).ends))

@@ -1,7 +1,7 @@
 use Rattle.std.proofs.lemmas.Result.{err_from_is_err_and}
-use Rattle.wsp_alternatives.proofs.PrintLemmas.{unread, no_normal}
+use Rattle.wsp_alternatives.proofs.FindLemmas.{unread, no_normal}
 use Rattle.wsp_alternatives.specs.Tree.{policy_view}
-use Rattle.wsp_alternatives.proofs.print.print_normal.Goals as goal
+use Rattle.wsp_alternatives.proofs.find.find_normal.Goals as goal
 
 pub returns-in_err-policy : goal.returns-in_err-policy
 returns-in_err-policy c =
@@ -18,7 +18,6 @@ pub returns : goal.returns
 returns c = record {
   policy = policy_view c.in_ok-policy.policy;
   read = c.in_ok-policy.ensures;
-  lists = c.in_ok-lists.lists;
+  within = (c.in_ok-lists.ensures.1, c.in_ok-lists.ensures.2);
   normal = c.in_ok-lists.ensures.0;
-  printed = c.in_ok-text.ensures;
 }

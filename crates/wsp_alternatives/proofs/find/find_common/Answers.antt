@@ -1,7 +1,7 @@
 use Rattle.std.proofs.lemmas.Result.{err_from_is_err_and}
-use Rattle.wsp_alternatives.proofs.PrintLemmas.{unread_pair, no_first, no_second, no_common}
+use Rattle.wsp_alternatives.proofs.FindLemmas.{unread_pair, no_first, no_second, no_common}
 use Rattle.wsp_alternatives.specs.Tree.{policy_view}
-use Rattle.wsp_alternatives.proofs.print.print_common.Goals as goal
+use Rattle.wsp_alternatives.proofs.find.find_common.Goals as goal
 
 pub returns-in_err-pair : goal.returns-in_err-pair
 returns-in_err-pair c =
@@ -34,11 +34,12 @@ returns c = record {
   one = policy_view c.in_ok-pair.pair.0;
   other = policy_view c.in_ok-pair.pair.1;
   read = c.in_ok-pair.ensures;
+  within = (c.in_ok-lists.ensures.1, c.in_ok-lists.ensures.2);
+  other_within = (c.in_ok-others.ensures.1, c.in_ok-others.ensures.2);
   lists = c.in_ok-lists.lists;
   others = c.in_ok-others.others;
   normal = c.in_ok-lists.ensures.0;
   other_normal = c.in_ok-others.ensures.0;
-  common = c.in_ok-common.common;
+  few = (c.in_ok-common.ensures c.in_ok-lists.ensures.0.are c.in_ok-others.ensures.0.are).1;
   shared = (c.in_ok-common.ensures c.in_ok-lists.ensures.0.are c.in_ok-others.ensures.0.are).0;
-  printed = c.in_ok-text.ensures;
 }

@@ -1,0 +1,79 @@
+-- What is found of bytes: the normal form of a policy, or what a pair of policies has in common.
+use Rattle.std.specs.Prelude.{◌≡◌, ◌⊎◌, ℕ, ◌<◌, List, Result, Ok, Err}
+use Rattle.rm_policy.specs.Reading.{IsNoDocument}
+use Rattle.wsp_alternatives.specs.Answers.{HasFewTerms}
+use Rattle.wsp_alternatives.specs.Limits.{HasTerms, HasTooMany}
+use Rattle.wsp_alternatives.specs.Normal.{IsNormal, IsIntersection, HasMoreInCommon}
+use Rattle.wsp_alternatives.specs.Reading.{ReadsAs, policy_of, pair_of}
+use Rattle.wsp_alternatives.specs.Tree.{Policy}
+use Rattle.wsp_alternatives.specs.declared.error.WspError.{WspError}
+use Rattle.wsp_alternatives.specs.declared.error.WspError.TheVariants.{Memory, Envelope, Malformed}
+use Rattle.wsp_alternatives.specs.declared.error.WspError.TheVariants.{SecurityUnsupported, TooLarge}
+use Rattle.wsp_alternatives.specs.declared.error.WspError.TheVariants.{TooManyTerms, TooManyAlternatives}
+use Rattle.wsp_alternatives.specs.declared.term.Term.{Term}
+
+-- a policy has more than 64 terms, and so many
+abbrev pub HasManyTerms : Policy → ℕ → Type 0
+HasManyTerms p n = HasTerms p n × (64 < n)
+
+-- it has few, and some operator in it has more than 256 alternatives
+abbrev pub HasManyAlternatives : Policy → Type 0
+HasManyAlternatives p = HasFewTerms p × HasTooMany 256 p
+
+-- it has neither
+abbrev pub IsWithin : Policy → Type 0
+IsWithin p = HasFewTerms p × (HasTooMany 256 p → ⊥)
+
+-- the bytes are a policy within its limits, and these are its alternatives
+pub record IsNormalOf (bytes : List ℕ) (lists : List (List Term)) : Type 0 where
+  pub policy : Policy
+  pub read : ReadsAs policy_of bytes (Ok policy)
+  pub within : IsWithin policy
+  pub normal : IsNormal policy lists
+
+-- the bytes are a pair of policies within their limits, and these are the alternatives that both have in common
+pub record IsCommonOf (bytes : List ℕ) (common : List (List Term)) : Type 0 where
+  pub one : Policy
+  pub other : Policy
+  pub read : ReadsAs pair_of bytes (Ok (one, other))
+  pub within : IsWithin one
+  pub other_within : IsWithin other
+  pub lists : List (List Term)
+  pub others : List (List Term)
+  pub normal : IsNormal one lists
+  pub other_normal : IsNormal other others
+  pub few : HasMoreInCommon 256 lists others → ⊥
+  pub shared : IsIntersection lists others common
+
+-- of a pair the first has too many terms, or the second has them where the first is within its limits
+abbrev pub PairHasManyTerms : List ℕ → ℕ → Type 0
+PairHasManyTerms bytes n = (p : Policy) × (q : Policy) × ReadsAs pair_of bytes (Ok (p, q))
+    × (HasManyTerms p n ⊎ (IsWithin p × HasManyTerms q n))
+
+-- the first has too many alternatives, or the second, or they have too many in common
+abbrev pub PairHasManyAlternatives : List ℕ → Type 0
+PairHasManyAlternatives bytes = (p : Policy) × (q : Policy) × ReadsAs pair_of bytes (Ok (p, q))
+    × (HasManyAlternatives p ⊎ ((IsWithin p × HasManyAlternatives q)
+    ⊎ ((a : List (List Term)) × (b : List (List Term)) × IsNormal p a × IsNormal q b × HasMoreInCommon 256 a b)))
+
+-- what is found of a policy, or why nothing is
+abbrev pub FindsNormal : List ℕ → Result (List (List Term)) WspError → Type 0
+FindsNormal bytes (Ok lists) = IsNormalOf bytes lists
+FindsNormal bytes (Err Memory) = Unit {0}
+FindsNormal bytes (Err (Envelope error)) = IsNoDocument bytes error
+FindsNormal bytes (Err Malformed) = ReadsAs policy_of bytes (Err Malformed)
+FindsNormal bytes (Err (SecurityUnsupported name)) = ReadsAs policy_of bytes (Err (SecurityUnsupported name))
+FindsNormal bytes (Err (TooLarge elements)) = ReadsAs policy_of bytes (Err (TooLarge elements))
+FindsNormal bytes (Err (TooManyTerms n)) = (p : Policy) × ReadsAs policy_of bytes (Ok p) × HasManyTerms p n
+FindsNormal bytes (Err TooManyAlternatives) = (p : Policy) × ReadsAs policy_of bytes (Ok p) × HasManyAlternatives p
+
+-- what is found of a pair of policies, or why nothing is
+abbrev pub FindsCommon : List ℕ → Result (List (List Term)) WspError → Type 0
+FindsCommon bytes (Ok common) = IsCommonOf bytes common
+FindsCommon bytes (Err Memory) = Unit {0}
+FindsCommon bytes (Err (Envelope error)) = IsNoDocument bytes error
+FindsCommon bytes (Err Malformed) = ReadsAs pair_of bytes (Err Malformed)
+FindsCommon bytes (Err (SecurityUnsupported name)) = ReadsAs pair_of bytes (Err (SecurityUnsupported name))
+FindsCommon bytes (Err (TooLarge elements)) = ReadsAs pair_of bytes (Err (TooLarge elements))
+FindsCommon bytes (Err (TooManyTerms n)) = PairHasManyTerms bytes n
+FindsCommon bytes (Err TooManyAlternatives) = PairHasManyAlternatives bytes
