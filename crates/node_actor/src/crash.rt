@@ -6,6 +6,7 @@ ghost use Rattle.rm_disk.specs.Call.{crashes_of, seen_of};
 ghost use Rattle.rm_disk.specs.Image.{MayLeave, OnlyLeaves};
 ghost use Rattle.rm_protocol.specs.Node.{Node as Value, armed as armed_by};
 ghost use Rattle.rm_protocol.specs.World.{made};
+ghost use Rattle.node_store.specs.Changes.{WasNotMade};
 ghost use Rattle.node_store.specs.Has.{AreOfNode, StandsForBatches};
 ghost use Rattle.node_store.specs.Mounted.{Finds};
 ghost use Rattle.node_actor.specs.Stands.{Crashed, Leaves, Stands};
@@ -31,6 +32,7 @@ impl Actor {
         requires unarmed { (D.told disk.old).fuse ≡ None }
         ensures made { IfOk result (λ actor. Stands (made number address)
             (D.told disk.new) actor) }
+        ensures wanted { OnErr result (WasNotMade (D.told disk.old).past (D.told disk.new).past) }
         ensures faults { (D.told disk.new).faults ≡ (D.told disk.old).faults }
         ensures crashes { crashes_of (D.told disk.new).past ≡ crashes_of (D.told disk.old).past }
     {

@@ -1,11 +1,11 @@
 -- What a call does to a disk and to what is kept of a node.
 use Rattle.std.specs.Prelude.{◌≡◌, ◌⊎◌, ℕ, Bool, true, false, List, [], ◌∷◌, Option, None}
-use Rattle.rm_disk.specs.Call.{crashes_of}
+use Rattle.rm_disk.specs.Call.{Call, crashes_of}
 use Rattle.rm_disk.specs.Fuse.{Burns}
-use Rattle.rm_disk.specs.Image.{OnlyLeaves}
+use Rattle.rm_disk.specs.Image.{MayLeave, OnlyLeaves}
 use Rattle.rm_disk.specs.Told.{Told}
 use Rattle.record_batch.specs.Fact.{Fact}
-use Rattle.node_store.specs.Has.{Holds, IsLeftBy}
+use Rattle.node_store.specs.Has.{Holds, IsLeftBy, StandsForBatches}
 use Rattle.node_store.specs.Stored.{Stored, with_batch}
 
 -- a call that adds records makes four device calls, any other none
@@ -24,6 +24,11 @@ pub record Changes (first now : Told) (old new : Stored) (delta : List Fact) (ok
   pub untouched : ok ≡ false → failed ≡ false → now ≡ first
   pub fuse : (ok ≡ true) ⊎ (failed ≡ true) → BurnsFor delta first.fuse now.fuse ok
   pub crashes : crashes_of now.past ≡ crashes_of first.past
+
+-- Memory was wanting for a node that was to be made: the disk is as it was, or has an empty journal, whatever a crash
+-- now leaves of it.
+abbrev pub WasNotMade : (old new : List Call) → Type 0
+WasNotMade old new = (new ≡ old) ⊎ ((bytes : List ℕ) → MayLeave new bytes → StandsForBatches [] bytes)
 
 -- where no call on the disk is to fail, none does: neither then nor later
 pub record KeepsUnarmed (old new : Option ℕ) (failed : Bool) : Type 0 where

@@ -18,6 +18,7 @@ use std::alloc::Global;
 pub fn format<D: Disk>(alloc: Global, disk: &mut D) -> Result<Journal, StoreError>
     ensures made { IfOk result (λ journal. journal ≡ journal_of []) }
     ensures fits { IsTrue D.tells → IfOk result (Fits [] (D.told disk.new).past) }
+    ensures wanted { IsTrue D.tells → result ≡ Err WantsMemory → (D.told disk.new).past ≡ (D.told disk.old).past }
     ensures unarmed { IsTrue D.tells → KeepsUnarmed (D.told disk.old).fuse (D.told disk.new).fuse (is_disk result) }
     ensures refusals { IfErr result (λ error. (error ≡ WantsMemory) ⊎ (error ≡ DiskFails)) }
     ensures cause { HasCause (D.told disk.old).faults (D.told disk.new).faults (is_disk result) }

@@ -8,7 +8,7 @@ ghost use Rattle.rm_disk.specs.Cause.{HasCause};
 ghost use Rattle.rm_disk.specs.Image.{MayLeave, OnlyLeaves};
 ghost use Rattle.rm_journal.specs.JournalState.{end_of};
 ghost use Rattle.sequence_table.specs.Fits.{all_fit};
-ghost use Rattle.node_store.specs.Changes.{Changes, KeepsUnarmed};
+ghost use Rattle.node_store.specs.Changes.{Changes, KeepsUnarmed, WasNotMade};
 ghost use Rattle.node_store.specs.Has.{Has, Holds};
 ghost use Rattle.node_store.specs.Failed.{is_disk};
 ghost use Rattle.node_store.specs.Mounted.{Finds, has_failed, IsNoNode};
@@ -90,8 +90,8 @@ impl Store {
 }
 
 impl Store {
-    /// Makes a disk that of a node with this number and address. What it held is lost, and after a refusal it holds
-    /// anything.
+    /// Makes a disk that of a node with this number and address. What it held is lost; after want of memory the disk is
+    /// as it was or has an empty journal, and after a fault of the disk it holds anything.
     pub fn make<D: Disk>(
         alloc: Global,
         disk: &mut D,
@@ -103,6 +103,8 @@ impl Store {
         ensures made { IfOk result (λ store. store ≡ first_stored number address) }
         ensures has { IsTrue D.tells →
             IfOk result (Has ((Made number address ∷ []) ∷ []) (D.told disk.new).past) }
+        ensures wanted { IsTrue D.tells → result ≡ Err WantsMemory →
+            WasNotMade (D.told disk.old).past (D.told disk.new).past }
         ensures unarmed { IsTrue D.tells → KeepsUnarmed (D.told disk.old).fuse (D.told disk.new).fuse (is_disk result) }
         ensures refusals { IfErr result (λ error. (error ≡ WantsMemory) ⊎ (error ≡ DiskFails)) }
         ensures cause { HasCause (D.told disk.old).faults (D.told disk.new).faults (is_disk result) }

@@ -5,7 +5,7 @@ ghost use Rattle.rm_disk.specs.Call.{crashes_of, seen_of};
 ghost use Rattle.rm_disk.specs.Cause.{HasCause};
 ghost use Rattle.rm_disk.specs.Image.{MayLeave, OnlyLeaves};
 ghost use Rattle.sequence_table.specs.Fits.{is_in_order};
-ghost use Rattle.node_store.specs.Changes.{KeepsUnarmed};
+ghost use Rattle.node_store.specs.Changes.{KeepsUnarmed, WasNotMade};
 ghost use Rattle.node_store.specs.Has.{Has};
 ghost use Rattle.node_store.specs.Mounted.{Finds, has_failed, IsNoNode};
 ghost use Rattle.node_store.specs.declared.error.MountError.TheVariants.{Memory as NoMemory, Disk as DiskBroke};
@@ -49,8 +49,8 @@ impl Model for Node {
 }
 
 impl Node {
-    /// Makes a disk that of a node with this number and address. What it held is lost, and after a refusal it holds
-    /// anything.
+    /// Makes a disk that of a node with this number and address. What it held is lost; after want of memory the disk is
+    /// as it was or has an empty journal, and after a fault of the disk it holds anything.
     pub fn make<D: Disk>(
         alloc: Global,
         disk: &mut D,
@@ -62,6 +62,8 @@ impl Node {
         ensures made { IfOk result (λ node. node ≡ first_noded number address) }
         ensures has { IsTrue D.tells →
             IfOk result (λ node. Has ((Made number address ∷ []) ∷ []) (D.told disk.new).past node.stored) }
+        ensures wanted { IsTrue D.tells → result ≡ Err WantsMemory →
+            WasNotMade (D.told disk.old).past (D.told disk.new).past }
         ensures unarmed { IsTrue D.tells → KeepsUnarmed (D.told disk.old).fuse (D.told disk.new).fuse (is_disk result) }
         ensures refusals { IfErr result (λ error. (error ≡ WantsMemory) ⊎ (error ≡ DiskFails)) }
         ensures cause { HasCause (D.told disk.old).faults (D.told disk.new).faults (is_disk result) }

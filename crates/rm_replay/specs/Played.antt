@@ -9,11 +9,12 @@ use Rattle.rm_script.specs.declared.event.Event.{Event as Said}
 use Rattle.rm_script.specs.declared.event.Side.{Side as Place}
 use Rattle.rm_script.specs.declared.event.Side.TheVariants as place
 use Rattle.node_actor.specs.Stands.{Leaves}
+use Rattle.node_store.specs.Changes.{WasNotMade}
 use Rattle.node_summary.specs.Summary.{node_text}
 use Rattle.rm_replay.specs.Asked.{WereSpared}
 use Rattle.rm_replay.specs.Meaning.{Means, comes_out, report_of, stepped}
 use Rattle.rm_replay.specs.Sent.{AcceptedIsSent}
-use Rattle.rm_replay.specs.Shows.{Holds, IsCut, Scene, address_one, address_two}
+use Rattle.rm_replay.specs.Shows.{Drives, Holds, IsCut, Scene, address_one, address_two}
 use Rattle.rm_replay.specs.Tales.{Tale, Tells, joined, tale_of}
 
 -- two nodes that were just made
@@ -80,12 +81,23 @@ pub record Ran (terms : Terms) (script : List Said) (first now : Scene) (text : 
   pub printed : text ≡ lines_text story.report ++ end_text story.world
   pub sent : AcceptedIsSent script story.report now
 
--- Memory was wanting for a node that was to be made, and no line was played: there is no packet, neither disk had a
--- crash or a fault, and the disk of node 2 is as it was, or that of node 1 has its node.
+-- memory was wanting for node 1: its disk is as it was or has an empty journal, and that of node 2 is as it was
+pub record IsFirstUnmade (first now : Drives) : Type 0 where
+  pub one : WasNotMade first.one.disk.past now.one.disk.past
+  pub two : now.two ≡ first.two
+
+-- memory was wanting for node 2: the disk of node 1 has its node, and that of node 2 is as it was or has an empty
+-- journal
+pub record IsSecondUnmade (first now : Drives) : Type 0 where
+  pub one : Leaves start_world.one now.one.disk.past
+  pub two : WasNotMade first.two.disk.past now.two.disk.past
+
+-- Memory was wanting for a node that was to be made, and no line was played: there is no packet, and neither disk had
+-- a crash or a fault.
 pub record IsUnmade (first now : Scene) : Type 0 where
   pub silent : now.packets ≡ []
   pub spared : WereSpared first.drives now.drives
-  pub which : (now.drives.two ≡ first.drives.two) ⊎ Leaves start_world.one now.drives.one.disk.past
+  pub which : IsFirstUnmade first.drives now.drives ⊎ IsSecondUnmade first.drives now.drives
 
 -- Memory was wanting. Some first lines were played: the disks and the wire held what was there then, and hold it still,
 -- or what a further line made but for some last of its packets.

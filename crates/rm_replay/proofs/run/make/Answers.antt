@@ -14,6 +14,9 @@ returns-in_err-two-clause-unmade g c =
         one = spared_by _ _ c.in_ok-one.ensures.crashes c.in_ok-one.ensures.faults;
         two = spared_by _ _ c.in_err-two.ensures.crashes c.in_err-two.ensures.faults;
       };
-      which = inr (c.each_image_is_left.ensures start_world.one _ _
-          (rw c.in_ok-at_one.ensures.address at c.in_ok-one.ensures.made));
+      which = inr (record {
+        one = c.each_image_is_left.ensures start_world.one _ _
+            (rw c.in_ok-at_one.ensures.address at c.in_ok-one.ensures.made);
+        two = c.in_err-two.ensures.wanted;
+      });
     })
