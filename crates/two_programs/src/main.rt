@@ -1,12 +1,12 @@
 //! Two programs on one machine. With words it is the program wsrm; with none it plays a message from one node to
-//! another, each in a folder of its own, whose commands are child processes of it.
+//! another, each in a folder of its own, whose commands are child processes of it, and what a node alone refuses.
 #![tactic(auto)]
 
 mod play;
 
 use rm_host::start;
-use std::env;
 use std::process::ExitCode;
+use std::{env, io};
 
 fn main(rt: HostRuntime) -> ExitCode {
     let words = match env::args(&rt) {
@@ -16,8 +16,13 @@ fn main(rt: HostRuntime) -> ExitCode {
     if words > 1 {
         return start(rt);
     }
-    match play::play(&rt) {
+    match plays(&rt) {
         Ok(()) => ExitCode::SUCCESS,
         Err(_) => ExitCode::FAILURE,
     }
+}
+
+fn plays(rt: &HostRuntime) -> io::Result<()> {
+    play::play(rt)?;
+    play::refuse(rt)
 }

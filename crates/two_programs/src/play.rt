@@ -13,6 +13,18 @@ const SERVER: &str = "http://localhost:18473/";
 /// Where the client would be.
 const CLIENT: &str = "http://localhost:18474/";
 
+/// Where nobody listens.
+const NOBODY: &str = "http://localhost:18475/";
+
+/// What is asked of a node that is alone: the words of a command, and its input.
+const ALONE: [(&[&str], &[u8]); 5] = [
+    (&["inbox", "1"], b""),
+    (&["make", "3", CLIENT], b""),
+    (&["make", "3", CLIENT], b""),
+    (&["inbox", "1"], b""),
+    (&["send", NOBODY], b"<p>1</p>"),
+];
+
 /// How often a message is sent at most until the server listens.
 const TRIES: u32 = 1000;
 
@@ -30,6 +42,20 @@ pub fn play(rt: &HostRuntime) -> io::Result<()> {
     show(rt, serving.wait_with_output(rt.alloc())?)?;
     show(rt, run(rt, &server, &["inbox", "1"], b"")?)?;
     fs::remove_dir_all(rt, &server)
+}
+
+/// Asks a node that is alone for what it can't do, before it is made and after, and prints what each command printed,
+/// and its status.
+pub fn refuse(rt: &HostRuntime) -> io::Result<()> {
+    let folder = folder(rt, "alone")?;
+    for (words, input) in &ALONE {
+        let output = run(rt, &folder, *words, *input)?;
+        let status = output.status.code().unwrap_or(-1);
+        show(rt, output)?;
+        let line = format!(in rt.alloc(); "status {status}\n")?;
+        rt.stdout().write_all(line.as_bytes())?;
+    }
+    fs::remove_dir_all(rt, &folder)
 }
 
 // Sends a message from a node that is just made, again from another one as long as the server does not listen.
