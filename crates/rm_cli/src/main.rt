@@ -1,23 +1,49 @@
 //! The program wsrm: the commands of one node on a file and on TCP, and those that need none.
 #![tactic(auto)]
 
-use std::env;
+mod run;
+
+use rm_base::{Blob, Memory, StdClock, StdSink, StdSource};
+use rm_disk::MemDisk;
+use rm_file::FileDisk;
+use rm_host::{End, Host, explain, texts_given, words_behind};
+use rm_link::TcpLink;
+use rm_network::MemWire;
+use rm_replay::Stage;
+use run::run;
 use std::process::ExitCode;
 
 fn main(rt: HostRuntime) -> ExitCode {
-    if asks_a_node(&rt) {
-        return rm_host::start(rt);
-    }
-    rm_command::start(rt)
+    let status = match texts_given(&rt) {
+        Ok(given) => played(&rt, words_behind(given.as_slice())),
+        Err(Memory) => End::Memory.status(),
+    };
+    ExitCode::from(status)
 }
 
-// Whether the first word is a command of a node.
-fn asks_a_node(rt: &HostRuntime) -> bool {
-    match env::args(rt) {
-        Ok(mut args) => match args.nth(1) {
-            Some(word) => rm_host::is_command(word.as_str()),
-            None => false,
-        },
-        Err(_) => false,
-    }
+// Runs the words over standard input and output, disks and a wire in memory, the file in the current folder, the
+// network and the clock.
+fn played(rt: &HostRuntime, words: &[Blob]) -> u8 {
+    let mut input = StdSource::new(rt.stdin());
+    let mut out = StdSink::new(rt.stdout());
+    let mut stage = Stage {
+        one: MemDisk::new(rt.alloc()),
+        two: MemDisk::new(rt.alloc()),
+        wire: MemWire::new(rt.alloc()),
+    };
+    let mut host = Host {
+        disk: FileDisk::new(rt),
+        link: TcpLink::new(rt),
+        clock: StdClock::new(rt),
+    };
+    let status = run(
+        rt.alloc(),
+        words,
+        &mut input,
+        &mut out,
+        &mut stage,
+        &mut host,
+    );
+    explain(rt, status, host.disk.last_fault(), host.link.last_fault());
+    status
 }

@@ -1,8 +1,8 @@
-//! The commands of wsrm: `run` is the whole program over any input and output, any two disks and any wire. `replay`
-//! reads a script, plays it over two durable nodes and the wire between them, and prints the report; `check` reads an
-//! envelope, and prints what its message says; `policy` reads an assertion of reliable messaging, and prints what it
-//! says; `normal` and `intersect` read policies, and print the normal form of one, or what two have in common. It
-//! stands on rm_script and rm_replay, on message_reader and message_lines, on rm_policy and wsp_alternatives; the
+//! The commands of wsrm that need no node: `run` does them over any input and output, any two disks and any wire.
+//! `replay` reads a script, plays it over two durable nodes and the wire between them, and prints the report; `check`
+//! reads an envelope, and prints what its message says; `policy` reads an assertion of reliable messaging, and prints
+//! what it says; `normal` and `intersect` read policies, and print the normal form of one, or what two have in common.
+//! It stands on rm_script and rm_replay, on message_reader and message_lines, on rm_policy and wsp_alternatives; the
 //! program, `rm_cli`, may use `run` and its contract.
 #![tactic(auto)]
 
@@ -14,9 +14,7 @@ mod end;
 mod filter;
 mod policy;
 mod policy_text;
-mod program;
 mod replay;
 
 pub use command::run;
 pub use end::{End, Fault};
-pub use program::start;

@@ -1,5 +1,5 @@
 //! The program at its edge: a file, the network, the clock, standard input and output.
-ghost use Rattle.std.specs.Prelude.{◌≡◌, false};
+ghost use Rattle.std.specs.Prelude.{◌≡◌, drop, false};
 
 use crate::commands::{close, end, inbox, make, push};
 use crate::end::End;
@@ -63,19 +63,9 @@ fn obey<S: Source, D: Disk, L: Link, C: Clock>(
 /// Runs the program over the words it was given, standard input and output, the file in the current folder, the
 /// network and the clock.
 pub fn start(rt: HostRuntime) -> ExitCode {
-    let given = match env::args(&rt) {
-        Ok(args) => texts_of(rt.alloc(), args),
-        Err(error) => match error.kind() {
-            ErrorKind::InvalidData => Ok(Items::new(rt.alloc())),
-            _ => Err(Memory),
-        },
-    };
-    let status = match given {
+    let status = match texts_given(&rt) {
         Ok(given) => {
-            let words = match given.as_slice().split_first() {
-                Some((_program, words)) => words,
-                None => &[],
-            };
+            let words = words_behind(given.as_slice());
             let mut input = StdSource::new(rt.stdin());
             let mut out = StdSink::new(rt.stdout());
             let mut host = Host {
@@ -84,17 +74,44 @@ pub fn start(rt: HostRuntime) -> ExitCode {
                 clock: StdClock::new(&rt),
             };
             let status = run(rt.alloc(), words, &mut input, &mut out, &mut host);
-            if status == End::DiskFault.status() {
-                explain_disk(&rt, host.disk.last_fault());
-            }
-            if status == End::LinkFault.status() {
-                explain_link(&rt, host.link.last_fault());
-            }
+            explain(&rt, status, host.disk.last_fault(), host.link.last_fault());
             status
         }
         Err(Memory) => End::Memory.status(),
     };
     ExitCode::from(status)
+}
+
+/// The texts that the program was given, of which the first is its name. Where one of them isn't UTF-8 std hands out
+/// none.
+pub fn texts_given(rt: &HostRuntime) -> Result<Items<Blob>, Memory> {
+    match env::args(rt) {
+        Ok(args) => texts_of(rt.alloc(), args),
+        Err(error) => match error.kind() {
+            ErrorKind::InvalidData => Ok(Items::new(rt.alloc())),
+            _ => Err(Memory),
+        },
+    }
+}
+
+/// The words behind the first of the texts, which is the program's name.
+pub fn words_behind(given: &[Blob]) -> &[Blob]
+    ensures { result.now ≡ drop 1 given.now }
+{
+    match given.split_first() {
+        Some((_program, words)) => words,
+        None => &[],
+    }
+}
+
+/// Says on standard error what failed, where the status tells that the disk or the network did.
+pub fn explain<R: Eprint>(rt: &R, status: u8, disk: Option<&DiskFault>, link: Option<&LinkFault>) {
+    if status == End::DiskFault.status() {
+        explain_disk(rt, disk);
+    }
+    if status == End::LinkFault.status() {
+        explain_link(rt, link);
+    }
 }
 
 /// Says on standard error which call on the disk failed, and why.

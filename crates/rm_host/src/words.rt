@@ -1,6 +1,7 @@
 //! The words of a command.
 ghost use Rattle.std.specs.Prelude.{◌≡◌, ◌≤◌, true, IfOk};
 ghost use Rattle.sequence_table.specs.Fits.{is_in_order};
+ghost use Rattle.rm_host.specs.Words.{is_node_name, is_of_node};
 
 use crate::end::End;
 use http_endpoint::read_target;
@@ -40,12 +41,26 @@ pub enum Command {
     Inbox { seq: u32 },
 }
 
-/// Whether a word is the name of a command.
-pub fn is_command(name: &str) -> bool {
-    matches!(
-        name,
-        "make" | "serve" | "send" | "push" | "close" | "end" | "inbox"
-    )
+/// Whether the words are those of a node's command, by the first of them.
+pub fn is_of_node(words: &[Blob]) -> bool
+    ensures { result ≡ is_of_node words.now }
+{
+    match words.split_first() {
+        Some((name, _)) => is_node_name(name.as_slice()),
+        None => false,
+    }
+}
+
+fn is_node_name(name: &[u8]) -> bool
+    ensures { result ≡ is_node_name name.now }
+{
+    name == b"make".as_slice()
+        || name == b"serve".as_slice()
+        || name == b"send".as_slice()
+        || name == b"push".as_slice()
+        || name == b"close".as_slice()
+        || name == b"end".as_slice()
+        || name == b"inbox".as_slice()
 }
 
 /// The command that the words ask for.

@@ -1,0 +1,52 @@
+//! One run for all commands, over any input and output, any stage, any disk, link and clock.
+ghost use Rattle.std.specs.Prelude.{◌≡◌, ◌↔◌, IfSome, false, true};
+ghost use Rattle.rm_command.specs.Edge.{edge_of};
+ghost use Rattle.rm_command.specs.Run.{AsksNothing, AsksReplay, IsStatusOf, Runs};
+ghost use Rattle.rm_command.specs.Stage.{KeepsWordAt, staged_of};
+ghost use Rattle.rm_command.specs.Status.{status_of};
+ghost use Rattle.rm_command.specs.declared.end.End.{End as AnEnd};
+ghost use Rattle.rm_host.specs.Words.{is_of_node};
+ghost use Rattle.rm_replay.specs.Shows.{IsFresh, scene_of};
+
+use rm_base::{Blob, Clock, Sink, Source};
+use rm_disk::{CrashDisk, Disk};
+use rm_host::{Host, is_of_node};
+use rm_link::Link;
+use rm_network::Wire;
+use rm_replay::Stage;
+use std::alloc::Global;
+
+/// Does what the words say, those after the program's name, and answers the exit status. The commands of one node are
+/// done over the host, and leave the stage; all others do as `rm_command` says.
+pub fn run<S: Source, K: Sink, M: CrashDisk, W: Wire, D: Disk, L: Link, C: Clock>(
+    alloc: Global,
+    words: &[Blob],
+    input: &mut S,
+    out: &mut K,
+    stage: &mut Stage<M, W>,
+    host: &mut Host<D, L, C>,
+) -> u8
+    requires fresh { IsFresh (scene_of M.told W.packets stage.old) }
+    requires silent { D.tells ≡ false }
+
+    // The headline, over every input and output, over every two disks and every wire.
+    ensures word { AsksReplay words.now → KeepsWordAt result
+        (staged_of M.told W.packets stage.old) (staged_of M.told W.packets stage.new) }
+
+    // What was done by words that are none of a node's, and which status comes of the bytes that the input tells.
+    ensures runs { is_of_node words.now ≡ false → (end : AnEnd) × (result ≡ status_of end)
+        × Runs words.now end (edge_of S.told K.told K.wants_memory input.old input.new out.old out.new)
+        (staged_of M.told W.packets stage.old) (staged_of M.told W.packets stage.new) }
+    ensures usage { is_of_node words.now ≡ false → ((result ≡ 2) ↔ AsksNothing words.now) }
+    ensures status { is_of_node words.now ≡ false
+        → IfSome (S.told input.old).left (λ bytes. IsStatusOf words.now bytes result) }
+
+    // The stage is for the others.
+    ensures stage { is_of_node words.now ≡ true → staged_of M.told W.packets stage.new
+        ≡ staged_of M.told W.packets stage.old }
+{
+    if is_of_node(words) {
+        return rm_host::run(alloc, words, input, out, host);
+    }
+    rm_command::run(alloc, words, input, out, stage)
+}
