@@ -151,7 +151,7 @@ module _ (one_tree : (bytes : List ℕ) (a b : written.Element) → IsDocument b
       → ReadsAs read bytes (Ok a) → ReadsAs read bytes (Err error) → ⊥
   differ read bytes a error r s = let same = same_reading read bytes (Ok a) (Err error) r s in cc
 
-  same_value : {A : Type 0} (read : Element → Result A WspError) (bytes : List ℕ) (a b : A)
+  pub same_value : {A : Type 0} (read : Element → Result A WspError) (bytes : List ℕ) (a b : A)
       → ReadsAs read bytes (Ok a) → ReadsAs read bytes (Ok b) → a ≡ b
   same_value read bytes a b r s = let same = same_reading read bytes (Ok a) (Ok b) r s in cc
 

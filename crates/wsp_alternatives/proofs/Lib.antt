@@ -2,6 +2,7 @@ pub mod OrderLemmas
 pub mod SetLemmas
 pub mod AdmitsLemmas
 pub mod MaskLemmas
+pub mod NamedLemmas
 pub mod BitLemmas
 pub mod StepLemmas
 pub mod LawLemmas

@@ -3,6 +3,7 @@ ghost use Rattle.std.specs.Prelude.{◌≡◌, ◌↔◌, ℕ, List, Ok, Err};
 ghost use Rattle.wsp_alternatives.specs.Finds.{FindsCommon, FindsNormal};
 ghost use Rattle.wsp_alternatives.specs.Laws.{AdmitSame};
 ghost use Rattle.wsp_alternatives.specs.Normal.{IsNormal};
+ghost use Rattle.wsp_alternatives.specs.Reading.{ReadsAs, policy_of};
 ghost use Rattle.wsp_alternatives.specs.Texts.{AreNamed, normal_text};
 ghost use Rattle.wsp_alternatives.specs.Tree.{Policy as ATree};
 ghost use Rattle.wsp_alternatives.specs.declared.error.WspError.{WspError as AnError};
@@ -10,6 +11,7 @@ ghost use Rattle.wsp_alternatives.specs.declared.error.WspError.TheVariants.{Mem
 ghost use Rattle.wsp_alternatives.specs.declared.term.Term.{Term as ATerm};
 
 use soap_document::laws::one_tree;
+use soap_stripped::laws::elements_may_be_written;
 
 /// A policy has one normal form at most, and two policies have the same exactly where they admit the same sets.
 pub fn normal_forms_tell()
@@ -23,6 +25,18 @@ pub fn normal_texts_tell()
     ensures { (p q : ATree) (list other : List (List ATerm)) → IsNormal p list → IsNormal q other → AreNamed list
         → AreNamed other → (normal_text list ≡ normal_text other) ↔ AdmitSame p q }
 {}
+
+/// Where normal forms are found of the bytes of two policies, their texts are one exactly where both policies admit the
+/// same sets: what was read is named as documents name elements.
+pub fn texts_of_what_is_read_tell()
+    ensures named { (bytes : List ℕ) (lists : List (List ATerm)) → FindsNormal bytes (Ok lists) → AreNamed lists }
+    ensures tell { (one other : List ℕ) (p q : ATree) (lists others : List (List ATerm)) → ReadsAs policy_of one (Ok p)
+        → ReadsAs policy_of other (Ok q) → FindsNormal one (Ok lists) → FindsNormal other (Ok others)
+        → (normal_text lists ≡ normal_text others) ↔ AdmitSame p q }
+{
+    one_tree();
+    elements_may_be_written();
+}
 
 /// Of bytes of which alternatives are found, by either call, nothing is refused but for a want of memory.
 pub fn what_is_found_is_not_refused()
