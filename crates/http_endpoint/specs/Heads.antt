@@ -1,6 +1,6 @@
 -- What the heads of requests and responses say, and what is done with them.
-use Rattle.std.specs.Prelude.{◌≡◌, ℕ, ◌⊎◌, ⊤, ◌-◌, ◌^◌, Bool, true, false, not, ◌||◌, map, length, codes, bytes_eq, Result}
-use Rattle.std.specs.Prelude.{Ok, Err, if◌then◌else◌, nat_lt}
+use Rattle.std.specs.Prelude.{◌≡◌, ℕ, ◌⊎◌, ⊤, ◌-◌, ◌^◌, Bool, true, false, not, ◌||◌, map, length, codes, bytes_eq}
+use Rattle.std.specs.Prelude.{Result, Ok, Err, if◌then◌else◌, nat_lt}
 use Rattle.httparse.specs.Grammar.{RequestHead, ReadsRequest, ResponseHead, ReadsResponse, status_code}
 use Rattle.httparse.specs.Spans.{name_and_value}
 use Rattle.http1.specs.Fields.{known_fields}

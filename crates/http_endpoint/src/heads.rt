@@ -2,9 +2,9 @@
 ghost use Rattle.std.specs.Prelude.{◌≡◌, codes, bytes_eq, IfErr};
 ghost use Rattle.httparse.specs.Grammar.{MayBecomeRequest, MayBecomeResponse};
 ghost use Rattle.http_endpoint.specs.Ends.{ends_head};
-ghost use Rattle.http_endpoint.specs.Heads.{ReadsRequestFacts, ReadsResponseFacts, is_misframed, is_bad};
+ghost use Rattle.http_endpoint.specs.Heads.{ReadsRequestFacts, ReadsResponseFacts, is_absent, is_misframed, is_bad};
 ghost use Rattle.http_endpoint.specs.Heads.{is_otherwise_coded, framing_or, verdict, response_framing, IsRefusal};
-ghost use Rattle.http_endpoint.specs.HeadLaws.{request-grows, response-grows};
+ghost use Rattle.http_endpoint.specs.HeadLaws.{request-grows, request-tells, response-grows, response-tells};
 
 use crate::body::{FIELD_LIMIT, Framing};
 use crate::error::HttpError;

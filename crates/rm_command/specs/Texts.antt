@@ -11,7 +11,7 @@ use Rattle.rm_command.specs.declared.end.Fault.TheVariants.{NotUnderstood, Cardi
 use Rattle.rm_command.specs.declared.end.Fault.TheVariants.{Malformed, Rollover, SecurityUnsupported}
 use Rattle.rm_command.specs.declared.end.Fault.TheVariants.{TooLarge, TooManyTerms, TooManyAlternatives}
 
--- the name of what keeps bytes from being what a command reads: that of the kind of a message's refusal, where it is one
+-- the name of what keeps bytes from being what a command reads: of the kind of a message's refusal, where it is one
 abbrev pub fault_name : Fault → List ℕ
 fault_name NotUtf8 = kind_name kinds.NotUtf8
 fault_name NotProfile = kind_name kinds.NotProfile

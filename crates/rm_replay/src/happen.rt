@@ -6,7 +6,7 @@ ghost use Rattle.rm_protocol.specs.Terms.{Terms};
 ghost use Rattle.rm_protocol.specs.World.{Side as Place, World, node, other as other_of};
 ghost use Rattle.rm_script.specs.Within.{IsWithin};
 ghost use Rattle.sequence_table.specs.Fits.{is_in_order};
-ghost use Rattle.node_actor.specs.Asked.{Asked, Asks, MayBeAsked};
+ghost use Rattle.rm_node.specs.Asked.{Asked, Asks, MayBeAsked};
 ghost use Rattle.rm_replay.specs.Asked.{WereAsked, step_of};
 ghost use Rattle.rm_replay.specs.Happening.{Crashes, Happens, Moves, WereAskedFor, armed, granted, told_of};
 ghost use Rattle.rm_replay.specs.Meaning.{side_of};

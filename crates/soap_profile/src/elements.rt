@@ -1,5 +1,6 @@
 //! Elements in order, which contracts see as a list of trees.
-ghost use Rattle.std.specs.Prelude.{◌≡◌, [], ◌∷◌, ◌++◌, ◌↔◌, length, map, option_map, slice_get, IsTrue, IfOk, OnOk, OnErr};
+ghost use Rattle.std.specs.Prelude.{◌≡◌, [], ◌∷◌, ◌++◌, ◌↔◌, length, map, option_map, slice_get};
+ghost use Rattle.std.specs.Prelude.{IsTrue, IfOk, OnOk, OnErr};
 ghost use Rattle.soap_profile.specs.View.{element_view};
 
 use crate::copies::copy_element;

@@ -1,7 +1,7 @@
 //! Expanded names.
 ghost use Rattle.std.specs.Prelude.{◌≡◌, IsTrue, ◌↔◌, IfOk};
 ghost use Rattle.std.specs.Str.{bytes_eq};
-ghost use Rattle.soap_document.specs.Tokens.{is_nil};
+ghost use Rattle.soap_lex.specs.Tests.{is_nil};
 ghost use Rattle.soap_profile.specs.Namespaces.{xml_space};
 
 use crate::names::XML_SPACE;
