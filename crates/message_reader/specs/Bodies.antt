@@ -14,6 +14,9 @@ use Rattle.rm_elements.specs.Lifecycle.{lifecycle_of}
 use Rattle.rm_elements.specs.Outcome.{rm, mc}
 use Rattle.rm_elements.specs.declared.error.ElementError.{ElementError}
 use Rattle.rm_elements.specs.declared.lifecycle.Lifecycle.{Lifecycle}
+use Rattle.rm_message.specs.Actions.{create_sequence, create_sequence_response, close_sequence}
+use Rattle.rm_message.specs.Actions.{close_sequence_response, terminate_sequence, terminate_sequence_response}
+use Rattle.rm_message.specs.Actions.{ack_requested, sequence_acknowledgement, wsrm_fault, make_connection}
 use Rattle.rm_message.specs.declared.message.Body.{Body}
 use Rattle.rm_message.specs.declared.message.Body.TheVariants as bodies
 use Rattle.message_reader.specs.Faults.{fault_in}
@@ -31,27 +34,18 @@ fault_at soap numbered parts = if numbered then None else if_fault soap (first_o
 -- WS-MakeConnection 1.1, 3.2)
 abbrev pub element_for : List ℕ → Option Expanded
 element_for action =
-    if bytes_eq action (codes "http://docs.oasis-open.org/ws-rx/wsrm/200702/CreateSequence")
-    then Some (rm (codes "CreateSequence"))
-    else if bytes_eq action (codes "http://docs.oasis-open.org/ws-rx/wsrm/200702/CreateSequenceResponse")
-    then Some (rm (codes "CreateSequenceResponse"))
-    else if bytes_eq action (codes "http://docs.oasis-open.org/ws-rx/wsrm/200702/CloseSequence")
-    then Some (rm (codes "CloseSequence"))
-    else if bytes_eq action (codes "http://docs.oasis-open.org/ws-rx/wsrm/200702/CloseSequenceResponse")
-    then Some (rm (codes "CloseSequenceResponse"))
-    else if bytes_eq action (codes "http://docs.oasis-open.org/ws-rx/wsrm/200702/TerminateSequence")
-    then Some (rm (codes "TerminateSequence"))
-    else if bytes_eq action (codes "http://docs.oasis-open.org/ws-rx/wsrm/200702/TerminateSequenceResponse")
-    then Some (rm (codes "TerminateSequenceResponse"))
-    else if bytes_eq action (codes "http://docs.oasis-open.org/ws-rx/wsmc/200702/MakeConnection")
-    then Some (mc (codes "MakeConnection")) else None
+    if bytes_eq action create_sequence then Some (rm (codes "CreateSequence"))
+    else if bytes_eq action create_sequence_response then Some (rm (codes "CreateSequenceResponse"))
+    else if bytes_eq action close_sequence then Some (rm (codes "CloseSequence"))
+    else if bytes_eq action close_sequence_response then Some (rm (codes "CloseSequenceResponse"))
+    else if bytes_eq action terminate_sequence then Some (rm (codes "TerminateSequence"))
+    else if bytes_eq action terminate_sequence_response then Some (rm (codes "TerminateSequenceResponse"))
+    else if bytes_eq action make_connection then Some (mc (codes "MakeConnection")) else None
 
 -- the actions of messages whose Body says nothing (WS-ReliableMessaging 1.2, 3.8, 3.9 and 4)
 abbrev pub is_bare : List ℕ → Bool
 is_bare action =
-    bytes_eq action (codes "http://docs.oasis-open.org/ws-rx/wsrm/200702/SequenceAcknowledgement")
-    || bytes_eq action (codes "http://docs.oasis-open.org/ws-rx/wsrm/200702/AckRequested")
-    || bytes_eq action (codes "http://docs.oasis-open.org/ws-rx/wsrm/200702/fault")
+    bytes_eq action sequence_acknowledgement || bytes_eq action ack_requested || bytes_eq action wsrm_fault
 
 -- the nine actions of WS-ReliableMessaging, and that of MakeConnection
 abbrev pub is_protocol : List ℕ → Bool

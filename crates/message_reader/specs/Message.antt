@@ -15,6 +15,7 @@ use Rattle.wsa_headers.specs.declared.error.AddressingError.{AddressingError}
 use Rattle.wsa_headers.specs.declared.error.AddressingError.TheVariants as errors
 use Rattle.rm_elements.specs.declared.header.AckBlock.{AckBlock}
 use Rattle.rm_elements.specs.declared.header.SeqHeader.{SeqHeader}
+use Rattle.rm_message.specs.Actions.{create_sequence}
 use Rattle.rm_message.specs.declared.message.Message.{Message}
 use Rattle.message_reader.specs.Blocks.{has_block, not_understood}
 use Rattle.message_reader.specs.Bodies.{fault_at, body_in}
@@ -39,8 +40,7 @@ pub data Wrong : Type 0 where
 
 -- an action is that of CreateSequence
 abbrev pub is_create : Option (Option (List ℕ)) → Bool
-is_create (Some (Some action)) =
-    bytes_eq action (codes "http://docs.oasis-open.org/ws-rx/wsrm/200702/CreateSequence")
+is_create (Some (Some action)) = bytes_eq action create_sequence
 is_create _ = false
 
 -- the message has a number in a sequence

@@ -21,6 +21,7 @@ use Rattle.rm_message.specs.declared.message.Message.{Message}
 use Rattle.rm_message.specs.declared.refusal.FaultKind.{FaultKind}
 use Rattle.rm_message.specs.declared.refusal.FaultKind.TheVariants as kinds
 use Rattle.rm_message.specs.declared.refusal.Refusal.{Refusal}
+use Rattle.rm_message.specs.Actions.{wsrm_fault, wsmc_fault, addressing_fault, soap_fault}
 use Rattle.rm_message.specs.Kinds.{kind_name}
 
 -- ---- the table
@@ -83,10 +84,10 @@ table kinds.StoreFull = plain (kind_name kinds.StoreFull) Receiver
 -- the action of faults of a vocabulary: SOAP Binding, section 6.2, WS-ReliableMessaging 1.2, section 4, and
 -- WS-MakeConnection 1.1, section 4; those of SOAP have that of SOAP Binding, section 6.1
 abbrev pub fault_action : Vocabulary → List ℕ
-fault_action OfSoap = codes "http://www.w3.org/2005/08/addressing/soap/fault"
-fault_action OfAddressing = codes "http://www.w3.org/2005/08/addressing/fault"
-fault_action OfMessaging = codes "http://docs.oasis-open.org/ws-rx/wsrm/200702/fault"
-fault_action OfConnection = codes "http://docs.oasis-open.org/ws-rx/wsmc/200702/fault"
+fault_action OfSoap = soap_fault
+fault_action OfAddressing = addressing_fault
+fault_action OfMessaging = wsrm_fault
+fault_action OfConnection = wsmc_fault
 
 -- its namespace
 abbrev pub space_of : Vocabulary → List ℕ

@@ -21,6 +21,9 @@ use Rattle.rm_elements.specs.Writable.{IsSequenceWritable, IsAckWritable, IsLife
 use Rattle.rm_elements.specs.declared.header.SeqHeader.{SeqHeader}
 use Rattle.rm_elements.specs.declared.lifecycle.Lifecycle.{Lifecycle}
 use Rattle.rm_elements.specs.declared.lifecycle.Lifecycle.TheVariants as life
+use Rattle.rm_message.specs.Actions.{create_sequence, create_sequence_response, close_sequence}
+use Rattle.rm_message.specs.Actions.{close_sequence_response, terminate_sequence, terminate_sequence_response}
+use Rattle.rm_message.specs.Actions.{ack_requested, sequence_acknowledgement, wsrm_fault, make_connection}
 use Rattle.rm_message.specs.declared.message.Body.{Body}
 use Rattle.rm_message.specs.declared.message.Body.TheVariants as body
 use Rattle.rm_message.specs.declared.message.FaultBody.{FaultBody}
@@ -73,32 +76,23 @@ body_parts soap (body.Fault f) rules = child (node_tree soap (fault_node f)) non
 
 -- the action of a body element (WS-ReliableMessaging 1.2, 3.4 to 3.6; WS-MakeConnection 1.1, 3.2)
 abbrev pub action_for : Lifecycle → List ℕ
-action_for (life.Create x) = codes "http://docs.oasis-open.org/ws-rx/wsrm/200702/CreateSequence"
-action_for (life.CreateResponse x) = codes "http://docs.oasis-open.org/ws-rx/wsrm/200702/CreateSequenceResponse"
-action_for (life.Close x) = codes "http://docs.oasis-open.org/ws-rx/wsrm/200702/CloseSequence"
-action_for (life.CloseResponse ident) = codes "http://docs.oasis-open.org/ws-rx/wsrm/200702/CloseSequenceResponse"
-action_for (life.Terminate x) = codes "http://docs.oasis-open.org/ws-rx/wsrm/200702/TerminateSequence"
-action_for (life.TerminateResponse ident) =
-    codes "http://docs.oasis-open.org/ws-rx/wsrm/200702/TerminateSequenceResponse"
-action_for (life.Make x) = codes "http://docs.oasis-open.org/ws-rx/wsmc/200702/MakeConnection"
+action_for (life.Create x) = create_sequence
+action_for (life.CreateResponse x) = create_sequence_response
+action_for (life.Close x) = close_sequence
+action_for (life.CloseResponse ident) = close_sequence_response
+action_for (life.Terminate x) = terminate_sequence
+action_for (life.TerminateResponse ident) = terminate_sequence_response
+action_for (life.Make x) = make_connection
 
 -- the actions of messages whose Body says nothing (WS-ReliableMessaging 1.2, 3.8, 3.9 and 4)
 abbrev pub bare_actions : List (List ℕ)
-bare_actions =
-    codes "http://docs.oasis-open.org/ws-rx/wsrm/200702/SequenceAcknowledgement"
-    ∷ codes "http://docs.oasis-open.org/ws-rx/wsrm/200702/AckRequested"
-    ∷ codes "http://docs.oasis-open.org/ws-rx/wsrm/200702/fault" ∷ []
+bare_actions = sequence_acknowledgement ∷ ack_requested ∷ wsrm_fault ∷ []
 
 -- all actions of the protocol
 abbrev pub protocol_actions : List (List ℕ)
 protocol_actions =
-    codes "http://docs.oasis-open.org/ws-rx/wsrm/200702/CreateSequence"
-    ∷ codes "http://docs.oasis-open.org/ws-rx/wsrm/200702/CreateSequenceResponse"
-    ∷ codes "http://docs.oasis-open.org/ws-rx/wsrm/200702/CloseSequence"
-    ∷ codes "http://docs.oasis-open.org/ws-rx/wsrm/200702/CloseSequenceResponse"
-    ∷ codes "http://docs.oasis-open.org/ws-rx/wsrm/200702/TerminateSequence"
-    ∷ codes "http://docs.oasis-open.org/ws-rx/wsrm/200702/TerminateSequenceResponse"
-    ∷ codes "http://docs.oasis-open.org/ws-rx/wsmc/200702/MakeConnection" ∷ bare_actions
+    create_sequence ∷ create_sequence_response ∷ close_sequence ∷ close_sequence_response ∷ terminate_sequence
+    ∷ terminate_sequence_response ∷ make_connection ∷ bare_actions
 
 -- CreateSequence has a MessageID
 abbrev pub HasItsId : Lifecycle → Option (List ℕ) → Type 0
