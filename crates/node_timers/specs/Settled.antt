@@ -1,4 +1,4 @@
--- What becomes of the keys of one sequence.
+-- What becomes of the keys of some sequences.
 use Rattle.std.specs.Prelude.{◌<◌, length, ◌≡◌, ℕ, ◌==◌, ◌||◌, not, Bool, true, List, [], ◌∷◌, ◌++◌, filter, Option}
 use Rattle.std.specs.Prelude.{Some, None, if◌then◌else◌}
 use Rattle.std.specs.List.{AllByRecursion, list_any}
@@ -17,7 +17,7 @@ use Rattle.sequence_table.specs.Makers.{Maker}
 abbrev pub is_kept : List Fact → ℕ → Key → Bool
 is_kept r s k = not (k.seq == s) || is_waiting r k
 
--- those of a list
+-- of a list, those whose key is kept
 abbrev pub settled : List Fact → ℕ → List Wait → List Wait
 settled r s waits = filter (λ (w : Wait). is_kept r s w.key) waits
 
@@ -30,7 +30,7 @@ abbrev pub own_of : ℕ → Option Key → Option Key
 own_of s None = None
 own_of s (Some k) = if k.seq == s then Some k else None
 
--- how many keys a sequence has that was made so, or wasn't made
+-- how many keys a sequence has that was made so; none where it wasn't made
 abbrev pub count_of : List Fact → ℕ → Option Maker → ℕ
 count_of r s None = 0
 count_of r s (Some m) = key_count r s m
@@ -45,8 +45,9 @@ abbrev pub cells_all : List Fact → List ℕ → List Cell → List Cell
 cells_all r [] cells = cells
 cells_all r (s ∷ touched) cells = cells_all r touched (settled_cells r s cells)
 
--- What a call makes of those that wait: in these sequences what no longer waits is gone; what begins to wait is put
--- last in class 0, and emitted in the end; what is wanted at once is put last in class 0; and these keys are emitted.
+-- What a call makes of those that wait: in these sequences what doesn't wait by the records is gone; then the key that
+-- begins to wait is put last in class 0, where there is one; then each that is wanted at once; and then the one that
+-- began is emitted, and these keys are.
 abbrev pub changed : List Fact → List ℕ → Option Key → List Key → List Key → ℕ → List Wait → List Wait
 changed r touched begun urged emitted time waits =
     send_all time (option_to_list begun ++ emitted)
@@ -56,16 +57,16 @@ changed r touched begun urged emitted time waits =
 abbrev pub AreTouched : List ℕ → List Fact → Type 0
 AreTouched touched delta = AllByRecursion (λ (f : Fact). list_any (λ (s : ℕ). names f == s) touched ≡ true) delta
 
--- where all that waited did so by the records before, and the new records name these sequences, exactly what no longer
--- waits is gone
+-- where all that waited did so by the records before, and the new records name these sequences, what is left is
+-- exactly what waits by all records, in its order
 abbrev pub OnlyTheTouched : Type 0
 OnlyTheTouched =
     (r delta : List Fact) (touched : List ℕ) (waits : List Wait) → all_fit r delta ≡ true → AreTouched touched delta
     → AllByRecursion (λ (w : Wait). is_waiting r w.key ≡ true) waits
     → settled_all (r ++ delta) touched waits ≡ still (r ++ delta) waits
 
--- Where each key of some cells is among others, and one more key too that has no cell, there are fewer cells than
--- these.
+-- Where no key has two of some cells, each key that has one is among some keys, and so is one more that has none, there
+-- are fewer cells than keys.
 abbrev pub OneMoreHasRoom : Type 0
 OneMoreHasRoom =
     (cells : List Cell) (keys : List Key) (key : Key) → Once cells

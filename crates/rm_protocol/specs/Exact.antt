@@ -1,4 +1,4 @@
--- The keys that wait at a node are exactly those that wait by its records.
+-- The keys that wait at a node are, as a set, exactly those that wait by its records.
 use Rattle.std.specs.List.{AllByRecursion}
 use Rattle.sequence_table.specs.Told.{names, sending}
 use Rattle.std.specs.Prelude.{◌≡◌, ◌≢◌, ◌⊎◌, ℕ, ◌≤◌, length, true, List, [], ◌∷◌, ◌++◌}
@@ -28,7 +28,8 @@ WhatBeginsWaits =
     (r : List Fact) (f : Fact) (k : Key) → all_fit [] r ≡ true → fits r f ≡ true
     → has_key (begun_of r f) k ≡ true → is_waiting (r ++ f ∷ []) k ≡ true
 
--- what waits has exactly the keys that wait by the records
+-- a key is among those of what waits where it waits by the records, and nowhere else: they are the same set, and of the
+-- order, and of how often a key stands there, nothing is said
 abbrev pub AreExactly : List Fact → List Wait → Type 0
 AreExactly r waits = (k : Key) → has_key (keys_of waits) k ≡ is_waiting r k
 

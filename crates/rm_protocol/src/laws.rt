@@ -200,7 +200,8 @@ pub fn what_begins_waits()
     ensures { WhatBeginsWaits }
 {}
 
-/// What waits has exactly the keys that wait by the records: after a mount, and after each call as before it.
+/// The keys of what waits are, as a set, exactly those that wait by the records: after a mount, and after each call as
+/// before it, where what begins with its records waits by all of them.
 pub fn what_waits_stays_exact()
     ensures mounted { IsExactAtFirst }
     ensures after { StaysExact }
