@@ -2,6 +2,7 @@
 ghost use Rattle.std.specs.Prelude.{◌≡◌, ℕ, ◌<◌, ◌≤◌, ◌∷◌, ◌++◌, [], true, List, None, Some, max, slice_get};
 ghost use Rattle.std.specs.Prelude.{IfOk, length, if◌then◌else◌};
 ghost use Rattle.std.specs.List.{AllByRecursion, insert, remove};
+ghost use Rattle.rm_base.specs.Limits.{most_keys, now_max};
 ghost use Rattle.rm_timers.specs.declared.timers.Key.{Key};
 ghost use Rattle.key_timers.specs.Keyed.{Steps, StandsFor, IsGap, IsPlace, Rises, slot_at, cell_at, is_before};
 ghost use Rattle.key_timers.specs.Keyed.{keys_in};
@@ -9,11 +10,13 @@ ghost use Rattle.key_timers.specs.Waits.{Wait, begun, due_at, fresh, keys_of, sa
 
 use crate::cells::{Cell, find, place_of, put};
 use rm_base::Memory;
+use rm_base::limits::MOST_KEYS;
 use rm_timers::{Key, Timers, live_is_waiting};
 use std::alloc::Global;
 use std::marker::Model;
 
-/// The keys that wait to be emitted, at most 4352, each found in about twelve steps. After `new` no call takes memory.
+/// The keys that wait to be emitted, at most `MOST_KEYS`, each found in about twelve steps. After `new` no call takes
+/// memory.
 #[derive(Debug, Drop)]
 pub struct KeyTimers {
     timers: Timers,
@@ -43,7 +46,7 @@ impl KeyTimers {
     {
         Ok(KeyTimers {
             timers: Timers::new(alloc)?,
-            cells: Vec::with_capacity(alloc, 4352)?,
+            cells: Vec::with_capacity(alloc, MOST_KEYS as usize)?,
             time: 0,
         })
     }
@@ -57,7 +60,7 @@ impl KeyTimers {
 
     /// The time is at least this from now on.
     pub fn advance(&mut self, now: u64)
-        requires { now ≤ 200000000000000 }
+        requires { now ≤ now_max }
         ensures waits { Steps self.old self.new (λ waits. waits) }
         ensures cells { self.new.cells ≡ self.old.cells }
         ensures rising { Rises self.new.cells }
@@ -69,7 +72,7 @@ impl KeyTimers {
     /// A new key begins to wait, last and due at once.
     fn put_new(&mut self, place: usize, key: Key)
         requires place { IsGap self.old.cells key place }
-        requires spare { length self.old.cells < 4352 }
+        requires spare { length self.old.cells < most_keys }
         ensures waits { Steps self.old self.new (begun key) }
         ensures cells { (slot : ℕ)
             × (self.new.cells ≡ insert self.old.cells place (record { key = key; slot = slot })) }
@@ -98,8 +101,8 @@ impl KeyTimers {
         ensures waits { Steps self.old self.new (without key) }
         ensures cells { (other : Key) → slot_at self.new.cells other
             ≡ (if same_key key other then None else slot_at self.old.cells other) }
-        ensures fewer { (slot_at self.old.cells key ≡ None → length self.old.cells < 4352)
-            → length self.new.cells < 4352 }
+        ensures fewer { (slot_at self.old.cells key ≡ None → length self.old.cells < most_keys)
+            → length self.new.cells < most_keys }
         ensures time { self.new.time ≡ self.old.time }
     {
         match find(self.cells.as_slice(), key) {
@@ -110,7 +113,7 @@ impl KeyTimers {
 
     /// The key begins to wait, also where it waited already: last in class 0, due at once.
     pub fn begin(&mut self, key: Key)
-        requires spare { slot_at self.old.cells key ≡ None → length self.old.cells < 4352 }
+        requires spare { slot_at self.old.cells key ≡ None → length self.old.cells < most_keys }
         ensures waits { Steps self.old self.new (begun key) }
         ensures cells { (slot : ℕ) × ((other : Key) → slot_at self.new.cells other
             ≡ (if same_key key other then Some slot else slot_at self.old.cells other)) }
@@ -126,7 +129,7 @@ impl KeyTimers {
     /// A key that comes behind all others begins to wait.
     pub fn begin_last(&mut self, key: Key)
         requires last { AllByRecursion (λ (k : Key). is_before k key ≡ true) (keys_in self.old.cells) }
-        requires spare { length self.old.cells < 4352 }
+        requires spare { length self.old.cells < most_keys }
         ensures waits { Steps self.old self.new (λ waits. waits ++ fresh (key ∷ [])) }
         ensures keys { keys_in self.new.cells ≡ keys_in self.old.cells ++ key ∷ [] }
         ensures time { self.new.time ≡ self.old.time }
@@ -164,7 +167,7 @@ impl KeyTimers {
     /// The key at a place, counted from 0, among those that are due now, by class and then by the order of the last
     /// move.
     pub fn due(&self, now: u64, k: u32) -> Option<Key>
-        requires { now ≤ 200000000000000 }
+        requires { now ≤ now_max }
         ensures { (waits : List Wait) → StandsFor self.now waits →
             result ≡ slice_get (keys_of (due_at (max self.now.time now) waits)) k }
     {
@@ -182,7 +185,7 @@ impl KeyTimers {
     /// The key at a place, by sequence and number.
     pub fn key_at(&self, place: usize) -> Option<Key>
         ensures key { result ≡ slice_get (keys_in self.now.cells) place }
-        ensures few { length self.now.cells ≤ 4352 }
+        ensures few { length self.now.cells ≤ most_keys }
     {
         match self.cells.get(place) {
             Some(cell) => Some(cell.key),

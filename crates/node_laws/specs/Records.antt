@@ -82,4 +82,4 @@ MadeIsKept =
 
 -- at most so many keys wait at a node: its messages that are not acknowledged, and a request of each sequence
 abbrev pub HasRoomForKeys : Type 0
-HasRoomForKeys = (r : List Fact) → IsKept r → length (waiting_keys r) ≤ 4352
+HasRoomForKeys = (r : List Fact) → IsKept r → length (waiting_keys r) ≤ limits.most_keys

@@ -74,7 +74,7 @@ pub fn written_scope_is_the_frames()
     ensures { written_scope ≡ sorted_scope soap_space }
 {}
 
-/// At most 4352 keys wait at a node.
+/// At most `MOST_KEYS` keys wait at a node.
 pub fn a_node_has_room_for_its_keys()
     ensures { HasRoomForKeys }
 {

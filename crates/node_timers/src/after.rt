@@ -3,6 +3,7 @@ ghost use Rattle.std.specs.Prelude.{◌≡◌, ◌<◌, length, IfSome, None};
 ghost use Rattle.std.specs.Option.{option_to_list};
 ghost use Rattle.key_timers.specs.Keyed.{Steps, slot_at};
 ghost use Rattle.key_timers.specs.Waits.{begin_all, send_all};
+ghost use Rattle.rm_base.specs.Limits.{most_keys};
 ghost use Rattle.node_timers.specs.Settled.{cells_all, changed, settled_all};
 
 use crate::moves::{emit_all, urge_all};
@@ -23,7 +24,7 @@ fn settle_all(timers: &mut KeyTimers, tables: &Tables, touched: &[u32])
 }
 
 fn begin_some(timers: &mut KeyTimers, begun: Option<Key>)
-    requires { IfSome begun (λ key. slot_at timers.old.cells key ≡ None → length timers.old.cells < 4352) }
+    requires { IfSome begun (λ key. slot_at timers.old.cells key ≡ None → length timers.old.cells < most_keys) }
     ensures waits { Steps timers.old timers.new (begin_all (option_to_list begun)) }
     ensures time { timers.new.time ≡ timers.old.time }
 {
@@ -55,7 +56,7 @@ pub fn after_call(
     emitted: &[Key],
 )
     requires spare { IfSome begun (λ key. slot_at (cells_all tables.now.records touched.now timers.old.cells) key ≡ None
-        → length (cells_all tables.now.records touched.now timers.old.cells) < 4352) }
+        → length (cells_all tables.now.records touched.now timers.old.cells) < most_keys) }
     ensures waits { Steps timers.old timers.new
         (changed tables.now.records touched.now begun urged.now emitted.now timers.old.time) }
     ensures time { timers.new.time ≡ timers.old.time }

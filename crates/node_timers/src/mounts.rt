@@ -3,6 +3,7 @@ ghost use Rattle.std.specs.Prelude.{◌≡◌, ◌≤◌, ◌+◌, [], length};
 ghost use Rattle.key_timers.specs.Keyed.{keys_in};
 ghost use Rattle.node_timers.specs.Filled.{AllBefore, Filled, own_waiting};
 ghost use Rattle.node_timers.specs.Settled.{count_of as count_of_made};
+ghost use Rattle.rm_base.specs.Limits.{most_keys};
 ghost use Rattle.rm_protocol.specs.Waiting.{key as key_of, waiting_keys};
 ghost use Rattle.sequence_table.specs.Makers.{maker};
 
@@ -26,7 +27,7 @@ fn count_of(tables: &Tables, seq: u32) -> u64
 /// A key begins to wait, behind all others, where it waits by the records.
 fn begin_waiting(timers: &mut KeyTimers, tables: &Tables, seq: u32, number: u64)
     requires before { AllBefore (keys_in timers.old.cells) (key_of seq number) }
-    requires few { length (keys_in timers.old.cells) + length (own_waiting tables.now.records seq number 1) ≤ 4352 }
+    requires few { length (keys_in timers.old.cells) + length (own_waiting tables.now.records seq number 1) ≤ most_keys }
     ensures filled { Filled timers.old timers.new (own_waiting tables.now.records seq number 1) }
     ensures before { AllBefore (keys_in timers.new.cells) (key_of seq (number + 1)) }
 {
@@ -39,7 +40,7 @@ fn begin_waiting(timers: &mut KeyTimers, tables: &Tables, seq: u32, number: u64)
 /// Of the keys of one sequence, so many, those that wait by the records begin to wait, behind all others.
 fn fill_one(timers: &mut KeyTimers, tables: &Tables, seq: u32, count: u64)
     requires before { AllBefore (keys_in timers.old.cells) (key_of seq 0) }
-    requires few { length (keys_in timers.old.cells) + length (own_waiting tables.now.records seq 0 count) ≤ 4352 }
+    requires few { length (keys_in timers.old.cells) + length (own_waiting tables.now.records seq 0 count) ≤ most_keys }
     ensures filled { Filled timers.old timers.new (own_waiting tables.now.records seq 0 count) }
     ensures before { AllBefore (keys_in timers.new.cells) (key_of (seq + 1) 0) }
 {
@@ -52,7 +53,7 @@ fn fill_one(timers: &mut KeyTimers, tables: &Tables, seq: u32, count: u64)
 /// 256 sequences, and at most 4096 messages that are not acknowledged.
 pub fn fill(timers: &mut KeyTimers, tables: &Tables)
     requires empty { timers.old.cells ≡ [] }
-    requires few { length (waiting_keys tables.now.records) ≤ 4352 }
+    requires few { length (waiting_keys tables.now.records) ≤ most_keys }
     ensures filled { Filled timers.old timers.new (waiting_keys tables.now.records) }
 {
     for before in 0..tables.len() {

@@ -1,5 +1,6 @@
 //! What a tick emits, and what a Nack wants.
 ghost use Rattle.std.specs.Prelude.{◌≡◌, ◌≤◌, IfOk, List, max};
+ghost use Rattle.rm_base.specs.Limits.{now_max};
 ghost use Rattle.key_timers.specs.Keyed.{Steps, StandsFor};
 ghost use Rattle.key_timers.specs.Waits.{Wait, first_due, send_all, urge_all as urge_all_of};
 
@@ -10,7 +11,7 @@ use std::alloc::Global;
 
 /// The first 64 keys that are due, by class and then by the order of the last move.
 pub fn due_keys(alloc: Global, timers: &KeyTimers, now: u64) -> Result<Vec<Key>, Memory>
-    requires { now ≤ 200000000000000 }
+    requires { now ≤ now_max }
     ensures { (waits : List Wait) → StandsFor timers.now waits
         → IfOk result (λ keys. keys.items ≡ first_due (max timers.now.time now) waits) }
 {

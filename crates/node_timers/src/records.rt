@@ -1,6 +1,7 @@
 //! The keys of one sequence, after records were added.
 ghost use Rattle.std.specs.Prelude.{◌≡◌, ◌≤◌, length, slice_get};
 ghost use Rattle.key_timers.specs.Keyed.{Steps, keys_in};
+ghost use Rattle.rm_base.specs.Limits.{most_keys};
 ghost use Rattle.node_timers.specs.Settled.{own_of, settled, settled_cells};
 
 use crate::waiting::waits;
@@ -11,7 +12,7 @@ use rm_timers::Key;
 /// The key at a place, where it is of this sequence.
 fn own_key(timers: &KeyTimers, place: usize, seq: u32) -> Option<Key>
     ensures key { result ≡ own_of seq (slice_get (keys_in timers.now.cells) place) }
-    ensures few { length timers.now.cells ≤ 4352 }
+    ensures few { length timers.now.cells ≤ most_keys }
 {
     match timers.key_at(place) {
         Some(key) => {

@@ -15,6 +15,10 @@ most_sequences = 256
 abbrev pub most_unacked : ℕ
 most_unacked = 4096
 
+-- the most keys that wait to be emitted: messages that are unacknowledged, and a request of each sequence
+abbrev pub most_keys : ℕ
+most_keys = 4352
+
 -- the most bytes of a journal
 abbrev pub journal_bytes : ℕ
 journal_bytes = 268435456
@@ -34,14 +38,6 @@ payload_bytes = 1048576
 -- of a script
 abbrev pub script_bytes : ℕ
 script_bytes = 16777216
-
--- of an address
-abbrev pub uri_bytes : ℕ
-uri_bytes = 2048
-
--- of an identifier
-abbrev pub ident_bytes : ℕ
-ident_bytes = 512
 
 -- of all reference parameters of an endpoint together
 abbrev pub parameter_bytes : ℕ

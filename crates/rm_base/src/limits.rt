@@ -10,6 +10,9 @@ pub const MOST_SEQUENCES: u32 = 256;
 /// The most messages of a node that are unacknowledged.
 pub const MOST_UNACKED: u64 = 4096;
 
+/// The most keys that wait to be emitted: messages that are unacknowledged, and a request of each sequence.
+pub const MOST_KEYS: u32 = 4352;
+
 /// The most bytes of a journal.
 pub const JOURNAL_BYTES: u64 = 268435456;
 

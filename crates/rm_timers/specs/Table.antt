@@ -35,7 +35,7 @@ pub record IsTiedItem (cells : List Cell) (class : ℕ) (item : Item) : Type 0 w
 pub record IsTied (lists : List (List Item)) (cells : List Cell) : Type 0 where
   pub seven : length lists ≡ 7
   pub each : (l : ℕ) → l < 7 → Each (IsTiedItem cells l) (list_at lists l)
-  pub small : length cells ≡ 4352
+  pub small : length cells ≡ limits.most_keys
 
 -- an item has the slot of the timers
 pub record IsOwned (lists : List (List Item)) (slot : ℕ) : Type 0 where
@@ -92,7 +92,7 @@ waiting cells lists time spare = record { classes = entries cells lists; time = 
 
 -- the free slots are no entry's, and none stands twice
 pub record AreFree (free : List ℕ) (waits : List Entry) : Type 0 where
-  pub low : All (λ slot. slot < 4352) free
+  pub low : All (λ slot. slot < limits.most_keys) free
   pub distinct : AllPairs ◌≢◌ free
   pub apart : All (λ slot. All (λ entry. entry.slot ≢ slot) waits) free
 
@@ -101,7 +101,7 @@ pub record IsKept (lists : List (List Item)) (cells : List Cell) (free : List �
   pub tied : IsTied lists cells
   pub now : time ≤ limits.now_max
   pub count : length free ≡ spare
-  pub has_room : 4352 ≤ room
+  pub has_room : limits.most_keys ≤ room
   pub waits : List Entry
   pub stands : StandFor (waiting cells lists time spare) waits
   pub are_free : AreFree free waits

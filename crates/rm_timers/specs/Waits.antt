@@ -2,6 +2,7 @@
 use Rattle.std.specs.Prelude.{◌≡◌, ◌≢◌, ℕ, zero, suc, ◌+◌, ◌*◌, ◌^◌, ◌<◌, ◌≤◌, ◌==◌, ◌&&◌, not, min, nat_le, List, []}
 use Rattle.std.specs.Prelude.{◌∷◌, ◌++◌, map, filter, length, Option, Some, None, slice_index_or, All, AllPairs}
 use Rattle.std.specs.Prelude.{flat_map}
+use Rattle.rm_base.specs.Limits as limits
 use Rattle.rm_timers.specs.declared.timers.Key.{Key}
 
 -- a key that waits: the slot that its caller keeps, its class, and when it is due
@@ -74,7 +75,7 @@ by_class waits = map (λ class. in_class class waits) classes_in_order
 -- none is later than that of a key that is put there now
 pub record AreTimed (time : ℕ) (waits : List Entry) : Type 0 where
   pub in_classes : All (λ entry. entry.class < 7) waits
-  pub in_slots : All (λ entry. entry.slot < 4352) waits
+  pub in_slots : All (λ entry. entry.slot < limits.most_keys) waits
   pub distinct : AllPairs (λ one other. one.slot ≢ other.slot) waits
   pub bound : All (λ entry. entry.due ≤ due_in entry.class time) waits
   pub rising : AllPairs (λ one other. one.class ≡ other.class → one.due ≤ other.due) waits
@@ -83,7 +84,7 @@ pub record AreTimed (time : ℕ) (waits : List Entry) : Type 0 where
 pub record StandFor (timers : Waiting) (waits : List Entry) : Type 0 where
   pub classes : timers.classes ≡ by_class waits
   pub timed : AreTimed timers.time waits
-  pub spare : length waits + timers.spare ≡ 4352
+  pub spare : length waits + timers.spare ≡ limits.most_keys
 
 -- a step of the timers is this step of each plain list that they stand for
 abbrev pub Steps : Waiting → Waiting → (List Entry → List Entry) → Type 0

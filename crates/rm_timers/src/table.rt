@@ -1,6 +1,7 @@
 //! The lists of the classes beside the cells of the slots that callers keep: each move is made in both.
 ghost use Rattle.std.specs.Prelude.{◌≡◌, ◌≢◌, ◌+◌, ◌<◌, ◌≤◌, ℕ, [], ◌∷◌, ◌++◌, length, drop, slice_get, slice_set};
 ghost use Rattle.std.specs.Prelude.{option_map, IfOk, MatchResult, All, AllPairs, vec_capacity, false, Some, None};
+ghost use Rattle.rm_base.specs.Limits.{most_keys, now_max};
 ghost use Rattle.due_links.specs.declared.links.Item.{Item};
 ghost use Rattle.due_links.specs.Items.{Stands, first_due, list_at, due_count};
 ghost use Rattle.rm_timers.specs.Table.{
@@ -20,6 +21,7 @@ ghost use Rattle.rm_timers.specs.Waits.{due_in};
 use crate::timers::Key;
 use due_links::{Links, Steps};
 use rm_base::Memory;
+use rm_base::limits::MOST_KEYS;
 use std::alloc::Global;
 use std::sync::ledger::{Blank, Ledger};
 
@@ -32,11 +34,11 @@ pub(crate) struct Cell {
 
 // So many cells as there are slots.
 pub(crate) fn blank_cells(alloc: Global) -> Result<Vec<Cell>, Memory>
-    ensures { IfOk result (λ cells. length cells.items ≡ 4352) }
+    ensures { IfOk result (λ cells. length cells.items ≡ most_keys) }
 {
-    let mut cells = Vec::with_capacity(alloc, 4352)?;
+    let mut cells = Vec::with_capacity(alloc, MOST_KEYS as usize)?;
     let key = Key { seq: 0, number: 0 };
-    for _ in 0..4352u32 {
+    for _ in 0..MOST_KEYS {
         cells.push(Cell { key, at: 0 })?;
     }
     Ok(cells)
@@ -44,13 +46,13 @@ pub(crate) fn blank_cells(alloc: Global) -> Result<Vec<Cell>, Memory>
 
 // All slots, with room for all of them.
 pub(crate) fn free_slots(alloc: Global) -> Result<Vec<u32>, Memory>
-    ensures count { IfOk result (λ free. length free.items ≡ 4352) }
-    ensures low { IfOk result (λ free. All (λ slot. slot < 4352) free.items) }
+    ensures count { IfOk result (λ free. length free.items ≡ most_keys) }
+    ensures low { IfOk result (λ free. All (λ slot. slot < most_keys) free.items) }
     ensures distinct { IfOk result (λ free. AllPairs ◌≢◌ free.items) }
-    ensures room { IfOk result (λ free. 4352 ≤ vec_capacity free) }
+    ensures room { IfOk result (λ free. most_keys ≤ vec_capacity free) }
 {
-    let mut free = Vec::with_capacity(alloc, 4352)?;
-    for slot in 0..4352u32 {
+    let mut free = Vec::with_capacity(alloc, MOST_KEYS as usize)?;
+    for slot in 0..MOST_KEYS {
         free.push(slot)?;
     }
     Ok(free)
@@ -83,7 +85,7 @@ pub(crate) fn push_slot(free: &mut Vec<u32>, slot: u32)
 // When a key is due that is put into a class now.
 fn due_of(class: u32, time: u64) -> u64
     requires class { class ≤ 6 }
-    requires time { time ≤ 200000000000000 }
+    requires time { time ≤ now_max }
     ensures { result ≡ due_in class time }
 {
     match class {
@@ -148,7 +150,7 @@ pub(crate) fn put_new<L: Ledger>(
     requires parts { blank.parts ≡ L.parts }
     requires one { L.parts ≡ 1 }
     requires tied { IsTied links.old.lists cells.old.items }
-    requires slot { slot < 4352 }
+    requires slot { slot < most_keys }
     requires free { NotOwned links.old.lists slot }
     requires spare { 0 < links.old.spare }
     ensures lists { links.new.lists ≡ with_new links.old.lists slot result }
@@ -191,7 +193,7 @@ pub(crate) fn shift<L: Ledger>(
     requires name { blank.name ≡ L.name }
     requires parts { blank.parts ≡ L.parts }
     requires one { L.parts ≡ 1 }
-    requires time { time ≤ 200000000000000 }
+    requires time { time ≤ now_max }
     requires tied { IsTied links.old.lists cells.old.items }
     requires owned { IsOwned links.old.lists slot }
     ensures lists { (before : _) (item : _) (after : _) → item.key ≡ slot → Stands links.old.lists before item after →
@@ -219,7 +221,7 @@ pub(crate) fn shift_due<L: Ledger>(
     requires name { blank.name ≡ L.name }
     requires parts { blank.parts ≡ L.parts }
     requires one { L.parts ≡ 1 }
-    requires time { time ≤ 200000000000000 }
+    requires time { time ≤ now_max }
     requires tied { IsTied links.old.lists cells.old.items }
     ensures key { result ≡ option_map (λ item. (cell_at cells.old.items item.key).key)
         (first_due time links.old.lists) }

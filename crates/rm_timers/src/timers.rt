@@ -1,5 +1,6 @@
 //! The timers and their calls.
 ghost use Rattle.std.specs.Prelude.{◌≡◌, ◌+◌, ◌<◌, ◌≤◌, ◌∷◌, [], List, map, max, option_map, slice_get, IfOk};
+ghost use Rattle.rm_base.specs.Limits.{most_keys, now_max};
 ghost use Rattle.rm_timers.specs.Waits.{
   Entry,
   StandFor,
@@ -21,6 +22,7 @@ use crate::table::{
 };
 use due_links::Links;
 use rm_base::Memory;
+use rm_base::limits::MOST_KEYS;
 use std::alloc::Global;
 use std::marker::{Brand, Model};
 use std::sync::ledger::Blank;
@@ -32,7 +34,7 @@ pub struct Key {
     pub number: u64,
 }
 
-/// The keys that wait to be emitted, at most 4352. After `new` no call takes memory.
+/// The keys that wait to be emitted, at most `MOST_KEYS`. After `new` no call takes memory.
 /// Moments are milliseconds since 1970 UTC.
 #[derive(Debug, Drop)]
 pub struct Timers {
@@ -61,10 +63,10 @@ impl Timers {
     pub fn new(alloc: Global) -> Result<Timers, Memory>
         ensures waits { IfOk result (λ timers. StandFor timers []) }
         ensures time { IfOk result (λ timers. timers.time ≡ 0) }
-        ensures spare { IfOk result (λ timers. timers.spare ≡ 4352) }
+        ensures spare { IfOk result (λ timers. timers.spare ≡ most_keys) }
     {
         Ok(Timers {
-            links: Links::with_slots(alloc, 4352, 7)?,
+            links: Links::with_slots(alloc, MOST_KEYS, 7)?,
             cells: blank_cells(alloc)?,
             free: free_slots(alloc)?,
             time: 0,
@@ -95,7 +97,7 @@ impl Timers {
     /// The key of the slot was emitted at `now`: it goes last into the next class.
     pub fn sent(&mut self, slot: u32, now: u64)
         requires slot { IsLive self.old slot }
-        requires now { now ≤ 200000000000000 }
+        requires now { now ≤ now_max }
         ensures waits { Steps self.old self.new (moved_last (emitted self.new.time) slot) }
         ensures time { self.new.time ≡ max self.old.time now }
         ensures spare { self.new.spare ≡ self.old.spare }
@@ -145,7 +147,7 @@ impl Timers {
 
     /// Emits the first key that is due, by class and then by the order of the last move.
     pub fn take_due(&mut self, now: u64) -> Option<Key>
-        requires { now ≤ 200000000000000 }
+        requires { now ≤ now_max }
         ensures key { (waits : List Entry) → StandFor self.old waits →
             result ≡ option_map (λ entry. entry.key) (slice_get (due_at self.new.time waits) 0) }
         ensures waits { Steps self.old self.new
@@ -160,7 +162,7 @@ impl Timers {
     /// The key at a place, counted from 0, among those that are due at `now`, or at the timers' time where that is
     /// later.
     pub fn nth_due(&self, now: u64, k: u32) -> Option<Key>
-        requires { now ≤ 200000000000000 }
+        requires { now ≤ now_max }
         ensures { (waits : List Entry) → StandFor self.now waits →
             result ≡ option_map (λ entry. entry.key) (slice_get (due_at (max self.now.time now) waits) k) }
     {
