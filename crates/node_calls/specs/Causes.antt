@@ -2,6 +2,7 @@
 use Rattle.std.specs.Prelude.{ℕ, not, nat_le, nat_lt, if◌then◌else◌, List, length, Option, Some, None}
 use Rattle.std.specs.Option.{option_or}
 use Rattle.rm_base.specs.Limits as limits
+use Rattle.rm_base.specs.Message.{max_number}
 use Rattle.record_batch.specs.Fact.{Fact}
 use Rattle.sequence_table.specs.Words.{Text}
 use Rattle.sequence_table.specs.Makers.{Maker, Outgoing, Taken, maker}
@@ -35,7 +36,7 @@ window_cause r s =
     if not (is_open (phase r s)) then Some NotOpen
     else if nat_le limits.window (unacked r s) then Some (WindowFull (unacked r s))
     else if nat_le limits.most_unacked (all_unacked r) then Some (NodeFull (all_unacked r))
-    else if nat_le 9223372036854775807 (length (accepted r s)) then Some Rollover
+    else if nat_le max_number (length (accepted r s)) then Some Rollover
     else None
 
 -- why a payload is not accepted for a sequence: the first reason that holds

@@ -4,6 +4,7 @@ use Rattle.std.specs.Prelude.{length, Option, Some, None, false}
 use Rattle.std.specs.Str.{bytes_eq}
 use Rattle.rm_base.specs.Limits as limits
 use Rattle.ack_ranges.specs.declared.range.Range.{Range}
+use Rattle.rm_base.specs.Message.{max_number}
 use Rattle.rm_base.specs.declared.message.Behaviour.{Behaviour}
 use Rattle.rm_base.specs.declared.message.Behaviour.TheVariants.{NoDiscard, EntireSequence, FollowingFirstGap}
 use Rattle.rm_base.specs.declared.message.Binding.{Binding}
@@ -117,7 +118,7 @@ range = written_as (λ r. (r.lower, r.upper)) range_of (number64 & number64)
 
 -- a range that begins at first or later, has a number, and ends at the greatest message number at the latest
 abbrev pub is_from : ℕ → Range → Bool
-is_from first r = nat_le first r.lower && nat_le r.lower r.upper && nat_le r.upper 9223372036854775807
+is_from first r = nat_le first r.lower && nat_le r.lower r.upper && nat_le r.upper max_number
 
 -- such ranges, with a missing number between each two of them; the test of RisesFrom
 abbrev pub rise_from : ℕ → List Range → Bool

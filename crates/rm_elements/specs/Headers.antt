@@ -2,6 +2,7 @@
 use Rattle.std.specs.Prelude.{ℕ, List, [], Bool, true, false, not, ◌&&◌, ◌||◌, ◌==◌, nat_lt, if◌then◌else◌, Option}
 use Rattle.std.specs.Prelude.{Some, None, is_some, option_map, Result, Ok, Err, codes}
 use Rattle.std.specs.Str.{bytes_eq}
+use Rattle.rm_base.specs.Message.{max_number}
 use Rattle.soap_lex.specs.Tests.{is_nil}
 use Rattle.soap_profile.specs.Tree.{Element, Parts, name_of, attrs_of, parts_of}
 use Rattle.soap_profile.specs.declared.name.Expanded.{Expanded}
@@ -35,7 +36,7 @@ identifier parts = do
 
 -- a message number: 1 to 9223372036854775807 (3.7)
 abbrev pub counted : ℕ → Option ℕ
-counted n = if n == 0 then None else if nat_lt 9223372036854775807 n then None else Some n
+counted n = if n == 0 then None else if nat_lt max_number n then None else Some n
 
 -- a text that is a message number
 abbrev pub number_in : List ℕ → Option ℕ
@@ -74,7 +75,7 @@ numbered_in parts = do
 abbrev pub unless_rolled : Option SeqHeader → Result (Option Header) ElementError
 unless_rolled None = Err (Malformed (codes "Sequence"))
 unless_rolled (Some s) =
-    if nat_lt 9223372036854775807 s.number then Err (Rollover s.ident) else Ok (Some (Sequence s))
+    if nat_lt max_number s.number then Err (Rollover s.ident) else Ok (Some (Sequence s))
 
 -- what the content of a Sequence is
 abbrev pub sequence_in : Parts → Result (Option Header) ElementError

@@ -1,6 +1,7 @@
 -- Header blocks, durations and body elements of WS-ReliableMessaging 1.2 that are read back as they were written.
 use Rattle.std.specs.Prelude.{◌≡◌, ◌≢◌, ◌≤◌, ℕ, [], Bool, false, IfSome}
 use Rattle.std.specs.List.{AllByRecursion}
+use Rattle.rm_base.specs.Message.{max_number}
 use Rattle.rm_base.specs.Text.{IsText}
 use Rattle.wsa_headers.specs.Writable.{IsEprWritable}
 use Rattle.ack_ranges.specs.declared.range.Range.{Range}
@@ -21,7 +22,7 @@ use Rattle.rm_elements.specs.declared.lifecycle.Offer.{Offer}
 -- a message number (3.7)
 pub record IsNumber (n : ℕ) : Type 0 where
   pub low : 1 ≤ n
-  pub high : n ≤ 9223372036854775807
+  pub high : n ≤ max_number
 
 -- a range of them
 pub record IsRange (x : Range) : Type 0 where

@@ -3,6 +3,7 @@ use Rattle.std.specs.Prelude.{ℕ, ◌+◌, ◌&&◌, not, nat_le, nat_lt, Bool,
 use Rattle.std.specs.Prelude.{◌++◌, length, Option, Some, None, Result, Ok, Err}
 use Rattle.std.specs.Option.{option_to_list}
 use Rattle.rm_base.specs.Limits as limits
+use Rattle.rm_base.specs.Message.{max_number}
 use Rattle.rm_base.specs.declared.message.Behaviour.{Behaviour}
 use Rattle.rm_base.specs.declared.message.Cause.TheVariants.{Operator, Expired}
 use Rattle.rm_elements.specs.declared.header.AckBlock.{AckBlock}
@@ -111,7 +112,7 @@ send_out terms r end s payload =
     else if not (is_open (phase r s)) then refusal NotOpen
     else if nat_le limits.window (unacked r s) then refusal (WindowFull (unacked r s))
     else if nat_le limits.most_unacked (all_unacked r) then refusal (NodeFull (all_unacked r))
-    else if nat_le 9223372036854775807 (length (accepted r s)) then refusal Rollover
+    else if nat_le max_number (length (accepted r s)) then refusal Rollover
     else if_room terms end (adds r (Accepted s payload ∷ [])
     (λ after. option_to_list (data_at after s (length (accepted r s) + 1))))
 

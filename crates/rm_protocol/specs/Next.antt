@@ -2,6 +2,7 @@
 use Rattle.std.specs.Prelude.{◌≡◌, ℕ, ◌≤◌, true, List, [], IfSome, Result, Ok, Err}
 use Rattle.std.specs.List.{AllByRecursion}
 use Rattle.ack_ranges.specs.declared.range.Range.{Range}
+use Rattle.rm_base.specs.Message.{max_number}
 use Rattle.rm_base.specs.declared.message.Behaviour.{Behaviour}
 use Rattle.rm_elements.specs.declared.header.AckBlock.{AckBlock}
 use Rattle.rm_elements.specs.declared.header.SeqHeader.{SeqHeader}
@@ -18,7 +19,7 @@ use Rattle.rm_protocol.specs.Terms.{Terms, EndsLater}
 pub record IsNumberRange (range : Range) : Type 0 where
   pub lower : 1 ≤ range.lower
   pub rises : range.lower ≤ range.upper
-  pub upper : range.upper ≤ 9223372036854775807
+  pub upper : range.upper ≤ max_number
 
 -- the ranges of a block are ranges of message numbers
 abbrev pub HasRanges : AckBlock → Type 0
@@ -26,7 +27,7 @@ HasRanges block = AllByRecursion IsNumberRange (ranges_of block.kind)
 
 -- a MessageNumber is from 1 to 9223372036854775807: WS-ReliableMessaging 1.2, section 3.7
 abbrev pub IsMessageNumber : SeqHeader → Type 0
-IsMessageNumber header = (1 ≤ header.number) × (header.number ≤ 9223372036854775807)
+IsMessageNumber header = (1 ≤ header.number) × (header.number ≤ max_number)
 
 -- the numbers of a message are message numbers
 pub record HasNumbers (m : Message) : Type 0 where

@@ -2,6 +2,7 @@
 use Rattle.std.specs.Prelude.{ℕ, ◌-◌, nat_le, nat_lt, if◌then◌else◌, List, [], ◌∷◌, ◌++◌, length, Option, Some, None}
 use Rattle.std.specs.Option.{option_or}
 use Rattle.rm_base.specs.Limits as limits
+use Rattle.rm_base.specs.Message.{max_number}
 use Rattle.ack_ranges.specs.declared.range.Range.{Range}
 use Rattle.ack_ranges.specs.Changes.{united}
 use Rattle.ack_ranges.specs.Ranges.{count_of, greatest_of}
@@ -44,7 +45,7 @@ phase_refusal phase = Some (NotOpen phase)
 abbrev pub count_refusal : ℕ → ℕ → Option SourceError
 count_refusal accepted unacked =
     if nat_le limits.window unacked then Some (WindowFull unacked)
-    else if nat_le 9223372036854775807 accepted then Some Rollover
+    else if nat_le max_number accepted then Some Rollover
     else None
 
 -- why the next payload is refused: the first reason that holds

@@ -4,6 +4,7 @@ use Rattle.std.specs.Prelude.{length, Option, Some, None}
 use Rattle.ack_ranges.specs.declared.range.Range.{Range}
 use Rattle.ack_ranges.specs.Changes.{united}
 use Rattle.ack_ranges.specs.Ranges.{greatest_of}
+use Rattle.rm_base.specs.Message.{max_number}
 use Rattle.rm_base.specs.declared.message.Cause.{Cause}
 use Rattle.rm_base.specs.declared.message.Cause.TheVariants.{Peer}
 use Rattle.rm_base.specs.declared.message.Payload.{Payload}
@@ -107,7 +108,7 @@ receiving_in (Receives t) = Some t
 
 -- one more payload may be accepted: their numbers end at 9223372036854775807
 abbrev pub takes_payload : Side → Bool
-takes_payload (Sends t) = is_open t.phase && nat_lt (length t.accepted) 9223372036854775807
+takes_payload (Sends t) = is_open t.phase && nat_lt (length t.accepted) max_number
 takes_payload (Receives t) = false
 
 -- the numbers of these ranges may be acknowledged
@@ -129,7 +130,7 @@ takes_end (Receives t) = not (any_true t.closes)
 abbrev pub takes_message : Side → ℕ → Bool
 takes_message (Sends t) number = false
 takes_message (Receives t) number =
-    is_empty t.closes && (nat_le 1 number && (nat_le number 9223372036854775807
+    is_empty t.closes && (nat_le 1 number && (nat_le number max_number
     && not (has_number (numbers_of t.received) number)))
 
 -- one more payload
@@ -166,7 +167,7 @@ stopped (Receives t) ends cause last =
 -- the record may come next for a sequence that sends, but for the numbers that it draws
 abbrev pub sender_takes : Sending → Fact → Bool
 sender_takes t (Accepted seq payload) =
-    follows t.phase (Accepted seq payload) && nat_lt (length t.accepted) 9223372036854775807
+    follows t.phase (Accepted seq payload) && nat_lt (length t.accepted) max_number
 sender_takes t (Acked seq ranges) = list_all (is_up_to (length t.accepted)) ranges
 sender_takes t (Received seq n payload) = false
 sender_takes t (Closed seq cause last) = false
@@ -176,7 +177,7 @@ sender_takes t f = follows t.phase f
 -- the record may come next for a sequence that receives
 abbrev pub receiver_takes : Receiving → Fact → Bool
 receiver_takes t (Received seq n payload) =
-    nat_le 1 n && (nat_le n 9223372036854775807 && (not (has_number (numbers_of t.received) n) && is_empty t.closes))
+    nat_le 1 n && (nat_le n max_number && (not (has_number (numbers_of t.received) n) && is_empty t.closes))
 receiver_takes t (Closed seq cause last) = is_empty t.closes
 receiver_takes t (Ended seq cause last) = not (any_true t.closes)
 receiver_takes t f = false

@@ -3,6 +3,7 @@ use Rattle.std.specs.Prelude.{ℕ, ◌+◌, ◌^◌, ◌==◌, ◌&&◌, nat_le,
 use Rattle.std.specs.Prelude.{length, Option, Some, None}
 use Rattle.std.specs.List.{list_all}
 use Rattle.ack_ranges.specs.declared.range.Range.{Range}
+use Rattle.rm_base.specs.Message.{max_number}
 use Rattle.rm_base.specs.NumberSet.{has_number}
 use Rattle.rm_base.specs.declared.message.Behaviour.{Behaviour}
 use Rattle.rm_base.specs.declared.message.Behaviour.TheVariants.{NoDiscard}
@@ -83,10 +84,10 @@ fits r (Granted drawn message_id acks_to behaviour deadline lapse offer) =
     (drawn == counter r + 1) && (not (is_no_moment deadline) && (is_in_order behaviour
     && has_places r (Granted drawn message_id acks_to behaviour deadline lapse offer)))
 fits r (Accepted seq payload) =
-    follows_at r seq (Accepted seq payload) && nat_lt (length (accepted r seq)) 9223372036854775807
+    follows_at r seq (Accepted seq payload) && nat_lt (length (accepted r seq)) max_number
 fits r (Acked seq ranges) = is_outgoing_side (maker r seq) && list_all (is_up_to (length (accepted r seq))) ranges
 fits r (Received seq n payload) =
-    is_incoming_side (maker r seq) && (nat_le 1 n && (nat_le n 9223372036854775807
+    is_incoming_side (maker r seq) && (nat_le 1 n && (nat_le n max_number
     && (not (has_number (held r seq) n) && not (is_stopped r seq))))
 fits r (Closing seq ticket) = (ticket == counter r + 1) && follows_at r seq (Closing seq ticket)
 fits r (ClosedOut seq) = follows_at r seq (ClosedOut seq)

@@ -1,6 +1,7 @@
 -- The records of a node with others ahead of them, which are not written yet.
 use Rattle.std.specs.Prelude.{◌≡◌, ℕ, ◌≤◌, Bool, true, false, List, [], ◌∷◌, ◌++◌, length, Option, Some, None}
 use Rattle.std.specs.List.{flat_map}
+use Rattle.rm_base.specs.Message.{max_number}
 use Rattle.ack_ranges.specs.declared.range.Range.{Range}
 use Rattle.ack_ranges.specs.Ranges.{Contents}
 use Rattle.record_batch.specs.Fact.{Fact, Made, Creating, Granted}
@@ -44,7 +45,7 @@ ranges_in (Some set) = set.ranges
 -- each of them is a message number: WS-ReliableMessaging 1.2, section 3.7
 abbrev pub AreNumbers : List ℕ → Type 0
 AreNumbers [] = Unit {0}
-AreNumbers (n ∷ ns) = ((1 ≤ n) × (n ≤ 9223372036854775807)) × AreNumbers ns
+AreNumbers (n ∷ ns) = ((1 ≤ n) × (n ≤ max_number)) × AreNumbers ns
 
 -- a phase, where an identifier may come: a sequence in phase Creating is open then
 abbrev pub opened : OutPhase → Option Text → OutPhase

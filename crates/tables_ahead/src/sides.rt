@@ -1,6 +1,7 @@
 //! What the tables say of a sequence on one side. Of one on the other side, or that isn't there, they say nothing.
 ghost use Rattle.std.specs.Prelude.{◌≡◌, ◌<◌, [], true, length, IfOk};
 ghost use Rattle.ack_ranges.specs.Changes.{covers_all, united};
+ghost use Rattle.rm_base.specs.Message.{max_number};
 ghost use Rattle.rm_base.specs.NumberSet.{has_number};
 ghost use Rattle.rm_destination.specs.Messages.{ranges_onto};
 ghost use Rattle.sequence_table.specs.Destinations.{front, has_end, held, is_stopped};
@@ -21,7 +22,7 @@ use std::alloc::Global;
 pub(crate) fn accepted_len(tables: &Tables, seq: u32) -> u64
     requires { all_fit [] tables.now.records ≡ true }
     ensures count { result ≡ length (accepted tables.now.records seq) }
-    ensures few { result < 9223372036854775807 }
+    ensures few { result < max_number }
 {
     an_outgoing_sequence_is_as_recorded();
     match tables.outgoing(seq) {
