@@ -4,8 +4,8 @@ use Rattle.rm_base.specs.Limits as limits
 use Rattle.record_batch.specs.Batch.{batch_text}
 use Rattle.record_batch.specs.Fact.{Fact}
 
--- it fits behind this place: an entry has at most 4194304 bytes, and a journal, with 6 bytes more for each of them,
--- 268435456
+-- it fits behind this place: an entry and a journal, which has 6 bytes more for each of them, are no longer than they
+-- may be
 pub record IsWithin (end : ℕ) (facts : List Fact) : Type 0 where
   pub short : length (batch_text facts) ≤ limits.entry_bytes
   pub room : end + 6 + length (batch_text facts) ≤ limits.journal_bytes

@@ -1,6 +1,7 @@
 //! Whether a batch fits the store.
 ghost use Rattle.std.specs.Prelude.{◌≡◌, ◌+◌, ◌<◌, ◌≤◌, ◌^◌, ◌&&◌, nat_le, [], true, map, length, IfOk, OnOk};
 ghost use Rattle.std.specs.List.{AllByRecursion};
+ghost use Rattle.rm_base.specs.Limits.{entry_bytes, journal_bytes};
 ghost use Rattle.batch_size.specs.Room.{HasRoom};
 ghost use Rattle.batch_size.specs.Size.{capped};
 ghost use Rattle.batch_size.specs.Typed.{IsTyped};
@@ -24,7 +25,7 @@ const AROUND_ENTRY: u64 = 6;
 
 // Whether an entry of so many bytes fits behind a place.
 fn is_within(end: u64, size: u64) -> bool
-    ensures { result ≡ (nat_le size 4194304 && nat_le (end + 6 + size) 268435456) }
+    ensures { result ≡ (nat_le size entry_bytes && nat_le (end + 6 + size) journal_bytes) }
 {
     if size > ENTRY_BYTES as u64 {
         return false;

@@ -6,7 +6,7 @@ use Rattle.http_endpoint.specs.declared.body.Framing.{Framing}
 use Rattle.http_endpoint.specs.declared.body.Framing.TheVariants.{Empty, Counted, Chunked, ToEnd}
 
 -- for a body: as many as an envelope may have and one more. In chunks each byte may have a chunk of its own, with a
--- line and an end of at most 16384 bytes each: 2097152 * 32769 bytes, and what is refused of one more chunk
+-- line and an end of at most 16384 bytes each: `envelope_bytes` * 32769 bytes, and what is refused of one more chunk
 abbrev pub most_taken : Framing → ℕ
 most_taken Empty = 0
 most_taken (Counted size) = envelope_bytes + 1

@@ -17,7 +17,7 @@ use Rattle.rm_message.specs.declared.refusal.Refusal.{Refusal}
 use Rattle.message_reader.specs.Message.{Wrong, NotUnderstood, Cardinality, HeaderMissing, BadHeader, Malformed}
 use Rattle.message_reader.specs.Message.{Rollover, message_in}
 
--- bytes spell a message: they are an envelope of at most 2097152 bytes, and it has the values of this message
+-- bytes spell a message: they are an envelope, no longer than one may be, and it has the values of this message
 pub record Spells (soap bytes : List ℕ) (m : Message) : Type 0 where
   pub envelope : Envelope
   pub is : IsEnvelope soap bytes envelope

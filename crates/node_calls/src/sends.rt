@@ -2,6 +2,7 @@
 ghost use Rattle.std.specs.Prelude.{◌≡◌, ◌≤◌, ◌<◌, ◌^◌, ◌++◌, None, Some, length, map, IfOk, true};
 ghost use Rattle.std.specs.List.{AllByRecursion};
 ghost use Rattle.std.specs.Option.{option_map};
+ghost use Rattle.rm_base.specs.Limits.{payload_bytes};
 ghost use Rattle.rm_base.specs.Numbered.{numbered};
 ghost use Rattle.batch_size.specs.Room.{HasRoom};
 ghost use Rattle.batch_size.specs.Typed.{IsTyped};
@@ -39,7 +40,7 @@ use tables_ahead::Known;
 fn payload_refusal(alloc: Global, payload: &Blob) -> Result<Option<Cause>, Memory>
     ensures is { (terms : Terms) → AreOwn terms
         → IfOk result (λ cause. option_map cause_seen cause ≡ payload_cause terms payload.now) }
-    ensures short { IfOk result (λ cause. cause ≡ None → length payload.now ≤ 1048576) }
+    ensures short { IfOk result (λ cause. cause ≡ None → length payload.now ≤ payload_bytes) }
 {
     let len = payload.len() as u64;
     if len > PAYLOAD_BYTES as u64 {
@@ -85,7 +86,7 @@ fn send_refusal(
     requires { IsServing tables.now.records }
     ensures is { (terms : Terms) → AreOwn terms → IfOk result (λ cause. option_map cause_seen cause
         ≡ send_cause terms tables.now.records seq payload.now) }
-    ensures short { IfOk result (λ cause. cause ≡ None → length payload.now ≤ 1048576) }
+    ensures short { IfOk result (λ cause. cause ≡ None → length payload.now ≤ payload_bytes) }
 {
     if let Some(cause) = side_refusal(tables, seq) {
         return Ok(Some(cause));

@@ -27,7 +27,8 @@ fn count_of(tables: &Tables, seq: u32) -> u64
 /// A key begins to wait, behind all others, where it waits by the records.
 fn begin_waiting(timers: &mut KeyTimers, tables: &Tables, seq: u32, number: u64)
     requires before { AllBefore (keys_in timers.old.cells) (key_of seq number) }
-    requires few { length (keys_in timers.old.cells) + length (own_waiting tables.now.records seq number 1) ≤ most_keys }
+    requires few { length (keys_in timers.old.cells) + length (own_waiting tables.now.records seq number 1)
+        ≤ most_keys }
     ensures filled { Filled timers.old timers.new (own_waiting tables.now.records seq number 1) }
     ensures before { AllBefore (keys_in timers.new.cells) (key_of seq (number + 1)) }
 {

@@ -151,7 +151,7 @@ payload = written_as (λ p. (p.bytes, p.scope)) payload_of (text & counted bindi
 
 -- ---- endpoint references: WS-Addressing 1.0 Core, section 2
 
--- the tree of a document of at most 2097152 bytes, where the bytes are one
+-- the tree of a document, where the bytes are one, no longer than it may be
 unfoldable pub tree_of : List ℕ → Option Element
 tree_of bytes =
     if nat_lt limits.envelope_bytes (length bytes) then None else (root_of (run start bytes) >>= λ raw. resolve [] raw)

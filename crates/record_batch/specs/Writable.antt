@@ -99,7 +99,7 @@ pub record IsPayloadWritable (p : Payload) : Type 0 where
   pub bytes : IsTextWritable p.bytes
   pub scope : IsCounted IsBindingWritable p.scope
 
--- an element whose text, of at most 2097152 bytes, is a document of which it is read back, without its declarations
+-- an element whose text, no longer than a document may be, is one of which it is read back, without its declarations
 pub record IsParamWritable (p : Element) : Type 0 where
   pub few : length (element_text false p) ≤ limits.envelope_bytes
   pub tree : Element

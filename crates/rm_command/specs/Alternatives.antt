@@ -1,5 +1,6 @@
 -- What a run of `wsrm normal` and of `wsrm intersect` is, by how it ended, and what they print.
 use Rattle.std.specs.Prelude.{◌≡◌, ℕ, List, Option, None, Some, Result, Ok, Err}
+use Rattle.rm_base.specs.Limits as limits
 use Rattle.soap_profile.specs.declared.error.EnvelopeError.TheVariants as documents
 use Rattle.wsp_alternatives.specs.Finds.{FindsNormal, FindsCommon}
 use Rattle.wsp_alternatives.specs.Texts.{normal_text}
@@ -61,7 +62,8 @@ RefusesFinding Finds bytes _ = ⊥
 
 -- what a command did that prints what is found, by how it ended
 abbrev pub EndsFinding : {S K : Type 0} → Finding → End → Edge S K → Type 0
-EndsFinding Finds end e = EndsFilter 2097152 (Unit {0}) (IsTextFound Finds) (λ _. ⊥) (RefusesFinding Finds) end e
+EndsFinding Finds end e =
+    EndsFilter limits.envelope_bytes (Unit {0}) (IsTextFound Finds) (λ _. ⊥) (RefusesFinding Finds) end e
 
 -- what normal did: it prints the normal form of a policy
 abbrev pub EndsNormal : {S K : Type 0} → End → Edge S K → Type 0
@@ -78,8 +80,8 @@ HasFound Finds bytes = (lists : List (List Term)) × Finds bytes (Ok lists)
 -- of a policy that has a normal form comes 0, of other bytes 9, of more bytes 8, unless the input, the output or the
 -- machine fails
 abbrev pub IsNormalStatus : List ℕ → ℕ → Type 0
-IsNormalStatus bytes status = IsFilterStatus 2097152 9 (HasFound FindsNormal bytes) bytes status
+IsNormalStatus bytes status = IsFilterStatus limits.envelope_bytes 9 (HasFound FindsNormal bytes) bytes status
 
 -- so it is with a pair of policies
 abbrev pub IsIntersectStatus : List ℕ → ℕ → Type 0
-IsIntersectStatus bytes status = IsFilterStatus 2097152 9 (HasFound FindsCommon bytes) bytes status
+IsIntersectStatus bytes status = IsFilterStatus limits.envelope_bytes 9 (HasFound FindsCommon bytes) bytes status

@@ -85,12 +85,12 @@ pub record RunsPolicy {S K : Type 0} (end : End) (e : Edge S K) : Type 0 where
 -- a run of normal
 pub record RunsNormal {S K : Type 0} (end : End) (e : Edge S K) : Type 0 where
   pub ends : EndsNormal end e
-  pub taken : TookWithin 2097152 end e.input.told e.input_after.told
+  pub taken : TookWithin limits.envelope_bytes end e.input.told e.input_after.told
 
 -- a run of intersect
 pub record RunsIntersect {S K : Type 0} (end : End) (e : Edge S K) : Type 0 where
   pub ends : EndsIntersect end e
-  pub taken : TookWithin 2097152 end e.input.told e.input_after.told
+  pub taken : TookWithin limits.envelope_bytes end e.input.told e.input_after.told
 
 -- the words are refused, and nothing was read
 pub record RunsNothing {S K : Type 0} (end : End) (e : Edge S K) : Type 0 where

@@ -1,5 +1,6 @@
 //! The commands `normal` and `intersect`: the normal form of a policy, and what two policies have in common.
 ghost use Rattle.std.specs.Prelude.{◌≡◌, ◌≤◌, length, IfOk, Err, Ok, Some};
+ghost use Rattle.rm_base.specs.Limits.{envelope_bytes};
 ghost use Rattle.rm_command.specs.Alternatives.{
   fault_for,
   EndsIntersect,
@@ -24,7 +25,8 @@ use wsp_alternatives::{Alternatives, WspError, find_common, find_normal, pieces_
 /// Reads a policy, and prints its normal form.
 pub fn normal<S: Source, K: Sink>(alloc: Global, input: &mut S, out: &mut K) -> End
     ensures ends { EndsNormal result (edge_of S.told K.told K.wants_memory input.old input.new out.old out.new) }
-    ensures kept { KeepsEdge 2097152 result (edge_of S.told K.told K.wants_memory input.old input.new out.old out.new) }
+    ensures kept { KeepsEdge envelope_bytes result
+        (edge_of S.told K.told K.wants_memory input.old input.new out.old out.new) }
 {
     let bytes = match read_input(alloc, input, out, ENVELOPE_BYTES) {
         Ok(bytes) => bytes,
@@ -40,7 +42,8 @@ pub fn normal<S: Source, K: Sink>(alloc: Global, input: &mut S, out: &mut K) -> 
 /// Reads a pair of policies, and prints what both have in common.
 pub fn intersect<S: Source, K: Sink>(alloc: Global, input: &mut S, out: &mut K) -> End
     ensures ends { EndsIntersect result (edge_of S.told K.told K.wants_memory input.old input.new out.old out.new) }
-    ensures kept { KeepsEdge 2097152 result (edge_of S.told K.told K.wants_memory input.old input.new out.old out.new) }
+    ensures kept { KeepsEdge envelope_bytes result
+        (edge_of S.told K.told K.wants_memory input.old input.new out.old out.new) }
 {
     let bytes = match read_input(alloc, input, out, ENVELOPE_BYTES) {
         Ok(bytes) => bytes,
@@ -54,7 +57,7 @@ pub fn intersect<S: Source, K: Sink>(alloc: Global, input: &mut S, out: &mut K) 
 }
 
 fn normal_of(alloc: Global, bytes: &[u8]) -> Result<Alternatives, NoText>
-    requires { length bytes.now ≤ 2097152 }
+    requires { length bytes.now ≤ envelope_bytes }
     ensures found { IfOk result (λ lists. FindsNormal bytes.now (Ok lists)) }
     ensures faulty { (fault : AFault) → result ≡ Err (NoText.Faulty fault) → HasFaultFound FindsNormal bytes.now fault }
 {
@@ -65,7 +68,7 @@ fn normal_of(alloc: Global, bytes: &[u8]) -> Result<Alternatives, NoText>
 }
 
 fn common_of(alloc: Global, bytes: &[u8]) -> Result<Alternatives, NoText>
-    requires { length bytes.now ≤ 2097152 }
+    requires { length bytes.now ≤ envelope_bytes }
     ensures found { IfOk result (λ lists. FindsCommon bytes.now (Ok lists)) }
     ensures faulty { (fault : AFault) → result ≡ Err (NoText.Faulty fault) → HasFaultFound FindsCommon bytes.now fault }
 {

@@ -1,5 +1,6 @@
 //! What `check` prints of a message.
 ghost use Rattle.std.specs.Prelude.{◌≡◌, ◌≤◌, length, IfOk, IfSome, IfNone, Err, Some, true, false};
+ghost use Rattle.rm_base.specs.Limits.{envelope_bytes};
 ghost use Rattle.rm_command.specs.Check.{HasFault, IsTextOf, is_of_bytes, kind_of};
 ghost use Rattle.rm_command.specs.declared.end.Fault.{Fault as AFault};
 
@@ -13,7 +14,7 @@ use std::alloc::Global;
 
 /// What is printed of bytes, where they spell a message.
 pub fn text_of(alloc: Global, bytes: &[u8]) -> Result<Blob, NoText>
-    requires { length bytes.now ≤ 2097152 }
+    requires { length bytes.now ≤ envelope_bytes }
     ensures text { IfOk result (λ text. IsTextOf bytes.now text) }
     ensures faulty { (fault : AFault) → result ≡ Err (NoText.Faulty fault) → HasFault bytes.now fault }
 {

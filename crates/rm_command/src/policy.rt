@@ -1,4 +1,5 @@
 //! The command `policy`: reads an assertion of reliable messaging, and prints what it says.
+ghost use Rattle.rm_base.specs.Limits.{envelope_bytes};
 ghost use Rattle.rm_command.specs.Edge.{edge_of, KeepsEdge};
 ghost use Rattle.rm_command.specs.Policy.{EndsPolicy};
 
@@ -12,7 +13,8 @@ use std::alloc::Global;
 /// Reads an assertion, and prints what it says.
 pub fn policy<S: Source, K: Sink>(alloc: Global, input: &mut S, out: &mut K) -> End
     ensures ends { EndsPolicy result (edge_of S.told K.told K.wants_memory input.old input.new out.old out.new) }
-    ensures kept { KeepsEdge 2097152 result (edge_of S.told K.told K.wants_memory input.old input.new out.old out.new) }
+    ensures kept { KeepsEdge envelope_bytes result
+        (edge_of S.told K.told K.wants_memory input.old input.new out.old out.new) }
 {
     let bytes = match read_input(alloc, input, out, ENVELOPE_BYTES) {
         Ok(bytes) => bytes,

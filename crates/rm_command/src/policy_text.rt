@@ -1,5 +1,6 @@
 //! What `policy` prints of an assertion.
 ghost use Rattle.std.specs.Prelude.{◌≡◌, ◌≤◌, length, IfOk, Err};
+ghost use Rattle.rm_base.specs.Limits.{envelope_bytes};
 ghost use Rattle.rm_command.specs.Policy.{assurance_word, answer_word, policy_text, HasPolicyFault, IsPolicyTextOf};
 ghost use Rattle.rm_command.specs.declared.end.Fault.{Fault as AFault};
 
@@ -12,7 +13,7 @@ use std::alloc::Global;
 
 /// What is printed of bytes, where they are an assertion.
 pub fn text_of(alloc: Global, bytes: &[u8]) -> Result<Blob, NoText>
-    requires { length bytes.now ≤ 2097152 }
+    requires { length bytes.now ≤ envelope_bytes }
     ensures text { IfOk result (λ text. IsPolicyTextOf bytes.now text) }
     ensures faulty { (fault : AFault) → result ≡ Err (NoText.Faulty fault) → HasPolicyFault bytes.now fault }
 {

@@ -1,4 +1,5 @@
 //! The command `replay`: reads a script, plays it over two nodes on two disks, and prints the report.
+ghost use Rattle.rm_base.specs.Limits.{script_bytes};
 ghost use Rattle.rm_command.specs.Edge.{edge_of, KeepsEdge};
 ghost use Rattle.rm_command.specs.Replay.{EndsReplay};
 ghost use Rattle.rm_command.specs.Stage.{KeepsWordAt, staged_of};
@@ -29,7 +30,7 @@ pub fn replay<S: Source, K: Sink, M: CrashDisk, W: Wire>(
         (staged_of M.told W.packets stage.new) }
     ensures ends { EndsReplay result (edge_of S.told K.told K.wants_memory input.old input.new out.old out.new)
         (staged_of M.told W.packets stage.old) (staged_of M.told W.packets stage.new) }
-    ensures kept { KeepsEdge 16777216 result
+    ensures kept { KeepsEdge script_bytes result
         (edge_of S.told K.told K.wants_memory input.old input.new out.old out.new) }
 {
     // A script says nothing beyond the limits that a run asks for, and what it delivers is taken.

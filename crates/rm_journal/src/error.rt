@@ -16,10 +16,10 @@ pub enum JournalError {
     Disk,
     #[error("the disk holds no journal")]
     NotAJournal,
-    /// An entry has at most 4194304 bytes.
+    /// An entry has at most `ENTRY_BYTES`.
     #[error("an entry of {len} bytes is too long")]
     EntryTooLong { len: u64 },
-    /// A journal has at most 268435456 bytes.
+    /// A journal has at most `JOURNAL_BYTES`.
     #[error("no room for {needed} bytes behind {end}")]
     Full { end: u64, needed: u64 },
     /// An earlier call answered Disk: mount the disk again.

@@ -3,6 +3,7 @@
 ghost use Rattle.std.specs.Prelude.{◌≡◌, ◌≢◌, ◌⊎◌, ◌↔◌, ◌+◌, ◌-◌, ◌≤◌, ℕ, [], ◌∷◌, ◌++◌, List, Bool, true, false, None};
 ghost use Rattle.std.specs.Prelude.{Some, Err, length, slice_get, IsTrue, is_ok, is_err, not, IfOk, OnOk, IfErr};
 ghost use Rattle.std.specs.Prelude.{IsErrOf};
+ghost use Rattle.rm_base.specs.Limits.{journal_bytes};
 ghost use Rattle.rm_disk.specs.Call.{settled, state, seen_of, crashes_of};
 ghost use Rattle.rm_disk.specs.Cause.{HasCause};
 ghost use Rattle.rm_disk.specs.Fuse.{Burns};
@@ -208,7 +209,7 @@ impl Journal {
 
     /// How long the next entry may be.
     pub fn room(&self) -> u64
-        ensures { result ≡ 268435456 - end_of self.now - 6 }
+        ensures { result ≡ journal_bytes - end_of self.now - 6 }
     {
         JOURNAL_BYTES.saturating_sub(self.end()).saturating_sub(6)
     }

@@ -116,7 +116,7 @@ abbrev pub selects_other : Body → Bool
 selects_other (body.Lifecycle (life.Make selection)) = selection.other
 selects_other _ = false
 
--- the batch fits the store, which ends at this place: an entry has at most 4194304 bytes, a journal 268435456
+-- the batch fits the store, which ends at this place: neither the entry nor the journal is longer than it may be
 abbrev pub has_room : Terms → ℕ → List Fact → Bool
 has_room terms end [] = true
 has_room terms end delta =

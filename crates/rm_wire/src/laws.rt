@@ -1,6 +1,7 @@
 //! Laws of messages that are written and read, each the contract of a function that does nothing but to bring in the
 //! laws that it stands on.
 ghost use Rattle.std.specs.Prelude.{◌≡◌, ◌≢◌, ◌≤◌, ℕ, List, Option, length};
+ghost use Rattle.rm_base.specs.Limits.{envelope_bytes};
 ghost use Rattle.soap_frame.specs.Framed.{MayBeSoap};
 ghost use Rattle.soap_envelope.specs.Soap.{soap_space};
 ghost use Rattle.soap_writer.specs.Frame.{addressing_space};
@@ -25,8 +26,8 @@ use wsa_headers::{addressing_blocks_are_told, addressing_is_read_back};
 /// is written is read. So it is with SOAP 1.2, and wherever SOAP has another namespace than WS-Addressing.
 pub fn what_is_written_is_read()
     ensures any { (soap : List ℕ) (m : Value) → KeepsRules soap m → MayBeSoap soap → soap ≢ addressing_space
-        → length (message_text soap m) ≤ 2097152 → Spells soap (message_text soap m) m }
-    ensures twelve { (m : Value) → KeepsRules soap_space m → length (message_text soap_space m) ≤ 2097152
+        → length (message_text soap m) ≤ envelope_bytes → Spells soap (message_text soap m) m }
+    ensures twelve { (m : Value) → KeepsRules soap_space m → length (message_text soap_space m) ≤ envelope_bytes
         → Spells soap_space (message_text soap_space m) m }
 {
     text_is_an_envelope();
@@ -40,10 +41,11 @@ pub fn what_is_written_is_read()
 
 /// So that text spells no other message, and is not refused.
 pub fn what_is_written_has_one_message()
-    ensures one { (m other : Value) → KeepsRules soap_space m → length (message_text soap_space m) ≤ 2097152
+    ensures one { (m other : Value) → KeepsRules soap_space m → length (message_text soap_space m) ≤ envelope_bytes
         → Spells soap_space (message_text soap_space m) other → other ≡ m }
     ensures taken { (m : Value) (refusal : Refused) → KeepsRules soap_space m
-        → length (message_text soap_space m) ≤ 2097152 → ¬ (Refuses soap_space (message_text soap_space m) refusal) }
+        → length (message_text soap_space m) ≤ envelope_bytes
+        → ¬ (Refuses soap_space (message_text soap_space m) refusal) }
 {
     what_is_written_is_read();
     one_message();
