@@ -1,6 +1,6 @@
 -- What the calls answer.
 use Rattle.std.specs.Prelude.{◌≡◌, ℕ, ◌<◌, ◌≤◌, List, [], ◌∷◌, ◌++◌, length, Result, Ok, Err}
-use Rattle.wsp_alternatives.specs.Limits.{HasTerms, HasTooMany}
+use Rattle.wsp_alternatives.specs.Limits.{most_alternatives, most_terms, HasTerms, HasTooMany}
 use Rattle.wsp_alternatives.specs.Normal.{IsNormal, IsIntersection, HasMoreInCommon}
 use Rattle.wsp_alternatives.specs.Tree.{Policy}
 use Rattle.wsp_alternatives.specs.declared.error.WspError.{WspError}
@@ -9,39 +9,39 @@ use Rattle.wsp_alternatives.specs.declared.error.WspError.TheVariants.{SecurityU
 use Rattle.wsp_alternatives.specs.declared.error.WspError.TheVariants.{TooManyTerms, TooManyAlternatives}
 use Rattle.wsp_alternatives.specs.declared.term.Term.{Term}
 
--- at most 64 different terms
+-- no more different terms than it may have
 abbrev pub HasFewTerms : Policy → Type 0
-HasFewTerms p = (n : ℕ) × HasTerms p n × (n ≤ 64)
+HasFewTerms p = (n : ℕ) × HasTerms p n × (n ≤ most_terms)
 
 -- what `normalise` answers, and when
 abbrev pub Normalises : Policy → Result (List (List Term)) WspError → Type 0
-Normalises p (Ok lists) = IsNormal p lists × HasFewTerms p × (HasTooMany 256 p → ⊥)
+Normalises p (Ok lists) = IsNormal p lists × HasFewTerms p × (HasTooMany most_alternatives p → ⊥)
 Normalises p (Err Memory) = Unit {0}
 Normalises p (Err (Envelope e)) = ⊥
 Normalises p (Err Malformed) = ⊥
 Normalises p (Err (SecurityUnsupported name)) = ⊥
 Normalises p (Err (TooLarge n)) = ⊥
-Normalises p (Err (TooManyTerms n)) = HasTerms p n × (64 < n)
-Normalises p (Err TooManyAlternatives) = HasFewTerms p × HasTooMany 256 p
+Normalises p (Err (TooManyTerms n)) = HasTerms p n × (most_terms < n)
+Normalises p (Err TooManyAlternatives) = HasFewTerms p × HasTooMany most_alternatives p
 
 -- what `intersect` answers of alternatives, and when
 abbrev pub Intersects : List (List Term) → List (List Term) → Result (List (List Term)) WspError → Type 0
-Intersects a b (Ok lists) = IsIntersection a b lists × (HasMoreInCommon 256 a b → ⊥)
+Intersects a b (Ok lists) = IsIntersection a b lists × (HasMoreInCommon most_alternatives a b → ⊥)
 Intersects a b (Err Memory) = Unit {0}
 Intersects a b (Err (Envelope e)) = ⊥
 Intersects a b (Err Malformed) = ⊥
 Intersects a b (Err (SecurityUnsupported name)) = ⊥
 Intersects a b (Err (TooLarge n)) = ⊥
 Intersects a b (Err (TooManyTerms n)) = ⊥
-Intersects a b (Err TooManyAlternatives) = HasMoreInCommon 256 a b
+Intersects a b (Err TooManyAlternatives) = HasMoreInCommon most_alternatives a b
 
 -- what putting an alternative behind others answers, and when. Private to the crate's own clauses.
 abbrev pub AddsAnswer : List (List Term) → List Term → List (List Term) → Result (Unit {0}) WspError → Type 0
-AddsAnswer old ts new (Ok u) = (new ≡ old ++ ts ∷ []) × (length old < 256)
+AddsAnswer old ts new (Ok u) = (new ≡ old ++ ts ∷ []) × (length old < most_alternatives)
 AddsAnswer old ts new (Err Memory) = Unit {0}
 AddsAnswer old ts new (Err (Envelope e)) = ⊥
 AddsAnswer old ts new (Err Malformed) = ⊥
 AddsAnswer old ts new (Err (SecurityUnsupported name)) = ⊥
 AddsAnswer old ts new (Err (TooLarge n)) = ⊥
 AddsAnswer old ts new (Err (TooManyTerms n)) = ⊥
-AddsAnswer old ts new (Err TooManyAlternatives) = 256 ≤ length old
+AddsAnswer old ts new (Err TooManyAlternatives) = most_alternatives ≤ length old

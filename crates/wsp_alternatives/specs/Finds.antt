@@ -2,7 +2,7 @@
 use Rattle.std.specs.Prelude.{◌≡◌, ◌⊎◌, ℕ, ◌<◌, List, Result, Ok, Err}
 use Rattle.rm_policy.specs.Reading.{IsNoDocument}
 use Rattle.wsp_alternatives.specs.Answers.{HasFewTerms}
-use Rattle.wsp_alternatives.specs.Limits.{HasTerms, HasTooMany}
+use Rattle.wsp_alternatives.specs.Limits.{most_alternatives, most_terms, HasTerms, HasTooMany}
 use Rattle.wsp_alternatives.specs.Normal.{IsNormal, IsIntersection, HasMoreInCommon}
 use Rattle.wsp_alternatives.specs.Reading.{ReadsAs, policy_of, pair_of}
 use Rattle.wsp_alternatives.specs.Tree.{Policy}
@@ -12,17 +12,17 @@ use Rattle.wsp_alternatives.specs.declared.error.WspError.TheVariants.{SecurityU
 use Rattle.wsp_alternatives.specs.declared.error.WspError.TheVariants.{TooManyTerms, TooManyAlternatives}
 use Rattle.wsp_alternatives.specs.declared.term.Term.{Term}
 
--- a policy has more than 64 terms, and so many
+-- a policy has more terms than it may, and so many
 abbrev pub HasManyTerms : Policy → ℕ → Type 0
-HasManyTerms p n = HasTerms p n × (64 < n)
+HasManyTerms p n = HasTerms p n × (most_terms < n)
 
--- it has few, and some operator in it has more than 256 alternatives
+-- it has few, and some operator in it has more alternatives than it may
 abbrev pub HasManyAlternatives : Policy → Type 0
-HasManyAlternatives p = HasFewTerms p × HasTooMany 256 p
+HasManyAlternatives p = HasFewTerms p × HasTooMany most_alternatives p
 
 -- it has neither
 abbrev pub IsWithin : Policy → Type 0
-IsWithin p = HasFewTerms p × (HasTooMany 256 p → ⊥)
+IsWithin p = HasFewTerms p × (HasTooMany most_alternatives p → ⊥)
 
 -- the bytes are a policy within its limits, and these are its alternatives
 pub record IsNormalOf (bytes : List ℕ) (lists : List (List Term)) : Type 0 where
@@ -42,7 +42,7 @@ pub record IsCommonOf (bytes : List ℕ) (common : List (List Term)) : Type 0 wh
   pub others : List (List Term)
   pub normal : IsNormal one lists
   pub other_normal : IsNormal other others
-  pub few : HasMoreInCommon 256 lists others → ⊥
+  pub few : HasMoreInCommon most_alternatives lists others → ⊥
   pub shared : IsIntersection lists others common
 
 -- of a pair the first has too many terms, or the second has them where the first is within its limits
@@ -54,7 +54,8 @@ PairHasManyTerms bytes n = (p : Policy) × (q : Policy) × ReadsAs pair_of bytes
 abbrev pub PairHasManyAlternatives : List ℕ → Type 0
 PairHasManyAlternatives bytes = (p : Policy) × (q : Policy) × ReadsAs pair_of bytes (Ok (p, q))
     × (HasManyAlternatives p ⊎ ((IsWithin p × HasManyAlternatives q)
-    ⊎ ((a : List (List Term)) × (b : List (List Term)) × IsNormal p a × IsNormal q b × HasMoreInCommon 256 a b)))
+    ⊎ ((a : List (List Term)) × (b : List (List Term)) × IsNormal p a × IsNormal q b
+    × HasMoreInCommon most_alternatives a b)))
 
 -- what is found of a policy, or why nothing is
 abbrev pub FindsNormal : List ℕ → Result (List (List Term)) WspError → Type 0

@@ -1,11 +1,23 @@
--- The limits of normal forms: 64 terms of a policy, 256 alternatives of each operator, over as many of its first
--- policies as one likes.
+-- The limits of policies and of their normal forms, each of them a number that stands here once. That of alternatives
+-- holds of each operator, over as many of its first policies as one likes.
 use Rattle.std.specs.Prelude.{◌≡◌, ◌↔◌, ℕ, ◌<◌, true, ◌⊎◌}
 use Rattle.std.specs.FinSet.{contains, len}
 use Rattle.wsp_alternatives.specs.Admits.{Admits}
 use Rattle.wsp_alternatives.specs.Sets.{TermSet, Choices}
 use Rattle.wsp_alternatives.specs.Tree.{Policy, Policies, all, exactly_one, assertion, none, and, first}
 use Rattle.wsp_alternatives.specs.declared.term.Term.{Term}
+
+-- the most different terms of a policy
+abbrev pub most_terms : ℕ
+most_terms = 64
+
+-- the most alternatives of an operator, and of two policies in common
+abbrev pub most_alternatives : ℕ
+most_alternatives = 256
+
+-- the most elements of a document
+abbrev pub most_elements : ℕ
+most_elements = 4096
 
 -- a policy has more than so many alternatives: there are more sets that it admits
 abbrev pub HasMore : ℕ → Policy → Type 0

@@ -8,7 +8,8 @@ use Rattle.std.specs.BTreeSet.{insert_key}
 use Rattle.std.specs.Ordering.{eq_by_cmp, nat_cmp}
 use Rattle.std.specs.FinSet.{empty, insert, from_list}
 use Rattle.wsp_alternatives.specs.Admits.{Admits}
-use Rattle.wsp_alternatives.specs.Limits.{HasTerms, HasTooMany, OneHasTooMany, HasMore, Mentions}
+use Rattle.wsp_alternatives.specs.Limits.{most_alternatives, most_terms, HasTerms, HasTooMany, OneHasTooMany, HasMore}
+use Rattle.wsp_alternatives.specs.Limits.{Mentions}
 use Rattle.wsp_alternatives.specs.Sets.{TermSet, Choices, Rises}
 use Rattle.wsp_alternatives.specs.Terms.{term_cmp}
 use Rattle.wsp_alternatives.specs.Tree.{Policy, Policies, policies_of, first}
@@ -54,28 +55,29 @@ AreMasks ts ms = (m : ℕ) → has_mask ms m ≡ true → m < 2 ^ length ts
 -- exactly the masks of which something holds, each once
 pub record AreExactly (P : ℕ → Type 0) (ms : List ℕ) : Type 0 where
   pub rises : Rises nat_cmp ms
-  pub small : length ms ≤ 256
+  pub small : length ms ≤ most_alternatives
   pub sound : (m : ℕ) → has_mask ms m ≡ true → P m
   pub whole : (m : ℕ) → P m → has_mask ms m ≡ true
 
--- more than 256 of them
+-- more of them than there may be
 pub record AreMany (P : ℕ → Type 0) : Type 0 where
   pub masks : List ℕ
   pub rises : Rises nat_cmp masks
-  pub many : 256 < length masks
+  pub many : most_alternatives < length masks
   pub sound : (m : ℕ) → has_mask masks m ≡ true → P m
 
 -- what putting a mask to others that rise answers
 abbrev pub AddAnswer : List ℕ → ℕ → List ℕ → Result (Unit {0}) WspError → Type 0
 AddAnswer old m new (Ok u) = Rises nat_cmp old
-    → (new ≡ insert_key nat_cmp old m) × ((has_mask old m ≡ true) ⊎ (length old < 256))
+    → (new ≡ insert_key nat_cmp old m) × ((has_mask old m ≡ true) ⊎ (length old < most_alternatives))
 AddAnswer old m new (Err Memory) = Unit {0}
 AddAnswer old m new (Err (Envelope e)) = ⊥
 AddAnswer old m new (Err Malformed) = ⊥
 AddAnswer old m new (Err (SecurityUnsupported name)) = ⊥
 AddAnswer old m new (Err (TooLarge n)) = ⊥
 AddAnswer old m new (Err (TooManyTerms n)) = ⊥
-AddAnswer old m new (Err TooManyAlternatives) = Rises nat_cmp old → (has_mask old m ≡ false) × (256 ≤ length old)
+AddAnswer old m new (Err TooManyAlternatives) = Rises nat_cmp old
+    → (has_mask old m ≡ false) × (most_alternatives ≤ length old)
 
 -- what gathers masks answers
 abbrev pub Gathers : (ℕ → Type 0) → List ℕ → Result (Unit {0}) WspError → Type 0
@@ -99,7 +101,7 @@ OfBoth a b m = (x : ℕ) × (y : ℕ) × (has_mask a x ≡ true) × (has_mask b 
 -- the masks of exactly the sets that a policy admits, each once
 pub record MasksOf (ts : List Term) (p : Policy) (ms : List ℕ) : Type 0 where
   pub rises : Rises nat_cmp ms
-  pub small : length ms ≤ 256
+  pub small : length ms ≤ most_alternatives
   pub below : AreMasks ts ms
   pub sound : (m : ℕ) → has_mask ms m ≡ true → Admits p (chosen ts m)
   pub whole : (x : TermSet) → Admits p x → (m : ℕ) × (has_mask ms m ≡ true) × (x ≡ chosen ts m)
@@ -110,19 +112,19 @@ pub record AreListed (ts : List Term) (p : Policy) : Type 0 where
 
 -- what comes of a policy
 abbrev pub MasksAnswer : List Term → Policy → Result (List ℕ) WspError → Type 0
-MasksAnswer ts p (Ok ms) = MasksOf ts p ms × (HasTooMany 256 p → ⊥)
+MasksAnswer ts p (Ok ms) = MasksOf ts p ms × (HasTooMany most_alternatives p → ⊥)
 MasksAnswer ts p (Err Memory) = Unit {0}
 MasksAnswer ts p (Err (Envelope e)) = ⊥
 MasksAnswer ts p (Err Malformed) = ⊥
 MasksAnswer ts p (Err (SecurityUnsupported name)) = ⊥
 MasksAnswer ts p (Err (TooLarge n)) = ⊥
 MasksAnswer ts p (Err (TooManyTerms n)) = ⊥
-MasksAnswer ts p (Err TooManyAlternatives) = HasTooMany 256 p
+MasksAnswer ts p (Err TooManyAlternatives) = HasTooMany most_alternatives p
 
 -- on the way there: what is not among the masks yet is still to come
 pub record Gathering (P Left : ℕ → Type 0) (ms : List ℕ) : Type 0 where
   pub rises : Rises nat_cmp ms
-  pub small : length ms ≤ 256
+  pub small : length ms ≤ most_alternatives
   pub sound : (m : ℕ) → has_mask ms m ≡ true → P m
   pub whole : (m : ℕ) → P m → (has_mask ms m ≡ true) ⊎ Left m
 
@@ -149,8 +151,8 @@ GathersAnswer P (Err TooManyAlternatives) = AreMany P
 -- the masks of an operator over some policies, of which none, and no prefix, has too many alternatives
 pub record SoFar (op : Policies → Policy) (ts : List Term) (ps : List Policy) (ms : List ℕ) : Type 0 where
   pub masks : MasksOf ts (op (policies_of ps)) ms
-  pub inner : OneHasTooMany 256 (policies_of ps) → ⊥
-  pub prefixes : (k : ℕ) → HasMore 256 (op (first k (policies_of ps))) → ⊥
+  pub inner : OneHasTooMany most_alternatives (policies_of ps) → ⊥
+  pub prefixes : (k : ℕ) → HasMore most_alternatives (op (first k (policies_of ps))) → ⊥
 
 -- exactly the terms of which something holds were added
 abbrev pub GathersTerms : (Term → Type 0) → List Term → List Term → Type 0
@@ -167,10 +169,10 @@ pub record Gathered (P : Term → Type 0) (old new : List Term) : Type 0 where
   pub rises : Rises term_cmp new
   pub terms : GathersTerms P old new
 
--- all terms of a policy, at most 64, in order
+-- all terms of a policy, no more than it may have, in order
 pub record IsTermList (p : Policy) (ts : List Term) : Type 0 where
   pub rises : Rises term_cmp ts
-  pub few : length ts ≤ 64
+  pub few : length ts ≤ most_terms
   pub terms : HasTerms p (length ts)
   pub listed : AreListed ts p
 
@@ -181,5 +183,5 @@ HasNoTermList p (Envelope e) = ⊥
 HasNoTermList p Malformed = ⊥
 HasNoTermList p (SecurityUnsupported name) = ⊥
 HasNoTermList p (TooLarge n) = ⊥
-HasNoTermList p (TooManyTerms n) = HasTerms p n × (64 < n)
+HasNoTermList p (TooManyTerms n) = HasTerms p n × (most_terms < n)
 HasNoTermList p TooManyAlternatives = ⊥

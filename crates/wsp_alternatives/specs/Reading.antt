@@ -14,6 +14,7 @@ use Rattle.rm_policy.specs.Assertion.{assertion_in, optional_in, security_in}
 use Rattle.rm_policy.specs.Reading.{IsNoDocument}
 use Rattle.rm_policy.specs.Words.{rmp, policy_space, older_policy_space}
 use Rattle.rm_policy.specs.declared.assertion.Assertion.{Assertion}
+use Rattle.wsp_alternatives.specs.Limits.{most_elements}
 use Rattle.wsp_alternatives.specs.Tree.{Policy, Policies, all, exactly_one, assertion, none, and}
 use Rattle.wsp_alternatives.specs.declared.error.WspError.{WspError}
 use Rattle.wsp_alternatives.specs.declared.error.WspError.TheVariants.{Memory, Envelope, Malformed}
@@ -144,7 +145,8 @@ counted n = min n 18446744073709551615
 abbrev pub judged : {A : Type 0} → Option A → Option tree.Element → ℕ → Result A WspError
 judged None asked elements = Err Malformed
 judged (Some x) (Some e) elements = Err (SecurityUnsupported (tree.name_of e).local)
-judged (Some x) None elements = if nat_lt 4096 elements then Err (TooLarge (counted elements)) else Ok x
+judged (Some x) None elements =
+    if nat_lt most_elements elements then Err (TooLarge (counted elements)) else Ok x
 
 -- what a document is read as that is a policy, by its root
 abbrev pub policy_of : tree.Element → Result Policy WspError

@@ -1,6 +1,7 @@
 //! The alternatives of a policy as masks: WS-Policy 1.5, section 4.3.
 ghost use Rattle.std.specs.Prelude.{◌≡◌, ◌<◌, ◌≤◌, ◌^◌, length, false, IfSome, slice_index_or, None};
 ghost use Rattle.std.specs.Ordering.{nat_cmp};
+ghost use Rattle.wsp_alternatives.specs.Limits.{most_alternatives, most_terms};
 ghost use Rattle.wsp_alternatives.specs.Masks.{AreListed, AreTermsApart, Gathers, GathersAnswer, MasksAnswer};
 ghost use Rattle.wsp_alternatives.specs.Masks.{OfBoth, OfEither, is_listed};
 ghost use Rattle.wsp_alternatives.specs.Sets.{Rises};
@@ -17,7 +18,7 @@ use std::alloc::Global;
 
 // The masks of either list.
 fn either(masks: &mut Masks, other: &[u64]) -> Result<(), WspError>
-    ensures { length masks.old ≤ 256 → Rises nat_cmp masks.old
+    ensures { length masks.old ≤ most_alternatives → Rises nat_cmp masks.old
         → Gathers (OfEither masks.old other.now) masks.new result }
 {
     for mask in other {
@@ -42,7 +43,7 @@ fn together(alloc: Global, one: &[u64], other: &[u64]) -> Result<Masks, WspError
 /// The masks of exactly the sets that a policy admits, where each of its terms is listed.
 #[cycle(masks)]
 pub(crate) fn masks_of(alloc: Global, policy: &Policy, terms: &[Term]) -> Result<Masks, WspError>
-    requires few { length terms.now ≤ 64 }
+    requires few { length terms.now ≤ most_terms }
     requires rises { Rises term_cmp terms.now }
     ensures { AreListed terms.now (policy_view policy.now) → MasksAnswer terms.now (policy_view policy.now) result }
 {
@@ -55,7 +56,7 @@ pub(crate) fn masks_of(alloc: Global, policy: &Policy, terms: &[Term]) -> Result
 
 #[cycle(masks)]
 fn masks_of_one(alloc: Global, policies: &[Policy], terms: &[Term]) -> Result<Masks, WspError>
-    requires few { length terms.now ≤ 64 }
+    requires few { length terms.now ≤ most_terms }
     requires rises { Rises term_cmp terms.now }
     ensures { AreListed terms.now (exactly_one (policies_view policies.now))
         → MasksAnswer terms.now (exactly_one (policies_view policies.now)) result }
@@ -70,7 +71,7 @@ fn masks_of_one(alloc: Global, policies: &[Policy], terms: &[Term]) -> Result<Ma
 
 #[cycle(masks)]
 fn masks_of_all(alloc: Global, policies: &[Policy], terms: &[Term]) -> Result<Masks, WspError>
-    requires few { length terms.now ≤ 64 }
+    requires few { length terms.now ≤ most_terms }
     requires rises { Rises term_cmp terms.now }
     ensures { AreListed terms.now (all (policies_view policies.now))
         → MasksAnswer terms.now (all (policies_view policies.now)) result }
@@ -90,7 +91,7 @@ fn masks_of_term(
     optional: bool,
     terms: &[Term],
 ) -> Result<Masks, WspError>
-    requires few { length terms.now ≤ 64 }
+    requires few { length terms.now ≤ most_terms }
     requires rises { Rises term_cmp terms.now }
     ensures { AreListed terms.now (assertion term.now optional)
         → MasksAnswer terms.now (assertion term.now optional) result }

@@ -4,6 +4,7 @@ ghost use Rattle.std.specs.BTreeSet.{insert_key};
 ghost use Rattle.std.specs.Int.{bit_at};
 ghost use Rattle.std.specs.List.{insert as inserted};
 ghost use Rattle.wsp_alternatives.specs.Answers.{Normalises};
+ghost use Rattle.wsp_alternatives.specs.Limits.{most_terms};
 ghost use Rattle.wsp_alternatives.specs.Listed.{ListedSoFar, mask_cmp, order_step};
 ghost use Rattle.wsp_alternatives.specs.Masks.{HasNoTermList, IsTermList, has_mask, picked_list};
 ghost use Rattle.wsp_alternatives.specs.Sets.{Rises};
@@ -53,7 +54,7 @@ fn terms_of(alloc: Global, policy: &Policy) -> Result<Vec<Term>, WspError>
 
 // The masks in the order of their alternatives.
 fn ordered(alloc: Global, terms: &[Term], masks: &[u64]) -> Result<Vec<u64>, Memory>
-    requires few { length terms.now ≤ 64 }
+    requires few { length terms.now ≤ most_terms }
     requires rises { Rises term_cmp terms.now }
     ensures { IfOk result (λ ordered. ListedSoFar terms.now (λ m. has_mask masks.now m ≡ true)
         (map (picked_list 0 terms.now) ordered.items)) }
@@ -66,7 +67,7 @@ fn ordered(alloc: Global, terms: &[Term], masks: &[u64]) -> Result<Vec<u64>, Mem
 }
 
 fn insert(ordered: &mut Vec<u64>, terms: &[Term], mask: u64) -> Result<(), Memory>
-    requires few { length terms.now ≤ 64 }
+    requires few { length terms.now ≤ most_terms }
     requires rises { Rises term_cmp terms.now }
     ensures { OnOk result (ordered.new.items ≡ insert_key (mask_cmp terms.now) ordered.old.items mask) }
 {
@@ -79,7 +80,7 @@ fn insert(ordered: &mut Vec<u64>, terms: &[Term], mask: u64) -> Result<(), Memor
 
 // Where a mask is to stand, or nothing where its alternative stands already.
 fn place_in(ordered: &[u64], terms: &[Term], mask: u64) -> Option<usize>
-    requires few { length terms.now ≤ 64 }
+    requires few { length terms.now ≤ most_terms }
     requires rises { Rises term_cmp terms.now }
     ensures within { IfSome result (λ i. i ≤ length ordered.now) }
     ensures place { IfSome result (λ i.
@@ -98,7 +99,7 @@ fn place_in(ordered: &[u64], terms: &[Term], mask: u64) -> Option<usize>
 
 // How the alternatives of two masks are ordered. No names are compared: the terms rise.
 fn compare_masks(terms: &[Term], one: u64, other: u64) -> Ordering
-    requires few { length terms.now ≤ 64 }
+    requires few { length terms.now ≤ most_terms }
     requires rises { Rises term_cmp terms.now }
     ensures { result ≡ mask_cmp terms.now one other }
 {
@@ -157,7 +158,7 @@ fn any(one: bool, other: bool) -> bool
 
 // The alternatives of masks.
 fn lists_of(alloc: Global, terms: &[Term], masks: &[u64]) -> Result<Alternatives, Memory>
-    requires { length terms.now ≤ 64 }
+    requires { length terms.now ≤ most_terms }
     ensures { IfOk result (λ lists. lists ≡ map (picked_list 0 terms.now) masks.now) }
 {
     let mut lists = Alternatives::new(alloc);
@@ -169,7 +170,7 @@ fn lists_of(alloc: Global, terms: &[Term], masks: &[u64]) -> Result<Alternatives
 
 // The terms whose bits are set, in order.
 fn list_of(alloc: Global, terms: &[Term], mask: u64) -> Result<Terms, Memory>
-    requires { length terms.now ≤ 64 }
+    requires { length terms.now ≤ most_terms }
     ensures { IfOk result (λ l. l ≡ picked_list 0 terms.now mask) }
 {
     let mut list = Terms::new(alloc);
