@@ -80,15 +80,15 @@ no_second bytes p q r w (TooManyTerms n) h = (p, q, r, inr (w, h))
 no_second bytes p q r w TooManyAlternatives h = (p, q, r, inr (inl (w, h)))
 
 pub no_common : (bytes : List ℕ) (p q : Policy) (a b : List (List Term)) → ReadsAs pair_of bytes (Ok (p, q))
-    → IsNormal p a
-    → IsNormal q b → (e : WspError) → Intersects a b (Err e) → FindsCommon bytes (Err e)
-no_common bytes p q a b r f g Memory h = tt
-no_common bytes p q a b r f g (Envelope error) h = absurd h
-no_common bytes p q a b r f g Malformed h = absurd h
-no_common bytes p q a b r f g (SecurityUnsupported name) h = absurd h
-no_common bytes p q a b r f g (TooLarge elements) h = absurd h
-no_common bytes p q a b r f g (TooManyTerms n) h = absurd h
-no_common bytes p q a b r f g TooManyAlternatives h = (p, q, r, inr (inr (a, b, f, g, h)))
+    → IsNormal p a → IsNormal q b → IsWithin p → IsWithin q
+    → (e : WspError) → Intersects a b (Err e) → FindsCommon bytes (Err e)
+no_common bytes p q a b r f g v w Memory h = tt
+no_common bytes p q a b r f g v w (Envelope error) h = absurd h
+no_common bytes p q a b r f g v w Malformed h = absurd h
+no_common bytes p q a b r f g v w (SecurityUnsupported name) h = absurd h
+no_common bytes p q a b r f g v w (TooLarge elements) h = absurd h
+no_common bytes p q a b r f g v w (TooManyTerms n) h = absurd h
+no_common bytes p q a b r f g v w TooManyAlternatives h = (p, q, r, inr (inr (v, w, (a, b, f, g, h))))
 
 -- ---- what is found is not refused
 
@@ -191,4 +191,4 @@ module _ (one_tree : (bytes : List ℕ) (a b : written.Element) → IsDocument b
       let other : q ≡ f.other = ap (λ (x : Policy × Policy). x.1) same in
       absurd (⊎_elim (λ m. few_alternatives f.one f.within (subst HasManyAlternatives one m))
       (λ later. ⊎_elim (λ m. few_alternatives f.other f.other_within (subst HasManyAlternatives other m.1))
-      (λ m. few_common p q f one other m.0 m.1 m.2 m.3 m.4) later) many)
+      (λ m. few_common p q f one other m.2.0 m.2.1 m.2.2 m.2.3 m.2.4) later) many)

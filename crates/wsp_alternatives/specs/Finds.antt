@@ -50,12 +50,13 @@ abbrev pub PairHasManyTerms : List ℕ → ℕ → Type 0
 PairHasManyTerms bytes n = (p : Policy) × (q : Policy) × ReadsAs pair_of bytes (Ok (p, q))
     × (HasManyTerms p n ⊎ (IsWithin p × HasManyTerms q n))
 
--- the first has too many alternatives, or the second, or they have too many in common
+-- the first has too many alternatives, or the second where the first is within its limits, or they have too many in
+-- common where both are
 abbrev pub PairHasManyAlternatives : List ℕ → Type 0
 PairHasManyAlternatives bytes = (p : Policy) × (q : Policy) × ReadsAs pair_of bytes (Ok (p, q))
     × (HasManyAlternatives p ⊎ ((IsWithin p × HasManyAlternatives q)
-    ⊎ ((a : List (List Term)) × (b : List (List Term)) × IsNormal p a × IsNormal q b
-    × HasMoreInCommon most_alternatives a b)))
+    ⊎ (IsWithin p × IsWithin q × ((a : List (List Term)) × (b : List (List Term)) × IsNormal p a × IsNormal q b
+    × HasMoreInCommon most_alternatives a b))))
 
 -- what is found of a policy, or why nothing is
 abbrev pub FindsNormal : List ℕ → Result (List (List Term)) WspError → Type 0

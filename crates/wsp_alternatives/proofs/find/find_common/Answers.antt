@@ -26,7 +26,8 @@ returns-in_err-common c =
     let one = c.in_ok-lists.ensures.0 in
     let other = c.in_ok-others.ensures.0 in
     rw (p.1, p.2) (no_common c.args.bytes.now (policy_view c.in_ok-pair.pair.0) (policy_view c.in_ok-pair.pair.1)
-    c.in_ok-lists.lists c.in_ok-others.others c.in_ok-pair.ensures one other _
+    c.in_ok-lists.lists c.in_ok-others.others c.in_ok-pair.ensures one other
+    (c.in_ok-lists.ensures.1, c.in_ok-lists.ensures.2) (c.in_ok-others.ensures.1, c.in_ok-others.ensures.2) _
     (c.in_err-common.ensures one.are other.are))
 
 pub returns : goal.returns
