@@ -11,13 +11,10 @@ ghost use Rattle.node_laws.specs.Records.{IsOfferKept, KeepsLimits};
 use crate::endpoints::is_endpoint_kept;
 use record_batch::{PeerOffer, Record};
 use rm_base::{Blob, Lapse, Memory};
+use rm_elements::duration::{MOST_MONTHS, MOST_MS};
 use soap_profile::check_payload;
 use std::alloc::Global;
 use wsa_headers::Epr;
-
-const MOST_MONTHS: u64 = 100000;
-
-const MOST_MS: u64 = 1000000000000000;
 
 /// Whether all records of a batch that was read keep their limits.
 pub(crate) fn keep_limits(alloc: Global, batch: &[Record]) -> Result<bool, Memory>

@@ -151,10 +151,18 @@ span_in (b ∷ bytes) = if b == letter_p then date_in bytes else None
 abbrev pub at_least_one : Span → ℕ
 at_least_one s = if (s.months == 0 && s.ms == 0) && s.is_part then 1 else s.ms
 
--- at most 100000 months and 1000000000000000 milliseconds
+-- the most months of a duration
+abbrev pub most_months : ℕ
+most_months = 100000
+
+-- the most milliseconds of a duration beside its months
+abbrev pub most_ms : ℕ
+most_ms = 1000000000000000
+
+-- at most so many months and milliseconds
 abbrev pub lapse_of : Span → Option Lapse
 lapse_of s =
-    if nat_le s.months 100000 && nat_le s.ms 1000000000000000
+    if nat_le s.months most_months && nat_le s.ms most_ms
     then Some (record { months = s.months; ms = at_least_one s }) else None
 
 -- a lapse, where there is a span

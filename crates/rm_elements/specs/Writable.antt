@@ -5,6 +5,7 @@ use Rattle.rm_base.specs.Message.{max_number}
 use Rattle.rm_base.specs.Text.{IsText}
 use Rattle.wsa_headers.specs.Writable.{IsEprWritable}
 use Rattle.ack_ranges.specs.declared.range.Range.{Range}
+use Rattle.rm_elements.specs.Duration.{most_months, most_ms}
 use Rattle.rm_elements.specs.declared.header.AckBlock.{AckBlock}
 use Rattle.rm_elements.specs.declared.header.AckKind.{AckKind}
 use Rattle.rm_elements.specs.declared.header.AckKind.TheVariants.{Ranges, Nothing, Nack}
@@ -57,8 +58,8 @@ IsHeaderWritable (headers.Pending pending) = Unit {0}
 
 -- a duration of at most so many months and milliseconds
 pub record IsLapseWritable (x : Lapse) : Type 0 where
-  pub months : x.months ≤ 100000
-  pub ms : x.ms ≤ 1000000000000000
+  pub months : x.months ≤ most_months
+  pub ms : x.ms ≤ most_ms
 
 -- an identifier, an endpoint and a duration (3.4)
 pub record IsOfferWritable (x : Offer) : Type 0 where

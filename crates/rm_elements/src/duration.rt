@@ -23,9 +23,11 @@ ghost use Rattle.rm_elements.specs.Duration.{
 use rm_base::Lapse;
 use soap_values::number::number_of;
 
-const MOST_MONTHS: u64 = 100000;
+/// The most months of a duration.
+pub const MOST_MONTHS: u64 = 100000;
 
-const MOST_MS: u64 = 1000000000000000;
+/// The most milliseconds of a duration beside its months.
+pub const MOST_MS: u64 = 1000000000000000;
 
 /// What fields come to, before their limits. `is_part` says that a digit behind the point of the seconds is not zero.
 #[derive(Clone, Copy, Debug)]
