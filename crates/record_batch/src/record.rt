@@ -92,6 +92,7 @@ pub enum Record {
         cause: Cause,
         last: u64,
     },
+    /// `fault` is the number of the fault's kind, as `FaultKind::number` of `rm_message` has it.
     Failed {
         seq: u32,
         fault: u8,

@@ -285,7 +285,7 @@ fn lapse_within(span: Span) -> Option<Lapse>
     })
 }
 
-/// A duration of at most 100000 months and 1000000000000000 milliseconds, and None for bytes that are no such duration.
+/// A duration of at most `MOST_MONTHS` and `MOST_MS`, and None for bytes that are no such duration.
 /// Digits past the third behind the point of the seconds are dropped, but a duration that isn't zero is at least a
 /// millisecond. It takes no memory.
 #[tactic(auto, unfolding(crate::specs::Duration::duration_in), using(crate::proofs::Spans::same_lapse))]

@@ -23,6 +23,8 @@ use Rattle.rm_source.specs.declared.phase.OutPhase.TheVariants as out
 use Rattle.rm_message.specs.declared.message.Body.{Body}
 use Rattle.rm_message.specs.declared.message.Body.TheVariants as body
 use Rattle.rm_message.specs.declared.message.Message.{Message}
+use Rattle.rm_message.specs.declared.refusal.FaultKind.TheVariants as kinds
+use Rattle.rm_message.specs.Kinds.{kind_number}
 use Rattle.soap_profile.specs.Tree.{Element}
 use Rattle.soap_profile.specs.declared.name.Expanded.{Expanded}
 use Rattle.wsa_headers.specs.declared.endpoint.Epr.{Epr}
@@ -169,7 +171,7 @@ ended_at (Some s) r = ended_in s (phase r s)
 -- Fault CreateSequenceRefused that relates to a sequence in Creating: Failed, and its offer is ended
 abbrev pub refused_at : Option ℕ → Row
 refused_at None r = []
-refused_at (Some s) r = Failed s 17 ∷ drop_at s r
+refused_at (Some s) r = Failed s (kind_number kinds.CreateSequenceRefused) ∷ drop_at s r
 
 -- the row of a fault CreateSequenceRefused
 abbrev pub refused_row : Option Text → Row
@@ -204,9 +206,12 @@ is_fault name (Some subcode) = bytes_eq subcode.space rm_space && bytes_eq subco
 abbrev pub fault_row : Option Text → Option Expanded → List Element → Row
 fault_row relates subcode detail r =
     if is_fault (codes "CreateSequenceRefused") subcode then refused_row relates r
-    else if is_fault (codes "SequenceTerminated") subcode then failed_at 14 (named_in r detail) r
-    else if is_fault (codes "UnknownSequence") subcode then failed_at 13 (named_in r detail) r
-    else if is_fault (codes "MessageNumberRollover") subcode then failed_at 11 (named_in r detail) r
+    else if is_fault (codes "SequenceTerminated") subcode
+    then failed_at (kind_number kinds.SequenceTerminated) (named_in r detail) r
+    else if is_fault (codes "UnknownSequence") subcode
+    then failed_at (kind_number kinds.UnknownSequence) (named_in r detail) r
+    else if is_fault (codes "MessageNumberRollover") subcode
+    then failed_at (kind_number kinds.Rollover) (named_in r detail) r
     else if is_fault (codes "SequenceClosed") subcode then shut_at (named_in r detail) r
     else []
 
