@@ -2,6 +2,7 @@
 
 ghost use Rattle.std.specs.Prelude.{◌≡◌, ◌≤◌, ◌+◌, ℕ, List, [], None};
 ghost use Rattle.std.specs.List.{AllByRecursion};
+ghost use Rattle.rm_base.specs.Limits.{content_depth};
 ghost use Rattle.rm_base.specs.declared.message.Binding.{Binding};
 ghost use Rattle.soap_document.specs.Grammar.{max_depth};
 ghost use Rattle.soap_profile.specs.Namespaces.{bound};
@@ -43,5 +44,6 @@ pub fn blocks_are_content()
 /// no default namespace is in force, as within a frame.
 pub fn closed_content_is_read_alike()
     ensures { (bytes : List ℕ) (closed : IsClosedContent bytes) (depth at : ℕ) (scope : List Binding)
-        → depth + 90 ≤ max_depth → bound [] scope ≡ None → ContentReadsAs depth at scope bytes closed.parts }
+        → depth + content_depth ≤ max_depth → bound [] scope ≡ None
+        → ContentReadsAs depth at scope bytes closed.parts }
 {}
