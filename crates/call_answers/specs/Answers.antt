@@ -5,6 +5,7 @@ use Rattle.batch_size.specs.Room.{HasRoom}
 use Rattle.batch_size.specs.Typed.{IsTyped}
 use Rattle.record_batch.specs.Fact.{Fact, fact_of}
 use Rattle.sequence_table.specs.Fits.{all_fit}
+use Rattle.rm_protocol.specs.Waiting.{Moves}
 use Rattle.rm_protocol.specs.Calls.{Answer, Cause, Outcome, Wish, NoSequence, WrongSide, PayloadTooLong, BadPayload}
 use Rattle.rm_protocol.specs.Calls.{NotOpen, WindowFull, NodeFull, Rollover, TooManySequences, StoreFull, Done}
 use Rattle.rm_protocol.specs.Calls.{Refused, Judged}
@@ -13,6 +14,7 @@ use Rattle.call_answers.specs.declared.answer.Cause.{Cause as CodeCause}
 use Rattle.call_answers.specs.declared.answer.Cause.TheVariants as cause
 use Rattle.call_answers.specs.declared.answer.Outcome.{Outcome as CodeOutcome}
 use Rattle.call_answers.specs.declared.answer.Outcome.TheVariants as code
+use Rattle.call_answers.specs.declared.answer.Moves.{Moves as CodeMoves}
 use Rattle.call_answers.specs.declared.answer.Wish.{Wish as CodeWish}
 
 -- why a call is refused
@@ -34,9 +36,18 @@ outcome_seen code.Done = Done
 outcome_seen (code.Refused cause) = Refused (cause_seen cause)
 outcome_seen (code.Judged fault) = Judged fault
 
+-- how keys move
+abbrev pub moves_seen : CodeMoves → Moves
+moves_seen m = record { urged = m.urged.items; emitted = m.emitted.items; time = m.time }
+
 -- what a call comes to
 abbrev pub seen : CodeAnswer → Answer
-seen a = record { outcome = outcome_seen a.outcome; delta = map fact_of a.batch.items; outs = a.outs.items }
+seen a = record {
+  outcome = outcome_seen a.outcome;
+  delta = map fact_of a.batch.items;
+  outs = a.outs.items;
+  moves = moves_seen a.moves;
+}
 
 -- what is asked for
 abbrev pub wish_seen : CodeWish → Wish

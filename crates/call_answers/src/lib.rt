@@ -6,5 +6,5 @@
 pub mod answer;
 pub mod room;
 
-pub use answer::{Answer, Cause, Outcome, Wish};
+pub use answer::{Answer, Cause, Moves, Outcome, Wish, no_moves};
 pub use room::{has_room, if_room};

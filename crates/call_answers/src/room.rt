@@ -13,7 +13,7 @@ ghost use Rattle.rm_protocol.specs.Verdict.{has_room as has_room_for};
 ghost use Rattle.node_laws.specs.OwnTerms.{AreOwn};
 ghost use Rattle.call_answers.specs.Answers.{cause_seen, seen};
 
-use crate::answer::{Answer, Cause, Outcome};
+use crate::answer::{Answer, Cause, Outcome, no_moves};
 use batch_size::batch_len;
 use record_batch::Record;
 use rm_base::Memory;
@@ -65,6 +65,7 @@ fn refused(alloc: Global, cause: Cause) -> Answer
         outcome: Outcome::Refused(cause),
         batch: Vec::new(alloc),
         outs: Vec::new(alloc),
+        moves: no_moves(alloc),
     }
 }
 

@@ -15,10 +15,12 @@ use Rattle.rm_journal.specs.JournalState.{end_of as journal_end}
 use Rattle.rm_message.specs.declared.message.Message.{Message}
 use Rattle.sequence_table.specs.Words.{Text}
 use Rattle.rm_protocol.specs.Calls.{Answer, Cause, Outcome}
+use Rattle.rm_protocol.specs.Exact.{AreExactly}
 use Rattle.rm_protocol.specs.Node.{Node, State, Up, Writing, Answered, DiskFault, after_by, burned, end_of, goes_down}
 use Rattle.rm_protocol.specs.Node.{is_short, outcome_by, outcome_with, records, said_by, said_with}
-use Rattle.rm_protocol.specs.Node.{with_batch as grows, written}
+use Rattle.rm_protocol.specs.Node.{with_batch as grows, with_moves, written}
 use Rattle.rm_protocol.specs.Terms.{Terms}
+use Rattle.rm_protocol.specs.Waiting.{Moves, no_moves}
 use Rattle.rm_protocol.specs.World.{clock_by}
 use Rattle.rm_disk.specs.Told.{Told}
 use Rattle.node_store.specs.Changes.{BurnsFor, Changes}
@@ -27,14 +29,17 @@ use Rattle.node_store.specs.Stored.{Stored, grown, with_batch}
 use Rattle.rm_node.specs.Called.{Called, Does, Sleeps}
 use Rattle.rm_node.specs.declared.packets.Out.{Out}
 use Rattle.rm_node.specs.Ends.{Ended, Handed, Refused, Wanted, Broke, WasDown}
-use Rattle.rm_node.specs.Noded.{Noded}
+use Rattle.rm_node.specs.Keeping.{Keeping, Keeps, kept_after}
+use Rattle.rm_node.specs.Noded.{Noded, Runs}
+use Rattle.rm_node.specs.declared.kept.Kept.{Kept}
 use Rattle.rm_node.specs.Packets.{IsReplyFirst, packets_of, reply_of, reply_packet}
 use Rattle.rm_report.specs.declared.line.Outcome.TheVariants as told
 use Rattle.node_actor.specs.Actored.{Actored}
 use Rattle.node_actor.specs.Comes.{ComesOut, IsTold}
 use Rattle.node_actor.specs.declared.actor.Came.{Came}
 use Rattle.node_actor.specs.Outcomes.{answer_told, call_told, packets_in, refusal_told}
-use Rattle.node_actor.specs.Stands.{Acted, Acts, Asleep, Awake, Stands, StandsBy}
+use Rattle.node_actor.specs.Stands.{Acted, Acts, Asleep, Awake, Stands, StandsBy, kept_of}
+use Rattle.node_actor.proofs.KeptLemmas.{quiet-kept}
 use Rattle.node_actor.proofs.QuietLemmas.{IsQuiet}
 
 -- a node and a clock
@@ -60,7 +65,7 @@ awake_of : (x : Node) (now : Told) (a : Actored) → Stands x now a → x.state 
     → Awake x.entries now.past a.node.stored
 awake_of x now a s up = subst (λ (st : State). StandsBy st x.entries now.past a.node.stored) up s.disk
 
-asleep_of : (x : Node) (delta : List Fact) (now : Told) (a : Actored) → Stands x now a → x.state ≡ Writing delta
+pub asleep_of : (x : Node) (delta : List Fact) (now : Told) (a : Actored) → Stands x now a → x.state ≡ Writing delta
     → Asleep x.entries delta now.past a.node.stored
 asleep_of x delta now a s writing =
     subst (λ (st : State). StandsBy st x.entries now.past a.node.stored) writing s.disk
@@ -73,7 +78,8 @@ unchanged x first now old new s kept stored same = record {
   disk = subst (λ (t : Told). StandsBy x.state x.entries t.past new.stored) (sym same)
       (subst (λ (st : Stored). StandsBy x.state x.entries first.past st) (sym stored) s.disk);
   fuse = ap (λ (t : Told). t.fuse) same ∙ s.fuse;
-  kept = kept ∙ s.kept;
+  granted = ap (λ (k : Kept). k.granted) kept ∙ s.granted;
+  kept = λ up. subst (λ (k : Kept). Keeps k (kept_of x)) (sym kept) (s.kept up);
   in_order = s.in_order;
   clock = s.clock;
 }
@@ -100,36 +106,42 @@ said_well : (fuse : Option ℕ) (delta : List Fact) (outs : List Message) → We
 said_well fuse [] outs well = refl
 said_well fuse (f ∷ delta) outs well = ap (λ (b : Bool). cond b [] outs) (sym well)
 
+-- what it keeps after a call that went well
+abbrev moved_of : Node → Answer → Keeping
+moved_of x answer = kept_after (records x) answer (kept_of x)
+
 -- a batch was written, unless it is empty
-written_well : (x : Node) (delta : List Fact) (first now : Told) (old : Actored) (new : Noded) → Stands x first old
-    → x.state ≡ Up → new.kept ≡ old.node.kept
+written_well : (x : Node) (answer : Answer) (delta : List Fact) (first now : Told) (old : Actored) (new : Noded)
+    → Stands x first old → x.state ≡ Up → Keeps new.kept (moved_of x answer)
     → Changes first now old.node.stored new.stored delta true false
     → new.stored.journal.is_down ≡ old.node.stored.journal.is_down → AreOfNode (with_batch x.entries delta)
-    → Stands (written x delta) now (actored new old.clock)
-written_well x [] first now old new s up kept changes same next =
+    → Stands (with_moves x answer (written x delta)) now (actored new old.clock)
+written_well x answer [] first now old new s up kept changes same next =
     let awake = awake_of x first old s up in record {
       disk = subst (λ (st : State). StandsBy st x.entries now.past new.stored) (sym up) (record {
         up = same ∙ awake.up;
         has = record { holds = changes.holds x.entries awake.has.holds refl; are = next };
       });
       fuse = (changes.fuse (inl refl)).0 ∙ s.fuse;
-      kept = kept ∙ s.kept;
+      granted = kept.granted;
+      kept = λ still. kept;
       in_order = s.in_order;
       clock = s.clock;
     }
-written_well x (f ∷ delta) first now old new s up kept changes same next =
+written_well x answer (f ∷ delta) first now old new s up kept changes same next =
     let awake = awake_of x first old s up in
     let burns = burns_well first.fuse now.fuse (changes.fuse (inl refl)) in
     let well : is_short 4 x.fuse ≡ false = ap (λ (fuse : Option ℕ). is_short 4 fuse) (sym s.fuse) ∙ burns.0 in
-    subst (λ (b : Bool). Stands (cond b (goes_down x (f ∷ delta)) (grows x (f ∷ delta))) now (actored new old.clock))
-    (sym well) (record {
+    subst (λ (b : Bool). Stands (with_moves x answer (cond b (goes_down x (f ∷ delta)) (grows x (f ∷ delta)))) now
+    (actored new old.clock)) (sym well) (record {
       disk = subst (λ (st : State). StandsBy st (x.entries ++ (f ∷ delta) ∷ []) now.past new.stored) (sym up)
           (record {
             up = same ∙ awake.up;
             has = record { holds = changes.holds x.entries awake.has.holds refl; are = next };
           });
       fuse = burns.1 ∙ ap (λ (fuse : Option ℕ). burned 4 fuse) s.fuse;
-      kept = kept ∙ s.kept;
+      granted = kept.granted;
+      kept = λ still. kept;
       in_order = s.in_order;
       clock = s.clock;
     })
@@ -141,13 +153,13 @@ count_of x past stored awake =
     ∙ length-map x.entries batch_text
 
 -- the disk failed
-fell : (x : Node) (delta : List Fact) (first now : Told) (old : Actored) (new : Noded) → Stands x first old
-    → x.state ≡ Up → new.kept ≡ old.node.kept
+fell : (x : Node) (answer : Answer) (delta : List Fact) (first now : Told) (old : Actored) (new : Noded)
+    → Stands x first old → x.state ≡ Up → new.kept.granted ≡ x.granted
     → Changes first now old.node.stored new.stored delta false true
     → new.stored.journal.is_down ≡ true → new.stored.journal.gates ≡ old.node.stored.journal.gates
     → AreOfNode (with_batch x.entries delta) → now.fuse ≡ Some 0
-    → Stands (goes_down x delta) now (actored new old.clock)
-fell x delta first now old new s up kept changes down gates next spent =
+    → Stands (with_moves x answer (goes_down x delta)) now (actored new old.clock)
+fell x answer delta first now old new s up granted changes down gates next spent =
     let awake = awake_of x first old s up in record {
       disk = record {
         down = down;
@@ -158,7 +170,8 @@ fell x delta first now old new s up kept changes down gates next spent =
         count = ap (λ (l : List ℕ). length l) gates ∙ count_of x first.past old.node.stored awake;
       };
       fuse = spent;
-      kept = kept ∙ s.kept;
+      granted = granted;
+      kept = λ (still : Writing delta ≡ Up). absurd cc;
       in_order = s.in_order;
       clock = s.clock;
     }
@@ -172,7 +185,7 @@ nothing_left came back out =
 
 -- by what comes of its records
 by_state : (connected : Bool) (x : Node) (answer : Answer) (now : Told) (a : Actored) (came : Came) → x.state ≡ Up
-    → Stands (written x answer.delta) now a
+    → Stands (with_moves x answer (written x answer.delta)) now a
     → came.outcome ≡ call_told (outcome_with x.fuse answer.delta answer.outcome)
     → packets_in came ≡ packets_of connected (said_with x.fuse answer.delta answer.outs)
     → Acted connected x answer now a came
@@ -195,8 +208,10 @@ handed tells connected x answer first now old new outcome reply outs came t s up
     let awake = awake_of x first old s up in
     let changes = called.wrote.changes t in
     let well = went_well x answer.delta first now s.fuse (changes.fuse (inl refl)) in
+    let kept = subst (λ (r : List Fact). Keeps new.kept (kept_after r answer (kept_of x)))
+    awake.has.holds.records (called.wrote.kept (kept_of x) (s.kept up)) in
     by_state connected x answer now (actored new old.clock) came up
-    (written_well x answer.delta first now old new s up called.wrote.kept changes
+    (written_well x answer answer.delta first now old new s up kept changes
     (ap (λ (st : Stored). st.journal.is_down) called.wrote.stored ∙ down_grown old.node.stored answer.delta)
     (called.next t (inl refl) x.entries awake.has))
     (is.came_out ∙ ap answer_told called.ends.0 ∙ outcome_well x.fuse answer.delta answer.outcome well)
@@ -204,40 +219,67 @@ handed tells connected x answer first now old new outcome reply outs came t s up
     ∙ ap (λ (os : List Out). reply_packet (reply_of connected answer.outs) ++ os) (is.out ∙ called.ends.2) ∙ order
     ∙ ap (λ (ms : List Message). packets_of connected ms) (said_well x.fuse answer.delta answer.outs well))
 
-abbrev answer_of : Outcome → List Fact → List Message → Answer
-answer_of outcome delta outs = record { outcome = outcome; delta = delta; outs = outs }
+abbrev answer_of : Outcome → List Fact → List Message → Moves → Answer
+answer_of outcome delta outs moves = record { outcome = outcome; delta = delta; outs = outs; moves = moves }
+
+-- a refusal moves no key, as all keys that wait do so by the records
+refused_stands : (x : Node) (outcome : Outcome) (outs : List Message) (first now : Told) (old : Actored) (new : Noded)
+    → Stands x first old → x.state ≡ Up → AreExactly (records x) x.waits → new.kept ≡ old.node.kept
+    → new.stored ≡ old.node.stored → now ≡ first
+    → Stands (with_moves x (answer_of outcome [] outs no_moves) x) now (actored new old.clock)
+refused_stands x outcome outs first now old new s up exact kept stored same =
+    let as_before = unchanged x first now old new s kept stored same in
+    let moved : Keeps new.kept (moved_of x (answer_of outcome [] outs no_moves)) =
+    subst (Keeps new.kept) (sym (quiet-kept (records x) outcome outs (kept_of x) exact)) (as_before.kept up) in
+    record {
+      disk = as_before.disk;
+      fuse = as_before.fuse;
+      granted = as_before.granted;
+      kept = λ still. moved;
+      in_order = as_before.in_order;
+      clock = as_before.clock;
+    }
 
 refused : (tells connected : Bool) (x : Node) (outcome : Outcome) (delta : List Fact) (outs : List Message)
-    (first now : Told) (old : Actored) (new : Noded) (cause : Cause) (came : Came) → IsTrue tells
-    → Stands x first old → x.state ≡ Up
-    → Called tells connected first now old.node new (answer_of outcome delta outs) (Refused cause)
-    → IsQuiet (answer_of outcome delta outs) → IsTold (refusal_told cause) None [] came
-    → Acted connected x (answer_of outcome delta outs) now (actored new old.clock) came
-refused tells connected x outcome delta outs first now old new cause came t s up called quiet is =
+    (moves : Moves) (first now : Told) (old : Actored) (new : Noded) (cause : Cause) (came : Came) → IsTrue tells
+    → Stands x first old → x.state ≡ Up → Runs old.node
+    → Called tells connected first now old.node new (answer_of outcome delta outs moves) (Refused cause)
+    → IsQuiet (answer_of outcome delta outs moves) → IsTold (refusal_told cause) None [] came
+    → Acted connected x (answer_of outcome delta outs moves) now (actored new old.clock) came
+refused tells connected x outcome delta outs moves first now old new cause came t s up runs called quiet is =
     let none : delta ≡ [] = quiet.delta cause called.ends in
     let silent : outs ≡ [] = quiet.outs cause called.ends in
-    by_state connected x (answer_of outcome delta outs) now (actored new old.clock) came up
-    (subst (λ (d : List Fact). Stands (written x d) now (actored new old.clock)) (sym none)
-    (unchanged x first now old new s called.wrote.kept called.wrote.stored
-    ((called.wrote.changes t).untouched refl refl)))
+    let unmoved : moves ≡ no_moves = quiet.moves cause called.ends in
+    let exact : AreExactly (records x) x.waits =
+    subst (λ (r : List Fact). AreExactly r x.waits) (awake_of x first old s up).has.holds.records
+    (runs.exact (kept_of x) (s.kept up)) in
+    by_state connected x (answer_of outcome delta outs moves) now (actored new old.clock) came up
+    (subst (λ (d : List Fact). Stands (with_moves x (answer_of outcome d outs moves) (written x d)) now
+    (actored new old.clock)) (sym none)
+    (subst (λ (m : Moves). Stands (with_moves x (answer_of outcome [] outs m) x) now (actored new old.clock))
+    (sym unmoved) (refused_stands x outcome outs first now old new s up exact called.wrote.kept called.wrote.stored
+    ((called.wrote.changes t).untouched refl refl))))
     (is.came_out ∙ ap answer_told (sym called.ends)
     ∙ ap (λ (d : List Fact). call_told (outcome_with x.fuse d outcome)) (sym none))
     (nothing_left came is.back is.out ∙ ap (λ (ms : List Message). packets_of connected ms) (sym silent)
     ∙ ap (λ (d : List Fact). packets_of connected (said_with x.fuse d outs)) (sym none))
 
 broke : (tells connected : Bool) (x : Node) (outcome : Outcome) (delta : List Fact) (outs : List Message)
-    (first now : Told) (old : Actored) (new : Noded) (came : Came) → IsTrue tells → Stands x first old
-    → x.state ≡ Up → Called tells connected first now old.node new (answer_of outcome delta outs) Broke
-    → IsTold told.Disk None [] came → Acted connected x (answer_of outcome delta outs) now (actored new old.clock) came
-broke tells connected x outcome [] outs first now old new came t s up called is = absurd (called.ends refl)
-broke tells connected x outcome (f ∷ delta) outs first now old new came t s up called is =
+    (moves : Moves) (first now : Told) (old : Actored) (new : Noded) (came : Came) → IsTrue tells → Stands x first old
+    → x.state ≡ Up → Called tells connected first now old.node new (answer_of outcome delta outs moves) Broke
+    → IsTold told.Disk None [] came
+    → Acted connected x (answer_of outcome delta outs moves) now (actored new old.clock) came
+broke tells connected x outcome [] outs moves first now old new came t s up called is = absurd (called.ends refl)
+broke tells connected x outcome (f ∷ delta) outs moves first now old new came t s up called is =
     let awake = awake_of x first old s up in
     let changes = called.wrote.changes t in
     let burns = burns_short first.fuse now.fuse (changes.fuse (inr refl)) in
     let short : is_short 4 x.fuse ≡ true = ap (λ (fuse : Option ℕ). is_short 4 fuse) (sym s.fuse) ∙ burns.0 in
-    by_state connected x (answer_of outcome (f ∷ delta) outs) now (actored new old.clock) came up
-    (subst (λ (b : Bool). Stands (cond b (goes_down x (f ∷ delta)) (grows x (f ∷ delta))) now
-    (actored new old.clock)) (sym short) (fell x (f ∷ delta) first now old new s up called.wrote.kept changes
+    by_state connected x (answer_of outcome (f ∷ delta) outs moves) now (actored new old.clock) came up
+    (subst (λ (b : Bool). Stands (with_moves x (answer_of outcome (f ∷ delta) outs moves)
+    (cond b (goes_down x (f ∷ delta)) (grows x (f ∷ delta)))) now (actored new old.clock)) (sym short)
+    (fell x (answer_of outcome (f ∷ delta) outs moves) (f ∷ delta) first now old new s up
+    (ap (λ (k : Kept). k.granted) called.wrote.kept ∙ s.granted) changes
     (ap (λ (st : Stored). st.journal.is_down) called.wrote.stored)
     (ap (λ (st : Stored). st.journal.gates) called.wrote.stored)
     (called.next t (inr refl) x.entries awake.has) burns.1))
@@ -245,25 +287,27 @@ broke tells connected x outcome (f ∷ delta) outs first now old new came t s up
     (nothing_left came is.back is.out ∙ ap (λ (b : Bool). packets_of connected (cond b [] outs)) (sym short))
 
 acts_up : (tells connected : Bool) (x : Node) (answer : Answer) (first now : Told) (old : Actored) (new : Noded)
-    (ended : Ended) (r : Result Came Memory) → IsTrue tells → Stands x first old → x.state ≡ Up
+    (ended : Ended) (r : Result Came Memory) → IsTrue tells → Stands x first old → x.state ≡ Up → Runs old.node
     → Called tells connected first now old.node new answer ended → IsQuiet answer → IsReplyFirst connected answer.outs
     → ComesOut ended r → Acts connected x answer now (actored new old.clock) r
-acts_up tells connected x answer first now old new (Handed outcome reply outs) (Ok came) t s up called quiet order is =
+acts_up tells connected x answer first now old new (Handed outcome reply outs) (Ok came) t s up runs called quiet order
+    is =
     handed tells connected x answer first now old new outcome reply outs came t s up called order is
-acts_up tells connected x answer first now old new (Handed outcome reply outs) (Err memory) t s up called quiet order
-    is = absurd is
-acts_up tells connected x answer first now old new (Refused cause) (Ok came) t s up called quiet order is =
-    refused tells connected x answer.outcome answer.delta answer.outs first now old new cause came t s up called
-    quiet is
-acts_up tells connected x answer first now old new (Refused cause) (Err memory) t s up called quiet order is = absurd is
-acts_up tells connected x answer first now old new Wanted (Ok came) t s up called quiet order is = absurd is
-acts_up tells connected x answer first now old new Wanted (Err memory) t s up called quiet order is =
+acts_up tells connected x answer first now old new (Handed outcome reply outs) (Err memory) t s up runs called quiet
+    order is = absurd is
+acts_up tells connected x answer first now old new (Refused cause) (Ok came) t s up runs called quiet order is =
+    refused tells connected x answer.outcome answer.delta answer.outs answer.moves first now old new cause came t s up
+    runs called quiet is
+acts_up tells connected x answer first now old new (Refused cause) (Err memory) t s up runs called quiet order is =
+    absurd is
+acts_up tells connected x answer first now old new Wanted (Ok came) t s up runs called quiet order is = absurd is
+acts_up tells connected x answer first now old new Wanted (Err memory) t s up runs called quiet order is =
     unchanged x first now old new s called.wrote.kept called.wrote.stored
     ((called.wrote.changes t).untouched refl refl)
-acts_up tells connected x answer first now old new Broke (Ok came) t s up called quiet order is =
-    broke tells connected x answer.outcome answer.delta answer.outs first now old new came t s up called is
-acts_up tells connected x answer first now old new Broke (Err memory) t s up called quiet order is = absurd is
-acts_up tells connected x answer first now old new WasDown r t s up called quiet order is = absurd called.ends
+acts_up tells connected x answer first now old new Broke (Ok came) t s up runs called quiet order is =
+    broke tells connected x answer.outcome answer.delta answer.outs answer.moves first now old new came t s up called is
+acts_up tells connected x answer first now old new Broke (Err memory) t s up runs called quiet order is = absurd is
+acts_up tells connected x answer first now old new WasDown r t s up runs called quiet order is = absurd called.ends
 
 -- ---- a node that is down
 
@@ -300,31 +344,36 @@ same_answer terms x f now a ends s up =
 -- a call whose answer is worked out of the records and their end
 pub acts : (terms : Terms) (tells connected : Bool) (x : Node) (f : List Fact → ℕ → Answer) (first now : Told)
     (old : Actored) (new : Noded) (ended : Ended) (r : Result Came Memory) → EndsThere terms → IsTrue tells
-    → Stands x first old
-    → Does tells connected first now old.node new
-    (f old.node.stored.records (journal_end old.node.stored.journal)) ended
+    → Stands x first old → Runs old.node
+    → (x.state ≡ Up → Does tells connected first now old.node new
+    (f old.node.stored.records (journal_end old.node.stored.journal)) ended)
+    → ((delta : List Fact) → x.state ≡ Writing delta → Sleeps first now old.node new ended)
     → IsQuiet (f (records x) (end_of terms x.entries))
     → IsReplyFirst connected (f (records x) (end_of terms x.entries)).outs → ComesOut ended r
     → Acts connected x (f (records x) (end_of terms x.entries)) now (actored new old.clock) r
-acts terms tells connected x f first now old new ended r ends t s does quiet order is =
+acts terms tells connected x f first now old new ended r ends t s runs does sleeps quiet order is =
     let answer = f (records x) (end_of terms x.entries) in
     elim (x.state) as (λ (st : State). x.state ≡ st → Acts connected x answer now (actored new old.clock) r) [
-      | Up ↦ λ up. acts_up tells connected x answer first now old new ended r t s up
+      | Up ↦ λ up. acts_up tells connected x answer first now old new ended r t s up runs
           (subst (λ (z : Answer). Called tells connected first now old.node new z ended)
           (same_answer terms x f first old ends s up)
           (subst (λ (b : Bool). MatchBool b (Sleeps first now old.node new ended)
           (Called tells connected first now old.node new
           (f old.node.stored.records (journal_end old.node.stored.journal)) ended))
-          (awake_of x first old s up).up does)) quiet order is
+          (awake_of x first old s up).up (does up))) quiet order is
       | Writing delta ↦ λ down.
-          let sleeps : Sleeps first now old.node new ended =
-          subst (λ (b : Bool). MatchBool b (Sleeps first now old.node new ended)
-          (Called tells connected first now old.node new
-          (f old.node.stored.records (journal_end old.node.stored.journal)) ended))
-          (asleep_of x delta first old s down).down does in
-          acts_down connected x delta answer first now old new r s down sleeps.node sleeps.disk
-          (subst (λ (e : Ended). ComesOut e r) sleeps.ends is)
+          let slept = sleeps delta down in
+          acts_down connected x delta answer first now old new r s down slept.node slept.disk
+          (subst (λ (e : Ended). ComesOut e r) slept.ends is)
     ] refl
+
+-- a node that is down sleeps, whatever the answer would be
+pub sleeps_down : (tells connected : Bool) (x : Node) (delta : List Fact) (answer : Answer) (first now : Told)
+    (old : Actored) (new : Noded) (ended : Ended) → Stands x first old → x.state ≡ Writing delta
+    → Does tells connected first now old.node new answer ended → Sleeps first now old.node new ended
+sleeps_down tells connected x delta answer first now old new ended s down does =
+    subst (λ (b : Bool). MatchBool b (Sleeps first now old.node new ended)
+    (Called tells connected first now old.node new answer ended)) (asleep_of x delta first old s down).down does
 
 -- ---- the clock
 

@@ -1,21 +1,24 @@
 -- A disk that crashes, and the node that is mounted again.
-use Rattle.std.proofs.Common.{◌≡◌, ◌∙◌, ℕ, Bool, true, false, List, [], ◌∷◌, None, sym, ap, subst}
+use Rattle.std.proofs.Common.{◌≡◌, ◌∙◌, ℕ, Bool, true, false, List, [], ◌∷◌, None, refl, sym, ap, subst}
 use Rattle.std.proofs.Common.{inl, inr}
 use Rattle.std.specs.List.{AllByRecursion}
-use Rattle.record_batch.specs.Fact.{Fact}
+use Rattle.key_timers.specs.Keyed.{StandsFor}
+use Rattle.record_batch.specs.Fact.{Fact, Made}
 use Rattle.record_batch.specs.Writable.{IsBatch}
-use Rattle.rm_base.specs.declared.message.Behaviour.{Behaviour}
 use Rattle.rm_disk.specs.Call.{Call, Crashed as Crashes, crashes_of, left_by, seen_of, state}
 use Rattle.rm_disk.specs.Image.{MayLeave, OnlyLeaves}
 use Rattle.rm_disk.specs.ImageLemmas.{crash_leaves_image, left_now, settled_only}
-use Rattle.rm_protocol.specs.Node.{Node, State, Up, Writing, entries_left}
+use Rattle.rm_protocol.specs.Node.{Node, State, Up, Writing, entries_left, records_in}
+use Rattle.rm_protocol.specs.Waiting.{mounted_waits}
+use Rattle.rm_protocol.specs.World.{made}
 use Rattle.rm_disk.specs.Told.{Told}
 use Rattle.node_store.specs.Has.{AreOfNode, Has, StandsForBatches}
 use Rattle.node_store.specs.Mounted.{Finds}
-use Rattle.node_store.specs.Stored.{Stored}
-use Rattle.rm_node.specs.Noded.{Noded}
+use Rattle.node_store.specs.Stored.{Stored, first_stored}
+use Rattle.rm_node.specs.Keeping.{Keeps, first_kept}
+use Rattle.rm_node.specs.Noded.{Noded, granting}
 use Rattle.node_actor.specs.Actored.{Actored}
-use Rattle.node_actor.specs.Stands.{Crashed, Leaves, Stands, StandsBy}
+use Rattle.node_actor.specs.Stands.{Crashed, Leaves, Stands, StandsBy, kept_of}
 use Rattle.node_actor.proofs.ActLemmas.{actored}
 
 -- bytes stand for the entries that a crash of the node leaves, which are those of a node
@@ -88,16 +91,13 @@ OneList =
     (a b : List (List Fact)) (bytes : List ℕ) → AllByRecursion IsBatch a → AllByRecursion IsBatch b
     → StandsForBatches a bytes → StandsForBatches b bytes → a ≡ b
 
--- what is kept of a node
-abbrev pub noded : Stored → Behaviour → Noded
-noded stored granted = record { stored = stored; kept = record { granted = granted } }
-
 -- the node is mounted
-pub crashed : OneList → (x : Node) (first now : Told) (a : Actored) (choice : ℕ) (past : List Call) (stored : Stored)
-    → Stands x first a → past ≡ Crashes choice ∷ first.past → Finds past now.past stored
-    → stored.journal.is_down ≡ false → crashes_of now.past ≡ crashes_of past → now.fuse ≡ None
-    → Crashed x choice first now (actored (noded stored a.node.kept.granted) a.clock)
-crashed one x first now a choice past stored s is found up crashes fuse =
+pub crashed : OneList → (x : Node) (first now : Told) (a : Actored) (choice : ℕ) (past : List Call) (node : Noded)
+    → Stands x first a → past ≡ Crashes choice ∷ first.past → Finds past now.past node.stored
+    → node.stored.journal.is_down ≡ false → Keeps node.kept (first_kept node.stored.records)
+    → crashes_of now.past ≡ crashes_of past → now.fuse ≡ None
+    → Crashed x choice first now (actored (granting node a.node.kept.granted) a.clock)
+crashed one x first now a choice past node s is found up keeps crashes fuse =
     let left = left_crashed x first a choice s in
     let bytes = left_by choice (state first.past) in
     let were : StandsForBatches found.batches bytes =
@@ -105,16 +105,40 @@ crashed one x first now a choice past stored s is found up crashes fuse =
     let same : found.batches ≡ entries_left x.state left.kept x.entries =
     one found.batches (entries_left x.state left.kept x.entries) bytes found.has.are.each left.are.each were
     left.stands in
+    let records : node.stored.records ≡ records_in (entries_left x.state left.kept x.entries) =
+    found.has.holds.records ∙ ap records_in same in
     record {
       kept = left.kept;
       stands = record {
-        disk = record { up = up; has = subst (λ (b : List (List Fact)). Has b now.past stored) same found.has };
+        disk = record { up = up; has = subst (λ (b : List (List Fact)). Has b now.past node.stored) same found.has };
         fuse = fuse;
-        kept = s.kept;
+        granted = s.granted;
+        kept = λ again. record {
+          granted = s.granted;
+          waits = subst (λ (r : List Fact). StandsFor node.kept.timers (mounted_waits r)) records keeps.waits;
+          time = keeps.time;
+        };
         in_order = s.in_order;
         clock = s.clock;
       };
       bytes = bytes;
       crashes = crashes ∙ ap crashes_of is;
       left = left.stands;
+    }
+
+-- a node that was made
+pub made-stands : (number : ℕ) (address : List ℕ) (now : Told) (node : Noded)
+    → node.stored ≡ first_stored number address → Keeps node.kept (first_kept node.stored.records)
+    → Has ((Made number address ∷ []) ∷ []) now.past node.stored → now.fuse ≡ None
+    → Stands (made number address) now (actored node 0)
+made-stands number address now node is keeps has fuse =
+    let kept : Keeps node.kept (kept_of (made number address)) =
+    subst (λ (s : Stored). Keeps node.kept (first_kept s.records)) is keeps in
+    record {
+      disk = record { up = ap (λ (s : Stored). s.journal.is_down) is; has = has };
+      fuse = fuse;
+      granted = kept.granted;
+      kept = λ up. kept;
+      in_order = refl;
+      clock = refl;
     }

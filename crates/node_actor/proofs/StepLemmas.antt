@@ -1,5 +1,5 @@
 -- A call of a node, whatever is asked.
-use Rattle.std.proofs.Common.{◌≡◌, ◌∙◌, ℕ, Bool, true, false, List, Result, Ok, Err, refl, sym, ap, subst}
+use Rattle.std.proofs.Common.{◌≡◌, ◌∙◌, ℕ, Bool, false, List, Result, Ok, Err, refl, sym, ap, subst}
 use Rattle.std.specs.Prelude.{IsTrue}
 use Rattle.rm_base.specs.declared.failures.Memory.{Memory}
 use Rattle.rm_disk.specs.Told.{Told}
@@ -8,14 +8,15 @@ use Rattle.record_batch.specs.Fact.{Fact}
 use Rattle.rm_protocol.specs.Calls.{Cause, NoSequence, WrongSide, PayloadTooLong, BadPayload, NotOpen, WindowFull}
 use Rattle.rm_protocol.specs.Calls.{NodeFull, Rollover, TooManySequences, StoreFull, Outcome, Done, Judged}
 use Rattle.rm_protocol.specs.Calls.{Refused as RefusedWith}
-use Rattle.rm_protocol.specs.Node.{Node, end_of, records}
+use Rattle.rm_protocol.specs.Node.{Node, Up, Writing, end_of, records}
 use Rattle.rm_protocol.specs.Terms.{Terms}
-use Rattle.rm_node.specs.Asked.{Asked, Asks, Create, Send, Close, End, Tick, Receive, answer_to, is_connected}
+use Rattle.rm_node.specs.Asked.{Asked, Asks, Create, Send, Close, End, AskAck, NackMissing, Tick, Receive}
+use Rattle.rm_node.specs.Asked.{answer_to, is_connected}
 use Rattle.rm_node.specs.Called.{Does, answer_of as node_answer}
 use Rattle.rm_node.specs.Ends.{Ended, Handed, Refused, Wanted, Broke, WasDown, is_broken}
-use Rattle.rm_node.specs.Noded.{Noded}
+use Rattle.rm_node.specs.Keeping.{Keeping, Keeps}
+use Rattle.rm_node.specs.Noded.{Noded, Runs}
 use Rattle.rm_node.specs.Packets.{IsReplyFirst}
-use Rattle.rm_node.specs.declared.kept.Kept.{Kept}
 use Rattle.rm_node.specs.declared.call.Call.{Call}
 use Rattle.rm_node.specs.declared.call.Call.TheVariants as call
 use Rattle.node_actor.specs.Actored.{Actored}
@@ -24,9 +25,9 @@ use Rattle.node_actor.specs.declared.actor.Came.{Came}
 use Rattle.node_actor.specs.Outcomes.{answer_told, is_disk, is_disk_outcome, refusal_told}
 use Rattle.node_actor.specs.Stands.{Acts, Stands, kept_of}
 use Rattle.node_actor.specs.Steps.{answer_of, clock_after, clock_of, clocked}
-use Rattle.node_actor.proofs.ActLemmas.{EndsThere, actored, acts, clock_is}
-use Rattle.node_actor.proofs.QuietLemmas.{IsQuiet, quiet_close, quiet_create, quiet_end, quiet_receive, quiet_send}
-use Rattle.node_actor.proofs.QuietLemmas.{quiet_tick}
+use Rattle.node_actor.proofs.ActLemmas.{EndsThere, actored, acts, clock_is, sleeps_down}
+use Rattle.node_actor.proofs.QuietLemmas.{IsQuiet, quiet_ask, quiet_close, quiet_create, quiet_end, quiet_nack}
+use Rattle.node_actor.proofs.QuietLemmas.{quiet_receive, quiet_send, quiet_tick}
 
 -- ---- what is told as a failure of the disk
 
@@ -62,13 +63,15 @@ disk_told WasDown (Err memory) is = absurd is
 
 -- ---- what is asked
 
-quiet_asked : (terms : Terms) (now : ℕ) (kept : Kept) (asked : Asked) (r : List Fact) (place : ℕ)
+quiet_asked : (terms : Terms) (now : ℕ) (kept : Keeping) (asked : Asked) (r : List Fact) (place : ℕ)
     → IsQuiet (answer_to terms r place now kept asked)
 quiet_asked terms now kept (Create wish) r place = quiet_create terms wish r place
 quiet_asked terms now kept (Send seq payload) r place = quiet_send terms seq payload r place
 quiet_asked terms now kept (Close seq) r place = quiet_close terms seq now r place
 quiet_asked terms now kept (End seq) r place = quiet_end terms seq r place
-quiet_asked terms now kept (Tick moment) r place = quiet_tick terms moment r place
+quiet_asked terms now kept (AskAck seq) r place = quiet_ask seq r
+quiet_asked terms now kept (NackMissing seq) r place = quiet_nack seq now r
+quiet_asked terms now kept (Tick moment) r place = quiet_tick terms moment kept.time kept.waits r place
 quiet_asked terms now kept (Receive content) r place = quiet_receive terms now kept.granted content r place
 
 -- the clock of the code's node is that of the protocol's
@@ -78,6 +81,8 @@ clock_stands (call.Create wish) x now a s = s.clock
 clock_stands (call.Send seq payload) x now a s = s.clock
 clock_stands (call.Close seq) x now a s = s.clock
 clock_stands (call.End seq) x now a s = s.clock
+clock_stands (call.AskAck seq) x now a s = s.clock
+clock_stands (call.NackMissing seq) x now a s = s.clock
 clock_stands (call.Tick moment) x now a s =
     clock_is x.state x.entries now.past a.node.stored a.clock x.clock moment s.disk s.clock
 clock_stands (call.Receive bytes) x now a s = s.clock
@@ -87,6 +92,7 @@ pub clocked_stands : (this : Call) (x : Node) (now : Told) (a : Actored) → Sta
 clocked_stands this x now a s = record {
   disk = s.disk;
   fuse = s.fuse;
+  granted = s.granted;
   kept = s.kept;
   in_order = s.in_order;
   clock = clock_stands this x now a s;
@@ -97,25 +103,27 @@ clocked_stands this x now a s = record {
 -- of all that a call says, the reply comes first
 abbrev pub ReplyFirst : Type 0
 ReplyFirst =
-    (terms : Terms) (r : List Fact) (place now : ℕ) (kept : Kept) (call : Call) (asked : Asked)
+    (terms : Terms) (r : List Fact) (place now : ℕ) (kept : Keeping) (call : Call) (asked : Asked)
     → Asks call asked → IsReplyFirst (is_connected call) (answer_to terms r place now kept asked).outs
 
 pub acted : (terms : Terms) (tells : Bool) (this : Call) (x : Node) (asked : Asked) (first now : Told) (old : Actored)
     (new : Noded) (ended : Ended) (r : Result Came Memory) → EndsThere terms → IsTrue tells → Stands x first old
-    → ReplyFirst → Asks this asked
-    → Does tells (is_connected this) first now old.node new (node_answer terms old.node old.clock asked) ended
+    → ReplyFirst → Asks this asked → Runs old.node
+    → ((kept : Keeping) → Keeps old.node.kept kept → Does tells (is_connected this) first now old.node new
+    (node_answer terms old.node old.clock kept asked) ended)
     → ComesOut ended r
     → Acts (is_connected this) (clocked this x) (answer_of terms x asked) now
     (actored new (clock_after this old)) r
-acted terms tells this x asked first now old new ended r ends t s order asks does is =
-    let same = subst (λ (m : ℕ). Does tells (is_connected this) first now old.node new
-    (answer_to terms old.node.stored.records (journal_end old.node.stored.journal) m (kept_of x) asked) ended) s.clock
-    (subst (λ (k : Kept). Does tells (is_connected this) first now old.node new
-    (answer_to terms old.node.stored.records (journal_end old.node.stored.journal) old.clock k asked) ended) s.kept
-    does) in
+acted terms tells this x asked first now old new ended r ends t s order asks runs does is =
     acts terms tells (is_connected this) (clocked this x)
     (λ r place. answer_to terms r place x.clock (kept_of x) asked) first now
-    (actored old.node (clock_after this old)) new ended r ends t (clocked_stands this x first old s) same
+    (actored old.node (clock_after this old)) new ended r ends t (clocked_stands this x first old s) runs
+    (λ (up : x.state ≡ Up). subst (λ (m : ℕ). Does tells (is_connected this) first now old.node new
+    (answer_to terms old.node.stored.records (journal_end old.node.stored.journal) m (kept_of x) asked) ended) s.clock
+    (does (kept_of x) (s.kept up)))
+    (λ (delta : List Fact) (down : x.state ≡ Writing delta). sleeps_down tells (is_connected this) x delta
+    (node_answer terms old.node old.clock runs.keeping.0 asked) first now old new ended s down
+    (does runs.keeping.0 runs.keeping.1))
     (quiet_asked terms x.clock (kept_of x) asked (records x) (end_of terms x.entries))
     (order terms (records x) (end_of terms x.entries) x.clock (kept_of x) this asked asks) is
 
@@ -123,4 +131,11 @@ acted terms tells this x asked first now old new ended r ends t s order asks doe
 pub still : (this : Call) (x : Node) (now : Told) (new : Noded) (old clock : ℕ)
     → Stands (clocked this x) now (actored new clock) → old ≡ x.clock → Stands x now (actored new old)
 still this x now new old clock s e =
-    record { disk = s.disk; fuse = s.fuse; kept = s.kept; in_order = s.in_order; clock = e }
+    record {
+      disk = s.disk;
+      fuse = s.fuse;
+      granted = s.granted;
+      kept = s.kept;
+      in_order = s.in_order;
+      clock = e;
+    }

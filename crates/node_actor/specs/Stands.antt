@@ -10,8 +10,8 @@ use Rattle.rm_protocol.specs.Node.{Node, State, Up, Writing, after, call_outcome
 use Rattle.rm_disk.specs.Told.{Told}
 use Rattle.node_store.specs.Has.{AreOfNode, Has, IsLeftBy, StandsForBatches}
 use Rattle.node_store.specs.Stored.{Stored, with_batch}
+use Rattle.rm_node.specs.Keeping.{Keeping, Keeps}
 use Rattle.rm_node.specs.Packets.{packets_of}
-use Rattle.rm_node.specs.declared.kept.Kept.{Kept}
 use Rattle.node_actor.specs.Actored.{Actored}
 use Rattle.node_actor.specs.Outcomes.{call_told, packets_in}
 use Rattle.node_actor.specs.declared.actor.Came.{Came}
@@ -36,14 +36,16 @@ StandsBy Up entries past stored = Awake entries past stored
 StandsBy (Writing delta) entries past stored = Asleep entries delta past stored
 
 -- what a node of the protocol keeps besides its entries
-abbrev pub kept_of : Node → Kept
-kept_of x = record { granted = x.granted }
+abbrev pub kept_of : Node → Keeping
+kept_of x = record { granted = x.granted; waits = x.waits; time = x.time }
 
--- the code's node and its disk are this node of the protocol, which announces no NoDiscard
+-- the code's node and its disk are this node of the protocol, which announces no NoDiscard. The keys that wait and the
+-- time are its own while it is up: a mount works them out anew
 pub record Stands (x : Node) (now : Told) (a : Actored) : Type 0 where
   pub disk : StandsBy x.state x.entries now.past a.node.stored
   pub fuse : now.fuse ≡ x.fuse
-  pub kept : a.node.kept ≡ kept_of x
+  pub granted : a.node.kept.granted ≡ x.granted
+  pub kept : x.state ≡ Up → Keeps a.node.kept (kept_of x)
   pub in_order : is_in_order x.granted ≡ true
   pub clock : a.clock ≡ x.clock
 

@@ -9,6 +9,7 @@ ghost use Rattle.rm_protocol.specs.World.{made};
 ghost use Rattle.node_store.specs.Changes.{WasNotMade};
 ghost use Rattle.node_store.specs.Has.{AreOfNode, StandsForBatches};
 ghost use Rattle.node_store.specs.Mounted.{Finds};
+ghost use Rattle.rm_node.specs.Keeping.{Keeps, first_kept};
 ghost use Rattle.node_actor.specs.Stands.{Crashed, Leaves, Stands};
 
 use crate::actor::Actor;
@@ -89,6 +90,7 @@ fn mount<D: CrashDisk>(alloc: Global, disk: &mut D) -> Result<Node, Memory>
         × StandsForBatches batches (seen_of (D.told disk.old).past) }
     ensures found { IfOk result (λ node. Finds (D.told disk.old).past (D.told disk.new).past node.stored) }
     ensures up { IfOk result (λ node. node.stored.journal.is_down ≡ false) }
+    ensures kept { IfOk result (λ node. Keeps node.kept (first_kept node.stored.records)) }
     ensures fuse { (D.told disk.new).fuse ≡ None }
     ensures moments { OnlyLeaves (D.told disk.old).past (D.told disk.new).past (MayLeave (D.told disk.old).past) }
     ensures faults { (D.told disk.new).faults ≡ (D.told disk.old).faults }

@@ -20,12 +20,12 @@ numbered-next xs n =
     let place : n + 1 - 1 ≡ n = omega arith in
     ap (λ b. cond b None (slice_get xs (n + 1 - 1))) other ∙ ap (slice_get xs) place
 
-All-weaker : {A : Type 0} (P Q : A → Type 0) → ((x : A) → P x → Q x) → (xs : List A) → AllByRecursion P xs
+pub All-weaker : {A : Type 0} (P Q : A → Type 0) → ((x : A) → P x → Q x) → (xs : List A) → AllByRecursion P xs
     → AllByRecursion Q xs
 All-weaker P Q f [] h = tt
 All-weaker P Q f (x ∷ xs) h = (f x h.0, All-weaker P Q f xs h.1)
 
-All-append : {A : Type 0} (P : A → Type 0) (xs ys : List A) → AllByRecursion P xs → AllByRecursion P ys
+pub All-append : {A : Type 0} (P : A → Type 0) (xs ys : List A) → AllByRecursion P xs → AllByRecursion P ys
     → AllByRecursion P (xs ++ ys)
 All-append P [] ys h g = g
 All-append P (x ∷ xs) ys h g = (h.0, All-append P xs ys h.1 g)
@@ -95,3 +95,8 @@ pub drawn-small : (r d : List Fact) (s : ℕ) (m : Maker) → all_fit [] r ≡ t
     → maker (r ++ d) s ≡ Some m → drawn_for m ≤ counter (r ++ d)
 drawn-small r d s m fit more e =
     All-numbered (UpTo (counter (r ++ d))) (makers (r ++ d)) s m (all-drawn r d (all-drawn [] r tt fit) more) e
+
+-- the same of records alone
+pub maker-drawn : (r : List Fact) (s : ℕ) (m : Maker) → all_fit [] r ≡ true → maker r s ≡ Some m
+    → drawn_for m ≤ counter r
+maker-drawn r s m fit e = All-numbered (UpTo (counter r)) (makers r) s m (all-drawn [] r tt fit) e

@@ -135,7 +135,7 @@ second_offered now t to via lapse (Some own) =
     ap (λ b. cond b (offer_with now via (Some own)) None) (eq-eqb t t refl)
 
 -- the request for a sequence, with an offer
-abbrev with_offer : List Fact → Text → Via → ℕ → Lapse → Option Offer → Message
+abbrev pub with_offer : List Fact → Text → Via → ℕ → Lapse → Option Offer → Message
 with_offer r to via ticket lapse offer =
     request_of r (plain_endpoint to) via ticket (codes "CreateSequence") (life.Create (record {
       acks_to = plain_endpoint (own_address r via);

@@ -1,5 +1,5 @@
 -- What a call comes to may be stored.
-use Rattle.std.proofs.Common.{◌≡◌, ℕ, true, List, map, sym, ap, subst}
+use Rattle.std.proofs.Common.{◌≡◌, ℕ, true, List, [], map, refl, sym, ap, subst, ◌∙◌, inl}
 use Rattle.std.specs.Prelude.{Result, Ok, Err, IfOk}
 use Rattle.std.specs.List.{AllByRecursion}
 use Rattle.rm_base.specs.declared.failures.Memory.{Memory}
@@ -22,3 +22,12 @@ stored r place (Ok a) answer fit is room typed = record {
   typed = typed;
 }
 stored r place (Err e) answer fit is room typed = tt
+
+-- where it adds nothing, that may be stored
+pub stored-nothing : (r : List Fact) (place : ℕ) (result : Result Given Memory) (answer : Answer)
+    → answer.delta ≡ [] → IfOk result (λ a. seen a ≡ answer)
+    → IfOk result (λ a. MayBeStored r place (map fact_of a.batch.items))
+stored-nothing r place (Ok a) answer none is =
+    let nothing : map fact_of a.batch.items ≡ [] = ap (λ (x : Answer). x.delta) is ∙ none in
+    subst (MayBeStored r place) (sym nothing) (record { fit = refl; room = inl refl; typed = tt })
+stored-nothing r place (Err e) answer none is = tt

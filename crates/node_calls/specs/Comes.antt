@@ -10,11 +10,12 @@ use Rattle.sequence_table.specs.Sources.{accepted}
 use Rattle.rm_protocol.specs.Calls.{Answer, Done, Wish, adds, final_ack, made_by, offer_of}
 use Rattle.rm_protocol.specs.Messages.{data_at, request_at}
 use Rattle.rm_protocol.specs.Terms.{Terms}
+use Rattle.rm_protocol.specs.Waiting.{no_moves}
 use Rattle.rm_protocol.specs.Verdict.{has_room}
 
 -- these records are added, and these messages are said
 abbrev pub done : List Fact → List Message → Answer
-done delta outs = record { outcome = Done; delta = delta; outs = outs }
+done delta outs = record { outcome = Done; delta = delta; outs = outs; moves = no_moves }
 
 -- a sequence is asked for
 abbrev pub asked : List Fact → Wish → Answer

@@ -1,6 +1,8 @@
 -- What the records of a node give to its calls.
-use Rattle.std.specs.Prelude.{◌≡◌, ℕ, ◌<◌, ◌^◌, true, List, []}
-use Rattle.record_batch.specs.Fact.{Fact}
+use Rattle.std.specs.Prelude.{◌≡◌, ℕ, ◌<◌, ◌^◌, Bool, true, false, List, []}
+use Rattle.rm_source.specs.declared.phase.OutPhase.{OutPhase}
+use Rattle.rm_source.specs.declared.phase.OutPhase.TheVariants as out
+use Rattle.record_batch.specs.Fact.{Fact, Ended}
 use Rattle.sequence_table.specs.Fits.{all_fit}
 use Rattle.sequence_table.specs.Makers.{counter}
 use Rattle.node_laws.specs.OwnTerms.{AreOwn}
@@ -19,3 +21,14 @@ pub record CallsFit (r : List Fact) (place : ℕ) : Type 0 where
   pub terms : Terms
   pub own : AreOwn terms
   pub next : AddsNext terms r place
+
+-- the phases in which a sequence waits for the answer to its CloseSequence or TerminateSequence
+abbrev pub is_finishing : OutPhase → Bool
+is_finishing out.Closing = true
+is_finishing out.Ending = true
+is_finishing _ = false
+
+-- the record ends an incoming sequence
+abbrev pub IsEnding : Fact → Type 0
+IsEnding (Ended seq cause last) = Unit {0}
+IsEnding _ = ⊥

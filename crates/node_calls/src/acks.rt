@@ -1,7 +1,9 @@
-//! The final acknowledgement of an incoming sequence: WS-ReliableMessaging 1.2, section 3.9.
+//! Acknowledgements of an incoming sequence as messages of their own: WS-ReliableMessaging 1.2, section 3.9.
 ghost use Rattle.std.specs.Prelude.{◌≡◌, ℕ, ◌<◌, ◌^◌, ◌++◌, [], true, IfOk, IfSome};
 ghost use Rattle.std.specs.Option.{option_map, option_to_list};
 ghost use Rattle.rm_protocol.specs.Calls.{final_ack as final_ack_of, made_by};
+ghost use Rattle.rm_protocol.specs.Said.{ack_to, own_messages};
+ghost use Rattle.sequence_table.specs.Find.{acks_to as acks_to_of};
 ghost use Rattle.sequence_table.specs.Fits.{all_fit};
 ghost use Rattle.sequence_table.specs.Makers.{counter, maker};
 ghost use Rattle.sequence_table.specs.Words.{Text};
@@ -11,13 +13,14 @@ use node_messages::{ack_message, is_anonymous};
 use node_tables::Maker;
 use receive_replies::{acks_to, block_of};
 use rm_base::Memory;
+use rm_elements::AckBlock;
 use rm_message::{Acks, Message};
 use sequence_table::issue;
 use std::alloc::Global;
 use tables_ahead::Known;
 
-// The number that the identifier of an incoming sequence was drawn with.
-fn counter_of(ahead: &Known<'_>, seq: u32) -> Option<u64>
+/// The number that the identifier of an incoming sequence was drawn with.
+pub(crate) fn counter_of(ahead: &Known<'_>, seq: u32) -> Option<u64>
     requires fit { all_fit ahead.now.records ahead.now.delta ≡ true }
     requires drawn { counter (all_records ahead.now) < 2 ^ 62 }
     ensures is { let r = all_records ahead.now in
@@ -34,8 +37,31 @@ fn counter_of(ahead: &Known<'_>, seq: u32) -> Option<u64>
     }
 }
 
-/// The final acknowledgement of an incoming sequence as a message of its own, once the records ahead are there; none
-/// where it goes back on a connection, and where its AcksTo isn't known.
+/// An acknowledgement of an incoming sequence as a message of its own, once the records ahead are there; none where it
+/// goes back on a connection, and where its AcksTo isn't known.
+pub(crate) fn own_ack(
+    alloc: Global,
+    ahead: &Known<'_>,
+    seq: u32,
+    block: AckBlock,
+) -> Result<Option<Message>, Memory>
+    requires fit { all_fit ahead.now.records ahead.now.delta ≡ true }
+    ensures { IfOk result (λ m. option_to_list m
+        ≡ own_messages (ack_to (acks_to_of (all_records ahead.now) seq) block)) }
+{
+    let Some(to) = acks_to(ahead, seq) else {
+        return Ok(None);
+    };
+    if is_anonymous(to.address.as_slice()) {
+        return Ok(None);
+    }
+    let to = to.copy(alloc)?;
+    let mut blocks = Acks::new(alloc);
+    blocks.push(block)?;
+    Ok(Some(ack_message(alloc, to, blocks)?))
+}
+
+/// The final acknowledgement of an incoming sequence as a message of its own, once the records ahead are there.
 pub(crate) fn final_ack(
     alloc: Global,
     ahead: &Known<'_>,
@@ -50,15 +76,7 @@ pub(crate) fn final_ack(
     let Some(counter) = counter_of(ahead, seq) else {
         return Ok(None);
     };
-    let Some(to) = acks_to(ahead, seq) else {
-        return Ok(None);
-    };
-    if is_anonymous(to.address.as_slice()) {
-        return Ok(None);
-    }
     let ident = issue(alloc, ahead.number(), counter)?;
-    let mut blocks = Acks::new(alloc);
-    blocks.push(block_of(alloc, ahead, seq, &ident, now)?)?;
-    let to = to.copy(alloc)?;
-    Ok(Some(ack_message(alloc, to, blocks)?))
+    let block = block_of(alloc, ahead, seq, &ident, now)?;
+    own_ack(alloc, ahead, seq, block)
 }

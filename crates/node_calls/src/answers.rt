@@ -9,7 +9,7 @@ ghost use Rattle.rm_protocol.specs.Calls.{refusal};
 ghost use Rattle.call_answers.specs.Answers.{cause_seen, seen};
 ghost use Rattle.node_calls.specs.Comes.{done};
 
-use call_answers::{Answer, Cause, Outcome};
+use call_answers::{Answer, Cause, Outcome, no_moves};
 use rm_base::Memory;
 use rm_message::Message;
 use std::alloc::Global;
@@ -25,6 +25,7 @@ pub(crate) fn refused(alloc: Global, cause: Cause) -> Answer
         outcome: Outcome::Refused(cause),
         batch: Vec::new(alloc),
         outs: Vec::new(alloc),
+        moves: no_moves(alloc),
     }
 }
 
@@ -44,5 +45,6 @@ pub(crate) fn added(
         outcome: Outcome::Done,
         batch: ahead.into_batch(),
         outs,
+        moves: no_moves(alloc),
     })
 }

@@ -2,11 +2,13 @@
 ghost use Rattle.std.specs.Prelude.{◌≡◌, true, map, IfOk, IfSome};
 ghost use Rattle.record_batch.specs.Fact.{fact_of};
 ghost use Rattle.rm_protocol.specs.Calls.{
+  ask_ack as ask_ack_of,
   close as close_of,
   create as create_of,
   end as end_of,
+  nack_missing as nack_missing_of,
   send as send_of,
-  tick as tick_of,
+  tick_with,
 };
 ghost use Rattle.rm_protocol.specs.Terms.{Terms};
 ghost use Rattle.sequence_table.specs.Fits.{is_in_order};
@@ -15,12 +17,13 @@ ghost use Rattle.call_answers.specs.Answers.{MayBeStored, seen, wish_seen};
 ghost use Rattle.call_answers.specs.Serving.{Serves};
 ghost use Rattle.node_calls.specs.Records.{CallsFit, IsServing};
 
-use crate::{ends, requests, sends, ticks};
+use crate::{asks, ends, nacks, requests, sends, ticks};
 use call_answers::{Answer, Wish};
 use node_laws::laws::{own_terms_are_terms, there_are_own_terms};
 use node_tables::Tables;
 use rm_base::{Blob, Memory};
 use rm_protocol::laws::each_record_may_come_next;
+use rm_timers::Key;
 use std::alloc::Global;
 
 // What the records of the tables give to a call, and that those that it adds may come next.
@@ -92,13 +95,44 @@ pub fn end(alloc: Global, tables: &Tables, place: u64, seq: u32) -> Result<Answe
     ends::end(alloc, tables, place, seq)
 }
 
-/// Ends the incoming sequences whose time has run out.
-pub fn tick(alloc: Global, tables: &Tables, place: u64, now: u64) -> Result<Answer, Memory>
+/// Ends the incoming sequences whose time has run out, and says the messages of the keys that are emitted.
+pub fn tick(
+    alloc: Global,
+    tables: &Tables,
+    place: u64,
+    now: u64,
+    keys: Vec<Key>,
+) -> Result<Answer, Memory>
     requires { Serves tables.now.records place }
     ensures is { (terms : Terms) → AreOwn terms
-        → IfOk result (λ a. seen a ≡ tick_of terms tables.now.records place now) }
+        → IfOk result (λ a. seen a ≡ tick_with terms tables.now.records place now keys.items) }
     ensures stored { IfOk result (λ a. MayBeStored tables.now.records place (map fact_of a.batch.items)) }
 {
     serving(tables, place);
-    ticks::tick(alloc, tables, place, now)
+    ticks::tick(alloc, tables, place, now, keys)
+}
+
+/// Asks the peer of an outgoing sequence for an acknowledgement.
+pub fn ask_ack(alloc: Global, tables: &Tables, place: u64, seq: u32) -> Result<Answer, Memory>
+    requires { Serves tables.now.records place }
+    ensures is { IfOk result (λ a. seen a ≡ ask_ack_of tables.now.records seq) }
+    ensures stored { IfOk result (λ a. MayBeStored tables.now.records place (map fact_of a.batch.items)) }
+{
+    asks::ask_ack(alloc, tables, seq)
+}
+
+/// Tells the peer of an incoming sequence which numbers are missing.
+pub fn nack_missing(
+    alloc: Global,
+    tables: &Tables,
+    place: u64,
+    seq: u32,
+    now: u64,
+) -> Result<Answer, Memory>
+    requires { Serves tables.now.records place }
+    ensures is { IfOk result (λ a. seen a ≡ nack_missing_of tables.now.records seq now) }
+    ensures stored { IfOk result (λ a. MayBeStored tables.now.records place (map fact_of a.batch.items)) }
+{
+    serving(tables, place);
+    nacks::nack_missing(alloc, tables, seq, now)
 }

@@ -1,10 +1,10 @@
-//! Incoming sequences whose time has run out: WS-ReliableMessaging 1.2, section 3.4.
+//! A tick: incoming sequences whose time has run out, WS-ReliableMessaging 1.2, section 3.4, and keys that are emitted.
 ghost use Rattle.std.specs.Prelude.{◌≡◌, ◌&&◌, ◌++◌, [], map, not, IfOk, OnOk};
 ghost use Rattle.std.specs.List.{AllByRecursion};
 ghost use Rattle.batch_size.specs.Room.{HasRoom};
 ghost use Rattle.batch_size.specs.Typed.{IsTyped};
 ghost use Rattle.record_batch.specs.Fact.{fact_of};
-ghost use Rattle.rm_protocol.specs.Calls.{expired_from, tick as tick_of};
+ghost use Rattle.rm_protocol.specs.Calls.{expired_from, tick_with};
 ghost use Rattle.rm_protocol.specs.Terms.{Terms};
 ghost use Rattle.rm_destination.specs.Incoming.{is_past as is_past_at};
 ghost use Rattle.sequence_table.specs.Destinations.{deadline_of, has_end};
@@ -12,11 +12,14 @@ ghost use Rattle.sequence_table.specs.Makers.{maker, makers};
 ghost use Rattle.node_laws.specs.OwnTerms.{AreOwn};
 ghost use Rattle.call_answers.specs.Answers.{seen};
 ghost use Rattle.node_calls.specs.Comes.{ending_if, fitting as fitting_of};
+ghost use Rattle.node_calls.specs.Records.{IsEnding, IsServing};
 
-use call_answers::{Answer, Outcome, has_room};
+use crate::keys::messages_at;
+use call_answers::{Answer, Moves, Outcome, has_room};
 use node_tables::Tables;
 use record_batch::Record;
 use rm_base::{Cause, Memory};
+use rm_timers::Key;
 use std::alloc::Global;
 use tables_ahead::Known;
 
@@ -69,12 +72,14 @@ fn expired(alloc: Global, ahead: &Known<'_>, now: u64) -> Result<Vec<Record>, Me
     Ok(batch)
 }
 
-// A batch, where it fits the store, and else none.
+// A batch of ends, where it fits the store, and else none.
 fn fitting(alloc: Global, place: u64, batch: Vec<Record>) -> Result<Vec<Record>, Memory>
+    requires { AllByRecursion IsEnding (map fact_of batch.items) }
     ensures is { (terms : Terms) → AreOwn terms → IfOk result (λ kept. map fact_of kept.items
         ≡ fitting_of terms place (map fact_of batch.items)) }
     ensures room { IfOk result (λ kept. HasRoom place (map fact_of kept.items)) }
     ensures typed { IfOk result (λ kept. AllByRecursion IsTyped (map fact_of kept.items)) }
+    ensures ends { IfOk result (λ kept. AllByRecursion IsEnding (map fact_of kept.items)) }
 {
     if has_room(alloc, place, batch.as_slice())? {
         return Ok(batch);
@@ -82,18 +87,47 @@ fn fitting(alloc: Global, place: u64, batch: Vec<Record>) -> Result<Vec<Record>,
     Ok(Vec::new(alloc))
 }
 
-/// Ends the incoming sequences whose time has run out in one batch, where that fits the store.
-pub(crate) fn tick(alloc: Global, tables: &Tables, place: u64, now: u64) -> Result<Answer, Memory>
+// Puts records that end sequences ahead.
+fn put_ends(ahead: &mut Known<'_>, ends: Vec<Record>) -> Result<(), Memory>
+    requires { AllByRecursion IsEnding (map fact_of ends.items) }
+    ensures records { ahead.new.records ≡ ahead.old.records }
+    ensures ok { OnOk result (ahead.new.delta ≡ ahead.old.delta ++ map fact_of ends.items) }
+{
+    let mut rest = ends.into_iter();
+    while let Some(given) = rest.next() {
+        ahead.push(given)?;
+    }
+    Ok(())
+}
+
+/// Ends the incoming sequences whose time has run out in one batch, where that fits the store, and says the messages of
+/// the keys that are emitted.
+pub(crate) fn tick(
+    alloc: Global,
+    tables: &Tables,
+    place: u64,
+    now: u64,
+    keys: Vec<Key>,
+) -> Result<Answer, Memory>
+    requires { IsServing tables.now.records }
     ensures is { (terms : Terms) → AreOwn terms
-        → IfOk result (λ a. seen a ≡ tick_of terms tables.now.records place now) }
+        → IfOk result (λ a. seen a ≡ tick_with terms tables.now.records place now keys.items) }
     ensures room { IfOk result (λ a. HasRoom place (map fact_of a.batch.items)) }
     ensures typed { IfOk result (λ a. AllByRecursion IsTyped (map fact_of a.batch.items)) }
 {
-    let ahead = Known::new(alloc, tables);
-    let batch = fitting(alloc, place, expired(alloc, &ahead, now)?)?;
+    let mut ahead = Known::new(alloc, tables);
+    let due = expired(alloc, &ahead, now)?;
+    let ends = fitting(alloc, place, due)?;
+    put_ends(&mut ahead, ends)?;
+    let outs = messages_at(alloc, &ahead, keys.as_slice())?;
     Ok(Answer {
         outcome: Outcome::Done,
-        batch,
-        outs: Vec::new(alloc),
+        batch: ahead.into_batch(),
+        outs,
+        moves: Moves {
+            urged: Vec::new(alloc),
+            emitted: keys,
+            time: now,
+        },
     })
 }

@@ -1,5 +1,5 @@
 -- Each call of a node: the records that it adds stay within the limits, and what it says keeps the rules.
-use Rattle.std.proofs.Common.{◌≡◌, ℕ, ◌+◌, ◌≤◌, Bool, true, false, cond, List, [], ◌∷◌}
+use Rattle.std.proofs.Common.{◌≡◌, ℕ, zero, suc, ◌+◌, ◌≤◌, max, Bool, true, false, cond, List, [], ◌∷◌}
 use Rattle.std.proofs.Common.{◌++◌, length, refl, sym, subst, arith, inl, inr, Option, Some, None}
 use Rattle.std.specs.Prelude.{◌&&◌, not, nat_le, nat_lt, IfSome, Result, Ok, Err}
 use Rattle.std.specs.List.{AllByRecursion}
@@ -9,9 +9,12 @@ use Rattle.ack_ranges.specs.Laws.{RangeIsAdded}
 use Rattle.rm_base.specs.Text.{IsText}
 use Rattle.rm_base.specs.declared.message.Behaviour.{Behaviour}
 use Rattle.rm_base.specs.declared.message.Cause.TheVariants.{Operator, Expired}
-use Rattle.rm_elements.specs.Writable.{IsAckWritable, IsSequenceWritable}
+use Rattle.rm_elements.specs.Writable.{IsAckWritable, IsNumber, IsSequenceWritable}
 use Rattle.rm_elements.specs.declared.header.AckBlock.{AckBlock}
+use Rattle.rm_elements.specs.declared.header.AckKind.TheVariants as kind
 use Rattle.rm_elements.specs.declared.header.SeqHeader.{SeqHeader}
+use Rattle.wsa_headers.specs.Writable.{IsEprWritable}
+use Rattle.wsa_headers.specs.declared.endpoint.Epr.{Epr}
 use Rattle.rm_elements.specs.declared.lifecycle.Lifecycle.TheVariants as life
 use Rattle.rm_message.specs.declared.message.Body.{Body}
 use Rattle.rm_message.specs.declared.message.Body.TheVariants as body
@@ -31,16 +34,23 @@ use Rattle.sequence_table.specs.Idents.{issue}
 use Rattle.sequence_table.specs.Makers.{Maker, Outgoing, Offered, Incoming, Taken, makers, makers_of, maker}
 use Rattle.sequence_table.specs.Makers.{counter}
 use Rattle.sequence_table.specs.Makers.{number}
-use Rattle.sequence_table.specs.Sources.{accepted, phase, unacked, all_unacked}
+use Rattle.sequence_table.specs.Sources.{accepted, out_ident, phase, unacked, all_unacked}
 use Rattle.rm_destination.specs.Incoming.{is_past}
 use Rattle.sequence_table.specs.Destinations.{has_end, is_over, deadline_of}
-use Rattle.sequence_table.specs.Find.{find_incoming, acks_to}
-use Rattle.rm_protocol.specs.Calls.{Answer, Cause, NotOpen, PayloadTooLong, BadPayload, WindowFull, NodeFull}
+use Rattle.node_laws.proofs.Lists.{All-append}
+use Rattle.rm_protocol.specs.Calls.{adds_and_moves, message_at, messages_at, ticked}
+use Rattle.rm_protocol.specs.Waiting.{Moves, no_moves}
+use Rattle.rm_timers.specs.declared.timers.Key.{Key}
+use Rattle.key_timers.specs.Waits.{Wait, first_due}
+use Rattle.sequence_table.specs.Find.{find_incoming, acks_to, peer}
+use Rattle.rm_protocol.specs.Calls.{Answer, Cause, NoSequence, WrongSide, NotOpen, PayloadTooLong, BadPayload}
+use Rattle.rm_protocol.specs.Calls.{WindowFull, NodeFull, missing_of}
 use Rattle.rm_protocol.specs.Calls.{Rollover, StoreFull, TooManySequences, refusal, adds, if_room, Wish, offer_of}
 use Rattle.rm_protocol.specs.Calls.{wanted, create, is_open, send_out, on_outgoing, send, final_ack, made_by}
 use Rattle.rm_protocol.specs.Calls.{close_out, close_in, close_by, close, may_end, end_out, end, expired_from, tick}
 use Rattle.rm_protocol.specs.Calls.{first_invalid, block_by, block_at, fault_block, fault_ident, refusal_of, judged}
-use Rattle.rm_protocol.specs.Calls.{receive}
+use Rattle.rm_protocol.specs.Calls.{receive, ask_to, ask_out, ask_ack, on_incoming, nack_to, nack_by, nack_in}
+use Rattle.rm_protocol.specs.Calls.{nack_missing}
 use Rattle.rm_protocol.specs.Messages.{block_of, data_at, request_at}
 use Rattle.rm_protocol.specs.Rows.{rows}
 use Rattle.rm_protocol.specs.Said.{ack_to, said}
@@ -51,11 +61,11 @@ use Rattle.node_laws.specs.Read.{IsBodyRead, IsContentRead, MayBeWished, WasRead
 use Rattle.node_laws.specs.Records.{IsKept}
 use Rattle.node_laws.proofs.Kept.{AreAllowed}
 use Rattle.node_laws.proofs.Lists.{to_list}
-use Rattle.node_laws.proofs.Messages.{IsByTheRules, data_at-kept, request_at-kept}
+use Rattle.node_laws.proofs.Messages.{IsByTheRules, ask-kept, data_at-kept, request_at-kept}
 use Rattle.node_laws.proofs.Rows.{IsQuiet, quiets-allowed, rows-allowed}
 use Rattle.node_laws.proofs.Said.{ack_to-kept, fault-kept, own_messages-kept, said-kept}
 use Rattle.node_laws.proofs.Texts.{issue-text}
-use Rattle.node_laws.proofs.Values.{acks_to-kept, block-kept}
+use Rattle.node_laws.proofs.Values.{acks_to-kept, block-kept, ident-kept as name-kept, missing-kept, peer-kept}
 
 -- what is known of the layers below
 pub record Below : Type 0 where
@@ -85,9 +95,14 @@ if_room-good terms r place answer h = chosen (has_room terms place answer.delta)
     chosen true = h
     chosen false = refused r (StoreFull place (terms.size answer.delta + 6))
 
+moves-good : (r delta : List Fact) (moves : Moves) (outs : List Fact → List Message) → AreAllowed r delta
+    → (IsKept (r ++ delta) → AllByRecursion IsByTheRules (outs (r ++ delta)))
+    → IsGoodAnswer r (adds_and_moves r delta moves outs)
+moves-good r delta moves outs a s = record { allowed = a; says = s }
+
 adds-good : (r delta : List Fact) (outs : List Fact → List Message) → AreAllowed r delta
     → (IsKept (r ++ delta) → AllByRecursion IsByTheRules (outs (r ++ delta))) → IsGoodAnswer r (adds r delta outs)
-adds-good r delta outs a s = record { allowed = a; says = s }
+adds-good r delta outs a s = moves-good r delta no_moves outs a s
 
 on_outgoing-good : (r : List Fact) (x : Option Maker) (answer : Answer) → IsGoodAnswer r answer
     → IsGoodAnswer r (on_outgoing x answer)
@@ -236,14 +251,81 @@ expired-quiet r now k (m ∷ ms) =
       | false ↦ rest
     ]
 
-pub tick-good : (terms : Terms) (r : List Fact) (place now : ℕ) → IsGoodAnswer r (tick terms r place now)
-tick-good terms r place now = chosen (has_room terms place (expired_from r now 0 (makers r)))
+-- each message that is emitted keeps the rules
+message_at-kept : (r : List Fact) (s i : ℕ) → IsKept r → AllByRecursion IsByTheRules (option_to_list (message_at r s i))
+message_at-kept r s zero k = to_list IsByTheRules (request_at r s) (request_at-kept r s k)
+message_at-kept r s (suc i) k = to_list IsByTheRules (data_at r s (suc i)) (data_at-kept r s (suc i) k)
+
+messages_at-kept : (r : List Fact) (keys : List Key) → IsKept r → AllByRecursion IsByTheRules (messages_at r keys)
+messages_at-kept r [] h = tt
+messages_at-kept r (k ∷ keys) h =
+    All-append IsByTheRules (option_to_list (message_at r k.seq k.number)) (messages_at r keys)
+    (message_at-kept r k.seq k.number h) (messages_at-kept r keys h)
+
+ticked-good : (r : List Fact) (now : ℕ) (keys : List Key) (delta : List Fact) → AreAllowed r delta
+    → IsGoodAnswer r (ticked r now keys delta)
+ticked-good r now keys delta a = moves-good r delta _ (λ after. messages_at after keys) a
+    (λ k. messages_at-kept (r ++ delta) keys k)
+
+pub tick-good : (terms : Terms) (r : List Fact) (place now time : ℕ) (waits : List Wait)
+    → IsGoodAnswer r (tick terms r place now time waits)
+tick-good terms r place now time waits = chosen (has_room terms place (expired_from r now 0 (makers r)))
   where
-    chosen : (x : Bool) → IsGoodAnswer r (cond x (adds r (expired_from r now 0 (makers r)) (λ after. []))
-        (adds r [] (λ after. [])))
-    chosen true = adds-good r (expired_from r now 0 (makers r)) (λ after. [])
-        (quiets-allowed r _ (expired-quiet r now 0 (makers r))) (λ k. tt)
-    chosen false = adds-good r [] (λ after. []) tt (λ k. tt)
+    chosen : (x : Bool) → IsGoodAnswer r (cond x
+        (ticked r now (first_due (max time now) waits) (expired_from r now 0 (makers r)))
+        (ticked r now (first_due (max time now) waits) []))
+    chosen true = ticked-good r now (first_due (max time now) waits) (expired_from r now 0 (makers r))
+        (quiets-allowed r _ (expired-quiet r now 0 (makers r)))
+    chosen false = ticked-good r now (first_due (max time now) waits) [] tt
+
+-- ---- ask_ack and nack_missing
+
+ask_to-kept : (to : Option Epr) (q : Option Text) → IfSome to IsEprWritable → IfSome q (IsText 512)
+    → AllByRecursion IsByTheRules (ask_to to q)
+ask_to-kept (Some to) (Some q) h is = (ask-kept to q h is, tt)
+ask_to-kept (Some to) None h is = tt
+ask_to-kept None (Some q) h is = tt
+ask_to-kept None None h is = tt
+
+pub ask_ack-good : (r : List Fact) (s : ℕ) → IsGoodAnswer r (ask_ack r s)
+ask_ack-good r s = on_outgoing-good r (maker r s) (ask_out r s) (chosen (may_end (phase r s)))
+  where
+    chosen : (x : Bool) → IsGoodAnswer r
+        (cond x (adds r [] (λ after. ask_to (peer after s) (out_ident after s))) (refusal NotOpen))
+    chosen true = adds-good r [] (λ after. ask_to (peer after s) (out_ident after s)) tt
+        (λ k. ask_to-kept (peer (r ++ []) s) (out_ident (r ++ []) s) (peer-kept (r ++ []) s k)
+        (name-kept (r ++ []) s k))
+    chosen false = refused r NotOpen
+
+nack_to-kept : (to : Option Epr) (q : Text) (numbers : List ℕ) → IfSome to IsEprWritable → IsText 512 q
+    → AllByRecursion IsNumber numbers → AllByRecursion IsByTheRules (nack_to to q numbers)
+nack_to-kept to q [] h is k = tt
+nack_to-kept to q (n ∷ ns) h is k =
+    let block : AckBlock = record { ident = q; kind = kind.Nack (n ∷ ns); last = false } in
+    own_messages-kept (ack_to to block)
+    (ack_to-kept to block h (record { ident = is; kind = (λ e. absurd (cc), k, refl) }))
+
+nack_by-kept : (r : List Fact) (s : ℕ) (made : Option (ℕ × Text)) → IsKept r
+    → AllByRecursion IsByTheRules (nack_by r s made)
+nack_by-kept r s None h = tt
+nack_by-kept r s (Some made) h =
+    nack_to-kept (acks_to r s) (issue (number r) made.0) (missing_of r s) (acks_to-kept r s h)
+    (issue-text 512 (number r) made.0 (omega arith)) (missing-kept r s h)
+
+pub nack_missing-good : (r : List Fact) (s now : ℕ) → IsGoodAnswer r (nack_missing r s now)
+nack_missing-good r s now = by_maker (maker r s)
+  where
+    good : IsGoodAnswer r (nack_in r s now)
+    good = unless-refused r (is_over r s now) NotOpen _ (λ e. adds-good r []
+        (λ after. nack_by after s (made_by after (maker after s))) tt
+        (λ k. nack_by-kept (r ++ []) s (made_by (r ++ []) (maker (r ++ []) s)) k))
+
+    by_maker : (x : Option Maker) → IsGoodAnswer r (on_incoming x (nack_in r s now))
+    by_maker None = refused r NoSequence
+    by_maker (Some (Outgoing ticket to via lapse)) = refused r WrongSide
+    by_maker (Some (Taken message_id ident endpoint)) = refused r WrongSide
+    by_maker (Some (Offered ticket c to behaviour)) = good
+    by_maker (Some (Incoming c message_id to behaviour deadline lapse)) = good
 
 -- ---- receive
 
@@ -326,6 +408,6 @@ receive-good below terms r place now y (Ok m) own h is = by_verdict (verdict ter
     by_verdict (Some kind) e = judged-good below terms r now y m kind own h is
     by_verdict None e =
         let none = none-held (tests terms r place now y m) e in
-        adds-good r (rows terms now y m r) (λ after. said after now m)
+        moves-good r (rows terms now y m r) _ (λ after. said after now m)
         (rows-allowed below.ranges r terms now y m is none.1.1.1.1.1.0)
         (λ k. said-kept (r ++ rows terms now y m r) now m k is)

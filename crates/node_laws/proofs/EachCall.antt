@@ -1,5 +1,5 @@
 -- Each call keeps the records of a node such, and what it says keeps the rules.
-use Rattle.std.proofs.Common.{◌≡◌, ℕ, ◌≤◌, Bool, true, List, Option, Some, None}
+use Rattle.std.proofs.Common.{◌≡◌, ℕ, max, Bool, true, List, Option, Some, None}
 use Rattle.std.specs.Prelude.{IfSome, Result, Ok, Err}
 use Rattle.std.specs.List.{AllByRecursion}
 use Rattle.ack_ranges.specs.declared.range.Range.{Range}
@@ -13,7 +13,8 @@ use Rattle.soap_envelope.specs.Soap.{soap_space}
 use Rattle.message_writer.specs.Rules.{KeepsRules}
 use Rattle.record_batch.specs.Fact.{Fact}
 use Rattle.sequence_table.specs.Fits.{all_fit}
-use Rattle.rm_protocol.specs.Calls.{Answer, create, send, close, end, tick, receive}
+use Rattle.rm_protocol.specs.Calls.{Answer, create, send, close, end, tick, ask_ack, nack_missing, receive}
+use Rattle.key_timers.specs.Waits.{first_due}
 use Rattle.rm_protocol.specs.Next.{HasRanges, IsMessageNumber, IsNumberRange, IsReadable, AddsNext, EachMayComeNext}
 use Rattle.rm_protocol.specs.Rows.{ranges_of}
 use Rattle.rm_protocol.specs.Terms.{Terms}
@@ -23,7 +24,7 @@ use Rattle.node_laws.specs.OwnTerms.{AreOwn}
 use Rattle.node_laws.specs.Read.{IsContentRead}
 use Rattle.node_laws.specs.Records.{IsKept}
 use Rattle.node_laws.proofs.Calls.{Below, IsGoodAnswer, create-good, send-good, close-good, end-good, tick-good}
-use Rattle.node_laws.proofs.Calls.{receive-good}
+use Rattle.node_laws.proofs.Calls.{ask_ack-good, nack_missing-good, receive-good}
 use Rattle.node_laws.proofs.Kept.{kept-all}
 use Rattle.node_laws.proofs.Owned.{own-later}
 use Rattle.node_laws.proofs.Lists.{All-weaker}
@@ -75,7 +76,11 @@ of-each below next terms r place P own h step =
       send_ = λ s text. step (send terms r place s text) (fit.send_ s text) (send-good terms r place s text own);
       close_ = λ s now. step (close terms r place s now) (fit.close_ s now) (close-good terms r place s now);
       end_ = λ s. step (end terms r place s) (fit.end_ s) (end-good terms r place s);
-      tick_ = λ now. step (tick terms r place now) (fit.tick_ now) (tick-good terms r place now);
+      tick_ = λ now time waits. step (tick terms r place now time waits)
+          (fit.tick_ now (first_due (max time now) waits))
+          (tick-good terms r place now time waits);
+      ask_ack_ = λ s. step (ask_ack r s) (fit.ask_ack_ s) (ask_ack-good r s);
+      nack_missing_ = λ s now. step (nack_missing r s now) (fit.nack_missing_ s now) (nack_missing-good r s now);
       receive_ = λ now y content o is. step (receive terms r place now y content)
           (fit.receive_ now y content o (readable content is))
           (receive-good below terms r place now y content own h is);

@@ -40,7 +40,7 @@ use Rattle.sequence_table.specs.Find.{peer, plain_endpoint}
 use Rattle.rm_protocol.specs.Addresses.{rm_action, payload_action, anonymous, own_address, reply_to}
 use Rattle.rm_protocol.specs.Messages.{written_scope, data_of, data_by, data_at, request_of, never, offer_by}
 use Rattle.rm_protocol.specs.Messages.{create_request, via_of, last_number, finish_of, finish_request, request_by}
-use Rattle.rm_protocol.specs.Messages.{request_at, ack_message, response_of}
+use Rattle.rm_protocol.specs.Messages.{request_at, ack_message, ask_message, response_of}
 use Rattle.node_laws.specs.Records.{IsKept}
 use Rattle.node_laws.proofs.Texts.{issue-text, polled-text}
 use Rattle.node_laws.proofs.Values.{IsMakerKept, maker-kept, ident-kept, address-kept, payload-kept, few-accepted}
@@ -100,6 +100,10 @@ ack-action : IsAction (codes "SequenceAcknowledgement")
     (codes "http://docs.oasis-open.org/ws-rx/wsrm/200702/SequenceAcknowledgement")
 unfolding rm_action
 ack-action = record { same = refl; text = literal_is_text 2048 _ refl refl refl refl refl refl }
+
+ask-action : IsAction (codes "AckRequested") (codes "http://docs.oasis-open.org/ws-rx/wsrm/200702/AckRequested")
+unfolding rm_action
+ask-action = record { same = refl; text = literal_is_text 2048 _ refl refl refl refl refl refl }
 
 own-text : (r : List Fact) (via : Via) → IsKept r → IsText 2048 (own_address r via)
 own-text r Direct h = address-kept r h
@@ -306,6 +310,17 @@ ack-kept to blocks h k = record {
   not_understood = tt;
   body = tt;
   together = (refl, (0, omega arith, sym ack-action.same));
+}
+
+pub ask-kept : (to : Epr) (q : Text) → IsEprWritable to → IsText 512 q → IsByTheRules (ask_message to q)
+ask-kept to q h is = record {
+  addressing = headers-kept to (rm_action (codes "AckRequested")) None None None h ask-action.text tt tt tt;
+  sequence = tt;
+  acks = tt;
+  asks = (is, tt);
+  not_understood = tt;
+  body = tt;
+  together = (refl, (1, omega arith, sym ask-action.same));
 }
 
 pub response-kept : (to : Epr) (t : Option Text) (name : Text) (content : Lifecycle) (blocks : List AckBlock)

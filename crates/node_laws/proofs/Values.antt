@@ -2,13 +2,15 @@
 use Rattle.std.proofs.Common.{◌≡◌, ℕ, ◌+◌, ◌-◌, ◌<◌, ◌≤◌, ◌==◌, min, max, Bool, true, false, cond, List, [], ◌∷◌}
 use Rattle.std.proofs.Common.{◌++◌, length, refl, sym, ap, subst, ◌∙◌, arith, Option, Some, None, append-nil}
 use Rattle.std.proofs.Common.{length-append}
-use Rattle.std.specs.Prelude.{nat_le, nat_lt, IfSome}
+use Rattle.std.specs.Prelude.{nat_le, nat_lt, not, take, filter, zero, suc, IfSome}
 use Rattle.std.specs.List.{AllByRecursion, flat_map}
 use Rattle.std.proofs.lemmas.Bool.{and_parts, ltb-true, leb-true}
 use Rattle.std.proofs.lemmas.Bool.Decides.{nat_tests}
 use Rattle.ack_ranges.specs.declared.range.Range.{Range}
 use Rattle.ack_ranges.specs.Changes.{with_range}
+use Rattle.ack_ranges.specs.Ranges.{greatest_of}
 use Rattle.rm_base.specs.Numbered.{numbered}
+use Rattle.rm_base.specs.NumberSet.{has_number}
 use Rattle.rm_base.specs.Text.{IsText}
 use Rattle.rm_base.specs.declared.message.Payload.{Payload}
 use Rattle.rm_elements.specs.Writable.{IsNumber, IsRange, IsKindWritable, IsAckWritable, IsLapseWritable}
@@ -28,6 +30,8 @@ use Rattle.sequence_table.specs.Fits.{fits, all_fit, follows_at, is_incoming_sid
 use Rattle.sequence_table.specs.GatherLemmas.{flat_map-more}
 use Rattle.rm_protocol.specs.FitInduction.{fit-induction}
 use Rattle.rm_protocol.specs.Messages.{ranges_onto, kind_of, block_of}
+use Rattle.rm_protocol.specs.Calls.{missing_of}
+use Rattle.rm_protocol.specs.Waiting.{numbers_from}
 use Rattle.node_laws.specs.Records.{KeepsLimits, HasValues, IsKept}
 use Rattle.node_laws.proofs.Lists.{All-append, All-flat_map, All-numbered, All-at_seq, first_or-has}
 
@@ -258,3 +262,39 @@ block-kept r s q now h is = record {
   kind = kind-kept (ranges_onto [] (held r s)) (is_over r s now)
       (onto-ranges [] (held r s) tt (held-numbers r s h.node.fit));
 }
+
+-- ---- numbers that are missing
+
+greatest-number : (rs : List Range) → AllByRecursion IsRange rs → greatest_of rs ≤ 9223372036854775807
+greatest-number [] h = omega arith
+greatest-number (r ∷ []) h = h.0.upper.high
+greatest-number (r ∷ s ∷ rs) h = greatest-number (s ∷ rs) h.1
+
+from-numbers : (i count : ℕ) → 1 ≤ i → i + count ≤ 9223372036854775808 → AllByRecursion IsNumber (numbers_from i count)
+from-numbers i zero low high = tt
+from-numbers i (suc count) low high =
+    (record { low = low; high = omega arith }, from-numbers (i + 1) count (omega arith) (omega arith))
+
+All-filter : {A : Type 0} (P : A → Type 0) (f : A → Bool) (xs : List A) → AllByRecursion P xs
+    → AllByRecursion P (filter f xs)
+All-filter P f [] h = tt
+All-filter P f (x ∷ xs) h = elim (f x) as (λ b. AllByRecursion P (cond b (x ∷ filter f xs) (filter f xs))) [
+  | true ↦ (h.0, All-filter P f xs h.1)
+  | false ↦ All-filter P f xs h.1
+]
+
+All-take : {A : Type 0} (P : A → Type 0) (n : ℕ) (xs : List A) → AllByRecursion P xs → AllByRecursion P (take n xs)
+All-take P zero xs h = tt
+All-take P (suc n) [] h = tt
+All-take P (suc n) (x ∷ xs) h = (h.0, All-take P n xs h.1)
+
+-- they are message numbers
+pub missing-kept : (r : List Fact) (s : ℕ) → IsKept r → AllByRecursion IsNumber (missing_of r s)
+missing-kept r s h =
+    let ranges = ranges_onto [] (held r s) in
+    let most : greatest_of ranges ≤ 9223372036854775807 =
+    greatest-number ranges (onto-ranges [] (held r s) tt (held-numbers r s h.node.fit)) in
+    let all = numbers_from 1 (greatest_of ranges - 1) in
+    let missing = λ (n : ℕ). not (has_number (held r s) n) in
+    All-take IsNumber 64 (filter missing all)
+    (All-filter IsNumber missing all (from-numbers 1 (greatest_of ranges - 1) (omega arith) (omega (arith, most))))

@@ -3,6 +3,7 @@ use Rattle.std.specs.Prelude.{◌≡◌, ℕ, ◌≤◌, true, List, ◌++◌, l
 use Rattle.std.specs.List.{AllByRecursion}
 use Rattle.rm_base.specs.Limits as limits
 use Rattle.rm_base.specs.declared.message.Behaviour.{Behaviour}
+use Rattle.key_timers.specs.Waits.{Wait}
 use Rattle.rm_message.specs.declared.message.Message.{Message}
 use Rattle.rm_message.specs.declared.refusal.Refusal.{Refusal}
 use Rattle.soap_envelope.specs.Soap.{soap_space}
@@ -12,7 +13,7 @@ use Rattle.message_writer.specs.Text.{message_text}
 use Rattle.record_batch.specs.Fact.{Fact}
 use Rattle.sequence_table.specs.Fits.{is_in_order}
 use Rattle.sequence_table.specs.Words.{Text}
-use Rattle.rm_protocol.specs.Calls.{Answer, Wish, create, send, close, end, tick, receive}
+use Rattle.rm_protocol.specs.Calls.{Answer, Wish, create, send, close, end, tick, ask_ack, nack_missing, receive}
 use Rattle.rm_protocol.specs.Terms.{Terms}
 use Rattle.node_laws.specs.OwnTerms.{AreOwn}
 use Rattle.node_laws.specs.Read.{IsContentRead, MayBeWished}
@@ -25,7 +26,9 @@ pub record OfEachCall (terms : Terms) (r : List Fact) (place : ℕ) (P : Answer 
   pub send_ : (s : ℕ) (payload : Text) → P (send terms r place s payload)
   pub close_ : (s now : ℕ) → P (close terms r place s now)
   pub end_ : (s : ℕ) → P (end terms r place s)
-  pub tick_ : (now : ℕ) → P (tick terms r place now)
+  pub tick_ : (now time : ℕ) (waits : List Wait) → P (tick terms r place now time waits)
+  pub ask_ack_ : (s : ℕ) → P (ask_ack r s)
+  pub nack_missing_ : (s now : ℕ) → P (nack_missing r s now)
   pub receive_ : (now : ℕ) (behaviour : Behaviour) (content : Result Message Refusal) → is_in_order behaviour ≡ true
       → IsContentRead content → P (receive terms r place now behaviour content)
 

@@ -12,9 +12,9 @@ use Rattle.rm_journal.specs.Journal.{Fits}
 use Rattle.rm_journal.specs.JournalState.{JournalState, end_of}
 use Rattle.rm_protocol.specs.Node.{records_in}
 use Rattle.sequence_table.specs.Makers.{counter}
-use Rattle.node_laws.specs.Records.{AreValues}
+use Rattle.node_laws.specs.Records.{AreValues, IsKept}
 use Rattle.node_store.specs.Has.{AreOfNode, entries_of, Holds, StandsForBatches}
-use Rattle.node_store.specs.Mounted.{AreReplayed, Finds, KeepsWindows, Replays}
+use Rattle.node_store.specs.Mounted.{AreReplayed, AreReplayedFrom, Finds, KeepsWindows, Replays}
 use Rattle.node_store.specs.Stored.{IsServing, stored}
 use Rattle.node_store.proofs.CommitLemmas.{DrawsFew, counter-more}
 use Rattle.node_store.proofs.HasLemmas.{ReadsBack, same_batches}
@@ -22,6 +22,25 @@ use Rattle.node_store.proofs.HasLemmas.{ReadsBack, same_batches}
 -- the records of batches that are read back have values of their types
 abbrev pub HaveValues : Type 0
 HaveValues = (batches : List (List Fact)) → AllByRecursion IsBatch batches → AreValues (records_in batches)
+
+-- the records of batches that were read, whatever the disk tells, are those of a node
+pub kept_of : HaveValues → (journal : JournalState) (r : List Fact) → AreReplayedFrom r → IsServing journal r
+    → KeepsWindows r → IsKept r
+kept_of values journal r from serving windows =
+    let replays = from.replays in
+    let kept = subst KeepsWindows replays.records windows in
+    subst IsKept (sym replays.records) (record {
+      node = record {
+        begins = (subst (IsServing journal) replays.records serving).begins;
+        fit = replays.replayed.fit;
+        each = replays.replayed.kept;
+        sequences = kept.sequences;
+        window = λ s. (kept.each s).window;
+        windows = kept.windows;
+        near = λ s. (kept.each s).near;
+      };
+      values = values replays.batches replays.replayed.each;
+    })
 
 -- the batches that were read are those of a node
 pub found : HaveValues → (old now : List Call) (entries : List (List ℕ)) (journal : JournalState) (r : List Fact)
@@ -34,7 +53,6 @@ found values old now entries journal r stands fits replays serving windows =
       journal = subst (λ (es : List (List ℕ)). Fits es now journal) are fits;
       records = replays.records;
     } in
-    let kept = subst KeepsWindows replays.records windows in
     record {
       batches = bs;
       were = subst (λ (es : List (List ℕ)). StandsFor es (seen_of old)) are stands;
@@ -42,18 +60,8 @@ found values old now entries journal r stands fits replays serving windows =
         holds = holds;
         are = record {
           each = replays.replayed.each;
-          kept = record {
-            node = record {
-              begins = (subst (IsServing journal) replays.records serving).begins;
-              fit = replays.replayed.fit;
-              each = replays.replayed.kept;
-              sequences = kept.sequences;
-              window = λ s. (kept.each s).window;
-              windows = kept.windows;
-              near = λ s. (kept.each s).near;
-            };
-            values = values bs replays.replayed.each;
-          };
+          kept = subst IsKept replays.records
+              (kept_of values journal r (record { entries = entries; replays = replays }) serving windows);
         };
       };
     }

@@ -1,11 +1,11 @@
 -- Entries that are read one after the other.
 use Rattle.std.proofs.Common.{◌≡◌, ℕ, ◌+◌, Bool, true, false, List, [], ◌∷◌, ◌++◌, take}
-use Rattle.std.proofs.Common.{drop, Some, refl, sym, ap, subst, ◌∙◌, append_assoc}
+use Rattle.std.proofs.Common.{length, drop, Some, refl, sym, ap, subst, ◌∙◌, append_assoc, length-append, arith}
 use Rattle.std.specs.Prelude.{◌&&◌, slice_get, Result, Err}
 use Rattle.std.specs.List.{AllByRecursion}
 use Rattle.std.proofs.lemmas.Bool.{and_parts, true≢false}
 use Rattle.std.proofs.lemmas.Grind.{flat_map-append}
-use Rattle.std.proofs.lemmas.List.{append-nil, drop_more, take_more, take-append-drop}
+use Rattle.std.proofs.lemmas.List.{append-nil, drop_more, take_all, take_more, take-append-drop}
 use Rattle.std.proofs.lemmas.Option.{get_or_from_slice_get, slice_get_within}
 use Rattle.record_batch.specs.Batch.{batch_at, batch_text}
 use Rattle.record_batch.specs.Fact.{Fact}
@@ -18,7 +18,7 @@ use Rattle.node_tables.specs.declared.error.TableError.{TableError}
 use Rattle.node_tables.specs.declared.error.TableError.TheVariants.{Misfit}
 use Rattle.node_store.specs.declared.error.MountError.{MountError}
 use Rattle.node_store.specs.Has.{entries_of}
-use Rattle.node_store.specs.Mounted.{AreReplayed, IsAdded, IsStuck, Replays}
+use Rattle.node_store.specs.Mounted.{AreReplayed, AreReplayedFrom, IsAdded, IsMore, IsStuck, Replays}
 use Rattle.node_store.proofs.HasLemmas.{ReadsBack, entries_of-push, records_in-push, some_is}
 
 -- a result has one error
@@ -82,6 +82,14 @@ place_next {A} xs i x at =
     take_more xs i x (slice_get_within xs i x at)
     ∙ ap (λ (y : A). take i xs ++ y ∷ []) (get_or_from_slice_get xs i x x at)
 
+take-length : {A : Type 0} (xs ys : List A) → take (length xs) (xs ++ ys) ≡ xs
+take-length [] ys = refl
+take-length (x ∷ xs) ys = ap (λ (l : List _). x ∷ l) (take-length xs ys)
+
+behind : {A : Type 0} (xs : List A) (y : A) → slice_get (xs ++ y ∷ []) (length xs) ≡ Some y
+behind [] y = refl
+behind (x ∷ xs) y = behind xs y
+
 pub replays-more : (entries : List (List ℕ)) (i : ℕ) (old new : List Fact) → Replays (take i entries) old
     → IsAdded old new entries i → Replays (take (i + 1) entries) new
 replays-more entries i old new before step =
@@ -105,6 +113,26 @@ replays-more entries i old new before step =
             (all_both KeepsLimits (records_in bs) batch was.kept step.next.kept);
       };
       records = step.now ∙ ap (λ (l : List Fact). l ++ batch) rs ∙ sym records;
+    }
+
+-- the records of some batches, and then of one more
+pub replayed-more : (old new : List Fact) → AreReplayedFrom old → IsMore old new → AreReplayedFrom new
+replayed-more old new before step =
+    let es = before.entries in
+    let at : take (length es) (es ++ step.entry ∷ []) ≡ es = take-length es (step.entry ∷ []) in
+    record {
+      entries = es ++ step.entry ∷ [];
+      replays = subst (λ (l : List (List ℕ)). Replays l new)
+          (take_all (length es + 1) (es ++ step.entry ∷ []) (omega (arith, length-append es (step.entry ∷ []))))
+          (replays-more (es ++ step.entry ∷ []) (length es) old new
+          (subst (λ (l : List (List ℕ)). Replays l old) (sym at) before.replays)
+          (record {
+            entry = step.entry;
+            at = behind es step.entry;
+            batch = step.batch;
+            next = step.next;
+            now = step.now;
+          }));
     }
 
 -- ---- where one is stuck there are no batches

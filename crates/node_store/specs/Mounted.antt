@@ -52,6 +52,13 @@ pub record IsAdded (old new : List Fact) (entries : List (List ℕ)) (place : �
   pub next : IsNext old entry batch
   pub now : new ≡ old ++ batch
 
+-- an entry was such a batch, and the records are those of before with its own
+pub record IsMore (old new : List Fact) : Type 0 where
+  pub entry : List ℕ
+  pub batch : List Fact
+  pub next : IsNext old entry batch
+  pub now : new ≡ old ++ batch
+
 -- the entry at a place is no such batch
 pub record IsStuck (r : List Fact) (entries : List (List ℕ)) (place : ℕ) : Type 0 where
   pub entry : List ℕ
@@ -70,6 +77,11 @@ pub record Replays (entries : List (List ℕ)) (r : List Fact) : Type 0 where
   pub batches : List (List Fact)
   pub replayed : AreReplayed batches entries
   pub records : r ≡ records_in batches
+
+-- the records of such batches, whatever the disk tells
+pub record AreReplayedFrom (r : List Fact) : Type 0 where
+  pub entries : List (List ℕ)
+  pub replays : Replays entries r
 
 -- ---- what the records of a node keep all together
 

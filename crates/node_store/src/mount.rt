@@ -5,6 +5,7 @@ ghost use Rattle.rm_disk.specs.Cause.{HasCause};
 ghost use Rattle.rm_disk.specs.Image.{MayLeave, OnlyLeaves};
 ghost use Rattle.rm_journal.specs.Entries.{StandsFor};
 ghost use Rattle.rm_journal.specs.Journal.{Fits};
+ghost use Rattle.node_laws.specs.Records.{IsKept};
 ghost use Rattle.node_store.specs.Changes.{KeepsUnarmed};
 ghost use Rattle.node_store.specs.Mounted.{Finds, has_failed, IsNoNode};
 ghost use Rattle.node_store.specs.Stored.{IsServing, stored};
@@ -29,6 +30,7 @@ pub(crate) fn find<D: Disk>(alloc: Global, disk: &mut D) -> Result<(Journal, Tab
     ensures none { IsTrue D.tells → result ≡ Err IsNoJournal → IsNoNode (seen_of (D.told disk.old).past) }
     ensures up { IfOk result (λ x. x.0.is_down ≡ false) }
     ensures serving { IfOk result (λ x. IsServing x.0 x.1.records) }
+    ensures kept { IfOk result (λ x. IsKept x.1.records) }
     ensures refusals { IfErr result (λ error. (error ≡ NoMemory) ⊎ (error ≡ DiskBroke) ⊎ (error ≡ IsNoJournal)) }
     ensures seen { IsTrue D.tells → seen_of (D.told disk.new).past ≡ seen_of (D.told disk.old).past }
     ensures moments { IsTrue D.tells →

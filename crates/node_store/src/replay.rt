@@ -10,7 +10,8 @@ ghost use Rattle.rm_journal.specs.Journal.{Fits};
 ghost use Rattle.sequence_table.specs.Fits.{all_fit};
 ghost use Rattle.node_laws.specs.Records.{KeepsLimits};
 ghost use Rattle.node_store.specs.Changes.{KeepsUnarmed};
-ghost use Rattle.node_store.specs.Mounted.{AreReplayed, has_failed, IsAdded, IsStuck, Replays};
+ghost use Rattle.node_store.specs.Mounted.{AreReplayed, AreReplayedFrom, has_failed, IsAdded, IsMore, IsStuck};
+ghost use Rattle.node_store.specs.Mounted.{Replays};
 ghost use Rattle.node_store.specs.declared.error.MountError.TheVariants.{Memory as NoMemory, Disk as DiskBroke};
 ghost use Rattle.node_store.specs.declared.error.MountError.TheVariants.{NotAJournal as IsNoJournal};
 
@@ -38,6 +39,7 @@ pub(crate) fn replay<D: Disk>(
     ensures none { IsTrue D.tells → result ≡ Err IsNoJournal → (entries : List (List ℕ)) →
         Fits entries (D.told disk.old).past journal.old → (batches : List (List Fact)) →
         ¬ (AreReplayed batches entries) }
+    ensures sound { IfOk result (λ tables. AreReplayedFrom tables.records) }
     ensures journal { OnOk result (journal.new ≡ journal.old) }
     ensures refusals { IfErr result (λ error. (error ≡ NoMemory) ⊎ (error ≡ DiskBroke) ⊎ (error ≡ IsNoJournal)) }
     ensures past { IsTrue D.tells → (D.told disk.new).past ≡ (D.told disk.old).past }
@@ -67,6 +69,7 @@ fn add_entry<D: Disk>(
         OnOk result (IsAdded tables.old.records tables.new.records entries (number - 1)) }
     ensures none { IsTrue D.tells → result ≡ Err IsNoJournal → (entries : List (List ℕ)) →
         Fits entries (D.told disk.old).past journal.old → IsStuck tables.old.records entries (number - 1) }
+    ensures more { OnOk result (IsMore tables.old.records tables.new.records) }
     ensures journal { OnOk result (journal.new ≡ journal.old) }
     ensures refusals { IfErr result (λ error. (error ≡ NoMemory) ⊎ (error ≡ DiskBroke) ⊎ (error ≡ IsNoJournal)) }
     ensures past { IsTrue D.tells → (D.told disk.new).past ≡ (D.told disk.old).past }

@@ -8,6 +8,7 @@ ghost use Rattle.rm_disk.specs.Cause.{HasCause};
 ghost use Rattle.rm_disk.specs.Image.{MayLeave, OnlyLeaves};
 ghost use Rattle.rm_journal.specs.JournalState.{end_of};
 ghost use Rattle.sequence_table.specs.Fits.{all_fit};
+ghost use Rattle.node_laws.specs.Records.{IsKept};
 ghost use Rattle.node_store.specs.Changes.{Changes, KeepsUnarmed, WasNotMade};
 ghost use Rattle.node_store.specs.Has.{Has, Holds};
 ghost use Rattle.node_store.specs.Failed.{is_disk};
@@ -101,6 +102,7 @@ impl Store {
         requires from_one { 0 < number }
         requires within { number < 2 ^ 60 }
         ensures made { IfOk result (λ store. store ≡ first_stored number address) }
+        ensures kept { IfOk result (λ store. IsKept store.records) }
         ensures has { IsTrue D.tells →
             IfOk result (Has ((Made number address ∷ []) ∷ []) (D.told disk.new).past) }
         ensures wanted { IsTrue D.tells → result ≡ Err WantsMemory →
@@ -131,6 +133,7 @@ impl Store {
         ensures found { IsTrue D.tells → IfOk result (Finds (D.told disk.old).past (D.told disk.new).past) }
         ensures none { IsTrue D.tells → result ≡ Err IsNoJournal → IsNoNode (seen_of (D.told disk.old).past) }
         ensures up { IfOk result (λ store. store.journal.is_down ≡ false) }
+        ensures kept { IfOk result (λ store. IsKept store.records) }
         ensures refusals { IfErr result (λ error.
             (error ≡ NoMemory) ⊎ (error ≡ DiskBroke) ⊎ (error ≡ IsNoJournal)) }
 

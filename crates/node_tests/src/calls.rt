@@ -1,4 +1,7 @@
 //! Each call of a node once, with the packets that it hands out.
+ghost use Rattle.std.specs.Prelude.{◌≤◌};
+ghost use Rattle.rm_base.specs.Limits.{now_max};
+
 use crate::peer::{NODE_1, NODE_2, Peer, at_first, at_second, is_packet};
 use crate::texts::{FIRST_OF_1, envelope, joined, request};
 use rm_base::{Behaviour, Memory};
@@ -250,7 +253,9 @@ fn an_incoming_sequence_that_is_closed(rt: HostRuntime) -> Result<(), Fail> {
 }
 
 // A moment comes: how many packets are handed out, how many entries there are, and in which phase the sequence is.
-fn tick(peer: &mut Peer, now: u64) -> Result<(usize, u64, Option<InPhase>), NodeError> {
+fn tick(peer: &mut Peer, now: u64) -> Result<(usize, u64, Option<InPhase>), NodeError>
+    requires { now ≤ now_max }
+{
     let count = peer.tick(now)?;
     Ok((count, peer.entries(), peer.in_phase(1)))
 }

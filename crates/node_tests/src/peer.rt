@@ -1,4 +1,7 @@
 //! A node on its disk, and the first calls of a test.
+ghost use Rattle.std.specs.Prelude.{◌≤◌};
+ghost use Rattle.rm_base.specs.Limits.{now_max};
+
 use crate::device::Device;
 use crate::texts::{FIRST_OF_1, FIRST_OF_2, message, request, response};
 use call_answers::Wish;
@@ -163,7 +166,9 @@ impl Peer {
     }
 
     /// A moment comes: how many packets are handed out.
-    pub(crate) fn tick(&mut self, now: u64) -> Result<usize, NodeError> {
+    pub(crate) fn tick(&mut self, now: u64) -> Result<usize, NodeError>
+        requires { now ≤ now_max }
+    {
         let outs = self.node.tick(&mut self.disk, now)?;
         Ok(outs.len())
     }

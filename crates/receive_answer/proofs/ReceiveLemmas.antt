@@ -12,7 +12,7 @@ use Rattle.rm_message.specs.declared.refusal.FaultKind.{FaultKind}
 use Rattle.rm_message.specs.declared.refusal.FaultKind.TheVariants.{StoreFull}
 use Rattle.record_batch.specs.Fact.{Fact}
 use Rattle.message_writer.specs.Faults.{fault_of}
-use Rattle.rm_protocol.specs.Calls.{Answer, Judged, adds, fault_block, judged, receive, refusal_of}
+use Rattle.rm_protocol.specs.Calls.{Answer, adds_and_moves, fault_block, judged, receive, refusal_of}
 use Rattle.rm_protocol.specs.Rows.{rows}
 use Rattle.rm_protocol.specs.Said.{said}
 use Rattle.rm_protocol.specs.Terms.{Terms}
@@ -20,7 +20,7 @@ use Rattle.rm_protocol.specs.Verdict.{first_held, has_room, refuses_create, verd
 use Rattle.node_laws.specs.OwnTerms.{AreOwn}
 use Rattle.receive_verdict.specs.Early.{early_tests}
 use Rattle.receive_answer.specs.Tried.{Tried}
-use Rattle.receive_answer.specs.Untold.{done_of, early_kind, full_of, told}
+use Rattle.receive_answer.specs.Untold.{done_of, early_kind, full_of, judged_as, told, urging}
 
 abbrev Tests : Type 0
 Tests = List (Bool × FaultKind)
@@ -75,28 +75,27 @@ verdict-is terms r place now b m early fits e f =
 pub receive-early : (terms : Terms) (r : List Fact) (place now : ℕ) (b : Behaviour) (m : Message) (kind : FaultKind)
     → AreOwn terms → first_held (early_tests r now m) ≡ Some kind
     → receive terms r place now b (Ok m)
-    ≡ record { outcome = Judged kind; delta = []; outs = fault_of (refusal_of m kind) (fault_block r now m kind) ∷ [] }
+    ≡ judged_as kind (fault_of (refusal_of m kind) (fault_block r now m kind))
 receive-early terms r place now b m kind own e =
     ap (judged terms r now b m) (verdict-is terms r place now b m (Some kind) _ e refl)
-    ∙ ap (λ (fault : Message). record { outcome = Judged kind; delta = []; outs = fault ∷ [] })
-    (own.fault (refusal_of m kind) (fault_block r now m kind))
+    ∙ ap (judged_as kind) (own.fault (refusal_of m kind) (fault_block r now m kind))
 
 -- without one, where the records don't fit the store: StoreFull
 pub receive-full : (terms : Terms) (r : List Fact) (place now : ℕ) (b : Behaviour) (m : Message)
     → AreOwn terms → early_kind r now m ≡ None
     → has_room terms place (rows terms now b m r) ≡ false
     → receive terms r place now b (Ok m)
-    ≡ record { outcome = Judged StoreFull; delta = []; outs = fault_of (refusal_of m StoreFull) None ∷ [] }
+    ≡ judged_as StoreFull (fault_of (refusal_of m StoreFull) None)
 unfolding early_kind
 receive-full terms r place now b m own e f =
     ap (judged terms r now b m) (verdict-is terms r place now b m None false e f)
-    ∙ ap (λ (fault : Message). record { outcome = Judged StoreFull; delta = []; outs = fault ∷ [] })
-    (own.fault (refusal_of m StoreFull) None)
+    ∙ ap (judged_as StoreFull) (own.fault (refusal_of m StoreFull) None)
 
 -- and where they fit: the records, and what is said then
 pub receive-taken : (terms : Terms) (r : List Fact) (place now : ℕ) (b : Behaviour) (m : Message)
     → early_kind r now m ≡ None → has_room terms place (rows terms now b m r) ≡ true
-    → receive terms r place now b (Ok m) ≡ adds r (rows terms now b m r) (λ after. said after now m)
+    → receive terms r place now b (Ok m) ≡ adds_and_moves r (rows terms now b m r) (urging r m)
+    (λ after. said after now m)
 unfolding early_kind
 receive-taken terms r place now b m e f =
     ap (judged terms r now b m) (verdict-is terms r place now b m None true e f)
@@ -105,17 +104,12 @@ all-records : (r d : List Fact) → d ≡ [] → r ++ d ≡ r
 all-records r d none = ap (λ ds. r ++ ds) none ∙ append-nil r
 
 fault-answer : List Fact → ℕ → Message → FaultKind → Answer
-fault-answer r now m kind =
-    record { outcome = Judged kind; delta = []; outs = fault_of (refusal_of m kind) (fault_block r now m kind) ∷ [] }
+fault-answer r now m kind = judged_as kind (fault_of (refusal_of m kind) (fault_block r now m kind))
 
 -- where nothing is ahead, the answer to a message with an early verdict
 pub told-early : (terms : Terms) (r d : List Fact) (place now : ℕ) (b : Behaviour) (m : Message) (kind : FaultKind)
     → AreOwn terms → d ≡ [] → Some kind ≡ first_held (early_tests (r ++ d) now m)
-    → record {
-      outcome = Judged kind;
-      delta = [];
-      outs = fault_of (refusal_of m kind) (fault_block (r ++ d) now m kind) ∷ [];
-    } ≡ told terms r place now b m
+    → judged_as kind (fault_of (refusal_of m kind) (fault_block (r ++ d) now m kind)) ≡ told terms r place now b m
 unfolding told fault-answer
 told-early terms r d place now b m kind own none e =
     let same = all-records r d none in
@@ -143,7 +137,7 @@ pub answer-taken : (r d : List Fact) (place now : ℕ) (b : Behaviour) (m : Mess
 unfolding told done_of
 answer-taken r d place now b m fits tried is terms own =
     receive-taken terms r place now b m tried.early (room-of r d place now b m fits tried terms own ∙ is)
-    ∙ ap (λ ds. adds r ds (λ after. said after now m)) (sym (tried.added terms own))
+    ∙ ap (λ ds. adds_and_moves r ds (urging r m) (λ after. said after now m)) (sym (tried.added terms own))
 
 -- and where they don't
 pub answer-full : (r d : List Fact) (place now : ℕ) (b : Behaviour) (m : Message) (fits : Bool)

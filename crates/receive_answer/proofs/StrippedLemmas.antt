@@ -1,5 +1,5 @@
 -- What is said to a message doesn't depend on what its payload has.
-use Rattle.std.proofs.Common.{◌≡◌, ℕ, List, ◌++◌, ◌∷◌, [], refl, ap, ◌∙◌, Option, Some, None}
+use Rattle.std.proofs.Common.{◌≡◌, ℕ, List, ◌++◌, [], refl, ap, ◌∙◌, Option, Some, None}
 use Rattle.rm_elements.specs.declared.header.SeqHeader.{SeqHeader}
 use Rattle.rm_message.specs.declared.message.Body.{Body}
 use Rattle.rm_message.specs.declared.message.Body.TheVariants.{Empty, Payload, Lifecycle, Fault}
@@ -9,11 +9,11 @@ use Rattle.message_writer.specs.Faults.{fault_of}
 use Rattle.wsa_headers.specs.declared.addressing.Addressing.{Addressing}
 use Rattle.record_batch.specs.Fact.{Fact}
 use Rattle.sequence_table.specs.Words.{Text}
-use Rattle.rm_protocol.specs.Calls.{Answer, Done, Judged, refusal_of}
+use Rattle.rm_protocol.specs.Calls.{Answer, Done, refusal_of}
 use Rattle.rm_protocol.specs.Said.{acks_said, answered, ask_acks, data_acks, data_ident, found_in, given_with}
 use Rattle.rm_protocol.specs.Said.{responses, said}
 use Rattle.receive_records.specs.Stripped.{emptied, stripped}
-use Rattle.receive_answer.specs.Untold.{done_of, full_of}
+use Rattle.receive_answer.specs.Untold.{done_of, full_of, judged_as, urging}
 
 responses-emptied : (r : List Fact) (now : ℕ) (a : Addressing) (content : Body)
     → responses r now a (emptied content) ≡ responses r now a content
@@ -39,7 +39,8 @@ said-stripped r now m =
 pub done-stripped : (r d : List Fact) (now : ℕ) (m : Message) → done_of r d now (stripped m) ≡ done_of r d now m
 unfolding done_of
 done-stripped r d now m =
-    ap (λ (ms : List Message). let a : Answer = record { outcome = Done; delta = d; outs = ms } in a)
+    ap (λ (ms : List Message).
+    let a : Answer = record { outcome = Done; delta = d; outs = ms; moves = urging r m } in a)
     (said-stripped (r ++ d) now m)
 
 -- nor the fault of a message whose records don't fit the store
@@ -48,10 +49,6 @@ unfolding full_of
 full-stripped m = refl
 
 -- the fault of a message whose records don't fit the store, as one word
-pub full-is : (m : Message) → record {
-  outcome = Judged StoreFull;
-  delta = [];
-  outs = fault_of (refusal_of m StoreFull) None ∷ [];
-} ≡ full_of m
+pub full-is : (m : Message) → judged_as StoreFull (fault_of (refusal_of m StoreFull) None) ≡ full_of m
 unfolding full_of
 full-is m = refl

@@ -6,10 +6,11 @@ use Rattle.rm_message.specs.declared.refusal.FaultKind.{FaultKind}
 use Rattle.rm_message.specs.declared.refusal.FaultKind.TheVariants.{StoreFull}
 use Rattle.record_batch.specs.Fact.{Fact}
 use Rattle.message_writer.specs.Faults.{fault_of}
-use Rattle.rm_protocol.specs.Calls.{Answer, Judged, adds, receive, refusal_of}
+use Rattle.rm_protocol.specs.Calls.{Answer, Judged, adds_and_moves, receive, refusal_of}
 use Rattle.rm_protocol.specs.Said.{said}
 use Rattle.rm_protocol.specs.Terms.{Terms}
 use Rattle.rm_protocol.specs.Verdict.{first_held}
+use Rattle.rm_protocol.specs.Waiting.{Moves, nacked, no_moves}
 use Rattle.receive_verdict.specs.Early.{early_tests}
 
 -- the kind of the first test that holds, but for that of room
@@ -20,10 +21,18 @@ early_kind r now m = first_held (early_tests r now m)
 unfoldable pub told : Terms → List Fact → ℕ → ℕ → Behaviour → Message → Answer
 told terms r place now b m = receive terms r place now b (Ok m)
 
+-- what a message that is taken does to the keys that wait: what it says is missing is wanted at once
+abbrev pub urging : List Fact → Message → Moves
+urging r m = record { urged = nacked r m.acks; emitted = []; time = 0 }
+
 -- the answer that adds these records, and says what is said then
 unfoldable pub done_of : List Fact → List Fact → ℕ → Message → Answer
-done_of r d now m = adds r d (λ after. said after now m)
+done_of r d now m = adds_and_moves r d (urging r m) (λ after. said after now m)
+
+-- the answer that says a fault of this kind
+abbrev pub judged_as : FaultKind → Message → Answer
+judged_as kind fault = record { outcome = Judged kind; delta = []; outs = fault ∷ []; moves = no_moves }
 
 -- the answer to a message whose records don't fit the store
 unfoldable pub full_of : Message → Answer
-full_of m = record { outcome = Judged StoreFull; delta = []; outs = fault_of (refusal_of m StoreFull) None ∷ [] }
+full_of m = judged_as StoreFull (fault_of (refusal_of m StoreFull) None)

@@ -18,6 +18,7 @@ ghost use Rattle.receive_answer.specs.Untold.{done_of, early_kind, told};
 ghost use Rattle.tables_ahead.specs.Known.{all_records};
 
 use crate::fault::{fault_answer, judged, store_full};
+use crate::nacked::urging;
 use call_answers::{Answer, Outcome, has_room};
 use node_laws::laws::{own_terms_are_terms, there_are_own_terms};
 use node_tables::Tables;
@@ -107,10 +108,12 @@ fn done(alloc: Global, ahead: Known<'_>, now: u64, message: &Message) -> Result<
     ensures batch { IfOk result (λ a. map fact_of a.batch.items ≡ ahead.entry.delta) }
 {
     let outs = said(alloc, &ahead, now, message)?;
+    let moves = urging(alloc, ahead.tables(), message)?;
     Ok(Answer {
         outcome: Outcome::Done,
         batch: ahead.into_batch(),
         outs,
+        moves,
     })
 }
 

@@ -1,10 +1,9 @@
 //! The fault that a message is answered with.
 ghost use Rattle.tables_ahead.specs.Known.{all_records};
-ghost use Rattle.std.specs.Prelude.{◌≡◌, ◌++◌, ◌∷◌, [], true, None, IfOk};
+ghost use Rattle.std.specs.Prelude.{◌≡◌, ◌++◌, [], true, None, IfOk};
 ghost use Rattle.message_writer.specs.Faults.{fault_of};
 ghost use Rattle.sequence_table.specs.Fits.{all_fit};
 ghost use Rattle.rm_protocol.specs.Calls.{
-  Judged,
   fault_block as fault_block_of,
   fault_ident as fault_ident_of,
   refusal_of as refusal_for,
@@ -12,8 +11,9 @@ ghost use Rattle.rm_protocol.specs.Calls.{
 ghost use Rattle.rm_protocol.specs.Verdict.{target as target_of};
 ghost use Rattle.rm_message.specs.declared.refusal.FaultKind.TheVariants.{StoreFull};
 ghost use Rattle.call_answers.specs.Answers.{seen};
+ghost use Rattle.receive_answer.specs.Untold.{judged_as};
 
-use call_answers::{Answer, Outcome};
+use call_answers::{Answer, Outcome, no_moves};
 use message_writer::fault_message;
 use node_messages::fault_endpoint;
 use receive_replies::fault_block;
@@ -30,11 +30,7 @@ pub(crate) fn fault_answer(
     refusal: &Refusal,
     block: Option<AckBlock>,
 ) -> Result<Answer, Memory>
-    ensures is { IfOk result (λ a. seen a ≡ record {
-      outcome = Judged refusal.now.kind;
-      delta = [];
-      outs = fault_of refusal.now block ∷ [];
-    }) }
+    ensures is { IfOk result (λ a. seen a ≡ judged_as refusal.now.kind (fault_of refusal.now block)) }
     ensures nothing { IfOk result (λ a. a.batch.items ≡ []) }
 {
     let mut outs = Vec::new(alloc);
@@ -43,6 +39,7 @@ pub(crate) fn fault_answer(
         outcome: Outcome::Judged(refusal.kind),
         batch: Vec::new(alloc),
         outs,
+        moves: no_moves(alloc),
     })
 }
 
@@ -93,11 +90,8 @@ pub(crate) fn judged(
 ) -> Result<Answer, Memory>
     requires { all_fit ahead.now.records ahead.now.delta ≡ true }
     ensures is { let r = all_records ahead.now in
-        IfOk result (λ a. seen a ≡ record {
-          outcome = Judged kind;
-          delta = [];
-          outs = fault_of (refusal_for message.now kind) (fault_block_of r now message.now kind) ∷ [];
-        }) }
+        IfOk result (λ a. seen a
+        ≡ judged_as kind (fault_of (refusal_for message.now kind) (fault_block_of r now message.now kind))) }
     ensures nothing { IfOk result (λ a. a.batch.items ≡ []) }
 {
     let refusal = refusal_of(alloc, message, kind)?;
@@ -107,11 +101,8 @@ pub(crate) fn judged(
 
 /// The answer to a message whose records don't fit the store.
 pub(crate) fn store_full(alloc: Global, message: &Message) -> Result<Answer, Memory>
-    ensures is { IfOk result (λ a. seen a ≡ record {
-      outcome = Judged StoreFull;
-      delta = [];
-      outs = fault_of (refusal_for message.now StoreFull) None ∷ [];
-    }) }
+    ensures is { IfOk result (λ a. seen a
+        ≡ judged_as StoreFull (fault_of (refusal_for message.now StoreFull) None)) }
     ensures nothing { IfOk result (λ a. a.batch.items ≡ []) }
 {
     let refusal = refusal_of(alloc, message, FaultKind::StoreFull)?;

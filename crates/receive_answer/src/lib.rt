@@ -5,5 +5,6 @@
 
 pub mod answers;
 mod fault;
+mod nacked;
 
 pub use answers::{receive, refuse};

@@ -1,27 +1,31 @@
 -- What a call does to a node: it sleeps, or it changes nothing, or the records of its answer are written.
 use Rattle.std.proofs.Common.{◌≡◌, inl, inr, ℕ, Bool, true, false, List, ◌++◌, Option, refl, sym, subst, arith}
-use Rattle.std.specs.Prelude.{MatchBool, Err}
+use Rattle.std.specs.Prelude.{IsTrue, MatchBool, Err}
 use Rattle.std.specs.List.{AllByRecursion}
 use Rattle.batch_size.specs.Room.{HasRoom}
 use Rattle.batch_size.specs.Typed.{IsTyped}
 use Rattle.record_batch.specs.Fact.{Fact}
 use Rattle.rm_disk.specs.Call.{Call}
+use Rattle.rm_timers.specs.declared.timers.Key.{Key}
 use Rattle.rm_disk.specs.ImageLemmas.{only_from}
 use Rattle.rm_journal.specs.JournalState.{end_of}
 use Rattle.sequence_table.specs.Words.{Text}
 use Rattle.rm_protocol.specs.Calls.{Answer, Outcome}
-use Rattle.node_laws.specs.Keeps.{LeavesANode}
 use Rattle.node_laws.specs.Records.{IsKept}
 use Rattle.rm_disk.specs.Cause.{HasCause}
 use Rattle.rm_disk.specs.Told.{Told}
 use Rattle.node_store.specs.Changes.{Changes}
 use Rattle.node_store.specs.Has.{AreOfNode, Has, IsLeftBy}
-use Rattle.node_store.specs.Stored.{Stored, with_batch}
-use Rattle.call_answers.specs.Answers.{MayBeStored}
+use Rattle.node_store.specs.Failed.{is_disk as store_failed}
+use Rattle.node_store.specs.Stored.{Stored, stored_after, with_batch}
+use Rattle.node_store.specs.declared.error.StoreError.{StoreError}
+use Rattle.node_store.specs.declared.error.StoreError.TheVariants as store
 use Rattle.rm_node.specs.Called.{Called, Does, EndsBy, Sleeps, StaysANode, Wrote}
 use Rattle.rm_node.specs.Ends.{Ended, Handed, Wanted, WasDown, error_end, is_disk}
+use Rattle.rm_node.specs.Failed.{stored_error}
 use Rattle.rm_node.specs.Noded.{Noded}
 use Rattle.rm_node.specs.Packets.{outs_of, reply_of}
+use Rattle.rm_node.specs.Timed.{MayBeWritten}
 use Rattle.rm_node.specs.declared.error.NodeError.{NodeError}
 use Rattle.rm_node.specs.declared.error.NodeError.TheVariants as error
 use Rattle.rm_node.specs.declared.packets.Out.{Out}
@@ -52,6 +56,18 @@ still tells first old answer = record {
   cause = unfaulted first.faults;
 }
 
+-- the batch was not written: no key moves
+pub writes-not : (tells : Bool) (first now : Told) (old : Noded) (new : Stored) (answer : Answer) (e : StoreError)
+    → new ≡ stored_after old.stored answer.delta false (store_failed {T = Unit {0}} (Err e))
+    → (IsTrue tells → Changes first now old.stored new answer.delta false (store_failed {T = Unit {0}} (Err e)))
+    → HasCause first.faults now.faults (store_failed {T = Unit {0}} (Err e))
+    → Wrote tells first now old (record { stored = new; kept = old.kept }) answer false
+    (is_disk {T = Unit {0}} (Err (stored_error e)))
+writes-not tells first now old new answer store.Memory stored changes cause =
+    record { kept = refl; stored = stored; changes = changes; cause = cause }
+writes-not tells first now old new answer store.Disk stored changes cause =
+    record { kept = refl; stored = stored; changes = changes; cause = cause }
+
 -- ---- one batch more
 
 -- the batches of a node, with one more that fits, are a node's
@@ -61,13 +77,11 @@ OneBatchMore =
     → HasRoom (end_of old.journal) delta → AllByRecursion IsTyped delta → IsKept (old.records ++ delta)
     → AreOfNode (with_batch batches delta)
 
--- an answer that may be stored, and whose records leave a node, leaves batches of a node
-pub stays : OneBatchMore → (first : Told) (old : Noded) (a : Answer)
-    → MayBeStored old.stored.records (end_of old.stored.journal) a.delta
-    → (IsKept old.stored.records → LeavesANode old.stored.records a) → StaysANode first old a
-stays law first old a may leaves batches has =
-    law batches first.past old.stored a.delta has may.room may.typed
-    (leaves (subst IsKept (sym has.holds.records) has.are.kept))
+-- an answer that may be written leaves batches of a node
+pub stays : OneBatchMore → (first : Told) (old : Noded) (a : Answer) (begun : Option Key)
+    → MayBeWritten old.stored.records (end_of old.stored.journal) a begun → StaysANode first old a
+stays law first old a begun may batches has =
+    law batches first.past old.stored a.delta has may.stored.room may.stored.typed may.leaves
 
 -- ---- a call
 
@@ -103,29 +117,23 @@ wants tells connected first old answer ended up e =
     (subst (λ (x : Ended). Called tells connected first first old old answer x) (sym e)
     (wanting tells connected first old answer))
 
--- the records of an answer leave a node
-abbrev pub Leaves : Noded → Answer → Type 0
-Leaves old answer = IsKept old.stored.records → LeavesANode old.stored.records answer
-
 -- a call of a node that is up, by the answer that the code worked out
 by-answer : (tells connected : Bool) (first now : Told) (old new : Noded) (a answer : Answer) (ended : Ended)
-    → old.stored.journal.is_down ≡ false → a ≡ answer → Leaves old answer → (Leaves old a → StaysANode first old a)
-    → (StaysANode first old a → Called tells connected first now old new a ended)
+    → old.stored.journal.is_down ≡ false → a ≡ answer → Called tells connected first now old new a ended
     → Does tells connected first now old new answer ended
-by-answer tells connected first now old new a answer ended up same leaves stays called =
+by-answer tells connected first now old new a answer ended up same called =
     does tells connected first now old new answer ended up
-    (subst (λ (x : Answer). Called tells connected first now old new x ended) same
-    (called (stays (λ h. subst (LeavesANode old.stored.records) (sym same) (leaves h)))))
+    (subst (λ (x : Answer). Called tells connected first now old new x ended) same called)
 
 -- all went well
 pub goes-well : (tells connected : Bool) (first now : Told) (old new : Noded) (a answer : Answer) (outcome : Outcome)
-    (reply : Option Text) (outs : List Out) → old.stored.journal.is_down ≡ false → a ≡ answer → Leaves old answer
-    → (Leaves old a → StaysANode first old a) → Wrote tells first now old new a true false → outcome ≡ a.outcome
+    (reply : Option Text) (outs : List Out) → old.stored.journal.is_down ≡ false → a ≡ answer
+    → StaysANode first old a → Wrote tells first now old new a true false → outcome ≡ a.outcome
     → reply ≡ reply_of connected a.outs → outs ≡ outs_of a.outs
     → Does tells connected first now old new answer (Handed outcome reply outs)
-goes-well tells connected first now old new a answer outcome reply outs up same leaves stays wrote comes back out =
-    by-answer tells connected first now old new a answer (Handed outcome reply outs) up same leaves stays
-    (λ node. record { ends = (comes, back, out); wrote = wrote; next = λ t h. node })
+goes-well tells connected first now old new a answer outcome reply outs up same stays wrote comes back out =
+    by-answer tells connected first now old new a answer (Handed outcome reply outs) up same
+    (record { ends = (comes, back, out); wrote = wrote; next = λ t h. stays })
 
 fails-by : (tells connected : Bool) (first now : Told) (old new : Noded) (a : Answer) (e : NodeError)
     → EndsBy false a (error_end e) → Wrote tells first now old new a false (is_disk {T = Unit {0}} (Err e))
@@ -140,11 +148,10 @@ fails-by tells connected first now old new a (error.Refused cause) ends wrote no
 
 -- it failed
 pub fails : (tells connected : Bool) (first now : Told) (old new : Noded) (a answer : Answer) (e : NodeError)
-    (ended : Ended) → ended ≡ error_end e → old.stored.journal.is_down ≡ false → a ≡ answer → Leaves old answer
-    → (Leaves old a → StaysANode first old a)
+    (ended : Ended) → ended ≡ error_end e → old.stored.journal.is_down ≡ false → a ≡ answer → StaysANode first old a
     → Wrote tells first now old new a false (is_disk {T = Unit {0}} (Err e)) → EndsBy false a (error_end e)
     → Does tells connected first now old new answer ended
-fails tells connected first now old new a answer e ended is up same leaves stays wrote ends =
-    by-answer tells connected first now old new a answer ended up same leaves stays
-    (λ node. subst (λ (x : Ended). Called tells connected first now old new a x) (sym is)
-    (fails-by tells connected first now old new a e ends wrote node))
+fails tells connected first now old new a answer e ended is up same stays wrote ends =
+    by-answer tells connected first now old new a answer ended up same
+    (subst (λ (x : Ended). Called tells connected first now old new a x) (sym is)
+    (fails-by tells connected first now old new a e ends wrote stays))

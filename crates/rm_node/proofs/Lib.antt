@@ -1,6 +1,9 @@
+pub mod BegunLemmas
 pub mod CalledLemmas
 pub mod ComesLemmas
 pub mod PacketLemmas
 pub mod ReadLemmas
 pub mod ReplyLemmas
+pub mod SayLemmas
 pub mod StepLemmas
+pub mod TimedLemmas

@@ -18,7 +18,7 @@ use Rattle.wsa_headers.specs.declared.addressing.Addressing.{Addressing}
 use Rattle.wsa_headers.specs.declared.endpoint.Epr.{Epr}
 use Rattle.sequence_table.specs.Makers.{Maker, Outgoing, Offered, Incoming, Taken, maker}
 use Rattle.sequence_table.specs.Words.{Text}
-use Rattle.rm_protocol.specs.Addresses.{BackOn, Nowhere, Waits, Out as GoesOut, Place, anonymous, is_anonymous}
+use Rattle.rm_protocol.specs.Addresses.{Nowhere, Waits, Out as GoesOut, anonymous, is_anonymous}
 use Rattle.rm_protocol.specs.Addresses.{is_nowhere, is_polled, place_of, reply_endpoint}
 use Rattle.rm_protocol.specs.Calls.{judged, receive}
 use Rattle.rm_protocol.specs.Messages.{ack_message}
@@ -29,10 +29,10 @@ use Rattle.rm_protocol.specs.Said.{with_blocks}
 use Rattle.rm_protocol.specs.Terms.{Terms}
 use Rattle.rm_protocol.specs.Verdict.{verdict}
 use Rattle.rm_node.specs.Asked.{Asked, Asks, answer_to, is_connected}
+use Rattle.rm_node.specs.Keeping.{Keeping}
 use Rattle.rm_node.specs.Packets.{IsReplyFirst, back_text, outs_of, packet_of, packets_of, reply_packet}
 use Rattle.rm_node.specs.declared.call.Call.{Call}
 use Rattle.rm_node.specs.declared.call.Call.TheVariants as call
-use Rattle.rm_node.specs.declared.kept.Kept.{Kept}
 use Rattle.rm_node.specs.declared.packets.Out.{Out}
 use Rattle.rm_node.proofs.PacketLemmas.{leaves-first, stays-out}
 
@@ -194,12 +194,14 @@ receive-first terms r place now granted (Ok m) =
 receive-first terms r place now granted (Err refusal) = tt
 
 -- the reply comes first
-pub comes-first : (terms : Terms) (r : List Fact) (place now : ℕ) (kept : Kept) (call : Call) (asked : Asked)
+pub comes-first : (terms : Terms) (r : List Fact) (place now : ℕ) (kept : Keeping) (call : Call) (asked : Asked)
     → Asks call asked → IsReplyFirst (is_connected call) (answer_to terms r place now kept asked).outs
 comes-first terms r place now kept (call.Create wish) asked is = refl
 comes-first terms r place now kept (call.Send seq payload) asked is = refl
 comes-first terms r place now kept (call.Close seq) asked is = refl
 comes-first terms r place now kept (call.End seq) asked is = refl
+comes-first terms r place now kept (call.AskAck seq) asked is = refl
+comes-first terms r place now kept (call.NackMissing seq) asked is = refl
 comes-first terms r place now kept (call.Tick moment) asked is = refl
 comes-first terms r place now kept (call.Receive bytes) asked is =
     subst (λ (x : Asked). IsReplyFirst true (answer_to terms r place now kept x).outs) (sym is.is)

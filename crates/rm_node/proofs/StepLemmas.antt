@@ -3,35 +3,29 @@ use Rattle.std.proofs.Common.{◌≡◌, ◌∙◌, ℕ, Bool, true, false, List
 use Rattle.std.specs.Prelude.{MatchBool, Ok, Err}
 use Rattle.rm_disk.specs.Cause.{HasCause}
 use Rattle.rm_disk.specs.Told.{Told}
-use Rattle.rm_journal.specs.JournalState.{end_of}
-use Rattle.record_batch.specs.Fact.{Fact}
 use Rattle.rm_message.specs.declared.message.Message.{Message}
 use Rattle.rm_message.specs.declared.refusal.FaultKind.{FaultKind}
-use Rattle.sequence_table.specs.Fits.{is_in_order}
 use Rattle.sequence_table.specs.Words.{Text}
 use Rattle.rm_protocol.specs.Calls.{Answer, Done, Outcome}
 use Rattle.rm_protocol.specs.Terms.{Terms}
-use Rattle.node_laws.specs.Keeps.{EachCallKeeps, LeavesANode, OfEachCall}
 use Rattle.node_laws.specs.OwnTerms.{AreOwn, ThereAreOwnTerms}
-use Rattle.call_answers.specs.Answers.{seen, wish_seen}
-use Rattle.rm_node.specs.Asked.{Asked, Asks, MayBeAsked, answer_to, is_connected}
+use Rattle.call_answers.specs.Answers.{seen}
+use Rattle.rm_node.specs.Asked.{Asked, Asks, is_connected}
 use Rattle.rm_node.specs.Called.{Called, Does, EndsBy, Sleeps, StaysANode, Steps, Wrote, answer_of}
 use Rattle.rm_node.specs.Ends.{Ended, Handed, Wanted, WasDown, error_end, is_broken, is_disk, is_refused, reaction_end}
 use Rattle.rm_node.specs.Ends.{verdict_outcome}
 use Rattle.rm_node.specs.declared.error.NodeError.{NodeError}
 use Rattle.rm_node.specs.declared.error.NodeError.TheVariants as error
-use Rattle.rm_node.specs.Noded.{Noded}
+use Rattle.rm_node.specs.Keeping.{Keeping}
+use Rattle.rm_node.specs.Noded.{Noded, Runs}
 use Rattle.rm_node.specs.Packets.{reply_of}
 use Rattle.rm_node.specs.Saying.{IsUnsaid, Says}
 use Rattle.rm_node.specs.declared.call.Call.{Call}
-use Rattle.rm_node.specs.declared.call.Call.TheVariants as call
-use Rattle.rm_node.specs.declared.kept.Kept.{Kept}
 use Rattle.rm_node.specs.declared.packets.Out.{Out}
 use Rattle.rm_node.specs.declared.say.Said.{Said}
 use Rattle.rm_node.specs.declared.step.Reaction.{Reaction}
-use Rattle.rm_node.proofs.CalledLemmas.{Leaves, fails, goes-well, sleeps, unfaulted, wants}
+use Rattle.rm_node.proofs.CalledLemmas.{fails, goes-well, sleeps, unfaulted, wants}
 use Rattle.rm_node.proofs.ComesLemmas.{IsDone}
-use Rattle.rm_node.proofs.ReadLemmas.{ReadsRight, RefusesRight, content_read}
 
 -- ---- how a call ended
 
@@ -50,82 +44,49 @@ broken_by T (error.Refused cause) = refl
 
 -- nothing was said
 pub step_unsaid : (tells : Bool) (first : Told) (old : Noded) (moment : ℕ) (call : Call) (e : NodeError) (ended : Ended)
-    → IsUnsaid old e → ended ≡ error_end e → Steps tells first first old old moment call ended
-step_unsaid tells first old moment call error.Memory ended up e = record {
-  does = λ terms own asked is. wants tells (is_connected call) first old _ ended up e;
+    → Runs old → IsUnsaid old e → ended ≡ error_end e → Steps tells first first old old moment call ended
+step_unsaid tells first old moment call error.Memory ended runs up e = record {
+  does = λ terms own kept keeps asked is. wants tells (is_connected call) first old _ ended up e;
+  runs = runs;
   cause = no_fault first ended Wanted e refl;
   crashes = λ t. refl;
 }
-step_unsaid tells first old moment call error.Down ended down e = record {
-  does = λ terms own asked is. sleeps tells (is_connected call) first old _ ended down e;
+step_unsaid tells first old moment call error.Down ended runs down e = record {
+  does = λ terms own kept keeps asked is. sleeps tells (is_connected call) first old _ ended down e;
+  runs = runs;
   cause = no_fault first ended WasDown e refl;
   crashes = λ t. refl;
 }
-step_unsaid tells first old moment call error.Disk ended unsaid e = absurd unsaid
-step_unsaid tells first old moment call (error.Refused cause) ended unsaid e = absurd unsaid
-
--- ---- what is asked
-
--- the records of each answer leave a node
-pub leaves_each : ReadsRight → RefusesRight → (terms : Terms) (r : List Fact) (place now : ℕ) (kept : Kept)
-    (call : Call) (asked : Asked) → is_in_order kept.granted ≡ true → MayBeAsked call → Asks call asked
-    → OfEachCall terms r place (LeavesANode r) → LeavesANode r (answer_to terms r place now kept asked)
-leaves_each reads refuses terms r place now kept (call.Create wish) asked in_order may is each =
-    subst (λ (x : Asked). LeavesANode r (answer_to terms r place now kept x)) (sym is)
-    (each.create_ (wish_seen wish) may)
-leaves_each reads refuses terms r place now kept (call.Send seq payload) asked in_order may is each =
-    subst (λ (x : Asked). LeavesANode r (answer_to terms r place now kept x)) (sym is) (each.send_ seq payload)
-leaves_each reads refuses terms r place now kept (call.Close seq) asked in_order may is each =
-    subst (λ (x : Asked). LeavesANode r (answer_to terms r place now kept x)) (sym is) (each.close_ seq now)
-leaves_each reads refuses terms r place now kept (call.End seq) asked in_order may is each =
-    subst (λ (x : Asked). LeavesANode r (answer_to terms r place now kept x)) (sym is) (each.end_ seq)
-leaves_each reads refuses terms r place now kept (call.Tick moment) asked in_order may is each =
-    subst (λ (x : Asked). LeavesANode r (answer_to terms r place now kept x)) (sym is) (each.tick_ moment)
-leaves_each reads refuses terms r place now kept (call.Receive bytes) asked in_order may is each =
-    subst (λ (x : Asked). LeavesANode r (answer_to terms r place now kept x)) (sym is.is)
-    (each.receive_ now kept.granted is.content in_order (content_read reads refuses bytes.now is.content is.read))
+step_unsaid tells first old moment call error.Disk ended runs unsaid e = absurd unsaid
+step_unsaid tells first old moment call (error.Refused cause) ended runs unsaid e = absurd unsaid
 
 -- ---- what is said is written
 
--- the answer that was worked out, whose records are to be written
-abbrev pub Writes : Told → Noded → Answer → Type 0
-Writes first old a = Leaves old a → StaysANode first old a
-
--- the records of what is said leave a node
-leaves_said : ReadsRight → RefusesRight → EachCallKeeps → (old : Noded) (moment : ℕ) (call : Call)
-    → is_in_order old.kept.granted ≡ true → MayBeAsked call → (terms : Terms) → AreOwn terms → (asked : Asked)
-    → Asks call asked → Leaves old (answer_of terms old moment asked)
-leaves_said reads refuses keeps old moment call in_order may terms own asked is h =
-    let r = old.stored.records in
-    let place = end_of old.stored.journal in
-    leaves_each reads refuses terms r place moment old.kept call asked in_order may is (keeps terms r place own h)
-
 -- all went well
-pub step_well : ReadsRight → RefusesRight → EachCallKeeps → (tells : Bool) (first now : Told) (old new : Noded)
-    (moment : ℕ) (call : Call) (said : Said) (outcome : Outcome) → MayBeAsked call → Says old moment call said
-    → Writes first old (seen said.answer) → Wrote tells first now old new (seen said.answer) true false
-    → outcome ≡ (seen said.answer).outcome
+pub step_well : (tells : Bool) (first now : Told) (old new : Noded) (moment : ℕ) (call : Call) (said : Said)
+    (outcome : Outcome) → Runs old → Says old moment call said → StaysANode first old (seen said.answer)
+    → Wrote tells first now old new (seen said.answer) true false → outcome ≡ (seen said.answer).outcome
     → Steps tells first now old new moment call (Handed outcome said.handed.reply said.handed.outs)
-step_well reads refuses keeps tells first now old new moment call said outcome may says stays wrote comes = record {
-  does = λ terms own asked is. goes-well tells (is_connected call) first now old new (seen said.answer) _ outcome
-      said.handed.reply said.handed.outs says.up (says.is terms own asked is)
-      (leaves_said reads refuses keeps old moment call says.in_order may terms own asked is) stays wrote comes
+step_well tells first now old new moment call said outcome runs says stays wrote comes = record {
+  does = λ terms own kept keeps asked is. goes-well tells (is_connected call) first now old new (seen said.answer) _
+      outcome said.handed.reply said.handed.outs says.up (says.is terms own kept keeps asked is) stays wrote comes
       says.reply says.outs;
+  runs = runs;
   cause = wrote.cause;
   crashes = λ t. (wrote.changes t).crashes;
 }
 
 -- it failed
-pub step_fails : ReadsRight → RefusesRight → EachCallKeeps → (tells : Bool) (first now : Told) (old new : Noded)
-    (moment : ℕ) (call : Call) (said : Said) (e : NodeError) (ended : Ended) → MayBeAsked call
-    → Says old moment call said → Writes first old (seen said.answer)
+pub step_fails : (tells : Bool) (first now : Told) (old new : Noded) (moment : ℕ) (call : Call) (said : Said)
+    (e : NodeError) (ended : Ended) → Runs old → Says old moment call said
+    → StaysANode first old (seen said.answer)
     → Wrote tells first now old new (seen said.answer) false (is_disk {T = Unit {0}} (Err e))
     → EndsBy false (seen said.answer) (error_end e) → ended ≡ error_end e
     → Steps tells first now old new moment call ended
-step_fails reads refuses keeps tells first now old new moment call said e ended may says stays wrote ends is = record {
-  does = λ terms own asked asks. fails tells (is_connected call) first now old new (seen said.answer) _ e ended is
-      says.up (says.is terms own asked asks)
-      (leaves_said reads refuses keeps old moment call says.in_order may terms own asked asks) stays wrote ends;
+step_fails tells first now old new moment call said e ended runs says stays wrote ends is = record {
+  does = λ terms own kept keeps asked asks. fails tells (is_connected call) first now old new (seen said.answer) _ e
+      ended is says.up (says.is terms own kept keeps asked asks) stays wrote ends;
+  runs = runs;
   cause = subst (λ (b : Bool). HasCause first.faults now.faults b) (broken_by (Unit {0}) e ∙ ap is_broken (sym is))
       wrote.cause;
   crashes = λ t. (wrote.changes t).crashes;
@@ -176,18 +137,19 @@ failed tells first now old new moment call e f ended is same steps =
 -- a call that comes on no connection is done, and there is no reply
 pub plain : (tells : Bool) (first now : Told) (old new : Noded) (moment : ℕ) (call : Call) (asked : Asked)
     (reaction : Reaction) → ThereAreOwnTerms → Asks call asked → is_connected call ≡ false
-    → ((terms : Terms) → IsDone (answer_of terms old moment asked))
+    → ((terms : Terms) (kept : Keeping) → IsDone (answer_of terms old moment kept asked))
     → Steps tells first now old new moment call (reaction_end (Ok reaction))
     → Steps tells first now old new moment call (Handed Done None reaction.outs)
 plain tells first now old new moment call asked reaction there asks none is_done steps =
     let own = some_terms there in
-    let answer = answer_of own.0 old moment asked in
+    let kept = steps.runs.keeping.0 in
+    let answer = answer_of own.0 old moment kept asked in
     let outcome = verdict_outcome reaction.verdict in
-    let does = steps.does own.0 own.1 asked asks in
+    let does = steps.does own.0 own.1 kept steps.runs.keeping.1 asked asks in
     let ends = ended_by tells (is_connected call) first now old new answer outcome reaction.reply reaction.outs does in
     let taken = was_taken tells (is_connected call) first now old new answer reaction.verdict reaction.reply
     reaction.outs does in
     let silent : reaction.reply ≡ None = ends.1 ∙ ap (λ (b : Bool). reply_of b answer.outs) none in
     subst (λ (e : Ended). Steps tells first now old new moment call e)
     (ap (λ (reply : Option Text). Handed outcome reply reaction.outs) silent
-    ∙ ap (λ (o : Outcome). Handed o None reaction.outs) (ends.0 ∙ (is_done own.0).done taken)) steps
+    ∙ ap (λ (o : Outcome). Handed o None reaction.outs) (ends.0 ∙ (is_done own.0 kept).done taken)) steps

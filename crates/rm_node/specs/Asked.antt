@@ -1,5 +1,6 @@
 -- A call of a node, and the protocol's.
-use Rattle.std.specs.Prelude.{◌≡◌, ℕ, Bool, true, false, List, Result}
+use Rattle.std.specs.Prelude.{◌≡◌, ◌≤◌, ℕ, Bool, true, false, List, Result}
+use Rattle.rm_base.specs.Limits as limits
 use Rattle.record_batch.specs.Fact.{Fact}
 use Rattle.rm_message.specs.declared.message.Message.{Message}
 use Rattle.rm_message.specs.declared.refusal.Refusal.{Refusal}
@@ -10,7 +11,7 @@ use Rattle.rm_protocol.specs.Terms.{Terms}
 use Rattle.node_laws.specs.Read.{MayBeWished}
 use Rattle.call_answers.specs.Answers.{wish_seen}
 use Rattle.rm_node.specs.Came.{IsReadAs}
-use Rattle.rm_node.specs.declared.kept.Kept.{Kept}
+use Rattle.rm_node.specs.Keeping.{Keeping}
 use Rattle.rm_node.specs.declared.call.Call.{Call}
 use Rattle.rm_node.specs.declared.call.Call.TheVariants as call
 
@@ -20,16 +21,20 @@ pub data Asked : Type 0 where
   Send : (seq : ℕ) (payload : Text) → Asked
   Close : (seq : ℕ) → Asked
   End : (seq : ℕ) → Asked
+  AskAck : (seq : ℕ) → Asked
+  NackMissing : (seq : ℕ) → Asked
   Tick : (now : ℕ) → Asked
   Receive : (content : Result Message Refusal) → Asked
 
 -- what it answers, at records whose entries end at a place, at a moment, where it keeps this besides
-abbrev pub answer_to : Terms → List Fact → (place now : ℕ) → Kept → Asked → Answer
+abbrev pub answer_to : Terms → List Fact → (place now : ℕ) → Keeping → Asked → Answer
 answer_to terms r place now kept (Create wish) = protocol.create terms r place wish
 answer_to terms r place now kept (Send seq payload) = protocol.send terms r place seq payload
 answer_to terms r place now kept (Close seq) = protocol.close terms r place seq now
 answer_to terms r place now kept (End seq) = protocol.end terms r place seq
-answer_to terms r place now kept (Tick moment) = protocol.tick terms r place moment
+answer_to terms r place now kept (AskAck seq) = protocol.ask_ack r seq
+answer_to terms r place now kept (NackMissing seq) = protocol.nack_missing r seq now
+answer_to terms r place now kept (Tick moment) = protocol.tick terms r place moment kept.time kept.waits
 answer_to terms r place now kept (Receive content) = protocol.receive terms r place now kept.granted content
 
 -- bytes that come are read so
@@ -44,12 +49,20 @@ Asks (call.Create wish) asked = asked ≡ Create (wish_seen wish)
 Asks (call.Send seq payload) asked = asked ≡ Send seq payload
 Asks (call.Close seq) asked = asked ≡ Close seq
 Asks (call.End seq) asked = asked ≡ End seq
+Asks (call.AskAck seq) asked = asked ≡ AskAck seq
+Asks (call.NackMissing seq) asked = asked ≡ NackMissing seq
 Asks (call.Tick now) asked = asked ≡ Tick now
 Asks (call.Receive bytes) asked = IsReceived bytes.now asked
 
--- what a node may be asked for: it can be written, and no sequence of NoDiscard is offered
+-- it asks for something
+abbrev pub IsAsked : Call → Type 0
+IsAsked this = (asked : Asked) × Asks this asked
+
+-- what a node may be asked for: it can be written, no sequence of NoDiscard is offered, and a tick is no later than the
+-- last moment
 abbrev pub MayBeAsked : Call → Type 0
 MayBeAsked (call.Create wish) = MayBeWished (wish_seen wish)
+MayBeAsked (call.Tick now) = now ≤ limits.now_max
 MayBeAsked _ = Unit {0}
 
 -- it comes on a connection

@@ -13,7 +13,8 @@ use Rattle.rm_protocol.specs.Calls.{Answer, Refused as RefusedWith}
 use Rattle.rm_protocol.specs.Terms.{Terms}
 use Rattle.rm_node.specs.Asked.{Asked, Asks, answer_to, is_connected}
 use Rattle.rm_node.specs.Ends.{Ended, Handed, Refused, Wanted, Broke, WasDown, is_handed, is_broken}
-use Rattle.rm_node.specs.Noded.{Noded, kept_after}
+use Rattle.rm_node.specs.Keeping.{IsKeptAfter, Keeping, Keeps}
+use Rattle.rm_node.specs.Noded.{Noded, Runs}
 use Rattle.rm_node.specs.Packets.{outs_of, reply_of}
 use Rattle.rm_node.specs.declared.call.Call.{Call}
 
@@ -32,7 +33,7 @@ EndsBy connected answer WasDown = ⊥
 -- disk that tells a crash at any moment of the call leaves the batches as they were or with this one.
 pub record Wrote (tells : Bool) (first now : Told) (old new : Noded) (answer : Answer) (ok failed : Bool)
     : Type 0 where
-  pub kept : new.kept ≡ kept_after old.kept answer ok
+  pub kept : IsKeptAfter old.stored.records answer ok old.kept new.kept
   pub stored : new.stored ≡ stored_after old.stored answer.delta ok failed
   pub changes : IsTrue tells → Changes first now old.stored new.stored answer.delta ok failed
   pub cause : HasCause first.faults now.faults failed
@@ -68,16 +69,18 @@ HasBatches tells first old =
     IsTrue tells → old.stored.journal.is_down ≡ false
     → (batches : List (List Fact)) × Holds batches first.past old.stored
 
--- what a node answers, at a moment
-abbrev pub answer_of : Terms → Noded → ℕ → Asked → Answer
-answer_of terms n now asked =
-    answer_to terms n.stored.records (end_of n.stored.journal) now n.kept asked
+-- what a node that keeps this answers, at a moment
+abbrev pub answer_of : Terms → Noded → ℕ → Keeping → Asked → Answer
+answer_of terms n now kept asked = answer_to terms n.stored.records (end_of n.stored.journal) now kept asked
 
--- a call at a moment is a step of the protocol. It fails by the disk only through a fault of the disk, and crashes
--- nothing
+-- A call at a moment is a step of the protocol: whatever its terms are, what the node keeps besides its records, and
+-- what the call asks for, the node does what the protocol answers then. It was a node as each is. It fails by the disk
+-- only through a fault of the disk, and crashes nothing.
 pub record Steps (tells : Bool) (first now : Told) (old new : Noded) (moment : ℕ) (call : Call) (ended : Ended)
     : Type 0 where
-  pub does : (terms : Terms) → AreOwn terms → (asked : Asked) → Asks call asked
-      → Does tells (is_connected call) first now old new (answer_of terms old moment asked) ended
+  pub does : (terms : Terms) → AreOwn terms → (kept : Keeping) → Keeps old.kept kept → (asked : Asked)
+      → Asks call asked
+      → Does tells (is_connected call) first now old new (answer_of terms old moment kept asked) ended
+  pub runs : Runs old
   pub cause : HasCause first.faults now.faults (is_broken ended)
   pub crashes : IsTrue tells → crashes_of now.past ≡ crashes_of first.past

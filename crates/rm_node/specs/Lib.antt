@@ -3,6 +3,8 @@ pub mod Came
 pub mod Called
 pub mod Ends
 pub mod Failed
+pub mod Keeping
 pub mod Noded
 pub mod Packets
 pub mod Saying
+pub mod Timed

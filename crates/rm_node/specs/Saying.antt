@@ -1,27 +1,27 @@
 -- What a node says to a call, before anything is written.
 use Rattle.std.specs.Prelude.{◌≡◌, ℕ, true, false}
 use Rattle.rm_journal.specs.JournalState.{end_of}
-use Rattle.sequence_table.specs.Fits.{is_in_order}
 use Rattle.rm_protocol.specs.Terms.{Terms}
 use Rattle.node_laws.specs.OwnTerms.{AreOwn}
-use Rattle.call_answers.specs.Answers.{MayBeStored, seen}
+use Rattle.call_answers.specs.Answers.{seen}
 use Rattle.rm_node.specs.Asked.{Asked, Asks, is_connected}
 use Rattle.rm_node.specs.Called.{answer_of}
+use Rattle.rm_node.specs.Keeping.{Keeping, Keeps}
 use Rattle.rm_node.specs.Noded.{Noded}
 use Rattle.rm_node.specs.Packets.{outs_of, reply_of}
+use Rattle.rm_node.specs.Timed.{MayBeWritten}
 use Rattle.rm_node.specs.declared.call.Call.{Call}
 use Rattle.rm_node.specs.declared.error.NodeError.{NodeError}
 use Rattle.rm_node.specs.declared.error.NodeError.TheVariants as error
 use Rattle.rm_node.specs.declared.say.Said.{Said}
 
--- the node is up, and announces no NoDiscard; the answer is the protocol's, and may be stored; what is to be handed out
--- is the text of what it says
+-- the node is up; the answer is the protocol's, and may be written; what is to be handed out is the text of what it
+-- says
 pub record Says (n : Noded) (moment : ℕ) (call : Call) (said : Said) : Type 0 where
   pub up : n.stored.journal.is_down ≡ false
-  pub in_order : is_in_order n.kept.granted ≡ true
-  pub is : (terms : Terms) → AreOwn terms → (asked : Asked) → Asks call asked
-      → seen said.answer ≡ answer_of terms n moment asked
-  pub stored : MayBeStored n.stored.records (end_of n.stored.journal) (seen said.answer).delta
+  pub is : (terms : Terms) → AreOwn terms → (kept : Keeping) → Keeps n.kept kept → (asked : Asked) → Asks call asked
+      → seen said.answer ≡ answer_of terms n moment kept asked
+  pub may : MayBeWritten n.stored.records (end_of n.stored.journal) (seen said.answer) said.begun
   pub reply : said.handed.reply ≡ reply_of (is_connected call) (seen said.answer).outs
   pub outs : said.handed.outs ≡ outs_of (seen said.answer).outs
 

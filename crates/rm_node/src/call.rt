@@ -18,7 +18,12 @@ pub enum Call<'a> {
     Close { seq: u32 },
     /// Ends an outgoing sequence: section 3.6.
     End { seq: u32 },
-    /// Ends the incoming sequences whose time has run out at a moment, all in one batch, where it fits the journal.
+    /// Asks the peer of an outgoing sequence for an acknowledgement: section 3.8.
+    AskAck { seq: u32 },
+    /// Tells the peer of an incoming sequence the first 64 numbers that are missing: section 3.9.
+    NackMissing { seq: u32 },
+    /// Ends the incoming sequences whose time has run out at a moment, all in one batch, where it fits the journal, and
+    /// hands out again the first 64 requests and messages that are due.
     Tick { now: u64 },
     /// Takes bytes that came from a peer on a connection. It answers with a fault for all that is no message, and for
     /// each message that it doesn't take.

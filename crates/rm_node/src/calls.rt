@@ -1,5 +1,6 @@
 //! The calls of a node by their names.
-ghost use Rattle.std.specs.Prelude.{◌≡◌, ◌+◌, true, length, IfOk, IfSome};
+ghost use Rattle.std.specs.Prelude.{◌≡◌, ◌+◌, ◌≤◌, true, length, IfOk, IfSome};
+ghost use Rattle.rm_base.specs.Limits.{now_max};
 ghost use Rattle.rm_elements.specs.Writable.{IsLapseWritable};
 ghost use Rattle.sequence_table.specs.Fits.{is_in_order, is_outgoing_side};
 ghost use Rattle.sequence_table.specs.Makers.{maker, makers};
@@ -10,6 +11,8 @@ ghost use Rattle.rm_node.specs.declared.call.Call.TheVariants.{
   Send as Sends,
   Close as Closes,
   End as Finishes,
+  AskAck as AsksAck,
+  NackMissing as NacksMissing,
   Tick as Ticks,
   Receive as Receives,
 };
@@ -104,9 +107,37 @@ impl Node {
         Ok(reaction.outs)
     }
 
-    /// Ends the incoming sequences whose time has run out at a moment.
-    pub fn tick<D: Disk>(&mut self, disk: &mut D, now: u64) -> Result<Outs, NodeError>
+    /// Asks the peer of an outgoing sequence for an acknowledgement.
+    pub fn ask_ack<D: Disk>(&mut self, disk: &mut D, seq: u32) -> Result<Outs, NodeError>
         requires { HasBatches D.tells (D.told disk.old) self.old }
+        ensures { Steps D.tells (D.told disk.old) (D.told disk.new) self.old self.new 0 (AsksAck seq)
+            (outs_end result) }
+    {
+        there_are_own_terms();
+        let reaction = self.step(disk, 0, Call::AskAck { seq })?;
+        Ok(reaction.outs)
+    }
+
+    /// Tells the peer of an incoming sequence which numbers are missing.
+    pub fn nack_missing<D: Disk>(
+        &mut self,
+        disk: &mut D,
+        seq: u32,
+        now: u64,
+    ) -> Result<Outs, NodeError>
+        requires { HasBatches D.tells (D.told disk.old) self.old }
+        ensures { Steps D.tells (D.told disk.old) (D.told disk.new) self.old self.new now (NacksMissing seq)
+            (outs_end result) }
+    {
+        there_are_own_terms();
+        let reaction = self.step(disk, now, Call::NackMissing { seq })?;
+        Ok(reaction.outs)
+    }
+
+    /// Ends the incoming sequences whose time has run out at a moment, and hands out again what is due then.
+    pub fn tick<D: Disk>(&mut self, disk: &mut D, now: u64) -> Result<Outs, NodeError>
+        requires has { HasBatches D.tells (D.told disk.old) self.old }
+        requires now { now ≤ now_max }
         ensures { Steps D.tells (D.told disk.old) (D.told disk.new) self.old self.new now (Ticks now)
             (outs_end result) }
     {

@@ -1,25 +1,34 @@
 //! What a node keeps that is not on its disk.
-ghost use Rattle.std.specs.Prelude.{◌≡◌, true};
+ghost use Rattle.std.specs.Prelude.{◌≡◌, [], true, IfOk};
+ghost use Rattle.rm_base.specs.declared.message.Behaviour.TheVariants.{FollowingFirstGap as FirstGap};
+ghost use Rattle.key_timers.specs.Keyed.{StandsFor};
 ghost use Rattle.sequence_table.specs.Fits.{is_in_order};
-ghost use Rattle.rm_node.specs.Noded.{first_kept};
 
-use rm_base::Behaviour;
+use key_timers::KeyTimers;
+use rm_base::{Behaviour, Memory};
+use std::alloc::Global;
 
-/// What a node keeps besides its records. It is not on the disk: a mount begins with the first again.
-#[derive(Clone, Copy, Debug, PartialEq, Eq)]
+/// What a node keeps besides its records. It is not on the disk: a mount works it out anew.
+#[derive(Debug, Drop)]
 pub struct Kept {
     /// What the node announces for the sequences that it grants from now on: never NoDiscard.
     pub granted: Behaviour,
+    /// The keys that wait to be emitted, and the greatest moment of a tick.
+    pub timers: KeyTimers,
 }
 
 impl Kept {
-    /// What a node keeps that was made or mounted just now.
-    pub(crate) fn first() -> Kept
-        ensures first { result ≡ first_kept }
-        ensures in_order { is_in_order result.granted ≡ true }
+    /// What is kept where no key waits, at time 0.
+    pub(crate) fn first(alloc: Global) -> Result<Kept, Memory>
+        ensures granted { IfOk result (λ kept. kept.granted ≡ FirstGap) }
+        ensures in_order { IfOk result (λ kept. is_in_order kept.granted ≡ true) }
+        ensures waits { IfOk result (λ kept. StandsFor kept.timers []) }
+        ensures cells { IfOk result (λ kept. kept.timers.cells ≡ []) }
+        ensures time { IfOk result (λ kept. kept.timers.time ≡ 0) }
     {
-        Kept {
+        Ok(Kept {
             granted: Behaviour::FollowingFirstGap,
-        }
+            timers: KeyTimers::new(alloc)?,
+        })
     }
 }

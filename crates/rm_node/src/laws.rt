@@ -3,12 +3,12 @@ ghost use Rattle.std.specs.Prelude.{ℕ, List};
 ghost use Rattle.record_batch.specs.Fact.{Fact};
 ghost use Rattle.rm_protocol.specs.Terms.{Terms};
 ghost use Rattle.rm_node.specs.Asked.{Asked, Asks, answer_to, is_connected};
+ghost use Rattle.rm_node.specs.Keeping.{Keeping};
 ghost use Rattle.rm_node.specs.Packets.{IsReplyFirst};
 ghost use Rattle.rm_node.specs.declared.call.Call.{Call};
-ghost use Rattle.rm_node.specs.declared.kept.Kept.{Kept};
 
 /// Of all that a call says, one message at most goes back on the connection, and it comes first.
 pub fn the_reply_comes_first()
-    ensures { (terms : Terms) (r : List Fact) (place now : ℕ) (kept : Kept) (call : Call) (asked : Asked)
+    ensures { (terms : Terms) (r : List Fact) (place now : ℕ) (kept : Keeping) (call : Call) (asked : Asked)
         → Asks call asked → IsReplyFirst (is_connected call) (answer_to terms r place now kept asked).outs }
 {}

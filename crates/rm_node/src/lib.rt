@@ -1,20 +1,24 @@
 //! One durable node: what it is asked for and what comes to it become records on its disk and packets that are handed
 //! out, and no crash takes back what it said. A call works out its answer (`node_calls`, `receive_answer`), encodes
-//! what it says, and appends the records in one batch (`node_store`); only then are the packets handed out. The layers
-//! above may use the contracts, which say each call as the step that `rm_protocol` defines.
+//! what it says, and appends the records in one batch (`node_store`); only then do keys begin and cease to wait
+//! (`node_timers`), and the packets are handed out. The layers above may use the contracts, which say each call as the
+//! step that `rm_protocol` defines.
 #![tactic(auto)]
 
 mod act;
+mod begun;
 pub mod call;
 pub mod calls;
 pub mod error;
 pub mod kept;
 pub mod laws;
+mod named;
 pub mod node;
 pub mod packets;
 mod receive;
 mod say;
 pub mod step;
+mod wait;
 
 pub use call::Call;
 pub use calls::{Made, Sent};

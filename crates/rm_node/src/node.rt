@@ -8,18 +8,23 @@ ghost use Rattle.sequence_table.specs.Fits.{is_in_order};
 ghost use Rattle.node_store.specs.Changes.{KeepsUnarmed, WasNotMade};
 ghost use Rattle.node_store.specs.Has.{Has};
 ghost use Rattle.node_store.specs.Mounted.{Finds, has_failed, IsNoNode};
+ghost use Rattle.node_store.specs.Stored.{first_stored};
 ghost use Rattle.node_store.specs.declared.error.MountError.TheVariants.{Memory as NoMemory, Disk as DiskBroke};
 ghost use Rattle.node_store.specs.declared.error.MountError.TheVariants.{NotAJournal as IsNoJournal};
 ghost use Rattle.rm_node.specs.declared.error.NodeError.TheVariants.{Disk as DiskFails, Memory as WantsMemory};
 ghost use Rattle.rm_node.specs.Ends.{is_disk};
-ghost use Rattle.rm_node.specs.Noded.{first_kept, first_noded, granting};
+ghost use Rattle.rm_node.specs.Keeping.{Keeps, first_kept};
+ghost use Rattle.rm_node.specs.Noded.{granting};
 
 use crate::error::NodeError;
 use crate::kept::Kept;
+use node_laws::laws::a_node_has_room_for_its_keys;
 use node_store::{MountError, Store, StoreError};
 use node_tables::Tables;
+use node_timers::fill;
 use rm_base::{Behaviour, Uri};
 use rm_disk::Disk;
+use rm_protocol::laws::what_waits_stays_exact;
 use std::alloc::Global;
 use std::marker::Model;
 
@@ -35,9 +40,8 @@ pub struct Node {
 impl Model for Node {
     ghost use Rattle.std.specs.Coded.{codes};
     ghost use Rattle.soap_profile.specs.TreeCode.{tree_code};
-    ghost use Rattle.std.specs.Prelude.{◌≡◌, true};
-    ghost use Rattle.sequence_table.specs.Fits.{is_in_order};
     ghost use Rattle.rm_node.specs.Noded.{Noded};
+    ghost use Rattle.rm_node.specs.Timed.{IsKeptRight};
 
     ghost Value = { Noded };
 
@@ -45,7 +49,7 @@ impl Model for Node {
 
     ghost view = { λ n. record { stored = n.store; kept = n.kept } };
 
-    ghost invariant = { λ n. is_in_order n.kept.granted ≡ true };
+    ghost invariant = { λ n. IsKeptRight n.store.records n.kept };
 }
 
 impl Node {
@@ -59,7 +63,8 @@ impl Node {
     ) -> Result<Node, NodeError>
         requires from_one { 0 < number }
         requires within { number < 2 ^ 60 }
-        ensures made { IfOk result (λ node. node ≡ first_noded number address) }
+        ensures made { IfOk result (λ node. node.stored ≡ first_stored number address) }
+        ensures kept { IfOk result (λ node. Keeps node.kept (first_kept node.stored.records)) }
         ensures has { IsTrue D.tells →
             IfOk result (λ node. Has ((Made number address ∷ []) ∷ []) (D.told disk.new).past node.stored) }
         ensures wanted { IsTrue D.tells → result ≡ Err WantsMemory →
@@ -69,25 +74,23 @@ impl Node {
         ensures cause { HasCause (D.told disk.old).faults (D.told disk.new).faults (is_disk result) }
         ensures crashes { IsTrue D.tells → crashes_of (D.told disk.new).past ≡ crashes_of (D.told disk.old).past }
     {
+        what_waits_stays_exact();
+        let kept = Kept::first(alloc)?;
         match Store::make(alloc, disk, number, address) {
-            Ok(store) => Ok(Node {
-                alloc,
-                store,
-                kept: Kept::first(),
-            }),
+            Ok(store) => Ok(Node { alloc, store, kept }),
             Err(StoreError::Memory) => Err(NodeError::Memory),
             Err(StoreError::Disk) => Err(NodeError::Disk),
         }
     }
 
     /// Finds the node that a disk holds. It answers NotAJournal exactly where the disk, as it reads, holds no batches
-    /// of a node. What the node kept besides is not on the disk.
+    /// of a node. What the node kept besides is not on the disk: all keys that wait by its records are due at once.
     pub fn mount<D: Disk>(alloc: Global, disk: &mut D) -> Result<Node, MountError>
         ensures found { IsTrue D.tells →
             IfOk result (λ node. Finds (D.told disk.old).past (D.told disk.new).past node.stored) }
         ensures none { IsTrue D.tells → result ≡ Err IsNoJournal → IsNoNode (seen_of (D.told disk.old).past) }
         ensures up { IfOk result (λ node. node.stored.journal.is_down ≡ false) }
-        ensures kept { IfOk result (λ node. node.kept ≡ first_kept) }
+        ensures kept { IfOk result (λ node. Keeps node.kept (first_kept node.stored.records)) }
         ensures refusals { IfErr result (λ error.
             (error ≡ NoMemory) ⊎ (error ≡ DiskBroke) ⊎ (error ≡ IsNoJournal)) }
 
@@ -102,14 +105,15 @@ impl Node {
         ensures cause { HasCause (D.told disk.old).faults (D.told disk.new).faults (has_failed result) }
         ensures crashes { IsTrue D.tells → crashes_of (D.told disk.new).past ≡ crashes_of (D.told disk.old).past }
     {
-        match Store::mount(alloc, disk) {
-            Ok(store) => Ok(Node {
-                alloc,
-                store,
-                kept: Kept::first(),
-            }),
-            Err(error) => Err(error),
-        }
+        a_node_has_room_for_its_keys();
+        what_waits_stays_exact();
+        let store = Store::mount(alloc, disk)?;
+        let mut kept = match Kept::first(alloc) {
+            Ok(kept) => kept,
+            Err(_) => return Err(MountError::Memory),
+        };
+        fill(&mut kept.timers, store.tables());
+        Ok(Node { alloc, store, kept })
     }
 
     /// What the node announces for the sequences that it grants.

@@ -1,5 +1,5 @@
 //! What comes to a node.
-ghost use Rattle.std.specs.Prelude.{◌≡◌, true, map, IfOk, Result};
+ghost use Rattle.std.specs.Prelude.{◌≡◌, true, map, IfOk, OnOk, Result};
 ghost use Rattle.record_batch.specs.Fact.{fact_of};
 ghost use Rattle.sequence_table.specs.Fits.{is_in_order};
 ghost use Rattle.rm_message.specs.declared.message.Message.{Message as Said};
@@ -9,6 +9,7 @@ ghost use Rattle.rm_protocol.specs.Terms.{Terms};
 ghost use Rattle.node_laws.specs.OwnTerms.{AreOwn};
 ghost use Rattle.call_answers.specs.Answers.{MayBeStored, seen};
 ghost use Rattle.call_answers.specs.Serving.{Serves};
+ghost use Rattle.rm_node.specs.Asked.{Asked, IsReceived};
 ghost use Rattle.rm_node.specs.Came.{IsReadAs};
 
 use call_answers::Answer;
@@ -34,6 +35,7 @@ pub(crate) fn answer_to_bytes(
     ensures is { (terms : Terms) → AreOwn terms → (content : Result Said Refused) → IsReadAs bytes.now content
         → IfOk result (λ a. seen a ≡ receive_of terms tables.now.records place now granted content) }
     ensures stored { IfOk result (λ a. MayBeStored tables.now.records place (map fact_of a.batch.items)) }
+    ensures asked { OnOk result ((asked : Asked) × IsReceived bytes.now asked) }
 {
     one_message();
     one_refusal();

@@ -11,8 +11,6 @@ use crate::node::Node;
 use crate::packets::{Handed, Outs};
 use crate::say::Said;
 use call_answers::Outcome;
-use node_laws::laws::each_call_keeps_the_records;
-use read_laws::laws::{a_refusal_may_be_answered, what_is_read_may_be_written};
 use rm_base::Blob;
 use rm_disk::Disk;
 use rm_message::FaultKind;
@@ -40,7 +38,7 @@ fn verdict(outcome: Outcome) -> Option<FaultKind>
 
 impl Node {
     /// Does what is asked, at a moment in milliseconds since 1970: all memory is taken first, then the records are
-    /// written in one batch, and then the packets are handed out.
+    /// written in one batch, and then keys begin and cease to wait, and the packets are handed out.
     pub fn step<D: Disk>(
         &mut self,
         disk: &mut D,
@@ -52,12 +50,14 @@ impl Node {
         ensures { Steps D.tells (D.told disk.old) (D.told disk.new) self.old self.new now call.entry
             (reaction_end result) }
     {
-        each_call_keeps_the_records();
-        what_is_read_may_be_written();
-        a_refusal_may_be_answered();
-        let Said { answer, handed } = self.say(now, call)?;
+        let (_tables, _place) = self.tables_and_end();
+        let Said {
+            answer,
+            begun,
+            handed,
+        } = self.say(now, call)?;
         let outcome = answer.outcome;
-        self.write(disk, answer)?;
+        self.write(disk, answer, begun)?;
         let Handed { reply, outs } = handed;
         Ok(Reaction {
             verdict: verdict(outcome),

@@ -1,5 +1,6 @@
 -- What each call of a node comes to may be added, fits the store, and what is said then is so.
-use Rattle.std.proofs.Common.{◌≡◌, ℕ, ◌+◌, ◌==◌, ◌&&◌, not, nat_lt, nat_le, cond, Bool, true, false, List, [], ◌∷◌}
+use Rattle.std.proofs.Common.{◌≡◌, ℕ, zero, suc, max, ◌+◌, ◌==◌, ◌&&◌, not, nat_lt, nat_le, cond, Bool, true, false}
+use Rattle.std.proofs.Common.{List, [], ◌∷◌}
 use Rattle.std.proofs.Common.{◌++◌, length, refl, sym, ap, ◌∙◌, subst, append-nil}
 use Rattle.std.specs.Prelude.{Option, Some, None, IfSome}
 use Rattle.std.specs.List.{AllByRecursion, flat_map}
@@ -23,7 +24,7 @@ use Rattle.sequence_table.specs.Makers.{Maker, Outgoing, Offered, Incoming, Take
 use Rattle.sequence_table.specs.Makers.{number, address}
 use Rattle.sequence_table.specs.Sources.{accepted, mark_of, marks, out_ident, phase}
 use Rattle.sequence_table.specs.Destinations.{has_end, is_over}
-use Rattle.sequence_table.specs.Find.{acks_to}
+use Rattle.sequence_table.specs.Find.{acks_to, peer}
 use Rattle.rm_protocol.specs.Sound.{SaysCreate, Says, IsWith, Owns, Allows, Keeps, AreWith}
 use Rattle.std.specs.Prelude.{Result, Ok, Err}
 use Rattle.std.specs.Option.{option_to_list}
@@ -36,9 +37,18 @@ use Rattle.rm_protocol.specs.Calls.{Answer, Cause, NoSequence, WrongSide, NotOpe
 use Rattle.rm_protocol.specs.Calls.{WindowFull, NodeFull, Rollover, StoreFull, TooManySequences, refusal, adds}
 use Rattle.rm_protocol.specs.Calls.{if_room, Wish, offer_of, wanted, create, is_open, send_out, on_outgoing, send}
 use Rattle.rm_protocol.specs.Calls.{close_out, close_in, close_by, close, may_end, end_out, end, expired_from, tick}
-use Rattle.rm_protocol.specs.Calls.{judged, receive, refusal_of, fault_block}
+use Rattle.rm_protocol.specs.Calls.{judged, receive, refusal_of, fault_block, message_at, messages_at, ticked}
+use Rattle.rm_protocol.specs.Calls.{ask_to, ask_out, ask_ack, on_incoming, missing_of, nack_to, nack_by, nack_in}
+use Rattle.rm_protocol.specs.Calls.{nack_missing}
+use Rattle.rm_protocol.specs.Calls.{made_by}
+use Rattle.rm_protocol.specs.Addresses.{is_anonymous}
+use Rattle.wsa_headers.specs.declared.endpoint.Epr.{Epr}
+use Rattle.rm_elements.specs.declared.header.AckBlock.{AckBlock}
+use Rattle.rm_elements.specs.declared.header.AckKind.TheVariants as kind
+use Rattle.rm_timers.specs.declared.timers.Key.{Key}
+use Rattle.key_timers.specs.Waits.{Wait, first_due}
 use Rattle.rm_protocol.specs.Heard.{Heard}
-use Rattle.rm_protocol.specs.Messages.{data_at, request_at}
+use Rattle.rm_protocol.specs.Messages.{data_at, request_at, ack_message}
 use Rattle.rm_protocol.specs.Rows.{rows}
 use Rattle.rm_protocol.specs.Terms.{Terms, AreTerms}
 use Rattle.rm_protocol.specs.Verdict.{first_held, tests, verdict, has_room}
@@ -270,23 +280,104 @@ expired-with r b now k (m ∷ ms) = chosen (is_past (deadline_of (Some m)) now &
     chosen true h = h
     chosen false h = h
 
-pub tick-right : (terms : Terms) (place : ℕ) (r a b : List Fact) (now : ℕ)
-    → IsRight terms place a b (tick terms r place now)
-tick-right terms place r a b now = chosen (has_room terms place (expired_from r now 0 (makers r))) refl
+-- what is emitted is so by the records: the message of a key is one of the node's own, or the request of its sequence
+message_at-says : (r a : List Fact) (s i : ℕ) → Keeps r a → AllByRecursion (Says a) (option_to_list (message_at r s i))
+message_at-says r a s zero w = request_at-says r a s w
+message_at-says r a s (suc i) w = data_at-says r a s (suc i) w
+
+pub messages_at-says : (r a : List Fact) (keys : List Key) → Keeps r a → AllByRecursion (Says a) (messages_at r keys)
+messages_at-says r a [] w = tt
+messages_at-says r a (k ∷ keys) w =
+    All-append (Says a) (option_to_list (message_at r k.seq k.number)) (messages_at r keys)
+    (message_at-says r a k.seq k.number w) (messages_at-says r a keys w)
+
+ticked-allowed : (r a b : List Fact) (now : ℕ) (keys : List Key) (delta : List Fact) → Keeps r a → Allows a b delta
+    → AreWith b delta → IsAllowed a b (ticked r now keys delta)
+ticked-allowed r a b now keys delta w h k = record {
+  allows = h;
+  with_ = k;
+  says = messages_at-says (r ++ delta) (a ++ delta) keys (Keeps-adds r a delta w);
+}
+
+pub tick-right : (terms : Terms) (place : ℕ) (r a b : List Fact) (now time : ℕ) (waits : List Wait) → Keeps r a
+    → IsRight terms place a b (tick terms r place now time waits)
+tick-right terms place r a b now time waits w = chosen (has_room terms place (expired_from r now 0 (makers r))) refl
   where
     chosen : (x : Bool) → has_room terms place (expired_from r now 0 (makers r)) ≡ x
-        → IsRight terms place a b (cond x (adds r (expired_from r now 0 (makers r)) (λ after. []))
-        (adds r [] (λ after. [])))
+        → IsRight terms place a b
+        (cond x (ticked r now (first_due (max time now) waits) (expired_from r now 0 (makers r)))
+        (ticked r now (first_due (max time now) waits) []))
     chosen true e = record {
-      allowed = record {
-        allows = expired-allowed r a b now 0 (makers r);
-        with_ =
-            expired-with r b now 0 (makers r);
-        says = tt;
-      };
+      allowed = ticked-allowed r a b now (first_due (max time now) waits) (expired_from r now 0 (makers r)) w
+          (expired-allowed r a b now 0 (makers r)) (expired-with r b now 0 (makers r));
       room = e;
     }
-    chosen false e = record { allowed = record { allows = tt; with_ = tt; says = tt }; room = refl }
+    chosen false e =
+        record { allowed = ticked-allowed r a b now (first_due (max time now) waits) [] w tt tt; room = refl }
+
+-- a request for an acknowledgement, and a Nack, say nothing of what was sent or received
+ask_to-says : (r : List Fact) (to : Option Epr) (q : Option Text) → AllByRecursion (Says r) (ask_to to q)
+ask_to-says r None None = tt
+ask_to-says r None (Some q) = tt
+ask_to-says r (Some to) None = tt
+ask_to-says r (Some to) (Some q) = (record { data_ = tt; acks = tt; create = tt; response = tt; final = tt }, tt)
+
+pub ask_ack-right : (terms : Terms) (place : ℕ) (r a b : List Fact) (s : ℕ) → IsRight terms place a b (ask_ack r s)
+ask_ack-right terms place r a b s = on_outgoing-right terms place a b (maker r s) (ask_out r s)
+    (chosen (may_end (phase r s)))
+  where
+    chosen : (x : Bool) → IsRight terms place a b
+        (cond x (adds r [] (λ after. ask_to (peer after s) (out_ident after s))) (refusal NotOpen))
+    chosen true = record {
+      allowed = record {
+        allows = tt;
+        with_ = tt;
+        says = ask_to-says (a ++ []) (peer (r ++ []) s) (out_ident (r ++ []) s);
+      };
+      room = refl;
+    }
+    chosen false = refusal-right terms place a b NotOpen
+
+nack-says : (r : List Fact) (to : Option Epr) (q : Text) (numbers : List ℕ)
+    → AllByRecursion (Says r) (nack_to to q numbers)
+nack-says r to q [] = tt
+nack-says r None q (n ∷ ns) = tt
+nack-says r (Some to) q (n ∷ ns) = chosen (is_anonymous to.address)
+  where
+    block : AckBlock
+    block = record { ident = q; kind = kind.Nack (n ∷ ns); last = false }
+
+    chosen : (x : Bool) → AllByRecursion (Says r) (cond x [] (ack_message to (block ∷ []) ∷ []))
+    chosen true = tt
+    chosen false =
+        (record { data_ = tt; acks = (λ i h. absurd (cc), tt); create = tt; response = tt; final = tt }, tt)
+
+nack_by-says : (a r : List Fact) (s : ℕ) (made : Option (ℕ × Text)) → AllByRecursion (Says a) (nack_by r s made)
+nack_by-says a r s None = tt
+nack_by-says a r s (Some made) = nack-says a (acks_to r s) (issue (number r) made.0) (missing_of r s)
+
+pub nack_missing-right : (terms : Terms) (place : ℕ) (r a b : List Fact) (s now : ℕ)
+    → IsRight terms place a b (nack_missing r s now)
+nack_missing-right terms place r a b s now = by_maker (maker r s)
+  where
+    chosen : (x : Bool) → IsRight terms place a b
+        (cond x (refusal NotOpen) (adds r [] (λ after. nack_by after s (made_by after (maker after s)))))
+    chosen true = refusal-right terms place a b NotOpen
+    chosen false = record {
+      allowed = record {
+        allows = tt;
+        with_ = tt;
+        says = nack_by-says (a ++ []) (r ++ []) s (made_by (r ++ []) (maker (r ++ []) s));
+      };
+      room = refl;
+    }
+
+    by_maker : (x : Option Maker) → IsRight terms place a b (on_incoming x (nack_in r s now))
+    by_maker None = refusal-right terms place a b NoSequence
+    by_maker (Some (Outgoing t to v l)) = refusal-right terms place a b WrongSide
+    by_maker (Some (Taken t q k)) = refusal-right terms place a b WrongSide
+    by_maker (Some (Offered t c to y)) = chosen (is_over r s now)
+    by_maker (Some (Incoming c t k y d l)) = chosen (is_over r s now)
 
 -- receive: the sequences that a message makes are between the node and the one that says it
 heard_one-with : (b : List Fact) (m : Message) → Says b m → (rec : Fact) → Heard m rec

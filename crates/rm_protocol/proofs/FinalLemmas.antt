@@ -1,13 +1,11 @@
 -- What an acknowledgement with Final does to its source.
-use Rattle.std.proofs.Common.{◌≡◌, ◌∙◌, ℕ, ◌==◌, true, cond, List, [], ◌∷◌, ◌++◌, Some, refl, ap}
+use Rattle.std.proofs.Common.{◌≡◌, ◌∙◌, ℕ, cond, List, [], ◌∷◌, ◌++◌, Some, refl, ap}
 use Rattle.std.proofs.lemmas.Bool.{eq-eqb}
-use Rattle.rm_elements.specs.declared.header.AckBlock.{AckBlock}
 use Rattle.rm_source.specs.declared.phase.OutPhase.{OutPhase}
 use Rattle.rm_source.specs.declared.phase.OutPhase.TheVariants as out
 use Rattle.record_batch.specs.Fact.{Fact, ClosedOut}
 use Rattle.sequence_table.specs.Words.{last_or}
-use Rattle.sequence_table.specs.Sources.{first_phase, is_sending, mark_of, marks, out_ident, phase}
-use Rattle.sequence_table.specs.Find.{find_outgoing}
+use Rattle.sequence_table.specs.Sources.{first_phase, mark_of, marks, out_ident, phase}
 use Rattle.sequence_table.specs.GatherLemmas.{at_seq-more, last_or-append}
 use Rattle.rm_protocol.specs.Recorded.{FinalCloses}
 use Rattle.rm_protocol.specs.Rows.{final_at, final_row}

@@ -1,5 +1,6 @@
 -- Each record that a call adds may come next.
-use Rattle.std.proofs.Common.{◌≡◌, ℕ, ◌+◌, ◌<◌, ◌≤◌, ◌==◌, ◌&&◌, ◌||◌, not, nat_lt, nat_le, cond, Bool, true, false}
+use Rattle.std.proofs.Common.{◌≡◌, ℕ, ◌+◌, ◌<◌, ◌≤◌, ◌==◌, ◌&&◌, ◌||◌, not, nat_lt, nat_le, cond, Bool, true}
+use Rattle.std.proofs.Common.{false}
 use Rattle.std.proofs.Common.{List, [], ◌∷◌, ◌++◌, length, refl, sym, ap, ◌∙◌, arith, subst, append-nil}
 use Rattle.std.proofs.Common.{append_assoc, length-append}
 use Rattle.std.specs.Prelude.{Option, Some, None, is_none, IfSome, Result, Ok, Err}
@@ -37,9 +38,10 @@ use Rattle.record_batch.specs.declared.record.Via.{Via}
 use Rattle.sequence_table.specs.Words.{Text, at_seq}
 use Rattle.sequence_table.specs.Makers.{Maker, Outgoing, Offered, Incoming, Taken, makers, makers_of, maker, created}
 use Rattle.sequence_table.specs.Makers.{created_of, seq_in, counter}
-use Rattle.sequence_table.specs.Sources.{is_sending, phase, accepted, accepted_of, acked, unacked, all_unacked}
+use Rattle.sequence_table.specs.Sources.{is_sending, out_ident, phase, accepted, accepted_of, acked, unacked}
+use Rattle.sequence_table.specs.Sources.{all_unacked}
 use Rattle.sequence_table.specs.Find.{find_incoming, find_outgoing, find_creating, find_grant, is_granted}
-use Rattle.sequence_table.specs.Find.{is_offered, find_from}
+use Rattle.sequence_table.specs.Find.{is_offered, find_from, peer}
 use Rattle.sequence_table.specs.Fits.{is_outgoing_side, is_incoming_side, follows, follows_at, is_up_to, fits}
 use Rattle.sequence_table.specs.Fits.{all_fit, is_in_order, is_no_moment, offer_fits, has_places}
 use Rattle.rm_destination.specs.Incoming.{is_past}
@@ -51,8 +53,11 @@ use Rattle.rm_protocol.specs.Addresses.{is_nowhere}
 use Rattle.rm_protocol.specs.Calls.{Answer, Cause, NotOpen, PayloadTooLong, BadPayload, WindowFull, NodeFull}
 use Rattle.rm_protocol.specs.Calls.{Rollover, StoreFull, TooManySequences, refusal, adds, if_room, Wish, offer_of}
 use Rattle.rm_protocol.specs.Calls.{wanted, create, is_open, send_out, on_outgoing, send, close_out, close_in}
-use Rattle.rm_protocol.specs.Calls.{close_by, close, may_end, end_out, end, expired_from, tick, judged, receive}
-use Rattle.rm_protocol.specs.Calls.{final_ack, made_by}
+use Rattle.rm_protocol.specs.Calls.{close_by, close, may_end, end_out, end, expired_from, judged, receive}
+use Rattle.rm_protocol.specs.Calls.{final_ack, made_by, ticked, tick_with, ask_to, ask_out, ask_ack, on_incoming}
+use Rattle.rm_protocol.specs.Calls.{nack_by}
+use Rattle.rm_protocol.specs.Calls.{nack_in, nack_missing}
+use Rattle.rm_timers.specs.declared.timers.Key.{Key}
 use Rattle.rm_protocol.specs.Detail.{found_by, first_found, ident_of, named_in}
 use Rattle.rm_protocol.specs.Messages.{data_at, request_at}
 use Rattle.rm_protocol.specs.Next.{HasRanges, IsMessageNumber, IsNumberRange, HasNumbers, IsReadable, AddsNext}
@@ -651,13 +656,38 @@ expired-fit r a now k before (m ∷ ms) n e h =
     expired-next r a now k m (expired_from r now (k + 1) ms) there h
     (λ z same. expired-fit r z now (k + 1) (before ++ m ∷ []) ms count front_ same)
 
-tick-fits : (terms : Terms) (r : List Fact) (place now : ℕ) → all_fit r (tick terms r place now).delta ≡ true
-tick-fits terms r place now = chosen (has_room terms place (expired_from r now 0 (makers r)))
+tick-fits : (terms : Terms) (r : List Fact) (place now : ℕ) (keys : List Key)
+    → all_fit r (tick_with terms r place now keys).delta ≡ true
+tick-fits terms r place now keys = chosen (has_room terms place (expired_from r now 0 (makers r)))
   where
-    chosen : (x : Bool) → all_fit r (cond x (adds r (expired_from r now 0 (makers r)) (λ after. []))
-        (adds r [] (λ after. []))).delta ≡ true
+    chosen : (x : Bool) → all_fit r (cond x (ticked r now keys (expired_from r now 0 (makers r)))
+        (ticked r now keys [])).delta ≡ true
     chosen true = expired-fit r r now 0 [] (makers r) refl refl (refl, λ t l. refl)
     chosen false = refl
+
+-- a request for an acknowledgement and a Nack add nothing
+ask_ack-fits : (r : List Fact) (s : ℕ) → all_fit r (ask_ack r s).delta ≡ true
+ask_ack-fits r s = on_outgoing-fits r (maker r s) (ask_out r s) (λ side. chosen (may_end (phase r s)))
+  where
+    chosen : (x : Bool) → all_fit r (cond x (adds r [] (λ after. ask_to (peer after s) (out_ident after s)))
+        (refusal NotOpen)).delta ≡ true
+    chosen true = refl
+    chosen false = refl
+
+nack_missing-fits : (r : List Fact) (s now : ℕ) → all_fit r (nack_missing r s now).delta ≡ true
+nack_missing-fits r s now = by_maker (maker r s)
+  where
+    chosen : (x : Bool) → all_fit r (cond x (refusal NotOpen)
+        (adds r [] (λ after. nack_by after s (made_by after (maker after s))))).delta ≡ true
+    chosen true = refl
+    chosen false = refl
+
+    by_maker : (x : Option Maker) → all_fit r (on_incoming x (nack_in r s now)).delta ≡ true
+    by_maker None = refl
+    by_maker (Some (Outgoing t to v l)) = refl
+    by_maker (Some (Taken t q k)) = refl
+    by_maker (Some (Offered t c to y)) = chosen (is_over r s now)
+    by_maker (Some (Incoming c t k y d l)) = chosen (is_over r s now)
 
 -- all calls
 pub adds-next : (terms : Terms) (r : List Fact) (place : ℕ) → EndsLater terms → all_fit [] r ≡ true
@@ -667,6 +697,8 @@ adds-next terms r place l h = record {
   send_ = λ s text. send-fits terms r place s text;
   close_ = λ s now. close-fits terms r place s now;
   end_ = λ s. end-fits terms r place s;
-  tick_ = λ now. tick-fits terms r place now;
+  tick_ = λ now keys. tick-fits terms r place now keys;
+  ask_ack_ = λ s. ask_ack-fits r s;
+  nack_missing_ = λ s now. nack_missing-fits r s now;
   receive_ = λ now y content o n. receive-fits terms r place now y content l h o n;
 }

@@ -91,7 +91,9 @@ written-free x (rec ∷ d) h =
     rw long (record { fuse = ap (burned 4) h.fuse; state = h.state })
 
 after-free : (x : Node) (answer : Answer) → IsFree x → IsFree (after x answer)
-after-free x answer h = subst (λ z. IsFree (after_by x z answer)) (sym h.state) (written-free x answer.delta h)
+after-free x answer h =
+    let free = written-free x answer.delta h in
+    subst (λ z. IsFree (after_by x z answer)) (sym h.state) (record { fuse = free.fuse; state = free.state })
 
 outcome-free : (x : Node) (answer : Answer) → IsFree x → IsFaultless (Called (call_outcome x answer))
 outcome-free x answer h =
@@ -120,7 +122,7 @@ outcome-well terms w (world.Send side s text) h =
     outcome-free x (Calls.send terms (records x) (end_of terms x.entries) s text) (free_at w side h)
 outcome-well terms w (world.Tick side now) h =
     let x = node w side in
-    outcome-free x (Calls.tick terms (records x) (end_of terms x.entries) now) (free_at w side h)
+    outcome-free x (Calls.tick terms (records x) (end_of terms x.entries) now x.time x.waits) (free_at w side h)
 outcome-well terms w (world.Deliver i) h = by_packet (numbered w.packets i)
   where
     by_packet : (p : Option Packet) → IsFaultless (arrival_outcome terms w p)
@@ -134,6 +136,12 @@ outcome-well terms w (world.Close side s) h =
 outcome-well terms w (world.End side s) h =
     let x = node w side in
     outcome-free x (Calls.end terms (records x) (end_of terms x.entries) s) (free_at w side h)
+outcome-well terms w (world.Ask side s) h =
+    let x = node w side in
+    outcome-free x (Calls.ask_ack (records x) s) (free_at w side h)
+outcome-well terms w (world.Nack side s) h =
+    let x = node w side in
+    outcome-free x (Calls.nack_missing (records x) s x.clock) (free_at w side h)
 outcome-well terms w (world.Arm side c) h = tt
 outcome-well terms w (world.Crash side kept) h = tt
 outcome-well terms w (world.Noise side refusal) h =
@@ -158,6 +166,8 @@ happens-free terms w (world.Deliver i) u h = by_packet (numbered w.packets i)
     by_packet (Some p) = calls-free terms w (other p.from) true _ h
 happens-free terms w (world.Close side s) u h = calls-free terms w side false _ h
 happens-free terms w (world.End side s) u h = calls-free terms w side false _ h
+happens-free terms w (world.Ask side s) u h = calls-free terms w side false _ h
+happens-free terms w (world.Nack side s) u h = calls-free terms w side false _ h
 happens-free terms w (world.Arm side c) u h = absurd u
 happens-free terms w (world.Crash side kept) u h =
     free_with w side (mounted (node w side) kept) h (record { fuse = refl; state = refl })

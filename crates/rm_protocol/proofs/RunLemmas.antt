@@ -13,17 +13,19 @@ use Rattle.sequence_table.specs.Makers.{makers, makers_of, draws_of, counter}
 use Rattle.rm_protocol.specs.Sound.{Says, IsWith, Owns, Agree, Allows, Keeps, AreWith}
 use Rattle.std.specs.Prelude.{Result, Ok, Err}
 use Rattle.rm_message.specs.declared.refusal.Refusal.{Refusal}
-use Rattle.rm_protocol.specs.Calls.{Answer, create, send, close, end, tick}
+use Rattle.rm_protocol.specs.Calls.{Answer, create, send, close, end, tick, ask_ack, nack_missing}
 use Rattle.rm_protocol.specs.Node.{Node, State, Up, Writing, records, records_in, end_of, is_short, entries_left}
 use Rattle.rm_protocol.specs.Node.{whole_left, mounted, with_batch, goes_down, written, after_by, after, said_with}
-use Rattle.rm_protocol.specs.Node.{armed, said_by, said_after}
+use Rattle.rm_protocol.specs.Node.{armed, said_by, said_after, with_moves}
+use Rattle.rm_protocol.specs.Waiting.{mounted_waits}
 use Rattle.rm_protocol.specs.Said.{sent_of, leaves}
 use Rattle.rm_protocol.specs.Addresses.{place_of}
 use Rattle.rm_protocol.specs.Sound.{AllowsState, IsBounded, SaysPacket, IsSoundNode, IsSound}
 use Rattle.rm_protocol.specs.Terms.{Terms, AreTerms}
 use Rattle.rm_protocol.specs.Verdict.{has_room}
 use Rattle.rm_protocol.specs.World.{messages_in, puts, World, Packet, Side, One, Two, other, node, place, with_node}
-use Rattle.rm_protocol.specs.World.{Event, Create, Grant, Send, Tick, Deliver, Close, End, Arm, Crash, Noise, sent}
+use Rattle.rm_protocol.specs.World.{Event, Create, Grant, Send, Tick, Deliver, Close, End, Ask, Nack, Arm, Crash, Noise}
+use Rattle.rm_protocol.specs.World.{sent}
 use Rattle.rm_protocol.specs.World.{calls, received_by, arrives, wish_of, with_clock, happens, run, made, start}
 use Rattle.rm_protocol.specs.World.{AreMade}
 use Rattle.rm_protocol.proofs.ListLemmas.{All-weaker, All-append, All-filter, All-numbered, All-push}
@@ -31,7 +33,7 @@ use Rattle.rm_protocol.proofs.Growth.{Grows, Grows-same, IsWith-grows, Says-grow
 use Rattle.rm_protocol.proofs.Adds.{Agree-swap, Agree-adds, Grows-adds}
 use Rattle.rm_protocol.proofs.Kept.{Keeps-adds, Keeps-same}
 use Rattle.rm_protocol.proofs.CallLemmas.{IsRight, SaysContent, create-right, send-right, close-right, end-right}
-use Rattle.rm_protocol.proofs.CallLemmas.{tick-right, receive-right}
+use Rattle.rm_protocol.proofs.CallLemmas.{tick-right, receive-right, ask_ack-right, nack_missing-right}
 
 pub number_of : Side → ℕ
 number_of One = 1
@@ -255,6 +257,24 @@ went terms x b (rec ∷ delta) outs t up h i k g room s =
           }
     ]
 
+-- which keys move is nothing to the other node
+moved-went : (terms : Terms) (x y : Node) (b : List Fact) (answer : Answer) (outs : List Message)
+    → Went terms x y b outs → Went terms x (with_moves x answer y) b outs
+moved-went terms x y b answer outs t = record {
+  delta = t.delta;
+  is = t.is;
+  allows = t.allows;
+  with_ = t.with_;
+  failed = same y.state t.failed;
+  kept = t.kept;
+  bounded = record { below = t.bounded.below; store = t.bounded.store };
+  says = t.says;
+}
+  where
+    same : (z : State) → AllowsState terms y b z → AllowsState terms (with_moves x answer y) b z
+    same Up h = tt
+    same (Writing delta) h = h
+
 after-went : (terms : Terms) (x : Node) (b : List Fact) (answer : Answer) → AreTerms terms → Keeps (records x) x.whole
     → IsBounded terms x
     → IsRight terms (end_of terms x.entries) x.whole b answer → AllowsState terms x b x.state
@@ -262,8 +282,8 @@ after-went : (terms : Terms) (x : Node) (b : List Fact) (answer : Answer) → Ar
 after-went terms x b answer t h i r f = by_state x.state refl
   where
     by_state : (z : State) → x.state ≡ z → Went terms x (after_by x z answer) b (said_by x z answer)
-    by_state Up e = went terms x b answer.delta answer.outs t e h i r.allowed.allows r.allowed.with_ r.room
-        r.allowed.says
+    by_state Up e = moved-went terms x (written x answer.delta) b answer (said_with x.fuse answer.delta answer.outs)
+        (went terms x b answer.delta answer.outs t e h i r.allowed.allows r.allowed.with_ r.room r.allowed.says)
     by_state (Writing delta) e = rests terms x x b refl f h i
 
 -- of what is said a part leaves the node
@@ -312,6 +332,8 @@ mounted-went terms x b kept t h i f = by_state x.state kept f
           fuse =
               None;
           state = Up;
+          waits = mounted_waits (records_in (entries_left z kept x.entries));
+          time = 0;
         }) b []
     by_state (Writing delta) true f =
         let more = bounded-with terms x.entries x.whole delta t i.below f.2 in
@@ -404,14 +426,18 @@ tick-IsSound : (terms : Terms) (w : World) (side : Side) (now : ℕ) → AreTerm
     → IsSound terms (happens terms w (Tick side now))
 tick-IsSound terms w One now t h =
     let v = with_node w One (with_clock w.one now) in
-    calls-IsSound terms v One false (tick terms (records w.one) (end_of terms w.one.entries) now) t
+    calls-IsSound terms v One false
+    (tick terms (records w.one) (end_of terms w.one.entries) now w.one.time w.one.waits) t
     (changed-IsSound terms w One (with_clock w.one now) h refl refl refl)
-    (tick-right terms (end_of terms w.one.entries) (records w.one) w.one.whole w.two.whole now)
+    (tick-right terms (end_of terms w.one.entries) (records w.one) w.one.whole w.two.whole now w.one.time w.one.waits
+    h.one.kept)
 tick-IsSound terms w Two now t h =
     let v = with_node w Two (with_clock w.two now) in
-    calls-IsSound terms v Two false (tick terms (records w.two) (end_of terms w.two.entries) now) t
+    calls-IsSound terms v Two false
+    (tick terms (records w.two) (end_of terms w.two.entries) now w.two.time w.two.waits) t
     (changed-IsSound terms w Two (with_clock w.two now) h refl refl refl)
-    (tick-right terms (end_of terms w.two.entries) (records w.two) w.two.whole w.one.whole now)
+    (tick-right terms (end_of terms w.two.entries) (records w.two) w.two.whole w.one.whole now w.two.time w.two.waits
+    h.two.kept)
 
 pub happens-IsSound : (terms : Terms) (w : World) (event : Event) → AreTerms terms → IsSound terms w
     → IsSound terms (happens terms w event)
@@ -441,6 +467,14 @@ happens-IsSound terms w (End side seq) t h =
     calls-IsSound terms w side false (end terms (records x) (end_of terms x.entries) seq) t h
     (end-right terms (end_of terms x.entries) (records x) x.whole (node w (other side)).whole seq
     (sound_at terms w side h).kept)
+happens-IsSound terms w (Ask side seq) t h =
+    let x = node w side in
+    calls-IsSound terms w side false (ask_ack (records x) seq) t h
+    (ask_ack-right terms (end_of terms x.entries) (records x) x.whole (node w (other side)).whole seq)
+happens-IsSound terms w (Nack side seq) t h =
+    let x = node w side in
+    calls-IsSound terms w side false (nack_missing (records x) seq x.clock) t h
+    (nack_missing-right terms (end_of terms x.entries) (records x) x.whole (node w (other side)).whole seq x.clock)
 happens-IsSound terms w (Arm side c) t h =
     changed-IsSound terms w side (record (node w side) { fuse = armed c (node w side).fuse }) h refl refl refl
 happens-IsSound terms w (Crash side kept) t h =

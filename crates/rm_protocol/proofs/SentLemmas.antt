@@ -1,5 +1,5 @@
 -- What a source accepted is what the report says was sent.
-use Rattle.std.proofs.Common.{◌≡◌, ℕ, ◌+◌, ◌==◌, ◌&&◌, not, nat_lt, nat_le, cond, Bool, true, false, List, [], ◌∷◌}
+use Rattle.std.proofs.Common.{max, ◌≡◌, ℕ, ◌+◌, ◌==◌, ◌&&◌, not, nat_lt, nat_le, cond, Bool, true, false, List, [], ◌∷◌}
 use Rattle.std.proofs.Common.{◌++◌, length, refl, sym, ap, ◌∙◌, arith, append-nil, append_assoc, length-append, inl}
 use Rattle.std.proofs.Common.{inr}
 use Rattle.std.specs.Prelude.{Option, Some, None}
@@ -18,13 +18,16 @@ use Rattle.sequence_table.specs.Destinations.{has_end, is_over}
 use Rattle.std.specs.Prelude.{Result, Ok, Err}
 use Rattle.rm_message.specs.declared.refusal.FaultKind.{FaultKind}
 use Rattle.rm_message.specs.declared.refusal.Refusal.{Refusal}
-use Rattle.sequence_table.specs.Sources.{all_unacked, unacked}
+use Rattle.sequence_table.specs.Find.{peer}
+use Rattle.sequence_table.specs.Sources.{all_unacked, out_ident, unacked}
 use Rattle.rm_destination.specs.Incoming.{is_past}
 use Rattle.sequence_table.specs.Destinations.{deadline_of}
 use Rattle.rm_protocol.specs.Calls
-use Rattle.rm_protocol.specs.Calls.{Answer, Cause, Outcome, Done, Refused, Judged, refusal, adds, if_room, Wish}
+use Rattle.rm_protocol.specs.Calls.{Answer, Cause, Outcome, Done, refusal, adds, if_room, Wish}
 use Rattle.rm_protocol.specs.Calls.{wanted, is_open, send_out, on_outgoing, close_out, close_in, close_by, may_end}
 use Rattle.rm_protocol.specs.Calls.{end_out, expired_from, judged, receive}
+use Rattle.rm_protocol.specs.Waiting.{no_moves}
+use Rattle.key_timers.specs.Waits.{Wait, first_due}
 use Rattle.rm_protocol.specs.Heard.{Heard}
 use Rattle.rm_protocol.specs.Node.{Node, State, Up, Writing, records, records_in, end_of, is_short, entries_left}
 use Rattle.rm_protocol.specs.Node.{mounted, with_batch, goes_down, written, after_by, after, Answered, DiskFault}
@@ -37,7 +40,7 @@ use Rattle.rm_protocol.specs.Sent.{sent_by, sent_in, IsLeftAs, IsImage}
 use Rattle.rm_protocol.specs.Terms.{Terms}
 use Rattle.rm_protocol.specs.Verdict.{verdict, has_room}
 use Rattle.rm_protocol.specs.World as world
-use Rattle.rm_protocol.specs.World.{World, Packet, Side, One, Two, other, node, with_node, with_clock, Event, calls}
+use Rattle.rm_protocol.specs.World.{World, Packet, Side, One, Two, other, node, with_clock, Event, calls}
 use Rattle.rm_protocol.specs.World.{received_by, arrives, wish_of, happens, run, start}
 use Rattle.rm_protocol.proofs.HeardLemmas.{rows-heard}
 use Rattle.rm_protocol.proofs.RunLemmas.{records-with}
@@ -157,11 +160,36 @@ expired-quiet r now i (m ∷ ms) k = chosen (is_past (deadline_of (Some m)) now 
     chosen true h = h
     chosen false h = h
 
-tick-quiet : (terms : Terms) (r : List Fact) (place now : ℕ) → IsQuiet (Calls.tick terms r place now)
-tick-quiet terms r place now = chosen (has_room terms place (expired_from r now 0 (makers r)))
+-- a call without records
+still-quiet : (r : List Fact) (outs : List Fact → List Message) → IsQuiet (adds r [] outs)
+still-quiet r outs = record { done = tt; quiet = λ k. refl }
+
+ask_ack-quiet : (r : List Fact) (s : ℕ) → IsQuiet (Calls.ask_ack r s)
+ask_ack-quiet r s = on_outgoing-quiet (maker r s) (Calls.ask_out r s)
+    (refusing-quiet (may_end (phase r s)) Calls.NotOpen _
+    (still-quiet r (λ after. Calls.ask_to (peer after s) (out_ident after s))))
+
+nack_missing-quiet : (r : List Fact) (s now : ℕ) → IsQuiet (Calls.nack_missing r s now)
+nack_missing-quiet r s now = by_maker (maker r s)
+  where
+    in_ : IsQuiet (Calls.nack_in r s now)
+    in_ = refused-quiet (is_over r s now) Calls.NotOpen _
+        (still-quiet r (λ after. Calls.nack_by after s (Calls.made_by after (maker after s))))
+
+    by_maker : (x : Option Maker) → IsQuiet (Calls.on_incoming x (Calls.nack_in r s now))
+    by_maker None = refusal-quiet Calls.NoSequence
+    by_maker (Some (Outgoing t to v l)) = refusal-quiet Calls.WrongSide
+    by_maker (Some (Taken t q k)) = refusal-quiet Calls.WrongSide
+    by_maker (Some (Offered t c to y)) = in_
+    by_maker (Some (Incoming c t k y d l)) = in_
+
+tick-quiet : (terms : Terms) (r : List Fact) (place now time : ℕ) (waits : List Wait)
+    → IsQuiet (Calls.tick terms r place now time waits)
+tick-quiet terms r place now time waits = chosen (has_room terms place (expired_from r now 0 (makers r)))
   where
     chosen : (x : Bool) → IsQuiet
-        (cond x (adds r (expired_from r now 0 (makers r)) (λ after. [])) (adds r [] (λ after. [])))
+        (cond x (Calls.ticked r now (first_due (max time now) waits) (expired_from r now 0 (makers r)))
+        (Calls.ticked r now (first_due (max time now) waits) []))
     chosen true = record { done = done (expired_from r now 0 (makers r)); quiet = expired-quiet r now 0 (makers r) }
     chosen false = record { done = tt; quiet = λ k. refl }
 
@@ -253,7 +281,7 @@ quiet-call terms w Two One connected answer k next h = append-nil (total k next 
 data IsSend (s : ℕ) (text : Text) : Answer → Type 0 where
   refused_ : (cause : Cause) → IsSend s text (refusal cause)
   accepted_ : (outs : List Message)
-      → IsSend s text (record { outcome = Done; delta = Accepted s text ∷ []; outs = outs })
+      → IsSend s text (record { outcome = Done; delta = Accepted s text ∷ []; outs = outs; moves = no_moves })
 
 refused-send : (s : ℕ) (text : Text) (b : Bool) (cause : Cause) (x : Answer) → IsSend s text x
     → IsSend s text (cond b (refusal cause) x)
@@ -315,7 +343,7 @@ send-moves k next x s text (_) (refused_ cause) = by_state x.state
     by_state Up = ap (λ z. total k next x ++ z) (none_counted (s == k) text) ∙ append-nil (total k next x)
     by_state (Writing delta) = ap (λ z. total k next x ++ z) (none_counted (s == k) text) ∙ append-nil (total k next x)
 send-moves k next x s text (_) (accepted_ outs) =
-    let answer : Answer = record { outcome = Done; delta = Accepted s text ∷ []; outs = outs } in
+    let answer : Answer = record { outcome = Done; delta = Accepted s text ∷ []; outs = outs; moves = no_moves } in
     let counted = counts_call (call_outcome x answer) (length (after x answer).entries) next in
     ap (λ z. total k next x ++ z) (swap_cond (s == k) counted text) ∙ moves k next x answer refl
 
@@ -360,12 +388,14 @@ step terms w (world.Send One s text) Two k next = append-nil (total k next w.two
 step terms w (world.Send Two s text) One k next = append-nil (total k next w.one)
 step terms w (world.Tick One now) One k next =
     append-nil (total k next w.one)
-    ∙ quiet-moves k next (with_clock w.one now) (Calls.tick terms (records w.one) (end_of terms w.one.entries) now)
-    (tick-quiet terms (records w.one) (end_of terms w.one.entries) now)
+    ∙ quiet-moves k next (with_clock w.one now)
+    (Calls.tick terms (records w.one) (end_of terms w.one.entries) now w.one.time w.one.waits)
+    (tick-quiet terms (records w.one) (end_of terms w.one.entries) now w.one.time w.one.waits)
 step terms w (world.Tick Two now) Two k next =
     append-nil (total k next w.two)
-    ∙ quiet-moves k next (with_clock w.two now) (Calls.tick terms (records w.two) (end_of terms w.two.entries) now)
-    (tick-quiet terms (records w.two) (end_of terms w.two.entries) now)
+    ∙ quiet-moves k next (with_clock w.two now)
+    (Calls.tick terms (records w.two) (end_of terms w.two.entries) now w.two.time w.two.waits)
+    (tick-quiet terms (records w.two) (end_of terms w.two.entries) now w.two.time w.two.waits)
 step terms w (world.Tick One now) Two k next = append-nil (total k next w.two)
 step terms w (world.Tick Two now) One k next = append-nil (total k next w.one)
 step terms w (world.Deliver i) n k next = by_packet (numbered w.packets i)
@@ -385,6 +415,13 @@ step terms w (world.End side s) n k next =
     let x = node w side in
     quiet-call terms w side n false (Calls.end terms (records x) (end_of terms x.entries) s) k next
     (end-quiet terms (records x) (end_of terms x.entries) s)
+step terms w (world.Ask side s) n k next =
+    let x = node w side in
+    quiet-call terms w side n false (Calls.ask_ack (records x) s) k next (ask_ack-quiet (records x) s)
+step terms w (world.Nack side s) n k next =
+    let x = node w side in
+    quiet-call terms w side n false (Calls.nack_missing (records x) s x.clock) k next
+    (nack_missing-quiet (records x) s x.clock)
 step terms w (world.Arm One c) One k next = append-nil (total k next w.one)
 step terms w (world.Arm Two c) Two k next = append-nil (total k next w.two)
 step terms w (world.Arm One c) Two k next = append-nil (total k next w.two)

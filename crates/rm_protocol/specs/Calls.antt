@@ -1,5 +1,6 @@
 -- What a call of a node comes to: the records that it adds, and what it says then.
-use Rattle.std.specs.Prelude.{ℕ, ◌+◌, ◌&&◌, not, nat_le, nat_lt, Bool, true, false, if◌then◌else◌, List, [], ◌∷◌}
+use Rattle.std.specs.Prelude.{ℕ, zero, suc, ◌+◌, ◌-◌, ◌&&◌, max, take, filter, not, nat_le, nat_lt, Bool, true, false}
+use Rattle.std.specs.Prelude.{if◌then◌else◌, List, [], ◌∷◌}
 use Rattle.std.specs.Prelude.{◌++◌, length, Option, Some, None, Result, Ok, Err}
 use Rattle.std.specs.Option.{option_to_list}
 use Rattle.rm_base.specs.Limits as limits
@@ -22,16 +23,23 @@ use Rattle.record_batch.specs.Fact.{Fact, Creating, Accepted, Closing, Closed, E
 use Rattle.sequence_table.specs.Words.{Text}
 use Rattle.sequence_table.specs.Idents.{issue}
 use Rattle.sequence_table.specs.Makers.{Maker, Outgoing, Taken, makers, maker, counter, number}
-use Rattle.sequence_table.specs.Sources.{accepted, phase, unacked, all_unacked}
+use Rattle.sequence_table.specs.Sources.{accepted, out_ident, phase, unacked, all_unacked}
+use Rattle.rm_base.specs.NumberSet.{has_number}
 use Rattle.rm_destination.specs.Incoming.{is_past}
-use Rattle.sequence_table.specs.Destinations.{has_end, is_over, deadline_of}
-use Rattle.sequence_table.specs.Find.{incoming_of, find_incoming, acks_to}
+use Rattle.sequence_table.specs.Destinations.{held, has_end, is_over, deadline_of}
+use Rattle.sequence_table.specs.Find.{incoming_of, find_incoming, acks_to, peer}
 use Rattle.rm_protocol.specs.Addresses.{fault_endpoint}
-use Rattle.rm_protocol.specs.Messages.{data_at, request_at, block_of}
+use Rattle.rm_protocol.specs.Messages.{data_at, request_at, block_of, ask_message, ranges_onto}
 use Rattle.rm_protocol.specs.Rows.{rows}
 use Rattle.rm_protocol.specs.Said.{said, ack_to, own_messages}
 use Rattle.rm_protocol.specs.Terms.{Terms}
 use Rattle.rm_protocol.specs.Verdict.{verdict, target, is_invalid, has_room}
+use Rattle.rm_protocol.specs.Waiting.{Moves, no_moves, nacked, numbers_from}
+use Rattle.rm_timers.specs.declared.timers.Key.{Key}
+use Rattle.key_timers.specs.Waits.{Wait, first_due}
+use Rattle.ack_ranges.specs.Ranges.{greatest_of}
+use Rattle.wsa_headers.specs.declared.endpoint.Epr.{Epr}
+use Rattle.rm_elements.specs.declared.header.AckKind.TheVariants as kind
 
 -- why a call is refused, in the order in which it is tested
 pub data Cause : Type 0 where
@@ -52,19 +60,25 @@ pub data Outcome : Type 0 where
   Refused : (cause : Cause) → Outcome
   Judged : (fault : FaultKind) → Outcome
 
--- what a call comes to: whether it was done, the records that it adds, and all that is said then
+-- what a call comes to: whether it was done, the records that it adds, all that is said then, and which keys it moves
+-- besides those that these records begin and end
 pub record Answer : Type 0 where
   pub outcome : Outcome
   pub delta : List Fact
   pub outs : List Message
+  pub moves : Moves
 
 -- a call that is refused adds nothing and says nothing
 abbrev pub refusal : Cause → Answer
-refusal cause = record { outcome = Refused cause; delta = []; outs = [] }
+refusal cause = record { outcome = Refused cause; delta = []; outs = []; moves = no_moves }
+
+-- the records are added, this is said when they are there, and keys are moved
+abbrev pub adds_and_moves : List Fact → List Fact → Moves → (List Fact → List Message) → Answer
+adds_and_moves r delta moves outs = record { outcome = Done; delta = delta; outs = outs (r ++ delta); moves = moves }
 
 -- the records are added, and this is said when they are there
 abbrev pub adds : List Fact → List Fact → (List Fact → List Message) → Answer
-adds r delta outs = record { outcome = Done; delta = delta; outs = outs (r ++ delta) }
+adds r delta outs = adds_and_moves r delta no_moves outs
 
 -- a batch that doesn't fit the store is refused
 abbrev pub if_room : Terms → ℕ → Answer → Answer
@@ -188,11 +202,78 @@ expired_from r now k (m ∷ ms) =
     then Ended (k + 1) Expired 0 ∷ expired_from r now (k + 1) ms
     else expired_from r now (k + 1) ms
 
--- tick: they are ended in one batch, where it fits the store
-abbrev pub tick : Terms → List Fact → ℕ → ℕ → Answer
-tick terms r end now =
-    if has_room terms end (expired_from r now 0 (makers r)) then adds r (expired_from r now 0 (makers r)) (λ after. [])
-    else adds r [] (λ after. [])
+-- the message that a key is emitted as: number 0 stands for the request of its sequence
+abbrev pub message_at : List Fact → ℕ → ℕ → Option Message
+message_at r s zero = request_at r s
+message_at r s (suc i) = data_at r s (suc i)
+
+-- of keys, in order
+abbrev pub messages_at : List Fact → List Key → List Message
+messages_at r [] = []
+messages_at r (k ∷ keys) = option_to_list (message_at r k.seq k.number) ++ messages_at r keys
+
+-- tick: they are ended in one batch, where it fits the store, and the first 64 keys that are due are emitted, at the
+-- moment of the tick or at the node's time where that is later
+abbrev pub ticked : List Fact → ℕ → List Key → List Fact → Answer
+ticked r now keys delta =
+    adds_and_moves r delta (record { urged = []; emitted = keys; time = now }) (λ after. messages_at after keys)
+
+-- tick, at which these keys are emitted
+abbrev pub tick_with : Terms → List Fact → ℕ → ℕ → List Key → Answer
+tick_with terms r end now keys =
+    if has_room terms end (expired_from r now 0 (makers r))
+    then ticked r now keys (expired_from r now 0 (makers r))
+    else ticked r now keys []
+
+-- tick, of a node with this time, at which these wait
+abbrev pub tick : Terms → List Fact → ℕ → ℕ → ℕ → List Wait → Answer
+tick terms r end now time waits = tick_with terms r end now (first_due (max time now) waits)
+
+-- ask_ack, in phase Open, Closing or Closed: the peer is asked for an acknowledgement
+abbrev pub ask_to : Option Epr → Option Text → List Message
+ask_to (Some to) (Some q) = ask_message to q ∷ []
+ask_to _ _ = []
+
+-- of an outgoing sequence
+abbrev pub ask_out : List Fact → ℕ → Answer
+ask_out r s =
+    if may_end (phase r s) then adds r [] (λ after. ask_to (peer after s) (out_ident after s))
+    else refusal NotOpen
+
+-- ask_ack, of any sequence
+abbrev pub ask_ack : List Fact → ℕ → Answer
+ask_ack r s = on_outgoing (maker r s) (ask_out r s)
+
+-- a call for an incoming sequence
+abbrev pub on_incoming : Option Maker → Answer → Answer
+on_incoming None answer = refusal NoSequence
+on_incoming (Some (Outgoing ticket to via lapse)) answer = refusal WrongSide
+on_incoming (Some (Taken message_id ident endpoint)) answer = refusal WrongSide
+on_incoming (Some _) answer = answer
+
+-- the first 64 numbers below the greatest that were not received
+abbrev pub missing_of : List Fact → ℕ → List ℕ
+missing_of r s = take 64 (filter (λ n. not (has_number (held r s) n))
+    (numbers_from 1 (greatest_of (ranges_onto [] (held r s)) - 1)))
+
+-- the Nack of numbers, where there are any: WS-ReliableMessaging 1.2, section 3.9
+abbrev pub nack_to : Option Epr → Text → List ℕ → List Message
+nack_to to q [] = []
+nack_to to q (n ∷ ns) = own_messages (ack_to to (record { ident = q; kind = kind.Nack (n ∷ ns); last = false }))
+
+-- of an incoming sequence that was made for a message
+abbrev pub nack_by : List Fact → ℕ → Option (ℕ × Text) → List Message
+nack_by r s None = []
+nack_by r s (Some made) = nack_to (acks_to r s) (issue (number r) made.0) (missing_of r s)
+
+-- where it is open
+abbrev pub nack_in : List Fact → ℕ → ℕ → Answer
+nack_in r s now =
+    if is_over r s now then refusal NotOpen else adds r [] (λ after. nack_by after s (made_by after (maker after s)))
+
+-- nack_missing, of any sequence
+abbrev pub nack_missing : List Fact → ℕ → ℕ → Answer
+nack_missing r s now = on_incoming (maker r s) (nack_in r s now)
 
 -- the block that a fault carries or repeats: the final acknowledgement of the closed sequence, or the first refused
 -- block
@@ -236,11 +317,18 @@ refusal_of m kind = record {
 -- a message with a verdict gets its fault, and one without the rows of the receiving table
 abbrev pub judged : Terms → List Fact → ℕ → Behaviour → Message → Option FaultKind → Answer
 judged terms r now behaviour m (Some kind) =
-    record { outcome = Judged kind; delta = []; outs = terms.fault (refusal_of m kind) (fault_block r now m kind) ∷ [] }
-judged terms r now behaviour m None = adds r (rows terms now behaviour m r) (λ after. said after now m)
+    record {
+      outcome = Judged kind;
+      delta = [];
+      outs = terms.fault (refusal_of m kind) (fault_block r now m kind) ∷ [];
+      moves = no_moves;
+    }
+judged terms r now behaviour m None =
+    adds_and_moves r (rows terms now behaviour m r) (record { urged = nacked r m.acks; emitted = []; time = 0 })
+    (λ after. said after now m)
 
 -- receive: a message, or the refusal of bytes that are none
 abbrev pub receive : Terms → List Fact → ℕ → ℕ → Behaviour → Result Message Refusal → Answer
 receive terms r end now behaviour (Ok m) = judged terms r now behaviour m (verdict terms r end now behaviour m)
 receive terms r end now behaviour (Err refusal) =
-    record { outcome = Judged refusal.kind; delta = []; outs = terms.fault refusal None ∷ [] }
+    record { outcome = Judged refusal.kind; delta = []; outs = terms.fault refusal None ∷ []; moves = no_moves }

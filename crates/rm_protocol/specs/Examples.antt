@@ -1,5 +1,7 @@
 -- Terms that meet what is asked of them, and scripts with them.
-use Rattle.std.specs.Prelude.{ℕ, ◌+◌, ◌==◌, if◌then◌else◌, true, false, List, [], ◌∷◌, codes, Option, Some, None, Ok}
+use Rattle.std.specs.Prelude.{ℕ, ◌+◌, ◌==◌, if◌then◌else◌, Bool, true, false, List, [], ◌∷◌, codes, Option, Some, None}
+use Rattle.std.specs.Prelude.{Ok}
+use Rattle.std.specs.Prelude.{map, take}
 use Rattle.rm_base.specs.declared.message.Behaviour.TheVariants.{EntireSequence, FollowingFirstGap}
 use Rattle.rm_elements.specs.declared.header.AckBlock.{AckBlock}
 use Rattle.rm_base.specs.declared.lapse.Lapse.{Lapse}
@@ -12,7 +14,8 @@ use Rattle.sequence_table.specs.Makers.{counter}
 use Rattle.rm_protocol.specs.Addresses.{rm_action}
 use Rattle.rm_protocol.specs.Messages.{never, plain}
 use Rattle.rm_protocol.specs.Terms.{Terms, header_blocks}
-use Rattle.rm_protocol.specs.World.{World, One, Two, Event, Create, Grant, Send, Deliver, End, Tick, Close, Arm}
+use Rattle.rm_protocol.specs.World.{World, One, Two, Event, Create, Grant, Send, Deliver, End, Tick, Close, Ask, Nack}
+use Rattle.rm_protocol.specs.World.{Arm}
 use Rattle.rm_protocol.specs.World.{Crash, run, start}
 
 -- a duration without months ends that many milliseconds later
@@ -89,3 +92,27 @@ abbrev pub with_an_expiry : List Event
 with_an_expiry =
     Tick Two 100 ∷ Create One Direct (record { months = 0; ms = 50 }) None ∷ Deliver 1 ∷ Deliver 2 ∷ Send One 1 (1 ∷ [])
     ∷ Send One 1 (2 ∷ []) ∷ Tick Two 149 ∷ Deliver 3 ∷ Tick Two 150 ∷ Deliver 4 ∷ []
+
+-- a message that nobody acknowledges, and then ticks at these moments
+abbrev pub with_ticks : List ℕ → List Event
+with_ticks moments = opening (Send One 1 (1 ∷ []) ∷ map (Tick One) moments)
+
+-- of three messages the second is lost, and its number is asked for; so many lines from the Nack on
+abbrev pub with_a_nack : ℕ → List Event
+with_a_nack lines =
+    opening (Send One 1 (1 ∷ []) ∷ Send One 1 (2 ∷ []) ∷ Send One 1 (3 ∷ []) ∷ Deliver 3 ∷ Deliver 5
+    ∷ take lines (Nack Two 1 ∷ Deliver 8 ∷ Tick One 0 ∷ Deliver 9 ∷ []))
+
+-- an acknowledgement is asked for where nothing was sent
+abbrev pub with_an_ask : List Event
+with_an_ask = opening (Ask One 1 ∷ Deliver 3 ∷ [])
+
+-- a crash of node 2 inside the call that takes the second message; node 1 sends both again, and the second arrives
+abbrev pub with_both_again : Bool → List Event
+with_both_again kept =
+    opening (Send One 1 (1 ∷ []) ∷ Send One 1 (2 ∷ []) ∷ Deliver 3 ∷ Arm Two 3 ∷ Deliver 4 ∷ Crash Two kept
+    ∷ Tick One 2000 ∷ Deliver 7 ∷ [])
+
+-- node 1 crashes inside the call that accepts a message, which is there then, and is sent at once
+abbrev pub with_a_crash_of_the_source : List Event
+with_a_crash_of_the_source = opening (Arm One 4 ∷ Send One 1 (1 ∷ []) ∷ Crash One true ∷ Tick One 0 ∷ [])

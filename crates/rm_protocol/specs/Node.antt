@@ -1,5 +1,6 @@
 -- A node on its disk: its entries, and what stands besides where it is down.
-use Rattle.std.specs.Prelude.{ℕ, zero, ◌+◌, ◌-◌, nat_le, Bool, true, false, if◌then◌else◌, List, [], ◌∷◌, ◌++◌, Option}
+use Rattle.std.specs.Prelude.{ℕ, zero, ◌+◌, ◌-◌, max, nat_le, Bool, true, false, if◌then◌else◌, List, [], ◌∷◌, ◌++◌}
+use Rattle.std.specs.Prelude.{Option}
 use Rattle.std.specs.Prelude.{Some, None}
 use Rattle.std.specs.List.{flat_map}
 use Rattle.rm_base.specs.declared.message.Behaviour.{Behaviour}
@@ -7,6 +8,8 @@ use Rattle.rm_message.specs.declared.message.Message.{Message}
 use Rattle.record_batch.specs.Fact.{Fact}
 use Rattle.rm_protocol.specs.Calls.{Answer, Outcome}
 use Rattle.rm_protocol.specs.Terms.{Terms}
+use Rattle.rm_protocol.specs.Waiting.{mounted_waits, waits_after}
+use Rattle.key_timers.specs.Waits.{Wait}
 
 -- a node is up, or the call that failed was writing a batch
 pub data State : Type 0 where
@@ -14,7 +17,8 @@ pub data State : Type 0 where
   Writing : (delta : List Fact) → State
 
 -- entries: the batches on its disk. whole: all records that it ever had. fuse: the device calls up to the one that
--- fails. granted: what it announces for sequences from now on. clock: the moment that its calls are given
+-- fails. granted: what it announces for sequences from now on. clock: the moment that its calls are given. waits: the
+-- keys that wait to be emitted, in the order of the last move. time: the greatest moment of a tick since it was mounted
 pub record Node : Type 0 where
   pub entries : List (List Fact)
   pub whole : List Fact
@@ -22,6 +26,8 @@ pub record Node : Type 0 where
   pub state : State
   pub granted : Behaviour
   pub clock : ℕ
+  pub waits : List Wait
+  pub time : ℕ
 
 -- the records of batches, one behind the other
 abbrev pub records_in : List (List Fact) → List Fact
@@ -61,13 +67,15 @@ abbrev pub whole_left : State → Bool → List Fact → List Fact
 whole_left (Writing delta) true whole = whole ++ delta
 whole_left _ kept whole = whole
 
--- a node that crashed and was mounted again
+-- a node that crashed and was mounted again: all that waits is due at once, and the time begins anew
 abbrev pub mounted : Node → Bool → Node
 mounted x kept = record x {
   entries = entries_left x.state kept x.entries;
   whole = whole_left x.state kept x.whole;
   fuse = None;
   state = Up;
+  waits = mounted_waits (records_in (entries_left x.state kept x.entries));
+  time = 0;
 }
 
 -- a node whose batch was written
@@ -84,9 +92,16 @@ abbrev pub written : Node → List Fact → Node
 written x [] = x
 written x (rec ∷ delta) = if is_short 4 x.fuse then goes_down x (rec ∷ delta) else with_batch x (rec ∷ delta)
 
--- a node after a call, by its state
+-- a node whose keys moved with an answer
+abbrev pub with_moves : Node → Answer → Node → Node
+with_moves x answer y = record y {
+  waits = waits_after (records x) answer.delta answer.moves (max x.time answer.moves.time) x.waits;
+  time = max x.time answer.moves.time;
+}
+
+-- a node after a call, by its state; what waits at a node that goes down is told anew when it is mounted
 abbrev pub after_by : Node → State → Answer → Node
-after_by x Up answer = written x answer.delta
+after_by x Up answer = with_moves x answer (written x answer.delta)
 after_by x _ answer = x
 
 -- a node after a call

@@ -5,12 +5,12 @@ use Rattle.rm_base.specs.Numbered.{numbered}
 use Rattle.record_batch.specs.Fact.{Fact}
 use Rattle.sequence_table.specs.Words.{Text}
 use Rattle.sequence_table.specs.Sources.{accepted}
-use Rattle.rm_protocol.specs.Calls.{Done, create, send, close, end, tick}
+use Rattle.rm_protocol.specs.Calls.{Done, create, send, close, end, tick, ask_ack, nack_missing}
 use Rattle.rm_protocol.specs.Node.{Node, State, Up, Writing, records, end_of, CallOutcome, Answered, DiskFault}
 use Rattle.rm_protocol.specs.Node.{call_outcome}
 use Rattle.rm_protocol.specs.Terms.{Terms}
 use Rattle.rm_protocol.specs.World.{World, Packet, Side, One, Two, other, node, Event, Create, Send, Tick, Deliver}
-use Rattle.rm_protocol.specs.World.{Close, End, Crash, Noise, wish_of, received_by, happens, run, start}
+use Rattle.rm_protocol.specs.World.{Close, End, Ask, Nack, Crash, Noise, wish_of, received_by, happens, run, start}
 
 -- how a line comes out: as its call, or without one
 pub data LineOutcome : Type 0 where
@@ -32,12 +32,16 @@ outcome_of terms w (Send side seq text) =
     Called (call_outcome (node w side)
     (send terms (records (node w side)) (end_of terms (node w side).entries) seq text))
 outcome_of terms w (Tick side now) =
-    Called (call_outcome (node w side) (tick terms (records (node w side)) (end_of terms (node w side).entries) now))
+    Called (call_outcome (node w side) (tick terms (records (node w side)) (end_of terms (node w side).entries) now
+    (node w side).time (node w side).waits))
 outcome_of terms w (Deliver k) = arrival_outcome terms w (numbered w.packets k)
 outcome_of terms w (Close side seq) = Called (call_outcome (node w side)
     (close terms (records (node w side)) (end_of terms (node w side).entries) seq (node w side).clock))
 outcome_of terms w (End side seq) =
     Called (call_outcome (node w side) (end terms (records (node w side)) (end_of terms (node w side).entries) seq))
+outcome_of terms w (Ask side seq) = Called (call_outcome (node w side) (ask_ack (records (node w side)) seq))
+outcome_of terms w (Nack side seq) =
+    Called (call_outcome (node w side) (nack_missing (records (node w side)) seq (node w side).clock))
 outcome_of terms w (Noise side refusal) =
     Called (call_outcome (node w side) (received_by terms (node w side) (Err refusal)))
 outcome_of terms w _ = NoCall

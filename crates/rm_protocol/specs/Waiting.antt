@@ -1,17 +1,21 @@
 -- Which messages and requests wait to be emitted, by the records of a node, and what a call makes of those that wait.
 -- WS-ReliableMessaging 1.2, sections 2.4, 3.4 to 3.6 and 3.9.
 use Rattle.std.specs.Prelude.{ℕ, zero, suc, ◌+◌, ◌&&◌, not, nat_le, Bool, true, false, List, []}
-use Rattle.std.specs.Prelude.{◌∷◌, ◌++◌, filter, length, map, Option, Some}
+use Rattle.std.specs.Prelude.{◌∷◌, ◌++◌, filter, length, map, Option, Some, None}
 use Rattle.ack_ranges.specs.Ranges.{in_ranges}
 use Rattle.rm_source.specs.declared.phase.OutPhase.{OutPhase}
 use Rattle.rm_source.specs.declared.phase.OutPhase.TheVariants as out
 use Rattle.rm_timers.specs.declared.timers.Key.{Key}
 use Rattle.key_timers.specs.Waits.{Wait, fresh, begin_all, urge_all, send_all}
+use Rattle.rm_elements.specs.declared.header.AckBlock.{AckBlock}
+use Rattle.rm_elements.specs.declared.header.AckKind.{AckKind}
+use Rattle.rm_elements.specs.declared.header.AckKind.TheVariants as kind
 use Rattle.record_batch.specs.Fact.{Fact, Creating, Accepted, Closing, Ending}
 use Rattle.sequence_table.specs.Makers.{Maker, Outgoing, Taken, makers, maker}
 use Rattle.rm_source.specs.Outgoing.{Sending}
 use Rattle.sequence_table.specs.Sources.{accepted, is_sending}
 use Rattle.sequence_table.specs.Told.{sending}
+use Rattle.sequence_table.specs.Find.{find_outgoing}
 
 -- the key of a message, or with number 0 of the request of its sequence
 abbrev pub key : ℕ → ℕ → Key
@@ -103,3 +107,18 @@ abbrev pub waits_after : List Fact → List Fact → Moves → ℕ → List Wait
 waits_after r delta moves time waits =
     send_all time (begun_by r delta ++ moves.emitted)
     (urge_all moves.urged (begin_all (begun_by r delta) (still (r ++ delta) waits)))
+
+-- the numbers that a block says are missing
+abbrev pub nacked_of : AckKind → List ℕ
+nacked_of (kind.Nack numbers) = numbers
+nacked_of _ = []
+
+-- their keys, where the block is of an outgoing sequence
+abbrev pub nacked_at : Option ℕ → List ℕ → List Key
+nacked_at None numbers = []
+nacked_at (Some s) numbers = map (key s) numbers
+
+-- the keys that blocks say are missing, in order
+abbrev pub nacked : List Fact → List AckBlock → List Key
+nacked r [] = []
+nacked r (block ∷ blocks) = nacked_at (find_outgoing r block.ident) (nacked_of block.kind) ++ nacked r blocks

@@ -10,7 +10,7 @@ use Rattle.rm_message.specs.declared.refusal.Refusal.{Refusal}
 use Rattle.record_batch.specs.declared.record.Via.{Via}
 use Rattle.record_batch.specs.Fact.{Made}
 use Rattle.sequence_table.specs.Words.{Text}
-use Rattle.rm_protocol.specs.Calls.{Answer, Wish, create, send, close, end, tick, receive}
+use Rattle.rm_protocol.specs.Calls.{Answer, Wish, create, send, close, end, tick, receive, ask_ack, nack_missing}
 use Rattle.rm_protocol.specs.Node.{Node, State, Up, records, end_of, armed, mounted, after, said_after}
 use Rattle.rm_protocol.specs.Said.{sent_of}
 use Rattle.rm_protocol.specs.Terms.{Terms}
@@ -63,6 +63,8 @@ pub data Event : Type 0 where
   Deliver : (packet : ℕ) → Event
   Close : Side → (seq : ℕ) → Event
   End : Side → (seq : ℕ) → Event
+  Ask : Side → (seq : ℕ) → Event
+  Nack : Side → (seq : ℕ) → Event
   Arm : Side → (calls : ℕ) → Event
   Crash : Side → (kept : Bool) → Event
   Noise : Side → Refusal → Event
@@ -125,13 +127,16 @@ happens terms w (Send side seq text) =
     calls terms w side false (send terms (records (node w side)) (end_of terms (node w side).entries) seq text)
 happens terms w (Tick side now) =
     calls terms (with_node w side (with_clock (node w side) now)) side false
-    (tick terms (records (node w side)) (end_of terms (node w side).entries) now)
+    (tick terms (records (node w side)) (end_of terms (node w side).entries) now (node w side).time (node w side).waits)
 happens terms w (Deliver k) = arrives terms w (numbered w.packets k)
 happens terms w (Close side seq) =
     calls terms w side false (close terms (records (node w side)) (end_of terms (node w side).entries) seq
     (node w side).clock)
 happens terms w (End side seq) =
     calls terms w side false (end terms (records (node w side)) (end_of terms (node w side).entries) seq)
+happens terms w (Ask side seq) = calls terms w side false (ask_ack (records (node w side)) seq)
+happens terms w (Nack side seq) =
+    calls terms w side false (nack_missing (records (node w side)) seq (node w side).clock)
 happens terms w (Arm side c) = with_node w side (record (node w side) { fuse = armed c (node w side).fuse })
 happens terms w (Crash side kept) = with_node w side (mounted (node w side) kept)
 happens terms w (Noise side refusal) = calls terms w side true (received_by terms (node w side) (Err refusal))
@@ -150,6 +155,8 @@ made number address = record {
   state = Up;
   granted = FollowingFirstGap;
   clock = 0;
+  waits = [];
+  time = 0;
 }
 
 -- two nodes that were just made, with the numbers 1 and 2

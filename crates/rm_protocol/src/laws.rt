@@ -1,6 +1,6 @@
 //! Laws of the protocol.
 ghost use Rattle.std.specs.Prelude.{◌≡◌, ℕ, ◌+◌, ◌++◌, ◌∷◌, [], Bool, Err, List, Some, length};
-ghost use Rattle.std.specs.Prelude.{slice_get, take};
+ghost use Rattle.std.specs.Prelude.{slice_get, take, true, false};
 ghost use Rattle.rm_base.specs.Numbered.{numbered};
 ghost use Rattle.rm_message.specs.declared.refusal.Refusal.{Refusal};
 ghost use Rattle.record_batch.specs.Fact.{Fact};
@@ -8,6 +8,8 @@ ghost use Rattle.rm_protocol.specs.Delivered.{TakesNew};
 ghost use Rattle.rm_protocol.specs.Exact.{AckedWereAccepted, IsExactAtFirst, OthersWaitOn, RecordBegins, StaysExact};
 ghost use Rattle.rm_protocol.specs.Exact.{WhatBeginsWaits};
 ghost use Rattle.rm_protocol.specs.Examples.{with_a_close, with_an_end, with_an_expiry, example_terms, in_order};
+ghost use Rattle.rm_protocol.specs.Examples.{with_ticks, with_a_nack, with_an_ask, with_both_again};
+ghost use Rattle.rm_protocol.specs.Examples.{with_a_crash_of_the_source};
 ghost use Rattle.rm_protocol.specs.Examples.{played, with_a_crash, with_a_gap, with_an_offer};
 ghost use Rattle.rm_protocol.specs.Next.{EachMayComeNext};
 ghost use Rattle.rm_protocol.specs.Node.{records};
@@ -183,6 +185,46 @@ pub fn a_sequence_expires()
     ensures two { length (played with_an_expiry).two.entries ≡ 4 }
     ensures packets { length (played with_an_expiry).packets ≡ 6 }
     ensures inbox { texts (inbox (records (played with_an_expiry).two) 1) ≡ (1 ∷ []) ∷ [] }
+{}
+
+/// A message that is not acknowledged is sent again 2000 milliseconds later, and then 4000 later, and not before.
+pub fn a_message_is_sent_again()
+    ensures at_first { length (played (with_ticks [])).packets ≡ 3 }
+    ensures before { length (played (with_ticks (1999 ∷ []))).packets ≡ 3 }
+    ensures then { length (played (with_ticks (1999 ∷ 2000 ∷ []))).packets ≡ 4 }
+    ensures still { length (played (with_ticks (1999 ∷ 2000 ∷ 5999 ∷ []))).packets ≡ 4 }
+    ensures again { length (played (with_ticks (1999 ∷ 2000 ∷ 5999 ∷ 6000 ∷ []))).packets ≡ 5 }
+{}
+
+/// A message that is missing is sent again at the next tick.
+pub fn what_is_missing_is_sent_again()
+    ensures nack { length (played (with_a_nack 1)).packets ≡ 8 }
+    ensures delivered { length (played (with_a_nack 2)).packets ≡ 8 }
+    ensures ticked { length (played (with_a_nack 3)).packets ≡ 9 }
+    ensures arrived { length (played (with_a_nack 4)).packets ≡ 10 }
+    ensures two { length (played (with_a_nack 4)).two.entries ≡ 5 }
+    ensures inbox { texts (inbox (records (played (with_a_nack 4)).two) 1) ≡ (1 ∷ []) ∷ (2 ∷ []) ∷ (3 ∷ []) ∷ [] }
+{}
+
+/// A request for an acknowledgement gets one.
+pub fn an_acknowledgement_is_asked_for()
+    ensures one { length (played with_an_ask).one.entries ≡ 3 }
+    ensures two { length (played with_an_ask).two.entries ≡ 2 }
+    ensures packets { length (played with_an_ask).packets ≡ 4 }
+{}
+
+/// After a crash of the destination both messages are sent again, and the second is taken, or was.
+pub fn a_crash_is_made_good()
+    ensures lost { length (played (with_both_again false)).two.entries ≡ 4 }
+    ensures kept { length (played (with_both_again true)).two.entries ≡ 4 }
+    ensures packets { length (played (with_both_again false)).packets ≡ 8 }
+    ensures inbox { texts (inbox (records (played (with_both_again true)).two) 1) ≡ (1 ∷ []) ∷ (2 ∷ []) ∷ [] }
+{}
+
+/// After a crash of the source a message that was written down and never sent is sent at the first tick.
+pub fn what_was_written_is_sent()
+    ensures one { length (played with_a_crash_of_the_source).one.entries ≡ 4 }
+    ensures packets { length (played with_a_crash_of_the_source).packets ≡ 3 }
 {}
 
 /// A key that waits after one more record waited before it, or begins with that record.

@@ -21,9 +21,8 @@ use Rattle.rm_protocol.specs.Calls.{Answer, Wish as Wished}
 use Rattle.rm_protocol.specs.Node.{Node, State, Up, Writing, outcome_by}
 use Rattle.rm_protocol.specs.Sent.{Called, arrival_outcome}
 use Rattle.rm_protocol.specs.Terms.{Terms}
-use Rattle.rm_protocol.specs.World.{Packet, Side, One, Two, World, Close, Create, Deliver, End, Noise, Send, Tick}
-use Rattle.rm_protocol.specs.World.{happens}
-use Rattle.rm_protocol.specs.World.{arrives, node, other, place, with_clock}
+use Rattle.rm_protocol.specs.World.{Packet, Side, One, Two, World, Ask, Close, Create, Deliver, End, Nack, Noise, Send}
+use Rattle.rm_protocol.specs.World.{Tick, arrives, happens, node, other, place, with_clock}
 use Rattle.rm_script.specs.declared.event.Event.TheVariants as said
 use Rattle.rm_script.specs.declared.event.Side.{Side as Place}
 use Rattle.sequence_table.specs.Words.{Text}
@@ -100,6 +99,28 @@ pub end_call : (terms : Terms) (w : World) (at : Place) (seq : ℕ)
     → IsCall terms w (said.End at seq) (End (side_of at) seq) (side_of at)
     (step_of terms (node w (side_of at)) (asks.End seq) (call.End seq))
 end_call terms w at seq = record {
+  means = refl;
+  quiet = λ side entries. refl;
+  at = refl;
+  moves = refl;
+  outcome = refl;
+}
+
+pub ask_call : (terms : Terms) (w : World) (at : Place) (seq : ℕ)
+    → IsCall terms w (said.Ask at seq) (Ask (side_of at) seq) (side_of at)
+    (step_of terms (node w (side_of at)) (asks.AskAck seq) (call.AskAck seq))
+ask_call terms w at seq = record {
+  means = refl;
+  quiet = λ side entries. refl;
+  at = refl;
+  moves = refl;
+  outcome = refl;
+}
+
+pub nack_call : (terms : Terms) (w : World) (at : Place) (seq : ℕ)
+    → IsCall terms w (said.Nack at seq) (Nack (side_of at) seq) (side_of at)
+    (step_of terms (node w (side_of at)) (asks.NackMissing seq) (call.NackMissing seq))
+nack_call terms w at seq = record {
   means = refl;
   quiet = λ side entries. refl;
   at = refl;

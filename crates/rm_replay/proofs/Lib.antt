@@ -12,6 +12,7 @@ mod CallLemmas
 mod StoryLemmas
 mod UnarmedLemmas
 mod AskLemmas
+mod GrantLemmas
 mod RunLemmas
 mod AddressLemmas
 mod CrashLemmas

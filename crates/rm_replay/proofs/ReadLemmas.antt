@@ -141,9 +141,15 @@ answer_read reads refuses each terms own x kept in_order asked (call.Close seq) 
 answer_read reads refuses each terms own x kept in_order asked (call.End seq) may is =
     subst (λ (a : Asked). AllByRecursion IsReadBack (answer_of terms x a).outs) (sym is)
     ((each terms (records x) (end_of terms x.entries) own kept).end_ seq)
+answer_read reads refuses each terms own x kept in_order asked (call.AskAck seq) may is =
+    subst (λ (a : Asked). AllByRecursion IsReadBack (answer_of terms x a).outs) (sym is)
+    ((each terms (records x) (end_of terms x.entries) own kept).ask_ack_ seq)
+answer_read reads refuses each terms own x kept in_order asked (call.NackMissing seq) may is =
+    subst (λ (a : Asked). AllByRecursion IsReadBack (answer_of terms x a).outs) (sym is)
+    ((each terms (records x) (end_of terms x.entries) own kept).nack_missing_ seq x.clock)
 answer_read reads refuses each terms own x kept in_order asked (call.Tick now) may is =
     subst (λ (a : Asked). AllByRecursion IsReadBack (answer_of terms x a).outs) (sym is)
-    ((each terms (records x) (end_of terms x.entries) own kept).tick_ now)
+    ((each terms (records x) (end_of terms x.entries) own kept).tick_ now x.time x.waits)
 answer_read reads refuses each terms own x kept in_order asked (call.Receive bytes) may is =
     subst (λ (a : Asked). AllByRecursion IsReadBack (answer_of terms x a).outs) (sym is.is)
     ((each terms (records x) (end_of terms x.entries) own kept).receive_ x.clock x.granted is.content in_order

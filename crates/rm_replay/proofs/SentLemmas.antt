@@ -201,6 +201,22 @@ rows_line terms w number (said.End at seq) event means =
       entries = entries_same terms w number _ _;
       sent = λ side seq now next. refl;
     }) finished)
+rows_line terms w number (said.Ask at seq) event means =
+    subst (HasRows terms w number (said.Ask at seq)) (sym means)
+    (has_row [] [] [] _ _ _ (record {
+      pairs = λ script rest. refl;
+      crash = λ side. refl;
+      entries = entries_same terms w number _ _;
+      sent = λ side seq now next. refl;
+    }) finished)
+rows_line terms w number (said.Nack at seq) event means =
+    subst (HasRows terms w number (said.Nack at seq)) (sym means)
+    (has_row [] [] [] _ _ _ (record {
+      pairs = λ script rest. refl;
+      crash = λ side. refl;
+      entries = entries_same terms w number _ _;
+      sent = λ side seq now next. refl;
+    }) finished)
 rows_line terms w number (said.Arm at calls) event means =
     subst (HasRows terms w number (said.Arm at calls)) (sym means)
     (has_row [] [] [] _ _ _ (record {

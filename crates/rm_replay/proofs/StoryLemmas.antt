@@ -8,10 +8,10 @@ use Rattle.rm_protocol.specs.Node.{Node, State, Up, Writing, armed, end_of, moun
 use Rattle.rm_protocol.specs.Said.{sent_of}
 use Rattle.rm_protocol.specs.Terms.{Terms}
 use Rattle.rm_protocol.specs.World.{Packet, Side, One, Two, World, Event, Create, Grant, Send, Tick, Deliver, Close}
-use Rattle.rm_protocol.specs.World.{End, Arm, Crash}
+use Rattle.rm_protocol.specs.World.{End, Ask, Nack, Arm, Crash}
 use Rattle.rm_protocol.specs.World.{Noise, arrives, calls, happens, node, other, received_by, sent, wish_of, with_clock}
 use Rattle.rm_protocol.specs.World.{with_node}
-use Rattle.rm_protocol.specs.Calls.{Answer, create, send, close, end, tick}
+use Rattle.rm_protocol.specs.Calls.{Answer, create, send, close, end, tick, ask_ack, nack_missing}
 use Rattle.rm_protocol.specs.Word.{IsPrefixOf}
 use Rattle.rm_base.specs.Numbered.{numbered}
 use Rattle.rm_disk.specs.Call.{Call}
@@ -156,7 +156,8 @@ packets_grow terms w (Send side seq text) =
     (send terms (records (node w side)) (end_of terms (node w side).entries) seq text)
 packets_grow terms w (Tick side now) =
     node_grows terms w side (with_clock (node w side) now) false
-    (tick terms (records (node w side)) (end_of terms (node w side).entries) now)
+    (tick terms (records (node w side)) (end_of terms (node w side).entries) now (node w side).time
+    (node w side).waits)
 packets_grow terms w (Deliver k) = arrives_grow terms w (numbered w.packets k)
 packets_grow terms w (Close side seq) =
     calls_grow terms w side false
@@ -164,6 +165,9 @@ packets_grow terms w (Close side seq) =
 packets_grow terms w (End side seq) =
     calls_grow terms w side false
     (end terms (records (node w side)) (end_of terms (node w side).entries) seq)
+packets_grow terms w (Ask side seq) = calls_grow terms w side false (ask_ack (records (node w side)) seq)
+packets_grow terms w (Nack side seq) =
+    calls_grow terms w side false (nack_missing (records (node w side)) seq (node w side).clock)
 packets_grow terms w (Arm side c) = still w side (record (node w side) { fuse = armed c (node w side).fuse })
 packets_grow terms w (Crash side kept) = still w side (mounted (node w side) kept)
 packets_grow terms w (Noise side refusal) =

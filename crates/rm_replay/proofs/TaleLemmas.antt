@@ -127,6 +127,8 @@ crashes_told side (said.Tick at now) entries old new pairs is left = inl (none_m
 crashes_told side (said.Deliver packet) entries old new pairs is left = inl (none_more _ _ pairs is left)
 crashes_told side (said.Close at seq) entries old new pairs is left = inl (none_more _ _ pairs is left)
 crashes_told side (said.End at seq) entries old new pairs is left = inl (none_more _ _ pairs is left)
+crashes_told side (said.Ask at seq) entries old new pairs is left = inl (none_more _ _ pairs is left)
+crashes_told side (said.Nack at seq) entries old new pairs is left = inl (none_more _ _ pairs is left)
 crashes_told side (said.Arm at calls) entries old new pairs is left = inl (none_more _ _ pairs is left)
 crashes_told side (said.Crash at choice) entries old new pairs is left =
     one_of side (side_of at) choice entries (crashes_of old.disk.past) (crashes_of new.disk.past) pairs is left

@@ -8,7 +8,7 @@ use Rattle.rm_disk.specs.Call.{crashes_of}
 use Rattle.rm_protocol.specs.Sent.{outcome_of, same_side}
 use Rattle.rm_protocol.specs.Terms.{Terms}
 use Rattle.rm_protocol.specs.World.{Packet, Side, World, Event, Create, Grant, Send, Tick, Deliver, Close, End, Arm}
-use Rattle.rm_protocol.specs.World.{Crash}
+use Rattle.rm_protocol.specs.World.{Ask, Nack, Crash}
 use Rattle.rm_protocol.specs.World.{Noise, node, other}
 use Rattle.rm_report.specs.declared.line.Outcome.{Outcome}
 use Rattle.rm_script.specs.declared.event.Event.{Event as Said}
@@ -50,6 +50,8 @@ node_of w (Tick side now) = Some side
 node_of w (Deliver k) = option_map receiver (numbered w.packets k)
 node_of w (Close side seq) = Some side
 node_of w (End side seq) = Some side
+node_of w (Ask side seq) = Some side
+node_of w (Nack side seq) = Some side
 node_of w (Arm side calls) = Some side
 node_of w (Crash side kept) = Some side
 node_of w (Noise side refusal) = Some side

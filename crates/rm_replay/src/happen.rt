@@ -283,6 +283,8 @@ pub(crate) fn happen<M: CrashDisk, W: Wire>(
         Event::Deliver { packet } => some(deliver(stage, nodes, packet)),
         Event::Close { node, seq } => some(call(stage, nodes, node, Call::Close { seq })),
         Event::End { node, seq } => some(call(stage, nodes, node, Call::End { seq })),
+        Event::Ask { node, seq } => some(call(stage, nodes, node, Call::AskAck { seq })),
+        Event::Nack { node, seq } => some(call(stage, nodes, node, Call::NackMissing { seq })),
         Event::Arm { node, calls } => {
             arm(&mut stage.one, &mut stage.two, nodes, node, calls);
             Ok(Some(Outcome::Done))

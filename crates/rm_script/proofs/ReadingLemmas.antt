@@ -14,10 +14,12 @@ use Rattle.rm_script.specs.Script.{side_text, spaced, IsExpiry, IsOffer, IsWish,
 use Rattle.rm_script.specs.Reading.{behind, word_of, behind_word, number_in, behaviour_in, node_in, call_in}
 use Rattle.rm_script.specs.Reading.{numbered_in, offer_in, create_with, create_behind, create_in, grant_in, text_in}
 use Rattle.rm_script.specs.Reading.{text_behind, send_in, tick_in, deliver_in, close_in, end_in, arm_in, crash_in}
+use Rattle.rm_script.specs.Reading.{ask_in, nack_in}
 use Rattle.rm_script.specs.Reading.{some_bytes, noise_in, choose, mishap_in, request_in, is_blank, event_in}
 use Rattle.rm_script.specs.declared.event.Side.{Side}
 use Rattle.rm_script.specs.declared.event.Event.{Event}
 use Rattle.rm_script.specs.declared.event.Event.TheVariants.{Nothing, Create, Grant, Send, Tick, Deliver, Close, End}
+use Rattle.rm_script.specs.declared.event.Event.TheVariants.{Ask, Nack}
 use Rattle.rm_script.specs.declared.event.Event.TheVariants.{Arm, Crash, Noise}
 use Rattle.rm_script.proofs.WordLemmas.{some_then, some_mapped, behind-is, word_of-onto, behind_word-onto}
 use Rattle.rm_script.proofs.WordLemmas.{word_of-behind, word_of-IsWord, number_in-decimal, number_in-is, decimal-IsWord}
@@ -99,6 +101,8 @@ event_in-said line (Deliver packet) h =
     rw (h.2, h.1.2, number_in-decimal 1 65536 packet (omega (arith, h.1.1)) h.1.0 h.1.1) refl
 event_in-said line (Close side seq) h = rw (h.2, numbered_in-text 1 256 seq side h.0 (omega arith) h.1) refl
 event_in-said line (End side seq) h = rw (h.2, numbered_in-text 1 256 seq side h.0 (omega arith) h.1) refl
+event_in-said line (Ask side seq) h = rw (h.2, numbered_in-text 1 256 seq side h.0 (omega arith) h.1) refl
+event_in-said line (Nack side seq) h = rw (h.2, numbered_in-text 1 256 seq side h.0 (omega arith) h.1) refl
 event_in-said line (Arm side calls) h = rw (h.2, numbered_in-text 1 1000 calls side h.0 (omega arith) h.1) refl
 event_in-said line (Crash side choice) h = rw (h.2, numbered_in-text 0 3 choice side h.0 (omega arith) h.1) refl
 event_in-said line (Noise side bytes) h =
@@ -211,6 +215,18 @@ end_in-is bytes event h =
     let n = numbered_in-is 1 256 bytes found.0 found.1 in
     subst (λ e. Says (codes "end " ++ bytes) e) found.2 (n.word, n.number, ap (λ l. codes "end " ++ l) n.text)
 
+ask_in-is : (bytes : List ℕ) (event : Event) → ask_in bytes ≡ Some event → Says (codes "ask " ++ bytes) event
+ask_in-is bytes event h =
+    let found = some_mapped _ (numbered_in 1 256 bytes) event h in
+    let n = numbered_in-is 1 256 bytes found.0 found.1 in
+    subst (λ e. Says (codes "ask " ++ bytes) e) found.2 (n.word, n.number, ap (λ l. codes "ask " ++ l) n.text)
+
+nack_in-is : (bytes : List ℕ) (event : Event) → nack_in bytes ≡ Some event → Says (codes "nack " ++ bytes) event
+nack_in-is bytes event h =
+    let found = some_mapped _ (numbered_in 1 256 bytes) event h in
+    let n = numbered_in-is 1 256 bytes found.0 found.1 in
+    subst (λ e. Says (codes "nack " ++ bytes) e) found.2 (n.word, n.number, ap (λ l. codes "nack " ++ l) n.text)
+
 arm_in-is : (bytes : List ℕ) (event : Event) → arm_in bytes ≡ Some event → Says (codes "arm " ++ bytes) event
 arm_in-is bytes event h =
     let found = some_mapped _ (numbered_in 1 1000 bytes) event h in
@@ -260,7 +276,9 @@ request_in-is line event =
     (said_by (codes "send ") line send_in _ event (λ rest. send_in-is rest event)
     (said_by (codes "tick ") line tick_in _ event (λ rest. tick_in-is rest event)
     (said_by (codes "close ") line close_in _ event (λ rest. close_in-is rest event)
-    (said_by (codes "end ") line end_in _ event (λ rest. end_in-is rest event) (mishap_in-is line event))))))
+    (said_by (codes "end ") line end_in _ event (λ rest. end_in-is rest event)
+    (said_by (codes "ask ") line ask_in _ event (λ rest. ask_in-is rest event)
+    (said_by (codes "nack ") line nack_in _ event (λ rest. nack_in-is rest event) (mishap_in-is line event))))))))
 
 -- a comment begins with #
 is_blank-Says : (line : List ℕ) → is_blank line ≡ true → Says line Nothing

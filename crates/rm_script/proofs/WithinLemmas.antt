@@ -15,6 +15,7 @@ use Rattle.rm_script.specs.Script.{IsBehaviour, IsExpiry, IsOffer, Says, IsScrip
 use Rattle.rm_script.specs.Within.{IsWithin}
 use Rattle.rm_script.specs.declared.event.Event.{Event}
 use Rattle.rm_script.specs.declared.event.Event.TheVariants.{Nothing, Create, Grant, Send, Tick, Deliver, Close, End}
+use Rattle.rm_script.specs.declared.event.Event.TheVariants.{Ask, Nack}
 use Rattle.rm_script.specs.declared.event.Event.TheVariants.{Arm, Crash, Noise}
 
 -- a duration is at least a millisecond, or none
@@ -71,6 +72,8 @@ Says-IsWithin line (Tick side now) h = h.1.1
 Says-IsWithin line (Deliver packet) h = (h.1.0, h.1.1)
 Says-IsWithin line (Close side seq) h = (h.1.0, h.1.1)
 Says-IsWithin line (End side seq) h = (h.1.0, h.1.1)
+Says-IsWithin line (Ask side seq) h = (h.1.0, h.1.1)
+Says-IsWithin line (Nack side seq) h = (h.1.0, h.1.1)
 Says-IsWithin line (Arm side calls) h = (h.1.0, h.1.1)
 Says-IsWithin line (Crash side choice) h = h.1.1
 Says-IsWithin line (Noise side bytes) h = h.1

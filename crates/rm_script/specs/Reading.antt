@@ -15,6 +15,7 @@ use Rattle.rm_script.specs.declared.event.Side.{Side}
 use Rattle.rm_script.specs.declared.event.Side.TheVariants.{One, Two}
 use Rattle.rm_script.specs.declared.event.Event.{Event}
 use Rattle.rm_script.specs.declared.event.Event.TheVariants.{Nothing, Create, Grant, Send, Tick, Deliver, Close, End}
+use Rattle.rm_script.specs.declared.event.Event.TheVariants.{Ask, Nack}
 use Rattle.rm_script.specs.declared.event.Event.TheVariants.{Arm, Crash, Noise}
 
 -- what stands behind a word at the front of bytes
@@ -126,6 +127,14 @@ close_in bytes = option_map (λ n. Close n.0 n.1) (numbered_in 1 limits.most_seq
 abbrev pub end_in : List ℕ → Option Event
 end_in bytes = option_map (λ n. End n.0 n.1) (numbered_in 1 limits.most_sequences bytes)
 
+-- ask N K
+abbrev pub ask_in : List ℕ → Option Event
+ask_in bytes = option_map (λ n. Ask n.0 n.1) (numbered_in 1 limits.most_sequences bytes)
+
+-- nack N K
+abbrev pub nack_in : List ℕ → Option Event
+nack_in bytes = option_map (λ n. Nack n.0 n.1) (numbered_in 1 limits.most_sequences bytes)
+
 -- arm N C
 abbrev pub arm_in : List ℕ → Option Event
 arm_in bytes = option_map (λ n. Arm n.0 n.1) (numbered_in 1 1000 bytes)
@@ -162,7 +171,8 @@ abbrev pub request_in : List ℕ → Option Event
 request_in line =
     choose (behind (codes "create ") line) create_in (choose (behind (codes "grant ") line) grant_in
     (choose (behind (codes "send ") line) send_in (choose (behind (codes "tick ") line) tick_in
-    (choose (behind (codes "close ") line) close_in (choose (behind (codes "end ") line) end_in (mishap_in line))))))
+    (choose (behind (codes "close ") line) close_in (choose (behind (codes "end ") line) end_in
+    (choose (behind (codes "ask ") line) ask_in (choose (behind (codes "nack ") line) nack_in (mishap_in line))))))))
 
 -- whether a line is empty, or a comment
 abbrev pub is_blank : List ℕ → Bool

@@ -6,6 +6,7 @@ use Rattle.rm_base.specs.declared.message.Behaviour.TheVariants.{NoDiscard}
 use Rattle.rm_elements.specs.Writable.{IsLapseWritable}
 use Rattle.rm_script.specs.declared.event.Event.{Event}
 use Rattle.rm_script.specs.declared.event.Event.TheVariants.{Nothing, Create, Grant, Send, Tick, Deliver, Close, End}
+use Rattle.rm_script.specs.declared.event.Event.TheVariants.{Ask, Nack}
 use Rattle.rm_script.specs.declared.event.Event.TheVariants.{Arm, Crash, Noise}
 
 -- from low to high
@@ -22,6 +23,8 @@ IsWithin (Tick side now) = now ≤ limits.now_max
 IsWithin (Deliver packet) = IsFromTo 1 limits.most_packets packet
 IsWithin (Close side seq) = IsFromTo 1 limits.most_sequences seq
 IsWithin (End side seq) = IsFromTo 1 limits.most_sequences seq
+IsWithin (Ask side seq) = IsFromTo 1 limits.most_sequences seq
+IsWithin (Nack side seq) = IsFromTo 1 limits.most_sequences seq
 IsWithin (Arm side calls) = IsFromTo 1 1000 calls
 IsWithin (Crash side choice) = choice ≤ 3
 IsWithin (Noise side bytes) = bytes ≢ []

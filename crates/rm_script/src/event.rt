@@ -51,6 +51,16 @@ pub enum Event {
         node: Side,
         seq: u32,
     },
+    /// The node asks its peer for an acknowledgement of an outgoing sequence.
+    Ask {
+        node: Side,
+        seq: u32,
+    },
+    /// The node asks its peer for the messages of an incoming sequence that it misses.
+    Nack {
+        node: Side,
+        seq: u32,
+    },
     /// The disk fails at the device call with this number from now on.
     Arm {
         node: Side,

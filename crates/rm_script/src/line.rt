@@ -11,6 +11,8 @@ ghost use Rattle.rm_script.specs.Reading.{
   deliver_in,
   close_in,
   end_in,
+  ask_in,
+  nack_in,
   arm_in,
   crash_in,
   noise_in,
@@ -74,6 +76,12 @@ fn request(alloc: Global, line: &[u8]) -> Result<Option<Event>, Memory>
     }
     if let Some(rest) = behind(line, b"end ") {
         return Ok(end(rest));
+    }
+    if let Some(rest) = behind(line, b"ask ") {
+        return Ok(ask(rest));
+    }
+    if let Some(rest) = behind(line, b"nack ") {
+        return Ok(nack(rest));
     }
     mishap(alloc, line)
 }
@@ -194,6 +202,26 @@ fn end(bytes: &[u8]) -> Option<Event>
 {
     let (node, seq) = numbered(bytes, 1, u64::from(MOST_SEQUENCES))?;
     Some(Event::End {
+        node,
+        seq: seq as u32,
+    })
+}
+
+fn ask(bytes: &[u8]) -> Option<Event>
+    ensures { result ≡ ask_in bytes.now }
+{
+    let (node, seq) = numbered(bytes, 1, u64::from(MOST_SEQUENCES))?;
+    Some(Event::Ask {
+        node,
+        seq: seq as u32,
+    })
+}
+
+fn nack(bytes: &[u8]) -> Option<Event>
+    ensures { result ≡ nack_in bytes.now }
+{
+    let (node, seq) = numbered(bytes, 1, u64::from(MOST_SEQUENCES))?;
+    Some(Event::Nack {
         node,
         seq: seq as u32,
     })

@@ -20,7 +20,8 @@ use Rattle.rm_node.specs.Asked.{Receive}
 use Rattle.rm_node.specs.Called.{Called, Does, Sleeps, answer_of}
 use Rattle.rm_node.specs.Came.{IsReadAs}
 use Rattle.rm_node.specs.Ends.{Ended, error_end, reaction_end}
-use Rattle.rm_node.specs.Noded.{Noded}
+use Rattle.rm_node.specs.Keeping.{Keeping, Keeps}
+use Rattle.rm_node.specs.Noded.{Noded, Runs}
 use Rattle.rm_node.specs.declared.error.NodeError.{NodeError}
 use Rattle.rm_node.specs.declared.error.NodeError.TheVariants as error
 use Rattle.rm_node.specs.declared.step.Reaction.{Reaction}
@@ -64,37 +65,43 @@ stays-wanting false tells x z answer way = record {
   told = λ t. (way.wrote.changes t).untouched refl refl;
 }
 
-never-refused : (down tells : Bool) (x z : Place) (terms : Terms) (now : ℕ) (content : Result Message Refusal)
-    (cause : _) → Way down tells x z (answer_of terms x.node now (Receive content)) (error_end (error.Refused cause))
-    → ⊥
-never-refused true tells x z terms now content cause way = let e = way.ends in absurd cc
-never-refused false tells x z terms now content cause way =
-    not-refused terms x.node.stored.records (end_of x.node.stored.journal) now x.node.kept.granted content _ way.ends
+never-refused : (down tells : Bool) (x z : Place) (terms : Terms) (now : ℕ) (kept : Keeping)
+    (content : Result Message Refusal) (cause : _)
+    → Way down tells x z (answer_of terms x.node now kept (Receive content)) (error_end (error.Refused cause)) → ⊥
+never-refused true tells x z terms now kept content cause way = let e = way.ends in absurd cc
+never-refused false tells x z terms now kept content cause way =
+    not-refused terms x.node.stored.records (end_of x.node.stored.journal) now kept.granted content _ way.ends
 
 -- ---- a call of the node
 
--- what receive says, for all terms of a node's own
+-- what receive says, for all terms of a node's own, and whatever it keeps
 abbrev pub Received : Bool → Place → Place → ℕ → Result Message Refusal → Result Reaction NodeError → Type 0
-Received tells x z now content r = (terms : Terms) → AreOwn terms
-    → Does tells true x.told z.told x.node z.node (answer_of terms x.node now (Receive content)) (reaction_end r)
+Received tells x z now content r = (terms : Terms) → AreOwn terms → (kept : Keeping) → Keeps x.node.kept kept
+    → Does tells true x.told z.told x.node z.node (answer_of terms x.node now kept (Receive content)) (reaction_end r)
 
 reacts-by : (tells : Bool) (x z : Place) (now : ℕ) (bytes : List ℕ) (content : Result Message Refusal)
-    (r : Result Reaction NodeError) (some : Terms) → AreOwn some → IsReadAs bytes content
+    (r : Result Reaction NodeError) (some : Terms) → AreOwn some → Runs x.node → IsReadAs bytes content
     → Received tells x z now content r
     → (steps : List Step) × MakesAll tells x z steps × Reacts now bytes steps r
-reacts-by tells x z now bytes content (Ok reaction) some own reads does = (
+reacts-by tells x z now bytes content (Ok reaction) some own runs reads does = (
   took now content reaction.verdict reaction.reply reaction.outs ∷ [],
-  one-step tells x z (took now content reaction.verdict reaction.reply reaction.outs) does,
+  one-step tells x z (took now content reaction.verdict reaction.reply reaction.outs) runs does,
   reacted content reaction.verdict reaction.reply reaction.outs reads,
 )
-reacts-by tells x z now bytes content (Err error.Disk) some own reads does =
-    (broke now content ∷ [], one-step tells x z (broke now content) does, crashed content reads)
-reacts-by tells x z now bytes content (Err error.Down) some own reads does =
-    ([], no-step tells x z (stays-down x.node.stored.journal.is_down tells x z _ (does some own)), slept)
-reacts-by tells x z now bytes content (Err error.Memory) some own reads does =
-    ([], no-step tells x z (stays-wanting x.node.stored.journal.is_down tells x z _ (does some own)), starving)
-reacts-by tells x z now bytes content (Err (error.Refused cause)) some own reads does =
-    absurd (never-refused x.node.stored.journal.is_down tells x z some now content cause (does some own))
+reacts-by tells x z now bytes content (Err error.Disk) some own runs reads does =
+    (broke now content ∷ [], one-step tells x z (broke now content) runs does, crashed content reads)
+reacts-by tells x z now bytes content (Err error.Down) some own runs reads does =
+    let kept = runs.keeping in
+    let stays = stays-down x.node.stored.journal.is_down tells x z _ (does some own kept.0 kept.1) in
+    ([], no-step tells x z stays, slept)
+reacts-by tells x z now bytes content (Err error.Memory) some own runs reads does =
+    let kept = runs.keeping in
+    let stays = stays-wanting x.node.stored.journal.is_down tells x z _ (does some own kept.0 kept.1) in
+    ([], no-step tells x z stays, starving)
+reacts-by tells x z now bytes content (Err (error.Refused cause)) some own runs reads does =
+    let kept = runs.keeping in
+    absurd (never-refused x.node.stored.journal.is_down tells x z some now kept.0 content cause
+    (does some own kept.0 kept.1))
 
 -- some terms of a node's own
 some-terms : ThereAreOwnTerms → (terms : Terms) × AreOwn terms
@@ -103,12 +110,12 @@ some-terms there =
     (t.0, t.3)
 
 pub reacts : ThereAreOwnTerms → (tells : Bool) (x z : Place) (now : ℕ) (bytes : List ℕ)
-    (content : Result Message Refusal) (r : Result Reaction NodeError) → IsReadAs bytes content
+    (content : Result Message Refusal) (r : Result Reaction NodeError) → Runs x.node → IsReadAs bytes content
     → Received tells x z now content r
     → (steps : List Step) × MakesAll tells x z steps × Reacts now bytes steps r
-reacts there tells x z now bytes content r reads does =
+reacts there tells x z now bytes content r runs reads does =
     let t = some-terms there in
-    reacts-by tells x z now bytes content r t.0 t.1 reads does
+    reacts-by tells x z now bytes content r t.0 t.1 runs reads does
 
 ready-by : (down tells : Bool) (x z : Place) (answer : Answer) (ended : Ended)
     → x.node.stored.journal.is_down ≡ down
@@ -122,10 +129,12 @@ ready-by false tells x z answer ended is does ready = ready-up tells true x z an
 
 -- a node is ready after it
 pub ready-after : ThereAreOwnTerms → (tells : Bool) (x z : Place) (now : ℕ) (content : Result Message Refusal)
-    (r : Result Reaction NodeError) → Received tells x z now content r → IsReady tells x → IsReady tells z
-ready-after there tells x z now content r does ready =
+    (r : Result Reaction NodeError) → Runs x.node → Received tells x z now content r → IsReady tells x
+    → IsReady tells z
+ready-after there tells x z now content r runs does ready =
     let t = some-terms there in
-    ready-by x.node.stored.journal.is_down tells x z _ _ refl (does t.0 t.1) ready
+    let kept = runs.keeping in
+    ready-by x.node.stored.journal.is_down tells x z _ _ refl (does t.0 t.1 kept.0 kept.1) ready
 
 -- what was read of bytes
 pub readable-of : (bytes : List ℕ) (r : Result Message DecodeError) → IfOk r (Spells soap_space bytes)

@@ -7,6 +7,8 @@ use Rattle.rm_protocol.specs.Terms.{Terms}
 use Rattle.node_laws.specs.OwnTerms.{AreOwn}
 use Rattle.rm_node.specs.Called.{Called, Does, Sleeps, answer_of}
 use Rattle.rm_node.specs.Ends.{Ended, Handed, Refused, Wanted, Broke, WasDown}
+use Rattle.rm_node.specs.Keeping.{Keeping, Keeps}
+use Rattle.rm_node.specs.Noded.{Runs}
 use Rattle.rm_serve.specs.Steps.{IsReady, Makes, MakesAll, Place, Stays, Step, done, is_received}
 use Rattle.rm_serve.specs.Steps.{makes, rests}
 
@@ -16,8 +18,8 @@ pub then : (tells : Bool) (terms : Terms) (x y z : Place) (s t : List Step) → 
 then tells terms _ _ z _ t (done x) after = after
 then tells terms _ _ z _ t (rests x y w steps stays first) after =
     rests x y z (steps ++ t) stays (then tells terms y w z steps t first after)
-then tells terms _ _ z _ t (makes x y w step steps does first) after =
-    makes x y z step (steps ++ t) does (then tells terms y w z steps t first after)
+then tells terms _ _ z _ t (makes x y w step steps runs does first) after =
+    makes x y z step (steps ++ t) runs does (then tells terms y w z steps t first after)
 
 -- so it is whatever the terms
 pub then-all : (tells : Bool) (x y z : Place) (s t : List Step) → MakesAll tells x y s → MakesAll tells y z t
@@ -29,12 +31,12 @@ pub no-step : (tells : Bool) (x z : Place) → Stays tells x z → MakesAll tell
 no-step tells x z stays terms own = rests x z z [] stays (done z)
 
 -- one call
-pub one-step : (tells : Bool) (x z : Place) (step : Step)
-    → ((terms : Terms) → AreOwn terms
+pub one-step : (tells : Bool) (x z : Place) (step : Step) → Runs x.node
+    → ((terms : Terms) → AreOwn terms → (kept : Keeping) → Keeps x.node.kept kept
     → Does tells (is_received step.asked) x.told z.told x.node z.node
-    (answer_of terms x.node step.moment step.asked) step.ended)
+    (answer_of terms x.node step.moment kept step.asked) step.ended)
     → MakesAll tells x z (step ∷ [])
-one-step tells x z step does terms own = makes x z z step [] (does terms own) (done z)
+one-step tells x z step runs does terms own = makes x z z step [] runs (does terms own) (done z)
 
 ready-called : (tells connected : Bool) (x z : Place) (answer : Answer) (ended : Ended)
     → Called tells connected x.told z.told x.node z.node answer ended → x.node.stored.journal.is_down ≡ false

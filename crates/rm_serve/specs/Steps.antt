@@ -6,7 +6,8 @@ use Rattle.node_laws.specs.OwnTerms.{AreOwn}
 use Rattle.rm_node.specs.Asked.{Asked, Receive}
 use Rattle.rm_node.specs.Called.{Does, HasBatches, answer_of}
 use Rattle.rm_node.specs.Ends.{Ended}
-use Rattle.rm_node.specs.Noded.{Noded}
+use Rattle.rm_node.specs.Keeping.{Keeping, Keeps}
+use Rattle.rm_node.specs.Noded.{Noded, Runs}
 
 -- a call at a moment, and how it ended
 pub record Step : Type 0 where
@@ -33,14 +34,15 @@ pub record Stays (tells : Bool) (x z : Place) : Type 0 where
   pub node : z.node ≡ x.node
   pub told : IsTrue tells → z.told ≡ x.told
 
--- the calls were made, one after the other, each by the protocol
+-- the calls were made, one after the other, each by the protocol, whatever the node keeps of it
 pub data Makes (tells : Bool) (terms : Terms) : Place → Place → List Step → Type 0 where
   done : (x : Place) → Makes tells terms x x []
   rests : (x y z : Place) (steps : List Step) → Stays tells x y → Makes tells terms y z steps
       → Makes tells terms x z steps
-  makes : (x y z : Place) (step : Step) (steps : List Step)
+  makes : (x y z : Place) (step : Step) (steps : List Step) → Runs x.node
+      → ((kept : Keeping) → Keeps x.node.kept kept
       → Does tells (is_received step.asked) x.told y.told x.node y.node
-      (answer_of terms x.node step.moment step.asked) step.ended
+      (answer_of terms x.node step.moment kept step.asked) step.ended)
       → Makes tells terms y z steps → Makes tells terms x z (step ∷ steps)
 
 -- whatever terms the node goes by

@@ -1,8 +1,10 @@
-//! The tests of scripts and of reports, a module a crate. They stand apart, since a crate with tests is proved a second
-//! time with them.
+//! The tests of scripts, of reports and of generated scripts, a module a crate. They stand apart, since a crate with
+//! tests is proved a second time with them.
 #![tactic(auto)]
 
 #[cfg(test)]
 mod report;
 #[cfg(test)]
 mod script;
+#[cfg(test)]
+mod soak;

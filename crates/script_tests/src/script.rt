@@ -64,6 +64,8 @@ fn push_event(out: &mut Blob, event: &Event) -> Result<(), Fail> {
         }
         Event::Close { node, seq } => push_numbered(out, b"close", *node, u64::from(*seq))?,
         Event::End { node, seq } => push_numbered(out, b"end", *node, u64::from(*seq))?,
+        Event::Ask { node, seq } => push_numbered(out, b"ask", *node, u64::from(*seq))?,
+        Event::Nack { node, seq } => push_numbered(out, b"nack", *node, u64::from(*seq))?,
         Event::Arm { node, calls } => push_numbered(out, b"arm", *node, *calls)?,
         Event::Crash { node, choice } => push_numbered(out, b"crash", *node, u64::from(*choice))?,
         Event::Noise { node, bytes } => {
@@ -99,7 +101,7 @@ fn three_payloads(rt: HostRuntime) -> Result<(), Fail> {
 
 #[test]
 fn all_lines(rt: HostRuntime) -> Result<(), Fail> {
-    let cases: [(&[u8], &[u8]); 18] = [
+    let cases: [(&[u8], &[u8]); 19] = [
         (b"", b""),
         (b"# a comment\n\n\n", b"\n\n\n"),
         (b"create 1 expires P1M", b"create 1 1 0\n"),
@@ -120,6 +122,7 @@ fn all_lines(rt: HostRuntime) -> Result<(), Fail> {
         (b"tick 1 200000000000000", b"tick 1 200000000000000\n"),
         (b"deliver 65536", b"deliver 65536\n"),
         (b"close 1 1\nend 2 256", b"close 1 1\nend 2 256\n"),
+        (b"ask 1 1\nnack 2 256", b"ask 1 1\nnack 2 256\n"),
         (b"arm 2 1\narm 2 1000", b"arm 2 1\narm 2 1000\n"),
         (b"crash 2 0\ncrash 1 3", b"crash 2 0\ncrash 1 3\n"),
         (b"noise 2 3c613e", b"noise 2 3c613e\n"),

@@ -1,10 +1,13 @@
-use Rattle.std.proofs.Common.{ℕ, List, [], ◌∷◌, ◌++◌, sym, ap, ◌∙◌}
+use Rattle.std.proofs.Common.{◌≡◌, ℕ, List, ap, subst, ◌∙◌}
+use Rattle.std.specs.Prelude.{IfOk}
+use Rattle.std.specs.Option.{option_to_list}
 use Rattle.rm_elements.specs.declared.header.AckBlock.{AckBlock}
-use Rattle.wsa_headers.specs.declared.endpoint.Epr.{Epr}
+use Rattle.rm_message.specs.declared.message.Message.{Message}
 use Rattle.sequence_table.specs.Words.{Text}
 use Rattle.sequence_table.specs.Idents.{issue}
-use Rattle.rm_protocol.specs.Addresses.{is_anonymous}
-use Rattle.rm_protocol.specs.Messages.{ack_message, block_of}
+use Rattle.sequence_table.specs.Find.{acks_to}
+use Rattle.rm_protocol.specs.Messages.{block_of}
+use Rattle.rm_protocol.specs.Said.{ack_to, own_messages}
 use Rattle.node_calls.proofs.AckLemmas.{final-said}
 use Rattle.node_calls.proofs.acks.final_ack.Goals as goal
 use Rattle.tables_ahead.specs.Known.{all_records}
@@ -12,14 +15,9 @@ use Rattle.tables_ahead.specs.Known.{all_records}
 pub returns : goal.returns
 returns c =
     let r = all_records c.args.ahead.now in
-    let to = c.in-Some-acks_to.to.now in
-    let far = sym (c.is_anonymous.ensures ∙ ap is_anonymous c.as_slice.ensures.bytes) ∙ c.if-is_anonymous.false in
+    let s = c.args.seq in
     let ident = c.in_ok-ident.ensures ∙ ap (λ (k : ℕ). issue k c.in-Some.counter) c.number.ensures.value in
-    let block = c.in_ok-block_of.ensures ∙ ap (λ (q : Text). block_of r c.args.seq q c.args.now) ident in
-    let blocks = c.in_ok-push.ensures.ok
-    ∙ ap (λ (bs : List AckBlock). bs ++ c.in_ok-block_of.field-0 ∷ []) c.new-blocks.ensures
-    ∙ ap (λ (b : AckBlock). b ∷ []) block in
-    let message = c.in_ok-ack_message.ensures
-    ∙ ap (λ (e : Epr). ack_message e c.push.new.self) c.in_ok-to.ensures ∙ ap (ack_message to) blocks in
-    final-said r c.args.seq c.args.now c.in-Some.counter to _ c.in_ok-ack_message.field-0 c.in-Some.ensures.is
-    c.in-Some-acks_to.ensures far message
+    let block = c.in_ok-block.ensures ∙ ap (λ (q : Text). block_of r s q c.args.now) ident in
+    let said = ap (λ (b : AckBlock). own_messages (ack_to (acks_to r s) b)) block
+    ∙ final-said r s c.args.now c.in-Some.counter _ c.in-Some.ensures.is in
+    subst (λ (ms : List Message). IfOk c.own_ack.result (λ m. option_to_list m ≡ ms)) said c.own_ack.ensures

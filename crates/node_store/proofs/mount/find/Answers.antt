@@ -6,7 +6,7 @@ use Rattle.rm_journal.specs.Journal.{Fits}
 use Rattle.rm_journal.specs.JournalState.{end_of}
 use Rattle.node_store.specs.Has.{entries_of}
 use Rattle.node_store.specs.declared.error.MountError.{MountError}
-use Rattle.node_store.proofs.MountLemmas.{found, replayed_of, same_records, serving_of, windows_of}
+use Rattle.node_store.proofs.MountLemmas.{found, kept_of, replayed_of, same_records, serving_of, windows_of}
 use Rattle.node_store.proofs.ReplayLemmas.{err_is}
 use Rattle.node_store.proofs.mount.find.Goals as goal
 
@@ -63,3 +63,9 @@ returns-clause-found g c tells =
     found c.batches_have_values.ensures (g.D.Disk.told c.args.disk.now).past (g.D.Disk.told c.replay.new.disk).past on.0
     c.replay.new.journal c.in_ok-tables.tables.records on.1 fits replays
     (c.may_serve.ensures.0 c.if-not-may_serve.false) (c.keep_windows.ensures.0 c.if-not-keep_windows.false)
+
+pub returns-clause-kept : goal.returns-clause-kept
+returns-clause-kept g c =
+    kept_of c.batches_have_values.ensures c.replay.new.journal c.in_ok-tables.tables.records
+    c.in_ok-tables.ensures.sound (c.may_serve.ensures.0 c.if-not-may_serve.false)
+    (c.keep_windows.ensures.0 c.if-not-keep_windows.false)

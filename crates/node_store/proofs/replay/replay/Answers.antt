@@ -5,7 +5,7 @@ use Rattle.rm_journal.specs.EntryLemmas.{length-gates_from}
 use Rattle.rm_journal.specs.Journal.{Fits}
 use Rattle.node_store.specs.Mounted.{IsAdded, IsStuck, Replays}
 use Rattle.node_store.specs.declared.error.MountError.{MountError}
-use Rattle.node_store.proofs.ReplayLemmas.{err_is, none_replayed, replays-more}
+use Rattle.node_store.proofs.ReplayLemmas.{err_is, none_replayed, replayed-more, replays-more}
 use Rattle.node_store.proofs.replay.replay.Goals as goal
 
 pub returns-in_err-add_entry-clause-none : goal.returns-in_err-add_entry-clause-none
@@ -38,6 +38,7 @@ loop-before-preserved g c =
           (inv.replayed tells entries fits)
           (subst (IsAdded c.loop-before.tables.records c.add_entry.new.tables.records entries) back
           (step.added tells entries here));
+      sound = replayed-more c.loop-before.tables.records c.add_entry.new.tables.records inv.sound step.more;
       journal = step.journal ∙ inv.journal;
       past = λ tells. step.past tells ∙ inv.past tells;
       faults = step.cause.cause ∙ inv.faults;

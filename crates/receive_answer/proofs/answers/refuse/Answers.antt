@@ -1,18 +1,16 @@
-use Rattle.std.proofs.Common.{◌≡◌, ◌∷◌, [], None, sym, subst, ap}
+use Rattle.std.proofs.Common.{◌≡◌, None, sym, subst, ap}
 use Rattle.std.specs.Prelude.{IfOk}
-use Rattle.rm_message.specs.declared.message.Message.{Message}
-use Rattle.rm_protocol.specs.Calls.{Answer, Judged}
+use Rattle.rm_protocol.specs.Calls.{Answer}
 use Rattle.call_answers.specs.Answers.{seen}
+use Rattle.receive_answer.specs.Untold.{judged_as}
 use Rattle.receive_answer.proofs.FitLemmas.{nothing-stored}
 use Rattle.receive_answer.proofs.answers.refuse.Goals as goal
 
 pub returns-clause-is : goal.returns-clause-is
 returns-clause-is c =
-    let answer : Message → Answer =
-    λ fault. record { outcome = Judged c.args.refusal.kind; delta = []; outs = fault ∷ [] } in
     λ terms own.
     subst (λ (x : Answer). IfOk c.fault_answer.result (λ a. seen a ≡ x))
-    (ap answer (sym (own.fault c.args.refusal None))) c.fault_answer.ensures.is
+    (ap (judged_as c.args.refusal.kind) (sym (own.fault c.args.refusal None))) c.fault_answer.ensures.is
 
 pub returns-clause-stored : goal.returns-clause-stored
 returns-clause-stored c =

@@ -1,8 +1,6 @@
 use Rattle.std.proofs.Common.{◌∙◌, ap, refl}
 use Rattle.std.proofs.lemmas.Result.{err_from_is_err_and}
-use Rattle.message_reader.specs.Refusals.{blind}
 use Rattle.record_batch.specs.declared.record.Via.TheVariants.{Direct}
-use Rattle.rm_message.specs.declared.refusal.FaultKind.TheVariants.{TooLong}
 use Rattle.rm_protocol.specs.World.{Create, node}
 use Rattle.rm_script.specs.declared.event.Event.TheVariants as said
 use Rattle.rm_replay.specs.Asked.{step_of}

@@ -1,7 +1,5 @@
-use Rattle.std.proofs.Common.{Err, Some, refl, sym, subst}
-use Rattle.message_reader.specs.Refusals.{blind}
-use Rattle.rm_message.specs.declared.refusal.FaultKind.TheVariants.{TooLong}
-use Rattle.rm_protocol.specs.World.{Close, End, Send, Tick, node}
+use Rattle.std.proofs.Common.{Some, refl, sym, subst}
+use Rattle.rm_protocol.specs.World.{Ask, Close, End, Nack, Send, Tick, node}
 use Rattle.rm_report.specs.declared.line.Outcome.TheVariants as told
 use Rattle.rm_script.specs.Within.{IsWithin}
 use Rattle.rm_script.specs.declared.event.Event.{Event as Said}
@@ -12,7 +10,7 @@ use Rattle.rm_replay.specs.Meaning.{side_of}
 use Rattle.rm_replay.specs.Shows.{drives_of, scene_of}
 use Rattle.rm_node.specs.Asked as asks
 use Rattle.rm_node.specs.declared.call.Call.TheVariants as call
-use Rattle.rm_replay.proofs.CallLemmas.{close_call, end_call, send_call, tick_call}
+use Rattle.rm_replay.proofs.CallLemmas.{ask_call, close_call, end_call, nack_call, send_call, tick_call}
 use Rattle.rm_replay.proofs.EventLemmas.{happens_arm, happens_call, happens_crash, happens_grant, happens_line}
 use Rattle.rm_replay.proofs.OrderLemmas.{in_order-all, in_order-offer}
 use Rattle.rm_replay.proofs.StepLemmas.{scene_by}
@@ -24,6 +22,9 @@ create-requires-clause-offer g c =
 
 pub grant-requires : goal.grant-requires
 grant-requires g c = in_order-all c.in-Grant.behaviour (subst IsWithin c.in-Grant.is c.requires.within)
+
+pub call-requires-in-Tick-clause-may : goal.call-requires-in-Tick-clause-may
+call-requires-in-Tick-clause-may g c = subst IsWithin c.in-Tick.is c.requires.within
 
 pub returns-in-Send : goal.returns-in-Send
 returns-in-Send g c terms net w shows =
@@ -80,6 +81,34 @@ returns-in-End g c terms net w shows =
     (step_of terms (node w (side_of at)) asked (call.End c.in-End.seq)) old new
     c.call-in-End.new.nodes c.call-in-End.result (end_call terms w at c.in-End.seq)
     (c.call-in-End.ensures.moves terms net asked refl w shows) c.call-in-End.ensures.asked)
+
+pub returns-in-Ask : goal.returns-in-Ask
+returns-in-Ask g c terms net w shows =
+    let at = c.in-Ask.node in
+    let asked = asks.AskAck c.in-Ask.seq in
+    let old = scene_of g.M.Disk.told g.W.Wire.packets c.args.stage.now in
+    let new = scene_of g.M.Disk.told g.W.Wire.packets c.call-in-Ask.new.stage in
+    happens_line terms w old new c.call-in-Ask.new.nodes c.args.event (said.Ask at c.in-Ask.seq)
+    c.call-in-Ask.result c.some-in-Ask.result c.in-Ask.is c.some-in-Ask.ensures
+    (happens_call c.each_image_is_left.ensures terms w (said.Ask at c.in-Ask.seq)
+    (Ask (side_of at) c.in-Ask.seq) (side_of at)
+    (step_of terms (node w (side_of at)) asked (call.AskAck c.in-Ask.seq)) old new
+    c.call-in-Ask.new.nodes c.call-in-Ask.result (ask_call terms w at c.in-Ask.seq)
+    (c.call-in-Ask.ensures.moves terms net asked refl w shows) c.call-in-Ask.ensures.asked)
+
+pub returns-in-Nack : goal.returns-in-Nack
+returns-in-Nack g c terms net w shows =
+    let at = c.in-Nack.node in
+    let asked = asks.NackMissing c.in-Nack.seq in
+    let old = scene_of g.M.Disk.told g.W.Wire.packets c.args.stage.now in
+    let new = scene_of g.M.Disk.told g.W.Wire.packets c.call-in-Nack.new.stage in
+    happens_line terms w old new c.call-in-Nack.new.nodes c.args.event (said.Nack at c.in-Nack.seq)
+    c.call-in-Nack.result c.some-in-Nack.result c.in-Nack.is c.some-in-Nack.ensures
+    (happens_call c.each_image_is_left.ensures terms w (said.Nack at c.in-Nack.seq)
+    (Nack (side_of at) c.in-Nack.seq) (side_of at)
+    (step_of terms (node w (side_of at)) asked (call.NackMissing c.in-Nack.seq)) old new
+    c.call-in-Nack.new.nodes c.call-in-Nack.result (nack_call terms w at c.in-Nack.seq)
+    (c.call-in-Nack.ensures.moves terms net asked refl w shows) c.call-in-Nack.ensures.asked)
 
 pub returns-in-Grant : goal.returns-in-Grant
 returns-in-Grant g c terms net w shows =

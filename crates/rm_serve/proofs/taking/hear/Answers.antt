@@ -24,8 +24,9 @@ pub returns-clause-reacts : goal.returns-clause-reacts
 returns-clause-reacts g c =
     let read = c.in_ok-readable.ensures in
     reacts c.there_are_own_terms.ensures g.D.Disk.tells (place_of (g.D.Disk.told c.args.disk.now) c.args.node.now)
-    (place_of (g.D.Disk.told c.step.new.disk) c.step.new.self) c.args.now c.args.bytes.now read.0 c.step.result read.1
-    (λ terms own. c.step.ensures.does terms own (Receive read.0)
+    (place_of (g.D.Disk.told c.step.new.disk) c.step.new.self) c.args.now c.args.bytes.now read.0 c.step.result
+    c.step.ensures.runs read.1
+    (λ terms own kept keeps. c.step.ensures.does terms own kept keeps (Receive read.0)
     (record { content = read.0; read = read.1; is = refl }))
 
 pub returns-clause-ready : goal.returns-clause-ready
@@ -33,6 +34,6 @@ returns-clause-ready g c =
     let read = c.in_ok-readable.ensures in
     ready-after c.there_are_own_terms.ensures g.D.Disk.tells
     (place_of (g.D.Disk.told c.args.disk.now) c.args.node.now)
-    (place_of (g.D.Disk.told c.step.new.disk) c.step.new.self) c.args.now read.0 c.step.result
-    (λ terms own. c.step.ensures.does terms own (Receive read.0)
+    (place_of (g.D.Disk.told c.step.new.disk) c.step.new.self) c.args.now read.0 c.step.result c.step.ensures.runs
+    (λ terms own kept keeps. c.step.ensures.does terms own kept keeps (Receive read.0)
     (record { content = read.0; read = read.1; is = refl })) c.requires.ready

@@ -24,8 +24,8 @@ returns-in_err-came g c =
           still c.args.call x now c.step.new.self c.self.inside.clock (clock_after c.args.call old)
           (acted terms g.D.Disk.tells c.args.call x asked first now old c.step.new.self (reaction_end c.step.result)
           (Err c.in_err-came.field-0.0) (c.a_journal_ends_with_its_batches.ensures terms own)
-          g.met.D.CrashDisk.always_tells there c.the_reply_comes_first.ensures is
-          (c.step.ensures.does terms own asked is) c.in_err-came.ensures)
+          g.met.D.CrashDisk.always_tells there c.the_reply_comes_first.ensures is c.step.ensures.runs
+          (λ kept keeps. c.step.ensures.does terms own kept keeps asked is) c.in_err-came.ensures)
           there.clock;
       cause = subst (λ (b : Bool). HasCause first.faults now.faults b)
           (disk_told _ (Err c.in_err-came.field-0.0) c.in_err-came.ensures) c.step.ensures.cause;
@@ -45,8 +45,8 @@ returns g c =
           (actored c.step.new.self n) (Ok c.in_ok-came.came)) (sym clock)
           (acted terms g.D.Disk.tells c.args.call x asked first now old c.step.new.self (reaction_end c.step.result)
           (Ok c.in_ok-came.came) (c.a_journal_ends_with_its_batches.ensures terms own)
-          g.met.D.CrashDisk.always_tells there c.the_reply_comes_first.ensures is
-          (c.step.ensures.does terms own asked is) c.in_ok-came.ensures);
+          g.met.D.CrashDisk.always_tells there c.the_reply_comes_first.ensures is c.step.ensures.runs
+          (λ kept keeps. c.step.ensures.does terms own kept keeps asked is) c.in_ok-came.ensures);
       cause = subst (λ (b : Bool). HasCause first.faults now.faults b)
           (disk_told _ (Ok c.in_ok-came.came) c.in_ok-came.ensures) c.step.ensures.cause;
       crashes = c.step.ensures.crashes g.met.D.CrashDisk.always_tells;

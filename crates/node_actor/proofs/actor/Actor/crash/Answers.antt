@@ -2,11 +2,11 @@ use Rattle.std.proofs.Common.{◌≡◌, ◌∙◌, sym, ap, subst, inl, inr}
 use Rattle.rm_disk.specs.Call.{crashes_of, left_by, state}
 use Rattle.std.proofs.lemmas.Result.{err_from_is_err_and}
 use Rattle.rm_base.specs.declared.message.Behaviour.{Behaviour}
-use Rattle.rm_node.specs.Noded.{Noded}
+use Rattle.rm_node.specs.Noded.{Noded, granting}
 use Rattle.node_actor.specs.Actored.{Actored}
 use Rattle.node_actor.specs.Stands.{Crashed, Stands}
 use Rattle.node_actor.proofs.ActLemmas.{actored}
-use Rattle.node_actor.proofs.CrashLemmas.{crashed, leaves_crashed, leaves_still, node_there, noded}
+use Rattle.node_actor.proofs.CrashLemmas.{crashed, leaves_crashed, leaves_still, node_there}
 use Rattle.node_actor.proofs.actor.Actor.crash.Goals as goal
 
 pub returns-in_err-crash-clause-err : goal.returns-in_err-crash-clause-err
@@ -32,14 +32,15 @@ pub returns-clause-ok : goal.returns-clause-ok
 returns-clause-ok g c x s =
     let first = g.D.Disk.told c.args.disk.now in
     let now = g.D.Disk.told c.mount.new.disk in
-    let stored = c.in_ok-node.node.stored in
-    let granted : c.set_grant.new.self ≡ noded stored c.self.inside.node.kept.granted =
-    c.set_grant.ensures ∙ ap (λ (b : Behaviour). noded stored b) c.granted-granted.ensures.kept in
+    let node = c.in_ok-node.node in
+    let granted : c.set_grant.new.self ≡ granting node c.self.inside.node.kept.granted =
+    c.set_grant.ensures ∙ ap (λ (b : Behaviour). granting node b) c.granted-granted.ensures.kept in
     subst (λ (n : Noded). Crashed x c.args.choice first now (actored n c.self.inside.clock)) (sym granted)
     (crashed c.bytes_stand_for_one_list_of_batches.ensures x first now
-    (actored c.self.inside.node c.self.inside.clock) c.args.choice (g.D.Disk.told c.crash.new.self).past stored
+    (actored c.self.inside.node c.self.inside.clock) c.args.choice (g.D.Disk.told c.crash.new.self).past node
     (subst (λ (a : Actored). Stands x first a) (sym c.self.view_is) s) c.in_ok-crash.ensures.past
-    c.in_ok-node.ensures.found c.in_ok-node.ensures.up c.in_ok-node.ensures.crashes c.in_ok-node.ensures.fuse)
+    c.in_ok-node.ensures.found c.in_ok-node.ensures.up c.in_ok-node.ensures.kept c.in_ok-node.ensures.crashes
+    c.in_ok-node.ensures.fuse)
 
 pub returns-in_err-crash-clause-more : goal.returns-in_err-crash-clause-more
 returns-in_err-crash-clause-more g c =

@@ -24,14 +24,15 @@ returns-clause-steps g c =
     let s = c.args.self.now.stored in
     plain _ _ _ c.args.self.now _ _ _ (Create (wish_seen c.args.wish)) c.in_ok-reaction.reaction
     c.there_are_own_terms.ensures refl refl
-    (λ terms. create-done terms s.records (end_of s.journal) (wish_seen c.args.wish)) c.in_ok-reaction.ensures
+    (λ terms kept. create-done terms s.records (end_of s.journal) (wish_seen c.args.wish)) c.in_ok-reaction.ensures
 
 pub returns-clause-seq : goal.returns-clause-seq
 returns-clause-seq g c =
     let own = some_terms c.there_are_own_terms.ensures in
+    let steps = c.in_ok-reaction.ensures in
     let s = c.args.self.now.stored in
     let taken = was_taken _ _ _ _ c.args.self.now _ _ _ _ _
-    (c.in_ok-reaction.ensures.does own.0 own.1 (Create (wish_seen c.args.wish)) refl) in
+    (steps.does own.0 own.1 steps.runs.keeping.0 steps.runs.keeping.1 (Create (wish_seen c.args.wish)) refl) in
     let few = create-few own.0 s.records (end_of s.journal) (wish_seen c.args.wish) _ refl taken in
     let same = ap (λ (r : List Fact). length (makers r)) c.tables.ensures in
     omega (arith, few, same, c.len.ensures.count, c.saturating_add-seq.ensures)

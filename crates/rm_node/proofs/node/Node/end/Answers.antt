@@ -17,5 +17,5 @@ returns g c =
     let s = c.args.self.now.stored in
     plain _ _ _ c.args.self.now _ _ _ (End c.args.seq) c.in_ok-reaction.reaction
     c.there_are_own_terms.ensures refl refl
-    (λ terms. end-done terms s.records (end_of s.journal) c.args.seq)
+    (λ terms kept. end-done terms s.records (end_of s.journal) c.args.seq)
     c.in_ok-reaction.ensures

@@ -21,14 +21,15 @@ returns-clause-steps g c =
     let s = c.args.self.now.stored in
     plain _ _ _ c.args.self.now _ _ _ (Send c.args.seq c.args.payload) c.in_ok-reaction.reaction
     c.there_are_own_terms.ensures refl refl
-    (λ terms. send-done terms s.records (end_of s.journal) c.args.seq c.args.payload) c.in_ok-reaction.ensures
+    (λ terms kept. send-done terms s.records (end_of s.journal) c.args.seq c.args.payload) c.in_ok-reaction.ensures
 
 pub returns-clause-number : goal.returns-clause-number
 returns-clause-number g c =
     let own = some_terms c.there_are_own_terms.ensures in
+    let steps = c.in_ok-reaction.ensures in
     let s = c.args.self.now.stored in
     let taken = was_taken _ _ _ _ c.args.self.now _ _ _ _ _
-    (c.in_ok-reaction.ensures.does own.0 own.1 (Send c.args.seq c.args.payload) refl) in
+    (steps.does own.0 own.1 steps.runs.keeping.0 steps.runs.keeping.1 (Send c.args.seq c.args.payload) refl) in
     let side = send-side own.0 s.records (end_of s.journal) c.args.seq c.args.payload _ refl taken in
     c.next_number-number.ensures
     (subst (λ (r : List Fact). is_outgoing_side (maker r c.args.seq) ≡ true) (sym c.tables.ensures) side)

@@ -17,5 +17,5 @@ returns g c =
     let s = c.args.self.now.stored in
     plain _ _ _ c.args.self.now _ _ _ (Tick c.args.now) c.in_ok-reaction.reaction
     c.there_are_own_terms.ensures refl refl
-    (λ terms. tick-done terms s.records (end_of s.journal) c.args.now)
+    (λ terms kept. tick-done terms s.records (end_of s.journal) c.args.now kept.time kept.waits)
     c.in_ok-reaction.ensures

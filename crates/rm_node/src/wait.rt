@@ -1,0 +1,41 @@
+//! What an answer makes of the keys that wait.
+ghost use Rattle.std.specs.Prelude.{◌≡◌, ◌<◌, ◌≤◌, length, max, IfSome, None};
+ghost use Rattle.rm_base.specs.Limits.{most_keys, now_max};
+ghost use Rattle.call_answers.specs.Answers.{moves_seen};
+ghost use Rattle.key_timers.specs.Keyed.{Rises, Steps, slot_at};
+ghost use Rattle.node_timers.specs.Settled.{cells_all, changed};
+
+use call_answers::Moves;
+use key_timers::KeyTimers;
+use node_tables::Tables;
+use node_timers::after_call;
+use rm_timers::Key;
+
+/// The time is at least what an answer tells, and the keys move, once its records, which name these sequences, are in
+/// the tables. It takes no memory.
+pub(crate) fn wait_on(
+    timers: &mut KeyTimers,
+    tables: &Tables,
+    touched: &[u32],
+    begun: Option<Key>,
+    moves: &Moves,
+)
+    requires time { moves.now.time ≤ now_max }
+    requires spare { Rises timers.old.cells
+        → IfSome begun (λ key. slot_at (cells_all tables.now.records touched.now timers.old.cells) key ≡ None
+        → length (cells_all tables.now.records touched.now timers.old.cells) < most_keys) }
+    ensures waits { Steps timers.old timers.new
+        (changed tables.now.records touched.now begun (moves_seen moves.now).urged (moves_seen moves.now).emitted
+        (max timers.old.time moves.now.time)) }
+    ensures time { timers.new.time ≡ max timers.old.time moves.now.time }
+{
+    timers.advance(moves.time);
+    after_call(
+        timers,
+        tables,
+        touched,
+        begun,
+        moves.urged.as_slice(),
+        moves.emitted.as_slice(),
+    );
+}

@@ -1,0 +1,17 @@
+use Rattle.std.proofs.Common.{refl}
+use Rattle.uuid.specs.Text.{by_index}
+use Rattle.sequence_table.specs.Idents.{issue}
+use Rattle.rm_protocol.specs.Addresses.{anonymous, no_address, polled_prefix}
+use Rattle.rm_protocol.proofs.laws.an_acknowledgement_is_asked_for.Goals as goal
+
+pub returns-clause-one : goal.returns-clause-one
+unfolding issue by_index anonymous no_address polled_prefix
+returns-clause-one c = refl
+
+pub returns-clause-two : goal.returns-clause-two
+unfolding issue by_index anonymous no_address polled_prefix
+returns-clause-two c = refl
+
+pub returns-clause-packets : goal.returns-clause-packets
+unfolding issue by_index anonymous no_address polled_prefix
+returns-clause-packets c = refl
