@@ -10,8 +10,10 @@ ghost use Rattle.sequence_row.specs.Row.{Seen, draws_next};
 ghost use Rattle.sequence_table.specs.Find.{accepted_by, find_creating, find_grant, find_incoming, find_outgoing};
 ghost use Rattle.sequence_table.specs.Find.{is_creating, is_incoming};
 ghost use Rattle.sequence_table.specs.Fits.{fits, all_fit, has_places, is_outgoing_side};
+ghost use Rattle.sequence_table.specs.Idents.{IsIssuedFor};
 ghost use Rattle.sequence_table.specs.Makers.{counter, maker, makers, number};
 ghost use Rattle.sequence_table.specs.Sources.{all_unacked, out_ident, phase};
+ghost use Rattle.sequence_table.specs.Words.{Text};
 ghost use Rattle.node_tables.specs.Kept.{is_naming, is_whole, told_in};
 ghost use Rattle.node_tables.specs.Reads.{address_in, incoming_in, is_asking, maker_seen, outgoing_in, passes};
 ghost use Rattle.node_tables.specs.Reads.{ticket_in};
@@ -34,7 +36,7 @@ use rm_base::{Blob, Ident, Memory, Payload, Uri, numbered};
 use rm_destination::Incoming;
 use rm_source::{OutPhase, Outgoing};
 use sequence_row::Row;
-use sequence_table::is_issued;
+use sequence_table::{is_issued, issued_counter};
 use std::alloc::Global;
 use std::marker::Model;
 use wsa_headers::Epr;
@@ -199,22 +201,23 @@ impl Tables {
     pub fn find_incoming(&self, ident: &Ident) -> Option<u32>
         ensures { result ≡ find_incoming self.now.records ident.now }
     {
+        let drawn = issued_counter(self.number(), ident.as_slice());
         for before in 0..self.len() {
-            if self.is_incoming(before + 1, ident.as_slice()) {
+            if self.is_incoming(before + 1, drawn) {
                 return Some(before + 1);
             }
         }
         None
     }
 
-    /// Whether the sequence with a number is incoming and has an identifier.
-    fn is_incoming(&self, seq: u32, ident: &[u8]) -> bool
-        ensures { result
-            ≡ passes (is_incoming (number self.now.records) ident.now) seq (maker self.now.records seq) }
+    /// Whether the sequence with a number is incoming and has the identifier that the node issues for a number.
+    fn is_incoming(&self, seq: u32, drawn: Option<u64>) -> bool
+        ensures { let r = self.now.records in (q : Text) → IsIssuedFor (number r) q drawn →
+            result ≡ passes (is_incoming (number r) q) seq (maker r seq) }
     {
         match self.maker(seq) {
-            Some(Maker::Granted { counter, .. }) => is_issued(self.number(), counter, ident),
-            Some(Maker::Offered { counter, .. }) => is_issued(self.number(), counter, ident),
+            Some(Maker::Granted { counter, .. }) => drawn == Some(counter),
+            Some(Maker::Offered { counter, .. }) => drawn == Some(counter),
             _ => false,
         }
     }

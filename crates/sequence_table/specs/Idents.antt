@@ -1,5 +1,5 @@
 -- The identifiers that a node issues: UUIDs of version 8, RFC 9562, sections 4 and 5.8, as URNs.
-use Rattle.std.specs.Prelude.{◌≡◌, ℕ, ◌<◌, ◌+◌, ◌*◌, ◌/◌, ◌%◌, ◌^◌, ◌++◌, codes}
+use Rattle.std.specs.Prelude.{◌≡◌, ℕ, ◌<◌, ◌+◌, ◌*◌, ◌/◌, ◌%◌, ◌^◌, ◌++◌, ◌↔◌, codes, Option, Some}
 use Rattle.std.specs.Int.{w128, to_be_bytes}
 use Rattle.uuid.specs.Text.{lower, urn_text, hyphenated_text}
 use Rattle.sequence_table.specs.Words.{Text}
@@ -15,6 +15,10 @@ lower_half counter = 2 * 2 ^ 62 + counter
 -- the identifier that a node issues for a number that it drew: of a sequence, or of a message
 unfoldable pub issue : ℕ → ℕ → Text
 issue node counter = urn_text lower (to_be_bytes w128 (upper_half node * 2 ^ 64 + lower_half counter))
+
+-- a text and the number of 64 bits that the node issues it for, where there is one
+pub record IsIssuedFor (node : ℕ) (q : Text) (o : Option ℕ) : Type 0 where
+  pub exactly : (c : ℕ) → c < 2 ^ 64 → (issue node c ≡ q) ↔ (o ≡ Some c)
 
 -- where messages for a node wait that nobody can reach: WS-MakeConnection 1.1, section 3.1, with the UUID of counter 0
 unfoldable pub polled_address : ℕ → Text

@@ -2,6 +2,7 @@
 ghost use Rattle.std.specs.Prelude.{◌≡◌, ◌<◌, ◌^◌, IfOk};
 ghost use Rattle.std.specs.Str.{bytes_eq};
 ghost use Rattle.sequence_table.specs.Idents.{
+  IsIssuedFor,
   issue as issue_of,
   lower_half as lower_half_of,
   upper_half as upper_half_of,
@@ -59,4 +60,21 @@ pub fn is_issued(node: u64, counter: u64, text: &[u8]) -> bool
     let mut buffer = [0; LENGTH];
     let issued = uuid.urn().encode_lower(&mut buffer);
     issued.as_bytes() == text
+}
+
+/// The number that a node issues a text for, where there is one. It takes no memory.
+pub fn issued_counter(node: u64, text: &[u8]) -> Option<u64>
+    requires { node < 2 ^ 60 }
+    ensures { IsIssuedFor node text.now result }
+{
+    let Ok(uuid) = Uuid::try_parse_ascii(text) else {
+        return None;
+    };
+    let (_, lower) = uuid.as_u64_pair();
+    let counter = lower.wrapping_sub(1 << 63);
+    if is_issued(node, counter, text) {
+        Some(counter)
+    } else {
+        None
+    }
 }

@@ -5,4 +5,4 @@
 pub mod idents;
 pub mod laws;
 
-pub use idents::{is_issued, issue};
+pub use idents::{is_issued, issue, issued_counter};

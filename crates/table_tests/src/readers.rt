@@ -159,6 +159,31 @@ fn sequences_are_found_by_what_the_node_issued(rt: HostRuntime) -> Result<(), Fa
     Ok(())
 }
 
+// A text, and the incoming sequence with that identifier: sequence 2 of node 7, by number 2.
+const IDENTS: [(&str, Option<u32>); 6] = [
+    ("urn:uuid:00000000-0000-8007-8000-000000000002", Some(2)),
+    ("urn:uuid:00000000-0000-8007-8000-000000000001", None),
+    ("urn:uuid:00000000-0000-8007-8000-000000000020", None),
+    ("urn:uuid:00000000-0000-8008-8000-000000000002", None),
+    ("URN:UUID:00000000-0000-8007-8000-000000000002", None),
+    ("00000000-0000-8007-8000-000000000002", None),
+];
+
+fn finds_by_texts(alloc: Global, tables: &mut Tables) -> Result<bool, Fail> {
+    begin(alloc, tables)?;
+    let mut are_so = true;
+    for (text, seq) in &IDENTS {
+        are_so &= tables.find_incoming(&ident(alloc, text)?) == *seq;
+    }
+    Ok(are_so)
+}
+
+#[test]
+fn a_sequence_is_found_by_its_identifier_alone(rt: HostRuntime) -> Result<(), Fail> {
+    assert!(rt; at_new(rt.alloc(), finds_by_texts)?);
+    Ok(())
+}
+
 // Whether this is the node's address.
 fn has_address(tables: &Tables, bytes: &[u8]) -> bool {
     match tables.address() {

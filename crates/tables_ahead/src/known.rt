@@ -11,8 +11,10 @@ ghost use Rattle.sequence_table.specs.Destinations.{is_stopped, received};
 ghost use Rattle.sequence_table.specs.Find.{accepted_by, find_creating, find_grant, find_incoming, find_outgoing};
 ghost use Rattle.sequence_table.specs.Find.{is_creating, is_granted, is_incoming};
 ghost use Rattle.sequence_table.specs.Fits.{all_fit};
+ghost use Rattle.sequence_table.specs.Idents.{IsIssuedFor};
 ghost use Rattle.sequence_table.specs.Makers.{counter, created_from, ident_in, maker, makers, number};
 ghost use Rattle.sequence_table.specs.Sources.{accepted, acked, out_ident, phase};
+ghost use Rattle.sequence_table.specs.Words.{Text};
 ghost use Rattle.node_tables.specs.Reads.{address_in, is_asking, maker_seen, passes};
 ghost use Rattle.tables_ahead.specs.Known.{all_records, may_go_ahead, opened};
 
@@ -28,7 +30,7 @@ use node_tables::{Maker, Tables};
 use record_batch::Record;
 use rm_base::{Ident, Memory, Uri};
 use rm_source::OutPhase;
-use sequence_table::is_issued;
+use sequence_table::{is_issued, issued_counter};
 use std::alloc::Global;
 use std::marker::Model;
 use wsa_headers::Epr;
@@ -172,8 +174,9 @@ impl<'a> Known<'a> {
     pub fn find_incoming(&self, ident: &Ident) -> Option<u32>
         ensures { result ≡ find_incoming (all_records self.now) ident.now }
     {
+        let drawn = issued_counter(self.number(), ident.as_slice());
         for before in 0..self.len() {
-            if self.is_incoming(before + 1, ident.as_slice()) {
+            if self.is_incoming(before + 1, drawn) {
                 return Some(before + 1);
             }
         }
@@ -325,14 +328,14 @@ impl<'a> Known<'a> {
         }
     }
 
-    /// Whether the sequence with a number is incoming and has an identifier.
-    fn is_incoming(&self, seq: u32, ident: &[u8]) -> bool
-        ensures { let r = all_records self.now in
-            result ≡ passes (is_incoming (number r) ident.now) seq (maker r seq) }
+    /// Whether the sequence with a number is incoming and has the identifier that the node issues for a number.
+    fn is_incoming(&self, seq: u32, drawn: Option<u64>) -> bool
+        ensures { let r = all_records self.now in (q : Text) → IsIssuedFor (number r) q drawn →
+            result ≡ passes (is_incoming (number r) q) seq (maker r seq) }
     {
         match self.maker(seq) {
-            Some(Maker::Granted { counter, .. }) => is_issued(self.number(), counter, ident),
-            Some(Maker::Offered { counter, .. }) => is_issued(self.number(), counter, ident),
+            Some(Maker::Granted { counter, .. }) => drawn == Some(counter),
+            Some(Maker::Offered { counter, .. }) => drawn == Some(counter),
             _ => false,
         }
     }
