@@ -5,7 +5,7 @@ use Rattle.rm_base.specs.Limits as limits
 use Rattle.soap_profile.specs.Document.{IsReadable, IsTextUpTo, HasNoTree}
 use Rattle.soap_envelope.specs.Envelope.{Envelope, IsEnvelope}
 use Rattle.soap_envelope.specs.Refusals.{WrongVersion, NotEnvelope}
-use Rattle.wsa_headers.specs.Addressing.{or_anonymous}
+use Rattle.wsa_headers.specs.Addressing.{anonymous as anonymous_uri}
 use Rattle.wsa_headers.specs.declared.addressing.Addressing.{Addressing}
 use Rattle.wsa_headers.specs.declared.endpoint.Epr.{Epr}
 use Rattle.rm_message.specs.declared.message.Message.{Message}
@@ -26,7 +26,7 @@ pub record Spells (soap bytes : List ℕ) (m : Message) : Type 0 where
 
 -- back on the connection that a message came on (Core, 2.1)
 abbrev pub anonymous : Epr
-anonymous = record { address = or_anonymous None; params = [] }
+anonymous = record { address = anonymous_uri; params = [] }
 
 -- whom a fault goes to: FaultTo, else ReplyTo, else back on the connection (Core, 3.4)
 abbrev pub fault_endpoint : Option Epr → Option Epr → Epr

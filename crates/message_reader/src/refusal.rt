@@ -1,7 +1,7 @@
 //! Refusals, with where their faults go: WS-Addressing 1.0 Core, section 3.4.
 ghost use Rattle.std.specs.Prelude.{◌≡◌, Option, Some, None, option_map, IfOk};
 ghost use Rattle.soap_values.specs.Outcome.{Gives};
-ghost use Rattle.wsa_headers.specs.Addressing.{or_anonymous};
+ghost use Rattle.wsa_headers.specs.Addressing.{anonymous as anonymous_uri};
 ghost use Rattle.message_reader.specs.Outcome.{wrong_of};
 ghost use Rattle.message_reader.specs.Refusals.{
   anonymous as back_on_the_connection,
@@ -17,13 +17,11 @@ use rm_message::{FaultKind, Names, Refusal};
 use soap_profile::Elements;
 use soap_values::{Flaw, read_uri};
 use std::alloc::Global;
-use wsa_headers::{Addressing, Epr};
-
-const ANONYMOUS: &[u8] = b"http://www.w3.org/2005/08/addressing/anonymous";
+use wsa_headers::{ANONYMOUS, Addressing, Epr};
 
 // The address of the other end of the connection that a message came on.
 fn anonymous_address(alloc: Global) -> Result<Uri, Flaw>
-    ensures { Gives (λ uri. uri) result (Some (or_anonymous None)) }
+    ensures { Gives (λ uri. uri) result (Some anonymous_uri) }
 {
     read_uri(alloc, ANONYMOUS)
 }

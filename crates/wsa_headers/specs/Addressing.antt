@@ -79,9 +79,13 @@ relates_in headers = do
   uris ← each uri_of (blocks_named (codes "RelatesTo") headers)
   if_present uri_of (first_of (filter is_reply (blocks_named (codes "RelatesTo") headers)))
 
--- the address that stands for the absent one (Core, 3.2)
+-- the address of whoever is at the other end of the connection (Core, 2.1)
+abbrev pub anonymous : List ℕ
+anonymous = codes "http://www.w3.org/2005/08/addressing/anonymous"
+
+-- it stands for an address that is absent (Core, 3.2)
 abbrev pub or_anonymous : Option (List ℕ) → List ℕ
-or_anonymous None = codes "http://www.w3.org/2005/08/addressing/anonymous"
+or_anonymous None = anonymous
 or_anonymous (Some uri) = uri
 
 -- the parameters that came with the message

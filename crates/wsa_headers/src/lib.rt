@@ -20,6 +20,6 @@ pub use laws::{
     addressing_blocks_are_told, addressing_is_good, addressing_is_read_back, epr_is_good,
     epr_is_read_back,
 };
-pub use read::{is_parameter, read_addressing};
+pub use read::{ANONYMOUS, is_parameter, read_addressing};
 pub use tag::Tag;
 pub use write::{push_epr, write_addressing, write_epr};

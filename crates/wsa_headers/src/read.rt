@@ -37,7 +37,8 @@ use std::alloc::Global;
 
 const REPLY: &[u8] = b"http://www.w3.org/2005/08/addressing/reply";
 
-const ANONYMOUS: &[u8] = b"http://www.w3.org/2005/08/addressing/anonymous";
+/// The address of whoever is at the other end of the connection: Core, section 2.1.
+pub const ANONYMOUS: &[u8] = b"http://www.w3.org/2005/08/addressing/anonymous";
 
 /// Whether a block is a reference parameter of the endpoint that the message was sent to. Then it is no header,
 /// whatever its name: SOAP Binding, section 3.3.
