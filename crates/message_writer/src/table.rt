@@ -6,6 +6,7 @@ ghost use Rattle.rm_base.specs.Text.{IsText};
 
 use rm_elements::{CONNECTION, MESSAGING};
 use rm_message::{FaultCode, FaultKind, actions};
+use soap_envelope::SOAP_SPACE;
 use wsa_headers::ADDRESSING;
 
 /// The vocabulary that a fault is of.
@@ -23,7 +24,7 @@ impl Vocabulary {
         ensures { result.now ≡ space_of self }
     {
         match self {
-            Vocabulary::OfSoap => b"http://www.w3.org/2003/05/soap-envelope",
+            Vocabulary::OfSoap => SOAP_SPACE,
             Vocabulary::OfAddressing => ADDRESSING,
             Vocabulary::OfMessaging => MESSAGING,
             Vocabulary::OfConnection => CONNECTION,
@@ -36,8 +37,8 @@ impl Vocabulary {
         ensures is_text { IsText 2048 result.now }
     {
         match self {
-            Vocabulary::OfSoap => b"http://www.w3.org/2005/08/addressing/soap/fault",
-            Vocabulary::OfAddressing => b"http://www.w3.org/2005/08/addressing/fault",
+            Vocabulary::OfSoap => actions::SOAP_FAULT,
+            Vocabulary::OfAddressing => actions::ADDRESSING_FAULT,
             Vocabulary::OfMessaging => actions::FAULT,
             Vocabulary::OfConnection => actions::CONNECTION_FAULT,
         }

@@ -1,42 +1,46 @@
 -- The actions of messages: WS-ReliableMessaging 1.2, sections 3.4 to 3.9 and 4, WS-MakeConnection 1.1, sections 3.2 and
 -- 4, and WS-Addressing 1.0 SOAP Binding, section 6.
-use Rattle.std.specs.Prelude.{ℕ, List, codes}
+use Rattle.std.specs.Prelude.{ℕ, List, ◌++◌, codes}
+
+-- the action of a message of WS-ReliableMessaging, by the name of its element
+abbrev pub action_of : List ℕ → List ℕ
+action_of name = codes "http://docs.oasis-open.org/ws-rx/wsrm/200702/" ++ name
 
 -- CreateSequence (WS-ReliableMessaging 1.2, 3.4)
 abbrev pub create_sequence : List ℕ
-create_sequence = codes "http://docs.oasis-open.org/ws-rx/wsrm/200702/CreateSequence"
+create_sequence = action_of (codes "CreateSequence")
 
 -- CreateSequenceResponse (3.4)
 abbrev pub create_sequence_response : List ℕ
-create_sequence_response = codes "http://docs.oasis-open.org/ws-rx/wsrm/200702/CreateSequenceResponse"
+create_sequence_response = action_of (codes "CreateSequenceResponse")
 
 -- CloseSequence (3.5)
 abbrev pub close_sequence : List ℕ
-close_sequence = codes "http://docs.oasis-open.org/ws-rx/wsrm/200702/CloseSequence"
+close_sequence = action_of (codes "CloseSequence")
 
 -- CloseSequenceResponse (3.5)
 abbrev pub close_sequence_response : List ℕ
-close_sequence_response = codes "http://docs.oasis-open.org/ws-rx/wsrm/200702/CloseSequenceResponse"
+close_sequence_response = action_of (codes "CloseSequenceResponse")
 
 -- TerminateSequence (3.6)
 abbrev pub terminate_sequence : List ℕ
-terminate_sequence = codes "http://docs.oasis-open.org/ws-rx/wsrm/200702/TerminateSequence"
+terminate_sequence = action_of (codes "TerminateSequence")
 
 -- TerminateSequenceResponse (3.6)
 abbrev pub terminate_sequence_response : List ℕ
-terminate_sequence_response = codes "http://docs.oasis-open.org/ws-rx/wsrm/200702/TerminateSequenceResponse"
+terminate_sequence_response = action_of (codes "TerminateSequenceResponse")
 
 -- a message that has AckRequested alone (3.8)
 abbrev pub ack_requested : List ℕ
-ack_requested = codes "http://docs.oasis-open.org/ws-rx/wsrm/200702/AckRequested"
+ack_requested = action_of (codes "AckRequested")
 
 -- one that has SequenceAcknowledgement alone (3.9)
 abbrev pub sequence_acknowledgement : List ℕ
-sequence_acknowledgement = codes "http://docs.oasis-open.org/ws-rx/wsrm/200702/SequenceAcknowledgement"
+sequence_acknowledgement = action_of (codes "SequenceAcknowledgement")
 
 -- the faults of WS-ReliableMessaging 1.2 (section 4)
 abbrev pub wsrm_fault : List ℕ
-wsrm_fault = codes "http://docs.oasis-open.org/ws-rx/wsrm/200702/fault"
+wsrm_fault = action_of (codes "fault")
 
 -- MakeConnection (WS-MakeConnection 1.1, 3.2)
 abbrev pub make_connection : List ℕ

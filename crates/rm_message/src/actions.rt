@@ -1,4 +1,5 @@
-//! The actions of messages: WS-ReliableMessaging 1.2, sections 3.4 to 3.9 and 4, and WS-MakeConnection 1.1.
+//! The actions of messages: WS-ReliableMessaging 1.2, sections 3.4 to 3.9 and 4, WS-MakeConnection 1.1, and
+//! WS-Addressing 1.0 SOAP Binding, section 6.
 
 /// The action of CreateSequence: WS-ReliableMessaging 1.2, section 3.4.
 pub const CREATE_SEQUENCE: &[u8] = b"http://docs.oasis-open.org/ws-rx/wsrm/200702/CreateSequence";
@@ -37,3 +38,9 @@ pub const MAKE_CONNECTION: &[u8] = b"http://docs.oasis-open.org/ws-rx/wsmc/20070
 
 /// The action of the faults of WS-MakeConnection 1.1: section 4.
 pub const CONNECTION_FAULT: &[u8] = b"http://docs.oasis-open.org/ws-rx/wsmc/200702/fault";
+
+/// The action of the faults of WS-Addressing 1.0: SOAP Binding, section 6.2.
+pub const ADDRESSING_FAULT: &[u8] = b"http://www.w3.org/2005/08/addressing/fault";
+
+/// The action of the faults of SOAP 1.2: SOAP Binding, section 6.1.
+pub const SOAP_FAULT: &[u8] = b"http://www.w3.org/2005/08/addressing/soap/fault";

@@ -20,6 +20,9 @@ use Rattle.rm_elements.specs.Writable.{IsLifecycleWritable}
 use Rattle.rm_elements.specs.declared.header.SeqHeader.{SeqHeader}
 use Rattle.rm_elements.specs.declared.lifecycle.Lifecycle.{Lifecycle}
 use Rattle.rm_elements.specs.declared.lifecycle.Lifecycle.TheVariants as life
+use Rattle.rm_message.specs.Actions.{create_sequence, create_sequence_response, close_sequence}
+use Rattle.rm_message.specs.Actions.{close_sequence_response, terminate_sequence, terminate_sequence_response}
+use Rattle.rm_message.specs.Actions.{ack_requested, sequence_acknowledgement, wsrm_fault, make_connection}
 use Rattle.rm_message.specs.declared.message.Body.{Body}
 use Rattle.rm_message.specs.declared.message.Body.TheVariants as body
 use Rattle.rm_message.specs.declared.message.FaultBody.{FaultBody}
@@ -50,26 +53,16 @@ pub record IsOtherAction (action : List ℕ) : Type 0 where
 
 pub other_action : (action : List ℕ) → (Contains protocol_actions action → ⊥) → IsOtherAction action
 other_action action none_of =
-    let a = differ action (codes "http://docs.oasis-open.org/ws-rx/wsrm/200702/CreateSequence")
-    (λ e. none_of (0, omega arith, sym e)) in
-    let b = differ action (codes "http://docs.oasis-open.org/ws-rx/wsrm/200702/CreateSequenceResponse")
-    (λ e. none_of (1, omega arith, sym e)) in
-    let c = differ action (codes "http://docs.oasis-open.org/ws-rx/wsrm/200702/CloseSequence")
-    (λ e. none_of (2, omega arith, sym e)) in
-    let d = differ action (codes "http://docs.oasis-open.org/ws-rx/wsrm/200702/CloseSequenceResponse")
-    (λ e. none_of (3, omega arith, sym e)) in
-    let f = differ action (codes "http://docs.oasis-open.org/ws-rx/wsrm/200702/TerminateSequence")
-    (λ e. none_of (4, omega arith, sym e)) in
-    let g = differ action (codes "http://docs.oasis-open.org/ws-rx/wsrm/200702/TerminateSequenceResponse")
-    (λ e. none_of (5, omega arith, sym e)) in
-    let h = differ action (codes "http://docs.oasis-open.org/ws-rx/wsmc/200702/MakeConnection")
-    (λ e. none_of (6, omega arith, sym e)) in
-    let i = differ action (codes "http://docs.oasis-open.org/ws-rx/wsrm/200702/SequenceAcknowledgement")
-    (λ e. none_of (7, omega arith, sym e)) in
-    let j = differ action (codes "http://docs.oasis-open.org/ws-rx/wsrm/200702/AckRequested")
-    (λ e. none_of (8, omega arith, sym e)) in
-    let k = differ action (codes "http://docs.oasis-open.org/ws-rx/wsrm/200702/fault")
-    (λ e. none_of (9, omega arith, sym e)) in
+    let a = differ action create_sequence (λ e. none_of (0, omega arith, sym e)) in
+    let b = differ action create_sequence_response (λ e. none_of (1, omega arith, sym e)) in
+    let c = differ action close_sequence (λ e. none_of (2, omega arith, sym e)) in
+    let d = differ action close_sequence_response (λ e. none_of (3, omega arith, sym e)) in
+    let f = differ action terminate_sequence (λ e. none_of (4, omega arith, sym e)) in
+    let g = differ action terminate_sequence_response (λ e. none_of (5, omega arith, sym e)) in
+    let h = differ action make_connection (λ e. none_of (6, omega arith, sym e)) in
+    let i = differ action sequence_acknowledgement (λ e. none_of (7, omega arith, sym e)) in
+    let j = differ action ack_requested (λ e. none_of (8, omega arith, sym e)) in
+    let k = differ action wsrm_fault (λ e. none_of (9, omega arith, sym e)) in
     record { no_element = rw (a, b, c, d, f, g, h) refl; not_bare = rw (i, j, k) refl }
 
 -- ---- a payload

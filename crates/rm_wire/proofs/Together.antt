@@ -30,6 +30,7 @@ use Rattle.rm_elements.specs.declared.header.AckBlock.{AckBlock}
 use Rattle.rm_elements.specs.declared.header.Header.TheVariants as headers
 use Rattle.rm_elements.specs.declared.header.SeqHeader.{SeqHeader}
 use Rattle.rm_elements.specs.declared.lifecycle.Lifecycle.TheVariants as life
+use Rattle.rm_message.specs.Actions.{create_sequence}
 use Rattle.rm_message.specs.declared.message.Body.{Body}
 use Rattle.rm_message.specs.declared.message.Body.TheVariants as body
 use Rattle.rm_message.specs.declared.message.Message.{Message}
@@ -143,8 +144,7 @@ with_fault soap e has =
     ∙ none_second (has_block (wsa (codes "MessageID")) e.headers) (is_create (uri_header (codes "Action") e.headers))
 
 no_create_by : (action : List ℕ) (b : Bool)
-    → bytes_eq action (codes "http://docs.oasis-open.org/ws-rx/wsrm/200702/CreateSequence") ≡ b
-    → element_for action ≡ None → b ≡ false
+    → bytes_eq action create_sequence ≡ b → element_for action ≡ None → b ≡ false
 no_create_by action true is none_of = let impossible = rw is at none_of in cc
 no_create_by action false is none_of = refl
 
