@@ -24,6 +24,9 @@ use Rattle.rm_elements.specs.declared.lifecycle.Lifecycle.{Lifecycle}
 use Rattle.rm_elements.specs.declared.lifecycle.Lifecycle.TheVariants as life
 use Rattle.rm_elements.specs.declared.read.BodyName.{BodyName}
 use Rattle.rm_elements.specs.declared.read.BodyName.TheVariants as names
+use Rattle.rm_message.specs.Actions.{create_sequence, create_sequence_response, close_sequence}
+use Rattle.rm_message.specs.Actions.{close_sequence_response, terminate_sequence, terminate_sequence_response}
+use Rattle.rm_message.specs.Actions.{make_connection}
 use Rattle.rm_message.specs.declared.message.Body.{Body}
 use Rattle.rm_message.specs.declared.message.Body.TheVariants as bodies
 use Rattle.message_writer.specs.Rules.{action_for, bare_actions, protocol_actions, HasItsId}
@@ -64,14 +67,13 @@ no_action action e there =
 
 -- the action of a body element by its name
 abbrev action_of : BodyName → List ℕ
-action_of names.CreateName = codes "http://docs.oasis-open.org/ws-rx/wsrm/200702/CreateSequence"
-action_of names.CreateResponseName = codes "http://docs.oasis-open.org/ws-rx/wsrm/200702/CreateSequenceResponse"
-action_of names.CloseName = codes "http://docs.oasis-open.org/ws-rx/wsrm/200702/CloseSequence"
-action_of names.CloseResponseName = codes "http://docs.oasis-open.org/ws-rx/wsrm/200702/CloseSequenceResponse"
-action_of names.TerminateName = codes "http://docs.oasis-open.org/ws-rx/wsrm/200702/TerminateSequence"
-action_of names.TerminateResponseName =
-    codes "http://docs.oasis-open.org/ws-rx/wsrm/200702/TerminateSequenceResponse"
-action_of names.MakeName = codes "http://docs.oasis-open.org/ws-rx/wsmc/200702/MakeConnection"
+action_of names.CreateName = create_sequence
+action_of names.CreateResponseName = create_sequence_response
+action_of names.CloseName = close_sequence
+action_of names.CloseResponseName = close_sequence_response
+action_of names.TerminateName = terminate_sequence
+action_of names.TerminateResponseName = terminate_sequence_response
+action_of names.MakeName = make_connection
 
 -- the element that goes with an action
 record GoesWith (action : List ℕ) (name : Expanded) : Type 0 where
@@ -152,7 +154,7 @@ pub record IsBodyOf (numbered : Bool) (action : List ℕ) (id : Option (List ℕ
 
 -- a message that says it creates a sequence has an identifier
 abbrev pub CreatesById : List ℕ → Option (List ℕ) → Type 0
-CreatesById action id = action ≡ codes "http://docs.oasis-open.org/ws-rx/wsrm/200702/CreateSequence" → IsSome id
+CreatesById action id = action ≡ create_sequence → IsSome id
 
 has_its_id : (x : Lifecycle) (action : List ℕ) (id : Option (List ℕ)) → action ≡ action_for x → CreatesById action id
     → HasItsId x id

@@ -30,6 +30,7 @@ use Rattle.rm_elements.specs.declared.header.AckBlock.{AckBlock}
 use Rattle.rm_elements.specs.declared.header.Header.{Header}
 use Rattle.rm_elements.specs.declared.header.Header.TheVariants as heads
 use Rattle.rm_elements.specs.declared.header.SeqHeader.{SeqHeader}
+use Rattle.rm_message.specs.Actions.{create_sequence}
 use Rattle.rm_message.specs.declared.message.Body.{Body}
 use Rattle.rm_message.specs.declared.message.Body.TheVariants as bodies
 use Rattle.rm_message.specs.declared.message.Message.{Message}
@@ -143,10 +144,9 @@ lacking_at false fault create e f c = let wrong : true ≡ false = rw (f, c) at 
 
 create_told : (headers : List Element) (action : List ℕ)
     → uri_header (codes "Action") headers ≡ Some (Some action)
-    → action ≡ codes "http://docs.oasis-open.org/ws-rx/wsrm/200702/CreateSequence"
-    → is_create (uri_header (codes "Action") headers) ≡ true
+    → action ≡ create_sequence → is_create (uri_header (codes "Action") headers) ≡ true
 create_told headers action a e =
-    ap is_create a ∙ equal action (codes "http://docs.oasis-open.org/ws-rx/wsrm/200702/CreateSequence") e
+    ap is_create a ∙ equal action create_sequence e
 
 picked_at : (p : Element → Bool) (x : Element) (xs : List Element) (t : Bool) → (t || list_any p xs) ≡ true
     → (list_any p xs ≡ true → filter p xs ≡ [] → ⊥) → (if t then x ∷ filter p xs else filter p xs) ≡ [] → ⊥
