@@ -6,9 +6,8 @@ use Rattle.soap_profile.specs.Document.{Document}
 use Rattle.soap_profile.specs.Tree.{Element}
 use Rattle.rm_policy.specs.Assertion.{is_granted}
 use Rattle.rm_policy.specs.Reading.{ReadsAs}
+use Rattle.rm_policy.specs.Texts.{assurance_word}
 use Rattle.rm_policy.specs.declared.assertion.Assertion.{Assertion}
-use Rattle.rm_policy.specs.declared.assertion.Assurance.{Assurance}
-use Rattle.rm_policy.specs.declared.assertion.Assurance.TheVariants.{Unsaid, ExactlyOnce, AtLeastOnce, AtMostOnce}
 use Rattle.rm_policy.specs.declared.error.PolicyError.TheVariants as errors
 use Rattle.rm_command.specs.declared.end.End.{End}
 use Rattle.rm_command.specs.declared.end.End.TheVariants.{Refused}
@@ -17,13 +16,6 @@ use Rattle.rm_command.specs.declared.end.Fault.TheVariants.{NotUtf8, NotProfile}
 use Rattle.rm_command.specs.declared.end.Fault.TheVariants.{Malformed, SecurityUnsupported}
 use Rattle.rm_command.specs.Edge.{Edge}
 use Rattle.rm_command.specs.Filter.{EndsFilter, IsFilterStatus}
-
--- the word for an assurance
-abbrev pub assurance_word : Assurance → List ℕ
-assurance_word Unsaid = codes "unsaid"
-assurance_word ExactlyOnce = codes "exactly-once"
-assurance_word AtLeastOnce = codes "at-least-once"
-assurance_word AtMostOnce = codes "at-most-once"
 
 -- yes or no
 abbrev pub answer_word : Bool → List ℕ

@@ -1,13 +1,13 @@
 //! What `policy` prints of an assertion.
 ghost use Rattle.std.specs.Prelude.{◌≡◌, ◌≤◌, length, IfOk, Err};
 ghost use Rattle.rm_base.specs.Limits.{envelope_bytes};
-ghost use Rattle.rm_command.specs.Policy.{assurance_word, answer_word, policy_text, HasPolicyFault, IsPolicyTextOf};
+ghost use Rattle.rm_command.specs.Policy.{answer_word, policy_text, HasPolicyFault, IsPolicyTextOf};
 ghost use Rattle.rm_command.specs.declared.end.Fault.{Fault as AFault};
 
 use crate::end::Fault;
 use crate::filter::NoText;
 use rm_base::{Blob, Memory};
-use rm_policy::{Assertion, Assurance, PolicyError, grants, read_assertion};
+use rm_policy::{Assertion, PolicyError, grants, read_assertion};
 use soap_profile::EnvelopeError;
 use std::alloc::Global;
 
@@ -38,7 +38,7 @@ fn text_of_assertion(alloc: Global, assertion: &Assertion) -> Result<Blob, Memor
     ensures { IfOk result (λ text. text ≡ policy_text assertion.now) }
 {
     let mut text = Blob::from_slice(alloc, b"assurance ")?;
-    text.push_all(word_of(assertion.assurance))?;
+    text.push_all(assertion.assurance.word())?;
     text.push_all(b"\nin-order ")?;
     text.push_all(answer(assertion.in_order))?;
     text.push_all(b"\noptional ")?;
@@ -47,17 +47,6 @@ fn text_of_assertion(alloc: Global, assertion: &Assertion) -> Result<Blob, Memor
     text.push_all(answer(grants(assertion)))?;
     text.push_all(b"\n")?;
     Ok(text)
-}
-
-fn word_of(assurance: Assurance) -> &'static [u8]
-    ensures { result.now ≡ assurance_word assurance }
-{
-    match assurance {
-        Assurance::Unsaid => b"unsaid",
-        Assurance::ExactlyOnce => b"exactly-once",
-        Assurance::AtLeastOnce => b"at-least-once",
-        Assurance::AtMostOnce => b"at-most-once",
-    }
 }
 
 fn answer(is_so: bool) -> &'static [u8]

@@ -1,4 +1,4 @@
--- Assertions as they are written: WS-RM Policy 1.2, section 2.
+-- Assertions as they are written, WS-RM Policy 1.2, section 2, and the words that are printed of them.
 use Rattle.std.specs.Prelude.{ℕ, List, [], ◌++◌, Bool, true, false, codes}
 use Rattle.rm_policy.specs.declared.assertion.Assertion.{Assertion}
 use Rattle.rm_policy.specs.declared.assertion.Assurance.{Assurance}
@@ -33,3 +33,10 @@ assertion_text a =
     ++ codes "xmlns:w=\"http://www.w3.org/ns/ws-policy\"" ++ optional_text a.optional ++ codes "><w:Policy>"
     ++ assurance_text a.assurance ++ order_text a.in_order ++ end_text a.assurance
     ++ codes "</w:Policy></p:RMAssertion>"
+
+-- the word for an assurance, where it is printed
+abbrev pub assurance_word : Assurance → List ℕ
+assurance_word Unsaid = codes "unsaid"
+assurance_word ExactlyOnce = codes "exactly-once"
+assurance_word AtLeastOnce = codes "at-least-once"
+assurance_word AtMostOnce = codes "at-most-once"

@@ -1,6 +1,7 @@
 //! What an assertion says: WS-RM Policy 1.2, section 2.
 ghost use Rattle.std.specs.Prelude.{◌≡◌};
 ghost use Rattle.rm_policy.specs.Assertion.{is_granted};
+ghost use Rattle.rm_policy.specs.Texts.{assurance_word};
 
 /// How often a message is delivered: WS-ReliableMessaging 1.2, section 2.4.
 #[derive(Clone, Copy, Debug, PartialEq, Eq)]
@@ -10,6 +11,20 @@ pub enum Assurance {
     ExactlyOnce,
     AtLeastOnce,
     AtMostOnce,
+}
+
+impl Assurance {
+    /// The word for it, where it is printed.
+    pub fn word(self) -> &'static [u8]
+        ensures { result.now ≡ assurance_word self }
+    {
+        match self {
+            Assurance::Unsaid => b"unsaid",
+            Assurance::ExactlyOnce => b"exactly-once",
+            Assurance::AtLeastOnce => b"at-least-once",
+            Assurance::AtMostOnce => b"at-most-once",
+        }
+    }
 }
 
 /// An assertion of reliable messaging. `in_order` says that messages are delivered in the order of their numbers, and

@@ -15,8 +15,9 @@ use Rattle.std.proofs.lemmas.List.{append_cancel_left}
 use Rattle.hex.specs.Hex.{upper_digits}
 use Rattle.soap_profile.specs.declared.name.Expanded.{Expanded}
 use Rattle.rm_policy.specs.declared.assertion.Assurance.{Assurance}
+use Rattle.rm_policy.specs.Texts.{assurance_word}
 use Rattle.rm_policy.specs.declared.assertion.Assurance.TheVariants.{Unsaid, ExactlyOnce, AtLeastOnce, AtMostOnce}
-use Rattle.wsp_alternatives.specs.Texts.{is_plain, escaped_byte, escaped, assurance_word, order_text, term_text}
+use Rattle.wsp_alternatives.specs.Texts.{is_plain, escaped_byte, escaped, order_text, term_text}
 use Rattle.wsp_alternatives.specs.Texts.{more_terms}
 use Rattle.wsp_alternatives.specs.Texts.{terms_text, alternative_line, lines_from, normal_text, IsTermNamed}
 use Rattle.wsp_alternatives.specs.Texts.{AreNamed}

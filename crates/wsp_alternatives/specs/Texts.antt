@@ -5,8 +5,7 @@ use Rattle.std.specs.Prelude.{◌++◌, codes, decimal, length, slice_index}
 use Rattle.std.specs.List.{AllByRecursion, flat_map}
 use Rattle.hex.specs.Hex.{upper_digits}
 use Rattle.soap_profile.specs.declared.name.Expanded.{Expanded}
-use Rattle.rm_policy.specs.declared.assertion.Assurance.{Assurance}
-use Rattle.rm_policy.specs.declared.assertion.Assurance.TheVariants.{Unsaid, ExactlyOnce, AtLeastOnce, AtMostOnce}
+use Rattle.rm_policy.specs.Texts.{assurance_word}
 use Rattle.wsp_alternatives.specs.declared.term.Term.{Term}
 use Rattle.wsp_alternatives.specs.declared.term.Term.TheVariants.{Rm, Other}
 
@@ -23,13 +22,6 @@ escaped_byte byte =
 -- bytes, each so
 abbrev pub escaped : List ℕ → List ℕ
 escaped bytes = flat_map escaped_byte bytes
-
--- the word for an assurance
-abbrev pub assurance_word : Assurance → List ℕ
-assurance_word Unsaid = codes "unsaid"
-assurance_word ExactlyOnce = codes "exactly-once"
-assurance_word AtLeastOnce = codes "at-least-once"
-assurance_word AtMostOnce = codes "at-most-once"
 
 -- whether messages are delivered in order
 abbrev pub order_text : Bool → List ℕ

@@ -4,7 +4,6 @@ ghost use Rattle.std.specs.Prelude.{◌≡◌, ◌++◌, decimal, IfOk, OnOk};
 ghost use Rattle.wsp_alternatives.specs.Pieces.{piece_text, pieces_text};
 ghost use Rattle.wsp_alternatives.specs.Texts.{
   alternative_line,
-  assurance_word as word_for,
   escaped,
   lines_from,
   normal_text,
@@ -15,7 +14,6 @@ ghost use Rattle.wsp_alternatives.specs.Texts.{
 
 use crate::term::{Alternatives, Term, Terms};
 use rm_base::{Blob, Memory, push_decimal};
-use rm_policy::Assurance;
 use std::alloc::Global;
 
 /// A piece of text: a word as it stands, the digits of a number, or a part of a name, whose bytes are to be escaped.
@@ -90,7 +88,7 @@ fn push_term<'a>(pieces: &mut Vec<Piece<'a>>, term: &'a Term) -> Result<(), Memo
     match term {
         Term::Rm(assurance, in_order) => {
             push_word(pieces, b"rm:")?;
-            push_word(pieces, assurance_word(*assurance))?;
+            push_word(pieces, assurance.word())?;
             push_word(pieces, order_word(*in_order))
         }
         Term::Other(name) => {
@@ -99,17 +97,6 @@ fn push_term<'a>(pieces: &mut Vec<Piece<'a>>, term: &'a Term) -> Result<(), Memo
             push_word(pieces, b"}")?;
             push_name(pieces, name.local())
         }
-    }
-}
-
-fn assurance_word(assurance: Assurance) -> &'static [u8]
-    ensures { result.now ≡ word_for assurance }
-{
-    match assurance {
-        Assurance::Unsaid => b"unsaid",
-        Assurance::ExactlyOnce => b"exactly-once",
-        Assurance::AtLeastOnce => b"at-least-once",
-        Assurance::AtMostOnce => b"at-most-once",
     }
 }
 
