@@ -1,3 +1,2 @@
 mod DrawLemmas
 mod IdentLemmas
-mod IdentTexts

@@ -20,11 +20,14 @@ issue node counter = urn_text lower (to_be_bytes w128 (upper_half node * 2 ^ 64 
 pub record IsIssuedFor (node : ℕ) (q : Text) (o : Option ℕ) : Type 0 where
   pub exactly : (c : ℕ) → c < 2 ^ 64 → (issue node c ≡ q) ↔ (o ≡ Some c)
 
--- where messages for a node wait that nobody can reach: WS-MakeConnection 1.1, section 3.1, with the UUID of counter 0
+-- what the addresses of nodes that nobody can reach begin with: WS-MakeConnection 1.1, section 3.1
+unfoldable pub polled_prefix : Text
+polled_prefix = codes "http://docs.oasis-open.org/ws-rx/wsmc/200702/anonymous?id="
+
+-- where messages for such a node wait: WS-MakeConnection 1.1, section 3.1, with the UUID of counter 0
 unfoldable pub polled_address : ℕ → Text
 polled_address node =
-    codes "http://docs.oasis-open.org/ws-rx/wsmc/200702/anonymous?id="
-    ++ hyphenated_text lower (to_be_bytes w128 (upper_half node * 2 ^ 64 + lower_half 0))
+    polled_prefix ++ hyphenated_text lower (to_be_bytes w128 (upper_half node * 2 ^ 64 + lower_half 0))
 
 -- a node issues an identifier for one number alone
 abbrev pub IssuesOnce : Type 0

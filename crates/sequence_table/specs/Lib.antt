@@ -3,6 +3,7 @@ pub mod Examples
 pub mod Find
 pub mod Fits
 pub mod GatherLemmas
+pub mod IdentTexts
 pub mod Idents
 pub mod Makers
 pub mod NameLemmas

@@ -1,9 +1,9 @@
-use Rattle.std.proofs.Common.{◌≡◌, ◌*◌, ◌+◌, ◌^◌, List, ℕ, refl, sym, ◌∙◌, ap, subst}
+use Rattle.std.proofs.Common.{◌≡◌, ◌*◌, ◌+◌, ◌^◌, List, ℕ, refl, sym, ◌∙◌, ap, subst, arith}
 use Rattle.std.specs.Int.{w128, to_be_bytes}
 use Rattle.uuid.specs.Text.{lower, urn_text}
 use Rattle.rm_base.specs.Text.{IsText}
+use Rattle.sequence_table.specs.IdentTexts.{issue-text}
 use Rattle.sequence_table.specs.Idents.{issue, upper_half, lower_half}
-use Rattle.sequence_table.proofs.IdentTexts.{issue-text}
 use Rattle.sequence_table.proofs.idents.issue.Goals as goal
 
 issued : (node counter high low : ℕ) (urn uuid text bytes : List ℕ) → bytes ≡ text → text ≡ urn_text lower urn
@@ -20,7 +20,8 @@ unreachable-requires-in-Err-NotText c =
     c.encode_lower-text.ensures.text c.urn.ensures c.from_u64_pair-uuid.ensures c.upper_half.ensures
     c.lower_half.ensures in
     let why = rw c.in-Err-NotText.field-0-is at c.in-Err-NotText.ensures.err in
-    absurd (why.2 (subst (λ (t : List ℕ). IsText 512 t) (sym same) (issue-text c.args.node c.args.counter)))
+    absurd (why.2 (subst (λ (t : List ℕ). IsText 512 t) (sym same)
+    (issue-text 512 c.args.node c.args.counter (omega arith))))
 
 pub returns-in-Ok : goal.returns-in-Ok
 returns-in-Ok c =

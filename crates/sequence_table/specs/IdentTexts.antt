@@ -1,21 +1,22 @@
--- An identifier that a node issues is a text: 45 characters of ASCII, none of them white space.
+-- Lemmas on what a node issues, which the crates above use: its identifiers and the polled address are texts,
+-- characters of ASCII, none of them white space.
 use Rattle.std.proofs.Common.{◌≡◌, ℕ, suc, ◌+◌, ◌*◌, ◌-◌, ◌<◌, ◌≤◌, ◌^◌, Bool, true, false, cond, List, [], ◌∷◌}
-use Rattle.std.proofs.Common.{◌++◌, length, get_or, refl, sym, ap, ◌∙◌, arith, inl, inr}
+use Rattle.std.proofs.Common.{◌++◌, length, get_or, refl, arith}
 use Prim.Native.Nat.{zero}
-use Rattle.std.specs.Prelude.{◌&&◌, ◌||◌, nat_le, nat_lt, IsTrue, codes}
+use Rattle.std.specs.Prelude.{◌&&◌, nat_le, nat_lt}
 use Rattle.std.specs.Int.{w128, to_be_bytes}
 use Rattle.std.specs.List.{list_all}
-use Rattle.std.specs.Str.{IsAscii, chars}
-use Rattle.std.proofs.lemmas.Bool.{and_parts, leb-true, ltb-true, ltb-false}
+use Rattle.std.specs.Str.{IsAscii}
+use Rattle.std.proofs.lemmas.Bool.{and_parts, leb-true}
 use Rattle.std.proofs.lemmas.Bool.Decides.{nat_tests}
 use Rattle.std.proofs.lemmas.List.{length-append}
 use Rattle.std.proofs.lemmas.Str.{IsUtf8-from_ascii, chars-IsAscii}
-use Rattle.uuid.specs.Text.{lower, urn_text, urn_prefix, hyphenated_text, by_index, hex_digit, nibble}
+use Rattle.uuid.specs.Text.{lower, urn_prefix, hyphenated_text, by_index, hex_digit, nibble}
 use Rattle.uuid.specs.Text.{is_hyphen_place, digit_place}
 use Rattle.uuid.proofs.TextLemmas.{by_index_length, nibble_small}
 use Rattle.xml_chars.specs.Classes.{is_char, is_space}
 use Rattle.rm_base.specs.Text.{IsText}
-use Rattle.sequence_table.specs.Idents.{issue, upper_half, lower_half}
+use Rattle.sequence_table.specs.Idents.{issue, polled_address, polled_prefix, upper_half, lower_half}
 
 -- a character of ASCII that is seen
 abbrev pub is_mark : ℕ → Bool
@@ -112,16 +113,27 @@ place-mark : (b : Bool) (d : ℕ) → d < 16 → is_mark (cond b 45 (hex_digit 9
 place-mark true d small = refl
 place-mark false d small = digit-mark (nat_lt d 10) d refl small
 
-pub urn-text : (xs : List ℕ) → IsText 512 (urn_text lower xs)
-urn-text xs =
+-- the digits of a UUID behind such characters are a text
+prefixed-text : (limit : ℕ) (prefix xs : List ℕ) → length prefix + 36 ≤ limit → list_all is_mark prefix ≡ true
+    → IsText limit (prefix ++ hyphenated_text lower xs)
+prefixed-text limit prefix xs within e =
     let digits : list_all is_mark (hyphenated_text lower xs) ≡ true =
     marks-by_index 36 (λ k. cond (is_hyphen_place k) 45 (hex_digit 97 (nibble xs (digit_place k))))
     (λ k. place-mark (is_hyphen_place k) (nibble xs (digit_place k)) (nibble_small xs (digit_place k))) in
     let long : length (hyphenated_text lower xs) ≡ 36 = by_index_length 36 _ in
-    marks-text 512 (urn_text lower xs) (omega (arith, length-append urn_prefix (hyphenated_text lower xs), long))
-    (omega (arith, length-append urn_prefix (hyphenated_text lower xs), long))
-    (marks-append urn_prefix (hyphenated_text lower xs) refl digits)
+    let all : length (prefix ++ hyphenated_text lower xs) ≡ length prefix + length (hyphenated_text lower xs) =
+    length-append prefix (hyphenated_text lower xs) in
+    marks-text limit (prefix ++ hyphenated_text lower xs) (omega (arith, all, long)) (omega (arith, all, long, within))
+    (marks-append prefix (hyphenated_text lower xs) e digits)
 
-pub issue-text : (node counter : ℕ) → IsText 512 (issue node counter)
+-- an identifier is a text of 45 characters
+pub issue-text : (limit node counter : ℕ) → 45 ≤ limit → IsText limit (issue node counter)
 unfolding issue
-issue-text node counter = urn-text (to_be_bytes w128 (upper_half node * 2 ^ 64 + lower_half counter))
+issue-text limit node counter within =
+    prefixed-text limit urn_prefix (to_be_bytes w128 (upper_half node * 2 ^ 64 + lower_half counter)) within refl
+
+-- the polled address is a text
+pub polled-text : (node : ℕ) → IsText 2048 (polled_address node)
+unfolding polled_address polled_prefix
+polled-text node =
+    prefixed-text 2048 polled_prefix (to_be_bytes w128 (upper_half node * 2 ^ 64 + lower_half 0)) (omega arith) refl
