@@ -51,7 +51,8 @@ use Rattle.rm_protocol.specs.Heard.{Heard}
 use Rattle.rm_protocol.specs.Messages.{data_at, request_at, ack_message}
 use Rattle.rm_protocol.specs.Rows.{rows}
 use Rattle.rm_protocol.specs.Terms.{Terms, AreTerms}
-use Rattle.rm_protocol.specs.Verdict.{first_held, tests, verdict, has_room}
+use Rattle.rm_protocol.specs.Verdict.{tests, verdict, has_room}
+use Rattle.rm_protocol.specs.VerdictLemmas.{none-held}
 use Rattle.rm_protocol.proofs.ListLemmas.{All-append}
 use Rattle.rm_protocol.proofs.Kept.{Keeps-adds, kept-counter}
 use Rattle.rm_protocol.proofs.HeardLemmas.{rows-heard}
@@ -404,16 +405,6 @@ heard-with b m h (rec ∷ d) e = All-append (IsWith b) (makers_of rec) (makers d
     (heard-with b m h d e.1)
 
 -- a message without a verdict fits the store
-pub none-held : (xs : List (Bool × FaultKind)) → first_held xs ≡ None
-    → AllByRecursion (λ (x : Bool × FaultKind). x.0 ≡ false) xs
-none-held [] e = tt
-none-held (x ∷ xs) e =
-    elim x.0 as (λ b. x.0 ≡ b → cond b (Some x.1) (first_held xs) ≡ None → (x.0 ≡ false)
-    × AllByRecursion (λ (x : Bool × FaultKind). x.0 ≡ false) xs) [
-      | true ↦ λ d h. absurd (cc)
-      | false ↦ λ d h. (d, none-held xs h)
-    ] refl e
-
 pub not-false : (x : Bool) → not x ≡ false → x ≡ true
 not-false true e = refl
 not-false false e = absurd (cc)

@@ -69,7 +69,8 @@ use Rattle.rm_protocol.specs.Rows.{fault_row, body_row, rows}
 use Rattle.rm_protocol.specs.Terms.{Terms, EndsLater}
 use Rattle.rm_protocol.proofs.ListLemmas.{All-weaker, numbered-append, at_seq-append, numbered-last}
 use Rattle.rm_protocol.proofs.Growth.{created-add}
-use Rattle.rm_protocol.proofs.CallLemmas.{none-held, not-false}
+use Rattle.rm_protocol.specs.VerdictLemmas.{none-held}
+use Rattle.rm_protocol.proofs.CallLemmas.{not-false}
 use Rattle.rm_protocol.proofs.FitLemmas.{both, first, second, neither, true-not, same_number, alone, unless-fit}
 use Rattle.rm_protocol.proofs.FitLemmas.{if-fit, all_fit-append, untouched, outgoing-found, incoming-found}
 use Rattle.rm_protocol.proofs.FitLemmas.{creating-found, follow, sending-follows, united-up_to, all-up_to, not_above}

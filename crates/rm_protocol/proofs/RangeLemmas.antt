@@ -6,7 +6,8 @@ use Rattle.ack_ranges.specs.declared.range.Range.{Range}
 use Rattle.ack_ranges.specs.Ranges.{is_between, in_range, in_ranges}
 use Rattle.ack_ranges.specs.Changes.{with_range, united}
 use Rattle.rm_base.specs.NumberSet.{has_number}
-use Rattle.rm_protocol.specs.Messages.{ranges_onto, kind_of}
+use Rattle.rm_destination.specs.Messages.{ranges_onto}
+use Rattle.rm_protocol.specs.Messages.{kind_of}
 use Rattle.rm_protocol.specs.Rows.{ranges_of}
 
 -- one of two

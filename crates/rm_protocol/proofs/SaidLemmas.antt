@@ -19,7 +19,7 @@ use Rattle.rm_message.specs.declared.message.Message.{Message}
 use Rattle.wsa_headers.specs.declared.endpoint.Epr.{Epr}
 use Rattle.record_batch.specs.declared.record.Via.{Via}
 use Rattle.record_batch.specs.Fact.{Fact}
-use Rattle.rm_destination.specs.Messages.{is_empty, numbers_of}
+use Rattle.rm_destination.specs.Messages.{is_empty, numbers_of, ranges_onto}
 use Rattle.sequence_table.specs.Words.{Text, at_seq, last_or}
 use Rattle.sequence_table.specs.Idents.{issue}
 use Rattle.sequence_table.specs.Makers.{Maker, Outgoing, Offered, Incoming, Taken, makers, maker, number}
@@ -40,7 +40,7 @@ use Rattle.sequence_table.specs.Find.{plain_endpoint}
 use Rattle.rm_protocol.specs.Addresses.{is_anonymous, own_address, reply_endpoint}
 use Rattle.rm_protocol.specs.Calls.{fault_block, block_at, block_by, final_ack, made_by, refusal_of}
 use Rattle.rm_protocol.specs.Messages.{data_by, data_at, offer_by, create_request, finish_request, request_by}
-use Rattle.rm_protocol.specs.Messages.{request_at, last_number, ranges_onto, block_of, ack_message, never}
+use Rattle.rm_protocol.specs.Messages.{request_at, last_number, block_of, ack_message, never}
 use Rattle.rm_protocol.specs.Rows.{last_of}
 use Rattle.rm_protocol.specs.Said.{grant_response, create_response, finish_response, find_grant_of, responses, Ack}
 use Rattle.rm_protocol.specs.Said.{ack_to, ack_of, data_ident, found_in, data_acks, given_with, ask_ack, ask_acks}

@@ -1,24 +1,22 @@
--- Namespaces, actions and addresses: WS-Addressing 1.0 Core, section 2.1, WS-MakeConnection 1.1, section 3.1, and
--- WS-ReliableMessaging 1.2, section 1.4.
-use Rattle.std.specs.Prelude.{◌&&◌, nat_lt, Bool, if◌then◌else◌, List, ◌++◌, length, take, codes, Option, Some, None}
+-- Actions and addresses: WS-Addressing 1.0 Core, section 2.1, WS-MakeConnection 1.1, section 3.1, and
+-- WS-ReliableMessaging 1.2, section 3.
+use Rattle.std.specs.Prelude.{◌&&◌, nat_lt, Bool, if◌then◌else◌, List, length, take, codes, Option, Some, None}
 use Rattle.std.specs.Str.{bytes_eq}
+use Rattle.wsa_headers.specs.Addressing.{anonymous as anonymous_uri}
 use Rattle.wsa_headers.specs.declared.addressing.Addressing.{Addressing}
 use Rattle.wsa_headers.specs.declared.endpoint.Epr.{Epr}
+use Rattle.rm_message.specs.Actions.{action_of}
 use Rattle.record_batch.specs.declared.record.Via.{Via}
 use Rattle.record_batch.specs.declared.record.Via.TheVariants.{Direct, Polled, Back}
 use Rattle.record_batch.specs.Fact.{Fact}
 use Rattle.sequence_table.specs.Words.{Text}
-use Rattle.sequence_table.specs.Idents.{polled_address}
+use Rattle.sequence_table.specs.Idents.{polled_address, polled_prefix}
 use Rattle.sequence_table.specs.Makers.{number, address}
 use Rattle.sequence_table.specs.Find.{plain_endpoint}
 
--- the namespace of the protocol: WS-ReliableMessaging 1.2, section 1.4
-unfoldable pub rm_space : Text
-rm_space = codes "http://docs.oasis-open.org/ws-rx/wsrm/200702"
-
 -- the action of a message of the protocol, by the name of its element
 unfoldable pub rm_action : Text → Text
-rm_action name = codes "http://docs.oasis-open.org/ws-rx/wsrm/200702/" ++ name
+rm_action name = action_of name
 
 -- the action of a message of the application
 unfoldable pub payload_action : Text
@@ -26,15 +24,11 @@ payload_action = codes "urn:wsrm:payload"
 
 -- the address of whoever is at the other end of the connection
 unfoldable pub anonymous : Text
-anonymous = codes "http://www.w3.org/2005/08/addressing/anonymous"
+anonymous = anonymous_uri
 
 -- the address of nobody
 unfoldable pub no_address : Text
 no_address = codes "http://www.w3.org/2005/08/addressing/none"
-
--- what the addresses of nodes that nobody can reach begin with
-unfoldable pub polled_prefix : Text
-polled_prefix = codes "http://docs.oasis-open.org/ws-rx/wsmc/200702/anonymous?id="
 
 -- an address is the first of these
 abbrev pub is_anonymous : Text → Bool

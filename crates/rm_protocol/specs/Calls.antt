@@ -26,10 +26,11 @@ use Rattle.sequence_table.specs.Makers.{Maker, Outgoing, Taken, makers, maker, c
 use Rattle.sequence_table.specs.Sources.{accepted, out_ident, phase, unacked, all_unacked}
 use Rattle.rm_base.specs.NumberSet.{has_number}
 use Rattle.rm_destination.specs.Incoming.{is_past}
+use Rattle.rm_destination.specs.Messages.{ranges_onto}
 use Rattle.sequence_table.specs.Destinations.{held, has_end, is_over, deadline_of}
 use Rattle.sequence_table.specs.Find.{incoming_of, find_incoming, acks_to, peer}
 use Rattle.rm_protocol.specs.Addresses.{fault_endpoint}
-use Rattle.rm_protocol.specs.Messages.{data_at, request_at, block_of, ask_message, ranges_onto}
+use Rattle.rm_protocol.specs.Messages.{data_at, request_at, block_of, ask_message}
 use Rattle.rm_protocol.specs.Rows.{rows}
 use Rattle.rm_protocol.specs.Said.{said, ack_to, own_messages}
 use Rattle.rm_protocol.specs.Terms.{Terms}

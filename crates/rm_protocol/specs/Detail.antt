@@ -2,16 +2,16 @@
 use Rattle.std.specs.Prelude.{ℕ, ◌&&◌, if◌then◌else◌, List, [], ◌∷◌, codes, Option, Some, None}
 use Rattle.std.specs.Str.{bytes_eq}
 use Rattle.soap_profile.specs.Tree.{Element, element}
+use Rattle.soap_writer.specs.Frame.{messaging_space}
 use Rattle.soap_values.specs.Values.{trimmed_text}
 use Rattle.record_batch.specs.Fact.{Fact}
 use Rattle.sequence_table.specs.Words.{Text}
 use Rattle.sequence_table.specs.Find.{find_outgoing}
-use Rattle.rm_protocol.specs.Addresses.{rm_space}
 
 -- the text of an Identifier, without white space at its ends
 abbrev pub ident_of : Element → Option Text
 ident_of (element name decls attrs parts) =
-    if bytes_eq name.space rm_space && bytes_eq name.local (codes "Identifier")
+    if bytes_eq name.space messaging_space && bytes_eq name.local (codes "Identifier")
     then trimmed_text (element name decls attrs parts) else None
 
 -- the outgoing sequence with an identifier, where there is one

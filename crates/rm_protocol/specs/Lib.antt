@@ -18,6 +18,8 @@ pub mod Sound
 pub mod Terms
 pub mod Unarmed
 pub mod Verdict
+pub mod VerdictLemmas
+pub mod WaitLemmas
 pub mod Waiting
 pub mod Word
 pub mod World

@@ -2,9 +2,10 @@
 -- that are named and no others.
 use Rattle.std.specs.Prelude.{ℕ, ◌+◌, ◌==◌, if◌then◌else◌, List, [], ◌∷◌, length, codes, Option, Some, None}
 use Rattle.ack_ranges.specs.declared.range.Range.{Range}
-use Rattle.ack_ranges.specs.Changes.{with_range}
 use Rattle.rm_base.specs.Numbered.{numbered}
 use Rattle.rm_base.specs.declared.message.Binding.{Binding}
+use Rattle.soap_envelope.specs.Soap.{soap_space}
+use Rattle.soap_frame.specs.Framed.{sorted_scope}
 use Rattle.rm_elements.specs.declared.header.AckBlock.{AckBlock}
 use Rattle.rm_elements.specs.declared.header.AckKind.{AckKind}
 use Rattle.rm_elements.specs.declared.header.AckKind.TheVariants as kind
@@ -15,6 +16,7 @@ use Rattle.rm_elements.specs.declared.lifecycle.Lifecycle.TheVariants as life
 use Rattle.rm_elements.specs.declared.lifecycle.Offer.{Offer}
 use Rattle.rm_source.specs.declared.phase.OutPhase.{OutPhase}
 use Rattle.rm_source.specs.declared.phase.OutPhase.TheVariants as out
+use Rattle.rm_destination.specs.Messages.{ranges_onto}
 use Rattle.rm_message.specs.declared.message.Body.{Body}
 use Rattle.rm_message.specs.declared.message.Body.TheVariants as body
 use Rattle.rm_message.specs.declared.message.Message.{Message}
@@ -50,13 +52,9 @@ plain to action content = record {
   body = content;
 }
 
--- the bindings that our envelopes have around a payload, by prefix
+-- the bindings that our envelopes have around a payload: those of a frame
 unfoldable pub written_scope : List Binding
-written_scope =
-    record { prefix = codes "a"; space = codes "http://www.w3.org/2005/08/addressing" }
-    ∷ record { prefix = codes "c"; space = codes "http://docs.oasis-open.org/ws-rx/wsmc/200702" }
-    ∷ record { prefix = codes "r"; space = codes "http://docs.oasis-open.org/ws-rx/wsrm/200702" }
-    ∷ record { prefix = codes "s"; space = codes "http://www.w3.org/2003/05/soap-envelope" } ∷ []
+written_scope = sorted_scope soap_space
 
 -- message i of a sequence: section 3.7
 abbrev pub data_of : Epr → Text → ℕ → Text → Message
@@ -141,11 +139,6 @@ request_by r s _ = None
 -- the request that sequence s waits with, by its phase: sections 3.4, 3.5 and 3.6
 abbrev pub request_at : List Fact → ℕ → Option Message
 request_at r s = request_by r s (phase r s)
-
--- the canonical ranges of numbers
-abbrev pub ranges_onto : List Range → List ℕ → List Range
-ranges_onto ranges [] = ranges
-ranges_onto ranges (n ∷ ns) = ranges_onto (with_range ranges n n) ns
 
 -- ranges, or None where there is no number
 abbrev pub kind_of : List Range → AckKind

@@ -27,6 +27,7 @@ use Rattle.rm_message.specs.declared.refusal.FaultKind.TheVariants as kinds
 use Rattle.rm_message.specs.Kinds.{kind_number}
 use Rattle.soap_profile.specs.Tree.{Element}
 use Rattle.soap_profile.specs.declared.name.Expanded.{Expanded}
+use Rattle.soap_writer.specs.Frame.{messaging_space}
 use Rattle.wsa_headers.specs.declared.endpoint.Epr.{Epr}
 use Rattle.record_batch.specs.declared.record.PeerOffer.{PeerOffer}
 use Rattle.record_batch.specs.Fact.{Fact, Created, Granted, Acked, Received, ClosedOut, Closed, EndedOut}
@@ -36,7 +37,7 @@ use Rattle.sequence_table.specs.Makers.{makers, maker, counter}
 use Rattle.sequence_table.specs.Sources.{acked, is_sending, phase}
 use Rattle.sequence_table.specs.Destinations.{held, front, has_end, is_ended, is_over}
 use Rattle.sequence_table.specs.Find.{find_incoming, find_outgoing, find_grant, find_creating, is_offered}
-use Rattle.rm_protocol.specs.Addresses.{is_anonymous, is_nowhere, rm_space}
+use Rattle.rm_protocol.specs.Addresses.{is_anonymous, is_nowhere}
 use Rattle.rm_protocol.specs.Detail.{named_in}
 use Rattle.rm_protocol.specs.Terms.{Terms}
 
@@ -200,7 +201,7 @@ shut_at (Some s) r = if is_sending (phase r s) then ClosedOut s ∷ [] else []
 -- the faults that a node acts on, by their subcode: section 4
 abbrev pub is_fault : Text → Option Expanded → Bool
 is_fault name None = false
-is_fault name (Some subcode) = bytes_eq subcode.space rm_space && bytes_eq subcode.local name
+is_fault name (Some subcode) = bytes_eq subcode.space messaging_space && bytes_eq subcode.local name
 
 -- the row of a fault: what it relates to, its subcode and its Detail
 abbrev pub fault_row : Option Text → Option Expanded → List Element → Row

@@ -1,7 +1,7 @@
 -- Why a message is not taken: the kinds of faults that depend on the node, in the order in which they are tested.
 -- WS-ReliableMessaging 1.2, section 4, and WS-MakeConnection 1.1, section 4.
 use Rattle.std.specs.Prelude.{ℕ, ◌+◌, ◌&&◌, ◌||◌, not, nat_le, nat_lt, Bool, true, false, if◌then◌else◌, List, []}
-use Rattle.std.specs.Prelude.{◌∷◌, length, Option, Some, None, is_none, is_some}
+use Rattle.std.specs.Prelude.{◌∷◌, ◌++◌, length, Option, Some, None, is_none, is_some}
 use Rattle.std.specs.List.{list_any}
 use Rattle.rm_base.specs.Limits as limits
 use Rattle.ack_ranges.specs.declared.range.Range.{Range}
@@ -132,9 +132,10 @@ abbrev pub first_held : List (Bool × FaultKind) → Option FaultKind
 first_held [] = None
 first_held (x ∷ xs) = if x.0 then Some x.1 else first_held xs
 
--- the kinds in order; a body that is a Fault gets none of those that speak of sequences and bodies
-abbrev pub tests : Terms → List Fact → ℕ → ℕ → Behaviour → Message → List (Bool × FaultKind)
-tests terms r end now behaviour m =
+-- the kinds in order, but for the last one, which is want of room; a body that is a Fault gets none of those that
+-- speak of sequences and bodies
+abbrev pub early_tests : List Fact → ℕ → Message → List (Bool × FaultKind)
+early_tests r now m =
     (not (is_fault_body m.body) && lacks_header m.sequence m.body, WsrmRequired)
     ∷ (
       not (is_fault_body m.body) && (is_unknown r (target m.sequence m.body) || names_none r m.acks m.asks m.body),
@@ -145,8 +146,12 @@ tests terms r end now behaviour m =
     ∷ (list_any (is_invalid r) m.acks, InvalidAcknowledgement)
     ∷ (refuses_create r m.addressing.message_id m.body, CreateSequenceRefused)
     ∷ (lacks_selection m.body, MissingSelection)
-    ∷ (selects_other m.body, UnsupportedSelection)
-    ∷ (not (has_room terms end (rows terms now behaviour m r)), StoreFull) ∷ []
+    ∷ (selects_other m.body, UnsupportedSelection) ∷ []
+
+-- all of them
+abbrev pub tests : Terms → List Fact → ℕ → ℕ → Behaviour → Message → List (Bool × FaultKind)
+tests terms r end now behaviour m =
+    early_tests r now m ++ (not (has_room terms end (rows terms now behaviour m r)), StoreFull) ∷ []
 
 -- the first kind that holds of a message, where one does
 abbrev pub verdict : Terms → List Fact → ℕ → ℕ → Behaviour → Message → Option FaultKind
