@@ -29,6 +29,7 @@ use Rattle.message_writer.specs.Faults.{fault_of}
 use Rattle.message_writer.specs.Rules.{KeepsRules}
 use Rattle.rm_wire.specs.Writable.{IsRefusalWritable}
 use Rattle.record_batch.specs.Fact.{Fact, Creating, Accepted, Closing, Closed, Ending, Ended}
+use Rattle.sequence_table.specs.IdentTexts.{issue-text}
 use Rattle.sequence_table.specs.Words.{Text}
 use Rattle.sequence_table.specs.Idents.{issue}
 use Rattle.sequence_table.specs.Makers.{Maker, Outgoing, Offered, Incoming, Taken, makers, makers_of, maker}
@@ -55,7 +56,8 @@ use Rattle.rm_protocol.specs.Messages.{block_of, data_at, request_at}
 use Rattle.rm_protocol.specs.Rows.{rows}
 use Rattle.rm_protocol.specs.Said.{ack_to, said}
 use Rattle.rm_protocol.specs.Terms.{Terms}
-use Rattle.rm_protocol.specs.Verdict.{first_held, has_room, is_invalid, target, tests, verdict}
+use Rattle.rm_protocol.specs.Verdict.{has_room, is_invalid, target, tests, verdict}
+use Rattle.rm_protocol.specs.VerdictLemmas.{none-held}
 use Rattle.node_laws.specs.OwnTerms.{AreOwn}
 use Rattle.node_laws.specs.Read.{IsBodyRead, IsContentRead, MayBeWished, WasRead}
 use Rattle.node_laws.specs.Records.{IsKept}
@@ -64,7 +66,6 @@ use Rattle.node_laws.proofs.Lists.{to_list}
 use Rattle.node_laws.proofs.Messages.{IsByTheRules, ask-kept, data_at-kept, request_at-kept}
 use Rattle.node_laws.proofs.Rows.{IsQuiet, quiets-allowed, rows-allowed}
 use Rattle.node_laws.proofs.Said.{ack_to-kept, fault-kept, own_messages-kept, said-kept}
-use Rattle.node_laws.proofs.Texts.{issue-text}
 use Rattle.node_laws.proofs.Values.{acks_to-kept, block-kept, ident-kept as name-kept, missing-kept, peer-kept}
 
 -- what is known of the layers below
@@ -328,17 +329,6 @@ nack_missing-good r s now = by_maker (maker r s)
     by_maker (Some (Incoming c message_id to behaviour deadline lapse)) = good
 
 -- ---- receive
-
--- no test holds where none is the first
-none-held : (xs : List (Bool × FaultKind)) → first_held xs ≡ None
-    → AllByRecursion (λ (x : Bool × FaultKind). x.0 ≡ false) xs
-none-held [] e = tt
-none-held (x ∷ xs) e =
-    elim x.0 as (λ b. cond b (Some x.1) (first_held xs) ≡ None
-    → (b ≡ false) × AllByRecursion (λ (y : Bool × FaultKind). y.0 ≡ false) xs) [
-      | true ↦ λ k. absurd (cc)
-      | false ↦ λ k. (refl, none-held xs k)
-    ] e
 
 target-kept : (header : Option SeqHeader) (b : Body) → IfSome header IsSequenceWritable → IsBodyRead b
     → IfSome (target header b) (IsText 512)

@@ -12,6 +12,5 @@ mod Owned
 mod Room
 mod Rows
 mod Said
-mod Texts
 mod Unacked
 mod Values

@@ -16,6 +16,9 @@ use Rattle.rm_elements.specs.declared.header.AckBlock.{AckBlock}
 use Rattle.rm_elements.specs.declared.lifecycle.Finish.{Finish}
 use Rattle.rm_elements.specs.declared.lifecycle.Lifecycle.{Lifecycle}
 use Rattle.rm_elements.specs.declared.lifecycle.Lifecycle.TheVariants as life
+use Rattle.rm_message.specs.Actions.{create_sequence, create_sequence_response, close_sequence}
+use Rattle.rm_message.specs.Actions.{close_sequence_response, terminate_sequence, terminate_sequence_response}
+use Rattle.rm_message.specs.Actions.{ack_requested, sequence_acknowledgement}
 use Rattle.rm_message.specs.declared.message.Message.{Message}
 use Rattle.rm_source.specs.declared.phase.OutPhase.{OutPhase}
 use Rattle.rm_source.specs.declared.phase.OutPhase.TheVariants as out
@@ -33,6 +36,7 @@ use Rattle.record_batch.specs.declared.record.Via.{Via}
 use Rattle.record_batch.specs.declared.record.Via.TheVariants.{Direct, Polled, Back}
 use Rattle.record_batch.specs.Fact.{Fact}
 use Rattle.sequence_table.specs.Words.{Text, last_or}
+use Rattle.sequence_table.specs.IdentTexts.{issue-text, polled-text}
 use Rattle.sequence_table.specs.Idents.{issue}
 use Rattle.sequence_table.specs.Makers.{Maker, Outgoing, Offered, maker, number}
 use Rattle.sequence_table.specs.Sources.{accepted, out_ident, phase, tickets}
@@ -42,7 +46,6 @@ use Rattle.rm_protocol.specs.Messages.{written_scope, data_of, data_by, data_at,
 use Rattle.rm_protocol.specs.Messages.{create_request, via_of, last_number, finish_of, finish_request, request_by}
 use Rattle.rm_protocol.specs.Messages.{request_at, ack_message, ask_message, response_of}
 use Rattle.node_laws.specs.Records.{IsKept}
-use Rattle.node_laws.proofs.Texts.{issue-text, polled-text}
 use Rattle.node_laws.proofs.Values.{IsMakerKept, maker-kept, ident-kept, address-kept, payload-kept, few-accepted}
 use Rattle.node_laws.proofs.Values.{plain-kept, peer-kept}
 
@@ -54,8 +57,7 @@ IsByTheRules m = KeepsRules soap_space m
 
 pub anonymous-text : IsText 2048 anonymous
 unfolding anonymous
-anonymous-text =
-    literal_is_text 2048 (codes "http://www.w3.org/2005/08/addressing/anonymous") refl refl refl refl refl refl
+anonymous-text = literal_is_text 2048 anonymous refl refl refl refl refl refl
 
 payload-text : IsText 2048 payload_action
 unfolding payload_action
@@ -66,42 +68,35 @@ pub record IsAction (name : Text) (action : List ℕ) : Type 0 where
   pub same : rm_action name ≡ action
   pub text : IsText 2048 (rm_action name)
 
-pub create-action : IsAction (codes "CreateSequence")
-    (codes "http://docs.oasis-open.org/ws-rx/wsrm/200702/CreateSequence")
+pub create-action : IsAction (codes "CreateSequence") create_sequence
 unfolding rm_action
 create-action = record { same = refl; text = literal_is_text 2048 _ refl refl refl refl refl refl }
 
-pub created-action : IsAction (codes "CreateSequenceResponse")
-    (codes "http://docs.oasis-open.org/ws-rx/wsrm/200702/CreateSequenceResponse")
+pub created-action : IsAction (codes "CreateSequenceResponse") create_sequence_response
 unfolding rm_action
 created-action = record { same = refl; text = literal_is_text 2048 _ refl refl refl refl refl refl }
 
-pub close-action : IsAction (codes "CloseSequence")
-    (codes "http://docs.oasis-open.org/ws-rx/wsrm/200702/CloseSequence")
+pub close-action : IsAction (codes "CloseSequence") close_sequence
 unfolding rm_action
 close-action = record { same = refl; text = literal_is_text 2048 _ refl refl refl refl refl refl }
 
-pub closed-action : IsAction (codes "CloseSequenceResponse")
-    (codes "http://docs.oasis-open.org/ws-rx/wsrm/200702/CloseSequenceResponse")
+pub closed-action : IsAction (codes "CloseSequenceResponse") close_sequence_response
 unfolding rm_action
 closed-action = record { same = refl; text = literal_is_text 2048 _ refl refl refl refl refl refl }
 
-pub terminate-action : IsAction (codes "TerminateSequence")
-    (codes "http://docs.oasis-open.org/ws-rx/wsrm/200702/TerminateSequence")
+pub terminate-action : IsAction (codes "TerminateSequence") terminate_sequence
 unfolding rm_action
 terminate-action = record { same = refl; text = literal_is_text 2048 _ refl refl refl refl refl refl }
 
-pub terminated-action : IsAction (codes "TerminateSequenceResponse")
-    (codes "http://docs.oasis-open.org/ws-rx/wsrm/200702/TerminateSequenceResponse")
+pub terminated-action : IsAction (codes "TerminateSequenceResponse") terminate_sequence_response
 unfolding rm_action
 terminated-action = record { same = refl; text = literal_is_text 2048 _ refl refl refl refl refl refl }
 
-ack-action : IsAction (codes "SequenceAcknowledgement")
-    (codes "http://docs.oasis-open.org/ws-rx/wsrm/200702/SequenceAcknowledgement")
+ack-action : IsAction (codes "SequenceAcknowledgement") sequence_acknowledgement
 unfolding rm_action
 ack-action = record { same = refl; text = literal_is_text 2048 _ refl refl refl refl refl refl }
 
-ask-action : IsAction (codes "AckRequested") (codes "http://docs.oasis-open.org/ws-rx/wsrm/200702/AckRequested")
+ask-action : IsAction (codes "AckRequested") ack_requested
 unfolding rm_action
 ask-action = record { same = refl; text = literal_is_text 2048 _ refl refl refl refl refl refl }
 

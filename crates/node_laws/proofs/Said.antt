@@ -18,6 +18,7 @@ use Rattle.wsa_headers.specs.declared.addressing.Addressing.{Addressing}
 use Rattle.wsa_headers.specs.declared.endpoint.Epr.{Epr}
 use Rattle.message_writer.specs.Rules.{action_for, HasItsId}
 use Rattle.record_batch.specs.Fact.{Fact}
+use Rattle.sequence_table.specs.IdentTexts.{issue-text}
 use Rattle.sequence_table.specs.Words.{Text}
 use Rattle.sequence_table.specs.Idents.{issue}
 use Rattle.sequence_table.specs.Makers.{Maker, Incoming, maker, address, number}
@@ -34,7 +35,6 @@ use Rattle.node_laws.specs.Records.{IsKept}
 use Rattle.node_laws.proofs.Lists.{All-append}
 use Rattle.node_laws.proofs.Messages.{IsByTheRules, IsAction, anonymous-text, created-action, closed-action}
 use Rattle.node_laws.proofs.Messages.{terminated-action, ack-kept, response-kept}
-use Rattle.node_laws.proofs.Texts.{issue-text}
 use Rattle.node_laws.proofs.Values.{IsMakerKept, maker-kept, address-kept, plain-kept, acks_to-kept, block-kept}
 
 -- ---- endpoints of a message that was read

@@ -18,7 +18,7 @@ use Rattle.soap_profile.specs.Payload.{IsClosedContent}
 use Rattle.wsa_headers.specs.Writable.{IsEprWritable}
 use Rattle.wsa_headers.specs.declared.endpoint.Epr.{Epr}
 use Rattle.record_batch.specs.Fact.{Fact, Made, Creating, Created, Granted, Accepted, Received}
-use Rattle.rm_destination.specs.Messages.{numbers_of}
+use Rattle.rm_destination.specs.Messages.{numbers_of, ranges_onto}
 use Rattle.sequence_table.specs.Words.{Text, at_seq}
 use Rattle.sequence_table.specs.Makers.{Maker, Outgoing, Offered, Incoming, Taken, makers, makers_of, maker}
 use Rattle.sequence_table.specs.Makers.{address}
@@ -29,7 +29,7 @@ use Rattle.sequence_table.specs.Find.{plain_endpoint, peer_of, peer, accept_of, 
 use Rattle.sequence_table.specs.Fits.{fits, all_fit, follows_at, is_incoming_side}
 use Rattle.sequence_table.specs.GatherLemmas.{flat_map-more}
 use Rattle.rm_protocol.specs.FitInduction.{fit-induction}
-use Rattle.rm_protocol.specs.Messages.{ranges_onto, kind_of, block_of}
+use Rattle.rm_protocol.specs.Messages.{kind_of, block_of}
 use Rattle.rm_protocol.specs.Calls.{missing_of}
 use Rattle.rm_protocol.specs.Waiting.{numbers_from}
 use Rattle.node_laws.specs.Records.{KeepsLimits, HasValues, IsKept}

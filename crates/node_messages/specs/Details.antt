@@ -2,8 +2,8 @@
 use Rattle.std.specs.Prelude.{Bool, ◌&&◌, codes}
 use Rattle.std.specs.Str.{bytes_eq}
 use Rattle.soap_profile.specs.Tree.{Element, name_of}
-use Rattle.rm_protocol.specs.Addresses.{rm_space}
+use Rattle.soap_writer.specs.Frame.{messaging_space}
 
 -- the element is an Identifier
 abbrev pub is_identifier : Element → Bool
-is_identifier e = bytes_eq (name_of e).space rm_space && bytes_eq (name_of e).local (codes "Identifier")
+is_identifier e = bytes_eq (name_of e).space messaging_space && bytes_eq (name_of e).local (codes "Identifier")

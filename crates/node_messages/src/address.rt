@@ -7,10 +7,12 @@ ghost use Rattle.rm_protocol.specs.Addresses.{
   is_polled as is_polled_text,
   no_address,
   place_of as place_for,
-  polled_prefix,
 };
 ghost use Rattle.rm_base.specs.Text.{IsText};
+ghost use Rattle.sequence_table.specs.Idents.{polled_prefix};
 ghost use Rattle.node_messages.specs.Places.{place_seen};
+
+use wsa_headers::ANONYMOUS;
 
 /// Where a message for an address goes: back on the connection on which its request came, nowhere, into the list of
 /// those that wait at the node until they are asked for, or out.
@@ -28,7 +30,7 @@ pub(crate) fn anonymous_bytes() -> &'static [u8]
     ensures is { result.now ≡ anonymous_text }
     ensures is_text { IsText 2048 result.now }
 {
-    b"http://www.w3.org/2005/08/addressing/anonymous"
+    ANONYMOUS
 }
 
 #[tactic(auto, unfolding(rm_protocol::specs::Addresses::no_address))]
@@ -39,7 +41,7 @@ fn nowhere_bytes() -> &'static [u8]
 }
 
 /// What the addresses of nodes that nobody can reach begin with.
-#[tactic(auto, unfolding(rm_protocol::specs::Addresses::polled_prefix))]
+#[tactic(auto, unfolding(sequence_table::specs::Idents::polled_prefix))]
 pub(crate) fn polled_bytes() -> &'static [u8]
     ensures { result.now ≡ polled_prefix }
 {

@@ -6,10 +6,11 @@ ghost use Rattle.node_messages.specs.Payloads.{payload_of};
 use crate::name::application_action;
 use crate::plain::plain;
 use rm_base::{Binding, Bindings, Blob, Ident, Memory, Payload};
-use rm_elements::SeqHeader;
+use rm_elements::{CONNECTION, MESSAGING, SeqHeader};
 use rm_message::{Body, Message};
+use soap_envelope::SOAP_SPACE;
 use std::alloc::Global;
-use wsa_headers::Epr;
+use wsa_headers::{ADDRESSING, Epr};
 
 fn bind(alloc: Global, prefix: &[u8], space: &[u8], scope: &mut Bindings) -> Result<(), Memory>
     ensures { OnOk result (scope.new ≡ scope.old ++ record { prefix = prefix.now; space = space.now } ∷ []) }
@@ -25,30 +26,10 @@ fn written_scope(alloc: Global) -> Result<Bindings, Memory>
     ensures { IfOk result (λ scope. scope ≡ scope_of) }
 {
     let mut scope = Bindings::new(alloc);
-    bind(
-        alloc,
-        b"a",
-        b"http://www.w3.org/2005/08/addressing",
-        &mut scope,
-    )?;
-    bind(
-        alloc,
-        b"c",
-        b"http://docs.oasis-open.org/ws-rx/wsmc/200702",
-        &mut scope,
-    )?;
-    bind(
-        alloc,
-        b"r",
-        b"http://docs.oasis-open.org/ws-rx/wsrm/200702",
-        &mut scope,
-    )?;
-    bind(
-        alloc,
-        b"s",
-        b"http://www.w3.org/2003/05/soap-envelope",
-        &mut scope,
-    )?;
+    bind(alloc, b"a", ADDRESSING, &mut scope)?;
+    bind(alloc, b"c", CONNECTION, &mut scope)?;
+    bind(alloc, b"r", MESSAGING, &mut scope)?;
+    bind(alloc, b"s", SOAP_SPACE, &mut scope)?;
     Ok(scope)
 }
 

@@ -10,7 +10,6 @@ use soap_profile::Element;
 use soap_values::{Flaw, read_trimmed};
 use std::alloc::Global;
 
-#[tactic(auto, unfolding(rm_protocol::specs::Addresses::rm_space))]
 fn is_identifier(element: &Element) -> bool
     ensures { result ≡ is_identifier_in (element_view element.now) }
 {

@@ -1,8 +1,8 @@
 use Rattle.std.proofs.Common.{◌≡◌, ◌++◌, ◌∙◌, List, ℕ, length, drop, ap, sym, subst, arith}
 use Rattle.rm_base.specs.Text.{IsText}
-use Rattle.rm_protocol.specs.Addresses.{polled_prefix}
-use Rattle.sequence_table.specs.Idents.{issue, polled_address}
-use Rattle.node_messages.proofs.TextLemmas.{polled-is, polled-length, polled-text}
+use Rattle.sequence_table.specs.IdentTexts.{polled-text}
+use Rattle.sequence_table.specs.Idents.{issue, polled_address, polled_prefix}
+use Rattle.node_messages.proofs.TextLemmas.{polled-is, polled-length}
 use Rattle.node_messages.proofs.home.polled_address.Goals as goal
 
 pub behind_prefix-requires : goal.behind_prefix-requires
