@@ -58,7 +58,6 @@ pub(crate) fn fault_row(
 }
 
 /// Whether a subcode is this fault of the protocol.
-#[tactic(auto, unfolding(rm_protocol::specs::Addresses::rm_space))]
 fn is_fault(name: &[u8], subcode: &Option<Name>) -> bool
     ensures { result ≡ is_fault_named name.now subcode.now }
 {
