@@ -4,17 +4,15 @@ use Rattle.std.proofs.Common.{List, [], ◌∷◌, length, refl, sym, ap, subst,
 use Rattle.std.specs.Prelude.{not, filter, take, Option, Some, None, Result, Ok, Err, IfOk}
 use Rattle.std.proofs.lemmas.Bool.{cases_lt, eq-eqb, eqb-true, or_cases, or_left, or_right, false≢true}
 use Rattle.ack_ranges.specs.declared.range.Range.{Range}
-use Rattle.ack_ranges.specs.Changes.{with_range}
 use Rattle.ack_ranges.specs.Ranges.{AreMissing, in_ranges, greatest_of}
 use Rattle.rm_base.specs.NumberSet.{Rises, has_number, greatest_of as greatest_number}
 use Rattle.rm_base.specs.declared.failures.Memory.{Memory}
 use Rattle.record_batch.specs.Fact.{Fact}
-use Rattle.rm_destination.specs.Messages.{ranges_onto as ranges_put}
+use Rattle.rm_destination.specs.Messages.{ranges_onto}
 use Rattle.sequence_table.specs.Destinations.{held}
 use Rattle.sequence_table.specs.Fits.{is_incoming_side}
 use Rattle.sequence_table.specs.Makers.{Maker, Offered, Incoming, maker}
 use Rattle.rm_protocol.specs.Calls.{missing_of}
-use Rattle.rm_protocol.specs.Messages.{ranges_onto}
 use Rattle.rm_protocol.specs.Waiting.{numbers_from}
 use Rattle.node_tables.specs.Reads.{incoming_in, incoming_of}
 
@@ -137,18 +135,13 @@ missing-first ranges held numbers h same =
       all = λ n from to is. h.first n (from, same n ∙ not-is (has_number held n) is) (omega (arith, from, to));
     })
 
--- the two definitions of the ranges of numbers agree
-same-ranges : (ranges : List Range) (ns : List ℕ) → ranges_put ranges ns ≡ ranges_onto ranges ns
-same-ranges ranges [] = refl
-same-ranges ranges (n ∷ ns) = same-ranges (with_range ranges n n) ns
-
 -- what an incoming sequence tells as missing
 pub missing-told : (r : List Fact) (s : ℕ) (came : List ℕ) (ranges : List Range) (result : Result (List ℕ) Memory)
-    → ranges ≡ ranges_put [] came → ((n : ℕ) → in_ranges ranges n ≡ has_number came n) → came ≡ held r s
+    → ranges ≡ ranges_onto [] came → ((n : ℕ) → in_ranges ranges n ≡ has_number came n) → came ≡ held r s
     → IfOk result (AreMissing ranges 64) → IfOk result (λ numbers. numbers ≡ missing_of r s)
 missing-told r s came ranges (Err e) is same known h = tt
 missing-told r s came ranges (Ok numbers) is same known h =
-    let all : ranges ≡ ranges_onto [] (held r s) = is ∙ same-ranges [] came ∙ ap (ranges_onto []) known in
+    let all : ranges ≡ ranges_onto [] (held r s) = is ∙ ap (ranges_onto []) known in
     missing-first ranges (held r s) numbers h (λ n. same n ∙ ap (λ (ns : List ℕ). has_number ns n) known)
     ∙ ap (λ (rs : List Range). take 64 (filter (λ n. not (has_number (held r s) n))
     (numbers_from 1 (greatest_of rs - 1)))) all
