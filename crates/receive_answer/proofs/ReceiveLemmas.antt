@@ -3,7 +3,6 @@ use Rattle.std.proofs.Common.{◌≡◌, ℕ, Bool, true, false, cond, List, [],
 use Rattle.std.proofs.Common.{Option, Some, None}
 use Rattle.std.proofs.lemmas.List.{append-nil}
 use Rattle.std.specs.Prelude.{not, IfOk, Result, Ok, Err}
-use Rattle.std.specs.List.{AllByRecursion}
 use Rattle.std.specs.Option.{option_or}
 use Rattle.rm_base.specs.declared.failures.Memory.{Memory}
 use Rattle.rm_base.specs.declared.message.Behaviour.{Behaviour}
@@ -16,9 +15,9 @@ use Rattle.rm_protocol.specs.Calls.{Answer, adds_and_moves, fault_block, judged,
 use Rattle.rm_protocol.specs.Rows.{rows}
 use Rattle.rm_protocol.specs.Said.{said}
 use Rattle.rm_protocol.specs.Terms.{Terms}
-use Rattle.rm_protocol.specs.Verdict.{first_held, has_room, refuses_create, verdict}
+use Rattle.rm_protocol.specs.Verdict.{early_tests, first_held, has_room, refuses_create, verdict}
+use Rattle.rm_protocol.specs.VerdictLemmas.{none-held}
 use Rattle.node_laws.specs.OwnTerms.{AreOwn}
-use Rattle.receive_verdict.specs.Early.{early_tests}
 use Rattle.receive_answer.specs.Tried.{Tried}
 use Rattle.receive_answer.specs.Untold.{done_of, early_kind, full_of, judged_as, told, urging}
 
@@ -31,24 +30,6 @@ held-both (x ∷ xs) ys =
     elim x.0 as (λ b. cond b (Some x.1) (first_held (xs ++ ys))
     ≡ option_or (cond b (Some x.1) (first_held xs)) (first_held ys))
     [ true ↦ refl | false ↦ held-both xs ys ]
-
-none-first : (b : Bool) (kind : FaultKind) (rest : Option FaultKind) → cond b (Some kind) rest ≡ None → b ≡ false
-none-first true kind rest e = absurd (cc)
-none-first false kind rest e = refl
-
-none-rest : (b : Bool) (kind : FaultKind) (rest : Option FaultKind) → cond b (Some kind) rest ≡ None → rest ≡ None
-none-rest true kind rest e = absurd (cc)
-none-rest false kind rest e = e
-
--- a test that doesn't hold
-abbrev pub Fails : Bool × FaultKind → Type 0
-Fails x = x.0 ≡ false
-
--- where no test holds, each fails
-none-held : (xs : Tests) → first_held xs ≡ None → AllByRecursion Fails xs
-none-held [] e = tt
-none-held (x ∷ xs) e =
-    (none-first x.0 x.1 (first_held xs) e, none-held xs (none-rest x.0 x.1 (first_held xs) e))
 
 -- without a verdict a CreateSequence may be granted
 pub none-refuses : (r : List Fact) (now : ℕ) (m : Message) → early_kind r now m ≡ None

@@ -9,9 +9,8 @@ use Rattle.message_writer.specs.Faults.{fault_of}
 use Rattle.rm_protocol.specs.Calls.{Answer, Judged, adds_and_moves, receive, refusal_of}
 use Rattle.rm_protocol.specs.Said.{said}
 use Rattle.rm_protocol.specs.Terms.{Terms}
-use Rattle.rm_protocol.specs.Verdict.{first_held}
+use Rattle.rm_protocol.specs.Verdict.{early_tests, first_held}
 use Rattle.rm_protocol.specs.Waiting.{Moves, nacked, no_moves}
-use Rattle.receive_verdict.specs.Early.{early_tests}
 
 -- the kind of the first test that holds, but for that of room
 unfoldable pub early_kind : List Fact → ℕ → Message → Option FaultKind

@@ -1,6 +1,7 @@
 //! The first kind of fault whose test holds.
 ghost use Rattle.std.specs.Prelude.{◌≡◌, ◌++◌, ◌&&◌, ◌||◌, not};
 ghost use Rattle.rm_protocol.specs.Verdict.{
+  early_tests,
   first_held,
   going_on,
   is_ended_for as is_ended_for_in,
@@ -11,7 +12,6 @@ ghost use Rattle.rm_protocol.specs.Verdict.{
   names_none as names_none_in,
   target,
 };
-ghost use Rattle.receive_verdict.specs.Early.{early_tests};
 ghost use Rattle.tables_ahead.specs.Known.{all_records};
 
 use crate::acks::{has_invalid, names_none};
