@@ -1,30 +1,15 @@
 -- A call that adds no records and moves no keys keeps what is kept.
-use Rattle.std.proofs.Common.{◌≡◌, ◌∙◌, ◌||◌, ℕ, Bool, true, false, cond, List, [], ◌∷◌, max, refl, sym, ap}
-use Rattle.std.proofs.Common.{ap₂, arith}
+use Rattle.std.proofs.Common.{◌≡◌, ◌∙◌, ℕ, Bool, true, cond, List, [], ◌∷◌, max, refl, ap, ap₂, arith}
 use Rattle.std.specs.List.{AllByRecursion}
 use Rattle.std.proofs.lemmas.List.{append-nil}
-use Rattle.rm_timers.specs.declared.timers.Key.{Key}
-use Rattle.key_timers.specs.KeyLemmas.{same_key-refl}
-use Rattle.key_timers.specs.Waits.{Wait, has_key, keys_of, same_key}
+use Rattle.key_timers.specs.Waits.{Wait}
 use Rattle.record_batch.specs.Fact.{Fact}
 use Rattle.rm_message.specs.declared.message.Message.{Message}
 use Rattle.rm_protocol.specs.Calls.{Outcome}
 use Rattle.rm_protocol.specs.Exact.{AreExactly}
+use Rattle.rm_protocol.specs.WaitLemmas.{all-wait}
 use Rattle.rm_protocol.specs.Waiting.{is_waiting, no_moves, still}
 use Rattle.rm_node.specs.Keeping.{Keeping, kept_after}
-
-or-right : (a b : Bool) → b ≡ true → (a || b) ≡ true
-or-right true b e = refl
-or-right false b e = e
-
-each-waits : (r : List Fact) (waits : List Wait)
-    → ((key : Key) → has_key (keys_of waits) key ≡ true → is_waiting r key ≡ true)
-    → AllByRecursion (λ (w : Wait). is_waiting r w.key ≡ true) waits
-each-waits r [] h = tt
-each-waits r (w ∷ waits) h = (
-  h w.key (ap (λ (b : Bool). b || has_key (keys_of waits) w.key) (same_key-refl w.key)),
-  each-waits r waits (λ key e. h key (or-right (same_key key w.key) (has_key (keys_of waits) key) e)),
-)
 
 still-all : (r : List Fact) (waits : List Wait) → AllByRecursion (λ (w : Wait). is_waiting r w.key ≡ true) waits
     → still r waits ≡ waits
@@ -37,7 +22,7 @@ still-all r (w ∷ waits) h =
 pub quiet-kept : (r : List Fact) (outcome : Outcome) (outs : List Message) (kept : Keeping) → AreExactly r kept.waits
     → kept_after r (record { outcome = outcome; delta = []; outs = outs; moves = no_moves }) kept ≡ kept
 quiet-kept r outcome outs kept exact =
-    let all = each-waits r kept.waits (λ key e. sym (exact key) ∙ e) in
+    let all = all-wait r kept.waits exact in
     let time : max kept.time 0 ≡ kept.time = omega arith in
     ap₂ (λ (ws : List Wait) (t : ℕ). let k : Keeping = record { granted = kept.granted; waits = ws; time = t } in k)
     (ap (λ (l : List Fact). still l kept.waits) (append-nil r) ∙ still-all r kept.waits all) time

@@ -13,6 +13,7 @@ use Rattle.node_laws.specs.Keeps.{EachCallKeeps, LeavesANode, OfEachCall}
 use Rattle.node_laws.specs.OwnTerms.{AreOwn}
 use Rattle.node_laws.specs.Records.{IsKept}
 use Rattle.call_answers.specs.Answers.{MayBeStored, wish_seen}
+use Rattle.rm_node.specs.CameLemmas.{ReadsRight, RefusesRight, content_read}
 use Rattle.rm_node.specs.Asked.{Asked, Asks, MayBeAsked, answer_to}
 use Rattle.rm_node.specs.Asked.{Create, Send, Close, End, AskAck, NackMissing, Tick, Receive}
 use Rattle.rm_node.specs.Ends.{is_refused}
@@ -21,7 +22,6 @@ use Rattle.rm_node.specs.Timed.{Begins, MayBeWritten, begun_with}
 use Rattle.rm_node.specs.declared.call.Call.{Call}
 use Rattle.rm_node.specs.declared.call.Call.TheVariants as call
 use Rattle.rm_node.proofs.BegunLemmas.{Leads, leads, moment_of}
-use Rattle.rm_node.proofs.ReadLemmas.{ReadsRight, RefusesRight, content_read}
 
 -- what holds anyhow, holds where a call went well
 pub given : {T E : Type 0} (r : Result T E) (P : Type 0) → P → OnOk r P

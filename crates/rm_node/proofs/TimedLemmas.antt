@@ -22,6 +22,7 @@ use Rattle.rm_protocol.specs.Calls.{Answer}
 use Rattle.record_batch.specs.Fact.{Fact}
 use Rattle.sequence_table.specs.Fits.{all_fit}
 use Rattle.sequence_table.specs.Told.{names}
+use Rattle.rm_protocol.specs.WaitLemmas.{all-wait}
 use Rattle.rm_protocol.specs.Waiting.{Moves as KeyMoves, begun_by, is_waiting, mounted_waits, still, waiting_keys}
 use Rattle.rm_protocol.specs.Waiting.{waits_after}
 use Rattle.std.proofs.lemmas.List.{append-nil}
@@ -66,19 +67,6 @@ exact-cells r k waits s exact key = cell-waits k waits key s ∙ exact key
 or-right : (a b : Bool) → b ≡ true → (a || b) ≡ true
 or-right true b e = refl
 or-right false b e = e
-
-each-waits : (r : List Fact) (waits : List Wait)
-    → ((key : Key) → has_key (keys_of waits) key ≡ true → is_waiting r key ≡ true)
-    → AllByRecursion (λ (w : Wait). is_waiting r w.key ≡ true) waits
-each-waits r [] h = tt
-each-waits r (w ∷ waits) h = (
-  h w.key (ap (λ (b : Bool). b || has_key (keys_of waits) w.key) (same_key-refl w.key)),
-  each-waits r waits (λ key e. h key (or-right (same_key key w.key) (has_key (keys_of waits) key) e)),
-)
-
-pub all-wait : (r : List Fact) (waits : List Wait) → AreExactly r waits
-    → AllByRecursion (λ (w : Wait). is_waiting r w.key ≡ true) waits
-all-wait r waits exact = each-waits r waits (λ key e. sym (exact key) ∙ e)
 
 -- ---- the sequences that records name
 

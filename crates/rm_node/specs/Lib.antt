@@ -1,5 +1,6 @@
 pub mod Asked
 pub mod Came
+pub mod CameLemmas
 pub mod Called
 pub mod Ends
 pub mod Failed

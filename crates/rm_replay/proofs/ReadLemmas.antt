@@ -1,17 +1,12 @@
 -- What a node says is read as it was said, or is too long to be read.
 use Rattle.std.proofs.Common.{◌≡◌, ℕ, nat_le, cond, Bool, true, false, List, ◌∷◌, length, Option, []}
-use Rattle.std.proofs.Common.{None, refl, subst, sym}
-use Rattle.std.specs.Prelude.{Result, Ok, Err}
+use Rattle.std.proofs.Common.{refl, subst, sym}
+use Rattle.std.specs.Prelude.{Ok, Err}
 use Rattle.std.specs.List.{AllByRecursion, filter}
 use Rattle.std.proofs.lemmas.Bool.{leb-true, leb-false}
-use Rattle.soap_envelope.specs.Soap.{soap_space}
-use Rattle.message_reader.specs.Refusals.{Refuses, Spells, blind, too_long}
-use Rattle.rm_message.specs.declared.message.Body.{Body}
-use Rattle.rm_message.specs.declared.message.Body.TheVariants as body
+use Rattle.message_reader.specs.Refusals.{blind, too_long}
 use Rattle.rm_message.specs.declared.message.Message.{Message}
 use Rattle.rm_message.specs.declared.refusal.FaultKind.TheVariants.{TooLong}
-use Rattle.rm_message.specs.declared.refusal.Refusal.{Refusal}
-use Rattle.read_laws.specs.WasRead.{WasRead, IsBodyRead}
 use Rattle.record_batch.specs.Fact.{Fact}
 use Rattle.rm_disk.specs.Call.{Call as DeviceCall}
 use Rattle.sequence_table.specs.Fits.{is_in_order}
@@ -21,13 +16,12 @@ use Rattle.rm_protocol.specs.Node.{said_with}
 use Rattle.rm_protocol.specs.Said.{leaves}
 use Rattle.rm_protocol.specs.Addresses.{place_of}
 use Rattle.rm_protocol.specs.Terms.{Terms}
-use Rattle.rm_wire.specs.Writable.{IsRefusalWritable}
 use Rattle.node_laws.specs.Keeps.{EachIsReadBack, IsReadBack}
 use Rattle.node_laws.specs.OwnTerms.{AreOwn}
-use Rattle.node_laws.specs.Read.{IsContentRead, IsBodyRead as IsBodyKept}
 use Rattle.node_laws.specs.Records.{IsKept}
 use Rattle.node_store.specs.Stored.{Stored}
 use Rattle.rm_node.specs.Came.{IsReadAs}
+use Rattle.rm_node.specs.CameLemmas.{ReadsRight, RefusesRight, content_read}
 use Rattle.node_actor.specs.Stands.{StandsBy}
 use Rattle.rm_protocol.specs.World.{Side, One, Two, World, node}
 use Rattle.rm_replay.specs.Shows.{Drives, StandFor}
@@ -38,35 +32,6 @@ use Rattle.rm_replay.specs.Asked.{step_of}
 use Rattle.rm_replay.specs.Net.{read_as, text_of}
 use Rattle.rm_node.specs.declared.call.Call.{Call}
 use Rattle.rm_node.specs.declared.call.Call.TheVariants as call
-
--- ---- what comes is as it is read
-
--- a message that bytes spell may be written
-abbrev pub ReadsRight : Type 0
-ReadsRight = (soap bytes : List ℕ) (m : Message) → Spells soap bytes m → WasRead m
-
--- a refusal of bytes may be answered
-abbrev pub RefusesRight : Type 0
-RefusesRight = (soap bytes : List ℕ) (refusal : Refusal) → Refuses soap bytes refusal → IsRefusalWritable refusal None
-
-body_kept : (b : Body) → IsBodyRead b → IsBodyKept b
-body_kept body.Empty h = tt
-body_kept (body.Payload p) h = tt
-body_kept (body.Lifecycle x) h = h
-body_kept (body.Fault f) h = tt
-
-content_read : ReadsRight → RefusesRight → (bytes : List ℕ) (content : Result Message Refusal)
-    → IsReadAs bytes content → IsContentRead content
-content_read reads refuses bytes (Ok m) is =
-    let h : WasRead m = reads soap_space bytes m is in
-    record {
-      addressing = h.addressing;
-      sequence = h.sequence;
-      acks = h.acks;
-      asks = h.asks;
-      body = body_kept m.body h.body;
-    }
-content_read reads refuses bytes (Err refusal) is = refuses soap_space bytes refusal is
 
 -- ---- what is said
 
