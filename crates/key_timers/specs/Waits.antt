@@ -79,6 +79,10 @@ abbrev pub due_at : ℕ → List Wait → List Wait
 due_at now waits = flat_map (λ class. filter (λ (w : Wait). (w.class == class) && nat_le w.due now) waits)
     classes_in_order
 
--- the keys that a tick emits: the first 64 of them
+-- the most keys that a tick emits
+abbrev pub most_emitted : ℕ
+most_emitted = 64
+
+-- the keys that a tick emits: the first of them
 abbrev pub first_due : ℕ → List Wait → List Key
-first_due now waits = keys_of (take 64 (due_at now waits))
+first_due now waits = keys_of (take most_emitted (due_at now waits))

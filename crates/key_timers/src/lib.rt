@@ -5,4 +5,4 @@
 mod cells;
 mod timers;
 
-pub use timers::KeyTimers;
+pub use timers::{KeyTimers, MOST_EMITTED};

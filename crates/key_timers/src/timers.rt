@@ -15,6 +15,9 @@ use rm_timers::{Key, Timers, live_is_waiting};
 use std::alloc::Global;
 use std::marker::Model;
 
+/// The most keys that a tick emits.
+pub const MOST_EMITTED: u32 = 64;
+
 /// The keys that wait to be emitted, at most `MOST_KEYS`, each found in about twelve steps. After `new` no call takes
 /// memory.
 #[derive(Debug, Drop)]

@@ -4,19 +4,19 @@ ghost use Rattle.rm_base.specs.Limits.{now_max};
 ghost use Rattle.key_timers.specs.Keyed.{Steps, StandsFor};
 ghost use Rattle.key_timers.specs.Waits.{Wait, first_due, send_all, urge_all as urge_all_of};
 
-use key_timers::KeyTimers;
+use key_timers::{KeyTimers, MOST_EMITTED};
 use rm_base::Memory;
 use rm_timers::Key;
 use std::alloc::Global;
 
-/// The first 64 keys that are due, by class and then by the order of the last move.
+/// The first keys that are due, as many as a tick emits, by class and then by the order of the last move.
 pub fn due_keys(alloc: Global, timers: &KeyTimers, now: u64) -> Result<Vec<Key>, Memory>
     requires { now ≤ now_max }
     ensures { (waits : List Wait) → StandsFor timers.now waits
         → IfOk result (λ keys. keys.items ≡ first_due (max timers.now.time now) waits) }
 {
     let mut keys = Vec::new(alloc);
-    for k in 0..64u32 {
+    for k in 0..MOST_EMITTED {
         match timers.due(now, k) {
             Some(key) => keys.push(key)?,
             None => return Ok(keys),
