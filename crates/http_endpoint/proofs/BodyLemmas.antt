@@ -5,6 +5,7 @@ use Rattle.std.proofs.Math.Seq.{take-append-add}
 use Rattle.std.proofs.lemmas.List.{take-append-drop, drop-drop, length-append, length-drop}
 use Rattle.std.proofs.lemmas.Grind.{common_steps}
 use Rattle.std.specs.Io.KnownBytes.{IsAtEnd}
+use Rattle.rm_base.specs.Limits.{envelope_bytes}
 use Rattle.http_endpoint.specs.Ahead.{ahead, StillAhead}
 use Rattle.http_endpoint.specs.Body.{Moved}
 
@@ -19,7 +20,7 @@ take-add n k all inside =
 -- the first k bytes of those that are held are moved too
 pub moved-on : (n k n2 : ℕ) (all body mid new : List ℕ) (from old : Option (List ℕ)) (held held2 : List ℕ)
     → StillAhead old (ahead from held) → k ≤ length held → new ≡ mid ++ take k held → held2 ≡ drop k held → n2 ≡ n + k
-    → length new ≤ 2097152 → Moved n all body mid old → Moved n2 all body new (ahead from held2)
+    → length new ≤ envelope_bytes → Moved n all body mid old → Moved n2 all body new (ahead from held2)
 moved-on n k n2 all body mid new None old held held2 still fits new_is held_is n_is within m =
     grind (arith, still (drop n all) m.after_is)
 moved-on n k n2 all body mid new (Some l) old held held2 still fits new_is held_is n_is within m =
@@ -41,7 +42,7 @@ moved-on n k n2 all body mid new (Some l) old held held2 still fits new_is held_
 pub moved-short : (n left size : ℕ) (all body new held : List ℕ) (from old : Option (List ℕ))
     → StillAhead old (ahead from held)
     → n + left ≡ size → 0 < left → IsAtEnd from → held ≡ [] → Moved n all body new old
-    → (length all < size) × (length body + length all ≤ 2097152) × (new ≡ body ++ all)
+    → (length all < size) × (length body + length all ≤ envelope_bytes) × (new ≡ body ++ all)
 moved-short n left size all body new held None old still sum some at_end none m =
     grind (arith, still (drop n all) m.after_is)
 moved-short n left size all body new held (Some l) old still sum some at_end none m =
@@ -53,8 +54,8 @@ moved-short n left size all body new held (Some l) old still sum some at_end non
 -- one more byte than a body may have was moved
 pub moved-long : (n k left size : ℕ) (all body mid held : List ℕ) (from old : Option (List ℕ))
     → StillAhead old (ahead from held)
-    → n + left ≡ size → k ≤ left → k ≤ length held → 2097152 < length mid + k → Moved n all body mid old
-    → 2097152 < length body + min size (length all)
+    → n + left ≡ size → k ≤ left → k ≤ length held → envelope_bytes < length mid + k → Moved n all body mid old
+    → envelope_bytes < length body + min size (length all)
 moved-long n k left size all body mid held None old still sum few fits long m =
     grind (arith, still (drop n all) m.after_is)
 moved-long n k left size all body mid held (Some l) old still sum few fits long m =

@@ -1,8 +1,10 @@
 -- Chunks, one after another.
-use Rattle.std.proofs.Common.{◌≡◌, ℕ, ◌≤◌, ◌<◌, List, [], ◌++◌, length, take, arith, ap, ◌∙◌, refl, Option, Result}
+use Rattle.std.proofs.Common.{◌≡◌, ℕ, ◌+◌, ◌≤◌, ◌<◌, List, [], ◌++◌, length, take, arith, ap, ◌∙◌, refl, Option, Result}
 use Rattle.std.proofs.Common.{Ok, Err}
 use Rattle.std.proofs.lemmas.Bool.Decides.{nat_tests}
 use Rattle.std.specs.Result.{IsErrAnd}
+use Rattle.rm_base.specs.Limits.{envelope_bytes}
+use Rattle.http_endpoint.specs.Limits.{part_bytes, most_fields}
 use Rattle.http_endpoint.specs.declared.error.HttpError.{HttpError}
 use Rattle.http_endpoint.specs.declared.error.HttpError.TheVariants.{Memory, ReadFault, WriteFault, BadHead, TooLong}
 use Rattle.http_endpoint.specs.declared.error.HttpError.TheVariants.{Unsupported, CutShort}
@@ -44,12 +46,12 @@ stage-stops B limit reads begun bytes CutShort after F h = short h refl
 
 -- the body ends behind a line that was read
 pub behind-line : (body bytes : List ℕ) (size : ℕ) (after : List ℕ) (result : Result (List ℕ) HttpError)
-    → ReadsUpTo 16384 ReadsSize bytes size after → EndsBehind result body size after → EndsChunks result body bytes
+    → ReadsUpTo part_bytes ReadsSize bytes size after → EndsBehind result body size after → EndsChunks result body bytes
 behind-line body bytes size after result line end = part size after line end
 
 -- data that can't be moved ends it
 pub data-stops : (body new bytes : List ℕ) (size : ℕ) (after : List ℕ) (e : HttpError) (later : Option (List ℕ))
-    → 0 < size → ReadsUpTo 16384 ReadsSize bytes size after → IsMove size after body (Err e) new later
+    → 0 < size → ReadsUpTo part_bytes ReadsSize bytes size after → IsMove size after body (Err e) new later
     → IfTold {A = List ℕ} (Err e) (EndsChunks (Err e) body bytes)
 data-stops body new bytes size after Memory later some line h = tt
 data-stops body new bytes size after ReadFault later some line h = tt
@@ -68,11 +70,11 @@ chunk-stops all body bytes new e after h on =
     IfTold-map {A = List ℕ} (Err e) (EndsChunks (Err e) body bytes) (IsChunked (Err e) [] all) (λ x. on (ends x)) h
 
 -- a trailer of too many fields
-pub ended-long : (count : ℕ) (body : List ℕ) → 64 < count → Err BadHead ≡ ended_by count body
+pub ended-long : (count : ℕ) (body : List ℕ) → most_fields < count → Err BadHead ≡ ended_by count body
 ended-long count body long = grind (arith, nat_tests, long)
 
 -- a trailer that isn't too long
-pub ended-well : (count : ℕ) (body : List ℕ) → count ≤ 64 → Ok body ≡ ended_by count body
+pub ended-well : (count : ℕ) (body : List ℕ) → count ≤ most_fields → Ok body ≡ ended_by count body
 ended-well count body few = grind (arith, nat_tests, few)
 
 -- bytes that were moved to an empty body are it
@@ -95,18 +97,19 @@ counted-stops size all old new CutShort after none h = (h.0, omega (arith, h.1))
 -- where more than a body may have were to be moved, what came is all that is left
 pub came : (all old new : List ℕ) (e : HttpError) (after : Option (List ℕ)) (result : Result (List ℕ) HttpError)
     → old ≡ []
-    → IsMove 2097153 all old (Err e) new after → result ≡ came_before e new → IfTold result (result ≡ all_left all)
+    → IsMove (envelope_bytes + 1) all old (Err e) new after → result ≡ came_before e new
+    → IfTold result (result ≡ all_left all)
 came all old new Memory after result none h is = rw is tt
 came all old new ReadFault after result none h is = rw is tt
 came all old new WriteFault after result none h is = rw is tt
 came all old new BadHead after result none h is = absurd h
 came all old new (TooLong taken) after result none h is =
-    let long : 2097152 < length all = omega (arith, h.1, ap length none) in
+    let long : envelope_bytes < length all = omega (arith, h.1, ap length none) in
     let same : Err (TooLong taken) ≡ all_left all = grind (arith, nat_tests, long, h.0) in
     rw is same
 came all old new (Unsupported status) after result none h is = absurd h
 came all old new CutShort after result none h is =
-    let few : length all ≤ 2097152 = omega (arith, h.1) in
+    let few : length all ≤ envelope_bytes = omega (arith, h.1) in
     let new_is : new ≡ all = h.2 ∙ ap (λ b. b ++ all) none in
     let same : Ok new ≡ all_left all = grind (arith, nat_tests, few, new_is) in
     rw is same

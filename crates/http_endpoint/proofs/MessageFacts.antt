@@ -2,6 +2,7 @@
 use Rattle.std.proofs.Common.{◌≡◌, ℕ, List, [], Option, None, Some, Result, Ok, Err, sym, refl, append-nil}
 use Rattle.std.specs.Io.KnownBytes.{Appends}
 use Rattle.httparse.specs.Grammar.{MayBecomeRequest}
+use Rattle.http_endpoint.specs.Limits.{part_bytes}
 use Rattle.http_endpoint.specs.declared.body.Framing.{Framing}
 use Rattle.http_endpoint.specs.declared.error.HttpError.{HttpError}
 use Rattle.http_endpoint.specs.declared.error.HttpError.TheVariants.{Memory, ReadFault, WriteFault, BadHead, TooLong}
@@ -59,7 +60,7 @@ appends-between old mid later new bytes before after grew = rw (sym before, afte
 
 -- a stop at the head of a request
 pub stops-request : (all : List ℕ) (e : HttpError) (after old new : Option (List ℕ)) → new ≡ old
-    → IsAnswer 16384 ReadsRequestFacts MayBecomeRequest all (Err e) after
+    → IsAnswer part_bytes ReadsRequestFacts MayBecomeRequest all (Err e) after
     → IfTold {A = List ℕ} (Err e) ((said : List ℕ) × Appends old new said × IsRequest (Err e) said all)
 stops-request all Memory after old new same h = tt
 stops-request all ReadFault after old new same h = tt
@@ -72,7 +73,7 @@ stops-request all CutShort after old new same h = ([], appends-nothing old new s
 -- a request that is refused by its head
 pub refused-request : (all : List ℕ) (e : HttpError) (facts : RequestFacts) (rest : List ℕ)
     (old new : Option (List ℕ)) → new ≡ old
-    → ReadsUpTo 16384 ReadsRequestFacts all facts rest → verdict facts ≡ Err e
+    → ReadsUpTo part_bytes ReadsRequestFacts all facts rest → verdict facts ≡ Err e
     → IfTold {A = List ℕ} (Err e) ((said : List ℕ) × Appends old new said × IsRequest (Err e) said all)
 refused-request all e facts rest old new same reads is =
     told {A = List ℕ} (Err e) ((said : List ℕ) × Appends old new said × IsRequest (Err e) said all)
@@ -81,7 +82,8 @@ refused-request all e facts rest old new same reads is =
 -- a request whose body is read
 pub taken-request : (result : Result (List ℕ) HttpError) (all : List ℕ) (facts : RequestFacts) (rest : List ℕ)
     (framing : Framing)
-    (old new : Option (List ℕ)) → Appends old new (invitation facts) → ReadsUpTo 16384 ReadsRequestFacts all facts rest
+    (old new : Option (List ℕ)) → Appends old new (invitation facts)
+    → ReadsUpTo part_bytes ReadsRequestFacts all facts rest
     → verdict facts ≡ Ok framing → IfTold result (IsBody framing rest result)
     → IfTold result ((said : List ℕ) × Appends old new said × IsRequest result said all)
 taken-request result all facts rest framing old new grew reads is body =

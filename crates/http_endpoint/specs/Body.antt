@@ -4,6 +4,7 @@ use Rattle.std.specs.Prelude.{◌≡◌, ℕ, ◌≤◌, ◌<◌, ◌+◌, List,
 use Rattle.std.specs.Prelude.{Option, Some, Result, Ok, Err, ⊤, if◌then◌else◌, nat_lt}
 use Rattle.httparse.specs.Grammar.{MayBecomeChunkLine, MayBecomeSection}
 use Rattle.rm_base.specs.Limits.{envelope_bytes}
+use Rattle.http_endpoint.specs.Limits.{part_bytes, most_fields}
 use Rattle.http_endpoint.specs.declared.body.Framing.{Framing}
 use Rattle.http_endpoint.specs.declared.body.Framing.TheVariants.{Empty, Counted, Chunked, ToEnd}
 use Rattle.http_endpoint.specs.declared.error.HttpError.{HttpError}
@@ -36,21 +37,22 @@ IsMove size all body (Err CutShort) new after =
 pub record TakesChunk (body bytes new rest : List ℕ) : Type 0 where
   pub size : ℕ
   pub after : List ℕ
-  pub line : ReadsUpTo 16384 ReadsSize bytes size after
+  pub line : ReadsUpTo part_bytes ReadsSize bytes size after
   pub some : 0 < size
   pub inside : size ≤ length after
   pub within : length body + size ≤ envelope_bytes
   pub new_is : new ≡ body ++ take size after
-  pub end : ReadsUpTo 16384 ReadsBreak (drop size after) tt rest
+  pub end : ReadsUpTo part_bytes ReadsBreak (drop size after) tt rest
 
 -- a trailer of so many fields ends the body, or is too long
 abbrev pub ended_by : ℕ → List ℕ → Result (List ℕ) HttpError
-ended_by count body = if nat_lt 64 count then Err BadHead else Ok body
+ended_by count body = if nat_lt most_fields count then Err BadHead else Ok body
 
 -- the body ends behind a chunk's line: by the trailer, or because its data is too long, cut short, or without CR LF
 -- behind it
 pub data EndsBehind (result : Result (List ℕ) HttpError) (body : List ℕ) (size : ℕ) (after : List ℕ) : Type 0 where
-  last : size ≡ 0 → Stage 16384 ReadsTrailer MayBecomeSection after result (λ count rest. result ≡ ended_by count body)
+  last : size ≡ 0
+      → Stage part_bytes ReadsTrailer MayBecomeSection after result (λ count rest. result ≡ ended_by count body)
       → EndsBehind result body size after
   too_long : 0 < size → envelope_bytes < length body + min size (length after)
       → result ≡ Err (TooLong (envelope_bytes + 1))
@@ -58,11 +60,11 @@ pub data EndsBehind (result : Result (List ℕ) HttpError) (body : List ℕ) (si
   cut : length after < size → length body + length after ≤ envelope_bytes → result ≡ Err CutShort
       → EndsBehind result body size after
   unbroken : 0 < size → size ≤ length after → length body + size ≤ envelope_bytes
-      → Stage 16384 ReadsBreak IsHalfBreak (drop size after) result (λ _ _. ⊥) → EndsBehind result body size after
+      → Stage part_bytes ReadsBreak IsHalfBreak (drop size after) result (λ _ _. ⊥) → EndsBehind result body size after
 
 -- no whole chunk follows: the body ends at this line or behind it
 abbrev pub EndsChunks : Result (List ℕ) HttpError → List ℕ → List ℕ → Type 0
-EndsChunks result body bytes = Stage 16384 ReadsSize MayBecomeChunkLine bytes result
+EndsChunks result body bytes = Stage part_bytes ReadsSize MayBecomeChunkLine bytes result
     (λ size after. EndsBehind result body size after)
 
 -- what came of one chunk: whether more may follow, and the body with it

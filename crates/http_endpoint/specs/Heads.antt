@@ -9,6 +9,7 @@ use Rattle.http1.specs.declared.fields.ContentLength.TheVariants as Length
 use Rattle.http1.specs.declared.fields.TransferEncoding.{TransferEncoding}
 use Rattle.http1.specs.declared.fields.TransferEncoding.TheVariants as Coding
 use Rattle.http1.specs.declared.fields.KnownFields.{KnownFields}
+use Rattle.http_endpoint.specs.Limits.{most_fields}
 use Rattle.http_endpoint.specs.declared.body.Framing.{Framing}
 use Rattle.http_endpoint.specs.declared.body.Framing.TheVariants.{Empty, Counted, Chunked, ToEnd}
 use Rattle.http_endpoint.specs.declared.error.HttpError.{HttpError}
@@ -57,7 +58,7 @@ is_misframed Length.Invalid coding = true
 
 -- a head that no body can follow: too many fields, or a body that is told wrongly
 abbrev pub is_bad : ℕ → KnownFields → Bool
-is_bad field_count known = nat_lt 64 field_count || is_misframed known.content_length known.transfer_encoding
+is_bad field_count known = nat_lt most_fields field_count || is_misframed known.content_length known.transfer_encoding
 
 -- a Transfer-Encoding other than chunked alone
 abbrev pub is_otherwise_coded : TransferEncoding → Bool → Bool

@@ -11,6 +11,7 @@ pub mod Fields
 pub mod Heads
 pub mod HeadLaws
 pub mod Kept
+pub mod Limits
 pub mod Messages
 pub mod Taken
 pub mod Targets

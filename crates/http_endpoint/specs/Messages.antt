@@ -1,6 +1,7 @@
 -- Whole messages, as the bytes of a connection.
 use Rattle.std.specs.Prelude.{◌≡◌, ◌≢◌, ℕ, List, [], codes, Result, Ok, Err, if◌then◌else◌}
 use Rattle.httparse.specs.Grammar.{MayBecomeRequest, MayBecomeResponse}
+use Rattle.http_endpoint.specs.Limits.{part_bytes}
 use Rattle.http_endpoint.specs.declared.body.Framing.{Framing}
 use Rattle.http_endpoint.specs.declared.error.HttpError.{HttpError}
 use Rattle.http_endpoint.specs.declared.error.HttpError.TheVariants.{BadHead, CutShort}
@@ -21,13 +22,14 @@ invitation facts = if facts.known.expect_continue then continue_text else []
 
 -- what comes of all the bytes that a connection has left, and what is written meanwhile
 pub data IsRequest (result : Result (List ℕ) HttpError) (said all : List ℕ) : Type 0 where
-  bad : IsBad 16384 ReadsRequestFacts all → result ≡ Err BadHead → said ≡ [] → IsRequest result said all
-  short : IsShort 16384 ReadsRequestFacts MayBecomeRequest all → result ≡ Err CutShort → said ≡ []
+  bad : IsBad part_bytes ReadsRequestFacts all → result ≡ Err BadHead → said ≡ [] → IsRequest result said all
+  short : IsShort part_bytes ReadsRequestFacts MayBecomeRequest all → result ≡ Err CutShort → said ≡ []
       → IsRequest result said all
-  refused : (facts : RequestFacts) (rest : List ℕ) (e : HttpError) → ReadsUpTo 16384 ReadsRequestFacts all facts rest
+  refused : (facts : RequestFacts) (rest : List ℕ) (e : HttpError)
+      → ReadsUpTo part_bytes ReadsRequestFacts all facts rest
       → verdict facts ≡ Err e → result ≡ Err e → said ≡ [] → IsRequest result said all
   accepted : (facts : RequestFacts) (rest : List ℕ) (framing : Framing)
-      → ReadsUpTo 16384 ReadsRequestFacts all facts rest
+      → ReadsUpTo part_bytes ReadsRequestFacts all facts rest
       → verdict facts ≡ Ok framing → said ≡ invitation facts → IsBody framing rest result → IsRequest result said all
 
 -- a response of this status, with the body that was read
@@ -46,7 +48,7 @@ pub data IsFinal (result : Result Response HttpError) (facts : ResponseFacts) (r
 -- section 15.2)
 pub data IsAnswered (result : Result Response HttpError) (facts : ResponseFacts) (rest : List ℕ) : Type 0 where
   passed : (framing : Framing) → facts.status ≡ 100 → response_framing facts ≡ Ok framing
-      → Stage 16384 ReadsResponseFacts MayBecomeResponse rest result (λ facts rest. IsFinal result facts rest)
+      → Stage part_bytes ReadsResponseFacts MayBecomeResponse rest result (λ facts rest. IsFinal result facts rest)
       → IsAnswered result facts rest
   unsound : (e : HttpError) → facts.status ≡ 100 → response_framing facts ≡ Err e → result ≡ Err e
       → IsAnswered result facts rest
@@ -55,4 +57,4 @@ pub data IsAnswered (result : Result Response HttpError) (facts : ResponseFacts)
 -- what comes of all the bytes that a source has left
 abbrev pub IsResponse : Result Response HttpError → List ℕ → Type 0
 IsResponse result all =
-    Stage 16384 ReadsResponseFacts MayBecomeResponse all result (λ facts rest. IsAnswered result facts rest)
+    Stage part_bytes ReadsResponseFacts MayBecomeResponse all result (λ facts rest. IsAnswered result facts rest)

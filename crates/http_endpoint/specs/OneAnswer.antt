@@ -9,6 +9,7 @@ use Rattle.httparse.specs.Grammar.{MayBecomeChunkLine, MayBecomeSection, MayBeco
 use Rattle.httparse.specs.Grammar.{chunk_size}
 use Rattle.httparse.proofs.GrammarLemmas.{section_unique, request_unique, response_unique}
 use Rattle.httparse.proofs.ChunkLemmas.{chunk_line_unique}
+use Rattle.http_endpoint.specs.Limits.{part_bytes}
 use Rattle.http_endpoint.specs.declared.body.Framing.{Framing}
 use Rattle.http_endpoint.specs.declared.body.Framing.TheVariants.{Empty, Counted, Chunked, ToEnd}
 use Rattle.http_endpoint.specs.declared.error.HttpError.{HttpError}
@@ -184,7 +185,7 @@ pub one-end : (r q : Result (List ℕ) HttpError) (body : List ℕ) (size : ℕ)
     → EndsBehind r body size after
     → EndsBehind q body size after → r ≡ q
 one-end r q body size after (last none x) (last also y) =
-    one-stage (List ℕ) ReadsTrailer MayBecomeSection 16384 after trailer-shrinks one-trailer trailer-ends r q
+    one-stage (List ℕ) ReadsTrailer MayBecomeSection part_bytes after trailer-shrinks one-trailer trailer-ends r q
     (λ count rest. r ≡ ended_by count body) (λ count rest. q ≡ ended_by count body) (λ count rest f g. f ∙ sym g)
     x y
 one-end r q body size after (last none x) (too_long some long is) = absurd (omega (arith, none, some))
@@ -204,7 +205,7 @@ one-end r q body size after (unbroken some inside within x) (too_long any long a
     absurd (omega (arith, long, inside, within))
 one-end r q body size after (unbroken some inside within x) (cut less few also) = absurd (omega (arith, less, inside))
 one-end r q body size after (unbroken some inside within x) (unbroken any in2 with2 y) =
-    one-stage (List ℕ) ReadsBreak IsHalfBreak 16384 (drop size after) break-shrinks one-break break-ends r q
+    one-stage (List ℕ) ReadsBreak IsHalfBreak part_bytes (drop size after) break-shrinks one-break break-ends r q
     (λ _ _. ⊥) (λ _ _. ⊥) (λ a rest f g. absurd f) x y
 
 -- where a whole chunk stands behind a line, the body doesn't end there
@@ -214,7 +215,7 @@ whole-not-end r body bytes new rest c (last none x) = omega (arith, none, c.some
 whole-not-end r body bytes new rest c (too_long some long is) = omega (arith, long, c.inside, c.within)
 whole-not-end r body bytes new rest c (cut less few is) = omega (arith, less, c.inside)
 whole-not-end r body bytes new rest c (unbroken some inside within (bad x is)) =
-    read-not-bad ReadsBreak break-shrinks 16384 (drop c.size c.after) tt rest c.end x
+    read-not-bad ReadsBreak break-shrinks part_bytes (drop c.size c.after) tt rest c.end x
 whole-not-end r body bytes new rest c (unbroken some inside within (short x is)) = x.none tt rest c.end.is_text
 whole-not-end r body bytes new rest c (unbroken some inside within (part a later x never)) = never
 
@@ -222,7 +223,7 @@ whole-not-end r body bytes new rest c (unbroken some inside within (part a later
 pub chunk-not-end : (r : Result (List ℕ) HttpError) (body bytes new rest : List ℕ) → TakesChunk body bytes new rest
     → ¬ (EndsChunks r body bytes)
 chunk-not-end r body bytes new rest c (bad x is) =
-    read-not-bad ReadsSize size-shrinks 16384 bytes c.size c.after c.line x
+    read-not-bad ReadsSize size-shrinks part_bytes bytes c.size c.after c.line x
 chunk-not-end r body bytes new rest c (short x is) = x.none c.size c.after c.line.is_text
 chunk-not-end r body bytes new rest c (part size after x f) =
     let is = one-size bytes after c.after size c.size x.is_text c.line.is_text in
@@ -247,7 +248,7 @@ one-chunk body bytes new rest new2 rest2 x y =
 pub one-chunked : (r q : Result (List ℕ) HttpError) (body bytes : List ℕ) → IsChunked r body bytes
     → IsChunked q body bytes → r ≡ q
 one-chunked r q body bytes (ends x) (ends y) =
-    one-stage (List ℕ) ReadsSize MayBecomeChunkLine 16384 bytes size-shrinks one-size size-ends r q
+    one-stage (List ℕ) ReadsSize MayBecomeChunkLine part_bytes bytes size-shrinks one-size size-ends r q
     (λ size after. EndsBehind r body size after) (λ size after. EndsBehind q body size after)
     (λ size after f g. one-end r q body size after f g) x y
 one-chunked r q body bytes (ends x) (chunk new rest c y) = absurd (chunk-not-end r body bytes new rest c x)

@@ -1,6 +1,7 @@
 -- A whole message has one answer.
 use Rattle.std.proofs.Common.{◌≡◌, ℕ, List, [], ◌++◌, arith, inl, inr, ap, sym, ◌∙◌, refl, Result, Ok, Err, ◌⊎◌}
 use Rattle.httparse.specs.Grammar.{MayBecomeRequest, MayBecomeResponse, EndsInTarget}
+use Rattle.http_endpoint.specs.Limits.{part_bytes}
 use Rattle.http_endpoint.specs.declared.body.Framing.{Framing}
 use Rattle.http_endpoint.specs.declared.error.HttpError.{HttpError}
 use Rattle.http_endpoint.specs.declared.heads.RequestFacts.{RequestFacts}
@@ -27,7 +28,8 @@ in-target all (inl may) never = absurd (never may.0 (facts_of_request may.1) [] 
 in-target all (inr ends) never = ends
 
 -- a head is bad and cut short only where the bytes end in its target
-bad-or-short : (all : List ℕ) → IsBad 16384 ReadsRequestFacts all → IsShort 16384 ReadsRequestFacts MayBecomeRequest all
+bad-or-short : (all : List ℕ) → IsBad part_bytes ReadsRequestFacts all
+    → IsShort part_bytes ReadsRequestFacts MayBecomeRequest all
     → EndsInTarget all
 bad-or-short all (inl never) s = in-target all s.unfinished never
 bad-or-short all (inr long) s = absurd (omega (arith, long.0, s.within))
@@ -43,9 +45,10 @@ not-both : (e : HttpError) (f : Framing) (x : Result Framing HttpError) → x �
 not-both e f x p q = cc
 
 -- what has a head isn't bad, nor cut short
-head-not-bad : (all : List ℕ) (facts : RequestFacts) (rest : List ℕ) → ReadsUpTo 16384 ReadsRequestFacts all facts rest
-    → ¬ (IsBad 16384 ReadsRequestFacts all)
-head-not-bad all facts rest reads = read-not-bad ReadsRequestFacts request-shrinks 16384 all facts rest reads
+head-not-bad : (all : List ℕ) (facts : RequestFacts) (rest : List ℕ)
+    → ReadsUpTo part_bytes ReadsRequestFacts all facts rest
+    → ¬ (IsBad part_bytes ReadsRequestFacts all)
+head-not-bad all facts rest reads = read-not-bad ReadsRequestFacts request-shrinks part_bytes all facts rest reads
 
 -- two accepted requests at one place
 both-accepted : (r q : Result (List ℕ) HttpError) (all : List ℕ) (a b : RequestFacts) (m n : List ℕ) (f g : Framing)
@@ -101,7 +104,7 @@ one-final r q facts rest (framed f c u x is) (framed g d v y also) =
 one-answered : (r q : Result Response HttpError) (facts : ResponseFacts) (rest : List ℕ) → IsAnswered r facts rest
     → IsAnswered q facts rest → r ≡ q
 one-answered r q facts rest (passed f is u x) (passed g also v y) =
-    one-stage Response ReadsResponseFacts MayBecomeResponse 16384 rest response-shrinks one-response-head
+    one-stage Response ReadsResponseFacts MayBecomeResponse part_bytes rest response-shrinks one-response-head
     response-ends r q
     (λ later behind. IsFinal r later behind) (λ later behind. IsFinal q later behind)
     (λ later behind m n. one-final r q later behind m n) x y
@@ -121,7 +124,7 @@ one-answered r q facts rest (final not x) (final nor y) = one-final r q facts re
 -- a response has one answer
 pub one-response : (r q : Result Response HttpError) (all : List ℕ) → IsResponse r all → IsResponse q all → r ≡ q
 one-response r q all x y =
-    one-stage Response ReadsResponseFacts MayBecomeResponse 16384 all response-shrinks one-response-head response-ends
-    r q
+    one-stage Response ReadsResponseFacts MayBecomeResponse part_bytes all response-shrinks one-response-head
+    response-ends r q
     (λ facts rest. IsAnswered r facts rest) (λ facts rest. IsAnswered q facts rest)
     (λ facts rest m n. one-answered r q facts rest m n) x y

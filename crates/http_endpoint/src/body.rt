@@ -41,7 +41,7 @@ pub fn move_bytes<S: Source>(
         → IsMove size all body.old result body.new (ahead (S.told from.new).left input.new) }
     ensures grown { OnOk result (length body.new ≡ length body.old + size) }
     ensures within { OnOk result (length body.new ≤ envelope_bytes) }
-    ensures stops { TakesAtMost (min size (2097153 - length body.old)) (length input.old)
+    ensures stops { TakesAtMost (min size (envelope_bytes + 1 - length body.old)) (length input.old)
         (S.told from.old) (S.told from.new) }
     ensures used { OnOk result (UsesAtMost size (length input.old) (length input.new)
         (S.told from.old) (S.told from.new)) }
@@ -133,7 +133,7 @@ pub fn read_to_end<S: Source>(
 ) -> Result<Blob, HttpError>
     ensures answer { (all : List ℕ) → ahead (S.told from.old).left input.old ≡ Some all
         → IfTold result (result ≡ all_left all) }
-    ensures stops { TakesAtMost 2097153 (length input.old) (S.told from.old) (S.told from.new) }
+    ensures stops { TakesAtMost (envelope_bytes + 1) (length input.old) (S.told from.old) (S.told from.new) }
     ensures keeps { KeepsSource result (S.told from.old) (S.told from.new) }
 {
     let mut body = Blob::new(alloc);
@@ -152,7 +152,7 @@ fn read_counted<S: Source>(
 ) -> Result<Blob, HttpError>
     ensures answer { (all : List ℕ) → ahead (S.told from.old).left input.old ≡ Some all
         → IfTold result (IsCounted size all result) }
-    ensures stops { TakesAtMost (min size 2097153) (length input.old) (S.told from.old) (S.told from.new) }
+    ensures stops { TakesAtMost (min size (envelope_bytes + 1)) (length input.old) (S.told from.old) (S.told from.new) }
     ensures keeps { KeepsSource result (S.told from.old) (S.told from.new) }
 {
     let mut body = Blob::new(alloc);

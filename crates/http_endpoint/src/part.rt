@@ -2,6 +2,7 @@
 ghost use Rattle.std.specs.Prelude.{Bool, ◌≡◌, ◌≢◌, ℕ, ◌<◌, ◌≤◌, ◌+◌, List, ◌++◌, length, max, Some, IfOk, OnOk};
 ghost use Rattle.std.specs.Prelude.{Err, true};
 ghost use Rattle.http_endpoint.specs.Ahead.{ahead};
+ghost use Rattle.http_endpoint.specs.Limits.{part_bytes};
 ghost use Rattle.http_endpoint.specs.Part.{IsParse, IsAnswer};
 ghost use Rattle.http_endpoint.specs.Kept.{KeepsSource};
 ghost use Rattle.http_endpoint.specs.Taken.{TakesAtMost, UsesAtMost};
@@ -58,9 +59,9 @@ pub fn read_part<S: Source, P: Part>(
     input: &mut Input,
 ) -> Result<P::Out, HttpError>
     ensures answer { (all : List ℕ) → ahead (S.told from.old).left input.old ≡ Some all
-        → IsAnswer 16384 P.reads P.begun all result (ahead (S.told from.new).left input.new) }
-    ensures stops { TakesAtMost 16385 (length input.old) (S.told from.old) (S.told from.new) }
-    ensures used { OnOk result (UsesAtMost 16384 (length input.old) (length input.new)
+        → IsAnswer part_bytes P.reads P.begun all result (ahead (S.told from.new).left input.new) }
+    ensures stops { TakesAtMost (part_bytes + 1) (length input.old) (S.told from.old) (S.told from.new) }
+    ensures used { OnOk result (UsesAtMost part_bytes (length input.old) (length input.new)
         (S.told from.old) (S.told from.new)) }
     ensures keeps { KeepsSource result (S.told from.old) (S.told from.new) }
 {

@@ -3,6 +3,7 @@ ghost use Rattle.std.specs.Prelude.{◌≡◌, ◌≤◌, ◌+◌, ℕ, ◌⊎�
 ghost use Rattle.std.specs.Io.KnownBytes.{Appends};
 ghost use Rattle.rm_base.specs.Count.{Rose};
 ghost use Rattle.rm_base.specs.Outside.{AppendsFront, Lasts};
+ghost use Rattle.http_endpoint.specs.Limits.{part_bytes};
 ghost use Rattle.http_endpoint.specs.Part.{IfTold};
 ghost use Rattle.http_endpoint.specs.Heads.{IsRefusal};
 ghost use Rattle.http_endpoint.specs.Messages.{continue_text, IsRequest};
@@ -38,7 +39,7 @@ pub fn read_request<C: Connection>(alloc: Global, conn: &mut C) -> Result<Blob, 
         → IfTold result ((said : List ℕ) × Appends (C.Source.told conn.old).held (C.Source.told conn.new).held said
         × IsRequest result said all) }
     ensures stops { (C.Source.told conn.new).taken
-        ≤ (C.Source.told conn.old).taken + (16385 + most_taken Framing.Chunked) }
+        ≤ (C.Source.told conn.old).taken + (part_bytes + 1 + most_taken Framing.Chunked) }
     ensures front { AppendsFront (C.Source.told conn.old).held (C.Source.told conn.new).held continue_text }
     ensures read_fault { result ≡ Err HttpError.ReadFault
         → Rose (C.Source.told conn.old).faults (C.Source.told conn.new).faults }

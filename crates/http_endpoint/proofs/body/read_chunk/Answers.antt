@@ -1,6 +1,7 @@
 use Rattle.std.proofs.Common.{◌≡◌, Err, List, ℕ, drop, arith, refl}
 use Rattle.httparse.specs.Grammar.{MayBecomeChunkLine, MayBecomeSection}
 use Rattle.http_endpoint.specs.Ahead.{ahead}
+use Rattle.http_endpoint.specs.Limits.{part_bytes}
 use Rattle.http_endpoint.specs.Part.{Stage, part}
 use Rattle.http_endpoint.specs.Parts.{ReadsSize, ReadsTrailer, ReadsBreak, IsHalfBreak}
 use Rattle.http_endpoint.specs.Body.{IsChunk, EndsBehind, EndsChunks, last, unbroken, ended_by}
@@ -14,7 +15,7 @@ returns-in_err-size-clause-answer g c = λ all is.
     let body = c.args.body.now in
     let after = ahead (g.S.Source.told c.read_part.new.from).left c.read_part.new.input in
     handed-on c.from_residual.result e (λ r. IsChunk all body r body after) c.from_residual.ensures.1
-    (stage-stops (List ℕ) 16384 ReadsSize MayBecomeChunkLine all e after
+    (stage-stops (List ℕ) part_bytes ReadsSize MayBecomeChunkLine all e after
     (λ size behind. EndsBehind (Err e) body size behind)
     (c.in_err-size.ensures.answer all is))
 
@@ -25,12 +26,12 @@ returns-in_err-count-clause-answer g c = λ all is.
     let line = c.in_ok-size.ensures.answer all is in
     let read = c.read_part-then-size-eq0.new in
     let after = ahead (g.S.Source.told read.from).left read.input in
-    let stops = stage-stops (List ℕ) 16384 ReadsTrailer MayBecomeSection line.0 e after
+    let stops = stage-stops (List ℕ) part_bytes ReadsTrailer MayBecomeSection line.0 e after
     (λ count rest. Err e ≡ ended_by count body)
     (c.in_err-count.ensures.answer line.0 line.1) in
     handed-on c.from_residual-in_err-count.result e (λ r. IsChunk all body r body after)
     c.from_residual-in_err-count.ensures.1
-    (IfTold-map {A = List ℕ} (Err e) (Stage 16384 ReadsTrailer MayBecomeSection line.0 (Err e)
+    (IfTold-map {A = List ℕ} (Err e) (Stage part_bytes ReadsTrailer MayBecomeSection line.0 (Err e)
     (λ count rest. Err e ≡ ended_by count body))
     (EndsChunks (Err e) body all)
     (λ s. behind-line body all c.in_ok-size.size line.0 (Err e) line.2 (last c.if-size-eq0.true s)) stops)
@@ -72,11 +73,11 @@ returns-in_err-read_part-clause-answer g c = λ all is.
     let moved = c.in_ok-move_bytes.ensures.answer line.0 line.1 in
     let behind = drop size line.0 in
     let after = ahead (g.S.Source.told c.read_part-2.new.from).left c.read_part-2.new.input in
-    let stops = stage-stops (List ℕ) 16384 ReadsBreak IsHalfBreak behind e after (λ _ _. ⊥)
+    let stops = stage-stops (List ℕ) part_bytes ReadsBreak IsHalfBreak behind e after (λ _ _. ⊥)
     (c.in_err-read_part.ensures.answer behind moved.after_is) in
     handed-on c.from_residual-in_err-read_part.result e (λ r. IsChunk all body r c.move_bytes.new.body after)
     c.from_residual-in_err-read_part.ensures.1
-    (IfTold-map {A = List ℕ} (Err e) (Stage 16384 ReadsBreak IsHalfBreak behind (Err e) (λ _ _. ⊥))
+    (IfTold-map {A = List ℕ} (Err e) (Stage part_bytes ReadsBreak IsHalfBreak behind (Err e) (λ _ _. ⊥))
     (EndsChunks (Err e) body all)
     (λ s. behind-line body all size line.0 (Err e) line.2
     (unbroken (omega (arith, c.if-size-eq0.false)) moved.inside moved.within s)) stops)

@@ -1,5 +1,6 @@
 use Rattle.std.proofs.Common.{◌≡◌, ℕ, ◌≤◌, ◌+◌, ◌*◌, ◌-◌, List, [], length, max, Some, Result}
 use Rattle.http_endpoint.specs.declared.error.HttpError.{HttpError}
+use Rattle.rm_base.specs.Limits.{envelope_bytes}
 use Rattle.rm_base.specs.Outside.{Lasts}
 use Rattle.http_endpoint.specs.Ahead.{ahead}
 use Rattle.http_endpoint.specs.Body.{IsChunked}
@@ -9,7 +10,7 @@ abbrev pub invariant-loop-body : goal.invariant-loop-body
 invariant-loop-body g l =
     let told = g.S.Source.told in
     record {
-      within : length l.body ≤ 2097152;
+      within : length l.body ≤ envelope_bytes;
       chunks : (result : Result (List ℕ) HttpError) (all : List ℕ)
           → ahead (told l.initial.from).left l.initial.input ≡ Some all
           → (bytes : List ℕ) × (ahead (told l.from).left l.input ≡ Some bytes)
@@ -23,4 +24,4 @@ invariant-loop-body g l =
     }
 
 abbrev pub decreases-loop-body : goal.decreases-loop-body
-decreases-loop-body g l = 2097153 - length l.body
+decreases-loop-body g l = envelope_bytes + 1 - length l.body

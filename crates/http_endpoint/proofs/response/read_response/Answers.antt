@@ -1,5 +1,6 @@
 use Rattle.std.proofs.Common.{Err, sym, refl}
 use Rattle.httparse.specs.Grammar.{MayBecomeResponse}
+use Rattle.http_endpoint.specs.Limits.{part_bytes}
 use Rattle.http_endpoint.specs.declared.response.Response.{Response}
 use Rattle.http_endpoint.specs.Ahead.{ahead}
 use Rattle.http_endpoint.specs.Part.{IfTold, Stage, part}
@@ -14,7 +15,7 @@ returns-in_err-facts-clause-answer g c = λ all is.
     let e = c.in_err-facts.field-0.0 in
     let start = ahead-start (g.S.Source.told c.args.from.now).left c.new-input.result all is c.new-input.ensures in
     handed-on c.from_residual.result e (λ r. IfTold r (IsResponse r all)) c.from_residual.ensures.1
-    (stage-stops Response 16384 ReadsResponseFacts MayBecomeResponse all e
+    (stage-stops Response part_bytes ReadsResponseFacts MayBecomeResponse all e
     (ahead (g.S.Source.told c.read_part.new.from).left c.read_part.new.input)
     (λ facts rest. IsAnswered (Err e) facts rest)
     (c.in_err-facts.ensures.answer all start))
@@ -35,13 +36,13 @@ returns-in_err-last-clause-answer g c = λ all is.
     let start = ahead-start (g.S.Source.told c.args.from.now).left c.new-input.result all is c.new-input.ensures in
     let head = c.in_ok-facts.ensures.answer all start in
     let read = c.read_part-then-facts-eq100.new in
-    let stops = stage-stops Response 16384 ReadsResponseFacts MayBecomeResponse head.0 e
+    let stops = stage-stops Response part_bytes ReadsResponseFacts MayBecomeResponse head.0 e
     (ahead (g.S.Source.told read.from).left read.input)
     (λ facts rest. IsFinal (Err e) facts rest) (c.in_err-last.ensures.answer head.0 head.1) in
     handed-on c.from_residual-in_err-last.result e (λ r. IfTold r (IsResponse r all))
     c.from_residual-in_err-last.ensures.1
     (IfTold-map {A = Response} (Err e)
-    (Stage 16384 ReadsResponseFacts MayBecomeResponse head.0 (Err e) (λ facts rest. IsFinal (Err e) facts rest))
+    (Stage part_bytes ReadsResponseFacts MayBecomeResponse head.0 (Err e) (λ facts rest. IsFinal (Err e) facts rest))
     (IsResponse (Err e) all)
     (λ s. part c.in_ok-facts.facts head.0 head.2
     (passed c.in_ok-response_framing.field-0 c.if-facts-eq100.true (sym c.in_ok-response_framing.ensures) s)) stops)
