@@ -4,6 +4,8 @@ use Rattle.std.proofs.Common.{List, [], ◌∷◌}
 use Rattle.std.proofs.Common.{◌++◌, length, refl, sym, ap, ◌∙◌, subst, append-nil}
 use Rattle.std.specs.Prelude.{Option, Some, None, IfSome}
 use Rattle.std.specs.List.{AllByRecursion, flat_map}
+use Rattle.rm_base.specs.Limits.{most_sequences, most_unacked, payload_bytes, window}
+use Rattle.rm_base.specs.Message.{max_number}
 use Rattle.rm_base.specs.declared.message.Behaviour.{Behaviour}
 use Rattle.rm_base.specs.declared.message.Cause.TheVariants.{Operator, Expired}
 use Rattle.rm_base.specs.declared.lapse.Lapse.{Lapse}
@@ -106,7 +108,7 @@ pub create-right : (terms : Terms) (place : ℕ) (r a b : List Fact) (wish : Wis
 create-right terms place r a b wish w e =
     let rec = Creating (counter r + 1) wish.to wish.via wish.expires (offer_of (counter r) wish.offer) in
     let same : counter r ≡ counter a = kept-counter r a w in
-    refused-or terms place a b (nat_lt 256 (length (makers r) + wanted wish.offer))
+    refused-or terms place a b (nat_lt most_sequences (length (makers r) + wanted wish.offer))
     (TooManySequences (length (makers r))) _
     (if_room-right terms place a b _ (record {
       allows = ((ap (λ z. z + 1) same, offer_of-fresh r a wish.offer same), tt, tt);
@@ -160,21 +162,21 @@ open-unmarked r s e = unmarked (first_phase (out_ident r s)) (marks r s)
 send_out-right : (terms : Terms) (place : ℕ) (r a b : List Fact) (s : ℕ) (text : Text) → Keeps r a
     → IsRight terms place a b (send_out terms r place s text)
 send_out-right terms place r a b s text w =
-    refused-or terms place a b (nat_lt 1048576 (length text)) (PayloadTooLong (length text)) _
+    refused-or terms place a b (nat_lt payload_bytes (length text)) (PayloadTooLong (length text)) _
     (refused-or terms place a b (not (terms.is_content text)) BadPayload _
     (by_phase (is_open (phase r s)) refl))
   where
     by_phase : (x : Bool) → is_open (phase r s) ≡ x → IsRight terms place a b (cond (not x) (refusal NotOpen)
-        (cond (nat_le 1024 (unacked r s)) (refusal (WindowFull (unacked r s)))
-        (cond (nat_le 4096 (all_unacked r)) (refusal (NodeFull (all_unacked r)))
-        (cond (nat_le 9223372036854775807 (length (accepted r s))) (refusal Rollover)
+        (cond (nat_le window (unacked r s)) (refusal (WindowFull (unacked r s)))
+        (cond (nat_le most_unacked (all_unacked r)) (refusal (NodeFull (all_unacked r)))
+        (cond (nat_le max_number (length (accepted r s))) (refusal Rollover)
         (if_room terms place (adds r (Accepted s text ∷ [])
         (λ now. option_to_list (data_at now s (length (accepted r s) + 1)))))))))
     by_phase false e = refusal-right terms place a b NotOpen
     by_phase true e =
-        refused-or terms place a b (nat_le 1024 (unacked r s)) (WindowFull (unacked r s)) _
-        (refused-or terms place a b (nat_le 4096 (all_unacked r)) (NodeFull (all_unacked r)) _
-        (refused-or terms place a b (nat_le 9223372036854775807 (length (accepted r s))) Rollover _
+        refused-or terms place a b (nat_le window (unacked r s)) (WindowFull (unacked r s)) _
+        (refused-or terms place a b (nat_le most_unacked (all_unacked r)) (NodeFull (all_unacked r)) _
+        (refused-or terms place a b (nat_le max_number (length (accepted r s))) Rollover _
         (if_room-right terms place a b _ (record {
           allows = (ap (λ z. is_empty (at_seq s z)) (sym w.marks_) ∙ open-unmarked r s e, tt, tt);
           with_ = tt;

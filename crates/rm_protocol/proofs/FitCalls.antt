@@ -9,6 +9,8 @@ use Rattle.std.specs.Option.{option_to_list}
 use Rattle.std.proofs.lemmas.List.Concat.{flat_map-append}
 use Rattle.ack_ranges.specs.declared.range.Range.{Range}
 use Rattle.ack_ranges.specs.Changes.{united, covers_all}
+use Rattle.rm_base.specs.Limits.{most_sequences, most_unacked, payload_bytes, window}
+use Rattle.rm_base.specs.Message.{max_number}
 use Rattle.rm_base.specs.Numbered.{numbered}
 use Rattle.rm_base.specs.NumberSet.{has_number}
 use Rattle.rm_base.specs.declared.message.Behaviour.{Behaviour}
@@ -198,7 +200,7 @@ data_row-fits r now (Some h) p k = by_found (find_incoming r h.ident) refl
     by_found : (x : Option ℕ) → find_incoming r h.ident ≡ x → all_fit r (data_row_at now x h.number p r) ≡ true
     by_found None e = refl
     by_found (Some s) e =
-        chosen (has_number (held r s) h.number) (is_over r s now) (nat_lt (front r s + 1024) h.number) refl refl
+        chosen (has_number (held r s) h.number) (is_over r s now) (nat_lt (front r s + window) h.number) refl refl
       where
         new : has_number (held r s) h.number ≡ false → is_over r s now ≡ false
             → fits r (Received s h.number p) ≡ true
@@ -207,7 +209,7 @@ data_row-fits r now (Some h) p k = by_found (find_incoming r h.ident) refl
             (neither (is_stopped r s) (is_past (deadline_of (maker r s)) now) g).0 in
             both (is_incoming_side (maker r s)) _ (incoming-found r h.ident s e)
             (both (nat_le 1 h.number) _ (le_test 1 h.number k.0)
-            (both (nat_le h.number 9223372036854775807) _ (le_test h.number 9223372036854775807 k.1)
+            (both (nat_le h.number max_number) _ (le_test h.number max_number k.1)
             (both (not (has_number (held r s) h.number)) (not (is_stopped r s))
             (true-not (has_number (held r s) h.number) f) (true-not (is_stopped r s) open_))))
 
@@ -222,13 +224,13 @@ a_moment now None h = refl
 a_moment now (Some moment) h = no_zero now moment h
 
 granted-places : (r : List Fact) (drawn : ℕ) (t : Text) (k : Epr) (y : Behaviour) (deadline : Option ℕ) (lapse : Lapse)
-    (offer : Option PeerOffer) → nat_le 256 (length (makers r)) ≡ false
+    (offer : Option PeerOffer) → nat_le most_sequences (length (makers r)) ≡ false
     → has_places r (Granted drawn t k y deadline lapse offer) ≡ true
 granted-places r drawn t k y deadline lapse None h =
-    let few : length (makers r) < 256 = not_le 256 (length (makers r)) h in
+    let few : length (makers r) < most_sequences = not_le most_sequences (length (makers r)) h in
     le_test (length (makers r) + 1) 4294967295 (omega arith)
 granted-places r drawn t k y deadline lapse (Some offer) h =
-    let few : length (makers r) < 256 = not_le 256 (length (makers r)) h in
+    let few : length (makers r) < most_sequences = not_le most_sequences (length (makers r)) h in
     le_test (length (makers r) + 2) 4294967295 (omega arith)
 
 create_row-fits : (r : List Fact) (terms : Terms) (now : ℕ) (y : Behaviour) (t : Option Text) (c : CreateSequence)
@@ -238,11 +240,11 @@ create_row-fits r terms now y None c l o h = refl
 create_row-fits r terms now y (Some t) c l o h = by_found (find_grant r t) h
   where
     by_found : (x : Option ℕ)
-        → (is_none x && (is_nowhere c.acks_to.address || nat_le 256 (length (makers r)))) ≡ false
+        → (is_none x && (is_nowhere c.acks_to.address || nat_le most_sequences (length (makers r)))) ≡ false
         → all_fit r (create_at terms now y x t c r) ≡ true
     by_found (Some s) e = refl
     by_found None e =
-        let room = (neither (is_nowhere c.acks_to.address) (nat_le 256 (length (makers r))) e).1 in
+        let room = (neither (is_nowhere c.acks_to.address) (nat_le most_sequences (length (makers r))) e).1 in
         let ends = terms.deadline now c.expires in
         let rec = Granted (counter r + 1) t c.acks_to y ends c.expires (taken_of r c.offer) in
         alone r rec (both (counter r + 1 == counter r + 1)
@@ -426,7 +428,8 @@ body_row-fits r terms now y m body.Empty l o h n k = refl
 refuses-kept : (r new : List Fact) (t : Option Text) (content : Body) → makers new ≡ makers r
     → refuses_create new t content ≡ refuses_create r t content
 refuses-kept r new (Some t) (body.Lifecycle (life.Create c)) e =
-    ap (λ ms. is_none (find_from (is_granted t) 0 ms) && (is_nowhere c.acks_to.address || nat_le 256 (length ms))) e
+    ap (λ ms. is_none (find_from (is_granted t) 0 ms)
+    && (is_nowhere c.acks_to.address || nat_le most_sequences (length ms))) e
 refuses-kept r new _ _ e = refl
 
 -- all rows
@@ -486,15 +489,16 @@ on_outgoing-fits r (Some (Incoming c t k y d l)) answer h = refl
 
 -- create
 creating-fits : (r : List Fact) (to : Text) (via : Via) (lapse : Lapse) (offer : Option Behaviour)
-    → IfSome offer (λ behaviour. is_in_order behaviour ≡ true) → nat_lt 256 (length (makers r) + wanted offer) ≡ false
+    → IfSome offer (λ behaviour. is_in_order behaviour ≡ true)
+    → nat_lt most_sequences (length (makers r) + wanted offer) ≡ false
     → fits r (Creating (counter r + 1) to via lapse (offer_of (counter r) offer)) ≡ true
 creating-fits r to via lapse None o h =
-    let few : length (makers r) + 1 ≤ 256 = not_lt 256 (length (makers r) + 1) h in
+    let few : length (makers r) + 1 ≤ most_sequences = not_lt most_sequences (length (makers r) + 1) h in
     let rec = Creating (counter r + 1) to via lapse None in
     both (counter r + 1 == counter r + 1) (has_places r rec) (same_number (counter r + 1))
     (le_test (length (makers r) + 1) 4294967295 (omega arith))
 creating-fits r to via lapse (Some y) o h =
-    let few : length (makers r) + 2 ≤ 256 = not_lt 256 (length (makers r) + 2) h in
+    let few : length (makers r) + 2 ≤ most_sequences = not_lt most_sequences (length (makers r) + 2) h in
     let rec = Creating (counter r + 1) to via lapse (offer_of (counter r) (Some y)) in
     let next = offer_fits (counter r) (offer_of (counter r) (Some y)) in
     both (counter r + 1 == counter r + 1) (next && has_places r rec) (same_number (counter r + 1))
@@ -506,13 +510,14 @@ create-fits : (terms : Terms) (r : List Fact) (place : ℕ) (wish : Wish)
     → IfSome wish.offer (λ behaviour. is_in_order behaviour ≡ true)
     → all_fit r (create terms r place wish).delta ≡ true
 create-fits terms r place wish o =
-    refused-or-fits r (nat_lt 256 (length (makers r) + wanted wish.offer)) (TooManySequences (length (makers r))) _
+    refused-or-fits r (nat_lt most_sequences (length (makers r) + wanted wish.offer))
+    (TooManySequences (length (makers r))) _
     (λ e. if_room-fits terms r place (adds r
     (Creating (counter r + 1) wish.to wish.via wish.expires (offer_of (counter r) wish.offer) ∷ [])
     (λ now. option_to_list (request_at now (length (makers r) + 1))))
     (alone r (Creating (counter r + 1) wish.to wish.via wish.expires (offer_of (counter r) wish.offer)) (new e)))
   where
-    new : nat_lt 256 (length (makers r) + wanted wish.offer) ≡ false
+    new : nat_lt most_sequences (length (makers r) + wanted wish.offer) ≡ false
         → fits r (Creating (counter r + 1) wish.to wish.via wish.expires (offer_of (counter r) wish.offer)) ≡ true
     new e = creating-fits r wish.to wish.via wish.expires wish.offer o e
 
@@ -525,24 +530,24 @@ send-fits : (terms : Terms) (r : List Fact) (place s : ℕ) (text : Text)
     → all_fit r (send terms r place s text).delta ≡ true
 send-fits terms r place s text =
     on_outgoing-fits r (maker r s) (send_out terms r place s text) (λ side.
-    refused-or-fits r (nat_lt 1048576 (length text)) (PayloadTooLong (length text)) _ (λ a.
+    refused-or-fits r (nat_lt payload_bytes (length text)) (PayloadTooLong (length text)) _ (λ a.
     refused-or-fits r (not (terms.is_content text)) BadPayload _ (λ b.
     refused-or-fits r (not (is_open (phase r s))) NotOpen _ (λ c.
-    refused-or-fits r (nat_le 1024 (unacked r s)) (WindowFull (unacked r s)) _ (λ d.
-    refused-or-fits r (nat_le 4096 (all_unacked r)) (NodeFull (all_unacked r)) _ (λ e.
-    refused-or-fits r (nat_le 9223372036854775807 (length (accepted r s))) Rollover _ (λ f.
+    refused-or-fits r (nat_le window (unacked r s)) (WindowFull (unacked r s)) _ (λ d.
+    refused-or-fits r (nat_le most_unacked (all_unacked r)) (NodeFull (all_unacked r)) _ (λ e.
+    refused-or-fits r (nat_le max_number (length (accepted r s))) Rollover _ (λ f.
     if_room-fits terms r place (adds r (Accepted s text ∷ [])
     (λ now. option_to_list (data_at now s (length (accepted r s) + 1))))
     (alone r (Accepted s text) (new side c f)))))))))
   where
     new : is_outgoing_side (maker r s) ≡ true → not (is_open (phase r s)) ≡ false
-        → nat_le 9223372036854775807 (length (accepted r s)) ≡ false → fits r (Accepted s text) ≡ true
+        → nat_le max_number (length (accepted r s)) ≡ false → fits r (Accepted s text) ≡ true
     new side c f =
-        both (follows_at r s (Accepted s text)) (nat_lt (length (accepted r s)) 9223372036854775807)
+        both (follows_at r s (Accepted s text)) (nat_lt (length (accepted r s)) max_number)
         (follow r s (Accepted s text) side
         (open-follows (phase r s) s text (not-false (is_open (phase r s)) c)))
-        (lt_test (length (accepted r s)) 9223372036854775807
-        (not_le 9223372036854775807 (length (accepted r s)) f))
+        (lt_test (length (accepted r s)) max_number
+        (not_le max_number (length (accepted r s)) f))
 
 -- close
 open-closing : (p : OutPhase) (s ticket : ℕ) → is_open p ≡ true → follows p (Closing s ticket) ≡ true

@@ -3,6 +3,7 @@ use Rattle.std.proofs.Common.{◌≡◌, ℕ, suc, ◌+◌, ◌&&◌, not, nat_l
 use Rattle.std.proofs.Common.{refl, inl, inr}
 use Rattle.std.specs.Prelude.{Option, Some, None, slice_get}
 use Rattle.std.specs.List.{AllByRecursion}
+use Rattle.rm_base.specs.Limits.{window}
 use Rattle.rm_base.specs.NumberSet.{has_number}
 use Rattle.rm_base.specs.declared.message.Behaviour.{Behaviour}
 use Rattle.rm_base.specs.declared.message.Cause.TheVariants.{Peer, NotTaken}
@@ -92,7 +93,8 @@ data_row-heard m now (Some h) p r e f = by_found (find_incoming r h.ident)
 
     by_found : (x : Option ℕ) → AreHeard m (data_row_at now x h.number p r)
     by_found None = tt
-    by_found (Some s) = chosen s (has_number (held r s) h.number) (is_over r s now) (nat_lt (front r s + 1024) h.number)
+    by_found (Some s) =
+        chosen s (has_number (held r s) h.number) (is_over r s now) (nat_lt (front r s + window) h.number)
 
 create_row-heard : (m : Message) (terms : Terms) (now : ℕ) (y : Behaviour) (t : Option Text) (c : CreateSequence)
     (r : List Fact)

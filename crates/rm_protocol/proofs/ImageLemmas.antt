@@ -2,6 +2,7 @@
 use Rattle.std.proofs.Common.{◌≡◌, ◌⊎◌, ℕ, ◌<◌, ◌≤◌, false, List, [], ◌∷◌, ◌++◌, sym, ap, ◌∙◌, arith, subst}
 use Rattle.std.proofs.Common.{append-nil, inl, inr}
 use Rattle.std.specs.Prelude.{Some}
+use Rattle.rm_base.specs.Limits.{journal_bytes}
 use Rattle.rm_base.specs.Numbered.{numbered}
 use Rattle.rm_base.specs.NumberSet.{has_number}
 use Rattle.record_batch.specs.Fact.{Fact}
@@ -35,7 +36,7 @@ record Left (a b image : List Fact) : Type 0 where
   with_ : AreWith b delta
   small : counter (a ++ delta) < 2 ^ 62
 
-small-counter : (c place : ℕ) → c ≤ place → place ≤ 268435456 → c < 2 ^ 62
+small-counter : (c place : ℕ) → c ≤ place → place ≤ journal_bytes → c < 2 ^ 62
 small-counter c place h k = omega arith
 
 left_same : (terms : Terms) (x : Node) (b image : List Fact) → Keeps (records x) x.whole → IsBounded terms x

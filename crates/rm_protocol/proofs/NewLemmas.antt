@@ -6,6 +6,7 @@ use Rattle.std.specs.List.{AllByRecursion, flat_map}
 use Rattle.std.proofs.lemmas.Bool.{eqb-true}
 use Rattle.std.proofs.lemmas.Bool.Decides.{nat_tests}
 use Rattle.std.proofs.lemmas.List.Concat.{flat_map-append}
+use Rattle.rm_base.specs.Limits.{window}
 use Rattle.rm_base.specs.Numbered.{numbered}
 use Rattle.rm_base.specs.NumberSet.{has_number}
 use Rattle.rm_base.specs.declared.message.Behaviour.{Behaviour}
@@ -118,13 +119,14 @@ near-test i n h = grind (arith, nat_tests)
 
 data-new : (r d : List Fact) (now : ℕ) (s i : ℕ) (p : Payload) (x : Option ℕ) → AreAcks d → x ≡ Some s
     → has_number (held r s) i ≡ false
-    → is_over r s now ≡ false → i ≤ front r s + 1024 → data_row_at now x i p (r ++ d) ≡ Received s i p ∷ []
+    → is_over r s now ≡ false → i ≤ front r s + window → data_row_at now x i p (r ++ d) ≡ Received s i p ∷ []
 data-new r d now s i p x h e new open_ near =
     let same : received (r ++ d) s ≡ received r s = received-after r d s h in
     let one : has_number (held (r ++ d) s) i ≡ false = ap (λ z. has_number (numbers_of z) i) same ∙ new in
     let two : is_over (r ++ d) s now ≡ false = over-after r d s now h ∙ open_ in
-    let three : nat_lt (front (r ++ d) s + 1024) i ≡ false =
-    ap (λ z. nat_lt (length (without_gap 0 (sorted_onto [] z)) + 1024) i) same ∙ near-test i (front r s + 1024) near in
+    let three : nat_lt (front (r ++ d) s + window) i ≡ false =
+    ap (λ z. nat_lt (length (without_gap 0 (sorted_onto [] z)) + window) i) same
+    ∙ near-test i (front r s + window) near in
     ap (λ z. data_row_at now z i p (r ++ d)) e ∙ rw (one, two, three) refl
 
 rows-new : (terms : Terms) (r : List Fact) (now : ℕ) (y : Behaviour) (m : Message) (s i : ℕ) (p : Payload)

@@ -1,8 +1,9 @@
 -- Each row of the receiving table adds what may be added.
-use Rattle.std.proofs.Common.{◌≡◌, ℕ, ◌+◌, ◌&&◌, not, nat_lt, cond, Bool, true, false, List, [], ◌∷◌, ◌++◌, length}
+use Rattle.std.proofs.Common.{◌≡◌, ℕ, ◌+◌, ◌-◌, ◌&&◌, not, nat_lt, cond, Bool, true, false, List, [], ◌∷◌, ◌++◌, length}
 use Rattle.std.proofs.Common.{refl, sym, ap}
 use Rattle.std.specs.Prelude.{Option, Some, None, IfSome, is_none}
 use Rattle.std.specs.List.{AllByRecursion}
+use Rattle.rm_base.specs.Limits.{most_sequences, window}
 use Rattle.rm_base.specs.NumberSet.{has_number}
 use Rattle.rm_base.specs.declared.message.Behaviour.{Behaviour}
 use Rattle.rm_base.specs.declared.message.Cause.TheVariants.{Peer, NotTaken}
@@ -138,7 +139,7 @@ data_row_at-right r a b now None q i p w e h = tt
 data_row_at-right r a b now (Some s) q i p w e h =
     let found = find_incoming-is r q s e in
     let there = kept-Incoming r a s q found.0 w found.1 in
-    chosen (has_number (held r s) i) (is_over r s now) (nat_lt (front r s + 1024) i) (
+    chosen (has_number (held r s) i) (is_over r s now) (nat_lt (front r s + window) i) (
       tt,
       record {
         maker_ = there.maker_;
@@ -169,7 +170,8 @@ taken_of-is : (r b : List Fact) (t : Text) (offer : Option Offer) → IfSome off
 taken_of-is r b t None h = tt
 taken_of-is r b t (Some q) h =
     by_found (find_outgoing r q.ident)
-    (not (is_anonymous q.endpoint.address) && (not (is_nowhere q.endpoint.address) && nat_lt (length (makers r)) 255))
+    (not (is_anonymous q.endpoint.address)
+    && (not (is_nowhere q.endpoint.address) && nat_lt (length (makers r)) (most_sequences - 1)))
     refl
   where
     by_found : (x : Option ℕ) (y : Bool) → find_outgoing r q.ident ≡ x

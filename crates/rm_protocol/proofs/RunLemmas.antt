@@ -5,6 +5,7 @@ use Rattle.std.specs.Prelude.{Option, Some, None, IfSome}
 use Rattle.std.specs.List.{AllByRecursion, flat_map}
 use Rattle.std.proofs.lemmas.Bool.Decides.{nat_tests}
 use Rattle.std.proofs.lemmas.List.Concat.{flat_map-append}
+use Rattle.rm_base.specs.Limits.{journal_bytes}
 use Rattle.rm_base.specs.Numbered.{numbered}
 use Rattle.rm_message.specs.declared.message.Message.{Message}
 use Rattle.record_batch.specs.Fact.{Fact, Made}
@@ -197,14 +198,14 @@ counter-append r d = ap length (flat_map-append draws_of r d)
     ∙ length-append (flat_map draws_of r) (flat_map draws_of d)
 
 room-bound : (terms : Terms) (place : ℕ) (rec : Fact) (delta : List Fact) → has_room terms place (rec ∷ delta) ≡ true
-    → place + 6 + terms.size (rec ∷ delta) ≤ 268435456
+    → place + 6 + terms.size (rec ∷ delta) ≤ journal_bytes
 room-bound terms place rec delta e = grind (arith, nat_tests)
 
 pub bounded-with : (terms : Terms) (entries : List (List Fact)) (whole delta : List Fact) → AreTerms terms
     → counter whole ≤ end_of terms entries
-    → end_of terms entries + 6 + terms.size delta ≤ 268435456
+    → end_of terms entries + 6 + terms.size delta ≤ journal_bytes
     → (counter (whole ++ delta) ≤ end_of terms (entries ++ delta ∷ []))
-    × (end_of terms (entries ++ delta ∷ []) ≤ 268435456)
+    × (end_of terms (entries ++ delta ∷ []) ≤ journal_bytes)
 bounded-with terms entries whole delta t below fits =
     let more : end_of terms (entries ++ delta ∷ []) ≡ end_of terms entries + (5 + terms.size delta) =
     end_of-push terms entries delta in
@@ -400,7 +401,7 @@ changed-went terms x y b e f s h i a =
     (record {
       below = subst (λ z. counter y.whole ≤ end_of terms z) (sym f)
           (subst (λ z. counter z ≤ end_of terms x.entries) (sym e) i.below);
-      store = subst (λ z. end_of terms z ≤ 268435456) (sym f) i.store;
+      store = subst (λ z. end_of terms z ≤ journal_bytes) (sym f) i.store;
     })
   where
     same : (z : State) → AllowsState terms x b z → AllowsState terms y b z
@@ -408,7 +409,7 @@ changed-went terms x y b e f s h i a =
     same (Writing delta) k = (
       subst (λ z. Allows z b delta) (sym e) k.0,
       k.1,
-      subst (λ z. end_of terms z + 6 + terms.size delta ≤ 268435456) (sym f) k.2,
+      subst (λ z. end_of terms z + 6 + terms.size delta ≤ journal_bytes) (sym f) k.2,
     )
 
     moved : (z : State) → z ≡ x.state → AllowsState terms y b z
@@ -502,7 +503,7 @@ owns-made n a = record {
 made-sound : (terms : Terms) (n : ℕ) (at : Text) (b : List Fact) → AreTerms terms
     → has_room terms 8 (Made n at ∷ []) ≡ true → IsSoundNode terms at (made n at) b
 made-sound terms n at b t e =
-    let fits : 8 + 6 + terms.size (Made n at ∷ []) ≤ 268435456 = room-bound terms 8 (Made n at) [] e in
+    let fits : 8 + 6 + terms.size (Made n at ∷ []) ≤ journal_bytes = room-bound terms 8 (Made n at) [] e in
     record {
       failed = tt;
       with_ = tt;

@@ -6,6 +6,8 @@ use Rattle.std.specs.Prelude.{Option, Some, None}
 use Rattle.std.specs.List.{AllByRecursion}
 use Rattle.std.proofs.lemmas.Bool.Decides.{nat_tests}
 use Rattle.std.proofs.lemmas.List.Concat.{flat_map-append}
+use Rattle.rm_base.specs.Limits.{most_sequences, most_unacked, payload_bytes, window}
+use Rattle.rm_base.specs.Message.{max_number}
 use Rattle.rm_base.specs.Numbered.{numbered}
 use Rattle.rm_base.specs.declared.message.Behaviour.{Behaviour}
 use Rattle.rm_base.specs.declared.message.Cause.TheVariants.{Operator, Expired}
@@ -106,7 +108,8 @@ create-quiet : (terms : Terms) (r : List Fact) (place : ℕ) (wish : Wish) → I
 create-quiet terms r place wish =
     let rec = Creating (counter r + 1) wish.to wish.via wish.expires (Calls.offer_of (counter r) wish.offer) in
     let outs : List Fact → List Message = λ now. option_to_list (request_at now (length (makers r) + 1)) in
-    refused-quiet (nat_lt 256 (length (makers r) + wanted wish.offer)) (Calls.TooManySequences (length (makers r)))
+    refused-quiet (nat_lt most_sequences (length (makers r) + wanted wish.offer))
+    (Calls.TooManySequences (length (makers r)))
     (if_room terms place (adds r (rec ∷ []) outs))
     (if_room-quiet terms place (adds r (rec ∷ []) outs) (one-quiet r rec outs (λ k. refl)))
 
@@ -296,12 +299,12 @@ refusing-send s text false cause x h = refused_ cause
 send_out-send : (terms : Terms) (r : List Fact) (place s : ℕ) (text : Text)
     → IsSend s text (send_out terms r place s text)
 send_out-send terms r place s text =
-    refused-send s text (nat_lt 1048576 (length text)) _ _
+    refused-send s text (nat_lt payload_bytes (length text)) _ _
     (refused-send s text (not (terms.is_content text)) _ _
     (refused-send s text (not (is_open (phase r s))) _ _
-    (refused-send s text (nat_le 1024 (unacked r s)) _ _
-    (refused-send s text (nat_le 4096 (all_unacked r)) _ _
-    (refused-send s text (nat_le 9223372036854775807 (length (accepted r s))) _ _
+    (refused-send s text (nat_le window (unacked r s)) _ _
+    (refused-send s text (nat_le most_unacked (all_unacked r)) _ _
+    (refused-send s text (nat_le max_number (length (accepted r s))) _ _
     (refusing-send s text (has_room terms place (Accepted s text ∷ [])) _ _ (accepted_ _)))))))
 
 on_outgoing-send : (s : ℕ) (text : Text) (x : Option Maker) (answer : Answer) → IsSend s text answer

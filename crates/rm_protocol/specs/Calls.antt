@@ -213,7 +213,7 @@ abbrev pub messages_at : List Fact → List Key → List Message
 messages_at r [] = []
 messages_at r (k ∷ keys) = option_to_list (message_at r k.seq k.number) ++ messages_at r keys
 
--- tick: they are ended in one batch, where it fits the store, and the first 64 keys that are due are emitted, at the
+-- tick: they are ended in one batch, where it fits the store, and the first keys that are due are emitted, at the
 -- moment of the tick or at the node's time where that is later
 abbrev pub ticked : List Fact → ℕ → List Key → List Fact → Answer
 ticked r now keys delta =
@@ -252,9 +252,13 @@ on_incoming (Some (Outgoing ticket to via lapse)) answer = refusal WrongSide
 on_incoming (Some (Taken message_id ident endpoint)) answer = refusal WrongSide
 on_incoming (Some _) answer = answer
 
--- the first 64 numbers below the greatest that were not received
+-- the most numbers that a Nack names
+abbrev pub most_missing : ℕ
+most_missing = 64
+
+-- the first numbers below the greatest that were not received
 abbrev pub missing_of : List Fact → ℕ → List ℕ
-missing_of r s = take 64 (filter (λ n. not (has_number (held r s) n))
+missing_of r s = take most_missing (filter (λ n. not (has_number (held r s) n))
     (numbers_from 1 (greatest_of (ranges_onto [] (held r s)) - 1)))
 
 -- the Nack of numbers, where there are any: WS-ReliableMessaging 1.2, section 3.9

@@ -1,6 +1,6 @@
 -- The receiving table: the records that a node adds for a message without a verdict. Each row reads the records of
 -- those before it. WS-ReliableMessaging 1.2, sections 2.4, 3.4 to 3.9 and 4.
-use Rattle.std.specs.Prelude.{ℕ, ◌+◌, ◌&&◌, not, nat_lt, Bool, true, false, if◌then◌else◌, List, [], ◌∷◌, ◌++◌}
+use Rattle.std.specs.Prelude.{ℕ, ◌+◌, ◌-◌, ◌&&◌, not, nat_lt, Bool, true, false, if◌then◌else◌, List, [], ◌∷◌, ◌++◌}
 use Rattle.std.specs.Prelude.{length, codes, Option, Some, None, is_none}
 use Rattle.std.specs.Str.{bytes_eq}
 use Rattle.rm_base.specs.Limits as limits
@@ -101,7 +101,7 @@ taken_of r None = None
 taken_of r (Some offer) =
     if is_none (find_outgoing r offer.ident)
     && (not (is_anonymous offer.endpoint.address) &&
-    (not (is_nowhere offer.endpoint.address) && nat_lt (length (makers r)) 255))
+    (not (is_nowhere offer.endpoint.address) && nat_lt (length (makers r)) (limits.most_sequences - 1)))
     then Some (record { ident = offer.ident; endpoint = offer.endpoint }) else None
 
 -- the row of a CreateSequence whose MessageID was granted already, or wasn't
