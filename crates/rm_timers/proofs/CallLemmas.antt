@@ -5,6 +5,7 @@ use Rattle.std.proofs.Common.{arith, append_assoc, length-append}
 use Rattle.std.specs.Prelude.{All, AllPairs, slice_get, replicate}
 use Rattle.std.proofs.lemmas.List.{get_or-map, get_or-replicate}
 use Rattle.std.proofs.lemmas.List.Elements.{All-nil, All-cons}
+use Rattle.rm_base.specs.Limits.{most_keys}
 use Rattle.due_links.specs.declared.links.Item.{Item}
 use Rattle.due_links.specs.Items.{Stands, list_at, first_due}
 use Rattle.rm_timers.specs.declared.table.Cell.{Cell}
@@ -195,7 +196,7 @@ pub record IsNew (lists new : List (List Item)) (cells newer : List Cell) (slot 
 
 pub call_begun : (lists new : List (List Item)) (cells newer : List Cell) (slot at : ℕ) (key : Key)
     (time spare more : ℕ) →
-    IsTied lists cells → more + 1 ≡ spare → IsNew lists new cells newer slot at key → slot < 4352 →
+    IsTied lists cells → more + 1 ≡ spare → IsNew lists new cells newer slot at key → slot < most_keys →
     NotOwned lists slot →
     (w : List Entry) → StandFor (waiting cells lists time spare) w → StandFor (waiting newer new time more)
     (begun slot key w)
@@ -344,16 +345,16 @@ kept_emitted lists new cells newer free room s t spare more k later top same is 
 
 -- all slots are free
 pub record AllFree (free : List ℕ) (room : ℕ) : Type 0 where
-  pub count : length free ≡ 4352
-  pub low : All (λ slot. slot < 4352) free
+  pub count : length free ≡ most_keys
+  pub low : All (λ slot. slot < most_keys) free
   pub distinct : AllPairs ◌≢◌ free
-  pub has_room : 4352 ≤ room
+  pub has_room : most_keys ≤ room
 
 no_items : (cells : List Cell) (l : ℕ) → l < 7 → Each (IsTiedItem cells l) (list_at (replicate 7 []) l)
 no_items cells l lt = subst (Each (IsTiedItem cells l)) (sym (get_or-replicate 7 l [] [] lt)) tt
 
 pub kept_new : (lists : List (List Item)) (cells : List Cell) (free : List ℕ) (room spare : ℕ) →
-    lists ≡ replicate 7 [] → spare ≡ 4352 → length cells ≡ 4352 → AllFree free room →
+    lists ≡ replicate 7 [] → spare ≡ most_keys → length cells ≡ most_keys → AllFree free room →
     IsKept lists cells free room 0 spare
 kept_new lists cells free room spare empty all small f =
     let none : entries cells lists ≡ by_class [] = ap (entries cells) empty in

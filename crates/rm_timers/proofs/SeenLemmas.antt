@@ -5,6 +5,7 @@ use Rattle.std.specs.Prelude.{All}
 use Rattle.std.proofs.lemmas.Bool.{cases_eq}
 use Rattle.std.proofs.lemmas.List.{get_or-set_same, get_or-set_other, get_or-map, length-map, map-set, map-append}
 use Rattle.std.proofs.lemmas.List.Elements.{All-head, All-tail, All-filter, All-same}
+use Rattle.rm_base.specs.Limits.{most_keys}
 use Rattle.due_links.specs.declared.links.Item.{Item}
 use Rattle.due_links.specs.Items.{Stands, list_at}
 use Rattle.rm_timers.specs.declared.table.Cell.{Cell}
@@ -112,7 +113,7 @@ entries_other cells slot cell (xs ∷ lists) h =
     (entries_other cells slot cell lists (λ l lt. h (suc l) (omega arith)))
 
 pub entries_new : (lists : List (List Item)) (cells : List Cell) (cell : Cell) (slot : ℕ) → IsTied lists cells →
-    slot < 4352 → NotOwned lists slot →
+    slot < most_keys → NotOwned lists slot →
     entries (set cells slot cell) (with_new lists slot cell.at)
     ≡ set (entries cells lists) 0
     (class_at (entries cells lists) 0 ++ record { slot = slot; key = cell.key; class = 0; due = 0 } ∷ [])

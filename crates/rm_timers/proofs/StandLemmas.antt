@@ -5,6 +5,7 @@ use Rattle.std.specs.Prelude.{All, AllPairs}
 use Rattle.std.proofs.lemmas.List.{append-nil}
 use Rattle.std.proofs.lemmas.List.Elements.{All-push}
 use Rattle.std.proofs.lemmas.List.Quantifiers.{all_pairs_push}
+use Rattle.rm_base.specs.Limits.{most_keys}
 use Rattle.rm_timers.specs.Waits.{Entry, Waiting, StandFor, IsLive, Waits, class_at, in_class, put_into, due_in}
 use Rattle.rm_timers.specs.Waits.{at_slot, without, moved_last, begun}
 use Rattle.rm_timers.specs.declared.timers.Key.{Key}
@@ -105,7 +106,7 @@ pub stand_begun : (old new : Waiting) (w : List Entry) (slot : ℕ) (key : Key) 
       due =
           0;
     } ∷ []) →
-    slot < 4352 → All (λ e. e.slot ≢ slot) w → new.time ≡ old.time → new.spare + 1 ≡ old.spare →
+    slot < most_keys → All (λ e. e.slot ≢ slot) w → new.time ≡ old.time → new.spare + 1 ≡ old.spare →
     StandFor new (begun slot key w)
 stand_begun old new w slot key st shape low free same fewer =
     let x : Entry = record { slot = slot; key = key; class = 0; due = 0 } in
@@ -152,19 +153,19 @@ free_put free w x h apart = record {
 -- the last free slot, and those before it
 pub record LastFree (xs : List ℕ) (s : ℕ) (w : List Entry) : Type 0 where
   pub rest : AreFree xs w
-  pub low : s < 4352
+  pub low : s < most_keys
   pub free : All (λ e. e.slot ≢ s) w
   pub apart : All (λ t. s ≢ t) xs
 
 pub free_last : (xs : List ℕ) (s : ℕ) (w : List Entry) → AreFree (xs ++ s ∷ []) w → LastFree xs s w
 free_last xs s w h =
-    let low = All-middle (λ t. t < 4352) xs s [] h.low in
+    let low = All-middle (λ t. t < most_keys) xs s [] h.low in
     let own = AllPairs-middle ◌≢◌ xs s [] h.distinct in
     let apart = All-middle (λ t. All (λ e. e.slot ≢ t) w) xs s [] h.apart in
     let nil = append-nil xs in
     record {
       rest = record {
-        low = subst (All (λ t. t < 4352)) nil low.1;
+        low = subst (All (λ t. t < most_keys)) nil low.1;
         distinct = subst (AllPairs ◌≢◌) nil own.2;
         apart = subst (All (λ t. All (λ e. e.slot ≢ t) w)) nil apart.1;
       };
@@ -174,10 +175,10 @@ free_last xs s w h =
     }
 
 -- one more slot is free
-pub free_more : (free : List ℕ) (w : List Entry) (s : ℕ) → AreFree free w → s < 4352 → All (λ e. e.slot ≢ s) w →
+pub free_more : (free : List ℕ) (w : List Entry) (s : ℕ) → AreFree free w → s < most_keys → All (λ e. e.slot ≢ s) w →
     All (λ t. s ≢ t) free → AreFree (free ++ s ∷ []) w
 free_more free w s h low none apart = record {
-  low = All-push (λ t. t < 4352) free s h.low low;
+  low = All-push (λ t. t < most_keys) free s h.low low;
   distinct = all_pairs_push ◌≢◌ free s h.distinct (λ k d lt same. apart k d lt (sym same));
   apart = All-push (λ t. All (λ e. e.slot ≢ t) w) free s h.apart none;
 }

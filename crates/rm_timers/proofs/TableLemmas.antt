@@ -3,6 +3,7 @@ use Rattle.std.proofs.Common.{◌≡◌, ◌≢◌, ℕ, ◌<◌, inl, inr, List
 use Rattle.std.proofs.Common.{arith, append_assoc, length-set}
 use Rattle.std.proofs.lemmas.Bool.{cases_eq}
 use Rattle.std.proofs.lemmas.List.{get_or-set_same, get_or-set_other}
+use Rattle.rm_base.specs.Limits.{most_keys}
 use Rattle.due_links.specs.declared.links.Item.{Item}
 use Rattle.due_links.specs.Items.{Stands, IsLive, list_at}
 use Rattle.rm_timers.specs.declared.table.Cell.{Cell}
@@ -136,7 +137,7 @@ shifted_tied lists cells before item after class due at t st gone lt =
     }
 
 pub new_tied : (lists : List (List Item)) (cells : List Cell) (cell : Cell) (slot : ℕ) → IsTied lists cells →
-    slot < 4352 → NotOwned lists slot → IsTied (with_new lists slot cell.at) (set cells slot cell)
+    slot < most_keys → NotOwned lists slot → IsTied (with_new lists slot cell.at) (set cells slot cell)
 new_tied lists cells cell slot t lt free =
     let seven = t.seven in
     let small = t.small in

@@ -3,6 +3,7 @@ use Rattle.std.proofs.Common.{◌≡◌, ◌≢◌, ℕ, zero, suc, ◌<◌, ◌
 use Rattle.std.specs.Prelude.{All}
 use Rattle.std.proofs.lemmas.List.Elements.{All-nil, All-push, All-append, All-weaker}
 use Rattle.std.proofs.lemmas.List.Quantifiers.{all_pairs_push}
+use Rattle.rm_base.specs.Limits.{most_keys}
 use Rattle.rm_timers.specs.Waits.{Entry, AreTimed, due_in}
 use Rattle.rm_timers.proofs.PlainLemmas.{All-middle, AllPairs-middle, Differ}
 
@@ -17,7 +18,7 @@ due_in-later (suc class) s t le = omega arith
 pub timed_none : (time : ℕ) → AreTimed time []
 timed_none time = record {
   in_classes = All-nil (λ e. e.class < 7);
-  in_slots = All-nil (λ e. e.slot < 4352);
+  in_slots = All-nil (λ e. e.slot < most_keys);
   distinct = λ i j d lt jl. absurd (omega arith);
   bound = All-nil (λ e. e.due ≤ due_in e.class time);
   rising = λ i j d lt jl. absurd (omega arith);
@@ -37,7 +38,7 @@ timed_later s t w h le = record {
 -- an entry among others, and those without it
 pub record IsAmong (time : ℕ) (before : List Entry) (e : Entry) (after : List Entry) : Type 0 where
   pub class : e.class < 7
-  pub slot : e.slot < 4352
+  pub slot : e.slot < most_keys
   pub others : All (λ o. o.slot ≢ e.slot) (before ++ after)
   pub rest : AreTimed time (before ++ after)
 
@@ -45,7 +46,7 @@ pub among : (time : ℕ) (before : List Entry) (e : Entry) (after : List Entry) 
     IsAmong time before e after
 among time before e after h =
     let class = All-middle (λ o. o.class < 7) before e after h.in_classes in
-    let slot = All-middle (λ o. o.slot < 4352) before e after h.in_slots in
+    let slot = All-middle (λ o. o.slot < most_keys) before e after h.in_slots in
     let own = AllPairs-middle Differ before e after h.distinct in
     record {
       class = class.0;
@@ -61,11 +62,11 @@ among time before e after h =
     }
 
 -- one more entry is put last
-pub timed_put : (time : ℕ) (w : List Entry) (x : Entry) → AreTimed time w → x.class < 7 → x.slot < 4352 →
+pub timed_put : (time : ℕ) (w : List Entry) (x : Entry) → AreTimed time w → x.class < 7 → x.slot < most_keys →
     All (λ o. o.slot ≢ x.slot) w → x.due ≡ due_in x.class time → AreTimed time (w ++ x ∷ [])
 timed_put time w x h class slot free due = record {
   in_classes = All-push (λ e. e.class < 7) w x h.in_classes class;
-  in_slots = All-push (λ e. e.slot < 4352) w x h.in_slots slot;
+  in_slots = All-push (λ e. e.slot < most_keys) w x h.in_slots slot;
   distinct = all_pairs_push Differ w x h.distinct free;
   bound = All-push (λ e. e.due ≤ due_in e.class time) w x h.bound (omega arith);
   rising = all_pairs_push InOrder w x h.rising

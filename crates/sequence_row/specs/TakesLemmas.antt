@@ -4,6 +4,7 @@ use Rattle.std.specs.Prelude.{◌&&◌, not, nat_le, nat_lt, length}
 use Rattle.std.specs.List.{list_all}
 use Rattle.std.proofs.lemmas.Option.{none-some}
 use Rattle.ack_ranges.specs.declared.range.Range.{Range}
+use Rattle.rm_base.specs.Message.{max_number}
 use Rattle.rm_base.specs.NumberSet.{has_number}
 use Rattle.rm_base.specs.declared.message.Cause.{Cause}
 use Rattle.rm_base.specs.declared.message.Payload.{Payload}
@@ -80,7 +81,7 @@ failed r s fault _ = refl
 
 accepting : (r : List Fact) (s : ℕ) (payload : List ℕ) (m : Maker)
     → ((is_sender (side_of r s m) && follows (phase r s) (Accepted s payload))
-    && nat_lt (length (accepted r s)) 9223372036854775807) ≡ takes (side_of r s m) (Accepted s payload)
+    && nat_lt (length (accepted r s)) max_number) ≡ takes (side_of r s m) (Accepted s payload)
 accepting r s payload (Outgoing number to via lapse) = refl
 accepting r s payload _ = refl
 
@@ -93,7 +94,7 @@ acking r s ranges _ = refl
 -- the tests of a record Received, but for the side
 abbrev is_next_message : List Fact → ℕ → ℕ → Bool
 is_next_message r s n =
-    nat_le 1 n && (nat_le n 9223372036854775807 && (not (has_number (held r s) n) && is_empty (closes r s)))
+    nat_le 1 n && (nat_le n max_number && (not (has_number (held r s) n) && is_empty (closes r s)))
 
 receiving_one : (r : List Fact) (s n : ℕ) (payload : Payload) (m : Maker)
     → (is_receiver (side_of r s m) && is_next_message r s n) ≡ takes (side_of r s m) (Received s n payload)
@@ -117,13 +118,13 @@ fits-takes r (Creating ticket to via lapse offer) m e = absurd (none-some m e)
 fits-takes r (Granted number message_id acks_to behaviour deadline lapse offer) m e = absurd (none-some m e)
 fits-takes r (Accepted s payload) m e =
     ap (λ o. (is_outgoing_side o && follows (phase r s) (Accepted s payload))
-    && nat_lt (length (accepted r s)) 9223372036854775807) e
-    ∙ ap (λ b. (b && follows (phase r s) (Accepted s payload)) && nat_lt (length (accepted r s)) 9223372036854775807)
+    && nat_lt (length (accepted r s)) max_number) e
+    ∙ ap (λ b. (b && follows (phase r s) (Accepted s payload)) && nat_lt (length (accepted r s)) max_number)
     (outgoing_sender r s m)
     ∙ accepting r s payload m
 fits-takes r (Acked s ranges) m e = sent r s m e _ _ (acking r s ranges m)
 fits-takes r (Received s n payload) m e =
-    ap (λ b. is_incoming_side (maker r s) && (nat_le 1 n && (nat_le n 9223372036854775807
+    ap (λ b. is_incoming_side (maker r s) && (nat_le 1 n && (nat_le n max_number
     && (not (has_number (held r s) n) && b)))) (same_empty (closes r s))
     ∙ came r s m e _ _ (receiving_one r s n payload m)
 fits-takes r (Closed s cause last) m e =

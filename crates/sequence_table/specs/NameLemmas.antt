@@ -7,6 +7,7 @@ use Rattle.std.proofs.lemmas.Bool.{and_parts, cases_eq, eqb-true, ne_eqb, false�
 use Rattle.std.proofs.lemmas.List.{append_assoc, length-append}
 use Rattle.std.proofs.lemmas.Grind.{flat_map-append}
 use Rattle.std.proofs.lemmas.Option.{slice_get_cases}
+use Rattle.rm_base.specs.Message.{max_number}
 use Rattle.rm_base.specs.Numbered.{numbered}
 use Rattle.rm_base.specs.NumberSet.{has_number}
 use Rattle.rm_base.specs.declared.message.Cause.TheVariants.{Peer}
@@ -50,7 +51,7 @@ pub names-within : (r : List Fact) (f : Fact) → fits r f ≡ true → names f 
 names-within r (Created seq ident accept) h = follows_within r seq (Created seq ident accept) h
 names-within r (Accepted seq payload) h =
     follows_within r seq (Accepted seq payload)
-    (and_parts (follows_at r seq (Accepted seq payload)) (nat_lt (length (accepted r seq)) 9223372036854775807) h).0
+    (and_parts (follows_at r seq (Accepted seq payload)) (nat_lt (length (accepted r seq)) max_number) h).0
 names-within r (Acked seq ranges) h =
     outgoing_within r seq
     (and_parts (is_outgoing_side (maker r seq)) (list_all (is_up_to (length (accepted r seq))) ranges) h).0

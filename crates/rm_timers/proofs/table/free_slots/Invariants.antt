@@ -1,5 +1,6 @@
 use Rattle.std.proofs.Common.{◌≡◌, ◌≢◌, ◌<◌, ◌≤◌, length, vec_capacity}
 use Rattle.std.specs.Prelude.{All, AllPairs}
+use Rattle.rm_base.specs.Limits.{most_keys}
 use Rattle.rm_timers.proofs.table.free_slots.Given as goal
 
 abbrev pub invariant-loop-slot : goal.invariant-loop-slot
@@ -7,5 +8,5 @@ invariant-loop-slot l = record {
   count : length l.free.items ≡ l.slot;
   low : All (λ slot. slot < l.slot) l.free.items;
   distinct : AllPairs ◌≢◌ l.free.items;
-  room : 4352 ≤ vec_capacity l.free;
+  room : most_keys ≤ vec_capacity l.free;
 }
