@@ -1,0 +1,4 @@
+mod EachLemmas
+mod LimitLemmas
+mod NameLemmas
+mod TableLemmas
