@@ -6,6 +6,8 @@ use Rattle.std.specs.List.{AllByRecursion}
 use Rattle.std.specs.Option.{option_to_list}
 use Rattle.std.proofs.lemmas.Bool.Decides.{nat_tests}
 use Rattle.ack_ranges.specs.Laws.{RangeIsAdded}
+use Rattle.rm_base.specs.Limits.{most_sequences, most_unacked, payload_bytes, window}
+use Rattle.rm_base.specs.Message.{max_number}
 use Rattle.rm_base.specs.Text.{IsText}
 use Rattle.rm_base.specs.declared.message.Behaviour.{Behaviour}
 use Rattle.rm_base.specs.declared.message.Cause.TheVariants.{Operator, Expired}
@@ -116,14 +118,17 @@ on_outgoing-good r (Some (Incoming c message_id acks_to behaviour deadline lapse
 
 -- ---- create and send
 
-places-left : (r : List Fact) (drawn : ℕ) (wish : Wish) → nat_lt 256 (length (makers r) + wanted wish.offer) ≡ false
+places-left : (r : List Fact) (drawn : ℕ) (wish : Wish)
+    → nat_lt most_sequences (length (makers r) + wanted wish.offer) ≡ false
     → length (makers r)
-    + length (makers_of (Creating drawn wish.to wish.via wish.expires (offer_of (counter r) wish.offer))) ≤ 256
+    + length (makers_of (Creating drawn wish.to wish.via wish.expires (offer_of (counter r) wish.offer)))
+    ≤ most_sequences
 places-left r drawn wish = by_offer wish.offer
   where
-    by_offer : (offer : Option Behaviour) → nat_lt 256 (length (makers r) + wanted offer) ≡ false
+    by_offer : (offer : Option Behaviour) → nat_lt most_sequences (length (makers r) + wanted offer) ≡ false
         → length (makers r)
-        + length (makers_of (Creating drawn wish.to wish.via wish.expires (offer_of (counter r) offer))) ≤ 256
+        + length (makers_of (Creating drawn wish.to wish.via wish.expires (offer_of (counter r) offer)))
+        ≤ most_sequences
     by_offer None e = grind (arith, nat_tests)
     by_offer (Some behaviour) e = grind (arith, nat_tests)
 
@@ -131,7 +136,8 @@ pub create-good : (terms : Terms) (r : List Fact) (place : ℕ) (wish : Wish) �
     → IsGoodAnswer r (create terms r place wish)
 create-good terms r place wish h =
     let f = Creating (counter r + 1) wish.to wish.via wish.expires (offer_of (counter r) wish.offer) in
-    unless-refused r (nat_lt 256 (length (makers r) + wanted wish.offer)) (TooManySequences (length (makers r))) _
+    unless-refused r (nat_lt most_sequences (length (makers r) + wanted wish.offer))
+    (TooManySequences (length (makers r))) _
     (λ e. if_room-good terms r place
     (adds r (f ∷ []) (λ now. option_to_list (request_at now (length (makers r) + 1))))
     (adds-good r (f ∷ []) (λ now. option_to_list (request_at now (length (makers r) + 1))) (
@@ -156,12 +162,12 @@ pub send-good : (terms : Terms) (r : List Fact) (place s : ℕ) (text : Text) �
 send-good terms r place s text own =
     let f = Accepted s text in
     on_outgoing-good r (maker r s) (send_out terms r place s text)
-    (unless-refused r (nat_lt 1048576 (length text)) (PayloadTooLong (length text)) _ (λ a.
+    (unless-refused r (nat_lt payload_bytes (length text)) (PayloadTooLong (length text)) _ (λ a.
     unless-refused r (not (terms.is_content text)) BadPayload _ (λ b.
     unless-refused r (not (is_open (phase r s))) NotOpen _ (λ c.
-    unless-refused r (nat_le 1024 (unacked r s)) (WindowFull (unacked r s)) _ (λ d.
-    unless-refused r (nat_le 4096 (all_unacked r)) (NodeFull (all_unacked r)) _ (λ e.
-    unless-refused r (nat_le 9223372036854775807 (length (accepted r s))) Rollover _ (λ g.
+    unless-refused r (nat_le window (unacked r s)) (WindowFull (unacked r s)) _ (λ d.
+    unless-refused r (nat_le most_unacked (all_unacked r)) (NodeFull (all_unacked r)) _ (λ e.
+    unless-refused r (nat_le max_number (length (accepted r s))) Rollover _ (λ g.
     if_room-good terms r place
     (adds r (f ∷ []) (λ now. option_to_list (data_at now s (length (accepted r s) + 1))))
     (adds-good r (f ∷ []) (λ now. option_to_list (data_at now s (length (accepted r s) + 1))) (

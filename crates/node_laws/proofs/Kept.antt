@@ -4,6 +4,7 @@ use Rattle.std.proofs.Common.{◌++◌, length, refl, sym, ap, subst, ◌∙◌,
 use Rattle.std.proofs.Common.{length-append}
 use Rattle.std.specs.Prelude.{nat_lt}
 use Rattle.std.proofs.lemmas.Bool.{and_parts, eqb-true, le-leb, lt-ltb}
+use Rattle.rm_base.specs.Limits.{most_sequences, most_unacked, window}
 use Rattle.ack_ranges.specs.Laws.{RangeIsAdded}
 use Rattle.record_batch.specs.Fact.{Fact, Made, Accepted}
 use Rattle.sequence_table.specs.Makers.{makers, makers_of, maker}
@@ -17,14 +18,14 @@ use Rattle.node_laws.proofs.Unacked.{unacked-more, none-accepted, none-unacked, 
 
 -- there is room for what the record makes or accepts
 abbrev pub HasRoom : List Fact → Fact → Type 0
-HasRoom r (Accepted seq payload) = (unacked r seq < 1024) × (all_unacked r < 4096)
+HasRoom r (Accepted seq payload) = (unacked r seq < window) × (all_unacked r < most_unacked)
 HasRoom r _ = Unit {0}
 
 -- a record that may come next within the limits of a node
 pub record IsAllowed (r : List Fact) (f : Fact) : Type 0 where
   pub limits : KeepsLimits f
   pub values : HasValues f
-  pub places : length (makers r) + length (makers_of f) ≤ 256 ⊎ (makers_of f ≡ [])
+  pub places : length (makers r) + length (makers_of f) ≤ most_sequences ⊎ (makers_of f ≡ [])
   pub room : HasRoom r f
   pub near : TakesNear r f
 
@@ -39,11 +40,11 @@ begins-on (Made node address ∷ r) xs h = tt
 begins-on (_ ∷ r) xs h = absurd h
 
 window-more : RangeIsAdded → (r : List Fact) (f : Fact) (s : ℕ) → IsKept r → fits r f ≡ true → HasValues f
-    → HasRoom r f → is_outgoing_side (maker (r ++ f ∷ []) s) ≡ true → unacked (r ++ f ∷ []) s ≤ 1024
+    → HasRoom r f → is_outgoing_side (maker (r ++ f ∷ []) s) ≡ true → unacked (r ++ f ∷ []) s ≤ window
 window-more law r f s h fit v room side = by_kind f fit v room side
   where
     -- what was not acknowledged before
-    before : (f : Fact) → is_outgoing_side (maker (r ++ f ∷ []) s) ≡ true → unacked r s ≤ 1024
+    before : (f : Fact) → is_outgoing_side (maker (r ++ f ∷ []) s) ≡ true → unacked r s ≤ window
     before f is = elim (side-before is_outgoing_side r f s is) [
       | inl there ↦ h.node.window s there
       | inr past ↦
@@ -52,23 +53,23 @@ window-more law r f s h fit v room side = by_kind f fit v room side
     ]
 
     by_kind : (f : Fact) → fits r f ≡ true → HasValues f → HasRoom r f
-        → is_outgoing_side (maker (r ++ f ∷ []) s) ≡ true → unacked (r ++ f ∷ []) s ≤ 1024
+        → is_outgoing_side (maker (r ++ f ∷ []) s) ≡ true → unacked (r ++ f ∷ []) s ≤ window
     by_kind (Accepted seq payload) fit v room is =
         let more : unacked (r ++ Accepted seq payload ∷ []) s ≤ unacked r s
         + length (accepted_of s (Accepted seq payload)) = unacked-more law r (Accepted seq payload) s h.values v in
-        let old : unacked r s ≤ 1024 = before (Accepted seq payload) is in
+        let old : unacked r s ≤ window = before (Accepted seq payload) is in
         elim (seq == s) as (λ b. (seq == s) ≡ b
         → unacked (r ++ Accepted seq payload ∷ []) s ≤ unacked r s + length (cond b (payload ∷ []) [])
-        → unacked (r ++ Accepted seq payload ∷ []) s ≤ 1024) [
+        → unacked (r ++ Accepted seq payload ∷ []) s ≤ window) [
           | true ↦ λ e le.
-              let few : unacked r s < 1024 = subst (λ n. unacked r n < 1024) (eqb-true seq s e) room.0 in
+              let few : unacked r s < window = subst (λ n. unacked r n < window) (eqb-true seq s e) room.0 in
               omega (arith, few, le)
           | false ↦ λ e le. omega (arith, old, le)
         ] refl more
     by_kind f fit v room is = omega (arith, before f is, unacked-more law r f s h.values v)
 
 windows-more : RangeIsAdded → (r : List Fact) (f : Fact) → IsKept r → fits r f ≡ true → HasValues f → HasRoom r f
-    → all_unacked (r ++ f ∷ []) ≤ 4096
+    → all_unacked (r ++ f ∷ []) ≤ most_unacked
 windows-more law r (Accepted seq payload) h fit v room =
     let f = Accepted seq payload in
     let more : all_unacked (r ++ f ∷ []) ≤ all_unacked r + credit 0 f =
@@ -78,8 +79,9 @@ windows-more law r (Accepted seq payload) h fit v room =
     omega (arith, more, one, room.1)
 windows-more law r f h fit v room = omega (arith, all_unacked-more law r f h.values v h.node.fit fit, h.node.windows)
 
-places-more : (r : List Fact) (f : Fact) → length (makers r) ≤ 256
-    → length (makers r) + length (makers_of f) ≤ 256 ⊎ (makers_of f ≡ []) → length (makers (r ++ f ∷ [])) ≤ 256
+places-more : (r : List Fact) (f : Fact) → length (makers r) ≤ most_sequences
+    → length (makers r) + length (makers_of f) ≤ most_sequences ⊎ (makers_of f ≡ [])
+    → length (makers (r ++ f ∷ [])) ≤ most_sequences
 places-more r f few h =
     let made : length (makers (r ++ f ∷ [])) ≡ length (makers r) + length (makers_of f) =
     ap length (flat_map-more makers_of r f) ∙ length-append (makers r) (makers_of f) in

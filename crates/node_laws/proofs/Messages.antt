@@ -8,6 +8,7 @@ use Rattle.std.specs.Str.{bytes_eq}
 use Rattle.std.proofs.lemmas.Bool.{false≢true}
 use Rattle.std.proofs.lemmas.Bool.Decides.{nat_tests}
 use Rattle.std.proofs.lemmas.Option.{slice_get_within}
+use Rattle.rm_base.specs.Message.{max_number}
 use Rattle.rm_base.specs.Numbered.{numbered}
 use Rattle.rm_base.specs.Text.{IsText}
 use Rattle.rm_elements.specs.Writable.{IsNumber, IsAckWritable, IsLifecycleWritable, IsFinishWritable}
@@ -261,7 +262,7 @@ create_request-kept r s _ h k = tt
 finish-kept : (r : List Fact) (s : ℕ) (q : Text) → IsKept r → IsText 512 q → IsFinishWritable (finish_of r s q)
 finish-kept r s q h is = record { ident = is; last_number = last (length (accepted r s)) (few-accepted r s h.node.fit) }
   where
-    last : (n : ℕ) → n ≤ 9223372036854775807 → IfSome (last_number n) IsNumber
+    last : (n : ℕ) → n ≤ max_number → IfSome (last_number n) IsNumber
     last n few = elim (n == 0) as (λ b. (n == 0) ≡ b → IfSome (cond b None (Some n)) IsNumber) [
       | true ↦ λ e. tt
       | false ↦ λ e. record { low = grind (arith, nat_tests); high = few }

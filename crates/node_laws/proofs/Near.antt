@@ -5,6 +5,7 @@ use Prim.Native.Nat.{zero}
 use Rattle.std.specs.Prelude.{◌||◌, nat_lt, nat_le, slice_get}
 use Rattle.std.proofs.lemmas.Bool.{and_parts, eqb-true, leb-true}
 use Rattle.std.proofs.lemmas.Bool.Decides.{nat_tests}
+use Rattle.rm_base.specs.Limits.{window}
 use Rattle.rm_base.specs.Numbered.{numbered}
 use Rattle.rm_base.specs.NumberSet.{has_number}
 use Rattle.rm_base.specs.declared.message.Payload.{Payload}
@@ -130,11 +131,11 @@ numbers-push (x ∷ ms) m = ap (λ ns. x.0 ∷ ns) (numbers-push ms m)
 
 -- no number of an incoming sequence is far past its front
 abbrev pub IsNear : List Fact → Type 0
-IsNear r = (s n : ℕ) → is_incoming_side (maker r s) ≡ true → has_number (held r s) n ≡ true → n ≤ front r s + 1024
+IsNear r = (s n : ℕ) → is_incoming_side (maker r s) ≡ true → has_number (held r s) n ≡ true → n ≤ front r s + window
 
 -- a record takes no number that is far past it
 abbrev pub TakesNear : List Fact → Fact → Type 0
-TakesNear r (Received seq n payload) = n ≤ front r seq + 1024
+TakesNear r (Received seq n payload) = n ≤ front r seq + window
 TakesNear r _ = Unit {0}
 
 pub near-more : (r : List Fact) (f : Fact) → all_fit [] r ≡ true → fits r f ≡ true → TakesNear r f → IsNear r
@@ -148,7 +149,7 @@ near-more r f all fit near h s n side has = elim (taken r f s) [
     before = side-before is_incoming_side r f s side
 
     -- a number that was there
-    old : has_number (held r s) n ≡ true → n ≤ front r s + 1024
+    old : has_number (held r s) n ≡ true → n ≤ front r s + window
     old is = elim before [
       | inl there ↦ h s n there is
       | inr past ↦
@@ -157,7 +158,7 @@ near-more r f all fit near h s n side has = elim (taken r f s) [
           absurd (cc)
     ]
 
-    unchanged : received (r ++ f ∷ []) s ≡ received r s → n ≤ front (r ++ f ∷ []) s + 1024
+    unchanged : received (r ++ f ∷ []) s ≡ received r s → n ≤ front (r ++ f ∷ []) s + window
     unchanged same =
         let numbers : held (r ++ f ∷ []) s ≡ held r s = ap numbers_of same in
         let front_ : front (r ++ f ∷ []) s ≡ front r s =
@@ -165,9 +166,9 @@ near-more r f all fit near h s n side has = elim (taken r f s) [
         let is : has_number (held r s) n ≡ true = subst (λ ns. has_number ns n ≡ true) numbers has in
         omega (arith, front_, old is)
 
-    changed : IsTaken r f s → n ≤ front (r ++ f ∷ []) s + 1024
+    changed : IsTaken r f s → n ≤ front (r ++ f ∷ []) s + window
     changed more =
-        let close : more.number ≤ front r s + 1024 = subst (TakesNear r) more.is near in
+        let close : more.number ≤ front r s + window = subst (TakesNear r) more.is near in
         let fitting : fits r (Received s more.number more.payload) ≡ true =
         subst (λ x. fits r x ≡ true) more.is fit in
         let parts = and_parts (is_incoming_side (maker r s)) _ fitting in
@@ -182,8 +183,8 @@ near-more r f all fit near h s n side has = elim (taken r f s) [
         by_test (has_number (held r s) n) (more.number == n) refl refl either on close
       where
         by_test : (x y : Bool) → has_number (held r s) n ≡ x → (more.number == n) ≡ y
-            → (x || (y || false)) ≡ true → front r s ≤ front (r ++ f ∷ []) s → more.number ≤ front r s + 1024
-            → n ≤ front (r ++ f ∷ []) s + 1024
+            → (x || (y || false)) ≡ true → front r s ≤ front (r ++ f ∷ []) s → more.number ≤ front r s + window
+            → n ≤ front (r ++ f ∷ []) s + window
         by_test true y e g either on close = omega (arith, old e, on)
         by_test false true e g either on close =
             let same : more.number ≡ n = eqb-true more.number n g in omega (arith, same, on, close)

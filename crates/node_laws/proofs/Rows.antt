@@ -1,5 +1,5 @@
 -- The records that come with a message that was read stay within the limits of a node.
-use Rattle.std.proofs.Common.{◌≡◌, ℕ, ◌+◌, ◌<◌, Bool, true, false, cond, List, [], ◌∷◌}
+use Rattle.std.proofs.Common.{◌≡◌, ℕ, ◌+◌, ◌<◌, ◌-◌, Bool, true, false, cond, List, [], ◌∷◌}
 use Rattle.std.proofs.Common.{◌++◌, length, refl, sym, ap, subst, ◌∙◌, arith, inl, inr, append-nil, append_assoc}
 use Rattle.std.proofs.Common.{Option, Some, None}
 use Rattle.std.specs.Prelude.{◌&&◌, ◌||◌, not, nat_le, nat_lt, is_none, IfSome}
@@ -9,6 +9,7 @@ use Rattle.std.proofs.lemmas.Bool.Decides.{nat_tests}
 use Rattle.ack_ranges.specs.declared.range.Range.{Range}
 use Rattle.ack_ranges.specs.Changes.{united, covers_all}
 use Rattle.ack_ranges.specs.Laws.{RangeIsAdded}
+use Rattle.rm_base.specs.Limits.{most_sequences, window}
 use Rattle.rm_base.specs.NumberSet.{has_number}
 use Rattle.rm_base.specs.Text.{IsText}
 use Rattle.rm_base.specs.declared.message.Behaviour.{Behaviour}
@@ -159,9 +160,9 @@ ack_rows-quiet law (block ∷ blocks) r h =
 data-allowed : (now : ℕ) (x : Option ℕ) (n : ℕ) (p : Payload) (r : List Fact) → AreAllowed r (data_row_at now x n p r)
 data-allowed now None n p r = tt
 data-allowed now (Some s) n p r =
-    by_tests (has_number (held r s) n) (is_over r s now) (nat_lt (front r s + 1024) n) refl
+    by_tests (has_number (held r s) n) (is_over r s now) (nat_lt (front r s + window) n) refl
   where
-    by_tests : (x y z : Bool) → nat_lt (front r s + 1024) n ≡ z
+    by_tests : (x y z : Bool) → nat_lt (front r s + window) n ≡ z
         → AreAllowed r (cond x [] (cond y [] (cond z [] (Received s n p ∷ []))))
     by_tests true y z e = tt
     by_tests false true z e = tt
@@ -181,25 +182,27 @@ data_row-allowed now (Some h) p r = data-allowed now (find_incoming r h.ident) h
 record IsTaking (r : List Fact) (offer : Option PeerOffer) : Type 0 where
   limits : IfSome offer IsOfferKept
   values : IfSome offer HasIdent
-  places : IfSome offer (λ (x : PeerOffer). length (makers r) < 255)
+  places : IfSome offer (λ (x : PeerOffer). length (makers r) < most_sequences - 1)
 
 taking : (r : List Fact) (offer : Option Offer) → IfSome offer IsOfferWritable → IsTaking r (taken_of r offer)
 taking r None h = record { limits = tt; values = tt; places = tt }
 taking r (Some offer) h =
     by_test (is_none (find_outgoing r offer.ident)) (not (is_anonymous offer.endpoint.address))
-    (not (is_nowhere offer.endpoint.address)) (nat_lt (length (makers r)) 255) refl
+    (not (is_nowhere offer.endpoint.address)) (nat_lt (length (makers r)) (most_sequences - 1)) refl
   where
-    by_test : (a b c d : Bool) → nat_lt (length (makers r)) 255 ≡ d → IsTaking r (cond (a && (b && (c && d)))
+    by_test : (a b c d : Bool) → nat_lt (length (makers r)) (most_sequences - 1) ≡ d
+        → IsTaking r (cond (a && (b && (c && d)))
         (Some (record { ident = offer.ident; endpoint = offer.endpoint })) None)
     by_test true true true true e =
-        record { limits = h.endpoint; values = h.ident; places = ltb-true (length (makers r)) 255 e }
+        record { limits = h.endpoint; values = h.ident; places = ltb-true (length (makers r)) (most_sequences - 1) e }
     by_test true true true false e = record { limits = tt; values = tt; places = tt }
     by_test true true false d e = record { limits = tt; values = tt; places = tt }
     by_test true false c d e = record { limits = tt; values = tt; places = tt }
     by_test false b c d e = record { limits = tt; values = tt; places = tt }
 
 granted-allowed : (r : List Fact) (drawn : ℕ) (t : Text) (c : CreateSequence) (y : Behaviour) (deadline : Option ℕ)
-    (offer : Option PeerOffer) → IsText 2048 t → IsCreateWritable c → IsTaking r offer → length (makers r) < 256
+    (offer : Option PeerOffer) → IsText 2048 t → IsCreateWritable c → IsTaking r offer
+    → length (makers r) < most_sequences
     → IsAllowed r (Granted drawn t c.acks_to y deadline c.expires offer)
 granted-allowed r drawn t c y deadline None is h k few = record {
   limits = (h.acks_to, h.expires, tt);
@@ -221,15 +224,16 @@ create-allowed : (r : List Fact) (terms : Terms) (now : ℕ) (y : Behaviour) (t 
     → AreAllowed r (create_row terms now y t c r)
 create-allowed r terms now y None c e is h = tt
 create-allowed r terms now y (Some t) c e is h =
-    by_grant (find_grant r t) (is_nowhere c.acks_to.address) (nat_le 256 (length (makers r))) refl e
+    by_grant (find_grant r t) (is_nowhere c.acks_to.address) (nat_le most_sequences (length (makers r))) refl e
   where
-    by_grant : (x : Option ℕ) (a b : Bool) → nat_le 256 (length (makers r)) ≡ b → (is_none x && (a || b)) ≡ false
+    by_grant : (x : Option ℕ) (a b : Bool) → nat_le most_sequences (length (makers r)) ≡ b
+        → (is_none x && (a || b)) ≡ false
         → AreAllowed r (create_at terms now y x t c r)
     by_grant (Some s) a b f k = tt
     by_grant None true b f k = absurd (cc)
     by_grant None false true f k = absurd (cc)
     by_grant None false false f k =
-        let few : length (makers r) < 256 = grind (arith, nat_tests) in (
+        let few : length (makers r) < most_sequences = grind (arith, nat_tests) in (
           granted-allowed r (counter r + 1) t c y (terms.deadline now c.expires) (taken_of r c.offer) is h
               (taking r c.offer h.offer) few,
           tt,
@@ -352,7 +356,8 @@ body-allowed r terms now y m body.Empty e is h = tt
 refuses-kept : (r new : List Fact) (t : Option Text) (content : Body) → makers new ≡ makers r
     → refuses_create new t content ≡ refuses_create r t content
 refuses-kept r new (Some t) (body.Lifecycle (life.Create c)) e =
-    ap (λ ms. is_none (find_from (is_granted t) 0 ms) && (is_nowhere c.acks_to.address || nat_le 256 (length ms))) e
+    ap (λ ms. is_none (find_from (is_granted t) 0 ms)
+    && (is_nowhere c.acks_to.address || nat_le most_sequences (length ms))) e
 refuses-kept r new _ _ e = refl
 
 pub rows-allowed : RangeIsAdded → (r : List Fact) (terms : Terms) (now : ℕ) (y : Behaviour) (m : Message) → WasRead m

@@ -9,6 +9,7 @@ use Rattle.std.proofs.lemmas.Bool.Decides.{nat_tests}
 use Rattle.ack_ranges.specs.declared.range.Range.{Range}
 use Rattle.ack_ranges.specs.Changes.{with_range}
 use Rattle.ack_ranges.specs.Ranges.{greatest_of}
+use Rattle.rm_base.specs.Message.{max_number}
 use Rattle.rm_base.specs.Numbered.{numbered}
 use Rattle.rm_base.specs.NumberSet.{has_number}
 use Rattle.rm_base.specs.Text.{IsText}
@@ -30,7 +31,7 @@ use Rattle.sequence_table.specs.Fits.{fits, all_fit, follows_at, is_incoming_sid
 use Rattle.sequence_table.specs.GatherLemmas.{flat_map-more}
 use Rattle.rm_protocol.specs.FitInduction.{fit-induction}
 use Rattle.rm_protocol.specs.Messages.{kind_of, block_of}
-use Rattle.rm_protocol.specs.Calls.{missing_of}
+use Rattle.rm_protocol.specs.Calls.{missing_of, most_missing}
 use Rattle.rm_protocol.specs.Waiting.{numbers_from}
 use Rattle.node_laws.specs.Records.{KeepsLimits, HasValues, IsKept}
 use Rattle.node_laws.proofs.Lists.{All-append, All-flat_map, All-numbered, All-at_seq, first_or-has}
@@ -113,33 +114,33 @@ payload-kept r s i h =
 
 -- ---- how many messages were accepted
 
-fits-few : (r : List Fact) (f : Fact) (s : ℕ) → fits r f ≡ true → length (accepted r s) ≤ 9223372036854775807
-    → length (accepted (r ++ f ∷ []) s) ≤ 9223372036854775807
+fits-few : (r : List Fact) (f : Fact) (s : ℕ) → fits r f ≡ true → length (accepted r s) ≤ max_number
+    → length (accepted (r ++ f ∷ []) s) ≤ max_number
 fits-few r (Accepted seq payload) s fit few =
     let all : length (accepted (r ++ Accepted seq payload ∷ []) s)
     ≡ length (accepted r s) + length (accepted_of s (Accepted seq payload)) =
     ap length (flat_map-more (accepted_of s) r (Accepted seq payload))
     ∙ length-append (accepted r s) (accepted_of s (Accepted seq payload)) in
-    let room : length (accepted r seq) < 9223372036854775807 =
-    ltb-true (length (accepted r seq)) 9223372036854775807
+    let room : length (accepted r seq) < max_number =
+    ltb-true (length (accepted r seq)) max_number
     (and_parts (follows_at r seq (Accepted seq payload)) _ fit).1 in
     elim (seq == s) as (λ b. (seq == s) ≡ b → length (accepted (r ++ Accepted seq payload ∷ []) s)
     ≡ length (accepted r s) + length (cond b (payload ∷ []) [])
-    → length (accepted (r ++ Accepted seq payload ∷ []) s) ≤ 9223372036854775807) [
+    → length (accepted (r ++ Accepted seq payload ∷ []) s) ≤ max_number) [
       | true ↦ λ e same.
           let is : seq ≡ s = grind (arith, nat_tests) in
-          let here : length (accepted r s) < 9223372036854775807 =
-          subst (λ n. length (accepted r n) < 9223372036854775807) is room in
+          let here : length (accepted r s) < max_number =
+          subst (λ n. length (accepted r n) < max_number) is room in
           omega (arith, same, here)
       | false ↦ λ e same. omega (arith, same, few)
     ] refl all
 fits-few r f s fit few =
     let same : accepted (r ++ f ∷ []) s ≡ accepted r s =
     flat_map-more (accepted_of s) r f ∙ append-nil (accepted r s) in
-    subst (λ z. length z ≤ 9223372036854775807) (sym same) few
+    subst (λ z. length z ≤ max_number) (sym same) few
 
-pub few-accepted : (r : List Fact) (s : ℕ) → all_fit [] r ≡ true → length (accepted r s) ≤ 9223372036854775807
-few-accepted r s h = fit-induction (λ x. length (accepted x s) ≤ 9223372036854775807) (omega arith)
+pub few-accepted : (r : List Fact) (s : ℕ) → all_fit [] r ≡ true → length (accepted r s) ≤ max_number
+few-accepted r s h = fit-induction (λ x. length (accepted x s) ≤ max_number) (omega arith)
     (λ x f few fit. fits-few x f s fit few) r h
 
 -- ---- endpoints
@@ -189,8 +190,8 @@ received-one : (r : List Fact) (f : Fact) (s : ℕ) → fits r f ≡ true
 received-one r (Received seq n payload) s fit =
     let parts = and_parts (is_incoming_side (maker r seq)) _ fit in
     let low = and_parts (nat_le 1 n) _ parts.1 in
-    let high = and_parts (nat_le n 9223372036854775807) _ low.1 in
-    let is : IsNumber n = record { low = leb-true 1 n low.0; high = leb-true n 9223372036854775807 high.0 } in
+    let high = and_parts (nat_le n max_number) _ low.1 in
+    let is : IsNumber n = record { low = leb-true 1 n low.0; high = leb-true n max_number high.0 } in
     elim (seq == s) as (λ b. AllByRecursion (λ (m : ℕ × Payload). IsNumber m.0) (cond b ((n, payload) ∷ []) [])) [
       | true ↦ (is, tt)
       | false ↦ tt
@@ -265,7 +266,7 @@ block-kept r s q now h is = record {
 
 -- ---- numbers that are missing
 
-greatest-number : (rs : List Range) → AllByRecursion IsRange rs → greatest_of rs ≤ 9223372036854775807
+greatest-number : (rs : List Range) → AllByRecursion IsRange rs → greatest_of rs ≤ max_number
 greatest-number [] h = omega arith
 greatest-number (r ∷ []) h = h.0.upper.high
 greatest-number (r ∷ s ∷ rs) h = greatest-number (s ∷ rs) h.1
@@ -292,9 +293,9 @@ All-take P (suc n) (x ∷ xs) h = (h.0, All-take P n xs h.1)
 pub missing-kept : (r : List Fact) (s : ℕ) → IsKept r → AllByRecursion IsNumber (missing_of r s)
 missing-kept r s h =
     let ranges = ranges_onto [] (held r s) in
-    let most : greatest_of ranges ≤ 9223372036854775807 =
+    let most : greatest_of ranges ≤ max_number =
     greatest-number ranges (onto-ranges [] (held r s) tt (held-numbers r s h.node.fit)) in
     let all = numbers_from 1 (greatest_of ranges - 1) in
     let missing = λ (n : ℕ). not (has_number (held r s) n) in
-    All-take IsNumber 64 (filter missing all)
+    All-take IsNumber most_missing (filter missing all)
     (All-filter IsNumber missing all (from-numbers 1 (greatest_of ranges - 1) (omega arith) (omega (arith, most))))
