@@ -7,7 +7,7 @@ ghost use Rattle.http_endpoint.specs.Ahead.{ahead};
 ghost use Rattle.http_endpoint.specs.Part.{IfTold};
 ghost use Rattle.http_endpoint.specs.Body.{IsMove, IsChunk, IsChunked, IsCounted, IsBody, all_left, came_before};
 ghost use Rattle.http_endpoint.specs.Kept.{KeepsSource};
-ghost use Rattle.http_endpoint.specs.Taken.{TakesAtMost, UsesAtMost, most_taken};
+ghost use Rattle.http_endpoint.specs.Taken.{TakesAtMost, UsesAtMost, chunk_bytes, most_taken, refused_bytes};
 
 use crate::error::HttpError;
 use crate::input::Input;
@@ -76,9 +76,9 @@ fn read_chunk<S: Source>(
         → IsChunk all body.old result body.new (ahead (S.told from.new).left input.new) }
     ensures within { OnOk result (length body.new ≤ envelope_bytes) }
     ensures grown { result ≡ Ok true → length body.old < length body.new }
-    ensures stops { TakesAtMost 2129922 (length input.old) (S.told from.old) (S.told from.new) }
-    ensures used { result ≡ Ok true → (S.told from.new).taken + (length input.old + 32769 * length body.old)
-        ≤ (S.told from.old).taken + (length input.new + 32769 * length body.new) }
+    ensures stops { TakesAtMost refused_bytes (length input.old) (S.told from.old) (S.told from.new) }
+    ensures used { result ≡ Ok true → (S.told from.new).taken + (length input.old + chunk_bytes * length body.old)
+        ≤ (S.told from.old).taken + (length input.new + chunk_bytes * length body.new) }
     ensures keeps { KeepsSource result (S.told from.old) (S.told from.new) }
 {
     let size = read_part::<S, ChunkSize>(alloc, from, input)?;
@@ -102,7 +102,7 @@ pub fn read_chunks<S: Source>(
 ) -> Result<Blob, HttpError>
     ensures answer { (all : List ℕ) → ahead (S.told from.old).left input.old ≡ Some all
         → IfTold result (IsChunked result [] all) }
-    ensures stops { TakesAtMost 68723703810 (length input.old) (S.told from.old) (S.told from.new) }
+    ensures stops { TakesAtMost (most_taken Framing.Chunked) (length input.old) (S.told from.old) (S.told from.new) }
     ensures keeps { KeepsSource result (S.told from.old) (S.told from.new) }
 {
     let mut body = Blob::new(alloc);

@@ -1,6 +1,7 @@
 //! Responses, read from a source (RFC 9112).
-ghost use Rattle.std.specs.Prelude.{◌≡◌, ◌≢◌, ◌≤◌, ◌+◌, ℕ, List, length, max, Some, Err, true};
+ghost use Rattle.std.specs.Prelude.{◌≡◌, ◌≢◌, ◌≤◌, ◌+◌, ◌*◌, ℕ, List, length, max, Some, Err, true};
 ghost use Rattle.http_endpoint.specs.Ahead.{ahead};
+ghost use Rattle.http_endpoint.specs.Limits.{part_bytes};
 ghost use Rattle.http_endpoint.specs.Part.{IfTold};
 ghost use Rattle.http_endpoint.specs.Messages.{IsFinal, IsResponse};
 ghost use Rattle.http_endpoint.specs.Kept.{KeepsSource};
@@ -45,7 +46,8 @@ fn read_final<S: Source>(
 /// exact which one comes, by the bytes that the source has left, however they arrive. RFC 9112, sections 2 to 7.
 pub fn read_response<S: Source>(alloc: Global, from: &mut S) -> Result<Response, HttpError>
     ensures answer { (all : List ℕ) → (S.told from.old).left ≡ Some all → IfTold result (IsResponse result all) }
-    ensures stops { (S.told from.new).taken ≤ (S.told from.old).taken + (32769 + most_taken Framing.Chunked) }
+    ensures stops { (S.told from.new).taken
+        ≤ (S.told from.old).taken + (2 * part_bytes + 1 + most_taken Framing.Chunked) }
     ensures keeps { KeepsSource result (S.told from.old) (S.told from.new) }
 {
     let mut input = Input::new(alloc);

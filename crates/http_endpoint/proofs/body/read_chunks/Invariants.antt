@@ -4,6 +4,7 @@ use Rattle.rm_base.specs.Limits.{envelope_bytes}
 use Rattle.rm_base.specs.Outside.{Lasts}
 use Rattle.http_endpoint.specs.Ahead.{ahead}
 use Rattle.http_endpoint.specs.Body.{IsChunked}
+use Rattle.http_endpoint.specs.Taken.{chunk_bytes, refused_bytes}
 use Rattle.http_endpoint.proofs.body.read_chunks.Given as goal
 
 abbrev pub invariant-loop-body : goal.invariant-loop-body
@@ -16,9 +17,9 @@ invariant-loop-body g l =
           → (bytes : List ℕ) × (ahead (told l.from).left l.input ≡ Some bytes)
           × (IsChunked result l.body bytes → IsChunked result [] all);
       stops : (told l.from).taken + length l.initial.input
-          ≤ (told l.initial.from).taken + max (length l.initial.input) (2129922 + 32769 * length l.body);
+          ≤ (told l.initial.from).taken + max (length l.initial.input) (refused_bytes + chunk_bytes * length l.body);
       used : (told l.from).taken + length l.initial.input
-          ≤ (told l.initial.from).taken + (length l.input + 32769 * length l.body);
+          ≤ (told l.initial.from).taken + (length l.input + chunk_bytes * length l.body);
       keeps : (told l.from).held ≡ (told l.initial.from).held;
       lasts : Lasts (told l.initial.from) (told l.from);
     }
