@@ -4,6 +4,7 @@ use Rattle.std.proofs.Common.{Option, Some, None}
 use Rattle.std.specs.List.{flat_map}
 use Rattle.std.specs.Prelude.{◌&&◌, ◌||◌, is_none, length, nat_le}
 use Rattle.std.proofs.lemmas.Grind.{flat_map-append}
+use Rattle.rm_base.specs.Limits.{most_sequences}
 use Rattle.ack_ranges.specs.declared.range.Range.{Range}
 use Rattle.ack_ranges.specs.Changes.{covers_all, united}
 use Rattle.rm_elements.specs.declared.header.AckBlock.{AckBlock}
@@ -98,5 +99,5 @@ pub refuses_create-same : (r q : List Fact) (t : Option Text) (content : Body) �
     → refuses_create r t content ≡ refuses_create q t content
 refuses_create-same r q (Some t) (body.Lifecycle (life.Create c)) e =
     ap (λ (ms : List Maker). is_none (find_from (is_granted t) 0 ms)
-    && (is_nowhere c.acks_to.address || nat_le 256 (length ms))) e
+    && (is_nowhere c.acks_to.address || nat_le most_sequences (length ms))) e
 refuses_create-same r q _ _ e = refl

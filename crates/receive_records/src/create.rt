@@ -1,5 +1,6 @@
 //! The row of a CreateSequence: WS-ReliableMessaging 1.2, section 3.4.
 ghost use Rattle.std.specs.Prelude.{◌≡◌, ◌<◌, ◌^◌, ◌++◌, length, false, OnOk};
+ghost use Rattle.rm_base.specs.Limits.{most_sequences};
 ghost use Rattle.sequence_table.specs.Makers.{counter, makers};
 ghost use Rattle.rm_protocol.specs.Rows.{create_at, create_row as create_row_of};
 ghost use Rattle.rm_protocol.specs.Terms.{Terms};
@@ -52,7 +53,7 @@ fn grant(
     create: &CreateSequence,
 ) -> Result<(), Memory>
     requires drawn { counter (all_records ahead.old) < 2 ^ 62 }
-    requires few { length (makers (all_records ahead.old)) < 256 }
+    requires few { length (makers (all_records ahead.old)) < most_sequences }
     ensures records { ahead.new.records ≡ ahead.old.records }
     ensures delta { (terms : Terms) → AreOwn terms → OnOk result (ahead.new.delta
         ≡ with_row (create_at terms now granted None message_id.now create.now) ahead.old) }

@@ -1,6 +1,7 @@
 //! Offers of a sequence in the other direction, those of a peer and the node's own: WS-ReliableMessaging 1.2, section
 //! 3.4.
-ghost use Rattle.std.specs.Prelude.{◌≡◌, ◌+◌, ◌++◌, ◌&&◌, not, nat_lt, length, is_none, IfOk, OnOk};
+ghost use Rattle.std.specs.Prelude.{◌≡◌, ◌+◌, ◌-◌, ◌++◌, ◌&&◌, not, nat_lt, length, is_none, IfOk, OnOk};
+ghost use Rattle.rm_base.specs.Limits.{most_sequences};
 ghost use Rattle.sequence_table.specs.Find.{find_outgoing, is_offered as is_offered_by};
 ghost use Rattle.sequence_table.specs.Makers.{maker, makers};
 ghost use Rattle.rm_protocol.specs.Addresses.{
@@ -14,6 +15,7 @@ ghost use Rattle.tables_ahead.specs.Known.{all_records};
 use node_messages::{is_anonymous, is_nowhere};
 use node_tables::Maker;
 use record_batch::{PeerOffer, Record};
+use rm_base::limits::MOST_SEQUENCES;
 use rm_base::{Cause, Memory};
 use rm_elements::Offer;
 use std::alloc::Global;
@@ -44,7 +46,7 @@ fn is_takable(ahead: &Known<'_>, offer: &Offer) -> bool
     ensures { let r = all_records ahead.now in
         result ≡ (is_none (find_outgoing r offer.now.ident)
         && (not (is_anonymous_text offer.now.endpoint.address)
-        && (not (is_nowhere_text offer.now.endpoint.address) && nat_lt (length (makers r)) 255))) }
+        && (not (is_nowhere_text offer.now.endpoint.address) && nat_lt (length (makers r)) (most_sequences - 1)))) }
 {
     if ahead.find_outgoing(offer.ident.as_slice()).is_some() {
         return false;
@@ -55,7 +57,7 @@ fn is_takable(ahead: &Known<'_>, offer: &Offer) -> bool
     if is_nowhere(offer.endpoint.address.as_slice()) {
         return false;
     }
-    ahead.len() < 255
+    ahead.len() < MOST_SEQUENCES - 1
 }
 
 /// The AcksTo of an Accept again, where there is one.
