@@ -1,5 +1,6 @@
 //! What the body of a message asks for: WS-ReliableMessaging 1.2, section 3.4, and WS-MakeConnection 1.1, section 3.2.
 ghost use Rattle.std.specs.Prelude.{◌≡◌, ◌++◌, ◌&&◌, ◌||◌, nat_le, is_none, length};
+ghost use Rattle.rm_base.specs.Limits.{most_sequences};
 ghost use Rattle.sequence_table.specs.Find.{find_grant as find_grant_in};
 ghost use Rattle.sequence_table.specs.Makers.{makers};
 ghost use Rattle.rm_protocol.specs.Addresses.{is_nowhere as is_nowhere_text};
@@ -28,7 +29,7 @@ pub(crate) fn is_fault_body(body: &Body) -> bool
 // Whether a CreateSequence is refused, unless it was granted before.
 fn refuses_new(ahead: &Known<'_>, create: &CreateSequence) -> bool
     ensures { result ≡ (is_nowhere_text create.now.acks_to.address
-        || nat_le 256 (length (makers (all_records ahead.now)))) }
+        || nat_le most_sequences (length (makers (all_records ahead.now)))) }
 {
     is_nowhere(create.acks_to.address.as_slice()) || ahead.len() >= MOST_SEQUENCES
 }
@@ -37,7 +38,7 @@ fn refuses_new(ahead: &Known<'_>, create: &CreateSequence) -> bool
 fn refuses(ahead: &Known<'_>, message_id: &Uri, create: &CreateSequence) -> bool
     ensures { let r = all_records ahead.now in
         result ≡ (is_none (find_grant_in r message_id.now)
-        && (is_nowhere_text create.now.acks_to.address || nat_le 256 (length (makers r)))) }
+        && (is_nowhere_text create.now.acks_to.address || nat_le most_sequences (length (makers r)))) }
 {
     ahead.find_grant(message_id).is_none() && refuses_new(ahead, create)
 }
