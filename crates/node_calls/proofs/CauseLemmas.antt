@@ -5,6 +5,8 @@ use Rattle.std.proofs.Common.{None}
 use Rattle.std.specs.Prelude.{not, nat_le, nat_lt}
 use Rattle.std.specs.Option.{option_or}
 use Rattle.std.proofs.lemmas.Bool.Decides.{nat_tests}
+use Rattle.rm_base.specs.Limits.{most_sequences, most_unacked, payload_bytes, window}
+use Rattle.rm_base.specs.Message.{max_number}
 use Rattle.record_batch.specs.Fact.{Fact}
 use Rattle.sequence_table.specs.Words.{Text}
 use Rattle.sequence_table.specs.Makers.{Maker, Outgoing, Offered, Incoming, Taken, maker}
@@ -30,8 +32,8 @@ unless_refused-or (Some cause) y a = refl
 send_out-is : (terms : Terms) (r : List Fact) (place s : ℕ) (p : Text) → send_out terms r place s p
     ≡ unless_refused (option_or (payload_cause terms p) (window_cause r s)) (if_room terms place (sent r s p))
 send_out-is terms r place s p =
-    tested (nat_lt 1048576 (length p)) (not (terms.is_content p)) (not (is_open (phase r s)))
-    (nat_le 1024 (unacked r s)) (nat_le 4096 (all_unacked r)) (nat_le 9223372036854775807 (length (accepted r s)))
+    tested (nat_lt payload_bytes (length p)) (not (terms.is_content p)) (not (is_open (phase r s)))
+    (nat_le window (unacked r s)) (nat_le most_unacked (all_unacked r)) (nat_le max_number (length (accepted r s)))
   where
     tested : (a b c d e f : Bool) → cond a (refusal (PayloadTooLong (length p))) (cond b (refusal BadPayload)
         (cond c (refusal NotOpen) (cond d (refusal (WindowFull (unacked r s)))
@@ -56,21 +58,21 @@ send-is terms r place s p =
     ∙ unless_refused-or (side_cause (maker r s)) (option_or (payload_cause terms p) (window_cause r s)) _
 
 -- too many messages of the node wait
-pub node-full : (r : List Fact) (s all : ℕ) → is_open (phase r s) ≡ true → unacked r s < 1024 → all ≡ all_unacked r
-    → 4096 ≤ all → Some (NodeFull all) ≡ window_cause r s
+pub node-full : (r : List Fact) (s all : ℕ) → is_open (phase r s) ≡ true → unacked r s < window → all ≡ all_unacked r
+    → most_unacked ≤ all → Some (NodeFull all) ≡ window_cause r s
 node-full r s all opens few is many =
     let a : not (is_open (phase r s)) ≡ false = ap not opens in
-    let b : nat_le 1024 (unacked r s) ≡ false = grind (arith, nat_tests) in
-    let d : nat_le 4096 (all_unacked r) ≡ true = grind (arith, nat_tests) in
-    tested (not (is_open (phase r s))) (nat_le 1024 (unacked r s)) (nat_le 4096 (all_unacked r)) a b d
+    let b : nat_le window (unacked r s) ≡ false = grind (arith, nat_tests) in
+    let d : nat_le most_unacked (all_unacked r) ≡ true = grind (arith, nat_tests) in
+    tested (not (is_open (phase r s))) (nat_le window (unacked r s)) (nat_le most_unacked (all_unacked r)) a b d
   where
     tested : (x y z : Bool) → x ≡ false → y ≡ false → z ≡ true → Some (NodeFull all)
         ≡ cond x (Some NotOpen) (cond y (Some (WindowFull (unacked r s))) (cond z (Some (NodeFull (all_unacked r)))
-        (cond (nat_le 9223372036854775807 (length (accepted r s))) (Some Rollover) None)))
+        (cond (nat_le max_number (length (accepted r s))) (Some Rollover) None)))
     tested false false true e f g = ap (λ (n : ℕ). Some (NodeFull n)) is
     tested true y z e f g = absurd (cc)
     tested false true z e f g = absurd (cc)
     tested false false false e f g = absurd (cc)
 
-pub few-enough : (n : ℕ) → n ≤ 256 → nat_lt 256 n ≡ false
+pub few-enough : (n : ℕ) → n ≤ most_sequences → nat_lt most_sequences n ≡ false
 few-enough n h = grind (arith, nat_tests)

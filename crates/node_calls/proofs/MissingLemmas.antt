@@ -12,7 +12,7 @@ use Rattle.rm_destination.specs.Messages.{ranges_onto}
 use Rattle.sequence_table.specs.Destinations.{held}
 use Rattle.sequence_table.specs.Fits.{is_incoming_side}
 use Rattle.sequence_table.specs.Makers.{Maker, Offered, Incoming, maker}
-use Rattle.rm_protocol.specs.Calls.{missing_of}
+use Rattle.rm_protocol.specs.Calls.{missing_of, most_missing}
 use Rattle.rm_protocol.specs.Waiting.{numbers_from}
 use Rattle.node_tables.specs.Reads.{incoming_in, incoming_of}
 
@@ -123,11 +123,11 @@ not-is true e = absurd (false≢true e)
 not-is false e = refl
 
 -- what a set of the received numbers tells as missing
-pub missing-first : (ranges : List Range) (held numbers : List ℕ) → AreMissing ranges 64 numbers
+pub missing-first : (ranges : List Range) (held numbers : List ℕ) → AreMissing ranges most_missing numbers
     → ((n : ℕ) → in_ranges ranges n ≡ has_number held n)
-    → numbers ≡ take 64 (filter (λ n. not (has_number held n)) (numbers_from 1 (greatest_of ranges - 1)))
+    → numbers ≡ take most_missing (filter (λ n. not (has_number held n)) (numbers_from 1 (greatest_of ranges - 1)))
 missing-first ranges held numbers h same =
-    first-numbers (λ n. not (has_number held n)) (greatest_of ranges - 1) 0 64 numbers (record {
+    first-numbers (λ n. not (has_number held n)) (greatest_of ranges - 1) 0 most_missing numbers (record {
       at_most = h.at_most;
       rising = h.rising;
       holds = λ n e. let m = h.missing n e in
@@ -138,12 +138,12 @@ missing-first ranges held numbers h same =
 -- what an incoming sequence tells as missing
 pub missing-told : (r : List Fact) (s : ℕ) (came : List ℕ) (ranges : List Range) (result : Result (List ℕ) Memory)
     → ranges ≡ ranges_onto [] came → ((n : ℕ) → in_ranges ranges n ≡ has_number came n) → came ≡ held r s
-    → IfOk result (AreMissing ranges 64) → IfOk result (λ numbers. numbers ≡ missing_of r s)
+    → IfOk result (AreMissing ranges most_missing) → IfOk result (λ numbers. numbers ≡ missing_of r s)
 missing-told r s came ranges (Err e) is same known h = tt
 missing-told r s came ranges (Ok numbers) is same known h =
     let all : ranges ≡ ranges_onto [] (held r s) = is ∙ ap (ranges_onto []) known in
     missing-first ranges (held r s) numbers h (λ n. same n ∙ ap (λ (ns : List ℕ). has_number ns n) known)
-    ∙ ap (λ (rs : List Range). take 64 (filter (λ n. not (has_number (held r s) n))
+    ∙ ap (λ (rs : List Range). take most_missing (filter (λ n. not (has_number (held r s) n))
     (numbers_from 1 (greatest_of rs - 1)))) all
 
 -- an incoming sequence is in the tables

@@ -1,6 +1,7 @@
 //! Requests for sequences and for their ends: WS-ReliableMessaging 1.2, sections 3.4 to 3.6.
 ghost use Rattle.std.specs.Prelude.{◌≡◌, ◌+◌, ◌^◌, ◌<◌, ◌≤◌, ◌++◌, ◌∷◌, [], codes, length, map, IfOk};
 ghost use Rattle.std.specs.List.{AllByRecursion};
+ghost use Rattle.rm_base.specs.Limits.{most_sequences};
 ghost use Rattle.batch_size.specs.Room.{HasRoom};
 ghost use Rattle.batch_size.specs.Typed.{IsTyped};
 ghost use Rattle.record_batch.specs.Fact.{fact_of};
@@ -158,7 +159,7 @@ fn address_again(to: &Uri) -> Result<Uri, Memory>
 // A sequence is asked for, for which there is a place.
 fn asked(alloc: Global, tables: &Tables, wish: Wish) -> Result<Answer, Memory>
     requires serving { IsServing tables.now.records }
-    requires place { length (makers tables.now.records) + wanted_of wish.offer ≤ 256 }
+    requires place { length (makers tables.now.records) + wanted_of wish.offer ≤ most_sequences }
     ensures is { IfOk result (λ a. seen a ≡ asked_of tables.now.records (wish_seen wish)) }
     ensures short { length wish.to ≤ 2048 }
 {
