@@ -5,6 +5,7 @@ use Rattle.std.specs.Prelude.{◌↔◌, nat_le, sum_by, Result, Ok, Err, IfOk}
 use Rattle.std.specs.List.{AllByRecursion, list_all}
 use Rattle.std.proofs.lemmas.Bool.{and_parts, and_from, le-leb, leb-true, leb-false}
 use Rattle.std.proofs.lemmas.List.Sums.{sum_by-cons}
+use Rattle.rm_base.specs.Limits.{parameter_bytes}
 use Rattle.rm_base.specs.declared.failures.Memory.{Memory}
 use Rattle.soap_profile.specs.Document.{Document}
 use Rattle.soap_profile.specs.Namespaces.{is_new_name}
@@ -54,14 +55,15 @@ pub endpoint_decides : Strips → (x : Epr) → IsEndpointWritable x → (b : Bo
     → ((b ≡ true) ↔ IsEprWritable x)
 endpoint_decides strips x read b is = (
   λ e.
-      let parts = and_parts (list_all is_plain x.params) (nat_le (params_length x.params) 65536) (sym is ∙ e) in
+      let parts = and_parts (list_all is_plain x.params) (nat_le (params_length x.params) parameter_bytes)
+      (sym is ∙ e) in
       record {
         address = read.address;
         each = params_go strips x.params read.params.each parts.0;
-        short = leb-true (params_length x.params) 65536 parts.1;
+        short = leb-true (params_length x.params) parameter_bytes parts.1;
       },
-  λ h. is ∙ and_from (list_all is_plain x.params) (nat_le (params_length x.params) 65536)
-      (are_plain x.params h.each) (le-leb (params_length x.params) 65536 h.short),
+  λ h. is ∙ and_from (list_all is_plain x.params) (nat_le (params_length x.params) parameter_bytes)
+      (are_plain x.params h.each) (le-leb (params_length x.params) parameter_bytes h.short),
 )
 
 -- as the code answers it
@@ -77,14 +79,28 @@ params_sum (p ∷ ps) = omega (arith, sum_by-cons param_size p ps, params_sum ps
 
 -- so the length of an endpoint reference tells whether they are too long
 pub short_decides : (n a k l : ℕ) → n ≡ capped (8 + a + (4 * k + l)) → a ≤ 2048 → k < 2 ^ 32
-    → nat_le n (8 + a + 4 * k + 65536) ≡ nat_le l 65536
+    → nat_le n (8 + a + 4 * k + parameter_bytes) ≡ nat_le l parameter_bytes
 short_decides n a k l is few count =
-    same (nat_le n (8 + a + 4 * k + 65536)) (nat_le l 65536) refl refl
+    same (nat_le n (8 + a + 4 * k + parameter_bytes)) (nat_le l parameter_bytes) refl refl
   where
-    same : (x y : Bool) → nat_le n (8 + a + 4 * k + 65536) ≡ x → nat_le l 65536 ≡ y → x ≡ y
+    same : (x y : Bool) → nat_le n (8 + a + 4 * k + parameter_bytes) ≡ x → nat_le l parameter_bytes ≡ y → x ≡ y
     same true true e f = refl
     same false false e f = refl
     same true false e f =
-        absurd (omega (arith, is, few, count, leb-true n (8 + a + 4 * k + 65536) e, leb-false l 65536 f))
+        absurd (omega (
+          arith,
+          is,
+          few,
+          count,
+          leb-true n (8 + a + 4 * k + parameter_bytes) e,
+          leb-false l parameter_bytes f,
+        ))
     same false true e f =
-        absurd (omega (arith, is, few, count, leb-false n (8 + a + 4 * k + 65536) e, leb-true l 65536 f))
+        absurd (omega (
+          arith,
+          is,
+          few,
+          count,
+          leb-false n (8 + a + 4 * k + parameter_bytes) e,
+          leb-true l parameter_bytes f,
+        ))

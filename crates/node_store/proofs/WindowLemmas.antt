@@ -8,6 +8,7 @@ use Rattle.std.proofs.lemmas.Bool.Decides.{nat_tests}
 use Rattle.std.proofs.lemmas.Option.{none-some, slice_get_past}
 use Rattle.ack_ranges.specs.declared.range.Range.{Range}
 use Rattle.ack_ranges.specs.Ranges.{in_ranges, IsCanonical, IsFront as IsFrontOf, IsGreatest, RisesFrom}
+use Rattle.rm_base.specs.Limits.{window}
 use Rattle.rm_base.specs.NumberSet.{has_number}
 use Rattle.rm_base.specs.declared.message.Payload.{Payload}
 use Rattle.rm_destination.specs.Incoming.{Receiving}
@@ -128,10 +129,10 @@ near_decides recorded r s f there b is =
     let told = recorded r s f (sym there) in
     let side = receives r s (maker r s) f (sym there) in (
       λ e n incoming has.
-          subst (λ (m : ℕ). n ≤ m + 1024) told.front_
+          subst (λ (m : ℕ). n ≤ m + window) told.front_
           (is.0 e n (subst (λ (ns : List ℕ). has_number ns n ≡ true) (sym told.numbers) has)),
       λ h. is.1 (λ n has.
-          subst (λ (m : ℕ). n ≤ m + 1024) (sym told.front_)
+          subst (λ (m : ℕ). n ≤ m + window) (sym told.front_)
           (h n side (subst (λ (ns : List ℕ). has_number ns n ≡ true) told.numbers has))),
     )
 
@@ -162,12 +163,12 @@ one_front came ranges m reached is same =
 -- the greatest number and the front decide
 pub are_near-decides : FrontIsReached → (came : List (ℕ × Payload)) (ranges : List Range) (m k d : ℕ)
     → IsCanonical ranges → ((n : ℕ) → in_ranges ranges n ≡ has_number (numbers_of came) n) → IsFrontOf ranges m
-    → IsGreatest ranges k → d ≡ k - m → ((nat_le d 1024 ≡ true) ↔ AreNear came)
+    → IsGreatest ranges k → d ≡ k - m → ((nat_le d window ≡ true) ↔ AreNear came)
 are_near-decides reached came ranges m k d canonical same is greatest far =
     let zero_ : has_number (numbers_of came) 0 ≡ false = sym (same 0) ∙ below 1 0 ranges canonical (omega arith) in
     let one : m ≡ front_of came = one_front came ranges m (reached came zero_) is same in (
-      λ e n has. omega (arith, leb-true d 1024 e, far, one, greatest.above n (same n ∙ has)),
-      λ near. le-leb d 1024 (elim (cases_lt 0 k) [
+      λ e n has. omega (arith, leb-true d window e, far, one, greatest.above n (same n ∙ has)),
+      λ near. le-leb d window (elim (cases_lt 0 k) [
         | inl some ↦ omega (arith, far, one, near k (sym (same k) ∙ greatest.inside some))
         | inr none ↦ omega (arith, far, none)
       ]),

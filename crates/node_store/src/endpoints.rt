@@ -1,6 +1,7 @@
 //! Whether an endpoint reference of a record may be written into a message: WS-Addressing 1.0 Core, section 2.
 ghost use Rattle.std.specs.Prelude.{◌≡◌, ◌↔◌, ◌<◌, ◌^◌, ◌∷◌, [], IfOk, IsTrue, length, map, nat_le};
 ghost use Rattle.std.specs.List.{list_all};
+ghost use Rattle.rm_base.specs.Limits.{parameter_bytes};
 ghost use Rattle.soap_profile.specs.Namespaces.{is_new_name};
 ghost use Rattle.soap_profile.specs.Tree.{attrs_of};
 ghost use Rattle.soap_profile.specs.View.{attrs_view, element_view};
@@ -41,7 +42,7 @@ fn may_go(alloc: Global, endpoint: &Epr) -> Result<bool, Memory>
 /// Whether its parameters are together not too long.
 fn is_short(alloc: Global, endpoint: &Epr) -> Result<bool, Memory>
     requires { length endpoint.now.params < 2 ^ 32 }
-    ensures { IfOk result (λ short. short ≡ nat_le (params_length endpoint.now.params) 65536) }
+    ensures { IfOk result (λ short. short ≡ nat_le (params_length endpoint.now.params) parameter_bytes) }
 {
     let len = endpoint_len(alloc, endpoint)?;
     let around = 8 + uri_len(&endpoint.address) + 4 * endpoint.params.len() as u64;
