@@ -5,6 +5,7 @@ use Rattle.std.specs.List.{flat_map}
 use Rattle.std.proofs.lemmas.Bool.Decides.{nat_tests}
 use Rattle.std.proofs.lemmas.Grind.{flat_map-append}
 use Rattle.std.proofs.lemmas.List.{length-append}
+use Rattle.rm_base.specs.Limits.{entry_bytes}
 use Rattle.batch_size.specs.Room.{HasRoom}
 use Rattle.record_batch.specs.Batch.{batch_text}
 use Rattle.record_batch.specs.Fact.{Fact, Made}
@@ -23,8 +24,8 @@ counter-both : (r d : List Fact) → counter (r ++ d) ≡ counter r + counter d
 counter-both r d =
     ap length (flat_map-append draws_of r d) ∙ length-append (flat_map draws_of r) (flat_map draws_of d)
 
-few-drawn : (d : List Fact) (place : ℕ) → counter d ≤ length (batch_text d) → HasRoom place d → counter d ≤ 4194304
-few-drawn d place law (inl none) = subst (λ ds. counter ds ≤ 4194304) (sym none) (omega arith)
+few-drawn : (d : List Fact) (place : ℕ) → counter d ≤ length (batch_text d) → HasRoom place d → counter d ≤ entry_bytes
+few-drawn d place law (inl none) = subst (λ ds. counter ds ≤ entry_bytes) (sym none) (omega arith)
 few-drawn d place law (inr within) = omega (arith, law, within.short)
 
 -- a batch that fits leaves few numbers drawn

@@ -26,6 +26,7 @@ use Rattle.rm_protocol.specs.WaitLemmas.{all-wait}
 use Rattle.rm_protocol.specs.Waiting.{Moves as KeyMoves, begun_by, is_waiting, mounted_waits, still, waiting_keys}
 use Rattle.rm_protocol.specs.Waiting.{waits_after}
 use Rattle.std.proofs.lemmas.List.{append-nil}
+use Rattle.rm_base.specs.Limits.{most_keys}
 use Rattle.node_store.specs.Stored.{Stored, first_stored, stored_after}
 use Rattle.call_answers.specs.Answers.{outcome_seen}
 use Rattle.call_answers.specs.declared.answer.Cause.{Cause as CodeCause}
@@ -326,11 +327,11 @@ pub has-room : OnlyTheTouched → OneMoreHasRoom → IsExactAtFirst → HasRoomF
     (begun : Option Key) (now : List Fact) (touched : List ℕ) → IsTimed old.stored.records old.kept.timers
     → Rises old.kept.timers.cells → Grown old a begun now touched
     → IfSome begun (λ key. slot_at (cells_all now touched old.kept.timers.cells) key ≡ None
-    → length (cells_all now touched old.kept.timers.cells) < 4352)
+    → length (cells_all now touched old.kept.timers.cells) < most_keys)
 has-room only one first room old a None now touched timed rising grown = tt
 has-room only one first room old a (Some key) now touched timed rising grown =
     subst (λ (l : List Fact). slot_at (cells_all l touched k.cells) key ≡ None
-    → length (cells_all l touched k.cells) < 4352) (sym grown.records) few
+    → length (cells_all l touched k.cells) < most_keys) (sym grown.records) few
   where
     r : List Fact
     r = old.stored.records
@@ -357,7 +358,7 @@ has-room only one first room old a (Some key) now touched timed rising grown =
         (still-waits (r ++ delta) (map plain k.cells)))
 
     few : slot_at (cells_all (r ++ delta) touched k.cells) key ≡ None
-        → length (cells_all (r ++ delta) touched k.cells) < 4352
+        → length (cells_all (r ++ delta) touched k.cells) < most_keys
     few none =
         let less = one (cells_all (r ++ delta) touched k.cells) (waiting_keys (r ++ delta)) key
         (all-once (r ++ delta) touched k.cells (once k.cells rising))
