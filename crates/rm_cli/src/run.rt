@@ -5,6 +5,7 @@ ghost use Rattle.rm_command.specs.Run.{AsksNothing, AsksReplay, IsStatusOf, Runs
 ghost use Rattle.rm_command.specs.Stage.{KeepsWordAt, staged_of};
 ghost use Rattle.rm_command.specs.Status.{status_of};
 ghost use Rattle.rm_command.specs.declared.end.End.{End as AnEnd};
+ghost use Rattle.rm_host.specs.Runs.{IsStatusOf as IsNodeStatusOf, outside_of};
 ghost use Rattle.rm_host.specs.Words.{is_of_node};
 ghost use Rattle.rm_replay.specs.Shows.{IsFresh, scene_of};
 
@@ -27,7 +28,6 @@ pub fn run<S: Source, K: Sink, M: CrashDisk, W: Wire, D: Disk, L: Link, C: Clock
     host: &mut Host<D, L, C>,
 ) -> u8
     requires fresh { IsFresh (scene_of M.told W.packets stage.old) }
-    requires silent { D.tells ≡ false }
 
     // The headline, over every input and output, over every two disks and every wire.
     ensures word { AsksReplay words.now → KeepsWordAt result
@@ -40,6 +40,11 @@ pub fn run<S: Source, K: Sink, M: CrashDisk, W: Wire, D: Disk, L: Link, C: Clock
     ensures usage { is_of_node words.now ≡ false → ((result ≡ 2) ↔ AsksNothing words.now) }
     ensures status { is_of_node words.now ≡ false
         → IfSome (S.told input.old).left (λ bytes. IsStatusOf words.now bytes result) }
+
+    // Which status comes of the words of a node's command.
+    ensures node { is_of_node words.now ≡ true → IsNodeStatusOf words.now
+        (outside_of S.told K.told D.told L.told input.old out.old host.old)
+        (outside_of S.told K.told D.told L.told input.new out.new host.new) result }
 
     // The stage is for the others.
     ensures stage { is_of_node words.now ≡ true → staged_of M.told W.packets stage.new

@@ -1,5 +1,16 @@
--- Which words are those of a node's commands.
-use Rattle.std.specs.Prelude.{ℕ, Bool, false, ◌||◌, List, [], ◌∷◌, bytes_eq, codes}
+-- The words of a node's commands.
+use Rattle.std.specs.Prelude.{◌≡◌, ◌≢◌, ℕ, ◌-◌, ◌<◌, ◌≤◌, ◌^◌, Bool, false, ◌||◌, List, [], ◌∷◌, ◌++◌, bytes_eq, codes}
+use Rattle.std.specs.Prelude.{decimal, None, Result, Ok, Err}
+use Rattle.std.specs.Str.{IsUtf8}
+use Rattle.http_endpoint.specs.Targets.{target_of}
+use Rattle.rm_base.specs.Limits as limits
+use Rattle.rm_base.specs.Text.{IsText}
+use Rattle.rm_host.specs.declared.end.End.{End}
+use Rattle.rm_host.specs.declared.end.End.TheVariants as end
+use Rattle.rm_host.specs.declared.words.Command.{Command}
+use Rattle.rm_host.specs.declared.words.Command.TheVariants.{Make, Serve, Send, Push, Close, Finish, Inbox}
+use Rattle.rm_host.specs.declared.words.Grant.{Grant}
+use Rattle.rm_host.specs.declared.words.Grant.TheVariants.{DropsFollowing, DropsEntire}
 
 -- the name of a command of a node
 abbrev pub is_node_name : List ℕ → Bool
@@ -12,3 +23,84 @@ is_node_name name =
 abbrev pub is_of_node : List (List ℕ) → Bool
 is_of_node [] = false
 is_of_node (name ∷ words) = is_node_name name
+
+-- a number from low to high, in decimal digits without a leading zero
+abbrev pub IsNumber : ℕ → ℕ → List ℕ → ℕ → Type 0
+IsNumber low high word number = (low ≤ number) × (number ≤ high) × (word ≡ decimal number)
+
+-- a word that may stand for an address: UTF-8 that does not begin with -
+pub record IsAddress (word : List ℕ) : Type 0 where
+  pub utf8 : IsUtf8 word
+  pub undashed : (rest : List ℕ) → word ≢ codes "-" ++ rest
+
+-- one word, the number of a sequence
+abbrev pub IsSequence : List (List ℕ) → ℕ → Type 0
+IsSequence words seq = (k : List ℕ) × IsNumber 1 limits.most_sequences k seq × (words ≡ k ∷ [])
+
+-- the word for what a node that serves announces
+abbrev pub grant_word : Grant → List ℕ
+grant_word DropsFollowing = codes "dfg"
+grant_word DropsEntire = codes "des"
+
+-- the first word of a command
+abbrev pub name_of : Command → List ℕ
+name_of (Make number address) = codes "make"
+name_of (Serve port count grant) = codes "serve"
+name_of (Send to) = codes "send"
+name_of Push = codes "push"
+name_of (Close seq) = codes "close"
+name_of (Finish seq) = codes "end"
+name_of (Inbox seq) = codes "inbox"
+
+-- the words behind it
+abbrev pub Takes : Command → List (List ℕ) → Type 0
+Takes (Make number address) words =
+    (n : List ℕ) × IsNumber 1 (2 ^ 60 - 1) n number × IsAddress address × (words ≡ n ∷ address ∷ [])
+Takes (Serve port count grant) words =
+    (p c : List ℕ) × IsNumber 1 65535 p port × IsNumber 1 65535 c count × (words ≡ p ∷ c ∷ grant_word grant ∷ [])
+Takes (Send to) words = IsAddress to × (words ≡ to ∷ [])
+Takes Push words = words ≡ []
+Takes (Close seq) words = IsSequence words seq
+Takes (Finish seq) words = IsSequence words seq
+Takes (Inbox seq) words = IsSequence words seq
+
+-- the words ask for a command
+abbrev pub Asks : List (List ℕ) → Command → Type 0
+Asks words command = (more : List (List ℕ)) × (words ≡ name_of command ∷ more) × Takes command more
+
+-- for some command
+abbrev pub IsCommand : List (List ℕ) → Type 0
+IsCommand words = (command : Command) × Asks words command
+
+-- an address that a packet can be posted to
+pub record IsReachable (address : List ℕ) : Type 0 where
+  pub text : IsText 2048 address
+  pub target : target_of address ≢ None
+
+-- that of a command, where it has one
+abbrev pub HasTarget : Command → Type 0
+HasTarget (Make number address) = IsReachable address
+HasTarget (Send to) = IsReachable to
+HasTarget _ = Unit {0}
+
+-- the number of a node that is to be made has at most 60 bits, and is not 0
+abbrev pub IsWithin : Command → Type 0
+IsWithin (Make number address) = (0 < number) × (number < 2 ^ 60)
+IsWithin _ = Unit {0}
+
+-- what words are read as: a command whose address can be reached, where it has one; or why not. Memory is wanted for
+-- a command alone
+abbrev pub Reads : List (List ℕ) → Result Command End → Type 0
+Reads words (Ok command) = Asks words command × HasTarget command
+Reads words (Err end.Usage) = ¬ (IsCommand words)
+Reads words (Err end.BadAddress) = (command : Command) × Asks words command × ¬ (HasTarget command)
+Reads words (Err end.Memory) = IsCommand words
+Reads words (Err e) = ⊥
+
+-- what one word is read as that is to be an address
+abbrev pub ReadsAddress : List ℕ → Result (List ℕ) End → Type 0
+ReadsAddress word (Ok address) = (address ≡ word) × IsAddress word × IsReachable word
+ReadsAddress word (Err end.Usage) = ¬ (IsAddress word)
+ReadsAddress word (Err end.BadAddress) = IsAddress word × ¬ (IsReachable word)
+ReadsAddress word (Err end.Memory) = IsAddress word
+ReadsAddress word (Err e) = ⊥

@@ -1,6 +1,9 @@
 //! The commands `make`, `push`, `close`, `end` and `inbox`.
-ghost use Rattle.std.specs.Prelude.{◌≡◌, ◌<◌, ◌≤◌, ◌^◌, false};
+ghost use Rattle.std.specs.Prelude.{◌≡◌, ◌<◌, ◌^◌, false};
+ghost use Rattle.rm_serve.specs.Steps.{IsUp, place_of};
+ghost use Rattle.rm_host.specs.Ends.{HasReason, faults_of, is_disk_fault, is_link_fault, is_outer};
 
+use crate::calls::{ask, make_node, mount, post_all};
 use crate::end::End;
 use crate::host::Host;
 use call_answers::Cause;
@@ -9,8 +12,8 @@ use rm_base::{Blob, Clock, Memory, Uri, push_decimal, push_hex};
 use rm_destination::Incoming;
 use rm_disk::Disk;
 use rm_link::Link;
-use rm_node::{Node, Outs};
-use rm_serve::{Posted, post_due};
+use rm_node::{Call, Node, Outs};
+use rm_serve::Posted;
 use std::alloc::Global;
 
 /// Makes a node on an empty disk.
@@ -20,18 +23,26 @@ pub fn make<D: Disk, L: Link, C: Clock>(
     number: u64,
     address: Uri,
 ) -> Result<Blob, End>
-    requires silent { D.tells ≡ false }
+    requires from_one { 0 < number }
+    requires within { number < 2 ^ 60 }
+    ensures reason { HasReason (faults_of D.told L.told host.old) (faults_of D.told L.told host.new) result }
+    ensures inner { is_outer result ≡ false }
 {
-    if number == 0 || number >= 1 << 60 {
-        return Err(End::Usage);
-    }
-    match host.disk.len() {
-        Ok(0) => {}
-        Ok(_) => return Err(End::NotEmpty),
-        Err(_) => return Err(End::DiskFault),
-    }
-    Node::make(alloc, &mut host.disk, number, address)?;
+    check_empty(host)?;
+    make_node(alloc, host, number, address)?;
     Ok(Blob::from_slice(alloc, b"made\n")?)
+}
+
+// Refuses a disk that has bytes.
+fn check_empty<D: Disk, L: Link, C>(host: &mut Host<D, L, C>) -> Result<(), End>
+    ensures reason { HasReason (faults_of D.told L.told host.old) (faults_of D.told L.told host.new) result }
+    ensures inner { is_outer result ≡ false }
+{
+    match host.disk.len() {
+        Ok(0) => Ok(()),
+        Ok(_) => Err(End::NotEmpty),
+        Err(_) => Err(End::DiskFault),
+    }
 }
 
 /// One tick, and what it gave is posted.
@@ -39,11 +50,12 @@ pub fn push<D: Disk, L: Link, C: Clock>(
     alloc: Global,
     host: &mut Host<D, L, C>,
 ) -> Result<Blob, End>
-    requires silent { D.tells ≡ false }
+    ensures reason { HasReason (faults_of D.told L.told host.old) (faults_of D.told L.told host.new) result }
+    ensures inner { is_outer result ≡ false }
 {
-    let mut node = Node::mount(alloc, &mut host.disk)?;
+    let mut node = mount(alloc, host)?;
     let now = host.clock.now();
-    let outs = node.tick(&mut host.disk, now)?;
+    let outs = ask(host, &mut node, now, Call::Tick { now })?;
     told(alloc, host, &mut node, now, outs)
 }
 
@@ -53,11 +65,12 @@ pub fn close<D: Disk, L: Link, C: Clock>(
     host: &mut Host<D, L, C>,
     seq: u32,
 ) -> Result<Blob, End>
-    requires silent { D.tells ≡ false }
+    ensures reason { HasReason (faults_of D.told L.told host.old) (faults_of D.told L.told host.new) result }
+    ensures inner { is_outer result ≡ false }
 {
-    let mut node = Node::mount(alloc, &mut host.disk)?;
+    let mut node = mount(alloc, host)?;
     let now = host.clock.now();
-    let outs = node.close(&mut host.disk, seq, now)?;
+    let outs = ask(host, &mut node, now, Call::Close { seq })?;
     told(alloc, host, &mut node, now, outs)
 }
 
@@ -67,28 +80,28 @@ pub fn end<D: Disk, L: Link, C: Clock>(
     host: &mut Host<D, L, C>,
     seq: u32,
 ) -> Result<Blob, End>
-    requires silent { D.tells ≡ false }
+    ensures reason { HasReason (faults_of D.told L.told host.old) (faults_of D.told L.told host.new) result }
+    ensures inner { is_outer result ≡ false }
 {
-    let mut node = Node::mount(alloc, &mut host.disk)?;
+    let mut node = mount(alloc, host)?;
     let now = host.clock.now();
-    let outs = node.end(&mut host.disk, seq)?;
+    let outs = ask(host, &mut node, now, Call::End { seq })?;
     told(alloc, host, &mut node, now, outs)
 }
 
 // Posts packets, and tells how many were posted and missed.
-fn told<D: Disk, L: Link, C: Clock>(
+fn told<D: Disk, L: Link, C>(
     alloc: Global,
     host: &mut Host<D, L, C>,
     node: &mut Node,
     now: u64,
     outs: Outs,
 ) -> Result<Blob, End>
-    requires silent { D.tells ≡ false }
+    requires up { IsUp D.tells (place_of (D.told host.old.disk) node.old) }
+    ensures reason { HasReason (faults_of D.told L.told host.old) (faults_of D.told L.told host.new) result }
+    ensures inner { is_outer result ≡ false }
 {
-    let posted = post_due(alloc, node, &mut host.disk, &mut host.link, now, outs)?;
-    if posted.undialled > 0 {
-        return Err(End::LinkFault);
-    }
+    let posted = post_all(alloc, host, node, now, outs)?;
     Ok(posted_text(alloc, posted)?)
 }
 
@@ -107,13 +120,18 @@ pub fn inbox<D: Disk, L: Link, C: Clock>(
     host: &mut Host<D, L, C>,
     seq: u32,
 ) -> Result<Blob, End>
-    requires silent { D.tells ≡ false }
+    ensures reason { HasReason (faults_of D.told L.told host.old) (faults_of D.told L.told host.new) result }
+    ensures inner { is_outer result ≡ false }
 {
-    let node = Node::mount(alloc, &mut host.disk)?;
+    let node = mount(alloc, host)?;
     inbox_text(alloc, node.tables(), seq)
 }
 
-fn inbox_text(alloc: Global, tables: &Tables, seq: u32) -> Result<Blob, End> {
+fn inbox_text(alloc: Global, tables: &Tables, seq: u32) -> Result<Blob, End>
+    ensures disk { is_disk_fault result ≡ false }
+    ensures link { is_link_fault result ≡ false }
+    ensures inner { is_outer result ≡ false }
+{
     if seq > tables.len() {
         return Err(End::Refused(Cause::NoSequence));
     }

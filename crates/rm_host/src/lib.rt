@@ -1,6 +1,7 @@
 //! The commands of one node over a disk, a link and a clock.
 #![tactic(auto)]
 
+mod calls;
 pub mod commands;
 pub mod end;
 pub mod host;

@@ -1,5 +1,8 @@
 //! The program at its edge: a file, the network, the clock, standard input and output.
-ghost use Rattle.std.specs.Prelude.{◌≡◌, drop, false};
+ghost use Rattle.std.specs.Prelude.{◌≡◌, drop};
+ghost use Rattle.rm_host.specs.Ends.{HasReason, faults_of};
+ghost use Rattle.rm_host.specs.Runs.{IsStatusOf, Obeys, PrintsAt, Uses, outside_of};
+ghost use Rattle.rm_host.specs.Words.{IsWithin};
 
 use crate::commands::{close, end, inbox, make, push};
 use crate::end::End;
@@ -26,14 +29,12 @@ pub fn run<S: Source, K: Sink, D: Disk, L: Link, C: Clock>(
     out: &mut K,
     host: &mut Host<D, L, C>,
 ) -> u8
-    requires silent { D.tells ≡ false }
+    ensures { IsStatusOf words.now
+        (outside_of S.told K.told D.told L.told input.old out.old host.old)
+        (outside_of S.told K.told D.told L.told input.new out.new host.new) result }
 {
     match obey(alloc, words, input, host) {
-        Ok(text) => match write_all(out, text.as_slice()) {
-            Ok(()) => 0,
-            Err(SinkError::Failed) => End::WriteFault.status(),
-            Err(SinkError::Memory) => End::Memory.status(),
-        },
+        Ok(text) => print_text(out, text.as_slice()),
         Err(end) => {
             let _ = write_all(out, end.line());
             end.status()
@@ -41,15 +42,43 @@ pub fn run<S: Source, K: Sink, D: Disk, L: Link, C: Clock>(
     }
 }
 
+// Prints what was asked for.
+fn print_text<K: Sink>(out: &mut K, text: &[u8]) -> u8
+    ensures { PrintsAt (K.told out.old) (K.told out.new) result }
+{
+    match write_all(out, text) {
+        Ok(()) => 0,
+        Err(SinkError::Failed) => End::WriteFault.status(),
+        Err(SinkError::Memory) => End::Memory.status(),
+    }
+}
+
+// Does what the words say.
 fn obey<S: Source, D: Disk, L: Link, C: Clock>(
     alloc: Global,
     words: &[Blob],
     input: &mut S,
     host: &mut Host<D, L, C>,
 ) -> Result<Blob, End>
-    requires silent { D.tells ≡ false }
+    ensures obeys { Obeys words.now (S.told input.old) (S.told input.new) result }
+    ensures reason { HasReason (faults_of D.told L.told host.old) (faults_of D.told L.told host.new) result }
 {
-    match command_of(alloc, words)? {
+    let command = command_of(alloc, words)?;
+    perform(alloc, input, host, command)
+}
+
+// Does what is asked for.
+fn perform<S: Source, D: Disk, L: Link, C: Clock>(
+    alloc: Global,
+    input: &mut S,
+    host: &mut Host<D, L, C>,
+    command: Command,
+) -> Result<Blob, End>
+    requires { IsWithin command }
+    ensures uses { Uses command (S.told input.old) (S.told input.new) result }
+    ensures reason { HasReason (faults_of D.told L.told host.old) (faults_of D.told L.told host.new) result }
+{
+    match command {
         Command::Make { number, address } => make(alloc, host, number, address),
         Command::Serve { port, count, grant } => serve(alloc, host, port, count, grant),
         Command::Send { to } => send(alloc, host, input, to),

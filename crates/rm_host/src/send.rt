@@ -1,61 +1,78 @@
 //! The command `send`.
-ghost use Rattle.std.specs.Prelude.{◌≡◌, ◌≤◌, true, false, IfSome};
-ghost use Rattle.sequence_table.specs.Fits.{is_in_order};
+ghost use Rattle.std.specs.Prelude.{◌≡◌, ◌<◌, IfOk, OnOk, false};
+ghost use Rattle.rm_base.specs.Count.{Rose};
+ghost use Rattle.rm_serve.specs.Steps.{IsUp, place_of};
+ghost use Rattle.rm_host.specs.Ends.{HasReason, Took, faults_of, is_outer};
 
+use crate::calls::{accept_payload, ask, create, mount, post, post_all};
 use crate::end::End;
 use crate::host::Host;
-use call_answers::Wish;
 use node_tables::{Peer, Tables};
-use record_batch::Via;
 use rm_base::limits::PAYLOAD_BYTES;
-use rm_base::{Blob, Clock, Lapse, Memory, ReadError, Source, Uri, push_decimal, read_up_to};
+use rm_base::{Blob, Clock, Memory, ReadError, Source, Uri, push_decimal, read_up_to};
 use rm_disk::Disk;
 use rm_link::Link;
-use rm_node::Node;
-use rm_serve::post_due;
+use rm_node::{Call, Node, Outs};
 use rm_source::OutPhase;
 use std::alloc::Global;
 
 /// Reads a payload, and sends it to an address: on the first sequence to it that is open or asked for, or else on a new
-/// one.
+/// one. Where a packet found no connection that is told when all else is done.
 pub fn send<D: Disk, L: Link, C: Clock, S: Source>(
     alloc: Global,
     host: &mut Host<D, L, C>,
     input: &mut S,
     to: Uri,
 ) -> Result<Blob, End>
-    requires silent { D.tells ≡ false }
+    ensures took { Took (S.told input.old) (S.told input.new) result }
+    ensures reason { HasReason (faults_of D.told L.told host.old) (faults_of D.told L.told host.new) result }
 {
-    let payload = match read_up_to(alloc, input, PAYLOAD_BYTES) {
-        Ok(payload) => payload,
-        Err(ReadError::Failed) => return Err(End::ReadFault),
-        Err(ReadError::TooLong) => return Err(End::TooLong),
-        Err(ReadError::Memory) => return Err(End::Memory),
-    };
-    let mut node = Node::mount(alloc, &mut host.disk)?;
+    match read_up_to(alloc, input, PAYLOAD_BYTES) {
+        Ok(payload) => send_payload(alloc, host, to, payload),
+        Err(ReadError::Failed) => Err(End::ReadFault),
+        Err(ReadError::TooLong) => Err(End::TooLong),
+        Err(ReadError::Memory) => Err(End::Memory),
+    }
+}
+
+// Sends a payload to an address.
+fn send_payload<D: Disk, L: Link, C: Clock>(
+    alloc: Global,
+    host: &mut Host<D, L, C>,
+    to: Uri,
+    payload: Blob,
+) -> Result<Blob, End>
+    ensures reason { HasReason (faults_of D.told L.told host.old) (faults_of D.told L.told host.new) result }
+    ensures inner { is_outer result ≡ false }
+{
+    let mut node = mount(alloc, host)?;
     let (seq, missed) = reach(alloc, host, &mut node, to)?;
-    if missed > 0 && !is_open(node.tables(), seq) {
-        return Err(End::LinkFault);
+    if missed == 0 {
+        return send_on(alloc, host, &mut node, seq, payload);
     }
-    let sent = node.send(&mut host.disk, seq, payload)?;
+    if is_open(node.tables(), seq) {
+        send_on(alloc, host, &mut node, seq, payload)?;
+    }
+    Err(End::LinkFault)
+}
+
+// Sends a payload on a sequence.
+fn send_on<D: Disk, L: Link, C: Clock>(
+    alloc: Global,
+    host: &mut Host<D, L, C>,
+    node: &mut Node,
+    seq: u32,
+    payload: Blob,
+) -> Result<Blob, End>
+    requires up { IsUp D.tells (place_of (D.told host.old.disk) node.old) }
+    ensures reason { HasReason (faults_of D.told L.told host.old) (faults_of D.told L.told host.new) result }
+    ensures inner { is_outer result ≡ false }
+{
+    let sent = accept_payload(host, node, seq, payload)?;
     let now = host.clock.now();
-    let posted = post_due(
-        alloc,
-        &mut node,
-        &mut host.disk,
-        &mut host.link,
-        now,
-        sent.outs,
-    )?;
-    if missed > 0 || posted.undialled > 0 {
-        return Err(End::LinkFault);
-    }
-    Ok(sent_text(
-        alloc,
-        seq,
-        sent.number,
-        is_acked(node.tables(), seq, sent.number),
-    )?)
+    post_all(alloc, host, node, now, sent.outs)?;
+    let acked = is_acked(node.tables(), seq, sent.number);
+    Ok(sent_text(alloc, seq, sent.number, acked)?)
 }
 
 // The sequence on which messages to an address go, after its first posts, and how many of these found no connection.
@@ -65,31 +82,39 @@ fn reach<D: Disk, L: Link, C: Clock>(
     node: &mut Node,
     to: Uri,
 ) -> Result<(u32, u32), End>
-    requires silent { D.tells ≡ false }
+    requires up { IsUp D.tells (place_of (D.told host.old.disk) node.old) }
+    ensures up { OnOk result (IsUp D.tells (place_of (D.told host.new.disk) node.new)) }
+    ensures undialled { IfOk result (λ r. 0 < r.1
+        → Rose (L.told host.old.link).faults (L.told host.new.link).faults) }
+    ensures reason { HasReason (faults_of D.told L.told host.old) (faults_of D.told L.told host.new) result }
+    ensures inner { is_outer result ≡ false }
 {
+    let (seq, outs) = begin(host, node, to)?;
     let now = host.clock.now();
-    let (seq, outs) = match sequence_to(node.tables(), &to) {
-        Some(seq) => (seq, node.tick(&mut host.disk, now)?),
-        None => {
-            let made = node.create(&mut host.disk, wish(to))?;
-            (made.seq, made.outs)
-        }
-    };
-    let posted = post_due(alloc, node, &mut host.disk, &mut host.link, now, outs)?;
+    let posted = post(alloc, host, node, now, outs)?;
     Ok((seq, posted.undialled))
 }
 
-// What is asked for: a sequence that never ends, whose answers come back on the connection.
-fn wish(to: Uri) -> Wish
-    ensures months { result.expires.months ≡ 0 }
-    ensures ms { result.expires.ms ≡ 0 }
-    ensures offer { IfSome result.offer (λ behaviour. is_in_order behaviour ≡ true) }
+// The sequence on which messages to an address go, and what is to be posted first.
+fn begin<D: Disk, L: Link, C: Clock>(
+    host: &mut Host<D, L, C>,
+    node: &mut Node,
+    to: Uri,
+) -> Result<(u32, Outs), End>
+    requires up { IsUp D.tells (place_of (D.told host.old.disk) node.old) }
+    ensures up { OnOk result (IsUp D.tells (place_of (D.told host.new.disk) node.new)) }
+    ensures reason { HasReason (faults_of D.told L.told host.old) (faults_of D.told L.told host.new) result }
+    ensures inner { is_outer result ≡ false }
 {
-    Wish {
-        to,
-        via: Via::Back,
-        expires: Lapse { months: 0, ms: 0 },
-        offer: None,
+    match sequence_to(node.tables(), &to) {
+        Some(seq) => {
+            let now = host.clock.now();
+            Ok((seq, ask(host, node, now, Call::Tick { now })?))
+        }
+        None => {
+            let made = create(host, node, to)?;
+            Ok((made.seq, made.outs))
+        }
     }
 }
 

@@ -1,14 +1,17 @@
 //! The command `serve`.
-ghost use Rattle.std.specs.Prelude.{◌≡◌, false};
+ghost use Rattle.std.specs.Prelude.{◌≡◌, IfOk, OnOk, false};
+ghost use Rattle.rm_serve.specs.Steps.{IsUp, place_of};
+ghost use Rattle.rm_host.specs.Ends.{HasReason, faults_of, is_outer};
 
+use crate::calls::{ask, mount, post, serve_conn};
 use crate::end::End;
 use crate::host::Host;
 use crate::words::Grant;
 use rm_base::{Blob, Clock, Memory, push_decimal};
 use rm_disk::Disk;
 use rm_link::Link;
-use rm_node::{Node, Outs};
-use rm_serve::{ConnEnd, post_due, serve_one};
+use rm_node::{Call, Node, Outs};
+use rm_serve::ConnEnd;
 use std::alloc::Global;
 
 // How many connections were served well, and how many were given up.
@@ -26,24 +29,55 @@ pub fn serve<D: Disk, L: Link, C: Clock>(
     count: u16,
     grant: Grant,
 ) -> Result<Blob, End>
-    requires silent { D.tells ≡ false }
+    ensures reason { HasReason (faults_of D.told L.told host.old) (faults_of D.told L.told host.new) result }
+    ensures inner { is_outer result ≡ false }
 {
-    let mut node = Node::mount(alloc, &mut host.disk)?;
-    node.set_grant(grant.behaviour());
-    if host.link.listen(port).is_err() {
-        return Err(End::LinkFault);
-    }
+    let mut node = open(alloc, host, port, grant)?;
     let mut tally = Tally {
         done: 0,
         dropped: 0,
     };
-    for _turn in 0..count {
-        match turn(alloc, host, &mut node)? {
-            ConnEnd::Done => tally.done = tally.done.saturating_add(1),
-            ConnEnd::Dropped(_) => tally.dropped = tally.dropped.saturating_add(1),
-        }
+    let mut left = count;
+    while left > 0 {
+        let finish = turn(alloc, host, &mut node)?;
+        tally = counted(tally, finish);
+        left -= 1;
     }
     Ok(tally_text(alloc, tally)?)
+}
+
+// One connection more.
+fn counted(tally: Tally, finish: ConnEnd) -> Tally {
+    let Tally { done, dropped } = tally;
+    match finish {
+        ConnEnd::Done => Tally {
+            done: done.saturating_add(1),
+            dropped,
+        },
+        ConnEnd::Dropped(_) => Tally {
+            done,
+            dropped: dropped.saturating_add(1),
+        },
+    }
+}
+
+// Mounts the node, which announces so, and listens.
+fn open<D: Disk, L: Link, C>(
+    alloc: Global,
+    host: &mut Host<D, L, C>,
+    port: u16,
+    grant: Grant,
+) -> Result<Node, End>
+    ensures up { IfOk result (λ node. IsUp D.tells (place_of (D.told host.new.disk) node)) }
+    ensures reason { HasReason (faults_of D.told L.told host.old) (faults_of D.told L.told host.new) result }
+    ensures inner { is_outer result ≡ false }
+{
+    let mut node = mount(alloc, host)?;
+    node.set_grant(grant.behaviour());
+    match host.link.listen(port) {
+        Ok(()) => Ok(node),
+        Err(_) => Err(End::LinkFault),
+    }
 }
 
 // Takes one connection, and posts what is due.
@@ -52,19 +86,35 @@ fn turn<D: Disk, L: Link, C: Clock>(
     host: &mut Host<D, L, C>,
     node: &mut Node,
 ) -> Result<ConnEnd, End>
-    requires silent { D.tells ≡ false }
+    requires { IsUp D.tells (place_of (D.told host.old.disk) node.old) }
+    ensures up { OnOk result (IsUp D.tells (place_of (D.told host.new.disk) node.new)) }
+    ensures reason { HasReason (faults_of D.told L.told host.old) (faults_of D.told L.told host.new) result }
+    ensures inner { is_outer result ≡ false }
 {
-    let mut conn = match host.link.accept() {
-        Ok(conn) => conn,
-        Err(_) => return Err(End::LinkFault),
-    };
+    match host.link.accept() {
+        Ok(conn) => take(alloc, host, node, conn),
+        Err(_) => Err(End::LinkFault),
+    }
+}
+
+// Serves a connection, and posts what is due.
+fn take<D: Disk, L: Link, C: Clock>(
+    alloc: Global,
+    host: &mut Host<D, L, C>,
+    node: &mut Node,
+    conn: L::Conn,
+) -> Result<ConnEnd, End>
+    requires { IsUp D.tells (place_of (D.told host.old.disk) node.old) }
+    ensures up { OnOk result (IsUp D.tells (place_of (D.told host.new.disk) node.new)) }
+    ensures reason { HasReason (faults_of D.told L.told host.old) (faults_of D.told L.told host.new) result }
+    ensures inner { is_outer result ≡ false }
+{
     let now = host.clock.now();
-    let served = serve_one(alloc, node, &mut host.disk, &mut conn, now)?;
-    drop(conn);
+    let served = serve_conn(alloc, host, node, conn, now)?;
     let now = host.clock.now();
-    let due = node.tick(&mut host.disk, now)?;
+    let due = ask(host, node, now, Call::Tick { now })?;
     let outs = joined(served.outs, due)?;
-    post_due(alloc, node, &mut host.disk, &mut host.link, now, outs)?;
+    post(alloc, host, node, now, outs)?;
     Ok(served.finish)
 }
 

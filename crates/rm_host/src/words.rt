@@ -1,12 +1,45 @@
 //! The words of a command.
-ghost use Rattle.std.specs.Prelude.{◌≡◌, ◌≤◌, true, IfOk};
+ghost use Rattle.std.specs.Prelude.{
+  ◌≡◌,
+  ◌≢◌,
+  ◌<◌,
+  ◌^◌,
+  ◌∷◌,
+  ℕ,
+  [],
+  List,
+  MatchOption,
+  MatchResult,
+  None,
+  ◌⊎◌,
+  ◌↔◌,
+  IsTrue,
+  true,
+  IfSome,
+  Some,
+  decimal,
+  codes,
+};
 ghost use Rattle.sequence_table.specs.Fits.{is_in_order};
-ghost use Rattle.rm_host.specs.Words.{is_node_name, is_of_node};
+ghost use Rattle.rm_host.specs.Words.{
+  IsAddress,
+  IsNumber,
+  IsReachable,
+  IsSequence,
+  Reads,
+  ReadsAddress,
+  grant_word,
+  is_node_name,
+  is_of_node,
+};
+ghost use Rattle.rm_host.specs.declared.words.Grant.{Grant as AGrant};
+ghost use Rattle.http_endpoint.specs.Targets.{target_of};
 
 use crate::end::End;
 use http_endpoint::read_target;
+use itoa::Buffer;
 use rm_base::limits::MOST_SEQUENCES;
-use rm_base::{Behaviour, Blob, Uri};
+use rm_base::{Behaviour, Blob, TextError, Uri};
 use std::alloc::Global;
 use std::str;
 
@@ -64,140 +97,219 @@ fn is_node_name(name: &[u8]) -> bool
 }
 
 /// The command that the words ask for.
-pub fn command_of(alloc: Global, words: &[Blob]) -> Result<Command, End> {
-    let Some((name, rest)) = words.split_first() else {
-        return Err(End::Usage);
-    };
-    match str::from_utf8(name.as_slice()) {
-        Ok(name) => named(alloc, name, rest),
-        Err(_) => Err(End::Usage),
-    }
-}
-
-fn named(alloc: Global, name: &str, words: &[Blob]) -> Result<Command, End> {
-    match name {
-        "make" => make_of(alloc, words),
-        "serve" => serve_of(words),
-        "send" => send_of(alloc, words),
-        "push" => match words {
-            [] => Ok(Command::Push),
-            _ => Err(End::Usage),
-        },
-        "close" => Ok(Command::Close {
-            seq: seq_of(words)?,
-        }),
-        "end" => Ok(Command::Finish {
-            seq: seq_of(words)?,
-        }),
-        "inbox" => Ok(Command::Inbox {
-            seq: seq_of(words)?,
-        }),
-        _ => Err(End::Usage),
-    }
-}
-
-fn make_of(alloc: Global, words: &[Blob]) -> Result<Command, End> {
-    match words {
-        [number, address] => Ok(Command::Make {
-            number: number_in(number, 1, (1 << 60) - 1)?,
-            address: address_of(alloc, address)?,
-        }),
-        _ => Err(End::Usage),
-    }
-}
-
-fn serve_of(words: &[Blob]) -> Result<Command, End> {
-    match words {
-        [port, count, grant] => Ok(Command::Serve {
-            port: number_in(port, 1, 65535)? as u16,
-            count: number_in(count, 1, 65535)? as u16,
-            grant: grant_of(grant)?,
-        }),
-        _ => Err(End::Usage),
-    }
-}
-
-fn send_of(alloc: Global, words: &[Blob]) -> Result<Command, End> {
-    match words {
-        [to] => Ok(Command::Send {
-            to: address_of(alloc, to)?,
-        }),
-        _ => Err(End::Usage),
-    }
-}
-
-fn seq_of(words: &[Blob]) -> Result<u32, End> {
-    match words {
-        [seq] => Ok(number_in(seq, 1, u64::from(MOST_SEQUENCES))? as u32),
-        _ => Err(End::Usage),
-    }
-}
-
-fn grant_of(word: &Blob) -> Result<Grant, End> {
-    if word.as_slice() == b"dfg".as_slice() {
-        return Ok(Grant::DropsFollowing);
-    }
-    if word.as_slice() == b"des".as_slice() {
-        return Ok(Grant::DropsEntire);
-    }
-    Err(End::Usage)
-}
-
-// A number in decimal without leading zeros, within these bounds.
-fn number_in(word: &Blob, least: u64, most: u64) -> Result<u64, End>
-    ensures { IfOk result (λ n. (least ≤ n) × (n ≤ most)) }
+pub fn command_of(alloc: Global, words: &[Blob]) -> Result<Command, End>
+    ensures { Reads words.now result }
 {
-    match decimal_of(word.as_slice()) {
-        Some(number) => within(number, least, most),
+    match words.split_first() {
+        Some((name, rest)) => named(alloc, name.as_slice(), rest),
         None => Err(End::Usage),
     }
 }
 
-fn within(number: u64, least: u64, most: u64) -> Result<u64, End>
-    ensures { IfOk result (λ n. (least ≤ n) × (n ≤ most)) }
+// The command with this name, and these words behind it.
+fn named(alloc: Global, name: &[u8], words: &[Blob]) -> Result<Command, End>
+    ensures { Reads (name.now ∷ words.now) result }
 {
-    if number < least || number > most {
-        return Err(End::Usage);
+    if name == b"make".as_slice() {
+        return make_of(alloc, words);
     }
-    Ok(number)
+    if name == b"serve".as_slice() {
+        return serve_of(words);
+    }
+    if name == b"send".as_slice() {
+        return send_of(alloc, words);
+    }
+    if name == b"push".as_slice() {
+        return push_of(words);
+    }
+    if name == b"close".as_slice() {
+        return close_of(words);
+    }
+    if name == b"end".as_slice() {
+        return end_of(words);
+    }
+    if name == b"inbox".as_slice() {
+        return inbox_of(words);
+    }
+    Err(End::Usage)
 }
 
-fn decimal_of(digits: &[u8]) -> Option<u64> {
-    let (first, _) = digits.split_first()?;
-    if *first == b'0' && digits.len() > 1 {
-        return None;
+fn make_of(alloc: Global, words: &[Blob]) -> Result<Command, End>
+    ensures { Reads (codes "make" ∷ words.now) result }
+{
+    let [number, address] = words else {
+        return Err(End::Usage);
+    };
+    let Some(number) = number_in(number, 1, (1 << 60) - 1) else {
+        return Err(End::Usage);
+    };
+    match address_of(alloc, address) {
+        Ok(address) => Ok(Command::Make { number, address }),
+        Err(end) => Err(end),
     }
-    let mut number: u64 = 0;
-    for digit in digits {
-        if *digit < b'0' || *digit > b'9' {
-            return None;
-        }
-        number = number
-            .checked_mul(10)?
-            .checked_add(u64::from(*digit - b'0'))?;
+}
+
+fn serve_of(words: &[Blob]) -> Result<Command, End>
+    ensures { Reads (codes "serve" ∷ words.now) result }
+{
+    let [port, count, grant] = words else {
+        return Err(End::Usage);
+    };
+    let Some(port) = number_in(port, 1, 65535) else {
+        return Err(End::Usage);
+    };
+    let Some(count) = number_in(count, 1, 65535) else {
+        return Err(End::Usage);
+    };
+    match grant_of(grant) {
+        Some(grant) => Ok(Command::Serve {
+            port: port as u16,
+            count: count as u16,
+            grant,
+        }),
+        None => Err(End::Usage),
+    }
+}
+
+fn send_of(alloc: Global, words: &[Blob]) -> Result<Command, End>
+    ensures { Reads (codes "send" ∷ words.now) result }
+{
+    match words {
+        [to] => match address_of(alloc, to) {
+            Ok(to) => Ok(Command::Send { to }),
+            Err(end) => Err(end),
+        },
+        _ => Err(End::Usage),
+    }
+}
+
+fn push_of(words: &[Blob]) -> Result<Command, End>
+    ensures { Reads (codes "push" ∷ words.now) result }
+{
+    match words {
+        [] => Ok(Command::Push),
+        _ => Err(End::Usage),
+    }
+}
+
+fn close_of(words: &[Blob]) -> Result<Command, End>
+    ensures { Reads (codes "close" ∷ words.now) result }
+{
+    match sequence_of(words) {
+        Some(seq) => Ok(Command::Close { seq }),
+        None => Err(End::Usage),
+    }
+}
+
+fn end_of(words: &[Blob]) -> Result<Command, End>
+    ensures { Reads (codes "end" ∷ words.now) result }
+{
+    match sequence_of(words) {
+        Some(seq) => Ok(Command::Finish { seq }),
+        None => Err(End::Usage),
+    }
+}
+
+fn inbox_of(words: &[Blob]) -> Result<Command, End>
+    ensures { Reads (codes "inbox" ∷ words.now) result }
+{
+    match sequence_of(words) {
+        Some(seq) => Ok(Command::Inbox { seq }),
+        None => Err(End::Usage),
+    }
+}
+
+// The number of a sequence, where that is the only word.
+fn sequence_of(words: &[Blob]) -> Option<u32>
+    ensures { MatchOption result ((seq : ℕ) → ¬ (IsSequence words.now seq)) (IsSequence words.now) }
+{
+    match words {
+        [seq] => match number_in(seq, 1, u64::from(MOST_SEQUENCES)) {
+            Some(seq) => Some(seq as u32),
+            None => None,
+        },
+        _ => None,
+    }
+}
+
+// What a word announces.
+fn grant_of(word: &Blob) -> Option<Grant>
+    ensures { MatchOption result ((grant : AGrant) → word.now ≢ grant_word grant)
+        (λ grant. word.now ≡ grant_word grant) }
+{
+    if word.as_slice() == b"dfg".as_slice() {
+        return Some(Grant::DropsFollowing);
+    }
+    if word.as_slice() == b"des".as_slice() {
+        return Some(Grant::DropsEntire);
+    }
+    None
+}
+
+// The number in a word, from low to high.
+fn number_in(word: &Blob, low: u64, high: u64) -> Option<u64>
+    ensures { MatchOption result ((n : ℕ) → ¬ (IsNumber low high word.now n)) (IsNumber low high word.now) }
+{
+    let number = decimal_of(word.as_slice())?;
+    if number < low || number > high {
+        return None;
     }
     Some(number)
 }
 
-fn address_of(alloc: Global, word: &Blob) -> Result<Uri, End> {
-    match str::from_utf8(word.as_slice()) {
-        Ok(text) => {
-            if text.starts_with('-') {
-                return Err(End::Usage);
-            }
-        }
-        Err(_) => return Err(End::Usage),
+// The number that is written so: decimal digits without a sign or a leading zero.
+fn decimal_of(digits: &[u8]) -> Option<u64>
+    ensures found { IfSome result (λ number. digits.now ≡ decimal number) }
+    ensures only { (number : ℕ) → number < 2 ^ 64 → digits.now ≡ decimal number → result ≡ Some number }
+{
+    let Ok(text) = str::from_utf8(digits) else {
+        return None;
+    };
+    let Ok(number) = text.parse::<u64>() else {
+        return None;
+    };
+    let mut buffer = Buffer::new();
+    if buffer.format(number).as_bytes() == digits {
+        Some(number)
+    } else {
+        None
+    }
+}
+
+// The address that a word is.
+fn address_of(alloc: Global, word: &Blob) -> Result<Uri, End>
+    ensures { ReadsAddress word.now result }
+{
+    if !is_address(word.as_slice()) {
+        return Err(End::Usage);
     }
     match Uri::from_slice(alloc, word.as_slice()) {
-        Ok(uri) => targeted(alloc, uri),
-        Err(rm_base::TextError::Memory) => Err(End::Memory),
+        Ok(uri) => reachable(alloc, uri),
+        Err(TextError::Memory) => Err(End::Memory),
         Err(_) => Err(End::BadAddress),
     }
 }
 
-fn targeted(alloc: Global, uri: Uri) -> Result<Uri, End> {
-    match read_target(alloc, &uri) {
-        Ok(Some(_)) => Ok(uri),
+// Whether a word may stand for an address.
+fn is_address(word: &[u8]) -> bool
+    ensures { IsTrue result ↔ IsAddress word.now }
+{
+    if let [b'-', ..] = word {
+        return false;
+    }
+    match str::from_utf8(word) {
+        Ok(_) => true,
+        Err(_) => false,
+    }
+}
+
+// The address, where a packet can be posted to it.
+fn reachable(alloc: Global, address: Uri) -> Result<Uri, End>
+    ensures { MatchResult result (λ uri. (uri ≡ address) × (target_of address ≢ None))
+        (λ e. (e ≡ End.Memory) ⊎ ((e ≡ End.BadAddress) × (target_of address ≡ None))) }
+{
+    match read_target(alloc, &address) {
+        Ok(Some(_)) => Ok(address),
         Ok(None) => Err(End::BadAddress),
         Err(_) => Err(End::Memory),
     }

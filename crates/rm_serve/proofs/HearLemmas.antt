@@ -16,18 +16,20 @@ use Rattle.rm_message.specs.declared.message.Message.{Message}
 use Rattle.rm_message.specs.declared.refusal.FaultKind.{FaultKind}
 use Rattle.rm_message.specs.declared.refusal.Refusal.{Refusal}
 use Rattle.node_laws.specs.OwnTerms.{AreOwn, ThereAreOwnTerms}
-use Rattle.rm_node.specs.Asked.{Receive}
-use Rattle.rm_node.specs.Called.{Called, Does, Sleeps, answer_of}
+use Rattle.rm_disk.specs.Told.{Told}
+use Rattle.rm_node.specs.Asked.{Asked, Asks, Receive, is_connected}
+use Rattle.rm_node.specs.Called.{Called, Does, Sleeps, Steps, answer_of}
 use Rattle.rm_node.specs.Came.{IsReadAs}
 use Rattle.rm_node.specs.Ends.{Ended, error_end, reaction_end}
 use Rattle.rm_node.specs.Keeping.{Keeping, Keeps}
 use Rattle.rm_node.specs.Noded.{Noded, Runs}
+use Rattle.rm_node.specs.declared.call.Call.{Call}
 use Rattle.rm_node.specs.declared.error.NodeError.{NodeError}
 use Rattle.rm_node.specs.declared.error.NodeError.TheVariants as error
 use Rattle.rm_node.specs.declared.step.Reaction.{Reaction}
 use Rattle.rm_serve.specs.Reacts.{Reacts, broke, crashed, reacted, slept, starving, told_by, took}
-use Rattle.rm_serve.specs.Steps.{IsReady, MakesAll, Place, Stays, Step}
-use Rattle.rm_serve.proofs.StepLemmas.{no-step, one-step, ready-up}
+use Rattle.rm_serve.specs.Steps.{IsReady, IsUp, LeavesUp, MakesAll, Place, Stays, Step, place_of}
+use Rattle.rm_serve.proofs.StepLemmas.{kept-by, leaves-up, no-step, one-step, ready-up, was-down}
 
 -- ---- a message is taken or answered with a fault, and never refused
 
@@ -135,6 +137,38 @@ ready-after there tells x z now content r runs does ready =
     let t = some-terms there in
     let kept = runs.keeping in
     ready-by x.node.stored.journal.is_down tells x z _ _ refl (does t.0 t.1 kept.0 kept.1) ready
+
+-- it is up or down as it was, where all went well
+pub up-after : ThereAreOwnTerms → (tells : Bool) (x z : Place) (now : ℕ) (content : Result Message Refusal)
+    (r : Result Reaction NodeError) → Runs x.node → Received tells x z now content r
+    → OnOk r (z.node.stored.journal.is_down ≡ x.node.stored.journal.is_down)
+up-after there tells x z now content (Ok reaction) runs does =
+    let t = some-terms there in
+    let kept = runs.keeping in
+    kept-by x.node.stored.journal.is_down tells true x z _ _ (does t.0 t.1 kept.0 kept.1) refl
+up-after there tells x z now content (Err e) runs does = tt
+
+-- it was down, where it answers so
+pub down-after : ThereAreOwnTerms → (tells : Bool) (x z : Place) (now : ℕ) (content : Result Message Refusal)
+    (r : Result Reaction NodeError) → Runs x.node → Received tells x z now content r → r ≡ Err error.Down
+    → x.node.stored.journal.is_down ≡ true
+down-after there tells x z now content r runs does e =
+    let t = some-terms there in
+    let kept = runs.keeping in
+    let answer = answer_of t.0 x.node now kept.0 (Receive content) in
+    was-down x.node.stored.journal.is_down tells true x z answer
+    (subst (λ (r : Result Reaction NodeError). Does tells true x.told z.told x.node z.node answer (reaction_end r)) e
+    (does t.0 t.1 kept.0 kept.1))
+
+-- what any call leaves of a node that was up
+pub leaves-after : ThereAreOwnTerms → (tells : Bool) (first now : Told) (old new : Noded) (moment : ℕ) (call : Call)
+    (asked : Asked) (ended : Ended) → Asks call asked → IsUp tells (place_of first old)
+    → Steps tells first now old new moment call ended → LeavesUp tells (place_of now new) ended
+leaves-after there tells first now old new moment call asked ended asks is steps =
+    let t = some-terms there in
+    let kept = steps.runs.keeping in
+    leaves-up tells (is_connected call) (place_of first old) (place_of now new)
+    (answer_of t.0 old moment kept.0 asked) ended is (steps.does t.0 t.1 kept.0 kept.1 asked asks)
 
 -- what was read of bytes
 pub readable-of : (bytes : List ℕ) (r : Result Message DecodeError) → IfOk r (Spells soap_space bytes)

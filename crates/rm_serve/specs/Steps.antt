@@ -1,11 +1,11 @@
 -- The calls of a node that a command makes, one after the other.
-use Rattle.std.specs.Prelude.{◌≡◌, ℕ, Bool, true, false, List, [], ◌∷◌, IsTrue}
+use Rattle.std.specs.Prelude.{◌≡◌, ◌≢◌, ℕ, Bool, true, false, List, [], ◌∷◌, IsTrue}
 use Rattle.rm_disk.specs.Told.{Told}
 use Rattle.rm_protocol.specs.Terms.{Terms}
 use Rattle.node_laws.specs.OwnTerms.{AreOwn}
 use Rattle.rm_node.specs.Asked.{Asked, Receive}
 use Rattle.rm_node.specs.Called.{Does, HasBatches, answer_of}
-use Rattle.rm_node.specs.Ends.{Ended}
+use Rattle.rm_node.specs.Ends.{Ended, WasDown, is_handed}
 use Rattle.rm_node.specs.Keeping.{Keeping, Keeps}
 use Rattle.rm_node.specs.Noded.{Noded, Runs}
 
@@ -52,3 +52,14 @@ MakesAll tells x z steps = (terms : Terms) → AreOwn terms → Makes tells term
 -- a node that is up, and its disk where it tells, have the same batches
 abbrev pub IsReady : Bool → Place → Type 0
 IsReady tells x = HasBatches tells x.told x.node
+
+-- a node that is up, ready for a call
+pub record IsUp (tells : Bool) (x : Place) : Type 0 where
+  pub up : x.node.stored.journal.is_down ≡ false
+  pub ready : IsReady tells x
+
+-- what a call leaves of a node that was up: it does not answer that it was down, and is up where all went well
+pub record LeavesUp (tells : Bool) (z : Place) (ended : Ended) : Type 0 where
+  pub awake : ended ≢ WasDown
+  pub up : is_handed ended ≡ true → z.node.stored.journal.is_down ≡ false
+  pub ready : IsReady tells z

@@ -3,6 +3,7 @@
 //! use the list of calls that each of both makes of the node, and what is written and posted meanwhile.
 #![tactic(auto)]
 
+pub mod laws;
 pub mod posting;
 pub mod serving;
 mod taking;

@@ -1,5 +1,5 @@
 //! Packets that leave a node: each is posted on a connection of its own, and what comes back is given to the node.
-ghost use Rattle.std.specs.Prelude.{◌≡◌, ◌≤◌, ◌<◌, ◌+◌, ◌++◌, List, IfOk, OnOk};
+ghost use Rattle.std.specs.Prelude.{◌≡◌, ◌≤◌, ◌<◌, ◌+◌, ◌++◌, List, Err, IfOk, OnOk, true};
 ghost use Rattle.std.specs.Option.{option_map};
 ghost use Rattle.rm_disk.specs.Cause.{HasCause};
 ghost use Rattle.rm_node.specs.Ends.{is_disk};
@@ -42,6 +42,8 @@ pub fn post_due<D: Disk, L: Link>(
         (L.told link.old)
         (L.told link.new) steps result }
     ensures ready { IsReady D.tells (place_of (D.told disk.new) node.new) }
+    ensures up { OnOk result (node.new.stored.journal.is_down ≡ node.old.stored.journal.is_down) }
+    ensures down { result ≡ Err NodeError.Down → node.old.stored.journal.is_down ≡ true }
     ensures cause { HasCause (D.told disk.old).faults (D.told disk.new).faults (is_disk result) }
 {
     let mut queue = VecDeque::new(alloc);
@@ -93,6 +95,8 @@ fn post_one<D: Disk, L: Link>(
     ensures ready { IsReady D.tells (place_of (D.told disk.new) node.new) }
     ensures count { IfOk result (λ p. p.sent + p.missed ≡ posted.sent + posted.missed + 1) }
     ensures dials { IfOk result (λ p. p.undialled ≤ p.missed) }
+    ensures up { OnOk result (node.new.stored.journal.is_down ≡ node.old.stored.journal.is_down) }
+    ensures down { result ≡ Err NodeError.Down → node.old.stored.journal.is_down ≡ true }
     ensures cause { HasCause (D.told disk.old).faults (D.told disk.new).faults (is_disk result) }
 {
     let fate = post(alloc, link, &out.address, out.bytes.as_slice())?;
@@ -142,6 +146,8 @@ fn hear<D: Disk>(
         (place_of (D.told disk.new) node.new) steps
         × Hears now fate.now queue.old.items queue.new.items steps result }
     ensures ready { IsReady D.tells (place_of (D.told disk.new) node.new) }
+    ensures up { OnOk result (node.new.stored.journal.is_down ≡ node.old.stored.journal.is_down) }
+    ensures down { result ≡ Err NodeError.Down → node.old.stored.journal.is_down ≡ true }
     ensures cause { HasCause (D.told disk.old).faults (D.told disk.new).faults (is_disk result) }
 {
     match heard(fate) {
@@ -180,6 +186,8 @@ fn take<D: Disk>(
         (place_of (D.told disk.new) node.new) steps
         × Takes now bytes.now queue.old.items queue.new.items steps result }
     ensures ready { IsReady D.tells (place_of (D.told disk.new) node.new) }
+    ensures up { OnOk result (node.new.stored.journal.is_down ≡ node.old.stored.journal.is_down) }
+    ensures down { result ≡ Err NodeError.Down → node.old.stored.journal.is_down ≡ true }
     ensures cause { HasCause (D.told disk.old).faults (D.told disk.new).faults (is_disk result) }
 {
     let Reaction { outs, .. } = taking::hear(alloc, node, disk, now, bytes)?;

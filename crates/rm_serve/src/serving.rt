@@ -1,5 +1,5 @@
 //! One connection that came: a request is read, its body given to the node, and the answer written.
-ghost use Rattle.std.specs.Prelude.{◌≡◌, List, IfErr, IfOk, OnOk, Some, None, [], false, ◌≤◌};
+ghost use Rattle.std.specs.Prelude.{◌≡◌, List, Err, IfErr, IfOk, OnOk, Some, None, [], true, false, ◌≤◌};
 ghost use Rattle.http_endpoint.specs.Heads.{IsRefusal};
 ghost use Rattle.http_endpoint.specs.Texts.{IsWritten};
 ghost use Rattle.rm_answer.specs.Replies.{refusal_to as refusal_for};
@@ -46,6 +46,8 @@ pub fn serve_one<D: Disk, C: Connection>(
         × Serving now (C.Source.told conn.old)
         (C.Source.told conn.new) steps result }
     ensures ready { IsReady D.tells (place_of (D.told disk.new) node.new) }
+    ensures up { OnOk result (node.new.stored.journal.is_down ≡ node.old.stored.journal.is_down) }
+    ensures down { result ≡ Err NodeError.Down → node.old.stored.journal.is_down ≡ true }
     ensures cause { HasCause (D.told disk.old).faults (D.told disk.new).faults (is_disk result) }
 {
     match read_request(alloc, conn) {
@@ -69,6 +71,8 @@ fn answer<D: Disk, C: Connection>(
         × Answering now (C.Source.told conn.old)
         (C.Source.told conn.new) body steps result }
     ensures ready { IsReady D.tells (place_of (D.told disk.new) node.new) }
+    ensures up { OnOk result (node.new.stored.journal.is_down ≡ node.old.stored.journal.is_down) }
+    ensures down { result ≡ Err NodeError.Down → node.old.stored.journal.is_down ≡ true }
     ensures cause { HasCause (D.told disk.old).faults (D.told disk.new).faults (is_disk result) }
 {
     let Reaction {

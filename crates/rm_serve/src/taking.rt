@@ -1,5 +1,5 @@
 //! Bytes that came on a connection, given to the node.
-ghost use Rattle.std.specs.Prelude.{◌≡◌, List, OnOk, Result};
+ghost use Rattle.std.specs.Prelude.{◌≡◌, List, Err, OnOk, Result, true};
 ghost use Rattle.rm_message.specs.declared.message.Message.{Message as Said};
 ghost use Rattle.rm_message.specs.declared.refusal.Refusal.{Refusal as Refused};
 ghost use Rattle.rm_node.specs.Came.{IsReadAs};
@@ -28,6 +28,8 @@ pub(crate) fn hear<D: Disk>(
     ensures reacts { (steps : List Step) × MakesAll D.tells (place_of (D.told disk.old) node.old)
         (place_of (D.told disk.new) node.new) steps × Reacts now bytes.now steps result }
     ensures ready { IsReady D.tells (place_of (D.told disk.new) node.new) }
+    ensures up { OnOk result (node.new.stored.journal.is_down ≡ node.old.stored.journal.is_down) }
+    ensures down { result ≡ Err NodeError.Down → node.old.stored.journal.is_down ≡ true }
     ensures cause { HasCause (D.told disk.old).faults (D.told disk.new).faults (is_disk result) }
 {
     there_are_own_terms();

@@ -31,16 +31,26 @@ const TRIES: u32 = 1000;
 /// The exit status of a command that found no connection.
 const LINK_FAULT: i32 = 7;
 
-/// Makes two nodes, sends a message while the one serves, and prints what each command printed.
+/// What the client is asked for when its message is acknowledged.
+const THEN: [&[&str]; 3] = [&["push"], &["close", "1"], &["end", "1"]];
+
+/// Makes two nodes, sends a message while the one serves, closes and ends the sequence, and prints what each command
+/// printed. Meanwhile a second process finds the server's journal held.
 pub fn play(rt: &HostRuntime) -> io::Result<()> {
     let server = folder(rt, "server")?;
     show(rt, run(rt, &server, &["make", "1", SERVER], b"")?)?;
-    let serving = command(rt, &server, &["serve", "18473", "2", "dfg"])?
+    let serving = command(rt, &server, &["serve", "18473", "4", "dfg"])?
         .stdout(Stdio::piped())
         .spawn(rt)?;
-    show(rt, send(rt)?)?;
+    let (client, sent) = send(rt)?;
+    show(rt, sent)?;
+    tell(rt, run(rt, &server, &["inbox", "1"], b"")?)?;
+    for words in &THEN {
+        show(rt, run(rt, &client, *words, b"")?)?;
+    }
     show(rt, serving.wait_with_output(rt.alloc())?)?;
     show(rt, run(rt, &server, &["inbox", "1"], b"")?)?;
+    fs::remove_dir_all(rt, &client)?;
     fs::remove_dir_all(rt, &server)
 }
 
@@ -49,25 +59,22 @@ pub fn play(rt: &HostRuntime) -> io::Result<()> {
 pub fn refuse(rt: &HostRuntime) -> io::Result<()> {
     let folder = folder(rt, "alone")?;
     for (words, input) in &ALONE {
-        let output = run(rt, &folder, *words, *input)?;
-        let status = output.status.code().unwrap_or(-1);
-        show(rt, output)?;
-        let line = format!(in rt.alloc(); "status {status}\n")?;
-        rt.stdout().write_all(line.as_bytes())?;
+        tell(rt, run(rt, &folder, *words, *input)?)?;
     }
     fs::remove_dir_all(rt, &folder)
 }
 
-// Sends a message from a node that is just made, again from another one as long as the server does not listen.
-fn send(rt: &HostRuntime) -> io::Result<Output> {
+// Sends a message from a node that is just made, again from another one as long as the server does not listen. The
+// folder of the node is answered with what the command printed.
+fn send(rt: &HostRuntime) -> io::Result<(PathBuf, Output)> {
     for _turn in 0..TRIES {
         let client = folder(rt, "client")?;
         run(rt, &client, &["make", "2", CLIENT], b"")?;
         let output = run(rt, &client, &["send", SERVER], b"<p>1</p>")?;
-        fs::remove_dir_all(rt, &client)?;
         if output.status.code() != Some(LINK_FAULT) {
-            return Ok(output);
+            return Ok((client, output));
         }
+        fs::remove_dir_all(rt, &client)?;
         thread::sleep(rt, Duration::from_millis(10));
     }
     Err(io::Error::from(io::ErrorKind::TimedOut))
@@ -118,4 +125,12 @@ fn run(rt: &HostRuntime, folder: &PathBuf, words: &[&str], input: &[u8]) -> io::
 // Prints what a command printed.
 fn show(rt: &HostRuntime, output: Output) -> io::Result<()> {
     rt.stdout().write_all(output.stdout.as_slice())
+}
+
+// Prints what a command printed, and its status.
+fn tell(rt: &HostRuntime, output: Output) -> io::Result<()> {
+    let status = output.status.code().unwrap_or(-1);
+    show(rt, output)?;
+    let line = format!(in rt.alloc(); "status {status}\n")?;
+    rt.stdout().write_all(line.as_bytes())
 }

@@ -32,6 +32,7 @@ loop-left-init g c =
       count = refl;
       dials = omega arith;
       ready = c.requires.ready;
+      up = refl;
       faults = refl;
     }
 
@@ -72,6 +73,7 @@ loop-left-preserved g c =
       count = omega (arith, l.invariant.count, c.in_ok-posted-in-Some.ensures.count, c.loop-left-test.true);
       dials = c.in_ok-posted-in-Some.ensures.dials;
       ready = c.post_one.ensures.ready;
+      up = c.in_ok-posted-in-Some.ensures.up ∙ l.invariant.up;
       faults = c.in_ok-posted-in-Some.ensures.cause.cause ∙ l.invariant.faults;
     }
 

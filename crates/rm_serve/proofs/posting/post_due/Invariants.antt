@@ -13,6 +13,7 @@ invariant-loop-left g l =
       count : l.posted.sent + l.posted.missed + l.left ≡ 256;
       dials : l.posted.undialled ≤ l.posted.missed;
       ready : IsReady g.D.Disk.tells (place_of (g.D.Disk.told l.disk) l.node);
+      up : l.node.stored.journal.is_down ≡ l.fn.node.stored.journal.is_down;
       faults : (g.D.Disk.told l.disk).faults ≡ (g.D.Disk.told l.fn.disk).faults;
     }
 

@@ -6,7 +6,7 @@ use Rattle.rm_node.specs.declared.error.NodeError.{NodeError}
 use Rattle.rm_node.specs.declared.step.Reaction.{Reaction}
 use Rattle.rm_serve.specs.Reacts.{Reacts, starving}
 use Rattle.rm_serve.specs.Steps.{place_of}
-use Rattle.rm_serve.proofs.HearLemmas.{reacts, ready-after}
+use Rattle.rm_serve.proofs.HearLemmas.{down-after, reacts, ready-after, up-after}
 use Rattle.rm_serve.proofs.StepLemmas.{no-step}
 use Rattle.rm_serve.proofs.taking.hear.Goals as goal
 
@@ -37,3 +37,21 @@ returns-clause-ready g c =
     (place_of (g.D.Disk.told c.step.new.disk) c.step.new.self) c.args.now read.0 c.step.result c.step.ensures.runs
     (λ terms own kept keeps. c.step.ensures.does terms own kept keeps (Receive read.0)
     (record { content = read.0; read = read.1; is = refl })) c.requires.ready
+
+pub returns-clause-up : goal.returns-clause-up
+returns-clause-up g c =
+    let read = c.in_ok-readable.ensures in
+    up-after c.there_are_own_terms.ensures g.D.Disk.tells
+    (place_of (g.D.Disk.told c.args.disk.now) c.args.node.now)
+    (place_of (g.D.Disk.told c.step.new.disk) c.step.new.self) c.args.now read.0 c.step.result c.step.ensures.runs
+    (λ terms own kept keeps. c.step.ensures.does terms own kept keeps (Receive read.0)
+    (record { content = read.0; read = read.1; is = refl }))
+
+pub returns-clause-down : goal.returns-clause-down
+returns-clause-down g c =
+    let read = c.in_ok-readable.ensures in
+    down-after c.there_are_own_terms.ensures g.D.Disk.tells
+    (place_of (g.D.Disk.told c.args.disk.now) c.args.node.now)
+    (place_of (g.D.Disk.told c.step.new.disk) c.step.new.self) c.args.now read.0 c.step.result c.step.ensures.runs
+    (λ terms own kept keeps. c.step.ensures.does terms own kept keeps (Receive read.0)
+    (record { content = read.0; read = read.1; is = refl }))

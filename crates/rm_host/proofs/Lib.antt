@@ -1,0 +1,4 @@
+mod EndLemmas
+mod PostLemmas
+mod RunLemmas
+mod WordLemmas

@@ -1,0 +1,18 @@
+use Rattle.std.proofs.Common.{◌≡◌, ◌∙◌, Err, ap, false, sym, subst}
+use Rattle.std.proofs.lemmas.Result.{err_from_is_err_and}
+use Rattle.rm_host.specs.Ends.{faults_of, is_outer}
+use Rattle.rm_host.proofs.EndLemmas.{call-ends, call-inner, made-awake}
+use Rattle.rm_host.proofs.calls.make_node.Goals as goal
+
+pub returns-in_err-make-clause-reason : goal.returns-in_err-make-clause-reason
+returns-in_err-make-clause-reason g c =
+    let p = err_from_is_err_and c.from_residual.result c.from_residual.ensures.1 in
+    let told = faults_of g.D.Disk.told g.L.Link.told in
+    let e = c.in_err-make.field-0.0 in
+    call-ends (told c.args.host.now) _ e c.from_residual.result (p.1 ∙ ap Err p.2)
+    (made-awake e c.in_err-make.ensures.refusals) c.in_err-make.ensures.cause
+
+pub returns-in_err-make-clause-inner : goal.returns-in_err-make-clause-inner
+returns-in_err-make-clause-inner g c =
+    let p = err_from_is_err_and c.from_residual.result c.from_residual.ensures.1 in
+    subst (λ r. is_outer r ≡ false) (sym (p.1 ∙ ap Err p.2)) (call-inner c.in_err-make.field-0.0)

@@ -1,0 +1,26 @@
+use Rattle.std.proofs.Common.{◌≡◌, ◌∙◌, Err, ap, false, refl, sym, subst}
+use Rattle.std.specs.Prelude.{Result}
+use Rattle.std.proofs.lemmas.Result.{err_from_is_err_and}
+use Rattle.rm_host.specs.Ends.{HasReason, faults_of, is_outer}
+use Rattle.rm_host.proofs.EndLemmas.{mount-fails, mount-inner}
+use Rattle.rm_host.proofs.calls.mount.Goals as goal
+
+pub returns-in_err-mount-clause-reason : goal.returns-in_err-mount-clause-reason
+returns-in_err-mount-clause-reason g c =
+    let p = err_from_is_err_and c.from_residual.result c.from_residual.ensures.1 in
+    let old = faults_of g.D.Disk.told g.L.Link.told c.args.host.now in
+    let new = record old { disk = (g.D.Disk.told c.mount.new.disk).faults } in
+    subst (λ r. HasReason old new r) (sym (p.1 ∙ ap Err p.2))
+    (mount-fails old new c.in_err-mount.field-0.0 c.in_err-mount.ensures.cause)
+
+pub returns-in_err-mount-clause-inner : goal.returns-in_err-mount-clause-inner
+returns-in_err-mount-clause-inner g c =
+    let p = err_from_is_err_and c.from_residual.result c.from_residual.ensures.1 in
+    subst (λ r. is_outer r ≡ false) (sym (p.1 ∙ ap Err p.2)) (mount-inner c.in_err-mount.field-0.0)
+
+pub returns-clause-up : goal.returns-clause-up
+returns-clause-up g c =
+    record {
+      up = c.in_ok-mount.ensures.up;
+      ready = λ t up. let found = c.in_ok-mount.ensures.found t in (found.batches, found.has.holds);
+    }

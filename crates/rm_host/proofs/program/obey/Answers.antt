@@ -1,0 +1,29 @@
+use Rattle.std.proofs.Common.{◌∙◌, Err, ap, sym, subst}
+use Rattle.std.proofs.lemmas.Result.{err_from_is_err_and}
+use Rattle.rm_host.specs.Ends.{HasReason, faults_of}
+use Rattle.rm_host.specs.Runs.{Obeys}
+use Rattle.rm_host.proofs.RunLemmas.{obeys, unread, unread-reason, within}
+use Rattle.rm_host.proofs.program.obey.Goals as goal
+
+pub returns-in_err-command-clause-obeys : goal.returns-in_err-command-clause-obeys
+returns-in_err-command-clause-obeys g c =
+    let p = err_from_is_err_and c.from_residual.result c.from_residual.ensures.1 in
+    let i = g.S.Source.told c.args.input.now in
+    subst (λ r. Obeys c.args.words.now i i r) (sym (p.1 ∙ ap Err p.2))
+    (unread c.args.words.now i c.in_err-command.field-0.0 c.in_err-command.ensures)
+
+pub returns-in_err-command-clause-reason : goal.returns-in_err-command-clause-reason
+returns-in_err-command-clause-reason g c =
+    let p = err_from_is_err_and c.from_residual.result c.from_residual.ensures.1 in
+    let f = faults_of g.D.Disk.told g.L.Link.told c.args.host.now in
+    subst (λ r. HasReason f f r) (sym (p.1 ∙ ap Err p.2))
+    (unread-reason f c.args.words.now c.in_err-command.field-0.0 c.in_err-command.ensures)
+
+pub perform-requires : goal.perform-requires
+perform-requires g c = within c.args.words.now c.in_ok-command.command c.in_ok-command.ensures.0
+
+pub returns-clause-obeys : goal.returns-clause-obeys
+returns-clause-obeys g c =
+    obeys c.args.words.now c.in_ok-command.command (g.S.Source.told c.args.input.now)
+    (g.S.Source.told c.perform.new.input) c.perform.result c.in_ok-command.ensures.0 c.in_ok-command.ensures.1
+    c.perform.ensures.uses

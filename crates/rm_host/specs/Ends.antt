@@ -1,0 +1,94 @@
+-- How a command of a node ends, and why.
+use Rattle.std.specs.Prelude.{◌≡◌, ℕ, ◌+◌, ◌<◌, ◌≤◌, Bool, true, false, List, Result, Ok, Err, OnOk, IfSome, length}
+use Rattle.call_answers.specs.declared.answer.Cause.{Cause}
+use Rattle.node_store.specs.declared.error.MountError.{MountError}
+use Rattle.node_store.specs.declared.error.MountError.TheVariants as mount
+use Rattle.rm_base.specs.Count.{Rose, RoseBy}
+use Rattle.rm_base.specs.Limits as limits
+use Rattle.rm_base.specs.Outside.{Stream}
+use Rattle.rm_disk.specs.Cause.{HasCause}
+use Rattle.rm_disk.specs.Told.{Told}
+use Rattle.rm_link.specs.Lines.{Net}
+use Rattle.rm_node.specs.declared.error.NodeError.{NodeError}
+use Rattle.rm_node.specs.declared.error.NodeError.TheVariants as node
+use Rattle.rm_host.specs.declared.end.End.{End}
+use Rattle.rm_host.specs.declared.end.End.TheVariants.{Usage, ReadFault, WriteFault, DiskFault, LinkFault, TooLong}
+use Rattle.rm_host.specs.declared.end.End.TheVariants.{BadAddress, NotEmpty, Refused, Memory, NotAJournal}
+use Rattle.rm_host.specs.declared.host.Host.{Host}
+
+-- the exit status
+abbrev pub status_of : End → ℕ
+status_of Usage = 2
+status_of ReadFault = 4
+status_of WriteFault = 5
+status_of DiskFault = 6
+status_of LinkFault = 7
+status_of TooLong = 8
+status_of BadAddress = 9
+status_of NotEmpty = 9
+status_of (Refused cause) = 9
+status_of Memory = 10
+status_of NotAJournal = 11
+
+-- the end where a call of the node fails: one that is down has met a fault of its disk
+abbrev pub node_end : NodeError → End
+node_end node.Memory = Memory
+node_end node.Disk = DiskFault
+node_end node.Down = DiskFault
+node_end (node.Refused cause) = Refused cause
+
+-- the end where no node is mounted
+abbrev pub mount_end : MountError → End
+mount_end mount.Memory = Memory
+mount_end mount.Disk = DiskFault
+mount_end mount.NotAJournal = NotAJournal
+
+-- the disk is to blame
+abbrev pub is_disk_fault : {T : Type 0} → Result T End → Bool
+is_disk_fault (Err DiskFault) = true
+is_disk_fault _ = false
+
+-- the link is to blame
+abbrev pub is_link_fault : {T : Type 0} → Result T End → Bool
+is_link_fault (Err LinkFault) = true
+is_link_fault _ = false
+
+-- the words are to blame, or what is read or printed
+abbrev pub is_outer : {T : Type 0} → Result T End → Bool
+is_outer (Err Usage) = true
+is_outer (Err ReadFault) = true
+is_outer (Err WriteFault) = true
+is_outer (Err TooLong) = true
+is_outer (Err BadAddress) = true
+is_outer _ = false
+
+-- how often calls of a host's disk have failed, and calls of its link
+pub record Faults : Type 0 where
+  pub disk : ℕ
+  pub link : ℕ
+
+-- by what its disk and its link tell
+abbrev pub faults_of : {D L C : Type 0} → (D → Told) → (L → Net) → Host D L C → Faults
+faults_of told net host = record { disk = (told host.disk).faults; link = (net host.link).faults }
+
+-- Why a command ends so: the disk's count of faults rose exactly where the disk is to blame, and the link's did where
+-- the link is.
+pub record HasReason {T : Type 0} (old new : Faults) (result : Result T End) : Type 0 where
+  pub disk : HasCause old.disk new.disk (is_disk_fault result)
+  pub link : is_link_fault result ≡ true → Rose old.link new.link
+  pub later : OnOk result (old.link ≤ new.link)
+
+-- more bytes than a payload has were taken, and there were more, where that is known
+pub record WasTooLong (old new : Stream) : Type 0 where
+  pub taken : RoseBy old.taken new.taken (limits.payload_bytes + 1)
+  pub longer : IfSome old.left (λ all. limits.payload_bytes < length all)
+
+-- what a command that reads a payload did to its input
+abbrev pub Took : {T : Type 0} → Stream → Stream → Result T End → Type 0
+Took old new (Err ReadFault) = Rose old.faults new.faults
+Took old new (Err TooLong) = WasTooLong old new
+Took old new (Err Usage) = ⊥
+Took old new (Err WriteFault) = ⊥
+Took old new (Err BadAddress) = ⊥
+Took old new (Err Memory) = Unit {0}
+Took old new _ = IfSome old.left (λ all. length all ≤ limits.payload_bytes)
