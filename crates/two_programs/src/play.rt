@@ -38,12 +38,13 @@ const THEN: [&[&str]; 3] = [&["push"], &["close", "1"], &["end", "1"]];
 /// printed. Meanwhile a second process finds the server's journal held.
 pub fn play(rt: &HostRuntime) -> io::Result<()> {
     let server = folder(rt, "server")?;
+    let client = folder(rt, "client")?;
     show(rt, run(rt, &server, &["make", "1", SERVER], b"")?)?;
+    show(rt, run(rt, &client, &["make", "2", CLIENT], b"")?)?;
     let serving = command(rt, &server, &["serve", "18473", "4", "dfg"])?
         .stdout(Stdio::piped())
         .spawn(rt)?;
-    let (client, sent) = send(rt)?;
-    show(rt, sent)?;
+    show(rt, send(rt, &client)?)?;
     tell(rt, run(rt, &server, &["inbox", "1"], b"")?)?;
     for words in &THEN {
         show(rt, run(rt, &client, *words, b"")?)?;
@@ -64,17 +65,14 @@ pub fn refuse(rt: &HostRuntime) -> io::Result<()> {
     fs::remove_dir_all(rt, &folder)
 }
 
-// Sends a message from a node that is just made, again from another one as long as the server does not listen. The
-// folder of the node is answered with what the command printed.
-fn send(rt: &HostRuntime) -> io::Result<(PathBuf, Output)> {
+// Sends a message, again as long as the server does not listen. Where it does not, the message is not accepted: the
+// sequence that was asked for is asked for again.
+fn send(rt: &HostRuntime, client: &PathBuf) -> io::Result<Output> {
     for _turn in 0..TRIES {
-        let client = folder(rt, "client")?;
-        run(rt, &client, &["make", "2", CLIENT], b"")?;
-        let output = run(rt, &client, &["send", SERVER], b"<p>1</p>")?;
+        let output = run(rt, client, &["send", SERVER], b"<p>1</p>")?;
         if output.status.code() != Some(LINK_FAULT) {
-            return Ok((client, output));
+            return Ok(output);
         }
-        fs::remove_dir_all(rt, &client)?;
         thread::sleep(rt, Duration::from_millis(10));
     }
     Err(io::Error::from(io::ErrorKind::TimedOut))
