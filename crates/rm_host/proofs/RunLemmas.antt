@@ -49,6 +49,31 @@ one-send words to c sent asks = by-name c named taken
     by-name (Send other) e t = let same : other ≡ to = cc (t.1) in ap Send same
     by-name d e t = absurd (cc (e))
 
+-- names are themselves
+itself : (c : Command) → bytes_eq (name_of c) (name_of c) ≡ true
+itself (Make number address) = refl
+itself c = refl
+
+-- words that ask for two commands have one address at most
+reaches : (words : List (List ℕ)) (c d : Command) → Asks words c → HasTarget c → Asks words d → HasTarget d
+reaches words c d asks target other = by-names c d asks.0 named asks.2 taken target
+  where
+    named : bytes_eq (name_of c) (name_of d) ≡ true
+    named = let same : name_of d ≡ name_of c = cc (asks.1, other.1) in
+        subst (λ n. bytes_eq (name_of c) n ≡ true) (sym same) (itself c)
+
+    taken : Takes d asks.0
+    taken = let same : other.0 ≡ asks.0 = cc (asks.1, other.1) in subst (Takes d) same other.2
+
+    by-names : (c d : Command) (more : List (List ℕ)) → bytes_eq (name_of c) (name_of d) ≡ true → Takes c more
+        → Takes d more → HasTarget c → HasTarget d
+    by-names (Make n a) (Make m b) more e t u target =
+        let same : a ≡ b = cc (t.2.2.2, u.2.2.2) in subst IsReachable same target
+    by-names (Send a) (Send b) more e t u target = let same : a ≡ b = cc (t.1, u.1) in subst IsReachable same target
+    by-names c (Make m b) more e t u target = absurd (cc (e))
+    by-names c (Send b) more e t u target = absurd (cc (e))
+    by-names c d more e t u target = tt
+
 is_send : Command → Bool
 is_send (Send to) = true
 is_send c = false
@@ -69,6 +94,7 @@ pub unread : {T : Type 0} (words : List (List ℕ)) (i : Stream) (e : End) → R
     → Obeys {T = T} words i i (Err e)
 unread words i end.Usage none = record {
   usage = (λ h. none, λ h. refl);
+  address = λ lost. absurd (none (lost.0, lost.1));
   read = λ h. absurd cc;
   unwritten = λ h. absurd cc;
   long = λ h. absurd cc;
@@ -76,14 +102,15 @@ unread words i end.Usage none = record {
 }
 unread words i end.BadAddress c = record {
   usage = (λ h. absurd cc, λ none. absurd (none (c.0, c.1)));
+  address = λ lost. inl refl;
   read = λ h. absurd cc;
   unwritten = λ h. absurd cc;
   long = λ h. absurd cc;
-  short = λ sent.
-      let same = one-send words sent.0 c.0 sent.1 c.1 in absurd (c.2 (subst HasTarget (sym same) sent.2));
+  short = λ sent. absurd (c.2 (reaches words (Send sent.0) c.0 sent.1 sent.2 c.1));
 }
 unread words i end.Memory c = record {
   usage = (λ h. absurd cc, λ none. absurd (none c));
+  address = λ lost. inr refl;
   read = λ h. absurd cc;
   unwritten = λ h. absurd cc;
   long = λ h. absurd cc;
@@ -110,9 +137,10 @@ inside r e inner outer same =
 
 -- a command that reads nothing was asked for
 quiet : {T : Type 0} (words : List (List ℕ)) (c : Command) (i j : Stream) (r : Result T End) → Asks words c
-    → is_outer r ≡ false → ¬ (IsSent words) → Obeys words i j r
-quiet words c i j r asks inner other = record {
+    → HasTarget c → is_outer r ≡ false → ¬ (IsSent words) → Obeys words i j r
+quiet words c i j r asks target inner other = record {
   usage = (λ h. absurd (inside r end.Usage inner refl h), λ none. absurd (none (c, asks)));
+  address = λ lost. absurd (lost.2 (reaches words c lost.0 asks target lost.1));
   read = λ h. absurd (inside r end.ReadFault inner refl h);
   unwritten = λ h. inside r end.WriteFault inner refl h;
   long = λ h. absurd (inside r end.TooLong inner refl h);
@@ -154,7 +182,8 @@ sends : {T : Type 0} (words : List (List ℕ)) (to : List ℕ) (i j : Stream) (r
     → IsReachable to → Took i j r → Obeys words i j r
 sends words to i j r asks target took = record {
   usage = (λ h. absurd (subst (Took i j) h took), λ none. absurd (none (Send to, asks)));
-  read = λ h. subst (Took i j) h took;
+  address = λ lost. absurd (lost.2 (reaches words (Send to) lost.0 asks target lost.1));
+  read = λ h. ((to, asks, target), subst (Took i j) h took);
   unwritten = λ h. subst (Took i j) h took;
   long = λ h. ((to, asks, target), subst (Took i j) h took);
   short = λ sent. too-long i j r took;
@@ -164,7 +193,7 @@ sends words to i j r asks target took = record {
 pub obeys : {T : Type 0} (words : List (List ℕ)) (c : Command) (i j : Stream) (r : Result T End) → Asks words c
     → HasTarget c → Uses c i j r → Obeys words i j r
 obeys words (Send to) i j r asks target uses = sends words to i j r asks target uses
-obeys words c i j r asks target uses = quiet words c i j r asks uses (λ sent.
+obeys words c i j r asks target uses = quiet words c i j r asks target uses (λ sent.
     not-send c sent.0 refl (one-send words sent.0 c sent.1 asks))
 
 -- ---- statuses
@@ -207,6 +236,10 @@ pub refused : {T : Type 0} (words : List (List ℕ)) (x y : Outside) (e : End)
     → IsStatusOf words x y (status_of e)
 refused words x y e o reason = record {
   usage = (λ h. o.usage.0 (ap Err (is-usage e h)), λ none. ap status_of (inner _ e end.Usage (o.usage.1 none)));
+  address = λ lost. elim (o.address lost) [
+    | inl h ↦ inl (ap status_of (inner _ e end.BadAddress h))
+    | inr h ↦ inr (ap status_of (inner _ e end.Memory h))
+  ];
   read = λ h. o.read (ap Err (is-read e h));
   written = λ h. absurd (o.unwritten (ap Err (is-write e h)));
   disk = subst (λ b. HasCause x.faults.disk y.faults.disk b) (is-disk e) reason.disk;
@@ -229,6 +262,7 @@ well : {T : Type 0} (words : List (List ℕ)) (x y : Outside) (text : T) (n : �
     → has_number (0 ∷ 2 ∷ 4 ∷ 5 ∷ 6 ∷ 7 ∷ 8 ∷ 9 ∷ 10 ∷ 11 ∷ []) n ≡ true → IsStatusOf words x y n
 well words x y text n o reason rose other one = record {
   usage = (λ h. absurd (other-than 2 refl h), λ none. let e = o.usage.1 none in absurd cc);
+  address = λ lost. elim (o.address lost) [ | inl h ↦ absurd cc | inr h ↦ absurd cc ];
   read = λ h. absurd (other-than 4 refl h);
   written = rose;
   disk = subst (λ b. HasCause x.faults.disk y.faults.disk b) (sym six) reason.disk;

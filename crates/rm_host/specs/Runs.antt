@@ -8,9 +8,9 @@ use Rattle.rm_disk.specs.Cause.{HasCause}
 use Rattle.rm_disk.specs.Told.{Told}
 use Rattle.rm_link.specs.Lines.{Net}
 use Rattle.rm_host.specs.Ends.{Faults, HasReason, Took, WasTooLong, faults_of, is_outer}
-use Rattle.rm_host.specs.Words.{Asks, IsCommand, IsReachable}
+use Rattle.rm_host.specs.Words.{Asks, IsCommand, IsLost, IsReachable}
 use Rattle.rm_host.specs.declared.end.End.{End}
-use Rattle.rm_host.specs.declared.end.End.TheVariants.{Usage, ReadFault, WriteFault, TooLong, Memory}
+use Rattle.rm_host.specs.declared.end.End.TheVariants.{Usage, ReadFault, WriteFault, TooLong, BadAddress, Memory}
 use Rattle.rm_host.specs.declared.host.Host.{Host}
 use Rattle.rm_host.specs.declared.words.Command.{Command}
 use Rattle.rm_host.specs.declared.words.Command.TheVariants.{Send}
@@ -31,12 +31,13 @@ outside_of seen shown told net input out host =
 abbrev pub IsSent : List (List ℕ) → Type 0
 IsSent words = (to : List ℕ) × Asks words (Send to) × IsReachable to
 
--- Which status comes. Usage comes exactly of words that are no command. A fault comes only where the count of faults of
--- what is to blame rose, that of the disk wherever it did. That a payload is too long comes only where it is, and then
--- always but for a read that failed or wanted memory.
+-- Which status comes. Usage comes exactly of words that are no command, and a command whose address can't be reached is
+-- refused. A fault comes only where the count of faults of what is to blame rose, that of the disk wherever it did. That
+-- a payload is too long comes only where it is, and then always but for a read that failed or wanted memory.
 pub record IsStatusOf (words : List (List ℕ)) (old new : Outside) (status : ℕ) : Type 0 where
   pub usage : (status ≡ 2) ↔ ¬ (IsCommand words)
-  pub read : status ≡ 4 → Rose old.input.faults new.input.faults
+  pub address : IsLost words → (status ≡ 9) ⊎ (status ≡ 10)
+  pub read : status ≡ 4 → IsSent words × Rose old.input.faults new.input.faults
   pub written : status ≡ 5 → Rose old.out.faults new.out.faults
   pub disk : HasCause old.faults.disk new.faults.disk (status == 6)
   pub link : status ≡ 7 → Rose old.faults.link new.faults.link
@@ -55,7 +56,8 @@ Uses command old new result = is_outer result ≡ false
 -- what comes of words, before anything is printed
 pub record Obeys {T : Type 0} (words : List (List ℕ)) (old new : Stream) (result : Result T End) : Type 0 where
   pub usage : (result ≡ Err Usage) ↔ ¬ (IsCommand words)
-  pub read : result ≡ Err ReadFault → Rose old.faults new.faults
+  pub address : IsLost words → (result ≡ Err BadAddress) ⊎ (result ≡ Err Memory)
+  pub read : result ≡ Err ReadFault → IsSent words × Rose old.faults new.faults
   pub unwritten : result ≢ Err WriteFault
   pub long : result ≡ Err TooLong → IsSent words × WasTooLong old new
   pub short : IsSent words → IfSome old.left (λ bytes. limits.payload_bytes < length bytes

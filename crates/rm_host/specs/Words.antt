@@ -83,6 +83,10 @@ HasTarget (Make number address) = IsReachable address
 HasTarget (Send to) = IsReachable to
 HasTarget _ = Unit {0}
 
+-- the words ask for a command whose address can't be reached
+abbrev pub IsLost : List (List ℕ) → Type 0
+IsLost words = (command : Command) × Asks words command × ¬ (HasTarget command)
+
 -- the number of a node that is to be made has at most 60 bits, and is not 0
 abbrev pub IsWithin : Command → Type 0
 IsWithin (Make number address) = (0 < number) × (number < 2 ^ 60)
@@ -93,7 +97,7 @@ IsWithin _ = Unit {0}
 abbrev pub Reads : List (List ℕ) → Result Command End → Type 0
 Reads words (Ok command) = Asks words command × HasTarget command
 Reads words (Err end.Usage) = ¬ (IsCommand words)
-Reads words (Err end.BadAddress) = (command : Command) × Asks words command × ¬ (HasTarget command)
+Reads words (Err end.BadAddress) = IsLost words
 Reads words (Err end.Memory) = IsCommand words
 Reads words (Err e) = ⊥
 
