@@ -1,6 +1,6 @@
 -- Why commands end as they do, step by step.
-use Rattle.std.proofs.Common.{◌≡◌, ◌≢◌, ◌⊎◌, ℕ, ◌≤◌, true, false, refl, sym, subst, inl, inr, arith}
-use Rattle.std.specs.Prelude.{Result, Ok, Err, OnOk}
+use Rattle.std.proofs.Common.{◌≡◌, ◌≢◌, ◌⊎◌, ℕ, ◌≤◌, Bool, true, false, refl, sym, ap, subst, inl, inr, arith}
+use Rattle.std.specs.Prelude.{Result, Err}
 use Rattle.node_store.specs.Mounted.{has_failed}
 use Rattle.node_store.specs.declared.error.MountError.{MountError}
 use Rattle.node_store.specs.declared.error.MountError.TheVariants as mount
@@ -12,9 +12,10 @@ use Rattle.rm_node.specs.declared.call.Call.{Call}
 use Rattle.rm_node.specs.declared.call.Call.TheVariants as call
 use Rattle.rm_node.specs.declared.error.NodeError.{NodeError}
 use Rattle.rm_node.specs.declared.error.NodeError.TheVariants as node
-use Rattle.rm_host.specs.Ends.{Faults, HasReason, is_disk_fault, is_link_fault, is_outer, mount_end, node_end}
+use Rattle.rm_host.specs.Ends.{Faults, HasReason, Reason, is_disk_end, is_disk_fault, is_link_end, is_link_fault}
+use Rattle.rm_host.specs.Ends.{is_outer, mount_end, node_end}
 use Rattle.rm_host.specs.declared.end.End.{End}
-use Rattle.rm_host.specs.declared.end.End.TheVariants.{LinkFault}
+use Rattle.rm_host.specs.declared.end.End.TheVariants.{Memory}
 
 -- ---- counts that rose
 
@@ -28,46 +29,50 @@ rose-after a b c (inr r) h = inr (omega (arith, h, r))
 
 -- ---- one step after another
 
-later : {T : Type 0} (a b c : ℕ) (r : Result T End) → a ≤ b → OnOk r (b ≤ c) → OnOk r (a ≤ c)
-later a b c (Ok x) h k = omega (arith, h, k)
-later a b c (Err e) h k = tt
-
-still : {T : Type 0} (a b : ℕ) (r : Result T End) → a ≤ b → OnOk r (a ≤ b)
-still a b (Ok x) h = h
-still a b (Err e) h = tt
-
 -- a step after one that went well
-pub then : {A B : Type 0} (f g h : Faults) (x : A) (r : Result B End) → HasReason {T = A} f g (Ok x)
-    → HasReason g h r → HasReason f h r
-then f g h x r first after = record {
-  disk = subst (λ n. HasCause n h.disk (is_disk_fault r)) first.disk.cause after.disk;
-  link = λ e. rose-before f.link g.link h.link first.later (after.link e);
-  later = later f.link g.link h.link r first.later after.later;
+pub then : (f g h : Faults) (broke lost ok : Bool) → Reason f g false false true → Reason g h broke lost ok
+    → Reason f h broke lost ok
+then f g h broke lost ok first after = record {
+  disk = subst (λ n. HasCause n h.disk broke) first.disk.cause after.disk;
+  link = λ e. rose-before f.link g.link h.link (first.later refl) (after.link e);
+  later = λ e. omega (arith, first.later refl, after.later e);
 }
 
 -- another end than a fault, after a step that went well
-pub ends : {A B : Type 0} (f g : Faults) (x : A) (r : Result B End) → HasReason {T = A} f g (Ok x)
-    → is_disk_fault r ≡ false → is_link_fault r ≡ false → HasReason f g r
-ends f g x r first disk link = record {
+pub ends : {T : Type 0} (f g : Faults) (r : Result T End) → Reason f g false false true → is_disk_fault r ≡ false
+    → is_link_fault r ≡ false → HasReason f g r
+ends f g r first disk link = record {
   disk = subst (λ b. HasCause f.disk g.disk b) (sym disk) first.disk;
-  link = λ e. absurd cc;
-  later = still f.link g.link r first.later;
+  link = λ e. absurd (cc (e, link));
+  later = λ e. first.later refl;
 }
 
+-- want of memory, after a step that went well
+pub wants : {T : Type 0} (f g : Faults) (r : Result T End) → r ≡ Err Memory → Reason f g false false true
+    → HasReason f g r
+wants f g r same first = ends f g r first (ap is_disk_fault same) (ap is_link_fault same)
+
 -- a fault of the link, where its count rose in a step that went well
-pub ends-linked : {A B : Type 0} (f g : Faults) (x : A) → HasReason {T = A} f g (Ok x) → Rose f.link g.link
-    → HasReason {T = B} f g (Err LinkFault)
-ends-linked f g x first rose = record { disk = first.disk; link = λ e. rose; later = tt }
+pub lost : (f g : Faults) → Reason f g false false true → Rose f.link g.link → Reason f g false true false
+lost f g first rose = record { disk = first.disk; link = λ e. rose; later = λ e. absurd cc }
+
+-- the error of a step that is handed on, after one that went well
+pub hands : {T : Type 0} (f g h : Faults) (e : End) (r : Result T End) → r ≡ Err e → Reason f g false false true
+    → Reason g h (is_disk_end e) (is_link_end e) false → HasReason f h r
+hands f g h e r same first after =
+    subst (λ x. HasReason f h x) (sym same)
+    (then f g h (is_disk_end e) (is_link_end e) false first after)
 
 -- ---- a call of the node failed
 
 -- as a call of a node that is up does
-pub call-fails : {T : Type 0} (f g : Faults) (e : NodeError) → e ≢ node.Down
-    → HasCause f.disk g.disk (is_disk {T = Unit {0}} (Err e)) → HasReason {T = T} f g (Err (node_end e))
-call-fails f g node.Memory up cause = record { disk = cause; link = λ e. absurd cc; later = tt }
-call-fails f g node.Disk up cause = record { disk = cause; link = λ e. absurd cc; later = tt }
+pub call-fails : (f g : Faults) (e : NodeError) → e ≢ node.Down
+    → HasCause f.disk g.disk (is_disk {T = Unit {0}} (Err e))
+    → Reason f g (is_disk_end (node_end e)) (is_link_end (node_end e)) false
+call-fails f g node.Memory up cause = record { disk = cause; link = λ h. absurd cc; later = λ h. absurd cc }
+call-fails f g node.Disk up cause = record { disk = cause; link = λ h. absurd cc; later = λ h. absurd cc }
 call-fails f g node.Down up cause = absurd (up refl)
-call-fails f g (node.Refused why) up cause = record { disk = cause; link = λ e. absurd cc; later = tt }
+call-fails f g (node.Refused why) up cause = record { disk = cause; link = λ h. absurd cc; later = λ h. absurd cc }
 
 pub call-ends : {T : Type 0} (f g : Faults) (e : NodeError) (r : Result T End) → r ≡ Err (node_end e)
     → e ≢ node.Down → HasCause f.disk g.disk (is_disk {T = Unit {0}} (Err e)) → HasReason f g r
@@ -88,11 +93,11 @@ made-awake e (inl wants) down = absurd cc
 made-awake e (inr fails) down = absurd cc
 
 -- as a mount does
-pub mount-fails : {T : Type 0} (f g : Faults) (e : MountError)
-    → HasCause f.disk g.disk (has_failed {T = Unit {0}} (Err e)) → HasReason {T = T} f g (Err (mount_end e))
-mount-fails f g mount.Memory cause = record { disk = cause; link = λ e. absurd cc; later = tt }
-mount-fails f g mount.Disk cause = record { disk = cause; link = λ e. absurd cc; later = tt }
-mount-fails f g mount.NotAJournal cause = record { disk = cause; link = λ e. absurd cc; later = tt }
+pub mount-fails : (f g : Faults) (e : MountError) → HasCause f.disk g.disk (has_failed {T = Unit {0}} (Err e))
+    → Reason f g (is_disk_end (mount_end e)) (is_link_end (mount_end e)) false
+mount-fails f g mount.Memory cause = record { disk = cause; link = λ h. absurd cc; later = λ h. absurd cc }
+mount-fails f g mount.Disk cause = record { disk = cause; link = λ h. absurd cc; later = λ h. absurd cc }
+mount-fails f g mount.NotAJournal cause = record { disk = cause; link = λ h. absurd cc; later = λ h. absurd cc }
 
 pub mount-inner : (e : MountError) → is_outer {T = Unit {0}} (Err (mount_end e)) ≡ false
 mount-inner mount.Memory = refl

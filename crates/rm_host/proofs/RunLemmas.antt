@@ -8,7 +8,8 @@ use Rattle.rm_base.specs.Limits as limits
 use Rattle.rm_base.specs.NumberSet.{has_number}
 use Rattle.rm_base.specs.Outside.{Stream}
 use Rattle.rm_disk.specs.Cause.{HasCause}
-use Rattle.rm_host.specs.Ends.{Faults, HasReason, Took, is_disk_fault, is_link_fault, is_outer, status_of}
+use Rattle.rm_host.specs.Ends.{Faults, HasReason, Reason, Took, is_disk_end, is_disk_fault, is_link_end, is_link_fault}
+use Rattle.rm_host.specs.Ends.{is_outer, status_of}
 use Rattle.rm_host.specs.Runs.{IsSent, IsStatusOf, Obeys, Outside, PrintsAt, Uses}
 use Rattle.rm_host.specs.Words.{Asks, HasTarget, IsReachable, IsWithin, Reads, Takes, name_of}
 use Rattle.rm_host.specs.declared.end.End.{End}
@@ -119,14 +120,14 @@ unread words i end.Memory c = record {
 unread words i e read = absurd read
 
 -- and nothing has failed
-pub unread-reason : {T : Type 0} (f : Faults) (words : List (List ℕ)) (e : End) → Reads words (Err e)
-    → HasReason {T = T} f f (Err e)
+pub unread-reason : (f : Faults) (words : List (List ℕ)) (e : End) → Reads words (Err e)
+    → Reason f f (is_disk_end e) (is_link_end e) false
 unread-reason f words end.Usage read =
-    record { disk = record { later = omega arith; cause = refl }; link = λ h. absurd cc; later = tt }
+    record { disk = record { later = omega arith; cause = refl }; link = λ h. absurd cc; later = λ h. absurd cc }
 unread-reason f words end.BadAddress read =
-    record { disk = record { later = omega arith; cause = refl }; link = λ h. absurd cc; later = tt }
+    record { disk = record { later = omega arith; cause = refl }; link = λ h. absurd cc; later = λ h. absurd cc }
 unread-reason f words end.Memory read =
-    record { disk = record { later = omega arith; cause = refl }; link = λ h. absurd cc; later = tt }
+    record { disk = record { later = omega arith; cause = refl }; link = λ h. absurd cc; later = λ h. absurd cc }
 unread-reason f words e read = absurd read
 
 -- of an error that isn't outside

@@ -1,5 +1,5 @@
 -- How a command of a node ends, and why.
-use Rattle.std.specs.Prelude.{◌≡◌, ℕ, ◌+◌, ◌<◌, ◌≤◌, Bool, true, false, List, Result, Ok, Err, OnOk, IfSome, length}
+use Rattle.std.specs.Prelude.{◌≡◌, ℕ, ◌+◌, ◌<◌, ◌≤◌, Bool, true, false, List, Result, Ok, Err, IfSome, is_ok, length}
 use Rattle.call_answers.specs.declared.answer.Cause.{Cause}
 use Rattle.node_store.specs.declared.error.MountError.{MountError}
 use Rattle.node_store.specs.declared.error.MountError.TheVariants as mount
@@ -43,24 +43,39 @@ mount_end mount.Memory = Memory
 mount_end mount.Disk = DiskFault
 mount_end mount.NotAJournal = NotAJournal
 
+-- by a fault of the disk
+abbrev pub is_disk_end : End → Bool
+is_disk_end DiskFault = true
+is_disk_end _ = false
+
+-- by a fault of the link
+abbrev pub is_link_end : End → Bool
+is_link_end LinkFault = true
+is_link_end _ = false
+
+-- by the words, or by what is read or printed
+abbrev pub is_outer_end : End → Bool
+is_outer_end Usage = true
+is_outer_end ReadFault = true
+is_outer_end WriteFault = true
+is_outer_end TooLong = true
+is_outer_end BadAddress = true
+is_outer_end _ = false
+
 -- the disk is to blame
 abbrev pub is_disk_fault : {T : Type 0} → Result T End → Bool
-is_disk_fault (Err DiskFault) = true
-is_disk_fault _ = false
+is_disk_fault (Ok x) = false
+is_disk_fault (Err e) = is_disk_end e
 
 -- the link is to blame
 abbrev pub is_link_fault : {T : Type 0} → Result T End → Bool
-is_link_fault (Err LinkFault) = true
-is_link_fault _ = false
+is_link_fault (Ok x) = false
+is_link_fault (Err e) = is_link_end e
 
 -- the words are to blame, or what is read or printed
 abbrev pub is_outer : {T : Type 0} → Result T End → Bool
-is_outer (Err Usage) = true
-is_outer (Err ReadFault) = true
-is_outer (Err WriteFault) = true
-is_outer (Err TooLong) = true
-is_outer (Err BadAddress) = true
-is_outer _ = false
+is_outer (Ok x) = false
+is_outer (Err e) = is_outer_end e
 
 -- how often calls of a host's disk have failed, and calls of its link
 pub record Faults : Type 0 where
@@ -71,12 +86,16 @@ pub record Faults : Type 0 where
 abbrev pub faults_of : {D L C : Type 0} → (D → Told) → (L → Net) → Host D L C → Faults
 faults_of told net host = record { disk = (told host.disk).faults; link = (net host.link).faults }
 
--- Why a command ends so: the disk's count of faults rose exactly where the disk is to blame, and the link's did where
--- the link is.
-pub record HasReason {T : Type 0} (old new : Faults) (result : Result T End) : Type 0 where
-  pub disk : HasCause old.disk new.disk (is_disk_fault result)
-  pub link : is_link_fault result ≡ true → Rose old.link new.link
-  pub later : OnOk result (old.link ≤ new.link)
+-- Why something ends so: the disk's count of faults rose exactly where the disk is to blame, and the link's did where
+-- the link is. Where all went well the link's never fell.
+pub record Reason (old new : Faults) (broke lost ok : Bool) : Type 0 where
+  pub disk : HasCause old.disk new.disk broke
+  pub link : lost ≡ true → Rose old.link new.link
+  pub later : ok ≡ true → old.link ≤ new.link
+
+-- why a command ends so
+abbrev pub HasReason : {T : Type 0} → Faults → Faults → Result T End → Type 0
+HasReason old new result = Reason old new (is_disk_fault result) (is_link_fault result) (is_ok result)
 
 -- more bytes than a payload has were taken, and there were more, where that is known
 pub record WasTooLong (old new : Stream) : Type 0 where

@@ -9,6 +9,7 @@ use Rattle.rm_node.specs.declared.error.NodeError.{NodeError}
 use Rattle.rm_node.specs.declared.error.NodeError.TheVariants as error
 use Rattle.rm_node.specs.declared.packets.Out.{Out}
 use Rattle.rm_node.specs.declared.step.Reaction.{Reaction}
+use Rattle.rm_serve.specs.Limits as limits
 use Rattle.rm_serve.specs.Reacts.{Reacts, broke, crashed, reacted, slept, starving, took}
 use Rattle.rm_serve.specs.Posts.{Goes, Hears, HearsBy, Posting, Takes, heard_of, none_posted, with_post}
 use Rattle.rm_serve.specs.Posts.{all, asleep, broken, down, empty, failed, lost, over, quiet, starved, taken, wanting}
@@ -102,17 +103,17 @@ pub record Far (tells : Bool) (moment : ℕ) (first now : Place) (outs queue : L
   pub makes : MakesAll tells first now steps
   pub goes : (new : Net) (more : List Step) (result : Result Posted NodeError)
       → Posting moment left queue posted mid new more result
-      → Posting moment 256 outs none_posted old new (steps ++ more) result
+      → Posting moment limits.most_posts outs none_posted old new (steps ++ more) result
 
 -- nothing yet
 pub far-first : (tells : Bool) (moment : ℕ) (first now : Place) (outs queue : List Out) (net : Net)
     → Stays tells first now → queue ≡ outs
-    → Far tells moment first now outs queue none_posted 256 net net
+    → Far tells moment first now outs queue none_posted limits.most_posts net net
 far-first tells moment first now outs queue net stays same = record {
   steps = [];
   makes = no-step tells first now stays;
   goes = λ new more result after.
-      subst (λ (q : List Out). Posting moment 256 q none_posted net new more result) same after;
+      subst (λ (q : List Out). Posting moment limits.most_posts q none_posted net new more result) same after;
 }
 
 -- one packet more
@@ -126,7 +127,7 @@ far-on tells moment first mid now outs queue rest more out posted next left less
       steps = far.steps ++ steps;
       makes = then-all tells first mid now far.steps steps far.makes makes;
       goes = λ new more_steps result after.
-          subst (λ (s : List Step). Posting moment 256 outs none_posted old new s result)
+          subst (λ (s : List Step). Posting moment limits.most_posts outs none_posted old new s result)
           (sym (append_assoc far.steps steps more_steps))
           (far.goes new (steps ++ more_steps) result
           (subst (λ (n : ℕ). Posting moment n queue posted was new (steps ++ more_steps) result) (sym one)
@@ -142,7 +143,8 @@ one-more (suc n) above = let e : suc n - 1 ≡ n = omega arith in rw e refl
 -- what the whole comes to, by what is posted from here on
 abbrev pub Whole : Bool → ℕ → Place → Place → List Out → Net → Net → Result Posted NodeError → Type 0
 Whole tells moment first last outs old new result =
-    (steps : List Step) × MakesAll tells first last steps × Posting moment 256 outs none_posted old new steps result
+    (steps : List Step) × MakesAll tells first last steps
+    × Posting moment limits.most_posts outs none_posted old new steps result
 
 far-end : (tells : Bool) (moment : ℕ) (first now last : Place) (outs queue : List Out) (posted : Posted) (left : ℕ)
     (old mid new : Net) (steps : List Step) (result : Result Posted NodeError)

@@ -3,6 +3,7 @@ ghost use Rattle.std.specs.Prelude.{◌≡◌, ◌≤◌, ◌<◌, ◌+◌, ◌+
 ghost use Rattle.std.specs.Option.{option_map};
 ghost use Rattle.rm_disk.specs.Cause.{HasCause};
 ghost use Rattle.rm_node.specs.Ends.{is_disk};
+ghost use Rattle.rm_serve.specs.Limits.{most_posts};
 ghost use Rattle.rm_serve.specs.Posts.{Goes, Hears, IsNext, Posting, Takes, heard_of, none_posted, with_post};
 ghost use Rattle.rm_serve.specs.Steps.{IsReady, MakesAll, Step, place_of};
 
@@ -23,7 +24,7 @@ pub struct Posted {
 }
 
 /// How many packets one `post_due` handles.
-const MOST: u32 = 256;
+const MOST_POSTS: u32 = 256;
 
 /// Posts packets, one after the other, and gives each response that has a body to the node. What the node hands out
 /// then is posted too, up to 256 packets in all.
@@ -38,7 +39,7 @@ pub fn post_due<D: Disk, L: Link>(
     requires ready { IsReady D.tells (place_of (D.told disk.old) node.old) }
     ensures posts { (steps : List Step) × MakesAll D.tells (place_of (D.told disk.old) node.old)
         (place_of (D.told disk.new) node.new) steps
-        × Posting now 256 outs none_posted
+        × Posting now most_posts outs none_posted
         (L.told link.old)
         (L.told link.new) steps result }
     ensures ready { IsReady D.tells (place_of (D.told disk.new) node.new) }
@@ -53,7 +54,7 @@ pub fn post_due<D: Disk, L: Link>(
         missed: 0,
         undialled: 0,
     };
-    let mut left = MOST;
+    let mut left = MOST_POSTS;
     while left > 0 {
         match next_packet(&mut queue) {
             Some(out) => {
@@ -85,7 +86,7 @@ fn post_one<D: Disk, L: Link>(
     posted: Posted,
 ) -> Result<Posted, NodeError>
     requires ready { IsReady D.tells (place_of (D.told disk.old) node.old) }
-    requires room { posted.sent + posted.missed < 256 }
+    requires room { posted.sent + posted.missed < most_posts }
     requires dials { posted.undialled ≤ posted.missed }
     ensures goes { (steps : List Step) × MakesAll D.tells (place_of (D.told disk.old) node.old)
         (place_of (D.told disk.new) node.new) steps
@@ -107,7 +108,7 @@ fn post_one<D: Disk, L: Link>(
 
 // A packet more.
 fn counted(fate: &Fate, posted: Posted) -> Posted
-    requires room { posted.sent + posted.missed < 256 }
+    requires room { posted.sent + posted.missed < most_posts }
     requires dials { posted.undialled ≤ posted.missed }
     ensures is { result ≡ with_post fate.now posted }
     ensures count { result.sent + result.missed ≡ posted.sent + posted.missed + 1 }

@@ -1,6 +1,6 @@
-use Rattle.std.proofs.Common.{Ok}
+use Rattle.std.proofs.Common.{false, true}
 use Rattle.rm_serve.specs.Steps.{IsUp, place_of}
-use Rattle.rm_host.specs.Ends.{HasReason, faults_of}
+use Rattle.rm_host.specs.Ends.{Reason, faults_of}
 use Rattle.rm_host.proofs.serve.serve.Given as goal
 
 abbrev pub invariant-loop-left : goal.invariant-loop-left
@@ -9,7 +9,7 @@ invariant-loop-left g l =
     let faults = faults_of told g.L.Link.told in
     record {
       up : IsUp g.D.Disk.tells (place_of (told l.host.disk) l.node);
-      reason : HasReason {T = Unit {0}} (faults l.fn.host) (faults l.host) (Ok tt);
+      reason : Reason (faults l.fn.host) (faults l.host) false false true;
     }
 
 abbrev pub decreases-loop-left : goal.decreases-loop-left

@@ -3,6 +3,7 @@ use Rattle.std.specs.Prelude.{Result}
 use Rattle.std.proofs.lemmas.Result.{err_from_is_err_and}
 use Rattle.rm_node.specs.declared.error.NodeError.{NodeError}
 use Rattle.rm_node.specs.declared.packets.Out.{Out}
+use Rattle.rm_serve.specs.Limits as limits
 use Rattle.rm_serve.specs.Posts.{Posting, none_posted, wanting}
 use Rattle.rm_serve.specs.Steps.{place_of}
 use Rattle.rm_serve.specs.declared.posting.Posted.{Posted}
@@ -17,8 +18,8 @@ returns-in_err-push_all-clause-posts g c =
     let net = g.L.Link.told c.args.link.now in (
       [],
       no-step g.D.Disk.tells x x (record { node = refl; told = λ t. refl }),
-      subst (λ (r : Result Posted NodeError). Posting c.args.now 256 c.args.outs none_posted net net [] r)
-          (sym (p.1 ∙ ap Err p.2)) (wanting 256 c.args.outs none_posted net net),
+      subst (λ (r : Result Posted NodeError). Posting c.args.now limits.most_posts c.args.outs none_posted net net [] r)
+          (sym (p.1 ∙ ap Err p.2)) (wanting limits.most_posts c.args.outs none_posted net net),
     )
 
 pub loop-left-init : goal.loop-left-init
