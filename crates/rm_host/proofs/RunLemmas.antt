@@ -263,7 +263,7 @@ well : {T : Type 0} (words : List (List ℕ)) (x y : Outside) (text : T) (n : �
     → has_number (0 ∷ 2 ∷ 4 ∷ 5 ∷ 6 ∷ 7 ∷ 8 ∷ 9 ∷ 10 ∷ 11 ∷ []) n ≡ true → IsStatusOf words x y n
 well words x y text n o reason rose other one = record {
   usage = (λ h. absurd (other-than 2 refl h), λ none. let e = o.usage.1 none in absurd cc);
-  address = λ lost. elim (o.address lost) [ | inl h ↦ absurd cc | inr h ↦ absurd cc ];
+  address = λ lost. elim (o.address lost) [ inl h ↦ absurd cc | inr h ↦ absurd cc ];
   read = λ h. absurd (other-than 4 refl h);
   written = rose;
   disk = subst (λ b. HasCause x.faults.disk y.faults.disk b) (sym six) reason.disk;

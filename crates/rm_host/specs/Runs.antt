@@ -32,8 +32,8 @@ abbrev pub IsSent : List (List ℕ) → Type 0
 IsSent words = (to : List ℕ) × Asks words (Send to) × IsReachable to
 
 -- Which status comes. Usage comes exactly of words that are no command, and a command whose address can't be reached is
--- refused. A fault comes only where the count of faults of what is to blame rose, that of the disk wherever it did. That
--- a payload is too long comes only where it is, and then always but for a read that failed or wanted memory.
+-- refused. A fault comes only where the count of faults of what is to blame rose, that of the disk wherever it did.
+-- That a payload is too long comes only where it is, and then always but for a read that failed or wanted memory.
 pub record IsStatusOf (words : List (List ℕ)) (old new : Outside) (status : ℕ) : Type 0 where
   pub usage : (status ≡ 2) ↔ ¬ (IsCommand words)
   pub address : IsLost words → (status ≡ 9) ⊎ (status ≡ 10)

@@ -1,7 +1,8 @@
 //! The commands `make`, `push`, `close`, `end` and `inbox`.
-ghost use Rattle.std.specs.Prelude.{◌≡◌, ◌<◌, ◌^◌, false};
+ghost use Rattle.std.specs.Prelude.{◌≡◌, ◌<◌, ◌^◌, ◌++◌, IfOk, OnOk, false};
 ghost use Rattle.rm_serve.specs.Steps.{IsUp, place_of};
 ghost use Rattle.rm_host.specs.Ends.{HasReason, faults_of, is_disk_fault, is_link_fault, is_outer};
+ghost use Rattle.rm_host.specs.Texts.{item_line, posted_line};
 
 use crate::calls::{ask, make_node, mount, post_all};
 use crate::end::End;
@@ -105,7 +106,9 @@ fn told<D: Disk, L: Link, C>(
     Ok(posted_text(alloc, posted)?)
 }
 
-fn posted_text(alloc: Global, posted: Posted) -> Result<Blob, Memory> {
+fn posted_text(alloc: Global, posted: Posted) -> Result<Blob, Memory>
+    ensures { IfOk result (λ text. text ≡ posted_line posted) }
+{
     let mut text = Blob::from_slice(alloc, b"posted ")?;
     push_decimal(&mut text, u64::from(posted.sent))?;
     text.push_all(b" missed ")?;
@@ -158,7 +161,9 @@ fn items_text(alloc: Global, seq: u32, incoming: &Incoming) -> Result<Blob, Memo
     Ok(text)
 }
 
-fn push_item(text: &mut Blob, seq: u32, number: u64, bytes: &[u8]) -> Result<(), Memory> {
+fn push_item(text: &mut Blob, seq: u32, number: u64, bytes: &[u8]) -> Result<(), Memory>
+    ensures { OnOk result (text.new ≡ text.old ++ item_line seq number bytes.now) }
+{
     text.push_all(b"item ")?;
     push_decimal(text, u64::from(seq))?;
     text.push_all(b" ")?;

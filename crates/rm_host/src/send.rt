@@ -3,6 +3,7 @@ ghost use Rattle.std.specs.Prelude.{◌≡◌, ◌<◌, IfOk, OnOk, false};
 ghost use Rattle.rm_base.specs.Count.{Rose};
 ghost use Rattle.rm_serve.specs.Steps.{IsUp, place_of};
 ghost use Rattle.rm_host.specs.Ends.{HasReason, Took, faults_of, is_outer};
+ghost use Rattle.rm_host.specs.Texts.{acked_words, sent_line};
 
 use crate::calls::{accept_payload, ask, create, mount, post, post_all};
 use crate::end::End;
@@ -167,15 +168,23 @@ fn has(ranges: &[ack_ranges::Range], number: u64) -> bool {
         .any(|range| range.lower <= number && number <= range.upper)
 }
 
-fn sent_text(alloc: Global, seq: u32, number: u64, acked: bool) -> Result<Blob, Memory> {
+fn sent_text(alloc: Global, seq: u32, number: u64, acked: bool) -> Result<Blob, Memory>
+    ensures { IfOk result (λ text. text ≡ sent_line seq number acked) }
+{
     let mut text = Blob::from_slice(alloc, b"accepted ")?;
     push_decimal(&mut text, u64::from(seq))?;
     text.push_all(b" ")?;
     push_decimal(&mut text, number)?;
-    text.push_all(if acked {
+    text.push_all(acked_words(acked))?;
+    Ok(text)
+}
+
+fn acked_words(acked: bool) -> &'static [u8]
+    ensures { result.now ≡ acked_words acked }
+{
+    if acked {
         b" acked yes\n"
     } else {
         b" acked no\n"
-    })?;
-    Ok(text)
+    }
 }

@@ -2,6 +2,7 @@
 ghost use Rattle.std.specs.Prelude.{◌≡◌, IfOk, OnOk, false};
 ghost use Rattle.rm_serve.specs.Steps.{IsUp, place_of};
 ghost use Rattle.rm_host.specs.Ends.{HasReason, faults_of, is_outer};
+ghost use Rattle.rm_host.specs.Texts.{served_line};
 
 use crate::calls::{ask, mount, post, serve_conn};
 use crate::end::End;
@@ -127,7 +128,9 @@ fn joined(first: Outs, then: Outs) -> Result<Outs, Memory> {
     Ok(all)
 }
 
-fn tally_text(alloc: Global, tally: Tally) -> Result<Blob, Memory> {
+fn tally_text(alloc: Global, tally: Tally) -> Result<Blob, Memory>
+    ensures { IfOk result (λ text. text ≡ served_line tally.done tally.dropped) }
+{
     let mut text = Blob::from_slice(alloc, b"served ")?;
     push_decimal(&mut text, tally.done)?;
     text.push_all(b" dropped ")?;

@@ -27,13 +27,13 @@ returns-clause-up g c =
 pub returns-clause-reason : goal.returns-clause-reason
 returns-clause-reason g c =
     let net = g.L.Link.told in
-    let d = dials c.args.now limits.most_posts c.args.outs none_posted c.in_ok-post_due.field-0 (net c.args.host.now.link)
-    (net c.post_due.new.link) _ _ c.in_ok-post_due.ensures.posts.2 refl in
+    let d = dials c.args.now limits.most_posts c.args.outs none_posted c.in_ok-post_due.field-0
+    (net c.args.host.now.link) (net c.post_due.new.link) _ _ c.in_ok-post_due.ensures.posts.2 refl in
     record { disk = c.in_ok-post_due.ensures.cause; link = λ e. absurd cc; later = λ e. d.later }
 
 pub returns-clause-undialled : goal.returns-clause-undialled
 returns-clause-undialled g c =
     let net = g.L.Link.told in
-    let d = dials c.args.now limits.most_posts c.args.outs none_posted c.in_ok-post_due.field-0 (net c.args.host.now.link)
-    (net c.post_due.new.link) _ _ c.in_ok-post_due.ensures.posts.2 refl in
+    let d = dials c.args.now limits.most_posts c.args.outs none_posted c.in_ok-post_due.field-0
+    (net c.args.host.now.link) (net c.post_due.new.link) _ _ c.in_ok-post_due.ensures.posts.2 refl in
     d.rose

@@ -1,0 +1,60 @@
+-- What a node's commands print.
+use Rattle.std.specs.Prelude.{ℕ, Bool, true, false, List, [], ◌++◌, codes, decimal}
+use Rattle.hex.specs.Hex.{encode_lower}
+use Rattle.call_answers.specs.declared.answer.Cause.{Cause}
+use Rattle.call_answers.specs.declared.answer.Cause.TheVariants as cause
+use Rattle.rm_serve.specs.declared.posting.Posted.{Posted}
+use Rattle.rm_host.specs.declared.end.End.{End}
+use Rattle.rm_host.specs.declared.end.End.TheVariants.{Usage, ReadFault, WriteFault, DiskFault, LinkFault, TooLong}
+use Rattle.rm_host.specs.declared.end.End.TheVariants.{BadAddress, NotEmpty, Refused, Memory, NotAJournal}
+
+-- the name of why a node refuses a call
+abbrev pub cause_name : Cause → List ℕ
+cause_name cause.NoSequence = codes "UnknownSequence"
+cause_name cause.WrongSide = codes "WrongSide"
+cause_name (cause.PayloadTooLong length) = codes "PayloadTooLong"
+cause_name cause.BadPayload = codes "BadPayload"
+cause_name cause.NotOpen = codes "NotOpen"
+cause_name (cause.WindowFull unacked) = codes "WindowFull"
+cause_name (cause.NodeFull unacked) = codes "NodeFull"
+cause_name cause.Rollover = codes "Rollover"
+cause_name (cause.TooManySequences count) = codes "TooManySequences"
+cause_name (cause.StoreFull end needed) = codes "StoreFull"
+
+-- the line of a refusal
+abbrev pub line_of : End → List ℕ
+line_of Usage =
+    codes "usage: wsrm check,replay,soak,make,serve,send,push,close,end,inbox,"
+    ++ codes "policy,compact,consume,import,normal,intersect\n"
+line_of ReadFault = codes "read fault\n"
+line_of WriteFault = []
+line_of DiskFault = codes "disk fault\n"
+line_of LinkFault = codes "link fault\n"
+line_of TooLong = codes "too long\n"
+line_of BadAddress = codes "refused BadAddress\n"
+line_of NotEmpty = codes "refused NotEmpty\n"
+line_of (Refused cause) = codes "refused " ++ cause_name cause ++ codes "\n"
+line_of Memory = []
+line_of NotAJournal = codes "not a journal\n"
+
+-- what push, close and end print: how many packets were posted, and how many missed
+abbrev pub posted_line : Posted → List ℕ
+posted_line posted = codes "posted " ++ decimal posted.sent ++ codes " missed " ++ decimal posted.missed ++ codes "\n"
+
+-- what serve prints: how many connections were served well, and how many given up
+abbrev pub served_line : ℕ → ℕ → List ℕ
+served_line done dropped = codes "served " ++ decimal done ++ codes " dropped " ++ decimal dropped ++ codes "\n"
+
+-- whether a message is acknowledged
+abbrev pub acked_words : Bool → List ℕ
+acked_words true = codes " acked yes\n"
+acked_words false = codes " acked no\n"
+
+-- what send prints: the sequence, the number of the message, and whether it is acknowledged
+abbrev pub sent_line : ℕ → ℕ → Bool → List ℕ
+sent_line seq number acked = codes "accepted " ++ decimal seq ++ codes " " ++ decimal number ++ acked_words acked
+
+-- what inbox prints of an item
+abbrev pub item_line : ℕ → ℕ → List ℕ → List ℕ
+item_line seq number payload =
+    codes "item " ++ decimal seq ++ codes " " ++ decimal number ++ codes " " ++ encode_lower payload ++ codes "\n"
