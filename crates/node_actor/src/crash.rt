@@ -21,7 +21,7 @@ use rm_node::{Node, NodeError};
 use std::alloc::Global;
 
 impl Actor {
-    /// Makes a node with this number and address on a disk that isn't armed.
+    /// Makes a node with this number and address on a disk that isn't armed, and leaves it so.
     pub fn make<D: CrashDisk>(
         alloc: Global,
         disk: &mut D,
@@ -34,6 +34,7 @@ impl Actor {
         ensures made { IfOk result (λ actor. Stands (made number address)
             (D.told disk.new) actor) }
         ensures wanted { OnErr result (WasNotMade (D.told disk.old).past (D.told disk.new).past) }
+        ensures fuse { (D.told disk.new).fuse ≡ None }
         ensures faults { (D.told disk.new).faults ≡ (D.told disk.old).faults }
         ensures crashes { crashes_of (D.told disk.new).past ≡ crashes_of (D.told disk.old).past }
     {

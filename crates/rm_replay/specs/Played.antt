@@ -14,7 +14,7 @@ use Rattle.node_summary.specs.Summary.{node_text}
 use Rattle.rm_replay.specs.Asked.{WereSpared}
 use Rattle.rm_replay.specs.Meaning.{Means, comes_out, report_of, stepped}
 use Rattle.rm_replay.specs.Sent.{AcceptedIsSent}
-use Rattle.rm_replay.specs.Shows.{Drives, Holds, IsCut, Scene, address_one, address_two}
+use Rattle.rm_replay.specs.Shows.{Drives, Holds, IsCut, IsFresh, Scene, address_one, address_two}
 use Rattle.rm_replay.specs.Tales.{Tale, Tells, joined, tale_of}
 
 -- two nodes that were just made
@@ -92,10 +92,10 @@ pub record IsSecondUnmade (first now : Drives) : Type 0 where
   pub one : Leaves start_world.one now.one.disk.past
   pub two : WasNotMade first.two.disk.past now.two.disk.past
 
--- Memory was wanting for a node that was to be made, and no line was played: there is no packet, and neither disk had
--- a crash or a fault.
+-- Memory was wanting for a node that was to be made, and no line was played: neither disk is armed, there is no packet,
+-- and neither disk had a crash or a fault.
 pub record IsUnmade (first now : Scene) : Type 0 where
-  pub silent : now.packets ≡ []
+  pub fresh : IsFresh now
   pub spared : WereSpared first.drives now.drives
   pub which : IsFirstUnmade first.drives now.drives ⊎ IsSecondUnmade first.drives now.drives
 

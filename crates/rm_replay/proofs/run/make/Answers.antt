@@ -9,7 +9,11 @@ returns-in_err-two-clause-unmade g c =
     let r = c.from_residual-in_err-two in
     let p = err_from_is_err_and r.result r.ensures.1 in
     rw p.1 (record {
-      silent = c.requires.fresh.silent;
+      fresh = record {
+        one = c.in_ok-one.ensures.fuse;
+        two = c.in_err-two.ensures.fuse;
+        silent = c.requires.fresh.silent;
+      };
       spared = record {
         one = spared_by _ _ c.in_ok-one.ensures.crashes c.in_ok-one.ensures.faults;
         two = spared_by _ _ c.in_err-two.ensures.crashes c.in_err-two.ensures.faults;
