@@ -1,7 +1,7 @@
 //! One run for all commands, over any input and output, any stage, any disk, link and clock.
-ghost use Rattle.std.specs.Prelude.{◌≡◌, ◌↔◌, IfSome, false, true};
+ghost use Rattle.std.specs.Prelude.{◌≡◌, ◌⊎◌, ◌↔◌, IfSome, false, true};
 ghost use Rattle.rm_command.specs.Edge.{edge_of};
-ghost use Rattle.rm_command.specs.Run.{AsksNothing, AsksReplay, IsStatusOf, Runs};
+ghost use Rattle.rm_command.specs.Run.{AsksNothing, AsksReplay, AsksSoak, IsStatusOf, Runs};
 ghost use Rattle.rm_command.specs.Stage.{KeepsWordAt, staged_of};
 ghost use Rattle.rm_command.specs.Status.{status_of};
 ghost use Rattle.rm_command.specs.declared.end.End.{End as AnEnd};
@@ -30,7 +30,7 @@ pub fn run<S: Source, K: Sink, M: CrashDisk, W: Wire, D: Disk, L: Link, C: Clock
     requires fresh { IsFresh (scene_of M.told W.packets stage.old) }
 
     // The headline, over every input and output, over every two disks and every wire.
-    ensures word { AsksReplay words.now → KeepsWordAt result
+    ensures word { AsksReplay words.now ⊎ AsksSoak words.now → KeepsWordAt result
         (staged_of M.told W.packets stage.old) (staged_of M.told W.packets stage.new) }
 
     // What was done by words that are none of a node's, and which status comes of the bytes that the input tells.

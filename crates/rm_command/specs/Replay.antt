@@ -1,6 +1,8 @@
--- What a run of `wsrm replay` is, by how it ended.
+-- What a run of `wsrm replay` and of `wsrm soak` is, by how it ended.
 use Rattle.std.specs.Prelude.{◌≡◌, ◌⊎◌, ℕ, List, take}
+use Rattle.rm_base.specs.Count.{Rose}
 use Rattle.rm_base.specs.Limits as limits
+use Rattle.rm_base.specs.Outside.{Stream}
 use Rattle.rm_protocol.specs.Delivered.{TakesNew}
 use Rattle.rm_protocol.specs.Terms.{Terms}
 use Rattle.rm_script.specs.declared.event.Event.{Event}
@@ -8,9 +10,12 @@ use Rattle.rm_script.specs.Script.{lines_of, IsScript, IsFirstBad}
 use Rattle.rm_replay.specs.Net.{AreOfNet}
 use Rattle.rm_replay.specs.Played.{IsUnmade, Played, Ran, RanShort, Story}
 use Rattle.rm_replay.specs.Shows.{Scene}
+use Rattle.rm_soak.specs.Soak.{soak_script}
+use Rattle.rm_soak.specs.Summary.{summary_of}
 use Rattle.rm_command.specs.declared.end.End.{End}
-use Rattle.rm_command.specs.declared.end.End.TheVariants.{BadLine}
-use Rattle.rm_command.specs.Edge.{Edge}
+use Rattle.rm_command.specs.declared.end.End.TheVariants.{Done, Usage, BadLine, ReadFault, WriteFault, TooLong}
+use Rattle.rm_command.specs.declared.end.End.TheVariants.{Refused, Memory}
+use Rattle.rm_command.specs.Edge.{Edge, Side, WasBegun, WasWritten}
 use Rattle.rm_command.specs.Filter.{EndsFilter, IsFilterStatus}
 use Rattle.rm_command.specs.Stage.{Staged}
 
@@ -49,3 +54,28 @@ IsAScript bytes = (events : List Event) × IsScript (lines_of bytes) events
 -- of a script comes 0, of other bytes 3, of more bytes 8, unless the input, the output or the machine fails
 abbrev pub IsReplayStatus : List ℕ → ℕ → Type 0
 IsReplayStatus bytes status = IsFilterStatus limits.script_bytes 3 (IsAScript bytes) bytes status
+
+-- the script of a number was played, and this much of the summary of its report was written
+pub record PlaysSoak {K T : Type 0} (n : ℕ) (Writes : Stream → Stream → List ℕ → Type 0) (out out_after : Side K)
+    (old new : Staged T) : Type 0 where
+  pub report : List ℕ
+  pub played : IsReportOf old.scene new.scene (soak_script n) report
+  pub written : Writes out.told out_after.told (summary_of n report)
+
+-- what soak did, by how it ended; where memory ran out before the script was played whole, nothing was written
+abbrev pub EndsSoak : {K T : Type 0} → ℕ → End → Side K → Side K → Staged T → Staged T → Type 0
+EndsSoak n Done out out_after old new = PlaysSoak n WasWritten out out_after old new
+EndsSoak n Usage out out_after old new = ⊥
+EndsSoak n (BadLine line) out out_after old new = ⊥
+EndsSoak n ReadFault out out_after old new = ⊥
+EndsSoak n WriteFault out out_after old new =
+    Rose out.told.faults out_after.told.faults × PlaysSoak n WasBegun out out_after old new
+EndsSoak n TooLong out out_after old new = ⊥
+EndsSoak n (Refused fault) out out_after old new = ⊥
+EndsSoak n Memory out out_after old new =
+    PlaysSoak n WasBegun out out_after old new
+    ⊎ ((out_after ≡ out) × ((new ≡ old) ⊎ IsCutShortOf old.scene new.scene (soak_script n)))
+
+-- of soak comes 0, unless the output or the machine fails
+abbrev pub IsSoakStatus : ℕ → Type 0
+IsSoakStatus status = (status ≡ 0) ⊎ ((status ≡ 5) ⊎ (status ≡ 10))

@@ -1,7 +1,7 @@
 //! The whole program over any input and output.
-ghost use Rattle.std.specs.Prelude.{◌≡◌, ◌↔◌, IfSome};
+ghost use Rattle.std.specs.Prelude.{◌≡◌, ◌⊎◌, ◌↔◌, ◌∷◌, [], codes, IfSome, IsTrue};
 ghost use Rattle.rm_command.specs.Edge.{edge_of};
-ghost use Rattle.rm_command.specs.Run.{AsksReplay, AsksNothing, Asks, IsNamed, IsStatusOf, Runs};
+ghost use Rattle.rm_command.specs.Run.{AsksReplay, AsksSoak, AsksNothing, Asks, IsNamed, IsStatusOf, Runs};
 ghost use Rattle.rm_command.specs.Stage.{KeepsWordAt, staged_of};
 ghost use Rattle.rm_command.specs.Status.{status_of};
 ghost use Rattle.rm_command.specs.declared.end.End.{End as AnEnd};
@@ -12,6 +12,7 @@ use crate::check::check;
 use crate::end::{End, refuse};
 use crate::policy::policy;
 use crate::replay::replay;
+use crate::soak::soak;
 use message_reader::laws::a_message_is_not_refused;
 use rm_base::{Blob, Sink, Source};
 use rm_disk::CrashDisk;
@@ -19,6 +20,7 @@ use rm_network::Wire;
 use rm_policy::laws::one_reading;
 use rm_replay::Stage;
 use rm_script::laws::no_bad_line;
+use rm_soak::number_in;
 use std::alloc::Global;
 use wsp_alternatives::laws::what_is_found_is_not_refused;
 
@@ -33,7 +35,7 @@ pub fn run<S: Source, K: Sink, M: CrashDisk, W: Wire>(
     requires fresh { IsFresh (scene_of M.told W.packets stage.old) }
 
     // The headline, over every input and output, over every two disks and every wire.
-    ensures word { AsksReplay words.now → KeepsWordAt result
+    ensures word { AsksReplay words.now ⊎ AsksSoak words.now → KeepsWordAt result
         (staged_of M.told W.packets stage.old) (staged_of M.told W.packets stage.new) }
 
     // What was done, by the words and the status.
@@ -62,13 +64,14 @@ fn obey<S: Source, K: Sink, M: CrashDisk, W: Wire>(
     stage: &mut Stage<M, W>,
 ) -> End
     requires fresh { IsFresh (scene_of M.told W.packets stage.old) }
-    ensures word { AsksReplay words.now → KeepsWordAt (status_of result)
+    ensures word { AsksReplay words.now ⊎ AsksSoak words.now → KeepsWordAt (status_of result)
         (staged_of M.told W.packets stage.old) (staged_of M.told W.packets stage.new) }
     ensures runs { Runs words.now result (edge_of S.told K.told K.wants_memory input.old input.new out.old out.new)
         (staged_of M.told W.packets stage.old) (staged_of M.told W.packets stage.new) }
 {
     match command_of(words) {
         Some(Command::Replay) => replay(alloc, input, out, stage),
+        Some(Command::Soak { number }) => soak(alloc, number, out, stage),
         Some(Command::Check) => check(alloc, input, out),
         Some(Command::Policy) => policy(alloc, input, out),
         Some(Command::Normal) => normal(alloc, input, out),
@@ -85,23 +88,43 @@ const USAGE_LINE: &[u8] = b"usage: wsrm check,replay,soak,make,serve,send,push,c
 #[derive(Clone, Copy, Debug, PartialEq, Eq)]
 enum Command {
     Replay,
+    Soak { number: u64 },
     Check,
     Policy,
     Normal,
     Intersect,
 }
 
-// The command that the words ask for: it is the only word.
+// The command that the words ask for.
 fn command_of(words: &[Blob]) -> Option<Command>
     ensures { Asks words.now result }
 {
     match words {
         [word] => command_named(word.as_slice()),
+        [word, number] => soak_of(word.as_slice(), number.as_slice()),
         _ => None,
     }
 }
 
-// The command with this name.
+// The command soak, of the number that the second word writes.
+fn soak_of(name: &[u8], number: &[u8]) -> Option<Command>
+    ensures { Asks (name.now ∷ number.now ∷ []) result }
+{
+    let number = number_in(number)?;
+    if is_soak(name) {
+        Some(Command::Soak { number })
+    } else {
+        None
+    }
+}
+
+fn is_soak(name: &[u8]) -> bool
+    ensures { IsTrue result ↔ (name.now ≡ codes "soak") }
+{
+    name == b"soak".as_slice()
+}
+
+// The command that has this name and no further word.
 fn command_named(name: &[u8]) -> Option<Command>
     ensures { IsNamed name.now result }
 {

@@ -1,0 +1,68 @@
+use Rattle.std.proofs.Common.{inl, inr, refl, take}
+use Rattle.rm_command.proofs.SoakLemmas.{begun_not, headline_at, summary_ends}
+use Rattle.rm_command.proofs.soak.soak.Goals as goal
+
+pub returns-in-Ok-summary-clause-ends : goal.returns-in-Ok-summary-clause-ends
+returns-in-Ok-summary-clause-ends g c =
+    let events = c.in-Ok.events.items in
+    summary_ends c.args.number c.write_text.result _ _ _ _ c.in-Ok-run_script.report
+    (record {
+      events = events;
+      script = c.in-Ok.ensures;
+      ran = c.in-Ok-run_script.ensures.ok;
+      takes = λ terms count s. c.a_delivered_message_is_taken.ensures terms (take count events) s;
+    })
+    (rw (c.as_slice-in-Ok-summary.ensures, c.in-Ok-summary.ensures, c.as_slice.ensures) at c.write_text.ensures.ends)
+
+pub returns-clause-ends : goal.returns-clause-ends
+returns-clause-ends g c =
+    let events = c.in-Ok.events.items in
+    inl (record {
+      report = c.in-Ok-run_script.report;
+      played = record {
+        events = events;
+        script = c.in-Ok.ensures;
+        ran = c.in-Ok-run_script.ensures.ok;
+        takes = λ terms count s. c.a_delivered_message_is_taken.ensures terms (take count events) s;
+      };
+      written = begun_not (g.K.Sink.told c.args.out.now) _;
+    })
+
+pub returns-in-Err-run_script-clause-ends : goal.returns-in-Err-run_script-clause-ends
+returns-in-Err-run_script-clause-ends g c =
+    inr (
+      refl,
+      inr (record {
+        events = c.in-Ok.events.items;
+        script = c.in-Ok.ensures;
+        ran = c.in-Err-run_script.ensures.err;
+      }),
+    )
+
+pub returns-in-Err-clause-word : goal.returns-in-Err-clause-word
+returns-in-Err-clause-word g c = record {
+  done = λ e. absurd (cc e);
+  unwritten = λ e. absurd (cc e);
+  short = λ e. inl refl;
+  other = λ a b d. refl;
+}
+
+pub returns-in-Err-run_script-clause-word : goal.returns-in-Err-run_script-clause-word
+returns-in-Err-run_script-clause-word g c = record {
+  done = λ e. absurd (cc e);
+  unwritten = λ e. absurd (cc e);
+  short = λ e. inr c.in-Err-run_script.ensures.short;
+  other = λ a b d. absurd (d refl);
+}
+
+pub returns-in-Ok-summary-clause-word : goal.returns-in-Ok-summary-clause-word
+returns-in-Ok-summary-clause-word g c =
+    headline_at c.write_text.result _ _ _ _ _ c.write_text.ensures.ends c.in-Ok-run_script.ensures.word
+
+pub returns-clause-word : goal.returns-clause-word
+returns-clause-word g c = record {
+  done = λ e. absurd (cc e);
+  unwritten = λ e. absurd (cc e);
+  short = λ e. inr (inr c.in-Ok-run_script.ensures.word);
+  other = λ a b d. absurd (d refl);
+}
