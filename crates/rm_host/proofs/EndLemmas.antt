@@ -56,6 +56,24 @@ wants f g r same first = ends f g r first (ap is_disk_fault same) (ap is_link_fa
 pub lost : (f g : Faults) → Reason f g false false true → Rose f.link g.link → Reason f g false true false
 lost f g first rose = record { disk = first.disk; link = λ e. rose; later = λ e. absurd cc }
 
+-- a call of the link alone
+pub links : (disk old new : ℕ) → old ≤ new
+    → Reason (record { disk = disk; link = old }) (record { disk = disk; link = new }) false false true
+links disk old new h = record {
+  disk = record { later = omega arith; cause = refl };
+  link = λ e. absurd cc;
+  later = λ e. h;
+}
+
+-- and it failed
+pub unlinked : (disk old new : ℕ) → Rose old new
+    → Reason (record { disk = disk; link = old }) (record { disk = disk; link = new }) false true false
+unlinked disk old new rose = record {
+  disk = record { later = omega arith; cause = refl };
+  link = λ e. rose;
+  later = λ e. absurd cc;
+}
+
 -- the error of a step that is handed on, after one that went well
 pub hands : {T : Type 0} (f g h : Faults) (e : End) (r : Result T End) → r ≡ Err e → Reason f g false false true
     → Reason g h (is_disk_end e) (is_link_end e) false → HasReason f h r

@@ -69,7 +69,7 @@ reaches words c d asks target other = by-names c d asks.0 named asks.2 taken tar
     by-names : (c d : Command) (more : List (List ℕ)) → bytes_eq (name_of c) (name_of d) ≡ true → Takes c more
         → Takes d more → HasTarget c → HasTarget d
     by-names (Make n a) (Make m b) more e t u target =
-        let same : a ≡ b = cc (t.2.2.2, u.2.2.2) in subst IsReachable same target
+        let same : a ≡ b = cc (t.3, u.3) in subst IsReachable same target
     by-names (Send a) (Send b) more e t u target = let same : a ≡ b = cc (t.1, u.1) in subst IsReachable same target
     by-names c (Make m b) more e t u target = absurd (cc (e))
     by-names c (Send b) more e t u target = absurd (cc (e))
@@ -80,6 +80,7 @@ is_send (Send to) = true
 is_send c = false
 
 not-send : (c : Command) (to : List ℕ) → is_send c ≡ false → c ≡ Send to → ⊥
+unfolding is_send
 not-send c to other same = let both : true ≡ false = subst (λ d. is_send d ≡ false) same other in absurd (cc (both))
 
 -- the number of a node is within its bounds
@@ -193,6 +194,7 @@ sends words to i j r asks target took = record {
 -- a command was asked for
 pub obeys : {T : Type 0} (words : List (List ℕ)) (c : Command) (i j : Stream) (r : Result T End) → Asks words c
     → HasTarget c → Uses c i j r → Obeys words i j r
+unfolding is_send
 obeys words (Send to) i j r asks target uses = sends words to i j r asks target uses
 obeys words c i j r asks target uses = quiet words c i j r asks target uses (λ sent.
     not-send c sent.0 refl (one-send words sent.0 c sent.1 asks))

@@ -7,7 +7,7 @@ use Rattle.rm_host.specs.Words.{ReadsAddress, Takes, name_of}
 use Rattle.rm_host.specs.declared.end.End.{End}
 use Rattle.rm_host.specs.declared.end.End.TheVariants as end
 use Rattle.rm_host.specs.declared.words.Command.{Command}
-use Rattle.rm_host.specs.declared.words.Command.TheVariants.{Make, Serve, Send, Push, Close, Finish, Inbox}
+use Rattle.rm_host.specs.declared.words.Command.TheVariants.{Make, Send, Close, Finish, Inbox}
 
 -- the words behind a name are those of no command with this name
 only-by : (name : List ℕ) (words : List (List ℕ)) → bytes_eq name name ≡ true

@@ -1,6 +1,5 @@
 -- How a command of a node ends, and why.
-use Rattle.std.specs.Prelude.{◌≡◌, ℕ, ◌+◌, ◌<◌, ◌≤◌, Bool, true, false, List, Result, Ok, Err, IfSome, is_ok, length}
-use Rattle.call_answers.specs.declared.answer.Cause.{Cause}
+use Rattle.std.specs.Prelude.{◌≡◌, ℕ, ◌+◌, ◌<◌, ◌≤◌, Bool, true, false, Result, Ok, Err, IfSome, is_ok, length}
 use Rattle.node_store.specs.declared.error.MountError.{MountError}
 use Rattle.node_store.specs.declared.error.MountError.TheVariants as mount
 use Rattle.rm_base.specs.Count.{Rose, RoseBy}

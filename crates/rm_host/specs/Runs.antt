@@ -7,7 +7,7 @@ use Rattle.rm_base.specs.Outside.{Stream}
 use Rattle.rm_disk.specs.Cause.{HasCause}
 use Rattle.rm_disk.specs.Told.{Told}
 use Rattle.rm_link.specs.Lines.{Net}
-use Rattle.rm_host.specs.Ends.{Faults, HasReason, Took, WasTooLong, faults_of, is_outer}
+use Rattle.rm_host.specs.Ends.{Faults, Took, WasTooLong, faults_of, is_outer}
 use Rattle.rm_host.specs.Words.{Asks, IsCommand, IsLost, IsReachable}
 use Rattle.rm_host.specs.declared.end.End.{End}
 use Rattle.rm_host.specs.declared.end.End.TheVariants.{Usage, ReadFault, WriteFault, TooLong, BadAddress, Memory}

@@ -51,10 +51,27 @@ fn send_payload<D: Disk, L: Link, C: Clock>(
     if missed == 0 {
         return send_on(alloc, host, &mut node, seq, payload);
     }
-    if is_open(node.tables(), seq) {
-        send_on(alloc, host, &mut node, seq, payload)?;
-    }
+    send_if_open(alloc, host, &mut node, seq, payload)?;
     Err(End::LinkFault)
+}
+
+// Sends a payload on a sequence, where that is open.
+fn send_if_open<D: Disk, L: Link, C: Clock>(
+    alloc: Global,
+    host: &mut Host<D, L, C>,
+    node: &mut Node,
+    seq: u32,
+    payload: Blob,
+) -> Result<(), End>
+    requires up { IsUp D.tells (place_of (D.told host.old.disk) node.old) }
+    ensures reason { HasReason (faults_of D.told L.told host.old) (faults_of D.told L.told host.new) result }
+    ensures inner { is_outer result ≡ false }
+{
+    if !is_open(node.tables(), seq) {
+        return Ok(());
+    }
+    send_on(alloc, host, node, seq, payload)?;
+    Ok(())
 }
 
 // Sends a payload on a sequence.

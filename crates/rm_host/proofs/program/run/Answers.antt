@@ -1,4 +1,3 @@
-use Rattle.std.proofs.Common.{sym}
 use Rattle.rm_host.specs.Runs.{outside_of}
 use Rattle.rm_host.proofs.RunLemmas.{printed, refused}
 use Rattle.rm_host.proofs.program.run.Goals as goal
