@@ -4,6 +4,7 @@ use Rattle.std.specs.Prelude.{◌≡◌, ◌≢◌, ℕ, zero, suc, ◌≤◌, �
 use Rattle.std.specs.Prelude.{remove, Bool, false, Option, Some, None, slice_index_or}
 use Rattle.std.specs.List.{AllByRecursion}
 use Rattle.std.specs.Str.{bytes_eq}
+use Rattle.make_connection.specs.Limits.{most_addresses}
 use Rattle.make_connection.specs.Table.{queue_at}
 use Rattle.make_connection.specs.Waiting.{Queue}
 
@@ -65,11 +66,11 @@ Empty qs order = AllByRecursion (λ l. queue_at qs l ≡ []) order
 -- the order has the number of each queue once, and the queues behind those of the addresses are empty
 pub record IsNamed {T : Type 0} (addresses : List (List ℕ)) (order : List ℕ) (qs : List (List T)) (room places : ℕ)
     : Type 0 where
-  pub many : length addresses ≤ 256
-  pub all : length order ≡ 256
-  pub low : AllByRecursion (λ l. l < 256) order
+  pub many : length addresses ≤ most_addresses
+  pub all : length order ≡ most_addresses
+  pub low : AllByRecursion (λ l. l < most_addresses) order
   pub distinct : Distinct order
   pub empty : Empty qs (drop (length addresses) order)
-  pub queues : length qs ≡ 256
-  pub room_ : 256 ≤ room
-  pub places_ : 256 ≤ places
+  pub queues : length qs ≡ most_addresses
+  pub room_ : most_addresses ≤ room
+  pub places_ : most_addresses ≤ places

@@ -6,6 +6,7 @@ use Rattle.std.specs.Option.{option_to_list}
 use Rattle.std.specs.List.{AllByRecursion}
 use Rattle.due_links.specs.declared.links.Item.{Item}
 use Rattle.due_links.specs.Items.{Contents, IsWhole, IsLive, PutsLast, list_at}
+use Rattle.make_connection.specs.Limits.{most_waiting, most_addresses, most_packets}
 
 -- a numbered queue
 abbrev pub queue_at : {T : Type 0} → List (List T) → ℕ → List T
@@ -31,23 +32,23 @@ contents packets lists = map (held packets) lists
 -- an item of the list has a packet at its slot
 pub record IsHeld {T : Type 0} (packets : List (Option T)) (l : ℕ) (item : Item) : Type 0 where
   pub list : item.list ≡ l
-  pub slot : item.slot < 16384
+  pub slot : item.slot < most_packets
   pub packet : T
   pub there : packet_at packets item.slot ≡ Some packet
 
--- the items of the 256 lists have their packets
+-- the items of all lists have their packets
 pub record IsKept {T : Type 0} (packets : List (Option T)) (links : Contents) : Type 0 where
-  pub places : length packets ≡ 16384
-  pub many : length links.lists ≡ 256
+  pub places : length packets ≡ most_packets
+  pub many : length links.lists ≡ most_addresses
   pub whole : IsWhole links
-  pub slots_ : links.slots ≡ 16384
-  pub short : (l : ℕ) → l < 256 → length (list_at links.lists l) ≤ 64
-  pub each : (l : ℕ) → l < 256 → AllByRecursion (IsHeld packets l) (list_at links.lists l)
+  pub slots_ : links.slots ≡ most_packets
+  pub short : (l : ℕ) → l < most_addresses → length (list_at links.lists l) ≤ most_waiting
+  pub each : (l : ℕ) → l < most_addresses → AllByRecursion (IsHeld packets l) (list_at links.lists l)
 
 -- an item was put last into a list, at a slot that no item had
 pub record Adds (old new : Contents) (list slot : ℕ) : Type 0 where
   pub free : IsLive old.lists slot → ⊥
-  pub within : slot < 16384
+  pub within : slot < most_packets
   pub put : PutsLast old.lists new.lists (record { slot = slot; list = list; key = 0; due = 0 })
   pub whole : IsWhole new
   pub slots_ : new.slots ≡ old.slots

@@ -4,14 +4,7 @@ use Rattle.std.specs.Prelude.{ℕ, nat_lt, Bool, true, false, if◌then◌else�
 use Rattle.std.specs.Prelude.{Option, Some, None}
 use Rattle.std.specs.Str.{bytes_eq}
 use Rattle.rm_base.specs.Count.{raised_by}
-
--- the most packets that wait for one address
-abbrev pub most_waiting : ℕ
-most_waiting = 64
-
--- the most addresses for which one waits
-abbrev pub most_addresses : ℕ
-most_addresses = 256
+use Rattle.make_connection.specs.Limits.{most_waiting, most_addresses}
 
 -- the packets that wait for an address, in the order in which they were put
 pub record Queue (T : Type 0) : Type 0 where

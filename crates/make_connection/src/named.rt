@@ -2,6 +2,7 @@
 ghost use Rattle.std.specs.Prelude.{◌≡◌, ◌∷◌, ◌++◌, ◌<◌, ◌≤◌, [], true, length, IfOk, IfSome, IfNone, Some, None};
 ghost use Rattle.std.specs.Prelude.{vec_capacity};
 ghost use Rattle.std.specs.List.{AllByRecursion};
+ghost use Rattle.make_connection.specs.Limits.{most_addresses};
 ghost use Rattle.make_connection.specs.Waiting.{
   first_in,
   may_wait as may_wait_in,
@@ -62,10 +63,10 @@ pub(crate) fn place_of(addresses: &Vec<Uri>, address: &Uri) -> usize
 
 // The numbers of all queues.
 fn all_numbers(alloc: Global) -> Result<Vec<u32>, Memory>
-    ensures numbers { IfOk result (λ order. order.items ≡ numbers 256) }
-    ensures room { IfOk result (λ order. 256 ≤ vec_capacity order) }
+    ensures numbers { IfOk result (λ order. order.items ≡ numbers most_addresses) }
+    ensures room { IfOk result (λ order. most_addresses ≤ vec_capacity order) }
 {
-    let mut order = Vec::with_capacity(alloc, 256)?;
+    let mut order = Vec::with_capacity(alloc, QUEUES as usize)?;
     for number in 0..QUEUES {
         order.push(number)?;
     }
@@ -86,11 +87,11 @@ fn push_address(addresses: &mut Vec<Uri>, address: Uri)
 
 // The place of an address, which is put behind the others where it isn't among them.
 fn open_place(addresses: &mut Vec<Uri>, address: Uri) -> usize
-    requires under { place_in addresses.old.items address < 256 }
-    requires room { 256 ≤ vec_capacity addresses.old }
+    requires under { place_in addresses.old.items address < most_addresses }
+    requires room { most_addresses ≤ vec_capacity addresses.old }
     ensures place { result ≡ place_in addresses.old.items address }
     ensures items { addresses.new.items ≡ opened addresses.old.items address }
-    ensures room { 256 ≤ vec_capacity addresses.new }
+    ensures room { most_addresses ≤ vec_capacity addresses.new }
 {
     let at = place_of(addresses, &address);
     if at >= addresses.len() {
@@ -102,9 +103,9 @@ fn open_place(addresses: &mut Vec<Uri>, address: Uri) -> usize
 // The number at a place.
 fn number_of(order: &Vec<u32>, at: usize) -> u32
     requires at { at < length order.now.items }
-    requires low { AllByRecursion (λ l. l < 256) order.now.items }
+    requires low { AllByRecursion (λ l. l < most_addresses) order.now.items }
     ensures number { result ≡ number_at order.now.items at }
-    ensures low { result < 256 }
+    ensures low { result < most_addresses }
 {
     order[at]
 }
@@ -145,7 +146,7 @@ impl<T: Drop> NamedQueues<T> {
     {
         Ok(NamedQueues {
             queues: Queues::new(alloc)?,
-            addresses: Vec::with_capacity(alloc, 256)?,
+            addresses: Vec::with_capacity(alloc, QUEUES as usize)?,
             order: all_numbers(alloc)?,
         })
     }

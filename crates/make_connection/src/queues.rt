@@ -1,7 +1,8 @@
-//! 256 numbered queues of packets, each of at most 64, over lists linked by index: the slot of a packet's item is its
+//! Numbered queues of packets, each with a limit, over lists linked by index: the slot of a packet's item is its
 //! place in the table of packets.
 ghost use Rattle.std.specs.Prelude.{◌≡◌, ◌<◌, [], ◌∷◌, ◌++◌, length, drop, nat_lt, replicate, IfOk, IfNone};
-ghost use Rattle.std.specs.Prelude.{slice_set, Some, None, slice_get, option_map, IfSome};
+ghost use Rattle.std.specs.Prelude.{◌-◌, slice_set, Some, None, slice_get, option_map, IfSome};
+ghost use Rattle.make_connection.specs.Limits.{most_addresses, most_packets, most_waiting};
 ghost use Rattle.make_connection.specs.Waiting.{first_in};
 ghost use Rattle.make_connection.specs.Table.{Adds, Takes, queue_at};
 ghost use Rattle.due_links.specs.Items.{list_at};
@@ -17,6 +18,9 @@ pub(crate) const QUEUES: u32 = 256;
 
 /// How many packets a queue has at most.
 const LIMIT: u32 = 64;
+
+/// How many packets all queues have at most.
+const PLACES: u32 = QUEUES * LIMIT;
 
 /// The packets of all queues.
 #[derive(Drop)]
@@ -39,10 +43,10 @@ impl<T> Model for Queues<T> {
 
 // So many places without a packet.
 fn blank_places<T: Drop>(alloc: Global) -> Result<Vec<Option<T>>, Memory>
-    ensures { IfOk result (λ places. places.items ≡ replicate 16384 None) }
+    ensures { IfOk result (λ places. places.items ≡ replicate most_packets None) }
 {
-    let mut places = Vec::with_capacity(alloc, 16384)?;
-    for _ in 0..16384u32 {
+    let mut places = Vec::with_capacity(alloc, PLACES as usize)?;
+    for _ in 0..PLACES {
         places.push(None)?;
     }
     Ok(places)
@@ -51,9 +55,9 @@ fn blank_places<T: Drop>(alloc: Global) -> Result<Vec<Option<T>>, Memory>
 impl<T: Drop> Queues<T> {
     /// Empty queues.
     pub(crate) fn new(alloc: Global) -> Result<Queues<T>, Memory>
-        ensures { IfOk result (λ queues. queues ≡ replicate 256 []) }
+        ensures { IfOk result (λ queues. queues ≡ replicate most_addresses []) }
     {
-        let links = Links::with_slots(alloc, 16384, QUEUES)?;
+        let links = Links::with_slots(alloc, PLACES, QUEUES)?;
         links.spare();
         let packets = blank_places(alloc)?;
         Ok(Queues { links, packets })
@@ -61,8 +65,8 @@ impl<T: Drop> Queues<T> {
 
     /// Puts a packet last into a queue that isn't full.
     pub(crate) fn put(&mut self, queue: u32, packet: T)
-        requires queue { queue < 256 }
-        requires room { length (queue_at self.old queue) < 64 }
+        requires queue { queue < most_addresses }
+        requires room { length (queue_at self.old queue) < most_waiting }
         ensures { self.new ≡ slice_set self.old queue (queue_at self.old queue ++ packet ∷ []) }
     {
         let slot = add::<Brand>(&mut self.links, queue, Blank::new(1));
@@ -71,7 +75,7 @@ impl<T: Drop> Queues<T> {
 
     /// Takes the first packet of a queue, and tells whether it has more.
     pub(crate) fn take(&mut self, queue: u32) -> Option<(T, bool)>
-        requires queue { queue < 256 }
+        requires queue { queue < most_addresses }
         ensures first { result ≡ first_in (queue_at self.old queue) }
         ensures taken { self.new ≡ slice_set self.old queue (drop 1 (queue_at self.old queue)) }
     {
@@ -96,7 +100,7 @@ fn with_more<T>(packet: Option<T>, more: bool) -> Option<(T, bool)>
 impl<T> Queues<T> {
     /// The first packet of a queue, and whether it has more.
     pub(crate) fn first(&self, queue: u32) -> Option<(&T, bool)>
-        requires queue { queue < 256 }
+        requires queue { queue < most_addresses }
         ensures some { IfSome result (λ r. first_in (queue_at self.now queue) ≡ Some (r.0.now, r.1)) }
         ensures none { IfNone result (first_in (queue_at self.now queue) ≡ None) }
     {
@@ -112,7 +116,7 @@ impl<T> Queues<T> {
 
     // Whether a queue has more than so many packets.
     fn has(&self, queue: u32, count: u32) -> bool
-        requires queue { queue < 256 }
+        requires queue { queue < most_addresses }
         ensures { result ≡ nat_lt count (length (queue_at self.now queue)) }
     {
         nth::<Brand>(&self.links, queue, count, Blank::new(1)).is_some()
@@ -120,8 +124,8 @@ impl<T> Queues<T> {
 
     /// Whether a queue is full.
     pub(crate) fn is_full(&self, queue: u32) -> bool
-        requires queue { queue < 256 }
-        ensures { result ≡ nat_lt 63 (length (queue_at self.now queue)) }
+        requires queue { queue < most_addresses }
+        ensures { result ≡ nat_lt (most_waiting - 1) (length (queue_at self.now queue)) }
     {
         self.has(queue, LIMIT - 1)
     }
@@ -134,7 +138,7 @@ fn add<L: Ledger>(links: &mut Links, list: u32, blank: Blank) -> u32
     requires one { L.parts ≡ 1 }
     requires spare { 0 < links.old.spare }
     requires list { list < length links.old.lists }
-    requires slots { links.old.slots ≡ 16384 }
+    requires slots { links.old.slots ≡ most_packets }
     ensures { Adds links.old links.new list result }
 {
     let mut steps: Steps<L> = Steps::new(blank);
