@@ -2,6 +2,7 @@
 -- declarations: Namespaces in XML 1.0, sections 2 to 6.
 use Rattle.std.specs.Prelude.{◌≡◌, ◌≢◌, ◌≤◌, ℕ, ◌+◌, List, [], Some}
 use Rattle.std.specs.List.{AllByRecursion}
+use Rattle.soap_document.specs.Grammar.{max_depth}
 use Rattle.soap_lex.specs.Characters.{IsChars}
 use Rattle.soap_profile.specs.Namespaces.{xmlns_space, bound}
 use Rattle.soap_profile.specs.Payload.{height}
@@ -35,8 +36,8 @@ abbrev mutual
   PartsDeclare (child first parts) = Declares first × PartsDeclare parts
 
 -- an element of a document that stands in so many others: without its declarations it may be written, they bind
--- prefixes as they may be bound, and at most a hundred elements are in one another
+-- prefixes as they may be bound, and no more elements are in one another than may be in a document
 pub record IsResolved (depth : ℕ) (e : Element) : Type 0 where
   pub writable : IsWritable (without_declarations e)
   pub declares : Declares e
-  pub shallow : depth + height e ≤ 100
+  pub shallow : depth + height e ≤ max_depth

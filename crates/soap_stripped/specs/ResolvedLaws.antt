@@ -3,6 +3,7 @@ use Rattle.std.proofs.Common.{◌≡◌, ◌≤◌, ℕ, suc, ◌+◌, Bool, tru
 use Rattle.std.proofs.Common.{Some, refl, subst, arith}
 use Rattle.std.specs.List.{AllByRecursion}
 use Rattle.std.specs.Str.{bytes_eq}
+use Rattle.soap_document.specs.Grammar.{max_depth}
 use Rattle.soap_lex.specs.Facts.{same}
 use Rattle.soap_profile.specs.Namespaces.{bound}
 use Rattle.soap_profile.specs.Payload.{depth as nested}
@@ -37,7 +38,7 @@ more_in_force (b ∷ decls) scope all outer prefix space e =
 -- ---- elements
 
 parts_resolved : (depth : ℕ) (parts : Parts) → ArePartsWritable (parts_without parts) → PartsDeclare parts
-    → depth + nested parts ≤ 100 → AllByRecursion (IsResolved depth) (children_of parts)
+    → depth + nested parts ≤ max_depth → AllByRecursion (IsResolved depth) (children_of parts)
 parts_resolved depth none writable declares shallow = tt
 parts_resolved depth (text bytes parts) writable declares shallow =
     parts_resolved depth parts writable.2 declares shallow
