@@ -1,6 +1,7 @@
 //! Laws of batches, each the contract of a function that does nothing but to bring in the laws that it stands on.
 ghost use Rattle.std.specs.Prelude.{◌≡◌, ◌≤◌, ℕ, List, Some, length, false};
 ghost use Rattle.rm_base.specs.Limits.{envelope_bytes};
+ghost use Rattle.soap_document.specs.Grammar.{max_depth};
 ghost use Rattle.soap_profile.specs.Payload.{height};
 ghost use Rattle.soap_profile.specs.Tree.{Element};
 ghost use Rattle.soap_writer.specs.ElementText.{element_text};
@@ -37,7 +38,7 @@ pub fn only_what_is_written_is_read()
 /// A parameter is read back from its text where it may be written, is nested no deeper than documents may be, and its
 /// text is no longer than one.
 pub fn parameters_are_read_back()
-    ensures { (p : Element) → IsElementWritable p → height p ≤ 100 → length (element_text false p) ≤ envelope_bytes
+    ensures { (p : Element) → IsElementWritable p → height p ≤ max_depth → length (element_text false p) ≤ envelope_bytes
         → IsParamWritable p }
 {
     document_is_read_back();
