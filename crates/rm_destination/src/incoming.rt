@@ -317,7 +317,7 @@ impl Incoming {
 }
 
 /// Whether there is a deadline, and it is at most now.
-fn is_past(deadline: Option<u64>, now: u64) -> bool
+pub fn is_past(deadline: Option<u64>, now: u64) -> bool
     ensures { result ≡ is_past deadline now }
 {
     match deadline {
