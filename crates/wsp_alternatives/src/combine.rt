@@ -107,7 +107,7 @@ fn masks_of_term(
 
 // The mask of one place.
 fn bit(place: usize) -> u64
-    requires { place < 64 }
+    requires { place < most_terms }
     ensures { result ≡ 2 ^ place }
 {
     1 << place

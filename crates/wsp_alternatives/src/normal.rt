@@ -144,7 +144,7 @@ fn step(has: bool, other_has: bool, some: bool, other_some: bool, order: Orderin
 
 // Whether a mask has the term at a place.
 fn has_term(mask: u64, place: usize) -> bool
-    requires { place < 64 }
+    requires { place < most_terms }
     ensures { result ≡ (bit_at mask place == 1) }
 {
     (mask >> place) & 1 == 1
