@@ -38,8 +38,8 @@ pub fn only_what_is_written_is_read()
 /// A parameter is read back from its text where it may be written, is nested no deeper than documents may be, and its
 /// text is no longer than one.
 pub fn parameters_are_read_back()
-    ensures { (p : Element) → IsElementWritable p → height p ≤ max_depth → length (element_text false p) ≤ envelope_bytes
-        → IsParamWritable p }
+    ensures { (p : Element) → IsElementWritable p → height p ≤ max_depth
+        → length (element_text false p) ≤ envelope_bytes → IsParamWritable p }
 {
     document_is_read_back();
     written_tree_is_the_tree();
