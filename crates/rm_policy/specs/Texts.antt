@@ -1,5 +1,6 @@
 -- Assertions as they are written, WS-RM Policy 1.2, section 2, and the words that are printed of them.
 use Rattle.std.specs.Prelude.{ℕ, List, [], ◌++◌, Bool, true, false, codes}
+use Rattle.rm_policy.specs.Words.{assertion_space, policy_space}
 use Rattle.rm_policy.specs.declared.assertion.Assertion.{Assertion}
 use Rattle.rm_policy.specs.declared.assertion.Assurance.{Assurance}
 use Rattle.rm_policy.specs.declared.assertion.Assurance.TheVariants.{Unsaid, ExactlyOnce, AtLeastOnce, AtMostOnce}
@@ -29,10 +30,9 @@ end_text assurance = codes "</w:Policy></p:DeliveryAssurance>"
 -- an assertion
 abbrev pub assertion_text : Assertion → List ℕ
 assertion_text a =
-    codes "<p:RMAssertion xmlns:p=\"http://docs.oasis-open.org/ws-rx/wsrmp/200702\" "
-    ++ codes "xmlns:w=\"http://www.w3.org/ns/ws-policy\"" ++ optional_text a.optional ++ codes "><w:Policy>"
-    ++ assurance_text a.assurance ++ order_text a.in_order ++ end_text a.assurance
-    ++ codes "</w:Policy></p:RMAssertion>"
+    codes "<p:RMAssertion xmlns:p=\"" ++ assertion_space ++ codes "\" xmlns:w=\"" ++ policy_space ++ codes "\""
+    ++ optional_text a.optional ++ codes "><w:Policy>" ++ assurance_text a.assurance ++ order_text a.in_order
+    ++ end_text a.assurance ++ codes "</w:Policy></p:RMAssertion>"
 
 -- the word for an assurance, where it is printed
 abbrev pub assurance_word : Assurance → List ℕ

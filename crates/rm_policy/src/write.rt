@@ -7,6 +7,7 @@ ghost use Rattle.rm_policy.specs.Texts.{optional_text as text_of_optional, order
 
 use crate::assertion::{Assertion, Assurance};
 use crate::laws::assertion_is_read_back;
+use crate::word::{ASSERTION, POLICY};
 use rm_base::{Blob, Memory};
 use std::alloc::Global;
 
@@ -23,8 +24,11 @@ pub fn write_assertion(alloc: Global, assertion: &Assertion) -> Result<Blob, Mem
 fn text_of(alloc: Global, assertion: &Assertion) -> Result<Blob, Memory>
     ensures { IfOk result (λ text. text ≡ assertion_text assertion.now) }
 {
-    let mut text = Blob::from_slice(alloc, ROOT)?;
-    text.push_all(SPACES)?;
+    let mut text = Blob::from_slice(alloc, b"<p:RMAssertion xmlns:p=\"")?;
+    text.push_all(ASSERTION)?;
+    text.push_all(b"\" xmlns:w=\"")?;
+    text.push_all(POLICY)?;
+    text.push_all(b"\"")?;
     text.push_all(optional_text(assertion.optional))?;
     text.push_all(b"><w:Policy>")?;
     text.push_all(assurance_text(assertion.assurance))?;
@@ -33,10 +37,6 @@ fn text_of(alloc: Global, assertion: &Assertion) -> Result<Blob, Memory>
     text.push_all(b"</w:Policy></p:RMAssertion>")?;
     Ok(text)
 }
-
-const ROOT: &[u8] = b"<p:RMAssertion xmlns:p=\"http://docs.oasis-open.org/ws-rx/wsrmp/200702\" ";
-
-const SPACES: &[u8] = b"xmlns:w=\"http://www.w3.org/ns/ws-policy\"";
 
 fn optional_text(is_optional: bool) -> &'static [u8]
     ensures { result.now ≡ text_of_optional is_optional }
