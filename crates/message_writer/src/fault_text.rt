@@ -29,19 +29,10 @@ use crate::qname::{push_qname_declaration, qname};
 use crate::tag::Tag;
 use rm_base::{Blob, Memory};
 use rm_message::{FaultBody, FaultCode};
-use soap_nodes::{push_begin, push_bytes, push_close, push_leaf, push_text};
+use soap_nodes::{push_begin, push_close, push_leaf, push_start};
 use soap_profile::{Element, Elements, Name};
-use soap_writer::write_element;
+use soap_writer::{push_bytes, push_text, write_element};
 use std::alloc::Global;
-
-// The front of an element with content and without attributes.
-fn push_start(tag: Tag, out: &mut Vec<u8>) -> Result<(), Memory>
-    ensures { OnOk result (out.new.items ≡ out.old.items ++ (begin_text (tag_name (tag_of tag)) ++ codes ">")) }
-{
-    push_begin(tag.name(), out)?;
-    push_bytes(b">", out)?;
-    Ok(())
-}
 
 fn code_value(code: FaultCode) -> &'static [u8]
     ensures { result.now ≡ code_text code }
@@ -73,7 +64,7 @@ fn push_inner(alloc: Global, inner: &Option<Name>, out: &mut Vec<u8>) -> Result<
     let Some(name) = inner else {
         return Ok(());
     };
-    push_start(Tag::Subcode, out)?;
+    push_start(Tag::Subcode.name(), out)?;
     push_value(alloc, name, out)?;
     push_close(Tag::Subcode.name(), out)?;
     Ok(())
@@ -91,7 +82,7 @@ fn push_subcode(
     let Some(name) = subcode else {
         return Ok(());
     };
-    push_start(Tag::Subcode, out)?;
+    push_start(Tag::Subcode.name(), out)?;
     push_value(alloc, name, out)?;
     push_inner(alloc, inner, out)?;
     push_close(Tag::Subcode.name(), out)?;
@@ -101,7 +92,7 @@ fn push_subcode(
 fn push_code(alloc: Global, fault: &FaultBody, out: &mut Vec<u8>) -> Result<(), Memory>
     ensures { OnOk result (out.new.items ≡ out.old.items ++ node_text (code_node fault.now)) }
 {
-    push_start(Tag::Code, out)?;
+    push_start(Tag::Code.name(), out)?;
     push_leaf(Tag::Value.name(), code_value(fault.code), out)?;
     push_subcode(alloc, &fault.subcode, &fault.inner, out)?;
     push_close(Tag::Code.name(), out)?;
@@ -137,7 +128,7 @@ fn push_english_text(text: &[u8], out: &mut Vec<u8>) -> Result<(), Memory>
 fn push_reason(reason: &Blob, out: &mut Vec<u8>) -> Result<(), Memory>
     ensures { OnOk result (out.new.items ≡ out.old.items ++ node_text (reason_node reason.now)) }
 {
-    push_start(Tag::Reason, out)?;
+    push_start(Tag::Reason.name(), out)?;
     push_english_text(reason.as_slice(), out)?;
     push_close(Tag::Reason.name(), out)?;
     Ok(())
@@ -167,7 +158,7 @@ fn push_detail(alloc: Global, detail: &Elements, out: &mut Vec<u8>) -> Result<()
     if detail.is_empty() {
         return Ok(());
     }
-    push_start(Tag::Detail, out)?;
+    push_start(Tag::Detail.name(), out)?;
     push_elements(alloc, detail.as_slice(), out)?;
     push_close(Tag::Detail.name(), out)?;
     Ok(())
@@ -177,7 +168,7 @@ fn push_detail(alloc: Global, detail: &Elements, out: &mut Vec<u8>) -> Result<()
 pub fn push_fault(alloc: Global, fault: &FaultBody, out: &mut Vec<u8>) -> Result<(), Memory>
     ensures { OnOk result (out.new.items ≡ out.old.items ++ node_text (fault_node fault.now)) }
 {
-    push_start(Tag::Fault, out)?;
+    push_start(Tag::Fault.name(), out)?;
     push_code(alloc, fault, out)?;
     push_reason(&fault.reason, out)?;
     push_detail(alloc, &fault.detail, out)?;

@@ -4,8 +4,9 @@ ghost use Rattle.soap_nodes.specs.Node.{notes_text};
 ghost use Rattle.message_writer.specs.Text.{qname as qname_text, qname_notes};
 
 use rm_base::Memory;
-use soap_nodes::{push_bytes, push_declaration};
+use soap_nodes::push_declaration;
 use soap_profile::Name;
+use soap_writer::push_bytes;
 use std::alloc::Global;
 
 /// A name as it is written in a value.

@@ -5,7 +5,7 @@ ghost use Rattle.message_writer.specs.Faults.{table, fault_action, space_of};
 ghost use Rattle.rm_base.specs.Text.{IsText};
 
 use rm_elements::{CONNECTION, MESSAGING};
-use rm_message::{FaultCode, FaultKind, actions};
+use rm_message::{FaultCode, FaultKind, ROLLOVER, actions};
 use soap_envelope::SOAP_SPACE;
 use wsa_headers::ADDRESSING;
 
@@ -88,7 +88,7 @@ pub fn subcode(kind: FaultKind) -> Option<&'static [u8]>
             b"InvalidAddressingHeader".as_slice(),
         ),
         FaultKind::HeaderMissing => Some(b"MessageAddressingHeaderRequired".as_slice()),
-        FaultKind::Rollover => Some(b"MessageNumberRollover".as_slice()),
+        FaultKind::Rollover => Some(ROLLOVER),
         FaultKind::WsrmRequired => Some(b"WSRMRequired".as_slice()),
         FaultKind::UnknownSequence
         | FaultKind::SequenceTerminated

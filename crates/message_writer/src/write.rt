@@ -23,8 +23,9 @@ use rm_elements::{
 };
 use rm_message::{Body, FaultBody, Message};
 use soap_frame::{begin_body, begin_envelope, end_envelope};
-use soap_nodes::{push_attribute, push_begin, push_bytes};
+use soap_nodes::{push_attribute, push_begin};
 use soap_profile::Name;
+use soap_writer::push_bytes;
 use std::alloc::Global;
 use wsa_headers::write_addressing;
 

@@ -16,7 +16,7 @@ ghost use Rattle.rm_protocol.specs.Rows.{
 };
 ghost use Rattle.receive_records.specs.WithRow.{with_row};
 
-use crate::offers::{copy_accept, drop_offer};
+use crate::offers::drop_offer;
 use record_batch::Record;
 use rm_base::limits::WINDOW;
 use rm_base::{Cause, Ident, Memory, Payload, Uri};
@@ -24,6 +24,7 @@ use rm_elements::{CreateResponse, Finish, SeqHeader};
 use rm_source::OutPhase;
 use std::alloc::Global;
 use tables_ahead::Known;
+use wsa_headers::copy_reference;
 
 /// Received with the payload of a message, by its Sequence header.
 pub(crate) fn data_row(
@@ -108,7 +109,7 @@ fn created(
     let given = Record::Created {
         seq,
         ident: response.ident.copy()?,
-        accept: copy_accept(alloc, &response.accept)?,
+        accept: copy_reference(alloc, &response.accept)?,
     };
     ahead.push(given)?;
     match &response.accept {

@@ -20,7 +20,7 @@ use node_messages::ident_of;
 use record_batch::Record;
 use rm_base::{Memory, Uri};
 use rm_elements::MESSAGING;
-use rm_message::{FaultBody, FaultKind};
+use rm_message::{FaultBody, FaultKind, ROLLOVER};
 use rm_source::OutPhase;
 use soap_profile::{Element, Name};
 use std::alloc::Global;
@@ -48,7 +48,7 @@ pub(crate) fn fault_row(
     if is_fault(FaultKind::UnknownSequence.name(), subcode) {
         return failed_row(alloc, ahead, FaultKind::UnknownSequence, detail);
     }
-    if is_fault(b"MessageNumberRollover", subcode) {
+    if is_fault(ROLLOVER, subcode) {
         return failed_row(alloc, ahead, FaultKind::Rollover, detail);
     }
     if is_fault(FaultKind::SequenceClosed.name(), subcode) {

@@ -20,7 +20,6 @@ use rm_base::{Cause, Memory};
 use rm_elements::Offer;
 use std::alloc::Global;
 use tables_ahead::Known;
-use wsa_headers::Epr;
 
 /// What is kept of a peer's offer, where it is taken.
 pub(crate) fn taken_of(
@@ -58,16 +57,6 @@ fn is_takable(ahead: &Known<'_>, offer: &Offer) -> bool
         return false;
     }
     ahead.len() < MOST_SEQUENCES - 1
-}
-
-/// The AcksTo of an Accept again, where there is one.
-pub(crate) fn copy_accept(alloc: Global, accept: &Option<Epr>) -> Result<Option<Epr>, Memory>
-    ensures { IfOk result (λ copy. copy ≡ accept.now) }
-{
-    match accept {
-        Some(endpoint) => Ok(Some(endpoint.copy(alloc)?)),
-        None => Ok(None),
-    }
 }
 
 /// Ends the offer that went out with a sequence, and wasn't taken.

@@ -55,8 +55,9 @@ use ack_ranges::Range;
 use itoa::Buffer;
 use rm_base::{Behaviour, Blob, Ident, Lapse, Memory, Uri};
 use soap_nodes::{
-    push_attribute, push_begin, push_bytes, push_close, push_leaf, push_number, push_void,
+    push_attribute, push_begin, push_close, push_leaf, push_number, push_start, push_void,
 };
+use soap_writer::push_bytes;
 use std::alloc::Global;
 use wsa_headers::{Epr, push_epr};
 
@@ -79,15 +80,6 @@ fn push_header(header: &Header, out: &mut Vec<u8>) -> Result<(), Memory>
         Header::Ask(ident) => push_ask(ident, out),
         Header::Pending(pending) => push_pending(*pending, out),
     }
-}
-
-// The front of an element with content and without attributes.
-fn push_start(tag: Tag, out: &mut Vec<u8>) -> Result<(), Memory>
-    ensures { OnOk result (out.new.items ≡ out.old.items ++ (begin_text (tag_name (tag_of tag)) ++ codes ">")) }
-{
-    push_begin(tag.name(), out)?;
-    push_bytes(b">", out)?;
-    Ok(())
 }
 
 fn push_text_of(tag: Tag, text: &[u8], out: &mut Vec<u8>) -> Result<(), Memory>
@@ -189,7 +181,7 @@ fn push_rest(kind: &AckKind, last: bool, out: &mut Vec<u8>) -> Result<(), Memory
 pub fn push_ack(ack: &AckBlock, out: &mut Vec<u8>) -> Result<(), Memory>
     ensures { OnOk result (out.new.items ≡ out.old.items ++ node_text (ack_node ack.now)) }
 {
-    push_start(Tag::SequenceAcknowledgement, out)?;
+    push_start(Tag::SequenceAcknowledgement.name(), out)?;
     push_text_of(Tag::Identifier, ack.ident.as_slice(), out)?;
     push_rest(&ack.kind, ack.last, out)?;
     push_close(Tag::SequenceAcknowledgement.name(), out)?;
@@ -200,7 +192,7 @@ pub fn push_ack(ack: &AckBlock, out: &mut Vec<u8>) -> Result<(), Memory>
 fn push_ident(tag: Tag, ident: &Ident, out: &mut Vec<u8>) -> Result<(), Memory>
     ensures { OnOk result (out.new.items ≡ out.old.items ++ node_text (ident_node tag ident.now)) }
 {
-    push_start(tag, out)?;
+    push_start(tag.name(), out)?;
     push_text_of(Tag::Identifier, ident.as_slice(), out)?;
     push_close(tag.name(), out)?;
     Ok(())
@@ -328,7 +320,7 @@ fn push_behaviour(behaviour: Behaviour, out: &mut Vec<u8>) -> Result<(), Memory>
 fn push_reference(alloc: Global, tag: Tag, reference: &Epr, out: &mut Vec<u8>) -> Result<(), Memory>
     ensures { OnOk result (out.new.items ≡ out.old.items ++ node_text (epr_node tag reference.now)) }
 {
-    push_start(tag, out)?;
+    push_start(tag.name(), out)?;
     push_epr(alloc, reference, out)?;
     push_close(tag.name(), out)?;
     Ok(())
@@ -353,7 +345,7 @@ fn push_terms(
 fn push_offer(alloc: Global, offer: &Offer, out: &mut Vec<u8>) -> Result<(), Memory>
     ensures { OnOk result (out.new.items ≡ out.old.items ++ node_text (offer_node offer.now)) }
 {
-    push_start(Tag::Offer, out)?;
+    push_start(Tag::Offer.name(), out)?;
     push_text_of(Tag::Identifier, offer.ident.as_slice(), out)?;
     push_reference(alloc, Tag::Endpoint, &offer.endpoint, out)?;
     push_terms(alloc, offer.expires, offer.behaviour, out)?;
@@ -384,7 +376,7 @@ fn push_wishes(alloc: Global, create: &CreateSequence, out: &mut Vec<u8>) -> Res
 fn push_create(alloc: Global, create: &CreateSequence, out: &mut Vec<u8>) -> Result<(), Memory>
     ensures { OnOk result (out.new.items ≡ out.old.items ++ node_text (create_node create.now)) }
 {
-    push_start(Tag::CreateSequence, out)?;
+    push_start(Tag::CreateSequence.name(), out)?;
     push_reference(alloc, Tag::AcksTo, &create.acks_to, out)?;
     push_wishes(alloc, create, out)?;
     push_close(Tag::CreateSequence.name(), out)?;
@@ -397,7 +389,7 @@ fn push_accept(alloc: Global, accept: &Option<Epr>, out: &mut Vec<u8>) -> Result
     let Some(accept) = accept else {
         return Ok(());
     };
-    push_start(Tag::Accept, out)?;
+    push_start(Tag::Accept.name(), out)?;
     push_reference(alloc, Tag::AcksTo, accept, out)?;
     push_close(Tag::Accept.name(), out)?;
     Ok(())
@@ -419,7 +411,7 @@ fn push_grant(alloc: Global, response: &CreateResponse, out: &mut Vec<u8>) -> Re
 fn push_response(alloc: Global, response: &CreateResponse, out: &mut Vec<u8>) -> Result<(), Memory>
     ensures { OnOk result (out.new.items ≡ out.old.items ++ node_text (response_node response.now)) }
 {
-    push_start(Tag::CreateSequenceResponse, out)?;
+    push_start(Tag::CreateSequenceResponse.name(), out)?;
     push_text_of(Tag::Identifier, response.ident.as_slice(), out)?;
     push_grant(alloc, response, out)?;
     push_close(Tag::CreateSequenceResponse.name(), out)?;
@@ -438,7 +430,7 @@ fn push_last(last: Option<u64>, out: &mut Vec<u8>) -> Result<(), Memory>
 fn push_finish(tag: Tag, finish: &Finish, out: &mut Vec<u8>) -> Result<(), Memory>
     ensures { OnOk result (out.new.items ≡ out.old.items ++ node_text (finish_node tag finish.now)) }
 {
-    push_start(tag, out)?;
+    push_start(tag.name(), out)?;
     push_text_of(Tag::Identifier, finish.ident.as_slice(), out)?;
     push_last(finish.last_number, out)?;
     push_close(tag.name(), out)?;
@@ -467,7 +459,7 @@ fn push_other(other: bool, out: &mut Vec<u8>) -> Result<(), Memory>
 fn push_make(make: &MakeConnection, out: &mut Vec<u8>) -> Result<(), Memory>
     ensures { OnOk result (out.new.items ≡ out.old.items ++ node_text (make_node make.now)) }
 {
-    push_start(Tag::MakeConnection, out)?;
+    push_start(Tag::MakeConnection.name(), out)?;
     push_address(&make.address, out)?;
     push_other(make.other, out)?;
     push_close(Tag::MakeConnection.name(), out)?;

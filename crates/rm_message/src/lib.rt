@@ -7,4 +7,4 @@ pub mod message;
 pub mod refusal;
 
 pub use message::{Acks, Body, FaultBody, FaultCode, Idents, Message, Names};
-pub use refusal::{DecodeError, FaultKind, Refusal};
+pub use refusal::{DecodeError, FaultKind, ROLLOVER, Refusal};

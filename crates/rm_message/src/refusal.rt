@@ -31,6 +31,9 @@ pub enum FaultKind {
     StoreFull,
 }
 
+/// The local name of the subcode of a rollover, which isn't the name of its kind.
+pub const ROLLOVER: &[u8] = b"MessageNumberRollover";
+
 impl FaultKind {
     /// Its name, which is the reason of its fault too.
     pub fn name(self) -> &'static [u8]

@@ -7,6 +7,6 @@ pub mod laws;
 pub mod pieces;
 
 pub use pieces::{
-    push_attribute, push_begin, push_bytes, push_close, push_declaration, push_leaf, push_number,
-    push_text, push_void,
+    push_attribute, push_begin, push_close, push_declaration, push_leaf, push_number, push_start,
+    push_void,
 };

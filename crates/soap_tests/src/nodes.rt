@@ -1,9 +1,9 @@
 //! The pieces of an element within a frame.
 use rm_base::Memory;
 use soap_nodes::{
-    push_attribute, push_begin, push_bytes, push_close, push_declaration, push_leaf, push_number,
-    push_text, push_void,
+    push_attribute, push_begin, push_close, push_declaration, push_leaf, push_number, push_void,
 };
+use soap_writer::{push_bytes, push_text};
 use std::alloc::Global;
 
 fn push_tag(out: &mut Vec<u8>) -> Result<(), Memory> {

@@ -2,14 +2,13 @@
 ghost use Rattle.std.specs.Prelude.{◌≡◌, ◌<◌, ◌+◌, ◌^◌, [], ◌∷◌, ◌++◌, length, codes, IfOk, OnOk, OnErr};
 ghost use Rattle.soap_document.specs.Grammar.{start_tag, end_tag};
 ghost use Rattle.soap_profile.specs.View.{attrs_view};
-ghost use Rattle.soap_lex.specs.Escapes.{escaped_text, escaped_value};
-ghost use Rattle.soap_writer.specs.ElementText.{quoted, written_name, declaration, attribute_text, attributes_text};
+ghost use Rattle.soap_writer.specs.ElementText.{written_name, declaration, attribute_text, attributes_text};
 ghost use Rattle.soap_writer.specs.ElementText.{mark, tag_text};
 ghost use Rattle.soap_writer.specs.Steps.{Grows, prefix_text};
 
+use crate::text::{push_bytes, push_quoted};
 use itoa::Buffer;
 use rm_base::Memory;
-use soap_lex::{write_attr, write_text};
 use soap_profile::{Attr, Item, Name};
 
 // The prefix that the namespace of a name is bound to.
@@ -19,53 +18,16 @@ enum Prefix {
     OfAttribute(usize),
 }
 
-fn push(bytes: &[u8], out: &mut Vec<u8>) -> Result<(), Memory>
-    ensures ok { OnOk result (out.new.items ≡ out.old.items ++ bytes.now) }
-    ensures err { OnErr result (out.new.items ≡ out.old.items) }
-{
-    out.extend_from_slice(bytes)?;
-    Ok(())
-}
-
 fn push_prefix(prefix: Prefix, out: &mut Vec<u8>) -> Result<(), Memory>
     ensures ok { OnOk result (out.new.items ≡ out.old.items ++ prefix_text prefix) }
     ensures err { OnErr result (Grows out.old.items out.new.items) }
 {
     match prefix {
-        Prefix::OfElement => push(b"n", out),
+        Prefix::OfElement => push_bytes(b"n", out),
         Prefix::OfAttribute(i) => {
-            push(b"q", out)?;
-            push(Buffer::new().format(i).as_bytes(), out)
+            push_bytes(b"q", out)?;
+            push_bytes(Buffer::new().format(i).as_bytes(), out)
         }
-    }
-}
-
-fn push_quoted(value: &[u8], out: &mut Vec<u8>) -> Result<(), Memory>
-    ensures ok { OnOk result (out.new.items ≡ out.old.items ++ quoted value.now) }
-    ensures err { OnErr result (Grows out.old.items out.new.items) }
-{
-    push(b"\"", out)?;
-    push_value(value, out)?;
-    push(b"\"", out)
-}
-
-fn push_value(value: &[u8], out: &mut Vec<u8>) -> Result<(), Memory>
-    ensures ok { OnOk result (out.new.items ≡ out.old.items ++ escaped_value value.now) }
-    ensures err { OnErr result (out.new.items ≡ out.old.items) }
-{
-    match write_attr(value, out) {
-        Ok(()) => Ok(()),
-        Err(_) => Err(Memory),
-    }
-}
-
-pub(crate) fn push_text(text: &[u8], out: &mut Vec<u8>) -> Result<(), Memory>
-    ensures ok { OnOk result (out.new.items ≡ out.old.items ++ escaped_text text.now) }
-    ensures err { OnErr result (out.new.items ≡ out.old.items) }
-{
-    match write_text(text, out) {
-        Ok(()) => Ok(()),
-        Err(_) => Err(Memory),
     }
 }
 
@@ -74,15 +36,15 @@ fn push_name(prefix: Prefix, name: &Name, out: &mut Vec<u8>) -> Result<(), Memor
     ensures err { OnErr result (Grows out.old.items out.new.items) }
 {
     if name.is_bare() {
-        return push(name.local(), out);
+        return push_bytes(name.local(), out);
     }
     if name.is_of_xml() {
-        push(b"xml:", out)?;
-        return push(name.local(), out);
+        push_bytes(b"xml:", out)?;
+        return push_bytes(name.local(), out);
     }
     push_prefix(prefix, out)?;
-    push(b":", out)?;
-    push(name.local(), out)
+    push_bytes(b":", out)?;
+    push_bytes(name.local(), out)
 }
 
 fn push_declaration(prefix: Prefix, name: &Name, out: &mut Vec<u8>) -> Result<(), Memory>
@@ -92,9 +54,9 @@ fn push_declaration(prefix: Prefix, name: &Name, out: &mut Vec<u8>) -> Result<()
     if name.is_bare() || name.is_of_xml() {
         return Ok(());
     }
-    push(b" xmlns:", out)?;
+    push_bytes(b" xmlns:", out)?;
     push_prefix(prefix, out)?;
-    push(b"=", out)?;
+    push_bytes(b"=", out)?;
     push_quoted(name.space(), out)
 }
 
@@ -103,9 +65,9 @@ fn push_attribute(prefix: Prefix, attr: &Attr, out: &mut Vec<u8>) -> Result<(), 
     ensures err { OnErr result (Grows out.old.items out.new.items) }
 {
     push_declaration(prefix, &attr.name, out)?;
-    push(b" ", out)?;
+    push_bytes(b" ", out)?;
     push_name(prefix, &attr.name, out)?;
-    push(b"=", out)?;
+    push_bytes(b"=", out)?;
     push_quoted(attr.value.as_slice(), out)
 }
 
@@ -139,7 +101,7 @@ fn push_mark(marked: bool, out: &mut Vec<u8>) -> Result<(), Memory>
     ensures err { OnErr result (Grows out.old.items out.new.items) }
 {
     if marked {
-        push(b" a:IsReferenceParameter=\"true\"", out)
+        push_bytes(b" a:IsReferenceParameter=\"true\"", out)
     } else {
         Ok(())
     }
@@ -155,19 +117,19 @@ pub(crate) fn push_start_tag(
         ++ start_tag (written_name (codes "n") name.now) (tag_text marked name.now (attrs_view items.now))) }
     ensures err { OnErr result (Grows out.old.items out.new.items) }
 {
-    push(b"<", out)?;
+    push_bytes(b"<", out)?;
     push_name(Prefix::OfElement, name, out)?;
     push_declaration(Prefix::OfElement, name, out)?;
     push_mark(marked, out)?;
     push_attributes(items, out)?;
-    push(b">", out)
+    push_bytes(b">", out)
 }
 
 pub(crate) fn push_end_tag(name: &Name, out: &mut Vec<u8>) -> Result<(), Memory>
     ensures ok { OnOk result (out.new.items ≡ out.old.items ++ end_tag (written_name (codes "n") name.now) []) }
     ensures err { OnErr result (Grows out.old.items out.new.items) }
 {
-    push(b"</", out)?;
+    push_bytes(b"</", out)?;
     push_name(Prefix::OfElement, name, out)?;
-    push(b">", out)
+    push_bytes(b">", out)
 }

@@ -38,6 +38,16 @@ impl Epr {
     }
 }
 
+/// An endpoint reference again, where there is one.
+pub fn copy_reference(alloc: Global, reference: &Option<Epr>) -> Result<Option<Epr>, Memory>
+    ensures { IfOk result (λ copy. copy ≡ reference.now) }
+{
+    match reference {
+        Some(endpoint) => Ok(Some(endpoint.copy(alloc)?)),
+        None => Ok(None),
+    }
+}
+
 /// An element of text that is an address.
 pub fn read_address_of(alloc: Global, element: &Element) -> Result<Uri, Flaw>
     ensures { Gives (λ uri. uri) result (uri_of (element_view element.now)) }

@@ -14,7 +14,9 @@ pub mod tag;
 pub mod write;
 
 pub use addressing::Addressing;
-pub use endpoint::{ADDRESSING, Epr, read_address_of, read_epr, read_reference, unmark};
+pub use endpoint::{
+    ADDRESSING, Epr, copy_reference, read_address_of, read_epr, read_reference, unmark,
+};
 pub use error::AddressingError;
 pub use laws::{
     addressing_blocks_are_told, addressing_is_good, addressing_is_read_back, epr_is_good,

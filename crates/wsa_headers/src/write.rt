@@ -17,7 +17,7 @@ use crate::addressing::Addressing;
 use crate::endpoint::Epr;
 use crate::tag::Tag;
 use rm_base::{Blob, Memory, Uri};
-use soap_nodes::{push_begin, push_bytes, push_close, push_leaf};
+use soap_nodes::{push_close, push_leaf, push_start};
 use soap_profile::{Element, Elements};
 use soap_writer::write_element;
 use std::alloc::Global;
@@ -65,8 +65,7 @@ fn push_holder(alloc: Global, params: &Elements, out: &mut Vec<u8>) -> Result<()
     if params.is_empty() {
         return Ok(());
     }
-    push_begin(Tag::ReferenceParameters.name(), out)?;
-    push_bytes(b">", out)?;
+    push_start(Tag::ReferenceParameters.name(), out)?;
     push_params(alloc, params.as_slice(), false, out)?;
     push_close(Tag::ReferenceParameters.name(), out)?;
     Ok(())
@@ -100,8 +99,7 @@ fn push_reference(
     let Some(reference) = reference else {
         return Ok(());
     };
-    push_begin(tag.name(), out)?;
-    push_bytes(b">", out)?;
+    push_start(tag.name(), out)?;
     push_epr(alloc, reference, out)?;
     push_close(tag.name(), out)?;
     Ok(())
