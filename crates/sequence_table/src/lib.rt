@@ -4,5 +4,7 @@
 
 pub mod idents;
 pub mod laws;
+pub mod records;
 
 pub use idents::{is_issued, issue, issued_counter};
+pub use records::made_by;
