@@ -1,12 +1,14 @@
 -- What the records say of one sequence, as the tables answer it.
 use Rattle.std.specs.Prelude.{ℕ, List, Option, None, Some, if◌then◌else◌, slice_get, slice_index_or, Bool, true, false}
 use Rattle.std.specs.List.{flat_map}
+use Rattle.std.specs.Str.{bytes_eq}
 use Rattle.rm_source.specs.declared.phase.OutPhase.{OutPhase}
 use Rattle.rm_source.specs.declared.phase.OutPhase.TheVariants as out
 use Rattle.rm_source.specs.Outgoing.{Sending, unacked_of}
 use Rattle.rm_destination.specs.Incoming.{Receiving}
 use Rattle.record_batch.specs.Fact.{Fact}
 use Rattle.sequence_table.specs.Words.{Text}
+use Rattle.sequence_table.specs.Idents.{issue}
 use Rattle.sequence_table.specs.Makers.{Maker, Outgoing, Offered, Incoming, Taken, addresses_of, maker, makers_of}
 use Rattle.sequence_table.specs.Sources.{is_sending, tickets}
 use Rattle.sequence_table.specs.Told.{Side, Sends, Receives, first_ticket, last_onto, receiving, sending}
@@ -29,6 +31,11 @@ address_in r = slice_get (flat_map addresses_of r) 0
 -- the identifier that a record gives to an outgoing sequence
 abbrev pub ident_by : Fact → Option Text
 ident_by f = if gives_ident f then Some (ident_given f) else None
+
+-- a sequence that was made so was asked for with this message
+abbrev pub is_asked : ℕ → Text → Maker → Bool
+is_asked node t (Outgoing ticket to via lapse) = bytes_eq (issue node ticket) t
+is_asked node t _ = false
 
 -- a phase before the answer to a CreateSequence
 abbrev pub is_asking : OutPhase → Bool

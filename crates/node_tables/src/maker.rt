@@ -1,10 +1,14 @@
 //! How a sequence came to be.
-ghost use Rattle.std.specs.Prelude.{◌≡◌, if◌then◌else◌, map, slice_get};
+ghost use Rattle.std.specs.Prelude.{◌≡◌, ℕ, if◌then◌else◌, Some, true, map, slice_get};
 ghost use Rattle.std.specs.Option.{option_map};
 ghost use Rattle.record_batch.specs.Fact.{fact_of};
+ghost use Rattle.sequence_table.specs.Find.{is_incoming};
+ghost use Rattle.sequence_table.specs.Fits.{is_outgoing_side};
+ghost use Rattle.sequence_table.specs.Idents.{IsIssuedFor};
 ghost use Rattle.sequence_table.specs.Makers.{makers_of};
+ghost use Rattle.sequence_table.specs.Words.{Text};
 ghost use Rattle.node_tables.specs.Kept.{kept_at};
-ghost use Rattle.node_tables.specs.Reads.{maker_seen};
+ghost use Rattle.node_tables.specs.Reads.{is_asked, maker_seen};
 
 use crate::note::Origin;
 use record_batch::{Record, Via};
@@ -41,6 +45,32 @@ pub enum Maker<'a> {
         ident: &'a Ident,
         endpoint: &'a Epr,
     },
+}
+
+impl<'a> Maker<'a> {
+    /// Whether the sequence is incoming, and its identifier is what the node issues for this number.
+    pub fn is_incoming(self, drawn: Option<u64>) -> bool
+        ensures { (node s : ℕ) (q : Text) → IsIssuedFor node q drawn
+            → result ≡ is_incoming node q s (maker_seen self.entry) }
+    {
+        match self {
+            Maker::Granted { counter, .. } => drawn == Some(counter),
+            Maker::Offered { counter, .. } => drawn == Some(counter),
+            Maker::Asked { .. } | Maker::Taken { .. } => false,
+        }
+    }
+
+    /// Whether the sequence was asked for by the message whose identifier is what the node issues for this number.
+    pub fn is_asked(self, drawn: Option<u64>) -> bool
+        ensures is { (node : ℕ) (q : Text) → IsIssuedFor node q drawn
+            → result ≡ is_asked node q (maker_seen self.entry) }
+        ensures sends { result ≡ true → is_outgoing_side (Some (maker_seen self.entry)) ≡ true }
+    {
+        match self {
+            Maker::Asked { ticket, .. } => drawn == Some(ticket),
+            Maker::Offered { .. } | Maker::Granted { .. } | Maker::Taken { .. } => false,
+        }
+    }
 }
 
 /// How the first or the second sequence of the record at a place came to be.

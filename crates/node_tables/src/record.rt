@@ -11,6 +11,7 @@ ghost use Rattle.node_tables.specs.Kept.{names_for, origins_for};
 use crate::note::{Named, Origin};
 use record_batch::{OwnOffer, Record};
 use rm_base::Behaviour;
+use sequence_table::made_by;
 
 /// The sequence that a record names, and 0 where it names none.
 pub(crate) fn named_by(given: &Record) -> u32
@@ -23,18 +24,6 @@ pub(crate) fn named_by(given: &Record) -> u32
         Record::Closing { seq, .. } | Record::ClosedOut { seq } => *seq,
         Record::Closed { seq, .. } | Record::Ending { seq, .. } => *seq,
         Record::EndedOut { seq } | Record::Ended { seq, .. } | Record::Failed { seq, .. } => *seq,
-    }
-}
-
-/// How many sequences a record makes.
-pub(crate) fn made_by(given: &Record) -> usize
-    ensures count { result ≡ length (makers_of (fact_of given.now)) }
-    ensures few { result ≤ 2 }
-{
-    match given {
-        Record::Creating { offer: None, .. } | Record::Granted { offer: None, .. } => 1,
-        Record::Creating { .. } | Record::Granted { .. } => 2,
-        _ => 0,
     }
 }
 

@@ -27,7 +27,7 @@ use crate::find::{find_accept, find_address, find_granted, find_ident, find_name
 use crate::maker::{Maker, maker_at};
 use crate::note::{Coming, Named, Note, Origin};
 use crate::record::{
-    drawn_after, is_in_order, made_by, name, named_by, number_after, offer_fits, trace,
+    drawn_after, is_in_order, name, named_by, number_after, offer_fits, trace,
 };
 use crate::rows::{accept_at, change, learn_at, receive_at, waiting_in};
 use ack_ranges::RangeSet;
@@ -36,7 +36,7 @@ use rm_base::{Blob, Ident, Memory, Payload, Uri, numbered};
 use rm_destination::Incoming;
 use rm_source::{OutPhase, Outgoing};
 use sequence_row::Row;
-use sequence_table::{is_issued, issued_counter};
+use sequence_table::{is_issued, issued_counter, made_by};
 use std::alloc::Global;
 use std::marker::Model;
 use wsa_headers::Epr;
@@ -319,7 +319,7 @@ impl Tables {
         ensures { result ≡ has_places self.now.records (fact_of given.now) }
     {
         let len = self.len() as usize;
-        len + made_by(given) <= u32::MAX as usize
+        len + made_by(given) as usize <= u32::MAX as usize
     }
 
     /// Whether the sequence that a record names takes it.
