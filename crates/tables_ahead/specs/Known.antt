@@ -8,7 +8,8 @@ use Rattle.record_batch.specs.Fact.{Fact, Made, Creating, Granted}
 use Rattle.rm_source.specs.declared.phase.OutPhase.{OutPhase}
 use Rattle.rm_source.specs.declared.phase.OutPhase.TheVariants as out
 use Rattle.sequence_table.specs.Words.{Text}
-use Rattle.sequence_table.specs.Makers.{makers, nodes_of, addresses_of}
+use Rattle.sequence_table.specs.Find.{find_from}
+use Rattle.sequence_table.specs.Makers.{Maker, makers, nodes_of, addresses_of}
 use Rattle.sequence_table.specs.Fits.{all_fit, has_places}
 
 -- the records of the tables, and those ahead of them, oldest first
@@ -19,6 +20,10 @@ pub record KnownRecords : Type 0 where
 -- all that is known: the records of the tables and, behind them, those ahead
 abbrev pub all_records : KnownRecords → List Fact
 all_records known = known.records ++ known.delta
+
+-- the first sequence that the records ahead make of which a test holds
+abbrev pub find_ahead : (ℕ → Maker → Bool) → KnownRecords → Option ℕ
+find_ahead f known = find_from f (length (makers known.records)) (makers known.delta)
 
 -- the record may go ahead of r: it isn't that of the node itself, and a place is left for each sequence that it makes
 abbrev pub may_go_ahead : List Fact → Fact → Bool

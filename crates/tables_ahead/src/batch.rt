@@ -12,13 +12,13 @@ ghost use Rattle.rm_base.specs.NumberSet.{has_number};
 ghost use Rattle.node_tables.specs.Reads.{maker_seen};
 
 use crate::record::{
-    accept_by, accepted_by, drawn_by, ends, ident_by, made_by, named_by, number_by, phase_after,
-    stops,
+    accept_by, accepted_by, drawn_by, ends, ident_by, named_by, number_by, phase_after, stops,
 };
 use node_tables::{Maker, maker_by};
 use record_batch::Record;
 use rm_base::Ident;
 use rm_source::OutPhase;
+use sequence_table::made_by;
 use wsa_headers::Epr;
 
 /// How many numbers were drawn, after so many, or the greatest number of 64 bits.

@@ -5,7 +5,6 @@ ghost use Rattle.ack_ranges.specs.Changes.{covers_all, united};
 ghost use Rattle.rm_base.specs.NumberSet.{has_number};
 ghost use Rattle.record_batch.specs.Fact.{fact_of};
 ghost use Rattle.rm_destination.specs.Messages.{ranges_onto};
-ghost use Rattle.rm_destination.specs.Incoming.{is_past};
 ghost use Rattle.sequence_table.specs.Destinations.{deadline_of, front, has_end, held, is_ended, is_over};
 ghost use Rattle.sequence_table.specs.Destinations.{is_stopped, received};
 ghost use Rattle.sequence_table.specs.Find.{accepted_by, find_creating, find_grant, find_incoming, find_outgoing};
@@ -16,21 +15,21 @@ ghost use Rattle.sequence_table.specs.Makers.{counter, created_from, ident_in, m
 ghost use Rattle.sequence_table.specs.Sources.{accepted, acked, out_ident, phase};
 ghost use Rattle.sequence_table.specs.Words.{Text};
 ghost use Rattle.node_tables.specs.Reads.{address_in, is_asking, maker_seen, passes};
-ghost use Rattle.tables_ahead.specs.Known.{all_records, may_go_ahead, opened};
+ghost use Rattle.tables_ahead.specs.Known.{all_records, find_ahead, may_go_ahead, opened};
 
 use crate::batch::{
     accepted_in, drawn_in, ends_in, find_accept, find_ident, find_named, has_in, maker_in,
     phase_in, stops_in,
 };
 use crate::numbers::{acks_in, has_all, insert_received, unite_acked};
-use crate::record::made_by;
 use crate::sides;
 use ack_ranges::{Range, RangeSet};
 use node_tables::{Maker, Tables};
 use record_batch::Record;
 use rm_base::{Ident, Memory, Uri};
+use rm_destination::is_past;
 use rm_source::OutPhase;
-use sequence_table::{is_issued, issued_counter};
+use sequence_table::{is_issued, issued_counter, made_by};
 use std::alloc::Global;
 use std::marker::Model;
 use wsa_headers::Epr;
@@ -187,12 +186,10 @@ impl<'a> Known<'a> {
     pub fn find_grant(&self, message_id: &Uri) -> Option<u32>
         ensures { result ≡ find_grant (all_records self.now) message_id.now }
     {
-        for before in 0..self.len() {
-            if self.is_granted(before + 1, message_id.as_slice()) {
-                return Some(before + 1);
-            }
+        match self.tables.find_grant(message_id) {
+            Some(seq) => Some(seq),
+            None => self.grant_ahead(message_id.as_slice()),
         }
-        None
     }
 
     /// The sequence in phase Creating that a CreateSequence with this MessageID asked for.
@@ -328,6 +325,19 @@ impl<'a> Known<'a> {
         }
     }
 
+    /// The sequence that was granted for a CreateSequence with this MessageID, of those that the batch makes.
+    fn grant_ahead(&self, message_id: &[u8]) -> Option<u32>
+        ensures { result ≡ find_ahead (is_granted message_id.now) self.now }
+    {
+        let known = self.tables.len();
+        for before in known..self.len() {
+            if self.is_granted(before + 1, message_id) {
+                return Some(before + 1);
+            }
+        }
+        None
+    }
+
     /// Whether the sequence with a number is incoming and has the identifier that the node issues for a number.
     fn is_incoming(&self, seq: u32, drawn: Option<u64>) -> bool
         ensures { let r = all_records self.now in (q : Text) → IsIssuedFor (number r) q drawn →
@@ -389,15 +399,5 @@ impl<'a> Known<'a> {
             Some(_) => OutPhase::Open,
             None => OutPhase::Creating,
         }
-    }
-}
-
-/// Whether a deadline is at most now.
-fn is_past(deadline: Option<u64>, now: u64) -> bool
-    ensures { result ≡ is_past deadline now }
-{
-    match deadline {
-        Some(moment) => moment <= now,
-        None => false,
     }
 }

@@ -17,18 +17,6 @@ use rm_base::Ident;
 use rm_source::OutPhase;
 use wsa_headers::Epr;
 
-/// How many sequences a record makes.
-pub(crate) fn made_by(given: &Record) -> u32
-    ensures count { result ≡ length (makers_of (fact_of given.now)) }
-    ensures few { result ≤ 2 }
-{
-    match given {
-        Record::Creating { offer: None, .. } | Record::Granted { offer: None, .. } => 1,
-        Record::Creating { .. } | Record::Granted { .. } => 2,
-        _ => 0,
-    }
-}
-
 /// How many numbers a record draws.
 pub(crate) fn drawn_by(given: &Record) -> u64
     ensures { result ≡ length (draws_of (fact_of given.now)) }

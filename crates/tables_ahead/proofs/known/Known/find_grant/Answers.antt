@@ -1,30 +1,26 @@
-use Rattle.std.proofs.Common.{◌∙◌, ◌+◌, ◌++◌, ◌<◌, drop, cond, length, sym, ap, arith, Some, Bool}
-use Rattle.sequence_table.specs.Find.{find_from, is_granted}
-use Rattle.sequence_table.specs.Makers.{maker, makers}
-use Rattle.node_tables.specs.Reads.{passes}
-use Rattle.tables_ahead.proofs.FoundLemmas.{found}
+use Rattle.std.proofs.Common.{◌∙◌, ◌++◌, length, map, sym, ap}
+use Rattle.std.specs.Option.{option_or}
+use Rattle.record_batch.specs.Fact.{fact_of}
+use Rattle.sequence_table.specs.Find.{find_from, find_grant, is_granted}
+use Rattle.sequence_table.specs.Makers.{makers}
+use Rattle.tables_ahead.proofs.FoundLemmas.{find-ahead}
 use Rattle.tables_ahead.proofs.known.Known.find_grant.Goals as goal
-use Rattle.tables_ahead.specs.Known.{all_records}
+use Rattle.tables_ahead.specs.Known.{all_records, find_ahead, KnownRecords}
 
-pub returns-then-is_granted : goal.returns-then-is_granted
-returns-then-is_granted c =
-    let r = all_records c.args.self.now in
-    let f = is_granted c.args.message_id.now in
-    let k = c.loop-before.before in
-    let lt : k < length (makers r) = omega (arith, c.len-before-end.ensures.count, c.loop-before-test.true) in
-    sym (sym c.loop-before.invariant ∙ found f (makers r) k lt
-    ∙ ap (λ (b : Bool). cond b (Some (k + 1)) (find_from f (k + 1) (drop (k + 1) (makers r))))
-    (sym (c.is_granted.ensures ∙ ap (λ t. passes (is_granted t) (k + 1) (maker r (k + 1))) c.as_slice.ensures.bytes)
-    ∙ c.if-is_granted.true))
+pub returns-in-Some : goal.returns-in-Some
+returns-in-Some c =
+    let r = c.self.inside.tables.now.records in
+    let d = map fact_of c.self.inside.batch.items in
+    let t = c.args.message_id.now in
+    ap (λ o. option_or o (find_from (is_granted t) (length (makers r)) (makers d))) c.in-Some.ensures
+    ∙ sym (find-ahead (is_granted t) r d) ∙ ap (λ (k : KnownRecords). find_grant (all_records k) t) c.self.view_is
 
-pub loop-before-preserved : goal.loop-before-preserved
-loop-before-preserved c =
-    let r = all_records c.args.self.now in
-    let f = is_granted c.args.message_id.now in
-    let k = c.loop-before.before in
-    let lt : k < length (makers r) = omega (arith, c.len-before-end.ensures.count, c.loop-before-test.true) in
-    sym (found f (makers r) k lt
-    ∙ ap (λ (b : Bool). cond b (Some (k + 1)) (find_from f (k + 1) (drop (k + 1) (makers r))))
-    (sym (c.is_granted.ensures ∙ ap (λ t. passes (is_granted t) (k + 1) (maker r (k + 1))) c.as_slice.ensures.bytes)
-    ∙ c.if-is_granted.false))
-    ∙ c.loop-before.invariant
+pub returns-in-None : goal.returns-in-None
+returns-in-None c =
+    let r = c.self.inside.tables.now.records in
+    let d = map fact_of c.self.inside.batch.items in
+    let t = c.args.message_id.now in
+    c.grant_ahead.ensures ∙ ap (λ q. find_ahead (is_granted q) c.args.self.now) c.as_slice.ensures.bytes
+    ∙ ap (λ (k : KnownRecords). find_ahead (is_granted t) k) (sym c.self.view_is)
+    ∙ ap (λ o. option_or o (find_from (is_granted t) (length (makers r)) (makers d))) c.in-None.ensures
+    ∙ sym (find-ahead (is_granted t) r d) ∙ ap (λ (k : KnownRecords). find_grant (all_records k) t) c.self.view_is
