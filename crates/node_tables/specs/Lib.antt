@@ -1,3 +1,4 @@
+pub mod AskingLemmas
 pub mod Kept
 pub mod Laws
 pub mod Peers

@@ -216,9 +216,8 @@ impl Tables {
             result ≡ passes (is_incoming (number r) q) seq (maker r seq) }
     {
         match self.maker(seq) {
-            Some(Maker::Granted { counter, .. }) => drawn == Some(counter),
-            Some(Maker::Offered { counter, .. }) => drawn == Some(counter),
-            _ => false,
+            Some(maker) => maker.is_incoming(drawn),
+            None => false,
         }
     }
 
