@@ -1,18 +1,15 @@
 -- The identifier and the phase of an outgoing sequence, of two lists of records.
-use Rattle.std.proofs.Common.{◌≡◌, ℕ, false, List, [], ◌∷◌, ◌++◌, length, refl, sym, ap, ◌∙◌}
+use Rattle.std.proofs.Common.{◌≡◌, ℕ, List, [], ◌∷◌, ◌++◌, length, refl, sym, ap, ◌∙◌}
 use Rattle.std.proofs.Common.{Option, Some, None}
-use Rattle.std.specs.Prelude.{◌&&◌, is_none}
 use Rattle.std.specs.Option.{option_or}
 use Rattle.rm_source.specs.declared.phase.OutPhase.{OutPhase}
 use Rattle.rm_source.specs.declared.phase.OutPhase.TheVariants as out
 use Rattle.record_batch.specs.Fact.{Fact}
-use Rattle.rm_destination.specs.Messages.{is_empty}
 use Rattle.sequence_table.specs.Words.{Text, last_or}
 use Rattle.sequence_table.specs.Makers.{makers, created, created_from, ident_in}
 use Rattle.sequence_table.specs.Sources.{first_phase, mark_of, marks, out_ident, phase}
 use Rattle.sequence_table.specs.GatherLemmas.{ident_in-append, last_or-append}
 use Rattle.sequence_table.specs.PhaseLemmas.{creating-bare}
-use Rattle.node_tables.specs.Reads.{is_asking}
 use Rattle.tables_ahead.specs.Known.{opened}
 use Rattle.tables_ahead.proofs.GatheredLemmas.{created-both, gathered_at}
 
@@ -30,15 +27,6 @@ opened_later out.Closed x h = refl
 opened_later out.Ending x h = refl
 opened_later out.Ended x h = refl
 opened_later out.Failed x h = refl
-
-asking_later : (p : OutPhase) → (p ≡ out.Creating → ⊥) → is_asking p ≡ false
-asking_later out.Creating h = absurd (h refl)
-asking_later out.Open h = refl
-asking_later out.Closing h = refl
-asking_later out.Closed h = refl
-asking_later out.Ending h = refl
-asking_later out.Ended h = refl
-asking_later out.Failed h = refl
 
 not_nil : (p : OutPhase) (ps : List OutPhase) → p ∷ ps ≡ [] → ⊥
 not_nil p ps e = cc
@@ -60,16 +48,3 @@ phase-both r d s =
     ∙ ap (λ ps. last_or (first_phase (option_or (out_ident r s) x)) ps) (gathered_at s mark_of r d)
     ∙ last_or-append _ (marks r s) (marks d s)
     ∙ ap (λ p. last_or p (marks d s)) (opens (out_ident r s) (marks r s) x (creating-bare r s))
-
-asks : (i : Option Text) (ps : List OutPhase)
-    → (last_or (first_phase i) ps ≡ out.Creating → (i ≡ None) × (ps ≡ []))
-    → is_asking (last_or (first_phase i) ps) ≡ (is_none i && is_empty ps)
-asks None [] h = refl
-asks (Some q) [] h = refl
-asks None (p ∷ ps) h = asking_later (last_or p ps) (λ e. not_nil p ps (h e).1)
-asks (Some q) (p ∷ ps) h = asking_later (last_or p ps) (λ e. not_nil p ps (h e).1)
-
--- a sequence is in phase Creating where it has neither an identifier nor a record of a later phase
-pub asking-bare : (r : List Fact) (s : ℕ)
-    → is_asking (phase r s) ≡ (is_none (out_ident r s) && is_empty (marks r s))
-asking-bare r s = asks (out_ident r s) (marks r s) (creating-bare r s)

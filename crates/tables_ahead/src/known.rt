@@ -29,7 +29,7 @@ use record_batch::Record;
 use rm_base::{Ident, Memory, Uri};
 use rm_destination::is_past;
 use rm_source::OutPhase;
-use sequence_table::{is_issued, issued_counter, made_by};
+use sequence_table::{issued_counter, made_by};
 use std::alloc::Global;
 use std::marker::Model;
 use wsa_headers::Epr;
@@ -173,13 +173,10 @@ impl<'a> Known<'a> {
     pub fn find_incoming(&self, ident: &Ident) -> Option<u32>
         ensures { result ≡ find_incoming (all_records self.now) ident.now }
     {
-        let drawn = issued_counter(self.number(), ident.as_slice());
-        for before in 0..self.len() {
-            if self.is_incoming(before + 1, drawn) {
-                return Some(before + 1);
-            }
+        match self.tables.find_incoming(ident) {
+            Some(seq) => Some(seq),
+            None => self.incoming_ahead(ident),
         }
-        None
     }
 
     /// The sequence that was granted for a CreateSequence with this MessageID.
@@ -196,8 +193,9 @@ impl<'a> Known<'a> {
     pub fn find_creating(&self, message_id: &Uri) -> Option<u32>
         ensures { result ≡ find_creating (all_records self.now) message_id.now }
     {
+        let drawn = issued_counter(self.number(), message_id.as_slice());
         for before in 0..self.len() {
-            if self.is_creating(before + 1, message_id.as_slice()) {
+            if self.is_creating(before + 1, drawn) {
                 return Some(before + 1);
             }
         }
@@ -325,6 +323,21 @@ impl<'a> Known<'a> {
         }
     }
 
+    /// The incoming sequence with an identifier, of those that the batch makes.
+    fn incoming_ahead(&self, ident: &Ident) -> Option<u32>
+        ensures { let k = self.now in
+            result ≡ find_ahead (is_incoming (number (all_records k)) ident.now) k }
+    {
+        let drawn = issued_counter(self.number(), ident.as_slice());
+        let known = self.tables.len();
+        for before in known..self.len() {
+            if self.is_incoming(before + 1, drawn) {
+                return Some(before + 1);
+            }
+        }
+        None
+    }
+
     /// The sequence that was granted for a CreateSequence with this MessageID, of those that the batch makes.
     fn grant_ahead(&self, message_id: &[u8]) -> Option<u32>
         ensures { result ≡ find_ahead (is_granted message_id.now) self.now }
@@ -344,9 +357,8 @@ impl<'a> Known<'a> {
             result ≡ passes (is_incoming (number r) q) seq (maker r seq) }
     {
         match self.maker(seq) {
-            Some(Maker::Granted { counter, .. }) => drawn == Some(counter),
-            Some(Maker::Offered { counter, .. }) => drawn == Some(counter),
-            _ => false,
+            Some(maker) => maker.is_incoming(drawn),
+            None => false,
         }
     }
 
@@ -366,16 +378,15 @@ impl<'a> Known<'a> {
         }
     }
 
-    /// Whether the sequence with a number was asked for with a message, and is in phase Creating.
-    fn is_creating(&self, seq: u32, message_id: &[u8]) -> bool
-        ensures { let r = all_records self.now in
-            result ≡ passes (is_creating r message_id.now) seq (maker r seq) }
+    /// Whether the sequence with a number was asked for with the message that the node issues this number for, and is
+    /// in phase Creating.
+    fn is_creating(&self, seq: u32, drawn: Option<u64>) -> bool
+        ensures { let r = all_records self.now in (q : Text) → IsIssuedFor (number r) q drawn →
+            result ≡ passes (is_creating r q) seq (maker r seq) }
     {
         match self.maker(seq) {
-            Some(Maker::Asked { ticket, .. }) => {
-                self.is_asking(seq) && is_issued(self.number(), ticket, message_id)
-            }
-            _ => false,
+            Some(maker) => maker.is_asked(drawn) && self.is_asking(seq),
+            None => false,
         }
     }
 
@@ -401,3 +412,4 @@ impl<'a> Known<'a> {
         }
     }
 }
+

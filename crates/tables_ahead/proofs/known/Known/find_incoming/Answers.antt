@@ -1,29 +1,28 @@
-use Rattle.std.proofs.Common.{◌∙◌, ◌+◌, ◌<◌, drop, cond, length, sym, ap, arith, Some, Bool}
-use Rattle.sequence_table.specs.Find.{find_from, is_incoming}
+use Rattle.std.proofs.Common.{◌∙◌, ◌++◌, length, map, sym, ap}
+use Rattle.std.specs.Option.{option_or}
+use Rattle.record_batch.specs.Fact.{fact_of}
+use Rattle.sequence_table.specs.Find.{find_from, find_incoming, is_incoming}
 use Rattle.sequence_table.specs.Makers.{makers, number}
-use Rattle.tables_ahead.proofs.FoundLemmas.{found}
+use Rattle.tables_ahead.proofs.FoundLemmas.{incoming-ahead}
 use Rattle.tables_ahead.proofs.known.Known.find_incoming.Goals as goal
-use Rattle.tables_ahead.specs.Known.{all_records}
+use Rattle.tables_ahead.specs.Known.{all_records, find_ahead, KnownRecords}
 
-pub returns-then-is_incoming : goal.returns-then-is_incoming
-returns-then-is_incoming c =
-    let r = all_records c.args.self.now in
-    let f = is_incoming (number r) c.args.ident.now in
-    let k = c.loop-before.before in
-    let lt : k < length (makers r) = omega (arith, c.len-before-end.ensures.count, c.loop-before-test.true) in
-    let issued = rw (c.number.ensures.value, c.as_slice.ensures.bytes) at c.issued_counter-drawn.ensures in
-    sym (sym c.loop-before.invariant ∙ found f (makers r) k lt
-    ∙ ap (λ (b : Bool). cond b (Some (k + 1)) (find_from f (k + 1) (drop (k + 1) (makers r))))
-    (sym (c.is_incoming.ensures c.args.ident.now issued) ∙ c.if-is_incoming.true))
+pub returns-in-Some : goal.returns-in-Some
+returns-in-Some c =
+    let r = c.self.inside.tables.now.records in
+    let d = map fact_of c.self.inside.batch.items in
+    let q = c.args.ident.now in
+    let more = find_from (is_incoming (number (r ++ d)) q) (length (makers r)) (makers d) in
+    ap (λ o. option_or o more) c.in-Some.ensures ∙ sym (incoming-ahead r d q c.self.invariant.nodes)
+    ∙ ap (λ (k : KnownRecords). find_incoming (all_records k) q) c.self.view_is
 
-pub loop-before-preserved : goal.loop-before-preserved
-loop-before-preserved c =
-    let r = all_records c.args.self.now in
-    let f = is_incoming (number r) c.args.ident.now in
-    let k = c.loop-before.before in
-    let lt : k < length (makers r) = omega (arith, c.len-before-end.ensures.count, c.loop-before-test.true) in
-    let issued = rw (c.number.ensures.value, c.as_slice.ensures.bytes) at c.issued_counter-drawn.ensures in
-    sym (found f (makers r) k lt
-    ∙ ap (λ (b : Bool). cond b (Some (k + 1)) (find_from f (k + 1) (drop (k + 1) (makers r))))
-    (sym (c.is_incoming.ensures c.args.ident.now issued) ∙ c.if-is_incoming.false))
-    ∙ c.loop-before.invariant
+pub returns-in-None : goal.returns-in-None
+returns-in-None c =
+    let r = c.self.inside.tables.now.records in
+    let d = map fact_of c.self.inside.batch.items in
+    let q = c.args.ident.now in
+    let more = find_from (is_incoming (number (r ++ d)) q) (length (makers r)) (makers d) in
+    c.incoming_ahead.ensures
+    ∙ ap (λ (k : KnownRecords). find_ahead (is_incoming (number (all_records k)) q) k) (sym c.self.view_is)
+    ∙ ap (λ o. option_or o more) c.in-None.ensures ∙ sym (incoming-ahead r d q c.self.invariant.nodes)
+    ∙ ap (λ (k : KnownRecords). find_incoming (all_records k) q) c.self.view_is

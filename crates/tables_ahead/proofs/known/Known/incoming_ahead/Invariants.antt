@@ -1,0 +1,10 @@
+use Rattle.std.proofs.Common.{◌≡◌, ◌++◌, drop}
+use Rattle.sequence_table.specs.Find.{find_from, is_incoming}
+use Rattle.sequence_table.specs.Makers.{makers, number}
+use Rattle.tables_ahead.proofs.known.Known.incoming_ahead.Given as goal
+use Rattle.tables_ahead.specs.Known.{all_records, find_ahead}
+
+abbrev pub invariant-loop-before : goal.invariant-loop-before
+invariant-loop-before l =
+    let f = is_incoming (number (all_records l.self)) l.ident in
+    find_from f l.before (drop l.before (makers (all_records l.self))) ≡ find_ahead f l.self

@@ -1,0 +1,11 @@
+use Rattle.std.proofs.Common.{◌∙◌, ◌++◌, ap}
+use Rattle.sequence_table.specs.Find.{is_incoming}
+use Rattle.sequence_table.specs.Makers.{number}
+use Rattle.node_tables.specs.Reads.{passes}
+use Rattle.tables_ahead.proofs.known.Known.is_incoming.Goals as goal
+use Rattle.tables_ahead.specs.Known.{all_records}
+
+pub returns-in-Some : goal.returns-in-Some
+returns-in-Some c = λ q h.
+    let n = number (all_records c.args.self.now) in
+    c.is_incoming.ensures n c.args.seq q h ∙ ap (passes (is_incoming n q) c.args.seq) c.in-Some.ensures
