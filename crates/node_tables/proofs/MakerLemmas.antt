@@ -1,27 +1,24 @@
 -- What is read of how sequences came to be.
 use Rattle.std.proofs.Common.{◌≡◌, ℕ, zero, suc, ◌+◌, ◌-◌, ◌<◌, ◌==◌, ◌^◌, Bool, true, false, cond, List, []}
-use Rattle.std.proofs.Common.{◌∷◌, ◌++◌, length, get_or, drop, refl, sym, ap, subst, ◌∙◌, arith, Option, Some, None}
-use Rattle.std.specs.Prelude.{◌&&◌, is_none, nat_le, nat_lt, slice_get}
+use Rattle.std.proofs.Common.{◌∷◌, ◌++◌, length, get_or, drop, sym, ap, subst, ◌∙◌, arith, Some, None}
+use Rattle.std.specs.Prelude.{nat_le, nat_lt, slice_get}
 use Rattle.std.specs.List.{flat_map}
 use Rattle.std.specs.Option.{option_map}
-use Rattle.std.proofs.lemmas.Bool.{and_parts, and_right, ltb-true, ne_eqb}
+use Rattle.std.proofs.lemmas.Bool.{and_parts, ltb-true, ne_eqb}
 use Rattle.std.proofs.lemmas.List.{at_drop_more}
 use Rattle.std.proofs.lemmas.Option.{none-some, same_Some, slice_get-get_or}
 use Rattle.rm_base.specs.Numbered.{numbered}
-use Rattle.rm_source.specs.declared.phase.OutPhase.{OutPhase}
-use Rattle.rm_source.specs.declared.phase.OutPhase.TheVariants as out
-use Rattle.record_batch.specs.Fact.{Fact, Made, Closing, ClosedOut, Ending, EndedOut, Failed}
+use Rattle.record_batch.specs.Fact.{Fact, Made}
 use Rattle.rm_destination.specs.Messages.{is_empty}
-use Rattle.sequence_table.specs.Words.{Text, at_seq, first_or, last_or}
+use Rattle.sequence_table.specs.Words.{first_or}
 use Rattle.sequence_table.specs.Find.{find_from}
 use Rattle.sequence_table.specs.Fits.{all_fit, fits}
 use Rattle.sequence_table.specs.Makers.{Maker, maker, makers_of, nodes_of}
-use Rattle.sequence_table.specs.Sources.{first_phase, mark_of, marks, out_ident, phase}
 use Rattle.node_tables.specs.declared.note.Origin.{Origin}
 use Rattle.node_tables.specs.declared.note.Named.{Named}
 use Rattle.node_tables.specs.Kept.{AreGiven, AreMade, Holds, IsMade, Table, gives_ident, kept_at, maker_at, no_maker}
 use Rattle.node_tables.specs.Kept.{records_in}
-use Rattle.node_tables.specs.Reads.{is_asking, passes}
+use Rattle.node_tables.specs.Reads.{passes}
 use Rattle.node_tables.proofs.RowsLemmas.{numbered-map}
 
 made-at : (kept : List Fact) (o : Origin) → IsMade kept o
@@ -81,40 +78,6 @@ find-step f ms k lt =
     at_drop_more (λ xs. find_from f k xs) ms k no_maker lt
     ∙ ap (λ n. cond (f n d) (Some n) (find_from f n (drop (k + 1) ms))) (next k)
     ∙ ap (λ o. cond (passes f (k + 1) o) (Some (k + 1)) (find_from f (k + 1) (drop (k + 1) ms))) (sym there)
-
-one_mark : (s q : ℕ) (p m : OutPhase) (ms : List (ℕ × OutPhase)) → is_asking m ≡ false
-    → ((x : OutPhase) → is_asking (last_or x (at_seq s ms)) ≡ (is_asking x && is_empty (at_seq s ms)))
-    → is_asking (last_or p (at_seq s ((q, m) ∷ ms))) ≡ (is_asking p && is_empty (at_seq s ((q, m) ∷ ms)))
-one_mark s q p m ms off rest =
-    elim (q == s) as (λ b. is_asking (last_or p (cond b (m ∷ at_seq s ms) (at_seq s ms)))
-    ≡ (is_asking p && is_empty (cond b (m ∷ at_seq s ms) (at_seq s ms)))) [
-      | true ↦
-          rest m ∙ ap (λ b. b && is_empty (at_seq s ms)) off ∙ sym (and_right (is_asking p) false refl)
-      | false ↦ rest p
-    ]
-
-pub and_right_true : (b : Bool) → (b && true) ≡ b
-and_right_true true = refl
-and_right_true false = refl
-
-asking : (s : ℕ) (r : List Fact) (p : OutPhase)
-    → is_asking (last_or p (at_seq s (flat_map mark_of r))) ≡ (is_asking p && is_empty (at_seq s (flat_map mark_of r)))
-asking s [] p = sym (and_right_true (is_asking p))
-asking s (Closing q ticket ∷ r) p = one_mark s q p out.Closing (flat_map mark_of r) refl (asking s r)
-asking s (ClosedOut q ∷ r) p = one_mark s q p out.Closed (flat_map mark_of r) refl (asking s r)
-asking s (Ending q ticket ∷ r) p = one_mark s q p out.Ending (flat_map mark_of r) refl (asking s r)
-asking s (EndedOut q ∷ r) p = one_mark s q p out.Ended (flat_map mark_of r) refl (asking s r)
-asking s (Failed q fault ∷ r) p = one_mark s q p out.Failed (flat_map mark_of r) refl (asking s r)
-asking s (f ∷ r) p = asking s r p
-
-first_asking : (o : Option Text) → is_asking (first_phase o) ≡ is_none o
-first_asking None = refl
-first_asking (Some q) = refl
-
--- a sequence is in phase Creating until it has an identifier or a phase record
-pub is-creating : (r : List Fact) (s : ℕ) → is_asking (phase r s) ≡ (is_none (out_ident r s) && is_empty (marks r s))
-is-creating r s =
-    asking s r (first_phase (out_ident r s)) ∙ ap (λ b. b && is_empty (marks r s)) (first_asking (out_ident r s))
 
 -- an identifier is given at each place
 pub given-at : (kept : List Fact) (ns : List Named) (i : ℕ) (d : Named) → AreGiven kept ns → i < length ns

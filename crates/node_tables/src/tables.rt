@@ -36,7 +36,7 @@ use rm_base::{Blob, Ident, Memory, Payload, Uri, numbered};
 use rm_destination::Incoming;
 use rm_source::{OutPhase, Outgoing};
 use sequence_row::Row;
-use sequence_table::{is_issued, issued_counter, made_by};
+use sequence_table::{issued_counter, made_by};
 use std::alloc::Global;
 use std::marker::Model;
 use wsa_headers::Epr;
@@ -226,24 +226,24 @@ impl Tables {
     pub fn find_creating(&self, message_id: &Uri) -> Option<u32>
         ensures { result ≡ find_creating self.now.records message_id.now }
     {
+        let drawn = issued_counter(self.number(), message_id.as_slice());
         for before in 0..self.len() {
-            if self.is_creating(before + 1, message_id.as_slice()) {
+            if self.is_creating(before + 1, drawn) {
                 return Some(before + 1);
             }
         }
         None
     }
 
-    /// Whether a CreateSequence with this MessageID asked for the sequence with a number, and waits for its answer.
-    fn is_creating(&self, seq: u32, message_id: &[u8]) -> bool
-        ensures { result
-            ≡ passes (is_creating self.now.records message_id.now) seq (maker self.now.records seq) }
+    /// Whether a CreateSequence asked for the sequence with a number and waits for its answer, and its MessageID is
+    /// what the node issues for this number.
+    fn is_creating(&self, seq: u32, drawn: Option<u64>) -> bool
+        ensures { let r = self.now.records in (q : Text) → IsIssuedFor (number r) q drawn →
+            result ≡ passes (is_creating r q) seq (maker r seq) }
     {
         match self.maker(seq) {
-            Some(Maker::Asked { ticket, .. }) => {
-                self.is_asking(seq) && is_issued(self.number(), ticket, message_id)
-            }
-            _ => false,
+            Some(maker) => maker.is_asked(drawn) && self.is_asking(seq),
+            None => false,
         }
     }
 

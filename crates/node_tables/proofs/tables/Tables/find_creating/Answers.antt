@@ -1,7 +1,6 @@
 use Rattle.std.proofs.Common.{◌∙◌, ◌+◌, ◌<◌, drop, cond, length, sym, ap, arith, Some, Bool}
 use Rattle.sequence_table.specs.Find.{find_from, is_creating}
-use Rattle.sequence_table.specs.Makers.{maker, makers}
-use Rattle.node_tables.specs.Reads.{passes}
+use Rattle.sequence_table.specs.Makers.{makers}
 use Rattle.node_tables.proofs.MakerLemmas.{find-step}
 use Rattle.node_tables.proofs.tables.Tables.find_creating.Goals as goal
 
@@ -11,12 +10,10 @@ returns-then-is_creating c =
     let ms = makers c.args.self.now.records in
     let k = c.loop-before.before in
     let lt : k < length ms = omega (arith, c.len-before-end.ensures.count, c.loop-before-test.true) in
+    let issued = rw (c.number.ensures.value, c.as_slice.ensures.bytes) at c.issued_counter-drawn.ensures in
     sym (sym c.loop-before.invariant ∙ find-step f ms k lt
     ∙ ap (λ (b : Bool). cond b (Some (k + 1)) (find_from f (k + 1) (drop (k + 1) ms)))
-    (sym (c.is_creating.ensures
-    ∙ ap (λ t. passes (is_creating c.args.self.now.records t) (k + 1) (maker c.args.self.now.records (k + 1)))
-    c.as_slice.ensures.bytes)
-    ∙ c.if-is_creating.true))
+    (sym (c.is_creating.ensures c.args.message_id.now issued) ∙ c.if-is_creating.true))
 
 pub loop-before-preserved : goal.loop-before-preserved
 loop-before-preserved c =
@@ -24,10 +21,8 @@ loop-before-preserved c =
     let ms = makers c.args.self.now.records in
     let k = c.loop-before.before in
     let lt : k < length ms = omega (arith, c.len-before-end.ensures.count, c.loop-before-test.true) in
+    let issued = rw (c.number.ensures.value, c.as_slice.ensures.bytes) at c.issued_counter-drawn.ensures in
     sym (find-step f ms k lt
     ∙ ap (λ (b : Bool). cond b (Some (k + 1)) (find_from f (k + 1) (drop (k + 1) ms)))
-    (sym (c.is_creating.ensures
-    ∙ ap (λ t. passes (is_creating c.args.self.now.records t) (k + 1) (maker c.args.self.now.records (k + 1)))
-    c.as_slice.ensures.bytes)
-    ∙ c.if-is_creating.false))
+    (sym (c.is_creating.ensures c.args.message_id.now issued) ∙ c.if-is_creating.false))
     ∙ c.loop-before.invariant

@@ -1,23 +1,30 @@
 use Rattle.std.proofs.Common.{◌≡◌, ◌∙◌, true, ap, sym}
-use Rattle.std.specs.Prelude.{◌&&◌, is_none}
-use Rattle.std.specs.Str.{bytes_eq}
+use Rattle.std.specs.Prelude.{◌&&◌}
 use Rattle.sequence_table.specs.Find.{is_creating}
-use Rattle.sequence_table.specs.Idents.{issue}
+use Rattle.sequence_table.specs.Fits.{is_outgoing_side}
 use Rattle.sequence_table.specs.Makers.{number}
-use Rattle.sequence_table.specs.Sources.{marks, out_ident}
-use Rattle.rm_destination.specs.Messages.{is_empty}
-use Rattle.node_tables.specs.Reads.{passes}
-use Rattle.node_tables.proofs.MakerLemmas.{and_right_true, is-creating}
+use Rattle.sequence_table.specs.Sources.{phase}
+use Rattle.node_tables.specs.AskingLemmas.{creating-by}
+use Rattle.node_tables.specs.Reads.{is_asked, is_asking, maker_seen, passes}
 use Rattle.node_tables.proofs.tables.Tables.is_creating.Goals as goal
 
-pub returns-then-is_asking : goal.returns-then-is_asking
-returns-then-is_asking c =
+pub is_asking-requires : goal.is_asking-requires
+is_asking-requires c = ap is_outgoing_side (sym c.in-Some.ensures) ∙ c.is_asked.ensures.sends c.if-is_asked.true
+
+pub returns-then-is_asked : goal.returns-then-is_asked
+returns-then-is_asked c = λ q h.
     let r = c.args.self.now.records in
     let s = c.args.seq in
-    let t = c.args.message_id.now in
-    let is : (is_none (out_ident r s) && is_empty (marks r s)) ≡ true =
-    sym (is-creating r s) ∙ sym c.is_asking.ensures ∙ c.if-is_asking.true in
-    c.is_issued.ensures
-    ∙ ap (λ n. bytes_eq (issue n c.in-Some-Asked.ticket) t) c.number.ensures.value
-    ∙ sym (ap (λ b. bytes_eq (issue (number r) c.in-Some-Asked.ticket) t && b) is ∙ and_right_true _)
-    ∙ ap (λ m. passes (is_creating r t) s m) (rw c.in-Some-Asked.field-0-is at c.in-Some-Asked.ensures)
+    let m = maker_seen c.in-Some.maker in
+    let t : is_asked (number r) q m ≡ true = sym (c.is_asked.ensures.is (number r) q h) ∙ c.if-is_asked.true in
+    c.is_asking.ensures ∙ ap (λ b. b && is_asking (phase r s)) (sym t) ∙ sym (creating-by r q s m)
+    ∙ ap (passes (is_creating r q) s) c.in-Some.ensures
+
+pub returns-else-is_asked : goal.returns-else-is_asked
+returns-else-is_asked c = λ q h.
+    let r = c.args.self.now.records in
+    let s = c.args.seq in
+    let m = maker_seen c.in-Some.maker in
+    c.if-is_asked.false
+    ∙ ap (λ b. b && is_asking (phase r s)) (sym c.if-is_asked.false ∙ c.is_asked.ensures.is (number r) q h)
+    ∙ sym (creating-by r q s m) ∙ ap (passes (is_creating r q) s) c.in-Some.ensures
