@@ -7,4 +7,4 @@ pub mod answer;
 pub mod room;
 
 pub use answer::{Answer, Cause, Moves, Outcome, Wish, no_moves};
-pub use room::{has_room, if_room};
+pub use room::{has_room, if_room, refused};

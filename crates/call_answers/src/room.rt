@@ -1,5 +1,5 @@
 //! Whether a batch fits the store.
-ghost use Rattle.std.specs.Prelude.{◌≡◌, ◌+◌, ◌<◌, ◌≤◌, ◌^◌, ◌&&◌, nat_le, [], true, map, length, IfOk, OnOk};
+ghost use Rattle.std.specs.Prelude.{◌≡◌, ℕ, ◌+◌, ◌<◌, ◌≤◌, ◌^◌, ◌&&◌, nat_le, [], true, map, length, IfOk, OnOk};
 ghost use Rattle.std.specs.List.{AllByRecursion};
 ghost use Rattle.rm_base.specs.Limits.{entry_bytes, journal_bytes};
 ghost use Rattle.batch_size.specs.Room.{HasRoom};
@@ -56,10 +56,12 @@ pub fn has_room(alloc: Global, end: u64, batch: &[Record]) -> Result<bool, Memor
     Ok(fits(end, size, batch))
 }
 
-// The answer of a call that is refused.
-fn refused(alloc: Global, cause: Cause) -> Answer
+/// The answer of a call that is refused: it adds nothing and says nothing.
+pub fn refused(alloc: Global, cause: Cause) -> Answer
     ensures is { seen result ≡ refusal_for (cause_seen cause) }
     ensures nothing { result.batch.items ≡ [] }
+    ensures room { (place : ℕ) → HasRoom place (map fact_of result.batch.items) }
+    ensures typed { AllByRecursion IsTyped (map fact_of result.batch.items) }
 {
     Answer {
         outcome: Outcome::Refused(cause),

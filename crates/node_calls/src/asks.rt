@@ -7,10 +7,10 @@ ghost use Rattle.sequence_table.specs.Sources.{out_ident};
 ghost use Rattle.call_answers.specs.Answers.{seen};
 ghost use Rattle.tables_ahead.specs.Known.{all_records};
 
-use crate::answers::{added, refused};
+use crate::answers::added;
 use crate::reads::{may_end, phase, side_refusal};
 use crate::requests::peer;
-use call_answers::{Answer, Cause};
+use call_answers::{Answer, Cause, refused};
 use node_messages::ask_message;
 use node_tables::Tables;
 use rm_base::Memory;

@@ -20,11 +20,11 @@ ghost use Rattle.node_calls.specs.Comes.{closed as closed_of, closing as closing
 ghost use Rattle.node_calls.specs.Records.{IsServing};
 
 use crate::acks::final_ack;
-use crate::answers::{added, refused};
+use crate::answers::added;
 use crate::reads::{is_open, is_over, may_end, phase, side_refusal};
 use crate::requests::{close_request, terminate_request};
 use batch_size::laws::a_batch_is_its_parts;
-use call_answers::{Answer, Cause, if_room};
+use call_answers::{Answer, Cause, if_room, refused};
 use node_tables::{Maker, Tables};
 use record_batch::Record;
 use rm_base::Memory;

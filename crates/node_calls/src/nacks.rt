@@ -15,9 +15,9 @@ ghost use Rattle.node_calls.specs.Records.{IsServing};
 ghost use Rattle.tables_ahead.specs.Known.{all_records};
 
 use crate::acks::{counter_of, own_ack};
-use crate::answers::{added, refused};
+use crate::answers::added;
 use crate::reads::is_over;
-use call_answers::{Answer, Cause};
+use call_answers::{Answer, Cause, refused};
 use node_tables::laws::an_incoming_sequence_is_as_recorded;
 use node_tables::{Maker, Tables};
 use rm_base::{Memory, Numbers};

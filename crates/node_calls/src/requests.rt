@@ -19,9 +19,9 @@ ghost use Rattle.node_calls.specs.Comes.{asked as asked_of};
 ghost use Rattle.node_calls.specs.Records.{IsServing};
 ghost use Rattle.tables_ahead.specs.Known.{all_records};
 
-use crate::answers::{added, refused};
+use crate::answers::added;
 use batch_size::laws::a_batch_is_its_parts;
-use call_answers::{Answer, Cause, Wish, if_room};
+use call_answers::{Answer, Cause, Wish, if_room, refused};
 use node_messages::{create_request, plain_endpoint};
 use node_tables::{Maker, Tables};
 use receive_replies::home;

@@ -20,11 +20,11 @@ ghost use Rattle.node_calls.specs.Comes.{sent as sent_of};
 ghost use Rattle.node_calls.specs.Records.{IsServing};
 ghost use Rattle.tables_ahead.specs.Known.{all_records};
 
-use crate::answers::{added, refused};
+use crate::answers::added;
 use crate::reads::{is_open, side_refusal};
 use crate::requests::peer;
 use batch_size::laws::a_batch_is_its_parts;
-use call_answers::{Answer, Cause, if_room};
+use call_answers::{Answer, Cause, if_room, refused};
 use node_messages::data_message;
 use node_tables::Tables;
 use node_tables::laws::an_outgoing_sequence_is_as_recorded;

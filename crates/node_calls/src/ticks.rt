@@ -19,19 +19,10 @@ use call_answers::{Answer, Moves, Outcome, has_room};
 use node_tables::Tables;
 use record_batch::Record;
 use rm_base::{Cause, Memory};
+use rm_destination::is_past;
 use rm_timers::Key;
 use std::alloc::Global;
 use tables_ahead::Known;
-
-// Whether there is a deadline, and it is at most now.
-fn is_past(deadline: Option<u64>, now: u64) -> bool
-    ensures { result ≡ is_past_at deadline now }
-{
-    match deadline {
-        Some(moment) => moment <= now,
-        None => false,
-    }
-}
 
 // Whether the time of a sequence has run out, and no record ends it yet.
 fn is_due(ahead: &Known<'_>, seq: u32, now: u64) -> bool

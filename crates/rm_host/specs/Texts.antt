@@ -3,23 +3,25 @@ use Rattle.std.specs.Prelude.{ℕ, Bool, true, false, List, [], ◌++◌, codes,
 use Rattle.hex.specs.Hex.{encode_lower}
 use Rattle.call_answers.specs.declared.answer.Cause.{Cause}
 use Rattle.call_answers.specs.declared.answer.Cause.TheVariants as cause
+use Rattle.rm_report.specs.Report.{reason_text}
+use Rattle.rm_report.specs.declared.line.Reason.TheVariants as reason
 use Rattle.rm_serve.specs.declared.posting.Posted.{Posted}
 use Rattle.rm_host.specs.declared.end.End.{End}
 use Rattle.rm_host.specs.declared.end.End.TheVariants.{Usage, ReadFault, WriteFault, DiskFault, LinkFault, TooLong}
 use Rattle.rm_host.specs.declared.end.End.TheVariants.{BadAddress, NotEmpty, Refused, Memory, NotAJournal}
 
--- the name of why a node refuses a call
+-- the name of why a node refuses a call, as a report has it
 abbrev pub cause_name : Cause → List ℕ
-cause_name cause.NoSequence = codes "UnknownSequence"
-cause_name cause.WrongSide = codes "WrongSide"
-cause_name (cause.PayloadTooLong length) = codes "PayloadTooLong"
-cause_name cause.BadPayload = codes "BadPayload"
-cause_name cause.NotOpen = codes "NotOpen"
-cause_name (cause.WindowFull unacked) = codes "WindowFull"
-cause_name (cause.NodeFull unacked) = codes "NodeFull"
-cause_name cause.Rollover = codes "Rollover"
-cause_name (cause.TooManySequences count) = codes "TooManySequences"
-cause_name (cause.StoreFull end needed) = codes "StoreFull"
+cause_name cause.NoSequence = reason_text reason.UnknownSequence
+cause_name cause.WrongSide = reason_text reason.WrongSide
+cause_name (cause.PayloadTooLong length) = reason_text reason.PayloadTooLong
+cause_name cause.BadPayload = reason_text reason.BadPayload
+cause_name cause.NotOpen = reason_text reason.NotOpen
+cause_name (cause.WindowFull unacked) = reason_text reason.WindowFull
+cause_name (cause.NodeFull unacked) = reason_text reason.NodeFull
+cause_name cause.Rollover = reason_text reason.Rollover
+cause_name (cause.TooManySequences count) = reason_text reason.TooManySequences
+cause_name (cause.StoreFull end needed) = reason_text reason.StoreFull
 
 -- the line of a refusal
 abbrev pub line_of : End → List ℕ

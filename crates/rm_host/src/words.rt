@@ -2,8 +2,6 @@
 ghost use Rattle.std.specs.Prelude.{
   ◌≡◌,
   ◌≢◌,
-  ◌<◌,
-  ◌^◌,
   ◌∷◌,
   ℕ,
   [],
@@ -15,9 +13,6 @@ ghost use Rattle.std.specs.Prelude.{
   ◌↔◌,
   IsTrue,
   true,
-  IfSome,
-  Some,
-  decimal,
   codes,
 };
 ghost use Rattle.sequence_table.specs.Fits.{is_in_order};
@@ -37,9 +32,9 @@ ghost use Rattle.http_endpoint.specs.Targets.{target_of};
 
 use crate::end::End;
 use http_endpoint::read_target;
-use itoa::Buffer;
 use rm_base::limits::MOST_SEQUENCES;
 use rm_base::{Behaviour, Blob, TextError, Uri};
+use rm_script::number_of;
 use std::alloc::Global;
 use std::str;
 
@@ -250,30 +245,11 @@ fn grant_of(word: &Blob) -> Option<Grant>
 fn number_in(word: &Blob, low: u64, high: u64) -> Option<u64>
     ensures { MatchOption result ((n : ℕ) → ¬ (IsNumber low high word.now n)) (IsNumber low high word.now) }
 {
-    let number = decimal_of(word.as_slice())?;
+    let number = number_of(word.as_slice())?;
     if number < low || number > high {
         return None;
     }
     Some(number)
-}
-
-// The number that is written so: decimal digits without a sign or a leading zero.
-fn decimal_of(digits: &[u8]) -> Option<u64>
-    ensures found { IfSome result (λ number. digits.now ≡ decimal number) }
-    ensures only { (number : ℕ) → number < 2 ^ 64 → digits.now ≡ decimal number → result ≡ Some number }
-{
-    let Ok(text) = str::from_utf8(digits) else {
-        return None;
-    };
-    let Ok(number) = text.parse::<u64>() else {
-        return None;
-    };
-    let mut buffer = Buffer::new();
-    if buffer.format(number).as_bytes() == digits {
-        Some(number)
-    } else {
-        None
-    }
 }
 
 // The address that a word is.

@@ -2,11 +2,13 @@
 //! `rm_elements`, and on `rm_base`. The layer above may use `read_script` by the grammar, `specs/Script`, and the laws.
 #![tactic(auto)]
 
+pub mod decimal;
 pub mod event;
 pub mod laws;
 mod line;
 pub mod script;
 mod word;
 
+pub use decimal::number_of;
 pub use event::{Event, Side};
 pub use script::{ScriptError, read_script};

@@ -1,5 +1,5 @@
 //! The words of a line.
-ghost use Rattle.std.specs.Prelude.{◌≡◌, ◌≤◌, ◌<◌, ◌^◌, ℕ, option_map, decimal, IfSome, Some};
+ghost use Rattle.std.specs.Prelude.{◌≡◌, ◌≤◌, option_map, IfSome};
 ghost use Rattle.rm_script.specs.Reading.{
   behind as behind_of,
   word_of,
@@ -12,8 +12,8 @@ ghost use Rattle.rm_script.specs.Reading.{
   numbered_in,
 };
 
+use crate::decimal::number_of;
 use crate::event::Side;
-use itoa::Buffer;
 use rm_base::Behaviour;
 
 /// The number of a node, and what stands behind it.
@@ -53,26 +53,6 @@ pub(crate) fn number(digits: &[u8], low: u64, high: u64) -> Option<u64>
         return None;
     }
     Some(number)
-}
-
-// The number that is written so: decimal digits without a sign or a leading zero.
-fn number_of(digits: &[u8]) -> Option<u64>
-    ensures found { IfSome result (λ number. digits.now ≡ decimal number) }
-    ensures small { IfSome result (λ number. number < 2 ^ 64) }
-    ensures only { (number : ℕ) → number < 2 ^ 64 → digits.now ≡ decimal number → result ≡ Some number }
-{
-    let Ok(text) = str::from_utf8(digits) else {
-        return None;
-    };
-    let Ok(number) = text.parse::<u64>() else {
-        return None;
-    };
-    let mut buffer = Buffer::new();
-    if buffer.format(number).as_bytes() == digits {
-        Some(number)
-    } else {
-        None
-    }
 }
 
 /// The behaviour that a word names.
