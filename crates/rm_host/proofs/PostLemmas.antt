@@ -11,7 +11,7 @@ use Rattle.rm_link.specs.declared.packet.Fate.{Fate}
 use Rattle.rm_link.specs.declared.packet.Fate.TheVariants.{Answered, Missed, Undialled}
 use Rattle.rm_node.specs.declared.error.NodeError.{NodeError}
 use Rattle.rm_node.specs.declared.packets.Out.{Out}
-use Rattle.rm_serve.specs.Posts.{Posting, broken, down, empty, over, quiet, taken, wanting, with_post}
+use Rattle.rm_serve.specs.Posts.{Posting, begun, broken, down, empty, over, quiet, taken, unheard, wanting, with_post}
 use Rattle.rm_serve.specs.Steps.{Step}
 use Rattle.rm_serve.specs.declared.posting.Posted.{Posted}
 use Rattle.rm_host.proofs.EndLemmas.{rose-after, rose-before}
@@ -59,7 +59,8 @@ dials moment _ _ _ last _ _ _ _ (over queue posted net) e =
 dials moment _ _ _ last _ _ _ _ (empty n posted net) e =
     let same : posted ≡ last = cc in
     subst (λ (p : Posted). Dials posted.undialled p.undialled net net) same (none posted.undialled net)
-dials moment _ _ _ last _ _ _ _ (wanting n queue posted old new) e = absurd cc
+dials moment _ _ _ last _ _ _ _ (wanting n queue posted net) e = absurd cc
+dials moment _ _ _ last _ _ _ _ (begun n out queue posted old new is) e = absurd cc
 dials moment _ _ _ last _ _ _ _ (quiet n out queue posted old mid new fate steps result is heard after) e =
     both posted.undialled (with_post fate posted).undialled last.undialled old mid new
     (one (target_of out.address) old mid fate posted is)
@@ -70,4 +71,5 @@ dials moment _ _ _ last _ _ _ _
     (one (target_of out.address) old mid fate posted is)
     (dials moment n (queue ++ outs) (with_post fate posted) last mid new steps result after e)
 dials moment _ _ _ last _ _ _ _ (broken n out queue posted old new fate body content is heard reads) e = absurd cc
+dials moment _ _ _ last _ _ _ _ (unheard n out queue posted old new fate body is heard) e = absurd cc
 dials moment _ _ _ last _ _ _ _ (down n out queue posted old new fate body is heard) e = absurd cc

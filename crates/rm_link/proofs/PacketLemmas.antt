@@ -1,6 +1,6 @@
 -- Lemmas on packets that are posted.
 use Rattle.std.proofs.Common.{◌≡◌, ◌≢◌, ℕ, List, Option, Some, Result, Ok, Err, ◌∙◌}
-use Rattle.std.proofs.Common.{true, nat_lt, IfOk, refl, arith, rules, inl, inr}
+use Rattle.std.proofs.Common.{true, nat_lt, IfOk, OnErr, refl, arith, rules, inl, inr}
 use Rattle.std.proofs.lemmas.Bool.{ltb-true}
 use Rattle.rm_base.specs.Count.{Rose}
 use Rattle.rm_base.specs.declared.failures.Memory.{Memory}
@@ -10,7 +10,7 @@ use Rattle.http_endpoint.specs.declared.error.HttpError.{HttpError}
 use Rattle.http_endpoint.specs.declared.error.HttpError.TheVariants as http
 use Rattle.http_endpoint.specs.declared.response.Response.{Response}
 use Rattle.rm_link.specs.Lines.{Line, Net, Connects}
-use Rattle.rm_link.specs.Posts.{Ends, IsPostTo, ended_by}
+use Rattle.rm_link.specs.Posts.{Ends, IsBegunTo, IsPostTo, ended_by}
 use Rattle.rm_link.specs.declared.packet.Fate.{Fate}
 use Rattle.rm_link.specs.declared.packet.Fate.TheVariants.{Answered, Missed, Undialled}
 
@@ -50,3 +50,9 @@ posted-on old new line (Ok (Answered body)) connects ends = (line, connects, end
 posted-on old new line (Ok Missed) connects ends = (line, connects, ends)
 posted-on old new line (Ok Undialled) connects ends = absurd ends
 posted-on old new line (Err m) connects ends = search rules
+
+-- or memory was wanting then
+pub begun-on : (old new : Net) (line : Line) (result : Result Fate Memory) → Connects old new (Some line)
+    → OnErr result (IsBegunTo old new)
+begun-on old new line (Ok fate) connects = search rules
+begun-on old new line (Err m) connects = inr (line, connects)

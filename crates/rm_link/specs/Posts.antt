@@ -1,5 +1,5 @@
 -- What becomes of a packet that is posted.
-use Rattle.std.specs.Prelude.{◌≡◌, ℕ, true, List, Option, Some, None, Result, Ok, Err}
+use Rattle.std.specs.Prelude.{◌≡◌, ℕ, ◌⊎◌, true, List, Option, Some, None, Result, Ok, Err}
 use Rattle.http_endpoint.specs.Messages.{IsResponse}
 use Rattle.http_endpoint.specs.declared.error.HttpError.{HttpError}
 use Rattle.http_endpoint.specs.declared.error.HttpError.TheVariants as http
@@ -39,3 +39,12 @@ IsPostTo old new post = (line : Line) × Connects old new (Some line) × Ends li
 abbrev pub IsPost : Net → Net → Option Target → Fate → Type 0
 IsPost old new None post = (post ≡ Missed) × (new ≡ old)
 IsPost old new (Some target) post = IsPostTo old new post
+
+-- what was done for a packet when memory was wanting: nothing, or a connection was made, where it has a target
+abbrev pub IsBegunTo : Net → Net → Type 0
+IsBegunTo old new = (new ≡ old) ⊎ ((line : Line) × Connects old new (Some line))
+
+-- the same, by the target of its address
+abbrev pub IsBegun : Net → Net → Option Target → Type 0
+IsBegun old new None = new ≡ old
+IsBegun old new (Some target) = IsBegunTo old new

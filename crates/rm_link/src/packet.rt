@@ -1,8 +1,8 @@
 //! One packet, posted to where its address says.
-ghost use Rattle.std.specs.Prelude.{◌≡◌, IfOk};
+ghost use Rattle.std.specs.Prelude.{◌≡◌, IfOk, OnErr};
 ghost use Rattle.http_endpoint.specs.Targets.{target_of};
 ghost use Rattle.rm_link.specs.Lines.{line_of};
-ghost use Rattle.rm_link.specs.Posts.{Ends, IsPost, IsPostTo, ended_by};
+ghost use Rattle.rm_link.specs.Posts.{Ends, IsBegun, IsBegunTo, IsPost, IsPostTo, ended_by};
 
 use crate::link::Link;
 use http_endpoint::{
@@ -19,14 +19,16 @@ pub enum Fate {
     Undialled,
 }
 
-/// Posts bytes to an address, on a connection of their own, and reads the response.
+/// Posts bytes to an address, on a connection of their own, and reads the response. Where memory is wanting the bytes
+/// may have been sent, all or some.
 pub fn post<L: Link>(
     alloc: Global,
     link: &mut L,
     address: &Uri,
     bytes: &[u8],
 ) -> Result<Fate, Memory>
-    ensures { IfOk result (IsPost (L.told link.old) (L.told link.new) (target_of address.now)) }
+    ensures posts { IfOk result (IsPost (L.told link.old) (L.told link.new) (target_of address.now)) }
+    ensures begins { OnErr result (IsBegun (L.told link.old) (L.told link.new) (target_of address.now)) }
 {
     match read_target(alloc, address) {
         Ok(Some(target)) => post_to(alloc, link, &target, bytes),
@@ -44,7 +46,8 @@ fn post_to<L: Link>(
     target: &Target,
     bytes: &[u8],
 ) -> Result<Fate, Memory>
-    ensures { IfOk result (IsPostTo (L.told link.old) (L.told link.new)) }
+    ensures posts { IfOk result (IsPostTo (L.told link.old) (L.told link.new)) }
+    ensures begins { OnErr result (IsBegunTo (L.told link.old) (L.told link.new)) }
 {
     match link.dial(target.host.as_slice(), target.port) {
         Ok(mut conn) => exchange(alloc, &mut conn, target, bytes),

@@ -3,7 +3,7 @@ use Rattle.std.proofs.Common.{◌≡◌, ℕ, suc, Bool, List, [], ◌∷◌, �
 use Rattle.std.proofs.Common.{Result, Ok, Err, append_assoc, arith, zero, ◌<◌, ◌-◌}
 use Rattle.http_endpoint.specs.Targets.{target_of}
 use Rattle.rm_link.specs.Lines.{Net}
-use Rattle.rm_link.specs.Posts.{IsPost}
+use Rattle.rm_link.specs.Posts.{IsBegun, IsPost}
 use Rattle.rm_link.specs.declared.packet.Fate.{Fate}
 use Rattle.rm_node.specs.declared.error.NodeError.{NodeError}
 use Rattle.rm_node.specs.declared.error.NodeError.TheVariants as error
@@ -12,7 +12,8 @@ use Rattle.rm_node.specs.declared.step.Reaction.{Reaction}
 use Rattle.rm_serve.specs.Limits as limits
 use Rattle.rm_serve.specs.Reacts.{Reacts, broke, crashed, reacted, slept, starving, took}
 use Rattle.rm_serve.specs.Posts.{Goes, Hears, HearsBy, Posting, Takes, heard_of, none_posted, with_post}
-use Rattle.rm_serve.specs.Posts.{all, asleep, broken, down, empty, failed, lost, over, quiet, starved, taken, wanting}
+use Rattle.rm_serve.specs.Posts.{all, asleep, begun, broken, down, empty, failed, lost, over, quiet, starved, taken}
+use Rattle.rm_serve.specs.Posts.{unheard, wanting}
 use Rattle.rm_serve.specs.Steps.{MakesAll, Place, Stays, Step}
 use Rattle.rm_serve.proofs.StepLemmas.{no-step, then-all}
 use Rattle.rm_serve.specs.declared.posting.Posted.{Posted}
@@ -64,9 +65,9 @@ stops-taken moment out queue more posted old mid fate body _ _ e is heard (all c
 stops-taken moment out queue more posted old mid fate body _ _ e is heard (lost content verdict reply outs reads) f =
     λ n. let same : e ≡ _ = cc in
     rw same (taken n out queue posted old mid mid fate body [] _ content verdict reply outs is heard reads
-    (wanting n (queue ++ outs) (with_post fate posted) mid mid))
+    (wanting n (queue ++ outs) (with_post fate posted) mid))
 stops-taken moment out queue more posted old mid fate body _ _ e is heard starved f =
-    λ n. let same : e ≡ _ = cc in rw same (wanting (suc n) (out ∷ queue) posted old mid)
+    λ n. let same : e ≡ _ = cc in rw same (unheard n out queue posted old mid fate body is heard)
 stops-taken moment out queue more posted old mid fate body _ _ e is heard (failed content reads) f =
     λ n. let same : e ≡ _ = cc in rw same (broken n out queue posted old mid fate body content is heard reads)
 stops-taken moment out queue more posted old mid fate body _ _ e is heard asleep f =
@@ -91,8 +92,8 @@ goes-no-further moment out queue more posted old mid fate steps e is hears =
 
 -- memory was wanting for a packet
 pub goes-wanting : (moment : ℕ) (out : Out) (queue : List Out) (posted : Posted) (old mid : Net)
-    → Goes moment out queue queue posted old mid [] (Err error.Memory)
-goes-wanting moment out queue posted old mid = λ n. wanting (suc n) (out ∷ queue) posted old mid
+    → IsBegun old mid (target_of out.address) → Goes moment out queue queue posted old mid [] (Err error.Memory)
+goes-wanting moment out queue posted old mid is = λ n. begun n out queue posted old mid is
 
 -- ---- the whole row
 

@@ -3,7 +3,7 @@ use Rattle.std.specs.Prelude.{◌≡◌, ℕ, suc, ◌+◌, List, [], ◌∷◌,
 use Rattle.std.specs.Prelude.{Result, Ok, Err}
 use Rattle.http_endpoint.specs.Targets.{target_of}
 use Rattle.rm_link.specs.Lines.{Net}
-use Rattle.rm_link.specs.Posts.{IsPost}
+use Rattle.rm_link.specs.Posts.{IsBegun, IsPost}
 use Rattle.rm_link.specs.declared.packet.Fate.{Fate}
 use Rattle.rm_link.specs.declared.packet.Fate.TheVariants.{Answered, Missed, Undialled}
 use Rattle.rm_message.specs.declared.message.Message.{Message}
@@ -42,12 +42,15 @@ IsNext old new (Some out) = old ≡ out ∷ new
 
 -- Packets are posted, one after the other, so many at most, after others that came to these numbers. Each response that
 -- isn't empty is taken by the node, and what it hands out then goes to the end. It stops when there is none left, or
--- with a call of the node that failed, or where memory was wanting.
+-- with a call of the node that failed, or where memory was wanting: for the queue, for a packet, or for its response.
 pub data Posting (moment : ℕ) : ℕ → List Out → Posted → Net → Net → List Step → Result Posted NodeError → Type 0 where
   over : (queue : List Out) (posted : Posted) (net : Net) → Posting moment 0 queue posted net net [] (Ok posted)
   empty : (n : ℕ) (posted : Posted) (net : Net) → Posting moment n [] posted net net [] (Ok posted)
-  wanting : (n : ℕ) (queue : List Out) (posted : Posted) (old new : Net)
-      → Posting moment n queue posted old new [] (Err error.Memory)
+  wanting : (n : ℕ) (queue : List Out) (posted : Posted) (net : Net)
+      → Posting moment n queue posted net net [] (Err error.Memory)
+  begun : (n : ℕ) (out : Out) (queue : List Out) (posted : Posted) (old new : Net)
+      → IsBegun old new (target_of out.address)
+      → Posting moment (suc n) (out ∷ queue) posted old new [] (Err error.Memory)
   quiet : (n : ℕ) (out : Out) (queue : List Out) (posted : Posted) (old mid new : Net) (fate : Fate) (steps : List Step)
       (result : Result Posted NodeError)
       → IsPost old mid (target_of out.address) fate → heard_of fate ≡ None
@@ -63,6 +66,9 @@ pub data Posting (moment : ℕ) : ℕ → List Out → Posted → Net → Net �
       (content : Result Message Refusal)
       → IsPost old new (target_of out.address) fate → heard_of fate ≡ Some body → IsReadAs body content
       → Posting moment (suc n) (out ∷ queue) posted old new (broke moment content ∷ []) (Err error.Disk)
+  unheard : (n : ℕ) (out : Out) (queue : List Out) (posted : Posted) (old new : Net) (fate : Fate) (body : List ℕ)
+      → IsPost old new (target_of out.address) fate → heard_of fate ≡ Some body
+      → Posting moment (suc n) (out ∷ queue) posted old new [] (Err error.Memory)
   down : (n : ℕ) (out : Out) (queue : List Out) (posted : Posted) (old new : Net) (fate : Fate) (body : List ℕ)
       → IsPost old new (target_of out.address) fate → heard_of fate ≡ Some body
       → Posting moment (suc n) (out ∷ queue) posted old new [] (Err error.Down)

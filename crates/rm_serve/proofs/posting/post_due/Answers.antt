@@ -19,7 +19,7 @@ returns-in_err-push_all-clause-posts g c =
       [],
       no-step g.D.Disk.tells x x (record { node = refl; told = λ t. refl }),
       subst (λ (r : Result Posted NodeError). Posting c.args.now limits.most_posts c.args.outs none_posted net net [] r)
-          (sym (p.1 ∙ ap Err p.2)) (wanting limits.most_posts c.args.outs none_posted net net),
+          (sym (p.1 ∙ ap Err p.2)) (wanting limits.most_posts c.args.outs none_posted net),
     )
 
 pub loop-left-init : goal.loop-left-init
