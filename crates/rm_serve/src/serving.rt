@@ -1,11 +1,11 @@
 //! One connection that came: a request is read, its body given to the node, and the answer written.
-ghost use Rattle.std.specs.Prelude.{◌≡◌, List, Err, IfErr, IfOk, OnOk, Some, None, [], true, false, ◌≤◌};
+ghost use Rattle.std.specs.Prelude.{◌≡◌, List, Err, OnOk, Some, true};
 ghost use Rattle.http_endpoint.specs.Heads.{IsRefusal};
 ghost use Rattle.http_endpoint.specs.Texts.{IsWritten};
 ghost use Rattle.rm_answer.specs.Replies.{refusal_to as refusal_for};
 ghost use Rattle.rm_disk.specs.Cause.{HasCause};
 ghost use Rattle.rm_node.specs.Ends.{is_disk};
-ghost use Rattle.rm_serve.specs.Serves.{Answering, EndsWell, Puts, Serving, is_want, reply_text};
+ghost use Rattle.rm_serve.specs.Serves.{Answering, Puts, Refusing, Serving, is_want, reply_text};
 ghost use Rattle.rm_serve.specs.Steps.{IsReady, MakesAll, Step, place_of};
 
 use crate::taking::hear;
@@ -92,11 +92,7 @@ fn answer<D: Disk, C: Connection>(
 // Writes a response.
 fn write_reply<C: Connection>(alloc: Global, conn: &mut C, reply: &Reply) -> Result<ConnEnd, Memory>
     requires { IsWritten reply.now.status }
-    ensures puts { IfOk result (λ finish. Puts (C.Source.told conn.old)
-        (C.Source.told conn.new) (reply_text (Some reply.now))) }
-    ensures ends { IfOk result (EndsWell (C.Source.told conn.old)
-        (C.Source.told conn.new)) }
-    ensures never_falls { (C.Source.told conn.old).faults ≤ (C.Source.told conn.new).faults }
+    ensures { Puts (C.Source.told conn.old) (C.Source.told conn.new) (reply_text (Some reply.now)) result }
 {
     match write_response(alloc, conn, reply.status, reply.body.as_slice()) {
         Ok(()) => Ok(ConnEnd::Done),
@@ -110,12 +106,7 @@ fn write_reply<C: Connection>(alloc: Global, conn: &mut C, reply: &Reply) -> Res
 // of its answer.
 fn refuse<C: Connection>(alloc: Global, conn: &mut C, error: HttpError) -> Result<Served, NodeError>
     requires { IsRefusal error }
-    ensures is { IfOk result (λ served. served ≡ record { taken = None; outs = []; finish = ConnEnd.Dropped error }) }
-    ensures kind { OnOk result (is_want error ≡ false) }
-    ensures puts { OnOk result (Puts (C.Source.told conn.old)
-        (C.Source.told conn.new) (reply_text (refusal_for error))) }
-    ensures never_falls { (C.Source.told conn.old).faults ≤ (C.Source.told conn.new).faults }
-    ensures err { IfErr result (λ e. e ≡ NodeError.Memory) }
+    ensures { Refusing (C.Source.told conn.old) (C.Source.told conn.new) error result }
 {
     if is_want(error) {
         return Err(NodeError::Memory);
@@ -144,17 +135,12 @@ fn is_want(error: HttpError) -> bool
 }
 
 // Writes the answer to a request that could not be read, where it gets one.
-fn say<C: Connection>(alloc: Global, conn: &mut C, error: HttpError) -> Result<(), Memory>
+fn say<C: Connection>(alloc: Global, conn: &mut C, error: HttpError) -> Result<ConnEnd, Memory>
     requires { IsRefusal error }
-    ensures puts { OnOk result (Puts (C.Source.told conn.old)
-        (C.Source.told conn.new) (reply_text (refusal_for error))) }
-    ensures never_falls { (C.Source.told conn.old).faults ≤ (C.Source.told conn.new).faults }
+    ensures { Puts (C.Source.told conn.old) (C.Source.told conn.new) (reply_text (refusal_for error)) result }
 {
     match refusal_to(alloc, error)? {
-        Some(reply) => {
-            write_reply(alloc, conn, &reply)?;
-            Ok(())
-        }
-        None => Ok(()),
+        Some(reply) => write_reply(alloc, conn, &reply),
+        None => Ok(ConnEnd::Done),
     }
 }

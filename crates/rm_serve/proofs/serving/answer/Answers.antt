@@ -23,7 +23,8 @@ returns-in_err-finish-clause-answers g c =
       h.0,
       h.1,
       answer-lost c.args.now _ c.args.body (talk c.args.conn.now) (talk c.write_reply.new.conn) h.0 c.hear.result
-          c.in_ok-verdict.field-0 r.result h.2 c.as_slice.ensures c.in_ok-verdict.was (p.1 ∙ ap Err p.2),
+          c.in_ok-verdict.field-0 c.reply_to-reply.result c.in_err-finish.field-0.0 r.result h.2 c.as_slice.ensures
+          c.in_ok-verdict.was c.reply_to-reply.ensures.is c.in_err-finish.ensures (p.1 ∙ ap Err p.2),
     )
 
 pub returns-clause-answers : goal.returns-clause-answers
@@ -34,6 +35,5 @@ returns-clause-answers g c =
       h.1,
       answer-done c.args.now _ c.args.body (talk c.args.conn.now) (talk c.write_reply.new.conn) h.0 c.hear.result
           c.in_ok-verdict.field-0 c.reply_to-reply.result c.in_ok-finish.finish h.2 c.as_slice.ensures
-          c.in_ok-verdict.was
-          c.reply_to-reply.ensures.is c.in_ok-finish.ensures.puts c.in_ok-finish.ensures.ends,
+          c.in_ok-verdict.was c.reply_to-reply.ensures.is c.in_ok-finish.ensures,
     )

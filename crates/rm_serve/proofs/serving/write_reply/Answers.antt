@@ -1,4 +1,4 @@
-use Rattle.std.proofs.Common.{◌≡◌, ◌≤◌, ℕ, List, Err, ap, ◌∙◌, inl, inr, refl, subst}
+use Rattle.std.proofs.Common.{◌≡◌, ℕ, List, Err, ap, ◌∙◌, refl, subst}
 use Rattle.std.specs.Io.KnownBytes.{Appends}
 use Rattle.rm_base.specs.Count.{Rose}
 use Rattle.rm_base.specs.Outside.{AppendsFront, Stream}
@@ -14,13 +14,8 @@ returns-in-Ok g c =
     let one = g.met.C.Connection.one in
     let whole = subst (λ (b : List ℕ). Appends (g.C.Sink.told old).held (g.C.Sink.told new).held
     (response_text c.args.reply.now.status b)) c.as_slice.ensures c.in-Ok.ensures.ok in
-    record {
-      puts = inl (both-sides (λ (s t : Stream). Appends s.held t.held
-          (response_text c.args.reply.now.status c.args.reply.now.body)) _ _ _ _ (one old) (one new) whole);
-      ends = tt;
-      never_falls = both-sides (λ (s t : Stream). s.faults ≤ t.faults) _ _ _ _ (one old) (one new)
-          c.write_response.ensures.keeps.lasts.never_falls;
-    }
+    both-sides (λ (s t : Stream). Appends s.held t.held
+    (response_text c.args.reply.now.status c.args.reply.now.body)) _ _ _ _ (one old) (one new) whole
 
 pub returns-in-Err-WriteFault : goal.returns-in-Err-WriteFault
 returns-in-Err-WriteFault g c =
@@ -32,14 +27,19 @@ returns-in-Err-WriteFault g c =
     let rose = both-sides (λ (s t : Stream). Rose s.faults t.faults) _ _ _ _ (one old) (one new)
     (c.write_response.ensures.keeps.failed is) in
     let front = subst (λ (b : List ℕ). AppendsFront (g.C.Sink.told old).held (g.C.Sink.told new).held
-    (response_text c.args.reply.now.status b)) c.as_slice.ensures c.in-Err-WriteFault.ensures.err in
-    record {
-      puts = inr (
-        both-sides (λ (s t : Stream). AppendsFront s.held t.held
-            (response_text c.args.reply.now.status c.args.reply.now.body)) _ _ _ _ (one old) (one new) front,
-        rose,
-      );
-      ends = (refl, rose);
-      never_falls = both-sides (λ (s t : Stream). s.faults ≤ t.faults) _ _ _ _ (one old) (one new)
-          c.write_response.ensures.keeps.lasts.never_falls;
-    }
+    (response_text c.args.reply.now.status b)) c.as_slice.ensures c.in-Err-WriteFault.ensures.err in (
+      refl,
+      rose,
+      both-sides (λ (s t : Stream). AppendsFront s.held t.held
+          (response_text c.args.reply.now.status c.args.reply.now.body)) _ _ _ _ (one old) (one new) front,
+    )
+
+pub returns-in-Err-Memory : goal.returns-in-Err-Memory
+returns-in-Err-Memory g c =
+    let old = c.args.conn.now in
+    let new = c.write_response.new.out in
+    let one = g.met.C.Connection.one in
+    let front = subst (λ (b : List ℕ). AppendsFront (g.C.Sink.told old).held (g.C.Sink.told new).held
+    (response_text c.args.reply.now.status b)) c.as_slice.ensures c.in-Err-Memory.ensures.err in
+    both-sides (λ (s t : Stream). AppendsFront s.held t.held
+    (response_text c.args.reply.now.status c.args.reply.now.body)) _ _ _ _ (one old) (one new) front
