@@ -22,5 +22,6 @@ returns-else-is_asked c = λ q h.
     let r = all_records c.args.self.now in
     let s = c.args.seq in
     let m = maker_seen c.in-Some.maker in
-    c.if-is_asked.false ∙ ap (λ b. b && is_asking (phase r s)) (sym c.if-is_asked.false ∙ c.is_asked.ensures.is (number r) q h)
+    c.if-is_asked.false
+    ∙ ap (λ b. b && is_asking (phase r s)) (sym c.if-is_asked.false ∙ c.is_asked.ensures.is (number r) q h)
     ∙ sym (creating-by r q s m) ∙ ap (passes (is_creating r q) s) c.in-Some.ensures
