@@ -26,9 +26,7 @@ use crate::error::TableError;
 use crate::find::{find_accept, find_address, find_granted, find_ident, find_named};
 use crate::maker::{Maker, maker_at};
 use crate::note::{Coming, Named, Note, Origin};
-use crate::record::{
-    drawn_after, is_in_order, name, named_by, number_after, offer_fits, trace,
-};
+use crate::record::{drawn_after, is_in_order, name, named_by, number_after, offer_fits, trace};
 use crate::rows::{accept_at, change, learn_at, receive_at, waiting_in};
 use ack_ranges::RangeSet;
 use record_batch::Record;
