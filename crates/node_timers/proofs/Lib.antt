@@ -1,3 +1,4 @@
+mod AckedLemmas
 mod MoveLemmas
 mod SettleLemmas
 mod FillLemmas

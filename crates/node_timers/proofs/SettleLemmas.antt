@@ -1,5 +1,5 @@
--- What a pass over the keys of one sequence leaves.
-use Rattle.std.proofs.Common.{◌≡◌, ℕ, zero, suc, ◌+◌, ◌<◌, ◌≤◌, ◌==◌, ◌||◌, ◌&&◌, not, nat_lt, cond, Bool, true, false}
+-- What a pass over the keys that were touched leaves.
+use Rattle.std.proofs.Common.{◌≡◌, ℕ, zero, suc, ◌+◌, ◌<◌, ◌≤◌, ◌==◌, ◌||◌, ◌&&◌, not, cond, Bool, true, false}
 use Rattle.std.proofs.Common.{List, [], ◌∷◌, ◌++◌, map, filter, length, take, drop, refl, sym, ap, ap₂, ◌∙◌, subst}
 use Rattle.std.proofs.Common.{arith}
 use Rattle.std.proofs.Common.{append-nil, append_assoc, length-append}
@@ -17,49 +17,55 @@ use Rattle.key_timers.specs.Keyed.{Keyed, StandsFor, Rises, is_before, slot_at, 
 use Rattle.key_timers.specs.Keyed.{cell_of}
 use Rattle.record_batch.specs.Fact.{Fact}
 use Rattle.rm_protocol.specs.Waiting.{is_waiting}
-use Rattle.node_timers.specs.Settled.{is_kept, settled, settled_cells, own_of}
+use Rattle.ack_ranges.specs.declared.range.Range.{Range}
+use Rattle.node_timers.specs.declared.touched.Touched.{Touched}
+use Rattle.node_timers.specs.Settled.{first_key, first_number, has_number, is_kept, is_within, settled, settled_cells}
+use Rattle.node_timers.specs.Settled.{own_of}
 
 -- ---- the cells
 
-abbrev pub first-key : ℕ → Key
-first-key s = record { seq = s; number = 0 }
-
 -- the pass has been over some first cells
-pub record Passed (r : List Fact) (s : ℕ) (old cells : List Cell) (place : ℕ) : Type 0 where
+pub record Passed (r : List Fact) (t : Touched) (old cells : List Cell) (place : ℕ) : Type 0 where
   pub front : List Cell
   pub back : List Cell
   pub was : old ≡ front ++ back
-  pub now : cells ≡ settled_cells r s front ++ back
-  pub at : place ≡ length (settled_cells r s front)
-  pub later : AllByRecursion (λ (c : Cell). is_before c.key (first-key s) ≡ false) back
+  pub now : cells ≡ settled_cells r t front ++ back
+  pub at : place ≡ length (settled_cells r t front)
+  pub later : AllByRecursion (λ (c : Cell). is_before c.key (first_key t) ≡ false) back
   pub rises : Rises back
 
-early-other : (s : ℕ) (k : Key) → is_before k (first-key s) ≡ true → (k.seq == s) ≡ false
-early-other s k h = grind (arith, nat_tests, h)
+-- a key in front of the first of them is none of them
+early-by : (s : ℕ) (o : Option Range) (k : Key) → is_before k (record { seq = s; number = first_number o }) ≡ true
+    → ((k.seq == s) && has_number o k.number) ≡ false
+early-by s None k h = grind (arith, nat_tests, h)
+early-by s (Some range) k h = grind (arith, nat_tests, h)
 
-all-kept : (r : List Fact) (s : ℕ) (cells : List Cell) → AllByRecursion (λ (c : Cell). (c.key.seq == s) ≡ false) cells
-    → settled_cells r s cells ≡ cells
-all-kept r s [] h = refl
-all-kept r s (c ∷ cells) h = rw h.0 (ap (λ (v : List Cell). c ∷ v) (all-kept r s cells h.1))
+early-other : (t : Touched) (k : Key) → is_before k (first_key t) ≡ true → is_within t k ≡ false
+early-other t k h = early-by t.seq t.numbers k h
 
-front-other : (s place : ℕ) (cells : List Cell)
-    → ((k : ℕ) → k < place → is_before (cell_at cells k).key (first-key s) ≡ true)
-    → place ≤ length cells → AllByRecursion (λ (c : Cell). (c.key.seq == s) ≡ false) (take place cells)
-front-other s zero cells h le = tt
-front-other s (suc place) [] h le = absurd (omega arith)
-front-other s (suc place) (c ∷ cells) h le = (
-  early-other s c.key (h zero (omega arith)),
-  front-other s place cells (λ k lt. h (suc k) (omega arith)) (omega arith),
+all-kept : (r : List Fact) (t : Touched) (cells : List Cell)
+    → AllByRecursion (λ (c : Cell). is_within t c.key ≡ false) cells → settled_cells r t cells ≡ cells
+all-kept r t [] h = refl
+all-kept r t (c ∷ cells) h = rw h.0 (ap (λ (v : List Cell). c ∷ v) (all-kept r t cells h.1))
+
+front-other : (t : Touched) (place : ℕ) (cells : List Cell)
+    → ((k : ℕ) → k < place → is_before (cell_at cells k).key (first_key t) ≡ true)
+    → place ≤ length cells → AllByRecursion (λ (c : Cell). is_within t c.key ≡ false) (take place cells)
+front-other t zero cells h le = tt
+front-other t (suc place) [] h le = absurd (omega arith)
+front-other t (suc place) (c ∷ cells) h le = (
+  early-other t c.key (h zero (omega arith)),
+  front-other t place cells (λ k lt. h (suc k) (omega arith)) (omega arith),
 )
 
-back-later : (s place : ℕ) (cells : List Cell)
-    → ((k : ℕ) → place ≤ k → k < length cells → is_before (cell_at cells k).key (first-key s) ≡ false)
-    → AllByRecursion (λ (c : Cell). is_before c.key (first-key s) ≡ false) (drop place cells)
-back-later s zero [] h = tt
-back-later s zero (c ∷ cells) h =
-    (h zero (omega arith) (omega arith), back-later s zero cells (λ k le lt. h (suc k) (omega arith) (omega arith)))
-back-later s (suc place) [] h = tt
-back-later s (suc place) (c ∷ cells) h = back-later s place cells (λ k le lt. h (suc k) (omega arith) (omega arith))
+back-later : (t : Touched) (place : ℕ) (cells : List Cell)
+    → ((k : ℕ) → place ≤ k → k < length cells → is_before (cell_at cells k).key (first_key t) ≡ false)
+    → AllByRecursion (λ (c : Cell). is_before c.key (first_key t) ≡ false) (drop place cells)
+back-later t zero [] h = tt
+back-later t zero (c ∷ cells) h =
+    (h zero (omega arith) (omega arith), back-later t zero cells (λ k le lt. h (suc k) (omega arith) (omega arith)))
+back-later t (suc place) [] h = tt
+back-later t (suc place) (c ∷ cells) h = back-later t place cells (λ k le lt. h (suc k) (omega arith) (omega arith))
 
 back-rises : (place : ℕ) (cells : List Cell) → Rises cells → Rises (drop place cells)
 back-rises zero cells h = h
@@ -71,18 +77,17 @@ taken-length zero cells le = refl
 taken-length (suc place) [] le = absurd (omega arith)
 taken-length (suc place) (c ∷ cells) le = ap suc (taken-length place cells (omega arith))
 
-pub pass-begins : (r : List Fact) (s place : ℕ) (cells : List Cell)
-    → IsPlace cells (record { seq = s; number = 0 }) place
-    → Rises cells → Passed r s cells cells place
-pass-begins r s place cells p h =
-    let whole = all-kept r s (take place cells) (front-other s place cells p.before p.within) in
+pub pass-begins : (r : List Fact) (t : Touched) (place : ℕ) (cells : List Cell)
+    → IsPlace cells (first_key t) place → Rises cells → Passed r t cells cells place
+pass-begins r t place cells p h =
+    let whole = all-kept r t (take place cells) (front-other t place cells p.before p.within) in
     record {
       front = take place cells;
       back = drop place cells;
       was = sym (take-append-drop place cells);
       now = sym (take-append-drop place cells) ∙ ap (λ (v : List Cell). v ++ drop place cells) (sym whole);
       at = taken-length place cells p.within ∙ ap length (sym whole);
-      later = back-later s place cells p.after;
+      later = back-later t place cells p.after;
       rises = back-rises place cells h;
     }
 
@@ -102,44 +107,44 @@ next-of : (back : List Cell) (key : Key) → slice_get (keys_in back) 0 ≡ Some
 next-of [] key e = absurd (cc)
 next-of (c ∷ back) key e = record { cell = c; rest = back; is = refl; key_is = cc }
 
-seen-next : (r : List Fact) (s place : ℕ) (old cells : List Cell) (key : Key) (p : Passed r s old cells place)
-    → slice_get (keys_in cells) place ≡ Some key → Next p.back key
-seen-next r s place old cells key p e =
+seen-next : (r : List Fact) (t : Touched) (place : ℕ) (old cells : List Cell) (key : Key)
+    (p : Passed r t old cells place) → slice_get (keys_in cells) place ≡ Some key → Next p.back key
+seen-next r t place old cells key p e =
     next-of p.back key
-    (sym (got-behind (settled_cells r s p.front) p.back)
+    (sym (got-behind (settled_cells r t p.front) p.back)
     ∙ ap₂ (λ (v : List Cell) (i : ℕ). slice_get (keys_in v) i) (sym p.now) (sym p.at) ∙ e)
 
-own-is : (s : ℕ) (o : Option Key) (key : Key) → own_of s o ≡ Some key → (o ≡ Some key) × ((key.seq == s) ≡ true)
-own-is s None key e = absurd (cc)
-own-is s (Some k) key e =
-    elim (k.seq == s) as (λ b. (k.seq == s) ≡ b → cond b (Some k) None ≡ Some key
-    → (Some k ≡ Some key) × ((key.seq == s) ≡ true)) [
-      | true ↦ λ t f. let is : k ≡ key = cc in (f, ap (λ (x : Key). x.seq == s) (sym is) ∙ t)
-      | false ↦ λ t f. absurd (cc)
+own-is : (t : Touched) (o : Option Key) (key : Key) → own_of t o ≡ Some key → (o ≡ Some key) × (is_within t key ≡ true)
+own-is t None key e = absurd (cc)
+own-is t (Some k) key e =
+    elim (is_within t k) as (λ b. is_within t k ≡ b → cond b (Some k) None ≡ Some key
+    → (Some k ≡ Some key) × (is_within t key ≡ true)) [
+      | true ↦ λ d f. let is : k ≡ key = cc in (f, ap (is_within t) (sym is) ∙ d)
+      | false ↦ λ d f. absurd (cc)
     ] refl e
 
 -- a key that waits stays
-pub pass-keeps : (r : List Fact) (s place : ℕ) (old cells : List Cell) (key : Key) → Passed r s old cells place
-    → own_of s (slice_get (keys_in cells) place) ≡ Some key → is_waiting r key ≡ true
-    → Passed r s old cells (place + 1)
-pass-keeps r s place old cells key p e w =
-    let own = own-is s (slice_get (keys_in cells) place) key e in
-    let n = seen-next r s place old cells key p own.0 in
-    let keeps : is_kept r s n.cell.key ≡ true =
-    ap (is_kept r s) n.key_is ∙ ap (λ (b : Bool). not (key.seq == s) || b) w
-    ∙ elim (key.seq == s) as (λ b. not b || true ≡ true) [ true ↦ refl | false ↦ refl ] in
-    let longer : settled_cells r s (p.front ++ n.cell ∷ []) ≡ settled_cells r s p.front ++ n.cell ∷ [] =
-    filter-append (λ (c : Cell). is_kept r s c.key) p.front (n.cell ∷ [])
-    ∙ ap (λ (b : Bool). settled_cells r s p.front ++ cond b (n.cell ∷ []) []) keeps in
-    let later = subst (AllByRecursion (λ (c : Cell). is_before c.key (first-key s) ≡ false)) n.is p.later in
+pub pass-keeps : (r : List Fact) (t : Touched) (place : ℕ) (old cells : List Cell) (key : Key)
+    → Passed r t old cells place → own_of t (slice_get (keys_in cells) place) ≡ Some key → is_waiting r key ≡ true
+    → Passed r t old cells (place + 1)
+pass-keeps r t place old cells key p e w =
+    let own = own-is t (slice_get (keys_in cells) place) key e in
+    let n = seen-next r t place old cells key p own.0 in
+    let keeps : is_kept r t n.cell.key ≡ true =
+    ap (is_kept r t) n.key_is ∙ ap (λ (b : Bool). not (is_within t key) || b) w
+    ∙ elim (is_within t key) as (λ b. not b || true ≡ true) [ true ↦ refl | false ↦ refl ] in
+    let longer : settled_cells r t (p.front ++ n.cell ∷ []) ≡ settled_cells r t p.front ++ n.cell ∷ [] =
+    filter-append (λ (c : Cell). is_kept r t c.key) p.front (n.cell ∷ [])
+    ∙ ap (λ (b : Bool). settled_cells r t p.front ++ cond b (n.cell ∷ []) []) keeps in
+    let later = subst (AllByRecursion (λ (c : Cell). is_before c.key (first_key t) ≡ false)) n.is p.later in
     record {
       front = p.front ++ n.cell ∷ [];
       back = n.rest;
       was = p.was ∙ ap (λ (v : List Cell). p.front ++ v) n.is ∙ sym (append_assoc p.front (n.cell ∷ []) n.rest);
-      now = p.now ∙ ap (λ (v : List Cell). settled_cells r s p.front ++ v) n.is
-          ∙ sym (append_assoc (settled_cells r s p.front) (n.cell ∷ []) n.rest)
+      now = p.now ∙ ap (λ (v : List Cell). settled_cells r t p.front ++ v) n.is
+          ∙ sym (append_assoc (settled_cells r t p.front) (n.cell ∷ []) n.rest)
           ∙ ap (λ (v : List Cell). v ++ n.rest) (sym longer);
-      at = ap (λ (i : ℕ). i + 1) p.at ∙ sym (length-append (settled_cells r s p.front) (n.cell ∷ []))
+      at = ap (λ (i : ℕ). i + 1) p.at ∙ sym (length-append (settled_cells r t p.front) (n.cell ∷ []))
           ∙ ap length (sym longer);
       later = later.1;
       rises = (subst Rises n.is p.rises).1;
@@ -150,26 +155,26 @@ removed-behind [] c ys = refl
 removed-behind (x ∷ xs) c ys = ap (λ (v : List Cell). x ∷ v) (removed-behind xs c ys)
 
 -- one that doesn't is taken out
-pub pass-takes : (r : List Fact) (s place : ℕ) (old cells newer : List Cell) (key : Key) → Passed r s old cells place
-    → own_of s (slice_get (keys_in cells) place) ≡ Some key → is_waiting r key ≡ false
-    → newer ≡ remove cells place → Passed r s old newer place
-pass-takes r s place old cells newer key p e w out =
-    let own = own-is s (slice_get (keys_in cells) place) key e in
-    let n = seen-next r s place old cells key p own.0 in
-    let gone : is_kept r s n.cell.key ≡ false =
-    ap (is_kept r s) n.key_is ∙ ap₂ (λ (a b : Bool). not a || b) own.1 w in
-    let same : settled_cells r s (p.front ++ n.cell ∷ []) ≡ settled_cells r s p.front =
-    filter-append (λ (c : Cell). is_kept r s c.key) p.front (n.cell ∷ [])
-    ∙ ap (λ (b : Bool). settled_cells r s p.front ++ cond b (n.cell ∷ []) []) gone
-    ∙ append-nil (settled_cells r s p.front) in
-    let later = subst (AllByRecursion (λ (c : Cell). is_before c.key (first-key s) ≡ false)) n.is p.later in
+pub pass-takes : (r : List Fact) (t : Touched) (place : ℕ) (old cells newer : List Cell) (key : Key)
+    → Passed r t old cells place → own_of t (slice_get (keys_in cells) place) ≡ Some key → is_waiting r key ≡ false
+    → newer ≡ remove cells place → Passed r t old newer place
+pass-takes r t place old cells newer key p e w out =
+    let own = own-is t (slice_get (keys_in cells) place) key e in
+    let n = seen-next r t place old cells key p own.0 in
+    let gone : is_kept r t n.cell.key ≡ false =
+    ap (is_kept r t) n.key_is ∙ ap₂ (λ (a b : Bool). not a || b) own.1 w in
+    let same : settled_cells r t (p.front ++ n.cell ∷ []) ≡ settled_cells r t p.front =
+    filter-append (λ (c : Cell). is_kept r t c.key) p.front (n.cell ∷ [])
+    ∙ ap (λ (b : Bool). settled_cells r t p.front ++ cond b (n.cell ∷ []) []) gone
+    ∙ append-nil (settled_cells r t p.front) in
+    let later = subst (AllByRecursion (λ (c : Cell). is_before c.key (first_key t) ≡ false)) n.is p.later in
     record {
       front = p.front ++ n.cell ∷ [];
       back = n.rest;
       was = p.was ∙ ap (λ (v : List Cell). p.front ++ v) n.is ∙ sym (append_assoc p.front (n.cell ∷ []) n.rest);
       now = out ∙ ap₂ (λ (v : List Cell) (i : ℕ). remove v i)
-          (p.now ∙ ap (λ (v : List Cell). settled_cells r s p.front ++ v) n.is) p.at
-          ∙ removed-behind (settled_cells r s p.front) n.cell n.rest
+          (p.now ∙ ap (λ (v : List Cell). settled_cells r t p.front ++ v) n.is) p.at
+          ∙ removed-behind (settled_cells r t p.front) n.cell n.rest
           ∙ ap (λ (v : List Cell). v ++ n.rest) (sym same);
       at = p.at ∙ ap length (sym same);
       later = later.1;
@@ -177,54 +182,57 @@ pass-takes r s place old cells newer key p e w out =
     }
 
 -- the place is one of the cells
-pub place-within : (r : List Fact) (s place : ℕ) (old cells : List Cell) (key : Key) → Passed r s old cells place
-    → own_of s (slice_get (keys_in cells) place) ≡ Some key
+pub place-within : (r : List Fact) (t : Touched) (place : ℕ) (old cells : List Cell) (key : Key)
+    → Passed r t old cells place → own_of t (slice_get (keys_in cells) place) ≡ Some key
     → (place < length cells) × ((cell_at cells place).key ≡ key)
-place-within r s place old cells key p e = there cells place (own-is s (slice_get (keys_in cells) place) key e).0
+place-within r t place old cells key p e = there cells place (own-is t (slice_get (keys_in cells) place) key e).0
   where
     there : (v : List Cell) (i : ℕ) → slice_get (keys_in v) i ≡ Some key → (i < length v) × ((cell_at v i).key ≡ key)
     there [] i h = absurd (cc)
     there (c ∷ v) zero h = (omega arith, cc)
     there (c ∷ v) (suc i) h = let rest = there v i h in (omega (arith, rest.0), rest.1)
 
--- behind a key of a later sequence there is none of this one
-later-other : (s : ℕ) (a : Key) → is_before a (first-key s) ≡ false → (a.seq == s) ≡ false → nat_lt s a.seq ≡ true
-later-other s a h e = grind (arith, nat_tests, h, e)
+-- behind a key that comes after all of them there is none of them
+behind-by : (s : ℕ) (o : Option Range) (a b : Key)
+    → is_before a (record { seq = s; number = first_number o }) ≡ false
+    → ((a.seq == s) && has_number o a.number) ≡ false → is_before a b ≡ true
+    → ((b.seq == s) && has_number o b.number) ≡ false
+behind-by s None a b h e k = grind (arith, nat_tests, h, e, k)
+behind-by s (Some range) a b h e k = grind (arith, nat_tests, h, e, k)
 
-behind-other : (s : ℕ) (a b : Key) → nat_lt s a.seq ≡ true → is_before a b ≡ true → (b.seq == s) ≡ false
-behind-other s a b h e = grind (arith, nat_tests, h, e)
-
-all-behind : (s : ℕ) (a : Key) → nat_lt s a.seq ≡ true → (cells : List Cell)
+all-behind : (t : Touched) (a : Key) → is_before a (first_key t) ≡ false → is_within t a ≡ false → (cells : List Cell)
     → AllByRecursion (λ (d : Cell). is_before a d.key ≡ true) cells
-    → AllByRecursion (λ (c : Cell). (c.key.seq == s) ≡ false) cells
-all-behind s a h [] k = tt
-all-behind s a h (c ∷ cells) k = (behind-other s a c.key h k.0, all-behind s a h cells k.1)
+    → AllByRecursion (λ (c : Cell). is_within t c.key ≡ false) cells
+all-behind t a h e [] k = tt
+all-behind t a h e (c ∷ cells) k =
+    (behind-by t.seq t.numbers a c.key h e k.0, all-behind t a h e cells k.1)
 
-own-none : (s : ℕ) (k : Key) → own_of s (Some k) ≡ None → (k.seq == s) ≡ false
-own-none s k e = elim (k.seq == s) as (λ b. cond b (Some k) None ≡ None → b ≡ false) [
+own-none : (t : Touched) (k : Key) → own_of t (Some k) ≡ None → is_within t k ≡ false
+own-none t k e = elim (is_within t k) as (λ b. cond b (Some k) None ≡ None → b ≡ false) [
   | true ↦ λ f. absurd (cc)
   | false ↦ λ f. refl
 ] e
 
-rest-other : (s : ℕ) (back : List Cell) → AllByRecursion (λ (c : Cell). is_before c.key (first-key s) ≡ false) back
-    → Rises back → own_of s (slice_get (keys_in back) 0) ≡ None
-    → AllByRecursion (λ (c : Cell). (c.key.seq == s) ≡ false) back
-rest-other s [] l h e = tt
-rest-other s (c ∷ back) l h e =
-    let other = own-none s c.key e in
-    (other, all-behind s c.key (later-other s c.key l.0 other) back h.0)
+rest-other : (t : Touched) (back : List Cell)
+    → AllByRecursion (λ (c : Cell). is_before c.key (first_key t) ≡ false) back → Rises back
+    → own_of t (slice_get (keys_in back) 0) ≡ None
+    → AllByRecursion (λ (c : Cell). is_within t c.key ≡ false) back
+rest-other t [] l h e = tt
+rest-other t (c ∷ back) l h e =
+    let other = own-none t c.key e in
+    (other, all-behind t c.key l.0 other back h.0)
 
-pub pass-ends : (r : List Fact) (s place : ℕ) (old cells : List Cell) → Passed r s old cells place
-    → own_of s (slice_get (keys_in cells) place) ≡ None → cells ≡ settled_cells r s old
-pass-ends r s place old cells p e =
-    let front = settled_cells r s p.front in
-    let none : own_of s (slice_get (keys_in p.back) 0) ≡ None =
-    ap (own_of s) (sym (got-behind front p.back)
+pub pass-ends : (r : List Fact) (t : Touched) (place : ℕ) (old cells : List Cell) → Passed r t old cells place
+    → own_of t (slice_get (keys_in cells) place) ≡ None → cells ≡ settled_cells r t old
+pass-ends r t place old cells p e =
+    let front = settled_cells r t p.front in
+    let none : own_of t (slice_get (keys_in p.back) 0) ≡ None =
+    ap (own_of t) (sym (got-behind front p.back)
     ∙ ap₂ (λ (v : List Cell) (i : ℕ). slice_get (keys_in v) i) (sym p.now) (sym p.at)) ∙ e in
     p.now
-    ∙ ap (λ (v : List Cell). front ++ v) (sym (all-kept r s p.back (rest-other s p.back p.later p.rises none)))
-    ∙ sym (filter-append (λ (c : Cell). is_kept r s c.key) p.front p.back)
-    ∙ ap (settled_cells r s) (sym p.was)
+    ∙ ap (λ (v : List Cell). front ++ v) (sym (all-kept r t p.back (rest-other t p.back p.later p.rises none)))
+    ∙ sym (filter-append (λ (c : Cell). is_kept r t c.key) p.front p.back)
+    ∙ ap (settled_cells r t) (sym p.was)
 
 -- ---- the plain list: those that have a cell
 
@@ -296,39 +304,39 @@ without-one cells newer key (w ∷ waits) h =
       | false ↦ λ e. rw e rest
     ] here
 
-slot-settled : (r : List Fact) (s : ℕ) (cells : List Cell) (key : Key)
-    → slot_at (settled_cells r s cells) key ≡ cond (is_kept r s key) (slot_at cells key) None
-slot-settled r s [] key =
-    elim (is_kept r s key) as (λ b. no-slot ≡ cond b no-slot no-slot) [ true ↦ refl | false ↦ refl ]
+slot-settled : (r : List Fact) (t : Touched) (cells : List Cell) (key : Key)
+    → slot_at (settled_cells r t cells) key ≡ cond (is_kept r t key) (slot_at cells key) None
+slot-settled r t [] key =
+    elim (is_kept r t key) as (λ b. no-slot ≡ cond b no-slot no-slot) [ true ↦ refl | false ↦ refl ]
   where
     no-slot : Option ℕ
     no-slot = None
-slot-settled r s (c ∷ cells) key =
+slot-settled r t (c ∷ cells) key =
     elim (same_key key c.key) as (λ b. same_key key c.key ≡ b
-    → slot_at (cond (is_kept r s c.key) (c ∷ settled_cells r s cells) (settled_cells r s cells)) key
-    ≡ cond (is_kept r s key) (cond b (Some c.slot) (slot_at cells key)) None) [
+    → slot_at (cond (is_kept r t c.key) (c ∷ settled_cells r t cells) (settled_cells r t cells)) key
+    ≡ cond (is_kept r t key) (cond b (Some c.slot) (slot_at cells key)) None) [
       | true ↦ λ e.
           let is : key ≡ c.key = same_key-is key c.key e in
-          rw (ap (is_kept r s) (sym is)) (elim (is_kept r s key) as (λ x. is_kept r s key ≡ x
-          → slot_at (cond x (c ∷ settled_cells r s cells) (settled_cells r s cells)) key ≡ cond x (Some c.slot) None) [
+          rw (ap (is_kept r t) (sym is)) (elim (is_kept r t key) as (λ x. is_kept r t key ≡ x
+          → slot_at (cond x (c ∷ settled_cells r t cells) (settled_cells r t cells)) key ≡ cond x (Some c.slot) None) [
             | true ↦ λ f. rw e refl
-            | false ↦ λ f. slot-settled r s cells key ∙ ap (λ (b : Bool). cond b (slot_at cells key) None) f
+            | false ↦ λ f. slot-settled r t cells key ∙ ap (λ (b : Bool). cond b (slot_at cells key) None) f
           ] refl)
-      | false ↦ λ e. elim (is_kept r s c.key) as (λ x.
-          slot_at (cond x (c ∷ settled_cells r s cells) (settled_cells r s cells)) key
-          ≡ cond (is_kept r s key) (slot_at cells key) None) [
-            | true ↦ rw e (slot-settled r s cells key)
-            | false ↦ slot-settled r s cells key
+      | false ↦ λ e. elim (is_kept r t c.key) as (λ x.
+          slot_at (cond x (c ∷ settled_cells r t cells) (settled_cells r t cells)) key
+          ≡ cond (is_kept r t key) (slot_at cells key) None) [
+            | true ↦ rw e (slot-settled r t cells key)
+            | false ↦ slot-settled r t cells key
           ]
     ] refl
 
-pub ends-with : (r : List Fact) (s : ℕ) (cells : List Cell) (waits : List Wait)
+pub ends-with : (r : List Fact) (t : Touched) (cells : List Cell) (waits : List Wait)
     → AllByRecursion (λ (w : Wait). is_some (slot_at cells w.key) ≡ true) waits
-    → with_cells (settled_cells r s cells) waits ≡ settled r s waits
-ends-with r s cells [] h = refl
-ends-with r s cells (w ∷ waits) h =
-    let here : is_some (slot_at (settled_cells r s cells) w.key) ≡ is_kept r s w.key =
-    ap is_some (slot-settled r s cells w.key)
-    ∙ elim (is_kept r s w.key) as (λ b. is_some (cond b (slot_at cells w.key) None) ≡ b)
+    → with_cells (settled_cells r t cells) waits ≡ settled r t waits
+ends-with r t cells [] h = refl
+ends-with r t cells (w ∷ waits) h =
+    let here : is_some (slot_at (settled_cells r t cells) w.key) ≡ is_kept r t w.key =
+    ap is_some (slot-settled r t cells w.key)
+    ∙ elim (is_kept r t w.key) as (λ b. is_some (cond b (slot_at cells w.key) None) ≡ b)
     [ true ↦ h.0 | false ↦ refl ] in
-    ap₂ (λ (b : Bool) (v : List Wait). cond b (w ∷ v) v) here (ends-with r s cells waits h.1)
+    ap₂ (λ (b : Bool) (v : List Wait). cond b (w ∷ v) v) here (ends-with r t cells waits h.1)

@@ -8,18 +8,19 @@ ghost use Rattle.node_timers.specs.Settled.{cells_all, changed, settled_all};
 
 use crate::moves::{emit_all, urge_all};
 use crate::records::settle;
+use crate::touched::Touched;
 use key_timers::KeyTimers;
 use node_tables::Tables;
 use rm_timers::Key;
 
-/// The keys of these sequences that no longer wait by the records are gone.
-fn settle_all(timers: &mut KeyTimers, tables: &Tables, touched: &[u32])
+/// Of the keys that were touched those that no longer wait by the records are gone.
+fn settle_all(timers: &mut KeyTimers, tables: &Tables, touched: &[Touched])
     ensures waits { Steps timers.old timers.new (settled_all tables.now.records touched.now) }
     ensures cells { timers.new.cells ≡ cells_all tables.now.records touched.now timers.old.cells }
     ensures time { timers.new.time ≡ timers.old.time }
 {
-    for seq in touched {
-        settle(timers, tables, *seq);
+    for part in touched {
+        settle(timers, tables, *part);
     }
 }
 
@@ -44,13 +45,13 @@ fn emit_some(timers: &mut KeyTimers, begun: Option<Key>)
     }
 }
 
-/// What a call makes of the keys that wait, once its records, which name these sequences, are in the tables: what no
-/// longer waits is gone, what begins to wait is emitted, these keys are wanted at once, and these are emitted. It takes
-/// no memory.
+/// What a call makes of the keys that wait, once its records are in the tables, which may end the keys that were
+/// touched: what of these no longer waits is gone, what begins to wait is emitted, these keys are wanted at once, and
+/// these are emitted. It takes no memory.
 pub fn after_call(
     timers: &mut KeyTimers,
     tables: &Tables,
-    touched: &[u32],
+    touched: &[Touched],
     begun: Option<Key>,
     urged: &[Key],
     emitted: &[Key],

@@ -1,10 +1,11 @@
-//! What a pass over the keys of some sequences leaves, and how many cells there are at most.
+//! What a pass over the keys that records may end leaves, and how many cells there are at most.
 ghost use Rattle.node_timers.specs.Settled.{OneMoreHasRoom, OnlyTheTouched};
 
 use rm_protocol::laws::records_leave_other_keys;
 
-/// Where the keys that waited did so by the records before, and the new records name these sequences, a pass over the
-/// keys of these sequences leaves exactly those of them that wait by all records, in their order.
+/// Where the keys that waited did so by the records before, and those that the new records may end were touched, a pass
+/// over these leaves exactly those that wait by all records, in their order. An acknowledgement may end the keys of its
+/// numbers alone.
 pub fn only_the_touched_are_looked_at()
     ensures { OnlyTheTouched }
 {

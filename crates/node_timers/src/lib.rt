@@ -8,8 +8,10 @@ pub mod laws;
 mod mounts;
 mod moves;
 mod records;
+mod touched;
 mod waiting;
 
 pub use after::after_call;
 pub use mounts::fill;
 pub use moves::due_keys;
+pub use touched::{Touched, named};

@@ -1,11 +1,10 @@
 -- The keys that wait at a node, and what a call makes of them.
-use Rattle.std.proofs.Common.{◌≡◌, ℕ, ◌<◌, ◌==◌, ◌||◌, cond, Bool, true, false, List, [], ◌∷◌, ◌++◌}
+use Rattle.std.proofs.Common.{◌≡◌, ℕ, ◌<◌, ◌||◌, cond, Bool, true, false, List, [], ◌∷◌, ◌++◌}
 use Rattle.std.proofs.Common.{length, map, filter, max, Option, Some, None, refl, sym, ap, ap₂, subst, ◌∙◌, arith}
 use Rattle.std.specs.Prelude.{is_some, IfSome}
-use Rattle.std.specs.List.{AllByRecursion, list_any}
+use Rattle.std.specs.List.{AllByRecursion, flat_map}
 use Rattle.std.specs.Option.{option_to_list}
 use Rattle.std.proofs.lemmas.Bool.{false≢true}
-use Rattle.std.proofs.lemmas.Bool.Decides.{nat_tests}
 use Rattle.rm_journal.specs.JournalState.{end_of}
 use Rattle.rm_timers.specs.declared.timers.Key.{Key}
 use Rattle.rm_timers.specs.Waits.{Entry}
@@ -15,13 +14,13 @@ use Rattle.key_timers.specs.Keyed.{wait_of}
 use Rattle.key_timers.specs.KeyLemmas.{before-apart, same_key-is, same_key-refl}
 use Rattle.key_timers.specs.Waits.{Wait, begin_all, fresh, has_key, keys_of, same_key, send_all, urge_all}
 use Rattle.node_timers.specs.Settled.{AreTouched, OneMoreHasRoom, OnlyTheTouched, cells_all, changed, is_kept}
-use Rattle.node_timers.specs.Settled.{settled_all, settled_cells}
+use Rattle.node_timers.specs.Settled.{settled_all, settled_cells, touched_by}
+use Rattle.node_timers.specs.declared.touched.Touched.{Touched}
 use Rattle.node_laws.specs.Records.{HasRoomForKeys, IsKept}
 use Rattle.rm_protocol.specs.Exact.{AreExactly, IsExactAtFirst, StaysExact}
 use Rattle.rm_protocol.specs.Calls.{Answer}
 use Rattle.record_batch.specs.Fact.{Fact}
 use Rattle.sequence_table.specs.Fits.{all_fit}
-use Rattle.sequence_table.specs.Told.{names}
 use Rattle.rm_protocol.specs.WaitLemmas.{all-wait}
 use Rattle.rm_protocol.specs.Waiting.{Moves as KeyMoves, begun_by, is_waiting, mounted_waits, still, waiting_keys}
 use Rattle.rm_protocol.specs.Waiting.{waits_after}
@@ -65,38 +64,14 @@ pub exact-cells : (r : List Fact) (k : Keyed) (waits : List Wait) → StandsFor 
     → (key : Key) → has_cell k.cells key ≡ is_waiting r key
 exact-cells r k waits s exact key = cell-waits k waits key s ∙ exact key
 
-or-right : (a b : Bool) → b ≡ true → (a || b) ≡ true
-or-right true b e = refl
-or-right false b e = e
-
--- ---- the sequences that records name
-
-eq-self : (n : ℕ) → (n == n) ≡ true
-eq-self n = grind (arith, nat_tests)
-
-touched-more : (t : ℕ) (touched : List ℕ) (delta : List Fact) → AreTouched touched delta
-    → AreTouched (t ∷ touched) delta
-touched-more t touched [] h = tt
-touched-more t touched (f ∷ delta) h = (
-  or-right (names f == t) (list_any (λ (s : ℕ). names f == s) touched) h.0,
-  touched-more t touched delta h.1,
-)
-
-pub all-touched : (delta : List Fact) → AreTouched (map names delta) delta
-all-touched [] = tt
-all-touched (f ∷ delta) = (
-  ap (λ (b : Bool). b || list_any (λ (s : ℕ). names f == s) (map names delta)) (eq-self (names f)),
-  touched-more (names f) (map names delta) delta (all-touched delta),
-)
-
 -- ---- what a call makes of those that wait
 
-pub changed-is : OnlyTheTouched → (r delta : List Fact) (touched : List ℕ) (begun : Option Key) (moves : KeyMoves)
-    (time : ℕ) (waits : List Wait) → all_fit r delta ≡ true → touched ≡ map names delta
+pub changed-is : OnlyTheTouched → (r delta : List Fact) (touched : List Touched) (begun : Option Key) (moves : KeyMoves)
+    (time : ℕ) (waits : List Wait) → all_fit r delta ≡ true → touched ≡ flat_map touched_by delta
     → begun_by r delta ≡ option_to_list begun → AreExactly r waits
     → changed (r ++ delta) touched begun moves.urged moves.emitted time waits ≡ waits_after r delta moves time waits
 changed-is law r delta touched begun moves time waits fit is are exact =
-    let at : AreTouched touched delta = subst (λ (t : List ℕ). AreTouched t delta) (sym is) (all-touched delta) in
+    let at : AreTouched touched delta = subst (λ (l : List Touched). AreTouched l delta) (sym is) (λ k e. e) in
     let gone = law r delta touched waits fit at (all-wait r waits exact) in
     ap₂ (λ (keys : List Key) (ws : List Wait).
     send_all time (keys ++ moves.emitted) (urge_all moves.urged (begin_all keys ws)))
@@ -115,17 +90,18 @@ begun-waits r delta (Some key) b k h =
     or-false true e = refl
     or-false false e = e
 
--- the records of an answer are there: they might be written behind those before, now these are all, and they name these
--- sequences
-pub record Grown (old : Noded) (a : Answer) (begun : Option Key) (now : List Fact) (touched_ : List ℕ) : Type 0 where
+-- the records of an answer are there: they might be written behind those before, now these are all, and they may
+-- end these keys
+pub record Grown (old : Noded) (a : Answer) (begun : Option Key) (now : List Fact) (touched_ : List Touched)
+    : Type 0 where
   pub may : MayBeWritten old.stored.records (end_of old.stored.journal) a begun
   pub begins : Begins old.stored.records a.delta begun
   pub records : now ≡ old.stored.records ++ a.delta
-  pub touched : touched_ ≡ map names a.delta
+  pub touched : touched_ ≡ flat_map touched_by a.delta
 
 -- what is kept after a call that went well
 pub kept-well : OnlyTheTouched → (old : Noded) (a : Answer) (begun : Option Key) (new : Keyed) (now : List Fact)
-    (touched : List ℕ) → IsTimed old.stored.records old.kept.timers → Grown old a begun now touched
+    (touched : List Touched) → IsTimed old.stored.records old.kept.timers → Grown old a begun now touched
     → Moves old.kept.timers new (changed now touched begun a.moves.urged a.moves.emitted
     (max old.kept.timers.time a.moves.time)) → new.time ≡ max old.kept.timers.time a.moves.time
     → (kept : Keeping) → Keeps old.kept kept
@@ -162,7 +138,7 @@ runs n right = record {
 
 -- the node's keys are exact after it
 pub timed-well : StaysExact → (old : Noded) (a : Answer) (begun : Option Key) (new : Keyed) (now : List Fact)
-    (touched : List ℕ) → IsTimed old.stored.records old.kept.timers → Grown old a begun now touched
+    (touched : List Touched) → IsTimed old.stored.records old.kept.timers → Grown old a begun now touched
     → ((kept : Keeping) → Keeps old.kept kept
     → Keeps (record { granted = old.kept.granted; timers = new }) (kept_after old.stored.records a kept))
     → IsTimed now new
@@ -244,32 +220,32 @@ filter-once p (c ∷ cells) o =
       | false ↦ filter-once p cells o.1
     ]
 
-all-once : (r : List Fact) (touched : List ℕ) (cells : List Cell) → Once cells → Once (cells_all r touched cells)
+all-once : (r : List Fact) (touched : List Touched) (cells : List Cell) → Once cells → Once (cells_all r touched cells)
 all-once r [] cells o = o
-all-once r (s ∷ touched) cells o =
-    all-once r touched (settled_cells r s cells) (filter-once (λ (c : Cell). is_kept r s c.key) cells o)
+all-once r (t ∷ touched) cells o =
+    all-once r touched (settled_cells r t cells) (filter-once (λ (c : Cell). is_kept r t c.key) cells o)
 
 -- a cell as one that waits
 plain : Cell → Wait
 plain c = record { key = c.key; class = 0; due = 0 }
 
-plain-filter : (r : List Fact) (s : ℕ) (cells : List Cell)
-    → filter (λ (w : Wait). is_kept r s w.key) (map plain cells) ≡ map plain (settled_cells r s cells)
+plain-filter : (r : List Fact) (t : Touched) (cells : List Cell)
+    → filter (λ (w : Wait). is_kept r t w.key) (map plain cells) ≡ map plain (settled_cells r t cells)
 unfolding plain
-plain-filter r s [] = refl
-plain-filter r s (c ∷ cells) =
-    elim (is_kept r s c.key) as (λ b. cond b (plain c ∷ filter (λ (w : Wait). is_kept r s w.key) (map plain cells))
-    (filter (λ (w : Wait). is_kept r s w.key) (map plain cells))
-    ≡ map plain (cond b (c ∷ settled_cells r s cells) (settled_cells r s cells))) [
-      | true ↦ ap (λ (l : List Wait). plain c ∷ l) (plain-filter r s cells)
-      | false ↦ plain-filter r s cells
+plain-filter r t [] = refl
+plain-filter r t (c ∷ cells) =
+    elim (is_kept r t c.key) as (λ b. cond b (plain c ∷ filter (λ (w : Wait). is_kept r t w.key) (map plain cells))
+    (filter (λ (w : Wait). is_kept r t w.key) (map plain cells))
+    ≡ map plain (cond b (c ∷ settled_cells r t cells) (settled_cells r t cells))) [
+      | true ↦ ap (λ (l : List Wait). plain c ∷ l) (plain-filter r t cells)
+      | false ↦ plain-filter r t cells
     ]
 
-plain-all : (r : List Fact) (touched : List ℕ) (cells : List Cell)
+plain-all : (r : List Fact) (touched : List Touched) (cells : List Cell)
     → settled_all r touched (map plain cells) ≡ map plain (cells_all r touched cells)
 plain-all r [] cells = refl
-plain-all r (s ∷ touched) cells =
-    ap (settled_all r touched) (plain-filter r s cells) ∙ plain-all r touched (settled_cells r s cells)
+plain-all r (t ∷ touched) cells =
+    ap (settled_all r touched) (plain-filter r t cells) ∙ plain-all r touched (settled_cells r t cells)
 
 still-waits : (r : List Fact) (waits : List Wait)
     → AllByRecursion (λ (w : Wait). is_waiting r w.key ≡ true) (still r waits)
@@ -322,9 +298,9 @@ all-among : IsExactAtFirst → (r : List Fact) (cells : List Cell)
 all-among law r [] h = tt
 all-among law r (c ∷ cells) h = (among law r c.key h.0, all-among law r cells h.1)
 
--- after the pass over the sequences that records name there is room for the key that begins
+-- after the pass over the keys that records may end there is room for the key that begins
 pub has-room : OnlyTheTouched → OneMoreHasRoom → IsExactAtFirst → HasRoomForKeys → (old : Noded) (a : Answer)
-    (begun : Option Key) (now : List Fact) (touched : List ℕ) → IsTimed old.stored.records old.kept.timers
+    (begun : Option Key) (now : List Fact) (touched : List Touched) → IsTimed old.stored.records old.kept.timers
     → Rises old.kept.timers.cells → Grown old a begun now touched
     → IfSome begun (λ key. slot_at (cells_all now touched old.kept.timers.cells) key ≡ None
     → length (cells_all now touched old.kept.timers.cells) < most_keys)
@@ -343,7 +319,7 @@ has-room only one first room old a (Some key) now touched timed rising grown =
     k = old.kept.timers
 
     at : AreTouched touched delta
-    at = subst (λ (t : List ℕ). AreTouched t delta) (sym grown.touched) (all-touched delta)
+    at = subst (λ (l : List Touched). AreTouched l delta) (sym grown.touched) (λ x e. e)
 
     waited : AllByRecursion (λ (c : Cell). is_waiting r c.key ≡ true) k.cells
     waited = each-cell r k.cells (λ x e. sym (timed.exact x) ∙ e)

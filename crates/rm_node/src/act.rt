@@ -10,7 +10,6 @@ ghost use Rattle.rm_node.specs.Noded.{Runs};
 ghost use Rattle.rm_node.specs.Timed.{MayBeWritten};
 
 use crate::error::NodeError;
-use crate::named::named;
 use crate::node::Node;
 use crate::wait::wait_on;
 use call_answers::{Answer, Outcome};
@@ -18,6 +17,7 @@ use node_laws::laws::a_node_has_room_for_its_keys;
 use node_store::laws::a_node_has_one_batch_more;
 use node_tables::Tables;
 use node_timers::laws::{one_more_has_room, only_the_touched_are_looked_at};
+use node_timers::named;
 use rm_disk::Disk;
 use rm_protocol::laws::what_waits_stays_exact;
 use rm_timers::Key;

@@ -12,7 +12,6 @@ pub mod calls;
 pub mod error;
 pub mod kept;
 pub mod laws;
-mod named;
 pub mod node;
 pub mod packets;
 mod receive;

@@ -8,15 +8,15 @@ ghost use Rattle.node_timers.specs.Settled.{cells_all, changed};
 use call_answers::Moves;
 use key_timers::KeyTimers;
 use node_tables::Tables;
-use node_timers::after_call;
+use node_timers::{Touched, after_call};
 use rm_timers::Key;
 
-/// The time is at least what an answer tells, and the keys move, once its records, which name these sequences, are in
-/// the tables. It takes no memory.
+/// The time is at least what an answer tells, and the keys move, once its records, which may end these keys, are in the
+/// tables. It takes no memory.
 pub(crate) fn wait_on(
     timers: &mut KeyTimers,
     tables: &Tables,
-    touched: &[u32],
+    touched: &[Touched],
     begun: Option<Key>,
     moves: &Moves,
 )
