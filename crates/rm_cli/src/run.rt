@@ -1,7 +1,7 @@
 //! One run for all commands, over any input and output, any stage, any disk, link and clock.
-ghost use Rattle.std.specs.Prelude.{◌≡◌, ◌⊎◌, ◌↔◌, IfSome, false, true};
+ghost use Rattle.std.specs.Prelude.{◌≡◌, ◌⊎◌, false, true};
 ghost use Rattle.rm_command.specs.Edge.{edge_of};
-ghost use Rattle.rm_command.specs.Run.{AsksNothing, AsksReplay, AsksSoak, IsStatusOf, Runs};
+ghost use Rattle.rm_command.specs.Run.{AsksReplay, AsksSoak, HasStatus, Runs};
 ghost use Rattle.rm_command.specs.Stage.{KeepsWordAt, staged_of};
 ghost use Rattle.rm_command.specs.Status.{status_of};
 ghost use Rattle.rm_command.specs.declared.end.End.{End as AnEnd};
@@ -37,9 +37,7 @@ pub fn run<S: Source, K: Sink, M: CrashDisk, W: Wire, D: Disk, L: Link, C: Clock
     ensures runs { is_of_node words.now ≡ false → (end : AnEnd) × (result ≡ status_of end)
         × Runs words.now end (edge_of S.told K.told K.wants_memory input.old input.new out.old out.new)
         (staged_of M.told W.packets stage.old) (staged_of M.told W.packets stage.new) }
-    ensures usage { is_of_node words.now ≡ false → ((result ≡ 2) ↔ AsksNothing words.now) }
-    ensures status { is_of_node words.now ≡ false
-        → IfSome (S.told input.old).left (λ bytes. IsStatusOf words.now bytes result) }
+    ensures status { is_of_node words.now ≡ false → HasStatus words.now (S.told input.old).left result }
 
     // Which status comes of the words of a node's command.
     ensures node { is_of_node words.now ≡ true → IsNodeStatusOf words.now

@@ -1,5 +1,6 @@
 -- What the words ask for, and what a run of them is.
 use Rattle.std.specs.Prelude.{◌≡◌, ◌≢◌, ◌⊎◌, ℕ, ◌^◌, ◌<◌, List, [], ◌∷◌, Option, Some, None, codes, decimal}
+use Rattle.std.specs.Prelude.{◌↔◌, IfSome}
 use Rattle.rm_base.specs.Limits as limits
 use Rattle.rm_base.specs.Outside.{Lasts}
 use Rattle.rm_command.specs.declared.command.Command.{Command}
@@ -78,6 +79,12 @@ pub record IsStatusOf (words : List (List ℕ)) (bytes : List ℕ) (status : ℕ
   pub policy : AsksPolicy words → IsPolicyStatus bytes status
   pub normal : AsksNormal words → IsNormalStatus bytes status
   pub intersect : AsksIntersect words → IsIntersectStatus bytes status
+
+-- which status comes: 2 exactly of words that are no command, and one of those that come of the bytes, where the input
+-- tells them
+pub record HasStatus (words : List (List ℕ)) (left : Option (List ℕ)) (status : ℕ) : Type 0 where
+  pub usage : (status ≡ 2) ↔ AsksNothing words
+  pub bytes : IfSome left (λ bytes. IsStatusOf words bytes status)
 
 -- a run of replay
 pub record RunsReplay {S K T : Type 0} (end : End) (e : Edge S K) (old new : Staged T) : Type 0 where

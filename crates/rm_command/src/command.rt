@@ -1,7 +1,7 @@
 //! The whole program over any input and output.
-ghost use Rattle.std.specs.Prelude.{◌≡◌, ◌⊎◌, ◌↔◌, ◌∷◌, [], codes, IfSome, IsTrue};
+ghost use Rattle.std.specs.Prelude.{◌≡◌, ◌⊎◌, ◌↔◌, ◌∷◌, [], codes, IsTrue};
 ghost use Rattle.rm_command.specs.Edge.{edge_of};
-ghost use Rattle.rm_command.specs.Run.{AsksReplay, AsksSoak, AsksNothing, Asks, IsNamed, IsStatusOf, Runs};
+ghost use Rattle.rm_command.specs.Run.{AsksReplay, AsksSoak, Asks, HasStatus, IsNamed, Runs};
 ghost use Rattle.rm_command.specs.Stage.{KeepsWordAt, staged_of};
 ghost use Rattle.rm_command.specs.Status.{status_of};
 ghost use Rattle.rm_command.specs.declared.end.End.{End as AnEnd};
@@ -42,10 +42,9 @@ pub fn run<S: Source, K: Sink, M: CrashDisk, W: Wire>(
     ensures runs { (end : AnEnd) × (result ≡ status_of end)
         × Runs words.now end (edge_of S.told K.told K.wants_memory input.old input.new out.old out.new)
         (staged_of M.told W.packets stage.old) (staged_of M.told W.packets stage.new) }
-    ensures usage { (result ≡ 2) ↔ AsksNothing words.now }
 
-    // Which status comes of bytes, where the input tells them.
-    ensures status { IfSome (S.told input.old).left (λ bytes. IsStatusOf words.now bytes result) }
+    // Which status comes of the words, and of the bytes where the input tells them.
+    ensures status { HasStatus words.now (S.told input.old).left result }
 {
     // What bytes can't be at once decides which status comes of them.
     a_message_is_not_refused();
