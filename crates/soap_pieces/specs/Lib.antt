@@ -1,0 +1,4 @@
+pub mod Answer
+pub mod Depth
+pub mod Fed
+pub mod Hopeless

@@ -1,0 +1,142 @@
+//! The reader of envelopes that is fed pieces.
+ghost use Rattle.std.specs.Prelude.{
+  ◌≡◌,
+  ◌↔◌,
+  ◌+◌,
+  ◌++◌,
+  ◌<◌,
+  ◌≤◌,
+  ◌^◌,
+  ℕ,
+  List,
+  [],
+  length,
+  true,
+  false,
+  IsTrue,
+  IfOk,
+  IfSome,
+  OnOk,
+  OnErr,
+  IsErr,
+  Err,
+};
+ghost use Rattle.soap_document.specs.Seen.{IsTold, fed_len};
+ghost use Rattle.soap_pieces.specs.Answer.{Reads};
+ghost use Rattle.soap_pieces.specs.Depth.{open_count};
+ghost use Rattle.soap_pieces.specs.Fed.{HasRead, IsReady, WasFed, is_short, total};
+ghost use Rattle.soap_pieces.specs.Hopeless.{IsHopeless};
+
+use crate::depth::Depth;
+use rm_base::limits::ENVELOPE_BYTES;
+use rm_base::{Blob, Memory};
+use soap_document::Reader;
+use soap_document::laws::{pieces_are_joined, refused_stays};
+use soap_envelope::{Envelope, read_envelope};
+use soap_profile::EnvelopeError;
+use std::alloc::Global;
+
+/// A reader of an envelope, which is fed its bytes in pieces. Of more bytes than an envelope may have it keeps none.
+/// Where memory was wanting once, all later calls say so.
+#[derive(Drop)]
+pub struct EnvelopeReader {
+    alloc: Global,
+    // Reads what is fed as a document. None where it begins none, or is too long for one.
+    document: Option<Reader<Depth>>,
+    // The bytes that were fed, where they are not too many.
+    bytes: Blob,
+    fed: usize,
+    short: bool,
+}
+
+impl EnvelopeReader {
+    /// A reader that was fed nothing. It takes no memory.
+    pub fn new(alloc: Global) -> Self
+        ensures ready { IsReady result }
+        ensures fed { WasFed result [] }
+        ensures total { total result ≡ 0 }
+        ensures short { is_short result ≡ false }
+    {
+        EnvelopeReader {
+            alloc,
+            document: Some(Reader::new(alloc, Depth::new())),
+            bytes: Blob::new(alloc),
+            fed: 0,
+            short: false,
+        }
+    }
+
+    /// Takes the next piece of the envelope.
+    pub fn feed(&mut self, piece: &[u8]) -> Result<(), Memory>
+        requires ready { IsReady self.old }
+        requires fits { total self.old + length piece.now < 2 ^ 63 }
+        ensures ready { IsReady self.new }
+        ensures fed { (bytes : List ℕ) → WasFed self.old bytes → WasFed self.new (bytes ++ piece.now) }
+        ensures total { total self.new ≡ total self.old + length piece.now }
+        ensures short { is_short self.old ≡ true → IsErr result }
+        ensures ok { OnOk result (is_short self.new ≡ false) }
+        ensures err { OnErr result (is_short self.new ≡ true) }
+    {
+        self.fed += piece.len();
+        if self.short {
+            return Err(Memory);
+        }
+        if self.fed > ENVELOPE_BYTES {
+            self.document = None;
+            self.bytes = Blob::new(self.alloc);
+            return Ok(());
+        }
+        self.short = true;
+        read_on(&mut self.document, piece)?;
+        self.bytes.push_all(piece)?;
+        self.short = false;
+        Ok(())
+    }
+
+    /// What was fed begins no envelope, whatever follows: it is too long, or no document begins with it.
+    pub fn is_dead(&self) -> bool
+        ensures { (bytes : List ℕ) → WasFed self.now bytes → is_short self.now ≡ false
+            → IsTrue result ↔ IsHopeless bytes }
+    {
+        if self.fed > ENVELOPE_BYTES {
+            return true;
+        }
+        self.document.is_none()
+    }
+
+    /// What `read_envelope` answers of all that was fed.
+    pub fn finish(self) -> Result<Envelope, EnvelopeError>
+        ensures reads { (bytes : List ℕ) → WasFed self bytes → is_short self ≡ false → Reads bytes result }
+        ensures short { is_short self ≡ true → result ≡ Err EnvelopeError.Memory }
+    {
+        if self.short {
+            return Err(EnvelopeError::Memory);
+        }
+        if self.fed > ENVELOPE_BYTES {
+            return Err(EnvelopeError::TooLong { len: self.fed });
+        }
+        read_envelope(self.alloc, self.bytes.as_slice())
+    }
+}
+
+// Reads on, and lets the reader go where what was fed begins no document.
+fn read_on(document: &mut Option<Reader<Depth>>, piece: &[u8]) -> Result<(), Memory>
+    requires told { IfSome document.old (λ r. IsTold open_count r) }
+    requires fits { IfSome document.old (λ r. fed_len r + length piece.now < 2 ^ 64) }
+    ensures told { OnOk result (IfSome document.new (λ r. IsTold open_count r)) }
+    ensures place { (n : ℕ) → IfSome document.old (λ r. fed_len r ≤ n)
+        → OnOk result (IfSome document.new (λ r. fed_len r ≤ n + length piece.now)) }
+    ensures read { (bytes : List ℕ) → HasRead document.old bytes
+        → OnOk result (HasRead document.new (bytes ++ piece.now)) }
+{
+    pieces_are_joined();
+    refused_stays();
+    let Some(reader) = document else {
+        return Ok(());
+    };
+    reader.feed(piece)?;
+    if reader.is_refused() {
+        *document = None;
+    }
+    Ok(())
+}
