@@ -1,5 +1,5 @@
 -- Bytes with which no document begins.
-use Rattle.std.proofs.Common.{◌≡◌, ◌↔◌, ℕ, ◌+◌, ◌<◌, ◌≤◌, List, ◌++◌, Some, None, length, true, sym, ap}
+use Rattle.std.proofs.Common.{◌≡◌, ◌↔◌, ℕ, ◌+◌, ◌<◌, ◌≤◌, List, [], ◌++◌, Some, None, length, true, sym, ap}
 use Rattle.std.proofs.Common.{◌∙◌, arith, length-append}
 use Rattle.rm_base.specs.Limits.{envelope_bytes}
 use Rattle.soap_document.specs.Grammar.{IsDocument}
@@ -46,4 +46,11 @@ no_document joins none read bytes more tree (refused r) fits d =
     let found : root_of (run start (bytes ++ more)) ≡ Some d.raw = (read (bytes ++ more) d.raw).0 d.is in
     let missing : root_of (run start (bytes ++ more)) ≡ None =
     ap root_of (joins start bytes more) ∙ none (run start bytes) more r in
+    let wrong = sym missing ∙ found in cc
+
+pub refused_no_tree : IsNone → IsRead → (bytes : List ℕ) → is_refused (run start bytes).mode ≡ true → (tree : Element)
+    → ¬ (Document bytes tree)
+refused_no_tree none read bytes r tree d =
+    let found : root_of (run start bytes) ≡ Some d.raw = (read bytes d.raw).0 d.is in
+    let missing : root_of (run start bytes) ≡ None = none (run start bytes) [] r in
     let wrong = sym missing ∙ found in cc

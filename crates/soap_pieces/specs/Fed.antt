@@ -5,6 +5,7 @@ use Rattle.soap_document.specs.Machine.{start, run, is_refused}
 use Rattle.soap_document.specs.Seen.{Sees, IsTold, fed_len}
 use Rattle.soap_document.specs.declared.reader.Reader.{Reader}
 use Rattle.soap_pieces.specs.Depth.{AnyOpen, open_count}
+use Rattle.soap_pieces.specs.Kept.{HasKept, kept_len}
 use Rattle.soap_pieces.specs.declared.depth.Depth.{Depth}
 use Rattle.soap_pieces.specs.declared.reader.EnvelopeReader.{EnvelopeReader}
 
@@ -25,9 +26,10 @@ HasRead (Some r) bytes = Sees AnyOpen r (run start bytes) × (is_refused (run st
 pub record IsReady (r : EnvelopeReader) : Type 0 where
   pub told : r.short ≡ false → IfSome r.document (λ reader. IsTold open_count reader)
   pub place : r.short ≡ false → IfSome r.document (λ reader. fed_len reader ≤ r.fed)
+  pub kept : r.short ≡ false → kept_len r.kept ≤ r.fed
 
 -- these are the bytes of all pieces
 pub record WasFed (r : EnvelopeReader) (bytes : List ℕ) : Type 0 where
   pub len : r.fed ≡ length bytes
   pub read : r.short ≡ false → length bytes ≤ envelope_bytes → HasRead r.document bytes
-  pub kept : r.short ≡ false → length bytes ≤ envelope_bytes → r.bytes ≡ bytes
+  pub kept : r.short ≡ false → length bytes ≤ envelope_bytes → HasKept r.kept bytes

@@ -5,6 +5,8 @@
 #![tactic(auto)]
 
 mod depth;
+mod front;
+mod kept;
 pub mod laws;
 pub mod reader;
 

@@ -14,13 +14,13 @@ ghost use Rattle.std.specs.Prelude.{
   true,
   false,
   IsTrue,
-  IfOk,
   IfSome,
   OnOk,
   OnErr,
   IsErr,
   Err,
 };
+ghost use Rattle.rm_base.specs.Limits.{envelope_bytes};
 ghost use Rattle.soap_document.specs.Seen.{IsTold, fed_len};
 ghost use Rattle.soap_pieces.specs.Answer.{Reads};
 ghost use Rattle.soap_pieces.specs.Depth.{open_count};
@@ -28,23 +28,24 @@ ghost use Rattle.soap_pieces.specs.Fed.{HasRead, IsReady, WasFed, is_short, tota
 ghost use Rattle.soap_pieces.specs.Hopeless.{IsHopeless};
 
 use crate::depth::Depth;
+use crate::kept::{Kept, keep};
 use rm_base::limits::ENVELOPE_BYTES;
 use rm_base::{Blob, Memory};
 use soap_document::Reader;
-use soap_document::laws::{pieces_are_joined, refused_stays};
+use soap_document::laws::{document_is_read, pieces_are_joined, refused_stays};
 use soap_envelope::{Envelope, read_envelope};
 use soap_profile::EnvelopeError;
 use std::alloc::Global;
 
-/// A reader of an envelope, which is fed its bytes in pieces. Of more bytes than an envelope may have it keeps none.
+/// A reader of an envelope, which is fed its bytes in pieces. It keeps them while an envelope may begin with them, and
+/// none of more than an envelope may have; where no document begins with them, at most three between two pieces.
 /// Where memory was wanting once, all later calls say so.
 #[derive(Drop)]
 pub struct EnvelopeReader {
     alloc: Global,
     // Reads what is fed as a document. None where it begins none, or is too long for one.
     document: Option<Reader<Depth>>,
-    // The bytes that were fed, where they are not too many.
-    bytes: Blob,
+    kept: Kept,
     fed: usize,
     short: bool,
 }
@@ -60,7 +61,7 @@ impl EnvelopeReader {
         EnvelopeReader {
             alloc,
             document: Some(Reader::new(alloc, Depth::new())),
-            bytes: Blob::new(alloc),
+            kept: Kept::Bytes(Blob::new(alloc)),
             fed: 0,
             short: false,
         }
@@ -81,16 +82,23 @@ impl EnvelopeReader {
         if self.short {
             return Err(Memory);
         }
-        if self.fed > ENVELOPE_BYTES {
+        if self.is_too_long() {
             self.document = None;
-            self.bytes = Blob::new(self.alloc);
+            self.kept = Kept::Bytes(Blob::new(self.alloc));
             return Ok(());
         }
         self.short = true;
         read_on(&mut self.document, piece)?;
-        self.bytes.push_all(piece)?;
+        keep(self.alloc, &mut self.kept, piece, self.document.is_none())?;
         self.short = false;
         Ok(())
+    }
+
+    // What was fed is too long for an envelope.
+    fn is_too_long(&self) -> bool
+        ensures { IsTrue result ↔ (envelope_bytes < total self.now) }
+    {
+        self.fed > ENVELOPE_BYTES
     }
 
     /// What was fed begins no envelope, whatever follows: it is too long, or no document begins with it.
@@ -98,7 +106,7 @@ impl EnvelopeReader {
         ensures { (bytes : List ℕ) → WasFed self.now bytes → is_short self.now ≡ false
             → IsTrue result ↔ IsHopeless bytes }
     {
-        if self.fed > ENVELOPE_BYTES {
+        if self.is_too_long() {
             return true;
         }
         self.document.is_none()
@@ -112,10 +120,22 @@ impl EnvelopeReader {
         if self.short {
             return Err(EnvelopeError::Memory);
         }
-        if self.fed > ENVELOPE_BYTES {
-            return Err(EnvelopeError::TooLong { len: self.fed });
+        document_is_read();
+        refused_stays();
+        let EnvelopeReader {
+            alloc,
+            document: _,
+            kept,
+            fed,
+            short: _,
+        } = self;
+        if fed > ENVELOPE_BYTES {
+            return Err(EnvelopeError::TooLong { len: fed });
         }
-        read_envelope(self.alloc, self.bytes.as_slice())
+        match kept {
+            Kept::Bytes(bytes) => read_envelope(alloc, bytes.as_slice()),
+            Kept::Front(front) => Err(front.why_none(fed)),
+        }
     }
 }
 
