@@ -4,7 +4,7 @@ use Rattle.rm_serve.specs.Serves.{reply_text}
 use Rattle.rm_serve.proofs.ServeLemmas.{say-not}
 use Rattle.rm_serve.proofs.serving.say.Goals as goal
 
-pub returns-in_err-refusal_to : goal.returns-in_err-refusal_to
-returns-in_err-refusal_to g c =
+pub returns-in_err-reply : goal.returns-in_err-reply
+returns-in_err-reply g c =
     let p = err_from_is_err_and c.from_residual.result c.from_residual.ensures.1 in
     say-not (g.C.Source.told c.args.conn.now) (reply_text (refusal_to c.args.error)) c.from_residual.result p.0 p.1
