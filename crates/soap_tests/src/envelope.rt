@@ -4,7 +4,7 @@ use soap_envelope::{Envelope, read_envelope};
 use soap_profile::EnvelopeError;
 use std::alloc::Global;
 
-const REQUEST: &str = concat!(
+pub const REQUEST: &str = concat!(
     r#"<?xml version="1.0" encoding="UTF-8"?><!-- x -->"#,
     r#"<S:Envelope xmlns:S='http://www.w3.org/2003/05/soap-envelope'"#,
     r#" xmlns:wsa="http://www.w3.org/2005/08/addressing""#,
@@ -51,7 +51,7 @@ pub fn is_shown(alloc: Global, document: &[u8], wanted: &[u8]) -> bool {
     }
 }
 
-fn shown_envelope(alloc: Global, envelope: &Envelope) -> Result<Blob, Memory> {
+pub fn shown_envelope(alloc: Global, envelope: &Envelope) -> Result<Blob, Memory> {
     let mut out = Blob::new(alloc);
     push_envelope(&mut out, envelope)?;
     Ok(out)
@@ -77,7 +77,7 @@ fn push_payload(out: &mut Blob, payload: &Payload) -> Result<(), Memory> {
     out.push_all(payload.bytes.as_slice())
 }
 
-const REQUEST_SHOWN: &str = concat!(
+pub const REQUEST_SHOWN: &str = concat!(
     "2 4 1 S=http://www.w3.org/2003/05/soap-envelope o=urn:o",
     " rm=http://docs.oasis-open.org/ws-rx/wsrm/200702 wsa=http://www.w3.org/2005/08/addressing <o:x/>"
 );

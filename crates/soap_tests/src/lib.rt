@@ -13,6 +13,8 @@ mod lex;
 #[cfg(test)]
 mod nodes;
 #[cfg(test)]
+mod pieces;
+#[cfg(test)]
 mod profile;
 #[cfg(test)]
 mod writer;
