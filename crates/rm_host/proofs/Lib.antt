@@ -1,4 +1,5 @@
 mod EndLemmas
 mod PostLemmas
 mod RunLemmas
+mod SequenceLemmas
 mod WordLemmas

@@ -1,4 +1,5 @@
 pub mod Ends
 pub mod Runs
+pub mod Sequences
 pub mod Texts
 pub mod Words

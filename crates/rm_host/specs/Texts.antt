@@ -1,11 +1,13 @@
 -- What a node's commands print.
-use Rattle.std.specs.Prelude.{ℕ, Bool, true, false, List, [], ◌++◌, codes, decimal}
+use Rattle.std.specs.Prelude.{◌≡◌, ℕ, ◌+◌, Bool, true, false, List, [], ◌++◌, codes, decimal}
 use Rattle.hex.specs.Hex.{encode_lower}
 use Rattle.call_answers.specs.declared.answer.Cause.{Cause}
 use Rattle.call_answers.specs.declared.answer.Cause.TheVariants as cause
 use Rattle.rm_report.specs.Report.{reason_text}
 use Rattle.rm_report.specs.declared.line.Reason.TheVariants as reason
 use Rattle.rm_serve.specs.declared.posting.Posted.{Posted}
+use Rattle.rm_serve.specs.declared.serving.ConnEnd.{ConnEnd}
+use Rattle.rm_serve.specs.declared.serving.ConnEnd.TheVariants.{Done, Dropped}
 use Rattle.rm_host.specs.declared.end.End.{End}
 use Rattle.rm_host.specs.declared.end.End.TheVariants.{Usage, ReadFault, WriteFault, DiskFault, LinkFault, TooLong}
 use Rattle.rm_host.specs.declared.end.End.TheVariants.{BadAddress, NotEmpty, Refused, Memory, NotAJournal}
@@ -46,6 +48,15 @@ posted_line posted = codes "posted " ++ decimal posted.sent ++ codes " missed " 
 -- what serve prints: how many connections were served well, and how many given up
 abbrev pub served_line : ℕ → ℕ → List ℕ
 served_line done dropped = codes "served " ++ decimal done ++ codes " dropped " ++ decimal dropped ++ codes "\n"
+
+-- what serve prints of so many connections: each was served well or given up
+abbrev pub IsTally : ℕ → List ℕ → Type 0
+IsTally count text = (done dropped : ℕ) × (done + dropped ≡ count) × (text ≡ served_line done dropped)
+
+-- 1 for a connection that was served well, and 0 for one that was given up
+abbrev pub well_served : ConnEnd → ℕ
+well_served Done = 1
+well_served (Dropped e) = 0
 
 -- whether a message is acknowledged
 abbrev pub acked_words : Bool → List ℕ

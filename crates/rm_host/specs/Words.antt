@@ -5,6 +5,8 @@ use Rattle.std.specs.Str.{IsUtf8}
 use Rattle.http_endpoint.specs.Targets.{target_of}
 use Rattle.rm_base.specs.Limits as limits
 use Rattle.rm_base.specs.Text.{IsText}
+use Rattle.rm_base.specs.declared.message.Behaviour.{Behaviour}
+use Rattle.rm_base.specs.declared.message.Behaviour.TheVariants.{EntireSequence, FollowingFirstGap}
 use Rattle.rm_host.specs.declared.end.End.{End}
 use Rattle.rm_host.specs.declared.end.End.TheVariants as end
 use Rattle.rm_host.specs.declared.words.Command.{Command}
@@ -41,6 +43,11 @@ IsSequence words seq = (k : List ℕ) × IsNumber 1 limits.most_sequences k seq 
 abbrev pub grant_word : Grant → List ℕ
 grant_word DropsFollowing = codes "dfg"
 grant_word DropsEntire = codes "des"
+
+-- what is announced by it (WS-ReliableMessaging 1.2, section 3.4: IncompleteSequenceBehavior)
+abbrev pub behaviour_of : Grant → Behaviour
+behaviour_of DropsFollowing = FollowingFirstGap
+behaviour_of DropsEntire = EntireSequence
 
 -- the first word of a command
 abbrev pub name_of : Command → List ℕ

@@ -1,5 +1,5 @@
 //! What commands do with the node of a host. Each error is the end of a command.
-ghost use Rattle.std.specs.Prelude.{◌≡◌, ◌<◌, ◌^◌, true, false, IfOk, IfSome, OnOk};
+ghost use Rattle.std.specs.Prelude.{◌≡◌, ◌<◌, ◌^◌, true, false, None, IfOk, IfSome, OnOk};
 ghost use Rattle.rm_base.specs.Count.{Rose};
 ghost use Rattle.rm_node.specs.Asked.{MayBeAsked, is_connected};
 ghost use Rattle.sequence_table.specs.Fits.{is_in_order};
@@ -81,6 +81,7 @@ pub(crate) fn create<D: Disk, L: Link, C>(
 
 // What is asked for then.
 fn wish(to: Uri) -> Wish
+    ensures is { result ≡ record { to = to; via = Via.Back; expires = record { months = 0; ms = 0 }; offer = None } }
     ensures months { result.expires.months ≡ 0 }
     ensures ms { result.expires.ms ≡ 0 }
     ensures offer { IfSome result.offer (λ behaviour. is_in_order behaviour ≡ true) }

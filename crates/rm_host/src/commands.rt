@@ -1,7 +1,9 @@
 //! The commands `make`, `push`, `close`, `end` and `inbox`.
-ghost use Rattle.std.specs.Prelude.{◌≡◌, ◌<◌, ◌^◌, ◌++◌, IfOk, OnOk, false};
+ghost use Rattle.std.specs.Prelude.{◌≡◌, ◌<◌, ◌^◌, ◌++◌, ◌⊎◌, Err, IfOk, OnOk, false};
+ghost use Rattle.rm_destination.specs.Incoming.{inbox as inbox_in};
 ghost use Rattle.rm_serve.specs.Steps.{IsUp, place_of};
 ghost use Rattle.rm_host.specs.Ends.{HasReason, faults_of, is_disk_fault, is_link_fault, is_outer};
+ghost use Rattle.rm_host.specs.Sequences.{inbox_answer, inbox_lines, item_lines};
 ghost use Rattle.rm_host.specs.Texts.{item_line, posted_line};
 
 use crate::calls::{ask, make_node, mount, post_all};
@@ -130,7 +132,9 @@ pub fn inbox<D: Disk, L: Link, C: Clock>(
     inbox_text(alloc, node.tables(), seq)
 }
 
+// What is in the inbox of a sequence, by the tables of a node.
 fn inbox_text(alloc: Global, tables: &Tables, seq: u32) -> Result<Blob, End>
+    ensures is { (result ≡ Err End.Memory) ⊎ (result ≡ inbox_answer tables.now.records seq) }
     ensures disk { is_disk_fault result ≡ false }
     ensures link { is_link_fault result ≡ false }
     ensures inner { is_outer result ≡ false }
@@ -144,21 +148,29 @@ fn inbox_text(alloc: Global, tables: &Tables, seq: u32) -> Result<Blob, End>
     }
 }
 
-fn items_text(alloc: Global, seq: u32, incoming: &Incoming) -> Result<Blob, Memory> {
+fn items_text(alloc: Global, seq: u32, incoming: &Incoming) -> Result<Blob, Memory>
+    ensures { IfOk result (λ text. text ≡ inbox_lines seq (inbox_in incoming.now.facts)) }
+{
     let mut text = Blob::new(alloc);
-    let len = incoming.inbox_len();
-    for before in 0..len {
-        match incoming.inbox_item(before + 1) {
-            Some(payload) => push_item(&mut text, seq, before + 1, payload.bytes.as_slice())?,
-            None => unreachable!(),
-        }
-    }
+    push_items(&mut text, seq, incoming)?;
     text.push_all(b"inbox ")?;
     push_decimal(&mut text, u64::from(seq))?;
     text.push_all(b" ")?;
-    push_decimal(&mut text, len)?;
+    push_decimal(&mut text, incoming.inbox_len())?;
     text.push_all(b"\n")?;
     Ok(text)
+}
+
+fn push_items(text: &mut Blob, seq: u32, incoming: &Incoming) -> Result<(), Memory>
+    ensures { OnOk result (text.new ≡ text.old ++ item_lines seq 0 (inbox_in incoming.now.facts)) }
+{
+    for before in 0..incoming.inbox_len() {
+        match incoming.inbox_item(before + 1) {
+            Some(payload) => push_item(text, seq, before + 1, payload.bytes.as_slice())?,
+            None => unreachable!(),
+        }
+    }
+    Ok(())
 }
 
 fn push_item(text: &mut Blob, seq: u32, number: u64, bytes: &[u8]) -> Result<(), Memory>

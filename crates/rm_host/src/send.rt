@@ -3,7 +3,11 @@ ghost use Rattle.std.specs.Prelude.{◌≡◌, ◌<◌, IfOk, OnOk, false};
 ghost use Rattle.rm_base.specs.Count.{Rose};
 ghost use Rattle.rm_serve.specs.Steps.{IsUp, place_of};
 ghost use Rattle.rm_host.specs.Ends.{HasReason, Took, faults_of, is_outer};
+ghost use Rattle.rm_host.specs.Sequences.{IsFirstTo, goes_to, is_acked, is_open, is_open_phase, is_usable, is_usable_phase};
+ghost use Rattle.rm_host.specs.Sequences.{may_carry};
 ghost use Rattle.rm_host.specs.Texts.{acked_words, sent_line};
+ghost use Rattle.node_tables.specs.Peers.{peer};
+ghost use Rattle.node_tables.specs.Reads.{outgoing_in};
 
 use crate::calls::{accept_payload, ask, create, mount, post, post_all};
 use crate::end::End;
@@ -137,27 +141,50 @@ fn begin<D: Disk, L: Link, C: Clock>(
 }
 
 // The first sequence to an address that is open or asked for.
-fn sequence_to(tables: &Tables, to: &Uri) -> Option<u32> {
+fn sequence_to(tables: &Tables, to: &Uri) -> Option<u32>
+    ensures { IsFirstTo tables.now.records to.now result }
+{
     for before in 0..tables.len() {
-        if is_usable(tables, before + 1) && goes_to(tables, before + 1, to) {
+        if may_carry(tables, before + 1, to) {
             return Some(before + 1);
         }
     }
     None
 }
 
-fn is_usable(tables: &Tables, seq: u32) -> bool {
+// Whether messages to an address may go on a sequence.
+fn may_carry(tables: &Tables, seq: u32, to: &Uri) -> bool
+    ensures { result ≡ may_carry tables.now.records to.now seq }
+{
+    is_usable(tables, seq) && goes_to(tables, seq, to)
+}
+
+fn is_usable(tables: &Tables, seq: u32) -> bool
+    ensures { result ≡ is_usable (outgoing_in tables.now.records seq) }
+{
     match tables.outgoing(seq) {
-        Some(outgoing) => match outgoing.phase() {
-            OutPhase::Creating => true,
-            OutPhase::Open => true,
-            _ => false,
-        },
+        Some(outgoing) => is_usable_phase(outgoing.phase()),
         None => false,
     }
 }
 
-fn goes_to(tables: &Tables, seq: u32, to: &Uri) -> bool {
+fn is_usable_phase(phase: OutPhase) -> bool
+    ensures { result ≡ is_usable_phase phase }
+{
+    match phase {
+        OutPhase::Creating => true,
+        OutPhase::Open => true,
+        OutPhase::Closing => false,
+        OutPhase::Closed => false,
+        OutPhase::Ending => false,
+        OutPhase::Ended => false,
+        OutPhase::Failed => false,
+    }
+}
+
+fn goes_to(tables: &Tables, seq: u32, to: &Uri) -> bool
+    ensures { result ≡ goes_to (peer tables.now.records seq) to.now }
+{
     match tables.peer(seq) {
         Some(Peer::Address(address)) => address.as_slice() == to.as_slice(),
         Some(Peer::Reference(epr)) => epr.address.as_slice() == to.as_slice(),
@@ -165,24 +192,36 @@ fn goes_to(tables: &Tables, seq: u32, to: &Uri) -> bool {
     }
 }
 
-fn is_open(tables: &Tables, seq: u32) -> bool {
+fn is_open(tables: &Tables, seq: u32) -> bool
+    ensures { result ≡ is_open (outgoing_in tables.now.records seq) }
+{
     match tables.outgoing(seq) {
-        Some(outgoing) => outgoing.phase() == OutPhase::Open,
+        Some(outgoing) => is_open_phase(outgoing.phase()),
         None => false,
     }
 }
 
-fn is_acked(tables: &Tables, seq: u32, number: u64) -> bool {
-    match tables.outgoing(seq) {
-        Some(outgoing) => has(outgoing.acked().ranges(), number),
-        None => false,
+fn is_open_phase(phase: OutPhase) -> bool
+    ensures { result ≡ is_open_phase phase }
+{
+    match phase {
+        OutPhase::Open => true,
+        OutPhase::Creating => false,
+        OutPhase::Closing => false,
+        OutPhase::Closed => false,
+        OutPhase::Ending => false,
+        OutPhase::Ended => false,
+        OutPhase::Failed => false,
     }
 }
 
-fn has(ranges: &[ack_ranges::Range], number: u64) -> bool {
-    ranges
-        .iter()
-        .any(|range| range.lower <= number && number <= range.upper)
+fn is_acked(tables: &Tables, seq: u32, number: u64) -> bool
+    ensures { result ≡ is_acked (outgoing_in tables.now.records seq) number }
+{
+    match tables.outgoing(seq) {
+        Some(outgoing) => outgoing.acked().has(number),
+        None => false,
+    }
 }
 
 fn sent_text(alloc: Global, seq: u32, number: u64, acked: bool) -> Result<Blob, Memory>

@@ -1,8 +1,8 @@
 //! The command `serve`.
-ghost use Rattle.std.specs.Prelude.{◌≡◌, IfOk, OnOk, false};
+ghost use Rattle.std.specs.Prelude.{◌≡◌, ◌+◌, ◌<◌, ◌++◌, IfOk, OnOk, false};
 ghost use Rattle.rm_serve.specs.Steps.{IsUp, place_of};
 ghost use Rattle.rm_host.specs.Ends.{HasReason, faults_of, is_outer};
-ghost use Rattle.rm_host.specs.Texts.{served_line};
+ghost use Rattle.rm_host.specs.Texts.{IsTally, served_line, well_served};
 
 use crate::calls::{ask, mount, post, serve_conn};
 use crate::end::End;
@@ -30,6 +30,7 @@ pub fn serve<D: Disk, L: Link, C: Clock>(
     count: u16,
     grant: Grant,
 ) -> Result<Blob, End>
+    ensures tally { IfOk result (IsTally count) }
     ensures reason { HasReason (faults_of D.told L.told host.old) (faults_of D.told L.told host.new) result }
     ensures inner { is_outer result ≡ false }
 {
@@ -48,16 +49,20 @@ pub fn serve<D: Disk, L: Link, C: Clock>(
 }
 
 // One connection more.
-fn counted(tally: Tally, finish: ConnEnd) -> Tally {
+fn counted(tally: Tally, finish: ConnEnd) -> Tally
+    requires room { tally.done + tally.dropped < 65535 }
+    ensures well { result.done ≡ tally.done + well_served finish }
+    ensures all { result.done + result.dropped ≡ tally.done + tally.dropped + 1 }
+{
     let Tally { done, dropped } = tally;
     match finish {
         ConnEnd::Done => Tally {
-            done: done.saturating_add(1),
+            done: done + 1,
             dropped,
         },
         ConnEnd::Dropped(_) => Tally {
             done,
-            dropped: dropped.saturating_add(1),
+            dropped: dropped + 1,
         },
     }
 }
@@ -120,9 +125,12 @@ fn take<D: Disk, L: Link, C: Clock>(
 }
 
 // Packets, and then others.
-fn joined(first: Outs, then: Outs) -> Result<Outs, Memory> {
+fn joined(first: Outs, last: Outs) -> Result<Outs, Memory>
+    ensures { IfOk result (λ all. all ≡ first ++ last) }
+{
     let mut all = first;
-    for out in then.into_vec() {
+    let mut rest = last.into_vec().into_iter();
+    while let Some(out) = rest.next() {
         all.push(out)?;
     }
     Ok(all)

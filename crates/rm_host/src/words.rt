@@ -23,6 +23,7 @@ ghost use Rattle.rm_host.specs.Words.{
   IsSequence,
   Reads,
   ReadsAddress,
+  behaviour_of,
   grant_word,
   is_node_name,
   is_of_node,
@@ -48,7 +49,8 @@ pub enum Grant {
 impl Grant {
     /// What is announced for the sequences that are granted. It is never NoDiscard.
     pub fn behaviour(self) -> Behaviour
-        ensures { is_in_order result ≡ true }
+        ensures is { result ≡ behaviour_of self }
+        ensures in_order { is_in_order result ≡ true }
     {
         match self {
             Grant::DropsFollowing => Behaviour::FollowingFirstGap,

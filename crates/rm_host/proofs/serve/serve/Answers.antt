@@ -1,11 +1,11 @@
-use Rattle.std.proofs.Common.{◌∙◌, Err, ap}
+use Rattle.std.proofs.Common.{◌∙◌, Err, ap, arith, refl}
 use Rattle.std.proofs.lemmas.Result.{err_from_is_err_and}
 use Rattle.rm_host.specs.Ends.{faults_of}
 use Rattle.rm_host.proofs.EndLemmas.{hands, then, wants}
 use Rattle.rm_host.proofs.serve.serve.Goals as goal
 
 pub loop-left-init : goal.loop-left-init
-loop-left-init g c = record { up = c.in_ok-node.ensures.up; reason = c.in_ok-node.ensures.reason }
+loop-left-init g c = record { up = c.in_ok-node.ensures.up; reason = c.in_ok-node.ensures.reason; count = refl }
 
 pub loop-left-preserved : goal.loop-left-preserved
 loop-left-preserved g c =
@@ -15,6 +15,7 @@ loop-left-preserved g c =
       up = c.in_ok-finish.ensures.up;
       reason = then (seen c.args.host.now) (seen l.host) (seen c.turn.new.host) _ _ _ l.invariant.reason
           c.in_ok-finish.ensures.reason;
+      count = omega (arith, l.invariant.count, c.counted-tally.ensures.all, c.loop-left-test.true);
     }
 
 pub returns-in_err-finish-clause-reason : goal.returns-in_err-finish-clause-reason
@@ -36,3 +37,12 @@ returns-in_err-tally_text-clause-reason g c =
 
 pub returns-clause-reason : goal.returns-clause-reason
 returns-clause-reason g c = c.loop-left.invariant.reason
+
+pub returns-clause-tally : goal.returns-clause-tally
+returns-clause-tally g c =
+    let l = c.loop-left in (
+      l.tally.done,
+      l.tally.dropped,
+      omega (arith, l.invariant.count, c.loop-left-test.false),
+      c.in_ok-tally_text.ensures,
+    )

@@ -1,4 +1,4 @@
-use Rattle.std.proofs.Common.{false, true}
+use Rattle.std.proofs.Common.{◌≡◌, ◌+◌, false, true}
 use Rattle.rm_serve.specs.Steps.{IsUp, place_of}
 use Rattle.rm_host.specs.Ends.{Reason, faults_of}
 use Rattle.rm_host.proofs.serve.serve.Given as goal
@@ -10,6 +10,7 @@ invariant-loop-left g l =
     record {
       up : IsUp g.D.Disk.tells (place_of (told l.host.disk) l.node);
       reason : Reason (faults l.fn.host) (faults l.host) false false true;
+      count : l.tally.done + l.tally.dropped + l.left ≡ l.fn.count;
     }
 
 abbrev pub decreases-loop-left : goal.decreases-loop-left

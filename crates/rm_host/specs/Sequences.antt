@@ -1,0 +1,80 @@
+-- What commands look for in the tables of a node.
+use Rattle.std.specs.Prelude.{◌≡◌, ℕ, ◌+◌, ◌<◌, ◌≤◌, Bool, true, false, ◌&&◌, List, ◌∷◌, [], ◌++◌, Option, Some, None}
+use Rattle.std.specs.Prelude.{length, Result, Ok, Err, bytes_eq, codes, decimal, if◌then◌else◌, nat_lt}
+use Rattle.ack_ranges.specs.Ranges.{in_ranges}
+use Rattle.call_answers.specs.declared.answer.Cause.TheVariants as cause
+use Rattle.node_tables.specs.Peers.{Address, Peer, Reference, peer}
+use Rattle.node_tables.specs.Reads.{incoming_in, outgoing_in}
+use Rattle.record_batch.specs.Fact.{Fact}
+use Rattle.rm_base.specs.declared.message.Payload.{Payload}
+use Rattle.rm_destination.specs.Incoming.{Receiving, inbox}
+use Rattle.rm_source.specs.Outgoing.{Sending}
+use Rattle.rm_source.specs.declared.phase.OutPhase.{OutPhase}
+use Rattle.rm_source.specs.declared.phase.OutPhase.TheVariants as out
+use Rattle.sequence_table.specs.Makers.{makers}
+use Rattle.rm_host.specs.Texts.{item_line}
+use Rattle.rm_host.specs.declared.end.End.{End}
+use Rattle.rm_host.specs.declared.end.End.TheVariants.{Refused}
+
+-- a sequence that sends is open
+abbrev pub is_open_phase : OutPhase → Bool
+is_open_phase out.Open = true
+is_open_phase _ = false
+
+-- it is open, or asked for
+abbrev pub is_usable_phase : OutPhase → Bool
+is_usable_phase out.Open = true
+is_usable_phase out.Creating = true
+is_usable_phase _ = false
+
+-- a sequence sends, and is open
+abbrev pub is_open : Option Sending → Bool
+is_open None = false
+is_open (Some sending) = is_open_phase sending.phase
+
+-- it sends, and is open or asked for
+abbrev pub is_usable : Option Sending → Bool
+is_usable None = false
+is_usable (Some sending) = is_usable_phase sending.phase
+
+-- it sends, and this number of it is acknowledged
+abbrev pub is_acked : Option Sending → ℕ → Bool
+is_acked None number = false
+is_acked (Some sending) number = in_ranges sending.acked number
+
+-- messages to a peer go to an address
+abbrev pub goes_to : Option Peer → List ℕ → Bool
+goes_to None to = false
+goes_to (Some (Address address)) to = bytes_eq address to
+goes_to (Some (Reference endpoint)) to = bytes_eq endpoint.address to
+
+-- messages to an address may go on a sequence
+abbrev pub may_carry : List Fact → List ℕ → ℕ → Bool
+may_carry records to seq = is_usable (outgoing_in records seq) && goes_to (peer records seq) to
+
+-- the first sequence on which messages to an address may go, where there is one
+abbrev pub IsFirstTo : List Fact → List ℕ → Option ℕ → Type 0
+IsFirstTo records to None = (seq : ℕ) → 0 < seq → seq ≤ length (makers records) → may_carry records to seq ≡ false
+IsFirstTo records to (Some first) =
+    (may_carry records to first ≡ true) × ((seq : ℕ) → 0 < seq → seq < first → may_carry records to seq ≡ false)
+
+-- what inbox prints of payloads, numbered from n + 1 on
+abbrev pub item_lines : ℕ → ℕ → List Payload → List ℕ
+item_lines seq n [] = []
+item_lines seq n (payload ∷ payloads) = item_line seq (n + 1) payload.bytes ++ item_lines seq (n + 1) payloads
+
+-- what inbox prints
+abbrev pub inbox_lines : ℕ → List Payload → List ℕ
+inbox_lines seq payloads =
+    item_lines seq 0 payloads ++ codes "inbox " ++ decimal seq ++ codes " " ++ decimal (length payloads) ++ codes "\n"
+
+-- what inbox answers of a sequence, by its receiving side, where it has one
+abbrev pub inbox_told : ℕ → Option Receiving → Result (List ℕ) End
+inbox_told seq None = Err (Refused cause.WrongSide)
+inbox_told seq (Some receiving) = Ok (inbox_lines seq (inbox receiving))
+
+-- what inbox answers of a node with these records
+abbrev pub inbox_answer : List Fact → ℕ → Result (List ℕ) End
+inbox_answer records seq =
+    if nat_lt (length (makers records)) seq then Err (Refused cause.NoSequence)
+    else inbox_told seq (incoming_in records seq)
