@@ -1,5 +1,6 @@
 //! Two programs on one machine. With words it is the program wsrm; with none it plays a message from one node to
-//! another, each in a folder of its own, whose commands are child processes of it, and what a node alone refuses.
+//! another, each in a folder of its own, whose commands are child processes of it, the close and the end of its
+//! sequence, and what a node alone refuses.
 #![tactic(auto)]
 
 mod play;
@@ -23,6 +24,7 @@ fn main(rt: HostRuntime) -> ExitCode {
 }
 
 fn plays(rt: &HostRuntime) -> io::Result<()> {
-    play::play(rt)?;
+    play::deliver(rt)?;
+    play::end(rt)?;
     play::refuse(rt)
 }

@@ -34,13 +34,22 @@ const LINK_FAULT: i32 = 7;
 /// What the client is asked for when its message is acknowledged.
 const THEN: [&[&str]; 3] = [&["push"], &["close", "1"], &["end", "1"]];
 
-/// Makes two nodes, sends a message while the one serves, closes and ends the sequence, and prints what each command
-/// printed. Meanwhile a second process finds the server's journal held.
-pub fn play(rt: &HostRuntime) -> io::Result<()> {
-    let server = folder(rt, "server")?;
-    let client = folder(rt, "client")?;
-    show(rt, run(rt, &server, &["make", "1", SERVER], b"")?)?;
-    show(rt, run(rt, &client, &["make", "2", CLIENT], b"")?)?;
+/// Makes two nodes, sends a message while the one serves as many connections as that takes, and prints what each command
+/// printed.
+pub fn deliver(rt: &HostRuntime) -> io::Result<()> {
+    let (server, client) = nodes(rt)?;
+    let serving = command(rt, &server, &["serve", "18473", "2", "dfg"])?
+        .stdout(Stdio::piped())
+        .spawn(rt)?;
+    show(rt, send(rt, &client)?)?;
+    show(rt, serving.wait_with_output(rt.alloc())?)?;
+    show(rt, run(rt, &server, &["inbox", "1"], b"")?)?;
+    forget(rt, &server, &client)
+}
+
+/// The same, and closes and ends the sequence. Meanwhile a second process finds the server's journal held.
+pub fn end(rt: &HostRuntime) -> io::Result<()> {
+    let (server, client) = nodes(rt)?;
     let serving = command(rt, &server, &["serve", "18473", "4", "dfg"])?
         .stdout(Stdio::piped())
         .spawn(rt)?;
@@ -51,8 +60,7 @@ pub fn play(rt: &HostRuntime) -> io::Result<()> {
     }
     show(rt, serving.wait_with_output(rt.alloc())?)?;
     show(rt, run(rt, &server, &["inbox", "1"], b"")?)?;
-    fs::remove_dir_all(rt, &client)?;
-    fs::remove_dir_all(rt, &server)
+    forget(rt, &server, &client)
 }
 
 /// Asks a node that is alone for what it can't do, before it is made and after, and prints what each command printed,
@@ -63,6 +71,21 @@ pub fn refuse(rt: &HostRuntime) -> io::Result<()> {
         tell(rt, run(rt, &folder, *words, *input)?)?;
     }
     fs::remove_dir_all(rt, &folder)
+}
+
+// Makes two nodes, the server's and the client's, each in a new folder.
+fn nodes(rt: &HostRuntime) -> io::Result<(PathBuf, PathBuf)> {
+    let server = folder(rt, "server")?;
+    let client = folder(rt, "client")?;
+    show(rt, run(rt, &server, &["make", "1", SERVER], b"")?)?;
+    show(rt, run(rt, &client, &["make", "2", CLIENT], b"")?)?;
+    Ok((server, client))
+}
+
+// Removes the folders of two nodes.
+fn forget(rt: &HostRuntime, server: &PathBuf, client: &PathBuf) -> io::Result<()> {
+    fs::remove_dir_all(rt, client)?;
+    fs::remove_dir_all(rt, server)
 }
 
 // Sends a message, again as long as the server does not listen. Where it does not, the message is not accepted: the
