@@ -129,8 +129,7 @@ fn joined(first: Outs, last: Outs) -> Result<Outs, Memory>
     ensures { IfOk result (λ all. all ≡ first ++ last) }
 {
     let mut all = first;
-    let mut rest = last.into_vec().into_iter();
-    while let Some(out) = rest.next() {
+    for out in last.into_vec() {
         all.push(out)?;
     }
     Ok(all)

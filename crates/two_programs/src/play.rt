@@ -34,8 +34,8 @@ const LINK_FAULT: i32 = 7;
 /// What the client is asked for when its message is acknowledged.
 const THEN: [&[&str]; 3] = [&["push"], &["close", "1"], &["end", "1"]];
 
-/// Makes two nodes, sends a message while the one serves as many connections as that takes, and prints what each command
-/// printed.
+/// Makes two nodes, sends a message while the one serves as many connections as that takes, and prints what each
+/// command printed.
 pub fn deliver(rt: &HostRuntime) -> io::Result<()> {
     let (server, client) = nodes(rt)?;
     let serving = command(rt, &server, &["serve", "18473", "2", "dfg"])?
