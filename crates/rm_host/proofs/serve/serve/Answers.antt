@@ -1,11 +1,11 @@
-use Rattle.std.proofs.Common.{◌∙◌, Err, ap, arith, refl}
+use Rattle.std.proofs.Common.{◌∙◌, Err, ap, arith}
 use Rattle.std.proofs.lemmas.Result.{err_from_is_err_and}
 use Rattle.rm_host.specs.Ends.{faults_of}
 use Rattle.rm_host.proofs.EndLemmas.{hands, then, wants}
 use Rattle.rm_host.proofs.serve.serve.Goals as goal
 
 pub loop-left-init : goal.loop-left-init
-loop-left-init g c = record { up = c.in_ok-node.ensures.up; reason = c.in_ok-node.ensures.reason; count = refl }
+loop-left-init g c = record { up = c.in_ok-node.ensures.up; reason = c.in_ok-node.ensures.reason; count = omega arith }
 
 pub loop-left-preserved : goal.loop-left-preserved
 loop-left-preserved g c =
