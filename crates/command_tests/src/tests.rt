@@ -299,46 +299,6 @@ const ASSERTION: &[u8] =
 
 const ASSERTION_TEXT: &[u8] = b"assurance exactly-once\nin-order yes\noptional yes\ngranted yes\n";
 
-const BARE: &[u8] = b"<RMAssertion xmlns='http://docs.oasis-open.org/ws-rx/wsrmp/200702'/>";
-
-const UNSAID: &[u8] = b"assurance unsaid\nin-order no\noptional no\ngranted yes\n";
-
-// A document behind so many spaces.
-fn behind_spaces(alloc: Global, document: &[u8], spaces: u32) -> Result<Blob, Memory> {
-    let mut bytes = Blob::new(alloc);
-    push_repeated(&mut bytes, b" ", spaces)?;
-    bytes.push_all(document)?;
-    Ok(bytes)
-}
-
-// Whether an assertion behind so many spaces has this status, and this is printed.
-fn is_behind_spaces(alloc: Global, spaces: u32, status: u8, text: &[u8]) -> Result<bool, Memory> {
-    let input = behind_spaces(alloc, BARE, spaces)?;
-    prints(alloc, given(POLICY, input.as_slice(), None), status, text)
-}
-
-#[test]
-fn policies_up_to_a_length(rt: HostRuntime) -> Result<(), Memory> {
-    assert!(rt; is_behind_spaces(rt.alloc(), 2097084, 0, UNSAID)?);
-    assert!(rt; is_behind_spaces(rt.alloc(), 2097085, 8, b"too long\n")?);
-    Ok(())
-}
-
-const EMPTY: &[u8] = b"<Policy xmlns='http://www.w3.org/ns/ws-policy'/>";
-
-// Whether an empty policy behind so many spaces has this status, and this is printed.
-fn is_normal(alloc: Global, spaces: u32, status: u8, text: &[u8]) -> Result<bool, Memory> {
-    let input = behind_spaces(alloc, EMPTY, spaces)?;
-    prints(alloc, given(NORMAL, input.as_slice(), None), status, text)
-}
-
-#[test]
-fn normal_forms_up_to_a_length(rt: HostRuntime) -> Result<(), Memory> {
-    assert!(rt; is_normal(rt.alloc(), 2097104, 0, b"alternatives 1\nalt 1 -\n")?);
-    assert!(rt; is_normal(rt.alloc(), 2097105, 8, b"too long\n")?);
-    Ok(())
-}
-
 const CHOICE: &[u8] = b"<w:Policy xmlns:w='http://www.w3.org/ns/ws-policy' xmlns:x='urn:x'>\
         <x:a/><w:ExactlyOne><x:b/><x:c w:Optional='true'/></w:ExactlyOne></w:Policy>";
 

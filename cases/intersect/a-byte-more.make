@@ -1,0 +1,2 @@
+2097044 " "
+1 "<pair><Policy xmlns='http://www.w3.org/ns/ws-policy'/><Policy xmlns='http://www.w3.org/ns/ws-policy'/></pair>"

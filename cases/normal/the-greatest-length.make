@@ -1,0 +1,2 @@
+2097104 " "
+1 "<Policy xmlns='http://www.w3.org/ns/ws-policy'/>"
