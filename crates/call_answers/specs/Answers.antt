@@ -1,5 +1,5 @@
 -- The code's answers as those of the protocol.
-use Rattle.std.specs.Prelude.{◌≡◌, ℕ, true, List, map}
+use Rattle.std.specs.Prelude.{◌≡◌, ℕ, true, List, map, None}
 use Rattle.std.specs.List.{AllByRecursion}
 use Rattle.batch_size.specs.Room.{HasRoom}
 use Rattle.batch_size.specs.Typed.{IsTyped}
@@ -45,6 +45,7 @@ abbrev pub seen : CodeAnswer → Answer
 seen a = record {
   outcome = outcome_seen a.outcome;
   delta = map fact_of a.batch.items;
+  fetched = None;
   outs = a.outs.items;
   moves = moves_seen a.moves;
 }

@@ -68,7 +68,8 @@ fn push_range(out: &mut Blob, range: Range) -> Result<(), Memory>
     push_decimal(out, range.upper)
 }
 
-fn push_ranges(out: &mut Blob, ranges: &[Range]) -> Result<(), Memory>
+/// Appends ranges, such as `1-3,5-5`.
+pub fn push_ranges(out: &mut Blob, ranges: &[Range]) -> Result<(), Memory>
     ensures { OnOk result (out.new ≡ out.old ++ ranges_text ranges.now) }
 {
     let Some((first, rest)) = ranges.split_first() else {

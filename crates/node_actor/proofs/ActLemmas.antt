@@ -1,6 +1,7 @@
 -- A call of a node, and the protocol's.
-use Rattle.std.proofs.Common.{◌≡◌, ◌∙◌, ◌≤◌, ◌-◌, ◌++◌, ℕ, Bool, true, false, cond, List, []}
-use Rattle.std.proofs.Common.{◌∷◌, length, Option, Some, None, Result, Ok, Err, refl, sym, ap, subst, inl, inr, arith}
+use Rattle.std.proofs.Common.{◌≡◌, ◌∙◌, ◌≤◌, ◌-◌, ◌++◌, ℕ, Bool, true, false, cond, List, [], map}
+use Rattle.std.proofs.Common.{◌∷◌, length, Option, Some, None, Result, Ok, Err, refl, sym, ap, ap₂, subst, inl, inr}
+use Rattle.std.proofs.Common.{arith}
 use Rattle.std.specs.Prelude.{IsTrue, MatchBool}
 use Rattle.std.proofs.lemmas.Bool.{ltb-true, ltb-false, le-leb, lt-leb}
 use Rattle.std.proofs.lemmas.List.{length-map}
@@ -14,15 +15,17 @@ use Rattle.rm_journal.specs.EntryLemmas.{length-gates_from}
 use Rattle.rm_journal.specs.JournalState.{end_of as journal_end}
 use Rattle.rm_message.specs.declared.message.Message.{Message}
 use Rattle.sequence_table.specs.Words.{Text}
-use Rattle.rm_protocol.specs.Calls.{Answer, Cause, Outcome}
+use Rattle.rm_protocol.specs.Calls.{Answer, Cause, Fetched, Outcome}
 use Rattle.rm_protocol.specs.Exact.{AreExactly}
 use Rattle.rm_protocol.specs.Node.{Node, State, Up, Writing, Answered, DiskFault, after_by, burned, end_of, goes_down}
-use Rattle.rm_protocol.specs.Node.{is_short, outcome_by, outcome_with, records, said_by, said_with}
+use Rattle.rm_protocol.specs.Node.{fetched_by, fetched_message, is_short, outcome_by, outcome_with, polled_with}
+use Rattle.rm_protocol.specs.Node.{records, said_by, said_with}
 use Rattle.rm_protocol.specs.Node.{with_batch as grows, with_moves, written}
+use Rattle.rm_protocol.specs.Polls.{polled_after}
 use Rattle.rm_protocol.specs.Terms.{Terms}
-use Rattle.rm_protocol.specs.Waiting.{Moves, no_moves}
 use Rattle.rm_protocol.specs.World.{clock_by}
 use Rattle.rm_disk.specs.Told.{Told}
+use Rattle.node_laws.specs.Keeps.{WaitByTheRules}
 use Rattle.node_store.specs.Changes.{BurnsFor, Changes}
 use Rattle.node_store.specs.Has.{AreOfNode, Holds, entries_of}
 use Rattle.node_store.specs.Stored.{Stored, grown, with_batch}
@@ -32,15 +35,15 @@ use Rattle.rm_node.specs.Ends.{Ended, Handed, Refused, Wanted, Broke, WasDown}
 use Rattle.rm_node.specs.Keeping.{Keeping, Keeps, kept_after}
 use Rattle.rm_node.specs.Noded.{Noded, Runs}
 use Rattle.rm_node.specs.declared.kept.Kept.{Kept}
-use Rattle.rm_node.specs.Packets.{IsReplyFirst, packets_of, reply_of, reply_packet}
+use Rattle.rm_node.specs.Packets.{IsReplyFirst, fetched_packet, left_packets, packets_of, reply_of, reply_packet}
 use Rattle.rm_report.specs.declared.line.Outcome.TheVariants as told
 use Rattle.node_actor.specs.Actored.{Actored}
 use Rattle.node_actor.specs.Comes.{ComesOut, IsTold}
 use Rattle.node_actor.specs.declared.actor.Came.{Came}
-use Rattle.node_actor.specs.Outcomes.{answer_told, call_told, packets_in, refusal_told}
+use Rattle.node_actor.specs.Outcomes.{answer_told, back_packet, call_told, left_of, packets_in, refusal_told}
 use Rattle.node_actor.specs.Stands.{Acted, Acts, Asleep, Awake, Stands, StandsBy, kept_of}
 use Rattle.node_actor.proofs.KeptLemmas.{quiet-kept}
-use Rattle.node_actor.proofs.QuietLemmas.{IsQuiet}
+use Rattle.node_actor.proofs.QuietLemmas.{IsQuiet, quiet_is, silent}
 
 -- a node and a clock
 abbrev pub actored : Noded → ℕ → Actored
@@ -81,6 +84,7 @@ unchanged x first now old new s kept stored same = record {
   granted = ap (λ (k : Kept). k.granted) kept ∙ s.granted;
   kept = λ up. subst (λ (k : Kept). Keeps k (kept_of x)) (sym kept) (s.kept up);
   in_order = s.in_order;
+  rules = s.rules;
   clock = s.clock;
 }
 
@@ -106,17 +110,43 @@ said_well : (fuse : Option ℕ) (delta : List Fact) (outs : List Message) → We
 said_well fuse [] outs well = refl
 said_well fuse (f ∷ delta) outs well = ap (λ (b : Bool). cond b [] outs) (sym well)
 
+fetched_as : (t : Option Fetched) → fetched_packet t ≡ map back_packet (fetched_message t)
+fetched_as None = refl
+fetched_as (Some t) = refl
+
+left_well : (connected : Bool) (x : Node) (answer : Answer) → WentWell x.fuse answer.delta
+    → left_packets connected answer ≡ left_of connected (fetched_by x Up answer) (said_by x Up answer)
+left_well connected x answer well =
+    ap (λ (os : List Out). os ++ packets_of connected answer.outs) (fetched_as answer.fetched)
+    ∙ ap₂ (λ (fetched said : List Message). left_of connected fetched said)
+    (said_well x.fuse answer.delta (fetched_message answer.fetched) well)
+    (said_well x.fuse answer.delta answer.outs well)
+
+-- a node after these records of an answer
+abbrev after_with : Node → Answer → List Fact → Node
+after_with x answer delta =
+    with_moves x answer
+    (record (written x delta) { polled = polled_with x.fuse delta x.polled (polled_after x.polled answer) })
+
 -- what it keeps after a call that went well
 abbrev moved_of : Node → Answer → Keeping
 moved_of x answer = kept_after (records x) answer (kept_of x)
+
+-- a node after records, where a device call failed or didn't
+abbrev after_short : Node → Answer → List Fact → Bool → Node
+after_short x answer delta short =
+    with_moves x answer
+    (record (cond short (goes_down x delta) (grows x delta)) {
+      polled = cond short x.polled (polled_after x.polled answer);
+    })
 
 -- a batch was written, unless it is empty
 written_well : (x : Node) (answer : Answer) (delta : List Fact) (first now : Told) (old : Actored) (new : Noded)
     → Stands x first old → x.state ≡ Up → Keeps new.kept (moved_of x answer)
     → Changes first now old.node.stored new.stored delta true false
     → new.stored.journal.is_down ≡ old.node.stored.journal.is_down → AreOfNode (with_batch x.entries delta)
-    → Stands (with_moves x answer (written x delta)) now (actored new old.clock)
-written_well x answer [] first now old new s up kept changes same next =
+    → WaitByTheRules (polled_after x.polled answer) → Stands (after_with x answer delta) now (actored new old.clock)
+written_well x answer [] first now old new s up kept changes same next rules =
     let awake = awake_of x first old s up in record {
       disk = subst (λ (st : State). StandsBy st x.entries now.past new.stored) (sym up) (record {
         up = same ∙ awake.up;
@@ -126,14 +156,14 @@ written_well x answer [] first now old new s up kept changes same next =
       granted = kept.granted;
       kept = λ still. kept;
       in_order = s.in_order;
+      rules = rules;
       clock = s.clock;
     }
-written_well x answer (f ∷ delta) first now old new s up kept changes same next =
+written_well x answer (f ∷ delta) first now old new s up kept changes same next rules =
     let awake = awake_of x first old s up in
     let burns = burns_well first.fuse now.fuse (changes.fuse (inl refl)) in
     let well : is_short 4 x.fuse ≡ false = ap (λ (fuse : Option ℕ). is_short 4 fuse) (sym s.fuse) ∙ burns.0 in
-    subst (λ (b : Bool). Stands (with_moves x answer (cond b (goes_down x (f ∷ delta)) (grows x (f ∷ delta)))) now
-    (actored new old.clock)) (sym well) (record {
+    subst (λ (b : Bool). Stands (after_short x answer (f ∷ delta) b) now (actored new old.clock)) (sym well) (record {
       disk = subst (λ (st : State). StandsBy st (x.entries ++ (f ∷ delta) ∷ []) now.past new.stored) (sym up)
           (record {
             up = same ∙ awake.up;
@@ -143,6 +173,7 @@ written_well x answer (f ∷ delta) first now old new s up kept changes same nex
       granted = kept.granted;
       kept = λ still. kept;
       in_order = s.in_order;
+      rules = rules;
       clock = s.clock;
     })
 
@@ -173,6 +204,7 @@ fell x answer delta first now old new s up granted changes down gates next spent
       granted = granted;
       kept = λ (still : Writing delta ≡ Up). absurd cc;
       in_order = s.in_order;
+      rules = s.rules;
       clock = s.clock;
     }
 
@@ -185,14 +217,13 @@ nothing_left came back out =
 
 -- by what comes of its records
 by_state : (connected : Bool) (x : Node) (answer : Answer) (now : Told) (a : Actored) (came : Came) → x.state ≡ Up
-    → Stands (with_moves x answer (written x answer.delta)) now a
-    → came.outcome ≡ call_told (outcome_with x.fuse answer.delta answer.outcome)
-    → packets_in came ≡ packets_of connected (said_with x.fuse answer.delta answer.outs)
+    → Stands (after_by x Up answer) now a → came.outcome ≡ call_told (outcome_by x Up answer)
+    → packets_in came ≡ left_of connected (fetched_by x Up answer) (said_by x Up answer)
     → Acted connected x answer now a came
 by_state connected x answer now a came up stands outcome outs = record {
   stands = subst (λ (st : State). Stands (after_by x st answer) now a) (sym up) stands;
   outcome = outcome ∙ ap (λ (st : State). call_told (outcome_by x st answer)) (sym up);
-  outs = outs ∙ ap (λ (st : State). packets_of connected (said_by x st answer)) (sym up);
+  outs = outs ∙ ap (λ (st : State). left_of connected (fetched_by x st answer) (said_by x st answer)) (sym up);
 }
 
 down_grown : (old : Stored) (delta : List Fact) → (grown old delta).journal.is_down ≡ old.journal.is_down
@@ -202,9 +233,9 @@ down_grown old (f ∷ delta) = refl
 handed : (tells connected : Bool) (x : Node) (answer : Answer) (first now : Told) (old : Actored) (new : Noded)
     (outcome : Outcome) (reply : Option Text) (outs : List Out) (came : Came) → IsTrue tells → Stands x first old
     → x.state ≡ Up → Called tells connected first now old.node new answer (Handed outcome reply outs)
-    → IsReplyFirst connected answer.outs → IsTold (answer_told outcome) reply outs came
-    → Acted connected x answer now (actored new old.clock) came
-handed tells connected x answer first now old new outcome reply outs came t s up called order is =
+    → WaitByTheRules (polled_after x.polled answer) → IsReplyFirst connected answer
+    → IsTold (answer_told outcome) reply outs came → Acted connected x answer now (actored new old.clock) came
+handed tells connected x answer first now old new outcome reply outs came t s up called rules order is =
     let awake = awake_of x first old s up in
     let changes = called.wrote.changes t in
     let well = went_well x answer.delta first now s.fuse (changes.fuse (inl refl)) in
@@ -213,101 +244,93 @@ handed tells connected x answer first now old new outcome reply outs came t s up
     by_state connected x answer now (actored new old.clock) came up
     (written_well x answer answer.delta first now old new s up kept changes
     (ap (λ (st : Stored). st.journal.is_down) called.wrote.stored ∙ down_grown old.node.stored answer.delta)
-    (called.next t (inl refl) x.entries awake.has))
+    (called.next t (inl refl) x.entries awake.has) rules)
     (is.came_out ∙ ap answer_told called.ends.0 ∙ outcome_well x.fuse answer.delta answer.outcome well)
     (ap (λ (r : Option Text). reply_packet r ++ came.outs) (is.back ∙ called.ends.1)
-    ∙ ap (λ (os : List Out). reply_packet (reply_of connected answer.outs) ++ os) (is.out ∙ called.ends.2) ∙ order
-    ∙ ap (λ (ms : List Message). packets_of connected ms) (said_well x.fuse answer.delta answer.outs well))
-
-abbrev answer_of : Outcome → List Fact → List Message → Moves → Answer
-answer_of outcome delta outs moves = record { outcome = outcome; delta = delta; outs = outs; moves = moves }
+    ∙ ap (λ (os : List Out). reply_packet (reply_of connected answer) ++ os) (is.out ∙ called.ends.2) ∙ order
+    ∙ left_well connected x answer well)
 
 -- a refusal moves no key, as all keys that wait do so by the records
-refused_stands : (x : Node) (outcome : Outcome) (outs : List Message) (first now : Told) (old : Actored) (new : Noded)
-    → Stands x first old → x.state ≡ Up → AreExactly (records x) x.waits → new.kept ≡ old.node.kept
-    → new.stored ≡ old.node.stored → now ≡ first
-    → Stands (with_moves x (answer_of outcome [] outs no_moves) x) now (actored new old.clock)
-refused_stands x outcome outs first now old new s up exact kept stored same =
+refused_stands : (x : Node) (outcome : Outcome) (first now : Told) (old : Actored) (new : Noded) → Stands x first old
+    → x.state ≡ Up → AreExactly (records x) x.waits → new.kept ≡ old.node.kept → new.stored ≡ old.node.stored
+    → now ≡ first → Stands (after_by x Up (silent outcome)) now (actored new old.clock)
+refused_stands x outcome first now old new s up exact kept stored same =
     let as_before = unchanged x first now old new s kept stored same in
-    let moved : Keeps new.kept (moved_of x (answer_of outcome [] outs no_moves)) =
-    subst (Keeps new.kept) (sym (quiet-kept (records x) outcome outs (kept_of x) exact)) (as_before.kept up) in
+    let moved : Keeps new.kept (moved_of x (silent outcome)) =
+    subst (Keeps new.kept) (sym (quiet-kept (records x) outcome (kept_of x) exact)) (as_before.kept up) in
     record {
       disk = as_before.disk;
       fuse = as_before.fuse;
       granted = as_before.granted;
       kept = λ still. moved;
       in_order = as_before.in_order;
+      rules = s.rules;
       clock = as_before.clock;
     }
 
-refused : (tells connected : Bool) (x : Node) (outcome : Outcome) (delta : List Fact) (outs : List Message)
-    (moves : Moves) (first now : Told) (old : Actored) (new : Noded) (cause : Cause) (came : Came) → IsTrue tells
-    → Stands x first old → x.state ≡ Up → Runs old.node
-    → Called tells connected first now old.node new (answer_of outcome delta outs moves) (Refused cause)
-    → IsQuiet (answer_of outcome delta outs moves) → IsTold (refusal_told cause) None [] came
-    → Acted connected x (answer_of outcome delta outs moves) now (actored new old.clock) came
-refused tells connected x outcome delta outs moves first now old new cause came t s up runs called quiet is =
-    let none : delta ≡ [] = quiet.delta cause called.ends in
-    let silent : outs ≡ [] = quiet.outs cause called.ends in
-    let unmoved : moves ≡ no_moves = quiet.moves cause called.ends in
+refused : (tells connected : Bool) (x : Node) (answer : Answer) (first now : Told) (old : Actored) (new : Noded)
+    (cause : Cause) (came : Came) → IsTrue tells → Stands x first old → x.state ≡ Up → Runs old.node
+    → Called tells connected first now old.node new answer (Refused cause) → IsQuiet answer
+    → IsTold (refusal_told cause) None [] came → Acted connected x answer now (actored new old.clock) came
+refused tells connected x answer first now old new cause came t s up runs called quiet is =
     let exact : AreExactly (records x) x.waits =
     subst (λ (r : List Fact). AreExactly r x.waits) (awake_of x first old s up).has.holds.records
     (runs.exact (kept_of x) (s.kept up)) in
-    by_state connected x (answer_of outcome delta outs moves) now (actored new old.clock) came up
-    (subst (λ (d : List Fact). Stands (with_moves x (answer_of outcome d outs moves) (written x d)) now
-    (actored new old.clock)) (sym none)
-    (subst (λ (m : Moves). Stands (with_moves x (answer_of outcome [] outs m) x) now (actored new old.clock))
-    (sym unmoved) (refused_stands x outcome outs first now old new s up exact called.wrote.kept called.wrote.stored
-    ((called.wrote.changes t).untouched refl refl))))
-    (is.came_out ∙ ap answer_told (sym called.ends)
-    ∙ ap (λ (d : List Fact). call_told (outcome_with x.fuse d outcome)) (sym none))
-    (nothing_left came is.back is.out ∙ ap (λ (ms : List Message). packets_of connected ms) (sym silent)
-    ∙ ap (λ (d : List Fact). packets_of connected (said_with x.fuse d outs)) (sym none))
+    subst (λ (a : Answer). Acted connected x a now (actored new old.clock) came)
+    (sym (quiet_is answer cause quiet called.ends))
+    (by_state connected x (silent answer.outcome) now (actored new old.clock) came up
+    (refused_stands x answer.outcome first now old new s up exact called.wrote.kept called.wrote.stored
+    ((called.wrote.changes t).untouched refl refl))
+    (is.came_out ∙ ap answer_told (sym called.ends)) (nothing_left came is.back is.out))
 
-broke : (tells connected : Bool) (x : Node) (outcome : Outcome) (delta : List Fact) (outs : List Message)
-    (moves : Moves) (first now : Told) (old : Actored) (new : Noded) (came : Came) → IsTrue tells → Stands x first old
-    → x.state ≡ Up → Called tells connected first now old.node new (answer_of outcome delta outs moves) Broke
+broke : (tells connected : Bool) (x : Node) (answer : Answer) (delta : List Fact) (first now : Told) (old : Actored)
+    (new : Noded) (came : Came) → IsTrue tells → Stands x first old → x.state ≡ Up
+    → Called tells connected first now old.node new (record answer { delta = delta }) Broke
     → IsTold told.Disk None [] came
-    → Acted connected x (answer_of outcome delta outs moves) now (actored new old.clock) came
-broke tells connected x outcome [] outs moves first now old new came t s up called is = absurd (called.ends refl)
-broke tells connected x outcome (f ∷ delta) outs moves first now old new came t s up called is =
+    → Acted connected x (record answer { delta = delta }) now (actored new old.clock) came
+broke tells connected x answer [] first now old new came t s up called is = absurd (called.ends refl)
+broke tells connected x answer (f ∷ delta) first now old new came t s up called is =
+    let whole : Answer = record answer { delta = f ∷ delta } in
     let awake = awake_of x first old s up in
     let changes = called.wrote.changes t in
     let burns = burns_short first.fuse now.fuse (changes.fuse (inr refl)) in
     let short : is_short 4 x.fuse ≡ true = ap (λ (fuse : Option ℕ). is_short 4 fuse) (sym s.fuse) ∙ burns.0 in
-    by_state connected x (answer_of outcome (f ∷ delta) outs moves) now (actored new old.clock) came up
-    (subst (λ (b : Bool). Stands (with_moves x (answer_of outcome (f ∷ delta) outs moves)
-    (cond b (goes_down x (f ∷ delta)) (grows x (f ∷ delta)))) now (actored new old.clock)) (sym short)
-    (fell x (answer_of outcome (f ∷ delta) outs moves) (f ∷ delta) first now old new s up
+    by_state connected x whole now (actored new old.clock) came up
+    (subst (λ (b : Bool). Stands (after_short x whole (f ∷ delta) b) now (actored new old.clock)) (sym short)
+    (fell x whole (f ∷ delta) first now old new s up
     (ap (λ (k : Kept). k.granted) called.wrote.kept ∙ s.granted) changes
     (ap (λ (st : Stored). st.journal.is_down) called.wrote.stored)
     (ap (λ (st : Stored). st.journal.gates) called.wrote.stored)
     (called.next t (inr refl) x.entries awake.has) burns.1))
-    (is.came_out ∙ ap (λ (b : Bool). call_told (cond b DiskFault (Answered outcome))) (sym short))
-    (nothing_left came is.back is.out ∙ ap (λ (b : Bool). packets_of connected (cond b [] outs)) (sym short))
+    (is.came_out ∙ ap (λ (b : Bool). call_told (cond b DiskFault (Answered answer.outcome))) (sym short))
+    (nothing_left came is.back is.out
+    ∙ ap (λ (b : Bool). left_of connected (cond b [] (fetched_message answer.fetched)) (cond b [] answer.outs))
+    (sym short))
 
 acts_up : (tells connected : Bool) (x : Node) (answer : Answer) (first now : Told) (old : Actored) (new : Noded)
     (ended : Ended) (r : Result Came Memory) → IsTrue tells → Stands x first old → x.state ≡ Up → Runs old.node
-    → Called tells connected first now old.node new answer ended → IsQuiet answer → IsReplyFirst connected answer.outs
-    → ComesOut ended r → Acts connected x answer now (actored new old.clock) r
-acts_up tells connected x answer first now old new (Handed outcome reply outs) (Ok came) t s up runs called quiet order
-    is =
-    handed tells connected x answer first now old new outcome reply outs came t s up called order is
+    → Called tells connected first now old.node new answer ended → IsQuiet answer
+    → WaitByTheRules (polled_after x.polled answer) → IsReplyFirst connected answer → ComesOut ended r
+    → Acts connected x answer now (actored new old.clock) r
+acts_up tells connected x answer first now old new (Handed outcome reply outs) (Ok came) t s up runs called quiet rules
+    order is =
+    handed tells connected x answer first now old new outcome reply outs came t s up called rules order is
 acts_up tells connected x answer first now old new (Handed outcome reply outs) (Err memory) t s up runs called quiet
-    order is = absurd is
-acts_up tells connected x answer first now old new (Refused cause) (Ok came) t s up runs called quiet order is =
-    refused tells connected x answer.outcome answer.delta answer.outs answer.moves first now old new cause came t s up
-    runs called quiet is
-acts_up tells connected x answer first now old new (Refused cause) (Err memory) t s up runs called quiet order is =
-    absurd is
-acts_up tells connected x answer first now old new Wanted (Ok came) t s up runs called quiet order is = absurd is
-acts_up tells connected x answer first now old new Wanted (Err memory) t s up runs called quiet order is =
+    rules order is = absurd is
+acts_up tells connected x answer first now old new (Refused cause) (Ok came) t s up runs called quiet rules order is =
+    refused tells connected x answer first now old new cause came t s up runs called quiet is
+acts_up tells connected x answer first now old new (Refused cause) (Err memory) t s up runs called quiet rules order
+    is = absurd is
+acts_up tells connected x answer first now old new Wanted (Ok came) t s up runs called quiet rules order is = absurd is
+acts_up tells connected x answer first now old new Wanted (Err memory) t s up runs called quiet rules order is =
     unchanged x first now old new s called.wrote.kept called.wrote.stored
     ((called.wrote.changes t).untouched refl refl)
-acts_up tells connected x answer first now old new Broke (Ok came) t s up runs called quiet order is =
-    broke tells connected x answer.outcome answer.delta answer.outs answer.moves first now old new came t s up called is
-acts_up tells connected x answer first now old new Broke (Err memory) t s up runs called quiet order is = absurd is
-acts_up tells connected x answer first now old new WasDown r t s up runs called quiet order is = absurd called.ends
+acts_up tells connected x answer first now old new Broke (Ok came) t s up runs called quiet rules order is =
+    broke tells connected x answer answer.delta first now old new came t s up called is
+acts_up tells connected x answer first now old new Broke (Err memory) t s up runs called quiet rules order is =
+    absurd is
+acts_up tells connected x answer first now old new WasDown r t s up runs called quiet rules order is =
+    absurd called.ends
 
 -- ---- a node that is down
 
@@ -320,7 +343,7 @@ acts_down connected x delta answer first now old new (Ok came) s down node disk 
       disk);
   outcome = is.came_out ∙ ap (λ (st : State). call_told (outcome_by x st answer)) (sym down);
   outs = nothing_left came is.back is.out
-      ∙ ap (λ (st : State). packets_of connected (said_by x st answer)) (sym down);
+      ∙ ap (λ (st : State). left_of connected (fetched_by x st answer) (said_by x st answer)) (sym down);
 }
 acts_down connected x delta answer first now old new (Err memory) s down node disk is = absurd is
 
@@ -349,9 +372,10 @@ pub acts : (terms : Terms) (tells connected : Bool) (x : Node) (f : List Fact �
     (f old.node.stored.records (journal_end old.node.stored.journal)) ended)
     → ((delta : List Fact) → x.state ≡ Writing delta → Sleeps first now old.node new ended)
     → IsQuiet (f (records x) (end_of terms x.entries))
-    → IsReplyFirst connected (f (records x) (end_of terms x.entries)).outs → ComesOut ended r
+    → WaitByTheRules (polled_after x.polled (f (records x) (end_of terms x.entries)))
+    → IsReplyFirst connected (f (records x) (end_of terms x.entries)) → ComesOut ended r
     → Acts connected x (f (records x) (end_of terms x.entries)) now (actored new old.clock) r
-acts terms tells connected x f first now old new ended r ends t s runs does sleeps quiet order is =
+acts terms tells connected x f first now old new ended r ends t s runs does sleeps quiet rules order is =
     let answer = f (records x) (end_of terms x.entries) in
     elim (x.state) as (λ (st : State). x.state ≡ st → Acts connected x answer now (actored new old.clock) r) [
       | Up ↦ λ up. acts_up tells connected x answer first now old new ended r t s up runs
@@ -360,7 +384,7 @@ acts terms tells connected x f first now old new ended r ends t s runs does slee
           (subst (λ (b : Bool). MatchBool b (Sleeps first now old.node new ended)
           (Called tells connected first now old.node new
           (f old.node.stored.records (journal_end old.node.stored.journal)) ended))
-          (awake_of x first old s up).up (does up))) quiet order is
+          (awake_of x first old s up).up (does up))) quiet rules order is
       | Writing delta ↦ λ down.
           let slept = sleeps delta down in
           acts_down connected x delta answer first now old new r s down slept.node slept.disk

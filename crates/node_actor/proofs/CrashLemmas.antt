@@ -117,8 +117,10 @@ crashed one x first now a choice past node s is found up keeps crashes fuse =
           granted = s.granted;
           waits = subst (λ (r : List Fact). StandsFor node.kept.timers (mounted_waits r)) records keeps.waits;
           time = keeps.time;
+          polled = keeps.polled;
         };
         in_order = s.in_order;
+        rules = tt;
         clock = s.clock;
       };
       bytes = bytes;
@@ -140,5 +142,6 @@ made-stands number address now node is keeps has fuse =
       granted = kept.granted;
       kept = λ up. kept;
       in_order = refl;
+      rules = tt;
       clock = refl;
     }

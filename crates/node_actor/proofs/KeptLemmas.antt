@@ -1,15 +1,15 @@
--- A call that adds no records and moves no keys keeps what is kept.
+-- A call that adds no records, says nothing and moves no keys keeps what is kept.
 use Rattle.std.proofs.Common.{◌≡◌, ◌∙◌, ℕ, Bool, true, cond, List, [], ◌∷◌, max, refl, ap, ap₂, arith}
 use Rattle.std.specs.List.{AllByRecursion}
 use Rattle.std.proofs.lemmas.List.{append-nil}
 use Rattle.key_timers.specs.Waits.{Wait}
 use Rattle.record_batch.specs.Fact.{Fact}
-use Rattle.rm_message.specs.declared.message.Message.{Message}
 use Rattle.rm_protocol.specs.Calls.{Outcome}
 use Rattle.rm_protocol.specs.Exact.{AreExactly}
 use Rattle.rm_protocol.specs.WaitLemmas.{all-wait}
-use Rattle.rm_protocol.specs.Waiting.{is_waiting, no_moves, still}
+use Rattle.rm_protocol.specs.Waiting.{is_waiting, still}
 use Rattle.rm_node.specs.Keeping.{Keeping, kept_after}
+use Rattle.node_actor.proofs.QuietLemmas.{silent}
 
 still-all : (r : List Fact) (waits : List Wait) → AllByRecursion (λ (w : Wait). is_waiting r w.key ≡ true) waits
     → still r waits ≡ waits
@@ -19,10 +19,10 @@ still-all r (w ∷ waits) h =
     ∙ ap (λ (ws : List Wait). w ∷ ws) (still-all r waits h.1)
 
 -- where exactly those wait that do so by the records
-pub quiet-kept : (r : List Fact) (outcome : Outcome) (outs : List Message) (kept : Keeping) → AreExactly r kept.waits
-    → kept_after r (record { outcome = outcome; delta = []; outs = outs; moves = no_moves }) kept ≡ kept
-quiet-kept r outcome outs kept exact =
+pub quiet-kept : (r : List Fact) (outcome : Outcome) (kept : Keeping) → AreExactly r kept.waits
+    → kept_after r (silent outcome) kept ≡ kept
+quiet-kept r outcome kept exact =
     let all = all-wait r kept.waits exact in
     let time : max kept.time 0 ≡ kept.time = omega arith in
-    ap₂ (λ (ws : List Wait) (t : ℕ). let k : Keeping = record { granted = kept.granted; waits = ws; time = t } in k)
+    ap₂ (λ (ws : List Wait) (t : ℕ). record kept { waits = ws; time = t })
     (ap (λ (l : List Fact). still l kept.waits) (append-nil r) ∙ still-all r kept.waits all) time

@@ -2,32 +2,40 @@
 use Rattle.std.proofs.Common.{◌≡◌, ◌∙◌, ℕ, Bool, false, List, Result, Ok, Err, refl, sym, ap, subst}
 use Rattle.std.specs.Prelude.{IsTrue}
 use Rattle.rm_base.specs.declared.failures.Memory.{Memory}
+use Rattle.rm_disk.specs.Call.{Call as DeviceCall}
 use Rattle.rm_disk.specs.Told.{Told}
 use Rattle.rm_journal.specs.JournalState.{end_of as journal_end}
 use Rattle.record_batch.specs.Fact.{Fact}
 use Rattle.rm_protocol.specs.Calls.{Cause, NoSequence, WrongSide, PayloadTooLong, BadPayload, NotOpen, WindowFull}
 use Rattle.rm_protocol.specs.Calls.{NodeFull, Rollover, TooManySequences, StoreFull, Outcome, Done, Judged}
-use Rattle.rm_protocol.specs.Calls.{Refused as RefusedWith}
-use Rattle.rm_protocol.specs.Node.{Node, Up, Writing, end_of, records}
+use Rattle.rm_protocol.specs.Calls.{Refused as RefusedWith, receive}
+use Rattle.rm_protocol.specs.Node.{Node, State, Up, Writing, end_of, records, records_in}
+use Rattle.rm_protocol.specs.Polls.{polled_after}
 use Rattle.rm_protocol.specs.Terms.{Terms}
-use Rattle.rm_node.specs.Asked.{Asked, Asks, Create, Send, Close, End, AskAck, NackMissing, Tick, Receive}
-use Rattle.rm_node.specs.Asked.{answer_to, is_connected}
+use Rattle.node_laws.specs.Keeps.{EachIsByTheRules, PollsByTheRules, SaysByTheRules, WaitByTheRules}
+use Rattle.node_laws.specs.OwnTerms.{AreOwn}
+use Rattle.node_laws.specs.Records.{IsKept}
+use Rattle.rm_node.specs.Asked.{Asked, Asks, Create, Send, Close, End, AskAck, NackMissing, Poll, Tick, Receive}
+use Rattle.rm_node.specs.Asked.{MayBeAsked, answer_to, is_connected}
 use Rattle.rm_node.specs.Called.{Does, answer_of as node_answer}
+use Rattle.rm_node.specs.CameLemmas.{ReadsRight, RefusesRight}
 use Rattle.rm_node.specs.Ends.{Ended, Handed, Refused, Wanted, Broke, WasDown, is_broken}
 use Rattle.rm_node.specs.Keeping.{Keeping, Keeps}
 use Rattle.rm_node.specs.Noded.{Noded, Runs}
 use Rattle.rm_node.specs.Packets.{IsReplyFirst}
 use Rattle.rm_node.specs.declared.call.Call.{Call}
 use Rattle.rm_node.specs.declared.call.Call.TheVariants as call
+use Rattle.node_store.specs.Stored.{Stored}
 use Rattle.node_actor.specs.Actored.{Actored}
+use Rattle.node_actor.specs.AnswerLemmas.{of_each}
 use Rattle.node_actor.specs.Comes.{ComesOut}
 use Rattle.node_actor.specs.declared.actor.Came.{Came}
 use Rattle.node_actor.specs.Outcomes.{answer_told, is_disk, is_disk_outcome, refusal_told}
-use Rattle.node_actor.specs.Stands.{Acts, Stands, kept_of}
+use Rattle.node_actor.specs.Stands.{Acts, Stands, StandsBy, kept_of}
 use Rattle.node_actor.specs.Steps.{answer_of, clock_after, clock_of, clocked}
 use Rattle.node_actor.proofs.ActLemmas.{EndsThere, actored, acts, clock_is, sleeps_down}
 use Rattle.node_actor.proofs.QuietLemmas.{IsQuiet, quiet_ask, quiet_close, quiet_create, quiet_end, quiet_nack}
-use Rattle.node_actor.proofs.QuietLemmas.{quiet_receive, quiet_send, quiet_tick}
+use Rattle.node_actor.proofs.QuietLemmas.{quiet_poll, quiet_polls, quiet_receive, quiet_send, quiet_tick}
 
 -- ---- what is told as a failure of the disk
 
@@ -72,7 +80,10 @@ quiet_asked terms now kept (End seq) r place = quiet_end terms seq r place
 quiet_asked terms now kept (AskAck seq) r place = quiet_ask seq r
 quiet_asked terms now kept (NackMissing seq) r place = quiet_nack seq now r
 quiet_asked terms now kept (Tick moment) r place = quiet_tick terms moment kept.time kept.waits r place
-quiet_asked terms now kept (Receive content) r place = quiet_receive terms now kept.granted content r place
+quiet_asked terms now kept (Poll to) r place = quiet_poll to r
+quiet_asked terms now kept (Receive content) r place =
+    quiet_polls kept.polled content (receive terms r place now kept.granted content)
+    (quiet_receive terms now kept.granted content r place)
 
 -- the clock of the code's node is that of the protocol's
 clock_stands : (this : Call) (x : Node) (now : Told) (a : Actored) → Stands x now a
@@ -85,6 +96,7 @@ clock_stands (call.AskAck seq) x now a s = s.clock
 clock_stands (call.NackMissing seq) x now a s = s.clock
 clock_stands (call.Tick moment) x now a s =
     clock_is x.state x.entries now.past a.node.stored a.clock x.clock moment s.disk s.clock
+clock_stands (call.Poll to) x now a s = s.clock
 clock_stands (call.Receive bytes) x now a s = s.clock
 
 pub clocked_stands : (this : Call) (x : Node) (now : Told) (a : Actored) → Stands x now a
@@ -95,8 +107,32 @@ clocked_stands this x now a s = record {
   granted = s.granted;
   kept = s.kept;
   in_order = s.in_order;
+  rules = s.rules;
   clock = clock_stands this x now a s;
 }
+
+-- ---- what waits
+
+kept_by : (st : State) (entries : List (List Fact)) (past : List DeviceCall) (stored : Stored)
+    → StandsBy st entries past stored → IsKept (records_in entries)
+kept_by Up entries past stored awake = awake.has.are.kept
+kept_by (Writing delta) entries past stored asleep = asleep.are.kept
+
+-- what is said keeps the rules of what is written, and so does what waits then
+pub record ByTheRules : Type 0 where
+  pub reads : ReadsRight
+  pub refuses : RefusesRight
+  pub each : EachIsByTheRules
+  pub polls : PollsByTheRules
+
+wait_asked : ByTheRules → (terms : Terms) → AreOwn terms → (this : Call) (x : Node) (asked : Asked) (now : Told)
+    (a : Actored) → Stands x now a → MayBeAsked this → Asks this asked
+    → WaitByTheRules (polled_after x.polled (answer_of terms x asked))
+wait_asked by terms own this x asked now a s may is =
+    let of = kept_by x.state x.entries now.past a.node.stored s.disk in
+    by.polls.waits x.polled (answer_of terms x asked) s.rules
+    (of_each by.reads by.refuses SaysByTheRules terms (records x) (end_of terms x.entries) x.clock (kept_of x) this
+    asked (by.each terms (records x) (end_of terms x.entries) own of) (by.polls.beside x.polled) s.in_order may is)
 
 -- ---- a call
 
@@ -104,17 +140,17 @@ clocked_stands this x now a s = record {
 abbrev pub ReplyFirst : Type 0
 ReplyFirst =
     (terms : Terms) (r : List Fact) (place now : ℕ) (kept : Keeping) (call : Call) (asked : Asked)
-    → Asks call asked → IsReplyFirst (is_connected call) (answer_to terms r place now kept asked).outs
+    → Asks call asked → IsReplyFirst (is_connected call) (answer_to terms r place now kept asked)
 
 pub acted : (terms : Terms) (tells : Bool) (this : Call) (x : Node) (asked : Asked) (first now : Told) (old : Actored)
-    (new : Noded) (ended : Ended) (r : Result Came Memory) → EndsThere terms → IsTrue tells → Stands x first old
-    → ReplyFirst → Asks this asked → Runs old.node
+    (new : Noded) (ended : Ended) (r : Result Came Memory) → ByTheRules → AreOwn terms → EndsThere terms
+    → IsTrue tells → Stands x first old → ReplyFirst → MayBeAsked this → Asks this asked → Runs old.node
     → ((kept : Keeping) → Keeps old.node.kept kept → Does tells (is_connected this) first now old.node new
     (node_answer terms old.node old.clock kept asked) ended)
     → ComesOut ended r
     → Acts (is_connected this) (clocked this x) (answer_of terms x asked) now
     (actored new (clock_after this old)) r
-acted terms tells this x asked first now old new ended r ends t s order asks runs does is =
+acted terms tells this x asked first now old new ended r by own ends t s order may asks runs does is =
     acts terms tells (is_connected this) (clocked this x)
     (λ r place. answer_to terms r place x.clock (kept_of x) asked) first now
     (actored old.node (clock_after this old)) new ended r ends t (clocked_stands this x first old s) runs
@@ -125,6 +161,7 @@ acted terms tells this x asked first now old new ended r ends t s order asks run
     (node_answer terms old.node old.clock runs.keeping.0 asked) first now old new ended s down
     (does runs.keeping.0 runs.keeping.1))
     (quiet_asked terms x.clock (kept_of x) asked (records x) (end_of terms x.entries))
+    (wait_asked by terms own this x asked first old s may asks)
     (order terms (records x) (end_of terms x.entries) x.clock (kept_of x) this asked asks) is
 
 -- the clock is as it was
@@ -137,5 +174,6 @@ still this x now new old clock s e =
       granted = s.granted;
       kept = s.kept;
       in_order = s.in_order;
+      rules = s.rules;
       clock = e;
     }

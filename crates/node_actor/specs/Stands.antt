@@ -6,14 +6,14 @@ use Rattle.rm_disk.specs.Image.{MayLeave}
 use Rattle.rm_base.specs.declared.failures.Memory.{Memory}
 use Rattle.sequence_table.specs.Fits.{is_in_order}
 use Rattle.rm_protocol.specs.Calls.{Answer}
-use Rattle.rm_protocol.specs.Node.{Node, State, Up, Writing, after, call_outcome, mounted, said_after}
+use Rattle.rm_protocol.specs.Node.{Node, State, Up, Writing, after, call_outcome, fetched_after, mounted, said_after}
 use Rattle.rm_disk.specs.Told.{Told}
+use Rattle.node_laws.specs.Keeps.{WaitByTheRules}
 use Rattle.node_store.specs.Has.{AreOfNode, Has, IsLeftBy, StandsForBatches}
 use Rattle.node_store.specs.Stored.{Stored, with_batch}
 use Rattle.rm_node.specs.Keeping.{Keeping, Keeps}
-use Rattle.rm_node.specs.Packets.{packets_of}
 use Rattle.node_actor.specs.Actored.{Actored}
-use Rattle.node_actor.specs.Outcomes.{call_told, packets_in}
+use Rattle.node_actor.specs.Outcomes.{call_told, left_of, packets_in}
 use Rattle.node_actor.specs.declared.actor.Came.{Came}
 
 -- the node is up, and the disk has its entries
@@ -37,16 +37,18 @@ StandsBy (Writing delta) entries past stored = Asleep entries delta past stored
 
 -- what a node of the protocol keeps besides its entries
 abbrev pub kept_of : Node → Keeping
-kept_of x = record { granted = x.granted; waits = x.waits; time = x.time }
+kept_of x = record { granted = x.granted; waits = x.waits; time = x.time; polled = x.polled }
 
--- the code's node and its disk are this node of the protocol, which announces no NoDiscard. The keys that wait and the
--- time are its own while it is up: a mount works them out anew
+-- the code's node and its disk are this node of the protocol, which announces no NoDiscard. The keys and the messages
+-- that wait, and the time, are its own while it is up: a mount works them out anew. The messages keep the rules of
+-- what is written
 pub record Stands (x : Node) (now : Told) (a : Actored) : Type 0 where
   pub disk : StandsBy x.state x.entries now.past a.node.stored
   pub fuse : now.fuse ≡ x.fuse
   pub granted : a.node.kept.granted ≡ x.granted
   pub kept : x.state ≡ Up → Keeps a.node.kept (kept_of x)
   pub in_order : is_in_order x.granted ≡ true
+  pub rules : WaitByTheRules x.polled
   pub clock : a.clock ≡ x.clock
 
 -- a call with this answer came out so, and this left the node
@@ -54,7 +56,7 @@ pub record Acted (connected : Bool) (x : Node) (answer : Answer) (now : Told) (n
     : Type 0 where
   pub stands : Stands (after x answer) now new
   pub outcome : came.outcome ≡ call_told (call_outcome x answer)
-  pub outs : packets_in came ≡ packets_of connected (said_after x answer)
+  pub outs : packets_in came ≡ left_of connected (fetched_after x answer) (said_after x answer)
 
 -- a call with this answer: where memory was wanting, nothing has changed
 abbrev pub Acts : Bool → Node → Answer → Told → Actored → Result Came Memory → Type 0

@@ -13,7 +13,7 @@ use std::marker::Model;
 
 /// A node of a script, with its clock in milliseconds since 1970. The disk is passed to each call, and is always the
 /// same.
-#[derive(Debug, Drop)]
+#[derive(Drop)]
 pub struct Actor {
     pub(crate) alloc: Global,
     pub(crate) node: Node,

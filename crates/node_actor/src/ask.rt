@@ -6,8 +6,11 @@ ghost use Rattle.node_actor.specs.Steps.{Steps};
 
 use crate::actor::{Actor, Came};
 use crate::outcome::told;
-use node_laws::laws::there_are_own_terms;
+use node_laws::laws::{
+    each_message_keeps_the_rules, there_are_own_terms, what_waits_keeps_the_rules,
+};
 use node_store::laws::a_journal_ends_with_its_batches;
+use read_laws::laws::{a_refusal_may_be_answered, what_is_read_may_be_written};
 use rm_base::Memory;
 use rm_disk::CrashDisk;
 use rm_node::Call;
@@ -23,6 +26,10 @@ impl Actor {
         a_journal_ends_with_its_batches();
         there_are_own_terms();
         the_reply_comes_first();
+        what_is_read_may_be_written();
+        a_refusal_may_be_answered();
+        each_message_keeps_the_rules();
+        what_waits_keeps_the_rules();
         let clock = self.clock_after(&call);
         let came = told(self.alloc, self.node.step(disk, self.clock, call))?;
         self.clock = clock;

@@ -1,6 +1,6 @@
 -- Calls that ask a peer come to what is said with nothing ahead.
-use Rattle.std.proofs.Common.{◌≡◌, ℕ, Bool, true, false, cond, List, [], ◌++◌, sym, ap, ◌∙◌, append-nil, Option, Some}
-use Rattle.std.proofs.Common.{None}
+use Rattle.std.proofs.Common.{◌≡◌, ℕ, Bool, true, false, cond, List, [], ◌∷◌, ◌++◌, sym, ap, ◌∙◌, append-nil, Option}
+use Rattle.std.proofs.Common.{Some, None}
 use Rattle.std.specs.Option.{option_to_list}
 use Rattle.rm_message.specs.declared.message.Message.{Message}
 use Rattle.record_batch.specs.Fact.{Fact}
@@ -10,6 +10,8 @@ use Rattle.sequence_table.specs.Destinations.{is_over}
 use Rattle.sequence_table.specs.Find.{peer}
 use Rattle.rm_protocol.specs.Calls.{Answer, Cause, NotOpen, adds, ask_out, ask_to, made_by, may_end, nack_by, nack_in}
 use Rattle.rm_protocol.specs.Calls.{on_outgoing, refusal}
+use Rattle.rm_protocol.specs.Polls.{make_message, poll}
+use Rattle.sequence_table.specs.Words.{Text}
 use Rattle.tables_ahead.specs.Known.{KnownRecords, all_records}
 use Rattle.node_calls.specs.Causes.{side_cause, unless_refused}
 use Rattle.node_calls.specs.Comes.{done}
@@ -43,6 +45,14 @@ pub nack-comes : (r : List Fact) (s now : ℕ) (k : KnownRecords) (o : Option Me
 nack-comes r s now k o is opens e =
     let said = λ (after : List Fact). nack_by after s (made_by after (maker after s)) in
     comes r k o said is e ∙ sym (ap (λ (b : Bool). cond b (refusal NotOpen) (adds r [] said)) opens)
+
+-- a MakeConnection
+pub poll-comes : (r : List Fact) (to : Text) (k : KnownRecords) (m : Message)
+    → k ≡ record { records = r; delta = [] } → m ≡ make_message (all_records k) to
+    → done k.delta (option_to_list (Some m)) ≡ poll r to
+poll-comes r to k m is e =
+    comes r k (Some m) (λ (after : List Fact). make_message after to ∷ []) is
+    (ap (λ (x : Message). x ∷ []) e)
 
 -- a call for an outgoing sequence is refused by its side, or isn't
 pub refused-side : (m : Option Maker) (a : Answer) (cause : Cause) → Some cause ≡ side_cause m

@@ -94,6 +94,7 @@ pub ticked-by : (r d : List Fact) (now : ℕ) (keys urged : List Key) (k : Known
     → record {
       outcome = Done;
       delta = batch;
+      fetched = None;
       outs = outs;
       moves = record { urged = urged; emitted = keys; time = now };
     } ≡ ticked r now keys d
@@ -101,6 +102,7 @@ ticked-by r d now keys urged k batch outs records delta none is said =
     let answer : List Key → List Fact → List Message → Answer = λ us ds ms. record {
       outcome = Done;
       delta = ds;
+      fetched = None;
       outs = ms;
       moves = record { urged = us; emitted = keys; time = now };
     } in

@@ -1,5 +1,5 @@
 -- What a call comes to where it isn't refused, before its batch is measured.
-use Rattle.std.specs.Prelude.{ℕ, ◌+◌, Bool, if◌then◌else◌, List, [], ◌∷◌, length}
+use Rattle.std.specs.Prelude.{ℕ, ◌+◌, Bool, if◌then◌else◌, List, [], ◌∷◌, length, None}
 use Rattle.std.specs.Option.{option_to_list}
 use Rattle.rm_base.specs.declared.message.Cause.TheVariants.{Operator, Expired}
 use Rattle.rm_message.specs.declared.message.Message.{Message}
@@ -15,7 +15,7 @@ use Rattle.rm_protocol.specs.Verdict.{has_room}
 
 -- these records are added, and these messages are said
 abbrev pub done : List Fact → List Message → Answer
-done delta outs = record { outcome = Done; delta = delta; outs = outs; moves = no_moves }
+done delta outs = record { outcome = Done; delta = delta; fetched = None; outs = outs; moves = no_moves }
 
 -- a sequence is asked for
 abbrev pub asked : List Fact → Wish → Answer

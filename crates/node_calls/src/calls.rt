@@ -10,6 +10,7 @@ ghost use Rattle.rm_protocol.specs.Calls.{
   send as send_of,
   tick_with,
 };
+ghost use Rattle.rm_protocol.specs.Polls.{poll as poll_of};
 ghost use Rattle.rm_protocol.specs.Terms.{Terms};
 ghost use Rattle.sequence_table.specs.Fits.{is_in_order};
 ghost use Rattle.node_laws.specs.OwnTerms.{AreOwn};
@@ -17,11 +18,11 @@ ghost use Rattle.call_answers.specs.Answers.{MayBeStored, seen, wish_seen};
 ghost use Rattle.call_answers.specs.Serving.{Serves};
 ghost use Rattle.node_calls.specs.Records.{CallsFit, IsServing};
 
-use crate::{asks, ends, nacks, requests, sends, ticks};
+use crate::{asks, ends, nacks, polls, requests, sends, ticks};
 use call_answers::{Answer, Wish};
 use node_laws::laws::{own_terms_are_terms, there_are_own_terms};
 use node_tables::Tables;
-use rm_base::{Blob, Memory};
+use rm_base::{Blob, Memory, Uri};
 use rm_protocol::laws::each_record_may_come_next;
 use rm_timers::Key;
 use std::alloc::Global;
@@ -135,4 +136,14 @@ pub fn nack_missing(
 {
     serving(tables, place);
     nacks::nack_missing(alloc, tables, seq, now)
+}
+
+/// Asks a peer for the messages that wait there for the node.
+pub fn poll(alloc: Global, tables: &Tables, place: u64, to: Uri) -> Result<Answer, Memory>
+    requires { Serves tables.now.records place }
+    ensures is { IfOk result (λ a. seen a ≡ poll_of tables.now.records to) }
+    ensures stored { IfOk result (λ a. MayBeStored tables.now.records place (map fact_of a.batch.items)) }
+{
+    serving(tables, place);
+    polls::poll(alloc, tables, to)
 }

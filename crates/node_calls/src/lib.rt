@@ -10,9 +10,10 @@ pub mod calls;
 mod ends;
 mod keys;
 mod nacks;
+mod polls;
 mod reads;
 mod requests;
 mod sends;
 mod ticks;
 
-pub use calls::{ask_ack, close, create, end, nack_missing, send, tick};
+pub use calls::{ask_ack, close, create, end, nack_missing, poll, send, tick};

@@ -55,6 +55,7 @@ use Rattle.rm_protocol.specs.Calls.{first_invalid, block_by, block_at, fault_blo
 use Rattle.rm_protocol.specs.Calls.{receive, ask_to, ask_out, ask_ack, on_incoming, nack_to, nack_by, nack_in}
 use Rattle.rm_protocol.specs.Calls.{nack_missing}
 use Rattle.rm_protocol.specs.Messages.{block_of, data_at, request_at}
+use Rattle.rm_protocol.specs.Polls.{make_message, poll}
 use Rattle.rm_protocol.specs.Rows.{rows}
 use Rattle.rm_protocol.specs.Said.{ack_to, said}
 use Rattle.rm_protocol.specs.Terms.{Terms}
@@ -65,7 +66,7 @@ use Rattle.node_laws.specs.Read.{IsBodyRead, IsContentRead, MayBeWished, WasRead
 use Rattle.node_laws.specs.Records.{IsKept}
 use Rattle.node_laws.proofs.Kept.{AreAllowed}
 use Rattle.node_laws.proofs.Lists.{to_list}
-use Rattle.node_laws.proofs.Messages.{IsByTheRules, ask-kept, data_at-kept, request_at-kept}
+use Rattle.node_laws.proofs.Messages.{IsByTheRules, ask-kept, data_at-kept, make-kept, request_at-kept}
 use Rattle.node_laws.proofs.Rows.{IsQuiet, quiets-allowed, rows-allowed}
 use Rattle.node_laws.proofs.Said.{ack_to-kept, fault-kept, own_messages-kept, said-kept}
 use Rattle.node_laws.proofs.Values.{acks_to-kept, block-kept, ident-kept as name-kept, missing-kept, peer-kept}
@@ -285,7 +286,7 @@ tick-good terms r place now time waits = chosen (has_room terms place (expired_f
         (quiets-allowed r _ (expired-quiet r now 0 (makers r)))
     chosen false = ticked-good r now (first_due (max time now) waits) [] tt
 
--- ---- ask_ack and nack_missing
+-- ---- ask_ack, nack_missing and poll
 
 ask_to-kept : (to : Option Epr) (q : Option Text) → IfSome to IsEprWritable → IfSome q (IsText 512)
     → AllByRecursion IsByTheRules (ask_to to q)
@@ -333,6 +334,10 @@ nack_missing-good r s now = by_maker (maker r s)
     by_maker (Some (Taken message_id ident endpoint)) = refused r WrongSide
     by_maker (Some (Offered ticket c to behaviour)) = good
     by_maker (Some (Incoming c message_id to behaviour deadline lapse)) = good
+
+pub poll-good : (r : List Fact) (to : Text) → IsText 2048 to → IsGoodAnswer r (poll r to)
+poll-good r to is =
+    adds-good r [] (λ now. make_message now to ∷ []) tt (λ h. (make-kept (r ++ []) to is, tt))
 
 -- ---- receive
 

@@ -1,5 +1,5 @@
 -- Each call keeps the records of a node such, and what it says keeps the rules.
-use Rattle.std.proofs.Common.{◌≡◌, ℕ, max, Bool, true, List, Option, Some, None}
+use Rattle.std.proofs.Common.{◌≡◌, ℕ, max, Bool, true, List, Option, Some, None, refl}
 use Rattle.std.specs.Prelude.{IfSome, Result, Ok, Err}
 use Rattle.std.specs.List.{AllByRecursion}
 use Rattle.ack_ranges.specs.declared.range.Range.{Range}
@@ -16,6 +16,7 @@ use Rattle.sequence_table.specs.Fits.{all_fit}
 use Rattle.rm_protocol.specs.Calls.{Answer, create, send, close, end, tick, ask_ack, nack_missing, receive}
 use Rattle.key_timers.specs.Waits.{first_due}
 use Rattle.rm_protocol.specs.Next.{HasRanges, IsMessageNumber, IsNumberRange, IsReadable, AddsNext, EachMayComeNext}
+use Rattle.rm_protocol.specs.Polls.{poll}
 use Rattle.rm_protocol.specs.Rows.{ranges_of}
 use Rattle.rm_protocol.specs.Terms.{Terms}
 use Rattle.node_laws.specs.Keeps.{OfEachCall, LeavesANode, SaysByTheRules, EachCallKeeps, EachIsByTheRules}
@@ -24,7 +25,7 @@ use Rattle.node_laws.specs.OwnTerms.{AreOwn}
 use Rattle.node_laws.specs.Read.{IsContentRead}
 use Rattle.node_laws.specs.Records.{IsKept}
 use Rattle.node_laws.proofs.Calls.{Below, IsGoodAnswer, create-good, send-good, close-good, end-good, tick-good}
-use Rattle.node_laws.proofs.Calls.{ask_ack-good, nack_missing-good, receive-good}
+use Rattle.node_laws.proofs.Calls.{ask_ack-good, nack_missing-good, poll-good, receive-good}
 use Rattle.node_laws.proofs.Kept.{kept-all}
 use Rattle.node_laws.proofs.Owned.{own-later}
 use Rattle.node_laws.proofs.Lists.{All-weaker}
@@ -81,6 +82,7 @@ of-each below next terms r place P own h step =
           (tick-good terms r place now time waits);
       ask_ack_ = λ s. step (ask_ack r s) (fit.ask_ack_ s) (ask_ack-good r s);
       nack_missing_ = λ s now. step (nack_missing r s now) (fit.nack_missing_ s now) (nack_missing-good r s now);
+      poll_ = λ to is. step (poll r to) refl (poll-good r to is);
       receive_ = λ now y content o is. step (receive terms r place now y content)
           (fit.receive_ now y content o (readable content is))
           (receive-good below terms r place now y content own h is);

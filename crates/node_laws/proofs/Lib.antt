@@ -9,6 +9,7 @@ mod Lists
 mod Messages
 mod Near
 mod Owned
+mod Polls
 mod Room
 mod Rows
 mod Said

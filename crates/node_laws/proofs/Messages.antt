@@ -19,7 +19,7 @@ use Rattle.rm_elements.specs.declared.lifecycle.Lifecycle.{Lifecycle}
 use Rattle.rm_elements.specs.declared.lifecycle.Lifecycle.TheVariants as life
 use Rattle.rm_message.specs.Actions.{create_sequence, create_sequence_response, close_sequence}
 use Rattle.rm_message.specs.Actions.{close_sequence_response, terminate_sequence, terminate_sequence_response}
-use Rattle.rm_message.specs.Actions.{ack_requested, sequence_acknowledgement}
+use Rattle.rm_message.specs.Actions.{ack_requested, make_connection, sequence_acknowledgement}
 use Rattle.rm_message.specs.declared.message.Message.{Message}
 use Rattle.rm_source.specs.declared.phase.OutPhase.{OutPhase}
 use Rattle.rm_source.specs.declared.phase.OutPhase.TheVariants as out
@@ -46,6 +46,7 @@ use Rattle.rm_protocol.specs.Addresses.{rm_action, payload_action, anonymous, ow
 use Rattle.rm_protocol.specs.Messages.{written_scope, data_of, data_by, data_at, request_of, never, offer_by}
 use Rattle.rm_protocol.specs.Messages.{create_request, via_of, last_number, finish_of, finish_request, request_by}
 use Rattle.rm_protocol.specs.Messages.{request_at, ack_message, ask_message, response_of}
+use Rattle.rm_protocol.specs.Polls.{make_message}
 use Rattle.node_laws.specs.Records.{IsKept}
 use Rattle.node_laws.proofs.Values.{IsMakerKept, maker-kept, ident-kept, address-kept, payload-kept, few-accepted}
 use Rattle.node_laws.proofs.Values.{plain-kept, peer-kept}
@@ -317,6 +318,20 @@ ask-kept to q h is = record {
   not_understood = tt;
   body = tt;
   together = (refl, (1, omega arith, sym ask-action.same));
+}
+
+make-text : IsText 2048 make_connection
+make-text = literal_is_text 2048 make_connection refl refl refl refl refl refl
+
+pub make-kept : (r : List Fact) (to : Text) → IsText 2048 to → IsByTheRules (make_message r to)
+make-kept r to is = record {
+  addressing = headers-kept (plain_endpoint to) make_connection None None None (plain-kept to is) make-text tt tt tt;
+  sequence = tt;
+  acks = tt;
+  asks = tt;
+  not_understood = tt;
+  body = polled-text (number r);
+  together = (refl, refl, tt);
 }
 
 pub response-kept : (to : Epr) (t : Option Text) (name : Text) (content : Lifecycle) (blocks : List AckBlock)

@@ -190,7 +190,7 @@ own_messages-kept (ack ∷ acks) h =
       | false ↦ (ack-kept ack.0 (ack.1 ∷ []) h.0.0 (h.0.1, tt), rest)
     ]
 
-with_blocks-kept : (m : Message) (blocks : List AckBlock) → IsByTheRules m → AllByRecursion IsAckWritable blocks
+pub with_blocks-kept : (m : Message) (blocks : List AckBlock) → IsByTheRules m → AllByRecursion IsAckWritable blocks
     → IsByTheRules (with_blocks m blocks)
 with_blocks-kept m blocks h k = record {
   addressing = h.addressing;

@@ -2,8 +2,10 @@
 use Rattle.std.specs.Prelude.{◌≡◌, ℕ, ◌≤◌, true, List, ◌++◌, length, Result}
 use Rattle.std.specs.List.{AllByRecursion}
 use Rattle.rm_base.specs.Limits as limits
+use Rattle.rm_base.specs.Text.{IsText}
 use Rattle.rm_base.specs.declared.message.Behaviour.{Behaviour}
 use Rattle.key_timers.specs.Waits.{Wait}
+use Rattle.make_connection.specs.Waiting.{Waiting}
 use Rattle.rm_message.specs.declared.message.Message.{Message}
 use Rattle.rm_message.specs.declared.refusal.Refusal.{Refusal}
 use Rattle.soap_envelope.specs.Soap.{soap_space}
@@ -14,6 +16,9 @@ use Rattle.record_batch.specs.Fact.{Fact}
 use Rattle.sequence_table.specs.Fits.{is_in_order}
 use Rattle.sequence_table.specs.Words.{Text}
 use Rattle.rm_protocol.specs.Calls.{Answer, Wish, create, send, close, end, tick, ask_ack, nack_missing, receive}
+use Rattle.rm_protocol.specs.Node.{fetched_message}
+use Rattle.rm_protocol.specs.PollLemmas.{AllWaiting}
+use Rattle.rm_protocol.specs.Polls.{poll, polled_after, polls}
 use Rattle.rm_protocol.specs.Terms.{Terms}
 use Rattle.node_laws.specs.OwnTerms.{AreOwn}
 use Rattle.node_laws.specs.Read.{IsContentRead, MayBeWished}
@@ -29,6 +34,7 @@ pub record OfEachCall (terms : Terms) (r : List Fact) (place : ℕ) (P : Answer 
   pub tick_ : (now time : ℕ) (waits : List Wait) → P (tick terms r place now time waits)
   pub ask_ack_ : (s : ℕ) → P (ask_ack r s)
   pub nack_missing_ : (s now : ℕ) → P (nack_missing r s now)
+  pub poll_ : (to : Text) → IsText 2048 to → P (poll r to)
   pub receive_ : (now : ℕ) (behaviour : Behaviour) (content : Result Message Refusal) → is_in_order behaviour ≡ true
       → IsContentRead content → P (receive terms r place now behaviour content)
 
@@ -49,6 +55,21 @@ EachCallKeeps =
 abbrev pub EachIsByTheRules : Type 0
 EachIsByTheRules =
     (terms : Terms) (r : List Fact) (place : ℕ) → AreOwn terms → IsKept r → OfEachCall terms r place SaysByTheRules
+
+-- the messages that wait at a node for addresses that nobody can reach keep them too
+abbrev pub WaitByTheRules : Waiting Message → Type 0
+WaitByTheRules waits = AllWaiting (KeepsRules soap_space) waits
+
+-- what waits keeps them after each call that says what does, and so do the message that a MakeConnection takes out of
+-- it and what is said beside
+pub record PollsByTheRules : Type 0 where
+  pub waits : (waits : Waiting Message) (answer : Answer) → WaitByTheRules waits → SaysByTheRules answer
+      → WaitByTheRules (polled_after waits answer)
+  pub fetched : (waits : Waiting Message) (content : Result Message Refusal) (answer : Answer) → WaitByTheRules waits
+      → SaysByTheRules answer
+      → AllByRecursion (KeepsRules soap_space) (fetched_message (polls waits content answer).fetched)
+  pub beside : (waits : Waiting Message) (content : Result Message Refusal) (answer : Answer) → SaysByTheRules answer
+      → SaysByTheRules (polls waits content answer)
 
 -- a message is read back from its text, where that is no longer than a message may be
 abbrev pub IsReadBack : Message → Type 0

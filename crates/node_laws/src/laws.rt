@@ -4,7 +4,7 @@ ghost use Rattle.std.specs.Prelude.{◌≡◌};
 ghost use Rattle.soap_frame.specs.Framed.{sorted_scope};
 ghost use Rattle.soap_envelope.specs.Soap.{soap_space};
 ghost use Rattle.rm_protocol.specs.Messages.{written_scope};
-ghost use Rattle.node_laws.specs.Keeps.{EachCallKeeps, EachIsByTheRules, EachIsReadBack};
+ghost use Rattle.node_laws.specs.Keeps.{EachCallKeeps, EachIsByTheRules, EachIsReadBack, PollsByTheRules};
 ghost use Rattle.node_laws.specs.OwnTerms.{EndsOnce, OwnAreTerms, ThereAreOwnTerms};
 ghost use Rattle.node_laws.specs.Records.{HasRoomForKeys, MadeIsKept};
 
@@ -31,6 +31,11 @@ pub fn each_message_keeps_the_rules()
     a_fault_keeps_the_rules();
     each_record_may_come_next();
 }
+
+/// The messages that wait at a node keep them too, and so does what a MakeConnection takes out of them.
+pub fn what_waits_keeps_the_rules()
+    ensures { PollsByTheRules }
+{}
 
 /// So it is read back as it was said, where its text is no longer than a message may be.
 pub fn each_message_is_read_back()

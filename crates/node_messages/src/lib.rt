@@ -22,6 +22,6 @@ pub use detail::ident_of;
 pub use endpoint::{anonymous, fault_endpoint, plain_endpoint, reply_endpoint};
 pub use home::Home;
 pub use name::Name;
-pub use request::{close_request, create_request, terminate_request};
+pub use request::{close_request, create_request, make_request, terminate_request};
 pub use response::{close_response, grant_response, terminate_response};
 pub use said::{Ack, answered};

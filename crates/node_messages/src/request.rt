@@ -1,8 +1,11 @@
-//! Requests: WS-ReliableMessaging 1.2, sections 3.4 to 3.6.
+//! Requests: WS-ReliableMessaging 1.2, sections 3.4 to 3.6, and WS-MakeConnection 1.1, section 3.2.
 ghost use Rattle.std.specs.Prelude.{◌≡◌, ◌<◌, ◌^◌, List, IfOk, IfSome};
 ghost use Rattle.record_batch.specs.Fact.{Fact};
+ghost use Rattle.rm_base.specs.Text.{IsText};
+ghost use Rattle.rm_message.specs.Actions.{make_connection};
 ghost use Rattle.rm_elements.specs.declared.lifecycle.Lifecycle.TheVariants as life;
 ghost use Rattle.rm_protocol.specs.Messages.{last_number as last_number_of, request_of};
+ghost use Rattle.rm_protocol.specs.Polls.{make_message};
 ghost use Rattle.node_messages.specs.Homes.{IsHome};
 ghost use Rattle.node_messages.specs.Names.{name_text};
 ghost use Rattle.node_messages.specs.Requests.{IsSmall, create_with, offer_with};
@@ -13,8 +16,8 @@ use crate::name::Name;
 use crate::plain::plain;
 use record_batch::{OwnOffer, Via};
 use rm_base::{Ident, Lapse, Memory, Uri, uri_of};
-use rm_elements::{CreateSequence, Finish, Lifecycle, Offer};
-use rm_message::{Body, Message};
+use rm_elements::{CreateSequence, Finish, Lifecycle, MakeConnection, Offer};
+use rm_message::{Body, Message, actions};
 use sequence_table::issue;
 use std::alloc::Global;
 use wsa_headers::Epr;
@@ -160,5 +163,30 @@ pub fn terminate_request(
         ticket,
         Name::TerminateSequence,
         content,
+    )
+}
+
+// The action of a MakeConnection.
+fn make_action() -> &'static [u8]
+    ensures is { result.now ≡ make_connection }
+    ensures is_text { IsText 2048 result.now }
+{
+    actions::MAKE_CONNECTION
+}
+
+/// A MakeConnection for the messages that wait at a peer, with this address, for the node.
+pub fn make_request(alloc: Global, home: Home<'_>, to: Uri) -> Result<Message, Memory>
+    requires { home.number < 2 ^ 60 }
+    ensures { (r : List Fact) → IsHome home.entry r → IfOk result (λ m. m ≡ make_message r to) }
+{
+    let selection = MakeConnection {
+        address: Some(home.own_address(alloc, Via::Polled)?),
+        other: false,
+    };
+    plain(
+        alloc,
+        plain_endpoint(alloc, to),
+        make_action(),
+        Body::Lifecycle(Lifecycle::Make(selection)),
     )
 }

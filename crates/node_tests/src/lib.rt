@@ -15,6 +15,8 @@ mod limits;
 #[cfg(test)]
 mod peer;
 #[cfg(test)]
+mod polled;
+#[cfg(test)]
 mod rows;
 #[cfg(test)]
 mod sources;

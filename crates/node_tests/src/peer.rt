@@ -19,7 +19,7 @@ pub(crate) const NODE_1: &[u8] = b"http://node1.example/";
 pub(crate) const NODE_2: &[u8] = b"http://node2.example/";
 
 /// A node on its disk.
-#[derive(Debug, Drop)]
+#[derive(Drop)]
 pub(crate) struct Peer {
     pub(crate) alloc: Global,
     pub(crate) disk: Device,

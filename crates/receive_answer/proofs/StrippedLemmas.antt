@@ -40,7 +40,7 @@ pub done-stripped : (r d : List Fact) (now : ℕ) (m : Message) → done_of r d 
 unfolding done_of
 done-stripped r d now m =
     ap (λ (ms : List Message).
-    let a : Answer = record { outcome = Done; delta = d; outs = ms; moves = urging r m } in a)
+    let a : Answer = record { outcome = Done; delta = d; fetched = None; outs = ms; moves = urging r m } in a)
     (said-stripped (r ++ d) now m)
 
 -- nor the fault of a message whose records don't fit the store

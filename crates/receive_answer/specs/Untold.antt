@@ -30,7 +30,13 @@ done_of r d now m = adds_and_moves r d (urging r m) (λ after. said after now m)
 
 -- the answer that says a fault of this kind
 abbrev pub judged_as : FaultKind → Message → Answer
-judged_as kind fault = record { outcome = Judged kind; delta = []; outs = fault ∷ []; moves = no_moves }
+judged_as kind fault = record {
+  outcome = Judged kind;
+  delta = [];
+  fetched = None;
+  outs = fault ∷ [];
+  moves = no_moves;
+}
 
 -- the answer to a message whose records don't fit the store
 unfoldable pub full_of : Message → Answer

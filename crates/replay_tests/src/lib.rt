@@ -8,6 +8,8 @@ mod crashes;
 #[cfg(test)]
 mod messages;
 #[cfg(test)]
+mod polls;
+#[cfg(test)]
 mod stage;
 #[cfg(test)]
 mod strangers;

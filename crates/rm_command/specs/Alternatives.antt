@@ -1,6 +1,7 @@
 -- What a run of `wsrm normal` and of `wsrm intersect` is, by how it ended, and what they print.
 use Rattle.std.specs.Prelude.{◌≡◌, ℕ, List, Option, None, Some, Result, Ok, Err}
 use Rattle.rm_base.specs.Limits as limits
+use Rattle.rm_report.specs.Exits as exits
 use Rattle.soap_profile.specs.declared.error.EnvelopeError.TheVariants as documents
 use Rattle.wsp_alternatives.specs.Finds.{FindsNormal, FindsCommon}
 use Rattle.wsp_alternatives.specs.Texts.{normal_text}
@@ -80,8 +81,10 @@ HasFound Finds bytes = (lists : List (List Term)) × Finds bytes (Ok lists)
 -- of a policy that has a normal form comes 0, of other bytes 9, of more bytes 8, unless the input, the output or the
 -- machine fails
 abbrev pub IsNormalStatus : List ℕ → ℕ → Type 0
-IsNormalStatus bytes status = IsFilterStatus limits.envelope_bytes 9 (HasFound FindsNormal bytes) bytes status
+IsNormalStatus bytes status =
+    IsFilterStatus limits.envelope_bytes exits.refused (HasFound FindsNormal bytes) bytes status
 
 -- so it is with a pair of policies
 abbrev pub IsIntersectStatus : List ℕ → ℕ → Type 0
-IsIntersectStatus bytes status = IsFilterStatus limits.envelope_bytes 9 (HasFound FindsCommon bytes) bytes status
+IsIntersectStatus bytes status =
+    IsFilterStatus limits.envelope_bytes exits.refused (HasFound FindsCommon bytes) bytes status

@@ -1,6 +1,7 @@
 -- What a run of `wsrm check` is, by how it ended, and what it prints.
 use Rattle.std.specs.Prelude.{◌≡◌, ℕ, Bool, true, false, List, Option, Some, None}
 use Rattle.rm_base.specs.Limits as limits
+use Rattle.rm_report.specs.Exits as exits
 use Rattle.soap_envelope.specs.Soap.{soap_space}
 use Rattle.rm_message.specs.declared.message.Message.{Message}
 use Rattle.rm_message.specs.declared.refusal.FaultKind.{FaultKind}
@@ -76,4 +77,4 @@ IsAMessage bytes = (m : Message) × Spells soap_space bytes m
 
 -- of a message comes 0, of other bytes 9, of more bytes 8, unless the input, the output or the machine fails
 abbrev pub IsCheckStatus : List ℕ → ℕ → Type 0
-IsCheckStatus bytes status = IsFilterStatus limits.envelope_bytes 9 (IsAMessage bytes) bytes status
+IsCheckStatus bytes status = IsFilterStatus limits.envelope_bytes exits.refused (IsAMessage bytes) bytes status

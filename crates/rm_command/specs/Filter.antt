@@ -2,6 +2,7 @@
 use Rattle.std.specs.Prelude.{◌≡◌, ℕ, ◌<◌, ◌≤◌, ◌⊎◌, List, length, Result, Ok, Err}
 use Rattle.rm_base.specs.Count.{Rose}
 use Rattle.rm_base.specs.Outside.{Stream}
+use Rattle.rm_report.specs.Exits as exits
 use Rattle.rm_command.specs.declared.end.End.{End}
 use Rattle.rm_command.specs.declared.end.End.TheVariants.{Done, Usage, BadLine, ReadFault, WriteFault, TooLong}
 use Rattle.rm_command.specs.declared.end.End.TheVariants.{Refused, Memory}
@@ -90,6 +91,6 @@ EndsFilter limit Untouched Prints Cuts Refuses Memory e =
 -- of good bytes comes 0, of others the status of a refusal, of more bytes 8, unless the input, the output or the
 -- machine fails
 pub record IsFilterStatus (limit refusal : ℕ) (Good : Type 0) (bytes : List ℕ) (status : ℕ) : Type 0 where
-  pub good : length bytes ≤ limit → Good → (status ≡ 0) ⊎ IsOutside status
+  pub good : length bytes ≤ limit → Good → (status ≡ exits.done) ⊎ IsOutside status
   pub bad : length bytes ≤ limit → ¬ Good → (status ≡ refusal) ⊎ IsUnread status
-  pub longer : limit < length bytes → (status ≡ 8) ⊎ IsUnread status
+  pub longer : limit < length bytes → (status ≡ exits.too_long) ⊎ IsUnread status

@@ -2,6 +2,7 @@
 use Rattle.std.specs.Prelude.{◌≡◌, ℕ, Bool, true, false, List, ◌++◌, Ok, Err, codes}
 use Rattle.std.specs.Str.{IsUtf8}
 use Rattle.rm_base.specs.Limits as limits
+use Rattle.rm_report.specs.Exits as exits
 use Rattle.soap_profile.specs.Document.{Document}
 use Rattle.soap_profile.specs.Tree.{Element}
 use Rattle.rm_policy.specs.Assertion.{is_granted}
@@ -58,4 +59,4 @@ IsAnAssertion bytes = (a : Assertion) × ReadsAs bytes (Ok a)
 
 -- of an assertion comes 0, of other bytes 9, of more bytes 8, unless the input, the output or the machine fails
 abbrev pub IsPolicyStatus : List ℕ → ℕ → Type 0
-IsPolicyStatus bytes status = IsFilterStatus limits.envelope_bytes 9 (IsAnAssertion bytes) bytes status
+IsPolicyStatus bytes status = IsFilterStatus limits.envelope_bytes exits.refused (IsAnAssertion bytes) bytes status

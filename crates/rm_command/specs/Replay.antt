@@ -5,6 +5,7 @@ use Rattle.rm_base.specs.Limits as limits
 use Rattle.rm_base.specs.Outside.{Stream}
 use Rattle.rm_protocol.specs.Delivered.{TakesNew}
 use Rattle.rm_protocol.specs.Terms.{Terms}
+use Rattle.rm_report.specs.Exits as exits
 use Rattle.rm_script.specs.declared.event.Event.{Event}
 use Rattle.rm_script.specs.Script.{lines_of, IsScript, IsFirstBad}
 use Rattle.rm_replay.specs.Net.{AreOfNet}
@@ -53,7 +54,7 @@ IsAScript bytes = (events : List Event) × IsScript (lines_of bytes) events
 
 -- of a script comes 0, of other bytes 3, of more bytes 8, unless the input, the output or the machine fails
 abbrev pub IsReplayStatus : List ℕ → ℕ → Type 0
-IsReplayStatus bytes status = IsFilterStatus limits.script_bytes 3 (IsAScript bytes) bytes status
+IsReplayStatus bytes status = IsFilterStatus limits.script_bytes exits.bad_line (IsAScript bytes) bytes status
 
 -- the script of a number was played, and this much of the summary of its report was written
 pub record PlaysSoak {K T : Type 0} (n : ℕ) (Writes : Stream → Stream → List ℕ → Type 0) (out out_after : Side K)
@@ -78,4 +79,4 @@ EndsSoak n Memory out out_after old new =
 
 -- of soak comes 0, unless the output or the machine fails
 abbrev pub IsSoakStatus : ℕ → Type 0
-IsSoakStatus status = (status ≡ 0) ⊎ ((status ≡ 5) ⊎ (status ≡ 10))
+IsSoakStatus status = (status ≡ exits.done) ⊎ ((status ≡ exits.write_fault) ⊎ (status ≡ exits.memory))

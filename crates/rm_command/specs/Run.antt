@@ -3,6 +3,7 @@ use Rattle.std.specs.Prelude.{◌≡◌, ◌≢◌, ◌⊎◌, ℕ, ◌^◌, ◌
 use Rattle.std.specs.Prelude.{◌↔◌, IfSome}
 use Rattle.rm_base.specs.Limits as limits
 use Rattle.rm_base.specs.Outside.{Lasts}
+use Rattle.rm_report.specs.Exits as exits
 use Rattle.rm_command.specs.declared.command.Command.{Command}
 use Rattle.rm_command.specs.declared.command.Command.TheVariants.{Replay, Soak, Check, Policy, Normal, Intersect}
 use Rattle.rm_command.specs.declared.end.End.{End}
@@ -83,7 +84,7 @@ pub record IsStatusOf (words : List (List ℕ)) (bytes : List ℕ) (status : ℕ
 -- which status comes: 2 exactly of words that are no command, and one of those that come of the bytes, where the input
 -- tells them
 pub record HasStatus (words : List (List ℕ)) (left : Option (List ℕ)) (status : ℕ) : Type 0 where
-  pub usage : (status ≡ 2) ↔ AsksNothing words
+  pub usage : (status ≡ exits.usage) ↔ AsksNothing words
   pub bytes : IfSome left (λ bytes. IsStatusOf words bytes status)
 
 -- a run of replay

@@ -1,6 +1,7 @@
 -- What a run does to a stage, the disks of two nodes and the wire between them, and the headline.
 use Rattle.std.specs.Prelude.{◌≡◌, ◌≢◌, ◌⊎◌, ℕ, List}
 use Rattle.rm_disk.specs.Told.{Told}
+use Rattle.rm_report.specs.Exits as exits
 use Rattle.rm_replay.specs.declared.stage.Stage.{Stage}
 use Rattle.rm_replay.specs.Headline.{KeepsHeadline}
 use Rattle.rm_replay.specs.Played.{IsUnmade}
@@ -22,7 +23,7 @@ KeepsHeadlineIn scene = KeepsHeadline scene.drives.one.disk.past scene.drives.tw
 -- the headline, by the status of a replay: it holds of both disks where a report was made; where memory was wanting, it
 -- holds as well, unless the stage is as it was or a node was not made; and at each other status nothing changed
 pub record KeepsWordAt {T : Type 0} (status : ℕ) (old new : Staged T) : Type 0 where
-  pub done : status ≡ 0 → KeepsHeadlineIn new.scene
-  pub unwritten : status ≡ 5 → KeepsHeadlineIn new.scene
-  pub short : status ≡ 10 → (new ≡ old) ⊎ (IsUnmade old.scene new.scene ⊎ KeepsHeadlineIn new.scene)
-  pub other : status ≢ 0 → status ≢ 5 → status ≢ 10 → new ≡ old
+  pub done : status ≡ exits.done → KeepsHeadlineIn new.scene
+  pub unwritten : status ≡ exits.write_fault → KeepsHeadlineIn new.scene
+  pub short : status ≡ exits.memory → (new ≡ old) ⊎ (IsUnmade old.scene new.scene ⊎ KeepsHeadlineIn new.scene)
+  pub other : status ≢ exits.done → status ≢ exits.write_fault → status ≢ exits.memory → new ≡ old

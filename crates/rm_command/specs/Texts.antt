@@ -2,6 +2,7 @@
 use Rattle.std.specs.Prelude.{ℕ, List, [], ◌++◌, codes, decimal}
 use Rattle.rm_message.specs.Kinds.{kind_name}
 use Rattle.rm_message.specs.declared.refusal.FaultKind.TheVariants as kinds
+use Rattle.rm_report.specs.Exits.{usage_line, read_fault_line, too_long_line}
 use Rattle.rm_command.specs.declared.end.End.{End}
 use Rattle.rm_command.specs.declared.end.End.TheVariants.{Done, Usage, BadLine, ReadFault, WriteFault, TooLong}
 use Rattle.rm_command.specs.declared.end.End.TheVariants.{Refused, Memory}
@@ -31,12 +32,10 @@ fault_name TooManyAlternatives = codes "TooManyAlternatives"
 -- the line of an end, where it has one
 abbrev pub line_of : End → List ℕ
 line_of Done = []
-line_of Usage =
-    codes "usage: wsrm check,replay,soak,make,serve,send,push,close,end,inbox,"
-    ++ codes "policy,compact,consume,import,normal,intersect\n"
+line_of Usage = usage_line
 line_of (BadLine line) = codes "bad line " ++ decimal line ++ codes "\n"
-line_of ReadFault = codes "read fault\n"
+line_of ReadFault = read_fault_line
 line_of WriteFault = []
-line_of TooLong = codes "too long\n"
+line_of TooLong = too_long_line
 line_of (Refused fault) = codes "fault " ++ fault_name fault ++ codes "\n"
 line_of Memory = []

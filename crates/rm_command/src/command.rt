@@ -19,6 +19,7 @@ use rm_disk::CrashDisk;
 use rm_network::Wire;
 use rm_policy::laws::one_reading;
 use rm_replay::Stage;
+use rm_report::exits::USAGE_LINE;
 use rm_script::laws::no_bad_line;
 use rm_soak::number_in;
 use std::alloc::Global;
@@ -78,10 +79,6 @@ fn obey<S: Source, K: Sink, M: CrashDisk, W: Wire>(
         None => refuse(out, End::Usage, USAGE_LINE),
     }
 }
-
-// What is printed where the words are no command: every command that there is to be.
-const USAGE_LINE: &[u8] = b"usage: wsrm check,replay,soak,make,serve,send,push,close,end,inbox,\
-        policy,compact,consume,import,normal,intersect\n";
 
 // What the words may ask for.
 #[derive(Clone, Copy, Debug, PartialEq, Eq)]

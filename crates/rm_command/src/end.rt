@@ -6,6 +6,7 @@ ghost use Rattle.rm_command.specs.Status.{status_of};
 ghost use Rattle.rm_command.specs.Texts.{line_of};
 
 use rm_base::{Blob, Memory, Sink, push_decimal, write_all};
+use rm_report::exits;
 use std::alloc::Global;
 
 /// What keeps bytes from being a message, an assertion, or a policy within the limits.
@@ -54,14 +55,14 @@ impl End {
         ensures { result ≡ status_of self }
     {
         match self {
-            End::Done => 0,
-            End::Usage => 2,
-            End::BadLine { .. } => 3,
-            End::ReadFault => 4,
-            End::WriteFault => 5,
-            End::TooLong => 8,
-            End::Refused { .. } => 9,
-            End::Memory => 10,
+            End::Done => exits::DONE,
+            End::Usage => exits::USAGE,
+            End::BadLine { .. } => exits::BAD_LINE,
+            End::ReadFault => exits::READ_FAULT,
+            End::WriteFault => exits::WRITE_FAULT,
+            End::TooLong => exits::TOO_LONG,
+            End::Refused { .. } => exits::REFUSED,
+            End::Memory => exits::MEMORY,
         }
     }
 }

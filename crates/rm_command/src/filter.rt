@@ -6,6 +6,7 @@ ghost use Rattle.rm_command.specs.declared.filter.NoText.TheVariants.{Memory as 
 
 use crate::end::{End, Fault, refuse};
 use rm_base::{Blob, Memory, ReadError, Sink, SinkError, Source, read_up_to, write_all};
+use rm_report::exits::{READ_FAULT_LINE, TOO_LONG_LINE};
 use std::alloc::Global;
 
 /// Why there is nothing to print of bytes.
@@ -40,8 +41,8 @@ pub fn read_input<S: Source, K: Sink>(
 {
     match read_up_to(alloc, input, limit) {
         Ok(bytes) => Ok(bytes),
-        Err(ReadError::Failed) => Err(refuse(out, End::ReadFault, b"read fault\n")),
-        Err(ReadError::TooLong) => Err(refuse(out, End::TooLong, b"too long\n")),
+        Err(ReadError::Failed) => Err(refuse(out, End::ReadFault, READ_FAULT_LINE)),
+        Err(ReadError::TooLong) => Err(refuse(out, End::TooLong, TOO_LONG_LINE)),
         Err(ReadError::Memory) => Err(End::Memory),
     }
 }

@@ -37,17 +37,17 @@ both a b c x y z first after = record {
   ] refl;
 }
 
-one : (t : Option Target) (old mid : Net) (fate : Fate) (posted : Posted) → IsPost old mid t fate
+one : (t : Option Target) (bytes : List ℕ) (old mid : Net) (fate : Fate) (posted : Posted) → IsPost old mid t bytes fate
     → Dials posted.undialled (with_post fate posted).undialled old mid
-one None old mid fate posted is =
+one None bytes old mid fate posted is =
     subst (λ f. Dials posted.undialled (with_post f posted).undialled old mid) (sym is.0)
     (subst (λ n. Dials posted.undialled posted.undialled old n) (sym is.1) (none posted.undialled old))
-one (Some target) old mid Undialled posted is =
-    record { grows = omega arith; later = is.never_falls; rose = λ h. is.failed refl }
-one (Some target) old mid Missed posted is =
-    record { grows = omega arith; later = is.1.never_falls; rose = λ h. absurd (omega (arith, h)) }
-one (Some target) old mid (Answered body) posted is =
-    record { grows = omega arith; later = is.1.never_falls; rose = λ h. absurd (omega (arith, h)) }
+one (Some target) bytes old mid Undialled posted is =
+    record { grows = omega arith; later = is.connects.never_falls; rose = λ h. is.connects.failed refl }
+one (Some target) bytes old mid Missed posted is =
+    record { grows = omega arith; later = is.calls.connects.never_falls; rose = λ h. absurd (omega (arith, h)) }
+one (Some target) bytes old mid (Answered body) posted is =
+    record { grows = omega arith; later = is.calls.connects.never_falls; rose = λ h. absurd (omega (arith, h)) }
 
 -- so it is of a row of packets
 pub dials : (moment n : ℕ) (queue : List Out) (posted last : Posted) (old new : Net) (steps : List Step)
@@ -63,12 +63,12 @@ dials moment _ _ _ last _ _ _ _ (wanting n queue posted net) e = absurd cc
 dials moment _ _ _ last _ _ _ _ (begun n out queue posted old new is) e = absurd cc
 dials moment _ _ _ last _ _ _ _ (quiet n out queue posted old mid new fate steps result is heard after) e =
     both posted.undialled (with_post fate posted).undialled last.undialled old mid new
-    (one (target_of out.address) old mid fate posted is)
+    (one (target_of out.address) out.bytes old mid fate posted is)
     (dials moment n queue (with_post fate posted) last mid new steps result after e)
 dials moment _ _ _ last _ _ _ _
     (taken n out queue posted old mid new fate body steps result content verdict reply outs is heard reads after) e =
     both posted.undialled (with_post fate posted).undialled last.undialled old mid new
-    (one (target_of out.address) old mid fate posted is)
+    (one (target_of out.address) out.bytes old mid fate posted is)
     (dials moment n (queue ++ outs) (with_post fate posted) last mid new steps result after e)
 dials moment _ _ _ last _ _ _ _ (broken n out queue posted old new fate body content is heard reads) e = absurd cc
 dials moment _ _ _ last _ _ _ _ (unheard n out queue posted old new fate body is heard) e = absurd cc

@@ -10,7 +10,7 @@ use Rattle.rm_base.specs.Outside.{Stream}
 use Rattle.rm_disk.specs.Cause.{HasCause}
 use Rattle.rm_host.specs.Ends.{Faults, HasReason, Reason, Took, is_disk_end, is_disk_fault, is_link_end, is_link_fault}
 use Rattle.rm_host.specs.Ends.{is_outer, status_of}
-use Rattle.rm_host.specs.Runs.{IsSent, IsStatusOf, Obeys, Outside, PrintsAt, Uses}
+use Rattle.rm_host.specs.Runs.{IsSent, IsStatusOf, Obeys, Outside, PrintsAt, Uses, statuses}
 use Rattle.rm_host.specs.Words.{Asks, HasTarget, IsReachable, IsWithin, Reads, Takes, name_of}
 use Rattle.rm_host.specs.declared.end.End.{End}
 use Rattle.rm_host.specs.declared.end.End.TheVariants as end
@@ -225,7 +225,7 @@ is-disk : (e : End) → is_disk_fault {T = Unit {0}} (Err e) ≡ (status_of e ==
 is-disk end.DiskFault = refl
 is-disk e = refl
 
-is-one : (e : End) → has_number (0 ∷ 2 ∷ 4 ∷ 5 ∷ 6 ∷ 7 ∷ 8 ∷ 9 ∷ 10 ∷ 11 ∷ []) (status_of e) ≡ true
+is-one : (e : End) → has_number statuses (status_of e) ≡ true
 is-one end.Usage = refl
 is-one e = refl
 
@@ -262,7 +262,7 @@ refused words x y e o reason = record {
 well : {T : Type 0} (words : List (List ℕ)) (x y : Outside) (text : T) (n : ℕ)
     → Obeys words x.input y.input (Ok text) → HasReason x.faults y.faults (Ok text)
     → (n ≡ 5 → Rose x.out.faults y.out.faults) → has_number (2 ∷ 4 ∷ 6 ∷ 7 ∷ 8 ∷ []) n ≡ false
-    → has_number (0 ∷ 2 ∷ 4 ∷ 5 ∷ 6 ∷ 7 ∷ 8 ∷ 9 ∷ 10 ∷ 11 ∷ []) n ≡ true → IsStatusOf words x y n
+    → has_number statuses n ≡ true → IsStatusOf words x y n
 well words x y text n o reason rose other one = record {
   usage = (λ h. absurd (other-than 2 refl h), λ none. let e = o.usage.1 none in absurd cc);
   address = λ lost. elim (o.address lost) [ inl h ↦ absurd cc | inr h ↦ absurd cc ];

@@ -2,7 +2,8 @@
 use Rattle.std.proofs.Common.{◌≡◌, ℕ, ◌≤◌, ◌<◌, ◌-◌, ◌^◌, List, [], ◌∷◌, length, get_or, codes, bytes_eq, refl}
 use Rattle.std.proofs.Common.{arith, subst, sym, true}
 use Rattle.std.specs.Prelude.{Err}
-use Rattle.rm_host.specs.Words.{Asks, HasTarget, IsAddress, IsCommand, IsNumber, IsReachable, IsSequence, Reads}
+use Rattle.rm_script.specs.Script.{IsNumber}
+use Rattle.rm_host.specs.Words.{Asks, HasTarget, IsAddress, IsCommand, IsReachable, IsSequence, Reads}
 use Rattle.rm_host.specs.Words.{ReadsAddress, Takes, name_of}
 use Rattle.rm_host.specs.declared.end.End.{End}
 use Rattle.rm_host.specs.declared.end.End.TheVariants as end

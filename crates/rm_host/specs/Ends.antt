@@ -10,6 +10,7 @@ use Rattle.rm_disk.specs.Told.{Told}
 use Rattle.rm_link.specs.Lines.{Net}
 use Rattle.rm_node.specs.declared.error.NodeError.{NodeError}
 use Rattle.rm_node.specs.declared.error.NodeError.TheVariants as node
+use Rattle.rm_report.specs.Exits as exits
 use Rattle.rm_host.specs.declared.end.End.{End}
 use Rattle.rm_host.specs.declared.end.End.TheVariants.{Usage, ReadFault, WriteFault, DiskFault, LinkFault, TooLong}
 use Rattle.rm_host.specs.declared.end.End.TheVariants.{BadAddress, NotEmpty, Refused, Memory, NotAJournal}
@@ -17,17 +18,17 @@ use Rattle.rm_host.specs.declared.host.Host.{Host}
 
 -- the exit status
 abbrev pub status_of : End → ℕ
-status_of Usage = 2
-status_of ReadFault = 4
-status_of WriteFault = 5
-status_of DiskFault = 6
-status_of LinkFault = 7
-status_of TooLong = 8
-status_of BadAddress = 9
-status_of NotEmpty = 9
-status_of (Refused cause) = 9
-status_of Memory = 10
-status_of NotAJournal = 11
+status_of Usage = exits.usage
+status_of ReadFault = exits.read_fault
+status_of WriteFault = exits.write_fault
+status_of DiskFault = exits.disk_fault
+status_of LinkFault = exits.link_fault
+status_of TooLong = exits.too_long
+status_of BadAddress = exits.refused
+status_of NotEmpty = exits.refused
+status_of (Refused cause) = exits.refused
+status_of Memory = exits.memory
+status_of NotAJournal = exits.not_a_journal
 
 -- the end where a call of the node fails: one that is down has met a fault of its disk
 abbrev pub node_end : NodeError → End

@@ -7,6 +7,7 @@ use Rattle.rm_base.specs.Outside.{Stream}
 use Rattle.rm_disk.specs.Cause.{HasCause}
 use Rattle.rm_disk.specs.Told.{Told}
 use Rattle.rm_link.specs.Lines.{Net}
+use Rattle.rm_report.specs.Exits as exits
 use Rattle.rm_host.specs.Ends.{Faults, Took, WasTooLong, faults_of, is_outer}
 use Rattle.rm_host.specs.Words.{Asks, IsCommand, IsLost, IsReachable}
 use Rattle.rm_host.specs.declared.end.End.{End}
@@ -31,20 +32,30 @@ outside_of seen shown told net input out host =
 abbrev pub IsSent : List (List ℕ) → Type 0
 IsSent words = (to : List ℕ) × Asks words (Send to) × IsReachable to
 
+-- each status that comes
+abbrev pub statuses : List ℕ
+statuses =
+    exits.done ∷ exits.usage ∷ exits.read_fault ∷ exits.write_fault ∷ exits.disk_fault ∷ exits.link_fault
+    ∷ exits.too_long
+    ∷ exits.refused
+    ∷ exits.memory
+    ∷ exits.not_a_journal
+    ∷ []
+
 -- Which status comes. Usage comes exactly of words that are no command, and a command whose address can't be reached is
 -- refused. A fault comes only where the count of faults of what is to blame rose, that of the disk wherever it did.
 -- That a payload is too long comes only where it is, and then always but for a read that failed or wanted memory.
 pub record IsStatusOf (words : List (List ℕ)) (old new : Outside) (status : ℕ) : Type 0 where
-  pub usage : (status ≡ 2) ↔ ¬ (IsCommand words)
-  pub address : IsLost words → (status ≡ 9) ⊎ (status ≡ 10)
-  pub read : status ≡ 4 → IsSent words × Rose old.input.faults new.input.faults
-  pub written : status ≡ 5 → Rose old.out.faults new.out.faults
-  pub disk : HasCause old.faults.disk new.faults.disk (status == 6)
-  pub link : status ≡ 7 → Rose old.faults.link new.faults.link
-  pub long : status ≡ 8 → IsSent words × WasTooLong old.input new.input
+  pub usage : (status ≡ exits.usage) ↔ ¬ (IsCommand words)
+  pub address : IsLost words → (status ≡ exits.refused) ⊎ (status ≡ exits.memory)
+  pub read : status ≡ exits.read_fault → IsSent words × Rose old.input.faults new.input.faults
+  pub written : status ≡ exits.write_fault → Rose old.out.faults new.out.faults
+  pub disk : HasCause old.faults.disk new.faults.disk (status == exits.disk_fault)
+  pub link : status ≡ exits.link_fault → Rose old.faults.link new.faults.link
+  pub long : status ≡ exits.too_long → IsSent words × WasTooLong old.input new.input
   pub short : IsSent words → IfSome old.input.left (λ bytes. limits.payload_bytes < length bytes
-      → (status ≡ 8) ⊎ ((status ≡ 4) ⊎ (status ≡ 10)))
-  pub one : has_number (0 ∷ 2 ∷ 4 ∷ 5 ∷ 6 ∷ 7 ∷ 8 ∷ 9 ∷ 10 ∷ 11 ∷ []) status ≡ true
+      → (status ≡ exits.too_long) ⊎ ((status ≡ exits.read_fault) ⊎ (status ≡ exits.memory)))
+  pub one : has_number statuses status ≡ true
 
 -- ---- inside
 
@@ -65,4 +76,5 @@ pub record Obeys {T : Type 0} (words : List (List ℕ)) (old new : Stream) (resu
 
 -- which status comes where a text was to be printed
 abbrev pub PrintsAt : Stream → Stream → ℕ → Type 0
-PrintsAt old new status = (status ≡ 0) ⊎ (((status ≡ 5) × Rose old.faults new.faults) ⊎ (status ≡ 10))
+PrintsAt old new status =
+    (status ≡ exits.done) ⊎ (((status ≡ exits.write_fault) × Rose old.faults new.faults) ⊎ (status ≡ exits.memory))

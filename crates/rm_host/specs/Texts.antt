@@ -3,6 +3,7 @@ use Rattle.std.specs.Prelude.{◌≡◌, ℕ, ◌+◌, Bool, true, false, List, 
 use Rattle.hex.specs.Hex.{encode_lower}
 use Rattle.call_answers.specs.declared.answer.Cause.{Cause}
 use Rattle.call_answers.specs.declared.answer.Cause.TheVariants as cause
+use Rattle.rm_report.specs.Exits.{usage_line, read_fault_line, too_long_line}
 use Rattle.rm_report.specs.Report.{reason_text}
 use Rattle.rm_report.specs.declared.line.Reason.TheVariants as reason
 use Rattle.rm_serve.specs.declared.posting.Posted.{Posted}
@@ -27,14 +28,12 @@ cause_name (cause.StoreFull end needed) = reason_text reason.StoreFull
 
 -- the line of a refusal
 abbrev pub line_of : End → List ℕ
-line_of Usage =
-    codes "usage: wsrm check,replay,soak,make,serve,send,push,close,end,inbox,"
-    ++ codes "policy,compact,consume,import,normal,intersect\n"
-line_of ReadFault = codes "read fault\n"
+line_of Usage = usage_line
+line_of ReadFault = read_fault_line
 line_of WriteFault = []
 line_of DiskFault = codes "disk fault\n"
 line_of LinkFault = codes "link fault\n"
-line_of TooLong = codes "too long\n"
+line_of TooLong = too_long_line
 line_of BadAddress = codes "refused BadAddress\n"
 line_of NotEmpty = codes "refused NotEmpty\n"
 line_of (Refused cause) = codes "refused " ++ cause_name cause ++ codes "\n"

@@ -7,6 +7,7 @@ use Rattle.rm_base.specs.Limits as limits
 use Rattle.rm_base.specs.Text.{IsText}
 use Rattle.rm_base.specs.declared.message.Behaviour.{Behaviour}
 use Rattle.rm_base.specs.declared.message.Behaviour.TheVariants.{EntireSequence, FollowingFirstGap}
+use Rattle.rm_script.specs.Script.{IsNumber}
 use Rattle.rm_host.specs.declared.end.End.{End}
 use Rattle.rm_host.specs.declared.end.End.TheVariants as end
 use Rattle.rm_host.specs.declared.words.Command.{Command}
@@ -25,10 +26,6 @@ is_node_name name =
 abbrev pub is_of_node : List (List ℕ) → Bool
 is_of_node [] = false
 is_of_node (name ∷ words) = is_node_name name
-
--- a number from low to high, in decimal digits without a leading zero
-abbrev pub IsNumber : ℕ → ℕ → List ℕ → ℕ → Type 0
-IsNumber low high word number = (low ≤ number) × (number ≤ high) × (word ≡ decimal number)
 
 -- a word that may stand for an address: UTF-8 that does not begin with -
 pub record IsAddress (word : List ℕ) : Type 0 where

@@ -16,6 +16,7 @@ use rm_base::{
 use rm_disk::Disk;
 use rm_file::{Fault as DiskFault, FileDisk, NAME};
 use rm_link::{Fault as LinkFault, Link, TcpLink};
+use rm_report::exits;
 use std::alloc::Global;
 use std::env;
 use std::io::ErrorKind;
@@ -47,7 +48,7 @@ fn print_text<K: Sink>(out: &mut K, text: &[u8]) -> u8
     ensures { PrintsAt (K.told out.old) (K.told out.new) result }
 {
     match write_all(out, text) {
-        Ok(()) => 0,
+        Ok(()) => exits::DONE,
         Err(SinkError::Failed) => End::WriteFault.status(),
         Err(SinkError::Memory) => End::Memory.status(),
     }

@@ -16,9 +16,9 @@ ghost use Rattle.std.specs.Prelude.{
   codes,
 };
 ghost use Rattle.sequence_table.specs.Fits.{is_in_order};
+ghost use Rattle.rm_script.specs.Script.{IsNumber};
 ghost use Rattle.rm_host.specs.Words.{
   IsAddress,
-  IsNumber,
   IsReachable,
   IsSequence,
   Reads,

@@ -1,3 +1,4 @@
 pub mod Lines
 pub mod Mem
+pub mod Notes
 pub mod Posts

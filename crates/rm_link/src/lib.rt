@@ -7,6 +7,7 @@ mod fault;
 pub mod link;
 pub mod mem;
 pub mod packet;
+mod past;
 pub mod tcp;
 #[cfg(test)]
 mod tests;

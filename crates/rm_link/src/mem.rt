@@ -1,19 +1,22 @@
 //! A link over connections in memory, of which chosen calls fail.
-ghost use Rattle.std.specs.Prelude.{◌≡◌, ◌≤◌, [], length, ◌==◌, true, OnErr, IsOk, is_err};
+ghost use Rattle.std.specs.Prelude.{◌≡◌, ◌≤◌, [], length, ◌==◌, true, Some, OnErr, IsOk, is_err};
 ghost use Rattle.rm_base.specs.Count.{Rose};
 ghost use Rattle.rm_base.specs.Outside.{talking_told};
 ghost use Rattle.rm_link.specs.Lines.{Connects, brought};
 ghost use Rattle.rm_link.specs.Mem.{net_in_memory};
 
 use crate::link::Link;
+use crate::past::Past;
 use rm_base::{Failed, MemConn, Numbers};
 use std::marker::Model;
 use std::vec::IntoIter;
 
-/// A link that brings connections in memory, one after the other, and of whose calls those with chosen numbers fail.
+/// A link that brings connections in memory, one after the other, and of whose calls those with chosen numbers fail. It
+/// tells what it was asked for until memory is wanting to note it.
 #[derive(Debug, Drop)]
 pub struct MemLink {
     rest: IntoIter<MemConn>,
+    past: Past,
     fail_at: Numbers,
     calls: u64,
     faults: u64,
@@ -27,6 +30,7 @@ impl Model for MemLink {
 
     ghost view = { λ l. record {
       coming = into_iter_items l.rest;
+      past = l.past;
       fail_at = l.fail_at;
       calls = l.calls;
       faults = l.faults;
@@ -36,10 +40,18 @@ impl Model for MemLink {
 impl MemLink {
     /// A link that has these connections to come, and whose calls with these numbers fail, counted from 1.
     pub fn new(inputs: Vec<MemConn>, fail_at: Numbers) -> Self
-        ensures { result ≡ record { coming = inputs.items; fail_at = fail_at; calls = 0; faults = 0 } }
+        ensures { result ≡ record {
+          coming = inputs.items;
+          past = Some [];
+          fail_at = fail_at;
+          calls = 0;
+          faults = 0;
+        } }
     {
+        let past = Past::new(*inputs.allocator());
         MemLink {
             rest: inputs.into_iter(),
+            past,
             fail_at,
             calls: 0,
             faults: 0,
@@ -49,6 +61,7 @@ impl MemLink {
     // Counts a call, and a fault where the call is one of those that fail.
     fn count_call(&mut self) -> Result<(), Failed>
         ensures coming { self.new.coming ≡ self.old.coming }
+        ensures past { self.new.past ≡ self.old.past }
         ensures fail_at { self.new.fail_at ≡ self.old.fail_at }
         ensures never_falls { self.old.faults ≤ self.new.faults }
         ensures failed { OnErr result (Rose self.old.faults self.new.faults) }
@@ -64,7 +77,8 @@ impl MemLink {
 
     // The next connection, unless the call fails or there is none.
     fn next(&mut self) -> Result<MemConn, Failed>
-        ensures { Connects (net_in_memory self.old) (net_in_memory self.new) (brought talking_told result) }
+        ensures connects { Connects (net_in_memory self.old) (net_in_memory self.new) (brought talking_told result) }
+        ensures past { self.new.past ≡ self.old.past }
     {
         self.count_call()?;
         match self.rest.next() {
@@ -90,7 +104,12 @@ impl Link for MemLink {
         self.next()
     }
 
-    fn dial(&mut self, _host: &[u8], _port: u16) -> Result<MemConn, Failed> {
+    fn dial(&mut self, host: &[u8], port: u16) -> Result<MemConn, Failed> {
+        self.past.dialled(host, port);
         self.next()
+    }
+
+    fn hang_up(&mut self, conn: MemConn) {
+        self.past.hung_up(conn);
     }
 }

@@ -1,8 +1,10 @@
 //! One packet, posted to where its address says.
 ghost use Rattle.std.specs.Prelude.{◌≡◌, IfOk, OnErr};
 ghost use Rattle.http_endpoint.specs.Targets.{target_of};
+ghost use Rattle.http_endpoint.specs.Texts.{request_text};
+ghost use Rattle.rm_base.specs.Outside.{AppendsFront};
 ghost use Rattle.rm_link.specs.Lines.{line_of};
-ghost use Rattle.rm_link.specs.Posts.{Ends, IsBegun, IsBegunTo, IsPost, IsPostTo, ended_by};
+ghost use Rattle.rm_link.specs.Posts.{Ends, IsBegun, IsBegunTo, IsPost, IsPostTo, Writes, ended_by};
 
 use crate::link::Link;
 use http_endpoint::{
@@ -27,8 +29,8 @@ pub fn post<L: Link>(
     address: &Uri,
     bytes: &[u8],
 ) -> Result<Fate, Memory>
-    ensures posts { IfOk result (IsPost (L.told link.old) (L.told link.new) (target_of address.now)) }
-    ensures begins { OnErr result (IsBegun (L.told link.old) (L.told link.new) (target_of address.now)) }
+    ensures posts { IfOk result (IsPost (L.told link.old) (L.told link.new) (target_of address.now) bytes.now) }
+    ensures begins { OnErr result (IsBegun (L.told link.old) (L.told link.new) (target_of address.now) bytes.now) }
 {
     match read_target(alloc, address) {
         Ok(Some(target)) => post_to(alloc, link, &target, bytes),
@@ -46,11 +48,15 @@ fn post_to<L: Link>(
     target: &Target,
     bytes: &[u8],
 ) -> Result<Fate, Memory>
-    ensures posts { IfOk result (IsPostTo (L.told link.old) (L.told link.new)) }
-    ensures begins { OnErr result (IsBegunTo (L.told link.old) (L.told link.new)) }
+    ensures posts { IfOk result (IsPostTo (L.told link.old) (L.told link.new) target.now bytes.now) }
+    ensures begins { OnErr result (IsBegunTo (L.told link.old) (L.told link.new) target.now bytes.now) }
 {
     match link.dial(target.host.as_slice(), target.port) {
-        Ok(mut conn) => exchange(alloc, &mut conn, target, bytes),
+        Ok(mut conn) => {
+            let fate = exchange(alloc, &mut conn, target, bytes);
+            link.hang_up(conn);
+            fate
+        }
         Err(_) => Ok(Fate::Undialled),
     }
 }
@@ -62,7 +68,11 @@ fn exchange<C: Connection>(
     target: &Target,
     bytes: &[u8],
 ) -> Result<Fate, Memory>
-    ensures { IfOk result (Ends (line_of (C.Source.told conn.old))) }
+    ensures ends { IfOk result (Ends (line_of (C.Source.told conn.old))) }
+    ensures writes { IfOk result (Writes (line_of (C.Source.told conn.old)) (request_text target.now bytes.now)
+        (C.Source.told conn.new).held) }
+    ensures begins { OnErr result (AppendsFront (C.Source.told conn.old).held (C.Source.told conn.new).held
+        (request_text target.now bytes.now)) }
 {
     match write_request(alloc, conn, target, bytes) {
         Ok(()) => ended(read_response(alloc, conn)),

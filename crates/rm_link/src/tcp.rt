@@ -1,4 +1,4 @@
-//! Connections over TCP: the trusted edge of `Link`, over the sockets of std. It tells nothing of what comes.
+//! Connections over TCP: the trusted edge of `Link`, over the sockets of std. It tells nothing of what comes and goes.
 ghost use Rattle.std.specs.Prelude.{◌≡◌, ◌≤◌, None, false, OnOk, OnErr};
 ghost use Rattle.rm_base.specs.Count.{Rose};
 ghost use Rattle.rm_base.specs.Outside.{untold};
@@ -240,7 +240,7 @@ fn reached<R: Net<Listener = TcpListener, Stream = TcpStream>>(
 impl<R: Net<Listener = TcpListener, Stream = TcpStream> + Clock + Copy> Link for TcpLink<R> {
     type Conn = TcpConn<R>;
 
-    ghost told = { λ l. record { coming = None; faults = l.faults; sound = false } };
+    ghost told = { λ l. record { coming = None; past = None; faults = l.faults; sound = false } };
 
     fn listen(&mut self, port: u16) -> Result<(), Failed> {
         let outcome = bound(&self.net, port);
@@ -257,5 +257,9 @@ impl<R: Net<Listener = TcpListener, Stream = TcpStream> + Clock + Copy> Link for
     fn dial(&mut self, host: &[u8], port: u16) -> Result<TcpConn<R>, Failed> {
         let outcome = dialled(self.net, host, port);
         counted(&mut self.faults, &mut self.last, "connect", outcome)
+    }
+
+    fn hang_up(&mut self, conn: TcpConn<R>) {
+        drop(conn);
     }
 }

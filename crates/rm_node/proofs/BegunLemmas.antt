@@ -24,15 +24,16 @@ use Rattle.node_tables.specs.Reads.{outgoing_of}
 use Rattle.rm_protocol.specs.Calls.{Answer, Cause, Done, NoSequence, NotOpen, WrongSide, Wish, ask_out}
 use Rattle.rm_protocol.specs.Calls.{close_by, close_in, close_out, create, end, end_out, expired_from, if_room}
 use Rattle.rm_protocol.specs.Calls.{judged, may_end, nack_in, on_incoming, on_outgoing, receive}
-use Rattle.rm_protocol.specs.Calls.{refusal, send, send_out, tick}
+use Rattle.rm_protocol.specs.Calls.{Fetched, refusal, send, send_out, tick}
 use Rattle.rm_protocol.specs.Exact.{WhatBeginsWaits}
 use Rattle.rm_protocol.specs.Heard.{Heard}
+use Rattle.rm_protocol.specs.Polls.{awaited, fetches, selected}
 use Rattle.rm_protocol.specs.Recorded.{OnlyHeardIsRecorded}
 use Rattle.rm_protocol.specs.Rows.{rows}
 use Rattle.rm_protocol.specs.Terms.{Terms}
 use Rattle.rm_protocol.specs.Verdict.{has_room, verdict}
 use Rattle.rm_protocol.specs.Waiting.{begun_by, begun_of, key, no_moves}
-use Rattle.rm_node.specs.Asked.{Asked, Create, Send, Close, End, AskAck, NackMissing, Tick, Receive, answer_to}
+use Rattle.rm_node.specs.Asked.{Asked, Create, Send, Close, End, AskAck, NackMissing, Tick, Poll, Receive, answer_to}
 use Rattle.rm_node.specs.Ends.{is_refused}
 use Rattle.rm_node.specs.Keeping.{Keeping}
 use Rattle.rm_node.specs.Timed.{Begins, begun_with, of_outgoing}
@@ -70,6 +71,7 @@ adds-one : (r : List Fact) (begun : Option Key) (terms : Terms) (place : ℕ) (f
     → Starts r begun (if_room terms place (record {
       outcome = Done;
       delta = f ∷ [];
+      fetched = None;
       outs = outs;
       moves = no_moves;
     }))
@@ -224,6 +226,10 @@ receive-starts law terms r place now granted (Ok m) =
     judged-starts law terms r now granted m (verdict terms r place now granted m)
 receive-starts law terms r place now granted (Err refusal) = adds-none r _ refl refl
 
+-- what is fetched begins no key
+fetches-starts : (r : List Fact) (t : Option Fetched) (a : Answer) → Starts r None a → Starts r None (fetches t a)
+fetches-starts r t a h = record { time = h.time; begins = h.begins }
+
 -- ---- whatever is asked for
 
 -- the greatest moment that is asked for
@@ -260,8 +266,13 @@ leads heard law terms r place now kept (NackMissing seq) sound =
 leads heard law terms r place now kept (Tick moment) sound =
     let ticks = tick-ticks terms r place moment kept in
     record { begins = λ fit e. record { are = ticks.none; wait = tt }; time = ticks.time }
+leads heard law terms r place now kept (Poll to) sound =
+    leads-by law r (Poll to) _ refl sound (adds-none r _ refl refl)
 leads heard law terms r place now kept (Receive content) sound =
-    leads-by law r (Receive content) _ refl sound (receive-starts heard terms r place now kept.granted content)
+    let answer = receive terms r place now kept.granted content in
+    leads-by law r (Receive content) _ refl sound
+    (fetches-starts r (awaited kept.polled (selected answer.outcome content)) answer
+    (receive-starts heard terms r place now kept.granted content))
 
 -- ---- an outgoing sequence, as the tables answer it
 

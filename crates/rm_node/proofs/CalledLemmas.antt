@@ -1,5 +1,6 @@
 -- What a call does to a node: it sleeps, or it changes nothing, or the records of its answer are written.
-use Rattle.std.proofs.Common.{◌≡◌, inl, inr, ℕ, Bool, true, false, List, ◌++◌, Option, refl, sym, subst, arith}
+use Rattle.std.proofs.Common.{◌≡◌, inl, inr, ℕ, Bool, true, false, List, [], ◌++◌, Option, refl, sym, ap, subst}
+use Rattle.std.proofs.Common.{arith}
 use Rattle.std.specs.Prelude.{IsTrue, MatchBool, Err}
 use Rattle.std.specs.List.{AllByRecursion}
 use Rattle.batch_size.specs.Room.{HasRoom}
@@ -10,6 +11,8 @@ use Rattle.rm_timers.specs.declared.timers.Key.{Key}
 use Rattle.rm_disk.specs.ImageLemmas.{only_from}
 use Rattle.rm_journal.specs.JournalState.{end_of}
 use Rattle.sequence_table.specs.Words.{Text}
+use Rattle.make_connection.specs.Waiting.{Pended, Waiting}
+use Rattle.rm_message.specs.declared.message.Message.{Message}
 use Rattle.rm_protocol.specs.Calls.{Answer, Outcome}
 use Rattle.node_laws.specs.Records.{IsKept}
 use Rattle.rm_disk.specs.Cause.{HasCause}
@@ -23,12 +26,17 @@ use Rattle.node_store.specs.declared.error.StoreError.TheVariants as store
 use Rattle.rm_node.specs.Called.{Called, Does, EndsBy, Sleeps, StaysANode, Wrote}
 use Rattle.rm_node.specs.Ends.{Ended, Handed, Wanted, WasDown, error_end, is_disk}
 use Rattle.rm_node.specs.Failed.{stored_error}
-use Rattle.rm_node.specs.Noded.{Noded}
+use Rattle.rm_node.specs.Noded.{Noded, told}
 use Rattle.rm_node.specs.Packets.{outs_of, reply_of}
 use Rattle.rm_node.specs.Timed.{MayBeWritten}
 use Rattle.rm_node.specs.declared.error.NodeError.{NodeError}
 use Rattle.rm_node.specs.declared.error.NodeError.TheVariants as error
+use Rattle.rm_node.specs.declared.kept.Kept.{Kept}
 use Rattle.rm_node.specs.declared.packets.Out.{Out}
+
+-- a node by what it is made of
+abbrev pub noded : Stored → Kept → Noded
+noded s k = record { stored = s; kept = told k }
 
 -- ---- nothing happened
 
@@ -46,6 +54,12 @@ still_changes first s delta = record {
 pub unfaulted : (n : ℕ) → HasCause n n false
 unfaulted n = record { later = omega arith; cause = refl }
 
+-- room for messages that are to wait is told to nobody
+pub untold : (s : Stored) (k : Kept) (p : Pended Message) → p.waits ≡ k.polled.waits
+    → noded s (record k { polled = p }) ≡ noded s k
+untold s k p e =
+    ap (λ (w : Waiting Message). noded s (record k { polled = record { waits = w; ready = [] } })) e
+
 -- a call that changes nothing, whatever its answer
 pub still : (tells : Bool) (first : Told) (old : Noded) (answer : Answer)
     → Wrote tells first first old old answer false false
@@ -57,15 +71,16 @@ still tells first old answer = record {
 }
 
 -- the batch was not written: no key moves
-pub writes-not : (tells : Bool) (first now : Told) (old : Noded) (new : Stored) (answer : Answer) (e : StoreError)
-    → new ≡ stored_after old.stored answer.delta false (store_failed {T = Unit {0}} (Err e))
-    → (IsTrue tells → Changes first now old.stored new answer.delta false (store_failed {T = Unit {0}} (Err e)))
-    → HasCause first.faults now.faults (store_failed {T = Unit {0}} (Err e))
+pub writes-not : (T : Type 0) (tells : Bool) (first now : Told) (old : Noded) (new : Stored) (answer : Answer)
+    (e : StoreError)
+    → new ≡ stored_after old.stored answer.delta false (store_failed {T = T} (Err e))
+    → (IsTrue tells → Changes first now old.stored new answer.delta false (store_failed {T = T} (Err e)))
+    → HasCause first.faults now.faults (store_failed {T = T} (Err e))
     → Wrote tells first now old (record { stored = new; kept = old.kept }) answer false
     (is_disk {T = Unit {0}} (Err (stored_error e)))
-writes-not tells first now old new answer store.Memory stored changes cause =
+writes-not T tells first now old new answer store.Memory stored changes cause =
     record { kept = refl; stored = stored; changes = changes; cause = cause }
-writes-not tells first now old new answer store.Disk stored changes cause =
+writes-not T tells first now old new answer store.Disk stored changes cause =
     record { kept = refl; stored = stored; changes = changes; cause = cause }
 
 -- ---- one batch more
@@ -129,7 +144,7 @@ by-answer tells connected first now old new a answer ended up same called =
 pub goes-well : (tells connected : Bool) (first now : Told) (old new : Noded) (a answer : Answer) (outcome : Outcome)
     (reply : Option Text) (outs : List Out) → old.stored.journal.is_down ≡ false → a ≡ answer
     → StaysANode first old a → Wrote tells first now old new a true false → outcome ≡ a.outcome
-    → reply ≡ reply_of connected a.outs → outs ≡ outs_of a.outs
+    → reply ≡ reply_of connected a → outs ≡ outs_of a.outs
     → Does tells connected first now old new answer (Handed outcome reply outs)
 goes-well tells connected first now old new a answer outcome reply outs up same stays wrote comes back out =
     by-answer tells connected first now old new a answer (Handed outcome reply outs) up same

@@ -1,6 +1,7 @@
 pub mod BegunLemmas
 pub mod CalledLemmas
 pub mod ComesLemmas
+pub mod FetchLemmas
 pub mod PacketLemmas
 pub mod ReadLemmas
 pub mod ReplyLemmas

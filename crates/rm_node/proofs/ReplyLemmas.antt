@@ -1,7 +1,8 @@
 -- Of all that is said to a message, one goes back on the connection at most, and it comes first.
 use Rattle.std.proofs.Common.{◌≡◌, ◌∙◌, ℕ, Bool, true, false, cond, List, [], ◌∷◌, ◌++◌, Option, Some, None, Result}
 use Rattle.std.proofs.Common.{Ok, Err, refl, sym, ap, subst}
-use Rattle.std.specs.List.{AllByRecursion}
+use Rattle.std.specs.Prelude.{not}
+use Rattle.std.specs.List.{AllByRecursion, filter}
 use Rattle.std.proofs.lemmas.Slice.Eq.{bytes_eq-Decides}
 use Rattle.soap_envelope.specs.Soap.{soap_space}
 use Rattle.message_writer.specs.Text.{message_text}
@@ -20,20 +21,25 @@ use Rattle.sequence_table.specs.Makers.{Maker, Outgoing, Offered, Incoming, Take
 use Rattle.sequence_table.specs.Words.{Text}
 use Rattle.rm_protocol.specs.Addresses.{Nowhere, Waits, Out as GoesOut, anonymous, is_anonymous}
 use Rattle.rm_protocol.specs.Addresses.{is_nowhere, is_polled, place_of, reply_endpoint}
-use Rattle.rm_protocol.specs.Calls.{judged, receive}
+use Rattle.rm_protocol.specs.Calls.{Answer, Fetched, judged, receive}
 use Rattle.rm_protocol.specs.Messages.{ack_message}
+use Rattle.rm_protocol.specs.Polls.{awaited, blocks_back, fetches, goes_back, selected}
 use Rattle.rm_protocol.specs.Rows.{rows}
 use Rattle.rm_protocol.specs.Said.{Ack, acks_said, answered, back_blocks, back_message, create_response}
 use Rattle.rm_protocol.specs.Said.{find_grant_of, finish_response, grant_response, leaves, own_messages, responses}
 use Rattle.rm_protocol.specs.Said.{with_blocks}
 use Rattle.rm_protocol.specs.Terms.{Terms}
 use Rattle.rm_protocol.specs.Verdict.{verdict}
+use Rattle.call_answers.specs.Answers.{wish_seen}
 use Rattle.rm_node.specs.Asked.{Asked, Asks, answer_to, is_connected}
 use Rattle.rm_node.specs.Keeping.{Keeping}
-use Rattle.rm_node.specs.Packets.{IsReplyFirst, back_text, outs_of, packet_of, packets_of, reply_packet}
+use Rattle.rm_node.specs.Packets.{IsReplyFirst, back_text, fetched_packet, outs_of, packet_of, packets_of}
+use Rattle.rm_node.specs.Packets.{reply_packet}
 use Rattle.rm_node.specs.declared.call.Call.{Call}
 use Rattle.rm_node.specs.declared.call.Call.TheVariants as call
 use Rattle.rm_node.specs.declared.packets.Out.{Out}
+use Rattle.rm_node.proofs.ComesLemmas.{ask-done, close-done, create-done, end-done, nack-done, poll-done, send-done}
+use Rattle.rm_node.proofs.ComesLemmas.{tick-done}
 use Rattle.rm_node.proofs.PacketLemmas.{leaves-first, stays-out}
 
 -- ---- lists of messages
@@ -46,6 +52,10 @@ NoneBack ms = AllByRecursion (λ (m : Message). is_anonymous m.addressing.to ≡
 abbrev FirstBack : List Message → Type 0
 FirstBack [] = Unit {0}
 FirstBack (m ∷ ms) = NoneBack ms
+
+-- what goes back is the first of what leaves
+abbrev IsFirst : List Message → Type 0
+IsFirst ms = reply_packet (back_text ms) ++ outs_of ms ≡ packets_of true ms
 
 -- one that isn't leaves with a connection where it leaves without
 leaves-same : (to : Text) → is_anonymous to ≡ false → leaves true (place_of to) ≡ leaves false (place_of to)
@@ -76,7 +86,7 @@ none-more (m ∷ ms) h =
 
 -- the first is the reply
 back-comes : (m : Message) (ms : List Message) → NoneBack ms → is_anonymous m.addressing.to ≡ true
-    → IsReplyFirst true (m ∷ ms)
+    → IsFirst (m ∷ ms)
 back-comes m ms h e =
     let text = message_text soap_space m in
     let packet : record { address = anonymous; bytes = text } ≡ packet_of m =
@@ -91,15 +101,15 @@ back-comes m ms h e =
     ∙ sym (leaves-first true m ms goes)
 
 -- there is none
-none-comes : (ms : List Message) → NoneBack ms → IsReplyFirst true ms
+none-comes : (ms : List Message) → NoneBack ms → IsFirst ms
 none-comes ms h =
     ap (λ (t : Option Text). reply_packet t ++ outs_of ms) (none-text ms h) ∙ sym (none-more ms h)
 
-ordered : (ms : List Message) → FirstBack ms → IsReplyFirst true ms
+ordered : (ms : List Message) → FirstBack ms → IsFirst ms
 ordered [] h = refl
 ordered (m ∷ ms) h =
     elim (is_anonymous m.addressing.to) as (λ (b : Bool). is_anonymous m.addressing.to ≡ b
-    → IsReplyFirst true (m ∷ ms)) [
+    → IsFirst (m ∷ ms)) [
       | true ↦ λ e. back-comes m ms h e
       | false ↦ λ e. none-comes (m ∷ ms) (e, h)
     ] refl
@@ -193,17 +203,59 @@ receive-first terms r place now granted (Ok m) =
     judged-first terms r now granted m (verdict terms r place now granted m)
 receive-first terms r place now granted (Err refusal) = tt
 
+-- ---- what is fetched
+
+-- none of what is said beside a message that was fetched
+filtered-none : (ms : List Message) → NoneBack (filter (λ (m : Message). not (goes_back m)) ms)
+filtered-none [] = tt
+filtered-none (m ∷ ms) =
+    let rest = filter (λ (x : Message). not (goes_back x)) ms in
+    elim (is_anonymous m.addressing.to) as (λ (b : Bool). is_anonymous m.addressing.to ≡ b
+    → NoneBack (cond (not b) (m ∷ rest) rest)) [
+      | true ↦ λ e. filtered-none ms
+      | false ↦ λ e. (e, filtered-none ms)
+    ] refl
+
+-- a message that was fetched is the reply
+fetches-first : (t : Option Fetched) (a : Answer) → FirstBack a.outs → IsReplyFirst true (fetches t a)
+fetches-first None a h = ordered a.outs h
+fetches-first (Some t) a h =
+    let reply = with_blocks t.message (blocks_back a.outs) in
+    let rest = filter (λ (m : Message). not (goes_back m)) a.outs in
+    ap (λ (ps : List Out). record { address = anonymous; bytes = message_text soap_space reply } ∷ ps)
+    (sym (none-more rest (filtered-none a.outs)))
+
+-- ---- whatever is asked for
+
+-- a call that fetches nothing, without a connection
+alone-first : (asked x : Asked) (answer : Asked → Answer) → asked ≡ x → (answer x).fetched ≡ None
+    → IsReplyFirst false (answer asked)
+alone-first asked x answer is none =
+    subst (λ (y : Asked). IsReplyFirst false (answer y)) (sym is)
+    (ap (λ (t : Option Fetched). fetched_packet t ++ outs_of (answer x).outs) (sym none))
+
 -- the reply comes first
 pub comes-first : (terms : Terms) (r : List Fact) (place now : ℕ) (kept : Keeping) (call : Call) (asked : Asked)
-    → Asks call asked → IsReplyFirst (is_connected call) (answer_to terms r place now kept asked).outs
-comes-first terms r place now kept (call.Create wish) asked is = refl
-comes-first terms r place now kept (call.Send seq payload) asked is = refl
-comes-first terms r place now kept (call.Close seq) asked is = refl
-comes-first terms r place now kept (call.End seq) asked is = refl
-comes-first terms r place now kept (call.AskAck seq) asked is = refl
-comes-first terms r place now kept (call.NackMissing seq) asked is = refl
-comes-first terms r place now kept (call.Tick moment) asked is = refl
+    → Asks call asked → IsReplyFirst (is_connected call) (answer_to terms r place now kept asked)
+comes-first terms r place now kept (call.Create wish) asked is =
+    alone-first asked _ (answer_to terms r place now kept) is (create-done terms r place (wish_seen wish)).alone
+comes-first terms r place now kept (call.Send seq payload) asked is =
+    alone-first asked _ (answer_to terms r place now kept) is (send-done terms r place seq payload).alone
+comes-first terms r place now kept (call.Close seq) asked is =
+    alone-first asked _ (answer_to terms r place now kept) is (close-done terms r place seq now).alone
+comes-first terms r place now kept (call.End seq) asked is =
+    alone-first asked _ (answer_to terms r place now kept) is (end-done terms r place seq).alone
+comes-first terms r place now kept (call.AskAck seq) asked is =
+    alone-first asked _ (answer_to terms r place now kept) is (ask-done r seq).alone
+comes-first terms r place now kept (call.NackMissing seq) asked is =
+    alone-first asked _ (answer_to terms r place now kept) is (nack-done r seq now).alone
+comes-first terms r place now kept (call.Tick moment) asked is =
+    alone-first asked _ (answer_to terms r place now kept) is
+    (tick-done terms r place moment kept.time kept.waits).alone
+comes-first terms r place now kept (call.Poll to) asked is =
+    alone-first asked _ (answer_to terms r place now kept) is (poll-done r to).alone
 comes-first terms r place now kept (call.Receive bytes) asked is =
-    subst (λ (x : Asked). IsReplyFirst true (answer_to terms r place now kept x).outs) (sym is.is)
-    (ordered (receive terms r place now kept.granted is.content).outs
+    let answer = receive terms r place now kept.granted is.content in
+    subst (λ (x : Asked). IsReplyFirst true (answer_to terms r place now kept x)) (sym is.is)
+    (fetches-first (awaited kept.polled (selected answer.outcome is.content)) answer
     (receive-first terms r place now kept.granted is.content))

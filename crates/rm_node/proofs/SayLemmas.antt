@@ -1,5 +1,5 @@
 -- What a node says may be written, whatever it is asked for.
-use Rattle.std.proofs.Common.{◌≡◌, ◌≤◌, ℕ, true, false, List, Option, sym, subst, arith}
+use Rattle.std.proofs.Common.{◌≡◌, ◌≤◌, ℕ, true, false, List, Option, refl, sym, subst, arith}
 use Rattle.std.specs.Prelude.{OnOk, Result, Ok, Err}
 use Rattle.rm_base.specs.Limits as limits
 use Rattle.rm_timers.specs.declared.timers.Key.{Key}
@@ -14,12 +14,14 @@ use Rattle.node_laws.specs.OwnTerms.{AreOwn}
 use Rattle.node_laws.specs.Records.{IsKept}
 use Rattle.call_answers.specs.Answers.{MayBeStored, wish_seen}
 use Rattle.rm_node.specs.CameLemmas.{ReadsRight, RefusesRight, content_read}
-use Rattle.rm_node.specs.Asked.{Asked, Asks, MayBeAsked, answer_to}
-use Rattle.rm_node.specs.Asked.{Create, Send, Close, End, AskAck, NackMissing, Tick, Receive}
+use Rattle.rm_node.specs.Asked.{Asked, Asks, MayBeAsked, answer_to, is_connected}
+use Rattle.rm_node.specs.Asked.{Create, Send, Close, End, AskAck, NackMissing, Tick, Poll, Receive}
 use Rattle.rm_node.specs.Ends.{is_refused}
-use Rattle.rm_node.specs.Keeping.{Keeping}
+use Rattle.rm_node.specs.Keeping.{Keeping, Keeps}
+use Rattle.rm_node.specs.Noded.{told}
 use Rattle.rm_node.specs.Timed.{Begins, MayBeWritten, begun_with}
 use Rattle.rm_node.specs.declared.call.Call.{Call}
+use Rattle.rm_node.specs.declared.kept.Kept.{Kept}
 use Rattle.rm_node.specs.declared.call.Call.TheVariants as call
 use Rattle.rm_node.proofs.BegunLemmas.{Leads, leads, moment_of}
 
@@ -27,6 +29,22 @@ use Rattle.rm_node.proofs.BegunLemmas.{Leads, leads, moment_of}
 pub given : {T E : Type 0} (r : Result T E) (P : Type 0) → P → OnOk r P
 given (Ok x) P p = p
 given (Err e) P p = tt
+
+-- what is not told of what a node keeps doesn't matter
+pub inside_keeps : (k : Kept) (kept : Keeping) → Keeps (told k) kept → Keeps k kept
+inside_keeps k kept h = record { granted = h.granted; waits = h.waits; time = h.time; polled = h.polled }
+
+-- a call that is no message comes on no connection
+pub not_received : (c : Call) → ((bytes : _) → c ≡ call.Receive bytes → ⊥) → is_connected c ≡ false
+not_received (call.Receive bytes) h = absurd (h bytes refl)
+not_received (call.Create wish) h = refl
+not_received (call.Send seq payload) h = refl
+not_received (call.Close seq) h = refl
+not_received (call.End seq) h = refl
+not_received (call.AskAck seq) h = refl
+not_received (call.NackMissing seq) h = refl
+not_received (call.Tick now) h = refl
+not_received (call.Poll to) h = refl
 
 -- the records of each answer leave a node
 leaves_each : ReadsRight → RefusesRight → (terms : Terms) (r : List Fact) (place now : ℕ) (kept : Keeping)
@@ -48,6 +66,8 @@ leaves_each reads refuses terms r place now kept (call.NackMissing seq) asked in
 leaves_each reads refuses terms r place now kept (call.Tick moment) asked in_order may is each =
     subst (λ (x : Asked). LeavesANode r (answer_to terms r place now kept x)) (sym is)
     (each.tick_ moment kept.time kept.waits)
+leaves_each reads refuses terms r place now kept (call.Poll to) asked in_order may is each =
+    subst (λ (x : Asked). LeavesANode r (answer_to terms r place now kept x)) (sym is) (each.poll_ to may)
 leaves_each reads refuses terms r place now kept (call.Receive bytes) asked in_order may is each =
     subst (λ (x : Asked). LeavesANode r (answer_to terms r place now kept x)) (sym is.is)
     (each.receive_ now kept.granted is.content in_order (content_read reads refuses bytes.now is.content is.read))
@@ -67,6 +87,7 @@ in_time (call.End seq) asked may is = early asked (End seq) is from_zero
 in_time (call.AskAck seq) asked may is = early asked (AskAck seq) is from_zero
 in_time (call.NackMissing seq) asked may is = early asked (NackMissing seq) is from_zero
 in_time (call.Tick moment) asked may is = early asked (Tick moment) is may
+in_time (call.Poll to) asked may is = early asked (Poll to) is from_zero
 in_time (call.Receive bytes) asked may is = early asked (Receive is.content) is.is from_zero
 
 -- so the answer that the code worked out may be written

@@ -9,13 +9,13 @@ use Rattle.sequence_table.specs.Words.{Text}
 use Rattle.rm_protocol.specs.Calls.{Answer, Done, Outcome}
 use Rattle.rm_protocol.specs.Terms.{Terms}
 use Rattle.node_laws.specs.OwnTerms.{AreOwn, ThereAreOwnTerms}
-use Rattle.call_answers.specs.Answers.{seen}
 use Rattle.rm_node.specs.Asked.{Asked, Asks, is_connected}
 use Rattle.rm_node.specs.Called.{Called, Does, EndsBy, Sleeps, StaysANode, Steps, Wrote, answer_of}
 use Rattle.rm_node.specs.Ends.{Ended, Handed, Wanted, WasDown, error_end, is_broken, is_disk, is_refused, reaction_end}
 use Rattle.rm_node.specs.Ends.{verdict_outcome}
 use Rattle.rm_node.specs.declared.error.NodeError.{NodeError}
 use Rattle.rm_node.specs.declared.error.NodeError.TheVariants as error
+use Rattle.rm_node.specs.Fetching.{whole}
 use Rattle.rm_node.specs.Keeping.{Keeping}
 use Rattle.rm_node.specs.Noded.{Noded, Runs}
 use Rattle.rm_node.specs.Packets.{reply_of}
@@ -64,11 +64,11 @@ step_unsaid tells first old moment call (error.Refused cause) ended runs unsaid 
 
 -- all went well
 pub step_well : (tells : Bool) (first now : Told) (old new : Noded) (moment : ℕ) (call : Call) (said : Said)
-    (outcome : Outcome) → Runs old → Says old moment call said → StaysANode first old (seen said.answer)
-    → Wrote tells first now old new (seen said.answer) true false → outcome ≡ (seen said.answer).outcome
+    (outcome : Outcome) → Runs old → Says old moment call said → StaysANode first old (whole said.answered)
+    → Wrote tells first now old new (whole said.answered) true false → outcome ≡ (whole said.answered).outcome
     → Steps tells first now old new moment call (Handed outcome said.handed.reply said.handed.outs)
 step_well tells first now old new moment call said outcome runs says stays wrote comes = record {
-  does = λ terms own kept keeps asked is. goes-well tells (is_connected call) first now old new (seen said.answer) _
+  does = λ terms own kept keeps asked is. goes-well tells (is_connected call) first now old new (whole said.answered) _
       outcome said.handed.reply said.handed.outs says.up (says.is terms own kept keeps asked is) stays wrote comes
       says.reply says.outs;
   runs = runs;
@@ -79,12 +79,12 @@ step_well tells first now old new moment call said outcome runs says stays wrote
 -- it failed
 pub step_fails : (tells : Bool) (first now : Told) (old new : Noded) (moment : ℕ) (call : Call) (said : Said)
     (e : NodeError) (ended : Ended) → Runs old → Says old moment call said
-    → StaysANode first old (seen said.answer)
-    → Wrote tells first now old new (seen said.answer) false (is_disk {T = Unit {0}} (Err e))
-    → EndsBy false (seen said.answer) (error_end e) → ended ≡ error_end e
+    → StaysANode first old (whole said.answered)
+    → Wrote tells first now old new (whole said.answered) false (is_disk {T = Unit {0}} (Err e))
+    → EndsBy false (whole said.answered) (error_end e) → ended ≡ error_end e
     → Steps tells first now old new moment call ended
 step_fails tells first now old new moment call said e ended runs says stays wrote ends is = record {
-  does = λ terms own kept keeps asked asks. fails tells (is_connected call) first now old new (seen said.answer) _ e
+  does = λ terms own kept keeps asked asks. fails tells (is_connected call) first now old new (whole said.answered) _ e
       ended is says.up (says.is terms own kept keeps asked asks) stays wrote ends;
   runs = runs;
   cause = subst (λ (b : Bool). HasCause first.faults now.faults b) (broken_by (Unit {0}) e ∙ ap is_broken (sym is))
@@ -149,7 +149,7 @@ plain tells first now old new moment call asked reaction there asks none is_done
     let ends = ended_by tells (is_connected call) first now old new answer outcome reaction.reply reaction.outs does in
     let taken = was_taken tells (is_connected call) first now old new answer reaction.verdict reaction.reply
     reaction.outs does in
-    let silent : reaction.reply ≡ None = ends.1 ∙ ap (λ (b : Bool). reply_of b answer.outs) none in
+    let silent : reaction.reply ≡ None = ends.1 ∙ ap (λ (b : Bool). reply_of b answer) none in
     subst (λ (e : Ended). Steps tells first now old new moment call e)
     (ap (λ (reply : Option Text). Handed outcome reply reaction.outs) silent
     ∙ ap (λ (o : Outcome). Handed o None reaction.outs) (ends.0 ∙ (is_done own.0 kept).done taken)) steps

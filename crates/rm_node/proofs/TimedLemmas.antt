@@ -21,6 +21,9 @@ use Rattle.rm_protocol.specs.Exact.{AreExactly, IsExactAtFirst, StaysExact}
 use Rattle.rm_protocol.specs.Calls.{Answer}
 use Rattle.record_batch.specs.Fact.{Fact}
 use Rattle.sequence_table.specs.Fits.{all_fit}
+use Rattle.make_connection.specs.Waiting.{Waiting}
+use Rattle.rm_message.specs.declared.message.Message.{Message}
+use Rattle.rm_protocol.specs.Polls.{polled_after}
 use Rattle.rm_protocol.specs.WaitLemmas.{all-wait}
 use Rattle.rm_protocol.specs.Waiting.{Moves as KeyMoves, begun_by, is_waiting, mounted_waits, still, waiting_keys}
 use Rattle.rm_protocol.specs.Waiting.{waits_after}
@@ -100,31 +103,33 @@ pub record Grown (old : Noded) (a : Answer) (begun : Option Key) (now : List Fac
   pub touched : touched_ ≡ flat_map touched_by a.delta
 
 -- what is kept after a call that went well
-pub kept-well : OnlyTheTouched → (old : Noded) (a : Answer) (begun : Option Key) (new : Keyed) (now : List Fact)
+pub kept-well : OnlyTheTouched → (old : Noded) (a : Answer) (begun : Option Key) (new : Kept) (now : List Fact)
     (touched : List Touched) → IsTimed old.stored.records old.kept.timers → Grown old a begun now touched
-    → Moves old.kept.timers new (changed now touched begun a.moves.urged a.moves.emitted
-    (max old.kept.timers.time a.moves.time)) → new.time ≡ max old.kept.timers.time a.moves.time
-    → (kept : Keeping) → Keeps old.kept kept
-    → Keeps (record { granted = old.kept.granted; timers = new }) (kept_after old.stored.records a kept)
-kept-well law old a begun new now touched timed grown steps passed kept keeps =
+    → new.granted ≡ old.kept.granted → Moves old.kept.timers new.timers (changed now touched begun a.moves.urged
+    a.moves.emitted (max old.kept.timers.time a.moves.time))
+    → new.timers.time ≡ max old.kept.timers.time a.moves.time
+    → new.polled.waits ≡ polled_after old.kept.polled.waits a → (kept : Keeping) → Keeps old.kept kept
+    → Keeps new (kept_after old.stored.records a kept)
+kept-well law old a begun new now touched timed grown same steps passed polled kept keeps =
     let r = old.stored.records in
     let time = max old.kept.timers.time a.moves.time in
     let later : time ≡ max kept.time a.moves.time = ap (λ (t : ℕ). max t a.moves.time) keeps.time in
     record {
-      granted = keeps.granted;
-      waits = subst (StandsFor new)
+      granted = same ∙ keeps.granted;
+      waits = subst (StandsFor new.timers)
           (ap (λ (l : List Fact). changed l touched begun a.moves.urged a.moves.emitted time kept.waits) grown.records
           ∙ changed-is law r a.delta touched begun a.moves time kept.waits grown.may.stored.fit grown.touched
           grown.begins.are (exact-waits r old.kept.timers kept.waits timed.exact keeps.waits)
           ∙ ap (λ (t : ℕ). waits_after r a.delta a.moves t kept.waits) later) (steps kept.waits keeps.waits);
       time = passed ∙ later;
+      polled = polled ∙ ap (λ (w : Waiting Message). polled_after w a) keeps.polled;
     }
 
 -- what a node keeps
 keeping-of : (n : Noded) → IsTimed n.stored.records n.kept.timers → IsKeeping n.kept
 keeping-of n timed = (
-  record { granted = n.kept.granted; waits = timed.waits; time = n.kept.timers.time },
-  record { granted = refl; waits = timed.stands; time = refl },
+  record { granted = n.kept.granted; waits = timed.waits; time = n.kept.timers.time; polled = n.kept.polled.waits },
+  record { granted = refl; waits = timed.stands; time = refl; polled = refl },
 )
 
 -- what holds of it
@@ -137,23 +142,22 @@ runs n right = record {
 }
 
 -- the node's keys are exact after it
-pub timed-well : StaysExact → (old : Noded) (a : Answer) (begun : Option Key) (new : Keyed) (now : List Fact)
+pub timed-well : StaysExact → (old : Noded) (a : Answer) (begun : Option Key) (new : Kept) (now : List Fact)
     (touched : List Touched) → IsTimed old.stored.records old.kept.timers → Grown old a begun now touched
-    → ((kept : Keeping) → Keeps old.kept kept
-    → Keeps (record { granted = old.kept.granted; timers = new }) (kept_after old.stored.records a kept))
-    → IsTimed now new
+    → ((kept : Keeping) → Keeps old.kept kept → Keeps new (kept_after old.stored.records a kept))
+    → IsTimed now new.timers
+unfolding keeping-of
 timed-well law old a begun new now touched timed grown keeps =
     let r = old.stored.records in
     let time = max old.kept.timers.time a.moves.time in
     let after = waits_after r a.delta a.moves time timed.waits in
-    let was : Keeping = record { granted = old.kept.granted; waits = timed.waits; time = old.kept.timers.time } in
-    let keeps_was : Keeps old.kept was = record { granted = refl; waits = timed.stands; time = refl } in
-    let stands : StandsFor new after = (keeps was keeps_was).waits in
-    subst (λ (l : List Fact). IsTimed l new) (sym grown.records) (record {
+    let keeping = keeping-of old timed in
+    let stands : StandsFor new.timers after = (keeps keeping.0 keeping.1).waits in
+    subst (λ (l : List Fact). IsTimed l new.timers) (sym grown.records) (record {
       kept = grown.may.leaves;
       waits = after;
       stands = stands;
-      exact = exact-cells (r ++ a.delta) new after stands
+      exact = exact-cells (r ++ a.delta) new.timers after stands
           (law r a.delta a.moves time timed.waits timed.kept.node.fit grown.may.stored.fit
           (begun-waits r a.delta begun grown.begins)
           (exact-waits r old.kept.timers timed.waits timed.exact timed.stands));
@@ -179,12 +183,6 @@ pub records-after : (s new : Stored) (delta : List Fact) → new ≡ stored_afte
     → new.records ≡ s.records ++ delta
 records-after s new [] e = ap (λ (x : Stored). x.records) e ∙ sym (append-nil s.records)
 records-after s new (f ∷ delta) e = ap (λ (x : Stored). x.records) e
-
--- and after one that failed
-pub timed-still : (s new : Stored) (delta : List Fact) (failed : Bool) (k : Kept)
-    → new ≡ stored_after s delta false failed → IsKeptRight s.records k → IsKeptRight new.records k
-timed-still s new delta true k e right = subst (λ (x : Stored). IsKeptRight x.records k) (sym e) right
-timed-still s new delta false k e right = subst (λ (x : Stored). IsKeptRight x.records k) (sym e) right
 
 -- ---- room for the key that begins
 

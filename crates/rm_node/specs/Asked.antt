@@ -1,12 +1,14 @@
 -- A call of a node, and the protocol's.
 use Rattle.std.specs.Prelude.{◌≡◌, ◌≤◌, ℕ, Bool, true, false, List, Result}
 use Rattle.rm_base.specs.Limits as limits
+use Rattle.rm_base.specs.Text.{IsText}
 use Rattle.record_batch.specs.Fact.{Fact}
 use Rattle.rm_message.specs.declared.message.Message.{Message}
 use Rattle.rm_message.specs.declared.refusal.Refusal.{Refusal}
 use Rattle.sequence_table.specs.Words.{Text}
 use Rattle.rm_protocol.specs.Calls as protocol
 use Rattle.rm_protocol.specs.Calls.{Answer, Wish}
+use Rattle.rm_protocol.specs.Polls as polled
 use Rattle.rm_protocol.specs.Terms.{Terms}
 use Rattle.node_laws.specs.Read.{MayBeWished}
 use Rattle.call_answers.specs.Answers.{wish_seen}
@@ -23,6 +25,7 @@ pub data Asked : Type 0 where
   End : (seq : ℕ) → Asked
   AskAck : (seq : ℕ) → Asked
   NackMissing : (seq : ℕ) → Asked
+  Poll : (to : Text) → Asked
   Tick : (now : ℕ) → Asked
   Receive : (content : Result Message Refusal) → Asked
 
@@ -35,7 +38,9 @@ answer_to terms r place now kept (End seq) = protocol.end terms r place seq
 answer_to terms r place now kept (AskAck seq) = protocol.ask_ack r seq
 answer_to terms r place now kept (NackMissing seq) = protocol.nack_missing r seq now
 answer_to terms r place now kept (Tick moment) = protocol.tick terms r place moment kept.time kept.waits
-answer_to terms r place now kept (Receive content) = protocol.receive terms r place now kept.granted content
+answer_to terms r place now kept (Poll to) = polled.poll r to
+answer_to terms r place now kept (Receive content) =
+    polled.polls kept.polled content (protocol.receive terms r place now kept.granted content)
 
 -- bytes that come are read so
 pub record IsReceived (bytes : List ℕ) (asked : Asked) : Type 0 where
@@ -51,6 +56,7 @@ Asks (call.Close seq) asked = asked ≡ Close seq
 Asks (call.End seq) asked = asked ≡ End seq
 Asks (call.AskAck seq) asked = asked ≡ AskAck seq
 Asks (call.NackMissing seq) asked = asked ≡ NackMissing seq
+Asks (call.Poll to) asked = asked ≡ Poll to
 Asks (call.Tick now) asked = asked ≡ Tick now
 Asks (call.Receive bytes) asked = IsReceived bytes.now asked
 
@@ -58,11 +64,12 @@ Asks (call.Receive bytes) asked = IsReceived bytes.now asked
 abbrev pub IsAsked : Call → Type 0
 IsAsked this = (asked : Asked) × Asks this asked
 
--- what a node may be asked for: it can be written, no sequence of NoDiscard is offered, and a tick is no later than the
--- last moment
+-- what a node may be asked for: it can be written, no sequence of NoDiscard is offered, a tick is no later than the
+-- last moment, and an address is one
 abbrev pub MayBeAsked : Call → Type 0
 MayBeAsked (call.Create wish) = MayBeWished (wish_seen wish)
 MayBeAsked (call.Tick now) = now ≤ limits.now_max
+MayBeAsked (call.Poll to) = IsText 2048 to
 MayBeAsked _ = Unit {0}
 
 -- it comes on a connection

@@ -18,12 +18,13 @@ use Rattle.rm_node.specs.Noded.{Noded, Runs}
 use Rattle.rm_node.specs.Packets.{outs_of, reply_of}
 use Rattle.rm_node.specs.declared.call.Call.{Call}
 
--- how a call with this answer may end. What is handed out is the text of what is said: the reply is the message for the
--- connection, and no other packet is for that. It comes only where all went well; a refusal is the answer's own; the
--- disk fails only where there are records to be written; a node that is up isn't down
+-- how a call with this answer may end. What is handed out is the text of what is said: the reply is the message that
+-- was fetched, or else the one for the connection, and no other packet is for that. It comes only where all went well;
+-- a refusal is the answer's own; the disk fails only where there are records to be written; a node that is up isn't
+-- down
 abbrev pub EndsBy : Bool → Answer → Ended → Type 0
 EndsBy connected answer (Handed outcome reply outs) =
-    (outcome ≡ answer.outcome) × (reply ≡ reply_of connected answer.outs) × (outs ≡ outs_of answer.outs)
+    (outcome ≡ answer.outcome) × (reply ≡ reply_of connected answer) × (outs ≡ outs_of answer.outs)
 EndsBy connected answer (Refused cause) = answer.outcome ≡ RefusedWith cause
 EndsBy connected answer Wanted = Unit {0}
 EndsBy connected answer Broke = answer.delta ≢ []

@@ -4,6 +4,7 @@ pub mod CameLemmas
 pub mod Called
 pub mod Ends
 pub mod Failed
+pub mod Fetching
 pub mod Keeping
 pub mod Noded
 pub mod Packets

@@ -3,9 +3,9 @@ use Rattle.std.specs.Prelude.{◌≡◌, ℕ, true, false}
 use Rattle.rm_journal.specs.JournalState.{end_of}
 use Rattle.rm_protocol.specs.Terms.{Terms}
 use Rattle.node_laws.specs.OwnTerms.{AreOwn}
-use Rattle.call_answers.specs.Answers.{seen}
 use Rattle.rm_node.specs.Asked.{Asked, Asks, is_connected}
 use Rattle.rm_node.specs.Called.{answer_of}
+use Rattle.rm_node.specs.Fetching.{whole}
 use Rattle.rm_node.specs.Keeping.{Keeping, Keeps}
 use Rattle.rm_node.specs.Noded.{Noded}
 use Rattle.rm_node.specs.Packets.{outs_of, reply_of}
@@ -20,10 +20,10 @@ use Rattle.rm_node.specs.declared.say.Said.{Said}
 pub record Says (n : Noded) (moment : ℕ) (call : Call) (said : Said) : Type 0 where
   pub up : n.stored.journal.is_down ≡ false
   pub is : (terms : Terms) → AreOwn terms → (kept : Keeping) → Keeps n.kept kept → (asked : Asked) → Asks call asked
-      → seen said.answer ≡ answer_of terms n moment kept asked
-  pub may : MayBeWritten n.stored.records (end_of n.stored.journal) (seen said.answer) said.begun
-  pub reply : said.handed.reply ≡ reply_of (is_connected call) (seen said.answer).outs
-  pub outs : said.handed.outs ≡ outs_of (seen said.answer).outs
+      → whole said.answered ≡ answer_of terms n moment kept asked
+  pub may : MayBeWritten n.stored.records (end_of n.stored.journal) (whole said.answered) said.begun
+  pub reply : said.handed.reply ≡ reply_of (is_connected call) (whole said.answered)
+  pub outs : said.handed.outs ≡ outs_of (whole said.answered).outs
 
 -- why nothing is said: memory was wanting at a node that is up, or the node is down
 abbrev pub IsUnsaid : Noded → NodeError → Type 0

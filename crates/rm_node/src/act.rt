@@ -1,23 +1,23 @@
 //! What an answer says is done: its records are written, and then its packets are handed out.
 ghost use Rattle.std.specs.Prelude.{◌≡◌, true, false, is_ok, IfErr, OnOk};
 ghost use Rattle.rm_journal.specs.JournalState.{end_of};
-ghost use Rattle.call_answers.specs.Answers.{seen};
 ghost use Rattle.call_answers.specs.Serving.{Serves};
 ghost use Rattle.rm_node.specs.Called.{EndsBy, HasBatches, StaysANode, Wrote};
 ghost use Rattle.rm_node.specs.declared.error.NodeError.TheVariants.{Down as IsDown};
 ghost use Rattle.rm_node.specs.Ends.{error_end, is_disk, is_refused};
+ghost use Rattle.rm_node.specs.Fetching.{whole};
 ghost use Rattle.rm_node.specs.Noded.{Runs};
 ghost use Rattle.rm_node.specs.Timed.{MayBeWritten};
 
+use crate::after::{go_on, make_ready, write_down};
 use crate::error::NodeError;
+use crate::fetch::Answered;
 use crate::node::Node;
-use crate::wait::wait_on;
-use call_answers::{Answer, Outcome};
+use call_answers::Outcome;
 use node_laws::laws::a_node_has_room_for_its_keys;
 use node_store::laws::a_node_has_one_batch_more;
 use node_tables::Tables;
 use node_timers::laws::{one_more_has_room, only_the_touched_are_looked_at};
-use node_timers::named;
 use rm_disk::Disk;
 use rm_protocol::laws::what_waits_stays_exact;
 use rm_timers::Key;
@@ -44,40 +44,34 @@ impl Node {
         (self.store.tables(), self.store.end())
     }
 
-    /// Writes the records of an answer that is no refusal, in one batch, and moves the keys once they are there. All
-    /// memory is taken before.
+    /// Writes the records of an answer that is no refusal, in one batch, and moves the keys and the messages that wait
+    /// once they are there. All memory is taken before.
     pub(crate) fn write<D: Disk>(
         &mut self,
         disk: &mut D,
-        answer: Answer,
+        answered: Answered,
         begun: Option<Key>,
     ) -> Result<(), NodeError>
         requires up { self.old.stored.journal.is_down ≡ false }
         requires has { HasBatches D.tells (D.told disk.old) self.old }
-        requires may { MayBeWritten self.old.stored.records (end_of self.old.stored.journal) (seen answer) begun }
-        ensures wrote { Wrote D.tells (D.told disk.old) (D.told disk.new) self.old self.new (seen answer) (is_ok result)
-            (is_disk result) }
-        ensures done { OnOk result (is_refused (seen answer).outcome ≡ false) }
-        ensures err { IfErr result (λ error. EndsBy false (seen answer) (error_end error)) }
-        ensures stays { StaysANode (D.told disk.old) self.old (seen answer) }
+        requires may { MayBeWritten self.old.stored.records (end_of self.old.stored.journal) (whole answered) begun }
+        ensures wrote { Wrote D.tells (D.told disk.old) (D.told disk.new) self.old self.new (whole answered)
+            (is_ok result) (is_disk result) }
+        ensures done { OnOk result (is_refused (whole answered).outcome ≡ false) }
+        ensures err { IfErr result (λ error. EndsBy false (whole answered) (error_end error)) }
+        ensures stays { StaysANode (D.told disk.old) self.old (whole answered) }
     {
         a_node_has_one_batch_more();
-        if let Outcome::Refused(cause) = answer.outcome {
+        if let Outcome::Refused(cause) = answered.answer.outcome {
             return Err(NodeError::Refused(cause));
         }
         a_node_has_room_for_its_keys();
         only_the_touched_are_looked_at();
         one_more_has_room();
         what_waits_stays_exact();
-        let touched = named(self.alloc, answer.batch.as_slice())?;
-        self.store.append(disk, answer.batch)?;
-        wait_on(
-            &mut self.kept.timers,
-            self.store.tables(),
-            touched.as_slice(),
-            begun,
-            &answer.moves,
-        );
+        let ready = make_ready(self.alloc, &mut self.kept.polled, &answered)?;
+        let rest = write_down(&mut self.store, disk, answered)?;
+        go_on(&mut self.kept, self.store.tables(), ready, begun, rest);
         Ok(())
     }
 }

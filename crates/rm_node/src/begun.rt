@@ -61,6 +61,7 @@ pub(crate) fn begun_with_call(tables: &Tables, call: &Call<'_>) -> Option<Key>
         Call::AskAck { .. } => None,
         Call::NackMissing { .. } => None,
         Call::Tick { .. } => None,
+        Call::Poll { .. } => None,
         Call::Receive { .. } => None,
     }
 }

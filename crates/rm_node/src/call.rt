@@ -3,7 +3,7 @@ ghost use Rattle.std.specs.Prelude.{◌≡◌};
 ghost use Rattle.rm_node.specs.Asked.{is_connected};
 
 use call_answers::Wish;
-use rm_base::Blob;
+use rm_base::{Blob, Uri};
 
 /// What a node is asked for, or what comes to it. `seq` is the place of a sequence among those of the node, counted
 /// from 1.
@@ -22,6 +22,8 @@ pub enum Call<'a> {
     AskAck { seq: u32 },
     /// Tells the peer of an incoming sequence the first 64 numbers that are missing: section 3.9.
     NackMissing { seq: u32 },
+    /// Asks the peer with an address for the messages that wait there for the node: WS-MakeConnection 1.1, section 3.2.
+    Poll { to: Uri },
     /// Ends the incoming sequences whose time has run out at a moment, all in one batch, where it fits the journal, and
     /// hands out again the first 64 requests and messages that are due.
     Tick { now: u64 },

@@ -14,6 +14,7 @@ ghost use Rattle.rm_node.specs.declared.call.Call.TheVariants.{
   AskAck as AsksAck,
   NackMissing as NacksMissing,
   Tick as Ticks,
+  Poll as Polls,
   Receive as Receives,
 };
 ghost use Rattle.rm_node.specs.Ends.{made_end, outs_end, reaction_end, sent_end};
@@ -27,7 +28,7 @@ use call_answers::Wish;
 use node_laws::laws::there_are_own_terms;
 use node_tables::Tables;
 use node_tables::laws::an_outgoing_sequence_is_as_recorded;
-use rm_base::Blob;
+use rm_base::{Blob, Uri};
 use rm_disk::Disk;
 
 /// A sequence that was asked for: its number among those of the node, counted from 1, and the request.
@@ -131,6 +132,17 @@ impl Node {
     {
         there_are_own_terms();
         let reaction = self.step(disk, now, Call::NackMissing { seq })?;
+        Ok(reaction.outs)
+    }
+
+    /// Asks the peer with an address for the messages that wait there for the node.
+    pub fn poll<D: Disk>(&mut self, disk: &mut D, to: Uri) -> Result<Outs, NodeError>
+        requires { HasBatches D.tells (D.told disk.old) self.old }
+        ensures { Steps D.tells (D.told disk.old) (D.told disk.new) self.old self.new 0 (Polls to) (outs_end result) }
+    {
+        there_are_own_terms();
+        let _to = to.as_slice();
+        let reaction = self.step(disk, 0, Call::Poll { to })?;
         Ok(reaction.outs)
     }
 

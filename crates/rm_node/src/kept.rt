@@ -2,33 +2,40 @@
 ghost use Rattle.std.specs.Prelude.{◌≡◌, [], true, IfOk};
 ghost use Rattle.rm_base.specs.declared.message.Behaviour.TheVariants.{FollowingFirstGap as FirstGap};
 ghost use Rattle.key_timers.specs.Keyed.{StandsFor};
+ghost use Rattle.make_connection.specs.Waiting.{nothing_waits};
 ghost use Rattle.sequence_table.specs.Fits.{is_in_order};
 
 use key_timers::KeyTimers;
+use make_connection::Pending;
 use rm_base::{Behaviour, Memory};
+use rm_message::Message;
 use std::alloc::Global;
 
 /// What a node keeps besides its records. It is not on the disk: a mount works it out anew.
-#[derive(Debug, Drop)]
+#[derive(Drop)]
 pub struct Kept {
     /// What the node announces for the sequences that it grants from now on: never NoDiscard.
     pub granted: Behaviour,
     /// The keys that wait to be emitted, and the greatest moment of a tick.
     pub timers: KeyTimers,
+    /// The messages that wait for addresses that nobody can reach, until they are asked for.
+    pub polled: Pending<Message>,
 }
 
 impl Kept {
-    /// What is kept where no key waits, at time 0.
+    /// What is kept where no key waits and no message, at time 0.
     pub(crate) fn first(alloc: Global) -> Result<Kept, Memory>
         ensures granted { IfOk result (λ kept. kept.granted ≡ FirstGap) }
         ensures in_order { IfOk result (λ kept. is_in_order kept.granted ≡ true) }
         ensures waits { IfOk result (λ kept. StandsFor kept.timers []) }
         ensures cells { IfOk result (λ kept. kept.timers.cells ≡ []) }
         ensures time { IfOk result (λ kept. kept.timers.time ≡ 0) }
+        ensures polled { IfOk result (λ kept. kept.polled.waits ≡ nothing_waits) }
     {
         Ok(Kept {
             granted: Behaviour::FollowingFirstGap,
             timers: KeyTimers::new(alloc)?,
+            polled: Pending::new(alloc),
         })
     }
 }

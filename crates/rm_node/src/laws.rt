@@ -7,8 +7,8 @@ ghost use Rattle.rm_node.specs.Keeping.{Keeping};
 ghost use Rattle.rm_node.specs.Packets.{IsReplyFirst};
 ghost use Rattle.rm_node.specs.declared.call.Call.{Call};
 
-/// Of all that a call says, one message at most goes back on the connection, and it comes first.
+/// Of all that a call says and fetches, one message at most goes back on the connection, and it comes first.
 pub fn the_reply_comes_first()
     ensures { (terms : Terms) (r : List Fact) (place now : ℕ) (kept : Keeping) (call : Call) (asked : Asked)
-        → Asks call asked → IsReplyFirst (is_connected call) (answer_to terms r place now kept asked).outs }
+        → Asks call asked → IsReplyFirst (is_connected call) (answer_to terms r place now kept asked) }
 {}

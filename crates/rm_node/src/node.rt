@@ -30,7 +30,7 @@ use std::marker::Model;
 
 /// A node on a disk: the journal and the tables of its records, and what it keeps besides. The disk is passed to each
 /// call, and is always the same.
-#[derive(Debug, Drop)]
+#[derive(Drop)]
 pub struct Node {
     pub(crate) alloc: Global,
     pub(crate) store: Store,
@@ -40,16 +40,16 @@ pub struct Node {
 impl Model for Node {
     ghost use Rattle.std.specs.Coded.{codes};
     ghost use Rattle.soap_profile.specs.TreeCode.{tree_code};
-    ghost use Rattle.rm_node.specs.Noded.{Noded};
+    ghost use Rattle.rm_node.specs.Noded.{Noded, told};
     ghost use Rattle.rm_node.specs.Timed.{IsKeptRight};
 
     ghost Value = { Noded };
 
     ghost coded = { Prim.hlevel (codes, tree_code) };
 
-    ghost view = { λ n. record { stored = n.store; kept = n.kept } };
+    ghost view = { λ n. record { stored = n.store; kept = told n.kept } };
 
-    ghost invariant = { λ n. IsKeptRight n.store.records n.kept };
+    ghost invariant = { λ n. IsKeptRight n.store.records (told n.kept) };
 }
 
 impl Node {
@@ -84,7 +84,8 @@ impl Node {
     }
 
     /// Finds the node that a disk holds. It answers NotAJournal exactly where the disk, as it reads, holds no batches
-    /// of a node. What the node kept besides is not on the disk: all keys that wait by its records are due at once.
+    /// of a node. What the node kept besides is not on the disk: all keys that wait by its records are due at once, and
+    /// no message waits.
     pub fn mount<D: Disk>(alloc: Global, disk: &mut D) -> Result<Node, MountError>
         ensures found { IsTrue D.tells →
             IfOk result (λ node. Finds (D.told disk.old).past (D.told disk.new).past node.stored) }

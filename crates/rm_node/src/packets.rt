@@ -2,8 +2,10 @@
 ghost use Rattle.std.specs.Prelude.{◌≡◌, false, IfOk};
 ghost use Rattle.rm_protocol.specs.Addresses.{place_of as place_for};
 ghost use Rattle.rm_protocol.specs.Said.{leaves};
+ghost use Rattle.rm_node.specs.Fetching.{whole};
 ghost use Rattle.rm_node.specs.Packets.{back_text, outs_of, packet_of, reply_of};
 
+use crate::fetch::Answered;
 use message_writer::encode;
 use node_messages::{Place, is_anonymous, place_of};
 use rm_base::{Blob, Items, Memory, Uri};
@@ -73,23 +75,31 @@ fn back(alloc: Global, said: &[Message]) -> Result<Option<Blob>, Memory>
     Ok(None)
 }
 
-/// The reply. Only where there is a connection there is one.
-fn reply(alloc: Global, connected: bool, said: &[Message]) -> Result<Option<Blob>, Memory>
-    ensures { IfOk result (λ text. text ≡ reply_of connected said.now) }
+/// The reply: the message that was fetched, or what is said that goes back. Only where there is a connection there is
+/// one.
+fn reply(alloc: Global, connected: bool, answered: &Answered) -> Result<Option<Blob>, Memory>
+    ensures { IfOk result (λ text. text ≡ reply_of connected (whole answered.now)) }
 {
-    if connected {
-        return back(alloc, said);
+    if !connected {
+        return Ok(None);
     }
-    Ok(None)
+    match &answered.fetched {
+        Some(fetched) => Ok(Some(encode(alloc, &fetched.message)?)),
+        None => back(alloc, answered.answer.outs.as_slice()),
+    }
 }
 
 /// What leaves the node of what is said.
-pub(crate) fn hand_out(alloc: Global, connected: bool, said: &[Message]) -> Result<Handed, Memory>
-    ensures reply { IfOk result (λ h. h.reply ≡ reply_of connected said.now) }
-    ensures outs { IfOk result (λ h. h.outs ≡ outs_of said.now) }
+pub(crate) fn hand_out(
+    alloc: Global,
+    connected: bool,
+    answered: &Answered,
+) -> Result<Handed, Memory>
+    ensures reply { IfOk result (λ h. h.reply ≡ reply_of connected (whole answered.now)) }
+    ensures outs { IfOk result (λ h. h.outs ≡ outs_of (whole answered.now).outs) }
 {
     Ok(Handed {
-        reply: reply(alloc, connected, said)?,
-        outs: packets(alloc, said)?,
+        reply: reply(alloc, connected, answered)?,
+        outs: packets(alloc, answered.answer.outs.as_slice())?,
     })
 }

@@ -1,5 +1,5 @@
 //! What a node says to a call.
-ghost use Rattle.std.specs.Prelude.{◌≡◌, ◌≤◌, true, map, IfErr, IfOk, OnOk};
+ghost use Rattle.std.specs.Prelude.{◌≡◌, ◌≤◌, true, false, map, IfErr, IfOk, OnOk};
 ghost use Rattle.rm_base.specs.Limits.{now_max};
 ghost use Rattle.record_batch.specs.Fact.{fact_of};
 ghost use Rattle.sequence_table.specs.Fits.{is_in_order};
@@ -9,12 +9,15 @@ ghost use Rattle.node_laws.specs.OwnTerms.{AreOwn};
 ghost use Rattle.call_answers.specs.Answers.{MayBeStored, seen};
 ghost use Rattle.call_answers.specs.Serving.{Serves};
 ghost use Rattle.rm_node.specs.Asked.{Asked, Asks, IsAsked, MayBeAsked, answer_to as protocol_answer};
+ghost use Rattle.rm_node.specs.Asked.{is_connected};
+ghost use Rattle.rm_node.specs.Fetching.{whole};
 ghost use Rattle.rm_node.specs.Keeping.{Keeping, Keeps};
 ghost use Rattle.rm_node.specs.Saying.{IsUnsaid, Says};
 
 use crate::begun::begun_with_call;
 use crate::call::Call;
 use crate::error::NodeError;
+use crate::fetch::{Answered, unfetched};
 use crate::kept::Kept;
 use crate::node::Node;
 use crate::packets::{Handed, hand_out};
@@ -33,7 +36,7 @@ use std::alloc::Global;
 /// once its records are written.
 #[derive(Debug, Drop)]
 pub(crate) struct Said {
-    pub(crate) answer: Answer,
+    pub(crate) answered: Answered,
     pub(crate) begun: Option<Key>,
     pub(crate) handed: Handed,
 }
@@ -56,8 +59,8 @@ fn answer_to_tick(
     node_calls::tick(alloc, tables, place, now, keys)
 }
 
-/// The answer to a call.
-fn answer_to(
+/// The answer to a call that comes on no connection.
+fn own_answer(
     alloc: Global,
     tables: &Tables,
     place: u64,
@@ -66,8 +69,8 @@ fn answer_to(
     call: Call<'_>,
 ) -> Result<Answer, Memory>
     requires serves { Serves tables.now.records place }
-    requires in_order { is_in_order kept.now.granted ≡ true }
     requires may { MayBeAsked call }
+    requires own { is_connected call ≡ false }
     ensures is { (terms : Terms) → AreOwn terms → (besides : Keeping) → Keeps kept.now besides → (asked : Asked)
         → Asks call.entry asked
         → IfOk result (λ a. seen a ≡ protocol_answer terms tables.now.records place now besides asked) }
@@ -82,8 +85,33 @@ fn answer_to(
         Call::AskAck { seq } => node_calls::ask_ack(alloc, tables, place, seq),
         Call::NackMissing { seq } => node_calls::nack_missing(alloc, tables, place, seq, now),
         Call::Tick { now } => answer_to_tick(alloc, tables, place, kept, now),
-        Call::Receive { bytes } => answer_to_bytes(alloc, tables, place, now, kept.granted, bytes),
+        Call::Poll { to } => node_calls::poll(alloc, tables, place, to),
+        Call::Receive { .. } => unreachable!(),
     }
+}
+
+/// The answer to a call.
+fn answer_to(
+    alloc: Global,
+    tables: &Tables,
+    place: u64,
+    now: u64,
+    kept: &Kept,
+    call: Call<'_>,
+) -> Result<Answered, Memory>
+    requires serves { Serves tables.now.records place }
+    requires in_order { is_in_order kept.now.granted ≡ true }
+    requires may { MayBeAsked call }
+    ensures is { (terms : Terms) → AreOwn terms → (besides : Keeping) → Keeps kept.now besides → (asked : Asked)
+        → Asks call.entry asked
+        → IfOk result (λ a. whole a ≡ protocol_answer terms tables.now.records place now besides asked) }
+    ensures stored { IfOk result (λ a. MayBeStored tables.now.records place (map fact_of a.answer.batch.items)) }
+    ensures asked { OnOk result (IsAsked call.entry) }
+{
+    if let Call::Receive { bytes } = call {
+        return answer_to_bytes(alloc, tables, place, now, kept, bytes);
+    }
+    Ok(unfetched(own_answer(alloc, tables, place, now, kept, call)?))
 }
 
 impl Node {
@@ -103,10 +131,10 @@ impl Node {
         let connected = call.is_connected();
         let (tables, place) = self.tables_and_end();
         let begun = begun_with_call(tables, &call);
-        let answer = answer_to(self.alloc, tables, place, now, &self.kept, call)?;
-        let handed = hand_out(self.alloc, connected, answer.outs.as_slice())?;
+        let answered = answer_to(self.alloc, tables, place, now, &self.kept, call)?;
+        let handed = hand_out(self.alloc, connected, &answered)?;
         Ok(Said {
-            answer,
+            answered,
             begun,
             handed,
         })

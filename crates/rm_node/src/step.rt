@@ -38,7 +38,7 @@ fn verdict(outcome: Outcome) -> Option<FaultKind>
 
 impl Node {
     /// Does what is asked, at a moment in milliseconds since 1970: all memory is taken first, then the records are
-    /// written in one batch, and then keys begin and cease to wait, and the packets are handed out.
+    /// written in one batch, and then keys and messages begin and cease to wait, and the packets are handed out.
     pub fn step<D: Disk>(
         &mut self,
         disk: &mut D,
@@ -52,12 +52,12 @@ impl Node {
     {
         let (_tables, _place) = self.tables_and_end();
         let Said {
-            answer,
+            answered,
             begun,
             handed,
         } = self.say(now, call)?;
-        let outcome = answer.outcome;
-        self.write(disk, answer, begun)?;
+        let outcome = answered.answer.outcome;
+        self.write(disk, answered, begun)?;
         let Handed { reply, outs } = handed;
         Ok(Reaction {
             verdict: verdict(outcome),

@@ -51,6 +51,7 @@ use Rattle.rm_timers.specs.declared.timers.Key.{Key}
 use Rattle.key_timers.specs.Waits.{Wait, first_due}
 use Rattle.rm_protocol.specs.Heard.{Heard}
 use Rattle.rm_protocol.specs.Messages.{data_at, request_at, ack_message}
+use Rattle.rm_protocol.specs.Node.{fetched_message}
 use Rattle.rm_protocol.specs.Rows.{rows}
 use Rattle.rm_protocol.specs.Terms.{Terms, AreTerms}
 use Rattle.rm_protocol.specs.Verdict.{tests, verdict, has_room}
@@ -67,6 +68,7 @@ pub record IsAllowed (a b : List Fact) (answer : Answer) : Type 0 where
   pub allows : Allows a b answer.delta
   pub with_ : AreWith b answer.delta
   pub says : AllByRecursion (Says (a ++ answer.delta)) answer.outs
+  pub fetched : AllByRecursion (Says (a ++ answer.delta)) (fetched_message answer.fetched)
 
 -- and it fits the store
 pub record IsRight (terms : Terms) (place : ℕ) (a b : List Fact) (answer : Answer) : Type 0 where
@@ -74,7 +76,10 @@ pub record IsRight (terms : Terms) (place : ℕ) (a b : List Fact) (answer : Ans
   pub room : has_room terms place answer.delta ≡ true
 
 refusal-right : (terms : Terms) (place : ℕ) (a b : List Fact) (cause : Cause) → IsRight terms place a b (refusal cause)
-refusal-right terms place a b cause = record { allowed = record { allows = tt; with_ = tt; says = tt }; room = refl }
+refusal-right terms place a b cause = record {
+  allowed = record { allows = tt; with_ = tt; says = tt; fetched = tt };
+  room = refl;
+}
 
 if_room-right : (terms : Terms) (place : ℕ) (a b : List Fact) (answer : Answer) → IsAllowed a b answer
     → IsRight terms place a b (if_room terms place answer)
@@ -113,6 +118,7 @@ create-right terms place r a b wish w e =
     (if_room-right terms place a b _ (record {
       allows = ((ap (λ z. z + 1) same, offer_of-fresh r a wish.offer same), tt, tt);
       with_ = made-with b (counter r + 1) wish.to wish.via wish.expires (offer_of (counter r) wish.offer) e;
+      fetched = tt;
       says = request_at-says (r ++ rec ∷ []) (a ++ rec ∷ []) (length (makers r) + 1) (Keeps-adds r a (rec ∷ []) w);
     }))
 
@@ -180,6 +186,7 @@ send_out-right terms place r a b s text w =
         (if_room-right terms place a b _ (record {
           allows = (ap (λ z. is_empty (at_seq s z)) (sym w.marks_) ∙ open-unmarked r s e, tt, tt);
           with_ = tt;
+          fetched = tt;
           says = data_at-says (r ++ Accepted s text ∷ []) (a ++ Accepted s text ∷ []) s (length (accepted r s) + 1)
               (Keeps-adds r a (Accepted s text ∷ []) w);
         }))))
@@ -211,6 +218,7 @@ close_out-right terms place r a b s w = chosen (is_open (phase r s))
     right = if_room-right terms place a b _ (record {
       allows = (tt, tt, tt);
       with_ = tt;
+      fetched = tt;
       says = request_at-says (r ++ Closing s (counter r + 1) ∷ []) (a ++ Closing s (counter r + 1) ∷ []) s
           (Keeps-adds r a (Closing s (counter r + 1) ∷ []) w);
     })
@@ -227,6 +235,7 @@ close_in-right terms place r a b s now w =
     refused-or terms place a b (is_over r s now) NotOpen _ (if_room-right terms place a b _ (record {
       allows = (tt, tt, tt);
       with_ = tt;
+      fetched = tt;
       says = final_ack-says (r ++ Closed s Operator 0 ∷ []) (a ++ Closed s Operator 0 ∷ []) s now
           (Keeps-adds r a (Closed s Operator 0 ∷ []) w);
     }))
@@ -252,6 +261,7 @@ end_out-right terms place r a b s w = chosen (may_end (phase r s))
     chosen true = if_room-right terms place a b _ (record {
       allows = (tt, tt, tt);
       with_ = tt;
+      fetched = tt;
       says = request_at-says (r ++ Ending s (counter r + 1) ∷ []) (a ++ Ending s (counter r + 1) ∷ []) s
           (Keeps-adds r a (Ending s (counter r + 1) ∷ []) w);
     })
@@ -299,6 +309,7 @@ ticked-allowed : (r a b : List Fact) (now : ℕ) (keys : List Key) (delta : List
 ticked-allowed r a b now keys delta w h k = record {
   allows = h;
   with_ = k;
+  fetched = tt;
   says = messages_at-says (r ++ delta) (a ++ delta) keys (Keeps-adds r a delta w);
 }
 
@@ -335,6 +346,7 @@ ask_ack-right terms place r a b s = on_outgoing-right terms place a b (maker r s
       allowed = record {
         allows = tt;
         with_ = tt;
+        fetched = tt;
         says = ask_to-says (a ++ []) (peer (r ++ []) s) (out_ident (r ++ []) s);
       };
       room = refl;
@@ -370,6 +382,7 @@ nack_missing-right terms place r a b s now = by_maker (maker r s)
       allowed = record {
         allows = tt;
         with_ = tt;
+        fetched = tt;
         says = nack_by-says (a ++ []) (r ++ []) s (made_by (r ++ []) (maker (r ++ []) s));
       };
       room = refl;
@@ -426,6 +439,7 @@ judged-right n terms place r a b now y m (Some kind) t w o h e = record {
   allowed = record {
     allows = tt;
     with_ = tt;
+    fetched = tt;
     says = (
       subst (λ z. Says z (terms.fault (refusal_of m kind) (fault_block r now m kind))) (sym (append-nil a))
           (verdict-says terms r a now m kind t w),
@@ -438,6 +452,7 @@ judged-right n terms place r a b now y m None t w o h e = record {
   allowed = record {
     allows = rows-right b terms now y m h n r a w o;
     with_ = heard-with b m h (rows terms now y m r) (rows-heard terms now y m r);
+    fetched = tt;
     says = said-says (r ++ rows terms now y m r) (a ++ rows terms now y m r) now m
         (Keeps-adds r a (rows terms now y m r) w);
   };
@@ -458,6 +473,7 @@ receive-right n terms place r a b now y (Err refusal) t w o h = record {
   allowed = record {
     allows = tt;
     with_ = tt;
+    fetched = tt;
     says =
         (subst (λ z. Says z (terms.fault refusal None)) (sym (append-nil a)) (refusal-says terms a refusal t), tt);
   };

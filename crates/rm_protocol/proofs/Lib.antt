@@ -10,6 +10,8 @@ mod CallLemmas
 mod FitLemmas
 mod FitCalls
 mod HeadlineLemmas
+mod FetchedLemmas
+mod ReplyLemmas
 mod RunLemmas
 mod ImageLemmas
 mod NewLemmas

@@ -18,7 +18,8 @@ use Rattle.rm_protocol.specs.Unarmed.{IsUnarmed, AreUnarmed, IsFaultless, AreFau
 use Rattle.rm_protocol.specs.Crashes.{IsLeftWith, IsLeft, IsAfterCrashes}
 use Rattle.rm_protocol.specs.World as world
 use Rattle.rm_protocol.specs.World.{World, Packet, Side, One, Two, other, node, with_node, Event, Crash, calls}
-use Rattle.rm_protocol.specs.World.{received_by, arrives, wish_of, with_clock, happens, run, start}
+use Rattle.rm_protocol.specs.Polls.{poll}
+use Rattle.rm_protocol.specs.World.{place, received_by, arrives, wish_of, with_clock, happens, run, start}
 use Rattle.rm_protocol.proofs.RunLemmas.{records-with}
 
 pub run-append : (terms : Terms) (first second : List Event) (w : World)
@@ -146,6 +147,8 @@ outcome-well terms w (world.Arm side c) h = tt
 outcome-well terms w (world.Crash side kept) h = tt
 outcome-well terms w (world.Noise side refusal) h =
     outcome-free (node w side) (received_by terms (node w side) (Err refusal)) (free_at w side h)
+outcome-well terms w (world.Poll side) h =
+    outcome-free (node w side) (poll (records (node w side)) (place w (other side))) (free_at w side h)
 
 -- and leaves both nodes so, unless it arms a disk
 happens-free : (terms : Terms) (w : World) (event : Event) → IsUnarmed event → AreFree w
@@ -172,6 +175,7 @@ happens-free terms w (world.Arm side c) u h = absurd u
 happens-free terms w (world.Crash side kept) u h =
     free_with w side (mounted (node w side) kept) h (record { fuse = refl; state = refl })
 happens-free terms w (world.Noise side refusal) u h = calls-free terms w side true _ h
+happens-free terms w (world.Poll side) u h = calls-free terms w side false _ h
 
 run-free : (terms : Terms) (events : List Event) (w : World) → AreFree w → AreUnarmed events
     → AreFree (run terms events w)

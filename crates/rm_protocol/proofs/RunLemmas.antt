@@ -14,19 +14,23 @@ use Rattle.sequence_table.specs.Makers.{makers, makers_of, draws_of, counter}
 use Rattle.rm_protocol.specs.Sound.{Says, IsWith, Owns, Agree, Allows, Keeps, AreWith}
 use Rattle.std.specs.Prelude.{Result, Ok, Err}
 use Rattle.rm_message.specs.declared.refusal.Refusal.{Refusal}
-use Rattle.rm_protocol.specs.Calls.{Answer, create, send, close, end, tick, ask_ack, nack_missing}
+use Rattle.rm_protocol.specs.Calls.{Answer, create, send, close, end, tick, ask_ack, nack_missing, receive}
 use Rattle.rm_protocol.specs.Node.{Node, State, Up, Writing, records, records_in, end_of, is_short, entries_left}
 use Rattle.rm_protocol.specs.Node.{whole_left, mounted, with_batch, goes_down, written, after_by, after, said_with}
-use Rattle.rm_protocol.specs.Node.{armed, said_by, said_after, with_moves}
+use Rattle.rm_protocol.specs.Node.{armed, said_by, said_after, with_moves, with_polled, fetched_after, fetched_by}
+use Rattle.rm_protocol.specs.Node.{fetched_message, polled_with}
 use Rattle.rm_protocol.specs.Waiting.{mounted_waits}
 use Rattle.rm_protocol.specs.Said.{sent_of, leaves}
 use Rattle.rm_protocol.specs.Addresses.{place_of}
-use Rattle.rm_protocol.specs.Sound.{AllowsState, IsBounded, SaysPacket, IsSoundNode, IsSound}
+use Rattle.rm_protocol.specs.Sound.{AllowsState, AreSaid, IsBounded, SaysPacket, IsSoundNode, IsSound}
+use Rattle.make_connection.specs.Waiting.{Waiting, nothing_waits}
+use Rattle.rm_protocol.specs.Polls.{poll, polled_after}
+use Rattle.rm_protocol.proofs.FetchedLemmas.{AreSaid-grows, polled_after-said, poll-right, polls-right}
 use Rattle.rm_protocol.specs.Terms.{Terms, AreTerms}
 use Rattle.rm_protocol.specs.Verdict.{has_room}
 use Rattle.rm_protocol.specs.World.{messages_in, puts, World, Packet, Side, One, Two, other, node, place, with_node}
 use Rattle.rm_protocol.specs.World.{Event, Create, Grant, Send, Tick, Deliver, Close, End, Ask, Nack, Arm, Crash, Noise}
-use Rattle.rm_protocol.specs.World.{sent}
+use Rattle.rm_protocol.specs.World.{Poll, sent}
 use Rattle.rm_protocol.specs.World.{calls, received_by, arrives, wish_of, with_clock, happens, run, made, start}
 use Rattle.rm_protocol.specs.World.{AreMade}
 use Rattle.rm_protocol.proofs.ListLemmas.{All-weaker, All-append, All-filter, All-numbered, All-push}
@@ -62,6 +66,7 @@ record Went (terms : Terms) (x y : Node) (b : List Fact) (outs : List Message) :
   kept : Keeps (records y) y.whole
   bounded : IsBounded terms y
   says : AllByRecursion (Says y.whole) outs
+  said : AreSaid y.whole y.polled
 
 pub AreWith-append : (b r d : List Fact) → AreWith b r → AreWith b d → AreWith b (r ++ d)
 AreWith-append b r d h k = subst (AllByRecursion (IsWith b)) (sym (flat_map-append makers_of r d))
@@ -113,6 +118,7 @@ went-sound terms at x y b outs g h t = record {
   at_ = g.address ∙ h.at_;
   kept = t.kept;
   bounded = t.bounded;
+  said = t.said;
 }
 
 rested-sound : (terms : Terms) (at : Text) (x : Node) (b c : List Fact) → Grows b c → IsSoundNode terms at x b
@@ -123,6 +129,7 @@ rested-sound terms at x b c g h = record {
   at_ = h.at_;
   kept = h.kept;
   bounded = h.bounded;
+  said = h.said;
 }
 
 goes-IsSound : (terms : Terms) (w : World) (side : Side) (y : Node) (outs : List Message) → IsSound terms w
@@ -160,9 +167,9 @@ goes-IsSound terms w Two y outs h t =
 
 -- a node has the same records, and says nothing
 rests : (terms : Terms) (x y : Node) (b : List Fact) → y.whole ≡ x.whole → AllowsState terms y b y.state
-    → Keeps (records y) y.whole → IsBounded terms y
+    → Keeps (records y) y.whole → IsBounded terms y → AreSaid y.whole y.polled
     → Went terms x y b []
-rests terms x y b e f k i = record {
+rests terms x y b e f k i q = record {
   delta = [];
   is = e ∙ sym (append-nil x.whole);
   allows = tt;
@@ -171,6 +178,7 @@ rests terms x y b e f k i = record {
   kept = k;
   bounded = i;
   says = tt;
+  said = q;
 }
 
 rests-IsSound : (terms : Terms) (w : World) (side : Side) (y : Node) → IsSound terms w
@@ -213,25 +221,36 @@ bounded-with terms entries whole delta t below fits =
     let size : counter delta ≤ terms.size delta = t.size delta in
     (omega arith, omega arith)
 
+-- what leaves the node: what was fetched, and a part of what is said
+leaving : (a : List Fact) (connected : Bool) (fetched outs : List Message) → AllByRecursion (Says a) fetched
+    → AllByRecursion (Says a) outs → AllByRecursion (Says a) (fetched ++ sent_of connected outs)
+leaving a connected fetched outs h k = All-append (Says a) fetched (sent_of connected outs) h
+    (All-filter (Says a) (λ (m : Message). leaves connected (place_of m.addressing.to)) outs k)
+
 -- a call
-went : (terms : Terms) (x : Node) (b delta : List Fact) (outs : List Message) → AreTerms terms → x.state ≡ Up
-    → Keeps (records x) x.whole → IsBounded terms x
+went : (terms : Terms) (x : Node) (b delta : List Fact) (connected : Bool) (fetched outs : List Message)
+    (w : Waiting Message) → AreTerms terms → x.state ≡ Up → Keeps (records x) x.whole → IsBounded terms x
     → Allows x.whole b delta → AreWith b delta → has_room terms (end_of terms x.entries) delta ≡ true
-    → AllByRecursion (Says (x.whole ++ delta)) outs
-    → Went terms x (written x delta) b (said_with x.fuse delta outs)
-went terms x b [] outs t up h i k g room s = record {
+    → AllByRecursion (Says (x.whole ++ delta)) fetched → AllByRecursion (Says (x.whole ++ delta)) outs
+    → AreSaid x.whole x.polled → AreSaid (x.whole ++ delta) w
+    → Went terms x (record (written x delta) { polled = polled_with x.fuse delta x.polled w }) b
+    (said_with x.fuse delta fetched ++ sent_of connected (said_with x.fuse delta outs))
+went terms x b [] connected fetched outs w t up h i k g room s s2 old new = record {
   delta = [];
   is = sym (append-nil x.whole);
   allows = tt;
   with_ = tt;
   failed = subst (AllowsState terms x b) (sym up) tt;
   kept = h;
-  bounded = i;
-  says = subst (λ z. AllByRecursion (Says z) outs) (append-nil x.whole) s;
+  bounded = record { below = i.below; store = i.store };
+  says = subst (λ z. AllByRecursion (Says z) (fetched ++ sent_of connected outs)) (append-nil x.whole)
+      (leaving (x.whole ++ []) connected fetched outs s s2);
+  said = subst (λ z. AreSaid z w) (append-nil x.whole) new;
 }
-went terms x b (rec ∷ delta) outs t up h i k g room s =
-    elim (is_short 4 x.fuse) as (λ z. Went terms x (cond z (goes_down x (rec ∷ delta)) (with_batch x (rec ∷ delta))) b
-    (cond z [] outs)) [
+went terms x b (rec ∷ delta) connected fetched outs w t up h i k g room s s2 old new =
+    elim (is_short 4 x.fuse) as (λ z. Went terms x
+    (record (cond z (goes_down x (rec ∷ delta)) (with_batch x (rec ∷ delta))) { polled = cond z x.polled w }) b
+    (cond z [] fetched ++ sent_of connected (cond z [] outs))) [
       | true ↦ record {
         delta = [];
         is = sym (append-nil x.whole);
@@ -241,6 +260,7 @@ went terms x b (rec ∷ delta) outs t up h i k g room s =
         kept = h;
         bounded = record { below = i.below; store = i.store };
         says = tt;
+        said = old;
       }
       | false ↦
           let fits = room-bound terms (end_of terms x.entries) rec delta room in
@@ -254,7 +274,8 @@ went terms x b (rec ∷ delta) outs t up h i k g room s =
             kept = subst (λ z. Keeps z (x.whole ++ (rec ∷ delta))) (sym (records-with x.entries (rec ∷ delta)))
                 (Keeps-adds (records x) x.whole (rec ∷ delta) h);
             bounded = record { below = more.0; store = more.1 };
-            says = s;
+            says = leaving (x.whole ++ (rec ∷ delta)) connected fetched outs s s2;
+            said = new;
           }
     ]
 
@@ -270,49 +291,46 @@ moved-went terms x y b answer outs t = record {
   kept = t.kept;
   bounded = record { below = t.bounded.below; store = t.bounded.store };
   says = t.says;
+  said = t.said;
 }
   where
     same : (z : State) → AllowsState terms y b z → AllowsState terms (with_moves x answer y) b z
     same Up h = tt
     same (Writing delta) h = h
 
-after-went : (terms : Terms) (x : Node) (b : List Fact) (answer : Answer) → AreTerms terms → Keeps (records x) x.whole
-    → IsBounded terms x
+after-went : (terms : Terms) (x : Node) (b : List Fact) (connected : Bool) (answer : Answer) → AreTerms terms
+    → Keeps (records x) x.whole → IsBounded terms x
     → IsRight terms (end_of terms x.entries) x.whole b answer → AllowsState terms x b x.state
-    → Went terms x (after x answer) b (said_after x answer)
-after-went terms x b answer t h i r f = by_state x.state refl
+    → AreSaid x.whole x.polled
+    → Went terms x (after x answer) b (fetched_after x answer ++ sent_of connected (said_after x answer))
+after-went terms x b connected answer t h i r f q = by_state x.state refl
   where
-    by_state : (z : State) → x.state ≡ z → Went terms x (after_by x z answer) b (said_by x z answer)
-    by_state Up e = moved-went terms x (written x answer.delta) b answer (said_with x.fuse answer.delta answer.outs)
-        (went terms x b answer.delta answer.outs t e h i r.allowed.allows r.allowed.with_ r.room r.allowed.says)
-    by_state (Writing delta) e = rests terms x x b refl f h i
-
--- of what is said a part leaves the node
-leaving : (terms : Terms) (x y : Node) (b : List Fact) (connected : Bool) (outs : List Message)
-    → Went terms x y b outs → Went terms x y b (sent_of connected outs)
-leaving terms x y b connected outs t = record {
-  delta = t.delta;
-  is = t.is;
-  allows = t.allows;
-  with_ = t.with_;
-  failed = t.failed;
-  kept = t.kept;
-  bounded = t.bounded;
-  says = All-filter (Says y.whole) (λ (m : Message). leaves connected (place_of m.addressing.to)) outs t.says;
-}
+    by_state : (z : State) → x.state ≡ z
+        → Went terms x (after_by x z answer) b (fetched_by x z answer ++ sent_of connected (said_by x z answer))
+    by_state Up e =
+        let all = x.whole ++ answer.delta in
+        let later : AreSaid all x.polled =
+        AreSaid-grows x.whole all x.polled (Grows-adds x.whole b answer.delta r.allowed.allows) q in
+        moved-went terms x (with_polled x answer (written x answer.delta)) b answer
+        (fetched_by x Up answer ++ sent_of connected (said_by x Up answer))
+        (went terms x b answer.delta connected (fetched_message answer.fetched) answer.outs
+        (polled_after x.polled answer) t e h i r.allowed.allows r.allowed.with_ r.room r.allowed.fetched r.allowed.says
+        q
+        (polled_after-said all x.polled answer later r.allowed.says))
+    by_state (Writing delta) e = rests terms x x b refl f h i q
 
 calls-IsSound : (terms : Terms) (w : World) (side : Side) (connected : Bool) (answer : Answer) → AreTerms terms
     → IsSound terms w
     → IsRight terms (end_of terms (node w side).entries) (node w side).whole (node w (other side)).whole answer
     → IsSound terms (calls terms w side connected answer)
 calls-IsSound terms w One connected answer t h r =
-    goes-IsSound terms w One (after w.one answer) (sent_of connected (said_after w.one answer)) h
-    (leaving terms w.one (after w.one answer) w.two.whole connected (said_after w.one answer)
-    (after-went terms w.one w.two.whole answer t h.one.kept h.one.bounded r h.one.failed))
+    goes-IsSound terms w One (after w.one answer)
+    (fetched_after w.one answer ++ sent_of connected (said_after w.one answer)) h
+    (after-went terms w.one w.two.whole connected answer t h.one.kept h.one.bounded r h.one.failed h.one.said)
 calls-IsSound terms w Two connected answer t h r =
-    goes-IsSound terms w Two (after w.two answer) (sent_of connected (said_after w.two answer)) h
-    (leaving terms w.two (after w.two answer) w.one.whole connected (said_after w.two answer)
-    (after-went terms w.two w.one.whole answer t h.two.kept h.two.bounded r h.two.failed))
+    goes-IsSound terms w Two (after w.two answer)
+    (fetched_after w.two answer ++ sent_of connected (said_after w.two answer)) h
+    (after-went terms w.two w.one.whole connected answer t h.two.kept h.two.bounded r h.two.failed h.two.said)
 
 -- a crash keeps what the failed call wrote, or leaves it
 kept-entries : (x : Node) (delta : List Fact) → Keeps (records x) x.whole
@@ -330,11 +348,11 @@ mounted-went terms x b kept t h i f = by_state x.state kept f
         → Went terms x (record x {
           entries = entries_left z kept x.entries;
           whole = whole_left z kept x.whole;
-          fuse =
-              None;
+          fuse = None;
           state = Up;
           waits = mounted_waits (records_in (entries_left z kept x.entries));
           time = 0;
+          polled = nothing_waits;
         }) b []
     by_state (Writing delta) true f =
         let more = bounded-with terms x.entries x.whole delta t i.below f.2 in
@@ -347,9 +365,10 @@ mounted-went terms x b kept t h i f = by_state x.state kept f
           kept = kept-entries x delta h;
           bounded = record { below = more.0; store = more.1 };
           says = tt;
+          said = tt;
         }
-    by_state (Writing delta) false f = rests terms x _ b refl tt h (record { below = i.below; store = i.store })
-    by_state Up kept f = rests terms x _ b refl tt h (record { below = i.below; store = i.store })
+    by_state (Writing delta) false f = rests terms x _ b refl tt h (record { below = i.below; store = i.store }) tt
+    by_state Up kept f = rests terms x _ b refl tt h (record { below = i.below; store = i.store }) tt
 
 -- a packet comes to the other node than the one that sent it, and its text is read there
 says_at : (terms : Terms) (w : World) (p : Packet) → AreTerms terms → SaysPacket w p
@@ -374,9 +393,11 @@ received-IsSound : (terms : Terms) (w : World) (side : Side) (content : Result M
 received-IsSound terms w side content t h s =
     let x = node w side in
     calls-IsSound terms w side true (received_by terms x content) t h
+    (polls-right terms (end_of terms x.entries) x.whole (node w (other side)).whole x.polled content
+    (receive terms (records x) (end_of terms x.entries) x.clock x.granted content) (sound_at terms w side h).said
     (receive-right (number_of side) terms (end_of terms x.entries) (records x) x.whole (node w (other side)).whole
     x.clock x.granted content t
-    (sound_at terms w side h).kept (agree_at terms w side h).owns s)
+    (sound_at terms w side h).kept (agree_at terms w side h).owns s))
 
 arrives-IsSound : (terms : Terms) (w : World) (p : Option Packet) → AreTerms terms → IsSound terms w
     → IfSome p (SaysPacket w) → IsSound terms (arrives terms w p)
@@ -393,9 +414,9 @@ packet-says terms w k h = by_packet (numbered w.packets k) refl
 
 -- a node of which only what is beside its disk changes
 changed-went : (terms : Terms) (x y : Node) (b : List Fact) → y.whole ≡ x.whole → y.entries ≡ x.entries
-    → y.state ≡ x.state → Keeps (records x) x.whole
-    → IsBounded terms x → AllowsState terms x b x.state → Went terms x y b []
-changed-went terms x y b e f s h i a =
+    → y.state ≡ x.state → y.polled ≡ x.polled → Keeps (records x) x.whole
+    → IsBounded terms x → AllowsState terms x b x.state → AreSaid x.whole x.polled → Went terms x y b []
+changed-went terms x y b e f s u h i a q =
     rests terms x y b e (moved y.state s)
     (subst (λ z. Keeps (records_in z) y.whole) (sym f) (subst (Keeps (records x)) (sym e) h))
     (record {
@@ -403,6 +424,7 @@ changed-went terms x y b e f s h i a =
           (subst (λ z. counter z ≤ end_of terms x.entries) (sym e) i.below);
       store = subst (λ z. end_of terms z ≤ journal_bytes) (sym f) i.store;
     })
+    (subst (AreSaid y.whole) (sym u) (subst (λ z. AreSaid z x.polled) (sym e) q))
   where
     same : (z : State) → AllowsState terms x b z → AllowsState terms y b z
     same Up k = tt
@@ -417,11 +439,11 @@ changed-went terms x y b e f s h i a =
 
 changed-IsSound : (terms : Terms) (w : World) (side : Side) (y : Node) → IsSound terms w
     → y.whole ≡ (node w side).whole → y.entries ≡ (node w side).entries
-    → y.state ≡ (node w side).state → IsSound terms (with_node w side y)
-changed-IsSound terms w side y h e f s =
+    → y.state ≡ (node w side).state → y.polled ≡ (node w side).polled → IsSound terms (with_node w side y)
+changed-IsSound terms w side y h e f s u =
     let x = sound_at terms w side h in
-    rests-IsSound terms w side y h (changed-went terms (node w side) y (node w (other side)).whole e f s x.kept
-    x.bounded x.failed)
+    rests-IsSound terms w side y h (changed-went terms (node w side) y (node w (other side)).whole e f s u x.kept
+    x.bounded x.failed x.said)
 
 tick-IsSound : (terms : Terms) (w : World) (side : Side) (now : ℕ) → AreTerms terms → IsSound terms w
     → IsSound terms (happens terms w (Tick side now))
@@ -429,14 +451,14 @@ tick-IsSound terms w One now t h =
     let v = with_node w One (with_clock w.one now) in
     calls-IsSound terms v One false
     (tick terms (records w.one) (end_of terms w.one.entries) now w.one.time w.one.waits) t
-    (changed-IsSound terms w One (with_clock w.one now) h refl refl refl)
+    (changed-IsSound terms w One (with_clock w.one now) h refl refl refl refl)
     (tick-right terms (end_of terms w.one.entries) (records w.one) w.one.whole w.two.whole now w.one.time w.one.waits
     h.one.kept)
 tick-IsSound terms w Two now t h =
     let v = with_node w Two (with_clock w.two now) in
     calls-IsSound terms v Two false
     (tick terms (records w.two) (end_of terms w.two.entries) now w.two.time w.two.waits) t
-    (changed-IsSound terms w Two (with_clock w.two now) h refl refl refl)
+    (changed-IsSound terms w Two (with_clock w.two now) h refl refl refl refl)
     (tick-right terms (end_of terms w.two.entries) (records w.two) w.two.whole w.one.whole now w.two.time w.two.waits
     h.two.kept)
 
@@ -450,7 +472,7 @@ happens-IsSound terms w (Create side via expires offer) t h =
     (wish_of w side via expires offer)
     (sound_at terms w side h).kept (sym (sound_at terms w (other side) h).at_))
 happens-IsSound terms w (Grant side y) t h =
-    changed-IsSound terms w side (record (node w side) { granted = y }) h refl refl refl
+    changed-IsSound terms w side (record (node w side) { granted = y }) h refl refl refl refl
 happens-IsSound terms w (Send side seq text) t h =
     let x = node w side in
     calls-IsSound terms w side false (send terms (records x) (end_of terms x.entries) seq text) t h
@@ -477,12 +499,16 @@ happens-IsSound terms w (Nack side seq) t h =
     calls-IsSound terms w side false (nack_missing (records x) seq x.clock) t h
     (nack_missing-right terms (end_of terms x.entries) (records x) x.whole (node w (other side)).whole seq x.clock)
 happens-IsSound terms w (Arm side c) t h =
-    changed-IsSound terms w side (record (node w side) { fuse = armed c (node w side).fuse }) h refl refl refl
+    changed-IsSound terms w side (record (node w side) { fuse = armed c (node w side).fuse }) h refl refl refl refl
 happens-IsSound terms w (Crash side kept) t h =
     let x = sound_at terms w side h in
     rests-IsSound terms w side (mounted (node w side) kept) h
     (mounted-went terms (node w side) (node w (other side)).whole kept t x.kept x.bounded x.failed)
 happens-IsSound terms w (Noise side refusal) t h = received-IsSound terms w side (Err refusal) t h tt
+happens-IsSound terms w (Poll side) t h =
+    let x = node w side in
+    calls-IsSound terms w side false (poll (records x) (place w (other side))) t h
+    (poll-right terms (end_of terms x.entries) (records x) x.whole (node w (other side)).whole (place w (other side)))
 
 pub run-IsSound : (terms : Terms) (events : List Event) (w : World) → AreTerms terms → IsSound terms w
     → IsSound terms (run terms events w)
@@ -510,6 +536,7 @@ made-sound terms n at b t e =
       at_ = refl;
       kept = Keeps-same (Made n at ∷ []);
       bounded = record { below = omega arith; store = omega arith };
+      said = tt;
     }
 
 pub start-IsSound : (terms : Terms) (one two : Text) → AreTerms terms → AreMade terms one two

@@ -141,7 +141,7 @@ own_messages-says a (ack ∷ acks) h = chosen (is_anonymous ack.0.address) (own_
     chosen true k = k
     chosen false k = (ack_message-says a ack.0 (ack.1 ∷ []) (h.0, tt), k)
 
-with_blocks-says : (a : List Fact) (m : Message) (blocks : List AckBlock) → Says a m
+pub with_blocks-says : (a : List Fact) (m : Message) (blocks : List AckBlock) → Says a m
     → AllByRecursion (SaysBlock a) blocks → Says a (with_blocks m blocks)
 with_blocks-says a m blocks h k = record {
   data_ = h.data_;

@@ -43,7 +43,8 @@ use Rattle.rm_protocol.specs.Terms.{Terms}
 use Rattle.rm_protocol.specs.Verdict.{verdict, has_room}
 use Rattle.rm_protocol.specs.World as world
 use Rattle.rm_protocol.specs.World.{World, Packet, Side, One, Two, other, node, with_clock, Event, calls}
-use Rattle.rm_protocol.specs.World.{received_by, arrives, wish_of, happens, run, start}
+use Rattle.rm_protocol.specs.Polls.{poll}
+use Rattle.rm_protocol.specs.World.{place, received_by, arrives, wish_of, happens, run, start}
 use Rattle.rm_protocol.proofs.HeardLemmas.{rows-heard}
 use Rattle.rm_protocol.proofs.RunLemmas.{records-with}
 
@@ -284,7 +285,13 @@ quiet-call terms w Two One connected answer k next h = append-nil (total k next 
 data IsSend (s : ℕ) (text : Text) : Answer → Type 0 where
   refused_ : (cause : Cause) → IsSend s text (refusal cause)
   accepted_ : (outs : List Message)
-      → IsSend s text (record { outcome = Done; delta = Accepted s text ∷ []; outs = outs; moves = no_moves })
+      → IsSend s text (record {
+        outcome = Done;
+        delta = Accepted s text ∷ [];
+        fetched = None;
+        outs = outs;
+        moves = no_moves;
+      })
 
 refused-send : (s : ℕ) (text : Text) (b : Bool) (cause : Cause) (x : Answer) → IsSend s text x
     → IsSend s text (cond b (refusal cause) x)
@@ -346,7 +353,8 @@ send-moves k next x s text (_) (refused_ cause) = by_state x.state
     by_state Up = ap (λ z. total k next x ++ z) (none_counted (s == k) text) ∙ append-nil (total k next x)
     by_state (Writing delta) = ap (λ z. total k next x ++ z) (none_counted (s == k) text) ∙ append-nil (total k next x)
 send-moves k next x s text (_) (accepted_ outs) =
-    let answer : Answer = record { outcome = Done; delta = Accepted s text ∷ []; outs = outs; moves = no_moves } in
+    let answer : Answer =
+    record { outcome = Done; delta = Accepted s text ∷ []; fetched = None; outs = outs; moves = no_moves } in
     let counted = counts_call (call_outcome x answer) (length (after x answer).entries) next in
     ap (λ z. total k next x ++ z) (swap_cond (s == k) counted text) ∙ moves k next x answer refl
 
@@ -408,8 +416,9 @@ step terms w (world.Deliver i) n k next = by_packet (numbered w.packets i)
     by_packet (Some p) =
         let side = other p.from in
         let x = node w side in
+        let quiet = receive-quiet terms (records x) (end_of terms x.entries) x.clock x.granted (terms.read p.message) in
         quiet-call terms w side n true (received_by terms x (terms.read p.message)) k next
-        (receive-quiet terms (records x) (end_of terms x.entries) x.clock x.granted (terms.read p.message))
+        (record { done = quiet.done; quiet = quiet.quiet })
 step terms w (world.Close side s) n k next =
     let x = node w side in
     quiet-call terms w side n false (Calls.close terms (records x) (end_of terms x.entries) s x.clock) k next
@@ -437,8 +446,12 @@ step terms w (world.Crash One kept) Two k next = append-nil (total k next w.two)
 step terms w (world.Crash Two kept) One k next = append-nil (total k next w.one)
 step terms w (world.Noise side refusal) n k next =
     let x = node w side in
+    let quiet = receive-quiet terms (records x) (end_of terms x.entries) x.clock x.granted (Err refusal) in
     quiet-call terms w side n true (received_by terms x (Err refusal)) k next
-    (receive-quiet terms (records x) (end_of terms x.entries) x.clock x.granted (Err refusal))
+    (record { done = quiet.done; quiet = quiet.quiet })
+step terms w (world.Poll side) n k next =
+    quiet-call terms w side n false (poll (records (node w side)) (place w (other side))) k next
+    (record { done = tt; quiet = λ z. refl })
 
 image-total : (x : Node) (k : ℕ) (image : List Fact) (entries : ℕ) → IsImage x image entries
     → accepted image k ≡ total k entries x

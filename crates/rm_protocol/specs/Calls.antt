@@ -61,21 +61,33 @@ pub data Outcome : Type 0 where
   Refused : (cause : Cause) → Outcome
   Judged : (fault : FaultKind) → Outcome
 
--- what a call comes to: whether it was done, the records that it adds, all that is said then, and which keys it moves
--- besides those that these records begin and end
+-- a message that waited for an address, as it goes back on the connection on which it was asked for
+pub record Fetched : Type 0 where
+  pub address : Text
+  pub message : Message
+
+-- what a call comes to: whether it was done, the records that it adds, the message that waited and is fetched, where
+-- one is, all else that is said then, and which keys it moves besides those that these records begin and end
 pub record Answer : Type 0 where
   pub outcome : Outcome
   pub delta : List Fact
+  pub fetched : Option Fetched
   pub outs : List Message
   pub moves : Moves
 
 -- a call that is refused adds nothing and says nothing
 abbrev pub refusal : Cause → Answer
-refusal cause = record { outcome = Refused cause; delta = []; outs = []; moves = no_moves }
+refusal cause = record { outcome = Refused cause; delta = []; fetched = None; outs = []; moves = no_moves }
 
 -- the records are added, this is said when they are there, and keys are moved
 abbrev pub adds_and_moves : List Fact → List Fact → Moves → (List Fact → List Message) → Answer
-adds_and_moves r delta moves outs = record { outcome = Done; delta = delta; outs = outs (r ++ delta); moves = moves }
+adds_and_moves r delta moves outs = record {
+  outcome = Done;
+  delta = delta;
+  fetched = None;
+  outs = outs (r ++ delta);
+  moves = moves;
+}
 
 -- the records are added, and this is said when they are there
 abbrev pub adds : List Fact → List Fact → (List Fact → List Message) → Answer
@@ -325,6 +337,7 @@ judged terms r now behaviour m (Some kind) =
     record {
       outcome = Judged kind;
       delta = [];
+      fetched = None;
       outs = terms.fault (refusal_of m kind) (fault_block r now m kind) ∷ [];
       moves = no_moves;
     }
@@ -336,4 +349,10 @@ judged terms r now behaviour m None =
 abbrev pub receive : Terms → List Fact → ℕ → ℕ → Behaviour → Result Message Refusal → Answer
 receive terms r end now behaviour (Ok m) = judged terms r now behaviour m (verdict terms r end now behaviour m)
 receive terms r end now behaviour (Err refusal) =
-    record { outcome = Judged refusal.kind; delta = []; outs = terms.fault refusal None ∷ []; moves = no_moves }
+    record {
+      outcome = Judged refusal.kind;
+      delta = [];
+      fetched = None;
+      outs = terms.fault refusal None ∷ [];
+      moves = no_moves;
+    }

@@ -9,14 +9,13 @@ use Rattle.rm_message.specs.declared.message.Body.TheVariants as body
 use Rattle.rm_message.specs.declared.message.FaultCode.TheVariants.{Sender}
 use Rattle.rm_message.specs.declared.message.Message.{Message}
 use Rattle.rm_message.specs.declared.refusal.Refusal.{Refusal}
-use Rattle.record_batch.specs.declared.record.Via.TheVariants.{Direct}
+use Rattle.record_batch.specs.declared.record.Via.TheVariants.{Direct, Polled}
 use Rattle.sequence_table.specs.Makers.{counter}
 use Rattle.rm_protocol.specs.Addresses.{rm_action}
 use Rattle.rm_protocol.specs.Messages.{never, plain}
 use Rattle.rm_protocol.specs.Terms.{Terms, header_blocks}
-use Rattle.rm_protocol.specs.World.{World, One, Two, Event, Create, Grant, Send, Deliver, End, Tick, Close, Ask, Nack}
-use Rattle.rm_protocol.specs.World.{Arm}
-use Rattle.rm_protocol.specs.World.{Crash, run, start}
+use Rattle.rm_protocol.specs.World.{World, Packet, One, Two, Event, Create, Grant, Send, Deliver, End, Tick, Close}
+use Rattle.rm_protocol.specs.World.{Ask, Nack, Arm, Crash, Poll, run, start}
 
 -- a duration without months ends that many milliseconds later
 abbrev pub ends_at : ℕ → Lapse → Option ℕ
@@ -116,3 +115,20 @@ with_both_again kept =
 -- node 1 crashes inside the call that accepts a message, which is there then, and is sent at once
 abbrev pub with_a_crash_of_the_source : List Event
 with_a_crash_of_the_source = opening (Arm One 4 ∷ Send One 1 (1 ∷ []) ∷ Crash One true ∷ Tick One 0 ∷ [])
+
+-- a node that nobody can reach asks for a sequence and polls for the response; acknowledgements of three messages wait
+-- for it, and a poll that is delivered four times more takes them out one by one
+abbrev pub with_polls : List Event
+with_polls =
+    Create One Polled never None ∷ Deliver 1 ∷ Poll One ∷ Deliver 2 ∷ Deliver 3 ∷ Send One 1 (1 ∷ [])
+    ∷ Send One 1 (2 ∷ []) ∷ Send One 1 (3 ∷ []) ∷ Deliver 4 ∷ Deliver 5 ∷ Deliver 6 ∷ Deliver 2 ∷ Deliver 2 ∷ Deliver 2
+    ∷ Deliver 2 ∷ []
+
+-- a crash loses all that waits: the poll that comes then gets no reply
+abbrev pub with_a_lost_message : List Event
+with_a_lost_message =
+    Create One Polled never None ∷ Deliver 1 ∷ Poll One ∷ Crash Two true ∷ Deliver 2 ∷ Deliver 1 ∷ Deliver 2 ∷ []
+
+-- the MessagePending of each packet
+abbrev pub pendings : World → List (Option Bool)
+pendings w = map (λ (p : Packet). p.message.pending) w.packets

@@ -10,7 +10,10 @@ pub mod Heard
 pub mod Messages
 pub mod Next
 pub mod Node
+pub mod PollLemmas
+pub mod Polls
 pub mod Recorded
+pub mod Replied
 pub mod Rows
 pub mod Said
 pub mod Sent

@@ -6,7 +6,9 @@ use Rattle.std.specs.List.{flat_map}
 use Rattle.rm_base.specs.declared.message.Behaviour.{Behaviour}
 use Rattle.rm_message.specs.declared.message.Message.{Message}
 use Rattle.record_batch.specs.Fact.{Fact}
-use Rattle.rm_protocol.specs.Calls.{Answer, Outcome}
+use Rattle.make_connection.specs.Waiting.{Waiting, nothing_waits}
+use Rattle.rm_protocol.specs.Calls.{Answer, Outcome, Fetched}
+use Rattle.rm_protocol.specs.Polls.{polled_after}
 use Rattle.rm_protocol.specs.Terms.{Terms}
 use Rattle.rm_protocol.specs.Waiting.{mounted_waits, waits_after}
 use Rattle.key_timers.specs.Waits.{Wait}
@@ -18,7 +20,8 @@ pub data State : Type 0 where
 
 -- entries: the batches on its disk. whole: all records that it ever had. fuse: the device calls up to the one that
 -- fails. granted: what it announces for sequences from now on. clock: the moment that its calls are given. waits: the
--- keys that wait to be emitted, in the order of the last move. time: the greatest moment of a tick since it was mounted
+-- keys that wait to be emitted, in the order of the last move. time: the greatest moment of a tick since it was
+-- mounted. polled: the messages that wait until they are asked for
 pub record Node : Type 0 where
   pub entries : List (List Fact)
   pub whole : List Fact
@@ -28,6 +31,7 @@ pub record Node : Type 0 where
   pub clock : ℕ
   pub waits : List Wait
   pub time : ℕ
+  pub polled : Waiting Message
 
 -- the records of batches, one behind the other
 abbrev pub records_in : List (List Fact) → List Fact
@@ -67,7 +71,8 @@ abbrev pub whole_left : State → Bool → List Fact → List Fact
 whole_left (Writing delta) true whole = whole ++ delta
 whole_left _ kept whole = whole
 
--- a node that crashed and was mounted again: all that waits is due at once, and the time begins anew
+-- a node that crashed and was mounted again: all keys that wait are due at once, the time begins anew, and no message
+-- waits
 abbrev pub mounted : Node → Bool → Node
 mounted x kept = record x {
   entries = entries_left x.state kept x.entries;
@@ -76,6 +81,7 @@ mounted x kept = record x {
   state = Up;
   waits = mounted_waits (records_in (entries_left x.state kept x.entries));
   time = 0;
+  polled = nothing_waits;
 }
 
 -- a node whose batch was written
@@ -99,9 +105,19 @@ with_moves x answer y = record y {
   time = max x.time answer.moves.time;
 }
 
+-- the messages that wait after a call: those from before where a device call failed
+abbrev pub polled_with : Option ℕ → List Fact → Waiting Message → Waiting Message → Waiting Message
+polled_with fuse [] old new = new
+polled_with fuse (rec ∷ delta) old new = if is_short 4 fuse then old else new
+
+-- a node with the messages that wait after an answer
+abbrev pub with_polled : Node → Answer → Node → Node
+with_polled x answer y =
+    record y { polled = polled_with x.fuse answer.delta x.polled (polled_after x.polled answer) }
+
 -- a node after a call, by its state; what waits at a node that goes down is told anew when it is mounted
 abbrev pub after_by : Node → State → Answer → Node
-after_by x Up answer = with_moves x answer (written x answer.delta)
+after_by x Up answer = with_moves x answer (with_polled x answer (written x answer.delta))
 after_by x _ answer = x
 
 -- a node after a call
@@ -118,9 +134,23 @@ abbrev pub said_by : Node → State → Answer → List Message
 said_by x Up answer = said_with x.fuse answer.delta answer.outs
 said_by x _ answer = []
 
+-- the message that waited and was fetched
+abbrev pub fetched_message : Option Fetched → List Message
+fetched_message None = []
+fetched_message (Some t) = t.message ∷ []
+
+-- which goes back on the connection, by the node's state: nothing where a device call failed
+abbrev pub fetched_by : Node → State → Answer → List Message
+fetched_by x Up answer = said_with x.fuse answer.delta (fetched_message answer.fetched)
+fetched_by x _ answer = []
+
 -- what a node says after a call
 abbrev pub said_after : Node → Answer → List Message
 said_after x answer = said_by x x.state answer
+
+-- the message that goes back on the connection, of those that waited
+abbrev pub fetched_after : Node → Answer → List Message
+fetched_after x answer = fetched_by x x.state answer
 
 -- and how the call comes out
 pub data CallOutcome : Type 0 where

@@ -8,9 +8,11 @@ use Rattle.sequence_table.specs.Sources.{accepted}
 use Rattle.rm_protocol.specs.Calls.{Done, create, send, close, end, tick, ask_ack, nack_missing}
 use Rattle.rm_protocol.specs.Node.{Node, State, Up, Writing, records, end_of, CallOutcome, Answered, DiskFault}
 use Rattle.rm_protocol.specs.Node.{call_outcome}
+use Rattle.rm_protocol.specs.Polls.{poll}
 use Rattle.rm_protocol.specs.Terms.{Terms}
 use Rattle.rm_protocol.specs.World.{World, Packet, Side, One, Two, other, node, Event, Create, Send, Tick, Deliver}
-use Rattle.rm_protocol.specs.World.{Close, End, Ask, Nack, Crash, Noise, wish_of, received_by, happens, run, start}
+use Rattle.rm_protocol.specs.World.{Close, End, Ask, Nack, Crash, Noise, Poll, place, wish_of, received_by}
+use Rattle.rm_protocol.specs.World.{happens, run, start}
 
 -- how a line comes out: as its call, or without one
 pub data LineOutcome : Type 0 where
@@ -44,6 +46,8 @@ outcome_of terms w (Nack side seq) =
     Called (call_outcome (node w side) (nack_missing (records (node w side)) seq (node w side).clock))
 outcome_of terms w (Noise side refusal) =
     Called (call_outcome (node w side) (received_by terms (node w side) (Err refusal)))
+outcome_of terms w (Poll side) =
+    Called (call_outcome (node w side) (poll (records (node w side)) (place w (other side))))
 outcome_of terms w _ = NoCall
 
 -- a line of the report: the event, how it came out, and how many entries each node has then

@@ -27,6 +27,8 @@ use Rattle.sequence_table.specs.Makers.{nodes_of, number, addresses_of, address,
 use Rattle.sequence_table.specs.Sources.{accepted, acked, mark_of, marks, out_ident}
 use Rattle.sequence_table.specs.Destinations.{received, held, close_of, told_of}
 use Rattle.sequence_table.specs.Find.{IsOutgoing, IsIncoming}
+use Rattle.make_connection.specs.Waiting.{Waiting}
+use Rattle.rm_protocol.specs.PollLemmas.{AllWaiting}
 use Rattle.rm_protocol.specs.Node.{Node, State, Up, Writing, records, end_of}
 use Rattle.rm_protocol.specs.Rows.{ranges_of, last_of}
 use Rattle.rm_protocol.specs.Terms.{Terms}
@@ -257,6 +259,10 @@ pub record IsBounded (terms : Terms) (x : Node) : Type 0 where
 abbrev pub SaysPacket : World → Packet → Type 0
 SaysPacket w packet = Says (node w packet.from).whole packet.message
 
+-- each message that waits at a node says what is so by these records
+abbrev pub AreSaid : List Fact → Waiting Message → Type 0
+AreSaid r polled = AllWaiting (Says r) polled
+
 -- of one node of a world, beside another one with these records
 pub record IsSoundNode (terms : Terms) (at : Text) (x : Node) (theirs : List Fact) : Type 0 where
   pub failed : AllowsState terms x theirs x.state
@@ -264,6 +270,7 @@ pub record IsSoundNode (terms : Terms) (at : Text) (x : Node) (theirs : List Fac
   pub at_ : address x.whole ≡ at
   pub kept : Keeps (records x) x.whole
   pub bounded : IsBounded terms x
+  pub said : AreSaid x.whole x.polled
 
 -- what holds in every world that a run can reach
 pub record IsSound (terms : Terms) (w : World) : Type 0 where

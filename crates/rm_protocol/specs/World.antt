@@ -11,7 +11,9 @@ use Rattle.record_batch.specs.declared.record.Via.{Via}
 use Rattle.record_batch.specs.Fact.{Made}
 use Rattle.sequence_table.specs.Words.{Text}
 use Rattle.rm_protocol.specs.Calls.{Answer, Wish, create, send, close, end, tick, receive, ask_ack, nack_missing}
-use Rattle.rm_protocol.specs.Node.{Node, State, Up, records, end_of, armed, mounted, after, said_after}
+use Rattle.make_connection.specs.Waiting.{nothing_waits}
+use Rattle.rm_protocol.specs.Node.{Node, State, Up, records, end_of, armed, mounted, after, said_after, fetched_after}
+use Rattle.rm_protocol.specs.Polls.{poll, polls}
 use Rattle.rm_protocol.specs.Said.{sent_of}
 use Rattle.rm_protocol.specs.Terms.{Terms}
 use Rattle.rm_protocol.specs.Verdict.{has_room}
@@ -68,6 +70,7 @@ pub data Event : Type 0 where
   Arm : Side → (calls : ℕ) → Event
   Crash : Side → (kept : Bool) → Event
   Noise : Side → Refusal → Event
+  Poll : Side → Event
 
 -- messages that a node sent, as packets
 abbrev pub sent : Side → List Message → List Packet
@@ -91,11 +94,12 @@ hands_out terms w side outs = record w { packets = puts terms w.packets (sent si
 abbrev pub calls : Terms → World → Side → Bool → Answer → World
 calls terms w side connected answer =
     hands_out terms (with_node w side (after (node w side) answer)) side
-    (sent_of connected (said_after (node w side) answer))
+    (fetched_after (node w side) answer ++ sent_of connected (said_after (node w side) answer))
 
 -- what comes of a message, or of bytes that are none, at a node
 abbrev pub received_by : Terms → Node → Result Message Refusal → Answer
-received_by terms x content = receive terms (records x) (end_of terms x.entries) x.clock x.granted content
+received_by terms x content =
+    polls x.polled content (receive terms (records x) (end_of terms x.entries) x.clock x.granted content)
 
 -- a world after a packet was delivered, where there is one with this number: its text is read at the other node
 abbrev pub arrives : Terms → World → Option Packet → World
@@ -140,6 +144,7 @@ happens terms w (Nack side seq) =
 happens terms w (Arm side c) = with_node w side (record (node w side) { fuse = armed c (node w side).fuse })
 happens terms w (Crash side kept) = with_node w side (mounted (node w side) kept)
 happens terms w (Noise side refusal) = calls terms w side true (received_by terms (node w side) (Err refusal))
+happens terms w (Poll side) = calls terms w side false (poll (records (node w side)) (place w (other side)))
 
 -- a world after the lines of a script, in order
 abbrev pub run : Terms → List Event → World → World
@@ -157,6 +162,7 @@ made number address = record {
   clock = 0;
   waits = [];
   time = 0;
+  polled = nothing_waits;
 }
 
 -- two nodes that were just made, with the numbers 1 and 2

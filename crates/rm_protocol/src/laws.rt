@@ -1,5 +1,5 @@
 //! Laws of the protocol.
-ghost use Rattle.std.specs.Prelude.{◌≡◌, ℕ, ◌+◌, ◌++◌, ◌∷◌, [], Bool, Err, List, Some, length};
+ghost use Rattle.std.specs.Prelude.{◌≡◌, ℕ, ◌+◌, ◌++◌, ◌∷◌, [], Bool, Err, List, None, Some, length};
 ghost use Rattle.std.specs.Prelude.{slice_get, take, true, false};
 ghost use Rattle.rm_base.specs.Numbered.{numbered};
 ghost use Rattle.rm_message.specs.declared.refusal.Refusal.{Refusal};
@@ -9,11 +9,12 @@ ghost use Rattle.rm_protocol.specs.Exact.{AckedWereAccepted, IsExactAtFirst, Oth
 ghost use Rattle.rm_protocol.specs.Exact.{WhatBeginsWaits};
 ghost use Rattle.rm_protocol.specs.Examples.{with_a_close, with_an_end, with_an_expiry, example_terms, in_order};
 ghost use Rattle.rm_protocol.specs.Examples.{with_ticks, with_a_nack, with_an_ask, with_both_again};
-ghost use Rattle.rm_protocol.specs.Examples.{with_a_crash_of_the_source};
+ghost use Rattle.rm_protocol.specs.Examples.{pendings, with_a_crash_of_the_source, with_a_lost_message, with_polls};
 ghost use Rattle.rm_protocol.specs.Examples.{played, with_a_crash, with_a_gap, with_an_offer};
 ghost use Rattle.rm_protocol.specs.Next.{EachMayComeNext};
 ghost use Rattle.rm_protocol.specs.Node.{records};
 ghost use Rattle.rm_protocol.specs.Recorded.{FinalCloses, GapIsClosed, NewIsRecorded, OnlyHeardIsRecorded};
+ghost use Rattle.rm_protocol.specs.Replied.{TheReplyHasTheBlocks};
 ghost use Rattle.rm_protocol.specs.Sent.{AcceptedIsSent, line_of, lines, outcome_of};
 ghost use Rattle.rm_protocol.specs.Sound.{IsSound};
 ghost use Rattle.rm_protocol.specs.Terms.{AreTerms, Terms};
@@ -252,4 +253,25 @@ pub fn what_waits_stays_exact()
 /// The acknowledged numbers of a sequence are numbers of accepted messages.
 pub fn what_is_acknowledged_was_accepted()
     ensures { AckedWereAccepted }
+{}
+
+/// A message that is taken out for a MakeConnection is the reply with its blocks, and those that go to the connection
+/// behind them; every other acknowledgement is a message of its own.
+pub fn the_reply_has_the_blocks()
+    ensures { TheReplyHasTheBlocks }
+{}
+
+/// A node that nobody can reach: entries of both, the packets with what they say of more messages, and the inbox.
+pub fn a_node_that_polls()
+    ensures one { length (played with_polls).one.entries ≡ 6 }
+    ensures two { length (played with_polls).two.entries ≡ 5 }
+    ensures packets { pendings (played with_polls) ≡ None ∷ None ∷ Some false ∷ None ∷ None ∷ None ∷ Some true
+        ∷ Some true ∷ Some false ∷ [] }
+    ensures inbox { texts (inbox (records (played with_polls).two) 1) ≡ (1 ∷ []) ∷ (2 ∷ []) ∷ (3 ∷ []) ∷ [] }
+{}
+
+/// A crash loses the messages that wait, and the request that comes again gets the same response.
+pub fn a_crash_loses_what_waits()
+    ensures two { length (played with_a_lost_message).two.entries ≡ 2 }
+    ensures packets { pendings (played with_a_lost_message) ≡ None ∷ None ∷ Some false ∷ [] }
 {}

@@ -1,23 +1,33 @@
 -- A call of a node of a script is a step of the protocol's node.
+use Rattle.std.proofs.Common.{◌∙◌, ap}
 use Rattle.std.specs.Prelude.{Result, Ok, Err}
 use Rattle.rm_base.specs.declared.failures.Memory.{Memory}
 use Rattle.rm_disk.specs.Told.{Told}
-use Rattle.rm_protocol.specs.Node.{Node}
+use Rattle.rm_protocol.specs.Node.{Node, fetched_after, said_after}
+use Rattle.rm_protocol.specs.Said.{sent_of}
 use Rattle.rm_protocol.specs.Terms.{Terms}
 use Rattle.node_actor.specs.Actored.{Actored}
-use Rattle.rm_node.specs.Asked.{Asked}
+use Rattle.rm_node.specs.Asked.{Asked, is_connected}
 use Rattle.rm_node.specs.declared.call.Call.{Call}
 use Rattle.node_actor.specs.declared.actor.Came.{Came}
-use Rattle.node_actor.specs.Steps.{Plays, Steps as CallSteps}
+use Rattle.node_actor.specs.Steps.{Plays, Steps as CallSteps, answer_of, clocked}
 use Rattle.node_actor.specs.Outcomes.{is_disk}
-use Rattle.rm_replay.specs.Asked.{Steps, WasAsked, step_of}
+use Rattle.rm_replay.specs.Asked.{Steps, WasAsked, bytes_of, step_of}
 use Rattle.rm_replay.specs.Tales.{Drive}
+use Rattle.rm_replay.proofs.PutLemmas.{bytes_left}
 
 pub plays_step : (terms : Terms) (this : Call) (x : Node) (asked : Asked) (now : Told) (new : Actored)
     (result : Result Came Memory) → Plays terms this x asked now new result
     → Steps x (step_of terms x asked this) now new result
 plays_step terms this x asked now new (Ok came) acted =
-    record { stands = acted.stands; outcome = acted.outcome; outs = acted.outs }
+    let y = clocked this x in
+    let answer = answer_of terms x asked in
+    record {
+      stands = acted.stands;
+      outcome = acted.outcome;
+      outs = ap bytes_of acted.outs
+          ∙ bytes_left (fetched_after y answer) (sent_of (is_connected this) (said_after y answer));
+    }
 plays_step terms this x asked now new (Err memory) stands = stands
 
 abbrev pub drive : Told → Drive

@@ -16,19 +16,19 @@ use Rattle.rm_base.specs.Numbered.{numbered}
 use Rattle.rm_base.specs.declared.lapse.Lapse.{Lapse}
 use Rattle.rm_message.specs.declared.message.Message.{Message}
 use Rattle.rm_message.specs.declared.refusal.Refusal.{Refusal}
-use Rattle.record_batch.specs.declared.record.Via.TheVariants.{Direct}
+use Rattle.record_batch.specs.declared.record.Via.{Via}
 use Rattle.rm_protocol.specs.Calls.{Answer, Wish as Wished}
 use Rattle.rm_protocol.specs.Node.{Node, State, Up, Writing, outcome_by}
 use Rattle.rm_protocol.specs.Sent.{Called, arrival_outcome}
 use Rattle.rm_protocol.specs.Terms.{Terms}
 use Rattle.rm_protocol.specs.World.{Packet, Side, One, Two, World, Ask, Close, Create, Deliver, End, Nack, Noise, Send}
-use Rattle.rm_protocol.specs.World.{Tick, arrives, happens, node, other, place, with_clock}
+use Rattle.rm_protocol.specs.World.{Poll, Tick, arrives, happens, node, other, place, with_clock}
 use Rattle.rm_script.specs.declared.event.Event.TheVariants as said
 use Rattle.rm_script.specs.declared.event.Side.{Side as Place}
 use Rattle.sequence_table.specs.Words.{Text}
 use Rattle.rm_replay.specs.Asked.{step_of}
 use Rattle.rm_replay.specs.Happening.{Happened, moved}
-use Rattle.rm_replay.specs.Meaning.{outcome_told, side_of}
+use Rattle.rm_replay.specs.Meaning.{outcome_told, side_of, via_of}
 use Rattle.rm_replay.specs.Shows.{IsReadRight, Scene, Shows, address_of}
 use Rattle.rm_replay.specs.Net.{AreOfNet, number_of, read_as, text_of, wire_packet, wire_packets}
 use Rattle.rm_replay.specs.Tales.{Tells, fault_at, receiver}
@@ -41,13 +41,13 @@ use Rattle.rm_replay.proofs.TaleLemmas.{tells_none}
 
 -- ---- what a line asks for
 
--- a sequence is asked for with no polled queue
-abbrev pub wished : Text → Lapse → Option Behaviour → Wished
-wished to expires offer = record { to = to; via = Direct; expires = expires; offer = offer }
+-- a sequence is asked for
+abbrev pub wished : Text → Via → Lapse → Option Behaviour → Wished
+wished to via expires offer = record { to = to; via = via; expires = expires; offer = offer }
 
 -- and so the code asks
-abbrev pub wish : Text → Lapse → Option Behaviour → Wish
-wish to expires offer = record { to = to; via = Direct; expires = expires; offer = offer }
+abbrev pub wish : Text → Via → Lapse → Option Behaviour → Wish
+wish to via expires offer = record { to = to; via = via; expires = expires; offer = offer }
 
 place_is : (w : World) (scene : Scene) (nodes : Nodes) (side : Side) → Shows w scene nodes
     → address_of side ≡ place w side
@@ -55,15 +55,34 @@ place_is w scene nodes One shows = sym shows.at_one
 place_is w scene nodes Two shows = sym shows.at_two
 
 pub create_call : (terms : Terms) (w : World) (scene : Scene) (nodes : Nodes)
-    (at : Place) (to : Text) (expires : Lapse) (offer : Option Behaviour) → Shows w scene nodes
+    (at : Place) (to : Text) (expires : Lapse) (polled : Bool) (offer : Option Behaviour) → Shows w scene nodes
     → to ≡ address_of (other (side_of at))
-    → IsCall terms w (said.Create at expires offer) (Create (side_of at) Direct expires offer) (side_of at)
-    (step_of terms (node w (side_of at)) (asks.Create (wished to expires offer)) (call.Create (wish to expires offer)))
-create_call terms w scene nodes at to expires offer shows is =
-    subst (λ (address : Text). IsCall terms w (said.Create at expires offer)
-    (Create (side_of at) Direct expires offer) (side_of at)
-    (step_of terms (node w (side_of at)) (asks.Create (wished address expires offer))
-    (call.Create (wish address expires offer))))
+    → IsCall terms w (said.Create at expires polled offer) (Create (side_of at) (via_of polled) expires offer)
+    (side_of at)
+    (step_of terms (node w (side_of at)) (asks.Create (wished to (via_of polled) expires offer))
+    (call.Create (wish to (via_of polled) expires offer)))
+create_call terms w scene nodes at to expires polled offer shows is =
+    subst (λ (address : Text). IsCall terms w (said.Create at expires polled offer)
+    (Create (side_of at) (via_of polled) expires offer) (side_of at)
+    (step_of terms (node w (side_of at)) (asks.Create (wished address (via_of polled) expires offer))
+    (call.Create (wish address (via_of polled) expires offer))))
+    (sym (is ∙ place_is w scene nodes (other (side_of at)) shows))
+    (record {
+      means = refl;
+      quiet = λ side entries. refl;
+      at = refl;
+      moves = refl;
+      outcome = refl;
+    })
+
+-- what waits at the other node is asked for
+pub poll_call : (terms : Terms) (w : World) (scene : Scene) (nodes : Nodes) (at : Place) (to : Text)
+    → Shows w scene nodes → to ≡ address_of (other (side_of at))
+    → IsCall terms w (said.Poll at) (Poll (side_of at)) (side_of at)
+    (step_of terms (node w (side_of at)) (asks.Poll to) (call.Poll to))
+poll_call terms w scene nodes at to shows is =
+    subst (λ (address : Text). IsCall terms w (said.Poll at) (Poll (side_of at)) (side_of at)
+    (step_of terms (node w (side_of at)) (asks.Poll address) (call.Poll address)))
     (sym (is ∙ place_is w scene nodes (other (side_of at)) shows))
     (record {
       means = refl;

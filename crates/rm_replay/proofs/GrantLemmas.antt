@@ -25,8 +25,14 @@ stands_granting x now a behaviour in_order s = record {
   disk = s.disk;
   fuse = s.fuse;
   granted = refl;
-  kept = λ up. record { granted = refl; waits = (s.kept up).waits; time = (s.kept up).time };
+  kept = λ up. record {
+    granted = refl;
+    waits = (s.kept up).waits;
+    time = (s.kept up).time;
+    polled = (s.kept up).polled;
+  };
   in_order = in_order;
+  rules = s.rules;
   clock = s.clock;
 }
 

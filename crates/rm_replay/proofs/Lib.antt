@@ -3,6 +3,7 @@ mod HeadlineLemmas
 mod PlayedLemmas
 mod SentLemmas
 mod PutLemmas
+mod FetchedLemmas
 mod OrderLemmas
 mod ReadLemmas
 mod TaleLemmas

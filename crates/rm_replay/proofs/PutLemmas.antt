@@ -11,6 +11,8 @@ use Rattle.rm_protocol.specs.Terms.{Terms}
 use Rattle.rm_protocol.specs.Word.{IsPrefixOf}
 use Rattle.rm_protocol.specs.World.{Packet, Side, messages_in, other, puts, sent}
 use Rattle.rm_network.specs.Wire.{has_room, texts_in, with_packet}
+use Rattle.node_actor.specs.Outcomes.{back_packet}
+use Rattle.rm_replay.specs.Asked.{bytes_of}
 use Rattle.rm_replay.specs.Happening.{IsPutInPart, with_all}
 use Rattle.rm_replay.specs.Net.{AreOfNet, number_of, text_of, wire_packet, wire_packets}
 use Rattle.rm_replay.specs.Shows.{IsReadRight}
@@ -26,6 +28,32 @@ pub with_all_append : (packets : List (ℕ × List ℕ)) (to : ℕ) (first secon
     → with_all packets to (first ++ second) ≡ with_all (with_all packets to first) to second
 with_all_append packets to [] second = refl
 with_all_append packets to (o ∷ first) second = with_all_append (with_packet packets to o.bytes) to first second
+
+-- what is put goes by the bytes alone
+abbrev with_texts : List (ℕ × List ℕ) → ℕ → List (List ℕ) → List (ℕ × List ℕ)
+with_texts packets to [] = packets
+with_texts packets to (text ∷ texts) = with_texts (with_packet packets to text) to texts
+
+all_texts : (packets : List (ℕ × List ℕ)) (to : ℕ) (outs : List Out)
+    → with_all packets to outs ≡ with_texts packets to (bytes_of outs)
+all_texts packets to [] = refl
+all_texts packets to (o ∷ outs) = all_texts (with_packet packets to o.bytes) to outs
+
+pub put_same : (packets : List (ℕ × List ℕ)) (to : ℕ) (outs these : List Out) → bytes_of outs ≡ bytes_of these
+    → with_all packets to outs ≡ with_all packets to these
+put_same packets to outs these same =
+    all_texts packets to outs ∙ ap (with_texts packets to) same ∙ sym (all_texts packets to these)
+
+-- the bytes of messages that are said
+pub bytes_said : (ms : List Message) → bytes_of (map packet_of ms) ≡ map text_of ms
+bytes_said [] = refl
+bytes_said (m ∷ ms) = ap (λ (texts : List (List ℕ)). text_of m ∷ texts) (bytes_said ms)
+
+-- and of those that are fetched besides
+pub bytes_left : (fetched said : List Message)
+    → bytes_of (map back_packet fetched ++ map packet_of said) ≡ map text_of (fetched ++ said)
+bytes_left [] said = bytes_said said
+bytes_left (m ∷ fetched) said = ap (λ (texts : List (List ℕ)). text_of m ∷ texts) (bytes_left fetched said)
 
 pub put_none : (packets : List (ℕ × List ℕ)) (to : ℕ) (outs : List Out) (new : List (ℕ × List ℕ)) → new ≡ packets
     → IsPutInPart packets to outs new
@@ -97,6 +125,11 @@ all_puts terms side (m ∷ ms) packets all new =
     all_puts terms side ms
     (cond (terms.takes (messages_in packets) m) (packets ++ from_side side m ∷ []) packets)
     (all_put packets (from_side side m) (terms.takes (messages_in packets) m) all new.0) new.1
+
+pub all_append : {A : Type 0} (P : A → Type 0) (xs ys : List A) → AllByRecursion P xs → AllByRecursion P ys
+    → AllByRecursion P (xs ++ ys)
+all_append P [] ys one two = two
+all_append P (x ∷ xs) ys one two = (one.0, all_append P xs ys one.1 two)
 
 pub all_take : {A : Type 0} (P : A → Type 0) (xs : List A) (count : ℕ) → AllByRecursion P xs
     → AllByRecursion P (take count xs)

@@ -10,19 +10,21 @@ use Rattle.rm_message.specs.declared.refusal.FaultKind.TheVariants.{TooLong}
 use Rattle.record_batch.specs.Fact.{Fact}
 use Rattle.rm_disk.specs.Call.{Call as DeviceCall}
 use Rattle.sequence_table.specs.Fits.{is_in_order}
-use Rattle.rm_protocol.specs.Calls.{Answer}
-use Rattle.rm_protocol.specs.Node.{Node, State, Up, Writing, end_of, is_short, records, records_in, said_after, said_by}
-use Rattle.rm_protocol.specs.Node.{said_with}
-use Rattle.rm_protocol.specs.Said.{leaves}
+use Rattle.rm_protocol.specs.Calls.{Answer, Fetched}
+use Rattle.rm_protocol.specs.Node.{Node, State, Up, Writing, end_of, fetched_after, fetched_by, fetched_message}
+use Rattle.rm_protocol.specs.Node.{is_short, records, records_in, said_after, said_by, said_with}
+use Rattle.rm_protocol.specs.Said.{leaves, sent_of}
 use Rattle.rm_protocol.specs.Addresses.{place_of}
 use Rattle.rm_protocol.specs.Terms.{Terms}
-use Rattle.node_laws.specs.Keeps.{EachIsReadBack, IsReadBack}
+use Rattle.message_writer.specs.Rules.{KeepsRules}
+use Rattle.node_laws.specs.Keeps.{EachIsByTheRules, IsReadBack, OfEachCall, PollsByTheRules, SaysByTheRules}
+use Rattle.node_laws.specs.Keeps.{WaitByTheRules}
 use Rattle.node_laws.specs.OwnTerms.{AreOwn}
 use Rattle.node_laws.specs.Records.{IsKept}
 use Rattle.node_store.specs.Stored.{Stored}
 use Rattle.rm_node.specs.Came.{IsReadAs}
-use Rattle.rm_node.specs.CameLemmas.{ReadsRight, RefusesRight, content_read}
-use Rattle.node_actor.specs.Stands.{StandsBy}
+use Rattle.rm_node.specs.CameLemmas.{ReadsRight, RefusesRight}
+use Rattle.node_actor.specs.Stands.{StandsBy, kept_of}
 use Rattle.rm_protocol.specs.World.{Side, One, Two, World, node}
 use Rattle.rm_replay.specs.Shows.{Drives, StandFor}
 use Rattle.rm_replay.specs.declared.stage.Nodes.{Nodes}
@@ -31,7 +33,11 @@ use Rattle.node_actor.specs.Steps.{answer_of, clocked}
 use Rattle.rm_replay.specs.Asked.{step_of}
 use Rattle.rm_replay.specs.Net.{read_as, text_of}
 use Rattle.rm_node.specs.declared.call.Call.{Call}
-use Rattle.rm_node.specs.declared.call.Call.TheVariants as call
+use Rattle.node_actor.specs.AnswerLemmas.{of_each}
+use Rattle.soap_envelope.specs.Soap.{soap_space}
+use Rattle.rm_replay.proofs.FetchedLemmas.{IsAlone, ask-alone, close-alone, create-alone, end-alone, nack-alone}
+use Rattle.rm_replay.proofs.FetchedLemmas.{receive-alone, send-alone, tick-alone}
+use Rattle.rm_replay.proofs.PutLemmas.{all_append}
 
 -- ---- what is said
 
@@ -47,9 +53,14 @@ read_by m false e back = too_long (leb-false (length (text_of m)) 2097152 e)
 read_message : (m : Message) → IsReadBack m → IsReadMessage m
 read_message m back = read_by m (nat_le (length (text_of m)) 2097152) refl back
 
-read_messages : (ms : List Message) → AllByRecursion IsReadBack ms → AllByRecursion IsReadMessage ms
-read_messages [] all = tt
-read_messages (m ∷ ms) all = (read_message m all.0, read_messages ms all.1)
+-- so is one that keeps the rules of what is written
+abbrev pub WrittenIsRead : Type 0
+WrittenIsRead = (m : Message) → KeepsRules soap_space m → IsReadBack m
+
+read_messages : WrittenIsRead → (ms : List Message) → AllByRecursion (KeepsRules soap_space) ms
+    → AllByRecursion IsReadMessage ms
+read_messages written [] all = tt
+read_messages written (m ∷ ms) all = (read_message m (written m all.0), read_messages written ms all.1)
 
 all_cond : {A : Type 0} (P : A → Type 0) (b : Bool) (xs ys : List A) → AllByRecursion P xs → AllByRecursion P ys
     → AllByRecursion P (cond b xs ys)
@@ -72,6 +83,11 @@ all_said : (P : Message → Type 0) (x : Node) (st : State) (answer : Answer) �
 all_said P x Up answer all = all_said_with P x.fuse answer.delta answer.outs all
 all_said P x (Writing delta) answer all = tt
 
+all_fetched : (P : Message → Type 0) (x : Node) (st : State) (answer : Answer)
+    → AllByRecursion P (fetched_message answer.fetched) → AllByRecursion P (fetched_by x st answer)
+all_fetched P x Up answer all = all_said_with P x.fuse answer.delta (fetched_message answer.fetched) all
+all_fetched P x (Writing delta) answer all = tt
+
 -- ---- at a node
 
 kept_by : (st : State) (entries : List (List Fact)) (past : List DeviceCall) (stored : Stored)
@@ -91,43 +107,77 @@ pub in_order_at : (w : World) (d : Drives) (nodes : Nodes) (side : Side) → Sta
 in_order_at w d nodes One stand = stand.one.in_order
 in_order_at w d nodes Two stand = stand.two.in_order
 
-answer_read : ReadsRight → RefusesRight → EachIsReadBack → (terms : Terms) → AreOwn terms → (x : Node)
-    → IsKept (records x) → is_in_order x.granted ≡ true → (asked : Asked) (this : Call) → MayBeAsked this
-    → Asks this asked → AllByRecursion IsReadBack (answer_of terms x asked).outs
-answer_read reads refuses each terms own x kept in_order asked (call.Create wish) may is =
-    subst (λ (a : Asked). AllByRecursion IsReadBack (answer_of terms x a).outs) (sym is)
-    ((each terms (records x) (end_of terms x.entries) own kept).create_ _ may)
-answer_read reads refuses each terms own x kept in_order asked (call.Send seq payload) may is =
-    subst (λ (a : Asked). AllByRecursion IsReadBack (answer_of terms x a).outs) (sym is)
-    ((each terms (records x) (end_of terms x.entries) own kept).send_ seq payload)
-answer_read reads refuses each terms own x kept in_order asked (call.Close seq) may is =
-    subst (λ (a : Asked). AllByRecursion IsReadBack (answer_of terms x a).outs) (sym is)
-    ((each terms (records x) (end_of terms x.entries) own kept).close_ seq x.clock)
-answer_read reads refuses each terms own x kept in_order asked (call.End seq) may is =
-    subst (λ (a : Asked). AllByRecursion IsReadBack (answer_of terms x a).outs) (sym is)
-    ((each terms (records x) (end_of terms x.entries) own kept).end_ seq)
-answer_read reads refuses each terms own x kept in_order asked (call.AskAck seq) may is =
-    subst (λ (a : Asked). AllByRecursion IsReadBack (answer_of terms x a).outs) (sym is)
-    ((each terms (records x) (end_of terms x.entries) own kept).ask_ack_ seq)
-answer_read reads refuses each terms own x kept in_order asked (call.NackMissing seq) may is =
-    subst (λ (a : Asked). AllByRecursion IsReadBack (answer_of terms x a).outs) (sym is)
-    ((each terms (records x) (end_of terms x.entries) own kept).nack_missing_ seq x.clock)
-answer_read reads refuses each terms own x kept in_order asked (call.Tick now) may is =
-    subst (λ (a : Asked). AllByRecursion IsReadBack (answer_of terms x a).outs) (sym is)
-    ((each terms (records x) (end_of terms x.entries) own kept).tick_ now x.time x.waits)
-answer_read reads refuses each terms own x kept in_order asked (call.Receive bytes) may is =
-    subst (λ (a : Asked). AllByRecursion IsReadBack (answer_of terms x a).outs) (sym is.is)
-    ((each terms (records x) (end_of terms x.entries) own kept).receive_ x.clock x.granted is.content in_order
-    (content_read reads refuses bytes.now is.content is.read))
+-- and what waits keeps the rules
+pub rules_at : (w : World) (d : Drives) (nodes : Nodes) (side : Side) → StandFor w d nodes
+    → WaitByTheRules (node w side).polled
+rules_at w d nodes One stand = stand.one.rules
+rules_at w d nodes Two stand = stand.two.rules
 
--- all that a node says in a call
-pub said_is_read : ReadsRight → RefusesRight → EachIsReadBack → (terms : Terms) → AreOwn terms → (x : Node)
-    → IsKept (records x) → is_in_order x.granted ≡ true → (asked : Asked) (this : Call) → MayBeAsked this
+-- ---- a call
+
+-- what comes to a node is as it is read, what it says then keeps the rules, and so does what it fetches; and what keeps
+-- them is read back
+pub record AreRead : Type 0 where
+  pub reads : ReadsRight
+  pub refuses : RefusesRight
+  pub says : EachIsByTheRules
+  pub polls : PollsByTheRules
+  pub written : WrittenIsRead
+
+-- all that leaves a node with this answer keeps the rules
+record LeavesByTheRules (answer : Answer) : Type 0 where
+  pub said : SaysByTheRules answer
+  pub fetched : AllByRecursion (KeepsRules soap_space) (fetched_message answer.fetched)
+
+-- where nothing is fetched
+alone : (answer : Answer) → SaysByTheRules answer → IsAlone answer → LeavesByTheRules answer
+alone answer says is = record {
+  said = says;
+  fetched = subst (λ (t : Option Fetched). AllByRecursion (KeepsRules soap_space) (fetched_message t)) (sym is.none)
+      tt;
+}
+
+-- so it is of each call but for what the receiving of a message is given of what waits
+each_leaves : EachIsByTheRules → (terms : Terms) (r : List Fact) (place : ℕ) → AreOwn terms → IsKept r
+    → OfEachCall terms r place LeavesByTheRules
+each_leaves says terms r place own kept =
+    let each = says terms r place own kept in
+    record {
+      create_ = λ wish may. alone _ (each.create_ wish may) (create-alone terms r place wish);
+      send_ = λ s payload. alone _ (each.send_ s payload) (send-alone terms r place s payload);
+      close_ = λ s now. alone _ (each.close_ s now) (close-alone terms r place s now);
+      end_ = λ s. alone _ (each.end_ s) (end-alone terms r place s);
+      tick_ = λ now time waits. alone _ (each.tick_ now time waits) (tick-alone terms r place now time waits);
+      ask_ack_ = λ s. alone _ (each.ask_ack_ s) (ask-alone r s);
+      nack_missing_ = λ s now. alone _ (each.nack_missing_ s now) (nack-alone r s now);
+      poll_ = λ to text. alone _ (each.poll_ to text) (record { none = refl });
+      receive_ = λ now behaviour content in_order read.
+          alone _ (each.receive_ now behaviour content in_order read)
+          (receive-alone terms r place now behaviour content);
+    }
+
+answer_leaves : AreRead → (terms : Terms) → AreOwn terms → (x : Node) → IsKept (records x)
+    → is_in_order x.granted ≡ true → WaitByTheRules x.polled → (asked : Asked) (this : Call) → MayBeAsked this
+    → Asks this asked → LeavesByTheRules (answer_of terms x asked)
+answer_leaves laws terms own x kept in_order rules asked this may by =
+    of_each laws.reads laws.refuses LeavesByTheRules terms (records x) (end_of terms x.entries) x.clock (kept_of x) this
+    asked (each_leaves laws.says terms (records x) (end_of terms x.entries) own kept)
+    (λ content answer leaves. record {
+      said = laws.polls.beside x.polled content answer leaves.said;
+      fetched = laws.polls.fetched x.polled content answer rules leaves.said;
+    }) in_order may by
+
+-- all that leaves a node in a call
+pub said_is_read : AreRead → (terms : Terms) → AreOwn terms → (x : Node) → IsKept (records x)
+    → is_in_order x.granted ≡ true → WaitByTheRules x.polled → (asked : Asked) (this : Call) → MayBeAsked this
     → Asks this asked → AllByRecursion IsReadMessage (step_of terms x asked this).said
-said_is_read reads refuses each terms own x kept in_order asked this within by =
+said_is_read laws terms own x kept in_order rules asked this within by =
     let answer = answer_of terms x asked in
     let y = clocked this x in
-    let all = read_messages answer.outs
-    (answer_read reads refuses each terms own x kept in_order asked this within by) in
-    all_filter IsReadMessage (λ (m : Message). leaves (is_connected this) (place_of m.addressing.to))
-    (said_after y answer) (all_said IsReadMessage y y.state answer all)
+    let by_rules = answer_leaves laws terms own x kept in_order rules asked this within by in
+    let fetched = read_messages laws.written (fetched_message answer.fetched) by_rules.fetched in
+    let said = read_messages laws.written answer.outs by_rules.said in
+    all_append IsReadMessage (fetched_after y answer) (sent_of (is_connected this) (said_after y answer))
+    (all_fetched IsReadMessage y y.state answer fetched)
+    (all_filter IsReadMessage (λ (m : Message). leaves (is_connected this) (place_of m.addressing.to))
+    (said_after y answer) (all_said IsReadMessage y y.state answer said))

@@ -145,8 +145,8 @@ rows_line : (terms : Terms) (w : World) (number : ℕ) (line : Said) (event : Op
     → HasRows terms w number line event
 rows_line terms w number said.Nothing event means =
     subst (HasRows terms w number said.Nothing) (sym means) (says_nothing [] [] [] finished)
-rows_line terms w number (said.Create at expires offer) event means =
-    subst (HasRows terms w number (said.Create at expires offer)) (sym means)
+rows_line terms w number (said.Create at expires polled offer) event means =
+    subst (HasRows terms w number (said.Create at expires polled offer)) (sym means)
     (has_row [] [] [] _ _ _ (record {
       pairs = λ script rest. refl;
       crash = λ side. refl;
@@ -211,6 +211,14 @@ rows_line terms w number (said.Ask at seq) event means =
     }) finished)
 rows_line terms w number (said.Nack at seq) event means =
     subst (HasRows terms w number (said.Nack at seq)) (sym means)
+    (has_row [] [] [] _ _ _ (record {
+      pairs = λ script rest. refl;
+      crash = λ side. refl;
+      entries = entries_same terms w number _ _;
+      sent = λ side seq now next. refl;
+    }) finished)
+rows_line terms w number (said.Poll at) event means =
+    subst (HasRows terms w number (said.Poll at)) (sym means)
     (has_row [] [] [] _ _ _ (record {
       pairs = λ script rest. refl;
       crash = λ side. refl;

@@ -13,16 +13,16 @@ use Rattle.rm_report.specs.declared.line.Outcome.{Outcome}
 use Rattle.node_actor.specs.Outcomes.{is_disk_outcome, packets_in}
 use Rattle.node_actor.specs.Stands.{Stands}
 use Rattle.node_actor.specs.declared.actor.Came.{Came}
-use Rattle.rm_replay.specs.Asked.{Step, SteppedAt, Steps, StepsAt, WasAsked, WereAsked}
+use Rattle.rm_replay.specs.Asked.{Step, SteppedAt, Steps, StepsAt, WasAsked, WereAsked, bytes_of}
 use Rattle.rm_replay.specs.Meaning.{side_of}
 use Rattle.rm_replay.specs.Tales.{Drive}
 use Rattle.rm_script.specs.declared.event.Side.{Side as Place}
 use Rattle.rm_script.specs.declared.event.Side.TheVariants as place
 use Rattle.rm_replay.specs.Happening.{IsPutInPart, Moves, WereAskedFor, moved, moved_in_part, with_all}
-use Rattle.rm_replay.specs.Net.{AreOfNet, number_of, wire_packets}
+use Rattle.rm_replay.specs.Net.{AreOfNet, number_of, text_of, wire_packets}
 use Rattle.rm_replay.specs.Shows.{Drives, IsReadRight, Scene, Shows, StandFor, address_one, address_two}
 use Rattle.rm_replay.specs.declared.stage.Nodes.{Nodes}
-use Rattle.rm_replay.proofs.PutLemmas.{all_puts, all_take, puts_are}
+use Rattle.rm_replay.proofs.PutLemmas.{all_puts, all_take, bytes_said, put_same, puts_are}
 use Rattle.rm_replay.proofs.ReadLemmas.{IsReadMessage}
 use Rattle.rm_replay.proofs.TaleLemmas.{asked_none}
 
@@ -111,24 +111,31 @@ map_take f (x ∷ xs) (suc count) = ap (λ rest. f x ∷ rest) (map_take f xs co
 -- all of what it says
 pub moved_whole : (terms : Terms) → AreOfNet terms → (w : World) (side : Side) (step : Step)
     (old scene : Scene) (before nodes : Nodes) (outs : List Out) → Shows w old before
-    → StandFor (with_node w side step.node) scene.drives nodes → outs ≡ map packet_of step.said
+    → StandFor (with_node w side step.node) scene.drives nodes → bytes_of outs ≡ map text_of step.said
     → scene.packets ≡ with_all old.packets (number_of (other side)) outs → AllByRecursion IsReadMessage step.said
     → Shows (moved terms w side step) scene nodes
 moved_whole terms net w side step old scene before nodes outs shows stand is put said =
     moved_shows terms net w side step.node step.said old scene before nodes shows stand
-    (put ∙ ap (λ (these : List Out). with_all old.packets (number_of (other side)) these) is) said
+    (put ∙ put_same old.packets (number_of (other side)) outs (map packet_of step.said)
+    (is ∙ sym (bytes_said step.said))) said
+
+-- the bytes of some first packets
+part_said : (outs : List Out) (ms : List Message) (count : ℕ) → bytes_of outs ≡ map text_of ms
+    → bytes_of (take count outs) ≡ bytes_of (map packet_of (take count ms))
+part_said outs ms count is =
+    sym (map_take (λ (out : Out). out.bytes) outs count) ∙ ap (λ (texts : List (List ℕ)). take count texts) is
+    ∙ map_take text_of ms count ∙ sym (bytes_said (take count ms))
 
 -- some first of it
 pub moved_part : (terms : Terms) → AreOfNet terms → (w : World) (side : Side) (step : Step) (count : ℕ)
     (old scene : Scene) (before nodes : Nodes) (outs : List Out) → Shows w old before
-    → StandFor (with_node w side step.node) scene.drives nodes → outs ≡ map packet_of step.said
+    → StandFor (with_node w side step.node) scene.drives nodes → bytes_of outs ≡ map text_of step.said
     → scene.packets ≡ with_all old.packets (number_of (other side)) (take count outs)
     → AllByRecursion IsReadMessage step.said → Shows (moved_in_part terms w side step count) scene nodes
 moved_part terms net w side step count old scene before nodes outs shows stand is put said =
     moved_shows terms net w side step.node (take count step.said) old scene before nodes shows stand
-    (put ∙ ap (λ (these : List Out). with_all old.packets (number_of (other side)) (take count these)) is
-    ∙ ap (λ (these : List Out). with_all old.packets (number_of (other side)) these)
-    (map_take packet_of step.said count))
+    (put ∙ put_same old.packets (number_of (other side)) (take count outs) (map packet_of (take count step.said))
+    (part_said outs step.said count is))
     (all_take IsReadMessage step.said count said)
 
 -- the scene as it was but for the drives, where nothing was said

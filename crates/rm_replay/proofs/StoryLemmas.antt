@@ -4,12 +4,15 @@ use Rattle.std.proofs.Common.{Bool, true, false, Option, Some, None, refl, sym, 
 use Rattle.std.specs.Prelude.{OnOk, Result, Ok, Err}
 use Rattle.std.proofs.lemmas.List.{length-map}
 use Rattle.std.proofs.Math.Seq.{take-append_seam, take-length}
-use Rattle.rm_protocol.specs.Node.{Node, State, Up, Writing, armed, end_of, mounted, records, said_after}
+use Rattle.rm_protocol.specs.Node.{Node, State, Up, Writing, armed, end_of, fetched_after, mounted, records}
+use Rattle.rm_protocol.specs.Node.{said_after}
+use Rattle.rm_protocol.specs.Polls.{poll}
 use Rattle.rm_protocol.specs.Said.{sent_of}
 use Rattle.rm_protocol.specs.Terms.{Terms}
 use Rattle.rm_protocol.specs.World.{Packet, Side, One, Two, World, Event, Create, Grant, Send, Tick, Deliver, Close}
-use Rattle.rm_protocol.specs.World.{End, Ask, Nack, Arm, Crash}
-use Rattle.rm_protocol.specs.World.{Noise, arrives, calls, happens, node, other, received_by, sent, wish_of, with_clock}
+use Rattle.rm_protocol.specs.World.{End, Ask, Nack, Poll, Arm, Crash}
+use Rattle.rm_protocol.specs.World.{Noise, arrives, calls, happens, node, other, place, received_by, sent, wish_of}
+use Rattle.rm_protocol.specs.World.{with_clock}
 use Rattle.rm_protocol.specs.World.{with_node}
 use Rattle.rm_protocol.specs.Calls.{Answer, create, send, close, end, tick, ask_ack, nack_missing}
 use Rattle.rm_protocol.specs.Word.{IsPrefixOf}
@@ -123,16 +126,16 @@ short_end each terms script first now nodes text all = record {
 calls_grow : (terms : Terms) (w : World) (side : Side) (connected : Bool) (answer : Answer)
     → IsPrefixOf w.packets (calls terms w side connected answer).packets
 calls_grow terms w One connected answer =
-    puts_behind terms (sent One (sent_of connected (said_after w.one answer))) w.packets
+    puts_behind terms (sent One (fetched_after w.one answer ++ sent_of connected (said_after w.one answer))) w.packets
 calls_grow terms w Two connected answer =
-    puts_behind terms (sent Two (sent_of connected (said_after w.two answer))) w.packets
+    puts_behind terms (sent Two (fetched_after w.two answer ++ sent_of connected (said_after w.two answer))) w.packets
 
 node_grows : (terms : Terms) (w : World) (side : Side) (x : Node) (connected : Bool) (answer : Answer)
     → IsPrefixOf w.packets (calls terms (with_node w side x) side connected answer).packets
 node_grows terms w One x connected answer =
-    puts_behind terms (sent One (sent_of connected (said_after x answer))) w.packets
+    puts_behind terms (sent One (fetched_after x answer ++ sent_of connected (said_after x answer))) w.packets
 node_grows terms w Two x connected answer =
-    puts_behind terms (sent Two (sent_of connected (said_after x answer))) w.packets
+    puts_behind terms (sent Two (fetched_after x answer ++ sent_of connected (said_after x answer))) w.packets
 
 still : (w : World) (side : Side) (x : Node) → IsPrefixOf w.packets (with_node w side x).packets
 still w One x = ([], sym (append-nil w.packets))
@@ -168,6 +171,8 @@ packets_grow terms w (End side seq) =
 packets_grow terms w (Ask side seq) = calls_grow terms w side false (ask_ack (records (node w side)) seq)
 packets_grow terms w (Nack side seq) =
     calls_grow terms w side false (nack_missing (records (node w side)) seq (node w side).clock)
+packets_grow terms w (Poll side) =
+    calls_grow terms w side false (poll (records (node w side)) (place w (other side)))
 packets_grow terms w (Arm side c) = still w side (record (node w side) { fuse = armed c (node w side).fuse })
 packets_grow terms w (Crash side kept) = still w side (mounted (node w side) kept)
 packets_grow terms w (Noise side refusal) =

@@ -120,7 +120,8 @@ crashes_told : (side : Side) (line : Said) (entries : List (List Fact)) (old new
     → crashes_of new.disk.past ≡ crashes_of old.disk.past ++ pairs → AreLeftBy (crash_in side line entries) pairs
     → (crashes_of new.disk.past ≡ crashes_of old.disk.past) ⊎ HasCrashed side line old new
 crashes_told side said.Nothing entries old new pairs is left = inl (none_more _ _ pairs is left)
-crashes_told side (said.Create at expires offer) entries old new pairs is left = inl (none_more _ _ pairs is left)
+crashes_told side (said.Create at expires polled offer) entries old new pairs is left =
+    inl (none_more _ _ pairs is left)
 crashes_told side (said.Grant at behaviour) entries old new pairs is left = inl (none_more _ _ pairs is left)
 crashes_told side (said.Send at seq text) entries old new pairs is left = inl (none_more _ _ pairs is left)
 crashes_told side (said.Tick at now) entries old new pairs is left = inl (none_more _ _ pairs is left)
@@ -129,6 +130,7 @@ crashes_told side (said.Close at seq) entries old new pairs is left = inl (none_
 crashes_told side (said.End at seq) entries old new pairs is left = inl (none_more _ _ pairs is left)
 crashes_told side (said.Ask at seq) entries old new pairs is left = inl (none_more _ _ pairs is left)
 crashes_told side (said.Nack at seq) entries old new pairs is left = inl (none_more _ _ pairs is left)
+crashes_told side (said.Poll at) entries old new pairs is left = inl (none_more _ _ pairs is left)
 crashes_told side (said.Arm at calls) entries old new pairs is left = inl (none_more _ _ pairs is left)
 crashes_told side (said.Crash at choice) entries old new pairs is left =
     one_of side (side_of at) choice entries (crashes_of old.disk.past) (crashes_of new.disk.past) pairs is left

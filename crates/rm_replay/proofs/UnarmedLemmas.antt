@@ -17,6 +17,7 @@ use Rattle.rm_replay.specs.Played.{Played, Story, more, none, start_world}
 use Rattle.rm_replay.specs.Shows.{address_one, address_two}
 use Rattle.rm_replay.specs.Unarmed.{ArmsNone, IsCalm, TellsCalm}
 use Rattle.rm_replay.proofs.PlayedLemmas.{RunGoesOn}
+use Rattle.rm_replay.proofs.PutLemmas.{all_append}
 
 -- no event of a run without an arm has a fault
 abbrev pub RunsAreFaultless : Type 0
@@ -49,7 +50,7 @@ calm_told NoCall free = tt
 
 calm_silent : (number : ℕ) (line : Said) (w : World) → AllByRecursion TellsCalm (report_of number (silent line) w)
 calm_silent number said.Nothing w = tt
-calm_silent number (said.Create at expires offer) w = (tt, tt)
+calm_silent number (said.Create at expires polled offer) w = (tt, tt)
 calm_silent number (said.Grant at behaviour) w = (tt, tt)
 calm_silent number (said.Send at seq text) w = (tt, tt)
 calm_silent number (said.Tick at now) w = (tt, tt)
@@ -58,6 +59,7 @@ calm_silent number (said.Close at seq) w = (tt, tt)
 calm_silent number (said.End at seq) w = (tt, tt)
 calm_silent number (said.Ask at seq) w = (tt, tt)
 calm_silent number (said.Nack at seq) w = (tt, tt)
+calm_silent number (said.Poll at) w = (tt, tt)
 calm_silent number (said.Arm at calls) w = (tt, tt)
 calm_silent number (said.Crash at choice) w = (tt, tt)
 calm_silent number (said.Noise at bytes) w = (tt, tt)
@@ -77,7 +79,7 @@ IsUnarmedStep (Some event) = IsUnarmed event
 
 unarmed_step : (line : Said) (event : Option Event) → ArmsNone line → Means line event → IsUnarmedStep event
 unarmed_step said.Nothing event arms means = subst IsUnarmedStep (sym means) tt
-unarmed_step (said.Create at expires offer) event arms means = subst IsUnarmedStep (sym means) tt
+unarmed_step (said.Create at expires polled offer) event arms means = subst IsUnarmedStep (sym means) tt
 unarmed_step (said.Grant at behaviour) event arms means = subst IsUnarmedStep (sym means) tt
 unarmed_step (said.Send at seq text) event arms means = subst IsUnarmedStep (sym means) tt
 unarmed_step (said.Tick at now) event arms means = subst IsUnarmedStep (sym means) tt
@@ -86,6 +88,7 @@ unarmed_step (said.Close at seq) event arms means = subst IsUnarmedStep (sym mea
 unarmed_step (said.End at seq) event arms means = subst IsUnarmedStep (sym means) tt
 unarmed_step (said.Ask at seq) event arms means = subst IsUnarmedStep (sym means) tt
 unarmed_step (said.Nack at seq) event arms means = subst IsUnarmedStep (sym means) tt
+unarmed_step (said.Poll at) event arms means = subst IsUnarmedStep (sym means) tt
 unarmed_step (said.Arm at calls) event arms means = absurd arms
 unarmed_step (said.Crash at choice) event arms means = subst IsUnarmedStep (sym means.1) tt
 unarmed_step (said.Noise at bytes) None arms means = tt
@@ -98,11 +101,6 @@ pub record IsOfUnarmed (terms : Terms) (w : World) : Type 0 where
   pub events : List Event
   pub unarmed : AreUnarmed events
   pub is : w ≡ run terms events start_world
-
-all_append : {A : Type 0} (P : A → Type 0) (xs ys : List A) → AllByRecursion P xs → AllByRecursion P ys
-    → AllByRecursion P (xs ++ ys)
-all_append P [] ys one two = two
-all_append P (x ∷ xs) ys one two = (one.0, all_append P xs ys one.1 two)
 
 all_front : {A : Type 0} (P : A → Type 0) (xs : List A) (x : A) → AllByRecursion P (xs ++ x ∷ []) → AllByRecursion P xs
 all_front P [] x all = tt

@@ -1,9 +1,9 @@
 -- What a node is asked for, or what comes to it, as a call of the protocol.
-use Rattle.std.specs.Prelude.{◌≡◌, ◌&&◌, Bool, false, List, map, Result, Ok, Err}
+use Rattle.std.specs.Prelude.{◌≡◌, ◌&&◌, ℕ, Bool, false, List, ◌++◌, map, Result, Ok, Err}
 use Rattle.rm_base.specs.declared.failures.Memory.{Memory}
 use Rattle.rm_message.specs.declared.message.Message.{Message}
-use Rattle.rm_node.specs.Packets.{packet_of}
-use Rattle.rm_protocol.specs.Node.{CallOutcome, Node, after, call_outcome, said_after}
+use Rattle.rm_node.specs.declared.packets.Out.{Out}
+use Rattle.rm_protocol.specs.Node.{CallOutcome, Node, after, call_outcome, fetched_after, said_after}
 use Rattle.rm_protocol.specs.Said.{sent_of}
 use Rattle.rm_protocol.specs.Terms.{Terms}
 use Rattle.rm_protocol.specs.World.{Side, One, Two, World, with_node}
@@ -18,6 +18,7 @@ use Rattle.node_actor.specs.Stands.{Stands}
 use Rattle.node_actor.specs.declared.actor.Came.{Came}
 use Rattle.rm_disk.specs.Told.{Told}
 use Rattle.rm_node.specs.declared.call.Call.{Call}
+use Rattle.rm_replay.specs.Net.{text_of}
 use Rattle.rm_replay.specs.Shows.{Drives, StandFor}
 use Rattle.rm_replay.specs.Tales.{Drive}
 use Rattle.rm_replay.specs.declared.stage.Nodes.{Nodes}
@@ -32,15 +33,20 @@ pub record Step : Type 0 where
 abbrev pub step_of : Terms → Node → Asked → Call → Step
 step_of terms x asked this = record {
   node = after (clocked this x) (answer_of terms x asked);
-  said = sent_of (is_connected this) (said_after (clocked this x) (answer_of terms x asked));
+  said = fetched_after (clocked this x) (answer_of terms x asked)
+      ++ sent_of (is_connected this) (said_after (clocked this x) (answer_of terms x asked));
   outcome = call_outcome (clocked this x) (answer_of terms x asked);
 }
 
--- the code's node made this step
+-- the bytes of packets
+abbrev pub bytes_of : List Out → List (List ℕ)
+bytes_of outs = map (λ (out : Out). out.bytes) outs
+
+-- the code's node made this step, and the texts of what is said left it
 pub record Stepped (step : Step) (now : Told) (new : Actored) (came : Came) : Type 0 where
   pub stands : Stands step.node now new
   pub outcome : came.outcome ≡ call_told step.outcome
-  pub outs : packets_in came ≡ map packet_of step.said
+  pub outs : bytes_of (packets_in came) ≡ map text_of step.said
 
 -- where memory was wanting, nothing has changed
 abbrev pub Steps : Node → Step → Told → Actored → Result Came Memory → Type 0
@@ -51,7 +57,7 @@ Steps x step now new (Err memory) = Stands x now new
 pub record SteppedAt (w : World) (side : Side) (step : Step) (d : Drives) (nodes : Nodes) (came : Came) : Type 0 where
   pub stand : StandFor (with_node w side step.node) d nodes
   pub outcome : came.outcome ≡ call_told step.outcome
-  pub outs : packets_in came ≡ map packet_of step.said
+  pub outs : bytes_of (packets_in came) ≡ map text_of step.said
 
 -- where memory was wanting, nothing has changed
 abbrev pub StepsAt : World → Side → Step → Drives → Nodes → Result Came Memory → Type 0

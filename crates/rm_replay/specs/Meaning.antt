@@ -1,14 +1,15 @@
 -- What a line of a script is to the protocol, and how it comes out.
-use Rattle.std.specs.Prelude.{◌≡◌, ℕ, Bool, List, ◌∷◌, length, Option, Some, None, []}
+use Rattle.std.specs.Prelude.{◌≡◌, ℕ, Bool, true, false, List, ◌∷◌, length, Option, Some, None, []}
 use Rattle.soap_envelope.specs.Soap.{soap_space}
 use Rattle.message_reader.specs.Refusals.{Refuses, Spells}
-use Rattle.record_batch.specs.declared.record.Via.TheVariants.{Direct}
+use Rattle.record_batch.specs.declared.record.Via.{Via}
+use Rattle.record_batch.specs.declared.record.Via.TheVariants.{Direct, Polled}
 use Rattle.rm_message.specs.declared.message.Message.{Message}
 use Rattle.rm_message.specs.declared.refusal.Refusal.{Refusal}
 use Rattle.rm_protocol.specs.Sent.{LineOutcome, Called, NoPacket, NoCall, outcome_of}
 use Rattle.rm_protocol.specs.Terms.{Terms}
 use Rattle.rm_protocol.specs.World.{Side, One, Two, Event, Create, Grant, Send, Tick, Deliver, Close, End, Ask}
-use Rattle.rm_protocol.specs.World.{Nack, Arm, Crash, Noise, World, happens}
+use Rattle.rm_protocol.specs.World.{Nack, Poll, Arm, Crash, Noise, World, happens}
 use Rattle.rm_report.specs.declared.line.Line.{Line}
 use Rattle.rm_report.specs.declared.line.Outcome.{Outcome}
 use Rattle.rm_report.specs.declared.line.Outcome.TheVariants as told
@@ -23,6 +24,11 @@ abbrev pub side_of : Node → Side
 side_of node.One = One
 side_of node.Two = Two
 
+-- where what comes back goes: to the node's address, or to none
+abbrev pub via_of : Bool → Via
+via_of true = Polled
+via_of false = Direct
+
 -- noise is bytes that are refused as a message; bytes that spell one are none
 abbrev pub IsNoise : Node → List ℕ → Option Event → Type 0
 IsNoise at bytes None = (m : Message) × Spells soap_space bytes m
@@ -33,7 +39,8 @@ IsNoise at bytes (Some event) =
 -- crash keeps is a free choice.
 abbrev pub Means : Said → Option Event → Type 0
 Means said.Nothing event = event ≡ None
-Means (said.Create at expires offer) event = event ≡ Some (Create (side_of at) Direct expires offer)
+Means (said.Create at expires polled offer) event =
+    event ≡ Some (Create (side_of at) (via_of polled) expires offer)
 Means (said.Grant at behaviour) event = event ≡ Some (Grant (side_of at) behaviour)
 Means (said.Send at seq text) event = event ≡ Some (Send (side_of at) seq text)
 Means (said.Tick at now) event = event ≡ Some (Tick (side_of at) now)
@@ -42,6 +49,7 @@ Means (said.Close at seq) event = event ≡ Some (Close (side_of at) seq)
 Means (said.End at seq) event = event ≡ Some (End (side_of at) seq)
 Means (said.Ask at seq) event = event ≡ Some (Ask (side_of at) seq)
 Means (said.Nack at seq) event = event ≡ Some (Nack (side_of at) seq)
+Means (said.Poll at) event = event ≡ Some (Poll (side_of at))
 Means (said.Arm at calls) event = event ≡ Some (Arm (side_of at) calls)
 Means (said.Crash at choice) event = (kept : Bool) × (event ≡ Some (Crash (side_of at) kept))
 Means (said.Noise at bytes) event = IsNoise at bytes event

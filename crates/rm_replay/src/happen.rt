@@ -9,7 +9,7 @@ ghost use Rattle.sequence_table.specs.Fits.{is_in_order};
 ghost use Rattle.rm_node.specs.Asked.{Asked, Asks, MayBeAsked};
 ghost use Rattle.rm_replay.specs.Asked.{WereAsked, step_of};
 ghost use Rattle.rm_replay.specs.Happening.{Crashes, Happens, Moves, WereAskedFor, armed, granted, told_of};
-ghost use Rattle.rm_replay.specs.Meaning.{side_of};
+ghost use Rattle.rm_replay.specs.Meaning.{side_of, via_of};
 ghost use Rattle.rm_replay.specs.Net.{AreOfNet, number_of};
 ghost use Rattle.rm_replay.specs.Shows.{Drives, Shows, StandFor, address_of, drives_of, scene_of};
 
@@ -19,7 +19,7 @@ use crate::wire::put_came;
 use call_answers::Wish;
 use message_reader::decode;
 use node_actor::laws::each_image_is_left;
-use node_laws::laws::each_message_is_read_back;
+use node_laws::laws::{each_message_keeps_the_rules, what_waits_keeps_the_rules};
 use read_laws::laws::{a_refusal_may_be_answered, what_is_read_may_be_written};
 use record_batch::Via;
 use rm_base::laws::texts_are_tested;
@@ -30,6 +30,7 @@ use rm_network::Wire;
 use rm_node::Call;
 use rm_report::Outcome;
 use rm_script::{Event, Side};
+use rm_wire::laws::what_is_written_is_read;
 use std::alloc::Global;
 
 fn address_bytes(side: Side) -> &'static [u8]
@@ -112,11 +113,23 @@ fn call<M: CrashDisk, W: Wire>(
         (drives_of M.told stage.old.one stage.old.two)
         (drives_of M.told stage.new.one stage.new.two) }
 {
-    each_message_is_read_back();
+    each_message_keeps_the_rules();
+    what_waits_keeps_the_rules();
+    what_is_written_is_read();
     what_is_read_may_be_written();
     a_refusal_may_be_answered();
     let came = ask_at(&mut stage.one, &mut stage.two, nodes, side, call)?;
     put_came(&mut stage.wire, number(other(side)), came)
+}
+
+/// Where what comes back goes: to the node's address, or where the node is polled, to no address.
+fn via(polled: bool) -> Via
+    ensures { result ≡ via_of polled }
+{
+    if polled {
+        return Via::Polled;
+    }
+    Via::Direct
 }
 
 /// A sequence to the other node is asked for.
@@ -126,6 +139,7 @@ fn create<M: CrashDisk, W: Wire>(
     nodes: &mut Nodes,
     side: Side,
     expires: Lapse,
+    polled: bool,
     offer: Option<Behaviour>,
 ) -> Result<Outcome, Memory>
     requires there { (w : World) × Shows w (scene_of M.told W.packets stage.old) nodes.old }
@@ -133,7 +147,7 @@ fn create<M: CrashDisk, W: Wire>(
     requires offer { IfSome offer (λ behaviour. is_in_order behaviour ≡ true) }
     ensures { (terms : Terms) → AreOfNet terms → (w : World)
         → Shows w (scene_of M.told W.packets stage.old) nodes.old
-        → Happens terms w (Event.Create side expires offer)
+        → Happens terms w (Event.Create side expires polled offer)
         (scene_of M.told W.packets stage.old)
         (scene_of M.told W.packets stage.new) nodes.new (told_of result) }
 {
@@ -141,11 +155,30 @@ fn create<M: CrashDisk, W: Wire>(
     let to = address(alloc, other(side))?;
     let wish = Wish {
         to,
-        via: Via::Direct,
+        via: via(polled),
         expires,
         offer,
     };
     call(stage, nodes, side, Call::Create { wish })
+}
+
+/// The other node is asked for the oldest message that waits there.
+fn poll<M: CrashDisk, W: Wire>(
+    alloc: Global,
+    stage: &mut Stage<M, W>,
+    nodes: &mut Nodes,
+    side: Side,
+) -> Result<Outcome, Memory>
+    requires there { (w : World) × Shows w (scene_of M.told W.packets stage.old) nodes.old }
+    ensures { (terms : Terms) → AreOfNet terms → (w : World)
+        → Shows w (scene_of M.told W.packets stage.old) nodes.old
+        → Happens terms w (Event.Poll side)
+        (scene_of M.told W.packets stage.old)
+        (scene_of M.told W.packets stage.new) nodes.new (told_of result) }
+{
+    each_image_is_left();
+    let to = address(alloc, other(side))?;
+    call(stage, nodes, side, Call::Poll { to })
 }
 
 /// A packet comes to its node.
@@ -161,7 +194,9 @@ fn deliver<M: CrashDisk, W: Wire>(
         → Happens terms w (Event.Deliver packet) (scene_of M.told W.packets stage.old)
         (scene_of M.told W.packets stage.new) nodes.new (told_of result) }
 {
-    each_message_is_read_back();
+    each_message_keeps_the_rules();
+    what_waits_keeps_the_rules();
+    what_is_written_is_read();
     what_is_read_may_be_written();
     a_refusal_may_be_answered();
     each_image_is_left();
@@ -267,8 +302,9 @@ pub(crate) fn happen<M: CrashDisk, W: Wire>(
         Event::Create {
             node,
             expires,
+            polled,
             offer,
-        } => some(create(alloc, stage, nodes, node, expires, offer)),
+        } => some(create(alloc, stage, nodes, node, expires, polled, offer)),
         Event::Grant { node, behaviour } => {
             grant(nodes, node, behaviour);
             Ok(Some(Outcome::Done))
@@ -285,6 +321,7 @@ pub(crate) fn happen<M: CrashDisk, W: Wire>(
         Event::End { node, seq } => some(call(stage, nodes, node, Call::End { seq })),
         Event::Ask { node, seq } => some(call(stage, nodes, node, Call::AskAck { seq })),
         Event::Nack { node, seq } => some(call(stage, nodes, node, Call::NackMissing { seq })),
+        Event::Poll { node } => some(poll(alloc, stage, nodes, node)),
         Event::Arm { node, calls } => {
             arm(&mut stage.one, &mut stage.two, nodes, node, calls);
             Ok(Some(Outcome::Done))

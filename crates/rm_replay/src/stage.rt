@@ -13,7 +13,7 @@ pub struct Stage<M: CrashDisk, W: Wire> {
 }
 
 /// Both nodes.
-#[derive(Debug, Drop)]
+#[derive(Drop)]
 pub struct Nodes {
     pub one: Actor,
     pub two: Actor,

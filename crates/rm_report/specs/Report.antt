@@ -2,6 +2,7 @@
 use Rattle.std.specs.Prelude.{ℕ, List, [], ◌∷◌, ◌++◌, codes, decimal}
 use Rattle.hex.specs.Hex.{encode_lower}
 use Rattle.ack_ranges.specs.declared.range.Range.{Range}
+use Rattle.message_lines.specs.Lines as lines
 use Rattle.rm_base.specs.declared.message.Behaviour.{Behaviour}
 use Rattle.rm_base.specs.declared.message.Behaviour.TheVariants.{NoDiscard, EntireSequence, FollowingFirstGap}
 use Rattle.rm_destination.specs.declared.outcome.InPhase.{InPhase}
@@ -61,19 +62,10 @@ lines_text (line ∷ lines) = line_text line ++ lines_text lines
 
 -- ---- what both nodes know
 
--- the numbers from lower to upper
-abbrev pub range_text : Range → List ℕ
-range_text range = decimal range.lower ++ codes "-" ++ decimal range.upper
-
--- ranges behind another one
-abbrev pub more_ranges : List Range → List ℕ
-more_ranges [] = []
-more_ranges (range ∷ ranges) = codes "," ++ range_text range ++ more_ranges ranges
-
 -- R, such as 1-3,5-5, and - where there are no ranges
 abbrev pub ranges_text : List Range → List ℕ
 ranges_text [] = codes "-"
-ranges_text (range ∷ ranges) = range_text range ++ more_ranges ranges
+ranges_text (range ∷ ranges) = lines.ranges_text (range ∷ ranges)
 
 -- the PHASE of an outgoing sequence
 abbrev pub out_phase : OutPhase → List ℕ

@@ -1,8 +1,11 @@
-//! Reports of two nodes, as text: a line for each line of a script, and what the nodes know after the last one. It
-//! stands on scripts, `rm_script`, on the kinds of faults, `rm_message`, and on the phases of both sides of a sequence.
-//! The layer above may use the writers, each of which appends what `specs/Report` says.
+//! Reports of two nodes, as text: a line for each line of a script, and what the nodes know after the last one; and how
+//! a command may end, as a status and a line. It stands on scripts, `rm_script`, on the kinds of faults, `rm_message`,
+//! on ranges as `message_lines` writes them, and on the phases of both sides of a sequence. The layer above may use the
+//! writers, each of which appends what `specs/Report` says, and the numbers and lines of `exits`, which are those of
+//! `specs/Exits`.
 #![tactic(auto)]
 
+pub mod exits;
 pub mod line;
 mod names;
 pub mod summary;

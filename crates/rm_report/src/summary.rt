@@ -1,7 +1,7 @@
 //! The lines of a report behind the last line of its script: what the nodes know.
 ghost use Rattle.std.specs.Prelude.{◌≡◌, ◌++◌, OnOk};
 ghost use Rattle.rm_report.specs.Report.{out_text, in_text, counts_text, item_text, down_text, place_text, ranges_text};
-ghost use Rattle.rm_report.specs.Report.{range_text, receiving_text, sending_text};
+ghost use Rattle.rm_report.specs.Report.{receiving_text, sending_text};
 
 use crate::names::{behaviour_name, in_phase_name, out_phase_name, side_name};
 use ack_ranges::Range;
@@ -134,21 +134,8 @@ fn push_place(out: &mut Blob, place: Place) -> Result<(), Memory>
 pub fn push_ranges(out: &mut Blob, ranges: &[Range]) -> Result<(), Memory>
     ensures { OnOk result (out.new ≡ out.old ++ ranges_text ranges.now) }
 {
-    let Some((first, rest)) = ranges.split_first() else {
-        return out.push_all(b"-");
-    };
-    push_range(out, first)?;
-    for range in rest {
-        out.push_all(b",")?;
-        push_range(out, range)?;
+    match ranges {
+        [] => out.push_all(b"-"),
+        _ => message_lines::push_ranges(out, ranges),
     }
-    Ok(())
-}
-
-fn push_range(out: &mut Blob, range: &Range) -> Result<(), Memory>
-    ensures { OnOk result (out.new ≡ out.old ++ range_text range.now) }
-{
-    push_decimal(out, range.lower)?;
-    out.push_all(b"-")?;
-    push_decimal(out, range.upper)
 }

@@ -10,16 +10,17 @@ use Rattle.hex.specs.declared.error.FromHexError.{FromHexError}
 use Rattle.rm_base.specs.declared.message.Behaviour.{Behaviour}
 use Rattle.rm_base.specs.declared.lapse.Lapse.{Lapse}
 use Rattle.rm_elements.specs.Duration.{duration_in}
-use Rattle.rm_script.specs.Script.{side_text, spaced, IsExpiry, IsOffer, IsWish, Says}
+use Rattle.rm_script.specs.Script.{side_text, spaced, IsExpiry, IsOffer, IsPolled, IsWish, Says}
 use Rattle.rm_script.specs.Reading.{behind, word_of, behind_word, number_in, behaviour_in, node_in, call_in}
 use Rattle.rm_script.specs.Reading.{numbered_in, offer_in, create_with, create_behind, create_in, grant_in, text_in}
 use Rattle.rm_script.specs.Reading.{text_behind, send_in, tick_in, deliver_in, close_in, end_in, arm_in, crash_in}
-use Rattle.rm_script.specs.Reading.{ask_in, nack_in}
+use Rattle.rm_script.specs.Reading.{ask_in, nack_in, poll_alone, poll_in, polled_by, polled_in}
 use Rattle.rm_script.specs.Reading.{some_bytes, noise_in, choose, mishap_in, request_in, is_blank, event_in}
 use Rattle.rm_script.specs.declared.event.Side.{Side}
+use Rattle.rm_script.specs.declared.event.Side.TheVariants.{One, Two}
 use Rattle.rm_script.specs.declared.event.Event.{Event}
 use Rattle.rm_script.specs.declared.event.Event.TheVariants.{Nothing, Create, Grant, Send, Tick, Deliver, Close, End}
-use Rattle.rm_script.specs.declared.event.Event.TheVariants.{Ask, Nack}
+use Rattle.rm_script.specs.declared.event.Event.TheVariants.{Ask, Nack, Poll}
 use Rattle.rm_script.specs.declared.event.Event.TheVariants.{Arm, Crash, Noise}
 use Rattle.rm_script.proofs.WordLemmas.{some_then, some_mapped, behind-is, word_of-onto, behind_word-onto}
 use Rattle.rm_script.proofs.WordLemmas.{word_of-behind, word_of-IsWord, number_in-decimal, number_in-is, decimal-IsWord}
@@ -50,21 +51,52 @@ no_expiry : (words : List ℕ) (offer : Option Behaviour) → IsOffer words offe
 no_expiry words None h = rw h refl
 no_expiry words (Some behaviour) h = rw h.2 refl
 
-create_behind-wish : (side : Side) (words : List ℕ) (expires : Lapse) (offer : Option Behaviour)
-    → IsWish words expires offer
-    → create_behind side words (behind (codes " expires ") words) ≡ Some (Create side expires offer)
-create_behind-wish side words expires offer w =
+-- nor does it say that a node is polled
+not_polled : (words : List ℕ) (offer : Option Behaviour) → IsOffer words offer → behind (codes " polled") words ≡ None
+not_polled words None h = rw h refl
+not_polled words (Some behaviour) h = rw h.2 refl
+
+-- the words behind a duration: they begin with a space, and are no duration
+record IsBehind (words : List ℕ) : Type 0 where
+  rest : behind_word words ≡ words
+  word : word_of words ≡ []
+  no_expiry_ : behind (codes " expires ") words ≡ None
+
+words-IsBehind : (marked offered : List ℕ) (polled : Bool) (offer : Option Behaviour) → IsPolled marked polled
+    → IsOffer offered offer → IsBehind (marked ++ offered)
+words-IsBehind marked offered true offer h k = rw h (record { rest = refl; word = refl; no_expiry_ = refl })
+words-IsBehind marked offered false offer h k = rw h (record {
+  rest = behind_word-offer offered offer k;
+  word = word_of-offer offered offer k;
+  no_expiry_ = no_expiry offered offer k;
+})
+
+create_with-words : (side : Side) (expires : Lapse) (marked offered : List ℕ) (polled : Bool) (offer : Option Behaviour)
+    → IsPolled marked polled → IsOffer offered offer
+    → create_with side (marked ++ offered) expires ≡ Some (Create side expires polled offer)
+create_with-words side expires marked offered true offer h k = rw (h, offer_in-offer offered offer k) refl
+create_with-words side expires marked offered false offer h k =
+    rw (h, not_polled offered offer k, offer_in-offer offered offer k) refl
+
+create_behind-wish : (side : Side) (words : List ℕ) (expires : Lapse) (polled : Bool) (offer : Option Behaviour)
+    → IsWish words expires polled offer
+    → create_behind side words (behind (codes " expires ") words) ≡ Some (Create side expires polled offer)
+create_behind-wish side words expires polled offer w =
+    let more = w.marked ++ w.offered in
+    let is = words-IsBehind w.marked w.offered polled offer w.polled_ w.offers_ in
     elim w.expires_ [
       | inl h ↦
-          let alone : words ≡ w.offered = w.whole ∙ ap (λ l. l ++ w.offered) h.0 in
-          rw (alone, no_expiry w.offered offer w.offers_, offer_in-offer w.offered offer w.offers_, h.1) refl
+          let alone : words ≡ more = w.whole ∙ ap (λ l. l ++ more) h.0 in
+          rw (alone, is.no_expiry_)
+          (create_with-words side (record { months = 0; ms = 0 }) w.marked w.offered polled offer w.polled_ w.offers_
+          ∙ ap (λ l. Some (Create side l polled offer)) (sym h.1))
       | inr h ↦
-          let whole : words ≡ (codes " expires " ++ h.0) ++ w.offered = w.whole ∙ ap (λ l. l ++ w.offered) h.3 in
-          let word : word_of (h.0 ++ w.offered) ≡ h.0 = word_of-onto h.0 w.offered h.1
-          ∙ (ap (λ l. h.0 ++ l) (word_of-offer w.offered offer w.offers_) ∙ append-nil h.0) in
-          let rest : behind_word (h.0 ++ w.offered) ≡ w.offered = behind_word-onto h.0 w.offered h.1
-          ∙ behind_word-offer w.offered offer w.offers_ in
-          rw (whole, word, h.2, rest, offer_in-offer w.offered offer w.offers_) refl
+          let whole : words ≡ (codes " expires " ++ h.0) ++ more = w.whole ∙ ap (λ l. l ++ more) h.3 in
+          let word : word_of (h.0 ++ more) ≡ h.0 = word_of-onto h.0 more h.1
+          ∙ (ap (λ l. h.0 ++ l) is.word ∙ append-nil h.0) in
+          let rest : behind_word (h.0 ++ more) ≡ more = behind_word-onto h.0 more h.1 ∙ is.rest in
+          rw (whole, word, h.2, rest)
+          (create_with-words side expires w.marked w.offered polled offer w.polled_ w.offers_)
     ]
 
 text_behind-text : (k text : List ℕ) (n : ℕ) → n < 2 ^ 64 → k ≡ decimal n → text ≢ []
@@ -80,8 +112,8 @@ word_of-number k text n small is =
 pub event_in-said : (line : List ℕ) (event : Event) → Says line event → event_in line ≡ Some event
 event_in-said line Nothing (inl h) = rw h refl
 event_in-said line Nothing (inr h) = rw h.1 refl
-event_in-said line (Create side expires offer) h =
-    rw (h.2, node_in-text side h.0, create_behind-wish side h.0 expires offer h.1) refl
+event_in-said line (Create side expires polled offer) h =
+    rw (h.2, node_in-text side h.0, create_behind-wish side h.0 expires polled offer h.1) refl
 event_in-said line (Grant side behaviour) h = rw (h.2, call_in-text side h.0, behaviour_in-word h.0 behaviour h.1) refl
 event_in-said line (Send side seq text) h =
     let small : seq < 2 ^ 64 = omega (arith, h.1.1) in
@@ -103,6 +135,8 @@ event_in-said line (Close side seq) h = rw (h.2, numbered_in-text 1 256 seq side
 event_in-said line (End side seq) h = rw (h.2, numbered_in-text 1 256 seq side h.0 (omega arith) h.1) refl
 event_in-said line (Ask side seq) h = rw (h.2, numbered_in-text 1 256 seq side h.0 (omega arith) h.1) refl
 event_in-said line (Nack side seq) h = rw (h.2, numbered_in-text 1 256 seq side h.0 (omega arith) h.1) refl
+event_in-said line (Poll One) h = rw h refl
+event_in-said line (Poll Two) h = rw h refl
 event_in-said line (Arm side calls) h = rw (h.2, numbered_in-text 1 1000 calls side h.0 (omega arith) h.1) refl
 event_in-said line (Crash side choice) h = rw (h.2, numbered_in-text 0 3 choice side h.0 (omega arith) h.1) refl
 event_in-said line (Noise side bytes) h =
@@ -125,19 +159,45 @@ offer_in-is (b ∷ words) offer h =
 -- words that say when a sequence expires and what is offered, and the event that they make
 record IsWished (side : Side) (words : List ℕ) (event : Event) : Type 0 where
   expires : Lapse
+  polled : Bool
   offer : Option Behaviour
-  wish : IsWish words expires offer
-  made : Create side expires offer ≡ event
+  wish : IsWish words expires polled offer
+  made : Create side expires polled offer ≡ event
 
-create_with-is : (side : Side) (expiry offered : List ℕ) (expires : Lapse) (event : Event) → IsExpiry expiry expires
-    → create_with side offered expires ≡ Some event → IsWished side (expiry ++ offered) event
-create_with-is side expiry offered expires event e h =
-    let found = some_mapped _ (offer_in offered) event h in
-    let offers = offer_in-is offered found.0 found.1 in
+-- whether a node is polled, and the words behind that
+record IsMarked (words : List ℕ) (p : Bool × List ℕ) : Type 0 where
+  marked : List ℕ
+  polled : IsPolled marked p.0
+  whole : words ≡ marked ++ p.1
+
+polled_by-is : (words : List ℕ) (o : Option (List ℕ)) → behind (codes " polled") words ≡ o
+    → IsMarked words (polled_by words o)
+polled_by-is words None h = record { marked = []; polled = refl; whole = refl }
+polled_by-is words (Some rest) h = record {
+  marked = codes " polled";
+  polled = refl;
+  whole = behind-is (codes " polled") words rest h;
+}
+
+create_with-is : (side : Side) (expiry words : List ℕ) (expires : Lapse) (event : Event) → IsExpiry expiry expires
+    → create_with side words expires ≡ Some event → IsWished side (expiry ++ words) event
+create_with-is side expiry words expires event e h =
+    let p = polled_in words in
+    let mark = polled_by-is words (behind (codes " polled") words) refl in
+    let found = some_mapped _ (offer_in p.1) event h in
     record {
       expires = expires;
+      polled = p.0;
       offer = found.0;
-      wish = record { expiry = expiry; offered = offered; whole = refl; expires_ = e; offers_ = offers };
+      wish = record {
+        expiry = expiry;
+        marked = mark.marked;
+        offered = p.1;
+        whole = ap (λ l. expiry ++ l) mark.whole;
+        expires_ = e;
+        polled_ = mark.polled;
+        offers_ = offer_in-is p.1 found.0 found.1;
+      };
       made = found.2;
     }
 
@@ -227,6 +287,19 @@ nack_in-is bytes event h =
     let n = numbered_in-is 1 256 bytes found.0 found.1 in
     subst (λ e. Says (codes "nack " ++ bytes) e) found.2 (n.word, n.number, ap (λ l. codes "nack " ++ l) n.text)
 
+poll_alone-is : (side : Side) (rest : List ℕ) (event : Event) → poll_alone side rest ≡ Some event
+    → (rest ≡ []) × (Poll side ≡ event)
+poll_alone-is side [] event h = (refl, cc)
+poll_alone-is side (b ∷ rest) event h = absurd (cc)
+
+poll_in-is : (bytes : List ℕ) (event : Event) → poll_in bytes ≡ Some event → Says (codes "poll " ++ bytes) event
+poll_in-is bytes event h =
+    let node = some_then _ (node_in bytes) event h in
+    let side = side_text node.0.0 in
+    let alone = poll_alone-is node.0.0 node.0.1 event node.2 in
+    let text : bytes ≡ side = node_in-is bytes node.0 node.1 ∙ (ap (λ l. side ++ l) alone.0 ∙ append-nil side) in
+    subst (λ e. Says (codes "poll " ++ bytes) e) alone.1 (ap (λ l. codes "poll " ++ l) text)
+
 arm_in-is : (bytes : List ℕ) (event : Event) → arm_in bytes ≡ Some event → Says (codes "arm " ++ bytes) event
 arm_in-is bytes event h =
     let found = some_mapped _ (numbered_in 1 1000 bytes) event h in
@@ -278,7 +351,8 @@ request_in-is line event =
     (said_by (codes "close ") line close_in _ event (λ rest. close_in-is rest event)
     (said_by (codes "end ") line end_in _ event (λ rest. end_in-is rest event)
     (said_by (codes "ask ") line ask_in _ event (λ rest. ask_in-is rest event)
-    (said_by (codes "nack ") line nack_in _ event (λ rest. nack_in-is rest event) (mishap_in-is line event))))))))
+    (said_by (codes "nack ") line nack_in _ event (λ rest. nack_in-is rest event)
+    (said_by (codes "poll ") line poll_in _ event (λ rest. poll_in-is rest event) (mishap_in-is line event)))))))))
 
 -- a comment begins with #
 is_blank-Says : (line : List ℕ) → is_blank line ≡ true → Says line Nothing

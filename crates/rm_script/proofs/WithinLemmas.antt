@@ -15,7 +15,7 @@ use Rattle.rm_script.specs.Script.{IsBehaviour, IsExpiry, IsOffer, Says, IsScrip
 use Rattle.rm_script.specs.Within.{IsWithin}
 use Rattle.rm_script.specs.declared.event.Event.{Event}
 use Rattle.rm_script.specs.declared.event.Event.TheVariants.{Nothing, Create, Grant, Send, Tick, Deliver, Close, End}
-use Rattle.rm_script.specs.declared.event.Event.TheVariants.{Ask, Nack}
+use Rattle.rm_script.specs.declared.event.Event.TheVariants.{Ask, Nack, Poll}
 use Rattle.rm_script.specs.declared.event.Event.TheVariants.{Arm, Crash, Noise}
 
 -- a duration is at least a millisecond, or none
@@ -64,7 +64,7 @@ offer-within words (Some behaviour) h = behaviour-within h.0 behaviour h.1
 
 Says-IsWithin : (line : List ℕ) (event : Event) → Says line event → IsWithin event
 Says-IsWithin line Nothing h = tt
-Says-IsWithin line (Create side expires offer) h =
+Says-IsWithin line (Create side expires polled offer) h =
     let w = h.1 in (expiry-within w.expiry expires w.expires_, offer-within w.offered offer w.offers_)
 Says-IsWithin line (Grant side behaviour) h = behaviour-within h.0 behaviour h.1
 Says-IsWithin line (Send side seq text) h = ((h.1.0, h.1.1), h.2)
@@ -74,6 +74,7 @@ Says-IsWithin line (Close side seq) h = (h.1.0, h.1.1)
 Says-IsWithin line (End side seq) h = (h.1.0, h.1.1)
 Says-IsWithin line (Ask side seq) h = (h.1.0, h.1.1)
 Says-IsWithin line (Nack side seq) h = (h.1.0, h.1.1)
+Says-IsWithin line (Poll side) h = tt
 Says-IsWithin line (Arm side calls) h = (h.1.0, h.1.1)
 Says-IsWithin line (Crash side choice) h = h.1.1
 Says-IsWithin line (Noise side bytes) h = h.1

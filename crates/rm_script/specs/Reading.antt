@@ -15,7 +15,7 @@ use Rattle.rm_script.specs.declared.event.Side.{Side}
 use Rattle.rm_script.specs.declared.event.Side.TheVariants.{One, Two}
 use Rattle.rm_script.specs.declared.event.Event.{Event}
 use Rattle.rm_script.specs.declared.event.Event.TheVariants.{Nothing, Create, Grant, Send, Tick, Deliver, Close, End}
-use Rattle.rm_script.specs.declared.event.Event.TheVariants.{Ask, Nack}
+use Rattle.rm_script.specs.declared.event.Event.TheVariants.{Ask, Nack, Poll}
 use Rattle.rm_script.specs.declared.event.Event.TheVariants.{Arm, Crash, Noise}
 
 -- what stands behind a word at the front of bytes
@@ -78,9 +78,19 @@ abbrev pub offer_in : List ℕ → Option (Option Behaviour)
 offer_in [] = Some None
 offer_in (b ∷ bytes) = option_map Some (option_and_then behaviour_in (behind (codes " offer ") (b ∷ bytes)))
 
--- with an offer behind the duration
+-- whether the word polled stands at the front of these words, and what stands behind it
+abbrev pub polled_by : List ℕ → Option (List ℕ) → Bool × List ℕ
+polled_by words None = (false, words)
+polled_by words (Some rest) = (true, rest)
+
+-- [ polled]
+abbrev pub polled_in : List ℕ → Bool × List ℕ
+polled_in words = polled_by words (behind (codes " polled") words)
+
+-- with the words behind the duration
 abbrev pub create_with : Side → List ℕ → Lapse → Option Event
-create_with side words expires = option_map (λ offer. Create side expires offer) (offer_in words)
+create_with side words expires =
+    option_map (λ offer. Create side expires (polled_in words).0 offer) (offer_in (polled_in words).1)
 
 -- where no duration is written it is zero
 abbrev pub create_behind : Side → List ℕ → Option (List ℕ) → Option Event
@@ -88,7 +98,7 @@ create_behind side words None = create_with side words (record { months = 0; ms 
 create_behind side words (Some rest) =
     option_and_then (λ expires. create_with side (behind_word rest) expires) (duration_in (word_of rest))
 
--- create N [expires D] [offer dfg|des]
+-- create N [expires D] [polled] [offer dfg|des]
 abbrev pub create_in : List ℕ → Option Event
 create_in bytes = option_and_then (λ n. create_behind n.0 n.1 (behind (codes " expires ") n.1)) (node_in bytes)
 
@@ -135,6 +145,15 @@ ask_in bytes = option_map (λ n. Ask n.0 n.1) (numbered_in 1 limits.most_sequenc
 abbrev pub nack_in : List ℕ → Option Event
 nack_in bytes = option_map (λ n. Nack n.0 n.1) (numbered_in 1 limits.most_sequences bytes)
 
+-- nothing stands behind the node's number
+abbrev pub poll_alone : Side → List ℕ → Option Event
+poll_alone side [] = Some (Poll side)
+poll_alone side (b ∷ bytes) = None
+
+-- poll N
+abbrev pub poll_in : List ℕ → Option Event
+poll_in bytes = option_and_then (λ n. poll_alone n.0 n.1) (node_in bytes)
+
 -- arm N C
 abbrev pub arm_in : List ℕ → Option Event
 arm_in bytes = option_map (λ n. Arm n.0 n.1) (numbered_in 1 1000 bytes)
@@ -172,7 +191,8 @@ request_in line =
     choose (behind (codes "create ") line) create_in (choose (behind (codes "grant ") line) grant_in
     (choose (behind (codes "send ") line) send_in (choose (behind (codes "tick ") line) tick_in
     (choose (behind (codes "close ") line) close_in (choose (behind (codes "end ") line) end_in
-    (choose (behind (codes "ask ") line) ask_in (choose (behind (codes "nack ") line) nack_in (mishap_in line))))))))
+    (choose (behind (codes "ask ") line) ask_in (choose (behind (codes "nack ") line) nack_in
+    (choose (behind (codes "poll ") line) poll_in (mishap_in line)))))))))
 
 -- whether a line is empty, or a comment
 abbrev pub is_blank : List ℕ → Bool

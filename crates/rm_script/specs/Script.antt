@@ -1,6 +1,6 @@
 -- Scripts: lines of bytes, each of which says what a node is asked for or what befalls it.
 use Rattle.std.specs.Prelude.{◌≡◌, ◌≢◌, ℕ, ◌-◌, ◌<◌, ◌≤◌, ◌==◌, if◌then◌else◌, ◌⊎◌, List, [], ◌∷◌, ◌++◌, slice_get}
-use Rattle.std.specs.Prelude.{take, Option, Some, None, Ok, codes, decimal}
+use Rattle.std.specs.Prelude.{take, Bool, true, false, Option, Some, None, Ok, codes, decimal}
 use Rattle.std.specs.List.{AllByRecursion}
 use Rattle.rm_base.specs.Limits as limits
 use Rattle.hex.specs.Hex.{decode_of}
@@ -13,7 +13,7 @@ use Rattle.rm_script.specs.declared.event.Side.{Side}
 use Rattle.rm_script.specs.declared.event.Side.TheVariants.{One, Two}
 use Rattle.rm_script.specs.declared.event.Event.{Event}
 use Rattle.rm_script.specs.declared.event.Event.TheVariants.{Nothing, Create, Grant, Send, Tick, Deliver, Close, End}
-use Rattle.rm_script.specs.declared.event.Event.TheVariants.{Ask, Nack}
+use Rattle.rm_script.specs.declared.event.Event.TheVariants.{Ask, Nack, Poll}
 use Rattle.rm_script.specs.declared.event.Event.TheVariants.{Arm, Crash, Noise}
 
 -- the byte stands before the first of the lines
@@ -47,17 +47,24 @@ IsExpiry words expires =
     ((words ≡ []) × (expires ≡ record { months = 0; ms = 0 }))
     ⊎ ((d : List ℕ) × IsWord d × (duration_in d ≡ Some expires) × (words ≡ codes " expires " ++ d))
 
+-- [ polled]
+abbrev pub IsPolled : List ℕ → Bool → Type 0
+IsPolled words true = words ≡ codes " polled"
+IsPolled words false = words ≡ []
+
 -- [ offer dfg|des]
 abbrev pub IsOffer : List ℕ → Option Behaviour → Type 0
 IsOffer words None = words ≡ []
 IsOffer words (Some behaviour) = (word : List ℕ) × IsBehaviour word behaviour × (words ≡ codes " offer " ++ word)
 
 -- the words behind create N
-pub record IsWish (words : List ℕ) (expires : Lapse) (offer : Option Behaviour) : Type 0 where
+pub record IsWish (words : List ℕ) (expires : Lapse) (polled : Bool) (offer : Option Behaviour) : Type 0 where
   pub expiry : List ℕ
+  pub marked : List ℕ
   pub offered : List ℕ
-  pub whole : words ≡ expiry ++ offered
+  pub whole : words ≡ expiry ++ (marked ++ offered)
   pub expires_ : IsExpiry expiry expires
+  pub polled_ : IsPolled marked polled
   pub offers_ : IsOffer offered offer
 
 -- a number from low to high, in decimal digits without a leading zero
@@ -75,8 +82,8 @@ call_text verb side arguments = spaced verb (spaced (side_text side) arguments)
 -- what a line says. An empty line and one that begins with # say nothing
 abbrev pub Says : List ℕ → Event → Type 0
 Says line Nothing = (line ≡ []) ⊎ ((rest : List ℕ) × (line ≡ codes "#" ++ rest))
-Says line (Create side expires offer) =
-    (words : List ℕ) × IsWish words expires offer × (line ≡ spaced (codes "create") (side_text side ++ words))
+Says line (Create side expires polled offer) =
+    (words : List ℕ) × IsWish words expires polled offer × (line ≡ spaced (codes "create") (side_text side ++ words))
 Says line (Grant side behaviour) =
     (word : List ℕ) × IsBehaviour word behaviour × (line ≡ call_text (codes "grant") side word)
 Says line (Send side seq text) =
@@ -94,6 +101,7 @@ Says line (Ask side seq) =
     (k : List ℕ) × IsNumber 1 limits.most_sequences k seq × (line ≡ call_text (codes "ask") side k)
 Says line (Nack side seq) =
     (k : List ℕ) × IsNumber 1 limits.most_sequences k seq × (line ≡ call_text (codes "nack") side k)
+Says line (Poll side) = line ≡ spaced (codes "poll") (side_text side)
 Says line (Arm side calls) = (c : List ℕ) × IsNumber 1 1000 c calls × (line ≡ call_text (codes "arm") side c)
 Says line (Crash side choice) = (x : List ℕ) × IsNumber 0 3 x choice × (line ≡ call_text (codes "crash") side x)
 Says line (Noise side bytes) =

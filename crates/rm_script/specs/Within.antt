@@ -6,7 +6,7 @@ use Rattle.rm_base.specs.declared.message.Behaviour.TheVariants.{NoDiscard}
 use Rattle.rm_elements.specs.Writable.{IsLapseWritable}
 use Rattle.rm_script.specs.declared.event.Event.{Event}
 use Rattle.rm_script.specs.declared.event.Event.TheVariants.{Nothing, Create, Grant, Send, Tick, Deliver, Close, End}
-use Rattle.rm_script.specs.declared.event.Event.TheVariants.{Ask, Nack}
+use Rattle.rm_script.specs.declared.event.Event.TheVariants.{Ask, Nack, Poll}
 use Rattle.rm_script.specs.declared.event.Event.TheVariants.{Arm, Crash, Noise}
 
 -- from low to high
@@ -16,7 +16,8 @@ IsFromTo low high number = (low ≤ number) × (number ≤ high)
 -- an event's values are within the limits of a script
 abbrev pub IsWithin : Event → Type 0
 IsWithin Nothing = ⊤
-IsWithin (Create side expires offer) = IsLapseWritable expires × IfSome offer (λ behaviour. behaviour ≢ NoDiscard)
+IsWithin (Create side expires polled offer) =
+    IsLapseWritable expires × IfSome offer (λ behaviour. behaviour ≢ NoDiscard)
 IsWithin (Grant side behaviour) = behaviour ≢ NoDiscard
 IsWithin (Send side seq text) = IsFromTo 1 limits.most_sequences seq × (text ≢ [])
 IsWithin (Tick side now) = now ≤ limits.now_max
@@ -25,6 +26,7 @@ IsWithin (Close side seq) = IsFromTo 1 limits.most_sequences seq
 IsWithin (End side seq) = IsFromTo 1 limits.most_sequences seq
 IsWithin (Ask side seq) = IsFromTo 1 limits.most_sequences seq
 IsWithin (Nack side seq) = IsFromTo 1 limits.most_sequences seq
+IsWithin (Poll side) = ⊤
 IsWithin (Arm side calls) = IsFromTo 1 1000 calls
 IsWithin (Crash side choice) = choice ≤ 3
 IsWithin (Noise side bytes) = bytes ≢ []

@@ -17,10 +17,12 @@ pub enum Side {
 pub enum Event {
     /// The line is empty, or a comment.
     Nothing,
-    /// A sequence to the other node is asked for. A lapse of zero never expires.
+    /// A sequence to the other node is asked for. A lapse of zero never expires. What comes back goes to the address of
+    /// the node, or where it is `polled`, waits at the other node until it is asked for.
     Create {
         node: Side,
         expires: Lapse,
+        polled: bool,
         offer: Option<Behaviour>,
     },
     /// What the node announces from now on for incoming sequences.
@@ -60,6 +62,10 @@ pub enum Event {
     Nack {
         node: Side,
         seq: u32,
+    },
+    /// The node asks the other one for the oldest message that waits for it there.
+    Poll {
+        node: Side,
     },
     /// The disk fails at the device call with this number from now on.
     Arm {

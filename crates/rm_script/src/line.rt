@@ -2,6 +2,7 @@
 ghost use Rattle.std.specs.Prelude.{◌≡◌, IfOk};
 ghost use Rattle.rm_script.specs.Reading.{
   offer_in,
+  polled_in,
   create_with,
   create_in,
   grant_in,
@@ -13,6 +14,7 @@ ghost use Rattle.rm_script.specs.Reading.{
   end_in,
   ask_in,
   nack_in,
+  poll_in,
   arm_in,
   crash_in,
   noise_in,
@@ -83,6 +85,9 @@ fn request(alloc: Global, line: &[u8]) -> Result<Option<Event>, Memory>
     if let Some(rest) = behind(line, b"nack ") {
         return Ok(nack(rest));
     }
+    if let Some(rest) = behind(line, b"poll ") {
+        return Ok(poll(rest));
+    }
     mishap(alloc, line)
 }
 
@@ -120,12 +125,25 @@ fn create(bytes: &[u8]) -> Option<Event>
 fn create_offering(node: Side, expires: Lapse, words: &[u8]) -> Option<Event>
     ensures { result ≡ create_with node words.now expires }
 {
+    let (polled, words) = polled(words);
     let offer = offer(words)?;
     Some(Event::Create {
         node,
         expires,
+        polled,
         offer,
     })
+}
+
+// Whether the word polled stands at the front, and what stands behind it.
+fn polled(words: &[u8]) -> (bool, &[u8])
+    ensures polled { result.0 ≡ (polled_in words.now).0 }
+    ensures rest { result.1.now ≡ (polled_in words.now).1 }
+{
+    match behind(words, b" polled") {
+        Some(rest) => (true, rest),
+        None => (false, words),
+    }
 }
 
 // The behaviour of a sequence that is offered for the other direction, where there is one.
@@ -224,6 +242,18 @@ fn nack(bytes: &[u8]) -> Option<Event>
     Some(Event::Nack {
         node,
         seq: seq as u32,
+    })
+}
+
+fn poll(bytes: &[u8]) -> Option<Event>
+    ensures { result ≡ poll_in bytes.now }
+{
+    let arguments = node(bytes)?;
+    if !arguments.rest.is_empty() {
+        return None;
+    }
+    Some(Event::Poll {
+        node: arguments.node,
     })
 }
 

@@ -22,7 +22,7 @@ use Rattle.rm_serve.specs.declared.posting.Posted.{Posted}
 
 goes-taken : (moment : ℕ) (out : Out) (queue more : List Out) (posted : Posted) (old mid : Net) (fate : Fate)
     (body : List ℕ) (steps : List Step) (result : Result (Unit {0}) NodeError)
-    → IsPost old mid (target_of out.address) fate → heard_of fate ≡ Some body
+    → IsPost old mid (target_of out.address) out.bytes fate → heard_of fate ≡ Some body
     → Takes moment body queue more steps result → result ≡ Ok tt
     → Goes moment out queue more posted old mid steps (Ok (with_post fate posted))
 goes-taken moment out queue more posted old mid fate body _ _ is heard (all content verdict reply outs reads same) e =
@@ -37,7 +37,7 @@ goes-taken moment out queue more posted old mid fate body _ _ is heard asleep e 
 
 goes-by : (moment : ℕ) (out : Out) (queue more : List Out) (posted : Posted) (old mid : Net) (fate : Fate)
     (steps : List Step) (h : Option (List ℕ))
-    → IsPost old mid (target_of out.address) fate → heard_of fate ≡ h
+    → IsPost old mid (target_of out.address) out.bytes fate → heard_of fate ≡ h
     → HearsBy moment h queue more steps (Ok tt)
     → Goes moment out queue more posted old mid steps (Ok (with_post fate posted))
 goes-by moment out queue more posted old mid fate steps None is heard hears = λ n new rest result after.
@@ -50,14 +50,14 @@ goes-by moment out queue more posted old mid fate steps (Some body) is heard hea
 -- it was heard
 pub goes-on : (moment : ℕ) (out : Out) (queue more : List Out) (posted : Posted) (old mid : Net) (fate : Fate)
     (steps : List Step)
-    → IsPost old mid (target_of out.address) fate → Hears moment fate queue more steps (Ok tt)
+    → IsPost old mid (target_of out.address) out.bytes fate → Hears moment fate queue more steps (Ok tt)
     → Goes moment out queue more posted old mid steps (Ok (with_post fate posted))
 goes-on moment out queue more posted old mid fate steps is hears =
     goes-by moment out queue more posted old mid fate steps (heard_of fate) is refl hears
 
 stops-taken : (moment : ℕ) (out : Out) (queue more : List Out) (posted : Posted) (old mid : Net) (fate : Fate)
     (body : List ℕ) (steps : List Step) (result : Result (Unit {0}) NodeError) (e : NodeError)
-    → IsPost old mid (target_of out.address) fate → heard_of fate ≡ Some body
+    → IsPost old mid (target_of out.address) out.bytes fate → heard_of fate ≡ Some body
     → Takes moment body queue more steps result → result ≡ Err e
     → Goes moment out queue more posted old mid steps (Err e)
 stops-taken moment out queue more posted old mid fate body _ _ e is heard (all content verdict reply outs reads same)
@@ -75,7 +75,7 @@ stops-taken moment out queue more posted old mid fate body _ _ e is heard asleep
 
 stops-by : (moment : ℕ) (out : Out) (queue more : List Out) (posted : Posted) (old mid : Net) (fate : Fate)
     (steps : List Step) (h : Option (List ℕ)) (e : NodeError)
-    → IsPost old mid (target_of out.address) fate → heard_of fate ≡ h
+    → IsPost old mid (target_of out.address) out.bytes fate → heard_of fate ≡ h
     → HearsBy moment h queue more steps (Err e)
     → Goes moment out queue more posted old mid steps (Err e)
 stops-by moment out queue more posted old mid fate steps None e is heard hears = absurd cc
@@ -85,14 +85,15 @@ stops-by moment out queue more posted old mid fate steps (Some body) e is heard 
 -- it failed
 pub goes-no-further : (moment : ℕ) (out : Out) (queue more : List Out) (posted : Posted) (old mid : Net) (fate : Fate)
     (steps : List Step) (e : NodeError)
-    → IsPost old mid (target_of out.address) fate → Hears moment fate queue more steps (Err e)
+    → IsPost old mid (target_of out.address) out.bytes fate → Hears moment fate queue more steps (Err e)
     → Goes moment out queue more posted old mid steps (Err e)
 goes-no-further moment out queue more posted old mid fate steps e is hears =
     stops-by moment out queue more posted old mid fate steps (heard_of fate) e is refl hears
 
 -- memory was wanting for a packet
 pub goes-wanting : (moment : ℕ) (out : Out) (queue : List Out) (posted : Posted) (old mid : Net)
-    → IsBegun old mid (target_of out.address) → Goes moment out queue queue posted old mid [] (Err error.Memory)
+    → IsBegun old mid (target_of out.address) out.bytes
+    → Goes moment out queue queue posted old mid [] (Err error.Memory)
 goes-wanting moment out queue posted old mid is = λ n. begun n out queue posted old mid is
 
 -- ---- the whole row

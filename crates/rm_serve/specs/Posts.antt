@@ -40,37 +40,38 @@ abbrev pub IsNext : List Out → List Out → Option Out → Type 0
 IsNext old new None = old ≡ []
 IsNext old new (Some out) = old ≡ out ∷ new
 
--- Packets are posted, one after the other, so many at most, after others that came to these numbers. Each response that
--- isn't empty is taken by the node, and what it hands out then goes to the end. It stops when there is none left, or
--- with a call of the node that failed, or where memory was wanting: for the queue, for a packet, or for its response.
+-- Packets are posted, one after the other, so many at most, after others that came to these numbers: the bytes of each,
+-- to the target of its address. Each response that isn't empty is taken by the node, and what it hands out then goes to
+-- the end. It stops when there is none left, or with a call of the node that failed, or where memory was wanting: for
+-- the queue, for a packet, or for its response.
 pub data Posting (moment : ℕ) : ℕ → List Out → Posted → Net → Net → List Step → Result Posted NodeError → Type 0 where
   over : (queue : List Out) (posted : Posted) (net : Net) → Posting moment 0 queue posted net net [] (Ok posted)
   empty : (n : ℕ) (posted : Posted) (net : Net) → Posting moment n [] posted net net [] (Ok posted)
   wanting : (n : ℕ) (queue : List Out) (posted : Posted) (net : Net)
       → Posting moment n queue posted net net [] (Err error.Memory)
   begun : (n : ℕ) (out : Out) (queue : List Out) (posted : Posted) (old new : Net)
-      → IsBegun old new (target_of out.address)
+      → IsBegun old new (target_of out.address) out.bytes
       → Posting moment (suc n) (out ∷ queue) posted old new [] (Err error.Memory)
   quiet : (n : ℕ) (out : Out) (queue : List Out) (posted : Posted) (old mid new : Net) (fate : Fate) (steps : List Step)
       (result : Result Posted NodeError)
-      → IsPost old mid (target_of out.address) fate → heard_of fate ≡ None
+      → IsPost old mid (target_of out.address) out.bytes fate → heard_of fate ≡ None
       → Posting moment n queue (with_post fate posted) mid new steps result
       → Posting moment (suc n) (out ∷ queue) posted old new steps result
   taken : (n : ℕ) (out : Out) (queue : List Out) (posted : Posted) (old mid new : Net) (fate : Fate) (body : List ℕ)
       (steps : List Step) (result : Result Posted NodeError)
       (content : Result Message Refusal) (verdict : Option FaultKind) (reply : Option (List ℕ)) (outs : List Out)
-      → IsPost old mid (target_of out.address) fate → heard_of fate ≡ Some body → IsReadAs body content
+      → IsPost old mid (target_of out.address) out.bytes fate → heard_of fate ≡ Some body → IsReadAs body content
       → Posting moment n (queue ++ outs) (with_post fate posted) mid new steps result
       → Posting moment (suc n) (out ∷ queue) posted old new (took moment content verdict reply outs ∷ steps) result
   broken : (n : ℕ) (out : Out) (queue : List Out) (posted : Posted) (old new : Net) (fate : Fate) (body : List ℕ)
       (content : Result Message Refusal)
-      → IsPost old new (target_of out.address) fate → heard_of fate ≡ Some body → IsReadAs body content
+      → IsPost old new (target_of out.address) out.bytes fate → heard_of fate ≡ Some body → IsReadAs body content
       → Posting moment (suc n) (out ∷ queue) posted old new (broke moment content ∷ []) (Err error.Disk)
   unheard : (n : ℕ) (out : Out) (queue : List Out) (posted : Posted) (old new : Net) (fate : Fate) (body : List ℕ)
-      → IsPost old new (target_of out.address) fate → heard_of fate ≡ Some body
+      → IsPost old new (target_of out.address) out.bytes fate → heard_of fate ≡ Some body
       → Posting moment (suc n) (out ∷ queue) posted old new [] (Err error.Memory)
   down : (n : ℕ) (out : Out) (queue : List Out) (posted : Posted) (old new : Net) (fate : Fate) (body : List ℕ)
-      → IsPost old new (target_of out.address) fate → heard_of fate ≡ Some body
+      → IsPost old new (target_of out.address) out.bytes fate → heard_of fate ≡ Some body
       → Posting moment (suc n) (out ∷ queue) posted old new [] (Err error.Down)
 
 -- a body is given to the node, and what it hands out put behind a queue

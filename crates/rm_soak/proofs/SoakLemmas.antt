@@ -114,8 +114,20 @@ crash_two x few =
 
 create_line : IsLine (codes "create 1")
 create_line = record {
-  event = Create One (record { months = 0; ms = 0 }) None;
-  says = ([], record { expiry = []; offered = []; whole = refl; expires_ = inl (refl, refl); offers_ = refl }, refl);
+  event = Create One (record { months = 0; ms = 0 }) false None;
+  says = (
+    [],
+    record {
+      expiry = [];
+      marked = [];
+      offered = [];
+      whole = refl;
+      expires_ = inl (refl, refl);
+      polled_ = refl;
+      offers_ = refl;
+    },
+    refl,
+  );
   short = record { whole = HasNoLf-words (codes "create 1") refl; few = omega arith };
 }
 

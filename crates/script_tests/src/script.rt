@@ -37,11 +37,15 @@ fn push_event(out: &mut Blob, event: &Event) -> Result<(), Fail> {
         Event::Create {
             node,
             expires,
+            polled,
             offer,
         } => {
             push_numbered(out, b"create", *node, expires.months)?;
             out.push_all(b" ")?;
             push_decimal(out, expires.ms)?;
+            if *polled {
+                out.push_all(b" polled")?;
+            }
             if let Some(behaviour) = offer {
                 out.push_all(b" ")?;
                 out.push_all(behaviour_name(*behaviour))?;
@@ -66,6 +70,7 @@ fn push_event(out: &mut Blob, event: &Event) -> Result<(), Fail> {
         Event::End { node, seq } => push_numbered(out, b"end", *node, u64::from(*seq))?,
         Event::Ask { node, seq } => push_numbered(out, b"ask", *node, u64::from(*seq))?,
         Event::Nack { node, seq } => push_numbered(out, b"nack", *node, u64::from(*seq))?,
+        Event::Poll { node } => push_verb(out, b"poll", *node)?,
         Event::Arm { node, calls } => push_numbered(out, b"arm", *node, *calls)?,
         Event::Crash { node, choice } => push_numbered(out, b"crash", *node, u64::from(*choice))?,
         Event::Noise { node, bytes } => {
@@ -101,7 +106,7 @@ fn three_payloads(rt: HostRuntime) -> Result<(), Fail> {
 
 #[test]
 fn all_lines(rt: HostRuntime) -> Result<(), Fail> {
-    let cases: [(&[u8], &[u8]); 19] = [
+    let cases: [(&[u8], &[u8]); 22] = [
         (b"", b""),
         (b"# a comment\n\n\n", b"\n\n\n"),
         (b"create 1 expires P1M", b"create 1 1 0\n"),
@@ -111,6 +116,12 @@ fn all_lines(rt: HostRuntime) -> Result<(), Fail> {
             b"create 2 expires P1Y2DT0.5S offer des",
             b"create 2 12 172800500 des\n",
         ),
+        (b"create 2 polled", b"create 2 0 0 polled\n"),
+        (
+            b"create 1 expires PT2S polled offer dfg",
+            b"create 1 0 2000 polled dfg\n",
+        ),
+        (b"poll 1\npoll 2", b"poll 1\npoll 2\n"),
         (b"grant 2 des\ngrant 1 dfg", b"grant 2 des\ngrant 1 dfg\n"),
         (b"send 2 256  x y ", b"send 2 256  x y \n"),
         (

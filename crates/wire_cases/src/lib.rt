@@ -1,6 +1,6 @@
-//! Tests of `rm_wire`: whole messages as they are read in the styles of several stacks, and the greatest length.
-//! Documents that are refused are cases of the command `check`. They stand apart, since a crate with tests is proved a
-//! second time with them.
+//! Tests of `message_reader` and `message_writer`: whole messages as they are read in the styles of several stacks, and
+//! the greatest length. Documents that are refused are cases of the command `check`. They stand apart, since a crate
+//! with tests is proved a second time with them.
 #![tactic(auto)]
 
 #[cfg(test)]

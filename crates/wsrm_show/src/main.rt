@@ -7,6 +7,7 @@ mod show;
 use rm_base::{Clock, SinkError, StdClock, StdSink, write_all};
 use rm_file::FileReader;
 use rm_host::{End, explain_disk};
+use rm_report::exits;
 use std::env;
 use std::process::ExitCode;
 
@@ -20,7 +21,7 @@ fn main(rt: HostRuntime) -> ExitCode {
     let now = StdClock::new(&rt).now();
     let status = match show::show(rt.alloc(), &mut disk, now) {
         Ok(text) => match write_all(&mut out, text.as_slice()) {
-            Ok(()) => 0,
+            Ok(()) => exits::DONE,
             Err(SinkError::Failed) => End::WriteFault.status(),
             Err(SinkError::Memory) => End::Memory.status(),
         },

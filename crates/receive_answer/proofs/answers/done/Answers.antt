@@ -1,4 +1,4 @@
-use Rattle.std.proofs.Common.{List, ◌++◌, ap, ◌∙◌}
+use Rattle.std.proofs.Common.{None, List, ◌++◌, ap, ◌∙◌}
 use Rattle.rm_message.specs.declared.message.Message.{Message}
 use Rattle.record_batch.specs.Fact.{Fact}
 use Rattle.rm_protocol.specs.Calls.{Answer, Done}
@@ -14,7 +14,7 @@ returns-clause-is c =
     let r = c.args.ahead.records in
     let d = c.args.ahead.delta in
     let answer : List Fact → List Message → Moves → Answer =
-    λ ds ms moves. record { outcome = Done; delta = ds; outs = ms; moves = moves } in
+    λ ds ms moves. record { outcome = Done; delta = ds; fetched = None; outs = ms; moves = moves } in
     let moves = c.in_ok-moves.ensures ∙ ap (λ (rs : List Fact). urging rs c.args.message.now) c.tables.ensures in
     ap (λ (ds : List Fact). answer ds c.in_ok-outs.outs.items (moves_seen c.in_ok-moves.moves)) c.into_batch.ensures
     ∙ ap (λ (ms : List Message). answer d ms (moves_seen c.in_ok-moves.moves)) c.in_ok-outs.ensures

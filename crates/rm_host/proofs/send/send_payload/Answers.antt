@@ -29,3 +29,20 @@ returns-clause-reason g c =
     (rose-before first.link mounted.link last.link (mounts.later refl)
     (rose-after mounted.link reached.link last.link
     (c.in_ok-seq.ensures.undialled (omega (arith, c.if-missed-eq0.false))) (sends.later refl)))
+
+pub returns-in_err-seq-clause-reason : goal.returns-in_err-seq-clause-reason
+returns-in_err-seq-clause-reason g c =
+    let seen = faults_of g.D.Disk.told g.L.Link.told in
+    let r = c.from_residual-in_err-seq in
+    let p = err_from_is_err_and r.result r.ensures.1 in
+    hands (seen c.args.host.now) (seen c.mount.new.host) (seen c.reach.new.host) c.in_err-seq.field-0.0 r.result
+    (p.1 ∙ ap Err p.2) c.in_ok-node.ensures.reason c.in_err-seq.ensures.reason
+
+pub returns-then-missed-eq0-clause-reason : goal.returns-then-missed-eq0-clause-reason
+returns-then-missed-eq0-clause-reason g c =
+    let seen = faults_of g.D.Disk.told g.L.Link.told in
+    let first = seen c.args.host.now in
+    let reached = seen c.reach.new.host in
+    then first reached (seen c.send_on.new.host) _ _ _
+    (then first (seen c.mount.new.host) reached _ _ _ c.in_ok-node.ensures.reason c.in_ok-seq.ensures.reason)
+    c.send_on.ensures.reason

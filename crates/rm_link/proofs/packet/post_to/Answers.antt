@@ -1,13 +1,22 @@
-use Rattle.rm_link.specs.Lines.{line_of}
-use Rattle.rm_link.proofs.PacketLemmas.{begun-on, posted-on}
+use Rattle.std.proofs.Common.{[], ◌∷◌}
+use Rattle.rm_link.specs.Lines.{Asks, Dialled, line_of}
+use Rattle.rm_link.proofs.PacketLemmas.{begun-on, called, posted-on}
 use Rattle.rm_link.proofs.packet.post_to.Goals as goal
 
 pub returns-in-Ok : goal.returns-in-Ok
 returns-in-Ok g c =
     let old = g.L.Link.told c.args.link.now in
-    let new = g.L.Link.told c.dial.new.self in
+    let mid = g.L.Link.told c.dial.new.self in
+    let new = g.L.Link.told c.hang_up.new.self in
+    let target = c.args.target.now in
+    let bytes = c.args.bytes.now in
     let line = line_of (g.L.Conn.Source.told c.in-Ok.conn) in
+    let held = (g.L.Conn.Source.told c.exchange-fate.new.conn).held in
+    let asks : Asks old.past mid.past (Dialled target.host target.port ∷ []) =
+    rw (← c.as_slice.ensures) c.in-Ok.ensures.asks in
+    let calls = called old mid new target line held c.in-Ok.ensures.connects asks c.hang_up.ensures in
     record {
-      posts = posted-on old new line c.exchange.result c.in-Ok.ensures c.exchange.ensures;
-      begins = begun-on old new line c.exchange.result c.in-Ok.ensures;
+      posts = posted-on old new target bytes line held c.exchange-fate.result calls c.exchange-fate.ensures.writes
+          c.exchange-fate.ensures.ends;
+      begins = begun-on old new target bytes line held c.exchange-fate.result calls c.exchange-fate.ensures.begins;
     }

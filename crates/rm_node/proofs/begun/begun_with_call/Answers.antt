@@ -40,6 +40,11 @@ returns-in-Tick c asked asks =
     let is = subst (λ (x : Call). Asks x asked) c.in-Tick.is asks in
     sym (ap (begun_with c.args.tables.now.records) is)
 
+pub returns-in-Poll : goal.returns-in-Poll
+returns-in-Poll c asked asks =
+    let is = subst (λ (x : Call). Asks x asked) c.in-Poll.is asks in
+    sym (ap (begun_with c.args.tables.now.records) is)
+
 pub returns-in-Receive : goal.returns-in-Receive
 returns-in-Receive c asked asks =
     let is = subst (λ (x : Call). Asks x asked) c.in-Receive.is asks in

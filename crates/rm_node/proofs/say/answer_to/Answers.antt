@@ -1,72 +1,36 @@
-use Rattle.std.proofs.Common.{◌≡◌, refl, sym, subst}
+use Rattle.std.proofs.Common.{◌≡◌, ◌∙◌, sym, subst}
 use Rattle.std.specs.Prelude.{IfOk}
 use Rattle.std.proofs.lemmas.Result.{on_ok_weaker}
+use Rattle.make_connection.specs.Waiting.{Waiting}
 use Rattle.rm_base.specs.declared.message.Behaviour.{Behaviour}
+use Rattle.rm_message.specs.declared.message.Message.{Message}
 use Rattle.rm_protocol.specs.Calls.{receive}
-use Rattle.call_answers.specs.Answers.{seen, wish_seen}
-use Rattle.call_answers.specs.declared.answer.Answer.{Answer}
-use Rattle.rm_node.specs.Asked.{Asked, Asks, IsAsked, IsReceived, MayBeAsked, answer_to}
-use Rattle.rm_node.specs.Asked.{Create, Send, Close, End, AskAck, NackMissing, Tick}
+use Rattle.rm_protocol.specs.Polls.{polls}
+use Rattle.rm_node.specs.Asked.{Asked, Asks, IsAsked, IsReceived, answer_to}
+use Rattle.rm_node.specs.Fetching.{whole}
 use Rattle.rm_node.specs.declared.call.Call.{Call}
 use Rattle.rm_node.specs.declared.call.Call.TheVariants as call
-use Rattle.rm_node.proofs.SayLemmas.{given}
+use Rattle.rm_node.specs.declared.fetch.Answered.{Answered}
+use Rattle.rm_node.proofs.SayLemmas.{not_received}
 use Rattle.rm_node.proofs.say.answer_to.Goals as goal
 
-pub create-requires-clause-offer : goal.create-requires-clause-offer
-create-requires-clause-offer c = (subst MayBeAsked c.in-Create.is c.requires.may).offer
-
-pub returns-in-Create-clause-asked : goal.returns-in-Create-clause-asked
-returns-in-Create-clause-asked c =
-    let it : IsAsked (call.Create c.in-Create.wish) = (Create (wish_seen c.in-Create.wish), refl) in
-    given _ (IsAsked c.args.call) (subst IsAsked (sym c.in-Create.is) it)
-
-pub returns-in-Send-clause-asked : goal.returns-in-Send-clause-asked
-returns-in-Send-clause-asked c =
-    let it : IsAsked (call.Send c.in-Send.seq c.in-Send.payload) = (Send c.in-Send.seq c.in-Send.payload, refl) in
-    given _ (IsAsked c.args.call) (subst IsAsked (sym c.in-Send.is) it)
-
-pub returns-in-Close-clause-asked : goal.returns-in-Close-clause-asked
-returns-in-Close-clause-asked c =
-    let it : IsAsked (call.Close c.in-Close.seq) = (Close c.in-Close.seq, refl) in
-    given _ (IsAsked c.args.call) (subst IsAsked (sym c.in-Close.is) it)
-
-pub returns-in-End-clause-asked : goal.returns-in-End-clause-asked
-returns-in-End-clause-asked c =
-    let it : IsAsked (call.End c.in-End.seq) = (End c.in-End.seq, refl) in
-    given _ (IsAsked c.args.call) (subst IsAsked (sym c.in-End.is) it)
-
-pub returns-in-AskAck-clause-asked : goal.returns-in-AskAck-clause-asked
-returns-in-AskAck-clause-asked c =
-    let it : IsAsked (call.AskAck c.in-AskAck.seq) = (AskAck c.in-AskAck.seq, refl) in
-    given _ (IsAsked c.args.call) (subst IsAsked (sym c.in-AskAck.is) it)
-
-pub returns-in-NackMissing-clause-asked : goal.returns-in-NackMissing-clause-asked
-returns-in-NackMissing-clause-asked c =
-    let it : IsAsked (call.NackMissing c.in-NackMissing.seq) = (NackMissing c.in-NackMissing.seq, refl) in
-    given _ (IsAsked c.args.call) (subst IsAsked (sym c.in-NackMissing.is) it)
-
-pub returns-in-Tick-clause-asked : goal.returns-in-Tick-clause-asked
-returns-in-Tick-clause-asked c =
-    let it : IsAsked (call.Tick c.in-Tick.now) = (Tick c.in-Tick.now, refl) in
-    given _ (IsAsked c.args.call) (subst IsAsked (sym c.in-Tick.is) it)
-
-pub returns-in-Tick-clause-is : goal.returns-in-Tick-clause-is
-returns-in-Tick-clause-is c terms own besides keeps asked asks =
-    let is = subst (λ (x : Call). Asks x asked) c.in-Tick.is asks in
-    subst (λ (x : Asked). IfOk c.answer_to_tick.result
-    (λ (a : Answer). seen a ≡ answer_to terms c.args.tables.now.records c.args.place c.args.now besides x)) (sym is)
-    (c.answer_to_tick.ensures.is terms own besides keeps)
+pub own_answer-requires-clause-own : goal.own_answer-requires-clause-own
+own_answer-requires-clause-own c = not_received c.args.call c.in_default.not-Receive
 
 pub returns-in-Receive-clause-is : goal.returns-in-Receive-clause-is
 returns-in-Receive-clause-is c terms own besides keeps asked asks =
     let r = c.args.tables.now.records in
     let received : IsReceived c.in-Receive.bytes.now asked =
     subst (λ (x : Call). Asks x asked) c.in-Receive.is asks in
+    let content = received.content in
     subst (λ (x : Asked). IfOk c.answer_to_bytes.result
-    (λ (a : Answer). seen a ≡ answer_to terms r c.args.place c.args.now besides x)) (sym received.is)
+    (λ (a : Answered). whole a ≡ answer_to terms r c.args.place c.args.now besides x)) (sym received.is)
     (subst (λ (y : Behaviour). IfOk c.answer_to_bytes.result
-    (λ (a : Answer). seen a ≡ receive terms r c.args.place c.args.now y received.content)) keeps.granted
-    (c.answer_to_bytes.ensures.is terms own received.content received.read))
+    (λ (a : Answered). whole a ≡ polls besides.polled content (receive terms r c.args.place c.args.now y content)))
+    keeps.granted
+    (subst (λ (w : Waiting Message). IfOk c.answer_to_bytes.result (λ (a : Answered). whole a
+    ≡ polls w content (receive terms r c.args.place c.args.now c.args.kept.now.granted content))) keeps.polled
+    (c.answer_to_bytes.ensures.is terms own content received.read)))
 
 pub returns-in-Receive-clause-asked : goal.returns-in-Receive-clause-asked
 returns-in-Receive-clause-asked c =
@@ -74,3 +38,7 @@ returns-in-Receive-clause-asked c =
     (λ (h : (asked : Asked) × IsReceived c.in-Receive.bytes.now asked).
     let it : IsAsked (call.Receive c.in-Receive.bytes) = h in subst IsAsked (sym c.in-Receive.is) it)
     c.answer_to_bytes.ensures.asked
+
+pub returns-clause-is : goal.returns-clause-is
+returns-clause-is c terms own besides keeps asked asks =
+    c.unfetched.ensures.is ∙ c.in_ok-own_answer.ensures.is terms own besides keeps asked asks

@@ -5,7 +5,7 @@ use Rattle.rm_replay.specs.Asked.{step_of}
 use Rattle.rm_replay.specs.Meaning.{side_of}
 use Rattle.rm_replay.specs.Net.{number_of}
 use Rattle.rm_replay.specs.Shows.{drives_of, scene_of}
-use Rattle.rm_replay.proofs.ReadLemmas.{in_order_at, kept_at, said_is_read}
+use Rattle.rm_replay.proofs.ReadLemmas.{in_order_at, kept_at, rules_at, said_is_read}
 use Rattle.rm_replay.proofs.StepLemmas.{asked_for, call_moves, scene_by, shows_still}
 use Rattle.rm_replay.proofs.happen.call.Goals as goal
 
@@ -36,9 +36,15 @@ returns-clause-moves g c terms net asked by w shows =
     c.put_came.result shows (c.in_ok-came.ensures.steps terms net.own asked by w shows.stand)
     (c.number.ensures ∙ ap number_of c.other.ensures) c.put_came.ensures.ok c.put_came.ensures.outcome
     c.put_came.ensures.err
-    (said_is_read c.what_is_read_may_be_written.ensures c.a_refusal_may_be_answered.ensures.refusal
-    c.each_message_is_read_back.ensures terms net.own (node w side)
-    (kept_at w d c.args.nodes.now side shows.stand) (in_order_at w d c.args.nodes.now side shows.stand) asked
+    (said_is_read (record {
+      reads = c.what_is_read_may_be_written.ensures;
+      refuses = c.a_refusal_may_be_answered.ensures.refusal;
+      says = c.each_message_keeps_the_rules.ensures;
+      polls = c.what_waits_keeps_the_rules.ensures;
+      written = c.what_is_written_is_read.ensures.twelve;
+    }) terms net.own (node w side)
+    (kept_at w d c.args.nodes.now side shows.stand) (in_order_at w d c.args.nodes.now side shows.stand)
+    (rules_at w d c.args.nodes.now side shows.stand) asked
     c.args.call c.requires.may by)
 
 pub returns-clause-asked : goal.returns-clause-asked

@@ -11,7 +11,7 @@ use Rattle.rm_node.specs.Asked.{IsReceived}
 use Rattle.rm_node.specs.declared.call.Call.TheVariants as call
 use Rattle.rm_replay.proofs.CallLemmas.{deliver_at, happens_lost, lost, packet_read, there_of}
 use Rattle.rm_replay.proofs.EventLemmas.{happens_call}
-use Rattle.rm_replay.proofs.ReadLemmas.{in_order_at, kept_at, said_is_read}
+use Rattle.rm_replay.proofs.ReadLemmas.{in_order_at, kept_at, rules_at, said_is_read}
 use Rattle.rm_replay.proofs.StepLemmas.{asked_for, call_moves, scene_by, shows_still}
 use Rattle.rm_replay.proofs.happen.deliver.Goals as goal
 
@@ -70,9 +70,15 @@ returns g c terms net w shows =
     c.put_came.result shows (c.in_ok-came.ensures.steps terms net.own asked by w shows.stand)
     (c.number.ensures ∙ ap number_of c.other.ensures) c.put_came.ensures.ok c.put_came.ensures.outcome
     c.put_came.ensures.err
-    (said_is_read c.what_is_read_may_be_written.ensures c.a_refusal_may_be_answered.ensures.refusal
-    c.each_message_is_read_back.ensures terms net.own (node w side)
+    (said_is_read (record {
+      reads = c.what_is_read_may_be_written.ensures;
+      refuses = c.a_refusal_may_be_answered.ensures.refusal;
+      says = c.each_message_keeps_the_rules.ensures;
+      polls = c.what_waits_keeps_the_rules.ensures;
+      written = c.what_is_written_is_read.ensures.twelve;
+    }) terms net.own (node w side)
     (kept_at w old.drives c.args.nodes.now side shows.stand)
-    (in_order_at w old.drives c.args.nodes.now side shows.stand) asked (call.Receive packet.bytes) tt by))
+    (in_order_at w old.drives c.args.nodes.now side shows.stand)
+    (rules_at w old.drives c.args.nodes.now side shows.stand) asked (call.Receive packet.bytes) tt by))
     (asked_for side c.in_ok-came.came c.put_came.result old.drives new.drives c.in_ok-came.ensures.asked
     c.put_came.ensures.outcome)

@@ -21,7 +21,7 @@ returns-in_err-fate-clause-goes g c =
       no-step g.D.Disk.tells x x (record { node = refl; told = λ t. refl }),
       subst (λ (r : Result Posted NodeError). Goes c.args.now c.args.out queue queue c.args.posted old mid [] r)
           (sym (p.1 ∙ ap Err p.2)) (goes-wanting c.args.now c.args.out queue c.args.posted old mid
-          c.in_err-fate.ensures.begins),
+          (rw (← c.as_slice.ensures) c.in_err-fate.ensures.begins)),
     )
 
 pub returns-in_err-hear-clause-goes : goal.returns-in_err-hear-clause-goes
@@ -37,7 +37,7 @@ returns-in_err-hear-clause-goes g c =
       subst (λ (r : Result Posted NodeError). Goes c.args.now c.args.out queue more c.args.posted
           (net c.args.link.now) (net c.post.new.link) h.0 r) (sym (p.1 ∙ ap Err p.2))
           (goes-no-further c.args.now c.args.out queue more c.args.posted (net c.args.link.now) (net c.post.new.link)
-          c.in_ok-fate.fate h.0 c.in_err-hear.field-0.0 c.in_ok-fate.ensures.posts h.2),
+          c.in_ok-fate.fate h.0 c.in_err-hear.field-0.0 (rw (← c.as_slice.ensures) c.in_ok-fate.ensures.posts) h.2),
     )
 
 pub returns-clause-goes : goal.returns-clause-goes
@@ -51,5 +51,5 @@ returns-clause-goes g c =
       subst (λ (next : Posted). Goes c.args.now c.args.out queue more c.args.posted
           (net c.args.link.now) (net c.post.new.link) h.0 (Ok next)) (sym c.counted-next.ensures.is)
           (goes-on c.args.now c.args.out queue more c.args.posted (net c.args.link.now) (net c.post.new.link)
-          c.in_ok-fate.fate h.0 c.in_ok-fate.ensures.posts h.2),
+          c.in_ok-fate.fate h.0 (rw (← c.as_slice.ensures) c.in_ok-fate.ensures.posts) h.2),
     )

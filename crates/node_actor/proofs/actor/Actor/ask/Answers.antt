@@ -8,7 +8,7 @@ use Rattle.node_actor.specs.Actored.{Actored}
 use Rattle.node_actor.specs.Stands.{Acts, Stands}
 use Rattle.node_actor.specs.Steps.{answer_of, clock_after, clocked}
 use Rattle.node_actor.proofs.ActLemmas.{actored}
-use Rattle.node_actor.proofs.StepLemmas.{acted, disk_told, still}
+use Rattle.node_actor.proofs.StepLemmas.{ByTheRules, acted, disk_told, still}
 use Rattle.node_actor.proofs.actor.Actor.ask.Goals as goal
 
 pub returns-in_err-came : goal.returns-in_err-came
@@ -17,14 +17,21 @@ returns-in_err-came g c =
     let now = g.D.Disk.told c.step.new.disk in
     let old = actored c.self.inside.node c.self.inside.clock in
     let clock = c.clock_after-clock.ensures ∙ ap (clock_after c.args.call) (sym c.self.view_is) in
+    let by : ByTheRules = record {
+      reads = c.what_is_read_may_be_written.ensures;
+      refuses = c.a_refusal_may_be_answered.ensures.refusal;
+      each = c.each_message_keeps_the_rules.ensures;
+      polls = c.what_waits_keeps_the_rules.ensures;
+    } in
     let p = err_from_is_err_and c.from_residual.result c.from_residual.ensures.1 in
     rw p.1 (record {
       plays = λ terms own asked is x s.
           let there = subst (λ (a : Actored). Stands x first a) (sym c.self.view_is) s in
           still c.args.call x now c.step.new.self c.self.inside.clock (clock_after c.args.call old)
           (acted terms g.D.Disk.tells c.args.call x asked first now old c.step.new.self (reaction_end c.step.result)
-          (Err c.in_err-came.field-0.0) (c.a_journal_ends_with_its_batches.ensures terms own)
-          g.met.D.CrashDisk.always_tells there c.the_reply_comes_first.ensures is c.step.ensures.runs
+          (Err c.in_err-came.field-0.0) by own
+          (c.a_journal_ends_with_its_batches.ensures terms own) g.met.D.CrashDisk.always_tells there
+          c.the_reply_comes_first.ensures c.requires.may is c.step.ensures.runs
           (λ kept keeps. c.step.ensures.does terms own kept keeps asked is) c.in_err-came.ensures)
           there.clock;
       cause = subst (λ (b : Bool). HasCause first.faults now.faults b)
@@ -38,14 +45,21 @@ returns g c =
     let now = g.D.Disk.told c.step.new.disk in
     let old = actored c.self.inside.node c.self.inside.clock in
     let clock = c.clock_after-clock.ensures ∙ ap (clock_after c.args.call) (sym c.self.view_is) in
+    let by : ByTheRules = record {
+      reads = c.what_is_read_may_be_written.ensures;
+      refuses = c.a_refusal_may_be_answered.ensures.refusal;
+      each = c.each_message_keeps_the_rules.ensures;
+      polls = c.what_waits_keeps_the_rules.ensures;
+    } in
     record {
       plays = λ terms own asked is x s.
           let there = subst (λ (a : Actored). Stands x first a) (sym c.self.view_is) s in
           subst (λ (n : ℕ). Acts (is_connected c.args.call) (clocked c.args.call x) (answer_of terms x asked) now
           (actored c.step.new.self n) (Ok c.in_ok-came.came)) (sym clock)
           (acted terms g.D.Disk.tells c.args.call x asked first now old c.step.new.self (reaction_end c.step.result)
-          (Ok c.in_ok-came.came) (c.a_journal_ends_with_its_batches.ensures terms own)
-          g.met.D.CrashDisk.always_tells there c.the_reply_comes_first.ensures is c.step.ensures.runs
+          (Ok c.in_ok-came.came) by own
+          (c.a_journal_ends_with_its_batches.ensures terms own) g.met.D.CrashDisk.always_tells there
+          c.the_reply_comes_first.ensures c.requires.may is c.step.ensures.runs
           (λ kept keeps. c.step.ensures.does terms own kept keeps asked is) c.in_ok-came.ensures);
       cause = subst (λ (b : Bool). HasCause first.faults now.faults b)
           (disk_told _ (Ok c.in_ok-came.came) c.in_ok-came.ensures) c.step.ensures.cause;

@@ -16,6 +16,7 @@ returns-in-Ok-clause-kept g c = record {
   waits = stands-made c.in-Ok.store c.args.number c.args.address c.in_ok-kept.kept.timers c.in-Ok.ensures.made
       c.in_ok-kept.ensures.waits;
   time = c.in_ok-kept.ensures.time;
+  polled = c.in_ok-kept.ensures.polled;
 }
 
 pub returns-in-Err-Memory-clause-wanted : goal.returns-in-Err-Memory-clause-wanted

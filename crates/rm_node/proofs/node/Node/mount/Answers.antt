@@ -20,4 +20,5 @@ returns-clause-kept g c = record {
   waits = subst (λ (r : List Fact). StandsFor c.fill.new.timers (mounted_waits r)) c.tables.ensures
       (c.fill.ensures.filled.waits _ c.in-Ok.ensures.waits);
   time = c.fill.ensures.filled.time ∙ c.in-Ok.ensures.time;
+  polled = c.in-Ok.ensures.polled;
 }

@@ -1,0 +1,6 @@
+use Rattle.std.proofs.Common.{refl, arith}
+use Rattle.sequence_table.specs.IdentTexts.{marks-text}
+use Rattle.node_messages.proofs.request.make_action.Goals as goal
+
+pub returns-clause-is_text : goal.returns-clause-is_text
+returns-clause-is_text c = marks-text 2048 _ (omega arith) (omega arith) refl

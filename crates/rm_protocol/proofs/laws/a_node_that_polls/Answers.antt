@@ -1,0 +1,21 @@
+use Rattle.std.proofs.Common.{refl}
+use Rattle.uuid.specs.Text.{by_index}
+use Rattle.sequence_table.specs.Idents.{issue, polled_address, polled_prefix}
+use Rattle.rm_protocol.specs.Addresses.{anonymous, no_address}
+use Rattle.rm_protocol.proofs.laws.a_node_that_polls.Goals as goal
+
+pub returns-clause-one : goal.returns-clause-one
+unfolding issue polled_address by_index anonymous no_address polled_prefix
+returns-clause-one c = refl
+
+pub returns-clause-two : goal.returns-clause-two
+unfolding issue polled_address by_index anonymous no_address polled_prefix
+returns-clause-two c = refl
+
+pub returns-clause-packets : goal.returns-clause-packets
+unfolding issue polled_address by_index anonymous no_address polled_prefix
+returns-clause-packets c = refl
+
+pub returns-clause-inbox : goal.returns-clause-inbox
+unfolding issue polled_address by_index anonymous no_address polled_prefix
+returns-clause-inbox c = refl
