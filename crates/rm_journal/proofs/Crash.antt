@@ -1,43 +1,40 @@
--- What a crash leaves while an entry is added. Each image of the disk stands for the old entries before the first
--- call; so what it may hold from the gate on can be exchanged, and a block torn there leaves the same entries.
-use Rattle.std.proofs.Common.{◌≡◌, ◌≢◌, ◌⊎◌, ℕ, zero, suc, ◌+◌, ◌-◌, ◌<◌, ◌≤◌, Bool, true, false, ◌||◌, nat_le, List}
-use Rattle.std.proofs.Common.{[], ◌∷◌, ◌++◌, length, take, drop, slice_index, refl, sym, ◌∙◌, ap, subst, inl, inr}
-use Rattle.std.proofs.Common.{arith, append_assoc, length-append, length-take, length-drop, take-append-drop}
+-- What a crash leaves while an entry is added. A block that is torn behind the gate leaves the entries as they are; and
+-- once it is synced, the byte of the gate decides.
+use Rattle.std.proofs.Common.{◌≡◌, ◌≢◌, ◌⊎◌, ℕ, zero, suc, ◌+◌, ◌-◌, ◌<◌, ◌≤◌, Bool, true, false, ◌||◌}
+use Rattle.std.proofs.Common.{List, [], ◌∷◌, ◌++◌, length, take, drop, slice_index, refl, sym, ◌∙◌, ap, subst, inl, inr}
+use Rattle.std.proofs.Common.{arith, append_assoc, length-append, length-take, length-drop}
 use Rattle.std.specs.List.{flat_map}
 use Rattle.std.proofs.lemmas.Bool.{false≢true, cases_lt, cases_eq, lt-leb}
-use Rattle.std.proofs.lemmas.List.Folds.{list_any-append}
 use Rattle.std.specs.Int.{w32, to_be_bytes}
 use Rattle.std.proofs.Math.Seq.{get_or-append_seam}
-use Rattle.std.proofs.lemmas.List.{ext_get_or, take-take, take-append-le, take_at, drop_at, get_or-take, get_or-drop}
-use Rattle.std.proofs.lemmas.List.{get_or_append_left, get_or-append_right}
+use Rattle.std.proofs.lemmas.List.{ext_get_or, take_all, take-take, take-append-le, take_at, drop_at}
+use Rattle.std.proofs.lemmas.List.{get_or_append_left}
 use Rattle.rm_disk.specs.Call.{Call, is_within, Wrote, WriteFailed, CutTo, Synced, SyncFailed, State, is_free}
-use Rattle.rm_disk.specs.Call.{is_written, overwritten, after, state, seen_of, settled, left_by}
+use Rattle.rm_disk.specs.Call.{overwritten, after, state, seen_of, settled}
 use Rattle.rm_disk.specs.Image.{IsImage, MayLeave, OnlyLeaves}
-use Rattle.rm_disk.specs.ImageLemmas.{not_free, reads_as_image, crash_leaves_image, settled_only, synced_only}
-use Rattle.rm_disk.specs.ImageLemmas.{only_from}
-use Rattle.rm_disk.specs.ImageLemmas.{only_more}
-use Rattle.rm_disk.specs.RangeLemmas.{within_before, within_behind, overwritten-outside}
-use Rattle.rm_disk.specs.StateLemmas.{length-filled}
-use Rattle.rm_journal.specs.Entries.{longest, head, block, prefix_of, StandsFor, StandsForEither}
+use Rattle.rm_disk.specs.ImageLemmas.{reads_as_image, settled_only, synced_only, only_from, only_more}
+use Rattle.rm_disk.specs.RangeLemmas.{within_before, within_behind}
+use Rattle.rm_journal.specs.Entries.{longest, block, Bank, first_bank, first_bytes, IsFront, EndsBlocks, StandsAt}
+use Rattle.rm_journal.specs.Entries.{StandsForEither}
 use Rattle.rm_journal.specs.Journal.{with_block}
-use Rattle.rm_journal.specs.EntryLemmas.{blocks-push, fit_push}
+use Rattle.rm_journal.specs.EntryLemmas.{blocks-push, fit_push, stands_at-bytes_of}
 use Rattle.rm_journal.specs.Scan.{WritesBlock}
+use Rattle.rm_journal.proofs.Parts.{front_stays, stands_split, last_of, IsOff, behind_off, wrote_off, failed_off}
+use Rattle.rm_journal.proofs.Places.{gate_within}
 
-prefix_and_gate : (entries : List (List ℕ)) (gate : ℕ)
-    → length (prefix_of entries ++ gate ∷ []) ≡ length (prefix_of entries) + 1
-prefix_and_gate entries gate = length-append (prefix_of entries) (gate ∷ [])
+-- What stands behind the gate of an entry: its length, the entry and the next closed gate.
+abbrev pub body_of : List ℕ → List ℕ
+body_of entry = to_be_bytes w32 (length entry) ++ entry ++ 0 ∷ []
 
--- An open gate and the body of an entry behind the prefix are the prefix with that entry.
-prefix_of-push_gate : (entries : List (List ℕ)) (entry rest : List ℕ)
-    → prefix_of entries ++ 1 ∷ ((to_be_bytes w32 (length entry) ++ entry ++ 0 ∷ []) ++ rest)
-    ≡ prefix_of (entries ++ entry ∷ []) ++ 0 ∷ rest
-prefix_of-push_gate entries entry rest =
+-- An open gate and the body of an entry behind the blocks are the blocks with that entry.
+blocks-push_gate : (entries : List (List ℕ)) (entry rest : List ℕ)
+    → flat_map block entries ++ 1 ∷ (body_of entry ++ rest) ≡ flat_map block (entries ++ entry ∷ []) ++ 0 ∷ rest
+blocks-push_gate entries entry rest =
     let number = to_be_bytes w32 (length entry) in
     let blocks = flat_map block entries in
-    ap (λ (l : List ℕ). (head ++ blocks) ++ 1 ∷ l) (append_assoc (number ++ entry) (0 ∷ []) rest)
-    ∙ sym (append_assoc (head ++ blocks) (block entry) (0 ∷ rest))
-    ∙ ap (λ (l : List ℕ). l ++ 0 ∷ rest) (append_assoc head blocks (block entry)
-    ∙ ap (λ (l : List ℕ). head ++ l) (sym (blocks-push entries entry)))
+    ap (λ (l : List ℕ). blocks ++ 1 ∷ l) (append_assoc (number ++ entry) (0 ∷ []) rest)
+    ∙ sym (append_assoc blocks (block entry) (0 ∷ rest))
+    ∙ ap (λ (l : List ℕ). l ++ 0 ∷ rest) (sym (blocks-push entries entry))
 
 -- the place where two lists differ alone
 other_places : (before behind : List ℕ) (x y i : ℕ) → i ≢ length before
@@ -46,24 +43,6 @@ other_places [] behind x y zero other = absurd (other refl)
 other_places [] behind x y (suc i) other = refl
 other_places (b ∷ before) behind x y zero other = refl
 other_places (b ∷ before) behind x y (suc i) other = other_places before behind x y i λ e. other (ap suc e)
-
--- The first places of a state are as those of another: no more of them are free, and they read the same.
-record SameUpTo (n : ℕ) (s t : State) : Type 0 where
-  low : t.low ≡ s.low
-  free : (i : ℕ) → i < n → is_free s i ≡ false → is_free t i ≡ false
-  seen : (i : ℕ) → i < n → slice_index t.seen i ≡ slice_index s.seen i
-
--- one range more doesn't make a place before it free
-still_kept : (s t : State) (at count i : ℕ) → t.low ≡ s.low → t.written ≡ s.written ++ (at, count) ∷ [] → i < at
-    → is_free s i ≡ false → is_free t i ≡ false
-still_kept s t at count i low written before kept =
-    let parts = not_free s i kept in
-    ap (λ (n : ℕ). nat_le n i || is_written t.written i) low
-    ∙ ap (λ (r : List (ℕ × ℕ)). nat_le s.low i || is_written r i) written
-    ∙ ap (λ (b : Bool). nat_le s.low i || b) (list_any-append (is_within i) s.written ((at, count) ∷ []))
-    ∙ ap (λ (b : Bool). nat_le s.low i || (is_written s.written i || (b || false))) (within_before i at count before)
-    ∙ ap (λ (b : Bool). b || (is_written s.written i || false)) (lt-leb s.low i parts.0)
-    ∙ ap (λ (b : Bool). b || false) parts.1
 
 -- the bytes with the gate written over
 gate_over : (before : List ℕ) (gate : ℕ) (behind : List ℕ) (x : ℕ)
@@ -77,13 +56,13 @@ gate_over before gate behind x =
     ∙ append_assoc before (x ∷ []) behind
 
 -- A state whose bytes are settled but for the gate: an image has any byte there, and the others as they are.
-record SameButGate (before : List ℕ) (gate : ℕ) (behind : List ℕ) (t : State) : Type 0 where
-  low : t.low ≡ length (before ++ gate ∷ behind)
-  high : t.high ≡ length (before ++ gate ∷ behind)
-  free : (i : ℕ) → i < length (before ++ gate ∷ behind) → i ≢ length before → is_free t i ≡ false
-  seen : (i : ℕ) → i ≢ length before → slice_index t.seen i ≡ slice_index (before ++ gate ∷ behind) i
+pub record SameButGate (before : List ℕ) (gate : ℕ) (behind : List ℕ) (t : State) : Type 0 where
+  pub low : t.low ≡ length (before ++ gate ∷ behind)
+  pub high : t.high ≡ length (before ++ gate ∷ behind)
+  pub free : (i : ℕ) → i < length (before ++ gate ∷ behind) → i ≢ length before → is_free t i ≡ false
+  pub seen : (i : ℕ) → i ≢ length before → slice_index t.seen i ≡ slice_index (before ++ gate ∷ behind) i
 
-torn_gate : (before : List ℕ) (gate : ℕ) (behind : List ℕ) (t : State) → SameButGate before gate behind t
+pub torn_gate : (before : List ℕ) (gate : ℕ) (behind : List ℕ) (t : State) → SameButGate before gate behind t
     → (bytes : List ℕ) → IsImage t bytes → bytes ≡ before ++ slice_index bytes (length before) ∷ behind
 torn_gate before gate behind t same bytes image =
     let x = slice_index bytes (length before) in
@@ -108,7 +87,7 @@ within_gate i gate other = elim (cases_lt i gate) [
 ]
 
 -- settled bytes with the gate written over, or with a write there that failed
-gate_wrote : (before : List ℕ) (gate : ℕ) (behind : List ℕ) (past : List Call)
+pub gate_wrote : (before : List ℕ) (gate : ℕ) (behind : List ℕ) (past : List Call)
     → state past ≡ settled (before ++ gate ∷ behind) → (x : ℕ)
     → SameButGate before gate behind (state (Wrote (length before) (x ∷ []) ∷ past))
 gate_wrote before gate behind past is x =
@@ -128,7 +107,7 @@ gate_wrote before gate behind past is x =
     written_over before gate behind x i other = ap (λ (l : List ℕ). slice_index l i) (gate_over before gate behind x)
         ∙ other_places before behind x gate i other
 
-gate_failed : (before : List ℕ) (gate : ℕ) (behind : List ℕ) (past : List Call)
+pub gate_failed : (before : List ℕ) (gate : ℕ) (behind : List ℕ) (past : List Call)
     → state past ≡ settled (before ++ gate ∷ behind)
     → SameButGate before gate behind (state (WriteFailed (length before) 1 ∷ past))
 gate_failed before gate behind past is =
@@ -142,234 +121,212 @@ gate_failed before gate behind past is =
       seen = λ i other. refl;
     })
 
-module _ (past : List Call) (entries : List (List ℕ)) (images : (bytes : List ℕ) → MayLeave past bytes
-    → StandsFor entries bytes) where
-  n : ℕ
-  n = length (prefix_of entries) + 1
+-- a front with other bytes behind it
+front_before : (bank : Bank) (before s t : List ℕ) → 25 ≤ length before → IsFront bank (before ++ s)
+    → IsFront bank (before ++ t)
+front_before bank before s t long is =
+    front_stays bank (before ++ s) (before ++ t) is (omega (arith, long, length-append before s))
+    (omega (arith, long, length-append before t)) λ i low other.
+    get_or_append_left before s 0 i (omega (arith, low, long))
+    ∙ sym (get_or_append_left before t 0 i (omega (arith, low, long)))
 
-  reads : StandsFor entries (seen_of past)
+module _ (past : List Call) (bank : Bank) (entries : List (List ℕ)) (images : (bytes : List ℕ) → MayLeave past bytes
+    → StandsAt bank entries bytes) where
+  reads : StandsAt bank entries (seen_of past)
   reads = images (seen_of past) (reads_as_image past)
 
-  -- the prefix and the gate stand in the smallest image
-  low_enough : n ≤ (state past).low
-  unfolding n
-  low_enough =
-      let least = images (left_by 3 (state past)) (crash_leaves_image past 3) in
-      omega (
-        arith,
-        length-filled (state past) 0 (state past).low,
-        ap length least.is,
-        length-append (prefix_of entries) (least.gate ∷ least.behind),
-      )
+  front : List ℕ
+  front = take bank.start (seen_of past)
 
-  long_enough : n ≤ length (seen_of past)
-  long_enough = omega (arith, low_enough, (reads_as_image past).no_shorter)
+  -- what stands before the closed gate
+  before : List ℕ
+  before = front ++ flat_map block entries
 
-  -- What is the same up to the gate stands for the same entries, whatever is behind it.
-  torn_behind : (t : State) → SameUpTo n (state past) t → (bytes : List ℕ) → IsImage t bytes → StandsFor entries bytes
-  unfolding n
-  torn_behind t same bytes image =
-      let seen = seen_of past in
-      let is = reads_as_image past in
-      let long : n ≤ length bytes = omega (arith, low_enough, image.no_shorter, same.low) in
-      let cut : length (take n bytes) ≡ n = omega (arith, length-take n bytes, long) in
-      let spliced = take n bytes ++ drop n seen in
-      let size : length spliced ≡ length seen =
-      omega (arith, length-append (take n bytes) (drop n seen), cut, length-drop n seen, long_enough) in
-      let old : IsImage (state past) spliced = record {
-        no_shorter = omega (arith, size, is.no_shorter);
-        no_longer = omega (arith, size, is.no_longer);
-        same = λ i low kept. elim (cases_lt i n) [
-          | inl before ↦
-              get_or_append_left (take n bytes) (drop n seen) 0 i (omega (arith, cut))
-              ∙ get_or-take n bytes i 0 before
-              ∙ image.same i (omega (arith, long)) (same.free i before kept)
-              ∙ same.seen i before
-          | inr behind ↦
-              get_or-append_right (take n bytes) (drop n seen) n i 0 cut behind
-              ∙ get_or-drop n seen (i - n) 0
-              ∙ ap (λ (k : ℕ). slice_index seen k) {y = i} (omega arith)
-        ];
-      } in
-      let has = images spliced old in
-      let first : take n bytes ≡ prefix_of entries ++ has.gate ∷ [] =
-      sym (take_at (take n bytes) (drop n seen) n cut)
-      ∙ ap (λ (l : List ℕ). take n l) (has.is ∙ sym (append_assoc (prefix_of entries) (has.gate ∷ []) has.behind))
-      ∙ take_at (prefix_of entries ++ has.gate ∷ []) has.behind n (prefix_and_gate entries has.gate) in
-      record {
-        fit = has.fit;
-        gate = has.gate;
-        behind = drop n bytes;
-        closed = has.closed;
-        is =
-            sym (take-append-drop n bytes)
-            ∙ ap (λ (l : List ℕ). l ++ drop n bytes) first
-            ∙ append_assoc (prefix_of entries) (has.gate ∷ []) (drop n bytes);
-      }
+  gate : ℕ
+  gate = reads.ends.gate
 
-  -- a block that is torn behind the gate
-  behind_wrote : (body : List ℕ) → SameUpTo n (state past) (state (Wrote n body ∷ past))
-  behind_wrote body = record {
-    low = refl;
-    free = λ i before kept. still_kept (state past) (state (Wrote n body ∷ past)) n
-        (length body) i refl refl before kept;
-    seen = λ i before. overwritten-outside (seen_of past) n body i (omega (arith, long_enough))
-        (within_before i n (length body) before);
-  }
+  within : bank.start + length (flat_map block entries) < length (seen_of past)
+  within = gate_within bank entries (seen_of past) reads
 
-  behind_failed : (count : ℕ) → SameUpTo n (state past) (state (WriteFailed n count ∷ past))
-  behind_failed count = record {
-    low = refl;
-    free = λ i before kept. still_kept (state past)
-        (state (WriteFailed n count ∷ past)) n count i refl refl before kept;
-    seen = λ i before. refl;
-  }
+  size : length front ≡ bank.start
+  unfolding front
+  size = omega (arith, length-take bank.start (seen_of past), within)
 
-  -- the bytes once the block stands behind the closed gate
-  body_there : (body : List ℕ) → seen_of (Wrote n body ∷ past) ≡ prefix_of entries ++ reads.gate ∷ (body
-      ++ drop (n + length body) (seen_of past))
-  unfolding n
-  body_there body =
-      let rest = drop (n + length body) (seen_of past) in
-      let first : take n (seen_of past) ≡ prefix_of entries ++ reads.gate ∷ [] =
-      ap (λ (l : List ℕ). take n l) (reads.is ∙ sym (append_assoc (prefix_of entries) (reads.gate ∷ []) reads.behind))
-      ∙ take_at (prefix_of entries ++ reads.gate ∷ []) reads.behind n (prefix_and_gate entries reads.gate) in
-      ap (λ (l : List ℕ). l ++ body ++ rest) first
-      ∙ ap (λ (l : List ℕ). l ++ rest) (append_assoc (prefix_of entries) (reads.gate ∷ []) body)
-      ∙ append_assoc (prefix_of entries) (reads.gate ∷ body) rest
+  ends_at : length before ≡ bank.start + length (flat_map block entries)
+  unfolding before
+  ends_at = omega (arith, length-append front (flat_map block entries), size)
+
+  split : seen_of past ≡ before ++ gate ∷ reads.ends.behind
+  unfolding before front gate
+  split = stands_split bank entries (seen_of past) reads
+
+  n : ℕ
+  n = length before + 1
 
   module _ (entry : List ℕ) (short : length entry ≤ longest) where
-    body : List ℕ
-    body = to_be_bytes w32 (length entry) ++ entry ++ 0 ∷ []
-
     rest : List ℕ
-    rest = body ++ drop (n + length body) (seen_of past)
+    rest = body_of entry ++ drop (n + length (body_of entry)) (seen_of past)
 
-    end : ℕ
-    end = length (prefix_of entries)
+    -- the bytes once the block stands behind the closed gate
+    body_there : seen_of (Wrote n (body_of entry) ∷ past) ≡ before ++ gate ∷ rest
+    unfolding n rest
+    body_there =
+        let body = body_of entry in
+        let after = drop (n + length body) (seen_of past) in
+        let first : take n (seen_of past) ≡ before ++ gate ∷ [] =
+        ap (λ (l : List ℕ). take n l) (split ∙ sym (append_assoc before (gate ∷ []) reads.ends.behind))
+        ∙ take_at (before ++ gate ∷ []) reads.ends.behind n (length-append before (gate ∷ [])) in
+        ap (λ (l : List ℕ). l ++ body ++ after) first
+        ∙ ap (λ (l : List ℕ). l ++ after) (append_assoc before (gate ∷ []) body)
+        ∙ append_assoc before (gate ∷ body) after
+
+    -- the front is the same, whatever the gate is
+    front_there : (x : ℕ) → IsFront bank (before ++ x ∷ rest)
+    front_there x = front_before bank before (gate ∷ reads.ends.behind) (x ∷ rest)
+        (omega (arith, ends_at, reads.front.behind)) (subst (IsFront bank) split reads.front)
+
+    list_there : (x : ℕ) → drop bank.start (before ++ x ∷ rest) ≡ flat_map block entries ++ x ∷ rest
+    unfolding before
+    list_there x = ap (λ (l : List ℕ). drop bank.start l) (append_assoc front (flat_map block entries) (x ∷ rest))
+        ∙ drop_at front (flat_map block entries ++ x ∷ rest) bank.start size
 
     -- whatever byte the gate is, the list is the old one or the new one
-    with_entry : StandsFor (entries ++ entry ∷ []) (prefix_of entries ++ 1 ∷ rest)
-    unfolding rest body
+    with_entry : StandsAt bank (entries ++ entry ∷ []) (before ++ 1 ∷ rest)
+    unfolding rest
     with_entry = record {
-      fit = fit_push entries entry short reads.fit;
-      gate = 0;
-      behind = drop (n + length body) (seen_of past);
-      closed = λ e. omega (arith, e);
-      is = prefix_of-push_gate entries entry (drop (n + length body) (seen_of past));
+      front = front_there 1;
+      ends = record {
+        fit = fit_push entries entry short reads.ends.fit;
+        gate = 0;
+        behind = drop (n + length (body_of entry)) (seen_of past);
+        closed = λ e. omega (arith, e);
+        is = list_there 1 ∙ blocks-push_gate entries entry (drop (n + length (body_of entry)) (seen_of past));
+      };
     }
 
-    either : (x : ℕ) → StandsForEither entries entry (prefix_of entries ++ x ∷ rest)
+    P : List ℕ → Type 0
+    P = StandsForEither bank entries entry
+
+    either : (x : ℕ) → P (before ++ x ∷ rest)
+    unfolding P
     either x = elim (cases_eq x 1) [
-      | inl opens ↦ inr (subst (λ (y : ℕ). StandsFor (entries ++ entry ∷ []) (prefix_of entries ++ y ∷ rest))
+      | inl opens ↦ inr (subst (λ (y : ℕ). StandsAt bank (entries ++ entry ∷ []) (before ++ y ∷ rest))
           (sym opens) with_entry)
       | inr closed ↦ inl (record {
-        fit = reads.fit;
-        gate = x;
-        behind = rest;
-        closed = closed;
-        is = refl;
+        front = front_there x;
+        ends = record {
+          fit = reads.ends.fit;
+          gate = x;
+          behind = rest;
+          closed = closed;
+          is = list_there x;
+        };
       })
     ]
 
-    there : state (Synced ∷ Wrote n body ∷ past) ≡ settled (prefix_of entries ++ reads.gate ∷ rest)
-    unfolding rest
-    there = ap settled (body_there body)
+    there : state (Synced ∷ Wrote n (body_of entry) ∷ past) ≡ settled (before ++ gate ∷ rest)
+    there = ap settled body_there
 
-    P : List ℕ → Type 0
-    P = StandsForEither entries entry
+    -- a block that is torn behind the gate
+    torn_off : (count : ℕ) → IsOff bank (last_of bank entries) n count
+    unfolding n
+    torn_off count = behind_off bank (last_of bank entries) n count reads.front.behind (omega arith)
+        (omega (arith, ends_at))
 
     start : OnlyLeaves past past P
     unfolding P
     start = only_from past P λ bytes may. inl (images bytes may)
 
-    first_failed : OnlyLeaves past (WriteFailed n (length body) ∷ past) P
+    first_failed : OnlyLeaves past (WriteFailed n (length (body_of entry)) ∷ past) P
     unfolding P
     first_failed = only_more past past _ P start λ bytes may. inl
-        (torn_behind _ (behind_failed (length body)) bytes may)
+        (failed_off past bank entries images n (length (body_of entry)) (torn_off (length (body_of entry))) bytes may)
 
-    first : OnlyLeaves past (Wrote n body ∷ past) P
+    torn : (bytes : List ℕ) → MayLeave (Wrote n (body_of entry) ∷ past) bytes → P bytes
     unfolding P
-    first = only_more past past _ P start λ bytes may. inl (torn_behind _ (behind_wrote body) bytes may)
+    torn bytes may = inl
+        (wrote_off past bank entries images n (body_of entry) (torn_off (length (body_of entry))) bytes may)
 
-    first_unsynced : OnlyLeaves past (SyncFailed ∷ Wrote n body ∷ past) P
-    unfolding P
-    first_unsynced = only_more past _ SyncFailed P first λ bytes may. inl (torn_behind _ (behind_wrote body) bytes may)
+    first : OnlyLeaves past (Wrote n (body_of entry) ∷ past) P
+    first = only_more past past _ P start torn
 
-    staged_only : OnlyLeaves past (Synced ∷ Wrote n body ∷ past) P
-    unfolding P
+    first_unsynced : OnlyLeaves past (SyncFailed ∷ Wrote n (body_of entry) ∷ past) P
+    first_unsynced = only_more past _ SyncFailed P first torn
+
+    staged_only : OnlyLeaves past (Synced ∷ Wrote n (body_of entry) ∷ past) P
     staged_only = only_more past _ Synced P first λ bytes may.
-        subst P (sym (settled_only (prefix_of entries ++ reads.gate ∷ rest) bytes
-        (subst (λ s. IsImage s bytes) there may))) (either reads.gate)
+        subst P (sym (settled_only (before ++ gate ∷ rest) bytes
+        (subst (λ s. IsImage s bytes) there may))) (either gate)
 
-    second_failed : OnlyLeaves past (WriteFailed end 1 ∷ Synced ∷ Wrote n body ∷ past) P
-    unfolding P end
+    second_failed : OnlyLeaves past (WriteFailed (length before) 1 ∷ Synced ∷ Wrote n (body_of entry) ∷ past) P
     second_failed = only_more past _ _ P staged_only λ bytes may.
-        subst P (sym (torn_gate (prefix_of entries) reads.gate rest _
-        (gate_failed (prefix_of entries) reads.gate rest (Synced ∷ Wrote n body ∷ past) there) bytes may)) (either _)
+        subst P (sym (torn_gate before gate rest _
+        (gate_failed before gate rest (Synced ∷ Wrote n (body_of entry) ∷ past) there) bytes may)) (either _)
 
-    second_bytes : (bytes : List ℕ) → MayLeave (Wrote end (1 ∷ []) ∷ Synced ∷ Wrote n body ∷ past) bytes → P bytes
-    unfolding P end
+    second_bytes : (bytes : List ℕ)
+        → MayLeave (Wrote (length before) (1 ∷ []) ∷ Synced ∷ Wrote n (body_of entry) ∷ past) bytes → P bytes
     second_bytes bytes may =
-        subst P (sym (torn_gate (prefix_of entries) reads.gate rest _
-        (gate_wrote (prefix_of entries) reads.gate rest (Synced ∷ Wrote n body ∷ past) there 1) bytes may)) (either _)
+        subst P (sym (torn_gate before gate rest _
+        (gate_wrote before gate rest (Synced ∷ Wrote n (body_of entry) ∷ past) there 1) bytes may)) (either _)
 
-    second : OnlyLeaves past (Wrote end (1 ∷ []) ∷ Synced ∷ Wrote n body ∷ past) P
+    second : OnlyLeaves past (Wrote (length before) (1 ∷ []) ∷ Synced ∷ Wrote n (body_of entry) ∷ past) P
     second = only_more past _ _ P staged_only second_bytes
 
-    second_unsynced : OnlyLeaves past (SyncFailed ∷ Wrote end (1 ∷ []) ∷ Synced ∷ Wrote n body ∷ past) P
+    second_unsynced : OnlyLeaves past
+        (SyncFailed ∷ Wrote (length before) (1 ∷ []) ∷ Synced ∷ Wrote n (body_of entry) ∷ past) P
     second_unsynced = only_more past _ SyncFailed P second second_bytes
 
     -- once all is synced, the entry is there
-    all_there : (bytes : List ℕ) → MayLeave (Synced ∷ Wrote end (1 ∷ []) ∷ Synced ∷ Wrote n body ∷ past) bytes
-        → StandsFor (entries ++ entry ∷ []) bytes
-    unfolding end
+    all_there : (bytes : List ℕ)
+        → MayLeave (Synced ∷ Wrote (length before) (1 ∷ []) ∷ Synced ∷ Wrote n (body_of entry) ∷ past) bytes
+        → StandsAt bank (entries ++ entry ∷ []) bytes
     all_there bytes may =
-        let is = synced_only (Wrote (length (prefix_of entries)) (1 ∷ []) ∷ Synced ∷ Wrote n body ∷ past) bytes may in
-        let over = ap (λ s. overwritten s.seen (length (prefix_of entries)) (1 ∷ [])) there
-        ∙ gate_over (prefix_of entries) reads.gate rest 1 in
-        subst (StandsFor (entries ++ entry ∷ [])) (sym (is ∙ over)) with_entry
+        let is = synced_only (Wrote (length before) (1 ∷ []) ∷ Synced ∷ Wrote n (body_of entry) ∷ past) bytes may in
+        let over = ap (λ s. overwritten s.seen (length before) (1 ∷ [])) there ∙ gate_over before gate rest 1 in
+        subst (StandsAt bank (entries ++ entry ∷ [])) (sym (is ∙ over)) with_entry
 
-    all_only : OnlyLeaves past (Synced ∷ Wrote end (1 ∷ []) ∷ Synced ∷ Wrote n body ∷ past) P
+    all_only : OnlyLeaves past
+        (Synced ∷ Wrote (length before) (1 ∷ []) ∷ Synced ∷ Wrote n (body_of entry) ∷ past) P
     unfolding P
     all_only = only_more past _ Synced P second λ bytes may. inr (all_there bytes may)
 
-    moments : (new : List Call) (all_well : Bool) → WritesBlock end body past new all_well → OnlyLeaves past new P
-    unfolding n end
+    moments : (new : List Call) (all_well : Bool) → WritesBlock (length before) (body_of entry) past new all_well
+        → OnlyLeaves past new P
+    unfolding n
     moments new true calls = subst (λ l. OnlyLeaves past l P) (sym calls) all_only
     moments new false (inl calls) = subst (λ l. OnlyLeaves past l P) (sym calls) first_failed
     moments new false (inr (inl calls)) = subst (λ l. OnlyLeaves past l P) (sym calls) first_unsynced
     moments new false (inr (inr (inl calls))) = subst (λ l. OnlyLeaves past l P) (sym calls) second_failed
     moments new false (inr (inr (inr calls))) = subst (λ l. OnlyLeaves past l P) (sym calls) second_unsynced
 
-    done : (new : List Call) → WritesBlock end body past new true → (bytes : List ℕ) → MayLeave new bytes
-        → StandsFor (entries ++ entry ∷ []) bytes
-    unfolding n end
+    done : (new : List Call) → WritesBlock (length before) (body_of entry) past new true → (bytes : List ℕ)
+        → MayLeave new bytes → StandsAt bank (entries ++ entry ∷ []) bytes
+    unfolding n
     done new calls bytes may = all_there bytes (subst (λ l. MayLeave l bytes) calls may)
 
--- What stands behind the gate of an entry: its length, the entry and the next closed gate.
-abbrev pub body_of : List ℕ → List ℕ
-body_of entry = to_be_bytes w32 (length entry) ++ entry ++ 0 ∷ []
-
 -- A crash at any moment of the four calls, or of those up to the first that failed, leaves the old entries or the new.
-pub block_moments : (past : List Call) (entries : List (List ℕ))
-    → ((bytes : List ℕ) → MayLeave past bytes → StandsFor entries bytes) → (entry : List ℕ) → length entry ≤ longest
-    → (new : List Call) (all_well : Bool) → WritesBlock (length (prefix_of entries)) (body_of entry) past new all_well
-    → OnlyLeaves past new (StandsForEither entries entry)
-unfolding end body P
-block_moments past entries images entry short new all_well calls =
-    moments past entries images entry short new all_well calls
+pub block_moments : (past : List Call) (bank : Bank) (entries : List (List ℕ))
+    → ((bytes : List ℕ) → MayLeave past bytes → StandsAt bank entries bytes) → (entry : List ℕ)
+    → length entry ≤ longest → (end : ℕ) → end ≡ bank.start + length (flat_map block entries) → (new : List Call)
+    (all_well : Bool) → WritesBlock end (body_of entry) past new all_well
+    → OnlyLeaves past new (StandsForEither bank entries entry)
+unfolding P
+block_moments past bank entries images entry short end e new all_well calls =
+    moments past bank entries images entry short new all_well
+    (subst (λ (k : ℕ). WritesBlock k (body_of entry) past new all_well)
+    (e ∙ sym (ends_at past bank entries images)) calls)
 
 -- After all four each image stands for the new list.
-pub block_done : (past : List Call) (entries : List (List ℕ))
-    → ((bytes : List ℕ) → MayLeave past bytes → StandsFor entries bytes) → (entry : List ℕ) → length entry ≤ longest
-    → (new : List Call) (all_well : Bool) → all_well ≡ true
-    → WritesBlock (length (prefix_of entries)) (body_of entry) past new all_well → (bytes : List ℕ) → MayLeave new bytes
-    → StandsFor (entries ++ entry ∷ []) bytes
-unfolding end body
-block_done past entries images entry short new true well calls bytes may =
-    done past entries images entry short new calls bytes may
-block_done past entries images entry short new false well calls bytes may = absurd (false≢true well)
+pub block_done : (past : List Call) (bank : Bank) (entries : List (List ℕ))
+    → ((bytes : List ℕ) → MayLeave past bytes → StandsAt bank entries bytes) → (entry : List ℕ)
+    → length entry ≤ longest → (end : ℕ) → end ≡ bank.start + length (flat_map block entries) → (new : List Call)
+    (all_well : Bool) → all_well ≡ true → WritesBlock end (body_of entry) past new all_well → (bytes : List ℕ)
+    → MayLeave new bytes → StandsAt bank (entries ++ entry ∷ []) bytes
+block_done past bank entries images entry short end e new true well calls bytes may =
+    done past bank entries images entry short new
+    (subst (λ (k : ℕ). WritesBlock k (body_of entry) past new true) (e ∙ sym (ends_at past bank entries images)) calls)
+    bytes may
+block_done past bank entries images entry short end e new false well calls bytes may = absurd (false≢true well)
 
 -- A block behind a gate, and then the gate, are the gate and the block.
 gate_last : (bytes : List ℕ) (gate : ℕ) (body : List ℕ) → gate < length bytes
@@ -400,25 +357,19 @@ block_bytes past new gate entry true well within calls = ap state calls
 block_bytes past new gate entry false well within calls = absurd (false≢true well)
 
 -- No call was made.
-pub nothing_done : (past new : List Call) (entries : List (List ℕ))
-    → ((bytes : List ℕ) → MayLeave past bytes → StandsFor entries bytes) → (entry : List ℕ) → new ≡ past
-    → OnlyLeaves past new (StandsForEither entries entry)
-nothing_done past new entries images entry same =
-    subst (λ l. OnlyLeaves past l (StandsForEither entries entry)) (sym same)
-    (only_from past (StandsForEither entries entry) λ bytes may. inl (images bytes may))
+pub nothing_done : (past new : List Call) (bank : Bank) (entries : List (List ℕ))
+    → ((bytes : List ℕ) → MayLeave past bytes → StandsAt bank entries bytes) → (entry : List ℕ) → new ≡ past
+    → OnlyLeaves past new (StandsForEither bank entries entry)
+nothing_done past new bank entries images entry same =
+    subst (λ l. OnlyLeaves past l (StandsForEither bank entries entry)) (sym same)
+    (only_from past (StandsForEither bank entries entry) λ bytes may. inl (images bytes may))
 
--- a disk cut to nothing and given a head and a closed gate
-pub empty_journal : (past new : List Call) → new ≡ Synced ∷ Wrote 0 (head ++ 0 ∷ []) ∷ CutTo 0 ∷ past
-    → (bytes : List ℕ) → MayLeave new bytes → StandsFor [] bytes
+-- a disk cut to nothing and given a front and a closed gate
+pub empty_journal : (past new : List Call) → new ≡ Synced ∷ Wrote 0 first_bytes ∷ CutTo 0 ∷ past
+    → (bytes : List ℕ) → MayLeave new bytes → StandsAt first_bank [] bytes
 empty_journal past new calls bytes may =
-    let is = synced_only (Wrote 0 (head ++ 0 ∷ []) ∷ CutTo 0 ∷ past) bytes (subst (λ l. MayLeave l bytes) calls may) in
-    subst (StandsFor []) (sym is) (record {
-      fit = λ k d low. absurd (omega arith);
-      gate = 0;
-      behind = [];
-      closed = λ e. omega (arith, e);
-      is = refl;
-    })
+    let is = synced_only (Wrote 0 first_bytes ∷ CutTo 0 ∷ past) bytes (subst (λ l. MayLeave l bytes) calls may) in
+    subst (StandsAt first_bank []) (sym is) (stands_at-bytes_of [] λ k d low. absurd (omega arith))
 
 -- a sync, or one that failed, or none
 pub synced_moments : (old new : List Call) → (new ≡ old) ⊎ (new ≡ SyncFailed ∷ old) ⊎ (new ≡ Synced ∷ old)
@@ -432,3 +383,30 @@ synced_moments old new (inr (inr calls)) =
     subst (λ l. OnlyLeaves old l (MayLeave old)) (sym calls) (
     only_more old old Synced (MayLeave old) (only_from old (MayLeave old) λ bytes may. may) λ bytes may.
     subst (MayLeave old) (sym (synced_only old bytes may)) (reads_as_image old))
+
+-- A disk that was synced and read: where its bytes have a front, and from its start on end a list, the disk has that
+-- list, after any crash too.
+pub mounted : (old now : List Call) (bank : Bank) (entries : List (List ℕ)) (bytes rest : List ℕ)
+    → bytes ≡ seen_of old → now ≡ Synced ∷ old → IsFront bank bytes → rest ≡ bytes
+    → EndsBlocks entries (take (length rest - bank.start) (drop bank.start rest))
+    → StandsAt bank entries (seen_of old) × ((image : List ℕ) → MayLeave now image → StandsAt bank entries image)
+mounted old now bank entries bytes rest read synced front same ends =
+    let all : take (length rest - bank.start) (drop bank.start rest) ≡ drop bank.start rest =
+    take_all (length rest - bank.start) (drop bank.start rest) (omega (arith, length-drop bank.start rest)) in
+    let stands : StandsAt bank entries (seen_of old) = record {
+      front = subst (IsFront bank) read front;
+      ends = subst (EndsBlocks entries) (all ∙ ap (λ (l : List ℕ). drop bank.start l) (same ∙ read)) ends;
+    } in (
+      stands,
+      λ image may. subst (StandsAt bank entries) (sym (synced_only old image
+          (subst (λ (l : List Call). MayLeave l image) synced may))) stands,
+    )
+
+-- the list of a bank, cut out of the bytes
+pub cut_out : (bank other : Bank) (entries : List (List ℕ)) (bytes rest : List ℕ) → other ≡ bank → rest ≡ bytes
+    → EndsBlocks entries (drop bank.start bytes)
+    → EndsBlocks entries (take (length rest - other.start) (drop other.start rest))
+cut_out bank other entries bytes rest one same ends =
+    subst (EndsBlocks entries) (sym (take_all (length rest - other.start) (drop other.start rest)
+    (omega (arith, length-drop other.start rest))
+    ∙ ap (λ (b : Bank). drop b.start rest) one ∙ ap (λ (l : List ℕ). drop bank.start l) same)) ends

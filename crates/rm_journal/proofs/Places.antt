@@ -1,14 +1,15 @@
 -- The places of a journal's gates and entries.
 use Rattle.std.proofs.Common.{◌≡◌, ◌≢◌, ℕ, zero, suc, ◌+◌, ◌-◌, ◌^◌, ◌<◌, ◌≤◌, min, List, [], ◌∷◌, ◌++◌, length, take}
-use Rattle.std.proofs.Common.{drop, get_or, refl, sym, ◌∙◌, ap, arith, append_assoc, length-append, take-append-drop}
+use Rattle.std.proofs.Common.{drop, get_or, refl, sym, ◌∙◌, ap, arith, append_assoc, length-append, length-drop}
+use Rattle.std.proofs.Common.{take-append-drop}
 use Rattle.std.proofs.Common.{drop-cons}
 use Rattle.std.specs.List.{flat_map}
 use Rattle.std.specs.Int.{w32, to_be_bytes}
 use Rattle.std.proofs.Math.Seq.{take-suc}
 use Rattle.std.proofs.lemmas.Grind.{flat_map-append}
-use Rattle.std.proofs.lemmas.List.{take_at, drop_at}
-use Rattle.rm_journal.specs.Entries.{head, block, prefix_of, StandsFor, gates_from, first_of}
-use Rattle.rm_journal.specs.EntryLemmas.{length-block, length-prefix_of, length-gates_from, gate_at}
+use Rattle.std.proofs.lemmas.List.{take_at, drop_at, drop-drop}
+use Rattle.rm_journal.specs.Entries.{block, EndsBlocks, Bank, StandsAt, gates_from, first_of}
+use Rattle.rm_journal.specs.EntryLemmas.{length-block, length-gates_from, gate_at}
 
 -- the blocks of the entries before one, its block and those behind it
 pub blocks_split : (entries : List (List ℕ)) (k : ℕ) → k < length entries
@@ -20,16 +21,16 @@ blocks_split entries k low =
     ∙ flat_map-append block (take k entries) (get_or entries k [] ∷ drop (suc k) entries)
 
 -- where the first byte of an entry stands
-pub start_of : List (List ℕ) → ℕ → ℕ
-start_of entries k = 13 + length (flat_map block (take k entries))
+pub start_of : ℕ → List (List ℕ) → ℕ → ℕ
+start_of start entries k = start + 5 + length (flat_map block (take k entries))
 
 -- the gate behind an entry stands as many bytes further as it has
-pub gate_behind : (entries : List (List ℕ)) (k d : ℕ) → k < length entries
-    → get_or (gates_from 8 entries) k d ≡ start_of entries k + length (get_or entries k [])
+pub gate_behind : (start : ℕ) (entries : List (List ℕ)) (k d : ℕ) → k < length entries
+    → get_or (gates_from start entries) k d ≡ start_of start entries k + length (get_or entries k [])
 unfolding start_of
-gate_behind entries k d low =
-    gate_at 8 d entries k low
-    ∙ ap (λ (l : List (List ℕ)). 8 + length (flat_map block l)) (take-suc entries k [] low)
+gate_behind start entries k d low =
+    gate_at start d entries k low
+    ∙ ap (λ (l : List (List ℕ)). start + length (flat_map block l)) (take-suc entries k [] low)
     ∙ omega (
       arith,
       ap length (flat_map-append block (take k entries) (get_or entries k [] ∷ [])),
@@ -39,64 +40,86 @@ gate_behind entries k d low =
     )
 
 -- the bytes there are the entry
-pub entry_there : (entries : List (List ℕ)) (bytes : List ℕ) (k : ℕ) → k < length entries → StandsFor entries bytes
-    → take (length (get_or entries k [])) (drop (start_of entries k) bytes) ≡ get_or entries k []
-unfolding start_of
-entry_there entries bytes k low has =
+there : (start : ℕ) (entries : List (List ℕ)) (list : List ℕ) (k : ℕ) → k < length entries
+    → EndsBlocks entries list
+    → take (length (get_or entries k [])) (drop (5 + length (flat_map block (take k entries))) list)
+    ≡ get_or entries k []
+there start entries list k low has =
     let entry = get_or entries k [] in
     let before = flat_map block (take k entries) in
     let more = flat_map block (drop (suc k) entries) in
     let number = to_be_bytes w32 (length entry) in
     let tail = more ++ has.gate ∷ has.behind in
-    let is : bytes ≡ (head ++ before ++ 1 ∷ number) ++ (entry ++ tail) =
+    let is : list ≡ (before ++ 1 ∷ number) ++ (entry ++ tail) =
     has.is
-    ∙ ap (λ (l : List ℕ). head ++ l ++ has.gate ∷ has.behind) (blocks_split entries k low)
+    ∙ ap (λ (l : List ℕ). l ++ has.gate ∷ has.behind) (blocks_split entries k low)
     ∙ simp append_assoc in
-    let first : length (head ++ before ++ 1 ∷ number) ≡ 13 + length before =
-    omega (arith, length-append (head ++ before) (1 ∷ number), length-append head before) in
-    ap (λ (l : List ℕ). take (length entry) (drop (13 + length before) l)) is
-    ∙ ap (λ (l : List ℕ). take (length entry) l) (drop_at (head ++ before ++ 1 ∷ number) (entry
-    ++ tail) (13 + length before) first)
+    let first : length (before ++ 1 ∷ number) ≡ 5 + length before = omega (arith, length-append before (1 ∷ number)) in
+    ap (λ (l : List ℕ). take (length entry) (drop (5 + length before) l)) is
+    ∙ ap (λ (l : List ℕ). take (length entry) l) (drop_at (before ++ 1 ∷ number) (entry
+    ++ tail) (5 + length before) first)
     ∙ take_at entry tail (length entry) refl
 
--- an entry lies within the bytes
-pub entry_within : (entries : List (List ℕ)) (bytes : List ℕ) (k : ℕ) → k < length entries → StandsFor entries bytes
-    → start_of entries k + length (get_or entries k []) ≤ length bytes
+pub entry_there : (bank : Bank) (entries : List (List ℕ)) (bytes : List ℕ) (k : ℕ) → k < length entries
+    → StandsAt bank entries bytes
+    → take (length (get_or entries k [])) (drop (start_of bank.start entries k) bytes) ≡ get_or entries k []
 unfolding start_of
-entry_within entries bytes k low has =
+entry_there bank entries bytes k low has =
+    let before = flat_map block (take k entries) in
+    ap (λ (l : List ℕ). take (length (get_or entries k [])) l)
+    (ap (λ (n : ℕ). drop n bytes) {y = bank.start + (5 + length before)} (omega arith)
+    ∙ sym (drop-drop (5 + length before) bank.start bytes))
+    ∙ there bank.start entries (drop bank.start bytes) k low has.ends
+
+-- the closed gate lies within the bytes
+pub gate_within : (bank : Bank) (entries : List (List ℕ)) (bytes : List ℕ) → StandsAt bank entries bytes
+    → bank.start + length (flat_map block entries) < length bytes
+gate_within bank entries bytes has =
+    omega (
+      arith,
+      ap length has.ends.is,
+      length-append (flat_map block entries) (has.ends.gate ∷ has.ends.behind),
+      length-drop bank.start bytes,
+    )
+
+-- an entry lies within the bytes
+pub entry_within : (bank : Bank) (entries : List (List ℕ)) (bytes : List ℕ) (k : ℕ) → k < length entries
+    → StandsAt bank entries bytes → start_of bank.start entries k + length (get_or entries k []) ≤ length bytes
+unfolding start_of
+entry_within bank entries bytes k low has =
     let entry = get_or entries k [] in
     let before = flat_map block (take k entries) in
     let more = flat_map block (drop (suc k) entries) in
     omega (
       arith,
-      ap length has.is,
-      length-append (prefix_of entries) (has.gate ∷ has.behind),
-      length-prefix_of entries,
+      gate_within bank entries bytes has,
       ap length (blocks_split entries k low),
       length-append before (block entry ++ more),
       length-append (block entry) more,
       length-block entry,
     )
 
-pub first_is : (entries : List (List ℕ)) (k : ℕ) → k < length entries
-    → first_of (gates_from 8 entries) k ≡ start_of entries k
+pub first_is : (start : ℕ) (entries : List (List ℕ)) (k : ℕ) → k < length entries
+    → first_of start (gates_from start entries) k ≡ start_of start entries k
 unfolding start_of
-first_is entries zero low = refl
-first_is entries (suc k) low = omega (arith, gate_at 8 0 entries k (omega (arith, low)))
+first_is start entries zero low = omega arith
+first_is start entries (suc k) low = omega (arith, gate_at start 0 entries k (omega (arith, low)))
 
 -- what is computed from the gates is the entry's place and length
-pub entry_span : (entries : List (List ℕ)) (gates : List ℕ) (k gate start len : ℕ) → gates ≡ gates_from 8 entries
-    → k < length gates → gate ≡ get_or gates k 0 → gate < 2 ^ 64 → start ≡ min (first_of gates k) (2 ^ 64 - 1)
-    → len ≡ gate - start → (start ≡ first_of gates k) × (len ≡ length (get_or entries k []))
-entry_span entries gates k gate start len are low is small from size =
-    let below : k < length entries = omega (arith, low, ap length are, length-gates_from 8 entries) in
-    let first : first_of gates k ≡ start_of entries k = ap (λ (l : List ℕ). first_of l k) are
-    ∙ first_is entries k below in
-    let next : gate ≡ start_of entries k + length (get_or entries k []) = is ∙ ap (λ (l : List ℕ). get_or l k 0) are
-    ∙ gate_behind entries k 0 below in
-    let there : start ≡ start_of entries k = omega (arith, from, first, next, small) in
-    (there ∙ sym first, omega (arith, size, there, next))
+pub entry_span : (from : ℕ) (entries : List (List ℕ)) (gates : List ℕ) (k gate start len : ℕ)
+    → gates ≡ gates_from from entries → k < length gates → gate ≡ get_or gates k 0 → gate < 2 ^ 64
+    → start ≡ min (first_of from gates k) (2 ^ 64 - 1)
+    → len ≡ gate - start → (start ≡ first_of from gates k) × (len ≡ length (get_or entries k []))
+entry_span from entries gates k gate start len are low is small first size =
+    let below : k < length entries = omega (arith, low, ap length are, length-gates_from from entries) in
+    let place : first_of from gates k ≡ start_of from entries k = ap (λ (l : List ℕ). first_of from l k) are
+    ∙ first_is from entries k below in
+    let next : gate ≡ start_of from entries k + length (get_or entries k []) = is
+    ∙ ap (λ (l : List ℕ). get_or l k 0) are ∙ gate_behind from entries k 0 below in
+    let there : start ≡ start_of from entries k = omega (arith, first, place, next, small) in
+    (there ∙ sym place, omega (arith, size, there, next))
 
-pub gate_behind_first : (gates : List ℕ) (k : ℕ) → k ≢ 0 → get_or gates (k - 1) 0 ≡ get_or (8 ∷ gates) k 0
-gate_behind_first gates zero some = absurd (some refl)
-gate_behind_first gates (suc k) some = ap (λ (n : ℕ). get_or gates n 0) (omega arith)
+pub gate_behind_first : (start : ℕ) (gates : List ℕ) (k : ℕ) → k ≢ 0
+    → get_or gates (k - 1) 0 ≡ get_or (start ∷ gates) k 0
+gate_behind_first start gates zero some = absurd (some refl)
+gate_behind_first start gates (suc k) some = ap (λ (n : ℕ). get_or gates n 0) (omega arith)

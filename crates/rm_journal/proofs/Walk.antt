@@ -4,10 +4,10 @@ use Rattle.std.proofs.Common.{refl, sym, ◌∙◌, ap, subst, arith, append_ass
 use Rattle.std.specs.List.{flat_map}
 use Rattle.std.specs.Int.{w32, to_be_bytes, from_be_bytes}
 use Rattle.std.proofs.lemmas.Nat.{from_be_bytes-to_be_bytes_4}
-use Rattle.std.proofs.lemmas.List.{drop-drop, take-append-drop, append_cancel_left}
-use Rattle.rm_journal.specs.Entries.{longest, head, block, StandsFor, gates_from}
-use Rattle.rm_journal.specs.Scan.{EndsBlocks, HasBlock, IsWalked}
-use Rattle.rm_journal.specs.EntryLemmas.{length-block, ends_uncons, ends_after, ends_in, blocks-push, fit_push}
+use Rattle.std.proofs.lemmas.List.{drop-drop, take-append-drop}
+use Rattle.rm_journal.specs.Entries.{longest, block, EndsBlocks, gates_from}
+use Rattle.rm_journal.specs.Scan.{HasBlock, IsWalked}
+use Rattle.rm_journal.specs.EntryLemmas.{length-block, ends_uncons, ends_after, blocks-push, fit_push}
 use Rattle.rm_journal.specs.EntryLemmas.{gates_from-push}
 
 -- a closed gate ends the empty list
@@ -20,6 +20,11 @@ ends_here (gate ∷ behind) long closed = record {
   closed = closed;
   is = refl;
 }
+
+-- bytes too short for a gate end no list
+pub ends_nothing : (entries : List (List ℕ)) → EndsBlocks entries [] → ⊥
+ends_nothing entries ends =
+    omega (arith, ap length ends.is, length-append (flat_map block entries) (ends.gate ∷ ends.behind))
 
 -- At an open gate an entry stands, and so do the bytes of its length.
 pub entry_needed : (entries : List (List ℕ)) (rest : List ℕ) → slice_index rest 0 ≡ 1 → EndsBlocks entries rest
@@ -64,20 +69,20 @@ has_block n (gate ∷ a ∷ b ∷ []) opens short within number = absurd (omega 
 has_block n (gate ∷ a ∷ b ∷ c ∷ []) opens short within number = absurd (omega (arith, within))
 
 -- one entry further
-pub walked_more : (bytes gates rest : List ℕ) (at len : ℕ) → IsWalked bytes gates at rest → HasBlock len rest
-    → IsWalked bytes (gates ++ (at + (5 + len)) ∷ []) (at + (5 + len)) (drop (5 + len) rest)
-walked_more bytes gates rest at len walked found =
+pub walked_more : (start : ℕ) (bytes gates rest : List ℕ) (at len : ℕ) → IsWalked start bytes gates at rest
+    → HasBlock len rest → IsWalked start bytes (gates ++ (at + (5 + len)) ∷ []) (at + (5 + len)) (drop (5 + len) rest)
+walked_more start bytes gates rest at len walked found =
     let entries = walked.entries in
     let entry = found.entry in
     let more = blocks-push entries entry in
-    let place : length head + length (flat_map block entries) + (5 + length entry) ≡ at + (5 + len) =
+    let place : start + length (flat_map block entries) + (5 + length entry) ≡ at + (5 + len) =
     omega (arith, walked.at, found.size) in
     record {
       entries = entries ++ entry ∷ [];
       gates =
           ap (λ (l : List ℕ). l ++ (at + (5 + len)) ∷ []) walked.gates
-          ∙ ap (λ (n : ℕ). gates_from 8 entries ++ n ∷ []) (sym place)
-          ∙ sym (gates_from-push 8 entries entry);
+          ∙ ap (λ (n : ℕ). gates_from start entries ++ n ∷ []) (sym place)
+          ∙ sym (gates_from-push start entries entry);
       at = omega (
         arith,
         place,
@@ -88,21 +93,32 @@ walked_more bytes gates rest at len walked found =
       size = omega (arith, walked.size, found.within, length-drop (5 + len) rest);
       is =
           walked.is
-          ∙ ap (λ (l : List ℕ). head ++ flat_map block entries ++ l) found.is
-          ∙ sym (append_assoc (head ++ flat_map block entries) (block entry) (drop (5 + len) rest))
-          ∙ ap (λ (l : List ℕ). l ++ drop (5 + len) rest) (append_assoc head (flat_map block entries) (block entry)
-          ∙ ap (λ (l : List ℕ). head ++ l) (sym more));
+          ∙ ap (λ (l : List ℕ). flat_map block entries ++ l) found.is
+          ∙ sym (append_assoc (flat_map block entries) (block entry) (drop (5 + len) rest))
+          ∙ ap (λ (l : List ℕ). l ++ drop (5 + len) rest) (sym more);
       fit = fit_push entries entry (omega (arith, found.size, found.fits)) walked.fit;
     }
 
--- where the rest ends no list, the bytes stand for none
-pub walked_nowhere : (bytes gates rest : List ℕ) (at : ℕ) → IsWalked bytes gates at rest
-    → ((entries : List (List ℕ)) → EndsBlocks entries rest → ⊥) → (entries : List (List ℕ)) → StandsFor entries bytes
+-- where the rest ends no list, the bytes end none
+pub walked_nowhere : (start : ℕ) (bytes gates rest : List ℕ) (at : ℕ) → IsWalked start bytes gates at rest
+    → ((entries : List (List ℕ)) → EndsBlocks entries rest → ⊥) → (entries : List (List ℕ)) → EndsBlocks entries bytes
     → ⊥
-walked_nowhere bytes gates rest at walked none all stands =
-    let blocks = flat_map block walked.entries in
-    let ends = ends_in all bytes stands in
-    let behind : ends.0 ≡ blocks ++ rest =
-    append_cancel_left head ends.0 (blocks ++ rest) (sym ends.1 ∙ walked.is ∙ append_assoc head blocks rest) in
-    let after = ends_after walked.entries all rest walked.fit (subst (EndsBlocks all) behind ends.2) in
+walked_nowhere start bytes gates rest at walked none all ends =
+    let after = ends_after walked.entries all rest walked.fit (subst (EndsBlocks all) walked.is ends) in
     none after.0 after.2
+
+-- at a gate that isn't open the bytes end the entries of the walk
+pub walked_all : (start : ℕ) (bytes gates rest : List ℕ) (at : ℕ) → IsWalked start bytes gates at rest
+    → EndsBlocks [] rest
+    → (entries : List (List ℕ)) × EndsBlocks entries bytes × (gates ≡ gates_from start entries)
+walked_all start bytes gates rest at walked ends = (
+  walked.entries,
+  record {
+    fit = walked.fit;
+    gate = ends.gate;
+    behind = ends.behind;
+    closed = ends.closed;
+    is = walked.is ∙ ap (λ (l : List ℕ). flat_map block walked.entries ++ l) ends.is;
+  },
+  walked.gates,
+)

@@ -1,19 +1,18 @@
 -- Lemmas on entries and the bytes that they stand as, beside the definitions so that the layers above may cite them.
-use Rattle.std.proofs.Common.{◌≡◌, ◌⊎◌, inl, inr, ℕ, zero, suc, ◌+◌, ◌-◌, ◌<◌, ◌≤◌, List, [], ◌∷◌, ◌++◌, length, take}
-use Rattle.std.proofs.Common.{drop, get_or}
-use Rattle.std.proofs.Common.{slice_index, refl, sym, ◌∙◌, ap, subst, arith, append_assoc, length-append}
+use Rattle.std.proofs.Common.{◌≡◌, ◌⊎◌, inl, inr, ℕ, zero, suc, ◌+◌, ◌-◌, ◌<◌, ◌≤◌, Bool, false, List, [], ◌∷◌}
+use Rattle.std.proofs.Common.{◌++◌, length, take, drop, get_or, slice_index, refl, sym, ◌∙◌, ap, subst, arith}
+use Rattle.std.proofs.Common.{append_assoc, length-append}
 use Rattle.std.specs.List.{flat_map}
-use Rattle.std.specs.Int.{w32, to_be_bytes, from_be_bytes}
+use Rattle.std.specs.Int.{w32, w64, to_be_bytes, from_be_bytes}
 use Rattle.std.proofs.lemmas.Nat.{from_be_bytes-to_be_bytes_4}
 use Rattle.std.proofs.lemmas.Grind.{flat_map-append}
-use Rattle.std.proofs.lemmas.List.{take_all, take_at, drop_at, drop_all, append-nil, append_cancel_left}
+use Rattle.std.proofs.lemmas.List.{take_all, take_at, drop_at, drop_all, append-nil}
 use Rattle.rm_disk.specs.Call.{Call}
 use Rattle.rm_disk.specs.Image.{MayLeave}
-use Rattle.rm_journal.specs.Entries.{longest, head, block, prefix_of, bytes_of, AllFit, StandsFor, StandsForEither}
-use Rattle.rm_journal.specs.Entries.{gates_from}
+use Rattle.rm_journal.specs.Entries.{longest, block, list_of, AllFit, EndsBlocks, Bank, first_bank, slot_of, IsFront}
+use Rattle.rm_journal.specs.Entries.{StandsAt, StandsForEither, StandsForOneOf, bytes_of, gates_from}
 use Rattle.rm_journal.specs.JournalState.{JournalState, end_of}
-use Rattle.rm_journal.specs.Journal.{Fits, with_entry, with_block}
-use Rattle.rm_journal.specs.Scan.{EndsBlocks}
+use Rattle.rm_journal.specs.Journal.{Fits, with_block, with_entry}
 
 -- the length of an entry takes four bytes
 pub length-number : (n : ℕ) → length (to_be_bytes w32 n) ≡ 4
@@ -54,6 +53,17 @@ fit_cons entry entries short fit (suc k) d low = fit k d (omega arith)
 -- and the entries behind it
 pub fit_rest : (entry : List ℕ) (entries : List (List ℕ)) → AllFit (entry ∷ entries) → AllFit entries
 fit_rest entry entries fit k d low = fit (suc k) d (omega arith)
+
+pub ends_cons : (entry : List ℕ) (entries : List (List ℕ)) (rest : List ℕ) → length entry ≤ longest
+    → EndsBlocks entries rest → EndsBlocks (entry ∷ entries) (block entry ++ rest)
+ends_cons entry entries rest short ends = record {
+  fit = fit_cons entry entries short ends.fit;
+  gate = ends.gate;
+  behind = ends.behind;
+  closed = ends.closed;
+  is = ap (λ (l : List ℕ). block entry ++ l) ends.is
+      ∙ sym (append_assoc (block entry) (flat_map block entries) (ends.gate ∷ ends.behind));
+}
 
 -- the bytes behind the first block
 pub record HasFirst (entry : List ℕ) (entries : List (List ℕ)) (bytes : List ℕ) : Type 0 where
@@ -97,7 +107,16 @@ ends_after (entry ∷ entries) (other ∷ all) rest fit ends =
       inner.2,
     )
 
-ends_one : (a b : List (List ℕ)) (bytes : List ℕ) → EndsBlocks a bytes → EndsBlocks b bytes → a ≡ b
+-- and the other way round
+pub ends_before : (entries more : List (List ℕ)) (rest : List ℕ) → AllFit entries → EndsBlocks more rest
+    → EndsBlocks (entries ++ more) (flat_map block entries ++ rest)
+ends_before [] more rest fit ends = ends
+ends_before (entry ∷ entries) more rest fit ends =
+    subst (EndsBlocks (entry ∷ (entries ++ more))) (sym (append_assoc (block entry) (flat_map block entries) rest)) (
+    ends_cons entry (entries ++ more) _ (fit 0 [] (omega arith))
+    (ends_before entries more rest (fit_rest entry entries fit) ends))
+
+pub ends_one : (a b : List (List ℕ)) (bytes : List ℕ) → EndsBlocks a bytes → EndsBlocks b bytes → a ≡ b
 ends_one a b bytes is_a is_b =
     let after = ends_after a b (is_a.gate ∷ is_a.behind) is_a.fit (subst (EndsBlocks b) is_a.is is_b) in
     sym (after.1 ∙ ap (λ (l : List (List ℕ)). a ++ l) (none_left after.0 after.2) ∙ append-nil a)
@@ -107,28 +126,28 @@ ends_one a b bytes is_a is_b =
     none_left (entry ∷ more) ends =
         absurd (is_a.closed (ap (λ (l : List ℕ). slice_index l 0) (ends_uncons entry more _ ends).is))
 
--- what stands behind the head
-pub ends_in : (entries : List (List ℕ)) (bytes : List ℕ) → StandsFor entries bytes
-    → (rest : List ℕ) × (bytes ≡ head ++ rest) × EndsBlocks entries rest
-ends_in entries bytes stands = (
-  flat_map block entries ++ stands.gate ∷ stands.behind,
-  stands.is ∙ append_assoc head (flat_map block entries) (stands.gate ∷ stands.behind),
-  record {
-    fit = stands.fit;
-    gate = stands.gate;
-    behind = stands.behind;
-    closed = stands.closed;
-    is = refl;
-  },
-)
+same_start : (x y : Bank) (bytes : List ℕ) → x.second ≡ y.second → IsFront x bytes → IsFront y bytes
+    → x.start ≡ y.start
+same_start x y bytes same is_x is_y =
+    sym is_x.counts ∙ ap (λ (b : Bool). from_be_bytes w64 (take 8 (drop (slot_of b) bytes))) same ∙ is_y.counts
 
--- bytes stand for at most one list
-pub stands_for_one : (a b : List (List ℕ)) (bytes : List ℕ) → StandsFor a bytes → StandsFor b bytes → a ≡ b
-stands_for_one a b bytes is_a is_b =
-    let x = ends_in a bytes is_a in
-    let y = ends_in b bytes is_b in
-    let rest = append_cancel_left head y.0 x.0 (sym y.1 ∙ x.1) in
-    ends_one a b x.0 x.2 (subst (EndsBlocks b) rest y.2)
+-- bytes have at most one bank
+pub front_of_one : (x y : Bank) (bytes : List ℕ) → IsFront x bytes → IsFront y bytes → x ≡ y
+front_of_one x y bytes is_x is_y =
+    let same : x.second ≡ y.second = sym is_x.selector ∙ is_y.selector in
+    let start = same_start x y bytes same is_x is_y in
+    ap (λ (b : Bool). record { second = b; start = x.start }) same
+    ∙ ap (λ (n : ℕ). record { second = y.second; start = n }) start
+
+-- bytes stand for at most one list, in one bank
+pub stands_for_one : (x y : Bank) (a b : List (List ℕ)) (bytes : List ℕ) → StandsAt x a bytes → StandsAt y b bytes
+    → (x ≡ y) × (a ≡ b)
+stands_for_one x y a b bytes is_a is_b =
+    let same = front_of_one x y bytes is_a.front is_b.front in (
+      same,
+      ends_one a b (drop x.start bytes) is_a.ends
+          (subst (λ (n : ℕ). EndsBlocks b (drop n bytes)) (sym (ap (λ (z : Bank). z.start) same)) is_b.ends),
+    )
 
 -- the blocks of one entry more
 pub blocks-push : (entries : List (List ℕ)) (entry : List ℕ)
@@ -155,10 +174,6 @@ gates_from-push at (first ∷ entries) entry =
     gates_from-push next entries entry
     ∙ ap (λ (n : ℕ). gates_from next entries ++ n ∷ []) (omega (arith, size, length-block first)))
 
--- how many bytes stand before the closed gate
-pub length-prefix_of : (entries : List (List ℕ)) → length (prefix_of entries) ≡ 8 + length (flat_map block entries)
-length-prefix_of entries = omega (arith, length-append head (flat_map block entries))
-
 -- as many gates as entries
 pub length-gates_from : (at : ℕ) (entries : List (List ℕ)) → length (gates_from at entries) ≡ length entries
 length-gates_from at [] = refl
@@ -177,89 +192,118 @@ gate_at at d (entry ∷ entries) (suc k) low =
       length-block entry,
     )
 
--- the closed gate stands behind the prefix
-pub end_is : (journal : JournalState) (entries : List (List ℕ)) → journal.gates ≡ gates_from 8 entries
-    → end_of journal ≡ length (prefix_of entries)
-end_is journal entries gates = ap (λ (l : List ℕ). get_or l (length l - 1) 8) gates ∙ last entries
-    ∙ sym (length-prefix_of entries)
+-- the closed gate stands behind the blocks
+pub end_is : (journal : JournalState) (entries : List (List ℕ)) → journal.gates ≡ gates_from journal.bank.start entries
+    → end_of journal ≡ journal.bank.start + length (flat_map block entries)
+end_is journal entries gates =
+    ap (λ (l : List ℕ). get_or l (length l - 1) journal.bank.start) gates ∙ last journal.bank.start entries
   where
-    last : (entries : List (List ℕ)) → get_or (gates_from 8 entries) (length (gates_from 8 entries) - 1) 8
-        ≡ 8 + length (flat_map block entries)
-    last [] = refl
-    last (entry ∷ entries) =
-        ap (λ (k : ℕ). get_or (gates_from 8 (entry ∷ entries)) k 8) (omega (
+    last : (at : ℕ) (entries : List (List ℕ)) → get_or (gates_from at entries) (length (gates_from at entries) - 1) at
+        ≡ at + length (flat_map block entries)
+    last at [] = omega arith
+    last at (entry ∷ entries) =
+        ap (λ (k : ℕ). get_or (gates_from at (entry ∷ entries)) k at) (omega (
           arith,
-          length-gates_from (8 + 5 + length entry) entries,
+          length-gates_from (at + 5 + length entry) entries,
         ))
-        ∙ gate_at 8 8 (entry ∷ entries) (length entries) (omega arith)
-        ∙ ap (λ (l : List (List ℕ)). 8 + length (flat_map block l))
+        ∙ gate_at at at (entry ∷ entries) (length entries) (omega arith)
+        ∙ ap (λ (l : List (List ℕ)). at + length (flat_map block l))
         (take_all (suc (length entries)) (entry ∷ entries) (omega arith))
+
+-- so it stands no earlier than the first block
+pub start_is_before : (start : ℕ) (gates : List ℕ) (entries : List (List ℕ)) → gates ≡ gates_from start entries
+    → start ≤ get_or gates (length gates - 1) start
+start_is_before start gates entries e =
+    let journal : JournalState = record {
+      bank = record { second = false; start = start };
+      gates = gates;
+      is_down = false;
+    } in
+    omega (arith, end_is journal entries e)
 
 -- one gate more with one entry more
 pub gates-with_entry : (journal : JournalState) (entries : List (List ℕ)) (entry : List ℕ)
-    → journal.gates ≡ gates_from 8 entries
-    → (with_entry journal (length entry)).gates ≡ gates_from 8 (entries ++ entry ∷ [])
+    → journal.gates ≡ gates_from journal.bank.start entries
+    → (with_entry journal (length entry)).gates ≡ gates_from journal.bank.start (entries ++ entry ∷ [])
 gates-with_entry journal entries entry gates =
-    let place : end_of journal + 5 + length entry ≡ 8 + length (flat_map block entries) + (5 + length entry) =
-    omega (arith, end_is journal entries gates, length-prefix_of entries) in
+    let start = journal.bank.start in
+    let place : end_of journal + 5 + length entry ≡ start + length (flat_map block entries) + (5 + length entry) =
+    omega (arith, end_is journal entries gates) in
     ap (λ (n : ℕ). journal.gates ++ n ∷ []) place
-    ∙ ap (λ (l : List ℕ). l ++ (8 + length (flat_map block entries) + (5 + length entry)) ∷ []) gates
-    ∙ sym (gates_from-push 8 entries entry)
+    ∙ ap (λ (l : List ℕ). l ++ (start + length (flat_map block entries) + (5 + length entry)) ∷ []) gates
+    ∙ sym (gates_from-push start entries entry)
 
--- the prefix of one entry more
-pub prefix_of-push : (entries : List (List ℕ)) (entry : List ℕ)
-    → prefix_of (entries ++ entry ∷ []) ≡ prefix_of entries ++ block entry
-prefix_of-push entries entry = ap (λ (l : List ℕ). head ++ l) (blocks-push entries entry)
-    ∙ sym (append_assoc head (flat_map block entries) (block entry))
-
--- bytes with nothing behind the closed gate stand for their entries
-pub stands_for-bytes_of : (entries : List (List ℕ)) → AllFit entries → StandsFor entries (bytes_of entries)
-stands_for-bytes_of entries fit = record {
-  fit = fit;
-  gate = 0;
-  behind = [];
-  closed = λ e. omega (arith, e);
-  is = refl;
+-- a journal of these entries with nothing behind its closed gate stands for them
+pub stands_at-bytes_of : (entries : List (List ℕ)) → AllFit entries → StandsAt first_bank entries (bytes_of entries)
+stands_at-bytes_of entries fit = record {
+  front = record { begins = refl; selector = refl; counts = refl; behind = omega arith };
+  ends = record {
+    fit = fit;
+    gate = 0;
+    behind = [];
+    closed = λ e. omega (arith, e);
+    is = refl;
+  };
 }
 
 -- where nothing stands behind the closed gate, nothing stands behind it with one entry more
-pub with_block-bytes_of : (entries : List (List ℕ)) (entry : List ℕ)
-    → with_block (bytes_of entries) (length (prefix_of entries)) entry ≡ bytes_of (entries ++ entry ∷ [])
-with_block-bytes_of entries entry =
-    let before = prefix_of entries in
+pub with_block-list_of : (front : List ℕ) (entries : List (List ℕ)) (entry : List ℕ)
+    → with_block (front ++ list_of entries) (length front + length (flat_map block entries)) entry
+    ≡ front ++ list_of (entries ++ entry ∷ [])
+with_block-list_of front entries entry =
+    let blocks = flat_map block entries in
+    let before = front ++ blocks in
     let added = block entry ++ 0 ∷ [] in
-    let none : drop (length before + length added) (bytes_of entries) ≡ [] =
-    drop_all (length before + length added) (bytes_of entries)
-    (omega (arith, length-append before (0 ∷ []), length-append (block entry) (0 ∷ []))) in
-    ap (λ (l : List ℕ). l ++ added ++ drop (length before + length added) (bytes_of entries))
-    (take_at before (0 ∷ []) (length before) refl)
+    let at = length front + length blocks in
+    let size : length before ≡ at = length-append front blocks in
+    let none : drop (at + length added) (before ++ 0 ∷ []) ≡ [] =
+    drop_all (at + length added) (before ++ 0 ∷ [])
+    (omega (arith, size, length-append before (0 ∷ []), length-append (block entry) (0 ∷ []))) in
+    ap (λ (l : List ℕ). with_block l at entry) (sym (append_assoc front blocks (0 ∷ [])))
+    ∙ ap (λ (l : List ℕ). l ++ added ++ drop (at + length added) (before ++ 0 ∷ [])) (take_at before (0 ∷ []) at size)
     ∙ ap (λ (l : List ℕ). before ++ added ++ l) none
     ∙ append-nil (before ++ added)
-    ∙ sym (append_assoc before (block entry) (0 ∷ []))
-    ∙ ap (λ (l : List ℕ). l ++ 0 ∷ []) (sym (prefix_of-push entries entry))
+    ∙ append_assoc front blocks added
+    ∙ ap (λ (l : List ℕ). front ++ l) (sym (append_assoc blocks (block entry) (0 ∷ [])))
+    ∙ ap (λ (l : List ℕ). front ++ (l ++ 0 ∷ [])) (sym (blocks-push entries entry))
 
--- an image of a disk that fits a journal gives the journal
-pub image_gives : (entries all : List (List ℕ)) (past : List Call) (journal : JournalState) (image : List ℕ)
-    → Fits entries past journal → MayLeave past image → StandsFor all image
-    → (all ≡ entries) × (journal.gates ≡ gates_from 8 all)
-image_gives entries all past journal image fits may stands =
-    let same = stands_for_one all entries image stands (fits.images image may) in
-    (same, fits.gates ∙ ap (λ (l : List (List ℕ)). gates_from 8 l) (sym same))
+gates_so : (x y : Bank) (gates : List ℕ) (a b : List (List ℕ)) → x ≡ y → a ≡ b → gates ≡ gates_from y.start b
+    → gates ≡ gates_from x.start a
+gates_so x y gates a b at are is =
+    is ∙ ap (λ (z : Bank). gates_from z.start b) (sym at) ∙ ap (λ (l : List (List ℕ)). gates_from x.start l) (sym are)
 
--- and one that was left while an entry was added gives the journal as it was or with the entry
-pub either_gives : (entries all : List (List ℕ)) (past : List Call) (journal : JournalState) (entry image : List ℕ)
-    → Fits entries past journal → StandsForEither entries entry image → StandsFor all image
-    → ((all ≡ entries) × (journal.gates ≡ gates_from 8 all)) ⊎ ((all ≡ entries ++ entry ∷ [])
-    × ((with_entry journal (length entry)).gates ≡ gates_from 8 all))
-either_gives entries all past journal entry image fits either stands = elim either [
-  | inl old ↦
-      let same = stands_for_one all entries image stands old in
-      inl (same, fits.gates ∙ ap (λ (l : List (List ℕ)). gates_from 8 l) (sym same))
-  | inr new ↦
-      let same = stands_for_one all (entries ++ entry ∷ []) image stands new in
+pub image_now : (bank : Bank) (entries all : List (List ℕ)) (past : List Call) (journal : JournalState)
+    (image : List ℕ) → Fits entries past journal → MayLeave past image → StandsAt bank all image
+    → (bank ≡ journal.bank) × (all ≡ entries) × (journal.gates ≡ gates_from bank.start all)
+image_now bank entries all past journal image fits may stands =
+    let one = stands_for_one bank journal.bank all entries image stands (fits.images image may) in
+    (one.0, one.1, gates_so bank journal.bank journal.gates all entries one.0 one.1 fits.gates)
+
+pub image_append : (bank : Bank) (entries all : List (List ℕ)) (past : List Call) (journal : JournalState)
+    (entry image : List ℕ) → Fits entries past journal → StandsForEither journal.bank entries entry image
+    → StandsAt bank all image → (bank ≡ journal.bank)
+    × (((all ≡ entries) × (journal.gates ≡ gates_from bank.start all)) ⊎ ((all ≡ entries ++ entry ∷ [])
+    × ((with_entry journal (length entry)).gates ≡ gates_from bank.start all)))
+image_append bank entries all past journal entry image fits (inl old) stands =
+    let one = stands_for_one bank journal.bank all entries image stands old in
+    (one.0, inl (one.1, gates_so bank journal.bank journal.gates all entries one.0 one.1 fits.gates))
+image_append bank entries all past journal entry image fits (inr new) stands =
+    let one = stands_for_one bank journal.bank all (entries ++ entry ∷ []) image stands new in (
+      one.0,
       inr (
-        same,
-        gates-with_entry journal entries entry fits.gates
-            ∙ ap (λ (l : List (List ℕ)). gates_from 8 l) (sym same),
-      )
-]
+        one.1,
+        gates_so bank journal.bank _ all (entries ++ entry ∷ []) one.0 one.1
+            (gates-with_entry journal entries entry fits.gates),
+      ),
+    )
+
+pub image_compact : (bank next : Bank) (entries fresh all : List (List ℕ)) (past : List Call)
+    (journal : JournalState) (image : List ℕ) → Fits entries past journal
+    → StandsForOneOf journal.bank entries next fresh image → StandsAt bank all image
+    → ((bank ≡ journal.bank) × (all ≡ entries) × (journal.gates ≡ gates_from bank.start all))
+    ⊎ ((bank ≡ next) × (all ≡ fresh))
+image_compact bank next entries fresh all past journal image fits (inl old) stands =
+    let one = stands_for_one bank journal.bank all entries image stands old in
+    inl (one.0, one.1, gates_so bank journal.bank journal.gates all entries one.0 one.1 fits.gates)
+image_compact bank next entries fresh all past journal image fits (inr new) stands =
+    inr (stands_for_one bank next all fresh image stands new)

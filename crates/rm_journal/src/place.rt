@@ -1,6 +1,6 @@
 //! Where an entry stands, and the bytes that stand at a place.
 
-ghost use Rattle.std.specs.Prelude.{◌≡◌, ◌⊎◌, ◌+◌, ◌<◌, ◌≤◌, ℕ, [], ◌∷◌, List, true, false, length, take, drop};
+ghost use Rattle.std.specs.Prelude.{◌≡◌, ◌⊎◌, ◌+◌, ◌-◌, ◌<◌, ◌≤◌, ℕ, [], ◌∷◌, List, true, false, length, take, drop};
 ghost use Rattle.std.specs.Prelude.{slice_index, slice_index_or, IsTrue, is_ok, IfOk, IfErr};
 ghost use Rattle.rm_disk.specs.Call.{seen_of};
 ghost use Rattle.rm_disk.specs.Cause.{HasCause};
@@ -14,22 +14,33 @@ use rm_disk::Disk;
 use std::alloc::Global;
 
 /// The place of the gate before an entry. The entry is counted from 0.
-fn gate_before(gates: &[u64], k: usize) -> u64
+fn gate_before(start: u64, gates: &[u64], k: usize) -> u64
     requires { k < length gates.now }
-    ensures { result ≡ slice_index (8 ∷ gates.now) k }
+    ensures { result ≡ slice_index (start ∷ gates.now) k }
 {
-    if k == 0 { 8 } else { gates[k - 1] }
+    if k == 0 { start } else { gates[k - 1] }
+}
+
+/// The last gate, or the start where there is none.
+pub fn last_gate(gates: &[u64], start: u64) -> u64
+    ensures { result ≡ slice_index_or gates.now (length gates.now - 1) start }
+{
+    match gates.last() {
+        Some(&gate) => gate,
+        None => start,
+    }
 }
 
 /// The place of the first byte of an entry and its length. The entry is counted from 0.
-pub fn span_of(gates: &[u64], k: usize) -> (u64, u64)
+pub fn span_of(start: u64, gates: &[u64], k: usize) -> (u64, u64)
     requires { k < length gates.now }
-    ensures place { (entries : List (List ℕ)) → gates.now ≡ gates_from 8 entries → result.0 ≡ first_of gates.now k }
-    ensures size { (entries : List (List ℕ)) → gates.now ≡ gates_from 8 entries →
+    ensures place { (entries : List (List ℕ)) → gates.now ≡ gates_from start entries →
+        result.0 ≡ first_of start gates.now k }
+    ensures size { (entries : List (List ℕ)) → gates.now ≡ gates_from start entries →
         result.1 ≡ length (slice_index_or entries k []) }
 {
-    let start = gate_before(gates, k).saturating_add(5);
-    (start, gates[k].saturating_sub(start))
+    let first = gate_before(start, gates, k).saturating_add(5);
+    (first, gates[k].saturating_sub(first))
 }
 
 /// So many bytes from a place on, in one device call. Memory comes before it.

@@ -1,8 +1,9 @@
 //! The walk over the gates of a journal that is read.
 
-ghost use Rattle.std.specs.Prelude.{◌≡◌, ◌⊎◌, ◌↔◌, ℕ, List, length, Err, IsTrue, IfOk, IfErr};
-ghost use Rattle.std.specs.Int.{w32, to_be_bytes};
-ghost use Rattle.rm_journal.specs.Entries.{StandsFor, gates_from};
+ghost use Rattle.std.specs.Prelude.{◌≡◌, ◌⊎◌, ◌↔◌, ◌+◌, ◌<◌, ◌≤◌, ◌^◌, ℕ, List, length, take, drop, None, Err, IsTrue};
+ghost use Rattle.std.specs.Prelude.{IfSome, IfOk, IfErr};
+ghost use Rattle.std.specs.Int.{w32, w64, to_be_bytes, from_be_bytes};
+ghost use Rattle.rm_journal.specs.Entries.{Bank, EndsBlocks, IsFront, is_odd, slot_of as slot_in, gates_from};
 ghost use Rattle.rm_journal.specs.Scan.{IsFound};
 ghost use Rattle.rm_journal.specs.declared.error.JournalError.TheVariants.{Memory as WantsMemory, NotAJournal};
 
@@ -11,7 +12,10 @@ use rm_base::limits::ENTRY_BYTES;
 use std::alloc::Global;
 
 /// What a journal begins with.
-pub const HEAD: &[u8; 8] = b"WSRMJNL1";
+pub const HEAD: &[u8; 8] = b"WSRMJNL2";
+
+/// What a journal of the layout before begins with.
+pub const HEAD_BEFORE: &[u8; 8] = b"WSRMJNL1";
 
 /// What stands at a gate: it is closed, or an entry of this length follows, or neither.
 #[derive(Clone, Copy, Debug, PartialEq, Eq)]
@@ -59,18 +63,72 @@ pub fn look(rest: &[u8]) -> Found
     Found::Entry(len)
 }
 
-/// The place of the gate behind each entry.
-pub fn gates_of(alloc: Global, bytes: &[u8]) -> Result<Vec<u64>, JournalError>
+/// Whether a selector has the second start count.
+pub fn is_second(selector: u8) -> bool
+    ensures { result ≡ is_odd selector }
+{
+    selector % 2 == 1
+}
+
+/// The start at a place.
+fn start_at(bytes: &[u8], at: usize) -> u64
+    requires { at + 8 ≤ length bytes.now }
+    ensures { result ≡ from_be_bytes w64 (take 8 (drop at bytes.now)) }
+{
+    u64::from_be_bytes([
+        bytes[at],
+        bytes[at + 1],
+        bytes[at + 2],
+        bytes[at + 3],
+        bytes[at + 4],
+        bytes[at + 5],
+        bytes[at + 6],
+        bytes[at + 7],
+    ])
+}
+
+/// Which start counts, and that start, where it lies behind the front and within the bytes.
+pub fn bank_of(bytes: &[u8]) -> Option<(bool, usize)>
+    ensures some { IfSome result (λ bank. IsFront (record { second = bank.0; start = bank.1 }) bytes.now) }
+    ensures within { IfSome result (λ bank. bank.1 < length bytes.now) }
+    ensures none { result ≡ None → (bank : Bank) → IsFront bank bytes.now → bank.start < length bytes.now → ⊥ }
+{
+    if !bytes.starts_with(HEAD) {
+        return None;
+    }
+    if bytes.len() < 25 {
+        return None;
+    }
+    let second = is_second(bytes[8]);
+    let slot = slot_of(second);
+    let start = start_at(bytes, slot);
+    if start < 25 {
+        return None;
+    }
+    if start >= bytes.len() as u64 {
+        return None;
+    }
+    Some((second, start as usize))
+}
+
+/// The place of a start.
+pub fn slot_of(second: bool) -> usize
+    ensures { result ≡ slot_in second }
+{
+    if second { 17 } else { 9 }
+}
+
+/// The place of the gate behind each entry, from a start on.
+pub fn gates_of(alloc: Global, start: u64, bytes: &[u8]) -> Result<Vec<u64>, JournalError>
+    requires { start + length bytes.now < 2 ^ 64 }
     ensures stands { IfOk result (λ gates. (entries : List (List ℕ)) ×
-        StandsFor entries bytes.now × (gates.items ≡ gates_from 8 entries)) }
-    ensures none { result ≡ Err NotAJournal → (entries : List (List ℕ)) → StandsFor entries bytes.now → ⊥ }
+        EndsBlocks entries bytes.now × (gates.items ≡ gates_from start entries)) }
+    ensures none { result ≡ Err NotAJournal → (entries : List (List ℕ)) → EndsBlocks entries bytes.now → ⊥ }
     ensures refusals { IfErr result (λ error. (error ≡ WantsMemory) ⊎ (error ≡ NotAJournal)) }
 {
-    let Some(mut rest) = bytes.strip_prefix(HEAD) else {
-        return Err(JournalError::NotAJournal);
-    };
+    let mut rest = bytes;
     let mut gates = Vec::new(alloc);
-    let mut at = 8;
+    let mut at = start;
     loop {
         match look(rest) {
             Found::End => return Ok(gates),

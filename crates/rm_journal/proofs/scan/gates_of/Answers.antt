@@ -7,7 +7,7 @@ use Rattle.rm_journal.proofs.scan.gates_of.Goals as goal
 pub returns-in-Bad-clause-none : goal.returns-in-Bad-clause-none
 returns-in-Bad-clause-none c e =
     let loop = c.loop-gates in
-    walked_nowhere c.args.bytes.now loop.gates.items loop.rest.now loop.at loop.invariant
+    walked_nowhere c.args.start c.args.bytes.now loop.gates.items loop.rest.now loop.at loop.invariant
     (rw c.in-Bad.is at c.look.ensures)
 
 pub loop-gates-preserved : goal.loop-gates-preserved
@@ -17,7 +17,8 @@ loop-gates-preserved c =
     let next = 5 + c.in-Entry.len in
     let all : take (length rest - next) (drop next rest) ≡ drop next rest =
     take_all (length rest - next) (drop next rest) (omega (arith, length-drop next rest)) in
-    let walked = walked_more c.args.bytes.now loop.gates.items rest loop.at c.in-Entry.len loop.invariant
+    let walked = walked_more c.args.start c.args.bytes.now loop.gates.items rest loop.at c.in-Entry.len loop.invariant
     (rw c.in-Entry.is at c.look.ensures) in
-    rw c.in_ok-push-in-Entry.ensures.items (subst (λ (l : List ℕ). IsWalked c.args.bytes.now (loop.gates.items
+    rw c.in_ok-push-in-Entry.ensures.items (subst (λ (l : List ℕ). IsWalked c.args.start c.args.bytes.now
+    (loop.gates.items
     ++ (loop.at + next) ∷ []) (loop.at + next) l) (sym all) walked)

@@ -14,41 +14,65 @@ read_bytes-requires g c tells =
     let entries = fits.0 in
     let k = c.args.i - 1 in
     let past = (g.D.Disk.told c.args.disk.now).past in
-    let are : c.deref.result.now ≡ gates_from 8 entries = c.deref.ensures.value ∙ ap (λ j. j.gates) c.self.view_is
+    let bank = c.args.self.now.bank in
+    let from : c.self.inside.start ≡ bank.start = ap (λ j. j.bank.start) c.self.view_is in
+    let are : c.deref.result.now ≡ gates_from bank.start entries =
+    c.deref.ensures.value
+    ∙ ap (λ j. j.gates) c.self.view_is
     ∙ fits.1.gates in
     let below : k < length entries = omega (
       arith,
       c.requires.number.0,
       c.requires.number.1,
       ap length fits.1.gates,
-      length-gates_from 8 entries,
+      length-gates_from bank.start entries,
     ) in
-    let place : c.span_of-start.result.0 ≡ start_of entries k =
-    c.span_of-start.ensures.place entries are ∙ ap (λ (l : List ℕ). first_of l k) are ∙ first_is entries k below in
+    let here : c.deref.result.now ≡ gates_from c.self.inside.start entries =
+    are ∙ ap (λ (n : ℕ). gates_from n entries) (sym from) in
+    let place : c.span_of-start.result.0 ≡ start_of bank.start entries k =
+    c.span_of-start.ensures.place entries here
+    ∙ ap (λ (n : ℕ). first_of n c.deref.result.now k) from
+    ∙ ap (λ (l : List ℕ). first_of bank.start l k) are
+    ∙ first_is bank.start entries k below in
     let has = fits.1.images (seen_of past) (reads_as_image past) in
-    omega (arith, place, c.span_of-start.ensures.size entries are, entry_within entries (seen_of past) k below has)
+    omega (
+      arith,
+      place,
+      c.span_of-start.ensures.size entries here,
+      entry_within bank entries (seen_of past) k below has,
+    )
 
 pub returns-in-Ok-clause-value : goal.returns-in-Ok-clause-value
 returns-in-Ok-clause-value g c tells entries fits =
     let k = c.args.i - 1 in
     let past = (g.D.Disk.told c.args.disk.now).past in
-    let are : c.deref.result.now ≡ gates_from 8 entries = c.deref.ensures.value ∙ ap (λ j. j.gates) c.self.view_is
+    let bank = c.args.self.now.bank in
+    let from : c.self.inside.start ≡ bank.start = ap (λ j. j.bank.start) c.self.view_is in
+    let are : c.deref.result.now ≡ gates_from bank.start entries =
+    c.deref.ensures.value
+    ∙ ap (λ j. j.gates) c.self.view_is
     ∙ fits.gates in
     let below : k < length entries = omega (
       arith,
       c.requires.number.0,
       c.requires.number.1,
       ap length fits.gates,
-      length-gates_from 8 entries,
+      length-gates_from bank.start entries,
     ) in
-    let place : c.span_of-start.result.0 ≡ start_of entries k =
-    c.span_of-start.ensures.place entries are ∙ ap (λ (l : List ℕ). first_of l k) are ∙ first_is entries k below in
+    let here : c.deref.result.now ≡ gates_from c.self.inside.start entries =
+    are ∙ ap (λ (n : ℕ). gates_from n entries) (sym from) in
+    let place : c.span_of-start.result.0 ≡ start_of bank.start entries k =
+    c.span_of-start.ensures.place entries here
+    ∙ ap (λ (n : ℕ). first_of n c.deref.result.now k) from
+    ∙ ap (λ (l : List ℕ). first_of bank.start l k) are
+    ∙ first_is bank.start entries k below in
     let has = fits.images (seen_of past) (reads_as_image past) in
     let read = rw c.in-Ok.is at c.read_bytes.ensures.gives tells in
     let bytes : c.from_vec.result ≡ get_or entries k [] =
     c.from_vec.ensures
     ∙ read
-    ∙ ap (λ (n : ℕ). take n (drop c.span_of-start.result.0 (seen_of past))) (c.span_of-start.ensures.size entries are)
+    ∙ ap (λ (n : ℕ). take n (drop c.span_of-start.result.0 (seen_of past)))
+    (c.span_of-start.ensures.size entries here)
     ∙ ap (λ (n : ℕ). take (length (get_or entries k [])) (drop n (seen_of past))) place
-    ∙ entry_there entries (seen_of past) k below has in
+    ∙ entry_there bank entries (seen_of past) k below has in
     slice_get-get_or entries k [] below ∙ ap (λ (b : List ℕ). Some b) (sym bytes)

@@ -1,6 +1,6 @@
-use Rattle.std.proofs.Common.{◌∙◌, List, [], ◌∷◌, ◌++◌, ap}
+use Rattle.std.proofs.Common.{◌∙◌, List, ◌∷◌, ap}
 use Rattle.rm_disk.specs.Call.{Call, Synced, Wrote, CutTo, state}
-use Rattle.rm_journal.specs.Entries.{head}
+use Rattle.rm_journal.specs.Entries.{first_bytes}
 use Rattle.rm_journal.proofs.Crash.{empty_journal}
 use Rattle.rm_journal.proofs.journal.Journal.format.Goals as goal
 
@@ -10,7 +10,7 @@ returns-clause-fits g c tells =
     let new = (g.D.Disk.told c.sync.new.self).past in
     let cut = c.in_ok-cut.ensures.past tells
     ∙ ap (λ (l : List Call). CutTo 0 ∷ l) (c.in_ok-reserve.ensures.past tells) in
-    let wrote = c.in_ok-write_at.ensures.past tells ∙ ap (λ (l : List Call). Wrote 0 (head ++ 0 ∷ []) ∷ l) cut in
+    let wrote = c.in_ok-write_at.ensures.past tells ∙ ap (λ (l : List Call). Wrote 0 first_bytes ∷ l) cut in
     let calls = c.in_ok-sync.ensures.past tells ∙ ap (λ (l : List Call). Synced ∷ l) wrote in
     record { gates = c.new.ensures.items; images = empty_journal old new calls }
 
@@ -18,5 +18,5 @@ pub returns-clause-bytes : goal.returns-clause-bytes
 returns-clause-bytes g c tells =
     let cut = c.in_ok-cut.ensures.past tells
     ∙ ap (λ (l : List Call). CutTo 0 ∷ l) (c.in_ok-reserve.ensures.past tells) in
-    let wrote = c.in_ok-write_at.ensures.past tells ∙ ap (λ (l : List Call). Wrote 0 (head ++ 0 ∷ []) ∷ l) cut in
+    let wrote = c.in_ok-write_at.ensures.past tells ∙ ap (λ (l : List Call). Wrote 0 first_bytes ∷ l) cut in
     ap state (c.in_ok-sync.ensures.past tells ∙ ap (λ (l : List Call). Synced ∷ l) wrote)

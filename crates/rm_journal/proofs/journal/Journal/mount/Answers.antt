@@ -1,8 +1,10 @@
-use Rattle.std.proofs.Common.{◌≡◌, ◌∙◌, ℕ, List, ◌∷◌, length, take, sym, ap, subst, arith, inl, inr, Err}
+use Rattle.std.proofs.Common.{◌≡◌, ◌∙◌, ℕ, List, ◌∷◌, length, take, refl, sym, ap, subst, arith, inl, inr, Err}
 use Rattle.std.proofs.lemmas.List.{take_all}
 use Rattle.rm_disk.specs.Call.{Call, Synced, SyncFailed, seen_of}
-use Rattle.rm_journal.specs.Entries.{StandsFor}
-use Rattle.rm_journal.proofs.Crash.{synced_moments}
+use Rattle.rm_journal.specs.Entries.{StandsAt}
+use Rattle.rm_journal.specs.EntryLemmas.{front_of_one, start_is_before}
+use Rattle.rm_journal.proofs.Crash.{synced_moments, mounted, cut_out}
+use Rattle.rm_journal.proofs.Places.{gate_within}
 use Rattle.rm_journal.specs.declared.error.JournalError.TheVariants.{NotAJournal}
 use Rattle.rm_journal.proofs.journal.Journal.mount.Goals as goal
 
@@ -45,6 +47,31 @@ returns-clause-moments g c tells =
     let same = c.read_bytes.ensures.past tells ∙ c.in_ok-len.ensures.past tells ∙ synced in
     synced_moments (g.D.Disk.told c.args.disk.now).past (g.D.Disk.told c.read_bytes.new.disk).past (inr (inr same))
 
+pub returns-in_default-clause-moments : goal.returns-in_default-clause-moments
+returns-in_default-clause-moments g c tells =
+    let synced = c.in_ok-sync.ensures.past tells
+    ∙ ap (λ (l : List Call). Synced ∷ l) (c.in_ok-reserve.ensures.past tells) in
+    let same = c.read_bytes.ensures.past tells ∙ c.in_ok-len.ensures.past tells ∙ synced in
+    synced_moments (g.D.Disk.told c.args.disk.now).past (g.D.Disk.told c.read_bytes.new.disk).past (inr (inr same))
+
+pub returns-in_default-clause-none : goal.returns-in_default-clause-none
+returns-in_default-clause-none g c tells none entries stands =
+    let old = (g.D.Disk.told c.args.disk.now).past in
+    let synced = c.in_ok-sync.ensures.past tells
+    ∙ ap (λ (l : List Call). Synced ∷ l) (c.in_ok-reserve.ensures.past tells) in
+    let seen : seen_of (g.D.Disk.told c.len.new.self).past ≡ seen_of old = ap seen_of (c.in_ok-len.ensures.past tells
+    ∙ synced) in
+    let long : c.in_ok-len.len ≡ length (seen_of old) = c.in_ok-len.ensures.gives tells
+    ∙ ap (λ (l : List Call). length (seen_of l)) synced in
+    let bytes : c.deref.result.now ≡ seen_of old =
+    c.deref.ensures.value
+    ∙ c.in_ok-bytes.ensures.gives tells
+    ∙ ap (λ (l : List ℕ). take c.in_ok-len.len l) seen
+    ∙ take_all c.in_ok-len.len (seen_of old) (omega (arith, long)) in
+    let has = subst (StandsAt stands.bank entries) (sym bytes) stands.stands in
+    let within = gate_within stands.bank entries _ has in
+    (rw c.in_default.is at c.bank_of.ensures.none) refl stands.bank has.front (omega (arith, within))
+
 pub returns-clause-none : goal.returns-clause-none
 returns-clause-none g c tells none entries stands =
     let old = (g.D.Disk.told c.args.disk.now).past in
@@ -59,5 +86,33 @@ returns-clause-none g c tells none entries stands =
     ∙ c.in_ok-bytes.ensures.gives tells
     ∙ ap (λ (l : List ℕ). take c.in_ok-len.len l) seen
     ∙ take_all c.in_ok-len.len (seen_of old) (omega (arith, long)) in
+    let has = subst (StandsAt stands.bank entries) (sym bytes) stands.stands in
+    let is = c.in-Some.ensures.some in
+    let one = front_of_one _ _ _ is has.front in
     let same : c.in-Err.error ≡ NotAJournal = cc in
-    c.gates_of.ensures.none (c.in-Err.is ∙ ap (λ e. Err e) same) entries (subst (StandsFor entries) (sym bytes) stands)
+    c.gates_of.ensures.none (c.in-Err.is ∙ ap (λ e. Err e) same) entries
+    (cut_out stands.bank _ entries _ _ one (c.deref-2.ensures.value ∙ sym c.deref.ensures.value) has.ends)
+
+pub returns-in-Ok-clause-fits : goal.returns-in-Ok-clause-fits
+returns-in-Ok-clause-fits g c tells =
+    let old = (g.D.Disk.told c.args.disk.now).past in
+    let synced = c.in_ok-sync.ensures.past tells
+    ∙ ap (λ (l : List Call). Synced ∷ l) (c.in_ok-reserve.ensures.past tells) in
+    let seen : seen_of (g.D.Disk.told c.len.new.self).past ≡ seen_of old = ap seen_of (c.in_ok-len.ensures.past tells
+    ∙ synced) in
+    let long : c.in_ok-len.len ≡ length (seen_of old) = c.in_ok-len.ensures.gives tells
+    ∙ ap (λ (l : List Call). length (seen_of l)) synced in
+    let bytes : c.deref.result.now ≡ seen_of old =
+    c.deref.ensures.value
+    ∙ c.in_ok-bytes.ensures.gives tells
+    ∙ ap (λ (l : List ℕ). take c.in_ok-len.len l) seen
+    ∙ take_all c.in_ok-len.len (seen_of old) (omega (arith, long)) in
+    let found = c.in-Ok.ensures.stands in
+    let now : (g.D.Disk.told c.read_bytes.new.disk).past ≡ Synced ∷ old = c.read_bytes.ensures.past tells
+    ∙ c.in_ok-len.ensures.past tells ∙ synced in
+    let has = mounted old _ _ found.0 _ _ bytes now c.in-Some.ensures.some
+    (c.deref-2.ensures.value ∙ sym c.deref.ensures.value) found.1 in
+    (found.0, has.0, record { gates = found.2; images = has.1 })
+
+pub returns-in-Ok-clause-behind : goal.returns-in-Ok-clause-behind
+returns-in-Ok-clause-behind g c = let found = c.in-Ok.ensures.stands in start_is_before _ _ found.0 found.2
