@@ -1,11 +1,13 @@
 -- Notes go on telling the same records.
-use Rattle.std.proofs.Common.{◌≡◌, ℕ, zero, suc, ◌+◌, ◌<◌, ◌≤◌, true, cond, List, [], ◌∷◌}
+use Rattle.std.proofs.Common.{◌≡◌, ℕ, zero, suc, ◌+◌, ◌-◌, ◌<◌, ◌≤◌, true, cond, List, [], ◌∷◌}
 use Rattle.std.proofs.Common.{◌++◌, length, get_or, map, refl, sym, ap, subst, ◌∙◌, arith}
 use Rattle.std.proofs.lemmas.Bool.{and_from}
 use Rattle.std.specs.List.{flat_map}
 use Rattle.std.proofs.lemmas.List.{get_or_append_left, length-append, length-map, map-append}
 use Rattle.std.proofs.lemmas.List.Concat.{flat_map-append}
+use Rattle.rm_base.specs.NumberSet.{has_number}
 use Rattle.rm_base.specs.declared.message.Payload.{Payload}
+use Rattle.rm_destination.specs.Messages.{numbers_of}
 use Rattle.record_batch.specs.Fact.{Fact, Accepted, Received}
 use Rattle.sequence_table.specs.Makers.{addresses_of, makers, makers_of, created, created_of, draws_of, counter, number}
 use Rattle.sequence_table.specs.Find.{accept_of}
@@ -21,10 +23,12 @@ use Rattle.node_tables.specs.declared.note.Note.{Note}
 use Rattle.node_tables.specs.declared.note.Note.TheVariants as note
 use Rattle.node_tables.specs.declared.note.Origin.{Origin}
 use Rattle.node_tables.specs.declared.note.Named.{Named}
-use Rattle.node_tables.specs.Kept.{accepted_in, received_in, no_fact, no_message, no_row, kept_at, row_at, fact_at}
+use Rattle.node_tables.specs.Kept.{AreWhole, accepted_in, received_in, no_fact, no_row, kept_at, payload_of, row_at}
+use Rattle.node_tables.specs.Kept.{fact_at}
 use Rattle.node_tables.specs.Kept.{records_of, IsHeld, AllHeld, no_maker, ident_given, maker_at, named_at, AreWithin}
 use Rattle.node_tables.specs.Kept.{origins_of, names_of, Table, records_in, Holds, AreMade, AreGiven, gives_ident}
 use Rattle.node_tables.specs.Kept.{accept_at}
+use Rattle.node_tables.proofs.MessageLemmas.{has_number-append, payload_of-append}
 
 -- what one more record adds to what is kept: records that are kept whole, its note, the origins of the sequences that
 -- it makes, and the identifiers that it gives
@@ -58,6 +62,7 @@ pub record Tells (t : Table) (f : Fact) (a : Added) : Type 0 where
   pub given : AreGiven (with_record t f a).kept a.gives
   pub addresses : flat_map addresses_of a.whole ≡ addresses_of f
   pub accepts : flat_map (accept_at (with_record t f a).kept) a.gives ≡ accept_of f
+  pub whole_ : AreWhole a.whole
 
 pub length-each_after : (k : ℕ) (ts : List Told) (f : Fact) → length (each_after k ts f) ≡ length ts
 length-each_after k [] f = refl
@@ -128,38 +133,36 @@ note_same : (kept more : List Fact) (rows : List Told) (f : Fact) (n : Note) →
     → fact_at (kept ++ more) (rows_after rows f) n ≡ fact_at kept rows n
 note_same kept more rows f (note.Kept place) h = kept_same kept more place h
 note_same kept more rows f (note.Acked seq numbers) h = refl
-note_same kept more rows f (note.Accepted row place) h =
+note_same kept more rows f (note.Accepted row n) h =
     ap (λ p. Accepted (row + 1) p)
-    (ap (λ ps. get_or ps place []) (accepted_row rows f row h.0)
-    ∙ get_or_append_left (accepted_in (row_at rows row).side) (accepted_by (row + 1) (row_at rows row).side f) [] place
-    h.1)
-note_same kept more rows f (note.Received row place) h =
-    ap (λ (m : ℕ × Payload). Received (row + 1) m.0 m.1)
-    (ap (λ ms. get_or ms place no_message) (received_row rows f row h.0)
-    ∙ get_or_append_left (received_in (row_at rows row).side) (received_by (row + 1) (row_at rows row).side f)
-    no_message place h.1)
+    (ap (λ ps. get_or ps (n - 1) []) (accepted_row rows f row h.0)
+    ∙ get_or_append_left (accepted_in (row_at rows row).side) (accepted_by (row + 1) (row_at rows row).side f) []
+    (n - 1) (omega (arith, h.1, h.2)))
+note_same kept more rows f (note.Received row n) h =
+    ap (λ p. Received (row + 1) n p)
+    (ap (λ ms. payload_of n ms) (received_row rows f row h.0)
+    ∙ payload_of-append n (received_in (row_at rows row).side)
+    (received_by (row + 1) (row_at rows row).side f) h.1)
 
 note_held : (kept more : List Fact) (rows : List Told) (f : Fact) (n : Note) → IsHeld kept rows n
     → IsHeld (kept ++ more) (rows_after rows f) n
 note_held kept more rows f (note.Kept place) h = omega (arith, h, length-append kept more)
 note_held kept more rows f (note.Acked seq numbers) h = tt
-note_held kept more rows f (note.Accepted row place) h = (
+note_held kept more rows f (note.Accepted row n) h = (
   omega (arith, h.0, rows_longer rows f),
+  h.1,
   rw (accepted_row rows f row h.0)
       (omega (
         arith,
-        h.1,
+        h.2,
         length-append (accepted_in (row_at rows row).side) (accepted_by (row + 1) (row_at rows row).side f),
       )),
 )
-note_held kept more rows f (note.Received row place) h = (
+note_held kept more rows f (note.Received row n) h = (
   omega (arith, h.0, rows_longer rows f),
-  rw (received_row rows f row h.0)
-      (omega (
-        arith,
-        h.1,
-        length-append (received_in (row_at rows row).side) (received_by (row + 1) (row_at rows row).side f),
-      )),
+  ap (λ ms. has_number (numbers_of ms) n) (received_row rows f row h.0)
+      ∙ has_number-append n (received_in (row_at rows row).side)
+      (received_by (row + 1) (row_at rows row).side f) h.1,
 )
 
 notes_same : (kept more : List Fact) (rows : List Told) (f : Fact) (ns : List Note) → AllHeld kept rows ns
@@ -240,6 +243,10 @@ records_more t f a h tells =
     ∙ ap (λ xs. xs ++ fact_at kept rows a.note_ ∷ []) (notes_same t.kept a.whole t.rows f t.notes h.held)
     ∙ ap (λ x. records_in t ++ x ∷ []) tells.note_
 
+whole-append : (xs ys : List Fact) → AreWhole xs → AreWhole ys → AreWhole (xs ++ ys)
+whole-append [] ys all more = more
+whole-append (x ∷ xs) ys all more = (all.0, whole-append xs ys all.1 more)
+
 pub holds_more : (t : Table) (f : Fact) (a : Added) → Holds t → fits (records_in t) f ≡ true → Tells t f a
     → Holds (with_record t f a)
 holds_more t f a h fit tells =
@@ -291,6 +298,7 @@ holds_more t f a h fit tells =
       origins_made =
           made-append kept t.origins a.makes (made_same t.kept a.whole t.origins h.origins_held h.origins_made)
           tells.made;
+      whole_ = whole-append t.kept a.whole h.whole_ tells.whole_;
       named_given =
           given-append kept t.named a.gives (given_same t.kept a.whole t.named h.named_held h.named_given) tells.given;
     }

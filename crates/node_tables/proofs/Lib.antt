@@ -1,10 +1,14 @@
 mod AheadLemmas
 mod ApplyLemmas
+mod CopyLemmas
 mod CountLemmas
 mod HeldLemmas
 mod MakerLemmas
+mod MarkLemmas
+mod MessageLemmas
 mod RoomLemmas
 mod RowsLemmas
+mod ShorterLemmas
 mod StepLemmas
 mod TellLemmas
 mod WaitLemmas

@@ -219,7 +219,7 @@ pub row-next : (old : Tabled) (r : List Fact) (rows rows2 : List Seen) (ahead : 
     (f : Fact) (more : List Fact) (k : ℕ) → IsReady old (f ∷ more) → old.room ≡ room_with slots rows ahead
     → starts_of f ≡ [] → names f ≡ k + 1 → k < length rows → slots ≤ slots2 + 1
     → spares rows2 ≡ spent_at (spares rows) k f
-    → IsReady (record { records = r; room = room_with slots2 rows2 ahead }) more
+    → IsReady (record { records = r; room = room_with slots2 rows2 ahead; is_marked = false }) more
 row-next old r rows rows2 ahead slots slots2 f more k h is none at lt fewer spends =
     let long : k < length (spares rows) = omega (arith, lt, length-map rows spare_of) in
     let within : k < length old.room.rows =

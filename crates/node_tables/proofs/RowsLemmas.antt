@@ -56,7 +56,7 @@ numbered-map f xs s =
       | false ↦ sym (slice_get-map f xs (s - 1))
     ]
 
-row-there : (t : Table) (s : ℕ) → Holds t → numbered t.rows s ≡ told_in (records_in t) s
+pub row-there : (t : Table) (s : ℕ) → Holds t → numbered t.rows s ≡ told_in (records_in t) s
 row-there t s h =
     elim (cases_eq s 0) [
       | inl e ↦ rw e refl

@@ -1,11 +1,15 @@
 -- What is added for each kind of record tells it.
-use Rattle.std.proofs.Common.{◌≡◌, ℕ, ◌+◌, ◌-◌, ◌<◌, ◌≤◌, true, cond, List, []}
+use Rattle.std.proofs.Common.{◌≡◌, ℕ, ◌+◌, ◌-◌, ◌<◌, ◌≤◌, Bool, true, false, ◌&&◌, not, cond, List, []}
 use Rattle.std.proofs.Common.{◌∷◌, ◌++◌, length, map, get_or, refl, sym, ap, subst, ◌∙◌, arith, Some, None}
-use Rattle.std.proofs.lemmas.Bool.{eq-eqb, false≢true}
+use Rattle.std.specs.Prelude.{nat_le}
+use Rattle.std.proofs.lemmas.Bool.{and_parts, eq-eqb, false≢true, not-true}
 use Rattle.std.proofs.lemmas.List.{append-nil, length-append, length-map}
 use Rattle.std.proofs.Math.Seq.{get_or-append_seam}
 use Rattle.ack_ranges.specs.Ranges.{Contents}
+use Rattle.rm_base.specs.Message.{max_number}
+use Rattle.rm_base.specs.NumberSet.{has_number}
 use Rattle.rm_base.specs.declared.message.Payload.{Payload}
+use Rattle.rm_destination.specs.Messages.{is_empty, numbers_of}
 use Rattle.record_batch.specs.Fact.{Fact, Made, Creating, Created, Granted, Accepted, Acked, Received}
 use Rattle.std.specs.List.{flat_map}
 use Rattle.sequence_table.specs.Find.{accept_of}
@@ -20,12 +24,13 @@ use Rattle.node_tables.specs.declared.note.Note.{Note}
 use Rattle.node_tables.specs.declared.note.Note.TheVariants as note
 use Rattle.node_tables.specs.declared.note.Origin.{Origin}
 use Rattle.node_tables.specs.declared.note.Named.{Named}
-use Rattle.node_tables.specs.Kept.{AreWithin, Holds, Table, accepted_in, ident_given}
+use Rattle.node_tables.specs.Kept.{is_whole, AreWithin, Holds, Table, accepted_in, ident_given}
 use Rattle.node_tables.specs.Kept.{AreGiven, AreMade, accept_at, gives_ident}
 use Rattle.node_tables.specs.Kept.{is_naming, kept_at, maker_at, named_at, names_for, names_of, no_fact, no_maker}
-use Rattle.node_tables.specs.Kept.{no_message, origins_for, origins_of, received_in, records_in, row_at, table_in}
+use Rattle.node_tables.specs.Kept.{origins_for, origins_of, payload_of, received_in, records_in, row_at, table_in}
 use Rattle.node_tables.proofs.HeldLemmas.{Added, Tells, accepted_by, accepted_row, holds_more, received_by}
 use Rattle.node_tables.proofs.HeldLemmas.{received_row, records_more, rows_after, rows_longer, with_record}
+use Rattle.node_tables.proofs.MessageLemmas.{has_number-last, payload_of-last}
 use Rattle.node_tables.proofs.RowsLemmas.{row-taken, rows-count}
 use Rattle.node_tables.proofs.StepLemmas.{takes-accepted, takes-received}
 
@@ -85,6 +90,15 @@ received_here : (x : Side) (s n : ℕ) (payload : Payload) → takes_message x n
 received_here (Sends t) s n payload h = absurd (false≢true h)
 received_here (Receives t) s n payload h = ap (λ b. cond b ((n, payload) ∷ []) []) (eq-eqb s s refl)
 
+-- the number of a message that may be received is new
+is_new : (x : Side) (n : ℕ) → takes_message x n ≡ true → has_number (numbers_of (received_in x)) n ≡ false
+is_new (Sends t) n h = refl
+is_new (Receives t) n h =
+    let has = has_number (numbers_of t.received) n in
+    let going = and_parts (is_empty t.closes) (nat_le 1 n && (nat_le n max_number && not has)) h in
+    let from = and_parts (nat_le 1 n) (nat_le n max_number && not has) going.1 in
+    not-true has (and_parts (nat_le n max_number) (not has) from.1).1
+
 one_longer : {A : Type 0} (xs ys : List A) (y : A) → ys ≡ xs ++ y ∷ [] → length xs < length ys
 one_longer xs ys y e = omega (arith, ap length e, length-append xs (y ∷ []))
 
@@ -94,7 +108,7 @@ at_end xs ys y d e = ap (λ zs. get_or zs (length xs) d) e ∙ get_or-append_sea
 tells-accepted : (t : Table) (k : ℕ) (payload : List ℕ) → k < length t.rows
     → takes_payload (row_at t.rows k).side ≡ true
     → Tells t (Accepted (k + 1) payload)
-    (added_note (note.Accepted k (length (accepted_in (row_at t.rows k).side))))
+    (added_note (note.Accepted k (length (accepted_in (row_at t.rows k).side) + 1)))
 unfolding added_note
 tells-accepted t k payload lt takes =
     let f : Fact = Accepted (k + 1) payload in
@@ -103,8 +117,13 @@ tells-accepted t k payload lt takes =
     accepted_row t.rows f k lt
     ∙ ap (λ ps. old ++ ps) (accepted_here (row_at t.rows k).side (k + 1) payload takes) in
     record {
-      note_ = ap (λ p. Accepted (k + 1) p) (at_end old _ payload [] now);
-      held = (omega (arith, lt, rows_longer t.rows f), one_longer old _ payload now);
+      note_ = ap (λ p. Accepted (k + 1) p) (ap (λ i. get_or (accepted_in (row_at (rows_after t.rows f) k).side) i [])
+          (let e : length old + 1 - 1 ≡ length old = omega arith in e) ∙ at_end old _ payload [] now);
+      held = (
+        omega (arith, lt, rows_longer t.rows f),
+        omega arith,
+        let longer = one_longer old _ payload now in omega (arith, longer),
+      );
       makes = refl;
       gives = refl;
       makes_held = tt;
@@ -113,12 +132,13 @@ tells-accepted t k payload lt takes =
       given = tt;
       addresses = refl;
       accepts = refl;
+      whole_ = tt;
     }
 
 tells-received : (t : Table) (k n : ℕ) (payload : Payload) → k < length t.rows
     → takes_message (row_at t.rows k).side n ≡ true
     → Tells t (Received (k + 1) n payload)
-    (added_note (note.Received k (length (received_in (row_at t.rows k).side))))
+    (added_note (note.Received k n))
 unfolding added_note
 tells-received t k n payload lt takes =
     let f : Fact = Received (k + 1) n payload in
@@ -127,8 +147,12 @@ tells-received t k n payload lt takes =
     received_row t.rows f k lt
     ∙ ap (λ ps. old ++ ps) (received_here (row_at t.rows k).side (k + 1) n payload takes) in
     record {
-      note_ = ap (λ (m : ℕ × Payload). Received (k + 1) m.0 m.1) (at_end old _ (n, payload) no_message now);
-      held = (omega (arith, lt, rows_longer t.rows f), one_longer old _ (n, payload) now);
+      note_ = ap (λ p. Received (k + 1) n p) (ap (λ ms. payload_of n ms) now
+          ∙ payload_of-last n old payload (is_new (row_at t.rows k).side n takes));
+      held = (
+        omega (arith, lt, rows_longer t.rows f),
+        ap (λ ms. has_number (numbers_of ms) n) now ∙ has_number-last n old payload,
+      );
       makes = refl;
       gives = refl;
       makes_held = tt;
@@ -137,6 +161,7 @@ tells-received t k n payload lt takes =
       given = tt;
       addresses = refl;
       accepts = refl;
+      whole_ = tt;
     }
 
 tells-acked : (t : Table) (s : ℕ) (numbers : Contents)
@@ -154,14 +179,15 @@ tells-acked t s numbers =
       given = tt;
       addresses = refl;
       accepts = refl;
+      whole_ = tt;
     }
 
 -- a payload more
-pub accepts : (t : Table) (s place : ℕ) (payload : List ℕ) (rows : List Told) (notes : List Note) → Holds t
-    → fits (records_in t) (Accepted s payload) ≡ true → place ≡ length (accepted_in (row_at t.rows (s - 1)).side)
-    → rows ≡ each_after 0 t.rows (Accepted (s - 1 + 1) payload) → notes ≡ t.notes ++ note.Accepted (s - 1) place ∷ []
+pub accepts : (t : Table) (s number : ℕ) (payload : List ℕ) (rows : List Told) (notes : List Note) → Holds t
+    → fits (records_in t) (Accepted s payload) ≡ true → number ≡ length (accepted_in (row_at t.rows (s - 1)).side) + 1
+    → rows ≡ each_after 0 t.rows (Accepted (s - 1 + 1) payload) → notes ≡ t.notes ++ note.Accepted (s - 1) number ∷ []
     → Grown t (record t { rows = rows; notes = notes }) (Accepted s payload)
-accepts t s place payload rows notes h fit at is noted =
+accepts t s number payload rows notes h fit at is noted =
     let taken = row-taken t (Accepted s payload) h refl fit in
     let back : s - 1 + 1 ≡ s = omega (arith, taken.one) in
     let lt : s - 1 < length t.rows = omega (arith, taken.one, taken.within) in
@@ -169,24 +195,23 @@ accepts t s place payload rows notes h fit at is noted =
     let tells = subst (λ p. Tells t (Accepted (s - 1 + 1) payload) (added_note (note.Accepted (s - 1) p))) (sym at)
     (tells-accepted t (s - 1) payload lt takes_it) in
     subst (λ n. Grown t (record t { rows = rows; notes = notes }) (Accepted n payload)) back
-    (grew_row t (Accepted (s - 1 + 1) payload) (note.Accepted (s - 1) place) rows notes h
+    (grew_row t (Accepted (s - 1 + 1) payload) (note.Accepted (s - 1) number) rows notes h
     (subst (λ n. fits (records_in t) (Accepted n payload) ≡ true) (sym back) fit) tells refl refl refl is noted)
 
 -- a message more
-pub receives : (t : Table) (s place n : ℕ) (payload : Payload) (rows : List Told) (notes : List Note) → Holds t
-    → fits (records_in t) (Received s n payload) ≡ true → place ≡ length (received_in (row_at t.rows (s - 1)).side)
+pub receives : (t : Table) (s n : ℕ) (payload : Payload) (rows : List Told) (notes : List Note) → Holds t
+    → fits (records_in t) (Received s n payload) ≡ true
     → rows ≡ each_after 0 t.rows (Received (s - 1 + 1) n payload)
-    → notes ≡ t.notes ++ note.Received (s - 1) place ∷ []
+    → notes ≡ t.notes ++ note.Received (s - 1) n ∷ []
     → Grown t (record t { rows = rows; notes = notes }) (Received s n payload)
-receives t s place n payload rows notes h fit at is noted =
+receives t s n payload rows notes h fit is noted =
     let taken = row-taken t (Received s n payload) h refl fit in
     let back : s - 1 + 1 ≡ s = omega (arith, taken.one) in
     let lt : s - 1 < length t.rows = omega (arith, taken.one, taken.within) in
     let takes_it = sym (takes-received (row_at t.rows (s - 1)).side s n payload) ∙ taken.takes_ in
-    let tells = subst (λ p. Tells t (Received (s - 1 + 1) n payload) (added_note (note.Received (s - 1) p))) (sym at)
-    (tells-received t (s - 1) n payload lt takes_it) in
+    let tells = tells-received t (s - 1) n payload lt takes_it in
     subst (λ m. Grown t (record t { rows = rows; notes = notes }) (Received m n payload)) back
-    (grew_row t (Received (s - 1 + 1) n payload) (note.Received (s - 1) place) rows notes h
+    (grew_row t (Received (s - 1 + 1) n payload) (note.Received (s - 1) n) rows notes h
     (subst (λ m. fits (records_in t) (Received m n payload) ≡ true) (sym back) fit) tells refl refl refl is noted)
 
 -- more numbers that are acknowledged
@@ -271,9 +296,9 @@ added_whole t f = record {
   gives = names_for (length t.origins) (length t.kept) f;
 }
 
-tells-whole : (t : Table) (f : Fact) → Tells t f (added_whole t f)
+tells-whole : (t : Table) (f : Fact) → is_whole f ≡ true → Tells t f (added_whole t f)
 unfolding added_whole
-tells-whole t f =
+tells-whole t f whole =
     let place = length t.kept in
     let at : kept_at (t.kept ++ f ∷ []) place ≡ f = get_or-append_seam t.kept f [] no_fact in
     let lt : place < length (t.kept ++ f ∷ []) = one_longer t.kept _ f refl in
@@ -288,17 +313,19 @@ tells-whole t f =
       given = gives_given (t.kept ++ f ∷ []) (length t.origins) place f at;
       addresses = append-nil (addresses_of f);
       accepts = gives_accept (t.kept ++ f ∷ []) (length t.origins) place f at;
+      whole_ = (whole, tt);
     }
 
 -- a record more that is kept whole
-pub keeps : (t u : Table) (f : Fact) → Holds t → fits (records_in t) f ≡ true → u.kept ≡ t.kept ++ f ∷ []
+pub keeps : (t u : Table) (f : Fact) → is_whole f ≡ true → Holds t → fits (records_in t) f ≡ true
+    → u.kept ≡ t.kept ++ f ∷ []
     → u.rows ≡ each_after 0 t.rows f ++ map begun (makers_of f) → u.notes ≡ t.notes ++ note.Kept (length t.kept) ∷ []
     → u.origins ≡ t.origins ++ origins_for (length t.kept) f
     → u.named ≡ t.named ++ names_for (length t.origins) (length t.kept) f → u.number_ ≡ number_after t.number_ f
     → u.drawn ≡ t.drawn + length (draws_of f) → Grown t u f
 unfolding added_whole table_with
-keeps t u f h fit kept rows notes origins named number drawn =
-    grew t u f (added_whole t f) h fit (tells-whole t f)
+keeps t u f whole h fit kept rows notes origins named number drawn =
+    grew t u f (added_whole t f) h fit (tells-whole t f whole)
     (same_table _ _ _ _ _ _ _ _ _ _ _ _ _ _ (sym kept) (sym rows) (sym notes) (sym origins) (sym named) (sym number)
     (sym drawn))
 

@@ -1,9 +1,13 @@
 -- How tables hold records: each in the order of its coming, but for the payloads, which the rows hold.
 use Rattle.std.specs.Option.{option_map}
-use Rattle.std.specs.Prelude.{Bool, ◌&&◌, ◌≡◌, ℕ, ◌+◌, ◌<◌, true, false, if◌then◌else◌, List, [], ◌∷◌}
+use Rattle.std.specs.Prelude.{Bool, ◌&&◌, ◌≡◌, ◌==◌, ℕ, ◌+◌, ◌-◌, ◌<◌, ◌≤◌, true, false, if◌then◌else◌, List, [], ◌∷◌}
 use Rattle.std.specs.Prelude.{length, map, Option, None, Some, slice_index_or}
-use Rattle.std.specs.List.{flat_map}
+use Rattle.std.specs.List.{AllByRecursion, flat_map}
+use Rattle.record_snapshot.specs.Same.{UnionsAreSets}
+use Rattle.record_snapshot.specs.Snapshot.{snapshot}
+use Rattle.rm_base.specs.NumberSet.{has_number}
 use Rattle.rm_base.specs.declared.message.Payload.{Payload}
+use Rattle.rm_destination.specs.Messages.{numbers_of}
 use Rattle.record_batch.specs.declared.record.Record.{Record}
 use Rattle.record_batch.specs.Fact.{Fact, fact_of, Made, Creating, Accepted, Acked, Received, Created}
 use Rattle.record_batch.specs.Fact.{Granted}
@@ -43,9 +47,10 @@ no_maker = Taken [] [] (record { address = []; params = [] })
 abbrev pub no_row : Told
 no_row = begun no_maker
 
--- what stands for a message where there is none
-abbrev pub no_message : ℕ × Payload
-no_message = (0, record { bytes = []; scope = [] })
+-- what the message with a number carries
+abbrev pub payload_of : ℕ → List (ℕ × Payload) → Payload
+payload_of n [] = record { bytes = []; scope = [] }
+payload_of n (m ∷ ms) = if m.0 == n then m.1 else payload_of n ms
 
 -- the record that is kept whole at a place
 abbrev pub kept_at : List Fact → ℕ → Fact
@@ -55,20 +60,19 @@ kept_at kept place = slice_index_or kept place no_fact
 abbrev pub row_at : List Told → ℕ → Told
 row_at rows row = slice_index_or rows row no_row
 
--- a payload of the row at a place
+-- the payload of a message that the row at a place accepted: messages are numbered from 1
 abbrev pub accepted_at : List Told → ℕ → ℕ → List ℕ
-accepted_at rows row place = slice_index_or (accepted_in (row_at rows row).side) place []
+accepted_at rows row n = slice_index_or (accepted_in (row_at rows row).side) (n - 1) []
 
--- a message of the row at a place
-abbrev pub received_at : List Told → ℕ → ℕ → ℕ × Payload
-received_at rows row place = slice_index_or (received_in (row_at rows row).side) place no_message
+-- the payload of a message that the row at a place received
+abbrev pub received_at : List Told → ℕ → ℕ → Payload
+received_at rows row n = payload_of n (received_in (row_at rows row).side)
 
 -- the record that a note stands for
 abbrev pub fact_at : List Fact → List Told → Note → Fact
 fact_at kept rows (note.Kept place) = kept_at kept place
-fact_at kept rows (note.Accepted row place) = Accepted (row + 1) (accepted_at rows row place)
-fact_at kept rows (note.Received row place) =
-    Received (row + 1) (received_at rows row place).0 (received_at rows row place).1
+fact_at kept rows (note.Accepted row n) = Accepted (row + 1) (accepted_at rows row n)
+fact_at kept rows (note.Received row n) = Received (row + 1) n (received_at rows row n)
 fact_at kept rows (note.Acked seq numbers) = Acked seq numbers.ranges
 
 -- the records that notes stand for
@@ -78,10 +82,10 @@ records_of kept rows notes = map (fact_at kept rows) notes
 -- what a note names is there
 abbrev pub IsHeld : List Fact → List Told → Note → Type 0
 IsHeld kept rows (note.Kept place) = place < length kept
-IsHeld kept rows (note.Accepted row place) =
-    (row < length rows) × (place < length (accepted_in (row_at rows row).side))
-IsHeld kept rows (note.Received row place) =
-    (row < length rows) × (place < length (received_in (row_at rows row).side))
+IsHeld kept rows (note.Accepted row n) =
+    (row < length rows) × (1 ≤ n) × (n ≤ length (accepted_in (row_at rows row).side))
+IsHeld kept rows (note.Received row n) =
+    (row < length rows) × (has_number (numbers_of (received_in (row_at rows row).side)) n ≡ true)
 IsHeld kept rows (note.Acked seq numbers) = Unit {0}
 
 -- what each note names is there
@@ -141,6 +145,17 @@ origins_of origins = map (λ (o : Origin). o.made) origins
 abbrev pub names_of : List Named → List ℕ
 names_of named = map (λ (n : Named). n.place) named
 
+-- a record that is kept whole: not one of a payload, a message or numbers
+abbrev pub is_whole : Fact → Bool
+is_whole (Accepted seq payload) = false
+is_whole (Acked seq ranges) = false
+is_whole (Received seq n payload) = false
+is_whole _ = true
+
+-- each of them is
+abbrev pub AreWhole : List Fact → Type 0
+AreWhole kept = AllByRecursion (λ (f : Fact). is_whole f ≡ true) kept
+
 -- what is kept of a node
 pub record Table : Type 0 where
   pub kept : List Fact
@@ -170,17 +185,33 @@ pub record Holds (t : Table) : Type 0 where
   pub named_held : AreWithin (length t.kept) (names_of t.named)
   pub origins_made : AreMade t.kept t.origins
   pub named_given : AreGiven t.kept t.named
+  pub whole_ : AreWhole t.kept
 
--- what is kept holds, and there is the room that was made and not used
-pub record IsSound (t : Table) (slots : ℕ) (spare : Places) (ahead : List Coming) : Type 0 where
+-- notes stand for the snapshot of what others stand for, and the acknowledged numbers of each sequence are a set
+pub record IsShort (kept : List Fact) (rows : List Told) (notes short : List Note) : Type 0 where
+  pub records : records_of kept rows short ≡ snapshot (records_of kept rows notes)
+  pub held : AllHeld kept rows short
+  pub sets : UnionsAreSets (records_of kept rows notes)
+
+-- the notes of the snapshot that was made, where one was and nothing was applied since
+abbrev pub IsMarked : Table → Bool → List Note → Type 0
+IsMarked t false short = Unit {0}
+IsMarked t true short = IsShort t.kept t.rows t.notes short
+
+-- what is kept holds, there is the room that was made and not used, and the notes of the snapshot where that is marked
+pub record IsSound (t : Table) (slots : ℕ) (spare : Places) (ahead : List Coming) (marked : Bool)
+    (short : List Note) : Type 0 where
   pub holds : Holds t
   pub places : HasPlaces slots spare
   pub begun_ : AreBegun ahead
+  pub mark_ : IsMarked t marked short
 
--- the tables: the records that were applied, oldest first, and the room for more
+-- the tables: the records that were applied, oldest first, the room for more, and whether the snapshot of these records
+-- was made, so that `compact` may make them that
 pub record Tabled : Type 0 where
   pub records : List Fact
   pub room : NodeRoom
+  pub is_marked : Bool
 
 -- what the records say of the sequence with a number
 abbrev pub told_in : List Fact → ℕ → Option Told
@@ -213,13 +244,6 @@ is_naming (Made node address) = false
 is_naming (Creating ticket to via lapse offer) = false
 is_naming (Granted drawn message_id acks_to behaviour deadline lapse offer) = false
 is_naming _ = true
-
--- a record that is kept whole: not one of a payload, a message or numbers
-abbrev pub is_whole : Fact → Bool
-is_whole (Accepted seq payload) = false
-is_whole (Acked seq ranges) = false
-is_whole (Received seq n payload) = false
-is_whole _ = true
 
 -- the deadline that a record gives is a moment
 abbrev pub is_timed_record : Fact → Bool

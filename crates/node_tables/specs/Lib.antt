@@ -1,4 +1,5 @@
 pub mod AskingLemmas
+pub mod Copies
 pub mod Kept
 pub mod Laws
 pub mod Peers
@@ -6,3 +7,4 @@ pub mod Reads
 pub mod Ready
 pub mod RecordedLemmas
 pub mod Room
+pub mod Shorter

@@ -4,6 +4,7 @@
 
 mod ahead;
 mod claims;
+mod copies;
 mod error;
 mod find;
 pub mod laws;
@@ -12,6 +13,7 @@ mod note;
 pub mod peer;
 mod record;
 mod rows;
+mod snapshot;
 pub mod tables;
 
 pub use error::TableError;

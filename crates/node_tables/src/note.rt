@@ -2,13 +2,13 @@
 use ack_ranges::RangeSet;
 use sequence_row::{Row, Start};
 
-/// A record as it is kept: the place of a record that is kept whole; the row, counted from 0, and the place there of a
-/// payload that was accepted or received; or the numbers that are acknowledged.
+/// A record as it is kept: the place of a record that is kept whole; the row, counted from 0, and the number there of a
+/// message that was accepted or received; or the numbers that are acknowledged.
 #[derive(Debug, Drop)]
 pub(crate) enum Note {
     Kept { place: usize },
-    Accepted { row: usize, place: usize },
-    Received { row: usize, place: usize },
+    Accepted { row: usize, number: u64 },
+    Received { row: usize, number: u64 },
     Acked { seq: u32, numbers: RangeSet },
 }
 

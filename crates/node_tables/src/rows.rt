@@ -2,9 +2,10 @@
 ghost use Rattle.std.specs.Prelude.{◌≡◌, ◌+◌, ◌-◌, ◌<◌, ◌≤◌, length, IfOk, IsOk, IsTrue, OnOk, OnErr};
 ghost use Rattle.std.specs.Prelude.{true, min, sum_by, vec_len, vec_capacity};
 ghost use Rattle.record_batch.specs.Fact.{Accepted, Acked, Received, fact_of};
+ghost use Rattle.rm_base.specs.Message.{max_number};
 ghost use Rattle.sequence_row.specs.Row.{Seen, step, takes, takes_message, takes_payload};
 ghost use Rattle.sequence_table.specs.Told.{each_after, names};
-ghost use Rattle.node_tables.specs.Kept.{accepted_in, is_whole, received_in, row_at, tolds};
+ghost use Rattle.node_tables.specs.Kept.{accepted_in, is_whole, row_at, tolds};
 ghost use Rattle.node_tables.specs.Reads.{waiting};
 ghost use Rattle.node_tables.specs.Room.{spare_at, spares, spent_at};
 
@@ -16,31 +17,23 @@ use rm_source::OutPhase;
 use sequence_row::Row;
 
 /// How many payloads a row has.
-fn payloads_of(row: &Row) -> usize
-    ensures { result ≡ length (accepted_in row.now.told.side) }
+fn payloads_of(row: &Row) -> u64
+    ensures count { result ≡ length (accepted_in row.now.told.side) }
+    ensures few { result < max_number }
 {
     match row.outgoing() {
-        Some(outgoing) => outgoing.accepted_len() as usize,
+        Some(outgoing) => outgoing.accepted_len(),
         None => 0,
     }
 }
 
-/// How many messages a row has.
-fn messages_of(row: &Row) -> usize
-    ensures { result ≡ length (received_in row.now.told.side) }
-{
-    match row.incoming() {
-        Some(incoming) => incoming.messages().len(),
-        None => 0,
-    }
-}
-
-/// Accepts a payload for a row, and answers its place there.
-pub(crate) fn accept_at(rows: &mut Vec<Row>, k: usize, payload: Blob) -> Result<usize, Memory>
+/// Accepts a payload for a row, and answers its message number.
+pub(crate) fn accept_at(rows: &mut Vec<Row>, k: usize, payload: Blob) -> Result<u64, Memory>
     requires within { k < vec_len rows.old }
     requires takes { IsTrue (takes_payload (row_at (tolds rows.old.items) k).side) }
     ensures ok { OnOk result (tolds rows.new.items ≡ each_after 0 (tolds rows.old.items) (Accepted (k + 1) payload)) }
-    ensures place { IfOk result (λ place. place ≡ length (accepted_in (row_at (tolds rows.old.items) k).side)) }
+    ensures number { IfOk result (λ number.
+        number ≡ length (accepted_in (row_at (tolds rows.old.items) k).side) + 1) }
     ensures room { OnOk result (spares rows.new.items
         ≡ spent_at (spares rows.old.items) k (Accepted (k + 1) payload)) }
     ensures ready { 0 < (spare_at (spares rows.old.items) k).room.payloads → IsOk result }
@@ -49,23 +42,22 @@ pub(crate) fn accept_at(rows: &mut Vec<Row>, k: usize, payload: Blob) -> Result<
     ensures err { OnErr result (tolds rows.new.items ≡ tolds rows.old.items) }
 {
     let row = &mut rows[k];
-    let place = payloads_of(row);
+    let number = payloads_of(row) + 1;
     row.accept(payload)?;
-    Ok(place)
+    Ok(number)
 }
 
-/// Receives a message for a row, and answers its place there.
+/// Receives a message for a row.
 pub(crate) fn receive_at(
     rows: &mut Vec<Row>,
     k: usize,
     number: u64,
     payload: Payload,
-) -> Result<usize, Memory>
+) -> Result<(), Memory>
     requires within { k < vec_len rows.old }
     requires takes { IsTrue (takes_message (row_at (tolds rows.old.items) k).side number) }
     ensures ok { OnOk result
         (tolds rows.new.items ≡ each_after 0 (tolds rows.old.items) (Received (k + 1) number payload)) }
-    ensures place { IfOk result (λ place. place ≡ length (received_in (row_at (tolds rows.old.items) k).side)) }
     ensures room { OnOk result (spares rows.new.items
         ≡ spent_at (spares rows.old.items) k (Received (k + 1) number payload)) }
     ensures ready { 0 < (spare_at (spares rows.old.items) k).room.messages → IsOk result }
@@ -74,9 +66,8 @@ pub(crate) fn receive_at(
     ensures err { OnErr result (tolds rows.new.items ≡ tolds rows.old.items) }
 {
     let row = &mut rows[k];
-    let place = messages_of(row);
     row.receive(number, payload)?;
-    Ok(place)
+    Ok(())
 }
 
 /// Learns that numbers of a row are acknowledged.

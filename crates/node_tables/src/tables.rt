@@ -1,6 +1,6 @@
 //! The records of a node, and what they say.
 ghost use Rattle.std.specs.Prelude.{◌≡◌, ◌↔◌, ◌+◌, ◌^◌, ◌++◌, ◌∷◌, ◌<◌, ◌≤◌, [], true, false, Err, length, OnOk};
-ghost use Rattle.std.specs.Prelude.{OnErr, IfErr, IsOk, List, map};
+ghost use Rattle.std.specs.Prelude.{OnErr, IfErr, IfOk, IsOk, List, map};
 ghost use Rattle.std.specs.Prelude.{min, vec_len, vec_capacity};
 ghost use Rattle.std.specs.Option.{option_copied, option_map};
 ghost use Rattle.record_batch.specs.Fact.{Fact, Accepted, Acked, Received, fact_of};
@@ -18,18 +18,21 @@ ghost use Rattle.node_tables.specs.Kept.{is_naming, is_whole, told_in};
 ghost use Rattle.node_tables.specs.Reads.{address_in, incoming_in, is_asking, maker_seen, outgoing_in, passes};
 ghost use Rattle.node_tables.specs.Reads.{ticket_in};
 ghost use Rattle.node_tables.specs.Ready.{IsReady, StopsAt};
+ghost use Rattle.record_snapshot.specs.Snapshot.{snapshot};
 ghost use Rattle.node_tables.specs.declared.error.TableError.TheVariants.{Misfit, Memory as WantsMemory};
 
 use crate::ahead::{begin, prepare_all};
 use crate::claims::{claim_all, make_room, release_all};
+use crate::copies::copies_of;
 use crate::error::TableError;
 use crate::find::{find_accept, find_address, find_granted, find_ident, find_named};
 use crate::maker::{Maker, maker_at};
 use crate::note::{Coming, Named, Note, Origin};
 use crate::record::{drawn_after, is_in_order, name, named_by, number_after, offer_fits, trace};
 use crate::rows::{accept_at, change, learn_at, receive_at, waiting_in};
-use ack_ranges::RangeSet;
-use record_batch::Record;
+use crate::snapshot::shorter;
+use ack_ranges::{RangeSet, union_with_nothing_is_the_same};
+use record_batch::{Record, Records};
 use rm_base::{Blob, Ident, Memory, Payload, Uri, numbered};
 use rm_destination::Incoming;
 use rm_source::{OutPhase, Outgoing};
@@ -37,6 +40,7 @@ use sequence_row::Row;
 use sequence_table::{issued_counter, made_by};
 use std::alloc::Global;
 use std::marker::Model;
+use std::mem;
 use wsa_headers::Epr;
 
 /// The records of a node, and what they say.
@@ -52,6 +56,9 @@ pub struct Tables {
     slots: usize,
     number: u64,
     drawn: u64,
+    // whether a snapshot was made and nothing was applied since, and its notes
+    marked: bool,
+    short: Vec<Note>,
 }
 
 impl Model for Tables {
@@ -73,6 +80,7 @@ impl Model for Tables {
         rows = all_spares t.rows.items t.ahead.items;
         ahead = starts t.ahead.items;
       };
+      is_marked = t.marked;
     } };
 
     ghost invariant = { λ t. IsSound
@@ -85,7 +93,9 @@ impl Model for Tables {
           origins = vec_capacity t.origins - vec_len t.origins;
           named = vec_capacity t.named - vec_len t.named;
         })
-        t.ahead.items };
+        t.ahead.items
+        t.marked
+        t.short.items };
 }
 
 impl Tables {
@@ -104,6 +114,8 @@ impl Tables {
             slots: 0,
             number: 0,
             drawn: 0,
+            marked: false,
+            short: Vec::new(alloc),
         }
     }
 
@@ -347,7 +359,9 @@ impl Tables {
         ensures records { self.new.records ≡ self.old.records }
         ensures ok { all_fit self.old.records (map fact_of batch.now) ≡ true →
             OnOk result (IsReady self.new (map fact_of batch.now)) }
+        ensures mark { self.new.is_marked ≡ false }
     {
+        self.marked = false;
         self.slots = 0;
         self.ahead.clear();
         release_all(&mut self.rows);
@@ -363,6 +377,37 @@ impl Tables {
         claim_all(&mut self.rows, &mut self.ahead, batch)?;
         self.slots = batch.len();
         Ok(())
+    }
+
+    /// What the records say in short, as copies of records. It makes what `compact` needs, so that it takes no memory,
+    /// and gives up the room that there was.
+    pub fn snapshot(&mut self) -> Result<Records, Memory>
+        ensures copies { IfOk result (λ copies. map fact_of copies ≡ snapshot self.old.records) }
+        ensures records { self.new.records ≡ self.old.records }
+        ensures mark { OnOk result (self.new.is_marked ≡ true) }
+        ensures err { OnErr result (self.new ≡ self.old) }
+    {
+        let short = shorter(self.alloc, &self.kept, &self.rows, &self.notes)?;
+        let copies = copies_of(self.alloc, &self.kept, &self.rows, &short)?;
+        self.slots = 0;
+        self.ahead.clear();
+        release_all(&mut self.rows);
+        self.short = short;
+        self.marked = true;
+        Ok(Records::from_vec(copies))
+    }
+
+    /// Makes the records the snapshot of them, which was made since the last of them came. It takes no memory.
+    pub fn compact(&mut self)
+        requires { self.old.is_marked ≡ true }
+        ensures records { self.new.records ≡ snapshot self.old.records }
+        ensures mark { self.new.is_marked ≡ false }
+    {
+        union_with_nothing_is_the_same();
+        self.slots = 0;
+        self.marked = false;
+        mem::swap(&mut self.notes, &mut self.short);
+        self.short.clear();
     }
 
     /// Applies records one after the other, up to the first that does not fit or for which there is no memory.
@@ -386,6 +431,7 @@ impl Tables {
         ensures ok { OnOk result (self.new.records ≡ self.old.records ++ fact_of given ∷ []) }
         ensures fit { OnOk result (fits self.old.records (fact_of given) ≡ true) }
         ensures err { OnErr result (self.new.records ≡ self.old.records) }
+        ensures mark { OnOk result (self.new.is_marked ≡ false) }
         ensures misfit { (result ≡ Err Misfit) ↔ (fits self.old.records (fact_of given) ≡ false) }
         ensures ready { (more : List Fact) → IsReady self.old (fact_of given ∷ more) → ¬ (result ≡ Err WantsMemory) }
         ensures next { (more : List Fact) → IsReady self.old (fact_of given ∷ more) →
@@ -403,6 +449,7 @@ impl Tables {
         requires { fits self.old.records (fact_of given) ≡ true }
         ensures ok { OnOk result (self.new.records ≡ self.old.records ++ fact_of given ∷ []) }
         ensures err { OnErr result (self.new.records ≡ self.old.records) }
+        ensures mark { OnOk result (self.new.is_marked ≡ false) }
         ensures ready { (more : List Fact) → IsReady self.old (fact_of given ∷ more) → IsOk result }
         ensures next { (more : List Fact) → IsReady self.old (fact_of given ∷ more) →
             OnOk result (IsReady self.new more) }
@@ -424,15 +471,17 @@ impl Tables {
         requires { fits self.old.records (Accepted seq payload) ≡ true }
         ensures ok { OnOk result (self.new.records ≡ self.old.records ++ Accepted seq payload ∷ []) }
         ensures err { OnErr result (self.new.records ≡ self.old.records) }
+        ensures mark { OnOk result (self.new.is_marked ≡ false) }
         ensures ready { (more : List Fact) → IsReady self.old (Accepted seq payload ∷ more) → IsOk result }
         ensures next { (more : List Fact) → IsReady self.old (Accepted seq payload ∷ more) →
             OnOk result (IsReady self.new more) }
     {
+        self.marked = false;
         self.notes.reserve(1)?;
         let row = seq as usize - 1;
-        let place = accept_at(&mut self.rows, row, payload)?;
+        let number = accept_at(&mut self.rows, row, payload)?;
         self.slots = self.slots.saturating_sub(1);
-        self.notes.push_reserved(Note::Accepted { row, place });
+        self.notes.push_reserved(Note::Accepted { row, number });
         Ok(())
     }
 
@@ -441,15 +490,17 @@ impl Tables {
         requires { fits self.old.records (Received seq number payload) ≡ true }
         ensures ok { OnOk result (self.new.records ≡ self.old.records ++ Received seq number payload ∷ []) }
         ensures err { OnErr result (self.new.records ≡ self.old.records) }
+        ensures mark { OnOk result (self.new.is_marked ≡ false) }
         ensures ready { (more : List Fact) → IsReady self.old (Received seq number payload ∷ more) → IsOk result }
         ensures next { (more : List Fact) → IsReady self.old (Received seq number payload ∷ more) →
             OnOk result (IsReady self.new more) }
     {
+        self.marked = false;
         self.notes.reserve(1)?;
         let row = seq as usize - 1;
-        let place = receive_at(&mut self.rows, row, number, payload)?;
+        receive_at(&mut self.rows, row, number, payload)?;
         self.slots = self.slots.saturating_sub(1);
-        self.notes.push_reserved(Note::Received { row, place });
+        self.notes.push_reserved(Note::Received { row, number });
         Ok(())
     }
 
@@ -458,10 +509,12 @@ impl Tables {
         requires { fits self.old.records (Acked seq numbers.ranges) ≡ true }
         ensures ok { OnOk result (self.new.records ≡ self.old.records ++ Acked seq numbers.ranges ∷ []) }
         ensures err { OnErr result (self.new.records ≡ self.old.records) }
+        ensures mark { OnOk result (self.new.is_marked ≡ false) }
         ensures ready { (more : List Fact) → IsReady self.old (Acked seq numbers.ranges ∷ more) → IsOk result }
         ensures next { (more : List Fact) → IsReady self.old (Acked seq numbers.ranges ∷ more) →
             OnOk result (IsReady self.new more) }
     {
+        self.marked = false;
         self.notes.reserve(1)?;
         learn_at(&mut self.rows, seq as usize - 1, &numbers)?;
         self.slots = self.slots.saturating_sub(1);
@@ -475,10 +528,12 @@ impl Tables {
         requires whole { is_whole (fact_of given) ≡ true }
         ensures ok { OnOk result (self.new.records ≡ self.old.records ++ fact_of given ∷ []) }
         ensures err { OnErr result (self.new.records ≡ self.old.records) }
+        ensures mark { OnOk result (self.new.is_marked ≡ false) }
         ensures ready { (more : List Fact) → IsReady self.old (fact_of given ∷ more) → IsOk result }
         ensures next { (more : List Fact) → IsReady self.old (fact_of given ∷ more) →
             OnOk result (IsReady self.new more) }
     {
+        self.marked = false;
         make_room(
             &mut self.kept,
             &mut self.rows,

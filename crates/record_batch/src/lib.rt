@@ -4,6 +4,7 @@
 //! what is written is read back and nothing else is, by `specs/`.
 #![tactic(auto)]
 
+pub mod copy;
 pub mod error;
 pub mod laws;
 pub mod read;
@@ -12,7 +13,8 @@ pub mod record;
 pub mod write;
 mod writers;
 
+pub use copy::{copy_acked, copy_payload, copy_received};
 pub use error::BatchError;
 pub use read::read_batch;
-pub use record::{OwnOffer, PeerOffer, Record, Via};
+pub use record::{OwnOffer, PeerOffer, Record, Records, Via};
 pub use write::write_batch;

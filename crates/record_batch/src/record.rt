@@ -1,6 +1,6 @@
 //! What a node writes down.
 use ack_ranges::RangeSet;
-use rm_base::{Behaviour, Blob, Cause, Ident, Lapse, Payload, Uri};
+use rm_base::{Behaviour, Blob, Cause, Ident, Items, Lapse, Payload, Uri};
 use wsa_headers::Epr;
 
 /// How answers come back: to the node's own address, to its polled address, or on the connection, by the anonymous
@@ -98,3 +98,6 @@ pub enum Record {
         fault: u8,
     },
 }
+
+/// Records, oldest first.
+pub type Records = Items<Record>;

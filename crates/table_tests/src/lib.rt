@@ -7,3 +7,5 @@ mod parts;
 mod readers;
 #[cfg(test)]
 mod room;
+#[cfg(test)]
+mod snapshots;

@@ -32,10 +32,11 @@ invariant_of-self-2 c =
     let f = Accepted s c.args.payload in
     let fit = subst (λ (t : Tabled). fits t.records f ≡ true) (sym c.self.view_is) c.requires in
     let noted = c.push_reserved.ensures.items
-    ∙ ap (λ (ns : List Note). ns ++ note.Accepted (s - 1) c.in_ok-place.place ∷ []) c.reserve.ensures.items in
+    ∙ ap (λ (ns : List Note). ns ++ note.Accepted (s - 1) c.in_ok-number.number ∷ []) c.reserve.ensures.items in
     record {
-      holds = (accepts _ s c.in_ok-place.place c.args.payload _ _ c.self.invariant.holds fit c.in_ok-place.ensures.place
-          c.in_ok-place.ensures.ok noted).0;
+      holds = (accepts _ s c.in_ok-number.number c.args.payload _ _ c.self.invariant.holds fit
+          c.in_ok-number.ensures.number
+          c.in_ok-number.ensures.ok noted).0;
       places = record {
         kept_ = omega arith;
         rows_ = omega arith;
@@ -44,6 +45,7 @@ invariant_of-self-2 c =
         named_ = omega arith;
       };
       begun_ = c.self.invariant.begun_;
+      mark_ = tt;
     }
 
 pub returns-clause-ok : goal.returns-clause-ok
@@ -52,15 +54,15 @@ returns-clause-ok c =
     let f = Accepted s c.args.payload in
     let fit = subst (λ (t : Tabled). fits t.records f ≡ true) (sym c.self.view_is) c.requires in
     let noted = c.push_reserved.ensures.items
-    ∙ ap (λ (ns : List Note). ns ++ note.Accepted (s - 1) c.in_ok-place.place ∷ []) c.reserve.ensures.items in
-    (accepts _ s c.in_ok-place.place c.args.payload _ _ c.self.invariant.holds fit c.in_ok-place.ensures.place
-    c.in_ok-place.ensures.ok noted).1
+    ∙ ap (λ (ns : List Note). ns ++ note.Accepted (s - 1) c.in_ok-number.number ∷ []) c.reserve.ensures.items in
+    (accepts _ s c.in_ok-number.number c.args.payload _ _ c.self.invariant.holds fit c.in_ok-number.ensures.number
+    c.in_ok-number.ensures.ok noted).1
     ∙ ap (λ (t : Tabled). t.records ++ f ∷ []) c.self.view_is
 
-pub invariant_of-self-in_err-place : goal.invariant_of-self-in_err-place
-invariant_of-self-in_err-place c =
+pub invariant_of-self-in_err-number : goal.invariant_of-self-in_err-number
+invariant_of-self-in_err-number c =
     record {
-      holds = stays _ _ _ c.self.invariant.holds c.in_err-place.ensures.err c.reserve.ensures.items;
+      holds = stays _ _ _ c.self.invariant.holds c.in_err-number.ensures.err c.reserve.ensures.items;
       places = record {
         kept_ = omega arith;
         rows_ = omega arith;
@@ -69,10 +71,11 @@ invariant_of-self-in_err-place c =
         named_ = omega arith;
       };
       begun_ = c.self.invariant.begun_;
+      mark_ = tt;
     }
 
-pub returns-in_err-place-clause-ready : goal.returns-in_err-place-clause-ready
-returns-in_err-place-clause-ready c more h =
+pub returns-in_err-number-clause-ready : goal.returns-in_err-number-clause-ready
+returns-in_err-number-clause-ready c more h =
     let s = c.args.seq in
     let f = Accepted s c.args.payload in
     let fit = subst (λ (t : Tabled). fits t.records f ≡ true) (sym c.self.view_is) c.requires in
@@ -83,7 +86,7 @@ returns-in_err-place-clause-ready c more h =
     let is : c.args.self.now.room ≡ room_with slots rows ahead = sym (ap (λ (t : Tabled). t.room) c.self.view_is) in
     let at : s ≡ s - 1 + 1 = omega (arith, taken.one) in
     let lt : s - 1 < length rows = omega (arith, taken.one, taken.within, length-map rows (λ (r : Seen). r.told)) in
-    absurd (false≢true (c.in_err-place.ensures.ready
+    absurd (false≢true (c.in_err-number.ensures.ready
     (payload-room c.args.self.now rows ahead slots s c.args.payload more (s - 1) h is at lt
     (sym (takes-accepted (row_at (tolds rows) (s - 1)).side s c.args.payload) ∙ taken.takes_))))
 
@@ -100,4 +103,4 @@ returns-clause-next c more h =
     let at : s ≡ s - 1 + 1 = omega (arith, taken.one) in
     let lt : s - 1 < length rows = omega (arith, taken.one, taken.within, length-map rows (λ (r : Seen). r.told)) in
     row-next c.args.self.now _ rows c.accept_at.new.rows.items ahead slots c.saturating_sub-self-inside.result f more
-    (s - 1) h is refl at lt (omega (arith, c.saturating_sub-self-inside.ensures)) c.in_ok-place.ensures.room
+    (s - 1) h is refl at lt (omega (arith, c.saturating_sub-self-inside.ensures)) c.in_ok-number.ensures.room

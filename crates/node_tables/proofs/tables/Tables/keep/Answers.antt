@@ -79,6 +79,7 @@ invariant_of-self c =
         named_ = omega arith;
       };
       begun_ = c.self.invariant.begun_;
+      mark_ = tt;
     }
 
 pub returns-in_err-make_room-clause-err : goal.returns-in_err-make_room-clause-err
@@ -112,7 +113,7 @@ grown c =
       length-map rows (λ (r : Seen). r.told),
       rows-origins _ c.self.invariant.holds,
     ) in
-    keeps _ _ f c.self.invariant.holds fit
+    keeps _ _ f c.requires.whole c.self.invariant.holds fit
     (ap (map fact_of) (c.push_reserved-2.ensures.items
     ∙ ap (λ (xs : List Record). xs ++ c.args.given ∷ []) c.make_room.ensures.kept)
     ∙ map-append fact_of kept (c.args.given ∷ []))
@@ -142,6 +143,7 @@ invariant_of-self-2 c = record {
     named_ = omega arith;
   };
   begun_ = c.begin.ensures.begun;
+  mark_ = tt;
 }
 
 pub returns-clause-ok : goal.returns-clause-ok

@@ -44,6 +44,7 @@ invariant_of-self-2 c =
         named_ = omega arith;
       };
       begun_ = c.self.invariant.begun_;
+      mark_ = tt;
     }
 
 pub returns-clause-ok : goal.returns-clause-ok
@@ -68,6 +69,7 @@ invariant_of-self-in_err-learn_at c =
         named_ = omega arith;
       };
       begun_ = c.self.invariant.begun_;
+      mark_ = tt;
     }
 
 pub returns-in_err-learn_at-clause-ready : goal.returns-in_err-learn_at-clause-ready

@@ -32,11 +32,10 @@ invariant_of-self-2 c =
     let f = Received s c.args.number c.args.payload in
     let fit = subst (λ (t : Tabled). fits t.records f ≡ true) (sym c.self.view_is) c.requires in
     let noted = c.push_reserved.ensures.items
-    ∙ ap (λ (ns : List Note). ns ++ note.Received (s - 1) c.in_ok-place.place ∷ []) c.reserve.ensures.items in
+    ∙ ap (λ (ns : List Note). ns ++ note.Received (s - 1) c.args.number ∷ []) c.reserve.ensures.items in
     record {
-      holds = (receives _ s c.in_ok-place.place c.args.number c.args.payload _ _ c.self.invariant.holds fit
-          c.in_ok-place.ensures.place
-          c.in_ok-place.ensures.ok noted).0;
+      holds = (receives _ s c.args.number c.args.payload _ _ c.self.invariant.holds fit
+          c.in_ok-receive_at.ensures.ok noted).0;
       places = record {
         kept_ = omega arith;
         rows_ = omega arith;
@@ -45,6 +44,7 @@ invariant_of-self-2 c =
         named_ = omega arith;
       };
       begun_ = c.self.invariant.begun_;
+      mark_ = tt;
     }
 
 pub returns-clause-ok : goal.returns-clause-ok
@@ -53,16 +53,15 @@ returns-clause-ok c =
     let f = Received s c.args.number c.args.payload in
     let fit = subst (λ (t : Tabled). fits t.records f ≡ true) (sym c.self.view_is) c.requires in
     let noted = c.push_reserved.ensures.items
-    ∙ ap (λ (ns : List Note). ns ++ note.Received (s - 1) c.in_ok-place.place ∷ []) c.reserve.ensures.items in
-    (receives _ s c.in_ok-place.place c.args.number c.args.payload _ _ c.self.invariant.holds fit
-    c.in_ok-place.ensures.place
-    c.in_ok-place.ensures.ok noted).1
+    ∙ ap (λ (ns : List Note). ns ++ note.Received (s - 1) c.args.number ∷ []) c.reserve.ensures.items in
+    (receives _ s c.args.number c.args.payload _ _ c.self.invariant.holds fit
+    c.in_ok-receive_at.ensures.ok noted).1
     ∙ ap (λ (t : Tabled). t.records ++ f ∷ []) c.self.view_is
 
-pub invariant_of-self-in_err-place : goal.invariant_of-self-in_err-place
-invariant_of-self-in_err-place c =
+pub invariant_of-self-in_err-receive_at : goal.invariant_of-self-in_err-receive_at
+invariant_of-self-in_err-receive_at c =
     record {
-      holds = stays _ _ _ c.self.invariant.holds c.in_err-place.ensures.err c.reserve.ensures.items;
+      holds = stays _ _ _ c.self.invariant.holds c.in_err-receive_at.ensures.err c.reserve.ensures.items;
       places = record {
         kept_ = omega arith;
         rows_ = omega arith;
@@ -71,10 +70,11 @@ invariant_of-self-in_err-place c =
         named_ = omega arith;
       };
       begun_ = c.self.invariant.begun_;
+      mark_ = tt;
     }
 
-pub returns-in_err-place-clause-ready : goal.returns-in_err-place-clause-ready
-returns-in_err-place-clause-ready c more h =
+pub returns-in_err-receive_at-clause-ready : goal.returns-in_err-receive_at-clause-ready
+returns-in_err-receive_at-clause-ready c more h =
     let s = c.args.seq in
     let f = Received s c.args.number c.args.payload in
     let fit = subst (λ (t : Tabled). fits t.records f ≡ true) (sym c.self.view_is) c.requires in
@@ -85,7 +85,7 @@ returns-in_err-place-clause-ready c more h =
     let is : c.args.self.now.room ≡ room_with slots rows ahead = sym (ap (λ (t : Tabled). t.room) c.self.view_is) in
     let at : s ≡ s - 1 + 1 = omega (arith, taken.one) in
     let lt : s - 1 < length rows = omega (arith, taken.one, taken.within, length-map rows (λ (r : Seen). r.told)) in
-    absurd (false≢true (c.in_err-place.ensures.ready
+    absurd (false≢true (c.in_err-receive_at.ensures.ready
     (message-room c.args.self.now rows ahead slots s c.args.number c.args.payload more (s - 1) h is at lt
     (sym (takes-received (row_at (tolds rows) (s - 1)).side s c.args.number c.args.payload) ∙ taken.takes_))))
 
@@ -102,4 +102,4 @@ returns-clause-next c more h =
     let at : s ≡ s - 1 + 1 = omega (arith, taken.one) in
     let lt : s - 1 < length rows = omega (arith, taken.one, taken.within, length-map rows (λ (r : Seen). r.told)) in
     row-next c.args.self.now _ rows c.receive_at.new.rows.items ahead slots c.saturating_sub-self-inside.result f more
-    (s - 1) h is refl at lt (omega (arith, c.saturating_sub-self-inside.ensures)) c.in_ok-place.ensures.room
+    (s - 1) h is refl at lt (omega (arith, c.saturating_sub-self-inside.ensures)) c.in_ok-receive_at.ensures.room

@@ -1,0 +1,5 @@
+use Rattle.snapshot_laws.proofs.KeptLemmas.{snapshot_kept}
+use Rattle.snapshot_laws.proofs.laws.a_snapshot_is_kept.Goals as goal
+
+pub returns : goal.returns
+returns c = snapshot_kept c.union_has_both.ensures c.union_with_nothing_is_the_same.ensures

@@ -1,0 +1,14 @@
+-- A snapshot of a node's records is such records.
+use Rattle.std.specs.Prelude.{List}
+use Rattle.record_batch.specs.Fact.{Fact}
+use Rattle.node_laws.specs.Records.{IsKept}
+use Rattle.record_snapshot.specs.Same.{UnionsAreSets}
+use Rattle.record_snapshot.specs.Snapshot.{snapshot}
+
+-- what a node accepts when it is mounted, it accepts in short
+abbrev pub SnapshotIsKept : Type 0
+SnapshotIsKept = (r : List Fact) → IsKept r → IsKept (snapshot r)
+
+-- the acknowledged numbers of each sequence of a node are a set
+abbrev pub KeptHasSets : Type 0
+KeptHasSets = (r : List Fact) → IsKept r → UnionsAreSets r
