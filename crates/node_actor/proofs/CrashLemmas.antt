@@ -1,5 +1,5 @@
 -- A disk that crashes, and the node that is mounted again.
-use Rattle.std.proofs.Common.{◌≡◌, ◌∙◌, ℕ, Bool, true, false, List, [], ◌∷◌, None, refl, sym, ap, subst}
+use Rattle.std.proofs.Common.{◌≡◌, ◌∙◌, ◌++◌, ℕ, Bool, true, false, List, [], ◌∷◌, None, refl, sym, ap, subst}
 use Rattle.std.proofs.Common.{inl, inr}
 use Rattle.std.specs.List.{AllByRecursion}
 use Rattle.key_timers.specs.Keyed.{StandsFor}
@@ -8,42 +8,68 @@ use Rattle.record_batch.specs.Writable.{IsBatch}
 use Rattle.rm_disk.specs.Call.{Call, Crashed as Crashes, crashes_of, left_by, seen_of, state}
 use Rattle.rm_disk.specs.Image.{MayLeave, OnlyLeaves}
 use Rattle.rm_disk.specs.ImageLemmas.{crash_leaves_image, left_now, settled_only}
-use Rattle.rm_protocol.specs.Node.{Node, State, Up, Writing, entries_left, records_in}
+use Rattle.rm_journal.specs.Entries.{Bank}
+use Rattle.rm_journal.specs.EntryLemmas.{stands_for_one}
+use Rattle.rm_protocol.specs.Node.{Node, State, Up, Writing, Compacting, entries_left, records_in, start_left}
 use Rattle.rm_protocol.specs.Waiting.{mounted_waits}
 use Rattle.rm_protocol.specs.World.{made}
 use Rattle.rm_disk.specs.Told.{Told}
-use Rattle.node_store.specs.Has.{AreOfNode, Has, StandsForBatches}
+use Rattle.node_store.specs.Has.{AreOfNode, Has, StandsForBatches, StandsForBatchesAt, entries_of}
 use Rattle.node_store.specs.Mounted.{Finds}
 use Rattle.node_store.specs.Stored.{Stored, first_stored}
 use Rattle.rm_node.specs.Keeping.{Keeps, first_kept}
 use Rattle.rm_node.specs.Noded.{Noded, granting}
 use Rattle.node_actor.specs.Actored.{Actored}
-use Rattle.node_actor.specs.Stands.{Crashed, Leaves, Stands, StandsBy, kept_of}
+use Rattle.node_actor.specs.Stands.{Crashed, Leaves, Stands, StandsBy, StandsFrom, kept_of}
 use Rattle.node_actor.proofs.ActLemmas.{actored}
 
--- bytes stand for the entries that a crash of the node leaves, which are those of a node
-pub record Left (st : State) (entries : List (List Fact)) (bytes : List ℕ) : Type 0 where
+-- bytes stand for the entries that a crash of the node leaves, where the list begins then, and they are those of a node
+pub record Left (start : ℕ) (st : State) (entries : List (List Fact)) (bytes : List ℕ) : Type 0 where
   pub kept : Bool
-  pub stands : StandsForBatches (entries_left st kept entries) bytes
+  pub stands : StandsFrom (start_left st kept start) (entries_left st kept entries) bytes
   pub are : AreOfNode (entries_left st kept entries)
 
-left_with : (st : State) (entries : List (List Fact)) (past : List Call) (stored : Stored)
-    → StandsBy st entries past stored → (bytes : List ℕ) → MayLeave past bytes → Left st entries bytes
-left_with Up entries past stored awake bytes may =
-    record { kept = false; stands = awake.has.holds.journal.images bytes may; are = awake.has.are }
-left_with (Writing []) entries past stored asleep bytes may = elim (asleep.images bytes may) [
-  | inl before ↦ record { kept = false; stands = before; are = asleep.are }
-  | inr after ↦ record { kept = false; stands = after; are = asleep.are }
+-- where the journal's list begins
+from_bank : (stored : Stored) (start : ℕ) (entries : List (List Fact)) (bytes : List ℕ)
+    → stored.journal.bank.start ≡ start → StandsForBatchesAt stored.journal.bank entries bytes
+    → StandsFrom start entries bytes
+from_bank stored start entries bytes begins stands =
+    record { bank = stored.journal.bank; begins = begins; stands = stands }
+
+left_with : (st : State) (start : ℕ) (entries : List (List Fact)) (past : List Call) (stored : Stored)
+    → stored.journal.bank.start ≡ start → StandsBy st entries past stored → (bytes : List ℕ) → MayLeave past bytes
+    → Left start st entries bytes
+left_with Up start entries past stored at awake bytes may = record {
+  kept = false;
+  stands = from_bank stored start entries bytes at (awake.has.holds.journal.images bytes may);
+  are = awake.has.are;
+}
+left_with (Writing []) start entries past stored at asleep bytes may = elim (asleep.images bytes may) [
+  | inl before ↦
+      record { kept = false; stands = from_bank stored start entries bytes at before; are = asleep.are }
+  | inr after ↦
+      record { kept = false; stands = from_bank stored start entries bytes at after; are = asleep.are }
 ]
-left_with (Writing (f ∷ delta)) entries past stored asleep bytes may = elim (asleep.images bytes may) [
-  | inl before ↦ record { kept = false; stands = before; are = asleep.are }
+left_with (Writing (f ∷ delta)) start entries past stored at asleep bytes may = elim (asleep.images bytes may) [
+  | inl before ↦
+      record { kept = false; stands = from_bank stored start entries bytes at before; are = asleep.are }
+  | inr after ↦ record {
+    kept = true;
+    stands = from_bank stored start (entries ++ (f ∷ delta) ∷ []) bytes at after;
+    are = asleep.next;
+  }
+]
+left_with (Compacting place) start entries past stored at asleep bytes may = elim (asleep.images bytes may) [
+  | inl before ↦
+      record { kept = false; stands = from_bank stored start entries bytes at before; are = asleep.are }
   | inr after ↦ record { kept = true; stands = after; are = asleep.next }
 ]
 
 -- each image is left by a crash of the node
 pub left_of : (x : Node) (now : Told) (a : Actored) → Stands x now a → (bytes : List ℕ) → MayLeave now.past bytes
-    → Left x.state x.entries bytes
-left_of x now a s bytes may = left_with x.state x.entries now.past a.node.stored s.disk bytes may
+    → Left x.start x.state x.entries bytes
+left_of x now a s bytes may =
+    left_with x.state x.start x.entries now.past a.node.stored s.start s.disk bytes may
 
 -- what the disk leaves where nothing happened to it
 pub leaves_still : (x : Node) (now : Told) (a : Actored) (past : List Call) → Stands x now a → past ≡ now.past
@@ -54,7 +80,7 @@ leaves_still x now a past s same bytes may =
 
 -- what a crash left
 pub left_crashed : (x : Node) (now : Told) (a : Actored) (choice : ℕ) → Stands x now a
-    → Left x.state x.entries (left_by choice (state now.past))
+    → Left x.start x.state x.entries (left_by choice (state now.past))
 left_crashed x now a choice s =
     left_of x now a s (left_by choice (state now.past)) (crash_leaves_image now.past choice)
 
@@ -67,7 +93,7 @@ node_there x now a choice past s is =
       entries_left x.state left.kept x.entries,
       left.are,
       subst (λ (p : List Call). StandsForBatches (entries_left x.state left.kept x.entries) (seen_of p)) (sym is)
-          left.stands,
+          (record { bank = left.stands.bank; stands = left.stands.stands }),
     )
 
 -- what the disk leaves where it crashed, and the node was not mounted
@@ -80,8 +106,8 @@ leaves_crashed x now a choice past later s is only bytes may =
     let left = left_crashed x now a choice s in
     record {
       kept = left.kept;
-      stands = subst (λ (b : List ℕ). StandsForBatches (entries_left x.state left.kept x.entries) b) (sym same)
-          left.stands;
+      stands = subst (λ (b : List ℕ). StandsFrom (start_left x.state left.kept x.start)
+          (entries_left x.state left.kept x.entries) b) (sym same) left.stands;
       are = left.are;
     }
 
@@ -100,17 +126,24 @@ pub crashed : OneList → (x : Node) (first now : Told) (a : Actored) (choice : 
 crashed one x first now a choice past node s is found up keeps crashes fuse =
     let left = left_crashed x first a choice s in
     let bytes = left_by choice (state first.past) in
-    let were : StandsForBatches found.batches bytes =
-    subst (λ (p : List Call). StandsForBatches found.batches (seen_of p)) is found.were in
-    let same : found.batches ≡ entries_left x.state left.kept x.entries =
-    one found.batches (entries_left x.state left.kept x.entries) bytes found.has.are.each left.are.each were
-    left.stands in
-    let records : node.stored.records ≡ records_in (entries_left x.state left.kept x.entries) =
+    let entries = entries_left x.state left.kept x.entries in
+    let bank = left.stands.bank in
+    let mounted_bank = node.stored.journal.bank in
+    let were : StandsForBatchesAt mounted_bank found.batches bytes =
+    subst (λ (p : List Call). StandsForBatchesAt mounted_bank found.batches (seen_of p)) is found.were in
+    let at : mounted_bank ≡ bank =
+    (stands_for_one mounted_bank bank (entries_of found.batches) (entries_of entries) bytes were
+    left.stands.stands).0 in
+    let same : found.batches ≡ entries =
+    one found.batches entries bytes found.has.are.each left.are.each
+    (record { bank = mounted_bank; stands = were }) (record { bank = bank; stands = left.stands.stands }) in
+    let records : node.stored.records ≡ records_in entries =
     found.has.holds.records ∙ ap records_in same in
     record {
       kept = left.kept;
       stands = record {
         disk = record { up = up; has = subst (λ (b : List (List Fact)). Has b now.past node.stored) same found.has };
+        start = ap (λ (b : Bank). b.start) at ∙ left.stands.begins;
         fuse = fuse;
         granted = s.granted;
         kept = λ again. record {
@@ -138,6 +171,7 @@ made-stands number address now node is keeps has fuse =
     subst (λ (s : Stored). Keeps node.kept (first_kept s.records)) is keeps in
     record {
       disk = record { up = ap (λ (s : Stored). s.journal.is_down) is; has = has };
+      start = ap (λ (s : Stored). s.journal.bank.start) is;
       fuse = fuse;
       granted = kept.granted;
       kept = λ up. kept;

@@ -9,7 +9,8 @@ use Rattle.record_batch.specs.Fact.{Fact}
 use Rattle.rm_protocol.specs.Calls.{Cause, NoSequence, WrongSide, PayloadTooLong, BadPayload, NotOpen, WindowFull}
 use Rattle.rm_protocol.specs.Calls.{NodeFull, Rollover, TooManySequences, StoreFull, Outcome, Done, Judged}
 use Rattle.rm_protocol.specs.Calls.{Refused as RefusedWith, receive}
-use Rattle.rm_protocol.specs.Node.{Node, State, Up, Writing, end_of, records, records_in}
+use Rattle.rm_protocol.specs.Delivered.{IsWriting}
+use Rattle.rm_protocol.specs.Node.{Node, State, Up, Writing, Compacting, node_end, records, records_in}
 use Rattle.rm_protocol.specs.Polls.{polled_after}
 use Rattle.rm_protocol.specs.Terms.{Terms}
 use Rattle.node_laws.specs.Keeps.{EachIsByTheRules, PollsByTheRules, SaysByTheRules, WaitByTheRules}
@@ -28,9 +29,10 @@ use Rattle.rm_node.specs.declared.call.Call.TheVariants as call
 use Rattle.node_store.specs.Stored.{Stored}
 use Rattle.node_actor.specs.Actored.{Actored}
 use Rattle.node_actor.specs.AnswerLemmas.{of_each}
-use Rattle.node_actor.specs.Comes.{ComesOut}
+use Rattle.node_actor.specs.Comes.{ComesOut, ComesOutAs}
 use Rattle.node_actor.specs.declared.actor.Came.{Came}
-use Rattle.node_actor.specs.Outcomes.{answer_told, is_disk, is_disk_outcome, refusal_told}
+use Rattle.node_actor.specs.Outcomes.{answer_told, ends_by_disk, is_disk, is_disk_outcome, refusal_told}
+use Rattle.rm_report.specs.declared.line.Outcome.{Outcome as Outcomes}
 use Rattle.node_actor.specs.Stands.{Acts, Stands, StandsBy, kept_of}
 use Rattle.node_actor.specs.Steps.{answer_of, clock_after, clock_of, clocked}
 use Rattle.node_actor.proofs.ActLemmas.{EndsThere, actored, acts, clock_is, sleeps_down}
@@ -69,6 +71,20 @@ disk_told Broke (Err memory) is = absurd is
 disk_told WasDown (Ok came) is = sym (ap is_disk_outcome is.came_out)
 disk_told WasDown (Err memory) is = absurd is
 
+-- so of a call of which nothing leaves the node
+pub disk_told_alone : (ended : Ended) (r : Result Outcomes Memory) → ComesOutAs ended r
+    → is_broken ended ≡ ends_by_disk r
+disk_told_alone (Handed outcome reply outs) (Ok came) is = sym (ap is_disk_outcome is ∙ no_answer outcome)
+disk_told_alone (Handed outcome reply outs) (Err memory) is = absurd is
+disk_told_alone (Refused cause) (Ok came) is = sym (ap is_disk_outcome is ∙ no_cause cause)
+disk_told_alone (Refused cause) (Err memory) is = absurd is
+disk_told_alone Wanted (Ok came) is = absurd is
+disk_told_alone Wanted (Err memory) is = refl
+disk_told_alone Broke (Ok came) is = sym (ap is_disk_outcome is)
+disk_told_alone Broke (Err memory) is = absurd is
+disk_told_alone WasDown (Ok came) is = sym (ap is_disk_outcome is)
+disk_told_alone WasDown (Err memory) is = absurd is
+
 -- ---- what is asked
 
 quiet_asked : (terms : Terms) (now : ℕ) (kept : Keeping) (asked : Asked) (r : List Fact) (place : ℕ)
@@ -103,6 +119,7 @@ pub clocked_stands : (this : Call) (x : Node) (now : Told) (a : Actored) → Sta
     → Stands (clocked this x) now (actored a.node (clock_after this a))
 clocked_stands this x now a s = record {
   disk = s.disk;
+  start = s.start;
   fuse = s.fuse;
   granted = s.granted;
   kept = s.kept;
@@ -117,6 +134,7 @@ kept_by : (st : State) (entries : List (List Fact)) (past : List DeviceCall) (st
     → StandsBy st entries past stored → IsKept (records_in entries)
 kept_by Up entries past stored awake = awake.has.are.kept
 kept_by (Writing delta) entries past stored asleep = asleep.are.kept
+kept_by (Compacting start) entries past stored asleep = asleep.are.kept
 
 -- what is said keeps the rules of what is written, and so does what waits then
 pub record ByTheRules : Type 0 where
@@ -131,8 +149,8 @@ wait_asked : ByTheRules → (terms : Terms) → AreOwn terms → (this : Call) (
 wait_asked by terms own this x asked now a s may is =
     let of = kept_by x.state x.entries now.past a.node.stored s.disk in
     by.polls.waits x.polled (answer_of terms x asked) s.rules
-    (of_each by.reads by.refuses SaysByTheRules terms (records x) (end_of terms x.entries) x.clock (kept_of x) this
-    asked (by.each terms (records x) (end_of terms x.entries) own of) (by.polls.beside x.polled) s.in_order may is)
+    (of_each by.reads by.refuses SaysByTheRules terms (records x) (node_end terms x) x.clock (kept_of x) this
+    asked (by.each terms (records x) (node_end terms x) own of) (by.polls.beside x.polled) s.in_order may is)
 
 -- ---- a call
 
@@ -157,12 +175,12 @@ acted terms tells this x asked first now old new ended r by own ends t s order m
     (λ (up : x.state ≡ Up). subst (λ (m : ℕ). Does tells (is_connected this) first now old.node new
     (answer_to terms old.node.stored.records (journal_end old.node.stored.journal) m (kept_of x) asked) ended) s.clock
     (does (kept_of x) (s.kept up)))
-    (λ (delta : List Fact) (down : x.state ≡ Writing delta). sleeps_down tells (is_connected this) x delta
+    (λ (down : IsWriting x.state). sleeps_down tells (is_connected this) x
     (node_answer terms old.node old.clock runs.keeping.0 asked) first now old new ended s down
     (does runs.keeping.0 runs.keeping.1))
-    (quiet_asked terms x.clock (kept_of x) asked (records x) (end_of terms x.entries))
+    (quiet_asked terms x.clock (kept_of x) asked (records x) (node_end terms x))
     (wait_asked by terms own this x asked first old s may asks)
-    (order terms (records x) (end_of terms x.entries) x.clock (kept_of x) this asked asks) is
+    (order terms (records x) (node_end terms x) x.clock (kept_of x) this asked asks) is
 
 -- the clock is as it was
 pub still : (this : Call) (x : Node) (now : Told) (new : Noded) (old clock : ℕ)
@@ -170,6 +188,7 @@ pub still : (this : Call) (x : Node) (now : Told) (new : Noded) (old clock : ℕ
 still this x now new old clock s e =
     record {
       disk = s.disk;
+      start = s.start;
       fuse = s.fuse;
       granted = s.granted;
       kept = s.kept;

@@ -5,7 +5,7 @@ use Rattle.rm_disk.specs.Call.{crashes_of}
 use Rattle.rm_disk.specs.Cause.{HasCause}
 use Rattle.rm_disk.specs.Told.{Told}
 use Rattle.rm_protocol.specs.Calls.{Answer}
-use Rattle.rm_protocol.specs.Node.{Node, end_of, records}
+use Rattle.rm_protocol.specs.Node.{Node, node_end, records}
 use Rattle.rm_protocol.specs.Terms.{Terms}
 use Rattle.rm_protocol.specs.World.{clock_by}
 use Rattle.node_laws.specs.OwnTerms.{AreOwn}
@@ -19,7 +19,7 @@ use Rattle.node_actor.specs.declared.actor.Came.{Came}
 
 -- what the protocol's node answers
 abbrev pub answer_of : Terms → Node → Asked → Answer
-answer_of terms x asked = answer_to terms (records x) (end_of terms x.entries) x.clock (kept_of x) asked
+answer_of terms x asked = answer_to terms (records x) (node_end terms x) x.clock (kept_of x) asked
 
 -- what its clock tells then: a tick sets it, unless the node is down
 abbrev pub clock_of : Call → Node → ℕ

@@ -1,8 +1,9 @@
 //! How a call came out, as a report tells it.
 ghost use Rattle.std.specs.Prelude.{◌≡◌, None, []};
 ghost use Rattle.call_answers.specs.Answers.{cause_seen};
+ghost use Rattle.rm_node.specs.Compacted.{compact_end};
 ghost use Rattle.rm_node.specs.Ends.{reaction_end, verdict_outcome};
-ghost use Rattle.node_actor.specs.Comes.{ComesOut, IsTold};
+ghost use Rattle.node_actor.specs.Comes.{ComesOut, ComesOutAs, IsTold};
 ghost use Rattle.node_actor.specs.Outcomes.{answer_told, refusal_told};
 
 use crate::actor::Came;
@@ -27,6 +28,19 @@ pub(crate) fn told(alloc: Global, reaction: Result<Reaction, NodeError>) -> Resu
         Err(NodeError::Disk) => Ok(silent(alloc, Outcome::Disk)),
         Err(NodeError::Down) => Ok(silent(alloc, Outcome::Down)),
         Err(NodeError::Refused(cause)) => Ok(silent(alloc, refusal(cause))),
+    }
+}
+
+/// Of a call of which nothing leaves the node.
+pub(crate) fn told_alone(ended: Result<(), NodeError>) -> Result<Outcome, Memory>
+    ensures { ComesOutAs (compact_end ended) result }
+{
+    match ended {
+        Ok(()) => Ok(Outcome::Done),
+        Err(NodeError::Memory) => Err(Memory),
+        Err(NodeError::Disk) => Ok(Outcome::Disk),
+        Err(NodeError::Down) => Ok(Outcome::Down),
+        Err(NodeError::Refused(cause)) => Ok(refusal(cause)),
     }
 }
 

@@ -15,7 +15,7 @@ use Rattle.rm_disk.specs.Call.{Call, crashes_of}
 use Rattle.rm_disk.specs.Fuse.{Burns}
 use Rattle.rm_disk.specs.Image.{OnlyLeaves}
 use Rattle.rm_disk.specs.ImageLemmas.{only_from, only_weaker}
-use Rattle.rm_journal.specs.Entries.{StandsFor, StandsForEither}
+use Rattle.rm_journal.specs.Entries.{Bank, StandsAt, StandsForEither}
 use Rattle.rm_journal.specs.Journal.{Fits, with_entry}
 use Rattle.rm_journal.specs.JournalState.{JournalState, end_of, journal_of}
 use Rattle.sequence_table.specs.Makers.{counter, draws_of}
@@ -40,24 +40,25 @@ burns-some [] old new well some burns = absurd (some refl)
 burns-some (f ∷ d) old new well some burns = burns
 
 -- the old entries, or these with the batch's
-pub left_by : (batches : List (List Fact)) (d : List Fact) → d ≢ [] → (bytes : List ℕ)
-    → StandsForEither (entries_of batches) (batch_text d) bytes → IsLeftBy batches d bytes
-left_by batches d some bytes (inl old) = inl old
-left_by batches d some bytes (inr new) =
-    inr (subst (λ (es : List (List ℕ)). StandsFor es bytes)
+pub left_by : (bank : Bank) (batches : List (List Fact)) (d : List Fact) → d ≢ [] → (bytes : List ℕ)
+    → StandsForEither bank (entries_of batches) (batch_text d) bytes → IsLeftBy bank batches d bytes
+left_by bank batches d some bytes (inl old) = inl old
+left_by bank batches d some bytes (inr new) =
+    inr (subst (λ (es : List (List ℕ)). StandsAt bank es bytes)
     (sym (ap entries_of (with_batch-some batches d some) ∙ entries_of-push batches d)) new)
 
-pub moments_of : (old new : List Call) (batches : List (List Fact)) (d : List Fact) → d ≢ []
-    → OnlyLeaves old new (StandsForEither (entries_of batches) (batch_text d)) → OnlyLeaves old new (IsLeftBy batches d)
-moments_of old new batches d some only =
-    only_weaker old new (StandsForEither (entries_of batches) (batch_text d)) (IsLeftBy batches d)
-    (left_by batches d some) only
+pub moments_of : (old new : List Call) (bank : Bank) (batches : List (List Fact)) (d : List Fact) → d ≢ []
+    → OnlyLeaves old new (StandsForEither bank (entries_of batches) (batch_text d))
+    → OnlyLeaves old new (IsLeftBy bank batches d)
+moments_of old new bank batches d some only =
+    only_weaker old new (StandsForEither bank (entries_of batches) (batch_text d)) (IsLeftBy bank batches d)
+    (left_by bank batches d some) only
 
 -- nothing happened on the disk
 pub no_moments : (past : List Call) (s : Stored) (batches : List (List Fact)) (d : List Fact)
-    → Holds batches past s → OnlyLeaves past past (IsLeftBy batches d)
+    → Holds batches past s → OnlyLeaves past past (IsLeftBy s.journal.bank batches d)
 no_moments past s batches d holds =
-    only_from past (IsLeftBy batches d) (λ bytes may. inl (holds.journal.images bytes may))
+    only_from past (IsLeftBy s.journal.bank batches d) (λ bytes may. inl (holds.journal.images bytes may))
 
 -- the disk and the tables have one batch more
 pub holds_more : (batches : List (List Fact)) (d : List Fact) (past : List Call) (old : Stored) (journal : JournalState)
@@ -77,9 +78,10 @@ end_of-with_entry journal len =
     let x = end_of journal + 5 + len in
     let at : length (journal.gates ++ x ∷ []) - 1 ≡ length journal.gates =
     omega (arith, length-append journal.gates (x ∷ [])) in
-    ap (λ (k : ℕ). get_or (journal.gates ++ x ∷ []) k 8) at
-    ∙ get_or-append_right journal.gates (x ∷ []) (length journal.gates) (length journal.gates) 8 refl (omega arith)
-    ∙ ap (λ (k : ℕ). get_or (x ∷ []) k 8) {y = 0} (omega arith)
+    let start = journal.bank.start in
+    ap (λ (k : ℕ). get_or (journal.gates ++ x ∷ []) k start) at
+    ∙ get_or-append_right journal.gates (x ∷ []) (length journal.gates) (length journal.gates) start refl (omega arith)
+    ∙ ap (λ (k : ℕ). get_or (x ∷ []) k start) {y = 0} (omega arith)
 
 -- a batch draws no more numbers than it has bytes
 abbrev pub DrawsFew : Type 0
@@ -115,6 +117,7 @@ serving_grown few journal r (f ∷ d) is (inr within) =
         end_of-with_entry journal size,
       );
       short = omega (arith, within.room, end_of-with_entry journal size);
+      placed = omega (arith, is.placed, end_of-with_entry journal size);
     }
 
 serving_so : DrawsFew → (journal : JournalState) (r d : List Fact) (ok failed : Bool) → IsServing journal r
@@ -122,7 +125,8 @@ serving_so : DrawsFew → (journal : JournalState) (r d : List Fact) (ok failed 
     → IsServing (stored_after (stored journal r) d ok failed).journal
     (stored_after (stored journal r) d ok failed).records
 serving_so few journal r d true failed is room = serving_grown few journal r d is room
-serving_so few journal r d false true is room = record { begins = is.begins; drawn = is.drawn; short = is.short }
+serving_so few journal r d false true is room =
+    record { begins = is.begins; drawn = is.drawn; short = is.short; placed = is.placed }
 serving_so few journal r d false false is room = is
 
 -- after a call the node serves still
@@ -170,7 +174,7 @@ pub still_changes : (first now : Told) (old new : Stored) (d : List Fact) → no
 still_changes first now old new d past fuse faults = record {
   holds = λ batches h e. absurd cc;
   moments = λ batches h.
-      subst (λ (l : List Call). OnlyLeaves first.past l (IsLeftBy batches d)) (sym past)
+      subst (λ (l : List Call). OnlyLeaves first.past l (IsLeftBy old.journal.bank batches d)) (sym past)
       (no_moments first.past old batches d h);
   untouched = λ e g. ap (λ (l : List Call). told l now.fuse now.faults) past
       ∙ ap (λ (o : Option ℕ). told first.past o now.faults) fuse
@@ -183,13 +187,14 @@ still_changes first now old new d past fuse faults = record {
 pub broken_changes : (first now : Told) (old new : Stored) (d : List Fact) (entry : List ℕ) → d ≢ []
     → entry ≡ batch_text d
     → ((entries : List (List ℕ)) → Fits entries first.past old.journal
-    → OnlyLeaves first.past now.past (StandsForEither entries entry))
+    → OnlyLeaves first.past now.past (StandsForEither old.journal.bank entries entry))
     → Burns 4 first.fuse now.fuse false → crashes_of now.past ≡ crashes_of first.past
     → Changes first now old new d false true
 broken_changes first now old new d entry some text moments burns crashes = record {
   holds = λ batches h e. absurd cc;
-  moments = λ batches h. moments_of first.past now.past batches d some
-      (subst (λ (x : List ℕ). OnlyLeaves first.past now.past (StandsForEither (entries_of batches) x)) text
+  moments = λ batches h. moments_of first.past now.past old.journal.bank batches d some
+      (subst (λ (x : List ℕ). OnlyLeaves first.past now.past (StandsForEither old.journal.bank (entries_of batches) x))
+      text
       (moments (entries_of batches) h.journal));
   untouched = λ e g. absurd cc;
   fuse = λ h. burns-some d first.fuse now.fuse false some burns;
@@ -200,7 +205,7 @@ broken_changes first now old new d entry some text moments burns crashes = recor
 pub grown_changes : (first now : Told) (old : Stored) (journal : JournalState) (records d : List Fact)
     (entry : List ℕ) → d ≢ [] → entry ≡ batch_text d
     → ((entries : List (List ℕ)) → Fits entries first.past old.journal
-    → OnlyLeaves first.past now.past (StandsForEither entries entry))
+    → OnlyLeaves first.past now.past (StandsForEither old.journal.bank entries entry))
     → ((entries : List (List ℕ)) → Fits entries first.past old.journal → Fits (entries ++ entry ∷ []) now.past journal)
     → records ≡ old.records ++ d → Burns 4 first.fuse now.fuse true → crashes_of now.past ≡ crashes_of first.past
     → Changes first now old (stored journal records) d true false
@@ -209,8 +214,9 @@ grown_changes first now old journal records d entry some text moments fits are b
       (subst (λ (x : List ℕ). Fits (entries_of batches ++ x ∷ []) now.past journal) text
       (fits (entries_of batches) h.journal))
       are;
-  moments = λ batches h. moments_of first.past now.past batches d some
-      (subst (λ (x : List ℕ). OnlyLeaves first.past now.past (StandsForEither (entries_of batches) x)) text
+  moments = λ batches h. moments_of first.past now.past old.journal.bank batches d some
+      (subst (λ (x : List ℕ). OnlyLeaves first.past now.past (StandsForEither old.journal.bank (entries_of batches) x))
+      text
       (moments (entries_of batches) h.journal));
   untouched = λ e g. absurd cc;
   fuse = λ h. burns-some d first.fuse now.fuse true some burns;
@@ -231,6 +237,7 @@ made_serves size journal records number address text e =
       begins = tt;
       drawn = omega arith;
       short = omega (arith, end_of-with_entry (journal_of []) len, text.within, long);
+      placed = omega (arith, end_of-with_entry (journal_of []) len);
     } in
     subst (λ (s : Stored). IsServing s.journal s.records) (sym e) first
 

@@ -11,14 +11,14 @@ use Rattle.record_batch.specs.Fact.{Fact, Made, Creating, Created, Granted, Acce
 use Rattle.record_batch.specs.Fact.{ClosedOut, Closed, Ending, EndedOut, Ended, Failed}
 use Rattle.record_batch.specs.Writable.{IsBatch, IsWritable}
 use Rattle.rm_disk.specs.Call.{Call}
-use Rattle.rm_journal.specs.Entries.{block}
-use Rattle.rm_journal.specs.EntryLemmas.{end_is, length-block, length-prefix_of, stands_for_one}
+use Rattle.rm_journal.specs.Entries.{Bank, block}
+use Rattle.rm_journal.specs.EntryLemmas.{end_is, length-block, stands_for_one}
 use Rattle.rm_journal.specs.JournalState.{end_of}
 use Rattle.rm_protocol.specs.Node.{records_in, end_of as end_of_batches}
 use Rattle.rm_protocol.specs.Terms.{Terms}
 use Rattle.node_laws.specs.OwnTerms.{AreOwn}
 use Rattle.node_laws.specs.Records.{AreValues, HasValues, IsKept, KeepsLimits}
-use Rattle.node_store.specs.Has.{AreOfNode, entries_of, Has, Holds, StandsForBatches}
+use Rattle.node_store.specs.Has.{AreOfNode, entries_of, Has, Holds, StandsForBatches, StandsForBatchesAt}
 use Rattle.node_store.specs.Stored.{Stored, with_batch}
 
 -- what is written of a batch is read again
@@ -45,7 +45,13 @@ same_batches reads (x ∷ a) (y ∷ b) are_a are_b e =
 pub one_list : ReadsBack → (a b : List (List Fact)) (bytes : List ℕ) → AllByRecursion IsBatch a
     → AllByRecursion IsBatch b → StandsForBatches a bytes → StandsForBatches b bytes → a ≡ b
 one_list reads a b bytes are_a are_b for_a for_b =
-    same_batches reads a b are_a are_b (stands_for_one (entries_of a) (entries_of b) bytes for_a for_b)
+    same_batches reads a b are_a are_b
+    (stands_for_one for_a.bank for_b.bank (entries_of a) (entries_of b) bytes for_a.stands for_b.stands).1
+
+-- in one bank
+pub one_bank : (x y : Bank) (a b : List (List Fact)) (bytes : List ℕ) → StandsForBatchesAt x a bytes
+    → StandsForBatchesAt y b bytes → x ≡ y
+one_bank x y a b bytes for_a for_b = (stands_for_one x y (entries_of a) (entries_of b) bytes for_a for_b).0
 
 -- one batch more is one entry more
 pub entries_of-push : (batches : List (List Fact)) (delta : List Fact)
@@ -59,23 +65,23 @@ records_in-push batches delta =
     flat_map-append (λ (batch : List Fact). batch) batches (delta ∷ [])
     ∙ ap (λ (l : List Fact). records_in batches ++ l) (append-nil delta)
 
-length-blocks : (terms : Terms) → AreOwn terms → (batches : List (List Fact))
-    → end_of_batches terms batches ≡ 8 + length (flat_map block (entries_of batches))
-length-blocks terms own [] = refl
-length-blocks terms own (batch ∷ batches) =
+pub length-blocks : (terms : Terms) → AreOwn terms → (start : ℕ) (batches : List (List Fact))
+    → end_of_batches terms start batches ≡ start + length (flat_map block (entries_of batches))
+length-blocks terms own start [] = omega arith
+length-blocks terms own start (batch ∷ batches) =
     omega (
       arith,
       own.size batch,
-      length-blocks terms own batches,
+      length-blocks terms own start batches,
       length-append (block (batch_text batch)) (flat_map block (entries_of batches)),
       length-block (batch_text batch),
     )
 
 -- the journal ends where its batches do
 pub end_of-batches : (terms : Terms) → AreOwn terms → (batches : List (List Fact)) (past : List Call) (stored : Stored)
-    → Holds batches past stored → end_of_batches terms batches ≡ end_of stored.journal
+    → Holds batches past stored → end_of_batches terms stored.journal.bank.start batches ≡ end_of stored.journal
 end_of-batches terms own batches past stored holds =
-    length-blocks terms own batches ∙ sym (length-prefix_of (entries_of batches))
+    length-blocks terms own stored.journal.bank.start batches
     ∙ sym (end_is stored.journal (entries_of batches) holds.journal.gates)
 
 values_of : (f : Fact) → IsWritable f → HasValues f
@@ -130,7 +136,7 @@ kept_places (EndedOut seq) h = tt
 kept_places (Ended seq v last) h = tt
 kept_places (Failed seq fault) h = tt
 
-all_places : (r delta : List Fact) → AllByRecursion KeepsLimits (r ++ delta) → AllByRecursion AreKept delta
+pub all_places : (r delta : List Fact) → AllByRecursion KeepsLimits (r ++ delta) → AllByRecursion AreKept delta
 all_places [] [] h = tt
 all_places [] (f ∷ delta) h = (kept_places f h.0, all_places [] delta h.1)
 all_places (f ∷ r) delta h = all_places r delta h.1

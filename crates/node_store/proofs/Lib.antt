@@ -1,7 +1,9 @@
 pub mod CommitLemmas
 pub mod EndpointLemmas
+pub mod FreshLemmas
 pub mod HasLemmas
 pub mod LimitLemmas
 pub mod MountLemmas
 pub mod ReplayLemmas
+pub mod RewriteLemmas
 pub mod WindowLemmas

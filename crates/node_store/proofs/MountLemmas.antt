@@ -6,8 +6,8 @@ use Rattle.record_batch.specs.Batch.{batch_text}
 use Rattle.record_batch.specs.Fact.{Fact}
 use Rattle.record_batch.specs.Writable.{IsBatch}
 use Rattle.rm_disk.specs.Call.{Call, seen_of}
-use Rattle.rm_journal.specs.Entries.{block, StandsFor}
-use Rattle.rm_journal.specs.EntryLemmas.{end_is, length-block, length-prefix_of, stands_for_one}
+use Rattle.rm_journal.specs.Entries.{Bank, block, StandsAt}
+use Rattle.rm_journal.specs.EntryLemmas.{end_is, length-block, stands_for_one}
 use Rattle.rm_journal.specs.Journal.{Fits}
 use Rattle.rm_journal.specs.JournalState.{JournalState, end_of}
 use Rattle.rm_protocol.specs.Node.{records_in}
@@ -44,7 +44,7 @@ kept_of values journal r from serving windows =
 
 -- the batches that were read are those of a node
 pub found : HaveValues → (old now : List Call) (entries : List (List ℕ)) (journal : JournalState) (r : List Fact)
-    → StandsFor entries (seen_of old) → Fits entries now journal → Replays entries r → IsServing journal r
+    → StandsAt journal.bank entries (seen_of old) → Fits entries now journal → Replays entries r → IsServing journal r
     → KeepsWindows r → Finds old now (stored journal r)
 found values old now entries journal r stands fits replays serving windows =
     let bs = replays.batches in
@@ -55,7 +55,7 @@ found values old now entries journal r stands fits replays serving windows =
     } in
     record {
       batches = bs;
-      were = subst (λ (es : List (List ℕ)). StandsFor es (seen_of old)) are stands;
+      were = subst (λ (es : List (List ℕ)). StandsAt journal.bank es (seen_of old)) are stands;
       has = record {
         holds = holds;
         are = record {
@@ -69,10 +69,10 @@ found values old now entries journal r stands fits replays serving windows =
 -- ---- the batches of a node
 
 -- they are replayed
-pub replayed_of : (batches : List (List Fact)) (entries : List (List ℕ)) (bytes : List ℕ) → AreOfNode batches
-    → StandsForBatches batches bytes → StandsFor entries bytes → AreReplayed batches entries
-replayed_of batches entries bytes node stands read = record {
-  are = stands_for_one entries (entries_of batches) bytes read stands;
+pub replayed_of : (bank : Bank) (batches : List (List Fact)) (entries : List (List ℕ)) (bytes : List ℕ)
+    → AreOfNode batches → StandsForBatches batches bytes → StandsAt bank entries bytes → AreReplayed batches entries
+replayed_of bank batches entries bytes node stands read = record {
+  are = (stands_for_one bank stands.bank entries (entries_of batches) bytes read stands.stands).1;
   each = node.each;
   fit = node.kept.node.fit;
   kept = node.kept.node.each;
@@ -86,7 +86,7 @@ same_records reads batches entries r are replays =
     ∙ ap records_in (same_batches reads replays.batches batches replays.replayed.each are.each
     (sym replays.replayed.are ∙ are.are))
 
-draws_few : DrawsFew → (batches : List (List Fact))
+pub draws_few : DrawsFew → (batches : List (List Fact))
     → counter (records_in batches) ≤ length (flat_map block (entries_of batches))
 draws_few few [] = omega arith
 draws_few few (b ∷ batches) =
@@ -106,11 +106,11 @@ pub serving_of : DrawsFew → (batches : List (List Fact)) (entries : List (List
 serving_of few batches entries past journal r node are fits records short =
     let gates = subst (λ (es : List (List ℕ)). Fits es past journal) are.are fits in
     let end = end_is journal (entries_of batches) gates.gates in
-    let size = length-prefix_of (entries_of batches) in
     subst (IsServing journal) (sym records) (record {
       begins = node.kept.node.begins;
-      drawn = omega (arith, draws_few few batches, end, size);
+      drawn = omega (arith, draws_few few batches, end);
       short = short;
+      placed = omega (arith, end);
     })
 
 -- they keep their windows

@@ -5,7 +5,7 @@ use Rattle.record_batch.specs.Batch.{batch_text}
 use Rattle.record_batch.specs.Fact.{Fact}
 use Rattle.record_batch.specs.Writable.{IsBatch}
 use Rattle.rm_disk.specs.Call.{Call}
-use Rattle.rm_journal.specs.Entries.{StandsFor}
+use Rattle.rm_journal.specs.Entries.{Bank, StandsAt, StandsFor}
 use Rattle.rm_journal.specs.Journal.{Fits}
 use Rattle.rm_protocol.specs.Node.{records_in}
 use Rattle.node_laws.specs.Records.{IsKept}
@@ -19,9 +19,14 @@ entries_of batches = map batch_text batches
 abbrev pub StandsForBatches : List (List Fact) → List ℕ → Type 0
 StandsForBatches batches bytes = StandsFor (entries_of batches) bytes
 
--- for these, or for these with one more
-abbrev pub IsLeftBy : List (List Fact) → List Fact → List ℕ → Type 0
-IsLeftBy batches delta bytes = StandsForBatches batches bytes ⊎ StandsForBatches (with_batch batches delta) bytes
+-- they do so in this bank
+abbrev pub StandsForBatchesAt : Bank → List (List Fact) → List ℕ → Type 0
+StandsForBatchesAt bank batches bytes = StandsAt bank (entries_of batches) bytes
+
+-- in this bank for these, or for these with one more
+abbrev pub IsLeftBy : Bank → List (List Fact) → List Fact → List ℕ → Type 0
+IsLeftBy bank batches delta bytes =
+    StandsForBatchesAt bank batches bytes ⊎ StandsForBatchesAt bank (with_batch batches delta) bytes
 
 -- the disk, as it reads and after any crash now, has these batches, and the tables hold their records
 pub record Holds (batches : List (List Fact)) (past : List Call) (stored : Stored) : Type 0 where

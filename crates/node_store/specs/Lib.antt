@@ -3,4 +3,5 @@ pub mod Endpoints
 pub mod Has
 pub mod Failed
 pub mod Mounted
+pub mod Rewrites
 pub mod Stored

@@ -17,7 +17,7 @@ use Rattle.sequence_table.specs.Sources.{all_unacked, unacked}
 use Rattle.node_laws.specs.Records.{KeepsLimits}
 use Rattle.node_store.specs.declared.error.MountError.{MountError}
 use Rattle.node_store.specs.declared.error.MountError.TheVariants as Variant
-use Rattle.node_store.specs.Has.{AreOfNode, entries_of, Has, StandsForBatches}
+use Rattle.node_store.specs.Has.{AreOfNode, entries_of, Has, StandsForBatches, StandsForBatchesAt}
 use Rattle.node_store.specs.Stored.{Stored}
 
 -- the disk failed
@@ -25,13 +25,14 @@ abbrev pub has_failed : {T : Type 0} → Result T MountError → Bool
 has_failed (Err Variant.Disk) = true
 has_failed _ = false
 
--- the batches of a node: the disk had them as it read, and the disk and the tables have them now
+-- the batches of a node: the disk had them as it read, in the bank of the journal that was found, and the disk and the
+-- tables have them now
 pub record Finds (old new : List Call) (store : Stored) : Type 0 where
   pub batches : List (List Fact)
-  pub were : StandsForBatches batches (seen_of old)
+  pub were : StandsForBatchesAt store.journal.bank batches (seen_of old)
   pub has : Has batches new store
 
--- bytes stand for no batches of a node
+-- bytes stand for no batches of a node, in either bank
 abbrev pub IsNoNode : List ℕ → Type 0
 IsNoNode bytes = (batches : List (List Fact)) → AreOfNode batches → StandsForBatches batches bytes → ⊥
 

@@ -43,8 +43,9 @@ first_stored number address =
     grown (stored (journal_of []) []) (Made number address ∷ [])
 
 -- what a node keeps of its journal and its records, whatever the disk tells: the first record is Made, no more numbers
--- were drawn than bytes were written, and the journal is so short that memory can hold it
+-- were drawn than bytes were written, the journal is so short that memory can hold it, and it ends behind its start
 pub record IsServing (journal : JournalState) (records : List Fact) : Type 0 where
   pub begins : BeginsWithMade records
   pub drawn : counter records ≤ end_of journal
   pub short : end_of journal < 2 ^ 61
+  pub placed : journal.bank.start ≤ end_of journal

@@ -2,6 +2,7 @@
 ghost use Rattle.std.specs.Prelude.{◌≡◌};
 ghost use Rattle.node_store.specs.declared.error.StoreError.TheVariants.{Memory as WantsMemory};
 ghost use Rattle.node_store.specs.declared.error.MountError.TheVariants.{Memory as NoMemory};
+ghost use Rattle.node_store.specs.declared.error.RewriteError.TheVariants.{Memory as LacksMemory};
 
 use rm_base::Memory;
 use std::alloc::{AllocError, AllocFailed};
@@ -56,5 +57,25 @@ impl From<Memory> for MountError {
 
     fn from(_memory: Memory) -> MountError {
         MountError::Memory
+    }
+}
+
+/// Why a node's journal was not written anew.
+#[derive(Clone, Copy, Debug, PartialEq, Eq, Error)]
+pub enum RewriteError {
+    #[error("out of memory")]
+    Memory,
+    #[error("the disk failed")]
+    Disk,
+    /// An entry would be longer than one may be, or the journal: it ends here, and this is how many bytes are wanted.
+    #[error("no room for a journal of {needed} bytes more, which ends at {end}")]
+    Full { end: u64, needed: u64 },
+}
+
+impl From<Memory> for RewriteError {
+    ghost from_gives = { λ _ e. e ≡ LacksMemory };
+
+    fn from(_memory: Memory) -> RewriteError {
+        RewriteError::Memory
     }
 }

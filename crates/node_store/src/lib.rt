@@ -11,8 +11,9 @@ pub mod laws;
 mod limits;
 mod mount;
 mod replay;
+mod rewrite;
 pub mod store;
 mod windows;
 
-pub use error::{MountError, StoreError};
+pub use error::{MountError, RewriteError, StoreError};
 pub use store::Store;

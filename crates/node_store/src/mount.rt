@@ -1,10 +1,11 @@
 //! The node that a disk holds.
-ghost use Rattle.std.specs.Prelude.{◌≡◌, ◌⊎◌, ℕ, List, false, Err, IfErr, IfOk, IsTrue};
+ghost use Rattle.std.specs.Prelude.{◌≡◌, ◌⊎◌, ◌≤◌, ℕ, List, false, Err, IfErr, IfOk, IsTrue};
 ghost use Rattle.rm_disk.specs.Call.{crashes_of, seen_of};
 ghost use Rattle.rm_disk.specs.Cause.{HasCause};
 ghost use Rattle.rm_disk.specs.Image.{MayLeave, OnlyLeaves};
-ghost use Rattle.rm_journal.specs.Entries.{StandsFor};
+ghost use Rattle.rm_journal.specs.Entries.{StandsAt, StandsFor};
 ghost use Rattle.rm_journal.specs.Journal.{Fits};
+ghost use Rattle.rm_journal.specs.JournalState.{end_of};
 ghost use Rattle.node_laws.specs.Records.{IsKept};
 ghost use Rattle.node_store.specs.Changes.{KeepsUnarmed};
 ghost use Rattle.node_store.specs.Mounted.{Finds, has_failed, IsNoNode};
@@ -59,10 +60,12 @@ pub(crate) fn find<D: Disk>(alloc: Global, disk: &mut D) -> Result<(Journal, Tab
 /// The journal on a disk.
 fn open<D: Disk>(alloc: Global, disk: &mut D) -> Result<Journal, MountError>
     ensures fits { IsTrue D.tells → IfOk result (λ journal. (entries : List (List ℕ))
-        × StandsFor entries (seen_of (D.told disk.old).past) × Fits entries (D.told disk.new).past journal) }
+        × StandsAt journal.bank entries (seen_of (D.told disk.old).past)
+        × Fits entries (D.told disk.new).past journal) }
     ensures none { IsTrue D.tells → result ≡ Err IsNoJournal →
         (entries : List (List ℕ)) → ¬ (StandsFor entries (seen_of (D.told disk.old).past)) }
     ensures up { IfOk result (λ journal. journal.is_down ≡ false) }
+    ensures placed { IfOk result (λ journal. journal.bank.start ≤ end_of journal) }
     ensures refusals { IfErr result (λ error. (error ≡ NoMemory) ⊎ (error ≡ DiskBroke) ⊎ (error ≡ IsNoJournal)) }
     ensures seen { IsTrue D.tells → seen_of (D.told disk.new).past ≡ seen_of (D.told disk.old).past }
     ensures moments { IsTrue D.tells →

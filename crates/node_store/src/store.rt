@@ -13,15 +13,17 @@ ghost use Rattle.node_store.specs.Changes.{Changes, KeepsUnarmed, WasNotMade};
 ghost use Rattle.node_store.specs.Has.{Has, Holds};
 ghost use Rattle.node_store.specs.Failed.{is_disk};
 ghost use Rattle.node_store.specs.Mounted.{Finds, has_failed, IsNoNode};
+ghost use Rattle.node_store.specs.Rewrites.{Answers, Rewrites, disk_failed, rewrite_refusal, rewritten};
 ghost use Rattle.node_store.specs.Stored.{IsServing, first_stored, stored_after};
 ghost use Rattle.node_store.specs.declared.error.StoreError.TheVariants.{Memory as WantsMemory, Disk as DiskFails};
 ghost use Rattle.node_store.specs.declared.error.MountError.TheVariants.{Memory as NoMemory, Disk as DiskBroke};
 ghost use Rattle.node_store.specs.declared.error.MountError.TheVariants.{NotAJournal as IsNoJournal};
 
 use crate::commit::{commit, first_batch};
-use crate::error::{MountError, StoreError};
+use crate::error::{MountError, RewriteError, StoreError};
 use crate::format::format;
 use crate::mount::find;
+use crate::rewrite::rewrite;
 use batch_size::laws::a_batch_is_its_parts;
 use node_laws::laws::a_made_node_has_its_records;
 use node_tables::Tables;
@@ -176,5 +178,22 @@ impl Store {
             return Ok(());
         }
         commit(self.alloc, &mut self.journal, &mut self.tables, disk, batch)
+    }
+
+    /// Writes the journal anew, so that it has what its records say in short: each record of their snapshot is an entry
+    /// of its own. It makes five device calls. All memory is taken before the first of them; while the call runs, what
+    /// the records carry stands in memory three times. After Disk one of the two journals is on the disk, and the
+    /// node is down: mount it again.
+    pub fn compact<D: Disk>(&mut self, disk: &mut D) -> Result<(), RewriteError>
+        requires up { self.old.journal.is_down ≡ false }
+        requires holds { IsTrue D.tells → (batches : List (List Fact)) × Holds batches (D.told disk.old).past self.old }
+        ensures stored { self.new ≡ rewritten self.old (is_ok result) (disk_failed result) }
+        ensures rewrites { IsTrue D.tells → Rewrites (D.told disk.old)
+            (D.told disk.new) self.old self.new (is_ok result) (disk_failed result) }
+        ensures refusals { Answers (rewrite_refusal self.old) result }
+        ensures cause { HasCause (D.told disk.old).faults (D.told disk.new).faults (disk_failed result) }
+    {
+        a_byte_for_each_number();
+        rewrite(self.alloc, &mut self.journal, &mut self.tables, disk)
     }
 }

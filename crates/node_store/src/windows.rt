@@ -23,7 +23,8 @@ pub(crate) const TOO_MANY_BYTES: u64 = 1 << 61;
 /// Whether a node may go on from a journal and the records of its entries. A node draws fewer numbers than its journal
 /// has bytes; only a disk that tells nothing can give entries with more.
 pub(crate) fn may_serve(journal: &Journal, tables: &Tables) -> bool
-    requires { end_of journal.now < 2 ^ 61 }
+    requires short { end_of journal.now < 2 ^ 61 }
+    requires placed { journal.now.bank.start ≤ end_of journal.now }
     ensures { IsTrue result ↔ IsServing journal.now tables.now.records }
 {
     if !begins_with_made(tables) {

@@ -1,7 +1,8 @@
 //! The same messages again.
 ghost use Rattle.std.specs.Prelude.{◌≡◌, IfOk};
 
-use rm_base::{Binding, Bindings, Memory, Payload, copy_optional_uri};
+use record_batch::copy_payload;
+use rm_base::{Memory, copy_optional_uri};
 use rm_elements::{
     CreateResponse, CreateSequence, Finish, Lifecycle, MakeConnection, Offer, SeqHeader, copy_block,
 };
@@ -62,18 +63,6 @@ fn copy_names(alloc: Global, names: &Names) -> Result<Names, Memory>
     let mut copy = Names::new(alloc);
     for name in names.as_slice() {
         copy.push(name.share()?)?;
-    }
-    Ok(copy)
-}
-
-fn copy_scope(alloc: Global, scope: &Bindings) -> Result<Bindings, Memory>
-    ensures { IfOk result (λ copy. copy ≡ scope.now) }
-{
-    let mut copy = Bindings::new(alloc);
-    for binding in scope.as_slice() {
-        let prefix = binding.prefix.copy()?;
-        let space = binding.space.copy()?;
-        copy.push(Binding { prefix, space })?;
     }
     Ok(copy)
 }
@@ -153,10 +142,7 @@ fn copy_body(alloc: Global, body: &Body) -> Result<Body, Memory>
 {
     match body {
         Body::Empty => Ok(Body::Empty),
-        Body::Payload(payload) => Ok(Body::Payload(Payload {
-            bytes: payload.bytes.copy()?,
-            scope: copy_scope(alloc, &payload.scope)?,
-        })),
+        Body::Payload(payload) => Ok(Body::Payload(copy_payload(alloc, payload)?)),
         Body::Lifecycle(content) => Ok(Body::Lifecycle(copy_lifecycle(alloc, content)?)),
         Body::Fault(fault) => Ok(Body::Fault(copy_fault(alloc, fault)?)),
     }

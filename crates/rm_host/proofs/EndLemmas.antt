@@ -13,7 +13,7 @@ use Rattle.rm_node.specs.declared.call.Call.TheVariants as call
 use Rattle.rm_node.specs.declared.error.NodeError.{NodeError}
 use Rattle.rm_node.specs.declared.error.NodeError.TheVariants as node
 use Rattle.rm_host.specs.Ends.{Faults, HasReason, Reason, is_disk_end, is_disk_fault, is_link_end, is_link_fault}
-use Rattle.rm_host.specs.Ends.{is_outer, mount_end, node_end}
+use Rattle.rm_host.specs.Ends.{is_outer, is_refused, mount_end, node_end}
 use Rattle.rm_host.specs.declared.end.End.{End}
 use Rattle.rm_host.specs.declared.end.End.TheVariants.{Memory}
 
@@ -116,6 +116,11 @@ pub mount-fails : (f g : Faults) (e : MountError) → HasCause f.disk g.disk (ha
 mount-fails f g mount.Memory cause = record { disk = cause; link = λ h. absurd cc; later = λ h. absurd cc }
 mount-fails f g mount.Disk cause = record { disk = cause; link = λ h. absurd cc; later = λ h. absurd cc }
 mount-fails f g mount.NotAJournal cause = record { disk = cause; link = λ h. absurd cc; later = λ h. absurd cc }
+
+-- it is no refusal
+pub mount-unrefused : (e : MountError) → is_refused {T = Unit {0}} (Err (mount_end e)) ≡ false
+mount-unrefused mount.Memory = refl
+mount-unrefused e = refl
 
 pub mount-inner : (e : MountError) → is_outer {T = Unit {0}} (Err (mount_end e)) ≡ false
 mount-inner mount.Memory = refl

@@ -1,3 +1,4 @@
+mod CompactionLemmas
 mod EndLemmas
 mod PostLemmas
 mod RunLemmas

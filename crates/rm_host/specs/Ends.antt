@@ -62,6 +62,11 @@ is_outer_end TooLong = true
 is_outer_end BadAddress = true
 is_outer_end _ = false
 
+-- by a refusal of the node
+abbrev pub is_refusal : End → Bool
+is_refusal (Refused cause) = true
+is_refusal _ = false
+
 -- the disk is to blame
 abbrev pub is_disk_fault : {T : Type 0} → Result T End → Bool
 is_disk_fault (Ok x) = false
@@ -76,6 +81,11 @@ is_link_fault (Err e) = is_link_end e
 abbrev pub is_outer : {T : Type 0} → Result T End → Bool
 is_outer (Ok x) = false
 is_outer (Err e) = is_outer_end e
+
+-- the node refused it
+abbrev pub is_refused : {T : Type 0} → Result T End → Bool
+is_refused (Ok x) = false
+is_refused (Err e) = is_refusal e
 
 -- how often calls of a host's disk have failed, and calls of its link
 pub record Faults : Type 0 where

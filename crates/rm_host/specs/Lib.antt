@@ -1,3 +1,4 @@
+pub mod Compaction
 pub mod Ends
 pub mod Runs
 pub mod Sequences

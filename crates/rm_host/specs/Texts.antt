@@ -70,3 +70,7 @@ sent_line seq number acked = codes "accepted " ++ decimal seq ++ codes " " ++ de
 abbrev pub item_line : ℕ → ℕ → List ℕ → List ℕ
 item_line seq number payload =
     codes "item " ++ decimal seq ++ codes " " ++ decimal number ++ codes " " ++ encode_lower payload ++ codes "\n"
+
+-- what compact prints: how many entries the journal had, and how many it has
+abbrev pub compacted_line : ℕ → ℕ → List ℕ
+compacted_line before after = codes "compacted " ++ decimal before ++ codes " " ++ decimal after ++ codes "\n"

@@ -11,7 +11,7 @@ use Rattle.rm_script.specs.Script.{IsNumber}
 use Rattle.rm_host.specs.declared.end.End.{End}
 use Rattle.rm_host.specs.declared.end.End.TheVariants as end
 use Rattle.rm_host.specs.declared.words.Command.{Command}
-use Rattle.rm_host.specs.declared.words.Command.TheVariants.{Make, Serve, Send, Push, Close, Finish, Inbox}
+use Rattle.rm_host.specs.declared.words.Command.TheVariants.{Make, Serve, Send, Push, Close, Finish, Inbox, Compact}
 use Rattle.rm_host.specs.declared.words.Grant.{Grant}
 use Rattle.rm_host.specs.declared.words.Grant.TheVariants.{DropsFollowing, DropsEntire}
 
@@ -20,7 +20,7 @@ abbrev pub is_node_name : List ℕ → Bool
 is_node_name name =
     bytes_eq name (codes "make") || (bytes_eq name (codes "serve") || (bytes_eq name (codes "send")
     || (bytes_eq name (codes "push") || (bytes_eq name (codes "close") || (bytes_eq name (codes "end")
-    || bytes_eq name (codes "inbox"))))))
+    || (bytes_eq name (codes "inbox") || bytes_eq name (codes "compact")))))))
 
 -- the first word is one
 abbrev pub is_of_node : List (List ℕ) → Bool
@@ -55,6 +55,7 @@ name_of Push = codes "push"
 name_of (Close seq) = codes "close"
 name_of (Finish seq) = codes "end"
 name_of (Inbox seq) = codes "inbox"
+name_of Compact = codes "compact"
 
 -- the words behind it
 abbrev pub Takes : Command → List (List ℕ) → Type 0
@@ -67,6 +68,7 @@ Takes Push words = words ≡ []
 Takes (Close seq) words = IsSequence words seq
 Takes (Finish seq) words = IsSequence words seq
 Takes (Inbox seq) words = IsSequence words seq
+Takes Compact words = words ≡ []
 
 -- the words ask for a command
 abbrev pub Asks : List (List ℕ) → Command → Type 0

@@ -1,10 +1,13 @@
 //! What commands do with the node of a host. Each error is the end of a command.
-ghost use Rattle.std.specs.Prelude.{◌≡◌, ◌<◌, ◌^◌, true, false, None, IfOk, IfSome, OnOk};
+ghost use Rattle.std.specs.Prelude.{◌≡◌, ◌<◌, ◌^◌, true, false, None, IfOk, IfSome, OnOk, IsTrue};
+ghost use Rattle.node_store.specs.Mounted.{Finds};
 ghost use Rattle.rm_base.specs.Count.{Rose};
 ghost use Rattle.rm_node.specs.Asked.{MayBeAsked, is_connected};
+ghost use Rattle.rm_node.specs.Compacted.{Compacts};
 ghost use Rattle.sequence_table.specs.Fits.{is_in_order};
 ghost use Rattle.rm_serve.specs.Steps.{IsUp, place_of};
-ghost use Rattle.rm_host.specs.Ends.{HasReason, faults_of, is_outer};
+ghost use Rattle.rm_host.specs.Compaction.{call_end};
+ghost use Rattle.rm_host.specs.Ends.{HasReason, faults_of, is_outer, is_refused};
 
 use crate::end::End;
 use crate::host::Host;
@@ -38,7 +41,10 @@ pub(crate) fn mount<D: Disk, L: Link, C>(
     alloc: Global,
     host: &mut Host<D, L, C>,
 ) -> Result<Node, End>
+    ensures found { IsTrue D.tells → IfOk result (λ node.
+        Finds (D.told host.old.disk).past (D.told host.new.disk).past node.stored) }
     ensures up { IfOk result (λ node. IsUp D.tells (place_of (D.told host.new.disk) node)) }
+    ensures unrefused { is_refused result ≡ false }
     ensures reason { HasReason (faults_of D.told L.told host.old) (faults_of D.told L.told host.new) result }
     ensures inner { is_outer result ≡ false }
 {
@@ -77,6 +83,20 @@ pub(crate) fn create<D: Disk, L: Link, C>(
 {
     a_node_stays_up();
     Ok(node.create(&mut host.disk, wish(to))?)
+}
+
+/// Writes the journal of the node anew.
+pub(crate) fn compact_node<D: Disk, L: Link, C>(
+    host: &mut Host<D, L, C>,
+    node: &mut Node,
+) -> Result<(), End>
+    requires up { IsUp D.tells (place_of (D.told host.old.disk) node.old) }
+    ensures compacts { Compacts D.tells (D.told host.old.disk)
+        (D.told host.new.disk) node.old node.new (call_end result) }
+    ensures reason { HasReason (faults_of D.told L.told host.old) (faults_of D.told L.told host.new) result }
+    ensures inner { is_outer result ≡ false }
+{
+    Ok(node.compact(&mut host.disk)?)
 }
 
 // What is asked for then.

@@ -1,12 +1,13 @@
-//! The commands `make`, `push`, `close`, `end` and `inbox`.
+//! The commands `make`, `push`, `close`, `end`, `inbox` and `compact`.
 ghost use Rattle.std.specs.Prelude.{◌≡◌, ◌<◌, ◌^◌, ◌++◌, ◌⊎◌, Err, IfOk, OnOk, false};
 ghost use Rattle.rm_destination.specs.Incoming.{inbox as inbox_in};
 ghost use Rattle.rm_serve.specs.Steps.{IsUp, place_of};
+ghost use Rattle.rm_host.specs.Compaction.{Compaction};
 ghost use Rattle.rm_host.specs.Ends.{HasReason, faults_of, is_disk_fault, is_link_fault, is_outer};
 ghost use Rattle.rm_host.specs.Sequences.{inbox_answer, inbox_lines, item_lines};
-ghost use Rattle.rm_host.specs.Texts.{item_line, posted_line};
+ghost use Rattle.rm_host.specs.Texts.{compacted_line, item_line, posted_line};
 
-use crate::calls::{ask, make_node, mount, post_all};
+use crate::calls::{ask, compact_node, make_node, mount, post_all};
 use crate::end::End;
 use crate::host::Host;
 use call_answers::Cause;
@@ -183,4 +184,31 @@ fn push_item(text: &mut Blob, seq: u32, number: u64, bytes: &[u8]) -> Result<(),
     text.push_all(b" ")?;
     push_hex(text, bytes)?;
     text.push_all(b"\n")
+}
+
+/// The journal is written anew, and has what the node's records say in short.
+pub fn compact<D: Disk, L: Link, C: Clock>(
+    alloc: Global,
+    host: &mut Host<D, L, C>,
+) -> Result<Blob, End>
+    ensures compacts { Compaction D.tells (D.told host.old.disk) (D.told host.new.disk) result }
+    ensures reason { HasReason (faults_of D.told L.told host.old) (faults_of D.told L.told host.new) result }
+    ensures inner { is_outer result ≡ false }
+{
+    let mut node = mount(alloc, host)?;
+    let before = node.entries();
+    compact_node(host, &mut node)?;
+    let after = node.entries();
+    Ok(compacted_text(alloc, before, after)?)
+}
+
+fn compacted_text(alloc: Global, before: u64, after: u64) -> Result<Blob, Memory>
+    ensures { IfOk result (λ text. text ≡ compacted_line before after) }
+{
+    let mut text = Blob::from_slice(alloc, b"compacted ")?;
+    push_decimal(&mut text, before)?;
+    text.push_all(b" ")?;
+    push_decimal(&mut text, after)?;
+    text.push_all(b"\n")?;
+    Ok(text)
 }

@@ -4,7 +4,7 @@ ghost use Rattle.rm_host.specs.Ends.{HasReason, faults_of};
 ghost use Rattle.rm_host.specs.Runs.{IsStatusOf, Obeys, PrintsAt, Uses, outside_of};
 ghost use Rattle.rm_host.specs.Words.{IsWithin};
 
-use crate::commands::{close, end, inbox, make, push};
+use crate::commands::{close, compact, end, inbox, make, push};
 use crate::end::End;
 use crate::host::Host;
 use crate::send::send;
@@ -87,6 +87,7 @@ fn perform<S: Source, D: Disk, L: Link, C: Clock>(
         Command::Close { seq } => close(alloc, host, seq),
         Command::Finish { seq } => end(alloc, host, seq),
         Command::Inbox { seq } => inbox(alloc, host, seq),
+        Command::Compact => compact(alloc, host),
     }
 }
 

@@ -69,6 +69,7 @@ pub enum Command {
     Close { seq: u32 },
     Finish { seq: u32 },
     Inbox { seq: u32 },
+    Compact,
 }
 
 /// Whether the words are those of a node's command, by the first of them.
@@ -91,6 +92,7 @@ fn is_node_name(name: &[u8]) -> bool
         || name == b"close".as_slice()
         || name == b"end".as_slice()
         || name == b"inbox".as_slice()
+        || name == b"compact".as_slice()
 }
 
 /// The command that the words ask for.
@@ -127,6 +129,9 @@ fn named(alloc: Global, name: &[u8], words: &[Blob]) -> Result<Command, End>
     }
     if name == b"inbox".as_slice() {
         return inbox_of(words);
+    }
+    if name == b"compact".as_slice() {
+        return compact_of(words);
     }
     Err(End::Usage)
 }
@@ -213,6 +218,15 @@ fn inbox_of(words: &[Blob]) -> Result<Command, End>
     match sequence_of(words) {
         Some(seq) => Ok(Command::Inbox { seq }),
         None => Err(End::Usage),
+    }
+}
+
+fn compact_of(words: &[Blob]) -> Result<Command, End>
+    ensures { Reads (codes "compact" ∷ words.now) result }
+{
+    match words {
+        [] => Ok(Command::Compact),
+        _ => Err(End::Usage),
     }
 }
 

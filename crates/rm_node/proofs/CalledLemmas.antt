@@ -43,7 +43,7 @@ noded s k = record { stored = s; kept = told k }
 still_changes : (first : Told) (s : Stored) (delta : List Fact) → Changes first first s s delta false false
 still_changes first s delta = record {
   holds = λ batches h e. absurd cc;
-  moments = λ batches h. only_from first.past (IsLeftBy batches delta) (λ bytes may.
+  moments = λ batches h. only_from first.past (IsLeftBy s.journal.bank batches delta) (λ bytes may.
       inl (h.journal.images bytes may));
   untouched = λ e f. refl;
   fuse = λ h. elim h [ inl e ↦ absurd cc | inr e ↦ absurd cc ];

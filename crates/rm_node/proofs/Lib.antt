@@ -1,6 +1,7 @@
 pub mod BegunLemmas
 pub mod CalledLemmas
 pub mod ComesLemmas
+pub mod CompactLemmas
 pub mod FetchLemmas
 pub mod PacketLemmas
 pub mod ReadLemmas

@@ -2,6 +2,7 @@ pub mod Asked
 pub mod Came
 pub mod CameLemmas
 pub mod Called
+pub mod Compacted
 pub mod Ends
 pub mod Failed
 pub mod Fetching

@@ -365,7 +365,7 @@ nack-says r (Some to) q (n ∷ ns) = chosen (is_anonymous to.address)
     chosen : (x : Bool) → AllByRecursion (Says r) (cond x [] (ack_message to (block ∷ []) ∷ []))
     chosen true = tt
     chosen false =
-        (record { data_ = tt; acks = (λ i h. absurd (cc), tt); create = tt; response = tt; final = tt }, tt)
+        (record { data_ = tt; acks = ((λ i h. absurd (cc), tt), tt); create = tt; response = tt; final = tt }, tt)
 
 nack_by-says : (a r : List Fact) (s : ℕ) (made : Option (ℕ × Text)) → AllByRecursion (Says a) (nack_by r s made)
 nack_by-says a r s None = tt

@@ -8,6 +8,8 @@ use Rattle.std.specs.List.{list_all}
 use Rattle.std.proofs.lemmas.Bool.{and_parts, eqb-true, false≢true}
 use Rattle.std.proofs.lemmas.Bool.Decides.{nat_tests}
 use Rattle.ack_ranges.specs.declared.range.Range.{Range}
+use Rattle.ack_ranges.specs.Changes.{united}
+use Rattle.ack_ranges.specs.Laws.{UnionWithNothing}
 use Rattle.ack_ranges.specs.Ranges.{in_range, in_ranges}
 use Rattle.rm_timers.specs.declared.timers.Key.{Key}
 use Rattle.key_timers.specs.Waits.{Wait, same_key, has_key, keys_of, at_key, without, moved_last, begun, urged, sent}
@@ -15,6 +17,9 @@ use Rattle.key_timers.specs.Waits.{begin_all}
 use Rattle.key_timers.specs.KeyLemmas.{same_key-is, same_key-refl, same_key-sym}
 use Rattle.key_timers.specs.Waits.{urge_all, send_all, emitted, put_into, fresh}
 use Rattle.record_batch.specs.Fact.{Fact, Acked}
+use Rattle.record_snapshot.specs.Same.{SaysTheSame, UnionsAreSets}
+use Rattle.record_snapshot.specs.SameLemmas.{same_accepted, same_acked, snapshot_says}
+use Rattle.record_snapshot.specs.Snapshot.{snapshot}
 use Rattle.rm_base.specs.Numbered.{numbered}
 use Rattle.sequence_table.specs.Makers.{Maker, Outgoing, Offered, Incoming, Taken, makers, maker}
 use Rattle.sequence_table.specs.Sources.{is_sending, accepted, accepted_of, acked, acked_of, phase}
@@ -340,3 +345,34 @@ exact-mounted r k =
         | false ↦ refl
       ]
     ] refl
+
+-- what records say in short leaves what waits
+waits-in-short : UnionWithNothing → (r : List Fact) → UnionsAreSets r → (k : Key)
+    → is_waiting (snapshot r) k ≡ is_waiting r k
+waits-in-short nothing r sets k =
+    ap (λ (ms : List Maker). waits_of (snapshot r) k.seq k.number (numbered ms k.seq)) says.makers_
+    ∙ by_maker (maker r k.seq)
+  where
+    says : SaysTheSame (snapshot r) r
+    says = snapshot_says nothing r sets
+
+    same : sending (snapshot r) k.seq ≡ sending r k.seq
+    same =
+        ap (λ p. record {
+          phase = p;
+          accepted = accepted (snapshot r) k.seq;
+          acked = united [] (acked (snapshot r) k.seq);
+        }) (says.phase_ k.seq)
+        ∙ ap₂ (λ xs ns. record { phase = phase r k.seq; accepted = xs; acked = ns })
+        (same_accepted r k.seq) (same_acked nothing r sets k.seq)
+
+    by_maker : (m : Option Maker) → waits_of (snapshot r) k.seq k.number m ≡ waits_of r k.seq k.number m
+    by_maker None = refl
+    by_maker (Some (Outgoing ticket to via lapse)) = ap (λ t. waits_in t k.number) same
+    by_maker (Some (Taken message_id ident endpoint)) = ap (λ t. waits_in t k.number) same
+    by_maker (Some (Incoming counter message_id acks_to behaviour deadline lapse)) = refl
+    by_maker (Some (Offered ticket counter to behaviour)) = refl
+
+pub exact-in-short : UnionWithNothing → (r : List Fact) (waits : List Wait) → UnionsAreSets r → AreExactly r waits
+    → AreExactly (snapshot r) waits
+exact-in-short nothing r waits sets exact k = exact k ∙ sym (waits-in-short nothing r sets k)

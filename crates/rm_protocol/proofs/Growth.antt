@@ -229,7 +229,7 @@ IsTold-grows a b c d s n g k h = record {
 }
 
 pub SaysBlock-grows : (a b : List Fact) (block : AckBlock) → Grows a b → SaysBlock a block → SaysBlock b block
-SaysBlock-grows a b block g h = AreHeld-grows a b block.ident (ranges_of block.kind) g h
+SaysBlock-grows a b block g h = (AreHeld-grows a b block.ident (ranges_of block.kind) g h.0, h.1)
 
 pub Says-grows : (a b : List Fact) (m : Message) → Grows a b → Says a m → Says b m
 Says-grows a b m g h = record {

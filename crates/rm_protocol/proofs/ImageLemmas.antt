@@ -6,6 +6,7 @@ use Rattle.rm_base.specs.Limits.{journal_bytes}
 use Rattle.rm_base.specs.Numbered.{numbered}
 use Rattle.rm_base.specs.NumberSet.{has_number}
 use Rattle.record_batch.specs.Fact.{Fact}
+use Rattle.record_snapshot.specs.Same.{HaveProper}
 use Rattle.rm_destination.specs.Messages.{is_empty, sorted_onto, numbers_of}
 use Rattle.sequence_table.specs.Words.{at_seq}
 use Rattle.sequence_table.specs.Makers.{makers, counter}
@@ -15,7 +16,7 @@ use Rattle.sequence_table.specs.Destinations.{told, messages, inbox, behaviour, 
 use Rattle.rm_protocol.specs.Sound.{IsWith, Agree, Allows, Keeps, AreWith}
 use Rattle.std.proofs.Common.{◌^◌}
 use Rattle.sequence_table.specs.Idents.{IssuesOnce}
-use Rattle.rm_protocol.specs.Node.{Node, State, Up, Writing, records, end_of}
+use Rattle.rm_protocol.specs.Node.{Node, State, Up, Writing, Compacting, records, node_end, with_batch}
 use Rattle.rm_protocol.specs.Sound.{AllowsState, IsBounded, IsSound}
 use Rattle.rm_protocol.specs.Terms.{Terms, AreTerms}
 use Rattle.rm_protocol.specs.Crashes.{IsLeftWith, IsLeft, KeepsAll}
@@ -25,6 +26,7 @@ use Rattle.rm_protocol.proofs.ListLemmas.{All-numbered}
 use Rattle.rm_protocol.proofs.Growth.{Grows}
 use Rattle.rm_protocol.proofs.Adds.{Agree-swap, Agree-adds, Grows-adds}
 use Rattle.rm_protocol.proofs.Kept.{Keeps-adds, kept-ident, kept-Incoming}
+use Rattle.rm_protocol.specs.AloneLemmas.{snapshot-Keeps}
 use Rattle.rm_protocol.proofs.HeadlineLemmas.{IsBetween, IsSmall, paired-word}
 use Rattle.rm_protocol.proofs.RunLemmas.{AreWith-append, AreWith-grows, AllowsState-grows, bounded-with}
 
@@ -39,31 +41,38 @@ record Left (a b image : List Fact) : Type 0 where
 small-counter : (c place : ℕ) → c ≤ place → place ≤ journal_bytes → c < 2 ^ 62
 small-counter c place h k = omega arith
 
-left_same : (terms : Terms) (x : Node) (b image : List Fact) → Keeps (records x) x.whole → IsBounded terms x
-    → image ≡ records x → Left x.whole b image
-left_same terms x b image h i e = record {
+left_kept : (terms : Terms) (x : Node) (b image : List Fact) → Keeps image x.whole → IsBounded terms x
+    → Left x.whole b image
+left_kept terms x b image h i = record {
   delta = [];
   allows = tt;
-  keeps = subst (Keeps image) (sym (append-nil x.whole)) (subst (λ z. Keeps z x.whole) (sym e) h);
+  keeps = subst (Keeps image) (sym (append-nil x.whole)) h;
   with_ = tt;
   small = subst (λ z. counter z < 2 ^ 62) (sym (append-nil x.whole))
-      (small-counter (counter x.whole) (end_of terms x.entries) i.below i.store);
+      (small-counter (counter x.whole) (node_end terms x) i.below i.store);
 }
 
+left_same : (terms : Terms) (x : Node) (b image : List Fact) → Keeps (records x) x.whole → IsBounded terms x
+    → image ≡ records x → Left x.whole b image
+left_same terms x b image h i e = left_kept terms x b image (subst (λ z. Keeps z x.whole) (sym e) h) i
+
 left_by : (terms : Terms) (x : Node) (b image : List Fact) (state : State) → AreTerms terms
-    → Keeps (records x) x.whole → IsBounded terms x
+    → Keeps (records x) x.whole → HaveProper (records x) → IsBounded terms x
     → AllowsState terms x b state → IsLeftWith (records x) state image → Left x.whole b image
-left_by terms x b image Up t h i f e = left_same terms x b image h i e
-left_by terms x b image (Writing delta) t h i f (inl e) = left_same terms x b image h i e
-left_by terms x b image (Writing delta) t h i f (inr e) =
-    let more = bounded-with terms x.entries x.whole delta t i.below f.2 in
+left_by terms x b image Up t h p i f e = left_same terms x b image h i e
+left_by terms x b image (Writing delta) t h p i f (inl e) = left_same terms x b image h i e
+left_by terms x b image (Writing delta) t h p i f (inr e) =
+    let more = bounded-with terms x delta t i.below f.2 in
     record {
       delta = delta;
       allows = f.0;
       keeps = subst (λ z. Keeps z (x.whole ++ delta)) (sym e) (Keeps-adds (records x) x.whole delta h);
       with_ = f.1;
-      small = small-counter (counter (x.whole ++ delta)) (end_of terms (x.entries ++ delta ∷ [])) more.0 more.1;
+      small = small-counter (counter (x.whole ++ delta)) (node_end terms (with_batch x delta)) more.0 more.1;
     }
+left_by terms x b image (Compacting start) t h p i f (inl e) = left_same terms x b image h i e
+left_by terms x b image (Compacting start) t h p i f (inr e) =
+    left_kept terms x b image (subst (λ z. Keeps z x.whole) (sym e) (snapshot-Keeps (records x) x.whole p h)) i
 
 -- what holds of all that a node ever had holds of what it has
 turned : (r a : List Fact) → Keeps r a → Keeps a r
@@ -138,11 +147,11 @@ record Both (a b : List Fact) : Type 0 where
 both-words : IssuesOnce → (terms : Terms) (w : World) (a b : List Fact) → AreTerms terms → IsSound terms w
     → IsLeft w.one a → IsLeft w.two b → Both a b
 both-words once terms w a b t h x y =
-    let one = left_by terms w.one w.two.whole a w.one.state t h.one.kept h.one.bounded h.one.failed x in
+    let one = left_by terms w.one w.two.whole a w.one.state t h.one.kept h.one.proper h.one.bounded h.one.failed x in
     let c = w.one.whole ++ one.delta in
     let grown : Grows w.one.whole c = Grows-adds w.one.whole w.two.whole one.delta one.allows in
     let first : Agree 1 2 c w.two.whole = Agree-adds 1 2 w.one.whole w.two.whole one.delta one.allows h.agree in
-    let two = left_by terms w.two c b w.two.state t h.two.kept h.two.bounded
+    let two = left_by terms w.two c b w.two.state t h.two.kept h.two.proper h.two.bounded
     (AllowsState-grows terms w.two w.one.whole c grown w.two.state h.two.failed) y in
     let d = w.two.whole ++ two.delta in
     let more : Grows w.two.whole d = Grows-adds w.two.whole c two.delta two.allows in

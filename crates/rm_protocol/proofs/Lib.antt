@@ -3,6 +3,7 @@ mod Growth
 mod Adds
 mod Kept
 mod RangeLemmas
+mod FreshLemmas
 mod RowLemmas
 mod SaidLemmas
 mod HeardLemmas

@@ -1,17 +1,20 @@
 -- Runs line by line, scripts that arm no disk, and images as crashes.
 use Rattle.std.proofs.Common.{◌≡◌, ℕ, zero, suc, ◌+◌, Bool, true, false, List, [], ◌∷◌, ◌++◌, take, refl, sym, ap}
-use Rattle.std.proofs.Common.{◌∙◌, subst, inl, inr}
+use Rattle.std.proofs.Common.{◌∙◌, subst, inl, inr, cond}
 use Rattle.std.specs.Prelude.{Option, Some, None, Err, slice_get}
 use native.Mathlib.Numerals.{unary_clauses}
 use Rattle.rm_base.specs.Numbered.{numbered}
 use Rattle.rm_message.specs.declared.refusal.Refusal.{Refusal}
 use Rattle.record_batch.specs.Fact.{Fact}
+use Rattle.record_snapshot.specs.Snapshot.{snapshot}
 use Rattle.rm_protocol.specs.Calls as Calls
 use Rattle.sequence_table.specs.Words.{Text}
-use Rattle.rm_protocol.specs.Calls.{Answer}
-use Rattle.rm_protocol.specs.Node.{Node, State, Up, Writing, records, records_in, end_of, is_short, entries_left}
-use Rattle.rm_protocol.specs.Node.{burned, mounted, written, after, after_by, call_outcome, outcome_by}
-use Rattle.rm_protocol.specs.Node.{outcome_with}
+use Rattle.rm_protocol.specs.Calls.{Answer, Done, Refused}
+use Rattle.rm_protocol.specs.Compact.{compact_cause, compact_outcome, compact_outcome_by, compacted, compacted_by}
+use Rattle.rm_protocol.specs.Compact.{may_compact, rewritten}
+use Rattle.rm_protocol.specs.Node.{Node, State, Up, Writing, Compacting, records, records_in, node_end, is_short}
+use Rattle.rm_protocol.specs.Node.{burned, entries_left, mounted, written, after, after_by, call_outcome, outcome_by}
+use Rattle.rm_protocol.specs.Node.{outcome_with, Answered, DiskFault}
 use Rattle.rm_protocol.specs.Sent.{Called, arrival_outcome, outcome_of, line_of, lines}
 use Rattle.rm_protocol.specs.Terms.{Terms}
 use Rattle.rm_protocol.specs.Unarmed.{IsUnarmed, AreUnarmed, IsFaultless, AreFaultless}
@@ -20,6 +23,7 @@ use Rattle.rm_protocol.specs.World as world
 use Rattle.rm_protocol.specs.World.{World, Packet, Side, One, Two, other, node, with_node, Event, Crash, calls}
 use Rattle.rm_protocol.specs.Polls.{poll}
 use Rattle.rm_protocol.specs.World.{place, received_by, arrives, wish_of, with_clock, happens, run, start}
+use Rattle.rm_protocol.specs.AloneLemmas.{records-alone}
 use Rattle.rm_protocol.proofs.RunLemmas.{records-with}
 
 pub run-append : (terms : Terms) (first second : List Event) (w : World)
@@ -106,6 +110,25 @@ outcome-free x answer h =
         let long : is_short 4 x.fuse ≡ false = ap (is_short 4) h.fuse in
         rw long tt
 
+compacted-free : (terms : Terms) (x : Node) → IsFree x → IsFree (compacted terms x)
+compacted-free terms x h = subst (λ z. IsFree (compacted_by terms x z)) (sym h.state)
+    (elim (may_compact terms x) as (λ b. IsFree (cond b (rewritten terms x) x)) [
+      | true ↦
+          let long : is_short 5 x.fuse ≡ false = ap (is_short 5) h.fuse in
+          rw long (record { fuse = ap (burned 5) h.fuse; state = h.state })
+      | false ↦ h
+    ])
+
+compact-well : (terms : Terms) (x : Node) → IsFree x → IsFaultless (Called (compact_outcome terms x))
+compact-well terms x h = subst (λ z. IsFaultless (Called (compact_outcome_by terms x z))) (sym h.state)
+    (elim (may_compact terms x) as (λ b. IsFaultless (Called
+    (cond b (cond (is_short 5 x.fuse) DiskFault (Answered Done)) (Answered (Refused (compact_cause terms x)))))) [
+      | true ↦
+          let long : is_short 5 x.fuse ≡ false = ap (is_short 5) h.fuse in
+          rw long tt
+      | false ↦ tt
+    ])
+
 calls-free : (terms : Terms) (w : World) (side : Side) (connected : Bool) (answer : Answer) → AreFree w
     → AreFree (calls terms w side connected answer)
 calls-free terms w One connected answer h = record { one = after-free w.one answer h.one; two = h.two }
@@ -115,15 +138,15 @@ calls-free terms w Two connected answer h = record { one = h.one; two = after-fr
 outcome-well : (terms : Terms) (w : World) (event : Event) → AreFree w → IsFaultless (outcome_of terms w event)
 outcome-well terms w (world.Create side via expires offer) h =
     let x = node w side in
-    outcome-free x (Calls.create terms (records x) (end_of terms x.entries) (wish_of w side via expires offer))
+    outcome-free x (Calls.create terms (records x) (node_end terms x) (wish_of w side via expires offer))
     (free_at w side h)
 outcome-well terms w (world.Grant side y) h = tt
 outcome-well terms w (world.Send side s text) h =
     let x = node w side in
-    outcome-free x (Calls.send terms (records x) (end_of terms x.entries) s text) (free_at w side h)
+    outcome-free x (Calls.send terms (records x) (node_end terms x) s text) (free_at w side h)
 outcome-well terms w (world.Tick side now) h =
     let x = node w side in
-    outcome-free x (Calls.tick terms (records x) (end_of terms x.entries) now x.time x.waits) (free_at w side h)
+    outcome-free x (Calls.tick terms (records x) (node_end terms x) now x.time x.waits) (free_at w side h)
 outcome-well terms w (world.Deliver i) h = by_packet (numbered w.packets i)
   where
     by_packet : (p : Option Packet) → IsFaultless (arrival_outcome terms w p)
@@ -133,10 +156,10 @@ outcome-well terms w (world.Deliver i) h = by_packet (numbered w.packets i)
         outcome-free x (received_by terms x (terms.read p.message)) (free_at w (other p.from) h)
 outcome-well terms w (world.Close side s) h =
     let x = node w side in
-    outcome-free x (Calls.close terms (records x) (end_of terms x.entries) s x.clock) (free_at w side h)
+    outcome-free x (Calls.close terms (records x) (node_end terms x) s x.clock) (free_at w side h)
 outcome-well terms w (world.End side s) h =
     let x = node w side in
-    outcome-free x (Calls.end terms (records x) (end_of terms x.entries) s) (free_at w side h)
+    outcome-free x (Calls.end terms (records x) (node_end terms x) s) (free_at w side h)
 outcome-well terms w (world.Ask side s) h =
     let x = node w side in
     outcome-free x (Calls.ask_ack (records x) s) (free_at w side h)
@@ -149,6 +172,7 @@ outcome-well terms w (world.Noise side refusal) h =
     outcome-free (node w side) (received_by terms (node w side) (Err refusal)) (free_at w side h)
 outcome-well terms w (world.Poll side) h =
     outcome-free (node w side) (poll (records (node w side)) (place w (other side))) (free_at w side h)
+outcome-well terms w (world.Compact side) h = compact-well terms (node w side) (free_at w side h)
 
 -- and leaves both nodes so, unless it arms a disk
 happens-free : (terms : Terms) (w : World) (event : Event) → IsUnarmed event → AreFree w
@@ -176,6 +200,8 @@ happens-free terms w (world.Crash side kept) u h =
     free_with w side (mounted (node w side) kept) h (record { fuse = refl; state = refl })
 happens-free terms w (world.Noise side refusal) u h = calls-free terms w side true _ h
 happens-free terms w (world.Poll side) u h = calls-free terms w side false _ h
+happens-free terms w (world.Compact side) u h =
+    free_with w side (compacted terms (node w side)) h (compacted-free terms (node w side) (free_at w side h))
 
 run-free : (terms : Terms) (events : List Event) (w : World) → AreFree w → AreUnarmed events
     → AreFree (run terms events w)
@@ -215,6 +241,8 @@ crashed x image h = by_state x.state h
     by_state Up e = (false, sym e)
     by_state (Writing delta) (inl e) = (false, sym e)
     by_state (Writing delta) (inr e) = (true, records-with x.entries delta ∙ sym e)
+    by_state (Compacting start) (inl e) = (false, sym e)
+    by_state (Compacting start) (inr e) = (true, records-alone (snapshot (records x)) ∙ sym e)
 
 pub image-crash : (terms : Terms) (w : World) (side : Side) (image : List Fact) → IsLeft (node w side) image
     → (kept : Bool) × (records (node (happens terms w (Crash side kept)) side) ≡ image)

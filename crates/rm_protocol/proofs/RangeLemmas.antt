@@ -1,11 +1,13 @@
 -- The numbers of ranges that were put together are those of each.
-use Rattle.std.proofs.Common.{◌≡◌, ◌⊎◌, ℕ, ◌+◌, ◌==◌, ◌||◌, nat_lt, min, max, cond, Bool, true, false, List, [], ◌∷◌}
-use Rattle.std.proofs.Common.{refl, arith, inl, inr}
+use Rattle.std.proofs.Common.{◌≡◌, ◌⊎◌, ℕ, ◌+◌, ◌≤◌, ◌==◌, ◌||◌, nat_lt, min, max, cond, Bool, true, false, List, []}
+use Rattle.std.proofs.Common.{◌∷◌, refl, arith, inl, inr}
 use Rattle.std.proofs.lemmas.Bool.Decides.{nat_tests}
 use Rattle.ack_ranges.specs.declared.range.Range.{Range}
 use Rattle.ack_ranges.specs.Ranges.{is_between, in_range, in_ranges}
 use Rattle.ack_ranges.specs.Changes.{with_range, united}
 use Rattle.rm_base.specs.NumberSet.{has_number}
+use Rattle.record_snapshot.specs.NumberLemmas.{put}
+use Rattle.record_snapshot.specs.Same.{AreProper}
 use Rattle.rm_destination.specs.Messages.{ranges_onto}
 use Rattle.rm_protocol.specs.Messages.{kind_of}
 use Rattle.rm_protocol.specs.Rows.{ranges_of}
@@ -77,6 +79,24 @@ united-has xs (y ∷ ys) n h = elim (united-has (with_range xs y.lower y.upper) 
 -- canonical ranges have no other numbers
 pub canonical-has : (ys : List Range) (n : ℕ) → in_ranges (united [] ys) n ≡ true → in_ranges ys n ≡ true
 canonical-has ys n h = elim (united-has [] ys n h) [ inl x ↦ absurd (cc) | inr x ↦ x ]
+
+-- ranges that have a number each, put together
+with_range-proper : (rs : List Range) (l u : ℕ) → AreProper rs → l ≤ u → AreProper (with_range rs l u)
+with_range-proper rs l u h le = (put rs l u h le).proper
+
+pub united-proper : (xs ys : List Range) → AreProper xs → AreProper ys → AreProper (united xs ys)
+united-proper xs [] h k = h
+united-proper xs (y ∷ ys) h k =
+    united-proper (with_range xs y.lower y.upper) ys (with_range-proper xs y.lower y.upper h k.0) k.1
+
+ranges_onto-proper : (rs : List Range) (ns : List ℕ) → AreProper rs → AreProper (ranges_onto rs ns)
+ranges_onto-proper rs [] h = h
+ranges_onto-proper rs (n ∷ ns) h =
+    ranges_onto-proper (with_range rs n n) ns (with_range-proper rs n n h (omega arith))
+
+-- so are the ranges of numbers
+pub ranges-proper : (ns : List ℕ) → AreProper (ranges_onto [] ns)
+ranges-proper ns = ranges_onto-proper [] ns tt
 
 itself : (x n : ℕ) → is_between x x n ≡ true → (x == n) ≡ true
 itself x n h = grind (arith, nat_tests)

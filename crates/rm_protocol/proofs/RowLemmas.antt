@@ -50,7 +50,7 @@ use Rattle.rm_protocol.proofs.ListLemmas.{IfSome-weaker, find-is}
 use Rattle.rm_protocol.proofs.Adds.{Owns-adds, Allows-then}
 use Rattle.rm_protocol.proofs.Kept.{Keeps-adds, kept-counter, kept-maker, kept-ident, kept-found, kept-Incoming}
 use Rattle.rm_protocol.proofs.Kept.{kept-Asked}
-use Rattle.rm_protocol.proofs.RangeLemmas.{canonical-has}
+use Rattle.rm_protocol.proofs.RangeLemmas.{canonical-has, united-proper}
 
 -- a row adds only what may be added, whatever the node's own records are
 abbrev pub IsRightRow : List Fact → Row → Type 0
@@ -107,14 +107,14 @@ ack_row-right b k h n r a w o = by_found (find_outgoing r k.ident) refl
         let out = o.found s k.ident (kept-found r a k.ident (Some s) w e) in
         let made = o.made s k.ident out in
         one-allowed a b (covers_all (united [] (acked r s)) (ranges_of k.kind))
-        (Acked s (united [] (ranges_of k.kind))) tt
+        (Acked s (united [] (ranges_of k.kind))) (united-proper [] (ranges_of k.kind) tt h.1)
         (record {
           maker_ = made.0;
           there = made.1;
           holds = λ g. record {
             ident = k.ident;
             outgoing = out;
-            each = λ i e. h i (canonical-has (ranges_of k.kind) i e);
+            each = λ i e. h.0 i (canonical-has (ranges_of k.kind) i e);
           };
         })
 

@@ -9,13 +9,17 @@ use Rattle.rm_base.specs.Limits.{journal_bytes}
 use Rattle.rm_base.specs.Numbered.{numbered}
 use Rattle.rm_message.specs.declared.message.Message.{Message}
 use Rattle.record_batch.specs.Fact.{Fact, Made}
+use Rattle.record_snapshot.specs.Same.{HasProper, HaveProper}
 use Rattle.sequence_table.specs.Words.{Text}
 use Rattle.sequence_table.specs.Makers.{makers, makers_of, draws_of, counter}
 use Rattle.rm_protocol.specs.Sound.{Says, IsWith, Owns, Agree, Allows, Keeps, AreWith}
 use Rattle.std.specs.Prelude.{Result, Ok, Err}
 use Rattle.rm_message.specs.declared.refusal.Refusal.{Refusal}
 use Rattle.rm_protocol.specs.Calls.{Answer, create, send, close, end, tick, ask_ack, nack_missing, receive}
-use Rattle.rm_protocol.specs.Node.{Node, State, Up, Writing, records, records_in, end_of, is_short, entries_left}
+use Rattle.rm_protocol.specs.Compact.{compacted, compacted_by, fresh_start, may_compact, rewritten, stops_compacting}
+use Rattle.rm_protocol.specs.Compact.{with_list}
+use Rattle.rm_protocol.specs.Node.{Node, State, Up, Writing, Compacting, records, records_in, end_of, fresh_entries}
+use Rattle.rm_protocol.specs.Node.{node_end, is_short, entries_left, start_left}
 use Rattle.rm_protocol.specs.Node.{whole_left, mounted, with_batch, goes_down, written, after_by, after, said_with}
 use Rattle.rm_protocol.specs.Node.{armed, said_by, said_after, with_moves, with_polled, fetched_after, fetched_by}
 use Rattle.rm_protocol.specs.Node.{fetched_message, polled_with}
@@ -30,13 +34,14 @@ use Rattle.rm_protocol.specs.Terms.{Terms, AreTerms}
 use Rattle.rm_protocol.specs.Verdict.{has_room}
 use Rattle.rm_protocol.specs.World.{messages_in, puts, World, Packet, Side, One, Two, other, node, place, with_node}
 use Rattle.rm_protocol.specs.World.{Event, Create, Grant, Send, Tick, Deliver, Close, End, Ask, Nack, Arm, Crash, Noise}
-use Rattle.rm_protocol.specs.World.{Poll, sent}
+use Rattle.rm_protocol.specs.World.{Poll, Compact, sent}
 use Rattle.rm_protocol.specs.World.{calls, received_by, arrives, wish_of, with_clock, happens, run, made, start}
 use Rattle.rm_protocol.specs.World.{AreMade}
 use Rattle.rm_protocol.proofs.ListLemmas.{All-weaker, All-append, All-filter, All-numbered, All-push}
 use Rattle.rm_protocol.proofs.Growth.{Grows, Grows-same, IsWith-grows, Says-grows, Allows-grows}
 use Rattle.rm_protocol.proofs.Adds.{Agree-swap, Agree-adds, Grows-adds}
 use Rattle.rm_protocol.proofs.Kept.{Keeps-adds, Keeps-same}
+use Rattle.rm_protocol.proofs.FreshLemmas.{allows-proper, fresh-below, fresh-HasPlace, fresh-HaveProper, fresh-Keeps}
 use Rattle.rm_protocol.proofs.CallLemmas.{IsRight, SaysContent, create-right, send-right, close-right, end-right}
 use Rattle.rm_protocol.proofs.CallLemmas.{tick-right, receive-right, ask_ack-right, nack_missing-right}
 
@@ -64,6 +69,7 @@ record Went (terms : Terms) (x y : Node) (b : List Fact) (outs : List Message) :
   with_ : AreWith b delta
   failed : AllowsState terms y b y.state
   kept : Keeps (records y) y.whole
+  proper : HaveProper (records y)
   bounded : IsBounded terms y
   says : AllByRecursion (Says y.whole) outs
   said : AreSaid y.whole y.polled
@@ -79,7 +85,7 @@ pub AllowsState-grows : (terms : Terms) (x : Node) (b c : List Fact) → Grows b
     → AllowsState terms x b state → AllowsState terms x c state
 AllowsState-grows terms x b c g (Writing delta) h =
     (Allows-grows x.whole b c g delta h.0, AreWith-grows b c delta g h.1, h.2)
-AllowsState-grows terms x b c g Up h = h
+AllowsState-grows terms x b c g _ h = h
 
 -- one node goes on, and packets are sent
 abbrev goes : Terms → World → Side → Node → List Packet → World
@@ -117,6 +123,7 @@ went-sound terms at x y b outs g h t = record {
   with_ = subst (AreWith b) (sym t.is) (AreWith-append b x.whole t.delta h.with_ t.with_);
   at_ = g.address ∙ h.at_;
   kept = t.kept;
+  proper = t.proper;
   bounded = t.bounded;
   said = t.said;
 }
@@ -128,6 +135,7 @@ rested-sound terms at x b c g h = record {
   with_ = AreWith-grows b c x.whole g h.with_;
   at_ = h.at_;
   kept = h.kept;
+  proper = h.proper;
   bounded = h.bounded;
   said = h.said;
 }
@@ -167,15 +175,16 @@ goes-IsSound terms w Two y outs h t =
 
 -- a node has the same records, and says nothing
 rests : (terms : Terms) (x y : Node) (b : List Fact) → y.whole ≡ x.whole → AllowsState terms y b y.state
-    → Keeps (records y) y.whole → IsBounded terms y → AreSaid y.whole y.polled
+    → Keeps (records y) y.whole → HaveProper (records y) → IsBounded terms y → AreSaid y.whole y.polled
     → Went terms x y b []
-rests terms x y b e f k i q = record {
+rests terms x y b e f k p i q = record {
   delta = [];
   is = e ∙ sym (append-nil x.whole);
   allows = tt;
   with_ = tt;
   failed = f;
   kept = k;
+  proper = p;
   bounded = i;
   says = tt;
   said = q;
@@ -194,12 +203,12 @@ records-with entries delta =
     flat_map-append (λ (batch : List Fact). batch) entries (delta ∷ [])
     ∙ ap (λ z. records_in entries ++ z) (append-nil delta)
 
-end_of-push : (terms : Terms) (entries : List (List Fact)) (delta : List Fact)
-    → end_of terms (entries ++ delta ∷ []) ≡ end_of terms entries + (5 + terms.size delta)
-end_of-push terms [] delta = omega arith
-end_of-push terms (e ∷ es) delta =
-    let rest : end_of terms (es ++ delta ∷ []) ≡ end_of terms es + (5 + terms.size delta) =
-    end_of-push terms es delta in omega arith
+end_of-push : (terms : Terms) (start : ℕ) (entries : List (List Fact)) (delta : List Fact)
+    → end_of terms start (entries ++ delta ∷ []) ≡ end_of terms start entries + (5 + terms.size delta)
+end_of-push terms start [] delta = omega arith
+end_of-push terms start (e ∷ es) delta =
+    let rest : end_of terms start (es ++ delta ∷ []) ≡ end_of terms start es + (5 + terms.size delta) =
+    end_of-push terms start es delta in omega arith
 
 counter-append : (r d : List Fact) → counter (r ++ d) ≡ counter r + counter d
 counter-append r d = ap length (flat_map-append draws_of r d)
@@ -209,17 +218,23 @@ room-bound : (terms : Terms) (place : ℕ) (rec : Fact) (delta : List Fact) → 
     → place + 6 + terms.size (rec ∷ delta) ≤ journal_bytes
 room-bound terms place rec delta e = grind (arith, nat_tests)
 
-pub bounded-with : (terms : Terms) (entries : List (List Fact)) (whole delta : List Fact) → AreTerms terms
-    → counter whole ≤ end_of terms entries
-    → end_of terms entries + 6 + terms.size delta ≤ journal_bytes
-    → (counter (whole ++ delta) ≤ end_of terms (entries ++ delta ∷ []))
-    × (end_of terms (entries ++ delta ∷ []) ≤ journal_bytes)
-bounded-with terms entries whole delta t below fits =
-    let more : end_of terms (entries ++ delta ∷ []) ≡ end_of terms entries + (5 + terms.size delta) =
-    end_of-push terms entries delta in
-    let sum : counter (whole ++ delta) ≡ counter whole + counter delta = counter-append whole delta in
+pub bounded-with : (terms : Terms) (x : Node) (delta : List Fact) → AreTerms terms
+    → counter x.whole ≤ node_end terms x
+    → node_end terms x + 6 + terms.size delta ≤ journal_bytes
+    → (counter (x.whole ++ delta) ≤ node_end terms (with_batch x delta))
+    × (node_end terms (with_batch x delta) ≤ journal_bytes)
+bounded-with terms x delta t below fits =
+    let more : node_end terms (with_batch x delta) ≡ node_end terms x + (5 + terms.size delta) =
+    end_of-push terms x.start x.entries delta in
+    let sum : counter (x.whole ++ delta) ≡ counter x.whole + counter delta = counter-append x.whole delta in
     let size : counter delta ≤ terms.size delta = t.size delta in
     (omega arith, omega arith)
+
+-- each range has a number
+pub proper-with : (x : Node) (b delta : List Fact) → HaveProper (records x) → Allows x.whole b delta
+    → HaveProper (records_in (x.entries ++ delta ∷ []))
+proper-with x b delta p k = subst HaveProper (sym (records-with x.entries delta))
+    (All-append HasProper (records x) delta p (allows-proper x.whole b delta k))
 
 -- what leaves the node: what was fetched, and a part of what is said
 leaving : (a : List Fact) (connected : Bool) (fetched outs : List Message) → AllByRecursion (Says a) fetched
@@ -229,25 +244,27 @@ leaving a connected fetched outs h k = All-append (Says a) fetched (sent_of conn
 
 -- a call
 went : (terms : Terms) (x : Node) (b delta : List Fact) (connected : Bool) (fetched outs : List Message)
-    (w : Waiting Message) → AreTerms terms → x.state ≡ Up → Keeps (records x) x.whole → IsBounded terms x
-    → Allows x.whole b delta → AreWith b delta → has_room terms (end_of terms x.entries) delta ≡ true
+    (w : Waiting Message) → AreTerms terms → x.state ≡ Up → Keeps (records x) x.whole → HaveProper (records x)
+    → IsBounded terms x
+    → Allows x.whole b delta → AreWith b delta → has_room terms (node_end terms x) delta ≡ true
     → AllByRecursion (Says (x.whole ++ delta)) fetched → AllByRecursion (Says (x.whole ++ delta)) outs
     → AreSaid x.whole x.polled → AreSaid (x.whole ++ delta) w
     → Went terms x (record (written x delta) { polled = polled_with x.fuse delta x.polled w }) b
     (said_with x.fuse delta fetched ++ sent_of connected (said_with x.fuse delta outs))
-went terms x b [] connected fetched outs w t up h i k g room s s2 old new = record {
+went terms x b [] connected fetched outs w t up h p i k g room s s2 old new = record {
   delta = [];
   is = sym (append-nil x.whole);
   allows = tt;
   with_ = tt;
   failed = subst (AllowsState terms x b) (sym up) tt;
   kept = h;
+  proper = p;
   bounded = record { below = i.below; store = i.store };
   says = subst (λ z. AllByRecursion (Says z) (fetched ++ sent_of connected outs)) (append-nil x.whole)
       (leaving (x.whole ++ []) connected fetched outs s s2);
   said = subst (λ z. AreSaid z w) (append-nil x.whole) new;
 }
-went terms x b (rec ∷ delta) connected fetched outs w t up h i k g room s s2 old new =
+went terms x b (rec ∷ delta) connected fetched outs w t up h p i k g room s s2 old new =
     elim (is_short 4 x.fuse) as (λ z. Went terms x
     (record (cond z (goes_down x (rec ∷ delta)) (with_batch x (rec ∷ delta))) { polled = cond z x.polled w }) b
     (cond z [] fetched ++ sent_of connected (cond z [] outs))) [
@@ -256,15 +273,16 @@ went terms x b (rec ∷ delta) connected fetched outs w t up h i k g room s s2 o
         is = sym (append-nil x.whole);
         allows = tt;
         with_ = tt;
-        failed = (k, g, room-bound terms (end_of terms x.entries) rec delta room);
+        failed = (k, g, room-bound terms (node_end terms x) rec delta room);
         kept = h;
+        proper = p;
         bounded = record { below = i.below; store = i.store };
         says = tt;
         said = old;
       }
       | false ↦
-          let fits = room-bound terms (end_of terms x.entries) rec delta room in
-          let more = bounded-with terms x.entries x.whole (rec ∷ delta) t i.below fits in
+          let fits = room-bound terms (node_end terms x) rec delta room in
+          let more = bounded-with terms x (rec ∷ delta) t i.below fits in
           record {
             delta = rec ∷ delta;
             is = refl;
@@ -273,6 +291,7 @@ went terms x b (rec ∷ delta) connected fetched outs w t up h i k g room s s2 o
             failed = subst (AllowsState terms (with_batch x (rec ∷ delta)) b) (sym up) tt;
             kept = subst (λ z. Keeps z (x.whole ++ (rec ∷ delta))) (sym (records-with x.entries (rec ∷ delta)))
                 (Keeps-adds (records x) x.whole (rec ∷ delta) h);
+            proper = proper-with x b (rec ∷ delta) p k;
             bounded = record { below = more.0; store = more.1 };
             says = leaving (x.whole ++ (rec ∷ delta)) connected fetched outs s s2;
             said = new;
@@ -289,6 +308,7 @@ moved-went terms x y b answer outs t = record {
   with_ = t.with_;
   failed = same y.state t.failed;
   kept = t.kept;
+  proper = t.proper;
   bounded = record { below = t.bounded.below; store = t.bounded.store };
   says = t.says;
   said = t.said;
@@ -297,13 +317,14 @@ moved-went terms x y b answer outs t = record {
     same : (z : State) → AllowsState terms y b z → AllowsState terms (with_moves x answer y) b z
     same Up h = tt
     same (Writing delta) h = h
+    same (Compacting start) h = h
 
 after-went : (terms : Terms) (x : Node) (b : List Fact) (connected : Bool) (answer : Answer) → AreTerms terms
-    → Keeps (records x) x.whole → IsBounded terms x
-    → IsRight terms (end_of terms x.entries) x.whole b answer → AllowsState terms x b x.state
+    → Keeps (records x) x.whole → HaveProper (records x) → IsBounded terms x
+    → IsRight terms (node_end terms x) x.whole b answer → AllowsState terms x b x.state
     → AreSaid x.whole x.polled
     → Went terms x (after x answer) b (fetched_after x answer ++ sent_of connected (said_after x answer))
-after-went terms x b connected answer t h i r f q = by_state x.state refl
+after-went terms x b connected answer t h p i r f q = by_state x.state refl
   where
     by_state : (z : State) → x.state ≡ z
         → Went terms x (after_by x z answer) b (fetched_by x z answer ++ sent_of connected (said_by x z answer))
@@ -314,23 +335,26 @@ after-went terms x b connected answer t h i r f q = by_state x.state refl
         moved-went terms x (with_polled x answer (written x answer.delta)) b answer
         (fetched_by x Up answer ++ sent_of connected (said_by x Up answer))
         (went terms x b answer.delta connected (fetched_message answer.fetched) answer.outs
-        (polled_after x.polled answer) t e h i r.allowed.allows r.allowed.with_ r.room r.allowed.fetched r.allowed.says
-        q
+        (polled_after x.polled answer) t e h p i r.allowed.allows r.allowed.with_ r.room r.allowed.fetched
+        r.allowed.says q
         (polled_after-said all x.polled answer later r.allowed.says))
-    by_state (Writing delta) e = rests terms x x b refl f h i q
+    by_state (Writing delta) e = rests terms x x b refl f h p i q
+    by_state (Compacting start) e = rests terms x x b refl f h p i q
 
 calls-IsSound : (terms : Terms) (w : World) (side : Side) (connected : Bool) (answer : Answer) → AreTerms terms
     → IsSound terms w
-    → IsRight terms (end_of terms (node w side).entries) (node w side).whole (node w (other side)).whole answer
+    → IsRight terms (node_end terms (node w side)) (node w side).whole (node w (other side)).whole answer
     → IsSound terms (calls terms w side connected answer)
 calls-IsSound terms w One connected answer t h r =
     goes-IsSound terms w One (after w.one answer)
     (fetched_after w.one answer ++ sent_of connected (said_after w.one answer)) h
-    (after-went terms w.one w.two.whole connected answer t h.one.kept h.one.bounded r h.one.failed h.one.said)
+    (after-went terms w.one w.two.whole connected answer t h.one.kept h.one.proper h.one.bounded r h.one.failed
+    h.one.said)
 calls-IsSound terms w Two connected answer t h r =
     goes-IsSound terms w Two (after w.two answer)
     (fetched_after w.two answer ++ sent_of connected (said_after w.two answer)) h
-    (after-went terms w.two w.one.whole connected answer t h.two.kept h.two.bounded r h.two.failed h.two.said)
+    (after-went terms w.two w.one.whole connected answer t h.two.kept h.two.proper h.two.bounded r h.two.failed
+    h.two.said)
 
 -- a crash keeps what the failed call wrote, or leaves it
 kept-entries : (x : Node) (delta : List Fact) → Keeps (records x) x.whole
@@ -340,13 +364,14 @@ kept-entries x delta h =
     (Keeps-adds (records x) x.whole delta h)
 
 mounted-went : (terms : Terms) (x : Node) (b : List Fact) (kept : Bool) → AreTerms terms → Keeps (records x) x.whole
-    → IsBounded terms x
+    → HaveProper (records x) → IsBounded terms x
     → AllowsState terms x b x.state → Went terms x (mounted x kept) b []
-mounted-went terms x b kept t h i f = by_state x.state kept f
+mounted-went terms x b kept t h p i f = by_state x.state kept f
   where
     by_state : (z : State) (kept : Bool) → AllowsState terms x b z
         → Went terms x (record x {
           entries = entries_left z kept x.entries;
+          start = start_left z kept x.start;
           whole = whole_left z kept x.whole;
           fuse = None;
           state = Up;
@@ -355,7 +380,7 @@ mounted-went terms x b kept t h i f = by_state x.state kept f
           polled = nothing_waits;
         }) b []
     by_state (Writing delta) true f =
-        let more = bounded-with terms x.entries x.whole delta t i.below f.2 in
+        let more = bounded-with terms x delta t i.below f.2 in
         record {
           delta = delta;
           is = refl;
@@ -363,12 +388,44 @@ mounted-went terms x b kept t h i f = by_state x.state kept f
           with_ = f.1;
           failed = tt;
           kept = kept-entries x delta h;
+          proper = proper-with x b delta p f.0;
           bounded = record { below = more.0; store = more.1 };
           says = tt;
           said = tt;
         }
-    by_state (Writing delta) false f = rests terms x _ b refl tt h (record { below = i.below; store = i.store }) tt
-    by_state Up kept f = rests terms x _ b refl tt h (record { below = i.below; store = i.store }) tt
+    by_state (Compacting start) true f =
+        rests terms x _ b refl tt (fresh-Keeps x.entries x.whole p h) (fresh-HaveProper x.entries p)
+        (record { below = fresh-below terms start x.entries x.whole t h; store = f }) tt
+    by_state (Writing delta) false f = rests terms x _ b refl tt h p (record { below = i.below; store = i.store }) tt
+    by_state (Compacting start) false f = rests terms x _ b refl tt h p (record { below = i.below; store = i.store }) tt
+    by_state Up kept f = rests terms x _ b refl tt h p (record { below = i.below; store = i.store }) tt
+
+-- a list that is written anew, or stays
+compacted-went : (terms : Terms) (x : Node) (b : List Fact) → AreTerms terms → Keeps (records x) x.whole
+    → HaveProper (records x) → IsBounded terms x → AllowsState terms x b x.state → AreSaid x.whole x.polled
+    → Went terms x (compacted terms x) b []
+compacted-went terms x b t h p i f q = by_state x.state refl
+  where
+    rewritten-went : x.state ≡ Up → may_compact terms x ≡ true → Went terms x (rewritten terms x) b []
+    rewritten-went up may =
+        let place = fresh-HasPlace terms x may i.store in
+        elim (is_short 5 x.fuse) as (λ z. Went terms x (cond z (stops_compacting terms x) (with_list terms x)) b []) [
+          | true ↦ rests terms x (stops_compacting terms x) b refl place h p
+              (record { below = i.below; store = i.store }) q
+          | false ↦ rests terms x (with_list terms x) b refl
+              (subst (AllowsState terms (with_list terms x) b) (sym up) tt)
+              (fresh-Keeps x.entries x.whole p h) (fresh-HaveProper x.entries p)
+              (record { below = fresh-below terms (fresh_start terms x) x.entries x.whole t h; store = place }) q
+        ]
+
+    by_state : (z : State) → x.state ≡ z → Went terms x (compacted_by terms x z) b []
+    by_state Up e = elim (may_compact terms x) as (λ z. may_compact terms x ≡ z
+        → Went terms x (cond z (rewritten terms x) x) b []) [
+          | true ↦ λ may. rewritten-went e may
+          | false ↦ λ may. rests terms x x b refl f h p i q
+        ] refl
+    by_state (Writing delta) e = rests terms x x b refl f h p i q
+    by_state (Compacting start) e = rests terms x x b refl f h p i q
 
 -- a packet comes to the other node than the one that sent it, and its text is read there
 says_at : (terms : Terms) (w : World) (p : Packet) → AreTerms terms → SaysPacket w p
@@ -393,9 +450,9 @@ received-IsSound : (terms : Terms) (w : World) (side : Side) (content : Result M
 received-IsSound terms w side content t h s =
     let x = node w side in
     calls-IsSound terms w side true (received_by terms x content) t h
-    (polls-right terms (end_of terms x.entries) x.whole (node w (other side)).whole x.polled content
-    (receive terms (records x) (end_of terms x.entries) x.clock x.granted content) (sound_at terms w side h).said
-    (receive-right (number_of side) terms (end_of terms x.entries) (records x) x.whole (node w (other side)).whole
+    (polls-right terms (node_end terms x) x.whole (node w (other side)).whole x.polled content
+    (receive terms (records x) (node_end terms x) x.clock x.granted content) (sound_at terms w side h).said
+    (receive-right (number_of side) terms (node_end terms x) (records x) x.whole (node w (other side)).whole
     x.clock x.granted content t
     (sound_at terms w side h).kept (agree_at terms w side h).owns s))
 
@@ -414,101 +471,112 @@ packet-says terms w k h = by_packet (numbered w.packets k) refl
 
 -- a node of which only what is beside its disk changes
 changed-went : (terms : Terms) (x y : Node) (b : List Fact) → y.whole ≡ x.whole → y.entries ≡ x.entries
-    → y.state ≡ x.state → y.polled ≡ x.polled → Keeps (records x) x.whole
-    → IsBounded terms x → AllowsState terms x b x.state → AreSaid x.whole x.polled → Went terms x y b []
-changed-went terms x y b e f s u h i a q =
+    → y.start ≡ x.start → y.state ≡ x.state → y.polled ≡ x.polled → Keeps (records x) x.whole
+    → HaveProper (records x) → IsBounded terms x → AllowsState terms x b x.state → AreSaid x.whole x.polled
+    → Went terms x y b []
+changed-went terms x y b e f g s u h p i a q =
     rests terms x y b e (moved y.state s)
     (subst (λ z. Keeps (records_in z) y.whole) (sym f) (subst (Keeps (records x)) (sym e) h))
+    (subst (λ z. HaveProper (records_in z)) (sym f) p)
     (record {
-      below = subst (λ z. counter y.whole ≤ end_of terms z) (sym f)
-          (subst (λ z. counter z ≤ end_of terms x.entries) (sym e) i.below);
-      store = subst (λ z. end_of terms z ≤ journal_bytes) (sym f) i.store;
+      below = subst (λ z. counter y.whole ≤ z) (sym place)
+          (subst (λ z. counter z ≤ node_end terms x) (sym e) i.below);
+      store = subst (λ z. z ≤ journal_bytes) (sym place) i.store;
     })
     (subst (AreSaid y.whole) (sym u) (subst (λ z. AreSaid z x.polled) (sym e) q))
   where
+    place : node_end terms y ≡ node_end terms x
+    place = cc
+
     same : (z : State) → AllowsState terms x b z → AllowsState terms y b z
     same Up k = tt
     same (Writing delta) k = (
       subst (λ z. Allows z b delta) (sym e) k.0,
       k.1,
-      subst (λ z. end_of terms z + 6 + terms.size delta ≤ journal_bytes) (sym f) k.2,
+      subst (λ z. z + 6 + terms.size delta ≤ journal_bytes) (sym place) k.2,
     )
+    same (Compacting start) k = subst (λ z. end_of terms start (fresh_entries z) ≤ journal_bytes) (sym f) k
 
     moved : (z : State) → z ≡ x.state → AllowsState terms y b z
     moved z k = subst (AllowsState terms y b) (sym k) (same x.state a)
 
 changed-IsSound : (terms : Terms) (w : World) (side : Side) (y : Node) → IsSound terms w
     → y.whole ≡ (node w side).whole → y.entries ≡ (node w side).entries
-    → y.state ≡ (node w side).state → y.polled ≡ (node w side).polled → IsSound terms (with_node w side y)
-changed-IsSound terms w side y h e f s u =
+    → y.start ≡ (node w side).start → y.state ≡ (node w side).state → y.polled ≡ (node w side).polled
+    → IsSound terms (with_node w side y)
+changed-IsSound terms w side y h e f g s u =
     let x = sound_at terms w side h in
-    rests-IsSound terms w side y h (changed-went terms (node w side) y (node w (other side)).whole e f s u x.kept
-    x.bounded x.failed x.said)
+    rests-IsSound terms w side y h (changed-went terms (node w side) y (node w (other side)).whole e f g s u x.kept
+    x.proper x.bounded x.failed x.said)
 
 tick-IsSound : (terms : Terms) (w : World) (side : Side) (now : ℕ) → AreTerms terms → IsSound terms w
     → IsSound terms (happens terms w (Tick side now))
 tick-IsSound terms w One now t h =
     let v = with_node w One (with_clock w.one now) in
     calls-IsSound terms v One false
-    (tick terms (records w.one) (end_of terms w.one.entries) now w.one.time w.one.waits) t
-    (changed-IsSound terms w One (with_clock w.one now) h refl refl refl refl)
-    (tick-right terms (end_of terms w.one.entries) (records w.one) w.one.whole w.two.whole now w.one.time w.one.waits
+    (tick terms (records w.one) (node_end terms w.one) now w.one.time w.one.waits) t
+    (changed-IsSound terms w One (with_clock w.one now) h refl refl refl refl refl)
+    (tick-right terms (node_end terms w.one) (records w.one) w.one.whole w.two.whole now w.one.time w.one.waits
     h.one.kept)
 tick-IsSound terms w Two now t h =
     let v = with_node w Two (with_clock w.two now) in
     calls-IsSound terms v Two false
-    (tick terms (records w.two) (end_of terms w.two.entries) now w.two.time w.two.waits) t
-    (changed-IsSound terms w Two (with_clock w.two now) h refl refl refl refl)
-    (tick-right terms (end_of terms w.two.entries) (records w.two) w.two.whole w.one.whole now w.two.time w.two.waits
+    (tick terms (records w.two) (node_end terms w.two) now w.two.time w.two.waits) t
+    (changed-IsSound terms w Two (with_clock w.two now) h refl refl refl refl refl)
+    (tick-right terms (node_end terms w.two) (records w.two) w.two.whole w.one.whole now w.two.time w.two.waits
     h.two.kept)
 
 pub happens-IsSound : (terms : Terms) (w : World) (event : Event) → AreTerms terms → IsSound terms w
     → IsSound terms (happens terms w event)
 happens-IsSound terms w (Create side via expires offer) t h =
     let x = node w side in
-    calls-IsSound terms w side false (create terms (records x) (end_of terms x.entries)
+    calls-IsSound terms w side false (create terms (records x) (node_end terms x)
     (wish_of w side via expires offer)) t h
-    (create-right terms (end_of terms x.entries) (records x) x.whole (node w (other side)).whole
+    (create-right terms (node_end terms x) (records x) x.whole (node w (other side)).whole
     (wish_of w side via expires offer)
     (sound_at terms w side h).kept (sym (sound_at terms w (other side) h).at_))
 happens-IsSound terms w (Grant side y) t h =
-    changed-IsSound terms w side (record (node w side) { granted = y }) h refl refl refl refl
+    changed-IsSound terms w side (record (node w side) { granted = y }) h refl refl refl refl refl
 happens-IsSound terms w (Send side seq text) t h =
     let x = node w side in
-    calls-IsSound terms w side false (send terms (records x) (end_of terms x.entries) seq text) t h
-    (send-right terms (end_of terms x.entries) (records x) x.whole (node w (other side)).whole seq text
+    calls-IsSound terms w side false (send terms (records x) (node_end terms x) seq text) t h
+    (send-right terms (node_end terms x) (records x) x.whole (node w (other side)).whole seq text
     (sound_at terms w side h).kept)
 happens-IsSound terms w (Tick side now) t h = tick-IsSound terms w side now t h
 happens-IsSound terms w (Deliver k) t h = arrives-IsSound terms w (numbered w.packets k) t h (packet-says terms w k h)
 happens-IsSound terms w (Close side seq) t h =
     let x = node w side in
-    calls-IsSound terms w side false (close terms (records x) (end_of terms x.entries) seq x.clock) t h
-    (close-right terms (end_of terms x.entries) (records x) x.whole (node w (other side)).whole seq x.clock
+    calls-IsSound terms w side false (close terms (records x) (node_end terms x) seq x.clock) t h
+    (close-right terms (node_end terms x) (records x) x.whole (node w (other side)).whole seq x.clock
     (sound_at terms w side h).kept)
 happens-IsSound terms w (End side seq) t h =
     let x = node w side in
-    calls-IsSound terms w side false (end terms (records x) (end_of terms x.entries) seq) t h
-    (end-right terms (end_of terms x.entries) (records x) x.whole (node w (other side)).whole seq
+    calls-IsSound terms w side false (end terms (records x) (node_end terms x) seq) t h
+    (end-right terms (node_end terms x) (records x) x.whole (node w (other side)).whole seq
     (sound_at terms w side h).kept)
 happens-IsSound terms w (Ask side seq) t h =
     let x = node w side in
     calls-IsSound terms w side false (ask_ack (records x) seq) t h
-    (ask_ack-right terms (end_of terms x.entries) (records x) x.whole (node w (other side)).whole seq)
+    (ask_ack-right terms (node_end terms x) (records x) x.whole (node w (other side)).whole seq)
 happens-IsSound terms w (Nack side seq) t h =
     let x = node w side in
     calls-IsSound terms w side false (nack_missing (records x) seq x.clock) t h
-    (nack_missing-right terms (end_of terms x.entries) (records x) x.whole (node w (other side)).whole seq x.clock)
+    (nack_missing-right terms (node_end terms x) (records x) x.whole (node w (other side)).whole seq x.clock)
 happens-IsSound terms w (Arm side c) t h =
-    changed-IsSound terms w side (record (node w side) { fuse = armed c (node w side).fuse }) h refl refl refl refl
+    changed-IsSound terms w side (record (node w side) { fuse = armed c (node w side).fuse }) h refl refl refl refl refl
 happens-IsSound terms w (Crash side kept) t h =
     let x = sound_at terms w side h in
     rests-IsSound terms w side (mounted (node w side) kept) h
-    (mounted-went terms (node w side) (node w (other side)).whole kept t x.kept x.bounded x.failed)
+    (mounted-went terms (node w side) (node w (other side)).whole kept t x.kept x.proper x.bounded x.failed)
 happens-IsSound terms w (Noise side refusal) t h = received-IsSound terms w side (Err refusal) t h tt
 happens-IsSound terms w (Poll side) t h =
     let x = node w side in
     calls-IsSound terms w side false (poll (records x) (place w (other side))) t h
-    (poll-right terms (end_of terms x.entries) (records x) x.whole (node w (other side)).whole (place w (other side)))
+    (poll-right terms (node_end terms x) (records x) x.whole (node w (other side)).whole (place w (other side)))
+happens-IsSound terms w (Compact side) t h =
+    let x = sound_at terms w side h in
+    rests-IsSound terms w side (compacted terms (node w side)) h
+    (compacted-went terms (node w side) (node w (other side)).whole t x.kept x.proper x.bounded x.failed x.said)
 
 pub run-IsSound : (terms : Terms) (events : List Event) (w : World) → AreTerms terms → IsSound terms w
     → IsSound terms (run terms events w)
@@ -527,14 +595,15 @@ owns-made n a = record {
 }
 
 made-sound : (terms : Terms) (n : ℕ) (at : Text) (b : List Fact) → AreTerms terms
-    → has_room terms 8 (Made n at ∷ []) ≡ true → IsSoundNode terms at (made n at) b
+    → has_room terms 25 (Made n at ∷ []) ≡ true → IsSoundNode terms at (made n at) b
 made-sound terms n at b t e =
-    let fits : 8 + 6 + terms.size (Made n at ∷ []) ≤ journal_bytes = room-bound terms 8 (Made n at) [] e in
+    let fits : 25 + 6 + terms.size (Made n at ∷ []) ≤ journal_bytes = room-bound terms 25 (Made n at) [] e in
     record {
       failed = tt;
       with_ = tt;
       at_ = refl;
       kept = Keeps-same (Made n at ∷ []);
+      proper = (tt, tt);
       bounded = record { below = omega arith; store = omega arith };
       said = tt;
     }

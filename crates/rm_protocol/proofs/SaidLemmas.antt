@@ -4,6 +4,7 @@ use Rattle.std.proofs.Common.{◌∙◌, subst}
 use Rattle.std.specs.Prelude.{Option, Some, None, IfSome}
 use Rattle.std.specs.List.{AllByRecursion}
 use Rattle.std.proofs.lemmas.Bool.{eqb-true}
+use Rattle.ack_ranges.specs.declared.range.Range.{Range}
 use Rattle.ack_ranges.specs.Ranges.{in_ranges}
 use Rattle.rm_base.specs.Numbered.{numbered}
 use Rattle.rm_base.specs.NumberSet.{has_number}
@@ -19,6 +20,7 @@ use Rattle.rm_message.specs.declared.message.Message.{Message}
 use Rattle.wsa_headers.specs.declared.endpoint.Epr.{Epr}
 use Rattle.record_batch.specs.declared.record.Via.{Via}
 use Rattle.record_batch.specs.Fact.{Fact}
+use Rattle.record_snapshot.specs.Same.{AreProper}
 use Rattle.rm_destination.specs.Messages.{is_empty, numbers_of, ranges_onto}
 use Rattle.sequence_table.specs.Words.{Text, at_seq, last_or}
 use Rattle.sequence_table.specs.Idents.{issue}
@@ -27,7 +29,7 @@ use Rattle.sequence_table.specs.Sources.{accepted, marks, out_ident, phase}
 use Rattle.sequence_table.specs.Destinations.{held}
 use Rattle.sequence_table.specs.Find.{IsIncoming, incoming_of, find_incoming, find_grant, is_granted, peer, acks_to}
 use Rattle.rm_protocol.specs.Sound.{IsGranted, IsFinal, SaysData, SaysBlock, SaysCreate, SaysResponse, SaysFinal}
-use Rattle.rm_protocol.specs.Sound.{Says, Keeps}
+use Rattle.rm_protocol.specs.Sound.{AreHeld, Says, Keeps}
 use Rattle.std.specs.Option.{option_to_list}
 use Rattle.std.proofs.lemmas.Slice.Eq.{bytes_eq-Decides}
 use Rattle.wsa_headers.specs.declared.addressing.Addressing.{Addressing}
@@ -40,29 +42,35 @@ use Rattle.sequence_table.specs.Find.{plain_endpoint}
 use Rattle.rm_protocol.specs.Addresses.{is_anonymous, own_address, reply_endpoint}
 use Rattle.rm_protocol.specs.Calls.{fault_block, block_at, block_by, final_ack, made_by, refusal_of}
 use Rattle.rm_protocol.specs.Messages.{data_by, data_at, offer_by, create_request, finish_request, request_by}
-use Rattle.rm_protocol.specs.Messages.{request_at, last_number, block_of, ack_message, never}
+use Rattle.rm_protocol.specs.Messages.{request_at, last_number, block_of, kind_of, ack_message, never}
 use Rattle.rm_protocol.specs.Rows.{last_of}
 use Rattle.rm_protocol.specs.Said.{grant_response, create_response, finish_response, find_grant_of, responses, Ack}
 use Rattle.rm_protocol.specs.Said.{ack_to, ack_of, data_ident, found_in, data_acks, given_with, ask_ack, ask_acks}
 use Rattle.rm_protocol.specs.Said.{acks_said, back_blocks, back_message, own_messages, with_blocks, answered, said}
+use Rattle.rm_protocol.specs.Rows.{ranges_of}
 use Rattle.rm_protocol.specs.Terms.{Terms, AreTerms, IsFault, header_blocks}
 use Rattle.rm_protocol.proofs.ListLemmas.{All-append, find-is}
 use Rattle.rm_protocol.proofs.Kept.{kept-ident, kept-Incoming, kept-Asked}
-use Rattle.rm_protocol.proofs.RangeLemmas.{ranges-has, ranges_of-kind_of}
+use Rattle.rm_protocol.proofs.RangeLemmas.{ranges-has, ranges-proper, ranges_of-kind_of}
 use Rattle.rm_protocol.proofs.RowLemmas.{find_incoming-is}
 
 -- an acknowledgement of an incoming sequence
 pub block-says : (r a : List Fact) (s now : ℕ) (q t : Text) → Keeps r a → IsIncoming r s q t
     → SaysBlock a (block_of r s q now)
-block-says r a s now q t w h n e =
-    let ranges = ranges_onto [] (held r s) in
-    let there : in_ranges ranges n ≡ true = subst (λ z. in_ranges z n ≡ true) (ranges_of-kind_of ranges) e in
-    record {
-      seq = s;
-      message_id = t;
-      incoming = kept-Incoming r a s q t w h;
-      has = ap (λ z. has_number (numbers_of z) n) (sym (w.received_ s)) ∙ ranges-has (held r s) n there;
-    }
+block-says r a s now q t w h = (are-held, subst AreProper (sym (ranges_of-kind_of ranges)) (ranges-proper (held r s)))
+  where
+    ranges : List Range
+    ranges = ranges_onto [] (held r s)
+
+    are-held : AreHeld a q (ranges_of (kind_of ranges))
+    are-held n e =
+        let there : in_ranges ranges n ≡ true = subst (λ z. in_ranges z n ≡ true) (ranges_of-kind_of ranges) e in
+        record {
+          seq = s;
+          message_id = t;
+          incoming = kept-Incoming r a s q t w h;
+          has = ap (λ z. has_number (numbers_of z) n) (sym (w.received_ s)) ∙ ranges-has (held r s) n there;
+        }
 
 found-says : (r a : List Fact) (s now : ℕ) (q : Text) → Keeps r a → find_incoming r q ≡ Some s
     → SaysBlock a (block_of r s q now)

@@ -13,6 +13,8 @@ use Rattle.rm_base.specs.declared.message.Behaviour.{Behaviour}
 use Rattle.rm_base.specs.declared.message.Cause.TheVariants.{Operator, Expired}
 use Rattle.rm_message.specs.declared.message.Message.{Message}
 use Rattle.record_batch.specs.Fact.{Fact, Creating, Accepted, Closing, Closed, Ending, Ended}
+use Rattle.record_snapshot.specs.SameLemmas.{same_accepted}
+use Rattle.record_snapshot.specs.Snapshot.{snapshot}
 use Rattle.sequence_table.specs.Words.{Text}
 use Rattle.sequence_table.specs.Makers.{Maker, Outgoing, Offered, Incoming, Taken, makers, maker, counter}
 use Rattle.sequence_table.specs.Sources.{accepted, accepted_of, phase}
@@ -31,7 +33,9 @@ use Rattle.rm_protocol.specs.Calls.{end_out, expired_from, judged, receive}
 use Rattle.rm_protocol.specs.Waiting.{no_moves}
 use Rattle.key_timers.specs.Waits.{Wait, first_due}
 use Rattle.rm_protocol.specs.Heard.{Heard}
-use Rattle.rm_protocol.specs.Node.{Node, State, Up, Writing, records, records_in, end_of, is_short, entries_left}
+use Rattle.rm_protocol.specs.Compact.{compacted, compacted_by, may_compact, rewritten, stops_compacting, with_list}
+use Rattle.rm_protocol.specs.Node.{Node, State, Up, Writing, Compacting, records, records_in, fresh_entries, node_end}
+use Rattle.rm_protocol.specs.Node.{is_short, entries_left}
 use Rattle.rm_protocol.specs.Node.{mounted, with_batch, goes_down, written, after_by, after, Answered, DiskFault}
 use Rattle.rm_protocol.specs.Node.{outcome_with, outcome_by, call_outcome}
 use Rattle.std.specs.Option.{option_to_list}
@@ -46,6 +50,7 @@ use Rattle.rm_protocol.specs.World.{World, Packet, Side, One, Two, other, node, 
 use Rattle.rm_protocol.specs.Polls.{poll}
 use Rattle.rm_protocol.specs.World.{place, received_by, arrives, wish_of, happens, run, start}
 use Rattle.rm_protocol.proofs.HeardLemmas.{rows-heard}
+use Rattle.rm_protocol.specs.AloneLemmas.{records-alone}
 use Rattle.rm_protocol.proofs.RunLemmas.{records-with}
 
 accepted-append : (r d : List Fact) (k : ℕ) → accepted (r ++ d) k ≡ accepted r k ++ accepted d k
@@ -200,7 +205,7 @@ tick-quiet terms r place now time waits = chosen (has_room terms place (expired_
 -- what is accepted, and what of the failed batch will be
 abbrev pending : ℕ → ℕ → ℕ → State → List Text
 pending k next entries (Writing delta) = cond (next == entries + 1) (accepted delta k) []
-pending k next entries Up = []
+pending k next entries _ = []
 
 abbrev total : ℕ → ℕ → Node → List Text
 total k next x = accepted (records x) k ++ pending k next (length x.entries) x.state
@@ -259,6 +264,9 @@ moves k next x answer d = by_state x.state refl
     by_state Up e = up answer.delta answer.outcome d e
     by_state (Writing delta) e =
         append-nil (accepted (records x) k ++ pending k next (length x.entries) (Writing delta))
+        ∙ ap (λ z. accepted (records x) k ++ pending k next (length x.entries) z) (sym e)
+    by_state (Compacting start) e =
+        append-nil (accepted (records x) k ++ pending k next (length x.entries) (Compacting start))
         ∙ ap (λ z. accepted (records x) k ++ pending k next (length x.entries) z) (sym e)
 
 -- a call that accepts nothing leaves the total
@@ -351,12 +359,18 @@ send-moves k next x s text (_) (refused_ cause) = by_state x.state
         (length (after_by x z (refusal cause)).entries) next) (text ∷ []) []
         ≡ total k next (after_by x z (refusal cause))
     by_state Up = ap (λ z. total k next x ++ z) (none_counted (s == k) text) ∙ append-nil (total k next x)
-    by_state (Writing delta) = ap (λ z. total k next x ++ z) (none_counted (s == k) text) ∙ append-nil (total k next x)
+    by_state _ = ap (λ z. total k next x ++ z) (none_counted (s == k) text) ∙ append-nil (total k next x)
 send-moves k next x s text (_) (accepted_ outs) =
     let answer : Answer =
     record { outcome = Done; delta = Accepted s text ∷ []; fetched = None; outs = outs; moves = no_moves } in
     let counted = counts_call (call_outcome x answer) (length (after x answer).entries) next in
     ap (λ z. total k next x ++ z) (swap_cond (s == k) counted text) ∙ moves k next x answer refl
+
+-- what is written anew has the same texts
+accepted-fresh : (entries : List (List Fact)) (k : ℕ)
+    → accepted (records_in (fresh_entries entries)) k ≡ accepted (records_in entries) k
+accepted-fresh entries k =
+    ap (λ z. accepted z k) (records-alone (snapshot (records_in entries))) ∙ same_accepted (records_in entries) k
 
 mounted-total : (k next : ℕ) (x : Node) (kept : Bool)
     → total k (length (mounted x kept).entries) x ≡ total k next (mounted x kept)
@@ -374,7 +388,33 @@ mounted-total k next x kept = by_state x.state kept
         ap (λ b. accepted (records x) k ++ cond b (accepted delta k) []) size
         ∙ sym (accepted-append (records x) delta k) ∙ ap (λ z. accepted z k) (sym (records-with x.entries delta))
         ∙ sym (append-nil (accepted (records_in (x.entries ++ delta ∷ [])) k))
+    by_state (Compacting start) true = ap (λ z. z ++ []) (sym (accepted-fresh x.entries k))
+    by_state (Compacting start) false = refl
     by_state Up kept = refl
+
+-- a list that is written anew, or stays
+compacted-total : (terms : Terms) (k next : ℕ) (x : Node) → total k next x ≡ total k next (compacted terms x)
+compacted-total terms k next x = by_state x.state refl
+  where
+    as_it_was : (z : State) → x.state ≡ z
+        → accepted (records x) k ++ pending k next (length x.entries) z ≡ total k next x
+    as_it_was z e = ap (λ s. accepted (records x) k ++ pending k next (length x.entries) s) (sym e)
+
+    by_state : (z : State) → x.state ≡ z
+        → accepted (records x) k ++ pending k next (length x.entries) z ≡ total k next (compacted_by terms x z)
+    by_state Up e = elim (may_compact terms x) as (λ b.
+        accepted (records x) k ++ [] ≡ total k next (cond b (rewritten terms x) x)) [
+          | true ↦ elim (is_short 5 x.fuse) as (λ b.
+              accepted (records x) k ++ [] ≡ total k next (cond b (stops_compacting terms x) (with_list terms x))) [
+                | true ↦ refl
+                | false ↦ ap (λ z. z ++ []) (sym (accepted-fresh x.entries k))
+                    ∙ ap (λ z. accepted (records (with_list terms x)) k
+                    ++ pending k next (length (with_list terms x).entries) z) (sym e)
+              ]
+          | false ↦ as_it_was Up e
+        ]
+    by_state (Writing delta) e = as_it_was (Writing delta) e
+    by_state (Compacting start) e = as_it_was (Compacting start) e
 
 step : (terms : Terms) (w : World) (event : Event) (n : Side) (k next : ℕ)
     → total k (cond (is_crash n event) (printed n (line_of terms w event)) next) (node w n)
@@ -383,30 +423,30 @@ step : (terms : Terms) (w : World) (event : Event) (n : Side) (k next : ℕ)
 step terms w (world.Create side via expires offer) n k next =
     let x = node w side in
     quiet-call terms w side n false
-    (Calls.create terms (records x) (end_of terms x.entries) (wish_of w side via expires offer)) k next
-    (create-quiet terms (records x) (end_of terms x.entries) (wish_of w side via expires offer))
+    (Calls.create terms (records x) (node_end terms x) (wish_of w side via expires offer)) k next
+    (create-quiet terms (records x) (node_end terms x) (wish_of w side via expires offer))
 step terms w (world.Grant One y) One k next = append-nil (total k next w.one)
 step terms w (world.Grant Two y) Two k next = append-nil (total k next w.two)
 step terms w (world.Grant One y) Two k next = append-nil (total k next w.two)
 step terms w (world.Grant Two y) One k next = append-nil (total k next w.one)
 step terms w (world.Send One s text) One k next =
-    send-moves k next w.one s text (Calls.send terms (records w.one) (end_of terms w.one.entries) s text)
-    (send-send terms (records w.one) (end_of terms w.one.entries) s text)
+    send-moves k next w.one s text (Calls.send terms (records w.one) (node_end terms w.one) s text)
+    (send-send terms (records w.one) (node_end terms w.one) s text)
 step terms w (world.Send Two s text) Two k next =
-    send-moves k next w.two s text (Calls.send terms (records w.two) (end_of terms w.two.entries) s text)
-    (send-send terms (records w.two) (end_of terms w.two.entries) s text)
+    send-moves k next w.two s text (Calls.send terms (records w.two) (node_end terms w.two) s text)
+    (send-send terms (records w.two) (node_end terms w.two) s text)
 step terms w (world.Send One s text) Two k next = append-nil (total k next w.two)
 step terms w (world.Send Two s text) One k next = append-nil (total k next w.one)
 step terms w (world.Tick One now) One k next =
     append-nil (total k next w.one)
     ∙ quiet-moves k next (with_clock w.one now)
-    (Calls.tick terms (records w.one) (end_of terms w.one.entries) now w.one.time w.one.waits)
-    (tick-quiet terms (records w.one) (end_of terms w.one.entries) now w.one.time w.one.waits)
+    (Calls.tick terms (records w.one) (node_end terms w.one) now w.one.time w.one.waits)
+    (tick-quiet terms (records w.one) (node_end terms w.one) now w.one.time w.one.waits)
 step terms w (world.Tick Two now) Two k next =
     append-nil (total k next w.two)
     ∙ quiet-moves k next (with_clock w.two now)
-    (Calls.tick terms (records w.two) (end_of terms w.two.entries) now w.two.time w.two.waits)
-    (tick-quiet terms (records w.two) (end_of terms w.two.entries) now w.two.time w.two.waits)
+    (Calls.tick terms (records w.two) (node_end terms w.two) now w.two.time w.two.waits)
+    (tick-quiet terms (records w.two) (node_end terms w.two) now w.two.time w.two.waits)
 step terms w (world.Tick One now) Two k next = append-nil (total k next w.two)
 step terms w (world.Tick Two now) One k next = append-nil (total k next w.one)
 step terms w (world.Deliver i) n k next = by_packet (numbered w.packets i)
@@ -416,17 +456,17 @@ step terms w (world.Deliver i) n k next = by_packet (numbered w.packets i)
     by_packet (Some p) =
         let side = other p.from in
         let x = node w side in
-        let quiet = receive-quiet terms (records x) (end_of terms x.entries) x.clock x.granted (terms.read p.message) in
+        let quiet = receive-quiet terms (records x) (node_end terms x) x.clock x.granted (terms.read p.message) in
         quiet-call terms w side n true (received_by terms x (terms.read p.message)) k next
         (record { done = quiet.done; quiet = quiet.quiet })
 step terms w (world.Close side s) n k next =
     let x = node w side in
-    quiet-call terms w side n false (Calls.close terms (records x) (end_of terms x.entries) s x.clock) k next
-    (close-quiet terms (records x) (end_of terms x.entries) s x.clock)
+    quiet-call terms w side n false (Calls.close terms (records x) (node_end terms x) s x.clock) k next
+    (close-quiet terms (records x) (node_end terms x) s x.clock)
 step terms w (world.End side s) n k next =
     let x = node w side in
-    quiet-call terms w side n false (Calls.end terms (records x) (end_of terms x.entries) s) k next
-    (end-quiet terms (records x) (end_of terms x.entries) s)
+    quiet-call terms w side n false (Calls.end terms (records x) (node_end terms x) s) k next
+    (end-quiet terms (records x) (node_end terms x) s)
 step terms w (world.Ask side s) n k next =
     let x = node w side in
     quiet-call terms w side n false (Calls.ask_ack (records x) s) k next (ask_ack-quiet (records x) s)
@@ -446,12 +486,16 @@ step terms w (world.Crash One kept) Two k next = append-nil (total k next w.two)
 step terms w (world.Crash Two kept) One k next = append-nil (total k next w.one)
 step terms w (world.Noise side refusal) n k next =
     let x = node w side in
-    let quiet = receive-quiet terms (records x) (end_of terms x.entries) x.clock x.granted (Err refusal) in
+    let quiet = receive-quiet terms (records x) (node_end terms x) x.clock x.granted (Err refusal) in
     quiet-call terms w side n true (received_by terms x (Err refusal)) k next
     (record { done = quiet.done; quiet = quiet.quiet })
 step terms w (world.Poll side) n k next =
     quiet-call terms w side n false (poll (records (node w side)) (place w (other side))) k next
     (record { done = tt; quiet = λ z. refl })
+step terms w (world.Compact One) One k next = append-nil (total k next w.one) ∙ compacted-total terms k next w.one
+step terms w (world.Compact Two) Two k next = append-nil (total k next w.two) ∙ compacted-total terms k next w.two
+step terms w (world.Compact One) Two k next = append-nil (total k next w.two)
+step terms w (world.Compact Two) One k next = append-nil (total k next w.one)
 
 image-total : (x : Node) (k : ℕ) (image : List Fact) (entries : ℕ) → IsImage x image entries
     → accepted image k ≡ total k entries x
@@ -470,6 +514,9 @@ image-total x k image entries h = by_state x.state h
         let size : (entries == length x.entries + 1) ≡ true = grind (arith, nat_tests) in
         ap (λ z. accepted z k) e.0 ∙ accepted-append (records x) delta k
         ∙ ap (λ b. accepted (records x) k ++ cond b (accepted delta k) []) (sym size)
+    by_state (Compacting start) (inl e) = ap (λ z. accepted z k) e.0 ∙ sym (append-nil (accepted (records x) k))
+    by_state (Compacting start) (inr e) = ap (λ z. accepted z k) e.0 ∙ same_accepted (records x) k
+        ∙ sym (append-nil (accepted (records x) k))
 
 -- from any world on
 sent_from : (terms : Terms) (events : List Event) (w : World) (n : Side) (k : ℕ) (image : List Fact) (entries : ℕ)

@@ -25,7 +25,7 @@ use Rattle.rm_destination.specs.Messages.{any_true}
 use Rattle.sequence_table.specs.Destinations.{closes, deadline_of, held, is_ended, is_over, received}
 use Rattle.rm_protocol.specs.Calls.{Answer, Done, judged}
 use Rattle.rm_protocol.specs.Delivered.{Brings, Takes, IsWriting, TakesUnless, TakesNew}
-use Rattle.rm_protocol.specs.Node.{Node, State, Up, Writing, records, end_of, is_short, goes_down}
+use Rattle.rm_protocol.specs.Node.{Node, State, Up, Writing, Compacting, records, node_end, is_short, goes_down}
 use Rattle.rm_protocol.specs.Node.{with_batch, written, after, after_by, Answered, DiskFault}
 use Rattle.rm_protocol.specs.Node.{call_outcome, outcome_by, outcome_with}
 use Rattle.rm_protocol.specs.Recorded.{IsNew, AreNumbers}
@@ -80,9 +80,9 @@ only_two : (a b c d e f g h ack store : Bool) → a ≡ false → b ≡ false �
 only_two a b c d e f g h ack store ea eb ec ed ef eg eh = rw (ea, eb, ec, ed, ef, eg, eh) refl
 
 verdict-new : (terms : Terms) (x : Node) (m : Message) (s i : ℕ) (p : Payload) → IsNew (records x) x.clock m s i p
-    → verdict terms (records x) (end_of terms x.entries) x.clock x.granted m
+    → verdict terms (records x) (node_end terms x) x.clock x.granted m
     ≡ held_of (list_any (is_invalid (records x)) m.acks)
-    (not (has_room terms (end_of terms x.entries) (rows terms x.clock x.granted m (records x))))
+    (not (has_room terms (node_end terms x) (rows terms x.clock x.granted m (records x))))
 verdict-new terms x m s i p h =
     let r = records x in
     let header : SeqHeader = record { ident = h.ident; number = i } in
@@ -145,11 +145,11 @@ judged-taken terms x m s i p h numbers = by_state x.state refl
     }
 
     by_tests : (ack store : Bool) → list_any (is_invalid (records x)) m.acks ≡ ack
-        → not (has_room terms (end_of terms x.entries) (rows terms x.clock x.granted m (records x))) ≡ store
+        → not (has_room terms (node_end terms x) (rows terms x.clock x.granted m (records x))) ≡ store
         → IsTaken terms x m s i p (judged terms (records x) x.clock x.granted m (held_of ack store))
     by_tests true store e f = e
     by_tests false true e f =
-        not-true (has_room terms (end_of terms x.entries) (rows terms x.clock x.granted m (records x))) f
+        not-true (has_room terms (node_end terms x) (rows terms x.clock x.granted m (records x))) f
     by_tests false false e f = batch-taken terms x m s i p (rows terms x.clock x.granted m (records x)) takes
 
     by_state : (z : State) → x.state ≡ z
@@ -160,6 +160,7 @@ judged-taken terms x m s i p h numbers = by_state x.state refl
         (sym (verdict-new terms x m s i p h))
         (by_tests _ _ refl refl)
     by_state (Writing delta) e = subst IsWriting (sym e) tt
+    by_state (Compacting start) e = subst IsWriting (sym e) tt
 
 -- what a node received has numbers from 1 on
 positive : {A : Type 0} (xs : List A) (n : ℕ) (x : A) → numbered xs n ≡ Some x → 0 < n

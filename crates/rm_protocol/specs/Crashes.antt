@@ -1,16 +1,18 @@
 -- What crashes leave of two nodes, and the headline of that.
 use Rattle.std.specs.Prelude.{◌≡◌, ◌⊎◌, Bool, List, [], ◌∷◌, ◌++◌}
 use Rattle.record_batch.specs.Fact.{Fact}
-use Rattle.rm_protocol.specs.Node.{Node, State, Up, Writing, records}
+use Rattle.record_snapshot.specs.Snapshot.{snapshot}
+use Rattle.rm_protocol.specs.Node.{Node, State, Up, Writing, Compacting, records}
 use Rattle.rm_protocol.specs.Terms.{Terms}
 use Rattle.rm_protocol.specs.Word.{KeepsWord}
 use Rattle.rm_protocol.specs.World.{World, One, Two, Crash, run}
 
 -- the records for which an image of the node's disk may stand: after a call that failed, those before it, or with its
--- batch
+-- batch, or what they say in short
 abbrev pub IsLeftWith : List Fact → State → List Fact → Type 0
 IsLeftWith r Up image = image ≡ r
 IsLeftWith r (Writing delta) image = (image ≡ r) ⊎ (image ≡ r ++ delta)
+IsLeftWith r (Compacting start) image = (image ≡ r) ⊎ (image ≡ snapshot r)
 
 -- the records for which an image of a node's disk may stand
 abbrev pub IsLeft : Node → List Fact → Type 0

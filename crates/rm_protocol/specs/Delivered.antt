@@ -10,7 +10,7 @@ use Rattle.rm_message.specs.declared.refusal.FaultKind.TheVariants.{InvalidAckno
 use Rattle.record_batch.specs.Fact.{Fact}
 use Rattle.sequence_table.specs.Destinations.{behaviour, front, inbox, received}
 use Rattle.rm_protocol.specs.Calls.{Done, Judged}
-use Rattle.rm_protocol.specs.Node.{Node, State, Up, Writing, records, end_of, is_short, Answered, DiskFault, IsDown}
+use Rattle.rm_protocol.specs.Node.{Node, State, Up, records, node_end, is_short, Answered, DiskFault, IsDown}
 use Rattle.rm_protocol.specs.Recorded.{IsNew}
 use Rattle.rm_protocol.specs.Rows.{rows}
 use Rattle.rm_protocol.specs.Sent.{LineOutcome, Called, outcome_of}
@@ -32,10 +32,10 @@ pub record Takes (before after : List Fact) (s i : ℕ) (p : Payload) : Type 0 w
   pub released : behaviour before s ≡ FollowingFirstGap → i ≡ front before s + 1
       → numbered (inbox after s) i ≡ Some p
 
--- the call that failed was writing a batch
+-- the call that failed was writing
 abbrev pub IsWriting : State → Type 0
 IsWriting Up = ⊥
-IsWriting (Writing delta) = Unit {0}
+IsWriting _ = Unit {0}
 
 -- what becomes of the message at a node, by how the line comes out: it is recorded, or the node was down, its disk
 -- failed, one of the message's acknowledgements was invalid, or the store was full; the line comes out in no other way
@@ -46,7 +46,7 @@ TakesUnless terms x y m s i p (Called DiskFault) = is_short 4 x.fuse ≡ true
 TakesUnless terms x y m s i p (Called (Answered (Judged InvalidAcknowledgement))) =
     list_any (is_invalid (records x)) m.acks ≡ true
 TakesUnless terms x y m s i p (Called (Answered (Judged StoreFull))) =
-    has_room terms (end_of terms x.entries) (rows terms x.clock x.granted m (records x)) ≡ false
+    has_room terms (node_end terms x) (rows terms x.clock x.granted m (records x)) ≡ false
 TakesUnless terms x y m s i p _ = ⊥
 
 -- each message that a line would deliver, and that is new at its node

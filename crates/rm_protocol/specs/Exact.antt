@@ -7,6 +7,8 @@ use Rattle.sequence_table.specs.Sources.{accepted}
 use Rattle.rm_timers.specs.declared.timers.Key.{Key}
 use Rattle.key_timers.specs.Waits.{Wait, has_key, keys_of}
 use Rattle.record_batch.specs.Fact.{Fact}
+use Rattle.record_snapshot.specs.Same.{UnionsAreSets}
+use Rattle.record_snapshot.specs.Snapshot.{snapshot}
 use Rattle.sequence_table.specs.Fits.{fits, all_fit}
 use Rattle.rm_protocol.specs.Waiting.{Moves, is_waiting, begun_of, begun_by, mounted_waits, waits_after}
 
@@ -43,6 +45,11 @@ StaysExact =
 -- and so it is after a mount
 abbrev pub IsExactAtFirst : Type 0
 IsExactAtFirst = (r : List Fact) → AreExactly r (mounted_waits r)
+
+-- and by what the records say in short
+abbrev pub StaysExactInShort : Type 0
+StaysExactInShort =
+    (r : List Fact) (waits : List Wait) → UnionsAreSets r → AreExactly r waits → AreExactly (snapshot r) waits
 
 -- the acknowledged numbers are numbers of accepted messages
 abbrev pub AreWithin : List Fact → Type 0

@@ -1,7 +1,6 @@
 -- Terms that meet what is asked of them, and scripts with them.
-use Rattle.std.specs.Prelude.{ℕ, ◌+◌, ◌==◌, if◌then◌else◌, Bool, true, false, List, [], ◌∷◌, codes, Option, Some, None}
-use Rattle.std.specs.Prelude.{Ok}
-use Rattle.std.specs.Prelude.{map, take}
+use Rattle.std.specs.Prelude.{ℕ, ◌+◌, ◌==◌, if◌then◌else◌, Bool, true, false, List, [], ◌∷◌, ◌++◌, codes, Option}
+use Rattle.std.specs.Prelude.{Some, None, Ok, map, take}
 use Rattle.rm_base.specs.declared.message.Behaviour.TheVariants.{EntireSequence, FollowingFirstGap}
 use Rattle.rm_elements.specs.declared.header.AckBlock.{AckBlock}
 use Rattle.rm_base.specs.declared.lapse.Lapse.{Lapse}
@@ -15,7 +14,7 @@ use Rattle.rm_protocol.specs.Addresses.{rm_action}
 use Rattle.rm_protocol.specs.Messages.{never, plain}
 use Rattle.rm_protocol.specs.Terms.{Terms, header_blocks}
 use Rattle.rm_protocol.specs.World.{World, Packet, One, Two, Event, Create, Grant, Send, Deliver, End, Tick, Close}
-use Rattle.rm_protocol.specs.World.{Ask, Nack, Arm, Crash, Poll, run, start}
+use Rattle.rm_protocol.specs.World.{Ask, Nack, Arm, Crash, Poll, Compact, run, start}
 
 -- a duration without months ends that many milliseconds later
 abbrev pub ends_at : ℕ → Lapse → Option ℕ
@@ -128,6 +127,15 @@ with_polls =
 abbrev pub with_a_lost_message : List Event
 with_a_lost_message =
     Create One Polled never None ∷ Deliver 1 ∷ Poll One ∷ Crash Two true ∷ Deliver 2 ∷ Deliver 1 ∷ Deliver 2 ∷ []
+
+-- three messages in order, and then node 1 crashes inside the call that writes its list anew; a fourth message
+abbrev pub with_a_fresh_list : Bool → List Event
+with_a_fresh_list kept =
+    in_order ++ Arm One 5 ∷ Compact One ∷ Crash One kept ∷ Send One 1 (4 ∷ []) ∷ Deliver 9 ∷ []
+
+-- the list is written anew so often
+abbrev pub with_fresh_lists : ℕ → List Event
+with_fresh_lists times = in_order ++ take times (Compact One ∷ Compact One ∷ [])
 
 -- the MessagePending of each packet
 abbrev pub pendings : World → List (Option Bool)

@@ -1,5 +1,7 @@
 pub mod Addresses
+pub mod AloneLemmas
 pub mod Calls
+pub mod Compact
 pub mod Crashes
 pub mod Delivered
 pub mod Detail

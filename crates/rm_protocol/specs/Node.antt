@@ -1,11 +1,11 @@
 -- A node on its disk: its entries, and what stands besides where it is down.
 use Rattle.std.specs.Prelude.{ℕ, zero, ◌+◌, ◌-◌, max, nat_le, Bool, true, false, if◌then◌else◌, List, [], ◌∷◌, ◌++◌}
-use Rattle.std.specs.Prelude.{Option}
-use Rattle.std.specs.Prelude.{Some, None}
+use Rattle.std.specs.Prelude.{map, Option, Some, None}
 use Rattle.std.specs.List.{flat_map}
 use Rattle.rm_base.specs.declared.message.Behaviour.{Behaviour}
 use Rattle.rm_message.specs.declared.message.Message.{Message}
 use Rattle.record_batch.specs.Fact.{Fact}
+use Rattle.record_snapshot.specs.Snapshot.{snapshot}
 use Rattle.make_connection.specs.Waiting.{Waiting, nothing_waits}
 use Rattle.rm_protocol.specs.Calls.{Answer, Outcome, Fetched}
 use Rattle.rm_protocol.specs.Polls.{polled_after}
@@ -13,17 +13,19 @@ use Rattle.rm_protocol.specs.Terms.{Terms}
 use Rattle.rm_protocol.specs.Waiting.{mounted_waits, waits_after}
 use Rattle.key_timers.specs.Waits.{Wait}
 
--- a node is up, or the call that failed was writing a batch
+-- a node is up, or the call that failed was writing a batch, or the list of entries anew, at this place
 pub data State : Type 0 where
   Up : State
   Writing : (delta : List Fact) → State
+  Compacting : (start : ℕ) → State
 
--- entries: the batches on its disk. whole: all records that it ever had. fuse: the device calls up to the one that
--- fails. granted: what it announces for sequences from now on. clock: the moment that its calls are given. waits: the
--- keys that wait to be emitted, in the order of the last move. time: the greatest moment of a tick since it was
--- mounted. polled: the messages that wait until they are asked for
+-- entries: the batches on its disk. start: where the list of them begins there. whole: all records that it ever had.
+-- fuse: the device calls up to the one that fails. granted: what it announces for sequences from now on. clock: the
+-- moment that its calls are given. waits: the keys that wait to be emitted, in the order of the last move. time: the
+-- greatest moment of a tick since it was mounted. polled: the messages that wait until they are asked for
 pub record Node : Type 0 where
   pub entries : List (List Fact)
+  pub start : ℕ
   pub whole : List Fact
   pub fuse : Option ℕ
   pub state : State
@@ -41,10 +43,22 @@ records_in entries = flat_map (λ (batch : List Fact). batch) entries
 abbrev pub records : Node → List Fact
 records x = records_in x.entries
 
--- the place behind the entries: a head of 8 bytes, and for each entry a gate, a length of 4 bytes and the text
-abbrev pub end_of : Terms → List (List Fact) → ℕ
-end_of terms [] = 8
-end_of terms (batch ∷ entries) = 5 + terms.size batch + end_of terms entries
+-- each record as a batch of its own
+abbrev pub alone : List Fact → List (List Fact)
+alone r = map (λ (f : Fact). f ∷ []) r
+
+-- the entries of the list that is written anew: what its records say in short
+abbrev pub fresh_entries : List (List Fact) → List (List Fact)
+fresh_entries entries = alone (snapshot (records_in entries))
+
+-- the place behind a list of entries that begins here: for each entry a gate, a length of 4 bytes and the text
+abbrev pub end_of : Terms → ℕ → List (List Fact) → ℕ
+end_of terms start [] = start
+end_of terms start (batch ∷ entries) = 5 + terms.size batch + end_of terms start entries
+
+-- the place behind a node's entries
+abbrev pub node_end : Terms → Node → ℕ
+node_end terms x = end_of terms x.start x.entries
 
 -- so many device calls fail
 abbrev pub is_short : ℕ → Option ℕ → Bool
@@ -61,10 +75,16 @@ abbrev pub armed : ℕ → Option ℕ → Option ℕ
 armed calls (Some zero) = Some 0
 armed calls fuse = Some calls
 
--- after a crash: whether the batch of the call that failed was kept is a free choice
+-- after a crash: whether what the call that failed was writing was kept is a free choice
 abbrev pub entries_left : State → Bool → List (List Fact) → List (List Fact)
 entries_left (Writing delta) true entries = entries ++ delta ∷ []
+entries_left (Compacting start) true entries = fresh_entries entries
 entries_left _ kept entries = entries
+
+-- where the list begins, after a crash
+abbrev pub start_left : State → Bool → ℕ → ℕ
+start_left (Compacting start) true old = start
+start_left _ kept old = old
 
 -- all records that it ever had, after a crash
 abbrev pub whole_left : State → Bool → List Fact → List Fact
@@ -76,6 +96,7 @@ whole_left _ kept whole = whole
 abbrev pub mounted : Node → Bool → Node
 mounted x kept = record x {
   entries = entries_left x.state kept x.entries;
+  start = start_left x.state kept x.start;
   whole = whole_left x.state kept x.whole;
   fuse = None;
   state = Up;

@@ -3,15 +3,17 @@ use Rattle.std.specs.Prelude.{◌≡◌, ◌⊎◌, ℕ, ◌+◌, ◌==◌, ◌&
 use Rattle.std.specs.Prelude.{length, Option, Some, None, Err}
 use Rattle.rm_base.specs.Numbered.{numbered}
 use Rattle.record_batch.specs.Fact.{Fact}
+use Rattle.record_snapshot.specs.Snapshot.{snapshot}
 use Rattle.sequence_table.specs.Words.{Text}
 use Rattle.sequence_table.specs.Sources.{accepted}
 use Rattle.rm_protocol.specs.Calls.{Done, create, send, close, end, tick, ask_ack, nack_missing}
-use Rattle.rm_protocol.specs.Node.{Node, State, Up, Writing, records, end_of, CallOutcome, Answered, DiskFault}
-use Rattle.rm_protocol.specs.Node.{call_outcome}
+use Rattle.rm_protocol.specs.Compact.{compact_outcome}
+use Rattle.rm_protocol.specs.Node.{Node, State, Up, Writing, Compacting, records, node_end, CallOutcome, Answered}
+use Rattle.rm_protocol.specs.Node.{DiskFault, call_outcome}
 use Rattle.rm_protocol.specs.Polls.{poll}
 use Rattle.rm_protocol.specs.Terms.{Terms}
 use Rattle.rm_protocol.specs.World.{World, Packet, Side, One, Two, other, node, Event, Create, Send, Tick, Deliver}
-use Rattle.rm_protocol.specs.World.{Close, End, Ask, Nack, Crash, Noise, Poll, place, wish_of, received_by}
+use Rattle.rm_protocol.specs.World.{Close, End, Ask, Nack, Crash, Noise, Poll, Compact, place, wish_of, received_by}
 use Rattle.rm_protocol.specs.World.{happens, run, start}
 
 -- how a line comes out: as its call, or without one
@@ -29,18 +31,18 @@ arrival_outcome terms w (Some p) =
 -- how an event comes out in a world
 abbrev pub outcome_of : Terms → World → Event → LineOutcome
 outcome_of terms w (Create side via expires offer) = Called (call_outcome (node w side)
-    (create terms (records (node w side)) (end_of terms (node w side).entries) (wish_of w side via expires offer)))
+    (create terms (records (node w side)) (node_end terms (node w side)) (wish_of w side via expires offer)))
 outcome_of terms w (Send side seq text) =
     Called (call_outcome (node w side)
-    (send terms (records (node w side)) (end_of terms (node w side).entries) seq text))
+    (send terms (records (node w side)) (node_end terms (node w side)) seq text))
 outcome_of terms w (Tick side now) =
-    Called (call_outcome (node w side) (tick terms (records (node w side)) (end_of terms (node w side).entries) now
+    Called (call_outcome (node w side) (tick terms (records (node w side)) (node_end terms (node w side)) now
     (node w side).time (node w side).waits))
 outcome_of terms w (Deliver k) = arrival_outcome terms w (numbered w.packets k)
 outcome_of terms w (Close side seq) = Called (call_outcome (node w side)
-    (close terms (records (node w side)) (end_of terms (node w side).entries) seq (node w side).clock))
+    (close terms (records (node w side)) (node_end terms (node w side)) seq (node w side).clock))
 outcome_of terms w (End side seq) =
-    Called (call_outcome (node w side) (end terms (records (node w side)) (end_of terms (node w side).entries) seq))
+    Called (call_outcome (node w side) (end terms (records (node w side)) (node_end terms (node w side)) seq))
 outcome_of terms w (Ask side seq) = Called (call_outcome (node w side) (ask_ack (records (node w side)) seq))
 outcome_of terms w (Nack side seq) =
     Called (call_outcome (node w side) (nack_missing (records (node w side)) seq (node w side).clock))
@@ -48,6 +50,7 @@ outcome_of terms w (Noise side refusal) =
     Called (call_outcome (node w side) (received_by terms (node w side) (Err refusal)))
 outcome_of terms w (Poll side) =
     Called (call_outcome (node w side) (poll (records (node w side)) (place w (other side))))
+outcome_of terms w (Compact side) = Called (compact_outcome terms (node w side))
 outcome_of terms w _ = NoCall
 
 -- a line of the report: the event, how it came out, and how many entries each node has then
@@ -120,6 +123,8 @@ abbrev pub IsLeftAs : List Fact → ℕ → State → List Fact → ℕ → Type
 IsLeftAs r n Up image entries = (image ≡ r) × (entries ≡ n)
 IsLeftAs r n (Writing delta) image entries =
     ((image ≡ r) × (entries ≡ n)) ⊎ ((image ≡ r ++ delta) × (entries ≡ n + 1))
+IsLeftAs r n (Compacting start) image entries =
+    ((image ≡ r) × (entries ≡ n)) ⊎ ((image ≡ snapshot r) × (entries ≡ length (snapshot r)))
 
 -- of a node's own records and entries
 abbrev pub IsImage : Node → List Fact → ℕ → Type 0

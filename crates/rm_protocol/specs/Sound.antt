@@ -19,6 +19,7 @@ use Rattle.record_batch.specs.declared.record.OwnOffer.{OwnOffer}
 use Rattle.record_batch.specs.declared.record.PeerOffer.{PeerOffer}
 use Rattle.record_batch.specs.Fact.{Fact, Made, Creating, Created, Granted, Accepted, Acked, Received, Closed}
 use Rattle.record_batch.specs.Fact.{Ended}
+use Rattle.record_snapshot.specs.Same.{AreProper, HaveProper}
 use Rattle.rm_destination.specs.Messages.{is_empty}
 use Rattle.sequence_table.specs.Words.{Text}
 use Rattle.sequence_table.specs.Idents.{issue}
@@ -29,7 +30,7 @@ use Rattle.sequence_table.specs.Destinations.{received, held, close_of, told_of}
 use Rattle.sequence_table.specs.Find.{IsOutgoing, IsIncoming}
 use Rattle.make_connection.specs.Waiting.{Waiting}
 use Rattle.rm_protocol.specs.PollLemmas.{AllWaiting}
-use Rattle.rm_protocol.specs.Node.{Node, State, Up, Writing, records, end_of}
+use Rattle.rm_protocol.specs.Node.{Node, State, Up, Writing, Compacting, records, end_of, fresh_entries, node_end}
 use Rattle.rm_protocol.specs.Rows.{ranges_of, last_of}
 use Rattle.rm_protocol.specs.Terms.{Terms}
 use Rattle.rm_protocol.specs.World.{World, Packet, node}
@@ -88,9 +89,9 @@ abbrev pub SaysData : List Fact → Option SeqHeader → Body → Type 0
 SaysData r (Some h) (body.Payload p) = IsAccepted r h.ident h.number p.bytes
 SaysData r _ _ = Unit {0}
 
--- an acknowledgement block has numbers that its sender holds
+-- an acknowledgement block has numbers that its sender holds, and each of its ranges has one
 abbrev pub SaysBlock : List Fact → AckBlock → Type 0
-SaysBlock r block = AreHeld r block.ident (ranges_of block.kind)
+SaysBlock r block = AreHeld r block.ident (ranges_of block.kind) × AreProper (ranges_of block.kind)
 
 -- a CreateSequence has a ticket of its sender's, and its Offer names a sequence that was offered for it
 abbrev pub SaysCreate : List Fact → Option Text → Body → Type 0
@@ -214,6 +215,7 @@ Fresh r (Creating ticket to via lapse offer) =
 Fresh r (Granted c t acks_to behaviour deadline lapse offer) =
     (c ≡ counter r + 1) × IfSome offer (λ (taken : PeerOffer). seq_in (created r) taken.ident ≡ None)
 Fresh r (Accepted s p) = is_empty (marks r s) ≡ true
+Fresh r (Acked s ranges) = AreProper ranges
 Fresh r (Created s q accept) =
     ((m : Maker) × (maker r s ≡ Some m)) × (seq_in (created r) q ≡ None) × (out_ident r s ≡ None)
 Fresh r _ = Unit {0}
@@ -243,17 +245,22 @@ AreWith theirs r = AllByRecursion (IsWith theirs) (makers r)
 
 -- the store has room for the batch
 abbrev pub HasRoom : Terms → Node → List Fact → Type 0
-HasRoom terms x delta = end_of terms x.entries + 6 + terms.size delta ≤ limits.journal_bytes
+HasRoom terms x delta = node_end terms x + 6 + terms.size delta ≤ limits.journal_bytes
 
--- the batch of a call that failed may be added
+-- the store has room for the list that is written anew
+abbrev pub HasPlace : Terms → Node → ℕ → Type 0
+HasPlace terms x start = end_of terms start (fresh_entries x.entries) ≤ limits.journal_bytes
+
+-- the batch of a call that failed may be added, or the list be written anew
 abbrev pub AllowsState : Terms → Node → List Fact → State → Type 0
 AllowsState terms x theirs (Writing delta) = Allows x.whole theirs delta × AreWith theirs delta × HasRoom terms x delta
+AllowsState terms x theirs (Compacting start) = HasPlace terms x start
 AllowsState terms x theirs Up = Unit {0}
 
 -- each number that the node drew takes room on its disk, which is bounded
 pub record IsBounded (terms : Terms) (x : Node) : Type 0 where
-  pub below : counter x.whole ≤ end_of terms x.entries
-  pub store : end_of terms x.entries ≤ limits.journal_bytes
+  pub below : counter x.whole ≤ node_end terms x
+  pub store : node_end terms x ≤ limits.journal_bytes
 
 -- a packet says what is so by the records of the node that sent it
 abbrev pub SaysPacket : World → Packet → Type 0
@@ -269,6 +276,7 @@ pub record IsSoundNode (terms : Terms) (at : Text) (x : Node) (theirs : List Fac
   pub with_ : AreWith theirs x.whole
   pub at_ : address x.whole ≡ at
   pub kept : Keeps (records x) x.whole
+  pub proper : HaveProper (records x)
   pub bounded : IsBounded terms x
   pub said : AreSaid x.whole x.polled
 

@@ -12,7 +12,8 @@ use Rattle.record_batch.specs.Fact.{Made}
 use Rattle.sequence_table.specs.Words.{Text}
 use Rattle.rm_protocol.specs.Calls.{Answer, Wish, create, send, close, end, tick, receive, ask_ack, nack_missing}
 use Rattle.make_connection.specs.Waiting.{nothing_waits}
-use Rattle.rm_protocol.specs.Node.{Node, State, Up, records, end_of, armed, mounted, after, said_after, fetched_after}
+use Rattle.rm_protocol.specs.Compact.{compacted}
+use Rattle.rm_protocol.specs.Node.{Node, State, Up, records, node_end, armed, mounted, after, said_after, fetched_after}
 use Rattle.rm_protocol.specs.Polls.{poll, polls}
 use Rattle.rm_protocol.specs.Said.{sent_of}
 use Rattle.rm_protocol.specs.Terms.{Terms}
@@ -71,6 +72,7 @@ pub data Event : Type 0 where
   Crash : Side → (kept : Bool) → Event
   Noise : Side → Refusal → Event
   Poll : Side → Event
+  Compact : Side → Event
 
 -- messages that a node sent, as packets
 abbrev pub sent : Side → List Message → List Packet
@@ -99,7 +101,7 @@ calls terms w side connected answer =
 -- what comes of a message, or of bytes that are none, at a node
 abbrev pub received_by : Terms → Node → Result Message Refusal → Answer
 received_by terms x content =
-    polls x.polled content (receive terms (records x) (end_of terms x.entries) x.clock x.granted content)
+    polls x.polled content (receive terms (records x) (node_end terms x) x.clock x.granted content)
 
 -- a world after a packet was delivered, where there is one with this number: its text is read at the other node
 abbrev pub arrives : Terms → World → Option Packet → World
@@ -124,20 +126,20 @@ with_clock x now = record x { clock = clock_by x.state x.clock now }
 -- a world after one line of a script
 abbrev pub happens : Terms → World → Event → World
 happens terms w (Create side via expires offer) =
-    calls terms w side false (create terms (records (node w side)) (end_of terms (node w side).entries)
+    calls terms w side false (create terms (records (node w side)) (node_end terms (node w side))
     (wish_of w side via expires offer))
 happens terms w (Grant side behaviour) = with_node w side (record (node w side) { granted = behaviour })
 happens terms w (Send side seq text) =
-    calls terms w side false (send terms (records (node w side)) (end_of terms (node w side).entries) seq text)
+    calls terms w side false (send terms (records (node w side)) (node_end terms (node w side)) seq text)
 happens terms w (Tick side now) =
     calls terms (with_node w side (with_clock (node w side) now)) side false
-    (tick terms (records (node w side)) (end_of terms (node w side).entries) now (node w side).time (node w side).waits)
+    (tick terms (records (node w side)) (node_end terms (node w side)) now (node w side).time (node w side).waits)
 happens terms w (Deliver k) = arrives terms w (numbered w.packets k)
 happens terms w (Close side seq) =
-    calls terms w side false (close terms (records (node w side)) (end_of terms (node w side).entries) seq
+    calls terms w side false (close terms (records (node w side)) (node_end terms (node w side)) seq
     (node w side).clock)
 happens terms w (End side seq) =
-    calls terms w side false (end terms (records (node w side)) (end_of terms (node w side).entries) seq)
+    calls terms w side false (end terms (records (node w side)) (node_end terms (node w side)) seq)
 happens terms w (Ask side seq) = calls terms w side false (ask_ack (records (node w side)) seq)
 happens terms w (Nack side seq) =
     calls terms w side false (nack_missing (records (node w side)) seq (node w side).clock)
@@ -145,16 +147,18 @@ happens terms w (Arm side c) = with_node w side (record (node w side) { fuse = a
 happens terms w (Crash side kept) = with_node w side (mounted (node w side) kept)
 happens terms w (Noise side refusal) = calls terms w side true (received_by terms (node w side) (Err refusal))
 happens terms w (Poll side) = calls terms w side false (poll (records (node w side)) (place w (other side)))
+happens terms w (Compact side) = with_node w side (compacted terms (node w side))
 
 -- a world after the lines of a script, in order
 abbrev pub run : Terms → List Event → World → World
 run terms [] w = w
 run terms (event ∷ events) w = run terms events (happens terms w event)
 
--- a node that was just made
+-- a node that was just made: its list begins behind a head of 25 bytes
 abbrev pub made : ℕ → Text → Node
 made number address = record {
   entries = (Made number address ∷ []) ∷ [];
+  start = 25;
   whole = Made number address ∷ [];
   fuse = None;
   state = Up;
@@ -169,7 +173,7 @@ made number address = record {
 abbrev pub start : Text → Text → World
 start one two = record { at_one = one; at_two = two; one = made 1 one; two = made 2 two; packets = [] }
 
--- both were made: the record of each fitted its journal, which had a head of 8 bytes
+-- both were made: the record of each fitted its journal, which had a head of 25 bytes
 pub record AreMade (terms : Terms) (one two : Text) : Type 0 where
-  pub one_ : has_room terms 8 (Made 1 one ∷ []) ≡ true
-  pub two_ : has_room terms 8 (Made 2 two ∷ []) ≡ true
+  pub one_ : has_room terms 25 (Made 1 one ∷ []) ≡ true
+  pub two_ : has_room terms 25 (Made 2 two ∷ []) ≡ true

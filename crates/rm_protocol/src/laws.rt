@@ -6,11 +6,12 @@ ghost use Rattle.rm_message.specs.declared.refusal.Refusal.{Refusal};
 ghost use Rattle.record_batch.specs.Fact.{Fact};
 ghost use Rattle.rm_protocol.specs.Delivered.{TakesNew};
 ghost use Rattle.rm_protocol.specs.Exact.{AckedWereAccepted, IsExactAtFirst, OthersWaitOn, RecordBegins, StaysExact};
-ghost use Rattle.rm_protocol.specs.Exact.{WhatBeginsWaits};
+ghost use Rattle.rm_protocol.specs.Exact.{StaysExactInShort, WhatBeginsWaits};
 ghost use Rattle.rm_protocol.specs.Examples.{with_a_close, with_an_end, with_an_expiry, example_terms, in_order};
 ghost use Rattle.rm_protocol.specs.Examples.{with_ticks, with_a_nack, with_an_ask, with_both_again};
 ghost use Rattle.rm_protocol.specs.Examples.{pendings, with_a_crash_of_the_source, with_a_lost_message, with_polls};
-ghost use Rattle.rm_protocol.specs.Examples.{played, with_a_crash, with_a_gap, with_an_offer};
+ghost use Rattle.rm_protocol.specs.Examples.{played, with_a_crash, with_a_fresh_list, with_a_gap, with_an_offer};
+ghost use Rattle.rm_protocol.specs.Examples.{with_fresh_lists};
 ghost use Rattle.rm_protocol.specs.Next.{EachMayComeNext};
 ghost use Rattle.rm_protocol.specs.Node.{records};
 ghost use Rattle.rm_protocol.specs.Recorded.{FinalCloses, GapIsClosed, NewIsRecorded, OnlyHeardIsRecorded};
@@ -25,6 +26,7 @@ ghost use Rattle.rm_protocol.specs.World.{happens, node, other, run, start};
 ghost use Rattle.sequence_table.specs.Destinations.{discarded, inbox, texts};
 ghost use Rattle.sequence_table.specs.Words.{Text};
 
+use ack_ranges::union_with_nothing_is_the_same;
 use sequence_table::laws::one_number_one_identifier;
 
 /// Whatever is sent, lost, repeated and reordered, and whichever node crashes at whichever device call, every run keeps
@@ -250,6 +252,14 @@ pub fn what_waits_stays_exact()
     ensures after { StaysExact }
 {}
 
+/// What waits is exact by what the records say in short, where it is by the records: a list that is written anew leaves
+/// the keys as they are.
+pub fn what_waits_is_exact_in_short()
+    ensures { StaysExactInShort }
+{
+    union_with_nothing_is_the_same();
+}
+
 /// The acknowledged numbers of a sequence are numbers of accepted messages.
 pub fn what_is_acknowledged_was_accepted()
     ensures { AckedWereAccepted }
@@ -268,6 +278,17 @@ pub fn a_node_that_polls()
     ensures packets { pendings (played with_polls) ≡ None ∷ None ∷ Some false ∷ None ∷ None ∷ None ∷ Some true
         ∷ Some true ∷ Some false ∷ [] }
     ensures inbox { texts (inbox (records (played with_polls).two) 1) ≡ (1 ∷ []) ∷ (2 ∷ []) ∷ (3 ∷ []) ∷ [] }
+{}
+
+/// A list that is written anew: a crash inside the call leaves the list that stood or the fresh one, and the message
+/// that is sent then comes in its place. The fresh list begins behind the one that stood, and the next one before it.
+pub fn a_list_is_written_anew()
+    ensures stood { length (played (with_a_fresh_list false)).one.entries ≡ 10 }
+    ensures fresh { length (played (with_a_fresh_list true)).one.entries ≡ 8 }
+    ensures inbox { texts (inbox (records (played (with_a_fresh_list true)).two) 1)
+        ≡ (1 ∷ []) ∷ (2 ∷ []) ∷ (3 ∷ []) ∷ (4 ∷ []) ∷ [] }
+    ensures behind { (played (with_fresh_lists 1)).one.start ≡ 72 }
+    ensures before { (played (with_fresh_lists 2)).one.start ≡ 25 }
 {}
 
 /// A crash loses the messages that wait, and the request that comes again gets the same response.

@@ -1,6 +1,6 @@
 //! The protocol as a pure core: what a node does for each call, two nodes that agree, and the headline of two of them.
-//! It stands on facts of lists of records, `sequence_table`, and on messages, `rm_message`. The layers above cite the
-//! definitions and the laws.
+//! It stands on facts of lists of records, `sequence_table`, on what these say in short, `record_snapshot`, and on
+//! messages, `rm_message`. The layers above cite the definitions and the laws.
 #![tactic(auto)]
 
 pub mod laws;

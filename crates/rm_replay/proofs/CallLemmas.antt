@@ -18,7 +18,7 @@ use Rattle.rm_message.specs.declared.message.Message.{Message}
 use Rattle.rm_message.specs.declared.refusal.Refusal.{Refusal}
 use Rattle.record_batch.specs.declared.record.Via.{Via}
 use Rattle.rm_protocol.specs.Calls.{Answer, Wish as Wished}
-use Rattle.rm_protocol.specs.Node.{Node, State, Up, Writing, outcome_by}
+use Rattle.rm_protocol.specs.Node.{Node, State, Up, Writing, Compacting, outcome_by}
 use Rattle.rm_protocol.specs.Sent.{Called, arrival_outcome}
 use Rattle.rm_protocol.specs.Terms.{Terms}
 use Rattle.rm_protocol.specs.World.{Packet, Side, One, Two, World, Ask, Close, Create, Deliver, End, Nack, Noise, Send}
@@ -152,6 +152,7 @@ outcome_clocked : (x : Node) (now : ℕ) (st : State) (answer : Answer)
     → outcome_by x st answer ≡ outcome_by (with_clock x now) st answer
 outcome_clocked x now Up answer = refl
 outcome_clocked x now (Writing delta) answer = refl
+outcome_clocked x now (Compacting start) answer = refl
 
 tick_moves : (terms : Terms) (w : World) (side : Side) (now : ℕ)
     → happens terms w (Tick side now) ≡ moved terms w side (step_of terms (node w side) (asks.Tick now) (call.Tick now))

@@ -16,6 +16,7 @@ use Rattle.rm_replay.specs.Meaning.{side_of}
 use Rattle.rm_replay.specs.Shows.{Drives}
 use Rattle.rm_replay.specs.Tales.{Drive, Grew, Tells}
 use Rattle.rm_replay.specs.declared.stage.Nodes.{Nodes}
+use Rattle.rm_replay.proofs.HeadlineLemmas.{stands_for}
 use Rattle.rm_replay.proofs.TaleLemmas.{grew_none, tells_none}
 
 -- what a crash tells of its node
@@ -25,7 +26,11 @@ tells_crash : (x : Node) (choice : ℕ) (old new : Drive) (a : Actored) (crashed
 tells_crash x choice old new a crashed same = record {
   pairs = (choice, crashed.bytes) ∷ [];
   crashes = crashed.crashes;
-  left = (refl, crashed.left, tt);
+  left = (
+    refl,
+    stands_for (mounted x crashed.kept).start (mounted x crashed.kept).entries crashed.bytes crashed.left,
+    tt,
+  );
   faults = subst (λ (n : ℕ). RoseBy old.failed n 0) (sym same) (tells_none old).faults;
 }
 

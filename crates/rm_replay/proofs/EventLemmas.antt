@@ -54,7 +54,7 @@ pub record IsCall (terms : Terms) (w : World) (line : Said) (event : Event) (sid
 abbrev tale : List (ℕ × List (List Fact)) → ℕ → Tale
 tale crashes faults = record { crashes = crashes; faults = faults }
 
-tells_of : (at : Side) (of : Option Side) (side : Side) (came outcome : Outcome)
+pub tells_of : (at : Side) (of : Option Side) (side : Side) (came outcome : Outcome)
     (crashes : List (ℕ × List (List Fact))) (old new : Drive) → crashes ≡ [] → of ≡ Some side → came ≡ outcome
     → Tells (tale [] (cond (same_side side at && is_disk_outcome outcome) 1 0)) old new
     → Tells (tale crashes (fault_at at of came)) old new
@@ -135,7 +135,7 @@ cut_none each terms w line scene nodes shows = record {
 
 -- ---- lines that change one node
 
-shows_node : (w : World) (side : Side) (x : Node) (old new : Scene) (before nodes : Nodes) → Shows w old before
+pub shows_node : (w : World) (side : Side) (x : Node) (old new : Scene) (before nodes : Nodes) → Shows w old before
     → StandFor (with_node w side x) new.drives nodes → new.packets ≡ old.packets → Shows (with_node w side x) new nodes
 shows_node w One x old new before nodes shows stand same = record {
   stand = stand;

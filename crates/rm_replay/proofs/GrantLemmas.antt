@@ -23,6 +23,7 @@ stands_granting : (x : Node) (now : Told) (a : Actored) (behaviour : Behaviour) 
     → Stands x now a → Stands (record x { granted = behaviour }) now (announcing a behaviour)
 stands_granting x now a behaviour in_order s = record {
   disk = s.disk;
+  start = s.start;
   fuse = s.fuse;
   granted = refl;
   kept = λ up. record {

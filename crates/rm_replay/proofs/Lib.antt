@@ -17,3 +17,4 @@ mod GrantLemmas
 mod RunLemmas
 mod AddressLemmas
 mod CrashLemmas
+mod CompactLemmas

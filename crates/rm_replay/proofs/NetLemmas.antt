@@ -56,8 +56,8 @@ are_terms own terms net =
 pub are_made : (terms : Terms) → AreOfNet terms → AreMade terms address_one address_two
 unfolding made number32 number64 text
 are_made terms net = record {
-  one_ = subst (λ (n : ℕ). (nat_le n 4194304 && nat_le (8 + 6 + n) 268435456) ≡ true)
+  one_ = subst (λ (n : ℕ). (nat_le n 4194304 && nat_le (25 + 6 + n) 268435456) ≡ true)
       (sym (net.own.size (Made 1 address_one ∷ []))) refl;
-  two_ = subst (λ (n : ℕ). (nat_le n 4194304 && nat_le (8 + 6 + n) 268435456) ≡ true)
+  two_ = subst (λ (n : ℕ). (nat_le n 4194304 && nat_le (25 + 6 + n) 268435456) ≡ true)
       (sym (net.own.size (Made 2 address_two ∷ []))) refl;
 }

@@ -11,7 +11,8 @@ use Rattle.record_batch.specs.Fact.{Fact}
 use Rattle.rm_disk.specs.Call.{Call as DeviceCall}
 use Rattle.sequence_table.specs.Fits.{is_in_order}
 use Rattle.rm_protocol.specs.Calls.{Answer, Fetched}
-use Rattle.rm_protocol.specs.Node.{Node, State, Up, Writing, end_of, fetched_after, fetched_by, fetched_message}
+use Rattle.rm_protocol.specs.Node.{Node, State, Up, Writing, Compacting, node_end, fetched_after, fetched_by}
+use Rattle.rm_protocol.specs.Node.{fetched_message}
 use Rattle.rm_protocol.specs.Node.{is_short, records, records_in, said_after, said_by, said_with}
 use Rattle.rm_protocol.specs.Said.{leaves, sent_of}
 use Rattle.rm_protocol.specs.Addresses.{place_of}
@@ -82,11 +83,13 @@ all_said : (P : Message → Type 0) (x : Node) (st : State) (answer : Answer) �
     → AllByRecursion P (said_by x st answer)
 all_said P x Up answer all = all_said_with P x.fuse answer.delta answer.outs all
 all_said P x (Writing delta) answer all = tt
+all_said P x (Compacting start) answer all = tt
 
 all_fetched : (P : Message → Type 0) (x : Node) (st : State) (answer : Answer)
     → AllByRecursion P (fetched_message answer.fetched) → AllByRecursion P (fetched_by x st answer)
 all_fetched P x Up answer all = all_said_with P x.fuse answer.delta (fetched_message answer.fetched) all
 all_fetched P x (Writing delta) answer all = tt
+all_fetched P x (Compacting start) answer all = tt
 
 -- ---- at a node
 
@@ -94,6 +97,7 @@ kept_by : (st : State) (entries : List (List Fact)) (past : List DeviceCall) (st
     → StandsBy st entries past stored → IsKept (records_in entries)
 kept_by Up entries past stored awake = awake.has.are.kept
 kept_by (Writing delta) entries past stored asleep = asleep.are.kept
+kept_by (Compacting start) entries past stored asleep = asleep.are.kept
 
 -- at either side
 pub kept_at : (w : World) (d : Drives) (nodes : Nodes) (side : Side) → StandFor w d nodes
@@ -160,8 +164,8 @@ answer_leaves : AreRead → (terms : Terms) → AreOwn terms → (x : Node) → 
     → is_in_order x.granted ≡ true → WaitByTheRules x.polled → (asked : Asked) (this : Call) → MayBeAsked this
     → Asks this asked → LeavesByTheRules (answer_of terms x asked)
 answer_leaves laws terms own x kept in_order rules asked this may by =
-    of_each laws.reads laws.refuses LeavesByTheRules terms (records x) (end_of terms x.entries) x.clock (kept_of x) this
-    asked (each_leaves laws.says terms (records x) (end_of terms x.entries) own kept)
+    of_each laws.reads laws.refuses LeavesByTheRules terms (records x) (node_end terms x) x.clock (kept_of x) this
+    asked (each_leaves laws.says terms (records x) (node_end terms x) own kept)
     (λ content answer leaves. record {
       said = laws.polls.beside x.polled content answer leaves.said;
       fetched = laws.polls.fetched x.polled content answer rules leaves.said;

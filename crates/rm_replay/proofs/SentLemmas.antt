@@ -2,13 +2,15 @@
 use Rattle.std.proofs.Common.{◌≡◌, ◌∙◌, ◌+◌, ℕ, cond, Bool, true, false, List, ◌∷◌, ◌++◌, length, refl, sym, ap, []}
 use Rattle.std.proofs.Common.{Option, Some, None, append-nil, subst, inl, inr, length-append}
 use Rattle.std.specs.List.{AllByRecursion}
+use Rattle.std.proofs.lemmas.List.{length-map}
 use Rattle.record_batch.specs.Fact.{Fact}
 use Rattle.record_batch.specs.Writable.{IsBatch}
 use Rattle.rm_disk.specs.Call.{Call}
 use Rattle.rm_protocol.specs.Calls.{Cause, NoSequence, WrongSide, PayloadTooLong, BadPayload, NotOpen}
 use Rattle.rm_protocol.specs.Calls.{WindowFull, NodeFull, Rollover, TooManySequences, StoreFull, Done, Refused, Judged}
-use Rattle.rm_protocol.specs.Node.{CallOutcome, Answered, DiskFault, IsDown, Node, State, Up, Writing, entries_left}
-use Rattle.rm_protocol.specs.Node.{mounted, records, records_in}
+use Rattle.rm_protocol.specs.AloneLemmas.{records-alone}
+use Rattle.rm_protocol.specs.Node.{CallOutcome, Answered, DiskFault, IsDown, Node, State, Up, Writing, Compacting}
+use Rattle.rm_protocol.specs.Node.{entries_left, mounted, records, records_in}
 use Rattle.rm_protocol.specs.Sent.{IsImage, IsLeftAs, Line as Row, counts as counts_in, counts_call}
 use Rattle.rm_protocol.specs.Sent.{is_crash as is_crash_in, line_of, lines, next_entries as next_in}
 use Rattle.rm_protocol.specs.Sent.{AcceptedIsSent as IsSentInRuns, printed, sent_by as sent_by_in}
@@ -29,7 +31,7 @@ use Rattle.rm_replay.specs.Played.{Played, Story, more, none, start_world, told_
 use Rattle.rm_replay.specs.Sent.{AcceptedIsSent, AcceptsSent, Pair, counts, entries_at, is_crash, next_entries, paired}
 use Rattle.rm_replay.specs.Sent.{sent_by, sent_in}
 use Rattle.rm_replay.specs.Shows.{Holds, Scene, address_one, address_two}
-use Rattle.rm_replay.proofs.HeadlineLemmas.{records_push}
+use Rattle.rm_replay.proofs.HeadlineLemmas.{records_push, stands_for}
 use Rattle.rm_replay.proofs.PlayedLemmas.{RunGoesOn}
 
 -- ---- a line of the script and its line of the report, and a line of the protocol
@@ -225,6 +227,14 @@ rows_line terms w number (said.Poll at) event means =
       entries = entries_same terms w number _ _;
       sent = λ side seq now next. refl;
     }) finished)
+rows_line terms w number (said.Compact at) event means =
+    subst (HasRows terms w number (said.Compact at)) (sym means)
+    (has_row [] [] [] _ _ _ (record {
+      pairs = λ script rest. refl;
+      crash = λ side. refl;
+      entries = entries_same terms w number _ _;
+      sent = λ side seq now next. refl;
+    }) finished)
 rows_line terms w number (said.Arm at calls) event means =
     subst (HasRows terms w number (said.Arm at calls)) (sym means)
     (has_row [] [] [] _ _ _ (record {
@@ -313,6 +323,8 @@ left_as : (st : State) (kept : Bool) (entries : List (List Fact))
 left_as Up kept entries = (refl, refl)
 left_as (Writing delta) true entries = inr (records_push entries delta, length_push entries delta)
 left_as (Writing delta) false entries = inl (refl, refl)
+left_as (Compacting start) true entries = inr (records-alone _, length-map _ _)
+left_as (Compacting start) false entries = inl (refl, refl)
 
 -- what one more crash leaves is an image
 image_of : (x : Node) (kept : Bool) → IsImage x (records (mounted x kept)) (length (mounted x kept).entries)
@@ -325,7 +337,8 @@ accepts goes on law one terms script s played at past leaves image may batches a
     let of = rows_of_run goes on terms script s played in
     let left = leaves image may in
     let x = node s.world at in
-    let same = one batches (mounted x left.kept).entries image are left.are.each stands left.stands in
+    let same = one batches (mounted x left.kept).entries image are left.are.each stands
+    (stands_for (mounted x left.kept).start (mounted x left.kept).entries image left.stands) in
     let there : IsImage (node (run terms of.events start_world) at) (records (mounted x left.kept))
     (length (mounted x left.kept).entries) =
     subst (λ (w : World). IsImage (node w at) (records (mounted x left.kept)) (length (mounted x left.kept).entries))

@@ -4,13 +4,15 @@ use Rattle.std.proofs.Common.{Bool, true, false, Option, Some, None, refl, sym, 
 use Rattle.std.specs.Prelude.{OnOk, Result, Ok, Err}
 use Rattle.std.proofs.lemmas.List.{length-map}
 use Rattle.std.proofs.Math.Seq.{take-append_seam, take-length}
-use Rattle.rm_protocol.specs.Node.{Node, State, Up, Writing, armed, end_of, fetched_after, mounted, records}
+use Rattle.rm_protocol.specs.Compact.{compacted}
+use Rattle.rm_protocol.specs.Node.{Node, State, Up, Writing, Compacting, armed, fetched_after, mounted, node_end}
+use Rattle.rm_protocol.specs.Node.{records}
 use Rattle.rm_protocol.specs.Node.{said_after}
 use Rattle.rm_protocol.specs.Polls.{poll}
 use Rattle.rm_protocol.specs.Said.{sent_of}
 use Rattle.rm_protocol.specs.Terms.{Terms}
 use Rattle.rm_protocol.specs.World.{Packet, Side, One, Two, World, Event, Create, Grant, Send, Tick, Deliver, Close}
-use Rattle.rm_protocol.specs.World.{End, Ask, Nack, Poll, Arm, Crash}
+use Rattle.rm_protocol.specs.World.{End, Ask, Nack, Poll, Arm, Crash, Compact}
 use Rattle.rm_protocol.specs.World.{Noise, arrives, calls, happens, node, other, place, received_by, sent, wish_of}
 use Rattle.rm_protocol.specs.World.{with_clock}
 use Rattle.rm_protocol.specs.World.{with_node}
@@ -152,22 +154,22 @@ arrives_grow terms w (Some p) =
 packets_grow : (terms : Terms) (w : World) (event : Event) → IsPrefixOf w.packets (happens terms w event).packets
 packets_grow terms w (Create side via expires offer) =
     calls_grow terms w side false
-    (create terms (records (node w side)) (end_of terms (node w side).entries) (wish_of w side via expires offer))
+    (create terms (records (node w side)) (node_end terms (node w side)) (wish_of w side via expires offer))
 packets_grow terms w (Grant side behaviour) = still w side (record (node w side) { granted = behaviour })
 packets_grow terms w (Send side seq text) =
     calls_grow terms w side false
-    (send terms (records (node w side)) (end_of terms (node w side).entries) seq text)
+    (send terms (records (node w side)) (node_end terms (node w side)) seq text)
 packets_grow terms w (Tick side now) =
     node_grows terms w side (with_clock (node w side) now) false
-    (tick terms (records (node w side)) (end_of terms (node w side).entries) now (node w side).time
+    (tick terms (records (node w side)) (node_end terms (node w side)) now (node w side).time
     (node w side).waits)
 packets_grow terms w (Deliver k) = arrives_grow terms w (numbered w.packets k)
 packets_grow terms w (Close side seq) =
     calls_grow terms w side false
-    (close terms (records (node w side)) (end_of terms (node w side).entries) seq (node w side).clock)
+    (close terms (records (node w side)) (node_end terms (node w side)) seq (node w side).clock)
 packets_grow terms w (End side seq) =
     calls_grow terms w side false
-    (end terms (records (node w side)) (end_of terms (node w side).entries) seq)
+    (end terms (records (node w side)) (node_end terms (node w side)) seq)
 packets_grow terms w (Ask side seq) = calls_grow terms w side false (ask_ack (records (node w side)) seq)
 packets_grow terms w (Nack side seq) =
     calls_grow terms w side false (nack_missing (records (node w side)) seq (node w side).clock)
@@ -177,6 +179,7 @@ packets_grow terms w (Arm side c) = still w side (record (node w side) { fuse = 
 packets_grow terms w (Crash side kept) = still w side (mounted (node w side) kept)
 packets_grow terms w (Noise side refusal) =
     calls_grow terms w side true (received_by terms (node w side) (Err refusal))
+packets_grow terms w (Compact side) = still w side (compacted terms (node w side))
 
 -- a line was played, and there was no memory for its report
 left_played : EachIsLeft → (terms : Terms) (w : World) (line : Said) (event : Option Event) (scene : Scene)
@@ -214,8 +217,9 @@ entries_by : (st : State) (entries : List (List Fact)) (past : List Call) (store
     → StandsBy st entries past stored → length stored.journal.gates ≡ length entries
 entries_by Up entries past stored awake =
     ap (λ (gates : List ℕ). length gates) awake.has.holds.journal.gates
-    ∙ length-gates_from 8 (entries_of entries) ∙ length-map entries batch_text
+    ∙ length-gates_from stored.journal.bank.start (entries_of entries) ∙ length-map entries batch_text
 entries_by (Writing delta) entries past stored asleep = asleep.count
+entries_by (Compacting start) entries past stored asleep = asleep.count
 
 entries_is : (x : Node) (now : Told) (a : Actored) → Stands x now a
     → length a.node.stored.journal.gates ≡ length x.entries

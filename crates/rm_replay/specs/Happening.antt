@@ -3,6 +3,7 @@ use Rattle.std.specs.Prelude.{◌≡◌, ◌⊎◌, ℕ, Bool, List, ◌∷◌, 
 use Rattle.rm_base.specs.declared.failures.Memory.{Memory}
 use Rattle.rm_base.specs.declared.message.Behaviour.{Behaviour}
 use Rattle.rm_node.specs.declared.packets.Out.{Out}
+use Rattle.rm_protocol.specs.Compact.{compact_outcome, compacted as compacted_node}
 use Rattle.rm_protocol.specs.Node.{Node, armed as armed_by, mounted}
 use Rattle.rm_protocol.specs.Terms.{Terms}
 use Rattle.rm_protocol.specs.World.{Event, Side, One, Two, World, hands_out, node, with_node}
@@ -77,6 +78,16 @@ granted w side behaviour = with_node w side (record (node w side) { granted = be
 -- the disk of a node is armed
 abbrev pub armed : World → Side → ℕ → World
 armed w side calls = with_node w side (record (node w side) { fuse = armed_by calls (node w side).fuse })
+
+-- a node writes its journal anew
+abbrev pub compacted : Terms → World → Side → World
+compacted terms w side = with_node w side (compacted_node terms (node w side))
+
+-- the node at a side did so; where memory was wanting, nothing has changed
+abbrev pub Compacts : Terms → World → Side → Drives → Nodes → Result Outcome Memory → Type 0
+Compacts terms w side d nodes (Ok outcome) =
+    (outcome ≡ call_told (compact_outcome terms (node w side))) × StandFor (compacted terms w side) d nodes
+Compacts terms w side d nodes (Err memory) = StandFor w d nodes
 
 -- what a crash of the node at one side tells of that at another, which has these entries then
 abbrev pub crash_tale : Side → Side → ℕ → Node → Tale

@@ -1,6 +1,6 @@
 -- What the lines of a script come to.
 use Rattle.std.specs.Prelude.{◌≡◌, ◌⊎◌, ℕ, ◌+◌, List, ◌∷◌, ◌++◌, length, take, slice_get, Option, Some, []}
-use Rattle.rm_protocol.specs.Node.{Node, State, Up, Writing, records}
+use Rattle.rm_protocol.specs.Node.{Node, State, Up, records}
 use Rattle.rm_protocol.specs.Terms.{Terms}
 use Rattle.rm_protocol.specs.World.{One, Two, World, Event, start}
 use Rattle.rm_report.specs.Report.{down_text, lines_text}
@@ -56,7 +56,7 @@ pub data Played (terms : Terms) : List Said → Story → Type 0 where
 -- what a node knows in the end, by its state
 abbrev pub known_by : Place → Node → State → List ℕ
 known_by at x Up = node_text at (records x) x.clock
-known_by at x (Writing delta) = down_text at
+known_by at x _ = down_text at
 
 -- what a node knows in the end
 abbrev pub known_text : Place → Node → List ℕ

@@ -2,13 +2,15 @@
 ghost use Rattle.std.specs.Prelude.{◌≡◌, ◌≤◌, IfOk, IfSome, true, false};
 ghost use Rattle.rm_base.specs.Text.{IsText};
 ghost use Rattle.rm_elements.specs.Writable.{IsLapseWritable};
+ghost use Rattle.node_actor.specs.Outcomes.{ends_by_disk};
+ghost use Rattle.node_laws.specs.OwnTerms.{AreOwn};
 ghost use Rattle.rm_protocol.specs.Terms.{Terms};
 ghost use Rattle.rm_protocol.specs.World.{Side as Place, World, node, other as other_of};
 ghost use Rattle.rm_script.specs.Within.{IsWithin};
 ghost use Rattle.sequence_table.specs.Fits.{is_in_order};
 ghost use Rattle.rm_node.specs.Asked.{Asked, Asks, MayBeAsked};
 ghost use Rattle.rm_replay.specs.Asked.{WereAsked, step_of};
-ghost use Rattle.rm_replay.specs.Happening.{Crashes, Happens, Moves, WereAskedFor, armed, granted, told_of};
+ghost use Rattle.rm_replay.specs.Happening.{Compacts, Crashes, Happens, Moves, WereAskedFor, armed, granted, told_of};
 ghost use Rattle.rm_replay.specs.Meaning.{side_of, via_of};
 ghost use Rattle.rm_replay.specs.Net.{AreOfNet, number_of};
 ghost use Rattle.rm_replay.specs.Shows.{Drives, Shows, StandFor, address_of, drives_of, scene_of};
@@ -260,6 +262,26 @@ fn arm<M: CrashDisk>(one: &mut M, two: &mut M, nodes: &Nodes, side: Side, calls:
     }
 }
 
+/// A node writes its journal anew.
+fn compact<M: CrashDisk>(
+    one: &mut M,
+    two: &mut M,
+    nodes: &mut Nodes,
+    side: Side,
+) -> Result<Outcome, Memory>
+    requires { (w : World) × StandFor w (drives_of M.told one.old two.old) nodes.old }
+    ensures compacts { (terms : Terms) → AreOwn terms → (w : World)
+        → StandFor w (drives_of M.told one.old two.old) nodes.old
+        → Compacts terms w (side_of side) (drives_of M.told one.new two.new) nodes.new result }
+    ensures asked { WereAsked (side_of side) (ends_by_disk result) (drives_of M.told one.old two.old)
+        (drives_of M.told one.new two.new) }
+{
+    match side {
+        Side::One => nodes.one.compact(one),
+        Side::Two => nodes.two.compact(two),
+    }
+}
+
 /// A disk crashes, and its node is mounted again.
 fn crash<M: CrashDisk>(
     one: &mut M,
@@ -322,6 +344,10 @@ pub(crate) fn happen<M: CrashDisk, W: Wire>(
         Event::Ask { node, seq } => some(call(stage, nodes, node, Call::AskAck { seq })),
         Event::Nack { node, seq } => some(call(stage, nodes, node, Call::NackMissing { seq })),
         Event::Poll { node } => some(poll(alloc, stage, nodes, node)),
+        Event::Compact { node } => {
+            let came = compact(&mut stage.one, &mut stage.two, nodes, node);
+            some(came)
+        }
         Event::Arm { node, calls } => {
             arm(&mut stage.one, &mut stage.two, nodes, node, calls);
             Ok(Some(Outcome::Done))

@@ -14,13 +14,13 @@ use Rattle.rm_script.specs.Script.{side_text, spaced, IsExpiry, IsOffer, IsPolle
 use Rattle.rm_script.specs.Reading.{behind, word_of, behind_word, number_in, behaviour_in, node_in, call_in}
 use Rattle.rm_script.specs.Reading.{numbered_in, offer_in, create_with, create_behind, create_in, grant_in, text_in}
 use Rattle.rm_script.specs.Reading.{text_behind, send_in, tick_in, deliver_in, close_in, end_in, arm_in, crash_in}
-use Rattle.rm_script.specs.Reading.{ask_in, nack_in, poll_alone, poll_in, polled_by, polled_in}
+use Rattle.rm_script.specs.Reading.{ask_in, nack_in, with_none, alone_in, poll_in, compact_in, polled_by, polled_in}
 use Rattle.rm_script.specs.Reading.{some_bytes, noise_in, choose, mishap_in, request_in, is_blank, event_in}
 use Rattle.rm_script.specs.declared.event.Side.{Side}
 use Rattle.rm_script.specs.declared.event.Side.TheVariants.{One, Two}
 use Rattle.rm_script.specs.declared.event.Event.{Event}
 use Rattle.rm_script.specs.declared.event.Event.TheVariants.{Nothing, Create, Grant, Send, Tick, Deliver, Close, End}
-use Rattle.rm_script.specs.declared.event.Event.TheVariants.{Ask, Nack, Poll}
+use Rattle.rm_script.specs.declared.event.Event.TheVariants.{Ask, Nack, Poll, Compact}
 use Rattle.rm_script.specs.declared.event.Event.TheVariants.{Arm, Crash, Noise}
 use Rattle.rm_script.proofs.WordLemmas.{some_then, some_mapped, behind-is, word_of-onto, behind_word-onto}
 use Rattle.rm_script.proofs.WordLemmas.{word_of-behind, word_of-IsWord, number_in-decimal, number_in-is, decimal-IsWord}
@@ -137,6 +137,8 @@ event_in-said line (Ask side seq) h = rw (h.2, numbered_in-text 1 256 seq side h
 event_in-said line (Nack side seq) h = rw (h.2, numbered_in-text 1 256 seq side h.0 (omega arith) h.1) refl
 event_in-said line (Poll One) h = rw h refl
 event_in-said line (Poll Two) h = rw h refl
+event_in-said line (Compact One) h = rw h refl
+event_in-said line (Compact Two) h = rw h refl
 event_in-said line (Arm side calls) h = rw (h.2, numbered_in-text 1 1000 calls side h.0 (omega arith) h.1) refl
 event_in-said line (Crash side choice) h = rw (h.2, numbered_in-text 0 3 choice side h.0 (omega arith) h.1) refl
 event_in-said line (Noise side bytes) h =
@@ -287,18 +289,29 @@ nack_in-is bytes event h =
     let n = numbered_in-is 1 256 bytes found.0 found.1 in
     subst (λ e. Says (codes "nack " ++ bytes) e) found.2 (n.word, n.number, ap (λ l. codes "nack " ++ l) n.text)
 
-poll_alone-is : (side : Side) (rest : List ℕ) (event : Event) → poll_alone side rest ≡ Some event
-    → (rest ≡ []) × (Poll side ≡ event)
-poll_alone-is side [] event h = (refl, cc)
-poll_alone-is side (b ∷ rest) event h = absurd (cc)
+with_none-is : (side at : Side) (rest : List ℕ) → with_none side rest ≡ Some at → (rest ≡ []) × (side ≡ at)
+with_none-is side at [] h = (refl, cc)
+with_none-is side at (b ∷ rest) h = absurd (cc)
+
+alone_in-is : (bytes : List ℕ) (side : Side) → alone_in bytes ≡ Some side → bytes ≡ side_text side
+alone_in-is bytes side h =
+    let node = some_then _ (node_in bytes) side h in
+    let none = with_none-is node.0.0 side node.0.1 node.2 in
+    node_in-is bytes node.0 node.1
+    ∙ (ap (λ l. side_text node.0.0 ++ l) none.0 ∙ (append-nil (side_text node.0.0) ∙ ap side_text none.1))
 
 poll_in-is : (bytes : List ℕ) (event : Event) → poll_in bytes ≡ Some event → Says (codes "poll " ++ bytes) event
 poll_in-is bytes event h =
-    let node = some_then _ (node_in bytes) event h in
-    let side = side_text node.0.0 in
-    let alone = poll_alone-is node.0.0 node.0.1 event node.2 in
-    let text : bytes ≡ side = node_in-is bytes node.0 node.1 ∙ (ap (λ l. side ++ l) alone.0 ∙ append-nil side) in
-    subst (λ e. Says (codes "poll " ++ bytes) e) alone.1 (ap (λ l. codes "poll " ++ l) text)
+    let found = some_mapped _ (alone_in bytes) event h in
+    subst (λ e. Says (codes "poll " ++ bytes) e) found.2
+    (ap (λ l. codes "poll " ++ l) (alone_in-is bytes found.0 found.1))
+
+compact_in-is : (bytes : List ℕ) (event : Event) → compact_in bytes ≡ Some event
+    → Says (codes "compact " ++ bytes) event
+compact_in-is bytes event h =
+    let found = some_mapped _ (alone_in bytes) event h in
+    subst (λ e. Says (codes "compact " ++ bytes) e) found.2
+    (ap (λ l. codes "compact " ++ l) (alone_in-is bytes found.0 found.1))
 
 arm_in-is : (bytes : List ℕ) (event : Event) → arm_in bytes ≡ Some event → Says (codes "arm " ++ bytes) event
 arm_in-is bytes event h =
@@ -352,7 +365,9 @@ request_in-is line event =
     (said_by (codes "end ") line end_in _ event (λ rest. end_in-is rest event)
     (said_by (codes "ask ") line ask_in _ event (λ rest. ask_in-is rest event)
     (said_by (codes "nack ") line nack_in _ event (λ rest. nack_in-is rest event)
-    (said_by (codes "poll ") line poll_in _ event (λ rest. poll_in-is rest event) (mishap_in-is line event)))))))))
+    (said_by (codes "poll ") line poll_in _ event (λ rest. poll_in-is rest event)
+    (said_by (codes "compact ") line compact_in _ event (λ rest. compact_in-is rest event)
+    (mishap_in-is line event))))))))))
 
 -- a comment begins with #
 is_blank-Says : (line : List ℕ) → is_blank line ≡ true → Says line Nothing

@@ -15,7 +15,7 @@ use Rattle.rm_script.specs.declared.event.Side.{Side}
 use Rattle.rm_script.specs.declared.event.Side.TheVariants.{One, Two}
 use Rattle.rm_script.specs.declared.event.Event.{Event}
 use Rattle.rm_script.specs.declared.event.Event.TheVariants.{Nothing, Create, Grant, Send, Tick, Deliver, Close, End}
-use Rattle.rm_script.specs.declared.event.Event.TheVariants.{Ask, Nack, Poll}
+use Rattle.rm_script.specs.declared.event.Event.TheVariants.{Ask, Nack, Poll, Compact}
 use Rattle.rm_script.specs.declared.event.Event.TheVariants.{Arm, Crash, Noise}
 
 -- what stands behind a word at the front of bytes
@@ -146,13 +146,21 @@ abbrev pub nack_in : List ℕ → Option Event
 nack_in bytes = option_map (λ n. Nack n.0 n.1) (numbered_in 1 limits.most_sequences bytes)
 
 -- nothing stands behind the node's number
-abbrev pub poll_alone : Side → List ℕ → Option Event
-poll_alone side [] = Some (Poll side)
-poll_alone side (b ∷ bytes) = None
+abbrev pub with_none : Side → List ℕ → Option Side
+with_none side [] = Some side
+with_none side (b ∷ bytes) = None
+
+-- a node's number alone
+abbrev pub alone_in : List ℕ → Option Side
+alone_in bytes = option_and_then (λ n. with_none n.0 n.1) (node_in bytes)
 
 -- poll N
 abbrev pub poll_in : List ℕ → Option Event
-poll_in bytes = option_and_then (λ n. poll_alone n.0 n.1) (node_in bytes)
+poll_in bytes = option_map (λ side. Poll side) (alone_in bytes)
+
+-- compact N
+abbrev pub compact_in : List ℕ → Option Event
+compact_in bytes = option_map (λ side. Compact side) (alone_in bytes)
 
 -- arm N C
 abbrev pub arm_in : List ℕ → Option Event
@@ -192,7 +200,8 @@ request_in line =
     (choose (behind (codes "send ") line) send_in (choose (behind (codes "tick ") line) tick_in
     (choose (behind (codes "close ") line) close_in (choose (behind (codes "end ") line) end_in
     (choose (behind (codes "ask ") line) ask_in (choose (behind (codes "nack ") line) nack_in
-    (choose (behind (codes "poll ") line) poll_in (mishap_in line)))))))))
+    (choose (behind (codes "poll ") line) poll_in (choose (behind (codes "compact ") line) compact_in
+    (mishap_in line))))))))))
 
 -- whether a line is empty, or a comment
 abbrev pub is_blank : List ℕ → Bool

@@ -13,7 +13,7 @@ use Rattle.rm_script.specs.declared.event.Side.{Side}
 use Rattle.rm_script.specs.declared.event.Side.TheVariants.{One, Two}
 use Rattle.rm_script.specs.declared.event.Event.{Event}
 use Rattle.rm_script.specs.declared.event.Event.TheVariants.{Nothing, Create, Grant, Send, Tick, Deliver, Close, End}
-use Rattle.rm_script.specs.declared.event.Event.TheVariants.{Ask, Nack, Poll}
+use Rattle.rm_script.specs.declared.event.Event.TheVariants.{Ask, Nack, Poll, Compact}
 use Rattle.rm_script.specs.declared.event.Event.TheVariants.{Arm, Crash, Noise}
 
 -- the byte stands before the first of the lines
@@ -102,6 +102,7 @@ Says line (Ask side seq) =
 Says line (Nack side seq) =
     (k : List ℕ) × IsNumber 1 limits.most_sequences k seq × (line ≡ call_text (codes "nack") side k)
 Says line (Poll side) = line ≡ spaced (codes "poll") (side_text side)
+Says line (Compact side) = line ≡ spaced (codes "compact") (side_text side)
 Says line (Arm side calls) = (c : List ℕ) × IsNumber 1 1000 c calls × (line ≡ call_text (codes "arm") side c)
 Says line (Crash side choice) = (x : List ℕ) × IsNumber 0 3 x choice × (line ≡ call_text (codes "crash") side x)
 Says line (Noise side bytes) =

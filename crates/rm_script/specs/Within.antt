@@ -6,7 +6,7 @@ use Rattle.rm_base.specs.declared.message.Behaviour.TheVariants.{NoDiscard}
 use Rattle.rm_elements.specs.Writable.{IsLapseWritable}
 use Rattle.rm_script.specs.declared.event.Event.{Event}
 use Rattle.rm_script.specs.declared.event.Event.TheVariants.{Nothing, Create, Grant, Send, Tick, Deliver, Close, End}
-use Rattle.rm_script.specs.declared.event.Event.TheVariants.{Ask, Nack, Poll}
+use Rattle.rm_script.specs.declared.event.Event.TheVariants.{Ask, Nack, Poll, Compact}
 use Rattle.rm_script.specs.declared.event.Event.TheVariants.{Arm, Crash, Noise}
 
 -- from low to high
@@ -27,6 +27,7 @@ IsWithin (End side seq) = IsFromTo 1 limits.most_sequences seq
 IsWithin (Ask side seq) = IsFromTo 1 limits.most_sequences seq
 IsWithin (Nack side seq) = IsFromTo 1 limits.most_sequences seq
 IsWithin (Poll side) = ⊤
+IsWithin (Compact side) = ⊤
 IsWithin (Arm side calls) = IsFromTo 1 1000 calls
 IsWithin (Crash side choice) = choice ≤ 3
 IsWithin (Noise side bytes) = bytes ≢ []

@@ -67,6 +67,10 @@ pub enum Event {
     Poll {
         node: Side,
     },
+    /// The node writes its journal anew.
+    Compact {
+        node: Side,
+    },
     /// The disk fails at the device call with this number from now on.
     Arm {
         node: Side,

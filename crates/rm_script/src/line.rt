@@ -14,7 +14,9 @@ ghost use Rattle.rm_script.specs.Reading.{
   end_in,
   ask_in,
   nack_in,
+  alone_in,
   poll_in,
+  compact_in,
   arm_in,
   crash_in,
   noise_in,
@@ -87,6 +89,9 @@ fn request(alloc: Global, line: &[u8]) -> Result<Option<Event>, Memory>
     }
     if let Some(rest) = behind(line, b"poll ") {
         return Ok(poll(rest));
+    }
+    if let Some(rest) = behind(line, b"compact ") {
+        return Ok(compact(rest));
     }
     mishap(alloc, line)
 }
@@ -245,16 +250,29 @@ fn nack(bytes: &[u8]) -> Option<Event>
     })
 }
 
-fn poll(bytes: &[u8]) -> Option<Event>
-    ensures { result ≡ poll_in bytes.now }
+// The number of a node, and nothing behind it.
+fn alone(bytes: &[u8]) -> Option<Side>
+    ensures { result ≡ alone_in bytes.now }
 {
     let arguments = node(bytes)?;
     if !arguments.rest.is_empty() {
         return None;
     }
-    Some(Event::Poll {
-        node: arguments.node,
-    })
+    Some(arguments.node)
+}
+
+fn poll(bytes: &[u8]) -> Option<Event>
+    ensures { result ≡ poll_in bytes.now }
+{
+    let node = alone(bytes)?;
+    Some(Event::Poll { node })
+}
+
+fn compact(bytes: &[u8]) -> Option<Event>
+    ensures { result ≡ compact_in bytes.now }
+{
+    let node = alone(bytes)?;
+    Some(Event::Compact { node })
 }
 
 fn arm(bytes: &[u8]) -> Option<Event>

@@ -1,6 +1,6 @@
 //! Two programs on one machine. With words it is the program wsrm; with none it plays a message from one node to
 //! another, each in a folder of its own, whose commands are child processes of it, the close and the end of its
-//! sequence, and what a node alone refuses.
+//! sequence, journals that are written anew, and what a node alone refuses.
 #![tactic(auto)]
 
 mod play;
@@ -26,5 +26,6 @@ fn main(rt: HostRuntime) -> ExitCode {
 fn plays(rt: &HostRuntime) -> io::Result<()> {
     play::deliver(rt)?;
     play::end(rt)?;
+    play::compact(rt)?;
     play::refuse(rt)
 }

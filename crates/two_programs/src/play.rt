@@ -34,6 +34,12 @@ const LINK_FAULT: i32 = 7;
 /// What the client is asked for when its message is acknowledged.
 const THEN: [&[&str]; 3] = [&["push"], &["close", "1"], &["end", "1"]];
 
+/// What the server is asked for when it has two messages: its journal is written anew.
+const RECEIVED: [&[&str]; 2] = [&["compact"], &["inbox", "1"]];
+
+/// And the client.
+const SENT: [&[&str]; 3] = [&["compact"], &["compact"], &["push"]];
+
 /// Makes two nodes, sends a message while the one serves as many connections as that takes, and prints what each
 /// command printed.
 pub fn deliver(rt: &HostRuntime) -> io::Result<()> {
@@ -60,6 +66,24 @@ pub fn end(rt: &HostRuntime) -> io::Result<()> {
     }
     show(rt, serving.wait_with_output(rt.alloc())?)?;
     show(rt, run(rt, &server, &["inbox", "1"], b"")?)?;
+    forget(rt, &server, &client)
+}
+
+/// Sends two messages, and then each journal is written anew: the inbox stays as it is, and nothing is to be posted.
+pub fn compact(rt: &HostRuntime) -> io::Result<()> {
+    let (server, client) = nodes(rt)?;
+    let serving = command(rt, &server, &["serve", "18473", "3", "dfg"])?
+        .stdout(Stdio::piped())
+        .spawn(rt)?;
+    show(rt, send(rt, &client)?)?;
+    show(rt, send(rt, &client)?)?;
+    show(rt, serving.wait_with_output(rt.alloc())?)?;
+    for words in &RECEIVED {
+        show(rt, run(rt, &server, *words, b"")?)?;
+    }
+    for words in &SENT {
+        show(rt, run(rt, &client, *words, b"")?)?;
+    }
     forget(rt, &server, &client)
 }
 

@@ -10,7 +10,7 @@ use rm_node::Node;
 use rm_report::{push_receiving, push_sending};
 use std::alloc::Global;
 
-// How often a disk is read that grows meanwhile.
+// How often a disk is read that is written meanwhile.
 const TURNS: u32 = 64;
 
 /// The node that a disk holds: a line of it, and one for each of its sequences, as they stand at a moment.
@@ -25,19 +25,21 @@ pub fn show<D: Disk>(alloc: Global, disk: &mut D, now: u64) -> Result<Blob, End>
 }
 
 // The node that a disk holds, which another process may be writing. An entry that is added between the look at the
-// length and the end of the read leaves an open gate at the end of what is read: so what is no journal is read again if
-// it grew.
+// length and the end of the read leaves an open gate at the end of what is read, and a list that is written anew may be
+// put where the one stood that is read. So what is no journal is read again, until it is none twice at one length.
 fn mounted<D: Disk>(alloc: Global, disk: &mut D) -> Result<Node, End>
     requires silent { D.tells ≡ false }
 {
+    let mut none_at = None;
     for _turn in 0..TURNS {
-        let len = disk.len();
         match Node::mount(alloc, disk) {
             Ok(node) => return Ok(node),
             Err(MountError::NotAJournal) => {
-                if disk.len() == len {
+                let len = disk.len();
+                if none_at == Some(len) {
                     return Err(End::NotAJournal);
                 }
+                none_at = Some(len);
             }
             Err(error) => return Err(End::from(error)),
         }

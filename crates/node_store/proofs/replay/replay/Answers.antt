@@ -54,7 +54,7 @@ returns-clause-found g c tells entries fits =
       c.loop-before-test.false,
       c.count-before-end.ensures,
       ap (λ l. length l) fits.gates,
-      length-gates_from 8 entries,
+      length-gates_from c.args.journal.now.bank.start entries,
     ) in
     subst (λ l. Replays l c.loop-before.tables.records) (take_all i entries whole)
     (c.loop-before.invariant.replayed tells entries fits)

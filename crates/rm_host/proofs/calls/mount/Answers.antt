@@ -1,7 +1,7 @@
 use Rattle.std.proofs.Common.{◌≡◌, ◌∙◌, Err, ap, false, sym, subst}
 use Rattle.std.proofs.lemmas.Result.{err_from_is_err_and}
-use Rattle.rm_host.specs.Ends.{HasReason, faults_of, is_outer}
-use Rattle.rm_host.proofs.EndLemmas.{mount-fails, mount-inner}
+use Rattle.rm_host.specs.Ends.{HasReason, faults_of, is_outer, is_refused}
+use Rattle.rm_host.proofs.EndLemmas.{mount-fails, mount-inner, mount-unrefused}
 use Rattle.rm_host.proofs.calls.mount.Goals as goal
 
 pub returns-in_err-mount-clause-reason : goal.returns-in_err-mount-clause-reason
@@ -11,6 +11,11 @@ returns-in_err-mount-clause-reason g c =
     let new = record old { disk = (g.D.Disk.told c.mount.new.disk).faults } in
     subst (λ r. HasReason old new r) (sym (p.1 ∙ ap Err p.2))
     (mount-fails old new c.in_err-mount.field-0.0 c.in_err-mount.ensures.cause)
+
+pub returns-in_err-mount-clause-unrefused : goal.returns-in_err-mount-clause-unrefused
+returns-in_err-mount-clause-unrefused g c =
+    let p = err_from_is_err_and c.from_residual.result c.from_residual.ensures.1 in
+    subst (λ r. is_refused r ≡ false) (sym (p.1 ∙ ap Err p.2)) (mount-unrefused c.in_err-mount.field-0.0)
 
 pub returns-in_err-mount-clause-inner : goal.returns-in_err-mount-clause-inner
 returns-in_err-mount-clause-inner g c =

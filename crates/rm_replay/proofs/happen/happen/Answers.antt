@@ -11,6 +11,7 @@ use Rattle.rm_replay.specs.Shows.{drives_of, scene_of}
 use Rattle.rm_node.specs.Asked as asks
 use Rattle.rm_node.specs.declared.call.Call.TheVariants as call
 use Rattle.rm_replay.proofs.CallLemmas.{ask_call, close_call, end_call, nack_call, send_call, tick_call}
+use Rattle.rm_replay.proofs.CompactLemmas.{happens_compact}
 use Rattle.rm_replay.proofs.EventLemmas.{happens_arm, happens_call, happens_crash, happens_grant, happens_line}
 use Rattle.rm_replay.proofs.OrderLemmas.{in_order-all, in_order-offer}
 use Rattle.rm_replay.proofs.StepLemmas.{scene_by}
@@ -109,6 +110,18 @@ returns-in-Nack g c terms net w shows =
     (step_of terms (node w (side_of at)) asked (call.NackMissing c.in-Nack.seq)) old new
     c.call-in-Nack.new.nodes c.call-in-Nack.result (nack_call terms w at c.in-Nack.seq)
     (c.call-in-Nack.ensures.moves terms net asked refl w shows) c.call-in-Nack.ensures.asked)
+
+pub returns-in-Compact : goal.returns-in-Compact
+returns-in-Compact g c terms net w shows =
+    let at = c.in-Compact.node in
+    let old = scene_of g.M.Disk.told g.W.Wire.packets c.args.stage.now in
+    let new = scene_by (drives_of g.M.Disk.told c.compact-came.new.one c.compact-came.new.two)
+    (g.W.Wire.packets c.args.stage.now.wire) in
+    happens_line terms w old new c.compact-came.new.nodes c.args.event (said.Compact at) c.compact-came.result
+    c.some-in-Compact.result c.in-Compact.is c.some-in-Compact.ensures
+    (happens_compact c.each_image_is_left.ensures terms w at old new c.args.nodes.now c.compact-came.new.nodes
+    c.compact-came.result shows refl (c.compact-came.ensures.compacts terms net.own w shows.stand)
+    c.compact-came.ensures.asked)
 
 pub returns-in-Grant : goal.returns-in-Grant
 returns-in-Grant g c terms net w shows =

@@ -14,6 +14,12 @@ loop-event-init g c = record {
       c.args.nodes.now c.args.report.now c.requires.there c.requires.first;
 }
 
+pub play_line-requires-clause-there : goal.play_line-requires-clause-there
+play_line-requires-clause-there g c =
+    let net = c.there_are_nets.ensures in
+    let all = c.loop-event.invariant.played net.0 net.1 in
+    (all.story.world, all.shows)
+
 pub loop-event-preserved : goal.loop-event-preserved
 loop-event-preserved g c =
     let loop = c.loop-event in

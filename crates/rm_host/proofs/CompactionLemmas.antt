@@ -1,0 +1,136 @@
+-- What compact answers, by what became of the node.
+use Rattle.std.proofs.Common.{◌≡◌, ◌≢◌, ◌∙◌, ℕ, Bool, true, false, List, length, Option, None, Some, refl, sym, ap}
+use Rattle.std.proofs.Common.{subst, inl, [], ◌∷◌}
+use Rattle.std.proofs.lemmas.List.{length-map}
+use Rattle.std.specs.Prelude.{Result, Ok, Err, IsTrue, MatchBool}
+use Rattle.call_answers.specs.declared.answer.Cause.{Cause}
+use Rattle.call_answers.specs.declared.answer.Cause.TheVariants as cause
+use Rattle.node_store.specs.Has.{Holds}
+use Rattle.node_store.specs.Mounted.{Finds}
+use Rattle.node_store.specs.Rewrites.{fresh, fresh_bank, fresh_batches, fresh_entries, rewrite_refusal}
+use Rattle.node_store.specs.Stored.{Stored}
+use Rattle.node_store.specs.declared.error.RewriteError.{RewriteError}
+use Rattle.node_store.specs.declared.error.RewriteError.TheVariants as rewrite
+use Rattle.record_batch.specs.Batch.{batch_text}
+use Rattle.record_batch.specs.Fact.{Fact}
+use Rattle.record_snapshot.specs.Snapshot.{snapshot}
+use Rattle.rm_disk.specs.Told.{Told}
+use Rattle.rm_journal.specs.EntryLemmas.{length-gates_from}
+use Rattle.rm_node.specs.Called.{Sleeps}
+use Rattle.rm_node.specs.Compacted.{Compacts, EndsWith, IsCompacted}
+use Rattle.rm_node.specs.Ends.{Ended, Handed, Refused, WasDown, error_end}
+use Rattle.rm_node.specs.Noded.{Noded}
+use Rattle.rm_node.specs.declared.error.NodeError.{NodeError}
+use Rattle.rm_node.specs.declared.error.NodeError.TheVariants as node
+use Rattle.rm_protocol.specs.Calls.{Cause as ACause, Done, StoreFull}
+use Rattle.rm_host.specs.Compaction.{Compacted, Compaction, IsRefusal, LeftAsItWas, WroteAnew, call_end, failed_end}
+use Rattle.rm_host.specs.Ends.{is_refusal, node_end}
+use Rattle.rm_host.specs.Texts.{compacted_line}
+use Rattle.rm_host.specs.declared.end.End.{End}
+use Rattle.rm_host.specs.declared.end.End.TheVariants as end
+
+-- ---- the call of a node that is up
+
+-- one that is up does what is said of one that is up
+up-does : (down : Bool) (P Q : Type 0) → down ≡ false → MatchBool down P Q → Q
+up-does true P Q up does = absurd cc
+up-does false P Q up does = does
+
+-- so it is written anew, or refused
+pub of-up : (tells : Bool) (first now : Told) (old new : Noded) (ended : Ended) → old.stored.journal.is_down ≡ false
+    → IsCompacted tells first now old new ended → Compacts tells first now old new ended
+of-up tells first now old new ended up did =
+    up-does old.stored.journal.is_down (Sleeps first now old new ended) (Compacts tells first now old new ended) up
+    did.does
+
+-- it has no such end
+awake : (refusal : Option RewriteError) → EndsWith refusal WasDown → ⊥
+awake None ends = ends
+awake (Some rewrite.Memory) ends = ends
+awake (Some rewrite.Disk) ends = ends
+awake (Some (rewrite.Full end needed)) ends = ends
+
+-- it doesn't answer that it is down
+pub up-awake : (refusal : Option RewriteError) (e : NodeError) → EndsWith refusal (error_end e) → e ≢ node.Down
+up-awake refusal e ends down = awake refusal (subst (λ (x : NodeError). EndsWith refusal (error_end x)) down ends)
+
+-- so the command ends as the call did
+pub ends-so : (e : NodeError) → e ≢ node.Down → error_end e ≡ failed_end (node_end e)
+ends-so node.Memory up = refl
+ends-so node.Disk up = refl
+ends-so node.Down up = absurd (up refl)
+ends-so (node.Refused why) up = refl
+
+-- ---- the journal that was written
+
+-- it has an entry for each record
+pub fresh-count : (old : Stored) → length (fresh old).journal.gates ≡ length (snapshot old.records)
+fresh-count old =
+    length-gates_from (fresh_bank old).start (fresh_entries old.records)
+    ∙ length-map (fresh_batches old.records) batch_text
+    ∙ length-map (snapshot old.records) (λ (f : Fact). f ∷ [])
+
+-- ---- what is answered
+
+-- a node was written anew, and the two counts are printed
+pub done : (tells : Bool) (first mid now : Told) (old new : Noded) (printed : List ℕ) (before after : ℕ)
+    → (IsTrue tells → Finds first.past mid.past old.stored) → Compacts tells mid now old new (Handed Done None [])
+    → before ≡ length old.stored.journal.gates → after ≡ length new.stored.journal.gates
+    → printed ≡ compacted_line before after → Compaction tells first now (Ok printed)
+done tells first mid now old new printed before after found did b a line = record {
+  old = old.stored;
+  may = free (rewrite_refusal old.stored) did.ends;
+  line = line ∙ ap (λ (n : ℕ). compacted_line n after) b ∙ ap (compacted_line (length old.stored.journal.gates)) count;
+  wrote = λ t.
+      let f = found t in
+      let r = did.rewrites t in
+      record {
+        mounted = mid.past;
+        found = f;
+        moments = r.moments f.batches f.has.holds;
+        has = record {
+          holds = subst (Holds (fresh_batches old.stored.records) now.past) did.stored
+              (r.holds f.batches f.has.holds refl);
+          are = did.next (inl refl) f.batches f.has;
+        };
+      };
+}
+  where
+    free : (refusal : Option RewriteError) → EndsWith refusal (Handed Done None []) → refusal ≡ None
+    free None ends = refl
+    free (Some rewrite.Memory) ends = absurd ends
+    free (Some rewrite.Disk) ends = absurd ends
+    free (Some (rewrite.Full end needed)) ends = absurd ends
+
+    count : after ≡ length (snapshot old.stored.records)
+    count = a ∙ ap (λ (s : Stored). length s.journal.gates) did.stored ∙ fresh-count old.stored
+
+-- it may not be: by why the node refused it
+refused-so : (refusal : Option RewriteError) (why : Cause) → EndsWith refusal (failed_end (end.Refused why))
+    → IsRefusal refusal why
+refused-so None why ends = absurd ends
+refused-so (Some rewrite.Memory) why ends = absurd ends
+refused-so (Some rewrite.Disk) why ends = absurd ends
+refused-so (Some (rewrite.Full end needed)) (cause.StoreFull e n) ends =
+    let same : StoreFull e n ≡ StoreFull end needed = ends in
+    let p : e ≡ end = cc (same) in
+    let q : n ≡ needed = cc (same) in
+    cc (p, q)
+refused-so (Some (rewrite.Full end needed)) why ends = absurd (cc (ends))
+
+-- any other end
+pub unrefused : (tells : Bool) (first now : Told) (e : End) → is_refusal e ≡ false
+    → Compaction tells first now (Err e)
+unrefused tells first now (end.Refused why) not = absurd cc
+unrefused tells first now e not = tt
+
+pub fails : (tells : Bool) (first mid now : Told) (old new : Noded) (e : End)
+    → (IsTrue tells → Finds first.past mid.past old.stored) → Compacts tells mid now old new (failed_end e)
+    → Compaction tells first now (Err e)
+fails tells first mid now old new (end.Refused why) found did = record {
+  old = old.stored;
+  refusal = refused-so (rewrite_refusal old.stored) why did.ends;
+  found = λ t. subst (λ (x : Told). Finds first.past x.past old.stored) (sym ((did.rewrites t).untouched refl refl))
+      (found t);
+}
+fails tells first mid now old new e found did = tt
