@@ -24,7 +24,7 @@ use node_laws::laws::{own_terms_are_terms, there_are_own_terms};
 use node_tables::Tables;
 use receive_records::put_rows;
 use receive_replies::said;
-use receive_verdict::early_verdict;
+use receive_verdict::{early_verdict, target};
 use rm_base::{Behaviour, Memory};
 use rm_message::{Message, Refusal};
 use rm_protocol::laws::each_record_may_come_next;
@@ -48,7 +48,7 @@ pub fn receive(
         → IfOk result (λ a. seen a ≡ receive_of terms tables.now.records place now granted (Ok message)) }
     ensures stored { IfOk result (λ a. MayBeStored tables.now.records place (map fact_of a.batch.items)) }
 {
-    let ahead = Known::new(alloc, tables);
+    let ahead = Known::seeking(alloc, tables, target(&message));
     answer(alloc, ahead, place, now, granted, &mut message)
 }
 

@@ -15,9 +15,10 @@ pub record Line : Type 0 where
 abbrev pub line_of : Stream → Line
 line_of s = record { left = s.left; held = s.held; sound = s.sound && nat_lt s.faults (2 ^ 64 - 1) }
 
--- what a link was asked for: a connection to a port of a host; or to end a connection, which told what was written on
--- it
+-- what a link was asked for: to listen to a port; a connection to a port of a host; or to end a connection, which told
+-- what was written on it
 pub data Call : Type 0 where
+  Listened : (port : ℕ) → Call
   Dialled : (host : List ℕ) (port : ℕ) → Call
   HungUp : (held : Option (List ℕ)) → Call
 
@@ -53,18 +54,18 @@ pub record Connects (old new : Net) (line : Option Line) : Type 0 where
   pub failed : line ≡ None → Rose old.faults new.faults
   pub sound : old.sound ≡ true → (new.sound ≡ true) × (is_none line ≡ is_over old.coming)
 
--- a port is listened to, or the call fails
-pub record Listens (old new : Net) (failed : Bool) : Type 0 where
-  pub keeps : new.coming ≡ old.coming
-  pub past : new.past ≡ old.past
-  pub never_falls : old.faults ≤ new.faults
-  pub fault : failed ≡ true → Rose old.faults new.faults
-  pub sound : old.sound ≡ true → (new.sound ≡ true) × (failed ≡ false)
-
 -- a link was asked for these things more, in order, where it tells in the end what it was asked for
 abbrev pub Asks : Option (List Call) → Option (List Call) → List Call → Type 0
 Asks old new calls =
     (all : List Call) → new ≡ Some all → (before : List Call) × (old ≡ Some before) × (all ≡ before ++ calls)
+
+-- a port is listened to, or the call fails
+pub record Listens (old new : Net) (port : ℕ) (failed : Bool) : Type 0 where
+  pub asks : Asks old.past new.past (Listened port ∷ [])
+  pub keeps : new.coming ≡ old.coming
+  pub never_falls : old.faults ≤ new.faults
+  pub fault : failed ≡ true → Rose old.faults new.faults
+  pub sound : old.sound ≡ true → (new.sound ≡ true) × (failed ≡ false)
 
 -- a connection ends, which told what was written on it: nothing else changes
 pub record Ended (old new : Net) (held : Option (List ℕ)) : Type 0 where

@@ -94,9 +94,14 @@ impl MemLink {
 impl Link for MemLink {
     type Conn = MemConn;
 
+    type Asking = MemConn;
+
+    type Hearing = MemConn;
+
     ghost told = { net_in_memory };
 
-    fn listen(&mut self, _port: u16) -> Result<(), Failed> {
+    fn listen(&mut self, port: u16) -> Result<(), Failed> {
+        self.past.listened(port);
         self.count_call()
     }
 
@@ -107,6 +112,10 @@ impl Link for MemLink {
     fn dial(&mut self, host: &[u8], port: u16) -> Result<MemConn, Failed> {
         self.past.dialled(host, port);
         self.next()
+    }
+
+    fn asked(conn: MemConn) -> MemConn {
+        conn
     }
 
     fn hang_up(&mut self, conn: MemConn) {

@@ -10,7 +10,7 @@ use crate::link::Link;
 use http_endpoint::{
     HttpError, Response, Target, TargetError, read_response, read_target, write_request,
 };
-use rm_base::{Blob, Connection, Memory, Uri};
+use rm_base::{Blob, Memory, Uri};
 use std::alloc::Global;
 
 /// What became of a packet: the body of the response, nothing, or no connection was made.
@@ -52,8 +52,8 @@ fn post_to<L: Link>(
     ensures begins { OnErr result (IsBegunTo (L.told link.old) (L.told link.new) target.now bytes.now) }
 {
     match link.dial(target.host.as_slice(), target.port) {
-        Ok(mut conn) => {
-            let fate = exchange(alloc, &mut conn, target, bytes);
+        Ok(conn) => {
+            let (conn, fate) = exchange::<L>(alloc, conn, target, bytes);
             link.hang_up(conn);
             fate
         }
@@ -61,23 +61,28 @@ fn post_to<L: Link>(
     }
 }
 
-// Sends a request, and reads the response.
-fn exchange<C: Connection>(
+// Sends a request, and then reads the response.
+fn exchange<L: Link>(
     alloc: Global,
-    conn: &mut C,
+    mut conn: L::Asking,
     target: &Target,
     bytes: &[u8],
-) -> Result<Fate, Memory>
-    ensures ends { IfOk result (Ends (line_of (C.Source.told conn.old))) }
-    ensures writes { IfOk result (Writes (line_of (C.Source.told conn.old)) (request_text target.now bytes.now)
-        (C.Source.told conn.new).held) }
-    ensures begins { OnErr result (AppendsFront (C.Source.told conn.old).held (C.Source.told conn.new).held
+) -> (L::Hearing, Result<Fate, Memory>)
+    ensures ends { IfOk result.1 (Ends (line_of (L.Asking.told conn))) }
+    ensures writes { IfOk result.1 (Writes (line_of (L.Asking.told conn)) (request_text target.now bytes.now)
+        (L.Hearing.told result.0).held) }
+    ensures begins { OnErr result.1 (AppendsFront (L.Asking.told conn).held (L.Hearing.told result.0).held
         (request_text target.now bytes.now)) }
 {
-    match write_request(alloc, conn, target, bytes) {
-        Ok(()) => ended(read_response(alloc, conn)),
-        Err(HttpError::Memory) => Err(Memory),
-        Err(_) => Ok(Fate::Missed),
+    let wrote = write_request(alloc, &mut conn, target, bytes);
+    let mut conn = L::asked(conn);
+    match wrote {
+        Ok(()) => {
+            let fate = ended(read_response(alloc, &mut conn));
+            (conn, fate)
+        }
+        Err(HttpError::Memory) => (conn, Err(Memory)),
+        Err(_) => (conn, Ok(Fate::Missed)),
     }
 }
 

@@ -1,14 +1,15 @@
 //! What a link in memory was asked for.
 ghost use Rattle.std.specs.Prelude.{◌≡◌, [], ◌∷◌, Some};
-ghost use Rattle.rm_link.specs.Lines.{Asks, Dialled, HungUp};
+ghost use Rattle.rm_link.specs.Lines.{Asks, Dialled, HungUp, Listened};
 
 use rm_base::{Blob, MemConn};
 use std::alloc::Global;
 use std::marker::Model;
 
-/// A call that was dialled, or one that ended.
+/// A port that was listened to, a call that was dialled, or one that ended.
 #[derive(Debug, Drop)]
 pub enum Note {
+    Listened { port: u16 },
     Dialled { host: Blob, port: u16 },
     HungUp(MemConn),
 }
@@ -42,6 +43,13 @@ impl Past {
             notes: Vec::new(alloc),
             is_whole: true,
         }
+    }
+
+    /// A port was listened to.
+    pub fn listened(&mut self, port: u16)
+        ensures { Asks self.old self.new (Listened port ∷ []) }
+    {
+        self.add(Note::Listened { port });
     }
 
     /// A host was dialled.

@@ -240,6 +240,10 @@ fn reached<R: Net<Listener = TcpListener, Stream = TcpStream>>(
 impl<R: Net<Listener = TcpListener, Stream = TcpStream> + Clock + Copy> Link for TcpLink<R> {
     type Conn = TcpConn<R>;
 
+    type Asking = TcpConn<R>;
+
+    type Hearing = TcpConn<R>;
+
     ghost told = { λ l. record { coming = None; past = None; faults = l.faults; sound = false } };
 
     fn listen(&mut self, port: u16) -> Result<(), Failed> {
@@ -257,6 +261,10 @@ impl<R: Net<Listener = TcpListener, Stream = TcpStream> + Clock + Copy> Link for
     fn dial(&mut self, host: &[u8], port: u16) -> Result<TcpConn<R>, Failed> {
         let outcome = dialled(self.net, host, port);
         counted(&mut self.faults, &mut self.last, "connect", outcome)
+    }
+
+    fn asked(conn: TcpConn<R>) -> TcpConn<R> {
+        conn
     }
 
     fn hang_up(&mut self, conn: TcpConn<R>) {

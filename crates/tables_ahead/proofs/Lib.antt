@@ -4,3 +4,4 @@ pub mod PhaseLemmas
 pub mod FrontLemmas
 pub mod SideLemmas
 pub mod LoopLemmas
+pub mod SoughtLemmas

@@ -8,8 +8,9 @@ use Rattle.record_batch.specs.Fact.{Fact, Made, Creating, Granted}
 use Rattle.rm_source.specs.declared.phase.OutPhase.{OutPhase}
 use Rattle.rm_source.specs.declared.phase.OutPhase.TheVariants as out
 use Rattle.sequence_table.specs.Words.{Text}
-use Rattle.sequence_table.specs.Find.{find_from}
-use Rattle.sequence_table.specs.Makers.{Maker, makers, nodes_of, addresses_of}
+use Rattle.sequence_table.specs.Find.{find_from, find_incoming}
+use Rattle.sequence_table.specs.Idents.{IsIssuedFor}
+use Rattle.sequence_table.specs.Makers.{Maker, makers, number, nodes_of, addresses_of}
 use Rattle.sequence_table.specs.Fits.{all_fit, has_places}
 
 -- the records of the tables, and those ahead of them, oldest first
@@ -33,14 +34,19 @@ may_go_ahead r (Granted drawn message_id acks_to behaviour deadline lapse offer)
     has_places r (Granted drawn message_id acks_to behaviour deadline lapse offer)
 may_go_ahead r _ = true
 
--- the records of the tables fit one after the other, the node itself is none of those ahead, and all sequences are
--- counted
-pub record IsAhead (r d : List Fact) (len : ℕ) : Type 0 where
+-- where a number is kept, the incoming sequence with the identifier that was issued for it is this
+pub record IsSought (r : List Fact) (drawn seq : Option ℕ) : Type 0 where
+  pub is : (q : Text) (d : ℕ) → drawn ≡ Some d → IsIssuedFor (number r) q (Some d) → find_incoming r q ≡ seq
+
+-- the records of the tables fit one after the other, the node itself is none of those ahead, all sequences are counted,
+-- and what was sought of the tables is so
+pub record IsAhead (r d : List Fact) (len : ℕ) (drawn seq : Option ℕ) : Type 0 where
   pub fit : all_fit [] r ≡ true
   pub nodes : flat_map nodes_of d ≡ []
   pub addresses : flat_map addresses_of d ≡ []
   pub counted : len ≡ length (makers (r ++ d))
   pub few : length (makers (r ++ d)) ≤ 4294967295
+  pub sought : IsSought r drawn seq
 
 -- the ranges of a set that is there, or isn't
 abbrev pub ranges_in : Option Contents → List Range

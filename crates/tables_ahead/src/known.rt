@@ -23,6 +23,7 @@ use crate::batch::{
 };
 use crate::numbers::{acks_in, has_all, insert_received, unite_acked};
 use crate::sides;
+use crate::sought::Sought;
 use ack_ranges::{Range, RangeSet};
 use node_tables::{Maker, Tables};
 use record_batch::Record;
@@ -41,6 +42,7 @@ pub struct Known<'a> {
     tables: &'a Tables,
     batch: Vec<Record>,
     len: u32,
+    sought: Sought,
 }
 
 impl<'a> Model for Known<'a> {
@@ -56,7 +58,8 @@ impl<'a> Model for Known<'a> {
 
     ghost view = { λ a. record { records = a.tables.now.records; delta = map fact_of a.batch.items } };
 
-    ghost invariant = { λ a. IsAhead a.tables.now.records (map fact_of a.batch.items) a.len };
+    ghost invariant = { λ a. IsAhead a.tables.now.records (map fact_of a.batch.items) a.len a.sought.drawn
+        a.sought.seq };
 }
 
 impl<'a> Known<'a> {
@@ -69,6 +72,21 @@ impl<'a> Known<'a> {
             tables,
             batch: Vec::new(alloc),
             len: tables.len(),
+            sought: Sought::nothing(),
+        }
+    }
+
+    /// Nothing is ahead. The incoming sequence with an identifier, where one is given, is sought at once, so that
+    /// `find_incoming` needn't seek it again. It takes no memory.
+    pub fn seeking(alloc: Global, tables: &'a Tables, ident: Option<&Ident>) -> Self
+        ensures { result ≡ record { records = tables.now.records; delta = [] } }
+    {
+        Known {
+            alloc,
+            tables,
+            batch: Vec::new(alloc),
+            len: tables.len(),
+            sought: Sought::new(tables, ident),
         }
     }
 
@@ -173,7 +191,7 @@ impl<'a> Known<'a> {
     pub fn find_incoming(&self, ident: &Ident) -> Option<u32>
         ensures { result ≡ find_incoming (all_records self.now) ident.now }
     {
-        match self.tables.find_incoming(ident) {
+        match self.sought.find_incoming(self.tables, ident) {
             Some(seq) => Some(seq),
             None => self.incoming_ahead(ident),
         }

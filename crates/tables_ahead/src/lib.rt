@@ -8,5 +8,6 @@ pub mod known;
 mod numbers;
 mod record;
 mod sides;
+mod sought;
 
 pub use known::Known;

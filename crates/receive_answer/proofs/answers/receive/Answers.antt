@@ -11,7 +11,7 @@ use Rattle.receive_answer.proofs.answers.receive.Goals as goal
 
 pub answer-requires-clause-serves : goal.answer-requires-clause-serves
 answer-requires-clause-serves c =
-    subst (λ (k : KnownRecords). Serves k.records c.args.place) (sym c.new-ahead.ensures) c.requires.serves
+    subst (λ (k : KnownRecords). Serves k.records c.args.place) (sym c.seeking-ahead.ensures) c.requires.serves
 
 pub answer-requires-clause-in_order : goal.answer-requires-clause-in_order
 answer-requires-clause-in_order c = c.requires.in_order
@@ -20,14 +20,14 @@ pub answer-requires-clause-numbers : goal.answer-requires-clause-numbers
 answer-requires-clause-numbers c = c.requires.numbers
 
 pub answer-requires-clause-nothing : goal.answer-requires-clause-nothing
-answer-requires-clause-nothing c = ap (λ (k : KnownRecords). k.delta) c.new-ahead.ensures
+answer-requires-clause-nothing c = ap (λ (k : KnownRecords). k.delta) c.seeking-ahead.ensures
 
 pub returns-clause-is : goal.returns-clause-is
 returns-clause-is c =
     λ terms own.
     subst (λ (answer : Answer). IfOk c.answer.result (λ a. seen a ≡ answer))
     (ap (λ (k : KnownRecords). told terms k.records c.args.place c.args.now c.args.granted c.args.message)
-    c.new-ahead.ensures
+    c.seeking-ahead.ensures
     ∙ told-is terms c.args.tables.now.records c.args.place c.args.now c.args.granted c.args.message)
     (c.answer.ensures.is terms own)
 
@@ -35,4 +35,4 @@ pub returns-clause-stored : goal.returns-clause-stored
 returns-clause-stored c =
     subst (λ (k : KnownRecords).
     IfOk c.answer.result (λ a. MayBeStored k.records c.args.place (map fact_of a.batch.items)))
-    c.new-ahead.ensures c.answer.ensures.stored
+    c.seeking-ahead.ensures c.answer.ensures.stored

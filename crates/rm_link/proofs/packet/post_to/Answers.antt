@@ -10,13 +10,14 @@ returns-in-Ok g c =
     let new = g.L.Link.told c.hang_up.new.self in
     let target = c.args.target.now in
     let bytes = c.args.bytes.now in
-    let line = line_of (g.L.Conn.Source.told c.in-Ok.conn) in
-    let held = (g.L.Conn.Source.told c.exchange-fate.new.conn).held in
+    let line = line_of (g.L.Asking.Sink.told c.in-Ok.conn) in
+    let held = (g.L.Hearing.Source.told c.exchange-conn.result.0).held in
+    let fate = c.exchange-conn.result.1 in
     let asks : Asks old.past mid.past (Dialled target.host target.port ∷ []) =
     rw (← c.as_slice.ensures) c.in-Ok.ensures.asks in
     let calls = called old mid new target line held c.in-Ok.ensures.connects asks c.hang_up.ensures in
     record {
-      posts = posted-on old new target bytes line held c.exchange-fate.result calls c.exchange-fate.ensures.writes
-          c.exchange-fate.ensures.ends;
-      begins = begun-on old new target bytes line held c.exchange-fate.result calls c.exchange-fate.ensures.begins;
+      posts = posted-on old new target bytes line held fate calls c.exchange-conn.ensures.writes
+          c.exchange-conn.ensures.ends;
+      begins = begun-on old new target bytes line held fate calls c.exchange-conn.ensures.begins;
     }
