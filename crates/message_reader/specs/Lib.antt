@@ -4,4 +4,5 @@ pub mod Faults
 pub mod Headers
 pub mod Message
 pub mod Outcome
+pub mod Reading
 pub mod Refusals

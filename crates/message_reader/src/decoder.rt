@@ -1,9 +1,10 @@
 //! Whole messages from bytes.
-ghost use Rattle.std.specs.Prelude.{◌≡◌, IfOk, IfErr};
+ghost use Rattle.std.specs.Prelude.{◌≡◌, ℕ, List, IfOk, IfErr};
 ghost use Rattle.soap_envelope.specs.Soap.{soap_space};
 ghost use Rattle.soap_envelope.specs.View.{envelope_view};
 ghost use Rattle.message_reader.specs.Message.{message_in};
 ghost use Rattle.message_reader.specs.Outcome.{Decodes, IsEarly, told_by, early_kind as early_kind_of};
+ghost use Rattle.message_reader.specs.Reading.{IsReading};
 ghost use Rattle.message_reader.specs.Refusals.{Spells, IsRefusal};
 
 use crate::read::read_message;
@@ -20,7 +21,18 @@ pub fn decode(alloc: Global, bytes: &[u8]) -> Result<Message, DecodeError>
     ensures ok { IfOk result (Spells soap_space bytes.now) }
     ensures err { IfErr result (IsRefusal soap_space bytes.now) }
 {
-    match read_envelope(alloc, bytes) {
+    decode_read(alloc, read_envelope(alloc, bytes))
+}
+
+/// What `decode` answers of bytes of which a reader of envelopes answered this, however the bytes came to it.
+pub fn decode_read(
+    alloc: Global,
+    read: Result<Envelope, EnvelopeError>,
+) -> Result<Message, DecodeError>
+    ensures ok { (bytes : List ℕ) → IsReading bytes read → IfOk result (Spells soap_space bytes) }
+    ensures err { (bytes : List ℕ) → IsReading bytes read → IfErr result (IsRefusal soap_space bytes) }
+{
+    match read {
         Ok(envelope) => decode_envelope(alloc, SOAP_SPACE, envelope),
         Err(error) => Err(unread(alloc, error)),
     }

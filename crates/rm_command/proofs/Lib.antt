@@ -1,6 +1,7 @@
 pub mod AlternativesLemmas
 pub mod CheckLemmas
 pub mod PolicyLemmas
+pub mod ReadingLemmas
 pub mod RunLemmas
 pub mod SoakLemmas
 pub mod StatusLemmas

@@ -1,12 +1,15 @@
 -- What a run of `wsrm check` is, by how it ended, and what it prints.
-use Rattle.std.specs.Prelude.{◌≡◌, ℕ, Bool, true, false, List, Option, Some, None}
+use Rattle.std.specs.Prelude.{◌≡◌, ◌≤◌, ℕ, Bool, true, false, List, length, Option, Some, None, Result}
 use Rattle.rm_base.specs.Limits as limits
 use Rattle.rm_report.specs.Exits as exits
 use Rattle.soap_envelope.specs.Soap.{soap_space}
+use Rattle.soap_envelope.specs.declared.envelope.Envelope.{Envelope}
+use Rattle.soap_profile.specs.declared.error.EnvelopeError.{EnvelopeError}
 use Rattle.rm_message.specs.declared.message.Message.{Message}
 use Rattle.rm_message.specs.declared.refusal.FaultKind.{FaultKind}
 use Rattle.rm_message.specs.declared.refusal.FaultKind.TheVariants as kinds
 use Rattle.rm_message.specs.declared.refusal.Refusal.{Refusal}
+use Rattle.message_reader.specs.Reading.{IsReading}
 use Rattle.message_reader.specs.Refusals.{Spells, Refuses}
 use Rattle.message_lines.specs.Lines.{message_lines}
 use Rattle.rm_command.specs.declared.end.End.{End}
@@ -55,6 +58,12 @@ pub record HasFault (bytes : List ℕ) (fault : Fault) : Type 0 where
   pub refusal : Refusal
   pub refuses : Refuses soap_space bytes refusal
   pub kind : kind_of fault ≡ Some refusal.kind
+
+-- a reader of envelopes answered this of some bytes, which were no more than an envelope may have
+pub record IsReadOfSome (answer : Result Envelope EnvelopeError) : Type 0 where
+  pub bytes : List ℕ
+  pub reading : IsReading bytes answer
+  pub fits : length bytes ≤ limits.envelope_bytes
 
 -- the bytes spell a message, and this is what is printed of it
 pub record IsTextOf (bytes text : List ℕ) : Type 0 where

@@ -6,7 +6,6 @@ use Rattle.rm_report.specs.Exits as exits
 use Rattle.rm_command.specs.declared.end.End.{End}
 use Rattle.rm_command.specs.declared.end.End.TheVariants.{Done, Usage, BadLine, ReadFault, WriteFault, TooLong}
 use Rattle.rm_command.specs.declared.end.End.TheVariants.{Refused, Memory}
-use Rattle.rm_base.specs.declared.blob.Blob.{Blob}
 use Rattle.rm_command.specs.Edge.{Edge, WasRead, WasTooLong, WasWritten, WasBegun, WasSaid}
 use Rattle.rm_command.specs.Status.{IsUnread, IsOutside}
 use Rattle.rm_command.specs.Texts.{line_of}
@@ -68,9 +67,9 @@ EndsWriting text ReadFault old new = ⊥
 EndsWriting text TooLong old new = ⊥
 EndsWriting text (Refused fault) old new = ⊥
 
--- how reading an input ended, where bytes are no end
-abbrev pub end_of : Result Blob End → End
-end_of (Ok bytes) = Done
+-- how reading an input ended, where what was read is no end
+abbrev pub end_of : {A : Type 0} → Result A End → End
+end_of (Ok read) = Done
 end_of (Err end) = end
 
 -- what the command did, by how it ended. Untouched is what stands where nothing was made of the input, Prints what does

@@ -5,8 +5,7 @@ ghost use Rattle.rm_command.specs.Edge.{edge_of, KeepsEdge};
 
 use crate::check_text::text_of;
 use crate::end::{End, refuse};
-use crate::filter::{NoText, read_input, write_text};
-use rm_base::limits::ENVELOPE_BYTES;
+use crate::filter::{NoText, read_pieces, write_text};
 use rm_base::{Sink, Source};
 use std::alloc::Global;
 
@@ -16,11 +15,11 @@ pub fn check<S: Source, K: Sink>(alloc: Global, input: &mut S, out: &mut K) -> E
     ensures kept { KeepsEdge envelope_bytes result
         (edge_of S.told K.told K.wants_memory input.old input.new out.old out.new) }
 {
-    let bytes = match read_input(alloc, input, out, ENVELOPE_BYTES) {
-        Ok(bytes) => bytes,
+    let reader = match read_pieces(alloc, input, out) {
+        Ok(reader) => reader,
         Err(end) => return end,
     };
-    match text_of(alloc, bytes.as_slice()) {
+    match text_of(alloc, reader.finish()) {
         Ok(text) => write_text(out, text.as_slice()),
         Err(NoText::Faulty(fault)) => refuse(out, End::Refused { fault }, fault.line()),
         Err(NoText::Memory) => End::Memory,

@@ -1,24 +1,27 @@
 //! What `check` prints of a message.
-ghost use Rattle.std.specs.Prelude.{◌≡◌, ◌≤◌, length, IfOk, IfSome, IfNone, Err, Some, true, false};
-ghost use Rattle.rm_base.specs.Limits.{envelope_bytes};
-ghost use Rattle.rm_command.specs.Check.{HasFault, IsTextOf, is_of_bytes, kind_of};
+ghost use Rattle.std.specs.Prelude.{◌≡◌, ℕ, List, IfOk, IfSome, IfNone, Err, Some, true, false};
+ghost use Rattle.message_reader.specs.Reading.{IsReading};
+ghost use Rattle.rm_command.specs.Check.{HasFault, IsReadOfSome, IsTextOf, is_of_bytes, kind_of};
 ghost use Rattle.rm_command.specs.declared.end.Fault.{Fault as AFault};
 
 use crate::end::Fault;
 use crate::filter::NoText;
 use message_lines::message_lines;
-use message_reader::decode;
+use message_reader::decode_read;
 use rm_base::Blob;
 use rm_message::{DecodeError, FaultKind, Refusal};
+use soap_envelope::Envelope;
+use soap_profile::EnvelopeError;
 use std::alloc::Global;
 
-/// What is printed of bytes, where they spell a message.
-pub fn text_of(alloc: Global, bytes: &[u8]) -> Result<Blob, NoText>
-    requires { length bytes.now ≤ envelope_bytes }
-    ensures text { IfOk result (λ text. IsTextOf bytes.now text) }
-    ensures faulty { (fault : AFault) → result ≡ Err (NoText.Faulty fault) → HasFault bytes.now fault }
+/// What is printed of bytes of which a reader of envelopes answered this, where they spell a message.
+pub fn text_of(alloc: Global, read: Result<Envelope, EnvelopeError>) -> Result<Blob, NoText>
+    requires { IsReadOfSome read }
+    ensures text { (bytes : List ℕ) → IsReading bytes read → IfOk result (λ text. IsTextOf bytes text) }
+    ensures faulty { (bytes : List ℕ) (fault : AFault) → IsReading bytes read
+        → result ≡ Err (NoText.Faulty fault) → HasFault bytes fault }
 {
-    match decode(alloc, bytes) {
+    match decode_read(alloc, read) {
         Ok(message) => Ok(message_lines(alloc, &message)?),
         Err(DecodeError::Refused(refusal)) => Err(NoText::Faulty(fault_of(refusal))),
         Err(DecodeError::Memory) => Err(NoText::Memory),

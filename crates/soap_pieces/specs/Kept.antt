@@ -1,7 +1,7 @@
 -- What a reader keeps of bytes.
-use Rattle.std.specs.Prelude.{◌≡◌, ℕ, List, length, true}
+use Rattle.std.specs.Prelude.{◌≡◌, ◌≤◌, ℕ, List, length, true, ⊤}
 use Rattle.soap_document.specs.Machine.{start, run, is_refused}
-use Rattle.soap_pieces.specs.Front.{IsFront, front_len}
+use Rattle.soap_pieces.specs.Front.{IsFront, front_len, tail_len}
 use Rattle.soap_pieces.specs.declared.kept.Kept.{Kept}
 use Rattle.soap_pieces.specs.declared.kept.Kept.TheVariants.{Bytes, Front}
 
@@ -14,3 +14,13 @@ HasKept (Front front) bytes = IsFront front bytes × (is_refused (run start byte
 abbrev pub kept_len : Kept → ℕ
 kept_len (Bytes kept) = length kept
 kept_len (Front front) = front_len front
+
+-- how many bytes are kept
+abbrev pub kept_count : Kept → ℕ
+kept_count (Bytes kept) = length kept
+kept_count (Front front) = tail_len front.tail
+
+-- of bytes with which no document begins three are kept at most
+abbrev pub IsBrief : Kept → Type 0
+IsBrief (Bytes kept) = ⊤
+IsBrief (Front front) = tail_len front.tail ≤ 3

@@ -4,3 +4,4 @@ pub mod Fed
 pub mod Front
 pub mod Hopeless
 pub mod Kept
+pub mod Source

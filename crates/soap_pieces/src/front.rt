@@ -36,8 +36,8 @@ impl Front {
     pub(crate) fn feed(&mut self, alloc: Global, piece: &[u8]) -> Result<(), Memory>
         requires fits { front_len self.old + length piece.now < 2 ^ 64 }
         ensures is { (bytes : List ℕ) → IsFront self.old bytes → OnOk result (IsFront self.new (bytes ++ piece.now)) }
-        ensures len { OnOk result (front_len self.new ≤ front_len self.old + length piece.now) }
-        ensures small { tail_len self.old.tail ≤ 3 → OnOk result (tail_len self.new.tail ≤ 3) }
+        ensures len { front_len self.new ≤ front_len self.old + length piece.now }
+        ensures small { tail_len self.old.tail ≤ 3 → tail_len self.new.tail ≤ 3 }
     {
         let Some(tail) = &self.tail else {
             return Ok(());

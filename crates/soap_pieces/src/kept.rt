@@ -1,7 +1,7 @@
 //! What a reader keeps of the bytes that it was fed.
 ghost use Rattle.std.specs.Prelude.{◌≡◌, ◌+◌, ◌++◌, ◌<◌, ◌≤◌, ◌^◌, ℕ, List, length, true, OnOk};
 ghost use Rattle.soap_document.specs.Machine.{start, run, is_refused};
-ghost use Rattle.soap_pieces.specs.Kept.{HasKept, kept_len};
+ghost use Rattle.soap_pieces.specs.Kept.{HasKept, IsBrief, kept_count, kept_len};
 
 use crate::front::Front;
 use rm_base::{Blob, Memory};
@@ -23,10 +23,13 @@ pub(crate) fn keep(
     refused: bool,
 ) -> Result<(), Memory>
     requires fits { kept_len kept.old + length piece.now < 2 ^ 63 }
+    requires brief { IsBrief kept.old }
     ensures is { (bytes : List ℕ) → HasKept kept.old bytes
         → (refused ≡ true → is_refused (run start (bytes ++ piece.now)).mode ≡ true)
         → OnOk result (HasKept kept.new (bytes ++ piece.now)) }
-    ensures len { OnOk result (kept_len kept.new ≤ kept_len kept.old + length piece.now) }
+    ensures len { kept_len kept.new ≤ kept_len kept.old + length piece.now }
+    ensures brief { IsBrief kept.new }
+    ensures spent { refused ≡ true → OnOk result (kept_count kept.new ≤ 3) }
 {
     pieces_are_joined();
     refused_stays();

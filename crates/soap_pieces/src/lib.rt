@@ -1,7 +1,7 @@
 //! Envelopes, read while they come: a reader that is fed pieces, says when no envelope begins with what it was fed, and
 //! answers at the end what `soap_envelope` answers of all pieces joined. It stands on that crate, and on the machine of
-//! `soap_document` for the former. The layer above may use its contracts, by `specs/Fed` and `specs/Answer`, and the
-//! laws.
+//! `soap_document` for the former. The layer above may use its contracts, by `specs/Fed`, `specs/Source` and
+//! `specs/Answer`, and the laws.
 #![tactic(auto)]
 
 mod depth;
@@ -9,5 +9,7 @@ mod front;
 mod kept;
 pub mod laws;
 pub mod reader;
+pub mod source;
 
 pub use reader::EnvelopeReader;
+pub use source::read_source;

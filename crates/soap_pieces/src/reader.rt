@@ -24,7 +24,7 @@ ghost use Rattle.rm_base.specs.Limits.{envelope_bytes};
 ghost use Rattle.soap_document.specs.Seen.{IsTold, fed_len};
 ghost use Rattle.soap_pieces.specs.Answer.{Reads};
 ghost use Rattle.soap_pieces.specs.Depth.{open_count};
-ghost use Rattle.soap_pieces.specs.Fed.{HasRead, IsReady, WasFed, is_short, total};
+ghost use Rattle.soap_pieces.specs.Fed.{HasRead, IsReady, IsSpent, WasFed, is_short, kept_bytes, total};
 ghost use Rattle.soap_pieces.specs.Hopeless.{IsHopeless};
 
 use crate::depth::Depth;
@@ -57,6 +57,7 @@ impl EnvelopeReader {
         ensures fed { WasFed result [] }
         ensures total { total result ≡ 0 }
         ensures short { is_short result ≡ false }
+        ensures keeps { kept_bytes result ≡ 0 }
     {
         EnvelopeReader {
             alloc,
@@ -77,6 +78,9 @@ impl EnvelopeReader {
         ensures short { is_short self.old ≡ true → IsErr result }
         ensures ok { OnOk result (is_short self.new ≡ false) }
         ensures err { OnErr result (is_short self.new ≡ true) }
+        ensures keeps { kept_bytes self.new ≤ envelope_bytes }
+        ensures spent { (bytes : List ℕ) → WasFed self.old bytes → IsHopeless (bytes ++ piece.now)
+            → OnOk result (IsSpent self.new) }
     {
         self.fed += piece.len();
         if self.short {
@@ -124,11 +128,12 @@ impl EnvelopeReader {
         refused_stays();
         let EnvelopeReader {
             alloc,
-            document: _,
+            document,
             kept,
             fed,
             short: _,
         } = self;
+        drop(document);
         if fed > ENVELOPE_BYTES {
             return Err(EnvelopeError::TooLong { len: fed });
         }

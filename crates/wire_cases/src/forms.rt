@@ -27,9 +27,12 @@ fn written(alloc: Global, message: Message) -> Result<Blob, Memory> {
     encode(alloc, &message)
 }
 
-// How the message of a document is written, where it has one.
-fn rewritten(alloc: Global, document: &[u8]) -> Result<Option<Blob>, Memory> {
-    match decode(alloc, document) {
+/// How a message is written, where one was read.
+pub fn rewritten(
+    alloc: Global,
+    read: Result<Message, DecodeError>,
+) -> Result<Option<Blob>, Memory> {
+    match read {
         Ok(message) => Ok(Some(written(alloc, message)?)),
         Err(_) => Ok(None),
     }
@@ -38,7 +41,7 @@ fn rewritten(alloc: Global, document: &[u8]) -> Result<Option<Blob>, Memory> {
 /// Whether the document has the message that is written with these blocks and this body.
 pub fn is_read(alloc: Global, document: &[u8], blocks: &[u8], body: &[u8]) -> Result<bool, Memory> {
     let text = envelope(alloc, blocks, body)?;
-    match rewritten(alloc, document)? {
+    match rewritten(alloc, decode(alloc, document))? {
         Some(written) => Ok(written.as_slice() == text.as_slice()),
         None => Ok(false),
     }
@@ -52,10 +55,15 @@ fn is_refusal(error: &DecodeError, kind: FaultKind) -> bool {
     }
 }
 
-/// Whether a document is refused for this.
-pub fn is_refused(alloc: Global, document: &[u8], kind: FaultKind) -> bool {
-    match decode(alloc, document) {
+/// Whether bytes of which this was read were refused for this.
+pub fn was_refused(read: Result<Message, DecodeError>, kind: FaultKind) -> bool {
+    match read {
         Ok(_) => false,
         Err(error) => is_refusal(&error, kind),
     }
+}
+
+/// Whether a document is refused for this.
+pub fn is_refused(alloc: Global, document: &[u8], kind: FaultKind) -> bool {
+    was_refused(decode(alloc, document), kind)
 }

@@ -19,8 +19,8 @@ returns-in-Bytes-clause-reads c = λ bytes fed whole.
       not_envelope = c.read_envelope.ensures.not_envelope;
     })
 
-pub returns-clause-reads : goal.returns-clause-reads
-returns-clause-reads c = λ bytes fed whole.
+pub returns-in-Front-clause-reads : goal.returns-in-Front-clause-reads
+returns-in-Front-clause-reads c = λ bytes fed whole.
     let fits : length bytes ≤ envelope_bytes = omega (arith, fed.len, c.if-fed-gt-ENVELOPE_BYTES.false) in
     let kept = subst (λ k. HasKept k bytes) c.in-Front.is (fed.kept whole fits) in
     c.why_none.ensures bytes kept.0 fed.len fits
