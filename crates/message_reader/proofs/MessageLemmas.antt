@@ -10,7 +10,6 @@ use Rattle.soap_profile.specs.declared.error.EnvelopeError.{EnvelopeError}
 use Rattle.soap_profile.specs.declared.error.EnvelopeError.TheVariants as early
 use Rattle.soap_envelope.specs.Envelope.{Envelope, IsEnvelope}
 use Rattle.soap_envelope.specs.Refusals.{WrongVersion, NotEnvelope}
-use Rattle.soap_envelope.specs.Soap.{soap_space}
 use Rattle.soap_envelope.specs.View.{envelope_view}
 use Rattle.soap_envelope.specs.declared.envelope.Envelope.{Envelope as CodeEnvelope}
 use Rattle.rm_message.specs.declared.message.Message.{Message}
@@ -19,7 +18,7 @@ use Rattle.rm_message.specs.declared.refusal.DecodeError.TheVariants.{Memory, Re
 use Rattle.rm_message.specs.declared.refusal.Refusal.{Refusal}
 use Rattle.message_reader.specs.Message.{Wrong, NotUnderstood, message_in, unless_unknown}
 use Rattle.message_reader.specs.Outcome.{Decodes, refused, IsEarly, early_kind}
-use Rattle.message_reader.specs.Reading.{IsReading}
+use Rattle.message_reader.specs.Reading.{IsReadingIn}
 use Rattle.message_reader.specs.Refusals.{Spells, Refuses, IsRefusal, too_long, not_utf8, not_profile, wrong_version}
 use Rattle.message_reader.specs.Refusals.{not_envelope, without_message, blind, refusal_of}
 
@@ -60,44 +59,46 @@ refused_so soap bytes e (Err (Refused r)) is fits reads =
     refused_by soap bytes e r (message_in soap e) is fits refl reads
 
 -- what was read of the bytes is an error
-early_refuses : (bytes : List ℕ) (e : EnvelopeError) (r : Refusal) → IsReading bytes (Err e)
-    → option_map blind (early_kind e) ≡ Some r → Refuses soap_space bytes r
-early_refuses bytes early.Memory r why told = absurd (cc)
-early_refuses bytes (early.TooLong len) r why told =
-    subst (Refuses soap_space bytes) (some_same _ r told) (too_long (why.too_long len refl).0)
-early_refuses bytes (early.NotUtf8 place) r why told =
-    subst (Refuses soap_space bytes) (some_same _ r told) (not_utf8 place (why.not_utf8 place refl))
-early_refuses bytes early.NotProfile r why told =
-    subst (Refuses soap_space bytes) (some_same _ r told) (not_profile (why.not_profile refl))
-early_refuses bytes early.WrongVersion r why told =
+early_refuses : (soap bytes : List ℕ) (e : EnvelopeError) (r : Refusal) → IsReadingIn soap bytes (Err e)
+    → option_map blind (early_kind e) ≡ Some r → Refuses soap bytes r
+early_refuses soap bytes early.Memory r why told = absurd (cc)
+early_refuses soap bytes (early.TooLong len) r why told =
+    subst (Refuses soap bytes) (some_same _ r told) (too_long (why.too_long len refl).0)
+early_refuses soap bytes (early.NotUtf8 place) r why told =
+    subst (Refuses soap bytes) (some_same _ r told) (not_utf8 place (why.not_utf8 place refl))
+early_refuses soap bytes early.NotProfile r why told =
+    subst (Refuses soap bytes) (some_same _ r told) (not_profile (why.not_profile refl))
+early_refuses soap bytes early.WrongVersion r why told =
     let (fits, is) = why.wrong_version refl in
-    subst (Refuses soap_space bytes) (some_same _ r told) (wrong_version fits is)
-early_refuses bytes early.NotEnvelope r why told =
+    subst (Refuses soap bytes) (some_same _ r told) (wrong_version fits is)
+early_refuses soap bytes early.NotEnvelope r why told =
     let (fits, is) = why.not_envelope refl in
-    subst (Refuses soap_space bytes) (some_same _ r told) (not_envelope fits is)
+    subst (Refuses soap bytes) (some_same _ r told) (not_envelope fits is)
 
-early_is : (bytes : List ℕ) (e : EnvelopeError) (error : DecodeError) → IsReading bytes (Err e)
-    → IsEarly (early_kind e) error → IsRefusal soap_space bytes error
-early_is bytes e Memory why told = tt
-early_is bytes e (Refused r) why told = early_refuses bytes e r why told
+early_is : (soap bytes : List ℕ) (e : EnvelopeError) (error : DecodeError) → IsReadingIn soap bytes (Err e)
+    → IsEarly (early_kind e) error → IsRefusal soap bytes error
+early_is soap bytes e Memory why told = tt
+early_is soap bytes e (Refused r) why told = early_refuses soap bytes e r why told
 
 -- the message that the bytes spell, of what was read of them
-pub spelled_of : (bytes : List ℕ) (read : Result CodeEnvelope EnvelopeError) (e : CodeEnvelope)
-    (result : Result Message DecodeError) → read ≡ Ok e → Decodes result (message_in soap_space (envelope_view e))
-    → IsReading bytes read → IfOk result (Spells soap_space bytes)
-spelled_of bytes read e result is decodes reading =
-    let told : IsReading bytes (Ok e) = subst (IsReading bytes) is reading in
-    spelled soap_space bytes (envelope_view e) result told.ok told.fits decodes
+pub spelled_of : (soap bytes : List ℕ) (read : Result CodeEnvelope EnvelopeError) (e : CodeEnvelope)
+    (result : Result Message DecodeError) → read ≡ Ok e → Decodes result (message_in soap (envelope_view e))
+    → IsReadingIn soap bytes read → IfOk result (Spells soap bytes)
+spelled_of soap bytes read e result is decodes reading =
+    let told : IsReadingIn soap bytes (Ok e) = subst (IsReadingIn soap bytes) is reading in
+    spelled soap bytes (envelope_view e) result told.ok told.fits decodes
 
 -- or the refusal, where it was an envelope
-pub refused_of : (bytes : List ℕ) (read : Result CodeEnvelope EnvelopeError) (e : CodeEnvelope)
-    (result : Result Message DecodeError) → read ≡ Ok e → Decodes result (message_in soap_space (envelope_view e))
-    → IsReading bytes read → IfErr result (IsRefusal soap_space bytes)
-refused_of bytes read e result is decodes reading =
-    let told : IsReading bytes (Ok e) = subst (IsReading bytes) is reading in
-    refused_so soap_space bytes (envelope_view e) result told.ok told.fits decodes
+pub refused_of : (soap bytes : List ℕ) (read : Result CodeEnvelope EnvelopeError) (e : CodeEnvelope)
+    (result : Result Message DecodeError) → read ≡ Ok e → Decodes result (message_in soap (envelope_view e))
+    → IsReadingIn soap bytes read → IfErr result (IsRefusal soap bytes)
+refused_of soap bytes read e result is decodes reading =
+    let told : IsReadingIn soap bytes (Ok e) = subst (IsReadingIn soap bytes) is reading in
+    refused_so soap bytes (envelope_view e) result told.ok told.fits decodes
 
 -- or where it was none
-pub early_of : (bytes : List ℕ) (read : Result CodeEnvelope EnvelopeError) (e : EnvelopeError) (error : DecodeError)
-    → read ≡ Err e → IsEarly (early_kind e) error → IsReading bytes read → IsRefusal soap_space bytes error
-early_of bytes read e error is told reading = early_is bytes e error (subst (IsReading bytes) is reading) told
+pub early_of : (soap bytes : List ℕ) (read : Result CodeEnvelope EnvelopeError) (e : EnvelopeError) (error :
+    DecodeError)
+    → read ≡ Err e → IsEarly (early_kind e) error → IsReadingIn soap bytes read → IsRefusal soap bytes error
+early_of soap bytes read e error is told reading = early_is soap bytes e error (subst (IsReadingIn soap bytes) is
+    reading) told

@@ -19,7 +19,11 @@ use Rattle.rm_message.specs.Actions.{close_sequence_response, terminate_sequence
 use Rattle.rm_message.specs.Actions.{ack_requested, sequence_acknowledgement, wsrm_fault, make_connection}
 use Rattle.rm_message.specs.declared.message.Body.{Body}
 use Rattle.rm_message.specs.declared.message.Body.TheVariants as bodies
+use Rattle.rm_message.specs.declared.message.FaultBody.{FaultBody}
+use Rattle.soap_envelope.specs.Soap.{is_soap11}
 use Rattle.message_reader.specs.Faults.{fault_in}
+use Rattle.message_reader.specs.Faults11.{fault11_in}
+use Rattle.message_reader.specs.declared.fault11.SequenceFault.{SequenceFault}
 
 -- an element that is a Fault
 abbrev pub if_fault : List ℕ → Option Element → Option Element
@@ -71,13 +75,18 @@ body_for None bare payload parts = Some (if bare then bodies.Empty else bodies.P
 abbrev pub numbered_body : Bool → Payload → Option Body
 numbered_body protocol payload = if protocol then None else Some (bodies.Payload payload)
 
+-- what a Fault of the version says, with a SequenceFault or without
+abbrev pub fault_of : List ℕ → Option SequenceFault → List Binding → Element → FaultBody
+fault_of soap told scope fault = if is_soap11 soap then fault11_in soap told scope fault else fault_in soap scope fault
+
 -- the Fault, or what the action says
-abbrev pub unnumbered_body : List ℕ → List ℕ → Option Element → Payload → Parts → Option Body
-unnumbered_body soap action (Some fault) payload parts = Some (bodies.Fault (fault_in soap payload.scope fault))
-unnumbered_body soap action None payload parts = body_for (element_for action) (is_bare action) payload parts
+abbrev pub unnumbered_body : List ℕ → Option SequenceFault → List ℕ → Option Element → Payload → Parts → Option Body
+unnumbered_body soap told action (Some fault) payload parts =
+    Some (bodies.Fault (fault_of soap told payload.scope fault))
+unnumbered_body soap told action None payload parts = body_for (element_for action) (is_bare action) payload parts
 
 -- the body of a message with this action, and with a number in a sequence or without
-abbrev pub body_in : List ℕ → List ℕ → Bool → Payload → Parts → Option Body
-body_in soap action numbered payload parts =
+abbrev pub body_in : List ℕ → Option SequenceFault → List ℕ → Bool → Payload → Parts → Option Body
+body_in soap told action numbered payload parts =
     if numbered then numbered_body (is_protocol action) payload
-    else unnumbered_body soap action (fault_at soap numbered parts) payload parts
+    else unnumbered_body soap told action (fault_at soap numbered parts) payload parts

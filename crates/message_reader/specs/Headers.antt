@@ -1,13 +1,15 @@
 -- What the header blocks of WS-ReliableMessaging 1.2 (sections 3.7 to 3.9), WS-MakeConnection 1.1 (3.3) and SOAP 1.2
 -- Part 1 (5.4.8) say, beside those of WS-Addressing.
-use Rattle.std.specs.Prelude.{ℕ, List, [], ◌∷◌, Bool, Option, Some, None, Result, Ok, Err, codes}
+use Rattle.std.specs.Prelude.{ℕ, List, [], ◌∷◌, Bool, if◌then◌else◌, Option, Some, None, Result, Ok, Err, codes}
 use Rattle.std.specs.List.{flat_map}
-use Rattle.soap_profile.specs.Tree.{Element, attrs_of}
+use Rattle.soap_profile.specs.Tree.{Element, attrs_of, parts_of}
 use Rattle.rm_base.specs.declared.message.Binding.{Binding}
 use Rattle.soap_profile.specs.declared.name.Expanded.{Expanded}
-use Rattle.soap_values.specs.Children.{name_in, value_among}
-use Rattle.soap_values.specs.Outcome.{◌>>=◌, optional, each, if_present}
+use Rattle.soap_values.specs.Children.{name_in, value_among, children_named}
+use Rattle.soap_values.specs.Outcome.{◌>>=◌, optional, single, each, if_present}
 use Rattle.soap_values.specs.QNames.{within, qname_in}
+use Rattle.soap_values.specs.Values.{trimmed_text}
+use Rattle.soap_envelope.specs.Soap.{is_soap11}
 use Rattle.rm_elements.specs.Headers.{header_of}
 use Rattle.rm_elements.specs.Outcome.{rm, mc}
 use Rattle.rm_elements.specs.declared.error.ElementError.{ElementError}
@@ -15,7 +17,9 @@ use Rattle.rm_elements.specs.declared.error.ElementError.TheVariants.{Rollover}
 use Rattle.rm_elements.specs.declared.header.AckBlock.{AckBlock}
 use Rattle.rm_elements.specs.declared.header.Header.{Header}
 use Rattle.rm_elements.specs.declared.header.Header.TheVariants.{Sequence, Ack, Ask, Pending}
-use Rattle.message_reader.specs.Blocks.{blocks}
+use Rattle.message_reader.specs.Blocks.{blocks, sequence_fault_name}
+use Rattle.message_reader.specs.Faults.{spaced, stripped_in}
+use Rattle.message_reader.specs.declared.fault11.SequenceFault.{SequenceFault}
 use Rattle.message_reader.specs.declared.headers.Numbered.{Numbered}
 use Rattle.message_reader.specs.declared.headers.Numbered.TheVariants.{Unnumbered, Within, RolledOver}
 
@@ -93,7 +97,30 @@ told_name scope e = do
   qname_in (within (e ∷ []) scope) bytes
 
 -- the names that a peer did not understand, in order, where these bindings are in force in the header; a block without
--- a name is passed over
+-- a name is passed over, and SOAP 1.1 has no such blocks
 abbrev pub told_names : List ℕ → List Binding → List Element → List Expanded
 told_names soap scope headers =
-    flat_map (λ e. listed (told_name scope e)) (blocks (name_in soap (codes "NotUnderstood")) headers)
+    if is_soap11 soap then []
+    else flat_map (λ e. listed (told_name scope e)) (blocks (name_in soap (codes "NotUnderstood")) headers)
+
+-- ---- SequenceFault, in SOAP 1.1 (WS-ReliableMessaging 1.2, 4)
+
+-- the name in FaultCode, where these bindings are in force around the block
+unfoldable pub fault_code_name : List Binding → Element → Option Expanded
+fault_code_name scope e = do
+  code ← single (children_named (rm (codes "FaultCode")) (parts_of e))
+  bytes ← trimmed_text code
+  qname_in (within (code ∷ e ∷ []) scope) bytes
+
+-- what a SequenceFault says: a name, which as a subcode has to be in a namespace, and the elements of Detail
+unfoldable pub sequence_fault_of : List Binding → Element → Option SequenceFault
+sequence_fault_of scope e = do
+  name ← fault_code_name scope e
+  detail ← optional (children_named (rm (codes "Detail")) (parts_of e))
+  Some (record { subcode = spaced name; detail = stripped_in detail })
+
+-- the one SequenceFault of a message, or none
+unfoldable pub sequence_fault_in : List ℕ → List Binding → List Element → Option (Option SequenceFault)
+sequence_fault_in soap scope headers = if is_soap11 soap then (do
+  found ← optional (blocks sequence_fault_name headers)
+  if_present (sequence_fault_of scope) found) else Some None

@@ -1,6 +1,7 @@
 pub mod Blocks
 pub mod Bodies
 pub mod Faults
+pub mod Faults11
 pub mod Headers
 pub mod Message
 pub mod Outcome

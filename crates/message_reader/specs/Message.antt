@@ -16,10 +16,12 @@ use Rattle.wsa_headers.specs.declared.error.AddressingError.TheVariants as error
 use Rattle.rm_elements.specs.declared.header.AckBlock.{AckBlock}
 use Rattle.rm_elements.specs.declared.header.SeqHeader.{SeqHeader}
 use Rattle.rm_message.specs.Actions.{create_sequence}
+use Rattle.rm_message.specs.declared.message.Body.{Body}
 use Rattle.rm_message.specs.declared.message.Message.{Message}
 use Rattle.message_reader.specs.Blocks.{has_block, not_understood}
 use Rattle.message_reader.specs.Bodies.{fault_at, body_in}
 use Rattle.message_reader.specs.Headers.{acks_in, asks_in, pending_in, numbered_in, sequence_name, told_names}
+use Rattle.message_reader.specs.Headers.{sequence_fault_in}
 use Rattle.message_reader.specs.declared.headers.Numbered.{Numbered}
 use Rattle.message_reader.specs.declared.headers.Numbered.TheVariants.{Unnumbered, Within, RolledOver}
 use Rattle.message_reader.specs.declared.read.Content.{Content}
@@ -94,12 +96,18 @@ marks_in headers = do
   numbered ← numbered_in headers
   Some (pending, numbered)
 
+-- the body of a message with this action
+unfoldable pub body_of : List ℕ → List ℕ → Envelope → Option Body
+body_of soap action e = do
+  told ← sequence_fault_in soap e.header_scope e.headers
+  body_in soap told action (is_numbered e) (payload_of e) e.body
+
 -- what a message with this action has beside its addressing properties
 unfoldable pub content_in : List ℕ → List ℕ → Envelope → Option Content
 content_in soap action e = do
   lists ← lists_in e.headers
   marks ← marks_in e.headers
-  body ← body_in soap action (is_numbered e) (payload_of e) e.body
+  body ← body_of soap action e
   Some (record {
     numbered = marks.1;
     acks = lists.0;

@@ -2,7 +2,8 @@
 ghost use Rattle.std.specs.Prelude.{◌≡◌, ◌++◌, map, option_map, IfOk};
 ghost use Rattle.std.specs.Str.{bytes_eq};
 ghost use Rattle.soap_profile.specs.View.{element_view};
-ghost use Rattle.soap_values.specs.Children.{name_in};
+ghost use Rattle.soap_profile.specs.Tree.{attrs_of};
+ghost use Rattle.soap_values.specs.Children.{name_in, is_same, value_among};
 ghost use Rattle.soap_values.specs.Outcome.{Gives, optional};
 ghost use Rattle.soap_values.specs.Steps.{lent_trees};
 ghost use Rattle.message_reader.specs.Blocks.{
@@ -10,8 +11,12 @@ ghost use Rattle.message_reader.specs.Blocks.{
   blocks,
   has_block as has_block_of,
   is_addressing as is_addressing_name,
+  version_header as version_header_name,
   is_understood as is_understood_name,
+  demands as demands_of,
+  role_name as role_name_of,
   must_be_understood as must_be_understood_of,
+  is_role12 as is_role12_of,
   is_own_role as is_own_role_of,
   is_own as is_own_by,
   is_not_understood as is_not_understood_of,
@@ -19,12 +24,16 @@ ghost use Rattle.message_reader.specs.Blocks.{
 };
 
 use rm_base::{Items, Memory};
-use rm_elements::header_name;
+use rm_elements::{MESSAGING, header_name};
 use rm_message::Names;
+use soap_envelope::is_soap11;
 use soap_profile::{Element, Name};
-use soap_values::{Flaw, find_value, is_named, is_true_mark};
+use soap_values::{Flaw, find_value, is_named, is_true_mark, trim};
 use std::alloc::Global;
 use wsa_headers::{ADDRESSING, is_parameter};
+
+/// The role of the next node on the way: SOAP 1.1, section 4.2.2.
+const NEXT_ACTOR: &[u8] = b"http://schemas.xmlsoap.org/soap/actor/next";
 
 fn is_block(block: &Element, space: &[u8], local: &[u8]) -> bool
     ensures { result ≡ is_block_of (name_in space.now local.now) (element_view block.now) }
@@ -110,19 +119,54 @@ fn is_addressing(name: &Name) -> bool
     is_named(name, ADDRESSING, b"RelatesTo")
 }
 
+// Whether it is the header that only one version has.
+fn is_version_header(name: &Name, soap: &[u8]) -> bool
+    ensures { result ≡ is_same name.now (version_header_name soap.now) }
+{
+    if is_soap11(soap) {
+        return is_named(name, MESSAGING, b"SequenceFault");
+    }
+    is_named(name, soap, b"NotUnderstood")
+}
+
 fn is_understood(name: &Name, soap: &[u8]) -> bool
     ensures { result ≡ is_understood_name soap.now name.now }
 {
-    is_addressing(name) || header_name(name).is_some() || is_named(name, soap, b"NotUnderstood")
+    is_addressing(name) || header_name(name).is_some() || is_version_header(name, soap)
+}
+
+fn demands(first: bool, mark: Option<&[u8]>) -> bool
+    ensures { result ≡ demands_of first (option_map (λ mark. mark.now) mark.entry) }
+{
+    match mark {
+        Some(mark) => {
+            if first {
+                return trim(mark) == b"1".as_slice();
+            }
+            is_true_mark(mark)
+        }
+        None => false,
+    }
 }
 
 fn must_be_understood(block: &Element, soap: &[u8]) -> bool
     ensures { result ≡ must_be_understood_of soap.now (element_view block.now) }
 {
-    match find_value(block.items.as_slice(), soap, b"mustUnderstand") {
-        Some(value) => is_true_mark(value),
-        None => false,
+    demands(
+        is_soap11(soap),
+        find_value(block.items.as_slice(), soap, b"mustUnderstand"),
+    )
+}
+
+// What names the role of a block.
+fn role_of<'a>(block: &'a Element, soap: &[u8]) -> Option<&'a [u8]>
+    ensures { option_map (λ value. value.now) result
+        ≡ value_among (role_name_of soap.now) (attrs_of (element_view block.now)) }
+{
+    if is_soap11(soap) {
+        return find_value(block.items.as_slice(), soap, b"actor");
     }
+    find_value(block.items.as_slice(), soap, b"role")
 }
 
 // Whether the bytes are the front and then the back.
@@ -136,10 +180,19 @@ fn is_joined(bytes: &[u8], front: &[u8], back: &[u8]) -> bool
     }
 }
 
+fn is_role12(role: &[u8], soap: &[u8]) -> bool
+    ensures { result ≡ is_role12_of soap.now role.now }
+{
+    is_joined(role, soap, b"/role/next") || is_joined(role, soap, b"/role/ultimateReceiver")
+}
+
 fn is_own_role(role: &[u8], soap: &[u8]) -> bool
     ensures { result ≡ is_own_role_of soap.now role.now }
 {
-    is_joined(role, soap, b"/role/next") || is_joined(role, soap, b"/role/ultimateReceiver")
+    if is_soap11(soap) {
+        return role == NEXT_ACTOR;
+    }
+    is_role12(role, soap)
 }
 
 fn is_own(role: Option<&[u8]>, soap: &[u8]) -> bool
@@ -157,7 +210,7 @@ fn is_not_understood(block: &Element, soap: &[u8]) -> bool
     !is_parameter(block)
         && !is_understood(&block.name, soap)
         && must_be_understood(block, soap)
-        && is_own(find_value(block.items.as_slice(), soap, b"role"), soap)
+        && is_own(role_of(block, soap), soap)
 }
 
 /// The names of the blocks that had to be understood and are not, in order.

@@ -1,5 +1,5 @@
 //! What a message has in its Body: a Fault, or what its action says.
-ghost use Rattle.std.specs.Prelude.{◌≡◌, option_map};
+ghost use Rattle.std.specs.Prelude.{◌≡◌, option_map, IfOk};
 ghost use Rattle.soap_profile.specs.Tree.{children_of};
 ghost use Rattle.soap_profile.specs.View.{element_view, parts_view};
 ghost use Rattle.soap_values.specs.Children.{name_in};
@@ -9,6 +9,7 @@ ghost use Rattle.rm_elements.specs.Lifecycle.{lifecycle_of};
 ghost use Rattle.message_reader.specs.Bodies.{
   if_fault,
   fault_at,
+  fault_of,
   element_for as element_by,
   is_bare as is_bare_action,
   is_protocol as is_protocol_action,
@@ -21,9 +22,11 @@ ghost use Rattle.message_reader.specs.Bodies.{
 };
 
 use crate::fault::read_fault;
-use rm_base::Payload;
+use crate::fault11::{SequenceFault, read_fault11};
+use rm_base::{Binding, Memory, Payload};
 use rm_elements::{CONNECTION, ElementError, MESSAGING, read_lifecycle};
-use rm_message::{Body, actions};
+use rm_message::{Body, FaultBody, actions};
+use soap_envelope::is_soap11;
 use soap_profile::{Element, Item, Parts};
 use soap_values::{Flaw, is_named};
 use std::alloc::Global;
@@ -190,19 +193,36 @@ fn numbered_body(protocol: bool, payload: Payload) -> Result<Body, Flaw>
     Ok(Body::Payload(payload))
 }
 
+// What a Fault of the version says.
+fn read_fault_of(
+    alloc: Global,
+    soap: &[u8],
+    told: Option<SequenceFault>,
+    scope: &[Binding],
+    fault: &Element,
+) -> Result<FaultBody, Memory>
+    ensures { IfOk result (λ body. body ≡ fault_of soap.now told scope.now (element_view fault.now)) }
+{
+    if is_soap11(soap) {
+        return read_fault11(alloc, soap, told, scope, fault);
+    }
+    read_fault(alloc, soap, scope, fault)
+}
+
 fn unnumbered_body(
     alloc: Global,
     soap: &[u8],
+    told: Option<SequenceFault>,
     action: &[u8],
     fault: Option<&Element>,
     payload: Payload,
     items: &[Item],
 ) -> Result<Body, Flaw>
-    ensures { Gives (λ body. body) result (body_unnumbered soap.now action.now
+    ensures { Gives (λ body. body) result (body_unnumbered soap.now told action.now
         (option_map (λ e. element_view e.now) fault.entry) payload (parts_view items.now)) }
 {
     if let Some(fault) = fault {
-        let body = read_fault(alloc, soap, payload.scope.as_slice(), fault)?;
+        let body = read_fault_of(alloc, soap, told, payload.scope.as_slice(), fault)?;
         return Ok(Body::Fault(body));
     }
     read_body_for(alloc, element_for(action), is_bare(action), payload, items)
@@ -212,16 +232,17 @@ fn unnumbered_body(
 pub(crate) fn read_body(
     alloc: Global,
     soap: &[u8],
+    told: Option<SequenceFault>,
     action: &[u8],
     numbered: bool,
     payload: Payload,
     items: &[Item],
 ) -> Result<Body, Flaw>
-    ensures { Gives (λ body. body) result (body_in soap.now action.now numbered payload (parts_view items.now)) }
+    ensures { Gives (λ body. body) result (body_in soap.now told action.now numbered payload (parts_view items.now)) }
 {
     if numbered {
         return numbered_body(is_protocol(action), payload);
     }
     let fault = find_fault(items, soap, numbered);
-    unnumbered_body(alloc, soap, action, fault, payload, items)
+    unnumbered_body(alloc, soap, told, action, fault, payload, items)
 }

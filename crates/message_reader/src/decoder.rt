@@ -4,24 +4,32 @@ ghost use Rattle.soap_envelope.specs.Soap.{soap_space};
 ghost use Rattle.soap_envelope.specs.View.{envelope_view};
 ghost use Rattle.message_reader.specs.Message.{message_in};
 ghost use Rattle.message_reader.specs.Outcome.{Decodes, IsEarly, told_by, early_kind as early_kind_of};
-ghost use Rattle.message_reader.specs.Reading.{IsReading};
+ghost use Rattle.message_reader.specs.Reading.{IsReading, IsReadingIn};
 ghost use Rattle.message_reader.specs.Refusals.{Spells, IsRefusal};
 
 use crate::read::read_message;
 use crate::refusal::{blind, refusal};
 use rm_base::Memory;
 use rm_message::{DecodeError, FaultKind, Message, Refusal};
-use soap_envelope::{Envelope, SOAP_SPACE, read_envelope};
+use soap_envelope::{Envelope, SOAP_SPACE, read_envelope_in};
 use soap_profile::EnvelopeError;
 use std::alloc::Global;
 
-/// The message that the bytes spell, or the refusal of the first kind that holds, with where its fault goes. The bytes
-/// are SOAP 1.2.
+/// The message that the bytes spell where SOAP has this namespace, or the refusal of the first kind that holds, with
+/// where its fault goes.
+pub fn decode_in(alloc: Global, bytes: &[u8], soap: &[u8]) -> Result<Message, DecodeError>
+    ensures ok { IfOk result (Spells soap.now bytes.now) }
+    ensures err { IfErr result (IsRefusal soap.now bytes.now) }
+{
+    decode_read_in(alloc, soap, read_envelope_in(alloc, bytes, soap))
+}
+
+/// The same where the bytes are SOAP 1.2.
 pub fn decode(alloc: Global, bytes: &[u8]) -> Result<Message, DecodeError>
     ensures ok { IfOk result (Spells soap_space bytes.now) }
     ensures err { IfErr result (IsRefusal soap_space bytes.now) }
 {
-    decode_read(alloc, read_envelope(alloc, bytes))
+    decode_in(alloc, bytes, SOAP_SPACE)
 }
 
 /// What `decode` answers of bytes of which a reader of envelopes answered this, however the bytes came to it.
@@ -32,8 +40,20 @@ pub fn decode_read(
     ensures ok { (bytes : List ℕ) → IsReading bytes read → IfOk result (Spells soap_space bytes) }
     ensures err { (bytes : List ℕ) → IsReading bytes read → IfErr result (IsRefusal soap_space bytes) }
 {
+    decode_read_in(alloc, SOAP_SPACE, read)
+}
+
+// The same where SOAP has this namespace.
+fn decode_read_in(
+    alloc: Global,
+    soap: &[u8],
+    read: Result<Envelope, EnvelopeError>,
+) -> Result<Message, DecodeError>
+    ensures ok { (bytes : List ℕ) → IsReadingIn soap.now bytes read → IfOk result (Spells soap.now bytes) }
+    ensures err { (bytes : List ℕ) → IsReadingIn soap.now bytes read → IfErr result (IsRefusal soap.now bytes) }
+{
     match read {
-        Ok(envelope) => decode_envelope(alloc, SOAP_SPACE, envelope),
+        Ok(envelope) => decode_envelope(alloc, soap, envelope),
         Err(error) => Err(unread(alloc, error)),
     }
 }

@@ -41,7 +41,7 @@ pub(crate) struct Codes {
 
 // The first child of a name.
 #[tactic(auto, using(soap_values::specs::ChildLaws::children_more))]
-fn find_first<'a>(items: &'a [Item], space: &[u8], local: &[u8]) -> Option<&'a Element>
+pub(crate) fn find_first<'a>(items: &'a [Item], space: &[u8], local: &[u8]) -> Option<&'a Element>
     ensures { option_map (λ e. element_view e.now) result
         ≡ first_of (children_named (name_in space.now local.now) (parts_view items.now)) }
 {
@@ -62,7 +62,7 @@ fn find_part<'a>(element: &'a Element, soap: &[u8], local: &[u8]) -> Option<&'a 
 }
 
 // What was read, where it could be.
-fn if_readable<T: Drop>(read: Result<T, Flaw>) -> Result<Option<T>, Memory>
+pub(crate) fn if_readable<T: Drop>(read: Result<T, Flaw>) -> Result<Option<T>, Memory>
     ensures { (pure : Option T) → Gives (λ x. x) read pure → IfOk result (λ found. found ≡ pure) }
 {
     match read {
@@ -245,7 +245,7 @@ fn read_reason(alloc: Global, soap: &[u8], fault: &Element) -> Result<Blob, Flaw
     Ok(Blob::from_vec(read_trimmed(alloc, text)?))
 }
 
-fn blob_or_empty(alloc: Global, found: Option<Blob>) -> Blob
+pub(crate) fn blob_or_empty(alloc: Global, found: Option<Blob>) -> Blob
     ensures { result ≡ or_empty found }
 {
     match found {
@@ -268,7 +268,7 @@ fn strip_each(alloc: Global, items: &[Item]) -> Result<Elements, Memory>
     Ok(elements)
 }
 
-fn read_stripped(alloc: Global, holder: Option<&Element>) -> Result<Elements, Memory>
+pub(crate) fn read_stripped(alloc: Global, holder: Option<&Element>) -> Result<Elements, Memory>
     ensures { IfOk result (λ elements. elements ≡ stripped_in (option_map (λ e. element_view e.now) holder.entry)) }
 {
     match holder {

@@ -23,6 +23,7 @@ use crate::blocks::{find_block, find_blocks};
 use rm_base::{Binding, Ident, Items, Memory};
 use rm_elements::{AckBlock, CONNECTION, ElementError, Header, MESSAGING, SeqHeader, read_header};
 use rm_message::{Acks, Idents, Names};
+use soap_envelope::is_soap11;
 use soap_profile::{Element, Name};
 use soap_values::{Flaw, find_value, read_qname};
 use std::alloc::Global;
@@ -181,6 +182,9 @@ pub(crate) fn read_told_names(
 ) -> Result<Names, Memory>
     ensures { IfOk result (λ names. names ≡ told_names soap.now scope.now (map element_view headers.now)) }
 {
+    if is_soap11(soap) {
+        return Ok(Items::new(alloc));
+    }
     let found = find_blocks(alloc, headers, soap, b"NotUnderstood")?;
     read_each_told(alloc, found.as_slice(), scope)
 }

@@ -10,9 +10,10 @@ mod body;
 mod cause;
 pub mod decoder;
 mod fault;
+mod fault11;
 mod headers;
 pub mod laws;
 mod read;
 mod refusal;
 
-pub use decoder::{decode, decode_read};
+pub use decoder::{decode, decode_in, decode_read};

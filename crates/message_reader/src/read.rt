@@ -11,6 +11,7 @@ ghost use Rattle.message_reader.specs.Message.{
   addressed,
   lists_in,
   marks_in,
+  body_of,
   content_in,
   with_number as number_with,
   message_in,
@@ -20,14 +21,15 @@ ghost use Rattle.message_reader.specs.Outcome.{Answers};
 use crate::blocks::{find_block, has_block, not_understood};
 use crate::body::{find_fault, items_of, read_body};
 use crate::cause::Cause;
+use crate::fault11::read_told_fault;
 use crate::headers::{
     Numbered, read_acks, read_asks, read_numbered, read_pending, read_told_names,
 };
-use rm_base::Memory;
+use rm_base::{Binding, Memory, Payload};
 use rm_elements::{MESSAGING, SeqHeader};
 use rm_message::{Acks, Body, Idents, Message, Names, actions};
 use soap_envelope::Envelope;
-use soap_profile::Element;
+use soap_profile::{Element, Parts};
 use soap_values::Flaw;
 use std::alloc::Global;
 use wsa_headers::{ADDRESSING, Addressing, AddressingError, read_address_of, read_addressing};
@@ -127,6 +129,38 @@ fn read_marks(alloc: Global, headers: &[Element]) -> Result<(Option<bool>, Numbe
     Ok((pending, numbered))
 }
 
+// The body of a message with this action.
+#[tactic(auto, unfolding(crate::specs::Message::body_of))]
+fn read_body_of(
+    alloc: Global,
+    soap: &[u8],
+    action: &[u8],
+    headers: &[Element],
+    scope: &[Binding],
+    payload: Payload,
+    body: &Parts,
+) -> Result<Body, Flaw>
+    ensures { Gives (λ body. body) result (body_of soap.now action.now (record {
+      headers = map element_view headers.now;
+      header_scope = scope.now;
+      payload = payload.bytes;
+      scope = payload.scope;
+      body = body.now;
+    })) }
+{
+    let told = read_told_fault(alloc, soap, scope, headers)?;
+    let has_number = has_block(headers, MESSAGING, b"Sequence");
+    read_body(
+        alloc,
+        soap,
+        told,
+        action,
+        has_number,
+        payload,
+        items_of(body),
+    )
+}
+
 // What a message with this action has beside its addressing properties.
 #[tactic(auto, unfolding(crate::specs::Message::content_in))]
 fn read_content(
@@ -146,14 +180,14 @@ fn read_content(
     let headers = headers.as_slice();
     let (acks, asks) = read_lists(alloc, headers)?;
     let (pending, numbered) = read_marks(alloc, headers)?;
-    let has_number = has_block(headers, MESSAGING, b"Sequence");
-    let body = read_body(alloc, soap, action, has_number, payload, items_of(&body))?;
+    let scope = header_scope.as_slice();
+    let body = read_body_of(alloc, soap, action, headers, scope, payload, &body)?;
     Ok(Content {
         numbered,
         acks,
         asks,
         pending,
-        not_understood: read_told_names(alloc, headers, soap, header_scope.as_slice())?,
+        not_understood: read_told_names(alloc, headers, soap, scope)?,
         body,
     })
 }

@@ -9,6 +9,7 @@ use Rattle.std.proofs.lemmas.Bool.{and_parts}
 use Prim.Native.Nat.{zero}
 use Rattle.rm_base.specs.declared.message.Payload.{Payload}
 use Rattle.soap_lex.specs.Facts.{same}
+use Rattle.rm_base.specs.declared.message.Binding.{Binding}
 use Rattle.soap_profile.specs.Tree.{Element, Parts, name_of, parts_of, children_of}
 use Rattle.soap_profile.specs.declared.name.Expanded.{Expanded}
 use Rattle.soap_stripped.specs.Resolved.{AreInForce, IsResolved}
@@ -30,11 +31,15 @@ use Rattle.rm_message.specs.Actions.{make_connection}
 use Rattle.rm_message.specs.declared.message.Body.{Body}
 use Rattle.rm_message.specs.declared.message.Body.TheVariants as bodies
 use Rattle.message_writer.specs.Rules.{action_for, bare_actions, protocol_actions, HasItsId}
+use Rattle.message_writer.specs.Rules.{IsFaultWritable}
 use Rattle.message_reader.specs.Bodies.{if_fault, fault_at, element_for, is_bare, is_protocol, lifecycle_from}
-use Rattle.message_reader.specs.Bodies.{lifecycle_in, body_for, numbered_body, unnumbered_body, body_in}
+use Rattle.message_reader.specs.Bodies.{lifecycle_in, body_for, numbered_body, unnumbered_body, body_in, fault_of}
 use Rattle.message_reader.specs.Faults.{fault_in}
+use Rattle.message_reader.specs.Faults11.{Told, fault11_in}
+use Rattle.soap_envelope.specs.Soap.{is_soap11}
 use Rattle.read_laws.specs.WasRead.{IsBodyRead}
 use Rattle.read_laws.proofs.Faults.{fault_is}
+use Rattle.read_laws.proofs.Faults11.{IsTold, fault11_is}
 use Rattle.read_laws.proofs.Lifecycles.{lifecycle_is}
 use Rattle.read_laws.proofs.Lists.{first_is, single_is}
 use Rattle.read_laws.proofs.Names.{WrittenNames}
@@ -236,26 +241,38 @@ fault_found soap None fault e is = cc
 fault_found soap (Some first) fault e is =
     fault_first soap (has_name (name_in soap (codes "Fault")) first) first fault e is
 
-unnumbered_at : WrittenNames → (soap action : List ℕ) (id : Option (List ℕ)) (payload : Payload) (parts : Parts)
+fault_at_least : WrittenNames → (soap : List ℕ) (told : Option Told) (t : Bool) (scope : List Binding)
+    → AreInForce scope → IfSome told IsTold → (fault : Element) → IsResolved 2 fault
+    → IsFaultWritable (if t then fault11_in soap told scope fault else fault_in soap scope fault)
+fault_at_least names soap told true scope outer tell fault is =
+    fault11_is names soap told scope outer tell fault is
+fault_at_least names soap told false scope outer tell fault is = fault_is names soap scope outer fault is
+
+unnumbered_at : WrittenNames → (soap : List ℕ) (told : Option Told) → IfSome told IsTold
+    → (action : List ℕ) (id : Option (List ℕ)) (payload : Payload) (parts : Parts)
     (body : Body) (o : Option Element) → fault_at soap false parts ≡ o
-    → unnumbered_body soap action o payload parts ≡ Some body → (o ≡ None → CreatesById action id)
+    → unnumbered_body soap told action o payload parts ≡ Some body → (o ≡ None → CreatesById action id)
     → AreInForce payload.scope → AllByRecursion (IsResolved 2) (children_of parts) → IsBodyOf false action id body
-unnumbered_at names soap action id payload parts body None f e by outer all =
+unnumbered_at names soap told tell action id payload parts body None f e by outer all =
     for_at action id payload parts body (element_for action) refl e (by refl) all
-unnumbered_at names soap action id payload parts body (Some fault) f e by outer all =
-    let is : bodies.Fault (fault_in soap payload.scope fault) ≡ body = cc in
+unnumbered_at names soap told tell action id payload parts body (Some fault) f e by outer all =
+    let is : bodies.Fault (fault_of soap told payload.scope fault) ≡ body = cc in
     let here : IsResolved 2 fault =
     fault_found soap (first_of (children_of parts)) fault f
     (first_is (IsResolved 2) (children_of parts) (first_of (children_of parts)) refl all) in
     subst (IsBodyOf false action id) is
-    (record { read = fault_is names soap payload.scope outer fault here; together = refl })
+    (record {
+      read = fault_at_least names soap told (is_soap11 soap) payload.scope outer tell fault here;
+      together = refl;
+    })
 
 -- what is read of the Body of an envelope
-pub body_is : WrittenNames → (soap action : List ℕ) (id : Option (List ℕ)) (numbered : Bool) (payload : Payload)
-    (parts : Parts) (body : Body) → body_in soap action numbered payload parts ≡ Some body
+pub body_is : WrittenNames → (soap : List ℕ) (told : Option Told) → IfSome told IsTold
+    → (action : List ℕ) (id : Option (List ℕ)) (numbered : Bool) (payload : Payload)
+    (parts : Parts) (body : Body) → body_in soap told action numbered payload parts ≡ Some body
     → (fault_at soap numbered parts ≡ None → CreatesById action id) → AreInForce payload.scope
     → AllByRecursion (IsResolved 2) (children_of parts) → IsBodyOf numbered action id body
-body_is names soap action id true payload parts body e by outer all =
+body_is names soap told tell action id true payload parts body e by outer all =
     numbered_at action id payload body (is_protocol action) refl e
-body_is names soap action id false payload parts body e by outer all =
-    unnumbered_at names soap action id payload parts body (fault_at soap false parts) refl e by outer all
+body_is names soap told tell action id false payload parts body e by outer all =
+    unnumbered_at names soap told tell action id payload parts body (fault_at soap false parts) refl e by outer all

@@ -29,7 +29,7 @@ use Rattle.read_laws.proofs.Params.{height_kept}
 use Rattle.read_laws.proofs.Trims.{IsReason, trimmed_text_is}
 
 -- the first child of a name stands in one more element
-first_resolved : (soap local : List ℕ) (depth : ℕ) (e : Element) → IsResolved depth e
+pub first_resolved : (soap local : List ℕ) (depth : ℕ) (e : Element) → IsResolved depth e
     → IfSome (first_named soap local e) (IsResolved (suc depth))
 first_resolved soap local depth e is =
     let named = children_named (name_in soap local) (parts_of e) in
@@ -40,15 +40,15 @@ first_resolved soap local depth e is =
 -- ---- codes
 
 -- codes that may be written, in a Fault with nothing else
-record AreCodes (found : FaultBody) : Type 0 where
-  subcode : IfSome found.subcode IsSubcodeWritable
-  inner : IfSome found.inner IsSubcodeWritable
-  within : IsSome found.inner → IsSome found.subcode
+pub record AreCodes (found : FaultBody) : Type 0 where
+  pub subcode : IfSome found.subcode IsSubcodeWritable
+  pub inner : IfSome found.inner IsSubcodeWritable
+  pub within : IsSome found.inner → IsSome found.subcode
 
 some_space : (name : Expanded) → is_nil name.space ≡ false → name.space ≢ []
 some_space name e same = let x = rw same at e in cc
 
-spaced_at : (name : Expanded) (t : Bool) → is_nil name.space ≡ t → IsNameWritable name
+pub spaced_at : (name : Expanded) (t : Bool) → is_nil name.space ≡ t → IsNameWritable name
     → IfSome (if t then None else Some name) IsSubcodeWritable
 spaced_at name true e is = tt
 spaced_at name false e is = record { writable = is; spaced = some_space name e }
@@ -159,7 +159,7 @@ or_receiver_are names soap scope outer fault is =
 
 -- ---- the reason
 
-words_at : (depth : ℕ) (o : Option Element) → IfSome o (IsResolved depth)
+pub words_at : (depth : ℕ) (o : Option Element) → IfSome o (IsResolved depth)
     → IfSome (o >>= λ words. trimmed_text words) IsReason
 words_at depth None is = tt
 words_at depth (Some words) is = trimmed_text_is depth words is
@@ -177,7 +177,7 @@ reason_is soap depth fault is =
     reason_at soap (suc depth) (first_named soap (codes "Reason") fault)
     (first_resolved soap (codes "Reason") depth fault is)
 
-or_empty_is : (o : Option (List ℕ)) → IfSome o IsReason → IsReason (or_empty o)
+pub or_empty_is : (o : Option (List ℕ)) → IfSome o IsReason → IsReason (or_empty o)
 or_empty_is None is = record { chars = chars_from [] refl; ends = refl }
 or_empty_is (Some bytes) is = is
 
@@ -186,7 +186,7 @@ or_empty_is (Some bytes) is = is
 detail_element : (e : Element) → IsResolved 4 e → IsDetailWritable (without_declarations e)
 detail_element e is = record { writable = is.writable; shallow = omega (arith, is.shallow, height_kept e) }
 
-stripped_are : (o : Option Element) → IfSome o (IsResolved 3) → AllByRecursion IsDetailWritable (stripped_in o)
+pub stripped_are : (o : Option Element) → IfSome o (IsResolved 3) → AllByRecursion IsDetailWritable (stripped_in o)
 stripped_are None is = tt
 stripped_are (Some e) is =
     all_map (IsResolved 4) IsDetailWritable without_declarations detail_element (children_of (parts_of e))
@@ -194,7 +194,7 @@ stripped_are (Some e) is =
 
 -- ---- all of it
 
-made_of : (codes_of : FaultBody) (reason : List ℕ) (detail : List Element) → AreCodes codes_of → IsReason reason
+pub made_of : (codes_of : FaultBody) (reason : List ℕ) (detail : List Element) → AreCodes codes_of → IsReason reason
     → AllByRecursion IsDetailWritable detail
     → IsFaultWritable (record codes_of { reason = reason; detail = detail })
 made_of codes_of reason detail c r d = record {

@@ -2,6 +2,7 @@ pub mod Addressing
 pub mod Bodies
 pub mod Envelopes
 pub mod Faults
+pub mod Faults11
 pub mod Headers
 pub mod Lifecycles
 pub mod Lists

@@ -1,8 +1,8 @@
 -- The message of an envelope, or the reason that there is none, as it is read.
 use Rattle.std.proofs.Common.{◌≡◌, ℕ, Bool, true, false, not, ◌&&◌, ◌||◌, if◌then◌else◌, List, [], ◌∷◌, Option, Some}
 use Rattle.std.proofs.Common.{None, Result, Ok, Err, codes, refl, ap, subst, ◌∙◌}
-use Rattle.std.specs.Prelude.{IsSome, MatchResult, is_some}
-use Rattle.std.specs.List.{AllByRecursion, filter, list_any}
+use Rattle.std.specs.Prelude.{IsSome, IfSome, MatchResult, is_some}
+use Rattle.std.specs.List.{AllByRecursion, filter, flat_map, list_any}
 use Rattle.std.proofs.lemmas.Bool.{or_parts}
 use Rattle.rm_base.specs.Text.{IsText}
 use Rattle.soap_lex.specs.Facts.{equal}
@@ -38,16 +38,19 @@ use Rattle.message_reader.specs.Blocks.{is_block, blocks, has_block, is_not_unde
 use Rattle.message_reader.specs.Bodies.{fault_at, body_in}
 use Rattle.message_reader.specs.Headers.{ack_from, ask_from, numbered_from, ack_of, ask_of, acks_in, asks_in}
 use Rattle.message_reader.specs.Headers.{pending_in, numbered_of, sequence_name, listed, told_name}
-use Rattle.message_reader.specs.Headers.{told_names}
+use Rattle.message_reader.specs.Headers.{told_names, sequence_fault_in}
+use Rattle.message_reader.specs.Faults11.{Told}
+use Rattle.soap_envelope.specs.Soap.{is_soap11}
 use Rattle.message_reader.specs.Message.{Wrong, NotUnderstood, Cardinality, HeaderMissing, BadHeader, Malformed}
 use Rattle.message_reader.specs.Message.{Rollover, is_create, is_numbered, has_fault, lacks_id, unless_lacking}
 use Rattle.message_reader.specs.Message.{addressed, payload_of, Lists, lists_in, Marks, marks_in, content_in}
 use Rattle.message_reader.specs.Message.{with_content, with_addressing, unless_unknown}
-use Rattle.message_reader.specs.Message.{message_in}
+use Rattle.message_reader.specs.Message.{message_in, body_of}
 use Rattle.read_laws.specs.WasRead.{AreReadTogether, WasRead}
 use Rattle.read_laws.proofs.Addressing.{IsAddressed, addressing_is}
 use Rattle.read_laws.proofs.Bodies.{GoesTogether, IsBodyOf, CreatesById, body_is}
 use Rattle.read_laws.proofs.Envelopes.{AreParts, declares}
+use Rattle.read_laws.proofs.Faults11.{IsTold, sequence_fault_is}
 use Rattle.read_laws.proofs.Headers.{header_is, rolled_is, IsAny, any_each}
 use Rattle.read_laws.proofs.Lists.{all_filter, all_map, all_flat_map, each_is}
 use Rattle.read_laws.proofs.Names.{WrittenNames, qname_is}
@@ -101,12 +104,18 @@ module _ (names : WrittenNames) (scope : List Binding) (outer : AreInForce scope
   told_is : (e : Element) → IsResolved 2 e → AllByRecursion IsNameWritable (listed (told_name scope e))
   told_is e is = told_at e is (value_among (name_in [] (codes "qname")) (attrs_of e)) (told_name scope e) refl
 
-  told_are : (soap : List ℕ) (headers : List Element) → AllByRecursion (IsResolved 2) headers
-      → AllByRecursion IsNameWritable (told_names soap scope headers)
-  told_are soap headers all =
+  told_by : (soap : List ℕ) (headers : List Element) → AllByRecursion (IsResolved 2) headers → (t : Bool)
+      → AllByRecursion IsNameWritable (if t then [] else flat_map (λ e. listed (told_name scope e))
+      (blocks (name_in soap (codes "NotUnderstood")) headers))
+  told_by soap headers all true = tt
+  told_by soap headers all false =
       let told = blocks (name_in soap (codes "NotUnderstood")) headers in
       all_flat_map (IsResolved 2) IsNameWritable (λ e. listed (told_name scope e)) told_is told
       (all_filter (IsResolved 2) (is_block (name_in soap (codes "NotUnderstood"))) headers all)
+
+  told_are : (soap : List ℕ) (headers : List Element) → AllByRecursion (IsResolved 2) headers
+      → AllByRecursion IsNameWritable (told_names soap scope headers)
+  told_are soap headers all = told_by soap headers all (is_soap11 soap)
 
 -- ---- what a message has beside its addressing properties
 
@@ -300,6 +309,22 @@ module _ (names : WrittenNames) (soap : List ℕ) (e : Envelope) (parts : ArePar
       (is_create (uri_header (codes "Action") e.headers)) lacks (ap (λ (o : Option Element). is_some o) fault)
       (create_told e.headers a.action is.acts creates))
 
+  body_at : (a : Addressing) → IsAddressed e.headers a → lacks_id soap e ≡ false → (o : Option (Option Told))
+      → ((told : Option Told) → o ≡ Some told → IfSome told IsTold) → (body : Body)
+      → (o >>= λ told. body_in soap told a.action (is_numbered e) (payload_of e) e.body) ≡ Some body
+      → IsBodyOf (is_numbered e) a.action a.message_id body
+  body_at a is lacks None tell body h = cc
+  body_at a is lacks (Some told) tell body h =
+      body_is names soap told (tell told refl) a.action a.message_id (is_numbered e) (payload_of e) e.body body h
+      (creates_by_id a is lacks) parts.scope parts.body
+
+  body_told : (a : Addressing) → IsAddressed e.headers a → lacks_id soap e ≡ false → (body : Body)
+      → body_of soap a.action e ≡ Some body → IsBodyOf (is_numbered e) a.action a.message_id body
+  unfolding body_of
+  body_told a is lacks body h =
+      body_at a is lacks (sequence_fault_in soap e.header_scope e.headers)
+      (sequence_fault_is names e.header_scope parts.header_scope soap e.headers parts.headers) body h
+
   content_is : (a : Addressing) → IsAddressed e.headers a → lacks_id soap e ≡ false
       → IsAnswer (with_content a (content_in soap a.action e))
   unfolding content_in marks_in
@@ -307,9 +332,7 @@ module _ (names : WrittenNames) (soap : List ℕ) (e : Envelope) (parts : ArePar
       answer_is a is.rules (told_names soap e.header_scope e.headers)
       (told_are names e.header_scope parts.header_scope soap e.headers parts.headers) (is_numbered e)
       (lists_in e.headers) (pending_in e.headers) (optional (blocks sequence_name e.headers))
-      (body_in soap a.action (is_numbered e) (payload_of e) e.body) (lists_are e.headers) (not_numbered e.headers)
-      (λ body h. body_is names soap a.action a.message_id (is_numbered e) (payload_of e) e.body body h
-      (creates_by_id a is lacks) parts.scope parts.body)
+      (body_of soap a.action e) (lists_are e.headers) (not_numbered e.headers) (body_told a is lacks)
 
   with_addressing_is : (r : Result Addressing Wrong)
       → MatchResult r (λ a. (lacks_id soap e ≡ false) × (addressing_in e.headers ≡ Ok a)) IsWrongWritable

@@ -38,7 +38,7 @@ others soap m =
     tree_if soap sequence_node m.sequence ++ (trees soap ack_node m.acks ++ (trees soap ask_node m.asks
     ++ (tree_if soap pending_node m.pending ++ trees soap not_understood_node m.not_understood)))
 
-listed_trees : (soap : List ℕ) (nodes : Nodes) → map (node_tree soap) (node_list nodes)
+pub listed_trees : (soap : List ℕ) (nodes : Nodes) → map (node_tree soap) (node_list nodes)
     ≡ children_of (nodes_tree soap nodes)
 listed_trees soap nothing = refl
 listed_trees soap (words bytes) = refl
@@ -133,7 +133,7 @@ addressing_passed name other (e ∷ bs) all =
     ] in
     rw fails (addressing_passed name other bs (all.1))
 
-third_not : (a b c : Bool) → (a && b && false && c) ≡ false
+pub third_not : (a b c : Bool) → (a && b && false && c) ≡ false
 third_not true true c = refl
 third_not true false c = refl
 third_not false b c = refl

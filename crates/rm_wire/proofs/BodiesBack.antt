@@ -9,6 +9,7 @@ use Rattle.soap_lex.specs.Facts.{differ, equal, same}
 use Rattle.soap_profile.specs.Tree.{Element, Parts, none, child, name_of, children_of}
 use Rattle.soap_profile.specs.declared.name.Expanded.{Expanded}
 use Rattle.soap_frame.specs.Framed.{sorted_scope}
+use Rattle.soap_envelope.specs.Soap.{is_soap11}
 use Rattle.soap_nodes.specs.Node.{node_tree}
 use Rattle.soap_values.specs.Children.{name_in, has_name}
 use Rattle.wsa_headers.specs.Addressing.{first_of}
@@ -74,7 +75,7 @@ names_differ true false a b e f ne = refl
 names_differ true true a b e f ne =
     absurd (ne (ap₂ (λ (space local : List ℕ). name_in space local) (same a.space b.space f) (same a.local b.local e)))
 
-no_fault : (soap : List ℕ) (first : Option Element)
+pub no_fault : (soap : List ℕ) (first : Option Element)
     → IfSome first (λ e. name_of e ≢ name_in soap (codes "Fault")) → if_fault soap first ≡ None
 no_fault soap None is = refl
 no_fault soap (Some e) is =
@@ -89,10 +90,10 @@ written_payload soap b = record { bytes = body_text b; scope = sorted_scope soap
 payload_same : (soap : List ℕ) (p : Payload) → p.scope ≡ sorted_scope soap → written_payload soap (body.Payload p) ≡ p
 payload_same soap p is = ap (λ scope. record { bytes = p.bytes; scope = scope }) (sym is)
 
-payload_back : (soap action : List ℕ) (sequence : Option SeqHeader) (p : Payload) (parts : Parts)
+pub payload_back : (soap action : List ℕ) (sequence : Option SeqHeader) (p : Payload) (parts : Parts)
     → p.scope ≡ sorted_scope soap → IsOtherAction action
     → (sequence ≡ None → IfSome (first_of (children_of parts)) (λ e. name_of e ≢ name_in soap (codes "Fault")))
-    → body_in soap action (is_some sequence) (written_payload soap (body.Payload p)) parts ≡ Some (body.Payload p)
+    → body_in soap None action (is_some sequence) (written_payload soap (body.Payload p)) parts ≡ Some (body.Payload p)
 payload_back soap action (Some x) p parts scope other first =
     let a = other.no_element in
     let b = other.not_bare in
@@ -117,12 +118,12 @@ tree_of soap x = node_tree soap (lifecycle_node x)
 element_back : Known → (soap : List ℕ) (payload : Payload) (name : Expanded) (x : Lifecycle) → IsLifecycleWritable x
     → has_name (name_in soap (codes "Fault")) (tree_of soap x) ≡ false → element_for (action_for x) ≡ Some name
     → has_name name (tree_of soap x) ≡ true
-    → body_in soap (action_for x) false payload (child (tree_of soap x) none) ≡ Some (body.Lifecycle x)
+    → body_in soap None (action_for x) false payload (child (tree_of soap x) none) ≡ Some (body.Lifecycle x)
 element_back known soap payload name x is other at named =
     rw (other, at) (read_by name (tree_of soap x) x named (known.lifecycle soap x is))
 
-lifecycle_back : Known → (soap : List ℕ) (payload : Payload) (x : Lifecycle) → IsLifecycleWritable x
-    → body_in soap (action_for x) false payload (child (tree_of soap x) none) ≡ Some (body.Lifecycle x)
+pub lifecycle_back : Known → (soap : List ℕ) (payload : Payload) (x : Lifecycle) → IsLifecycleWritable x
+    → body_in soap None (action_for x) false payload (child (tree_of soap x) none) ≡ Some (body.Lifecycle x)
 lifecycle_back known soap payload (life.Create x) is =
     element_back known soap payload (rm (codes "CreateSequence")) (life.Create x) is refl refl refl
 lifecycle_back known soap payload (life.CreateResponse x) is =
@@ -141,8 +142,8 @@ lifecycle_back known soap payload (life.Make x) is =
 
 -- ---- a body
 
-empty_back : (soap action : List ℕ) (payload : Payload) → IsBareAction action
-    → body_in soap action false payload none ≡ Some body.Empty
+pub empty_back : (soap action : List ℕ) (payload : Payload) → IsBareAction action
+    → body_in soap None action false payload none ≡ Some body.Empty
 empty_back soap action payload is =
     let a = is.no_element in
     let b = is.bare in
@@ -152,24 +153,26 @@ pub fault_found : (soap : List ℕ) (f : FaultBody)
     → fault_at soap false (child (node_tree soap (fault_node f)) none) ≡ Some (node_tree soap (fault_node f))
 fault_found soap f = let found = equal soap soap refl in rw found refl
 
-fault_body_back : Known → (soap action : List ℕ) (f : FaultBody) (rules : IsBodyWritable soap (body.Fault f))
-    → body_in soap action false (written_payload soap (body.Fault f)) (child (node_tree soap (fault_node f)) none)
+fault_body_back : Known → (soap : List ℕ) → is_soap11 soap ≡ false
+    → (action : List ℕ) (f : FaultBody) (rules : IsBodyWritable soap (body.Fault f))
+    → body_in soap None action false (written_payload soap (body.Fault f)) (child (node_tree soap (fault_node f)) none)
     ≡ Some (body.Fault f)
-fault_body_back known soap action f rules =
+fault_body_back known soap later action f rules =
     let found = equal soap soap refl in
-    rw found (ap (λ x. Some (body.Fault x)) (fault_back known.trees soap f rules))
+    rw (found, later) (ap (λ x. Some (body.Fault x)) (fault_back known.trees soap f rules))
 
-pub body_back : Known → (soap : List ℕ) (a : Addressing) (sequence : Option SeqHeader) (b : Body)
+pub body_back : Known → (soap : List ℕ) → is_soap11 soap ≡ false
+    → (a : Addressing) (sequence : Option SeqHeader) (b : Body)
     (rules : IsBodyWritable soap b) → BelongTogether soap a sequence b rules
-    → body_in soap a.action (is_some sequence) (written_payload soap b) (body_parts soap b rules) ≡ Some b
-body_back known soap a sequence body.Empty rules together =
+    → body_in soap None a.action (is_some sequence) (written_payload soap b) (body_parts soap b rules) ≡ Some b
+body_back known soap later a sequence body.Empty rules together =
     let numbered = together.0 in
     rw numbered (empty_back soap a.action (written_payload soap body.Empty) (bare_action a.action together.1))
-body_back known soap a sequence (body.Payload p) rules together =
+body_back known soap later a sequence (body.Payload p) rules together =
     payload_back soap a.action sequence p rules.closed.parts rules.scope (other_action a.action together.0) together.1
-body_back known soap a sequence (body.Lifecycle x) rules together =
+body_back known soap later a sequence (body.Lifecycle x) rules together =
     let numbered = together.0 in
     let action = together.1 in
     rw (numbered, action) (lifecycle_back known soap (written_payload soap (body.Lifecycle x)) x rules)
-body_back known soap a sequence (body.Fault f) rules together =
-    rw together (fault_body_back known soap a.action f rules)
+body_back known soap later a sequence (body.Fault f) rules together =
+    rw together (fault_body_back known soap later a.action f rules)

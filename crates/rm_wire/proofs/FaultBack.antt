@@ -32,12 +32,14 @@ use Rattle.rm_wire.proofs.Names.{declared_with, name_again, name_trimmed, soap_n
 
 -- ---- children by name
 
-here : (soap local : List ℕ) (name : Expanded) (decls : List Binding) (attrs : List Attr) (e : Element) (parts : Parts)
+pub here : (soap local : List ℕ) (name : Expanded) (decls : List Binding) (attrs : List Attr) (e : Element) (parts :
+    Parts)
     → has_name (name_in soap local) e ≡ true
     → first_named soap local (element name decls attrs (child e parts)) ≡ Some e
 here soap local name decls attrs e parts is = rw is refl
 
-later : (soap local : List ℕ) (name : Expanded) (decls : List Binding) (attrs : List Attr) (e : Element) (parts : Parts)
+pub later : (soap local : List ℕ) (name : Expanded) (decls : List Binding) (attrs : List Attr) (e : Element) (parts :
+    Parts)
     → has_name (name_in soap local) e ≡ false
     → first_named soap local (element name decls attrs (child e parts))
     ≡ first_named soap local (element name decls attrs parts)
@@ -212,7 +214,7 @@ reason_from : (soap : List ℕ) (fault reason text : Element) (bytes : List ℕ)
 unfolding reason_in
 reason_from soap fault reason text bytes a b c = rw (a, b, c) refl
 
-words_back : (soap bytes : List ℕ) → text_among (nodes_tree soap (words_of bytes)) ≡ Some bytes
+pub words_back : (soap bytes : List ℕ) → text_among (nodes_tree soap (words_of bytes)) ≡ Some bytes
 words_back soap [] = refl
 words_back soap (b ∷ bytes) = ap (λ l. Some (b ∷ l)) (append-nil bytes)
 
@@ -236,7 +238,7 @@ reason_back soap f is =
 
 -- ---- Detail
 
-elements_back : KnowsTrees → (soap : List ℕ) (es : List Element) → AllByRecursion IsDetailWritable es
+pub elements_back : KnowsTrees → (soap : List ℕ) (es : List Element) → AllByRecursion IsDetailWritable es
     → map without_declarations (children_of (nodes_tree soap (params_nodes false es))) ≡ es
 elements_back known soap [] all = refl
 elements_back known soap (e ∷ es) all = rw (known e all.0.writable, elements_back known soap es all.1) refl

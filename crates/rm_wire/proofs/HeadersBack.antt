@@ -1,5 +1,6 @@
 -- The header blocks of what is written are read back, piece by piece.
-use Rattle.std.proofs.Common.{◌≡◌, ◌≢◌, ℕ, Bool, true, false, ◌||◌, if◌then◌else◌, List, [], ◌∷◌, ◌++◌, Option, Some}
+use Rattle.std.proofs.Common.{◌≡◌, ◌≢◌, ℕ, Bool, true, false, not, ◌||◌, if◌then◌else◌, List, [], ◌∷◌, ◌++◌, Option}
+use Rattle.std.proofs.Common.{Some}
 use Rattle.std.proofs.Common.{None, codes, refl, sym, ap, subst, ◌∙◌, is_some}
 use Rattle.std.specs.List.{AllByRecursion, filter, list_any, flat_map}
 use Rattle.std.proofs.lemmas.List.{append-nil}
@@ -11,8 +12,9 @@ use Rattle.soap_profile.specs.declared.name.Expanded.{Expanded}
 use Rattle.soap_writer.specs.Frame.{addressing_space}
 use Rattle.soap_writer.specs.Writable.{IsNameWritable}
 use Rattle.soap_frame.specs.Framed.{sorted_scope}
+use Rattle.soap_envelope.specs.Soap.{is_soap11}
 use Rattle.soap_nodes.specs.Node.{Node, node_tree}
-use Rattle.soap_values.specs.Children.{name_in}
+use Rattle.soap_values.specs.Children.{name_in, value_among}
 use Rattle.soap_values.specs.Outcome.{each}
 use Rattle.soap_values.specs.QNames.{qname_in}
 use Rattle.wsa_headers.specs.Addressing.{first_of}
@@ -24,12 +26,15 @@ use Rattle.rm_elements.specs.declared.header.AckBlock.{AckBlock}
 use Rattle.rm_elements.specs.declared.header.Header.TheVariants as headers
 use Rattle.rm_elements.specs.declared.header.SeqHeader.{SeqHeader}
 use Rattle.rm_message.specs.declared.message.Message.{Message}
-use Rattle.message_reader.specs.Blocks.{is_block, blocks, has_block, is_not_understood}
+use Rattle.message_reader.specs.Blocks.{is_block, blocks, has_block, is_understood, role_name, is_own}
+use Rattle.message_reader.specs.Blocks.{is_not_understood}
 use Rattle.message_reader.specs.Headers.{acks_in, asks_in, pending_in, sequence_name, told_name}
 use Rattle.message_reader.specs.Headers.{told_names, ack_of, ask_of, listed}
 use Rattle.message_writer.specs.Text.{not_understood_node, qname}
-use Rattle.rm_wire.proofs.Blocks.{trees, tree_if, others, passed, kept, passed_if, kept_if, pieces, told_tree, told_is}
-use Rattle.rm_wire.proofs.Blocks.{addressing_passed, addressing_understood}
+use Rattle.rm_wire.proofs.Blocks.{trees, tree_if, others, passed, kept, passed_if, kept_if, pieces, told_attr}
+use Rattle.rm_wire.proofs.Blocks.{told_tree}
+use Rattle.rm_wire.proofs.Blocks.{told_is}
+use Rattle.rm_wire.proofs.Blocks.{addressing_passed, addressing_understood, third_not}
 use Rattle.rm_wire.proofs.Known.{Known}
 use Rattle.rm_wire.proofs.Names.{declared_with, name_again}
 
@@ -130,7 +135,10 @@ names soap m bs other own =
 told_understood : (soap : List ℕ) (name : Expanded)
     → is_not_understood soap (node_tree soap (not_understood_node name)) ≡ false
 told_understood soap name =
-    ap (is_not_understood soap) (told_is soap name) ∙ (let same = equal soap soap refl in rw same refl)
+    let fails : is_not_understood soap (told_tree soap name) ≡ false =
+    third_not true (not (is_understood soap (name_in soap (codes "NotUnderstood"))))
+    (is_own soap (value_among (role_name soap) (told_attr name ∷ []))) in
+    ap (is_not_understood soap) (told_is soap name) ∙ fails
 
 pub all_understood : (soap : List ℕ) (m : Message) (bs : List Element) → AllByRecursion IsAddressingBlock bs
     → filter (is_not_understood soap) (bs ++ others soap m) ≡ []
@@ -258,9 +266,9 @@ told_each soap (x ∷ xs) all =
     (trees soap not_understood_node xs)) (told_back soap x all.0)
     ∙ ap (λ l. x ∷ l) (told_each soap xs all.1)
 
-pub names_back : (soap : List ℕ) (m : Message) (bs : List Element) → soap ≢ addressing_space
-    → AllByRecursion IsAddressingBlock bs → AllByRecursion IsNameWritable m.not_understood
+pub names_back : (soap : List ℕ) (m : Message) (bs : List Element) → is_soap11 soap ≡ false
+    → soap ≢ addressing_space → AllByRecursion IsAddressingBlock bs → AllByRecursion IsNameWritable m.not_understood
     → told_names soap (sorted_scope soap) (bs ++ others soap m) ≡ m.not_understood
-names_back soap m bs other own all =
-    ap (flat_map (λ e. listed (told_name (sorted_scope soap) e))) (names soap m bs other own)
-    ∙ told_each soap m.not_understood all
+names_back soap m bs later other own all =
+    rw later (ap (flat_map (λ e. listed (told_name (sorted_scope soap) e))) (names soap m bs other own)
+    ∙ told_each soap m.not_understood all)

@@ -20,6 +20,7 @@ use Rattle.soap_frame.specs.Framed.{sorted_scope}
 use Rattle.soap_nodes.specs.Node.{note_bindings}
 use Rattle.soap_values.specs.QNames.{qname_in}
 use Rattle.soap_values.specs.Values.{trimmed_start, trimmed_end, trimmed}
+use Rattle.soap_writer.specs.Frame.{messaging_space}
 use Rattle.soap_writer.specs.Plain.{name_from}
 use Rattle.soap_writer.specs.Writable.{IsNameWritable}
 use Rattle.message_writer.specs.Text.{qname, qname_notes}
@@ -54,7 +55,7 @@ bare_passes : (name : List ℕ) → IsName name → is_qname name ≡ true
 unfolding is_qname
 bare_passes name h = rw (is_qname, cut_none 58 name (no_colon name h)) (name_passes name h)
 
-prefixed_passes : (prefix name : List ℕ) → IsName prefix → IsName name → is_qname (prefix ++ 58 ∷ name) ≡ true
+pub prefixed_passes : (prefix name : List ℕ) → IsName prefix → IsName name → is_qname (prefix ++ 58 ∷ name) ≡ true
 unfolding is_qname
 prefixed_passes prefix name p n =
     rw (is_qname, cut-append 58 prefix name (no_colon prefix p), name_passes prefix p) (name_passes name n)
@@ -104,7 +105,7 @@ name_again soap name is =
 
 -- ---- no white space stands in it
 
-abbrev IsPlain : List ℕ → Type 0
+abbrev pub IsPlain : List ℕ → Type 0
 IsPlain bytes = AllByRecursion (λ c. is_space c ≡ false) bytes
 
 name_plain : (c : ℕ) → IsNameByte c → is_space c ≡ false
@@ -115,7 +116,7 @@ name_plain c h =
     let space : nat_eq c 32 ≡ false = h 32 (omega arith) refl in
     grind (arith, nat_tests)
 
-plain_name : (name : List ℕ) → IsName name → IsPlain name
+pub plain_name : (name : List ℕ) → IsName name → IsPlain name
 plain_name name is = all_weaker IsNameByte (λ c. is_space c ≡ false) name_plain name (name_bytes name is)
 
 plain_by : (local space : List ℕ) (a b : Bool) → IsName local → is_nil space ≡ a → bytes_eq space xml_space ≡ b
@@ -124,7 +125,7 @@ plain_by local space true b is e f = rw e (plain_name local is)
 plain_by local space false true is e f = rw (e, f) (refl, (refl, (refl, (refl, plain_name local is))))
 plain_by local space false false is e f = rw (e, f) (refl, (refl, plain_name local is))
 
-last_not : (a : Bool) → (a && false) ≡ false
+pub last_not : (a : Bool) → (a && false) ≡ false
 last_not true = refl
 last_not false = refl
 
@@ -137,7 +138,7 @@ start_kept : (bytes : List ℕ) → IsPlain bytes → trimmed_start bytes ≡ by
 start_kept [] all = refl
 start_kept (b ∷ bytes) all = rw (all.0) refl
 
-plain_kept : (bytes : List ℕ) → IsPlain bytes → trimmed bytes ≡ bytes
+pub plain_kept : (bytes : List ℕ) → IsPlain bytes → trimmed bytes ≡ bytes
 plain_kept bytes all = ap trimmed_end (start_kept bytes all) ∙ end_kept bytes all
 
 pub name_trimmed : (name : Expanded) → IsNameWritable name → trimmed (qname name) ≡ qname name
@@ -153,3 +154,14 @@ soap_name_again soap local is =
     let passes : is_qname (codes "s:" ++ local) ≡ true =
     prefixed_passes (codes "s") local (name_from (codes "s") refl) is in
     rw passes refl
+
+-- and one of WS-ReliableMessaging
+pub messaging_name_again : (soap local : List ℕ) → IsName local
+    → qname_in (sorted_scope soap) (codes "r:" ++ local) ≡ Some (record { space = messaging_space; local = local })
+messaging_name_again soap local is =
+    let passes : is_qname (codes "r:" ++ local) ≡ true =
+    prefixed_passes (codes "r") local (name_from (codes "r") refl) is in
+    rw passes refl
+
+pub messaging_name_trimmed : (local : List ℕ) → IsName local → trimmed (codes "r:" ++ local) ≡ codes "r:" ++ local
+messaging_name_trimmed local is = plain_kept (codes "r:" ++ local) (refl, (refl, plain_name local is))

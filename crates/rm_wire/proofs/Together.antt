@@ -4,11 +4,12 @@ use Rattle.std.proofs.Common.{Option, Some, None, Ok, Err, codes, map, length, r
 use Rattle.std.specs.Prelude.{IsSome, option_map}
 use Rattle.std.specs.Str.{bytes_eq}
 use Rattle.std.proofs.lemmas.Bool.{true≢false}
+use Rattle.rm_base.specs.declared.message.Binding.{Binding}
 use Rattle.soap_lex.specs.Facts.{equal}
 use Rattle.soap_profile.specs.Tree.{Element, Parts, none, name_of, children_of}
 use Rattle.soap_profile.specs.declared.name.Expanded.{Expanded}
 use Rattle.soap_envelope.specs.Envelope.{Envelope, IsEnvelope}
-use Rattle.soap_envelope.specs.Soap.{soap_space}
+use Rattle.soap_envelope.specs.Soap.{soap_space, is_soap11}
 use Rattle.soap_writer.specs.Frame.{addressing_space}
 use Rattle.soap_writer.specs.Plain.{chars_from}
 use Rattle.soap_frame.specs.Framed.{framed_envelope, MayBeSoap}
@@ -37,8 +38,9 @@ use Rattle.rm_message.specs.declared.message.Message.{Message}
 use Rattle.message_reader.specs.Blocks.{blocks, has_block}
 use Rattle.message_reader.specs.Bodies.{fault_at, element_for, body_in}
 use Rattle.message_reader.specs.Headers.{acks_in, asks_in, pending_in, sequence_name, told_names}
+use Rattle.message_reader.specs.Headers.{sequence_fault_in}
 use Rattle.message_reader.specs.Message.{is_create, is_numbered, has_fault, lacks_id, unless_lacking, addressed}
-use Rattle.message_reader.specs.Message.{payload_of, Lists}
+use Rattle.message_reader.specs.Message.{payload_of, Lists, body_of}
 use Rattle.message_reader.specs.Message.{lists_in, marks_in, content_in, with_content}
 use Rattle.message_reader.specs.Message.{with_addressing, unless_unknown, message_in}
 use Rattle.message_reader.specs.Refusals.{Spells}
@@ -123,7 +125,7 @@ none_third false false = refl
 abbrev IsNoCreate : List ℕ → Type 0
 IsNoCreate action = is_create (Some (Some action)) ≡ false
 
-not_create : (soap : List ℕ) (e : Envelope) (a : Addressing) → addressing_in e.headers ≡ Ok a → IsNoCreate a.action
+pub not_create : (soap : List ℕ) (e : Envelope) (a : Addressing) → addressing_in e.headers ≡ Ok a → IsNoCreate a.action
     → lacks_id soap e ≡ false
 not_create soap e a read differs =
     ap (λ o. not (has_block (wsa (codes "MessageID")) e.headers) && not (has_fault soap e) && is_create o)
@@ -137,7 +139,7 @@ with_id soap e has =
     ap (λ b. not b && not (has_fault soap e) && is_create (uri_header (codes "Action") e.headers)) has
     ∙ none_first (not (has_fault soap e)) (is_create (uri_header (codes "Action") e.headers))
 
-with_fault : (soap : List ℕ) (e : Envelope) → has_fault soap e ≡ true → lacks_id soap e ≡ false
+pub with_fault : (soap : List ℕ) (e : Envelope) → has_fault soap e ≡ true → lacks_id soap e ≡ false
 with_fault soap e has =
     ap (λ b. not (has_block (wsa (codes "MessageID")) e.headers) && not b
     && is_create (uri_header (codes "Action") e.headers)) has
@@ -148,7 +150,7 @@ no_create_by : (action : List ℕ) (b : Bool)
 no_create_by action true is none_of = let impossible = rw is at none_of in cc
 no_create_by action false is none_of = refl
 
-no_create : (action : List ℕ) → element_for action ≡ None → IsNoCreate action
+pub no_create : (action : List ℕ) → element_for action ≡ None → IsNoCreate action
 no_create action none_of = no_create_by action _ refl none_of
 
 -- ---- the addressing properties
@@ -161,7 +163,8 @@ other_element soap a os b parts action read is differs =
     not_create soap (framed_envelope soap (addressing_blocks soap a ++ os) (body_text b) parts) a read
     (ap (λ l. is_create (Some (Some l))) is ∙ differs)
 
-lacks_none : (soap : List ℕ) (a : Addressing) (sequence : Option SeqHeader) (b : Body) (rules : IsBodyWritable soap b)
+pub lacks_none : (soap : List ℕ) (a : Addressing) (sequence : Option SeqHeader) (b : Body) (rules : IsBodyWritable
+    soap b)
     (os : List Element) → BelongTogether soap a sequence b rules
     → addressing_in (addressing_blocks soap a ++ os) ≡ Ok a
     → has_block sequence_name (addressing_blocks soap a ++ os) ≡ is_some sequence
@@ -202,25 +205,38 @@ lacks_none soap a sequence (body.Fault f) rules os together read numbered =
     with_fault soap (framed_envelope soap (addressing_blocks soap a ++ os) (body_text b) parts)
     (ap (λ n. is_some (fault_at soap n parts)) (numbered ∙ ap is_some together) ∙ ap is_some (fault_found soap f))
 
-addressed_by : (soap : List ℕ) (e : Envelope) (a : Addressing) → lacks_id soap e ≡ false
+pub addressed_by : (soap : List ℕ) (e : Envelope) (a : Addressing) → lacks_id soap e ≡ false
     → addressing_in e.headers ≡ Ok a → addressed soap e ≡ Ok a
 addressed_by soap e a lacks read =
     ap (λ b. unless_lacking b (addressing_in e.headers)) lacks ∙ ap (unless_lacking false) read
 
 -- ---- what stands beside them
 
-lists_by : (hs : List Element) (acks : List AckBlock) (asks : List (List ℕ)) → acks_in hs ≡ Some acks
+pub lists_by : (hs : List Element) (acks : List AckBlock) (asks : List (List ℕ)) → acks_in hs ≡ Some acks
     → asks_in hs ≡ Some asks → lists_in hs ≡ Some (acks, asks)
 unfolding lists_in
 lists_by hs acks asks a b = rw (a, b) refl
 
+-- the header of SOAP 1.1 is none of another version
+no_sequence_fault : (soap : List ℕ) (scope : List Binding) (hs : List Element) → is_soap11 soap ≡ false
+    → sequence_fault_in soap scope hs ≡ Some None
+unfolding sequence_fault_in
+no_sequence_fault soap scope hs later = rw later refl
+
+-- so its body is what is read without one
+pub body_by : (soap action : List ℕ) (e : Envelope) (b : Body) → is_soap11 soap ≡ false
+    → body_in soap None action (is_numbered e) (payload_of e) e.body ≡ Some b → body_of soap action e ≡ Some b
+unfolding body_of
+body_by soap action e b later read =
+    let none = no_sequence_fault soap e.header_scope e.headers later in
+    rw none read
+
 -- a message with a number in a sequence or without
-content_by : Known → (soap : List ℕ) (a : Addressing) (x : Option SeqHeader) (e : Envelope) (lists : Lists)
+pub content_by : Known → (soap : List ℕ) (a : Addressing) (x : Option SeqHeader) (e : Envelope) (lists : Lists)
     (pending : Option Bool) (told : List Expanded) (b : Body) → IfSome x IsSequenceWritable
     → lists_in e.headers ≡ Some lists → pending_in e.headers ≡ Some pending
     → blocks sequence_name e.headers ≡ tree_if soap sequence_node x
-    → told_names soap e.header_scope e.headers ≡ told
-    → body_in soap a.action (is_numbered e) (payload_of e) e.body ≡ Some b
+    → told_names soap e.header_scope e.headers ≡ told → body_of soap a.action e ≡ Some b
     → with_content a (content_in soap a.action e) ≡ Ok (record {
       addressing = a;
       sequence = x;
@@ -244,26 +260,29 @@ envelope_of soap m rules =
     framed_envelope soap (addressing_blocks soap m.addressing ++ others soap m) (body_text m.body)
     (body_parts soap m.body rules.body)
 
-content_back : Known → (soap : List ℕ) (m : Message) (rules : KeepsRules soap m) → soap ≢ addressing_space
+content_back : Known → (soap : List ℕ) (m : Message) (rules : KeepsRules soap m) → is_soap11 soap ≡ false
+    → soap ≢ addressing_space
     → with_content m.addressing (content_in soap m.addressing.action (envelope_of soap m rules)) ≡ Ok m
-content_back known soap m rules other =
+content_back known soap m rules later other =
     let e = envelope_of soap m rules in
     let bs = addressing_blocks soap m.addressing in
     let own = known.own soap m.addressing in
     let parts = body_parts soap m.body rules.body in
     let has = is_numbered_back soap m bs own in
-    let read : body_in soap m.addressing.action (is_numbered e) (payload_of e) e.body ≡ Some m.body =
-    ap (λ n. body_in soap m.addressing.action n (written_payload soap m.body) parts) has
-    ∙ body_back known soap m.addressing m.sequence m.body rules.body rules.together in
+    let read : body_in soap None m.addressing.action (is_numbered e) (payload_of e) e.body ≡ Some m.body =
+    ap (λ n. body_in soap None m.addressing.action n (written_payload soap m.body) parts) has
+    ∙ body_back known soap later m.addressing m.sequence m.body rules.body rules.together in
     content_by known soap m.addressing m.sequence e (m.acks, m.asks) m.pending m.not_understood m.body rules.sequence
     (lists_by e.headers m.acks m.asks (acks_back known soap m bs own rules.acks)
     (asks_back known soap m bs own rules.asks))
     (pending_back known soap m bs own) (sequences soap m bs own)
-    (names_back soap m bs other own rules.not_understood) read
+    (names_back soap m bs later other own rules.not_understood)
+    (body_by soap m.addressing.action e m.body later read)
 
-message_back : Known → (soap : List ℕ) (m : Message) (rules : KeepsRules soap m) → soap ≢ addressing_space
+message_back : Known → (soap : List ℕ) (m : Message) (rules : KeepsRules soap m) → is_soap11 soap ≡ false
+    → soap ≢ addressing_space
     → message_in soap (envelope_of soap m rules) ≡ Ok m
-message_back known soap m rules other =
+message_back known soap m rules later other =
     let e = envelope_of soap m rules in
     let a = m.addressing in
     let bs = addressing_blocks soap a in
@@ -274,7 +293,7 @@ message_back known soap m rules other =
     (is_numbered_back soap m bs own) in
     ap (λ (l : List Element). unless_unknown soap e (map name_of l)) (all_understood soap m bs own)
     ∙ ap (with_addressing soap e) (addressed_by soap e a lacks read)
-    ∙ content_back known soap m rules other
+    ∙ content_back known soap m rules later other
 
 -- what is known of the text
 abbrev pub KnowsText : Type 0
@@ -282,8 +301,9 @@ KnowsText = (soap : List ℕ) (m : Message) (rules : KeepsRules soap m) → MayB
     → IsEnvelope soap (message_text soap m) (message_envelope soap m rules)
 
 pub written_is_read : KnowsText → Known → (soap : List ℕ) (m : Message) → KeepsRules soap m → MayBeSoap soap
-    → soap ≢ addressing_space → length (message_text soap m) ≤ 2097152 → Spells soap (message_text soap m) m
-written_is_read text known soap m rules may other fits =
+    → is_soap11 soap ≡ false → soap ≢ addressing_space → length (message_text soap m) ≤ 2097152
+    → Spells soap (message_text soap m) m
+written_is_read text known soap m rules may later other fits =
     let body = body_parts soap m.body rules.body in
     record {
       envelope = message_envelope soap m rules;
@@ -291,16 +311,20 @@ written_is_read text known soap m rules may other fits =
       fits = fits;
       reads = ap (λ (hs : List Element). message_in soap (framed_envelope soap hs (body_text m.body) body))
           (header_is soap m)
-          ∙ message_back known soap m rules other;
+          ∙ message_back known soap m rules later other;
     }
 
-soap_may : MayBeSoap soap_space
+pub soap_may : MayBeSoap soap_space
 soap_may = record { chars = chars_from soap_space refl; bindable = refl }
 
-soap_other : soap_space ≢ addressing_space
+pub soap_later : is_soap11 soap_space ≡ false
+unfolding is_soap11
+soap_later = refl
+
+pub soap_other : soap_space ≢ addressing_space
 soap_other e = true≢false (sym (equal soap_space addressing_space e))
 
 pub written_is_read_as_soap : KnowsText → Known → (m : Message) → KeepsRules soap_space m
     → length (message_text soap_space m) ≤ 2097152 → Spells soap_space (message_text soap_space m) m
 written_is_read_as_soap text known m rules fits =
-    written_is_read text known soap_space m rules soap_may soap_other fits
+    written_is_read text known soap_space m rules soap_may soap_later soap_other fits

@@ -1,9 +1,9 @@
 //! Laws of messages that are written and read, each the contract of a function that does nothing but to bring in the
 //! laws that it stands on.
-ghost use Rattle.std.specs.Prelude.{◌≡◌, ◌≢◌, ◌≤◌, ℕ, List, Option, length};
+ghost use Rattle.std.specs.Prelude.{◌≡◌, ◌≢◌, ◌≤◌, ℕ, List, Option, false, length};
 ghost use Rattle.rm_base.specs.Limits.{envelope_bytes};
 ghost use Rattle.soap_frame.specs.Framed.{MayBeSoap};
-ghost use Rattle.soap_envelope.specs.Soap.{soap_space};
+ghost use Rattle.soap_envelope.specs.Soap.{soap_space, is_soap11};
 ghost use Rattle.soap_writer.specs.Frame.{addressing_space};
 ghost use Rattle.rm_elements.specs.declared.header.AckBlock.{AckBlock as Acknowledgement};
 ghost use Rattle.rm_message.specs.declared.message.Message.{Message as Value};
@@ -23,10 +23,11 @@ use soap_writer::laws::written_tree_is_the_tree;
 use wsa_headers::{addressing_blocks_are_told, addressing_is_read_back};
 
 /// The text of a message that keeps the rules spells this message, where it is no longer than a message may be: what
-/// is written is read. So it is with SOAP 1.2, and wherever SOAP has another namespace than WS-Addressing.
+/// is written is read. So it is with SOAP 1.2, and wherever SOAP has another namespace than WS-Addressing and SOAP 1.1.
 pub fn what_is_written_is_read()
-    ensures any { (soap : List ℕ) (m : Value) → KeepsRules soap m → MayBeSoap soap → soap ≢ addressing_space
-        → length (message_text soap m) ≤ envelope_bytes → Spells soap (message_text soap m) m }
+    ensures any { (soap : List ℕ) (m : Value) → KeepsRules soap m → MayBeSoap soap → is_soap11 soap ≡ false
+        → soap ≢ addressing_space → length (message_text soap m) ≤ envelope_bytes
+        → Spells soap (message_text soap m) m }
     ensures twelve { (m : Value) → KeepsRules soap_space m → length (message_text soap_space m) ≤ envelope_bytes
         → Spells soap_space (message_text soap_space m) m }
 {

@@ -1,7 +1,7 @@
 //! The reader of envelopes.
 ghost use Rattle.std.specs.Prelude.{◌≡◌, ◌≤◌, ◌↔◌, ◌++◌, ℕ, length, option_map, slice_range, IfOk, Err};
 ghost use Rattle.soap_profile.specs.Document.{IsPlaced, IsReadable, IsTooLong, IsTextUpTo, HasNoTree};
-ghost use Rattle.soap_envelope.specs.Soap.{soap_space};
+ghost use Rattle.soap_envelope.specs.Soap.{soap_space, is_soap11 as is_first};
 ghost use Rattle.soap_profile.specs.Tree.{decls_of, parts_of};
 ghost use Rattle.soap_profile.specs.View.{element_view};
 ghost use Rattle.soap_envelope.specs.Envelope.{IsEnvelope, IsHeader};
@@ -21,6 +21,38 @@ use std::alloc::Global;
 /// The namespace of envelopes: SOAP 1.2 Part 1, section 5.1.
 pub const SOAP_SPACE: &[u8] = b"http://www.w3.org/2003/05/soap-envelope";
 
+/// The namespace of envelopes of SOAP 1.1, section 4.1.2.
+pub const SOAP11_SPACE: &[u8] = b"http://schemas.xmlsoap.org/soap/envelope/";
+
+/// Whether this namespace is that of SOAP 1.1.
+#[tactic(auto, unfolding(crate::specs::Soap::is_soap11))]
+pub fn is_soap11(soap: &[u8]) -> bool
+    ensures { result ≡ is_first soap.now }
+{
+    soap == SOAP11_SPACE
+}
+
+/// The envelope that the bytes are, where SOAP has this namespace.
+pub fn read_envelope_in(alloc: Global, bytes: &[u8], soap: &[u8]) -> Result<Envelope, EnvelopeError>
+    // What is read.
+    ensures ok { IfOk result (λ envelope. IsEnvelope soap.now bytes.now (envelope_view envelope)) }
+    ensures fits { IfOk result (λ _. IsReadable bytes.now) }
+
+    // When each error comes, the first of them where several may.
+    ensures too_long { (len : ℕ) → (result ≡ Err (EnvelopeError.TooLong len)) ↔ IsTooLong bytes.now len }
+    ensures not_utf8 { (place : ℕ) → (result ≡ Err (EnvelopeError.NotUtf8 place)) ↔ IsTextUpTo bytes.now place }
+    ensures not_profile { result ≡ Err EnvelopeError.NotProfile → HasNoTree bytes.now }
+    ensures wrong_version { result ≡ Err EnvelopeError.WrongVersion
+        → IsReadable bytes.now × WrongVersion soap.now bytes.now }
+    ensures not_envelope { result ≡ Err EnvelopeError.NotEnvelope
+        → IsReadable bytes.now × NotEnvelope soap.now bytes.now }
+{
+    match read_placed(alloc, bytes) {
+        Ok(Placed { root, last }) => envelope_in(alloc, bytes, soap, root, last),
+        Err(error) => Err(error),
+    }
+}
+
 /// The envelope of SOAP 1.2 that the bytes are.
 pub fn read_envelope(alloc: Global, bytes: &[u8]) -> Result<Envelope, EnvelopeError>
     // What is read.
@@ -36,10 +68,7 @@ pub fn read_envelope(alloc: Global, bytes: &[u8]) -> Result<Envelope, EnvelopeEr
     ensures not_envelope { result ≡ Err EnvelopeError.NotEnvelope
         → IsReadable bytes.now × NotEnvelope soap_space bytes.now }
 {
-    match read_placed(alloc, bytes) {
-        Ok(Placed { root, last }) => envelope_in(alloc, bytes, SOAP_SPACE, root, last),
-        Err(error) => Err(error),
-    }
+    read_envelope_in(alloc, bytes, SOAP_SPACE)
 }
 
 // The envelope that a document is, or why it is none, where SOAP has this namespace.

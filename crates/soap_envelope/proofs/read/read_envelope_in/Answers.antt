@@ -1,16 +1,15 @@
 use Rattle.std.proofs.Common.{subst}
-use Rattle.soap_envelope.specs.Soap.{soap_space}
 use Rattle.soap_profile.specs.declared.error.EnvelopeError.TheVariants.{TooLong, NotUtf8, NotProfile}
 use Rattle.soap_profile.specs.declared.read.Placed.{Placed}
 use Rattle.soap_profile.specs.Answer.{same_error, errors_alike}
 use Rattle.soap_envelope.specs.Steps.{Answers}
 use Rattle.soap_envelope.specs.declared.envelope.Envelope.{Envelope}
 use Rattle.soap_envelope.proofs.Envelopes.{ok_apart}
-use Rattle.soap_envelope.proofs.read.read_envelope.Goals as goal
+use Rattle.soap_envelope.proofs.read.read_envelope_in.Goals as goal
 
 pub returns-in-Ok-clause-not_utf8 : goal.returns-in-Ok-clause-not_utf8
 returns-in-Ok-clause-not_utf8 c = λ place. (
-  λ e. absurd (subst (Answers soap_space c.args.bytes.now) e c.envelope_in.ensures),
+  λ e. absurd (subst (Answers c.args.soap.now c.args.bytes.now) e c.envelope_in.ensures),
   λ h. absurd (ok_apart Placed c.in-Ok.field-0 (NotUtf8 place) ((c.in-Ok.ensures.not_utf8 place).1 h)),
 )
 

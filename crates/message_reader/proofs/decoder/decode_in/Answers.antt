@@ -1,8 +1,8 @@
-use Rattle.message_reader.proofs.decoder.decode.Goals as goal
-use Rattle.message_reader.specs.Reading.{IsReading}
+use Rattle.message_reader.proofs.decoder.decode_in.Goals as goal
+use Rattle.message_reader.specs.Reading.{IsReadingIn}
 
 pub returns-clause-ok : goal.returns-clause-ok
-returns-clause-ok c = let e = c.read_envelope.ensures in c.decode_read.ensures.ok c.args.bytes.now (record {
+returns-clause-ok c = let e = c.read_envelope_in.ensures in c.decode_read_in.ensures.ok c.args.bytes.now (record {
   ok = e.ok;
   fits = e.fits;
   too_long = λ len is. (e.too_long len).0 is;
@@ -13,7 +13,7 @@ returns-clause-ok c = let e = c.read_envelope.ensures in c.decode_read.ensures.o
 })
 
 pub returns-clause-err : goal.returns-clause-err
-returns-clause-err c = let e = c.read_envelope.ensures in c.decode_read.ensures.err c.args.bytes.now (record {
+returns-clause-err c = let e = c.read_envelope_in.ensures in c.decode_read_in.ensures.err c.args.bytes.now (record {
   ok = e.ok;
   fits = e.fits;
   too_long = λ len is. (e.too_long len).0 is;
