@@ -1,6 +1,6 @@
 -- The text of a message is an envelope, by the laws of what stands in it.
 use Rattle.std.proofs.Common.{◌≡◌, ◌≤◌, ◌+◌, ℕ, Bool, List, [], ◌∷◌, ◌++◌, Option, Some, None, IfSome, map, refl, ap}
-use Rattle.std.proofs.Common.{subst, arith}
+use Rattle.std.proofs.Common.{codes, subst, arith}
 use Rattle.std.specs.Prelude.{option_map}
 use Rattle.std.specs.List.{AllByRecursion}
 use Rattle.std.specs.Option.{option_to_list}
@@ -35,8 +35,10 @@ use Rattle.rm_message.specs.declared.message.Body.{Body}
 use Rattle.rm_message.specs.declared.message.Body.TheVariants as body
 use Rattle.rm_message.specs.declared.message.Message.{Message}
 use Rattle.message_writer.specs.Rules.{IsBodyWritable, body_parts, KeepsRules, message_envelope}
+use Rattle.message_writer.specs.Rules.{HeaderKeepsRules, header_rules, block_of, written_blocks, header_trees}
 use Rattle.message_writer.specs.Text.{node_list, not_understood_node, header_blocks, blocks_text, body_text}
 use Rattle.message_writer.specs.Text.{message_text, fault_node}
+use Rattle.message_writer.specs.Text11.{sequence_marked, blocks_with}
 use Rattle.message_writer.proofs.GoodNodes.{not_understood_good, fault_good}
 
 -- what is known of blocks, bodies and frames
@@ -61,7 +63,7 @@ pub record Known : Type 0 where
 
 -- ---- nodes that are good in the header of a frame
 
-abbrev Fit : List ℕ → List Node → Type 0
+abbrev pub Fit : List ℕ → List Node → Type 0
 Fit soap nodes = AllByRecursion (IsGood soap 2 (frame_scope soap)) nodes
 
 listed_fit : (soap : List ℕ) (nodes : Nodes) → AreGood soap 2 (frame_scope soap) nodes → Fit soap (node_list nodes)
@@ -97,32 +99,32 @@ names_fit : (soap : List ℕ) (xs : List Expanded) → AllByRecursion IsNameWrit
 names_fit soap [] all = tt
 names_fit soap (x ∷ xs) all = (not_understood_good soap x all.0, names_fit soap xs all.1)
 
-header_fit : Known → (soap : List ℕ) (m : Message) → KeepsRules soap m → Fit soap (header_blocks m)
-header_fit known soap m rules =
+-- the header blocks of either version
+pub with_fit : Known → (soap mark : List ℕ) (m : Message) (names : List Node) → HeaderKeepsRules m
+    → Fit soap (option_to_list (option_map (sequence_marked mark) m.sequence)) → Fit soap names
+    → Fit soap (blocks_with mark m names)
+with_fit known soap mark m names rules first end =
     let addressing = node_list (addressing_nodes m.addressing) in
-    let sequence = option_to_list (option_map sequence_node m.sequence) in
+    let sequence = option_to_list (option_map (sequence_marked mark) m.sequence) in
     let acks = map ack_node m.acks in
     let asks = map ask_node m.asks in
     let pending = option_to_list (option_map pending_node m.pending) in
-    let names = map not_understood_node m.not_understood in
-    let last : Fit soap (pending ++ names) =
-    append_fit soap pending names (pending_fit known soap m.pending)
-    (names_fit soap m.not_understood rules.not_understood)
-    in
+    let last : Fit soap (pending ++ names) = append_fit soap pending names (pending_fit known soap m.pending) end in
     let later : Fit soap (asks ++ (pending ++ names)) =
     append_fit soap asks (pending ++ names) (asks_fit known soap m.asks rules.asks) last in
     let more_of : Fit soap (acks ++ (asks ++ (pending ++ names))) =
     append_fit soap acks (asks ++ (pending ++ names)) (acks_fit known soap m.acks rules.acks) later in
     let behind : Fit soap (sequence ++ (acks ++ (asks ++ (pending ++ names)))) =
-    append_fit soap sequence (acks ++ (asks ++ (pending ++ names)))
-    (sequence_fit known soap m.sequence rules.sequence) more_of in
+    append_fit soap sequence (acks ++ (asks ++ (pending ++ names))) first more_of in
     append_fit soap addressing (sequence ++ (acks ++ (asks ++ (pending ++ names))))
     (listed_fit soap (addressing_nodes m.addressing) (known.addressing soap m.addressing rules.addressing)) behind
 
--- ---- as blocks of a frame
+header_fit : Known → (soap : List ℕ) (m : Message) → HeaderKeepsRules m → Fit soap (header_blocks m)
+header_fit known soap m rules =
+    with_fit known soap (codes "true") m (map not_understood_node m.not_understood) rules
+    (sequence_fit known soap m.sequence rules.sequence) (names_fit soap m.not_understood rules.not_understood)
 
-abbrev block_of : List ℕ → Node → Block
-block_of soap node = record { bytes = node_text node; tree = node_tree soap node }
+-- ---- as blocks of a frame
 
 blocks_fit : Known → (soap : List ℕ) (nodes : List Node) → Fit soap nodes
     → AllByRecursion (IsBlock soap) (map (block_of soap) nodes)
@@ -140,7 +142,7 @@ bytes_same soap nodes = flat_map-map (λ block. block.bytes) (block_of soap) nod
 
 -- ---- the Body
 
-alone : Known → (soap : List ℕ) (node : Node) → IsGood soap 2 (frame_scope soap) node → (at : ℕ)
+pub alone : Known → (soap : List ℕ) (node : Node) → IsGood soap 2 (frame_scope soap) node → (at : ℕ)
     → ContentReadsAs 2 at (frame_scope soap) (node_text node) (child (node_tree soap node) none)
 alone known soap node good at =
     subst (λ l. ContentReadsAs 2 at (frame_scope soap) l (child (node_tree soap node) none))
@@ -148,7 +150,7 @@ alone known soap node good at =
     (known.more 2 at (frame_scope soap) (node_text node) [] (node_tree soap node) none
     (λ from. known.node soap node 2 from (frame_scope soap) good) (λ from. known.nothing 2 from (frame_scope soap)))
 
-body_reads : Known → (soap : List ℕ) (b : Body) (rules : IsBodyWritable soap b) (at : ℕ)
+pub body_reads : Known → (soap : List ℕ) (b : Body) (rules : IsBodyWritable soap b) (at : ℕ)
     → ContentReadsAs 2 at (frame_scope soap) (body_text b) (body_parts soap b rules)
 body_reads known soap body.Empty rules at = known.nothing 2 at (frame_scope soap)
 body_reads known soap (body.Payload p) rules at =
@@ -159,16 +161,31 @@ body_reads known soap (body.Fault f) rules at = alone known soap (fault_node f) 
 
 -- ---- the message
 
-pub text_envelope : Known → (soap : List ℕ) (m : Message) (rules : KeepsRules soap m) → MayBeSoap soap
-    → IsEnvelope soap (message_text soap m) (message_envelope soap m rules)
-text_envelope known soap m rules may =
-    let nodes = header_blocks m in
+pub blocks_written : Known → (soap : List ℕ) (m : Message) → HeaderKeepsRules m
+    → AllByRecursion (IsBlock soap) (written_blocks soap m)
+blocks_written known soap m rules = blocks_fit known soap (header_blocks m) (header_fit known soap m rules)
+
+pub blocks_bytes : (soap : List ℕ) (m : Message) → bytes_of (written_blocks soap m) ≡ blocks_text (header_blocks m)
+blocks_bytes soap m = bytes_same soap (header_blocks m)
+
+pub blocks_trees : (soap : List ℕ) (m : Message) → trees_of (written_blocks soap m) ≡ header_trees soap m
+blocks_trees soap m = trees_same soap (header_blocks m)
+
+-- a frame around blocks that are fit, and a body
+pub around : Known → (soap : List ℕ) → MayBeSoap soap → (nodes : List Node) → Fit soap nodes → (text : List ℕ)
+    (parts : Parts) → ((at : ℕ) → ContentReadsAs 2 at (frame_scope soap) text parts)
+    → IsEnvelope soap (framed_text soap (blocks_text nodes) text)
+    (framed_envelope soap (map (node_tree soap) nodes) text parts)
+around known soap may nodes fit text parts reads =
     let blocks = map (block_of soap) nodes in
-    let text = body_text m.body in
-    let parts = body_parts soap m.body rules.body in
     subst (λ (l : List ℕ). IsEnvelope soap (framed_text soap l text)
     (framed_envelope soap (map (node_tree soap) nodes) text parts)) (bytes_same soap nodes)
     (subst (λ (l : List Element). IsEnvelope soap (framed_text soap (bytes_of blocks) text)
     (framed_envelope soap l text parts)) (trees_same soap nodes)
-    (known.frame soap blocks text parts may (blocks_fit known soap nodes (header_fit known soap m rules))
-    (body_reads known soap m.body rules.body)))
+    (known.frame soap blocks text parts may (blocks_fit known soap nodes fit) reads))
+
+pub text_envelope : Known → (soap : List ℕ) (m : Message) (rules : KeepsRules soap m) → MayBeSoap soap
+    → IsEnvelope soap (message_text soap m) (message_envelope soap m rules)
+text_envelope known soap m rules may =
+    around known soap may (header_blocks m) (header_fit known soap m (header_rules soap m rules)) (body_text m.body)
+    (body_parts soap m.body rules.body) (body_reads known soap m.body rules.body)

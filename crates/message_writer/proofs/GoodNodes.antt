@@ -86,7 +86,7 @@ each-append : (xs ys : List ℕ) → AllByRecursion (λ c. IsTrue (is_char c)) x
 each-append [] ys a b = b
 each-append (x ∷ xs) ys a b = (a.0, each-append xs ys a.1 b)
 
-chars-append : (xs ys : List ℕ) → IsChars xs → IsChars ys → IsChars (xs ++ ys)
+pub chars-append : (xs ys : List ℕ) → IsChars xs → IsChars ys → IsChars (xs ++ ys)
 chars-append xs ys a b = record {
   characters = a.characters ++ b.characters;
   each = each-append a.characters b.characters a.each b.each;
@@ -94,7 +94,7 @@ chars-append xs ys a b = record {
       ∙ sym (encodes-append a.characters b.characters);
 }
 
-name_is_chars : (local : List ℕ) → IsName local → IsChars local
+pub name_is_chars : (local : List ℕ) → IsName local → IsChars local
 name_is_chars local is =
     let each = name_chars (is.first ∷ is.others) (name_each local is) in
     record { characters = is.first ∷ is.others; each = each; coded = is.coded }
@@ -121,7 +121,7 @@ written_text false false local is = record {
   chars = chars-append (codes "q:") local (chars_from (codes "q:") refl) (name_is_chars local is);
 }
 
-qname_is_text : (name : Expanded) → IsNameWritable name → IsTextWritable (qname name)
+pub qname_is_text : (name : Expanded) → IsNameWritable name → IsTextWritable (qname name)
 qname_is_text name is = written_text (is_nil name.space) (bytes_eq name.space xml_space) name.local is.local
 
 -- its prefix may be bound to its namespace, where it is written
@@ -129,7 +129,7 @@ other_bytes : (b : Bool) (xs ys : List ℕ) → bytes_eq xs ys ≡ b → xs ≢ 
 other_bytes true xs ys e other = absurd (other ((bytes_eq-Decides xs ys).0 e))
 other_bytes false xs ys e other = refl
 
-q_binds : (space : List ℕ) → is_nil space ≡ false → bytes_eq space xml_space ≡ false → space ≢ xmlns_space
+pub q_binds : (space : List ℕ) → is_nil space ≡ false → bytes_eq space xml_space ≡ false → space ≢ xmlns_space
     → may_bind (codes "q") space ≡ true
 q_binds space some other differs = rw (some, other, other_bytes _ space xmlns_space refl differs) refl
 
@@ -205,7 +205,7 @@ code_good soap f is = (
   ),
 )
 
-words_good : (soap : List ℕ) (depth : ℕ) (scope : List Binding) (bytes : List ℕ) → IsChars bytes
+pub words_good : (soap : List ℕ) (depth : ℕ) (scope : List Binding) (bytes : List ℕ) → IsChars bytes
     → AreGood soap depth scope (words_of bytes)
 words_good soap depth scope [] chars = tt
 words_good soap depth scope (byte ∷ bytes) chars = record { some = λ e. cc; chars = chars }
@@ -225,7 +225,7 @@ reason_good soap reason chars = (
   ),
 )
 
-elements_good : (soap : List ℕ) (es : List Element) → AllByRecursion IsDetailWritable es
+pub elements_good : (soap : List ℕ) (es : List Element) → AllByRecursion IsDetailWritable es
     → AreGood soap 4 (frame_scope soap) (params_nodes false es)
 elements_good soap [] all = tt
 elements_good soap (e ∷ es) all = (

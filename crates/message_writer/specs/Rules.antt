@@ -10,8 +10,8 @@ use Rattle.soap_profile.specs.Tree.{Element, Parts, none, child, name_of, childr
 use Rattle.soap_profile.specs.declared.name.Expanded.{Expanded}
 use Rattle.soap_envelope.specs.Envelope.{Envelope, name_in}
 use Rattle.soap_writer.specs.Writable.{IsNameWritable, IsWritable}
-use Rattle.soap_frame.specs.Framed.{sorted_scope, framed_envelope}
-use Rattle.soap_nodes.specs.Node.{node_tree}
+use Rattle.soap_frame.specs.Framed.{Block, sorted_scope, framed_envelope}
+use Rattle.soap_nodes.specs.Node.{Node, node_text, node_tree}
 use Rattle.soap_values.specs.Values.{trimmed}
 use Rattle.wsa_headers.specs.Addressing.{first_of}
 use Rattle.wsa_headers.specs.Writable.{IsAddressingWritable}
@@ -124,6 +124,32 @@ pub record KeepsRules (soap : List ℕ) (m : Message) : Type 0 where
   pub not_understood : AllByRecursion IsNameWritable m.not_understood
   pub body : IsBodyWritable soap m.body
   pub together : BelongTogether soap m.addressing m.sequence m.body body
+
+-- the rules of what stands in its header
+pub record HeaderKeepsRules (m : Message) : Type 0 where
+  pub addressing : IsAddressingWritable m.addressing
+  pub sequence : IfSome m.sequence IsSequenceWritable
+  pub acks : AllByRecursion IsAckWritable m.acks
+  pub asks : AllByRecursion (IsText 512) m.asks
+  pub not_understood : AllByRecursion IsNameWritable m.not_understood
+
+-- which a message keeps that keeps all
+abbrev pub header_rules : (soap : List ℕ) (m : Message) → KeepsRules soap m → HeaderKeepsRules m
+header_rules soap m rules = record {
+  addressing = rules.addressing;
+  sequence = rules.sequence;
+  acks = rules.acks;
+  asks = rules.asks;
+  not_understood = rules.not_understood;
+}
+
+-- a header block with what it is read as
+abbrev pub block_of : List ℕ → Node → Block
+block_of soap node = record { bytes = node_text node; tree = node_tree soap node }
+
+-- the header blocks of a message, with what they are read as
+abbrev pub written_blocks : List ℕ → Message → List Block
+written_blocks soap m = map (block_of soap) (header_blocks m)
 
 -- the trees of its header blocks, in order
 abbrev pub header_trees : List ℕ → Message → List Element

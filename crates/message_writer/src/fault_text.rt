@@ -108,7 +108,7 @@ fn push_english(out: &mut Vec<u8>) -> Result<(), Memory>
 }
 
 #[tactic(auto, using(crate::proofs::TextLemmas::words_text))]
-fn push_words(text: &[u8], out: &mut Vec<u8>) -> Result<(), Memory>
+pub(crate) fn push_words(text: &[u8], out: &mut Vec<u8>) -> Result<(), Memory>
     ensures { OnOk result (out.new.items ≡ out.old.items ++ nodes_text (words_of text.now)) }
 {
     push_text(text, out)
@@ -142,7 +142,11 @@ fn push_element(alloc: Global, element: &Element, out: &mut Vec<u8>) -> Result<(
     push_bytes(text.as_slice(), out)
 }
 
-fn push_elements(alloc: Global, elements: &[Element], out: &mut Vec<u8>) -> Result<(), Memory>
+pub(crate) fn push_elements(
+    alloc: Global,
+    elements: &[Element],
+    out: &mut Vec<u8>,
+) -> Result<(), Memory>
     ensures { OnOk result (out.new.items
         ≡ out.old.items ++ nodes_text (params_nodes false (map element_view elements.now))) }
 {

@@ -4,6 +4,7 @@
 #![tactic(auto)]
 
 pub mod fault;
+mod fault11_text;
 mod fault_text;
 pub mod laws;
 mod qname;
@@ -11,9 +12,11 @@ pub mod table;
 pub mod tag;
 mod trees;
 pub mod write;
+pub mod write11;
 
 pub use fault::fault_message;
-pub use laws::text_is_an_envelope;
+pub use laws::{header_blocks_are_read_back, text_is_an_envelope, text11_is_an_envelope};
 pub use table::Vocabulary;
 pub use tag::Tag;
-pub use write::encode;
+pub use write::{encode, push_header};
+pub use write11::encode11;

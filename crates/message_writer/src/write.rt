@@ -39,7 +39,7 @@ fn push_sequence_of(sequence: &Option<SeqHeader>, out: &mut Vec<u8>) -> Result<(
     }
 }
 
-fn push_acks(acks: &[AckBlock], out: &mut Vec<u8>) -> Result<(), Memory>
+pub(crate) fn push_acks(acks: &[AckBlock], out: &mut Vec<u8>) -> Result<(), Memory>
     ensures { OnOk result (out.new.items ≡ out.old.items ++ blocks_text (map ack_node acks.now)) }
 {
     for ack in acks {
@@ -48,7 +48,7 @@ fn push_acks(acks: &[AckBlock], out: &mut Vec<u8>) -> Result<(), Memory>
     Ok(())
 }
 
-fn push_asks(asks: &[Ident], out: &mut Vec<u8>) -> Result<(), Memory>
+pub(crate) fn push_asks(asks: &[Ident], out: &mut Vec<u8>) -> Result<(), Memory>
     ensures { OnOk result (out.new.items ≡ out.old.items ++ blocks_text (map ask_node asks.now)) }
 {
     for ident in asks {
@@ -57,7 +57,7 @@ fn push_asks(asks: &[Ident], out: &mut Vec<u8>) -> Result<(), Memory>
     Ok(())
 }
 
-fn push_pending_of(pending: Option<bool>, out: &mut Vec<u8>) -> Result<(), Memory>
+pub(crate) fn push_pending_of(pending: Option<bool>, out: &mut Vec<u8>) -> Result<(), Memory>
     ensures { OnOk result (out.new.items
         ≡ out.old.items ++ blocks_text (option_to_list (option_map pending_node pending))) }
 {
@@ -108,7 +108,8 @@ fn write_blocks(alloc: Global, message: &Message, out: &mut Blob) -> Result<(), 
     Ok(())
 }
 
-fn push_header(alloc: Global, message: &Message, out: &mut Blob) -> Result<(), Memory>
+/// Appends the header blocks of a message, for which the prefixes of a frame have to be bound around them.
+pub fn push_header(alloc: Global, message: &Message, out: &mut Blob) -> Result<(), Memory>
     ensures { OnOk result (out.new ≡ out.old ++ blocks_text (header_blocks message.now)) }
 {
     write_addressing(alloc, &message.addressing, out)?;
@@ -125,7 +126,7 @@ fn write_fault(alloc: Global, fault: &FaultBody, out: &mut Blob) -> Result<(), M
     Ok(())
 }
 
-fn push_body(alloc: Global, body: &Body, out: &mut Blob) -> Result<(), Memory>
+pub(crate) fn push_body(alloc: Global, body: &Body, out: &mut Blob) -> Result<(), Memory>
     ensures { OnOk result (out.new ≡ out.old ++ body_text body.now) }
 {
     match body {

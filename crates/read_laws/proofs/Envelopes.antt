@@ -95,20 +95,39 @@ blocks_are outer (blocks header scope s) around is = record {
 around_root : (decls : List Binding) → AllByRecursion IsBinding decls → AreInForce decls
 around_root decls all = subst AreInForce (append-nil decls) (more_in_force decls [] all none_in_force)
 
-pub parts_are : Documents → (soap bytes : List ℕ) (e : Envelope) → IsEnvelope soap bytes e → length bytes ≤ 2097152
-    → AreParts e
-parts_are documents soap bytes e is fits =
+-- what its root declares, and what stands in it
+record IsRootRead {soap bytes : List ℕ} {e : Envelope} (is : IsEnvelope soap bytes e) : Type 0 where
+  outer : AreInForce is.decls
+  outline : AreOutlined is.header is.body
+
+root_is : Documents → (soap bytes : List ℕ) (e : Envelope) (is : IsEnvelope soap bytes e) → length bytes ≤ 2097152
+    → IsRootRead is
+root_is documents soap bytes e is fits =
     let root : Element = element (name_in soap (codes "Envelope")) is.decls is.attrs is.parts in
     let resolved : IsResolved 0 root =
     documents bytes root (record { raw = is.raw; is = is.document; resolved = is.resolved }) (omega (arith, fits)) in
-    let outer : AreInForce is.decls = around_root is.decls resolved.declares.0 in
-    let outline = outlined soap is.outline (children_resolved 0 root resolved) in
-    let header = blocks_are is.decls is.blocks outer outline.before in
+    record {
+      outer = around_root is.decls resolved.declares.0;
+      outline = outlined soap is.outline (children_resolved 0 root resolved);
+    }
+
+-- what is bound around what stands in its Body
+pub body_in_force : Documents → (soap bytes : List ℕ) (e : Envelope) (is : IsEnvelope soap bytes e)
+    → length bytes ≤ 2097152 → AreInForce (decls_of is.body ++ is.decls)
+body_in_force documents soap bytes e is fits =
+    let root = root_is documents soap bytes e is fits in
+    more_in_force (decls_of is.body) is.decls (declares 1 is.body root.outline.last) root.outer
+
+pub parts_are : Documents → (soap bytes : List ℕ) (e : Envelope) → IsEnvelope soap bytes e → length bytes ≤ 2097152
+    → AreParts e
+parts_are documents soap bytes e is fits =
+    let root = root_is documents soap bytes e is fits in
+    let header = blocks_are is.decls is.blocks root.outer root.outline.before in
     record {
       headers = header.each;
       header_scope = header.in_force;
       scope = scope_in_force (decls_of is.body ++ is.decls) e.scope is.scope
-          (more_in_force (decls_of is.body) is.decls (declares 1 is.body outline.last) outer);
+          (body_in_force documents soap bytes e is fits);
       body = subst (λ (parts : Parts). AllByRecursion (IsResolved 2) (children_of parts)) (sym is.content)
-          (children_resolved 1 is.body outline.last);
+          (children_resolved 1 is.body root.outline.last);
     }

@@ -12,3 +12,4 @@ pub mod Params
 pub mod Texts
 pub mod Trims
 pub mod WholeMessages
+pub mod Payloads

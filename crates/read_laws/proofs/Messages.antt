@@ -211,7 +211,8 @@ together_numbered a s numbered (bodies.Lifecycle x) is not = absurd (not is.0)
 together_numbered a s numbered (bodies.Fault f) is not = absurd (not is)
 
 -- what is read where a Sequence may stand among the header blocks, and where this was read of it
-abbrev answer : Addressing → List Expanded → Option Lists → Option (Option Bool) → Option (Option Element) → Option Body
+abbrev pub answer : Addressing → List Expanded → Option Lists → Option (Option Bool) → Option (Option Element)
+    → Option Body
     → Result Message Wrong
 answer a told x p o z = with_content a (x >>= λ lists. ((p >>= λ pending. ((o >>= λ found. numbered_of found)
     >>= λ number. let marks : Marks = (pending, number) in Some marks)) >>= λ marks. (z >>= λ body. Some (record {
@@ -223,7 +224,7 @@ answer a told x p o z = with_content a (x >>= λ lists. ((p >>= λ pending. ((o 
       body = body;
     }))))
 
-abbrev numbered_answer : Addressing → List Expanded → Lists → Option Bool → Result (Option Header) ElementError
+abbrev pub numbered_answer : Addressing → List Expanded → Lists → Option Bool → Result (Option Header) ElementError
     → Option Body → Result Message Wrong
 numbered_answer a told lists pending r z = with_content a ((numbered_from r >>= λ number.
     let marks : Marks = (pending, number) in Some marks) >>= λ marks. (z >>= λ body. Some (record {

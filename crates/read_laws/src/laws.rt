@@ -1,16 +1,20 @@
 //! Laws of messages as they are read, each the contract of a function that does nothing but to bring in the laws that
 //! it stands on.
 
-ghost use Rattle.std.specs.Prelude.{ℕ, List, None};
+ghost use Rattle.std.specs.Prelude.{◌≡◌, ℕ, List, None};
+ghost use Rattle.rm_base.specs.declared.message.Payload.{Payload as Held};
+ghost use Rattle.rm_message.specs.declared.message.Body.TheVariants as body;
 ghost use Rattle.rm_message.specs.declared.message.Message.{Message as Value};
 ghost use Rattle.rm_message.specs.declared.refusal.Refusal.{Refusal as Refused};
 ghost use Rattle.message_reader.specs.Refusals.{Spells, Refuses};
 ghost use Rattle.message_writer.specs.Faults.{fault_of};
 ghost use Rattle.message_writer.specs.Rules.{KeepsRules};
 ghost use Rattle.rm_wire.specs.Writable.{IsRefusalWritable};
+ghost use Rattle.read_laws.specs.Stands.{Stands};
 ghost use Rattle.read_laws.specs.WasRead.{WasRead, PayloadFits};
 
 use rm_wire::a_fault_keeps_the_rules;
+use soap_envelope::laws::payload_stands;
 use soap_stripped::laws::{elements_may_be_written, names_may_be_written};
 
 /// A message that bytes spell keeps the rules of those that are written, but for its payload.
@@ -19,6 +23,15 @@ pub fn what_is_read_may_be_written()
 {
     elements_may_be_written();
     names_may_be_written();
+}
+
+/// Its payload is content that stood in the Body of its envelope.
+pub fn what_is_read_stands()
+    ensures { (soap bytes : List ℕ) (m : Value) (spells : Spells soap bytes m) (p : Held) → m.body ≡ body.Payload p
+        → Stands p.bytes p.scope spells.envelope.body }
+{
+    elements_may_be_written();
+    payload_stands();
 }
 
 /// With those of its payload it keeps all of them.

@@ -15,11 +15,11 @@ use Rattle.soap_nodes.specs.Node.{Node, Nodes, nothing, words, more, declared, n
 use Rattle.soap_values.specs.Children.{name_in}
 use Rattle.wsa_headers.specs.Texts.{addressing_nodes}
 use Rattle.wsa_headers.specs.Writable.{addressing_blocks, IsAddressingBlock}
-use Rattle.rm_elements.specs.Texts.{sequence_node, ack_node, ask_node, pending_node}
+use Rattle.rm_elements.specs.Texts.{ack_node, ask_node, pending_node}
 use Rattle.rm_message.specs.declared.message.Message.{Message}
 use Rattle.message_reader.specs.Blocks.{is_block, blocks, is_understood, is_own, is_not_understood}
-use Rattle.message_writer.specs.Rules.{header_trees}
 use Rattle.message_writer.specs.Text.{node_list, not_understood_node, qname}
+use Rattle.message_writer.specs.Text11.{sequence_marked, blocks_with}
 use Rattle.rm_wire.proofs.Names.{declared_with}
 
 -- ---- the blocks, piece by piece
@@ -32,36 +32,36 @@ trees soap f xs = map (node_tree soap) (map f xs)
 abbrev pub tree_if : {A : Type 0} → List ℕ → (A → Node) → Option A → List Element
 tree_if soap f x = map (node_tree soap) (option_to_list (option_map f x))
 
--- the blocks behind those of addressing
-abbrev pub others : List ℕ → Message → List Element
-others soap m =
-    tree_if soap sequence_node m.sequence ++ (trees soap ack_node m.acks ++ (trees soap ask_node m.asks
-    ++ (tree_if soap pending_node m.pending ++ trees soap not_understood_node m.not_understood)))
+-- the blocks behind those of addressing, with this mark on Sequence and with these last
+abbrev pub others : List ℕ → List ℕ → Message → List Element → List Element
+others soap mark m last =
+    tree_if soap (sequence_marked mark) m.sequence ++ (trees soap ack_node m.acks ++ (trees soap ask_node m.asks
+    ++ (tree_if soap pending_node m.pending ++ last)))
 
-pub listed_trees : (soap : List ℕ) (nodes : Nodes) → map (node_tree soap) (node_list nodes)
+listed_trees : (soap : List ℕ) (nodes : Nodes) → map (node_tree soap) (node_list nodes)
     ≡ children_of (nodes_tree soap nodes)
 listed_trees soap nothing = refl
 listed_trees soap (words bytes) = refl
 listed_trees soap (more node nodes) = ap (λ l. node_tree soap node ∷ l) (listed_trees soap nodes)
 
-pub header_is : (soap : List ℕ) (m : Message)
-    → header_trees soap m ≡ addressing_blocks soap m.addressing ++ others soap m
-header_is soap m =
+pub header_is : (soap mark : List ℕ) (m : Message) (last : List Node)
+    → map (node_tree soap) (blocks_with mark m last)
+    ≡ addressing_blocks soap m.addressing ++ others soap mark m (map (node_tree soap) last)
+header_is soap mark m last =
     let tree = node_tree soap in
     let addressing = node_list (addressing_nodes m.addressing) in
-    let sequence = option_to_list (option_map sequence_node m.sequence) in
+    let sequence = option_to_list (option_map (sequence_marked mark) m.sequence) in
     let acks = map ack_node m.acks in
     let asks = map ask_node m.asks in
     let pending = option_to_list (option_map pending_node m.pending) in
-    let names = map not_understood_node m.not_understood in
-    map-append tree addressing (sequence ++ (acks ++ (asks ++ (pending ++ names))))
-    ∙ ap (λ l. l ++ map tree (sequence ++ (acks ++ (asks ++ (pending ++ names)))))
+    map-append tree addressing (sequence ++ (acks ++ (asks ++ (pending ++ last))))
+    ∙ ap (λ l. l ++ map tree (sequence ++ (acks ++ (asks ++ (pending ++ last)))))
     (listed_trees soap (addressing_nodes m.addressing))
     ∙ ap (λ l. addressing_blocks soap m.addressing ++ l)
-    (map-append tree sequence (acks ++ (asks ++ (pending ++ names)))
-    ∙ ap (λ l. map tree sequence ++ l) (map-append tree acks (asks ++ (pending ++ names))
-    ∙ ap (λ l. map tree acks ++ l) (map-append tree asks (pending ++ names)
-    ∙ ap (λ l. map tree asks ++ l) (map-append tree pending names))))
+    (map-append tree sequence (acks ++ (asks ++ (pending ++ last)))
+    ∙ ap (λ l. map tree sequence ++ l) (map-append tree acks (asks ++ (pending ++ last))
+    ∙ ap (λ l. map tree acks ++ l) (map-append tree asks (pending ++ last)
+    ∙ ap (λ l. map tree asks ++ l) (map-append tree pending last))))
 
 -- ---- a test of each
 

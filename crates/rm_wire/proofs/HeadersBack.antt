@@ -20,7 +20,7 @@ use Rattle.soap_values.specs.QNames.{qname_in}
 use Rattle.wsa_headers.specs.Addressing.{first_of}
 use Rattle.wsa_headers.specs.Writable.{IsAddressingBlock, IsForeign}
 use Rattle.rm_elements.specs.Outcome.{rm, mc}
-use Rattle.rm_elements.specs.Texts.{sequence_node, ack_node, ask_node, pending_node}
+use Rattle.rm_elements.specs.Texts.{ack_node, ask_node, pending_node}
 use Rattle.rm_elements.specs.Writable.{IsAckWritable}
 use Rattle.rm_elements.specs.declared.header.AckBlock.{AckBlock}
 use Rattle.rm_elements.specs.declared.header.Header.TheVariants as headers
@@ -31,9 +31,9 @@ use Rattle.message_reader.specs.Blocks.{is_not_understood}
 use Rattle.message_reader.specs.Headers.{acks_in, asks_in, pending_in, sequence_name, told_name}
 use Rattle.message_reader.specs.Headers.{told_names, ack_of, ask_of, listed}
 use Rattle.message_writer.specs.Text.{not_understood_node, qname}
+use Rattle.message_writer.specs.Text11.{sequence_marked}
 use Rattle.rm_wire.proofs.Blocks.{trees, tree_if, others, passed, kept, passed_if, kept_if, pieces, told_attr}
-use Rattle.rm_wire.proofs.Blocks.{told_tree}
-use Rattle.rm_wire.proofs.Blocks.{told_is}
+use Rattle.rm_wire.proofs.Blocks.{told_tree, told_is}
 use Rattle.rm_wire.proofs.Blocks.{addressing_passed, addressing_understood, third_not}
 use Rattle.rm_wire.proofs.Known.{Known}
 use Rattle.rm_wire.proofs.Names.{declared_with, name_again}
@@ -62,97 +62,15 @@ sixth a s k q t n e g h i j = rw (e, g, h, i, j) refl
 
 -- ---- the blocks of each name, behind blocks of addressing
 
-pub sequences : (soap : List ℕ) (m : Message) (bs : List Element) → AllByRecursion IsAddressingBlock bs
-    → blocks sequence_name (bs ++ others soap m) ≡ tree_if soap sequence_node m.sequence
-sequences soap m bs own =
-    let p = is_block sequence_name in
-    pieces p bs (tree_if soap sequence_node m.sequence) (trees soap ack_node m.acks) (trees soap ask_node m.asks)
-    (tree_if soap pending_node m.pending) (trees soap not_understood_node m.not_understood)
-    ∙ second _ _ _ _ _ _ (addressing_passed sequence_name refl bs own) (passed p soap ack_node (λ x. refl) m.acks)
-    (passed p soap ask_node (λ x. refl) m.asks) (passed_if p soap pending_node (λ x. refl) m.pending)
-    (passed p soap not_understood_node (λ x. refl) m.not_understood)
-    ∙ kept_if p soap sequence_node (λ x. refl) m.sequence
-
-acknowledgements : (soap : List ℕ) (m : Message) (bs : List Element) → AllByRecursion IsAddressingBlock bs
-    → blocks (rm (codes "SequenceAcknowledgement")) (bs ++ others soap m) ≡ trees soap ack_node m.acks
-acknowledgements soap m bs own =
-    let name = rm (codes "SequenceAcknowledgement") in
-    let p = is_block name in
-    pieces p bs (tree_if soap sequence_node m.sequence) (trees soap ack_node m.acks) (trees soap ask_node m.asks)
-    (tree_if soap pending_node m.pending) (trees soap not_understood_node m.not_understood)
-    ∙ third _ _ _ _ _ _ (addressing_passed name refl bs own) (passed_if p soap sequence_node (λ x. refl) m.sequence)
-    (passed p soap ask_node (λ x. refl) m.asks) (passed_if p soap pending_node (λ x. refl) m.pending)
-    (passed p soap not_understood_node (λ x. refl) m.not_understood)
-    ∙ kept p soap ack_node (λ x. refl) m.acks
-
-requests : (soap : List ℕ) (m : Message) (bs : List Element) → AllByRecursion IsAddressingBlock bs
-    → blocks (rm (codes "AckRequested")) (bs ++ others soap m) ≡ trees soap ask_node m.asks
-requests soap m bs own =
-    let name = rm (codes "AckRequested") in
-    let p = is_block name in
-    pieces p bs (tree_if soap sequence_node m.sequence) (trees soap ack_node m.acks) (trees soap ask_node m.asks)
-    (tree_if soap pending_node m.pending) (trees soap not_understood_node m.not_understood)
-    ∙ fourth _ _ _ _ _ _ (addressing_passed name refl bs own) (passed_if p soap sequence_node (λ x. refl) m.sequence)
-    (passed p soap ack_node (λ x. refl) m.acks) (passed_if p soap pending_node (λ x. refl) m.pending)
-    (passed p soap not_understood_node (λ x. refl) m.not_understood)
-    ∙ kept p soap ask_node (λ x. refl) m.asks
-
-marks : (soap : List ℕ) (m : Message) (bs : List Element) → AllByRecursion IsAddressingBlock bs
-    → blocks (mc (codes "MessagePending")) (bs ++ others soap m) ≡ tree_if soap pending_node m.pending
-marks soap m bs own =
-    let name = mc (codes "MessagePending") in
-    let p = is_block name in
-    pieces p bs (tree_if soap sequence_node m.sequence) (trees soap ack_node m.acks) (trees soap ask_node m.asks)
-    (tree_if soap pending_node m.pending) (trees soap not_understood_node m.not_understood)
-    ∙ fifth _ _ _ _ _ _ (addressing_passed name refl bs own) (passed_if p soap sequence_node (λ x. refl) m.sequence)
-    (passed p soap ack_node (λ x. refl) m.acks) (passed p soap ask_node (λ x. refl) m.asks)
-    (passed p soap not_understood_node (λ x. refl) m.not_understood)
-    ∙ kept_if p soap pending_node (λ x. refl) m.pending
-
-told_block : (soap : List ℕ) (name : Expanded)
-    → is_block (name_in soap (codes "NotUnderstood")) (node_tree soap (not_understood_node name)) ≡ true
-told_block soap name =
-    ap (is_block (name_in soap (codes "NotUnderstood"))) (told_is soap name)
-    ∙ (let same = equal soap soap refl in rw same refl)
-
-names : (soap : List ℕ) (m : Message) (bs : List Element) → soap ≢ addressing_space
-    → AllByRecursion IsAddressingBlock bs
-    → blocks (name_in soap (codes "NotUnderstood")) (bs ++ others soap m)
-    ≡ trees soap not_understood_node m.not_understood
-names soap m bs other own =
-    let name = name_in soap (codes "NotUnderstood") in
-    let p = is_block name in
-    pieces p bs (tree_if soap sequence_node m.sequence) (trees soap ack_node m.acks) (trees soap ask_node m.asks)
-    (tree_if soap pending_node m.pending) (trees soap not_understood_node m.not_understood)
-    ∙ sixth _ _ _ _ _ _ (addressing_passed name (differ addressing_space soap (λ e. other (sym e))) bs own)
-    (passed_if p soap sequence_node (λ x. refl) m.sequence)
-    (passed p soap ack_node (λ x. refl) m.acks) (passed p soap ask_node (λ x. refl) m.asks)
-    (passed_if p soap pending_node (λ x. refl) m.pending)
-    ∙ kept p soap not_understood_node (told_block soap) m.not_understood
-
--- none of them is one that had to be understood and is not
-
-told_understood : (soap : List ℕ) (name : Expanded)
-    → is_not_understood soap (node_tree soap (not_understood_node name)) ≡ false
-told_understood soap name =
-    let fails : is_not_understood soap (told_tree soap name) ≡ false =
-    third_not true (not (is_understood soap (name_in soap (codes "NotUnderstood"))))
-    (is_own soap (value_among (role_name soap) (told_attr name ∷ []))) in
-    ap (is_not_understood soap) (told_is soap name) ∙ fails
-
-pub all_understood : (soap : List ℕ) (m : Message) (bs : List Element) → AllByRecursion IsAddressingBlock bs
-    → filter (is_not_understood soap) (bs ++ others soap m) ≡ []
-all_understood soap m bs own =
-    let p = is_not_understood soap in
-    pieces p bs (tree_if soap sequence_node m.sequence) (trees soap ack_node m.acks) (trees soap ask_node m.asks)
-    (tree_if soap pending_node m.pending) (trees soap not_understood_node m.not_understood)
-    ∙ sixth _ _ _ _ _ _ (addressing_understood soap bs own)
-    (passed_if p soap sequence_node (λ x. refl) m.sequence)
-    (passed p soap ack_node (λ x. refl) m.acks) (passed p soap ask_node (λ x. refl) m.asks)
-    (passed_if p soap pending_node (λ x. refl) m.pending)
-    ∙ passed p soap not_understood_node (told_understood soap) m.not_understood
-
--- ---- none of them is one of addressing
+-- what may stand last: it has no block of the names that are looked for, none of addressing, and none that had to be
+-- understood and is not
+pub record MayBeLast (soap : List ℕ) (last : List Element) : Type 0 where
+  pub sequence : blocks sequence_name last ≡ []
+  pub acks : blocks (rm (codes "SequenceAcknowledgement")) last ≡ []
+  pub asks : blocks (rm (codes "AckRequested")) last ≡ []
+  pub pending : blocks (mc (codes "MessagePending")) last ≡ []
+  pub understood : filter (is_not_understood soap) last ≡ []
+  pub foreign : AllByRecursion IsForeign last
 
 all_joined : (P : Element → Type 0) (xs ys : List Element) → AllByRecursion P xs → AllByRecursion P ys
     → AllByRecursion P (xs ++ ys)
@@ -168,24 +86,6 @@ all_if : {A : Type 0} (soap : List ℕ) (f : A → Node) → ((x : A) → IsFore
     → AllByRecursion IsForeign (tree_if soap f x)
 all_if soap f is None = tt
 all_if soap f is (Some x) = (is x, tt)
-
-told_foreign : (soap : List ℕ) → soap ≢ addressing_space → (name : Expanded)
-    → IsForeign (node_tree soap (not_understood_node name))
-told_foreign soap other name =
-    let is : IsForeign (told_tree soap name) = record { unmarked = refl; space = differ soap addressing_space other } in
-    subst IsForeign (sym (told_is soap name)) is
-
-pub all_foreign : Known → (soap : List ℕ) (m : Message) → soap ≢ addressing_space
-    → AllByRecursion IsForeign (others soap m)
-all_foreign known soap m other =
-    let join = all_joined IsForeign in
-    join _ _ (all_if soap sequence_node (λ x. known.foreign soap (headers.Sequence x)) m.sequence)
-    (join _ _ (all_trees soap ack_node (λ x. known.foreign soap (headers.Ack x)) m.acks)
-    (join _ _ (all_trees soap ask_node (λ x. known.foreign soap (headers.Ask x)) m.asks)
-    (join _ _ (all_if soap pending_node (λ x. known.foreign soap (headers.Pending x)) m.pending)
-    (all_trees soap not_understood_node (told_foreign soap other) m.not_understood))))
-
--- ---- what they say
 
 each_back : {A : Type 0} (read : Element → Option A) (soap : List ℕ) (f : A → Node) (xs : List A)
     → AllByRecursion (λ x. read (node_tree soap (f x)) ≡ Some x) xs → each read (trees soap f xs) ≡ Some xs
@@ -206,29 +106,12 @@ asks_each known soap (x ∷ xs) all =
     let one = known.header soap (headers.Ask x) all.0 in
     (rw one refl, asks_each known soap xs all.1)
 
-pub acks_back : Known → (soap : List ℕ) (m : Message) (bs : List Element) → AllByRecursion IsAddressingBlock bs
-    → AllByRecursion IsAckWritable m.acks → acks_in (bs ++ others soap m) ≡ Some m.acks
-acks_back known soap m bs own all =
-    ap (each ack_of) (acknowledgements soap m bs own)
-    ∙ each_back ack_of soap ack_node m.acks (acks_each known soap m.acks all)
-
-pub asks_back : Known → (soap : List ℕ) (m : Message) (bs : List Element) → AllByRecursion IsAddressingBlock bs
-    → AllByRecursion (IsText 512) m.asks → asks_in (bs ++ others soap m) ≡ Some m.asks
-asks_back known soap m bs own all =
-    ap (each ask_of) (requests soap m bs own) ∙ each_back ask_of soap ask_node m.asks (asks_each known soap m.asks all)
-
 pending_at : Known → (soap : List ℕ) (pending : Option Bool) (hs : List Element)
     → blocks (mc (codes "MessagePending")) hs ≡ tree_if soap pending_node pending → pending_in hs ≡ Some pending
 pending_at known soap None hs at = rw at refl
 pending_at known soap (Some pending) hs at =
     let one = known.header soap (headers.Pending pending) tt in
     rw (at, one) refl
-
-pub pending_back : Known → (soap : List ℕ) (m : Message) (bs : List Element) → AllByRecursion IsAddressingBlock bs
-    → pending_in (bs ++ others soap m) ≡ Some m.pending
-pending_back known soap m bs own = pending_at known soap m.pending (bs ++ others soap m) (marks soap m bs own)
-
--- ---- whether there is a block of a name
 
 first_left : (b r : Bool) (x : Element) (fs : List Element) → r ≡ is_some (first_of fs)
     → (b || r) ≡ is_some (first_of (if b then x ∷ fs else fs))
@@ -239,17 +122,156 @@ any_left : (p : Element → Bool) (xs : List Element) → list_any p xs ≡ is_s
 any_left p [] = refl
 any_left p (x ∷ xs) = first_left (p x) (list_any p xs) x (filter p xs) (any_left p xs)
 
-has_number : (soap : List ℕ) (x : Option SeqHeader) → is_some (first_of (tree_if soap sequence_node x)) ≡ is_some x
-has_number soap None = refl
-has_number soap (Some x) = refl
+has_number : (soap mark : List ℕ) (x : Option SeqHeader)
+    → is_some (first_of (tree_if soap (sequence_marked mark) x)) ≡ is_some x
+has_number soap mark None = refl
+has_number soap mark (Some x) = refl
 
-pub is_numbered_back : (soap : List ℕ) (m : Message) (bs : List Element) → AllByRecursion IsAddressingBlock bs
-    → has_block sequence_name (bs ++ others soap m) ≡ is_some m.sequence
-is_numbered_back soap m bs own =
-    any_left (is_block sequence_name) (bs ++ others soap m)
-    ∙ ap (λ l. is_some (first_of l)) (sequences soap m bs own) ∙ has_number soap m.sequence
+module _ (soap mark : List ℕ) (m : Message) (last : List Element) where
+  -- what stands behind the blocks of addressing passes a test piece by piece
+  by_piece : (p : Element → Bool) (bs : List Element) → filter p (bs ++ others soap mark m last)
+      ≡ filter p bs ++ (filter p (tree_if soap (sequence_marked mark) m.sequence)
+      ++ (filter p (trees soap ack_node m.acks) ++ (filter p (trees soap ask_node m.asks)
+      ++ (filter p (tree_if soap pending_node m.pending) ++ filter p last))))
+  by_piece p bs =
+      pieces p bs (tree_if soap (sequence_marked mark) m.sequence) (trees soap ack_node m.acks)
+      (trees soap ask_node m.asks) (tree_if soap pending_node m.pending) last
+
+  -- those that stand last, where none of the others does
+  pub lasts : (p : Element → Bool) (bs : List Element) → filter p bs ≡ []
+      → ((x : SeqHeader) → p (node_tree soap (sequence_marked mark x)) ≡ false)
+      → ((x : AckBlock) → p (node_tree soap (ack_node x)) ≡ false)
+      → ((x : List ℕ) → p (node_tree soap (ask_node x)) ≡ false)
+      → ((x : Bool) → p (node_tree soap (pending_node x)) ≡ false)
+      → filter p (bs ++ others soap mark m last) ≡ filter p last
+  lasts p bs own s k q t =
+      by_piece p bs
+      ∙ sixth _ _ _ _ _ _ own (passed_if p soap (sequence_marked mark) s m.sequence) (passed p soap ack_node k m.acks)
+      (passed p soap ask_node q m.asks) (passed_if p soap pending_node t m.pending)
+
+  module _ (may : MayBeLast soap last) (bs : List Element) (own : AllByRecursion IsAddressingBlock bs) where
+    pub sequences : blocks sequence_name (bs ++ others soap mark m last)
+        ≡ tree_if soap (sequence_marked mark) m.sequence
+    sequences =
+        let p = is_block sequence_name in
+        by_piece p bs
+        ∙ second _ _ _ _ _ _ (addressing_passed sequence_name refl bs own) (passed p soap ack_node (λ x. refl) m.acks)
+        (passed p soap ask_node (λ x. refl) m.asks) (passed_if p soap pending_node (λ x. refl) m.pending) may.sequence
+        ∙ kept_if p soap (sequence_marked mark) (λ x. refl) m.sequence
+
+    acknowledgements : blocks (rm (codes "SequenceAcknowledgement")) (bs ++ others soap mark m last)
+        ≡ trees soap ack_node m.acks
+    acknowledgements =
+        let name = rm (codes "SequenceAcknowledgement") in
+        let p = is_block name in
+        by_piece p bs
+        ∙ third _ _ _ _ _ _ (addressing_passed name refl bs own)
+        (passed_if p soap (sequence_marked mark) (λ x. refl) m.sequence)
+        (passed p soap ask_node (λ x. refl) m.asks) (passed_if p soap pending_node (λ x. refl) m.pending) may.acks
+        ∙ kept p soap ack_node (λ x. refl) m.acks
+
+    requests : blocks (rm (codes "AckRequested")) (bs ++ others soap mark m last) ≡ trees soap ask_node m.asks
+    requests =
+        let name = rm (codes "AckRequested") in
+        let p = is_block name in
+        by_piece p bs
+        ∙ fourth _ _ _ _ _ _ (addressing_passed name refl bs own)
+        (passed_if p soap (sequence_marked mark) (λ x. refl) m.sequence)
+        (passed p soap ack_node (λ x. refl) m.acks) (passed_if p soap pending_node (λ x. refl) m.pending) may.asks
+        ∙ kept p soap ask_node (λ x. refl) m.asks
+
+    marks : blocks (mc (codes "MessagePending")) (bs ++ others soap mark m last) ≡ tree_if soap pending_node m.pending
+    marks =
+        let name = mc (codes "MessagePending") in
+        let p = is_block name in
+        by_piece p bs
+        ∙ fifth _ _ _ _ _ _ (addressing_passed name refl bs own)
+        (passed_if p soap (sequence_marked mark) (λ x. refl) m.sequence)
+        (passed p soap ack_node (λ x. refl) m.acks) (passed p soap ask_node (λ x. refl) m.asks) may.pending
+        ∙ kept_if p soap pending_node (λ x. refl) m.pending
+
+    -- none of them is one that had to be understood and is not
+    pub all_understood : filter (is_not_understood soap) (bs ++ others soap mark m last) ≡ []
+    all_understood =
+        lasts (is_not_understood soap) bs (addressing_understood soap bs own) (λ x. refl) (λ x. refl) (λ x. refl)
+        (λ x. refl) ∙ may.understood
+
+    -- none is of addressing
+    pub all_foreign : Known → AllByRecursion IsForeign (others soap mark m last)
+    all_foreign known =
+        let join = all_joined IsForeign in
+        join _ _ (all_if soap (sequence_marked mark) (λ x. record { unmarked = refl; space = refl }) m.sequence)
+        (join _ _ (all_trees soap ack_node (λ x. known.foreign soap (headers.Ack x)) m.acks)
+        (join _ _ (all_trees soap ask_node (λ x. known.foreign soap (headers.Ask x)) m.asks)
+        (join _ _ (all_if soap pending_node (λ x. known.foreign soap (headers.Pending x)) m.pending) may.foreign)))
+
+    -- what they say
+    pub acks_back : Known → AllByRecursion IsAckWritable m.acks
+        → acks_in (bs ++ others soap mark m last) ≡ Some m.acks
+    acks_back known all =
+        ap (each ack_of) acknowledgements ∙ each_back ack_of soap ack_node m.acks (acks_each known soap m.acks all)
+
+    pub asks_back : Known → AllByRecursion (IsText 512) m.asks
+        → asks_in (bs ++ others soap mark m last) ≡ Some m.asks
+    asks_back known all =
+        ap (each ask_of) requests ∙ each_back ask_of soap ask_node m.asks (asks_each known soap m.asks all)
+
+    pub pending_back : Known → pending_in (bs ++ others soap mark m last) ≡ Some m.pending
+    pending_back known = pending_at known soap m.pending (bs ++ others soap mark m last) marks
+
+    -- whether there is a number
+    pub is_numbered_back : has_block sequence_name (bs ++ others soap mark m last) ≡ is_some m.sequence
+    is_numbered_back =
+        any_left (is_block sequence_name) (bs ++ others soap mark m last) ∙ ap (λ l. is_some (first_of l)) sequences
+        ∙ has_number soap mark m.sequence
 
 -- ---- the names that were not understood
+
+-- their blocks
+abbrev pub told : List ℕ → Message → List Element
+told soap m = trees soap not_understood_node m.not_understood
+
+told_block : (soap : List ℕ) (name : Expanded)
+    → is_block (name_in soap (codes "NotUnderstood")) (node_tree soap (not_understood_node name)) ≡ true
+told_block soap name =
+    ap (is_block (name_in soap (codes "NotUnderstood"))) (told_is soap name)
+    ∙ (let same = equal soap soap refl in rw same refl)
+
+told_understood : (soap : List ℕ) (name : Expanded)
+    → is_not_understood soap (node_tree soap (not_understood_node name)) ≡ false
+told_understood soap name =
+    let fails : is_not_understood soap (told_tree soap name) ≡ false =
+    third_not true (not (is_understood soap (name_in soap (codes "NotUnderstood"))))
+    (is_own soap (value_among (role_name soap) (told_attr name ∷ []))) in
+    ap (is_not_understood soap) (told_is soap name) ∙ fails
+
+told_foreign : (soap : List ℕ) → soap ≢ addressing_space → (name : Expanded)
+    → IsForeign (node_tree soap (not_understood_node name))
+told_foreign soap other name =
+    let is : IsForeign (told_tree soap name) = record { unmarked = refl; space = differ soap addressing_space other } in
+    subst IsForeign (sym (told_is soap name)) is
+
+pub told_last : (soap : List ℕ) (m : Message) → soap ≢ addressing_space → MayBeLast soap (told soap m)
+told_last soap m other =
+    record {
+      sequence = passed (is_block sequence_name) soap not_understood_node (λ x. refl) m.not_understood;
+      acks = passed (is_block (rm (codes "SequenceAcknowledgement"))) soap not_understood_node (λ x. refl)
+          m.not_understood;
+      asks = passed (is_block (rm (codes "AckRequested"))) soap not_understood_node (λ x. refl) m.not_understood;
+      pending = passed (is_block (mc (codes "MessagePending"))) soap not_understood_node (λ x. refl) m.not_understood;
+      understood = passed (is_not_understood soap) soap not_understood_node (told_understood soap) m.not_understood;
+      foreign = all_trees soap not_understood_node (told_foreign soap other) m.not_understood;
+    }
+
+names : (soap mark : List ℕ) (m : Message) (bs : List Element) → soap ≢ addressing_space
+    → AllByRecursion IsAddressingBlock bs
+    → blocks (name_in soap (codes "NotUnderstood")) (bs ++ others soap mark m (told soap m)) ≡ told soap m
+names soap mark m bs other own =
+    let name = name_in soap (codes "NotUnderstood") in
+    lasts soap mark m (told soap m) (is_block name) bs
+    (addressing_passed name (differ addressing_space soap (λ e. other (sym e))) bs own) (λ x. refl) (λ x. refl)
+    (λ x. refl) (λ x. refl)
+    ∙ kept (is_block name) soap not_understood_node (told_block soap) m.not_understood
 
 told_back : (soap : List ℕ) (name : Expanded) → IsNameWritable name
     → told_name (sorted_scope soap) (node_tree soap (not_understood_node name)) ≡ Some name
@@ -266,9 +288,9 @@ told_each soap (x ∷ xs) all =
     (trees soap not_understood_node xs)) (told_back soap x all.0)
     ∙ ap (λ l. x ∷ l) (told_each soap xs all.1)
 
-pub names_back : (soap : List ℕ) (m : Message) (bs : List Element) → is_soap11 soap ≡ false
+pub names_back : (soap mark : List ℕ) (m : Message) (bs : List Element) → is_soap11 soap ≡ false
     → soap ≢ addressing_space → AllByRecursion IsAddressingBlock bs → AllByRecursion IsNameWritable m.not_understood
-    → told_names soap (sorted_scope soap) (bs ++ others soap m) ≡ m.not_understood
-names_back soap m bs later other own all =
-    rw later (ap (flat_map (λ e. listed (told_name (sorted_scope soap) e))) (names soap m bs other own)
+    → told_names soap (sorted_scope soap) (bs ++ others soap mark m (told soap m)) ≡ m.not_understood
+names_back soap mark m bs later other own all =
+    rw later (ap (flat_map (λ e. listed (told_name (sorted_scope soap) e))) (names soap mark m bs other own)
     ∙ told_each soap m.not_understood all)

@@ -1,8 +1,12 @@
 pub mod Blocks
 pub mod BodiesBack
+pub mod Fault11Back
 pub mod FaultBack
 pub mod FaultRules
+pub mod Headers11Back
 pub mod HeadersBack
 pub mod Known
+pub mod Lowered
 pub mod Names
+pub mod PayloadBack
 pub mod Together

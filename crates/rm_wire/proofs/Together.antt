@@ -2,6 +2,7 @@
 use Rattle.std.proofs.Common.{◌≡◌, ◌≢◌, ◌≤◌, ℕ, Bool, true, false, not, ◌&&◌, if◌then◌else◌, List, [], ◌++◌}
 use Rattle.std.proofs.Common.{Option, Some, None, Ok, Err, codes, map, length, refl, sym, ap, ◌∙◌, is_some, IfSome}
 use Rattle.std.specs.Prelude.{IsSome, option_map}
+use Rattle.std.specs.List.{filter}
 use Rattle.std.specs.Str.{bytes_eq}
 use Rattle.std.proofs.lemmas.Bool.{true≢false}
 use Rattle.rm_base.specs.declared.message.Binding.{Binding}
@@ -13,7 +14,7 @@ use Rattle.soap_envelope.specs.Soap.{soap_space, is_soap11}
 use Rattle.soap_writer.specs.Frame.{addressing_space}
 use Rattle.soap_writer.specs.Plain.{chars_from}
 use Rattle.soap_frame.specs.Framed.{framed_envelope, MayBeSoap}
-use Rattle.soap_nodes.specs.Node.{Nodes, more, leaf, nodes_tree}
+use Rattle.soap_nodes.specs.Node.{Nodes, more, leaf, node_tree, nodes_tree}
 use Rattle.soap_values.specs.Outcome.{◌>>=◌}
 use Rattle.wsa_headers.specs.Addressing.{uri_header, is_missing, properties_in, read_or_bad, read_unless}
 use Rattle.wsa_headers.specs.Addressing.{repeated}
@@ -25,6 +26,7 @@ use Rattle.wsa_headers.specs.Writable.{addressing_blocks}
 use Rattle.wsa_headers.specs.declared.addressing.Addressing.{Addressing}
 use Rattle.wsa_headers.specs.declared.error.AddressingError.TheVariants.{HeaderMissing}
 use Rattle.wsa_headers.specs.declared.tag.Tag.TheVariants as tags
+use Rattle.rm_elements.specs.Headers.{header_of}
 use Rattle.rm_elements.specs.Texts.{sequence_node}
 use Rattle.rm_elements.specs.Writable.{IsSequenceWritable}
 use Rattle.rm_elements.specs.declared.header.AckBlock.{AckBlock}
@@ -35,7 +37,7 @@ use Rattle.rm_message.specs.Actions.{create_sequence}
 use Rattle.rm_message.specs.declared.message.Body.{Body}
 use Rattle.rm_message.specs.declared.message.Body.TheVariants as body
 use Rattle.rm_message.specs.declared.message.Message.{Message}
-use Rattle.message_reader.specs.Blocks.{blocks, has_block}
+use Rattle.message_reader.specs.Blocks.{blocks, has_block, is_not_understood}
 use Rattle.message_reader.specs.Bodies.{fault_at, element_for, body_in}
 use Rattle.message_reader.specs.Headers.{acks_in, asks_in, pending_in, sequence_name, told_names}
 use Rattle.message_reader.specs.Headers.{sequence_fault_in}
@@ -45,12 +47,14 @@ use Rattle.message_reader.specs.Message.{lists_in, marks_in, content_in, with_co
 use Rattle.message_reader.specs.Message.{with_addressing, unless_unknown, message_in}
 use Rattle.message_reader.specs.Refusals.{Spells}
 use Rattle.message_writer.specs.Rules.{IsBodyWritable, body_parts, action_for, BelongTogether, KeepsRules}
-use Rattle.message_writer.specs.Rules.{message_envelope}
-use Rattle.message_writer.specs.Text.{body_text, message_text}
+use Rattle.message_writer.specs.Rules.{HeaderKeepsRules, header_rules, message_envelope}
+use Rattle.message_writer.specs.Text.{body_text, message_text, not_understood_node}
+use Rattle.message_writer.specs.Text11.{sequence_marked}
+use Rattle.rm_wire.specs.Payloads.{with_body}
 use Rattle.rm_wire.proofs.Blocks.{tree_if, others, header_is}
 use Rattle.rm_wire.proofs.BodiesBack.{bare_action, other_action, written_payload, fault_found, body_back}
-use Rattle.rm_wire.proofs.HeadersBack.{sequences, all_understood, all_foreign, acks_back, asks_back, pending_back}
-use Rattle.rm_wire.proofs.HeadersBack.{is_numbered_back, names_back}
+use Rattle.rm_wire.proofs.HeadersBack.{MayBeLast, sequences, all_understood, all_foreign, acks_back, asks_back}
+use Rattle.rm_wire.proofs.HeadersBack.{pending_back, is_numbered_back, told, told_last, names_back}
 use Rattle.rm_wire.proofs.Known.{Known}
 
 -- ---- the action that was read
@@ -231,11 +235,16 @@ body_by soap action e b later read =
     let none = no_sequence_fault soap e.header_scope e.headers later in
     rw none read
 
+-- the number is read alike whatever the mark
+header_same : (soap mark : List ℕ) (x : SeqHeader)
+    → header_of (node_tree soap (sequence_marked mark x)) ≡ header_of (node_tree soap (sequence_node x))
+header_same soap mark x = refl
+
 -- a message with a number in a sequence or without
-pub content_by : Known → (soap : List ℕ) (a : Addressing) (x : Option SeqHeader) (e : Envelope) (lists : Lists)
+content_by : Known → (soap mark : List ℕ) (a : Addressing) (x : Option SeqHeader) (e : Envelope) (lists : Lists)
     (pending : Option Bool) (told : List Expanded) (b : Body) → IfSome x IsSequenceWritable
     → lists_in e.headers ≡ Some lists → pending_in e.headers ≡ Some pending
-    → blocks sequence_name e.headers ≡ tree_if soap sequence_node x
+    → blocks sequence_name e.headers ≡ tree_if soap (sequence_marked mark) x
     → told_names soap e.header_scope e.headers ≡ told → body_of soap a.action e ≡ Some b
     → with_content a (content_in soap a.action e) ≡ Ok (record {
       addressing = a;
@@ -247,53 +256,69 @@ pub content_by : Known → (soap : List ℕ) (a : Addressing) (x : Option SeqHea
       body = b;
     })
 unfolding content_in marks_in
-content_by known soap a None e lists pending told b is l p at n y = rw (l, p, at, y, n) refl
-content_by known soap a (Some x) e lists pending told b is l p at n y =
-    let one = known.header soap (headers.Sequence x) is in
+content_by known soap mark a None e lists pending told b is l p at n y = rw (l, p, at, y, n) refl
+content_by known soap mark a (Some x) e lists pending told b is l p at n y =
+    let one = header_same soap mark x ∙ known.header soap (headers.Sequence x) is in
     rw (l, p, at, one, y, n) refl
 
 -- ---- the message
 
+-- what an envelope is read as that has these header blocks, by what its body is
+pub read_by : Known → (soap mark : List ℕ) (m : Message) (last : List Element) → MayBeLast soap last
+    → HeaderKeepsRules m → (e : Envelope) (b : Body)
+    → e.headers ≡ addressing_blocks soap m.addressing ++ others soap mark m last → lacks_id soap e ≡ false
+    → told_names soap e.header_scope e.headers ≡ m.not_understood → body_of soap m.addressing.action e ≡ Some b
+    → message_in soap e ≡ Ok (with_body m b)
+read_by known soap mark m last may rules e b is lacks told said =
+    let a = m.addressing in
+    let bs = addressing_blocks soap a in
+    let own = known.own soap a in
+    let read : addressing_in e.headers ≡ Ok a =
+    ap addressing_in is
+    ∙ known.addressing soap a (others soap mark m last) rules.addressing
+    (all_foreign soap mark m last may bs own known) in
+    let lists : lists_in e.headers ≡ Some (m.acks, m.asks) =
+    lists_by e.headers m.acks m.asks (ap acks_in is ∙ acks_back soap mark m last may bs own known rules.acks)
+    (ap asks_in is ∙ asks_back soap mark m last may bs own known rules.asks) in
+    let pending : pending_in e.headers ≡ Some m.pending =
+    ap pending_in is ∙ pending_back soap mark m last may bs own known in
+    let number : blocks sequence_name e.headers ≡ tree_if soap (sequence_marked mark) m.sequence =
+    ap (blocks sequence_name) is ∙ sequences soap mark m last may bs own in
+    let none : filter (is_not_understood soap) e.headers ≡ [] =
+    ap (filter (is_not_understood soap)) is ∙ all_understood soap mark m last may bs own in
+    ap (λ (l : List Element). unless_unknown soap e (map name_of l)) none
+    ∙ ap (with_addressing soap e) (addressed_by soap e a lacks read)
+    ∙ content_by known soap mark a m.sequence e (m.acks, m.asks) m.pending m.not_understood b rules.sequence lists
+    pending number told said
+
 -- the envelope that a message is, as it is read
 abbrev envelope_of : (soap : List ℕ) (m : Message) → KeepsRules soap m → Envelope
 envelope_of soap m rules =
-    framed_envelope soap (addressing_blocks soap m.addressing ++ others soap m) (body_text m.body)
-    (body_parts soap m.body rules.body)
-
-content_back : Known → (soap : List ℕ) (m : Message) (rules : KeepsRules soap m) → is_soap11 soap ≡ false
-    → soap ≢ addressing_space
-    → with_content m.addressing (content_in soap m.addressing.action (envelope_of soap m rules)) ≡ Ok m
-content_back known soap m rules later other =
-    let e = envelope_of soap m rules in
-    let bs = addressing_blocks soap m.addressing in
-    let own = known.own soap m.addressing in
-    let parts = body_parts soap m.body rules.body in
-    let has = is_numbered_back soap m bs own in
-    let read : body_in soap None m.addressing.action (is_numbered e) (payload_of e) e.body ≡ Some m.body =
-    ap (λ n. body_in soap None m.addressing.action n (written_payload soap m.body) parts) has
-    ∙ body_back known soap later m.addressing m.sequence m.body rules.body rules.together in
-    content_by known soap m.addressing m.sequence e (m.acks, m.asks) m.pending m.not_understood m.body rules.sequence
-    (lists_by e.headers m.acks m.asks (acks_back known soap m bs own rules.acks)
-    (asks_back known soap m bs own rules.asks))
-    (pending_back known soap m bs own) (sequences soap m bs own)
-    (names_back soap m bs later other own rules.not_understood)
-    (body_by soap m.addressing.action e m.body later read)
+    framed_envelope soap (addressing_blocks soap m.addressing ++ others soap (codes "true") m (told soap m))
+    (body_text m.body) (body_parts soap m.body rules.body)
 
 message_back : Known → (soap : List ℕ) (m : Message) (rules : KeepsRules soap m) → is_soap11 soap ≡ false
-    → soap ≢ addressing_space
-    → message_in soap (envelope_of soap m rules) ≡ Ok m
+    → soap ≢ addressing_space → message_in soap (envelope_of soap m rules) ≡ Ok m
 message_back known soap m rules later other =
     let e = envelope_of soap m rules in
     let a = m.addressing in
     let bs = addressing_blocks soap a in
+    let mark = codes "true" in
     let own = known.own soap a in
-    let read = known.addressing soap a (others soap m) rules.addressing (all_foreign known soap m other) in
-    let lacks : lacks_id soap e ≡ false =
-    lacks_none soap a m.sequence m.body rules.body (others soap m) rules.together read
-    (is_numbered_back soap m bs own) in
-    ap (λ (l : List Element). unless_unknown soap e (map name_of l)) (all_understood soap m bs own)
-    ∙ ap (with_addressing soap e) (addressed_by soap e a lacks read)
-    ∙ content_back known soap m rules later other
+    let last = told soap m in
+    let may = told_last soap m other in
+    let behind = others soap mark m last in
+    let parts = body_parts soap m.body rules.body in
+    let read =
+    known.addressing soap a behind rules.addressing (all_foreign soap mark m last may bs own known) in
+    let has = is_numbered_back soap mark m last may bs own in
+    let lacks : lacks_id soap e ≡ false = lacks_none soap a m.sequence m.body rules.body behind rules.together read has
+    in
+    let said : body_in soap None a.action (is_numbered e) (payload_of e) e.body ≡ Some m.body =
+    ap (λ n. body_in soap None a.action n (written_payload soap m.body) parts) has
+    ∙ body_back known soap later a m.sequence m.body rules.body rules.together in
+    read_by known soap mark m last may (header_rules soap m rules) e m.body refl lacks
+    (names_back soap mark m bs later other own rules.not_understood) (body_by soap a.action e m.body later said)
 
 -- what is known of the text
 abbrev pub KnowsText : Type 0
@@ -310,7 +335,7 @@ written_is_read text known soap m rules may later other fits =
       is = text soap m rules may;
       fits = fits;
       reads = ap (λ (hs : List Element). message_in soap (framed_envelope soap hs (body_text m.body) body))
-          (header_is soap m)
+          (header_is soap (codes "true") m (map not_understood_node m.not_understood))
           ∙ message_back known soap m rules later other;
     }
 

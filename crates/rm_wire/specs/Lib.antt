@@ -1,1 +1,3 @@
+pub mod Payloads
+pub mod Told
 pub mod Writable

@@ -1,21 +1,35 @@
 //! Laws of messages that are written and read, each the contract of a function that does nothing but to bring in the
 //! laws that it stands on.
-ghost use Rattle.std.specs.Prelude.{◌≡◌, ◌≢◌, ◌≤◌, ℕ, List, Option, false, length};
+ghost use Rattle.std.specs.Prelude.{◌≡◌, ◌≢◌, ◌≤◌, ℕ, List, Option, None, Ok, false, IfSome, Contains, length};
 ghost use Rattle.rm_base.specs.Limits.{envelope_bytes};
-ghost use Rattle.soap_frame.specs.Framed.{MayBeSoap};
-ghost use Rattle.soap_envelope.specs.Soap.{soap_space, is_soap11};
+ghost use Rattle.rm_base.specs.declared.message.Binding.{Binding as Bound};
+ghost use Rattle.soap_profile.specs.Tree.{Parts};
+ghost use Rattle.soap_frame.specs.Framed.{MayBeSoap, sorted_scope};
+ghost use Rattle.soap_frame.specs.Tagged.{tagged_envelope};
+ghost use Rattle.soap_envelope.specs.Soap.{soap_space, soap11_space, is_soap11};
+ghost use Rattle.soap_nodes.specs.Node.{node_tree};
+ghost use Rattle.wsa_headers.specs.Addressing.{first_of};
 ghost use Rattle.soap_writer.specs.Frame.{addressing_space};
 ghost use Rattle.rm_elements.specs.declared.header.AckBlock.{AckBlock as Acknowledgement};
 ghost use Rattle.rm_message.specs.declared.message.Message.{Message as Value};
 ghost use Rattle.rm_message.specs.declared.refusal.Refusal.{Refusal as Refused};
+ghost use Rattle.rm_message.specs.declared.message.FaultBody.{FaultBody as Said};
+ghost use Rattle.message_reader.specs.Faults11.{fault11_in};
+ghost use Rattle.message_reader.specs.Headers.{sequence_fault_of};
+ghost use Rattle.message_reader.specs.Message.{message_in};
 ghost use Rattle.message_reader.specs.Refusals.{Spells, Refuses};
 ghost use Rattle.message_writer.specs.Faults.{fault_of};
-ghost use Rattle.message_writer.specs.Rules.{KeepsRules};
+ghost use Rattle.message_writer.specs.Faults11.{fault11_node, ahead_nodes, IsFault11};
+ghost use Rattle.message_writer.specs.Rules.{HeaderKeepsRules, KeepsRules, IsFaultWritable, header_trees};
+ghost use Rattle.message_writer.specs.Rules.{protocol_actions, NoFaultFirst};
 ghost use Rattle.message_writer.specs.Text.{message_text};
+ghost use Rattle.message_writer.specs.Text11.{message11_text, KeepsRules11};
+ghost use Rattle.rm_wire.specs.Payloads.{with_payload};
+ghost use Rattle.rm_wire.specs.Told.{told_by};
 ghost use Rattle.rm_wire.specs.Writable.{IsRefusalWritable};
 
 use message_reader::laws::{a_message_is_not_refused, one_message};
-use message_writer::text_is_an_envelope;
+use message_writer::{text_is_an_envelope, text11_is_an_envelope};
 use rm_elements::laws::{
     header_is_foreign, header_is_good, header_is_read_back, lifecycle_is_read_back,
 };
@@ -32,6 +46,54 @@ pub fn what_is_written_is_read()
         → Spells soap_space (message_text soap_space m) m }
 {
     text_is_an_envelope();
+    addressing_is_read_back();
+    addressing_blocks_are_told();
+    header_is_read_back();
+    header_is_foreign();
+    lifecycle_is_read_back();
+    written_tree_is_the_tree();
+}
+
+/// Behind the header blocks of a message that keeps their rules a payload is read as it is, whatever is bound around
+/// it.
+pub fn a_payload_is_read_behind_the_blocks()
+    ensures { (soap : List ℕ) → is_soap11 soap ≡ false → soap ≢ addressing_space → (m : Value) → HeaderKeepsRules m
+        → ¬ (Contains protocol_actions m.addressing.action) → (payload : List ℕ) (parts : Parts) (scope : List Bound)
+        → (m.sequence ≡ None → NoFaultFirst soap parts)
+        → message_in soap (tagged_envelope soap (header_trees soap m) payload parts scope)
+        ≡ Ok (with_payload m payload scope) }
+{
+    addressing_is_read_back();
+    addressing_blocks_are_told();
+    header_is_read_back();
+    header_is_foreign();
+    lifecycle_is_read_back();
+    written_tree_is_the_tree();
+}
+
+/// A fault that SOAP 1.1 tells apart is read there as it was written: the Fault, with what its SequenceFault told,
+/// and the
+/// SequenceFault, where there is one.
+pub fn a_fault_of_soap11_is_read()
+    ensures fault { (f : Said) → IsFaultWritable f → IsFault11 f
+        → fault11_in soap11_space (told_by f.subcode f.detail) (sorted_scope soap11_space)
+        (node_tree soap11_space (fault11_node f)) ≡ f }
+    ensures header { (f : Said) → IsFaultWritable f → IsFault11 f
+        → IfSome (first_of (ahead_nodes f.subcode f.detail))
+        (λ node. sequence_fault_of (sorted_scope soap11_space) (node_tree soap11_space node)
+        ≡ told_by f.subcode f.detail) }
+{
+    written_tree_is_the_tree();
+}
+
+/// The text of a message in SOAP 1.1 spells this message there, where SOAP 1.1 can say it and the text is no longer
+/// than
+/// a message may be.
+pub fn what_is_lowered_is_read()
+    ensures { (m : Value) → KeepsRules11 m → length (message11_text m) ≤ envelope_bytes
+        → Spells soap11_space (message11_text m) m }
+{
+    text11_is_an_envelope();
     addressing_is_read_back();
     addressing_blocks_are_told();
     header_is_read_back();

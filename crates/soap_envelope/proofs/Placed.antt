@@ -206,8 +206,8 @@ content_of : (bytes : List ℕ) (w : written.Element) → StandsBetween bytes w
 content_of bytes (written.element name attributes start end parts) s = (s.depth, start, s.is)
 
 -- the payload is content, and what it is
-pub payload_stands : Stands → (soap bytes : List ℕ) (envelope : Envelope) → IsEnvelope soap bytes envelope
-    → StandsFor envelope
+pub payload_stands : Stands → (soap bytes : List ℕ) (envelope : Envelope) (p : IsEnvelope soap bytes envelope)
+    → StandsFor (decls_of p.body ++ p.decls) envelope
 payload_stands stands soap bytes envelope p =
     let root = element (name_in soap (codes "Envelope")) p.decls p.attrs p.parts in
     let within = parts_within p.raw in
@@ -223,7 +223,6 @@ payload_stands stands soap bytes envelope p =
       start = c.1;
       parts = parts_within p.written_body;
       content = subst (λ (b : List ℕ). IsContent c.0 c.1 b (parts_within p.written_body)) (sym p.payload) c.2;
-      bindings = decls_of p.body ++ p.decls;
       scope = p.scope;
       resolved = ap (λ (ds : List Binding). resolve_parts (decls_of p.body ++ ds) (parts_within p.written_body)) (sym
           (append-nil p.decls)) ∙ ap (λ (b : Element). resolve_parts (decls_of b ++ (p.decls ++ [])) (parts_within

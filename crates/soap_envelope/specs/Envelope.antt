@@ -72,12 +72,12 @@ pub record IsEnvelope (soap bytes : List ℕ) (envelope : Envelope) : Type 0 whe
   pub scope : IsScope (decls_of body ++ decls) envelope.scope
   pub content : envelope.body ≡ parts_of body
 
--- the payload is content, whose parts, with their names resolved in the bindings in force there, are the body
-pub record StandsFor (envelope : Envelope) : Type 0 where
+-- the payload is content, whose parts, with their names resolved in these bindings, which are in force there, are the
+-- body
+pub record StandsFor (bindings : List Binding) (envelope : Envelope) : Type 0 where
   pub depth : ℕ
   pub start : ℕ
   pub parts : written.Parts
   pub content : IsContent depth start envelope.payload parts
-  pub bindings : List Binding
   pub scope : IsScope bindings envelope.scope
   pub resolved : resolve_parts bindings parts ≡ Some envelope.body

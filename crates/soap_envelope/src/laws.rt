@@ -1,7 +1,7 @@
 //! Laws of envelopes, each the contract of a function that does nothing but to bring in the laws that it stands on.
 
-ghost use Rattle.std.specs.Prelude.{◌≡◌, ℕ, List, Option};
-ghost use Rattle.soap_profile.specs.Tree.{Element, Parts};
+ghost use Rattle.std.specs.Prelude.{◌≡◌, ◌++◌, ℕ, List, Option};
+ghost use Rattle.soap_profile.specs.Tree.{Element, Parts, decls_of};
 ghost use Rattle.rm_base.specs.declared.message.Binding.{Binding};
 ghost use Rattle.soap_envelope.specs.Envelope.{Envelope, IsEnvelope, IsOutline, StandsFor};
 ghost use Rattle.soap_envelope.specs.Refusals.{WrongVersion, NotEnvelope};
@@ -40,9 +40,11 @@ pub fn one_answer()
     one_tree();
 }
 
-/// The payload is content, and the body is what its parts are in the bindings in force there.
+/// The payload is content, and the body is what its parts are in the bindings in force there, which the start tags of
+/// Body and Envelope declare.
 pub fn payload_stands()
-    ensures { (soap bytes : List ℕ) (envelope : Envelope) → IsEnvelope soap bytes envelope → StandsFor envelope }
+    ensures { (soap bytes : List ℕ) (envelope : Envelope) (is : IsEnvelope soap bytes envelope)
+        → StandsFor (decls_of is.body ++ is.decls) envelope }
 {
     content_stands_between();
 }

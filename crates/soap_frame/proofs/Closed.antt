@@ -1,15 +1,16 @@
 -- Content that is closed under its own declarations is read alike wherever no default namespace is in force.
-use Rattle.std.proofs.Common.{◌≡◌, ℕ, suc, ◌+◌, ◌≤◌, max, List, [], ◌++◌, Option, Some, None, option_map, refl, ap}
+use Rattle.std.proofs.Common.{◌≡◌, ℕ, suc, ◌+◌, ◌≤◌, max, List, [], ◌++◌, Option, Some, None, option_map, refl, ap, sym}
 use Rattle.std.proofs.Common.{ap₂, ◌∙◌, arith}
 use Rattle.rm_base.specs.declared.message.Binding.{Binding}
-use Rattle.soap_document.specs.Grammar.{max_depth}
+use Rattle.soap_document.specs.Grammar.{IsContent, max_depth}
 use Rattle.soap_document.specs.Tree as written
-use Rattle.soap_profile.specs.Namespaces.{bound, Resolved, tag_of, resolve, resolve_parts, joined}
+use Rattle.soap_profile.specs.Namespaces.{bound, or_none, Resolved, tag_of, resolve, resolve_parts, joined}
 use Rattle.soap_profile.specs.Payload.{height, depth, IsClosedContent}
 use Rattle.soap_profile.specs.Tree.{Element, element, Parts, none, text, child}
 use Rattle.soap_writer.specs.ReadBack.{ContentReadsAs}
 use Rattle.soap_frame.proofs.Moved.{tall, deep, content_moved, with_tag}
-use Rattle.soap_frame.proofs.Weaken.{parts_more}
+use Rattle.soap_frame.specs.Covers.{Covers}
+use Rattle.soap_frame.proofs.Covered.{parts_more}
 
 mapped_tall : (t : Resolved) (l : Option Parts) (n : ℕ) (e : Element) → ((ps : Parts) → l ≡ Some ps → n ≡ depth ps)
     → option_map (element t.name t.decls t.attrs) l ≡ Some e → suc n ≡ height e
@@ -52,13 +53,21 @@ mutual
       joined_deep (resolve scope first) (resolve_parts scope parts) (tall first) (deep parts) ps
       (λ e. resolve_tall first scope e) (λ qs. resolve_deep parts scope qs) h
 
+-- content that isn't too deep is read alike at another place, where more is bound
+pub moved_alike : (depth_of start : ℕ) (bytes : List ℕ) (raw : written.Parts) → IsContent depth_of start bytes raw
+    → (ds es : List Binding) (ps : Parts) → resolve_parts ds raw ≡ Some ps → Covers ds es
+    → (d at : ℕ) → d + depth ps ≤ max_depth → ContentReadsAs d at es bytes ps
+moved_alike depth_of start bytes raw is ds es ps read covers d at room =
+    let same = resolve_deep raw ds ps read in
+    let m = content_moved depth_of start bytes raw is d at (omega (arith, same, room)) in
+    record { raw = m.raw; is = m.is; resolved = parts_more m.raw ds es ps covers (m.same ds ∙ read) }
+
+-- nothing is covered where there is no default
+covers_nothing : (scope : List Binding) → bound [] scope ≡ None → Covers [] scope
+covers_nothing scope none_ = record { named = λ prefix space some other e. cc; default = ap or_none (sym none_) }
+
 pub closed_alike : (bytes : List ℕ) (c : IsClosedContent bytes) (d at : ℕ) (scope : List Binding) → d + 90 ≤ max_depth
     → bound [] scope ≡ None → ContentReadsAs d at scope bytes c.parts
 closed_alike bytes c d at scope room default =
-    let same = resolve_deep c.raw [] c.parts c.resolved in
-    let m = content_moved 1 3 bytes c.raw c.is d at (omega (arith, same, c.shallow)) in
-    record {
-      raw = m.raw;
-      is = m.is;
-      resolved = parts_more m.raw [] scope c.parts default (m.same [] ∙ c.resolved);
-    }
+    moved_alike 1 3 bytes c.raw c.is [] scope c.parts c.resolved (covers_nothing scope default) d at
+    (omega (arith, c.shallow, room))

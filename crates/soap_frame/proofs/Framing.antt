@@ -73,7 +73,7 @@ at_xml soap prefix false may e =
     (bytes_eq (codes "c") prefix) may refl refl refl refl
     ∙ sym (ap (λ b. if b then None else declared_in (bound prefix (frame_scope soap))) e)
 
-frame_IsScope : (soap : List ℕ) → MayBeSoap soap → IsScope (frame_scope soap) (sorted_scope soap)
+pub frame_IsScope : (soap : List ℕ) → MayBeSoap soap → IsScope (frame_scope soap) (sorted_scope soap)
 frame_IsScope soap may = record {
   rises = ((refl, (refl, (refl, tt))), ((refl, (refl, tt)), ((refl, tt), (tt, tt))));
   same = λ prefix. at_xml soap prefix (bytes_eq prefix (codes "xml")) may refl;
@@ -81,18 +81,18 @@ frame_IsScope soap may = record {
 
 -- ---- the start tag of the envelope
 
-abbrev declares : List ℕ → List ℕ → WrittenAttribute
+abbrev pub declares : List ℕ → List ℕ → WrittenAttribute
 declares prefix space = record { name = codes "xmlns" ++ (codes ":" ++ prefix); value = space }
 
-abbrev others : List WrittenAttribute
+abbrev pub others : List WrittenAttribute
 others =
     declares (codes "a") addressing_space ∷ declares (codes "r") messaging_space
     ∷ declares (codes "c") connection_space ∷ []
 
-abbrev frame_attributes : List ℕ → List WrittenAttribute
+abbrev pub frame_attributes : List ℕ → List WrittenAttribute
 frame_attributes soap = declares (codes "s") soap ∷ others
 
-frame_tag : Known → (soap : List ℕ) → MayBeSoap soap
+pub frame_tag : Known → (soap : List ℕ) → MayBeSoap soap
     → IsAttributes (written_attributes (frame_attributes soap)) (frame_attributes soap)
 frame_tag known soap may =
     let xmlns = name_from (codes "xmlns") refl in
@@ -123,14 +123,14 @@ abbrev resolved_tag : List ℕ → Resolved
 resolved_tag soap = record { name = name_in soap (codes "Envelope"); decls = frame_scope soap; attrs = [] }
 
 -- an element where nothing is bound around it
-abbrev of_tag : Option Resolved → written.Parts → Option Element
+abbrev pub of_tag : Option Resolved → written.Parts → Option Element
 of_tag tag parts =
     elim tag [
       | None ↦ None
       | Some t ↦ option_map (element t.name t.decls t.attrs) (resolve_parts (t.decls ++ []) parts)
     ]
 
-frame_resolved : (soap : List ℕ) → MayBeSoap soap
+pub frame_resolved : (soap : List ℕ) → MayBeSoap soap
     → tag_of [] (codes "s:Envelope") (frame_attributes soap) ≡ Some (resolved_tag soap)
 frame_resolved soap may =
     ap (λ b. declaring (if b then Some (frame_scope soap) else None) [] (codes "s:Envelope") (frame_attributes soap))
@@ -138,27 +138,27 @@ frame_resolved soap may =
 
 -- ---- its text
 
-abbrev envelope_tag : List ℕ → List ℕ
+abbrev pub envelope_tag : List ℕ → List ℕ
 envelope_tag soap = start_tag (codes "s:Envelope") (written_attributes (frame_attributes soap))
 
-abbrev header_tag : List ℕ
+abbrev pub header_tag : List ℕ
 header_tag = start_tag (codes "s:Header") []
 
 abbrev body_tag : List ℕ
 body_tag = start_tag (codes "s:Body") []
 
-abbrev section : List ℕ → List ℕ → List ℕ
+abbrev pub section : List ℕ → List ℕ → List ℕ
 section name inner = start_tag name [] ++ (inner ++ end_tag name [])
 
 grouped : (a b c d : List ℕ) → ((a ++ b) ++ c) ++ d ≡ a ++ (b ++ (c ++ d))
 grouped a b c d = simp append_assoc
 
-start_is : (soap : List ℕ) → envelope_tag soap ++ header_tag ≡ envelope_start soap
+pub start_is : (soap : List ℕ) → envelope_tag soap ++ header_tag ≡ envelope_start soap
 start_is soap =
     ap (λ l. codes "<s:Envelope xmlns:s=" ++ l) (grouped (quoted soap) (written_attributes others) (codes ">")
     header_tag)
 
-regroup : (start front header after before body closing finish : List ℕ)
+pub regroup : (start front header after before body closing finish : List ℕ)
     → start ++ (((front ++ (header ++ after)) ++ ((before ++ (body ++ closing)) ++ [])) ++ finish)
     ≡ (start ++ front) ++ (header ++ ((after ++ before) ++ (body ++ (closing ++ finish))))
 regroup start front header after before body closing finish = simp (append_assoc, append-nil)
@@ -174,7 +174,7 @@ text_is soap header body =
 -- ---- where the payload stands
 
 -- what stands between two places
-between_is : (before inner after : List ℕ) (n : ℕ) → n ≡ length before
+pub between_is : (before inner after : List ℕ) (n : ℕ) → n ≡ length before
     → inner ≡ take ((n + length inner) - n) (drop n (before ++ (inner ++ after)))
 between_is before inner after n e =
     let less : (n + length inner) - n ≡ length inner = omega arith in
@@ -184,7 +184,7 @@ between_is before inner after n e =
     sym (ap₂ (λ (k : ℕ) (l : List ℕ). take k l) less (ap (λ k. drop k (before ++ (inner ++ after))) e ∙ behind) ∙ front)
 
 -- where the content of the envelope begins
-abbrev content_from : List ℕ → ℕ
+abbrev pub content_from : List ℕ → ℕ
 content_from soap = 0 + length (envelope_tag soap)
 
 -- and where the payload does
@@ -226,7 +226,7 @@ blocks_back nothing onto soap (b ∷ bs) at all =
     onto 2 at (frame_scope soap) b.bytes (bytes_of bs) b.tree (content_of (trees_of bs)) all.0
     (λ from. blocks_back nothing onto soap bs from all.1)
 
-children_content : (es : List Element) → children_of (content_of es) ≡ es
+pub children_content : (es : List Element) → children_of (content_of es) ≡ es
 children_content [] = refl
 children_content (e ∷ es) = ap (λ l. e ∷ l) (children_content es)
 
@@ -236,7 +236,7 @@ not_held : (w : ℕ) (ws before after : List ℕ) → [] ≡ before ++ ((w ∷ w
 not_held w ws [] after e = cc
 not_held w ws (b ∷ before) after e = cc
 
-nothing_IsText : IsText [] []
+pub nothing_IsText : IsText [] []
 nothing_IsText = run [] (record {
   chars = record { characters = []; each = tt; coded = refl };
   no_less = λ h. not_held 60 [] h.before h.after h.there;

@@ -1,4 +1,6 @@
 pub mod Moved
-pub mod Weaken
+pub mod Covered
 pub mod Closed
+pub mod BodyTag
 pub mod Framing
+pub mod Tagged

@@ -28,7 +28,7 @@ pub record MovedParts (depth at : ℕ) (bytes : List ℕ) (old : written.Parts) 
   pub is : IsContent depth at bytes raw
   pub same : (scope : List Binding) → resolve_parts scope raw ≡ resolve_parts scope old
 
-onto_same : (bytes : List ℕ) (a b : written.Parts) (scope : List Binding)
+pub onto_same : (bytes : List ℕ) (a b : written.Parts) (scope : List Binding)
     → resolve_parts scope a ≡ resolve_parts scope b
     → resolve_parts scope (onto bytes a) ≡ resolve_parts scope (onto bytes b)
 onto_same [] a b scope e = e
@@ -41,7 +41,7 @@ deep-onto (c ∷ bytes) ps = refl
 abbrev pub with_tag : Option Resolved → (Resolved → Option Parts) → Option Element
 with_tag o inner = elim o [ None ↦ None | Some t ↦ option_map (element t.name t.decls t.attrs) (inner t) ]
 
-inner_same : (o : Option Resolved) (scope : List Binding) (a b : written.Parts)
+pub inner_same : (o : Option Resolved) (scope : List Binding) (a b : written.Parts)
     → ((scope : List Binding) → resolve_parts scope a ≡ resolve_parts scope b)
     → with_tag o (λ t. resolve_parts (t.decls ++ scope) a) ≡ with_tag o (λ t. resolve_parts (t.decls ++ scope) b)
 inner_same None scope a b f = refl

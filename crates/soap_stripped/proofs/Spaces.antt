@@ -7,17 +7,18 @@ use Rattle.std.proofs.lemmas.Bool.{and_parts, or_cases, true≢false}
 use Rattle.soap_lex.specs.Characters.{IsChars, IsName}
 use Rattle.soap_lex.specs.Facts.{same, equal}
 use Rattle.soap_lex.specs.Tests.{is_nil}
+use Rattle.soap_document.specs.Grammar.{IsQName}
 use Rattle.soap_document.specs.declared.attribute.WrittenAttribute.{WrittenAttribute}
 use Rattle.soap_profile.specs.Namespaces.{xml_space, xmlns_space, split, declared_prefix, may_bind, with_declaration}
 use Rattle.soap_profile.specs.Namespaces.{declarations, bound, prefix_space, or_none, element_space, attribute_space}
 use Rattle.soap_profile.specs.Namespaces.{named, element_name, attribute_name}
 use Rattle.rm_base.specs.declared.message.Binding.{Binding}
 use Rattle.soap_profile.specs.declared.name.Expanded.{Expanded}
-use Rattle.soap_writer.specs.Plain.{chars_from}
+use Rattle.soap_writer.specs.Plain.{chars_from, name_from}
 use Rattle.soap_writer.specs.ReadBack.{IsAttributeWritten}
 use Rattle.soap_writer.specs.Writable.{IsNameWritable, IsAttrWritable}
 use Rattle.soap_stripped.specs.Resolved.{IsBindable, IsBinding, AreInForce}
-use Rattle.soap_stripped.proofs.Names.{IsParted}
+use Rattle.soap_stripped.proofs.Names.{IsParted, parted}
 
 pub nil_from : (bytes : List ℕ) → is_nil bytes ≡ true → bytes ≡ []
 nil_from [] e = refl
@@ -29,23 +30,26 @@ not_nil (b ∷ space) prefix e h = cc
 
 -- ---- declarations
 
-xml_bindable : (prefix : List ℕ) → IsBindable prefix xml_space
-xml_bindable prefix = record {
+xml_bindable : (prefix : List ℕ) → bytes_eq prefix (codes "xml") ≡ true → IsBindable prefix xml_space
+xml_bindable prefix is = record {
   chars = chars_from xml_space refl;
   no_xmlns = λ e. true≢false (sym (equal xml_space xmlns_space e));
   some = λ e. absurd (true≢false (sym (equal xml_space [] e)));
+  named = λ n. subst IsName (sym (same prefix (codes "xml") is)) (name_from (codes "xml") refl);
+  may = rw is refl;
 }
 
 not_so : (a b : List ℕ) → not (bytes_eq a b) ≡ true → a ≢ b
 not_so a b e h = let x : not true ≡ true = rw (equal a b h) at e in cc
 
-bindable_at : (prefix space : List ℕ) (is_xml : Bool) → (if is_xml then bytes_eq space xml_space
+bindable_at : (prefix space : List ℕ) (is_xml : Bool) → bytes_eq prefix (codes "xml") ≡ is_xml
+    → may_bind prefix space ≡ true → (if is_xml then bytes_eq space xml_space
     else not (bytes_eq space xml_space) && (not (bytes_eq space xmlns_space)
     && (is_nil prefix || (not (is_nil space) && not (bytes_eq prefix (codes "xmlns")))))) ≡ true → IsChars space
-    → IsBindable prefix space
-bindable_at prefix space true e chars =
-    subst (IsBindable prefix) (sym (same space xml_space e)) (xml_bindable prefix)
-bindable_at prefix space false e chars =
+    → (is_nil prefix ≡ false → IsName prefix) → IsBindable prefix space
+bindable_at prefix space true x may e chars named =
+    subst (IsBindable prefix) (sym (same space xml_space e)) (xml_bindable prefix x)
+bindable_at prefix space false x may e chars named =
     let outer = and_parts (not (bytes_eq space xml_space)) _ e in
     let inner = and_parts (not (bytes_eq space xmlns_space)) _ outer.1 in
     record {
@@ -55,34 +59,54 @@ bindable_at prefix space false e chars =
         | inl default ↦ nil_from prefix default
         | inr other ↦ not_nil space prefix (and_parts (not (is_nil space)) _ other).0 h
       ];
+      named = named;
+      may = may;
     }
 
-bindable : (prefix space : List ℕ) → may_bind prefix space ≡ true → IsChars space → IsBindable prefix space
-bindable prefix space e chars = bindable_at prefix space (bytes_eq prefix (codes "xml")) e chars
+bindable : (prefix space : List ℕ) → may_bind prefix space ≡ true → IsChars space
+    → (is_nil prefix ≡ false → IsName prefix) → IsBindable prefix space
+bindable prefix space may chars named =
+    bindable_at prefix space (bytes_eq prefix (codes "xml")) refl may may chars named
+
+-- what a declaration declares is a name, or the default
+prefix_at : (local prefix : List ℕ) (a b : Bool) → (if a then Some [] else if b then Some local else None)
+    ≡ Some prefix → IsName local → is_nil prefix ≡ false → IsName prefix
+prefix_at local prefix true b e is some =
+    let default : [] ≡ prefix = cc in
+    absurd (true≢false (subst (λ (p : List ℕ). is_nil p ≡ false) (sym default) some))
+prefix_at local prefix false true e is some = let one : local ≡ prefix = cc in subst IsName one is
+prefix_at local prefix false false e is some = cc
+
+declared_named : (name prefix : List ℕ) → IsQName name → declared_prefix name ≡ Some prefix → is_nil prefix ≡ false
+    → IsName prefix
+declared_named name prefix q e =
+    prefix_at (split name).1 prefix (bytes_eq name (codes "xmlns")) (bytes_eq (split name).0 (codes "xmlns")) e
+    (parted q).local
 
 bind_at : (prefix value : List ℕ) (may : Bool) (later : Option (List Binding)) (decls : List Binding)
     → may_bind prefix value ≡ may → (if may then option_map (λ bindings. record { prefix = prefix; space = value }
-    ∷ bindings) later else None) ≡ Some decls → IsChars value
+    ∷ bindings) later else None) ≡ Some decls → IsChars value → (is_nil prefix ≡ false → IsName prefix)
     → ((ds : List Binding) → later ≡ Some ds → AllByRecursion IsBinding ds) → AllByRecursion IsBinding decls
-bind_at prefix value false later decls m e chars more = cc
-bind_at prefix value true None decls m e chars more = cc
-bind_at prefix value true (Some ds) decls m e chars more =
+bind_at prefix value false later decls m e chars named more = cc
+bind_at prefix value true None decls m e chars named more = cc
+bind_at prefix value true (Some ds) decls m e chars named more =
     let is : record { prefix = prefix; space = value } ∷ ds ≡ decls = cc in
-    subst (AllByRecursion IsBinding) is (bindable prefix value m chars, more ds refl)
+    subst (AllByRecursion IsBinding) is (bindable prefix value m chars named, more ds refl)
 
 declare_at : (value : List ℕ) (p : Option (List ℕ)) (later : Option (List Binding)) (decls : List Binding)
     → with_declaration p value later ≡ Some decls → IsChars value
+    → ((prefix : List ℕ) → p ≡ Some prefix → is_nil prefix ≡ false → IsName prefix)
     → ((ds : List Binding) → later ≡ Some ds → AllByRecursion IsBinding ds) → AllByRecursion IsBinding decls
-declare_at value None later decls e chars more = more decls e
-declare_at value (Some prefix) later decls e chars more =
-    bind_at prefix value (may_bind prefix value) later decls refl e chars more
+declare_at value None later decls e chars named more = more decls e
+declare_at value (Some prefix) later decls e chars named more =
+    bind_at prefix value (may_bind prefix value) later decls refl e chars (named prefix refl) more
 
 pub declared_bind : (attributes : List WrittenAttribute) → AllByRecursion IsAttributeWritten attributes
     → (decls : List Binding) → declarations attributes ≡ Some decls → AllByRecursion IsBinding decls
 declared_bind [] all decls e = let is : [] ≡ decls = cc in subst (AllByRecursion IsBinding) is tt
 declared_bind (a ∷ attributes) all decls e =
     declare_at a.value (declared_prefix a.name) (declarations attributes) decls e all.0.chars
-    (declared_bind attributes all.1)
+    (λ prefix d. declared_named a.name prefix all.0.qname d) (declared_bind attributes all.1)
 
 -- ---- names
 
@@ -91,6 +115,8 @@ nothing_bindable = record {
   chars = chars_from [] refl;
   no_xmlns = λ d. true≢false (sym (equal [] xmlns_space d));
   some = λ d. refl;
+  named = λ d. absurd (true≢false d);
+  may = refl;
 }
 
 -- a name with this local part, in a namespace to which the prefix may be bound
@@ -117,11 +143,11 @@ no_default : (name : List ℕ) → declared_prefix name ≡ None → name ≢ co
 no_default name e is = let x = rw (equal name (codes "xmlns") is) at e in cc
 
 module _ (scope : List Binding) (outer : AreInForce scope) where
-  prefixed_at : (prefix space : List ℕ) (is_xml : Bool) → (if is_xml then Some xml_space else bound prefix scope)
-      ≡ Some space → IsBindable prefix space
-  prefixed_at prefix space true e =
-      let is : xml_space ≡ space = cc in subst (IsBindable prefix) is (xml_bindable prefix)
-  prefixed_at prefix space false e = outer prefix space e
+  prefixed_at : (prefix space : List ℕ) (is_xml : Bool) → bytes_eq prefix (codes "xml") ≡ is_xml
+      → (if is_xml then Some xml_space else bound prefix scope) ≡ Some space → IsBindable prefix space
+  prefixed_at prefix space true x e =
+      let is : xml_space ≡ space = cc in subst (IsBindable prefix) is (xml_bindable prefix x)
+  prefixed_at prefix space false x e = outer prefix space e
 
   default_at : (space : List ℕ) (o : Option (List ℕ)) → bound [] scope ≡ o → or_none o ≡ Some space
       → IsBindable [] space
@@ -133,14 +159,14 @@ module _ (scope : List Binding) (outer : AreInForce scope) where
   element_at prefix space true d e =
       subst (λ (p : List ℕ). IsBindable p space) (sym (nil_from prefix d))
       (default_at space (bound [] scope) refl e)
-  element_at prefix space false d e = prefixed_at prefix space (bytes_eq prefix (codes "xml")) e
+  element_at prefix space false d e = prefixed_at prefix space (bytes_eq prefix (codes "xml")) refl e
 
   attribute_at : (prefix space : List ℕ) (t : Bool) → is_nil prefix ≡ t
       → (if t then Some [] else prefix_space prefix scope) ≡ Some space → IsBindable prefix space
   attribute_at prefix space true d e =
       let is : [] ≡ space = cc in
       subst (λ (p : List ℕ). IsBindable p space) (sym (nil_from prefix d)) (subst (IsBindable []) is nothing_bindable)
-  attribute_at prefix space false d e = prefixed_at prefix space (bytes_eq prefix (codes "xml")) e
+  attribute_at prefix space false d e = prefixed_at prefix space (bytes_eq prefix (codes "xml")) refl e
 
   -- the name of an element may be written
   pub element_named : (written : List ℕ) (name : Expanded) → IsName (split written).1

@@ -1,21 +1,24 @@
 -- What the elements of a document are once their names are resolved, so that they may be written without their
 -- declarations: Namespaces in XML 1.0, sections 2 to 6.
-use Rattle.std.specs.Prelude.{◌≡◌, ◌≢◌, ◌≤◌, ℕ, ◌+◌, List, [], Some}
+use Rattle.std.specs.Prelude.{◌≡◌, ◌≢◌, ◌≤◌, ℕ, ◌+◌, List, [], Some, true, false}
 use Rattle.std.specs.List.{AllByRecursion}
 use Rattle.soap_document.specs.Grammar.{max_depth}
-use Rattle.soap_lex.specs.Characters.{IsChars}
-use Rattle.soap_profile.specs.Namespaces.{xmlns_space, bound}
+use Rattle.soap_lex.specs.Characters.{IsChars, IsName}
+use Rattle.soap_lex.specs.Tests.{is_nil}
+use Rattle.soap_profile.specs.Namespaces.{xmlns_space, bound, may_bind}
 use Rattle.soap_profile.specs.Payload.{height}
 use Rattle.soap_profile.specs.Tree.{Element, element, Parts, none, text, child, without_declarations}
 use Rattle.rm_base.specs.declared.message.Binding.{Binding}
 use Rattle.soap_writer.specs.Writable.{IsWritable}
 
--- a prefix may be bound so: to characters, not to the namespace of declarations, and to nothing only if it is the
--- default (3, 5, 6.2)
+-- a prefix may be bound so: a name, or the default, to characters, not to the namespace of declarations, and to nothing
+-- only if it is the default (3, 5, 6.2)
 pub record IsBindable (prefix space : List ℕ) : Type 0 where
   pub chars : IsChars space
   pub no_xmlns : space ≢ xmlns_space
   pub some : space ≡ [] → prefix ≡ []
+  pub named : is_nil prefix ≡ false → IsName prefix
+  pub may : may_bind prefix space ≡ true
 
 -- a declaration binds its prefix so
 abbrev pub IsBinding : Binding → Type 0

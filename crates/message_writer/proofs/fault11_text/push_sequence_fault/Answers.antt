@@ -1,0 +1,9 @@
+use Rattle.soap_nodes.specs.Node.{tag_name}
+use Rattle.message_writer.proofs.TextLemmas.{around_two}
+use Rattle.message_writer.proofs.fault11_text.push_sequence_fault.Goals as goal
+
+pub returns : goal.returns
+unfolding tag_name
+returns c =
+    around_two c.args.out.now.items _ _ _ c.push_close.new.out.items _ _ _ _ c.in_ok-push_start.ensures.ok
+    c.in_ok-push_fault_code.ensures c.in_ok-push_told_detail.ensures c.in_ok-push_close.ensures.ok
