@@ -1,0 +1,8 @@
+//! Tests of `soap11_gate`: envelopes of SOAP 1.1 as they are read, and the texts that messages are lifted and lowered
+//! to, byte for byte.
+#![tactic(auto)]
+
+#[cfg(test)]
+mod rows;
+#[cfg(test)]
+mod texts;
