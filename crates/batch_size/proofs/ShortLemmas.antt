@@ -14,7 +14,7 @@ use Rattle.wsa_headers.specs.Endpoint.{params_length}
 use Rattle.wsa_headers.specs.Writable.{IsEprWritable, IsParamWritable as IsParamKept}
 use Rattle.record_batch.specs.Batch.{batch_text}
 use Rattle.record_batch.specs.Fact.{Fact, Made, Creating, Created, Granted, Accepted, Acked, Received, Closing}
-use Rattle.record_batch.specs.Fact.{ClosedOut, Closed, Ending, EndedOut, Ended, Failed}
+use Rattle.record_batch.specs.Fact.{ClosedOut, Closed, Ending, EndedOut, Ended, Failed, Consumed, Dropped, Purged}
 use Rattle.record_batch.specs.Writable.{IsShortParam, IsShortEndpoint, IsShortBinding, IsShortPayload, IsShortFact}
 use Rattle.record_batch.specs.Writable.{IsShortBatch, IsBindingWritable, IsPayloadWritable, IsParamWritable}
 use Rattle.record_batch.specs.Writable.{IsEndpointWritable, IsWritable, IsBatch}
@@ -73,6 +73,9 @@ short-fact (Ending seq ticket) h = tt
 short-fact (EndedOut seq) h = tt
 short-fact (Ended seq v last) h = tt
 short-fact (Failed seq fault) h = tt
+short-fact (Consumed seq upto) h = tt
+short-fact (Dropped seq upto) h = tt
+short-fact (Purged seq rs) h = omega (arith, h)
 
 short-facts : (facts : List Fact) → sum_by fact_size facts ≤ 4294967295 → AllByRecursion IsShortFact facts
 short-facts [] h = tt
@@ -96,6 +99,9 @@ some-fact (Ending seq ticket) = omega arith
 some-fact (EndedOut seq) = omega arith
 some-fact (Ended seq v last) = omega arith
 some-fact (Failed seq fault) = omega arith
+some-fact (Consumed seq upto) = omega arith
+some-fact (Dropped seq upto) = omega arith
+some-fact (Purged seq rs) = omega arith
 
 pub short-batch : (facts : List Fact) → length (batch_text facts) ≤ 4294967295 → IsShortBatch facts
 short-batch facts h = record {
@@ -169,6 +175,10 @@ kept-fact reads (Ending seq ticket) typed kept h = typed
 kept-fact reads (EndedOut seq) typed kept h = typed
 kept-fact reads (Ended seq v last) typed kept h = typed
 kept-fact reads (Failed seq fault) typed kept h = typed
+kept-fact reads (Consumed seq upto) typed kept h = typed
+kept-fact reads (Dropped seq upto) typed kept h = typed
+kept-fact reads (Purged seq rs) typed kept h =
+    (typed.0, record { few = omega (arith, h); canonical = typed.1 })
 
 kept-facts : ReadsBack → (facts : List Fact) → AllByRecursion IsTyped facts → AllByRecursion AreKept facts
     → sum_by fact_size facts ≤ 4294967295 → AllByRecursion IsWritable facts

@@ -8,9 +8,9 @@ use Rattle.wsa_headers.specs.declared.endpoint.Epr.{Epr}
 use Rattle.record_batch.specs.declared.record.OwnOffer.{OwnOffer}
 use Rattle.record_batch.specs.declared.record.PeerOffer.{PeerOffer}
 use Rattle.record_batch.specs.Batch.{made, creating, created, granted, accepted, acked, received, ticketed, stopped}
-use Rattle.record_batch.specs.Batch.{failed, fact_text, fact, batch_text}
+use Rattle.record_batch.specs.Batch.{failed, reached, purged, fact_text, fact, batch_text}
 use Rattle.record_batch.specs.Fact.{Fact, Made, Creating, Created, Granted, Accepted, Acked, Received, Closing}
-use Rattle.record_batch.specs.Fact.{ClosedOut, Closed, Ending, EndedOut, Ended, Failed}
+use Rattle.record_batch.specs.Fact.{ClosedOut, Closed, Ending, EndedOut, Ended, Failed, Consumed, Dropped, Purged}
 use Rattle.record_batch.specs.Format.{Format, byte, number32, number64, text, ◌&◌, optional, counted}
 use Rattle.record_batch.specs.Parts.{identifier, behaviour, cause, lapse, via, own_offer, ranges, range, payload}
 use Rattle.record_batch.specs.Parts.{binding, endpoint, param, peer_offer}
@@ -120,7 +120,7 @@ takes-created =
 
 -- a record
 pub length-fact_text : (f : Fact) → length (fact_text f) ≡ fact_size f
-unfolding made creating created granted accepted acked received ticketed stopped failed
+unfolding made creating created granted accepted acked received ticketed stopped failed reached purged
 length-fact_text (Made node to) =
     omega (arith, takes-both number64 text _ _ takes-number64 takes-text (node, to))
 length-fact_text (Creating ticket to v l offer) =
@@ -174,6 +174,12 @@ length-fact_text (Ended seq v last) =
     )
 length-fact_text (Failed seq fault) =
     omega (arith, takes-both number32 byte _ (λ b. 1) takes-number32 (λ b. refl) (seq, fault))
+length-fact_text (Consumed seq upto) =
+    omega (arith, takes-both number32 number64 _ _ takes-number32 takes-number64 (seq, upto))
+length-fact_text (Dropped seq upto) =
+    omega (arith, takes-both number32 number64 _ _ takes-number32 takes-number64 (seq, upto))
+length-fact_text (Purged seq rs) =
+    omega (arith, takes-both number32 ranges _ _ takes-number32 takes-ranges (seq, rs))
 
 -- a batch
 pub batch_text_length : (facts : List Fact) → length (batch_text facts) ≡ batch_size facts

@@ -9,7 +9,7 @@ use Rattle.wsa_headers.specs.declared.endpoint.Epr.{Epr}
 use Rattle.record_batch.specs.declared.record.OwnOffer.{OwnOffer}
 use Rattle.record_batch.specs.declared.record.PeerOffer.{PeerOffer}
 use Rattle.record_batch.specs.Fact.{Fact, Made, Creating, Created, Granted, Accepted, Acked, Received, Closing}
-use Rattle.record_batch.specs.Fact.{ClosedOut, Closed, Ending, EndedOut, Ended, Failed}
+use Rattle.record_batch.specs.Fact.{ClosedOut, Closed, Ending, EndedOut, Ended, Failed, Consumed, Dropped, Purged}
 
 -- a count as a number of 64 bits tells it, which stands still at its greatest value
 abbrev pub capped : ℕ → ℕ
@@ -68,6 +68,9 @@ fact_size (Ending seq ticket) = 13
 fact_size (EndedOut seq) = 5
 fact_size (Ended seq cause last) = 14
 fact_size (Failed seq fault) = 6
+fact_size (Consumed seq upto) = 13
+fact_size (Dropped seq upto) = 13
+fact_size (Purged seq ranges) = 9 + 16 * length ranges
 
 -- a batch of records: how many there are, and each of them
 abbrev pub batch_size : List Fact → ℕ

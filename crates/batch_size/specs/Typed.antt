@@ -7,14 +7,15 @@ use Rattle.wsa_headers.specs.Writable.{IsEprWritable}
 use Rattle.wsa_headers.specs.declared.endpoint.Epr.{Epr}
 use Rattle.record_batch.specs.declared.record.PeerOffer.{PeerOffer}
 use Rattle.record_batch.specs.Fact.{Fact, Made, Creating, Created, Granted, Accepted, Acked, Received, Closing}
-use Rattle.record_batch.specs.Fact.{ClosedOut, Closed, Ending, EndedOut, Ended, Failed}
+use Rattle.record_batch.specs.Fact.{ClosedOut, Closed, Ending, EndedOut, Ended, Failed, Consumed, Dropped, Purged}
 use Rattle.record_batch.specs.Writable.{IsNumber32, IsNumber64, IsLapseWritable, IsOwnOfferWritable}
 
 -- the offer names its sequence by an identifier
 abbrev pub IsPeerOfferTyped : PeerOffer → Type 0
 IsPeerOfferTyped offer = IsText 512 offer.ident
 
--- numbers keep their widths, addresses and identifiers are texts, and acknowledged numbers are canonical ranges
+-- numbers keep their widths, addresses and identifiers are texts, and acknowledged and purged numbers are canonical
+-- ranges
 abbrev pub IsTyped : Fact → Type 0
 IsTyped (Made node address) = IsNumber64 node × IsText 2048 address
 IsTyped (Creating ticket to via lapse offer) =
@@ -33,6 +34,9 @@ IsTyped (Ending seq ticket) = IsNumber32 seq × IsNumber64 ticket
 IsTyped (EndedOut seq) = IsNumber32 seq
 IsTyped (Ended seq cause last) = IsNumber32 seq × IsNumber64 last
 IsTyped (Failed seq fault) = IsNumber32 seq × (fault < 256)
+IsTyped (Consumed seq upto) = IsNumber32 seq × IsNumber64 upto
+IsTyped (Dropped seq upto) = IsNumber32 seq × IsNumber64 upto
+IsTyped (Purged seq ranges) = IsNumber32 seq × IsCanonical ranges
 
 -- the endpoint reference of an offer
 abbrev pub offered_to : Option PeerOffer → List Epr

@@ -68,7 +68,8 @@ fn accepted_len(seq: u32, payload: &Blob) -> u64
     (payload.len() as u64).saturating_add(5 + u32_len(seq))
 }
 
-fn acked_len(seq: u32, numbers: &RangeSet) -> u64
+// Acked and Purged.
+fn numbers_len(seq: u32, numbers: &RangeSet) -> u64
     ensures len { result ≡ capped (9 + 16 * length numbers.now.ranges) }
     ensures typed { IsNumber32 seq × IsCanonical numbers.now.ranges }
 {
@@ -109,7 +110,7 @@ fn record_len(alloc: Global, given: &Record) -> Result<u64, Memory>
             Ok(places.saturating_add(granted_len(*counter, message_id, *deadline, *lapse)))
         }
         Record::Accepted { seq, payload } => Ok(accepted_len(*seq, payload)),
-        Record::Acked { seq, numbers } => Ok(acked_len(*seq, numbers)),
+        Record::Acked { seq, numbers } => Ok(numbers_len(*seq, numbers)),
         Record::Received {
             seq,
             number,
@@ -122,6 +123,9 @@ fn record_len(alloc: Global, given: &Record) -> Result<u64, Memory>
         Record::EndedOut { seq } => Ok(1 + u32_len(*seq)),
         Record::Ended { seq, last, .. } => Ok(2 + u32_len(*seq) + u64_len(*last)),
         Record::Failed { seq, fault } => Ok(1 + u32_len(*seq) + u8_len(*fault)),
+        Record::Consumed { seq, upto } => Ok(1 + u32_len(*seq) + u64_len(*upto)),
+        Record::Dropped { seq, upto } => Ok(1 + u32_len(*seq) + u64_len(*upto)),
+        Record::Purged { seq, numbers } => Ok(numbers_len(*seq, numbers)),
     }
 }
 

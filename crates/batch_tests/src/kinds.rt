@@ -1,6 +1,6 @@
 //! The bytes of a batch of each kind of record.
 use crate::parts::{
-    NEVER, accepted, acked, endpoint, ident, is_written, is_written_again, received, uri,
+    NEVER, accepted, acked, endpoint, ident, is_written, is_written_again, purged, received, uri,
 };
 use record_batch::{OwnOffer, PeerOffer, Record, Via, read_batch};
 use rm_base::{Behaviour, Binding, Blob, Cause, Items, Lapse, Memory, Payload};
@@ -156,6 +156,29 @@ fn payloads_and_acknowledgements(rt: HostRuntime) -> Result<(), Fail> {
     assert!(rt; is_written(alloc, known, bytes)?);
     let known = received(alloc, 2, 3, "<p/>")?;
     let bytes = b"\0\0\0\x01\x07\0\0\0\x02\0\0\0\0\0\0\0\x03\0\0\0\x04<p/>\0\0\0\0";
+    assert!(rt; is_written(alloc, known, bytes)?);
+    Ok(())
+}
+
+#[test]
+fn what_was_consumed_and_what_is_gone(rt: HostRuntime) -> Result<(), Fail> {
+    let alloc = rt.alloc();
+    let known = Record::Consumed { seq: 2, upto: 3 };
+    assert!(rt; is_written(alloc, known, b"\0\0\0\x01\x0f\0\0\0\x02\0\0\0\0\0\0\0\x03")?);
+    let known = Record::Dropped { seq: 1, upto: 258 };
+    assert!(rt;
+        is_written(
+            alloc,
+            known,
+            b"\0\0\0\x01\x10\0\0\0\x01\0\0\0\0\0\0\x01\x02"
+        )?
+    );
+    let known = Record::Dropped { seq: 1, upto: 0 };
+    assert!(rt; is_written(alloc, known, b"\0\0\0\x01\x10\0\0\0\x01\0\0\0\0\0\0\0\0")?);
+    let known = purged(alloc, 2, &[])?;
+    assert!(rt; is_written(alloc, known, b"\0\0\0\x01\x11\0\0\0\x02\0\0\0\0")?);
+    let known = purged(alloc, 2, [(1, 3)].as_slice())?;
+    let bytes = b"\0\0\0\x01\x11\0\0\0\x02\0\0\0\x01\0\0\0\0\0\0\0\x01\0\0\0\0\0\0\0\x03";
     assert!(rt; is_written(alloc, known, bytes)?);
     Ok(())
 }

@@ -48,6 +48,11 @@ pub(crate) fn acked(alloc: Global, seq: u32, ranges: &[(u64, u64)]) -> Result<Re
     Ok(Record::Acked { seq, numbers })
 }
 
+pub(crate) fn purged(alloc: Global, seq: u32, ranges: &[(u64, u64)]) -> Result<Record, Fail> {
+    let numbers = numbers(alloc, ranges)?;
+    Ok(Record::Purged { seq, numbers })
+}
+
 pub(crate) fn received(alloc: Global, seq: u32, number: u64, text: &str) -> Result<Record, Fail> {
     let bytes = Blob::from_slice(alloc, text.as_bytes())?;
     let payload = Payload {

@@ -16,7 +16,7 @@ fn bytes_that_are_cut_or_left(rt: HostRuntime) -> Result<(), Fail> {
     // There is no second record.
     assert!(rt; is_refused(alloc, b"\0\0\0\x02\x09\0\0\0\x01", 9));
     // There is no such kind.
-    assert!(rt; is_refused(alloc, b"\0\0\0\x01\x0f\0\0\0\x01", 4));
+    assert!(rt; is_refused(alloc, b"\0\0\0\x01\x12\0\0\0\x01", 4));
     Ok(())
 }
 

@@ -1,5 +1,6 @@
 //! Tests of rm_destination. What a test does stands in a helper that answers a plain value, since a test with many
 //! steps is slow to prove.
+use ack_ranges::RangeSet;
 use rm_base::{Behaviour, Blob, Cause, Items, MAX_NUMBER, Memory, Payload};
 use rm_destination::{DestError, InPhase, Incoming, Took};
 use std::alloc::Global;
@@ -329,5 +330,120 @@ fn room_is_made_used_and_given_up(rt: HostRuntime) -> Result<(), Fail> {
     assert!(rt; takes_three(rt.alloc(), &mut inc));
     assert!(rt; inc.inbox_len() == 3);
     assert!(rt; inc.messages().len() == 4);
+    Ok(())
+}
+
+// Whether consuming up to 2 and 1 of three items, and past them, answers so.
+fn consumes_in_order(inc: &mut Incoming) -> bool {
+    let mut is_so = inc.consumed() == 0;
+    is_so &= inc.consume(4) == Err(DestError::PastInbox { have: 3 });
+    is_so &= inc.consume(2) == Ok(true);
+    is_so &= inc.consume(1) == Ok(false);
+    is_so &= inc.consume(2) == Ok(false);
+    is_so &= inc.consumed() == 2;
+    is_so &= inc.consume(3) == Ok(true);
+    is_so & (inc.consumed() == 3)
+}
+
+#[test]
+fn the_cursor_goes_on_within_the_inbox(rt: HostRuntime) -> Result<(), Fail> {
+    let mut inc = with(rt.alloc(), Behaviour::FollowingFirstGap, &[1, 2, 3, 5])?;
+    assert!(rt; consumes_in_order(&mut inc));
+    assert!(rt; releases(&inc, &[1, 2, 3]));
+    Ok(())
+}
+
+// A sequence whose messages 1 and 2 were consumed and are gone.
+fn behind_two(alloc: Global, behaviour: Behaviour) -> Result<Incoming, Memory> {
+    let mut numbers = RangeSet::new(alloc);
+    numbers.insert_range(1, 2)?;
+    let mut inc = Incoming::new(alloc, behaviour, None);
+    inc.restore(&numbers)?;
+    Ok(inc)
+}
+
+// Whether the items 1 and 2 of the inbox are gone, and those from 3 on are these bytes.
+fn releases_behind_two(inc: &Incoming, bytes: &[u8]) -> bool {
+    let are_gone = inc.inbox_item(1).is_none() & inc.inbox_item(2).is_none();
+    let mut are_so = are_gone & (inc.inbox_len() == bytes.len() as u64 + 2);
+    for i in 0..bytes.len() {
+        are_so &= is_byte(inc.inbox_item(i as u64 + 3), bytes[i]);
+    }
+    are_so
+}
+
+// Whether the numbers 1 and 2 are there and consumed, and the window ends 1024 past them.
+fn counts_two(inc: &Incoming) -> bool {
+    let past = Took::PastWindow { front: 2 };
+    let is_second_there = inc.probe(2, 0) == Ok(Took::Duplicate);
+    let ends_window = (inc.probe(1026, 0) == Ok(Took::New)) & (inc.probe(1027, 0) == Ok(past));
+    (inc.consumed() == 2) & is_second_there & ends_window
+}
+
+// Whether the cursor stays at 2, and goes no further than 5.
+fn consumes_within_five(inc: &mut Incoming) -> bool {
+    let stays = inc.consume(2) == Ok(false);
+    let ends = inc.consume(6) == Err(DestError::PastInbox { have: 5 });
+    stays & ends & (inc.consume(5) == Ok(true))
+}
+
+#[test]
+fn messages_that_are_gone_count(rt: HostRuntime) -> Result<(), Fail> {
+    let mut inc = behind_two(rt.alloc(), Behaviour::FollowingFirstGap)?;
+    assert!(rt; counts_two(&inc));
+    assert!(rt; releases_behind_two(&inc, &[]));
+    take_all(rt.alloc(), &mut inc, &[5, 2, 4, 3])?;
+    assert!(rt; releases_behind_two(&inc, &[3, 4, 5]));
+    assert!(rt; are_bytes(inc.messages(), &[5, 4, 3]));
+    assert!(rt; consumes_within_five(&mut inc));
+    Ok(())
+}
+
+// An entire sequence that got message 3, whose messages 1 and 2 are gone.
+fn entire_behind_two(alloc: Global) -> Result<Incoming, DestError> {
+    let mut inc = behind_two(alloc, Behaviour::EntireSequence)?;
+    take_all(alloc, &mut inc, &[3])?;
+    Ok(inc)
+}
+
+#[test]
+fn an_entire_sequence_counts_what_is_gone(rt: HostRuntime) -> Result<(), Fail> {
+    let mut inc = entire_behind_two(rt.alloc())?;
+    assert!(rt; close(&mut inc, Cause::Peer, Some(3)) == Ok(()));
+    assert!(rt; releases_behind_two(&inc, &[3]));
+    assert!(rt; inc.discarded_len() == 0);
+    Ok(())
+}
+
+#[test]
+fn what_is_gone_may_be_discarded(rt: HostRuntime) -> Result<(), Fail> {
+    let mut inc = entire_behind_two(rt.alloc())?;
+    assert!(rt; close(&mut inc, Cause::Peer, Some(4)) == Ok(()));
+    assert!(rt; has_so_many(&inc, 0, 3));
+    assert!(rt; inc.discarded_item(1).is_none() & inc.discarded_item(2).is_none());
+    assert!(rt; is_byte(inc.discarded_item(3), 3));
+    Ok(())
+}
+
+// Whether it gives up the first two of three items, which are consumed, and keeps a message behind the gap.
+fn gives_up_two(inc: &mut Incoming) -> bool {
+    let is_consumed = inc.consume(2) == Ok(true);
+    inc.forget();
+    let are_there = releases_behind_two(inc, &[3]) & are_bytes(inc.messages(), &[5, 3]);
+    is_consumed & are_there & counts_received(inc)
+}
+
+// Whether the numbers 1 to 3 and 5 are received, for good.
+fn counts_received(inc: &Incoming) -> bool {
+    let received = inc.received();
+    (received.count() == 4) & received.has(1) & (received.front() == 3) & (received.greatest() == 5)
+}
+
+#[test]
+fn payloads_that_are_consumed_are_given_up(rt: HostRuntime) -> Result<(), Fail> {
+    let mut inc = with(rt.alloc(), Behaviour::FollowingFirstGap, &[5, 2, 1, 3])?;
+    assert!(rt; gives_up_two(&mut inc));
+    take_all(rt.alloc(), &mut inc, &[2, 4])?;
+    assert!(rt; releases_behind_two(&inc, &[3, 4, 5]));
     Ok(())
 }

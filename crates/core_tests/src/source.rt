@@ -215,3 +215,63 @@ fn room_is_made_used_and_given_up(rt: HostRuntime) {
     assert!(rt; numbers_three(rt.alloc(), &mut out));
     assert!(rt; numbers_a_fourth(rt.alloc(), &mut out));
 }
+
+// What beginning behind a number answers, or None where something was accepted.
+fn restore(out: &mut Outgoing, upto: u64) -> Option<Result<(), Memory>> {
+    if out.accepted_len() == 0 && 0 < upto && upto <= MAX_NUMBER {
+        return Some(out.restore(upto));
+    }
+    None
+}
+
+// Whether three payloads are gone then, all of them acknowledged.
+fn begins_behind_three(out: &mut Outgoing) -> bool {
+    let had_none = out.dropped() == 0;
+    let is_restored = restore(out, 3) == Some(Ok(()));
+    let are_gone = (out.dropped() == 3) & (out.accepted_len() == 3) & (out.unacked() == 0);
+    had_none & is_restored & are_gone & has_ranges(out.acked(), &[(1, 3)])
+}
+
+// Whether it gives the next two payloads the numbers 4 and 5, and has these alone.
+fn counts_on(alloc: Global, out: &mut Outgoing) -> bool {
+    let fourth = gives(alloc, out, b"four", 4);
+    let fifth = gives(alloc, out, b"five", 5);
+    let are_there = has_payload(out, 4, b"four") & has_payload(out, 5, b"five");
+    fourth & fifth & are_there & has_none(out, 0) & has_none(out, 3) & has_none(out, 6)
+}
+
+#[test]
+fn payloads_that_are_gone_count(rt: HostRuntime) {
+    let mut out = fresh(rt.alloc(), OutPhase::Open);
+    assert!(rt; begins_behind_three(&mut out));
+    assert!(rt; counts_on(rt.alloc(), &mut out));
+    assert!(rt; out.unacked() == 2);
+    assert!(rt; is_never_given(rt.alloc(), &mut out, &[(6, 6)], 6));
+    assert!(rt; learns(rt.alloc(), &mut out, &[(2, 4)], true));
+    assert!(rt; has_ranges(out.acked(), &[(1, 4)]));
+}
+
+#[test]
+fn numbers_may_be_used_up_by_what_is_gone(rt: HostRuntime) {
+    let mut out = fresh(rt.alloc(), OutPhase::Open);
+    assert!(rt; restore(&mut out, MAX_NUMBER) == Some(Ok(())));
+    assert!(rt; accept(rt.alloc(), &mut out, b"") == Err(SourceError::Rollover));
+}
+
+// Whether of four payloads the first two are given up, the greatest number up to which all are acknowledged.
+fn gives_up_two(alloc: Global, out: &mut Outgoing) -> bool {
+    let is_new = learns(alloc, out, &[(1, 2), (4, 4)], true);
+    out.settle();
+    let are_gone = (out.dropped() == 2) & has_none(out, 1) & has_none(out, 2);
+    let are_there = has_payload(out, 3, b"") & has_payload(out, 4, b"") & has_none(out, 5);
+    is_new & are_gone & are_there & (out.accepted_len() == 4) & (out.unacked() == 1)
+}
+
+#[test]
+fn payloads_are_given_up_to_the_first_gap(rt: HostRuntime) -> Result<(), Fail> {
+    let mut out = open(rt.alloc(), 4)?;
+    assert!(rt; gives_up_two(rt.alloc(), &mut out));
+    assert!(rt; gives(rt.alloc(), &mut out, b"five", 5));
+    assert!(rt; has_payload(&out, 5, b"five"));
+    Ok(())
+}

@@ -16,11 +16,10 @@ use Rattle.record_batch.specs.declared.record.OwnOffer.{OwnOffer}
 use Rattle.record_batch.specs.declared.record.PeerOffer.{PeerOffer}
 use Rattle.record_batch.specs.declared.record.Via.{Via}
 use Rattle.record_batch.specs.Batch.{creating_of, granted_of, made, creating, created, granted, accepted, acked}
-use Rattle.record_batch.specs.Batch.{received, ticketed, stopped}
-use Rattle.record_batch.specs.Batch.{failed, fact_text, read_as, kind_at, fact_at, fact, batch_text, all_of}
-use Rattle.record_batch.specs.Batch.{batch_at}
+use Rattle.record_batch.specs.Batch.{received, ticketed, stopped, failed, reached, purged, fact_text, read_as}
+use Rattle.record_batch.specs.Batch.{kind_at, fact_at, fact, batch_text, all_of, batch_at}
 use Rattle.record_batch.specs.Fact.{Fact, Made, Creating, Created, Granted, Accepted, Acked, Received, Closing}
-use Rattle.record_batch.specs.Fact.{ClosedOut, Closed, Ending, EndedOut, Ended, Failed}
+use Rattle.record_batch.specs.Fact.{ClosedOut, Closed, Ending, EndedOut, Ended, Failed, Consumed, Dropped, Purged}
 use Rattle.record_batch.specs.Format.{Format, byte, number32, number64, text, ◌&◌, optional, counted, AreBytes}
 use Rattle.record_batch.specs.Format.{IsCounted, IsFront, IsFormat}
 use Rattle.record_batch.specs.Parts.{address, identifier, via, behaviour, cause, lapse, own_offer, ranges, payload}
@@ -134,6 +133,14 @@ pub failed-is : IsFormat failed (λ x. IsNumber32 x.0 × (x.1 < 256))
 unfolding failed
 failed-is = both-is number32 byte IsNumber32 (λ b. b < 256) number32-is byte-is
 
+pub reached-is : IsFormat reached (λ x. IsNumber32 x.0 × IsNumber64 x.1)
+unfolding reached
+reached-is = both-is number32 number64 IsNumber32 IsNumber64 number32-is number64-is
+
+pub purged-is : IsFormat purged (λ x. IsNumber32 x.0 × AreRangesWritable x.1)
+unfolding purged
+purged-is = both-is number32 ranges IsNumber32 AreRangesWritable number32-is ranges-is
+
 -- ---- records
 
 as-again : {A : Type 0} (f : Format A) (F : A → Type 0) (of : A → Fact) → IsFormat f F → (x : A) (rest : List ℕ) → F x
@@ -172,6 +179,12 @@ record-again below (Ended seq v last) rest may =
     as-again stopped _ (λ x. Ended x.0 x.1.0 x.1.1) stopped-is (seq, (v, last)) rest (may.0, (tt, may.1))
 record-again below (Failed seq fault) rest may =
     as-again failed _ (λ x. Failed x.0 x.1) failed-is (seq, fault) rest (may.0, may.1)
+record-again below (Consumed seq upto) rest may =
+    as-again reached _ (λ x. Consumed x.0 x.1) reached-is (seq, upto) rest (may.0, may.1)
+record-again below (Dropped seq upto) rest may =
+    as-again reached _ (λ x. Dropped x.0 x.1) reached-is (seq, upto) rest (may.0, may.1)
+record-again below (Purged seq rs) rest may =
+    as-again purged _ (λ x. Purged x.0 x.1) purged-is (seq, rs) rest (may.0, may.1)
 
 -- a record of one kind that was read
 as-only : {A : Type 0} (f : Format A) (F : A → Type 0) (kind : ℕ) (of : A → Fact) → IsFormat f F
@@ -235,7 +248,13 @@ kind-only below k bytes y rest h e =
     rest h)
     (λ e. pick (eqb k 14) _ _ (y, rest) e
     (λ t. as-only failed _ 14 (λ x. Failed x.0 x.1) failed-is (λ x. refl) (λ x m. (m.0, m.1)) k t bytes y rest h)
-    (λ e. absurd (cc e)))))))))))))))
+    (λ e. pick (eqb k 15) _ _ (y, rest) e
+    (λ t. as-only reached _ 15 (λ x. Consumed x.0 x.1) reached-is (λ x. refl) (λ x m. (m.0, m.1)) k t bytes y rest h)
+    (λ e. pick (eqb k 16) _ _ (y, rest) e
+    (λ t. as-only reached _ 16 (λ x. Dropped x.0 x.1) reached-is (λ x. refl) (λ x m. (m.0, m.1)) k t bytes y rest h)
+    (λ e. pick (eqb k 17) _ _ (y, rest) e
+    (λ t. as-only purged _ 17 (λ x. Purged x.0 x.1) purged-is (λ x. refl) (λ x m. (m.0, m.1)) k t bytes y rest h)
+    (λ e. absurd (cc e))))))))))))))))))
 
 record-only : Below → (bytes : List ℕ) (y : Fact) (rest : List ℕ) → AreBytes bytes → fact_at bytes ≡ Some (y, rest)
     → IsFront fact IsWritable bytes y rest
@@ -318,6 +337,9 @@ short-fact (Ending seq ticket) h = tt
 short-fact (EndedOut seq) h = tt
 short-fact (Ended seq v last) h = tt
 short-fact (Failed seq fault) h = tt
+short-fact (Consumed seq upto) h = tt
+short-fact (Dropped seq upto) h = tt
+short-fact (Purged seq rs) h = omega (arith, h.1.few)
 
 short-facts : (facts : List Fact) → AllByRecursion IsWritable facts → AllByRecursion IsShortFact facts
 short-facts [] h = tt

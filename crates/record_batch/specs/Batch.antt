@@ -14,7 +14,7 @@ use Rattle.record_batch.specs.declared.record.OwnOffer.{OwnOffer}
 use Rattle.record_batch.specs.declared.record.PeerOffer.{PeerOffer}
 use Rattle.record_batch.specs.declared.record.Via.{Via}
 use Rattle.record_batch.specs.Fact.{Fact, Made, Creating, Created, Granted, Accepted, Acked, Received, Closing}
-use Rattle.record_batch.specs.Fact.{ClosedOut, Closed, Ending, EndedOut, Ended, Failed}
+use Rattle.record_batch.specs.Fact.{ClosedOut, Closed, Ending, EndedOut, Ended, Failed, Consumed, Dropped, Purged}
 use Rattle.record_batch.specs.Format.{Format, first_byte, byte, number32, number64, text, ◌&◌, optional, counted}
 use Rattle.record_batch.specs.Parts.{address, identifier, via, behaviour, cause, lapse, own_offer, ranges, payload}
 use Rattle.record_batch.specs.Parts.{endpoint, peer_offer}
@@ -62,6 +62,14 @@ stopped = number32 & cause & number64
 unfoldable pub failed : Format (ℕ × ℕ)
 failed = number32 & byte
 
+-- Consumed and Dropped: the sequence, and the last of the items or messages that it speaks of
+unfoldable pub reached : Format (ℕ × ℕ)
+reached = number32 & number64
+
+-- Purged: the sequence, and the numbers of the messages that are gone
+unfoldable pub purged : Format (ℕ × List Range)
+purged = number32 & ranges
+
 -- ---- records
 
 -- a record: its kind, and what it has
@@ -81,6 +89,9 @@ fact_text (Ending seq ticket) = 11 ∷ ticketed.written (seq, ticket)
 fact_text (EndedOut seq) = 12 ∷ number32.written seq
 fact_text (Ended seq cause last) = 13 ∷ stopped.written (seq, (cause, last))
 fact_text (Failed seq fault) = 14 ∷ failed.written (seq, fault)
+fact_text (Consumed seq upto) = 15 ∷ reached.written (seq, upto)
+fact_text (Dropped seq upto) = 16 ∷ reached.written (seq, upto)
+fact_text (Purged seq ranges) = 17 ∷ purged.written (seq, ranges)
 
 -- what is read in a format, as a record
 abbrev pub read_as : {A : Type 0} → (A → Fact) → Format A → List ℕ → Option (Fact × List ℕ)
@@ -111,7 +122,10 @@ kind_at kind bytes =
     else if kind == 11 then read_as (λ x. Ending x.0 x.1) ticketed bytes
     else if kind == 12 then read_as (λ seq. EndedOut seq) number32 bytes
     else if kind == 13 then read_as (λ x. Ended x.0 x.1.0 x.1.1) stopped bytes
-    else if kind == 14 then read_as (λ x. Failed x.0 x.1) failed bytes else None
+    else if kind == 14 then read_as (λ x. Failed x.0 x.1) failed bytes
+    else if kind == 15 then read_as (λ x. Consumed x.0 x.1) reached bytes
+    else if kind == 16 then read_as (λ x. Dropped x.0 x.1) reached bytes
+    else if kind == 17 then read_as (λ x. Purged x.0 x.1) purged bytes else None
 
 -- the record at the front of bytes
 unfoldable pub fact_at : List ℕ → Option (Fact × List ℕ)

@@ -12,7 +12,7 @@ use Rattle.record_batch.specs.declared.record.Record.{Record}
 use Rattle.record_batch.specs.declared.record.Record.TheVariants as written
 use Rattle.record_batch.specs.declared.record.Via.{Via}
 
--- the fourteen kinds of records, with what each has
+-- the seventeen kinds of records, with what each has
 pub data Fact : Type 0 where
   Made : (node : ℕ) → (address : List ℕ) → Fact
   Creating : (ticket : ℕ) → (to : List ℕ) → (via : Via) → (lapse : Lapse) → (offer : Option OwnOffer) → Fact
@@ -29,6 +29,9 @@ pub data Fact : Type 0 where
   EndedOut : (seq : ℕ) → Fact
   Ended : (seq : ℕ) → (cause : Cause) → (last : ℕ) → Fact
   Failed : (seq : ℕ) → (fault : ℕ) → Fact
+  Consumed : (seq : ℕ) → (upto : ℕ) → Fact
+  Dropped : (seq : ℕ) → (upto : ℕ) → Fact
+  Purged : (seq : ℕ) → (ranges : List Range) → Fact
 
 -- what a record says
 abbrev pub fact_of : Record → Fact
@@ -47,3 +50,6 @@ fact_of (written.Ending seq ticket) = Ending seq ticket
 fact_of (written.EndedOut seq) = EndedOut seq
 fact_of (written.Ended seq cause last) = Ended seq cause last
 fact_of (written.Failed seq fault) = Failed seq fault
+fact_of (written.Consumed seq upto) = Consumed seq upto
+fact_of (written.Dropped seq upto) = Dropped seq upto
+fact_of (written.Purged seq numbers) = Purged seq numbers.ranges

@@ -15,7 +15,7 @@ use Rattle.wsa_headers.specs.declared.endpoint.Epr.{Epr}
 use Rattle.record_batch.specs.declared.record.OwnOffer.{OwnOffer}
 use Rattle.record_batch.specs.declared.record.PeerOffer.{PeerOffer}
 use Rattle.record_batch.specs.Fact.{Fact, Made, Creating, Created, Granted, Accepted, Acked, Received, Closing}
-use Rattle.record_batch.specs.Fact.{ClosedOut, Closed, Ending, EndedOut, Ended, Failed}
+use Rattle.record_batch.specs.Fact.{ClosedOut, Closed, Ending, EndedOut, Ended, Failed, Consumed, Dropped, Purged}
 use Rattle.record_batch.specs.Format.{IsCounted}
 
 -- ---- what has a text: lists and texts whose length has four bytes
@@ -56,6 +56,7 @@ IsShortFact (Granted counter message_id acks_to behaviour deadline lapse offer) 
 IsShortFact (Accepted seq payload) = IsShort payload
 IsShortFact (Acked seq ranges) = IsShort ranges
 IsShortFact (Received seq number payload) = IsShortPayload payload
+IsShortFact (Purged seq ranges) = IsShort ranges
 IsShortFact _ = Unit {0}
 
 -- a batch of such records, not too many
@@ -134,6 +135,9 @@ IsWritable (Ending seq ticket) = IsNumber32 seq × IsNumber64 ticket
 IsWritable (EndedOut seq) = IsNumber32 seq
 IsWritable (Ended seq cause last) = IsNumber32 seq × IsNumber64 last
 IsWritable (Failed seq fault) = IsNumber32 seq × (fault < 256)
+IsWritable (Consumed seq upto) = IsNumber32 seq × IsNumber64 upto
+IsWritable (Dropped seq upto) = IsNumber32 seq × IsNumber64 upto
+IsWritable (Purged seq ranges) = IsNumber32 seq × AreRangesWritable ranges
 
 -- a batch of such records, at least one and not too many
 pub record IsBatch (facts : List Fact) : Type 0 where

@@ -1,6 +1,6 @@
 //! Copies of records.
 ghost use Rattle.std.specs.Prelude.{◌≡◌, IfOk};
-ghost use Rattle.record_batch.specs.Fact.{Acked, Created, Creating, Fact, Received, fact_of};
+ghost use Rattle.record_batch.specs.Fact.{Acked, Created, Creating, Fact, Purged, Received, fact_of};
 
 use crate::record::{OwnOffer, PeerOffer, Record, Via};
 use ack_ranges::RangeSet;
@@ -80,6 +80,16 @@ pub fn copy_acked(seq: u32, numbers: &RangeSet) -> Result<Record, Memory>
     ensures { IfOk result (λ copy. fact_of copy ≡ Acked seq numbers.now.ranges) }
 {
     Ok(Record::Acked {
+        seq,
+        numbers: numbers.copy()?,
+    })
+}
+
+/// A record of the numbers of messages that are gone, with a copy of them.
+pub fn copy_purged(seq: u32, numbers: &RangeSet) -> Result<Record, Memory>
+    ensures { IfOk result (λ copy. fact_of copy ≡ Purged seq numbers.now.ranges) }
+{
+    Ok(Record::Purged {
         seq,
         numbers: numbers.copy()?,
     })
@@ -170,6 +180,15 @@ impl Record {
                 seq: *seq,
                 fault: *fault,
             }),
+            Record::Consumed { seq, upto } => Ok(Record::Consumed {
+                seq: *seq,
+                upto: *upto,
+            }),
+            Record::Dropped { seq, upto } => Ok(Record::Dropped {
+                seq: *seq,
+                upto: *upto,
+            }),
+            Record::Purged { seq, numbers } => copy_purged(*seq, numbers),
         }
     }
 }

@@ -13,7 +13,7 @@ pub mod record;
 pub mod write;
 mod writers;
 
-pub use copy::{copy_acked, copy_payload, copy_received};
+pub use copy::{copy_acked, copy_payload, copy_purged, copy_received};
 pub use error::BatchError;
 pub use read::read_batch;
 pub use record::{OwnOffer, PeerOffer, Record, Records, Via};

@@ -15,6 +15,8 @@ ghost use Rattle.record_batch.specs.Batch.{
   ticketed,
   stopped,
   failed,
+  reached,
+  purged,
   kind_at,
   fact_at,
   batch_at,
@@ -30,6 +32,7 @@ ghost use Rattle.record_batch.specs.Fact.{
   Acked,
   Received,
   Failed,
+  Purged,
 };
 ghost use Rattle.record_batch.specs.Refused.{AreAllRead, IsBatchError, IsStopped};
 ghost use Rattle.record_batch.specs.Writable.{IsBatch};
@@ -169,9 +172,47 @@ fn take_failed(bytes: &[u8]) -> Result<(Record, &[u8]), Flaw>
     Ok((Record::Failed { seq, fault }, rest))
 }
 
+#[tactic(auto, unfolding(crate::specs::Batch::reached))]
+fn take_reached(bytes: &[u8]) -> Result<((u32, u64), &[u8]), Flaw>
+    ensures { Gives (λ x. ((x.0.0, x.0.1), x.1.now)) result (reached.read bytes.now) }
+{
+    let (seq, rest) = take_u32(bytes)?;
+    let (upto, rest) = take_u64(rest)?;
+    Ok(((seq, upto), rest))
+}
+
+#[tactic(auto, unfolding(crate::specs::Batch::purged))]
+fn take_purged(alloc: Global, bytes: &[u8]) -> Result<(Record, &[u8]), Flaw>
+    ensures { Gives (λ x. (fact_of x.0, x.1.now)) result (read_as (λ x. Purged x.0 x.1) purged bytes.now) }
+{
+    let (seq, rest) = take_u32(bytes)?;
+    let (numbers, rest) = take_ranges(alloc, rest)?;
+    Ok((Record::Purged { seq, numbers }, rest))
+}
+
+// What was consumed, and what is gone.
+#[tactic(auto, unfolding(crate::specs::Batch::kind_at))]
+fn take_gone(alloc: Global, kind: u8, bytes: &[u8]) -> Result<(Record, &[u8]), Flaw>
+    requires { 14 < kind }
+    ensures { Gives (λ x. (fact_of x.0, x.1.now)) result (kind_at kind bytes.now) }
+{
+    match kind {
+        15 => {
+            let ((seq, upto), rest) = take_reached(bytes)?;
+            Ok((Record::Consumed { seq, upto }, rest))
+        }
+        16 => {
+            let ((seq, upto), rest) = take_reached(bytes)?;
+            Ok((Record::Dropped { seq, upto }, rest))
+        }
+        17 => take_purged(alloc, bytes),
+        _ => Err(Flaw::Malformed),
+    }
+}
+
 // The records that name a sequence and at most a ticket, or a cause and a last number.
 #[tactic(auto, unfolding(crate::specs::Batch::kind_at))]
-fn take_end(kind: u8, bytes: &[u8]) -> Result<(Record, &[u8]), Flaw>
+fn take_end(alloc: Global, kind: u8, bytes: &[u8]) -> Result<(Record, &[u8]), Flaw>
     requires { 7 < kind }
     ensures { Gives (λ x. (fact_of x.0, x.1.now)) result (kind_at kind bytes.now) }
 {
@@ -201,7 +242,7 @@ fn take_end(kind: u8, bytes: &[u8]) -> Result<(Record, &[u8]), Flaw>
             Ok((Record::Ended { seq, cause, last }, rest))
         }
         14 => take_failed(bytes),
-        _ => Err(Flaw::Malformed),
+        _ => take_gone(alloc, kind, bytes),
     }
 }
 
@@ -218,7 +259,7 @@ fn take_kind(alloc: Global, kind: u8, bytes: &[u8]) -> Result<(Record, &[u8]), F
         5 => take_accepted(alloc, bytes),
         6 => take_acked(alloc, bytes),
         7 => take_received(alloc, bytes),
-        _ => take_end(kind, bytes),
+        _ => take_end(alloc, kind, bytes),
     }
 }
 

@@ -97,6 +97,21 @@ pub enum Record {
         seq: u32,
         fault: u8,
     },
+    /// The application took the items of the inbox up to this one for good.
+    Consumed {
+        seq: u32,
+        upto: u64,
+    },
+    /// The messages 1 to `upto` were accepted and acknowledged, and their payloads are gone.
+    Dropped {
+        seq: u32,
+        upto: u64,
+    },
+    /// Messages with these numbers were received and consumed, and their payloads are gone.
+    Purged {
+        seq: u32,
+        numbers: RangeSet,
+    },
 }
 
 /// Records, oldest first.

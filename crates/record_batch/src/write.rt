@@ -14,6 +14,8 @@ ghost use Rattle.record_batch.specs.Batch.{
   ticketed,
   stopped,
   failed,
+  reached,
+  purged,
 };
 ghost use Rattle.record_batch.specs.Fact.{fact_of};
 ghost use Rattle.record_batch.specs.Format.{optional, number32, number64, ◌&◌};
@@ -214,6 +216,26 @@ fn put_failed(seq: u32, fault: u8, out: &mut Vec<u8>) -> Result<(), Memory>
     Ok(())
 }
 
+// Consumed and Dropped.
+#[tactic(auto, unfolding(crate::specs::Batch::reached))]
+fn put_reached(kind: u8, seq: u32, upto: u64, out: &mut Vec<u8>) -> Result<(), Memory>
+    ensures { OnOk result (out.new.items ≡ out.old.items ++ kind ∷ reached.written (seq, upto)) }
+{
+    out.push(kind)?;
+    put_u32(seq, out)?;
+    put_u64(upto, out)
+}
+
+#[tactic(auto, unfolding(crate::specs::Batch::purged))]
+fn put_purged(seq: u32, numbers: &RangeSet, out: &mut Vec<u8>) -> Result<(), Memory>
+    requires { IsShort numbers.now.ranges }
+    ensures { OnOk result (out.new.items ≡ out.old.items ++ 17 ∷ purged.written (seq, numbers.now.ranges)) }
+{
+    out.push(17)?;
+    put_u32(seq, out)?;
+    put_ranges(numbers, out)
+}
+
 #[tactic(auto, unfolding(crate::specs::Batch::granted))]
 fn put_record(alloc: Global, given: &Record, out: &mut Vec<u8>) -> Result<(), Memory>
     requires { IsShortFact (fact_of given.now) }
@@ -255,6 +277,9 @@ fn put_record(alloc: Global, given: &Record, out: &mut Vec<u8>) -> Result<(), Me
         Record::EndedOut { seq } => put_out(12, *seq, out),
         Record::Ended { seq, cause, last } => put_stopped(13, *seq, *cause, *last, out),
         Record::Failed { seq, fault } => put_failed(*seq, *fault, out),
+        Record::Consumed { seq, upto } => put_reached(15, *seq, *upto, out),
+        Record::Dropped { seq, upto } => put_reached(16, *seq, *upto, out),
+        Record::Purged { seq, numbers } => put_purged(*seq, numbers, out),
     }
 }
 

@@ -1,16 +1,16 @@
 -- The inbox and the discarded messages, as parts of all messages by number.
 use Rattle.std.proofs.Common.{◌≡◌, ℕ, zero, suc, ◌+◌, ◌-◌, ◌<◌, ◌≤◌, Bool, true, false, cond, ◌==◌, List, [], ◌∷◌}
-use Rattle.std.proofs.Common.{length, take, drop, refl, sym, ap, ◌∙◌, arith}
+use Rattle.std.proofs.Common.{None, length, take, drop, refl, sym, ap, ◌∙◌, arith}
 use Rattle.std.specs.Prelude.{slice_get}
 use Rattle.std.proofs.Math.Seq.{take-length}
+use Rattle.std.proofs.lemmas.Option.{slice_get_past}
 use Rattle.std.proofs.lemmas.Bool.Decides.{nat_tests}
 use Rattle.rm_base.specs.declared.message.Behaviour.{Behaviour}
 use Rattle.rm_base.specs.declared.message.Behaviour.TheVariants.{NoDiscard, EntireSequence, FollowingFirstGap}
-use Rattle.rm_base.specs.declared.message.Payload.{Payload}
-use Rattle.rm_base.specs.Numbered.{numbered}
-use Rattle.rm_destination.specs.Incoming.{Receiving, is_stopped, is_whole_by, inbox_of, discarded_of, inbox, discarded}
+use Rattle.rm_destination.specs.Incoming.{Receiving, items, is_stopped, is_whole_by, inbox_of, discarded_of, inbox}
+use Rattle.rm_destination.specs.Incoming.{discarded}
 use Rattle.rm_destination.specs.MessageLemmas.{without_gap-take}
-use Rattle.rm_destination.specs.Messages.{by_number, contents_of}
+use Rattle.rm_destination.specs.Messages.{Item, by_number, contents_of, payload_in, item_at}
 
 -- the first of a list are its first
 slice_get-take : {A : Type 0} → (n : ℕ) (xs : List A) (k : ℕ) → k < n → slice_get (take n xs) k ≡ slice_get xs k
@@ -27,18 +27,24 @@ slice_get-drop (suc n) (x ∷ xs) k =
     let more : suc n + k ≡ suc (n + k) = omega arith in
     rw more (slice_get-drop n xs k)
 
--- the item with a number, among the first items of a list
-numbered-first : {A : Type 0} → (xs ys : List A) (i : ℕ) → ys ≡ take (length ys) xs → 0 < i → i ≤ length ys
-    → slice_get xs (i - 1) ≡ numbered ys i
-numbered-first xs ys i h from to =
+-- the payload at a place, among the first items of a list
+item_at-first : (xs ys : List Item) (i : ℕ) → ys ≡ take (length ys) xs → i ≤ length ys → item_at xs i ≡ item_at ys i
+item_at-first xs ys zero h to = refl
+item_at-first xs ys (suc i) h to =
+    let ne : (suc i == 0) ≡ false = grind (arith, nat_tests) in
+    let place : suc i - 1 ≡ i = omega arith in
+    let part : slice_get (take (length ys) xs) i ≡ slice_get xs i = slice_get-take (length ys) xs i (omega arith) in
+    let same : slice_get ys i ≡ slice_get (take (length ys) xs) i = ap (λ zs. slice_get zs i) h in
+    rw (ne, place) (sym (ap payload_in (same ∙ part)))
+
+-- past the end there is none
+pub item_at-past : (ys : List Item) (i : ℕ) → length ys < i → item_at ys i ≡ None
+item_at-past ys i past =
     let ne : (i == 0) ≡ false = grind (arith, nat_tests) in
-    let part : slice_get (take (length ys) xs) (i - 1) ≡ slice_get xs (i - 1)
-    = slice_get-take (length ys) xs (i - 1) (omega arith) in
-    let same : slice_get ys (i - 1) ≡ slice_get (take (length ys) xs) (i - 1) = ap (λ zs. slice_get zs (i - 1)) h in
-    rw ne (sym (same ∙ part))
+    rw ne (ap payload_in (slice_get_past ys (i - 1) (omega arith)))
 
 -- the inbox is the first of all messages by number
-inbox_of-take : (b : Behaviour) (ns : List ℕ) (ms : List (ℕ × Payload))
+inbox_of-take : {A : Type 0} → (b : Behaviour) (ns : List ℕ) (ms : List (ℕ × A))
     → inbox_of b ns ms ≡ take (length (inbox_of b ns ms)) (contents_of ms)
 inbox_of-take NoDiscard ns ms = without_gap-take 0 ms
 inbox_of-take FollowingFirstGap ns ms = without_gap-take 0 ms
@@ -49,28 +55,29 @@ inbox_of-take EntireSequence ns ms =
       | false ↦ refl
     ]
 
-pub inbox-take : (f : Receiving) → inbox f ≡ take (length (inbox f)) (contents_of (by_number f.received))
-inbox-take f = inbox_of-take f.behaviour f.told (by_number f.received)
+pub inbox-take : (f : Receiving) → inbox f ≡ take (length (inbox f)) (contents_of (by_number (items f)))
+inbox-take f = inbox_of-take f.behaviour f.told (by_number (items f))
 
--- the item of the inbox with a number
-pub numbered-inbox : (f : Receiving) (i : ℕ) → 0 < i → i ≤ length (inbox f)
-    → slice_get (contents_of (by_number f.received)) (i - 1) ≡ numbered (inbox f) i
-numbered-inbox f i from to = numbered-first (contents_of (by_number f.received)) (inbox f) i (inbox-take f) from to
+-- the payload at a place of the inbox
+pub item_at-inbox : (f : Receiving) (i : ℕ) → i ≤ length (inbox f)
+    → item_at (contents_of (by_number (items f))) i ≡ item_at (inbox f) i
+item_at-inbox f i to = item_at-first (contents_of (by_number (items f))) (inbox f) i (inbox-take f) to
 
 -- what is discarded
-discarded_of-numbered : (closes : List Bool) (box : List Payload) (ms : List (ℕ × Payload)) (i : ℕ) → 0 < i
+discarded_of-at : (closes : List Bool) (box : List Item) (ms : List (ℕ × Item)) (i : ℕ) → 0 < i
     → i ≤ length (discarded_of closes box ms)
-    → slice_get (contents_of ms) (length box + (i - 1)) ≡ numbered (discarded_of closes box ms) i
-discarded_of-numbered closes box ms i from to =
+    → item_at (contents_of ms) (length box + i) ≡ item_at (discarded_of closes box ms) i
+discarded_of-at closes box ms i from to =
     let ne : (i == 0) ≡ false = grind (arith, nat_tests) in
+    let ne2 : (length box + i == 0) ≡ false = grind (arith, nat_tests) in
+    let place : length box + i - 1 ≡ length box + (i - 1) = omega arith in
     elim (is_stopped closes) as (λ (t : Bool). i ≤ length (cond t (drop (length box) (contents_of ms)) [])
-    → slice_get (contents_of ms) (length box + (i - 1))
-    ≡ numbered (cond t (drop (length box) (contents_of ms)) []) i) [
-      | true ↦ λ _. rw ne (sym (slice_get-drop (length box) (contents_of ms) (i - 1)))
+    → item_at (contents_of ms) (length box + i) ≡ item_at (cond t (drop (length box) (contents_of ms)) []) i) [
+      | true ↦ λ _. rw (ne, ne2, place) (ap payload_in (sym (slice_get-drop (length box) (contents_of ms) (i - 1))))
       | false ↦ λ h. absurd (omega arith)
     ] to
 
--- the item of the discarded messages with a number
-pub numbered-discarded : (f : Receiving) (i : ℕ) → 0 < i → i ≤ length (discarded f)
-    → slice_get (contents_of (by_number f.received)) (length (inbox f) + (i - 1)) ≡ numbered (discarded f) i
-numbered-discarded f i from to = discarded_of-numbered f.closes (inbox f) (by_number f.received) i from to
+-- the payload at a place of what is discarded
+pub item_at-discarded : (f : Receiving) (i : ℕ) → 0 < i → i ≤ length (discarded f)
+    → item_at (contents_of (by_number (items f))) (length (inbox f) + i) ≡ item_at (discarded f) i
+item_at-discarded f i from to = discarded_of-at f.closes (inbox f) (by_number (items f)) i from to

@@ -1,23 +1,28 @@
 -- What is kept, against what it is seen as: places, the set of numbers, the front and the greatest number.
 use Rattle.std.proofs.Common.{◌≡◌, ℕ, zero, suc, ◌+◌, ◌-◌, ◌<◌, ◌≤◌, true, false, ◌||◌, ◌==◌, List, [], ◌∷◌, ◌++◌}
-use Rattle.std.proofs.Common.{length, max, get_or, refl, sym, ap, ◌∙◌, arith, inl, inr}
+use Rattle.std.proofs.Common.{length, max, get_or, refl, sym, ap, subst, ◌∙◌, arith, inl, inr}
 use Rattle.std.specs.Prelude.{Option, Some, map, slice_get, slice_index_or}
 use Rattle.std.specs.List.{insert}
 use Rattle.std.proofs.lemmas.Bool.Decides.{nat_tests}
-use Rattle.std.proofs.lemmas.List.{length-map}
+use Rattle.std.proofs.lemmas.List.{length-append, length-map, append_assoc, append-nil}
+use Rattle.std.proofs.lemmas.List.Edits.{length-insert}
 use Rattle.ack_ranges.specs.declared.range.Range.{Range}
-use Rattle.ack_ranges.specs.Ranges.{Contents, in_ranges, IsFront, IsGreatest}
-use Rattle.ack_ranges.specs.Changes.{with_range}
+use Rattle.ack_ranges.specs.Ranges.{Contents, IsCanonical, in_ranges, IsFront, IsGreatest}
+use Rattle.ack_ranges.specs.Changes.{with_range, united}
+use Rattle.rm_base.specs.Message.{max_number}
 use Rattle.rm_base.specs.declared.message.Payload.{Payload}
 use Rattle.rm_base.specs.NumberSet.{IsRising, has_number, front_after, greatest_of}
 use Rattle.rm_base.specs.NumberSetLemmas.{Rises-with_number, has_number-at, lt-or-le}
 use Rattle.rm_destination.specs.declared.arrivals.Place.{Place}
 use Rattle.rm_destination.specs.FrontLemmas.{front_after-has, front_after-next}
-use Rattle.rm_destination.specs.Kept.{Came, IsKept, numbers_at, looked_up, IsSorting, GoesAt}
+use Rattle.rm_destination.specs.ItemLemmas.{numbers_of-items, has_number-items, has_number-run, ranges_onto-run_to}
+use Rattle.rm_destination.specs.ItemLemmas.{in_ranges-run_to}
+use Rattle.rm_destination.specs.Kept.{Came, IsKept, held_by, numbers_at, looked_up, IsSorting, GoesAt}
 use Rattle.rm_destination.specs.MessageLemmas.{sorted_onto-push, ranges_onto-push, numbers_of-push}
 use Rattle.rm_destination.specs.MessageLemmas.{numbers_of-with_message, with_message-at, has_number-by_number}
 use Rattle.rm_destination.specs.MessageLemmas.{length-without_gap}
-use Rattle.rm_destination.specs.Messages.{with_message, by_number, numbers_of, front_of}
+use Rattle.rm_destination.specs.Messages.{is_empty, with_message, by_number, numbers_of, front_of, ranges_onto, run_of}
+use Rattle.rm_destination.specs.Messages.{AreOnce, run_to}
 
 -- an insertion, item by item
 pub map-insert : {A B : Type 0} → (f : A → B) (xs : List A) (i : ℕ) (x : A)
@@ -88,6 +93,25 @@ above_strictly xs n k none h le = elim (lt-or-le n (get_or xs k 0)) [
       let there : has_number xs n ≡ true = has_number-at xs k n h (omega arith) in absurd (cc)
 ]
 
+-- a number more at the end
+has_number-push : (xs : List ℕ) (n k : ℕ) → has_number (xs ++ n ∷ []) k ≡ (has_number xs k || (k == n))
+has_number-push [] n k = grind (arith, nat_tests)
+has_number-push (x ∷ xs) n k =
+    let rest : has_number (xs ++ n ∷ []) k ≡ (has_number xs k || (k == n)) = has_number-push xs n k in
+    grind (arith, nat_tests, rest)
+
+-- one more with a new number
+once-more : (ms : List (ℕ × Payload)) (n : ℕ) (p : Payload) → AreOnce ms → has_number (numbers_of ms) n ≡ false
+    → AreOnce (ms ++ (n, p) ∷ [])
+once-more [] n p once new = (refl, tt)
+once-more (m ∷ ms) n p once new =
+    let rest : has_number (numbers_of ms) n ≡ false = grind (arith, nat_tests, new) in
+    let pushed : numbers_of (ms ++ (n, p) ∷ []) ≡ numbers_of ms ++ n ∷ [] = numbers_of-push ms (n, p) in
+    let here : has_number (numbers_of ms) m.0 ≡ false = once.0 in
+    let more : has_number (numbers_of ms ++ n ∷ []) m.0 ≡ (has_number (numbers_of ms) m.0 || (m.0 == n)) =
+    has_number-push (numbers_of ms) n m.0 in
+    (rw pushed (grind (arith, nat_tests, new, here, more)), once-more ms n p once.1 rest)
+
 -- a message with a new number goes in at the place of its number
 pub IsSorting-add : (came : List (ℕ × Payload)) (places : List Place) (n : ℕ) (p : Payload) (i : ℕ)
     → IsSorting came places → 0 < n → has_number (numbers_of came) n ≡ false → GoesAt (numbers_at places) n i
@@ -120,10 +144,19 @@ IsSorting-add came places n p i s from_one new goes =
       found = rw (sorted, found, before, last, seen) refl;
       numbers = rw (sorted, numbers, s.numbers, numbered) refl;
       rising = rw (more, numbers_of-with_message ms n p) (Rises-with_number 0 n xs s.rising from_one);
+      once = once-more came n p s.once new;
+      count = omega (
+        arith,
+        length-insert places i place
+            (omega (arith, goes.within, length-map places (λ (q : Place). q.number))),
+        length-append came (message ∷ []),
+        s.count,
+      );
     }
 
 -- the front of the set is that of the messages
-pub front-same : (came : List (ℕ × Payload)) (ranges : List Range) (m : ℕ) → IsRising (numbers_of (by_number came))
+pub front-same : {A : Type 0} → (came : List (ℕ × A)) (ranges : List Range) (m : ℕ)
+    → IsRising (numbers_of (by_number came))
     → ((n : ℕ) → in_ranges ranges n ≡ has_number (numbers_of came) n) → IsFront ranges m → m ≡ front_of came
 front-same came ranges m rising same front =
     let xs = numbers_of (by_number came) in
@@ -168,7 +201,7 @@ greatest_of-above (x ∷ xs) n h =
     grind (arith, nat_tests)
 
 -- the greatest number of the set is that of the messages
-pub greatest-same : (came : List (ℕ × Payload)) (ranges : List Range) (m : ℕ)
+pub greatest-same : {A : Type 0} → (came : List (ℕ × A)) (ranges : List Range) (m : ℕ)
     → ((n : ℕ) → in_ranges ranges n ≡ has_number (numbers_of came) n) → IsGreatest ranges m
     → m ≡ greatest_of (numbers_of (by_number came))
 greatest-same came ranges m same greatest =
@@ -187,30 +220,90 @@ greatest-same came ranges m same greatest =
       ]
     ]
 
--- a number more at the end
-has_number-push : (xs : List ℕ) (n k : ℕ) → has_number (xs ++ n ∷ []) k ≡ (has_number xs k || (k == n))
-has_number-push [] n k = grind (arith, nat_tests)
-has_number-push (x ∷ xs) n k =
-    let rest : has_number (xs ++ n ∷ []) k ≡ (has_number xs k || (k == n)) = has_number-push xs n k in
-    grind (arith, nat_tests, rest)
+-- one message more has its number at the end
+held_by-push : (gone : ℕ) (came : List (ℕ × Payload)) (n : ℕ) (p : Payload)
+    → held_by gone (came ++ (n, p) ∷ []) ≡ held_by gone came ++ n ∷ []
+held_by-push gone came n p =
+    numbers_of-items gone (came ++ (n, p) ∷ [])
+    ∙ ap (λ ns. run_of 1 gone ++ ns) (numbers_of-push came (n, p))
+    ∙ sym (append_assoc (run_of 1 gone) (numbers_of came) (n ∷ []))
+    ∙ ap (λ ns. ns ++ n ∷ []) (sym (numbers_of-items gone came))
+
+-- a new number comes behind those that are gone
+pub held_by-behind : (gone : ℕ) (came : List (ℕ × Payload)) (n : ℕ) → 0 < n → has_number (held_by gone came) n ≡ false
+    → gone < n
+held_by-behind gone came n from new =
+    let all = has_number-items gone came n in
+    elim (lt-or-le gone n) [
+      | inl so ↦ so
+      | inr le ↦ absurd (grind (arith, nat_tests, all, new))
+    ]
+
+-- and it is new among those that are there
+pub held_by-new : (gone : ℕ) (came : List (ℕ × Payload)) (n : ℕ) → has_number (held_by gone came) n ≡ false
+    → has_number (numbers_of came) n ≡ false
+held_by-new gone came n new = let all = has_number-items gone came n in grind (arith, nat_tests, all, new)
+
+-- nothing was received
+pub record HasNone (gone : ℕ) (came : List (ℕ × Payload)) : Type 0 where
+  pub gone_ : gone ≡ 0
+  pub came_ : came ≡ []
+
+pub held_by-none : (gone : ℕ) (came : List (ℕ × Payload)) → is_empty (held_by gone came) ≡ true → HasNone gone came
+held_by-none zero [] h = record { gone_ = refl; came_ = refl }
+held_by-none zero (m ∷ came) h = absurd (cc)
+held_by-none (suc gone) came h =
+    let all : is_empty (held_by (suc gone) came) ≡ false = ap is_empty (numbers_of-items (suc gone) came) in
+    absurd (cc)
+
+-- a run within message numbers
+run_to-few : (g : ℕ) → IsCanonical (run_to g) → g ≤ max_number
+run_to-few zero h = omega arith
+run_to-few (suc g) h = h.2
+
+-- what is kept behind messages that are gone, where nothing was received
+pub IsKept-restored : (gone g cursor most : ℕ) (came : Came) (numbers more : Contents) (given : List Range) (room : ℕ)
+    → IsKept gone cursor came numbers room → g ≤ most → HasNone gone came.messages → IsCanonical given
+    → given ≡ run_to g → more.ranges ≡ united numbers.ranges given → united [] given ≡ given → room ≤ more.spare
+    → IsKept g most came more room
+IsKept-restored gone g cursor most came numbers more given room kept reached none canonical run ranges union fit =
+    let before : numbers.ranges ≡ [] =
+    kept.ranges ∙ ap (λ (ms : List (ℕ × Payload)). ranges_onto [] (held_by gone ms)) none.came_
+    ∙ ap (λ (n : ℕ). ranges_onto [] (held_by n [])) none.gone_ in
+    let now : more.ranges ≡ run_to g = ranges ∙ ap (λ rs. united rs given) before ∙ union ∙ run in
+    let held : held_by g came.messages ≡ run_of 1 g =
+    ap (λ (ms : List (ℕ × Payload)). held_by g ms) none.came_ ∙ numbers_of-items g [] ∙ append-nil (run_of 1 g) in
+    record {
+      few = run_to-few g (subst IsCanonical run canonical);
+      consumed = reached;
+      rising = rw none.came_ tt;
+      ranges = now ∙ sym (ranges_onto-run_to g) ∙ ap (λ ns. ranges_onto [] ns) (sym held);
+      same = λ n.
+          ap (λ rs. in_ranges rs n) now ∙ in_ranges-run_to g n ∙ sym (has_number-run 1 g n)
+          ∙ ap (λ ns. has_number ns n) (sym held);
+      messages_fit = kept.messages_fit;
+      numbers_fit = fit;
+    }
 
 -- what is kept, with one message more
-pub IsKept-add : (came longer : Came) (numbers more : Contents) (room n : ℕ) (p : Payload)
-    → IsKept came numbers room → 0 < n → longer.messages ≡ came.messages ++ (n, p) ∷ []
+pub IsKept-add : (gone cursor : ℕ) (came longer : Came) (numbers more : Contents) (room n : ℕ) (p : Payload)
+    → IsKept gone cursor came numbers room → gone < n → longer.messages ≡ came.messages ++ (n, p) ∷ []
     → more.ranges ≡ with_range numbers.ranges n n
     → ((k : ℕ) → in_ranges more.ranges k ≡ (in_ranges numbers.ranges k || (k == n)))
-    → room - 1 ≤ longer.spare → room - 1 ≤ more.spare → IsKept longer more (room - 1)
-IsKept-add came longer numbers more room n p kept from_one messages ranges adds messages_fit numbers_fit =
+    → room - 1 ≤ longer.spare → room - 1 ≤ more.spare → IsKept gone cursor longer more (room - 1)
+IsKept-add gone cursor came longer numbers more room n p kept behind messages ranges adds messages_fit numbers_fit =
     let old = came.messages in
     let message : ℕ × Payload = (n, p) in
     let sorted : by_number (old ++ message ∷ []) ≡ with_message (by_number old) n p = sorted_onto-push [] old message in
-    let named : numbers_of (old ++ message ∷ []) ≡ numbers_of old ++ n ∷ [] = numbers_of-push old message in
+    let named : held_by gone (old ++ message ∷ []) ≡ held_by gone old ++ n ∷ [] = held_by-push gone old n p in
     record {
+      few = kept.few;
+      consumed = kept.consumed;
       rising = rw (messages, sorted, numbers_of-with_message (by_number old) n p)
-          (Rises-with_number 0 n (numbers_of (by_number old)) kept.rising from_one);
-      ranges = rw (ranges, messages, named, ranges_onto-push [] (numbers_of old) n, kept.ranges) refl;
+          (Rises-with_number gone n (numbers_of (by_number old)) kept.rising behind);
+      ranges = rw (ranges, messages, named, ranges_onto-push [] (held_by gone old) n, kept.ranges) refl;
       same = λ k. rw (messages, named)
-          (adds k ∙ ap (λ b. b || (k == n)) (kept.same k) ∙ sym (has_number-push (numbers_of old) n k));
+          (adds k ∙ ap (λ b. b || (k == n)) (kept.same k) ∙ sym (has_number-push (held_by gone old) n k));
       messages_fit = messages_fit;
       numbers_fit = numbers_fit;
     }

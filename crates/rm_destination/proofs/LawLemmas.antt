@@ -8,21 +8,21 @@ use Rattle.std.proofs.lemmas.Bool.Decides.{nat_tests}
 use Rattle.std.proofs.lemmas.List.{length-map, take-append-drop}
 use Rattle.rm_base.specs.declared.message.Behaviour.{Behaviour}
 use Rattle.rm_base.specs.declared.message.Behaviour.TheVariants.{NoDiscard, EntireSequence, FollowingFirstGap}
-use Rattle.rm_base.specs.declared.message.Payload.{Payload}
 use Rattle.rm_base.specs.NumberSet.{IsRising, has_number, front_after}
 use Rattle.rm_base.specs.NumberSetLemmas.{Rises-with_number}
 use Rattle.rm_base.specs.Numbered.{numbered}
 use Rattle.rm_destination.specs.FrontLemmas.{front_after-has, front_after-next}
-use Rattle.rm_destination.specs.Incoming.{Receiving, is_stopped, is_whole_by, is_whole, inbox_of, inbox, discarded}
+use Rattle.rm_destination.specs.Incoming.{Receiving, items, is_stopped, is_whole_by, is_whole, inbox_of, inbox}
+use Rattle.rm_destination.specs.Incoming.{discarded}
 use Rattle.rm_destination.specs.Laws.{IsFront, InboxIsAPrefix}
 use Rattle.rm_destination.specs.MessageLemmas.{numbers_of-with_message, has_number-by_number, length-without_gap}
 use Rattle.rm_destination.specs.MessageLemmas.{without_gap-take}
-use Rattle.rm_destination.specs.Messages.{with_message, sorted_onto, by_number, without_gap, numbers_of, contents_of}
-use Rattle.rm_destination.specs.Messages.{front_of}
+use Rattle.rm_destination.specs.Messages.{Item, with_message, sorted_onto, by_number, without_gap, numbers_of}
+use Rattle.rm_destination.specs.Messages.{contents_of, front_of}
 use Rattle.rm_destination.proofs.InboxLemmas.{inbox-take}
 
 -- messages with numbers from 1 on rise once they are sorted
-Rises-sorted : (sorted came : List (ℕ × Payload)) → IsRising (numbers_of sorted)
+Rises-sorted : (sorted came : List (ℕ × Item)) → IsRising (numbers_of sorted)
     → has_number (numbers_of came) 0 ≡ false → IsRising (numbers_of (sorted_onto sorted came))
 Rises-sorted sorted [] r h = r
 Rises-sorted sorted (m ∷ came) r h =
@@ -33,7 +33,7 @@ Rises-sorted sorted (m ∷ came) r h =
     Rises-sorted (with_message sorted m.0 m.1) came one rest
 
 -- the front is reached, and no more
-pub front_of-IsFront : (came : List (ℕ × Payload)) → has_number (numbers_of came) 0 ≡ false
+pub front_of-IsFront : (came : List (ℕ × Item)) → has_number (numbers_of came) 0 ≡ false
     → IsFront (numbers_of came) (front_of came)
 front_of-IsFront came h =
     let xs = numbers_of (by_number came) in
@@ -56,7 +56,7 @@ Contains-either x xs y (zero, l, e) = inl e
 Contains-either x xs y (suc k, l, e) = inr (k, omega arith, e)
 
 -- a message that was put in is there, and nothing else is new
-with_message-only : (ms : List (ℕ × Payload)) (n : ℕ) (p : Payload) (x : ℕ × Payload)
+with_message-only : (ms : List (ℕ × Item)) (n : ℕ) (p : Item) (x : ℕ × Item)
     → Contains (with_message ms n p) x → Contains ms x ⊎ ((n, p) ≡ x)
 with_message-only [] n p x h = elim (Contains-either (n, p) [] x h) [ inl e ↦ inr e | inr later ↦ inl later ]
 with_message-only (m ∷ ms) n p x h =
@@ -78,7 +78,7 @@ with_message-only (m ∷ ms) n p x h =
     ] h
 
 -- what is among the sorted messages came
-sorted-came : (sorted came : List (ℕ × Payload)) (x : ℕ × Payload) → Contains (sorted_onto sorted came) x
+sorted-came : (sorted came : List (ℕ × Item)) (x : ℕ × Item) → Contains (sorted_onto sorted came) x
     → Contains sorted x ⊎ Contains came x
 sorted-came sorted [] x h = inl h
 sorted-came sorted (m ∷ came) x h = elim (sorted-came (with_message sorted m.0 m.1) came x h) [
@@ -90,7 +90,7 @@ sorted-came sorted (m ∷ came) x h = elim (sorted-came (with_message sorted m.0
 ]
 
 -- behind n the k-th message without a gap has the number n + k + 1
-without_gap-at : (n : ℕ) (ms : List (ℕ × Payload)) (k : ℕ) (p : Payload) → slice_get (without_gap n ms) k ≡ Some p
+without_gap-at : (n : ℕ) (ms : List (ℕ × Item)) (k : ℕ) (p : Item) → slice_get (without_gap n ms) k ≡ Some p
     → Contains ms (n + k + 1, p)
 without_gap-at n [] k p e = absurd (cc)
 without_gap-at n (m ∷ ms) zero p e =
@@ -113,7 +113,7 @@ without_gap-at n (m ∷ ms) (suc k) p e =
     ] refl e
 
 -- what stands at a place came with the number of that place
-pub numbered-came : (came : List (ℕ × Payload)) (i : ℕ) (p : Payload)
+pub numbered-came : (came : List (ℕ × Item)) (i : ℕ) (p : Item)
     → numbered (without_gap 0 (by_number came)) i ≡ Some p → Contains came (i, p)
 numbered-came came i p e =
     let ms = by_number came in
@@ -130,20 +130,20 @@ numbered-came came i p e =
     ] refl e
 
 -- all messages of a whole sequence follow one another without a gap
-without_gap-whole : (n : ℕ) (ms : List (ℕ × Payload)) → is_whole n ms ≡ true → contents_of ms ≡ without_gap 0 ms
+without_gap-whole : (n : ℕ) (ms : List (ℕ × Item)) → is_whole n ms ≡ true → contents_of ms ≡ without_gap 0 ms
 without_gap-whole n ms h =
-    let count : length (contents_of ms) ≡ length ms = length-map ms (λ (m : ℕ × Payload). m.1) in
+    let count : length (contents_of ms) ≡ length ms = length-map ms (λ (m : ℕ × Item). m.1) in
     let all : length (without_gap 0 ms) ≡ length (contents_of ms) = grind (arith, nat_tests, h, count) in
     sym (without_gap-take 0 ms ∙ ap (λ k. take k (contents_of ms)) all ∙ take-length (contents_of ms))
 
 -- by what the peer told first
-without_gap-whole_by : (ns : List ℕ) (ms : List (ℕ × Payload)) → is_whole_by ns ms ≡ true
+without_gap-whole_by : (ns : List ℕ) (ms : List (ℕ × Item)) → is_whole_by ns ms ≡ true
     → contents_of ms ≡ without_gap 0 ms
 without_gap-whole_by [] ms h = absurd (cc)
 without_gap-whole_by (n ∷ ns) ms h = without_gap-whole n ms h
 
 -- the inbox under each behaviour
-inbox_of-prefix : (b : Behaviour) (ns : List ℕ) (ms : List (ℕ × Payload))
+inbox_of-prefix : (b : Behaviour) (ns : List ℕ) (ms : List (ℕ × Item))
     → (inbox_of b ns ms ≡ without_gap 0 ms) ⊎ (inbox_of b ns ms ≡ [])
 inbox_of-prefix NoDiscard ns ms = inl refl
 inbox_of-prefix FollowingFirstGap ns ms = inl refl
@@ -155,7 +155,7 @@ inbox_of-prefix EntireSequence ns ms =
     ] refl
 
 -- under DiscardEntireSequence
-inbox_of-entire : (b : Behaviour) (ns : List ℕ) (ms : List (ℕ × Payload)) → b ≡ EntireSequence
+inbox_of-entire : (b : Behaviour) (ns : List ℕ) (ms : List (ℕ × Item)) → b ≡ EntireSequence
     → (inbox_of b ns ms ≡ contents_of ms) ⊎ (inbox_of b ns ms ≡ [])
 inbox_of-entire NoDiscard ns ms e = absurd (cc)
 inbox_of-entire FollowingFirstGap ns ms e = absurd (cc)
@@ -169,15 +169,15 @@ inbox_of-entire EntireSequence ns ms e =
 -- the inbox is what came up to the first gap, or nothing
 pub inbox-prefix : (f : Receiving) → InboxIsAPrefix f
 inbox-prefix f = record {
-  prefix = inbox_of-prefix f.behaviour f.told (by_number f.received);
-  entire = λ e. inbox_of-entire f.behaviour f.told (by_number f.received) e;
+  prefix = inbox_of-prefix f.behaviour f.told (by_number (items f));
+  entire = λ e. inbox_of-entire f.behaviour f.told (by_number (items f)) e;
 }
 
 -- the inbox and what is discarded are all
 pub inbox-discarded : (f : Receiving) → is_stopped f.closes ≡ true
-    → inbox f ++ discarded f ≡ contents_of (by_number f.received)
+    → inbox f ++ discarded f ≡ contents_of (by_number (items f))
 inbox-discarded f h =
-    let all = contents_of (by_number f.received) in
+    let all = contents_of (by_number (items f)) in
     let k = length (inbox f) in
     let part : inbox f ++ drop k all ≡ take k all ++ drop k all = ap (λ xs. xs ++ drop k all) (inbox-take f) in
     rw h (part ∙ take-append-drop k all)

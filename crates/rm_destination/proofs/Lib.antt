@@ -1,3 +1,4 @@
-pub mod InboxLemmas
+pub mod ForgetLemmas
+mod InboxLemmas
 pub mod KeptLemmas
 pub mod LawLemmas

@@ -1,6 +1,8 @@
 -- The destination's side of one sequence: WS-ReliableMessaging 1.2, sections 2.4, 3.4 to 3.7 and 3.9.
-use Rattle.std.specs.Prelude.{◌≡◌, ℕ, ◌+◌, ◌-◌, ◌==◌, ◌&&◌, ◌||◌, not, nat_le, nat_lt, Bool, false, if◌then◌else◌}
+use Rattle.std.specs.Prelude.{◌≡◌, ℕ, ◌+◌, ◌-◌, max, ◌==◌, ◌&&◌, ◌||◌, not, nat_le, nat_lt, Bool, false, if◌then◌else◌}
 use Rattle.std.specs.Prelude.{List, [], ◌∷◌, ◌++◌, length, drop, Option, Some, None, unwrap_or, Result, Ok, Err}
+use Rattle.ack_ranges.specs.declared.range.Range.{Range}
+use Rattle.ack_ranges.specs.Ranges.{count_of}
 use Rattle.rm_base.specs.Limits as limits
 use Rattle.rm_base.specs.NumberSet.{has_number, greatest_of}
 use Rattle.rm_base.specs.declared.message.Behaviour.{Behaviour}
@@ -10,20 +12,24 @@ use Rattle.rm_base.specs.declared.message.Cause.TheVariants.{Peer}
 use Rattle.rm_base.specs.declared.message.Payload.{Payload}
 use Rattle.rm_destination.specs.declared.outcome.DestError.{DestError}
 use Rattle.rm_destination.specs.declared.outcome.DestError.TheVariants.{Memory as WantsMemory, Closed as IsClosed}
-use Rattle.rm_destination.specs.declared.outcome.DestError.TheVariants.{Terminated}
+use Rattle.rm_destination.specs.declared.outcome.DestError.TheVariants.{Terminated, PastInbox}
 use Rattle.rm_destination.specs.declared.outcome.InPhase.{InPhase}
 use Rattle.rm_destination.specs.declared.outcome.InPhase.TheVariants.{Open, Closed, Ended}
 use Rattle.rm_destination.specs.declared.outcome.Took.{Took}
 use Rattle.rm_destination.specs.declared.outcome.Took.TheVariants.{New, Duplicate, PastWindow}
-use Rattle.rm_destination.specs.Messages.{is_empty, any_true, by_number, without_gap, numbers_of, contents_of, front_of}
+use Rattle.rm_destination.specs.Messages.{Item, is_empty, any_true, by_number, without_gap, numbers_of, contents_of}
+use Rattle.rm_destination.specs.Messages.{above, front_of, items_of, run_to}
 
 -- what is known: what was announced for incomplete sequences; the moment at which it expires, in milliseconds since
--- 1970 UTC; the messages that were received, in the order in which they came; for each time that it was closed or
--- ended, whether it was ended; and the last numbers that its peer told with these, 0 where it told none
+-- 1970 UTC; the numbers of the messages that were received and are gone; the messages that were received and aren't, in
+-- the order in which they came; how many items of the inbox the application consumed; for each time that it was closed
+-- or ended, whether it was ended; and the last numbers that its peer told with these, 0 where it told none
 pub record Receiving : Type 0 where
   pub behaviour : Behaviour
   pub deadline : Option ℕ
+  pub purged : List Range
   pub received : List (ℕ × Payload)
+  pub cursor : ℕ
   pub closes : List Bool
   pub told : List ℕ
 
@@ -35,9 +41,25 @@ pub record Sequence : Type 0 where
 -- a sequence of which nothing is known but what was announced
 abbrev pub fresh : Behaviour → Option ℕ → Sequence
 fresh behaviour deadline = record {
-  facts = record { behaviour = behaviour; deadline = deadline; received = []; closes = []; told = [] };
+  facts = record {
+    behaviour = behaviour;
+    deadline = deadline;
+    purged = [];
+    received = [];
+    cursor = 0;
+    closes = [];
+    told = [];
+  };
   room = 0;
 }
+
+-- all that was received, each with its number
+abbrev pub items : Receiving → List (ℕ × Item)
+items f = items_of f.purged f.received
+
+-- the numbers that were received: what was received is held for good
+abbrev pub held : Receiving → List ℕ
+held f = numbers_of (items f)
 
 -- there is a deadline, and it is at most now
 abbrev pub is_past : Option ℕ → ℕ → Bool
@@ -59,9 +81,9 @@ phase_of f now = if is_ended f now then Ended else if is_stopped f.closes then C
 -- what a message with this number is, where the sequence has not ended: the window ends 1024 past the front
 abbrev pub kind_of : Receiving → ℕ → Result Took DestError
 kind_of f number =
-    if has_number (numbers_of f.received) number then Ok Duplicate
+    if has_number (held f) number then Ok Duplicate
     else if is_stopped f.closes then Err IsClosed
-    else if nat_lt (front_of f.received + limits.window) number then Ok (PastWindow (front_of f.received))
+    else if nat_lt (front_of (items f) + limits.window) number then Ok (PastWindow (front_of (items f)))
     else Ok New
 
 -- the answer to a message with this number at a moment
@@ -104,32 +126,53 @@ close_answer Closed = Err IsClosed
 close_answer Ended = Err Terminated
 
 -- the number that was told, or the greatest that came where none was told
-abbrev pub last_number : ℕ → List (ℕ × Payload) → ℕ
+abbrev pub last_number : {A : Type 0} → ℕ → List (ℕ × A) → ℕ
 last_number n ms = if n == 0 then greatest_of (numbers_of ms) else n
 
 -- there is no gap, and they are as many as the last number says
-abbrev pub is_whole : ℕ → List (ℕ × Payload) → Bool
+abbrev pub is_whole : {A : Type 0} → ℕ → List (ℕ × A) → Bool
 is_whole n ms = (length (without_gap 0 ms) == last_number n ms) && (length ms == last_number n ms)
 
 -- by what the peer told first
-abbrev pub is_whole_by : List ℕ → List (ℕ × Payload) → Bool
+abbrev pub is_whole_by : {A : Type 0} → List ℕ → List (ℕ × A) → Bool
 is_whole_by [] ms = false
 is_whole_by (n ∷ ns) ms = is_whole n ms
 
 -- IncompleteSequenceBehavior: section 3.4. DiscardEntireSequence: all messages of a complete sequence, else none.
 -- Otherwise those up to the first gap
-abbrev pub inbox_of : Behaviour → List ℕ → List (ℕ × Payload) → List Payload
+abbrev pub inbox_of : {A : Type 0} → Behaviour → List ℕ → List (ℕ × A) → List A
 inbox_of EntireSequence ns ms = if is_whole_by ns ms then contents_of ms else []
 inbox_of _ ns ms = without_gap 0 ms
 
 -- of the messages, what is not in the inbox, once the sequence was closed or ended, but by its deadline
-abbrev pub discarded_of : List Bool → List Payload → List (ℕ × Payload) → List Payload
+abbrev pub discarded_of : {A : Type 0} → List Bool → List A → List (ℕ × A) → List A
 discarded_of closes inbox ms = if is_stopped closes then drop (length inbox) (contents_of ms) else []
 
 -- what is released to the application
-abbrev pub inbox : Receiving → List Payload
-inbox f = inbox_of f.behaviour f.told (by_number f.received)
+abbrev pub inbox : Receiving → List Item
+inbox f = inbox_of f.behaviour f.told (by_number (items f))
 
 -- of what was received, what is never released
-abbrev pub discarded : Receiving → List Payload
-discarded f = discarded_of f.closes (inbox f) (by_number f.received)
+abbrev pub discarded : Receiving → List Item
+discarded f = discarded_of f.closes (inbox f) (by_number (items f))
+
+-- the application consumed the first n items of the inbox
+abbrev pub with_cursor : Sequence → ℕ → Sequence
+with_cursor s n = record s { facts = record s.facts { cursor = max s.facts.cursor n } }
+
+-- what consume answers: whether the cursor goes on, where the inbox has so many items
+abbrev pub consume_answer : Receiving → ℕ → Result Bool DestError
+consume_answer f n =
+    if nat_lt (length (inbox f)) n then Err (PastInbox (length (inbox f))) else Ok (nat_lt f.cursor n)
+
+-- the messages with these numbers were received, were consumed, and are gone
+abbrev pub with_purged : Sequence → List Range → Sequence
+with_purged s ranges = record s {
+  facts = record s.facts { purged = s.facts.purged ++ ranges; cursor = max s.facts.cursor (count_of ranges) };
+}
+
+-- the payloads that the application consumed are gone too, where the inbox has as many items
+abbrev pub forgotten : Receiving → Receiving
+forgotten f =
+    if nat_lt 0 f.cursor && nat_le f.cursor (length (inbox f))
+    then record f { purged = run_to f.cursor; received = above f.cursor f.received } else f

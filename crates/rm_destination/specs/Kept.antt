@@ -2,12 +2,13 @@
 use Rattle.std.specs.Prelude.{◌≡◌, ◌<◌, ◌≤◌, ℕ, Bool, true, false, List, [], ◌∷◌, ◌++◌, length, map, if◌then◌else◌}
 use Rattle.std.specs.Prelude.{slice_get, slice_index_or, Option, Some, None}
 use Rattle.rm_base.specs.declared.message.Payload.{Payload}
-use Rattle.rm_base.specs.NumberSet.{IsRising, has_number}
+use Rattle.rm_base.specs.Message.{max_number}
+use Rattle.rm_base.specs.NumberSet.{IsRising, Rises, has_number}
 use Rattle.ack_ranges.specs.Ranges.{Contents, in_ranges}
 use Rattle.rm_destination.specs.declared.arrivals.Place.{Place}
 use Rattle.rm_destination.specs.declared.incoming.Stop.{Stop}
 use Rattle.rm_destination.specs.Incoming.{told_by, is_whole_by}
-use Rattle.rm_destination.specs.Messages.{by_number, numbers_of, ranges_onto}
+use Rattle.rm_destination.specs.Messages.{AreOnce, by_number, numbers_of, ranges_onto, run_to, items_of}
 
 -- the messages that came, in their order, and for how many more there is room
 pub record Came : Type 0 where
@@ -22,11 +23,13 @@ numbers_at places = map (λ (p : Place). p.number) places
 abbrev pub looked_up : List (ℕ × Payload) → List Place → List (Option (ℕ × Payload))
 looked_up came places = map (λ (p : Place). slice_get came p.at) places
 
--- the places lead to the messages that came, by rising number
+-- the places lead to the messages that came, by rising number, of which no two have one number
 pub record IsSorting (came : List (ℕ × Payload)) (places : List Place) : Type 0 where
   pub found : looked_up came places ≡ map Some (by_number came)
   pub numbers : numbers_at places ≡ numbers_of (by_number came)
   pub rising : IsRising (numbers_of (by_number came))
+  pub once : AreOnce came
+  pub count : length places ≡ length came
 
 -- a number's place: those before it are below the number, and those from it on are not
 pub record GoesAt (numbers : List ℕ) (n place : ℕ) : Type 0 where
@@ -34,11 +37,18 @@ pub record GoesAt (numbers : List ℕ) (n place : ℕ) : Type 0 where
   pub below : (k : ℕ) → k < place → slice_index_or numbers k 0 < n
   pub above : (k : ℕ) → place ≤ k → k < length numbers → n ≤ slice_index_or numbers k 0
 
--- the set has the numbers of the messages, and there is the room that was asked for and not used
-pub record IsKept (came : Came) (numbers : Contents) (room : ℕ) : Type 0 where
-  pub rising : IsRising (numbers_of (by_number came.messages))
-  pub ranges : numbers.ranges ≡ ranges_onto [] (numbers_of came.messages)
-  pub same : (n : ℕ) → in_ranges numbers.ranges n ≡ has_number (numbers_of came.messages) n
+-- the numbers of all that was received, where the messages 1 to gone are gone
+abbrev pub held_by : ℕ → List (ℕ × Payload) → List ℕ
+held_by gone came = numbers_of (items_of (run_to gone) came)
+
+-- the messages that are there come behind those that are gone, which were consumed; the set has the numbers of all; and
+-- there is the room that was asked for and not used
+pub record IsKept (gone cursor : ℕ) (came : Came) (numbers : Contents) (room : ℕ) : Type 0 where
+  pub few : gone ≤ max_number
+  pub consumed : gone ≤ cursor
+  pub rising : Rises gone (numbers_of (by_number came.messages))
+  pub ranges : numbers.ranges ≡ ranges_onto [] (held_by gone came.messages)
+  pub same : (n : ℕ) → in_ranges numbers.ranges n ≡ has_number (held_by gone came.messages) n
   pub messages_fit : room ≤ came.spare
   pub numbers_fit : room ≤ numbers.spare
 
@@ -59,5 +69,5 @@ abbrev pub told_of : Option Stop → Option Stop → List ℕ
 told_of closed ended = told_at closed ++ told_at ended
 
 -- how many messages there are where they are all, by what the peer told first, and else 0
-abbrev pub whole_len : List ℕ → List (ℕ × Payload) → ℕ
+abbrev pub whole_len : {A : Type 0} → List ℕ → List (ℕ × A) → ℕ
 whole_len ns ms = if is_whole_by ns ms then length ms else 0

@@ -1,5 +1,6 @@
 pub mod FrontLemmas
 pub mod Incoming
+pub mod ItemLemmas
 pub mod Kept
 pub mod Laws
 pub mod MessageLemmas

@@ -1,9 +1,11 @@
 //! The messages of a sequence in the order in which they came, with their places by number.
-ghost use Rattle.std.specs.Prelude.{◌≡◌, ◌+◌, ◌<◌, ◌≤◌, [], ◌∷◌, ◌++◌, false, length, slice_get, IsOk, OnOk, OnErr};
+ghost use Rattle.std.specs.Prelude.{◌≡◌, ◌+◌, ◌<◌, ◌≤◌, [], ◌∷◌, ◌++◌, false, length, slice_get, vec_capacity, IsOk};
+ghost use Rattle.std.specs.Prelude.{OnOk, OnErr};
 ghost use Rattle.std.specs.Option.{option_copied};
+ghost use Rattle.rm_base.specs.Message.{max_number};
 ghost use Rattle.rm_base.specs.NumberSet.{IsRising, has_number};
-ghost use Rattle.rm_destination.specs.Messages.{by_number, numbers_of, contents_of};
-ghost use Rattle.rm_destination.specs.Kept.{numbers_at, GoesAt};
+ghost use Rattle.rm_destination.specs.Messages.{AreOnce, above, by_number, numbers_of, contents_of};
+ghost use Rattle.rm_destination.specs.Kept.{numbers_at, GoesAt, IsSorting};
 
 use rm_base::{Memory, Payload};
 use std::alloc::Global;
@@ -55,11 +57,12 @@ impl Arrivals {
         self.came.as_slice()
     }
 
-    /// How many numbers came.
+    /// How many numbers came. Memory holds fewer than there are message numbers.
     pub fn len(&self) -> usize
-        ensures { result ≡ length (by_number self.now.messages) }
+        ensures count { result ≡ length (by_number self.now.messages) }
+        ensures few { result < max_number }
     {
-        self.places.len()
+        self.places.as_slice().len()
     }
 
     /// What the message at a place by rising number carries, counted from 0.
@@ -95,6 +98,15 @@ impl Arrivals {
         Ok(())
     }
 
+    /// Gives up the messages with numbers up to this one. It takes no memory.
+    pub fn forget(&mut self, upto: u64)
+        ensures { self.new.messages ≡ above upto self.old.messages }
+    {
+        self.came.retain(|message| upto < message.0);
+        self.places.clear();
+        place_all(self.came.as_slice(), &mut self.places);
+    }
+
     /// Makes room, so that the next `more` calls of `add` take no memory.
     pub fn reserve(&mut self, more: usize) -> Result<(), Memory>
         ensures kept { self.new.messages ≡ self.old.messages }
@@ -105,6 +117,24 @@ impl Arrivals {
         self.came.reserve(more)?;
         self.places.reserve(more)?;
         Ok(())
+    }
+}
+
+/// Puts the places of all messages in. It takes no memory.
+fn place_all(came: &[(u64, Payload)], places: &mut Vec<Place>)
+    requires none { places.old.items ≡ [] }
+    requires room { length came.now ≤ vec_capacity places.old }
+    requires from_one { has_number (numbers_of came.now) 0 ≡ false }
+    requires once { AreOnce came.now }
+    ensures { IsSorting came.now places.new.items }
+{
+    for at in 0..came.len() {
+        let number = came[at].0;
+        let place = place_of(places, number);
+        match places.insert(place, Place { number, at }) {
+            Ok(()) => {}
+            Err(_) => unreachable!(),
+        }
     }
 }
 

@@ -2,19 +2,22 @@
 ghost use Rattle.std.specs.Prelude.{◌≡◌, ◌+◌, ◌^◌, ◌≤◌, ◌<◌, [], None, true, false, not, length, ℕ, Result, Ok, Err};
 ghost use Rattle.std.specs.Prelude.{IfOk, IfErr, IsOk, OnOk, OnErr, MatchBool, slice_get};
 ghost use Rattle.std.specs.Option.{option_copied};
-ghost use Rattle.ack_ranges.specs.Ranges.{in_ranges};
+ghost use Rattle.ack_ranges.specs.Ranges.{in_ranges, greatest_of};
 ghost use Rattle.rm_base.specs.Message.{max_number};
 ghost use Rattle.rm_base.specs.NumberSet.{has_number};
-ghost use Rattle.rm_base.specs.Numbered.{numbered};
-ghost use Rattle.rm_destination.specs.Messages.{any_true, by_number, numbers_of, front_of, ranges_onto};
+ghost use Rattle.rm_destination.specs.Messages.{is_empty, any_true, by_number, contents_of, front_of, ranges_onto};
+ghost use Rattle.rm_destination.specs.Messages.{run_to, item_at};
 ghost use Rattle.rm_destination.specs.Kept.{told_at, told_of, whole_len};
-ghost use Rattle.rm_destination.specs.Incoming.{fresh, phase_of, took_of, after_take, with_received, kind_of};
-ghost use Rattle.rm_destination.specs.Incoming.{IsTakeError, is_past, is_ended, is_stopped, is_whole, last_number};
-ghost use Rattle.rm_destination.specs.Incoming.{stopped_by, close_answer, inbox, discarded};
+ghost use Rattle.rm_destination.specs.Incoming.{fresh, items, held, phase_of, took_of, after_take, with_received};
+ghost use Rattle.rm_destination.specs.Incoming.{kind_of, IsTakeError, is_past, is_ended, is_stopped, is_whole};
+ghost use Rattle.rm_destination.specs.Incoming.{last_number, stopped_by, close_answer, inbox, discarded};
+ghost use Rattle.rm_destination.specs.Incoming.{consume_answer, forgotten, with_cursor, with_purged};
 
 use crate::arrivals::Arrivals;
 use crate::outcome::{DestError, InPhase, Took};
-use ack_ranges::RangeSet;
+use ack_ranges::{
+    RangeSet, range_is_added, same_numbers_same_ranges, union_with_nothing_is_the_same,
+};
 use rm_base::limits::WINDOW;
 use rm_base::{Behaviour, Cause, Memory, Payload};
 use std::alloc::Global;
@@ -32,6 +35,8 @@ pub(crate) struct Stop {
 pub struct Incoming {
     behaviour: Behaviour,
     deadline: Option<u64>,
+    gone: u64,
+    cursor: u64,
     arrivals: Arrivals,
     numbers: RangeSet,
     closed: Option<Stop>,
@@ -42,6 +47,7 @@ pub struct Incoming {
 impl Model for Incoming {
     ghost use Rattle.rm_destination.specs.Incoming.{Sequence};
     ghost use Rattle.rm_destination.specs.Kept.{IsKept, closes_of, told_of};
+    ghost use Rattle.rm_destination.specs.Messages.{run_to};
 
     ghost Value = { Sequence };
 
@@ -49,14 +55,16 @@ impl Model for Incoming {
       facts = record {
         behaviour = i.behaviour;
         deadline = i.deadline;
+        purged = run_to i.gone;
         received = i.arrivals.messages;
+        cursor = i.cursor;
         closes = closes_of i.closed i.ended;
         told = told_of i.closed i.ended;
       };
       room = i.room;
     } };
 
-    ghost invariant = { λ i. IsKept i.arrivals i.numbers i.room };
+    ghost invariant = { λ i. IsKept i.gone i.cursor i.arrivals i.numbers i.room };
 }
 
 impl Incoming {
@@ -67,6 +75,8 @@ impl Incoming {
         Incoming {
             behaviour,
             deadline,
+            gone: 0,
+            cursor: 0,
             arrivals: Arrivals::new(alloc),
             numbers: RangeSet::new(alloc),
             closed: None,
@@ -95,15 +105,15 @@ impl Incoming {
         self.behaviour
     }
 
-    /// The numbers of the messages that were received.
+    /// The numbers of the messages that were received, with those that are gone.
     pub fn received(&self) -> &RangeSet
-        ensures ranges { result.now.ranges ≡ ranges_onto [] (numbers_of self.now.facts.received) }
-        ensures same { (n : ℕ) → in_ranges result.now.ranges n ≡ has_number (numbers_of self.now.facts.received) n }
+        ensures ranges { result.now.ranges ≡ ranges_onto [] (held self.now.facts) }
+        ensures same { (n : ℕ) → in_ranges result.now.ranges n ≡ has_number (held self.now.facts) n }
     {
         &self.numbers
     }
 
-    /// The messages that were received, each with its number, in the order in which they came.
+    /// The messages that were received and aren't gone, each with its number, in the order in which they came.
     pub fn messages(&self) -> &[(u64, Payload)]
         ensures { result.now ≡ self.now.facts.received }
     {
@@ -142,7 +152,7 @@ impl Incoming {
     pub fn keep(&mut self, number: u64, payload: Payload) -> Result<(), Memory>
         requires from_one { 0 < number }
         requires within { number ≤ max_number }
-        requires is_new { has_number (numbers_of self.old.facts.received) number ≡ false }
+        requires is_new { has_number (held self.old.facts) number ≡ false }
         requires is_open { self.old.facts.closes ≡ [] }
         ensures ok { OnOk result (self.new ≡ with_received self.old number payload) }
         ensures ready { 0 < self.old.room → IsOk result }
@@ -192,7 +202,45 @@ impl Incoming {
         true
     }
 
-    /// How many payloads the inbox has.
+    /// Begins behind messages that were received and consumed, whose numbers are 1 to some number, and which are gone.
+    pub fn restore(&mut self, numbers: &RangeSet) -> Result<(), Memory>
+        requires nothing { is_empty (held self.old.facts) ≡ true }
+        requires run { numbers.now.ranges ≡ run_to (greatest_of numbers.now.ranges) }
+        ensures ok { OnOk result (self.new ≡ with_purged self.old numbers.now.ranges) }
+        ensures err { OnErr result (self.new ≡ self.old) }
+    {
+        let room = self.room.checked_add(numbers.ranges().len()).ok_or(Memory)?;
+        self.numbers.reserve(room)?;
+        union_with_nothing_is_the_same();
+        self.numbers.unite(numbers)?;
+        self.gone = numbers.greatest();
+        self.cursor = self.cursor.max(numbers.count());
+        Ok(())
+    }
+
+    /// How many items of the inbox the application consumed.
+    pub fn consumed(&self) -> u64
+        ensures { result ≡ self.now.facts.cursor }
+    {
+        self.cursor
+    }
+
+    /// Notes that the application consumed the inbox up to an item, and answers whether it had not before.
+    pub fn consume(&mut self, upto: u64) -> Result<bool, DestError>
+        ensures answer { result ≡ consume_answer self.old.facts upto }
+        ensures ok { OnOk result (self.new ≡ with_cursor self.old upto) }
+        ensures err { OnErr result (self.new ≡ self.old) }
+    {
+        let have = self.inbox_len();
+        if upto > have {
+            return Err(DestError::PastInbox { have });
+        }
+        let goes_on = self.cursor < upto;
+        self.cursor = self.cursor.max(upto);
+        Ok(goes_on)
+    }
+
+    /// How many items the inbox has, with those that are gone.
     pub fn inbox_len(&self) -> u64
         ensures { result ≡ length (inbox self.now.facts) }
     {
@@ -202,18 +250,25 @@ impl Incoming {
         }
     }
 
-    /// The inbox's payload at a place, counted from 1.
-    pub fn inbox_item(&self, i: u64) -> Option<&Payload>
-        ensures { option_copied result ≡ numbered (inbox self.now.facts) i }
+    /// How many of the first items of the inbox are gone: none of them is to be asked for.
+    pub fn gone(&self) -> u64
+        ensures { (i : ℕ) → i ≤ result → item_at (inbox self.now.facts) i ≡ None }
     {
-        if i == 0 || i > self.inbox_len() {
-            return None;
-        }
-        self.arrivals.nth((i - 1) as usize)
+        self.gone
     }
 
-    /// How many payloads are never released. There are none before the sequence is closed or ended. Memory holds fewer
-    /// payloads than there are numbers of 64 bits.
+    /// The inbox's payload at a place, counted from 1. There is none where it is gone.
+    pub fn inbox_item(&self, i: u64) -> Option<&Payload>
+        ensures { option_copied result ≡ item_at (inbox self.now.facts) i }
+    {
+        if i > self.inbox_len() {
+            return None;
+        }
+        self.item(i)
+    }
+
+    /// How many items are never released. There are none before the sequence is closed or ended. With the inbox's they
+    /// are fewer than there are numbers of 64 bits.
     pub fn discarded_len(&self) -> u64
         ensures count { result ≡ length (discarded self.now.facts) }
         ensures few { length (inbox self.now.facts) + result < 2 ^ 64 }
@@ -222,17 +277,35 @@ impl Incoming {
         if !self.is_stopped() {
             return 0;
         }
-        (self.arrivals.len() as u64).saturating_sub(released)
+        self.len().saturating_sub(released)
     }
 
-    /// The payload at a place among those that are never released, which stand by rising number, counted from 1.
+    /// The payload at a place among those that are never released, which stand by rising number, counted from 1. There
+    /// is none where it is gone.
     pub fn discarded_item(&self, i: u64) -> Option<&Payload>
-        ensures { option_copied result ≡ numbered (discarded self.now.facts) i }
+        ensures { option_copied result ≡ item_at (discarded self.now.facts) i }
     {
         if i == 0 || i > self.discarded_len() {
             return None;
         }
-        self.arrivals.nth((self.inbox_len() + (i - 1)) as usize)
+        self.item(self.inbox_len() + i)
+    }
+
+    /// Gives up the payloads that the application consumed, where the inbox has as many items, and the room that was
+    /// made and not used. It takes no memory.
+    pub fn forget(&mut self)
+        ensures { self.new ≡ record { facts = forgotten self.old.facts; room = 0 } }
+    {
+        self.room = 0;
+        if self.cursor == 0 || self.cursor > self.inbox_len() {
+            return;
+        }
+        range_is_added();
+        same_numbers_same_ranges();
+        let _numbers = self.numbers.ranges();
+        let _front = self.numbers.front();
+        self.arrivals.forget(self.cursor);
+        self.gone = self.cursor;
     }
 
     /// Makes room for so many more messages, beside those for which there is room: so many more calls of `keep`, and of
@@ -263,27 +336,44 @@ impl Incoming {
         self.closed.is_some() || self.ended.is_some()
     }
 
+    /// How many messages were received, with those that are gone.
+    fn len(&self) -> u64
+        ensures { result ≡ length (by_number (items self.now.facts)) }
+    {
+        self.gone + self.arrivals.len() as u64
+    }
+
+    /// The payload at a place of all messages by rising number, counted from 1. There is none where it is gone.
+    fn item(&self, i: u64) -> Option<&Payload>
+        ensures { option_copied result ≡ item_at (contents_of (by_number (items self.now.facts))) i }
+    {
+        if i <= self.gone {
+            return None;
+        }
+        self.arrivals.nth((i - self.gone - 1) as usize)
+    }
+
     /// How many messages it has where it is complete, and else 0.
     fn whole_len(&self) -> u64
-        ensures { result ≡ whole_len self.now.facts.told (by_number self.now.facts.received) }
+        ensures { result ≡ whole_len self.now.facts.told (by_number (items self.now.facts)) }
     {
         match first_told(self.closed, self.ended) {
-            Some(told) if self.is_whole(told) => self.arrivals.len() as u64,
+            Some(told) if self.is_whole(told) => self.len(),
             _ => 0,
         }
     }
 
     /// Whether the messages are exactly those from 1 to the last number, where the peer told this one.
     fn is_whole(&self, told: u64) -> bool
-        ensures { result ≡ is_whole told (by_number self.now.facts.received) }
+        ensures { result ≡ is_whole told (by_number (items self.now.facts)) }
     {
         let last = self.last_number(told);
-        self.front() == last && self.arrivals.len() as u64 == last
+        self.front() == last && self.len() == last
     }
 
     /// The number that was told, or the greatest that came where none was told.
     fn last_number(&self, told: u64) -> u64
-        ensures { result ≡ last_number told (by_number self.now.facts.received) }
+        ensures { result ≡ last_number told (by_number (items self.now.facts)) }
     {
         if told == 0 {
             return self.numbers.greatest();
@@ -293,7 +383,7 @@ impl Incoming {
 
     /// The greatest m such that 1 to m came.
     fn front(&self) -> u64
-        ensures { result ≡ front_of self.now.facts.received }
+        ensures { result ≡ front_of (items self.now.facts) }
     {
         self.numbers.front()
     }

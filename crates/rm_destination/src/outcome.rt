@@ -21,7 +21,7 @@ pub enum Took {
     PastWindow { front: u64 },
 }
 
-/// Why a message was refused. Nothing has changed then.
+/// Why a call on an incoming sequence was refused. Nothing has changed then.
 #[derive(Clone, Copy, Debug, PartialEq, Eq, Error)]
 pub enum DestError {
     #[error("out of memory")]
@@ -32,6 +32,9 @@ pub enum DestError {
     /// SequenceTerminated of section 4.2.
     #[error("the sequence is terminated")]
     Terminated,
+    /// More items are consumed than the inbox has.
+    #[error("the inbox has {have} items")]
+    PastInbox { have: u64 },
 }
 
 impl From<Memory> for DestError {

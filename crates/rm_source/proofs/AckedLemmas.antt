@@ -1,10 +1,11 @@
 -- Acknowledged numbers: how many there are, and how great they get.
-use Rattle.std.proofs.Common.{◌≡◌, ℕ, ◌+◌, ◌≤◌, ◌||◌, max, true, List, [], ◌∷◌, sym, ◌∙◌, arith, inl, inr}
+use Rattle.std.proofs.Common.{◌≡◌, ℕ, ◌+◌, ◌≤◌, ◌||◌, max, Bool, true, List, [], ◌∷◌, sym, ◌∙◌, arith, inl, inr}
 use Rattle.std.proofs.lemmas.Bool.Decides.{nat_tests}
 use Rattle.std.proofs.lemmas.List.Sums.{sum_by-cons}
 use Rattle.ack_ranges.specs.declared.range.Range.{Range}
 use Rattle.ack_ranges.specs.Changes.{AddsExactly}
-use Rattle.ack_ranges.specs.Ranges.{in_ranges, RisesFrom, IsCanonical, size_of, count_of, greatest_of, IsGreatest}
+use Rattle.ack_ranges.specs.Ranges.{in_ranges, RisesFrom, IsCanonical, size_of, count_of, greatest_of, IsFront}
+use Rattle.ack_ranges.specs.Ranges.{IsGreatest}
 use Rattle.rm_base.specs.NumberSetLemmas.{lt-or-le}
 
 -- ranges from the first number on have at most as many numbers as there are from it to the greatest
@@ -23,16 +24,23 @@ count_of-within rs h =
     let from_one : 1 + count_of rs ≤ max 1 (greatest_of rs + 1) = count_of-from 1 rs h in omega arith
 
 -- more numbers get no greater than those before and those added
-pub greatest_of-added : (old given new : List Range) (n : ℕ) → AddsExactly old new (in_ranges given)
-    → IsGreatest old (greatest_of old) → IsGreatest given (greatest_of given) → IsGreatest new (greatest_of new)
-    → greatest_of old ≤ n → greatest_of given ≤ n → greatest_of new ≤ n
-greatest_of-added old given new n adds o g w below given_below = elim (lt-or-le n (greatest_of new)) [
+pub greatest_of-added : (old new : List Range) (added : ℕ → Bool) (n : ℕ) → AddsExactly old new added
+    → IsGreatest old (greatest_of old) → IsGreatest new (greatest_of new)
+    → greatest_of old ≤ n → ((k : ℕ) → added k ≡ true → k ≤ n) → greatest_of new ≤ n
+greatest_of-added old new added n adds o w below added_below = elim (lt-or-le n (greatest_of new)) [
   | inl above ↦
       let top = greatest_of new in
       let there : in_ranges new top ≡ true = w.inside (omega arith) in
-      let either : (in_ranges old top || in_ranges given top) ≡ true = sym (adds.numbers top) ∙ there in
+      let either : (in_ranges old top || added top) ≡ true = sym (adds.numbers top) ∙ there in
       let not_old : in_ranges old top ≡ true → top ≤ greatest_of old = o.above top in
-      let not_given : in_ranges given top ≡ true → top ≤ greatest_of given = g.above top in
-      absurd (grind (arith, nat_tests, either, not_old, not_given))
+      let not_added : added top ≡ true → top ≤ n = added_below top in
+      absurd (grind (arith, nat_tests, either, not_old, not_added))
   | inr within ↦ within
+]
+
+-- the first run ends with the greatest number at the latest
+pub front-within : (xs : List Range) (n : ℕ) → IsFront xs n → IsGreatest xs (greatest_of xs) → n ≤ greatest_of xs
+front-within xs n front greatest = elim (lt-or-le 0 n) [
+  | inl some ↦ greatest.above n (front.inside n some (omega arith))
+  | inr none ↦ omega (arith, none)
 ]

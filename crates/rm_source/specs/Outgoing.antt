@@ -1,19 +1,23 @@
 -- The source's side of one sequence: WS-ReliableMessaging 1.2, sections 2.4, 3.7 and 3.9.
-use Rattle.std.specs.Prelude.{ℕ, ◌-◌, nat_le, nat_lt, if◌then◌else◌, List, [], ◌∷◌, ◌++◌, length, Option, Some, None}
+use Rattle.std.specs.Prelude.{ℕ, ◌+◌, ◌-◌, max, nat_le, nat_lt, if◌then◌else◌, List, [], ◌∷◌, ◌++◌, drop, length}
+use Rattle.std.specs.Prelude.{Option, Some, None}
 use Rattle.std.specs.Option.{option_or}
 use Rattle.rm_base.specs.Limits as limits
 use Rattle.rm_base.specs.Message.{max_number}
+use Rattle.rm_base.specs.Numbered.{numbered}
 use Rattle.ack_ranges.specs.declared.range.Range.{Range}
 use Rattle.ack_ranges.specs.Changes.{united}
-use Rattle.ack_ranges.specs.Ranges.{count_of, greatest_of}
+use Rattle.ack_ranges.specs.Ranges.{count_of, front_of, greatest_of}
 use Rattle.rm_source.specs.declared.phase.OutPhase.{OutPhase}
 use Rattle.rm_source.specs.declared.phase.OutPhase.TheVariants.{Open}
 use Rattle.rm_source.specs.declared.error.SourceError.{SourceError}
 use Rattle.rm_source.specs.declared.error.SourceError.TheVariants.{NotOpen, WindowFull, Rollover, InvalidAck}
 
--- what is known: the phase, the payloads that were accepted as messages 1, 2, and so on, and the acknowledged numbers
+-- what is known: the phase, how many of the first messages are gone, the payloads that were accepted as the messages
+-- behind these, and the acknowledged numbers
 pub record Sending : Type 0 where
   pub phase : OutPhase
+  pub dropped : ℕ
   pub accepted : List (List ℕ)
   pub acked : List Range
 
@@ -31,9 +35,17 @@ pub record Sequence : Type 0 where
 abbrev pub no_room : Room
 no_room = record { payloads = 0; ranges = 0 }
 
--- how many of the accepted payloads are not acknowledged
+-- how many messages were accepted, with those that are gone
+abbrev pub accepted_count : Sending → ℕ
+accepted_count s = s.dropped + length s.accepted
+
+-- the payload of a message, where it was accepted and isn't gone
+abbrev pub payload_at : Sending → ℕ → Option (List ℕ)
+payload_at s number = numbered s.accepted (number - s.dropped)
+
+-- how many of the accepted messages are not acknowledged
 abbrev pub unacked_of : Sending → ℕ
-unacked_of s = length s.accepted - count_of s.acked
+unacked_of s = accepted_count s - count_of s.acked
 
 -- why no payload is accepted in this phase
 abbrev pub phase_refusal : OutPhase → Option SourceError
@@ -50,12 +62,12 @@ count_refusal accepted unacked =
 
 -- why the next payload is refused: the first reason that holds
 abbrev pub accept_refusal : Sending → Option SourceError
-accept_refusal s = option_or (phase_refusal s.phase) (count_refusal (length s.accepted) (unacked_of s))
+accept_refusal s = option_or (phase_refusal s.phase) (count_refusal (accepted_count s) (unacked_of s))
 
 -- why these numbers are refused: the greatest of them was never given to a payload
 abbrev pub learn_refusal : Sending → List Range → Option SourceError
 learn_refusal s given =
-    if nat_lt (length s.accepted) (greatest_of given) then Some (InvalidAck (greatest_of given)) else None
+    if nat_lt (accepted_count s) (greatest_of given) then Some (InvalidAck (greatest_of given)) else None
 
 -- one payload more, as the next number, which takes room for one
 abbrev pub with_payload : Sequence → List ℕ → Sequence
@@ -69,4 +81,20 @@ abbrev pub with_acked : Sequence → List Range → Sequence
 with_acked o given = record {
   facts = record o.facts { acked = united o.facts.acked given };
   room = record o.room { ranges = o.room.ranges - length given };
+}
+
+-- the numbers 1 to n
+abbrev pub first_run : ℕ → List Range
+first_run n = record { lower = 1; upper = n } ∷ []
+
+-- the messages 1 to n are acknowledged and gone
+abbrev pub with_dropped : Sequence → ℕ → Sequence
+with_dropped o n =
+    record o { facts = record o.facts { dropped = n; acked = united o.facts.acked (first_run n) } }
+
+-- the payloads of the messages 1 to n are gone too, for the greatest n such that these are acknowledged
+abbrev pub settled : Sending → Sending
+settled s = record s {
+  dropped = max s.dropped (front_of s.acked);
+  accepted = drop (front_of s.acked - s.dropped) s.accepted;
 }

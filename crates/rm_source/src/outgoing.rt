@@ -1,13 +1,14 @@
 //! The source's side of one sequence.
-ghost use Rattle.std.specs.Prelude.{◌≡◌, ◌+◌, ◌≤◌, ◌<◌, [], None, length, not, unwrap_or, IfOk, IfErr, IfSome, IsOk};
+ghost use Rattle.std.specs.Prelude.{◌≡◌, ◌+◌, ◌≤◌, ◌<◌, [], None, drop, length, not, unwrap_or, IfOk, IfErr, IfSome};
+ghost use Rattle.std.specs.Prelude.{IsOk};
 ghost use Rattle.std.specs.Prelude.{OnOk, OnErr};
 ghost use Rattle.std.specs.Option.{option_copied};
 ghost use Rattle.ack_ranges.specs.Changes.{covers_all};
 ghost use Rattle.rm_base.specs.Message.{max_number};
-ghost use Rattle.rm_base.specs.Numbered.{numbered};
 ghost use Rattle.rm_source.specs.Laws.{IsSound};
-ghost use Rattle.rm_source.specs.Outgoing.{Sequence, no_room, unacked_of, count_refusal, accept_refusal};
-ghost use Rattle.rm_source.specs.Outgoing.{learn_refusal, with_payload, with_acked};
+ghost use Rattle.rm_source.specs.Outgoing.{Sequence, no_room, accepted_count, payload_at, unacked_of};
+ghost use Rattle.rm_source.specs.Outgoing.{count_refusal, accept_refusal, learn_refusal, with_payload, with_acked};
+ghost use Rattle.rm_source.specs.Outgoing.{settled, with_dropped};
 
 use crate::error::SourceError;
 use crate::phase::OutPhase;
@@ -16,12 +17,15 @@ use rm_base::limits::WINDOW;
 use rm_base::{Blob, MAX_NUMBER, Memory, RoomyItems};
 use std::alloc::Global;
 use std::marker::Model;
+use std::mem;
 
 /// The source's side of one sequence. Room that was made for payloads and ranges to come counts until it is used or
 /// given up.
 #[derive(Debug, Drop)]
 pub struct Outgoing {
+    alloc: Global,
     phase: OutPhase,
+    dropped: u64,
     accepted: RoomyItems<Blob>,
     acked: RangeSet,
     payloads_claimed: usize,
@@ -35,20 +39,30 @@ impl Model for Outgoing {
     ghost Value = { Sequence };
 
     ghost view = { λ o. record {
-      facts = record { phase = o.phase; accepted = o.accepted.facts; acked = o.acked.ranges };
+      facts = record {
+        phase = o.phase;
+        dropped = o.dropped;
+        accepted = o.accepted.facts;
+        acked = o.acked.ranges;
+      };
       room = record { payloads = o.payloads_claimed; ranges = o.ranges_claimed };
     } };
 
-    ghost invariant = { λ o. IsKept o.accepted o.acked o.payloads_claimed o.ranges_claimed };
+    ghost invariant = { λ o. IsKept o.dropped o.accepted o.acked o.payloads_claimed o.ranges_claimed };
 }
 
 impl Outgoing {
     /// A sequence for which nothing was accepted. It takes no memory.
     pub fn new(alloc: Global, phase: OutPhase) -> Self
-        ensures { result ≡ record { facts = record { phase = phase; accepted = []; acked = [] }; room = no_room } }
+        ensures { result ≡ record {
+          facts = record { phase = phase; dropped = 0; accepted = []; acked = [] };
+          room = no_room;
+        } }
     {
         Outgoing {
+            alloc,
             phase,
+            dropped: 0,
             accepted: RoomyItems::new(alloc),
             acked: RangeSet::new(alloc),
             payloads_claimed: 0,
@@ -71,19 +85,26 @@ impl Outgoing {
         self.phase = phase;
     }
 
-    /// How many payloads were accepted. Memory holds fewer than there are message numbers.
-    pub fn accepted_len(&self) -> u64
-        ensures count { result ≡ length self.now.facts.accepted }
-        ensures few { length self.now.facts.accepted < max_number }
+    /// How many of the first payloads are gone.
+    pub fn dropped(&self) -> u64
+        ensures { result ≡ self.now.facts.dropped }
     {
-        self.accepted.as_slice().len() as u64
+        self.dropped
     }
 
-    /// The payload with a message number, counted from 1.
-    pub fn accepted(&self, number: u64) -> Option<&Blob>
-        ensures { option_copied result ≡ numbered self.now.facts.accepted number }
+    /// How many payloads were accepted, with those that are gone. There are no more than message numbers.
+    pub fn accepted_len(&self) -> u64
+        ensures count { result ≡ accepted_count self.now.facts }
+        ensures few { accepted_count self.now.facts ≤ max_number }
     {
-        self.accepted.item(number)
+        self.dropped + self.accepted.as_slice().len() as u64
+    }
+
+    /// The payload with a message number, counted from 1. There is none for a payload that is gone.
+    pub fn accepted(&self, number: u64) -> Option<&Blob>
+        ensures { option_copied result ≡ payload_at self.now.facts number }
+    {
+        self.accepted.item(number.saturating_sub(self.dropped))
     }
 
     /// The numbers that are known to be acknowledged.
@@ -105,7 +126,7 @@ impl Outgoing {
     /// where the numbers are used up. Where there is room for it, it takes no memory.
     pub fn accept(&mut self, payload: Blob) -> Result<u64, SourceError>
         ensures ok { OnOk result (self.new ≡ with_payload self.old payload) }
-        ensures number { IfOk result (λ number. number ≡ length self.old.facts.accepted + 1) }
+        ensures number { IfOk result (λ number. number ≡ accepted_count self.old.facts + 1) }
         ensures refused { IfSome (accept_refusal self.old.facts) (λ refusal. result ≡ Err refusal) }
         ensures error { IfErr result (λ error. error ≡ unwrap_or (accept_refusal self.old.facts) SourceError.Memory) }
         ensures ready { accept_refusal self.old.facts ≡ None → 0 < self.old.room.payloads → IsOk result }
@@ -120,13 +141,13 @@ impl Outgoing {
     /// Accepts a payload without a look at the window, as a record of one that was accepted asks for it.
     pub fn keep(&mut self, payload: Blob) -> Result<u64, Memory>
         requires is_open { self.old.facts.phase ≡ OutPhase.Open }
-        requires within { length self.old.facts.accepted < max_number }
+        requires within { accepted_count self.old.facts < max_number }
         ensures ok { OnOk result (self.new ≡ with_payload self.old payload) }
-        ensures number { IfOk result (λ number. number ≡ length self.old.facts.accepted + 1) }
+        ensures number { IfOk result (λ number. number ≡ accepted_count self.old.facts + 1) }
         ensures ready { 0 < self.old.room.payloads → IsOk result }
         ensures err { OnErr result (self.new ≡ self.old) }
     {
-        let number = self.accepted.len() as u64 + 1;
+        let number = self.accepted_len() + 1;
         self.accepted.push(payload)?;
         self.payloads_claimed = self.payloads_claimed.saturating_sub(1);
         Ok(number)
@@ -153,6 +174,37 @@ impl Outgoing {
         let is_new = self.acked.unite(given)?;
         self.ranges_claimed = self.ranges_claimed.saturating_sub(given.ranges().len());
         Ok(is_new)
+    }
+
+    /// Begins behind a message number: the payloads up to it were accepted and acknowledged, and are gone.
+    pub fn restore(&mut self, upto: u64) -> Result<(), Memory>
+        requires nothing { accepted_count self.old.facts ≡ 0 }
+        requires from_one { 0 < upto }
+        requires within { upto ≤ max_number }
+        ensures ok { OnOk result (self.new ≡ with_dropped self.old upto) }
+        ensures err { OnErr result (self.new ≡ self.old) }
+    {
+        let room = self.ranges_claimed.checked_add(1).ok_or(Memory)?;
+        self.acked.reserve(room)?;
+        ends_are_right();
+        self.acked.insert_range(1, upto)?;
+        self.dropped = upto;
+        Ok(())
+    }
+
+    /// Gives up the payloads of the messages 1 to n, for the greatest n such that these are acknowledged, and the room
+    /// that was made and not used. It takes no memory.
+    pub fn settle(&mut self)
+        ensures { self.new ≡ record { facts = settled self.old.facts; room = no_room } }
+    {
+        ends_are_right();
+        let front = self.acked.front();
+        let more = front.saturating_sub(self.dropped);
+        self.payloads_claimed = 0;
+        self.ranges_claimed = 0;
+        let items = mem::replace(&mut self.accepted, RoomyItems::new(self.alloc));
+        self.accepted = behind(items, more as usize);
+        self.dropped = self.dropped.max(front);
     }
 
     /// Makes room for so many more payloads and ranges, beside what there is room for: so many more calls of `accept`
@@ -191,6 +243,18 @@ impl Outgoing {
             phase => Some(SourceError::NotOpen { phase }),
         }
     }
+}
+
+/// The items behind the first so many. It takes no memory.
+fn behind(items: RoomyItems<Blob>, first: usize) -> RoomyItems<Blob>
+    requires { first ≤ length items.facts }
+    ensures { result.facts ≡ drop first items.facts }
+{
+    let mut left = items.into_vec();
+    let count = left.len() - first;
+    left.rotate_left(first);
+    left.truncate(count);
+    RoomyItems::from_vec(left)
 }
 
 /// Why no payload is accepted after this many, of which so many are not acknowledged.

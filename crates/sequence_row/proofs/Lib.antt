@@ -1,1 +1,2 @@
-mod UpToLemmas
+pub mod GoneLemmas
+pub mod UpToLemmas

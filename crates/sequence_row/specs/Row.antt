@@ -1,9 +1,9 @@
 -- One sequence of a node as contracts see it: what is known of it, and the room for more.
-use Rattle.std.specs.Prelude.{◌≡◌, ℕ, ◌+◌, ◌==◌, ◌&&◌, nat_le, nat_lt, not, Bool, true, false, List, [], ◌∷◌, ◌++◌}
-use Rattle.std.specs.Prelude.{length, Option, Some, None}
+use Rattle.std.specs.Prelude.{◌≡◌, ℕ, ◌+◌, max, ◌==◌, ◌&&◌, nat_le, nat_lt, not, Bool, true, false, List, [], ◌∷◌}
+use Rattle.std.specs.Prelude.{◌++◌, length, Option, Some, None}
 use Rattle.ack_ranges.specs.declared.range.Range.{Range}
 use Rattle.ack_ranges.specs.Changes.{united}
-use Rattle.ack_ranges.specs.Ranges.{greatest_of}
+use Rattle.ack_ranges.specs.Ranges.{count_of, greatest_of}
 use Rattle.rm_base.specs.Message.{max_number}
 use Rattle.rm_base.specs.declared.message.Cause.{Cause}
 use Rattle.rm_base.specs.declared.message.Cause.TheVariants.{Peer}
@@ -11,15 +11,15 @@ use Rattle.rm_base.specs.declared.message.Payload.{Payload}
 use Rattle.rm_base.specs.NumberSet.{has_number}
 use Rattle.rm_source.specs.declared.phase.OutPhase.{OutPhase}
 use Rattle.rm_source.specs.declared.phase.OutPhase.TheVariants as out
-use Rattle.rm_source.specs.Outgoing.{Sending}
-use Rattle.rm_destination.specs.Incoming.{Receiving}
-use Rattle.rm_destination.specs.Messages.{is_empty, any_true, numbers_of}
+use Rattle.rm_source.specs.Outgoing.{Sending, accepted_count, first_run, settled}
+use Rattle.rm_destination.specs.Incoming.{Receiving, forgotten as forgotten_in, fresh, held, inbox}
+use Rattle.rm_destination.specs.Messages.{is_empty, any_true}
 use Rattle.std.specs.List.{list_all}
 use Rattle.record_batch.specs.Fact.{Fact, Created, Accepted, Acked, Received, Closing, ClosedOut, Closed}
 use Rattle.record_batch.specs.Fact.{Ending}
-use Rattle.record_batch.specs.Fact.{EndedOut, Ended, Failed}
+use Rattle.record_batch.specs.Fact.{EndedOut, Ended, Failed, Consumed, Dropped, Purged}
 use Rattle.sequence_table.specs.Makers.{Maker, maker, counter}
-use Rattle.sequence_table.specs.Fits.{fits, follows, is_up_to}
+use Rattle.sequence_table.specs.Fits.{fits, follows, is_up_to, is_first_run}
 use Rattle.sequence_table.specs.Told.{Told, Side, Sends, Receives, names, side_of, after}
 use Rattle.sequence_row.specs.declared.row.Core.{Core}
 use Rattle.sequence_row.specs.declared.row.Core.TheVariants as core
@@ -64,17 +64,14 @@ is_timed (Receives t) = is_moment t.deadline
 
 -- a sequence that was just made
 abbrev pub started : Start → Told
-started (Asked ticket) =
-    record { ticket = Some ticket; side = Sends (record { phase = out.Creating; accepted = []; acked = [] }) }
-started Taken = record { ticket = None; side = Sends (record { phase = out.Open; accepted = []; acked = [] }) }
-started (Offered behaviour) = record {
-  ticket = None;
-  side = Receives (record { behaviour = behaviour; deadline = None; received = []; closes = []; told = [] });
+started (Asked ticket) = record {
+  ticket = Some ticket;
+  side = Sends (record { phase = out.Creating; dropped = 0; accepted = []; acked = [] });
 }
-started (Granted behaviour deadline) = record {
-  ticket = None;
-  side = Receives (record { behaviour = behaviour; deadline = deadline; received = []; closes = []; told = [] });
-}
+started Taken =
+    record { ticket = None; side = Sends (record { phase = out.Open; dropped = 0; accepted = []; acked = [] }) }
+started (Offered behaviour) = record { ticket = None; side = Receives (fresh behaviour None).facts }
+started (Granted behaviour deadline) = record { ticket = None; side = Receives (fresh behaviour deadline).facts }
 
 -- what was announced with it is a moment
 abbrev pub is_timed_start : Start → Bool
@@ -108,12 +105,12 @@ receiving_in (Receives t) = Some t
 
 -- one more payload may be accepted: their numbers end at 9223372036854775807
 abbrev pub takes_payload : Side → Bool
-takes_payload (Sends t) = is_open t.phase && nat_lt (length t.accepted) max_number
+takes_payload (Sends t) = is_open t.phase && nat_lt (accepted_count t) max_number
 takes_payload (Receives t) = false
 
 -- the numbers of these ranges may be acknowledged
 abbrev pub takes_acked : Side → List Range → Bool
-takes_acked (Sends t) ranges = nat_le (greatest_of ranges) (length t.accepted)
+takes_acked (Sends t) ranges = nat_le (greatest_of ranges) (accepted_count t)
 takes_acked (Receives t) ranges = false
 
 -- it receives, and was neither closed nor ended
@@ -131,7 +128,23 @@ abbrev pub takes_message : Side → ℕ → Bool
 takes_message (Sends t) number = false
 takes_message (Receives t) number =
     is_empty t.closes && (nat_le 1 number && (nat_le number max_number
-    && not (has_number (numbers_of t.received) number)))
+    && not (has_number (held t) number)))
+
+-- the messages 1 to n may be gone: nothing was accepted
+abbrev pub takes_dropped : Side → ℕ → Bool
+takes_dropped (Sends t) n = (accepted_count t == 0) && (nat_le 1 n && nat_le n max_number)
+takes_dropped (Receives t) n = false
+
+-- the application may have consumed the inbox up to item n: the cursor is before it
+abbrev pub takes_consumed : Side → ℕ → Bool
+takes_consumed (Sends t) n = false
+takes_consumed (Receives t) n = nat_lt t.cursor n && nat_le n (length (inbox t))
+
+-- the messages with these numbers may be gone: nothing was received, and they are 1 to some number
+abbrev pub takes_purged : Side → List Range → Bool
+takes_purged (Sends t) ranges = false
+takes_purged (Receives t) ranges =
+    is_empty (held t) && (list_all (is_up_to max_number) ranges && is_first_run ranges)
 
 -- one more payload
 abbrev pub with_accepted : Side → List ℕ → Side
@@ -147,6 +160,27 @@ with_acked (Receives t) ranges = Receives t
 abbrev pub with_received : Side → ℕ → Payload → Side
 with_received (Sends t) number payload = Sends t
 with_received (Receives t) number payload = Receives (record t { received = t.received ++ (number, payload) ∷ [] })
+
+-- the messages 1 to n are acknowledged and gone
+abbrev pub with_dropped : Side → ℕ → Side
+with_dropped (Sends t) n = Sends (record t { dropped = n; acked = united t.acked (first_run n) })
+with_dropped (Receives t) n = Receives t
+
+-- the application consumed the first n items of the inbox
+abbrev pub with_cursor : Side → ℕ → Side
+with_cursor (Sends t) n = Sends t
+with_cursor (Receives t) n = Receives (record t { cursor = max t.cursor n })
+
+-- the messages with these numbers were received, were consumed, and are gone
+abbrev pub with_purged : Side → List Range → Side
+with_purged (Sends t) ranges = Sends t
+with_purged (Receives t) ranges =
+    Receives (record t { purged = t.purged ++ ranges; cursor = max t.cursor (count_of ranges) })
+
+-- without the payloads that nobody needs
+abbrev pub forgotten : Side → Side
+forgotten (Sends t) = Sends (settled t)
+forgotten (Receives t) = Receives (forgotten_in t)
 
 -- another phase
 abbrev pub in_phase : Side → OutPhase → Side
@@ -167,19 +201,24 @@ stopped (Receives t) ends cause last =
 -- the record may come next for a sequence that sends, but for the numbers that it draws
 abbrev pub sender_takes : Sending → Fact → Bool
 sender_takes t (Accepted seq payload) =
-    follows t.phase (Accepted seq payload) && nat_lt (length t.accepted) max_number
-sender_takes t (Acked seq ranges) = list_all (is_up_to (length t.accepted)) ranges
+    follows t.phase (Accepted seq payload) && nat_lt (accepted_count t) max_number
+sender_takes t (Acked seq ranges) = list_all (is_up_to (accepted_count t)) ranges
+sender_takes t (Dropped seq upto) = follows t.phase (Dropped seq upto) && takes_dropped (Sends t) upto
 sender_takes t (Received seq n payload) = false
 sender_takes t (Closed seq cause last) = false
 sender_takes t (Ended seq cause last) = false
+sender_takes t (Consumed seq upto) = false
+sender_takes t (Purged seq ranges) = false
 sender_takes t f = follows t.phase f
 
 -- the record may come next for a sequence that receives
 abbrev pub receiver_takes : Receiving → Fact → Bool
 receiver_takes t (Received seq n payload) =
-    nat_le 1 n && (nat_le n max_number && (not (has_number (numbers_of t.received) n) && is_empty t.closes))
+    nat_le 1 n && (nat_le n max_number && (not (has_number (held t) n) && is_empty t.closes))
 receiver_takes t (Closed seq cause last) = is_empty t.closes
 receiver_takes t (Ended seq cause last) = not (any_true t.closes)
+receiver_takes t (Consumed seq upto) = takes_consumed (Receives t) upto
+receiver_takes t (Purged seq ranges) = takes_purged (Receives t) ranges
 receiver_takes t f = false
 
 -- the record may come next for the sequence that it names, but for the numbers that it draws
@@ -213,6 +252,9 @@ side_step x (Ending seq ticket) = in_phase x out.Ending
 side_step x (EndedOut seq) = in_phase x out.Ended
 side_step x (Ended seq cause last) = stopped x true cause last
 side_step x (Failed seq fault) = in_phase x out.Failed
+side_step x (Consumed seq upto) = with_cursor x upto
+side_step x (Dropped seq upto) = with_dropped x upto
+side_step x (Purged seq ranges) = with_purged x ranges
 side_step x _ = x
 
 -- the ticket after a record that names the sequence

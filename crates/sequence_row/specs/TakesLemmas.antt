@@ -12,13 +12,15 @@ use Rattle.wsa_headers.specs.declared.endpoint.Epr.{Epr}
 use Rattle.rm_destination.specs.Messages.{is_empty, any_true}
 use Rattle.record_batch.specs.Fact.{Fact, Made, Creating, Granted, Created, Accepted, Acked, Received}
 use Rattle.record_batch.specs.Fact.{Closing}
-use Rattle.record_batch.specs.Fact.{ClosedOut, Closed, Ending, EndedOut, Ended, Failed}
+use Rattle.record_batch.specs.Fact.{ClosedOut, Closed, Ending, EndedOut, Ended, Failed, Consumed, Dropped, Purged}
 use Rattle.rm_destination.specs.Messages.{is_empty as no_items}
 use Rattle.sequence_table.specs.Makers.{Maker, Outgoing, maker, counter}
-use Rattle.sequence_table.specs.Sources.{accepted, phase}
+use Rattle.sequence_table.specs.Sources.{accepted_count, phase}
 use Rattle.rm_destination.specs.Messages.{any_true as has_true}
-use Rattle.sequence_table.specs.Destinations.{closes, held}
+use Rattle.rm_destination.specs.Incoming.{inbox_of}
+use Rattle.sequence_table.specs.Destinations.{behaviour_of, closes, cursor, held, messages, told}
 use Rattle.sequence_table.specs.Fits.{fits, follows, is_outgoing_side, is_incoming_side, is_up_to}
+use Rattle.sequence_table.specs.Fits.{is_first_run}
 use Rattle.sequence_table.specs.Told.{names, side_of}
 use Rattle.sequence_row.specs.Row.{takes, draws_next, is_sender, is_receiver}
 
@@ -81,15 +83,25 @@ failed r s fault _ = refl
 
 accepting : (r : List Fact) (s : ℕ) (payload : List ℕ) (m : Maker)
     → ((is_sender (side_of r s m) && follows (phase r s) (Accepted s payload))
-    && nat_lt (length (accepted r s)) max_number) ≡ takes (side_of r s m) (Accepted s payload)
+    && nat_lt (accepted_count r s) max_number) ≡ takes (side_of r s m) (Accepted s payload)
 accepting r s payload (Outgoing number to via lapse) = refl
 accepting r s payload _ = refl
 
 acking : (r : List Fact) (s : ℕ) (ranges : List Range) (m : Maker)
-    → (is_sender (side_of r s m) && list_all (is_up_to (length (accepted r s))) ranges)
+    → (is_sender (side_of r s m) && list_all (is_up_to (accepted_count r s)) ranges)
     ≡ takes (side_of r s m) (Acked s ranges)
 acking r s ranges (Outgoing number to via lapse) = refl
 acking r s ranges _ = refl
+
+-- the tests of a record Dropped, but for the side and the phase
+abbrev may_be_gone : List Fact → ℕ → ℕ → Bool
+may_be_gone r s upto = (accepted_count r s == 0) && (nat_le 1 upto && nat_le upto max_number)
+
+dropping : (r : List Fact) (s upto : ℕ) (m : Maker)
+    → ((is_sender (side_of r s m) && follows (phase r s) (Dropped s upto)) && may_be_gone r s upto)
+    ≡ takes (side_of r s m) (Dropped s upto)
+dropping r s upto (Outgoing number to via lapse) = refl
+dropping r s upto _ = refl
 
 -- the tests of a record Received, but for the side
 abbrev is_next_message : List Fact → ℕ → ℕ → Bool
@@ -111,6 +123,22 @@ ended : (r : List Fact) (s : ℕ) (cause : Cause) (last : ℕ) (m : Maker)
 ended r s cause last (Outgoing number to via lapse) = refl
 ended r s cause last _ = refl
 
+-- the tests of a record Consumed, but for the side
+abbrev is_further : List Fact → ℕ → ℕ → Option Maker → Bool
+is_further r s upto o =
+    nat_lt (cursor r s) upto && nat_le upto (length (inbox_of (behaviour_of o) (told r s) (messages r s)))
+
+consuming : (r : List Fact) (s upto : ℕ) (m : Maker)
+    → (is_receiver (side_of r s m) && is_further r s upto (Some m)) ≡ takes (side_of r s m) (Consumed s upto)
+consuming r s upto (Outgoing number to via lapse) = refl
+consuming r s upto _ = refl
+
+purging : (r : List Fact) (s : ℕ) (ranges : List Range) (m : Maker)
+    → (is_receiver (side_of r s m) && (is_empty (held r s)
+    && (list_all (is_up_to max_number) ranges && is_first_run ranges))) ≡ takes (side_of r s m) (Purged s ranges)
+purging r s ranges (Outgoing number to via lapse) = refl
+purging r s ranges _ = refl
+
 pub fits-takes : (r : List Fact) (f : Fact) (m : Maker) → maker r (names f) ≡ Some m
     → fits r f ≡ (draws_next r f && takes (side_of r (names f) m) f)
 fits-takes r (Made node address) m e = absurd (none-some m e)
@@ -118,8 +146,8 @@ fits-takes r (Creating ticket to via lapse offer) m e = absurd (none-some m e)
 fits-takes r (Granted number message_id acks_to behaviour deadline lapse offer) m e = absurd (none-some m e)
 fits-takes r (Accepted s payload) m e =
     ap (λ o. (is_outgoing_side o && follows (phase r s) (Accepted s payload))
-    && nat_lt (length (accepted r s)) max_number) e
-    ∙ ap (λ b. (b && follows (phase r s) (Accepted s payload)) && nat_lt (length (accepted r s)) max_number)
+    && nat_lt (accepted_count r s) max_number) e
+    ∙ ap (λ b. (b && follows (phase r s) (Accepted s payload)) && nat_lt (accepted_count r s) max_number)
     (outgoing_sender r s m)
     ∙ accepting r s payload m
 fits-takes r (Acked s ranges) m e = sent r s m e _ _ (acking r s ranges m)
@@ -139,3 +167,10 @@ fits-takes r (ClosedOut s) m e = sent r s m e _ _ (closed_out r s m)
 fits-takes r (Ending s ticket) m e = ap (λ b. (ticket == counter r + 1) && b) (sent r s m e _ _ (ending r s ticket m))
 fits-takes r (EndedOut s) m e = sent r s m e _ _ (ended_out r s m)
 fits-takes r (Failed s fault) m e = sent r s m e _ _ (failed r s fault m)
+fits-takes r (Consumed s upto) m e =
+    ap (λ o. is_incoming_side (maker r s) && is_further r s upto o) e ∙ came r s m e _ _ (consuming r s upto m)
+fits-takes r (Dropped s upto) m e =
+    ap (λ o. (is_outgoing_side o && follows (phase r s) (Dropped s upto)) && may_be_gone r s upto) e
+    ∙ ap (λ b. (b && follows (phase r s) (Dropped s upto)) && may_be_gone r s upto) (outgoing_sender r s m)
+    ∙ dropping r s upto m
+fits-takes r (Purged s ranges) m e = came r s m e _ _ (purging r s ranges m)

@@ -1,12 +1,14 @@
 //! One sequence of a node.
-ghost use Rattle.std.specs.Prelude.{◌≡◌, ◌-◌, ◌≤◌, ◌<◌, true, false, Some, None, length, IsOk, IsTrue, OnOk, OnErr};
+ghost use Rattle.std.specs.Prelude.{◌≡◌, ◌-◌, ◌≤◌, ◌<◌, ◌&&◌, true, false, Some, None, length, IsOk, IsTrue};
+ghost use Rattle.std.specs.Prelude.{OnOk, OnErr};
 ghost use Rattle.std.specs.Option.{option_copied, option_map};
 ghost use Rattle.std.specs.List.{list_all};
+ghost use Rattle.rm_base.specs.Message.{max_number};
 ghost use Rattle.rm_source.specs.Outgoing.{Sequence as OutSequence};
-ghost use Rattle.rm_destination.specs.Incoming.{Sequence as InSequence};
+ghost use Rattle.rm_destination.specs.Incoming.{Sequence as InSequence, held};
 ghost use Rattle.rm_destination.specs.Messages.{is_empty, any_true};
 ghost use Rattle.record_batch.specs.Fact.{fact_of};
-ghost use Rattle.sequence_table.specs.Fits.{follows, is_up_to};
+ghost use Rattle.sequence_table.specs.Fits.{follows, is_up_to, is_first_run};
 ghost use Rattle.sequence_table.specs.Told.{Sends, Receives};
 ghost use Rattle.sequence_row.specs.Row.{
   is_moment,
@@ -25,10 +27,17 @@ ghost use Rattle.sequence_row.specs.Row.{
   takes_message,
   is_receiving,
   takes_end,
+  takes_dropped,
+  takes_consumed,
+  takes_purged,
   with_accepted,
   with_acked,
   with_received,
+  with_dropped,
+  with_cursor,
+  with_purged,
   in_phase,
+  forgotten,
   stopped,
 };
 
@@ -214,6 +223,50 @@ impl Row {
         }
     }
 
+    /// Begins behind messages that are acknowledged and gone, for which `claim` makes no room.
+    pub fn drop_upto(&mut self, upto: u64) -> Result<(), Memory>
+        requires { IsTrue (takes_dropped self.old.told.side upto) }
+        ensures ticket { self.new.told.ticket ≡ self.old.told.ticket }
+        ensures side { OnOk result (self.new.told.side ≡ with_dropped self.old.told.side upto) }
+        ensures room { self.new.room ≡ self.old.room }
+        ensures err { OnErr result (self.new ≡ self.old) }
+    {
+        match &mut self.core {
+            Core::Sends(outgoing) => outgoing.restore(upto),
+            Core::Receives(_) => unreachable!(),
+        }
+    }
+
+    /// Notes that the application consumed the inbox up to an item.
+    pub fn consume(&mut self, upto: u64)
+        requires { IsTrue (takes_consumed self.old.told.side upto) }
+        ensures ticket { self.new.told.ticket ≡ self.old.told.ticket }
+        ensures side { self.new.told.side ≡ with_cursor self.old.told.side upto }
+        ensures room { self.new.room ≡ self.old.room }
+    {
+        match &mut self.core {
+            Core::Sends(_) => unreachable!(),
+            Core::Receives(incoming) => match incoming.consume(upto) {
+                Ok(_) => {}
+                Err(_) => unreachable!(),
+            },
+        }
+    }
+
+    /// Begins behind messages that were received, were consumed, and are gone, for which `claim` makes no room.
+    pub fn purge(&mut self, numbers: &RangeSet) -> Result<(), Memory>
+        requires { IsTrue (takes_purged self.old.told.side numbers.now.ranges) }
+        ensures ticket { self.new.told.ticket ≡ self.old.told.ticket }
+        ensures side { OnOk result (self.new.told.side ≡ with_purged self.old.told.side numbers.now.ranges) }
+        ensures room { self.new.room ≡ self.old.room }
+        ensures err { OnErr result (self.new ≡ self.old) }
+    {
+        match &mut self.core {
+            Core::Sends(_) => unreachable!(),
+            Core::Receives(incoming) => incoming.restore(numbers),
+        }
+    }
+
     /// Closes a sequence that receives. A last number of 0 counts as none.
     pub fn close(&mut self, cause: Cause, last: u64)
         requires { IsTrue (is_receiving self.old.told.side) }
@@ -255,7 +308,9 @@ impl Row {
         }
     }
 
-    /// Makes room for a record that names the sequence, beside the room that there is.
+    /// Makes room for a record that names the sequence, beside the room that there is. A record Consumed needs none. Of
+    /// messages that are gone there is no promise: room is made for none of them, and `drop_upto` and `purge` may want
+    /// memory at any time.
     pub fn claim(&mut self, given: &Record) -> Result<(), Memory>
         ensures told { self.new.told ≡ self.old.told }
         ensures ok { OnOk result (self.new.room ≡ with_room self.old.told.side self.old.room (fact_of given.now)) }
@@ -271,6 +326,21 @@ impl Row {
                 Record::Received { .. } => incoming.reserve(1),
                 _ => Ok(()),
             },
+        }
+    }
+
+    /// Gives up the payloads that nobody needs: of a sequence that sends, those of the messages 1 to n, for the
+    /// greatest n such that these are acknowledged; of one that receives, those that the application consumed, where
+    /// the inbox has them. It gives up the room that was made and not used, too, and takes no memory.
+    pub fn forget(&mut self)
+        ensures { self.new ≡ record {
+          told = record self.old.told { side = forgotten self.old.told.side };
+          room = no_room;
+        } }
+    {
+        match &mut self.core {
+            Core::Sends(outgoing) => outgoing.settle(),
+            Core::Receives(incoming) => incoming.forget(),
         }
     }
 
@@ -294,7 +364,14 @@ fn sender_takes(outgoing: &Outgoing, given: &Record) -> bool
         Record::Accepted { .. } => outgoing.phase() == OutPhase::Open
             && outgoing.accepted_len() < MAX_NUMBER,
         Record::Acked { numbers, .. } => are_up_to(numbers, outgoing.accepted_len()),
-        Record::Received { .. } | Record::Closed { .. } | Record::Ended { .. } => false,
+        Record::Dropped { upto, .. } => outgoing.phase() == OutPhase::Open
+            && outgoing.accepted_len() == 0
+            && is_message_number(*upto),
+        Record::Received { .. }
+        | Record::Closed { .. }
+        | Record::Ended { .. }
+        | Record::Consumed { .. }
+        | Record::Purged { .. } => false,
         _ => may_follow(outgoing.phase(), given),
     }
 }
@@ -305,7 +382,9 @@ fn may_follow(phase: OutPhase, given: &Record) -> bool
 {
     match given {
         Record::Created { .. } => phase == OutPhase::Creating,
-        Record::Accepted { .. } | Record::Closing { .. } => phase == OutPhase::Open,
+        Record::Accepted { .. } | Record::Dropped { .. } | Record::Closing { .. } => {
+            phase == OutPhase::Open
+        }
         Record::ClosedOut { .. } => matches!(phase, OutPhase::Open | OutPhase::Closing),
         Record::Ending { .. } => matches!(
             phase,
@@ -320,7 +399,9 @@ fn may_follow(phase: OutPhase, given: &Record) -> bool
         Record::Acked { .. }
         | Record::Received { .. }
         | Record::Closed { .. }
-        | Record::Ended { .. } => false,
+        | Record::Ended { .. }
+        | Record::Consumed { .. }
+        | Record::Purged { .. } => false,
     }
 }
 
@@ -330,6 +411,17 @@ fn are_up_to(numbers: &RangeSet, n: u64) -> bool
 {
     let _ranges = numbers.ranges();
     numbers.greatest() <= n
+}
+
+/// Whether the numbers are 1 to some number.
+fn are_first(numbers: &RangeSet) -> bool
+    ensures { result ≡ (list_all (is_up_to max_number) numbers.now.ranges && is_first_run numbers.now.ranges) }
+{
+    let ranges = numbers.ranges();
+    if ranges.len() != 1 {
+        return false;
+    }
+    ranges[0].lower == 1
 }
 
 /// Whether a record may come next for a sequence that receives.
@@ -343,8 +435,19 @@ fn receiver_takes(incoming: &Incoming, given: &Record) -> bool
         }
         Record::Closed { .. } => is_open(incoming),
         Record::Ended { .. } => !is_ended(incoming),
+        Record::Consumed { upto, .. } => {
+            incoming.consumed() < *upto && *upto <= incoming.inbox_len()
+        }
+        Record::Purged { numbers, .. } => has_nothing(incoming) && are_first(numbers),
         _ => false,
     }
+}
+
+/// Whether nothing was received.
+fn has_nothing(incoming: &Incoming) -> bool
+    ensures { result ≡ is_empty (held incoming.now.facts) }
+{
+    incoming.received().ranges().is_empty()
 }
 
 /// Whether the sequence was neither closed nor ended, but by its deadline.

@@ -1,11 +1,11 @@
 -- A batch takes at least a byte for each number that it draws.
-use Rattle.std.proofs.Common.{◌≡◌, ◌≤◌, ℕ, List, [], ◌∷◌, ◌++◌, length, Option, Some, None, refl, arith}
+use Rattle.std.proofs.Common.{◌≡◌, ◌≤◌, ℕ, List, [], ◌∷◌, ◌++◌, length, Some, None, refl, arith}
 use Rattle.std.specs.Int.{w64, to_be_bytes}
 use Rattle.std.specs.List.{flat_map}
 use Rattle.std.proofs.lemmas.List.{length-append}
 use Rattle.record_batch.specs.Batch.{creating, fact_text, batch_text}
 use Rattle.record_batch.specs.Fact.{Fact, Made, Creating, Created, Granted, Accepted, Acked, Received, Closing}
-use Rattle.record_batch.specs.Fact.{ClosedOut, Closed, Ending, EndedOut, Ended, Failed}
+use Rattle.record_batch.specs.Fact.{ClosedOut, Closed, Ending, EndedOut, Ended, Failed, Consumed, Dropped, Purged}
 use Rattle.record_batch.specs.Format.{number32, number64, optional, ◌&◌}
 use Rattle.record_batch.specs.Parts.{address, via, lapse, own_offer}
 use Rattle.sequence_table.specs.Makers.{draws_of, counter}
@@ -33,6 +33,9 @@ draws-few (Closed seq cause last) = omega arith
 draws-few (EndedOut seq) = omega arith
 draws-few (Ended seq cause last) = omega arith
 draws-few (Failed seq fault) = omega arith
+draws-few (Consumed seq upto) = omega arith
+draws-few (Dropped seq upto) = omega arith
+draws-few (Purged seq ranges) = omega arith
 
 all-few : (batch : List Fact) → length (flat_map draws_of batch) ≤ length (flat_map fact_text batch)
 all-few [] = omega arith

@@ -2,13 +2,17 @@
 use Rattle.std.specs.Prelude.{ℕ, ◌==◌, ◌||◌, not, Bool, true, false, if◌then◌else◌, List, [], ◌∷◌}
 use Rattle.std.specs.Prelude.{length, drop, Option, Some, None, map}
 use Rattle.std.specs.List.{flat_map}
+use Rattle.ack_ranges.specs.declared.range.Range.{Range}
+use Rattle.ack_ranges.specs.Ranges.{count_of}
+use Rattle.rm_base.specs.NumberSet.{greatest_of}
 use Rattle.rm_base.specs.declared.message.Behaviour.{Behaviour}
 use Rattle.rm_base.specs.declared.message.Behaviour.TheVariants.{FollowingFirstGap}
 use Rattle.rm_base.specs.declared.message.Cause.TheVariants.{Peer}
 use Rattle.rm_base.specs.declared.message.Payload.{Payload}
 use Rattle.rm_destination.specs.Incoming.{inbox_of, is_past, is_whole_by}
-use Rattle.rm_destination.specs.Messages.{any_true, contents_of, is_empty, numbers_of, sorted_onto, without_gap}
-use Rattle.record_batch.specs.Fact.{Fact, Received, Closed, Ended}
+use Rattle.rm_destination.specs.Messages.{Item, any_true, contents_of, is_empty, items_of, numbers_of, sorted_onto}
+use Rattle.rm_destination.specs.Messages.{without_gap}
+use Rattle.record_batch.specs.Fact.{Fact, Received, Closed, Ended, Consumed, Purged}
 use Rattle.sequence_table.specs.Words.{Text, at_seq}
 use Rattle.sequence_table.specs.Makers.{Maker, Incoming, Offered, maker}
 
@@ -17,20 +21,33 @@ abbrev pub received_of : ℕ → Fact → List (ℕ × Payload)
 received_of s (Received seq n payload) = if seq == s then (n, payload) ∷ [] else []
 received_of s _ = []
 
--- the messages that were received, in the order in which they came
+-- the messages that were received and aren't gone, in the order in which they came
 abbrev pub received : List Fact → ℕ → List (ℕ × Payload)
 received r s = flat_map (received_of s) r
 
+-- the numbers of messages of sequence s of which a record says that they are gone
+abbrev pub purged_of : ℕ → Fact → List Range
+purged_of s (Purged seq ranges) = if seq == s then ranges else []
+purged_of s _ = []
+
+-- the numbers of the messages that were received and are gone, as ranges
+abbrev pub purged : List Fact → ℕ → List Range
+purged r s = flat_map (purged_of s) r
+
+-- all that was received: the gone ones, and then the others in the order in which they came
+abbrev pub items : List Fact → ℕ → List (ℕ × Item)
+items r s = items_of (purged r s) (received r s)
+
 -- the numbers that were received: what was received is held for good
 abbrev pub held : List Fact → ℕ → List ℕ
-held r s = numbers_of (received r s)
+held r s = numbers_of (items r s)
 
 -- the messages that were received, by rising number
-abbrev pub messages : List Fact → ℕ → List (ℕ × Payload)
-messages r s = sorted_onto [] (received r s)
+abbrev pub messages : List Fact → ℕ → List (ℕ × Item)
+messages r s = sorted_onto [] (items r s)
 
 -- the messages up to the first gap
-abbrev pub front_part : List Fact → ℕ → List Payload
+abbrev pub front_part : List Fact → ℕ → List Item
 front_part r s = without_gap 0 (messages r s)
 
 -- the greatest m such that 1 to m were received
@@ -93,13 +110,27 @@ abbrev pub behaviour : List Fact → ℕ → Behaviour
 behaviour r s = behaviour_of (maker r s)
 
 -- what is released to the application
-abbrev pub inbox : List Fact → ℕ → List Payload
+abbrev pub inbox : List Fact → ℕ → List Item
 inbox r s = inbox_of (behaviour r s) (told r s) (messages r s)
 
 -- of what was received, what is never released, once the sequence is closed or ended by a record
-abbrev pub discarded : List Fact → ℕ → List Payload
+abbrev pub discarded : List Fact → ℕ → List Item
 discarded r s = if is_stopped r s then drop (length (inbox r s)) (contents_of (messages r s)) else []
 
 -- the bytes of payloads
 abbrev pub texts : List Payload → List Text
 texts ps = map (λ (p : Payload). p.bytes) ps
+
+-- how far a record says that the application of sequence s has consumed
+abbrev pub cursor_of : ℕ → Fact → List ℕ
+cursor_of s (Consumed seq upto) = if seq == s then upto ∷ [] else []
+cursor_of s (Purged seq ranges) = if seq == s then count_of ranges ∷ [] else []
+cursor_of s _ = []
+
+-- how many items of the inbox the application has consumed
+abbrev pub cursor : List Fact → ℕ → ℕ
+cursor r s = greatest_of (flat_map (cursor_of s) r)
+
+-- what is released by records among which nothing is gone
+abbrev pub released : List Fact → ℕ → List Payload
+released r s = inbox_of (behaviour r s) (told r s) (sorted_onto [] (received r s))

@@ -1,10 +1,11 @@
--- Two lists of records: of a source and of a destination, of one sequence each.
+-- Lists of records of a source and of a destination, of one sequence each: whole, and without the first payloads.
 use Rattle.std.specs.Prelude.{ℕ, ◌∷◌, [], List, None, Some, codes}
-use Rattle.rm_base.specs.declared.message.Behaviour.TheVariants.{EntireSequence}
+use Rattle.rm_base.specs.declared.message.Behaviour.TheVariants.{EntireSequence, FollowingFirstGap}
 use Rattle.rm_base.specs.declared.message.Payload.{Payload}
 use Rattle.rm_base.specs.declared.lapse.Lapse.{Lapse}
 use Rattle.record_batch.specs.declared.record.Via.TheVariants.{Direct}
 use Rattle.record_batch.specs.Fact.{Fact, Made, Creating, Created, Granted, Accepted, Acked, Received, Closing}
+use Rattle.record_batch.specs.Fact.{Dropped, Purged}
 use Rattle.sequence_table.specs.Find.{plain_endpoint}
 
 -- a duration that never ends
@@ -27,3 +28,16 @@ a_destination =
     Made 2 (codes "urn:b") ∷ Granted 1 (codes "urn:m") (plain_endpoint (codes "urn:a")) EntireSequence (Some 100)
     never None
     ∷ Received 1 2 (of_text (8 ∷ [])) ∷ Received 1 3 (of_text (9 ∷ [])) ∷ Received 1 1 (of_text (7 ∷ [])) ∷ []
+
+-- of three messages the payloads of the first two are gone
+abbrev pub a_short_source : List Fact
+a_short_source =
+    Made 1 (codes "urn:a") ∷ Creating 1 (codes "urn:b") Direct never None ∷ Created 1 (codes "urn:s") None
+    ∷ Dropped 1 2 ∷ Accepted 1 (9 ∷ []) ∷ []
+
+-- the same of what was received
+abbrev pub a_short_destination : List Fact
+a_short_destination =
+    Made 2 (codes "urn:b") ∷ Granted 1 (codes "urn:m") (plain_endpoint (codes "urn:a")) FollowingFirstGap None
+    never None
+    ∷ Purged 1 (record { lower = 1; upper = 2 } ∷ []) ∷ Received 1 3 (of_text (9 ∷ [])) ∷ []

@@ -11,11 +11,11 @@ use Rattle.rm_source.specs.declared.phase.OutPhase.{OutPhase}
 use Rattle.rm_source.specs.declared.phase.OutPhase.TheVariants as out
 use Rattle.record_batch.specs.declared.record.OwnOffer.{OwnOffer}
 use Rattle.record_batch.specs.Fact.{Fact, Made, Creating, Created, Granted, Accepted, Acked, Received, Closing}
-use Rattle.record_batch.specs.Fact.{ClosedOut, Closed, Ending, EndedOut, Ended, Failed}
+use Rattle.record_batch.specs.Fact.{ClosedOut, Closed, Ending, EndedOut, Ended, Failed, Consumed, Dropped, Purged}
 use Rattle.rm_destination.specs.Messages.{is_empty}
 use Rattle.sequence_table.specs.Makers.{Maker, Outgoing, Offered, Incoming, Taken, makers, makers_of, maker, counter}
-use Rattle.sequence_table.specs.Sources.{accepted, phase}
-use Rattle.sequence_table.specs.Destinations.{held, is_stopped, has_end}
+use Rattle.sequence_table.specs.Sources.{accepted_count, phase}
+use Rattle.sequence_table.specs.Destinations.{cursor, held, inbox, is_stopped, has_end}
 
 -- a sequence that was made so is outgoing
 abbrev pub is_outgoing_side : Option Maker → Bool
@@ -34,6 +34,7 @@ abbrev pub follows : OutPhase → Fact → Bool
 follows out.Creating (Created seq ident accept) = true
 follows out.Creating (Failed seq fault) = true
 follows out.Open (Accepted seq payload) = true
+follows out.Open (Dropped seq upto) = true
 follows out.Open (Closing seq ticket) = true
 follows out.Open (ClosedOut seq) = true
 follows out.Open (Ending seq ticket) = true
@@ -74,6 +75,11 @@ has_places r rec = nat_le (length (makers r) + length (makers_of rec)) 429496729
 abbrev pub is_up_to : ℕ → Range → Bool
 is_up_to n range = nat_le 1 range.lower && nat_le range.upper n
 
+-- the numbers are exactly 1 to some n
+abbrev pub is_first_run : List Range → Bool
+is_first_run (x ∷ []) = (x.lower == 1) && nat_le 1 x.upper
+is_first_run _ = false
+
 -- the record may come after r. A message number is at most 9223372036854775807: WS-ReliableMessaging 1.2, section 3.7
 abbrev pub fits : List Fact → Fact → Bool
 fits r (Made node address) = is_empty r && (nat_le 1 node && nat_lt node (2 ^ 60))
@@ -84,8 +90,8 @@ fits r (Granted drawn message_id acks_to behaviour deadline lapse offer) =
     (drawn == counter r + 1) && (not (is_no_moment deadline) && (is_in_order behaviour
     && has_places r (Granted drawn message_id acks_to behaviour deadline lapse offer)))
 fits r (Accepted seq payload) =
-    follows_at r seq (Accepted seq payload) && nat_lt (length (accepted r seq)) max_number
-fits r (Acked seq ranges) = is_outgoing_side (maker r seq) && list_all (is_up_to (length (accepted r seq))) ranges
+    follows_at r seq (Accepted seq payload) && nat_lt (accepted_count r seq) max_number
+fits r (Acked seq ranges) = is_outgoing_side (maker r seq) && list_all (is_up_to (accepted_count r seq)) ranges
 fits r (Received seq n payload) =
     is_incoming_side (maker r seq) && (nat_le 1 n && (nat_le n max_number
     && (not (has_number (held r seq) n) && not (is_stopped r seq))))
@@ -96,6 +102,14 @@ fits r (Ending seq ticket) = (ticket == counter r + 1) && follows_at r seq (Endi
 fits r (EndedOut seq) = follows_at r seq (EndedOut seq)
 fits r (Ended seq cause last) = is_incoming_side (maker r seq) && not (has_end r seq)
 fits r (Failed seq fault) = follows_at r seq (Failed seq fault)
+fits r (Consumed seq upto) =
+    is_incoming_side (maker r seq) && (nat_lt (cursor r seq) upto && nat_le upto (length (inbox r seq)))
+fits r (Dropped seq upto) =
+    follows_at r seq (Dropped seq upto)
+    && ((accepted_count r seq == 0) && (nat_le 1 upto && nat_le upto max_number))
+fits r (Purged seq ranges) =
+    is_incoming_side (maker r seq)
+    && (is_empty (held r seq) && (list_all (is_up_to max_number) ranges && is_first_run ranges))
 
 -- each of the records may come after those before it
 abbrev pub all_fit : List Fact → List Fact → Bool

@@ -1,6 +1,7 @@
 -- Lists that are gathered record by record, after one more record.
-use Rattle.std.proofs.Common.{◌≡◌, ◌≢◌, ℕ, ◌+◌, ◌<◌, ◌≤◌, ◌==◌, Bool, true, false, cond, List, [], ◌∷◌, ◌++◌, length}
-use Rattle.std.proofs.Common.{refl, sym, ap, ◌∙◌, arith, Option, Some, None}
+use Rattle.std.proofs.Common.{◌≡◌, ℕ, ◌+◌, ◌==◌, true, false, cond, List, [], ◌∷◌, ◌++◌, length}
+use Rattle.std.proofs.Common.{refl, sym, ap, ◌∙◌, arith, Option, Some, max}
+use Rattle.rm_base.specs.NumberSet.{greatest_of}
 use Rattle.std.specs.List.{flat_map}
 use Rattle.std.specs.Option.{option_or}
 use Rattle.std.proofs.lemmas.Grind.{flat_map-append}
@@ -67,3 +68,7 @@ created_from-more k (x ∷ r) f =
     ap (λ cs. created_of k x ++ cs) rest
     ∙ sym (append_assoc (created_of k x) (created_from (k + length (makers_of x)) r) _)
     ∙ ap (λ n. (created_of k x ++ created_from (k + length (makers_of x)) r) ++ created_of n f) (sym count)
+
+pub greatest_of-append : (xs ys : List ℕ) → greatest_of (xs ++ ys) ≡ max (greatest_of xs) (greatest_of ys)
+greatest_of-append [] ys = omega arith
+greatest_of-append (x ∷ xs) ys = omega (arith, greatest_of-append xs ys)

@@ -1,22 +1,22 @@
 -- Records name sequences that are there, and say nothing of others.
-use Rattle.std.proofs.Common.{◌≡◌, ◌≢◌, ℕ, zero, suc, ◌+◌, ◌-◌, ◌<◌, ◌≤◌, ◌==◌, Bool, true, false, cond, List, []}
+use Rattle.std.proofs.Common.{◌≡◌, ◌≢◌, ℕ, ◌+◌, ◌-◌, ◌<◌, ◌≤◌, ◌==◌, Bool, true, false, cond, List, []}
 use Rattle.std.proofs.Common.{◌∷◌, ◌++◌, length, refl, sym, ap, subst, ◌∙◌, arith, inl, inr, Option, Some, None}
-use Rattle.std.specs.Prelude.{◌&&◌, not, nat_lt, nat_le, slice_get}
+use Rattle.std.specs.Prelude.{not, nat_lt, slice_get}
 use Rattle.std.specs.List.{flat_map, list_all}
-use Rattle.std.proofs.lemmas.Bool.{and_parts, cases_eq, eqb-true, ne_eqb, false≢true}
+use Rattle.std.proofs.lemmas.Bool.{and_parts, cases_eq, ne_eqb, false≢true}
 use Rattle.std.proofs.lemmas.List.{append_assoc, length-append}
 use Rattle.std.proofs.lemmas.Grind.{flat_map-append}
 use Rattle.std.proofs.lemmas.Option.{slice_get_cases}
 use Rattle.rm_base.specs.Message.{max_number}
 use Rattle.rm_base.specs.Numbered.{numbered}
-use Rattle.rm_base.specs.NumberSet.{has_number}
 use Rattle.rm_base.specs.declared.message.Cause.TheVariants.{Peer}
-use Rattle.record_batch.specs.Fact.{Fact, Made, Creating, Created, Granted, Accepted, Acked, Received, Closing}
-use Rattle.record_batch.specs.Fact.{ClosedOut, Closed, Ending, EndedOut, Ended, Failed}
-use Rattle.sequence_table.specs.Words.{Text, at_seq}
-use Rattle.sequence_table.specs.Makers.{Maker, makers, makers_of, maker, counter, created_of, created_from, ident_in}
-use Rattle.sequence_table.specs.Sources.{accepted, accepted_of, acked_of, mark_of, phase, ticket_of}
-use Rattle.sequence_table.specs.Destinations.{close_of, held, has_end, is_stopped, received_of, told_of}
+use Rattle.record_batch.specs.Fact.{Fact, Creating, Created, Granted, Accepted, Acked, Received, Closing}
+use Rattle.record_batch.specs.Fact.{ClosedOut, Closed, Ending, EndedOut, Ended, Failed, Consumed, Dropped, Purged}
+use Rattle.sequence_table.specs.Words.{at_seq}
+use Rattle.sequence_table.specs.Makers.{Maker, makers, makers_of, maker, counter, created_from, ident_in}
+use Rattle.sequence_table.specs.Sources.{accepted_count, accepted_of, acked_of, dropped_of, mark_of, phase, ticket_of}
+use Rattle.sequence_table.specs.Destinations.{close_of, cursor_of, has_end, is_stopped, purged_of, received_of}
+use Rattle.sequence_table.specs.Destinations.{told_of}
 use Rattle.sequence_table.specs.Find.{accept_of}
 use Rattle.sequence_table.specs.Fits.{fits, all_fit, follows, follows_at, is_outgoing_side, is_incoming_side, is_up_to}
 use Rattle.sequence_table.specs.Told.{names}
@@ -51,10 +51,10 @@ pub names-within : (r : List Fact) (f : Fact) → fits r f ≡ true → names f 
 names-within r (Created seq ident accept) h = follows_within r seq (Created seq ident accept) h
 names-within r (Accepted seq payload) h =
     follows_within r seq (Accepted seq payload)
-    (and_parts (follows_at r seq (Accepted seq payload)) (nat_lt (length (accepted r seq)) max_number) h).0
+    (and_parts (follows_at r seq (Accepted seq payload)) (nat_lt (accepted_count r seq) max_number) h).0
 names-within r (Acked seq ranges) h =
     outgoing_within r seq
-    (and_parts (is_outgoing_side (maker r seq)) (list_all (is_up_to (length (accepted r seq))) ranges) h).0
+    (and_parts (is_outgoing_side (maker r seq)) (list_all (is_up_to (accepted_count r seq)) ranges) h).0
 names-within r (Received seq n payload) h = incoming_within r seq (and_parts (is_incoming_side (maker r seq)) _ h).0
 names-within r (Closing seq ticket) h =
     follows_within r seq (Closing seq ticket)
@@ -69,6 +69,10 @@ names-within r (EndedOut seq) h = follows_within r seq (EndedOut seq) h
 names-within r (Ended seq cause last) h =
     incoming_within r seq (and_parts (is_incoming_side (maker r seq)) (not (has_end r seq)) h).0
 names-within r (Failed seq fault) h = follows_within r seq (Failed seq fault) h
+names-within r (Consumed seq upto) h = incoming_within r seq (and_parts (is_incoming_side (maker r seq)) _ h).0
+names-within r (Dropped seq upto) h =
+    follows_within r seq (Dropped seq upto) (and_parts (follows_at r seq (Dropped seq upto)) _ h).0
+names-within r (Purged seq ranges) h = incoming_within r seq (and_parts (is_incoming_side (maker r seq)) _ h).0
 names-within r _ h = omega arith
 
 -- each record names a sequence up to n, or none
@@ -101,11 +105,25 @@ elsewhere_accepted _ s ne = refl
 
 pub elsewhere_acked : (f : Fact) (s : ℕ) → names f ≢ s → acked_of s f ≡ []
 elsewhere_acked (Acked seq ranges) s ne = rw (ne_eqb seq s ne) refl
+elsewhere_acked (Dropped seq upto) s ne = rw (ne_eqb seq s ne) refl
 elsewhere_acked _ s ne = refl
 
 pub elsewhere_received : (f : Fact) (s : ℕ) → names f ≢ s → received_of s f ≡ []
 elsewhere_received (Received seq n payload) s ne = rw (ne_eqb seq s ne) refl
 elsewhere_received _ s ne = refl
+
+pub elsewhere_dropped : (f : Fact) (s : ℕ) → names f ≢ s → dropped_of s f ≡ []
+elsewhere_dropped (Dropped seq upto) s ne = rw (ne_eqb seq s ne) refl
+elsewhere_dropped _ s ne = refl
+
+pub elsewhere_purged : (f : Fact) (s : ℕ) → names f ≢ s → purged_of s f ≡ []
+elsewhere_purged (Purged seq ranges) s ne = rw (ne_eqb seq s ne) refl
+elsewhere_purged _ s ne = refl
+
+pub elsewhere_cursor : (f : Fact) (s : ℕ) → names f ≢ s → cursor_of s f ≡ []
+elsewhere_cursor (Consumed seq upto) s ne = rw (ne_eqb seq s ne) refl
+elsewhere_cursor (Purged seq ranges) s ne = rw (ne_eqb seq s ne) refl
+elsewhere_cursor _ s ne = refl
 
 pub elsewhere_mark : (f : Fact) (s : ℕ) → names f ≢ s → at_seq s (mark_of f) ≡ []
 elsewhere_mark (Closing seq ticket) s ne = rw (ne_eqb seq s ne) refl

@@ -2,13 +2,13 @@
 use Rattle.std.proofs.Common.{◌≡◌, ℕ, ◌+◌, Bool, true, false, List, [], ◌∷◌, ◌++◌, length, refl, sym, ap, ◌∙◌, arith}
 use Rattle.std.specs.Prelude.{◌&&◌, nat_le, nat_lt, ◌^◌}
 use Rattle.std.specs.List.{flat_map}
-use Rattle.std.proofs.lemmas.Bool.{and_parts, cases_Bool, false≢true}
+use Rattle.std.proofs.lemmas.Bool.{and_parts, false≢true}
 use Rattle.std.proofs.lemmas.List.{append-nil, append_assoc, length-append}
 use Rattle.record_batch.specs.Fact.{Fact, Made}
 use Rattle.rm_destination.specs.Messages.{is_empty}
 use Rattle.sequence_table.specs.Words.{first_or}
 use Rattle.sequence_table.specs.Makers.{makers, makers_of, draws_of, counter, nodes_of, number, addresses_of}
-use Rattle.sequence_table.specs.Makers.{created, created_from, created_of}
+use Rattle.sequence_table.specs.Makers.{created, created_of}
 use Rattle.sequence_table.specs.Fits.{fits, all_fit}
 use Rattle.sequence_table.specs.OneMore.{OneMoreOfTheNode, number_after}
 use Rattle.sequence_table.specs.GatherLemmas.{flat_map-more, created_from-more}

@@ -1,8 +1,7 @@
 -- What one more record changes of what a list of records says, each the contract of a function in src/laws.rt.
-use Rattle.std.specs.Prelude.{◌≡◌, ◌≢◌, ℕ, ◌+◌, ◌≤◌, ◌&&◌, true, List, [], ◌∷◌, ◌++◌, length, map, Option, Some}
+use Rattle.std.specs.Prelude.{◌≡◌, ◌≢◌, ℕ, ◌+◌, ◌≤◌, ◌&&◌, true, List, [], ◌∷◌, ◌++◌, length, map}
 use Rattle.std.specs.List.{flat_map}
 use Rattle.record_batch.specs.Fact.{Fact, Made}
-use Rattle.sequence_table.specs.Words.{Text}
 use Rattle.sequence_table.specs.Makers.{makers, makers_of, draws_of, counter, number, addresses_of, created, created_of}
 use Rattle.sequence_table.specs.Fits.{fits, all_fit}
 use Rattle.sequence_table.specs.Told.{Told, names, after, begun, told_all, each_after}

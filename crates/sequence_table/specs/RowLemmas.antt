@@ -1,13 +1,11 @@
 -- What the records say of each sequence, after one more record.
-use Rattle.std.proofs.Common.{◌≡◌, ◌≢◌, ℕ, zero, suc, ◌+◌, ◌-◌, ◌<◌, ◌≤◌, ◌==◌, Bool, true, false, cond, List, []}
-use Rattle.std.proofs.Common.{◌∷◌, ◌++◌, length, map, refl, sym, ap, subst, ◌∙◌, arith, inl, inr, Option, Some, None}
+use Rattle.std.proofs.Common.{◌≡◌, ℕ, ◌+◌, ◌<◌, ◌≤◌, true, List, []}
+use Rattle.std.proofs.Common.{◌∷◌, ◌++◌, length, map, refl, ap, ◌∙◌, arith, Option, Some, None}
 use Rattle.std.specs.Option.{option_or}
 use Rattle.std.proofs.lemmas.Bool.{eq-eqb}
-use Rattle.std.proofs.lemmas.List.{append-nil, length-append}
 use Rattle.rm_base.specs.declared.message.Behaviour.{Behaviour}
-use Rattle.rm_source.specs.Outgoing.{Sending}
 use Rattle.record_batch.specs.Fact.{Fact, Creating, Granted}
-use Rattle.sequence_table.specs.Makers.{Maker, makers, makers_of, created_of, created_from, ident_in}
+use Rattle.sequence_table.specs.Makers.{Maker, makers, makers_of, created_of, ident_in}
 use Rattle.sequence_table.specs.Sources.{out_ident, first_phase, tickets}
 use Rattle.sequence_table.specs.Fits.{fits, all_fit}
 use Rattle.sequence_table.specs.Told.{Sends, Receives, Told, last_onto, names, sending, receiving, told_by, after}
@@ -15,7 +13,7 @@ use Rattle.sequence_table.specs.Told.{begun, told_from, told_all, each_after}
 use Rattle.sequence_table.specs.GatherLemmas.{flat_map-more}
 use Rattle.sequence_table.specs.PhaseLemmas.{out_ident-more}
 use Rattle.sequence_table.specs.NameLemmas.{NamesUpTo, names-fit, names-more, unnamed_ident}
-use Rattle.sequence_table.specs.ToldLemmas.{sending_with, receiving_with, told_with, same_told, told-more}
+use Rattle.sequence_table.specs.ToldLemmas.{sending_with, receiving_with, same_told, told-more}
 use Rattle.sequence_table.specs.ToldLemmas.{sending-unnamed, receiving-unnamed, tickets-unnamed}
 
 told_from-more : (r : List Fact) (f : Fact) (k : ℕ) (ms : List Maker) → k + length ms ≤ length (makers r)
@@ -40,18 +38,18 @@ told_from-append r k (m ∷ ms) ns =
 
 -- the sequences that a record makes were named by no record so far
 new_sending : (r : List Fact) (f : Fact) (s : ℕ) → all_fit [] r ≡ true → names f ≡ 0 → length (makers r) < s
-    → sending (r ++ f ∷ []) s ≡ sending_with (first_phase (ident_in (created_of (length (makers r)) f) s)) [] []
+    → sending (r ++ f ∷ []) s ≡ sending_with (first_phase (ident_in (created_of (length (makers r)) f) s)) 0 [] []
 new_sending r f s fit none lt =
     let up : NamesUpTo (length (makers r)) r = names-fit r fit in
     let up2 : NamesUpTo (length (makers r)) (r ++ f ∷ []) =
     names-more (length (makers r)) r f up (omega (arith, none)) in
     let ident : out_ident r s ≡ None = unnamed_ident (length (makers r)) s 0 r up lt (omega (arith, lt)) in
     sending-unnamed (length (makers r)) s (r ++ f ∷ []) up2 lt
-    ∙ ap (λ o. sending_with (first_phase o) [] [])
+    ∙ ap (λ o. sending_with (first_phase o) 0 [] [])
     (out_ident-more r f s ∙ ap (λ o. option_or o (ident_in (created_of (length (makers r)) f) s)) ident)
 
 new_receiving : (r : List Fact) (f : Fact) (s : ℕ) (b : Behaviour) (d : Option ℕ) → all_fit [] r ≡ true
-    → names f ≡ 0 → length (makers r) < s → receiving (r ++ f ∷ []) s b d ≡ receiving_with b d [] [] []
+    → names f ≡ 0 → length (makers r) < s → receiving (r ++ f ∷ []) s b d ≡ receiving_with b d [] [] 0 [] []
 new_receiving r f s b d fit none lt =
     receiving-unnamed (length (makers r)) s (r ++ f ∷ []) b d
     (names-more (length (makers r)) r f (names-fit r fit) (omega (arith, none))) lt
@@ -104,7 +102,7 @@ new r (Granted counter message_id acks_to behaviour deadline lapse (Some offer))
     (ap (λ x. Receives x) (new_receiving r f (k + 1) behaviour deadline fit refl lt)) in
     let second = same_told _ _ _ _ (new_tickets r f (k + 1 + 1) None fit refl lt2)
     (ap (λ x. Sends x) (new_sending r f (k + 1 + 1) fit refl lt2
-    ∙ ap (λ o. sending_with (first_phase o) [] []) given)) in
+    ∙ ap (λ o. sending_with (first_phase o) 0 [] []) given)) in
     two _ _ _ _ first second
 new r _ fit = refl
 

@@ -7,7 +7,9 @@ use Rattle.ack_ranges.specs.Changes.{united}
 use Rattle.ack_ranges.specs.Ranges.{count_of}
 use Rattle.rm_source.specs.declared.phase.OutPhase.{OutPhase}
 use Rattle.rm_source.specs.declared.phase.OutPhase.TheVariants as out
-use Rattle.record_batch.specs.Fact.{Fact, Accepted, Acked, Closing, ClosedOut, Ending, EndedOut, Failed}
+use Rattle.rm_source.specs.Outgoing.{first_run}
+use Rattle.rm_base.specs.Numbered.{numbered}
+use Rattle.record_batch.specs.Fact.{Fact, Accepted, Acked, Closing, ClosedOut, Ending, EndedOut, Failed, Dropped}
 use Rattle.sequence_table.specs.Words.{Text, at_seq, last_or}
 use Rattle.sequence_table.specs.Makers.{Maker, Outgoing, Taken, created, ident_in, makers}
 
@@ -16,13 +18,31 @@ abbrev pub accepted_of : ℕ → Fact → List Text
 accepted_of s (Accepted seq payload) = if seq == s then payload ∷ [] else []
 accepted_of s _ = []
 
--- the payloads that were accepted, as messages 1, 2, and so on
+-- how many of the first messages of sequence s a record says are gone
+abbrev pub dropped_of : ℕ → Fact → List ℕ
+dropped_of s (Dropped seq upto) = if seq == s then upto ∷ [] else []
+dropped_of s _ = []
+
+-- how many of the first messages are gone: 0 where no record tells it
+abbrev pub dropped : List Fact → ℕ → ℕ
+dropped r s = last_or 0 (flat_map (dropped_of s) r)
+
+-- the payloads that were accepted and aren't gone, as the messages behind the gone ones
 abbrev pub accepted : List Fact → ℕ → List Text
 accepted r s = flat_map (accepted_of s) r
+
+-- how many messages were accepted, with those that are gone
+abbrev pub accepted_count : List Fact → ℕ → ℕ
+accepted_count r s = dropped r s + length (accepted r s)
+
+-- the payload of a message, where it was accepted and isn't gone
+abbrev pub payload_at : List Fact → ℕ → ℕ → Option Text
+payload_at r s i = numbered (accepted r s) (i - dropped r s)
 
 -- the ranges that a record acknowledges of sequence s
 abbrev pub acked_of : ℕ → Fact → List Range
 acked_of s (Acked seq ranges) = if seq == s then ranges else []
+acked_of s (Dropped seq upto) = if seq == s then first_run upto else []
 acked_of s _ = []
 
 -- the ranges that were acknowledged, record by record: a number is acknowledged where it lies in one of them
@@ -31,7 +51,7 @@ acked r s = flat_map (acked_of s) r
 
 -- how many of the accepted messages are not acknowledged
 abbrev pub unacked : List Fact → ℕ → ℕ
-unacked r s = length (accepted r s) - count_of (united [] (acked r s))
+unacked r s = accepted_count r s - count_of (united [] (acked r s))
 
 -- the phase records that come after the one that made the sequence or gave it its identifier
 abbrev pub mark_of : Fact → List (ℕ × OutPhase)

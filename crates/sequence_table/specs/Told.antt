@@ -1,20 +1,21 @@
 -- What the records say of one sequence, gathered on its side, and what one more record adds to it.
-use Rattle.std.specs.Prelude.{◌≡◌, ◌≢◌, ℕ, ◌+◌, ◌≤◌, ◌==◌, true, if◌then◌else◌, List, [], ◌∷◌, ◌++◌, length, map}
+use Rattle.std.specs.Prelude.{ℕ, ◌+◌, ◌==◌, max, if◌then◌else◌, List, [], ◌∷◌, ◌++◌}
 use Rattle.std.specs.Prelude.{Option, Some, None}
-use Rattle.std.specs.List.{flat_map}
 use Rattle.ack_ranges.specs.Changes.{united}
+use Rattle.rm_base.specs.NumberSet.{greatest_of}
 use Rattle.rm_base.specs.declared.message.Behaviour.{Behaviour}
 use Rattle.rm_source.specs.declared.phase.OutPhase.{OutPhase}
 use Rattle.rm_source.specs.declared.phase.OutPhase.TheVariants as out
 use Rattle.rm_source.specs.Outgoing.{Sending}
-use Rattle.rm_destination.specs.Incoming.{Receiving}
+use Rattle.rm_destination.specs.Incoming.{Receiving, fresh}
 use Rattle.record_batch.specs.Fact.{Fact, Created, Accepted, Acked, Received, Closing, ClosedOut, Closed, Ending}
-use Rattle.record_batch.specs.Fact.{EndedOut, Ended, Failed}
+use Rattle.record_batch.specs.Fact.{EndedOut, Ended, Failed, Consumed, Dropped, Purged}
 use Rattle.sequence_table.specs.Words.{at_seq, last_or}
-use Rattle.sequence_table.specs.Makers.{Maker, Outgoing, Offered, Incoming, Taken, makers, makers_of}
-use Rattle.sequence_table.specs.Fits.{fits, all_fit}
-use Rattle.sequence_table.specs.Sources.{accepted, accepted_of, acked, acked_of, mark_of, phase, ticket_of, tickets}
-use Rattle.sequence_table.specs.Destinations.{close_of, closes, received, received_of, told, told_of}
+use Rattle.sequence_table.specs.Makers.{Maker, Outgoing, Offered, Incoming, Taken, makers}
+use Rattle.sequence_table.specs.Sources.{accepted, accepted_of, acked, acked_of, dropped, dropped_of, mark_of, phase}
+use Rattle.sequence_table.specs.Sources.{ticket_of, tickets}
+use Rattle.sequence_table.specs.Destinations.{close_of, closes, cursor, cursor_of, purged, purged_of, received}
+use Rattle.sequence_table.specs.Destinations.{received_of, told, told_of}
 
 -- what is known of a sequence on its side: of one that sends, or of one that receives
 pub data Side : Type 0 where
@@ -44,18 +45,28 @@ names (Ending seq ticket) = seq
 names (EndedOut seq) = seq
 names (Ended seq cause last) = seq
 names (Failed seq fault) = seq
+names (Consumed seq upto) = seq
+names (Dropped seq upto) = seq
+names (Purged seq ranges) = seq
 names _ = 0
 
 -- what is known of sequence s where it sends
 abbrev pub sending : List Fact → ℕ → Sending
-sending r s = record { phase = phase r s; accepted = accepted r s; acked = united [] (acked r s) }
+sending r s = record {
+  phase = phase r s;
+  dropped = dropped r s;
+  accepted = accepted r s;
+  acked = united [] (acked r s);
+}
 
 -- what is known of sequence s where it receives, with what was announced for it
 abbrev pub receiving : List Fact → ℕ → Behaviour → Option ℕ → Receiving
 receiving r s behaviour deadline = record {
   behaviour = behaviour;
   deadline = deadline;
+  purged = purged r s;
   received = received r s;
+  cursor = cursor r s;
   closes = closes r s;
   told = told r s;
 }
@@ -85,6 +96,7 @@ opened_by p s _ = p
 abbrev pub sending_after : ℕ → Sending → Fact → Sending
 sending_after s t f = record {
   phase = last_or (opened_by t.phase s f) (at_seq s (mark_of f));
+  dropped = last_or t.dropped (dropped_of s f);
   accepted = t.accepted ++ accepted_of s f;
   acked = united t.acked (acked_of s f);
 }
@@ -92,7 +104,9 @@ sending_after s t f = record {
 -- a sequence s that receives, after one more record
 abbrev pub receiving_after : ℕ → Receiving → Fact → Receiving
 receiving_after s t f = record t {
+  purged = t.purged ++ purged_of s f;
   received = t.received ++ received_of s f;
+  cursor = max t.cursor (greatest_of (cursor_of s f));
   closes = t.closes ++ at_seq s (close_of f);
   told = t.told ++ at_seq s (told_of f);
 }
@@ -109,16 +123,19 @@ after s t f = record { ticket = last_onto t.ticket (at_seq s (ticket_of f)); sid
 -- what is known of a sequence that was just made so
 abbrev pub begun : Maker → Told
 begun (Outgoing ticket to via lapse) =
-    record { ticket = Some ticket; side = Sends (record { phase = out.Creating; accepted = []; acked = [] }) }
+    record {
+      ticket = Some ticket;
+      side = Sends (record { phase = out.Creating; dropped = 0; accepted = []; acked = [] });
+    }
 begun (Taken message_id ident endpoint) =
-    record { ticket = None; side = Sends (record { phase = out.Open; accepted = []; acked = [] }) }
+    record { ticket = None; side = Sends (record { phase = out.Open; dropped = 0; accepted = []; acked = [] }) }
 begun (Incoming counter message_id acks_to behaviour deadline lapse) = record {
   ticket = None;
-  side = Receives (record { behaviour = behaviour; deadline = deadline; received = []; closes = []; told = [] });
+  side = Receives (fresh behaviour deadline).facts;
 }
 begun (Offered ticket counter to behaviour) = record {
   ticket = None;
-  side = Receives (record { behaviour = behaviour; deadline = None; received = []; closes = []; told = [] });
+  side = Receives (fresh behaviour None).facts;
 }
 
 -- what the records say of sequences k + 1, k + 2, and so on, which were made so

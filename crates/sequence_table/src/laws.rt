@@ -3,15 +3,15 @@ ghost use Rattle.std.specs.Prelude.{◌≡◌, ◌≤◌, List, ◌++◌, ◌∷
 ghost use Rattle.rm_base.specs.declared.message.Cause.TheVariants.{Peer};
 ghost use Rattle.rm_source.specs.declared.phase.OutPhase.TheVariants.{Closing};
 ghost use Rattle.record_batch.specs.Batch.{batch_text};
-ghost use Rattle.record_batch.specs.Fact.{Accepted, Closed, Fact};
-ghost use Rattle.sequence_table.specs.Destinations.{discarded, front, inbox, is_complete, is_ended, texts};
-ghost use Rattle.sequence_table.specs.Examples.{a_destination, a_source};
+ghost use Rattle.record_batch.specs.Fact.{Accepted, Closed, Consumed, Dropped, Fact, Received};
+ghost use Rattle.sequence_table.specs.Destinations.{cursor, discarded, front, inbox, is_complete, is_ended};
+ghost use Rattle.sequence_table.specs.Examples.{a_destination, a_short_destination, a_short_source, a_source, of_text};
 ghost use Rattle.sequence_table.specs.Find.{find_incoming, find_outgoing};
 ghost use Rattle.sequence_table.specs.Fits.{all_fit, fits};
 ghost use Rattle.sequence_table.specs.Idents.{IssuesOnce, issue};
 ghost use Rattle.sequence_table.specs.Makers.{counter};
 ghost use Rattle.sequence_table.specs.OneMore.{OneMoreRecord, OneMoreOfTheNode, OnlyTheNamed};
-ghost use Rattle.sequence_table.specs.Sources.{accepted, phase, unacked};
+ghost use Rattle.sequence_table.specs.Sources.{accepted, accepted_count, payload_at, phase, unacked};
 
 /// The identifier of counter 1 of node 1.
 pub fn an_identifier()
@@ -39,12 +39,35 @@ pub fn a_destination_of_all_or_none()
     ensures fit { all_fit [] a_destination ≡ true }
     ensures front { front a_destination 1 ≡ 3 }
     ensures none { inbox a_destination 1 ≡ [] }
-    ensures all { texts (inbox (a_destination ++ Closed 1 Peer 3 ∷ []) 1) ≡ (7 ∷ []) ∷ (8 ∷ []) ∷ (9 ∷ []) ∷ [] }
+    ensures all { inbox (a_destination ++ Closed 1 Peer 3 ∷ []) 1
+        ≡ Some (of_text (7 ∷ [])) ∷ Some (of_text (8 ∷ [])) ∷ Some (of_text (9 ∷ [])) ∷ [] }
     ensures more { is_complete (a_destination ++ Closed 1 Peer 4 ∷ []) 1 ≡ false }
     ensures discarded { length (discarded (a_destination ++ Closed 1 Peer 4 ∷ []) 1) ≡ 3 }
     ensures before { is_ended a_destination 1 99 ≡ false }
     ensures expired { is_ended a_destination 1 100 ≡ true }
     ensures found { find_incoming a_destination (issue 2 1) ≡ Some 1 }
+{}
+
+/// Of a source without its first payloads: what is there, what waits, and that nothing more goes.
+pub fn a_source_without_its_first_payloads()
+    ensures fit { all_fit [] a_short_source ≡ true }
+    ensures count { accepted_count a_short_source 1 ≡ 3 }
+    ensures gone { payload_at a_short_source 1 2 ≡ None }
+    ensures there { payload_at a_short_source 1 3 ≡ Some (9 ∷ []) }
+    ensures unacked { unacked a_short_source 1 ≡ 1 }
+    ensures once { fits a_short_source (Dropped 1 3) ≡ false }
+{}
+
+/// Of a destination without its first payloads: they are gone and not forgotten, and the cursor is behind them.
+pub fn a_destination_without_its_first_payloads()
+    ensures fit { all_fit [] a_short_destination ≡ true }
+    ensures front { front a_short_destination 1 ≡ 3 }
+    ensures inbox { inbox a_short_destination 1 ≡ None ∷ None ∷ Some (of_text (9 ∷ [])) ∷ [] }
+    ensures again { fits a_short_destination (Received 1 2 (of_text (8 ∷ []))) ≡ false }
+    ensures cursor { cursor a_short_destination 1 ≡ 2 }
+    ensures back { fits a_short_destination (Consumed 1 2) ≡ false }
+    ensures on { fits a_short_destination (Consumed 1 3) ≡ true }
+    ensures past { fits a_short_destination (Consumed 1 4) ≡ false }
 {}
 
 /// A batch takes at least a byte for each number that it draws.

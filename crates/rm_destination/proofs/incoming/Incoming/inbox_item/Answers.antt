@@ -1,14 +1,12 @@
-use Rattle.std.proofs.Common.{◌-◌, ap, arith, ◌∙◌}
-use Rattle.std.specs.Prelude.{slice_get}
-use Rattle.rm_destination.specs.Incoming.{Sequence}
-use Rattle.rm_destination.specs.Messages.{by_number, contents_of}
-use Rattle.rm_destination.proofs.InboxLemmas.{numbered-inbox}
+use Rattle.std.proofs.Common.{sym, arith, ◌∙◌}
+use Rattle.rm_destination.proofs.InboxLemmas.{item_at-inbox, item_at-past}
+use Rattle.rm_destination.specs.Incoming.{inbox}
 use Rattle.rm_destination.proofs.incoming.Incoming.inbox_item.Goals as goal
+
+pub returns-then-i-inbox_len : goal.returns-then-i-inbox_len
+returns-then-i-inbox_len c =
+    sym (item_at-past (inbox c.args.self.now.facts) c.args.i (omega (arith, c.inbox_len.ensures)))
 
 pub returns : goal.returns
 returns c =
-    let f = c.args.self.now.facts in
-    let i = c.args.i in
-    c.nth.ensures
-    ∙ ap (λ (s : Sequence). slice_get (contents_of (by_number s.facts.received)) (i - 1)) c.self.view_is
-    ∙ numbered-inbox f i (omega arith) (omega (arith, c.inbox_len.ensures))
+    c.item.ensures ∙ item_at-inbox c.args.self.now.facts c.args.i (omega (arith, c.inbox_len.ensures))
