@@ -33,7 +33,7 @@ applied-more old new new2 batch rest f h fit e = record {
   now = e ∙ ap (λ rs. rs ++ f ∷ []) h.now ∙ append_assoc old h.applied (f ∷ []);
 }
 
-fits-next : (r xs more : List Fact) (f : Fact) → all_fit r (xs ++ f ∷ more) ≡ true → fits (r ++ xs) f ≡ true
+pub fits-next : (r xs more : List Fact) (f : Fact) → all_fit r (xs ++ f ∷ more) ≡ true → fits (r ++ xs) f ≡ true
 fits-next r [] more f h =
     subst (λ rs. fits rs f ≡ true) (sym (append-nil r)) (and_parts (fits r f) (all_fit (r ++ f ∷ []) more) h).0
 fits-next r (g ∷ xs) more f h =

@@ -11,10 +11,11 @@ use Rattle.rm_base.specs.Message.{max_number}
 use Rattle.rm_base.specs.NumberSet.{has_number}
 use Rattle.rm_base.specs.NumberSetLemmas.{has_number-at}
 use Rattle.rm_base.specs.declared.message.Payload.{Payload}
-use Rattle.rm_destination.specs.Messages.{numbers_of}
+use Rattle.rm_destination.specs.ItemLemmas.{has_number-gone, numbers_of-there}
+use Rattle.rm_destination.specs.Messages.{numbers_in, numbers_of, there_items}
 use Rattle.record_batch.specs.declared.record.Record.{Record}
 use Rattle.record_batch.specs.Fact.{Fact, Received, fact_of}
-use Rattle.sequence_table.specs.Destinations.{held, is_stopped, received, received_of}
+use Rattle.sequence_table.specs.Destinations.{held, is_stopped, purged, received, received_of}
 use Rattle.sequence_table.specs.Fits.{all_fit, fits, is_incoming_side}
 use Rattle.sequence_table.specs.GatherLemmas.{flat_map-more}
 use Rattle.sequence_table.specs.Makers.{Maker, Outgoing, Offered, Incoming, Taken, maker, makers}
@@ -62,20 +63,25 @@ payload_at (m ∷ ms) (suc i) n d once lt e =
     ]
 
 -- the number of a message that may come next is new
-is_new : (r : List Fact) (s n : ℕ) (p : Payload) → fits r (Received s n p) ≡ true → has_number (held r s) n ≡ false
+is_new : (r : List Fact) (s n : ℕ) (p : Payload) → fits r (Received s n p) ≡ true
+    → has_number (numbers_of (received r s)) n ≡ false
 is_new r s n p fit =
     let has = has_number (held r s) n in
     let goes_on = not (is_stopped r s) in
     let side = and_parts (is_incoming_side (maker r s)) (nat_le 1 n && (nat_le n max_number && (not has && goes_on)))
     fit in
     let from = and_parts (nat_le 1 n) (nat_le n max_number && (not has && goes_on)) side.1 in
-    not-true has (and_parts (not has) goes_on (and_parts (nat_le n max_number) (not has && goes_on) from.1).1).0
+    let gone = numbers_in (purged r s) in
+    ap (λ ns. has_number ns n) (sym (numbers_of-there (received r s)))
+    ∙ (or_false (has_number gone n) (has_number (numbers_of (there_items (received r s))) n)
+    (sym (has_number-gone gone (there_items (received r s)) n)
+    ∙ not-true has (and_parts (not has) goes_on (and_parts (nat_le n max_number) (not has && goes_on) from.1).1).0)).1
 
 one_record : (r : List Fact) (s : ℕ) (f : Fact) → AreOnce (received r s) → fits r f ≡ true
     → AreOnce (received r s ++ received_of s f)
 one_record r s (Received seq n p) once fit = elim (cases_Bool (seq == s)) [
   | inl same ↦
-      let new = ap (λ k. has_number (held r k) n) (sym (eqb-true seq s same)) ∙ is_new r seq n p fit in
+      let new = ap (λ k. has_number (numbers_of (received r k)) n) (sym (eqb-true seq s same)) ∙ is_new r seq n p fit in
       subst (λ b. AreOnce (received r s ++ cond b ((n, p) ∷ []) [])) (sym same) (once_more (received r s) n p once new)
   | inr differ ↦
       subst (λ b. AreOnce (received r s ++ cond b ((n, p) ∷ []) [])) (sym differ)

@@ -1,20 +1,25 @@
 -- Notes go on telling the same records.
 use Rattle.std.proofs.Common.{◌≡◌, ℕ, zero, suc, ◌+◌, ◌-◌, ◌<◌, ◌≤◌, true, cond, List, [], ◌∷◌}
-use Rattle.std.proofs.Common.{◌++◌, length, get_or, map, refl, sym, ap, subst, ◌∙◌, arith}
-use Rattle.std.proofs.lemmas.Bool.{and_from}
+use Rattle.std.proofs.Common.{◌++◌, length, get_or, map, refl, sym, ap, subst, ◌∙◌, arith, inl, inr, append_assoc}
+use Rattle.std.proofs.lemmas.Bool.{and_from, and_parts, cases_eq, eqb-true, ne_eqb}
+use Rattle.std.specs.Prelude.{◌&&◌, ◌==◌, ◌⊎◌, ◌≢◌, nat_le}
 use Rattle.std.specs.List.{flat_map}
-use Rattle.std.proofs.lemmas.List.{get_or_append_left, length-append, length-map, map-append}
+use Rattle.std.proofs.lemmas.List.{append-nil, get_or_append_left, length-append, length-map, map-append}
 use Rattle.std.proofs.lemmas.List.Concat.{flat_map-append}
 use Rattle.rm_base.specs.NumberSet.{has_number}
 use Rattle.rm_base.specs.declared.message.Payload.{Payload}
 use Rattle.rm_destination.specs.Messages.{numbers_of}
-use Rattle.record_batch.specs.Fact.{Fact, Accepted, Received}
+use Rattle.record_batch.specs.Fact.{Fact, Accepted, Received, Dropped}
+use Rattle.rm_base.specs.Message.{max_number}
+use Rattle.rm_source.specs.Outgoing.{accepted_count}
 use Rattle.sequence_table.specs.Makers.{addresses_of, makers, makers_of, created, created_of, draws_of, counter, number}
 use Rattle.sequence_table.specs.Find.{accept_of}
 use Rattle.sequence_table.specs.GatherLemmas.{flat_map-more}
-use Rattle.sequence_table.specs.Sources.{accepted_of}
+use Rattle.sequence_table.specs.Sources.{accepted_of, dropped_of}
+use Rattle.sequence_table.specs.Words.{last_or}
+use Rattle.sequence_row.specs.Row.{takes}
 use Rattle.sequence_table.specs.Destinations.{received_of}
-use Rattle.sequence_table.specs.Fits.{fits, all_fit}
+use Rattle.sequence_table.specs.Fits.{fits, all_fit, follows}
 use Rattle.sequence_table.specs.OneMore.{number_after}
 use Rattle.sequence_table.specs.Told.{Told, Side, Sends, Receives, begun, after, side_after, each_after, told_all}
 use Rattle.sequence_table.specs.NodeLemmas.{one_more}
@@ -23,12 +28,13 @@ use Rattle.node_tables.specs.declared.note.Note.{Note}
 use Rattle.node_tables.specs.declared.note.Note.TheVariants as note
 use Rattle.node_tables.specs.declared.note.Origin.{Origin}
 use Rattle.node_tables.specs.declared.note.Named.{Named}
-use Rattle.node_tables.specs.Kept.{AreWhole, accepted_in, received_in, no_fact, no_row, kept_at, payload_of, row_at}
-use Rattle.node_tables.specs.Kept.{fact_at}
+use Rattle.node_tables.specs.Kept.{AreWhole, accepted_count_in, accepted_in, dropped_in, received_in, no_fact, no_row}
+use Rattle.node_tables.specs.Kept.{fact_at, kept_at, payload_of, row_at, HasPlace, HavePlaces}
 use Rattle.node_tables.specs.Kept.{records_of, IsHeld, AllHeld, no_maker, ident_given, maker_at, named_at, AreWithin}
 use Rattle.node_tables.specs.Kept.{origins_of, names_of, Table, records_in, Holds, AreMade, AreGiven, gives_ident}
 use Rattle.node_tables.specs.Kept.{accept_at}
 use Rattle.node_tables.proofs.MessageLemmas.{has_number-append, payload_of-append}
+use Rattle.node_tables.proofs.RowsLemmas.{row-taken}
 
 -- what one more record adds to what is kept: records that are kept whole, its note, the origins of the sequences that
 -- it makes, and the identifiers that it gives
@@ -54,6 +60,7 @@ with_record t f a = record {
 pub record Tells (t : Table) (f : Fact) (a : Added) : Type 0 where
   pub note_ : fact_at (with_record t f a).kept (with_record t f a).rows a.note_ ≡ f
   pub held : IsHeld (with_record t f a).kept (with_record t f a).rows a.note_
+  pub place : HasPlace (records_in t) a.note_
   pub makes : map (maker_at (with_record t f a).kept) a.makes ≡ makers_of f
   pub gives : map (named_at (with_record t f a).kept) a.gives ≡ created_of (length t.origins) f
   pub makes_held : AreWithin (length (with_record t f a).kept) (origins_of a.makes)
@@ -86,6 +93,20 @@ accepted_by s (Receives t) f = []
 accepted_after : (s : ℕ) (x : Side) (f : Fact) → accepted_in (side_after s x f) ≡ accepted_in x ++ accepted_by s x f
 accepted_after s (Sends t) f = refl
 accepted_after s (Receives t) f = refl
+
+-- what a record says of the messages of a side that are gone
+abbrev pub dropped_by : ℕ → Side → Fact → List ℕ
+dropped_by s (Sends t) f = dropped_of s f
+dropped_by s (Receives t) f = []
+
+dropped_after : (s : ℕ) (x : Side) (f : Fact)
+    → dropped_in (side_after s x f) ≡ last_or (dropped_in x) (dropped_by s x f)
+dropped_after s (Sends t) f = refl
+dropped_after s (Receives t) f = refl
+
+pub count-in : (x : Side) → accepted_count_in x ≡ dropped_in x + length (accepted_in x)
+count-in (Sends t) = refl
+count-in (Receives t) = refl
 
 -- what a record adds to the messages of a side
 abbrev pub received_by : ℕ → Side → Fact → List (ℕ × Payload)
@@ -124,59 +145,122 @@ pub received_row : (rows : List Told) (f : Fact) (i : ℕ) → i < length rows
 received_row rows f i lt =
     ap (λ (t : Told). received_in t.side) (row_after rows f i lt) ∙ received_after (i + 1) (row_at rows i).side f
 
+pub dropped_row : (rows : List Told) (f : Fact) (i : ℕ) → i < length rows
+    → dropped_by (i + 1) (row_at rows i).side f ≡ []
+    → dropped_in (row_at (rows_after rows f) i).side ≡ dropped_in (row_at rows i).side
+dropped_row rows f i lt none =
+    ap (λ (t : Told). dropped_in t.side) (row_after rows f i lt) ∙ dropped_after (i + 1) (row_at rows i).side f
+    ∙ ap (λ ds. last_or (dropped_in (row_at rows i).side) ds) none
+
+-- a record says that messages of a row are gone only where that accepted none
+abbrev pub DropsFirst : List Told → Fact → Type 0
+DropsFirst rows f =
+    (i : ℕ) → i < length rows
+    → (dropped_by (i + 1) (row_at rows i).side f ≡ []) ⊎ (accepted_count_in (row_at rows i).side ≡ 0)
+
+pub no-drops : (s : ℕ) (x : Side) (f : Fact) → dropped_of s f ≡ [] → dropped_by s x f ≡ []
+no-drops s (Sends t) f none = none
+no-drops s (Receives t) f none = refl
+
+drops-none : (x : Side) (s upto : ℕ) → takes x (Dropped s upto) ≡ true → accepted_count_in x ≡ 0
+drops-none (Sends t) s upto is =
+    let rest = (and_parts (follows t.phase (Dropped s upto)) _ is).1 in
+    eqb-true (accepted_count t) 0 (and_parts (accepted_count t == 0) (nat_le 1 upto && nat_le upto max_number) rest).0
+drops-none (Receives t) s upto is = refl
+
+pub drops-first : (t : Table) (f : Fact) → Holds t → fits (records_in t) f ≡ true → DropsFirst t.rows f
+drops-first t (Dropped seq upto) h fit i lt = elim (cases_eq seq (i + 1)) [
+  | inl same ↦
+      let place : seq - 1 ≡ i = omega (arith, same) in
+      inr (subst (λ (k : ℕ). accepted_count_in (row_at t.rows k).side ≡ 0) place
+      (drops-none (row_at t.rows (seq - 1)).side seq upto (row-taken t (Dropped seq upto) h refl fit).takes_))
+  | inr other ↦
+      inl (no-drops (i + 1) (row_at t.rows i).side (Dropped seq upto)
+      (ap (λ b. cond b (upto ∷ []) []) (ne_eqb seq (i + 1) other)))
+]
+drops-first t f h fit i lt = inl (no-drops (i + 1) (row_at t.rows i).side f refl)
+
 kept_same : (kept more : List Fact) (place : ℕ) → place < length kept
     → kept_at (kept ++ more) place ≡ kept_at kept place
 kept_same kept more place lt = get_or_append_left kept more no_fact place lt
 
 -- one note
-note_same : (kept more : List Fact) (rows : List Told) (f : Fact) (n : Note) → IsHeld kept rows n
+-- the row of a note has what was gone
+gone_same : (rows : List Told) (f : Fact) (row n : ℕ) → DropsFirst rows f → row < length rows
+    → dropped_in (row_at rows row).side < n → n ≤ accepted_count_in (row_at rows row).side
+    → dropped_in (row_at (rows_after rows f) row).side ≡ dropped_in (row_at rows row).side
+gone_same rows f row n first lt above within = elim (first row lt) [
+  | inl none ↦ dropped_row rows f row lt none
+  | inr zero_ ↦ absurd (omega (arith, above, within, zero_))
+]
+
+note_same : (kept more : List Fact) (rows : List Told) (f : Fact) (n : Note) → DropsFirst rows f → IsHeld kept rows n
     → fact_at (kept ++ more) (rows_after rows f) n ≡ fact_at kept rows n
-note_same kept more rows f (note.Kept place) h = kept_same kept more place h
-note_same kept more rows f (note.Acked seq numbers) h = refl
-note_same kept more rows f (note.Accepted row n) h =
+note_same kept more rows f (note.Kept place) first h = kept_same kept more place h
+note_same kept more rows f (note.Accepted row n) first h =
+    let gone = dropped_in (row_at rows row).side in
     ap (λ p. Accepted (row + 1) p)
-    (ap (λ ps. get_or ps (n - 1) []) (accepted_row rows f row h.0)
+    (ap (λ d. get_or (accepted_in (row_at (rows_after rows f) row).side) (n - (d + 1)) [])
+    (gone_same rows f row n first h.0 h.1 h.2)
+    ∙ ap (λ ps. get_or ps (n - (gone + 1)) []) (accepted_row rows f row h.0)
     ∙ get_or_append_left (accepted_in (row_at rows row).side) (accepted_by (row + 1) (row_at rows row).side f) []
-    (n - 1) (omega (arith, h.1, h.2)))
-note_same kept more rows f (note.Received row n) h =
+    (n - (gone + 1)) (omega (arith, h.1, h.2, count-in (row_at rows row).side)))
+note_same kept more rows f (note.Received row n is_first) first h =
     ap (λ p. Received (row + 1) n p)
     (ap (λ ms. payload_of n ms) (received_row rows f row h.0)
     ∙ payload_of-append n (received_in (row_at rows row).side)
     (received_by (row + 1) (row_at rows row).side f) h.1)
+note_same kept more rows f _ first h = refl
 
-note_held : (kept more : List Fact) (rows : List Told) (f : Fact) (n : Note) → IsHeld kept rows n
+note_held : (kept more : List Fact) (rows : List Told) (f : Fact) (n : Note) → DropsFirst rows f → IsHeld kept rows n
     → IsHeld (kept ++ more) (rows_after rows f) n
-note_held kept more rows f (note.Kept place) h = omega (arith, h, length-append kept more)
-note_held kept more rows f (note.Acked seq numbers) h = tt
-note_held kept more rows f (note.Accepted row n) h = (
-  omega (arith, h.0, rows_longer rows f),
-  h.1,
-  rw (accepted_row rows f row h.0)
-      (omega (
-        arith,
-        h.2,
-        length-append (accepted_in (row_at rows row).side) (accepted_by (row + 1) (row_at rows row).side f),
-      )),
-)
-note_held kept more rows f (note.Received row n) h = (
+note_held kept more rows f (note.Kept place) first h = omega (arith, h, length-append kept more)
+note_held kept more rows f (note.Accepted row n) first h =
+    let x = (row_at rows row).side in
+    let y = (row_at (rows_after rows f) row).side in
+    let gone : dropped_in y ≡ dropped_in x = gone_same rows f row n first h.0 h.1 h.2 in
+    let more : length (accepted_in y) ≡ length (accepted_in x) + length (accepted_by (row + 1) x f) =
+    ap length (accepted_row rows f row h.0) ∙ length-append (accepted_in x) (accepted_by (row + 1) x f) in (
+      omega (arith, h.0, rows_longer rows f),
+      omega (arith, h.1, gone),
+      omega (arith, h.2, gone, more, count-in x, count-in y),
+    )
+note_held kept more rows f (note.Received row n is_first) first h = (
   omega (arith, h.0, rows_longer rows f),
   ap (λ ms. has_number (numbers_of ms) n) (received_row rows f row h.0)
       ∙ has_number-append n (received_in (row_at rows row).side)
       (received_by (row + 1) (row_at rows row).side f) h.1,
 )
+note_held kept more rows f _ first h = tt
 
-notes_same : (kept more : List Fact) (rows : List Told) (f : Fact) (ns : List Note) → AllHeld kept rows ns
-    → records_of (kept ++ more) (rows_after rows f) ns ≡ records_of kept rows ns
-notes_same kept more rows f [] h = refl
-notes_same kept more rows f (n ∷ ns) h =
-    ap (λ x. x ∷ records_of (kept ++ more) (rows_after rows f) ns) (note_same kept more rows f n h.0)
-    ∙ ap (λ xs. fact_at kept rows n ∷ xs) (notes_same kept more rows f ns h.1)
+notes_same : (kept more : List Fact) (rows : List Told) (f : Fact) (ns : List Note) → DropsFirst rows f
+    → AllHeld kept rows ns → records_of (kept ++ more) (rows_after rows f) ns ≡ records_of kept rows ns
+notes_same kept more rows f [] first h = refl
+notes_same kept more rows f (n ∷ ns) first h =
+    ap (λ x. x ∷ records_of (kept ++ more) (rows_after rows f) ns) (note_same kept more rows f n first h.0)
+    ∙ ap (λ xs. fact_at kept rows n ∷ xs) (notes_same kept more rows f ns first h.1)
 
-notes_held : (kept more : List Fact) (rows : List Told) (f : Fact) (ns : List Note) (n : Note) → AllHeld kept rows ns
-    → IsHeld (kept ++ more) (rows_after rows f) n → AllHeld (kept ++ more) (rows_after rows f) (ns ++ n ∷ [])
-notes_held kept more rows f [] n h g = (g, tt)
-notes_held kept more rows f (m ∷ ns) n h g =
-    (note_held kept more rows f m h.0, notes_held kept more rows f ns n h.1 g)
+notes_held : (kept more : List Fact) (rows : List Told) (f : Fact) (ns : List Note) (n : Note) → DropsFirst rows f
+    → AllHeld kept rows ns → IsHeld (kept ++ more) (rows_after rows f) n
+    → AllHeld (kept ++ more) (rows_after rows f) (ns ++ n ∷ [])
+notes_held kept more rows f [] n first h g = (g, tt)
+notes_held kept more rows f (m ∷ ns) n first h g =
+    (note_held kept more rows f m first h.0, notes_held kept more rows f ns n first h.1 g)
+
+notes_placed : (kept more : List Fact) (rows : List Told) (f : Fact) (before : List Fact) (ns : List Note) (n : Note)
+    → DropsFirst rows f → AllHeld kept rows ns → HavePlaces kept rows before ns
+    → HasPlace (before ++ records_of kept rows ns) n → HavePlaces (kept ++ more) (rows_after rows f) before (ns ++ n ∷
+    [])
+notes_placed kept more rows f before [] n first h places one =
+    (subst (λ b. HasPlace b n) (append-nil before) one, tt)
+notes_placed kept more rows f before (m ∷ ns) n first h places one =
+    let g = fact_at kept rows m in (
+      places.0,
+      subst (λ x. HavePlaces (kept ++ more) (rows_after rows f) (before ++ x ∷ []) (ns ++ n ∷ []))
+          (sym (note_same kept more rows f m first h.0))
+          (notes_placed kept more rows f (before ++ g ∷ []) ns n first h.1 places.1
+          (subst (λ b. HasPlace b n) (sym (append_assoc before (g ∷ []) (records_of kept rows ns))) one)),
+    )
 
 within-more : (n m : ℕ) (ks : List ℕ) → n ≤ m → AreWithin n ks → AreWithin m ks
 within-more n m [] le h = tt
@@ -234,13 +318,14 @@ accepts_same kept more (n ∷ ns) h =
     ∙ ap (λ xs. accept_at kept n ++ xs) (accepts_same kept more ns h.1)
 
 -- one more record
-pub records_more : (t : Table) (f : Fact) (a : Added) → Holds t → Tells t f a
+pub records_more : (t : Table) (f : Fact) (a : Added) → Holds t → fits (records_in t) f ≡ true → Tells t f a
     → records_in (with_record t f a) ≡ records_in t ++ f ∷ []
-records_more t f a h tells =
+records_more t f a h fit tells =
     let kept = t.kept ++ a.whole in
     let rows = rows_after t.rows f in
     map-append (fact_at kept rows) t.notes (a.note_ ∷ [])
-    ∙ ap (λ xs. xs ++ fact_at kept rows a.note_ ∷ []) (notes_same t.kept a.whole t.rows f t.notes h.held)
+    ∙ ap (λ xs. xs ++ fact_at kept rows a.note_ ∷ []) (notes_same t.kept a.whole t.rows f t.notes
+    (drops-first t f h fit) h.held)
     ∙ ap (λ x. records_in t ++ x ∷ []) tells.note_
 
 whole-append : (xs ys : List Fact) → AreWhole xs → AreWhole ys → AreWhole (xs ++ ys)
@@ -251,7 +336,7 @@ pub holds_more : (t : Table) (f : Fact) (a : Added) → Holds t → fits (record
     → Holds (with_record t f a)
 holds_more t f a h fit tells =
     let r = records_in t in
-    let is : records_in (with_record t f a) ≡ r ++ f ∷ [] = records_more t f a h tells in
+    let is : records_in (with_record t f a) ≡ r ++ f ∷ [] = records_more t f a h fit tells in
     let kept = t.kept ++ a.whole in
     let longer : length t.kept ≤ length kept = omega (arith, length-append t.kept a.whole) in
     let count : length (makers r) ≡ length t.origins =
@@ -275,7 +360,9 @@ holds_more t f a h fit tells =
           ∙ sym (map-append (named_at kept) t.named a.gives);
       number_ = ap (λ n. number_after n f) h.number_ ∙ sym (one_more.number_ r f fit) ∙ ap number (sym is);
       drawn_ = ap (λ n. n + length (draws_of f)) h.drawn_ ∙ sym (one_more.counter_ r f) ∙ ap counter (sym is);
-      held = notes_held t.kept a.whole t.rows f t.notes a.note_ h.held tells.held;
+      held = notes_held t.kept a.whole t.rows f t.notes a.note_ (drops-first t f h fit) h.held tells.held;
+      places_ =
+          notes_placed t.kept a.whole t.rows f [] t.notes a.note_ (drops-first t f h fit) h.held h.places_ tells.place;
       origins_held =
           subst (λ ks. AreWithin (length kept) ks) (sym (map-append (λ (o : Origin). o.made) t.origins a.makes))
           (within-append (length kept) (origins_of t.origins) (origins_of a.makes)

@@ -1,11 +1,14 @@
 mod AheadLemmas
 mod ApplyLemmas
+mod CompactLemmas
 mod CopyLemmas
 mod CountLemmas
+mod ForgetLemmas
 mod HeldLemmas
+mod InsteadLemmas
 mod MakerLemmas
-mod MarkLemmas
 mod MessageLemmas
+mod PastLemmas
 mod RoomLemmas
 mod RowsLemmas
 mod ShorterLemmas

@@ -1,8 +1,8 @@
 -- Room that is made for records, and what is left of it after the first of them.
 use Rattle.std.proofs.Common.{◌≡◌, ◌≢◌, ℕ, zero, suc, ◌+◌, ◌-◌, ◌<◌, ◌≤◌, ◌==◌, Bool, true, false, cond, List, []}
 use Rattle.std.proofs.Common.{◌∷◌, ◌++◌, length, get_or, set, refl, sym, ap, subst, ◌∙◌, arith, inl, inr}
-use Rattle.std.specs.List.{flat_map}
-use Rattle.std.proofs.lemmas.Bool.{cases_eq, eq-eqb, ne_eqb, false≢true}
+use Rattle.std.specs.List.{flat_map, list_all}
+use Rattle.std.proofs.lemmas.Bool.{and_parts, cases_eq, eq-eqb, ne_eqb, false≢true}
 use Rattle.std.proofs.lemmas.List.{get_or_append_left, get_or-set_other, get_or-set_same, length-append, length-map}
 use Rattle.std.proofs.lemmas.List.{get_or-append_right, get_or-map, length-set, map-set, set-append_left}
 use Rattle.std.proofs.lemmas.List.{set-append_right}
@@ -10,7 +10,7 @@ use Rattle.std.proofs.lemmas.List.Sums.{sum_by-cons}
 use Rattle.ack_ranges.specs.declared.range.Range.{Range}
 use Rattle.record_batch.specs.Fact.{Fact, Created, Accepted, Acked, Received, Closing, ClosedOut, Closed}
 use Rattle.record_batch.specs.Fact.{Ending}
-use Rattle.record_batch.specs.Fact.{EndedOut, Ended, Failed}
+use Rattle.record_batch.specs.Fact.{EndedOut, Ended, Failed, Consumed, Dropped, Purged}
 use Rattle.sequence_table.specs.Told.{Side, Sends, Receives, Told, names}
 use Rattle.rm_base.specs.declared.message.Payload.{Payload}
 use Rattle.sequence_row.specs.Row.{Room, Seen, is_sender, side_step, takes, takes_message, takes_payload, with_room}
@@ -19,7 +19,8 @@ use Rattle.node_tables.specs.declared.note.Coming.{Coming}
 use Rattle.node_tables.specs.Kept.{Tabled, row_at, tolds}
 use Rattle.node_tables.specs.Ready.{IsReady}
 use Rattle.node_tables.specs.Room.{AreClaimed, AreEnough, HasPlaces, IsClaimed, IsEnough, NodeRoom, Places, Spare}
-use Rattle.node_tables.specs.Room.{all_spares, messages_for, no_spare, payloads_for, ranges_for, spare_at, spare_of}
+use Rattle.node_tables.specs.Room.{all_spares, has_room, messages_for, no_spare, payloads_for, ranges_for, spare_at}
+use Rattle.node_tables.specs.Room.{spare_of}
 use Rattle.node_tables.specs.Room.{spares, spares_ahead, spent, spent_at, starts, starts_of}
 
 -- the first record is applied elsewhere
@@ -91,6 +92,7 @@ pub ready-row : (old new : Tabled) (f : Fact) (more : List Fact) (k : ℕ) → I
     → names f ≡ k + 1 → k < length old.room.rows → old.room.slots ≤ new.room.slots + 1
     → new.room.ahead ≡ old.room.ahead → new.room.rows ≡ spent_at old.room.rows k f → IsReady new more
 ready-row old new f more k h none at lt slots ahead rows = record {
+  live = (and_parts (has_room f) (list_all has_room more) h.live).1;
   slots = let was = h.slots in omega (arith, was, slots);
   ahead = ahead ∙ h.ahead ∙ ap (λ xs. xs ++ flat_map starts_of more) none;
   enough =
@@ -102,12 +104,17 @@ pub ready-whole : (old new : Tabled) (f : Fact) (more : List Fact) → IsReady o
     → old.room.slots ≤ new.room.slots + 1 → new.room.ahead ≡ flat_map starts_of more
     → new.room.rows ≡ old.room.rows → IsReady new more
 ready-whole old new f more h slots ahead rows = record {
+  live = (and_parts (has_room f) (list_all has_room more) h.live).1;
   slots = let was = h.slots in omega (arith, was, slots);
   ahead = ahead;
   enough =
       subst (λ xs. AreEnough xs more) (sym rows)
       (λ i lt. enough-later (spare_at old.room.rows i) (i + 1) f more (h.enough i lt));
 }
+
+-- there is room for the first of them
+pub has-room : (t : Tabled) (f : Fact) (more : List Fact) → IsReady t (f ∷ more) → has_room f ≡ true
+has-room t f more h = (and_parts (has_room f) (list_all has_room more) h.live).0
 
 -- a record adds nothing to a sequence that it doesn't name
 payloads_elsewhere : (f : Fact) (s : ℕ) → names f ≢ s → payloads_for s f ≡ 0
@@ -362,6 +369,9 @@ step-kind (Sends t) (Ending seq ticket) = refl
 step-kind (Sends t) (EndedOut seq) = refl
 step-kind (Sends t) (Ended seq cause last) = refl
 step-kind (Sends t) (Failed seq fault) = refl
+step-kind (Sends t) (Consumed seq upto) = refl
+step-kind (Sends t) (Dropped seq upto) = refl
+step-kind (Sends t) (Purged seq ranges) = refl
 step-kind (Sends t) _ = refl
 step-kind (Receives t) (Created seq ident accept) = refl
 step-kind (Receives t) (Accepted seq payload) = refl
@@ -374,6 +384,9 @@ step-kind (Receives t) (Ending seq ticket) = refl
 step-kind (Receives t) (EndedOut seq) = refl
 step-kind (Receives t) (Ended seq cause last) = refl
 step-kind (Receives t) (Failed seq fault) = refl
+step-kind (Receives t) (Consumed seq upto) = refl
+step-kind (Receives t) (Dropped seq upto) = refl
+step-kind (Receives t) (Purged seq ranges) = refl
 step-kind (Receives t) _ = refl
 
 -- a row made room

@@ -1,24 +1,56 @@
 -- The rows against what the records say.
 use Rattle.std.proofs.Common.{◌≡◌, ◌≢◌, ℕ, zero, suc, ◌+◌, ◌-◌, ◌≤◌, ◌==◌, Bool, true, false, cond, List, []}
 use Rattle.std.proofs.Common.{◌∷◌, length, map, refl, sym, ap, subst, ◌∙◌, arith, inl, inr, Option, Some, None}
-use Rattle.std.specs.Prelude.{slice_get, ◌&&◌, not, nat_le, nat_lt}
+use Rattle.std.specs.Prelude.{slice_get, ◌&&◌, ◌||◌, not, nat_le, nat_lt}
 use Rattle.std.specs.Option.{option_map}
 use Rattle.std.specs.List.{list_all}
+use Rattle.std.proofs.lemmas.Bool.Decides.{nat_tests}
 use Rattle.std.proofs.lemmas.Bool.{cases_eq, ne_eqb, false≢true, and_right, and_parts}
 use Rattle.std.proofs.lemmas.Option.{get_or_from_slice_get, slice_get-map, slice_get_cases}
 use Rattle.rm_base.specs.Numbered.{numbered}
 use Rattle.rm_base.specs.NumberSet.{has_number}
+use Rattle.ack_ranges.specs.declared.range.Range.{Range}
+use Rattle.ack_ranges.specs.Ranges.{IsCanonical, in_ranges}
+use Rattle.rm_destination.specs.Incoming.{Receiving, held as held_by}
+use Rattle.rm_destination.specs.Messages.{is_empty}
 use Rattle.record_batch.specs.Fact.{Fact, Created, Accepted, Acked, Received, Closing, ClosedOut, Closed}
 use Rattle.record_batch.specs.Fact.{Ending}
-use Rattle.record_batch.specs.Fact.{EndedOut, Ended, Failed}
+use Rattle.record_batch.specs.Fact.{EndedOut, Ended, Failed, Consumed, Dropped, Purged}
 use Rattle.sequence_table.specs.Makers.{Maker, makers, maker, counter}
-use Rattle.sequence_table.specs.Fits.{fits, follows, is_outgoing_side, is_incoming_side, is_up_to}
-use Rattle.sequence_table.specs.Sources.{accepted, phase}
-use Rattle.sequence_table.specs.Destinations.{held, has_end, is_stopped}
-use Rattle.sequence_table.specs.Told.{Told, names, told_by, told_from}
-use Rattle.sequence_row.specs.Row.{Seen, takes, draws_next}
+use Rattle.sequence_table.specs.Fits.{fits, follows, is_first_run, is_outgoing_side, is_incoming_side, is_up_to}
+use Rattle.sequence_table.specs.Sources.{accepted_count, phase}
+use Rattle.sequence_table.specs.Destinations.{cursor, held, has_end, inbox, is_stopped}
+use Rattle.sequence_table.specs.Told.{Side, Sends, Receives, Told, names, told_all, told_by, told_from}
+use Rattle.sequence_row.specs.Row.{Seen, takes, draws_next, receiving_in}
 use Rattle.sequence_row.specs.TakesLemmas.{fits-takes}
-use Rattle.node_tables.specs.Kept.{Table, Holds, records_in, told_in, takes_at, is_naming, row_at, no_row}
+use Rattle.node_tables.specs.Kept.{Table, Holds, held_in, records_in, told_in, takes_at, is_naming, row_at, no_row}
+
+-- a set of numbers has no range where there is none of them
+none_there : (ranges : List Range) (ns : List ℕ) → IsCanonical ranges
+    → ((n : ℕ) → in_ranges ranges n ≡ has_number ns n) → (length ranges == 0) ≡ is_empty ns
+none_there [] [] h same = refl
+none_there [] (n ∷ ns) h same =
+    let here : (n == n) ≡ true = grind (arith, nat_tests) in
+    absurd (false≢true (same n ∙ ap (λ b. b || has_number ns n) here))
+none_there (r ∷ rs) [] h same =
+    let here : (nat_le r.lower r.lower && nat_le r.lower r.upper) ≡ true = grind (arith, nat_tests, h.1) in
+    absurd (false≢true (sym (same r.lower) ∙ ap (λ b. b || in_ranges rs r.lower) here))
+none_there (r ∷ rs) (n ∷ ns) h same = let none : (suc (length rs) == 0) ≡ false = grind (arith, nat_tests) in none
+
+abbrev held_or : Option Receiving → List ℕ
+held_or None = []
+held_or (Some t) = held_by t
+
+held_known : (side : Side) → held_in side ≡ held_or (receiving_in side)
+held_known (Sends t) = refl
+held_known (Receives t) = refl
+
+pub none-received : (side : Side) (t : Receiving) (ranges : List Range) → Some t ≡ receiving_in side → IsCanonical
+    ranges
+    → ((n : ℕ) → in_ranges ranges n ≡ has_number (held_by t) n) → (length ranges == 0) ≡ is_empty (held_in side)
+none-received side t ranges is h same =
+    none_there ranges (held_in side) h (λ n. same n ∙ ap (λ (o : Option Receiving). has_number (held_or o) n) is
+    ∙ ap (λ (ns : List ℕ). has_number ns n) (sym (held_known side)))
 
 length-told_from : (r : List Fact) (k : ℕ) (ms : List Maker) → length (told_from r k ms) ≡ length ms
 length-told_from r k [] = refl
@@ -37,15 +69,17 @@ told_from-at r k (m ∷ ms) (suc i) =
     ∙ ap (λ n. option_map (λ (x : Maker). told_by r n x) (slice_get ms i))
     (let e : k + 1 + i + 1 ≡ k + suc i + 1 = omega arith in e)
 
-pub row-told : (t : Table) (s : ℕ) → Holds t → s ≢ 0 → slice_get t.rows (s - 1) ≡ told_in (records_in t) s
-row-told t s h ne =
-    let r = records_in t in
+pub told-at : (r : List Fact) (s : ℕ) → s ≢ 0 → slice_get (told_all r) (s - 1) ≡ told_in r s
+told-at r s ne =
     let at : 0 + (s - 1) + 1 ≡ s = omega (arith, ne) in
     let there : maker r s ≡ slice_get (makers r) (s - 1) =
     ap (λ b. cond b None (slice_get (makers r) (s - 1))) (ne_eqb s 0 ne) in
-    ap (λ ts. slice_get ts (s - 1)) h.rows_ ∙ told_from-at r 0 (makers r) (s - 1)
+    told_from-at r 0 (makers r) (s - 1)
     ∙ ap (λ n. option_map (λ (x : Maker). told_by r n x) (slice_get (makers r) (s - 1))) at
     ∙ ap (λ o. option_map (λ (x : Maker). told_by r s x) o) (sym there)
+
+pub row-told : (t : Table) (s : ℕ) → Holds t → s ≢ 0 → slice_get t.rows (s - 1) ≡ told_in (records_in t) s
+row-told t s h ne = ap (λ ts. slice_get ts (s - 1)) h.rows_ ∙ told-at (records_in t) s ne
 
 pub numbered-map : {A B : Type 0} (f : A → B) (xs : List A) (s : ℕ)
     → option_map f (numbered xs s) ≡ numbered (map f xs) s
@@ -56,12 +90,15 @@ numbered-map f xs s =
       | false ↦ sym (slice_get-map f xs (s - 1))
     ]
 
-pub row-there : (t : Table) (s : ℕ) → Holds t → numbered t.rows s ≡ told_in (records_in t) s
-row-there t s h =
+pub told-there : (r : List Fact) (s : ℕ) → numbered (told_all r) s ≡ told_in r s
+told-there r s =
     elim (cases_eq s 0) [
       | inl e ↦ rw e refl
-      | inr ne ↦ ap (λ b. cond b None (slice_get t.rows (s - 1))) (ne_eqb s 0 ne) ∙ row-told t s h ne
+      | inr ne ↦ ap (λ b. cond b None (slice_get (told_all r) (s - 1))) (ne_eqb s 0 ne) ∙ told-at r s ne
     ]
+
+pub row-there : (t : Table) (s : ℕ) → Holds t → numbered t.rows s ≡ told_in (records_in t) s
+row-there t s h = ap (λ ts. numbered ts s) h.rows_ ∙ told-there (records_in t) s
 
 -- what is known of the row with a number
 pub row-seen : (rows : List Seen) (t : Table) (s : ℕ) → t.rows ≡ map (λ (r : Seen). r.told) rows → Holds t
@@ -75,8 +112,8 @@ nobody r (Created s ident accept) is e =
     ap (λ o. is_outgoing_side o && follows (phase r s) (Created s ident accept)) e
 nobody r (Accepted s payload) is e =
     ap (λ o. (is_outgoing_side o && follows (phase r s) (Accepted s payload))
-    && nat_lt (length (accepted r s)) 9223372036854775807) e
-nobody r (Acked s ranges) is e = ap (λ o. is_outgoing_side o && list_all (is_up_to (length (accepted r s))) ranges) e
+    && nat_lt (accepted_count r s) 9223372036854775807) e
+nobody r (Acked s ranges) is e = ap (λ o. is_outgoing_side o && list_all (is_up_to (accepted_count r s)) ranges) e
 nobody r (Received s n payload) is e =
     ap (λ o. is_incoming_side o && (nat_le 1 n && (nat_le n 9223372036854775807
     && (not (has_number (held r s) n) && not (is_stopped r s))))) e
@@ -91,6 +128,14 @@ nobody r (Ending s ticket) is e =
 nobody r (EndedOut s) is e = ap (λ o. is_outgoing_side o && follows (phase r s) (EndedOut s)) e
 nobody r (Ended s cause last) is e = ap (λ o. is_incoming_side o && not (has_end r s)) e
 nobody r (Failed s fault) is e = ap (λ o. is_outgoing_side o && follows (phase r s) (Failed s fault)) e
+nobody r (Consumed s upto) is e =
+    ap (λ o. is_incoming_side o && (nat_lt (cursor r s) upto && nat_le upto (length (inbox r s)))) e
+nobody r (Dropped s upto) is e =
+    ap (λ o. (is_outgoing_side o && follows (phase r s) (Dropped s upto))
+    && ((accepted_count r s == 0) && (nat_le 1 upto && nat_le upto 9223372036854775807))) e
+nobody r (Purged s ranges) is e =
+    ap (λ o. is_incoming_side o && (is_empty (held r s)
+    && (list_all (is_up_to 9223372036854775807) ranges && is_first_run ranges))) e
 nobody r _ is e = absurd (false≢true is)
 
 taken : (r : List Fact) (f : Fact) (o : Option Maker) → is_naming f ≡ true → maker r (names f) ≡ o

@@ -1,26 +1,52 @@
 -- The notes of a snapshot, met from the last to the first.
-use Rattle.std.proofs.Common.{◌≡◌, ℕ, zero, suc, ◌-◌, ◌<◌, ◌≤◌, Bool, true, false, ◌||◌, cond, List}
-use Rattle.std.proofs.Common.{[], ◌∷◌, ◌++◌, length, take, drop, reverse, get_or, set, refl, sym, ◌∙◌, ap, subst}
-use Rattle.std.proofs.Common.{inl, inr, arith, Option, Some, None, IfSome}
-use Rattle.std.specs.Option.{option_map}
-use Rattle.std.specs.List.{list_any}
+use Rattle.std.proofs.Common.{◌≡◌, ◌⊎◌, ℕ, zero, suc, ◌+◌, ◌-◌, ◌<◌, ◌≤◌, ◌==◌, Bool, true, false, ◌&&◌, ◌||◌, cond}
+use Rattle.std.proofs.Common.{max}
+use Rattle.std.proofs.Common.{List, [], ◌∷◌, ◌++◌, length, map, take, drop, reverse, get_or, set, refl, sym, ◌∙◌, ap}
+use Rattle.std.proofs.Common.{subst}
+use Rattle.std.proofs.Common.{inl, inr, arith, append_assoc, Option, Some, None, IfSome}
+use Rattle.std.specs.Prelude.{nat_le, nat_lt, slice_get}
+use Rattle.std.proofs.lemmas.Option.{none-some}
+use Rattle.std.specs.Option.{option_map, option_to_list}
+use Rattle.std.specs.List.{AllByRecursion, flat_map, list_any}
 use Rattle.std.proofs.Math.Seq.{drop-cons, take-suc}
-use Rattle.std.proofs.lemmas.Bool.{cases_Bool, cases_eq, eq-eqb, ne_eqb, true≢false}
-use Rattle.std.proofs.lemmas.List.{drop_all, length-set, get_or-map, get_or-set_same, get_or-set_other, length-map}
-use Rattle.std.proofs.lemmas.List.{reverse-append}
-use Rattle.ack_ranges.specs.Changes.{united}
-use Rattle.ack_ranges.specs.Ranges.{Contents, IsCanonical}
+use Rattle.std.proofs.lemmas.Bool.{cases_Bool, cases_eq, eq-eqb, false≢true, ne_eqb, true≢false}
+use Rattle.std.proofs.lemmas.Bool.Decides.{nat_tests}
+use Rattle.std.proofs.lemmas.Grind.{flat_map-append}
+use Rattle.std.proofs.lemmas.List.{append-nil, drop_all, length-set, get_or-map, get_or-set_same, get_or-set_other}
+use Rattle.std.proofs.lemmas.List.{length-map, map-append, reverse-append, take-append-drop}
+use Rattle.ack_ranges.specs.Laws.{EndsAreRight, UnionHasBoth}
+use Rattle.ack_ranges.specs.Ranges.{front_of, in_ranges}
+use Rattle.rm_base.specs.NumberSet.{has_number}
 use Rattle.rm_base.specs.Numbered.{numbered}
-use Rattle.record_batch.specs.Fact.{Fact, Acked}
-use Rattle.sequence_table.specs.Sources.{acked}
-use Rattle.sequence_table.specs.Told.{Told}
-use Rattle.record_snapshot.specs.Snapshot.{acks, snapshot_from}
-use Rattle.record_snapshot.specs.SnapshotLemmas.{IsOther, ack, other, kind, snapshot_other, snapshot_left_out}
-use Rattle.record_snapshot.specs.SnapshotLemmas.{acked-none, snapshot_last}
+use Rattle.rm_destination.specs.ItemLemmas.{in_ranges-run_to}
+use Rattle.rm_destination.specs.Messages.{is_empty, numbers_in, numbers_of, run_to}
+use Rattle.record_batch.specs.Fact.{Fact, Accepted, Acked, Received, Consumed, Dropped, Purged}
+use Rattle.sequence_table.specs.Destinations.{held, purged, received}
+use Rattle.sequence_table.specs.Fits.{all_fit, is_outgoing_side}
+use Rattle.sequence_table.specs.Makers.{Maker, maker}
+use Rattle.sequence_table.specs.Sources.{accepted_count, dropped_of}
+use Rattle.sequence_table.specs.Told.{Told, told_all, told_by}
+use Rattle.record_snapshot.specs.FitLemmas.{SoFar, count_so_far, so-far-on}
+use Rattle.record_snapshot.specs.GotLemmas.{got_with, held-is, held-length, held-more, run, run-some, some-not}
+use Rattle.record_snapshot.specs.PassedLemmas.{without-no}
+use Rattle.record_snapshot.specs.Same.{HasProper, HaveProper, without}
+use Rattle.record_snapshot.specs.Snapshot.{acks, instead, passed, settled, snapshot_from}
+use Rattle.record_snapshot.specs.WalkLemmas.{drops-settled, start}
 use Rattle.node_tables.specs.declared.note.Note.{Note}
 use Rattle.node_tables.specs.declared.note.Note.TheVariants as note
-use Rattle.node_tables.specs.Kept.{AllHeld, AreWhole, IsHeld, IsShort, fact_at, is_whole, kept_at, records_of}
-use Rattle.node_tables.specs.Shorter.{HasRow, IsRecorded, NewIsSet, acked_in, fact_instead, marked}
+use Rattle.node_tables.specs.Kept.{AllHeld, AreWhole, HasPlace, HavePlaces, IsHeld, IsShort, all_forgotten, dropped_in}
+use Rattle.node_tables.specs.Kept.{accepted_count_in, fact_at, is_whole, kept_at, no_row, received_in, records_of}
+use Rattle.node_tables.specs.Kept.{row_at}
+use Rattle.node_tables.specs.Kept.{told_in}
+use Rattle.node_tables.specs.Shorter.{HasRow, IsFree, IsOwn, IsProperNote, IsPut, IsRecorded, acked_by, acked_in}
+use Rattle.node_tables.specs.Shorter.{fact_ahead, fact_instead, marked, passed_by, passed_in, some_ranges, stays_as}
+use Rattle.sequence_row.specs.Row.{forgotten}
+use Rattle.node_tables.proofs.ApplyLemmas.{fits-next}
+use Rattle.node_tables.proofs.InsteadLemmas.{IsAt, acked-known, acked-sends, accepted-sends, left-accepted}
+use Rattle.node_tables.proofs.InsteadLemmas.{left-received, none_run}
+use Rattle.node_tables.proofs.InsteadLemmas.{numbered-row, passed-known, received-from, received-receives, same-instead}
+use Rattle.node_tables.proofs.InsteadLemmas.{whole_proper, whole_quiet}
+use Rattle.node_tables.proofs.RowsLemmas.{told-there}
 
 -- after the notes from a place on
 pub record IsShortened (kept : List Fact) (rows : List Told) (notes : List Note) (k : ℕ) (seen : List Bool)
@@ -32,47 +58,49 @@ pub record IsShortened (kept : List Fact) (rows : List Told) (notes : List Note)
   pub short_ : records_of kept rows (reverse short)
       ≡ snapshot_from (records_of kept rows notes) (take k (records_of kept rows notes))
       (drop k (records_of kept rows notes))
-  pub held : AllHeld kept rows short
-  pub sets : (s : ℕ) → list_any (acks s) (drop k (records_of kept rows notes)) ≡ true
-      → IsCanonical (united [] (acked (records_of kept rows notes) s))
+  pub held : AllHeld kept rows (reverse short)
+  pub left : AllHeld kept (all_forgotten rows) (reverse short)
+  pub placed : UnionHasBoth → EndsAreRight → HaveProper (records_of kept rows notes) → (q : List Fact)
+      → SoFar (records_of kept rows notes) q (take k (records_of kept rows notes))
+      → HavePlaces kept rows q (reverse short)
+  pub proper : HaveProper (drop k (records_of kept rows notes))
 
-all_held-push : (kept : List Fact) (rows : List Told) (short : List Note) (n : Note) → AllHeld kept rows short
-    → IsHeld kept rows n → AllHeld kept rows (short ++ n ∷ [])
-all_held-push kept rows [] n all one = (one, tt)
-all_held-push kept rows (x ∷ short) n all one = (all.0, all_held-push kept rows short n all.1 one)
+-- ---- lists
 
 all_held-append : (kept : List Fact) (rows : List Told) (xs ys : List Note) → AllHeld kept rows xs
     → AllHeld kept rows ys → AllHeld kept rows (xs ++ ys)
 all_held-append kept rows [] ys all more = more
 all_held-append kept rows (x ∷ xs) ys all more = (all.0, all_held-append kept rows xs ys all.1 more)
 
-all_held-reverse : (kept : List Fact) (rows : List Told) (xs : List Note) → AllHeld kept rows xs
-    → AllHeld kept rows (reverse xs)
-all_held-reverse kept rows [] all = tt
-all_held-reverse kept rows (x ∷ xs) all =
-    subst (AllHeld kept rows) (sym (reverse-append (x ∷ []) xs))
-    (all_held-append kept rows (reverse xs) (x ∷ []) (all_held-reverse kept rows xs all.1) (all.0, tt))
+held-listed : (kept : List Fact) (rows : List Told) (o : Option Note) → IfSome o (IsHeld kept rows)
+    → AllHeld kept rows (option_to_list o)
+held-listed kept rows None h = tt
+held-listed kept rows (Some n) h = (h, tt)
 
--- with what stands for a note
-abbrev pub pushed : List Note → Option Note → List Note
-pushed short None = short
-pushed short (Some n) = short ++ n ∷ []
+records-listed : (kept : List Fact) (rows : List Told) (o : Option Note)
+    → records_of kept rows (option_to_list o) ≡ option_to_list (option_map (fact_at kept rows) o)
+records-listed kept rows None = refl
+records-listed kept rows (Some n) = refl
 
-all_held-pushed : (kept : List Fact) (rows : List Told) (short : List Note) (o : Option Note)
-    → AllHeld kept rows short → IfSome o (IsHeld kept rows) → AllHeld kept rows (pushed short o)
-all_held-pushed kept rows short None all one = all
-all_held-pushed kept rows short (Some n) all one = all_held-push kept rows short n all one
+reverse-listed : (xs : List Note) (o : Option Note) → reverse (xs ++ option_to_list o) ≡ option_to_list o ++ reverse xs
+reverse-listed xs None = ap (λ ys. reverse ys) (append-nil xs)
+reverse-listed xs (Some n) = reverse-append xs (n ∷ [])
 
-any_here : (l : List Fact) (j : ℕ) (f d : Fact) (s : ℕ) → j < length l → get_or l j d ≡ f → acks s f ≡ true
-    → list_any (acks s) l ≡ true
-any_here [] j f d s low e is = absurd (omega (arith, low))
-any_here (x ∷ l) zero f d s low e is = ap (λ b. b || list_any (acks s) l) (ap (acks s) e ∙ is)
-any_here (x ∷ l) (suc j) f d s low e is =
-    ap (λ b. acks s x || b) (any_here l j f d s (omega (arith, low)) e is) ∙ or_true (acks s x)
-  where
-    or_true : (b : Bool) → (b || true) ≡ true
-    or_true true = refl
-    or_true false = refl
+-- what is put behind others stands before them, once they are turned round
+turned : (old new : List Note) (stands ahead : Option Note)
+    → new ≡ (old ++ option_to_list stands) ++ option_to_list ahead
+    → reverse new ≡ option_to_list ahead ++ (option_to_list stands ++ reverse old)
+turned old new stands ahead is =
+    ap (λ xs. reverse xs) is ∙ reverse-listed (old ++ option_to_list stands) ahead
+    ∙ ap (λ xs. option_to_list ahead ++ xs) (reverse-listed old stands)
+
+all_right : {A : Type 0} → (P : A → Type 0) (xs ys : List A) → AllByRecursion P (xs ++ ys) → AllByRecursion P ys
+all_right P [] ys all = all
+all_right P (x ∷ xs) ys all = all_right P xs ys all.1
+
+all_left : {A : Type 0} → (P : A → Type 0) (xs ys : List A) → AllByRecursion P (xs ++ ys) → AllByRecursion P xs
+all_left P [] ys all = tt
+all_left P (x ∷ xs) ys all = (all.0, all_left P xs ys all.1)
 
 -- the record of a note stands at its place
 pub at_place : (kept : List Fact) (rows : List Told) (notes : List Note) (j : ℕ) (n : Note) → j < length notes
@@ -80,190 +108,474 @@ pub at_place : (kept : List Fact) (rows : List Told) (notes : List Note) (j : �
 at_place kept rows notes j n low is =
     get_or-map (fact_at kept rows) notes j n (fact_at kept rows n) low ∙ ap (fact_at kept rows) (sym is)
 
--- an Acked note's sequence has a row
-pub has_row : (kept : List Fact) (rows : List Told) (notes : List Note) (j : ℕ) (n : Note) → j < length notes
-    → n ≡ get_or notes j n → IsRecorded kept rows notes → HasRow (length rows) n
-has_row kept rows notes j (note.Acked seq numbers) low is recorded =
-    let r = records_of kept rows notes in
-    let f : Fact = Acked seq numbers.ranges in
-    let any = any_here r j f f seq (omega (arith, low, length-map notes (fact_at kept rows)))
-    (at_place kept rows notes j (note.Acked seq numbers) low is) (eq-eqb seq seq refl) in
-    let it = recorded.acked_ seq any in (it.from, it.within)
-has_row kept rows notes j (note.Kept place) low is recorded = tt
-has_row kept rows notes j (note.Accepted row n) low is recorded = tt
-has_row kept rows notes j (note.Received row n) low is recorded = tt
-
 pub held_at : (kept : List Fact) (rows : List Told) (notes : List Note) (j : ℕ) (n : Note) → j < length notes
     → n ≡ get_or notes j n → AllHeld kept rows notes → IsHeld kept rows n
 held_at kept rows [] j n low is held = absurd (omega (arith, low))
 held_at kept rows (x ∷ notes) zero n low is held = subst (IsHeld kept rows) (sym is) held.0
 held_at kept rows (x ∷ notes) (suc j) n low is held = held_at kept rows notes j n (omega (arith, low)) is held.1
 
+place_at : (kept : List Fact) (rows : List Told) (before : List Fact) (notes : List Note) (j : ℕ) (n : Note)
+    → j < length notes → n ≡ get_or notes j n → HavePlaces kept rows before notes
+    → HasPlace (before ++ take j (records_of kept rows notes)) n
+place_at kept rows before [] j n low is all = absurd (omega (arith, low))
+place_at kept rows before (x ∷ notes) zero n low is all =
+    subst (λ b. HasPlace b n) (sym (append-nil before)) (subst (HasPlace before) (sym is) all.0)
+place_at kept rows before (x ∷ notes) (suc j) n low is all =
+    let f = fact_at kept rows x in
+    subst (λ b. HasPlace b n) (append_assoc before (f ∷ []) (take j (records_of kept rows notes)))
+    (place_at kept rows (before ++ f ∷ []) notes j n (omega (arith, low)) is all.1)
+
 whole_at : (kept : List Fact) (place : ℕ) → AreWhole kept → place < length kept → is_whole (kept_at kept place) ≡ true
 whole_at [] place all low = absurd (omega (arith, low))
 whole_at (f ∷ kept) zero all low = all.0
 whole_at (f ∷ kept) (suc place) all low = whole_at kept place all.1 (omega (arith, low))
 
--- a record that is kept whole is no Acked one
-whole_other : (f : Fact) → is_whole f ≡ true → IsOther f
-whole_other f w = elim (kind f) as (λ g k. is_whole g ≡ true → IsOther g) [
-  | ack seq ranges ↦ λ e. absurd (true≢false (sym e))
-  | other g is ↦ λ e. is
-] w
-
-some_note : (kept : List Fact) (rows : List Told) (short : List Note) (o : Option Note) (f : Fact)
-    → option_map (fact_at kept rows) o ≡ Some f
-    → records_of kept rows (reverse (pushed short o)) ≡ f ∷ records_of kept rows (reverse short)
-some_note kept rows short (Some n) f e =
-    ap (λ l. records_of kept rows l) (reverse-append short (n ∷ []))
-    ∙ ap (λ g. g ∷ records_of kept rows (reverse short)) (ap (λ x. some_or f x) e)
-  where
-    some_or : Fact → Option Fact → Fact
-    some_or d (Some x) = x
-    some_or d None = d
-some_note kept rows short None f e = absurd cc
-
-none_note : (kept : List Fact) (rows : List Told) (short : List Note) (o : Option Note)
-    → option_map (fact_at kept rows) o ≡ None → records_of kept rows (reverse (pushed short o))
-    ≡ records_of kept rows (reverse short)
-none_note kept rows short None e = refl
-none_note kept rows short (Some n) e = absurd cc
+-- ---- one note
 
 module _ (kept : List Fact) (rows : List Told) (notes : List Note) (recorded : IsRecorded kept rows notes) (j : ℕ)
-    (seen : List Bool) (short : List Note) (low : j < length notes)
-    (so_far : IsShortened kept rows notes (suc j) seen short) where
-  r : List Fact
-  r = records_of kept rows notes
-
-  from_here : (n : Note) → n ≡ get_or notes j n → drop j r ≡ fact_at kept rows n ∷ drop (suc j) r
-  unfolding r
-  from_here n is =
+    (n : Note) (low : j < length notes) (is : n ≡ get_or notes j n) where
+  from_here : drop j (records_of kept rows notes) ≡ fact_at kept rows n ∷ drop (suc j) (records_of kept rows notes)
+  from_here =
       drop-cons (records_of kept rows notes) j (fact_at kept rows n)
       (omega (arith, low, length-map notes (fact_at kept rows)))
       ∙ ap (λ f. f ∷ drop (suc j) (records_of kept rows notes)) (at_place kept rows notes j n low is)
 
-  up_to_here : (n : Note) → n ≡ get_or notes j n → take (suc j) r ≡ take j r ++ fact_at kept rows n ∷ []
-  unfolding r
-  up_to_here n is =
+  up_to_here : take (suc j) (records_of kept rows notes) ≡ take j (records_of kept rows notes) ++ fact_at kept rows n
+      ∷ []
+  up_to_here =
       take-suc (records_of kept rows notes) j (fact_at kept rows n)
       (omega (arith, low, length-map notes (fact_at kept rows)))
       ∙ ap (λ f. take j (records_of kept rows notes) ++ f ∷ []) (at_place kept rows notes j n low is)
 
-  so_short : (n : Note) → n ≡ get_or notes j n → records_of kept rows (reverse short)
-      ≡ snapshot_from r (take j r ++ fact_at kept rows n ∷ []) (drop (suc j) r)
-  unfolding r
-  so_short n is = so_far.short_
-      ∙ ap (λ l. snapshot_from (records_of kept rows notes) l (drop (suc j) (records_of kept rows notes)))
-      (up_to_here n is)
-
-  -- a note that stays
-  stays_here : (n : Note) (o : Option Note) → n ≡ get_or notes j n → IsOther (fact_at kept rows n)
-      → option_map (fact_at kept rows) o ≡ Some (fact_at kept rows n) → IfSome o (IsHeld kept rows)
-      → IsShortened kept rows notes j seen (pushed short o)
-  unfolding r
-  stays_here n o is stays e there =
-      let f = fact_at kept rows n in
+  at_here : IsAt (records_of kept rows notes) (take j (records_of kept rows notes)) (fact_at kept rows n)
+      (drop (suc j) (records_of kept rows notes))
+  at_here =
+      let r = records_of kept rows notes in
+      let parts : r ≡ take j r ++ fact_at kept rows n ∷ drop (suc j) r =
+      sym (take-append-drop j r) ∙ ap (λ xs. take j r ++ xs) from_here in
       record {
-        held = all_held-pushed kept rows short o so_far.held there;
-        sets = λ s any. so_far.sets s (sym (ap (λ l. list_any (acks s) l) (from_here n is)
-            ∙ ap (λ b. b || list_any (acks s) (drop (suc j) (records_of kept rows notes))) (stays.acks_ s)) ∙ any);
-        within = omega (arith, low);
-        len = so_far.len;
-        marks = λ s from within. so_far.marks s from within
-            ∙ sym (ap (λ l. list_any (acks s) l) (from_here n is)
-            ∙ ap (λ b. b || list_any (acks s) (drop (suc j) (records_of kept rows notes))) (stays.acks_ s));
-        short_ =
-            some_note kept rows short o f e
-            ∙ ap (λ l. f ∷ l) (so_short n is)
-            ∙ sym (ap (λ l. snapshot_from (records_of kept rows notes) (take j (records_of kept rows notes)) l)
-            (from_here n is)
-            ∙ snapshot_other (records_of kept rows notes) (take j (records_of kept rows notes)) f
-            (drop (suc j) (records_of kept rows notes)) stays);
+        parts = parts;
+        fit = fits-next [] (take j r) (drop (suc j) r) (fact_at kept rows n)
+            (ap (λ xs. all_fit [] xs) (sym parts) ∙ recorded.fit);
       }
 
-  -- an Acked note
-  acked_here : (seq : ℕ) (numbers : Contents) (o : Option Note)
-      → note.Acked seq numbers ≡ get_or notes j (note.Acked seq numbers)
-      → option_map (fact_at kept rows) o ≡ fact_instead kept rows seen (note.Acked seq numbers)
-      → IfSome o (IsHeld kept rows) → NewIsSet rows seen (note.Acked seq numbers)
-      → IsShortened kept rows notes j (marked seen (note.Acked seq numbers)) (pushed short o)
-  unfolding r
-  acked_here seq numbers o is e there set_ =
-      let all = records_of kept rows notes in
-      let n = note.Acked seq numbers in
-      let f : Fact = Acked seq numbers.ranges in
-      let later = drop (suc j) all in
-      let any = any_here all j f f seq (omega (arith, low, length-map notes (fact_at kept rows)))
-      (at_place kept rows notes j n low is) (eq-eqb seq seq refl) in
-      let it = recorded.acked_ seq any in
-      let met : get_or seen (seq - 1) false ≡ list_any (acks seq) later = so_far.marks seq it.from it.within in
-      let here = from_here n is in
-      let inside : seq - 1 < length seen = omega (arith, it.from, it.within, so_far.len) in
-      record {
-        held = all_held-pushed kept rows short o so_far.held there;
-        sets = λ s some. elim (cases_eq s seq) [
-          | inl same ↦ elim (cases_Bool (list_any (acks seq) later)) [
-            | inl more ↦ so_far.sets s (ap (λ k. list_any (acks k) later) same ∙ more)
-            | inr last ↦ subst (λ k. IsCanonical (united [] (acked all k))) (sym same)
-                (subst IsCanonical it.numbers (set_ (met ∙ last)))
-          ]
-          | inr differ ↦ so_far.sets s (sym (ap (λ l. list_any (acks s) l) here
-              ∙ ap (λ b. b || list_any (acks s) later) (ne_eqb seq s (λ same. differ (sym same)))) ∙ some)
-        ];
-        within = omega (arith, low);
-        len = length-set seen (seq - 1) true ∙ so_far.len;
-        marks = λ s from within. elim (cases_eq s seq) [
-          | inl same ↦
-              ap (λ k. get_or (set seen (seq - 1) true) (k - 1) false) same
-              ∙ get_or-set_same seen (seq - 1) true false inside
-              ∙ sym (ap (λ l. list_any (acks s) l) here
-              ∙ ap (λ b. b || list_any (acks s) later) (eq-eqb seq s (sym same)))
-          | inr differ ↦
-              get_or-set_other seen (seq - 1) (s - 1) true false
-              (λ same. differ (omega (arith, same, from, it.from)))
-              ∙ so_far.marks s from within
-              ∙ sym (ap (λ l. list_any (acks s) l) here
-              ∙ ap (λ b. b || list_any (acks s) later) (ne_eqb seq s (λ same. differ (sym same))))
-        ];
-        short_ = elim (cases_Bool (list_any (acks seq) later)) [
-          | inl more ↦
-              none_note kept rows short o (e ∙ ap (λ b. cond b None (Some (Acked seq (acked_in (numbered rows seq)))))
-              (met ∙ more))
-              ∙ so_short n is
-              ∙ sym (ap (λ l. snapshot_from all (take j all) l) here
-              ∙ snapshot_left_out all (take j all) seq numbers.ranges later more)
-          | inr last ↦
-              some_note kept rows short o (Acked seq (united [] (acked all seq)))
-              (e ∙ ap (λ b. cond b None (Some (Acked seq (acked_in (numbered rows seq))))) (met ∙ last)
-              ∙ ap (λ xs. Some (Acked seq xs)) it.numbers)
-              ∙ ap (λ l. Acked seq (united [] (acked all seq)) ∷ l) (so_short n is)
-              ∙ sym (ap (λ l. snapshot_from all (take j all) l) here
-              ∙ snapshot_last all (take j all) seq numbers.ranges later last)
-        ];
-      }
+  pub known_rows : (s : ℕ) → numbered rows s ≡ told_in (records_of kept rows notes) s
+  known_rows s = ap (λ ts. numbered ts s) recorded.rows_ ∙ told-there (records_of kept rows notes) s
+
+  held_here : IsHeld kept rows n
+  held_here = held_at kept rows notes j n low is recorded.held
+
+  place_here : HasPlace (take j (records_of kept rows notes)) n
+  place_here = place_at kept rows [] notes j n low is recorded.places_
+
+  whole_here : (place : ℕ) → n ≡ note.Kept place → is_whole (kept_at kept place) ≡ true
+  whole_here place e = whole_at kept place recorded.whole (subst (IsHeld kept rows) e held_here)
+
+-- ---- what is left of a note that stays
+
+-- a payload that stays is behind those that are settled
+payload-past : (y : Fact) (d n seq : ℕ) (text : List ℕ)
+    → Some (Accepted seq text) ≡ cond (nat_le n d) (cond (n == 1) (Some (Dropped seq d)) None) (Some y) → d < n
+payload-past y d n seq text e = elim (cases_Bool (nat_le n d)) [
+  | inl le ↦ absurd (none (n == 1) (e ∙ ap (λ b. cond b (cond (n == 1) (Some (Dropped seq d)) None) (Some y)) le))
+  | inr gt ↦ grind (arith, nat_tests, gt)
+]
+  where
+    none : (b : Bool) → Some (Accepted seq text) ≡ cond b (Some (Dropped seq d)) None → ⊥
+    none true h = absurd cc
+    none false h = absurd cc
+
+some-none : (x : Fact) → Some x ≡ None → ⊥
+some-none x h = absurd cc
+
+-- and a message that stays is none that was consumed
+message-past : (p n : ℕ) (x y : Fact) → 0 < n → Some x ≡ cond (in_ranges (run_to p) n) None (Some y) → p < n
+message-past p n x y from e = elim (cases_Bool (in_ranges (run_to p) n)) [
+  | inl gone ↦ absurd (some-none x (e ∙ ap (λ b. cond b None (Some y)) gone))
+  | inr outside ↦ (let all = in_ranges-run_to p n in grind (arith, nat_tests, all, outside, from))
+]
+
+row-forgotten : (rows : List Told) (i : ℕ) → i < length rows
+    → (row_at (all_forgotten rows) i).side ≡ forgotten (row_at rows i).side
+row-forgotten rows i lt =
+    ap (λ (t : Told). t.side) (get_or-map (λ (t : Told). record t { side = forgotten t.side }) rows i no_row no_row lt)
+
+held-stays : (kept : List Fact) (rows others : List Told) (n : Note) → IsHeld kept rows n
+    → IsHeld kept rows (stays_as others n)
+held-stays kept rows others (note.Kept place) h = h
+held-stays kept rows others (note.Accepted row n) h = h
+held-stays kept rows others (note.Received row n first) h = h
+held-stays kept rows others _ h = tt
+
+left-stays : (kept : List Fact) (rows : List Told) (seen : List Bool) (n : Note)
+    → IsHeld kept rows n → ((row k : ℕ) (first : Bool) → n ≡ note.Received row k first → 0 < k)
+    → Some (fact_at kept rows (stays_as rows n)) ≡ fact_instead kept rows seen n
+    → IsHeld kept (all_forgotten rows) (stays_as rows n)
+left-stays kept rows seen (note.Kept place) h from e = h
+left-stays kept rows seen (note.Accepted row n) h from e =
+    let x = (row_at rows row).side in
+    let acked : front_of (acked_in (numbered rows (row + 1))) ≡ front_of (acked_by x) =
+    ap (λ o. front_of (acked_in o)) (numbered-row rows row h.0) in
+    let past = payload-past _ (front_of (acked_in (numbered rows (row + 1)))) n (row + 1) _ e in
+    let left = left-accepted x n h.1 h.2 (omega (arith, past, acked)) in
+    let same = row-forgotten rows row h.0 in (
+      omega (arith, h.0, length-map rows (λ (t : Told). record t { side = forgotten t.side })),
+      omega (arith, left.0, ap dropped_in same),
+      omega (arith, left.1, ap accepted_count_in same),
+    )
+left-stays kept rows seen (note.Received row n first) h from e =
+    let x = (row_at rows row).side in
+    let passed_ : passed_in (numbered rows (row + 1)) ≡ passed_by x =
+    ap passed_in (numbered-row rows row h.0) in
+    let past = message-past (passed_in (numbered rows (row + 1))) n _ _ (from row n first refl) e in (
+      omega (arith, h.0, length-map rows (λ (t : Told). record t { side = forgotten t.side })),
+      ap (λ y. has_number (numbers_of (received_in y)) n) (row-forgotten rows row h.0)
+          ∙ left-received x n h.1 (omega (arith, past, passed_)),
+    )
+left-stays kept rows seen _ h from e = tt
+
+-- ---- and its place behind the records of a snapshot
+
+free-placed : (q : List Fact) (n : Note) → IsFree n → HasPlace q n
+free-placed q (note.Kept place) free = tt
+free-placed q (note.Accepted row n) free = absurd free
+free-placed q (note.Received row n first) free = absurd free
+free-placed q _ free = tt
+
+free-held : (kept : List Fact) (rows : List Told) (n : Note) → IsFree n → IsHeld kept rows n
+free-held kept rows (note.Kept place) free = absurd free
+free-held kept rows (note.Accepted row n) free = absurd free
+free-held kept rows (note.Received row n first) free = absurd free
+free-held kept rows _ free = tt
+
+count-same : (d k : ℕ) → d ≤ k → count_so_far d k ≡ k
+count-same d k le = elim (cases_eq k 0) [
+  | inl none ↦ grind (arith, nat_tests, none)
+  | inr some ↦ (let same : max d k ≡ k = omega (arith, le) in grind (arith, nat_tests, some, same))
+]
+
+and_so : (b : Bool) (p : ℕ) → p ≡ 0 → (b && (p == 0)) ≡ b
+and_so true p e = grind (arith, nat_tests, e)
+and_so false p e = refl
+
+and_not : (b : Bool) (p : ℕ) → 0 < p → (b && (p == 0)) ≡ false
+and_not true p lt = grind (arith, nat_tests, lt)
+and_not false p lt = refl
+
+run-numbers : (p : ℕ) → 0 < p → 0 < length (numbers_in (run_to p))
+run-numbers zero lt = absurd (omega (arith, lt))
+run-numbers (suc p) lt = run-some (run_to (suc p)) (run (suc p) (omega arith))
+
+-- the messages before it, where none were consumed
+module _ (r q before : List Fact) (so : SoFar r q before) (s : ℕ) where
+  held-same : passed r s ≡ [] → held q s ≡ held before s
+  held-same none =
+      held-is q s
+      ∙ ap (λ ps. numbers_in ps ++ numbers_of (received q s)) ((so.got_ s).purged_none none)
+      ∙ ap (λ ms. numbers_in (purged before s) ++ numbers_of ms)
+      ((so.got_ s).received_ ∙ ap (λ ps. without ps (received before s)) none ∙ without-no (received before s))
+      ∙ sym (held-is before s)
+
+  -- and where some were, and the numbers of these stand before it
+  held-some : (p : ℕ) → 0 < p → passed r s ≡ run_to p
+      → is_empty (held (q ++ option_to_list (cond (is_empty (held before s)) (some_ranges (Purged s) (run_to p))
+      None)) s)
+      ≡ false
+  held-some zero lt is = absurd (omega (arith, lt))
+  held-some (suc p) lt is = elim (cases_Bool (is_empty (held before s))) [
+    | inl fresh ↦
+        ap (λ b. is_empty (held (q ++ option_to_list (cond b (Some (Purged s (run_to (suc p)))) None)) s)) fresh
+        ∙ some-not (held (q ++ Purged s (run_to (suc p)) ∷ []) s)
+        (omega (
+          arith,
+          held-more q (Purged s (run_to (suc p))) s,
+          ap (λ ps. length (numbers_in ps)) (got_with s (run_to (suc p))),
+          run-numbers (suc p) lt,
+        ))
+    | inr older ↦
+        ap (λ b. is_empty (held (q ++ option_to_list (cond b (Some (Purged s (run_to (suc p)))) None)) s)) older
+        ∙ ap (λ q2. is_empty (held q2 s)) (append-nil q)
+        ∙ some-not (held q s)
+        (omega (
+          arith,
+          held-length q s,
+          ap (λ ps. length (numbers_in ps)) ((so.got_ s).purged_some (ap (λ ps. is_empty ps) is)
+              ∙ ap (λ b. cond b [] (passed r s)) older ∙ is),
+          run-numbers (suc p) lt,
+        ))
+  ]
+
+stays-placed : (kept : List Fact) (rows : List Told) (seen : List Bool) (r q before behind : List Fact) (n : Note)
+    → SoFar r q before → ((s : ℕ) → numbered rows s ≡ told_in r s) → IsAt r before (fact_at kept rows n) behind
+    → HasPlace before n → Some (fact_at kept rows (stays_as rows n)) ≡ fact_instead kept rows seen n
+    → HasPlace (q ++ option_to_list (fact_ahead rows n)) (stays_as rows n)
+stays-placed kept rows seen r q before behind (note.Accepted row n) so known at has e =
+    let s = row + 1 in
+    let d : front_of (acked_in (numbered rows s)) ≡ settled r s =
+    ap (λ o. front_of (acked_in o)) (known s)
+    ∙ ap front_of (acked-known r s (accepted-sends r before behind s _ at)) in
+    let past = payload-past _ (front_of (acked_in (numbered rows s))) n s _ e in
+    let count : accepted_count q s ≡ accepted_count before s =
+    so.count_ s ∙ count-same (settled r s) (accepted_count before s) (omega (arith, past, d, has)) in
+    has ∙ ap (λ k. k + 1) (sym count) ∙ ap (λ q2. accepted_count q2 s + 1) (sym (append-nil q))
+stays-placed kept rows seen r q before behind (note.Received row n first) so known at has e =
+    let s = row + 1 in
+    let p = passed_in (numbered rows s) in
+    let is : passed r s ≡ run_to p =
+    sym (ap (λ o. run_to (passed_in o)) (known s) ∙ passed-known r s (received-receives r before behind s n _ at)) in
+    elim (cases_eq p 0) [
+      | inl none ↦
+          and_so first p none ∙ has
+          ∙ ap (λ ns. is_empty ns) (sym (held-same r q before so s (is ∙ ap run_to none)))
+          ∙ ap (λ q2. is_empty (held q2 s)) (sym (append-nil q))
+          ∙ ap (λ o. is_empty (held (q ++ option_to_list o) s)) (no-ahead first)
+          ∙ ap (λ k. is_empty (held (q ++ option_to_list (cond first (some_ranges (Purged s) (run_to k)) None)) s))
+          (sym none)
+      | inr some ↦
+          let lt : 0 < p = omega (arith, some) in
+          and_not first p lt
+          ∙ sym (ap (λ b. is_empty (held (q ++ option_to_list (cond b (some_ranges (Purged s) (run_to p)) None)) s)) has
+          ∙ held-some r q before so s p lt is)
+    ]
+  where
+    no-ahead : (b : Bool) → None ≡ cond b (some_ranges (Purged (row + 1)) (run_to 0)) None
+    no-ahead true = refl
+    no-ahead false = refl
+stays-placed kept rows seen r q before behind _ so known at has e = tt
+
+own-placed : (kept : List Fact) (rows : List Told) (seen : List Bool) (r q before behind : List Fact) (n : Note)
+    (o : Option Note) → SoFar r q before → ((s : ℕ) → numbered rows s ≡ told_in r s)
+    → IsAt r before (fact_at kept rows n) behind → HasPlace before n → IfSome o (IsOwn rows n)
+    → option_map (fact_at kept rows) o ≡ fact_instead kept rows seen n
+    → IfSome o (HasPlace (q ++ option_to_list (fact_ahead rows n)))
+own-placed kept rows seen r q before behind n None so known at has own e = tt
+own-placed kept rows seen r q before behind n (Some x) so known at has own e = elim own [
+  | inl free ↦ free-placed (q ++ option_to_list (fact_ahead rows n)) x free
+  | inr same ↦
+      subst (HasPlace (q ++ option_to_list (fact_ahead rows n))) (sym same)
+      (stays-placed kept rows seen r q before behind n so known at has
+      (ap (λ y. Some (fact_at kept rows y)) (sym same) ∙ e))
+]
+
+own-left : (kept : List Fact) (rows : List Told) (seen : List Bool) (n : Note) (o : Option Note) → IsHeld kept rows n
+    → ((row k : ℕ) (first : Bool) → n ≡ note.Received row k first → 0 < k) → IfSome o (IsOwn rows n)
+    → option_map (fact_at kept rows) o ≡ fact_instead kept rows seen n
+    → IfSome o (IsHeld kept (all_forgotten rows))
+own-left kept rows seen n None h from own e = tt
+own-left kept rows seen n (Some x) h from own e = elim own [
+  | inl free ↦ free-held kept (all_forgotten rows) x free
+  | inr same ↦
+      subst (IsHeld kept (all_forgotten rows)) (sym same)
+      (left-stays kept rows seen n h from (ap (λ y. Some (fact_at kept rows y)) (sym same) ∙ e))
+]
+
+own-held : (kept : List Fact) (rows : List Told) (n : Note) (o : Option Note) → IsHeld kept rows n
+    → IfSome o (IsOwn rows n) → IfSome o (IsHeld kept rows)
+own-held kept rows n None h own = tt
+own-held kept rows n (Some x) h own = elim own [
+  | inl free ↦ free-held kept rows x free
+  | inr same ↦ subst (IsHeld kept rows) (sym same) (held-stays kept rows rows n h)
+]
+
+free-all : (kept : List Fact) (rows : List Told) (o : Option Note) → IfSome o IsFree → IfSome o (IsHeld kept rows)
+free-all kept rows None free = tt
+free-all kept rows (Some x) free = free-held kept rows x free
+
+-- the notes that are put before others have their places
+placed-put : (kept : List Fact) (rows : List Told) (q : List Fact) (ahead stands : Option Note) (rest : List Note)
+    → IfSome ahead IsFree → IfSome stands (HasPlace (q ++ option_to_list (option_map (fact_at kept rows) ahead)))
+    → HavePlaces kept rows ((q ++ option_to_list (option_map (fact_at kept rows) ahead))
+    ++ option_to_list (option_map (fact_at kept rows) stands)) rest
+    → HavePlaces kept rows q (option_to_list ahead ++ (option_to_list stands ++ rest))
+placed-put kept rows q None None rest free place others =
+    subst (λ b. HavePlaces kept rows b rest) (append-nil (q ++ []) ∙ append-nil q) others
+placed-put kept rows q None (Some x) rest free place others = (
+  subst (λ b. HasPlace b x) (append-nil q) place,
+  subst (λ b. HavePlaces kept rows (b ++ fact_at kept rows x ∷ []) rest) (append-nil q) others,
+)
+placed-put kept rows q (Some a) None rest free place others = (
+  free-placed q a free,
+  subst (λ b. HavePlaces kept rows b rest) (append-nil (q ++ fact_at kept rows a ∷ [])) others,
+)
+placed-put kept rows q (Some a) (Some x) rest free place others = (free-placed q a free, (place, others))
+
+-- ---- the loop
+
+inside : {A : Type 0} (xs : List A) (i : ℕ) (x : A) → slice_get xs i ≡ Some x → i < length xs
+inside [] i x e = absurd (none-some x e)
+inside (y ∷ xs) zero x e = omega arith
+inside (y ∷ xs) (suc i) x e = let rest = inside xs i x e in omega (arith, rest)
+
+told-some : (r : List Fact) (s : ℕ) (o : Option Maker) → is_outgoing_side o ≡ true
+    → (t : Told) × (option_map (λ (m : Maker). told_by r s m) o ≡ Some t)
+told-some r s None e = absurd (true≢false (sym e))
+told-some r s (Some m) e = (told_by r s m, refl)
+
+row-within : (rows : List Told) (s : ℕ) (t : Told) → numbered rows s ≡ Some t → (1 ≤ s) × (s ≤ length rows)
+row-within rows s t e = elim (cases_eq s 0) [
+  | inl none ↦ absurd (none-some t (sym (ap (λ k. numbered rows k) none) ∙ e))
+  | inr some ↦
+      let low = inside rows (s - 1) t (sym (ap (λ b. cond b None (slice_get rows (s - 1))) (ne_eqb s 0 some)) ∙ e) in
+      (omega (arith, some), omega (arith, low, some))
+]
+
+-- an Acked note's sequence has a row, and so have notes of messages
+pub has_row : (kept : List Fact) (rows : List Told) (notes : List Note) (j : ℕ) (n : Note) → j < length notes
+    → n ≡ get_or notes j n → IsRecorded kept rows notes → HasRow (length rows) n
+has_row kept rows notes j (note.Acked seq numbers) low is recorded =
+    let r = records_of kept rows notes in
+    let at = at_here kept rows notes recorded j (note.Acked seq numbers) low is in
+    let sends = acked-sends r (take j r) (drop (suc j) r) seq numbers.ranges at in
+    let told = told-some r seq (maker r seq) sends in
+    row-within rows seq told.0 (known_rows kept rows notes recorded j (note.Acked seq numbers) low is seq ∙ told.1)
+has_row kept rows notes j (note.Accepted row n) low is recorded =
+    (held_at kept rows notes j (note.Accepted row n) low is recorded.held).0
+has_row kept rows notes j (note.Received row n first) low is recorded =
+    (held_at kept rows notes j (note.Received row n first) low is recorded.held).0
+has_row kept rows notes j _ low is recorded = tt
+
+not-first : (kept : List Fact) (rows : List Told) (notes : List Note) (recorded : IsRecorded kept rows notes) (j : ℕ)
+    (n : Note) (low : j < length notes) (is : n ≡ get_or notes j n) (row k : ℕ) (first : Bool)
+    → n ≡ note.Received row k first → 0 < k
+not-first kept rows notes recorded j n low is row k first e =
+    let r = records_of kept rows notes in
+    let m = note.Received row k first in
+    let at : m ≡ get_or notes j m = sym e ∙ is ∙ same notes j n m low in
+    received-from r (take j r) (drop (suc j) r) (row + 1) k _ (at_here kept rows notes recorded j m low at)
+  where
+    same : (xs : List Note) (i : ℕ) (a b : Note) → i < length xs → get_or xs i a ≡ get_or xs i b
+    same [] i a b lt = absurd (omega (arith, lt))
+    same (x ∷ xs) zero a b lt = refl
+    same (x ∷ xs) (suc i) a b lt = same xs i a b (omega (arith, lt))
+
+-- the marks after one more note
+marks-more : (kept : List Fact) (rows : List Told) (seen : List Bool) (behind : List Fact) (n : Note)
+    → length seen ≡ length rows → HasRow (length rows) n
+    → ((place : ℕ) → n ≡ note.Kept place → is_whole (kept_at kept place) ≡ true)
+    → ((s : ℕ) → 1 ≤ s → s ≤ length rows → get_or seen (s - 1) false ≡ list_any (acks s) behind)
+    → (s : ℕ) → 1 ≤ s → s ≤ length rows
+    → get_or (marked seen n) (s - 1) false ≡ list_any (acks s) (fact_at kept rows n ∷ behind)
+marks-more kept rows seen behind (note.Acked seq numbers) len there whole met s from within =
+    let place : seq - 1 < length seen = omega (arith, there.0, there.1, len) in
+    elim (cases_eq s seq) [
+      | inl same ↦
+          ap (λ k. get_or (set seen (seq - 1) true) (k - 1) false) same
+          ∙ get_or-set_same seen (seq - 1) true false place
+          ∙ sym (ap (λ b. b || list_any (acks s) behind) (eq-eqb seq s (sym same)))
+      | inr differ ↦
+          get_or-set_other seen (seq - 1) (s - 1) true false (λ same. differ (omega (arith, same, from, there.0)))
+          ∙ met s from within
+          ∙ sym (ap (λ b. b || list_any (acks s) behind) (ne_eqb seq s (λ same. differ (sym same))))
+    ]
+marks-more kept rows seen behind (note.Kept place) len there whole met s from within =
+    met s from within ∙ sym (ap (λ b. b || list_any (acks s) behind) (whole_quiet (kept_at kept place) (whole place
+    refl) s))
+marks-more kept rows seen behind _ len there whole met s from within = met s from within
+
+-- each range of its numbers has a number
+proper-more : (kept : List Fact) (rows : List Told) (n : Note) → IsProperNote n
+    → ((place : ℕ) → n ≡ note.Kept place → is_whole (kept_at kept place) ≡ true) → HasProper (fact_at kept rows n)
+proper-more kept rows (note.Acked seq numbers) is whole = is
+proper-more kept rows (note.Kept place) is whole = whole_proper (kept_at kept place) (whole place refl)
+proper-more kept rows _ is whole = tt
+
+-- what was marked, at an Acked note
+met-at : (kept : List Fact) (rows : List Told) (seen : List Bool) (behind : List Fact) (n : Note)
+    → HasRow (length rows) n → ((place : ℕ) → n ≡ note.Kept place → is_whole (kept_at kept place) ≡ true)
+    → ((s : ℕ) → 1 ≤ s → s ≤ length rows → get_or seen (s - 1) false ≡ list_any (acks s) behind)
+    → (seq : ℕ) → acks seq (fact_at kept rows n) ≡ true → get_or seen (seq - 1) false ≡ list_any (acks seq) behind
+met-at kept rows seen behind (note.Acked seq numbers) there whole met s e =
+    let same : seq ≡ s = grind (arith, nat_tests, e) in
+    met s (omega (arith, same, there.0)) (omega (arith, same, there.1))
+met-at kept rows seen behind (note.Kept place) there whole met s e =
+    absurd (true≢false (sym e ∙ whole_quiet (kept_at kept place) (whole place refl) s))
+met-at kept rows seen behind _ there whole met s e = absurd (false≢true e)
 
 -- one note more
 pub shortened_more : (kept : List Fact) (rows : List Told) (notes : List Note) → IsRecorded kept rows notes → (j : ℕ)
-    (seen seen2 : List Bool) (short : List Note) (n : Note) (o : Option Note) → j < length notes
+    (seen seen2 : List Bool) (short short2 : List Note) (n : Note) → j < length notes
     → IsShortened kept rows notes (suc j) seen short → n ≡ get_or notes j n → seen2 ≡ marked seen n
-    → option_map (fact_at kept rows) o ≡ fact_instead kept rows seen n → IfSome o (IsHeld kept rows)
-    → NewIsSet rows seen n → IsShortened kept rows notes j seen2 (pushed short o)
-shortened_more kept rows notes recorded j seen seen2 short (note.Acked seq numbers) o low so_far is marks e there set_ =
-    subst (λ b. IsShortened kept rows notes j b (pushed short o)) (sym marks)
-    (acked_here kept rows notes recorded j seen short low so_far seq numbers o is e there set_)
-shortened_more kept rows notes recorded j seen seen2 short (note.Kept place) o low so_far is marks e there set_ =
-    subst (λ b. IsShortened kept rows notes j b (pushed short o)) (sym marks)
-    (stays_here kept rows notes recorded j seen short low so_far (note.Kept place) o is
-    (whole_other (kept_at kept place) (whole_at kept place recorded.whole
-    (held_at kept rows notes j (note.Kept place) low is recorded.held))) e there)
-shortened_more kept rows notes recorded j seen seen2 short (note.Accepted row n) o low so_far is marks e there set_ =
-    subst (λ b. IsShortened kept rows notes j b (pushed short o)) (sym marks)
-    (stays_here kept rows notes recorded j seen short low so_far (note.Accepted row n) o is
-    (record { acks_ = λ s. refl; acked_ = λ s. refl; stays = λ r b l. refl }) e there)
-shortened_more kept rows notes recorded j seen seen2 short (note.Received row n) o low so_far is marks e there set_ =
-    subst (λ b. IsShortened kept rows notes j b (pushed short o)) (sym marks)
-    (stays_here kept rows notes recorded j seen short low so_far (note.Received row n) o is
-    (record { acks_ = λ s. refl; acked_ = λ s. refl; stays = λ r b l. refl }) e there)
+    → IsPut rows seen n short short2 → IsProperNote n → IsShortened kept rows notes j seen2 short2
+shortened_more kept rows notes recorded j seen seen2 short short2 n low so_far is marks put proper =
+    let r = records_of kept rows notes in
+    let f = fact_at kept rows n in
+    let before = take j r in
+    let behind = drop (suc j) r in
+    let here : drop j r ≡ f ∷ behind = from_here kept rows notes recorded j n low is in
+    let next : take (suc j) r ≡ before ++ f ∷ [] = up_to_here kept rows notes recorded j n low is in
+    let at = at_here kept rows notes recorded j n low is in
+    let known = known_rows kept rows notes recorded j n low is in
+    let has = place_here kept rows notes recorded j n low is in
+    let h = held_here kept rows notes recorded j n low is in
+    let whole = whole_here kept rows notes recorded j n low is in
+    let row = has_row kept rows notes j n low is recorded in
+    let fresh = not-first kept rows notes recorded j n low is in
+    let facts : option_to_list (option_map (fact_at kept rows) put.ahead)
+    ++ option_to_list (option_map (fact_at kept rows) put.stands) ≡ instead r before f behind =
+    ap (λ o. option_to_list o ++ option_to_list (option_map (fact_at kept rows) put.stands)) (put.before kept)
+    ∙ ap (λ o. option_to_list (fact_ahead rows n) ++ option_to_list o) (put.fact kept)
+    ∙ same-instead kept rows seen r before behind n known at has
+    (met-at kept rows seen behind n row whole so_far.marks) whole in
+    let order : reverse short2 ≡ option_to_list put.ahead ++ (option_to_list put.stands ++ reverse short) =
+    turned short short2 put.stands put.ahead put.is in
+    record {
+      within = omega (arith, low);
+      len = ap length marks ∙ marked-length seen n ∙ so_far.len;
+      marks = λ s from within.
+          ap (λ l. get_or l (s - 1) false) marks
+          ∙ marks-more kept rows seen behind n so_far.len row whole so_far.marks s from within
+          ∙ sym (ap (λ l. list_any (acks s) l) here);
+      short_ =
+          ap (λ l. records_of kept rows l) order
+          ∙ map-append (fact_at kept rows) (option_to_list put.ahead) (option_to_list put.stands ++ reverse short)
+          ∙ ap (λ l. records_of kept rows (option_to_list put.ahead) ++ l)
+          (map-append (fact_at kept rows) (option_to_list put.stands) (reverse short))
+          ∙ ap (λ l. l ++ (records_of kept rows (option_to_list put.stands) ++ records_of kept rows (reverse short)))
+          (records-listed kept rows put.ahead)
+          ∙ ap (λ l. option_to_list (option_map (fact_at kept rows) put.ahead) ++ (l ++ records_of kept rows (reverse
+          short)))
+          (records-listed kept rows put.stands)
+          ∙ sym (append_assoc (option_to_list (option_map (fact_at kept rows) put.ahead))
+          (option_to_list (option_map (fact_at kept rows) put.stands)) (records_of kept rows (reverse short)))
+          ∙ ap (λ l. l ++ records_of kept rows (reverse short)) facts
+          ∙ ap (λ l. instead r before f behind ++ l) (so_far.short_ ∙ ap (λ l. snapshot_from r l behind) next)
+          ∙ sym (ap (λ l. snapshot_from r before l) here);
+      held = subst (AllHeld kept rows) (sym order)
+          (all_held-append kept rows (option_to_list put.ahead) _
+          (held-listed kept rows put.ahead (free-all kept rows put.ahead put.free))
+          (all_held-append kept rows (option_to_list put.stands) _
+          (held-listed kept rows put.stands (own-held kept rows n put.stands h put.own)) so_far.held));
+      left = subst (AllHeld kept (all_forgotten rows)) (sym order)
+          (all_held-append kept (all_forgotten rows) (option_to_list put.ahead) _
+          (held-listed kept (all_forgotten rows) put.ahead (free-all kept (all_forgotten rows) put.ahead put.free))
+          (all_held-append kept (all_forgotten rows) (option_to_list put.stands) _
+          (held-listed kept (all_forgotten rows) put.stands
+          (own-left kept rows seen n put.stands h fresh put.own (put.fact kept))) so_far.left));
+      placed = λ both ends all q so.
+          let big : (s : ℕ) → AllByRecursion (λ (u : ℕ). u ≤ settled r s) (dropped_of s f) = λ s.
+          all_left (λ (u : ℕ). u ≤ settled r s) (dropped_of s f) (flat_map (dropped_of s) behind)
+          (all_right (λ (u : ℕ). u ≤ settled r s) (flat_map (dropped_of s) before) (flat_map (dropped_of s) (f ∷
+          behind))
+          (subst (AllByRecursion (λ (u : ℕ). u ≤ settled r s))
+          (ap (λ l. flat_map (dropped_of s) l) at.parts ∙ flat_map-append (dropped_of s) before (f ∷ behind))
+          (drops-settled both ends r recorded.fit all s))) in
+          let on = so-far-on r q before f behind at.fit big so in
+          let rest = so_far.placed both ends all (q ++ instead r before f behind)
+          (subst (SoFar r (q ++ instead r before f behind)) (sym next) on) in
+          let ahead = option_to_list (option_map (fact_at kept rows) put.ahead) in
+          let stands = option_to_list (option_map (fact_at kept rows) put.stands) in
+          subst (HavePlaces kept rows q) (sym order)
+          (placed-put kept rows q put.ahead put.stands (reverse short) put.free
+          (subst (λ o. IfSome put.stands (HasPlace (q ++ option_to_list o))) (sym (put.before kept))
+          (own-placed kept rows seen r q before behind n put.stands so known at has put.own (put.fact kept)))
+          (subst (λ b. HavePlaces kept rows b (reverse short))
+          (ap (λ l. q ++ l) (sym facts) ∙ sym (append_assoc q ahead stands)) rest));
+      proper = subst HaveProper (sym here) (proper-more kept rows n proper whole, so_far.proper);
+    }
+  where
+    marked-length : (seen : List Bool) (n : Note) → length (marked seen n) ≡ length seen
+    marked-length seen (note.Acked seq numbers) = length-set seen (seq - 1) true
+    marked-length seen _ = refl
 
 -- none was met, and none was left
 pub shortened_none : (kept : List Fact) (rows : List Told) (notes : List Note) (seen : List Bool)
@@ -280,17 +592,20 @@ shortened_none kept rows notes seen len none =
       marks = λ s from within. none (s - 1) ∙ sym (ap (λ l. list_any (acks s) l) rest);
       short_ = sym (ap (λ l. snapshot_from r (take (length notes) r) l) rest);
       held = tt;
-      sets = λ s any. absurd (true≢false (sym any ∙ ap (λ l. list_any (acks s) l) rest));
+      left = tt;
+      placed = λ both ends all q so. tt;
+      proper = subst HaveProper (sym rest) tt;
     }
 
 -- all of them were met
-pub shortened_all : (kept : List Fact) (rows : List Told) (notes : List Note) (seen : List Bool) (short : List Note)
-    → IsShortened kept rows notes 0 seen short → IsShort kept rows notes (reverse short)
-shortened_all kept rows notes seen short all = record {
+pub shortened_all : UnionHasBoth → EndsAreRight → (kept : List Fact) (rows : List Told) (notes : List Note)
+    (seen : List Bool) (short : List Note) → IsRecorded kept rows notes → IsShortened kept rows notes 0 seen short
+    → IsShort kept rows notes (reverse short)
+shortened_all both ends kept rows notes seen short recorded all = record {
   records = all.short_;
-  held = all_held-reverse kept rows short all.held;
-  sets = λ s. elim (cases_Bool (list_any (acks s) (records_of kept rows notes))) [
-    | inl any ↦ all.sets s any
-    | inr none ↦ subst (λ xs. IsCanonical (united [] xs)) (sym (acked-none (records_of kept rows notes) s none)) tt
-  ];
+  held = all.held;
+  left = all.left;
+  places_ =
+      all.placed both ends all.proper [] (start both ends (records_of kept rows notes) recorded.fit all.proper);
+  proper = all.proper;
 }

@@ -11,7 +11,9 @@ use Rattle.rm_base.specs.NumberSet.{has_number}
 use Rattle.rm_base.specs.declared.message.Payload.{Payload}
 use Rattle.rm_source.specs.declared.phase.OutPhase.{OutPhase}
 use Rattle.rm_source.specs.declared.phase.OutPhase.TheVariants as out
-use Rattle.rm_destination.specs.Messages.{is_empty, numbers_of}
+use Rattle.rm_source.specs.Outgoing.{accepted_count}
+use Rattle.rm_destination.specs.Incoming.{held}
+use Rattle.rm_destination.specs.Messages.{is_empty}
 use Rattle.record_batch.specs.Fact.{Fact, Accepted, Acked, Received}
 use Rattle.sequence_table.specs.Fits.{follows, is_up_to}
 use Rattle.sequence_table.specs.Told.{Told, Side, Sends, Receives, names, after, each_after}
@@ -71,7 +73,7 @@ opens_alone _ s payload = refl
 
 pub takes-accepted : (x : Side) (s : ℕ) (payload : List ℕ) → takes x (Accepted s payload) ≡ takes_payload x
 takes-accepted (Sends t) s payload =
-    ap (λ b. b && nat_lt (length t.accepted) 9223372036854775807) (opens_alone t.phase s payload)
+    ap (λ b. b && nat_lt (accepted_count t) 9223372036854775807) (opens_alone t.phase s payload)
 takes-accepted (Receives t) s payload = refl
 
 last_first : (a b c d : Bool) → (a && (b && (c && d))) ≡ (d && (a && (b && c)))
@@ -87,7 +89,7 @@ last_first false b c false = refl
 pub takes-received : (x : Side) (s n : ℕ) (payload : Payload) → takes x (Received s n payload) ≡ takes_message x n
 takes-received (Sends t) s n payload = refl
 takes-received (Receives t) s n payload =
-    last_first (nat_le 1 n) (nat_le n 9223372036854775807) (not (has_number (numbers_of t.received) n))
+    last_first (nat_le 1 n) (nat_le n 9223372036854775807) (not (has_number (held t) n))
     (is_empty t.closes)
 
 greatest_up_to : (n : ℕ) (rs : List Range) → list_all (is_up_to n) rs ≡ true → nat_le (greatest_of rs) n ≡ true
@@ -98,5 +100,5 @@ greatest_up_to n (r ∷ s ∷ rs) h =
     greatest_up_to n (s ∷ rs) (and_parts (is_up_to n r) (list_all (is_up_to n) (s ∷ rs)) h).1
 
 pub takes-acked : (x : Side) (s : ℕ) (rs : List Range) → takes x (Acked s rs) ≡ true → takes_acked x rs ≡ true
-takes-acked (Sends t) s rs h = greatest_up_to (length t.accepted) rs h
+takes-acked (Sends t) s rs h = greatest_up_to (accepted_count t) rs h
 takes-acked (Receives t) s rs h = absurd (false≢true h)

@@ -1,17 +1,21 @@
 -- The messages that wait for an acknowledgement, row by row.
-use Rattle.std.proofs.Common.{◌≡◌, ℕ, ◌+◌, ◌-◌, ◌≤◌, ◌==◌, Bool, true, false, cond, List, [], ◌∷◌, length}
-use Rattle.std.proofs.Common.{refl, sym, ap, ap₂, ◌∙◌, arith, inl, inr}
-use Rattle.std.specs.Prelude.{sum_by}
+use Rattle.std.proofs.Common.{◌≡◌, ◌⊎◌, ℕ, ◌+◌, ◌-◌, ◌≤◌, ◌==◌, Bool, true, false, cond, min, max, List, [], ◌∷◌, ◌++◌}
+use Rattle.std.proofs.Common.{length, refl, sym, ap, ap₂, subst, ◌∙◌, arith, inl, inr}
+use Rattle.std.specs.Prelude.{nat_lt, sum_by}
+use Rattle.std.specs.List.{flat_map}
 use Rattle.std.proofs.lemmas.Bool.Decides.{eqb_tells}
 use Rattle.std.proofs.lemmas.List.{length-append}
 use Rattle.std.proofs.lemmas.List.Sums.{sum_by-cons}
-use Rattle.record_batch.specs.Fact.{Accepted, Fact}
+use Rattle.rm_source.specs.Outgoing.{first_run}
+use Rattle.record_batch.specs.Fact.{Accepted, Dropped, Fact}
+use Rattle.sequence_table.specs.GatherLemmas.{last_or-append}
 use Rattle.sequence_table.specs.Makers.{Maker, Outgoing, Offered, Incoming, Taken, makers}
-use Rattle.sequence_table.specs.Sources.{accepted, accepted_of, acked, all_unacked, is_sending, phase, unacked_at}
-use Rattle.sequence_table.specs.Sources.{unacked_from}
-use Rattle.sequence_table.specs.Words.{Text}
-use Rattle.ack_ranges.specs.Changes.{united}
-use Rattle.ack_ranges.specs.Ranges.{count_of}
+use Rattle.sequence_table.specs.Sources.{accepted, accepted_of, acked, acked_of, all_unacked, dropped, dropped_of}
+use Rattle.sequence_table.specs.Sources.{is_sending, phase, unacked_at, unacked_from}
+use Rattle.sequence_table.specs.Words.{Text, last_or}
+use Rattle.ack_ranges.specs.declared.range.Range.{Range}
+use Rattle.ack_ranges.specs.Changes.{united, with_range}
+use Rattle.ack_ranges.specs.Ranges.{count_of, size_of}
 use Rattle.sequence_table.specs.Told.{Told, told_by, told_from}
 use Rattle.sequence_row.specs.Row.{Seen}
 use Rattle.node_tables.specs.Kept.{Table, Holds, records_in, tolds}
@@ -57,15 +61,130 @@ abbrev accepts_from : Fact → ℕ → List Maker → ℕ
 accepts_from f k [] = 0
 accepts_from f k (m ∷ ms) = length (accepted_of (k + 1) f) + accepts_from f (k + 1) ms
 
-part_of : (b : Bool) (n c : ℕ) → cond b (n - c) 0 ≤ n
-part_of true n c = omega arith
-part_of false n c = omega arith
+-- one of the ranges has the numbers 1 to n
+abbrev HasFirst : ℕ → List Range → Type 0
+HasFirst n [] = ⊥
+HasFirst n (x ∷ xs) = ((x.lower ≤ 1) × (n ≤ x.upper)) ⊎ HasFirst n xs
+
+first-new : (n : ℕ) (xs : List Range) (lower upper : ℕ) → lower ≤ 1 → n ≤ upper
+    → HasFirst n (with_range xs lower upper)
+first-new n [] lower upper from to = inl (from, to)
+first-new n (x ∷ xs) lower upper from to =
+    elim (nat_lt (x.upper + 1) lower) as (λ b. HasFirst n (cond b (x ∷ with_range xs lower upper)
+    (cond (nat_lt (upper + 1) x.lower) (record { lower = lower; upper = upper } ∷ x ∷ xs)
+    (with_range xs (min x.lower lower) (max x.upper upper))))) [
+      | true ↦ inr (first-new n xs lower upper from to)
+      | false ↦ elim (nat_lt (upper + 1) x.lower) as (λ b. HasFirst n (cond b (record {
+        lower = lower;
+        upper = upper;
+      } ∷ x ∷ xs) (with_range xs (min x.lower lower) (max x.upper upper)))) [
+        | true ↦ inl (from, to)
+        | false ↦ first-new n xs (min x.lower lower) (max x.upper upper) (omega (arith, from)) (omega (arith, to))
+      ]
+    ]
+
+first-stays : (n : ℕ) (xs : List Range) (lower upper : ℕ) → HasFirst n xs → HasFirst n (with_range xs lower upper)
+first-stays n [] lower upper has = absurd has
+first-stays n (x ∷ xs) lower upper has =
+    elim (nat_lt (x.upper + 1) lower) as (λ b. HasFirst n (cond b (x ∷ with_range xs lower upper)
+    (cond (nat_lt (upper + 1) x.lower) (record { lower = lower; upper = upper } ∷ x ∷ xs)
+    (with_range xs (min x.lower lower) (max x.upper upper))))) [
+      | true ↦ elim has [
+        | inl here ↦ inl here
+        | inr later ↦ inr (first-stays n xs lower upper later)
+      ]
+      | false ↦ elim (nat_lt (upper + 1) x.lower) as (λ b. HasFirst n (cond b (record {
+        lower = lower;
+        upper = upper;
+      } ∷ x ∷ xs) (with_range xs (min x.lower lower) (max x.upper upper)))) [
+        | true ↦ inr has
+        | false ↦ elim has [
+          | inl here ↦
+              first-new n xs (min x.lower lower) (max x.upper upper) (omega (arith, here.0)) (omega (arith, here.1))
+          | inr later ↦ first-stays n xs (min x.lower lower) (max x.upper upper) later
+        ]
+      ]
+    ]
+
+first-united : (n : ℕ) (xs ys : List Range) → HasFirst n xs → HasFirst n (united xs ys)
+first-united n xs [] has = has
+first-united n xs (y ∷ ys) has =
+    first-united n (with_range xs y.lower y.upper) ys (first-stays n xs y.lower y.upper has)
+
+first-given : (n : ℕ) (xs ys : List Range) → HasFirst n ys → HasFirst n (united xs ys)
+first-given n xs [] has = absurd has
+first-given n xs (y ∷ ys) has = elim has [
+  | inl here ↦
+      first-united n (with_range xs y.lower y.upper) ys (first-new n xs y.lower y.upper here.0 here.1)
+  | inr later ↦ first-given n (with_range xs y.lower y.upper) ys later
+]
+
+first-counts : (n : ℕ) (xs : List Range) → HasFirst n xs → n ≤ count_of xs
+first-counts n [] has = absurd has
+first-counts n (x ∷ xs) has = elim has [
+  | inl here ↦ omega (arith, here.0, here.1, sum_by-cons size_of x xs)
+  | inr later ↦ omega (arith, first-counts n xs later, sum_by-cons size_of x xs)
+]
+
+first-later : (n : ℕ) (xs ys : List Range) → HasFirst n ys → HasFirst n (xs ++ ys)
+first-later n [] ys has = has
+first-later n (x ∷ xs) ys has = inr (first-later n xs ys has)
+
+-- what a record says is gone, it says is acknowledged
+drops-acked : (s : ℕ) (f : Fact) (d : ℕ) → (last_or d (dropped_of s f) ≡ d) ⊎ HasFirst (last_or d (dropped_of s f))
+    (acked_of s f)
+drops-acked s (Dropped seq upto) d = elim (seq == s) as (λ b.
+    (last_or d (cond b (upto ∷ []) []) ≡ d) ⊎ HasFirst (last_or d (cond b (upto ∷ []) [])) (cond b (first_run upto)
+    [])) [
+      | true ↦ inr (inl (omega arith, omega arith))
+      | false ↦ inl refl
+    ]
+drops-acked s f d = inl refl
+
+gone-acked : (r : List Fact) (s d : ℕ)
+    → (last_or d (flat_map (dropped_of s) r) ≡ d) ⊎ HasFirst (last_or d (flat_map (dropped_of s) r)) (acked r s)
+gone-acked [] s d = inl refl
+gone-acked (f ∷ r) s d =
+    let here = last_or d (dropped_of s f) in
+    let all : last_or d (flat_map (dropped_of s) (f ∷ r)) ≡ last_or here (flat_map (dropped_of s) r) =
+    last_or-append d (dropped_of s f) (flat_map (dropped_of s) r) in
+    elim (gone-acked r s here) [
+      | inr later ↦
+          inr (subst (λ n. HasFirst n (acked (f ∷ r) s)) (sym all)
+          (first-later (last_or here (flat_map (dropped_of s) r)) (acked_of s f) (acked r s) later))
+      | inl none ↦ elim (drops-acked s f d) [
+        | inl same ↦ inl (all ∙ none ∙ same)
+        | inr new ↦
+            inr (subst (λ n. HasFirst n (acked (f ∷ r) s)) (sym (all ∙ none))
+            (first-more here (acked_of s f) (acked r s) new))
+      ]
+    ]
+  where
+    first-more : (n : ℕ) (xs ys : List Range) → HasFirst n xs → HasFirst n (xs ++ ys)
+    first-more n [] ys has = absurd has
+    first-more n (x ∷ xs) ys has = elim has [
+      | inl one ↦ inl one
+      | inr later ↦ inr (first-more n xs ys later)
+    ]
+
+-- as many are acknowledged at least as are gone
+gone-few : (r : List Fact) (s : ℕ) → dropped r s ≤ count_of (united [] (acked r s))
+gone-few r s = elim (gone-acked r s 0) [
+  | inl none ↦ omega (arith, none)
+  | inr has ↦ first-counts (dropped r s) (united [] (acked r s)) (first-given (dropped r s) [] (acked r s) has)
+]
+
+part_of : (b : Bool) (d n c : ℕ) → d ≤ c → cond b (d + n - c) 0 ≤ n
+part_of true d n c le = omega (arith, le)
+part_of false d n c le = omega arith
 
 waits-at : (r : List Fact) (s : ℕ) (m : Maker) → unacked_at r s m ≤ length (accepted r s)
 waits-at r s (Outgoing ticket to via lapse) =
-    part_of (is_sending (phase r s)) (length (accepted r s)) (count_of (united [] (acked r s)))
+    part_of (is_sending (phase r s)) (dropped r s) (length (accepted r s)) (count_of (united [] (acked r s)))
+    (gone-few r s)
 waits-at r s (Taken message_id ident endpoint) =
-    part_of (is_sending (phase r s)) (length (accepted r s)) (count_of (united [] (acked r s)))
+    part_of (is_sending (phase r s)) (dropped r s) (length (accepted r s)) (count_of (united [] (acked r s)))
+    (gone-few r s)
 waits-at r s (Incoming counter message_id acks_to behaviour deadline lapse) = omega arith
 waits-at r s (Offered ticket counter to behaviour) = omega arith
 

@@ -1,23 +1,27 @@
 -- How tables hold records: each in the order of its coming, but for the payloads, which the rows hold.
 use Rattle.std.specs.Option.{option_map}
 use Rattle.std.specs.Prelude.{Bool, ◌&&◌, ◌≡◌, ◌==◌, ℕ, ◌+◌, ◌-◌, ◌<◌, ◌≤◌, true, false, if◌then◌else◌, List, [], ◌∷◌}
-use Rattle.std.specs.Prelude.{length, map, Option, None, Some, slice_index_or}
+use Rattle.std.specs.Prelude.{◌++◌, length, map, Option, None, Some, slice_index_or}
 use Rattle.std.specs.List.{AllByRecursion, flat_map}
-use Rattle.record_snapshot.specs.Same.{UnionsAreSets}
+use Rattle.record_snapshot.specs.Same.{HaveProper}
 use Rattle.record_snapshot.specs.Snapshot.{snapshot}
 use Rattle.rm_base.specs.NumberSet.{has_number}
 use Rattle.rm_base.specs.declared.message.Payload.{Payload}
-use Rattle.rm_destination.specs.Messages.{numbers_of}
+use Rattle.rm_destination.specs.Incoming.{held as held_by}
+use Rattle.rm_destination.specs.Messages.{is_empty, numbers_of}
+use Rattle.rm_source.specs.Outgoing.{accepted_count as count_by}
 use Rattle.record_batch.specs.declared.record.Record.{Record}
 use Rattle.record_batch.specs.Fact.{Fact, fact_of, Made, Creating, Accepted, Acked, Received, Created}
-use Rattle.record_batch.specs.Fact.{Granted}
+use Rattle.record_batch.specs.Fact.{Granted, Consumed, Dropped, Purged}
 use Rattle.sequence_table.specs.Words.{Text}
 use Rattle.wsa_headers.specs.declared.endpoint.Epr.{Epr}
 use Rattle.sequence_table.specs.Makers.{Maker, Taken, maker, makers, makers_of, created, counter, number, addresses_of}
 use Rattle.sequence_table.specs.Find.{accept_of}
+use Rattle.sequence_table.specs.Destinations.{held}
 use Rattle.sequence_table.specs.Fits.{all_fit}
+use Rattle.sequence_table.specs.Sources.{accepted_count}
 use Rattle.sequence_table.specs.Told.{Told, Side, Sends, Receives, begun, told_by, told_all}
-use Rattle.sequence_row.specs.Row.{Seen, is_moment, takes}
+use Rattle.sequence_row.specs.Row.{Seen, forgotten, is_moment, takes}
 use Rattle.node_tables.specs.declared.note.Note.{Note}
 use Rattle.node_tables.specs.declared.note.Note.TheVariants as note
 use Rattle.node_tables.specs.declared.note.Origin.{Origin}
@@ -25,15 +29,30 @@ use Rattle.node_tables.specs.declared.note.Named.{Named}
 use Rattle.node_tables.specs.declared.note.Coming.{Coming}
 use Rattle.node_tables.specs.Room.{AreBegun, HasPlaces, NodeRoom, Places}
 
--- the payloads of a side that sends
+-- how many of the first messages of a side that sends are gone
+abbrev pub dropped_in : Side → ℕ
+dropped_in (Sends t) = t.dropped
+dropped_in (Receives t) = 0
+
+-- the payloads of a side that sends, behind the gone ones
 abbrev pub accepted_in : Side → List (List ℕ)
 accepted_in (Sends t) = t.accepted
 accepted_in (Receives t) = []
 
--- the messages of a side that receives
+-- how many messages a side accepted
+abbrev pub accepted_count_in : Side → ℕ
+accepted_count_in (Sends t) = count_by t
+accepted_count_in (Receives t) = 0
+
+-- the messages of a side that receives, but for the gone ones
 abbrev pub received_in : Side → List (ℕ × Payload)
 received_in (Sends t) = []
 received_in (Receives t) = t.received
+
+-- the numbers that a side received
+abbrev pub held_in : Side → List ℕ
+held_in (Sends t) = []
+held_in (Receives t) = held_by t
 
 -- what stands for a record where there is none
 abbrev pub no_fact : Fact
@@ -60,9 +79,10 @@ kept_at kept place = slice_index_or kept place no_fact
 abbrev pub row_at : List Told → ℕ → Told
 row_at rows row = slice_index_or rows row no_row
 
--- the payload of a message that the row at a place accepted: messages are numbered from 1
+-- the payload of a message that the row at a place accepted: messages are numbered from 1, and the first are gone
 abbrev pub accepted_at : List Told → ℕ → ℕ → List ℕ
-accepted_at rows row n = slice_index_or (accepted_in (row_at rows row).side) (n - 1) []
+accepted_at rows row n =
+    slice_index_or (accepted_in (row_at rows row).side) (n - (dropped_in (row_at rows row).side + 1)) []
 
 -- the payload of a message that the row at a place received
 abbrev pub received_at : List Told → ℕ → ℕ → Payload
@@ -72,8 +92,11 @@ received_at rows row n = payload_of n (received_in (row_at rows row).side)
 abbrev pub fact_at : List Fact → List Told → Note → Fact
 fact_at kept rows (note.Kept place) = kept_at kept place
 fact_at kept rows (note.Accepted row n) = Accepted (row + 1) (accepted_at rows row n)
-fact_at kept rows (note.Received row n) = Received (row + 1) n (received_at rows row n)
+fact_at kept rows (note.Received row n first) = Received (row + 1) n (received_at rows row n)
 fact_at kept rows (note.Acked seq numbers) = Acked seq numbers.ranges
+fact_at kept rows (note.Consumed seq upto) = Consumed seq upto
+fact_at kept rows (note.Dropped seq upto) = Dropped seq upto
+fact_at kept rows (note.Purged seq numbers) = Purged seq numbers.ranges
 
 -- the records that notes stand for
 abbrev pub records_of : List Fact → List Told → List Note → List Fact
@@ -83,15 +106,27 @@ records_of kept rows notes = map (fact_at kept rows) notes
 abbrev pub IsHeld : List Fact → List Told → Note → Type 0
 IsHeld kept rows (note.Kept place) = place < length kept
 IsHeld kept rows (note.Accepted row n) =
-    (row < length rows) × (1 ≤ n) × (n ≤ length (accepted_in (row_at rows row).side))
-IsHeld kept rows (note.Received row n) =
+    (row < length rows) × (dropped_in (row_at rows row).side < n) × (n ≤ accepted_count_in (row_at rows row).side)
+IsHeld kept rows (note.Received row n first) =
     (row < length rows) × (has_number (numbers_of (received_in (row_at rows row).side)) n ≡ true)
-IsHeld kept rows (note.Acked seq numbers) = Unit {0}
+IsHeld kept rows _ = Unit {0}
 
 -- what each note names is there
 abbrev pub AllHeld : List Fact → List Told → List Note → Type 0
 AllHeld kept rows [] = Unit {0}
 AllHeld kept rows (n ∷ notes) = IsHeld kept rows n × AllHeld kept rows notes
+
+-- behind these records, an accepted message has the next number, and a received one is the first where its note says so
+abbrev pub HasPlace : List Fact → Note → Type 0
+HasPlace before (note.Accepted row n) = n ≡ accepted_count before (row + 1) + 1
+HasPlace before (note.Received row n first) = first ≡ is_empty (held before (row + 1))
+HasPlace before _ = Unit {0}
+
+-- the same of each note, behind these records and those of the notes before it
+abbrev pub HavePlaces : List Fact → List Told → List Fact → List Note → Type 0
+HavePlaces kept rows before [] = Unit {0}
+HavePlaces kept rows before (n ∷ notes) =
+    HasPlace before n × HavePlaces kept rows (before ++ fact_at kept rows n ∷ []) notes
 
 -- how the sequence of a row came to be
 abbrev pub maker_at : List Fact → Origin → Maker
@@ -145,11 +180,21 @@ origins_of origins = map (λ (o : Origin). o.made) origins
 abbrev pub names_of : List Named → List ℕ
 names_of named = map (λ (n : Named). n.place) named
 
--- a record that is kept whole: not one of a payload, a message or numbers
+-- a record of how far a sequence was consumed, or of messages that are gone
+abbrev pub is_passing : Fact → Bool
+is_passing (Consumed seq upto) = true
+is_passing (Dropped seq upto) = true
+is_passing (Purged seq ranges) = true
+is_passing _ = false
+
+-- a record that is kept whole: not one of a payload, a message or numbers, nor of what was consumed or is gone
 abbrev pub is_whole : Fact → Bool
 is_whole (Accepted seq payload) = false
 is_whole (Acked seq ranges) = false
 is_whole (Received seq n payload) = false
+is_whole (Consumed seq upto) = false
+is_whole (Dropped seq upto) = false
+is_whole (Purged seq ranges) = false
 is_whole _ = true
 
 -- each of them is
@@ -181,17 +226,25 @@ pub record Holds (t : Table) : Type 0 where
   pub addresses_ : flat_map addresses_of (records_in t) ≡ flat_map addresses_of t.kept
   pub accepts_ : flat_map accept_of (records_in t) ≡ flat_map (accept_at t.kept) t.named
   pub held : AllHeld t.kept t.rows t.notes
+  pub places_ : HavePlaces t.kept t.rows [] t.notes
   pub origins_held : AreWithin (length t.kept) (origins_of t.origins)
   pub named_held : AreWithin (length t.kept) (names_of t.named)
   pub origins_made : AreMade t.kept t.origins
   pub named_given : AreGiven t.kept t.named
   pub whole_ : AreWhole t.kept
 
--- notes stand for the snapshot of what others stand for, and the acknowledged numbers of each sequence are a set
+-- rows without the payloads that a snapshot leaves out
+abbrev pub all_forgotten : List Told → List Told
+all_forgotten rows = map (λ (t : Told). record t { side = forgotten t.side }) rows
+
+-- notes stand for the snapshot of what others stand for, also where the rows have no more payloads than that names, and
+-- each range of acknowledged numbers has a number
 pub record IsShort (kept : List Fact) (rows : List Told) (notes short : List Note) : Type 0 where
   pub records : records_of kept rows short ≡ snapshot (records_of kept rows notes)
   pub held : AllHeld kept rows short
-  pub sets : UnionsAreSets (records_of kept rows notes)
+  pub left : AllHeld kept (all_forgotten rows) short
+  pub places_ : HavePlaces kept rows [] short
+  pub proper : HaveProper (records_of kept rows notes)
 
 -- the notes of the snapshot that was made, where one was and nothing was applied since
 abbrev pub IsMarked : Table → Bool → List Note → Type 0

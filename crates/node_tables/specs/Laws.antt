@@ -4,11 +4,12 @@ use Rattle.rm_source.specs.Outgoing.{Sending}
 use Rattle.rm_destination.specs.declared.outcome.InPhase.{InPhase}
 use Rattle.rm_destination.specs.declared.outcome.InPhase.TheVariants.{Open, Ended}
 use Rattle.rm_destination.specs.Incoming.{Receiving, is_stopped as stopped_in, phase_of, inbox as inbox_in}
-use Rattle.rm_destination.specs.Incoming.{discarded as discarded_in}
-use Rattle.rm_destination.specs.Messages.{any_true as any_in, front_of, numbers_of}
+use Rattle.rm_destination.specs.Incoming.{discarded as discarded_in, held as held_in, items as items_in}
+use Rattle.rm_destination.specs.Messages.{any_true as any_in, front_of}
 use Rattle.record_batch.specs.Fact.{Fact}
 use Rattle.sequence_table.specs.Makers.{address, number}
-use Rattle.sequence_table.specs.Destinations.{discarded, front, has_end, held, inbox, is_ended, is_over, is_stopped}
+use Rattle.sequence_table.specs.Destinations.{cursor, discarded, front, has_end, held, inbox, is_ended, is_over}
+use Rattle.sequence_table.specs.Destinations.{is_stopped}
 use Rattle.sequence_table.specs.Told.{sending}
 use Rattle.node_tables.specs.Reads.{address_in, incoming_in, outgoing_in}
 
@@ -22,11 +23,13 @@ abbrev pub is_shut : InPhase → Bool
 is_shut Open = false
 is_shut _ = true
 
--- an incoming sequence, by its numbers, its front, what it releases and how far it is, is what the records say of it
+-- an incoming sequence, by its numbers, its front, what it releases, what was consumed and how far it is, is what the
+-- records say of it
 pub record IsAsRecorded (r : List Fact) (s : ℕ) (f : Receiving) : Type 0 where
-  pub numbers : numbers_of f.received ≡ held r s
-  pub front_ : front_of f.received ≡ front r s
+  pub numbers : held_in f ≡ held r s
+  pub front_ : front_of (items_in f) ≡ front r s
   pub inbox_ : inbox_in f ≡ inbox r s
+  pub cursor_ : f.cursor ≡ cursor r s
   pub discarded_ : discarded_in f ≡ discarded r s
   pub stopped : stopped_in f.closes ≡ is_stopped r s
   pub end : any_in f.closes ≡ has_end r s

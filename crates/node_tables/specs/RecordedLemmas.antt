@@ -4,12 +4,11 @@ use Rattle.std.proofs.Common.{sym, ap, subst, ◌∙◌, arith, Option, Some, No
 use Rattle.std.specs.Prelude.{◌||◌, not}
 use Rattle.std.proofs.lemmas.Bool.{false≢true}
 use Rattle.std.proofs.lemmas.Option.{none-some, same_Some}
-use Rattle.rm_base.specs.declared.message.Payload.{Payload}
 use Rattle.rm_source.specs.Outgoing.{Sending}
-use Rattle.rm_destination.specs.Incoming.{Receiving, inbox_of, is_past, phase_of}
+use Rattle.rm_destination.specs.Incoming.{Receiving, inbox_of, is_past, items, phase_of}
 use Rattle.rm_destination.specs.declared.outcome.InPhase.TheVariants.{Open as is_open, Closed as is_closed}
 use Rattle.rm_destination.specs.declared.outcome.InPhase.TheVariants.{Ended as is_ended}
-use Rattle.rm_destination.specs.Messages.{any_true, by_number, contents_of, is_empty}
+use Rattle.rm_destination.specs.Messages.{Item, any_true, by_number, contents_of, is_empty}
 use Rattle.record_batch.specs.Fact.{Fact, Made}
 use Rattle.sequence_table.specs.Makers.{Maker, Outgoing, Offered, Incoming, Taken, address, maker}
 use Rattle.sequence_table.specs.Makers.{number}
@@ -67,7 +66,7 @@ recorded : (r : List Fact) (s : ℕ) (m : Maker) → maker r s ≡ Some m
     → IsAsRecorded r s (receiving r s (behaviour_of (Some m)) (deadline_of (Some m)))
 recorded r s m there =
     let f = receiving r s (behaviour_of (Some m)) (deadline_of (Some m)) in
-    let inbox_same : inbox_of f.behaviour f.told (by_number f.received)
+    let inbox_same : inbox_of f.behaviour f.told (by_number (items f))
     ≡ inbox_of (behaviour_of (maker r s)) (told r s) (messages r s) =
     ap (λ (o : Option Maker). inbox_of (behaviour_of o) (told r s) (messages r s)) (sym there) in
     let late : (now : ℕ) → is_past f.deadline now ≡ is_past (deadline_of (maker r s)) now =
@@ -76,8 +75,9 @@ recorded r s m there =
       numbers = refl;
       front_ = refl;
       inbox_ = inbox_same;
+      cursor_ = refl;
       discarded_ =
-          ap (λ (ps : List Payload). cond (not (is_empty (closes r s)))
+          ap (λ (ps : List Item). cond (not (is_empty (closes r s)))
           (drop (length ps) (contents_of (messages r s))) []) inbox_same;
       stopped = refl;
       end = refl;

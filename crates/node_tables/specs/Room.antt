@@ -2,7 +2,7 @@
 use Rattle.std.specs.Prelude.{◌≡◌, ℕ, ◌+◌, ◌-◌, ◌≤◌, ◌<◌, ◌==◌, ◌&&◌, Bool, true, false, if◌then◌else◌, List, []}
 use Rattle.std.specs.Prelude.{◌∷◌, ◌++◌}
 use Rattle.std.specs.Prelude.{length, map, sum_by, slice_index_or, slice_set, None, Some}
-use Rattle.record_batch.specs.Fact.{Fact, Creating, Granted, Accepted, Acked, Received}
+use Rattle.record_batch.specs.Fact.{Fact, Creating, Granted, Accepted, Acked, Received, Dropped, Purged}
 use Rattle.sequence_row.specs.declared.row.Start.{Start}
 use Rattle.sequence_row.specs.declared.row.Start.TheVariants as start
 use Rattle.sequence_row.specs.Row.{Room, Seen, is_sender, is_timed_start, no_room, started}
@@ -27,6 +27,12 @@ no_spare = record { sends = false; room = no_room }
 -- the room of the sequence at a place, counted from 0
 abbrev pub spare_at : List Spare → ℕ → Spare
 spare_at rows i = slice_index_or rows i no_spare
+
+-- a record for which room can be made: one that says that messages are gone stands in a snapshot alone, and finds none
+abbrev pub has_room : Fact → Bool
+has_room (Dropped seq upto) = false
+has_room (Purged seq ranges) = false
+has_room _ = true
 
 -- the payloads that a record adds to sequence s
 abbrev pub payloads_for : ℕ → Fact → ℕ

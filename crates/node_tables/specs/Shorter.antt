@@ -1,18 +1,26 @@
 -- The notes of a snapshot: which records it takes, and that it takes what the rows have.
-use Rattle.std.specs.Prelude.{◌≡◌, ℕ, ◌-◌, ◌≤◌, Bool, true, false, if◌then◌else◌, List, [], length, Option}
-use Rattle.std.specs.Prelude.{Some, None, slice_index_or, slice_set}
-use Rattle.std.specs.List.{list_any}
+use Rattle.std.specs.Prelude.{◌≡◌, ◌⊎◌, ℕ, ◌+◌, ◌-◌, ◌≤◌, ◌==◌, ◌&&◌, Bool, true, false, if◌then◌else◌, nat_le, List}
+use Rattle.std.specs.Prelude.{[]}
+use Rattle.std.specs.Prelude.{◌<◌, ◌++◌, IfSome, length, Option, Some, None, slice_index_or, slice_set}
+use Rattle.std.specs.Option.{option_map, option_to_list}
 use Rattle.ack_ranges.specs.declared.range.Range.{Range}
-use Rattle.ack_ranges.specs.Changes.{united}
-use Rattle.ack_ranges.specs.Ranges.{IsCanonical}
+use Rattle.ack_ranges.specs.Ranges.{front_of, in_ranges}
+use Rattle.rm_base.specs.Message.{max_number}
 use Rattle.rm_base.specs.Numbered.{numbered}
-use Rattle.record_batch.specs.Fact.{Fact, Acked}
-use Rattle.sequence_table.specs.Sources.{acked}
-use Rattle.sequence_table.specs.Told.{Side, Sends, Receives, Told}
-use Rattle.record_snapshot.specs.Snapshot.{acks}
+use Rattle.rm_destination.specs.Incoming.{inbox}
+use Rattle.rm_destination.specs.Messages.{is_empty, run_to}
+use Rattle.record_batch.specs.Fact.{Fact, Acked, Consumed, Dropped, Purged}
+use Rattle.sequence_table.specs.Fits.{all_fit}
+use Rattle.sequence_table.specs.Told.{Side, Sends, Receives, Told, told_all}
+use Rattle.record_snapshot.specs.Same.{AreProper}
+use Rattle.record_snapshot.specs.Snapshot.{past_front}
 use Rattle.node_tables.specs.declared.note.Note.{Note}
 use Rattle.node_tables.specs.declared.note.Note.TheVariants as note
-use Rattle.node_tables.specs.Kept.{AllHeld, AreWhole, fact_at, records_of}
+use Rattle.node_tables.specs.Kept.{AllHeld, AreWhole, HavePlaces, fact_at, kept_at, records_of}
+
+-- a range of message numbers
+abbrev pub IsRange : Range → Type 0
+IsRange r = (0 < r.lower) × (r.lower ≤ r.upper) × (r.upper ≤ max_number)
 
 -- the acknowledged numbers of a side
 abbrev pub acked_by : Side → List Range
@@ -24,37 +32,97 @@ abbrev pub acked_in : Option Told → List Range
 acked_in (Some t) = acked_by t.side
 acked_in None = []
 
+-- how many items of the inbox of a side were consumed, where the inbox has so many
+abbrev pub passed_by : Side → ℕ
+passed_by (Sends t) = 0
+passed_by (Receives t) = if nat_le t.cursor (length (inbox t)) then t.cursor else 0
+
+-- the same of a row that may be there
+abbrev pub passed_in : Option Told → ℕ
+passed_in (Some t) = passed_by t.side
+passed_in None = 0
+
 -- from the last note to the first: the sequences of which an Acked record was met, after one more note
 abbrev pub marked : List Bool → Note → List Bool
 marked seen (note.Acked seq numbers) = slice_set seen (seq - 1) true
 marked seen _ = seen
 
--- what stands for a note: nothing for an Acked one whose sequence was met, else all numbers of the row
-abbrev pub fact_instead : List Fact → List Told → List Bool → Note → Option Fact
-fact_instead kept rows seen (note.Acked seq numbers) =
-    if slice_index_or seen (seq - 1) false then None else Some (Acked seq (acked_in (numbered rows seq)))
-fact_instead kept rows seen n = Some (fact_at kept rows n)
+-- a record of numbers, where there is one
+abbrev pub some_ranges : (List Range → Fact) → List Range → Option Fact
+some_ranges fact ranges = if is_empty ranges then None else Some (fact ranges)
 
--- the sequence of an Acked note has one of so many rows
+-- what is put before what stands for a note: the numbers of what was consumed, before the first message
+abbrev pub fact_ahead : List Told → Note → Option Fact
+fact_ahead rows (note.Received row n first) =
+    if first then some_ranges (Purged (row + 1)) (run_to (passed_in (numbered rows (row + 1)))) else None
+fact_ahead rows _ = None
+
+-- What stands for a note. An Acked one whose sequence was met is left out, else it has the numbers of the row behind
+-- the
+-- first run. The payloads of that run are left out, but for the first, for which Dropped stands, and so are the
+-- payloads
+-- that were consumed.
+abbrev pub fact_instead : List Fact → List Told → List Bool → Note → Option Fact
+fact_instead kept rows seen (note.Kept place) = Some (kept_at kept place)
+fact_instead kept rows seen (note.Acked seq numbers) =
+    if slice_index_or seen (seq - 1) false then None
+    else some_ranges (Acked seq) (past_front (acked_in (numbered rows seq)))
+fact_instead kept rows seen (note.Accepted row n) =
+    let d = front_of (acked_in (numbered rows (row + 1))) in
+    if nat_le n d then (if n == 1 then Some (Dropped (row + 1) d) else None) else Some (fact_at kept rows
+    (note.Accepted row n))
+fact_instead kept rows seen (note.Dropped seq upto) = Some (Dropped seq (front_of (acked_in (numbered rows seq))))
+fact_instead kept rows seen (note.Received row n first) =
+    if in_ranges (run_to (passed_in (numbered rows (row + 1)))) n then None
+    else Some (fact_at kept rows (note.Received row n first))
+fact_instead kept rows seen (note.Consumed seq upto) =
+    if passed_in (numbered rows seq) == 0 then Some (Consumed seq upto) else None
+fact_instead kept rows seen (note.Purged seq numbers) =
+    if passed_in (numbered rows seq) == 0 then Some (Purged seq numbers.ranges)
+    else Some (Purged seq (run_to (passed_in (numbered rows seq))))
+
+-- the note itself, where it stays: a message is the first no more where others before it were consumed
+abbrev pub stays_as : List Told → Note → Note
+stays_as rows (note.Received row n first) = note.Received row n (first && (passed_in (numbered rows (row + 1)) == 0))
+stays_as rows n = n
+
+-- a note that names nothing
+abbrev pub IsFree : Note → Type 0
+IsFree (note.Kept place) = ⊥
+IsFree (note.Accepted row n) = ⊥
+IsFree (note.Received row n first) = ⊥
+IsFree _ = Unit {0}
+
+-- what stands for a note is the note itself, or one that names nothing
+abbrev pub IsOwn : List Told → Note → Note → Type 0
+IsOwn rows n other = IsFree other ⊎ (other ≡ stays_as rows n)
+
+-- a note of a message and one of numbers have one of so many rows
 abbrev pub HasRow : ℕ → Note → Type 0
 HasRow count (note.Acked seq numbers) = (1 ≤ seq) × (seq ≤ count)
+HasRow count (note.Accepted row n) = row < count
+HasRow count (note.Received row n first) = row < count
 HasRow count _ = Unit {0}
 
--- where the numbers of an Acked note's row are taken, they are a set
-abbrev pub NewIsSet : List Told → List Bool → Note → Type 0
-NewIsSet rows seen (note.Acked seq numbers) =
-    slice_index_or seen (seq - 1) false ≡ false → IsCanonical (acked_in (numbered rows seq))
-NewIsSet rows seen _ = Unit {0}
+-- what stands for a note is put behind what stands for the later ones, and then what comes before it
+pub record IsPut (rows : List Told) (seen : List Bool) (n : Note) (old new : List Note) : Type 0 where
+  pub stands : Option Note
+  pub ahead : Option Note
+  pub is : new ≡ (old ++ option_to_list stands) ++ option_to_list ahead
+  pub fact : (kept : List Fact) → option_map (fact_at kept rows) stands ≡ fact_instead kept rows seen n
+  pub before : (kept : List Fact) → option_map (fact_at kept rows) ahead ≡ fact_ahead rows n
+  pub own : IfSome stands (IsOwn rows n)
+  pub free : IfSome ahead IsFree
 
--- A sequence of which there is an Acked record has a row, which has all its acknowledged numbers.
-pub record IsAcked (rows : List Told) (r : List Fact) (s : ℕ) : Type 0 where
-  pub from : 1 ≤ s
-  pub within : s ≤ length rows
-  pub numbers : acked_in (numbered rows s) ≡ united [] (acked r s)
+-- each range of an Acked note has a number
+abbrev pub IsProperNote : Note → Type 0
+IsProperNote (note.Acked seq numbers) = AreProper numbers.ranges
+IsProperNote _ = Unit {0}
 
--- what is kept is of records: those that are kept whole are no Acked ones, and the rows have the acknowledged numbers
+-- what is kept is of records that fit one after the other, and the rows are what these say
 pub record IsRecorded (kept : List Fact) (rows : List Told) (notes : List Note) : Type 0 where
   pub whole : AreWhole kept
   pub held : AllHeld kept rows notes
-  pub acked_ : (s : ℕ) → list_any (acks s) (records_of kept rows notes) ≡ true
-      → IsAcked rows (records_of kept rows notes) s
+  pub places_ : HavePlaces kept rows [] notes
+  pub fit : all_fit [] (records_of kept rows notes) ≡ true
+  pub rows_ : rows ≡ told_all (records_of kept rows notes)

@@ -1,15 +1,17 @@
 //! Copies of the records that notes stand for.
-ghost use Rattle.std.specs.Prelude.{◌≡◌, ◌-◌, ◌≤◌, [], length, map, true, false, slice_index_or, IfOk, IfSome};
+ghost use Rattle.std.specs.Prelude.{◌≡◌, ◌+◌, ◌-◌, ◌<◌, ◌≤◌, [], length, map, true, false, slice_index_or, IfOk};
+ghost use Rattle.std.specs.Prelude.{IfSome};
 ghost use Rattle.std.specs.Prelude.{IfNone};
 ghost use Rattle.record_batch.specs.Fact.{Accepted, Received, fact_of};
 ghost use Rattle.rm_base.specs.NumberSet.{has_number};
 ghost use Rattle.rm_destination.specs.Messages.{numbers_of};
 ghost use Rattle.node_tables.specs.Copies.{AreOnce, IsThere, MayBeCopied};
-ghost use Rattle.node_tables.specs.Kept.{AllHeld, IsHeld, accepted_in, fact_at, payload_of, received_in, records_of};
+ghost use Rattle.node_tables.specs.Kept.{AllHeld, IsHeld, accepted_count_in, accepted_in, dropped_in, fact_at};
+ghost use Rattle.node_tables.specs.Kept.{payload_of, received_in, records_of};
 ghost use Rattle.node_tables.specs.Kept.{tolds};
 
 use crate::note::Note;
-use record_batch::{Record, copy_acked, copy_received};
+use record_batch::{Record, copy_acked, copy_purged, copy_received};
 use rm_base::{Memory, Payload};
 use sequence_row::Row;
 use std::alloc::Global;
@@ -71,10 +73,10 @@ fn copy_received_of(
 
 /// A record of a payload that a row accepted.
 fn copy_accepted_of(row: &Row, seq: u32, number: u64) -> Result<Record, Memory>
-    requires from { 1 ≤ number }
-    requires within { number ≤ length (accepted_in row.now.told.side) }
-    ensures { IfOk result (λ copy.
-        fact_of copy ≡ Accepted seq (slice_index_or (accepted_in row.now.told.side) (number - 1) [])) }
+    requires behind { dropped_in row.now.told.side < number }
+    requires within { number ≤ accepted_count_in row.now.told.side }
+    ensures { IfOk result (λ copy. fact_of copy ≡ Accepted seq
+        (slice_index_or (accepted_in row.now.told.side) (number - (dropped_in row.now.told.side + 1)) [])) }
 {
     match row.outgoing() {
         Some(outgoing) => match outgoing.accepted(number) {
@@ -106,11 +108,20 @@ fn copy_at(
     match note {
         Note::Kept { place } => kept[*place].copy(alloc),
         Note::Accepted { row, number } => copy_accepted_of(&rows[*row], *row as u32 + 1, *number),
-        Note::Received { row, number } => {
+        Note::Received { row, number, .. } => {
             let seq = *row as u32 + 1;
             copy_received_of(alloc, &rows[*row], seq, *number, &mut expected[*row])
         }
         Note::Acked { seq, numbers } => copy_acked(*seq, numbers),
+        Note::Consumed { seq, upto } => Ok(Record::Consumed {
+            seq: *seq,
+            upto: *upto,
+        }),
+        Note::Dropped { seq, upto } => Ok(Record::Dropped {
+            seq: *seq,
+            upto: *upto,
+        }),
+        Note::Purged { seq, numbers } => copy_purged(*seq, numbers),
     }
 }
 

@@ -1,7 +1,8 @@
 //! What the tables' answers on one sequence come to, in the words of the records.
 ghost use Rattle.node_tables.specs.Laws.{IncomingIsAsRecorded, NumberedHasAddress, OutgoingIsAsRecorded};
 
-/// The side that receives, with its numbers, its front, its inbox and its phase, is what the records say of it.
+/// The side that receives, with its numbers, its front, its inbox, its cursor and its phase, is what the records say of
+/// it.
 pub fn an_incoming_sequence_is_as_recorded()
     ensures { IncomingIsAsRecorded }
 {}

@@ -24,6 +24,8 @@ pub(crate) fn named_by(given: &Record) -> u32
         Record::Closing { seq, .. } | Record::ClosedOut { seq } => *seq,
         Record::Closed { seq, .. } | Record::Ending { seq, .. } => *seq,
         Record::EndedOut { seq } | Record::Ended { seq, .. } | Record::Failed { seq, .. } => *seq,
+        Record::Consumed { seq, .. } | Record::Dropped { seq, .. } | Record::Purged { seq, .. } =>
+            *seq,
     }
 }
 

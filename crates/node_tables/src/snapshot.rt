@@ -1,35 +1,241 @@
 //! The notes of a snapshot.
-ghost use Rattle.std.specs.Prelude.{◌≡◌, List, length, map, IfOk, IfSome, OnOk};
-ghost use Rattle.std.specs.Option.{option_map};
+ghost use Rattle.std.specs.Prelude.{◌≡◌, ◌-◌, ◌<◌, ◌≤◌, ◌++◌, ◌∷◌, [], ℕ, Bool, List, None, true, false, length, map};
+ghost use Rattle.std.specs.Prelude.{IfOk, IfSome};
+ghost use Rattle.std.specs.Prelude.{OnOk, if◌then◌else◌, slice_index_or, slice_set};
+ghost use Rattle.std.specs.List.{AllByRecursion};
+ghost use Rattle.std.specs.Option.{option_map, option_to_list};
+ghost use Rattle.rm_base.specs.Message.{max_number};
 ghost use Rattle.rm_base.specs.Numbered.{numbered};
-ghost use Rattle.record_batch.specs.Fact.{Fact, fact_of};
-ghost use Rattle.ack_ranges.specs.Ranges.{IsCanonical};
-ghost use Rattle.node_tables.specs.Kept.{IsHeld, IsShort, fact_at, tolds};
-ghost use Rattle.node_tables.specs.Shorter.{HasRow, IsRecorded, NewIsSet, acked_in, fact_instead, marked};
+ghost use Rattle.record_batch.specs.Fact.{Acked, Fact, Purged as IsPurged, fact_of};
+ghost use Rattle.ack_ranges.specs.Changes.{united};
+ghost use Rattle.ack_ranges.specs.Ranges.{front_of};
+ghost use Rattle.rm_destination.specs.Messages.{run_to};
+ghost use Rattle.record_snapshot.specs.Snapshot.{past_front};
+ghost use Rattle.sequence_table.specs.Told.{Receives, Told};
+ghost use Rattle.node_tables.specs.declared.note.Note.TheVariants.{Accepted, Purged, Received};
+ghost use Rattle.node_tables.specs.Kept.{IsShort, fact_at, tolds};
+ghost use Rattle.node_tables.specs.Shorter.{HasRow, IsFree, IsOwn, IsProperNote, IsPut, IsRange, IsRecorded, acked_in};
+ghost use Rattle.node_tables.specs.Shorter.{fact_ahead, fact_instead, marked, passed_by, passed_in, some_ranges};
 
 use crate::note::Note;
-use ack_ranges::RangeSet;
+use ack_ranges::{Range, RangeSet, ends_are_right, union_has_both, union_with_nothing_is_the_same};
 use record_batch::Record;
 use rm_base::{Memory, numbered};
+use rm_destination::Incoming;
 use sequence_row::Row;
 use std::alloc::Global;
 
-/// The acknowledged numbers of a sequence.
-fn acked_of(alloc: Global, rows: &[Row], seq: u32) -> Result<RangeSet, Memory>
-    ensures numbers { IfOk result (λ set. set.ranges ≡ acked_in (numbered (tolds rows.now) seq)) }
-    ensures canonical { IsCanonical (acked_in (numbered (tolds rows.now) seq)) }
+/// The greatest number such that 1 to it are acknowledged of a sequence.
+fn settled_of(rows: &[Row], seq: u64) -> u64
+    ensures { result ≡ front_of (acked_in (numbered (tolds rows.now) seq)) }
 {
-    let Some(row) = numbered(rows, seq as u64) else {
+    let Some(row) = numbered(rows, seq) else {
+        return 0;
+    };
+    match row.outgoing() {
+        Some(outgoing) => outgoing.acked().front(),
+        None => 0,
+    }
+}
+
+/// How many items of the inbox of a sequence were consumed, where the inbox has so many, and else 0.
+fn passed_of(rows: &[Row], seq: u64) -> u64
+    ensures { result ≡ passed_in (numbered (tolds rows.now) seq) }
+{
+    let Some(row) = numbered(rows, seq) else {
+        return 0;
+    };
+    match row.incoming() {
+        Some(incoming) => passed_by_one(incoming),
+        None => 0,
+    }
+}
+
+/// The same of a sequence that receives.
+fn passed_by_one(incoming: &Incoming) -> u64
+    ensures { result ≡ passed_by (Receives incoming.now.facts) }
+{
+    let cursor = incoming.consumed();
+    if cursor <= incoming.inbox_len() {
+        cursor
+    } else {
+        0
+    }
+}
+
+/// The ranges behind the one that begins at 1.
+fn behind_front(ranges: &[Range]) -> &[Range]
+    ensures { result.now ≡ past_front ranges.now }
+{
+    match ranges.first() {
+        Some(first) if first.lower == 1 => &ranges[1..],
+        _ => ranges,
+    }
+}
+
+/// The set of ranges.
+fn set_of(alloc: Global, ranges: &[Range]) -> Result<RangeSet, Memory>
+    requires { AllByRecursion IsRange ranges.now }
+    ensures { IfOk result (λ set. set.ranges ≡ united [] ranges.now) }
+{
+    let mut set = RangeSet::new(alloc);
+    for range in ranges {
+        insert(&mut set, *range)?;
+    }
+    Ok(set)
+}
+
+/// Puts a range into a set.
+fn insert(set: &mut RangeSet, range: Range) -> Result<(), Memory>
+    requires { IsRange range }
+    ensures { OnOk result (set.new.ranges ≡ united set.old.ranges (range ∷ [])) }
+{
+    set.insert_range(range.lower, range.upper)?;
+    Ok(())
+}
+
+/// The numbers of a set behind the first run of them.
+fn behind_of(alloc: Global, numbers: &RangeSet) -> Result<RangeSet, Memory>
+    ensures { IfOk result (λ set. set.ranges ≡ past_front numbers.now.ranges) }
+{
+    union_with_nothing_is_the_same();
+    set_of(alloc, behind_front(numbers.ranges()))
+}
+
+/// The acknowledged numbers of a sequence behind the first run of them.
+fn left_of(alloc: Global, rows: &[Row], seq: u64) -> Result<RangeSet, Memory>
+    ensures { IfOk result (λ set. set.ranges ≡ past_front (acked_in (numbered (tolds rows.now) seq))) }
+{
+    let Some(row) = numbered(rows, seq) else {
         return Ok(RangeSet::new(alloc));
     };
     match row.outgoing() {
-        Some(outgoing) => {
-            let acked = outgoing.acked();
-            let _ranges = acked.ranges();
-            acked.copy()
-        }
+        Some(outgoing) => behind_of(alloc, outgoing.acked()),
         None => Ok(RangeSet::new(alloc)),
     }
+}
+
+/// A note that the messages 1 to some number were consumed and are gone.
+fn purged_note(alloc: Global, seq: u32, upto: u64) -> Result<Note, Memory>
+    requires from_one { 0 < upto }
+    requires within { upto ≤ max_number }
+    ensures fact { (kept : List Fact) (rows : List Told) →
+        IfOk result (λ note. fact_at kept rows note ≡ IsPurged seq (run_to upto)) }
+    ensures free { IfOk result IsFree }
+{
+    let mut numbers = RangeSet::new(alloc);
+    numbers.insert_range(1, upto)?;
+    Ok(Note::Purged { seq, numbers })
+}
+
+/// What comes before what stands for a note: the numbers of what was consumed, before the first message that was
+/// received.
+fn ahead_of(alloc: Global, rows: &[Row], note: &Note) -> Result<Option<Note>, Memory>
+    requires few { length rows.now ≤ 4294967295 }
+    requires passed { (seq : ℕ) → passed_in (numbered (tolds rows.now) seq) ≤ max_number }
+    requires there { HasRow (length rows.now) note.now }
+    ensures fact { (kept : List Fact) → IfOk result (λ other.
+        option_map (fact_at kept (tolds rows.now)) other ≡ fact_ahead (tolds rows.now) note.now) }
+    ensures free { IfOk result (λ other. IfSome other IsFree) }
+{
+    match note {
+        Note::Received { row, is_first, .. } => {
+            let upto = passed_of(rows, *row as u64 + 1);
+            if !*is_first || upto == 0 {
+                return Ok(None);
+            }
+            Ok(Some(purged_note(alloc, *row as u32 + 1, upto)?))
+        }
+        _ => Ok(None),
+    }
+}
+
+/// What stands for a note of a payload.
+fn accepted_instead(rows: &[Row], row: usize, number: u64) -> Option<Note>
+    requires few { length rows.now ≤ 4294967295 }
+    requires there { row < length rows.now }
+    ensures fact { (kept : List Fact) (seen : List Bool) → option_map (fact_at kept (tolds rows.now)) result
+        ≡ fact_instead kept (tolds rows.now) seen (Accepted row number) }
+    ensures own { IfSome result (IsOwn (tolds rows.now) (Accepted row number)) }
+{
+    let upto = settled_of(rows, row as u64 + 1);
+    if number > upto {
+        return Some(Note::Accepted { row, number });
+    }
+    if number == 1 {
+        return Some(Note::Dropped {
+            seq: row as u32 + 1,
+            upto,
+        });
+    }
+    None
+}
+
+/// What stands for a note of a message.
+fn received_instead(rows: &[Row], row: usize, number: u64, is_first: bool) -> Option<Note>
+    requires few { length rows.now ≤ 4294967295 }
+    requires there { row < length rows.now }
+    ensures fact { (kept : List Fact) (seen : List Bool) → option_map (fact_at kept (tolds rows.now)) result
+        ≡ fact_instead kept (tolds rows.now) seen (Received row number is_first) }
+    ensures own { IfSome result (IsOwn (tolds rows.now) (Received row number is_first)) }
+{
+    let upto = passed_of(rows, row as u64 + 1);
+    if number > 0 && number <= upto {
+        return None;
+    }
+    Some(Note::Received {
+        row,
+        number,
+        is_first: is_first && upto == 0,
+    })
+}
+
+/// What stands for a note of acknowledged numbers.
+fn acked_instead(
+    alloc: Global,
+    rows: &[Row],
+    seen: &mut [bool],
+    seq: u32,
+) -> Result<Option<Note>, Memory>
+    requires { (1 ≤ seq) × (seq ≤ length seen.old) }
+    ensures marks { OnOk result (seen.new ≡ slice_set seen.old (seq - 1) true) }
+    ensures len { length seen.new ≡ length seen.old }
+    ensures fact { (kept : List Fact) → IfOk result (λ other. option_map (fact_at kept (tolds rows.now)) other
+        ≡ (if slice_index_or seen.old (seq - 1) false then None
+        else some_ranges (Acked seq) (past_front (acked_in (numbered (tolds rows.now) seq))))) }
+    ensures free { IfOk result (λ other. IfSome other IsFree) }
+{
+    let place = seq as usize - 1;
+    if seen[place] {
+        return Ok(None);
+    }
+    let numbers = left_of(alloc, rows, seq as u64)?;
+    seen[place] = true;
+    if numbers.ranges().is_empty() {
+        return Ok(None);
+    }
+    Ok(Some(Note::Acked { seq, numbers }))
+}
+
+/// What stands for a note of numbers that are gone.
+fn purged_instead(
+    alloc: Global,
+    rows: &[Row],
+    seq: u32,
+    numbers: &RangeSet,
+) -> Result<Option<Note>, Memory>
+    requires passed { (seq : ℕ) → passed_in (numbered (tolds rows.now) seq) ≤ max_number }
+    ensures fact { (kept : List Fact) (seen : List Bool) → IfOk result (λ other.
+        option_map (fact_at kept (tolds rows.now)) other
+        ≡ fact_instead kept (tolds rows.now) seen (Purged seq numbers.now)) }
+    ensures free { IfOk result (λ other. IfSome other IsFree) }
+{
+    let upto = passed_of(rows, seq as u64);
+    if upto > 0 {
+        return Ok(Some(purged_note(alloc, seq, upto)?));
+    }
+    let numbers = numbers.copy()?;
+    Ok(Some(Note::Purged { seq, numbers }))
 }
 
 /// What stands for a note, where the notes are met from the last to the first.
@@ -39,35 +245,77 @@ fn instead(
     seen: &mut [bool],
     note: &Note,
 ) -> Result<Option<Note>, Memory>
-    requires { HasRow (length seen.old) note.now }
+    requires few { length rows.now ≤ 4294967295 }
+    requires passed { (seq : ℕ) → passed_in (numbered (tolds rows.now) seq) ≤ max_number }
+    requires there { HasRow (length rows.now) note.now }
+    requires len { length seen.old ≡ length rows.now }
     ensures marks { OnOk result (seen.new ≡ marked seen.old note.now) }
     ensures len { length seen.new ≡ length seen.old }
     ensures fact { (kept : List Fact) → IfOk result (λ other.
         option_map (fact_at kept (tolds rows.now)) other ≡ fact_instead kept (tolds rows.now) seen.old note.now) }
-    ensures held { (kept : List Fact) → IsHeld kept (tolds rows.now) note.now →
-        IfOk result (λ other. IfSome other (IsHeld kept (tolds rows.now))) }
-    ensures set { OnOk result (NewIsSet (tolds rows.now) seen.old note.now) }
+    ensures own { IfOk result (λ other. IfSome other (IsOwn (tolds rows.now) note.now)) }
+    ensures proper { IsProperNote note.now }
 {
     match note {
         Note::Kept { place } => Ok(Some(Note::Kept { place: *place })),
-        Note::Accepted { row, number } => Ok(Some(Note::Accepted {
-            row: *row,
-            number: *number,
-        })),
-        Note::Received { row, number } => Ok(Some(Note::Received {
-            row: *row,
-            number: *number,
-        })),
-        Note::Acked { seq, .. } => {
-            let place = *seq as usize - 1;
-            if seen[place] {
+        Note::Accepted { row, number } => Ok(accepted_instead(rows, *row, *number)),
+        Note::Received {
+            row,
+            number,
+            is_first,
+        } => Ok(received_instead(rows, *row, *number, *is_first)),
+        Note::Acked { seq, numbers } => {
+            let _ranges = numbers.ranges();
+            acked_instead(alloc, rows, seen, *seq)
+        }
+        Note::Consumed { seq, upto } => {
+            if passed_of(rows, *seq as u64) > 0 {
                 return Ok(None);
             }
-            let numbers = acked_of(alloc, rows, *seq)?;
-            seen[place] = true;
-            Ok(Some(Note::Acked { seq: *seq, numbers }))
+            Ok(Some(Note::Consumed {
+                seq: *seq,
+                upto: *upto,
+            }))
         }
+        Note::Dropped { seq, .. } => Ok(Some(Note::Dropped {
+            seq: *seq,
+            upto: settled_of(rows, *seq as u64),
+        })),
+        Note::Purged { seq, numbers } => purged_instead(alloc, rows, *seq, numbers),
     }
+}
+
+/// Puts a note behind others, where there is one.
+fn put(notes: &mut Vec<Note>, other: Option<Note>) -> Result<(), Memory>
+    ensures { OnOk result (notes.new.items ≡ notes.old.items ++ option_to_list other) }
+{
+    if let Some(note) = other {
+        notes.push(note)?;
+    }
+    Ok(())
+}
+
+/// Puts what stands for a note behind what stands for the later ones.
+fn put_instead(
+    alloc: Global,
+    rows: &[Row],
+    seen: &mut [bool],
+    note: &Note,
+    short: &mut Vec<Note>,
+) -> Result<(), Memory>
+    requires few { length rows.now ≤ 4294967295 }
+    requires passed { (seq : ℕ) → passed_in (numbered (tolds rows.now) seq) ≤ max_number }
+    requires there { HasRow (length rows.now) note.now }
+    requires len { length seen.old ≡ length rows.now }
+    ensures marks { OnOk result (seen.new ≡ marked seen.old note.now) }
+    ensures len { length seen.new ≡ length seen.old }
+    ensures put { OnOk result (IsPut (tolds rows.now) seen.old note.now short.old.items short.new.items) }
+    ensures proper { OnOk result (IsProperNote note.now) }
+{
+    let stands = instead(alloc, rows, seen, note)?;
+    let ahead = ahead_of(alloc, rows, note)?;
+    put(short, stands)?;
+    put(short, ahead)
 }
 
 /// The notes of the snapshot of the records that notes stand for.
@@ -77,17 +325,18 @@ pub(crate) fn shorter(
     rows: &[Row],
     notes: &[Note],
 ) -> Result<Vec<Note>, Memory>
-    requires { IsRecorded (map fact_of _kept.now) (tolds rows.now) notes.now }
+    requires few { length rows.now ≤ 4294967295 }
+    requires recorded { IsRecorded (map fact_of _kept.now) (tolds rows.now) notes.now }
     ensures { IfOk result (λ short. IsShort (map fact_of _kept.now) (tolds rows.now) notes.now short.items) }
 {
+    union_has_both();
+    ends_are_right();
     let mut seen = vec![in alloc; false; rows.len()]?;
     let mut short = Vec::with_capacity(alloc, notes.len())?;
     let mut k = notes.len();
     while k > 0 {
         k -= 1;
-        if let Some(note) = instead(alloc, rows, &mut seen, &notes[k])? {
-            short.push(note)?;
-        }
+        put_instead(alloc, rows, &mut seen, &notes[k], &mut short)?;
     }
     short.reverse();
     Ok(short)

@@ -14,10 +14,12 @@ ghost use Rattle.sequence_table.specs.Idents.{IsIssuedFor};
 ghost use Rattle.sequence_table.specs.Makers.{counter, maker, makers, number};
 ghost use Rattle.sequence_table.specs.Sources.{all_unacked, out_ident, phase};
 ghost use Rattle.sequence_table.specs.Words.{Text};
-ghost use Rattle.node_tables.specs.Kept.{is_naming, is_whole, told_in};
+ghost use Rattle.node_tables.specs.Kept.{is_naming, is_passing, is_whole, told_in};
 ghost use Rattle.node_tables.specs.Reads.{address_in, incoming_in, is_asking, maker_seen, outgoing_in, passes};
 ghost use Rattle.node_tables.specs.Reads.{ticket_in};
 ghost use Rattle.node_tables.specs.Ready.{IsReady, StopsAt};
+ghost use Rattle.node_tables.specs.Room.{has_room};
+ghost use Rattle.std.specs.List.{list_all};
 ghost use Rattle.record_snapshot.specs.Snapshot.{snapshot};
 ghost use Rattle.node_tables.specs.declared.error.TableError.TheVariants.{Misfit, Memory as WantsMemory};
 
@@ -27,11 +29,11 @@ use crate::copies::copies_of;
 use crate::error::TableError;
 use crate::find::{find_accept, find_address, find_granted, find_ident, find_named};
 use crate::maker::{Maker, maker_at};
-use crate::note::{Coming, Named, Note, Origin};
+use crate::note::{Coming, Named, Note, Origin, passed_note};
 use crate::record::{drawn_after, is_in_order, name, named_by, number_after, offer_fits, trace};
-use crate::rows::{accept_at, change, learn_at, receive_at, waiting_in};
+use crate::rows::{accept_at, change, forget_all, learn_at, pass_at, receive_at, waiting_in};
 use crate::snapshot::shorter;
-use ack_ranges::{RangeSet, union_with_nothing_is_the_same};
+use ack_ranges::{RangeSet, ends_are_right, same_numbers_same_ranges, union_has_both};
 use record_batch::{Record, Records};
 use rm_base::{Blob, Ident, Memory, Payload, Uri, numbered};
 use rm_destination::Incoming;
@@ -319,7 +321,10 @@ impl Tables {
             Record::Closed { .. } | Record::Ending { .. } | Record::EndedOut { .. } => {
                 self.takes(given)
             }
-            Record::Ended { .. } | Record::Failed { .. } => self.takes(given),
+            Record::Ended { .. } | Record::Failed { .. } | Record::Consumed { .. } => {
+                self.takes(given)
+            }
+            Record::Dropped { .. } | Record::Purged { .. } => self.takes(given),
         }
     }
 
@@ -354,10 +359,12 @@ impl Tables {
         }
     }
 
-    /// Makes room for records, and gives up the room that there was: applying exactly these takes no memory then.
+    /// Makes room for records, and gives up the room that there was: applying exactly these takes no memory then. It
+    /// makes none for Dropped and Purged, of which a snapshot alone has some.
     pub fn reserve(&mut self, batch: &[Record]) -> Result<(), Memory>
         ensures records { self.new.records ≡ self.old.records }
         ensures ok { all_fit self.old.records (map fact_of batch.now) ≡ true →
+            list_all has_room (map fact_of batch.now) ≡ true →
             OnOk result (IsReady self.new (map fact_of batch.now)) }
         ensures mark { self.new.is_marked ≡ false }
     {
@@ -397,15 +404,20 @@ impl Tables {
         Ok(Records::from_vec(copies))
     }
 
-    /// Makes the records the snapshot of them, which was made since the last of them came. It takes no memory.
+    /// Makes the records the snapshot of them, which was made since the last of them came, and gives up the payloads
+    /// that
+    /// are gone by it. It takes no memory.
     pub fn compact(&mut self)
         requires { self.old.is_marked ≡ true }
         ensures records { self.new.records ≡ snapshot self.old.records }
         ensures mark { self.new.is_marked ≡ false }
     {
-        union_with_nothing_is_the_same();
+        union_has_both();
+        ends_are_right();
+        same_numbers_same_ranges();
         self.slots = 0;
         self.marked = false;
+        forget_all(&mut self.rows);
         mem::swap(&mut self.notes, &mut self.short);
         self.short.clear();
     }
@@ -462,6 +474,9 @@ impl Tables {
                 payload,
             } => self.receive(seq, number, payload),
             Record::Acked { seq, numbers } => self.learn(seq, numbers),
+            Record::Consumed { seq, upto } => self.pass(Record::Consumed { seq, upto }),
+            Record::Dropped { seq, upto } => self.pass(Record::Dropped { seq, upto }),
+            Record::Purged { seq, numbers } => self.pass(Record::Purged { seq, numbers }),
             whole => self.keep(whole),
         }
     }
@@ -498,9 +513,13 @@ impl Tables {
         self.marked = false;
         self.notes.reserve(1)?;
         let row = seq as usize - 1;
-        receive_at(&mut self.rows, row, number, payload)?;
+        let is_first = receive_at(&mut self.rows, row, number, payload)?;
         self.slots = self.slots.saturating_sub(1);
-        self.notes.push_reserved(Note::Received { row, number });
+        self.notes.push_reserved(Note::Received {
+            row,
+            number,
+            is_first,
+        });
         Ok(())
     }
 
@@ -519,6 +538,26 @@ impl Tables {
         learn_at(&mut self.rows, seq as usize - 1, &numbers)?;
         self.slots = self.slots.saturating_sub(1);
         self.notes.push_reserved(Note::Acked { seq, numbers });
+        Ok(())
+    }
+
+    /// Adds a record of how far a sequence was consumed, or of messages that are gone.
+    fn pass(&mut self, given: Record) -> Result<(), Memory>
+        requires fit { fits self.old.records (fact_of given) ≡ true }
+        requires passing { is_passing (fact_of given) ≡ true }
+        ensures ok { OnOk result (self.new.records ≡ self.old.records ++ fact_of given ∷ []) }
+        ensures err { OnErr result (self.new.records ≡ self.old.records) }
+        ensures mark { OnOk result (self.new.is_marked ≡ false) }
+        ensures ready { (more : List Fact) → IsReady self.old (fact_of given ∷ more) → IsOk result }
+        ensures next { (more : List Fact) → IsReady self.old (fact_of given ∷ more) →
+            OnOk result (IsReady self.new more) }
+    {
+        self.marked = false;
+        self.notes.reserve(1)?;
+        let place = named_by(&given) as usize - 1;
+        pass_at(&mut self.rows, place, &given)?;
+        self.slots = self.slots.saturating_sub(1);
+        self.notes.push_reserved(passed_note(given));
         Ok(())
     }
 

@@ -1,17 +1,12 @@
--- A snapshot acknowledges the same numbers: a union of ranges, in any order, has exactly the numbers of both.
-use Rattle.std.proofs.Common.{◌≡◌, ◌⊎◌, ℕ, ◌+◌, ◌≤◌, ◌==◌, min, max, Bool, true, false, ◌||◌, cond, List, [], ◌∷◌, ◌++◌}
-use Rattle.std.proofs.Common.{refl, sym, ◌∙◌, ap, subst, inl, inr, arith}
+-- A union of ranges, in any order, has exactly the numbers of both.
+use Rattle.std.proofs.Common.{◌≡◌, ◌⊎◌, ℕ, ◌+◌, ◌≤◌, min, max, Bool, true, false, ◌||◌, cond, List, [], ◌∷◌, ◌++◌, refl}
+use Rattle.std.proofs.Common.{sym, ◌∙◌, ap, subst, inl, inr, arith}
 use Rattle.std.specs.Prelude.{nat_le, nat_lt}
-use Rattle.std.specs.List.{list_any}
 use Rattle.std.proofs.lemmas.Bool.{and_from, and_parts, cases_Bool, cases_lt, le-leb, leb-true, ltb-false}
 use Rattle.ack_ranges.specs.Changes.{united, with_range}
 use Rattle.ack_ranges.specs.Ranges.{in_range, in_ranges, is_between}
 use Rattle.ack_ranges.specs.declared.range.Range.{Range}
-use Rattle.record_batch.specs.Fact.{Fact}
-use Rattle.sequence_table.specs.Sources.{acked, acked_of}
-use Rattle.record_snapshot.specs.Snapshot.{acks, snapshot}
-use Rattle.record_snapshot.specs.SnapshotLemmas.{ack, other, kind, acked-kept, acked-none}
-use Rattle.record_snapshot.specs.Same.{AreProper, HaveProper, HasProper}
+use Rattle.record_snapshot.specs.Same.{AreProper}
 
 same_bool : (x y : Bool) → (x ≡ true → y ≡ true) → (y ≡ true → x ≡ true) → x ≡ y
 same_bool true y there back = sym (there refl)
@@ -126,7 +121,7 @@ put (x ∷ xs) l u all le = elim (cases_Bool (nat_lt (x.upper + 1) l)) [
 ]
 
 -- the union of proper ranges
-union : (xs ys : List Range) → AreProper xs → AreProper ys → (n : ℕ)
+pub union : (xs ys : List Range) → AreProper xs → AreProper ys → (n : ℕ)
     → in_ranges (united xs ys) n ≡ (in_ranges xs n || in_ranges ys n)
 union xs [] all more n = or_comm false (in_ranges xs n)
 union xs (y ∷ ys) all more n =
@@ -135,33 +130,6 @@ union xs (y ∷ ys) all more n =
     ∙ ap (λ b. b || in_ranges ys n) (puts.numbers n)
     ∙ or_assoc (in_ranges xs n) (in_range y n) (in_ranges ys n)
 
-proper-append : (xs ys : List Range) → AreProper xs → AreProper ys → AreProper (xs ++ ys)
+pub proper-append : (xs ys : List Range) → AreProper xs → AreProper ys → AreProper (xs ++ ys)
 proper-append [] ys all more = more
 proper-append (x ∷ xs) ys all more = (all.0, proper-append xs ys all.1 more)
-
--- all ranges of a sequence, one behind the other
-pub proper_acked : (r : List Fact) (s : ℕ) → HaveProper r → AreProper (acked r s)
-proper_acked [] s h = tt
-proper_acked (f ∷ r) s h =
-    proper-append (acked_of s f) (acked r s)
-    (elim (kind f) as (λ g k. HasProper g → AreProper (acked_of s g)) [
-      | ack seq ranges ↦ λ is. elim (seq == s) as (λ b. AreProper (cond b ranges [])) [
-        | true ↦ is
-        | false ↦ tt
-      ]
-      | other g o ↦ λ is. subst AreProper (sym (o.acked_ s)) tt
-    ] h.0)
-    (proper_acked r s h.1)
-
--- a snapshot acknowledges the same numbers where each range has one
-pub same_proper : (r : List Fact) → HaveProper r → (s n : ℕ)
-    → in_ranges (acked (snapshot r) s) n ≡ in_ranges (acked r s) n
-same_proper r h s n = ap (λ xs. in_ranges xs n) (acked-kept r [] r s)
-    ∙ elim (cases_Bool (list_any (acks s) r)) [
-      | inl any ↦
-          ap (λ b. in_ranges (cond b (united [] (acked r s)) []) n) any
-          ∙ union [] (acked r s) tt (proper_acked r s h) n
-      | inr none ↦
-          ap (λ b. in_ranges (cond b (united [] (acked r s)) []) n) none
-          ∙ sym (ap (λ xs. in_ranges xs n) (acked-none r s none))
-    ]

@@ -1,20 +1,23 @@
--- When a list of records says the same as another one.
-use Rattle.std.specs.Prelude.{◌≡◌, ℕ, ◌≤◌, true, List, [], ◌∷◌, Option}
+-- When a list of records says the same as another one, but that more items are gone.
+use Rattle.std.specs.Prelude.{◌≡◌, ℕ, ◌-◌, ◌<◌, ◌≤◌, true, false, cond, List, [], ◌∷◌, ◌++◌, drop}
+use Rattle.std.specs.Prelude.{length, map, None, Some}
 use Rattle.std.specs.List.{flat_map, AllByRecursion}
 use Rattle.ack_ranges.specs.Changes.{united}
 use Rattle.ack_ranges.specs.Ranges.{IsCanonical, in_ranges}
 use Rattle.ack_ranges.specs.declared.range.Range.{Range}
-use Rattle.record_batch.specs.Fact.{Fact, Acked}
+use Rattle.rm_base.specs.Message.{max_number}
+use Rattle.rm_base.specs.NumberSet.{has_number}
+use Rattle.rm_destination.specs.Messages.{Item}
+use Rattle.record_batch.specs.Fact.{Fact, Acked, Dropped, Purged, Received}
 use Rattle.sequence_table.specs.Words.{Text}
-use Rattle.sequence_table.specs.Destinations.{close_of, discarded, front, held, inbox, is_complete, is_ended, is_over}
-use Rattle.sequence_table.specs.Destinations.{is_stopped, received, told_of}
+use Rattle.sequence_table.specs.Destinations.{close_of, cursor, discarded, front, held, inbox, is_complete, is_ended}
+use Rattle.sequence_table.specs.Destinations.{is_over, is_stopped, messages, purged, received, released, told_of}
 use Rattle.sequence_table.specs.Find.{accept_of, acks_to, find_creating, find_grant, find_incoming, find_outgoing, peer}
 use Rattle.sequence_table.specs.Fits.{all_fit}
-use Rattle.sequence_table.specs.Makers.{address, addresses_of, counter, created, draws_of, maker, makers, nodes_of}
-use Rattle.sequence_table.specs.Makers.{number}
-use Rattle.sequence_table.specs.Sources.{accepted, acked, all_unacked, mark_of, out_ident, phase, ticket_of, unacked}
-use Rattle.sequence_table.specs.Told.{Told, told_all}
-use Rattle.record_snapshot.specs.Snapshot.{snapshot}
+use Rattle.sequence_table.specs.Makers.{address, addresses_of, counter, created, draws_of, makers, nodes_of, number}
+use Rattle.sequence_table.specs.Sources.{accepted, accepted_count, acked, all_unacked, dropped, mark_of, out_ident}
+use Rattle.sequence_table.specs.Sources.{payload_at, phase, ticket_of, unacked}
+use Rattle.record_snapshot.specs.Snapshot.{left_acked, passed, settled, snapshot}
 
 -- Of the node and of how its sequences came to be, and how far they are, both lists have the same records.
 pub record SameFrame (q r : List Fact) : Type 0 where
@@ -29,42 +32,60 @@ pub record SameFrame (q r : List Fact) : Type 0 where
   pub told_ : flat_map told_of q ≡ flat_map told_of r
   pub accepts : flat_map accept_of q ≡ flat_map accept_of r
 
--- Of what went over them, they say the same: what was accepted and what was received, and as sets of numbers what was
--- acknowledged.
-pub record SameItems (q r : List Fact) : Type 0 where
-  pub accepted_ : (s : ℕ) → accepted q s ≡ accepted r s
-  pub received_ : (s : ℕ) → received q s ≡ received r s
-  pub acked_ : (s : ℕ) → united [] (acked q s) ≡ united [] (acked r s)
+-- of messages, those whose number is in none of the ranges
+abbrev pub without : {A : Type 0} → List Range → List (ℕ × A) → List (ℕ × A)
+without ps [] = []
+without ps (m ∷ ms) = cond (in_ranges ps m.0) (without ps ms) (m ∷ without ps ms)
 
--- the numbers of an Acked record are a set
-abbrev pub HasSet : Fact → Type 0
-HasSet (Acked seq ranges) = IsCanonical ranges
-HasSet _ = Unit {0}
+-- the message, gone where its number is in one of the ranges
+abbrev pub marked : List Range → ℕ × Item → ℕ × Item
+marked ps m = (m.0, cond (in_ranges ps m.0) None m.1)
 
--- of each
-abbrev pub HaveSets : List Fact → Type 0
-HaveSets r = AllByRecursion HasSet r
+-- each, gone where its number is in one of the ranges
+abbrev pub all_marked : List Range → List (ℕ × Item) → List (ℕ × Item)
+all_marked ps ms = map (λ (m : ℕ × Item). marked ps m) ms
 
--- the acknowledged numbers of each sequence are a set: so it is where those of each record are
-abbrev pub UnionsAreSets : List Fact → Type 0
-UnionsAreSets r = (s : ℕ) → IsCanonical (united [] (acked r s))
+-- Of what sequence s sends, q says the same as r, but that more of the first payloads are gone.
+pub record SameSent (q r : List Fact) (s : ℕ) : Type 0 where
+  pub more : dropped r s ≤ dropped q s
+  pub accepted_ : accepted q s ≡ drop (dropped q s - dropped r s) (accepted r s)
+  pub count : accepted_count q s ≡ accepted_count r s
+  pub acked_ : (n : ℕ) → in_ranges (acked q s) n ≡ in_ranges (acked r s) n
 
--- what is known of a node and its sequences is the same
+-- Of what sequence s receives, q says the same as r, but that more payloads up to the cursor are gone.
+pub record SameReceived (q r : List Fact) (s : ℕ) : Type 0 where
+  pub more : (n : ℕ) → in_ranges (purged r s) n ≡ true → in_ranges (purged q s) n ≡ true
+  pub received_ : received q s ≡ without (purged q s) (received r s)
+  pub held_ : (n : ℕ) → has_number (held q s) n ≡ has_number (held r s) n
+  pub cursor_ : cursor q s ≡ cursor r s
+  pub below : (n : ℕ) → cursor q s < n → in_ranges (purged q s) n ≡ false
+
+-- q says the same as r, but for items that are gone
 pub record SaysTheSame (q r : List Fact) : Type 0 where
-  pub told_ : told_all q ≡ told_all r
-  pub makers_ : makers q ≡ makers r
+  pub frame : SameFrame q r
+  pub sent : (s : ℕ) → SameSent q r s
+  pub got : (s : ℕ) → SameReceived q r s
+
+-- what was received has numbers from 1 on
+abbrev pub AreNumbers : {A : Type 0} → List (ℕ × A) → Type 0
+AreNumbers {A} ms = AllByRecursion (λ (m : ℕ × A). 0 < m.0) ms
+
+-- what is known then of one sequence
+pub record FactsOf (q r : List Fact) (s : ℕ) : Type 0 where
+  pub message : (i : ℕ) → dropped q s < i → payload_at q s i ≡ payload_at r s i
+  pub messages_ : messages q s ≡ all_marked (purged q s) (messages r s)
+  pub front_ : front q s ≡ front r s
+  pub complete : is_complete q s ≡ is_complete r s
+  pub inbox_len : length (inbox q s) ≡ length (inbox r s)
+  pub discarded_len : length (discarded q s) ≡ length (discarded r s)
+
+-- what the frame alone decides of the node and of its sequences
+pub record FrameFacts (q r : List Fact) : Type 0 where
   pub counter_ : counter q ≡ counter r
   pub number_ : number q ≡ number r
   pub address_ : address q ≡ address r
   pub phase_ : (s : ℕ) → phase q s ≡ phase r s
   pub out_ident_ : (s : ℕ) → out_ident q s ≡ out_ident r s
-  pub unacked_ : (s : ℕ) → unacked q s ≡ unacked r s
-  pub all_unacked_ : all_unacked q ≡ all_unacked r
-  pub held_ : (s : ℕ) → held q s ≡ held r s
-  pub front_ : (s : ℕ) → front q s ≡ front r s
-  pub inbox_ : (s : ℕ) → inbox q s ≡ inbox r s
-  pub discarded_ : (s : ℕ) → discarded q s ≡ discarded r s
-  pub complete : (s : ℕ) → is_complete q s ≡ is_complete r s
   pub stopped : (s : ℕ) → is_stopped q s ≡ is_stopped r s
   pub ended : (s now : ℕ) → is_ended q s now ≡ is_ended r s now
   pub over : (s now : ℕ) → is_over q s now ≡ is_over r s now
@@ -74,6 +95,19 @@ pub record SaysTheSame (q r : List Fact) : Type 0 where
   pub find_outgoing_ : (t : Text) → find_outgoing q t ≡ find_outgoing r t
   pub find_grant_ : (t : Text) → find_grant q t ≡ find_grant r t
   pub find_creating_ : (t : Text) → find_creating q t ≡ find_creating r t
+
+-- how many messages wait for their acknowledgement
+pub record SameUnacked (q r : List Fact) : Type 0 where
+  pub united_ : (s : ℕ) → united [] (acked q s) ≡ united [] (acked r s)
+  pub unacked_ : (s : ℕ) → unacked q s ≡ unacked r s
+  pub all_unacked_ : all_unacked q ≡ all_unacked r
+
+-- all of it: what is known at q is what is known at r, but for payloads that are gone
+pub record SameFacts (q r : List Fact) : Type 0 where
+  pub says : SaysTheSame q r
+  pub frame : FrameFacts q r
+  pub each : (s : ℕ) → FactsOf q r s
+  pub unacked_ : SameUnacked q r
 
 -- each range has a number
 abbrev pub AreProper : List Range → Type 0
@@ -88,23 +122,98 @@ HasProper _ = Unit {0}
 abbrev pub HaveProper : List Fact → Type 0
 HaveProper r = AllByRecursion HasProper r
 
--- a snapshot says the same
-abbrev pub SnapshotSaysTheSame : Type 0
-SnapshotSaysTheSame = (r : List Fact) → UnionsAreSets r → SaysTheSame (snapshot r) r
+-- the acknowledged numbers of each sequence are a set
+abbrev pub UnionsAreSets : List Fact → Type 0
+UnionsAreSets r = (s : ℕ) → IsCanonical (united [] (acked r s))
 
--- the acknowledged numbers of a sequence are a set where those of each record are
+-- nothing that was received is gone
+abbrev pub NothingIsGone : List Fact → Type 0
+NothingIsGone whole = (s : ℕ) → purged whole s ≡ []
+
+-- a record of a call, which a snapshot alone doesn't write
+abbrev pub IsLive : Fact → Type 0
+IsLive (Dropped seq upto) = ⊥
+IsLive (Purged seq ranges) = ⊥
+IsLive _ = Unit {0}
+
+-- the numbers of what was received, and of what is gone, are from 1 on
+pub record HasNumbers (r : List Fact) (s : ℕ) : Type 0 where
+  pub received_ : AreNumbers (received r s)
+  pub purged_ : (n : ℕ) → in_ranges (purged r s) n ≡ true → 0 < n
+
+-- no message that came already: so it is with a record that fits
+abbrev pub IsNewIn : List Fact → Fact → Type 0
+IsNewIn q (Received seq n payload) = has_number (held q seq) n ≡ false
+IsNewIn q _ = Unit {0}
+
+-- what a snapshot writes of a sequence are message numbers, as sets
+pub record WritesSets (r : List Fact) (s : ℕ) : Type 0 where
+  pub settled_ : settled r s ≤ max_number
+  pub left : IsCanonical (left_acked r s)
+  pub passed_ : IsCanonical (passed r s)
+
+-- ---- the laws, each the contract of a function in src/laws.rt
+
+-- the acknowledged numbers of a sequence are a set where each range of an Acked record has a number
 abbrev pub SetsUnite : Type 0
-SetsUnite = (r : List Fact) → HaveSets r → UnionsAreSets r
+SetsUnite = (r : List Fact) → all_fit [] r ≡ true → HaveProper r → UnionsAreSets r
+
+-- lists with the same frame know the same of the node and of how far its sequences are
+abbrev pub FrameDecides : Type 0
+FrameDecides = (q r : List Fact) → SameFrame q r → FrameFacts q r
+
+-- of two that say the same, as many messages are not acknowledged
+abbrev pub UnackedIsEqual : Type 0
+UnackedIsEqual =
+    (q r : List Fact) → all_fit [] q ≡ true → HaveProper q → all_fit [] r ≡ true → HaveProper r → SaysTheSame q r
+    → SameUnacked q r
+
+-- so it is where the records fit
+abbrev pub NumbersAreFromOne : Type 0
+NumbersAreFromOne = (r : List Fact) → all_fit [] r ≡ true → (s : ℕ) → HasNumbers r s
+
+-- of two that say the same, the facts are equal, but for payloads that are gone
+abbrev pub FactsAreEqual : Type 0
+FactsAreEqual =
+    (q r : List Fact) → SaysTheSame q r → (s : ℕ) → AreNumbers (received r s)
+    → ((n : ℕ) → in_ranges (purged q s) n ≡ true → 0 < n) → FactsOf q r s
+
+-- past the cursor the inbox has what all records release that a node ever had, among which nothing is gone
+abbrev pub InboxPastIsThere : Type 0
+InboxPastIsThere =
+    (r whole : List Fact) → SaysTheSame r whole → NothingIsGone whole → (s : ℕ) → AreNumbers (received whole s)
+    → drop (cursor r s) (inbox r s) ≡ map Some (drop (cursor r s) (released whole s))
+
+-- a snapshot says the same, but for items that are gone
+abbrev pub SnapshotSaysTheSame : Type 0
+SnapshotSaysTheSame = (r : List Fact) → all_fit [] r ≡ true → HaveProper r → SaysTheSame (snapshot r) r
+
+-- so all facts are equal at a snapshot
+abbrev pub SnapshotKnowsAll : Type 0
+SnapshotKnowsAll = (r : List Fact) → all_fit [] r ≡ true → HaveProper r → SameFacts (snapshot r) r
+
+-- a node's records say what all that it ever had say, but for items that are gone: so does a snapshot of them
+abbrev pub SnapshotKeepsAll : Type 0
+SnapshotKeepsAll =
+    (r whole : List Fact) → all_fit [] r ≡ true → HaveProper r → SaysTheSame r whole → SaysTheSame (snapshot r) whole
+
+-- and so do both with one more record of a call
+abbrev pub KeptByOneMore : Type 0
+KeptByOneMore =
+    (q r : List Fact) (f : Fact) → IsLive f → IsNewIn q f → SaysTheSame q r → SaysTheSame (q ++ f ∷ []) (r ++ f ∷ [])
+
+-- a snapshot is a list of records that a node may have
+abbrev pub SnapshotFits : Type 0
+SnapshotFits = (r : List Fact) → all_fit [] r ≡ true → HaveProper r → all_fit [] (snapshot r) ≡ true
+
+-- each range of its Acked records has a number
+abbrev pub SnapshotIsProper : Type 0
+SnapshotIsProper = (r : List Fact) → all_fit [] r ≡ true → HaveProper r → HaveProper (snapshot r)
+
+-- what its Dropped, Acked and Purged records have are message numbers, as sets
+abbrev pub SnapshotWritesSets : Type 0
+SnapshotWritesSets = (r : List Fact) → all_fit [] r ≡ true → HaveProper r → (s : ℕ) → WritesSets r s
 
 -- a snapshot of a snapshot is the snapshot
 abbrev pub SnapshotTwice : Type 0
-SnapshotTwice = (r : List Fact) → UnionsAreSets r → snapshot (snapshot r) ≡ snapshot r
-
--- a snapshot acknowledges the same numbers
-abbrev pub SnapshotNumbers : Type 0
-SnapshotNumbers =
-    (r : List Fact) → HaveProper r → (s n : ℕ) → in_ranges (acked (snapshot r) s) n ≡ in_ranges (acked r s) n
-
--- each record of a snapshot may come after those before it
-abbrev pub SnapshotFits : Type 0
-SnapshotFits = (r : List Fact) → all_fit [] r ≡ true → all_fit [] (snapshot r) ≡ true
+SnapshotTwice = (r : List Fact) → all_fit [] r ≡ true → HaveProper r → snapshot (snapshot r) ≡ snapshot r

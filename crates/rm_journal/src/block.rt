@@ -92,7 +92,7 @@ pub fn list_of(alloc: Global, start: u64, fresh: &[Blob]) -> Result<Written, All
     ensures bytes { IfOk result (λ list. list.bytes.items ≡ list_in fresh.now) }
     ensures gates { IfOk result (λ list. list.gates.items ≡ gates_from start fresh.now) }
 {
-    let mut bytes = Vec::new(alloc);
+    let mut bytes = Vec::with_capacity(alloc, size_of(fresh) as usize)?;
     let mut gates = Vec::with_capacity(alloc, fresh.len())?;
     let mut at = start;
     let mut k = 0;

@@ -2,7 +2,7 @@
 use Rattle.std.specs.Prelude.{List}
 use Rattle.record_batch.specs.Fact.{Fact}
 use Rattle.node_laws.specs.Records.{IsKept}
-use Rattle.record_snapshot.specs.Same.{UnionsAreSets}
+use Rattle.record_snapshot.specs.Same.{HaveProper, UnionsAreSets}
 use Rattle.record_snapshot.specs.Snapshot.{snapshot}
 
 -- what a node accepts when it is mounted, it accepts in short
@@ -12,3 +12,7 @@ SnapshotIsKept = (r : List Fact) → IsKept r → IsKept (snapshot r)
 -- the acknowledged numbers of each sequence of a node are a set
 abbrev pub KeptHasSets : Type 0
 KeptHasSets = (r : List Fact) → IsKept r → UnionsAreSets r
+
+-- each range of an Acked record of a node has a number
+abbrev pub KeptHasProper : Type 0
+KeptHasProper = (r : List Fact) → IsKept r → HaveProper r

@@ -91,23 +91,45 @@ fn exchange(alloc: Global, tables: &mut Tables) -> Result<(), Fail> {
     Ok(())
 }
 
-// Three acknowledgements of the first sequence, two of the second.
+// Two acknowledgements of the first sequence, which leave one message out, two of the second. The application of the
+// third one consumes an item.
 fn learn(alloc: Global, tables: &mut Tables) -> Result<(), Fail> {
     tables.apply(acked(alloc, 1, 1)?)?;
     tables.apply(acked(alloc, 2, 1)?)?;
     tables.apply(acked(alloc, 1, 3)?)?;
-    tables.apply(acked(alloc, 1, 2)?)?;
     tables.apply(acked(alloc, 2, 2)?)?;
+    tables.apply(Record::Consumed { seq: 3, upto: 1 })?;
     Ok(())
 }
 
-// Whether a record acknowledges the numbers from 1 to another of a sequence.
-fn is_acked(record: Option<&Record>, of: u32, upper: u64) -> bool {
+// Whether numbers are those of one range.
+fn are(numbers: &RangeSet, lower: u64, upper: u64) -> bool {
+    match numbers.ranges() {
+        [range] => (range.lower == lower) & (range.upper == upper),
+        _ => false,
+    }
+}
+
+// Whether a record acknowledges a number of a sequence.
+fn is_acked(record: Option<&Record>, of: u32, number: u64) -> bool {
     match record {
-        Some(Record::Acked { seq, numbers }) => match numbers.ranges() {
-            [range] => (*seq == of) & (range.lower == 1) & (range.upper == upper),
-            _ => false,
-        },
+        Some(Record::Acked { seq, numbers }) => (*seq == of) & are(numbers, number, number),
+        _ => false,
+    }
+}
+
+// Whether a record says that the first messages of a sequence that sends are gone.
+fn is_dropped(record: Option<&Record>, of: u32, last: u64) -> bool {
+    match record {
+        Some(Record::Dropped { seq, upto }) => (*seq == of) & (*upto == last),
+        _ => false,
+    }
+}
+
+// Whether a record says that the first messages of the one that receives are gone.
+fn is_purged(record: Option<&Record>, upto: u64) -> bool {
+    match record {
+        Some(Record::Purged { seq, numbers }) => (*seq == 3) & are(numbers, 1, upto),
         _ => false,
     }
 }
@@ -134,12 +156,13 @@ fn is_accepted(record: Option<&Record>, bytes: &[u8]) -> bool {
     }
 }
 
-// Whether of five acknowledgements the last of each sequence is left, with all numbers, behind the other records.
+// Whether the payloads are left out that are settled and that was consumed, and of the acknowledgements all but the
+// number behind the gap.
 fn is_short(records: &Records) -> bool {
-    let acks = is_acked(records.get(13), 1, 3) & is_acked(records.get(14), 2, 2);
-    let came = is_received(records.get(11), 2, b"two") & is_received(records.get(12), 1, b"one");
-    let sent = is_accepted(records.get(8), b"c") & is_accepted(records.get(9), b"d");
-    (records.len() == 15) & acks & came & sent
+    let gone = is_dropped(records.get(6), 1, 1) & is_dropped(records.get(9), 2, 2);
+    let sent = is_accepted(records.get(7), b"b") & is_accepted(records.get(8), b"c");
+    let came = is_purged(records.get(10), 1) & is_received(records.get(11), 2, b"two");
+    (records.len() == 13) & gone & sent & came & is_acked(records.get(12), 1, 3)
 }
 
 // Of a sequence that sends: how many messages it has, and how many wait.
@@ -152,11 +175,12 @@ fn sent(tables: &Tables, seq: u32) -> Option<(u64, u64, OutPhase)> {
     ))
 }
 
-// Of the one that receives: how many messages it has released, and the second of them.
+// Of the one that receives: how many messages it has released, the second of them, and how many were consumed.
 fn has_come(tables: &Tables) -> bool {
     match tables.incoming(3) {
         Some(incoming) => match incoming.inbox_item(2) {
             Some(payload) => (incoming.inbox_len() == 2)
+                & (incoming.consumed() == 1)
                 & (payload.bytes.as_slice() == b"two".as_slice()),
             None => false,
         },
@@ -164,11 +188,23 @@ fn has_come(tables: &Tables) -> bool {
     }
 }
 
+// Whether the payloads are there that a snapshot leaves out.
+fn has_first(tables: &Tables) -> bool {
+    let first = match tables.outgoing(1) {
+        Some(outgoing) => outgoing.accepted(1).is_some(),
+        None => false,
+    };
+    match tables.incoming(3) {
+        Some(incoming) => first & incoming.inbox_item(1).is_some(),
+        None => false,
+    }
+}
+
 // What the tables answer of all that.
 fn says_all(tables: &Tables) -> bool {
-    let first = sent(tables, 1) == Some((3, 0, OutPhase::Open));
+    let first = sent(tables, 1) == Some((3, 1, OutPhase::Open));
     let second = sent(tables, 2) == Some((2, 0, OutPhase::Open));
-    let counts = (tables.len() == 3) & (tables.counter() == 3) & (tables.unacked() == 0);
+    let counts = (tables.len() == 3) & (tables.counter() == 3) & (tables.unacked() == 1);
     let found = tables.find_outgoing(b"urn:t") == Some(2);
     first & second & counts & found & has_come(tables)
 }
@@ -179,9 +215,9 @@ fn is_the_same_in_short(alloc: Global, tables: &mut Tables) -> Result<bool, Fail
     learn(alloc, tables)?;
     let mut are_so = says_all(tables);
     are_so &= is_short(&tables.snapshot()?);
-    are_so &= is_short(&tables.snapshot()?) & says_all(tables);
+    are_so &= is_short(&tables.snapshot()?) & says_all(tables) & has_first(tables);
     tables.compact();
-    are_so &= says_all(tables);
+    are_so &= says_all(tables) & !has_first(tables);
     are_so &= is_short(&tables.snapshot()?);
     Ok(are_so)
 }
@@ -200,10 +236,11 @@ fn goes_on(alloc: Global, tables: &mut Tables) -> Result<bool, Fail> {
     tables.snapshot()?;
     tables.compact();
     tables.apply(accepted(alloc, 1, "f")?)?;
-    tables.apply(acked(alloc, 1, 4)?)?;
+    tables.apply(acked(alloc, 1, 2)?)?;
     let records = tables.snapshot()?;
-    let is_last = is_acked(records.get(15), 1, 4) & is_accepted(records.get(14), b"f");
-    Ok(is_last & (records.len() == 16) & (tables.unacked() == 0))
+    let is_first = is_dropped(records.get(6), 1, 3) & is_dropped(records.get(7), 2, 2);
+    let is_last = is_received(records.get(9), 2, b"two") & is_accepted(records.get(10), b"f");
+    Ok(is_first & is_last & (records.len() == 11) & (tables.unacked() == 1))
 }
 
 #[test]

@@ -6,9 +6,8 @@ use Rattle.std.proofs.lemmas.Bool.Decides.{nat_tests}
 use Rattle.ack_ranges.specs.declared.range.Range.{Range}
 use Rattle.ack_ranges.specs.Ranges.{IsCanonical, IsFront, RisesFrom, in_ranges}
 use Rattle.rm_base.specs.NumberSet.{has_number}
-use Rattle.rm_base.specs.declared.message.Payload.{Payload}
 use Rattle.rm_destination.specs.Laws.{FrontIsReached}
-use Rattle.rm_destination.specs.Messages.{front_of, numbers_of}
+use Rattle.rm_destination.specs.Messages.{Item, front_of, numbers_of}
 
 none_before : (first n : ℕ) (rs : List Range) → RisesFrom first rs → n < first → in_ranges rs n ≡ false
 none_before first n [] h lt = refl
@@ -17,7 +16,7 @@ none_before first n (r ∷ rs) h lt =
     let low : first ≤ r.lower = h.0 in
     grind (arith, nat_tests)
 
-pub one-front : (rs : List Range) (came : List (ℕ × Payload)) (m : ℕ) → IsCanonical rs
+pub one-front : (rs : List Range) (came : List (ℕ × Item)) (m : ℕ) → IsCanonical rs
     → ((n : ℕ) → in_ranges rs n ≡ has_number (numbers_of came) n) → IsFront rs m → FrontIsReached
     → m ≡ front_of came
 one-front rs came m canonical same front reached =

@@ -2,7 +2,9 @@
 use Rattle.std.proofs.Common.{◌≡◌, ℕ, ◌+◌, ◌==◌, Bool, true, false, cond, List, [], ◌∷◌, ◌++◌, length}
 use Rattle.std.proofs.Common.{refl, sym, ap, ◌∙◌, arith, Some}
 use Rattle.std.specs.Prelude.{◌||◌, not}
-use Rattle.std.specs.List.{flat_map}
+use Rattle.std.specs.List.{flat_map, list_all}
+use Rattle.std.proofs.lemmas.Bool.{and_parts, false≢true}
+use Rattle.node_tables.specs.Room.{has_room}
 use Rattle.std.specs.Option.{option_or}
 use Rattle.std.specs.Str.{bytes_eq}
 use Rattle.std.proofs.Math.Bool.{or_assoc}
@@ -12,16 +14,17 @@ use Rattle.ack_ranges.specs.declared.range.Range.{Range}
 use Rattle.ack_ranges.specs.Changes.{with_range, united}
 use Rattle.rm_base.specs.NumberSet.{has_number}
 use Rattle.rm_base.specs.declared.message.Payload.{Payload}
-use Rattle.rm_destination.specs.Messages.{ranges_onto}
-use Rattle.record_batch.specs.Fact.{Fact}
+use Rattle.rm_destination.specs.ItemLemmas.{numbers_of-both, numbers_of-there}
+use Rattle.rm_destination.specs.Messages.{items_of, numbers_in, ranges_onto}
+use Rattle.record_batch.specs.Fact.{Fact, Dropped, Purged}
 use Rattle.rm_destination.specs.Messages.{is_empty, numbers_of}
-use Rattle.sequence_table.specs.Words.{Text, at_seq}
+use Rattle.sequence_table.specs.Words.{Text, at_seq, last_or}
 use Rattle.sequence_table.specs.Makers.{makers, makers_of, counter, draws_of}
 use Rattle.sequence_table.specs.Makers.{created, created_of, created_from, seq_in}
-use Rattle.sequence_table.specs.Sources.{accepted, accepted_of, acked, acked_of}
+use Rattle.sequence_table.specs.Sources.{accepted, accepted_count, accepted_of, acked, acked_of, dropped, dropped_of}
 use Rattle.rm_destination.specs.Messages.{any_true}
-use Rattle.sequence_table.specs.Destinations.{close_of, closes, has_end, held, is_stopped, received}
-use Rattle.sequence_table.specs.Destinations.{received_of}
+use Rattle.sequence_table.specs.Destinations.{close_of, closes, has_end, held, is_stopped, items, purged, purged_of}
+use Rattle.sequence_table.specs.Destinations.{received, received_of}
 use Rattle.sequence_table.specs.Find.{find_outgoing}
 use Rattle.sequence_table.specs.GatherLemmas.{at_seq-append, united-append}
 
@@ -66,28 +69,69 @@ seq_in-append (x ∷ xs) ys q =
       | false ↦ rest
     ]
 
-pub accepted-both : (r d : List Fact) (s : ℕ)
-    → length (accepted (r ++ d) s) ≡ length (accepted r s) + length (accepted d s)
-accepted-both r d s =
-    ap length (flat_map-append (accepted_of s) r d) ∙ length-append (accepted r s) (accepted d s)
+-- records for which room can be made say of no message that it is gone
+live_each : {A : Type 0} (g : Fact → List A) → ((f : Fact) → has_room f ≡ true → g f ≡ []) → (d : List Fact)
+    → list_all has_room d ≡ true → flat_map g d ≡ []
+live_each g none [] live = refl
+live_each g none (f ∷ d) live =
+    let parts = and_parts (has_room f) (list_all has_room d) live in
+    ap (λ xs. xs ++ flat_map g d) (none f parts.0) ∙ live_each g none d parts.1
+
+not_dropped : (s : ℕ) (f : Fact) → has_room f ≡ true → dropped_of s f ≡ []
+not_dropped s (Dropped seq upto) live = absurd (false≢true live)
+not_dropped s f live = refl
+
+not_purged : (s : ℕ) (f : Fact) → has_room f ≡ true → purged_of s f ≡ []
+not_purged s (Purged seq ranges) live = absurd (false≢true live)
+not_purged s f live = refl
+
+dropped-first : (r d : List Fact) (s : ℕ) → list_all has_room d ≡ true → dropped (r ++ d) s ≡ dropped r s
+dropped-first r d s live =
+    ap (λ ds. last_or 0 ds) (flat_map-append (dropped_of s) r d
+    ∙ ap (λ ds. flat_map (dropped_of s) r ++ ds) (live_each (dropped_of s) (not_dropped s) d live)
+    ∙ append-nil (flat_map (dropped_of s) r))
+
+purged-first : (r d : List Fact) (s : ℕ) → list_all has_room d ≡ true → purged (r ++ d) s ≡ purged r s
+purged-first r d s live =
+    flat_map-append (purged_of s) r d
+    ∙ ap (λ ps. purged r s ++ ps) (live_each (purged_of s) (not_purged s) d live)
+    ∙ append-nil (purged r s)
+
+pub accepted-both : (r d : List Fact) (s : ℕ) → list_all has_room d ≡ true
+    → accepted_count (r ++ d) s ≡ accepted_count r s + length (accepted d s)
+accepted-both r d s live =
+    omega (
+      arith,
+      dropped-first r d s live,
+      ap length (flat_map-append (accepted_of s) r d),
+      length-append (accepted r s) (accepted d s),
+    )
 
 pub acked-both : (r d : List Fact) (s : ℕ)
     → united [] (acked (r ++ d) s) ≡ united (united [] (acked r s)) (acked d s)
 acked-both r d s = ap (united []) (flat_map-append (acked_of s) r d) ∙ united-append [] (acked r s) (acked d s)
 
-pub held-both : (r d : List Fact) (s : ℕ) → held (r ++ d) s ≡ held r s ++ held d s
-held-both r d s =
-    ap numbers_of (flat_map-append (received_of s) r d)
-    ∙ map-append (λ (m : ℕ × Payload). m.0) (received r s) (received d s)
+pub held-both : (r d : List Fact) (s : ℕ) → list_all has_room d ≡ true
+    → held (r ++ d) s ≡ held r s ++ numbers_of (received d s)
+held-both r d s live =
+    numbers_of-both (numbers_in (purged (r ++ d) s)) (received (r ++ d) s)
+    ∙ ap (λ ps. numbers_in ps ++ numbers_of (received (r ++ d) s)) (purged-first r d s live)
+    ∙ ap (λ ms. numbers_in (purged r s) ++ numbers_of ms) (flat_map-append (received_of s) r d)
+    ∙ ap (λ ns. numbers_in (purged r s) ++ ns)
+    (map-append (λ (m : ℕ × Payload). m.0) (received r s) (received d s))
+    ∙ sym (append_assoc (numbers_in (purged r s)) (numbers_of (received r s)) (numbers_of (received d s)))
+    ∙ ap (λ ns. ns ++ numbers_of (received d s)) (sym (numbers_of-both (numbers_in (purged r s)) (received r s)))
 
 pub has_number-append : (xs ys : List ℕ) (n : ℕ) → has_number (xs ++ ys) n ≡ (has_number xs n || has_number ys n)
 has_number-append [] ys n = refl
 has_number-append (x ∷ xs) ys n =
     ap (λ b. (x == n) || b) (has_number-append xs ys n) ∙ sym (or_assoc (x == n) (has_number xs n) (has_number ys n))
 
-pub has-both : (r d : List Fact) (s n : ℕ)
-    → has_number (held (r ++ d) s) n ≡ (has_number (held r s) n || has_number (held d s) n)
-has-both r d s n = ap (λ ns. has_number ns n) (held-both r d s) ∙ has_number-append (held r s) (held d s) n
+pub has-both : (r d : List Fact) (s n : ℕ) → list_all has_room d ≡ true
+    → has_number (held (r ++ d) s) n ≡ (has_number (held r s) n || has_number (numbers_of (received d s)) n)
+has-both r d s n live =
+    ap (λ ns. has_number ns n) (held-both r d s live)
+    ∙ has_number-append (held r s) (numbers_of (received d s)) n
 
 pub ranges_onto-append : (rs : List Range) (xs ys : List ℕ)
     → ranges_onto rs (xs ++ ys) ≡ ranges_onto (ranges_onto rs xs) ys
@@ -115,6 +159,10 @@ pub outgoing-both : (r d : List Fact) (q : Text)
 outgoing-both r d q =
     ap (λ cs. seq_in cs q) (created-both r d) ∙ seq_in-append (created r) (created_from (length (makers r)) d) q
 
-pub received-first : (r d : List Fact) (s : ℕ) → received d s ≡ [] → received (r ++ d) s ≡ received r s
-received-first r d s none =
-    flat_map-append (received_of s) r d ∙ ap (λ ms. received r s ++ ms) none ∙ append-nil (received r s)
+-- where no message is ahead, all that was received is the same
+pub items-first : (r d : List Fact) (s : ℕ) → list_all has_room d ≡ true → received d s ≡ []
+    → items (r ++ d) s ≡ items r s
+items-first r d s live none =
+    ap (λ ps. items_of ps (received (r ++ d) s)) (purged-first r d s live)
+    ∙ ap (λ ms. items_of (purged r s) ms) (flat_map-append (received_of s) r d
+    ∙ ap (λ ms. received r s ++ ms) none ∙ append-nil (received r s))

@@ -12,20 +12,22 @@ use Rattle.rm_destination.specs.Incoming.{Receiving}
 use Rattle.rm_source.specs.declared.phase.OutPhase.TheVariants as out
 use Rattle.record_batch.specs.Fact.{Fact, Made, Creating, Created, Granted, Accepted, Acked, Received}
 use Rattle.record_batch.specs.Fact.{Closing}
-use Rattle.record_batch.specs.Fact.{ClosedOut, Closed, Ending, EndedOut, Ended, Failed}
-use Rattle.rm_destination.specs.Messages.{numbers_of}
+use Rattle.record_batch.specs.Fact.{ClosedOut, Closed, Ending, EndedOut, Ended, Failed, Consumed, Dropped, Purged}
+use Rattle.rm_destination.specs.Messages.{items_of, numbers_of}
 use Rattle.sequence_table.specs.Words.{Text, at_seq, first_or, last_or}
 use Rattle.sequence_table.specs.Makers.{Maker, Outgoing, Offered, Incoming, Taken, makers, makers_of, maker, counter}
 use Rattle.sequence_table.specs.Makers.{created_of, created_from, ident_in}
-use Rattle.sequence_table.specs.Sources.{accepted, accepted_of, acked, acked_of, first_phase, mark_of, out_ident}
-use Rattle.sequence_table.specs.Sources.{phase}
-use Rattle.sequence_table.specs.Destinations.{close_of, closes, has_end, held, is_stopped, received, received_of}
+use Rattle.sequence_table.specs.Sources.{accepted_count, accepted_of, acked, acked_of, dropped_of, first_phase, mark_of}
+use Rattle.sequence_table.specs.Sources.{out_ident, phase}
+use Rattle.sequence_table.specs.Destinations.{close_of, closes, has_end, is_stopped, items, purged_of, received}
+use Rattle.sequence_table.specs.Destinations.{received_of}
 use Rattle.sequence_table.specs.Find.{accept_of, accepted_by}
 use Rattle.sequence_table.specs.Fits.{fits, all_fit, follows, follows_at, is_outgoing_side, is_incoming_side, is_up_to}
 use Rattle.sequence_table.specs.Told.{names}
 use Rattle.sequence_table.specs.GatherLemmas.{at_seq-append, ident_in-append}
 use Rattle.sequence_table.specs.NameLemmas.{names-within, elsewhere_accepted, elsewhere_acked, elsewhere_received}
-use Rattle.sequence_table.specs.NameLemmas.{elsewhere_mark, elsewhere_close, elsewhere_accept}
+use Rattle.sequence_table.specs.NameLemmas.{elsewhere_mark, elsewhere_close, elsewhere_accept, elsewhere_dropped}
+use Rattle.sequence_table.specs.NameLemmas.{elsewhere_purged}
 use Rattle.sequence_table.specs.PhaseLemmas.{created-creating, creating-bare, out_ident-more}
 use Rattle.node_tables.specs.Reads.{incoming_in, incoming_of, outgoing_in, outgoing_of}
 use Rattle.tables_ahead.specs.Known.{AreNumbers}
@@ -45,6 +47,9 @@ suits o (Ending seq ticket) = is_outgoing_side o
 suits o (EndedOut seq) = is_outgoing_side o
 suits o (Ended seq cause last) = is_incoming_side o
 suits o (Failed seq fault) = is_outgoing_side o
+suits o (Consumed seq upto) = is_incoming_side o
+suits o (Dropped seq upto) = is_outgoing_side o
+suits o (Purged seq ranges) = is_incoming_side o
 suits o _ = true
 
 -- the sequence that a record names is on the record's side
@@ -63,9 +68,9 @@ on_side : (r : List Fact) (f : Fact) → fits r f ≡ true → OnSide r f
 on_side r (Created seq ident accept) h = follows_side r seq (Created seq ident accept) h
 on_side r (Accepted seq payload) h =
     follows_side r seq (Accepted seq payload)
-    (and_parts (follows_at r seq (Accepted seq payload)) (nat_lt (length (accepted r seq)) 9223372036854775807) h).0
+    (and_parts (follows_at r seq (Accepted seq payload)) (nat_lt (accepted_count r seq) 9223372036854775807) h).0
 on_side r (Acked seq ranges) h =
-    (and_parts (is_outgoing_side (maker r seq)) (list_all (is_up_to (length (accepted r seq))) ranges) h).0
+    (and_parts (is_outgoing_side (maker r seq)) (list_all (is_up_to (accepted_count r seq)) ranges) h).0
 on_side r (Received seq n payload) h = (and_parts (is_incoming_side (maker r seq)) _ h).0
 on_side r (Closing seq ticket) h =
     follows_side r seq (Closing seq ticket)
@@ -78,6 +83,10 @@ on_side r (Ending seq ticket) h =
 on_side r (EndedOut seq) h = follows_side r seq (EndedOut seq) h
 on_side r (Ended seq cause last) h = (and_parts (is_incoming_side (maker r seq)) (not (has_end r seq)) h).0
 on_side r (Failed seq fault) h = follows_side r seq (Failed seq fault) h
+on_side r (Consumed seq upto) h = (and_parts (is_incoming_side (maker r seq)) _ h).0
+on_side r (Dropped seq upto) h =
+    follows_side r seq (Dropped seq upto) (and_parts (follows_at r seq (Dropped seq upto)) _ h).0
+on_side r (Purged seq ranges) h = (and_parts (is_incoming_side (maker r seq)) _ h).0
 on_side r (Made node address) h = refl
 on_side r (Creating ticket to via lapse offer) h = refl
 on_side r (Granted drawn message_id acks_to behaviour deadline lapse offer) h = refl
@@ -118,7 +127,21 @@ not_acked : (r : List Fact) (s : ℕ) (f : Fact) → is_outgoing_side (maker r s
     → acked_of s f ≡ []
 not_acked r s (Acked seq ranges) g h =
     elsewhere_acked (Acked seq ranges) s (apart is_outgoing_side r seq s h g)
+not_acked r s (Dropped seq upto) g h =
+    elsewhere_acked (Dropped seq upto) s (apart is_outgoing_side r seq s h g)
 not_acked r s _ g h = refl
+
+not_dropped : (r : List Fact) (s : ℕ) (f : Fact) → is_outgoing_side (maker r s) ≡ false → OnSide r f
+    → dropped_of s f ≡ []
+not_dropped r s (Dropped seq upto) g h =
+    elsewhere_dropped (Dropped seq upto) s (apart is_outgoing_side r seq s h g)
+not_dropped r s _ g h = refl
+
+not_purged : (r : List Fact) (s : ℕ) (f : Fact) → is_incoming_side (maker r s) ≡ false → OnSide r f
+    → purged_of s f ≡ []
+not_purged r s (Purged seq ranges) g h =
+    elsewhere_purged (Purged seq ranges) s (apart is_incoming_side r seq s h g)
+not_purged r s _ g h = refl
 
 not_marked : (r : List Fact) (s : ℕ) (f : Fact) → is_outgoing_side (maker r s) ≡ false → OnSide r f
     → at_seq s (mark_of f) ≡ []
@@ -178,20 +201,24 @@ none_named done (f ∷ d) s g all =
 
 -- of a sequence that doesn't send
 pub record DoesNotSend (r : List Fact) (s : ℕ) : Type 0 where
-  pub accepted_ : accepted r s ≡ []
+  pub count : accepted_count r s ≡ 0
   pub acked_ : acked r s ≡ []
   pub phase_ : phase r s ≡ out.Creating
 
 -- of a sequence that doesn't receive
 pub record DoesNotReceive (r : List Fact) (s : ℕ) : Type 0 where
-  pub received_ : received r s ≡ []
+  pub items_ : items r s ≡ []
   pub closes_ : closes r s ≡ []
 
 does_not_send : (r : List Fact) (s : ℕ) → all_fit [] r ≡ true → is_outgoing_side (maker r s) ≡ false → DoesNotSend r s
 does_not_send r s fit g =
     let all = all_on_side [] r fit in
     record {
-      accepted_ = no_more r (accepted_of s) (λ f h. not_accepted r s f g h) r all;
+      count = omega (
+        arith,
+        ap length (no_more r (accepted_of s) (λ f h. not_accepted r s f g h) r all),
+        ap (λ ds. last_or 0 ds) (no_more r (dropped_of s) (λ f h. not_dropped r s f g h) r all),
+      );
       acked_ = no_more r (acked_of s) (λ f h. not_acked r s f g h) r all;
       phase_ =
           ap (λ ps. last_or (first_phase (out_ident r s)) ps)
@@ -204,7 +231,9 @@ does_not_receive : (r : List Fact) (s : ℕ) → all_fit [] r ≡ true → is_in
 does_not_receive r s fit g =
     let all = all_on_side [] r fit in
     record {
-      received_ = no_more r (received_of s) (λ f h. not_received r s f g h) r all;
+      items_ =
+          ap (λ ps. items_of ps (received r s)) (no_more r (purged_of s) (λ f h. not_purged r s f g h) r all)
+          ∙ ap (λ ms. items_of [] ms) (no_more r (received_of s) (λ f h. not_received r s f g h) r all);
       closes_ = no_more_at r s close_of (λ f h. not_closed r s f g h) r all;
     }
 
@@ -313,12 +342,12 @@ numbers_both [] ys h g = g
 numbers_both (x ∷ xs) ys h g = (h.0, numbers_both xs ys h.1 g)
 
 -- what records that fit receive are message numbers
-pub numbers-fit : (r d : List Fact) (s : ℕ) → all_fit r d ≡ true → AreNumbers (held d s)
+pub numbers-fit : (r d : List Fact) (s : ℕ) → all_fit r d ≡ true → AreNumbers (numbers_of (received d s))
 numbers-fit r [] s fit = tt
 numbers-fit r (f ∷ d) s fit =
     let parts = and_parts (fits r f) (all_fit (r ++ f ∷ []) d) fit in
     subst AreNumbers (sym (map-append (λ (m : ℕ × Payload). m.0) (received_of s f) (received d s)))
-    (numbers_both (numbers_of (received_of s f)) (held d s) (number_of r f s parts.0)
+    (numbers_both (numbers_of (received_of s f)) (numbers_of (received d s)) (number_of r f s parts.0)
     (numbers-fit (r ++ f ∷ []) d s parts.1))
 
 receives_side : (r : List Fact) (s : ℕ) (o : Option Maker) (f : Receiving) → incoming_of r s o ≡ Some f

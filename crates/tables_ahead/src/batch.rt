@@ -3,7 +3,8 @@ ghost use Rattle.std.specs.Prelude.{◌≡◌, ◌+◌, ◌≤◌, length, map, 
 ghost use Rattle.std.specs.List.{flat_map};
 ghost use Rattle.std.specs.Option.{option_copied, option_map};
 ghost use Rattle.record_batch.specs.Fact.{fact_of};
-ghost use Rattle.sequence_table.specs.Destinations.{has_end, held, is_stopped};
+ghost use Rattle.rm_destination.specs.Messages.{numbers_of};
+ghost use Rattle.sequence_table.specs.Destinations.{has_end, is_stopped, received};
 ghost use Rattle.sequence_table.specs.Find.{accept_of};
 ghost use Rattle.sequence_table.specs.Makers.{counter, created_from, ident_in, makers, seq_in};
 ghost use Rattle.sequence_table.specs.Sources.{accepted, marks};
@@ -113,9 +114,9 @@ pub(crate) fn phase_in(batch: &[Record], seq: u32, phase: OutPhase) -> OutPhase
     last
 }
 
-/// Whether the batch receives a number for a sequence.
+/// Whether the batch receives a message with a number for a sequence.
 pub(crate) fn has_in(batch: &[Record], seq: u32, number: u64) -> bool
-    ensures { result ≡ has_number (held (map fact_of batch.now) seq) number }
+    ensures { result ≡ has_number (numbers_of (received (map fact_of batch.now) seq)) number }
 {
     for given in batch {
         if number_by(given, seq) == Some(number) {

@@ -12,7 +12,7 @@ ghost use Rattle.sequence_table.specs.Find.{is_creating, is_granted, is_incoming
 ghost use Rattle.sequence_table.specs.Fits.{all_fit};
 ghost use Rattle.sequence_table.specs.Idents.{IsIssuedFor};
 ghost use Rattle.sequence_table.specs.Makers.{counter, created_from, ident_in, maker, makers, number};
-ghost use Rattle.sequence_table.specs.Sources.{accepted, acked, out_ident, phase};
+ghost use Rattle.sequence_table.specs.Sources.{accepted_count, acked, out_ident, phase};
 ghost use Rattle.sequence_table.specs.Words.{Text};
 ghost use Rattle.node_tables.specs.Reads.{address_in, is_asking, maker_seen, passes};
 ghost use Rattle.tables_ahead.specs.Known.{all_records, find_ahead, may_go_ahead, opened};
@@ -241,9 +241,9 @@ impl<'a> Known<'a> {
         }
     }
 
-    /// How many payloads were accepted for a sequence.
+    /// How many messages were accepted for a sequence, with those that are gone.
     pub fn accepted_len(&self, seq: u32) -> u64
-        ensures { result ≡ length (accepted (all_records self.now) seq) }
+        ensures { result ≡ accepted_count (all_records self.now) seq }
     {
         let batch = self.batch.as_slice();
         sides::accepted_len(self.tables, seq) + accepted_in(batch, seq)

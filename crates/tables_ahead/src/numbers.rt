@@ -1,10 +1,12 @@
 //! Sets of message numbers with those that a batch adds.
-ghost use Rattle.std.specs.Prelude.{◌≡◌, [], map, false, OnOk};
+ghost use Rattle.std.specs.Prelude.{◌≡◌, [], map, true, false, OnOk};
+ghost use Rattle.std.specs.List.{list_all};
 ghost use Rattle.ack_ranges.specs.Changes.{covers, covers_all, united};
 ghost use Rattle.record_batch.specs.Fact.{fact_of};
-ghost use Rattle.rm_destination.specs.Messages.{ranges_onto};
-ghost use Rattle.sequence_table.specs.Destinations.{held};
+ghost use Rattle.rm_destination.specs.Messages.{numbers_of, ranges_onto};
+ghost use Rattle.sequence_table.specs.Destinations.{received};
 ghost use Rattle.sequence_table.specs.Sources.{acked, acked_of};
+ghost use Rattle.node_tables.specs.Room.{has_room};
 ghost use Rattle.tables_ahead.specs.Known.{AreNumbers};
 
 use crate::record::{acked_by, number_by};
@@ -14,6 +16,7 @@ use rm_base::Memory;
 
 /// Whether the batch acknowledges numbers of a sequence.
 pub(crate) fn acks_in(batch: &[Record], seq: u32) -> bool
+    requires { list_all has_room (map fact_of batch.now) ≡ true }
     ensures { result ≡ false → acked (map fact_of batch.now) seq ≡ [] }
 {
     for given in batch {
@@ -26,6 +29,7 @@ pub(crate) fn acks_in(batch: &[Record], seq: u32) -> bool
 
 /// Adds the numbers of a sequence that the batch acknowledges.
 pub(crate) fn unite_acked(numbers: &mut RangeSet, batch: &[Record], seq: u32) -> Result<(), Memory>
+    requires { list_all has_room (map fact_of batch.now) ≡ true }
     ensures { OnOk result (numbers.new.ranges ≡ united numbers.old.ranges (acked (map fact_of batch.now) seq)) }
 {
     for given in batch {
@@ -36,6 +40,7 @@ pub(crate) fn unite_acked(numbers: &mut RangeSet, batch: &[Record], seq: u32) ->
 
 /// Adds the numbers of a sequence that a record acknowledges.
 fn add_acked(numbers: &mut RangeSet, given: &Record, seq: u32) -> Result<(), Memory>
+    requires { has_room (fact_of given.now) ≡ true }
     ensures { OnOk result (numbers.new.ranges ≡ united numbers.old.ranges (acked_of seq (fact_of given.now))) }
 {
     match acked_by(given, seq) {
@@ -53,8 +58,9 @@ pub(crate) fn insert_received(
     batch: &[Record],
     seq: u32,
 ) -> Result<(), Memory>
-    requires { AreNumbers (held (map fact_of batch.now) seq) }
-    ensures { OnOk result (numbers.new.ranges ≡ ranges_onto numbers.old.ranges (held (map fact_of batch.now) seq)) }
+    requires { AreNumbers (numbers_of (received (map fact_of batch.now) seq)) }
+    ensures { OnOk result (numbers.new.ranges
+        ≡ ranges_onto numbers.old.ranges (numbers_of (received (map fact_of batch.now) seq))) }
 {
     for given in batch {
         if let Some(number) = number_by(given, seq) {

@@ -1,5 +1,5 @@
 //! What one record says.
-ghost use Rattle.std.specs.Prelude.{◌≡◌, ◌+◌, ◌≤◌, length, not, slice_get};
+ghost use Rattle.std.specs.Prelude.{◌≡◌, ◌+◌, ◌≤◌, true, length, not, slice_get};
 ghost use Rattle.std.specs.Option.{option_copied, option_map};
 ghost use Rattle.record_batch.specs.Fact.{fact_of};
 ghost use Rattle.rm_destination.specs.Messages.{any_true};
@@ -9,6 +9,7 @@ ghost use Rattle.sequence_table.specs.Makers.{created_of, draws_of, ident_in, ma
 ghost use Rattle.sequence_table.specs.Sources.{accepted_of, acked_of, mark_of};
 ghost use Rattle.rm_destination.specs.Messages.{is_empty, numbers_of};
 ghost use Rattle.sequence_table.specs.Words.{at_seq, last_or};
+ghost use Rattle.node_tables.specs.Room.{has_room};
 ghost use Rattle.tables_ahead.specs.Known.{ranges_in};
 
 use ack_ranges::RangeSet;
@@ -118,6 +119,7 @@ pub(crate) fn accepted_by(given: &Record, seq: u32) -> u64
 
 /// The numbers of a sequence that a record acknowledges.
 pub(crate) fn acked_by(given: &Record, seq: u32) -> Option<&RangeSet>
+    requires { has_room (fact_of given.now) ≡ true }
     ensures { ranges_in (option_copied result) ≡ acked_of seq (fact_of given.now) }
 {
     match given {

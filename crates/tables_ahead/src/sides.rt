@@ -1,12 +1,12 @@
 //! What the tables say of a sequence on one side. Of one on the other side, or that isn't there, they say nothing.
-ghost use Rattle.std.specs.Prelude.{◌≡◌, ◌<◌, [], true, length, IfOk};
+ghost use Rattle.std.specs.Prelude.{◌≡◌, ◌≤◌, [], true, IfOk};
 ghost use Rattle.ack_ranges.specs.Changes.{covers_all, united};
 ghost use Rattle.rm_base.specs.Message.{max_number};
 ghost use Rattle.rm_base.specs.NumberSet.{has_number};
 ghost use Rattle.rm_destination.specs.Messages.{ranges_onto};
 ghost use Rattle.sequence_table.specs.Destinations.{front, has_end, held, is_stopped};
 ghost use Rattle.sequence_table.specs.Fits.{all_fit};
-ghost use Rattle.sequence_table.specs.Sources.{accepted, acked, phase};
+ghost use Rattle.sequence_table.specs.Sources.{accepted_count, acked, phase};
 
 use crate::numbers::has_all;
 use ack_ranges::{Range, RangeSet};
@@ -18,11 +18,11 @@ use rm_destination::laws::front_is_reached;
 use rm_source::OutPhase;
 use std::alloc::Global;
 
-/// How many payloads were accepted.
+/// How many messages were accepted, with those that are gone.
 pub(crate) fn accepted_len(tables: &Tables, seq: u32) -> u64
     requires { all_fit [] tables.now.records ≡ true }
-    ensures count { result ≡ length (accepted tables.now.records seq) }
-    ensures few { result < max_number }
+    ensures count { result ≡ accepted_count tables.now.records seq }
+    ensures few { result ≤ max_number }
 {
     an_outgoing_sequence_is_as_recorded();
     match tables.outgoing(seq) {

@@ -1,10 +1,14 @@
-use Rattle.std.proofs.Common.{◌≡◌, drop, map}
+use Rattle.std.proofs.Common.{◌≡◌, drop, map, true}
+use Rattle.std.specs.List.{list_all}
 use Rattle.ack_ranges.specs.Changes.{united}
 use Rattle.record_batch.specs.Fact.{fact_of}
 use Rattle.sequence_table.specs.Sources.{acked}
+use Rattle.node_tables.specs.Room.{has_room}
 use Rattle.tables_ahead.proofs.numbers.unite_acked.Given as goal
 
 abbrev pub invariant-loop-given : goal.invariant-loop-given
-invariant-loop-given l =
-    united l.numbers.ranges (acked (map fact_of (drop l.given-index l.batch)) l.seq)
-    ≡ united l.fn.numbers.ranges (acked (map fact_of l.batch) l.seq)
+invariant-loop-given l = record {
+  live : list_all has_room (map fact_of (drop l.given-index l.batch)) ≡ true;
+  told : united l.numbers.ranges (acked (map fact_of (drop l.given-index l.batch)) l.seq)
+      ≡ united l.fn.numbers.ranges (acked (map fact_of l.batch) l.seq);
+}

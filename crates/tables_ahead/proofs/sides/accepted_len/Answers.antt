@@ -1,5 +1,5 @@
-use Rattle.std.proofs.Common.{length, sym, ap, ◌∙◌}
-use Rattle.rm_source.specs.Outgoing.{Sending}
+use Rattle.std.proofs.Common.{sym, ap, ◌∙◌}
+use Rattle.rm_source.specs.Outgoing.{Sending, accepted_count}
 use Rattle.tables_ahead.proofs.SideLemmas.{not-sending}
 use Rattle.tables_ahead.proofs.sides.accepted_len.Goals as goal
 
@@ -7,8 +7,8 @@ pub returns-in-Some-clause-count : goal.returns-in-Some-clause-count
 returns-in-Some-clause-count c =
     let law = c.an_outgoing_sequence_is_as_recorded.ensures in
     c.accepted_len.ensures.count
-    ∙ ap (λ (t : Sending). length t.accepted) (law c.args.tables.now.records c.args.seq _ (sym c.in-Some.ensures))
+    ∙ ap (λ (t : Sending). accepted_count t) (law c.args.tables.now.records c.args.seq _ (sym c.in-Some.ensures))
 
 pub returns-in-None-clause-count : goal.returns-in-None-clause-count
 returns-in-None-clause-count c =
-    sym (ap length (not-sending c.args.tables.now.records c.args.seq c.requires (sym c.in-None.ensures)).accepted_)
+    sym (not-sending c.args.tables.now.records c.args.seq c.requires (sym c.in-None.ensures)).count

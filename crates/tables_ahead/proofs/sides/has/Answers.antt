@@ -12,5 +12,5 @@ returns-in-Some c =
 
 pub returns-in-None : goal.returns-in-None
 returns-in-None c =
-    let none = (not-receiving c.args.tables.now.records c.args.seq c.requires (sym c.in-None.ensures)).received_ in
+    let none = (not-receiving c.args.tables.now.records c.args.seq c.requires (sym c.in-None.ensures)).items_ in
     sym (ap (λ ms. has_number (numbers_of ms) c.args.number) none)

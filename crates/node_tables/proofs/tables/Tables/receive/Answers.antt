@@ -32,10 +32,12 @@ invariant_of-self-2 c =
     let f = Received s c.args.number c.args.payload in
     let fit = subst (λ (t : Tabled). fits t.records f ≡ true) (sym c.self.view_is) c.requires in
     let noted = c.push_reserved.ensures.items
-    ∙ ap (λ (ns : List Note). ns ++ note.Received (s - 1) c.args.number ∷ []) c.reserve.ensures.items in
+    ∙ ap (λ (ns : List Note). ns ++ note.Received (s - 1) c.args.number c.in_ok-is_first.is_first ∷ [])
+    c.reserve.ensures.items in
     record {
-      holds = (receives _ s c.args.number c.args.payload _ _ c.self.invariant.holds fit
-          c.in_ok-receive_at.ensures.ok noted).0;
+      holds = (receives _ s c.args.number c.args.payload c.in_ok-is_first.is_first _ _ c.self.invariant.holds fit
+          c.in_ok-is_first.ensures.first
+          c.in_ok-is_first.ensures.ok noted).0;
       places = record {
         kept_ = omega arith;
         rows_ = omega arith;
@@ -53,15 +55,17 @@ returns-clause-ok c =
     let f = Received s c.args.number c.args.payload in
     let fit = subst (λ (t : Tabled). fits t.records f ≡ true) (sym c.self.view_is) c.requires in
     let noted = c.push_reserved.ensures.items
-    ∙ ap (λ (ns : List Note). ns ++ note.Received (s - 1) c.args.number ∷ []) c.reserve.ensures.items in
-    (receives _ s c.args.number c.args.payload _ _ c.self.invariant.holds fit
-    c.in_ok-receive_at.ensures.ok noted).1
+    ∙ ap (λ (ns : List Note). ns ++ note.Received (s - 1) c.args.number c.in_ok-is_first.is_first ∷ [])
+    c.reserve.ensures.items in
+    (receives _ s c.args.number c.args.payload c.in_ok-is_first.is_first _ _ c.self.invariant.holds fit
+    c.in_ok-is_first.ensures.first
+    c.in_ok-is_first.ensures.ok noted).1
     ∙ ap (λ (t : Tabled). t.records ++ f ∷ []) c.self.view_is
 
-pub invariant_of-self-in_err-receive_at : goal.invariant_of-self-in_err-receive_at
-invariant_of-self-in_err-receive_at c =
+pub invariant_of-self-in_err-is_first : goal.invariant_of-self-in_err-is_first
+invariant_of-self-in_err-is_first c =
     record {
-      holds = stays _ _ _ c.self.invariant.holds c.in_err-receive_at.ensures.err c.reserve.ensures.items;
+      holds = stays _ _ _ c.self.invariant.holds c.in_err-is_first.ensures.err c.reserve.ensures.items;
       places = record {
         kept_ = omega arith;
         rows_ = omega arith;
@@ -73,8 +77,8 @@ invariant_of-self-in_err-receive_at c =
       mark_ = tt;
     }
 
-pub returns-in_err-receive_at-clause-ready : goal.returns-in_err-receive_at-clause-ready
-returns-in_err-receive_at-clause-ready c more h =
+pub returns-in_err-is_first-clause-ready : goal.returns-in_err-is_first-clause-ready
+returns-in_err-is_first-clause-ready c more h =
     let s = c.args.seq in
     let f = Received s c.args.number c.args.payload in
     let fit = subst (λ (t : Tabled). fits t.records f ≡ true) (sym c.self.view_is) c.requires in
@@ -85,7 +89,7 @@ returns-in_err-receive_at-clause-ready c more h =
     let is : c.args.self.now.room ≡ room_with slots rows ahead = sym (ap (λ (t : Tabled). t.room) c.self.view_is) in
     let at : s ≡ s - 1 + 1 = omega (arith, taken.one) in
     let lt : s - 1 < length rows = omega (arith, taken.one, taken.within, length-map rows (λ (r : Seen). r.told)) in
-    absurd (false≢true (c.in_err-receive_at.ensures.ready
+    absurd (false≢true (c.in_err-is_first.ensures.ready
     (message-room c.args.self.now rows ahead slots s c.args.number c.args.payload more (s - 1) h is at lt
     (sym (takes-received (row_at (tolds rows) (s - 1)).side s c.args.number c.args.payload) ∙ taken.takes_))))
 
@@ -102,4 +106,4 @@ returns-clause-next c more h =
     let at : s ≡ s - 1 + 1 = omega (arith, taken.one) in
     let lt : s - 1 < length rows = omega (arith, taken.one, taken.within, length-map rows (λ (r : Seen). r.told)) in
     row-next c.args.self.now _ rows c.receive_at.new.rows.items ahead slots c.saturating_sub-self-inside.result f more
-    (s - 1) h is refl at lt (omega (arith, c.saturating_sub-self-inside.ensures)) c.in_ok-receive_at.ensures.room
+    (s - 1) h is refl at lt (omega (arith, c.saturating_sub-self-inside.ensures)) c.in_ok-is_first.ensures.room

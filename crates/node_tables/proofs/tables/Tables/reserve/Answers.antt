@@ -8,9 +8,10 @@ use Rattle.node_tables.proofs.CountLemmas.{all-timed}
 use Rattle.node_tables.proofs.tables.Tables.reserve.Goals as goal
 
 pub returns-clause-ok : goal.returns-clause-ok
-returns-clause-ok c fit =
+returns-clause-ok c fit live =
     let batch = map fact_of c.args.batch.now in
     record {
+      live = live;
       slots = omega (arith, length-map c.args.batch.now fact_of);
       ahead =
           c.claim_all.ensures.starts

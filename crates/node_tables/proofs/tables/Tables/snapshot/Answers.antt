@@ -1,17 +1,27 @@
-use Rattle.std.proofs.Common.{◌∙◌, map, refl, sym, ap, subst, arith}
+use Rattle.std.proofs.Common.{◌∙◌, length, map, refl, sym, ap, subst, arith}
+use Rattle.std.proofs.lemmas.List.{length-map}
+use Rattle.sequence_row.specs.Row.{Seen}
 use Rattle.record_batch.specs.Fact.{fact_of}
 use Rattle.node_tables.specs.Copies.{MayBeCopied}
 use Rattle.node_tables.specs.Kept.{tolds}
 use Rattle.node_tables.specs.Room.{AreBegun}
 use Rattle.node_tables.proofs.CopyLemmas.{may_be_copied}
-use Rattle.node_tables.proofs.MarkLemmas.{recorded, recorded_so, short_so}
+use Rattle.node_tables.proofs.CompactLemmas.{recorded, recorded_so, short_so}
+use Rattle.node_tables.proofs.CountLemmas.{rows-few}
 use Rattle.node_tables.proofs.TellLemmas.{stays}
 use Rattle.node_tables.proofs.tables.Tables.snapshot.Goals as goal
 
 pub shorter-requires : goal.shorter-requires
-shorter-requires c =
-    recorded_so _ _ _ _ _ _ (ap (λ l. map fact_of l) c.deref.ensures.value) (ap tolds c.deref-2.ensures.value)
-    c.deref-3.ensures.value (recorded _ c.self.invariant.holds)
+shorter-requires c = record {
+  few = omega (
+    arith,
+    ap length c.deref-2.ensures.value,
+    length-map c.self.inside.rows.items (λ (r : Seen). r.told),
+    rows-few _ c.self.invariant.holds,
+  );
+  recorded = recorded_so _ _ _ _ _ _ (ap (λ l. map fact_of l) c.deref.ensures.value)
+      (ap tolds c.deref-2.ensures.value) c.deref-3.ensures.value (recorded _ c.self.invariant.holds);
+}
 
 pub copies_of-requires-clause-rows : goal.copies_of-requires-clause-rows
 copies_of-requires-clause-rows c =

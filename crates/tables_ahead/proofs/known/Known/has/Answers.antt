@@ -1,7 +1,8 @@
 use Rattle.std.proofs.Common.{◌++◌, List, map, sym, ap, ◌∙◌}
 use Rattle.std.specs.Prelude.{◌||◌}
 use Rattle.rm_base.specs.NumberSet.{has_number}
-use Rattle.sequence_table.specs.Destinations.{held}
+use Rattle.rm_destination.specs.Messages.{numbers_of}
+use Rattle.sequence_table.specs.Destinations.{held, received}
 use Rattle.record_batch.specs.declared.record.Record.{Record}
 use Rattle.record_batch.specs.Fact.{fact_of}
 use Rattle.tables_ahead.specs.Known.{all_records, KnownRecords}
@@ -14,8 +15,8 @@ returns-then-has c =
     let d = map fact_of c.self.inside.batch.items in
     let s = c.args.seq in
     c.if-has.true
-    ∙ sym (has-both r d s c.args.number
-    ∙ ap (λ b. b || has_number (held d s) c.args.number) (sym c.has.ensures ∙ c.if-has.true))
+    ∙ sym (has-both r d s c.args.number c.self.invariant.live
+    ∙ ap (λ b. b || has_number (numbers_of (received d s)) c.args.number) (sym c.has.ensures ∙ c.if-has.true))
     ∙ ap (λ (k : KnownRecords). has_number (held (all_records k) s) c.args.number) c.self.view_is
 
 pub returns-else-has : goal.returns-else-has
@@ -24,7 +25,8 @@ returns-else-has c =
     let d = map fact_of c.self.inside.batch.items in
     let s = c.args.seq in
     c.has_in.ensures
-    ∙ ap (λ (xs : List Record). has_number (held (map fact_of xs) s) c.args.number) c.as_slice.ensures.value
-    ∙ sym (has-both r d s c.args.number
-    ∙ ap (λ b. b || has_number (held d s) c.args.number) (sym c.has.ensures ∙ c.if-has.false))
+    ∙ ap (λ (xs : List Record). has_number (numbers_of (received (map fact_of xs) s)) c.args.number)
+    c.as_slice.ensures.value
+    ∙ sym (has-both r d s c.args.number c.self.invariant.live
+    ∙ ap (λ b. b || has_number (numbers_of (received d s)) c.args.number) (sym c.has.ensures ∙ c.if-has.false))
     ∙ ap (λ (k : KnownRecords). has_number (held (all_records k) s) c.args.number) c.self.view_is

@@ -1,8 +1,8 @@
 use Rattle.std.proofs.Common.{◌≡◌, [], ◌++◌, List, map, true, sym, subst, ap, ◌∙◌}
-use Rattle.rm_destination.specs.Messages.{ranges_onto}
+use Rattle.rm_destination.specs.Messages.{numbers_of, ranges_onto}
 use Rattle.record_batch.specs.declared.record.Record.{Record}
 use Rattle.record_batch.specs.Fact.{fact_of}
-use Rattle.sequence_table.specs.Destinations.{held}
+use Rattle.sequence_table.specs.Destinations.{held, received}
 use Rattle.sequence_table.specs.Fits.{all_fit}
 use Rattle.tables_ahead.specs.Known.{all_records, KnownRecords, AreNumbers}
 use Rattle.tables_ahead.proofs.GatheredLemmas.{held-both, ranges_onto-append}
@@ -16,7 +16,7 @@ insert_received-requires c =
     let s = c.args.seq in
     let fit : all_fit r d ≡ true =
     subst (λ (k : KnownRecords). all_fit k.records k.delta ≡ true) (sym c.self.view_is) c.requires in
-    subst (λ (xs : List Record). AreNumbers (held (map fact_of xs) s)) (sym c.as_slice.ensures.value)
+    subst (λ (xs : List Record). AreNumbers (numbers_of (received (map fact_of xs) s))) (sym c.as_slice.ensures.value)
     (numbers-fit r d s fit)
 
 pub returns : goal.returns
@@ -25,8 +25,9 @@ returns c =
     let d = map fact_of c.self.inside.batch.items in
     let s = c.args.seq in
     c.in_ok-insert_received.ensures
-    ∙ ap (λ rs. ranges_onto rs (held (map fact_of c.as_slice.result.now) s)) c.in_ok-numbers.ensures
-    ∙ ap (λ (xs : List Record). ranges_onto (ranges_onto [] (held r s)) (held (map fact_of xs) s))
+    ∙ ap (λ rs. ranges_onto rs (numbers_of (received (map fact_of c.as_slice.result.now) s))) c.in_ok-numbers.ensures
+    ∙ ap (λ (xs : List Record). ranges_onto (ranges_onto [] (held r s)) (numbers_of (received (map fact_of xs) s)))
     c.as_slice.ensures.value
-    ∙ sym (ap (ranges_onto []) (held-both r d s) ∙ ranges_onto-append [] (held r s) (held d s))
+    ∙ sym (ap (ranges_onto []) (held-both r d s c.self.invariant.live)
+    ∙ ranges_onto-append [] (held r s) (numbers_of (received d s)))
     ∙ ap (λ (k : KnownRecords). ranges_onto [] (held (all_records k) s)) c.self.view_is

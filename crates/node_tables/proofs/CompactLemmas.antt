@@ -1,0 +1,359 @@
+-- The tables hold the snapshot of their records with its notes, and rows without the payloads that it leaves out.
+use Rattle.std.proofs.Common.{◌≡◌, ◌⊎◌, ℕ, zero, suc, ◌+◌, ◌-◌, ◌<◌, ◌≤◌, ◌==◌, Bool, true, false, ◌&&◌, ◌||◌, cond}
+use Rattle.std.proofs.Common.{max}
+use Rattle.std.proofs.Common.{List, [], ◌∷◌, ◌++◌, length, map, drop, get_or, refl, sym, ◌∙◌, ap, subst, inl, inr}
+use Rattle.std.proofs.Common.{arith}
+use Rattle.std.proofs.Common.{Option, Some, None}
+use Rattle.std.specs.Prelude.{nat_le, nat_lt, slice_get}
+use Rattle.std.specs.Option.{option_map}
+use Rattle.std.specs.List.{AllByRecursion, flat_map}
+use Rattle.std.proofs.lemmas.Bool.{and_parts, cases_Bool, false≢true, true≢false}
+use Rattle.std.proofs.lemmas.Bool.Decides.{nat_tests}
+use Rattle.std.proofs.lemmas.List.{get_or-map, length-map}
+use Rattle.std.proofs.lemmas.Option.{slice_get-map}
+use Rattle.ack_ranges.specs.declared.range.Range.{Range}
+use Rattle.ack_ranges.specs.Changes.{united}
+use Rattle.ack_ranges.specs.Laws.{EndsAreRight, SameNumbersSameRanges, UnionHasBoth}
+use Rattle.ack_ranges.specs.Ranges.{front_of, in_ranges}
+use Rattle.rm_base.specs.NumberSet.{has_number}
+use Rattle.rm_base.specs.Numbered.{numbered}
+use Rattle.rm_base.specs.declared.message.Behaviour.{Behaviour}
+use Rattle.rm_base.specs.declared.message.Payload.{Payload}
+use Rattle.rm_source.specs.Outgoing.{settled as settled_by}
+use Rattle.rm_destination.specs.Incoming.{forgotten as forgotten_by, inbox as inbox_in, inbox_of}
+use Rattle.rm_destination.specs.ItemLemmas.{has_number-above}
+use Rattle.rm_destination.specs.Messages.{above, is_empty, numbers_of, run_to}
+use Rattle.record_batch.specs.Fact.{Fact, Accepted, Received}
+use Rattle.sequence_table.specs.Destinations.{behaviour_of, closes, cursor, held, inbox, messages, purged, received}
+use Rattle.sequence_table.specs.Destinations.{told}
+use Rattle.sequence_table.specs.Find.{accept_of}
+use Rattle.sequence_table.specs.Fits.{all_fit}
+use Rattle.sequence_table.specs.Makers.{Maker, Outgoing, Offered, Incoming, Taken, addresses_of, counter, created}
+use Rattle.sequence_table.specs.Makers.{maker}
+use Rattle.sequence_table.specs.Makers.{makers, number}
+use Rattle.sequence_table.specs.Sources.{accepted, acked, dropped, tickets}
+use Rattle.sequence_table.specs.Told.{Side, Sends, Receives, Told, first_ticket, last_onto, receiving, sending, side_of}
+use Rattle.sequence_table.specs.Told.{told_all, told_by}
+use Rattle.sequence_table.specs.ToldLemmas.{same_receiving, same_sending, same_told}
+use Rattle.sequence_table.specs.Words.{at_seq}
+use Rattle.record_snapshot.specs.AckedLemmas.{dropped-now, more_}
+use Rattle.record_snapshot.specs.FrameLemmas.{same_frame}
+use Rattle.record_snapshot.specs.GoneLemmas.{numbers-received}
+use Rattle.record_snapshot.specs.GotLemmas.{purged-new, purged-same, received-kept}
+use Rattle.record_snapshot.specs.KeepLemmas.{snapshot-says}
+use Rattle.record_snapshot.specs.PassedLemmas.{Passed, inbox-held, nothing_, passed-is, upto_, without-no}
+use Rattle.record_snapshot.specs.Same.{AreNumbers, HaveProper, SaysTheSame, without}
+use Rattle.record_snapshot.specs.SameLemmas.{frame-decides, unacked-is-equal}
+use Rattle.record_snapshot.specs.Snapshot.{passed, settled, snapshot}
+use Rattle.record_snapshot.specs.WalkLemmas.{snapshot-fits}
+use Rattle.record_snapshot.specs.WrittenLemmas.{snapshot-is-proper}
+use Rattle.sequence_row.specs.Row.{forgotten}
+use Rattle.node_tables.specs.declared.note.Note.{Note}
+use Rattle.node_tables.specs.declared.note.Note.TheVariants as note
+use Rattle.node_tables.specs.Kept.{AllHeld, HasPlace, HavePlaces, Holds, IsHeld, IsShort, Table, accepted_count_in}
+use Rattle.node_tables.specs.Kept.{accepted_in, all_forgotten, dropped_in, fact_at, no_row, payload_of, received_in}
+use Rattle.node_tables.specs.Kept.{records_in, records_of, row_at, told_in}
+use Rattle.node_tables.specs.Shorter.{IsRecorded}
+use Rattle.node_tables.proofs.ForgetLemmas.{left_of}
+use Rattle.node_tables.proofs.RowsLemmas.{told-at}
+
+-- what the shorter notes of tables are made from
+pub recorded : (t : Table) → Holds t → IsRecorded t.kept t.rows t.notes
+recorded t h = record { whole = h.whole_; held = h.held; places_ = h.places_; fit = h.fit; rows_ = h.rows_ }
+
+-- ---- the rows
+
+-- lists are equal where they are item by item
+same-items : {A : Type 0} → (xs ys : List A) → ((i : ℕ) → slice_get xs i ≡ slice_get ys i) → xs ≡ ys
+same-items [] [] each = refl
+same-items [] (y ∷ ys) each = absurd (let e = each 0 in cc)
+same-items (x ∷ xs) [] each = absurd (let e = each 0 in cc)
+same-items {A} (x ∷ xs) (y ∷ ys) each =
+    let first : x ≡ y = (let e = each 0 in cc) in
+    ap (λ (z : A). z ∷ xs) first ∙ ap (λ (zs : List A). y ∷ zs) (same-items xs ys (λ i. each (suc i)))
+
+-- messages with numbers in 1 to c are those not above it
+without-above : (c : ℕ) (ms : List (ℕ × Payload)) → AreNumbers ms
+    → without (record { lower = 1; upper = c } ∷ []) ms ≡ above c ms
+without-above c [] are = refl
+without-above c (m ∷ ms) are =
+    let rest : without (record { lower = 1; upper = c } ∷ []) ms ≡ above c ms = without-above c ms are.1 in
+    let from : 0 < m.0 = are.0 in
+    elim (cases_Bool (nat_lt c m.0)) [
+      | inl kept ↦
+          let out : in_ranges (record { lower = 1; upper = c } ∷ []) m.0 ≡ false = grind (arith, nat_tests, kept) in
+          ap (λ b. cond b (without (record { lower = 1; upper = c } ∷ []) ms)
+          (m ∷ without (record { lower = 1; upper = c } ∷ []) ms)) out
+          ∙ ap (λ xs. m ∷ xs) rest
+          ∙ sym (ap (λ b. cond b (m ∷ above c ms) (above c ms)) kept)
+      | inr gone ↦
+          let out : in_ranges (record { lower = 1; upper = c } ∷ []) m.0 ≡ true = grind (arith, nat_tests, gone, from)
+          in
+          ap (λ b. cond b (without (record { lower = 1; upper = c } ∷ []) ms)
+          (m ∷ without (record { lower = 1; upper = c } ∷ []) ms)) out
+          ∙ rest
+          ∙ sym (ap (λ b. cond b (m ∷ above c ms) (above c ms)) gone)
+    ]
+
+one-run : (c : ℕ) → 0 < c → run_to c ≡ record { lower = 1; upper = c } ∷ []
+one-run zero lt = absurd (omega (arith, lt))
+one-run (suc c) lt = refl
+
+some-held : (ns : List ℕ) → has_number ns 1 ≡ true → 0 < length ns
+some-held [] h = absurd (false≢true h)
+some-held (n ∷ ns) h = omega arith
+
+module _ (both : UnionHasBoth) (ends : EndsAreRight) (only : SameNumbersSameRanges) (r : List Fact)
+    (fit : all_fit [] r ≡ true) (proper : HaveProper r) where
+  says : SaysTheSame (snapshot r) r
+  says = snapshot-says both ends r fit proper
+
+  -- of a sequence that sends
+  sends-left : (s : ℕ) → sending (snapshot r) s ≡ settled_by (sending r s)
+  sends-left s =
+      let q = snapshot r in
+      let now : dropped q s ≡ settled r s = dropped-now both ends r s fit proper in
+      let more : dropped r s ≤ settled r s = more_ both ends r s fit proper in
+      let most : settled r s ≡ max (dropped r s) (settled r s) = omega (arith, more) in
+      let acks = unacked-is-equal both only q r (snapshot-fits both ends r fit proper)
+      (snapshot-is-proper both ends r fit proper) fit proper says in
+      same_sending _ _ _ _ _ _ _ _ ((frame-decides q r (same_frame r)).phase_ s) (now ∙ most)
+      ((says.sent s).accepted_ ∙ ap (λ d. drop (d - dropped r s) (accepted r s)) now) (acks.united_ s)
+
+  -- of one that receives, where some of the inbox was consumed, and where none was
+  gets-some : (s c : ℕ) (b : Behaviour) (d : Option ℕ) → 0 < c → c ≡ cursor r s → c ≤ length (inbox r s)
+      → passed r s ≡ record { lower = 1; upper = c } ∷ []
+      → receiving (snapshot r) s b d ≡ record (receiving r s b d) {
+        purged = run_to (cursor r s);
+        received = above (cursor r s) (received r s);
+      }
+  gets-some s c b d some at le is =
+      let q = snapshot r in
+      let held_ : 0 < length (held r s) = some-held (held r s) (inbox-held r s 1 (omega arith) (omega (
+        arith,
+        some,
+        le,
+      ))) in
+      let new = purged-new r s (ap (λ xs. is_empty xs) is) [] r fit refl held_ in
+      let gone : purged q s ≡ run_to (cursor r s) =
+      new.0 ∙ is ∙ sym (one-run c some) ∙ ap run_to at in
+      let there : received q s ≡ above (cursor r s) (received r s) =
+      received-kept r s [] r ∙ ap (λ ps. without ps (received r s)) is
+      ∙ without-above c (received r s) (numbers-received [] r s fit)
+      ∙ ap (λ n. above n (received r s)) at in
+      same_receiving b d _ _ _ _ _ _ _ _ _ _ gone there (says.got s).cursor_
+      (ap (λ cs. at_seq s cs) says.frame.closes_) (ap (λ ns. at_seq s ns) says.frame.told_)
+
+  gets-none : (s : ℕ) (b : Behaviour) (d : Option ℕ) → passed r s ≡ []
+      → receiving (snapshot r) s b d ≡ receiving r s b d
+  gets-none s b d is =
+      same_receiving b d _ _ _ _ _ _ _ _ _ _ (purged-same r s is [] r).0
+      (received-kept r s [] r ∙ ap (λ ps. without ps (received r s)) is ∙ without-no (received r s))
+      (says.got s).cursor_
+      (ap (λ cs. at_seq s cs) says.frame.closes_) (ap (λ ns. at_seq s ns) says.frame.told_)
+
+  gets-left : (s : ℕ) (b : Behaviour) (d : Option ℕ) → behaviour_of (maker r s) ≡ b
+      → receiving (snapshot r) s b d ≡ forgotten_by (receiving r s b d)
+  gets-left s b d is =
+      let len : length (inbox_of b (told r s) (messages r s)) ≡ length (inbox r s) =
+      ap (λ x. length (inbox_of x (told r s) (messages r s))) (sym is) in
+      by_test (nat_lt 0 (cursor r s) && nat_le (cursor r s) (length (inbox_of b (told r s) (messages r s)))) refl
+      (ap (λ n. nat_lt 0 (cursor r s) && nat_le (cursor r s) n) len)
+    where
+      by_test : (t : Bool)
+          → (nat_lt 0 (cursor r s) && nat_le (cursor r s) (length (inbox_of b (told r s) (messages r s)))) ≡ t
+          → (nat_lt 0 (cursor r s) && nat_le (cursor r s) (length (inbox_of b (told r s) (messages r s))))
+          ≡ (nat_lt 0 (cursor r s) && nat_le (cursor r s) (length (inbox r s)))
+          → receiving (snapshot r) s b d ≡ forgotten_by (receiving r s b d)
+      by_test true test same =
+          let here : (nat_lt 0 (cursor r s) && nat_le (cursor r s) (length (inbox r s))) ≡ true = sym same ∙ test in
+          let parts = and_parts (nat_lt 0 (cursor r s)) (nat_le (cursor r s) (length (inbox r s))) here in
+          let low = parts.0 in
+          let high = parts.1 in
+          gets-some s (cursor r s) b d (grind (arith, nat_tests, low)) refl (grind (arith, nat_tests, high))
+          (ap (λ t. cond t (record { lower = 1; upper = cursor r s } ∷ []) []) here)
+          ∙ sym (ap (λ t. cond t (record (receiving r s b d) {
+            purged = run_to (cursor r s);
+            received = above (cursor r s) (received r s);
+          }) (receiving r s b d)) test)
+      by_test false test same =
+          gets-none s b d (ap (λ t. cond t (record { lower = 1; upper = cursor r s } ∷ []) []) (sym same ∙ test))
+          ∙ sym (ap (λ t. cond t (record (receiving r s b d) {
+            purged = run_to (cursor r s);
+            received = above (cursor r s) (received r s);
+          }) (receiving r s b d)) test)
+
+  side-left : (s : ℕ) (m : Maker) → maker r s ≡ Some m → side_of (snapshot r) s m ≡ forgotten (side_of r s m)
+  side-left s (Outgoing ticket to via lapse) there = ap (λ t. Sends t) (sends-left s)
+  side-left s (Taken message_id ident endpoint) there = ap (λ t. Sends t) (sends-left s)
+  side-left s (Incoming counter message_id acks_to behaviour deadline lapse) there =
+      ap (λ t. Receives t) (gets-left s behaviour deadline (ap behaviour_of there))
+  side-left s (Offered ticket counter to behaviour) there =
+      ap (λ t. Receives t) (gets-left s behaviour None (ap behaviour_of there))
+
+  told-left : (s : ℕ) (o : Option Maker) → maker r s ≡ o
+      → option_map (λ (m : Maker). told_by (snapshot r) s m) o
+      ≡ option_map left_of (option_map (λ (m : Maker). told_by r s m) o)
+  told-left s None there = refl
+  told-left s (Some m) there =
+      ap (λ t. Some t) (same_told _ _ _ _
+      (ap (λ ts. last_onto (first_ticket m) (at_seq s ts)) says.frame.tickets_) (side-left s m there))
+
+  -- the rows of a snapshot are the rows without what nobody needs
+  pub rows-left : told_all (snapshot r) ≡ all_forgotten (told_all r)
+  rows-left = same-items (told_all (snapshot r)) (all_forgotten (told_all r)) (λ i.
+      let place : i + 1 - 1 ≡ i = omega arith in
+      let one : i + 1 ≡ 0 → ⊥ = λ e. absurd (omega (arith, e)) in
+      let same : maker (snapshot r) (i + 1) ≡ maker r (i + 1) =
+      ap (λ ms. numbered ms (i + 1)) (same_frame r).makers_ in
+      ap (λ k. slice_get (told_all (snapshot r)) k) (sym place)
+      ∙ told-at (snapshot r) (i + 1) one
+      ∙ ap (λ o. option_map (λ (m : Maker). told_by (snapshot r) (i + 1) m) o) same
+      ∙ told-left (i + 1) (maker r (i + 1)) refl
+      ∙ ap (λ o. option_map left_of o) (sym (told-at r (i + 1) one))
+      ∙ sym (slice_get-map left_of (told_all r) (i + 1 - 1))
+      ∙ ap (λ k. slice_get (all_forgotten (told_all r)) k) place)
+
+-- ---- the notes
+
+row-left : (rows : List Told) (i : ℕ) → i < length rows
+    → (row_at (all_forgotten rows) i).side ≡ forgotten (row_at rows i).side
+row-left rows i lt = ap (λ (t : Told). t.side) (get_or-map left_of rows i no_row no_row lt)
+
+get_or-drop : {A : Type 0} → (k : ℕ) (xs : List A) (i : ℕ) (d : A) → get_or (drop k xs) i d ≡ get_or xs (k + i) d
+get_or-drop zero xs i d = ap (λ n. get_or xs n d) (let e : i ≡ 0 + i = omega arith in e)
+get_or-drop (suc k) [] i d = refl
+get_or-drop (suc k) (x ∷ xs) i d =
+    get_or-drop k xs i d ∙ ap (λ n. get_or (x ∷ xs) n d) (let e : suc (k + i) ≡ suc k + i = omega arith in e)
+
+payload-same : (x : Side) (n : ℕ) → dropped_in x < n → n ≤ accepted_count_in x → dropped_in (forgotten x) < n
+    → get_or (accepted_in (forgotten x)) (n - (dropped_in (forgotten x) + 1)) []
+    ≡ get_or (accepted_in x) (n - (dropped_in x + 1)) []
+payload-same (Sends t) n above within past =
+    let k = front_of t.acked - t.dropped in
+    let place : k + (n - (max t.dropped (front_of t.acked) + 1)) ≡ n - (t.dropped + 1) = omega (arith, above, past) in
+    get_or-drop k t.accepted (n - (max t.dropped (front_of t.acked) + 1)) []
+    ∙ ap (λ i. get_or t.accepted i []) place
+payload-same (Receives t) n above within past = absurd (omega (arith, above, within))
+
+payload-above : (n k : ℕ) (ms : List (ℕ × Payload)) → n < k → payload_of k (above n ms) ≡ payload_of k ms
+payload-above n k [] lt = refl
+payload-above n k (m ∷ ms) lt = elim (cases_Bool (nat_lt n m.0)) [
+  | inl kept ↦
+      ap (λ b. payload_of k (cond b (m ∷ above n ms) (above n ms))) kept
+      ∙ ap (λ p. cond (m.0 == k) m.1 p) (payload-above n k ms lt)
+  | inr left ↦
+      let other : (m.0 == k) ≡ false = grind (arith, nat_tests, left, lt) in
+      ap (λ b. payload_of k (cond b (m ∷ above n ms) (above n ms))) left
+      ∙ payload-above n k ms lt
+      ∙ sym (ap (λ b. cond b m.1 (payload_of k ms)) other)
+]
+
+message-same : (x : Side) (n : ℕ) → has_number (numbers_of (received_in (forgotten x))) n ≡ true
+    → payload_of n (received_in (forgotten x)) ≡ payload_of n (received_in x)
+message-same (Sends t) n has = refl
+message-same (Receives t) n has = by_test _ refl
+  where
+    by_test : (b : Bool) → (nat_lt 0 t.cursor && nat_le t.cursor (length (inbox_in t))) ≡ b
+        → payload_of n (received_in (forgotten (Receives t))) ≡ payload_of n t.received
+    by_test true e =
+        let there : has_number (numbers_of (above t.cursor t.received)) n ≡ true =
+        sym (ap (λ b. has_number (numbers_of (received_in (Receives (cond b (record t {
+          purged = run_to t.cursor;
+          received = above t.cursor t.received;
+        }) t)))) n) e) ∙ has in
+        let all = has_number-above t.cursor n t.received in
+        ap (λ b. payload_of n (received_in (Receives (cond b (record t {
+          purged = run_to t.cursor;
+          received = above t.cursor t.received;
+        }) t)))) e
+        ∙ payload-above t.cursor n t.received (grind (arith, nat_tests, all, there))
+    by_test false e =
+        ap (λ b. payload_of n (received_in (Receives (cond b (record t {
+          purged = run_to t.cursor;
+          received = above t.cursor t.received;
+        }) t)))) e
+
+note-left : (kept : List Fact) (rows : List Told) (n : Note) → IsHeld kept rows n → IsHeld kept (all_forgotten rows) n
+    → fact_at kept (all_forgotten rows) n ≡ fact_at kept rows n
+note-left kept rows (note.Kept place) h left = refl
+note-left kept rows (note.Accepted row n) h left =
+    let x = (row_at rows row).side in
+    let same = row-left rows row h.0 in
+    ap (λ p. Accepted (row + 1) p)
+    (ap (λ (y : Side). get_or (accepted_in y) (n - (dropped_in y + 1)) []) same
+    ∙ payload-same x n h.1 h.2 (omega (arith, left.1, ap dropped_in same)))
+note-left kept rows (note.Received row n first) h left =
+    let x = (row_at rows row).side in
+    let same = row-left rows row h.0 in
+    ap (λ p. Received (row + 1) n p)
+    (ap (λ (y : Side). payload_of n (received_in y)) same
+    ∙ message-same x n (sym (ap (λ (y : Side). has_number (numbers_of (received_in y)) n) same) ∙ left.1))
+note-left kept rows _ h left = refl
+
+notes-left : (kept : List Fact) (rows : List Told) (ns : List Note) → AllHeld kept rows ns
+    → AllHeld kept (all_forgotten rows) ns → records_of kept (all_forgotten rows) ns ≡ records_of kept rows ns
+notes-left kept rows [] h left = refl
+notes-left kept rows (n ∷ ns) h left =
+    ap (λ f. f ∷ records_of kept (all_forgotten rows) ns) (note-left kept rows n h.0 left.0)
+    ∙ ap (λ fs. fact_at kept rows n ∷ fs) (notes-left kept rows ns h.1 left.1)
+
+places-left : (kept : List Fact) (rows : List Told) (before : List Fact) (ns : List Note) → AllHeld kept rows ns
+    → AllHeld kept (all_forgotten rows) ns → HavePlaces kept rows before ns → HavePlaces kept (all_forgotten rows)
+    before ns
+places-left kept rows before [] h left places = tt
+places-left kept rows before (n ∷ ns) h left places = (
+  places.0,
+  subst (λ f. HavePlaces kept (all_forgotten rows) (before ++ f ∷ []) ns) (sym (note-left kept rows n h.0 left.0))
+      (places-left kept rows (before ++ fact_at kept rows n ∷ []) ns h.1 left.1 places.1),
+)
+
+-- the records after it
+pub records-left : (t : Table) (short : List Note) → IsShort t.kept t.rows t.notes short
+    → records_of t.kept (all_forgotten t.rows) short ≡ snapshot (records_in t)
+records-left t short is = notes-left t.kept t.rows short is.held is.left ∙ is.records
+
+-- with the notes of a snapshot the tables hold the snapshot
+pub compacted : UnionHasBoth → EndsAreRight → SameNumbersSameRanges → (t : Table) (short : List Note) → Holds t
+    → IsShort t.kept t.rows t.notes short → Holds (record t { rows = all_forgotten t.rows; notes = short })
+compacted both ends only t short h is =
+    let r = records_in t in
+    let now : records_of t.kept (all_forgotten t.rows) short ≡ snapshot r = records-left t short is in
+    let frame = same_frame r in
+    let facts = frame-decides (snapshot r) r frame in
+    record {
+      fit = ap (λ l. all_fit [] l) now ∙ snapshot-fits both ends r h.fit is.proper;
+      rows_ =
+          ap all_forgotten h.rows_ ∙ sym (rows-left both ends only r h.fit is.proper) ∙ sym (ap told_all now);
+      makers_ = ap makers now ∙ frame.makers_ ∙ h.makers_;
+      created_ = ap created now ∙ frame.created_ ∙ h.created_;
+      number_ = h.number_ ∙ sym facts.number_ ∙ sym (ap number now);
+      drawn_ = h.drawn_ ∙ sym facts.counter_ ∙ sym (ap counter now);
+      addresses_ = ap (λ l. flat_map addresses_of l) now ∙ frame.addresses ∙ h.addresses_;
+      accepts_ = ap (λ l. flat_map accept_of l) now ∙ frame.accepts ∙ h.accepts_;
+      held = is.left;
+      places_ = places-left t.kept t.rows [] short is.held is.left is.places_;
+      origins_held = h.origins_held;
+      named_held = h.named_held;
+      origins_made = h.origins_made;
+      named_given = h.named_given;
+      whole_ = h.whole_;
+    }
+
+pub renoted : (t : Table) (rows rows2 : List Told) (notes notes2 : List Note) → rows2 ≡ rows → notes2 ≡ notes
+    → Holds (record t { rows = rows; notes = notes }) → Holds (record t { rows = rows2; notes = notes2 })
+renoted t rows rows2 notes notes2 a b h =
+    subst (λ x. Holds (record t { rows = x; notes = notes2 })) (sym a)
+    (subst (λ l. Holds (record t { rows = rows; notes = l })) (sym b) h)
+
+pub recorded_so : (kept kept2 : List Fact) (rows rows2 : List Told) (notes notes2 : List Note) → kept2 ≡ kept
+    → rows2 ≡ rows → notes2 ≡ notes → IsRecorded kept rows notes → IsRecorded kept2 rows2 notes2
+recorded_so kept kept2 rows rows2 notes notes2 a b c is =
+    subst (λ x. IsRecorded x rows2 notes2) (sym a)
+    (subst (λ x. IsRecorded kept x notes2) (sym b) (subst (λ x. IsRecorded kept rows x) (sym c) is))
+
+pub short_so : (kept kept2 : List Fact) (rows rows2 : List Told) (notes notes2 short : List Note) → kept2 ≡ kept
+    → rows2 ≡ rows → notes2 ≡ notes → IsShort kept rows notes short → IsShort kept2 rows2 notes2 short
+short_so kept kept2 rows rows2 notes notes2 short a b c is =
+    subst (λ x. IsShort x rows2 notes2 short) (sym a)
+    (subst (λ x. IsShort kept x notes2 short) (sym b) (subst (λ x. IsShort kept rows x short) (sym c) is))
