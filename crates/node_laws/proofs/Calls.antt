@@ -30,16 +30,16 @@ use Rattle.soap_envelope.specs.Soap.{soap_space}
 use Rattle.message_writer.specs.Faults.{fault_of}
 use Rattle.message_writer.specs.Rules.{KeepsRules}
 use Rattle.rm_wire.specs.Writable.{IsRefusalWritable}
-use Rattle.record_batch.specs.Fact.{Fact, Creating, Accepted, Closing, Closed, Ending, Ended}
+use Rattle.record_batch.specs.Fact.{Fact, Creating, Accepted, Closing, Closed, Ending, Ended, Consumed}
 use Rattle.sequence_table.specs.IdentTexts.{issue-text}
 use Rattle.sequence_table.specs.Words.{Text}
 use Rattle.sequence_table.specs.Idents.{issue}
 use Rattle.sequence_table.specs.Makers.{Maker, Outgoing, Offered, Incoming, Taken, makers, makers_of, maker}
 use Rattle.sequence_table.specs.Makers.{counter}
 use Rattle.sequence_table.specs.Makers.{number}
-use Rattle.sequence_table.specs.Sources.{accepted, out_ident, phase, unacked, all_unacked}
+use Rattle.sequence_table.specs.Sources.{accepted_count, out_ident, phase, unacked, all_unacked}
 use Rattle.rm_destination.specs.Incoming.{is_past}
-use Rattle.sequence_table.specs.Destinations.{has_end, is_over, deadline_of}
+use Rattle.sequence_table.specs.Destinations.{cursor, has_end, inbox, is_over, deadline_of}
 use Rattle.node_laws.proofs.Lists.{All-append}
 use Rattle.rm_protocol.specs.Calls.{adds_and_moves, message_at, messages_at, ticked}
 use Rattle.rm_protocol.specs.Waiting.{Moves, no_moves}
@@ -53,7 +53,7 @@ use Rattle.rm_protocol.specs.Calls.{wanted, create, is_open, send_out, on_outgoi
 use Rattle.rm_protocol.specs.Calls.{close_out, close_in, close_by, close, may_end, end_out, end, expired_from, tick}
 use Rattle.rm_protocol.specs.Calls.{first_invalid, block_by, block_at, fault_block, fault_ident, refusal_of, judged}
 use Rattle.rm_protocol.specs.Calls.{receive, ask_to, ask_out, ask_ack, on_incoming, nack_to, nack_by, nack_in}
-use Rattle.rm_protocol.specs.Calls.{nack_missing}
+use Rattle.rm_protocol.specs.Calls.{nack_missing, consume, consume_in, cursor_to, PastInbox}
 use Rattle.rm_protocol.specs.Messages.{block_of, data_at, request_at}
 use Rattle.rm_protocol.specs.Polls.{make_message, poll}
 use Rattle.rm_protocol.specs.Rows.{rows}
@@ -67,7 +67,7 @@ use Rattle.node_laws.specs.Records.{IsKept}
 use Rattle.node_laws.proofs.Kept.{AreAllowed}
 use Rattle.node_laws.proofs.Lists.{to_list}
 use Rattle.node_laws.proofs.Messages.{IsByTheRules, ask-kept, data_at-kept, make-kept, request_at-kept}
-use Rattle.node_laws.proofs.Rows.{IsQuiet, quiets-allowed, rows-allowed}
+use Rattle.node_laws.proofs.Rows.{IsQuiet, plain, quiets-allowed, rows-allowed}
 use Rattle.node_laws.proofs.Said.{ack_to-kept, fault-kept, own_messages-kept, said-kept}
 use Rattle.node_laws.proofs.Values.{acks_to-kept, block-kept, ident-kept as name-kept, missing-kept, peer-kept}
 
@@ -168,10 +168,10 @@ send-good terms r place s text own =
     unless-refused r (not (is_open (phase r s))) NotOpen _ (λ c.
     unless-refused r (nat_le window (unacked r s)) (WindowFull (unacked r s)) _ (λ d.
     unless-refused r (nat_le most_unacked (all_unacked r)) (NodeFull (all_unacked r)) _ (λ e.
-    unless-refused r (nat_le max_number (length (accepted r s))) Rollover _ (λ g.
+    unless-refused r (nat_le max_number (accepted_count r s)) Rollover _ (λ g.
     if_room-good terms r place
-    (adds r (f ∷ []) (λ now. option_to_list (data_at now s (length (accepted r s) + 1))))
-    (adds-good r (f ∷ []) (λ now. option_to_list (data_at now s (length (accepted r s) + 1))) (
+    (adds r (f ∷ []) (λ now. option_to_list (data_at now s (accepted_count r s + 1))))
+    (adds-good r (f ∷ []) (λ now. option_to_list (data_at now s (accepted_count r s + 1))) (
       record {
         limits = (own.content text).0 (not-false (terms.is_content text) b);
         values = tt;
@@ -181,8 +181,8 @@ send-good terms r place s text own =
       },
       tt,
     )
-    (λ k. to_list IsByTheRules (data_at (r ++ f ∷ []) s (length (accepted r s) + 1))
-    (data_at-kept (r ++ f ∷ []) s (length (accepted r s) + 1) k))))))))))
+    (λ k. to_list IsByTheRules (data_at (r ++ f ∷ []) s (accepted_count r s + 1))
+    (data_at-kept (r ++ f ∷ []) s (accepted_count r s + 1) k))))))))))
 
 -- ---- close, end and tick
 
@@ -320,20 +320,31 @@ nack_by-kept r s (Some made) h =
     nack_to-kept (acks_to r s) (issue (number r) made.0) (missing_of r s) (acks_to-kept r s h)
     (issue-text 512 (number r) made.0 (omega arith)) (missing-kept r s h)
 
-pub nack_missing-good : (r : List Fact) (s now : ℕ) → IsGoodAnswer r (nack_missing r s now)
-nack_missing-good r s now = by_maker (maker r s)
-  where
-    good : IsGoodAnswer r (nack_in r s now)
-    good = unless-refused r (is_over r s now) NotOpen _ (λ e. adds-good r []
-        (λ after. nack_by after s (made_by after (maker after s))) tt
-        (λ k. nack_by-kept (r ++ []) s (made_by (r ++ []) (maker (r ++ []) s)) k))
+on_incoming-good : (r : List Fact) (x : Option Maker) (answer : Answer) → IsGoodAnswer r answer
+    → IsGoodAnswer r (on_incoming x answer)
+on_incoming-good r None answer h = refused r NoSequence
+on_incoming-good r (Some (Outgoing ticket to via lapse)) answer h = refused r WrongSide
+on_incoming-good r (Some (Taken message_id ident endpoint)) answer h = refused r WrongSide
+on_incoming-good r (Some (Offered ticket c to behaviour)) answer h = h
+on_incoming-good r (Some (Incoming c message_id to behaviour deadline lapse)) answer h = h
 
-    by_maker : (x : Option Maker) → IsGoodAnswer r (on_incoming x (nack_in r s now))
-    by_maker None = refused r NoSequence
-    by_maker (Some (Outgoing ticket to via lapse)) = refused r WrongSide
-    by_maker (Some (Taken message_id ident endpoint)) = refused r WrongSide
-    by_maker (Some (Offered ticket c to behaviour)) = good
-    by_maker (Some (Incoming c message_id to behaviour deadline lapse)) = good
+pub nack_missing-good : (r : List Fact) (s now : ℕ) → IsGoodAnswer r (nack_missing r s now)
+nack_missing-good r s now =
+    on_incoming-good r (maker r s) (nack_in r s now)
+    (unless-refused r (is_over r s now) NotOpen _ (λ e. adds-good r []
+    (λ after. nack_by after s (made_by after (maker after s))) tt
+    (λ k. nack_by-kept (r ++ []) s (made_by (r ++ []) (maker (r ++ []) s)) k)))
+
+pub consume-good : (terms : Terms) (r : List Fact) (place s upto : ℕ) → IsGoodAnswer r (consume terms r place s upto)
+consume-good terms r place s upto =
+    on_incoming-good r (maker r s) (consume_in terms r place s upto)
+    (unless-refused r (nat_lt (length (inbox r s)) upto) (PastInbox (length (inbox r s))) _ (λ e.
+    if_room-good terms r place (adds r (cursor_to r s upto) (λ after. [])) (chosen (nat_lt (cursor r s) upto))))
+  where
+    chosen : (x : Bool) → IsGoodAnswer r (adds r (cond x (Consumed s upto ∷ []) []) (λ after. []))
+    chosen true = adds-good r (Consumed s upto ∷ []) (λ after. []) (quiets-allowed r (Consumed s upto ∷ [])
+        (plain (Consumed s upto) tt tt refl (λ z. tt) (λ z. tt))) (λ k. tt)
+    chosen false = adds-good r [] (λ after. []) tt (λ k. tt)
 
 pub poll-good : (r : List Fact) (to : Text) → IsText 2048 to → IsGoodAnswer r (poll r to)
 poll-good r to is =

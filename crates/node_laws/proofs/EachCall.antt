@@ -13,7 +13,7 @@ use Rattle.soap_envelope.specs.Soap.{soap_space}
 use Rattle.message_writer.specs.Rules.{KeepsRules}
 use Rattle.record_batch.specs.Fact.{Fact}
 use Rattle.sequence_table.specs.Fits.{all_fit}
-use Rattle.rm_protocol.specs.Calls.{Answer, create, send, close, end, tick, ask_ack, nack_missing, receive}
+use Rattle.rm_protocol.specs.Calls.{Answer, create, send, close, end, tick, ask_ack, nack_missing, receive, consume}
 use Rattle.key_timers.specs.Waits.{first_due}
 use Rattle.rm_protocol.specs.Next.{HasRanges, IsMessageNumber, IsNumberRange, IsReadable, AddsNext, EachMayComeNext}
 use Rattle.rm_protocol.specs.Polls.{poll}
@@ -25,7 +25,7 @@ use Rattle.node_laws.specs.OwnTerms.{AreOwn}
 use Rattle.node_laws.specs.Read.{IsContentRead}
 use Rattle.node_laws.specs.Records.{IsKept}
 use Rattle.node_laws.proofs.Calls.{Below, IsGoodAnswer, create-good, send-good, close-good, end-good, tick-good}
-use Rattle.node_laws.proofs.Calls.{ask_ack-good, nack_missing-good, poll-good, receive-good}
+use Rattle.node_laws.proofs.Calls.{ask_ack-good, nack_missing-good, consume-good, poll-good, receive-good}
 use Rattle.node_laws.proofs.Kept.{kept-all}
 use Rattle.node_laws.proofs.Owned.{own-later}
 use Rattle.node_laws.proofs.Lists.{All-weaker}
@@ -82,6 +82,8 @@ of-each below next terms r place P own h step =
           (tick-good terms r place now time waits);
       ask_ack_ = λ s. step (ask_ack r s) (fit.ask_ack_ s) (ask_ack-good r s);
       nack_missing_ = λ s now. step (nack_missing r s now) (fit.nack_missing_ s now) (nack_missing-good r s now);
+      consume_ = λ s upto. step (consume terms r place s upto) (fit.consume_ s upto)
+          (consume-good terms r place s upto);
       poll_ = λ to is. step (poll r to) refl (poll-good r to is);
       receive_ = λ now y content o is. step (receive terms r place now y content)
           (fit.receive_ now y content o (readable content is))

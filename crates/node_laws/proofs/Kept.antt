@@ -40,8 +40,9 @@ begins-on (Made node address ∷ r) xs h = tt
 begins-on (_ ∷ r) xs h = absurd h
 
 window-more : RangeIsAdded → (r : List Fact) (f : Fact) (s : ℕ) → IsKept r → fits r f ≡ true → HasValues f
-    → HasRoom r f → is_outgoing_side (maker (r ++ f ∷ []) s) ≡ true → unacked (r ++ f ∷ []) s ≤ window
-window-more law r f s h fit v room side = by_kind f fit v room side
+    → HasRoom r f → TakesNear r f → is_outgoing_side (maker (r ++ f ∷ []) s) ≡ true
+    → unacked (r ++ f ∷ []) s ≤ window
+window-more law r f s h fit v room near side = by_kind f fit v room near side
   where
     -- what was not acknowledged before
     before : (f : Fact) → is_outgoing_side (maker (r ++ f ∷ []) s) ≡ true → unacked r s ≤ window
@@ -52,11 +53,12 @@ window-more law r f s h fit v room side = by_kind f fit v room side
           omega (arith, none)
     ]
 
-    by_kind : (f : Fact) → fits r f ≡ true → HasValues f → HasRoom r f
+    by_kind : (f : Fact) → fits r f ≡ true → HasValues f → HasRoom r f → TakesNear r f
         → is_outgoing_side (maker (r ++ f ∷ []) s) ≡ true → unacked (r ++ f ∷ []) s ≤ window
-    by_kind (Accepted seq payload) fit v room is =
+    by_kind (Accepted seq payload) fit v room near is =
         let more : unacked (r ++ Accepted seq payload ∷ []) s ≤ unacked r s
-        + length (accepted_of s (Accepted seq payload)) = unacked-more law r (Accepted seq payload) s h.values v in
+        + length (accepted_of s (Accepted seq payload)) =
+        unacked-more law r (Accepted seq payload) s h.values v h.node.fit fit near in
         let old : unacked r s ≤ window = before (Accepted seq payload) is in
         elim (seq == s) as (λ b. (seq == s) ≡ b
         → unacked (r ++ Accepted seq payload ∷ []) s ≤ unacked r s + length (cond b (payload ∷ []) [])
@@ -66,18 +68,19 @@ window-more law r f s h fit v room side = by_kind f fit v room side
               omega (arith, few, le)
           | false ↦ λ e le. omega (arith, old, le)
         ] refl more
-    by_kind f fit v room is = omega (arith, before f is, unacked-more law r f s h.values v)
+    by_kind f fit v room near is = omega (arith, before f is, unacked-more law r f s h.values v h.node.fit fit near)
 
 windows-more : RangeIsAdded → (r : List Fact) (f : Fact) → IsKept r → fits r f ≡ true → HasValues f → HasRoom r f
-    → all_unacked (r ++ f ∷ []) ≤ most_unacked
-windows-more law r (Accepted seq payload) h fit v room =
+    → TakesNear r f → all_unacked (r ++ f ∷ []) ≤ most_unacked
+windows-more law r (Accepted seq payload) h fit v room near =
     let f = Accepted seq payload in
     let more : all_unacked (r ++ f ∷ []) ≤ all_unacked r + credit 0 f =
-    all_unacked-more law r f h.values v h.node.fit fit in
+    all_unacked-more law r f h.values v h.node.fit fit near in
     let one : credit 0 f ≤ 1 =
     elim (nat_lt 0 seq) as (λ b. cond b 1 0 ≤ 1) [ true ↦ omega arith | false ↦ omega arith ] in
     omega (arith, more, one, room.1)
-windows-more law r f h fit v room = omega (arith, all_unacked-more law r f h.values v h.node.fit fit, h.node.windows)
+windows-more law r f h fit v room near =
+    omega (arith, all_unacked-more law r f h.values v h.node.fit fit near, h.node.windows)
 
 places-more : (r : List Fact) (f : Fact) → length (makers r) ≤ most_sequences
     → length (makers r) + length (makers_of f) ≤ most_sequences ⊎ (makers_of f ≡ [])
@@ -99,8 +102,8 @@ kept-more law r f h fit a = record {
     fit = all_fit-append [] r (f ∷ []) h.node.fit (rw fit refl);
     each = All-append KeepsLimits r (f ∷ []) h.node.each (a.limits, tt);
     sequences = places-more r f h.node.sequences a.places;
-    window = λ s side. window-more law r f s h fit a.values a.room side;
-    windows = windows-more law r f h fit a.values a.room;
+    window = λ s side. window-more law r f s h fit a.values a.room a.near side;
+    windows = windows-more law r f h fit a.values a.room a.near;
     near = near-more r f h.node.fit fit a.near h.node.near;
   };
   values = All-append HasValues r (f ∷ []) h.values (a.values, tt);

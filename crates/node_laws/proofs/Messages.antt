@@ -40,15 +40,16 @@ use Rattle.sequence_table.specs.Words.{Text, last_or}
 use Rattle.sequence_table.specs.IdentTexts.{issue-text, polled-text}
 use Rattle.sequence_table.specs.Idents.{issue}
 use Rattle.sequence_table.specs.Makers.{Maker, Outgoing, Offered, maker, number}
-use Rattle.sequence_table.specs.Sources.{accepted, out_ident, phase, tickets}
+use Rattle.sequence_table.specs.Sources.{accepted, accepted_count, dropped, out_ident, payload_at, phase, tickets}
 use Rattle.sequence_table.specs.Find.{peer, plain_endpoint}
 use Rattle.rm_protocol.specs.Addresses.{rm_action, payload_action, anonymous, own_address, reply_to}
+use Rattle.rm_protocol.specs.FitInduction.{few-accepted}
 use Rattle.rm_protocol.specs.Messages.{written_scope, data_of, data_by, data_at, request_of, never, offer_by}
 use Rattle.rm_protocol.specs.Messages.{create_request, via_of, last_number, finish_of, finish_request, request_by}
 use Rattle.rm_protocol.specs.Messages.{request_at, ack_message, ask_message, response_of}
 use Rattle.rm_protocol.specs.Polls.{make_message}
 use Rattle.node_laws.specs.Records.{IsKept}
-use Rattle.node_laws.proofs.Values.{IsMakerKept, maker-kept, ident-kept, address-kept, payload-kept, few-accepted}
+use Rattle.node_laws.proofs.Values.{IsMakerKept, maker-kept, ident-kept, address-kept, payload-kept}
 use Rattle.node_laws.proofs.Values.{plain-kept, peer-kept}
 
 -- a message that keeps the rules in an envelope of SOAP 1.2
@@ -190,13 +191,13 @@ numbered-is xs n x e = elim (n == 0) as (λ b. (n == 0) ≡ b → cond b None (s
 -- a message that was accepted is said by the rules
 pub data_at-kept : (r : List Fact) (s i : ℕ) → IsKept r → IfSome (data_at r s i) IsByTheRules
 data_at-kept r s i h =
-    by_parts (peer r s) (out_ident r s) (numbered (accepted r s) i) refl (peer-kept r s h) (ident-kept r s h)
+    by_parts (peer r s) (out_ident r s) (payload_at r s i) refl (peer-kept r s h) (ident-kept r s h)
     (payload-kept r s i h)
   where
-    by_parts : (to : Option Epr) (q p : Option Text) → numbered (accepted r s) i ≡ p → IfSome to IsEprWritable
+    by_parts : (to : Option Epr) (q p : Option Text) → payload_at r s i ≡ p → IfSome to IsEprWritable
         → IfSome q (IsText 512) → IfSome p IsClosedContent → IfSome (data_by to q i p) IsByTheRules
     by_parts (Some to) (Some q) (Some p) e a b c =
-        let place = numbered-is (accepted r s) i p e in
+        let place = numbered-is (accepted r s) (i - dropped r s) p e in
         let few = few-accepted r s h.node.fit in
         data-kept to q i p a b (record { low = omega (arith, place.0); high = omega (arith, place.1, few) }) c
     by_parts None q p e a b c = tt
@@ -261,7 +262,7 @@ create_request-kept r s (Some (Outgoing ticket to via lapse)) h k =
 create_request-kept r s _ h k = tt
 
 finish-kept : (r : List Fact) (s : ℕ) (q : Text) → IsKept r → IsText 512 q → IsFinishWritable (finish_of r s q)
-finish-kept r s q h is = record { ident = is; last_number = last (length (accepted r s)) (few-accepted r s h.node.fit) }
+finish-kept r s q h is = record { ident = is; last_number = last (accepted_count r s) (few-accepted r s h.node.fit) }
   where
     last : (n : ℕ) → n ≤ max_number → IfSome (last_number n) IsNumber
     last n few = elim (n == 0) as (λ b. (n == 0) ≡ b → IfSome (cond b None (Some n)) IsNumber) [

@@ -1,21 +1,26 @@
 -- How far behind its front a sequence has received, after one more record.
 use Rattle.std.proofs.Common.{◌≡◌, ℕ, suc, ◌+◌, ◌-◌, ◌<◌, ◌≤◌, ◌==◌, ◌⊎◌, Bool, true, false, cond, List, []}
 use Rattle.std.proofs.Common.{◌∷◌, ◌++◌, length, refl, sym, ap, subst, ◌∙◌, arith, inl, inr, append-nil, Option, None}
+use Rattle.std.proofs.Common.{append_assoc}
 use Prim.Native.Nat.{zero}
-use Rattle.std.specs.Prelude.{◌||◌, nat_lt, nat_le, slice_get}
+use Rattle.std.specs.Prelude.{◌||◌, nat_lt, nat_le, slice_get, Some}
+use Rattle.std.proofs.lemmas.List.{map-append}
 use Rattle.std.proofs.lemmas.Bool.{and_parts, eqb-true, leb-true}
 use Rattle.std.proofs.lemmas.Bool.Decides.{nat_tests}
 use Rattle.rm_base.specs.Limits.{window}
 use Rattle.rm_base.specs.Numbered.{numbered}
 use Rattle.rm_base.specs.NumberSet.{has_number}
 use Rattle.rm_base.specs.declared.message.Payload.{Payload}
-use Rattle.record_batch.specs.Fact.{Fact, Received}
-use Rattle.rm_destination.specs.Messages.{with_message, sorted_onto, without_gap, numbers_of}
+use Rattle.ack_ranges.specs.declared.range.Range.{Range}
+use Rattle.record_batch.specs.Fact.{Fact, Dropped, Purged, Received}
+use Rattle.rm_destination.specs.Messages.{gone_items, items_of, numbers_in, numbers_of, sorted_onto, there_items}
+use Rattle.rm_destination.specs.Messages.{with_message, without_gap}
 use Rattle.sequence_table.specs.Makers.{Maker, makers, makers_of, maker}
-use Rattle.sequence_table.specs.Destinations.{received_of, received, held, front}
+use Rattle.sequence_table.specs.Destinations.{front, held, items, messages, purged, purged_of, received, received_of}
+use Rattle.sequence_table.specs.Sources.{dropped_of}
 use Rattle.sequence_table.specs.Fits.{fits, all_fit, is_incoming_side}
 use Rattle.sequence_table.specs.GatherLemmas.{flat_map-more}
-use Rattle.sequence_table.specs.NameLemmas.{names-fit, elsewhere_received, unnamed}
+use Rattle.sequence_table.specs.NameLemmas.{names-fit, elsewhere_purged, elsewhere_received, unnamed}
 
 -- ---- sequences that are there
 
@@ -53,9 +58,12 @@ side-before p r f s h =
     ]
 
 -- nothing was received for a sequence that isn't there yet
-none-received : (r : List Fact) (s : ℕ) → all_fit [] r ≡ true → length (makers r) < s → received r s ≡ []
+none-received : (r : List Fact) (s : ℕ) → all_fit [] r ≡ true → length (makers r) < s → items r s ≡ []
 none-received r s h past =
-    unnamed (received_of s) (length (makers r)) s (λ f. elsewhere_received f s) past r (names-fit r h)
+    ap (λ ps. items_of ps (received r s))
+    (unnamed (purged_of s) (length (makers r)) s (λ f. elsewhere_purged f s) past r (names-fit r h))
+    ∙ ap (items_of [])
+    (unnamed (received_of s) (length (makers r)) s (λ f. elsewhere_received f s) past r (names-fit r h))
 
 -- ---- the front
 
@@ -90,6 +98,13 @@ record IsTaken (r : List Fact) (f : Fact) (s : ℕ) : Type 0 where
   is : f ≡ Received s number payload
   same : received (r ++ f ∷ []) s ≡ received r s ++ (number, payload) ∷ []
 
+-- messages go behind all others
+items-push : (ps : List Range) (ms : List (ℕ × Payload)) (n : ℕ) (p : Payload)
+    → items_of ps (ms ++ (n, p) ∷ []) ≡ items_of ps ms ++ (n, Some p) ∷ []
+items-push ps ms n p =
+    ap (λ xs. gone_items (numbers_in ps) ++ xs) (map-append (λ (m : ℕ × Payload). (m.0, Some m.1)) ms ((n, p) ∷ []))
+    ∙ sym (append_assoc (gone_items (numbers_in ps)) (there_items ms) ((n, Some p) ∷ []))
+
 taken : (r : List Fact) (f : Fact) (s : ℕ) → (received (r ++ f ∷ []) s ≡ received r s) ⊎ IsTaken r f s
 taken r (Received seq n p) s =
     elim (seq == s) as (λ b. (seq == s) ≡ b → received (r ++ Received seq n p ∷ []) s ≡ received r s
@@ -105,14 +120,14 @@ taken r (Received seq n p) s =
     ] refl (flat_map-more (received_of s) r (Received seq n p))
 taken r f s = inl (flat_map-more (received_of s) r f ∙ append-nil (received r s))
 
-front-at : (r new : List Fact) (s k : ℕ) (p : Payload) → 0 < k → received new s ≡ received r s ++ (k, p) ∷ []
+front-at : (r new : List Fact) (s k : ℕ) (p : Payload) → 0 < k → items new s ≡ items r s ++ (k, Some p) ∷ []
     → front r s ≤ front new s
 front-at r new s k p some e =
-    let sorted : sorted_onto [] (received new s) ≡ with_message (sorted_onto [] (received r s)) k p =
-    ap (sorted_onto []) e ∙ sorted_onto-push [] (received r s) (k, p) in
-    let same : front new s ≡ length (without_gap 0 (with_message (sorted_onto [] (received r s)) k p)) =
+    let sorted : messages new s ≡ with_message (messages r s) k (Some p) =
+    ap (sorted_onto []) e ∙ sorted_onto-push [] (items r s) (k, Some p) in
+    let same : front new s ≡ length (without_gap 0 (with_message (messages r s) k (Some p))) =
     ap (λ ms. length (without_gap 0 ms)) sorted in
-    omega (arith, same, gap-more 0 k p (sorted_onto [] (received r s)) some)
+    omega (arith, same, gap-more 0 k (Some p) (messages r s) some)
 
 has_number-append : (xs ys : List ℕ) (n : ℕ) → has_number (xs ++ ys) n ≡ (has_number xs n || has_number ys n)
 has_number-append [] ys n = refl
@@ -133,10 +148,20 @@ numbers-push (x ∷ ms) m = ap (λ ns. x.0 ∷ ns) (numbers-push ms m)
 abbrev pub IsNear : List Fact → Type 0
 IsNear r = (s n : ℕ) → is_incoming_side (maker r s) ≡ true → has_number (held r s) n ≡ true → n ≤ front r s + window
 
--- a record takes no number that is far past it
+-- a record takes no number that is far past it, and is none that only a list has that is written anew
 abbrev pub TakesNear : List Fact → Fact → Type 0
 TakesNear r (Received seq n payload) = n ≤ front r seq + window
+TakesNear r (Dropped seq upto) = ⊥
+TakesNear r (Purged seq ranges) = ⊥
 TakesNear r _ = Unit {0}
+
+pub drops-none : (r : List Fact) (f : Fact) (s : ℕ) → TakesNear r f → dropped_of s f ≡ []
+drops-none r (Dropped seq upto) s near = absurd near
+drops-none r _ s near = refl
+
+purges-none : (r : List Fact) (f : Fact) (s : ℕ) → TakesNear r f → purged_of s f ≡ []
+purges-none r (Purged seq ranges) s near = absurd near
+purges-none r _ s near = refl
 
 pub near-more : (r : List Fact) (f : Fact) → all_fit [] r ≡ true → fits r f ≡ true → TakesNear r f → IsNear r
     → IsNear (r ++ f ∷ [])
@@ -158,11 +183,17 @@ near-more r f all fit near h s n side has = elim (taken r f s) [
           absurd (cc)
     ]
 
+    gone : purged (r ++ f ∷ []) s ≡ purged r s
+    gone = flat_map-more (purged_of s) r f ∙ ap (λ ps. purged r s ++ ps) (purges-none r f s near)
+        ∙ append-nil (purged r s)
+
     unchanged : received (r ++ f ∷ []) s ≡ received r s → n ≤ front (r ++ f ∷ []) s + window
     unchanged same =
-        let numbers : held (r ++ f ∷ []) s ≡ held r s = ap numbers_of same in
+        let all_same : items (r ++ f ∷ []) s ≡ items r s =
+        ap (λ ps. items_of ps (received (r ++ f ∷ []) s)) gone ∙ ap (items_of (purged r s)) same in
+        let numbers : held (r ++ f ∷ []) s ≡ held r s = ap numbers_of all_same in
         let front_ : front (r ++ f ∷ []) s ≡ front r s =
-        ap (λ ms. length (without_gap 0 (sorted_onto [] ms))) same in
+        ap (λ ms. length (without_gap 0 (sorted_onto [] ms))) all_same in
         let is : has_number (held r s) n ≡ true = subst (λ ns. has_number ns n ≡ true) numbers has in
         omega (arith, front_, old is)
 
@@ -173,10 +204,13 @@ near-more r f all fit near h s n side has = elim (taken r f s) [
         subst (λ x. fits r x ≡ true) more.is fit in
         let parts = and_parts (is_incoming_side (maker r s)) _ fitting in
         let some : nat_le 1 more.number ≡ true = (and_parts (nat_le 1 more.number) _ parts.1).0 in
+        let all_more : items (r ++ f ∷ []) s ≡ items r s ++ (more.number, Some more.payload) ∷ [] =
+        ap (λ ps. items_of ps (received (r ++ f ∷ []) s)) gone ∙ ap (items_of (purged r s)) more.same
+        ∙ items-push (purged r s) (received r s) more.number more.payload in
         let on : front r s ≤ front (r ++ f ∷ []) s =
-        front-at r (r ++ f ∷ []) s more.number more.payload (leb-true 1 more.number some) more.same in
+        front-at r (r ++ f ∷ []) s more.number more.payload (leb-true 1 more.number some) all_more in
         let numbers : held (r ++ f ∷ []) s ≡ held r s ++ more.number ∷ [] =
-        ap numbers_of more.same ∙ numbers-push (received r s) (more.number, more.payload) in
+        ap numbers_of all_more ∙ numbers-push (items r s) (more.number, Some more.payload) in
         let either : (has_number (held r s) n || has_number (more.number ∷ []) n) ≡ true =
         sym (has_number-append (held r s) (more.number ∷ []) n)
         ∙ ap (λ ns. has_number ns n) (sym numbers) ∙ has in

@@ -10,13 +10,13 @@ use Rattle.std.proofs.lemmas.List.Elements.{filter-append}
 use Rattle.std.proofs.lemmas.List.Sums.{sum_by-cons}
 use Rattle.ack_ranges.specs.declared.range.Range.{Range}
 use Rattle.ack_ranges.specs.Ranges.{RisesFrom, IsCanonical, in_range, in_ranges, count_of, size_of}
-use Rattle.rm_source.specs.Outgoing.{Sending}
+use Rattle.rm_source.specs.Outgoing.{Sending, accepted_count as count_in}
 use Rattle.record_batch.specs.Fact.{Fact}
 use Rattle.rm_base.specs.Numbered.{numbered}
 use Rattle.ack_ranges.specs.Laws.{RangeIsAdded}
 use Rattle.rm_protocol.specs.Exact.{AckedWereAccepted}
 use Rattle.sequence_table.specs.Makers.{Maker, Outgoing, Offered, Incoming, Taken, makers, maker}
-use Rattle.sequence_table.specs.Sources.{accepted, acked, is_sending, unacked_at, unacked_from}
+use Rattle.sequence_table.specs.Sources.{accepted_count, acked, is_sending, unacked_at, unacked_from}
 use Rattle.sequence_table.specs.Told.{sending}
 use Rattle.node_laws.specs.Records.{HasRoomForKeys}
 use Rattle.node_laws.proofs.Counts.{united-canonical}
@@ -120,7 +120,7 @@ outside-by : (t : Sending) (i : ℕ) → 1 ≤ i → waits_in t i ≡ true
 outside-by t zero le h = absurd (omega arith)
 outside-by t (suc i) le h =
     let one = and_parts (is_sending t.phase) _ h in
-    let two = and_parts (nat_le (suc i) (length t.accepted)) (not (in_ranges t.acked (suc i))) one.1 in
+    let two = and_parts (nat_le (suc i) (count_in t)) (not (in_ranges t.acked (suc i))) one.1 in
     (one.0, not-true (in_ranges t.acked (suc i)) two.1)
   where
     not-true : (b : Bool) → not b ≡ true → b ≡ false
@@ -159,11 +159,11 @@ few-waits t i (suc c) le =
 
 -- at most its messages that are not acknowledged, where they are sent again, and its request
 pub sequence-few : (t : Sending) → IsCanonical t.acked
-    → ((n : ℕ) → in_ranges t.acked n ≡ true → n ≤ length t.accepted)
-    → length (filter (waits_in t) (numbers_from 0 (length t.accepted + 1)))
-    ≤ cond (is_sending t.phase) (length t.accepted - count_of t.acked) 0 + 1
+    → ((n : ℕ) → in_ranges t.acked n ≡ true → n ≤ count_in t)
+    → length (filter (waits_in t) (numbers_from 0 (count_in t + 1)))
+    ≤ cond (is_sending t.phase) (count_in t - count_of t.acked) 0 + 1
 sequence-few t canonical within =
-    let n = length t.accepted in
+    let n = count_in t in
     let all = counted-outside t.acked 1 n canonical (λ i e. let le = within i e in omega (arith, le)) in
     let some = few-waits t 1 n (omega arith) in
     let one : n + 1 ≡ suc n = omega arith in
@@ -172,12 +172,12 @@ sequence-few t canonical within =
     (sym one) (by_first (waits_in t 0) (is_sending t.phase) some all)
   where
     by_first : (x y : Bool)
-        → length (filter (waits_in t) (numbers_from 1 (length t.accepted)))
-        ≤ cond y (length (outside t.acked (numbers_from 1 (length t.accepted)))) 0
-        → length (outside t.acked (numbers_from 1 (length t.accepted))) + count_of t.acked ≤ length t.accepted
-        → length (cond x (0 ∷ filter (waits_in t) (numbers_from 1 (length t.accepted)))
-        (filter (waits_in t) (numbers_from 1 (length t.accepted))))
-        ≤ cond y (length t.accepted - count_of t.acked) 0 + 1
+        → length (filter (waits_in t) (numbers_from 1 (count_in t)))
+        ≤ cond y (length (outside t.acked (numbers_from 1 (count_in t)))) 0
+        → length (outside t.acked (numbers_from 1 (count_in t))) + count_of t.acked ≤ count_in t
+        → length (cond x (0 ∷ filter (waits_in t) (numbers_from 1 (count_in t)))
+        (filter (waits_in t) (numbers_from 1 (count_in t))))
+        ≤ cond y (count_in t - count_of t.acked) 0 + 1
     by_first true true a b = omega (arith, a, b)
     by_first true false a b = omega (arith, a)
     by_first false true a b = omega (arith, a, b)
@@ -202,19 +202,19 @@ filter-keys r s t same (n ∷ ns) =
 -- what holds of the numbers that are acknowledged, for each sequence
 record AreNumbers (r : List Fact) : Type 0 where
   canonical : (s : ℕ) → IsCanonical (sending r s).acked
-  within : (s n : ℕ) → in_ranges (sending r s).acked n ≡ true → n ≤ length (accepted r s)
+  within : (s n : ℕ) → in_ranges (sending r s).acked n ≡ true → n ≤ accepted_count r s
 
 own-few : (r : List Fact) (s : ℕ) (m : Maker) → AreNumbers r → maker r s ≡ Some m
     → length (filter (is_waiting r) (keys_at r s m)) ≤ unacked_at r s m + 1
 own-few r s (Outgoing t to v l) h e =
     let few = sequence-few (sending r s) (h.canonical s) (h.within s) in
     let same = filter-keys r s (sending r s) (λ i. ap (waits_of r s i) e)
-    (numbers_from 0 (length (accepted r s) + 1)) in
+    (numbers_from 0 (accepted_count r s + 1)) in
     omega (arith, few, same)
 own-few r s (Taken t q p) h e =
     let few = sequence-few (sending r s) (h.canonical s) (h.within s) in
     let same = filter-keys r s (sending r s) (λ i. ap (waits_of r s i) e)
-    (numbers_from 0 (length (accepted r s) + 1)) in
+    (numbers_from 0 (accepted_count r s + 1)) in
     omega (arith, few, same)
 own-few r s (Offered t c to y) h e = omega arith
 own-few r s (Incoming c t p y d l) h e = omega arith
@@ -251,7 +251,7 @@ from-few r before (m ∷ ms) h e =
 pub room-for-keys : RangeIsAdded → AckedWereAccepted → HasRoomForKeys
 room-for-keys law acked_ r h =
     let few = from-few r [] (makers r) (record {
-      canonical = λ s. united-canonical law [] (acked r s) tt (acked-proper s r h.values);
+      canonical = λ s. united-canonical law [] (acked r s) tt (acked-proper s [] r h.node.fit h.values);
       within = acked_ r h.node.fit;
     }) refl in
     omega (arith, few, h.node.windows, h.node.sequences)

@@ -96,7 +96,7 @@ allowed-append r (f ∷ d) e h k =
     (h.0, allowed-append (r ++ f ∷ []) d e h.1 (subst (λ z. AreAllowed z e) (sym (append_assoc r (f ∷ []) d)) k))
 
 -- records that have nothing to keep
-plain : (f : Fact) → KeepsLimits f → HasValues f → makers_of f ≡ [] → ((r : List Fact) → HasRoom r f)
+pub plain : (f : Fact) → KeepsLimits f → HasValues f → makers_of f ≡ [] → ((r : List Fact) → HasRoom r f)
     → ((r : List Fact) → TakesNear r f) → AllByRecursion IsQuiet (f ∷ [])
 plain f l v m a b = (record { limits = l; values = v; makers_ = m; room = a; near = b }, tt)
 

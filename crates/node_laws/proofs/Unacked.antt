@@ -1,10 +1,9 @@
 -- How many messages are not acknowledged, after one more record.
 use Rattle.std.proofs.Common.{◌≡◌, ℕ, ◌+◌, ◌<◌, ◌≤◌, ◌==◌, ◌⊎◌, Bool, true, false, cond, List, []}
-use Rattle.std.proofs.Common.{◌∷◌, ◌++◌, length, refl, sym, ap, subst, ◌∙◌, arith, inl, inr, length-append}
-use Rattle.std.proofs.Common.{append-nil}
-use Rattle.std.specs.Prelude.{nat_lt}
+use Rattle.std.proofs.Common.{◌∷◌, ◌++◌, length, refl, sym, ap, subst, ◌∙◌, arith, inl, inr}
+use Rattle.std.specs.Prelude.{◌&&◌, nat_le, nat_lt}
 use Rattle.std.specs.List.{AllByRecursion}
-use Rattle.std.proofs.lemmas.Bool.{and_parts, eqb-true, false≢true}
+use Rattle.std.proofs.lemmas.Bool.{and_parts, eqb-true, false≢true, leb-true}
 use Rattle.std.proofs.lemmas.Bool.Decides.{nat_tests}
 use Rattle.ack_ranges.specs.Changes.{united}
 use Rattle.ack_ranges.specs.Laws.{RangeIsAdded}
@@ -12,59 +11,84 @@ use Rattle.ack_ranges.specs.Ranges.{count_of}
 use Rattle.rm_source.specs.declared.phase.OutPhase.{OutPhase}
 use Rattle.rm_source.specs.declared.phase.OutPhase.TheVariants as out
 use Rattle.record_batch.specs.Fact.{Fact, Creating, Created, Granted, Accepted, Acked, Closing, ClosedOut}
-use Rattle.record_batch.specs.Fact.{Ending}
-use Rattle.record_batch.specs.Fact.{EndedOut, Failed}
+use Rattle.record_batch.specs.Fact.{Dropped, Ending, EndedOut, Failed}
 use Rattle.sequence_table.specs.Words.{at_seq, last_or}
 use Rattle.sequence_table.specs.Makers.{Maker, Outgoing, Taken, makers, makers_of, maker}
-use Rattle.sequence_table.specs.Sources.{accepted, accepted_of, acked, acked_of, unacked, unacked_at}
-use Rattle.sequence_table.specs.Sources.{unacked_from}
+use Rattle.sequence_table.specs.Sources.{accepted, accepted_count, accepted_of, acked, acked_of, dropped_of, unacked}
+use Rattle.sequence_table.specs.Sources.{unacked_at, unacked_from}
 use Rattle.sequence_table.specs.Sources.{all_unacked, is_sending, phase, mark_of}
 use Rattle.sequence_table.specs.Fits.{fits, all_fit, follows, follows_at, is_outgoing_side}
 use Rattle.sequence_table.specs.Told.{opened_by}
 use Rattle.sequence_table.specs.GatherLemmas.{flat_map-more, united-append}
-use Rattle.sequence_table.specs.NameLemmas.{names-fit, elsewhere_accepted, unnamed}
+use Rattle.sequence_table.specs.NameLemmas.{names-fit, elsewhere_accepted, elsewhere_dropped, unnamed}
 use Rattle.sequence_table.specs.PhaseLemmas.{created-creating, phase-more}
+use Rattle.record_snapshot.specs.SentLemmas.{count-more}
 use Rattle.rm_protocol.specs.FitInduction.{creating-accepts-none}
 use Rattle.node_laws.specs.Records.{HasValues, AreValues}
+use Rattle.rm_base.specs.Message.{max_number}
+use Rattle.rm_source.specs.Outgoing.{first_run}
+use Rattle.node_laws.proofs.Near.{TakesNear, drops-none}
 use Rattle.node_laws.proofs.Counts.{IsProper, canonical-proper, united-canonical, united-grows}
-use Rattle.node_laws.proofs.Lists.{All-flat_map}
+use Rattle.node_laws.proofs.Lists.{All-append}
 
 -- ---- of one sequence
 
+run-proper : (n : ℕ) → (nat_le 1 n && nat_le n max_number) ≡ true → IsProper (record { lower = 1; upper = n })
+run-proper n h =
+    let parts = and_parts (nat_le 1 n) (nat_le n max_number) h in
+    record { low = omega arith; rises = leb-true 1 n parts.0; high = leb-true n max_number parts.1 }
+
 -- acknowledged ranges are ranges of message numbers
-acked-one : (s : ℕ) (f : Fact) → HasValues f → AllByRecursion IsProper (acked_of s f)
-acked-one s (Acked seq ranges) h =
+acked-one : (r : List Fact) (s : ℕ) (f : Fact) → fits r f ≡ true → HasValues f → AllByRecursion IsProper (acked_of s f)
+acked-one r s (Acked seq ranges) fit h =
     elim (seq == s) as (λ b. AllByRecursion IsProper (cond b ranges [])) [
       | true ↦ canonical-proper 1 ranges (omega arith) h
       | false ↦ tt
     ]
-acked-one s _ h = tt
+acked-one r s (Dropped seq upto) fit h =
+    elim (seq == s) as (λ b. AllByRecursion IsProper (cond b (first_run upto) [])) [
+      | true ↦ (
+        run-proper upto (and_parts (accepted_count r seq == 0) _ (and_parts (follows_at r seq (Dropped seq upto)) _
+            fit).1).1,
+        tt,
+      )
+      | false ↦ tt
+    ]
+acked-one r s _ fit h = tt
 
-pub acked-proper : (s : ℕ) (r : List Fact) → AreValues r → AllByRecursion IsProper (acked r s)
-acked-proper s r h = All-flat_map HasValues IsProper (acked_of s) (acked-one s) r h
+pub acked-proper : (s : ℕ) (before r : List Fact) → all_fit before r ≡ true → AreValues r
+    → AllByRecursion IsProper (acked r s)
+acked-proper s before [] fit h = tt
+acked-proper s before (f ∷ r) fit h =
+    let parts = and_parts (fits before f) (all_fit (before ++ f ∷ []) r) fit in
+    All-append IsProper (acked_of s f) (acked r s) (acked-one before s f parts.0 h.0)
+    (acked-proper s (before ++ f ∷ []) r parts.1 h.1)
 
 -- of a sequence, at most what one more record accepts for it is not acknowledged more
-pub unacked-more : RangeIsAdded → (r : List Fact) (f : Fact) (s : ℕ) → AreValues r → HasValues f
-    → unacked (r ++ f ∷ []) s ≤ unacked r s + length (accepted_of s f)
-unacked-more law r f s h k =
-    let texts : length (accepted (r ++ f ∷ []) s) ≡ length (accepted r s) + length (accepted_of s f) =
-    ap length (flat_map-more (accepted_of s) r f) ∙ length-append (accepted r s) (accepted_of s f) in
+pub unacked-more : RangeIsAdded → (r : List Fact) (f : Fact) (s : ℕ) → AreValues r → HasValues f → all_fit [] r ≡ true
+    → fits r f ≡ true → TakesNear r f → unacked (r ++ f ∷ []) s ≤ unacked r s + length (accepted_of s f)
+unacked-more law r f s h k all fit near =
+    let texts : accepted_count (r ++ f ∷ []) s ≡ accepted_count r s + length (accepted_of s f) =
+    count-more r f s (drops-none r f s near) in
     let ranges : united [] (acked (r ++ f ∷ []) s) ≡ united (united [] (acked r s)) (acked_of s f) =
     ap (united []) (flat_map-more (acked_of s) r f) ∙ united-append [] (acked r s) (acked_of s f) in
     let count : count_of (united [] (acked (r ++ f ∷ []) s))
     ≡ count_of (united (united [] (acked r s)) (acked_of s f)) = ap count_of ranges in
     let more : count_of (united [] (acked r s)) ≤ count_of (united (united [] (acked r s)) (acked_of s f)) =
     united-grows law (united [] (acked r s)) (acked_of s f)
-    (united-canonical law [] (acked r s) tt (acked-proper s r h)) (acked-one s f k) in
+    (united-canonical law [] (acked r s) tt (acked-proper s [] r all h)) (acked-one r s f fit k) in
     omega (arith, texts, count, more)
 
 -- nothing was accepted for a sequence that isn't there yet
-pub none-accepted : (r : List Fact) (s : ℕ) → all_fit [] r ≡ true → length (makers r) < s → accepted r s ≡ []
+pub none-accepted : (r : List Fact) (s : ℕ) → all_fit [] r ≡ true → length (makers r) < s → accepted_count r s ≡ 0
 none-accepted r s h past =
-    unnamed (accepted_of s) (length (makers r)) s (λ f. elsewhere_accepted f s) past r (names-fit r h)
+    ap (λ ns. last_or 0 ns + length (accepted r s))
+    (unnamed (dropped_of s) (length (makers r)) s (λ f. elsewhere_dropped f s) past r (names-fit r h))
+    ∙ ap (λ ps. 0 + length ps)
+    (unnamed (accepted_of s) (length (makers r)) s (λ f. elsewhere_accepted f s) past r (names-fit r h))
 
-pub none-unacked : (r : List Fact) (s : ℕ) → accepted r s ≡ [] → unacked r s ≡ 0
-none-unacked r s e = let none : length (accepted r s) ≡ 0 = ap length e in omega (arith, none)
+pub none-unacked : (r : List Fact) (s : ℕ) → accepted_count r s ≡ 0 → unacked r s ≡ 0
+none-unacked r s e = omega (arith, e)
 
 -- ---- sequences that are sent
 
@@ -115,11 +139,12 @@ abbrev waiting : List Fact → ℕ → ℕ
 waiting r s = cond (is_sending (phase r s)) (unacked r s) 0
 
 waiting-more : RangeIsAdded → (r : List Fact) (f : Fact) (s : ℕ) → AreValues r → HasValues f → all_fit [] r ≡ true
-    → fits r f ≡ true → s ≤ length (makers r) → waiting (r ++ f ∷ []) s ≤ waiting r s + length (accepted_of s f)
-waiting-more law r f s h k all fit le = by_phase (is_sending (phase (r ++ f ∷ []) s)) refl
+    → fits r f ≡ true → TakesNear r f → s ≤ length (makers r)
+    → waiting (r ++ f ∷ []) s ≤ waiting r s + length (accepted_of s f)
+waiting-more law r f s h k all fit near le = by_phase (is_sending (phase (r ++ f ∷ []) s)) refl
   where
     one : unacked (r ++ f ∷ []) s ≤ unacked r s + length (accepted_of s f)
-    one = unacked-more law r f s h k
+    one = unacked-more law r f s h k all fit near
 
     by_phase : (b : Bool) → is_sending (phase (r ++ f ∷ []) s) ≡ b
         → cond b (unacked (r ++ f ∷ []) s) 0 ≤ waiting r s + length (accepted_of s f)
@@ -153,21 +178,23 @@ credit-next k (Accepted seq payload) = by_tests (seq == k + 1) (nat_lt (k + 1) s
 credit-next k _ = omega arith
 
 unacked_at-more : RangeIsAdded → (r : List Fact) (f : Fact) (s : ℕ) (m : Maker) → AreValues r → HasValues f
-    → all_fit [] r ≡ true → fits r f ≡ true → s ≤ length (makers r)
+    → all_fit [] r ≡ true → fits r f ≡ true → TakesNear r f → s ≤ length (makers r)
     → unacked_at (r ++ f ∷ []) s m ≤ unacked_at r s m + length (accepted_of s f)
-unacked_at-more law r f s (Outgoing ticket to via lapse) h k all fit le = waiting-more law r f s h k all fit le
-unacked_at-more law r f s (Taken message_id ident endpoint) h k all fit le = waiting-more law r f s h k all fit le
-unacked_at-more law r f s _ h k all fit le = omega arith
+unacked_at-more law r f s (Outgoing ticket to via lapse) h k all fit near le =
+    waiting-more law r f s h k all fit near le
+unacked_at-more law r f s (Taken message_id ident endpoint) h k all fit near le =
+    waiting-more law r f s h k all fit near le
+unacked_at-more law r f s _ h k all fit near le = omega arith
 
 unacked_from-more : RangeIsAdded → (r : List Fact) (f : Fact) (k : ℕ) (ms : List Maker) → AreValues r → HasValues f
-    → all_fit [] r ≡ true → fits r f ≡ true → k + length ms ≤ length (makers r)
+    → all_fit [] r ≡ true → fits r f ≡ true → TakesNear r f → k + length ms ≤ length (makers r)
     → unacked_from (r ++ f ∷ []) k ms ≤ unacked_from r k ms + credit k f
-unacked_from-more law r f k [] h v all fit le = omega arith
-unacked_from-more law r f k (m ∷ ms) h v all fit le =
+unacked_from-more law r f k [] h v all fit near le = omega arith
+unacked_from-more law r f k (m ∷ ms) h v all fit near le =
     let rest : unacked_from (r ++ f ∷ []) (k + 1) ms ≤ unacked_from r (k + 1) ms + credit (k + 1) f =
-    unacked_from-more law r f (k + 1) ms h v all fit (omega (arith, le)) in
+    unacked_from-more law r f (k + 1) ms h v all fit near (omega (arith, le)) in
     let one : unacked_at (r ++ f ∷ []) (k + 1) m ≤ unacked_at r (k + 1) m + length (accepted_of (k + 1) f) =
-    unacked_at-more law r f (k + 1) m h v all fit (omega (arith, le)) in
+    unacked_at-more law r f (k + 1) m h v all fit near (omega (arith, le)) in
     omega (arith, rest, one, credit-next k f)
 
 unacked_from-append : (r : List Fact) (k : ℕ) (ms ns : List Maker)
@@ -199,25 +226,27 @@ none-from r k (m ∷ ms) h =
     let rest : unacked_from r (k + 1) ms ≡ 0 = none-from r (k + 1) ms (λ s lt. h s (omega (arith, lt))) in
     omega (arith, one, rest)
 
+count-none : (r : List Fact) (f : Fact) (s : ℕ) → dropped_of s f ≡ [] → accepted_of s f ≡ []
+    → accepted_count r s ≡ 0 → accepted_count (r ++ f ∷ []) s ≡ 0
+count-none r f s drops accepts none = omega (arith, count-more r f s drops, ap length accepts, none)
+
 -- the sequences that a record makes
 new-from : (r : List Fact) (f : Fact) → all_fit [] r ≡ true
     → unacked_from (r ++ f ∷ []) (length (makers r)) (makers_of f) ≡ 0
 new-from r (Creating ticket to via lapse offer) all =
     let f = Creating ticket to via lapse offer in
     none-from (r ++ f ∷ []) (length (makers r)) (makers_of f)
-    (λ s lt. none-unacked (r ++ f ∷ []) s (flat_map-more (accepted_of s) r f
-    ∙ append-nil (accepted r s) ∙ none-accepted r s all lt))
+    (λ s lt. none-unacked (r ++ f ∷ []) s (count-none r f s refl refl (none-accepted r s all lt)))
 new-from r (Granted counter message_id acks_to behaviour deadline lapse offer) all =
     let f = Granted counter message_id acks_to behaviour deadline lapse offer in
     none-from (r ++ f ∷ []) (length (makers r)) (makers_of f)
-    (λ s lt. none-unacked (r ++ f ∷ []) s (flat_map-more (accepted_of s) r f
-    ∙ append-nil (accepted r s) ∙ none-accepted r s all lt))
+    (λ s lt. none-unacked (r ++ f ∷ []) s (count-none r f s refl refl (none-accepted r s all lt)))
 new-from r _ all = refl
 
 -- of all sequences, at most one more waits, and only where the record accepts a message
 pub all_unacked-more : RangeIsAdded → (r : List Fact) (f : Fact) → AreValues r → HasValues f → all_fit [] r ≡ true
-    → fits r f ≡ true → all_unacked (r ++ f ∷ []) ≤ all_unacked r + credit 0 f
-all_unacked-more law r f h v all fit =
+    → fits r f ≡ true → TakesNear r f → all_unacked (r ++ f ∷ []) ≤ all_unacked r + credit 0 f
+all_unacked-more law r f h v all fit near =
     let made : makers (r ++ f ∷ []) ≡ makers r ++ makers_of f = flat_map-more makers_of r f in
     let parts : all_unacked (r ++ f ∷ []) ≡ unacked_from (r ++ f ∷ []) 0 (makers r)
     + unacked_from (r ++ f ∷ []) (0 + length (makers r)) (makers_of f) =
@@ -226,5 +255,5 @@ all_unacked-more law r f h v all fit =
     let new : unacked_from (r ++ f ∷ []) (0 + length (makers r)) (makers_of f) ≡ 0 =
     ap (λ n. unacked_from (r ++ f ∷ []) n (makers_of f)) place ∙ new-from r f all in
     let old : unacked_from (r ++ f ∷ []) 0 (makers r) ≤ all_unacked r + credit 0 f =
-    unacked_from-more law r f 0 (makers r) h v all fit (omega arith) in
+    unacked_from-more law r f 0 (makers r) h v all fit near (omega arith) in
     omega (arith, parts, new, old)

@@ -1,16 +1,13 @@
 -- What the records of a node say of their sequences keeps the limits.
 use Rattle.std.proofs.Common.{◌≡◌, ℕ, ◌+◌, ◌-◌, ◌<◌, ◌≤◌, ◌==◌, min, max, Bool, true, false, cond, List, [], ◌∷◌}
-use Rattle.std.proofs.Common.{◌++◌, length, refl, sym, ap, subst, ◌∙◌, arith, Option, Some, None, append-nil}
-use Rattle.std.proofs.Common.{length-append}
+use Rattle.std.proofs.Common.{length, sym, subst, arith, Option, Some, None}
 use Rattle.std.specs.Prelude.{nat_le, nat_lt, not, take, filter, zero, suc, IfSome}
-use Rattle.std.specs.List.{AllByRecursion, flat_map}
-use Rattle.std.proofs.lemmas.Bool.{and_parts, ltb-true, leb-true}
-use Rattle.std.proofs.lemmas.Bool.Decides.{nat_tests}
+use Rattle.std.specs.List.{AllByRecursion, flat_map, list_all}
+use Rattle.std.proofs.lemmas.Bool.{and_parts, leb-true}
 use Rattle.ack_ranges.specs.declared.range.Range.{Range}
 use Rattle.ack_ranges.specs.Changes.{with_range}
-use Rattle.ack_ranges.specs.Ranges.{greatest_of}
+use Rattle.ack_ranges.specs.Ranges.{greatest_of, size_of}
 use Rattle.rm_base.specs.Message.{max_number}
-use Rattle.rm_base.specs.Numbered.{numbered}
 use Rattle.rm_base.specs.NumberSet.{has_number}
 use Rattle.rm_base.specs.Text.{IsText}
 use Rattle.rm_base.specs.declared.message.Payload.{Payload}
@@ -18,16 +15,17 @@ use Rattle.rm_elements.specs.Writable.{IsNumber, IsRange, IsKindWritable, IsAckW
 use Rattle.soap_profile.specs.Payload.{IsClosedContent}
 use Rattle.wsa_headers.specs.Writable.{IsEprWritable}
 use Rattle.wsa_headers.specs.declared.endpoint.Epr.{Epr}
-use Rattle.record_batch.specs.Fact.{Fact, Made, Creating, Created, Granted, Accepted, Received}
-use Rattle.rm_destination.specs.Messages.{numbers_of, ranges_onto}
+use Rattle.record_batch.specs.Fact.{Fact, Made, Creating, Created, Granted, Accepted, Purged, Received}
+use Rattle.rm_destination.specs.ItemLemmas.{numbers_of-both}
+use Rattle.rm_destination.specs.Messages.{is_empty, numbers_in, numbers_of, ranges_onto, run_of}
 use Rattle.sequence_table.specs.Words.{Text, at_seq}
 use Rattle.sequence_table.specs.Makers.{Maker, Outgoing, Offered, Incoming, Taken, makers, makers_of, maker}
 use Rattle.sequence_table.specs.Makers.{address}
 use Rattle.sequence_table.specs.Makers.{created_of, created_from, created, ident_in}
-use Rattle.sequence_table.specs.Sources.{accepted, accepted_of, out_ident}
-use Rattle.sequence_table.specs.Destinations.{received, received_of, held, is_over}
+use Rattle.sequence_table.specs.Sources.{accepted, accepted_of, dropped, out_ident, payload_at}
+use Rattle.sequence_table.specs.Destinations.{held, is_over, purged, purged_of, received, received_of}
 use Rattle.sequence_table.specs.Find.{plain_endpoint, peer_of, peer, accept_of, accepted_by, acks_to_of, acks_to}
-use Rattle.sequence_table.specs.Fits.{fits, all_fit, follows_at, is_incoming_side}
+use Rattle.sequence_table.specs.Fits.{fits, all_fit, is_first_run, is_incoming_side, is_up_to}
 use Rattle.sequence_table.specs.GatherLemmas.{flat_map-more}
 use Rattle.rm_protocol.specs.FitInduction.{fit-induction}
 use Rattle.rm_protocol.specs.Messages.{kind_of, block_of}
@@ -107,41 +105,10 @@ closed-one s (Accepted seq payload) h =
     ]
 closed-one s _ h = tt
 
-pub payload-kept : (r : List Fact) (s i : ℕ) → IsKept r → IfSome (numbered (accepted r s) i) IsClosedContent
+pub payload-kept : (r : List Fact) (s i : ℕ) → IsKept r → IfSome (payload_at r s i) IsClosedContent
 payload-kept r s i h =
-    All-numbered IsClosedContent (accepted r s) i
+    All-numbered IsClosedContent (accepted r s) (i - dropped r s)
     (All-flat_map KeepsLimits IsClosedContent (accepted_of s) (closed-one s) r h.node.each)
-
--- ---- how many messages were accepted
-
-fits-few : (r : List Fact) (f : Fact) (s : ℕ) → fits r f ≡ true → length (accepted r s) ≤ max_number
-    → length (accepted (r ++ f ∷ []) s) ≤ max_number
-fits-few r (Accepted seq payload) s fit few =
-    let all : length (accepted (r ++ Accepted seq payload ∷ []) s)
-    ≡ length (accepted r s) + length (accepted_of s (Accepted seq payload)) =
-    ap length (flat_map-more (accepted_of s) r (Accepted seq payload))
-    ∙ length-append (accepted r s) (accepted_of s (Accepted seq payload)) in
-    let room : length (accepted r seq) < max_number =
-    ltb-true (length (accepted r seq)) max_number
-    (and_parts (follows_at r seq (Accepted seq payload)) _ fit).1 in
-    elim (seq == s) as (λ b. (seq == s) ≡ b → length (accepted (r ++ Accepted seq payload ∷ []) s)
-    ≡ length (accepted r s) + length (cond b (payload ∷ []) [])
-    → length (accepted (r ++ Accepted seq payload ∷ []) s) ≤ max_number) [
-      | true ↦ λ e same.
-          let is : seq ≡ s = grind (arith, nat_tests) in
-          let here : length (accepted r s) < max_number =
-          subst (λ n. length (accepted r n) < max_number) is room in
-          omega (arith, same, here)
-      | false ↦ λ e same. omega (arith, same, few)
-    ] refl all
-fits-few r f s fit few =
-    let same : accepted (r ++ f ∷ []) s ≡ accepted r s =
-    flat_map-more (accepted_of s) r f ∙ append-nil (accepted r s) in
-    subst (λ z. length z ≤ max_number) (sym same) few
-
-pub few-accepted : (r : List Fact) (s : ℕ) → all_fit [] r ≡ true → length (accepted r s) ≤ max_number
-few-accepted r s h = fit-induction (λ x. length (accepted x s) ≤ max_number) (omega arith)
-    (λ x f few fit. fits-few x f s fit few) r h
 
 -- ---- endpoints
 
@@ -181,10 +148,6 @@ acks_to-kept r s h = acks_to-by r s h (maker r s) (maker-kept r s h)
 
 -- ---- acknowledgements
 
--- what was received has message numbers
-AreHeld : ℕ → List Fact → Type 0
-AreHeld s r = AllByRecursion (λ (m : ℕ × Payload). IsNumber m.0) (received r s)
-
 received-one : (r : List Fact) (f : Fact) (s : ℕ) → fits r f ≡ true
     → AllByRecursion (λ (m : ℕ × Payload). IsNumber m.0) (received_of s f)
 received-one r (Received seq n payload) s fit =
@@ -198,21 +161,72 @@ received-one r (Received seq n payload) s fit =
     ]
 received-one r _ s fit = tt
 
+-- so have those that are gone
+IsSpan : Range → Type 0
+IsSpan x = (1 ≤ x.lower) × (x.upper ≤ max_number)
+
+spans-of : (ranges : List Range) → list_all (is_up_to max_number) ranges ≡ true → AllByRecursion IsSpan ranges
+unfolding IsSpan
+spans-of [] h = tt
+spans-of (x ∷ ranges) h =
+    let parts = and_parts (is_up_to max_number x) (list_all (is_up_to max_number) ranges) h in
+    let ends = and_parts (nat_le 1 x.lower) (nat_le x.upper max_number) parts.0 in
+    ((leb-true 1 x.lower ends.0, leb-true x.upper max_number ends.1), spans-of ranges parts.1)
+
+purged-one : (r : List Fact) (f : Fact) (s : ℕ) → fits r f ≡ true → AllByRecursion IsSpan (purged_of s f)
+purged-one r (Purged seq ranges) s fit =
+    let one = and_parts (is_incoming_side (maker r seq)) _ fit in
+    let two = and_parts (is_empty (held r seq)) _ one.1 in
+    let three = and_parts (list_all (is_up_to max_number) ranges) (is_first_run ranges) two.1 in
+    elim (seq == s) as (λ b. AllByRecursion IsSpan (cond b ranges [])) [
+      | true ↦ spans-of ranges three.0
+      | false ↦ tt
+    ]
+purged-one r _ s fit = tt
+
+-- what was received has message numbers
+AreHeld : ℕ → List Fact → Type 0
+AreHeld s r = AllByRecursion IsSpan (purged r s) × AllByRecursion (λ (m : ℕ × Payload). IsNumber m.0) (received r s)
+
 are-held : (r : List Fact) (s : ℕ) → all_fit [] r ≡ true → AreHeld s r
 unfolding AreHeld
-are-held r s h = fit-induction (AreHeld s) tt
-    (λ x f old fit. subst (AllByRecursion (λ (m : ℕ × Payload). IsNumber m.0))
-    (sym (flat_map-more (received_of s) x f))
-    (All-append (λ (m : ℕ × Payload). IsNumber m.0) (received x s) (received_of s f) old (received-one x f s fit))) r h
+are-held r s h = fit-induction (AreHeld s) (tt, tt)
+    (λ x f old fit. (
+      subst (AllByRecursion IsSpan) (sym (flat_map-more (purged_of s) x f))
+          (All-append IsSpan (purged x s) (purged_of s f) old.0 (purged-one x f s fit)),
+      subst (AllByRecursion (λ (m : ℕ × Payload). IsNumber m.0)) (sym (flat_map-more (received_of s) x f))
+          (All-append (λ (m : ℕ × Payload). IsNumber m.0) (received x s) (received_of s f) old.1
+          (received-one x f s fit)),
+    )) r h
 
 numbers-of : (ms : List (ℕ × Payload)) → AllByRecursion (λ (m : ℕ × Payload). IsNumber m.0) ms
     → AllByRecursion IsNumber (numbers_of ms)
 numbers-of [] h = tt
 numbers-of (m ∷ ms) h = (h.0, numbers-of ms h.1)
 
+run-numbers : (lower k : ℕ) → 1 ≤ lower → (0 < k → lower + k ≤ max_number + 1)
+    → AllByRecursion IsNumber (run_of lower k)
+run-numbers lower zero low high = tt
+run-numbers lower (suc k) low high =
+    let top = high (omega arith) in (
+      record { low = low; high = omega (arith, top) },
+      run-numbers (lower + 1) k (omega arith) (λ lt. omega (arith, top)),
+    )
+
+spans-numbers : (ranges : List Range) → AllByRecursion IsSpan ranges → AllByRecursion IsNumber (numbers_in ranges)
+unfolding IsSpan
+spans-numbers [] h = tt
+spans-numbers (x ∷ ranges) h =
+    All-append IsNumber (run_of x.lower (size_of x)) (numbers_in ranges)
+    (run-numbers x.lower (size_of x) h.0.0 (λ lt. omega (arith, lt, h.0.1))) (spans-numbers ranges h.1)
+
 held-numbers : (r : List Fact) (s : ℕ) → all_fit [] r ≡ true → AllByRecursion IsNumber (held r s)
 unfolding AreHeld
-held-numbers r s h = numbers-of (received r s) (are-held r s h)
+held-numbers r s h =
+    let are = are-held r s h in
+    subst (AllByRecursion IsNumber) (sym (numbers_of-both (numbers_in (purged r s)) (received r s)))
+    (All-append IsNumber (numbers_in (purged r s)) (numbers_of (received r s)) (spans-numbers (purged r s) are.0)
+    (numbers-of (received r s) are.1))
 
 -- a range of message numbers
 range-is : (lower upper : ℕ) → IsNumber lower → IsNumber upper → lower ≤ upper

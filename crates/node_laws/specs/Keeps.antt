@@ -16,6 +16,7 @@ use Rattle.record_batch.specs.Fact.{Fact}
 use Rattle.sequence_table.specs.Fits.{is_in_order}
 use Rattle.sequence_table.specs.Words.{Text}
 use Rattle.rm_protocol.specs.Calls.{Answer, Wish, create, send, close, end, tick, ask_ack, nack_missing, receive}
+use Rattle.rm_protocol.specs.Calls.{consume}
 use Rattle.rm_protocol.specs.Node.{fetched_message}
 use Rattle.rm_protocol.specs.PollLemmas.{AllWaiting}
 use Rattle.rm_protocol.specs.Polls.{poll, polled_after, polls}
@@ -34,6 +35,7 @@ pub record OfEachCall (terms : Terms) (r : List Fact) (place : ℕ) (P : Answer 
   pub tick_ : (now time : ℕ) (waits : List Wait) → P (tick terms r place now time waits)
   pub ask_ack_ : (s : ℕ) → P (ask_ack r s)
   pub nack_missing_ : (s now : ℕ) → P (nack_missing r s now)
+  pub consume_ : (s upto : ℕ) → P (consume terms r place s upto)
   pub poll_ : (to : Text) → IsText 2048 to → P (poll r to)
   pub receive_ : (now : ℕ) (behaviour : Behaviour) (content : Result Message Refusal) → is_in_order behaviour ≡ true
       → IsContentRead content → P (receive terms r place now behaviour content)

@@ -17,15 +17,14 @@ use Rattle.record_batch.specs.declared.record.OwnOffer.{OwnOffer}
 use Rattle.record_batch.specs.declared.record.PeerOffer.{PeerOffer}
 use Rattle.record_batch.specs.declared.record.Via.{Via}
 use Rattle.record_batch.specs.Fact.{Fact, Creating, Granted, Accepted, Closing, ClosedOut, Closed, Ending}
-use Rattle.record_batch.specs.Fact.{EndedOut}
-use Rattle.record_batch.specs.Fact.{Ended, Failed}
+use Rattle.record_batch.specs.Fact.{EndedOut, Ended, Failed, Consumed}
 use Rattle.rm_destination.specs.Messages.{is_empty}
 use Rattle.sequence_table.specs.Words.{Text, at_seq, last_or}
 use Rattle.sequence_table.specs.Idents.{issue}
 use Rattle.sequence_table.specs.Makers.{Maker, Outgoing, Offered, Incoming, Taken, makers, makers_of, maker, counter}
 use Rattle.sequence_table.specs.Makers.{number, address}
-use Rattle.sequence_table.specs.Sources.{accepted, mark_of, marks, out_ident, phase}
-use Rattle.sequence_table.specs.Destinations.{has_end, is_over}
+use Rattle.sequence_table.specs.Sources.{accepted_count, mark_of, marks, out_ident, phase}
+use Rattle.sequence_table.specs.Destinations.{cursor, has_end, inbox, is_over}
 use Rattle.sequence_table.specs.Find.{acks_to, peer}
 use Rattle.rm_protocol.specs.Sound.{SaysCreate, Says, IsWith, Owns, Allows, Keeps, AreWith}
 use Rattle.std.specs.Prelude.{Result, Ok, Err}
@@ -41,7 +40,7 @@ use Rattle.rm_protocol.specs.Calls.{if_room, Wish, offer_of, wanted, create, is_
 use Rattle.rm_protocol.specs.Calls.{close_out, close_in, close_by, close, may_end, end_out, end, expired_from, tick}
 use Rattle.rm_protocol.specs.Calls.{judged, receive, refusal_of, fault_block, message_at, messages_at, ticked}
 use Rattle.rm_protocol.specs.Calls.{ask_to, ask_out, ask_ack, on_incoming, missing_of, nack_to, nack_by, nack_in}
-use Rattle.rm_protocol.specs.Calls.{nack_missing}
+use Rattle.rm_protocol.specs.Calls.{nack_missing, consume, consume_in, cursor_to, PastInbox}
 use Rattle.rm_protocol.specs.Calls.{made_by}
 use Rattle.rm_protocol.specs.Addresses.{is_anonymous}
 use Rattle.wsa_headers.specs.declared.endpoint.Epr.{Epr}
@@ -113,13 +112,15 @@ pub create-right : (terms : Terms) (place : ℕ) (r a b : List Fact) (wish : Wis
 create-right terms place r a b wish w e =
     let rec = Creating (counter r + 1) wish.to wish.via wish.expires (offer_of (counter r) wish.offer) in
     let same : counter r ≡ counter a = kept-counter r a w in
+    let allows : Allows a b (rec ∷ []) = ((ap (λ z. z + 1) same, offer_of-fresh r a wish.offer same), tt, tt) in
     refused-or terms place a b (nat_lt most_sequences (length (makers r) + wanted wish.offer))
     (TooManySequences (length (makers r))) _
     (if_room-right terms place a b _ (record {
-      allows = ((ap (λ z. z + 1) same, offer_of-fresh r a wish.offer same), tt, tt);
+      allows = allows;
       with_ = made-with b (counter r + 1) wish.to wish.via wish.expires (offer_of (counter r) wish.offer) e;
       fetched = tt;
-      says = request_at-says (r ++ rec ∷ []) (a ++ rec ∷ []) (length (makers r) + 1) (Keeps-adds r a (rec ∷ []) w);
+      says = request_at-says (r ++ rec ∷ []) (a ++ rec ∷ []) (length (makers r) + 1)
+          (Keeps-adds r a b (rec ∷ []) allows w);
     }))
 
 -- no phase record makes a sequence open again
@@ -175,20 +176,22 @@ send_out-right terms place r a b s text w =
     by_phase : (x : Bool) → is_open (phase r s) ≡ x → IsRight terms place a b (cond (not x) (refusal NotOpen)
         (cond (nat_le window (unacked r s)) (refusal (WindowFull (unacked r s)))
         (cond (nat_le most_unacked (all_unacked r)) (refusal (NodeFull (all_unacked r)))
-        (cond (nat_le max_number (length (accepted r s))) (refusal Rollover)
+        (cond (nat_le max_number (accepted_count r s)) (refusal Rollover)
         (if_room terms place (adds r (Accepted s text ∷ [])
-        (λ now. option_to_list (data_at now s (length (accepted r s) + 1)))))))))
+        (λ now. option_to_list (data_at now s (accepted_count r s + 1)))))))))
     by_phase false e = refusal-right terms place a b NotOpen
     by_phase true e =
+        let allows : Allows a b (Accepted s text ∷ []) =
+        (ap (λ z. is_empty (at_seq s z)) (sym w.same.frame.marks_) ∙ open-unmarked r s e, tt, tt) in
         refused-or terms place a b (nat_le window (unacked r s)) (WindowFull (unacked r s)) _
         (refused-or terms place a b (nat_le most_unacked (all_unacked r)) (NodeFull (all_unacked r)) _
-        (refused-or terms place a b (nat_le max_number (length (accepted r s))) Rollover _
+        (refused-or terms place a b (nat_le max_number (accepted_count r s)) Rollover _
         (if_room-right terms place a b _ (record {
-          allows = (ap (λ z. is_empty (at_seq s z)) (sym w.marks_) ∙ open-unmarked r s e, tt, tt);
+          allows = allows;
           with_ = tt;
           fetched = tt;
-          says = data_at-says (r ++ Accepted s text ∷ []) (a ++ Accepted s text ∷ []) s (length (accepted r s) + 1)
-              (Keeps-adds r a (Accepted s text ∷ []) w);
+          says = data_at-says (r ++ Accepted s text ∷ []) (a ++ Accepted s text ∷ []) s (accepted_count r s + 1)
+              (Keeps-adds r a b (Accepted s text ∷ []) allows w);
         }))))
 
 on_outgoing-right : (terms : Terms) (place : ℕ) (a b : List Fact) (x : Option Maker) (answer : Answer)
@@ -220,7 +223,7 @@ close_out-right terms place r a b s w = chosen (is_open (phase r s))
       with_ = tt;
       fetched = tt;
       says = request_at-says (r ++ Closing s (counter r + 1) ∷ []) (a ++ Closing s (counter r + 1) ∷ []) s
-          (Keeps-adds r a (Closing s (counter r + 1) ∷ []) w);
+          (Keeps-adds r a b (Closing s (counter r + 1) ∷ []) (tt, tt, tt) w);
     })
 
     chosen : (x : Bool) → IsRight terms place a b
@@ -237,7 +240,7 @@ close_in-right terms place r a b s now w =
       with_ = tt;
       fetched = tt;
       says = final_ack-says (r ++ Closed s Operator 0 ∷ []) (a ++ Closed s Operator 0 ∷ []) s now
-          (Keeps-adds r a (Closed s Operator 0 ∷ []) w);
+          (Keeps-adds r a b (Closed s Operator 0 ∷ []) (tt, tt, tt) w);
     }))
 
 pub close-right : (terms : Terms) (place : ℕ) (r a b : List Fact) (s now : ℕ) → Keeps r a
@@ -263,7 +266,7 @@ end_out-right terms place r a b s w = chosen (may_end (phase r s))
       with_ = tt;
       fetched = tt;
       says = request_at-says (r ++ Ending s (counter r + 1) ∷ []) (a ++ Ending s (counter r + 1) ∷ []) s
-          (Keeps-adds r a (Ending s (counter r + 1) ∷ []) w);
+          (Keeps-adds r a b (Ending s (counter r + 1) ∷ []) (tt, tt, tt) w);
     })
     chosen false = refusal-right terms place a b NotOpen
 
@@ -310,7 +313,7 @@ ticked-allowed r a b now keys delta w h k = record {
   allows = h;
   with_ = k;
   fetched = tt;
-  says = messages_at-says (r ++ delta) (a ++ delta) keys (Keeps-adds r a delta w);
+  says = messages_at-says (r ++ delta) (a ++ delta) keys (Keeps-adds r a b delta h w);
 }
 
 pub tick-right : (terms : Terms) (place : ℕ) (r a b : List Fact) (now time : ℕ) (waits : List Wait) → Keeps r a
@@ -371,14 +374,20 @@ nack_by-says : (a r : List Fact) (s : ℕ) (made : Option (ℕ × Text)) → All
 nack_by-says a r s None = tt
 nack_by-says a r s (Some made) = nack-says a (acks_to r s) (issue (number r) made.0) (missing_of r s)
 
+on_incoming-right : (terms : Terms) (place : ℕ) (a b : List Fact) (x : Option Maker) (answer : Answer)
+    → IsRight terms place a b answer
+    → IsRight terms place a b (on_incoming x answer)
+on_incoming-right terms place a b None answer h = refusal-right terms place a b NoSequence
+on_incoming-right terms place a b (Some (Outgoing t to v l)) answer h = refusal-right terms place a b WrongSide
+on_incoming-right terms place a b (Some (Taken t q k)) answer h = refusal-right terms place a b WrongSide
+on_incoming-right terms place a b (Some (Offered t c to y)) answer h = h
+on_incoming-right terms place a b (Some (Incoming c t k y d l)) answer h = h
+
 pub nack_missing-right : (terms : Terms) (place : ℕ) (r a b : List Fact) (s now : ℕ)
     → IsRight terms place a b (nack_missing r s now)
-nack_missing-right terms place r a b s now = by_maker (maker r s)
-  where
-    chosen : (x : Bool) → IsRight terms place a b
-        (cond x (refusal NotOpen) (adds r [] (λ after. nack_by after s (made_by after (maker after s)))))
-    chosen true = refusal-right terms place a b NotOpen
-    chosen false = record {
+nack_missing-right terms place r a b s now =
+    on_incoming-right terms place a b (maker r s) (nack_in r s now)
+    (refused-or terms place a b (is_over r s now) NotOpen _ (record {
       allowed = record {
         allows = tt;
         with_ = tt;
@@ -386,14 +395,19 @@ nack_missing-right terms place r a b s now = by_maker (maker r s)
         says = nack_by-says (a ++ []) (r ++ []) s (made_by (r ++ []) (maker (r ++ []) s));
       };
       room = refl;
-    }
+    }))
 
-    by_maker : (x : Option Maker) → IsRight terms place a b (on_incoming x (nack_in r s now))
-    by_maker None = refusal-right terms place a b NoSequence
-    by_maker (Some (Outgoing t to v l)) = refusal-right terms place a b WrongSide
-    by_maker (Some (Taken t q k)) = refusal-right terms place a b WrongSide
-    by_maker (Some (Offered t c to y)) = chosen (is_over r s now)
-    by_maker (Some (Incoming c t k y d l)) = chosen (is_over r s now)
+-- consume says nothing
+pub consume-right : (terms : Terms) (place : ℕ) (r a b : List Fact) (s upto : ℕ)
+    → IsRight terms place a b (consume terms r place s upto)
+consume-right terms place r a b s upto =
+    on_incoming-right terms place a b (maker r s) (consume_in terms r place s upto)
+    (refused-or terms place a b (nat_lt (length (inbox r s)) upto) (PastInbox (length (inbox r s))) _
+    (if_room-right terms place a b (adds r (cursor_to r s upto) (λ after. [])) (chosen (nat_lt (cursor r s) upto))))
+  where
+    chosen : (x : Bool) → IsAllowed a b (adds r (cond x (Consumed s upto ∷ []) []) (λ after. []))
+    chosen true = record { allows = (tt, tt, tt); with_ = tt; says = tt; fetched = tt }
+    chosen false = record { allows = tt; with_ = tt; says = tt; fetched = tt }
 
 -- receive: the sequences that a message makes are between the node and the one that says it
 heard_one-with : (b : List Fact) (m : Message) → Says b m → (rec : Fact) → Heard m rec
@@ -454,7 +468,7 @@ judged-right n terms place r a b now y m None t w o h e = record {
     with_ = heard-with b m h (rows terms now y m r) (rows-heard terms now y m r);
     fetched = tt;
     says = said-says (r ++ rows terms now y m r) (a ++ rows terms now y m r) now m
-        (Keeps-adds r a (rows terms now y m r) w);
+        (Keeps-adds r a b (rows terms now y m r) (rows-right b terms now y m h n r a w o) w);
   };
   room = verdict-room terms r place now y m e;
 }

@@ -1,93 +1,44 @@
 -- The keys that wait at a node stay exactly those that wait by its records.
 use Rattle.std.proofs.Common.{◌≡◌, ◌⊎◌, ℕ, zero, suc, ◌+◌, ◌<◌, ◌≤◌, ◌==◌, ◌&&◌, ◌||◌, not, nat_le, cond, Bool, true}
 use Rattle.std.proofs.Common.{false}
-use Rattle.std.proofs.Common.{List, [], ◌∷◌, ◌++◌, length, map, filter, refl, sym, ap, ap₂, ◌∙◌, subst, arith, inl, inr}
-use Rattle.std.proofs.Common.{append-nil, append_assoc, length-append}
+use Rattle.std.proofs.Common.{List, [], ◌∷◌, ◌++◌, map, filter, refl, sym, ap, ap₂, ◌∙◌, subst, arith, inl, inr}
+use Rattle.std.proofs.Common.{append-nil, append_assoc}
 use Rattle.std.specs.Prelude.{Option, Some, None, slice_get}
-use Rattle.std.specs.List.{list_all}
 use Rattle.std.proofs.lemmas.Bool.{and_parts, eqb-true, false≢true}
 use Rattle.std.proofs.lemmas.Bool.Decides.{nat_tests}
 use Rattle.ack_ranges.specs.declared.range.Range.{Range}
-use Rattle.ack_ranges.specs.Changes.{united}
-use Rattle.ack_ranges.specs.Laws.{UnionWithNothing}
+use Rattle.ack_ranges.specs.Changes.{united, with_range}
 use Rattle.ack_ranges.specs.Ranges.{in_range, in_ranges}
 use Rattle.rm_timers.specs.declared.timers.Key.{Key}
 use Rattle.key_timers.specs.Waits.{Wait, same_key, has_key, keys_of, at_key, without, moved_last, begun, urged, sent}
 use Rattle.key_timers.specs.Waits.{begin_all}
 use Rattle.key_timers.specs.KeyLemmas.{same_key-is, same_key-refl, same_key-sym}
 use Rattle.key_timers.specs.Waits.{urge_all, send_all, emitted, put_into, fresh}
-use Rattle.record_batch.specs.Fact.{Fact, Acked}
-use Rattle.record_snapshot.specs.Same.{SaysTheSame, UnionsAreSets}
-use Rattle.record_snapshot.specs.SameLemmas.{same_accepted, same_acked, snapshot_says}
+use Rattle.record_batch.specs.Fact.{Fact}
+use Rattle.record_snapshot.specs.AckedLemmas.{acked-within}
+use Rattle.record_snapshot.specs.Same.{SaysTheSame, SnapshotSaysTheSame}
 use Rattle.record_snapshot.specs.Snapshot.{snapshot}
 use Rattle.rm_base.specs.Numbered.{numbered}
 use Rattle.sequence_table.specs.Makers.{Maker, Outgoing, Offered, Incoming, Taken, makers, maker}
-use Rattle.sequence_table.specs.Sources.{is_sending, accepted, accepted_of, acked, acked_of, phase}
-use Rattle.sequence_table.specs.Fits.{fits, all_fit, is_outgoing_side, is_up_to}
+use Rattle.sequence_table.specs.Sources.{accepted_count, acked, first_phase, is_sending, marks, out_ident, phase}
+use Rattle.sequence_table.specs.Words.{at_seq, last_or}
+use Rattle.sequence_table.specs.Makers.{ident_in}
+use Rattle.rm_source.specs.Outgoing.{Sending, accepted_count as count_of}
+use Rattle.sequence_table.specs.Fits.{fits, all_fit}
 use Rattle.sequence_table.specs.Told.{sending}
-use Rattle.sequence_table.specs.GatherLemmas.{flat_map-more}
-use Rattle.rm_protocol.specs.FitInduction.{fit-induction, creating-accepts-none}
+use Rattle.rm_protocol.specs.FitInduction.{creating-accepts-none}
 use Rattle.rm_protocol.proofs.RangeLemmas.{canonical-has}
-use Rattle.rm_protocol.proofs.WaitingLemmas.{one-begins}
-use Rattle.rm_protocol.specs.Exact.{AreExactly, AreWithin}
+use Rattle.rm_protocol.proofs.WaitingLemmas.{one-begins, united-keeps, with_range-adds}
+use Rattle.rm_protocol.specs.Exact.{AreExactly, AreWithin, StaysExactInShort}
 use Rattle.rm_protocol.specs.Waiting.{Moves, is_waiting, begun_of, begun_by, still, waits_after, key, numbers_from}
-use Rattle.rm_protocol.specs.Waiting.{key_count}
+use Rattle.rm_protocol.specs.Waiting.{is_requesting, key_count}
 use Rattle.rm_protocol.specs.Waiting.{keys_at, keys_from, waiting_keys, mounted_waits, waits_in, waits_of}
 use Rattle.rm_protocol.proofs.ListLemmas.{numbered-next}
 
--- ---- acknowledged numbers, record by record
-
-FlatWithin : List Fact → Type 0
-FlatWithin r = (s n : ℕ) → in_ranges (acked r s) n ≡ true → n ≤ length (accepted r s)
-
-either-range : (xs ys : List Range) (n : ℕ) → in_ranges (xs ++ ys) n ≡ true
-    → (in_ranges xs n ≡ true) ⊎ (in_ranges ys n ≡ true)
-either-range [] ys n h = inr h
-either-range (x ∷ xs) ys n h =
-    elim (in_range x n) as (λ b. (b || in_ranges (xs ++ ys) n) ≡ true
-    → ((b || in_ranges xs n) ≡ true) ⊎ (in_ranges ys n ≡ true)) [
-      | true ↦ λ e. inl refl
-      | false ↦ λ e. either-range xs ys n e
-    ] h
-
-up-to : (m n : ℕ) (ranges : List Range) → list_all (is_up_to m) ranges ≡ true → in_ranges ranges n ≡ true → n ≤ m
-up-to m n [] h e = absurd (cc)
-up-to m n (x ∷ ranges) h e =
-    let parts = and_parts (is_up_to m x) (list_all (is_up_to m) ranges) h in
-    elim (in_range x n) as (λ b. in_range x n ≡ b → (b || in_ranges ranges n) ≡ true → n ≤ m) [
-      | true ↦ λ d k. grind (arith, nat_tests, d, parts.0)
-      | false ↦ λ d k. up-to m n ranges parts.1 k
-    ] refl e
-
-acked-within : (r : List Fact) (f : Fact) (s n : ℕ) → fits r f ≡ true → in_ranges (acked_of s f) n ≡ true
-    → n ≤ length (accepted r s)
-acked-within r (Acked seq ranges) s n fit h =
-    elim (seq == s) as (λ b. (seq == s) ≡ b → in_ranges (cond b ranges []) n ≡ true → n ≤ length (accepted r s)) [
-      | true ↦ λ e k.
-          let all = (and_parts (is_outgoing_side (maker r seq)) (list_all (is_up_to (length (accepted r seq))) ranges)
-          fit).1 in
-          subst (λ z. n ≤ length (accepted r z)) (eqb-true seq s e) (up-to (length (accepted r seq)) n ranges all k)
-      | false ↦ λ e k. absurd (cc)
-    ] refl h
-acked-within r _ s n fit h = absurd (cc)
-
-within-more : (r : List Fact) (f : Fact) → FlatWithin r → fits r f ≡ true → FlatWithin (r ++ f ∷ [])
-unfolding FlatWithin
-within-more r f h fit s n e =
-    let long : length (accepted (r ++ f ∷ []) s) ≡ length (accepted r s) + length (accepted_of s f) =
-    ap length (flat_map-more (accepted_of s) r f) ∙ length-append (accepted r s) (accepted_of s f) in
-    let low : n ≤ length (accepted r s) =
-    elim (either-range (acked r s) (acked_of s f) n
-    (ap (λ (v : List Range). in_ranges v n) (sym (flat_map-more (acked_of s) r f)) ∙ e)) [
-      | inl x ↦ h s n x
-      | inr x ↦ acked-within r f s n fit x
-    ] in
-    omega (arith, long, low)
+-- ---- acknowledged numbers
 
 pub all-within : (r : List Fact) → all_fit [] r ≡ true → AreWithin r
-unfolding FlatWithin
-all-within r h s n e =
-    fit-induction FlatWithin (λ t m k. absurd (cc)) within-more r h s n (canonical-has (acked r s) n e)
+all-within r h s n e = acked-within [] r s n h (canonical-has (acked r s) n e)
 
 -- ---- batches
 
@@ -287,11 +238,11 @@ has-from r (x ∷ ms) n (suc j) m k e at lt =
     ∙ or-back (has_key (keys_at r (n + 1) x) k) (has_key (keys_from r (n + 1) ms) k)
     (has-from r ms (n + 1) j m k e (omega (arith, at)) lt)
 
-counted : (r : List Fact) (s i : ℕ) → waits_in (sending r s) i ≡ true → i < length (accepted r s) + 1
+counted : (r : List Fact) (s i : ℕ) → waits_in (sending r s) i ≡ true → i < accepted_count r s + 1
 counted r s zero h = omega arith
 counted r s (suc i) h =
     let one = and_parts (is_sending (phase r s)) _ h in
-    let two = and_parts (nat_le (suc i) (length (accepted r s))) _ one.1 in
+    let two = and_parts (nat_le (suc i) (accepted_count r s)) _ one.1 in
     grind (arith, nat_tests, two.0)
 
 waiting-there : (r : List Fact) (k : Key) (x : Option Maker) → maker r k.seq ≡ x
@@ -347,32 +298,52 @@ exact-mounted r k =
     ] refl
 
 -- what records say in short leaves what waits
-waits-in-short : UnionWithNothing → (r : List Fact) → UnionsAreSets r → (k : Key)
-    → is_waiting (snapshot r) k ≡ is_waiting r k
-waits-in-short nothing r sets k =
-    ap (λ (ms : List Maker). waits_of (snapshot r) k.seq k.number (numbered ms k.seq)) says.makers_
+waits-by : (t u : Sending) → t.phase ≡ u.phase → count_of t ≡ count_of u
+    → ((n : ℕ) → in_ranges t.acked n ≡ in_ranges u.acked n) → (i : ℕ) → waits_in t i ≡ waits_in u i
+waits-by t u phases counts acks zero = ap is_requesting phases
+waits-by t u phases counts acks (suc i) =
+    ap (λ p. is_sending p && (nat_le (suc i) (count_of t) && not (in_ranges t.acked (suc i)))) phases
+    ∙ ap (λ n. is_sending u.phase && (nat_le (suc i) n && not (in_ranges t.acked (suc i)))) counts
+    ∙ ap (λ b. is_sending u.phase && (nat_le (suc i) (count_of u) && not b)) (acks (suc i))
+
+-- a union has the numbers of ranges
+united-adds : (xs ys : List Range) (n : ℕ) → in_ranges ys n ≡ true → in_ranges (united xs ys) n ≡ true
+united-adds xs [] n e = absurd (cc)
+united-adds xs (y ∷ ys) n e = elim (in_range y n) as (λ b. in_range y n ≡ b → (b || in_ranges ys n) ≡ true
+    → in_ranges (united (with_range xs y.lower y.upper) ys) n ≡ true) [
+      | true ↦ λ d k. united-keeps (with_range xs y.lower y.upper) ys n (with_range-adds xs y.lower y.upper n d)
+      | false ↦ λ d k. united-adds (with_range xs y.lower y.upper) ys n k
+    ] refl e
+
+united-same : (xs : List Range) (n : ℕ) → in_ranges (united [] xs) n ≡ in_ranges xs n
+united-same xs n = same (in_ranges (united [] xs) n) (in_ranges xs n) (canonical-has xs n) (united-adds [] xs n)
+  where
+    same : (a b : Bool) → (a ≡ true → b ≡ true) → (b ≡ true → a ≡ true) → a ≡ b
+    same true b f g = sym (f refl)
+    same false true f g = g refl
+    same false false f g = refl
+
+-- lists that say the same have the same keys waiting
+waits-same : (q r : List Fact) → SaysTheSame q r → (k : Key) → is_waiting q k ≡ is_waiting r k
+waits-same q r says k =
+    ap (λ (ms : List Maker). waits_of q k.seq k.number (numbered ms k.seq)) says.frame.makers_
     ∙ by_maker (maker r k.seq)
   where
-    says : SaysTheSame (snapshot r) r
-    says = snapshot_says nothing r sets
+    phases : phase q k.seq ≡ phase r k.seq
+    phases =
+        ap (λ cs. last_or (first_phase (ident_in cs k.seq)) (marks q k.seq)) says.frame.created_
+        ∙ ap (λ ms. last_or (first_phase (out_ident r k.seq)) (at_seq k.seq ms)) says.frame.marks_
 
-    same : sending (snapshot r) k.seq ≡ sending r k.seq
-    same =
-        ap (λ p. record {
-          phase = p;
-          accepted = accepted (snapshot r) k.seq;
-          acked = united [] (acked (snapshot r) k.seq);
-        }) (says.phase_ k.seq)
-        ∙ ap₂ (λ xs ns. record { phase = phase r k.seq; accepted = xs; acked = ns })
-        (same_accepted r k.seq) (same_acked nothing r sets k.seq)
+    same : waits_in (sending q k.seq) k.number ≡ waits_in (sending r k.seq) k.number
+    same = waits-by (sending q k.seq) (sending r k.seq) phases (says.sent k.seq).count
+        (λ n. united-same (acked q k.seq) n ∙ (says.sent k.seq).acked_ n ∙ sym (united-same (acked r k.seq) n)) k.number
 
-    by_maker : (m : Option Maker) → waits_of (snapshot r) k.seq k.number m ≡ waits_of r k.seq k.number m
+    by_maker : (m : Option Maker) → waits_of q k.seq k.number m ≡ waits_of r k.seq k.number m
     by_maker None = refl
-    by_maker (Some (Outgoing ticket to via lapse)) = ap (λ t. waits_in t k.number) same
-    by_maker (Some (Taken message_id ident endpoint)) = ap (λ t. waits_in t k.number) same
+    by_maker (Some (Outgoing ticket to via lapse)) = same
+    by_maker (Some (Taken message_id ident endpoint)) = same
     by_maker (Some (Incoming counter message_id acks_to behaviour deadline lapse)) = refl
     by_maker (Some (Offered ticket counter to behaviour)) = refl
 
-pub exact-in-short : UnionWithNothing → (r : List Fact) (waits : List Wait) → UnionsAreSets r → AreExactly r waits
-    → AreExactly (snapshot r) waits
-exact-in-short nothing r waits sets exact k = exact k ∙ sym (waits-in-short nothing r sets k)
+pub exact-in-short : SnapshotSaysTheSame → StaysExactInShort
+exact-in-short law r waits fit proper exact k = exact k ∙ sym (waits-same (snapshot r) r (law r fit proper) k)

@@ -34,14 +34,14 @@ use Rattle.soap_profile.specs.declared.name.Expanded.{Expanded}
 use Rattle.wsa_headers.specs.declared.endpoint.Epr.{Epr}
 use Rattle.record_batch.specs.Fact.{Fact, Creating, Created, Granted, Closing, ClosedOut, Accepted, Acked}
 use Rattle.record_batch.specs.Fact.{Received}
-use Rattle.record_batch.specs.Fact.{Closed, Ending, EndedOut, Ended, Failed}
+use Rattle.record_batch.specs.Fact.{Closed, Ending, EndedOut, Ended, Failed, Consumed}
 use Rattle.record_batch.specs.declared.record.PeerOffer.{PeerOffer}
 use Rattle.record_batch.specs.declared.record.Via.{Via}
-use Rattle.sequence_table.specs.Words.{Text, at_seq}
+use Rattle.sequence_table.specs.Words.{Text, at_seq, last_or}
 use Rattle.sequence_table.specs.Makers.{Maker, Outgoing, Offered, Incoming, Taken, makers, makers_of, maker, created}
 use Rattle.sequence_table.specs.Makers.{created_of, seq_in, counter}
-use Rattle.sequence_table.specs.Sources.{is_sending, out_ident, phase, accepted, accepted_of, acked, unacked}
-use Rattle.sequence_table.specs.Sources.{all_unacked}
+use Rattle.sequence_table.specs.Sources.{accepted, accepted_count, accepted_of, acked, all_unacked, dropped, dropped_of}
+use Rattle.sequence_table.specs.Sources.{is_sending, out_ident, phase, unacked}
 use Rattle.sequence_table.specs.Find.{find_incoming, find_outgoing, find_creating, find_grant, is_granted}
 use Rattle.sequence_table.specs.Find.{is_offered, find_from, peer}
 use Rattle.sequence_table.specs.Fits.{is_outgoing_side, is_incoming_side, follows, follows_at, is_up_to, fits}
@@ -49,7 +49,7 @@ use Rattle.sequence_table.specs.Fits.{all_fit, is_in_order, is_no_moment, offer_
 use Rattle.rm_destination.specs.Incoming.{is_past}
 use Rattle.rm_destination.specs.Messages.{any_true}
 use Rattle.sequence_table.specs.Destinations.{held, front, close_of, closes, is_stopped, has_end}
-use Rattle.sequence_table.specs.Destinations.{is_over, is_ended, deadline_of}
+use Rattle.sequence_table.specs.Destinations.{cursor, inbox, is_over, is_ended, deadline_of}
 use Rattle.rm_protocol.specs.Verdict.{tests, is_above, verdict, has_room, is_invalid, is_invalid_at, refuses_create}
 use Rattle.rm_protocol.specs.Addresses.{is_nowhere}
 use Rattle.rm_protocol.specs.Calls.{Answer, Cause, NotOpen, PayloadTooLong, BadPayload, WindowFull, NodeFull}
@@ -57,8 +57,7 @@ use Rattle.rm_protocol.specs.Calls.{Rollover, StoreFull, TooManySequences, refus
 use Rattle.rm_protocol.specs.Calls.{wanted, create, is_open, send_out, on_outgoing, send, close_out, close_in}
 use Rattle.rm_protocol.specs.Calls.{close_by, close, may_end, end_out, end, expired_from, judged, receive}
 use Rattle.rm_protocol.specs.Calls.{final_ack, made_by, ticked, tick_with, ask_to, ask_out, ask_ack, on_incoming}
-use Rattle.rm_protocol.specs.Calls.{nack_by}
-use Rattle.rm_protocol.specs.Calls.{nack_in, nack_missing}
+use Rattle.rm_protocol.specs.Calls.{nack_in, nack_missing, consume, consume_in, cursor_to, PastInbox}
 use Rattle.rm_timers.specs.declared.timers.Key.{Key}
 use Rattle.rm_protocol.specs.Detail.{found_by, first_found, ident_of, named_in}
 use Rattle.rm_protocol.specs.Messages.{data_at, request_at}
@@ -82,13 +81,13 @@ use Rattle.rm_protocol.proofs.FitLemmas.{other_number, no_zero, le_test, not_le,
 record Stays (r new : List Fact) : Type 0 where
   makers_ : makers new ≡ makers r
   created_ : created new ≡ created r
-  accepted_ : (s : ℕ) → accepted new s ≡ accepted r s
+  count_ : (s : ℕ) → accepted_count new s ≡ accepted_count r s
 
 Stays-then : (a b c : List Fact) → Stays a b → Stays b c → Stays a c
 Stays-then a b c g h = record {
   makers_ = h.makers_ ∙ g.makers_;
   created_ = h.created_ ∙ g.created_;
-  accepted_ = λ s. h.accepted_ s ∙ g.accepted_ s;
+  count_ = λ s. h.count_ s ∙ g.count_ s;
 }
 
 -- records that may come next, and leave these facts
@@ -99,18 +98,20 @@ record IsQuiet (r d : List Fact) : Type 0 where
 none-quiet : (r : List Fact) → IsQuiet r []
 none-quiet r = record {
   fit = refl;
-  stays = subst (Stays r) (sym (append-nil r)) (record { makers_ = refl; created_ = refl; accepted_ = λ s. refl });
+  stays = subst (Stays r) (sym (append-nil r)) (record { makers_ = refl; created_ = refl; count_ = λ s. refl });
 }
 
 one-quiet : (r : List Fact) (rec : Fact) → fits r rec ≡ true → makers_of rec ≡ []
-    → ((k : ℕ) → created_of k rec ≡ []) → ((s : ℕ) → accepted_of s rec ≡ []) → IsQuiet r (rec ∷ [])
+    → ((k : ℕ) → created_of k rec ≡ []) → ((s : ℕ) → (accepted_of s rec ≡ []) × (dropped_of s rec ≡ []))
+    → IsQuiet r (rec ∷ [])
 one-quiet r rec f m c a = record {
   fit = alone r rec f;
   stays = record {
     makers_ = untouched makers_of r rec m;
     created_ =
         created-add r rec ∙ ap (λ z. created r ++ z) (c (length (makers r))) ∙ append-nil (created r);
-    accepted_ = λ s. untouched (accepted_of s) r rec (a s);
+    count_ = λ s. ap (λ xs. last_or 0 xs + length (accepted (r ++ rec ∷ []) s)) (untouched (dropped_of s) r rec (a s).1)
+        ∙ ap (λ xs. dropped r s + length xs) (untouched (accepted_of s) r rec (a s).0);
   };
 }
 
@@ -135,7 +136,7 @@ valid-kept r new block w h = record {
   where
     by_found : (x : Option ℕ) → is_invalid_at new (ranges_of block.kind) x ≡ is_invalid_at r (ranges_of block.kind) x
     by_found None = refl
-    by_found (Some s) = ap (λ z. is_above (length z) (ranges_of block.kind)) (w.accepted_ s)
+    by_found (Some s) = ap (λ n. is_above n (ranges_of block.kind)) (w.count_ s)
 
 -- ranges of message numbers begin at 1 or later
 begin_at_one : (ranges : List Range) → AllByRecursion IsNumberRange ranges
@@ -154,16 +155,16 @@ ack_row-quiet r block h v = by_found (find_outgoing r block.ident) refl v.valid
       where
         new : fits r (Acked s (united [] (ranges_of block.kind))) ≡ true
         new = both (is_outgoing_side (maker r s))
-            (list_all (is_up_to (length (accepted r s))) (united [] (ranges_of block.kind)))
+            (list_all (is_up_to (accepted_count r s)) (united [] (ranges_of block.kind)))
             (outgoing-found r block.ident s h e)
-            (all-up_to (length (accepted r s)) (united [] (ranges_of block.kind))
-            (united-up_to (length (accepted r s)) [] (ranges_of block.kind) tt
-            (not_above (length (accepted r s)) (ranges_of block.kind)
+            (all-up_to (accepted_count r s) (united [] (ranges_of block.kind))
+            (united-up_to (accepted_count r s) [] (ranges_of block.kind) tt
+            (not_above (accepted_count r s) (ranges_of block.kind)
             (begin_at_one (ranges_of block.kind) v.ranges) k)))
 
         chosen : (x : Bool) → IsQuiet r (cond x [] (Acked s (united [] (ranges_of block.kind)) ∷ []))
         chosen true = none-quiet r
-        chosen false = one-quiet r (Acked s (united [] (ranges_of block.kind))) new refl (λ i. refl) (λ i. refl)
+        chosen false = one-quiet r (Acked s (united [] (ranges_of block.kind))) new refl (λ i. refl) (λ i. (refl, refl))
 
 final_row-quiet : (r : List Fact) (block : AckBlock) → all_fit [] r ≡ true → IsQuiet r (final_row block r)
 final_row-quiet r block h = by_found (find_outgoing r block.ident) block.last refl
@@ -174,7 +175,7 @@ final_row-quiet r block h = by_found (find_outgoing r block.ident) block.last re
         chosen : (x : Bool) → is_sending (phase r s) ≡ x → IsQuiet r (cond x (ClosedOut s ∷ []) [])
         chosen true k = one-quiet r (ClosedOut s)
             (follow r s (ClosedOut s) (outgoing-found r block.ident s h e) (sending-follows (phase r s) s k)) refl
-            (λ i. refl) (λ i. refl)
+            (λ i. refl) (λ i. (refl, refl))
         chosen false k = none-quiet r
     by_found _ _ e = none-quiet r
 
@@ -535,19 +536,19 @@ send-fits terms r place s text =
     refused-or-fits r (not (is_open (phase r s))) NotOpen _ (λ c.
     refused-or-fits r (nat_le window (unacked r s)) (WindowFull (unacked r s)) _ (λ d.
     refused-or-fits r (nat_le most_unacked (all_unacked r)) (NodeFull (all_unacked r)) _ (λ e.
-    refused-or-fits r (nat_le max_number (length (accepted r s))) Rollover _ (λ f.
+    refused-or-fits r (nat_le max_number (accepted_count r s)) Rollover _ (λ f.
     if_room-fits terms r place (adds r (Accepted s text ∷ [])
-    (λ now. option_to_list (data_at now s (length (accepted r s) + 1))))
+    (λ now. option_to_list (data_at now s (accepted_count r s + 1))))
     (alone r (Accepted s text) (new side c f)))))))))
   where
     new : is_outgoing_side (maker r s) ≡ true → not (is_open (phase r s)) ≡ false
-        → nat_le max_number (length (accepted r s)) ≡ false → fits r (Accepted s text) ≡ true
+        → nat_le max_number (accepted_count r s) ≡ false → fits r (Accepted s text) ≡ true
     new side c f =
-        both (follows_at r s (Accepted s text)) (nat_lt (length (accepted r s)) max_number)
+        both (follows_at r s (Accepted s text)) (nat_lt (accepted_count r s) max_number)
         (follow r s (Accepted s text) side
         (open-follows (phase r s) s text (not-false (is_open (phase r s)) c)))
-        (lt_test (length (accepted r s)) max_number
-        (not_le max_number (length (accepted r s)) f))
+        (lt_test (accepted_count r s) max_number
+        (not_le max_number (accepted_count r s) f))
 
 -- close
 open-closing : (p : OutPhase) (s ticket : ℕ) → is_open p ≡ true → follows p (Closing s ticket) ≡ true
@@ -680,20 +681,29 @@ ask_ack-fits r s = on_outgoing-fits r (maker r s) (ask_out r s) (λ side. chosen
     chosen true = refl
     chosen false = refl
 
-nack_missing-fits : (r : List Fact) (s now : ℕ) → all_fit r (nack_missing r s now).delta ≡ true
-nack_missing-fits r s now = by_maker (maker r s)
-  where
-    chosen : (x : Bool) → all_fit r (cond x (refusal NotOpen)
-        (adds r [] (λ after. nack_by after s (made_by after (maker after s))))).delta ≡ true
-    chosen true = refl
-    chosen false = refl
+-- calls for an incoming sequence
+on_incoming-fits : (r : List Fact) (x : Option Maker) (answer : Answer)
+    → (is_incoming_side x ≡ true → all_fit r answer.delta ≡ true) → all_fit r (on_incoming x answer).delta ≡ true
+on_incoming-fits r None answer h = refl
+on_incoming-fits r (Some (Outgoing t to v l)) answer h = refl
+on_incoming-fits r (Some (Taken t q k)) answer h = refl
+on_incoming-fits r (Some (Offered t c to y)) answer h = h refl
+on_incoming-fits r (Some (Incoming c t k y d l)) answer h = h refl
 
-    by_maker : (x : Option Maker) → all_fit r (on_incoming x (nack_in r s now)).delta ≡ true
-    by_maker None = refl
-    by_maker (Some (Outgoing t to v l)) = refl
-    by_maker (Some (Taken t q k)) = refl
-    by_maker (Some (Offered t c to y)) = chosen (is_over r s now)
-    by_maker (Some (Incoming c t k y d l)) = chosen (is_over r s now)
+nack_missing-fits : (r : List Fact) (s now : ℕ) → all_fit r (nack_missing r s now).delta ≡ true
+nack_missing-fits r s now = on_incoming-fits r (maker r s) (nack_in r s now) (λ side.
+    refused-or-fits r (is_over r s now) NotOpen _ (λ e. refl))
+
+consume-fits : (terms : Terms) (r : List Fact) (place s upto : ℕ)
+    → all_fit r (consume terms r place s upto).delta ≡ true
+consume-fits terms r place s upto =
+    on_incoming-fits r (maker r s) (consume_in terms r place s upto) (λ side.
+    refused-or-fits r (nat_lt (length (inbox r s)) upto) (PastInbox (length (inbox r s))) _ (λ within.
+    if_room-fits terms r place (adds r (cursor_to r s upto) (λ after. []))
+    (if-fit r (nat_lt (cursor r s) upto) (Consumed s upto) (λ above.
+    both (is_incoming_side (maker r s)) _ side
+    (both (nat_lt (cursor r s) upto) (nat_le upto (length (inbox r s))) above
+    (le_test upto (length (inbox r s)) (not_lt (length (inbox r s)) upto within)))))))
 
 -- all calls
 pub adds-next : (terms : Terms) (r : List Fact) (place : ℕ) → EndsLater terms → all_fit [] r ≡ true
@@ -706,5 +716,6 @@ adds-next terms r place l h = record {
   tick_ = λ now keys. tick-fits terms r place now keys;
   ask_ack_ = λ s. ask_ack-fits r s;
   nack_missing_ = λ s now. nack_missing-fits r s now;
+  consume_ = λ s upto. consume-fits terms r place s upto;
   receive_ = λ now y content o n. receive-fits terms r place now y content l h o n;
 }

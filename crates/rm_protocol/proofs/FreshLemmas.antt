@@ -2,22 +2,17 @@
 use Rattle.std.proofs.Common.{◌≡◌, ℕ, ◌+◌, ◌≤◌, ◌||◌, nat_le, cond, Bool, true, false, List, [], ◌∷◌, ◌++◌, length}
 use Rattle.std.proofs.Common.{sym, ap, ◌∙◌, arith, subst, inl, inr}
 use Rattle.std.proofs.lemmas.Bool.{and_parts, cases_Bool, leb-true}
-use Rattle.ack_ranges.specs.Changes.{united}
 use Rattle.rm_base.specs.Limits.{journal_bytes}
 use Rattle.record_batch.specs.Fact.{Fact, Acked}
-use Rattle.record_snapshot.specs.NumberLemmas.{proper_acked}
-use Rattle.record_snapshot.specs.Same.{HasProper, HaveProper}
-use Rattle.record_snapshot.specs.SameLemmas.{same_frame}
+use Rattle.record_snapshot.specs.FrameLemmas.{same_frame}
+use Rattle.record_snapshot.specs.Same.{HasProper, HaveProper, SnapshotFits, SnapshotIsProper, SnapshotKeepsAll}
 use Rattle.record_snapshot.specs.Snapshot.{snapshot}
-use Rattle.record_snapshot.specs.SnapshotLemmas.{keeps}
 use Rattle.sequence_table.specs.Makers.{counter}
-use Rattle.sequence_table.specs.Sources.{acked}
-use Rattle.rm_protocol.specs.AloneLemmas.{drawn-alone, records-alone, snapshot-Keeps}
+use Rattle.rm_protocol.specs.AloneLemmas.{drawn-alone, records-alone}
 use Rattle.rm_protocol.specs.Compact.{fit_as_entries, fits_before, fresh_start, list_size, may_compact}
 use Rattle.rm_protocol.specs.Node.{Node, records_in, fresh_entries, end_of, node_end}
-use Rattle.rm_protocol.specs.Sound.{Allows, Fresh, HasPlace, Keeps}
+use Rattle.rm_protocol.specs.Sound.{Allows, Fresh, HasPlace, Keeps, StandFor}
 use Rattle.rm_protocol.specs.Terms.{Terms, AreTerms}
-use Rattle.rm_protocol.proofs.RangeLemmas.{united-proper}
 
 -- a list takes the same bytes wherever it begins
 end_of-from : (terms : Terms) (start : ℕ) (entries : List (List Fact))
@@ -34,20 +29,25 @@ pub allows-proper : (a b delta : List Fact) → Allows a b delta → HaveProper 
 allows-proper a b [] h = tt
 allows-proper a b (f ∷ delta) h = (fresh-proper a f h.0, allows-proper (a ++ f ∷ []) b delta h.2)
 
--- so it is in a snapshot
-snapshot-HaveProper : (r : List Fact) → HaveProper r → HaveProper (snapshot r)
-snapshot-HaveProper r h = keeps HasProper r [] r (λ s. united-proper [] (acked r s) tt (proper_acked r s h)) h
+-- what is known of snapshots
+pub record SnapshotLaws : Type 0 where
+  pub keeps : SnapshotKeepsAll
+  pub fits : SnapshotFits
+  pub proper : SnapshotIsProper
 
--- of the entries that are written anew
-pub fresh-Keeps : (entries : List (List Fact)) (whole : List Fact) → HaveProper (records_in entries)
-    → Keeps (records_in entries) whole → Keeps (records_in (fresh_entries entries)) whole
-fresh-Keeps entries whole proper k = subst (λ r. Keeps r whole) (sym (records-alone (snapshot (records_in entries))))
-    (snapshot-Keeps (records_in entries) whole proper k)
+-- a snapshot stands for what its records stand for
+pub snapshot-stands : SnapshotLaws → (r whole : List Fact) → StandFor r whole → StandFor (snapshot r) whole
+snapshot-stands laws r whole h = record {
+  kept = record { same = laws.keeps r whole h.fit h.proper h.kept.same; live = h.kept.live };
+  proper = laws.proper r h.fit h.proper;
+  fit = laws.fits r h.fit h.proper;
+}
 
-pub fresh-HaveProper : (entries : List (List Fact)) → HaveProper (records_in entries)
-    → HaveProper (records_in (fresh_entries entries))
-fresh-HaveProper entries proper = subst HaveProper (sym (records-alone (snapshot (records_in entries))))
-    (snapshot-HaveProper (records_in entries) proper)
+-- so do the entries that are written anew
+pub fresh-stands : SnapshotLaws → (entries : List (List Fact)) (whole : List Fact) → StandFor (records_in entries) whole
+    → StandFor (records_in (fresh_entries entries)) whole
+fresh-stands laws entries whole h = subst (λ r. StandFor r whole) (sym (records-alone (snapshot (records_in entries))))
+    (snapshot-stands laws (records_in entries) whole h)
 
 -- there they have room
 or_second : (x y : Bool) → (x || y) ≡ true → x ≡ false → y ≡ true
@@ -88,5 +88,5 @@ pub fresh-below : (terms : Terms) (start : ℕ) (entries : List (List Fact)) (wh
     → Keeps (records_in entries) whole → counter whole ≤ end_of terms start (fresh_entries entries)
 fresh-below terms start entries whole t k =
     let r = records_in entries in
-    let same : counter (snapshot r) ≡ counter whole = ap length ((same_frame r).draws ∙ k.draws_) in
+    let same : counter (snapshot r) ≡ counter whole = ap length ((same_frame r).draws ∙ k.same.frame.draws) in
     subst (λ n. n ≤ end_of terms start (fresh_entries entries)) same (drawn-alone terms t.size start (snapshot r))

@@ -1,7 +1,7 @@
 -- Facts stay when records are added, and so does what is built of them.
 use Rattle.std.proofs.Common.{◌≡◌, ℕ, ◌+◌, ◌==◌, cond, true, false, List, [], ◌∷◌, ◌++◌, length, refl, sym, ap, ◌∙◌}
 use Rattle.std.proofs.Common.{arith, subst, map, append-nil, append_assoc, length-append}
-use Rattle.std.specs.Prelude.{Option, Some}
+use Rattle.std.specs.Prelude.{Option, Some, None}
 use Rattle.std.specs.List.{flat_map}
 use Rattle.std.proofs.lemmas.Bool.{eqb-true}
 use Rattle.std.proofs.lemmas.List.{map-append}
@@ -20,14 +20,14 @@ use Rattle.rm_message.specs.declared.message.Body.TheVariants as body
 use Rattle.rm_message.specs.declared.message.Message.{Message}
 use Rattle.record_batch.specs.declared.record.PeerOffer.{PeerOffer}
 use Rattle.record_batch.specs.Fact.{Fact, Made, Created, Granted, Accepted, Acked, Received, Closed, Ended}
-use Rattle.rm_destination.specs.Messages.{is_empty}
+use Rattle.rm_destination.specs.Messages.{is_empty, numbers_of}
 use Rattle.sequence_table.specs.Words.{Text, at_seq, first_or}
 use Rattle.sequence_table.specs.Idents.{issue}
 use Rattle.sequence_table.specs.Makers.{Maker, Outgoing, Offered, Incoming, Taken, makers, makers_of, maker, counter}
 use Rattle.sequence_table.specs.Makers.{nodes_of, number, addresses_of, address, created, created_of, created_from}
 use Rattle.sequence_table.specs.Makers.{ident_in}
 use Rattle.sequence_table.specs.Sources.{accepted, accepted_of, mark_of, marks}
-use Rattle.sequence_table.specs.Destinations.{received, received_of, held, behaviour}
+use Rattle.sequence_table.specs.Destinations.{received, received_of, behaviour}
 use Rattle.sequence_table.specs.Find.{IsOutgoing, IsIncoming, incoming_of, acks_to}
 use Rattle.rm_protocol.specs.Sound.{IsAsked, IsAccepted, IsHeld, IsGranted, HasAsked, AreHeld, IsFinal, SaysData}
 use Rattle.rm_protocol.specs.Sound.{SaysBlock, SaysCreate, SaysResponse, SaysFinal, Says, IsAgreed, IsSourced}
@@ -63,7 +63,8 @@ pub record Grows (old new : List Fact) : Type 0 where
   pub makers : (s : ℕ) (m : Maker) → maker old s ≡ Some m → maker new s ≡ Some m
   pub created : (s : ℕ) (q : Text) → ident_in (created old) s ≡ Some q → ident_in (created new) s ≡ Some q
   pub accepted : (s i : ℕ) (p : Text) → numbered (accepted old s) i ≡ Some p → numbered (accepted new s) i ≡ Some p
-  pub held : (s i : ℕ) → has_number (held old s) i ≡ true → has_number (held new s) i ≡ true
+  pub held : (s i : ℕ) → has_number (numbers_of (received old s)) i ≡ true
+      → has_number (numbers_of (received new s)) i ≡ true
 
 pub Grows-same : (r : List Fact) → Grows r r
 Grows-same r = record {
@@ -127,7 +128,7 @@ Grows-add r rec f = record {
       let get : ℕ × Payload → ℕ = λ m. m.0 in
       let more = flat_map (received_of s) (rec ∷ []) in
       rw (flat_map-append (received_of s) r (rec ∷ []), map-append get (received r s) more)
-      (has_number-append (held r s) (map get more) i e);
+      (has_number-append (numbers_of (received r s)) (map get more) i e);
   final = λ s e.
       let none : accepted_of s rec ≡ [] = no_payload r rec s f e in (
         ap (λ z. is_empty (at_seq s z)) (flat_map-append mark_of r (rec ∷ []))
@@ -187,8 +188,9 @@ AreHeld-grows a b q ranges g h = λ n e. IsHeld-grows a b q n g (h n e)
 
 SaysData-grows : (a b : List Fact) (h : Option SeqHeader) (content : Body) → Grows a b → SaysData a h content
     → SaysData b h content
+SaysData-grows a b None content g s = s
 SaysData-grows a b (Some h) (body.Payload p) g s = IsAccepted-grows a b h.ident h.number p.bytes g s
-SaysData-grows a b _ _ g s = s
+SaysData-grows a b (Some h) _ g s = s
 
 SaysCreate-grows : (a b : List Fact) (t : Option Text) (content : Body) → Grows a b → SaysCreate a t content
     → SaysCreate b t content

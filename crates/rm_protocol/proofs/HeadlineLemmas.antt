@@ -7,12 +7,13 @@ use Rattle.std.specs.List.{AllByRecursion}
 use Rattle.std.proofs.lemmas.Bool.{eqb-true}
 use Rattle.ack_ranges.specs.declared.range.Range.{Range}
 use Rattle.ack_ranges.specs.Ranges.{in_ranges}
+use Rattle.rm_base.specs.Message.{max_number}
 use Rattle.rm_base.specs.Numbered.{numbered}
 use Rattle.rm_base.specs.NumberSet.{has_number}
 use Rattle.rm_base.specs.declared.message.Behaviour.{Behaviour}
 use Rattle.rm_base.specs.declared.message.Cause.TheVariants.{Peer}
 use Rattle.rm_base.specs.declared.message.Payload.{Payload}
-use Rattle.record_batch.specs.Fact.{Fact, Created, Granted, Acked, Received, Closed, Ended}
+use Rattle.record_batch.specs.Fact.{Fact, Created, Granted, Acked, Received, Closed, Ended, Dropped}
 use Rattle.rm_destination.specs.Messages.{is_empty, sorted_onto, with_message, without_gap, numbers_of, contents_of}
 use Rattle.sequence_table.specs.Words.{Text}
 use Rattle.sequence_table.specs.Idents.{issue}
@@ -20,18 +21,19 @@ use Rattle.sequence_table.specs.Makers.{Maker, Outgoing, Offered, Incoming, Take
 use Rattle.sequence_table.specs.Makers.{number, created_from, ident_in}
 use Rattle.sequence_table.specs.Sources.{accepted, acked, marks}
 use Rattle.rm_destination.specs.Incoming.{inbox_of}
-use Rattle.sequence_table.specs.Destinations.{received, received_of, held, told, messages, behaviour}
+use Rattle.sequence_table.specs.Destinations.{received, received_of, told, behaviour}
 use Rattle.rm_destination.specs.Incoming.{is_whole, is_whole_by, last_number as last_told}
 use Rattle.sequence_table.specs.Destinations.{texts}
 use Rattle.sequence_table.specs.Find.{IsOutgoing, IsIncoming, incoming_of}
 use Rattle.rm_protocol.specs.Sound.{IsHeld, IsGranted, IsAgreed, IsSourced, AreKept, IsTold, IsWith, IfWith}
-use Rattle.rm_protocol.specs.Sound.{Justified, highest, drawn, Owns, Agree}
+use Rattle.rm_protocol.specs.Sound.{Justified, highest, drawn, Owns, Agree, AreWith, NothingIsGone}
 use Rattle.std.proofs.Common.{◌^◌, drop}
 use Rattle.rm_base.specs.NumberSet.{greatest_of}
 use Rattle.rm_base.specs.declared.message.Behaviour.TheVariants.{NoDiscard, EntireSequence, FollowingFirstGap}
 use Rattle.sequence_table.specs.Idents.{IssuesOnce}
-use Rattle.rm_protocol.specs.Word.{IsPrefixOf, Matches, KeepsWord}
-use Rattle.rm_protocol.proofs.ListLemmas.{All-append, numbered-next, numbered-map, Rises-unique, Rises-below}
+use Rattle.rm_protocol.specs.Word.{IsPrefixOf, Matches, KeepsWholeWord}
+use Rattle.rm_protocol.proofs.ListLemmas.{All-append, All-numbered, numbered-next, numbered-map, numbered-within}
+use Rattle.rm_protocol.proofs.ListLemmas.{Rises-unique, Rises-below}
 use Rattle.rm_protocol.proofs.Kept.{in_ranges-join}
 
 -- sequence s of the node with records a is one with the other node
@@ -117,18 +119,19 @@ in_ranges-either xs ys n h = either (in_ranges xs n) (in_ranges ys n) (sym (in_r
 -- an acknowledged number stands in a record
 pub acked-one : (a b : List Fact) (s n : ℕ) (P : Type 0) → IsBetween a b s
     → ((ns : List Range) → AreKept a b s ns → in_ranges ns n ≡ true → P)
-    → (r : List Fact) → AllByRecursion (Justified a b) r → in_ranges (acked r s) n ≡ true → P
-acked-one a b s n P w f [] h e = absurd (cc)
-acked-one a b s n P w f (Acked t ns ∷ r) h e =
+    → (r : List Fact) → NothingIsGone r → AllByRecursion (Justified a b) r → in_ranges (acked r s) n ≡ true → P
+acked-one a b s n P w f [] live h e = absurd (cc)
+acked-one a b s n P w f (Dropped t upto ∷ r) live h e = absurd live.0
+acked-one a b s n P w f (Acked t ns ∷ r) live h e =
     elim (t == s) as (λ z. (t == s) ≡ z → in_ranges (cond z ns [] ++ acked r s) n ≡ true → P) [
       | true ↦ λ d k. elim (in_ranges-either ns (acked r s) n k) [
         | inl x ↦ let at = subst (λ y. IfWith a b y (AreKept a b y ns)) (eqb-true t s d) h.0 in
             f ns (at.holds (w.is at.maker_ at.there)) x
-        | inr x ↦ acked-one a b s n P w f r h.1 x
+        | inr x ↦ acked-one a b s n P w f r live.1 h.1 x
       ]
-      | false ↦ λ d k. acked-one a b s n P w f r h.1 k
+      | false ↦ λ d k. acked-one a b s n P w f r live.1 h.1 k
     ] refl e
-acked-one a b s n P w f (rec ∷ r) h e = acked-one a b s n P w f r h.1 e
+acked-one a b s n P w f (rec ∷ r) live h e = acked-one a b s n P w f r live.1 h.1 e
 
 numbered-skip : {A : Type 0} (xs ys : List A) (i : ℕ) (x : A) → numbered ys i ≡ Some x
     → numbered (xs ++ ys) (length xs + i) ≡ Some x
@@ -334,15 +337,15 @@ inbox_of-whole (n ∷ ns) ms given P h f =
       | false ↦ λ e. inl refl
     ] refl
 
-nothing_in : (y : Behaviour) (ns : List ℕ) → inbox_of y ns [] ≡ []
+pub nothing_in : (y : Behaviour) (ns : List ℕ) → inbox_of {A = Payload} y ns [] ≡ []
 nothing_in FollowingFirstGap ns = refl
 nothing_in NoDiscard ns = refl
-nothing_in EntireSequence ns = elim (is_whole_by ns []) as (λ b. cond {A = List Payload} b [] [] ≡ [])
+nothing_in EntireSequence ns = elim (is_whole_by {A = Payload} ns []) as (λ b. cond {A = List Payload} b [] [] ≡ [])
     [ true ↦ refl | false ↦ refl ]
 
 items : (n m : ℕ) (a b : List Fact) (s t : ℕ) (q u : Text) → Agree n m a b → IsBetween b a t → IsOutgoing a s q
     → IsIncoming b t q u
-    → AllByRecursion (IsItem (accepted a s)) (messages b t)
+    → AllByRecursion (IsItem (accepted a s)) (sorted_onto [] (received b t))
 items n m a b s t q u h w o k = All-sorted (IsItem (accepted a s)) [] (received b t) tt
     (received-items n m a b s t q u h w o k)
 
@@ -381,31 +384,54 @@ finals n m a b s t q u h w o k =
     ))
     b h.others_justified
 
--- the two nodes agree, each has few numbers, and all their sequences are between them
+-- the two nodes agree, each has few numbers, all their sequences are between them, and nothing is gone
 pub record ArePaired (n m : ℕ) (a b : List Fact) : Type 0 where
   pub agree : Agree n m a b
   pub small : IsSmall m b
   pub mine : (s : ℕ) → IsBetween a b s
   pub theirs : (t : ℕ) → IsBetween b a t
+  pub live : NothingIsGone a
 
 matched-by : (a b : List Fact) (s : ℕ) (q u : Text) → IsOutgoing a s q → IsGranted b u q → (t : ℕ) × Matches a b s t
 matched-by a b s q u o g = (g.seq, record { ident = q; message_id = u; outgoing = o; incoming = g.incoming })
 
-pub paired-word : IssuesOnce → (n m : ℕ) (a b : List Fact) → ArePaired n m a b → KeepsWord a b
+pub between-all : (a b : List Fact) → AreWith b a → (s : ℕ) → IsBetween a b s
+between-all a b h s = record { is = λ m e. All-numbered (IsWith b) (makers a) s m h e }
+
+-- what was received has the numbers of messages that the other accepted, of which each sequence has few
+pub record IsNumbered (n : ℕ) : Type 0 where
+  pub from : 1 ≤ n
+  pub upto : n ≤ max_number
+
+pub positive : {A : Type 0} (xs : List A) (n : ℕ) (x : A) → numbered xs n ≡ Some x → 1 ≤ n
+positive xs zero x e = absurd (cc)
+positive xs (suc n) x e = omega arith
+
+pub received-numbered : (a b : List Fact) (t : ℕ) → IsBetween b a t → AllByRecursion (Justified b a) b
+    → ((s : ℕ) → length (accepted a s) ≤ max_number)
+    → AllByRecursion (λ (m : ℕ × Payload). IsNumbered m.0) (received b t)
+received-numbered a b t w h few =
+    received-all a b t (λ (m : ℕ × Payload). IsNumbered m.0) w (λ i p e. record {
+      from = positive (accepted a e.sent.seq) i p.bytes e.sent.item;
+      upto = omega (arith, numbered-within (accepted a e.sent.seq) i p.bytes e.sent.item, few e.sent.seq);
+    }) b h
+
+pub paired-word : IssuesOnce → (n m : ℕ) (a b : List Fact) → ArePaired n m a b → KeepsWholeWord a b
 paired-word once n m a b p = record {
-  prefix = λ s t k. inbox_of-prefix (behaviour b t) (told b t) (messages b t) (accepted a s)
+  prefix = λ s t k. inbox_of-prefix (behaviour b t) (told b t) (sorted_onto [] (received b t)) (accepted a s)
       (items n m a b s t k.ident k.message_id h (p.theirs t) k.outgoing k.incoming);
-  whole = λ s t k y. subst (λ z. (inbox_of z (told b t) (messages b t) ≡ [])
-      ⊎ ((texts (inbox_of z (told b t) (messages b t)) ≡ accepted a s) × (is_empty (marks a s) ≡ false))) (sym y)
-      (inbox_of-whole (told b t) (messages b t) (accepted a s) (is_empty (marks a s) ≡ false)
+  whole = λ s t k y. subst (λ z. (inbox_of z (told b t) (sorted_onto [] (received b t)) ≡ [])
+      ⊎ ((texts (inbox_of z (told b t) (sorted_onto [] (received b t))) ≡ accepted a s)
+      × (is_empty (marks a s) ≡ false))) (sym y)
+      (inbox_of-whole (told b t) (sorted_onto [] (received b t)) (accepted a s) (is_empty (marks a s) ≡ false)
       (items n m a b s t k.ident k.message_id h (p.theirs t) k.outgoing k.incoming)
       (finals n m a b s t k.ident k.message_id h (p.theirs t) k.outgoing k.incoming));
-  held = λ s t k i e. acked-one a b s i (has_number (held b t) i ≡ true) (p.mine s) (λ ns kept there.
+  held = λ s t k i e. acked-one a b s i (has_number (numbers_of (received b t)) i ≡ true) (p.mine s) (λ ns kept there.
       let name : kept.ident ≡ k.ident = cc (kept.outgoing.is, k.outgoing.is) in
       let has : IsHeld b kept.ident i = kept.each i there in
       let same : has.seq ≡ t = same_incoming once m b has.seq t k.ident has.message_id k.message_id p.small h.others
       (subst (λ z. IsIncoming b has.seq z has.message_id) name has.incoming) k.incoming in
-      subst (λ z. has_number (held b z) i ≡ true) same has.has) a h.justified e;
+      subst (λ z. has_number (numbers_of (received b z)) i ≡ true) same has.has) a p.live h.justified e;
   none = λ t k none.
       let empty : received b t ≡ [] = nothing (received b t) (received-all a b t (λ m. ⊥) (p.theirs t) (λ i x e.
       none e.sent.seq (record {

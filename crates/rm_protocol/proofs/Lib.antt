@@ -11,11 +11,13 @@ mod CallLemmas
 mod FitLemmas
 mod FitCalls
 mod HeadlineLemmas
+mod NumberLemmas
 mod FetchedLemmas
 mod ReplyLemmas
+mod NewLemmas
+mod ConsumedLemmas
 mod RunLemmas
 mod ImageLemmas
-mod NewLemmas
 mod SentLemmas
 mod TakenLemmas
 mod LineLemmas

@@ -13,23 +13,33 @@ use Rattle.rm_protocol.specs.Calls.{Answer, Done, Refused}
 use Rattle.rm_protocol.specs.Compact.{compact_cause, compact_outcome, compact_outcome_by, compacted, compacted_by}
 use Rattle.rm_protocol.specs.Compact.{may_compact, rewritten}
 use Rattle.rm_protocol.specs.Node.{Node, State, Up, Writing, Compacting, records, records_in, node_end, is_short}
-use Rattle.rm_protocol.specs.Node.{burned, entries_left, mounted, written, after, after_by, call_outcome, outcome_by}
-use Rattle.rm_protocol.specs.Node.{outcome_with, Answered, DiskFault}
+use Rattle.rm_protocol.specs.Node.{burned, entries_left, whole_left, mounted, written, after, after_by, call_outcome}
+use Rattle.rm_protocol.specs.Node.{outcome_by, outcome_with, Answered, DiskFault}
 use Rattle.rm_protocol.specs.Sent.{Called, arrival_outcome, outcome_of, line_of, lines}
 use Rattle.rm_protocol.specs.Terms.{Terms}
 use Rattle.rm_protocol.specs.Unarmed.{IsUnarmed, AreUnarmed, IsFaultless, AreFaultless}
-use Rattle.rm_protocol.specs.Crashes.{IsLeftWith, IsLeft, IsAfterCrashes}
+use Rattle.rm_protocol.specs.Crashes.{HasRecords, IsLeftWith, IsLeft, IsAfterCrashes}
 use Rattle.rm_protocol.specs.World as world
 use Rattle.rm_protocol.specs.World.{World, Packet, Side, One, Two, other, node, with_node, Event, Crash, calls}
 use Rattle.rm_protocol.specs.Polls.{poll}
 use Rattle.rm_protocol.specs.World.{place, received_by, arrives, wish_of, with_clock, happens, run, start}
 use Rattle.rm_protocol.specs.AloneLemmas.{records-alone}
-use Rattle.rm_protocol.proofs.RunLemmas.{records-with}
+use Rattle.rm_protocol.specs.Consumed.{ConsumedStays, StaysConsumed}
+use Rattle.rm_protocol.proofs.FreshLemmas.{SnapshotLaws}
+use Rattle.rm_protocol.proofs.RunLemmas.{records-with, run-IsSound, run-steps, start-IsSound}
 
 pub run-append : (terms : Terms) (first second : List Event) (w : World)
     → run terms (first ++ second) w ≡ run terms second (run terms first w)
 run-append terms [] second w = refl
 run-append terms (event ∷ first) second w = run-append terms first second (happens terms w event)
+
+-- what was released and consumed at one moment of a run begins what is at a later one
+pub stays-consumed : SnapshotLaws → ConsumedStays
+stays-consumed laws terms one two t made first second o o2 =
+    let w = run terms first (start one two) in
+    subst (StaysConsumed w) (sym (run-append terms first second (start one two)))
+    (run-steps laws terms second w t o2
+    (run-IsSound laws terms first (start one two) t o (start-IsSound terms one two made))).stays
 
 pub lines-append : (terms : Terms) (first second : List Event) (w : World)
     → lines terms (first ++ second) w ≡ lines terms first w ++ lines terms second (run terms first w)
@@ -172,6 +182,9 @@ outcome-well terms w (world.Noise side refusal) h =
     outcome-free (node w side) (received_by terms (node w side) (Err refusal)) (free_at w side h)
 outcome-well terms w (world.Poll side) h =
     outcome-free (node w side) (poll (records (node w side)) (place w (other side))) (free_at w side h)
+outcome-well terms w (world.Consume side s upto) h =
+    let x = node w side in
+    outcome-free x (Calls.consume terms (records x) (node_end terms x) s upto) (free_at w side h)
 outcome-well terms w (world.Compact side) h = compact-well terms (node w side) (free_at w side h)
 
 -- and leaves both nodes so, unless it arms a disk
@@ -200,6 +213,7 @@ happens-free terms w (world.Crash side kept) u h =
     free_with w side (mounted (node w side) kept) h (record { fuse = refl; state = refl })
 happens-free terms w (world.Noise side refusal) u h = calls-free terms w side true _ h
 happens-free terms w (world.Poll side) u h = calls-free terms w side false _ h
+happens-free terms w (world.Consume side s upto) u h = calls-free terms w side false _ h
 happens-free terms w (world.Compact side) u h =
     free_with w side (compacted terms (node w side)) h (compacted-free terms (node w side) (free_at w side h))
 
@@ -233,25 +247,27 @@ unarmed-faultless terms one two events u =
     free-faultless terms events (start one two) (start-free one two) u
 
 -- an image is what a crash leaves that keeps the failed batch or doesn't
-crashed : (x : Node) (image : List Fact) → IsLeft x image → (kept : Bool) × (records (mounted x kept) ≡ image)
-crashed x image h = by_state x.state h
+crashed : (x : Node) (image all : List Fact) → IsLeft x image all
+    → (kept : Bool) × HasRecords (mounted x kept) image all
+crashed x image all h = let parts = by_parts x.state h in
+    (parts.0, record { records_ = parts.1; whole_ = parts.2 })
   where
-    by_state : (z : State) → IsLeftWith (records x) z image
-        → (kept : Bool) × (records_in (entries_left z kept x.entries) ≡ image)
-    by_state Up e = (false, sym e)
-    by_state (Writing delta) (inl e) = (false, sym e)
-    by_state (Writing delta) (inr e) = (true, records-with x.entries delta ∙ sym e)
-    by_state (Compacting start) (inl e) = (false, sym e)
-    by_state (Compacting start) (inr e) = (true, records-alone (snapshot (records x)) ∙ sym e)
+    by_parts : (z : State) → IsLeftWith (records x) x.whole z image all
+        → (kept : Bool) × (records_in (entries_left z kept x.entries) ≡ image) × (whole_left z kept x.whole ≡ all)
+    by_parts Up e = (false, sym e.0, sym e.1)
+    by_parts (Writing delta) (inl e) = (false, sym e.0, sym e.1)
+    by_parts (Writing delta) (inr e) = (true, records-with x.entries delta ∙ sym e.0, sym e.1)
+    by_parts (Compacting start) (inl e, f) = (false, sym e, sym f)
+    by_parts (Compacting start) (inr e, f) = (true, records-alone (snapshot (records x)) ∙ sym e, sym f)
 
-pub image-crash : (terms : Terms) (w : World) (side : Side) (image : List Fact) → IsLeft (node w side) image
-    → (kept : Bool) × (records (node (happens terms w (Crash side kept)) side) ≡ image)
-image-crash terms w One image h = crashed w.one image h
-image-crash terms w Two image h = crashed w.two image h
+pub image-crash : (terms : Terms) (w : World) (side : Side) (image all : List Fact) → IsLeft (node w side) image all
+    → (kept : Bool) × HasRecords (node (happens terms w (Crash side kept)) side) image all
+image-crash terms w One image all h = crashed w.one image all h
+image-crash terms w Two image all h = crashed w.two image all h
 
-pub images-crashes : (terms : Terms) (w : World) (a b : List Fact) → IsLeft w.one a → IsLeft w.two b
-    → IsAfterCrashes terms w a b
-images-crashes terms w a b h k =
-    let one = crashed w.one a h in
-    let two = crashed w.two b k in
+pub images-crashes : (terms : Terms) (w : World) (a aw b bw : List Fact) → IsLeft w.one a aw → IsLeft w.two b bw
+    → IsAfterCrashes terms w a aw b bw
+images-crashes terms w a aw b bw h k =
+    let one = crashed w.one a aw h in
+    let two = crashed w.two b bw k in
     record { kept_one = one.0; kept_two = two.0; one = one.1; two = two.1 }

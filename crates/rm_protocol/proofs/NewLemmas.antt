@@ -5,7 +5,9 @@ use Rattle.std.specs.Prelude.{Option, Some, None, slice_get}
 use Rattle.std.specs.List.{AllByRecursion, flat_map}
 use Rattle.std.proofs.lemmas.Bool.{eqb-true}
 use Rattle.std.proofs.lemmas.Bool.Decides.{nat_tests}
+use Rattle.std.proofs.lemmas.List.{map-append}
 use Rattle.std.proofs.lemmas.List.Concat.{flat_map-append}
+use Rattle.ack_ranges.specs.declared.range.Range.{Range}
 use Rattle.rm_base.specs.Limits.{window}
 use Rattle.rm_base.specs.Numbered.{numbered}
 use Rattle.rm_base.specs.NumberSet.{has_number}
@@ -14,20 +16,22 @@ use Rattle.rm_base.specs.declared.message.Payload.{Payload}
 use Rattle.rm_elements.specs.declared.header.AckBlock.{AckBlock}
 use Rattle.rm_message.specs.declared.message.Message.{Message}
 use Rattle.record_batch.specs.Fact.{Fact, Acked, Received, ClosedOut}
-use Rattle.rm_destination.specs.Messages.{is_empty, sorted_onto, with_message, without_gap}
+use Rattle.record_snapshot.specs.Same.{AreNumbers}
+use Rattle.rm_destination.specs.Messages.{gone_items, is_empty, items_of, numbers_in, sorted_onto, there_items}
+use Rattle.rm_destination.specs.Messages.{with_message, without_gap}
 use Rattle.sequence_table.specs.Words.{Text, at_seq, first_or}
 use Rattle.rm_destination.specs.Messages.{numbers_of}
 use Rattle.sequence_table.specs.Makers.{makers, makers_of, maker, nodes_of, number}
 use Rattle.sequence_table.specs.Sources.{acked, is_sending, phase}
-use Rattle.sequence_table.specs.Destinations.{received, received_of, held, close_of, told, front, is_over}
+use Rattle.sequence_table.specs.Destinations.{received, received_of, held, close_of, told, front, is_over, items}
 use Rattle.rm_destination.specs.Incoming.{inbox_of}
-use Rattle.sequence_table.specs.Destinations.{is_stopped, messages, inbox, behaviour, behaviour_of}
+use Rattle.sequence_table.specs.Destinations.{is_stopped, messages, inbox, behaviour, behaviour_of, purged, purged_of}
 use Rattle.sequence_table.specs.Find.{find_from, find_incoming, find_outgoing, is_incoming}
 use Rattle.rm_base.specs.declared.message.Behaviour.TheVariants.{FollowingFirstGap}
 use Rattle.ack_ranges.specs.Changes.{covers_all, united}
 use Rattle.rm_protocol.specs.Rows.{then_row, ranges_of, ack_at, ack_row, final_at, final_row, ack_rows, data_row_at}
 use Rattle.rm_protocol.specs.Rows.{data_row, body_row, rows}
-use Rattle.rm_protocol.specs.Recorded.{IsNew, AreNumbers}
+use Rattle.rm_protocol.specs.Recorded.{IsNew}
 use Rattle.rm_protocol.specs.Terms.{Terms}
 use Rattle.rm_protocol.proofs.ListLemmas.{All-append, numbered-next}
 use Rattle.rm_destination.specs.Incoming.{is_past}
@@ -100,8 +104,20 @@ calm_received s (Acked t ns) h = refl
 calm_received s (ClosedOut t) h = refl
 calm_received s _ h = absurd h
 
+calm_purged : (s : ℕ) (rec : Fact) → IsAck rec → purged_of s rec ≡ []
+calm_purged s (Acked t ns) h = refl
+calm_purged s (ClosedOut t) h = refl
+calm_purged s _ h = absurd h
+
 received-after : (r d : List Fact) (s : ℕ) → AreAcks d → received (r ++ d) s ≡ received r s
 received-after r d s h = calm_after (received_of s) (calm_received s) r d h
+
+purged-after : (r d : List Fact) (s : ℕ) → AreAcks d → purged (r ++ d) s ≡ purged r s
+purged-after r d s h = calm_after (purged_of s) (calm_purged s) r d h
+
+items-after : (r d : List Fact) (s : ℕ) → AreAcks d → items (r ++ d) s ≡ items r s
+items-after r d s h = ap (λ ps. items_of ps (received (r ++ d) s)) (purged-after r d s h)
+    ∙ ap (items_of (purged r s)) (received-after r d s h)
 
 over-after : (r d : List Fact) (s now : ℕ) → AreAcks d → is_over (r ++ d) s now ≡ is_over r s now
 over-after r d s now h =
@@ -121,7 +137,7 @@ data-new : (r d : List Fact) (now : ℕ) (s i : ℕ) (p : Payload) (x : Option �
     → has_number (held r s) i ≡ false
     → is_over r s now ≡ false → i ≤ front r s + window → data_row_at now x i p (r ++ d) ≡ Received s i p ∷ []
 data-new r d now s i p x h e new open_ near =
-    let same : received (r ++ d) s ≡ received r s = received-after r d s h in
+    let same : items (r ++ d) s ≡ items r s = items-after r d s h in
     let one : has_number (held (r ++ d) s) i ≡ false = ap (λ z. has_number (numbers_of z) i) same ∙ new in
     let two : is_over (r ++ d) s now ≡ false = over-after r d s now h ∙ open_ in
     let three : nat_lt (front (r ++ d) s + window) i ≡ false =
@@ -148,11 +164,11 @@ pub new-recorded : (terms : Terms) (r : List Fact) (now : ℕ) (y : Behaviour) (
 new-recorded terms r now y m s i p h = (ack_rows m.acks r, rows-new terms r now y m s i p h)
 
 -- messages by rising number, all above n
-RisesAbove : ℕ → List (ℕ × Payload) → Type 0
+RisesAbove : {A : Type 0} → ℕ → List (ℕ × A) → Type 0
 RisesAbove n [] = Unit {0}
 RisesAbove n (m ∷ ms) = (n < m.0) × RisesAbove m.0 ms
 
-with-rises : (n : ℕ) (ms : List (ℕ × Payload)) (i : ℕ) (p : Payload) → n < i → RisesAbove n ms
+with-rises : {A : Type 0} (n : ℕ) (ms : List (ℕ × A)) (i : ℕ) (p : A) → n < i → RisesAbove n ms
     → RisesAbove n (with_message ms i p)
 unfolding RisesAbove
 with-rises n [] i p l h = (l, tt)
@@ -167,17 +183,18 @@ with-rises n (m ∷ ms) i p l h =
           ] refl
     ] refl
 
-sorted-rises : (acc ms : List (ℕ × Payload)) → RisesAbove 0 acc → AreNumbers ms → RisesAbove 0 (sorted_onto acc ms)
+sorted-rises : {A : Type 0} (acc ms : List (ℕ × A)) → RisesAbove 0 acc → AreNumbers ms
+    → RisesAbove 0 (sorted_onto acc ms)
 sorted-rises acc [] h k = h
 sorted-rises acc (m ∷ ms) h k = sorted-rises (with_message acc m.0 m.1) ms (with-rises 0 acc m.0 m.1 k.0 h) k.1
 
-sorted-push : (acc ms : List (ℕ × Payload)) (i : ℕ) (p : Payload)
+pub sorted-push : {A : Type 0} (acc ms : List (ℕ × A)) (i : ℕ) (p : A)
     → sorted_onto acc (ms ++ (i, p) ∷ []) ≡ with_message (sorted_onto acc ms) i p
 sorted-push acc [] i p = refl
 sorted-push acc (m ∷ ms) i p = sorted-push (with_message acc m.0 m.1) ms i p
 
 -- the message after the front goes to the front
-closes : (n : ℕ) (ms : List (ℕ × Payload)) (i : ℕ) (p : Payload) → RisesAbove n ms
+closes : {A : Type 0} (n : ℕ) (ms : List (ℕ × A)) (i : ℕ) (p : A) → RisesAbove n ms
     → i ≡ n + length (without_gap n ms) + 1
     → slice_get (without_gap n (with_message ms i p)) (length (without_gap n ms)) ≡ Some p
 unfolding RisesAbove
@@ -219,6 +236,21 @@ received-last r acks s i p calm =
     ∙ ap (λ z. received (r ++ acks) s ++ (cond z ((i, p) ∷ []) [] ++ [])) same
     ∙ ap (λ z. z ++ (i, p) ∷ []) (received-after r acks s calm)
 
+-- a message goes behind all others
+items-push : (ps : List Range) (ms : List (ℕ × Payload)) (i : ℕ) (p : Payload)
+    → items_of ps (ms ++ (i, p) ∷ []) ≡ items_of ps ms ++ (i, Some p) ∷ []
+items-push ps ms i p =
+    ap (λ xs. gone_items (numbers_in ps) ++ xs) (map-append (λ (m : ℕ × Payload). (m.0, Some m.1)) ms ((i, p) ∷ []))
+    ∙ sym (append_assoc (gone_items (numbers_in ps)) (there_items ms) ((i, Some p) ∷ []))
+
+items-last : (r acks : List Fact) (s i : ℕ) (p : Payload) → AreAcks acks
+    → items ((r ++ acks) ++ Received s i p ∷ []) s ≡ items r s ++ (i, Some p) ∷ []
+items-last r acks s i p calm =
+    ap (λ ps. items_of ps (received ((r ++ acks) ++ Received s i p ∷ []) s))
+    (flat_map-append (purged_of s) (r ++ acks) (Received s i p ∷ []) ∙ append-nil (purged (r ++ acks) s)
+    ∙ purged-after r acks s calm)
+    ∙ ap (items_of (purged r s)) (received-last r acks s i p calm) ∙ items-push (purged r s) (received r s) i p
+
 pub received-new : (terms : Terms) (r : List Fact) (now : ℕ) (y : Behaviour) (m : Message) (s i : ℕ) (p : Payload)
     → IsNew r now m s i p
     → received (r ++ rows terms now y m r) s ≡ received r s ++ (i, p) ∷ []
@@ -227,26 +259,26 @@ received-new terms r now y m s i p h = ap (λ z. received z s) (rows-after terms
 
 pub gap-closed : (terms : Terms) (r : List Fact) (now : ℕ) (y : Behaviour) (m : Message) (s i : ℕ) (p : Payload)
     → IsNew r now m s i p
-    → AreNumbers (received r s) → behaviour r s ≡ FollowingFirstGap → i ≡ front r s + 1
-    → numbered (inbox (r ++ rows terms now y m r) s) i ≡ Some p
+    → AreNumbers (items r s) → behaviour r s ≡ FollowingFirstGap → i ≡ front r s + 1
+    → numbered (inbox (r ++ rows terms now y m r) s) i ≡ Some (Some p)
 unfolding RisesAbove
 gap-closed terms r now y m s i p h numbers dfg e =
     let acks = ack_rows m.acks r in
     let calm = ack_rows-acks m.acks r in
     let all = rows-after terms r now y m s i p h in
-    let got = received-last r acks s i p calm in
+    let got = items-last r acks s i p calm in
     let made : makers ((r ++ acks) ++ Received s i p ∷ []) ≡ makers r =
     flat_map-append makers_of (r ++ acks) (Received s i p ∷ []) ∙ append-nil (makers (r ++ acks))
     ∙ calm_after makers_of calm_makers r acks calm in
     let still : behaviour ((r ++ acks) ++ Received s i p ∷ []) s ≡ FollowingFirstGap =
     ap (λ z. behaviour_of (numbered z s)) made ∙ dfg in
-    let box : inbox ((r ++ acks) ++ Received s i p ∷ []) s ≡ without_gap 0 (with_message (messages r s) i p) =
+    let box : inbox ((r ++ acks) ++ Received s i p ∷ []) s ≡ without_gap 0 (with_message (messages r s) i (Some p)) =
     ap (λ z. inbox_of z (told ((r ++ acks) ++ Received s i p ∷ []) s)
     (messages ((r ++ acks) ++ Received s i p ∷ []) s)) still
-    ∙ ap (λ z. without_gap 0 (sorted_onto [] z)) got ∙ ap (without_gap 0) (sorted-push [] (received r s) i p) in
+    ∙ ap (λ z. without_gap 0 (sorted_onto [] z)) got ∙ ap (without_gap 0) (sorted-push [] (items r s) i (Some p)) in
     let place : i ≡ suc (front r s) = omega arith in
-    let item : slice_get (without_gap 0 (with_message (messages r s) i p)) (front r s) ≡ Some p =
-    closes 0 (messages r s) i p (sorted-rises [] (received r s) tt numbers) (omega arith) in
+    let item : slice_get (without_gap 0 (with_message (messages r s) i (Some p))) (front r s) ≡ Some (Some p) =
+    closes 0 (messages r s) i (Some p) (sorted-rises [] (items r s) tt numbers) (omega arith) in
     ap (λ z. numbered (inbox z s) i) all ∙ ap (λ z. numbered z i) box
-    ∙ ap (numbered (without_gap 0 (with_message (messages r s) i p))) place
-    ∙ numbered-next (without_gap 0 (with_message (messages r s) i p)) (front r s) ∙ item
+    ∙ ap (numbered (without_gap 0 (with_message (messages r s) i (Some p)))) place
+    ∙ numbered-next (without_gap 0 (with_message (messages r s) i (Some p))) (front r s) ∙ item

@@ -1,6 +1,6 @@
 -- Each row of the receiving table adds what may be added.
 use Rattle.std.proofs.Common.{◌≡◌, ℕ, ◌+◌, ◌-◌, ◌&&◌, not, nat_lt, cond, Bool, true, false, List, [], ◌∷◌, ◌++◌, length}
-use Rattle.std.proofs.Common.{refl, sym, ap}
+use Rattle.std.proofs.Common.{refl, sym, ap, ◌∙◌}
 use Rattle.std.specs.Prelude.{Option, Some, None, IfSome, is_none}
 use Rattle.std.specs.List.{AllByRecursion}
 use Rattle.rm_base.specs.Limits.{most_sequences, window}
@@ -60,7 +60,7 @@ pub then_row-right : (b : List Fact) (f g : Row) → IsRightRow b f → IsRightR
 then_row-right b f g hf hg n r a w o =
     let first : Allows a b (f r) = hf n r a w o in
     Allows-then a b (f r) (g (r ++ f r)) first
-    (hg n (r ++ f r) (a ++ f r) (Keeps-adds r a (f r) w) (Owns-adds n a b (f r) first o))
+    (hg n (r ++ f r) (a ++ f r) (Keeps-adds r a b (f r) first w) (Owns-adds n a b (f r) first o))
 
 -- what find_incoming finds
 pub find_incoming-is : (r : List Fact) (q : Text) (s : ℕ) → find_incoming r q ≡ Some s → (t : Text) × IsIncoming r s q t
@@ -139,8 +139,8 @@ data_row_at-right r a b now None q i p w e h = tt
 data_row_at-right r a b now (Some s) q i p w e h =
     let found = find_incoming-is r q s e in
     let there = kept-Incoming r a s q found.0 w found.1 in
-    chosen (has_number (held r s) i) (is_over r s now) (nat_lt (front r s + window) i) (
-      tt,
+    chosen (has_number (held r s) i) (is_over r s now) (nat_lt (front r s + window) i) (λ new. (
+      sym ((w.same.got s).held_ i) ∙ new,
       record {
         maker_ = there.maker_;
         there = there.there;
@@ -148,12 +148,12 @@ data_row_at-right r a b now (Some s) q i p w e h =
             λ g. record { ident = q; message_id = found.0; incoming = there; sent = h };
       },
       tt,
-    )
+    )) refl
   where
-    chosen : (x y z : Bool) → Allows a b (Received s i p ∷ [])
-        → Allows a b (cond x [] (cond y [] (cond z [] (Received s i p ∷ []))))
-    chosen false false false h = h
-    chosen _ _ _ h = tt
+    chosen : (x y z : Bool) → (has_number (held r s) i ≡ false → Allows a b (Received s i p ∷ []))
+        → has_number (held r s) i ≡ x → Allows a b (cond x [] (cond y [] (cond z [] (Received s i p ∷ []))))
+    chosen false false false h e = h e
+    chosen _ _ _ h e = tt
 
 data_row-right : (b : List Fact) (now : ℕ) (h : Option SeqHeader) (p : Payload) → SaysData b h (body.Payload p)
     → IsRightRow b (data_row now h p)

@@ -1,6 +1,6 @@
 -- Each line of a script keeps the world sound.
 use Rattle.std.proofs.Common.{◌≡◌, ℕ, ◌+◌, ◌≤◌, cond, Bool, true, false, List, [], ◌∷◌, ◌++◌, length, refl, sym, ap}
-use Rattle.std.proofs.Common.{◌∙◌, ◌⊎◌, inl, inr, arith, subst, append-nil, length-append}
+use Rattle.std.proofs.Common.{max, ◌∙◌, ◌⊎◌, inl, inr, arith, subst, append-nil, length-append}
 use Rattle.std.specs.Prelude.{Option, Some, None, IfSome}
 use Rattle.std.specs.List.{AllByRecursion, flat_map}
 use Rattle.std.proofs.lemmas.Bool.Decides.{nat_tests}
@@ -9,13 +9,20 @@ use Rattle.rm_base.specs.Limits.{journal_bytes}
 use Rattle.rm_base.specs.Numbered.{numbered}
 use Rattle.rm_message.specs.declared.message.Message.{Message}
 use Rattle.record_batch.specs.Fact.{Fact, Made}
-use Rattle.record_snapshot.specs.Same.{HasProper, HaveProper}
+use Rattle.record_snapshot.specs.Same.{HasProper}
+use Rattle.rm_base.specs.declared.message.Payload.{Payload}
+use Rattle.sequence_table.specs.Destinations.{received}
 use Rattle.sequence_table.specs.Words.{Text}
 use Rattle.sequence_table.specs.Makers.{makers, makers_of, draws_of, counter}
-use Rattle.rm_protocol.specs.Sound.{Says, IsWith, Owns, Agree, Allows, Keeps, AreWith}
+use Rattle.rm_protocol.specs.Sound.{Says, IsWith, Owns, Agree, Allows, AreWith, StandFor}
 use Rattle.std.specs.Prelude.{Result, Ok, Err}
 use Rattle.rm_message.specs.declared.refusal.Refusal.{Refusal}
 use Rattle.rm_protocol.specs.Calls.{Answer, create, send, close, end, tick, ask_ack, nack_missing, receive}
+use Rattle.rm_protocol.specs.Calls.{consume}
+use Rattle.rm_protocol.specs.InOrder.{AreInOrder, IsInOrder}
+use Rattle.rm_protocol.specs.Next.{AddsNext, IsReadable}
+use Rattle.key_timers.specs.Waits.{first_due}
+use Rattle.sequence_table.specs.Fits.{all_fit, is_in_order}
 use Rattle.rm_protocol.specs.Compact.{compacted, compacted_by, fresh_start, may_compact, rewritten, stops_compacting}
 use Rattle.rm_protocol.specs.Compact.{with_list}
 use Rattle.rm_protocol.specs.Node.{Node, State, Up, Writing, Compacting, records, records_in, end_of, fresh_entries}
@@ -34,16 +41,22 @@ use Rattle.rm_protocol.specs.Terms.{Terms, AreTerms}
 use Rattle.rm_protocol.specs.Verdict.{has_room}
 use Rattle.rm_protocol.specs.World.{messages_in, puts, World, Packet, Side, One, Two, other, node, place, with_node}
 use Rattle.rm_protocol.specs.World.{Event, Create, Grant, Send, Tick, Deliver, Close, End, Ask, Nack, Arm, Crash, Noise}
-use Rattle.rm_protocol.specs.World.{Poll, Compact, sent}
+use Rattle.rm_protocol.specs.World.{Poll, Compact, Consume, sent}
 use Rattle.rm_protocol.specs.World.{calls, received_by, arrives, wish_of, with_clock, happens, run, made, start}
 use Rattle.rm_protocol.specs.World.{AreMade}
 use Rattle.rm_protocol.proofs.ListLemmas.{All-weaker, All-append, All-filter, All-numbered, All-push}
 use Rattle.rm_protocol.proofs.Growth.{Grows, Grows-same, IsWith-grows, Says-grows, Allows-grows}
 use Rattle.rm_protocol.proofs.Adds.{Agree-swap, Agree-adds, Grows-adds}
-use Rattle.rm_protocol.proofs.Kept.{Keeps-adds, Keeps-same}
-use Rattle.rm_protocol.proofs.FreshLemmas.{allows-proper, fresh-below, fresh-HasPlace, fresh-HaveProper, fresh-Keeps}
+use Rattle.rm_protocol.proofs.Kept.{Keeps-adds, Keeps-made}
+use Rattle.rm_protocol.proofs.FreshLemmas.{SnapshotLaws, allows-proper, fresh-below, fresh-HasPlace, fresh-stands}
+use Rattle.rm_protocol.specs.Consumed.{GoesOn, StaysConsumed}
+use Rattle.rm_protocol.proofs.ConsumedLemmas.{goes-on-adds, goes-on-self, goes-on-then}
 use Rattle.rm_protocol.proofs.CallLemmas.{IsRight, SaysContent, create-right, send-right, close-right, end-right}
-use Rattle.rm_protocol.proofs.CallLemmas.{tick-right, receive-right, ask_ack-right, nack_missing-right}
+use Rattle.rm_protocol.proofs.CallLemmas.{tick-right, receive-right, ask_ack-right, nack_missing-right, consume-right}
+use Rattle.rm_protocol.proofs.FitCalls.{adds-next}
+use Rattle.rm_protocol.proofs.FitLemmas.{all_fit-append}
+use Rattle.rm_protocol.proofs.HeadlineLemmas.{IsNumbered, between-all, received-numbered}
+use Rattle.rm_protocol.proofs.NumberLemmas.{says-numbers, whole-few}
 
 pub number_of : Side → ℕ
 number_of One = 1
@@ -67,9 +80,10 @@ record Went (terms : Terms) (x y : Node) (b : List Fact) (outs : List Message) :
   is : y.whole ≡ x.whole ++ delta
   allows : Allows x.whole b delta
   with_ : AreWith b delta
+  fits : all_fit (records x) delta ≡ true
   failed : AllowsState terms y b y.state
-  kept : Keeps (records y) y.whole
-  proper : HaveProper (records y)
+  stands : StandFor (records y) y.whole
+  in_order : is_in_order y.granted ≡ true
   bounded : IsBounded terms y
   says : AllByRecursion (Says y.whole) outs
   said : AreSaid y.whole y.polled
@@ -84,7 +98,7 @@ AreWith-grows b d r g h = All-weaker (IsWith b) (IsWith d) (IsWith-grows b d g) 
 pub AllowsState-grows : (terms : Terms) (x : Node) (b c : List Fact) → Grows b c → (state : State)
     → AllowsState terms x b state → AllowsState terms x c state
 AllowsState-grows terms x b c g (Writing delta) h =
-    (Allows-grows x.whole b c g delta h.0, AreWith-grows b c delta g h.1, h.2)
+    (Allows-grows x.whole b c g delta h.0, AreWith-grows b c delta g h.1, h.2, h.3)
 AllowsState-grows terms x b c g _ h = h
 
 -- one node goes on, and packets are sent
@@ -122,8 +136,8 @@ went-sound terms at x y b outs g h t = record {
   failed = t.failed;
   with_ = subst (AreWith b) (sym t.is) (AreWith-append b x.whole t.delta h.with_ t.with_);
   at_ = g.address ∙ h.at_;
-  kept = t.kept;
-  proper = t.proper;
+  stands = t.stands;
+  in_order = t.in_order;
   bounded = t.bounded;
   said = t.said;
 }
@@ -134,8 +148,8 @@ rested-sound terms at x b c g h = record {
   failed = AllowsState-grows terms x b c g x.state h.failed;
   with_ = AreWith-grows b c x.whole g h.with_;
   at_ = h.at_;
-  kept = h.kept;
-  proper = h.proper;
+  stands = h.stands;
+  in_order = h.in_order;
   bounded = h.bounded;
   said = h.said;
 }
@@ -173,28 +187,67 @@ goes-IsSound terms w Two y outs h t =
       two = went-sound terms w.at_two w.two y w.one.whole outs grown h.two t;
     }
 
+-- a step leaves the world sound, and what applications were given and consumed
+pub record Steps (terms : Terms) (w v : World) : Type 0 where
+  pub sound : IsSound terms v
+  pub stays : StaysConsumed w v
+
+steps-self : (terms : Terms) (w : World) → IsSound terms w → Steps terms w w
+steps-self terms w h = record { sound = h; stays = λ side seq. goes-on-self (node w side).whole seq }
+
+steps-then : (terms : Terms) (w v u : World) → Steps terms w v → Steps terms v u → Steps terms w u
+steps-then terms w v u one two = record {
+  sound = two.sound;
+  stays = λ side seq. goes-on-then (node w side).whole (node v side).whole (node u side).whole seq (one.stays side seq)
+      (two.stays side seq);
+}
+
+went-stays : (terms : Terms) (w : World) (side : Side) (y : Node) (outs : List Message) (seq : ℕ) → IsSound terms w
+    → Went terms (node w side) y (node w (other side)).whole outs
+    → GoesOn (node w side).whole y.whole seq
+went-stays terms w side y outs seq h t =
+    let x = node w side in
+    subst (λ z. GoesOn x.whole z seq) (sym t.is)
+    (goes-on-adds (number_of side) (number_of (other side)) (records x) x.whole (node w (other side)).whole t.delta seq
+    (sound_at terms w side h).stands.kept (agree_at terms w side h) t.allows t.fits)
+
+goes-steps : (terms : Terms) (w : World) (side : Side) (y : Node) (outs : List Message) → IsSound terms w
+    → Went terms (node w side) y (node w (other side)).whole outs → Steps terms w (goes terms w side y (sent side outs))
+goes-steps terms w side y outs h t = record {
+  sound = goes-IsSound terms w side y outs h t;
+  stays = by_side side y h t;
+}
+  where
+    by_side : (side : Side) (y : Node) → IsSound terms w → Went terms (node w side) y (node w (other side)).whole outs
+        → StaysConsumed w (goes terms w side y (sent side outs))
+    by_side One y h t One seq = went-stays terms w One y outs seq h t
+    by_side One y h t Two seq = goes-on-self w.two.whole seq
+    by_side Two y h t One seq = goes-on-self w.one.whole seq
+    by_side Two y h t Two seq = went-stays terms w Two y outs seq h t
+
 -- a node has the same records, and says nothing
 rests : (terms : Terms) (x y : Node) (b : List Fact) → y.whole ≡ x.whole → AllowsState terms y b y.state
-    → Keeps (records y) y.whole → HaveProper (records y) → IsBounded terms y → AreSaid y.whole y.polled
+    → StandFor (records y) y.whole → is_in_order y.granted ≡ true → IsBounded terms y → AreSaid y.whole y.polled
     → Went terms x y b []
-rests terms x y b e f k p i q = record {
+rests terms x y b e f k o i q = record {
   delta = [];
   is = e ∙ sym (append-nil x.whole);
   allows = tt;
   with_ = tt;
+  fits = refl;
   failed = f;
-  kept = k;
-  proper = p;
+  stands = k;
+  in_order = o;
   bounded = i;
   says = tt;
   said = q;
 }
 
-rests-IsSound : (terms : Terms) (w : World) (side : Side) (y : Node) → IsSound terms w
+rests-steps : (terms : Terms) (w : World) (side : Side) (y : Node) → IsSound terms w
     → Went terms (node w side) y (node w (other side)).whole []
-    → IsSound terms (with_node w side y)
-rests-IsSound terms w One y h t = goes-IsSound terms w One y [] h t
-rests-IsSound terms w Two y h t = goes-IsSound terms w Two y [] h t
+    → Steps terms w (with_node w side y)
+rests-steps terms w One y h t = goes-steps terms w One y [] h t
+rests-steps terms w Two y h t = goes-steps terms w Two y [] h t
 
 -- one entry more
 pub records-with : (entries : List (List Fact)) (delta : List Fact)
@@ -230,11 +283,19 @@ bounded-with terms x delta t below fits =
     let size : counter delta ≤ terms.size delta = t.size delta in
     (omega arith, omega arith)
 
--- each range has a number
-pub proper-with : (x : Node) (b delta : List Fact) → HaveProper (records x) → Allows x.whole b delta
-    → HaveProper (records_in (x.entries ++ delta ∷ []))
-proper-with x b delta p k = subst HaveProper (sym (records-with x.entries delta))
-    (All-append HasProper (records x) delta p (allows-proper x.whole b delta k))
+-- with more records a node stands for all that it then ever had
+pub stands-adds : (r a b delta : List Fact) → StandFor r a → Allows a b delta → all_fit r delta ≡ true
+    → StandFor (r ++ delta) (a ++ delta)
+stands-adds r a b delta h k fit = record {
+  kept = Keeps-adds r a b delta k h.kept;
+  proper = All-append HasProper r delta h.proper (allows-proper a b delta k);
+  fit = all_fit-append [] r delta h.fit fit;
+}
+
+stands-with : (x : Node) (b delta : List Fact) → StandFor (records x) x.whole → Allows x.whole b delta
+    → all_fit (records x) delta ≡ true → StandFor (records_in (x.entries ++ delta ∷ [])) (x.whole ++ delta)
+stands-with x b delta h k fit = subst (λ z. StandFor z (x.whole ++ delta)) (sym (records-with x.entries delta))
+    (stands-adds (records x) x.whole b delta h k fit)
 
 -- what leaves the node: what was fetched, and a part of what is said
 leaving : (a : List Fact) (connected : Bool) (fetched outs : List Message) → AllByRecursion (Says a) fetched
@@ -244,27 +305,29 @@ leaving a connected fetched outs h k = All-append (Says a) fetched (sent_of conn
 
 -- a call
 went : (terms : Terms) (x : Node) (b delta : List Fact) (connected : Bool) (fetched outs : List Message)
-    (w : Waiting Message) → AreTerms terms → x.state ≡ Up → Keeps (records x) x.whole → HaveProper (records x)
-    → IsBounded terms x
+    (w : Waiting Message) → AreTerms terms → x.state ≡ Up → StandFor (records x) x.whole
+    → is_in_order x.granted ≡ true → IsBounded terms x
     → Allows x.whole b delta → AreWith b delta → has_room terms (node_end terms x) delta ≡ true
+    → all_fit (records x) delta ≡ true
     → AllByRecursion (Says (x.whole ++ delta)) fetched → AllByRecursion (Says (x.whole ++ delta)) outs
     → AreSaid x.whole x.polled → AreSaid (x.whole ++ delta) w
     → Went terms x (record (written x delta) { polled = polled_with x.fuse delta x.polled w }) b
     (said_with x.fuse delta fetched ++ sent_of connected (said_with x.fuse delta outs))
-went terms x b [] connected fetched outs w t up h p i k g room s s2 old new = record {
+went terms x b [] connected fetched outs w t up h o i k g room fit s s2 old new = record {
   delta = [];
   is = sym (append-nil x.whole);
   allows = tt;
   with_ = tt;
+  fits = refl;
   failed = subst (AllowsState terms x b) (sym up) tt;
-  kept = h;
-  proper = p;
+  stands = h;
+  in_order = o;
   bounded = record { below = i.below; store = i.store };
   says = subst (λ z. AllByRecursion (Says z) (fetched ++ sent_of connected outs)) (append-nil x.whole)
       (leaving (x.whole ++ []) connected fetched outs s s2);
   said = subst (λ z. AreSaid z w) (append-nil x.whole) new;
 }
-went terms x b (rec ∷ delta) connected fetched outs w t up h p i k g room s s2 old new =
+went terms x b (rec ∷ delta) connected fetched outs w t up h o i k g room fit s s2 old new =
     elim (is_short 4 x.fuse) as (λ z. Went terms x
     (record (cond z (goes_down x (rec ∷ delta)) (with_batch x (rec ∷ delta))) { polled = cond z x.polled w }) b
     (cond z [] fetched ++ sent_of connected (cond z [] outs))) [
@@ -273,9 +336,10 @@ went terms x b (rec ∷ delta) connected fetched outs w t up h p i k g room s s2
         is = sym (append-nil x.whole);
         allows = tt;
         with_ = tt;
-        failed = (k, g, room-bound terms (node_end terms x) rec delta room);
-        kept = h;
-        proper = p;
+        fits = refl;
+        failed = (k, g, room-bound terms (node_end terms x) rec delta room, fit);
+        stands = h;
+        in_order = o;
         bounded = record { below = i.below; store = i.store };
         says = tt;
         said = old;
@@ -288,10 +352,10 @@ went terms x b (rec ∷ delta) connected fetched outs w t up h p i k g room s s2
             is = refl;
             allows = k;
             with_ = g;
+            fits = fit;
             failed = subst (AllowsState terms (with_batch x (rec ∷ delta)) b) (sym up) tt;
-            kept = subst (λ z. Keeps z (x.whole ++ (rec ∷ delta))) (sym (records-with x.entries (rec ∷ delta)))
-                (Keeps-adds (records x) x.whole (rec ∷ delta) h);
-            proper = proper-with x b (rec ∷ delta) p k;
+            stands = stands-with x b (rec ∷ delta) h k fit;
+            in_order = o;
             bounded = record { below = more.0; store = more.1 };
             says = leaving (x.whole ++ (rec ∷ delta)) connected fetched outs s s2;
             said = new;
@@ -306,9 +370,10 @@ moved-went terms x y b answer outs t = record {
   is = t.is;
   allows = t.allows;
   with_ = t.with_;
+  fits = t.fits;
   failed = same y.state t.failed;
-  kept = t.kept;
-  proper = t.proper;
+  stands = t.stands;
+  in_order = t.in_order;
   bounded = record { below = t.bounded.below; store = t.bounded.store };
   says = t.says;
   said = t.said;
@@ -320,11 +385,11 @@ moved-went terms x y b answer outs t = record {
     same (Compacting start) h = h
 
 after-went : (terms : Terms) (x : Node) (b : List Fact) (connected : Bool) (answer : Answer) → AreTerms terms
-    → Keeps (records x) x.whole → HaveProper (records x) → IsBounded terms x
-    → IsRight terms (node_end terms x) x.whole b answer → AllowsState terms x b x.state
-    → AreSaid x.whole x.polled
+    → StandFor (records x) x.whole → is_in_order x.granted ≡ true → IsBounded terms x
+    → IsRight terms (node_end terms x) x.whole b answer → all_fit (records x) answer.delta ≡ true
+    → AllowsState terms x b x.state → AreSaid x.whole x.polled
     → Went terms x (after x answer) b (fetched_after x answer ++ sent_of connected (said_after x answer))
-after-went terms x b connected answer t h p i r f q = by_state x.state refl
+after-went terms x b connected answer t h o i r fit f q = by_state x.state refl
   where
     by_state : (z : State) → x.state ≡ z
         → Went terms x (after_by x z answer) b (fetched_by x z answer ++ sent_of connected (said_by x z answer))
@@ -335,38 +400,33 @@ after-went terms x b connected answer t h p i r f q = by_state x.state refl
         moved-went terms x (with_polled x answer (written x answer.delta)) b answer
         (fetched_by x Up answer ++ sent_of connected (said_by x Up answer))
         (went terms x b answer.delta connected (fetched_message answer.fetched) answer.outs
-        (polled_after x.polled answer) t e h p i r.allowed.allows r.allowed.with_ r.room r.allowed.fetched
+        (polled_after x.polled answer) t e h o i r.allowed.allows r.allowed.with_ r.room fit r.allowed.fetched
         r.allowed.says q
         (polled_after-said all x.polled answer later r.allowed.says))
-    by_state (Writing delta) e = rests terms x x b refl f h p i q
-    by_state (Compacting start) e = rests terms x x b refl f h p i q
+    by_state (Writing delta) e = rests terms x x b refl f h o i q
+    by_state (Compacting start) e = rests terms x x b refl f h o i q
 
-calls-IsSound : (terms : Terms) (w : World) (side : Side) (connected : Bool) (answer : Answer) → AreTerms terms
+calls-steps : (terms : Terms) (w : World) (side : Side) (connected : Bool) (answer : Answer) → AreTerms terms
     → IsSound terms w
     → IsRight terms (node_end terms (node w side)) (node w side).whole (node w (other side)).whole answer
-    → IsSound terms (calls terms w side connected answer)
-calls-IsSound terms w One connected answer t h r =
-    goes-IsSound terms w One (after w.one answer)
+    → all_fit (records (node w side)) answer.delta ≡ true
+    → Steps terms w (calls terms w side connected answer)
+calls-steps terms w One connected answer t h r fit =
+    goes-steps terms w One (after w.one answer)
     (fetched_after w.one answer ++ sent_of connected (said_after w.one answer)) h
-    (after-went terms w.one w.two.whole connected answer t h.one.kept h.one.proper h.one.bounded r h.one.failed
+    (after-went terms w.one w.two.whole connected answer t h.one.stands h.one.in_order h.one.bounded r fit h.one.failed
     h.one.said)
-calls-IsSound terms w Two connected answer t h r =
-    goes-IsSound terms w Two (after w.two answer)
+calls-steps terms w Two connected answer t h r fit =
+    goes-steps terms w Two (after w.two answer)
     (fetched_after w.two answer ++ sent_of connected (said_after w.two answer)) h
-    (after-went terms w.two w.one.whole connected answer t h.two.kept h.two.proper h.two.bounded r h.two.failed
+    (after-went terms w.two w.one.whole connected answer t h.two.stands h.two.in_order h.two.bounded r fit h.two.failed
     h.two.said)
 
 -- a crash keeps what the failed call wrote, or leaves it
-kept-entries : (x : Node) (delta : List Fact) → Keeps (records x) x.whole
-    → Keeps (records_in (x.entries ++ delta ∷ [])) (x.whole ++ delta)
-kept-entries x delta h =
-    subst (λ z. Keeps z (x.whole ++ delta)) (sym (records-with x.entries delta))
-    (Keeps-adds (records x) x.whole delta h)
-
-mounted-went : (terms : Terms) (x : Node) (b : List Fact) (kept : Bool) → AreTerms terms → Keeps (records x) x.whole
-    → HaveProper (records x) → IsBounded terms x
+mounted-went : SnapshotLaws → (terms : Terms) (x : Node) (b : List Fact) (kept : Bool) → AreTerms terms
+    → StandFor (records x) x.whole → is_in_order x.granted ≡ true → IsBounded terms x
     → AllowsState terms x b x.state → Went terms x (mounted x kept) b []
-mounted-went terms x b kept t h p i f = by_state x.state kept f
+mounted-went laws terms x b kept t h o i f = by_state x.state kept f
   where
     by_state : (z : State) (kept : Bool) → AllowsState terms x b z
         → Went terms x (record x {
@@ -386,46 +446,47 @@ mounted-went terms x b kept t h p i f = by_state x.state kept f
           is = refl;
           allows = f.0;
           with_ = f.1;
+          fits = f.3;
           failed = tt;
-          kept = kept-entries x delta h;
-          proper = proper-with x b delta p f.0;
+          stands = stands-with x b delta h f.0 f.3;
+          in_order = o;
           bounded = record { below = more.0; store = more.1 };
           says = tt;
           said = tt;
         }
     by_state (Compacting start) true f =
-        rests terms x _ b refl tt (fresh-Keeps x.entries x.whole p h) (fresh-HaveProper x.entries p)
-        (record { below = fresh-below terms start x.entries x.whole t h; store = f }) tt
-    by_state (Writing delta) false f = rests terms x _ b refl tt h p (record { below = i.below; store = i.store }) tt
-    by_state (Compacting start) false f = rests terms x _ b refl tt h p (record { below = i.below; store = i.store }) tt
-    by_state Up kept f = rests terms x _ b refl tt h p (record { below = i.below; store = i.store }) tt
+        rests terms x _ b refl tt (fresh-stands laws x.entries x.whole h) o
+        (record { below = fresh-below terms start x.entries x.whole t h.kept; store = f }) tt
+    by_state (Writing delta) false f = rests terms x _ b refl tt h o (record { below = i.below; store = i.store }) tt
+    by_state (Compacting start) false f = rests terms x _ b refl tt h o (record { below = i.below; store = i.store }) tt
+    by_state Up kept f = rests terms x _ b refl tt h o (record { below = i.below; store = i.store }) tt
 
 -- a list that is written anew, or stays
-compacted-went : (terms : Terms) (x : Node) (b : List Fact) → AreTerms terms → Keeps (records x) x.whole
-    → HaveProper (records x) → IsBounded terms x → AllowsState terms x b x.state → AreSaid x.whole x.polled
-    → Went terms x (compacted terms x) b []
-compacted-went terms x b t h p i f q = by_state x.state refl
+compacted-went : SnapshotLaws → (terms : Terms) (x : Node) (b : List Fact) → AreTerms terms
+    → StandFor (records x) x.whole → is_in_order x.granted ≡ true → IsBounded terms x
+    → AllowsState terms x b x.state → AreSaid x.whole x.polled → Went terms x (compacted terms x) b []
+compacted-went laws terms x b t h o i f q = by_state x.state refl
   where
     rewritten-went : x.state ≡ Up → may_compact terms x ≡ true → Went terms x (rewritten terms x) b []
     rewritten-went up may =
         let place = fresh-HasPlace terms x may i.store in
         elim (is_short 5 x.fuse) as (λ z. Went terms x (cond z (stops_compacting terms x) (with_list terms x)) b []) [
-          | true ↦ rests terms x (stops_compacting terms x) b refl place h p
+          | true ↦ rests terms x (stops_compacting terms x) b refl place h o
               (record { below = i.below; store = i.store }) q
           | false ↦ rests terms x (with_list terms x) b refl
               (subst (AllowsState terms (with_list terms x) b) (sym up) tt)
-              (fresh-Keeps x.entries x.whole p h) (fresh-HaveProper x.entries p)
-              (record { below = fresh-below terms (fresh_start terms x) x.entries x.whole t h; store = place }) q
+              (fresh-stands laws x.entries x.whole h) o
+              (record { below = fresh-below terms (fresh_start terms x) x.entries x.whole t h.kept; store = place }) q
         ]
 
     by_state : (z : State) → x.state ≡ z → Went terms x (compacted_by terms x z) b []
     by_state Up e = elim (may_compact terms x) as (λ z. may_compact terms x ≡ z
         → Went terms x (cond z (rewritten terms x) x) b []) [
           | true ↦ λ may. rewritten-went e may
-          | false ↦ λ may. rests terms x x b refl f h p i q
+          | false ↦ λ may. rests terms x x b refl f h o i q
         ] refl
-    by_state (Writing delta) e = rests terms x x b refl f h p i q
-    by_state (Compacting start) e = rests terms x x b refl f h p i q
+    by_state (Writing delta) e = rests terms x x b refl f h o i q
+    by_state (Compacting start) e = rests terms x x b refl f h o i q
 
 -- a packet comes to the other node than the one that sent it, and its text is read there
 says_at : (terms : Terms) (w : World) (p : Packet) → AreTerms terms → SaysPacket w p
@@ -443,24 +504,50 @@ says_at terms w p t h = by_side p.from h
     by_side One h = as_read w.one.whole h (t.read p.message)
     by_side Two h = as_read w.two.whole h (t.read p.message)
 
-received-IsSound : (terms : Terms) (w : World) (side : Side) (content : Result Message Refusal) → AreTerms terms
+-- what a node in a sound world may add next
+next-at : (terms : Terms) (w : World) (side : Side) → AreTerms terms → IsSound terms w
+    → AddsNext terms (records (node w side)) (node_end terms (node w side))
+next-at terms w side t h = adds-next terms (records (node w side)) (node_end terms (node w side)) t.deadline
+    (sound_at terms w side h).stands.fit
+
+-- what a node in a sound world received has message numbers
+pub received-at : (terms : Terms) (w : World) (side : Side) (t : ℕ) → IsSound terms w
+    → AllByRecursion (λ (m : ℕ × Payload). IsNumbered m.0) (received (node w side).whole t)
+received-at terms w side t h =
+    let a = (node w (other side)).whole in
+    received-numbered a (node w side).whole t
+    (between-all (node w side).whole a (sound_at terms w side h).with_ t) (agree_at terms w side h).justified
+    (whole-few (records (node w (other side))) a (sound_at terms w (other side) h).stands)
+
+-- so has what came from it
+content-numbers : (terms : Terms) (w : World) (side : Side) (content : Result Message Refusal) → IsSound terms w
+    → SaysContent (node w side).whole content → IsReadable content
+content-numbers terms w side (Err refusal) h s = tt
+content-numbers terms w side (Ok m) h s = says-numbers (node w side).whole m
+    (whole-few (records (node w side)) (node w side).whole (sound_at terms w side h).stands)
+    (λ t. received-at terms w side t h) s
+
+received-steps : (terms : Terms) (w : World) (side : Side) (content : Result Message Refusal) → AreTerms terms
     → IsSound terms w
     → SaysContent (node w (other side)).whole content
-    → IsSound terms (calls terms w side true (received_by terms (node w side) content))
-received-IsSound terms w side content t h s =
+    → Steps terms w (calls terms w side true (received_by terms (node w side) content))
+received-steps terms w side content t h s =
     let x = node w side in
-    calls-IsSound terms w side true (received_by terms x content) t h
+    let sound = sound_at terms w side h in
+    calls-steps terms w side true (received_by terms x content) t h
     (polls-right terms (node_end terms x) x.whole (node w (other side)).whole x.polled content
-    (receive terms (records x) (node_end terms x) x.clock x.granted content) (sound_at terms w side h).said
+    (receive terms (records x) (node_end terms x) x.clock x.granted content) sound.said
     (receive-right (number_of side) terms (node_end terms x) (records x) x.whole (node w (other side)).whole
     x.clock x.granted content t
-    (sound_at terms w side h).kept (agree_at terms w side h).owns s))
+    sound.stands.kept (agree_at terms w side h).owns s))
+    ((next-at terms w side t h).receive_ x.clock x.granted content sound.in_order
+    (content-numbers terms w (other side) content h s))
 
-arrives-IsSound : (terms : Terms) (w : World) (p : Option Packet) → AreTerms terms → IsSound terms w
-    → IfSome p (SaysPacket w) → IsSound terms (arrives terms w p)
-arrives-IsSound terms w None t h s = h
-arrives-IsSound terms w (Some p) t h s =
-    received-IsSound terms w (other p.from) (terms.read p.message) t h (says_at terms w p t s)
+arrives-steps : (terms : Terms) (w : World) (p : Option Packet) → AreTerms terms → IsSound terms w
+    → IfSome p (SaysPacket w) → Steps terms w (arrives terms w p)
+arrives-steps terms w None t h s = steps-self terms w h
+arrives-steps terms w (Some p) t h s =
+    received-steps terms w (other p.from) (terms.read p.message) t h (says_at terms w p t s)
 
 packet-says : (terms : Terms) (w : World) (k : ℕ) → IsSound terms w → IfSome (numbered w.packets k) (SaysPacket w)
 packet-says terms w k h = by_packet (numbered w.packets k) refl
@@ -471,13 +558,12 @@ packet-says terms w k h = by_packet (numbered w.packets k) refl
 
 -- a node of which only what is beside its disk changes
 changed-went : (terms : Terms) (x y : Node) (b : List Fact) → y.whole ≡ x.whole → y.entries ≡ x.entries
-    → y.start ≡ x.start → y.state ≡ x.state → y.polled ≡ x.polled → Keeps (records x) x.whole
-    → HaveProper (records x) → IsBounded terms x → AllowsState terms x b x.state → AreSaid x.whole x.polled
+    → y.start ≡ x.start → y.state ≡ x.state → y.polled ≡ x.polled → is_in_order y.granted ≡ true
+    → StandFor (records x) x.whole → IsBounded terms x → AllowsState terms x b x.state → AreSaid x.whole x.polled
     → Went terms x y b []
-changed-went terms x y b e f g s u h p i a q =
+changed-went terms x y b e f g s u o h i a q =
     rests terms x y b e (moved y.state s)
-    (subst (λ z. Keeps (records_in z) y.whole) (sym f) (subst (Keeps (records x)) (sym e) h))
-    (subst (λ z. HaveProper (records_in z)) (sym f) p)
+    (subst (λ z. StandFor (records_in z) y.whole) (sym f) (subst (StandFor (records x)) (sym e) h)) o
     (record {
       below = subst (λ z. counter y.whole ≤ z) (sym place)
           (subst (λ z. counter z ≤ node_end terms x) (sym e) i.below);
@@ -494,95 +580,124 @@ changed-went terms x y b e f g s u h p i a q =
       subst (λ z. Allows z b delta) (sym e) k.0,
       k.1,
       subst (λ z. z + 6 + terms.size delta ≤ journal_bytes) (sym place) k.2,
+      subst (λ z. all_fit (records_in z) delta ≡ true) (sym f) k.3,
     )
     same (Compacting start) k = subst (λ z. end_of terms start (fresh_entries z) ≤ journal_bytes) (sym f) k
 
     moved : (z : State) → z ≡ x.state → AllowsState terms y b z
     moved z k = subst (AllowsState terms y b) (sym k) (same x.state a)
 
-changed-IsSound : (terms : Terms) (w : World) (side : Side) (y : Node) → IsSound terms w
+changed-steps : (terms : Terms) (w : World) (side : Side) (y : Node) → IsSound terms w
     → y.whole ≡ (node w side).whole → y.entries ≡ (node w side).entries
     → y.start ≡ (node w side).start → y.state ≡ (node w side).state → y.polled ≡ (node w side).polled
-    → IsSound terms (with_node w side y)
-changed-IsSound terms w side y h e f g s u =
+    → is_in_order y.granted ≡ true → Steps terms w (with_node w side y)
+changed-steps terms w side y h e f g s u o =
     let x = sound_at terms w side h in
-    rests-IsSound terms w side y h (changed-went terms (node w side) y (node w (other side)).whole e f g s u x.kept
-    x.proper x.bounded x.failed x.said)
+    rests-steps terms w side y h (changed-went terms (node w side) y (node w (other side)).whole e f g s u o x.stands
+    x.bounded x.failed x.said)
 
-tick-IsSound : (terms : Terms) (w : World) (side : Side) (now : ℕ) → AreTerms terms → IsSound terms w
-    → IsSound terms (happens terms w (Tick side now))
-tick-IsSound terms w One now t h =
+tick-steps : (terms : Terms) (w : World) (side : Side) (now : ℕ) → AreTerms terms → IsSound terms w
+    → Steps terms w (happens terms w (Tick side now))
+tick-steps terms w One now t h =
     let v = with_node w One (with_clock w.one now) in
-    calls-IsSound terms v One false
-    (tick terms (records w.one) (node_end terms w.one) now w.one.time w.one.waits) t
-    (changed-IsSound terms w One (with_clock w.one now) h refl refl refl refl refl)
+    let set = changed-steps terms w One (with_clock w.one now) h refl refl refl refl refl h.one.in_order in
+    steps-then terms w v (happens terms w (Tick One now)) set
+    (calls-steps terms v One false
+    (tick terms (records w.one) (node_end terms w.one) now w.one.time w.one.waits) t set.sound
     (tick-right terms (node_end terms w.one) (records w.one) w.one.whole w.two.whole now w.one.time w.one.waits
-    h.one.kept)
-tick-IsSound terms w Two now t h =
+    h.one.stands.kept)
+    ((next-at terms w One t h).tick_ now (first_due (max w.one.time now) w.one.waits)))
+tick-steps terms w Two now t h =
     let v = with_node w Two (with_clock w.two now) in
-    calls-IsSound terms v Two false
-    (tick terms (records w.two) (node_end terms w.two) now w.two.time w.two.waits) t
-    (changed-IsSound terms w Two (with_clock w.two now) h refl refl refl refl refl)
+    let set = changed-steps terms w Two (with_clock w.two now) h refl refl refl refl refl h.two.in_order in
+    steps-then terms w v (happens terms w (Tick Two now)) set
+    (calls-steps terms v Two false
+    (tick terms (records w.two) (node_end terms w.two) now w.two.time w.two.waits) t set.sound
     (tick-right terms (node_end terms w.two) (records w.two) w.two.whole w.one.whole now w.two.time w.two.waits
-    h.two.kept)
+    h.two.stands.kept)
+    ((next-at terms w Two t h).tick_ now (first_due (max w.two.time now) w.two.waits)))
 
-pub happens-IsSound : (terms : Terms) (w : World) (event : Event) → AreTerms terms → IsSound terms w
-    → IsSound terms (happens terms w event)
-happens-IsSound terms w (Create side via expires offer) t h =
+happens-steps : SnapshotLaws → (terms : Terms) (w : World) (event : Event) → AreTerms terms → IsInOrder event
+    → IsSound terms w → Steps terms w (happens terms w event)
+happens-steps laws terms w (Create side via expires offer) t o h =
     let x = node w side in
-    calls-IsSound terms w side false (create terms (records x) (node_end terms x)
+    calls-steps terms w side false (create terms (records x) (node_end terms x)
     (wish_of w side via expires offer)) t h
     (create-right terms (node_end terms x) (records x) x.whole (node w (other side)).whole
     (wish_of w side via expires offer)
-    (sound_at terms w side h).kept (sym (sound_at terms w (other side) h).at_))
-happens-IsSound terms w (Grant side y) t h =
-    changed-IsSound terms w side (record (node w side) { granted = y }) h refl refl refl refl refl
-happens-IsSound terms w (Send side seq text) t h =
+    (sound_at terms w side h).stands.kept (sym (sound_at terms w (other side) h).at_))
+    ((next-at terms w side t h).create_ (wish_of w side via expires offer) o)
+happens-steps laws terms w (Grant side y) t o h =
+    changed-steps terms w side (record (node w side) { granted = y }) h refl refl refl refl refl o
+happens-steps laws terms w (Send side seq text) t o h =
     let x = node w side in
-    calls-IsSound terms w side false (send terms (records x) (node_end terms x) seq text) t h
+    calls-steps terms w side false (send terms (records x) (node_end terms x) seq text) t h
     (send-right terms (node_end terms x) (records x) x.whole (node w (other side)).whole seq text
-    (sound_at terms w side h).kept)
-happens-IsSound terms w (Tick side now) t h = tick-IsSound terms w side now t h
-happens-IsSound terms w (Deliver k) t h = arrives-IsSound terms w (numbered w.packets k) t h (packet-says terms w k h)
-happens-IsSound terms w (Close side seq) t h =
+    (sound_at terms w side h).stands.kept)
+    ((next-at terms w side t h).send_ seq text)
+happens-steps laws terms w (Tick side now) t o h = tick-steps terms w side now t h
+happens-steps laws terms w (Deliver k) t o h =
+    arrives-steps terms w (numbered w.packets k) t h (packet-says terms w k h)
+happens-steps laws terms w (Close side seq) t o h =
     let x = node w side in
-    calls-IsSound terms w side false (close terms (records x) (node_end terms x) seq x.clock) t h
+    calls-steps terms w side false (close terms (records x) (node_end terms x) seq x.clock) t h
     (close-right terms (node_end terms x) (records x) x.whole (node w (other side)).whole seq x.clock
-    (sound_at terms w side h).kept)
-happens-IsSound terms w (End side seq) t h =
+    (sound_at terms w side h).stands.kept)
+    ((next-at terms w side t h).close_ seq x.clock)
+happens-steps laws terms w (End side seq) t o h =
     let x = node w side in
-    calls-IsSound terms w side false (end terms (records x) (node_end terms x) seq) t h
+    calls-steps terms w side false (end terms (records x) (node_end terms x) seq) t h
     (end-right terms (node_end terms x) (records x) x.whole (node w (other side)).whole seq
-    (sound_at terms w side h).kept)
-happens-IsSound terms w (Ask side seq) t h =
+    (sound_at terms w side h).stands.kept)
+    ((next-at terms w side t h).end_ seq)
+happens-steps laws terms w (Ask side seq) t o h =
     let x = node w side in
-    calls-IsSound terms w side false (ask_ack (records x) seq) t h
+    calls-steps terms w side false (ask_ack (records x) seq) t h
     (ask_ack-right terms (node_end terms x) (records x) x.whole (node w (other side)).whole seq)
-happens-IsSound terms w (Nack side seq) t h =
+    ((next-at terms w side t h).ask_ack_ seq)
+happens-steps laws terms w (Nack side seq) t o h =
     let x = node w side in
-    calls-IsSound terms w side false (nack_missing (records x) seq x.clock) t h
+    calls-steps terms w side false (nack_missing (records x) seq x.clock) t h
     (nack_missing-right terms (node_end terms x) (records x) x.whole (node w (other side)).whole seq x.clock)
-happens-IsSound terms w (Arm side c) t h =
-    changed-IsSound terms w side (record (node w side) { fuse = armed c (node w side).fuse }) h refl refl refl refl refl
-happens-IsSound terms w (Crash side kept) t h =
+    ((next-at terms w side t h).nack_missing_ seq x.clock)
+happens-steps laws terms w (Arm side c) t o h =
+    changed-steps terms w side (record (node w side) { fuse = armed c (node w side).fuse }) h refl refl refl refl refl
+    (sound_at terms w side h).in_order
+happens-steps laws terms w (Crash side kept) t o h =
     let x = sound_at terms w side h in
-    rests-IsSound terms w side (mounted (node w side) kept) h
-    (mounted-went terms (node w side) (node w (other side)).whole kept t x.kept x.proper x.bounded x.failed)
-happens-IsSound terms w (Noise side refusal) t h = received-IsSound terms w side (Err refusal) t h tt
-happens-IsSound terms w (Poll side) t h =
+    rests-steps terms w side (mounted (node w side) kept) h
+    (mounted-went laws terms (node w side) (node w (other side)).whole kept t x.stands x.in_order x.bounded x.failed)
+happens-steps laws terms w (Noise side refusal) t o h = received-steps terms w side (Err refusal) t h tt
+happens-steps laws terms w (Poll side) t o h =
     let x = node w side in
-    calls-IsSound terms w side false (poll (records x) (place w (other side))) t h
-    (poll-right terms (node_end terms x) (records x) x.whole (node w (other side)).whole (place w (other side)))
-happens-IsSound terms w (Compact side) t h =
+    calls-steps terms w side false (poll (records x) (place w (other side))) t h
+    (poll-right terms (node_end terms x) (records x) x.whole (node w (other side)).whole (place w (other side))) refl
+happens-steps laws terms w (Compact side) t o h =
     let x = sound_at terms w side h in
-    rests-IsSound terms w side (compacted terms (node w side)) h
-    (compacted-went terms (node w side) (node w (other side)).whole t x.kept x.proper x.bounded x.failed x.said)
+    rests-steps terms w side (compacted terms (node w side)) h
+    (compacted-went laws terms (node w side) (node w (other side)).whole t x.stands x.in_order x.bounded x.failed
+    x.said)
+happens-steps laws terms w (Consume side seq upto) t o h =
+    let x = node w side in
+    calls-steps terms w side false (consume terms (records x) (node_end terms x) seq upto) t h
+    (consume-right terms (node_end terms x) (records x) x.whole (node w (other side)).whole seq upto)
+    ((next-at terms w side t h).consume_ seq upto)
 
-pub run-IsSound : (terms : Terms) (events : List Event) (w : World) → AreTerms terms → IsSound terms w
-    → IsSound terms (run terms events w)
-run-IsSound terms [] w t h = h
-run-IsSound terms (event ∷ events) w t h =
-    run-IsSound terms events (happens terms w event) t (happens-IsSound terms w event t h)
+pub happens-IsSound : SnapshotLaws → (terms : Terms) (w : World) (event : Event) → AreTerms terms → IsInOrder event
+    → IsSound terms w → IsSound terms (happens terms w event)
+happens-IsSound laws terms w event t o h = (happens-steps laws terms w event t o h).sound
+
+pub run-steps : SnapshotLaws → (terms : Terms) (events : List Event) (w : World) → AreTerms terms
+    → AreInOrder events → IsSound terms w → Steps terms w (run terms events w)
+run-steps laws terms [] w t o h = steps-self terms w h
+run-steps laws terms (event ∷ events) w t o h =
+    let v = happens terms w event in
+    let one = happens-steps laws terms w event t o.0 h in
+    steps-then terms w v (run terms events v) one (run-steps laws terms events v t o.1 one.sound)
+
+pub run-IsSound : SnapshotLaws → (terms : Terms) (events : List Event) (w : World) → AreTerms terms
+    → AreInOrder events → IsSound terms w → IsSound terms (run terms events w)
+run-IsSound laws terms events w t o h = (run-steps laws terms events w t o h).sound
 
 owns-made : (n : ℕ) (a : Text) → Owns n (Made n a ∷ [])
 owns-made n a = record {
@@ -594,23 +709,23 @@ owns-made n a = record {
   found = λ s q e. absurd (cc);
 }
 
-made-sound : (terms : Terms) (n : ℕ) (at : Text) (b : List Fact) → AreTerms terms
+made-sound : (terms : Terms) (n : ℕ) (at : Text) (b : List Fact) → all_fit [] (Made n at ∷ []) ≡ true
     → has_room terms 25 (Made n at ∷ []) ≡ true → IsSoundNode terms at (made n at) b
-made-sound terms n at b t e =
+made-sound terms n at b fit e =
     let fits : 25 + 6 + terms.size (Made n at ∷ []) ≤ journal_bytes = room-bound terms 25 (Made n at) [] e in
     record {
       failed = tt;
       with_ = tt;
       at_ = refl;
-      kept = Keeps-same (Made n at ∷ []);
-      proper = (tt, tt);
+      stands = record { kept = Keeps-made n at; proper = (tt, tt); fit = fit };
+      in_order = refl;
       bounded = record { below = omega arith; store = omega arith };
       said = tt;
     }
 
-pub start-IsSound : (terms : Terms) (one two : Text) → AreTerms terms → AreMade terms one two
+pub start-IsSound : (terms : Terms) (one two : Text) → AreMade terms one two
     → IsSound terms (start one two)
-start-IsSound terms one two t made = record {
+start-IsSound terms one two made = record {
   agree = record {
     owns = owns-made 1 one;
     others = owns-made 2 two;
@@ -619,6 +734,6 @@ start-IsSound terms one two t made = record {
         (tt, tt);
   };
   packets = tt;
-  one = made-sound terms 1 one (Made 2 two ∷ []) t made.one_;
-  two = made-sound terms 2 two (Made 1 one ∷ []) t made.two_;
+  one = made-sound terms 1 one (Made 2 two ∷ []) refl made.one_;
+  two = made-sound terms 2 two (Made 1 one ∷ []) refl made.two_;
 }

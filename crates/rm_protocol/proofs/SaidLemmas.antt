@@ -1,12 +1,11 @@
 -- What a node says is so by its records.
-use Rattle.std.proofs.Common.{◌≡◌, ℕ, ◌+◌, ◌==◌, cond, Bool, true, false, List, [], ◌∷◌, ◌++◌, length, refl, sym, ap}
+use Rattle.std.proofs.Common.{◌≡◌, ℕ, ◌+◌, ◌==◌, cond, Bool, true, false, List, [], ◌∷◌, ◌++◌, refl, sym, ap}
 use Rattle.std.proofs.Common.{◌∙◌, subst}
 use Rattle.std.specs.Prelude.{Option, Some, None, IfSome}
 use Rattle.std.specs.List.{AllByRecursion}
 use Rattle.std.proofs.lemmas.Bool.{eqb-true}
 use Rattle.ack_ranges.specs.declared.range.Range.{Range}
 use Rattle.ack_ranges.specs.Ranges.{in_ranges}
-use Rattle.rm_base.specs.Numbered.{numbered}
 use Rattle.rm_base.specs.NumberSet.{has_number}
 use Rattle.rm_elements.specs.declared.header.AckBlock.{AckBlock}
 use Rattle.rm_elements.specs.declared.header.SeqHeader.{SeqHeader}
@@ -21,11 +20,11 @@ use Rattle.wsa_headers.specs.declared.endpoint.Epr.{Epr}
 use Rattle.record_batch.specs.declared.record.Via.{Via}
 use Rattle.record_batch.specs.Fact.{Fact}
 use Rattle.record_snapshot.specs.Same.{AreProper}
-use Rattle.rm_destination.specs.Messages.{is_empty, numbers_of, ranges_onto}
+use Rattle.rm_destination.specs.Messages.{is_empty, ranges_onto}
 use Rattle.sequence_table.specs.Words.{Text, at_seq, last_or}
 use Rattle.sequence_table.specs.Idents.{issue}
 use Rattle.sequence_table.specs.Makers.{Maker, Outgoing, Offered, Incoming, Taken, makers, maker, number}
-use Rattle.sequence_table.specs.Sources.{accepted, marks, out_ident, phase}
+use Rattle.sequence_table.specs.Sources.{accepted_count, marks, out_ident, payload_at, phase}
 use Rattle.sequence_table.specs.Destinations.{held}
 use Rattle.sequence_table.specs.Find.{IsIncoming, incoming_of, find_incoming, find_grant, is_granted, peer, acks_to}
 use Rattle.rm_protocol.specs.Sound.{IsGranted, IsFinal, SaysData, SaysBlock, SaysCreate, SaysResponse, SaysFinal}
@@ -50,7 +49,7 @@ use Rattle.rm_protocol.specs.Said.{acks_said, back_blocks, back_message, own_mes
 use Rattle.rm_protocol.specs.Rows.{ranges_of}
 use Rattle.rm_protocol.specs.Terms.{Terms, AreTerms, IsFault, header_blocks}
 use Rattle.rm_protocol.proofs.ListLemmas.{All-append, find-is}
-use Rattle.rm_protocol.proofs.Kept.{kept-ident, kept-Incoming, kept-Asked}
+use Rattle.rm_protocol.proofs.Kept.{kept-Asked, kept-count, kept-held, kept-ident, kept-Incoming, kept-payload}
 use Rattle.rm_protocol.proofs.RangeLemmas.{ranges-has, ranges-proper, ranges_of-kind_of}
 use Rattle.rm_protocol.proofs.RowLemmas.{find_incoming-is}
 
@@ -69,7 +68,7 @@ block-says r a s now q t w h = (are-held, subst AreProper (sym (ranges_of-kind_o
           seq = s;
           message_id = t;
           incoming = kept-Incoming r a s q t w h;
-          has = ap (λ z. has_number (numbers_of z) n) (sym (w.received_ s)) ∙ ranges-has (held r s) n there;
+          has = sym (kept-held r a s n w) ∙ ranges-has (held r s) n there;
         }
 
 found-says : (r a : List Fact) (s now : ℕ) (q : Text) → Keeps r a → find_incoming r q ≡ Some s
@@ -270,16 +269,16 @@ said-says r a now m w =
 
 -- messages of a sequence
 pub data_at-says : (r a : List Fact) (s i : ℕ) → Keeps r a → AllByRecursion (Says a) (option_to_list (data_at r s i))
-data_at-says r a s i w = by_parts (peer r s) (out_ident r s) (numbered (accepted r s) i) refl refl
+data_at-says r a s i w = by_parts (peer r s) (out_ident r s) (payload_at r s i) refl refl
   where
-    by_parts : (to : Option Epr) (x : Option Text) (y : Option Text) → out_ident r s ≡ x → numbered (accepted r s) i ≡ y
+    by_parts : (to : Option Epr) (x : Option Text) (y : Option Text) → out_ident r s ≡ x → payload_at r s i ≡ y
         → AllByRecursion (Says a) (option_to_list (data_by to x i y))
     by_parts (Some to) (Some q) (Some p) e f = (
       record {
         data_ = record {
           seq = s;
           outgoing = record { is = kept-ident r a s (Some q) w e };
-          item = ap (λ z. numbered z i) (sym (w.accepted_ s)) ∙ f;
+          item = kept-payload r a s i p w f;
         };
         acks = tt;
         create = tt;
@@ -360,12 +359,12 @@ number_back n = elim (n == 0) as (λ b. (n == 0) ≡ b → last_of (cond b None 
 
 final-at : (r a : List Fact) (s : ℕ) (q : Text) (p : OutPhase) → Keeps r a → phase r s ≡ p → IsLate p
     → out_ident r s ≡ Some q
-    → IsFinal a q (last_of (last_number (length (accepted r s))))
+    → IsFinal a q (last_of (last_number (accepted_count r s)))
 final-at r a s q p w e h i = record {
   seq = s;
   outgoing = record { is = kept-ident r a s (Some q) w i };
-  stopped = ap (λ z. is_empty (at_seq s z)) (sym w.marks_) ∙ stopped_by (out_ident r s) (marks r s) p e h;
-  count = ap length (sym (w.accepted_ s)) ∙ sym (number_back (length (accepted r s)));
+  stopped = ap (λ z. is_empty (at_seq s z)) (sym w.same.frame.marks_) ∙ stopped_by (out_ident r s) (marks r s) p e h;
+  count = sym (kept-count r a s w) ∙ sym (number_back (accepted_count r s));
 }
 
 close_request-says : (r a : List Fact) (s : ℕ) (x : Option Epr) (y : Option Text) (name : Text) → Keeps r a

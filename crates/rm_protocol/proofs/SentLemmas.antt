@@ -12,13 +12,11 @@ use Rattle.rm_base.specs.Numbered.{numbered}
 use Rattle.rm_base.specs.declared.message.Behaviour.{Behaviour}
 use Rattle.rm_base.specs.declared.message.Cause.TheVariants.{Operator, Expired}
 use Rattle.rm_message.specs.declared.message.Message.{Message}
-use Rattle.record_batch.specs.Fact.{Fact, Creating, Accepted, Closing, Closed, Ending, Ended}
-use Rattle.record_snapshot.specs.SameLemmas.{same_accepted}
-use Rattle.record_snapshot.specs.Snapshot.{snapshot}
+use Rattle.record_batch.specs.Fact.{Fact, Creating, Accepted, Closing, Closed, Ending, Ended, Consumed}
 use Rattle.sequence_table.specs.Words.{Text}
 use Rattle.sequence_table.specs.Makers.{Maker, Outgoing, Offered, Incoming, Taken, makers, maker, counter}
-use Rattle.sequence_table.specs.Sources.{accepted, accepted_of, phase}
-use Rattle.sequence_table.specs.Destinations.{has_end, is_over}
+use Rattle.sequence_table.specs.Sources.{accepted, accepted_count, accepted_of, phase}
+use Rattle.sequence_table.specs.Destinations.{cursor, has_end, inbox, is_over}
 use Rattle.std.specs.Prelude.{Result, Ok, Err}
 use Rattle.rm_message.specs.declared.refusal.FaultKind.{FaultKind}
 use Rattle.rm_message.specs.declared.refusal.Refusal.{Refusal}
@@ -34,8 +32,8 @@ use Rattle.rm_protocol.specs.Waiting.{no_moves}
 use Rattle.key_timers.specs.Waits.{Wait, first_due}
 use Rattle.rm_protocol.specs.Heard.{Heard}
 use Rattle.rm_protocol.specs.Compact.{compacted, compacted_by, may_compact, rewritten, stops_compacting, with_list}
-use Rattle.rm_protocol.specs.Node.{Node, State, Up, Writing, Compacting, records, records_in, fresh_entries, node_end}
-use Rattle.rm_protocol.specs.Node.{is_short, entries_left}
+use Rattle.rm_protocol.specs.Node.{Node, State, Up, Writing, Compacting, records, node_end}
+use Rattle.rm_protocol.specs.Node.{is_short, entries_left, whole_left}
 use Rattle.rm_protocol.specs.Node.{mounted, with_batch, goes_down, written, after_by, after, Answered, DiskFault}
 use Rattle.rm_protocol.specs.Node.{outcome_with, outcome_by, call_outcome}
 use Rattle.std.specs.Option.{option_to_list}
@@ -45,13 +43,12 @@ use Rattle.rm_protocol.specs.Sent.{outcome_of, line_of, lines, printed, is_crash
 use Rattle.rm_protocol.specs.Sent.{sent_by, sent_in, IsLeftAs, IsImage}
 use Rattle.rm_protocol.specs.Terms.{Terms}
 use Rattle.rm_protocol.specs.Verdict.{verdict, has_room}
+use Rattle.rm_protocol.specs.Word.{history}
 use Rattle.rm_protocol.specs.World as world
 use Rattle.rm_protocol.specs.World.{World, Packet, Side, One, Two, other, node, with_clock, Event, calls}
 use Rattle.rm_protocol.specs.Polls.{poll}
 use Rattle.rm_protocol.specs.World.{place, received_by, arrives, wish_of, happens, run, start}
 use Rattle.rm_protocol.proofs.HeardLemmas.{rows-heard}
-use Rattle.rm_protocol.specs.AloneLemmas.{records-alone}
-use Rattle.rm_protocol.proofs.RunLemmas.{records-with}
 
 accepted-append : (r d : List Fact) (k : ℕ) → accepted (r ++ d) k ≡ accepted r k ++ accepted d k
 accepted-append r d k = flat_map-append (accepted_of k) r d
@@ -169,6 +166,24 @@ expired-quiet r now i (m ∷ ms) k = chosen (is_past (deadline_of (Some m)) now 
     chosen true h = h
     chosen false h = h
 
+-- a call for an incoming sequence
+on_incoming-quiet : (x : Option Maker) (answer : Answer) → IsQuiet answer → IsQuiet (Calls.on_incoming x answer)
+on_incoming-quiet None answer h = refusal-quiet Calls.NoSequence
+on_incoming-quiet (Some (Outgoing t to v l)) answer h = refusal-quiet Calls.WrongSide
+on_incoming-quiet (Some (Taken t q k)) answer h = refusal-quiet Calls.WrongSide
+on_incoming-quiet (Some (Offered t c to y)) answer h = h
+on_incoming-quiet (Some (Incoming c t k y d l)) answer h = h
+
+consume-quiet : (terms : Terms) (r : List Fact) (place s upto : ℕ) → IsQuiet (Calls.consume terms r place s upto)
+consume-quiet terms r place s upto =
+    on_incoming-quiet (maker r s) (Calls.consume_in terms r place s upto)
+    (refused-quiet (nat_lt (length (inbox r s)) upto) (Calls.PastInbox (length (inbox r s))) _
+    (if_room-quiet terms place (adds r (Calls.cursor_to r s upto) (λ after. [])) (chosen (nat_lt (cursor r s) upto))))
+  where
+    chosen : (b : Bool) → IsQuiet (adds r (cond b (Consumed s upto ∷ []) []) (λ after. []))
+    chosen true = record { done = refl; quiet = λ k. refl }
+    chosen false = record { done = tt; quiet = λ k. refl }
+
 -- a call without records
 still-quiet : (r : List Fact) (outs : List Fact → List Message) → IsQuiet (adds r [] outs)
 still-quiet r outs = record { done = tt; quiet = λ k. refl }
@@ -179,18 +194,10 @@ ask_ack-quiet r s = on_outgoing-quiet (maker r s) (Calls.ask_out r s)
     (still-quiet r (λ after. Calls.ask_to (peer after s) (out_ident after s))))
 
 nack_missing-quiet : (r : List Fact) (s now : ℕ) → IsQuiet (Calls.nack_missing r s now)
-nack_missing-quiet r s now = by_maker (maker r s)
-  where
-    in_ : IsQuiet (Calls.nack_in r s now)
-    in_ = refused-quiet (is_over r s now) Calls.NotOpen _
-        (still-quiet r (λ after. Calls.nack_by after s (Calls.made_by after (maker after s))))
-
-    by_maker : (x : Option Maker) → IsQuiet (Calls.on_incoming x (Calls.nack_in r s now))
-    by_maker None = refusal-quiet Calls.NoSequence
-    by_maker (Some (Outgoing t to v l)) = refusal-quiet Calls.WrongSide
-    by_maker (Some (Taken t q k)) = refusal-quiet Calls.WrongSide
-    by_maker (Some (Offered t c to y)) = in_
-    by_maker (Some (Incoming c t k y d l)) = in_
+nack_missing-quiet r s now =
+    on_incoming-quiet (maker r s) (Calls.nack_in r s now)
+    (refused-quiet (is_over r s now) Calls.NotOpen _
+    (still-quiet r (λ after. Calls.nack_by after s (Calls.made_by after (maker after s)))))
 
 tick-quiet : (terms : Terms) (r : List Fact) (place now time : ℕ) (waits : List Wait)
     → IsQuiet (Calls.tick terms r place now time waits)
@@ -208,7 +215,7 @@ pending k next entries (Writing delta) = cond (next == entries + 1) (accepted de
 pending k next entries _ = []
 
 abbrev total : ℕ → ℕ → Node → List Text
-total k next x = accepted (records x) k ++ pending k next (length x.entries) x.state
+total k next x = accepted x.whole k ++ pending k next (length x.entries) x.state
 
 -- the texts that an answer brings
 abbrev brought : ℕ → ℕ → Node → Answer → List Text
@@ -225,49 +232,47 @@ moves : (k next : ℕ) (x : Node) (answer : Answer) → IsDoneWith answer.delta 
 moves k next x answer d = by_state x.state refl
   where
     up : (delta : List Fact) (o : Outcome) → IsDoneWith delta o → x.state ≡ Up
-        → (accepted (records x) k ++ [])
+        → (accepted x.whole k ++ [])
         ++ cond (counts_call (outcome_with x.fuse delta o) (length (written x delta).entries) next)
         (accepted delta k) []
         ≡ total k next (written x delta)
     up [] o d e =
-        ap (λ z. (accepted (records x) k ++ []) ++ z)
+        ap (λ z. (accepted x.whole k ++ []) ++ z)
         (nothing_brought (counts_call (Answered o) (length x.entries) next) [] refl)
-        ∙ append-nil (accepted (records x) k ++ [])
-        ∙ ap (λ z. accepted (records x) k ++ pending k next (length x.entries) z) (sym e)
+        ∙ append-nil (accepted x.whole k ++ [])
+        ∙ ap (λ z. accepted x.whole k ++ pending k next (length x.entries) z) (sym e)
     up (rec ∷ delta) o d e = chosen (is_short 4 x.fuse)
       where
-        chosen : (b : Bool) → (accepted (records x) k ++ [])
+        chosen : (b : Bool) → (accepted x.whole k ++ [])
             ++ cond (counts_call (cond b DiskFault (Answered o))
             (length (cond b (goes_down x (rec ∷ delta)) (with_batch x (rec ∷ delta))).entries) next)
             (accepted (rec ∷ delta) k) []
             ≡ total k next (cond b (goes_down x (rec ∷ delta)) (with_batch x (rec ∷ delta)))
         chosen true = ap (λ z. z ++ cond (next == length x.entries + 1) (accepted (rec ∷ delta) k) [])
-            (append-nil (accepted (records x) k))
+            (append-nil (accepted x.whole k))
         chosen false =
-            let all : accepted (records (with_batch x (rec ∷ delta))) k ≡ accepted (records x) k ++ accepted
-            (rec ∷ delta) k =
-            ap (λ z. accepted z k) (records-with x.entries (rec ∷ delta))
-            ∙ accepted-append (records x) (rec ∷ delta) k in
-            ap (λ z. (accepted (records x) k ++ [])
+            let all : accepted (x.whole ++ (rec ∷ delta)) k ≡ accepted x.whole k ++ accepted (rec ∷ delta) k =
+            accepted-append x.whole (rec ∷ delta) k in
+            ap (λ z. (accepted x.whole k ++ [])
             ++ cond (counts_call (Answered z) (length (with_batch x (rec ∷ delta)).entries) next)
             (accepted (rec ∷ delta) k) []) d
-            ∙ ap (λ z. z ++ accepted (rec ∷ delta) k) (append-nil (accepted (records x) k)) ∙ sym all
-            ∙ sym (append-nil (accepted (records (with_batch x (rec ∷ delta))) k))
-            ∙ ap (λ z. accepted (records (with_batch x (rec ∷ delta))) k ++ pending k next
+            ∙ ap (λ z. z ++ accepted (rec ∷ delta) k) (append-nil (accepted x.whole k)) ∙ sym all
+            ∙ sym (append-nil (accepted (x.whole ++ (rec ∷ delta)) k))
+            ∙ ap (λ z. accepted (x.whole ++ (rec ∷ delta)) k ++ pending k next
             (length (with_batch x (rec ∷ delta)).entries) z) (sym e)
 
     by_state : (z : State) → x.state ≡ z
-        → (accepted (records x) k ++ pending k next (length x.entries) z)
+        → (accepted x.whole k ++ pending k next (length x.entries) z)
         ++ cond (counts_call (outcome_by x z answer) (length (after_by x z answer).entries) next)
         (accepted answer.delta k) []
         ≡ total k next (after_by x z answer)
     by_state Up e = up answer.delta answer.outcome d e
     by_state (Writing delta) e =
-        append-nil (accepted (records x) k ++ pending k next (length x.entries) (Writing delta))
-        ∙ ap (λ z. accepted (records x) k ++ pending k next (length x.entries) z) (sym e)
+        append-nil (accepted x.whole k ++ pending k next (length x.entries) (Writing delta))
+        ∙ ap (λ z. accepted x.whole k ++ pending k next (length x.entries) z) (sym e)
     by_state (Compacting start) e =
-        append-nil (accepted (records x) k ++ pending k next (length x.entries) (Compacting start))
-        ∙ ap (λ z. accepted (records x) k ++ pending k next (length x.entries) z) (sym e)
+        append-nil (accepted x.whole k ++ pending k next (length x.entries) (Compacting start))
+        ∙ ap (λ z. accepted x.whole k ++ pending k next (length x.entries) z) (sym e)
 
 -- a call that accepts nothing leaves the total
 quiet-moves : (k next : ℕ) (x : Node) (answer : Answer) → IsQuiet answer
@@ -319,7 +324,7 @@ send_out-send terms r place s text =
     (refused-send s text (not (is_open (phase r s))) _ _
     (refused-send s text (nat_le window (unacked r s)) _ _
     (refused-send s text (nat_le most_unacked (all_unacked r)) _ _
-    (refused-send s text (nat_le max_number (length (accepted r s))) _ _
+    (refused-send s text (nat_le max_number (accepted_count r s)) _ _
     (refusing-send s text (has_room terms place (Accepted s text ∷ [])) _ _ (accepted_ _)))))))
 
 on_outgoing-send : (s : ℕ) (text : Text) (x : Option Maker) (answer : Answer) → IsSend s text answer
@@ -366,29 +371,22 @@ send-moves k next x s text (_) (accepted_ outs) =
     let counted = counts_call (call_outcome x answer) (length (after x answer).entries) next in
     ap (λ z. total k next x ++ z) (swap_cond (s == k) counted text) ∙ moves k next x answer refl
 
--- what is written anew has the same texts
-accepted-fresh : (entries : List (List Fact)) (k : ℕ)
-    → accepted (records_in (fresh_entries entries)) k ≡ accepted (records_in entries) k
-accepted-fresh entries k =
-    ap (λ z. accepted z k) (records-alone (snapshot (records_in entries))) ∙ same_accepted (records_in entries) k
-
 mounted-total : (k next : ℕ) (x : Node) (kept : Bool)
     → total k (length (mounted x kept).entries) x ≡ total k next (mounted x kept)
 mounted-total k next x kept = by_state x.state kept
   where
     by_state : (z : State) (kept : Bool)
-        → accepted (records x) k ++ pending k (length (entries_left z kept x.entries)) (length x.entries) z
-        ≡ accepted (records_in (entries_left z kept x.entries)) k ++ []
+        → accepted x.whole k ++ pending k (length (entries_left z kept x.entries)) (length x.entries) z
+        ≡ accepted (whole_left z kept x.whole) k ++ []
     by_state (Writing delta) false =
         let size : (length x.entries == length x.entries + 1) ≡ false = grind (arith, nat_tests) in
-        ap (λ b. accepted (records x) k ++ cond b (accepted delta k) []) size
+        ap (λ b. accepted x.whole k ++ cond b (accepted delta k) []) size
     by_state (Writing delta) true =
         let size : (length (x.entries ++ delta ∷ []) == length x.entries + 1) ≡ true = grind
         (arith, nat_tests, length-append x.entries (delta ∷ [])) in
-        ap (λ b. accepted (records x) k ++ cond b (accepted delta k) []) size
-        ∙ sym (accepted-append (records x) delta k) ∙ ap (λ z. accepted z k) (sym (records-with x.entries delta))
-        ∙ sym (append-nil (accepted (records_in (x.entries ++ delta ∷ [])) k))
-    by_state (Compacting start) true = ap (λ z. z ++ []) (sym (accepted-fresh x.entries k))
+        ap (λ b. accepted x.whole k ++ cond b (accepted delta k) []) size
+        ∙ sym (accepted-append x.whole delta k) ∙ sym (append-nil (accepted (x.whole ++ delta) k))
+    by_state (Compacting start) true = refl
     by_state (Compacting start) false = refl
     by_state Up kept = refl
 
@@ -397,19 +395,17 @@ compacted-total : (terms : Terms) (k next : ℕ) (x : Node) → total k next x �
 compacted-total terms k next x = by_state x.state refl
   where
     as_it_was : (z : State) → x.state ≡ z
-        → accepted (records x) k ++ pending k next (length x.entries) z ≡ total k next x
-    as_it_was z e = ap (λ s. accepted (records x) k ++ pending k next (length x.entries) s) (sym e)
+        → accepted x.whole k ++ pending k next (length x.entries) z ≡ total k next x
+    as_it_was z e = ap (λ s. accepted x.whole k ++ pending k next (length x.entries) s) (sym e)
 
     by_state : (z : State) → x.state ≡ z
-        → accepted (records x) k ++ pending k next (length x.entries) z ≡ total k next (compacted_by terms x z)
+        → accepted x.whole k ++ pending k next (length x.entries) z ≡ total k next (compacted_by terms x z)
     by_state Up e = elim (may_compact terms x) as (λ b.
-        accepted (records x) k ++ [] ≡ total k next (cond b (rewritten terms x) x)) [
+        accepted x.whole k ++ [] ≡ total k next (cond b (rewritten terms x) x)) [
           | true ↦ elim (is_short 5 x.fuse) as (λ b.
-              accepted (records x) k ++ [] ≡ total k next (cond b (stops_compacting terms x) (with_list terms x))) [
+              accepted x.whole k ++ [] ≡ total k next (cond b (stops_compacting terms x) (with_list terms x))) [
                 | true ↦ refl
-                | false ↦ ap (λ z. z ++ []) (sym (accepted-fresh x.entries k))
-                    ∙ ap (λ z. accepted (records (with_list terms x)) k
-                    ++ pending k next (length (with_list terms x).entries) z) (sym e)
+                | false ↦ ap (λ z. accepted x.whole k ++ pending k next (length (with_list terms x).entries) z) (sym e)
               ]
           | false ↦ as_it_was Up e
         ]
@@ -492,46 +488,49 @@ step terms w (world.Noise side refusal) n k next =
 step terms w (world.Poll side) n k next =
     quiet-call terms w side n false (poll (records (node w side)) (place w (other side))) k next
     (record { done = tt; quiet = λ z. refl })
+step terms w (world.Consume side s upto) n k next =
+    let x = node w side in
+    quiet-call terms w side n false (Calls.consume terms (records x) (node_end terms x) s upto) k next
+    (consume-quiet terms (records x) (node_end terms x) s upto)
 step terms w (world.Compact One) One k next = append-nil (total k next w.one) ∙ compacted-total terms k next w.one
 step terms w (world.Compact Two) Two k next = append-nil (total k next w.two) ∙ compacted-total terms k next w.two
 step terms w (world.Compact One) Two k next = append-nil (total k next w.two)
 step terms w (world.Compact Two) One k next = append-nil (total k next w.one)
 
-image-total : (x : Node) (k : ℕ) (image : List Fact) (entries : ℕ) → IsImage x image entries
-    → accepted image k ≡ total k entries x
-image-total x k image entries h = by_state x.state h
+image-total : (x : Node) (k : ℕ) (image all : List Fact) (entries : ℕ) → IsImage x image all entries
+    → history all k ≡ total k entries x
+image-total x k image all entries h = by_state x.state h
   where
-    by_state : (z : State) → IsLeftAs (records x) (length x.entries) z image entries
-        → accepted image k ≡ accepted (records x) k ++ pending k entries (length x.entries) z
-    by_state Up e = ap (λ z. accepted z k) e.0 ∙ sym (append-nil (accepted (records x) k))
+    by_state : (z : State) → IsLeftAs (records x) x.whole (length x.entries) z image all entries
+        → history all k ≡ accepted x.whole k ++ pending k entries (length x.entries) z
+    by_state Up e = ap (λ z. accepted z k) e.1 ∙ sym (append-nil (accepted x.whole k))
     by_state (Writing delta) (inl e) =
-        let same : entries ≡ length x.entries = e.1 in
+        let same : entries ≡ length x.entries = e.2 in
         let size : (entries == length x.entries + 1) ≡ false = grind (arith, nat_tests) in
-        ap (λ z. accepted z k) e.0 ∙ sym (append-nil (accepted (records x) k))
-        ∙ ap (λ b. accepted (records x) k ++ cond b (accepted delta k) []) (sym size)
+        ap (λ z. accepted z k) e.1 ∙ sym (append-nil (accepted x.whole k))
+        ∙ ap (λ b. accepted x.whole k ++ cond b (accepted delta k) []) (sym size)
     by_state (Writing delta) (inr e) =
-        let same : entries ≡ length x.entries + 1 = e.1 in
+        let same : entries ≡ length x.entries + 1 = e.2 in
         let size : (entries == length x.entries + 1) ≡ true = grind (arith, nat_tests) in
-        ap (λ z. accepted z k) e.0 ∙ accepted-append (records x) delta k
-        ∙ ap (λ b. accepted (records x) k ++ cond b (accepted delta k) []) (sym size)
-    by_state (Compacting start) (inl e) = ap (λ z. accepted z k) e.0 ∙ sym (append-nil (accepted (records x) k))
-    by_state (Compacting start) (inr e) = ap (λ z. accepted z k) e.0 ∙ same_accepted (records x) k
-        ∙ sym (append-nil (accepted (records x) k))
+        ap (λ z. accepted z k) e.1 ∙ accepted-append x.whole delta k
+        ∙ ap (λ b. accepted x.whole k ++ cond b (accepted delta k) []) (sym size)
+    by_state (Compacting start) (inl e) = ap (λ z. accepted z k) e.1 ∙ sym (append-nil (accepted x.whole k))
+    by_state (Compacting start) (inr e) = ap (λ z. accepted z k) e.1 ∙ sym (append-nil (accepted x.whole k))
 
 -- from any world on
-sent_from : (terms : Terms) (events : List Event) (w : World) (n : Side) (k : ℕ) (image : List Fact) (entries : ℕ)
-    → IsImage (node (run terms events w) n) image entries
-    → accepted image k ≡ total k (next_entries n entries (lines terms events w)) (node w n) ++ sent_in n k entries
+sent_from : (terms : Terms) (events : List Event) (w : World) (n : Side) (k : ℕ) (image all : List Fact)
+    (entries : ℕ) → IsImage (node (run terms events w) n) image all entries
+    → history all k ≡ total k (next_entries n entries (lines terms events w)) (node w n) ++ sent_in n k entries
     (lines terms events w)
-sent_from terms [] w n k image entries h = image-total (node w n) k image entries h
+sent_from terms [] w n k image all entries h = image-total (node w n) k image all entries h
     ∙ sym (append-nil (total k entries (node w n)))
-sent_from terms (event ∷ events) w n k image entries h =
+sent_from terms (event ∷ events) w n k image all entries h =
     let v = happens terms w event in
     let ls = lines terms events v in
     let next = next_entries n entries ls in
     let now = cond (is_crash n event) (printed n (line_of terms w event)) next in
     let given = sent_by n k event (counts (outcome_of terms w event) (printed n (line_of terms w event)) next) in
-    sent_from terms events v n k image entries h
+    sent_from terms events v n k image all entries h
     ∙ ap (λ z. z ++ sent_in n k entries ls) (sym (step terms w event n k next))
     ∙ append_assoc (total k now (node w n)) given (sent_in n k entries ls)
 
@@ -539,11 +538,11 @@ start-total : (one two : Text) (n : Side) (k next : ℕ) → total k next (node 
 start-total one two One k next = refl
 start-total one two Two k next = refl
 
-pub sent-is : (terms : Terms) (one two : Text) (events : List Event) (n : Side) (k : ℕ) (image : List Fact)
+pub sent-is : (terms : Terms) (one two : Text) (events : List Event) (n : Side) (k : ℕ) (image all : List Fact)
     (entries : ℕ)
-    → IsImage (node (run terms events (start one two)) n) image entries
-    → accepted image k ≡ sent_in n k entries (lines terms events (start one two))
-sent-is terms one two events n k image entries h =
-    sent_from terms events (start one two) n k image entries h
+    → IsImage (node (run terms events (start one two)) n) image all entries
+    → history all k ≡ sent_in n k entries (lines terms events (start one two))
+sent-is terms one two events n k image all entries h =
+    sent_from terms events (start one two) n k image all entries h
     ∙ ap (λ z. z ++ sent_in n k entries (lines terms events (start one two)))
     (start-total one two n k (next_entries n entries (lines terms events (start one two))))

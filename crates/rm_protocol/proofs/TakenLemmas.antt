@@ -1,8 +1,9 @@
 -- What becomes of a delivered message that is new.
-use Rattle.std.proofs.Common.{◌≡◌, ℕ, zero, suc, ◌<◌, ◌&&◌, ◌||◌, not, cond, Bool, true, false, List, [], ◌∷◌}
-use Rattle.std.proofs.Common.{◌++◌, refl, sym, ap, ◌∙◌, arith, subst, append-nil}
+use Rattle.std.proofs.Common.{◌≡◌, ℕ, ◌<◌, ◌==◌, ◌&&◌, ◌||◌, not, cond, Bool, true, false, List, [], ◌∷◌}
+use Rattle.std.proofs.Common.{◌++◌, refl, sym, ap, ◌∙◌, subst, append-nil}
 use Rattle.std.specs.Prelude.{Option, Some, None, Ok, is_none}
 use Rattle.std.specs.List.{list_any}
+use Rattle.std.proofs.lemmas.Bool.{eq-eqb}
 use Rattle.rm_base.specs.Numbered.{numbered}
 use Rattle.rm_base.specs.NumberSet.{has_number}
 use Rattle.rm_base.specs.declared.message.Payload.{Payload}
@@ -17,18 +18,19 @@ use Rattle.rm_message.specs.declared.refusal.FaultKind.TheVariants.{InvalidAckno
 use Rattle.rm_message.specs.declared.refusal.FaultKind.TheVariants.{MissingSelection, UnsupportedSelection}
 use Rattle.rm_message.specs.declared.refusal.FaultKind.TheVariants.{StoreFull}
 use Rattle.record_batch.specs.Fact.{Fact}
-use Rattle.rm_destination.specs.Messages.{is_empty}
+use Rattle.record_snapshot.specs.Same.{AreNumbers}
+use Rattle.rm_destination.specs.Messages.{is_empty, numbers_of}
 use Rattle.sequence_table.specs.Words.{Text}
 use Rattle.sequence_table.specs.Makers.{maker}
 use Rattle.rm_destination.specs.Incoming.{is_past}
 use Rattle.rm_destination.specs.Messages.{any_true}
-use Rattle.sequence_table.specs.Destinations.{closes, deadline_of, held, is_ended, is_over, received}
+use Rattle.sequence_table.specs.Destinations.{closes, deadline_of, held, is_ended, is_over, items, received}
 use Rattle.rm_protocol.specs.Calls.{Answer, Done, judged}
 use Rattle.rm_protocol.specs.Delivered.{Brings, Takes, IsWriting, TakesUnless, TakesNew}
 use Rattle.rm_protocol.specs.Node.{Node, State, Up, Writing, Compacting, records, node_end, is_short, goes_down}
 use Rattle.rm_protocol.specs.Node.{with_batch, written, after, after_by, Answered, DiskFault}
 use Rattle.rm_protocol.specs.Node.{call_outcome, outcome_by, outcome_with}
-use Rattle.rm_protocol.specs.Recorded.{IsNew, AreNumbers}
+use Rattle.rm_protocol.specs.Recorded.{IsNew}
 use Rattle.rm_protocol.specs.Rows.{rows}
 use Rattle.rm_protocol.specs.Sent.{Called, arrival_outcome}
 use Rattle.rm_protocol.specs.Sound.{IsSound}
@@ -36,11 +38,11 @@ use Rattle.rm_protocol.specs.Terms.{Terms}
 use Rattle.rm_protocol.specs.Verdict.{lacks_header, target, is_unknown, names_none, going_on, is_ended_at, is_ended_for}
 use Rattle.rm_protocol.specs.Verdict.{is_shut_at, is_shut_for, is_invalid, refuses_create, lacks_selection}
 use Rattle.rm_protocol.specs.Verdict.{selects_other, has_room, is_fault_body, first_held, verdict}
-use Rattle.rm_protocol.specs.World.{World, Side, One, Two, other, node, calls, received_by, arrives}
-use Rattle.rm_protocol.proofs.HeadlineLemmas.{received-all}
-use Rattle.rm_protocol.proofs.ImageLemmas.{between-all}
+use Rattle.rm_protocol.specs.World.{World, Side, One, Two, node, calls, received_by, arrives}
+use Rattle.rm_protocol.proofs.Kept.{kept-held}
 use Rattle.rm_protocol.proofs.NewLemmas.{received-new, gap-closed}
-use Rattle.rm_protocol.proofs.RunLemmas.{agree_at, sound_at, records-with}
+use Rattle.rm_protocol.proofs.NumberLemmas.{number-of}
+use Rattle.rm_protocol.proofs.RunLemmas.{received-at, sound_at, records-with}
 
 -- of a new message no test can hold but those of its acknowledgements and of the store
 
@@ -133,7 +135,7 @@ not-true true e = absurd (cc (e))
 not-true false e = refl
 
 judged-taken : (terms : Terms) (x : Node) (m : Message) (s i : ℕ) (p : Payload) → IsNew (records x) x.clock m s i p
-    → AreNumbers (received (records x) s)
+    → AreNumbers (items (records x) s)
     → TakesUnless terms x (after x (received_by terms x (Ok m))) m s i p
     (Called (call_outcome x (received_by terms x (Ok m))))
 judged-taken terms x m s i p h numbers = by_state x.state refl
@@ -163,19 +165,25 @@ judged-taken terms x m s i p h numbers = by_state x.state refl
     by_state (Compacting start) e = subst IsWriting (sym e) tt
 
 -- what a node received has numbers from 1 on
-positive : {A : Type 0} (xs : List A) (n : ℕ) (x : A) → numbered xs n ≡ Some x → 0 < n
-positive xs zero x e = absurd (cc (e))
-positive xs (suc n) x e = omega arith
+each-from : {A : Type 0} (ms : List (ℕ × A)) → ((n : ℕ) → has_number (numbers_of ms) n ≡ true → 0 < n) → AreNumbers ms
+each-from [] h = tt
+each-from (m ∷ ms) h = (
+  h m.0 (ap (λ b. b || has_number (numbers_of ms) m.0) (eq-eqb m.0 m.0 refl)),
+  each-from ms (λ n e. h n (behind (m.0 == n) (has_number (numbers_of ms) n) e)),
+)
+  where
+    behind : (a b : Bool) → b ≡ true → (a || b) ≡ true
+    behind true b e = refl
+    behind false b e = e
 
 numbers-sound : (terms : Terms) (w : World) (side : Side) (s : ℕ) → IsSound terms w
-    → AreNumbers (received (records (node w side)) s)
+    → AreNumbers (items (records (node w side)) s)
 numbers-sound terms w side s h =
     let b = (node w side).whole in
-    let a = (node w (other side)).whole in
     let at = sound_at terms w side h in
-    subst AreNumbers (sym (at.kept.received_ s))
-    (received-all a b s (λ (m : ℕ × Payload). 0 < m.0) (between-all b a at.with_ s)
-    (λ i p sourced. positive _ i _ sourced.sent.item) b (agree_at terms w side h).justified)
+    each-from (items (records (node w side)) s)
+    (λ n e. (number-of (received b s) n (received-at terms w side s h)
+    (sym (kept-held (records (node w side)) b s n at.stands.kept) ∙ e)).from)
 
 -- where a packet goes
 call-at : (terms : Terms) (w : World) (side : Side) (answer : Answer)

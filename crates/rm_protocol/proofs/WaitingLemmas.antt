@@ -13,12 +13,12 @@ use Rattle.ack_ranges.specs.Ranges.{is_between, in_range, in_ranges}
 use Rattle.ack_ranges.specs.Changes.{with_range, united}
 use Rattle.rm_source.specs.declared.phase.OutPhase.{OutPhase}
 use Rattle.rm_source.specs.declared.phase.OutPhase.TheVariants as out
-use Rattle.rm_source.specs.Outgoing.{Sending}
+use Rattle.rm_source.specs.Outgoing.{Sending, accepted_count as count_of, first_run}
 use Rattle.rm_timers.specs.declared.timers.Key.{Key}
 use Rattle.key_timers.specs.Waits.{same_key, has_key}
 use Rattle.key_timers.specs.KeyLemmas.{same_key-is}
 use Rattle.record_batch.specs.Fact.{Fact, Creating, Created, Granted, Accepted, Acked, Closing}
-use Rattle.record_batch.specs.Fact.{ClosedOut, Ending, EndedOut, Failed}
+use Rattle.record_batch.specs.Fact.{ClosedOut, Dropped, Ending, EndedOut, Failed}
 use Rattle.rm_base.specs.Numbered.{numbered}
 use Rattle.rm_base.specs.declared.message.Behaviour.{Behaviour}
 use Rattle.wsa_headers.specs.declared.endpoint.Epr.{Epr}
@@ -29,14 +29,14 @@ use Rattle.record_batch.specs.declared.record.Via.{Via}
 use Rattle.sequence_table.specs.Words.{Text, at_seq, last_or}
 use Rattle.sequence_table.specs.Makers.{Maker, Outgoing, Offered, Incoming, Taken, makers, makers_of, maker}
 use Rattle.sequence_table.specs.Makers.{created_of, ident_in}
-use Rattle.sequence_table.specs.Sources.{accepted, accepted_of, is_sending, phase, marks, mark_of, out_ident}
-use Rattle.sequence_table.specs.Sources.{first_phase}
+use Rattle.sequence_table.specs.Sources.{accepted, accepted_count, accepted_of, dropped, dropped_of, first_phase}
+use Rattle.sequence_table.specs.Sources.{is_sending, phase, marks, mark_of, out_ident}
 use Rattle.sequence_table.specs.GatherLemmas.{flat_map-more, at_seq-more}
-use Rattle.sequence_table.specs.NameLemmas.{names-within, names-fit, elsewhere_accepted, elsewhere_mark, unnamed}
-use Rattle.sequence_table.specs.NameLemmas.{unnamed_at, unnamed_ident}
+use Rattle.sequence_table.specs.NameLemmas.{names-within, names-fit, elsewhere_accepted, elsewhere_dropped}
+use Rattle.sequence_table.specs.NameLemmas.{elsewhere_mark, unnamed, unnamed_at, unnamed_ident}
 use Rattle.sequence_table.specs.Fits.{fits, all_fit, follows, follows_at, is_outgoing_side}
 use Rattle.sequence_table.specs.Told.{Told, Side, Sends, Receives, names, sending, sending_after}
-use Rattle.std.specs.List.{AllByRecursion}
+use Rattle.std.specs.List.{AllByRecursion, flat_map}
 use Rattle.sequence_table.specs.ToldLemmas.{sending-more, after-elsewhere}
 use Rattle.sequence_table.specs.PhaseLemmas.{created-creating, out_ident-more}
 use Rattle.rm_protocol.proofs.ListLemmas.{numbered-next, numbered-append, numbered-within, numbered-last}
@@ -63,7 +63,7 @@ wider a b l u n h = grind (arith, nat_tests, h)
 wider-first : (a b l u n : ℕ) → is_between a b n ≡ true → is_between (min a l) (max b u) n ≡ true
 wider-first a b l u n h = grind (arith, nat_tests, h)
 
-with_range-adds : (rs : List Range) (l u n : ℕ) → is_between l u n ≡ true → in_ranges (with_range rs l u) n ≡ true
+pub with_range-adds : (rs : List Range) (l u n : ℕ) → is_between l u n ≡ true → in_ranges (with_range rs l u) n ≡ true
 with_range-adds [] l u n h = or-first (is_between l u n) false h
 with_range-adds (r ∷ rs) l u n h =
     elim (nat_lt (r.upper + 1) l) as (λ b. in_ranges (cond b (r ∷ with_range rs l u)
@@ -119,28 +119,29 @@ begins s i n (Ending seq ticket) = (seq == s) && (i == 0)
 begins s i n _ = false
 
 -- what is known, with other parts
-abbrev known : OutPhase → List (List ℕ) → List Range → Sending
-known p a k = record { phase = p; accepted = a; acked = k }
+abbrev known : OutPhase → ℕ → List (List ℕ) → List Range → Sending
+known p d a k = record { phase = p; dropped = d; accepted = a; acked = k }
 
-unlonger : (p : OutPhase) (a : List (List ℕ)) (k : List Range) (i : ℕ) → waits_in (known p (a ++ []) k) i ≡ true
-    → waits_in (known p a k) i ≡ true
-unlonger p a k i h = subst (λ v. waits_in (known p v k) i ≡ true) (append-nil a) h
+unlonger : (p : OutPhase) (d : ℕ) (a : List (List ℕ)) (k : List Range) (i : ℕ)
+    → waits_in (known p d (a ++ []) k) i ≡ true → waits_in (known p d a k) i ≡ true
+unlonger p d a k i h = subst (λ v. waits_in (known p d v k) i ≡ true) (append-nil a) h
 
 -- a mark of a phase in which nothing waits
-silent-mark : (q : OutPhase) → is_requesting q ≡ false → is_sending q ≡ false → (a : List (List ℕ)) (k : List Range)
-    (i : ℕ) → waits_in (known q a k) i ≡ true → ⊥
-silent-mark q x y a k zero h = false≢true (sym x ∙ h)
-silent-mark q x y a k (suc i) h = false≢true (sym y ∙ (and_parts (is_sending q) _ h).0)
+silent-mark : (q : OutPhase) → is_requesting q ≡ false → is_sending q ≡ false → (d : ℕ) (a : List (List ℕ))
+    (k : List Range) (i : ℕ) → waits_in (known q d a k) i ≡ true → ⊥
+silent-mark q x y d a k zero h = false≢true (sym x ∙ h)
+silent-mark q x y d a k (suc i) h = false≢true (sym y ∙ (and_parts (is_sending q) _ h).0)
 
 marked : (q : OutPhase) → is_requesting q ≡ false → is_sending q ≡ false → (seq s : ℕ)
     (t : Sending) (i n : ℕ) (x : Bool)
-    → waits_in (known (last_or t.phase (at_seq s ((seq, q) ∷ []))) (t.accepted ++ []) t.acked) i ≡ true
+    → waits_in (known (last_or t.phase (at_seq s ((seq, q) ∷ []))) t.dropped (t.accepted ++ []) t.acked) i ≡ true
     → (waits_in t i ≡ true) ⊎ (x ≡ true)
 marked q x y seq s t i n z h =
-    elim (seq == s) as (λ b. waits_in (known (last_or t.phase (cond b (q ∷ []) [])) (t.accepted ++ []) t.acked) i ≡ true
+    elim (seq == s) as (λ b.
+    waits_in (known (last_or t.phase (cond b (q ∷ []) [])) t.dropped (t.accepted ++ []) t.acked) i ≡ true
     → (waits_in t i ≡ true) ⊎ (z ≡ true)) [
-      | true ↦ λ e. absurd (silent-mark q x y (t.accepted ++ []) t.acked i e)
-      | false ↦ λ e. inl (unlonger t.phase t.accepted t.acked i e)
+      | true ↦ λ e. absurd (silent-mark q x y t.dropped (t.accepted ++ []) t.acked i e)
+      | false ↦ λ e. inl (unlonger t.phase t.dropped t.accepted t.acked i e)
     ] h
 
 closing-open : (p : OutPhase) (seq ticket : ℕ) → follows p (Closing seq ticket) ≡ true → is_sending p ≡ true
@@ -149,82 +150,107 @@ closing-open _ seq ticket e = absurd (false≢true e)
 
 asked : (q : OutPhase) → is_requesting q ≡ true → (seq s : ℕ) (t : Sending) (i : ℕ)
     → (is_sending q ≡ true → (seq == s) ≡ true → is_sending t.phase ≡ true)
-    → waits_in (known (last_or t.phase (at_seq s ((seq, q) ∷ []))) (t.accepted ++ []) t.acked) i ≡ true
+    → waits_in (known (last_or t.phase (at_seq s ((seq, q) ∷ []))) t.dropped (t.accepted ++ []) t.acked) i ≡ true
     → (waits_in t i ≡ true) ⊎ (((seq == s) && (i == 0)) ≡ true)
 asked q x seq s t i goes h =
     elim (seq == s) as (λ b. (seq == s) ≡ b
-    → waits_in (known (last_or t.phase (cond b (q ∷ []) [])) (t.accepted ++ []) t.acked) i ≡ true
+    → waits_in (known (last_or t.phase (cond b (q ∷ []) [])) t.dropped (t.accepted ++ []) t.acked) i ≡ true
     → (waits_in t i ≡ true) ⊎ ((b && (i == 0)) ≡ true)) [
       | true ↦ λ e. by_number i e
-      | false ↦ λ e k. inl (unlonger t.phase t.accepted t.acked i k)
+      | false ↦ λ e k. inl (unlonger t.phase t.dropped t.accepted t.acked i k)
     ] refl h
   where
-    by_number : (j : ℕ) → (seq == s) ≡ true → waits_in (known q (t.accepted ++ []) t.acked) j ≡ true
+    by_number : (j : ℕ) → (seq == s) ≡ true → waits_in (known q t.dropped (t.accepted ++ []) t.acked) j ≡ true
         → (waits_in t j ≡ true) ⊎ ((j == 0) ≡ true)
     by_number zero e k = inr refl
     by_number (suc j) e k =
-        let parts = and_parts (is_sending q) _ (unlonger q t.accepted t.acked (suc j) k) in
-        inl (ap (λ b. b && (nat_le (suc j) (length t.accepted) && not (in_ranges t.acked (suc j))))
+        let parts = and_parts (is_sending q) _ (unlonger q t.dropped t.accepted t.acked (suc j) k) in
+        inl (ap (λ b. b && (nat_le (suc j) (count_of t) && not (in_ranges t.acked (suc j))))
         (goes parts.0 e) ∙ parts.1)
 
 -- ---- a sequence that is there
 
 accepted-one : (t : Sending) (seq s i : ℕ) (p : List ℕ)
-    → waits_in (known t.phase (t.accepted ++ cond (seq == s) (p ∷ []) []) t.acked) i ≡ true
-    → (waits_in t i ≡ true) ⊎ (((seq == s) && (i == length t.accepted + 1)) ≡ true)
+    → waits_in (known t.phase t.dropped (t.accepted ++ cond (seq == s) (p ∷ []) []) t.acked) i ≡ true
+    → (waits_in t i ≡ true) ⊎ (((seq == s) && (i == count_of t + 1)) ≡ true)
 accepted-one t seq s i p h =
-    elim (seq == s) as (λ b. waits_in (known t.phase (t.accepted ++ cond b (p ∷ []) []) t.acked) i ≡ true
-    → (waits_in t i ≡ true) ⊎ ((b && (i == length t.accepted + 1)) ≡ true)) [
+    elim (seq == s) as (λ b. waits_in (known t.phase t.dropped (t.accepted ++ cond b (p ∷ []) []) t.acked) i ≡ true
+    → (waits_in t i ≡ true) ⊎ ((b && (i == count_of t + 1)) ≡ true)) [
       | true ↦ λ e. by_number i e
-      | false ↦ λ e. inl (unlonger t.phase t.accepted t.acked i e)
+      | false ↦ λ e. inl (unlonger t.phase t.dropped t.accepted t.acked i e)
     ] h
   where
-    by_number : (j : ℕ) → waits_in (known t.phase (t.accepted ++ p ∷ []) t.acked) j ≡ true
-        → (waits_in t j ≡ true) ⊎ ((j == length t.accepted + 1) ≡ true)
+    by_number : (j : ℕ) → waits_in (known t.phase t.dropped (t.accepted ++ p ∷ []) t.acked) j ≡ true
+        → (waits_in t j ≡ true) ⊎ ((j == count_of t + 1) ≡ true)
     by_number zero e = inl e
     by_number (suc j) e =
         let one = and_parts (is_sending t.phase) _ e in
-        let two = and_parts (nat_le (suc j) (length (t.accepted ++ p ∷ []))) (not (in_ranges t.acked (suc j))) one.1 in
+        let two = and_parts (nat_le (suc j) (t.dropped + length (t.accepted ++ p ∷ [])))
+        (not (in_ranges t.acked (suc j))) one.1 in
         let long : length (t.accepted ++ p ∷ []) ≡ length t.accepted + 1 = length-append t.accepted (p ∷ []) in
-        elim (nat_le (suc j) (length t.accepted)) as (λ b. nat_le (suc j) (length t.accepted) ≡ b
-        → (waits_in t (suc j) ≡ true) ⊎ ((suc j == length t.accepted + 1) ≡ true)) [
+        elim (nat_le (suc j) (count_of t)) as (λ b. nat_le (suc j) (count_of t) ≡ b
+        → (waits_in t (suc j) ≡ true) ⊎ ((suc j == count_of t + 1) ≡ true)) [
           | true ↦ λ d. inl (rw (one.0, d, two.1) refl)
           | false ↦ λ d. inr (grind (arith, nat_tests, d, two.0, long))
         ] refl
 
 acked-one : (t : Sending) (i : ℕ) (ranges : List Range)
-    → waits_in (known t.phase (t.accepted ++ []) (united t.acked ranges)) i ≡ true → waits_in t i ≡ true
+    → waits_in (known t.phase t.dropped (t.accepted ++ []) (united t.acked ranges)) i ≡ true → waits_in t i ≡ true
 acked-one t zero ranges h = h
 acked-one t (suc i) ranges h =
-    let one = and_parts (is_sending t.phase) _ (unlonger t.phase t.accepted (united t.acked ranges) (suc i) h) in
-    let two = and_parts (nat_le (suc i) (length t.accepted)) (not (in_ranges (united t.acked ranges) (suc i))) one.1 in
+    let one = and_parts (is_sending t.phase) _
+    (unlonger t.phase t.dropped t.accepted (united t.acked ranges) (suc i) h) in
+    let two = and_parts (nat_le (suc i) (count_of t)) (not (in_ranges (united t.acked ranges) (suc i))) one.1 in
     rw (one.0, two.0, not-before t.acked ranges (suc i) two.1) refl
 
 no-less : (i : ℕ) → nat_le (suc i) 0 ≡ false
 no-less i = grind (arith, nat_tests)
 
 -- nothing waits of an open sequence for which nothing was accepted
-open-none : (a : List (List ℕ)) (k : List Range) (i : ℕ) → a ≡ [] → waits_in (known out.Open (a ++ []) k) i ≡ true → ⊥
-open-none a k zero e h = false≢true h
-open-none a k (suc i) e h =
-    let none : waits_in (known out.Open ([] ++ []) k) (suc i) ≡ true =
-    subst (λ v. waits_in (known out.Open (v ++ []) k) (suc i) ≡ true) e h in
-    let one : (nat_le (suc i) 0 && not (in_ranges k (suc i))) ≡ true = none in
-    false≢true (sym (no-less i) ∙ (and_parts (nat_le (suc i) 0) (not (in_ranges k (suc i))) one).0)
+open-none : (d : ℕ) (a : List (List ℕ)) (k : List Range) (i : ℕ) → d + length a ≡ 0
+    → waits_in (known out.Open d (a ++ []) k) i ≡ true → ⊥
+open-none d a k zero e h = false≢true h
+open-none d a k (suc i) e h =
+    let parts = and_parts (nat_le (suc i) (d + length a)) (not (in_ranges k (suc i)))
+    (unlonger out.Open d a k (suc i) h) in
+    false≢true (sym (no-less i) ∙ ap (nat_le (suc i)) (sym e) ∙ parts.0)
 
-step : (r : List Fact) (f : Fact) (s i : ℕ) → fits r f ≡ true → (phase r s ≡ out.Creating → accepted r s ≡ [])
+-- of a sequence of which the first messages are gone, these are acknowledged
+between-first : (i n : ℕ) → nat_le (suc i) n ≡ true → is_between 1 n (suc i) ≡ true
+between-first i n h = grind (arith, nat_tests, h)
+
+gone-none : (t : Sending) (upto i : ℕ) → count_of t ≡ 0
+    → waits_in (known t.phase upto (t.accepted ++ []) (united t.acked (first_run upto))) (suc i) ≡ true → ⊥
+gone-none t upto i none h =
+    let one = and_parts (is_sending t.phase) _
+    (unlonger t.phase upto t.accepted (united t.acked (first_run upto)) (suc i) h) in
+    let two = and_parts (nat_le (suc i) (upto + length t.accepted))
+    (not (in_ranges (united t.acked (first_run upto)) (suc i))) one.1 in
+    let size : upto + length t.accepted ≡ upto = omega (arith, none) in
+    let there : in_ranges (united t.acked (first_run upto)) (suc i) ≡ true =
+    with_range-adds t.acked 1 upto (suc i) (between-first i upto (ap (nat_le (suc i)) (sym size) ∙ two.0)) in
+    false≢true (ap not (sym there) ∙ two.1)
+
+dropped-one : (t : Sending) (b : Bool) (upto i : ℕ) → (b ≡ true → count_of t ≡ 0)
+    → waits_in (known t.phase (last_or t.dropped (cond b (upto ∷ []) [])) (t.accepted ++ [])
+    (united t.acked (cond b (first_run upto) []))) i ≡ true → waits_in t i ≡ true
+dropped-one t false upto i none h = unlonger t.phase t.dropped t.accepted t.acked i h
+dropped-one t true upto zero none h = h
+dropped-one t true upto (suc i) none h = absurd (gone-none t upto i (none refl) h)
+
+step : (r : List Fact) (f : Fact) (s i : ℕ) → fits r f ≡ true → (phase r s ≡ out.Creating → accepted_count r s ≡ 0)
     → waits_in (sending_after s (sending r s) f) i ≡ true
-    → (waits_in (sending r s) i ≡ true) ⊎ (begins s i (length (accepted r s)) f ≡ true)
+    → (waits_in (sending r s) i ≡ true) ⊎ (begins s i (accepted_count r s) f ≡ true)
 step r (Created seq ident accept) s i fit bare h =
     let t = sending r s in
     elim (seq == s) as (λ b. (seq == s) ≡ b
-    → waits_in (known (cond b out.Open t.phase) (t.accepted ++ []) t.acked) i ≡ true
+    → waits_in (known (cond b out.Open t.phase) t.dropped (t.accepted ++ []) t.acked) i ≡ true
     → (waits_in t i ≡ true) ⊎ (false ≡ true)) [
       | true ↦ λ e k.
           let creating : phase r s ≡ out.Creating =
           subst (λ n. phase r n ≡ out.Creating) (eqb-true seq s e) (created-creating r seq ident accept fit) in
-          absurd (open-none t.accepted t.acked i (bare creating) k)
-      | false ↦ λ e k. inl (unlonger t.phase t.accepted t.acked i k)
+          absurd (open-none t.dropped t.accepted t.acked i (bare creating) k)
+      | false ↦ λ e k. inl (unlonger t.phase t.dropped t.accepted t.acked i k)
     ] refl h
 step r (Accepted seq p) s i fit bare h = accepted-one (sending r s) seq s i p h
 step r (Acked seq ranges) s i fit bare h = inl (acked-one (sending r s) i (cond (seq == s) ranges []) h)
@@ -242,15 +268,22 @@ step r (Ending seq ticket) s i fit bare h =
 step r (ClosedOut seq) s i fit bare h = marked out.Closed refl refl seq s (sending r s) i 0 false h
 step r (EndedOut seq) s i fit bare h = marked out.Ended refl refl seq s (sending r s) i 0 false h
 step r (Failed seq fault) s i fit bare h = marked out.Failed refl refl seq s (sending r s) i 0 false h
-step r _ s i fit bare h = inl (unlonger (phase r s) (accepted r s) (sending r s).acked i h)
+step r (Dropped seq upto) s i fit bare h = inl (dropped-one (sending r s) (seq == s) upto i none h)
+  where
+    none : (seq == s) ≡ true → accepted_count r s ≡ 0
+    none e =
+        let parts = and_parts (follows_at r seq (Dropped seq upto)) _ fit in
+        let empty = (and_parts (accepted_count r seq == 0) _ parts.1).0 in
+        subst (λ n. accepted_count r n ≡ 0) (eqb-true seq s e) (eqb-true (accepted_count r seq) 0 empty)
+step r _ s i fit bare h = inl (unlonger (phase r s) (dropped r s) (accepted r s) (sending r s).acked i h)
 
-begins-has : (r : List Fact) (f : Fact) (k : Key) → begins k.seq k.number (length (accepted r k.seq)) f ≡ true
+begins-has : (r : List Fact) (f : Fact) (k : Key) → begins k.seq k.number (accepted_count r k.seq) f ≡ true
     → has_key (begun_of r f) k ≡ true
 begins-has r (Accepted seq p) k h =
-    let two = and_parts (seq == k.seq) (k.number == length (accepted r k.seq) + 1) h in
+    let two = and_parts (seq == k.seq) (k.number == accepted_count r k.seq + 1) h in
     let is : seq ≡ k.seq = eqb-true seq k.seq two.0 in
-    or-first (same_key k (key seq (length (accepted r seq) + 1))) false
-    (subst (λ z. same_key k (key z (length (accepted r z) + 1)) ≡ true) (sym is) (rw (eq-eqb k.seq k.seq refl) two.1))
+    or-first (same_key k (key seq (accepted_count r seq + 1))) false
+    (subst (λ z. same_key k (key z (accepted_count r z + 1)) ≡ true) (sym is) (rw (eq-eqb k.seq k.seq refl) two.1))
 begins-has r (Closing seq ticket) k h =
     let two = and_parts (seq == k.seq) (k.number == 0) h in
     let is : seq ≡ k.seq = eqb-true seq k.seq two.0 in
@@ -281,21 +314,24 @@ behind xs ys (suc n) m e h =
     (rest.0, omega (arith, rest.1), rest.2)
 
 none-accepted : (r : List Fact) (f : Fact) (s : ℕ) → all_fit [] r ≡ true → fits r f ≡ true → length (makers r) < s
-    → accepted (r ++ f ∷ []) s ≡ []
+    → accepted_count (r ++ f ∷ []) s ≡ 0
 none-accepted r f s h fit past =
     let named = names-within r f fit in
-    flat_map-more (accepted_of s) r f
-    ∙ ap₂ (λ (v w : List (List ℕ)). v ++ w)
-    (unnamed (accepted_of s) (length (makers r)) s (λ g. elsewhere_accepted g s) past r (names-fit r h))
-    (elsewhere_accepted f s (λ e. absurd (omega arith)))
+    let accepts = none_in (accepted_of s) (λ g. elsewhere_accepted g s) (omega arith) in
+    let drops = none_in (dropped_of s) (λ g. elsewhere_dropped g s) (omega arith) in
+    ap (λ xs. last_or 0 xs + length (accepted (r ++ f ∷ []) s)) drops ∙ ap (λ xs. 0 + length xs) accepts
+  where
+    none_in : {A : Type 0} (g : Fact → List A) → ((x : Fact) → names x ≢ s → g x ≡ []) → names f < s
+        → flat_map g (r ++ f ∷ []) ≡ []
+    none_in g none below =
+        flat_map-more g r f ∙ ap (λ xs. xs ++ g f) (unnamed g (length (makers r)) s none past r (names-fit r h))
+        ∙ none f (λ e. absurd (omega (arith, e, below)))
 
-no-number : (r : List Fact) (s i : ℕ) → accepted r s ≡ [] → waits_in (sending r s) (suc i) ≡ true → ⊥
+no-number : (r : List Fact) (s i : ℕ) → accepted_count r s ≡ 0 → waits_in (sending r s) (suc i) ≡ true → ⊥
 no-number r s i e h =
     let one = and_parts (is_sending (phase r s)) _ h in
-    let two = and_parts (nat_le (suc i) (length (accepted r s))) _ one.1 in
-    let none : nat_le (suc i) (length (accepted r s)) ≡ false =
-    ap (λ (v : List (List ℕ)). nat_le (suc i) (length v)) e ∙ no-less i in
-    false≢true (sym none ∙ two.0)
+    let two = and_parts (nat_le (suc i) (accepted_count r s)) _ one.1 in
+    false≢true (sym (ap (nat_le (suc i)) e ∙ no-less i) ∙ two.0)
 
 opened : (o : Option Text) (q : Text) → first_phase (option_or o (Some q)) ≡ out.Open
 opened None q = refl
@@ -384,7 +420,7 @@ made-one r _ k m j h fit at is w = absurd (cc)
 
 -- nothing was accepted for a sequence in phase Creating
 abbrev pub IsBare : List Fact → Type 0
-IsBare r = (s : ℕ) → phase r s ≡ out.Creating → accepted r s ≡ []
+IsBare r = (s : ℕ) → phase r s ≡ out.Creating → accepted_count r s ≡ 0
 
 new-by : (r : List Fact) (f : Fact) (k : Key) → all_fit [] r ≡ true → fits r f ≡ true → IsBare r → (x y : Option Maker)
     → maker r k.seq ≡ x → maker (r ++ f ∷ []) k.seq ≡ y → waits_of (r ++ f ∷ []) k.seq k.number y ≡ true
@@ -500,33 +536,35 @@ open-sends out.Open seq payload e = refl
 open-sends _ seq payload e = absurd (false≢true e)
 
 accepted-waits : (r : List Fact) (seq : ℕ) (p : List ℕ) → AreWithin r → is_sending (phase r seq) ≡ true
-    → waits_in (sending_after seq (sending r seq) (Accepted seq p)) (length (accepted r seq) + 1) ≡ true
+    → waits_in (sending_after seq (sending r seq) (Accepted seq p)) (accepted_count r seq + 1) ≡ true
 accepted-waits r seq p within goes =
+    let d = dropped r seq in
     let a = accepted r seq in
-    let n = length a in
+    let n = d + length a in
     let one : suc n ≡ n + 1 = omega arith in
     let same : (seq == seq) ≡ true = eq-eqb seq seq refl in
-    subst (λ i. waits_in (known (phase r seq) (a ++ cond (seq == seq) (p ∷ []) []) (sending r seq).acked) i ≡ true) one
-    (subst (λ b. waits_in (known (phase r seq) (a ++ cond b (p ∷ []) []) (sending r seq).acked) (suc n) ≡ true)
+    subst (λ i. waits_in (known (phase r seq) d (a ++ cond (seq == seq) (p ∷ []) []) (sending r seq).acked) i ≡ true)
+    one
+    (subst (λ b. waits_in (known (phase r seq) d (a ++ cond b (p ∷ []) []) (sending r seq).acked) (suc n) ≡ true)
     (sym same)
     (rw (goes, enough, absent) refl))
   where
-    enough : nat_le (suc (length (accepted r seq))) (length (accepted r seq ++ p ∷ [])) ≡ true
+    enough : nat_le (suc (accepted_count r seq)) (dropped r seq + length (accepted r seq ++ p ∷ [])) ≡ true
     enough =
         let long : length (accepted r seq ++ p ∷ []) ≡ length (accepted r seq) + 1 =
         length-append (accepted r seq) (p ∷ []) in
         grind (arith, nat_tests, long)
 
-    absent : in_ranges (sending r seq).acked (suc (length (accepted r seq))) ≡ false
-    absent = elim (in_ranges (sending r seq).acked (suc (length (accepted r seq)))) as
-        (λ b. in_ranges (sending r seq).acked (suc (length (accepted r seq))) ≡ b → b ≡ false) [
-          | true ↦ λ e. let low = within seq (suc (length (accepted r seq))) e in absurd (omega arith)
+    absent : in_ranges (sending r seq).acked (suc (accepted_count r seq)) ≡ false
+    absent = elim (in_ranges (sending r seq).acked (suc (accepted_count r seq))) as
+        (λ b. in_ranges (sending r seq).acked (suc (accepted_count r seq)) ≡ b → b ≡ false) [
+          | true ↦ λ e. let low = within seq (suc (accepted_count r seq)) e in absurd (omega arith)
           | false ↦ λ e. refl
         ] refl
 
 asked-waits : (r : List Fact) (seq : ℕ) (q : OutPhase) → is_requesting q ≡ true
     → waits_in (known (last_or (phase r seq) (at_seq seq ((seq, q) ∷ [])))
-    (accepted r seq ++ []) (sending r seq).acked) 0
+    (dropped r seq) (accepted r seq ++ []) (sending r seq).acked) 0
     ≡ true
 asked-waits r seq q h =
     let same : (seq == seq) ≡ true = eq-eqb seq seq refl in
@@ -572,11 +610,11 @@ begun-waits r (Creating ticket to via lapse offer) k h fit within b =
     subst (λ z. is_waiting (r ++ Creating ticket to via lapse offer ∷ []) z ≡ true) (sym is)
     (creating-waits r ticket to via lapse offer h)
 begun-waits r (Accepted seq p) k h fit within b =
-    let is = same_key-is k (key seq (length (accepted r seq) + 1)) (or-none _ b) in
+    let is = same_key-is k (key seq (accepted_count r seq + 1)) (or-none _ b) in
     let there : follows_at r seq (Accepted seq p) ≡ true = (and_parts (follows_at r seq (Accepted seq p)) _ fit).0 in
     let two = and_parts (is_outgoing_side (maker r seq)) (follows (phase r seq) (Accepted seq p)) there in
     subst (λ z. is_waiting (r ++ Accepted seq p ∷ []) z ≡ true) (sym is)
-    (outgoing-waits r (Accepted seq p) seq (length (accepted r seq) + 1) fit two.0
+    (outgoing-waits r (Accepted seq p) seq (accepted_count r seq + 1) fit two.0
     (accepted-waits r seq p within (open-sends (phase r seq) seq p two.1)))
 begun-waits r (Closing seq ticket) k h fit within b =
     let is = same_key-is k (key seq 0) (or-none _ b) in

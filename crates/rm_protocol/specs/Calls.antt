@@ -19,15 +19,15 @@ use Rattle.rm_message.specs.declared.refusal.FaultKind.TheVariants.{SequenceClos
 use Rattle.rm_message.specs.declared.refusal.Refusal.{Refusal}
 use Rattle.record_batch.specs.declared.record.OwnOffer.{OwnOffer}
 use Rattle.record_batch.specs.declared.record.Via.{Via}
-use Rattle.record_batch.specs.Fact.{Fact, Creating, Accepted, Closing, Closed, Ending, Ended}
+use Rattle.record_batch.specs.Fact.{Fact, Creating, Accepted, Closing, Closed, Ending, Ended, Consumed}
 use Rattle.sequence_table.specs.Words.{Text}
 use Rattle.sequence_table.specs.Idents.{issue}
 use Rattle.sequence_table.specs.Makers.{Maker, Outgoing, Taken, makers, maker, counter, number}
-use Rattle.sequence_table.specs.Sources.{accepted, out_ident, phase, unacked, all_unacked}
+use Rattle.sequence_table.specs.Sources.{accepted_count, out_ident, phase, unacked, all_unacked}
 use Rattle.rm_base.specs.NumberSet.{has_number}
 use Rattle.rm_destination.specs.Incoming.{is_past}
 use Rattle.rm_destination.specs.Messages.{ranges_onto}
-use Rattle.sequence_table.specs.Destinations.{held, has_end, is_over, deadline_of}
+use Rattle.sequence_table.specs.Destinations.{cursor, held, has_end, inbox, is_over, deadline_of}
 use Rattle.sequence_table.specs.Find.{incoming_of, find_incoming, acks_to, peer}
 use Rattle.rm_protocol.specs.Addresses.{fault_endpoint}
 use Rattle.rm_protocol.specs.Messages.{data_at, request_at, block_of, ask_message}
@@ -54,6 +54,7 @@ pub data Cause : Type 0 where
   Rollover : Cause
   TooManySequences : (count : ℕ) → Cause
   StoreFull : (end needed : ℕ) → Cause
+  PastInbox : (have : ℕ) → Cause
 
 -- how a call comes out: done, refused, or with a fault as the answer to a message
 pub data Outcome : Type 0 where
@@ -139,9 +140,9 @@ send_out terms r end s payload =
     else if not (is_open (phase r s)) then refusal NotOpen
     else if nat_le limits.window (unacked r s) then refusal (WindowFull (unacked r s))
     else if nat_le limits.most_unacked (all_unacked r) then refusal (NodeFull (all_unacked r))
-    else if nat_le max_number (length (accepted r s)) then refusal Rollover
+    else if nat_le max_number (accepted_count r s) then refusal Rollover
     else if_room terms end (adds r (Accepted s payload ∷ [])
-    (λ after. option_to_list (data_at after s (length (accepted r s) + 1))))
+    (λ after. option_to_list (data_at after s (accepted_count r s + 1))))
 
 -- a call for an outgoing sequence
 abbrev pub on_outgoing : Option Maker → Answer → Answer
@@ -263,6 +264,20 @@ on_incoming None answer = refusal NoSequence
 on_incoming (Some (Outgoing ticket to via lapse)) answer = refusal WrongSide
 on_incoming (Some (Taken message_id ident endpoint)) answer = refusal WrongSide
 on_incoming (Some _) answer = answer
+
+-- the cursor of an incoming sequence goes on to an item of its inbox
+abbrev pub cursor_to : List Fact → ℕ → ℕ → List Fact
+cursor_to r s upto = if nat_lt (cursor r s) upto then Consumed s upto ∷ [] else []
+
+-- consume of an incoming sequence: Consumed, where the cursor goes on
+abbrev pub consume_in : Terms → List Fact → ℕ → ℕ → ℕ → Answer
+consume_in terms r end s upto =
+    if nat_lt (length (inbox r s)) upto then refusal (PastInbox (length (inbox r s)))
+    else if_room terms end (adds r (cursor_to r s upto) (λ after. []))
+
+-- consume, of any sequence
+abbrev pub consume : Terms → List Fact → ℕ → ℕ → ℕ → Answer
+consume terms r end s upto = on_incoming (maker r s) (consume_in terms r end s upto)
 
 -- the most numbers that a Nack names
 abbrev pub most_missing : ℕ

@@ -30,7 +30,7 @@ pub record Brings (terms : Terms) (w : World) (k : ℕ) (side : Side) (m : Messa
 pub record Takes (before after : List Fact) (s i : ℕ) (p : Payload) : Type 0 where
   pub recorded : received after s ≡ received before s ++ (i, p) ∷ []
   pub released : behaviour before s ≡ FollowingFirstGap → i ≡ front before s + 1
-      → numbered (inbox after s) i ≡ Some p
+      → numbered (inbox after s) i ≡ Some (Some p)
 
 -- the call that failed was writing
 abbrev pub IsWriting : State → Type 0

@@ -1,13 +1,13 @@
 -- The keys that wait at a node are, as a set, exactly those that wait by its records.
 use Rattle.std.specs.List.{AllByRecursion}
 use Rattle.sequence_table.specs.Told.{names, sending}
-use Rattle.std.specs.Prelude.{◌≡◌, ◌≢◌, ◌⊎◌, ℕ, ◌≤◌, length, true, List, [], ◌∷◌, ◌++◌}
+use Rattle.std.specs.Prelude.{◌≡◌, ◌≢◌, ◌⊎◌, ℕ, ◌≤◌, true, List, [], ◌∷◌, ◌++◌}
 use Rattle.ack_ranges.specs.Ranges.{in_ranges}
-use Rattle.sequence_table.specs.Sources.{accepted}
+use Rattle.sequence_table.specs.Sources.{accepted_count}
 use Rattle.rm_timers.specs.declared.timers.Key.{Key}
 use Rattle.key_timers.specs.Waits.{Wait, has_key, keys_of}
 use Rattle.record_batch.specs.Fact.{Fact}
-use Rattle.record_snapshot.specs.Same.{UnionsAreSets}
+use Rattle.record_snapshot.specs.Same.{HaveProper}
 use Rattle.record_snapshot.specs.Snapshot.{snapshot}
 use Rattle.sequence_table.specs.Fits.{fits, all_fit}
 use Rattle.rm_protocol.specs.Waiting.{Moves, is_waiting, begun_of, begun_by, mounted_waits, waits_after}
@@ -49,11 +49,12 @@ IsExactAtFirst = (r : List Fact) → AreExactly r (mounted_waits r)
 -- and by what the records say in short
 abbrev pub StaysExactInShort : Type 0
 StaysExactInShort =
-    (r : List Fact) (waits : List Wait) → UnionsAreSets r → AreExactly r waits → AreExactly (snapshot r) waits
+    (r : List Fact) (waits : List Wait) → all_fit [] r ≡ true → HaveProper r → AreExactly r waits
+    → AreExactly (snapshot r) waits
 
 -- the acknowledged numbers are numbers of accepted messages
 abbrev pub AreWithin : List Fact → Type 0
-AreWithin r = (s n : ℕ) → in_ranges (sending r s).acked n ≡ true → n ≤ length (accepted r s)
+AreWithin r = (s n : ℕ) → in_ranges (sending r s).acked n ≡ true → n ≤ accepted_count r s
 
 -- so it is of all records that fit
 abbrev pub AckedWereAccepted : Type 0

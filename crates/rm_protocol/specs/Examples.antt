@@ -1,6 +1,6 @@
 -- Terms that meet what is asked of them, and scripts with them.
 use Rattle.std.specs.Prelude.{ℕ, ◌+◌, ◌==◌, if◌then◌else◌, Bool, true, false, List, [], ◌∷◌, ◌++◌, codes, Option}
-use Rattle.std.specs.Prelude.{Some, None, Ok, map, take}
+use Rattle.std.specs.Prelude.{Some, None, Ok, map, option_map, take}
 use Rattle.rm_base.specs.declared.message.Behaviour.TheVariants.{EntireSequence, FollowingFirstGap}
 use Rattle.rm_elements.specs.declared.header.AckBlock.{AckBlock}
 use Rattle.rm_base.specs.declared.lapse.Lapse.{Lapse}
@@ -9,12 +9,15 @@ use Rattle.rm_message.specs.declared.message.FaultCode.TheVariants.{Sender}
 use Rattle.rm_message.specs.declared.message.Message.{Message}
 use Rattle.rm_message.specs.declared.refusal.Refusal.{Refusal}
 use Rattle.record_batch.specs.declared.record.Via.TheVariants.{Direct, Polled}
+use Rattle.rm_base.specs.declared.message.Payload.{Payload}
+use Rattle.rm_destination.specs.Messages.{Item}
 use Rattle.sequence_table.specs.Makers.{counter}
+use Rattle.sequence_table.specs.Words.{Text}
 use Rattle.rm_protocol.specs.Addresses.{rm_action}
 use Rattle.rm_protocol.specs.Messages.{never, plain}
 use Rattle.rm_protocol.specs.Terms.{Terms, header_blocks}
 use Rattle.rm_protocol.specs.World.{World, Packet, One, Two, Event, Create, Grant, Send, Deliver, End, Tick, Close}
-use Rattle.rm_protocol.specs.World.{Ask, Nack, Arm, Crash, Poll, Compact, run, start}
+use Rattle.rm_protocol.specs.World.{Ask, Nack, Arm, Crash, Poll, Compact, Consume, run, start}
 
 -- a duration without months ends that many milliseconds later
 abbrev pub ends_at : ℕ → Lapse → Option ℕ
@@ -140,3 +143,15 @@ with_fresh_lists times = in_order ++ take times (Compact One ∷ Compact One ∷
 -- the MessagePending of each packet
 abbrev pub pendings : World → List (Option Bool)
 pendings w = map (λ (p : Packet). p.message.pending) w.packets
+
+-- the bytes of items, where they aren't gone
+abbrev pub item_texts : List Item → List (Option Text)
+item_texts items = map (λ (item : Item). option_map (λ (p : Payload). p.bytes) item) items
+
+-- three messages in order, of which the application of node 2 consumes two
+abbrev pub with_consumption : List Event
+with_consumption = in_order ++ Consume Two 1 2 ∷ []
+
+-- and then both nodes write their lists anew
+abbrev pub with_gone_items : List Event
+with_gone_items = with_consumption ++ Compact Two ∷ Compact One ∷ []

@@ -2,6 +2,7 @@ pub mod Addresses
 pub mod AloneLemmas
 pub mod Calls
 pub mod Compact
+pub mod Consumed
 pub mod Crashes
 pub mod Delivered
 pub mod Detail
@@ -9,6 +10,7 @@ pub mod Exact
 pub mod Examples
 pub mod FitInduction
 pub mod Heard
+pub mod InOrder
 pub mod Messages
 pub mod Next
 pub mod Node

@@ -1,8 +1,7 @@
 -- What a node says, read from its records: WS-ReliableMessaging 1.2, sections 3.4 to 3.9. Each message has the items
 -- that are named and no others.
-use Rattle.std.specs.Prelude.{ℕ, ◌+◌, ◌==◌, if◌then◌else◌, List, [], ◌∷◌, length, codes, Option, Some, None}
+use Rattle.std.specs.Prelude.{ℕ, ◌+◌, ◌==◌, if◌then◌else◌, List, [], ◌∷◌, codes, Option, Some, None}
 use Rattle.ack_ranges.specs.declared.range.Range.{Range}
-use Rattle.rm_base.specs.Numbered.{numbered}
 use Rattle.rm_base.specs.declared.message.Binding.{Binding}
 use Rattle.soap_envelope.specs.Soap.{soap_space}
 use Rattle.soap_frame.specs.Framed.{sorted_scope}
@@ -27,7 +26,7 @@ use Rattle.record_batch.specs.Fact.{Fact}
 use Rattle.sequence_table.specs.Words.{Text, last_or}
 use Rattle.sequence_table.specs.Idents.{issue}
 use Rattle.sequence_table.specs.Makers.{Maker, Outgoing, Offered, maker, number}
-use Rattle.sequence_table.specs.Sources.{accepted, out_ident, phase, tickets}
+use Rattle.sequence_table.specs.Sources.{accepted_count, out_ident, payload_at, phase, tickets}
 use Rattle.sequence_table.specs.Destinations.{held, is_over}
 use Rattle.sequence_table.specs.Find.{peer, plain_endpoint}
 use Rattle.rm_protocol.specs.Addresses.{rm_action, payload_action, own_address, reply_to}
@@ -69,7 +68,7 @@ data_by _ _ i _ = None
 
 -- message i of outgoing sequence s, as the records have it
 abbrev pub data_at : List Fact → ℕ → ℕ → Option Message
-data_at r s i = data_by (peer r s) (out_ident r s) i (numbered (accepted r s) i)
+data_at r s i = data_by (peer r s) (out_ident r s) i (payload_at r s i)
 
 -- a request with a MessageID, to be answered in this way
 abbrev pub request_of : List Fact → Epr → Via → ℕ → Text → Lifecycle → Message
@@ -121,7 +120,7 @@ last_number n = if n == 0 then None else Some n
 
 -- what a CloseSequence or a TerminateSequence of sequence s says: sections 3.5 and 3.6
 abbrev pub finish_of : List Fact → ℕ → Text → Finish
-finish_of r s q = record { ident = q; last_number = last_number (length (accepted r s)) }
+finish_of r s q = record { ident = q; last_number = last_number (accepted_count r s) }
 
 -- such a request, where the peer and the identifier are known
 abbrev pub finish_request : List Fact → ℕ → Option Epr → Option Text → Text → (Finish → Lifecycle) → Option Message

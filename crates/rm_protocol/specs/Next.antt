@@ -11,7 +11,7 @@ use Rattle.rm_message.specs.declared.refusal.Refusal.{Refusal}
 use Rattle.record_batch.specs.Fact.{Fact}
 use Rattle.sequence_table.specs.Fits.{all_fit, is_in_order}
 use Rattle.sequence_table.specs.Words.{Text}
-use Rattle.rm_protocol.specs.Calls.{Wish, create, send, close, end, tick_with, ask_ack, nack_missing, receive}
+use Rattle.rm_protocol.specs.Calls.{Wish, create, send, close, end, tick_with, ask_ack, nack_missing, receive, consume}
 use Rattle.rm_protocol.specs.Rows.{ranges_of}
 use Rattle.rm_timers.specs.declared.timers.Key.{Key}
 use Rattle.rm_protocol.specs.Terms.{Terms, EndsLater}
@@ -50,6 +50,7 @@ pub record AddsNext (terms : Terms) (r : List Fact) (place : ℕ) : Type 0 where
   pub tick_ : (now : ℕ) (keys : List Key) → all_fit r (tick_with terms r place now keys).delta ≡ true
   pub ask_ack_ : (s : ℕ) → all_fit r (ask_ack r s).delta ≡ true
   pub nack_missing_ : (s now : ℕ) → all_fit r (nack_missing r s now).delta ≡ true
+  pub consume_ : (s upto : ℕ) → all_fit r (consume terms r place s upto).delta ≡ true
   pub receive_ : (now : ℕ) (behaviour : Behaviour) (content : Result Message Refusal) → is_in_order behaviour ≡ true
       → IsReadable content → all_fit r (receive terms r place now behaviour content).delta ≡ true
 

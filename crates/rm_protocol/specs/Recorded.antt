@@ -1,6 +1,6 @@
 -- A message that is new is recorded by the call that brings it, and released where it closes the gap:
 -- WS-ReliableMessaging 1.2, section 2.4.
-use Rattle.std.specs.Prelude.{◌≡◌, ℕ, ◌+◌, ◌≤◌, ◌<◌, true, false, List, [], ◌∷◌, ◌++◌, Some}
+use Rattle.std.specs.Prelude.{◌≡◌, ℕ, ◌+◌, ◌≤◌, true, false, List, [], ◌∷◌, ◌++◌, Some}
 use Rattle.std.specs.List.{AllByRecursion}
 use Rattle.rm_base.specs.Limits as limits
 use Rattle.rm_base.specs.Numbered.{numbered}
@@ -13,8 +13,9 @@ use Rattle.rm_source.specs.declared.phase.OutPhase.TheVariants as out
 use Rattle.rm_message.specs.declared.message.Body.TheVariants as body
 use Rattle.rm_message.specs.declared.message.Message.{Message}
 use Rattle.record_batch.specs.Fact.{Fact, Received}
+use Rattle.record_snapshot.specs.Same.{AreNumbers}
 use Rattle.sequence_table.specs.Words.{Text}
-use Rattle.sequence_table.specs.Destinations.{behaviour, front, held, inbox, is_over, received}
+use Rattle.sequence_table.specs.Destinations.{behaviour, front, held, inbox, is_over, items}
 use Rattle.sequence_table.specs.Sources.{is_sending, phase}
 use Rattle.sequence_table.specs.Find.{find_incoming, find_outgoing}
 use Rattle.rm_protocol.specs.Heard.{Heard}
@@ -32,10 +33,6 @@ pub record IsNew (r : List Fact) (now : ℕ) (m : Message) (s i : ℕ) (p : Payl
   pub open_ : is_over r s now ≡ false
   pub near : i ≤ front r s + limits.window
 
--- what was received has numbers from 1 on
-abbrev pub AreNumbers : List (ℕ × Payload) → Type 0
-AreNumbers ms = AllByRecursion (λ (m : ℕ × Payload). 0 < m.0) ms
-
 -- the rows of a message that is new: those of its acknowledgements, and then its record
 abbrev pub NewIsRecorded : Type 0
 NewIsRecorded =
@@ -48,8 +45,8 @@ abbrev pub GapIsClosed : Type 0
 GapIsClosed =
     (terms : Terms) (r : List Fact) (now : ℕ) (y : Behaviour) (m : Message) (s i : ℕ) (p : Payload)
     → IsNew r now m s i p
-    → AreNumbers (received r s) → behaviour r s ≡ FollowingFirstGap → i ≡ front r s + 1
-    → numbered (inbox (r ++ rows terms now y m r) s) i ≡ Some p
+    → AreNumbers (items r s) → behaviour r s ≡ FollowingFirstGap → i ≡ front r s + 1
+    → numbered (inbox (r ++ rows terms now y m r) s) i ≡ Some (Some p)
 
 -- a message brings no other records than those of the receiving table
 abbrev pub OnlyHeardIsRecorded : Type 0

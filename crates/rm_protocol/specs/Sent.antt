@@ -5,16 +5,16 @@ use Rattle.rm_base.specs.Numbered.{numbered}
 use Rattle.record_batch.specs.Fact.{Fact}
 use Rattle.record_snapshot.specs.Snapshot.{snapshot}
 use Rattle.sequence_table.specs.Words.{Text}
-use Rattle.sequence_table.specs.Sources.{accepted}
-use Rattle.rm_protocol.specs.Calls.{Done, create, send, close, end, tick, ask_ack, nack_missing}
+use Rattle.rm_protocol.specs.Calls.{Done, create, send, close, end, tick, ask_ack, nack_missing, consume}
 use Rattle.rm_protocol.specs.Compact.{compact_outcome}
 use Rattle.rm_protocol.specs.Node.{Node, State, Up, Writing, Compacting, records, node_end, CallOutcome, Answered}
 use Rattle.rm_protocol.specs.Node.{DiskFault, call_outcome}
 use Rattle.rm_protocol.specs.Polls.{poll}
 use Rattle.rm_protocol.specs.Terms.{Terms}
+use Rattle.rm_protocol.specs.Word.{history}
 use Rattle.rm_protocol.specs.World.{World, Packet, Side, One, Two, other, node, Event, Create, Send, Tick, Deliver}
-use Rattle.rm_protocol.specs.World.{Close, End, Ask, Nack, Crash, Noise, Poll, Compact, place, wish_of, received_by}
-use Rattle.rm_protocol.specs.World.{happens, run, start}
+use Rattle.rm_protocol.specs.World.{Close, End, Ask, Nack, Crash, Noise, Poll, Compact, Consume, place, wish_of}
+use Rattle.rm_protocol.specs.World.{received_by, happens, run, start}
 
 -- how a line comes out: as its call, or without one
 pub data LineOutcome : Type 0 where
@@ -51,6 +51,8 @@ outcome_of terms w (Noise side refusal) =
 outcome_of terms w (Poll side) =
     Called (call_outcome (node w side) (poll (records (node w side)) (place w (other side))))
 outcome_of terms w (Compact side) = Called (compact_outcome terms (node w side))
+outcome_of terms w (Consume side seq upto) = Called (call_outcome (node w side)
+    (consume terms (records (node w side)) (node_end terms (node w side)) seq upto))
 outcome_of terms w _ = NoCall
 
 -- a line of the report: the event, how it came out, and how many entries each node has then
@@ -118,21 +120,23 @@ sent_in side seq final (l ∷ ls) =
     sent_by side seq l.event (counts l.outcome (printed side l) (next_entries side final ls))
     ++ sent_in side seq final ls
 
--- the records of an image of a node's disk, and how many entries it has
-abbrev pub IsLeftAs : List Fact → ℕ → State → List Fact → ℕ → Type 0
-IsLeftAs r n Up image entries = (image ≡ r) × (entries ≡ n)
-IsLeftAs r n (Writing delta) image entries =
-    ((image ≡ r) × (entries ≡ n)) ⊎ ((image ≡ r ++ delta) × (entries ≡ n + 1))
-IsLeftAs r n (Compacting start) image entries =
-    ((image ≡ r) × (entries ≡ n)) ⊎ ((image ≡ snapshot r) × (entries ≡ length (snapshot r)))
+-- how many entries an image of a node's disk has, with its records, and all that the node then ever had
+abbrev pub IsLeftAs : List Fact → List Fact → ℕ → State → List Fact → List Fact → ℕ → Type 0
+IsLeftAs r whole n Up image all entries = (image ≡ r) × (all ≡ whole) × (entries ≡ n)
+IsLeftAs r whole n (Writing delta) image all entries =
+    ((image ≡ r) × (all ≡ whole) × (entries ≡ n))
+    ⊎ ((image ≡ r ++ delta) × (all ≡ whole ++ delta) × (entries ≡ n + 1))
+IsLeftAs r whole n (Compacting start) image all entries =
+    ((image ≡ r) × (all ≡ whole) × (entries ≡ n))
+    ⊎ ((image ≡ snapshot r) × (all ≡ whole) × (entries ≡ length (snapshot r)))
 
 -- of a node's own records and entries
-abbrev pub IsImage : Node → List Fact → ℕ → Type 0
-IsImage x image entries = IsLeftAs (records x) (length x.entries) x.state image entries
+abbrev pub IsImage : Node → List Fact → List Fact → ℕ → Type 0
+IsImage x image all entries = IsLeftAs (records x) x.whole (length x.entries) x.state image all entries
 
--- at each image of each node's disk, what a source accepted is what the report says was sent
+-- at each image of each node's disk, what a source ever accepted is what the report says was sent
 abbrev pub AcceptedIsSent : Type 0
 AcceptedIsSent =
-    (terms : Terms) (one two : Text) (events : List Event) (side : Side) (seq : ℕ) (image : List Fact) (entries : ℕ)
-    → IsImage (node (run terms events (start one two)) side) image entries
-    → accepted image seq ≡ sent_in side seq entries (lines terms events (start one two))
+    (terms : Terms) (one two : Text) (events : List Event) (side : Side) (seq : ℕ) (image all : List Fact)
+    (entries : ℕ) → IsImage (node (run terms events (start one two)) side) image all entries
+    → history all seq ≡ sent_in side seq entries (lines terms events (start one two))

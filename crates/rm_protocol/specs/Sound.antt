@@ -1,7 +1,7 @@
 -- What holds of two lists of records and of all packets, in every world that a run can reach.
 use Rattle.std.specs.Prelude.{◌≡◌, ℕ, ◌+◌, ◌<◌, ◌≤◌, true, false, length, List, [], ◌∷◌, ◌++◌, map, Option, Some}
 use Rattle.std.specs.Prelude.{None, IfSome}
-use Rattle.std.specs.List.{AllByRecursion, flat_map}
+use Rattle.std.specs.List.{AllByRecursion}
 use Rattle.rm_base.specs.Limits as limits
 use Rattle.ack_ranges.specs.declared.range.Range.{Range}
 use Rattle.ack_ranges.specs.Ranges.{in_ranges}
@@ -18,15 +18,16 @@ use Rattle.rm_message.specs.declared.message.Message.{Message}
 use Rattle.record_batch.specs.declared.record.OwnOffer.{OwnOffer}
 use Rattle.record_batch.specs.declared.record.PeerOffer.{PeerOffer}
 use Rattle.record_batch.specs.Fact.{Fact, Made, Creating, Created, Granted, Accepted, Acked, Received, Closed}
-use Rattle.record_batch.specs.Fact.{Ended}
-use Rattle.record_snapshot.specs.Same.{AreProper, HaveProper}
-use Rattle.rm_destination.specs.Messages.{is_empty}
+use Rattle.record_batch.specs.Fact.{Ended, Dropped, Purged}
+use Rattle.record_snapshot.specs.Same.{AreProper, HaveProper, IsLive, SaysTheSame}
+use Rattle.rm_destination.specs.Messages.{is_empty, numbers_of}
 use Rattle.sequence_table.specs.Words.{Text}
 use Rattle.sequence_table.specs.Idents.{issue}
-use Rattle.sequence_table.specs.Makers.{Maker, Outgoing, Offered, Incoming, Taken, makers, maker, draws_of, counter}
-use Rattle.sequence_table.specs.Makers.{nodes_of, number, addresses_of, address, created, seq_in}
-use Rattle.sequence_table.specs.Sources.{accepted, acked, mark_of, marks, out_ident}
-use Rattle.sequence_table.specs.Destinations.{received, held, close_of, told_of}
+use Rattle.sequence_table.specs.Makers.{Maker, Outgoing, Offered, Incoming, Taken, makers, maker, counter}
+use Rattle.sequence_table.specs.Makers.{number, address, created, seq_in}
+use Rattle.sequence_table.specs.Sources.{accepted, marks, out_ident}
+use Rattle.sequence_table.specs.Destinations.{held, received}
+use Rattle.sequence_table.specs.Fits.{all_fit, is_in_order}
 use Rattle.sequence_table.specs.Find.{IsOutgoing, IsIncoming}
 use Rattle.make_connection.specs.Waiting.{Waiting}
 use Rattle.rm_protocol.specs.PollLemmas.{AllWaiting}
@@ -61,7 +62,7 @@ pub record IsHeld (r : List Fact) (q : Text) (i : ℕ) : Type 0 where
   pub seq : ℕ
   pub message_id : Text
   pub incoming : IsIncoming r seq q message_id
-  pub has : has_number (held r seq) i ≡ true
+  pub has : has_number (numbers_of (received r seq)) i ≡ true
 
 -- the node granted the sequence for this message
 pub record IsGranted (r : List Fact) (t q : Text) : Type 0 where
@@ -84,10 +85,11 @@ pub record IsFinal (r : List Fact) (q : Text) (n : ℕ) : Type 0 where
   pub stopped : is_empty (marks r seq) ≡ false
   pub count : length (accepted r seq) ≡ n
 
--- part by part of a message
+-- part by part of a message: only a payload has a Sequence header
 abbrev pub SaysData : List Fact → Option SeqHeader → Body → Type 0
+SaysData r None content = Unit {0}
 SaysData r (Some h) (body.Payload p) = IsAccepted r h.ident h.number p.bytes
-SaysData r _ _ = Unit {0}
+SaysData r (Some h) _ = ⊥
 
 -- an acknowledgement block has numbers that its sender holds, and each of its ranges has one
 abbrev pub SaysBlock : List Fact → AckBlock → Type 0
@@ -207,9 +209,12 @@ pub record Agree (n m : ℕ) (mine theirs : List Fact) : Type 0 where
   pub justified : AllByRecursion (Justified mine theirs) mine
   pub others_justified : AllByRecursion (Justified theirs mine) theirs
 
--- a record may be added
+-- a record may be added: none that only a list that is written anew has, and no message that came already
 abbrev pub Fresh : List Fact → Fact → Type 0
 Fresh r (Made n a) = ⊥
+Fresh r (Dropped s upto) = ⊥
+Fresh r (Purged s ranges) = ⊥
+Fresh r (Received s i p) = has_number (held r s) i ≡ false
 Fresh r (Creating ticket to via lapse offer) =
     (ticket ≡ counter r + 1) × IfSome offer (λ (own : OwnOffer). own.counter ≡ counter r + 2)
 Fresh r (Granted c t acks_to behaviour deadline lapse offer) =
@@ -225,19 +230,21 @@ abbrev pub Allows : List Fact → List Fact → List Fact → Type 0
 Allows mine theirs [] = Unit {0}
 Allows mine theirs (rec ∷ delta) = Fresh mine rec × Justified mine theirs rec × Allows (mine ++ rec ∷ []) theirs delta
 
--- the records that a node has tell what all that it ever had tell
+-- nothing is gone: no record says that an item is
+abbrev pub NothingIsGone : List Fact → Type 0
+NothingIsGone whole = AllByRecursion IsLive whole
+
+-- the records that a node has say what all that it ever had say, but for items that are gone; in these nothing is gone
 pub record Keeps (r whole : List Fact) : Type 0 where
-  pub nodes_ : flat_map nodes_of r ≡ flat_map nodes_of whole
-  pub addresses_ : flat_map addresses_of r ≡ flat_map addresses_of whole
-  pub makers_ : makers r ≡ makers whole
-  pub created_ : created r ≡ created whole
-  pub draws_ : flat_map draws_of r ≡ flat_map draws_of whole
-  pub marks_ : flat_map mark_of r ≡ flat_map mark_of whole
-  pub closes_ : flat_map close_of r ≡ flat_map close_of whole
-  pub told_ : flat_map told_of r ≡ flat_map told_of whole
-  pub accepted_ : (s : ℕ) → accepted r s ≡ accepted whole s
-  pub received_ : (s : ℕ) → received r s ≡ received whole s
-  pub acked_ : (s n : ℕ) → in_ranges (acked r s) n ≡ in_ranges (acked whole s) n
+  pub same : SaysTheSame r whole
+  pub live : NothingIsGone whole
+
+-- the records on a node's disk: they keep all that it ever had, each range of an Acked record has a number, and each
+-- record may come after those before it
+pub record StandFor (r whole : List Fact) : Type 0 where
+  pub kept : Keeps r whole
+  pub proper : HaveProper r
+  pub fit : all_fit [] r ≡ true
 
 -- the sequences that these records make are between the two nodes
 abbrev pub AreWith : List Fact → List Fact → Type 0
@@ -253,7 +260,9 @@ HasPlace terms x start = end_of terms start (fresh_entries x.entries) ≤ limits
 
 -- the batch of a call that failed may be added, or the list be written anew
 abbrev pub AllowsState : Terms → Node → List Fact → State → Type 0
-AllowsState terms x theirs (Writing delta) = Allows x.whole theirs delta × AreWith theirs delta × HasRoom terms x delta
+AllowsState terms x theirs (Writing delta) =
+    Allows x.whole theirs delta × AreWith theirs delta × HasRoom terms x delta
+    × (all_fit (records x) delta ≡ true)
 AllowsState terms x theirs (Compacting start) = HasPlace terms x start
 AllowsState terms x theirs Up = Unit {0}
 
@@ -275,8 +284,8 @@ pub record IsSoundNode (terms : Terms) (at : Text) (x : Node) (theirs : List Fac
   pub failed : AllowsState terms x theirs x.state
   pub with_ : AreWith theirs x.whole
   pub at_ : address x.whole ≡ at
-  pub kept : Keeps (records x) x.whole
-  pub proper : HaveProper (records x)
+  pub stands : StandFor (records x) x.whole
+  pub in_order : is_in_order x.granted ≡ true
   pub bounded : IsBounded terms x
   pub said : AreSaid x.whole x.polled
 

@@ -22,7 +22,7 @@ use Rattle.rm_message.specs.declared.refusal.FaultKind.TheVariants.{StoreFull}
 use Rattle.record_batch.specs.Fact.{Fact}
 use Rattle.sequence_table.specs.Words.{Text}
 use Rattle.sequence_table.specs.Makers.{makers}
-use Rattle.sequence_table.specs.Sources.{accepted}
+use Rattle.sequence_table.specs.Sources.{accepted_count}
 use Rattle.sequence_table.specs.Destinations.{held, is_over, is_ended}
 use Rattle.sequence_table.specs.Find.{find_incoming, find_outgoing, find_grant}
 use Rattle.rm_protocol.specs.Addresses.{is_nowhere}
@@ -94,7 +94,7 @@ is_above n ranges = list_any (λ (range : Range). nat_lt n range.upper) ranges
 -- one of the ranges ends above what an outgoing sequence of ours accepted
 abbrev pub is_invalid_at : List Fact → List Range → Option ℕ → Bool
 is_invalid_at r ranges None = false
-is_invalid_at r ranges (Some s) = is_above (length (accepted r s)) ranges
+is_invalid_at r ranges (Some s) = is_above (accepted_count r s) ranges
 
 -- a range above the accepted count of its outgoing sequence
 abbrev pub is_invalid : List Fact → AckBlock → Bool

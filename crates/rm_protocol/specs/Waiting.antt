@@ -12,8 +12,8 @@ use Rattle.rm_elements.specs.declared.header.AckKind.{AckKind}
 use Rattle.rm_elements.specs.declared.header.AckKind.TheVariants as kind
 use Rattle.record_batch.specs.Fact.{Fact, Creating, Accepted, Closing, Ending}
 use Rattle.sequence_table.specs.Makers.{Maker, Outgoing, Taken, makers, maker}
-use Rattle.rm_source.specs.Outgoing.{Sending}
-use Rattle.sequence_table.specs.Sources.{accepted, is_sending}
+use Rattle.rm_source.specs.Outgoing.{Sending, accepted_count as count_of}
+use Rattle.sequence_table.specs.Sources.{accepted_count, is_sending}
 use Rattle.sequence_table.specs.Told.{sending}
 use Rattle.sequence_table.specs.Find.{find_outgoing}
 
@@ -32,7 +32,7 @@ is_requesting _ = false
 -- accepted and isn't acknowledged, where messages are sent again
 abbrev pub waits_in : Sending → ℕ → Bool
 waits_in t zero = is_requesting t.phase
-waits_in t (suc i) = is_sending t.phase && (nat_le (suc i) (length t.accepted) && not (in_ranges t.acked (suc i)))
+waits_in t (suc i) = is_sending t.phase && (nat_le (suc i) (count_of t) && not (in_ranges t.acked (suc i)))
 
 -- the key of a sequence that was made so waits
 abbrev pub waits_of : List Fact → ℕ → ℕ → Option Maker → Bool
@@ -51,8 +51,8 @@ numbers_from i (suc count) = i ∷ numbers_from (i + 1) count
 
 -- how many keys sequence s has, which was made so: its request and its messages, of which those that wait count
 abbrev pub key_count : List Fact → ℕ → Maker → ℕ
-key_count r s (Outgoing ticket to via lapse) = length (accepted r s) + 1
-key_count r s (Taken message_id ident endpoint) = length (accepted r s) + 1
+key_count r s (Outgoing ticket to via lapse) = accepted_count r s + 1
+key_count r s (Taken message_id ident endpoint) = accepted_count r s + 1
 key_count r s _ = 0
 
 -- these keys
@@ -76,7 +76,7 @@ mounted_waits r = fresh (waiting_keys r)
 -- for, closed or ended
 abbrev pub begun_of : List Fact → Fact → List Key
 begun_of r (Creating ticket to via lapse offer) = key (length (makers r) + 1) 0 ∷ []
-begun_of r (Accepted s payload) = key s (length (accepted r s) + 1) ∷ []
+begun_of r (Accepted s payload) = key s (accepted_count r s + 1) ∷ []
 begun_of r (Closing s ticket) = key s 0 ∷ []
 begun_of r (Ending s ticket) = key s 0 ∷ []
 begun_of r _ = []

@@ -1,13 +1,14 @@
 -- The headline of two nodes, by their records.
-use Rattle.std.specs.Prelude.{◌≡◌, ◌⊎◌, ℕ, true, false, List, [], ◌++◌}
+use Rattle.std.specs.Prelude.{◌≡◌, ◌⊎◌, ℕ, true, false, List, [], ◌++◌, map, take, drop, Some}
 use Rattle.ack_ranges.specs.Ranges.{in_ranges}
 use Rattle.rm_base.specs.NumberSet.{has_number}
 use Rattle.rm_base.specs.declared.message.Behaviour.TheVariants.{EntireSequence}
+use Rattle.rm_base.specs.declared.message.Payload.{Payload}
 use Rattle.record_batch.specs.Fact.{Fact}
-use Rattle.rm_destination.specs.Messages.{is_empty}
+use Rattle.rm_destination.specs.Messages.{is_empty, numbers_of}
 use Rattle.sequence_table.specs.Words.{Text}
 use Rattle.sequence_table.specs.Sources.{accepted, acked, marks}
-use Rattle.sequence_table.specs.Destinations.{held, inbox, behaviour, texts}
+use Rattle.sequence_table.specs.Destinations.{held, inbox, behaviour, cursor, received, released, texts}
 use Rattle.sequence_table.specs.Find.{IsOutgoing, IsIncoming}
 
 -- ys begins with xs
@@ -32,14 +33,50 @@ pub record IsThere (b : List Fact) (t : ℕ) : Type 0 where
   pub message_id : Text
   pub incoming : IsIncoming b t ident message_id
 
--- from the source with records a to the destination with records b. The inbox is a prefix of what was accepted; under
--- DiscardEntireSequence it is none or all of it, and then the source is no longer Creating or Open; what is
--- acknowledged is held; without a matching source the inbox is empty; and an outgoing sequence with an identifier has
--- its match
-pub record KeepsWord (a b : List Fact) : Type 0 where
-  pub prefix : (s t : ℕ) → Matches a b s t → IsPrefixOf (texts (inbox b t)) (accepted a s)
+-- Of all records that two nodes ever had, among which nothing is gone, from the source with records a to the
+-- destination with records b. What is released is a prefix of what was accepted; under DiscardEntireSequence it is none
+-- or all of it, and then the source is no longer Creating or Open; what is acknowledged is held; without a matching
+-- source nothing is released; and an outgoing sequence with an identifier has its match
+pub record KeepsWholeWord (a b : List Fact) : Type 0 where
+  pub prefix : (s t : ℕ) → Matches a b s t → IsPrefixOf (texts (released b t)) (accepted a s)
   pub whole : (s t : ℕ) → Matches a b s t → behaviour b t ≡ EntireSequence
-      → (inbox b t ≡ []) ⊎ ((texts (inbox b t) ≡ accepted a s) × (is_empty (marks a s) ≡ false))
-  pub held : (s t : ℕ) → Matches a b s t → (n : ℕ) → in_ranges (acked a s) n ≡ true → has_number (held b t) n ≡ true
-  pub none : (t : ℕ) → IsThere b t → HasNoSource a b t → inbox b t ≡ []
+      → (released b t ≡ []) ⊎ ((texts (released b t) ≡ accepted a s) × (is_empty (marks a s) ≡ false))
+  pub held : (s t : ℕ) → Matches a b s t → (n : ℕ) → in_ranges (acked a s) n ≡ true
+      → has_number (numbers_of (received b t)) n ≡ true
+  pub none : (t : ℕ) → IsThere b t → HasNoSource a b t → released b t ≡ []
   pub matched : (s : ℕ) (q : Text) → IsOutgoing a s q → (t : ℕ) × Matches a b s t
+
+-- all payloads that the Accepted records of an outgoing sequence ever had
+abbrev pub history : List Fact → ℕ → List Text
+history whole s = accepted whole s
+
+-- the items of an incoming sequence's inbox that its Consumed records passed
+abbrev pub consumed : List Fact → ℕ → List Payload
+consumed whole t = take (cursor whole t) (released whole t)
+
+-- what the application of sequence t consumed, and then the items of its inbox past the cursor
+pub record Has (b b_whole : List Fact) (t : ℕ) (all : List Payload) : Type 0 where
+  pub rest : List Payload
+  -- none of them is gone
+  pub left : drop (cursor b t) (inbox b t) ≡ map Some rest
+  pub all_ : all ≡ consumed b_whole t ++ rest
+
+-- The headline, from the source with records a, a_whole being all that it ever had, to the destination with records b,
+-- and b_whole. What the application consumed followed by the inbox past the cursor is a prefix of what was accepted;
+-- under DiscardEntireSequence it is none or all of it, and then the source is no longer Creating or Open; what is
+-- acknowledged was received; without a matching source there is nothing; and an outgoing sequence with an identifier
+-- has its match
+pub record KeepsWord (a a_whole b b_whole : List Fact) : Type 0 where
+  pub has : (t : ℕ) → (all : List Payload) × Has b b_whole t all
+  pub prefix : (s t : ℕ) → Matches a b s t → IsPrefixOf (texts (has t).0) (history a_whole s)
+  pub whole : (s t : ℕ) → Matches a b s t → behaviour b t ≡ EntireSequence
+      → ((has t).0 ≡ []) ⊎ ((texts (has t).0 ≡ history a_whole s) × (is_empty (marks a s) ≡ false))
+  pub held : (s t : ℕ) → Matches a b s t → (n : ℕ) → in_ranges (acked a s) n ≡ true → has_number (held b t) n ≡ true
+  pub none : (t : ℕ) → IsThere b t → HasNoSource a b t → (has t).0 ≡ []
+  pub matched : (s : ℕ) (q : Text) → IsOutgoing a s q → (t : ℕ) × Matches a b s t
+
+-- where nothing was consumed, all that the headline speaks of is the inbox
+abbrev pub InboxIsAll : Type 0
+InboxIsAll =
+    (a a_whole b b_whole : List Fact) (word : KeepsWord a a_whole b b_whole) (t : ℕ) → cursor b t ≡ 0
+    → cursor b_whole t ≡ 0 → inbox b t ≡ map Some (word.has t).0

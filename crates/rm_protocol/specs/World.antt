@@ -11,6 +11,7 @@ use Rattle.record_batch.specs.declared.record.Via.{Via}
 use Rattle.record_batch.specs.Fact.{Made}
 use Rattle.sequence_table.specs.Words.{Text}
 use Rattle.rm_protocol.specs.Calls.{Answer, Wish, create, send, close, end, tick, receive, ask_ack, nack_missing}
+use Rattle.rm_protocol.specs.Calls.{consume}
 use Rattle.make_connection.specs.Waiting.{nothing_waits}
 use Rattle.rm_protocol.specs.Compact.{compacted}
 use Rattle.rm_protocol.specs.Node.{Node, State, Up, records, node_end, armed, mounted, after, said_after, fetched_after}
@@ -73,6 +74,7 @@ pub data Event : Type 0 where
   Noise : Side → Refusal → Event
   Poll : Side → Event
   Compact : Side → Event
+  Consume : Side → (seq upto : ℕ) → Event
 
 -- messages that a node sent, as packets
 abbrev pub sent : Side → List Message → List Packet
@@ -148,6 +150,8 @@ happens terms w (Crash side kept) = with_node w side (mounted (node w side) kept
 happens terms w (Noise side refusal) = calls terms w side true (received_by terms (node w side) (Err refusal))
 happens terms w (Poll side) = calls terms w side false (poll (records (node w side)) (place w (other side)))
 happens terms w (Compact side) = with_node w side (compacted terms (node w side))
+happens terms w (Consume side seq upto) =
+    calls terms w side false (consume terms (records (node w side)) (node_end terms (node w side)) seq upto)
 
 -- a world after the lines of a script, in order
 abbrev pub run : Terms → List Event → World → World

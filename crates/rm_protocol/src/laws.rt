@@ -4,6 +4,8 @@ ghost use Rattle.std.specs.Prelude.{slice_get, take, true, false};
 ghost use Rattle.rm_base.specs.Numbered.{numbered};
 ghost use Rattle.rm_message.specs.declared.refusal.Refusal.{Refusal};
 ghost use Rattle.record_batch.specs.Fact.{Fact};
+ghost use Rattle.rm_protocol.specs.Calls.{Done, PastInbox, Refused};
+ghost use Rattle.rm_protocol.specs.Consumed.{ConsumedStays};
 ghost use Rattle.rm_protocol.specs.Delivered.{TakesNew};
 ghost use Rattle.rm_protocol.specs.Exact.{AckedWereAccepted, IsExactAtFirst, OthersWaitOn, RecordBegins, StaysExact};
 ghost use Rattle.rm_protocol.specs.Exact.{StaysExactInShort, WhatBeginsWaits};
@@ -11,37 +13,64 @@ ghost use Rattle.rm_protocol.specs.Examples.{with_a_close, with_an_end, with_an_
 ghost use Rattle.rm_protocol.specs.Examples.{with_ticks, with_a_nack, with_an_ask, with_both_again};
 ghost use Rattle.rm_protocol.specs.Examples.{pendings, with_a_crash_of_the_source, with_a_lost_message, with_polls};
 ghost use Rattle.rm_protocol.specs.Examples.{played, with_a_crash, with_a_fresh_list, with_a_gap, with_an_offer};
-ghost use Rattle.rm_protocol.specs.Examples.{with_fresh_lists};
+ghost use Rattle.rm_protocol.specs.Examples.{item_texts, with_consumption, with_fresh_lists, with_gone_items};
+ghost use Rattle.rm_protocol.specs.InOrder.{AreInOrder, IsInOrder};
 ghost use Rattle.rm_protocol.specs.Next.{EachMayComeNext};
-ghost use Rattle.rm_protocol.specs.Node.{records};
+ghost use Rattle.rm_protocol.specs.Node.{Answered, records};
 ghost use Rattle.rm_protocol.specs.Recorded.{FinalCloses, GapIsClosed, NewIsRecorded, OnlyHeardIsRecorded};
 ghost use Rattle.rm_protocol.specs.Replied.{TheReplyHasTheBlocks};
-ghost use Rattle.rm_protocol.specs.Sent.{AcceptedIsSent, line_of, lines, outcome_of};
+ghost use Rattle.rm_protocol.specs.Sent.{AcceptedIsSent, Called, line_of, lines, outcome_of};
 ghost use Rattle.rm_protocol.specs.Sound.{IsSound};
 ghost use Rattle.rm_protocol.specs.Terms.{AreTerms, Terms};
 ghost use Rattle.rm_protocol.specs.Unarmed.{AreFaultless, AreUnarmed, IsFaultless};
-ghost use Rattle.rm_protocol.specs.Crashes.{IsAfterCrashes, IsLeft, KeepsAll};
-ghost use Rattle.rm_protocol.specs.World.{AreMade, Crash, Deliver, Event, Noise, Packet, Side, World};
+ghost use Rattle.rm_protocol.specs.Crashes.{HasRecords, IsAfterCrashes, IsLeft, KeepsAll};
+ghost use Rattle.rm_protocol.specs.Word.{InboxIsAll, consumed};
+ghost use Rattle.rm_protocol.specs.World.{AreMade, Consume, Crash, Deliver, Event, Noise, Packet, Side, Two, World};
 ghost use Rattle.rm_protocol.specs.World.{happens, node, other, run, start};
-ghost use Rattle.sequence_table.specs.Destinations.{discarded, inbox, texts};
+ghost use Rattle.sequence_table.specs.Destinations.{cursor, discarded, inbox, texts};
+ghost use Rattle.sequence_table.specs.Sources.{accepted_count};
 ghost use Rattle.sequence_table.specs.Words.{Text};
 
-use ack_ranges::union_with_nothing_is_the_same;
+use record_snapshot::{
+    a_snapshot_fits, a_snapshot_is_proper, a_snapshot_keeps_all, a_snapshot_says_the_same,
+};
 use sequence_table::laws::one_number_one_identifier;
 
-/// Whatever is sent, lost, repeated and reordered, and whichever node crashes at whichever device call, every run keeps
-/// the headline at each pair of images of both disks.
+/// Whatever is sent, lost, repeated, reordered and consumed, and whichever node crashes at whichever device call, every
+/// run in which NoDiscard is neither offered nor announced keeps the headline at each pair of images of both disks.
 pub fn every_run_keeps_the_word()
     ensures { (terms : Terms) (one two : Text) → AreTerms terms → AreMade terms one two → (events : List Event)
-        → KeepsAll (run terms events (start one two)) }
+        → AreInOrder events → KeepsAll (run terms events (start one two)) }
 {
-    one_number_one_identifier()
+    one_number_one_identifier();
+    a_snapshot_keeps_all();
+    a_snapshot_fits();
+    a_snapshot_is_proper();
 }
 
-/// Each line of a script keeps what holds of both nodes and of all packets.
+/// Each line of such a script keeps what holds of both nodes and of all packets.
 pub fn every_step_keeps_the_agreement()
-    ensures { (terms : Terms) (w : World) (event : Event) → AreTerms terms → IsSound terms w
+    ensures { (terms : Terms) (w : World) (event : Event) → AreTerms terms → IsInOrder event → IsSound terms w
         → IsSound terms (happens terms w event) }
+{
+    a_snapshot_keeps_all();
+    a_snapshot_fits();
+    a_snapshot_is_proper();
+}
+
+/// What was released to an application, and what it consumed, at one moment of such a run begins what is at each later
+/// one.
+pub fn what_was_consumed_stays()
+    ensures { ConsumedStays }
+{
+    a_snapshot_keeps_all();
+    a_snapshot_fits();
+    a_snapshot_is_proper();
+}
+
+/// Where nothing was consumed, the headline speaks of the whole inbox.
+pub fn without_consumption_all_is_in_the_inbox()
+    ensures { InboxIsAll }
 {}
 
 /// A message that is new, within the window and for an open sequence is recorded by the call that brings it.
@@ -59,8 +88,12 @@ pub fn what_closes_the_gap_is_released()
 /// the message was invalid or the store was full.
 pub fn a_delivered_message_is_taken()
     ensures { (terms : Terms) (one two : Text) → AreTerms terms → AreMade terms one two → (events : List Event)
-        → TakesNew terms (run terms events (start one two)) }
-{}
+        → AreInOrder events → TakesNew terms (run terms events (start one two)) }
+{
+    a_snapshot_keeps_all();
+    a_snapshot_fits();
+    a_snapshot_is_proper();
+}
 
 /// A message brings no other records than those of the receiving table: Received is its data, and nothing is accepted.
 pub fn only_what_was_heard_is_recorded()
@@ -77,7 +110,7 @@ pub fn each_record_may_come_next()
     ensures { EachMayComeNext }
 {}
 
-/// At each image of each disk, what a source accepted is what the report says was sent.
+/// At each image of each disk, what a source ever accepted is what the report says was sent.
 pub fn accepted_is_sent()
     ensures { AcceptedIsSent }
 {}
@@ -100,16 +133,17 @@ pub fn without_an_arm_nothing_fails()
         → IsFaultless (outcome_of terms (run terms events (start one two)) event) }
 {}
 
-/// Each image of a node's disk is what one more crash would leave.
+/// Each image of a node's disk is what one more crash would leave, and all that the node then ever had is what it would
+/// have had after it.
 pub fn an_image_is_one_more_crash()
-    ensures { (terms : Terms) (w : World) (side : Side) (image : List Fact) → IsLeft (node w side) image
-        → (kept : Bool) × (records (node (happens terms w (Crash side kept)) side) ≡ image) }
+    ensures { (terms : Terms) (w : World) (side : Side) (image all : List Fact) → IsLeft (node w side) image all
+        → (kept : Bool) × HasRecords (node (happens terms w (Crash side kept)) side) image all }
 {}
 
 /// So each pair of images of both disks is what two more crashes would leave.
 pub fn a_pair_of_images_is_two_more_crashes()
-    ensures { (terms : Terms) (w : World) (a b : List Fact) → IsLeft w.one a → IsLeft w.two b
-        → IsAfterCrashes terms w a b }
+    ensures { (terms : Terms) (w : World) (a a_whole b b_whole : List Fact) → IsLeft w.one a a_whole
+        → IsLeft w.two b b_whole → IsAfterCrashes terms w a a_whole b b_whole }
 {}
 
 /// The run of two scripts, one behind the other, is the run of the second from where that of the first ends.
@@ -141,7 +175,8 @@ pub fn messages_in_order()
     ensures one { length (played in_order).one.entries ≡ 9 }
     ensures two { length (played in_order).two.entries ≡ 5 }
     ensures packets { length (played in_order).packets ≡ 8 }
-    ensures inbox { texts (inbox (records (played in_order).two) 1) ≡ (1 ∷ []) ∷ (2 ∷ []) ∷ (3 ∷ []) ∷ [] }
+    ensures inbox { item_texts (inbox (records (played in_order).two) 1)
+        ≡ Some (1 ∷ []) ∷ Some (2 ∷ []) ∷ Some (3 ∷ []) ∷ [] }
 {}
 
 /// A gap when the sequence is closed under DiscardEntireSequence: nothing is released, and what came is discarded.
@@ -156,7 +191,7 @@ pub fn a_gap_in_all_or_none()
 pub fn a_crash_inside_a_call()
     ensures two { length (played with_a_crash).two.entries ≡ 4 }
     ensures packets { length (played with_a_crash).packets ≡ 6 }
-    ensures inbox { texts (inbox (records (played with_a_crash).two) 1) ≡ (1 ∷ []) ∷ (2 ∷ []) ∷ [] }
+    ensures inbox { item_texts (inbox (records (played with_a_crash).two) 1) ≡ Some (1 ∷ []) ∷ Some (2 ∷ []) ∷ [] }
 {}
 
 /// A sequence that was offered takes messages from the offer on.
@@ -164,7 +199,7 @@ pub fn an_offer_taken()
     ensures one { length (played with_an_offer).one.entries ≡ 4 }
     ensures two { length (played with_an_offer).two.entries ≡ 4 }
     ensures packets { length (played with_an_offer).packets ≡ 4 }
-    ensures inbox { texts (inbox (records (played with_an_offer).one) 2) ≡ (7 ∷ []) ∷ [] }
+    ensures inbox { item_texts (inbox (records (played with_an_offer).one) 2) ≡ Some (7 ∷ []) ∷ [] }
 {}
 
 /// A message that comes after the close is refused, and a duplicate gets the final acknowledgement.
@@ -172,7 +207,7 @@ pub fn a_close_before_all_came()
     ensures one { length (played with_a_close).one.entries ≡ 7 }
     ensures two { length (played with_a_close).two.entries ≡ 4 }
     ensures packets { length (played with_a_close).packets ≡ 10 }
-    ensures inbox { texts (inbox (records (played with_a_close).two) 1) ≡ (1 ∷ []) ∷ [] }
+    ensures inbox { item_texts (inbox (records (played with_a_close).two) 1) ≡ Some (1 ∷ []) ∷ [] }
 {}
 
 /// A sequence that is terminated takes no message, and its source learns of the end.
@@ -187,7 +222,7 @@ pub fn a_sequence_expires()
     ensures one { length (played with_an_expiry).one.entries ≡ 5 }
     ensures two { length (played with_an_expiry).two.entries ≡ 4 }
     ensures packets { length (played with_an_expiry).packets ≡ 6 }
-    ensures inbox { texts (inbox (records (played with_an_expiry).two) 1) ≡ (1 ∷ []) ∷ [] }
+    ensures inbox { item_texts (inbox (records (played with_an_expiry).two) 1) ≡ Some (1 ∷ []) ∷ [] }
 {}
 
 /// A message that is not acknowledged is sent again 2000 milliseconds later, and then 4000 later, and not before.
@@ -206,7 +241,8 @@ pub fn what_is_missing_is_sent_again()
     ensures ticked { length (played (with_a_nack 3)).packets ≡ 9 }
     ensures arrived { length (played (with_a_nack 4)).packets ≡ 10 }
     ensures two { length (played (with_a_nack 4)).two.entries ≡ 5 }
-    ensures inbox { texts (inbox (records (played (with_a_nack 4)).two) 1) ≡ (1 ∷ []) ∷ (2 ∷ []) ∷ (3 ∷ []) ∷ [] }
+    ensures inbox { item_texts (inbox (records (played (with_a_nack 4)).two) 1)
+        ≡ Some (1 ∷ []) ∷ Some (2 ∷ []) ∷ Some (3 ∷ []) ∷ [] }
 {}
 
 /// A request for an acknowledgement gets one.
@@ -221,7 +257,8 @@ pub fn a_crash_is_made_good()
     ensures lost { length (played (with_both_again false)).two.entries ≡ 4 }
     ensures kept { length (played (with_both_again true)).two.entries ≡ 4 }
     ensures packets { length (played (with_both_again false)).packets ≡ 8 }
-    ensures inbox { texts (inbox (records (played (with_both_again true)).two) 1) ≡ (1 ∷ []) ∷ (2 ∷ []) ∷ [] }
+    ensures inbox { item_texts (inbox (records (played (with_both_again true)).two) 1)
+        ≡ Some (1 ∷ []) ∷ Some (2 ∷ []) ∷ [] }
 {}
 
 /// After a crash of the source a message that was written down and never sent is sent at the first tick.
@@ -257,7 +294,7 @@ pub fn what_waits_stays_exact()
 pub fn what_waits_is_exact_in_short()
     ensures { StaysExactInShort }
 {
-    union_with_nothing_is_the_same();
+    a_snapshot_says_the_same();
 }
 
 /// The acknowledged numbers of a sequence are numbers of accepted messages.
@@ -277,18 +314,42 @@ pub fn a_node_that_polls()
     ensures two { length (played with_polls).two.entries ≡ 5 }
     ensures packets { pendings (played with_polls) ≡ None ∷ None ∷ Some false ∷ None ∷ None ∷ None ∷ Some true
         ∷ Some true ∷ Some false ∷ [] }
-    ensures inbox { texts (inbox (records (played with_polls).two) 1) ≡ (1 ∷ []) ∷ (2 ∷ []) ∷ (3 ∷ []) ∷ [] }
+    ensures inbox { item_texts (inbox (records (played with_polls).two) 1)
+        ≡ Some (1 ∷ []) ∷ Some (2 ∷ []) ∷ Some (3 ∷ []) ∷ [] }
 {}
 
 /// A list that is written anew: a crash inside the call leaves the list that stood or the fresh one, and the message
 /// that is sent then comes in its place. The fresh list begins behind the one that stood, and the next one before it.
 pub fn a_list_is_written_anew()
     ensures stood { length (played (with_a_fresh_list false)).one.entries ≡ 10 }
-    ensures fresh { length (played (with_a_fresh_list true)).one.entries ≡ 8 }
-    ensures inbox { texts (inbox (records (played (with_a_fresh_list true)).two) 1)
-        ≡ (1 ∷ []) ∷ (2 ∷ []) ∷ (3 ∷ []) ∷ (4 ∷ []) ∷ [] }
+    ensures fresh { length (played (with_a_fresh_list true)).one.entries ≡ 5 }
+    ensures inbox { item_texts (inbox (records (played (with_a_fresh_list true)).two) 1)
+        ≡ Some (1 ∷ []) ∷ Some (2 ∷ []) ∷ Some (3 ∷ []) ∷ Some (4 ∷ []) ∷ [] }
     ensures behind { (played (with_fresh_lists 1)).one.start ≡ 72 }
     ensures before { (played (with_fresh_lists 2)).one.start ≡ 25 }
+{}
+
+/// Two of three messages are consumed: the inbox has all three.
+pub fn what_is_consumed()
+    ensures two { length (played with_consumption).two.entries ≡ 6 }
+    ensures cursor { cursor (records (played with_consumption).two) 1 ≡ 2 }
+    ensures inbox { item_texts (inbox (records (played with_consumption).two) 1)
+        ≡ Some (1 ∷ []) ∷ Some (2 ∷ []) ∷ Some (3 ∷ []) ∷ [] }
+{}
+
+/// When both lists are written anew then, the consumed messages are gone at the destination, and the acknowledged ones
+/// at the source; both keep their numbers, and the application goes on where it was.
+pub fn what_is_consumed_is_gone()
+    ensures one { length (played with_gone_items).one.entries ≡ 4 }
+    ensures count { accepted_count (records (played with_gone_items).one) 1 ≡ 3 }
+    ensures two { length (played with_gone_items).two.entries ≡ 4 }
+    ensures inbox { item_texts (inbox (records (played with_gone_items).two) 1)
+        ≡ None ∷ None ∷ Some (3 ∷ []) ∷ [] }
+    ensures refused { outcome_of example_terms (played with_gone_items) (Consume Two 1 4)
+        ≡ Called (Answered (Refused (PastInbox 3))) }
+    ensures again { outcome_of example_terms (played with_gone_items) (Consume Two 1 2) ≡ Called (Answered Done) }
+    ensures next { cursor (records (happens example_terms (played with_gone_items) (Consume Two 1 3)).two) 1 ≡ 3 }
+    ensures consumed { texts (consumed (played with_gone_items).two.whole 1) ≡ (1 ∷ []) ∷ (2 ∷ []) ∷ [] }
 {}
 
 /// A crash loses the messages that wait, and the request that comes again gets the same response.
