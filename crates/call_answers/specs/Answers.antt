@@ -8,7 +8,7 @@ use Rattle.sequence_table.specs.Fits.{all_fit}
 use Rattle.rm_protocol.specs.Waiting.{Moves}
 use Rattle.rm_protocol.specs.Calls.{Answer, Cause, Outcome, Wish, NoSequence, WrongSide, PayloadTooLong, BadPayload}
 use Rattle.rm_protocol.specs.Calls.{NotOpen, WindowFull, NodeFull, Rollover, TooManySequences, StoreFull, Done}
-use Rattle.rm_protocol.specs.Calls.{Refused, Judged}
+use Rattle.rm_protocol.specs.Calls.{PastInbox, Refused, Judged}
 use Rattle.call_answers.specs.declared.answer.Answer.{Answer as CodeAnswer}
 use Rattle.call_answers.specs.declared.answer.Cause.{Cause as CodeCause}
 use Rattle.call_answers.specs.declared.answer.Cause.TheVariants as cause
@@ -29,6 +29,7 @@ cause_seen (cause.NodeFull unacked) = NodeFull unacked
 cause_seen cause.Rollover = Rollover
 cause_seen (cause.TooManySequences count) = TooManySequences count
 cause_seen (cause.StoreFull end needed) = StoreFull end needed
+cause_seen (cause.PastInbox have) = PastInbox have
 
 -- how a call comes out
 abbrev pub outcome_seen : CodeOutcome → Outcome

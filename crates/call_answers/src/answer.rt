@@ -10,7 +10,8 @@ use rm_timers::Key;
 use std::alloc::Global;
 
 /// Why a call is refused, in the order in which it is tested. Of a full window or node: how many messages wait for an
-/// acknowledgement. Of a full store: where its entries end, and how many bytes the entry would take.
+/// acknowledgement. Of a full store: where its entries end, and how many bytes the entry would take. Of an item past
+/// the inbox, which is tested before the store: how many items the inbox has.
 #[derive(Clone, Copy, Debug, PartialEq, Eq)]
 pub enum Cause {
     NoSequence,
@@ -23,6 +24,7 @@ pub enum Cause {
     Rollover,
     TooManySequences { count: u64 },
     StoreFull { end: u64, needed: u64 },
+    PastInbox { have: u64 },
 }
 
 /// How a call comes out: done, refused, or with a fault as the answer to a message.

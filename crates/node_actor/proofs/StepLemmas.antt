@@ -7,7 +7,7 @@ use Rattle.rm_disk.specs.Told.{Told}
 use Rattle.rm_journal.specs.JournalState.{end_of as journal_end}
 use Rattle.record_batch.specs.Fact.{Fact}
 use Rattle.rm_protocol.specs.Calls.{Cause, NoSequence, WrongSide, PayloadTooLong, BadPayload, NotOpen, WindowFull}
-use Rattle.rm_protocol.specs.Calls.{NodeFull, Rollover, TooManySequences, StoreFull, Outcome, Done, Judged}
+use Rattle.rm_protocol.specs.Calls.{NodeFull, Rollover, TooManySequences, StoreFull, PastInbox, Outcome, Done, Judged}
 use Rattle.rm_protocol.specs.Calls.{Refused as RefusedWith, receive}
 use Rattle.rm_protocol.specs.Delivered.{IsWriting}
 use Rattle.rm_protocol.specs.Node.{Node, State, Up, Writing, Compacting, node_end, records, records_in}
@@ -16,7 +16,8 @@ use Rattle.rm_protocol.specs.Terms.{Terms}
 use Rattle.node_laws.specs.Keeps.{EachIsByTheRules, PollsByTheRules, SaysByTheRules, WaitByTheRules}
 use Rattle.node_laws.specs.OwnTerms.{AreOwn}
 use Rattle.node_laws.specs.Records.{IsKept}
-use Rattle.rm_node.specs.Asked.{Asked, Asks, Create, Send, Close, End, AskAck, NackMissing, Poll, Tick, Receive}
+use Rattle.rm_node.specs.Asked.{Asked, Asks, Create, Send, Close, End, AskAck, NackMissing, Consume, Poll, Tick}
+use Rattle.rm_node.specs.Asked.{Receive}
 use Rattle.rm_node.specs.Asked.{MayBeAsked, answer_to, is_connected}
 use Rattle.rm_node.specs.Called.{Does, answer_of as node_answer}
 use Rattle.rm_node.specs.CameLemmas.{ReadsRight, RefusesRight}
@@ -36,8 +37,8 @@ use Rattle.rm_report.specs.declared.line.Outcome.{Outcome as Outcomes}
 use Rattle.node_actor.specs.Stands.{Acts, Stands, StandsBy, kept_of}
 use Rattle.node_actor.specs.Steps.{answer_of, clock_after, clock_of, clocked}
 use Rattle.node_actor.proofs.ActLemmas.{EndsThere, actored, acts, clock_is, sleeps_down}
-use Rattle.node_actor.proofs.QuietLemmas.{IsQuiet, quiet_ask, quiet_close, quiet_create, quiet_end, quiet_nack}
-use Rattle.node_actor.proofs.QuietLemmas.{quiet_poll, quiet_polls, quiet_receive, quiet_send, quiet_tick}
+use Rattle.node_actor.proofs.QuietLemmas.{IsQuiet, quiet_ask, quiet_close, quiet_consume, quiet_create, quiet_end}
+use Rattle.node_actor.proofs.QuietLemmas.{quiet_nack, quiet_poll, quiet_polls, quiet_receive, quiet_send, quiet_tick}
 
 -- ---- what is told as a failure of the disk
 
@@ -52,6 +53,7 @@ no_cause (NodeFull unacked) = refl
 no_cause Rollover = refl
 no_cause (TooManySequences count) = refl
 no_cause (StoreFull end needed) = refl
+no_cause (PastInbox have) = refl
 
 no_answer : (outcome : Outcome) → is_disk_outcome (answer_told outcome) ≡ false
 no_answer Done = refl
@@ -95,6 +97,7 @@ quiet_asked terms now kept (Close seq) r place = quiet_close terms seq now r pla
 quiet_asked terms now kept (End seq) r place = quiet_end terms seq r place
 quiet_asked terms now kept (AskAck seq) r place = quiet_ask seq r
 quiet_asked terms now kept (NackMissing seq) r place = quiet_nack seq now r
+quiet_asked terms now kept (Consume seq upto) r place = quiet_consume terms seq upto r place
 quiet_asked terms now kept (Tick moment) r place = quiet_tick terms moment kept.time kept.waits r place
 quiet_asked terms now kept (Poll to) r place = quiet_poll to r
 quiet_asked terms now kept (Receive content) r place =
@@ -110,6 +113,7 @@ clock_stands (call.Close seq) x now a s = s.clock
 clock_stands (call.End seq) x now a s = s.clock
 clock_stands (call.AskAck seq) x now a s = s.clock
 clock_stands (call.NackMissing seq) x now a s = s.clock
+clock_stands (call.Consume seq upto) x now a s = s.clock
 clock_stands (call.Tick moment) x now a s =
     clock_is x.state x.entries now.past a.node.stored a.clock x.clock moment s.disk s.clock
 clock_stands (call.Poll to) x now a s = s.clock

@@ -32,6 +32,8 @@ of_each reads refuses P terms r place now kept (call.AskAck seq) asked each fetc
     subst (λ (a : Asked). P (answer_to terms r place now kept a)) (sym is) (each.ask_ack_ seq)
 of_each reads refuses P terms r place now kept (call.NackMissing seq) asked each fetched in_order may is =
     subst (λ (a : Asked). P (answer_to terms r place now kept a)) (sym is) (each.nack_missing_ seq now)
+of_each reads refuses P terms r place now kept (call.Consume seq upto) asked each fetched in_order may is =
+    subst (λ (a : Asked). P (answer_to terms r place now kept a)) (sym is) (each.consume_ seq upto)
 of_each reads refuses P terms r place now kept (call.Tick moment) asked each fetched in_order may is =
     subst (λ (a : Asked). P (answer_to terms r place now kept a)) (sym is) (each.tick_ moment kept.time kept.waits)
 of_each reads refuses P terms r place now kept (call.Poll to) asked each fetched in_order may is =

@@ -79,6 +79,7 @@ fn refusal(cause: Cause) -> Outcome
         Cause::Rollover => refused(Reason::Rollover),
         Cause::TooManySequences { .. } => refused(Reason::TooManySequences),
         Cause::StoreFull { .. } => refused(Reason::StoreFull),
+        Cause::PastInbox { .. } => refused(Reason::PastInbox),
     }
 }
 

@@ -10,7 +10,7 @@ use Rattle.rm_base.specs.Message.{max_number}
 use Rattle.record_batch.specs.Fact.{Fact}
 use Rattle.sequence_table.specs.Words.{Text}
 use Rattle.sequence_table.specs.Makers.{Maker, Outgoing, Offered, Incoming, Taken, maker}
-use Rattle.sequence_table.specs.Sources.{accepted, all_unacked, phase, unacked}
+use Rattle.sequence_table.specs.Sources.{accepted_count, all_unacked, phase, unacked}
 use Rattle.rm_protocol.specs.Calls.{Answer, Cause, PayloadTooLong, BadPayload, NotOpen, WindowFull, NodeFull, Rollover}
 use Rattle.rm_protocol.specs.Calls.{if_room, is_open, on_outgoing, refusal, send, send_out}
 use Rattle.rm_protocol.specs.Terms.{Terms}
@@ -33,7 +33,7 @@ send_out-is : (terms : Terms) (r : List Fact) (place s : ℕ) (p : Text) → sen
     ≡ unless_refused (option_or (payload_cause terms p) (window_cause r s)) (if_room terms place (sent r s p))
 send_out-is terms r place s p =
     tested (nat_lt payload_bytes (length p)) (not (terms.is_content p)) (not (is_open (phase r s)))
-    (nat_le window (unacked r s)) (nat_le most_unacked (all_unacked r)) (nat_le max_number (length (accepted r s)))
+    (nat_le window (unacked r s)) (nat_le most_unacked (all_unacked r)) (nat_le max_number (accepted_count r s))
   where
     tested : (a b c d e f : Bool) → cond a (refusal (PayloadTooLong (length p))) (cond b (refusal BadPayload)
         (cond c (refusal NotOpen) (cond d (refusal (WindowFull (unacked r s)))
@@ -68,7 +68,7 @@ node-full r s all opens few is many =
   where
     tested : (x y z : Bool) → x ≡ false → y ≡ false → z ≡ true → Some (NodeFull all)
         ≡ cond x (Some NotOpen) (cond y (Some (WindowFull (unacked r s))) (cond z (Some (NodeFull (all_unacked r)))
-        (cond (nat_le max_number (length (accepted r s))) (Some Rollover) None)))
+        (cond (nat_le max_number (accepted_count r s)) (Some Rollover) None)))
     tested false false true e f g = ap (λ (n : ℕ). Some (NodeFull n)) is
     tested true y z e f g = absurd (cc)
     tested false true z e f g = absurd (cc)

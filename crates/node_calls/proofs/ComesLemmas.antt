@@ -3,14 +3,13 @@ use Rattle.std.proofs.Common.{◌≡◌, ℕ, ◌+◌, true, List, [], ◌∷◌
 use Rattle.std.proofs.Common.{subst, ◌∙◌, Option, Some}
 use Rattle.std.specs.Prelude.{codes}
 use Rattle.std.specs.Option.{option_to_list}
-use Rattle.rm_base.specs.Numbered.{numbered}
 use Rattle.rm_elements.specs.declared.lifecycle.Lifecycle.TheVariants as life
 use Rattle.rm_message.specs.declared.message.Message.{Message}
 use Rattle.record_batch.specs.declared.record.OwnOffer.{OwnOffer}
 use Rattle.record_batch.specs.Fact.{Fact, Creating, Accepted, Closing, Ending}
 use Rattle.sequence_table.specs.Words.{Text, last_or}
 use Rattle.sequence_table.specs.Makers.{counter, makers}
-use Rattle.sequence_table.specs.Sources.{accepted, out_ident, tickets}
+use Rattle.sequence_table.specs.Sources.{accepted_count, out_ident, payload_at, tickets}
 use Rattle.sequence_table.specs.Find.{peer}
 use Rattle.sequence_table.specs.Fits.{all_fit}
 use Rattle.rm_protocol.specs.Calls.{Wish, adds, offer_of}
@@ -52,9 +51,9 @@ end-ticket r s t k is =
 
 -- the payload is the last that is accepted
 pub sent-last : (r : List Fact) (s : ℕ) (p : Text) (k : KnownRecords) → IsWith r (Accepted s p) k
-    → numbered (accepted (all_records k) s) (length (accepted (all_records k) s)) ≡ Some p
+    → payload_at (all_records k) s (accepted_count (all_records k) s) ≡ Some p
 sent-last r s p k is =
-    subst (λ (rs : List Fact). numbered (accepted rs s) (length (accepted rs s)) ≡ Some p)
+    subst (λ (rs : List Fact). payload_at rs s (accepted_count rs s) ≡ Some p)
     (sym (both r (Accepted s p) k is)) (accepted-last r s p)
 
 -- ---- what is said

@@ -7,9 +7,10 @@ use Rattle.std.proofs.lemmas.Grind.{flat_map-append}
 use Rattle.rm_base.specs.Numbered.{numbered}
 use Rattle.rm_base.specs.declared.message.Cause.TheVariants.{Expired}
 use Rattle.record_batch.specs.Fact.{Fact, Ended}
-use Rattle.sequence_table.specs.Words.{at_seq}
+use Rattle.sequence_table.specs.Words.{at_seq, last_or}
 use Rattle.sequence_table.specs.Makers.{Maker, Outgoing, Offered, Incoming, Taken, makers, makers_of, maker}
-use Rattle.sequence_table.specs.Sources.{accepted, accepted_of, out_ident, phase, ticket_of, tickets}
+use Rattle.sequence_table.specs.Sources.{accepted, accepted_of, dropped, dropped_of, out_ident, phase, ticket_of}
+use Rattle.sequence_table.specs.Sources.{tickets}
 use Rattle.sequence_table.specs.Find.{peer}
 use Rattle.rm_destination.specs.Incoming.{is_past}
 use Rattle.sequence_table.specs.Destinations.{deadline_of, has_end, is_over}
@@ -44,6 +45,10 @@ accepted-none : (s : ℕ) (f : Fact) → IsEnding f → accepted_of s f ≡ []
 accepted-none s (Ended seq cause last) h = refl
 accepted-none s _ h = absurd h
 
+dropped-none : (s : ℕ) (f : Fact) → IsEnding f → dropped_of s f ≡ []
+dropped-none s (Ended seq cause last) h = refl
+dropped-none s _ h = absurd h
+
 ticket-none : (f : Fact) → IsEnding f → ticket_of f ≡ []
 ticket-none (Ended seq cause last) h = refl
 ticket-none _ h = absurd h
@@ -53,6 +58,9 @@ maker-ends r d s h = ap (λ (ms : List Maker). numbered ms s) (gathered makers_o
 
 pub accepted-ends : (r d : List Fact) (s : ℕ) → AllByRecursion IsEnding d → accepted (r ++ d) s ≡ accepted r s
 accepted-ends r d s h = gathered (accepted_of s) r d (accepted-none s) h
+
+pub dropped-ends : (r d : List Fact) (s : ℕ) → AllByRecursion IsEnding d → dropped (r ++ d) s ≡ dropped r s
+dropped-ends r d s h = ap (last_or 0) (gathered (dropped_of s) r d (dropped-none s) h)
 
 pub tickets-ends : (r d : List Fact) (s : ℕ) → AllByRecursion IsEnding d → tickets (r ++ d) s ≡ tickets r s
 tickets-ends r d s h = ap (at_seq s) (gathered ticket_of r d ticket-none h)

@@ -1,6 +1,6 @@
 -- What is known of a sequence where only ends of incoming sequences are ahead, and the messages of keys one by one.
 use Rattle.std.proofs.Common.{◌≡◌, ℕ, zero, suc, ◌+◌, ◌<◌, ◌≤◌, ◌==◌, ◌^◌, Bool, true, false, cond, List, [], ◌∷◌, ◌++◌}
-use Rattle.std.proofs.Common.{refl, sym, ap, subst, ◌∙◌, arith, Option, Some, None}
+use Rattle.std.proofs.Common.{◌-◌, refl, sym, ap, ap₂, subst, ◌∙◌, arith, Option, Some, None}
 use Rattle.std.specs.Prelude.{codes, nat_le, IfSome, IfNone}
 use Rattle.std.specs.List.{AllByRecursion}
 use Rattle.std.proofs.lemmas.Bool.{and_parts, leb-true}
@@ -8,7 +8,7 @@ use Rattle.rm_base.specs.Numbered.{numbered}
 use Rattle.record_batch.specs.Fact.{Fact, Made}
 use Rattle.sequence_table.specs.Words.{Text, last_or}
 use Rattle.sequence_table.specs.Makers.{Maker, Outgoing, Offered, Incoming, Taken, counter, maker, number}
-use Rattle.sequence_table.specs.Sources.{accepted, out_ident, phase, tickets}
+use Rattle.sequence_table.specs.Sources.{out_ident, payload_at, phase, tickets}
 use Rattle.sequence_table.specs.Fits.{is_outgoing_side, fits, all_fit}
 use Rattle.rm_protocol.specs.Calls.{message_at}
 use Rattle.rm_protocol.specs.Messages.{create_request, data_at, data_by, finish_request, offer_by, request_at}
@@ -27,11 +27,11 @@ use Rattle.record_batch.specs.declared.record.Via.{Via}
 use Rattle.node_messages.specs.Requests.{IsSmall, create_with, offer_with}
 use Rattle.sequence_table.specs.Find.{peer, peer_of}
 use Rattle.node_tables.specs.Reads.{outgoing_in, outgoing_of, ticket_in, ticket_of}
-use Rattle.rm_source.specs.Outgoing.{Sending}
+use Rattle.rm_source.specs.Outgoing.{Sending, payload_at as payload_known}
 use Rattle.sequence_table.specs.Told.{first_ticket, last_onto, sending}
 use Rattle.node_calls.specs.Records.{IsEnding, is_finishing}
 use Rattle.node_calls.proofs.DrawnLemmas.{drawn_for, maker-drawn}
-use Rattle.node_calls.proofs.EndLemmas.{accepted-ends, maker-ends, tickets-ends}
+use Rattle.node_calls.proofs.EndLemmas.{accepted-ends, dropped-ends, maker-ends, tickets-ends}
 use Rattle.node_calls.proofs.RequestLemmas.{with_offer}
 use Rattle.node_calls.proofs.TicketLemmas.{ticket-drawn, ticket-last, ticket-none}
 
@@ -71,19 +71,19 @@ sends-to None to e = absurd (cc)
 
 -- a message whose parts are known
 pub data-known : (r : List Fact) (s i : ℕ) (to : Epr) (q : Text) (p : Option Text) → Some to ≡ peer r s
-    → Some q ≡ out_ident r s → p ≡ numbered (accepted r s) i → data_by (Some to) (Some q) i p ≡ data_at r s i
+    → Some q ≡ out_ident r s → p ≡ payload_at r s i → data_by (Some to) (Some q) i p ≡ data_at r s i
 data-known r s i to q p there named is =
     ap (data_by (Some to) (Some q) i) is
-    ∙ ap (λ (o : Option Text). data_by (Some to) o i (numbered (accepted r s) i)) named
-    ∙ ap (λ (o : Option Epr). data_by o (out_ident r s) i (numbered (accepted r s) i)) there
+    ∙ ap (λ (o : Option Text). data_by (Some to) o i (payload_at r s i)) named
+    ∙ ap (λ (o : Option Epr). data_by o (out_ident r s) i (payload_at r s i)) there
 
 -- ---- what the tables have, with ends ahead
 
 pub payload-there : (r d : List Fact) (s i : ℕ) (t : Sending) → AllByRecursion IsEnding d → t ≡ sending r s
-    → numbered t.accepted i ≡ numbered (accepted (r ++ d) s) i
+    → payload_known t i ≡ payload_at (r ++ d) s i
 payload-there r d s i t h is =
-    ap (λ (x : Sending). numbered x.accepted i) is
-    ∙ ap (λ (ps : List Text). numbered ps i) (sym (accepted-ends r d s h))
+    ap (λ (x : Sending). payload_known x i) is
+    ∙ ap₂ (λ (ps : List Text) (n : ℕ). numbered ps (i - n)) (sym (accepted-ends r d s h)) (sym (dropped-ends r d s h))
 
 pub payload-none : (r d : List Fact) (s : ℕ) → AllByRecursion IsEnding d → is_outgoing_side (maker (r ++ d) s) ≡ true
     → None ≡ outgoing_in r s → ⊥

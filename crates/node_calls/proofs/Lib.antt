@@ -1,6 +1,7 @@
 mod AckLemmas
 mod CauseLemmas
 mod ComesLemmas
+mod ConsumeLemmas
 mod DrawnLemmas
 mod RequestLemmas
 mod StoredLemmas

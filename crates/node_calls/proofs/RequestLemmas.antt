@@ -1,5 +1,5 @@
 -- What is said after one more record: the request that a sequence waits with then, or its last message.
-use Rattle.std.proofs.Common.{◌≡◌, ℕ, ◌+◌, true, cond, List, [], ◌∷◌, ◌++◌, length}
+use Rattle.std.proofs.Common.{◌≡◌, ℕ, ◌+◌, ◌-◌, true, cond, List, [], ◌∷◌, ◌++◌, length}
 use Rattle.std.proofs.Common.{suc, refl, ap, ◌∙◌, arith, Option, Some, None}
 use Rattle.std.specs.Prelude.{codes, slice_get}
 use Rattle.std.specs.Option.{option_or}
@@ -17,8 +17,8 @@ use Rattle.record_batch.specs.declared.record.Via.{Via}
 use Rattle.record_batch.specs.Fact.{Fact, Creating, Accepted, Closing, Ending}
 use Rattle.sequence_table.specs.Words.{Text, at_seq, last_or}
 use Rattle.sequence_table.specs.Makers.{Outgoing, makers, makers_of, maker}
-use Rattle.sequence_table.specs.Sources.{accepted, accepted_of, first_phase, mark_of, marks, out_ident, phase}
-use Rattle.sequence_table.specs.Sources.{ticket_of, tickets}
+use Rattle.sequence_table.specs.Sources.{accepted, accepted_count, accepted_of, dropped, first_phase, mark_of}
+use Rattle.sequence_table.specs.Sources.{marks, out_ident, payload_at, phase, ticket_of, tickets}
 use Rattle.sequence_table.specs.Find.{peer, plain_endpoint}
 use Rattle.sequence_table.specs.Fits.{all_fit}
 use Rattle.sequence_table.specs.GatherLemmas.{at_seq-more, flat_map-more, last_or-append}
@@ -77,9 +77,9 @@ accepted-more r s p =
     flat_map-more (accepted_of s) r (Accepted s p)
     ∙ ap (λ b. accepted r s ++ cond b (p ∷ []) []) (eq-eqb s s refl)
 
-pub accepted-count : (r : List Fact) (s : ℕ) (p : Text)
+accepted-length : (r : List Fact) (s : ℕ) (p : Text)
     → length (accepted (r ++ Accepted s p ∷ []) s) ≡ length (accepted r s) + 1
-accepted-count r s p = ap length (accepted-more r s p) ∙ length-append (accepted r s) (p ∷ [])
+accepted-length r s p = ap length (accepted-more r s p) ∙ length-append (accepted r s) (p ∷ [])
 
 get_behind : {A : Type 0} (xs ys : List A) (k : ℕ) → slice_get (xs ++ ys) (length xs + k) ≡ slice_get ys k
 get_behind [] ys k = let same : 0 + k ≡ k = omega arith in ap (slice_get ys) same
@@ -94,11 +94,12 @@ numbered-behind xs ys k n is =
     ap (numbered (xs ++ ys)) is ∙ numbered-next (xs ++ ys) (length xs + k) ∙ get_behind xs ys k
 
 pub accepted-last : (r : List Fact) (s : ℕ) (p : Text)
-    → numbered (accepted (r ++ Accepted s p ∷ []) s) (length (accepted (r ++ Accepted s p ∷ []) s)) ≡ Some p
+    → payload_at (r ++ Accepted s p ∷ []) s (accepted_count (r ++ Accepted s p ∷ []) s) ≡ Some p
 accepted-last r s p =
-    let count = accepted-count r s p in
-    ap (λ xs. numbered xs (length (accepted (r ++ Accepted s p ∷ []) s))) (accepted-more r s p)
-    ∙ numbered-behind (accepted r s) (p ∷ []) 0 _ (omega (arith, count))
+    let now = r ++ Accepted s p ∷ [] in
+    let more = accepted-length r s p in
+    ap (λ xs. numbered xs (accepted_count now s - dropped now s)) (accepted-more r s p)
+    ∙ numbered-behind (accepted r s) (p ∷ []) 0 _ (omega (arith, more))
 
 -- ---- a new sequence
 

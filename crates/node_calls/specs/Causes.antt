@@ -6,9 +6,10 @@ use Rattle.rm_base.specs.Message.{max_number}
 use Rattle.record_batch.specs.Fact.{Fact}
 use Rattle.sequence_table.specs.Words.{Text}
 use Rattle.sequence_table.specs.Makers.{Maker, Outgoing, Taken, maker}
-use Rattle.sequence_table.specs.Sources.{accepted, all_unacked, phase, unacked}
+use Rattle.sequence_table.specs.Sources.{accepted_count, all_unacked, phase, unacked}
+use Rattle.sequence_table.specs.Destinations.{inbox}
 use Rattle.rm_protocol.specs.Calls.{Answer, Cause, NoSequence, WrongSide, PayloadTooLong, BadPayload, NotOpen}
-use Rattle.rm_protocol.specs.Calls.{WindowFull, NodeFull, Rollover, is_open, refusal}
+use Rattle.rm_protocol.specs.Calls.{WindowFull, NodeFull, Rollover, PastInbox, is_open, refusal}
 use Rattle.rm_protocol.specs.Terms.{Terms}
 
 -- a call that is refused for a cause, or comes to this answer
@@ -36,8 +37,12 @@ window_cause r s =
     if not (is_open (phase r s)) then Some NotOpen
     else if nat_le limits.window (unacked r s) then Some (WindowFull (unacked r s))
     else if nat_le limits.most_unacked (all_unacked r) then Some (NodeFull (all_unacked r))
-    else if nat_le max_number (length (accepted r s)) then Some Rollover
+    else if nat_le max_number (accepted_count r s) then Some Rollover
     else None
+
+-- why the items of an inbox up to one can't be consumed
+abbrev pub inbox_cause : List Fact → ℕ → ℕ → Option Cause
+inbox_cause r s upto = if nat_lt (length (inbox r s)) upto then Some (PastInbox (length (inbox r s))) else None
 
 -- why a payload is not accepted for a sequence: the first reason that holds
 abbrev pub send_cause : Terms → List Fact → ℕ → Text → Option Cause

@@ -6,8 +6,8 @@ use Rattle.rm_message.specs.declared.message.Message.{Message}
 use Rattle.record_batch.specs.Fact.{Fact, Creating, Accepted, Closing, Closed, Ending, Ended}
 use Rattle.sequence_table.specs.Words.{Text}
 use Rattle.sequence_table.specs.Makers.{counter, maker, makers}
-use Rattle.sequence_table.specs.Sources.{accepted}
-use Rattle.rm_protocol.specs.Calls.{Answer, Done, Wish, adds, final_ack, made_by, offer_of}
+use Rattle.sequence_table.specs.Sources.{accepted_count}
+use Rattle.rm_protocol.specs.Calls.{Answer, Done, Wish, adds, cursor_to, final_ack, made_by, offer_of}
 use Rattle.rm_protocol.specs.Messages.{data_at, request_at}
 use Rattle.rm_protocol.specs.Terms.{Terms}
 use Rattle.rm_protocol.specs.Waiting.{no_moves}
@@ -26,7 +26,7 @@ asked r wish =
 -- a payload is accepted
 abbrev pub sent : List Fact → ℕ → Text → Answer
 sent r s payload =
-    adds r (Accepted s payload ∷ []) (λ now. option_to_list (data_at now s (length (accepted r s) + 1)))
+    adds r (Accepted s payload ∷ []) (λ now. option_to_list (data_at now s (accepted_count r s + 1)))
 
 -- an outgoing sequence is being closed
 abbrev pub closing : List Fact → ℕ → Answer
@@ -36,6 +36,10 @@ closing r s = adds r (Closing s (counter r + 1) ∷ []) (λ now. option_to_list 
 abbrev pub closed : List Fact → ℕ → ℕ → Answer
 closed r s now =
     adds r (Closed s Operator 0 ∷ []) (λ after. final_ack after s now (made_by after (maker after s)))
+
+-- the items of an inbox up to one are consumed
+abbrev pub consumed : List Fact → ℕ → ℕ → Answer
+consumed r s upto = adds r (cursor_to r s upto) (λ after. [])
 
 -- an outgoing sequence is being ended
 abbrev pub ending : List Fact → ℕ → Answer

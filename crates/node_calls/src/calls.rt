@@ -4,6 +4,7 @@ ghost use Rattle.record_batch.specs.Fact.{fact_of};
 ghost use Rattle.rm_protocol.specs.Calls.{
   ask_ack as ask_ack_of,
   close as close_of,
+  consume as consume_of,
   create as create_of,
   end as end_of,
   nack_missing as nack_missing_of,
@@ -18,7 +19,7 @@ ghost use Rattle.call_answers.specs.Answers.{MayBeStored, seen, wish_seen};
 ghost use Rattle.call_answers.specs.Serving.{Serves};
 ghost use Rattle.node_calls.specs.Records.{CallsFit, IsServing};
 
-use crate::{asks, ends, nacks, polls, requests, sends, ticks};
+use crate::{asks, consumes, ends, nacks, polls, requests, sends, ticks};
 use call_answers::{Answer, Wish};
 use node_laws::laws::{own_terms_are_terms, there_are_own_terms};
 use node_tables::Tables;
@@ -83,6 +84,23 @@ pub fn close(
 {
     serving(tables, place);
     ends::close(alloc, tables, place, seq, now)
+}
+
+/// Consumes the items of an incoming sequence's inbox up to one.
+pub fn consume(
+    alloc: Global,
+    tables: &Tables,
+    place: u64,
+    seq: u32,
+    upto: u64,
+) -> Result<Answer, Memory>
+    requires { Serves tables.now.records place }
+    ensures is { (terms : Terms) → AreOwn terms
+        → IfOk result (λ a. seen a ≡ consume_of terms tables.now.records place seq upto) }
+    ensures stored { IfOk result (λ a. MayBeStored tables.now.records place (map fact_of a.batch.items)) }
+{
+    serving(tables, place);
+    consumes::consume(alloc, tables, place, seq, upto)
 }
 
 /// Ends an outgoing sequence.

@@ -3,7 +3,6 @@ ghost use Rattle.std.specs.Prelude.{◌≡◌, ◌+◌, ◌≤◌, ◌==◌, ◌
 ghost use Rattle.std.specs.Prelude.{OnOk};
 ghost use Rattle.std.specs.List.{AllByRecursion};
 ghost use Rattle.std.specs.Option.{option_copied, option_to_list};
-ghost use Rattle.rm_base.specs.Numbered.{numbered};
 ghost use Rattle.record_batch.specs.declared.record.Via.{Via as SpecVia};
 ghost use Rattle.rm_source.specs.declared.phase.OutPhase.TheVariants.{Closing, Ending};
 ghost use Rattle.rm_protocol.specs.Calls.{message_at as message_at_key, messages_at as messages_at_keys};
@@ -19,7 +18,7 @@ ghost use Rattle.node_messages.specs.Requests.{IsSmall, offer_with};
 ghost use Rattle.sequence_table.specs.Find.{peer as peer_in};
 ghost use Rattle.sequence_table.specs.Fits.{is_outgoing_side};
 ghost use Rattle.sequence_table.specs.Makers.{counter, maker};
-ghost use Rattle.sequence_table.specs.Sources.{accepted, phase as phase_in, tickets};
+ghost use Rattle.sequence_table.specs.Sources.{payload_at as payload_at_number, phase as phase_in, tickets};
 ghost use Rattle.sequence_table.specs.Words.{last_or};
 ghost use Rattle.node_calls.specs.Records.{IsEnding, IsServing, is_finishing};
 ghost use Rattle.tables_ahead.specs.Known.{all_records};
@@ -42,7 +41,7 @@ use wsa_headers::Epr;
 fn payload_at<'a>(ahead: &'a Known<'_>, seq: u32, number: u64) -> Option<&'a Blob>
     requires { AllByRecursion IsEnding ahead.now.delta }
     ensures { let r = all_records ahead.now in
-        is_outgoing_side (maker r seq) ≡ true → option_copied result ≡ numbered (accepted r seq) number }
+        is_outgoing_side (maker r seq) ≡ true → option_copied result ≡ payload_at_number r seq number }
 {
     an_outgoing_sequence_is_as_recorded();
     match ahead.tables().outgoing(seq) {

@@ -1,5 +1,5 @@
-//! What a node does of its own: create, send, close, end, tick, and what it asks its peers for, each as the answer that
-//! it comes to. It stands on the tables with a batch ahead, `tables_ahead`, on what a node says as values,
+//! What a node does of its own: create, send, close, end, consume, tick, and what it asks its peers for, each as the
+//! answer that it comes to. It stands on the tables with a batch ahead, `tables_ahead`, on what a node says as values,
 //! `node_messages`, and on the definitions of the protocol, `rm_protocol`.
 #![tactic(auto)]
 
@@ -7,6 +7,7 @@ mod acks;
 mod answers;
 mod asks;
 pub mod calls;
+mod consumes;
 mod ends;
 mod keys;
 mod nacks;
@@ -16,4 +17,4 @@ mod requests;
 mod sends;
 mod ticks;
 
-pub use calls::{ask_ack, close, create, end, nack_missing, poll, send, tick};
+pub use calls::{ask_ack, close, consume, create, end, nack_missing, poll, send, tick};

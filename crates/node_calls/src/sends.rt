@@ -3,7 +3,6 @@ ghost use Rattle.std.specs.Prelude.{◌≡◌, ◌≤◌, ◌<◌, ◌^◌, ◌+
 ghost use Rattle.std.specs.List.{AllByRecursion};
 ghost use Rattle.std.specs.Option.{option_map};
 ghost use Rattle.rm_base.specs.Limits.{payload_bytes};
-ghost use Rattle.rm_base.specs.Numbered.{numbered};
 ghost use Rattle.batch_size.specs.Room.{HasRoom};
 ghost use Rattle.batch_size.specs.Typed.{IsTyped};
 ghost use Rattle.record_batch.specs.Fact.{fact_of};
@@ -12,7 +11,7 @@ ghost use Rattle.rm_protocol.specs.Messages.{data_at};
 ghost use Rattle.rm_protocol.specs.Terms.{Terms};
 ghost use Rattle.sequence_table.specs.Fits.{is_outgoing_side};
 ghost use Rattle.sequence_table.specs.Makers.{maker};
-ghost use Rattle.sequence_table.specs.Sources.{accepted};
+ghost use Rattle.sequence_table.specs.Sources.{accepted_count, payload_at};
 ghost use Rattle.node_laws.specs.OwnTerms.{AreOwn};
 ghost use Rattle.call_answers.specs.Answers.{cause_seen, seen};
 ghost use Rattle.node_calls.specs.Causes.{payload_cause, send_cause, window_cause};
@@ -30,7 +29,7 @@ use node_tables::Tables;
 use node_tables::laws::an_outgoing_sequence_is_as_recorded;
 use record_batch::Record;
 use rm_base::limits::{MOST_UNACKED, PAYLOAD_BYTES, WINDOW};
-use rm_base::{Blob, Memory};
+use rm_base::{Blob, MAX_NUMBER, Memory};
 use rm_message::Message;
 use soap_profile::check_payload;
 use std::alloc::Global;
@@ -52,7 +51,7 @@ fn payload_refusal(alloc: Global, payload: &Blob) -> Result<Option<Cause>, Memor
     Ok(None)
 }
 
-// Why an outgoing sequence takes no message. It never has so many that their numbers are used up.
+// Why an outgoing sequence takes no message.
 fn window_refusal(tables: &Tables, seq: u32) -> Option<Cause>
     requires side { is_outgoing_side (maker tables.now.records seq) ≡ true }
     ensures { option_map cause_seen result ≡ window_cause tables.now.records seq }
@@ -61,7 +60,6 @@ fn window_refusal(tables: &Tables, seq: u32) -> Option<Cause>
     let Some(outgoing) = tables.outgoing(seq) else {
         unreachable!()
     };
-    let _count = outgoing.accepted_len();
     if !is_open(outgoing.phase()) {
         return Some(Cause::NotOpen);
     }
@@ -72,6 +70,9 @@ fn window_refusal(tables: &Tables, seq: u32) -> Option<Cause>
     let all = tables.unacked();
     if all >= MOST_UNACKED {
         return Some(Cause::NodeFull { unacked: all });
+    }
+    if outgoing.accepted_len() >= MAX_NUMBER {
+        return Some(Cause::Rollover);
     }
     None
 }
@@ -104,10 +105,8 @@ fn last_message(
     seq: u32,
     payload: Blob,
 ) -> Result<Option<Message>, Memory>
-    requires { let sent = accepted (all_records ahead.now) seq in
-        numbered sent (length sent) ≡ Some payload }
-    ensures { let r = all_records ahead.now in
-        IfOk result (λ m. m ≡ data_at r seq (length (accepted r seq))) }
+    requires { let r = all_records ahead.now in payload_at r seq (accepted_count r seq) ≡ Some payload }
+    ensures { let r = all_records ahead.now in IfOk result (λ m. m ≡ data_at r seq (accepted_count r seq)) }
 {
     let Some(to) = peer(alloc, ahead, seq)? else {
         return Ok(None);

@@ -1,20 +1,20 @@
 -- The fresh batches of a node's records are those of a node.
-use Rattle.std.proofs.Common.{◌≡◌, inl, inr, ℕ, Bool, List, [], ◌∷◌, ◌++◌, length, refl, sym}
+use Rattle.std.proofs.Common.{◌≡◌, ℕ, Bool, List, [], ◌∷◌, ◌++◌, length, refl, sym}
 use Rattle.std.proofs.Common.{ap, ap₂, subst, ◌∙◌, arith, None, Some, ◌+◌, ◌-◌, ◌^◌, ◌&&◌, ◌||◌, cond, min}
-use Rattle.std.proofs.Common.{length-append}
+use Rattle.std.proofs.Common.{length-append, true, ◌==◌}
 use Rattle.std.specs.Prelude.{nat_le}
-use Rattle.std.specs.List.{AllByRecursion, flat_map, list_any}
-use Rattle.std.proofs.lemmas.Bool.{cases_Bool}
-use Rattle.ack_ranges.specs.Changes.{united}
+use Rattle.std.specs.List.{AllByRecursion, flat_map, list_all}
+use Rattle.std.proofs.lemmas.Bool.{and_parts, eqb-true, leb-true}
+use Rattle.ack_ranges.specs.Ranges.{IsCanonical}
 use Rattle.ack_ranges.specs.declared.range.Range.{Range}
 use Rattle.batch_size.specs.Typed.{AreKept, IsTyped}
 use Rattle.record_batch.specs.Batch.{batch_text}
 use Rattle.record_batch.specs.Fact.{Fact, Made, Creating, Created, Granted, Accepted, Acked, Received, Closing}
-use Rattle.record_batch.specs.Fact.{ClosedOut, Closed, Ending, EndedOut, Ended, Failed}
-use Rattle.record_batch.specs.Writable.{IsBatch, IsWritable}
-use Rattle.record_snapshot.specs.Same.{UnionsAreSets}
-use Rattle.record_snapshot.specs.Snapshot.{acks, snapshot, snapshot_from}
-use Rattle.record_snapshot.specs.SnapshotLemmas.{ack, other, kind, snapshot_last, snapshot_left_out, snapshot_other}
+use Rattle.record_batch.specs.Fact.{ClosedOut, Closed, Ending, EndedOut, Ended, Failed, Consumed, Dropped, Purged}
+use Rattle.record_batch.specs.Writable.{IsBatch, IsNumber32, IsWritable}
+use Rattle.record_snapshot.specs.EachLemmas.{each-acked, each-purged, keeps}
+use Rattle.record_snapshot.specs.Snapshot.{left_acked, passed, snapshot}
+use Rattle.rm_destination.specs.Messages.{is_empty}
 use Rattle.rm_disk.specs.Call.{Call}
 use Rattle.rm_journal.specs.Entries.{AllFit, block}
 use Rattle.rm_journal.specs.EntryLemmas.{fit_rest}
@@ -25,27 +25,37 @@ use Rattle.rm_protocol.specs.Calls.{StoreFull}
 use Rattle.rm_protocol.specs.Compact.{fit_as_entries as fit_by, fits_before as before_by, list_size}
 use Rattle.rm_protocol.specs.Node.{Node, alone, end_of as end_of_batches, node_end, records_in}
 use Rattle.rm_protocol.specs.Terms.{Terms}
-use Rattle.sequence_table.specs.Sources.{acked}
+use Rattle.sequence_table.specs.Destinations.{held}
+use Rattle.sequence_table.specs.Fits.{all_fit, fits, follows_at, is_first_run, is_incoming_side, is_up_to}
+use Rattle.sequence_table.specs.Makers.{maker}
+use Rattle.sequence_table.specs.Sources.{accepted_count}
 use Rattle.node_laws.specs.OwnTerms.{AreOwn}
-use Rattle.node_laws.specs.Records.{IsKept}
-use Rattle.snapshot_laws.specs.Kept.{KeptHasSets, SnapshotIsKept}
+use Rattle.node_laws.specs.Records.{AreValues, HasValues, IsKept}
+use Rattle.snapshot_laws.specs.Kept.{SnapshotIsKept}
 use Rattle.node_store.specs.Has.{AreOfNode, entries_of, Has, Holds}
 use Rattle.node_store.specs.Rewrites.{fit_as_entries, fresh_batches, fresh_entries, fresh_size, IsRewrittenAs}
 use Rattle.node_store.specs.Rewrites.{rewrite_refusal}
 use Rattle.node_store.specs.Stored.{Stored}
 use Rattle.node_store.proofs.HasLemmas.{all_places, end_of-batches, FitsReadBack, length-blocks}
-use Rattle.node_store.proofs.RewriteLemmas.{all_fit_of, fit_of}
+use Rattle.node_store.proofs.RewriteLemmas.{all_fit_of, fit_of, place_is}
 
 -- ---- values that are as their types keep them
 
-typed_of : (f : Fact) → IsWritable f → IsTyped f
+-- the values of a record of a snapshot that it has of the record in whose place it stands
+abbrev IsTypedBut : Fact → Type 0
+IsTypedBut (Acked seq ranges) = IsNumber32 seq
+IsTypedBut (Dropped seq upto) = IsNumber32 seq
+IsTypedBut (Purged seq ranges) = IsNumber32 seq
+IsTypedBut f = IsTyped f
+
+typed_of : (f : Fact) → IsWritable f → IsTypedBut f
 typed_of (Made node to) h = h
 typed_of (Creating ticket to v l offer) h = h
 typed_of (Created seq ident accept) h = (h.0, h.1)
 typed_of (Granted counter message_id acks_to v deadline l None) h = (h.0, h.1, h.3, h.4, tt)
 typed_of (Granted counter message_id acks_to v deadline l (Some o)) h = (h.0, h.1, h.3, h.4, h.5.0)
 typed_of (Accepted seq t) h = h.0
-typed_of (Acked seq rs) h = (h.0, h.1.canonical)
+typed_of (Acked seq rs) h = h.0
 typed_of (Received seq number p) h = (h.0, h.1)
 typed_of (Closing seq ticket) h = h
 typed_of (ClosedOut seq) h = h
@@ -54,38 +64,74 @@ typed_of (Ending seq ticket) h = h
 typed_of (EndedOut seq) h = h
 typed_of (Ended seq v last) h = h
 typed_of (Failed seq fault) h = h
+typed_of (Consumed seq upto) h = h
+typed_of (Dropped seq upto) h = h.0
+typed_of (Purged seq rs) h = h.0
 
-all_typed : (facts : List Fact) → AllByRecursion IsWritable facts → (more : List Fact) → AllByRecursion IsTyped more
-    → AllByRecursion IsTyped (facts ++ more)
+all_typed : (facts : List Fact) → AllByRecursion IsWritable facts → (more : List Fact)
+    → AllByRecursion IsTypedBut more → AllByRecursion IsTypedBut (facts ++ more)
 all_typed [] h more typed = typed
 all_typed (f ∷ facts) h more typed = (typed_of f h.0, all_typed facts h.1 more typed)
 
-typed_in : (batches : List (List Fact)) → AllByRecursion IsBatch batches → AllByRecursion IsTyped (records_in batches)
+typed_in : (batches : List (List Fact)) → AllByRecursion IsBatch batches
+    → AllByRecursion IsTypedBut (records_in batches)
 typed_in [] are = tt
 typed_in (batch ∷ batches) are =
     all_typed batch are.0.counted.each (records_in batches) (typed_in batches are.1)
 
--- ---- what a snapshot keeps of each record
+-- ---- the values of a snapshot
 
--- what each record keeps, where an Acked record keeps it with all numbers of its sequence
-keeps_by : (P : Fact → Type 0) (r before l : List Fact)
-    → ((s : ℕ) (ranges : List Range) → P (Acked s ranges) → P (Acked s (united [] (acked r s))))
-    → AllByRecursion P l → AllByRecursion P (snapshot_from r before l)
-keeps_by P r before [] sets each = tt
-keeps_by P r before (f ∷ behind) sets each = elim (kind f) as (λ g k. AllByRecursion P (g ∷ behind)
-    → AllByRecursion P (snapshot_from r before (g ∷ behind))) [
-      | ack seq ranges ↦ λ all. elim (cases_Bool (list_any (acks seq) behind)) [
-        | inl more ↦ subst (AllByRecursion P) (sym (snapshot_left_out r before seq ranges behind more))
-            (keeps_by P r (before ++ Acked seq ranges ∷ []) behind sets all.1)
-        | inr none ↦ subst (AllByRecursion P) (sym (snapshot_last r before seq ranges behind none))
-            (sets seq ranges all.0, keeps_by P r (before ++ Acked seq ranges ∷ []) behind sets all.1)
-      ]
-      | other g is ↦ λ all. subst (AllByRecursion P) (sym (snapshot_other r before g behind is))
-          (all.0, keeps_by P r (before ++ g ∷ []) behind sets all.1)
-    ] each
+-- the numbers from 1 to some n are canonical ranges
+first_run : (ranges : List Range) → list_all (is_up_to 9223372036854775807) ranges ≡ true
+    → is_first_run ranges ≡ true → IsCanonical ranges
+first_run [] within run = absurd cc
+first_run (x ∷ []) within run =
+    let ends = and_parts (x.lower == 1) (nat_le 1 x.upper) run in
+    let all = and_parts (is_up_to 9223372036854775807 x) true within in
+    let one = and_parts (nat_le 1 x.lower) (nat_le x.upper 9223372036854775807) all.0 in
+    let first : x.lower ≡ 1 = eqb-true x.lower 1 ends.0 in (
+      omega (arith, first),
+      omega (arith, first, leb-true 1 x.upper ends.1),
+      leb-true x.upper 9223372036854775807 one.1,
+      tt,
+    )
+first_run (x ∷ y ∷ more) within run = absurd cc
 
-typed_short : (r : List Fact) → UnionsAreSets r → AllByRecursion IsTyped r → AllByRecursion IsTyped (snapshot r)
-typed_short r sets typed = keeps_by IsTyped r [] r (λ s ranges h. (h.0, sets s)) typed
+-- the other values of a record are as they have to be where it may come after others
+typed_where : (r : List Fact) (f : Fact) → IsTypedBut f → HasValues f → fits r f ≡ true → IsTyped f
+typed_where r (Acked seq ranges) typed values fit = (typed, values)
+typed_where r (Dropped seq upto) typed values fit =
+    let parts = and_parts (follows_at r seq (Dropped seq upto))
+    ((accepted_count r seq == 0) && (nat_le 1 upto && nat_le upto 9223372036854775807)) fit in
+    let more = and_parts (accepted_count r seq == 0) (nat_le 1 upto && nat_le upto 9223372036854775807) parts.1 in
+    let ends = and_parts (nat_le 1 upto) (nat_le upto 9223372036854775807) more.1 in
+    (typed, omega (arith, leb-true upto 9223372036854775807 ends.1))
+typed_where r (Purged seq ranges) typed values fit =
+    let parts = and_parts (is_incoming_side (maker r seq))
+    (is_empty (held r seq) && (list_all (is_up_to 9223372036854775807) ranges && is_first_run ranges)) fit in
+    let more = and_parts (is_empty (held r seq))
+    (list_all (is_up_to 9223372036854775807) ranges && is_first_run ranges) parts.1 in
+    let both = and_parts (list_all (is_up_to 9223372036854775807) ranges) (is_first_run ranges) more.1 in
+    (typed, first_run ranges both.0 both.1)
+typed_where r f typed values fit = typed
+
+each_typed : (r l : List Fact) → AllByRecursion IsTypedBut l → AreValues l → all_fit r l ≡ true
+    → AllByRecursion IsTyped l
+each_typed r [] typed values fit = tt
+each_typed r (f ∷ l) typed values fit =
+    let parts = and_parts (fits r f) (all_fit (r ++ f ∷ []) l) fit in
+    (typed_where r f typed.0 values.0 parts.0, each_typed (r ++ f ∷ []) l typed.1 values.1 parts.1)
+
+typed_short : (r : List Fact) → AllByRecursion IsTypedBut r → IsKept (snapshot r)
+    → AllByRecursion IsTyped (snapshot r)
+typed_short r typed kept =
+    each_typed [] (snapshot r) (keeps IsTypedBut r [] r (record {
+      acks_ = λ s ranges has. each-acked IsTypedBut s (left_acked r s) has;
+      accepts = λ s p from has. has;
+      drops = λ s u has. has;
+      receives = λ s n p has. each-purged IsTypedBut s (passed r s) has.0;
+      purges = λ s ranges has. each-purged IsTypedBut s (passed r s) has;
+    }) typed) kept.values kept.node.fit
 
 -- ---- each record as a batch
 
@@ -98,18 +144,16 @@ batches_alone reads (f ∷ r) fit typed kept = (
 )
 
 -- those of the snapshot of a node's records are batches of a node
-pub fresh_of_node : FitsReadBack → SnapshotIsKept → KeptHasSets → (batches : List (List Fact))
-    (past : List Call) (old : Stored) → Has batches past old → rewrite_refusal old ≡ None
-    → AreOfNode (fresh_batches old.records)
-fresh_of_node reads short sets batches past old has none =
+pub fresh_of_node : FitsReadBack → SnapshotIsKept → (batches : List (List Fact)) (past : List Call) (old : Stored)
+    → Has batches past old → rewrite_refusal old ≡ None → AreOfNode (fresh_batches old.records)
+fresh_of_node reads short batches past old has none =
     let r = old.records in
     let is : records_in batches ≡ r = sym has.holds.records in
-    let old_kept = subst IsKept is has.are.kept in
-    let kept = short r old_kept in
-    let typed = subst (AllByRecursion IsTyped) is (typed_in batches has.are.each) in
+    let kept = short r (subst IsKept is has.are.kept) in
+    let typed = subst (AllByRecursion IsTypedBut) is (typed_in batches has.are.each) in
     record {
       each = batches_alone reads (snapshot r) (all_fit_of (entries_of (alone (snapshot r))) (fit_of old none))
-          (typed_short r (sets r old_kept) typed)
+          (typed_short r typed kept)
           (all_places [] (snapshot r) kept.node.each);
       kept = subst IsKept (sym (records-alone (snapshot r))) kept;
     }
@@ -151,6 +195,7 @@ as_protocol terms own batches past old x holds are at =
     ap₂ (λ (e n : ℕ). nat_le (e + 1 + n) 268435456) end size in
     record {
       start = ap₂ (λ (b : Bool) (e : ℕ). cond b 25 (e + 1)) before end;
-      may = ap₂ (λ (f p : Bool). f && p) fit (ap₂ (λ (b w : Bool). b || w) before within);
+      may = ap₂ (λ (f p : Bool). f && p) fit
+          (ap₂ (λ (b w : Bool). b || w) before within ∙ sym (place_is old.journal total));
       cause = ap₂ (λ (e n : ℕ). StoreFull e (min (n + 1) (2 ^ 64 - 1))) end size;
     }

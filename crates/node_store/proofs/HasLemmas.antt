@@ -8,7 +8,7 @@ use Rattle.batch_size.specs.Room.{HasRoom}
 use Rattle.batch_size.specs.Typed.{AreKept, IsTyped}
 use Rattle.record_batch.specs.Batch.{batch_at, batch_text}
 use Rattle.record_batch.specs.Fact.{Fact, Made, Creating, Created, Granted, Accepted, Acked, Received, Closing}
-use Rattle.record_batch.specs.Fact.{ClosedOut, Closed, Ending, EndedOut, Ended, Failed}
+use Rattle.record_batch.specs.Fact.{ClosedOut, Closed, Ending, EndedOut, Ended, Failed, Consumed, Dropped, Purged}
 use Rattle.record_batch.specs.Writable.{IsBatch, IsWritable}
 use Rattle.rm_disk.specs.Call.{Call}
 use Rattle.rm_journal.specs.Entries.{Bank, block}
@@ -100,6 +100,9 @@ values_of (Ending seq ticket) h = tt
 values_of (EndedOut seq) h = tt
 values_of (Ended seq v last) h = tt
 values_of (Failed seq fault) h = tt
+values_of (Consumed seq upto) h = tt
+values_of (Dropped seq upto) h = tt
+values_of (Purged seq rs) h = tt
 
 all_values : (facts : List Fact) → AllByRecursion IsWritable facts → (more : List Fact) → AreValues more
     → AreValues (facts ++ more)
@@ -135,6 +138,9 @@ kept_places (Ending seq ticket) h = tt
 kept_places (EndedOut seq) h = tt
 kept_places (Ended seq v last) h = tt
 kept_places (Failed seq fault) h = tt
+kept_places (Consumed seq upto) h = tt
+kept_places (Dropped seq upto) h = tt
+kept_places (Purged seq rs) h = tt
 
 pub all_places : (r delta : List Fact) → AllByRecursion KeepsLimits (r ++ delta) → AllByRecursion AreKept delta
 all_places [] [] h = tt

@@ -1,20 +1,24 @@
 -- What a mount finds, and where it finds none.
-use Rattle.std.proofs.Common.{◌≡◌, ℕ, ◌<◌, ◌≤◌, ◌^◌, List, [], ◌∷◌, length}
-use Rattle.std.proofs.Common.{sym, ap, subst, ◌∙◌, arith, length-append}
+use Rattle.std.proofs.Common.{◌≡◌, ◌⊎◌, inl, inr, ℕ, ◌+◌, ◌<◌, ◌≤◌, ◌^◌, List, [], ◌∷◌, length}
+use Rattle.std.proofs.Common.{refl, sym, ap, subst, ◌∙◌, arith, length-append}
 use Rattle.std.specs.List.{AllByRecursion, flat_map}
 use Rattle.record_batch.specs.Batch.{batch_text}
 use Rattle.record_batch.specs.Fact.{Fact}
 use Rattle.record_batch.specs.Writable.{IsBatch}
 use Rattle.rm_disk.specs.Call.{Call, seen_of}
-use Rattle.rm_journal.specs.Entries.{Bank, block, StandsAt}
-use Rattle.rm_journal.specs.EntryLemmas.{end_is, length-block, stands_for_one}
-use Rattle.rm_journal.specs.Journal.{Fits}
-use Rattle.rm_journal.specs.JournalState.{JournalState, end_of}
+use Rattle.rm_journal.specs.Entries.{block, list_of, StandsAsBefore, StandsAt}
+use Rattle.rm_journal.specs.EntryLemmas.{end_is, length-block}
+use Rattle.rm_journal.specs.Journal.{Fits, IsTooLong as IsLongBefore}
+use Rattle.rm_journal.specs.declared.error.JournalError.{JournalError}
+use Rattle.rm_journal.specs.declared.error.JournalError.TheVariants.{Memory, Disk, NotAJournal, Full}
+use Rattle.rm_journal.specs.JournalState.{JournalState, end_of, journal_of}
 use Rattle.rm_protocol.specs.Node.{records_in}
 use Rattle.sequence_table.specs.Makers.{counter}
 use Rattle.node_laws.specs.Records.{AreValues, IsKept}
-use Rattle.node_store.specs.Has.{AreOfNode, entries_of, Holds, StandsForBatches}
-use Rattle.node_store.specs.Mounted.{AreReplayed, AreReplayedFrom, Finds, KeepsWindows, Replays}
+use Rattle.node_store.specs.Has.{AreOfNode, entries_of, Has}
+use Rattle.node_store.specs.Imported.{Imports, IsTooLong}
+use Rattle.node_store.specs.declared.error.ImportError.TheVariants.{Full as FullBefore}
+use Rattle.node_store.specs.Mounted.{AreReplayed, AreReplayedFrom, AreServed, Finds, KeepsWindows, Replays}
 use Rattle.node_store.specs.Stored.{IsServing, stored}
 use Rattle.node_store.proofs.CommitLemmas.{DrawsFew, counter-more}
 use Rattle.node_store.proofs.HasLemmas.{ReadsBack, same_batches}
@@ -43,36 +47,91 @@ kept_of values journal r from serving windows =
     })
 
 -- the batches that were read are those of a node
-pub found : HaveValues → (old now : List Call) (entries : List (List ℕ)) (journal : JournalState) (r : List Fact)
-    → StandsAt journal.bank entries (seen_of old) → Fits entries now journal → Replays entries r → IsServing journal r
-    → KeepsWindows r → Finds old now (stored journal r)
-found values old now entries journal r stands fits replays serving windows =
-    let bs = replays.batches in
-    let are = replays.replayed.are in
-    let holds : Holds bs now (stored journal r) = record {
-      journal = subst (λ (es : List (List ℕ)). Fits es now journal) are fits;
-      records = replays.records;
-    } in
-    record {
-      batches = bs;
-      were = subst (λ (es : List (List ℕ)). StandsAt journal.bank es (seen_of old)) are stands;
-      has = record {
-        holds = holds;
-        are = record {
-          each = replays.replayed.each;
-          kept = subst IsKept replays.records
-              (kept_of values journal r (record { entries = entries; replays = replays }) serving windows);
-        };
-      };
-    }
+pub served : HaveValues → (entries : List (List ℕ)) (journal : JournalState) (r : List Fact) → Replays entries r
+    → IsServing journal r → KeepsWindows r → AreServed entries r
+served values entries journal r replays serving windows = record {
+  batches = replays.batches;
+  node = record {
+    each = replays.replayed.each;
+    kept = subst IsKept replays.records
+        (kept_of values journal r (record { entries = entries; replays = replays }) serving windows);
+  };
+  are = replays.replayed.are;
+  records = replays.records;
+}
+
+-- and the disk has them
+has_served : (now : List Call) (entries : List (List ℕ)) (journal : JournalState) (r : List Fact)
+    → Fits entries now journal → (are : AreServed entries r) → Has are.batches now (stored journal r)
+has_served now entries journal r fits are = record {
+  holds = record {
+    journal = subst (λ (es : List (List ℕ)). Fits es now journal) are.are fits;
+    records = are.records;
+  };
+  are = are.node;
+}
+
+-- as it had them when it read
+pub found : (old now : List Call) (entries : List (List ℕ)) (journal : JournalState) (r : List Fact)
+    → StandsAt journal.bank entries (seen_of old) → Fits entries now journal → AreServed entries r
+    → Finds old now (stored journal r)
+found old now entries journal r stands fits are = record {
+  batches = are.batches;
+  were = subst (λ (es : List (List ℕ)). StandsAt journal.bank es (seen_of old)) are.are stands;
+  has = has_served now entries journal r fits are;
+}
+
+-- or as the bytes had them of which it was made
+pub imported : (bytes : List ℕ) (now : List Call) (entries : List (List ℕ)) (journal : JournalState) (r : List Fact)
+    → StandsAsBefore entries bytes → journal ≡ journal_of entries → Fits entries now journal → AreServed entries r
+    → Imports bytes now (stored journal r)
+imported bytes now entries journal r stands is fits are = record {
+  batches = are.batches;
+  were = subst (λ (es : List (List ℕ)). StandsAsBefore es bytes) are.are stands;
+  has = has_served now entries journal r fits are;
+  journal = is ∙ ap journal_of are.are;
+}
+
+-- a journal that was made of such bytes ends within what memory can hold, and behind its start
+pub ends_before : (journal : JournalState) (entries : List (List ℕ)) → journal ≡ journal_of entries
+    → 25 + length (list_of entries) ≤ 268435456 → (end_of journal < 2 ^ 61) × (journal.bank.start ≤ end_of journal)
+ends_before journal entries is fit =
+    let end : end_of journal ≡ 25 + length (flat_map block entries) =
+    ap end_of is ∙ end_is (journal_of entries) entries refl in
+    let start : journal.bank.start ≡ 25 = ap (λ (j : JournalState). j.bank.start) is in
+    (omega (arith, end, length-append (flat_map block entries) (0 ∷ [])), omega (arith, end, start))
+
+-- why such a journal is not made
+pub too_long : (bytes : List ℕ) (error : JournalError) (end needed : ℕ) → error ≡ Full end needed
+    → (error ≡ Memory) ⊎ (error ≡ Disk) ⊎ (error ≡ NotAJournal) ⊎ IsLongBefore bytes error
+    → IsTooLong bytes (FullBefore end needed)
+too_long bytes error end needed is why = elim why [
+  | inl e ↦ absurd cc
+  | inr other ↦ elim other [
+    | inl e ↦ absurd cc
+    | inr more ↦ elim more [
+      | inl e ↦ absurd cc
+      | inr long ↦ record {
+        entries = long.entries;
+        stands = long.stands;
+        long = long.long;
+        is = same long.entries long.is;
+      }
+    ]
+  ]
+]
+  where
+    same : (entries : List (List ℕ)) → error ≡ Full 25 (length (list_of entries))
+        → FullBefore end needed ≡ FullBefore 25 (length (list_of entries))
+    same entries e = cc
 
 -- ---- the batches of a node
 
 -- they are replayed
-pub replayed_of : (bank : Bank) (batches : List (List Fact)) (entries : List (List ℕ)) (bytes : List ℕ)
-    → AreOfNode batches → StandsForBatches batches bytes → StandsAt bank entries bytes → AreReplayed batches entries
-replayed_of bank batches entries bytes node stands read = record {
-  are = (stands_for_one bank stands.bank entries (entries_of batches) bytes read stands.stands).1;
+pub replayed_of : (batches : List (List Fact)) (entries : List (List ℕ)) → AreOfNode batches
+    → entries ≡ entries_of batches → AreReplayed batches entries
+replayed_of batches entries node are = record {
+  are = are;
   each = node.each;
   fit = node.kept.node.fit;
   kept = node.kept.node.each;

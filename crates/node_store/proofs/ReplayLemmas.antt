@@ -16,13 +16,12 @@ use Rattle.node_laws.specs.Records.{KeepsLimits}
 use Rattle.node_tables.specs.Ready.{StopsAt}
 use Rattle.node_tables.specs.declared.error.TableError.{TableError}
 use Rattle.node_tables.specs.declared.error.TableError.TheVariants.{Misfit}
-use Rattle.node_store.specs.declared.error.MountError.{MountError}
 use Rattle.node_store.specs.Has.{entries_of}
 use Rattle.node_store.specs.Mounted.{AreReplayed, AreReplayedFrom, IsAdded, IsMore, IsStuck, Replays}
 use Rattle.node_store.proofs.HasLemmas.{ReadsBack, entries_of-push, records_in-push, some_is}
 
 -- a result has one error
-pub err_is : {T : Type 0} (a b : MountError) (r : Result T MountError) → r ≡ Err a → r ≡ Err b → a ≡ b
+pub err_is : {T E : Type 0} (a b : E) (r : Result T E) → r ≡ Err a → r ≡ Err b → a ≡ b
 err_is a b r e f = cc
 
 -- ---- records that fit one after the other

@@ -1,7 +1,7 @@
 -- What a journal that is written anew measures, and what becomes of the node and its disk.
 use Rattle.std.proofs.Common.{◌≡◌, ◌≢◌, inl, inr, ℕ, suc, zero, ◌+◌, ◌-◌, ◌≤◌, ◌<◌, ◌^◌, Bool, true, false, ◌&&◌, min}
 use Rattle.std.proofs.Common.{List, [], ◌∷◌, ◌++◌, length, take, drop, map, get_or, refl, sym, ap, subst, ◌∙◌, arith}
-use Rattle.std.proofs.Common.{length-append, cond, ◌||◌, Option, Some, None}
+use Rattle.std.proofs.Common.{append_assoc, length-append, cond, ◌||◌, Option, Some, None}
 use Rattle.std.specs.Prelude.{nat_le, nat_lt, not, is_none, is_ok, Result, Ok, Err}
 use Rattle.std.specs.List.{flat_map}
 use Rattle.std.proofs.lemmas.Bool.{and_parts, cases_Bool, le-leb, leb-true, leb-false, lt-leb}
@@ -20,6 +20,7 @@ use Rattle.rm_journal.specs.EntryLemmas.{blocks-push, end_is, fit_cons, length-b
 use Rattle.rm_journal.specs.Journal.{Fits, fits_before, list_refusal, next_bank, place_for}
 use Rattle.rm_journal.specs.JournalState.{JournalState, end_of, journal_at}
 use Rattle.rm_journal.specs.declared.error.JournalError.{JournalError}
+use Rattle.rm_journal.specs.declared.error.JournalError.TheVariants.{Full as AtEnd}
 use Rattle.rm_protocol.specs.AloneLemmas.{records-alone}
 use Rattle.rm_protocol.specs.Node.{alone}
 use Rattle.sequence_table.specs.Makers.{counter}
@@ -108,15 +109,26 @@ slice_one {A} f xs k d low =
     at (x ∷ xs) zero low = refl
     at (x ∷ xs) (suc k) low = at xs k (omega (arith, low))
 
--- the entries of one record more
-pub entries_more : (r batch : List Fact) (k : ℕ) (d : Fact) (entries : List (List ℕ)) (entry : List ℕ) → k < length r
-    → batch ≡ get_or r k d ∷ [] → entry ≡ batch_text batch → entries ≡ entries_of (alone (take k r))
-    → entries ++ entry ∷ [] ≡ entries_of (alone (take (k + 1) r))
-entries_more r batch k d entries entry low is text are =
-    ap (λ (l : List (List ℕ)). l ++ entry ∷ []) are
-    ∙ ap (λ (e : List ℕ). entries_of (alone (take k r)) ++ e ∷ []) (text ∙ ap batch_text is)
-    ∙ sym (entries-alone_push (take k r) (get_or r k d))
-    ∙ sym (ap (λ (l : List Fact). entries_of (alone l)) (take_more r k d low))
+-- the entries of the first records are made, and those of the others are short enough
+pub record AreLeft (r : List Fact) (entries : List (List ℕ)) (rest : List Fact) : Type 0 where
+  pub are : entries ++ entries_of (alone rest) ≡ entries_of (alone r)
+  pub fit : fit_as_entries (entries_of (alone rest)) ≡ true
+
+-- the next of them is short enough
+pub next_fits : (r : List Fact) (entries : List (List ℕ)) (f : Fact) (rest : List Fact) → AreLeft r entries (f ∷ rest)
+    → length (batch_text (f ∷ [])) ≤ 4194304
+next_fits r entries f rest left =
+    leb-true (length (batch_text (f ∷ []))) 4194304
+    (and_parts (nat_le (length (batch_text (f ∷ []))) 4194304) (fit_as_entries (entries_of (alone rest))) left.fit).0
+
+-- and is made
+pub left_less : (r : List Fact) (entries : List (List ℕ)) (f : Fact) (rest : List Fact) → AreLeft r entries (f ∷ rest)
+    → AreLeft r (entries ++ batch_text (f ∷ []) ∷ []) rest
+left_less r entries f rest left = record {
+  are = append_assoc entries (batch_text (f ∷ []) ∷ []) (entries_of (alone rest)) ∙ left.are;
+  fit = (and_parts (nat_le (length (batch_text (f ∷ []))) 4194304) (fit_as_entries (entries_of (alone rest)))
+      left.fit).1;
+}
 
 -- ---- entries that are short enough
 
@@ -126,17 +138,6 @@ all_fit_of (entry ∷ entries) fit =
     let parts = and_parts (nat_le (length entry) 4194304) (fit_as_entries entries) fit in
     fit_cons entry entries (leb-true _ _ parts.0) (all_fit_of entries parts.1)
 
--- the text of each record alone is short enough
-pub fits_at : (r : List Fact) (k : ℕ) (d : Fact) → k < length r → fit_as_entries (entries_of (alone r)) ≡ true
-    → length (batch_text (get_or r k d ∷ [])) ≤ 4294967295
-fits_at [] k d low fit = absurd (omega arith)
-fits_at (f ∷ r) zero d low fit =
-    let parts = and_parts (nat_le (length (batch_text (f ∷ []))) 4194304) (fit_as_entries (entries_of (alone r))) fit in
-    omega (arith, leb-true (length (batch_text (f ∷ []))) 4194304 parts.0)
-fits_at (f ∷ r) (suc k) d low fit =
-    let parts = and_parts (nat_le (length (batch_text (f ∷ []))) 4194304) (fit_as_entries (entries_of (alone r))) fit in
-    fits_at r k d (omega (arith, low)) parts.1
-
 -- ---- whether there is a place
 
 le_not_lt : (a b : ℕ) → nat_le a b ≡ not (nat_lt b a)
@@ -145,19 +146,25 @@ le_not_lt a b = elim (cases_Bool (nat_lt b a)) [
   | inr less ↦ le-leb a b (omega (arith, leb-false (suc b) a less)) ∙ sym (ap (λ (x : Bool). not x) less)
 ]
 
-none_by : (down before long short : Bool) (x y : JournalError) → down ≡ false → short ≡ not long
-    → is_none (cond down (Some x) (cond before None (cond long (Some y) None))) ≡ (before || short)
-none_by true before long short x y up is = absurd cc
-none_by false true long short x y up is = refl
-none_by false false true short x y up is = sym is
-none_by false false false short x y up is = sym is
+none_by : (before long short : Bool) (x : JournalError) → short ≡ not long
+    → is_none (cond before None (cond long (Some x) None)) ≡ (before || short)
+none_by true long short x is = refl
+none_by false true short x is = sym is
+none_by false false short x is = sym is
 
--- the journal refuses a list where it has no place
+-- before the list that stands, or behind it in a journal that is no longer than it may be
+pub place_is : (journal : JournalState) (size : ℕ)
+    → has_place journal size ≡ (fits_before journal size || nat_le (end_of journal + 1 + size) 268435456)
+place_is journal size =
+    none_by (fits_before journal size) (nat_lt 268435456 (end_of journal + 1 + size))
+    (nat_le (end_of journal + 1 + size) 268435456) (AtEnd (end_of journal) (min (size + 1) (2 ^ 64 - 1)))
+    (le_not_lt (end_of journal + 1 + size) 268435456)
+
+-- a journal that is up refuses a list where it has no place
 placed_is : (journal : JournalState) (size : ℕ) → journal.is_down ≡ false
     → is_none (list_refusal journal size) ≡ has_place journal size
 placed_is journal size up =
-    none_by journal.is_down (fits_before journal size) (nat_lt 268435456 (end_of journal + 1 + size))
-    (nat_le (end_of journal + 1 + size) 268435456) _ _ up (le_not_lt (end_of journal + 1 + size) 268435456)
+    ap (λ (down : Bool). is_none (list_refusal (record journal { is_down = down }) size)) up
 
 pub not_refused : (journal : JournalState) (answer : Option JournalError) (fit placed : Bool) (size : ℕ)
     → journal.is_down ≡ false → answer ≡ list_refusal journal size → placed ≡ is_none answer
@@ -292,7 +299,8 @@ placed_within journal size placed short place = elim (cases_Bool (fits_before jo
   | inr fails ↦
       let at : place_for journal size ≡ end_of journal + 1 = ap (λ (b : Bool). cond b 25 (end_of journal + 1)) fails in
       let fits : nat_le (end_of journal + 1 + size) 268435456 ≡ true =
-      sym (ap (λ (b : Bool). b || nat_le (end_of journal + 1 + size) 268435456) fails) ∙ place in
+      sym (ap (λ (b : Bool). b || nat_le (end_of journal + 1 + size) 268435456) fails)
+      ∙ sym (place_is journal size) ∙ place in
       omega (arith, at, leb-true (end_of journal + 1 + size) 268435456 fits)
 ]
 

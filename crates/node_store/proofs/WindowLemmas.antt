@@ -10,10 +10,9 @@ use Rattle.ack_ranges.specs.declared.range.Range.{Range}
 use Rattle.ack_ranges.specs.Ranges.{in_ranges, IsCanonical, IsFront as IsFrontOf, IsGreatest, RisesFrom}
 use Rattle.rm_base.specs.Limits.{window}
 use Rattle.rm_base.specs.NumberSet.{has_number}
-use Rattle.rm_base.specs.declared.message.Payload.{Payload}
-use Rattle.rm_destination.specs.Incoming.{Receiving}
+use Rattle.rm_destination.specs.Incoming.{items, Receiving}
 use Rattle.rm_destination.specs.Laws.{FrontIsReached, IsFront}
-use Rattle.rm_destination.specs.Messages.{front_of, numbers_of}
+use Rattle.rm_destination.specs.Messages.{front_of, Item, numbers_of}
 use Rattle.record_batch.specs.Fact.{Fact, Made}
 use Rattle.sequence_table.specs.Fits.{all_fit, fits, is_incoming_side, is_outgoing_side}
 use Rattle.sequence_table.specs.Makers.{Maker, Outgoing, Offered, Incoming, Taken, maker, makers, nodes_of}
@@ -124,7 +123,7 @@ receives r s None f e = absurd (none-some f e)
 
 -- one that is there
 pub near_decides : IncomingIsAsRecorded → (r : List Fact) (s : ℕ) (f : Receiving) → Some f ≡ incoming_in r s
-    → (b : Bool) → ((b ≡ true) ↔ AreNear f.received) → ((b ≡ true) ↔ HasNear r s)
+    → (b : Bool) → ((b ≡ true) ↔ AreNear (items f)) → ((b ≡ true) ↔ HasNear r s)
 near_decides recorded r s f there b is =
     let told = recorded r s f (sym there) in
     let side = receives r s (maker r s) f (sym there) in (
@@ -147,7 +146,7 @@ below first n (x ∷ ranges) rises low =
     ap (λ (b : Bool). (b && nat_le n x.upper) || in_ranges ranges n) here ∙ rest
 
 -- the front of ranges is that of the messages
-one_front : (came : List (ℕ × Payload)) (ranges : List Range) (m : ℕ) → IsFront (numbers_of came) (front_of came)
+one_front : (came : List (ℕ × Item)) (ranges : List Range) (m : ℕ) → IsFront (numbers_of came) (front_of came)
     → IsFrontOf ranges m → ((n : ℕ) → in_ranges ranges n ≡ has_number (numbers_of came) n) → m ≡ front_of came
 one_front came ranges m reached is same =
     elim (cases_lt m (front_of came)) [
@@ -161,7 +160,7 @@ one_front came ranges m reached is same =
     ]
 
 -- the greatest number and the front decide
-pub are_near-decides : FrontIsReached → (came : List (ℕ × Payload)) (ranges : List Range) (m k d : ℕ)
+pub are_near-decides : FrontIsReached → (came : List (ℕ × Item)) (ranges : List Range) (m k d : ℕ)
     → IsCanonical ranges → ((n : ℕ) → in_ranges ranges n ≡ has_number (numbers_of came) n) → IsFrontOf ranges m
     → IsGreatest ranges k → d ≡ k - m → ((nat_le d window ≡ true) ↔ AreNear came)
 are_near-decides reached came ranges m k d canonical same is greatest far =

@@ -3,8 +3,7 @@ use Rattle.std.specs.Prelude.{◌≡◌, ◌+◌, ◌≤◌, ℕ, Bool, true, fa
 use Rattle.std.specs.List.{AllByRecursion}
 use Rattle.rm_base.specs.Limits as limits
 use Rattle.rm_base.specs.NumberSet.{has_number}
-use Rattle.rm_base.specs.declared.message.Payload.{Payload}
-use Rattle.rm_destination.specs.Messages.{front_of, numbers_of}
+use Rattle.rm_destination.specs.Messages.{front_of, Item, numbers_of}
 use Rattle.rm_disk.specs.Call.{Call, seen_of}
 use Rattle.record_batch.specs.Batch.{batch_text}
 use Rattle.record_batch.specs.Fact.{Fact}
@@ -35,6 +34,13 @@ pub record Finds (old new : List Call) (store : Stored) : Type 0 where
 -- bytes stand for no batches of a node, in either bank
 abbrev pub IsNoNode : List ℕ → Type 0
 IsNoNode bytes = (batches : List (List Fact)) → AreOfNode batches → StandsForBatches batches bytes → ⊥
+
+-- entries are the batches of a node, with these records
+pub record AreServed (entries : List (List ℕ)) (r : List Fact) : Type 0 where
+  pub batches : List (List Fact)
+  pub node : AreOfNode batches
+  pub are : entries ≡ entries_of batches
+  pub records : r ≡ records_in batches
 
 -- ---- entries, one after the other
 
@@ -87,7 +93,7 @@ pub record AreReplayedFrom (r : List Fact) : Type 0 where
 -- ---- what the records of a node keep all together
 
 -- no number is more than 1024 past the front of those that came
-abbrev pub AreNear : List (ℕ × Payload) → Type 0
+abbrev pub AreNear : List (ℕ × Item) → Type 0
 AreNear came = (n : ℕ) → has_number (numbers_of came) n ≡ true → n ≤ front_of came + limits.window
 
 -- an outgoing sequence has at most 1024 messages that are not acknowledged

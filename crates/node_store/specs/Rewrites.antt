@@ -1,6 +1,6 @@
 -- What a call does that writes the journal of a node anew.
-use Rattle.std.specs.Prelude.{◌≡◌, ◌⊎◌, ℕ, ◌+◌, ◌-◌, ◌^◌, ◌&&◌, ◌||◌, min, nat_le, Bool, true, false, if◌then◌else◌}
-use Rattle.std.specs.Prelude.{List, length, Option, Some, None, Result, Ok, Err}
+use Rattle.std.specs.Prelude.{◌≡◌, ◌⊎◌, ℕ, ◌+◌, ◌-◌, ◌^◌, ◌&&◌, min, nat_le, Bool, true, false, if◌then◌else◌}
+use Rattle.std.specs.Prelude.{is_none, List, length, Option, Some, None, Result, Ok, Err}
 use Rattle.std.specs.List.{list_all}
 use Rattle.rm_base.specs.Limits as limits
 use Rattle.record_batch.specs.Fact.{Fact}
@@ -10,7 +10,7 @@ use Rattle.rm_disk.specs.Fuse.{Burns}
 use Rattle.rm_disk.specs.Image.{OnlyLeaves}
 use Rattle.rm_disk.specs.Told.{Told}
 use Rattle.rm_journal.specs.Entries.{Bank, list_of}
-use Rattle.rm_journal.specs.Journal.{fits_before, next_bank}
+use Rattle.rm_journal.specs.Journal.{list_refusal, next_bank}
 use Rattle.rm_journal.specs.JournalState.{JournalState, end_of, journal_at}
 use Rattle.rm_protocol.specs.Calls.{StoreFull}
 use Rattle.rm_protocol.specs.Compact.{compact_cause, fresh_start, may_compact}
@@ -45,9 +45,9 @@ fresh_bank old = next_bank old.journal (fresh_entries old.records)
 abbrev pub fit_as_entries : List (List ℕ) → Bool
 fit_as_entries entries = list_all (λ (entry : List ℕ). nat_le (length entry) limits.entry_bytes) entries
 
--- a list of so many bytes fits before the list that stands, or behind it in a journal that is no longer than it may be
+-- the journal, while it is up, refuses no list of so many bytes
 abbrev pub has_place : JournalState → ℕ → Bool
-has_place journal size = fits_before journal size || nat_le (end_of journal + 1 + size) limits.journal_bytes
+has_place journal size = is_none (list_refusal (record journal { is_down = false }) size)
 
 -- why a list of so many bytes isn't written: one of its entries is too long, or the journal would be. The bytes that
 -- are wanted are told in 64 bits

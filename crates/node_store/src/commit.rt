@@ -1,10 +1,12 @@
 //! Records are written, all or none: the function that carries each promise of what a crash leaves.
 ghost use Rattle.std.specs.Prelude.{◌≡◌, ◌≢◌, ◌⊎◌, [], ◌∷◌, List, true, false, map, IsTrue, is_ok, IfOk, IfErr};
+ghost use Rattle.std.specs.List.{list_all};
 ghost use Rattle.batch_size.specs.Room.{IsWithin};
 ghost use Rattle.record_batch.specs.Fact.{Fact, Made, fact_of};
 ghost use Rattle.rm_base.specs.Text.{IsText};
 ghost use Rattle.rm_disk.specs.Cause.{HasCause};
 ghost use Rattle.rm_journal.specs.JournalState.{end_of};
+ghost use Rattle.node_tables.specs.Room.{has_room};
 ghost use Rattle.sequence_table.specs.Fits.{all_fit};
 ghost use Rattle.node_store.specs.Changes.{Changes};
 ghost use Rattle.node_store.specs.Has.{Holds};
@@ -36,7 +38,7 @@ pub fn first_batch(alloc: Global, number: u64, address: Uri) -> Result<Vec<Recor
 }
 
 /// Adds a batch of records to the journal, and then the records to the tables. All memory is taken before the first
-/// device call.
+/// device call. For Dropped and Purged no room is made, so a batch with one, which no call of a node has, wants memory.
 pub fn commit<D: Disk>(
     alloc: Global,
     journal: &mut Journal,
@@ -63,6 +65,9 @@ pub fn commit<D: Disk>(
     ensures cause { HasCause (D.told disk.old).faults (D.told disk.new).faults (is_disk result) }
 {
     a_batch_that_fits_is_short();
+    if !have_room(&batch) {
+        return Err(StoreError::Memory);
+    }
     tables.reserve(&batch)?;
     let entry = write_batch(alloc, &batch)?;
     match journal.append(disk, entry.as_slice()) {
@@ -78,5 +83,32 @@ pub fn commit<D: Disk>(
         Ok(()) => Ok(()),
         Err(TableError::Memory) => unreachable!(),
         Err(TableError::Misfit) => unreachable!(),
+    }
+}
+
+// Whether room is made for all of these records.
+fn have_room(batch: &[Record]) -> bool
+    ensures { result ≡ list_all has_room (map fact_of batch.now) }
+{
+    for given in batch {
+        if !has_room(given) {
+            return false;
+        }
+    }
+    true
+}
+
+// Whether room is made for a record: for those that a list that is written anew has alone, none is.
+fn has_room(given: &Record) -> bool
+    ensures { result ≡ has_room (fact_of given.now) }
+{
+    match given {
+        Record::Dropped { .. } => false,
+        Record::Purged { .. } => false,
+        Record::Made { .. } | Record::Creating { .. } | Record::Created { .. } => true,
+        Record::Granted { .. } | Record::Accepted { .. } | Record::Acked { .. } => true,
+        Record::Received { .. } | Record::Closing { .. } | Record::ClosedOut { .. } => true,
+        Record::Closed { .. } | Record::Ending { .. } | Record::EndedOut { .. } => true,
+        Record::Ended { .. } | Record::Failed { .. } | Record::Consumed { .. } => true,
     }
 }

@@ -72,6 +72,20 @@ pub enum RewriteError {
     Full { end: u64, needed: u64 },
 }
 
+/// Why a disk was not made that of the node whose journal of the layout before was given.
+#[derive(Clone, Copy, Debug, PartialEq, Eq, Error)]
+pub enum ImportError {
+    #[error("out of memory")]
+    Memory,
+    #[error("the disk failed")]
+    Disk,
+    #[error("the bytes are no journal of a node in the layout before")]
+    NotAJournal,
+    /// The journal would be longer than it may be: its list begins at `end`, and takes this many bytes.
+    #[error("no room for a journal of {needed} bytes more, which ends at {end}")]
+    Full { end: u64, needed: u64 },
+}
+
 impl From<Memory> for RewriteError {
     ghost from_gives = { λ _ e. e ≡ LacksMemory };
 

@@ -18,7 +18,7 @@ ghost use Rattle.node_store.specs.Stored.{Stored, with_batch};
 
 use batch_size::laws::a_batch_that_fits_is_read_back;
 use record_batch::laws::what_is_written_is_read;
-use snapshot_laws::laws::{a_node_has_sets, a_snapshot_is_kept};
+use snapshot_laws::laws::a_snapshot_is_kept;
 
 /// Bytes stand for one list of batches, where each is read back from its text.
 pub fn bytes_stand_for_one_list_of_batches()
@@ -52,7 +52,6 @@ pub fn fresh_batches_are_those_of_a_node()
 {
     a_batch_that_fits_is_read_back();
     a_snapshot_is_kept();
-    a_node_has_sets();
 }
 
 /// A journal is written anew where and whether the protocol says, whose terms are the node's own.

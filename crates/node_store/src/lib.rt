@@ -7,6 +7,7 @@ mod commit;
 mod endpoints;
 pub mod error;
 mod format;
+mod import;
 pub mod laws;
 mod limits;
 mod mount;
@@ -15,5 +16,5 @@ mod rewrite;
 pub mod store;
 mod windows;
 
-pub use error::{MountError, RewriteError, StoreError};
+pub use error::{ImportError, MountError, RewriteError, StoreError};
 pub use store::Store;

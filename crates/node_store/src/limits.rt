@@ -47,7 +47,8 @@ fn keeps_limits(alloc: Global, given: &Record) -> Result<bool, Memory>
         Record::Made { .. } | Record::Acked { .. } | Record::Received { .. } => Ok(true),
         Record::Closing { .. } | Record::ClosedOut { .. } | Record::Closed { .. } => Ok(true),
         Record::Ending { .. } | Record::EndedOut { .. } | Record::Ended { .. } => Ok(true),
-        Record::Failed { .. } => Ok(true),
+        Record::Failed { .. } | Record::Consumed { .. } => Ok(true),
+        Record::Dropped { .. } | Record::Purged { .. } => Ok(true),
     }
 }
 

@@ -1,7 +1,9 @@
 //! The journal of a node is written anew: the records of a snapshot, each as an entry of its own.
-ghost use Rattle.std.specs.Prelude.{◌≡◌, ◌≢◌, ◌≤◌, ◌^◌, ◌-◌, ℕ, List, true, false, min, length, map, IsTrue};
+ghost use Rattle.std.specs.Prelude.{◌≡◌, ◌≢◌, ◌≤◌, ◌^◌, ◌-◌, ℕ, List, [], ◌∷◌, true, false, min, length, map, IsTrue};
 ghost use Rattle.std.specs.Prelude.{is_ok, IfOk, IfErr, OnOk};
+ghost use Rattle.record_batch.specs.Batch.{batch_text};
 ghost use Rattle.record_batch.specs.Fact.{Fact, fact_of};
+ghost use Rattle.rm_base.specs.Limits.{entry_bytes};
 ghost use Rattle.rm_disk.specs.Cause.{HasCause};
 ghost use Rattle.rm_journal.specs.Entries.{list_of};
 ghost use Rattle.rm_protocol.specs.Node.{alone};
@@ -15,7 +17,7 @@ use crate::error::RewriteError;
 use batch_size::batch_len;
 use batch_size::laws::a_batch_that_fits_is_short;
 use node_tables::Tables;
-use record_batch::{Record, write_batch};
+use record_batch::{Record, Records, write_batch};
 use rm_base::limits::ENTRY_BYTES;
 use rm_base::{Blob, Memory};
 use rm_disk::Disk;
@@ -60,15 +62,25 @@ fn refusal(journal: &Journal, size: u64, fit: bool) -> Option<RewriteError>
     })
 }
 
-/// The entries of records, each of its own.
-fn entries_alone(alloc: Global, records: &[Record]) -> Result<Vec<Blob>, Memory>
-    requires { fit_as_entries (entries_of (alone (map fact_of records.now))) ≡ true }
-    ensures { IfOk result (λ entries. entries.items ≡ entries_of (alone (map fact_of records.now))) }
+/// The entry of a record alone.
+fn entry_alone(alloc: Global, given: Record) -> Result<Blob, Memory>
+    requires { length (batch_text (fact_of given ∷ [])) ≤ entry_bytes }
+    ensures { IfOk result (λ entry. entry ≡ batch_text (fact_of given ∷ [])) }
 {
     a_batch_that_fits_is_short();
+    let batch = [given];
+    write_batch(alloc, &batch)
+}
+
+/// The entries of records, each of its own. A record is given up as soon as it is written.
+fn entries_alone(alloc: Global, records: Records) -> Result<Vec<Blob>, Memory>
+    requires { fit_as_entries (entries_of (alone (map fact_of records))) ≡ true }
+    ensures { IfOk result (λ entries. entries.items ≡ entries_of (alone (map fact_of records))) }
+{
     let mut entries = Vec::with_capacity(alloc, records.len())?;
-    for k in 0..records.len() {
-        entries.push(write_batch(alloc, &records[k..k + 1])?)?;
+    let mut rest = records.into_vec().into_iter();
+    while let Some(given) = rest.next() {
+        entries.push(entry_alone(alloc, given)?)?;
     }
     Ok(entries)
 }
@@ -88,7 +100,7 @@ fn prepare(alloc: Global, journal: &Journal, tables: &mut Tables) -> Result<Vec<
     if let Some(refusal) = refusal(journal, size, fit) {
         return Err(refusal);
     }
-    Ok(entries_alone(alloc, records.as_slice())?)
+    Ok(entries_alone(alloc, records)?)
 }
 
 /// Writes the journal anew, and makes the tables those of the snapshot. All memory is taken before the first device

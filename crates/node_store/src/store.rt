@@ -1,27 +1,33 @@
 //! The journal of a node and the tables of its records.
 ghost use Rattle.std.specs.Prelude.{◌≡◌, ◌≢◌, ◌⊎◌, ◌<◌, ◌^◌, [], ◌∷◌, List, true, false, Err, length, map, IsTrue};
-ghost use Rattle.std.specs.Prelude.{is_ok, IfOk, IfErr};
+ghost use Rattle.std.specs.Prelude.{◌+◌, ◌≤◌, ℕ, is_ok, IfOk, IfErr};
 ghost use Rattle.batch_size.specs.Room.{HasRoom};
 ghost use Rattle.record_batch.specs.Fact.{Fact, Made, fact_of};
+ghost use Rattle.rm_base.specs.Limits.{journal_bytes};
 ghost use Rattle.rm_disk.specs.Call.{crashes_of, seen_of};
 ghost use Rattle.rm_disk.specs.Cause.{HasCause};
 ghost use Rattle.rm_disk.specs.Image.{MayLeave, OnlyLeaves};
+ghost use Rattle.rm_journal.specs.Entries.{list_of, StandsAsBefore};
 ghost use Rattle.rm_journal.specs.JournalState.{end_of};
 ghost use Rattle.sequence_table.specs.Fits.{all_fit};
 ghost use Rattle.node_laws.specs.Records.{IsKept};
 ghost use Rattle.node_store.specs.Changes.{Changes, KeepsUnarmed, WasNotMade};
 ghost use Rattle.node_store.specs.Has.{Has, Holds};
 ghost use Rattle.node_store.specs.Failed.{is_disk};
+ghost use Rattle.node_store.specs.Imported.{Imports, import_failed, IsNoNodeBefore, IsTooLong};
 ghost use Rattle.node_store.specs.Mounted.{Finds, has_failed, IsNoNode};
 ghost use Rattle.node_store.specs.Rewrites.{Answers, Rewrites, disk_failed, rewrite_refusal, rewritten};
 ghost use Rattle.node_store.specs.Stored.{IsServing, first_stored, stored_after};
 ghost use Rattle.node_store.specs.declared.error.StoreError.TheVariants.{Memory as WantsMemory, Disk as DiskFails};
 ghost use Rattle.node_store.specs.declared.error.MountError.TheVariants.{Memory as NoMemory, Disk as DiskBroke};
 ghost use Rattle.node_store.specs.declared.error.MountError.TheVariants.{NotAJournal as IsNoJournal};
+ghost use Rattle.node_store.specs.declared.error.ImportError.TheVariants.{Memory as LacksMemory, Disk as DiskFailed};
+ghost use Rattle.node_store.specs.declared.error.ImportError.TheVariants.{NotAJournal as BytesAreNone};
 
 use crate::commit::{commit, first_batch};
-use crate::error::{MountError, RewriteError, StoreError};
+use crate::error::{ImportError, MountError, RewriteError, StoreError};
 use crate::format::format;
+use crate::import::import;
 use crate::mount::find;
 use crate::rewrite::rewrite;
 use batch_size::laws::a_batch_is_its_parts;
@@ -151,6 +157,34 @@ impl Store {
         ensures crashes { IsTrue D.tells → crashes_of (D.told disk.new).past ≡ crashes_of (D.told disk.old).past }
     {
         let (journal, tables) = find(alloc, disk)?;
+        Ok(Store {
+            alloc,
+            journal,
+            tables,
+        })
+    }
+
+    /// Makes a disk that of the node whose journal of the layout before these bytes are, in three device calls; then it
+    /// reads each entry, as `mount` does. What the disk held is lost, and after any answer but Ok it holds anything. It
+    /// answers NotAJournal where the bytes stand for no batches of a node, by the tests of `mount`.
+    pub fn import<D: Disk>(alloc: Global, disk: &mut D, bytes: &[u8]) -> Result<Store, ImportError>
+        ensures imported { IsTrue D.tells → IfOk result (Imports bytes.now (D.told disk.new).past) }
+        ensures none { IsTrue D.tells → result ≡ Err BytesAreNone → IsNoNodeBefore bytes.now }
+
+        // A journal that would be longer than one may be is refused.
+        ensures short { is_ok result ≡ true → (entries : List (List ℕ)) → StandsAsBefore entries bytes.now →
+            25 + length (list_of entries) ≤ journal_bytes }
+        ensures refusals { IfErr result (λ error. (error ≡ LacksMemory) ⊎ (error ≡ DiskFailed) ⊎ (error ≡ BytesAreNone)
+            ⊎ IsTooLong bytes.now error) }
+
+        ensures up { IfOk result (λ store. store.journal.is_down ≡ false) }
+        ensures kept { IfOk result (λ store. IsKept store.records) }
+        ensures unarmed { IsTrue D.tells →
+            KeepsUnarmed (D.told disk.old).fuse (D.told disk.new).fuse (import_failed result) }
+        ensures cause { HasCause (D.told disk.old).faults (D.told disk.new).faults (import_failed result) }
+        ensures crashes { IsTrue D.tells → crashes_of (D.told disk.new).past ≡ crashes_of (D.told disk.old).past }
+    {
+        let (journal, tables) = import(alloc, disk, bytes)?;
         Ok(Store {
             alloc,
             journal,

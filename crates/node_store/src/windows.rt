@@ -1,6 +1,7 @@
 //! Whether the records of tables keep what those of a node keep all together.
 ghost use Rattle.std.specs.Prelude.{◌≡◌, ◌↔◌, ◌≤◌, ◌<◌, ◌^◌, ℕ, true, IsTrue};
 ghost use Rattle.rm_base.specs.NumberSet.{has_number};
+ghost use Rattle.rm_destination.specs.Incoming.{items};
 ghost use Rattle.rm_journal.specs.JournalState.{end_of};
 ghost use Rattle.sequence_table.specs.Destinations.{front, held};
 ghost use Rattle.sequence_table.specs.Fits.{is_incoming_side, is_outgoing_side};
@@ -97,7 +98,7 @@ fn has_near(tables: &Tables, seq: u32) -> bool
 }
 
 fn are_near(incoming: &Incoming) -> bool
-    ensures { IsTrue result ↔ AreNear incoming.now.facts.received }
+    ensures { IsTrue result ↔ AreNear (items incoming.now.facts) }
 {
     front_is_reached();
     let numbers = incoming.received();

@@ -5,20 +5,21 @@ use Rattle.std.specs.Prelude.{slice_get}
 use Rattle.std.proofs.lemmas.Bool.{ne_eqb}
 use Rattle.std.proofs.lemmas.Option.{none-some, same_Some, slice_get-get_or}
 use Rattle.rm_base.specs.declared.message.Behaviour.{Behaviour}
-use Rattle.rm_base.specs.declared.message.Payload.{Payload}
-use Rattle.rm_source.specs.Outgoing.{Sending}
-use Rattle.rm_destination.specs.Incoming.{Receiving, phase_of, inbox as inbox_in, discarded as discarded_in}
-use Rattle.rm_destination.specs.Messages.{numbers_of, ranges_onto}
+use Rattle.rm_source.specs.Outgoing.{Sending, accepted_count}
+use Rattle.rm_destination.specs.Incoming.{Receiving, phase_of, held as held_in, inbox as inbox_in}
+use Rattle.rm_destination.specs.Incoming.{discarded as discarded_in}
+use Rattle.rm_destination.specs.Messages.{Item, ranges_onto}
 use Rattle.rm_destination.specs.declared.outcome.InPhase.{InPhase}
 use Rattle.rm_destination.specs.declared.outcome.InPhase.TheVariants.{Open, Closed, Ended}
 use Rattle.record_batch.specs.Fact.{Fact}
 use Rattle.sequence_table.specs.Makers.{Maker, Outgoing, Offered, Incoming, Taken, maker, makers}
-use Rattle.sequence_table.specs.Destinations.{behaviour, behaviour_of, discarded, held, inbox, is_ended}
+use Rattle.sequence_table.specs.Destinations.{behaviour, behaviour_of, cursor, discarded, held, inbox}
+use Rattle.sequence_table.specs.Destinations.{is_ended}
 use Rattle.sequence_table.specs.Fits.{is_outgoing_side}
 use Rattle.node_tables.specs.Kept.{no_maker}
 use Rattle.node_tables.specs.Laws.{IncomingIsAsRecorded, IsAsRecorded, OutgoingIsAsRecorded, is_end, is_shut}
 use Rattle.node_tables.specs.Reads.{incoming_in, incoming_of, outgoing_in, outgoing_of}
-use Rattle.rm_report.specs.Report.{in_text, out_text}
+use Rattle.rm_report.specs.Report.{consumed_text, in_text, out_text}
 use Rattle.rm_script.specs.declared.event.Side.{Side}
 use Rattle.node_summary.specs.Summary.{in_phase, incoming_text, items_text, outgoing_text, place}
 use Rattle.node_summary.specs.Summary.{sequence_text, sequences_text}
@@ -88,31 +89,34 @@ same_phase r s now f is =
     ∙ ap (λ b. cond (is_ended r s now) Ended (cond b Closed Open)) (is.over now)
 
 -- the text of a sequence that receives
-abbrev known_text : Side → ℕ → InPhase → Behaviour → List ℕ → List Payload → List Payload → List ℕ
-known_text side s phase behaviour numbers inbox discarded =
+abbrev known_text : Side → ℕ → InPhase → Behaviour → List ℕ → List Item → List Item → ℕ → List ℕ
+known_text side s phase behaviour numbers inbox discarded cursor =
     in_text (place side s) phase behaviour (ranges_onto [] numbers) (length inbox) (length discarded)
-    ++ items_text side s 0 inbox
+    ++ (consumed_text (place side s) cursor ++ items_text (place side s) 0 inbox)
 
 pub outgoing-text : (side : Side) (r : List Fact) (now s : ℕ) (t : Sending) → OutgoingIsAsRecorded
     → outgoing_in r s ≡ Some t
-    → out_text (place side s) t.phase (length t.accepted) t.acked ≡ sequence_text side r now s
+    → out_text (place side s) t.phase (accepted_count t) t.acked ≡ sequence_text side r now s
 outgoing-text side r now s t law e =
-    ap (λ (u : Sending). out_text (place side s) u.phase (length u.accepted) u.acked) (law r s t e)
+    ap (λ (u : Sending). out_text (place side s) u.phase (accepted_count u) u.acked) (law r s t e)
     ∙ ap (λ b. cond b (outgoing_text side r s) (incoming_text side r now s)) (sym (sends r s t (maker r s) e))
 
 pub incoming-text : (side : Side) (r : List Fact) (now s : ℕ) (f : Receiving) → IncomingIsAsRecorded
     → incoming_in r s ≡ Some f
-    → in_text (place side s) (phase_of f now) f.behaviour (ranges_onto [] (numbers_of f.received))
-    (length (inbox_in f)) (length (discarded_in f))
-    ++ items_text side s 0 (inbox_in f)
+    → known_text side s (phase_of f now) f.behaviour (held_in f) (inbox_in f) (discarded_in f) f.cursor
     ≡ sequence_text side r now s
 incoming-text side r now s f law e =
     let is = law r s f e in
-    ap (λ p. known_text side s p f.behaviour (numbers_of f.received) (inbox_in f) (discarded_in f))
+    ap (λ p. known_text side s p f.behaviour (held_in f) (inbox_in f) (discarded_in f) f.cursor)
     (same_phase r s now f is)
-    ∙ ap (λ b. known_text side s (in_phase r s now) b (numbers_of f.received) (inbox_in f) (discarded_in f))
+    ∙ ap (λ b. known_text side s (in_phase r s now) b (held_in f) (inbox_in f) (discarded_in f) f.cursor)
     (announced r s f (maker r s) e)
-    ∙ ap (λ ns. known_text side s (in_phase r s now) (behaviour r s) ns (inbox_in f) (discarded_in f)) is.numbers
-    ∙ ap (λ ps. known_text side s (in_phase r s now) (behaviour r s) (held r s) ps (discarded_in f)) is.inbox_
-    ∙ ap (λ ps. known_text side s (in_phase r s now) (behaviour r s) (held r s) (inbox r s) ps) is.discarded_
+    ∙ ap (λ ns. known_text side s (in_phase r s now) (behaviour r s) ns (inbox_in f) (discarded_in f) f.cursor)
+    is.numbers
+    ∙ ap (λ items. known_text side s (in_phase r s now) (behaviour r s) (held r s) items (discarded_in f) f.cursor)
+    is.inbox_
+    ∙ ap (λ items. known_text side s (in_phase r s now) (behaviour r s) (held r s) (inbox r s) items f.cursor)
+    is.discarded_
+    ∙ ap (λ n. known_text side s (in_phase r s now) (behaviour r s) (held r s) (inbox r s) (discarded r s) n)
+    is.cursor_
     ∙ ap (λ b. cond b (outgoing_text side r s) (incoming_text side r now s)) (sym (receives r s f (maker r s) e))

@@ -1,16 +1,16 @@
 -- What a node with these records knows of each of its sequences, as text.
-use Rattle.std.specs.Prelude.{ℕ, zero, suc, ◌+◌, if◌then◌else◌, List, [], ◌∷◌, ◌++◌, length}
+use Rattle.std.specs.Prelude.{ℕ, zero, suc, ◌+◌, if◌then◌else◌, List, [], ◌∷◌, ◌++◌, length, None, Some}
 use Rattle.ack_ranges.specs.Changes.{united}
-use Rattle.rm_base.specs.declared.message.Payload.{Payload}
-use Rattle.rm_destination.specs.Messages.{ranges_onto}
+use Rattle.rm_destination.specs.Messages.{Item, ranges_onto}
 use Rattle.rm_destination.specs.declared.outcome.InPhase.{InPhase}
 use Rattle.rm_destination.specs.declared.outcome.InPhase.TheVariants.{Open, Closed, Ended}
 use Rattle.record_batch.specs.Fact.{Fact}
 use Rattle.sequence_table.specs.Makers.{makers, maker}
-use Rattle.sequence_table.specs.Sources.{accepted, acked, phase}
-use Rattle.sequence_table.specs.Destinations.{behaviour, discarded, held, inbox, is_ended, is_over}
+use Rattle.sequence_table.specs.Sources.{accepted_count, acked, phase}
+use Rattle.sequence_table.specs.Destinations.{behaviour, cursor, discarded, held, inbox, is_ended}
+use Rattle.sequence_table.specs.Destinations.{is_over}
 use Rattle.sequence_table.specs.Fits.{is_outgoing_side}
-use Rattle.rm_report.specs.Report.{out_text, in_text, item_text}
+use Rattle.rm_report.specs.Report.{consumed_text, out_text, in_text, item_text}
 use Rattle.rm_report.specs.declared.summary.Place.{Place}
 use Rattle.rm_script.specs.declared.event.Side.{Side}
 
@@ -22,22 +22,28 @@ in_phase r s now = if is_ended r s now then Ended else if is_over r s now then C
 abbrev pub place : Side → ℕ → Place
 place side s = record { node = side; seq = s }
 
--- the payloads of an inbox, numbered from n + 1 on
-abbrev pub items_text : Side → ℕ → ℕ → List Payload → List ℕ
-items_text side s n [] = []
-items_text side s n (p ∷ ps) = item_text (place side s) (n + 1) p.bytes ++ items_text side s (n + 1) ps
+-- the line of an item of an inbox with a number: there is none where the item is gone
+abbrev pub there_text : Place → ℕ → Item → List ℕ
+there_text at number None = []
+there_text at number (Some payload) = item_text at number payload.bytes
+
+-- the items of an inbox, numbered from n + 1 on
+abbrev pub items_text : Place → ℕ → List Item → List ℕ
+items_text at n [] = []
+items_text at n (item ∷ items) = there_text at (n + 1) item ++ items_text at (n + 1) items
 
 -- an outgoing sequence: its phase, how many payloads were accepted, and which numbers are acknowledged
 abbrev pub outgoing_text : Side → List Fact → ℕ → List ℕ
-outgoing_text side r s = out_text (place side s) (phase r s) (length (accepted r s)) (united [] (acked r s))
+outgoing_text side r s = out_text (place side s) (phase r s) (accepted_count r s) (united [] (acked r s))
 
 -- an incoming sequence: its phase at a moment, its behaviour, which numbers were received, how many payloads were
--- released and how many are discarded, and then the payloads that were released
+-- released and how many are discarded; then how many the application consumed, where it consumed any; and then the
+-- payloads that were released and aren't gone
 abbrev pub incoming_text : Side → List Fact → ℕ → ℕ → List ℕ
 incoming_text side r now s =
     in_text (place side s) (in_phase r s now) (behaviour r s) (ranges_onto [] (held r s)) (length (inbox r s))
     (length (discarded r s))
-    ++ items_text side s 0 (inbox r s)
+    ++ (consumed_text (place side s) (cursor r s) ++ items_text (place side s) 0 (inbox r s))
 
 -- a sequence
 abbrev pub sequence_text : Side → List Fact → ℕ → ℕ → List ℕ

@@ -1,16 +1,18 @@
 //! What a node knows, as text.
 ghost use Rattle.std.specs.Prelude.{◌≡◌, ◌<◌, ◌≤◌, ◌++◌, [], length, OnOk};
-ghost use Rattle.rm_destination.specs.Incoming.{discarded, inbox, phase_of};
-ghost use Rattle.rm_destination.specs.Messages.{numbers_of, ranges_onto};
-ghost use Rattle.rm_report.specs.Report.{in_text, out_text};
+ghost use Rattle.std.specs.Option.{option_copied};
+ghost use Rattle.rm_destination.specs.Incoming.{discarded, held, inbox, phase_of};
+ghost use Rattle.rm_destination.specs.Messages.{ranges_onto};
+ghost use Rattle.rm_report.specs.Report.{consumed_text, in_text, out_text};
+ghost use Rattle.rm_source.specs.Outgoing.{accepted_count};
 ghost use Rattle.sequence_table.specs.Makers.{makers};
-ghost use Rattle.node_summary.specs.Summary.{items_text, node_text, sequence_text};
+ghost use Rattle.node_summary.specs.Summary.{items_text, node_text, sequence_text, there_text};
 
 use node_tables::Tables;
 use node_tables::laws::{an_incoming_sequence_is_as_recorded, an_outgoing_sequence_is_as_recorded};
-use rm_base::{Blob, Memory};
+use rm_base::{Blob, Memory, Payload};
 use rm_destination::Incoming;
-use rm_report::{Place, push_in, push_item, push_out};
+use rm_report::{Place, push_consumed, push_in, push_item, push_out};
 use rm_script::Side;
 use rm_source::Outgoing;
 
@@ -55,7 +57,7 @@ fn push_sequence(
 fn push_outgoing(out: &mut Blob, place: Place, outgoing: &Outgoing) -> Result<(), Memory>
     ensures { OnOk result (out.new
         ≡ out.old
-        ++ out_text place outgoing.now.facts.phase (length outgoing.now.facts.accepted) outgoing.now.facts.acked) }
+        ++ out_text place outgoing.now.facts.phase (accepted_count outgoing.now.facts) outgoing.now.facts.acked) }
 {
     push_out(
         out,
@@ -71,11 +73,12 @@ fn push_incoming(out: &mut Blob, place: Place, incoming: &Incoming, now: u64) ->
     ensures { OnOk result (out.new
         ≡ out.old
         ++ (in_text place (phase_of incoming.now.facts now) incoming.now.facts.behaviour
-        (ranges_onto [] (numbers_of incoming.now.facts.received)) (length (inbox incoming.now.facts))
+        (ranges_onto [] (held incoming.now.facts)) (length (inbox incoming.now.facts))
         (length (discarded incoming.now.facts))
-        ++ items_text place.node place.seq 0 (inbox incoming.now.facts))) }
+        ++ (consumed_text place incoming.now.facts.cursor ++ items_text place 0 (inbox incoming.now.facts)))) }
 {
     push_known(out, place, incoming, now)?;
+    push_consumed(out, place, incoming.consumed())?;
     push_items(out, place, incoming)
 }
 
@@ -84,7 +87,7 @@ fn push_known(out: &mut Blob, place: Place, incoming: &Incoming, now: u64) -> Re
     ensures { OnOk result (out.new
         ≡ out.old
         ++ in_text place (phase_of incoming.now.facts now) incoming.now.facts.behaviour
-        (ranges_onto [] (numbers_of incoming.now.facts.received)) (length (inbox incoming.now.facts))
+        (ranges_onto [] (held incoming.now.facts)) (length (inbox incoming.now.facts))
         (length (discarded incoming.now.facts))) }
 {
     push_in(
@@ -98,15 +101,27 @@ fn push_known(out: &mut Blob, place: Place, incoming: &Incoming, now: u64) -> Re
     )
 }
 
-/// Appends the payloads of an inbox.
+/// Appends the payloads of an inbox that aren't gone.
 fn push_items(out: &mut Blob, place: Place, incoming: &Incoming) -> Result<(), Memory>
-    ensures { OnOk result (out.new ≡ out.old ++ items_text place.node place.seq 0 (inbox incoming.now.facts)) }
+    ensures { OnOk result (out.new ≡ out.old ++ items_text place 0 (inbox incoming.now.facts)) }
 {
-    for before in 0..incoming.inbox_len() {
-        match incoming.inbox_item(before + 1) {
-            Some(payload) => push_item(out, place, before + 1, payload.bytes.as_slice())?,
-            None => unreachable!(),
-        }
+    for before in incoming.gone()..incoming.inbox_len() {
+        push_there(out, place, before + 1, incoming.inbox_item(before + 1))?;
     }
     Ok(())
+}
+
+/// Appends the payload of an item, where it isn't gone.
+fn push_there(
+    out: &mut Blob,
+    place: Place,
+    number: u64,
+    item: Option<&Payload>,
+) -> Result<(), Memory>
+    ensures { OnOk result (out.new ≡ out.old ++ there_text place number (option_copied item.entry)) }
+{
+    match item {
+        Some(payload) => push_item(out, place, number, payload.bytes.as_slice()),
+        None => Ok(()),
+    }
 }

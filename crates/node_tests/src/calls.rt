@@ -199,21 +199,15 @@ fn takes(peer: &mut Peer, row: &(&[u8], &[u8], u64)) -> Result<bool, NodeError> 
     Ok(is_so & is_acknowledgement(peer.alloc, &reaction.outs, received)?)
 }
 
-// How many messages are in the inbox of the first sequence.
-fn inbox_len(peer: &Peer) -> Option<u64> {
-    let incoming = peer.node.tables().incoming(1)?;
-    Some(incoming.inbox_len())
-}
-
 // How many of those come out right, up to the first that does not, and how many messages are in the inbox then.
 fn takes_all(peer: &mut Peer) -> Result<(usize, Option<u64>), NodeError> {
     peer.be_asked()?;
     for (i, row) in NUMBERS.iter().enumerate() {
         if !takes(peer, row)? {
-            return Ok((i, inbox_len(peer)));
+            return Ok((i, peer.inbox_len(1)));
         }
     }
-    Ok((NUMBERS.len(), inbox_len(peer)))
+    Ok((NUMBERS.len(), peer.inbox_len(1)))
 }
 
 // A message that comes again is acknowledged and is in the inbox once.

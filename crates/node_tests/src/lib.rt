@@ -5,6 +5,8 @@
 #[cfg(test)]
 mod calls;
 #[cfg(test)]
+mod consumes;
+#[cfg(test)]
 mod destinations;
 #[cfg(test)]
 mod device;

@@ -99,6 +99,7 @@ enum Call {
     Send,
     Close,
     End,
+    Consume,
 }
 
 // How a call for the sequence with a number comes out.
@@ -107,6 +108,7 @@ fn error(peer: &mut Peer, call: Call, seq: u32) -> Option<NodeError> {
         Call::Send => peer.accept(seq, b"<p/>").err(),
         Call::Close => peer.shut(seq).err(),
         Call::End => peer.finish(seq).err(),
+        Call::Consume => peer.consume(seq, 1).err(),
     }
 }
 
@@ -114,18 +116,22 @@ fn error(peer: &mut Peer, call: Call, seq: u32) -> Option<NodeError> {
 type Row = (Call, u32, Cause);
 
 // At a node with one incoming sequence.
-const NOT_THERE: [Row; 5] = [
+const NOT_THERE: [Row; 8] = [
     (Call::Send, 0, Cause::NoSequence),
     (Call::Send, 2, Cause::NoSequence),
     (Call::Send, 1, Cause::WrongSide),
     (Call::End, 1, Cause::WrongSide),
     (Call::Close, 2, Cause::NoSequence),
+    (Call::Consume, 0, Cause::NoSequence),
+    (Call::Consume, 2, Cause::NoSequence),
+    (Call::Consume, 1, Cause::PastInbox { have: 0 }),
 ];
 
 // At a node that has asked for a sequence.
-const NOT_OPEN: [Row; 2] = [
+const NOT_OPEN: [Row; 3] = [
     (Call::Send, 1, Cause::NotOpen),
     (Call::Close, 1, Cause::NotOpen),
+    (Call::Consume, 1, Cause::WrongSide),
 ];
 
 // How many of these calls are refused so, up to the first that is not.
@@ -147,7 +153,7 @@ fn not_there_refused(peer: &mut Peer) -> Result<(usize, u64), NodeError> {
 #[test]
 fn sequences_that_are_not_there(rt: HostRuntime) -> Result<(), Fail> {
     let came = at_second(rt.alloc(), not_there_refused)?;
-    assert!(rt; came == (5, 2), "{} are refused so", came.0);
+    assert!(rt; came == (8, 2), "{} are refused so", came.0);
     Ok(())
 }
 
@@ -160,7 +166,7 @@ fn not_open_refused(peer: &mut Peer) -> Result<(usize, u64), NodeError> {
 #[test]
 fn a_sequence_that_is_not_open(rt: HostRuntime) -> Result<(), Fail> {
     let came = at_first(rt.alloc(), not_open_refused)?;
-    assert!(rt; came == (2, 2), "{} are refused so", came.0);
+    assert!(rt; came == (3, 2), "{} are refused so", came.0);
     Ok(())
 }
 

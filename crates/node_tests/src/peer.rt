@@ -61,6 +61,13 @@ impl Peer {
         Ok(())
     }
 
+    /// And message 1 comes for it: it has three entries then.
+    pub(crate) fn be_sent_one(&mut self) -> Result<(), NodeError> {
+        self.be_asked()?;
+        self.judge_number(b"1")?;
+        Ok(())
+    }
+
     /// A sequence to node 2 is asked for, for ever, whose answers come to the node's address.
     pub(crate) fn ask(&mut self) -> Result<Made, NodeError> {
         let wish = Wish {
@@ -165,6 +172,16 @@ impl Peer {
         Ok(())
     }
 
+    /// The items of an inbox up to one are consumed.
+    pub(crate) fn consume(&mut self, seq: u32, upto: u64) -> Result<(), NodeError> {
+        self.node.consume(&mut self.disk, seq, upto)
+    }
+
+    /// The journal is written anew.
+    pub(crate) fn compact(&mut self) -> Result<(), NodeError> {
+        self.node.compact(&mut self.disk)
+    }
+
     /// A moment comes: how many packets are handed out.
     pub(crate) fn tick(&mut self, now: u64) -> Result<usize, NodeError>
         requires { now ≤ now_max }
@@ -205,6 +222,18 @@ impl Peer {
     pub(crate) fn out_phase(&self, seq: u32) -> Option<OutPhase> {
         let outgoing = self.node.tables().outgoing(seq)?;
         Some(outgoing.phase())
+    }
+
+    /// How many items the inbox of an incoming sequence has, where there is one with the number.
+    pub(crate) fn inbox_len(&self, seq: u32) -> Option<u64> {
+        let incoming = self.node.tables().incoming(seq)?;
+        Some(incoming.inbox_len())
+    }
+
+    /// How many items of its inbox were consumed of an incoming sequence, where there is one with the number.
+    pub(crate) fn cursor(&self, seq: u32) -> Option<u64> {
+        let incoming = self.node.tables().incoming(seq)?;
+        Some(incoming.consumed())
     }
 
     /// In which phase an incoming sequence is, where there is one with the number.

@@ -20,10 +20,11 @@ enum Call {
     Grant,
     Receive,
     CloseIncoming,
+    Consume,
     Tick,
 }
 
-const CALLS: [Call; 9] = [
+const CALLS: [Call; 10] = [
     Call::Create,
     Call::Send,
     Call::Close,
@@ -32,13 +33,15 @@ const CALLS: [Call; 9] = [
     Call::Grant,
     Call::Receive,
     Call::CloseIncoming,
+    Call::Consume,
     Call::Tick,
 ];
 
 // The node that makes the call.
 fn node_of(alloc: Global, call: Call) -> Result<Peer, NodeError> {
     match call {
-        Call::Grant | Call::Receive | Call::CloseIncoming | Call::Tick => Peer::second(alloc),
+        Call::Grant | Call::Receive | Call::CloseIncoming => Peer::second(alloc),
+        Call::Consume | Call::Tick => Peer::second(alloc),
         Call::Create | Call::Send | Call::Close | Call::End | Call::Learn => Peer::first(alloc),
     }
 }
@@ -49,6 +52,7 @@ fn prepare(peer: &mut Peer, call: Call) -> Result<(), NodeError> {
         Call::Create | Call::Send | Call::Close | Call::End => peer.open(),
         Call::Learn => peer.open_and_send(),
         Call::Grant | Call::Receive | Call::CloseIncoming | Call::Tick => peer.be_asked(),
+        Call::Consume => peer.be_sent_one(),
     }
 }
 
@@ -71,6 +75,7 @@ fn act(peer: &mut Peer, call: Call) -> Option<NodeError> {
         Call::Learn => learn(peer).err(),
         Call::Grant => peer.grant(b"urn:another", b"").err(),
         Call::Receive => peer.judge_number(b"1").err(),
+        Call::Consume => peer.consume(1, 1).err(),
         Call::Tick => peer.tick(1000).err(),
     }
 }

@@ -46,7 +46,8 @@ joined : (a b l u n : ℕ) → nat_lt (b + 1) l ≡ false → nat_lt (u + 1) a �
     → is_between (min a l) (max b u) n ≡ (is_between l u n || is_between a b n)
 joined a b l u n h k = grind (arith, nat_tests, h, k)
 
-with-numbers : (rs : List Range) (l u n : ℕ) → in_ranges (with_range rs l u) n ≡ (is_between l u n || in_ranges rs n)
+pub with-numbers : (rs : List Range) (l u n : ℕ)
+    → in_ranges (with_range rs l u) n ≡ (is_between l u n || in_ranges rs n)
 with-numbers [] l u n = refl
 with-numbers (r ∷ rs) l u n =
     elim (nat_lt (r.upper + 1) l) as (λ b. nat_lt (r.upper + 1) l ≡ b → in_ranges (cond b (r ∷ with_range rs l u)
@@ -77,10 +78,15 @@ united-lacks xs (y ∷ ys) n h =
 -- ---- an acknowledgement leaves the keys of all other numbers
 
 waits-more : (t : Sending) (ranges : List Range) (i : ℕ) → in_ranges ranges i ≡ false → waits_in t i ≡ true
-    → waits_in (record { phase = t.phase; accepted = t.accepted ++ []; acked = united t.acked ranges }) i ≡ true
+    → waits_in (record {
+      phase = t.phase;
+      dropped = t.dropped;
+      accepted = t.accepted ++ [];
+      acked = united t.acked ranges;
+    }) i ≡ true
 waits-more t ranges zero n w = w
 waits-more t ranges (suc i) n w =
-    ap₂ (λ (ps : List Text) (b : Bool). is_sending t.phase && (nat_le (suc i) (length ps) && not b))
+    ap₂ (λ (ps : List Text) (b : Bool). is_sending t.phase && (nat_le (suc i) (t.dropped + length ps) && not b))
     (append-nil t.accepted) (united-lacks t.acked ranges (suc i) n) ∙ w
 
 acked-lacks : (seq s n : ℕ) (ranges : List Range) → in_ranges ranges n ≡ false

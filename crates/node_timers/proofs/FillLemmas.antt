@@ -115,6 +115,9 @@ All-plus P (x ∷ xs) ys h k = (h.0, All-plus P xs ys h.1 k)
 next-number : (k : Key) (s n : ℕ) → is_before k (key s n) ≡ true → is_before k (key s (n + 1)) ≡ true
 next-number k s n h = grind (arith, nat_tests, h)
 
+later-number : (k : Key) (s n m : ℕ) → n ≤ m → is_before k (key s n) ≡ true → is_before k (key s m) ≡ true
+later-number k s n m le h = grind (arith, nat_tests, le, h)
+
 this-number : (s n : ℕ) → is_before (key s n) (key s (n + 1)) ≡ true
 this-number s n = grind (arith, nat_tests)
 
@@ -125,6 +128,11 @@ pub before-next : (keys : List Key) (s n : ℕ) → AllBefore keys (key s n) →
 before-next keys s n h =
     All-weak (λ (k : Key). is_before k (key s n) ≡ true) (λ (k : Key). is_before k (key s (n + 1)) ≡ true)
     (λ k e. next-number k s n e) keys h
+
+pub before-later : (keys : List Key) (s n m : ℕ) → n ≤ m → AllBefore keys (key s n) → AllBefore keys (key s m)
+before-later keys s n m le h =
+    All-weak (λ (k : Key). is_before k (key s n) ≡ true) (λ (k : Key). is_before k (key s m) ≡ true)
+    (λ k e. later-number k s n m le e) keys h
 
 pub before-with : (keys : List Key) (s n : ℕ) → AllBefore keys (key s n)
     → AllBefore (keys ++ key s n ∷ []) (key s (n + 1))

@@ -2,5 +2,6 @@ mod AckedLemmas
 mod MoveLemmas
 mod SettleLemmas
 mod FillLemmas
+mod GoneLemmas
 mod AfterLemmas
 mod RoomLemmas

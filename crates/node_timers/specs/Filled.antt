@@ -1,5 +1,5 @@
 -- What begins to wait at a mount.
-use Rattle.std.specs.Prelude.{◌≡◌, ℕ, true, List, ◌++◌, map, filter}
+use Rattle.std.specs.Prelude.{◌≡◌, ◌<◌, ◌≤◌, ℕ, true, false, List, ◌++◌, map, filter}
 use Rattle.std.specs.List.{AllByRecursion}
 use Rattle.rm_timers.specs.declared.timers.Key.{Key}
 use Rattle.key_timers.specs.Keyed.{Keyed, StandsFor, keys_in, is_before}
@@ -10,6 +10,10 @@ use Rattle.rm_protocol.specs.Waiting.{is_waiting, key, numbers_from}
 -- of the keys of sequence s, so many from a number on, those that wait
 abbrev pub own_waiting : List Fact → ℕ → ℕ → ℕ → List Key
 own_waiting r s from count = filter (is_waiting r) (map (key s) (numbers_from from count))
+
+-- the keys of the messages 1 to n of sequence s don't wait
+abbrev pub NoneWaits : List Fact → ℕ → ℕ → Type 0
+NoneWaits r s n = (i : ℕ) → 0 < i → i ≤ n → is_waiting r (key s i) ≡ false
 
 -- all these keys come before that one
 abbrev pub AllBefore : List Key → Key → Type 0

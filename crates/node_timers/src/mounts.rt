@@ -1,9 +1,10 @@
 //! All keys that wait by the records, at a mount.
-ghost use Rattle.std.specs.Prelude.{◌≡◌, ◌≤◌, ◌+◌, [], length};
+ghost use Rattle.std.specs.Prelude.{◌≡◌, ◌≤◌, ◌+◌, ◌-◌, [], length};
 ghost use Rattle.key_timers.specs.Keyed.{keys_in};
-ghost use Rattle.node_timers.specs.Filled.{AllBefore, Filled, own_waiting};
+ghost use Rattle.node_timers.specs.Filled.{AllBefore, Filled, NoneWaits, own_waiting};
 ghost use Rattle.node_timers.specs.Settled.{count_of as count_of_made};
 ghost use Rattle.rm_base.specs.Limits.{most_keys};
+ghost use Rattle.rm_base.specs.Message.{max_number};
 ghost use Rattle.rm_protocol.specs.Waiting.{key as key_of, waiting_keys};
 ghost use Rattle.sequence_table.specs.Makers.{maker};
 
@@ -38,16 +39,49 @@ fn begin_waiting(timers: &mut KeyTimers, tables: &Tables, seq: u32, number: u64)
     }
 }
 
-/// Of the keys of one sequence, so many, those that wait by the records begin to wait, behind all others.
-fn fill_one(timers: &mut KeyTimers, tables: &Tables, seq: u32, count: u64)
+/// How many of the first messages of a sequence are gone: the keys of these don't wait.
+fn gone_of(tables: &Tables, seq: u32) -> u64
+    ensures silent { NoneWaits tables.now.records seq result }
+    ensures few { result ≤ max_number }
+{
+    an_outgoing_sequence_is_as_recorded();
+    match tables.outgoing(seq) {
+        Some(outgoing) => {
+            let _count = outgoing.accepted_len();
+            outgoing.dropped()
+        }
+        None => 0,
+    }
+}
+
+/// Of the keys of one sequence, from a number on, those that wait by the records begin to wait, behind all others.
+fn fill_from(timers: &mut KeyTimers, tables: &Tables, seq: u32, from: u64, count: u64)
+    requires before { AllBefore (keys_in timers.old.cells) (key_of seq from) }
+    requires few { length (keys_in timers.old.cells) + length (own_waiting tables.now.records seq from (count - from))
+        ≤ most_keys }
+    ensures filled { Filled timers.old timers.new (own_waiting tables.now.records seq from (count - from)) }
+    ensures before { AllBefore (keys_in timers.new.cells) (key_of (seq + 1) 0) }
+{
+    for number in from..count {
+        begin_waiting(timers, tables, seq, number);
+    }
+}
+
+/// Of the keys of one sequence, so many, those that wait by the records begin to wait, behind all others. The messages
+/// that are gone are passed over.
+fn fill_one(timers: &mut KeyTimers, tables: &Tables, seq: u32, gone: u64, count: u64)
+    requires silent { NoneWaits tables.now.records seq gone }
+    requires gone { gone ≤ max_number }
     requires before { AllBefore (keys_in timers.old.cells) (key_of seq 0) }
     requires few { length (keys_in timers.old.cells) + length (own_waiting tables.now.records seq 0 count) ≤ most_keys }
     ensures filled { Filled timers.old timers.new (own_waiting tables.now.records seq 0 count) }
     ensures before { AllBefore (keys_in timers.new.cells) (key_of (seq + 1) 0) }
 {
-    for number in 0..count {
-        begin_waiting(timers, tables, seq, number);
+    if count == 0 {
+        return;
     }
+    begin_waiting(timers, tables, seq, 0);
+    fill_from(timers, tables, seq, gone + 1, count);
 }
 
 /// All keys that wait by the records begin to wait, by sequence and number. There is room for each: a node has at most
@@ -59,6 +93,12 @@ pub fn fill(timers: &mut KeyTimers, tables: &Tables)
 {
     for before in 0..tables.len() {
         let seq = before + 1;
-        fill_one(timers, tables, seq, count_of(tables, seq));
+        fill_one(
+            timers,
+            tables,
+            seq,
+            gone_of(tables, seq),
+            count_of(tables, seq),
+        );
     }
 }

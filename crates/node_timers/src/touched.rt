@@ -87,6 +87,9 @@ fn put_keys(rec: &Record, touched: &mut Vec<Touched>) -> Result<(), Memory>
         Record::EndedOut { seq } => put_all(*seq, touched),
         Record::Ended { seq, .. } => put_all(*seq, touched),
         Record::Failed { seq, .. } => put_all(*seq, touched),
+        Record::Consumed { seq, .. } => put_all(*seq, touched),
+        Record::Dropped { seq, .. } => put_all(*seq, touched),
+        Record::Purged { seq, .. } => put_all(*seq, touched),
     }
 }
 

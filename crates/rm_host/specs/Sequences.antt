@@ -1,13 +1,13 @@
 -- What commands look for in the tables of a node.
 use Rattle.std.specs.Prelude.{◌≡◌, ℕ, ◌+◌, ◌<◌, ◌≤◌, Bool, true, false, ◌&&◌, List, ◌∷◌, [], ◌++◌, Option, Some, None}
-use Rattle.std.specs.Prelude.{length, Result, Ok, Err, bytes_eq, codes, decimal, if◌then◌else◌, nat_lt}
+use Rattle.std.specs.Prelude.{length, take, drop, Result, Ok, Err, bytes_eq, codes, decimal, if◌then◌else◌, nat_lt}
 use Rattle.ack_ranges.specs.Ranges.{in_ranges}
 use Rattle.call_answers.specs.declared.answer.Cause.TheVariants as cause
 use Rattle.node_tables.specs.Peers.{Address, Peer, Reference, peer}
 use Rattle.node_tables.specs.Reads.{incoming_in, outgoing_in}
 use Rattle.record_batch.specs.Fact.{Fact}
-use Rattle.rm_base.specs.declared.message.Payload.{Payload}
 use Rattle.rm_destination.specs.Incoming.{Receiving, inbox}
+use Rattle.rm_destination.specs.Messages.{Item}
 use Rattle.rm_source.specs.Outgoing.{Sending}
 use Rattle.rm_source.specs.declared.phase.OutPhase.{OutPhase}
 use Rattle.rm_source.specs.declared.phase.OutPhase.TheVariants as out
@@ -58,15 +58,20 @@ IsFirstTo records to None = (seq : ℕ) → 0 < seq → seq ≤ length (makers r
 IsFirstTo records to (Some first) =
     (may_carry records to first ≡ true) × ((seq : ℕ) → 0 < seq → seq < first → may_carry records to seq ≡ false)
 
--- what inbox prints of payloads, numbered from n + 1 on
-abbrev pub item_lines : ℕ → ℕ → List Payload → List ℕ
+-- the line of an item of an inbox with a number: there is none where the item is gone
+abbrev pub there_line : ℕ → ℕ → Item → List ℕ
+there_line seq number None = []
+there_line seq number (Some payload) = item_line seq number payload.bytes
+
+-- what is printed of items, numbered from n + 1 on
+abbrev pub item_lines : ℕ → ℕ → List Item → List ℕ
 item_lines seq n [] = []
-item_lines seq n (payload ∷ payloads) = item_line seq (n + 1) payload.bytes ++ item_lines seq (n + 1) payloads
+item_lines seq n (item ∷ items) = there_line seq (n + 1) item ++ item_lines seq (n + 1) items
 
 -- what inbox prints
-abbrev pub inbox_lines : ℕ → List Payload → List ℕ
-inbox_lines seq payloads =
-    item_lines seq 0 payloads ++ codes "inbox " ++ decimal seq ++ codes " " ++ decimal (length payloads) ++ codes "\n"
+abbrev pub inbox_lines : ℕ → List Item → List ℕ
+inbox_lines seq items =
+    item_lines seq 0 items ++ codes "inbox " ++ decimal seq ++ codes " " ++ decimal (length items) ++ codes "\n"
 
 -- what inbox answers of a sequence, by its receiving side, where it has one
 abbrev pub inbox_told : ℕ → Option Receiving → Result (List ℕ) End
@@ -78,3 +83,7 @@ abbrev pub inbox_answer : List Fact → ℕ → Result (List ℕ) End
 inbox_answer records seq =
     if nat_lt (length (makers records)) seq then Err (Refused cause.NoSequence)
     else inbox_told seq (incoming_in records seq)
+
+-- what is printed of the items of an inbox past one place, up to another
+abbrev pub passed_lines : (seq from upto : ℕ) → List Item → List ℕ
+passed_lines seq from upto items = item_lines seq from (drop from (take upto items))

@@ -25,6 +25,7 @@ cause_name (cause.NodeFull unacked) = reason_text reason.NodeFull
 cause_name cause.Rollover = reason_text reason.Rollover
 cause_name (cause.TooManySequences count) = reason_text reason.TooManySequences
 cause_name (cause.StoreFull end needed) = reason_text reason.StoreFull
+cause_name (cause.PastInbox have) = reason_text reason.PastInbox
 
 -- the line of a refusal
 abbrev pub line_of : End → List ℕ

@@ -1,18 +1,19 @@
 //! The commands `make`, `push`, `close`, `end`, `inbox` and `compact`.
-ghost use Rattle.std.specs.Prelude.{◌≡◌, ◌<◌, ◌^◌, ◌++◌, ◌⊎◌, Err, IfOk, OnOk, false};
+ghost use Rattle.std.specs.Prelude.{◌≡◌, ◌<◌, ◌^◌, ◌⊎◌, Err, IfOk, false};
 ghost use Rattle.rm_destination.specs.Incoming.{inbox as inbox_in};
 ghost use Rattle.rm_serve.specs.Steps.{IsUp, place_of};
 ghost use Rattle.rm_host.specs.Compaction.{Compaction};
 ghost use Rattle.rm_host.specs.Ends.{HasReason, faults_of, is_disk_fault, is_link_fault, is_outer};
-ghost use Rattle.rm_host.specs.Sequences.{inbox_answer, inbox_lines, item_lines};
-ghost use Rattle.rm_host.specs.Texts.{compacted_line, item_line, posted_line};
+ghost use Rattle.rm_host.specs.Sequences.{inbox_answer, inbox_lines};
+ghost use Rattle.rm_host.specs.Texts.{compacted_line, posted_line};
 
 use crate::calls::{ask, compact_node, make_node, mount, post_all};
 use crate::end::End;
 use crate::host::Host;
+use crate::items::push_inbox;
 use call_answers::Cause;
 use node_tables::Tables;
-use rm_base::{Blob, Clock, Memory, Uri, push_decimal, push_hex};
+use rm_base::{Blob, Clock, Memory, Uri, push_decimal};
 use rm_destination::Incoming;
 use rm_disk::Disk;
 use rm_link::Link;
@@ -153,37 +154,13 @@ fn items_text(alloc: Global, seq: u32, incoming: &Incoming) -> Result<Blob, Memo
     ensures { IfOk result (λ text. text ≡ inbox_lines seq (inbox_in incoming.now.facts)) }
 {
     let mut text = Blob::new(alloc);
-    push_items(&mut text, seq, incoming)?;
+    push_inbox(&mut text, seq, incoming)?;
     text.push_all(b"inbox ")?;
     push_decimal(&mut text, u64::from(seq))?;
     text.push_all(b" ")?;
     push_decimal(&mut text, incoming.inbox_len())?;
     text.push_all(b"\n")?;
     Ok(text)
-}
-
-fn push_items(text: &mut Blob, seq: u32, incoming: &Incoming) -> Result<(), Memory>
-    ensures { OnOk result (text.new ≡ text.old ++ item_lines seq 0 (inbox_in incoming.now.facts)) }
-{
-    for before in 0..incoming.inbox_len() {
-        match incoming.inbox_item(before + 1) {
-            Some(payload) => push_item(text, seq, before + 1, payload.bytes.as_slice())?,
-            None => unreachable!(),
-        }
-    }
-    Ok(())
-}
-
-fn push_item(text: &mut Blob, seq: u32, number: u64, bytes: &[u8]) -> Result<(), Memory>
-    ensures { OnOk result (text.new ≡ text.old ++ item_line seq number bytes.now) }
-{
-    text.push_all(b"item ")?;
-    push_decimal(text, u64::from(seq))?;
-    text.push_all(b" ")?;
-    push_decimal(text, number)?;
-    text.push_all(b" ")?;
-    push_hex(text, bytes)?;
-    text.push_all(b"\n")
 }
 
 /// The journal is written anew, and has what the node's records say in short.

@@ -5,6 +5,7 @@ mod calls;
 pub mod commands;
 pub mod end;
 pub mod host;
+mod items;
 pub mod program;
 pub mod send;
 pub mod serve;

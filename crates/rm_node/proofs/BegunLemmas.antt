@@ -1,7 +1,7 @@
 -- Which key begins to wait with a call, and which time it tells.
 use Rattle.std.proofs.Common.{◌≡◌, ◌∙◌, ◌||◌, ℕ, ◌+◌, Bool, true, false, cond, List, [], ◌∷◌, ◌++◌, length}
 use Rattle.std.proofs.Common.{Option, Some, None, Result, Ok, Err, refl, sym, ap, ap₂, subst}
-use Rattle.std.specs.Prelude.{is_some}
+use Rattle.std.specs.Prelude.{is_some, nat_lt}
 use Rattle.std.specs.List.{AllByRecursion}
 use Rattle.std.specs.Option.{option_to_list}
 use Rattle.std.proofs.lemmas.Bool.{and_parts}
@@ -14,16 +14,16 @@ use Rattle.rm_message.specs.declared.message.Message.{Message}
 use Rattle.rm_message.specs.declared.refusal.FaultKind.{FaultKind}
 use Rattle.rm_message.specs.declared.refusal.Refusal.{Refusal}
 use Rattle.record_batch.specs.Fact.{Fact, Made, Creating, Created, Granted, Accepted, Acked, Received, Closing}
-use Rattle.record_batch.specs.Fact.{ClosedOut, Closed, Ending, EndedOut, Ended, Failed}
-use Rattle.sequence_table.specs.Destinations.{is_over}
+use Rattle.record_batch.specs.Fact.{ClosedOut, Closed, Ending, EndedOut, Ended, Failed, Consumed, Dropped, Purged}
+use Rattle.sequence_table.specs.Destinations.{cursor, inbox, is_over}
 use Rattle.sequence_table.specs.Fits.{all_fit, fits as may_follow}
 use Rattle.sequence_table.specs.Makers.{Maker, Outgoing, Offered, Incoming, Taken, counter, maker, makers}
-use Rattle.sequence_table.specs.Sources.{accepted, phase}
+use Rattle.sequence_table.specs.Sources.{accepted_count, phase}
 use Rattle.sequence_table.specs.Words.{Text}
 use Rattle.node_tables.specs.Reads.{outgoing_of}
 use Rattle.rm_protocol.specs.Calls.{Answer, Cause, Done, NoSequence, NotOpen, WrongSide, Wish, ask_out}
-use Rattle.rm_protocol.specs.Calls.{close_by, close_in, close_out, create, end, end_out, expired_from, if_room}
-use Rattle.rm_protocol.specs.Calls.{judged, may_end, nack_in, on_incoming, on_outgoing, receive}
+use Rattle.rm_protocol.specs.Calls.{adds, close_by, close_in, close_out, consume_in, create, end, end_out, expired_from}
+use Rattle.rm_protocol.specs.Calls.{if_room, judged, may_end, nack_in, on_incoming, on_outgoing, receive}
 use Rattle.rm_protocol.specs.Calls.{Fetched, refusal, send, send_out, tick}
 use Rattle.rm_protocol.specs.Exact.{WhatBeginsWaits}
 use Rattle.rm_protocol.specs.Heard.{Heard}
@@ -33,7 +33,8 @@ use Rattle.rm_protocol.specs.Rows.{rows}
 use Rattle.rm_protocol.specs.Terms.{Terms}
 use Rattle.rm_protocol.specs.Verdict.{has_room, verdict}
 use Rattle.rm_protocol.specs.Waiting.{begun_by, begun_of, key, no_moves}
-use Rattle.rm_node.specs.Asked.{Asked, Create, Send, Close, End, AskAck, NackMissing, Tick, Poll, Receive, answer_to}
+use Rattle.rm_node.specs.Asked.{Asked, Create, Send, Close, End, AskAck, NackMissing, Consume, Tick, Poll, Receive}
+use Rattle.rm_node.specs.Asked.{answer_to}
 use Rattle.rm_node.specs.Ends.{is_refused}
 use Rattle.rm_node.specs.Keeping.{Keeping}
 use Rattle.rm_node.specs.Timed.{Begins, begun_with, of_outgoing}
@@ -104,13 +105,13 @@ create-starts : (terms : Terms) (r : List Fact) (place : ℕ) (wish : Wish)
 create-starts terms r place wish = search (chosen, refused, adds-one)
 
 send_out-starts : (terms : Terms) (r : List Fact) (place s : ℕ) (payload : Text)
-    → Starts r (Some (key s (length (accepted r s) + 1))) (send_out terms r place s payload)
+    → Starts r (Some (key s (accepted_count r s + 1))) (send_out terms r place s payload)
 send_out-starts terms r place s payload = search (chosen, refused, adds-one) depth 12
 
 send-starts : (terms : Terms) (r : List Fact) (place s : ℕ) (payload : Text)
-    → Starts r (of_outgoing (maker r s) (key s (length (accepted r s) + 1))) (send terms r place s payload)
+    → Starts r (of_outgoing (maker r s) (key s (accepted_count r s + 1))) (send terms r place s payload)
 send-starts terms r place s payload =
-    outgoing r (maker r s) (key s (length (accepted r s) + 1)) (send_out terms r place s payload)
+    outgoing r (maker r s) (key s (accepted_count r s + 1)) (send_out terms r place s payload)
     (send_out-starts terms r place s payload)
 
 close_out-starts : (terms : Terms) (r : List Fact) (place s : ℕ) → Starts r (Some (key s 0)) (close_out terms r place s)
@@ -155,6 +156,26 @@ nack-by r s now (Some (Outgoing ticket to via lapse)) = refused r None WrongSide
 nack-by r s now (Some (Taken message_id ident endpoint)) = refused r None WrongSide
 nack-by r s now (Some (Offered ticket counter to behaviour)) = nack_in-starts r s now
 nack-by r s now (Some (Incoming counter message_id acks_to behaviour deadline lapse)) = nack_in-starts r s now
+
+-- the record by which a cursor goes on begins no key
+moves-cursor : (terms : Terms) (r : List Fact) (place s upto : ℕ) (b : Bool)
+    → Starts r None (if_room terms place (adds r (cond b (Consumed s upto ∷ []) []) (λ after. [])))
+moves-cursor terms r place s upto true = adds-one r None terms place (Consumed s upto) [] refl
+moves-cursor terms r place s upto false = adds-none r _ refl refl
+
+consume_in-starts : (terms : Terms) (r : List Fact) (place s upto : ℕ) → Starts r None (consume_in terms r place s upto)
+consume_in-starts terms r place s upto =
+    chosen r None (nat_lt (length (inbox r s)) upto) _ _ (refused r None _)
+    (moves-cursor terms r place s upto (nat_lt (cursor r s) upto))
+
+consume-by : (terms : Terms) (r : List Fact) (place s upto : ℕ) (m : Option Maker)
+    → Starts r None (on_incoming m (consume_in terms r place s upto))
+consume-by terms r place s upto None = refused r None NoSequence
+consume-by terms r place s upto (Some (Outgoing ticket to via lapse)) = refused r None WrongSide
+consume-by terms r place s upto (Some (Taken message_id ident endpoint)) = refused r None WrongSide
+consume-by terms r place s upto (Some (Offered ticket counter to behaviour)) = consume_in-starts terms r place s upto
+consume-by terms r place s upto (Some (Incoming counter message_id acks_to behaviour deadline lapse)) =
+    consume_in-starts terms r place s upto
 
 -- ---- a tick
 
@@ -205,6 +226,9 @@ heard-none m r (Ending seq ticket) h = absurd h
 heard-none m r (EndedOut seq) h = refl
 heard-none m r (Ended seq cause last) h = refl
 heard-none m r (Failed seq fault) h = refl
+heard-none m r (Consumed seq upto) h = refl
+heard-none m r (Dropped seq upto) h = refl
+heard-none m r (Purged seq ranges) h = refl
 
 heard-all : (m : Message) (r delta : List Fact) → AllByRecursion (Heard m) delta → begun_by r delta ≡ []
 heard-all m r [] h = refl
@@ -263,6 +287,8 @@ leads heard law terms r place now kept (AskAck seq) sound =
     leads-by law r (AskAck seq) _ refl sound (ask-by r seq (maker r seq))
 leads heard law terms r place now kept (NackMissing seq) sound =
     leads-by law r (NackMissing seq) _ refl sound (nack-by r seq now (maker r seq))
+leads heard law terms r place now kept (Consume seq upto) sound =
+    leads-by law r (Consume seq upto) _ refl sound (consume-by terms r place seq upto (maker r seq))
 leads heard law terms r place now kept (Tick moment) sound =
     let ticks = tick-ticks terms r place moment kept in
     record { begins = λ fit e. record { are = ticks.none; wait = tt }; time = ticks.time }

@@ -9,7 +9,7 @@ use Rattle.record_batch.specs.Fact.{Fact}
 use Rattle.record_snapshot.specs.Snapshot.{snapshot}
 use Rattle.rm_protocol.specs.Calls.{Done, StoreFull}
 use Rattle.rm_protocol.specs.Exact.{StaysExactInShort}
-use Rattle.snapshot_laws.specs.Kept.{KeptHasSets, SnapshotIsKept}
+use Rattle.snapshot_laws.specs.Kept.{KeptHasProper, SnapshotIsKept}
 use Rattle.node_store.specs.Has.{AreOfNode, Has}
 use Rattle.node_store.specs.Rewrites.{Answers, disk_failed, fit_as_entries, fresh_batches, fresh_entries, fresh_size}
 use Rattle.node_store.specs.Rewrites.{has_place, rewrite_refusal, Rewrites, rewritten}
@@ -26,9 +26,9 @@ use Rattle.rm_node.proofs.TimedLemmas.{exact-cells, exact-waits}
 -- ---- what the node keeps
 
 -- the same keys wait by what the records say in short
-kept_short : SnapshotIsKept → KeptHasSets → StaysExactInShort → (r : List Fact) (k : Kept) → IsKeptRight r k
+kept_short : SnapshotIsKept → KeptHasProper → StaysExactInShort → (r : List Fact) (k : Kept) → IsKeptRight r k
     → IsKeptRight (snapshot r) k
-kept_short short sets exact r k right =
+kept_short short proper exact r k right =
     let t = right.timed in
     record {
       in_order = right.in_order;
@@ -37,20 +37,20 @@ kept_short short sets exact r k right =
         waits = t.waits;
         stands = t.stands;
         exact = exact-cells (snapshot r) k.timers t.waits t.stands
-            (exact r t.waits (sets r t.kept) (exact-waits r k.timers t.waits t.exact t.stands));
+            (exact r t.waits t.kept.node.fit (proper r t.kept) (exact-waits r k.timers t.waits t.exact t.stands));
       };
     }
 
-kept_so : SnapshotIsKept → KeptHasSets → StaysExactInShort → (old : Stored) (k : Kept) (ok failed : Bool)
+kept_so : SnapshotIsKept → KeptHasProper → StaysExactInShort → (old : Stored) (k : Kept) (ok failed : Bool)
     → IsKeptRight old.records k → IsKeptRight (rewritten old ok failed).records k
-kept_so short sets exact old k true failed right = kept_short short sets exact old.records k right
-kept_so short sets exact old k false true right = right
-kept_so short sets exact old k false false right = right
+kept_so short proper exact old k true failed right = kept_short short proper exact old.records k right
+kept_so short proper exact old k false true right = right
+kept_so short proper exact old k false false right = right
 
-pub kept_rewritten : SnapshotIsKept → KeptHasSets → StaysExactInShort → (old new : Stored) (k : Kept) (ok failed : Bool)
-    → new ≡ rewritten old ok failed → IsKeptRight old.records k → IsKeptRight new.records k
-kept_rewritten short sets exact old new k ok failed e right =
-    subst (λ (s : Stored). IsKeptRight s.records k) (sym e) (kept_so short sets exact old k ok failed right)
+pub kept_rewritten : SnapshotIsKept → KeptHasProper → StaysExactInShort → (old new : Stored) (k : Kept)
+    (ok failed : Bool) → new ≡ rewritten old ok failed → IsKeptRight old.records k → IsKeptRight new.records k
+kept_rewritten short proper exact old new k ok failed e right =
+    subst (λ (s : Stored). IsKeptRight s.records k) (sym e) (kept_so short proper exact old k ok failed right)
 
 -- ---- how it ends
 

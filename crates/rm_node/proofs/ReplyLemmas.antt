@@ -38,8 +38,8 @@ use Rattle.rm_node.specs.Packets.{reply_packet}
 use Rattle.rm_node.specs.declared.call.Call.{Call}
 use Rattle.rm_node.specs.declared.call.Call.TheVariants as call
 use Rattle.rm_node.specs.declared.packets.Out.{Out}
-use Rattle.rm_node.proofs.ComesLemmas.{ask-done, close-done, create-done, end-done, nack-done, poll-done, send-done}
-use Rattle.rm_node.proofs.ComesLemmas.{tick-done}
+use Rattle.rm_node.proofs.ComesLemmas.{ask-done, close-done, consume-done, create-done, end-done, nack-done}
+use Rattle.rm_node.proofs.ComesLemmas.{poll-done, send-done, tick-done}
 use Rattle.rm_node.proofs.PacketLemmas.{leaves-first, stays-out}
 
 -- ---- lists of messages
@@ -249,6 +249,8 @@ comes-first terms r place now kept (call.AskAck seq) asked is =
     alone-first asked _ (answer_to terms r place now kept) is (ask-done r seq).alone
 comes-first terms r place now kept (call.NackMissing seq) asked is =
     alone-first asked _ (answer_to terms r place now kept) is (nack-done r seq now).alone
+comes-first terms r place now kept (call.Consume seq upto) asked is =
+    alone-first asked _ (answer_to terms r place now kept) is (consume-done terms r place seq upto).alone
 comes-first terms r place now kept (call.Tick moment) asked is =
     alone-first asked _ (answer_to terms r place now kept) is
     (tick-done terms r place moment kept.time kept.waits).alone

@@ -15,7 +15,7 @@ use Rattle.node_laws.specs.Records.{IsKept}
 use Rattle.call_answers.specs.Answers.{MayBeStored, wish_seen}
 use Rattle.rm_node.specs.CameLemmas.{ReadsRight, RefusesRight, content_read}
 use Rattle.rm_node.specs.Asked.{Asked, Asks, MayBeAsked, answer_to, is_connected}
-use Rattle.rm_node.specs.Asked.{Create, Send, Close, End, AskAck, NackMissing, Tick, Poll, Receive}
+use Rattle.rm_node.specs.Asked.{Create, Send, Close, End, AskAck, NackMissing, Consume, Tick, Poll, Receive}
 use Rattle.rm_node.specs.Ends.{is_refused}
 use Rattle.rm_node.specs.Keeping.{Keeping, Keeps}
 use Rattle.rm_node.specs.Noded.{told}
@@ -43,6 +43,7 @@ not_received (call.Close seq) h = refl
 not_received (call.End seq) h = refl
 not_received (call.AskAck seq) h = refl
 not_received (call.NackMissing seq) h = refl
+not_received (call.Consume seq upto) h = refl
 not_received (call.Tick now) h = refl
 not_received (call.Poll to) h = refl
 
@@ -63,6 +64,8 @@ leaves_each reads refuses terms r place now kept (call.AskAck seq) asked in_orde
     subst (λ (x : Asked). LeavesANode r (answer_to terms r place now kept x)) (sym is) (each.ask_ack_ seq)
 leaves_each reads refuses terms r place now kept (call.NackMissing seq) asked in_order may is each =
     subst (λ (x : Asked). LeavesANode r (answer_to terms r place now kept x)) (sym is) (each.nack_missing_ seq now)
+leaves_each reads refuses terms r place now kept (call.Consume seq upto) asked in_order may is each =
+    subst (λ (x : Asked). LeavesANode r (answer_to terms r place now kept x)) (sym is) (each.consume_ seq upto)
 leaves_each reads refuses terms r place now kept (call.Tick moment) asked in_order may is each =
     subst (λ (x : Asked). LeavesANode r (answer_to terms r place now kept x)) (sym is)
     (each.tick_ moment kept.time kept.waits)
@@ -86,6 +89,7 @@ in_time (call.Close seq) asked may is = early asked (Close seq) is from_zero
 in_time (call.End seq) asked may is = early asked (End seq) is from_zero
 in_time (call.AskAck seq) asked may is = early asked (AskAck seq) is from_zero
 in_time (call.NackMissing seq) asked may is = early asked (NackMissing seq) is from_zero
+in_time (call.Consume seq upto) asked may is = early asked (Consume seq upto) is from_zero
 in_time (call.Tick moment) asked may is = early asked (Tick moment) is may
 in_time (call.Poll to) asked may is = early asked (Poll to) is from_zero
 in_time (call.Receive bytes) asked may is = early asked (Receive is.content) is.is from_zero

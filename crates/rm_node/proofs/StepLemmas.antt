@@ -1,5 +1,5 @@
 -- A call of a node is a step of the protocol, whatever it asks.
-use Rattle.std.proofs.Common.{◌≡◌, ◌∙◌, ℕ, Bool, true, false, List, Option, Some, None, refl, sym, ap, subst}
+use Rattle.std.proofs.Common.{◌≡◌, ◌∙◌, ℕ, Bool, true, false, List, [], Option, Some, None, refl, sym, ap, subst}
 use Rattle.std.specs.Prelude.{MatchBool, Ok, Err}
 use Rattle.rm_disk.specs.Cause.{HasCause}
 use Rattle.rm_disk.specs.Told.{Told}
@@ -18,7 +18,7 @@ use Rattle.rm_node.specs.declared.error.NodeError.TheVariants as error
 use Rattle.rm_node.specs.Fetching.{whole}
 use Rattle.rm_node.specs.Keeping.{Keeping}
 use Rattle.rm_node.specs.Noded.{Noded, Runs}
-use Rattle.rm_node.specs.Packets.{reply_of}
+use Rattle.rm_node.specs.Packets.{outs_of, reply_of}
 use Rattle.rm_node.specs.Saying.{IsUnsaid, Says}
 use Rattle.rm_node.specs.declared.call.Call.{Call}
 use Rattle.rm_node.specs.declared.packets.Out.{Out}
@@ -153,3 +153,21 @@ plain tells first now old new moment call asked reaction there asks none is_done
     subst (λ (e : Ended). Steps tells first now old new moment call e)
     (ap (λ (reply : Option Text). Handed outcome reply reaction.outs) silent
     ∙ ap (λ (o : Outcome). Handed o None reaction.outs) (ends.0 ∙ (is_done own.0 kept).done taken)) steps
+
+-- and where nothing is said, nothing is handed out
+pub silent : (tells : Bool) (first now : Told) (old new : Noded) (moment : ℕ) (call : Call) (asked : Asked)
+    (reaction : Reaction) → ThereAreOwnTerms → Asks call asked → is_connected call ≡ false
+    → ((terms : Terms) (kept : Keeping) → IsDone (answer_of terms old moment kept asked))
+    → ((terms : Terms) (kept : Keeping) → (answer_of terms old moment kept asked).outs ≡ [])
+    → Steps tells first now old new moment call (reaction_end (Ok reaction))
+    → Steps tells first now old new moment call (Handed Done None [])
+silent tells first now old new moment call asked reaction there asks none is_done says steps =
+    let own = some_terms there in
+    let kept = steps.runs.keeping.0 in
+    let answer = answer_of own.0 old moment kept asked in
+    let outcome = verdict_outcome reaction.verdict in
+    let ends = ended_by tells (is_connected call) first now old new answer outcome reaction.reply reaction.outs
+    (steps.does own.0 own.1 kept steps.runs.keeping.1 asked asks) in
+    let nothing : reaction.outs ≡ [] = ends.2 ∙ ap outs_of (says own.0 kept) in
+    subst (λ (outs : List Out). Steps tells first now old new moment call (Handed Done None outs)) nothing
+    (plain tells first now old new moment call asked reaction there asks none is_done steps)

@@ -25,6 +25,7 @@ pub data Asked : Type 0 where
   End : (seq : ℕ) → Asked
   AskAck : (seq : ℕ) → Asked
   NackMissing : (seq : ℕ) → Asked
+  Consume : (seq upto : ℕ) → Asked
   Poll : (to : Text) → Asked
   Tick : (now : ℕ) → Asked
   Receive : (content : Result Message Refusal) → Asked
@@ -37,6 +38,7 @@ answer_to terms r place now kept (Close seq) = protocol.close terms r place seq 
 answer_to terms r place now kept (End seq) = protocol.end terms r place seq
 answer_to terms r place now kept (AskAck seq) = protocol.ask_ack r seq
 answer_to terms r place now kept (NackMissing seq) = protocol.nack_missing r seq now
+answer_to terms r place now kept (Consume seq upto) = protocol.consume terms r place seq upto
 answer_to terms r place now kept (Tick moment) = protocol.tick terms r place moment kept.time kept.waits
 answer_to terms r place now kept (Poll to) = polled.poll r to
 answer_to terms r place now kept (Receive content) =
@@ -56,6 +58,7 @@ Asks (call.Close seq) asked = asked ≡ Close seq
 Asks (call.End seq) asked = asked ≡ End seq
 Asks (call.AskAck seq) asked = asked ≡ AskAck seq
 Asks (call.NackMissing seq) asked = asked ≡ NackMissing seq
+Asks (call.Consume seq upto) asked = asked ≡ Consume seq upto
 Asks (call.Poll to) asked = asked ≡ Poll to
 Asks (call.Tick now) asked = asked ≡ Tick now
 Asks (call.Receive bytes) asked = IsReceived bytes.now asked

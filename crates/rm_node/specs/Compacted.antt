@@ -1,5 +1,5 @@
 -- What a call does that writes the journal of a node anew.
-use Rattle.std.specs.Prelude.{◌≡◌, ◌⊎◌, Bool, true, List, [], Option, Some, None, Result, Ok, Err, IsTrue, MatchBool}
+use Rattle.std.specs.Prelude.{◌≡◌, ◌⊎◌, Bool, true, List, [], Option, Some, None, Result, IsTrue, MatchBool}
 use Rattle.rm_disk.specs.Call.{crashes_of}
 use Rattle.rm_disk.specs.Cause.{HasCause}
 use Rattle.rm_disk.specs.Told.{Told}
@@ -10,14 +10,13 @@ use Rattle.node_store.specs.declared.error.RewriteError.{RewriteError}
 use Rattle.node_store.specs.declared.error.RewriteError.TheVariants as rewrite
 use Rattle.rm_protocol.specs.Calls.{Done, StoreFull}
 use Rattle.rm_node.specs.Called.{Sleeps}
-use Rattle.rm_node.specs.Ends.{Ended, Handed, Refused, Wanted, Broke, error_end, is_broken, is_handed}
+use Rattle.rm_node.specs.Ends.{Ended, Handed, Refused, Wanted, Broke, done_end, is_broken, is_handed}
 use Rattle.rm_node.specs.Noded.{Noded, Runs}
 use Rattle.rm_node.specs.declared.error.NodeError.{NodeError}
 
 -- how the call ends: nothing is handed out
 abbrev pub compact_end : {T : Type 0} → Result T NodeError → Ended
-compact_end (Ok value) = Handed Done None []
-compact_end (Err error) = error_end error
+compact_end result = done_end result
 
 -- How it may end, where the journal refuses it for this reason, or for none: it is refused so, or all goes well or the
 -- disk fails. Memory may be wanting in either case.

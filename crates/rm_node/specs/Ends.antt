@@ -1,5 +1,5 @@
 -- How calls of a node end.
-use Rattle.std.specs.Prelude.{Bool, true, false, List, Option, Some, None, Result, Ok, Err}
+use Rattle.std.specs.Prelude.{Bool, true, false, List, [], Option, Some, None, Result, Ok, Err}
 use Rattle.rm_message.specs.declared.refusal.FaultKind.{FaultKind}
 use Rattle.sequence_table.specs.Words.{Text}
 use Rattle.rm_protocol.specs.Calls.{Cause, Outcome, Done, Judged, Refused as RefusedWith}
@@ -61,6 +61,11 @@ sent_end (Err error) = error_end error
 abbrev pub outs_end : Result (List Out) NodeError → Ended
 outs_end (Ok outs) = Handed Done None outs
 outs_end (Err error) = error_end error
+
+-- of a call that hands nothing out
+abbrev pub done_end : {T : Type 0} → Result T NodeError → Ended
+done_end (Ok value) = Handed Done None []
+done_end (Err error) = error_end error
 
 -- the call failed by the disk
 abbrev pub is_disk : {T : Type 0} → Result T NodeError → Bool

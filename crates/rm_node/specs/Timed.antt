@@ -10,7 +10,7 @@ use Rattle.key_timers.specs.Waits.{Wait}
 use Rattle.record_batch.specs.Fact.{Fact}
 use Rattle.sequence_table.specs.Fits.{is_in_order}
 use Rattle.sequence_table.specs.Makers.{Maker, Outgoing, Taken, maker, makers}
-use Rattle.sequence_table.specs.Sources.{accepted}
+use Rattle.sequence_table.specs.Sources.{accepted_count}
 use Rattle.rm_protocol.specs.Calls.{Answer}
 use Rattle.rm_protocol.specs.Waiting.{begun_by, is_waiting, key}
 use Rattle.node_laws.specs.Keeps.{LeavesANode}
@@ -56,7 +56,7 @@ of_outgoing _ k = None
 -- closed or ended, and a message that is accepted
 abbrev pub begun_with : List Fact → Asked → Option Key
 begun_with r (Create wish) = Some (key (length (makers r) + 1) 0)
-begun_with r (Send seq payload) = of_outgoing (maker r seq) (key seq (length (accepted r seq) + 1))
+begun_with r (Send seq payload) = of_outgoing (maker r seq) (key seq (accepted_count r seq + 1))
 begun_with r (Close seq) = of_outgoing (maker r seq) (key seq 0)
 begun_with r (End seq) = of_outgoing (maker r seq) (key seq 0)
 begun_with r _ = None

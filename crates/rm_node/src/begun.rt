@@ -1,7 +1,7 @@
 //! The key that begins to wait with a call.
 ghost use Rattle.std.specs.Prelude.{◌≡◌, ◌+◌, length};
 ghost use Rattle.sequence_table.specs.Makers.{maker, makers};
-ghost use Rattle.sequence_table.specs.Sources.{accepted};
+ghost use Rattle.sequence_table.specs.Sources.{accepted_count};
 ghost use Rattle.rm_protocol.specs.Waiting.{key as key_of};
 ghost use Rattle.node_laws.specs.Records.{IsKept};
 ghost use Rattle.rm_node.specs.Asked.{Asked, Asks};
@@ -36,7 +36,7 @@ fn request(tables: &Tables, seq: u32) -> Option<Key>
 /// The key of the message that is accepted next for a sequence, where it is an outgoing one.
 fn next_message(tables: &Tables, seq: u32) -> Option<Key>
     ensures { result
-        ≡ of_outgoing (maker tables.now.records seq) (key_of seq (length (accepted tables.now.records seq) + 1)) }
+        ≡ of_outgoing (maker tables.now.records seq) (key_of seq (accepted_count tables.now.records seq + 1)) }
 {
     an_outgoing_sequence_is_as_recorded();
     match tables.outgoing(seq) {
@@ -60,6 +60,7 @@ pub(crate) fn begun_with_call(tables: &Tables, call: &Call<'_>) -> Option<Key>
         Call::End { seq } => request(tables, *seq),
         Call::AskAck { .. } => None,
         Call::NackMissing { .. } => None,
+        Call::Consume { .. } => None,
         Call::Tick { .. } => None,
         Call::Poll { .. } => None,
         Call::Receive { .. } => None,

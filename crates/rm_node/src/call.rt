@@ -22,6 +22,9 @@ pub enum Call<'a> {
     AskAck { seq: u32 },
     /// Tells the peer of an incoming sequence the first 64 numbers that are missing: section 3.9.
     NackMissing { seq: u32 },
+    /// Consumes the items of an incoming sequence's inbox up to one: the application has taken these for good. Nothing
+    /// is recorded where it took them before.
+    Consume { seq: u32, upto: u64 },
     /// Asks the peer with an address for the messages that wait there for the node: WS-MakeConnection 1.1, section 3.2.
     Poll { to: Uri },
     /// Ends the incoming sequences whose time has run out at a moment, all in one batch, where it fits the journal, and

@@ -4,7 +4,7 @@ ghost use Rattle.rm_base.specs.Limits.{now_max};
 ghost use Rattle.rm_elements.specs.Writable.{IsLapseWritable};
 ghost use Rattle.sequence_table.specs.Fits.{is_in_order, is_outgoing_side};
 ghost use Rattle.sequence_table.specs.Makers.{maker, makers};
-ghost use Rattle.sequence_table.specs.Sources.{accepted};
+ghost use Rattle.sequence_table.specs.Sources.{accepted_count};
 ghost use Rattle.rm_node.specs.Called.{HasBatches, Steps};
 ghost use Rattle.rm_node.specs.declared.call.Call.TheVariants.{
   Create as Creates,
@@ -13,11 +13,12 @@ ghost use Rattle.rm_node.specs.declared.call.Call.TheVariants.{
   End as Finishes,
   AskAck as AsksAck,
   NackMissing as NacksMissing,
+  Consume as Consumes,
   Tick as Ticks,
   Poll as Polls,
   Receive as Receives,
 };
-ghost use Rattle.rm_node.specs.Ends.{made_end, outs_end, reaction_end, sent_end};
+ghost use Rattle.rm_node.specs.Ends.{done_end, made_end, outs_end, reaction_end, sent_end};
 
 use crate::call::Call;
 use crate::error::NodeError;
@@ -75,7 +76,7 @@ impl Node {
         requires has { HasBatches D.tells (D.told disk.old) self.old }
         ensures steps { Steps D.tells (D.told disk.old) (D.told disk.new) self.old self.new 0 (Sends seq payload)
             (sent_end result) }
-        ensures number { IfOk result (λ sent. sent.number ≡ length (accepted self.old.stored.records seq) + 1) }
+        ensures number { IfOk result (λ sent. sent.number ≡ accepted_count self.old.stored.records seq + 1) }
     {
         there_are_own_terms();
         let number = next_number(self.tables(), seq);
@@ -135,6 +136,20 @@ impl Node {
         Ok(reaction.outs)
     }
 
+    /// Consumes the items of an incoming sequence's inbox up to one, counted from 1. Call it once the application has
+    /// taken them for good: a crash before that leaves them to be taken again. Where the cursor is there already,
+    /// nothing is written.
+    pub fn consume<D: Disk>(&mut self, disk: &mut D, seq: u32, upto: u64) -> Result<(), NodeError>
+        requires { HasBatches D.tells (D.told disk.old) self.old }
+        ensures { Steps D.tells (D.told disk.old) (D.told disk.new) self.old self.new 0 (Consumes seq upto)
+            (done_end result) }
+    {
+        there_are_own_terms();
+        let reaction = self.step(disk, 0, Call::Consume { seq, upto })?;
+        drop(reaction);
+        Ok(())
+    }
+
     /// Asks the peer with an address for the messages that wait there for the node.
     pub fn poll<D: Disk>(&mut self, disk: &mut D, to: Uri) -> Result<Outs, NodeError>
         requires { HasBatches D.tells (D.told disk.old) self.old }
@@ -176,7 +191,7 @@ impl Node {
 /// The number that the next payload for an outgoing sequence gets.
 fn next_number(tables: &Tables, seq: u32) -> u64
     ensures { is_outgoing_side (maker tables.now.records seq) ≡ true
-        → result ≡ length (accepted tables.now.records seq) + 1 }
+        → result ≡ accepted_count tables.now.records seq + 1 }
 {
     an_outgoing_sequence_is_as_recorded();
     match tables.outgoing(seq) {

@@ -9,18 +9,19 @@ use node_store::RewriteError;
 use node_store::laws::fresh_batches_are_those_of_a_node;
 use rm_disk::Disk;
 use rm_protocol::laws::what_waits_is_exact_in_short;
-use snapshot_laws::laws::{a_node_has_sets, a_snapshot_is_kept};
+use snapshot_laws::laws::{a_node_has_proper_ranges, a_snapshot_is_kept};
 
 impl Node {
-    /// Writes the node's journal anew, so that it has what its records say in short: of the acknowledged numbers of
-    /// each sequence one record, and each record as an entry of its own. What the node says and what waits stays as it
-    /// is. It makes five device calls. A crash leaves the journal that stood, or the fresh one; after Disk the node is
-    /// down until it is mounted again.
+    /// Writes the node's journal anew, so that it has what its records say in short, each record as an entry of its
+    /// own. The payloads that nobody needs any more are given up: those of the first messages of an outgoing sequence
+    /// that are acknowledged, and the items of an inbox that were consumed. What the node says and what waits stays as
+    /// it is. It makes five device calls. A crash leaves the journal that stood, or the fresh one; after Disk the node
+    /// is down until it is mounted again.
     pub fn compact<D: Disk>(&mut self, disk: &mut D) -> Result<(), NodeError>
         requires has { HasBatches D.tells (D.told disk.old) self.old }
         ensures { IsCompacted D.tells (D.told disk.old) (D.told disk.new) self.old self.new (compact_end result) }
     {
-        a_node_has_sets();
+        a_node_has_proper_ranges();
         a_snapshot_is_kept();
         what_waits_is_exact_in_short();
         fresh_batches_are_those_of_a_node();

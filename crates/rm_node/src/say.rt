@@ -84,6 +84,7 @@ fn own_answer(
         Call::End { seq } => node_calls::end(alloc, tables, place, seq),
         Call::AskAck { seq } => node_calls::ask_ack(alloc, tables, place, seq),
         Call::NackMissing { seq } => node_calls::nack_missing(alloc, tables, place, seq, now),
+        Call::Consume { seq, upto } => node_calls::consume(alloc, tables, place, seq, upto),
         Call::Tick { now } => answer_to_tick(alloc, tables, place, kept, now),
         Call::Poll { to } => node_calls::poll(alloc, tables, place, to),
         Call::Receive { .. } => unreachable!(),

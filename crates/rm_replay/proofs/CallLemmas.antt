@@ -21,8 +21,8 @@ use Rattle.rm_protocol.specs.Calls.{Answer, Wish as Wished}
 use Rattle.rm_protocol.specs.Node.{Node, State, Up, Writing, Compacting, outcome_by}
 use Rattle.rm_protocol.specs.Sent.{Called, arrival_outcome}
 use Rattle.rm_protocol.specs.Terms.{Terms}
-use Rattle.rm_protocol.specs.World.{Packet, Side, One, Two, World, Ask, Close, Create, Deliver, End, Nack, Noise, Send}
-use Rattle.rm_protocol.specs.World.{Poll, Tick, arrives, happens, node, other, place, with_clock}
+use Rattle.rm_protocol.specs.World.{Packet, Side, One, Two, World, Ask, Close, Consume, Create, Deliver, End, Nack}
+use Rattle.rm_protocol.specs.World.{Noise, Poll, Send, Tick, arrives, happens, node, other, place, with_clock}
 use Rattle.rm_script.specs.declared.event.Event.TheVariants as said
 use Rattle.rm_script.specs.declared.event.Side.{Side as Place}
 use Rattle.sequence_table.specs.Words.{Text}
@@ -147,6 +147,17 @@ nack_call terms w at seq = record {
   outcome = refl;
 }
 
+pub consume_call : (terms : Terms) (w : World) (at : Place) (seq upto : ℕ)
+    → IsCall terms w (said.Consume at seq upto) (Consume (side_of at) seq upto) (side_of at)
+    (step_of terms (node w (side_of at)) (asks.Consume seq upto) (call.Consume seq upto))
+consume_call terms w at seq upto = record {
+  means = refl;
+  quiet = λ side entries. refl;
+  at = refl;
+  moves = refl;
+  outcome = refl;
+}
+
 -- the clock is nothing to how a call comes out
 outcome_clocked : (x : Node) (now : ℕ) (st : State) (answer : Answer)
     → outcome_by x st answer ≡ outcome_by (with_clock x now) st answer
@@ -230,7 +241,7 @@ some_same : {A : Type 0} (y x : A) → Some y ≡ Some x → y ≡ x
 some_same y x e = cc
 
 -- one of them
-all_get : {A : Type 0} (P : A → Type 0) (xs : List A) (k : ℕ) (x : A) → AllByRecursion P xs
+pub all_get : {A : Type 0} (P : A → Type 0) (xs : List A) (k : ℕ) (x : A) → AllByRecursion P xs
     → slice_get xs k ≡ Some x → P x
 all_get P [] k x all is = absurd cc
 all_get P (y ∷ xs) zero x all is = let e : Some y ≡ Some x = is in subst P (some_same y x e) all.0

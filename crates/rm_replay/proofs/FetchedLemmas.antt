@@ -11,7 +11,8 @@ use Rattle.sequence_table.specs.Destinations.{is_over}
 use Rattle.sequence_table.specs.Makers.{Maker, Outgoing, Offered, Incoming, Taken, maker, makers}
 use Rattle.sequence_table.specs.Sources.{phase}
 use Rattle.sequence_table.specs.Words.{Text}
-use Rattle.rm_protocol.specs.Calls.{Answer, Cause, Wish, ask_ack, ask_out, close, close_by, close_in, close_out, create}
+use Rattle.rm_protocol.specs.Calls.{Answer, Cause, Wish, ask_ack, ask_out, close, close_by, close_in, close_out}
+use Rattle.rm_protocol.specs.Calls.{consume, consume_in, create}
 use Rattle.rm_protocol.specs.Calls.{end, end_out, if_room, may_end, nack_in, nack_missing, on_incoming, on_outgoing}
 use Rattle.rm_protocol.specs.Calls.{expired_from, judged, receive, refusal, send, send_out, tick, ticked}
 use Rattle.rm_protocol.specs.Terms.{Terms}
@@ -90,15 +91,22 @@ ask-alone r s =
 nack_in-alone : (r : List Fact) (s now : ℕ) → IsAlone (nack_in r s now)
 nack_in-alone r s now = chosen (is_over r s now) _ _ (refused _) (record { none = refl })
 
-nack-by : (r : List Fact) (s now : ℕ) (m : Option Maker) → IsAlone (on_incoming m (nack_in r s now))
-nack-by r s now None = refused _
-nack-by r s now (Some (Outgoing ticket to via lapse)) = refused _
-nack-by r s now (Some (Taken message_id ident endpoint)) = refused _
-nack-by r s now (Some (Offered ticket counter to behaviour)) = nack_in-alone r s now
-nack-by r s now (Some (Incoming counter message_id acks_to behaviour deadline lapse)) = nack_in-alone r s now
+incoming : (m : Option Maker) (a : Answer) → IsAlone a → IsAlone (on_incoming m a)
+incoming None a alone = refused _
+incoming (Some (Outgoing ticket to via lapse)) a alone = refused _
+incoming (Some (Taken message_id ident endpoint)) a alone = refused _
+incoming (Some (Offered ticket counter to behaviour)) a alone = alone
+incoming (Some (Incoming counter message_id acks_to behaviour deadline lapse)) a alone = alone
 
 pub nack-alone : (r : List Fact) (s now : ℕ) → IsAlone (nack_missing r s now)
-nack-alone r s now = nack-by r s now (maker r s)
+nack-alone r s now = incoming (maker r s) (nack_in r s now) (nack_in-alone r s now)
+
+consume_in-alone : (terms : Terms) (r : List Fact) (place s upto : ℕ) → IsAlone (consume_in terms r place s upto)
+consume_in-alone terms r place s upto = search (chosen, refused, fits)
+
+pub consume-alone : (terms : Terms) (r : List Fact) (place s upto : ℕ) → IsAlone (consume terms r place s upto)
+consume-alone terms r place s upto =
+    incoming (maker r s) (consume_in terms r place s upto) (consume_in-alone terms r place s upto)
 
 judged-by : (terms : Terms) (r : List Fact) (now : ℕ) (behaviour : Behaviour) (m : Message) (fault : Option FaultKind)
     → IsAlone (judged terms r now behaviour m fault)

@@ -4,6 +4,7 @@ use Rattle.std.proofs.Common.{ap, subst, inl, inr}
 use Rattle.record_batch.specs.Fact.{Fact}
 use Rattle.rm_protocol.specs.AloneLemmas.{records-alone}
 use Rattle.rm_protocol.specs.Node.{Node, State, Up, Writing, Compacting, entries_left, mounted, records, records_in}
+use Rattle.rm_protocol.specs.Node.{whole_left}
 use Rattle.rm_protocol.specs.Crashes.{IsLeft, IsLeftWith, KeepsAll}
 use Rattle.rm_protocol.specs.World.{World}
 use Rattle.node_actor.specs.Stands.{StandsFrom}
@@ -18,17 +19,17 @@ records_push (batch ∷ entries) delta =
     ap (λ (r : List Fact). batch ++ r) (records_push entries delta)
     ∙ sym (append_assoc batch (records_in entries) delta)
 
-left_by : (st : State) (kept : Bool) (entries : List (List Fact))
-    → IsLeftWith (records_in entries) st (records_in (entries_left st kept entries))
-left_by Up kept entries = refl
-left_by (Writing delta) true entries = inr (records_push entries delta)
-left_by (Writing delta) false entries = inl refl
-left_by (Compacting start) true entries = inr (records-alone _)
-left_by (Compacting start) false entries = inl refl
+left_by : (st : State) (kept : Bool) (entries : List (List Fact)) (whole : List Fact)
+    → IsLeftWith (records_in entries) whole st (records_in (entries_left st kept entries)) (whole_left st kept whole)
+left_by Up kept entries whole = (refl, refl)
+left_by (Writing delta) true entries whole = inr (records_push entries delta, refl)
+left_by (Writing delta) false entries whole = inl (refl, refl)
+left_by (Compacting start) true entries whole = (inr (records-alone _), refl)
+left_by (Compacting start) false entries whole = (inl refl, refl)
 
 -- what one more crash leaves is left
-left_mounted : (x : Node) (kept : Bool) → IsLeft x (records (mounted x kept))
-left_mounted x kept = left_by x.state kept x.entries
+pub left_mounted : (x : Node) (kept : Bool) → IsLeft x (records (mounted x kept)) (mounted x kept).whole
+left_mounted x kept = left_by x.state kept x.entries x.whole
 
 -- bytes stand for batches wherever the list of them begins
 pub stands_for : (start : ℕ) (batches : List (List Fact)) (bytes : List ℕ) → StandsFrom start batches bytes
@@ -36,29 +37,37 @@ pub stands_for : (start : ℕ) (batches : List (List Fact)) (bytes : List ℕ) �
 stands_for start batches bytes from = record { bank = from.bank; stands = from.stands }
 
 -- a world that keeps the word, on two disks
-pub headline_of : (w : World) (scene : Scene) → KeepsAll w → Holds w scene
+abbrev pub headline_of : (w : World) (scene : Scene) → KeepsAll w → Holds w scene
     → KeepsHeadline scene.drives.one.disk.past scene.drives.two.disk.past
 headline_of w scene keeps holds x y may_x may_y =
     let a = holds.one x may_x in
     let b = holds.two y may_y in
+    let one = mounted w.one a.kept in
+    let two = mounted w.two b.kept in
     let left_a = left_mounted w.one a.kept in
     let left_b = left_mounted w.two b.kept in
     record {
-      one = (mounted w.one a.kept).entries;
-      two = (mounted w.two b.kept).entries;
-      stands_one = stands_for (mounted w.one a.kept).start (mounted w.one a.kept).entries x a.stands;
-      stands_two = stands_for (mounted w.two b.kept).start (mounted w.two b.kept).entries y b.stands;
+      one = one.entries;
+      two = two.entries;
+      stands_one = stands_for one.start one.entries x a.stands;
+      stands_two = stands_for two.start two.entries y b.stands;
       each_one = a.are.each;
       each_two = b.are.each;
-      there = keeps.one (records (mounted w.one a.kept)) (records (mounted w.two b.kept)) left_a left_b;
-      back = keeps.two (records (mounted w.two b.kept)) (records (mounted w.one a.kept)) left_b left_a;
+      whole_one = one.whole;
+      whole_two = two.whole;
+      kept_one = keeps.kept_one (records one) one.whole left_a;
+      kept_two = keeps.kept_two (records two) two.whole left_b;
+      there = keeps.one (records one) one.whole (records two) two.whole left_a left_b;
+      back = keeps.two (records two) two.whole (records one) one.whole left_b left_a;
     }
 
 -- it goes by the nodes alone
 pub keeps_by_nodes : (v w : World) → v.one ≡ w.one → v.two ≡ w.two → KeepsAll w → KeepsAll v
 keeps_by_nodes v w one two keeps = record {
-  one = λ a b left_a left_b. keeps.one a b (subst (λ (x : Node). IsLeft x a) one left_a)
-      (subst (λ (x : Node). IsLeft x b) two left_b);
-  two = λ a b left_a left_b. keeps.two a b (subst (λ (x : Node). IsLeft x a) two left_a)
-      (subst (λ (x : Node). IsLeft x b) one left_b);
+  one = λ a aw b bw left_a left_b. keeps.one a aw b bw (subst (λ (x : Node). IsLeft x a aw) one left_a)
+      (subst (λ (x : Node). IsLeft x b bw) two left_b);
+  two = λ a aw b bw left_a left_b. keeps.two a aw b bw (subst (λ (x : Node). IsLeft x a aw) two left_a)
+      (subst (λ (x : Node). IsLeft x b bw) one left_b);
+  kept_one = λ a aw left. keeps.kept_one a aw (subst (λ (x : Node). IsLeft x a aw) one left);
+  kept_two = λ a aw left. keeps.kept_two a aw (subst (λ (x : Node). IsLeft x a aw) two left);
 }

@@ -36,8 +36,8 @@ use Rattle.rm_replay.specs.Net.{read_as, text_of}
 use Rattle.rm_node.specs.declared.call.Call.{Call}
 use Rattle.node_actor.specs.AnswerLemmas.{of_each}
 use Rattle.soap_envelope.specs.Soap.{soap_space}
-use Rattle.rm_replay.proofs.FetchedLemmas.{IsAlone, ask-alone, close-alone, create-alone, end-alone, nack-alone}
-use Rattle.rm_replay.proofs.FetchedLemmas.{receive-alone, send-alone, tick-alone}
+use Rattle.rm_replay.proofs.FetchedLemmas.{IsAlone, ask-alone, close-alone, consume-alone, create-alone, end-alone}
+use Rattle.rm_replay.proofs.FetchedLemmas.{nack-alone, receive-alone, send-alone, tick-alone}
 use Rattle.rm_replay.proofs.PutLemmas.{all_append}
 
 -- ---- what is said
@@ -154,6 +154,7 @@ each_leaves says terms r place own kept =
       tick_ = λ now time waits. alone _ (each.tick_ now time waits) (tick-alone terms r place now time waits);
       ask_ack_ = λ s. alone _ (each.ask_ack_ s) (ask-alone r s);
       nack_missing_ = λ s now. alone _ (each.nack_missing_ s now) (nack-alone r s now);
+      consume_ = λ s upto. alone _ (each.consume_ s upto) (consume-alone terms r place s upto);
       poll_ = λ to text. alone _ (each.poll_ to text) (record { none = refl });
       receive_ = λ now behaviour content in_order read.
           alone _ (each.receive_ now behaviour content in_order read)

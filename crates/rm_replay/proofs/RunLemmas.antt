@@ -1,8 +1,10 @@
 -- A script from two new nodes on.
 use Rattle.std.proofs.Common.{◌≡◌, ◌∙◌, ℕ, false, List, ◌++◌, append_assoc, ap, subst, inl, inr, arith}
+use Rattle.std.specs.List.{AllByRecursion}
 use Rattle.rm_base.specs.Count.{RoseBy}
 use Rattle.rm_disk.specs.Call.{crashes_of}
 use Rattle.rm_protocol.specs.Terms.{Terms}
+use Rattle.rm_script.specs.Within.{IsWithin}
 use Rattle.rm_script.specs.declared.event.Event.{Event as Said}
 use Rattle.rm_script.specs.declared.event.Side.TheVariants as place
 use Rattle.rm_replay.specs.Asked.{WasAsked, WereSpared}
@@ -15,6 +17,8 @@ use Rattle.rm_replay.specs.Shows.{Holds, IsLeftOfLine, Scene}
 use Rattle.rm_replay.specs.Tales.{Drive, Tale, Tells}
 use Rattle.rm_replay.specs.declared.stage.Nodes.{Nodes}
 use Rattle.rm_replay.proofs.EventLemmas.{EachIsLeft, holds_of}
+use Rattle.rm_replay.proofs.CallLemmas.{all_get}
+use Rattle.rm_replay.proofs.PutLemmas.{all_take}
 use Rattle.rm_replay.proofs.StoryLemmas.{short_end}
 
 -- ---- the nodes were made, and nothing befell the disks
@@ -44,14 +48,15 @@ tell_from s old mid now made tell = record {
 -- what a played script made is what was sent
 abbrev pub PlayedIsSent : Type 0
 PlayedIsSent =
-    (terms : Terms) (script : List Said) (s : Story) → Played terms script s → (scene : Scene)
-    → Holds s.world scene → AcceptedIsSent script s.report scene
+    (terms : Terms) (script : List Said) (s : Story) → AreOfNet terms → AllByRecursion IsWithin script
+    → Played terms script s → (scene : Scene) → Holds s.world scene → AcceptedIsSent script s.report scene
 
 pub ran_of : EachIsLeft → PlayedIsSent → (terms : Terms) (script : List Said) (old mid now : Scene) (nodes : Nodes)
-    (text one two : List ℕ) → WereSpared old.drives mid.drives → (all : AllPlayed terms script mid now nodes text)
+    (text one two : List ℕ) → AreOfNet terms → AllByRecursion IsWithin script → WereSpared old.drives mid.drives
+    → (all : AllPlayed terms script mid now nodes text)
     → one ≡ text ++ known_text place.One all.story.world.one
     → two ≡ one ++ known_text place.Two all.story.world.two → Ran terms script old now two
-ran_of each law terms script old mid now nodes text one two made all first second =
+ran_of each law terms script old mid now nodes text one two net within made all first second =
     let w = all.story.world in
     let a = known_text place.One w.one in
     let b = known_text place.Two w.two in
@@ -62,7 +67,7 @@ ran_of each law terms script old mid now nodes text one two made all first secon
       tell = tell_from all.story old mid now made all.tell;
       printed = second ∙ ap (λ (t : List ℕ). t ++ b) first ∙ append_assoc text a b
           ∙ ap (λ (t : List ℕ). t ++ (a ++ b)) all.printed;
-      sent = law terms script all.story all.played now (holds_of each w now nodes all.shows);
+      sent = law terms script all.story net within all.played now (holds_of each w now nodes all.shows);
     }
 
 -- ---- memory was wanting
@@ -89,21 +94,24 @@ short_told each terms script old mid now nodes text made all =
 -- what a played script made keeps it
 abbrev pub WholeKeeps : Type 0
 WholeKeeps =
-    (terms : Terms) (script : List Said) (s : Story) → AreOfNet terms → Played terms script s → (scene : Scene)
-    → Holds s.world scene → KeepsHeadline scene.drives.one.disk.past scene.drives.two.disk.past
+    (terms : Terms) (script : List Said) (s : Story) → AreOfNet terms → AllByRecursion IsWithin script
+    → Played terms script s → (scene : Scene) → Holds s.world scene
+    → KeepsHeadline scene.drives.one.disk.past scene.drives.two.disk.past
 
 -- and what stands where memory was wanting in a further line
 abbrev pub ShortKeeps : Type 0
 ShortKeeps =
-    (terms : Terms) (script : List Said) (s : Story) → AreOfNet terms → Played terms script s → (line : Said)
-    (scene : Scene) → IsLeftOfLine terms s.world line scene
+    (terms : Terms) (script : List Said) (s : Story) → AreOfNet terms → AllByRecursion IsWithin script
+    → Played terms script s → (line : Said) → IsWithin line → (scene : Scene) → IsLeftOfLine terms s.world line scene
     → KeepsHeadline scene.drives.one.disk.past scene.drives.two.disk.past
 
 pub short_keeps : WholeKeeps → ShortKeeps → (terms : Terms) (script : List Said) (first now : Scene)
-    → AreOfNet terms → RanShort terms script first now
+    → AreOfNet terms → AllByRecursion IsWithin script → RanShort terms script first now
     → KeepsHeadline now.drives.one.disk.past now.drives.two.disk.past
-short_keeps whole part terms script first now net short =
+short_keeps whole part terms script first now net within short =
+    let front = all_take IsWithin script short.count within in
     elim short.left [
-      | inl still ↦ whole terms _ short.story net short.played now still.0
-      | inr line ↦ part terms _ short.story net short.played line.0 now line.2.left
+      | inl still ↦ whole terms _ short.story net front short.played now still.0
+      | inr line ↦ part terms _ short.story net front short.played line.0
+          (all_get IsWithin script short.count line.0 within line.1) now line.2.left
     ]

@@ -4,35 +4,35 @@ use Rattle.std.proofs.Common.{Option, Some, None, append-nil, subst, inl, inr, l
 use Rattle.std.specs.List.{AllByRecursion}
 use Rattle.std.proofs.lemmas.List.{length-map}
 use Rattle.record_batch.specs.Fact.{Fact}
-use Rattle.record_batch.specs.Writable.{IsBatch}
-use Rattle.rm_disk.specs.Call.{Call}
 use Rattle.rm_protocol.specs.Calls.{Cause, NoSequence, WrongSide, PayloadTooLong, BadPayload, NotOpen}
-use Rattle.rm_protocol.specs.Calls.{WindowFull, NodeFull, Rollover, TooManySequences, StoreFull, Done, Refused, Judged}
+use Rattle.rm_protocol.specs.Calls.{WindowFull, NodeFull, Rollover, TooManySequences, StoreFull, PastInbox, Done}
+use Rattle.rm_protocol.specs.Calls.{Refused, Judged}
 use Rattle.rm_protocol.specs.AloneLemmas.{records-alone}
 use Rattle.rm_protocol.specs.Node.{CallOutcome, Answered, DiskFault, IsDown, Node, State, Up, Writing, Compacting}
-use Rattle.rm_protocol.specs.Node.{entries_left, mounted, records, records_in}
+use Rattle.rm_protocol.specs.Node.{entries_left, mounted, records, records_in, whole_left}
 use Rattle.rm_protocol.specs.Sent.{IsImage, IsLeftAs, Line as Row, counts as counts_in, counts_call}
 use Rattle.rm_protocol.specs.Sent.{is_crash as is_crash_in, line_of, lines, next_entries as next_in}
 use Rattle.rm_protocol.specs.Sent.{AcceptedIsSent as IsSentInRuns, printed, sent_by as sent_by_in}
 use Rattle.rm_protocol.specs.Sent.{sent_in as all_sent_in}
 use Rattle.rm_protocol.specs.Terms.{Terms}
+use Rattle.rm_protocol.specs.Word.{history}
 use Rattle.rm_protocol.specs.World.{Event, Side, One, Two, World, happens, node, run}
 use Rattle.rm_report.specs.declared.line.Line.{Line}
 use Rattle.rm_report.specs.declared.line.Outcome.{Outcome}
+use Rattle.rm_script.specs.Within.{IsWithin}
 use Rattle.rm_script.specs.declared.event.Event.{Event as Said}
 use Rattle.rm_script.specs.declared.event.Event.TheVariants as said
 use Rattle.rm_script.specs.declared.event.Side.{Side as Place}
-use Rattle.sequence_table.specs.Sources.{accepted}
 use Rattle.node_actor.specs.Outcomes.{call_told, refusal_told}
-use Rattle.node_actor.specs.Stands.{Leaves}
-use Rattle.node_store.specs.Has.{StandsForBatches}
+use Rattle.node_laws.specs.OwnTerms.{OwnAreTerms}
 use Rattle.rm_replay.specs.Meaning.{Means, comes_out, report_of, stepped}
+use Rattle.rm_replay.specs.Net.{AreOfNet}
 use Rattle.rm_replay.specs.Played.{Played, Story, more, none, start_world, told_on}
-use Rattle.rm_replay.specs.Sent.{AcceptedIsSent, AcceptsSent, Pair, counts, entries_at, is_crash, next_entries, paired}
+use Rattle.rm_replay.specs.Sent.{AcceptedIsSent, Pair, counts, entries_at, is_crash, next_entries, paired}
 use Rattle.rm_replay.specs.Sent.{sent_by, sent_in}
 use Rattle.rm_replay.specs.Shows.{Holds, Scene, address_one, address_two}
-use Rattle.rm_replay.proofs.HeadlineLemmas.{records_push, stands_for}
-use Rattle.rm_replay.proofs.PlayedLemmas.{RunGoesOn}
+use Rattle.rm_replay.proofs.HeadlineLemmas.{records_push}
+use Rattle.rm_replay.proofs.PlayedLemmas.{RunGoesOn, RunsKeep, headline_whole}
 
 -- ---- a line of the script and its line of the report, and a line of the protocol
 
@@ -112,6 +112,7 @@ counts_refusal (NodeFull unacked) now next = refl
 counts_refusal Rollover now next = refl
 counts_refusal (TooManySequences count) now next = refl
 counts_refusal (StoreFull last needed) now next = refl
+counts_refusal (PastInbox have) now next = refl
 
 counts_same : (outcome : CallOutcome) (now next : ℕ)
     → counts (call_told outcome) now next ≡ counts_call outcome now next
@@ -235,6 +236,14 @@ rows_line terms w number (said.Compact at) event means =
       entries = entries_same terms w number _ _;
       sent = λ side seq now next. refl;
     }) finished)
+rows_line terms w number (said.Consume at seq upto) event means =
+    subst (HasRows terms w number (said.Consume at seq upto)) (sym means)
+    (has_row [] [] [] _ _ _ (record {
+      pairs = λ script rest. refl;
+      crash = λ side. refl;
+      entries = entries_same terms w number _ _;
+      sent = λ side seq now next. refl;
+    }) finished)
 rows_line terms w number (said.Arm at calls) event means =
     subst (HasRows terms w number (said.Arm at calls)) (sym means)
     (has_row [] [] [] _ _ _ (record {
@@ -307,53 +316,43 @@ rows_of_run goes on terms _ _ (more script s line event played means) =
 
 -- ---- the disks
 
--- bytes stand for one list of batches
-abbrev pub StandForOne : Type 0
-StandForOne =
-    (a b : List (List Fact)) (bytes : List ℕ) → AllByRecursion IsBatch a → AllByRecursion IsBatch b
-    → StandsForBatches a bytes → StandsForBatches b bytes → a ≡ b
-
 length_push : (entries : List (List Fact)) (delta : List Fact)
     → length (entries ++ delta ∷ []) ≡ length entries + 1
 length_push entries delta = length-append entries (delta ∷ [])
 
-left_as : (st : State) (kept : Bool) (entries : List (List Fact))
-    → IsLeftAs (records_in entries) (length entries) st (records_in (entries_left st kept entries))
-    (length (entries_left st kept entries))
-left_as Up kept entries = (refl, refl)
-left_as (Writing delta) true entries = inr (records_push entries delta, length_push entries delta)
-left_as (Writing delta) false entries = inl (refl, refl)
-left_as (Compacting start) true entries = inr (records-alone _, length-map _ _)
-left_as (Compacting start) false entries = inl (refl, refl)
+left_as : (st : State) (kept : Bool) (entries : List (List Fact)) (whole : List Fact)
+    → IsLeftAs (records_in entries) whole (length entries) st (records_in (entries_left st kept entries))
+    (whole_left st kept whole) (length (entries_left st kept entries))
+left_as Up kept entries whole = (refl, refl, refl)
+left_as (Writing delta) true entries whole = inr (records_push entries delta, refl, length_push entries delta)
+left_as (Writing delta) false entries whole = inl (refl, refl, refl)
+left_as (Compacting start) true entries whole = inr (records-alone _, refl, length-map _ _)
+left_as (Compacting start) false entries whole = inl (refl, refl, refl)
 
 -- what one more crash leaves is an image
-image_of : (x : Node) (kept : Bool) → IsImage x (records (mounted x kept)) (length (mounted x kept).entries)
-image_of x kept = left_as x.state kept x.entries
+image_of : (x : Node) (kept : Bool)
+    → IsImage x (records (mounted x kept)) (mounted x kept).whole (length (mounted x kept).entries)
+image_of x kept = left_as x.state kept x.entries x.whole
 
-accepts : RunGoesOn → LinesGoOn → IsSentInRuns → StandForOne → (terms : Terms) (script : List Said) (s : Story)
-    → Played terms script s → (at : Side) (past : List Call) → Leaves (node s.world at) past
-    → AcceptsSent at past script s.report
-accepts goes on law one terms script s played at past leaves image may batches are stands seq =
+-- all that a source ever accepted, after one more crash, is what the report says was sent
+accepts : RunGoesOn → LinesGoOn → IsSentInRuns → (terms : Terms) (script : List Said) (s : Story)
+    → Played terms script s → (at : Side) (kept : Bool) (seq : ℕ)
+    → history (mounted (node s.world at) kept).whole seq
+    ≡ sent_in at seq (length (mounted (node s.world at) kept).entries) (paired script s.report)
+accepts goes on law terms script s played at kept seq =
     let of = rows_of_run goes on terms script s played in
-    let left = leaves image may in
-    let x = node s.world at in
-    let same = one batches (mounted x left.kept).entries image are left.are.each stands
-    (stands_for (mounted x left.kept).start (mounted x left.kept).entries image left.stands) in
-    let there : IsImage (node (run terms of.events start_world) at) (records (mounted x left.kept))
-    (length (mounted x left.kept).entries) =
-    subst (λ (w : World). IsImage (node w at) (records (mounted x left.kept)) (length (mounted x left.kept).entries))
-    of.is (image_of x left.kept) in
-    let sent = law terms address_one address_two of.events at seq (records (mounted x left.kept))
-    (length (mounted x left.kept).entries) there in
-    subst (λ (b : List (List Fact)). accepted (records_in b) seq
-    ≡ sent_in at seq (length b) (paired script s.report)) (sym same)
-    (sent ∙ sym (sent_same script s.report (lines terms of.events start_world) of.are at seq
-    (length (mounted x left.kept).entries)))
+    let x = mounted (node s.world at) kept in
+    let there : IsImage (node (run terms of.events start_world) at) (records x) x.whole (length x.entries) =
+    subst (λ (w : World). IsImage (node w at) (records x) x.whole (length x.entries)) of.is
+    (image_of (node s.world at) kept) in
+    law terms address_one address_two of.events at seq (records x) x.whole (length x.entries) there
+    ∙ sym (sent_same script s.report (lines terms of.events start_world) of.are at seq (length x.entries))
 
-pub accepted_sent : RunGoesOn → LinesGoOn → IsSentInRuns → StandForOne → (terms : Terms) (script : List Said)
-    (s : Story) → Played terms script s → (scene : Scene) → Holds s.world scene
-    → AcceptedIsSent script s.report scene
-accepted_sent goes on law one terms script s played scene holds = record {
-  one = accepts goes on law one terms script s played One scene.drives.one.disk.past holds.one;
-  two = accepts goes on law one terms script s played Two scene.drives.two.disk.past holds.two;
+pub accepted_sent : RunGoesOn → LinesGoOn → IsSentInRuns → RunsKeep → OwnAreTerms → (terms : Terms)
+    (script : List Said) (s : Story) → AreOfNet terms → AllByRecursion IsWithin script → Played terms script s
+    → (scene : Scene) → Holds s.world scene → AcceptedIsSent script s.report scene
+accepted_sent goes on law keep own terms script s net within played scene holds x y may_x may_y = record {
+  word = headline_whole goes keep own terms script s net within played scene holds x y may_x may_y;
+  one = accepts goes on law terms script s played One (holds.one x may_x).kept;
+  two = accepts goes on law terms script s played Two (holds.two y may_y).kept;
 }

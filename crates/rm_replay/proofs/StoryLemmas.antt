@@ -12,11 +12,11 @@ use Rattle.rm_protocol.specs.Polls.{poll}
 use Rattle.rm_protocol.specs.Said.{sent_of}
 use Rattle.rm_protocol.specs.Terms.{Terms}
 use Rattle.rm_protocol.specs.World.{Packet, Side, One, Two, World, Event, Create, Grant, Send, Tick, Deliver, Close}
-use Rattle.rm_protocol.specs.World.{End, Ask, Nack, Poll, Arm, Crash, Compact}
+use Rattle.rm_protocol.specs.World.{End, Ask, Nack, Poll, Arm, Crash, Compact, Consume}
 use Rattle.rm_protocol.specs.World.{Noise, arrives, calls, happens, node, other, place, received_by, sent, wish_of}
 use Rattle.rm_protocol.specs.World.{with_clock}
 use Rattle.rm_protocol.specs.World.{with_node}
-use Rattle.rm_protocol.specs.Calls.{Answer, create, send, close, end, tick, ask_ack, nack_missing}
+use Rattle.rm_protocol.specs.Calls.{Answer, consume, create, send, close, end, tick, ask_ack, nack_missing}
 use Rattle.rm_protocol.specs.Word.{IsPrefixOf}
 use Rattle.rm_base.specs.Numbered.{numbered}
 use Rattle.rm_disk.specs.Call.{Call}
@@ -180,6 +180,9 @@ packets_grow terms w (Crash side kept) = still w side (mounted (node w side) kep
 packets_grow terms w (Noise side refusal) =
     calls_grow terms w side true (received_by terms (node w side) (Err refusal))
 packets_grow terms w (Compact side) = still w side (compacted terms (node w side))
+packets_grow terms w (Consume side seq upto) =
+    calls_grow terms w side false
+    (consume terms (records (node w side)) (node_end terms (node w side)) seq upto)
 
 -- a line was played, and there was no memory for its report
 left_played : EachIsLeft → (terms : Terms) (w : World) (line : Said) (event : Option Event) (scene : Scene)

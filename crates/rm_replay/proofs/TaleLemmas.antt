@@ -132,6 +132,7 @@ crashes_told side (said.Ask at seq) entries old new pairs is left = inl (none_mo
 crashes_told side (said.Nack at seq) entries old new pairs is left = inl (none_more _ _ pairs is left)
 crashes_told side (said.Poll at) entries old new pairs is left = inl (none_more _ _ pairs is left)
 crashes_told side (said.Compact at) entries old new pairs is left = inl (none_more _ _ pairs is left)
+crashes_told side (said.Consume at seq upto) entries old new pairs is left = inl (none_more _ _ pairs is left)
 crashes_told side (said.Arm at calls) entries old new pairs is left = inl (none_more _ _ pairs is left)
 crashes_told side (said.Crash at choice) entries old new pairs is left =
     one_of side (side_of at) choice entries (crashes_of old.disk.past) (crashes_of new.disk.past) pairs is left

@@ -2,7 +2,8 @@
 use Rattle.std.proofs.Common.{◌≡◌, ◌∙◌, ◌+◌, ℕ, List, ◌∷◌, ◌++◌, length, Option, Some, None, refl, sym, ap, subst, []}
 use Rattle.std.specs.List.{AllByRecursion}
 use Rattle.rm_protocol.specs.Calls.{Cause, NoSequence, WrongSide, PayloadTooLong, BadPayload, NotOpen}
-use Rattle.rm_protocol.specs.Calls.{WindowFull, NodeFull, Rollover, TooManySequences, StoreFull, Done, Refused, Judged}
+use Rattle.rm_protocol.specs.Calls.{WindowFull, NodeFull, Rollover, TooManySequences, StoreFull, PastInbox, Done}
+use Rattle.rm_protocol.specs.Calls.{Refused, Judged}
 use Rattle.rm_protocol.specs.Node.{Answered, DiskFault, IsDown}
 use Rattle.rm_protocol.specs.Sent.{LineOutcome, Called, NoCall, NoPacket, outcome_of}
 use Rattle.rm_protocol.specs.Terms.{Terms}
@@ -38,6 +39,7 @@ calm_refusal (NodeFull unacked) = tt
 calm_refusal Rollover = tt
 calm_refusal (TooManySequences count) = tt
 calm_refusal (StoreFull end needed) = tt
+calm_refusal (PastInbox have) = tt
 
 calm_told : (outcome : LineOutcome) → IsFaultless outcome → IsCalm (outcome_told outcome)
 calm_told (Called (Answered Done)) free = tt
@@ -61,6 +63,7 @@ calm_silent number (said.Ask at seq) w = (tt, tt)
 calm_silent number (said.Nack at seq) w = (tt, tt)
 calm_silent number (said.Poll at) w = (tt, tt)
 calm_silent number (said.Compact at) w = (tt, tt)
+calm_silent number (said.Consume at seq upto) w = (tt, tt)
 calm_silent number (said.Arm at calls) w = (tt, tt)
 calm_silent number (said.Crash at choice) w = (tt, tt)
 calm_silent number (said.Noise at bytes) w = (tt, tt)
@@ -91,6 +94,7 @@ unarmed_step (said.Ask at seq) event arms means = subst IsUnarmedStep (sym means
 unarmed_step (said.Nack at seq) event arms means = subst IsUnarmedStep (sym means) tt
 unarmed_step (said.Poll at) event arms means = subst IsUnarmedStep (sym means) tt
 unarmed_step (said.Compact at) event arms means = subst IsUnarmedStep (sym means) tt
+unarmed_step (said.Consume at seq upto) event arms means = subst IsUnarmedStep (sym means) tt
 unarmed_step (said.Arm at calls) event arms means = absurd arms
 unarmed_step (said.Crash at choice) event arms means = subst IsUnarmedStep (sym means.1) tt
 unarmed_step (said.Noise at bytes) None arms means = tt

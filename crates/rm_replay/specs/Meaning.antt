@@ -9,7 +9,7 @@ use Rattle.rm_message.specs.declared.refusal.Refusal.{Refusal}
 use Rattle.rm_protocol.specs.Sent.{LineOutcome, Called, NoPacket, NoCall, outcome_of}
 use Rattle.rm_protocol.specs.Terms.{Terms}
 use Rattle.rm_protocol.specs.World.{Side, One, Two, Event, Create, Grant, Send, Tick, Deliver, Close, End, Ask}
-use Rattle.rm_protocol.specs.World.{Nack, Poll, Compact, Arm, Crash, Noise, World, happens}
+use Rattle.rm_protocol.specs.World.{Nack, Poll, Compact, Consume, Arm, Crash, Noise, World, happens}
 use Rattle.rm_report.specs.declared.line.Line.{Line}
 use Rattle.rm_report.specs.declared.line.Outcome.{Outcome}
 use Rattle.rm_report.specs.declared.line.Outcome.TheVariants as told
@@ -51,6 +51,7 @@ Means (said.Ask at seq) event = event ≡ Some (Ask (side_of at) seq)
 Means (said.Nack at seq) event = event ≡ Some (Nack (side_of at) seq)
 Means (said.Poll at) event = event ≡ Some (Poll (side_of at))
 Means (said.Compact at) event = event ≡ Some (Compact (side_of at))
+Means (said.Consume at seq upto) event = event ≡ Some (Consume (side_of at) seq upto)
 Means (said.Arm at calls) event = event ≡ Some (Arm (side_of at) calls)
 Means (said.Crash at choice) event = (kept : Bool) × (event ≡ Some (Crash (side_of at) kept))
 Means (said.Noise at bytes) event = IsNoise at bytes event

@@ -1,21 +1,16 @@
 -- What a report says was sent, from its lines and those of its script.
 use Rattle.std.specs.Prelude.{◌≡◌, ℕ, ◌+◌, ◌==◌, ◌&&◌, Bool, true, false, if◌then◌else◌, List, [], ◌∷◌, ◌++◌, length}
-use Rattle.std.specs.List.{AllByRecursion}
-use Rattle.record_batch.specs.Writable.{IsBatch}
-use Rattle.record_batch.specs.Fact.{Fact}
-use Rattle.rm_disk.specs.Call.{Call}
 use Rattle.rm_disk.specs.Image.{MayLeave}
-use Rattle.rm_protocol.specs.Node.{records_in}
 use Rattle.rm_protocol.specs.Sent.{same_side}
+use Rattle.rm_protocol.specs.Word.{history}
 use Rattle.rm_protocol.specs.World.{Side, One, Two}
 use Rattle.rm_report.specs.declared.line.Line.{Line}
 use Rattle.rm_report.specs.declared.line.Outcome.{Outcome}
 use Rattle.rm_report.specs.declared.line.Outcome.TheVariants as told
 use Rattle.rm_script.specs.declared.event.Event.{Event as Said}
 use Rattle.rm_script.specs.declared.event.Event.TheVariants as said
-use Rattle.sequence_table.specs.Sources.{accepted}
 use Rattle.sequence_table.specs.Words.{Text}
-use Rattle.node_store.specs.Has.{StandsForBatches}
+use Rattle.rm_replay.specs.Headline.{KeepWord}
 use Rattle.rm_replay.specs.Meaning.{side_of}
 use Rattle.rm_replay.specs.Shows.{Scene}
 
@@ -65,14 +60,14 @@ sent_in at seq image (pair ∷ more) =
     sent_by at seq pair.line (counts pair.report.outcome (entries_at at pair.report) (next_entries at image more))
     ++ sent_in at seq image more
 
--- whatever batches an image of the node's disk stands for, each source accepted what the report says was sent
-abbrev pub AcceptsSent : Side → List Call → List Said → List Line → Type 0
-AcceptsSent at past script report =
-    (image : List ℕ) → MayLeave past image
-    → (batches : List (List Fact)) → AllByRecursion IsBatch batches → StandsForBatches batches image
-    → (seq : ℕ) → accepted (records_in batches) seq ≡ sent_in at seq (length batches) (paired script report)
+-- two images keep the word, and all that each source ever accepted is what the report says was sent
+pub record KeepWordOfSent (script : List Said) (report : List Line) (image_one image_two : List ℕ) : Type 0 where
+  pub word : KeepWord image_one image_two
+  pub one : (seq : ℕ) → history word.whole_one seq ≡ sent_in One seq (length word.one) (paired script report)
+  pub two : (seq : ℕ) → history word.whole_two seq ≡ sent_in Two seq (length word.two) (paired script report)
 
--- so it is for both nodes
-pub record AcceptedIsSent (script : List Said) (report : List Line) (now : Scene) : Type 0 where
-  pub one : AcceptsSent One now.drives.one.disk.past script report
-  pub two : AcceptsSent Two now.drives.two.disk.past script report
+-- so it is for each pair of images of both disks
+abbrev pub AcceptedIsSent : List Said → List Line → Scene → Type 0
+AcceptedIsSent script report now =
+    (image_one image_two : List ℕ) → MayLeave now.drives.one.disk.past image_one
+    → MayLeave now.drives.two.disk.past image_two → KeepWordOfSent script report image_one image_two

@@ -9,7 +9,7 @@ use Rattle.rm_protocol.specs.Sent.{outcome_of, same_side}
 use Rattle.rm_protocol.specs.Terms.{Terms}
 use Rattle.rm_protocol.specs.World.{Packet, Side, World, Event, Create, Grant, Send, Tick, Deliver, Close, End, Arm}
 use Rattle.rm_protocol.specs.World.{Ask, Nack, Crash}
-use Rattle.rm_protocol.specs.World.{Noise, Poll, Compact, node, other}
+use Rattle.rm_protocol.specs.World.{Noise, Poll, Compact, Consume, node, other}
 use Rattle.rm_report.specs.declared.line.Outcome.{Outcome}
 use Rattle.rm_script.specs.declared.event.Event.{Event as Said}
 use Rattle.rm_script.specs.declared.event.Event.TheVariants as said
@@ -57,6 +57,7 @@ node_of w (Crash side kept) = Some side
 node_of w (Noise side refusal) = Some side
 node_of w (Poll side) = Some side
 node_of w (Compact side) = Some side
+node_of w (Consume side seq upto) = Some side
 
 -- 1 where a line of this node came out as `disk`
 abbrev pub fault_at : Side → Option Side → Outcome → ℕ

@@ -343,6 +343,9 @@ pub(crate) fn happen<M: CrashDisk, W: Wire>(
         Event::End { node, seq } => some(call(stage, nodes, node, Call::End { seq })),
         Event::Ask { node, seq } => some(call(stage, nodes, node, Call::AskAck { seq })),
         Event::Nack { node, seq } => some(call(stage, nodes, node, Call::NackMissing { seq })),
+        Event::Consume { node, seq, upto } => {
+            some(call(stage, nodes, node, Call::Consume { seq, upto }))
+        }
         Event::Poll { node } => some(poll(alloc, stage, nodes, node)),
         Event::Compact { node } => {
             let came = compact(&mut stage.one, &mut stage.two, nodes, node);

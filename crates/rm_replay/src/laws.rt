@@ -1,8 +1,9 @@
 //! Laws of scripts that are played.
-ghost use Rattle.std.specs.Prelude.{◌≡◌, List};
+ghost use Rattle.std.specs.Prelude.{◌≡◌, ℕ, List, take};
 ghost use Rattle.rm_protocol.specs.Delivered.{TakesNew};
 ghost use Rattle.rm_protocol.specs.Terms.{Terms};
 ghost use Rattle.rm_protocol.specs.World.{Event as Happening, run};
+ghost use Rattle.rm_script.specs.Within.{IsWithin};
 ghost use Rattle.rm_script.specs.declared.event.Event.{Event as Said};
 ghost use Rattle.rm_replay.specs.Headline.{KeepsHeadline};
 ghost use Rattle.rm_replay.specs.Net.{AreOfNet};
@@ -13,7 +14,6 @@ ghost use Rattle.rm_replay.specs.Unarmed.{ArmsNone, TellsCalm};
 ghost use Rattle.std.specs.List.{AllByRecursion};
 
 use node_laws::laws::{own_terms_are_terms, there_are_own_terms};
-use node_store::laws::bytes_stand_for_one_list_of_batches;
 use rm_network::laws::room_goes_by_the_bytes;
 use rm_protocol::laws::{
     a_delivered_message_is_taken as a_message_is_taken, a_run_goes_on, accepted_is_sent,
@@ -39,11 +39,12 @@ pub fn a_played_script_is_a_run()
 /// Two disks that hold what a played script made keep the headline; so do two disks where memory was wanting in a
 /// further line.
 pub fn a_played_script_keeps_the_headline()
-    ensures whole { (terms : Terms) (script : List Said) (s : Story) → AreOfNet terms → Played terms script s
-        → (scene : Scene) → Holds s.world scene
+    ensures whole { (terms : Terms) (script : List Said) (s : Story) → AreOfNet terms → AllByRecursion IsWithin script
+        → Played terms script s → (scene : Scene) → Holds s.world scene
         → KeepsHeadline scene.drives.one.disk.past scene.drives.two.disk.past }
-    ensures short { (terms : Terms) (script : List Said) (s : Story) → AreOfNet terms → Played terms script s
-        → (line : Said) (scene : Scene) → IsLeftOfLine terms s.world line scene
+    ensures short { (terms : Terms) (script : List Said) (s : Story) → AreOfNet terms → AllByRecursion IsWithin script
+        → Played terms script s → (line : Said) → IsWithin line → (scene : Scene)
+        → IsLeftOfLine terms s.world line scene
         → KeepsHeadline scene.drives.one.disk.past scene.drives.two.disk.past }
 {
     a_run_goes_on();
@@ -51,22 +52,24 @@ pub fn a_played_script_keeps_the_headline()
     own_terms_are_terms();
 }
 
-/// At each image of each disk, what a source accepted is what the report of a played script says was sent.
+/// At each pair of images of both disks, all that a source ever accepted, of which the headline speaks, is what the
+/// report of a played script says was sent.
 pub fn what_was_accepted_was_sent()
-    ensures { (terms : Terms) (script : List Said) (s : Story) → Played terms script s → (scene : Scene)
-        → Holds s.world scene → AcceptedIsSent script s.report scene }
+    ensures { (terms : Terms) (script : List Said) (s : Story) → AreOfNet terms → AllByRecursion IsWithin script
+        → Played terms script s → (scene : Scene) → Holds s.world scene → AcceptedIsSent script s.report scene }
 {
     a_run_goes_on();
     accepted_is_sent();
-    bytes_stand_for_one_list_of_batches();
+    every_run_keeps_the_word();
+    own_terms_are_terms();
 }
 
 /// At each moment of a script, a delivered message that is new, within the window and for an open sequence is recorded
 /// by that line, and released where it closes the gap, unless the node was down, its disk failed, an acknowledgement of
 /// the message was invalid or the store was full.
 pub fn a_delivered_message_is_taken()
-    ensures { (terms : Terms) (script : List Said) (s : Story) → AreOfNet terms → Played terms script s
-        → TakesNew terms s.world }
+    ensures { (terms : Terms) (script : List Said) (count : ℕ) (s : Story) → AreOfNet terms
+        → AllByRecursion IsWithin script → Played terms (take count script) s → TakesNew terms s.world }
 {
     a_run_goes_on();
     a_message_is_taken();

@@ -1,5 +1,5 @@
 -- The text of a report: a line for each line of the script that does something, and then what both nodes know.
-use Rattle.std.specs.Prelude.{ℕ, List, [], ◌∷◌, ◌++◌, codes, decimal}
+use Rattle.std.specs.Prelude.{ℕ, ◌==◌, if◌then◌else◌, List, [], ◌∷◌, ◌++◌, codes, decimal}
 use Rattle.hex.specs.Hex.{encode_lower}
 use Rattle.ack_ranges.specs.declared.range.Range.{Range}
 use Rattle.message_lines.specs.Lines as lines
@@ -34,6 +34,7 @@ reason_text reason.NodeFull = codes "NodeFull"
 reason_text reason.Rollover = codes "Rollover"
 reason_text reason.TooManySequences = codes "TooManySequences"
 reason_text reason.StoreFull = codes "StoreFull"
+reason_text reason.PastInbox = codes "PastInbox"
 
 -- OUTCOME
 abbrev pub outcome_text : Outcome → List ℕ
@@ -118,6 +119,14 @@ receiving_text phase behaviour received inbox discarded =
 abbrev pub in_text : Place → InPhase → Behaviour → List Range → ℕ → ℕ → List ℕ
 in_text place phase behaviour received inbox discarded =
     codes "in " ++ place_text place ++ codes " " ++ receiving_text phase behaviour received inbox discarded
+
+-- consumed N K C
+abbrev pub cursor_text : Place → ℕ → List ℕ
+cursor_text place cursor = codes "consumed " ++ place_text place ++ codes " " ++ decimal cursor ++ codes "\n"
+
+-- the line of the cursor, where anything was consumed
+abbrev pub consumed_text : Place → ℕ → List ℕ
+consumed_text place cursor = if cursor == 0 then [] else cursor_text place cursor
 
 -- item N K I HEX
 abbrev pub item_text : Place → ℕ → List ℕ → List ℕ

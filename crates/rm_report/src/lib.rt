@@ -12,5 +12,6 @@ pub mod summary;
 
 pub use line::{Line, Outcome, Reason, push_lines};
 pub use summary::{
-    Place, push_down, push_in, push_item, push_out, push_ranges, push_receiving, push_sending,
+    Place, push_consumed, push_down, push_in, push_item, push_out, push_ranges, push_receiving,
+    push_sending,
 };

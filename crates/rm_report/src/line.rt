@@ -19,6 +19,7 @@ pub enum Reason {
     Rollover,
     TooManySequences,
     StoreFull,
+    PastInbox,
 }
 
 /// How a line of a script came out.

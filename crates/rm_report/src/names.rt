@@ -23,6 +23,7 @@ pub(crate) fn reason_name(reason: Reason) -> &'static [u8]
         Reason::Rollover => b"Rollover",
         Reason::TooManySequences => b"TooManySequences",
         Reason::StoreFull => b"StoreFull",
+        Reason::PastInbox => b"PastInbox",
     }
 }
 

@@ -1,7 +1,7 @@
 //! The lines of a report behind the last line of its script: what the nodes know.
 ghost use Rattle.std.specs.Prelude.{◌≡◌, ◌++◌, OnOk};
 ghost use Rattle.rm_report.specs.Report.{out_text, in_text, counts_text, item_text, down_text, place_text, ranges_text};
-ghost use Rattle.rm_report.specs.Report.{receiving_text, sending_text};
+ghost use Rattle.rm_report.specs.Report.{consumed_text, receiving_text, sending_text};
 
 use crate::names::{behaviour_name, in_phase_name, out_phase_name, side_name};
 use ack_ranges::Range;
@@ -98,6 +98,20 @@ fn push_counts(out: &mut Blob, inbox: u64, discarded: u64) -> Result<(), Memory>
     push_decimal(out, inbox)?;
     out.push_all(b" discarded ")?;
     push_decimal(out, discarded)
+}
+
+/// Appends how many items of an inbox the application consumed, where it consumed any.
+pub fn push_consumed(out: &mut Blob, place: Place, cursor: u64) -> Result<(), Memory>
+    ensures { OnOk result (out.new ≡ out.old ++ consumed_text place cursor) }
+{
+    if cursor == 0 {
+        return Ok(());
+    }
+    out.push_all(b"consumed ")?;
+    push_place(out, place)?;
+    out.push_all(b" ")?;
+    push_decimal(out, cursor)?;
+    out.push_all(b"\n")
 }
 
 /// Appends the line of a payload in the inbox: its number, counted from 1, and its bytes in hexadecimal.

@@ -10,17 +10,18 @@ use Rattle.hex.specs.declared.error.FromHexError.{FromHexError}
 use Rattle.rm_base.specs.declared.message.Behaviour.{Behaviour}
 use Rattle.rm_base.specs.declared.lapse.Lapse.{Lapse}
 use Rattle.rm_elements.specs.Duration.{duration_in}
-use Rattle.rm_script.specs.Script.{side_text, spaced, IsExpiry, IsOffer, IsPolled, IsWish, Says}
+use Rattle.rm_script.specs.Script.{side_text, spaced, IsExpiry, IsNumber, IsOffer, IsPolled, IsWish, Says}
 use Rattle.rm_script.specs.Reading.{behind, word_of, behind_word, number_in, behaviour_in, node_in, call_in}
 use Rattle.rm_script.specs.Reading.{numbered_in, offer_in, create_with, create_behind, create_in, grant_in, text_in}
 use Rattle.rm_script.specs.Reading.{text_behind, send_in, tick_in, deliver_in, close_in, end_in, arm_in, crash_in}
 use Rattle.rm_script.specs.Reading.{ask_in, nack_in, with_none, alone_in, poll_in, compact_in, polled_by, polled_in}
+use Rattle.rm_script.specs.Reading.{number_behind, consume_in}
 use Rattle.rm_script.specs.Reading.{some_bytes, noise_in, choose, mishap_in, request_in, is_blank, event_in}
 use Rattle.rm_script.specs.declared.event.Side.{Side}
 use Rattle.rm_script.specs.declared.event.Side.TheVariants.{One, Two}
 use Rattle.rm_script.specs.declared.event.Event.{Event}
 use Rattle.rm_script.specs.declared.event.Event.TheVariants.{Nothing, Create, Grant, Send, Tick, Deliver, Close, End}
-use Rattle.rm_script.specs.declared.event.Event.TheVariants.{Ask, Nack, Poll, Compact}
+use Rattle.rm_script.specs.declared.event.Event.TheVariants.{Ask, Nack, Poll, Compact, Consume}
 use Rattle.rm_script.specs.declared.event.Event.TheVariants.{Arm, Crash, Noise}
 use Rattle.rm_script.proofs.WordLemmas.{some_then, some_mapped, behind-is, word_of-onto, behind_word-onto}
 use Rattle.rm_script.proofs.WordLemmas.{word_of-behind, word_of-IsWord, number_in-decimal, number_in-is, decimal-IsWord}
@@ -108,6 +109,12 @@ word_of-number : (k text : List ℕ) (n : ℕ) → n < 2 ^ 64 → k ≡ decimal 
 word_of-number k text n small is =
     rw (is, word_of-onto (decimal n) (32 ∷ text) (decimal-IsWord n small)) (append-nil (decimal n))
 
+number_behind-text : (k m : List ℕ) (n upto : ℕ) → n < 2 ^ 64 → k ≡ decimal n → upto < 2 ^ 64
+    → IsNumber 1 9223372036854775807 m upto → number_behind (behind_word (spaced k m)) ≡ Some upto
+number_behind-text k m n upto small is most number =
+    rw (is, behind_word-onto (decimal n) (32 ∷ m) (decimal-IsWord n small), number.2)
+    (number_in-decimal 1 9223372036854775807 upto most number.0 number.1)
+
 -- a line that says something is read as that
 pub event_in-said : (line : List ℕ) (event : Event) → Says line event → event_in line ≡ Some event
 event_in-said line Nothing (inl h) = rw h refl
@@ -139,6 +146,20 @@ event_in-said line (Poll One) h = rw h refl
 event_in-said line (Poll Two) h = rw h refl
 event_in-said line (Compact One) h = rw h refl
 event_in-said line (Compact Two) h = rw h refl
+event_in-said line (Consume side seq upto) h =
+    let k : List ℕ = h.0 in
+    let m : List ℕ = h.1 in
+    let small : seq < 2 ^ 64 = omega (arith, h.2.1) in
+    let most : upto < 2 ^ 64 = omega (arith, h.3.1) in
+    let number = number_in-decimal 1 256 seq small h.2.0 h.2.1 in
+    rw (
+      h.4,
+      call_in-text side (spaced k m),
+      word_of-number k m seq small h.2.2,
+      number,
+      number_behind-text k m seq upto small h.2.2 most h.3,
+    )
+    refl
 event_in-said line (Arm side calls) h = rw (h.2, numbered_in-text 1 1000 calls side h.0 (omega arith) h.1) refl
 event_in-said line (Crash side choice) h = rw (h.2, numbered_in-text 0 3 choice side h.0 (omega arith) h.1) refl
 event_in-said line (Noise side bytes) h =
@@ -313,6 +334,26 @@ compact_in-is bytes event h =
     subst (λ e. Says (codes "compact " ++ bytes) e) found.2
     (ap (λ l. codes "compact " ++ l) (alone_in-is bytes found.0 found.1))
 
+consume_in-is : (bytes : List ℕ) (event : Event) → consume_in bytes ≡ Some event
+    → Says (codes "consume " ++ bytes) event
+consume_in-is bytes event h =
+    let call = some_then _ (call_in bytes) event h in
+    let arguments = call.0.1 in
+    let seq = some_then _ (number_in 1 256 (word_of arguments)) event call.2 in
+    let upto = some_mapped _ (number_behind (behind_word arguments)) event seq.2 in
+    let space = some_then _ (behind (codes " ") (behind_word arguments)) upto.0 upto.1 in
+    let rest : behind_word arguments ≡ 32 ∷ space.0 =
+    behind-is (codes " ") (behind_word arguments) space.0 space.1 in
+    let parts : arguments ≡ spaced (word_of arguments) space.0 = word_of-behind arguments
+    ∙ ap (λ l. word_of arguments ++ l) rest in
+    subst (λ e. Says (codes "consume " ++ bytes) e) upto.2 (
+      word_of arguments,
+      space.0,
+      number_in-is 1 256 (word_of arguments) seq.0 seq.1,
+      number_in-is 1 9223372036854775807 space.0 upto.0 space.2,
+      ap (λ l. codes "consume " ++ l) (call_in-is bytes call.0 call.1 ∙ ap (λ l. spaced (side_text call.0.0) l) parts),
+    )
+
 arm_in-is : (bytes : List ℕ) (event : Event) → arm_in bytes ≡ Some event → Says (codes "arm " ++ bytes) event
 arm_in-is bytes event h =
     let found = some_mapped _ (numbered_in 1 1000 bytes) event h in
@@ -367,7 +408,8 @@ request_in-is line event =
     (said_by (codes "nack ") line nack_in _ event (λ rest. nack_in-is rest event)
     (said_by (codes "poll ") line poll_in _ event (λ rest. poll_in-is rest event)
     (said_by (codes "compact ") line compact_in _ event (λ rest. compact_in-is rest event)
-    (mishap_in-is line event))))))))))
+    (said_by (codes "consume ") line consume_in _ event (λ rest. consume_in-is rest event)
+    (mishap_in-is line event)))))))))))
 
 -- a comment begins with #
 is_blank-Says : (line : List ℕ) → is_blank line ≡ true → Says line Nothing

@@ -15,7 +15,7 @@ use Rattle.rm_script.specs.Script.{IsBehaviour, IsExpiry, IsOffer, Says, IsScrip
 use Rattle.rm_script.specs.Within.{IsWithin}
 use Rattle.rm_script.specs.declared.event.Event.{Event}
 use Rattle.rm_script.specs.declared.event.Event.TheVariants.{Nothing, Create, Grant, Send, Tick, Deliver, Close, End}
-use Rattle.rm_script.specs.declared.event.Event.TheVariants.{Ask, Nack, Poll, Compact}
+use Rattle.rm_script.specs.declared.event.Event.TheVariants.{Ask, Nack, Poll, Compact, Consume}
 use Rattle.rm_script.specs.declared.event.Event.TheVariants.{Arm, Crash, Noise}
 
 -- a duration is at least a millisecond, or none
@@ -76,6 +76,7 @@ Says-IsWithin line (Ask side seq) h = (h.1.0, h.1.1)
 Says-IsWithin line (Nack side seq) h = (h.1.0, h.1.1)
 Says-IsWithin line (Poll side) h = tt
 Says-IsWithin line (Compact side) h = tt
+Says-IsWithin line (Consume side seq upto) h = ((h.2.0, h.2.1), (h.3.0, h.3.1))
 Says-IsWithin line (Arm side calls) h = (h.1.0, h.1.1)
 Says-IsWithin line (Crash side choice) h = h.1.1
 Says-IsWithin line (Noise side bytes) h = h.1

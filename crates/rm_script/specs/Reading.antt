@@ -4,6 +4,7 @@ use Rattle.std.specs.Prelude.{ℕ, ◌==◌, ◌&&◌, if◌then◌else◌, nat_
 use Rattle.std.specs.Prelude.{Result, Ok, Err, option_map, option_and_then, true, false, codes, decimal}
 use Rattle.std.specs.Str.Parse.{digits_value}
 use Rattle.rm_base.specs.Limits as limits
+use Rattle.rm_base.specs.Message.{max_number}
 use Rattle.hex.specs.Hex.{decode_of}
 use Rattle.hex.specs.declared.error.FromHexError.{FromHexError}
 use Rattle.rm_base.specs.declared.message.Behaviour.{Behaviour}
@@ -15,7 +16,7 @@ use Rattle.rm_script.specs.declared.event.Side.{Side}
 use Rattle.rm_script.specs.declared.event.Side.TheVariants.{One, Two}
 use Rattle.rm_script.specs.declared.event.Event.{Event}
 use Rattle.rm_script.specs.declared.event.Event.TheVariants.{Nothing, Create, Grant, Send, Tick, Deliver, Close, End}
-use Rattle.rm_script.specs.declared.event.Event.TheVariants.{Ask, Nack, Poll, Compact}
+use Rattle.rm_script.specs.declared.event.Event.TheVariants.{Ask, Nack, Poll, Compact, Consume}
 use Rattle.rm_script.specs.declared.event.Event.TheVariants.{Arm, Crash, Noise}
 
 -- what stands behind a word at the front of bytes
@@ -162,6 +163,16 @@ poll_in bytes = option_map (λ side. Poll side) (alone_in bytes)
 abbrev pub compact_in : List ℕ → Option Event
 compact_in bytes = option_map (λ side. Compact side) (alone_in bytes)
 
+-- the number of a message, behind a space
+abbrev pub number_behind : List ℕ → Option ℕ
+number_behind bytes = option_and_then (number_in 1 max_number) (behind (codes " ") bytes)
+
+-- consume N K M
+abbrev pub consume_in : List ℕ → Option Event
+consume_in bytes =
+    option_and_then (λ n. option_and_then (λ seq. option_map (λ upto. Consume n.0 seq upto)
+    (number_behind (behind_word n.1))) (number_in 1 limits.most_sequences (word_of n.1))) (call_in bytes)
+
 -- arm N C
 abbrev pub arm_in : List ℕ → Option Event
 arm_in bytes = option_map (λ n. Arm n.0 n.1) (numbered_in 1 1000 bytes)
@@ -201,7 +212,7 @@ request_in line =
     (choose (behind (codes "close ") line) close_in (choose (behind (codes "end ") line) end_in
     (choose (behind (codes "ask ") line) ask_in (choose (behind (codes "nack ") line) nack_in
     (choose (behind (codes "poll ") line) poll_in (choose (behind (codes "compact ") line) compact_in
-    (mishap_in line))))))))))
+    (choose (behind (codes "consume ") line) consume_in (mishap_in line)))))))))))
 
 -- whether a line is empty, or a comment
 abbrev pub is_blank : List ℕ → Bool

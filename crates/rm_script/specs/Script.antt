@@ -3,6 +3,7 @@ use Rattle.std.specs.Prelude.{◌≡◌, ◌≢◌, ℕ, ◌-◌, ◌<◌, ◌�
 use Rattle.std.specs.Prelude.{take, Bool, true, false, Option, Some, None, Ok, codes, decimal}
 use Rattle.std.specs.List.{AllByRecursion}
 use Rattle.rm_base.specs.Limits as limits
+use Rattle.rm_base.specs.Message.{max_number}
 use Rattle.hex.specs.Hex.{decode_of}
 use Rattle.rm_base.specs.declared.message.Behaviour.{Behaviour}
 use Rattle.rm_base.specs.declared.message.Behaviour.TheVariants.{NoDiscard, EntireSequence, FollowingFirstGap}
@@ -13,7 +14,7 @@ use Rattle.rm_script.specs.declared.event.Side.{Side}
 use Rattle.rm_script.specs.declared.event.Side.TheVariants.{One, Two}
 use Rattle.rm_script.specs.declared.event.Event.{Event}
 use Rattle.rm_script.specs.declared.event.Event.TheVariants.{Nothing, Create, Grant, Send, Tick, Deliver, Close, End}
-use Rattle.rm_script.specs.declared.event.Event.TheVariants.{Ask, Nack, Poll, Compact}
+use Rattle.rm_script.specs.declared.event.Event.TheVariants.{Ask, Nack, Poll, Compact, Consume}
 use Rattle.rm_script.specs.declared.event.Event.TheVariants.{Arm, Crash, Noise}
 
 -- the byte stands before the first of the lines
@@ -103,6 +104,9 @@ Says line (Nack side seq) =
     (k : List ℕ) × IsNumber 1 limits.most_sequences k seq × (line ≡ call_text (codes "nack") side k)
 Says line (Poll side) = line ≡ spaced (codes "poll") (side_text side)
 Says line (Compact side) = line ≡ spaced (codes "compact") (side_text side)
+Says line (Consume side seq upto) =
+    (k : List ℕ) × (m : List ℕ) × IsNumber 1 limits.most_sequences k seq × IsNumber 1 max_number m upto
+    × (line ≡ call_text (codes "consume") side (spaced k m))
 Says line (Arm side calls) = (c : List ℕ) × IsNumber 1 1000 c calls × (line ≡ call_text (codes "arm") side c)
 Says line (Crash side choice) = (x : List ℕ) × IsNumber 0 3 x choice × (line ≡ call_text (codes "crash") side x)
 Says line (Noise side bytes) =

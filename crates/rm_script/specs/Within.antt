@@ -2,11 +2,12 @@
 use Rattle.std.specs.Prelude.{◌≢◌, ℕ, ◌≤◌, [], ⊤}
 use Rattle.std.specs.Option.{IfSome}
 use Rattle.rm_base.specs.Limits as limits
+use Rattle.rm_base.specs.Message.{max_number}
 use Rattle.rm_base.specs.declared.message.Behaviour.TheVariants.{NoDiscard}
 use Rattle.rm_elements.specs.Writable.{IsLapseWritable}
 use Rattle.rm_script.specs.declared.event.Event.{Event}
 use Rattle.rm_script.specs.declared.event.Event.TheVariants.{Nothing, Create, Grant, Send, Tick, Deliver, Close, End}
-use Rattle.rm_script.specs.declared.event.Event.TheVariants.{Ask, Nack, Poll, Compact}
+use Rattle.rm_script.specs.declared.event.Event.TheVariants.{Ask, Nack, Poll, Compact, Consume}
 use Rattle.rm_script.specs.declared.event.Event.TheVariants.{Arm, Crash, Noise}
 
 -- from low to high
@@ -28,6 +29,7 @@ IsWithin (Ask side seq) = IsFromTo 1 limits.most_sequences seq
 IsWithin (Nack side seq) = IsFromTo 1 limits.most_sequences seq
 IsWithin (Poll side) = ⊤
 IsWithin (Compact side) = ⊤
+IsWithin (Consume side seq upto) = IsFromTo 1 limits.most_sequences seq × IsFromTo 1 max_number upto
 IsWithin (Arm side calls) = IsFromTo 1 1000 calls
 IsWithin (Crash side choice) = choice ≤ 3
 IsWithin (Noise side bytes) = bytes ≢ []

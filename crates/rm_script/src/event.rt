@@ -67,6 +67,12 @@ pub enum Event {
     Poll {
         node: Side,
     },
+    /// The application of the node has consumed the first `upto` payloads of an inbox.
+    Consume {
+        node: Side,
+        seq: u32,
+        upto: u64,
+    },
     /// The node writes its journal anew.
     Compact {
         node: Side,

@@ -16,6 +16,8 @@ ghost use Rattle.rm_script.specs.Reading.{
   nack_in,
   alone_in,
   poll_in,
+  number_behind,
+  consume_in,
   compact_in,
   arm_in,
   crash_in,
@@ -29,7 +31,7 @@ ghost use Rattle.rm_script.specs.Reading.{
 use crate::event::{Event, Side};
 use crate::word::{behaviour, behind, call, cut_word, node, number, numbered};
 use hex::FromHexError;
-use rm_base::limits::{MOST_PACKETS, MOST_SEQUENCES, NOW_MAX};
+use rm_base::limits::{MAX_NUMBER, MOST_PACKETS, MOST_SEQUENCES, NOW_MAX};
 use rm_base::{Behaviour, Blob, Lapse, Memory};
 use rm_elements::read_duration;
 use std::alloc::Global;
@@ -92,6 +94,9 @@ fn request(alloc: Global, line: &[u8]) -> Result<Option<Event>, Memory>
     }
     if let Some(rest) = behind(line, b"compact ") {
         return Ok(compact(rest));
+    }
+    if let Some(rest) = behind(line, b"consume ") {
+        return Ok(consume(rest));
     }
     mishap(alloc, line)
 }
@@ -273,6 +278,28 @@ fn compact(bytes: &[u8]) -> Option<Event>
 {
     let node = alone(bytes)?;
     Some(Event::Compact { node })
+}
+
+fn consume(bytes: &[u8]) -> Option<Event>
+    ensures { result ≡ consume_in bytes.now }
+{
+    let arguments = call(bytes)?;
+    let (word, rest) = cut_word(arguments.rest);
+    let seq = number(word, 1, u64::from(MOST_SEQUENCES))?;
+    let upto = number_after(rest)?;
+    Some(Event::Consume {
+        node: arguments.node,
+        seq: seq as u32,
+        upto,
+    })
+}
+
+// The number of a message, behind a space.
+fn number_after(bytes: &[u8]) -> Option<u64>
+    ensures { result ≡ number_behind bytes.now }
+{
+    let digits = behind(bytes, b" ")?;
+    number(digits, 1, MAX_NUMBER)
 }
 
 fn arm(bytes: &[u8]) -> Option<Event>

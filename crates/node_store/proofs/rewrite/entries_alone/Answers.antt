@@ -1,38 +1,24 @@
-use Rattle.std.proofs.Common.{◌<◌, ◌≤◌, ◌∙◌, List, [], length, map, sym, ap, subst, arith}
-use Rattle.std.proofs.lemmas.List.{length-map, take_all}
-use Rattle.record_batch.specs.Batch.{batch_text}
-use Rattle.record_batch.specs.Fact.{Fact, Made, fact_of}
-use Rattle.rm_protocol.specs.Node.{alone}
-use Rattle.node_store.specs.Has.{entries_of}
-use Rattle.node_store.proofs.RewriteLemmas.{entries_more, fits_at, slice_one}
+use Rattle.std.proofs.Common.{◌≡◌, ◌∙◌, ◌++◌, ℕ, List, [], ◌∷◌, map, ap, subst, sym}
+use Rattle.std.specs.Vec.Iter.{into_iter_items}
+use Rattle.record_batch.specs.Fact.{Fact, fact_of}
+use Rattle.node_store.proofs.RewriteLemmas.{AreLeft, left_less, next_fits}
 use Rattle.node_store.proofs.rewrite.entries_alone.Goals as goal
 
-pub write_batch-requires : goal.write_batch-requires
-write_batch-requires c =
-    let rs = c.args.records.now in
-    let k = c.loop-k.k in
-    let low : k < length (map fact_of rs) = omega (arith, c.loop-k-test.true, length-map rs fact_of) in
-    let one = slice_one fact_of rs k (Made 0 []) c.loop-k-test.true in
-    c.a_batch_that_fits_is_short.ensures _
-    (subst (λ (b : List Fact). length (batch_text b) ≤ 4294967295) (sym one)
-    (fits_at (map fact_of rs) k (Made 0 []) low c.requires))
+pub entry_alone-requires : goal.entry_alone-requires
+entry_alone-requires c =
+    let r = map fact_of c.args.records in
+    let left = subst (AreLeft r c.loop-given.entries.items) (ap (map fact_of) c.in-Some.ensures.items)
+    c.loop-given.invariant in
+    next_fits r c.loop-given.entries.items (fact_of c.in-Some.given) (map fact_of (into_iter_items c.next.new.self))
+    left
 
-pub loop-k-preserved : goal.loop-k-preserved
-loop-k-preserved c =
-    let rs = c.args.records.now in
-    let k = c.loop-k.k in
-    let low : k < length (map fact_of rs) = omega (arith, c.loop-k-test.true, length-map rs fact_of) in
-    let one = slice_one fact_of rs k (Made 0 []) c.loop-k-test.true in
-    record {
-      are = c.in_ok-push.ensures.items
-          ∙ entries_more (map fact_of rs) _ k (Made 0 []) c.loop-k.entries.items c.in_ok-write_batch.field-0 low one
-          c.in_ok-write_batch.ensures.text c.loop-k.invariant.are;
-      end_is = c.loop-k.invariant.end_is;
-    }
-
-pub returns : goal.returns
-returns c =
-    let rs = c.args.records.now in
-    let all : length (map fact_of rs) ≤ c.loop-k.k = omega (arith, c.loop-k-test.false, length-map rs fact_of) in
-    c.loop-k.invariant.are
-    ∙ ap (λ (l : List Fact). entries_of (alone l)) (take_all c.loop-k.k (map fact_of rs) all)
+pub loop-given-preserved : goal.loop-given-preserved
+loop-given-preserved c =
+    let r = map fact_of c.args.records in
+    let rest = map fact_of (into_iter_items c.next.new.self) in
+    let left = subst (AreLeft r c.loop-given.entries.items) (ap (map fact_of) c.in-Some.ensures.items)
+    c.loop-given.invariant in
+    let made = c.in_ok-push.ensures.items
+    ∙ ap (λ (e : List ℕ). c.loop-given.entries.items ++ e ∷ []) c.in_ok-entry_alone.ensures in
+    subst (λ (es : List (List ℕ)). AreLeft r es rest) (sym made)
+    (left_less r c.loop-given.entries.items (fact_of c.in-Some.given) rest left)

@@ -1,13 +1,11 @@
-use Rattle.std.proofs.Common.{◌≡◌, ℕ, List, length, map, take}
+use Rattle.std.proofs.Common.{length, map}
+use Rattle.std.specs.Vec.Iter.{into_iter_items}
 use Rattle.record_batch.specs.Fact.{fact_of}
-use Rattle.record_batch.specs.declared.record.Record.{Record}
-use Rattle.rm_protocol.specs.Node.{alone}
-use Rattle.node_store.specs.Has.{entries_of}
+use Rattle.node_store.proofs.RewriteLemmas.{AreLeft}
 use Rattle.node_store.proofs.rewrite.entries_alone.Given as goal
 
-pub record AreEntries (records : List Record) (k end : ℕ) (entries : List (List ℕ)) : Type 0 where
-  pub are : entries ≡ entries_of (alone (take k (map fact_of records)))
-  pub end_is : end ≡ length records
+abbrev pub invariant-loop-given : goal.invariant-loop-given
+invariant-loop-given l = AreLeft (map fact_of l.fn.records) l.entries.items (map fact_of (into_iter_items l.rest))
 
-abbrev pub invariant-loop-k : goal.invariant-loop-k
-invariant-loop-k l = AreEntries l.records l.k l.k-end l.entries.items
+abbrev pub decreases-loop-given : goal.decreases-loop-given
+decreases-loop-given l = length (into_iter_items l.rest)

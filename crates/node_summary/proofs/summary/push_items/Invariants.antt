@@ -5,5 +5,5 @@ use Rattle.node_summary.proofs.summary.push_items.Given as goal
 
 abbrev pub invariant-loop-before : goal.invariant-loop-before
 invariant-loop-before l =
-    l.out ++ items_text l.place.node l.place.seq l.before (drop l.before (inbox l.incoming.facts))
-    ≡ l.initial.out ++ items_text l.place.node l.place.seq 0 (inbox l.incoming.facts)
+    l.out ++ items_text l.place l.before (drop l.before (inbox l.incoming.facts))
+    ≡ l.initial.out ++ items_text l.place 0 (inbox l.incoming.facts)

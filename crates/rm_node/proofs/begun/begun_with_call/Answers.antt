@@ -35,6 +35,11 @@ returns-in-NackMissing c asked asks =
     let is = subst (λ (x : Call). Asks x asked) c.in-NackMissing.is asks in
     sym (ap (begun_with c.args.tables.now.records) is)
 
+pub returns-in-Consume : goal.returns-in-Consume
+returns-in-Consume c asked asks =
+    let is = subst (λ (x : Call). Asks x asked) c.in-Consume.is asks in
+    sym (ap (begun_with c.args.tables.now.records) is)
+
 pub returns-in-Tick : goal.returns-in-Tick
 returns-in-Tick c asked asks =
     let is = subst (λ (x : Call). Asks x asked) c.in-Tick.is asks in

@@ -1,7 +1,7 @@
-use Rattle.std.proofs.Common.{◌+◌, length, ap, sym}
+use Rattle.std.proofs.Common.{◌+◌, ap, sym}
 use Rattle.std.specs.Prelude.{is_some}
 use Rattle.sequence_table.specs.Makers.{maker}
-use Rattle.sequence_table.specs.Sources.{accepted}
+use Rattle.sequence_table.specs.Sources.{accepted_count}
 use Rattle.rm_protocol.specs.Waiting.{key}
 use Rattle.rm_node.proofs.BegunLemmas.{outgoing-none, outgoing-some}
 use Rattle.rm_node.proofs.begun.next_message.Goals as goal
@@ -12,10 +12,10 @@ returns-in-Some c =
     let s = c.args.seq in
     let same = c.an_outgoing_sequence_is_as_recorded.ensures r s _ (sym c.in-Some.ensures) in
     rw (c.accepted_len.ensures.count, same)
-    (outgoing-some r s (maker r s) (key s (length (accepted r s) + 1)) (ap (λ o. is_some o) (sym c.in-Some.ensures)))
+    (outgoing-some r s (maker r s) (key s (accepted_count r s + 1)) (ap (λ o. is_some o) (sym c.in-Some.ensures)))
 
 pub returns-in-None : goal.returns-in-None
 returns-in-None c =
     let r = c.args.tables.now.records in
-    outgoing-none r c.args.seq (maker r c.args.seq) (key c.args.seq (length (accepted r c.args.seq) + 1))
+    outgoing-none r c.args.seq (maker r c.args.seq) (key c.args.seq (accepted_count r c.args.seq + 1))
     c.in-None.ensures

@@ -3,7 +3,7 @@ use Rattle.std.specs.Prelude.{IfOk}
 use Rattle.call_answers.specs.Answers.{seen, wish_seen}
 use Rattle.call_answers.specs.declared.answer.Answer.{Answer}
 use Rattle.rm_node.specs.Asked.{Asked, Asks, IsAsked, MayBeAsked, answer_to}
-use Rattle.rm_node.specs.Asked.{Create, Send, Close, End, AskAck, NackMissing, Tick, Poll}
+use Rattle.rm_node.specs.Asked.{Create, Send, Close, End, AskAck, NackMissing, Consume, Tick, Poll}
 use Rattle.rm_node.specs.declared.call.Call.{Call}
 use Rattle.rm_node.specs.declared.call.Call.TheVariants as call
 use Rattle.rm_node.proofs.SayLemmas.{given}
@@ -41,6 +41,12 @@ pub returns-in-NackMissing-clause-asked : goal.returns-in-NackMissing-clause-ask
 returns-in-NackMissing-clause-asked c =
     let it : IsAsked (call.NackMissing c.in-NackMissing.seq) = (NackMissing c.in-NackMissing.seq, refl) in
     given _ (IsAsked c.args.call) (subst IsAsked (sym c.in-NackMissing.is) it)
+
+pub returns-in-Consume-clause-asked : goal.returns-in-Consume-clause-asked
+returns-in-Consume-clause-asked c =
+    let it : IsAsked (call.Consume c.in-Consume.seq c.in-Consume.upto) =
+    (Consume c.in-Consume.seq c.in-Consume.upto, refl) in
+    given _ (IsAsked c.args.call) (subst IsAsked (sym c.in-Consume.is) it)
 
 pub returns-in-Tick-clause-asked : goal.returns-in-Tick-clause-asked
 returns-in-Tick-clause-asked c =

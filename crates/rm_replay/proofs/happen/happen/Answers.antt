@@ -1,5 +1,5 @@
 use Rattle.std.proofs.Common.{Some, refl, sym, subst}
-use Rattle.rm_protocol.specs.World.{Ask, Close, End, Nack, Send, Tick, node}
+use Rattle.rm_protocol.specs.World.{Ask, Close, Consume, End, Nack, Send, Tick, node}
 use Rattle.rm_report.specs.declared.line.Outcome.TheVariants as told
 use Rattle.rm_script.specs.Within.{IsWithin}
 use Rattle.rm_script.specs.declared.event.Event.{Event as Said}
@@ -10,7 +10,8 @@ use Rattle.rm_replay.specs.Meaning.{side_of}
 use Rattle.rm_replay.specs.Shows.{drives_of, scene_of}
 use Rattle.rm_node.specs.Asked as asks
 use Rattle.rm_node.specs.declared.call.Call.TheVariants as call
-use Rattle.rm_replay.proofs.CallLemmas.{ask_call, close_call, end_call, nack_call, send_call, tick_call}
+use Rattle.rm_replay.proofs.CallLemmas.{ask_call, close_call, consume_call, end_call, nack_call, send_call}
+use Rattle.rm_replay.proofs.CallLemmas.{tick_call}
 use Rattle.rm_replay.proofs.CompactLemmas.{happens_compact}
 use Rattle.rm_replay.proofs.EventLemmas.{happens_arm, happens_call, happens_crash, happens_grant, happens_line}
 use Rattle.rm_replay.proofs.OrderLemmas.{in_order-all, in_order-offer}
@@ -110,6 +111,21 @@ returns-in-Nack g c terms net w shows =
     (step_of terms (node w (side_of at)) asked (call.NackMissing c.in-Nack.seq)) old new
     c.call-in-Nack.new.nodes c.call-in-Nack.result (nack_call terms w at c.in-Nack.seq)
     (c.call-in-Nack.ensures.moves terms net asked refl w shows) c.call-in-Nack.ensures.asked)
+
+pub returns-in-Consume : goal.returns-in-Consume
+returns-in-Consume g c terms net w shows =
+    let at = c.in-Consume.node in
+    let seq = c.in-Consume.seq in
+    let upto = c.in-Consume.upto in
+    let old = scene_of g.M.Disk.told g.W.Wire.packets c.args.stage.now in
+    let new = scene_of g.M.Disk.told g.W.Wire.packets c.call-in-Consume.new.stage in
+    happens_line terms w old new c.call-in-Consume.new.nodes c.args.event (said.Consume at seq upto)
+    c.call-in-Consume.result c.some-in-Consume.result c.in-Consume.is c.some-in-Consume.ensures
+    (happens_call c.each_image_is_left.ensures terms w (said.Consume at seq upto) (Consume (side_of at) seq upto)
+    (side_of at) (step_of terms (node w (side_of at)) (asks.Consume seq upto) (call.Consume seq upto)) old new
+    c.call-in-Consume.new.nodes c.call-in-Consume.result (consume_call terms w at seq upto)
+    (c.call-in-Consume.ensures.moves terms net (asks.Consume seq upto) refl w shows)
+    c.call-in-Consume.ensures.asked)
 
 pub returns-in-Compact : goal.returns-in-Compact
 returns-in-Compact g c terms net w shows =

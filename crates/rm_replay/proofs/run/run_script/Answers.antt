@@ -23,7 +23,8 @@ returns-in_err-push_known-clause-short g c =
     let n = c.there_are_nets.ensures in
     let all = c.in_ok-play.ensures n.0 n.1 in
     let now = scene_of g.M.Disk.told g.W.Wire.packets c.play.new.stage in
-    rw p.1 (inr (c.a_played_script_keeps_the_headline.ensures.whole n.0 c.args.script.items all.story n.1 all.played now
+    rw p.1 (inr (c.a_played_script_keeps_the_headline.ensures.whole n.0 c.args.script.items all.story n.1
+    c.requires.within all.played now
     (holds_of c.each_image_is_left.ensures all.story.world now c.play.new.nodes all.shows)))
 
 pub returns-in_err-push_known-2-clause-err : goal.returns-in_err-push_known-2-clause-err
@@ -44,7 +45,8 @@ returns-in_err-push_known-2-clause-short g c =
     let n = c.there_are_nets.ensures in
     let all = c.in_ok-play.ensures n.0 n.1 in
     let now = scene_of g.M.Disk.told g.W.Wire.packets c.play.new.stage in
-    rw p.1 (inr (c.a_played_script_keeps_the_headline.ensures.whole n.0 c.args.script.items all.story n.1 all.played now
+    rw p.1 (inr (c.a_played_script_keeps_the_headline.ensures.whole n.0 c.args.script.items all.story n.1
+    c.requires.within all.played now
     (holds_of c.each_image_is_left.ensures all.story.world now c.play.new.nodes all.shows)))
 
 pub returns-in_err-play-clause-err : goal.returns-in_err-play-clause-err
@@ -65,7 +67,7 @@ returns-in_err-play-clause-short g c =
     let keeps = c.a_played_script_keeps_the_headline.ensures in
     rw p.1 (inr (short_keeps keeps.whole keeps.short n.0 c.args.script.items
     (scene_of g.M.Disk.told g.W.Wire.packets c.make.new.stage)
-    (scene_of g.M.Disk.told g.W.Wire.packets c.play.new.stage) n.1
+    (scene_of g.M.Disk.told g.W.Wire.packets c.play.new.stage) n.1 c.requires.within
     (c.in_err-play.ensures n.0 n.1)))
 
 pub returns-clause-ok : goal.returns-clause-ok
@@ -76,7 +78,8 @@ returns-clause-ok g c terms net =
     let made = c.make.ensures.spared in
     let all = c.in_ok-play.ensures terms net in
     ran_of c.each_image_is_left.ensures c.what_was_accepted_was_sent.ensures terms c.args.script.items old
-    mid now c.play.new.nodes c.play.new.report c.push_known.new.report c.push_known-2.new.report made all
+    mid now c.play.new.nodes c.play.new.report c.push_known.new.report c.push_known-2.new.report net
+    c.requires.within made all
     (c.in_ok-push_known.ensures all.story.world.one now.drives.one.disk all.shows.stand.one)
     (c.in_ok-push_known-2.ensures all.story.world.two now.drives.two.disk all.shows.stand.two)
 
@@ -85,5 +88,6 @@ returns-clause-word g c =
     let n = c.there_are_nets.ensures in
     let all = c.in_ok-play.ensures n.0 n.1 in
     let now = scene_of g.M.Disk.told g.W.Wire.packets c.play.new.stage in
-    c.a_played_script_keeps_the_headline.ensures.whole n.0 c.args.script.items all.story n.1 all.played now
+    c.a_played_script_keeps_the_headline.ensures.whole n.0 c.args.script.items all.story n.1 c.requires.within
+    all.played now
     (holds_of c.each_image_is_left.ensures all.story.world now c.play.new.nodes all.shows)

@@ -11,7 +11,8 @@ use Rattle.rm_node.proofs.node.Node.compact.Goals as goal
 
 pub invariant_of-self : goal.invariant_of-self
 invariant_of-self g c =
-    kept_rewritten c.a_snapshot_is_kept.ensures c.a_node_has_sets.ensures c.what_waits_is_exact_in_short.ensures
+    kept_rewritten c.a_snapshot_is_kept.ensures c.a_node_has_proper_ranges.ensures
+    c.what_waits_is_exact_in_short.ensures
     c.self.inside.store c.compact.new.self (told c.self.inside.kept) _ _ c.compact.ensures.stored c.self.invariant
 
 pub returns : goal.returns

@@ -1,9 +1,9 @@
-use Rattle.std.proofs.Common.{◌≡◌, ◌+◌, List, length, true, ap, refl, subst, sym, ◌∙◌}
+use Rattle.std.proofs.Common.{◌≡◌, ◌+◌, List, true, ap, refl, subst, sym, ◌∙◌}
 use Rattle.std.proofs.lemmas.Result.{err_from_is_err_and}
 use Rattle.record_batch.specs.Fact.{Fact}
 use Rattle.sequence_table.specs.Fits.{is_outgoing_side}
 use Rattle.sequence_table.specs.Makers.{maker}
-use Rattle.sequence_table.specs.Sources.{accepted}
+use Rattle.sequence_table.specs.Sources.{accepted_count}
 use Rattle.rm_journal.specs.JournalState.{end_of}
 use Rattle.rm_node.specs.Asked.{Send}
 use Rattle.rm_node.specs.Ends.{sent_end}
@@ -33,4 +33,4 @@ returns-clause-number g c =
     let side = send-side own.0 s.records (end_of s.journal) c.args.seq c.args.payload _ refl taken in
     c.next_number-number.ensures
     (subst (λ (r : List Fact). is_outgoing_side (maker r c.args.seq) ≡ true) (sym c.tables.ensures) side)
-    ∙ ap (λ (r : List Fact). length (accepted r c.args.seq) + 1) c.tables.ensures
+    ∙ ap (λ (r : List Fact). accepted_count r c.args.seq + 1) c.tables.ensures

@@ -1,0 +1,39 @@
+-- What an import makes of the bytes of a journal of the layout before.
+use Rattle.std.specs.Prelude.{◌≡◌, ◌+◌, ◌<◌, ℕ, Bool, true, false, List, length, Result, Err}
+use Rattle.rm_base.specs.Limits as limits
+use Rattle.record_batch.specs.Fact.{Fact}
+use Rattle.rm_disk.specs.Call.{Call}
+use Rattle.rm_journal.specs.Entries.{list_of, StandsAsBefore}
+use Rattle.rm_journal.specs.JournalState.{journal_of}
+use Rattle.node_store.specs.declared.error.ImportError.{ImportError}
+use Rattle.node_store.specs.declared.error.ImportError.TheVariants as Variant
+use Rattle.node_store.specs.Has.{AreOfNode, entries_of, Has}
+use Rattle.node_store.specs.Stored.{Stored}
+
+-- the disk failed
+abbrev pub import_failed : {T : Type 0} → Result T ImportError → Bool
+import_failed (Err Variant.Disk) = true
+import_failed _ = false
+
+-- bytes stand for these batches by the layout before
+abbrev pub StandsForBatchesAsBefore : List (List Fact) → List ℕ → Type 0
+StandsForBatchesAsBefore batches bytes = StandsAsBefore (entries_of batches) bytes
+
+-- the batches of a node: the bytes had them, and the disk, in the first bank, and the tables have them now
+pub record Imports (bytes : List ℕ) (new : List Call) (store : Stored) : Type 0 where
+  pub batches : List (List Fact)
+  pub were : StandsForBatchesAsBefore batches bytes
+  pub has : Has batches new store
+  pub journal : store.journal ≡ journal_of (entries_of batches)
+
+-- bytes stand for no batches of a node
+abbrev pub IsNoNodeBefore : List ℕ → Type 0
+IsNoNodeBefore bytes = (batches : List (List Fact)) → AreOfNode batches → StandsForBatchesAsBefore batches bytes → ⊥
+
+-- the journal of the entries for which bytes stand would be longer than it may be: it ends at 25, and so many bytes are
+-- wanted
+pub record IsTooLong (bytes : List ℕ) (error : ImportError) : Type 0 where
+  pub entries : List (List ℕ)
+  pub stands : StandsAsBefore entries bytes
+  pub long : limits.journal_bytes < 25 + length (list_of entries)
+  pub is : error ≡ Variant.Full 25 (length (list_of entries))

@@ -1,0 +1,78 @@
+//! A disk that is made that of a node whose journal of the layout before is given.
+ghost use Rattle.std.specs.Prelude.{◌≡◌, ◌⊎◌, ◌+◌, ◌≤◌, ℕ, List, true, false, Err, length, is_ok, IfErr, IfOk, IsTrue};
+ghost use Rattle.rm_base.specs.Limits.{journal_bytes};
+ghost use Rattle.rm_disk.specs.Call.{crashes_of};
+ghost use Rattle.rm_disk.specs.Cause.{HasCause};
+ghost use Rattle.rm_journal.specs.Entries.{list_of, StandsAsBefore};
+ghost use Rattle.rm_journal.specs.Journal.{Fits};
+ghost use Rattle.rm_journal.specs.JournalState.{journal_of};
+ghost use Rattle.node_laws.specs.Records.{IsKept};
+ghost use Rattle.node_store.specs.Changes.{KeepsUnarmed};
+ghost use Rattle.node_store.specs.Imported.{Imports, import_failed, IsNoNodeBefore, IsTooLong};
+ghost use Rattle.node_store.specs.Stored.{IsServing, stored};
+ghost use Rattle.node_store.specs.declared.error.ImportError.TheVariants.{Memory as NoMemory, Disk as DiskBroke};
+ghost use Rattle.node_store.specs.declared.error.ImportError.TheVariants.{NotAJournal as IsNoJournal};
+
+use crate::error::{ImportError, MountError};
+use crate::mount::serve;
+use node_tables::Tables;
+use rm_disk::Disk;
+use rm_journal::{Journal, JournalError};
+use std::alloc::Global;
+
+/// The journal that a disk is made, and the tables of its records.
+pub(crate) fn import<D: Disk>(
+    alloc: Global,
+    disk: &mut D,
+    bytes: &[u8],
+) -> Result<(Journal, Tables), ImportError>
+    ensures imported { IsTrue D.tells →
+        IfOk result (λ x. Imports bytes.now (D.told disk.new).past (stored x.0 x.1.records)) }
+    ensures none { IsTrue D.tells → result ≡ Err IsNoJournal → IsNoNodeBefore bytes.now }
+    ensures short { is_ok result ≡ true → (entries : List (List ℕ)) → StandsAsBefore entries bytes.now →
+        25 + length (list_of entries) ≤ journal_bytes }
+    ensures up { IfOk result (λ x. x.0.is_down ≡ false) }
+    ensures serving { IfOk result (λ x. IsServing x.0 x.1.records) }
+    ensures kept { IfOk result (λ x. IsKept x.1.records) }
+    ensures refusals { IfErr result (λ error. (error ≡ NoMemory) ⊎ (error ≡ DiskBroke) ⊎ (error ≡ IsNoJournal)
+        ⊎ IsTooLong bytes.now error) }
+    ensures unarmed { IsTrue D.tells →
+        KeepsUnarmed (D.told disk.old).fuse (D.told disk.new).fuse (import_failed result) }
+    ensures cause { HasCause (D.told disk.old).faults (D.told disk.new).faults (import_failed result) }
+    ensures crashes { IsTrue D.tells → crashes_of (D.told disk.new).past ≡ crashes_of (D.told disk.old).past }
+{
+    let mut journal = open_before(alloc, disk, bytes)?;
+    match serve(alloc, &mut journal, disk) {
+        Ok(tables) => Ok((journal, tables)),
+        Err(MountError::Memory) => Err(ImportError::Memory),
+        Err(MountError::Disk) => Err(ImportError::Disk),
+        Err(MountError::NotAJournal) => Err(ImportError::NotAJournal),
+    }
+}
+
+/// The journal of the entries for which bytes of the layout before stand, on a disk that has nothing else.
+fn open_before<D: Disk>(alloc: Global, disk: &mut D, bytes: &[u8]) -> Result<Journal, ImportError>
+    ensures made { IfOk result (λ journal. (entries : List (List ℕ)) × StandsAsBefore entries bytes.now
+        × (journal ≡ journal_of entries)) }
+    ensures fits { IsTrue D.tells → (entries : List (List ℕ)) → StandsAsBefore entries bytes.now →
+        IfOk result (Fits entries (D.told disk.new).past) }
+    ensures none { result ≡ Err IsNoJournal → (entries : List (List ℕ)) → ¬ (StandsAsBefore entries bytes.now) }
+    ensures short { is_ok result ≡ true → (entries : List (List ℕ)) → StandsAsBefore entries bytes.now →
+        25 + length (list_of entries) ≤ journal_bytes }
+    ensures refusals { IfErr result (λ error. (error ≡ NoMemory) ⊎ (error ≡ DiskBroke) ⊎ (error ≡ IsNoJournal)
+        ⊎ IsTooLong bytes.now error) }
+    ensures unarmed { IsTrue D.tells →
+        KeepsUnarmed (D.told disk.old).fuse (D.told disk.new).fuse (import_failed result) }
+    ensures cause { HasCause (D.told disk.old).faults (D.told disk.new).faults (import_failed result) }
+    ensures crashes { IsTrue D.tells → crashes_of (D.told disk.new).past ≡ crashes_of (D.told disk.old).past }
+{
+    match Journal::import(alloc, disk, bytes) {
+        Ok(journal) => Ok(journal),
+        Err(JournalError::Memory) => Err(ImportError::Memory),
+        Err(JournalError::Disk) => Err(ImportError::Disk),
+        Err(JournalError::NotAJournal) => Err(ImportError::NotAJournal),
+        Err(JournalError::EntryTooLong { .. }) => unreachable!(),
+        Err(JournalError::Full { end, needed }) => Err(ImportError::Full { end, needed }),
+        Err(JournalError::Down) => unreachable!(),
+    }
+}
