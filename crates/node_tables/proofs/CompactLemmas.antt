@@ -1,18 +1,14 @@
 -- The tables hold the snapshot of their records with its notes, and rows without the payloads that it leaves out.
-use Rattle.std.proofs.Common.{◌≡◌, ◌⊎◌, ℕ, zero, suc, ◌+◌, ◌-◌, ◌<◌, ◌≤◌, ◌==◌, Bool, true, false, ◌&&◌, ◌||◌, cond}
-use Rattle.std.proofs.Common.{max}
-use Rattle.std.proofs.Common.{List, [], ◌∷◌, ◌++◌, length, map, drop, get_or, refl, sym, ◌∙◌, ap, subst, inl, inr}
-use Rattle.std.proofs.Common.{arith}
+use Rattle.std.proofs.Common.{◌≡◌, ℕ, zero, suc, ◌+◌, ◌-◌, ◌<◌, ◌≤◌, ◌==◌, Bool, true, false, ◌&&◌, cond, max}
+use Rattle.std.proofs.Common.{List, [], ◌∷◌, ◌++◌, length, drop, get_or, refl, sym, ◌∙◌, ap, subst, inl, inr, arith}
 use Rattle.std.proofs.Common.{Option, Some, None}
 use Rattle.std.specs.Prelude.{nat_le, nat_lt, slice_get}
 use Rattle.std.specs.Option.{option_map}
-use Rattle.std.specs.List.{AllByRecursion, flat_map}
-use Rattle.std.proofs.lemmas.Bool.{and_parts, cases_Bool, false≢true, true≢false}
+use Rattle.std.specs.List.{flat_map}
+use Rattle.std.proofs.lemmas.Bool.{and_parts, cases_Bool, false≢true}
 use Rattle.std.proofs.lemmas.Bool.Decides.{nat_tests}
-use Rattle.std.proofs.lemmas.List.{get_or-map, length-map}
+use Rattle.std.proofs.lemmas.List.{get_or-map}
 use Rattle.std.proofs.lemmas.Option.{slice_get-map}
-use Rattle.ack_ranges.specs.declared.range.Range.{Range}
-use Rattle.ack_ranges.specs.Changes.{united}
 use Rattle.ack_ranges.specs.Laws.{EndsAreRight, SameNumbersSameRanges, UnionHasBoth}
 use Rattle.ack_ranges.specs.Ranges.{front_of, in_ranges}
 use Rattle.rm_base.specs.NumberSet.{has_number}
@@ -24,14 +20,12 @@ use Rattle.rm_destination.specs.Incoming.{forgotten as forgotten_by, inbox as in
 use Rattle.rm_destination.specs.ItemLemmas.{has_number-above}
 use Rattle.rm_destination.specs.Messages.{above, is_empty, numbers_of, run_to}
 use Rattle.record_batch.specs.Fact.{Fact, Accepted, Received}
-use Rattle.sequence_table.specs.Destinations.{behaviour_of, closes, cursor, held, inbox, messages, purged, received}
-use Rattle.sequence_table.specs.Destinations.{told}
+use Rattle.sequence_table.specs.Destinations.{behaviour_of, cursor, held, inbox, messages, purged, received, told}
 use Rattle.sequence_table.specs.Find.{accept_of}
 use Rattle.sequence_table.specs.Fits.{all_fit}
 use Rattle.sequence_table.specs.Makers.{Maker, Outgoing, Offered, Incoming, Taken, addresses_of, counter, created}
-use Rattle.sequence_table.specs.Makers.{maker}
-use Rattle.sequence_table.specs.Makers.{makers, number}
-use Rattle.sequence_table.specs.Sources.{accepted, acked, dropped, tickets}
+use Rattle.sequence_table.specs.Makers.{maker, makers, number}
+use Rattle.sequence_table.specs.Sources.{accepted, dropped}
 use Rattle.sequence_table.specs.Told.{Side, Sends, Receives, Told, first_ticket, last_onto, receiving, sending, side_of}
 use Rattle.sequence_table.specs.Told.{told_all, told_by}
 use Rattle.sequence_table.specs.ToldLemmas.{same_receiving, same_sending, same_told}
@@ -41,7 +35,7 @@ use Rattle.record_snapshot.specs.FrameLemmas.{same_frame}
 use Rattle.record_snapshot.specs.GoneLemmas.{numbers-received}
 use Rattle.record_snapshot.specs.GotLemmas.{purged-new, purged-same, received-kept}
 use Rattle.record_snapshot.specs.KeepLemmas.{snapshot-says}
-use Rattle.record_snapshot.specs.PassedLemmas.{Passed, inbox-held, nothing_, passed-is, upto_, without-no}
+use Rattle.record_snapshot.specs.PassedLemmas.{inbox-held, without-no}
 use Rattle.record_snapshot.specs.Same.{AreNumbers, HaveProper, SaysTheSame, without}
 use Rattle.record_snapshot.specs.SameLemmas.{frame-decides, unacked-is-equal}
 use Rattle.record_snapshot.specs.Snapshot.{passed, settled, snapshot}
@@ -50,9 +44,9 @@ use Rattle.record_snapshot.specs.WrittenLemmas.{snapshot-is-proper}
 use Rattle.sequence_row.specs.Row.{forgotten}
 use Rattle.node_tables.specs.declared.note.Note.{Note}
 use Rattle.node_tables.specs.declared.note.Note.TheVariants as note
-use Rattle.node_tables.specs.Kept.{AllHeld, HasPlace, HavePlaces, Holds, IsHeld, IsShort, Table, accepted_count_in}
+use Rattle.node_tables.specs.Kept.{AllHeld, HavePlaces, Holds, IsHeld, IsShort, Table, accepted_count_in}
 use Rattle.node_tables.specs.Kept.{accepted_in, all_forgotten, dropped_in, fact_at, no_row, payload_of, received_in}
-use Rattle.node_tables.specs.Kept.{records_in, records_of, row_at, told_in}
+use Rattle.node_tables.specs.Kept.{records_in, records_of, row_at}
 use Rattle.node_tables.specs.Shorter.{IsRecorded}
 use Rattle.node_tables.proofs.ForgetLemmas.{left_of}
 use Rattle.node_tables.proofs.RowsLemmas.{told-at}
@@ -87,8 +81,8 @@ without-above c (m ∷ ms) are =
           ∙ ap (λ xs. m ∷ xs) rest
           ∙ sym (ap (λ b. cond b (m ∷ above c ms) (above c ms)) kept)
       | inr gone ↦
-          let out : in_ranges (record { lower = 1; upper = c } ∷ []) m.0 ≡ true = grind (arith, nat_tests, gone, from)
-          in
+          let out : in_ranges (record { lower = 1; upper = c } ∷ []) m.0 ≡ true
+          = grind (arith, nat_tests, gone, from) in
           ap (λ b. cond b (without (record { lower = 1; upper = c } ∷ []) ms)
           (m ∷ without (record { lower = 1; upper = c } ∷ []) ms)) out
           ∙ rest
@@ -129,11 +123,8 @@ module _ (both : UnionHasBoth) (ends : EndsAreRight) (only : SameNumbersSameRang
       }
   gets-some s c b d some at le is =
       let q = snapshot r in
-      let held_ : 0 < length (held r s) = some-held (held r s) (inbox-held r s 1 (omega arith) (omega (
-        arith,
-        some,
-        le,
-      ))) in
+      let held_ : 0 < length (held r s) =
+      some-held (held r s) (inbox-held r s 1 (omega arith) (omega (arith, some, le))) in
       let new = purged-new r s (ap (λ xs. is_empty xs) is) [] r fit refl held_ in
       let gone : purged q s ≡ run_to (cursor r s) =
       new.0 ∙ is ∙ sym (one-run c some) ∙ ap run_to at in
@@ -299,8 +290,8 @@ notes-left kept rows (n ∷ ns) h left =
     ∙ ap (λ fs. fact_at kept rows n ∷ fs) (notes-left kept rows ns h.1 left.1)
 
 places-left : (kept : List Fact) (rows : List Told) (before : List Fact) (ns : List Note) → AllHeld kept rows ns
-    → AllHeld kept (all_forgotten rows) ns → HavePlaces kept rows before ns → HavePlaces kept (all_forgotten rows)
-    before ns
+    → AllHeld kept (all_forgotten rows) ns → HavePlaces kept rows before ns
+    → HavePlaces kept (all_forgotten rows) before ns
 places-left kept rows before [] h left places = tt
 places-left kept rows before (n ∷ ns) h left places = (
   places.0,

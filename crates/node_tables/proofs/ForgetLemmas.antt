@@ -22,8 +22,8 @@ forgot_at zero ts = refl
 forgot_at (suc k) [] = refl
 forgot_at (suc k) (t ∷ ts) = forgot_at k ts
 
-forgot_set : (k : ℕ) (ts : List Told) → k < length ts → set (forgot_to k ts) k (left_of (row_at ts k)) ≡ forgot_to
-    (suc k) ts
+forgot_set : (k : ℕ) (ts : List Told) → k < length ts
+    → set (forgot_to k ts) k (left_of (row_at ts k)) ≡ forgot_to (suc k) ts
 forgot_set k [] lt = absurd (omega (arith, lt))
 forgot_set zero (t ∷ ts) lt = refl
 forgot_set (suc k) (t ∷ ts) lt = ap (λ xs. left_of t ∷ xs) (forgot_set k ts (omega (arith, lt)))

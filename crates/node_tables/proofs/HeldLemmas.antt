@@ -2,7 +2,7 @@
 use Rattle.std.proofs.Common.{◌≡◌, ℕ, zero, suc, ◌+◌, ◌-◌, ◌<◌, ◌≤◌, true, cond, List, [], ◌∷◌}
 use Rattle.std.proofs.Common.{◌++◌, length, get_or, map, refl, sym, ap, subst, ◌∙◌, arith, inl, inr, append_assoc}
 use Rattle.std.proofs.lemmas.Bool.{and_from, and_parts, cases_eq, eqb-true, ne_eqb}
-use Rattle.std.specs.Prelude.{◌&&◌, ◌==◌, ◌⊎◌, ◌≢◌, nat_le}
+use Rattle.std.specs.Prelude.{◌&&◌, ◌==◌, ◌⊎◌, nat_le}
 use Rattle.std.specs.List.{flat_map}
 use Rattle.std.proofs.lemmas.List.{append-nil, get_or_append_left, length-append, length-map, map-append}
 use Rattle.std.proofs.lemmas.List.Concat.{flat_map-append}
@@ -249,8 +249,8 @@ notes_held kept more rows f (m ∷ ns) n first h g =
 
 notes_placed : (kept more : List Fact) (rows : List Told) (f : Fact) (before : List Fact) (ns : List Note) (n : Note)
     → DropsFirst rows f → AllHeld kept rows ns → HavePlaces kept rows before ns
-    → HasPlace (before ++ records_of kept rows ns) n → HavePlaces (kept ++ more) (rows_after rows f) before (ns ++ n ∷
-    [])
+    → HasPlace (before ++ records_of kept rows ns) n
+    → HavePlaces (kept ++ more) (rows_after rows f) before (ns ++ n ∷ [])
 notes_placed kept more rows f before [] n first h places one =
     (subst (λ b. HasPlace b n) (append-nil before) one, tt)
 notes_placed kept more rows f before (m ∷ ns) n first h places one =

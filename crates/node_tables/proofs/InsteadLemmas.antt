@@ -1,16 +1,14 @@
 -- What stands for a note, by the rows, is what stands for its record in a snapshot.
-use Rattle.std.proofs.Common.{◌≡◌, ℕ, zero, suc, ◌+◌, ◌-◌, ◌<◌, ◌≤◌, ◌==◌, Bool, true, false, ◌&&◌, ◌||◌, not, cond}
-use Rattle.std.proofs.Common.{max}
-use Rattle.std.proofs.Common.{List, [], ◌∷◌, ◌++◌, length, map, drop, get_or, refl, sym, ap, subst, ◌∙◌, arith, inl}
-use Rattle.std.proofs.Common.{inr}
-use Rattle.std.proofs.Common.{Option, Some, None, IfSome}
+use Rattle.std.proofs.Common.{◌≡◌, ℕ, zero, suc, ◌+◌, ◌-◌, ◌<◌, ◌≤◌, ◌==◌, Bool, true, false, ◌&&◌, not, cond}
+use Rattle.std.proofs.Common.{List, [], ◌∷◌, ◌++◌, length, get_or, refl, sym, ap, ◌∙◌, arith, inl, inr}
+use Rattle.std.proofs.Common.{Option, Some, None}
 use Rattle.std.specs.Prelude.{nat_le, nat_lt, slice_get}
-use Rattle.std.specs.List.{list_all, list_any}
+use Rattle.std.specs.List.{list_any}
 use Rattle.std.specs.Option.{option_map, option_to_list}
-use Rattle.std.proofs.lemmas.Bool.{and_parts, cases_Bool, false≢true, ne_eqb, not-true, true≢false}
+use Rattle.std.proofs.lemmas.Bool.{and_parts, cases_Bool, ne_eqb, true≢false}
 use Rattle.std.proofs.lemmas.Bool.Decides.{nat_tests}
 use Rattle.std.proofs.lemmas.Grind.{flat_map-append}
-use Rattle.std.proofs.lemmas.List.{append-nil, get_or-map, length-drop, length-map}
+use Rattle.std.proofs.lemmas.List.{length-drop}
 use Rattle.std.proofs.lemmas.Option.{slice_get-get_or}
 use Rattle.ack_ranges.specs.declared.range.Range.{Range}
 use Rattle.ack_ranges.specs.Changes.{united}
@@ -19,13 +17,12 @@ use Rattle.rm_base.specs.Message.{max_number}
 use Rattle.rm_base.specs.NumberSet.{has_number}
 use Rattle.rm_base.specs.Numbered.{numbered}
 use Rattle.rm_base.specs.declared.message.Payload.{Payload}
-use Rattle.rm_source.specs.Outgoing.{settled as settled_by}
 use Rattle.rm_destination.specs.Incoming.{inbox as inbox_in, inbox_of}
-use Rattle.rm_destination.specs.ItemLemmas.{has_number-above, in_ranges-run_to}
+use Rattle.rm_destination.specs.ItemLemmas.{has_number-above}
 use Rattle.rm_destination.specs.Messages.{above, is_empty, numbers_of, run_to}
 use Rattle.record_batch.specs.Fact.{Fact, Accepted, Acked, Received, Consumed, Dropped, Purged}
-use Rattle.sequence_table.specs.Destinations.{behaviour_of, cursor, held, inbox, is_stopped, messages, told}
-use Rattle.sequence_table.specs.Fits.{fits, follows_at, is_incoming_side, is_outgoing_side, is_up_to}
+use Rattle.sequence_table.specs.Destinations.{behaviour_of, cursor, held, is_stopped, messages, told}
+use Rattle.sequence_table.specs.Fits.{fits, follows_at, is_incoming_side, is_outgoing_side}
 use Rattle.sequence_table.specs.Makers.{Maker, Outgoing, Offered, Incoming, Taken, maker, makers, makers_of}
 use Rattle.sequence_table.specs.Sources.{accepted_count, acked}
 use Rattle.sequence_table.specs.Told.{Side, Sends, Receives, Told, told_by}
@@ -94,8 +91,8 @@ runs_some false c b e = absurd (true≢false (sym e))
 
 runs : (c n : ℕ) → run_to (cond (nat_le c n) c 0)
     ≡ cond (nat_lt 0 c && nat_le c n) (record { lower = 1; upper = c } ∷ []) []
-runs zero n = elim (nat_le 0 n) as (λ b. run_to (cond b 0 0) ≡ cond (false && b) (record { lower = 1; upper = 0 } ∷
-    []) []) [
+runs zero n = elim (nat_le 0 n) as (λ b. run_to (cond b 0 0)
+    ≡ cond (false && b) (record { lower = 1; upper = 0 } ∷ []) []) [
       | true ↦ refl
       | false ↦ refl
     ]
@@ -171,8 +168,8 @@ purged-receives r before behind s ranges at =
     receives-at r before (Purged s ranges) behind s at (and_parts (is_incoming_side (maker before s)) _ at.fit).0
 
 -- a message has a number from 1 on
-pub received-from : (r before behind : List Fact) (s n : ℕ) (p : Payload) → IsAt r before (Received s n p) behind → 0
-    < n
+pub received-from : (r before behind : List Fact) (s n : ℕ) (p : Payload)
+    → IsAt r before (Received s n p) behind → 0 < n
 received-from r before behind s n p at =
     let rest = (and_parts (is_incoming_side (maker before s)) (nat_le 1 n && (nat_le n max_number
     && (not (has_number (held before s) n) && not (is_stopped before s)))) at.fit).1 in
@@ -260,8 +257,8 @@ same-instead kept rows seen r before behind (note.Acked seq numbers) known at ha
     ap (λ b. option_to_list (cond b None (some_ranges (Acked seq) (past_front (acked_in (numbered rows seq))))))
     (met seq (here seq))
     ∙ ap (λ xs. option_to_list (cond (list_any (acks seq) behind) None (some_ranges (Acked seq) (past_front xs)))) all
-    ∙ left_out (list_any (acks seq) behind) (some_ranges (Acked seq) (left_acked r seq)) (acked_with seq (left_acked r
-    seq))
+    ∙ left_out (list_any (acks seq) behind) (some_ranges (Acked seq) (left_acked r seq))
+    (acked_with seq (left_acked r seq))
     (acked-listed seq (left_acked r seq))
   where
     here : (s : ℕ) → (s == s) ≡ true
@@ -272,13 +269,13 @@ same-instead kept rows seen r before behind (note.Accepted row n) known at has m
     let all : acked_in (numbered rows s) ≡ united [] (acked r s) =
     ap acked_in (known s) ∙ acked-known r s (accepted-sends r before behind s _ at) in
     let tests = next_settled n (settled r s) (accepted_count before s) has in
-    ap (λ xs. option_to_list (cond (nat_le n (front_of xs)) (cond (n == 1) (Some (Dropped s (front_of xs))) None)
-    (Some f)))
+    ap (λ xs. option_to_list (cond (nat_le n (front_of xs))
+    (cond (n == 1) (Some (Dropped s (front_of xs))) None) (Some f)))
     all
     ∙ both_chosen (nat_le n (settled r s)) (n == 1) (Dropped s (settled r s)) f
     ∙ ap (λ b. cond b (cond (n == 1) (Dropped s (settled r s) ∷ []) []) (f ∷ [])) tests.0
-    ∙ ap (λ b. cond (nat_lt (accepted_count before s) (settled r s)) (cond b (Dropped s (settled r s) ∷ []) []) (f ∷
-    []))
+    ∙ ap (λ b. cond (nat_lt (accepted_count before s) (settled r s))
+    (cond b (Dropped s (settled r s) ∷ []) []) (f ∷ []))
     tests.1
 same-instead kept rows seen r before behind (note.Dropped seq upto) known at has met whole =
     ap (λ xs. Dropped seq (front_of xs) ∷ [])
@@ -326,8 +323,8 @@ left-received (Receives t) n has past =
     elim (cases_Bool (nat_lt 0 t.cursor && nat_le t.cursor (length (inbox_in t)))) [
       | inl some ↦
           let le : nat_le t.cursor (length (inbox_in t)) ≡ true = (and_parts (nat_lt 0 t.cursor) _ some).1 in
-          let all : cond (nat_le t.cursor (length (inbox_in t))) t.cursor 0 ≡ t.cursor = ap (λ b. cond b t.cursor 0)
-          le in
+          let all : cond (nat_le t.cursor (length (inbox_in t))) t.cursor 0 ≡ t.cursor
+          = ap (λ b. cond b t.cursor 0) le in
           let lt : t.cursor < n = omega (arith, all, past) in
           let there = has_number-above t.cursor n t.received in
           ap (λ b. has_number (numbers_of (received_in (Receives (cond b (record t {

@@ -1,6 +1,5 @@
 -- What a snapshot has of a row: how much of an inbox was consumed, and the ranges behind the first run.
-use Rattle.std.proofs.Common.{◌≡◌, ℕ, zero, suc, ◌+◌, ◌<◌, ◌≤◌, ◌==◌, Bool, true, false, cond, List, [], ◌∷◌, length}
-use Rattle.std.proofs.Common.{map}
+use Rattle.std.proofs.Common.{◌≡◌, ℕ, ◌+◌, ◌<◌, ◌≤◌, ◌==◌, true, false, cond, List, [], ◌∷◌, length}
 use Rattle.std.proofs.Common.{Option, Some, None, refl, sym, ap, subst, ◌∙◌, arith, inl, inr}
 use Rattle.std.specs.Prelude.{nat_le, nat_lt}
 use Rattle.std.specs.List.{AllByRecursion}
@@ -11,7 +10,7 @@ use Rattle.ack_ranges.specs.declared.range.Range.{Range}
 use Rattle.ack_ranges.specs.Ranges.{IsCanonical, RisesFrom}
 use Rattle.rm_base.specs.Message.{max_number}
 use Rattle.rm_base.specs.Numbered.{numbered}
-use Rattle.rm_destination.specs.Incoming.{Receiving, inbox_of}
+use Rattle.rm_destination.specs.Incoming.{inbox_of}
 use Rattle.record_batch.specs.Fact.{Fact}
 use Rattle.sequence_table.specs.Destinations.{behaviour_of, cursor, inbox, messages, told}
 use Rattle.sequence_table.specs.Fits.{all_fit}
@@ -22,7 +21,7 @@ use Rattle.record_snapshot.specs.Same.{AreProper}
 use Rattle.record_snapshot.specs.Snapshot.{past_front}
 use Rattle.record_snapshot.specs.WalkLemmas.{held-cap}
 use Rattle.sequence_row.specs.Row.{Seen, receiving_in}
-use Rattle.node_tables.specs.Kept.{records_of, told_in, tolds}
+use Rattle.node_tables.specs.Kept.{records_of, tolds}
 use Rattle.node_tables.specs.Shorter.{IsRange, IsRecorded, passed_by, passed_in}
 use Rattle.node_tables.proofs.RowsLemmas.{numbered-map, told-there}
 use Rattle.node_tables.specs.declared.note.Note.{Note}

@@ -45,8 +45,8 @@ held_known : (side : Side) → held_in side ≡ held_or (receiving_in side)
 held_known (Sends t) = refl
 held_known (Receives t) = refl
 
-pub none-received : (side : Side) (t : Receiving) (ranges : List Range) → Some t ≡ receiving_in side → IsCanonical
-    ranges
+pub none-received : (side : Side) (t : Receiving) (ranges : List Range) → Some t ≡ receiving_in side
+    → IsCanonical ranges
     → ((n : ℕ) → in_ranges ranges n ≡ has_number (held_by t) n) → (length ranges == 0) ≡ is_empty (held_in side)
 none-received side t ranges is h same =
     none_there ranges (held_in side) h (λ n. same n ∙ ap (λ (o : Option Receiving). has_number (held_or o) n) is

@@ -1,10 +1,8 @@
 -- The notes of a snapshot, met from the last to the first.
-use Rattle.std.proofs.Common.{◌≡◌, ◌⊎◌, ℕ, zero, suc, ◌+◌, ◌-◌, ◌<◌, ◌≤◌, ◌==◌, Bool, true, false, ◌&&◌, ◌||◌, cond}
-use Rattle.std.proofs.Common.{max}
-use Rattle.std.proofs.Common.{List, [], ◌∷◌, ◌++◌, length, map, take, drop, reverse, get_or, set, refl, sym, ◌∙◌, ap}
-use Rattle.std.proofs.Common.{subst}
+use Rattle.std.proofs.Common.{◌≡◌, ℕ, zero, suc, ◌+◌, ◌-◌, ◌<◌, ◌≤◌, ◌==◌, Bool, true, false, ◌&&◌, ◌||◌, cond, max}
+use Rattle.std.proofs.Common.{List, [], ◌∷◌, ◌++◌, length, take, drop, reverse, get_or, set, refl, sym, ◌∙◌, ap, subst}
 use Rattle.std.proofs.Common.{inl, inr, arith, append_assoc, Option, Some, None, IfSome}
-use Rattle.std.specs.Prelude.{nat_le, nat_lt, slice_get}
+use Rattle.std.specs.Prelude.{nat_le, slice_get}
 use Rattle.std.proofs.lemmas.Option.{none-some}
 use Rattle.std.specs.Option.{option_map, option_to_list}
 use Rattle.std.specs.List.{AllByRecursion, flat_map, list_any}
@@ -20,12 +18,12 @@ use Rattle.rm_base.specs.NumberSet.{has_number}
 use Rattle.rm_base.specs.Numbered.{numbered}
 use Rattle.rm_destination.specs.ItemLemmas.{in_ranges-run_to}
 use Rattle.rm_destination.specs.Messages.{is_empty, numbers_in, numbers_of, run_to}
-use Rattle.record_batch.specs.Fact.{Fact, Accepted, Acked, Received, Consumed, Dropped, Purged}
+use Rattle.record_batch.specs.Fact.{Fact, Accepted, Dropped, Purged}
 use Rattle.sequence_table.specs.Destinations.{held, purged, received}
 use Rattle.sequence_table.specs.Fits.{all_fit, is_outgoing_side}
 use Rattle.sequence_table.specs.Makers.{Maker, maker}
 use Rattle.sequence_table.specs.Sources.{accepted_count, dropped_of}
-use Rattle.sequence_table.specs.Told.{Told, told_all, told_by}
+use Rattle.sequence_table.specs.Told.{Told, told_by}
 use Rattle.record_snapshot.specs.FitLemmas.{SoFar, count_so_far, so-far-on}
 use Rattle.record_snapshot.specs.GotLemmas.{got_with, held-is, held-length, held-more, run, run-some, some-not}
 use Rattle.record_snapshot.specs.PassedLemmas.{without-no}
@@ -43,7 +41,7 @@ use Rattle.node_tables.specs.Shorter.{fact_ahead, fact_instead, marked, passed_b
 use Rattle.sequence_row.specs.Row.{forgotten}
 use Rattle.node_tables.proofs.ApplyLemmas.{fits-next}
 use Rattle.node_tables.proofs.InsteadLemmas.{IsAt, acked-known, acked-sends, accepted-sends, left-accepted}
-use Rattle.node_tables.proofs.InsteadLemmas.{left-received, none_run}
+use Rattle.node_tables.proofs.InsteadLemmas.{left-received}
 use Rattle.node_tables.proofs.InsteadLemmas.{numbered-row, passed-known, received-from, received-receives, same-instead}
 use Rattle.node_tables.proofs.InsteadLemmas.{whole_proper, whole_quiet}
 use Rattle.node_tables.proofs.RowsLemmas.{told-there}
@@ -140,8 +138,8 @@ module _ (kept : List Fact) (rows : List Told) (notes : List Note) (recorded : I
       (omega (arith, low, length-map notes (fact_at kept rows)))
       ∙ ap (λ f. f ∷ drop (suc j) (records_of kept rows notes)) (at_place kept rows notes j n low is)
 
-  up_to_here : take (suc j) (records_of kept rows notes) ≡ take j (records_of kept rows notes) ++ fact_at kept rows n
-      ∷ []
+  up_to_here : take (suc j) (records_of kept rows notes)
+      ≡ take j (records_of kept rows notes) ++ fact_at kept rows n ∷ []
   up_to_here =
       take-suc (records_of kept rows notes) j (fact_at kept rows n)
       (omega (arith, low, length-map notes (fact_at kept rows)))
@@ -278,8 +276,8 @@ module _ (r q before : List Fact) (so : SoFar r q before) (s : ℕ) where
 
   -- and where some were, and the numbers of these stand before it
   held-some : (p : ℕ) → 0 < p → passed r s ≡ run_to p
-      → is_empty (held (q ++ option_to_list (cond (is_empty (held before s)) (some_ranges (Purged s) (run_to p))
-      None)) s)
+      → is_empty (held (q
+      ++ option_to_list (cond (is_empty (held before s)) (some_ranges (Purged s) (run_to p)) None)) s)
       ≡ false
   held-some zero lt is = absurd (omega (arith, lt))
   held-some (suc p) lt is = elim (cases_Bool (is_empty (held before s))) [
@@ -468,8 +466,8 @@ marks-more kept rows seen behind (note.Acked seq numbers) len there whole met s 
           ∙ sym (ap (λ b. b || list_any (acks s) behind) (ne_eqb seq s (λ same. differ (sym same))))
     ]
 marks-more kept rows seen behind (note.Kept place) len there whole met s from within =
-    met s from within ∙ sym (ap (λ b. b || list_any (acks s) behind) (whole_quiet (kept_at kept place) (whole place
-    refl) s))
+    met s from within
+    ∙ sym (ap (λ b. b || list_any (acks s) behind) (whole_quiet (kept_at kept place) (whole place refl) s))
 marks-more kept rows seen behind _ len there whole met s from within = met s from within
 
 -- each range of its numbers has a number
@@ -532,8 +530,8 @@ shortened_more kept rows notes recorded j seen seen2 short short2 n low so_far i
           (map-append (fact_at kept rows) (option_to_list put.stands) (reverse short))
           ∙ ap (λ l. l ++ (records_of kept rows (option_to_list put.stands) ++ records_of kept rows (reverse short)))
           (records-listed kept rows put.ahead)
-          ∙ ap (λ l. option_to_list (option_map (fact_at kept rows) put.ahead) ++ (l ++ records_of kept rows (reverse
-          short)))
+          ∙ ap (λ l. option_to_list (option_map (fact_at kept rows) put.ahead)
+          ++ (l ++ records_of kept rows (reverse short)))
           (records-listed kept rows put.stands)
           ∙ sym (append_assoc (option_to_list (option_map (fact_at kept rows) put.ahead))
           (option_to_list (option_map (fact_at kept rows) put.stands)) (records_of kept rows (reverse short)))
@@ -554,8 +552,8 @@ shortened_more kept rows notes recorded j seen seen2 short short2 n low so_far i
       placed = λ both ends all q so.
           let big : (s : ℕ) → AllByRecursion (λ (u : ℕ). u ≤ settled r s) (dropped_of s f) = λ s.
           all_left (λ (u : ℕ). u ≤ settled r s) (dropped_of s f) (flat_map (dropped_of s) behind)
-          (all_right (λ (u : ℕ). u ≤ settled r s) (flat_map (dropped_of s) before) (flat_map (dropped_of s) (f ∷
-          behind))
+          (all_right (λ (u : ℕ). u ≤ settled r s) (flat_map (dropped_of s) before)
+          (flat_map (dropped_of s) (f ∷ behind))
           (subst (AllByRecursion (λ (u : ℕ). u ≤ settled r s))
           (ap (λ l. flat_map (dropped_of s) l) at.parts ∙ flat_map-append (dropped_of s) before (f ∷ behind))
           (drops-settled both ends r recorded.fit all s))) in

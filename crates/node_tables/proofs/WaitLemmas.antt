@@ -131,11 +131,11 @@ first-later n [] ys has = has
 first-later n (x ∷ xs) ys has = inr (first-later n xs ys has)
 
 -- what a record says is gone, it says is acknowledged
-drops-acked : (s : ℕ) (f : Fact) (d : ℕ) → (last_or d (dropped_of s f) ≡ d) ⊎ HasFirst (last_or d (dropped_of s f))
-    (acked_of s f)
+drops-acked : (s : ℕ) (f : Fact) (d : ℕ)
+    → (last_or d (dropped_of s f) ≡ d) ⊎ HasFirst (last_or d (dropped_of s f)) (acked_of s f)
 drops-acked s (Dropped seq upto) d = elim (seq == s) as (λ b.
-    (last_or d (cond b (upto ∷ []) []) ≡ d) ⊎ HasFirst (last_or d (cond b (upto ∷ []) [])) (cond b (first_run upto)
-    [])) [
+    (last_or d (cond b (upto ∷ []) []) ≡ d)
+    ⊎ HasFirst (last_or d (cond b (upto ∷ []) [])) (cond b (first_run upto) [])) [
       | true ↦ inr (inl (omega arith, omega arith))
       | false ↦ inl refl
     ]

@@ -1,5 +1,5 @@
 -- Phase Creating, as the records have it.
-use Rattle.std.proofs.Common.{◌≡◌, ℕ, Bool, false, List, [], ◌∷◌, refl, sym, ap, Option, Some, None}
+use Rattle.std.proofs.Common.{◌≡◌, ℕ, false, List, [], ◌∷◌, refl, sym, ap, Option, Some, None}
 use Rattle.std.specs.Prelude.{◌&&◌, is_none}
 use Rattle.std.specs.Str.{bytes_eq}
 use Rattle.rm_source.specs.declared.phase.OutPhase.{OutPhase}

@@ -1,7 +1,6 @@
 -- The notes of a snapshot: which records it takes, and that it takes what the rows have.
 use Rattle.std.specs.Prelude.{◌≡◌, ◌⊎◌, ℕ, ◌+◌, ◌-◌, ◌≤◌, ◌==◌, ◌&&◌, Bool, true, false, if◌then◌else◌, nat_le, List}
-use Rattle.std.specs.Prelude.{[]}
-use Rattle.std.specs.Prelude.{◌<◌, ◌++◌, IfSome, length, Option, Some, None, slice_index_or, slice_set}
+use Rattle.std.specs.Prelude.{[], ◌<◌, ◌++◌, IfSome, length, Option, Some, None, slice_index_or, slice_set}
 use Rattle.std.specs.Option.{option_map, option_to_list}
 use Rattle.ack_ranges.specs.declared.range.Range.{Range}
 use Rattle.ack_ranges.specs.Ranges.{front_of, in_ranges}
@@ -58,10 +57,8 @@ fact_ahead rows (note.Received row n first) =
 fact_ahead rows _ = None
 
 -- What stands for a note. An Acked one whose sequence was met is left out, else it has the numbers of the row behind
--- the
--- first run. The payloads of that run are left out, but for the first, for which Dropped stands, and so are the
--- payloads
--- that were consumed.
+-- the first run. The payloads of that run are left out, but for the first, for which Dropped stands, and so are the
+-- payloads that were consumed.
 abbrev pub fact_instead : List Fact → List Told → List Bool → Note → Option Fact
 fact_instead kept rows seen (note.Kept place) = Some (kept_at kept place)
 fact_instead kept rows seen (note.Acked seq numbers) =
@@ -69,8 +66,8 @@ fact_instead kept rows seen (note.Acked seq numbers) =
     else some_ranges (Acked seq) (past_front (acked_in (numbered rows seq)))
 fact_instead kept rows seen (note.Accepted row n) =
     let d = front_of (acked_in (numbered rows (row + 1))) in
-    if nat_le n d then (if n == 1 then Some (Dropped (row + 1) d) else None) else Some (fact_at kept rows
-    (note.Accepted row n))
+    if nat_le n d then (if n == 1 then Some (Dropped (row + 1) d) else None)
+    else Some (fact_at kept rows (note.Accepted row n))
 fact_instead kept rows seen (note.Dropped seq upto) = Some (Dropped seq (front_of (acked_in (numbered rows seq))))
 fact_instead kept rows seen (note.Received row n first) =
     if in_ranges (run_to (passed_in (numbered rows (row + 1)))) n then None

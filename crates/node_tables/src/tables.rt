@@ -405,8 +405,7 @@ impl Tables {
     }
 
     /// Makes the records the snapshot of them, which was made since the last of them came, and gives up the payloads
-    /// that
-    /// are gone by it. It takes no memory.
+    /// that are gone by it. It takes no memory.
     pub fn compact(&mut self)
         requires { self.old.is_marked ≡ true }
         ensures records { self.new.records ≡ snapshot self.old.records }

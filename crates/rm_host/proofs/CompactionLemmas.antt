@@ -2,7 +2,7 @@
 use Rattle.std.proofs.Common.{◌≡◌, ◌≢◌, ◌∙◌, ℕ, Bool, true, false, List, length, Option, None, Some, refl, sym, ap}
 use Rattle.std.proofs.Common.{subst, inl, [], ◌∷◌}
 use Rattle.std.proofs.lemmas.List.{length-map}
-use Rattle.std.specs.Prelude.{Result, Ok, Err, IsTrue, MatchBool}
+use Rattle.std.specs.Prelude.{Ok, Err, IsTrue, MatchBool}
 use Rattle.call_answers.specs.declared.answer.Cause.{Cause}
 use Rattle.call_answers.specs.declared.answer.Cause.TheVariants as cause
 use Rattle.node_store.specs.Has.{Holds}
@@ -22,8 +22,8 @@ use Rattle.rm_node.specs.Ends.{Ended, Handed, Refused, WasDown, error_end}
 use Rattle.rm_node.specs.Noded.{Noded}
 use Rattle.rm_node.specs.declared.error.NodeError.{NodeError}
 use Rattle.rm_node.specs.declared.error.NodeError.TheVariants as node
-use Rattle.rm_protocol.specs.Calls.{Cause as ACause, Done, StoreFull}
-use Rattle.rm_host.specs.Compaction.{Compacted, Compaction, IsRefusal, LeftAsItWas, WroteAnew, call_end, failed_end}
+use Rattle.rm_protocol.specs.Calls.{Done, StoreFull}
+use Rattle.rm_host.specs.Compaction.{Compaction, IsRefusal, failed_end}
 use Rattle.rm_host.specs.Ends.{is_refusal, node_end}
 use Rattle.rm_host.specs.Texts.{compacted_line}
 use Rattle.rm_host.specs.declared.end.End.{End}

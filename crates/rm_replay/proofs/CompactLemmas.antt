@@ -1,10 +1,9 @@
 -- One node of two writes its journal anew.
-use Rattle.std.proofs.Common.{◌≡◌, ◌&&◌, Bool, false, Some, ap, refl, subst, sym, inl}
+use Rattle.std.proofs.Common.{◌≡◌, ◌&&◌, false, Some, ap, refl, subst, sym, inl}
 use Rattle.std.specs.Prelude.{Result, Ok, Err}
 use Rattle.rm_base.specs.declared.failures.Memory.{Memory}
 use Rattle.rm_disk.specs.Told.{Told}
 use Rattle.rm_protocol.specs.Compact.{compacted as compacted_node}
-use Rattle.rm_protocol.specs.Node.{Node}
 use Rattle.rm_protocol.specs.Sent.{same_side}
 use Rattle.rm_protocol.specs.Terms.{Terms}
 use Rattle.rm_protocol.specs.World.{Compact, One, Two, World, node}
@@ -19,8 +18,7 @@ use Rattle.node_actor.specs.Stands.{Stands}
 use Rattle.rm_replay.specs.Asked.{WasAsked, WereAsked}
 use Rattle.rm_replay.specs.Happening.{Compacts, Happens, told_of}
 use Rattle.rm_replay.specs.Meaning.{side_of}
-use Rattle.rm_replay.specs.Shows.{Drives, Scene, Shows, StandFor}
-use Rattle.rm_replay.specs.Tales.{Drive}
+use Rattle.rm_replay.specs.Shows.{Drives, Scene, Shows}
 use Rattle.rm_replay.specs.declared.stage.Nodes.{Nodes}
 use Rattle.rm_replay.proofs.AskLemmas.{drive}
 use Rattle.rm_replay.proofs.EventLemmas.{EachIsLeft, holds_of, shows_node, tells_of}

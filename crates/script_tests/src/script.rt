@@ -72,6 +72,11 @@ fn push_event(out: &mut Blob, event: &Event) -> Result<(), Fail> {
         Event::Nack { node, seq } => push_numbered(out, b"nack", *node, u64::from(*seq))?,
         Event::Poll { node } => push_verb(out, b"poll", *node)?,
         Event::Compact { node } => push_verb(out, b"compact", *node)?,
+        Event::Consume { node, seq, upto } => {
+            push_numbered(out, b"consume", *node, u64::from(*seq))?;
+            out.push_all(b" ")?;
+            push_decimal(out, *upto)?;
+        }
         Event::Arm { node, calls } => push_numbered(out, b"arm", *node, *calls)?,
         Event::Crash { node, choice } => push_numbered(out, b"crash", *node, u64::from(*choice))?,
         Event::Noise { node, bytes } => {
@@ -107,7 +112,7 @@ fn three_payloads(rt: HostRuntime) -> Result<(), Fail> {
 
 #[test]
 fn all_lines(rt: HostRuntime) -> Result<(), Fail> {
-    let cases: [(&[u8], &[u8]); 23] = [
+    let cases: [(&[u8], &[u8]); 24] = [
         (b"", b""),
         (b"# a comment\n\n\n", b"\n\n\n"),
         (b"create 1 expires P1M", b"create 1 1 0\n"),
@@ -124,6 +129,7 @@ fn all_lines(rt: HostRuntime) -> Result<(), Fail> {
         ),
         (b"poll 1\npoll 2", b"poll 1\npoll 2\n"),
         (b"compact 2\ncompact 1", b"compact 2\ncompact 1\n"),
+        (b"consume 2 1 3", b"consume 2 1 3\n"),
         (b"grant 2 des\ngrant 1 dfg", b"grant 2 des\ngrant 1 dfg\n"),
         (b"send 2 256  x y ", b"send 2 256  x y \n"),
         (

@@ -1,4 +1,4 @@
-use Rattle.std.proofs.Common.{◌≡◌, ap, ◌∙◌, ◌+◌, ◌<◌, length, arith, subst, true}
+use Rattle.std.proofs.Common.{◌≡◌, ap, ◌∙◌, arith, subst, true}
 use Rattle.std.proofs.lemmas.Result.{err_from_is_err_and}
 use Rattle.record_batch.specs.Fact.{fact_of}
 use Rattle.sequence_row.specs.Row.{is_sender, takes}

@@ -1,7 +1,7 @@
 use Rattle.std.proofs.Common.{◌∙◌, Err, ap, sym, subst}
 use Rattle.std.proofs.lemmas.Result.{err_from_is_err_and}
 use Rattle.rm_host.specs.Compaction.{Compaction}
-use Rattle.rm_host.specs.Ends.{faults_of, is_refused}
+use Rattle.rm_host.specs.Ends.{faults_of}
 use Rattle.rm_host.proofs.CompactionLemmas.{done, fails, unrefused}
 use Rattle.rm_host.proofs.EndLemmas.{hands, then, wants}
 use Rattle.rm_host.proofs.commands.compact.Goals as goal
