@@ -252,7 +252,8 @@ impl Incoming {
 
     /// How many of the first items of the inbox are gone: none of them is to be asked for.
     pub fn gone(&self) -> u64
-        ensures { (i : ℕ) → i ≤ result → item_at (inbox self.now.facts) i ≡ None }
+        ensures are { run_to result ≡ self.now.facts.purged }
+        ensures none { (i : ℕ) → i ≤ result → item_at (inbox self.now.facts) i ≡ None }
     {
         self.gone
     }

@@ -8,7 +8,7 @@ use Rattle.rm_elements.specs.declared.lifecycle.Lifecycle.TheVariants as life
 use Rattle.rm_message.specs.declared.message.Body.TheVariants as body
 use Rattle.rm_message.specs.declared.message.Message.{Message}
 use Rattle.record_batch.specs.Fact.{Fact, Made, Creating, Granted, Accepted, Acked, Received, Closing, Closed}
-use Rattle.record_batch.specs.Fact.{Ending, Ended}
+use Rattle.record_batch.specs.Fact.{Ending, Ended, Consumed, Dropped, Purged}
 use Rattle.sequence_table.specs.Words.{Text}
 use Rattle.rm_protocol.specs.Rows.{ranges_of}
 
@@ -28,4 +28,7 @@ Heard m (Made n a) = ⊥
 Heard m (Creating ticket to via lapse offer) = ⊥
 Heard m (Closing s t) = ⊥
 Heard m (Ending s t) = ⊥
+Heard m (Consumed s k) = ⊥
+Heard m (Dropped s ranges) = ⊥
+Heard m (Purged s ranges) = ⊥
 Heard m _ = Unit {0}

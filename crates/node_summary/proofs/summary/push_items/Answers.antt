@@ -23,7 +23,8 @@ loop-before-preserved c =
 pub loop-before-init : goal.loop-before-init
 loop-before-init c =
     let items = inbox c.args.incoming.now.facts in
-    ap (λ t. c.args.out.now ++ t) (sym (items_text-gone c.args.place items c.gone-before.result c.gone-before.ensures))
+    ap (λ t. c.args.out.now ++ t)
+    (sym (items_text-gone c.args.place items c.gone-before.result c.gone-before.ensures.none))
 
 pub returns : goal.returns
 returns c =

@@ -6,8 +6,8 @@ use Rattle.rm_destination.specs.Messages.{by_number, contents_of, item_at}
 use Rattle.rm_destination.proofs.InboxLemmas.{item_at-inbox, item_at-past}
 use Rattle.rm_destination.proofs.incoming.Incoming.gone.Goals as goal
 
-pub returns : goal.returns
-returns c = λ i to.
+pub returns-clause-none : goal.returns-clause-none
+returns-clause-none c = λ i to.
     let f = c.args.self.now.facts in
     let all : item_at (contents_of (by_number (items f))) i ≡ None =
     sym (ap (λ (s : Sequence). item_at (contents_of (by_number (items s.facts))) i) c.self.view_is)
