@@ -1,16 +1,22 @@
 //! A node: what it keeps, and what it tells.
 ghost use Rattle.std.specs.Prelude.{◌≡◌, ◌⊎◌, ◌<◌, ◌^◌, [], ◌∷◌, true, false, Err, length, IsTrue, IfOk, IfErr};
+ghost use Rattle.std.specs.Prelude.{◌+◌, ◌≤◌, ℕ, List, is_ok};
 ghost use Rattle.record_batch.specs.Fact.{Made};
+ghost use Rattle.rm_base.specs.Limits.{journal_bytes};
 ghost use Rattle.rm_disk.specs.Call.{crashes_of, seen_of};
 ghost use Rattle.rm_disk.specs.Cause.{HasCause};
 ghost use Rattle.rm_disk.specs.Image.{MayLeave, OnlyLeaves};
+ghost use Rattle.rm_journal.specs.Entries.{list_of, StandsAsBefore};
 ghost use Rattle.sequence_table.specs.Fits.{is_in_order};
 ghost use Rattle.node_store.specs.Changes.{KeepsUnarmed, WasNotMade};
 ghost use Rattle.node_store.specs.Has.{Has};
+ghost use Rattle.node_store.specs.Imported.{Imports, import_failed, IsNoNodeBefore, IsTooLong};
 ghost use Rattle.node_store.specs.Mounted.{Finds, has_failed, IsNoNode};
 ghost use Rattle.node_store.specs.Stored.{first_stored};
 ghost use Rattle.node_store.specs.declared.error.MountError.TheVariants.{Memory as NoMemory, Disk as DiskBroke};
 ghost use Rattle.node_store.specs.declared.error.MountError.TheVariants.{NotAJournal as IsNoJournal};
+ghost use Rattle.node_store.specs.declared.error.ImportError.TheVariants.{Memory as LacksMemory, Disk as DiskFailed};
+ghost use Rattle.node_store.specs.declared.error.ImportError.TheVariants.{NotAJournal as BytesAreNone};
 ghost use Rattle.rm_node.specs.declared.error.NodeError.TheVariants.{Disk as DiskFails, Memory as WantsMemory};
 ghost use Rattle.rm_node.specs.Ends.{is_disk};
 ghost use Rattle.rm_node.specs.Keeping.{Keeps, first_kept};
@@ -19,7 +25,7 @@ ghost use Rattle.rm_node.specs.Noded.{granting};
 use crate::error::NodeError;
 use crate::kept::Kept;
 use node_laws::laws::a_node_has_room_for_its_keys;
-use node_store::{MountError, Store, StoreError};
+use node_store::{ImportError, MountError, Store, StoreError};
 use node_tables::Tables;
 use node_timers::fill;
 use rm_base::{Behaviour, Uri};
@@ -112,6 +118,39 @@ impl Node {
         let mut kept = match Kept::first(alloc) {
             Ok(kept) => kept,
             Err(_) => return Err(MountError::Memory),
+        };
+        fill(&mut kept.timers, store.tables());
+        Ok(Node { alloc, store, kept })
+    }
+
+    /// Makes a disk that of the node whose journal of the layout before these bytes are, in three device calls, and
+    /// finds it there, as `mount` does. What the disk held is lost, and after any answer but Ok it holds anything. It
+    /// answers NotAJournal where the bytes stand for no batches of a node, and Full where its journal would be longer
+    /// than one may be.
+    pub fn import<D: Disk>(alloc: Global, disk: &mut D, bytes: &[u8]) -> Result<Node, ImportError>
+        ensures imported { IsTrue D.tells →
+            IfOk result (λ node. Imports bytes.now (D.told disk.new).past node.stored) }
+        ensures none { IsTrue D.tells → result ≡ Err BytesAreNone → IsNoNodeBefore bytes.now }
+
+        // A journal that would be longer than one may be is refused.
+        ensures short { is_ok result ≡ true → (entries : List (List ℕ)) → StandsAsBefore entries bytes.now →
+            25 + length (list_of entries) ≤ journal_bytes }
+        ensures refusals { IfErr result (λ error. (error ≡ LacksMemory) ⊎ (error ≡ DiskFailed) ⊎ (error ≡ BytesAreNone)
+            ⊎ IsTooLong bytes.now error) }
+
+        ensures up { IfOk result (λ node. node.stored.journal.is_down ≡ false) }
+        ensures kept { IfOk result (λ node. Keeps node.kept (first_kept node.stored.records)) }
+        ensures unarmed { IsTrue D.tells →
+            KeepsUnarmed (D.told disk.old).fuse (D.told disk.new).fuse (import_failed result) }
+        ensures cause { HasCause (D.told disk.old).faults (D.told disk.new).faults (import_failed result) }
+        ensures crashes { IsTrue D.tells → crashes_of (D.told disk.new).past ≡ crashes_of (D.told disk.old).past }
+    {
+        a_node_has_room_for_its_keys();
+        what_waits_stays_exact();
+        let store = Store::import(alloc, disk, bytes)?;
+        let mut kept = match Kept::first(alloc) {
+            Ok(kept) => kept,
+            Err(_) => return Err(ImportError::Memory),
         };
         fill(&mut kept.timers, store.tables());
         Ok(Node { alloc, store, kept })
