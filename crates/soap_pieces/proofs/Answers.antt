@@ -49,3 +49,18 @@ none_is bytes fits utf8 none = record {
   wrong_version = λ e. absurd (cc);
   not_envelope = λ e. absurd (cc);
 }
+
+pub long_is : (bytes : List ℕ) (len : ℕ) → envelope_bytes < length bytes → len ≡ length bytes
+    → Reads bytes (Err (Error.TooLong len))
+long_is bytes len long size = record {
+  ok = tt;
+  fits = tt;
+  too_long = λ other. (
+    λ e. let same : len ≡ other = cc in (long, omega (arith, same, size)),
+    λ h. let same : len ≡ other = omega (arith, size, h.1) in ap (λ k. Err (Error.TooLong k)) same,
+  );
+  not_utf8 = λ place. (λ e. absurd (cc), λ h. absurd (omega (arith, long, h.0)));
+  not_profile = λ e. absurd (cc);
+  wrong_version = λ e. absurd (cc);
+  not_envelope = λ e. absurd (cc);
+}

@@ -1,4 +1,9 @@
 pub mod Answers
+pub mod Behind
+pub mod Depths
+pub mod Ends
+pub mod Envelopes
 pub mod Fronts
 pub mod Hopeless
 pub mod Sources
+pub mod Stages

@@ -1,7 +1,8 @@
 pub mod Answer
+pub mod Behind
 pub mod Depth
 pub mod Fed
 pub mod Front
 pub mod Hopeless
-pub mod Kept
 pub mod Source
+pub mod Stage

@@ -37,6 +37,7 @@ impl Front {
         requires fits { front_len self.old + length piece.now < 2 ^ 64 }
         ensures is { (bytes : List ℕ) → IsFront self.old bytes → OnOk result (IsFront self.new (bytes ++ piece.now)) }
         ensures len { front_len self.new ≤ front_len self.old + length piece.now }
+        ensures grows { self.old.valid ≤ self.new.valid }
         ensures small { tail_len self.old.tail ≤ 3 → tail_len self.new.tail ≤ 3 }
     {
         let Some(tail) = &self.tail else {

@@ -5,11 +5,12 @@
 #![tactic(auto)]
 
 mod depth;
+mod ended;
 mod front;
-mod kept;
 pub mod laws;
 pub mod reader;
 pub mod source;
+mod stage;
 
 pub use reader::EnvelopeReader;
 pub use source::read_source;

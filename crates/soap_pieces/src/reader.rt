@@ -14,40 +14,32 @@ ghost use Rattle.std.specs.Prelude.{
   true,
   false,
   IsTrue,
-  IfSome,
   OnOk,
   OnErr,
   IsErr,
   Err,
 };
 ghost use Rattle.rm_base.specs.Limits.{envelope_bytes};
-ghost use Rattle.soap_document.specs.Seen.{IsTold, fed_len};
 ghost use Rattle.soap_pieces.specs.Answer.{Reads};
-ghost use Rattle.soap_pieces.specs.Depth.{open_count};
-ghost use Rattle.soap_pieces.specs.Fed.{HasRead, IsReady, IsSpent, WasFed, is_short, kept_bytes, total};
-ghost use Rattle.soap_pieces.specs.Hopeless.{IsHopeless};
+ghost use Rattle.soap_pieces.specs.Fed.{IsIdle, IsReady, WasFed, is_short, kept_bytes, total};
+ghost use Rattle.soap_pieces.specs.Hopeless.{BeginsNone, IsHopeless};
 
-use crate::depth::Depth;
-use crate::kept::{Kept, keep};
-use rm_base::limits::ENVELOPE_BYTES;
-use rm_base::{Blob, Memory};
-use soap_document::Reader;
-use soap_document::laws::{document_is_read, pieces_are_joined, refused_stays};
-use soap_envelope::{Envelope, read_envelope};
+use crate::stage::Stage;
+use rm_base::Memory;
+use soap_document::laws::{content_stands_between, document_is_read, pieces_are_joined};
+use soap_envelope::Envelope;
 use soap_profile::EnvelopeError;
 use std::alloc::Global;
+use std::mem;
 
-/// A reader of an envelope, which is fed its bytes in pieces. It keeps them while an envelope may begin with them, and
-/// none of more than an envelope may have; where no document begins with them, at most three between two pieces.
-/// Where memory was wanting once, all later calls say so.
+/// A reader of an envelope, which is fed its bytes in pieces. It keeps them up to the end of their root, and then the
+/// envelope instead, where they are one; what follows that is only looked through. Where no envelope begins with them,
+/// it keeps at most three bytes between two pieces. Where memory was wanting once, all later calls say so.
 #[derive(Drop)]
 pub struct EnvelopeReader {
     alloc: Global,
-    // Reads what is fed as a document. None where it begins none, or is too long for one.
-    document: Option<Reader<Depth>>,
-    kept: Kept,
+    stage: Stage,
     fed: usize,
-    short: bool,
 }
 
 impl EnvelopeReader {
@@ -61,10 +53,8 @@ impl EnvelopeReader {
     {
         EnvelopeReader {
             alloc,
-            document: Some(Reader::new(alloc, Depth::new())),
-            kept: Kept::Bytes(Blob::new(alloc)),
+            stage: Stage::new(alloc),
             fed: 0,
-            short: false,
         }
     }
 
@@ -80,40 +70,29 @@ impl EnvelopeReader {
         ensures err { OnErr result (is_short self.new ≡ true) }
         ensures keeps { kept_bytes self.new ≤ envelope_bytes }
         ensures spent { (bytes : List ℕ) → WasFed self.old bytes → IsHopeless (bytes ++ piece.now)
-            → OnOk result (IsSpent self.new) }
+            → OnOk result (kept_bytes self.new ≤ 3) }
+        ensures idle { (bytes : List ℕ) → WasFed self.old bytes → BeginsNone (bytes ++ piece.now)
+            → OnOk result (IsIdle self.new) }
     {
+        content_stands_between();
+        document_is_read();
+        pieces_are_joined();
+        let before = self.fed;
         self.fed += piece.len();
-        if self.short {
-            return Err(Memory);
-        }
-        if self.is_too_long() {
-            self.document = None;
-            self.kept = Kept::Bytes(Blob::new(self.alloc));
-            return Ok(());
-        }
-        self.short = true;
-        read_on(&mut self.document, piece)?;
-        keep(self.alloc, &mut self.kept, piece, self.document.is_none())?;
-        self.short = false;
+        let stage = mem::replace(&mut self.stage, Stage::Short);
+        let next = stage.next(self.alloc, before, piece)?;
+        self.stage = next;
         Ok(())
     }
 
-    // What was fed is too long for an envelope.
-    fn is_too_long(&self) -> bool
-        ensures { IsTrue result ↔ (envelope_bytes < total self.now) }
-    {
-        self.fed > ENVELOPE_BYTES
-    }
-
-    /// What was fed begins no envelope, whatever follows: it is too long, or no document begins with it.
+    /// What was fed begins no envelope, whatever follows: it is too long, no document begins with it, or a document
+    /// that is no envelope begins it. A reader that was short of memory is dead too.
     pub fn is_dead(&self) -> bool
-        ensures { (bytes : List ℕ) → WasFed self.now bytes → is_short self.now ≡ false
+        ensures dead { (bytes : List ℕ) → WasFed self.now bytes → is_short self.now ≡ false
             → IsTrue result ↔ IsHopeless bytes }
+        ensures short { is_short self.now ≡ true → IsTrue result }
     {
-        if self.is_too_long() {
-            return true;
-        }
-        self.document.is_none()
+        self.stage.is_dead()
     }
 
     /// What `read_envelope` answers of all that was fed.
@@ -121,47 +100,6 @@ impl EnvelopeReader {
         ensures reads { (bytes : List ℕ) → WasFed self bytes → is_short self ≡ false → Reads bytes result }
         ensures short { is_short self ≡ true → result ≡ Err EnvelopeError.Memory }
     {
-        if self.short {
-            return Err(EnvelopeError::Memory);
-        }
-        document_is_read();
-        refused_stays();
-        let EnvelopeReader {
-            alloc,
-            document,
-            kept,
-            fed,
-            short: _,
-        } = self;
-        drop(document);
-        if fed > ENVELOPE_BYTES {
-            return Err(EnvelopeError::TooLong { len: fed });
-        }
-        match kept {
-            Kept::Bytes(bytes) => read_envelope(alloc, bytes.as_slice()),
-            Kept::Front(front) => Err(front.why_none(fed)),
-        }
+        self.stage.finish(self.fed)
     }
-}
-
-// Reads on, and lets the reader go where what was fed begins no document.
-fn read_on(document: &mut Option<Reader<Depth>>, piece: &[u8]) -> Result<(), Memory>
-    requires told { IfSome document.old (λ r. IsTold open_count r) }
-    requires fits { IfSome document.old (λ r. fed_len r + length piece.now < 2 ^ 64) }
-    ensures told { OnOk result (IfSome document.new (λ r. IsTold open_count r)) }
-    ensures place { (n : ℕ) → IfSome document.old (λ r. fed_len r ≤ n)
-        → OnOk result (IfSome document.new (λ r. fed_len r ≤ n + length piece.now)) }
-    ensures read { (bytes : List ℕ) → HasRead document.old bytes
-        → OnOk result (HasRead document.new (bytes ++ piece.now)) }
-{
-    pieces_are_joined();
-    refused_stays();
-    let Some(reader) = document else {
-        return Ok(());
-    };
-    reader.feed(piece)?;
-    if reader.is_refused() {
-        *document = None;
-    }
-    Ok(())
 }

@@ -1,0 +1,33 @@
+use Rattle.std.proofs.Common.{◌≤◌, Err, length, sym, subst, ◌∙◌}
+use Rattle.rm_base.specs.Limits.{envelope_bytes}
+use Rattle.soap_profile.specs.Document.{Document}
+use Rattle.soap_profile.specs.Tree.{Element}
+use Rattle.soap_pieces.specs.Answer.{Reads}
+use Rattle.soap_pieces.specs.Stage.{HasCome}
+use Rattle.soap_pieces.proofs.Answers.{long_is}
+use Rattle.soap_pieces.proofs.Hopeless.{refused_no_tree}
+use Rattle.soap_pieces.proofs.Stages.{root_no_tree}
+use Rattle.soap_pieces.proofs.stage.Stage.finish.Goals as goal
+
+pub returns-in-Root-clause-reads : goal.returns-in-Root-clause-reads
+returns-in-Root-clause-reads c = λ bytes h size e.
+    let k = subst (λ s. HasCome s bytes) c.in-Root.is h in
+    let same = c.as_slice.ensures ∙ k.same in
+    subst (λ b. Reads b (Err c.why_unended.result)) same
+    (c.why_unended.ensures (subst (λ b. length b ≤ envelope_bytes) (sym same) k.fits)
+    (subst (λ b. (tree : Element) → ¬ (Document b tree)) (sym same) (root_no_tree c.document_is_read.ensures _ _ bytes
+    k)))
+
+pub returns-in-Behind-clause-reads : goal.returns-in-Behind-clause-reads
+returns-in-Behind-clause-reads c = λ bytes h size e.
+    c.finish.ensures bytes (subst (λ s. HasCome s bytes) c.in-Behind.is h) size
+
+pub returns-in-Refused-clause-reads : goal.returns-in-Refused-clause-reads
+returns-in-Refused-clause-reads c = λ bytes h size e.
+    let k = subst (λ s. HasCome s bytes) c.in-Refused.is h in
+    c.why_none.ensures bytes k.utf8 size k.fits (refused_no_tree c.refused_stays.ensures.none
+    c.document_is_read.ensures bytes k.refuses)
+
+pub returns-in-TooLong-clause-reads : goal.returns-in-TooLong-clause-reads
+returns-in-TooLong-clause-reads c = λ bytes h size e.
+    long_is bytes c.args.len (subst (λ s. HasCome s bytes) c.in-TooLong.is h) size
