@@ -11,6 +11,27 @@ const SHORT: &[u8] =
 
 const SHORT_SHOWN: &[u8] = b"0 0 1 =http://www.w3.org/2003/05/soap-envelope \xc3\xa9&#13;";
 
+// The same with what may follow a root.
+const FOLLOWED: &[u8] =
+    b"<Envelope xmlns='http://www.w3.org/2003/05/soap-envelope'><Body>\xc3\xa9&#13;</Body>\
+    </Envelope> <!-- \xc3\xa9 > --><!---->\n";
+
+// A reader that was fed a text in three pieces.
+fn fed_cut(
+    alloc: Global,
+    text: &[u8],
+    first: usize,
+    second: usize,
+) -> Result<EnvelopeReader, Memory> {
+    let (begun, last) = text.split_at(second.min(text.len()));
+    let (one, two) = begun.split_at(first.min(begun.len()));
+    let mut reader = EnvelopeReader::new(alloc);
+    reader.feed(one)?;
+    reader.feed(two)?;
+    reader.feed(last)?;
+    Ok(reader)
+}
+
 // The envelope that a text is, which comes in three pieces.
 fn read_cut(
     alloc: Global,
@@ -18,13 +39,7 @@ fn read_cut(
     first: usize,
     second: usize,
 ) -> Result<Envelope, EnvelopeError> {
-    let (begun, last) = text.split_at(second.min(text.len()));
-    let (one, two) = begun.split_at(first.min(begun.len()));
-    let mut reader = EnvelopeReader::new(alloc);
-    reader.feed(one)?;
-    reader.feed(two)?;
-    reader.feed(last)?;
-    reader.finish()
+    fed_cut(alloc, text, first, second)?.finish()
 }
 
 // Whether a text in these pieces is an envelope that is shown so.
@@ -69,15 +84,42 @@ fn a_short_envelope_is_read_from_each_three_pieces(rt: HostRuntime) {
     }
 }
 
-// What is said of a text whose last byte is fed alone.
-fn refusal(alloc: Global, text: &[u8]) -> Option<EnvelopeError> {
-    match read_cut(alloc, text, 0, text.len().saturating_sub(1)) {
-        Ok(_) => None,
-        Err(error) => Some(error),
+#[test]
+fn what_follows_an_envelope_is_passed_over_in_pieces(rt: HostRuntime) {
+    for cut in 0..=FOLLOWED.len() {
+        assert!(rt;
+            is_shown(rt.alloc(), FOLLOWED, 0, cut, SHORT_SHOWN),
+            "{cut}"
+        );
+        assert!(rt;
+            is_shown(
+                rt.alloc(),
+                FOLLOWED,
+                cut.saturating_sub(1),
+                cut,
+                SHORT_SHOWN
+            ),
+            "{cut}"
+        );
     }
 }
 
-const REFUSALS: [(&[u8], EnvelopeError); 5] = [
+// Whether a text is refused for this wherever it is cut.
+fn is_refused_cut(alloc: Global, text: &[u8], wanted: EnvelopeError) -> bool {
+    let mut are_refused = true;
+    for cut in 0..=text.len() {
+        are_refused &= match read_cut(alloc, text, cut.saturating_sub(1), cut) {
+            Ok(_) => false,
+            Err(error) => error == wanted,
+        };
+    }
+    are_refused
+}
+
+const REFUSALS: [(&[u8], EnvelopeError); 16] = [
+    (b"", EnvelopeError::NotProfile),
+    (b"<a", EnvelopeError::NotProfile),
+    (b"<a>\xc3", EnvelopeError::NotUtf8 { valid_up_to: 3 }),
     (b"<a></b>", EnvelopeError::NotProfile),
     (b"<a></b>\xc3\xa9", EnvelopeError::NotProfile),
     (
@@ -85,46 +127,78 @@ const REFUSALS: [(&[u8], EnvelopeError); 5] = [
         EnvelopeError::NotUtf8 { valid_up_to: 9 },
     ),
     (b"<a></a>", EnvelopeError::NotEnvelope),
+    (b"<a/> <!-- > -->\n", EnvelopeError::NotEnvelope),
+    (b"<a></a><b/>", EnvelopeError::NotProfile),
+    (b"<a></a><!-- -- -->", EnvelopeError::NotProfile),
+    (b"<a></a><!-- -", EnvelopeError::NotProfile),
+    (
+        b"<a></a>\xc3\xa9\xff",
+        EnvelopeError::NotUtf8 { valid_up_to: 9 },
+    ),
     (b"<Envelope/>", EnvelopeError::WrongVersion),
+    (b"<Envelope></Envelope><!---->", EnvelopeError::WrongVersion),
+    (b"<a:b/><!---->", EnvelopeError::NotProfile),
+    (
+        b"<Envelope xmlns='http://www.w3.org/2003/05/soap-envelope'><Body/></Envelope><b/>",
+        EnvelopeError::NotProfile,
+    ),
 ];
 
 #[test]
 fn tells_errors_of_pieces(rt: HostRuntime) {
     for (text, wanted) in &REFUSALS {
         assert!(rt;
-            refusal(rt.alloc(), text) == Some(*wanted),
+            is_refused_cut(rt.alloc(), text, *wanted),
             "{}",
             text.escape_ascii()
         );
     }
 }
 
-// Whether a reader that was fed this is dead.
-fn is_dead_after(alloc: Global, text: &[u8]) -> Result<bool, Memory> {
-    let mut reader = EnvelopeReader::new(alloc);
-    reader.feed(text)?;
-    Ok(reader.is_dead())
+// Whether a reader that was fed this is dead wherever it is cut, or alive.
+fn is_dead_cut(alloc: Global, text: &[u8], wanted: bool) -> Result<bool, Memory> {
+    let mut are_so = true;
+    for cut in 0..=text.len() {
+        are_so &= fed_cut(alloc, text, cut.saturating_sub(1), cut)?.is_dead() == wanted;
+    }
+    Ok(are_so)
 }
 
-const BEGINNINGS: [(&[u8], bool); 11] = [
+const BEGINNINGS: [(&[u8], bool); 21] = [
     (b"", false),
     (b"<!DOCTYPE", true),
     (b"<!", false),
     (b"<a></b>", true),
-    (b"<a></a>", false),
-    (b"<a></a><", false),
+    (b"<a>", false),
+    (b"<a></a", false),
+    (b"<a></a>", true),
+    (b"<a/>", true),
+    (b"<a><b/><c></c>", false),
+    (b"<a></a><", true),
+    (b"<a></a> <!-- >", true),
     (b"<a></a><b>", true),
+    (b"<a:b></a:b>", true),
     (b"<a>&x;", true),
     (b"<a><!-", false),
     (b"<a><!x", true),
     (b"x<", true),
+    (SHORT, false),
+    (FOLLOWED, false),
+    (
+        b"<Envelope xmlns='http://www.w3.org/2003/05/soap-envelope'><Body/></Envelope> <!-- > -",
+        false,
+    ),
+    (
+        b"<Envelope xmlns='http://www.w3.org/2003/05/soap-envelope'><Body/></Envelope> <!-- -->x<",
+        true,
+    ),
 ];
 
 #[test]
 fn is_dead_where_no_envelope_begins_so(rt: HostRuntime) -> Result<(), Memory> {
     for (text, wanted) in &BEGINNINGS {
         assert!(rt;
-            is_dead_after(rt.alloc(), text)? == *wanted,
+            is_dead_cut(rt.alloc(), text, *wanted)?,
             "{}",
             text.escape_ascii()
         );
