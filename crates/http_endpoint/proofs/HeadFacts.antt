@@ -17,6 +17,7 @@ use Rattle.http1.specs.Fields.{known_fields}
 use Rattle.http1.specs.declared.fields.KnownFields.{KnownFields}
 use Rattle.http_endpoint.specs.Part.{Never}
 use Rattle.http_endpoint.specs.Heads.{ReadsRequestFacts, ReadsResponseFacts}
+use Rattle.http_endpoint.specs.declared.media.Media.TheVariants.{Soap12, Soap11}
 use Rattle.http_endpoint.specs.Fields.{is_soap, is_plain}
 use Rattle.http_endpoint.proofs.RoomLemmas.{length-section, count-fields}
 
@@ -49,17 +50,26 @@ headers-inside bytes headers found status r is all_within same =
 
 -- what the parser finds is a head that says this
 pub request-found : (bytes : List ℕ) (headers found : List HeaderSpan) (status : Status RequestSpans) (r : RequestSpans)
-    (post soap plain : Bool) (method : List ℕ) (known : KnownFields) → status ≡ Complete r
+    (post soap12 soap11 plain : Bool) (method : List ℕ) (known : KnownFields) → status ≡ Complete r
     → IfComplete {E = Error} (Ok status) (IsRequestWithin bytes headers)
     → IfComplete {E = Error} (Ok status) (IsRequestOf bytes headers)
     → found ≡ take r.headers headers → method ≡ span_bytes bytes r.method → post ≡ bytes_eq method (codes "POST")
-    → known ≡ known_fields (map (header_bytes bytes) found) → soap ≡ is_soap (map (header_bytes bytes) found)
+    → known ≡ known_fields (map (header_bytes bytes) found) → soap12 ≡ is_soap Soap12 (map (header_bytes bytes) found)
+    → soap11 ≡ is_soap Soap11 (map (header_bytes bytes) found)
     → plain ≡ is_plain (map (header_bytes bytes) found)
     → (r.len ≤ length bytes) × ReadsRequestFacts bytes
-    (record { is_post = post; field_count = r.headers; known = known; is_soap = soap; is_plain = plain })
+    (record {
+      is_post = post;
+      field_count = r.headers;
+      known = known;
+      is_soap12 = soap12;
+      is_soap11 = soap11;
+      is_plain = plain;
+    })
     (drop r.len bytes)
-request-found bytes headers found status r post soap plain method known is all_within all_of same method_is post_is
-    known_is soap_is plain_is =
+request-found bytes headers found status r post soap12 soap11 plain method known is all_within all_of same method_is
+    post_is
+    known_is soap12_is soap11_is plain_is =
     let within : IsRequestWithin bytes headers r = rw is at all_within in
     let of : IsRequestOf bytes headers r = rw is at all_of in
     let at = of.1 in
@@ -68,13 +78,21 @@ request-found bytes headers found status r post soap plain method known is all_w
     let a = post_is ∙ ap (λ m. bytes_eq m (codes "POST")) (method_is ∙ at.method) in
     let b = count-fields bytes headers r.headers of.0.fields within.section.count_fits at.fields in
     let k = known_is ∙ ap known_fields fields in
-    let s = soap_is ∙ ap is_soap fields in
+    let s = soap12_is ∙ ap (is_soap Soap12) fields in
+    let t = soap11_is ∙ ap (is_soap Soap11) fields in
     let p = plain_is ∙ ap is_plain fields in (
       within.section.len_fits,
       (
         of.0,
         at.reads,
-        (λ i. record { is_post = a i; field_count = b i; known = k i; is_soap = s i; is_plain = p i }),
+        (λ i. record {
+          is_post = a i;
+          field_count = b i;
+          known = k i;
+          is_soap12 = s i;
+          is_soap11 = t i;
+          is_plain = p i;
+        }),
       ),
     )
 

@@ -7,12 +7,13 @@ use Rattle.http_endpoint.specs.declared.body.Framing.{Framing}
 use Rattle.http_endpoint.specs.declared.error.HttpError.{HttpError}
 use Rattle.http_endpoint.specs.declared.error.HttpError.TheVariants.{Memory, ReadFault, WriteFault, BadHead, TooLong}
 use Rattle.http_endpoint.specs.declared.error.HttpError.TheVariants.{Unsupported, CutShort}
+use Rattle.http_endpoint.specs.declared.media.Media.{Media}
 use Rattle.http_endpoint.specs.declared.heads.RequestFacts.{RequestFacts}
 use Rattle.http_endpoint.specs.Ahead.{ahead}
 use Rattle.http_endpoint.specs.Part.{ReadsUpTo, IsAnswer, IfTold}
 use Rattle.http_endpoint.specs.Heads.{ReadsRequestFacts, verdict}
 use Rattle.http_endpoint.specs.Body.{IsBody}
-use Rattle.http_endpoint.specs.Messages.{IsRequest, bad, short, refused, accepted, invitation}
+use Rattle.http_endpoint.specs.Messages.{IsRequestAs, bad, short, refused, accepted, invitation}
 use Rattle.http_endpoint.proofs.ChunkFacts.{IfTold-map}
 
 -- with nothing held, what is ahead is what is left
@@ -59,33 +60,35 @@ pub appends-between : (old mid later new : Option (List ℕ)) (bytes : List ℕ)
 appends-between old mid later new bytes before after grew = rw (sym before, after) grew
 
 -- a stop at the head of a request
-pub stops-request : (all : List ℕ) (e : HttpError) (after old new : Option (List ℕ)) → new ≡ old
+pub stops-request : (media : Media) (all : List ℕ) (e : HttpError) (after old new : Option (List ℕ)) → new ≡ old
     → IsAnswer part_bytes ReadsRequestFacts MayBecomeRequest all (Err e) after
-    → IfTold {A = List ℕ} (Err e) ((said : List ℕ) × Appends old new said × IsRequest (Err e) said all)
-stops-request all Memory after old new same h = tt
-stops-request all ReadFault after old new same h = tt
-stops-request all WriteFault after old new same h = tt
-stops-request all BadHead after old new same h = ([], appends-nothing old new same, bad h refl refl)
-stops-request all (TooLong taken) after old new same h = absurd h
-stops-request all (Unsupported status) after old new same h = absurd h
-stops-request all CutShort after old new same h = ([], appends-nothing old new same, short h refl refl)
+    → IfTold {A = List ℕ} (Err e) ((said : List ℕ) × Appends old new said × IsRequestAs media (Err e) said all)
+stops-request media all Memory after old new same h = tt
+stops-request media all ReadFault after old new same h = tt
+stops-request media all WriteFault after old new same h = tt
+stops-request media all BadHead after old new same h = ([], appends-nothing old new same, bad h refl refl)
+stops-request media all (TooLong taken) after old new same h = absurd h
+stops-request media all (Unsupported status) after old new same h = absurd h
+stops-request media all CutShort after old new same h = ([], appends-nothing old new same, short h refl refl)
 
 -- a request that is refused by its head
-pub refused-request : (all : List ℕ) (e : HttpError) (facts : RequestFacts) (rest : List ℕ)
+pub refused-request : (media : Media) (all : List ℕ) (e : HttpError) (facts : RequestFacts) (rest : List ℕ)
     (old new : Option (List ℕ)) → new ≡ old
-    → ReadsUpTo part_bytes ReadsRequestFacts all facts rest → verdict facts ≡ Err e
-    → IfTold {A = List ℕ} (Err e) ((said : List ℕ) × Appends old new said × IsRequest (Err e) said all)
-refused-request all e facts rest old new same reads is =
-    told {A = List ℕ} (Err e) ((said : List ℕ) × Appends old new said × IsRequest (Err e) said all)
+    → ReadsUpTo part_bytes ReadsRequestFacts all facts rest → verdict media facts ≡ Err e
+    → IfTold {A = List ℕ} (Err e) ((said : List ℕ) × Appends old new said × IsRequestAs media (Err e) said all)
+refused-request media all e facts rest old new same reads is =
+    told {A = List ℕ} (Err e) ((said : List ℕ) × Appends old new said × IsRequestAs media (Err e) said all)
     ([], appends-nothing old new same, refused facts rest e reads is refl refl)
 
 -- a request whose body is read
-pub taken-request : (result : Result (List ℕ) HttpError) (all : List ℕ) (facts : RequestFacts) (rest : List ℕ)
+pub taken-request : (media : Media) (result : Result (List ℕ) HttpError) (all : List ℕ) (facts : RequestFacts)
+    (rest : List ℕ)
     (framing : Framing)
     (old new : Option (List ℕ)) → Appends old new (invitation facts)
     → ReadsUpTo part_bytes ReadsRequestFacts all facts rest
-    → verdict facts ≡ Ok framing → IfTold result (IsBody framing rest result)
-    → IfTold result ((said : List ℕ) × Appends old new said × IsRequest result said all)
-taken-request result all facts rest framing old new grew reads is body =
-    IfTold-map result (IsBody framing rest result) ((said : List ℕ) × Appends old new said × IsRequest result said all)
+    → verdict media facts ≡ Ok framing → IfTold result (IsBody framing rest result)
+    → IfTold result ((said : List ℕ) × Appends old new said × IsRequestAs media result said all)
+taken-request media result all facts rest framing old new grew reads is body =
+    IfTold-map result (IsBody framing rest result) ((said : List ℕ) × Appends old new said
+    × IsRequestAs media result said all)
     (λ b. (invitation facts, grew, accepted facts rest framing reads is refl b)) body

@@ -14,6 +14,8 @@ use Rattle.http_endpoint.specs.declared.body.Framing.{Framing}
 use Rattle.http_endpoint.specs.declared.body.Framing.TheVariants.{Empty, Counted, Chunked, ToEnd}
 use Rattle.http_endpoint.specs.declared.error.HttpError.{HttpError}
 use Rattle.http_endpoint.specs.declared.error.HttpError.TheVariants.{BadHead, Unsupported}
+use Rattle.http_endpoint.specs.declared.media.Media.{Media}
+use Rattle.http_endpoint.specs.declared.media.Media.TheVariants.{Soap12, Soap11}
 use Rattle.http_endpoint.specs.declared.heads.RequestFacts.{RequestFacts}
 use Rattle.http_endpoint.specs.declared.heads.ResponseFacts.{ResponseFacts}
 use Rattle.http_endpoint.specs.Part.{Grammar}
@@ -25,7 +27,8 @@ facts_of_request h = record {
   is_post = bytes_eq h.method (codes "POST");
   field_count = length h.fields;
   known = known_fields (map name_and_value h.fields);
-  is_soap = is_soap (map name_and_value h.fields);
+  is_soap12 = is_soap Soap12 (map name_and_value h.fields);
+  is_soap11 = is_soap Soap11 (map name_and_value h.fields);
   is_plain = is_plain (map name_and_value h.fields);
 }
 
@@ -78,14 +81,19 @@ framing_or otherwise Length.Absent Coding.Invalid = otherwise
 framing_or otherwise (Length.Value n) coding = Counted n
 framing_or otherwise Length.Invalid coding = otherwise
 
--- what is done with a request: how its body is read, or the first reason to refuse it
-abbrev pub verdict : RequestFacts → Result Framing HttpError
-verdict facts =
+-- the media type is this one
+abbrev pub is_of : Media → RequestFacts → Bool
+is_of Soap12 facts = facts.is_soap12
+is_of Soap11 facts = facts.is_soap11
+
+-- what is done with a request of this media type: how its body is read, or the first reason to refuse it
+abbrev pub verdict : Media → RequestFacts → Result Framing HttpError
+verdict media facts =
     if is_bad facts.field_count facts.known then Err BadHead
     else (if not facts.is_post then Err (Unsupported 405)
     else (if is_otherwise_coded facts.known.transfer_encoding facts.known.other_coding then Err (Unsupported 501)
     else (if not facts.is_plain then Err (Unsupported 415)
-    else (if not facts.is_soap then Err (Unsupported 415)
+    else (if not (is_of media facts) then Err (Unsupported 415)
     else Ok (framing_or Empty facts.known.content_length facts.known.transfer_encoding)))))
 
 -- a request that is refused for what it asks gets one of three statuses: no POST, a coding of the transfer, the content

@@ -12,6 +12,7 @@ pub mod Heads
 pub mod HeadLaws
 pub mod Kept
 pub mod Limits
+pub mod Medias
 pub mod Messages
 pub mod Taken
 pub mod Targets

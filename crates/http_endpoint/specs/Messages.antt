@@ -7,6 +7,8 @@ use Rattle.http_endpoint.specs.declared.error.HttpError.{HttpError}
 use Rattle.http_endpoint.specs.declared.error.HttpError.TheVariants.{BadHead, CutShort}
 use Rattle.http_endpoint.specs.declared.heads.RequestFacts.{RequestFacts}
 use Rattle.http_endpoint.specs.declared.heads.ResponseFacts.{ResponseFacts}
+use Rattle.http_endpoint.specs.declared.media.Media.{Media}
+use Rattle.http_endpoint.specs.declared.media.Media.TheVariants.{Soap12}
 use Rattle.http_endpoint.specs.declared.response.Response.{Response}
 use Rattle.http_endpoint.specs.Part.{ReadsUpTo, IsBad, IsShort, Stage}
 use Rattle.http_endpoint.specs.Heads.{ReadsRequestFacts, ReadsResponseFacts, verdict, response_framing}
@@ -20,17 +22,23 @@ continue_text = codes "HTTP/1.1 100 Continue\r\n\r\n"
 abbrev pub invitation : RequestFacts → List ℕ
 invitation facts = if facts.known.expect_continue then continue_text else []
 
--- what comes of all the bytes that a connection has left, and what is written meanwhile
-pub data IsRequest (result : Result (List ℕ) HttpError) (said all : List ℕ) : Type 0 where
-  bad : IsBad part_bytes ReadsRequestFacts all → result ≡ Err BadHead → said ≡ [] → IsRequest result said all
+-- what comes of all the bytes that a connection has left, where requests have this media type, and what is written
+-- meanwhile
+pub data IsRequestAs (media : Media) (result : Result (List ℕ) HttpError) (said all : List ℕ) : Type 0 where
+  bad : IsBad part_bytes ReadsRequestFacts all → result ≡ Err BadHead → said ≡ [] → IsRequestAs media result said all
   short : IsShort part_bytes ReadsRequestFacts MayBecomeRequest all → result ≡ Err CutShort → said ≡ []
-      → IsRequest result said all
+      → IsRequestAs media result said all
   refused : (facts : RequestFacts) (rest : List ℕ) (e : HttpError)
       → ReadsUpTo part_bytes ReadsRequestFacts all facts rest
-      → verdict facts ≡ Err e → result ≡ Err e → said ≡ [] → IsRequest result said all
+      → verdict media facts ≡ Err e → result ≡ Err e → said ≡ [] → IsRequestAs media result said all
   accepted : (facts : RequestFacts) (rest : List ℕ) (framing : Framing)
       → ReadsUpTo part_bytes ReadsRequestFacts all facts rest
-      → verdict facts ≡ Ok framing → said ≡ invitation facts → IsBody framing rest result → IsRequest result said all
+      → verdict media facts ≡ Ok framing → said ≡ invitation facts → IsBody framing rest result
+      → IsRequestAs media result said all
+
+-- where they are of SOAP 1.2
+abbrev pub IsRequest : Result (List ℕ) HttpError → (said all : List ℕ) → Type 0
+IsRequest result said all = IsRequestAs Soap12 result said all
 
 -- a response of this status, with the body that was read
 abbrev pub with_status : ℕ → Result (List ℕ) HttpError → Result Response HttpError

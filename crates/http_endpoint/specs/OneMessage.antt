@@ -4,6 +4,7 @@ use Rattle.httparse.specs.Grammar.{MayBecomeRequest, MayBecomeResponse, EndsInTa
 use Rattle.http_endpoint.specs.Limits.{part_bytes}
 use Rattle.http_endpoint.specs.declared.body.Framing.{Framing}
 use Rattle.http_endpoint.specs.declared.error.HttpError.{HttpError}
+use Rattle.http_endpoint.specs.declared.media.Media.{Media}
 use Rattle.http_endpoint.specs.declared.heads.RequestFacts.{RequestFacts}
 use Rattle.http_endpoint.specs.declared.heads.ResponseFacts.{ResponseFacts}
 use Rattle.http_endpoint.specs.declared.response.Response.{Response}
@@ -11,7 +12,7 @@ use Rattle.http_endpoint.specs.Part.{IsBad, IsShort, ReadsUpTo}
 use Rattle.http_endpoint.specs.Heads.{ReadsRequestFacts, ReadsResponseFacts, facts_of_request, verdict}
 use Rattle.http_endpoint.specs.Heads.{response_framing}
 use Rattle.http_endpoint.specs.Body.{IsBody}
-use Rattle.http_endpoint.specs.Messages.{IsRequest, bad, short, refused, accepted, IsFinal, unframed, framed}
+use Rattle.http_endpoint.specs.Messages.{IsRequestAs, bad, short, refused, accepted, IsFinal, unframed, framed}
 use Rattle.http_endpoint.specs.Messages.{IsAnswered, passed, unsound, final, with_status, IsResponse, invitation}
 use Rattle.http_endpoint.specs.OneAnswer.{read-not-bad, one-stage, one-request-head, request-shrinks}
 use Rattle.http_endpoint.specs.OneAnswer.{one-response-head, response-shrinks, response-ends, one-body}
@@ -51,39 +52,43 @@ head-not-bad : (all : List ℕ) (facts : RequestFacts) (rest : List ℕ)
 head-not-bad all facts rest reads = read-not-bad ReadsRequestFacts request-shrinks part_bytes all facts rest reads
 
 -- two accepted requests at one place
-both-accepted : (r q : Result (List ℕ) HttpError) (all : List ℕ) (a b : RequestFacts) (m n : List ℕ) (f g : Framing)
-    → (a ≡ b) × (m ≡ n) → verdict a ≡ Ok f → verdict b ≡ Ok g → IsBody f m r → IsBody g n q → r ≡ q
-both-accepted r q all a b m n f g same x y c d =
-    let framings = ok-one f g (verdict a) x (ap verdict same.0 ∙ y) in
+both-accepted : (media : Media) (r q : Result (List ℕ) HttpError) (all : List ℕ) (a b : RequestFacts) (m n : List ℕ)
+    (f g : Framing)
+    → (a ≡ b) × (m ≡ n) → verdict media a ≡ Ok f → verdict media b ≡ Ok g → IsBody f m r → IsBody g n q → r ≡ q
+both-accepted media r q all a b m n f g same x y c d =
+    let framings = ok-one f g (verdict media a) x (ap (verdict media) same.0 ∙ y) in
     let moved : IsBody g n r = rw (sym framings, sym same.1) c in
     one-body g n r q moved d
 
 -- a request has one answer, but where its bytes end in the target
-pub one-request : (r q : Result (List ℕ) HttpError) (s t all : List ℕ) → IsRequest r s all → IsRequest q t all
+pub one-request : (media : Media) (r q : Result (List ℕ) HttpError) (s t all : List ℕ) → IsRequestAs media r s all
+    → IsRequestAs media q t all
     → IsSame r q s t ⊎ EndsInTarget all
-one-request r q s t all (bad x is none) (bad y also empty) = inl (is ∙ sym also, none ∙ sym empty)
-one-request r q s t all (bad x is none) (short y also empty) = inr (bad-or-short all x y)
-one-request r q s t all (bad x is none) (refused b n e y v also empty) = absurd (head-not-bad all b n y x)
-one-request r q s t all (bad x is none) (accepted b n g y v said d) = absurd (head-not-bad all b n y x)
-one-request r q s t all (short x is none) (bad y also empty) = inr (bad-or-short all y x)
-one-request r q s t all (short x is none) (short y also empty) = inl (is ∙ sym also, none ∙ sym empty)
-one-request r q s t all (short x is none) (refused b n e y v also empty) = absurd (x.none b n y.is_text)
-one-request r q s t all (short x is none) (accepted b n g y v said d) = absurd (x.none b n y.is_text)
-one-request r q s t all (refused a m e x u is none) (bad y also empty) = absurd (head-not-bad all a m x y)
-one-request r q s t all (refused a m e x u is none) (short y also empty) = absurd (y.none a m x.is_text)
-one-request r q s t all (refused a m e x u is none) (refused b n k y v also empty) =
+one-request media r q s t all (bad x is none) (bad y also empty) = inl (is ∙ sym also, none ∙ sym empty)
+one-request media r q s t all (bad x is none) (short y also empty) = inr (bad-or-short all x y)
+one-request media r q s t all (bad x is none) (refused b n e y v also empty) = absurd (head-not-bad all b n y x)
+one-request media r q s t all (bad x is none) (accepted b n g y v said d) = absurd (head-not-bad all b n y x)
+one-request media r q s t all (short x is none) (bad y also empty) = inr (bad-or-short all y x)
+one-request media r q s t all (short x is none) (short y also empty) = inl (is ∙ sym also, none ∙ sym empty)
+one-request media r q s t all (short x is none) (refused b n e y v also empty) = absurd (x.none b n y.is_text)
+one-request media r q s t all (short x is none) (accepted b n g y v said d) = absurd (x.none b n y.is_text)
+one-request media r q s t all (refused a m e x u is none) (bad y also empty) = absurd (head-not-bad all a m x y)
+one-request media r q s t all (refused a m e x u is none) (short y also empty) = absurd (y.none a m x.is_text)
+one-request media r q s t all (refused a m e x u is none) (refused b n k y v also empty) =
     let same = one-request-head all m n a b x.is_text y.is_text in
-    let one = err-one e k (verdict a) u (ap verdict same.0 ∙ v) in
+    let one = err-one e k (verdict media a) u (ap (verdict media) same.0 ∙ v) in
     inl (is ∙ (ap Err one ∙ sym also), none ∙ sym empty)
-one-request r q s t all (refused a m e x u is none) (accepted b n g y v said d) =
-    absurd (not-both e g (verdict a) u (ap verdict (one-request-head all m n a b x.is_text y.is_text).0 ∙ v))
-one-request r q s t all (accepted a m f x u says c) (bad y also empty) = absurd (head-not-bad all a m x y)
-one-request r q s t all (accepted a m f x u says c) (short y also empty) = absurd (y.none a m x.is_text)
-one-request r q s t all (accepted a m f x u says c) (refused b n e y v also empty) =
-    absurd (not-both e f (verdict b) v (ap verdict (one-request-head all n m b a y.is_text x.is_text).0 ∙ u))
-one-request r q s t all (accepted a m f x u says c) (accepted b n g y v said d) =
+one-request media r q s t all (refused a m e x u is none) (accepted b n g y v said d) =
+    absurd (not-both e g (verdict media a) u (ap (verdict media)
+    (one-request-head all m n a b x.is_text y.is_text).0 ∙ v))
+one-request media r q s t all (accepted a m f x u says c) (bad y also empty) = absurd (head-not-bad all a m x y)
+one-request media r q s t all (accepted a m f x u says c) (short y also empty) = absurd (y.none a m x.is_text)
+one-request media r q s t all (accepted a m f x u says c) (refused b n e y v also empty) =
+    absurd (not-both e f (verdict media b) v (ap (verdict media)
+    (one-request-head all n m b a y.is_text x.is_text).0 ∙ u))
+one-request media r q s t all (accepted a m f x u says c) (accepted b n g y v said d) =
     let same = one-request-head all m n a b x.is_text y.is_text in
-    inl (both-accepted r q all a b m n f g same u v c d, says ∙ (ap invitation same.0 ∙ sym said))
+    inl (both-accepted media r q all a b m n f g same u v c d, says ∙ (ap invitation same.0 ∙ sym said))
 
 -- ---- responses
 

@@ -3,12 +3,14 @@ ghost use Rattle.std.specs.Prelude.{◌≡◌, codes, bytes_eq, IfErr};
 ghost use Rattle.httparse.specs.Grammar.{MayBecomeRequest, MayBecomeResponse};
 ghost use Rattle.http_endpoint.specs.Ends.{ends_head};
 ghost use Rattle.http_endpoint.specs.Heads.{ReadsRequestFacts, ReadsResponseFacts, is_absent, is_misframed, is_bad};
-ghost use Rattle.http_endpoint.specs.Heads.{is_otherwise_coded, framing_or, verdict, response_framing, IsRefusal};
+ghost use Rattle.http_endpoint.specs.Heads.{is_of, is_otherwise_coded, framing_or, verdict};
+ghost use Rattle.http_endpoint.specs.Heads.{response_framing, IsRefusal};
 ghost use Rattle.http_endpoint.specs.HeadLaws.{request-grows, request-tells, response-grows, response-tells};
 
 use crate::body::{FIELD_LIMIT, Framing};
 use crate::error::HttpError;
-use crate::fields::content_of;
+use crate::fields::{is_plain, is_soap};
+use crate::media::Media;
 use crate::part::{Parsed, Part};
 use crate::parts::{has_empty_line, room_for};
 use http1::fields::{ContentLength, KnownFields, TransferEncoding};
@@ -24,7 +26,9 @@ pub struct RequestFacts {
     pub field_count: usize,
     pub known: KnownFields,
     /// There is a media type, and none but that of SOAP 1.2.
-    pub is_soap: bool,
+    pub is_soap12: bool,
+    /// There is a media type, and none but that of SOAP 1.1.
+    pub is_soap11: bool,
     /// There is no content coding but identity.
     pub is_plain: bool,
 }
@@ -59,13 +63,15 @@ impl Part for HeadOfRequest {
         match parse_request(bytes, headers) {
             Ok(Status::Complete(head)) => {
                 let found = headers.split_at(head.headers).0;
-                let (is_soap, is_plain) = content_of(bytes, found);
+                let is_soap12 = is_soap(Media::Soap12, bytes, found);
+                let is_soap11 = is_soap(Media::Soap11, bytes, found);
                 let facts = RequestFacts {
                     is_post: is_post(head.method.of(bytes)),
                     field_count: head.headers,
                     known: KnownFields::from_spans(bytes, found),
-                    is_soap,
-                    is_plain,
+                    is_soap12,
+                    is_soap11,
+                    is_plain: is_plain(bytes, found),
                 };
                 Ok(Parsed::Found(head.len, facts))
             }
@@ -180,9 +186,18 @@ fn framing_or(otherwise: Framing, length: ContentLength, coding: TransferEncodin
     }
 }
 
-/// How the body of a request is read, or the first reason to refuse it.
-pub fn verdict(facts: RequestFacts) -> Result<Framing, HttpError>
-    ensures is { result ≡ verdict facts }
+fn is_of(media: Media, facts: RequestFacts) -> bool
+    ensures { result ≡ is_of media facts }
+{
+    match media {
+        Media::Soap12 => facts.is_soap12,
+        Media::Soap11 => facts.is_soap11,
+    }
+}
+
+/// How the body of a request of this media type is read, or the first reason to refuse it.
+pub fn verdict(media: Media, facts: RequestFacts) -> Result<Framing, HttpError>
+    ensures is { result ≡ verdict media facts }
     ensures refusal { IfErr result IsRefusal }
 {
     if is_bad(facts.field_count, facts.known) {
@@ -197,7 +212,7 @@ pub fn verdict(facts: RequestFacts) -> Result<Framing, HttpError>
     if !facts.is_plain {
         return Err(HttpError::Unsupported { status: 415 });
     }
-    if !facts.is_soap {
+    if !is_of(media, facts) {
         return Err(HttpError::Unsupported { status: 415 });
     }
     Ok(framing_or(

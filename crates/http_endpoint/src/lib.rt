@@ -10,6 +10,7 @@ pub mod fields;
 pub mod heads;
 pub mod input;
 pub mod laws;
+pub mod media;
 pub mod part;
 pub mod parts;
 pub mod request;
@@ -19,7 +20,8 @@ pub mod write;
 
 pub use error::HttpError;
 pub use input::Input;
-pub use request::read_request;
+pub use media::Media;
+pub use request::{read_request, read_request_as};
 pub use response::{Response, read_response};
 pub use target::{Target, TargetError, read_target};
-pub use write::{write_request, write_response};
+pub use write::{write_request, write_request_as, write_response, write_response_as};

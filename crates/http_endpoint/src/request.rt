@@ -6,7 +6,7 @@ ghost use Rattle.rm_base.specs.Outside.{AppendsFront, Lasts};
 ghost use Rattle.http_endpoint.specs.Limits.{part_bytes};
 ghost use Rattle.http_endpoint.specs.Part.{IfTold};
 ghost use Rattle.http_endpoint.specs.Heads.{IsRefusal};
-ghost use Rattle.http_endpoint.specs.Messages.{continue_text, IsRequest};
+ghost use Rattle.http_endpoint.specs.Messages.{continue_text, IsRequest, IsRequestAs};
 ghost use Rattle.http_endpoint.specs.Kept.{KeepsSink};
 ghost use Rattle.http_endpoint.specs.Taken.{most_taken};
 
@@ -14,6 +14,7 @@ use crate::body::{Framing, read_body};
 use crate::error::HttpError;
 use crate::heads::{HeadOfRequest, verdict};
 use crate::input::Input;
+use crate::media::Media;
 use crate::part::read_part;
 use rm_base::{Blob, Connection, write_all};
 use std::alloc::Global;
@@ -31,9 +32,9 @@ fn invite<C: Connection>(conn: &mut C, expects: bool) -> Result<(), HttpError>
     Ok(())
 }
 
-/// Reads one request, and gives its body. A peer that waits to be told so is told to send it. Of an error other than
-/// want of memory or a fault it is exact which one comes, by the bytes that the connection has left, however they
-/// arrive. RFC 9112, sections 2 to 7; RFC 9110, section 10.1.1.
+/// Reads one request of SOAP 1.2, and gives its body. A peer that waits to be told so is told to send it. Of an error
+/// other than want of memory or a fault it is exact which one comes, by the bytes that the connection has left, however
+/// they arrive. RFC 9112, sections 2 to 7; RFC 9110, section 10.1.1.
 pub fn read_request<C: Connection>(alloc: Global, conn: &mut C) -> Result<Blob, HttpError>
     ensures answer { (all : List ℕ) → (C.Source.told conn.old).left ≡ Some all
         → IfTold result ((said : List ℕ) × Appends (C.Source.told conn.old).held (C.Source.told conn.new).held said
@@ -48,9 +49,31 @@ pub fn read_request<C: Connection>(alloc: Global, conn: &mut C) -> Result<Blob, 
     ensures refusal { IfErr result IsRefusal }
     ensures lasts { Lasts (C.Source.told conn.old) (C.Source.told conn.new) }
 {
+    read_request_as(alloc, conn, Media::Soap12)
+}
+
+/// Reads one request of this media type, and gives its body, as `read_request` does.
+pub fn read_request_as<C: Connection>(
+    alloc: Global,
+    conn: &mut C,
+    media: Media,
+) -> Result<Blob, HttpError>
+    ensures answer { (all : List ℕ) → (C.Source.told conn.old).left ≡ Some all
+        → IfTold result ((said : List ℕ) × Appends (C.Source.told conn.old).held (C.Source.told conn.new).held said
+        × IsRequestAs media result said all) }
+    ensures stops { (C.Source.told conn.new).taken
+        ≤ (C.Source.told conn.old).taken + (part_bytes + 1 + most_taken Framing.Chunked) }
+    ensures front { AppendsFront (C.Source.told conn.old).held (C.Source.told conn.new).held continue_text }
+    ensures read_fault { result ≡ Err HttpError.ReadFault
+        → Rose (C.Source.told conn.old).faults (C.Source.told conn.new).faults }
+    ensures write_fault { result ≡ Err HttpError.WriteFault
+        → Rose (C.Source.told conn.old).faults (C.Source.told conn.new).faults }
+    ensures refusal { IfErr result IsRefusal }
+    ensures lasts { Lasts (C.Source.told conn.old) (C.Source.told conn.new) }
+{
     let mut input = Input::new(alloc);
     let facts = read_part::<C, HeadOfRequest>(alloc, conn, &mut input)?;
-    let framing = verdict(facts)?;
+    let framing = verdict(media, facts)?;
     invite(conn, facts.known.expect_continue)?;
     read_body(alloc, conn, &mut input, framing)
 }

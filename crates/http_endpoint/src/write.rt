@@ -3,11 +3,13 @@ ghost use Rattle.std.specs.Prelude.{◌≡◌, ◌≤◌, ℕ, ◌⊎◌, ◌++�
 ghost use Rattle.std.specs.Prelude.{decimal, true};
 ghost use Rattle.std.specs.Io.KnownBytes.{Appends};
 ghost use Rattle.rm_base.specs.Outside.{AppendsFront};
-ghost use Rattle.http_endpoint.specs.Texts.{IsWritten, phrase_of, allow_line, type_line_of, type_line, last_lines};
-ghost use Rattle.http_endpoint.specs.Texts.{port_text, response_head, request_head, response_text, request_text};
+ghost use Rattle.http_endpoint.specs.Texts.{IsWritten, action_line, allow_line, last_lines, phrase_of, type_line};
+ghost use Rattle.http_endpoint.specs.Texts.{type_line_of, port_text, response_head, request_head, response_text};
+ghost use Rattle.http_endpoint.specs.Texts.{response_text_as, request_text, request_text_as};
 ghost use Rattle.http_endpoint.specs.Kept.{KeepsSink};
 
 use crate::error::HttpError;
+use crate::media::Media;
 use crate::target::Target;
 use rm_base::{Blob, Memory, Sink, push_decimal, write_all};
 use std::alloc::Global;
@@ -37,13 +39,27 @@ fn allow_line(status: u16) -> &'static [u8]
     }
 }
 
-fn type_line_of(len: usize) -> &'static [u8]
-    ensures { result.now ≡ type_line_of len }
+fn type_line(media: Media) -> &'static [u8]
+    ensures { result.now ≡ type_line media }
 {
-    if len == 0 {
-        b""
-    } else {
-        b"Content-Type: application/soap+xml; charset=utf-8\r\n"
+    match media {
+        Media::Soap12 => b"Content-Type: application/soap+xml; charset=utf-8\r\n",
+        Media::Soap11 => b"Content-Type: text/xml; charset=utf-8\r\n",
+    }
+}
+
+fn type_line_of(media: Media, len: usize) -> &'static [u8]
+    ensures { result.now ≡ type_line_of media len }
+{
+    if len == 0 { b"" } else { type_line(media) }
+}
+
+fn action_line(media: Media) -> &'static [u8]
+    ensures { result.now ≡ action_line media }
+{
+    match media {
+        Media::Soap12 => b"",
+        Media::Soap11 => b"SOAPAction: \"\"\r\n",
     }
 }
 
@@ -65,8 +81,8 @@ fn push_port(head: &mut Blob, port: u16) -> Result<(), Memory>
     push_decimal(head, u64::from(port))
 }
 
-fn response_head(alloc: Global, status: u16, len: usize) -> Result<Blob, Memory>
-    ensures { IfOk result (λ head. head ≡ response_head status len) }
+fn response_head(alloc: Global, media: Media, status: u16, len: usize) -> Result<Blob, Memory>
+    ensures { IfOk result (λ head. head ≡ response_head media status len) }
 {
     let mut head = Blob::from_slice(alloc, b"HTTP/1.1 ")?;
     push_decimal(&mut head, u64::from(status))?;
@@ -74,13 +90,13 @@ fn response_head(alloc: Global, status: u16, len: usize) -> Result<Blob, Memory>
     head.push_all(phrase_of(status))?;
     head.push_all(b"\r\n")?;
     head.push_all(allow_line(status))?;
-    head.push_all(type_line_of(len))?;
+    head.push_all(type_line_of(media, len))?;
     push_last_lines(&mut head, len)?;
     Ok(head)
 }
 
-fn request_head(alloc: Global, target: &Target, len: usize) -> Result<Blob, Memory>
-    ensures { IfOk result (λ head. head ≡ request_head target.now len) }
+fn request_head(alloc: Global, media: Media, target: &Target, len: usize) -> Result<Blob, Memory>
+    ensures { IfOk result (λ head. head ≡ request_head media target.now len) }
 {
     let mut head = Blob::from_slice(alloc, b"POST ")?;
     head.push_all(target.path.as_slice())?;
@@ -88,7 +104,8 @@ fn request_head(alloc: Global, target: &Target, len: usize) -> Result<Blob, Memo
     head.push_all(target.host.as_slice())?;
     push_port(&mut head, target.port)?;
     head.push_all(b"\r\n")?;
-    head.push_all(b"Content-Type: application/soap+xml; charset=utf-8\r\n")?;
+    head.push_all(type_line(media))?;
+    head.push_all(action_line(media))?;
     push_last_lines(&mut head, len)?;
     Ok(head)
 }
@@ -117,7 +134,25 @@ pub fn write_response<K: Sink>(
         (response_text status body.now)) }
     ensures keeps { KeepsSink result (K.told out.old) (K.told out.new) }
 {
-    let head = response_head(alloc, status, body.len())?;
+    write_response_as(alloc, out, status, body, Media::Soap12)
+}
+
+/// Writes a response of this media type with this body, which may be empty. RFC 9112, section 4; RFC 9110, section 15.
+pub fn write_response_as<K: Sink>(
+    alloc: Global,
+    out: &mut K,
+    status: u16,
+    body: &[u8],
+    media: Media,
+) -> Result<(), HttpError>
+    requires { IsWritten status }
+    ensures ok { OnOk result (Appends (K.told out.old).held (K.told out.new).held
+        (response_text_as media status body.now)) }
+    ensures err { OnErr result (AppendsFront (K.told out.old).held (K.told out.new).held
+        (response_text_as media status body.now)) }
+    ensures keeps { KeepsSink result (K.told out.old) (K.told out.new) }
+{
+    let head = response_head(alloc, media, status, body.len())?;
     write_both(out, head.as_slice(), body)
 }
 
@@ -133,6 +168,23 @@ pub fn write_request<K: Sink>(
         (request_text target.now body.now)) }
     ensures keeps { KeepsSink result (K.told out.old) (K.told out.new) }
 {
-    let head = request_head(alloc, target, body.len())?;
+    write_request_as(alloc, out, target, body, Media::Soap12)
+}
+
+/// Writes a request of this media type to a target with this body. RFC 9112, section 3; SOAP 1.1, section 6.1.1.
+pub fn write_request_as<K: Sink>(
+    alloc: Global,
+    out: &mut K,
+    target: &Target,
+    body: &[u8],
+    media: Media,
+) -> Result<(), HttpError>
+    ensures ok { OnOk result (Appends (K.told out.old).held (K.told out.new).held
+        (request_text_as media target.now body.now)) }
+    ensures err { OnErr result (AppendsFront (K.told out.old).held (K.told out.new).held
+        (request_text_as media target.now body.now)) }
+    ensures keeps { KeepsSink result (K.told out.old) (K.told out.new) }
+{
+    let head = request_head(alloc, media, target, body.len())?;
     write_both(out, head.as_slice(), body)
 }

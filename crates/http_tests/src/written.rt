@@ -1,5 +1,8 @@
 //! What is written, and where it goes.
-use http_endpoint::{HttpError, Target, read_target, write_request, write_response};
+use http_endpoint::{
+    HttpError, Media, Target, read_target, write_request, write_request_as, write_response,
+    write_response_as,
+};
 use rm_base::{Blob, MemSink, Memory, Numbers, TextError, Uri};
 use std::alloc::Global;
 use std::test::Fail;
@@ -8,6 +11,10 @@ const REFUSAL: &[u8] =
     b"HTTP/1.1 405 Method Not Allowed\r\nAllow: POST\r\nContent-Length: 0\r\nConnection: close\r\n\r\n";
 
 const ANSWER: &[u8] = b"HTTP/1.1 200 OK\r\nContent-Type: application/soap+xml; charset=utf-8\r\n\
+Content-Length: 4\r\nConnection: close\r\n\r\n<a/>";
+
+const ANSWER11: &[u8] =
+    b"HTTP/1.1 500 Internal Server Error\r\nContent-Type: text/xml; charset=utf-8\r\n\
 Content-Length: 4\r\nConnection: close\r\n\r\n<a/>";
 
 fn is_refusal_written(alloc: Global) -> Result<bool, HttpError> {
@@ -22,15 +29,26 @@ fn is_answer_written(alloc: Global) -> Result<bool, HttpError> {
     Ok(out.as_slice() == ANSWER)
 }
 
+// In SOAP 1.1.
+fn is_fault_written(alloc: Global) -> Result<bool, HttpError> {
+    let mut out = MemSink::new(alloc, Numbers::new(alloc));
+    write_response_as(alloc, &mut out, 500, b"<a/>", Media::Soap11)?;
+    Ok(out.as_slice() == ANSWER11)
+}
+
 #[test]
 fn responses_are_written(rt: HostRuntime) -> Result<(), Fail> {
     assert!(rt; is_refusal_written(rt.alloc())?);
     assert!(rt; is_answer_written(rt.alloc())?);
+    assert!(rt; is_fault_written(rt.alloc())?);
     Ok(())
 }
 
 const REQUEST: &[u8] = b"POST /rm?a=b HTTP/1.1\r\nHost: node2.example:8080\r\n\
 Content-Type: application/soap+xml; charset=utf-8\r\nContent-Length: 4\r\nConnection: close\r\n\r\n<a/>";
+
+const REQUEST11: &[u8] = b"POST /rm?a=b HTTP/1.1\r\nHost: node2.example:8080\r\n\
+Content-Type: text/xml; charset=utf-8\r\nSOAPAction: \"\"\r\nContent-Length: 4\r\nConnection: close\r\n\r\n<a/>";
 
 fn target(alloc: Global) -> Result<Target, Memory> {
     Ok(Target {
@@ -57,6 +75,13 @@ fn is_request_written(
     Ok((written == answer) & (out.as_slice() == text))
 }
 
+fn is_request11_written(alloc: Global) -> Result<bool, HttpError> {
+    let target = target(alloc)?;
+    let mut out = MemSink::new(alloc, Numbers::new(alloc));
+    write_request_as(alloc, &mut out, &target, b"<a/>", Media::Soap11)?;
+    Ok(out.as_slice() == REQUEST11)
+}
+
 #[test]
 fn requests_are_written(rt: HostRuntime) -> Result<(), Fail> {
     let failed = Err(HttpError::WriteFault);
@@ -64,6 +89,7 @@ fn requests_are_written(rt: HostRuntime) -> Result<(), Fail> {
     assert!(rt; is_request_written(rt.alloc(), &[], Ok(()), REQUEST)?);
     assert!(rt; is_request_written(rt.alloc(), &[1], failed, b"")?);
     assert!(rt; is_request_written(rt.alloc(), &[2], failed, head)?);
+    assert!(rt; is_request11_written(rt.alloc())?);
     Ok(())
 }
 

@@ -3,8 +3,8 @@ use Rattle.std.proofs.lemmas.Grind.{common_steps}
 use Rattle.http_endpoint.proofs.HeadFacts.{request-fits, request-never, headers-inside, request-found}
 use Rattle.http_endpoint.proofs.heads.HeadOfRequestPart.parse.Goals as goal
 
-pub content_of-is_soap-requires : goal.content_of-is_soap-requires
-content_of-is_soap-requires c =
+pub is_soap-is_soap12-requires : goal.is_soap-is_soap12-requires
+is_soap-is_soap12-requires c =
     headers-inside c.args.bytes.now c.parse_request.new.headers c.split_at.result.0.now c.in-Ok-Complete.field-0
     c.in-Ok-Complete.head
     c.in-Ok-Complete.field-0-is c.in-Ok-Complete.ensures.within c.split_at.ensures.front
@@ -13,10 +13,11 @@ pub returns-in-Ok-Complete : goal.returns-in-Ok-Complete
 returns-in-Ok-Complete c =
     request-found c.args.bytes.now c.parse_request.new.headers c.split_at.result.0.now c.in-Ok-Complete.field-0
     c.in-Ok-Complete.head
-    c.is_post.result c.content_of-is_soap.result.0 c.content_of-is_soap.result.1 c.of.result.now c.from_spans.result
+    c.is_post.result c.is_soap-is_soap12.result c.is_soap-is_soap11.result c.is_plain.result c.of.result.now
+    c.from_spans.result
     c.in-Ok-Complete.field-0-is c.in-Ok-Complete.ensures.within c.in-Ok-Complete.ensures.complete
-    c.split_at.ensures.front c.of.ensures c.is_post.ensures c.from_spans.ensures c.content_of-is_soap.ensures.soap
-    c.content_of-is_soap.ensures.plain
+    c.split_at.ensures.front c.of.ensures c.is_post.ensures c.from_spans.ensures c.is_soap-is_soap12.ensures
+    c.is_soap-is_soap11.ensures c.is_plain.ensures
 
 pub returns : goal.returns
 returns c =
