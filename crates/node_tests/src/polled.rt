@@ -1,6 +1,7 @@
 //! Messages that wait for peers that nobody can reach, until they are polled for: WS-MakeConnection 1.1.
 use crate::peer::{NODE_2, Peer, at_first, at_second, is_packet};
 use crate::texts::{envelope, joined};
+use http_endpoint::Media;
 use rm_answer::reply_to;
 use rm_base::{Blob, Memory, Uri};
 use rm_message::FaultKind;
@@ -108,7 +109,7 @@ fn a_fault_waits_and_is_given_once(rt: HostRuntime) -> Result<(), Fail> {
 
 // The status with which a reaction goes back over HTTP.
 fn status(alloc: Global, reaction: Reaction) -> u16 {
-    reply_to(alloc, reaction.verdict, reaction.reply).status
+    reply_to(alloc, reaction.verdict, reaction.reply, Media::Soap12).status
 }
 
 // The status of a message whose fault waits, of the poll that is given the fault, and of the next one.

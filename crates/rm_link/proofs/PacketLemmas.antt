@@ -11,7 +11,8 @@ use Rattle.http_endpoint.specs.Messages.{IsResponse}
 use Rattle.http_endpoint.specs.Part.{IfTold}
 use Rattle.http_endpoint.specs.declared.error.HttpError.{HttpError}
 use Rattle.http_endpoint.specs.declared.error.HttpError.TheVariants as http
-use Rattle.http_endpoint.specs.Texts.{request_text}
+use Rattle.http_endpoint.specs.Texts.{request_text_as}
+use Rattle.http_endpoint.specs.declared.media.Media.{Media}
 use Rattle.http_endpoint.specs.declared.response.Response.{Response}
 use Rattle.http_endpoint.specs.declared.target.Target.{Target}
 use Rattle.rm_link.specs.Lines.{Asks, Call, Connects, Dialled, Ended, HungUp, Line, Net}
@@ -104,22 +105,23 @@ called old mid new target line held connects asks ended = record {
 }
 
 -- a packet was posted on a connection that was brought
-pub posted-on : (old new : Net) (target : Target) (bytes : List ℕ) (line : Line) (held : Option (List ℕ))
+pub posted-on : (media : Media) (old new : Net) (target : Target) (bytes : List ℕ) (line : Line)
+    (held : Option (List ℕ))
     (result : Result Fate Memory) → Calls old new target line held
-    → IfOk result (Writes line (request_text target bytes) held) → IfOk result (Ends line)
-    → IfOk result (IsPostTo old new target bytes)
-posted-on old new target bytes line held (Ok (Answered body)) calls writes ends =
+    → IfOk result (Writes line (request_text_as media target bytes) held) → IfOk result (Ends line)
+    → IfOk result (IsPostTo media old new target bytes)
+posted-on media old new target bytes line held (Ok (Answered body)) calls writes ends =
     record { line = line; held = held; calls = calls; writes = writes; ends = ends }
-posted-on old new target bytes line held (Ok Missed) calls writes ends =
+posted-on media old new target bytes line held (Ok Missed) calls writes ends =
     record { line = line; held = held; calls = calls; writes = writes; ends = ends }
-posted-on old new target bytes line held (Ok Undialled) calls writes ends = absurd ends
-posted-on old new target bytes line held (Err m) calls writes ends = search rules
+posted-on media old new target bytes line held (Ok Undialled) calls writes ends = absurd ends
+posted-on media old new target bytes line held (Err m) calls writes ends = search rules
 
 -- or memory was wanting then
-pub begun-on : (old new : Net) (target : Target) (bytes : List ℕ) (line : Line) (held : Option (List ℕ))
+pub begun-on : (media : Media) (old new : Net) (target : Target) (bytes : List ℕ) (line : Line) (held : Option (List ℕ))
     (result : Result Fate Memory) → Calls old new target line held
-    → OnErr result (AppendsFront line.held held (request_text target bytes))
-    → OnErr result (IsBegunTo old new target bytes)
-begun-on old new target bytes line held (Ok fate) calls writes = search rules
-begun-on old new target bytes line held (Err m) calls writes =
+    → OnErr result (AppendsFront line.held held (request_text_as media target bytes))
+    → OnErr result (IsBegunTo media old new target bytes)
+begun-on media old new target bytes line held (Ok fate) calls writes = search rules
+begun-on media old new target bytes line held (Err m) calls writes =
     inr (record { line = line; held = held; calls = calls; writes = writes })

@@ -4,9 +4,11 @@ use Rattle.std.specs.Io.KnownBytes.{Appends}
 use Rattle.http_endpoint.specs.Messages.{IsResponse}
 use Rattle.http_endpoint.specs.declared.error.HttpError.{HttpError}
 use Rattle.http_endpoint.specs.declared.error.HttpError.TheVariants as http
+use Rattle.http_endpoint.specs.declared.media.Media.{Media}
+use Rattle.http_endpoint.specs.declared.media.Media.TheVariants.{Soap12}
 use Rattle.http_endpoint.specs.declared.response.Response.{Response}
 use Rattle.http_endpoint.specs.declared.target.Target.{Target}
-use Rattle.http_endpoint.specs.Texts.{request_text}
+use Rattle.http_endpoint.specs.Texts.{request_text_as}
 use Rattle.rm_base.specs.Outside.{AppendsFront}
 use Rattle.rm_base.specs.declared.failures.Memory.{Memory}
 use Rattle.rm_link.specs.Lines.{Line, Net, Connects, Asks, Dialled, HungUp}
@@ -51,37 +53,45 @@ pub record CallsInVain (old new : Net) (target : Target) : Type 0 where
   pub connects : Connects old new None
   pub asks : Asks old.past new.past (Dialled target.host target.port ∷ [])
 
--- a packet was posted to a target: the target was called, the request with these bytes written there, and this came of
--- it
-pub record Exchanged (old new : Net) (target : Target) (bytes : List ℕ) (fate : Fate) : Type 0 where
+-- a packet was posted to a target: the target was called, the request of this media type with these bytes written
+-- there, and this came of it
+pub record Exchanged (media : Media) (old new : Net) (target : Target) (bytes : List ℕ) (fate : Fate) : Type 0 where
   pub line : Line
   pub held : Option (List ℕ)
   pub calls : Calls old new target line held
-  pub writes : Writes line (request_text target bytes) held fate
+  pub writes : Writes line (request_text_as media target bytes) held fate
   pub ends : Ends line fate
 
 -- memory was wanting while it was posted: the target was called, and some first bytes of the request written there
-pub record Began (old new : Net) (target : Target) (bytes : List ℕ) : Type 0 where
+pub record Began (media : Media) (old new : Net) (target : Target) (bytes : List ℕ) : Type 0 where
   pub line : Line
   pub held : Option (List ℕ)
   pub calls : Calls old new target line held
-  pub writes : AppendsFront line.held held (request_text target bytes)
+  pub writes : AppendsFront line.held held (request_text_as media target bytes)
 
 -- a packet for a target: no connection was made, or there was an exchange on the one that was
-abbrev pub IsPostTo : Net → Net → Target → List ℕ → Fate → Type 0
-IsPostTo old new target bytes Undialled = CallsInVain old new target
-IsPostTo old new target bytes fate = Exchanged old new target bytes fate
+abbrev pub IsPostTo : Media → Net → Net → Target → List ℕ → Fate → Type 0
+IsPostTo media old new target bytes Undialled = CallsInVain old new target
+IsPostTo media old new target bytes fate = Exchanged media old new target bytes fate
 
 -- a packet, by the target of its address
+abbrev pub IsPostAs : Media → Net → Net → Option Target → List ℕ → Fate → Type 0
+IsPostAs media old new None bytes fate = (fate ≡ Missed) × (new ≡ old)
+IsPostAs media old new (Some target) bytes fate = IsPostTo media old new target bytes fate
+
+-- a packet of SOAP 1.2
 abbrev pub IsPost : Net → Net → Option Target → List ℕ → Fate → Type 0
-IsPost old new None bytes fate = (fate ≡ Missed) × (new ≡ old)
-IsPost old new (Some target) bytes fate = IsPostTo old new target bytes fate
+IsPost old new target bytes fate = IsPostAs Soap12 old new target bytes fate
 
 -- what was done for a packet when memory was wanting: nothing, or its target was called, where it has one
-abbrev pub IsBegunTo : Net → Net → Target → List ℕ → Type 0
-IsBegunTo old new target bytes = (new ≡ old) ⊎ Began old new target bytes
+abbrev pub IsBegunTo : Media → Net → Net → Target → List ℕ → Type 0
+IsBegunTo media old new target bytes = (new ≡ old) ⊎ Began media old new target bytes
 
 -- the same, by the target of its address
+abbrev pub IsBegunAs : Media → Net → Net → Option Target → List ℕ → Type 0
+IsBegunAs media old new None bytes = new ≡ old
+IsBegunAs media old new (Some target) bytes = IsBegunTo media old new target bytes
+
+-- for a packet of SOAP 1.2
 abbrev pub IsBegun : Net → Net → Option Target → List ℕ → Type 0
-IsBegun old new None bytes = new ≡ old
-IsBegun old new (Some target) bytes = IsBegunTo old new target bytes
+IsBegun old new target bytes = IsBegunAs Soap12 old new target bytes

@@ -15,5 +15,5 @@ mod tests;
 pub use fault::Fault;
 pub use link::Link;
 pub use mem::MemLink;
-pub use packet::{Fate, post};
+pub use packet::{Fate, post, post_as};
 pub use tcp::{TcpConn, TcpLink};

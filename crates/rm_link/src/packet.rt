@@ -1,14 +1,15 @@
 //! One packet, posted to where its address says.
 ghost use Rattle.std.specs.Prelude.{◌≡◌, IfOk, OnErr};
 ghost use Rattle.http_endpoint.specs.Targets.{target_of};
-ghost use Rattle.http_endpoint.specs.Texts.{request_text};
+ghost use Rattle.http_endpoint.specs.Texts.{request_text_as};
 ghost use Rattle.rm_base.specs.Outside.{AppendsFront};
 ghost use Rattle.rm_link.specs.Lines.{line_of};
-ghost use Rattle.rm_link.specs.Posts.{Ends, IsBegun, IsBegunTo, IsPost, IsPostTo, Writes, ended_by};
+ghost use Rattle.rm_link.specs.Posts.{Ends, IsBegun, IsBegunAs, IsBegunTo, IsPost, IsPostAs, IsPostTo, Writes};
+ghost use Rattle.rm_link.specs.Posts.{ended_by};
 
 use crate::link::Link;
 use http_endpoint::{
-    HttpError, Response, Target, TargetError, read_response, read_target, write_request,
+    HttpError, Media, Response, Target, TargetError, read_response, read_target, write_request_as,
 };
 use rm_base::{Blob, Memory, Uri};
 use std::alloc::Global;
@@ -21,8 +22,8 @@ pub enum Fate {
     Undialled,
 }
 
-/// Posts bytes to an address, on a connection of their own, and reads the response. Where memory is wanting the bytes
-/// may have been sent, all or some.
+/// Posts bytes of SOAP 1.2 to an address, on a connection of their own, and reads the response. Where memory is wanting
+/// the bytes may have been sent, all or some.
 pub fn post<L: Link>(
     alloc: Global,
     link: &mut L,
@@ -32,8 +33,23 @@ pub fn post<L: Link>(
     ensures posts { IfOk result (IsPost (L.told link.old) (L.told link.new) (target_of address.now) bytes.now) }
     ensures begins { OnErr result (IsBegun (L.told link.old) (L.told link.new) (target_of address.now) bytes.now) }
 {
+    post_as(alloc, link, address, bytes, Media::Soap12)
+}
+
+/// Posts bytes of this media type, as `post` does.
+pub fn post_as<L: Link>(
+    alloc: Global,
+    link: &mut L,
+    address: &Uri,
+    bytes: &[u8],
+    media: Media,
+) -> Result<Fate, Memory>
+    ensures posts { IfOk result (IsPostAs media (L.told link.old) (L.told link.new) (target_of address.now) bytes.now) }
+    ensures begins { OnErr result (IsBegunAs media (L.told link.old) (L.told link.new)
+        (target_of address.now) bytes.now) }
+{
     match read_target(alloc, address) {
-        Ok(Some(target)) => post_to(alloc, link, &target, bytes),
+        Ok(Some(target)) => post_to(alloc, link, &target, bytes, media),
         Ok(None) => Ok(Fate::Missed),
         Err(TargetError::Memory) => Err(Memory),
         // (an address has at most 2048 bytes, so that its URL doesn't come to 4 GB)
@@ -47,13 +63,14 @@ fn post_to<L: Link>(
     link: &mut L,
     target: &Target,
     bytes: &[u8],
+    media: Media,
 ) -> Result<Fate, Memory>
-    ensures posts { IfOk result (IsPostTo (L.told link.old) (L.told link.new) target.now bytes.now) }
-    ensures begins { OnErr result (IsBegunTo (L.told link.old) (L.told link.new) target.now bytes.now) }
+    ensures posts { IfOk result (IsPostTo media (L.told link.old) (L.told link.new) target.now bytes.now) }
+    ensures begins { OnErr result (IsBegunTo media (L.told link.old) (L.told link.new) target.now bytes.now) }
 {
     match link.dial(target.host.as_slice(), target.port) {
         Ok(conn) => {
-            let (conn, fate) = exchange::<L>(alloc, conn, target, bytes);
+            let (conn, fate) = exchange::<L>(alloc, conn, target, bytes, media);
             link.hang_up(conn);
             fate
         }
@@ -67,14 +84,15 @@ fn exchange<L: Link>(
     mut conn: L::Asking,
     target: &Target,
     bytes: &[u8],
+    media: Media,
 ) -> (L::Hearing, Result<Fate, Memory>)
     ensures ends { IfOk result.1 (Ends (line_of (L.Asking.told conn))) }
-    ensures writes { IfOk result.1 (Writes (line_of (L.Asking.told conn)) (request_text target.now bytes.now)
+    ensures writes { IfOk result.1 (Writes (line_of (L.Asking.told conn)) (request_text_as media target.now bytes.now)
         (L.Hearing.told result.0).held) }
     ensures begins { OnErr result.1 (AppendsFront (L.Asking.told conn).held (L.Hearing.told result.0).held
-        (request_text target.now bytes.now)) }
+        (request_text_as media target.now bytes.now)) }
 {
-    let wrote = write_request(alloc, &mut conn, target, bytes);
+    let wrote = write_request_as(alloc, &mut conn, target, bytes, media);
     let mut conn = L::asked(conn);
     match wrote {
         Ok(()) => {

@@ -1,16 +1,18 @@
 //! Packets that leave a node: each is posted on a connection of its own, and what comes back is given to the node.
-ghost use Rattle.std.specs.Prelude.{◌≡◌, ◌≤◌, ◌<◌, ◌+◌, ◌++◌, List, Err, IfOk, OnOk, true};
-ghost use Rattle.std.specs.Option.{option_map};
+ghost use Rattle.std.specs.Prelude.{◌≡◌, ◌≤◌, ◌<◌, ◌+◌, ◌++◌, List, Err, IfOk, OnErr, OnOk, true};
 ghost use Rattle.rm_disk.specs.Cause.{HasCause};
 ghost use Rattle.rm_node.specs.Ends.{is_disk};
 ghost use Rattle.rm_serve.specs.Limits.{most_posts};
-ghost use Rattle.rm_serve.specs.Posts.{Goes, Hears, IsNext, Posting, Takes, heard_of, none_posted, with_post};
+ghost use Rattle.rm_serve.specs.Posts.{Admits, Begins, Goes, Hears, IsNext, Posting, Posting11, PostingAs, Sends};
+ghost use Rattle.rm_serve.specs.Posts.{Takes, heard_of, none_posted, with_post};
 ghost use Rattle.rm_serve.specs.Steps.{IsReady, MakesAll, Step, place_of};
 
 use crate::taking;
-use rm_base::Memory;
+use crate::version::{Entry, enter, tell};
+use http_endpoint::Media;
+use rm_base::{Blob, Memory};
 use rm_disk::Disk;
-use rm_link::{Fate, Link, post};
+use rm_link::{Fate, Link, post_as};
 use rm_node::{Node, NodeError, Out, Outs, Reaction};
 use std::alloc::Global;
 use std::collections::VecDeque;
@@ -26,8 +28,8 @@ pub struct Posted {
 /// How many packets one `post_due` handles.
 const MOST_POSTS: u32 = 256;
 
-/// Posts packets, one after the other, and gives each response that has a body to the node. What the node hands out
-/// then is posted too, up to 256 packets in all.
+/// Posts packets of SOAP 1.2, one after the other, and gives each response that has a body to the node. What the node
+/// hands out then is posted too, up to 256 packets in all.
 pub fn post_due<D: Disk, L: Link>(
     alloc: Global,
     node: &mut Node,
@@ -47,6 +49,55 @@ pub fn post_due<D: Disk, L: Link>(
     ensures down { result ≡ Err NodeError.Down → node.old.stored.journal.is_down ≡ true }
     ensures cause { HasCause (D.told disk.old).faults (D.told disk.new).faults (is_disk result) }
 {
+    post_row(alloc, node, disk, link, now, outs, Media::Soap12)
+}
+
+/// Posts packets lowered to SOAP 1.1, as `post_due` does, and gives the node what the body of each response is lifted
+/// to. A packet that SOAP 1.1 can't say is missed and not dialled, and a body that is no message of SOAP 1.1 passed
+/// over.
+pub fn post_due11<D: Disk, L: Link>(
+    alloc: Global,
+    node: &mut Node,
+    disk: &mut D,
+    link: &mut L,
+    now: u64,
+    outs: Outs,
+) -> Result<Posted, NodeError>
+    requires ready { IsReady D.tells (place_of (D.told disk.old) node.old) }
+    ensures posts { (steps : List Step) × MakesAll D.tells (place_of (D.told disk.old) node.old)
+        (place_of (D.told disk.new) node.new) steps
+        × Posting11 now most_posts outs none_posted
+        (L.told link.old)
+        (L.told link.new) steps result }
+    ensures ready { IsReady D.tells (place_of (D.told disk.new) node.new) }
+    ensures up { OnOk result (node.new.stored.journal.is_down ≡ node.old.stored.journal.is_down) }
+    ensures down { result ≡ Err NodeError.Down → node.old.stored.journal.is_down ≡ true }
+    ensures cause { HasCause (D.told disk.old).faults (D.told disk.new).faults (is_disk result) }
+{
+    post_row(alloc, node, disk, link, now, outs, Media::Soap11)
+}
+
+// Posts packets to peers that speak this version.
+fn post_row<D: Disk, L: Link>(
+    alloc: Global,
+    node: &mut Node,
+    disk: &mut D,
+    link: &mut L,
+    now: u64,
+    outs: Outs,
+    media: Media,
+) -> Result<Posted, NodeError>
+    requires ready { IsReady D.tells (place_of (D.told disk.old) node.old) }
+    ensures posts { (steps : List Step) × MakesAll D.tells (place_of (D.told disk.old) node.old)
+        (place_of (D.told disk.new) node.new) steps
+        × PostingAs media now most_posts outs none_posted
+        (L.told link.old)
+        (L.told link.new) steps result }
+    ensures ready { IsReady D.tells (place_of (D.told disk.new) node.new) }
+    ensures up { OnOk result (node.new.stored.journal.is_down ≡ node.old.stored.journal.is_down) }
+    ensures down { result ≡ Err NodeError.Down → node.old.stored.journal.is_down ≡ true }
+    ensures cause { HasCause (D.told disk.old).faults (D.told disk.new).faults (is_disk result) }
+{
     let mut queue = VecDeque::new(alloc);
     push_all(&mut queue, outs)?;
     let mut posted = Posted {
@@ -58,7 +109,7 @@ pub fn post_due<D: Disk, L: Link>(
     while left > 0 {
         match next_packet(&mut queue) {
             Some(out) => {
-                posted = post_one(alloc, node, disk, link, now, out, &mut queue, posted)?;
+                posted = post_one(alloc, node, disk, link, now, out, &mut queue, posted, media)?;
                 left -= 1;
             }
             None => return Ok(posted),
@@ -84,13 +135,14 @@ fn post_one<D: Disk, L: Link>(
     out: Out,
     queue: &mut VecDeque<Out>,
     posted: Posted,
+    media: Media,
 ) -> Result<Posted, NodeError>
     requires ready { IsReady D.tells (place_of (D.told disk.old) node.old) }
     requires room { posted.sent + posted.missed < most_posts }
     requires dials { posted.undialled ≤ posted.missed }
     ensures goes { (steps : List Step) × MakesAll D.tells (place_of (D.told disk.old) node.old)
         (place_of (D.told disk.new) node.new) steps
-        × Goes now out queue.old.items queue.new.items posted
+        × Goes media now out queue.old.items queue.new.items posted
         (L.told link.old)
         (L.told link.new) steps result }
     ensures ready { IsReady D.tells (place_of (D.told disk.new) node.new) }
@@ -100,10 +152,22 @@ fn post_one<D: Disk, L: Link>(
     ensures down { result ≡ Err NodeError.Down → node.old.stored.journal.is_down ≡ true }
     ensures cause { HasCause (D.told disk.old).faults (D.told disk.new).faults (is_disk result) }
 {
-    let fate = post(alloc, link, &out.address, out.bytes.as_slice())?;
+    let fate = send(alloc, link, out, media)?;
     let next = counted(&fate, posted);
-    hear(alloc, node, disk, now, &fate, queue)?;
+    hear(alloc, node, disk, now, fate, queue, media)?;
     Ok(next)
+}
+
+// Posts what the peer is told of one packet; nothing where it is told nothing.
+fn send<L: Link>(alloc: Global, link: &mut L, out: Out, media: Media) -> Result<Fate, Memory>
+    ensures sends { IfOk result (Sends media (L.told link.old) (L.told link.new) out) }
+    ensures begins { OnErr result (Begins media (L.told link.old) (L.told link.new) out) }
+{
+    let Out { address, bytes } = out;
+    match tell(alloc, bytes, media)? {
+        Some(text) => post_as(alloc, link, &address, text.as_slice(), media),
+        None => Ok(Fate::Missed),
+    }
 }
 
 // A packet more.
@@ -139,37 +203,63 @@ fn hear<D: Disk>(
     node: &mut Node,
     disk: &mut D,
     now: u64,
-    fate: &Fate,
+    fate: Fate,
     queue: &mut VecDeque<Out>,
+    media: Media,
 ) -> Result<(), NodeError>
     requires ready { IsReady D.tells (place_of (D.told disk.old) node.old) }
     ensures hears { (steps : List Step) × MakesAll D.tells (place_of (D.told disk.old) node.old)
         (place_of (D.told disk.new) node.new) steps
-        × Hears now fate.now queue.old.items queue.new.items steps result }
+        × Hears media now fate queue.old.items queue.new.items steps result }
     ensures ready { IsReady D.tells (place_of (D.told disk.new) node.new) }
     ensures up { OnOk result (node.new.stored.journal.is_down ≡ node.old.stored.journal.is_down) }
     ensures down { result ≡ Err NodeError.Down → node.old.stored.journal.is_down ≡ true }
     ensures cause { HasCause (D.told disk.old).faults (D.told disk.new).faults (is_disk result) }
 {
     match heard(fate) {
-        Some(bytes) => take(alloc, node, disk, now, bytes, queue),
+        Some(body) => admit(alloc, node, disk, now, body, queue, media),
         None => Ok(()),
     }
 }
 
 // The body of a response, where there is one that isn't empty.
-fn heard(fate: &Fate) -> Option<&[u8]>
-    ensures { option_map (λ bytes. bytes.now) result ≡ heard_of fate.now }
+fn heard(fate: Fate) -> Option<Blob>
+    ensures { result ≡ heard_of fate }
 {
     match fate {
         Fate::Answered(body) => {
             if body.is_empty() {
                 return None;
             }
-            Some(body.as_slice())
+            Some(body)
         }
         Fate::Missed => None,
         Fate::Undialled => None,
+    }
+}
+
+// Gives a body to the node, or keeps it out, and queues what is handed out.
+fn admit<D: Disk>(
+    alloc: Global,
+    node: &mut Node,
+    disk: &mut D,
+    now: u64,
+    body: Blob,
+    queue: &mut VecDeque<Out>,
+    media: Media,
+) -> Result<(), NodeError>
+    requires ready { IsReady D.tells (place_of (D.told disk.old) node.old) }
+    ensures admits { (steps : List Step) × MakesAll D.tells (place_of (D.told disk.old) node.old)
+        (place_of (D.told disk.new) node.new) steps
+        × Admits media now body queue.old.items queue.new.items steps result }
+    ensures ready { IsReady D.tells (place_of (D.told disk.new) node.new) }
+    ensures up { OnOk result (node.new.stored.journal.is_down ≡ node.old.stored.journal.is_down) }
+    ensures down { result ≡ Err NodeError.Down → node.old.stored.journal.is_down ≡ true }
+    ensures cause { HasCause (D.told disk.old).faults (D.told disk.new).faults (is_disk result) }
+{
+    match enter(alloc, body, media)? {
+        Entry::Admitted(bytes) => take(alloc, node, disk, now, bytes.as_slice(), queue),
+        Entry::KeptOut(_) => Ok(()),
     }
 }
 

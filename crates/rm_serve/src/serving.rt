@@ -5,14 +5,17 @@ ghost use Rattle.http_endpoint.specs.Texts.{IsWritten};
 ghost use Rattle.rm_answer.specs.Replies.{refusal_to as refusal_for};
 ghost use Rattle.rm_disk.specs.Cause.{HasCause};
 ghost use Rattle.rm_node.specs.Ends.{is_disk};
-ghost use Rattle.rm_serve.specs.Serves.{Answering, Puts, Refusing, Serving, is_want, reply_text};
+ghost use Rattle.rm_serve.specs.Serves.{Admitting, Answering, KeepsOut, Puts, Refusing, Serving, Serving11};
+ghost use Rattle.rm_serve.specs.Serves.{ServingAs, is_want, reply_text};
 ghost use Rattle.rm_serve.specs.Steps.{IsReady, MakesAll, Step, place_of};
 
 use crate::taking::hear;
-use http_endpoint::{HttpError, read_request, write_response};
-use rm_answer::{Reply, refusal_to, reply_to};
+use crate::version::{Entry, enter, tell_reply};
+use http_endpoint::{HttpError, Media, read_request_as, write_response_as};
+use rm_answer::{Reply, fault_reply, refusal_to, reply_to};
 use rm_base::{Blob, Connection, Memory};
 use rm_disk::Disk;
+use rm_message::Refusal;
 use rm_node::{Node, NodeError, Outs, Reaction};
 use std::alloc::Global;
 
@@ -32,7 +35,7 @@ pub struct Served {
     pub finish: ConnEnd,
 }
 
-/// Reads one request, gives its body to the node, and writes the answer.
+/// Reads one request of SOAP 1.2, gives its body to the node, and writes the answer.
 pub fn serve_one<D: Disk, C: Connection>(
     alloc: Global,
     node: &mut Node,
@@ -50,13 +53,83 @@ pub fn serve_one<D: Disk, C: Connection>(
     ensures down { result ≡ Err NodeError.Down → node.old.stored.journal.is_down ≡ true }
     ensures cause { HasCause (D.told disk.old).faults (D.told disk.new).faults (is_disk result) }
 {
-    match read_request(alloc, conn) {
-        Ok(body) => answer(alloc, node, disk, conn, now, body),
-        Err(error) => refuse(alloc, conn, error),
+    serve_as(alloc, node, disk, conn, now, Media::Soap12)
+}
+
+/// Reads one request of SOAP 1.1, gives what its body is lifted to to the node, and writes the answer, lowered. A body
+/// that is no message of SOAP 1.1 is answered with its fault and is not given to the node.
+pub fn serve_one11<D: Disk, C: Connection>(
+    alloc: Global,
+    node: &mut Node,
+    disk: &mut D,
+    conn: &mut C,
+    now: u64,
+) -> Result<Served, NodeError>
+    requires ready { IsReady D.tells (place_of (D.told disk.old) node.old) }
+    ensures serves { (steps : List Step) × MakesAll D.tells (place_of (D.told disk.old) node.old)
+        (place_of (D.told disk.new) node.new) steps
+        × Serving11 now (C.Source.told conn.old)
+        (C.Source.told conn.new) steps result }
+    ensures ready { IsReady D.tells (place_of (D.told disk.new) node.new) }
+    ensures up { OnOk result (node.new.stored.journal.is_down ≡ node.old.stored.journal.is_down) }
+    ensures down { result ≡ Err NodeError.Down → node.old.stored.journal.is_down ≡ true }
+    ensures cause { HasCause (D.told disk.old).faults (D.told disk.new).faults (is_disk result) }
+{
+    serve_as(alloc, node, disk, conn, now, Media::Soap11)
+}
+
+// Serves a peer that speaks this version.
+fn serve_as<D: Disk, C: Connection>(
+    alloc: Global,
+    node: &mut Node,
+    disk: &mut D,
+    conn: &mut C,
+    now: u64,
+    media: Media,
+) -> Result<Served, NodeError>
+    requires ready { IsReady D.tells (place_of (D.told disk.old) node.old) }
+    ensures serves { (steps : List Step) × MakesAll D.tells (place_of (D.told disk.old) node.old)
+        (place_of (D.told disk.new) node.new) steps
+        × ServingAs media now (C.Source.told conn.old)
+        (C.Source.told conn.new) steps result }
+    ensures ready { IsReady D.tells (place_of (D.told disk.new) node.new) }
+    ensures up { OnOk result (node.new.stored.journal.is_down ≡ node.old.stored.journal.is_down) }
+    ensures down { result ≡ Err NodeError.Down → node.old.stored.journal.is_down ≡ true }
+    ensures cause { HasCause (D.told disk.old).faults (D.told disk.new).faults (is_disk result) }
+{
+    match read_request_as(alloc, conn, media) {
+        Ok(body) => admit(alloc, node, disk, conn, now, body, media),
+        Err(error) => refuse(alloc, conn, error, media),
     }
 }
 
-// Gives a body to the node, and writes its answer.
+// Gives a body to the node, or keeps it out, and writes its answer.
+fn admit<D: Disk, C: Connection>(
+    alloc: Global,
+    node: &mut Node,
+    disk: &mut D,
+    conn: &mut C,
+    now: u64,
+    body: Blob,
+    media: Media,
+) -> Result<Served, NodeError>
+    requires ready { IsReady D.tells (place_of (D.told disk.old) node.old) }
+    ensures admits { (steps : List Step) × MakesAll D.tells (place_of (D.told disk.old) node.old)
+        (place_of (D.told disk.new) node.new) steps
+        × Admitting media now (C.Source.told conn.old)
+        (C.Source.told conn.new) body steps result }
+    ensures ready { IsReady D.tells (place_of (D.told disk.new) node.new) }
+    ensures up { OnOk result (node.new.stored.journal.is_down ≡ node.old.stored.journal.is_down) }
+    ensures down { result ≡ Err NodeError.Down → node.old.stored.journal.is_down ≡ true }
+    ensures cause { HasCause (D.told disk.old).faults (D.told disk.new).faults (is_disk result) }
+{
+    match enter(alloc, body, media)? {
+        Entry::Admitted(bytes) => answer(alloc, node, disk, conn, now, bytes, media),
+        Entry::KeptOut(refusal) => keep_out(alloc, conn, &refusal, media),
+    }
+}
+
+// Gives bytes to the node, and writes its answer.
 fn answer<D: Disk, C: Connection>(
     alloc: Global,
     node: &mut Node,
@@ -64,11 +137,12 @@ fn answer<D: Disk, C: Connection>(
     conn: &mut C,
     now: u64,
     body: Blob,
+    media: Media,
 ) -> Result<Served, NodeError>
     requires ready { IsReady D.tells (place_of (D.told disk.old) node.old) }
     ensures answers { (steps : List Step) × MakesAll D.tells (place_of (D.told disk.old) node.old)
         (place_of (D.told disk.new) node.new) steps
-        × Answering now (C.Source.told conn.old)
+        × Answering media now (C.Source.told conn.old)
         (C.Source.told conn.new) body steps result }
     ensures ready { IsReady D.tells (place_of (D.told disk.new) node.new) }
     ensures up { OnOk result (node.new.stored.journal.is_down ≡ node.old.stored.journal.is_down) }
@@ -80,8 +154,9 @@ fn answer<D: Disk, C: Connection>(
         reply,
         outs,
     } = hear(alloc, node, disk, now, body.as_slice())?;
-    let reply = reply_to(alloc, verdict, reply);
-    let finish = write_reply(alloc, conn, &reply)?;
+    let told = tell_reply(alloc, reply, media)?;
+    let reply = reply_to(alloc, verdict, told, media);
+    let finish = write_reply(alloc, conn, &reply, media)?;
     Ok(Served {
         taken: Some(body),
         outs,
@@ -89,12 +164,35 @@ fn answer<D: Disk, C: Connection>(
     })
 }
 
-// Writes a response.
-fn write_reply<C: Connection>(alloc: Global, conn: &mut C, reply: &Reply) -> Result<ConnEnd, Memory>
-    requires { IsWritten reply.now.status }
-    ensures { Puts (C.Source.told conn.old) (C.Source.told conn.new) (reply_text (Some reply.now)) result }
+// Answers a body that is kept out with the fault of its refusal.
+fn keep_out<C: Connection>(
+    alloc: Global,
+    conn: &mut C,
+    refusal: &Refusal,
+    media: Media,
+) -> Result<Served, NodeError>
+    ensures { KeepsOut media (C.Source.told conn.old) (C.Source.told conn.new) refusal.now result }
 {
-    match write_response(alloc, conn, reply.status, reply.body.as_slice()) {
+    let reply = fault_reply(alloc, refusal, media)?;
+    let finish = write_reply(alloc, conn, &reply, media)?;
+    Ok(Served {
+        taken: None,
+        outs: Outs::new(alloc),
+        finish,
+    })
+}
+
+// Writes a response.
+fn write_reply<C: Connection>(
+    alloc: Global,
+    conn: &mut C,
+    reply: &Reply,
+    media: Media,
+) -> Result<ConnEnd, Memory>
+    requires { IsWritten reply.now.status }
+    ensures { Puts (C.Source.told conn.old) (C.Source.told conn.new) (reply_text media (Some reply.now)) result }
+{
+    match write_response_as(alloc, conn, reply.status, reply.body.as_slice(), media) {
         Ok(()) => Ok(ConnEnd::Done),
         Err(HttpError::WriteFault) => Ok(ConnEnd::Dropped(HttpError::WriteFault)),
         Err(HttpError::Memory) => Err(Memory),
@@ -104,14 +202,19 @@ fn write_reply<C: Connection>(alloc: Global, conn: &mut C, reply: &Reply) -> Res
 
 // Answers a request that could not be read, where it gets an answer. The error of the request is told, whatever comes
 // of its answer.
-fn refuse<C: Connection>(alloc: Global, conn: &mut C, error: HttpError) -> Result<Served, NodeError>
+fn refuse<C: Connection>(
+    alloc: Global,
+    conn: &mut C,
+    error: HttpError,
+    media: Media,
+) -> Result<Served, NodeError>
     requires { IsRefusal error }
-    ensures { Refusing (C.Source.told conn.old) (C.Source.told conn.new) error result }
+    ensures { Refusing media (C.Source.told conn.old) (C.Source.told conn.new) error result }
 {
     if is_want(error) {
         return Err(NodeError::Memory);
     }
-    say(alloc, conn, error)?;
+    say(alloc, conn, error, media)?;
     Ok(Served {
         taken: None,
         outs: Outs::new(alloc),
@@ -135,12 +238,18 @@ fn is_want(error: HttpError) -> bool
 }
 
 // Writes the answer to a request that could not be read, where it gets one.
-fn say<C: Connection>(alloc: Global, conn: &mut C, error: HttpError) -> Result<ConnEnd, Memory>
+fn say<C: Connection>(
+    alloc: Global,
+    conn: &mut C,
+    error: HttpError,
+    media: Media,
+) -> Result<ConnEnd, Memory>
     requires { IsRefusal error }
-    ensures { Puts (C.Source.told conn.old) (C.Source.told conn.new) (reply_text (refusal_for error)) result }
+    ensures { Puts (C.Source.told conn.old) (C.Source.told conn.new)
+        (reply_text media (refusal_for media error)) result }
 {
-    match refusal_to(alloc, error)? {
-        Some(reply) => write_reply(alloc, conn, &reply),
+    match refusal_to(alloc, error, media)? {
+        Some(reply) => write_reply(alloc, conn, &reply, media),
         None => Ok(ConnEnd::Done),
     }
 }

@@ -1,7 +1,7 @@
 use Rattle.std.proofs.Common.{◌≡◌, ◌∙◌, ap, true, nat_lt}
 use Rattle.std.specs.Io.KnownBytes.{Appends}
 use Rattle.std.proofs.lemmas.Bool.{and_parts}
-use Rattle.http_endpoint.specs.Texts.{request_text}
+use Rattle.http_endpoint.specs.Texts.{request_text_as}
 use Rattle.rm_base.specs.Outside.{Stream}
 use Rattle.rm_link.specs.Lines.{Line, line_of}
 use Rattle.rm_link.proofs.PacketLemmas.{all-front, any-err, ended, written}
@@ -14,7 +14,7 @@ returns-in-Ok g c =
     let new = g.L.Hearing.Source.told c.read_response.new.from in
     let line : Line = line_of old in
     let turned = c.asked-conn.ensures in
-    let wrote = c.write_request-wrote.ensures.keeps in
+    let wrote = c.write_request_as-wrote.ensures.keeps in
     let read = c.read_response.ensures.keeps in
     let same : mid.left ≡ old.left = ap (λ (s : Stream). s.left) turned ∙ wrote.left in
     let sound : line.sound ≡ true → (nat_lt mid.faults 18446744073709551615 ≡ true) × (new.faults ≡ mid.faults)
@@ -24,7 +24,7 @@ returns-in-Ok g c =
     let faults : mid.faults ≡ old.faults = ap (λ (s : Stream). s.faults) turned ∙ lasting.1 in
     let still : mid.sound ≡ true = ap (λ (s : Stream). s.sound) turned ∙ lasting.0 in
     (rw faults parts.1, (read.lasts.sound still).1) in
-    let request = request_text c.args.target.now c.args.bytes.now in
+    let request = request_text_as c.args.media c.args.target.now c.args.bytes.now in
     let whole : Appends old.held new.held request =
     rw read.held (rw (ap (λ (s : Stream). s.held) turned) c.in-Ok.ensures.ok) in
     record {

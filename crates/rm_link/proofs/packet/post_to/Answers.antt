@@ -17,7 +17,7 @@ returns-in-Ok g c =
     rw (← c.as_slice.ensures) c.in-Ok.ensures.asks in
     let calls = called old mid new target line held c.in-Ok.ensures.connects asks c.hang_up.ensures in
     record {
-      posts = posted-on old new target bytes line held fate calls c.exchange-conn.ensures.writes
+      posts = posted-on c.args.media old new target bytes line held fate calls c.exchange-conn.ensures.writes
           c.exchange-conn.ensures.ends;
-      begins = begun-on old new target bytes line held fate calls c.exchange-conn.ensures.begins;
+      begins = begun-on c.args.media old new target bytes line held fate calls c.exchange-conn.ensures.begins;
     }

@@ -15,13 +15,14 @@ returns-in_err-fate-clause-goes g c =
     let p = err_from_is_err_and c.from_residual.result c.from_residual.ensures.1 in
     let x = place_of (g.D.Disk.told c.args.disk.now) c.args.node.now in
     let old = net c.args.link.now in
-    let mid = net c.post.new.link in
+    let mid = net c.send.new.link in
     let queue = c.args.queue.now.items in (
       [],
       no-step g.D.Disk.tells x x (record { node = refl; told = λ t. refl }),
-      subst (λ (r : Result Posted NodeError). Goes c.args.now c.args.out queue queue c.args.posted old mid [] r)
-          (sym (p.1 ∙ ap Err p.2)) (goes-wanting c.args.now c.args.out queue c.args.posted old mid
-          (rw (← c.as_slice.ensures) c.in_err-fate.ensures.begins)),
+      subst (λ (r : Result Posted NodeError). Goes c.args.media c.args.now c.args.out queue queue c.args.posted old mid
+          [] r)
+          (sym (p.1 ∙ ap Err p.2)) (goes-wanting c.args.media c.args.now c.args.out queue c.args.posted old mid
+          c.in_err-fate.ensures.begins),
     )
 
 pub returns-in_err-hear-clause-goes : goal.returns-in_err-hear-clause-goes
@@ -34,10 +35,11 @@ returns-in_err-hear-clause-goes g c =
     let more = c.hear.new.queue.items in (
       h.0,
       h.1,
-      subst (λ (r : Result Posted NodeError). Goes c.args.now c.args.out queue more c.args.posted
-          (net c.args.link.now) (net c.post.new.link) h.0 r) (sym (p.1 ∙ ap Err p.2))
-          (goes-no-further c.args.now c.args.out queue more c.args.posted (net c.args.link.now) (net c.post.new.link)
-          c.in_ok-fate.fate h.0 c.in_err-hear.field-0.0 (rw (← c.as_slice.ensures) c.in_ok-fate.ensures.posts) h.2),
+      subst (λ (r : Result Posted NodeError). Goes c.args.media c.args.now c.args.out queue more c.args.posted
+          (net c.args.link.now) (net c.send.new.link) h.0 r) (sym (p.1 ∙ ap Err p.2))
+          (goes-no-further c.args.media c.args.now c.args.out queue more c.args.posted (net c.args.link.now)
+          (net c.send.new.link)
+          c.in_ok-fate.fate h.0 c.in_err-hear.field-0.0 c.in_ok-fate.ensures.sends h.2),
     )
 
 pub returns-clause-goes : goal.returns-clause-goes
@@ -48,8 +50,8 @@ returns-clause-goes g c =
     let more = c.hear.new.queue.items in (
       h.0,
       h.1,
-      subst (λ (next : Posted). Goes c.args.now c.args.out queue more c.args.posted
-          (net c.args.link.now) (net c.post.new.link) h.0 (Ok next)) (sym c.counted-next.ensures.is)
-          (goes-on c.args.now c.args.out queue more c.args.posted (net c.args.link.now) (net c.post.new.link)
-          c.in_ok-fate.fate h.0 (rw (← c.as_slice.ensures) c.in_ok-fate.ensures.posts) h.2),
+      subst (λ (next : Posted). Goes c.args.media c.args.now c.args.out queue more c.args.posted
+          (net c.args.link.now) (net c.send.new.link) h.0 (Ok next)) (sym c.counted-next.ensures.is)
+          (goes-on c.args.media c.args.now c.args.out queue more c.args.posted (net c.args.link.now)
+          (net c.send.new.link) c.in_ok-fate.fate h.0 c.in_ok-fate.ensures.sends h.2),
     )

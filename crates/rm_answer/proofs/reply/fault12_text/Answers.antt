@@ -1,7 +1,7 @@
 use Rattle.std.proofs.Common.{None}
 use Rattle.message_writer.specs.Faults.{fault_of}
 use Rattle.rm_answer.proofs.ReplyLemmas.{text-of-same}
-use Rattle.rm_answer.proofs.reply.fault_text.Goals as goal
+use Rattle.rm_answer.proofs.reply.fault12_text.Goals as goal
 
 pub returns : goal.returns
 returns c =

@@ -4,12 +4,12 @@ use Rattle.std.proofs.lemmas.Result.{err_from_is_err_and}
 use Rattle.rm_node.specs.declared.error.NodeError.{NodeError}
 use Rattle.rm_node.specs.declared.packets.Out.{Out}
 use Rattle.rm_serve.specs.Limits as limits
-use Rattle.rm_serve.specs.Posts.{Posting, none_posted, wanting}
+use Rattle.rm_serve.specs.Posts.{PostingAs, none_posted, wanting}
 use Rattle.rm_serve.specs.Steps.{place_of}
 use Rattle.rm_serve.specs.declared.posting.Posted.{Posted}
 use Rattle.rm_serve.proofs.PostLemmas.{far-empty, far-first, far-on, far-over, far-stop, one-more}
 use Rattle.rm_serve.proofs.StepLemmas.{no-step}
-use Rattle.rm_serve.proofs.posting.post_due.Goals as goal
+use Rattle.rm_serve.proofs.posting.post_row.Goals as goal
 
 pub returns-in_err-push_all-clause-posts : goal.returns-in_err-push_all-clause-posts
 returns-in_err-push_all-clause-posts g c =
@@ -18,7 +18,8 @@ returns-in_err-push_all-clause-posts g c =
     let net = g.L.Link.told c.args.link.now in (
       [],
       no-step g.D.Disk.tells x x (record { node = refl; told = λ t. refl }),
-      subst (λ (r : Result Posted NodeError). Posting c.args.now limits.most_posts c.args.outs none_posted net net [] r)
+      subst (λ (r : Result Posted NodeError). PostingAs c.args.media c.args.now limits.most_posts c.args.outs
+          none_posted net net [] r)
           (sym (p.1 ∙ ap Err p.2)) (wanting limits.most_posts c.args.outs none_posted net),
     )
 
@@ -26,7 +27,7 @@ pub loop-left-init : goal.loop-left-init
 loop-left-init g c =
     let x = place_of (g.D.Disk.told c.args.disk.now) c.args.node.now in
     record {
-      far = far-first g.D.Disk.tells c.args.now x x c.args.outs c.push_all.new.queue.items
+      far = far-first c.args.media g.D.Disk.tells c.args.now x x c.args.outs c.push_all.new.queue.items
           (g.L.Link.told c.args.link.now)
           (record { node = refl; told = λ t. refl })
           (c.in_ok-push_all.ensures ∙ ap (λ (q : List Out). q ++ c.args.outs) c.new-queue.ensures.items);
@@ -40,7 +41,7 @@ loop-left-init g c =
 pub returns-in-None-clause-posts : goal.returns-in-None-clause-posts
 returns-in-None-clause-posts g c =
     let l = c.loop-left in
-    far-empty g.D.Disk.tells c.args.now (place_of (g.D.Disk.told c.args.disk.now) c.args.node.now)
+    far-empty c.args.media g.D.Disk.tells c.args.now (place_of (g.D.Disk.told c.args.disk.now) c.args.node.now)
     (place_of (g.D.Disk.told l.disk) l.node) c.args.outs l.queue.items l.posted l.left (g.L.Link.told c.args.link.now)
     (g.L.Link.told l.link) l.invariant.far c.in-None.ensures
 
@@ -51,7 +52,7 @@ returns-in_err-posted-in-Some-clause-posts g c =
     let r = c.from_residual-in_err-posted-in-Some in
     let p = err_from_is_err_and r.result r.ensures.1 in
     let h = c.in_err-posted-in-Some.ensures.goes in
-    far-stop g.D.Disk.tells c.args.now (place_of (g.D.Disk.told c.args.disk.now) c.args.node.now)
+    far-stop c.args.media g.D.Disk.tells c.args.now (place_of (g.D.Disk.told c.args.disk.now) c.args.node.now)
     (place_of (g.D.Disk.told l.disk) l.node) (place_of (g.D.Disk.told new.disk) new.node) c.args.outs l.queue.items
     c.next_packet.new.queue.items new.queue.items c.in-Some.out l.posted l.left (l.left - 1)
     (g.L.Link.told c.args.link.now) (g.L.Link.told l.link) (g.L.Link.told new.link) h.0
@@ -64,7 +65,7 @@ loop-left-preserved g c =
     let new = c.post_one.new in
     let h = c.in_ok-posted-in-Some.ensures.goes in
     record {
-      far = far-on g.D.Disk.tells c.args.now (place_of (g.D.Disk.told c.args.disk.now) c.args.node.now)
+      far = far-on c.args.media g.D.Disk.tells c.args.now (place_of (g.D.Disk.told c.args.disk.now) c.args.node.now)
           (place_of (g.D.Disk.told l.disk) l.node) (place_of (g.D.Disk.told new.disk) new.node) c.args.outs
           l.queue.items c.next_packet.new.queue.items new.queue.items c.in-Some.out l.posted
           c.in_ok-posted-in-Some.posted
@@ -81,6 +82,6 @@ loop-left-preserved g c =
 pub returns-clause-posts : goal.returns-clause-posts
 returns-clause-posts g c =
     let l = c.loop-left in
-    far-over g.D.Disk.tells c.args.now (place_of (g.D.Disk.told c.args.disk.now) c.args.node.now)
+    far-over c.args.media g.D.Disk.tells c.args.now (place_of (g.D.Disk.told c.args.disk.now) c.args.node.now)
     (place_of (g.D.Disk.told l.disk) l.node) c.args.outs l.queue.items l.posted l.left (g.L.Link.told c.args.link.now)
     (g.L.Link.told l.link) l.invariant.far (omega (arith, c.loop-left-test.false))

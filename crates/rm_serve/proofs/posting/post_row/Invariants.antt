@@ -2,13 +2,13 @@ use Rattle.std.proofs.Common.{◌≡◌, ◌+◌, ◌≤◌}
 use Rattle.rm_serve.specs.Limits as limits
 use Rattle.rm_serve.specs.Steps.{IsReady, place_of}
 use Rattle.rm_serve.proofs.PostLemmas.{Far}
-use Rattle.rm_serve.proofs.posting.post_due.Given as goal
+use Rattle.rm_serve.proofs.posting.post_row.Given as goal
 
 abbrev pub invariant-loop-left : goal.invariant-loop-left
 invariant-loop-left g l =
     let net = g.L.Link.told in
     record {
-      far : Far g.D.Disk.tells l.now (place_of (g.D.Disk.told l.fn.disk) l.fn.node)
+      far : Far l.media g.D.Disk.tells l.now (place_of (g.D.Disk.told l.fn.disk) l.fn.node)
           (place_of (g.D.Disk.told l.disk) l.node) l.fn.outs l.queue.items l.posted l.left
           (net l.fn.link) (net l.link);
       count : l.posted.sent + l.posted.missed + l.left ≡ limits.most_posts;
