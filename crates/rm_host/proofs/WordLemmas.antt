@@ -3,12 +3,15 @@ use Rattle.std.proofs.Common.{◌≡◌, ℕ, ◌≤◌, ◌<◌, ◌-◌, ◌^�
 use Rattle.std.proofs.Common.{arith, subst, sym, true}
 use Rattle.std.specs.Prelude.{Err}
 use Rattle.rm_script.specs.Script.{IsNumber}
-use Rattle.rm_host.specs.Words.{Asks, HasTarget, IsAddress, IsCommand, IsReachable, IsSequence, Reads}
-use Rattle.rm_host.specs.Words.{ReadsAddress, Takes, name_of}
+use Rattle.rm_host.specs.Words.{Asks, HasTarget, IsAddress, IsCommand, IsReachable, IsSequence, IsService, Reads}
+use Rattle.rm_host.specs.Words.{ReadsAddress, Takes, name_of, serve_word}
 use Rattle.rm_host.specs.declared.end.End.{End}
 use Rattle.rm_host.specs.declared.end.End.TheVariants as end
 use Rattle.rm_host.specs.declared.words.Command.{Command}
-use Rattle.rm_host.specs.declared.words.Command.TheVariants.{Make, Send, Close, Finish, Inbox}
+use Rattle.rm_host.specs.declared.words.Service.{Service}
+use Rattle.http_endpoint.specs.declared.media.Media.{Media}
+use Rattle.http_endpoint.specs.declared.media.Media.TheVariants.{Soap12, Soap11}
+use Rattle.rm_host.specs.declared.words.Command.TheVariants.{Make, Serve, Send, Close, Finish, Inbox}
 
 -- the words behind a name are those of no command with this name
 only-by : (name : List ℕ) (words : List (List ℕ)) → bytes_eq name name ≡ true
@@ -40,6 +43,19 @@ no-inbox words none = only-by (codes "inbox") words refl by-name
   where
     by-name : (c : Command) → bytes_eq (name_of c) (codes "inbox") ≡ true → ¬ (Takes c words)
     by-name (Inbox seq) e = none seq
+    by-name c e = absurd cc
+
+pub no-serve : (media : Media) (words : List (List ℕ)) → ((service : Service) → ¬ (IsService words service))
+    → ¬ (IsCommand (serve_word media ∷ words))
+no-serve Soap12 words none = only-by (codes "serve") words refl by-name
+  where
+    by-name : (c : Command) → bytes_eq (name_of c) (codes "serve") ≡ true → ¬ (Takes c words)
+    by-name (Serve media service) e = none service
+    by-name c e = absurd cc
+no-serve Soap11 words none = only-by (codes "serve11") words refl by-name
+  where
+    by-name : (c : Command) → bytes_eq (name_of c) (codes "serve11") ≡ true → ¬ (Takes c words)
+    by-name (Serve media service) e = none service
     by-name c e = absurd cc
 
 -- an address that can't be read ends the reading of a command that takes it

@@ -3,6 +3,8 @@ use Rattle.std.specs.Prelude.{◌≡◌, ◌≢◌, ℕ, ◌-◌, ◌<◌, ◌�
 use Rattle.std.specs.Prelude.{decimal, None, Result, Ok, Err}
 use Rattle.std.specs.Str.{IsUtf8}
 use Rattle.http_endpoint.specs.Targets.{target_of}
+use Rattle.http_endpoint.specs.declared.media.Media.{Media}
+use Rattle.http_endpoint.specs.declared.media.Media.TheVariants.{Soap12, Soap11}
 use Rattle.rm_base.specs.Limits as limits
 use Rattle.rm_base.specs.Text.{IsText}
 use Rattle.rm_base.specs.declared.message.Behaviour.{Behaviour}
@@ -14,13 +16,15 @@ use Rattle.rm_host.specs.declared.words.Command.{Command}
 use Rattle.rm_host.specs.declared.words.Command.TheVariants.{Make, Serve, Send, Push, Close, Finish, Inbox, Compact}
 use Rattle.rm_host.specs.declared.words.Grant.{Grant}
 use Rattle.rm_host.specs.declared.words.Grant.TheVariants.{DropsFollowing, DropsEntire}
+use Rattle.rm_host.specs.declared.words.Service.{Service}
 
 -- the name of a command of a node
 abbrev pub is_node_name : List ℕ → Bool
 is_node_name name =
-    bytes_eq name (codes "make") || (bytes_eq name (codes "serve") || (bytes_eq name (codes "send")
+    bytes_eq name (codes "make") || (bytes_eq name (codes "serve") || (bytes_eq name (codes "serve11")
+    || (bytes_eq name (codes "send")
     || (bytes_eq name (codes "push") || (bytes_eq name (codes "close") || (bytes_eq name (codes "end")
-    || (bytes_eq name (codes "inbox") || bytes_eq name (codes "compact")))))))
+    || (bytes_eq name (codes "inbox") || bytes_eq name (codes "compact"))))))))
 
 -- the first word is one
 abbrev pub is_of_node : List (List ℕ) → Bool
@@ -46,10 +50,21 @@ abbrev pub behaviour_of : Grant → Behaviour
 behaviour_of DropsFollowing = FollowingFirstGap
 behaviour_of DropsEntire = EntireSequence
 
+-- three words, what is served
+abbrev pub IsService : List (List ℕ) → Service → Type 0
+IsService words service =
+    (p c : List ℕ) × IsNumber 1 65535 p service.port × IsNumber 1 65535 c service.count
+    × (words ≡ p ∷ c ∷ grant_word service.grant ∷ [])
+
+-- the word for serving peers that speak this version of SOAP
+abbrev pub serve_word : Media → List ℕ
+serve_word Soap12 = codes "serve"
+serve_word Soap11 = codes "serve11"
+
 -- the first word of a command
 abbrev pub name_of : Command → List ℕ
 name_of (Make number address) = codes "make"
-name_of (Serve port count grant) = codes "serve"
+name_of (Serve media service) = serve_word media
 name_of (Send to) = codes "send"
 name_of Push = codes "push"
 name_of (Close seq) = codes "close"
@@ -61,8 +76,7 @@ name_of Compact = codes "compact"
 abbrev pub Takes : Command → List (List ℕ) → Type 0
 Takes (Make number address) words =
     (n : List ℕ) × IsNumber 1 (2 ^ 60 - 1) n number × IsAddress address × (words ≡ n ∷ address ∷ [])
-Takes (Serve port count grant) words =
-    (p c : List ℕ) × IsNumber 1 65535 p port × IsNumber 1 65535 c count × (words ≡ p ∷ c ∷ grant_word grant ∷ [])
+Takes (Serve media service) words = IsService words service
 Takes (Send to) words = IsAddress to × (words ≡ to ∷ [])
 Takes Push words = words ≡ []
 Takes (Close seq) words = IsSequence words seq

@@ -1,24 +1,30 @@
 //! What commands do with the node of a host. Each error is the end of a command.
-ghost use Rattle.std.specs.Prelude.{◌≡◌, ◌<◌, ◌^◌, true, false, None, IfOk, IfSome, OnOk, IsTrue};
+ghost use Rattle.std.specs.Prelude.{◌≡◌, ◌<◌, ◌^◌, true, false, None, List, Err, IfOk, IfSome, OnOk, IsTrue};
 ghost use Rattle.node_store.specs.Mounted.{Finds};
 ghost use Rattle.rm_base.specs.Count.{Rose};
 ghost use Rattle.rm_node.specs.Asked.{MayBeAsked, is_connected};
 ghost use Rattle.rm_node.specs.Compacted.{Compacts};
 ghost use Rattle.sequence_table.specs.Fits.{is_in_order};
-ghost use Rattle.rm_serve.specs.Steps.{IsUp, place_of};
+ghost use Rattle.rm_disk.specs.Cause.{HasCause};
+ghost use Rattle.rm_node.specs.Ends.{is_disk};
+ghost use Rattle.rm_serve.specs.Limits.{most_posts};
+ghost use Rattle.rm_serve.specs.Posts.{PostingAs, none_posted};
+ghost use Rattle.rm_serve.specs.Serves.{ServingAs};
+ghost use Rattle.rm_serve.specs.Steps.{IsReady, IsUp, MakesAll, Step, place_of};
 ghost use Rattle.rm_host.specs.Compaction.{call_end};
 ghost use Rattle.rm_host.specs.Ends.{HasReason, faults_of, is_outer, is_refused};
 
 use crate::end::End;
 use crate::host::Host;
 use call_answers::Wish;
+use http_endpoint::Media;
 use record_batch::Via;
-use rm_base::{Blob, Lapse, Uri};
+use rm_base::{Blob, Connection, Lapse, Uri};
 use rm_disk::Disk;
 use rm_link::Link;
-use rm_node::{Call, Made, Node, Outs, Sent};
+use rm_node::{Call, Made, Node, NodeError, Outs, Sent};
 use rm_serve::laws::a_node_stays_up;
-use rm_serve::{Posted, Served, post_due, serve_one};
+use rm_serve::{Posted, Served, post_due, post_due11, serve_one, serve_one11};
 use std::alloc::Global;
 
 /// Makes a node on the disk.
@@ -130,13 +136,15 @@ pub(crate) fn accept_payload<D: Disk, L: Link, C>(
     Ok(node.send(&mut host.disk, seq, payload)?)
 }
 
-/// Posts packets. Where one found no connection the link's count of faults rose.
+/// Posts packets to peers that speak this version of SOAP. Where one found no connection the link's count of faults
+/// rose.
 pub(crate) fn post<D: Disk, L: Link, C>(
     alloc: Global,
     host: &mut Host<D, L, C>,
     node: &mut Node,
     now: u64,
     outs: Outs,
+    media: Media,
 ) -> Result<Posted, End>
     requires up { IsUp D.tells (place_of (D.told host.old.disk) node.old) }
     ensures up { OnOk result (IsUp D.tells (place_of (D.told host.new.disk) node.new)) }
@@ -145,7 +153,15 @@ pub(crate) fn post<D: Disk, L: Link, C>(
     ensures reason { HasReason (faults_of D.told L.told host.old) (faults_of D.told L.told host.new) result }
     ensures inner { is_outer result ≡ false }
 {
-    Ok(post_due(alloc, node, &mut host.disk, &mut host.link, now, outs)?)
+    Ok(post_row(
+        alloc,
+        node,
+        &mut host.disk,
+        &mut host.link,
+        now,
+        outs,
+        media,
+    )?)
 }
 
 /// Posts packets, each of which is to find a connection.
@@ -161,25 +177,78 @@ pub(crate) fn post_all<D: Disk, L: Link, C>(
     ensures reason { HasReason (faults_of D.told L.told host.old) (faults_of D.told L.told host.new) result }
     ensures inner { is_outer result ≡ false }
 {
-    let posted = post(alloc, host, node, now, outs)?;
+    let posted = post(alloc, host, node, now, outs, Media::Soap12)?;
     if posted.undialled > 0 {
         return Err(End::LinkFault);
     }
     Ok(posted)
 }
 
-/// Serves a connection that came.
+/// Serves a connection that came, of a peer that speaks this version of SOAP.
 pub(crate) fn serve_conn<D: Disk, L: Link, C>(
     alloc: Global,
     host: &mut Host<D, L, C>,
     node: &mut Node,
     mut conn: L::Conn,
     now: u64,
+    media: Media,
 ) -> Result<Served, End>
     requires up { IsUp D.tells (place_of (D.told host.old.disk) node.old) }
     ensures up { OnOk result (IsUp D.tells (place_of (D.told host.new.disk) node.new)) }
     ensures reason { HasReason (faults_of D.told L.told host.old) (faults_of D.told L.told host.new) result }
     ensures inner { is_outer result ≡ false }
 {
-    Ok(serve_one(alloc, node, &mut host.disk, &mut conn, now)?)
+    Ok(serve_peer(alloc, node, &mut host.disk, &mut conn, now, media)?)
+}
+
+// Serves a peer that speaks this version of SOAP.
+fn serve_peer<D: Disk, C: Connection>(
+    alloc: Global,
+    node: &mut Node,
+    disk: &mut D,
+    conn: &mut C,
+    now: u64,
+    media: Media,
+) -> Result<Served, NodeError>
+    requires ready { IsReady D.tells (place_of (D.told disk.old) node.old) }
+    ensures serves { (steps : List Step) × MakesAll D.tells (place_of (D.told disk.old) node.old)
+        (place_of (D.told disk.new) node.new) steps
+        × ServingAs media now (C.Source.told conn.old)
+        (C.Source.told conn.new) steps result }
+    ensures ready { IsReady D.tells (place_of (D.told disk.new) node.new) }
+    ensures up { OnOk result (node.new.stored.journal.is_down ≡ node.old.stored.journal.is_down) }
+    ensures down { result ≡ Err NodeError.Down → node.old.stored.journal.is_down ≡ true }
+    ensures cause { HasCause (D.told disk.old).faults (D.told disk.new).faults (is_disk result) }
+{
+    match media {
+        Media::Soap12 => serve_one(alloc, node, disk, conn, now),
+        Media::Soap11 => serve_one11(alloc, node, disk, conn, now),
+    }
+}
+
+// Posts packets to peers that speak this version of SOAP.
+fn post_row<D: Disk, L: Link>(
+    alloc: Global,
+    node: &mut Node,
+    disk: &mut D,
+    link: &mut L,
+    now: u64,
+    outs: Outs,
+    media: Media,
+) -> Result<Posted, NodeError>
+    requires ready { IsReady D.tells (place_of (D.told disk.old) node.old) }
+    ensures posts { (steps : List Step) × MakesAll D.tells (place_of (D.told disk.old) node.old)
+        (place_of (D.told disk.new) node.new) steps
+        × PostingAs media now most_posts outs none_posted
+        (L.told link.old)
+        (L.told link.new) steps result }
+    ensures ready { IsReady D.tells (place_of (D.told disk.new) node.new) }
+    ensures up { OnOk result (node.new.stored.journal.is_down ≡ node.old.stored.journal.is_down) }
+    ensures down { result ≡ Err NodeError.Down → node.old.stored.journal.is_down ≡ true }
+    ensures cause { HasCause (D.told disk.old).faults (D.told disk.new).faults (is_disk result) }
+{
+    match media {
+        Media::Soap12 => post_due(alloc, node, disk, link, now, outs),
+        Media::Soap11 => post_due11(alloc, node, disk, link, now, outs),
+    }
 }

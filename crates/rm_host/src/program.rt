@@ -81,7 +81,7 @@ fn perform<S: Source, D: Disk, L: Link, C: Clock>(
 {
     match command {
         Command::Make { number, address } => make(alloc, host, number, address),
-        Command::Serve { port, count, grant } => serve(alloc, host, port, count, grant),
+        Command::Serve { media, service } => serve(alloc, host, service, media),
         Command::Send { to } => send(alloc, host, input, to),
         Command::Push => push(alloc, host),
         Command::Close { seq } => close(alloc, host, seq),

@@ -12,6 +12,7 @@ ghost use Rattle.node_tables.specs.Reads.{outgoing_in};
 use crate::calls::{accept_payload, ask, create, mount, post, post_all};
 use crate::end::End;
 use crate::host::Host;
+use http_endpoint::Media;
 use node_tables::{Peer, Tables};
 use rm_base::limits::PAYLOAD_BYTES;
 use rm_base::{Blob, Clock, Memory, ReadError, Source, Uri, push_decimal, read_up_to};
@@ -113,7 +114,7 @@ fn reach<D: Disk, L: Link, C: Clock>(
 {
     let (seq, outs) = begin(host, node, to)?;
     let now = host.clock.now();
-    let posted = post(alloc, host, node, now, outs)?;
+    let posted = post(alloc, host, node, now, outs, Media::Soap12)?;
     Ok((seq, posted.undialled))
 }
 

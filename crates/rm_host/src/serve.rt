@@ -1,4 +1,4 @@
-//! The command `serve`.
+//! The commands `serve` and `serve11`.
 ghost use Rattle.std.specs.Prelude.{◌≡◌, ◌+◌, ◌<◌, ◌++◌, IfOk, OnOk, false};
 ghost use Rattle.rm_serve.specs.Steps.{IsUp, place_of};
 ghost use Rattle.rm_host.specs.Ends.{HasReason, faults_of, is_outer};
@@ -7,7 +7,8 @@ ghost use Rattle.rm_host.specs.Texts.{IsTally, served_line, well_served};
 use crate::calls::{ask, mount, post, serve_conn};
 use crate::end::End;
 use crate::host::Host;
-use crate::words::Grant;
+use crate::words::Service;
+use http_endpoint::Media;
 use rm_base::{Blob, Clock, Memory, push_decimal};
 use rm_disk::Disk;
 use rm_link::Link;
@@ -22,26 +23,26 @@ struct Tally {
     dropped: u64,
 }
 
-/// Takes so many connections, one after the other, and posts after each what is due.
+/// Takes so many connections, one after the other, of peers that speak this version of SOAP, and posts after each what
+/// is due.
 pub fn serve<D: Disk, L: Link, C: Clock>(
     alloc: Global,
     host: &mut Host<D, L, C>,
-    port: u16,
-    count: u16,
-    grant: Grant,
+    service: Service,
+    media: Media,
 ) -> Result<Blob, End>
-    ensures tally { IfOk result (IsTally count) }
+    ensures tally { IfOk result (IsTally service.count) }
     ensures reason { HasReason (faults_of D.told L.told host.old) (faults_of D.told L.told host.new) result }
     ensures inner { is_outer result ≡ false }
 {
-    let mut node = open(alloc, host, port, grant)?;
+    let mut node = open(alloc, host, service)?;
     let mut tally = Tally {
         done: 0,
         dropped: 0,
     };
-    let mut left = count;
+    let mut left = service.count;
     while left > 0 {
-        let finish = turn(alloc, host, &mut node)?;
+        let finish = turn(alloc, host, &mut node, media)?;
         tally = counted(tally, finish);
         left -= 1;
     }
@@ -71,16 +72,15 @@ fn counted(tally: Tally, finish: ConnEnd) -> Tally
 fn open<D: Disk, L: Link, C>(
     alloc: Global,
     host: &mut Host<D, L, C>,
-    port: u16,
-    grant: Grant,
+    service: Service,
 ) -> Result<Node, End>
     ensures up { IfOk result (λ node. IsUp D.tells (place_of (D.told host.new.disk) node)) }
     ensures reason { HasReason (faults_of D.told L.told host.old) (faults_of D.told L.told host.new) result }
     ensures inner { is_outer result ≡ false }
 {
     let mut node = mount(alloc, host)?;
-    node.set_grant(grant.behaviour());
-    match host.link.listen(port) {
+    node.set_grant(service.grant.behaviour());
+    match host.link.listen(service.port) {
         Ok(()) => Ok(node),
         Err(_) => Err(End::LinkFault),
     }
@@ -91,6 +91,7 @@ fn turn<D: Disk, L: Link, C: Clock>(
     alloc: Global,
     host: &mut Host<D, L, C>,
     node: &mut Node,
+    media: Media,
 ) -> Result<ConnEnd, End>
     requires { IsUp D.tells (place_of (D.told host.old.disk) node.old) }
     ensures up { OnOk result (IsUp D.tells (place_of (D.told host.new.disk) node.new)) }
@@ -98,7 +99,7 @@ fn turn<D: Disk, L: Link, C: Clock>(
     ensures inner { is_outer result ≡ false }
 {
     match host.link.accept() {
-        Ok(conn) => take(alloc, host, node, conn),
+        Ok(conn) => take(alloc, host, node, conn, media),
         Err(_) => Err(End::LinkFault),
     }
 }
@@ -109,6 +110,7 @@ fn take<D: Disk, L: Link, C: Clock>(
     host: &mut Host<D, L, C>,
     node: &mut Node,
     conn: L::Conn,
+    media: Media,
 ) -> Result<ConnEnd, End>
     requires { IsUp D.tells (place_of (D.told host.old.disk) node.old) }
     ensures up { OnOk result (IsUp D.tells (place_of (D.told host.new.disk) node.new)) }
@@ -116,11 +118,11 @@ fn take<D: Disk, L: Link, C: Clock>(
     ensures inner { is_outer result ≡ false }
 {
     let now = host.clock.now();
-    let served = serve_conn(alloc, host, node, conn, now)?;
+    let served = serve_conn(alloc, host, node, conn, now, media)?;
     let now = host.clock.now();
     let due = ask(host, node, now, Call::Tick { now })?;
     let outs = joined(served.outs, due)?;
-    post(alloc, host, node, now, outs)?;
+    post(alloc, host, node, now, outs, media)?;
     Ok(served.finish)
 }
 

@@ -21,18 +21,21 @@ ghost use Rattle.rm_host.specs.Words.{
   IsAddress,
   IsReachable,
   IsSequence,
+  IsService,
   Reads,
   ReadsAddress,
   behaviour_of,
   grant_word,
   is_node_name,
   is_of_node,
+  serve_word,
 };
 ghost use Rattle.rm_host.specs.declared.words.Grant.{Grant as AGrant};
+ghost use Rattle.rm_host.specs.declared.words.Service.{Service as AService};
 ghost use Rattle.http_endpoint.specs.Targets.{target_of};
 
 use crate::end::End;
-use http_endpoint::read_target;
+use http_endpoint::{Media, read_target};
 use rm_base::limits::MOST_SEQUENCES;
 use rm_base::{Behaviour, Blob, TextError, Uri};
 use rm_script::number_of;
@@ -59,11 +62,19 @@ impl Grant {
     }
 }
 
+/// What a node serves: so many connections at a port, and what it announces there.
+#[derive(Clone, Copy, Debug)]
+pub struct Service {
+    pub port: u16,
+    pub count: u16,
+    pub grant: Grant,
+}
+
 /// What the words ask for.
 #[derive(Debug, Drop)]
 pub enum Command {
     Make { number: u64, address: Uri },
-    Serve { port: u16, count: u16, grant: Grant },
+    Serve { media: Media, service: Service },
     Send { to: Uri },
     Push,
     Close { seq: u32 },
@@ -87,6 +98,7 @@ fn is_node_name(name: &[u8]) -> bool
 {
     name == b"make".as_slice()
         || name == b"serve".as_slice()
+        || name == b"serve11".as_slice()
         || name == b"send".as_slice()
         || name == b"push".as_slice()
         || name == b"close".as_slice()
@@ -113,7 +125,10 @@ fn named(alloc: Global, name: &[u8], words: &[Blob]) -> Result<Command, End>
         return make_of(alloc, words);
     }
     if name == b"serve".as_slice() {
-        return serve_of(words);
+        return serve_of(words, Media::Soap12);
+    }
+    if name == b"serve11".as_slice() {
+        return serve_of(words, Media::Soap11);
     }
     if name == b"send".as_slice() {
         return send_of(alloc, words);
@@ -151,24 +166,12 @@ fn make_of(alloc: Global, words: &[Blob]) -> Result<Command, End>
     }
 }
 
-fn serve_of(words: &[Blob]) -> Result<Command, End>
-    ensures { Reads (codes "serve" ∷ words.now) result }
+// To serve peers that speak this version of SOAP.
+fn serve_of(words: &[Blob], media: Media) -> Result<Command, End>
+    ensures { Reads (serve_word media ∷ words.now) result }
 {
-    let [port, count, grant] = words else {
-        return Err(End::Usage);
-    };
-    let Some(port) = number_in(port, 1, 65535) else {
-        return Err(End::Usage);
-    };
-    let Some(count) = number_in(count, 1, 65535) else {
-        return Err(End::Usage);
-    };
-    match grant_of(grant) {
-        Some(grant) => Ok(Command::Serve {
-            port: port as u16,
-            count: count as u16,
-            grant,
-        }),
+    match service_of(words) {
+        Some(service) => Ok(Command::Serve { media, service }),
         None => Err(End::Usage),
     }
 }
@@ -227,6 +230,29 @@ fn compact_of(words: &[Blob]) -> Result<Command, End>
     match words {
         [] => Ok(Command::Compact),
         _ => Err(End::Usage),
+    }
+}
+
+// What is served, where the words say that.
+fn service_of(words: &[Blob]) -> Option<Service>
+    ensures { MatchOption result ((service : AService) → ¬ (IsService words.now service)) (IsService words.now) }
+{
+    let [port, count, grant] = words else {
+        return None;
+    };
+    let Some(port) = number_in(port, 1, 65535) else {
+        return None;
+    };
+    let Some(count) = number_in(count, 1, 65535) else {
+        return None;
+    };
+    match grant_of(grant) {
+        Some(grant) => Some(Service {
+            port: port as u16,
+            count: count as u16,
+            grant,
+        }),
+        None => None,
     }
 }
 

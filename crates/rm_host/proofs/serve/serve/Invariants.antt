@@ -10,7 +10,7 @@ invariant-loop-left g l =
     record {
       up : IsUp g.D.Disk.tells (place_of (told l.host.disk) l.node);
       reason : Reason (faults l.fn.host) (faults l.host) false false true;
-      count : l.tally.done + l.tally.dropped + l.left ≡ l.fn.count;
+      count : l.tally.done + l.tally.dropped + l.left ≡ l.fn.service.count;
     }
 
 abbrev pub decreases-loop-left : goal.decreases-loop-left
