@@ -32,7 +32,7 @@ use Rattle.rm_host.specs.declared.end.End.TheVariants as end
 -- ---- the call of a node that is up
 
 -- one that is up does what is said of one that is up
-up-does : (down : Bool) (P Q : Type 0) → down ≡ false → MatchBool down P Q → Q
+pub up-does : (down : Bool) (P Q : Type 0) → down ≡ false → MatchBool down P Q → Q
 up-does true P Q up does = absurd cc
 up-does false P Q up does = does
 

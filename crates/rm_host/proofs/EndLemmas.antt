@@ -1,7 +1,10 @@
 -- Why commands end as they do, step by step.
 use Rattle.std.proofs.Common.{◌≡◌, ◌≢◌, ◌⊎◌, ℕ, ◌≤◌, Bool, true, false, refl, sym, ap, subst, inl, inr, arith}
 use Rattle.std.specs.Prelude.{Result, Err}
+use Rattle.node_store.specs.Imported.{import_failed}
 use Rattle.node_store.specs.Mounted.{has_failed}
+use Rattle.node_store.specs.declared.error.ImportError.{ImportError}
+use Rattle.node_store.specs.declared.error.ImportError.TheVariants as import
 use Rattle.node_store.specs.declared.error.MountError.{MountError}
 use Rattle.node_store.specs.declared.error.MountError.TheVariants as mount
 use Rattle.rm_base.specs.Count.{Rose}
@@ -13,8 +16,9 @@ use Rattle.rm_node.specs.declared.call.Call.TheVariants as call
 use Rattle.rm_node.specs.declared.error.NodeError.{NodeError}
 use Rattle.rm_node.specs.declared.error.NodeError.TheVariants as node
 use Rattle.rm_host.specs.Ends.{Faults, HasReason, Reason, is_disk_end, is_disk_fault, is_link_end, is_link_fault}
-use Rattle.rm_host.specs.Ends.{is_outer, is_refused, mount_end, node_end}
+use Rattle.rm_host.specs.Ends.{import_end, is_of_call, is_outer, is_refused, mount_end, node_end}
 use Rattle.rm_host.specs.declared.end.End.{End}
+use Rattle.rm_host.specs.declared.end.End.TheVariants as end
 use Rattle.rm_host.specs.declared.end.End.TheVariants.{Memory}
 
 -- ---- counts that rose
@@ -100,6 +104,11 @@ pub call-inner : (e : NodeError) → is_outer {T = Unit {0}} (Err (node_end e)) 
 call-inner node.Memory = refl
 call-inner e = refl
 
+-- a call ends so
+pub call-of : (e : NodeError) → is_of_call (node_end e) ≡ true
+call-of node.Memory = refl
+call-of e = refl
+
 -- it broke where it failed by the disk
 pub broke-by : (e : NodeError) → is_broken (error_end e) ≡ is_disk {T = Unit {0}} (Err e)
 broke-by node.Memory = refl
@@ -117,6 +126,17 @@ mount-fails f g mount.Memory cause = record { disk = cause; link = λ h. absurd 
 mount-fails f g mount.Disk cause = record { disk = cause; link = λ h. absurd cc; later = λ h. absurd cc }
 mount-fails f g mount.NotAJournal cause = record { disk = cause; link = λ h. absurd cc; later = λ h. absurd cc }
 
+-- where no node was found, or memory was wanting, or the disk failed
+pub mount-which : (e : MountError)
+    → (mount_end e ≡ end.Memory) ⊎ ((mount_end e ≡ end.DiskFault) ⊎ (mount_end e ≡ end.NotAJournal))
+mount-which mount.Memory = inl refl
+mount-which mount.Disk = inr (inl refl)
+mount-which mount.NotAJournal = inr (inr refl)
+
+pub mount-none : (e : MountError) → mount_end e ≡ end.NotAJournal → e ≡ mount.NotAJournal
+mount-none mount.NotAJournal none = refl
+mount-none e none = absurd cc
+
 -- it is no refusal
 pub mount-unrefused : (e : MountError) → is_refused {T = Unit {0}} (Err (mount_end e)) ≡ false
 mount-unrefused mount.Memory = refl
@@ -125,6 +145,19 @@ mount-unrefused e = refl
 pub mount-inner : (e : MountError) → is_outer {T = Unit {0}} (Err (mount_end e)) ≡ false
 mount-inner mount.Memory = refl
 mount-inner e = refl
+
+-- as an import does
+pub import-fails : (f g : Faults) (e : ImportError) → HasCause f.disk g.disk (import_failed {T = Unit {0}} (Err e))
+    → Reason f g (is_disk_end (import_end e)) (is_link_end (import_end e)) false
+import-fails f g import.Memory cause = record { disk = cause; link = λ h. absurd cc; later = λ h. absurd cc }
+import-fails f g import.Disk cause = record { disk = cause; link = λ h. absurd cc; later = λ h. absurd cc }
+import-fails f g import.NotAJournal cause = record { disk = cause; link = λ h. absurd cc; later = λ h. absurd cc }
+import-fails f g (import.Full end needed) cause =
+    record { disk = cause; link = λ h. absurd cc; later = λ h. absurd cc }
+
+pub import-inner : (e : ImportError) → is_outer {T = Unit {0}} (Err (import_end e)) ≡ false
+import-inner import.Memory = refl
+import-inner e = refl
 
 -- each call that doesn't come on a connection asks something
 pub some-asked : (c : Call) → is_connected c ≡ false → (asked : Asked) × Asks c asked

@@ -1,5 +1,7 @@
 mod CompactionLemmas
+mod ConsumptionLemmas
 mod EndLemmas
+mod ImportationLemmas
 mod PostLemmas
 mod RunLemmas
 mod SequenceLemmas

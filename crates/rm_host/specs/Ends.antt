@@ -1,9 +1,11 @@
 -- How a command of a node ends, and why.
 use Rattle.std.specs.Prelude.{◌≡◌, ℕ, ◌+◌, ◌<◌, ◌≤◌, Bool, true, false, Result, Ok, Err, IfSome, is_ok, length}
+use Rattle.node_store.specs.declared.error.ImportError.{ImportError}
+use Rattle.node_store.specs.declared.error.ImportError.TheVariants as import
 use Rattle.node_store.specs.declared.error.MountError.{MountError}
 use Rattle.node_store.specs.declared.error.MountError.TheVariants as mount
+use Rattle.call_answers.specs.declared.answer.Cause.TheVariants.{StoreFull}
 use Rattle.rm_base.specs.Count.{Rose, RoseBy}
-use Rattle.rm_base.specs.Limits as limits
 use Rattle.rm_base.specs.Outside.{Stream}
 use Rattle.rm_disk.specs.Cause.{HasCause}
 use Rattle.rm_disk.specs.Told.{Told}
@@ -43,6 +45,13 @@ mount_end mount.Memory = Memory
 mount_end mount.Disk = DiskFault
 mount_end mount.NotAJournal = NotAJournal
 
+-- the end where no node is made of a journal of the layout before
+abbrev pub import_end : ImportError → End
+import_end import.Memory = Memory
+import_end import.Disk = DiskFault
+import_end import.NotAJournal = NotAJournal
+import_end (import.Full end needed) = Refused (StoreFull end needed)
+
 -- by a fault of the disk
 abbrev pub is_disk_end : End → Bool
 is_disk_end DiskFault = true
@@ -62,10 +71,22 @@ is_outer_end TooLong = true
 is_outer_end BadAddress = true
 is_outer_end _ = false
 
+-- by the words, or by what is read
+abbrev pub is_of_input_end : End → Bool
+is_of_input_end WriteFault = false
+is_of_input_end e = is_outer_end e
+
 -- by a refusal of the node
 abbrev pub is_refusal : End → Bool
 is_refusal (Refused cause) = true
 is_refusal _ = false
+
+-- by a call of a node that was mounted
+abbrev pub is_of_call : End → Bool
+is_of_call Memory = true
+is_of_call DiskFault = true
+is_of_call (Refused cause) = true
+is_of_call _ = false
 
 -- the disk is to blame
 abbrev pub is_disk_fault : {T : Type 0} → Result T End → Bool
@@ -81,6 +102,11 @@ is_link_fault (Err e) = is_link_end e
 abbrev pub is_outer : {T : Type 0} → Result T End → Bool
 is_outer (Ok x) = false
 is_outer (Err e) = is_outer_end e
+
+-- the words are to blame, or what is read
+abbrev pub is_of_input : {T : Type 0} → Result T End → Bool
+is_of_input (Ok x) = false
+is_of_input (Err e) = is_of_input_end e
 
 -- the node refused it
 abbrev pub is_refused : {T : Type 0} → Result T End → Bool
@@ -107,17 +133,23 @@ pub record Reason (old new : Faults) (broke lost ok : Bool) : Type 0 where
 abbrev pub HasReason : {T : Type 0} → Faults → Faults → Result T End → Type 0
 HasReason old new result = Reason old new (is_disk_fault result) (is_link_fault result) (is_ok result)
 
--- more bytes than a payload has were taken, and there were more, where that is known
-pub record WasTooLong (old new : Stream) : Type 0 where
-  pub taken : RoseBy old.taken new.taken (limits.payload_bytes + 1)
-  pub longer : IfSome old.left (λ all. limits.payload_bytes < length all)
+-- what a command does to the output before the text that it answers is printed: the count of faults doesn't fall, and
+-- the command ends by a fault of writing only where it rose
+pub record Prints {T : Type 0} (old new : Stream) (result : Result T End) : Type 0 where
+  pub later : old.faults ≤ new.faults
+  pub fault : result ≡ Err WriteFault → Rose old.faults new.faults
 
--- what a command that reads a payload did to its input
-abbrev pub Took : {T : Type 0} → Stream → Stream → Result T End → Type 0
-Took old new (Err ReadFault) = Rose old.faults new.faults
-Took old new (Err TooLong) = WasTooLong old new
-Took old new (Err Usage) = ⊥
-Took old new (Err WriteFault) = ⊥
-Took old new (Err BadAddress) = ⊥
-Took old new (Err Memory) = Unit {0}
-Took old new _ = IfSome old.left (λ all. length all ≤ limits.payload_bytes)
+-- more bytes than so many were taken, and there were more, where that is known
+pub record WasTooLong (limit : ℕ) (old new : Stream) : Type 0 where
+  pub taken : RoseBy old.taken new.taken (limit + 1)
+  pub longer : IfSome old.left (λ all. limit < length all)
+
+-- what a command that reads so many bytes at most did to its input
+abbrev pub Took : {T : Type 0} → (limit : ℕ) → Stream → Stream → Result T End → Type 0
+Took limit old new (Err ReadFault) = Rose old.faults new.faults
+Took limit old new (Err TooLong) = WasTooLong limit old new
+Took limit old new (Err Usage) = ⊥
+Took limit old new (Err WriteFault) = ⊥
+Took limit old new (Err BadAddress) = ⊥
+Took limit old new (Err Memory) = Unit {0}
+Took limit old new _ = IfSome old.left (λ all. length all ≤ limit)

@@ -87,3 +87,17 @@ inbox_answer records seq =
 -- what is printed of the items of an inbox past one place, up to another
 abbrev pub passed_lines : (seq from upto : ℕ) → List Item → List ℕ
 passed_lines seq from upto items = item_lines seq from (drop from (take upto items))
+
+-- what consume prints of a sequence before it records, by its receiving side, where it has one: the items past the
+-- cursor
+abbrev pub passed_told : (seq upto : ℕ) → Option Receiving → Result (List ℕ) End
+passed_told seq upto None = Err (Refused cause.WrongSide)
+passed_told seq upto (Some receiving) =
+    if nat_lt (length (inbox receiving)) upto then Err (Refused (cause.PastInbox (length (inbox receiving))))
+    else Ok (passed_lines seq receiving.cursor upto (inbox receiving))
+
+-- what it prints of a node with these records
+abbrev pub passed_answer : List Fact → (seq upto : ℕ) → Result (List ℕ) End
+passed_answer records seq upto =
+    if nat_lt (length (makers records)) seq then Err (Refused cause.NoSequence)
+    else passed_told seq upto (incoming_in records seq)

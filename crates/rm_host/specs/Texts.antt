@@ -67,10 +67,18 @@ acked_words false = codes " acked no\n"
 abbrev pub sent_line : ℕ → ℕ → Bool → List ℕ
 sent_line seq number acked = codes "accepted " ++ decimal seq ++ codes " " ++ decimal number ++ acked_words acked
 
--- what inbox prints of an item
+-- what inbox and consume print of an item
 abbrev pub item_line : ℕ → ℕ → List ℕ → List ℕ
 item_line seq number payload =
     codes "item " ++ decimal seq ++ codes " " ++ decimal number ++ codes " " ++ encode_lower payload ++ codes "\n"
+
+-- what consume prints in the end: how many items of the inbox were consumed
+abbrev pub consumed_line : ℕ → ℕ → List ℕ
+consumed_line seq cursor = codes "consumed " ++ decimal seq ++ codes " " ++ decimal cursor ++ codes "\n"
+
+-- what import prints: how many entries the journal has
+abbrev pub imported_line : ℕ → List ℕ
+imported_line entries = codes "imported " ++ decimal entries ++ codes "\n"
 
 -- what compact prints: how many entries the journal had, and how many it has
 abbrev pub compacted_line : ℕ → ℕ → List ℕ

@@ -6,6 +6,7 @@ use Rattle.http_endpoint.specs.Targets.{target_of}
 use Rattle.http_endpoint.specs.declared.media.Media.{Media}
 use Rattle.http_endpoint.specs.declared.media.Media.TheVariants.{Soap12, Soap11}
 use Rattle.rm_base.specs.Limits as limits
+use Rattle.rm_base.specs.Message.{max_number}
 use Rattle.rm_base.specs.Text.{IsText}
 use Rattle.rm_base.specs.declared.message.Behaviour.{Behaviour}
 use Rattle.rm_base.specs.declared.message.Behaviour.TheVariants.{EntireSequence, FollowingFirstGap}
@@ -14,6 +15,7 @@ use Rattle.rm_host.specs.declared.end.End.{End}
 use Rattle.rm_host.specs.declared.end.End.TheVariants as end
 use Rattle.rm_host.specs.declared.words.Command.{Command}
 use Rattle.rm_host.specs.declared.words.Command.TheVariants.{Make, Serve, Send, Push, Close, Finish, Inbox, Compact}
+use Rattle.rm_host.specs.declared.words.Command.TheVariants.{Consume, Import}
 use Rattle.rm_host.specs.declared.words.Grant.{Grant}
 use Rattle.rm_host.specs.declared.words.Grant.TheVariants.{DropsFollowing, DropsEntire}
 use Rattle.rm_host.specs.declared.words.Service.{Service}
@@ -24,7 +26,8 @@ is_node_name name =
     bytes_eq name (codes "make") || (bytes_eq name (codes "serve") || (bytes_eq name (codes "serve11")
     || (bytes_eq name (codes "send")
     || (bytes_eq name (codes "push") || (bytes_eq name (codes "close") || (bytes_eq name (codes "end")
-    || (bytes_eq name (codes "inbox") || bytes_eq name (codes "compact"))))))))
+    || (bytes_eq name (codes "inbox") || (bytes_eq name (codes "compact") || (bytes_eq name (codes "consume")
+    || bytes_eq name (codes "import"))))))))))
 
 -- the first word is one
 abbrev pub is_of_node : List (List ℕ) → Bool
@@ -71,6 +74,8 @@ name_of (Close seq) = codes "close"
 name_of (Finish seq) = codes "end"
 name_of (Inbox seq) = codes "inbox"
 name_of Compact = codes "compact"
+name_of (Consume seq upto) = codes "consume"
+name_of Import = codes "import"
 
 -- the words behind it
 abbrev pub Takes : Command → List (List ℕ) → Type 0
@@ -83,6 +88,9 @@ Takes (Close seq) words = IsSequence words seq
 Takes (Finish seq) words = IsSequence words seq
 Takes (Inbox seq) words = IsSequence words seq
 Takes Compact words = words ≡ []
+Takes (Consume seq upto) words =
+    (k m : List ℕ) × IsNumber 1 limits.most_sequences k seq × IsNumber 1 max_number m upto × (words ≡ k ∷ m ∷ [])
+Takes Import words = words ≡ []
 
 -- the words ask for a command
 abbrev pub Asks : List (List ℕ) → Command → Type 0

@@ -1,23 +1,30 @@
 //! What commands do with the node of a host. Each error is the end of a command.
-ghost use Rattle.std.specs.Prelude.{◌≡◌, ◌<◌, ◌^◌, true, false, None, List, Err, IfOk, IfSome, OnOk, IsTrue};
-ghost use Rattle.node_store.specs.Mounted.{Finds};
+ghost use Rattle.std.specs.Prelude.{◌≡◌, ◌⊎◌, ◌<◌, ◌^◌, true, false, Err, None, List, IfErr, IfOk, IfSome, OnOk};
+ghost use Rattle.std.specs.Prelude.{IsTrue, is_ok};
+ghost use Rattle.node_store.specs.Imported.{Imports};
+ghost use Rattle.node_store.specs.Mounted.{Finds, IsNoNode};
 ghost use Rattle.rm_base.specs.Count.{Rose};
 ghost use Rattle.rm_node.specs.Asked.{MayBeAsked, is_connected};
 ghost use Rattle.rm_node.specs.Compacted.{Compacts};
 ghost use Rattle.sequence_table.specs.Fits.{is_in_order};
+ghost use Rattle.rm_disk.specs.Call.{seen_of};
 ghost use Rattle.rm_disk.specs.Cause.{HasCause};
+ghost use Rattle.rm_disk.specs.Image.{MayLeave, OnlyLeaves};
 ghost use Rattle.rm_node.specs.Ends.{is_disk};
 ghost use Rattle.rm_serve.specs.Limits.{most_posts};
 ghost use Rattle.rm_serve.specs.Posts.{PostingAs, none_posted};
 ghost use Rattle.rm_serve.specs.Serves.{ServingAs};
 ghost use Rattle.rm_serve.specs.Steps.{IsReady, IsUp, MakesAll, Step, place_of};
 ghost use Rattle.rm_host.specs.Compaction.{call_end};
-ghost use Rattle.rm_host.specs.Ends.{HasReason, faults_of, is_outer, is_refused};
+ghost use Rattle.rm_host.specs.Consumption.{ConsumesItems};
+ghost use Rattle.rm_host.specs.Ends.{HasReason, faults_of, is_of_call, is_outer, is_refused};
+ghost use Rattle.rm_host.specs.Importation.{IsNotMade, IsShort};
 
 use crate::end::End;
 use crate::host::Host;
 use call_answers::Wish;
 use http_endpoint::Media;
+use node_laws::laws::there_are_own_terms;
 use record_batch::Via;
 use rm_base::{Blob, Connection, Lapse, Uri};
 use rm_disk::Disk;
@@ -42,6 +49,22 @@ pub(crate) fn make_node<D: Disk, L: Link, C>(
     Ok(Node::make(alloc, &mut host.disk, number, address)?)
 }
 
+/// Makes the disk that of the node whose journal of the layout before these bytes are.
+pub(crate) fn import_node<D: Disk, L: Link, C>(
+    alloc: Global,
+    host: &mut Host<D, L, C>,
+    bytes: &[u8],
+) -> Result<Node, End>
+    ensures imports { IsTrue D.tells → IfOk result (λ node.
+        Imports bytes.now (D.told host.new.disk).past node.stored) }
+    ensures short { is_ok result ≡ true → IsShort bytes.now }
+    ensures why { IfErr result (IsNotMade D.tells bytes.now) }
+    ensures reason { HasReason (faults_of D.told L.told host.old) (faults_of D.told L.told host.new) result }
+    ensures inner { is_outer result ≡ false }
+{
+    Ok(Node::import(alloc, &mut host.disk, bytes)?)
+}
+
 /// Finds the node that the disk holds.
 pub(crate) fn mount<D: Disk, L: Link, C>(
     alloc: Global,
@@ -50,6 +73,10 @@ pub(crate) fn mount<D: Disk, L: Link, C>(
     ensures found { IsTrue D.tells → IfOk result (λ node.
         Finds (D.told host.old.disk).past (D.told host.new.disk).past node.stored) }
     ensures up { IfOk result (λ node. IsUp D.tells (place_of (D.told host.new.disk) node)) }
+    ensures moments { IsTrue D.tells → OnlyLeaves (D.told host.old.disk).past (D.told host.new.disk).past
+        (MayLeave (D.told host.old.disk).past) }
+    ensures none { IsTrue D.tells → result ≡ Err End.NotAJournal → IsNoNode (seen_of (D.told host.old.disk).past) }
+    ensures which { IfErr result (λ e. (e ≡ End.Memory) ⊎ (e ≡ End.DiskFault) ⊎ (e ≡ End.NotAJournal)) }
     ensures unrefused { is_refused result ≡ false }
     ensures reason { HasReason (faults_of D.told L.told host.old) (faults_of D.told L.told host.new) result }
     ensures inner { is_outer result ≡ false }
@@ -134,6 +161,25 @@ pub(crate) fn accept_payload<D: Disk, L: Link, C>(
 {
     a_node_stays_up();
     Ok(node.send(&mut host.disk, seq, payload)?)
+}
+
+/// The items of an inbox up to one were consumed.
+pub(crate) fn consume_items<D: Disk, L: Link, C>(
+    host: &mut Host<D, L, C>,
+    node: &mut Node,
+    seq: u32,
+    upto: u64,
+) -> Result<(), End>
+    requires up { IsUp D.tells (place_of (D.told host.old.disk) node.old) }
+    ensures consumes { ConsumesItems D.tells (D.told host.old.disk) (D.told host.new.disk) node.old node.new seq upto
+        (call_end result) }
+    ensures end { IfErr result (λ e. is_of_call e ≡ true) }
+    ensures reason { HasReason (faults_of D.told L.told host.old) (faults_of D.told L.told host.new) result }
+    ensures inner { is_outer result ≡ false }
+{
+    there_are_own_terms();
+    a_node_stays_up();
+    Ok(node.consume(&mut host.disk, seq, upto)?)
 }
 
 /// Posts packets to peers that speak this version of SOAP. Where one found no connection the link's count of faults

@@ -1,5 +1,6 @@
 //! The commands `make`, `push`, `close`, `end`, `inbox` and `compact`.
-ghost use Rattle.std.specs.Prelude.{◌≡◌, ◌<◌, ◌^◌, ◌⊎◌, Err, IfOk, false};
+ghost use Rattle.std.specs.Prelude.{◌≡◌, ◌≢◌, ◌<◌, ◌^◌, ◌⊎◌, [], Err, IfErr, IfOk, OnOk, IsTrue, false};
+ghost use Rattle.rm_disk.specs.Call.{seen_of};
 ghost use Rattle.rm_destination.specs.Incoming.{inbox as inbox_in};
 ghost use Rattle.rm_serve.specs.Steps.{IsUp, place_of};
 ghost use Rattle.rm_host.specs.Compaction.{Compaction};
@@ -38,8 +39,12 @@ pub fn make<D: Disk, L: Link, C: Clock>(
     Ok(Blob::from_slice(alloc, b"made\n")?)
 }
 
-// Refuses a disk that has bytes.
-fn check_empty<D: Disk, L: Link, C>(host: &mut Host<D, L, C>) -> Result<(), End>
+/// Refuses a disk that has bytes.
+pub(crate) fn check_empty<D: Disk, L: Link, C>(host: &mut Host<D, L, C>) -> Result<(), End>
+    ensures empty { IsTrue D.tells → OnOk result (seen_of (D.told host.old.disk).past ≡ []) }
+    ensures full { IsTrue D.tells → result ≡ Err End.NotEmpty → seen_of (D.told host.old.disk).past ≢ [] }
+    ensures which { IfErr result (λ e. (e ≡ End.DiskFault) ⊎ (e ≡ End.NotEmpty)) }
+    ensures past { IsTrue D.tells → (D.told host.new.disk).past ≡ (D.told host.old.disk).past }
     ensures reason { HasReason (faults_of D.told L.told host.old) (faults_of D.told L.told host.new) result }
     ensures inner { is_outer result ≡ false }
 {

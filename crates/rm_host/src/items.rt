@@ -15,8 +15,8 @@ pub(crate) fn push_inbox(text: &mut Blob, seq: u32, incoming: &Incoming) -> Resu
     push_items(text, seq, incoming, 0, incoming.inbox_len())
 }
 
-// Appends the items of an inbox past one place, up to another, but for those that are gone.
-fn push_items(
+/// Appends the items of an inbox past one place, up to another, but for those that are gone.
+pub(crate) fn push_items(
     text: &mut Blob,
     seq: u32,
     incoming: &Incoming,

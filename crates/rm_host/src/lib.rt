@@ -3,8 +3,10 @@
 
 mod calls;
 pub mod commands;
+pub mod consume;
 pub mod end;
 pub mod host;
+pub mod import;
 mod items;
 pub mod program;
 pub mod send;

@@ -1,12 +1,14 @@
 //! The program at its edge: a file, the network, the clock, standard input and output.
 ghost use Rattle.std.specs.Prelude.{◌≡◌, drop};
-ghost use Rattle.rm_host.specs.Ends.{HasReason, faults_of};
+ghost use Rattle.rm_host.specs.Ends.{HasReason, Prints, faults_of};
 ghost use Rattle.rm_host.specs.Runs.{IsStatusOf, Obeys, PrintsAt, Uses, outside_of};
 ghost use Rattle.rm_host.specs.Words.{IsWithin};
 
 use crate::commands::{close, compact, end, inbox, make, push};
+use crate::consume::consume;
 use crate::end::End;
 use crate::host::Host;
+use crate::import::import;
 use crate::send::send;
 use crate::serve::serve;
 use crate::words::{Command, command_of};
@@ -34,7 +36,7 @@ pub fn run<S: Source, K: Sink, D: Disk, L: Link, C: Clock>(
         (outside_of S.told K.told D.told L.told input.old out.old host.old)
         (outside_of S.told K.told D.told L.told input.new out.new host.new) result }
 {
-    match obey(alloc, words, input, host) {
+    match obey(alloc, words, input, out, host) {
         Ok(text) => print_text(out, text.as_slice()),
         Err(end) => {
             let _ = write_all(out, end.line());
@@ -55,28 +57,31 @@ fn print_text<K: Sink>(out: &mut K, text: &[u8]) -> u8
 }
 
 // Does what the words say.
-fn obey<S: Source, D: Disk, L: Link, C: Clock>(
+fn obey<S: Source, K: Sink, D: Disk, L: Link, C: Clock>(
     alloc: Global,
     words: &[Blob],
     input: &mut S,
+    out: &mut K,
     host: &mut Host<D, L, C>,
 ) -> Result<Blob, End>
-    ensures obeys { Obeys words.now (S.told input.old) (S.told input.new) result }
+    ensures obeys { Obeys words.now (S.told input.old) (S.told input.new) (K.told out.old) (K.told out.new) result }
     ensures reason { HasReason (faults_of D.told L.told host.old) (faults_of D.told L.told host.new) result }
 {
     let command = command_of(alloc, words)?;
-    perform(alloc, input, host, command)
+    perform(alloc, input, out, host, command)
 }
 
 // Does what is asked for.
-fn perform<S: Source, D: Disk, L: Link, C: Clock>(
+fn perform<S: Source, K: Sink, D: Disk, L: Link, C: Clock>(
     alloc: Global,
     input: &mut S,
+    out: &mut K,
     host: &mut Host<D, L, C>,
     command: Command,
 ) -> Result<Blob, End>
     requires { IsWithin command }
     ensures uses { Uses command (S.told input.old) (S.told input.new) result }
+    ensures prints { Prints (K.told out.old) (K.told out.new) result }
     ensures reason { HasReason (faults_of D.told L.told host.old) (faults_of D.told L.told host.new) result }
 {
     match command {
@@ -88,6 +93,8 @@ fn perform<S: Source, D: Disk, L: Link, C: Clock>(
         Command::Finish { seq } => end(alloc, host, seq),
         Command::Inbox { seq } => inbox(alloc, host, seq),
         Command::Compact => compact(alloc, host),
+        Command::Consume { seq, upto } => consume(alloc, host, out, seq, upto),
+        Command::Import => import(alloc, host, input),
     }
 }
 

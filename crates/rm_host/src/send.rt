@@ -1,6 +1,7 @@
 //! The command `send`.
 ghost use Rattle.std.specs.Prelude.{◌≡◌, ◌<◌, IfOk, OnOk, false};
 ghost use Rattle.rm_base.specs.Count.{Rose};
+ghost use Rattle.rm_base.specs.Limits.{payload_bytes};
 ghost use Rattle.rm_serve.specs.Steps.{IsUp, place_of};
 ghost use Rattle.rm_host.specs.Ends.{HasReason, Took, faults_of, is_outer};
 ghost use Rattle.rm_host.specs.Sequences.{IsFirstTo, goes_to, is_acked, is_open, is_open_phase, is_usable};
@@ -30,7 +31,7 @@ pub fn send<D: Disk, L: Link, C: Clock, S: Source>(
     input: &mut S,
     to: Uri,
 ) -> Result<Blob, End>
-    ensures took { Took (S.told input.old) (S.told input.new) result }
+    ensures took { Took payload_bytes (S.told input.old) (S.told input.new) result }
     ensures reason { HasReason (faults_of D.told L.told host.old) (faults_of D.told L.told host.new) result }
 {
     match read_up_to(alloc, input, PAYLOAD_BYTES) {

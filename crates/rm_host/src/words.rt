@@ -36,7 +36,7 @@ ghost use Rattle.http_endpoint.specs.Targets.{target_of};
 
 use crate::end::End;
 use http_endpoint::{Media, read_target};
-use rm_base::limits::MOST_SEQUENCES;
+use rm_base::limits::{MAX_NUMBER, MOST_SEQUENCES};
 use rm_base::{Behaviour, Blob, TextError, Uri};
 use rm_script::number_of;
 use std::alloc::Global;
@@ -81,6 +81,8 @@ pub enum Command {
     Finish { seq: u32 },
     Inbox { seq: u32 },
     Compact,
+    Consume { seq: u32, upto: u64 },
+    Import,
 }
 
 /// Whether the words are those of a node's command, by the first of them.
@@ -105,6 +107,8 @@ fn is_node_name(name: &[u8]) -> bool
         || name == b"end".as_slice()
         || name == b"inbox".as_slice()
         || name == b"compact".as_slice()
+        || name == b"consume".as_slice()
+        || name == b"import".as_slice()
 }
 
 /// The command that the words ask for.
@@ -147,6 +151,12 @@ fn named(alloc: Global, name: &[u8], words: &[Blob]) -> Result<Command, End>
     }
     if name == b"compact".as_slice() {
         return compact_of(words);
+    }
+    if name == b"consume".as_slice() {
+        return consume_of(words);
+    }
+    if name == b"import".as_slice() {
+        return import_of(words);
     }
     Err(End::Usage)
 }
@@ -229,6 +239,33 @@ fn compact_of(words: &[Blob]) -> Result<Command, End>
 {
     match words {
         [] => Ok(Command::Compact),
+        _ => Err(End::Usage),
+    }
+}
+
+fn consume_of(words: &[Blob]) -> Result<Command, End>
+    ensures { Reads (codes "consume" ∷ words.now) result }
+{
+    let [seq, upto] = words else {
+        return Err(End::Usage);
+    };
+    let Some(seq) = number_in(seq, 1, u64::from(MOST_SEQUENCES)) else {
+        return Err(End::Usage);
+    };
+    match number_in(upto, 1, MAX_NUMBER) {
+        Some(upto) => Ok(Command::Consume {
+            seq: seq as u32,
+            upto,
+        }),
+        None => Err(End::Usage),
+    }
+}
+
+fn import_of(words: &[Blob]) -> Result<Command, End>
+    ensures { Reads (codes "import" ∷ words.now) result }
+{
+    match words {
+        [] => Ok(Command::Import),
         _ => Err(End::Usage),
     }
 }

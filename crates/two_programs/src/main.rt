@@ -1,6 +1,6 @@
 //! Two programs on one machine. With words it is the program wsrm; with none it plays a message from one node to
 //! another, each in a folder of its own, whose commands are child processes of it, the close and the end of its
-//! sequence, journals that are written anew, and what a node alone refuses.
+//! sequence, items that are consumed, journals that are written anew or brought in, and what a node alone refuses.
 #![tactic(auto)]
 
 mod play;
@@ -27,5 +27,6 @@ fn plays(rt: &HostRuntime) -> io::Result<()> {
     play::deliver(rt)?;
     play::end(rt)?;
     play::compact(rt)?;
+    play::import(rt)?;
     play::refuse(rt)
 }

@@ -25,6 +25,9 @@ const ALONE: [(&[&str], &[u8]); 5] = [
     (&["send", NOBODY], b"<p>1</p>"),
 ];
 
+/// A journal of the layout before, with the one entry `ab`.
+const NO_BATCH: &[u8] = b"WSRMJNL1\x01\0\0\0\x02ab\0";
+
 /// How often a message is sent at most until the server listens.
 const TRIES: u32 = 1000;
 
@@ -34,8 +37,20 @@ const LINK_FAULT: i32 = 7;
 /// What the client is asked for when its message is acknowledged.
 const THEN: [&[&str]; 3] = [&["push"], &["close", "1"], &["end", "1"]];
 
-/// What the server is asked for when it has two messages: its journal is written anew.
-const RECEIVED: [&[&str]; 2] = [&["compact"], &["inbox", "1"]];
+/// What the server is asked for when it has two messages: its journal is written anew, before its items are consumed
+/// and after.
+const RECEIVED: [&[&str]; 7] = [
+    &["compact"],
+    &["inbox", "1"],
+    &["consume", "1", "1"],
+    &["consume", "1", "2"],
+    &["consume", "1", "1"],
+    &["compact"],
+    &["inbox", "1"],
+];
+
+/// An item that it has not.
+const PAST: [&str; 3] = ["consume", "1", "3"];
 
 /// And the client.
 const SENT: [&[&str]; 3] = [&["compact"], &["compact"], &["push"]];
@@ -69,7 +84,8 @@ pub fn end(rt: &HostRuntime) -> io::Result<()> {
     forget(rt, &server, &client)
 }
 
-/// Sends two messages, and then each journal is written anew: the inbox stays as it is, and nothing is to be posted.
+/// Sends two messages, and then each journal is written anew: the inbox stays as it is, but for the items that were
+/// consumed, and nothing is to be posted.
 pub fn compact(rt: &HostRuntime) -> io::Result<()> {
     let (server, client) = nodes(rt)?;
     let serving = command(rt, &server, &["serve", "18473", "3", "dfg"])?
@@ -81,6 +97,7 @@ pub fn compact(rt: &HostRuntime) -> io::Result<()> {
     for words in &RECEIVED {
         show(rt, run(rt, &server, *words, b"")?)?;
     }
+    tell(rt, run(rt, &server, &PAST, b"")?)?;
     for words in &SENT {
         show(rt, run(rt, &client, *words, b"")?)?;
     }
@@ -95,6 +112,45 @@ pub fn refuse(rt: &HostRuntime) -> io::Result<()> {
         tell(rt, run(rt, &folder, *words, *input)?)?;
     }
     fs::remove_dir_all(rt, &folder)
+}
+
+/// Sends a message, and brings each node to a new folder, by its journal in the layout before: it is there as it was. A
+/// journal whose entry is no batch is none.
+pub fn import(rt: &HostRuntime) -> io::Result<()> {
+    let (server, client) = nodes(rt)?;
+    let serving = command(rt, &server, &["serve", "18473", "2", "dfg"])?
+        .stdout(Stdio::piped())
+        .spawn(rt)?;
+    show(rt, send(rt, &client)?)?;
+    show(rt, serving.wait_with_output(rt.alloc())?)?;
+    bring(rt, &server, &["inbox", "1"])?;
+    bring(rt, &client, &["push"])?;
+    forget(rt, &server, &client)?;
+    let folder = folder(rt, "moved")?;
+    tell(rt, run(rt, &folder, &["import"], NO_BATCH)?)?;
+    fs::remove_dir_all(rt, &folder)
+}
+
+// Brings a node to a new folder, and asks it for something there. No second one may come to that folder.
+fn bring(rt: &HostRuntime, from: &PathBuf, words: &[&str]) -> io::Result<()> {
+    let journal = fs::read(rt, &from.join(rt.alloc(), "wsrm.journal")?)?;
+    let bytes = before(rt.alloc(), journal.as_slice())?;
+    let folder = folder(rt, "moved")?;
+    show(rt, run(rt, &folder, &["import"], bytes.as_slice())?)?;
+    show(rt, run(rt, &folder, words, b"")?)?;
+    tell(rt, run(rt, &folder, &["import"], bytes.as_slice())?)?;
+    fs::remove_dir_all(rt, &folder)
+}
+
+// A journal that was never written anew, in the layout before: that one's head, and the list, which stands behind 25
+// bytes.
+fn before(alloc: Global, journal: &[u8]) -> io::Result<Vec<u8>> {
+    let mut bytes = Vec::new(alloc);
+    bytes.extend_from_slice(b"WSRMJNL1")?;
+    if journal.len() > 25 {
+        bytes.extend_from_slice(&journal[25..])?;
+    }
+    Ok(bytes)
 }
 
 // Makes two nodes, the server's and the client's, each in a new folder.

@@ -1,7 +1,9 @@
-use Rattle.std.proofs.Common.{◌≡◌, ◌∙◌, Err, ap, false, sym, subst}
+use Rattle.std.proofs.Common.{◌≡◌, ◌∙◌, ◌⊎◌, Err, ap, false, sym, subst}
 use Rattle.std.proofs.lemmas.Result.{err_from_is_err_and}
-use Rattle.rm_host.specs.Ends.{HasReason, faults_of, is_outer, is_refused}
-use Rattle.rm_host.proofs.EndLemmas.{mount-fails, mount-inner, mount-unrefused}
+use Rattle.rm_host.specs.Ends.{HasReason, faults_of, is_outer, is_refused, mount_end}
+use Rattle.rm_host.specs.declared.end.End.{End}
+use Rattle.rm_host.specs.declared.end.End.TheVariants as end
+use Rattle.rm_host.proofs.EndLemmas.{mount-fails, mount-inner, mount-none, mount-unrefused, mount-which}
 use Rattle.rm_host.proofs.calls.mount.Goals as goal
 
 pub returns-in_err-mount-clause-reason : goal.returns-in_err-mount-clause-reason
@@ -11,6 +13,19 @@ returns-in_err-mount-clause-reason g c =
     let new = record old { disk = (g.D.Disk.told c.mount.new.disk).faults } in
     subst (λ r. HasReason old new r) (sym (p.1 ∙ ap Err p.2))
     (mount-fails old new c.in_err-mount.field-0.0 c.in_err-mount.ensures.cause)
+
+pub returns-in_err-mount-clause-none : goal.returns-in_err-mount-clause-none
+returns-in_err-mount-clause-none g c tells none =
+    let p = err_from_is_err_and c.from_residual.result c.from_residual.ensures.1 in
+    let e = c.in_err-mount.field-0.0 in
+    let same : mount_end e ≡ end.NotAJournal = cc (p.1, p.2, none) in
+    c.in_err-mount.ensures.none tells (ap Err (mount-none e same))
+
+pub returns-in_err-mount-clause-which : goal.returns-in_err-mount-clause-which
+returns-in_err-mount-clause-which g c =
+    let p = err_from_is_err_and c.from_residual.result c.from_residual.ensures.1 in
+    rw p.1 (subst (λ (x : End). (x ≡ end.Memory) ⊎ ((x ≡ end.DiskFault) ⊎ (x ≡ end.NotAJournal))) (sym p.2)
+    (mount-which c.in_err-mount.field-0.0))
 
 pub returns-in_err-mount-clause-unrefused : goal.returns-in_err-mount-clause-unrefused
 returns-in_err-mount-clause-unrefused g c =

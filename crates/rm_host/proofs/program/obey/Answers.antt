@@ -9,8 +9,9 @@ pub returns-in_err-command-clause-obeys : goal.returns-in_err-command-clause-obe
 returns-in_err-command-clause-obeys g c =
     let p = err_from_is_err_and c.from_residual.result c.from_residual.ensures.1 in
     let i = g.S.Source.told c.args.input.now in
-    subst (λ r. Obeys c.args.words.now i i r) (sym (p.1 ∙ ap Err p.2))
-    (unread c.args.words.now i c.in_err-command.field-0.0 c.in_err-command.ensures)
+    let o = g.K.Sink.told c.args.out.now in
+    subst (λ r. Obeys c.args.words.now i i o o r) (sym (p.1 ∙ ap Err p.2))
+    (unread c.args.words.now i o c.in_err-command.field-0.0 c.in_err-command.ensures)
 
 pub returns-in_err-command-clause-reason : goal.returns-in_err-command-clause-reason
 returns-in_err-command-clause-reason g c =
@@ -25,5 +26,6 @@ perform-requires g c = within c.args.words.now c.in_ok-command.command c.in_ok-c
 pub returns-clause-obeys : goal.returns-clause-obeys
 returns-clause-obeys g c =
     obeys c.args.words.now c.in_ok-command.command (g.S.Source.told c.args.input.now)
-    (g.S.Source.told c.perform.new.input) c.perform.result c.in_ok-command.ensures.0 c.in_ok-command.ensures.1
-    c.perform.ensures.uses
+    (g.S.Source.told c.perform.new.input) (g.K.Sink.told c.args.out.now) (g.K.Sink.told c.perform.new.out)
+    c.perform.result c.in_ok-command.ensures.0 c.in_ok-command.ensures.1 c.perform.ensures.uses
+    c.perform.ensures.prints
