@@ -27,6 +27,8 @@ no-close words none = only-by (codes "close") words refl by-name
   where
     by-name : (c : Command) → bytes_eq (name_of c) (codes "close") ≡ true → ¬ (Takes c words)
     by-name (Close seq) e = none seq
+    by-name (Serve Soap12 service) e = absurd cc
+    by-name (Serve Soap11 service) e = absurd cc
     by-name c e = absurd cc
 
 pub no-end : (words : List (List ℕ)) → ((seq : ℕ) → ¬ (IsSequence words seq))
@@ -35,6 +37,8 @@ no-end words none = only-by (codes "end") words refl by-name
   where
     by-name : (c : Command) → bytes_eq (name_of c) (codes "end") ≡ true → ¬ (Takes c words)
     by-name (Finish seq) e = none seq
+    by-name (Serve Soap12 service) e = absurd cc
+    by-name (Serve Soap11 service) e = absurd cc
     by-name c e = absurd cc
 
 pub no-inbox : (words : List (List ℕ)) → ((seq : ℕ) → ¬ (IsSequence words seq))
@@ -43,6 +47,8 @@ no-inbox words none = only-by (codes "inbox") words refl by-name
   where
     by-name : (c : Command) → bytes_eq (name_of c) (codes "inbox") ≡ true → ¬ (Takes c words)
     by-name (Inbox seq) e = none seq
+    by-name (Serve Soap12 service) e = absurd cc
+    by-name (Serve Soap11 service) e = absurd cc
     by-name c e = absurd cc
 
 pub no-serve : (media : Media) (words : List (List ℕ)) → ((service : Service) → ¬ (IsService words service))
@@ -81,6 +87,8 @@ no-make words w a two not = only-by (codes "make") words refl by-name
   where
     by-name : (c : Command) → bytes_eq (name_of c) (codes "make") ≡ true → ¬ (Takes c words)
     by-name (Make number address) e = λ t. let same : address ≡ a = cc in not (subst IsAddress same t.2)
+    by-name (Serve Soap12 service) e = absurd cc
+    by-name (Serve Soap11 service) e = absurd cc
     by-name c e = absurd cc
 
 no-send : (words : List (List ℕ)) (a : List ℕ) → words ≡ a ∷ [] → ¬ (IsAddress a)
@@ -89,6 +97,8 @@ no-send words a one not = only-by (codes "send") words refl by-name
   where
     by-name : (c : Command) → bytes_eq (name_of c) (codes "send") ≡ true → ¬ (Takes c words)
     by-name (Send to) e = λ t. let same : to ≡ a = cc in not (subst IsAddress same t.0)
+    by-name (Serve Soap12 service) e = absurd cc
+    by-name (Serve Soap11 service) e = absurd cc
     by-name c e = absurd cc
 
 -- that of make
