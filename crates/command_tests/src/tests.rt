@@ -40,7 +40,7 @@ const NORMAL: &[&[u8]] = &[b"normal"];
 const INTERSECT: &[&[u8]] = &[b"intersect"];
 
 const USAGE: &[u8] = b"usage: wsrm check,replay,soak,make,serve,send,push,close,end,inbox,\
-        policy,compact,consume,import,normal,intersect\n";
+        policy,compact,consume,import,normal,intersect,serve11\n";
 
 // The words of a run.
 fn words_of(alloc: Global, given: Asked<'_>) -> Result<Items<Blob>, Memory> {

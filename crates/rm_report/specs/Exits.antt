@@ -54,7 +54,7 @@ not_a_journal = 11
 abbrev pub usage_line : List ℕ
 usage_line =
     codes "usage: wsrm check,replay,soak,make,serve,send,push,close,end,inbox,"
-    ++ codes "policy,compact,consume,import,normal,intersect\n"
+    ++ codes "policy,compact,consume,import,normal,intersect,serve11\n"
 
 -- of a read that failed
 abbrev pub read_fault_line : List ℕ

@@ -36,7 +36,7 @@ pub const NOT_A_JOURNAL: u8 = 11;
 
 /// The line of words that are no command: it names every command that there is to be.
 pub const USAGE_LINE: &[u8] = b"usage: wsrm check,replay,soak,make,serve,send,push,close,end,inbox,\
-        policy,compact,consume,import,normal,intersect\n";
+        policy,compact,consume,import,normal,intersect,serve11\n";
 
 /// The line of a read that failed.
 pub const READ_FAULT_LINE: &[u8] = b"read fault\n";
