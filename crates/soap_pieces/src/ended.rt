@@ -102,7 +102,8 @@ impl Ended {
 
     /// What is answered of all bytes, which have this length.
     pub(crate) fn finish(self, len: usize) -> Result<Envelope, EnvelopeError>
-        ensures { (bytes : List ℕ) → HasEnded self bytes → len ≡ length bytes → Reads bytes result }
+        ensures reads { (bytes : List ℕ) → HasEnded self bytes → len ≡ length bytes → Reads bytes result }
+        ensures known { (bytes : List ℕ) → HasEnded self bytes → result ≢ Err EnvelopeError.Memory }
     {
         document_is_read();
         document_is_utf8();

@@ -1,5 +1,5 @@
 //! How much of some bytes is UTF-8, told without keeping them.
-ghost use Rattle.std.specs.Prelude.{◌≡◌, ◌+◌, ◌++◌, ◌<◌, ◌≤◌, ◌^◌, ℕ, List, length, IfOk, OnOk, Err};
+ghost use Rattle.std.specs.Prelude.{◌≡◌, ◌≢◌, ◌+◌, ◌++◌, ◌<◌, ◌≤◌, ◌^◌, ℕ, List, length, IfOk, OnOk, Err};
 ghost use Rattle.rm_base.specs.Limits.{envelope_bytes};
 ghost use Rattle.soap_profile.specs.Document.{Document};
 ghost use Rattle.soap_profile.specs.Tree.{Element};
@@ -52,8 +52,9 @@ impl Front {
 
     /// Why bytes of this length, with which no document begins, are none.
     pub(crate) fn why_none(&self, len: usize) -> EnvelopeError
-        ensures { (bytes : List ℕ) → IsFront self.now bytes → len ≡ length bytes → length bytes ≤ envelope_bytes
+        ensures reads { (bytes : List ℕ) → IsFront self.now bytes → len ≡ length bytes → length bytes ≤ envelope_bytes
             → ((tree : Element) → ¬ (Document bytes tree)) → Reads bytes (Err result) }
+        ensures known { result ≢ EnvelopeError.Memory }
     {
         let valid_up_to = self.valid;
         if valid_up_to < len {

@@ -1,6 +1,7 @@
 //! The reader of envelopes that is fed pieces.
 ghost use Rattle.std.specs.Prelude.{
   ◌≡◌,
+  ◌≢◌,
   ◌↔◌,
   ◌+◌,
   ◌++◌,
@@ -98,6 +99,8 @@ impl EnvelopeReader {
     /// What `read_envelope` answers of all that was fed.
     pub fn finish(self) -> Result<Envelope, EnvelopeError>
         ensures reads { (bytes : List ℕ) → WasFed self bytes → is_short self ≡ false → Reads bytes result }
+        ensures known { (bytes : List ℕ) → WasFed self bytes → is_short self ≡ false
+            → result ≢ Err EnvelopeError.Memory }
         ensures short { is_short self ≡ true → result ≡ Err EnvelopeError.Memory }
     {
         self.stage.finish(self.fed)

@@ -1,6 +1,6 @@
 //! How far a reader of envelopes has come.
-ghost use Rattle.std.specs.Prelude.{◌≡◌, ◌↔◌, ◌+◌, ◌++◌, ◌<◌, ◌≤◌, ◌^◌, ℕ, List, [], length, IsTrue, IfOk, IsErr, Err};
-ghost use Rattle.std.specs.Prelude.{true, false};
+ghost use Rattle.std.specs.Prelude.{◌≡◌, ◌≢◌, ◌↔◌, ◌+◌, ◌++◌, ◌<◌, ◌≤◌, ◌^◌, ℕ, List, [], length, IsTrue, IfOk, IsErr};
+ghost use Rattle.std.specs.Prelude.{Err, true, false};
 ghost use Rattle.rm_base.specs.Limits.{envelope_bytes};
 ghost use Rattle.soap_document.specs.Machine.{run, start};
 ghost use Rattle.soap_document.specs.Seen.{IsTold, Sees, fed_len};
@@ -112,6 +112,8 @@ impl Stage {
     pub(crate) fn finish(self, len: usize) -> Result<Envelope, EnvelopeError>
         ensures reads { (bytes : List ℕ) → HasCome self bytes → len ≡ length bytes → is_out self ≡ false
             → Reads bytes result }
+        ensures known { (bytes : List ℕ) → HasCome self bytes → is_out self ≡ false
+            → result ≢ Err EnvelopeError.Memory }
         ensures short { is_out self ≡ true → result ≡ Err EnvelopeError.Memory }
     {
         document_is_read();
@@ -230,8 +232,9 @@ fn refused(alloc: Global, mut front: Front, piece: &[u8]) -> Result<Stage, Memor
 
 // Why bytes in which no root has ended are no envelope.
 fn why_unended(bytes: &[u8]) -> EnvelopeError
-    ensures { length bytes.now ≤ envelope_bytes → ((tree : Element) → ¬ (Document bytes.now tree))
+    ensures reads { length bytes.now ≤ envelope_bytes → ((tree : Element) → ¬ (Document bytes.now tree))
         → Reads bytes.now (Err result) }
+    ensures known { result ≢ EnvelopeError.Memory }
 {
     let valid_up_to = utf8_prefix(bytes);
     if valid_up_to < bytes.len() {

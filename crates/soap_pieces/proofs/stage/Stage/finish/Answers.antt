@@ -1,7 +1,8 @@
-use Rattle.std.proofs.Common.{◌≤◌, Err, length, sym, subst, ◌∙◌}
+use Rattle.std.proofs.Common.{◌≡◌, ◌≤◌, Err, length, sym, subst, ◌∙◌}
 use Rattle.rm_base.specs.Limits.{envelope_bytes}
 use Rattle.soap_profile.specs.Document.{Document}
 use Rattle.soap_profile.specs.Tree.{Element}
+use Rattle.soap_profile.specs.declared.error.EnvelopeError.TheVariants as Error
 use Rattle.soap_pieces.specs.Answer.{Reads}
 use Rattle.soap_pieces.specs.Stage.{HasCome}
 use Rattle.soap_pieces.proofs.Answers.{long_is}
@@ -14,20 +15,34 @@ returns-in-Root-clause-reads c = λ bytes h size e.
     let k = subst (λ s. HasCome s bytes) c.in-Root.is h in
     let same = c.as_slice.ensures ∙ k.same in
     subst (λ b. Reads b (Err c.why_unended.result)) same
-    (c.why_unended.ensures (subst (λ b. length b ≤ envelope_bytes) (sym same) k.fits)
+    (c.why_unended.ensures.reads (subst (λ b. length b ≤ envelope_bytes) (sym same) k.fits)
     (subst (λ b. (tree : Element) → ¬ (Document b tree)) (sym same) (root_no_tree c.document_is_read.ensures _ _ bytes
     k)))
 
 pub returns-in-Behind-clause-reads : goal.returns-in-Behind-clause-reads
 returns-in-Behind-clause-reads c = λ bytes h size e.
-    c.finish.ensures bytes (subst (λ s. HasCome s bytes) c.in-Behind.is h) size
+    c.finish.ensures.reads bytes (subst (λ s. HasCome s bytes) c.in-Behind.is h) size
 
 pub returns-in-Refused-clause-reads : goal.returns-in-Refused-clause-reads
 returns-in-Refused-clause-reads c = λ bytes h size e.
     let k = subst (λ s. HasCome s bytes) c.in-Refused.is h in
-    c.why_none.ensures bytes k.utf8 size k.fits (refused_no_tree c.refused_stays.ensures.none
+    c.why_none.ensures.reads bytes k.utf8 size k.fits (refused_no_tree c.refused_stays.ensures.none
     c.document_is_read.ensures bytes k.refuses)
 
 pub returns-in-TooLong-clause-reads : goal.returns-in-TooLong-clause-reads
 returns-in-TooLong-clause-reads c = λ bytes h size e.
     long_is bytes c.args.len (subst (λ s. HasCome s bytes) c.in-TooLong.is h) size
+
+pub returns-in-Root-clause-known : goal.returns-in-Root-clause-known
+returns-in-Root-clause-known c = λ bytes h out e.
+    let same : c.why_unended.result ≡ Error.Memory = cc in
+    c.why_unended.ensures.known same
+
+pub returns-in-Behind-clause-known : goal.returns-in-Behind-clause-known
+returns-in-Behind-clause-known c = λ bytes h out.
+    c.finish.ensures.known bytes (subst (λ s. HasCome s bytes) c.in-Behind.is h)
+
+pub returns-in-Refused-clause-known : goal.returns-in-Refused-clause-known
+returns-in-Refused-clause-known c = λ bytes h out e.
+    let same : c.why_none.result ≡ Error.Memory = cc in
+    c.why_none.ensures.known same
