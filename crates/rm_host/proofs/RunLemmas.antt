@@ -4,6 +4,7 @@ use Rattle.std.proofs.Common.{Option, None, Some, refl, sym, ap, subst, inl, inr
 use Rattle.std.specs.Prelude.{Result, Ok, Err, IfSome}
 use Rattle.std.proofs.lemmas.Bool.{eqb-true}
 use Rattle.std.proofs.lemmas.Option.{none-some}
+use Rattle.http_endpoint.specs.declared.media.Media.TheVariants.{Soap12, Soap11}
 use Rattle.rm_base.specs.Count.{Rose}
 use Rattle.rm_base.specs.Limits as limits
 use Rattle.rm_base.specs.NumberSet.{has_number}
@@ -16,7 +17,7 @@ use Rattle.rm_host.specs.Words.{Asks, HasTarget, IsReachable, IsWithin, Reads, T
 use Rattle.rm_host.specs.declared.end.End.{End}
 use Rattle.rm_host.specs.declared.end.End.TheVariants as end
 use Rattle.rm_host.specs.declared.words.Command.{Command}
-use Rattle.rm_host.specs.declared.words.Command.TheVariants.{Consume, Import, Make, Send}
+use Rattle.rm_host.specs.declared.words.Command.TheVariants.{Consume, Import, Make, Send, Serve}
 use Rattle.rm_host.proofs.EndLemmas.{rose-after, rose-before}
 
 -- ---- what may be told
@@ -40,6 +41,8 @@ each-short limit left P told = each-by left _ _ (λ bytes few over. absurd (omeg
 -- names are themselves
 itself : (c : Command) → bytes_eq (name_of c) (name_of c) ≡ true
 itself (Make number address) = refl
+itself (Serve Soap12 service) = refl
+itself (Serve Soap11 service) = refl
 itself c = refl
 
 -- words that ask for two commands have one address at most
@@ -58,6 +61,10 @@ reaches words c d asks target other = by-names c d asks.0 named asks.2 taken tar
     by-names (Make n a) (Make m b) more e t u target =
         let same : a ≡ b = cc (t.3, u.3) in subst IsReachable same target
     by-names (Send a) (Send b) more e t u target = let same : a ≡ b = cc (t.1, u.1) in subst IsReachable same target
+    by-names (Serve Soap12 service) (Make m b) more e t u target = absurd (cc (e))
+    by-names (Serve Soap11 service) (Make m b) more e t u target = absurd (cc (e))
+    by-names (Serve Soap12 service) (Send b) more e t u target = absurd (cc (e))
+    by-names (Serve Soap11 service) (Send b) more e t u target = absurd (cc (e))
     by-names c (Make m b) more e t u target = absurd (cc (e))
     by-names c (Send b) more e t u target = absurd (cc (e))
     by-names c d more e t u target = tt
@@ -73,6 +80,14 @@ one-limit words c d asks other = by-names c d named
     by-names : (c d : Command) → bytes_eq (name_of c) (name_of d) ≡ true → most_read c ≡ most_read d
     by-names (Send a) (Send b) e = refl
     by-names Import Import e = refl
+    by-names (Send a) (Serve Soap12 service) e = absurd (cc (e))
+    by-names (Send a) (Serve Soap11 service) e = absurd (cc (e))
+    by-names Import (Serve Soap12 service) e = absurd (cc (e))
+    by-names Import (Serve Soap11 service) e = absurd (cc (e))
+    by-names (Serve Soap12 service) (Send b) e = absurd (cc (e))
+    by-names (Serve Soap11 service) (Send b) e = absurd (cc (e))
+    by-names (Serve Soap12 service) Import e = absurd (cc (e))
+    by-names (Serve Soap11 service) Import e = absurd (cc (e))
     by-names (Send a) d e = absurd (cc (e))
     by-names Import d e = absurd (cc (e))
     by-names c (Send b) e = absurd (cc (e))
