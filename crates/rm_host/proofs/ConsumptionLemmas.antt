@@ -334,21 +334,25 @@ unrecorded law tells first mid now old new shown printed s upto lines (end.Refus
     }
 unrecorded law tells first mid now old new shown printed s upto lines end.Memory found is wrote did of_call = λ t.
     let has = has-items law old.stored.records s upto lines is in
-    inr (old.stored, may-record law tells first mid now old new s upto Wanted has found did t)
+    inr (old.stored, may-record law tells first mid now old new s upto Wanted has found did t, (lines, is, wrote))
 unrecorded law tells first mid now old new shown printed s upto lines end.DiskFault found is wrote did of_call = λ t.
     let has = has-items law old.stored.records s upto lines is in
-    inr (old.stored, may-record law tells first mid now old new s upto Broke has found did t)
+    inr (old.stored, may-record law tells first mid now old new s upto Broke has found did t, (lines, is, wrote))
 unrecorded law tells first mid now old new shown printed s upto lines e found is wrote did of_call = absurd cc
 
 -- there was no memory for the text of the cursor
 pub untold : IncomingIsAsRecorded → (tells : Bool) (first mid now : Told) (old new : Noded) (shown printed : Stream)
     (s upto : ℕ) (lines : List ℕ) → (IsTrue tells → Finds first.past mid.past old.stored)
-    → passed_answer old.stored.records s upto ≡ Ok lines
+    → passed_answer old.stored.records s upto ≡ Ok lines → Appends shown.held printed.held lines
     → ConsumesItems tells mid now old new s upto (Handed Done None [])
     → Consumption tells first now shown printed s upto (Err end.Memory)
-untold law tells first mid now old new shown printed s upto lines found is did = λ t.
+untold law tells first mid now old new shown printed s upto lines found is wrote did = λ t.
     let has = has-items law old.stored.records s upto lines is in
-    inr (old.stored, may-record law tells first mid now old new s upto (Handed Done None []) has found did t)
+    inr (
+      old.stored,
+      may-record law tells first mid now old new s upto (Handed Done None []) has found did t,
+      (lines, is, wrote),
+    )
 
 -- all went well
 pub consumed-so : IncomingIsAsRecorded → (tells : Bool) (first mid now : Told) (old new : Noded)

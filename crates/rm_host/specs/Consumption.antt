@@ -78,12 +78,13 @@ pub record WasRefused (tells : Bool) (first now : Told) (shown printed : Stream)
       ⊎ (IsRefusedBy old seq upto why × ((lines : List ℕ) × (passed_answer old.records seq upto ≡ Ok lines)
       × Appends shown.held printed.held lines))
 
--- Nothing but that record was written, if anything was: no node was found, and a crash leaves no more than one before
--- it; or the node that was found may have recorded it.
-abbrev pub LeavesOrRecords : (tells : Bool) → (first now : Told) → (seq upto : ℕ) → Type 0
-LeavesOrRecords tells first now seq upto =
+-- Nothing but that record was written, if anything was: a crash leaves no more than one before; or the node that was
+-- found may have recorded it, and then the items were printed before.
+abbrev pub LeavesOrRecords : (tells : Bool) → (first now : Told) → (shown printed : Stream) → (seq upto : ℕ) → Type 0
+LeavesOrRecords tells first now shown printed seq upto =
     IsTrue tells → OnlyLeaves first.past now.past (MayLeave first.past)
-    ⊎ ((old : Stored) × MayRecord first now old (cursor_to old.records seq upto))
+    ⊎ ((old : Stored) × MayRecord first now old (cursor_to old.records seq upto)
+    × ((lines : List ℕ) × (passed_answer old.records seq upto ≡ Ok lines) × Appends shown.held printed.held lines))
 
 -- the disk has no batches of a node, and a crash leaves no more than one before it
 pub record HasNoNode (first now : Told) : Type 0 where
@@ -99,6 +100,8 @@ Consumption tells first now shown printed seq upto (Err end.WriteFault) =
 Consumption tells first now shown printed seq upto (Err (end.Refused why)) =
     WasRefused tells first now shown printed seq upto why
 Consumption tells first now shown printed seq upto (Err end.NotAJournal) = IsTrue tells → HasNoNode first now
-Consumption tells first now shown printed seq upto (Err end.DiskFault) = LeavesOrRecords tells first now seq upto
-Consumption tells first now shown printed seq upto (Err end.Memory) = LeavesOrRecords tells first now seq upto
+Consumption tells first now shown printed seq upto (Err end.DiskFault) =
+    LeavesOrRecords tells first now shown printed seq upto
+Consumption tells first now shown printed seq upto (Err end.Memory) =
+    LeavesOrRecords tells first now shown printed seq upto
 Consumption tells first now shown printed seq upto (Err e) = ⊥

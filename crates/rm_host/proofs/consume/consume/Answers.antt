@@ -100,6 +100,7 @@ returns-in_err-cursor_text-clause-consumes g c =
     subst (λ x. Consumption g.D.Disk.tells first now shown printed c.args.seq c.args.upto x) (sym (p.1 ∙ ap Err p.2))
     (untold c.an_incoming_sequence_is_as_recorded.ensures g.D.Disk.tells first mid now old c.consume_items.new.node
     shown printed c.args.seq c.args.upto c.in_ok-items.items c.in_ok-node.ensures.found is
+    (subst (λ text. Appends shown.held printed.held text) c.as_slice.ensures c.in_ok-print.ensures.ok)
     c.in_ok-consume_items.ensures.consumes)
 
 pub returns-clause-consumes : goal.returns-clause-consumes
