@@ -3,7 +3,6 @@
 //gsoap m service encoding: literal
 //gsoap m schema namespace: urn:wsrm:interop
 //gsoap m schema form: unqualified
-#import "soap12.h"
 #import "wsrm.h"
 
 //gsoap m service method-header-part: note wsa5__MessageID

@@ -1,10 +1,13 @@
 /* A client and a server of WS-ReliableMessaging over gSOAP's plugin wsrm.
 
-   peer client TO STEP ..       does one step after the other, prints what came of each, and then how many messages are
-                                not acknowledged. Steps: create, offer, acks-to=ADDRESS, note=TEXT, ask=TEXT, resend,
-                                close, terminate
+   peer client TO STEP ..       does one step after the other, prints what came of each, and then the sequence's
+                                identifier and how many messages are not acknowledged. Steps: create, offer,
+                                acks-to=ADDRESS, note=TEXT, ask=TEXT, resend, close, terminate, and as=IDENTIFIER, from
+                                which on the sequence goes by that
    peer server PORT COUNT [WORD]  takes COUNT connections, and prints each message that it is given, in order; with a
-                                third word a message is answered with one of the application's own */
+                                third word a message is answered with one of the application's own
+
+   It is built with VERSION 1 for SOAP 1.1, as soapcpp2 -1 is called then, and with 2 and -2 for SOAP 1.2. */
 #include "soapH.h"
 #include "note.nsmap"
 #include "wsaapi.h"
@@ -19,7 +22,7 @@
 static struct soap *made(void)
 {
     struct soap *soap = soap_new1(SOAP_XML_INDENT);
-    soap_set_version(soap, 2);
+    soap_set_version(soap, VERSION);
     soap->connect_timeout = soap->send_timeout = soap->recv_timeout = 10;
     soap_register_plugin(soap, soap_wsa);
     soap_register_plugin(soap, soap_wsrm);
@@ -90,6 +93,10 @@ static int step(struct soap *soap, soap_wsrm_sequence_handle *seq, char *to, cha
         return note(soap, *seq, word + 5);
     if (!strncmp(word, "ask=", 4))
         return ask(soap, *seq, word + 4);
+    if (!strncmp(word, "as=", 3) && *seq) {
+        (*seq)->id = word + 3;
+        return SOAP_OK;
+    }
     if (!strcmp(word, "resend"))
         return soap_wsrm_resend(soap, *seq, 0, 0);
     if (!strcmp(word, "close"))
@@ -122,8 +129,10 @@ static int client(char *to, int count, char **words)
         tell(soap, words[i]);
         soap_closesock(soap);
     }
-    if (seq)
+    if (seq) {
+        printf("sequence %s\n", seq->id ? seq->id : "none");
         printf("unacknowledged %d of %llu\n", waiting(seq), (unsigned long long)soap_wsrm_num(seq));
+    }
     return 0;
 }
 
