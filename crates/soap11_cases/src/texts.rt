@@ -1,8 +1,7 @@
 //! The texts that messages are lifted and lowered to.
+use crate::forms::{is_lifted, is_text, lowered};
 use message_reader::decode;
-use rm_base::{Blob, Memory};
-use rm_message::Message;
-use soap11_gate::{decode11, lift, lower};
+use rm_base::Memory;
 use std::alloc::Global;
 
 // What a document of one version is named, its bytes, and its text in the other.
@@ -89,29 +88,6 @@ const ENCODING: &[u8] =
     <s:Header><a:Action>urn:x</a:Action></s:Header><s:Body><s:Fault><s:Code><s:Value>s:DataEncodingUnknown</s:Value>\
     </s:Code><s:Reason><s:Text xml:lang='en'>no</s:Text></s:Reason></s:Fault></s:Body></s:Envelope>";
 
-// No other function lets a message go but the next, since the proof of that takes long.
-fn lifted(alloc: Global, message: Message) -> Result<Blob, Memory> {
-    lift(alloc, &message)
-}
-
-fn lowered(alloc: Global, message: Message) -> Result<Option<Blob>, Memory> {
-    lower(alloc, &message)
-}
-
-fn is_text(found: &Option<Blob>, text: &[u8]) -> bool {
-    match found {
-        Some(found) => found.as_slice() == text,
-        None => false,
-    }
-}
-
-fn is_lifted(alloc: Global, row: &Row) -> Result<bool, Memory> {
-    match decode11(alloc, row.1) {
-        Ok(message) => Ok(lifted(alloc, message)?.as_slice() == row.2),
-        Err(_) => Ok(false),
-    }
-}
-
 fn is_lowered(alloc: Global, row: &Row) -> Result<bool, Memory> {
     match decode(alloc, row.1) {
         Ok(message) => Ok(is_text(&lowered(alloc, message)?, row.2)),
@@ -129,7 +105,7 @@ fn has_no_text(alloc: Global, document: &[u8]) -> Result<bool, Memory> {
 #[test]
 fn messages_lifted(rt: HostRuntime) -> Result<(), Memory> {
     for row in &LIFTED {
-        assert!(rt; is_lifted(rt.alloc(), row)?, "{}", row.0);
+        assert!(rt; is_lifted(rt.alloc(), row.1, row.2)?, "{}", row.0);
     }
     Ok(())
 }

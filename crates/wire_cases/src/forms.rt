@@ -11,6 +11,14 @@ pub const START: &[u8] = b"<s:Envelope xmlns:s=\"http://www.w3.org/2003/05/soap-
     xmlns:r=\"http://docs.oasis-open.org/ws-rx/wsrm/200702\" \
     xmlns:c=\"http://docs.oasis-open.org/ws-rx/wsmc/200702\">";
 
+/// A message with a payload, a declaration and a comment.
+pub const PAYLOAD: &[u8] = b"<?xml version=\"1.0\" encoding=\"UTF-8\"?><!-- x -->\
+    <S:Envelope xmlns:S='http://www.w3.org/2003/05/soap-envelope' \
+    xmlns:wsa=\"http://www.w3.org/2005/08/addressing\" xmlns:rm=\"http://docs.oasis-open.org/ws-rx/wsrm/200702\" \
+    xmlns:o=\"urn:o\"><S:Header><wsa:Action S:mustUnderstand=\"1\">urn:buy&amp;sell</wsa:Action>\
+    <rm:Sequence S:mustUnderstand=\"1\"><rm:Identifier>urn:q</rm:Identifier><rm:MessageNumber> 07 </rm:MessageNumber>\
+    </rm:Sequence></S:Header><S:Body><o:x/></S:Body></S:Envelope>";
+
 /// The envelope with these blocks and this between Body's tags, in the form that is written.
 pub fn envelope(alloc: Global, blocks: &[u8], body: &[u8]) -> Result<Blob, Memory> {
     let mut text = Blob::from_slice(alloc, START)?;

@@ -1,5 +1,5 @@
 //! Messages whose envelopes come in pieces.
-use crate::forms::{rewritten, was_refused};
+use crate::forms::{PAYLOAD, rewritten, was_refused};
 use message_reader::{decode, decode_read};
 use rm_base::{Blob, Memory};
 use rm_message::{DecodeError, FaultKind, Message};
@@ -48,13 +48,6 @@ fn is_same(
         None => Ok(false),
     }
 }
-
-const PAYLOAD: &[u8] = b"<?xml version=\"1.0\" encoding=\"UTF-8\"?><!-- x -->\
-    <S:Envelope xmlns:S='http://www.w3.org/2003/05/soap-envelope' \
-    xmlns:wsa=\"http://www.w3.org/2005/08/addressing\" xmlns:rm=\"http://docs.oasis-open.org/ws-rx/wsrm/200702\" \
-    xmlns:o=\"urn:o\"><S:Header><wsa:Action S:mustUnderstand=\"1\">urn:buy&amp;sell</wsa:Action>\
-    <rm:Sequence S:mustUnderstand=\"1\"><rm:Identifier>urn:q</rm:Identifier><rm:MessageNumber> 07 </rm:MessageNumber>\
-    </rm:Sequence></S:Header><S:Body><o:x/></S:Body></S:Envelope>";
 
 #[test]
 fn a_payload_from_each_two_pieces(rt: HostRuntime) -> Result<(), Memory> {

@@ -1,5 +1,5 @@
-//! Documents of the greatest length, and of one byte more.
-use crate::forms::is_refused;
+//! Documents of the greatest length, of one byte more, and those that break off.
+use crate::forms::{PAYLOAD, is_refused};
 use rm_base::{Blob, Memory};
 use rm_message::FaultKind;
 use std::alloc::Global;
@@ -24,4 +24,20 @@ fn too_long(rt: HostRuntime) -> Result<(), Memory> {
     assert!(rt; is_padded_refused(rt.alloc(), 2097150, FaultKind::NotUtf8)?);
     assert!(rt; is_padded_refused(rt.alloc(), 2097151, FaultKind::TooLong)?);
     Ok(())
+}
+
+// The first bytes of a message.
+fn front(len: usize) -> &'static [u8] {
+    let (begun, _rest) = PAYLOAD.split_at(len.min(PAYLOAD.len()));
+    begun
+}
+
+#[test]
+fn each_front_is_no_document(rt: HostRuntime) {
+    for len in 0..PAYLOAD.len() {
+        assert!(rt;
+            is_refused(rt.alloc(), front(len), FaultKind::NotProfile),
+            "{len}"
+        );
+    }
 }
