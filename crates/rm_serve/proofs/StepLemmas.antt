@@ -69,7 +69,8 @@ ready-up tells connected x z answer ended up does ready =
 
 -- ---- a node that is up stays so
 
-grown-down : (s : Stored) (delta : List Fact) → (grown s delta).journal.is_down ≡ s.journal.is_down
+-- a node with records more is down or up as it was
+pub grown-down : (s : Stored) (delta : List Fact) → (grown s delta).journal.is_down ≡ s.journal.is_down
 grown-down s [] = refl
 grown-down s (f ∷ delta) = refl
 
