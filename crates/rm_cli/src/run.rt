@@ -5,7 +5,8 @@ ghost use Rattle.rm_command.specs.Run.{AsksReplay, AsksSoak, HasStatus, Runs};
 ghost use Rattle.rm_command.specs.Stage.{KeepsWordAt, staged_of};
 ghost use Rattle.rm_command.specs.Status.{status_of};
 ghost use Rattle.rm_command.specs.declared.end.End.{End as AnEnd};
-ghost use Rattle.rm_host.specs.Runs.{IsStatusOf as IsNodeStatusOf, outside_of};
+ghost use Rattle.rm_host.specs.Doings.{IsObeyed, world_of};
+ghost use Rattle.rm_host.specs.Runs.{IsComplete, IsSpent, IsStatusOf as IsNodeStatusOf, outside_of};
 ghost use Rattle.rm_host.specs.Words.{is_of_node};
 ghost use Rattle.rm_replay.specs.Shows.{IsFresh, scene_of};
 
@@ -39,10 +40,19 @@ pub fn run<S: Source, K: Sink, M: CrashDisk, W: Wire, D: Disk, L: Link, C: Clock
         (staged_of M.told W.packets stage.old) (staged_of M.told W.packets stage.new) }
     ensures status { is_of_node words.now ≡ false → HasStatus words.now (S.told input.old).left result }
 
-    // Which status comes of the words of a node's command.
+    // What is done by the words of a node's command, and what is printed of how that ended.
+    ensures obeyed { is_of_node words.now ≡ true → IsObeyed D.tells K.wants_memory words.now
+        (world_of S.told K.told D.told L.told C.next input.old out.old host.old)
+        (world_of S.told K.told D.told L.told C.next input.new out.new host.new) result }
+
+    // Which status comes of them, at all, where nothing failed, and over a sound link.
     ensures node { is_of_node words.now ≡ true → IsNodeStatusOf words.now
         (outside_of S.told K.told D.told L.told input.old out.old host.old)
         (outside_of S.told K.told D.told L.told input.new out.new host.new) result }
+    ensures complete { is_of_node words.now ≡ true
+        → IsComplete (outside_of S.told K.told D.told L.told input.old out.old host.old)
+        (outside_of S.told K.told D.told L.told input.new out.new host.new) result }
+    ensures lost { is_of_node words.now ≡ true → IsSpent (L.told host.old.link) (L.told host.new.link) result }
 
     // The stage is for the others.
     ensures stage { is_of_node words.now ≡ true → staged_of M.told W.packets stage.new

@@ -2,7 +2,7 @@
 use Rattle.std.proofs.Common.{◌≡◌, ◌≢◌, ◌∙◌, ◌⊎◌, ℕ, Bool, true, false, List, length, Option, None, Some, refl, sym, ap}
 use Rattle.std.proofs.Common.{subst, inl, inr, [], ◌∷◌, ◌++◌, append-nil, cond, nat_lt}
 use Rattle.std.specs.List.{flat_map}
-use Rattle.std.specs.Prelude.{Result, Ok, Err, IfSome, IsTrue, MatchBool}
+use Rattle.std.specs.Prelude.{Result, Ok, Err, IfSome, IsTrue}
 use Rattle.std.specs.Io.KnownBytes.{Appends}
 use Rattle.std.proofs.lemmas.Grind.{flat_map-append}
 use Rattle.std.proofs.lemmas.Option.{none-some}
@@ -10,7 +10,7 @@ use Rattle.call_answers.specs.Answers.{cause_seen}
 use Rattle.call_answers.specs.declared.answer.Cause.{Cause}
 use Rattle.call_answers.specs.declared.answer.Cause.TheVariants as cause
 use Rattle.node_laws.specs.OwnTerms.{AreOwn, ThereAreOwnTerms}
-use Rattle.node_store.specs.Has.{AreOfNode, Has, Holds, IsLeftBy}
+use Rattle.node_store.specs.Has.{AreOfNode, Holds, IsLeftBy}
 use Rattle.node_store.specs.Mounted.{Finds, IsNoNode}
 use Rattle.node_store.specs.Stored.{Stored, grown, with_batch}
 use Rattle.node_tables.specs.Laws.{IncomingIsAsRecorded}
@@ -20,17 +20,17 @@ use Rattle.rm_base.specs.Numbered.{numbered}
 use Rattle.rm_base.specs.Outside.{AppendsFront, Stream}
 use Rattle.rm_destination.specs.Incoming.{Receiving, inbox as inbox_in}
 use Rattle.rm_disk.specs.Call.{Call, seen_of}
-use Rattle.rm_disk.specs.Image.{LeftSince, MayLeave, OnlyLeaves}
+use Rattle.rm_disk.specs.Image.{MayLeave, OnlyLeaves}
 use Rattle.rm_disk.specs.Told.{Told}
 use Rattle.rm_journal.specs.Entries.{Bank}
 use Rattle.rm_message.specs.declared.message.Message.{Message}
 use Rattle.rm_journal.specs.JournalState.{end_of}
 use Rattle.rm_node.specs.Called.{Called, Does, EndsBy, Sleeps}
-use Rattle.rm_node.specs.Ends.{Ended, Handed, Refused, Wanted, Broke, WasDown, error_end}
+use Rattle.rm_node.specs.Ends.{Ended, Handed, Refused, Wanted, Broke, error_end}
 use Rattle.rm_node.specs.Noded.{Noded}
 use Rattle.rm_node.specs.declared.error.NodeError.{NodeError}
 use Rattle.rm_node.specs.declared.error.NodeError.TheVariants as node
-use Rattle.rm_protocol.specs.Calls.{Answer, Cause as ACause, Done, Outcome, StoreFull, adds, consume as consume_answer}
+use Rattle.rm_protocol.specs.Calls.{Answer, Cause as ACause, Done, StoreFull, adds, consume as consume_answer}
 use Rattle.rm_protocol.specs.Calls.{consume_in, cursor_to, if_room, on_incoming, refusal, PastInbox}
 use Rattle.rm_protocol.specs.Calls.{Refused as RefusedWith}
 use Rattle.rm_protocol.specs.Terms.{Terms}

@@ -9,10 +9,7 @@ use Rattle.node_store.specs.declared.error.MountError.{MountError}
 use Rattle.node_store.specs.declared.error.MountError.TheVariants as mount
 use Rattle.rm_base.specs.Count.{Rose}
 use Rattle.rm_disk.specs.Cause.{HasCause}
-use Rattle.rm_node.specs.Asked.{Asked, Asks, is_connected}
 use Rattle.rm_node.specs.Ends.{error_end, is_broken, is_disk}
-use Rattle.rm_node.specs.declared.call.Call.{Call}
-use Rattle.rm_node.specs.declared.call.Call.TheVariants as call
 use Rattle.rm_node.specs.declared.error.NodeError.{NodeError}
 use Rattle.rm_node.specs.declared.error.NodeError.TheVariants as node
 use Rattle.rm_host.specs.Ends.{Faults, HasReason, Reason, is_disk_end, is_disk_fault, is_link_end, is_link_fault}
@@ -158,8 +155,3 @@ import-fails f g (import.Full end needed) cause =
 pub import-inner : (e : ImportError) → is_outer {T = Unit {0}} (Err (import_end e)) ≡ false
 import-inner import.Memory = refl
 import-inner e = refl
-
--- each call that doesn't come on a connection asks something
-pub some-asked : (c : Call) → is_connected c ≡ false → (asked : Asked) × Asks c asked
-some-asked (call.Receive bytes) alone = absurd cc
-some-asked c alone = (_, refl)

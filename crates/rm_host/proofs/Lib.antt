@@ -1,8 +1,15 @@
 mod CompactionLemmas
 mod ConsumptionLemmas
+mod DoingLemmas
 mod EndLemmas
 mod ImportationLemmas
+mod MakeLemmas
 mod PostLemmas
+mod RowLemmas
 mod RunLemmas
+mod SendLemmas
 mod SequenceLemmas
+mod ServeLemmas
+mod SoundLemmas
+mod StepLemmas
 mod WordLemmas

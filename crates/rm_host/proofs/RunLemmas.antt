@@ -1,5 +1,6 @@
 -- Which status comes of how a run ended.
-use Rattle.std.proofs.Common.{◌≡◌, ◌∙◌, ℕ, ◌≤◌, ◌<◌, ◌==◌, ◌⊎◌, Bool, true, false, List, [], ◌∷◌, length, bytes_eq}
+use Rattle.std.proofs.Common.{◌≡◌, ◌∙◌, ℕ, ◌≤◌, ◌<◌, ◌==◌, ◌||◌, ◌⊎◌, true, false, List, [], ◌∷◌, drop, length}
+use Rattle.std.proofs.Common.{bytes_eq}
 use Rattle.std.proofs.Common.{Option, None, Some, refl, sym, ap, subst, inl, inr, arith}
 use Rattle.std.specs.Prelude.{Result, Ok, Err, IfSome}
 use Rattle.std.proofs.lemmas.Bool.{eqb-true}
@@ -12,7 +13,8 @@ use Rattle.rm_base.specs.Outside.{Stream}
 use Rattle.rm_disk.specs.Cause.{HasCause}
 use Rattle.rm_host.specs.Ends.{Faults, HasReason, Prints, Reason, Took, is_disk_end, is_disk_fault, is_link_end}
 use Rattle.rm_host.specs.Ends.{is_link_fault, is_of_input, is_outer, status_of}
-use Rattle.rm_host.specs.Runs.{IsStatusOf, Obeys, Outside, PrintsAt, Uses, most_read, statuses}
+use Rattle.rm_host.specs.Runs.{IsStatusOf, NoneFailed, Obeys, Outside, PrintsAt, Uses, most_read, sound_statuses}
+use Rattle.rm_host.specs.Runs.{statuses}
 use Rattle.rm_host.specs.Words.{Asks, HasTarget, IsReachable, IsWithin, Reads, Takes, name_of}
 use Rattle.rm_host.specs.declared.end.End.{End}
 use Rattle.rm_host.specs.declared.end.End.TheVariants as end
@@ -345,3 +347,39 @@ printed words x y p text status o reason (inr (inl e)) =
     (λ h. rose-before x.out.faults p.faults y.out.faults o.prints.later e.1) refl refl)
 printed words x y p text status o reason (inr (inr e)) =
     subst (λ n. IsStatusOf words x y n) (sym e) (well words x y p text 10 o reason (λ h. absurd cc) refl refl)
+
+-- ---- where nothing failed
+
+-- a number is one of some: the first, or one of the others
+one-of : (a : ℕ) (others : List ℕ) (n : ℕ) (P : Type 0) → has_number (a ∷ others) n ≡ true → (n ≡ a → P)
+    → (has_number others n ≡ true → P) → P
+one-of a others n P is first later = elim (a == n) as (λ b. (a == n) ≡ b → P) [
+  | true ↦ λ e. first (sym (eqb-true a n e))
+  | false ↦ λ e. later (subst (λ b. (b || has_number others n) ≡ true) e is)
+] refl
+
+none-of : (n : ℕ) (P : Type 0) → has_number [] n ≡ true → P
+none-of n P there = absurd cc
+
+-- a status that is none of a fault
+pub complete : (words : List (List ℕ)) (x y : Outside) (status : ℕ) → IsStatusOf words x y status → NoneFailed x y
+    → has_number sound_statuses status ≡ true
+complete words x y n is none =
+    let P = has_number sound_statuses n ≡ true in
+    one-of 0 (drop 1 statuses) n P is.one (λ e. yes 0 e refl) (λ r2.
+    one-of 2 (drop 2 statuses) n P r2 (λ e. yes 2 e refl) (λ r4.
+    one-of 4 (drop 3 statuses) n P r4 (λ e. absurd (none.input (is.read e).1)) (λ r5.
+    one-of 5 (drop 4 statuses) n P r5 (λ e. absurd (none.out (is.written e))) (λ r6.
+    one-of 6 (drop 5 statuses) n P r6 (λ e. absurd (none.disk (rose e))) (λ r7.
+    one-of 7 (drop 6 statuses) n P r7 (λ e. absurd (none.link (is.link e))) (λ r8.
+    one-of 8 (drop 7 statuses) n P r8 (λ e. yes 8 e refl) (λ r9.
+    one-of 9 (drop 8 statuses) n P r9 (λ e. yes 9 e refl) (λ r10.
+    one-of 10 (drop 9 statuses) n P r10 (λ e. yes 10 e refl) (λ r11.
+    one-of 11 [] n P r11 (λ e. yes 11 e refl) (λ there. none-of n P there))))))))))
+  where
+    yes : (m : ℕ) → n ≡ m → has_number sound_statuses m ≡ true → has_number sound_statuses n ≡ true
+    yes m same there = subst (λ k. has_number sound_statuses k ≡ true) (sym same) there
+
+    rose : n ≡ 6 → Rose x.faults.disk y.faults.disk
+    rose e =
+        (subst (λ k. HasCause x.faults.disk y.faults.disk (k == 6)) e is.disk).cause

@@ -1,7 +1,7 @@
 -- The items of an inbox, one by one, and the first of sequences.
-use Rattle.std.proofs.Common.{◌≡◌, ℕ, ◌+◌, ◌-◌, ◌<◌, ◌≤◌, Bool, true, false, nat_le, List, ◌∷◌, [], ◌++◌, drop}
+use Rattle.std.proofs.Common.{◌≡◌, ℕ, ◌+◌, ◌-◌, ◌<◌, ◌≤◌, Bool, true, false, nat_le, List, [], ◌++◌, drop}
 use Rattle.std.proofs.Common.{refl, sym, ap, ◌∙◌, arith, get_or, length, take}
-use Rattle.std.specs.Prelude.{None, Some, cond, slice_get}
+use Rattle.std.specs.Prelude.{None, cond, slice_get}
 use Rattle.std.proofs.lemmas.Bool.{leb-false, leb-true, ne_eqb}
 use Rattle.std.proofs.lemmas.List.{at_drop_more, drop_all, get_or-take, length-take-le, take_all}
 use Rattle.std.proofs.lemmas.Option.{slice_get-get_or}

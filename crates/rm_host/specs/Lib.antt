@@ -1,8 +1,15 @@
 pub mod Compaction
 pub mod Consumption
+pub mod Doings
 pub mod Ends
+pub mod Finding
+pub mod HostSteps
 pub mod Importation
+pub mod Makings
+pub mod Records
 pub mod Runs
+pub mod SendSteps
 pub mod Sequences
+pub mod ServeSteps
 pub mod Texts
 pub mod Words

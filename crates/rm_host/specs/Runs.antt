@@ -7,7 +7,7 @@ use Rattle.rm_base.specs.NumberSet.{has_number}
 use Rattle.rm_base.specs.Outside.{Stream}
 use Rattle.rm_disk.specs.Cause.{HasCause}
 use Rattle.rm_disk.specs.Told.{Told}
-use Rattle.rm_link.specs.Lines.{Net}
+use Rattle.rm_link.specs.Lines.{Net, is_over}
 use Rattle.rm_report.specs.Exits as exits
 use Rattle.rm_host.specs.Ends.{Faults, Prints, Took, WasTooLong, faults_of, is_of_input, is_outer}
 use Rattle.rm_host.specs.Words.{Asks, HasTarget, IsCommand, IsLost}
@@ -66,6 +66,26 @@ pub record IsStatusOf (words : List (List ℕ)) (old new : Outside) (status : �
   pub short : (limit : ℕ) → IsReading words limit → IfSome old.input.left (λ bytes. limit < length bytes
       → (status ≡ exits.too_long) ⊎ ((status ≡ exits.read_fault) ⊎ (status ≡ exits.memory)))
   pub one : has_number statuses status ≡ true
+
+-- no count of faults rose: of the input, the output, the disk, the link
+pub record NoneFailed (old new : Outside) : Type 0 where
+  pub input : ¬ (Rose old.input.faults new.input.faults)
+  pub out : ¬ (Rose old.out.faults new.out.faults)
+  pub disk : ¬ (Rose old.faults.disk new.faults.disk)
+  pub link : ¬ (Rose old.faults.link new.faults.link)
+
+-- each status that comes then
+abbrev pub sound_statuses : List ℕ
+sound_statuses =
+    exits.done ∷ exits.usage ∷ exits.too_long ∷ exits.refused ∷ exits.memory ∷ exits.not_a_journal ∷ []
+
+-- where no count of faults rose, it is one of these
+abbrev pub IsComplete : Outside → Outside → ℕ → Type 0
+IsComplete old new status = NoneFailed old new → has_number sound_statuses status ≡ true
+
+-- a link that tells that it is sound is to blame only where no connection is left
+abbrev pub IsSpent : Net → Net → ℕ → Type 0
+IsSpent old new status = old.sound ≡ true → status ≡ exits.link_fault → is_over new.coming ≡ true
 
 -- ---- inside
 

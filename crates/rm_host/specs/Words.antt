@@ -1,6 +1,6 @@
 -- The words of a node's commands.
-use Rattle.std.specs.Prelude.{◌≡◌, ◌≢◌, ℕ, ◌-◌, ◌<◌, ◌≤◌, ◌^◌, Bool, false, ◌||◌, List, [], ◌∷◌, ◌++◌, bytes_eq, codes}
-use Rattle.std.specs.Prelude.{decimal, None, Result, Ok, Err}
+use Rattle.std.specs.Prelude.{◌≡◌, ◌≢◌, ℕ, ◌-◌, ◌<◌, ◌^◌, Bool, false, ◌||◌, List, [], ◌∷◌, ◌++◌, bytes_eq, codes}
+use Rattle.std.specs.Prelude.{None, Result, Ok, Err}
 use Rattle.std.specs.Str.{IsUtf8}
 use Rattle.http_endpoint.specs.Targets.{target_of}
 use Rattle.http_endpoint.specs.declared.media.Media.{Media}

@@ -1,12 +1,19 @@
 //! What commands do with the node of a host. Each error is the end of a command.
-ghost use Rattle.std.specs.Prelude.{◌≡◌, ◌⊎◌, ◌<◌, ◌^◌, true, false, Err, None, List, IfErr, IfOk, IfSome, OnOk};
-ghost use Rattle.std.specs.Prelude.{IsTrue, is_ok};
+ghost use Rattle.std.specs.Prelude.{◌≡◌, ◌⊎◌, ◌<◌, ◌≤◌, ◌^◌, ◌+◌, List, Result, length, true, false, Err, None};
+ghost use Rattle.std.specs.Prelude.{IfErr, IfOk, IfSome, OnOk, IsTrue, is_ok};
+ghost use Rattle.node_store.specs.Changes.{WasNotMade};
 ghost use Rattle.node_store.specs.Imported.{Imports};
 ghost use Rattle.node_store.specs.Mounted.{Finds, IsNoNode};
+ghost use Rattle.node_store.specs.declared.error.MountError.{MountError};
 ghost use Rattle.rm_base.specs.Count.{Rose};
-ghost use Rattle.rm_node.specs.Asked.{MayBeAsked, is_connected};
+ghost use Rattle.rm_base.specs.Limits.{now_max};
+ghost use Rattle.rm_base.specs.Outside.{Stream};
+ghost use Rattle.rm_base.specs.declared.message.Behaviour.TheVariants.{FollowingFirstGap};
+ghost use Rattle.rm_node.specs.Asked.{Close, Create, End as Finish, Send, Tick};
 ghost use Rattle.rm_node.specs.Compacted.{Compacts};
 ghost use Rattle.sequence_table.specs.Fits.{is_in_order};
+ghost use Rattle.sequence_table.specs.Makers.{makers};
+ghost use Rattle.sequence_table.specs.Sources.{accepted_count};
 ghost use Rattle.rm_disk.specs.Call.{seen_of};
 ghost use Rattle.rm_disk.specs.Cause.{HasCause};
 ghost use Rattle.rm_disk.specs.Image.{MayLeave, OnlyLeaves};
@@ -17,8 +24,11 @@ ghost use Rattle.rm_serve.specs.Serves.{ServingAs};
 ghost use Rattle.rm_serve.specs.Steps.{IsReady, IsUp, MakesAll, Step, place_of};
 ghost use Rattle.rm_host.specs.Compaction.{call_end};
 ghost use Rattle.rm_host.specs.Consumption.{ConsumesItems};
-ghost use Rattle.rm_host.specs.Ends.{HasReason, faults_of, is_of_call, is_outer, is_refused};
+ghost use Rattle.rm_host.specs.Ends.{HasReason, faults_of, is_of_call, is_outer, is_refused, mount_end};
+ghost use Rattle.rm_host.specs.Finding.{Found, NotFound};
+ghost use Rattle.rm_host.specs.HostSteps.{CallsNode, Posts, all_dialled, as_end, back_wish, outs_in, own_step};
 ghost use Rattle.rm_host.specs.Importation.{IsNotMade, IsShort};
+ghost use Rattle.rm_host.specs.Makings.{HasMade};
 
 use crate::end::End;
 use crate::host::Host;
@@ -29,7 +39,7 @@ use record_batch::Via;
 use rm_base::{Blob, Connection, Lapse, Uri};
 use rm_disk::Disk;
 use rm_link::Link;
-use rm_node::{Call, Made, Node, NodeError, Outs, Sent};
+use rm_node::{Made, Node, NodeError, Outs, Sent};
 use rm_serve::laws::a_node_stays_up;
 use rm_serve::{Posted, Served, post_due, post_due11, serve_one, serve_one11};
 use std::alloc::Global;
@@ -43,6 +53,11 @@ pub(crate) fn make_node<D: Disk, L: Link, C>(
 ) -> Result<Node, End>
     requires from_one { 0 < number }
     requires within { number < 2 ^ 60 }
+    ensures has { IsTrue D.tells → OnOk result (HasMade (D.told host.new.disk) number address) }
+    ensures wanted { IsTrue D.tells → result ≡ Err End.Memory →
+        WasNotMade (D.told host.old.disk).past (D.told host.new.disk).past }
+    ensures which { IfErr result (λ e. (e ≡ End.Memory) ⊎ (e ≡ End.DiskFault)) }
+    ensures link { L.told host.new.link ≡ L.told host.old.link }
     ensures reason { HasReason (faults_of D.told L.told host.old) (faults_of D.told L.told host.new) result }
     ensures inner { is_outer result ≡ false }
 {
@@ -59,6 +74,7 @@ pub(crate) fn import_node<D: Disk, L: Link, C>(
         Imports bytes.now (D.told host.new.disk).past node.stored) }
     ensures short { is_ok result ≡ true → IsShort bytes.now }
     ensures why { IfErr result (IsNotMade D.tells bytes.now) }
+    ensures link { L.told host.new.link ≡ L.told host.old.link }
     ensures reason { HasReason (faults_of D.told L.told host.old) (faults_of D.told L.told host.new) result }
     ensures inner { is_outer result ≡ false }
 {
@@ -78,29 +94,75 @@ pub(crate) fn mount<D: Disk, L: Link, C>(
     ensures none { IsTrue D.tells → result ≡ Err End.NotAJournal → IsNoNode (seen_of (D.told host.old.disk).past) }
     ensures which { IfErr result (λ e. (e ≡ End.Memory) ⊎ (e ≡ End.DiskFault) ⊎ (e ≡ End.NotAJournal)) }
     ensures unrefused { is_refused result ≡ false }
+    ensures mounted { IfOk result (λ node.
+        Found D.tells (D.told host.old.disk) FollowingFirstGap (place_of (D.told host.new.disk) node)) }
+    ensures unfound { IfErr result (λ end. (e : MountError) × (end ≡ mount_end e)
+        × NotFound D.tells (D.told host.old.disk) (D.told host.new.disk) e) }
+    ensures link { L.told host.new.link ≡ L.told host.old.link }
+    ensures clock { host.new.clock ≡ host.old.clock }
     ensures reason { HasReason (faults_of D.told L.told host.old) (faults_of D.told L.told host.new) result }
     ensures inner { is_outer result ≡ false }
 {
     Ok(Node::mount(alloc, &mut host.disk)?)
 }
 
-/// Does what the node is asked for, and answers the packets that it hands out.
-pub(crate) fn ask<D: Disk, L: Link, C>(
+/// One tick, and the packets that it hands out.
+pub(crate) fn tick<D: Disk, L: Link, C>(
     host: &mut Host<D, L, C>,
     node: &mut Node,
     now: u64,
-    call: Call<'_>,
 ) -> Result<Outs, End>
     requires up { IsUp D.tells (place_of (D.told host.old.disk) node.old) }
-    requires may { MayBeAsked call }
-    requires alone { is_connected call ≡ false }
+    requires within { now ≤ now_max }
     ensures up { OnOk result (IsUp D.tells (place_of (D.told host.new.disk) node.new)) }
+    ensures calls { CallsNode D.tells (place_of (D.told host.old.disk) node.old)
+        (place_of (D.told host.new.disk) node.new) (L.told host.old.link)
+        (L.told host.new.link) (own_step now (Tick now) result) }
+    ensures of_call { IfErr result (λ e. is_of_call e ≡ true) }
     ensures reason { HasReason (faults_of D.told L.told host.old) (faults_of D.told L.told host.new) result }
     ensures inner { is_outer result ≡ false }
 {
     a_node_stays_up();
-    let reaction = node.step(&mut host.disk, now, call)?;
-    Ok(reaction.outs)
+    Ok(node.tick(&mut host.disk, now)?)
+}
+
+/// Closes a sequence, and answers the packets that this hands out.
+pub(crate) fn close_node<D: Disk, L: Link, C>(
+    host: &mut Host<D, L, C>,
+    node: &mut Node,
+    seq: u32,
+    now: u64,
+) -> Result<Outs, End>
+    requires up { IsUp D.tells (place_of (D.told host.old.disk) node.old) }
+    ensures up { OnOk result (IsUp D.tells (place_of (D.told host.new.disk) node.new)) }
+    ensures calls { CallsNode D.tells (place_of (D.told host.old.disk) node.old)
+        (place_of (D.told host.new.disk) node.new) (L.told host.old.link)
+        (L.told host.new.link) (own_step now (Close seq) result) }
+    ensures of_call { IfErr result (λ e. is_of_call e ≡ true) }
+    ensures reason { HasReason (faults_of D.told L.told host.old) (faults_of D.told L.told host.new) result }
+    ensures inner { is_outer result ≡ false }
+{
+    a_node_stays_up();
+    Ok(node.close(&mut host.disk, seq, now)?)
+}
+
+/// Ends a sequence, and answers the packets that this hands out.
+pub(crate) fn end_node<D: Disk, L: Link, C>(
+    host: &mut Host<D, L, C>,
+    node: &mut Node,
+    seq: u32,
+) -> Result<Outs, End>
+    requires up { IsUp D.tells (place_of (D.told host.old.disk) node.old) }
+    ensures up { OnOk result (IsUp D.tells (place_of (D.told host.new.disk) node.new)) }
+    ensures calls { CallsNode D.tells (place_of (D.told host.old.disk) node.old)
+        (place_of (D.told host.new.disk) node.new) (L.told host.old.link)
+        (L.told host.new.link) (own_step 0 (Finish seq) result) }
+    ensures of_call { IfErr result (λ e. is_of_call e ≡ true) }
+    ensures reason { HasReason (faults_of D.told L.told host.old) (faults_of D.told L.told host.new) result }
+    ensures inner { is_outer result ≡ false }
+{
+    a_node_stays_up();
+    Ok(node.end(&mut host.disk, seq)?)
 }
 
 /// Asks the node at an address for a sequence that never ends, whose answers come back on the connection.
@@ -111,6 +173,12 @@ pub(crate) fn create<D: Disk, L: Link, C>(
 ) -> Result<Made, End>
     requires up { IsUp D.tells (place_of (D.told host.old.disk) node.old) }
     ensures up { OnOk result (IsUp D.tells (place_of (D.told host.new.disk) node.new)) }
+    ensures seq { IfOk result (λ made. made.seq ≡ length (makers node.old.stored.records) + 1) }
+    ensures calls { CallsNode D.tells (place_of (D.told host.old.disk) node.old)
+        (place_of (D.told host.new.disk) node.new) (L.told host.old.link)
+        (L.told host.new.link)
+        (own_step 0 (Create (back_wish to)) (outs_in (λ made. made.outs) result)) }
+    ensures of_call { IfErr result (λ e. is_of_call e ≡ true) }
     ensures reason { HasReason (faults_of D.told L.told host.old) (faults_of D.told L.told host.new) result }
     ensures inner { is_outer result ≡ false }
 {
@@ -126,6 +194,7 @@ pub(crate) fn compact_node<D: Disk, L: Link, C>(
     requires up { IsUp D.tells (place_of (D.told host.old.disk) node.old) }
     ensures compacts { Compacts D.tells (D.told host.old.disk)
         (D.told host.new.disk) node.old node.new (call_end result) }
+    ensures link { L.told host.new.link ≡ L.told host.old.link }
     ensures reason { HasReason (faults_of D.told L.told host.old) (faults_of D.told L.told host.new) result }
     ensures inner { is_outer result ≡ false }
 {
@@ -156,6 +225,12 @@ pub(crate) fn accept_payload<D: Disk, L: Link, C>(
 ) -> Result<Sent, End>
     requires up { IsUp D.tells (place_of (D.told host.old.disk) node.old) }
     ensures up { OnOk result (IsUp D.tells (place_of (D.told host.new.disk) node.new)) }
+    ensures number { IfOk result (λ sent. sent.number ≡ accepted_count node.old.stored.records seq + 1) }
+    ensures calls { CallsNode D.tells (place_of (D.told host.old.disk) node.old)
+        (place_of (D.told host.new.disk) node.new) (L.told host.old.link)
+        (L.told host.new.link)
+        (own_step 0 (Send seq payload) (outs_in (λ sent. sent.outs) result)) }
+    ensures of_call { IfErr result (λ e. is_of_call e ≡ true) }
     ensures reason { HasReason (faults_of D.told L.told host.old) (faults_of D.told L.told host.new) result }
     ensures inner { is_outer result ≡ false }
 {
@@ -174,6 +249,7 @@ pub(crate) fn consume_items<D: Disk, L: Link, C>(
     ensures consumes { ConsumesItems D.tells (D.told host.old.disk) (D.told host.new.disk) node.old node.new seq upto
         (call_end result) }
     ensures end { IfErr result (λ e. is_of_call e ≡ true) }
+    ensures link { L.told host.new.link ≡ L.told host.old.link }
     ensures reason { HasReason (faults_of D.told L.told host.old) (faults_of D.told L.told host.new) result }
     ensures inner { is_outer result ≡ false }
 {
@@ -194,6 +270,9 @@ pub(crate) fn post<D: Disk, L: Link, C>(
 ) -> Result<Posted, End>
     requires up { IsUp D.tells (place_of (D.told host.old.disk) node.old) }
     ensures up { OnOk result (IsUp D.tells (place_of (D.told host.new.disk) node.new)) }
+    ensures posts { (steps : List Step) × MakesAll D.tells (place_of (D.told host.old.disk) node.old)
+        (place_of (D.told host.new.disk) node.new) steps
+        × Posts media now outs (L.told host.old.link) (L.told host.new.link) steps result }
     ensures undialled { IfOk result (λ posted. 0 < posted.undialled
         → Rose (L.told host.old.link).faults (L.told host.new.link).faults) }
     ensures reason { HasReason (faults_of D.told L.told host.old) (faults_of D.told L.told host.new) result }
@@ -219,6 +298,11 @@ pub(crate) fn post_all<D: Disk, L: Link, C>(
     outs: Outs,
 ) -> Result<Posted, End>
     requires up { IsUp D.tells (place_of (D.told host.old.disk) node.old) }
+    ensures posts { (steps : List Step) × MakesAll D.tells (place_of (D.told host.old.disk) node.old)
+        (place_of (D.told host.new.disk) node.new) steps
+        × (posted : Result Posted End)
+        × Posts Media.Soap12 now outs (L.told host.old.link) (L.told host.new.link) steps posted
+        × (result ≡ all_dialled posted) }
     ensures dialled { IfOk result (λ posted. posted.undialled ≡ 0) }
     ensures reason { HasReason (faults_of D.told L.told host.old) (faults_of D.told L.told host.new) result }
     ensures inner { is_outer result ≡ false }
@@ -241,6 +325,11 @@ pub(crate) fn serve_conn<D: Disk, L: Link, C>(
 ) -> Result<Served, End>
     requires up { IsUp D.tells (place_of (D.told host.old.disk) node.old) }
     ensures up { OnOk result (IsUp D.tells (place_of (D.told host.new.disk) node.new)) }
+    ensures serves { (steps : List Step) × MakesAll D.tells (place_of (D.told host.old.disk) node.old)
+        (place_of (D.told host.new.disk) node.new) steps
+        × (last : Stream) × (came : Result Served NodeError)
+        × ServingAs media now (L.Conn.Source.told conn) last steps came × (result ≡ as_end came) }
+    ensures link { L.told host.new.link ≡ L.told host.old.link }
     ensures reason { HasReason (faults_of D.told L.told host.old) (faults_of D.told L.told host.new) result }
     ensures inner { is_outer result ≡ false }
 {

@@ -1,14 +1,19 @@
 //! The commands `make`, `push`, `close`, `end`, `inbox` and `compact`.
-ghost use Rattle.std.specs.Prelude.{◌≡◌, ◌≢◌, ◌<◌, ◌^◌, ◌⊎◌, [], Err, IfErr, IfOk, OnOk, IsTrue, false};
-ghost use Rattle.rm_disk.specs.Call.{seen_of};
+ghost use Rattle.std.specs.Prelude.{◌≡◌, ◌≢◌, ◌<◌, ◌^◌, ◌⊎◌, [], List, Result, Err, IfErr, IfOk, OnOk, IsTrue, false};
+ghost use Rattle.http_endpoint.specs.declared.media.Media.TheVariants.{Soap12};
+ghost use Rattle.rm_base.specs.declared.message.Behaviour.TheVariants.{FollowingFirstGap};
 ghost use Rattle.rm_destination.specs.Incoming.{inbox as inbox_in};
-ghost use Rattle.rm_serve.specs.Steps.{IsUp, place_of};
+ghost use Rattle.rm_disk.specs.Call.{seen_of};
+ghost use Rattle.rm_node.specs.Asked.{Close, End as Finish, Tick};
+ghost use Rattle.rm_serve.specs.Steps.{IsUp, MakesAll, Step, place_of};
 ghost use Rattle.rm_host.specs.Compaction.{Compaction};
 ghost use Rattle.rm_host.specs.Ends.{HasReason, faults_of, is_disk_fault, is_link_fault, is_outer};
+ghost use Rattle.rm_host.specs.HostSteps.{Commands, IsTold, Posts, Pushes, all_dialled};
+ghost use Rattle.rm_host.specs.Makings.{Making, TellsInbox};
 ghost use Rattle.rm_host.specs.Sequences.{inbox_answer, inbox_lines};
 ghost use Rattle.rm_host.specs.Texts.{compacted_line, posted_line};
 
-use crate::calls::{ask, compact_node, make_node, mount, post_all};
+use crate::calls::{close_node, compact_node, end_node, make_node, mount, post_all, tick};
 use crate::end::End;
 use crate::host::Host;
 use crate::items::push_inbox;
@@ -18,7 +23,7 @@ use rm_base::{Blob, Clock, Memory, Uri, push_decimal};
 use rm_destination::Incoming;
 use rm_disk::Disk;
 use rm_link::Link;
-use rm_node::{Call, Node, Outs};
+use rm_node::{Node, Outs};
 use rm_serve::Posted;
 use std::alloc::Global;
 
@@ -31,6 +36,8 @@ pub fn make<D: Disk, L: Link, C: Clock>(
 ) -> Result<Blob, End>
     requires from_one { 0 < number }
     requires within { number < 2 ^ 60 }
+    ensures makes { Making D.tells (D.told host.old.disk) (D.told host.new.disk) (L.told host.old.link)
+        (L.told host.new.link) number address result }
     ensures reason { HasReason (faults_of D.told L.told host.old) (faults_of D.told L.told host.new) result }
     ensures inner { is_outer result ≡ false }
 {
@@ -45,6 +52,7 @@ pub(crate) fn check_empty<D: Disk, L: Link, C>(host: &mut Host<D, L, C>) -> Resu
     ensures full { IsTrue D.tells → result ≡ Err End.NotEmpty → seen_of (D.told host.old.disk).past ≢ [] }
     ensures which { IfErr result (λ e. (e ≡ End.DiskFault) ⊎ (e ≡ End.NotEmpty)) }
     ensures past { IsTrue D.tells → (D.told host.new.disk).past ≡ (D.told host.old.disk).past }
+    ensures link { L.told host.new.link ≡ L.told host.old.link }
     ensures reason { HasReason (faults_of D.told L.told host.old) (faults_of D.told L.told host.new) result }
     ensures inner { is_outer result ≡ false }
 {
@@ -60,12 +68,16 @@ pub fn push<D: Disk, L: Link, C: Clock>(
     alloc: Global,
     host: &mut Host<D, L, C>,
 ) -> Result<Blob, End>
+    ensures does { Commands D.tells (D.told host.old.disk) (D.told host.new.disk) (L.told host.old.link)
+        (L.told host.new.link) FollowingFirstGap
+        (λ x z. Pushes (C.next host.old.clock) (λ moment. Tick moment) (L.told host.old.link)
+        (L.told host.new.link)) result }
     ensures reason { HasReason (faults_of D.told L.told host.old) (faults_of D.told L.told host.new) result }
     ensures inner { is_outer result ≡ false }
 {
     let mut node = mount(alloc, host)?;
     let now = host.clock.now();
-    let outs = ask(host, &mut node, now, Call::Tick { now })?;
+    let outs = tick(host, &mut node, now)?;
     told(alloc, host, &mut node, now, outs)
 }
 
@@ -75,12 +87,16 @@ pub fn close<D: Disk, L: Link, C: Clock>(
     host: &mut Host<D, L, C>,
     seq: u32,
 ) -> Result<Blob, End>
+    ensures does { Commands D.tells (D.told host.old.disk) (D.told host.new.disk) (L.told host.old.link)
+        (L.told host.new.link) FollowingFirstGap
+        (λ x z. Pushes (C.next host.old.clock) (λ moment. Close seq) (L.told host.old.link)
+        (L.told host.new.link)) result }
     ensures reason { HasReason (faults_of D.told L.told host.old) (faults_of D.told L.told host.new) result }
     ensures inner { is_outer result ≡ false }
 {
     let mut node = mount(alloc, host)?;
     let now = host.clock.now();
-    let outs = ask(host, &mut node, now, Call::Close { seq })?;
+    let outs = close_node(host, &mut node, seq, now)?;
     told(alloc, host, &mut node, now, outs)
 }
 
@@ -90,12 +106,16 @@ pub fn end<D: Disk, L: Link, C: Clock>(
     host: &mut Host<D, L, C>,
     seq: u32,
 ) -> Result<Blob, End>
+    ensures does { Commands D.tells (D.told host.old.disk) (D.told host.new.disk) (L.told host.old.link)
+        (L.told host.new.link) FollowingFirstGap
+        (λ x z. Pushes (C.next host.old.clock) (λ moment. Finish seq) (L.told host.old.link)
+        (L.told host.new.link)) result }
     ensures reason { HasReason (faults_of D.told L.told host.old) (faults_of D.told L.told host.new) result }
     ensures inner { is_outer result ≡ false }
 {
     let mut node = mount(alloc, host)?;
     let now = host.clock.now();
-    let outs = ask(host, &mut node, now, Call::End { seq })?;
+    let outs = end_node(host, &mut node, seq)?;
     told(alloc, host, &mut node, now, outs)
 }
 
@@ -108,6 +128,11 @@ fn told<D: Disk, L: Link, C>(
     outs: Outs,
 ) -> Result<Blob, End>
     requires up { IsUp D.tells (place_of (D.told host.old.disk) node.old) }
+    ensures posts { (steps : List Step) × MakesAll D.tells (place_of (D.told host.old.disk) node.old)
+        (place_of (D.told host.new.disk) node.new) steps
+        × (posted : Result Posted End)
+        × Posts Soap12 now outs (L.told host.old.link) (L.told host.new.link) steps posted
+        × IsTold (all_dialled posted) posted_line result }
     ensures reason { HasReason (faults_of D.told L.told host.old) (faults_of D.told L.told host.new) result }
     ensures inner { is_outer result ≡ false }
 {
@@ -132,6 +157,10 @@ pub fn inbox<D: Disk, L: Link, C: Clock>(
     host: &mut Host<D, L, C>,
     seq: u32,
 ) -> Result<Blob, End>
+    ensures does { Commands D.tells (D.told host.old.disk) (D.told host.new.disk) (L.told host.old.link)
+        (L.told host.new.link) FollowingFirstGap
+        (λ x z. TellsInbox seq x z (L.told host.old.link)
+        (L.told host.new.link)) result }
     ensures reason { HasReason (faults_of D.told L.told host.old) (faults_of D.told L.told host.new) result }
     ensures inner { is_outer result ≡ false }
 {
@@ -174,6 +203,7 @@ pub fn compact<D: Disk, L: Link, C: Clock>(
     host: &mut Host<D, L, C>,
 ) -> Result<Blob, End>
     ensures compacts { Compaction D.tells (D.told host.old.disk) (D.told host.new.disk) result }
+    ensures link { L.told host.new.link ≡ L.told host.old.link }
     ensures reason { HasReason (faults_of D.told L.told host.old) (faults_of D.told L.told host.new) result }
     ensures inner { is_outer result ≡ false }
 {

@@ -35,6 +35,7 @@ pub fn consume<K: Sink, D: Disk, L: Link, C: Clock>(
     ensures consumes { Consumption D.tells (D.told host.old.disk) (D.told host.new.disk)
         (K.told out.old) (K.told out.new) seq upto result }
     ensures prints { Prints (K.told out.old) (K.told out.new) result }
+    ensures link { L.told host.new.link ≡ L.told host.old.link }
     ensures reason { HasReason (faults_of D.told L.told host.old) (faults_of D.told L.told host.new) result }
     ensures inner { is_of_input result ≡ false }
 {

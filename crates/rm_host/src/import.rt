@@ -25,6 +25,7 @@ pub fn import<D: Disk, L: Link, C: Clock, S: Source>(
     ensures imports { Importation D.tells (D.told host.old.disk) (D.told host.new.disk) (S.told input.old) result }
     ensures spared { IsTrue D.tells → IsSpared (D.told host.old.disk) (D.told host.new.disk) }
     ensures took { Took journal_bytes (S.told input.old) (S.told input.new) result }
+    ensures link { L.told host.new.link ≡ L.told host.old.link }
     ensures reason { HasReason (faults_of D.told L.told host.old) (faults_of D.told L.told host.new) result }
 {
     match read_up_to(alloc, input, JOURNAL_BYTES as usize) {
@@ -43,6 +44,7 @@ fn import_bytes<D: Disk, L: Link, C>(
 ) -> Result<Blob, End>
     ensures imports { ImportsBytes D.tells (D.told host.old.disk) (D.told host.new.disk) bytes.now result }
     ensures spared { IsTrue D.tells → IsSpared (D.told host.old.disk) (D.told host.new.disk) }
+    ensures link { L.told host.new.link ≡ L.told host.old.link }
     ensures reason { HasReason (faults_of D.told L.told host.old) (faults_of D.told L.told host.new) result }
     ensures inner { is_outer result ≡ false }
 {

@@ -8,6 +8,7 @@ pub mod end;
 pub mod host;
 pub mod import;
 mod items;
+pub mod laws;
 pub mod program;
 pub mod send;
 pub mod serve;

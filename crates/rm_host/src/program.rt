@@ -1,7 +1,8 @@
 //! The program at its edge: a file, the network, the clock, standard input and output.
-ghost use Rattle.std.specs.Prelude.{◌≡◌, drop};
+ghost use Rattle.std.specs.Prelude.{◌≡◌, Ok, drop};
+ghost use Rattle.rm_host.specs.Doings.{Does, DoesAsked, IsObeyed, Spares, Tells, world_of};
 ghost use Rattle.rm_host.specs.Ends.{HasReason, Prints, faults_of};
-ghost use Rattle.rm_host.specs.Runs.{IsStatusOf, Obeys, PrintsAt, Uses, outside_of};
+ghost use Rattle.rm_host.specs.Runs.{IsComplete, IsSpent, IsStatusOf, Obeys, PrintsAt, Uses, outside_of};
 ghost use Rattle.rm_host.specs.Words.{IsWithin};
 
 use crate::commands::{close, compact, end, inbox, make, push};
@@ -32,9 +33,15 @@ pub fn run<S: Source, K: Sink, D: Disk, L: Link, C: Clock>(
     out: &mut K,
     host: &mut Host<D, L, C>,
 ) -> u8
-    ensures { IsStatusOf words.now
+    ensures obeyed { IsObeyed D.tells K.wants_memory words.now
+        (world_of S.told K.told D.told L.told C.next input.old out.old host.old)
+        (world_of S.told K.told D.told L.told C.next input.new out.new host.new) result }
+    ensures status { IsStatusOf words.now
         (outside_of S.told K.told D.told L.told input.old out.old host.old)
         (outside_of S.told K.told D.told L.told input.new out.new host.new) result }
+    ensures complete { IsComplete (outside_of S.told K.told D.told L.told input.old out.old host.old)
+        (outside_of S.told K.told D.told L.told input.new out.new host.new) result }
+    ensures lost { IsSpent (L.told host.old.link) (L.told host.new.link) result }
 {
     match obey(alloc, words, input, out, host) {
         Ok(text) => print_text(out, text.as_slice()),
@@ -47,7 +54,8 @@ pub fn run<S: Source, K: Sink, D: Disk, L: Link, C: Clock>(
 
 // Prints what was asked for.
 fn print_text<K: Sink>(out: &mut K, text: &[u8]) -> u8
-    ensures { PrintsAt (K.told out.old) (K.told out.new) result }
+    ensures at { PrintsAt (K.told out.old) (K.told out.new) result }
+    ensures tells { Tells K.wants_memory (K.told out.old) (K.told out.new) (Ok text.now) result }
 {
     match write_all(out, text) {
         Ok(()) => exits::DONE,
@@ -64,6 +72,9 @@ fn obey<S: Source, K: Sink, D: Disk, L: Link, C: Clock>(
     out: &mut K,
     host: &mut Host<D, L, C>,
 ) -> Result<Blob, End>
+    ensures does { DoesAsked D.tells words.now
+        (world_of S.told K.told D.told L.told C.next input.old out.old host.old)
+        (world_of S.told K.told D.told L.told C.next input.new out.new host.new) result }
     ensures obeys { Obeys words.now (S.told input.old) (S.told input.new) (K.told out.old) (K.told out.new) result }
     ensures reason { HasReason (faults_of D.told L.told host.old) (faults_of D.told L.told host.new) result }
 {
@@ -80,6 +91,10 @@ fn perform<S: Source, K: Sink, D: Disk, L: Link, C: Clock>(
     command: Command,
 ) -> Result<Blob, End>
     requires { IsWithin command }
+    ensures does { Does D.tells command (world_of S.told K.told D.told L.told C.next input.old out.old host.old)
+        (world_of S.told K.told D.told L.told C.next input.new out.new host.new) result }
+    ensures spares { Spares command (world_of S.told K.told D.told L.told C.next input.old out.old host.old)
+        (world_of S.told K.told D.told L.told C.next input.new out.new host.new) }
     ensures uses { Uses command (S.told input.old) (S.told input.new) result }
     ensures prints { Prints (K.told out.old) (K.told out.new) result }
     ensures reason { HasReason (faults_of D.told L.told host.old) (faults_of D.told L.told host.new) result }

@@ -1,16 +1,19 @@
 //! The command `send`.
-ghost use Rattle.std.specs.Prelude.{◌≡◌, ◌<◌, IfOk, OnOk, false};
+ghost use Rattle.std.specs.Prelude.{◌≡◌, ◌<◌, List, IfErr, IfOk, OnOk, false, true};
 ghost use Rattle.rm_base.specs.Count.{Rose};
 ghost use Rattle.rm_base.specs.Limits.{payload_bytes};
-ghost use Rattle.rm_serve.specs.Steps.{IsUp, place_of};
-ghost use Rattle.rm_host.specs.Ends.{HasReason, Took, faults_of, is_outer};
+ghost use Rattle.rm_base.specs.declared.message.Behaviour.TheVariants.{FollowingFirstGap};
+ghost use Rattle.rm_serve.specs.Steps.{IsUp, MakesAll, Step, place_of};
+ghost use Rattle.rm_host.specs.Ends.{HasReason, Took, faults_of, is_of_call, is_outer};
+ghost use Rattle.rm_host.specs.HostSteps.{Commands};
+ghost use Rattle.rm_host.specs.SendSteps.{Begins, Reached, SendsIfOpen, SendsOn, SendsRead, SendsTo};
 ghost use Rattle.rm_host.specs.Sequences.{IsFirstTo, goes_to, is_acked, is_open, is_open_phase, is_usable};
 ghost use Rattle.rm_host.specs.Sequences.{is_usable_phase, may_carry};
 ghost use Rattle.rm_host.specs.Texts.{acked_words, sent_line};
 ghost use Rattle.node_tables.specs.Peers.{peer};
 ghost use Rattle.node_tables.specs.Reads.{outgoing_in};
 
-use crate::calls::{accept_payload, ask, create, mount, post, post_all};
+use crate::calls::{accept_payload, create, mount, post, post_all, tick};
 use crate::end::End;
 use crate::host::Host;
 use http_endpoint::Media;
@@ -19,7 +22,7 @@ use rm_base::limits::PAYLOAD_BYTES;
 use rm_base::{Blob, Clock, Memory, ReadError, Source, Uri, push_decimal, read_up_to};
 use rm_disk::Disk;
 use rm_link::Link;
-use rm_node::{Call, Node, Outs};
+use rm_node::{Node, Outs};
 use rm_source::OutPhase;
 use std::alloc::Global;
 
@@ -31,6 +34,8 @@ pub fn send<D: Disk, L: Link, C: Clock, S: Source>(
     input: &mut S,
     to: Uri,
 ) -> Result<Blob, End>
+    ensures does { SendsRead D.tells (D.told host.old.disk) (D.told host.new.disk) (L.told host.old.link)
+        (L.told host.new.link) to (C.next host.old.clock) (S.told input.old).left result }
     ensures took { Took payload_bytes (S.told input.old) (S.told input.new) result }
     ensures reason { HasReason (faults_of D.told L.told host.old) (faults_of D.told L.told host.new) result }
 {
@@ -49,6 +54,10 @@ fn send_payload<D: Disk, L: Link, C: Clock>(
     to: Uri,
     payload: Blob,
 ) -> Result<Blob, End>
+    ensures does { Commands D.tells (D.told host.old.disk) (D.told host.new.disk) (L.told host.old.link)
+        (L.told host.new.link) FollowingFirstGap
+        (λ x z. SendsTo D.tells x z to payload (C.next host.old.clock) (L.told host.old.link)
+        (L.told host.new.link)) result }
     ensures reason { HasReason (faults_of D.told L.told host.old) (faults_of D.told L.told host.new) result }
     ensures inner { is_outer result ≡ false }
 {
@@ -70,6 +79,11 @@ fn send_if_open<D: Disk, L: Link, C: Clock>(
     payload: Blob,
 ) -> Result<(), End>
     requires up { IsUp D.tells (place_of (D.told host.old.disk) node.old) }
+    ensures sends { (steps : List Step) × MakesAll D.tells (place_of (D.told host.old.disk) node.old)
+        (place_of (D.told host.new.disk) node.new) steps
+        × SendsIfOpen (place_of (D.told host.old.disk) node.old)
+        (place_of (D.told host.new.disk) node.new) seq payload (L.told host.old.link)
+        (L.told host.new.link) steps result }
     ensures reason { HasReason (faults_of D.told L.told host.old) (faults_of D.told L.told host.new) result }
     ensures inner { is_outer result ≡ false }
 {
@@ -89,6 +103,11 @@ fn send_on<D: Disk, L: Link, C: Clock>(
     payload: Blob,
 ) -> Result<Blob, End>
     requires up { IsUp D.tells (place_of (D.told host.old.disk) node.old) }
+    ensures sends { (steps : List Step) × MakesAll D.tells (place_of (D.told host.old.disk) node.old)
+        (place_of (D.told host.new.disk) node.new) steps
+        × SendsOn (place_of (D.told host.old.disk) node.old)
+        (place_of (D.told host.new.disk) node.new) seq payload (L.told host.old.link)
+        (L.told host.new.link) steps result }
     ensures reason { HasReason (faults_of D.told L.told host.old) (faults_of D.told L.told host.new) result }
     ensures inner { is_outer result ≡ false }
 {
@@ -110,6 +129,10 @@ fn reach<D: Disk, L: Link, C: Clock>(
     ensures up { OnOk result (IsUp D.tells (place_of (D.told host.new.disk) node.new)) }
     ensures undialled { IfOk result (λ r. 0 < r.1
         → Rose (L.told host.old.link).faults (L.told host.new.link).faults) }
+    ensures reached { (steps : List Step) × MakesAll D.tells (place_of (D.told host.old.disk) node.old)
+        (place_of (D.told host.new.disk) node.new) steps
+        × Reached node.old.stored.records to (C.next host.old.clock) (L.told host.old.link)
+        (L.told host.new.link) steps result }
     ensures reason { HasReason (faults_of D.told L.told host.old) (faults_of D.told L.told host.new) result }
     ensures inner { is_outer result ≡ false }
 {
@@ -127,13 +150,17 @@ fn begin<D: Disk, L: Link, C: Clock>(
 ) -> Result<(u32, Outs), End>
     requires up { IsUp D.tells (place_of (D.told host.old.disk) node.old) }
     ensures up { OnOk result (IsUp D.tells (place_of (D.told host.new.disk) node.new)) }
+    ensures begins { Begins D.tells (place_of (D.told host.old.disk) node.old)
+        (place_of (D.told host.new.disk) node.new) to (C.next host.old.clock) (L.told host.old.link)
+        (L.told host.new.link) result }
+    ensures of_call { IfErr result (λ e. is_of_call e ≡ true) }
     ensures reason { HasReason (faults_of D.told L.told host.old) (faults_of D.told L.told host.new) result }
     ensures inner { is_outer result ≡ false }
 {
     match sequence_to(node.tables(), &to) {
         Some(seq) => {
             let now = host.clock.now();
-            Ok((seq, ask(host, node, now, Call::Tick { now })?))
+            Ok((seq, tick(host, node, now)?))
         }
         None => {
             let made = create(host, node, to)?;

@@ -1,10 +1,15 @@
 //! The commands `serve` and `serve11`.
-ghost use Rattle.std.specs.Prelude.{◌≡◌, ◌+◌, ◌<◌, ◌++◌, IfOk, OnOk, false};
-ghost use Rattle.rm_serve.specs.Steps.{IsUp, place_of};
+ghost use Rattle.std.specs.Prelude.{◌≡◌, ◌+◌, ◌<◌, ◌++◌, List, IfOk, IfErr, OnOk, false};
+ghost use Rattle.rm_link.specs.Lines.{Listens};
+ghost use Rattle.rm_serve.specs.Steps.{IsUp, MakesAll, Step, place_of};
 ghost use Rattle.rm_host.specs.Ends.{HasReason, faults_of, is_outer};
-ghost use Rattle.rm_host.specs.Texts.{IsTally, served_line, well_served};
+ghost use Rattle.rm_host.specs.Finding.{Found};
+ghost use Rattle.rm_host.specs.HostSteps.{Commands};
+ghost use Rattle.rm_host.specs.ServeSteps.{Serves, ServesOne, StaysDeaf, Turn, counted};
+ghost use Rattle.rm_host.specs.Texts.{IsTally, served_line};
+ghost use Rattle.rm_host.specs.Words.{behaviour_of};
 
-use crate::calls::{ask, mount, post, serve_conn};
+use crate::calls::{mount, post, serve_conn, tick};
 use crate::end::End;
 use crate::host::Host;
 use crate::words::Service;
@@ -12,15 +17,15 @@ use http_endpoint::Media;
 use rm_base::{Blob, Clock, Memory, push_decimal};
 use rm_disk::Disk;
 use rm_link::Link;
-use rm_node::{Call, Node, Outs};
+use rm_node::{Node, Outs};
 use rm_serve::ConnEnd;
 use std::alloc::Global;
 
-// How many connections were served well, and how many were given up.
+/// How many connections were served well, and how many were given up.
 #[derive(Clone, Copy, Debug)]
-struct Tally {
-    done: u64,
-    dropped: u64,
+pub struct Tally {
+    pub done: u64,
+    pub dropped: u64,
 }
 
 /// Takes so many connections, one after the other, of peers that speak this version of SOAP, and posts after each what
@@ -31,6 +36,9 @@ pub fn serve<D: Disk, L: Link, C: Clock>(
     service: Service,
     media: Media,
 ) -> Result<Blob, End>
+    ensures does { Commands D.tells (D.told host.old.disk) (D.told host.new.disk) (L.told host.old.link)
+        (L.told host.new.link) (behaviour_of service.grant)
+        (λ x z. Serves media service.port service.count (L.told host.old.link) (L.told host.new.link)) result }
     ensures tally { IfOk result (IsTally service.count) }
     ensures reason { HasReason (faults_of D.told L.told host.old) (faults_of D.told L.told host.new) result }
     ensures inner { is_outer result ≡ false }
@@ -52,7 +60,7 @@ pub fn serve<D: Disk, L: Link, C: Clock>(
 // One connection more.
 fn counted(tally: Tally, finish: ConnEnd) -> Tally
     requires room { tally.done + tally.dropped < 65535 }
-    ensures well { result.done ≡ tally.done + well_served finish }
+    ensures is { result ≡ counted tally finish }
     ensures all { result.done + result.dropped ≡ tally.done + tally.dropped + 1 }
 {
     let Tally { done, dropped } = tally;
@@ -74,6 +82,12 @@ fn open<D: Disk, L: Link, C>(
     host: &mut Host<D, L, C>,
     service: Service,
 ) -> Result<Node, End>
+    ensures found { IfOk result (λ node.
+        Found D.tells (D.told host.old.disk) (behaviour_of service.grant) (place_of (D.told host.new.disk) node)) }
+    ensures listens { OnOk result (Listens (L.told host.old.link) (L.told host.new.link) service.port false) }
+    ensures deaf { IfErr result (StaysDeaf D.tells (D.told host.old.disk) (D.told host.new.disk)
+        (L.told host.old.link)
+        (L.told host.new.link) service.port (behaviour_of service.grant)) }
     ensures up { IfOk result (λ node. IsUp D.tells (place_of (D.told host.new.disk) node)) }
     ensures reason { HasReason (faults_of D.told L.told host.old) (faults_of D.told L.told host.new) result }
     ensures inner { is_outer result ≡ false }
@@ -94,6 +108,9 @@ fn turn<D: Disk, L: Link, C: Clock>(
     media: Media,
 ) -> Result<ConnEnd, End>
     requires { IsUp D.tells (place_of (D.told host.old.disk) node.old) }
+    ensures turn { (steps : List Step) × MakesAll D.tells (place_of (D.told host.old.disk) node.old)
+        (place_of (D.told host.new.disk) node.new) steps
+        × Turn media (L.told host.old.link) (L.told host.new.link) steps result }
     ensures up { OnOk result (IsUp D.tells (place_of (D.told host.new.disk) node.new)) }
     ensures reason { HasReason (faults_of D.told L.told host.old) (faults_of D.told L.told host.new) result }
     ensures inner { is_outer result ≡ false }
@@ -113,6 +130,9 @@ fn take<D: Disk, L: Link, C: Clock>(
     media: Media,
 ) -> Result<ConnEnd, End>
     requires { IsUp D.tells (place_of (D.told host.old.disk) node.old) }
+    ensures serves { (steps : List Step) × MakesAll D.tells (place_of (D.told host.old.disk) node.old)
+        (place_of (D.told host.new.disk) node.new) steps
+        × ServesOne media (L.Conn.Source.told conn) (L.told host.old.link) (L.told host.new.link) steps result }
     ensures up { OnOk result (IsUp D.tells (place_of (D.told host.new.disk) node.new)) }
     ensures reason { HasReason (faults_of D.told L.told host.old) (faults_of D.told L.told host.new) result }
     ensures inner { is_outer result ≡ false }
@@ -120,7 +140,7 @@ fn take<D: Disk, L: Link, C: Clock>(
     let now = host.clock.now();
     let served = serve_conn(alloc, host, node, conn, now, media)?;
     let now = host.clock.now();
-    let due = ask(host, node, now, Call::Tick { now })?;
+    let due = tick(host, node, now)?;
     let outs = joined(served.outs, due)?;
     post(alloc, host, node, now, outs, media)?;
     Ok(served.finish)

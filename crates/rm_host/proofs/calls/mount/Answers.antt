@@ -1,6 +1,9 @@
-use Rattle.std.proofs.Common.{◌≡◌, ◌∙◌, ◌⊎◌, Err, ap, false, sym, subst}
+use Rattle.std.proofs.Common.{◌≡◌, ◌∙◌, ◌⊎◌, Err, ap, false, refl, sym, subst}
 use Rattle.std.proofs.lemmas.Result.{err_from_is_err_and}
+use Rattle.std.specs.Prelude.{IfErr}
+use Rattle.node_store.specs.declared.error.MountError.{MountError}
 use Rattle.rm_host.specs.Ends.{HasReason, faults_of, is_outer, is_refused, mount_end}
+use Rattle.rm_host.specs.Finding.{NotFound}
 use Rattle.rm_host.specs.declared.end.End.{End}
 use Rattle.rm_host.specs.declared.end.End.TheVariants as end
 use Rattle.rm_host.proofs.EndLemmas.{mount-fails, mount-inner, mount-none, mount-unrefused, mount-which}
@@ -43,3 +46,32 @@ returns-clause-up g c =
       up = c.in_ok-mount.ensures.up;
       ready = λ t up. let found = c.in_ok-mount.ensures.found t in (found.batches, found.has.holds);
     }
+
+pub returns-clause-mounted : goal.returns-clause-mounted
+returns-clause-mounted g c =
+    let found = c.in_ok-mount.ensures.found in
+    record {
+      up = record {
+        up = c.in_ok-mount.ensures.up;
+        ready = λ t up. let f = found t in (f.batches, f.has.holds);
+      };
+      finds = found;
+      looks = λ t. record { seen = c.in_ok-mount.ensures.seen t; moments = c.in_ok-mount.ensures.moments t };
+      kept = c.in_ok-mount.ensures.kept;
+    }
+
+pub returns-in_err-mount-clause-unfound : goal.returns-in_err-mount-clause-unfound
+returns-in_err-mount-clause-unfound g c =
+    let told = g.D.Disk.told in
+    let p = err_from_is_err_and c.from_residual.result c.from_residual.ensures.1 in
+    let e = c.in_err-mount.field-0.0 in
+    let did = c.mount.ensures in
+    subst (λ r. IfErr r (λ end. (e : MountError) × (end ≡ mount_end e)
+    × NotFound g.D.Disk.tells (told c.args.host.now.disk) (told c.mount.new.disk) e)) (sym (p.1 ∙ ap Err p.2)) (
+      e,
+      refl,
+      record {
+        looks = λ t. record { seen = did.seen t; moments = did.moments t };
+        none = λ t is. did.none t (c.in_err-mount.was ∙ ap Err is);
+      },
+    )

@@ -5,6 +5,7 @@ use Rattle.rm_host.proofs.EndLemmas.{call-ends, call-inner}
 use Rattle.rm_serve.specs.Limits as limits
 use Rattle.rm_serve.specs.Posts.{none_posted}
 use Rattle.rm_host.proofs.PostLemmas.{dials}
+use Rattle.rm_host.specs.HostSteps.{as_end}
 use Rattle.rm_host.proofs.calls.post.Goals as goal
 
 pub returns-in_err-post_row-clause-reason : goal.returns-in_err-post_row-clause-reason
@@ -37,3 +38,14 @@ returns-clause-undialled g c =
     let d = dials c.args.media c.args.now limits.most_posts c.args.outs none_posted c.in_ok-post_row.field-0
     (net c.args.host.now.link) (net c.post_row.new.link) _ _ c.in_ok-post_row.ensures.posts.2 refl in
     d.rose
+
+pub returns-in_err-post_row-clause-posts : goal.returns-in_err-post_row-clause-posts
+returns-in_err-post_row-clause-posts g c =
+    let p = err_from_is_err_and c.from_residual.result c.from_residual.ensures.1 in
+    let posts = c.post_row.ensures.posts in
+    (posts.0, posts.1, (c.post_row.result, posts.2, (p.1 ∙ ap Err p.2) ∙ sym (ap as_end c.in_err-post_row.was)))
+
+pub returns-clause-posts : goal.returns-clause-posts
+returns-clause-posts g c =
+    let posts = c.post_row.ensures.posts in
+    (posts.0, posts.1, (c.post_row.result, posts.2, sym (ap as_end c.in_ok-post_row.was)))

@@ -2,6 +2,7 @@ use Rattle.std.proofs.Common.{◌≡◌, ◌∙◌, Err, ap, false, sym, subst}
 use Rattle.std.proofs.lemmas.Result.{err_from_is_err_and}
 use Rattle.rm_host.specs.Ends.{faults_of, is_outer}
 use Rattle.rm_host.proofs.EndLemmas.{call-ends, call-inner}
+use Rattle.rm_host.specs.HostSteps.{as_end}
 use Rattle.rm_host.proofs.calls.serve_conn.Goals as goal
 
 pub returns-in_err-serve_peer-clause-reason : goal.returns-in_err-serve_peer-clause-reason
@@ -20,3 +21,20 @@ returns-in_err-serve_peer-clause-inner g c =
 pub returns-clause-up : goal.returns-clause-up
 returns-clause-up g c =
     record { up = c.in_ok-serve_peer.ensures.up ∙ c.requires.up.up; ready = c.serve_peer.ensures.ready }
+
+pub returns-in_err-serve_peer-clause-serves : goal.returns-in_err-serve_peer-clause-serves
+returns-in_err-serve_peer-clause-serves g c =
+    let p = err_from_is_err_and c.from_residual.result c.from_residual.ensures.1 in
+    let serves = c.serve_peer.ensures.serves in (
+      serves.0,
+      serves.1,
+      _,
+      c.serve_peer.result,
+      serves.2,
+      (p.1 ∙ ap Err p.2) ∙ sym (ap as_end c.in_err-serve_peer.was),
+    )
+
+pub returns-clause-serves : goal.returns-clause-serves
+returns-clause-serves g c =
+    let serves = c.serve_peer.ensures.serves in
+    (serves.0, serves.1, _, c.serve_peer.result, serves.2, sym (ap as_end c.in_ok-serve_peer.was))

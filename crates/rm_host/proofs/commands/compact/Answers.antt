@@ -2,7 +2,7 @@ use Rattle.std.proofs.Common.{◌∙◌, Err, ap, sym, subst}
 use Rattle.std.proofs.lemmas.Result.{err_from_is_err_and}
 use Rattle.rm_host.specs.Compaction.{Compaction}
 use Rattle.rm_host.specs.Ends.{faults_of}
-use Rattle.rm_host.proofs.CompactionLemmas.{done, fails, unrefused}
+use Rattle.rm_host.proofs.CompactionLemmas.{done, fails, unmounted, unprinted}
 use Rattle.rm_host.proofs.EndLemmas.{hands, then, wants}
 use Rattle.rm_host.proofs.commands.compact.Goals as goal
 
@@ -12,8 +12,9 @@ returns-in_err-node-clause-compacts g c =
     let p = err_from_is_err_and r.result r.ensures.1 in
     let first = g.D.Disk.told c.args.host.now.disk in
     let now = g.D.Disk.told c.mount.new.host.disk in
-    subst (λ x. Compaction g.D.Disk.tells first now x) (sym (p.1 ∙ ap Err p.2))
-    (unrefused g.D.Disk.tells first now c.in_err-node.field-0.0 c.in_err-node.ensures.unrefused)
+    let why = c.in_err-node.ensures.unfound in
+    subst (λ x. Compaction g.D.Disk.tells first now x) (sym ((p.1 ∙ ap Err p.2) ∙ ap Err why.1))
+    (unmounted g.D.Disk.tells first now why.0 why.2)
 
 pub returns-in_err-compact_node-clause-compacts : goal.returns-in_err-compact_node-clause-compacts
 returns-in_err-compact_node-clause-compacts g c =
@@ -24,15 +25,19 @@ returns-in_err-compact_node-clause-compacts g c =
     let now = told c.compact_node.new.host.disk in
     subst (λ x. Compaction g.D.Disk.tells first now x) (sym (p.1 ∙ ap Err p.2))
     (fails g.D.Disk.tells first (told c.mount.new.host.disk) now c.in_ok-node.node c.compact_node.new.node
-    c.in_err-compact_node.field-0.0 c.in_ok-node.ensures.found c.in_err-compact_node.ensures.compacts)
+    c.in_err-compact_node.field-0.0 c.in_ok-node.ensures.found c.in_ok-node.ensures.mounted.looks
+    c.in_err-compact_node.ensures.compacts)
 
 pub returns-in_err-compacted_text-clause-compacts : goal.returns-in_err-compacted_text-clause-compacts
 returns-in_err-compacted_text-clause-compacts g c =
     let r = c.from_residual-in_err-compacted_text in
     let p = err_from_is_err_and r.result r.ensures.1 in
-    let first = g.D.Disk.told c.args.host.now.disk in
-    let now = g.D.Disk.told c.compact_node.new.host.disk in
-    subst (λ x. Compaction g.D.Disk.tells first now x) (sym (p.1 ∙ ap Err p.2)) tt
+    let told = g.D.Disk.told in
+    let first = told c.args.host.now.disk in
+    let now = told c.compact_node.new.host.disk in
+    subst (λ x. Compaction g.D.Disk.tells first now x) (sym (p.1 ∙ ap Err p.2))
+    (unprinted g.D.Disk.tells first (told c.mount.new.host.disk) now c.in_ok-node.node c.compact_node.new.node
+    c.in_ok-node.ensures.found c.in_ok-compact_node.ensures.compacts)
 
 pub returns-clause-compacts : goal.returns-clause-compacts
 returns-clause-compacts g c =

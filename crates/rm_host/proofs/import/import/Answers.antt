@@ -1,4 +1,4 @@
-use Rattle.std.proofs.Common.{ℕ, List, inr, refl, subst}
+use Rattle.std.proofs.Common.{ℕ, List, refl, subst}
 use Rattle.rm_base.specs.Limits as limits
 use Rattle.rm_host.specs.Importation.{ImportsBytes}
 use Rattle.rm_host.proofs.ImportationLemmas.{some-bytes}

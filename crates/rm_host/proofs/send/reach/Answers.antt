@@ -1,7 +1,10 @@
-use Rattle.std.proofs.Common.{◌∙◌, Err, ap, refl}
+use Rattle.std.proofs.Common.{◌∙◌, Err, Ok, ap, refl}
 use Rattle.std.proofs.lemmas.Result.{err_from_is_err_and}
+use Rattle.rm_host.proofs.RowLemmas.{then-all}
 use Rattle.rm_host.specs.Ends.{faults_of}
+use Rattle.rm_host.specs.HostSteps.{fails}
 use Rattle.rm_host.proofs.EndLemmas.{hands, rose-before, then}
+use Rattle.rm_host.proofs.SendLemmas.{then-posts}
 use Rattle.rm_host.proofs.send.reach.Goals as goal
 
 pub returns-in_err-posted-clause-reason : goal.returns-in_err-posted-clause-reason
@@ -26,3 +29,67 @@ returns-clause-undialled g c =
     let last = seen c.post.new.host in
     λ some. rose-before first.link begun.link last.link (c.in_ok-seq.ensures.reason.later refl)
     (c.in_ok-posted.ensures.undialled some)
+
+pub returns-in_err-seq-clause-reached : goal.returns-in_err-seq-clause-reached
+returns-in_err-seq-clause-reached g c =
+    let r = c.from_residual in
+    let p = err_from_is_err_and r.result r.ensures.1 in
+    let began = c.in_err-seq.ensures.begins in
+    let e = c.in_err-seq.field-0.0 in (
+      _,
+      began.calls.steps,
+      record {
+        moment = began.moment;
+        later = 0;
+        seq = began.seq;
+        asked = began.asked;
+        reaches = began.reaches;
+        posted = Err e;
+        calls = fails e c.in_err-seq.ensures.of_call began.calls.link;
+        is = p.1 ∙ ap Err p.2;
+      },
+    )
+
+pub returns-in_err-posted-clause-reached : goal.returns-in_err-posted-clause-reached
+returns-in_err-posted-clause-reached g c =
+    let r = c.from_residual-in_err-posted in
+    let p = err_from_is_err_and r.result r.ensures.1 in
+    let net = g.L.Link.told in
+    let began = c.in_ok-seq.ensures.begins in
+    let did = c.in_err-posted.ensures.posts in
+    let e = c.in_err-posted.field-0.0 in (
+      _,
+      then-all g.D.Disk.tells _ _ _ _ did.0 began.calls.steps did.1,
+      record {
+        moment = began.moment;
+        later = c.now-now.result;
+        seq = began.seq;
+        asked = began.asked;
+        reaches = began.reaches;
+        posted = Err e;
+        calls = then-posts began.moment c.now-now.result began.asked _ _ (net c.post.new.host.link) c.in_ok-seq.outs
+            did.0 (Err e) began.calls.link did.2;
+        is = p.1 ∙ ap Err p.2;
+      },
+    )
+
+pub returns-clause-reached : goal.returns-clause-reached
+returns-clause-reached g c =
+    let net = g.L.Link.told in
+    let began = c.in_ok-seq.ensures.begins in
+    let did = c.in_ok-posted.ensures.posts in
+    let posted = c.in_ok-posted.posted in (
+      _,
+      then-all g.D.Disk.tells _ _ _ _ did.0 began.calls.steps did.1,
+      record {
+        moment = began.moment;
+        later = c.now-now.result;
+        seq = began.seq;
+        asked = began.asked;
+        reaches = began.reaches;
+        posted = Ok posted;
+        calls = then-posts began.moment c.now-now.result began.asked _ _ (net c.post.new.host.link) c.in_ok-seq.outs
+            did.0 (Ok posted) began.calls.link did.2;
+        is = ap (λ s. Ok (s, posted.undialled)) began.is;
+      },
+    )

@@ -1,4 +1,4 @@
-use Rattle.std.proofs.Common.{◌+◌, ◌∙◌, arith, sym}
+use Rattle.std.proofs.Common.{◌∙◌, arith, sym}
 use Rattle.rm_host.specs.Sequences.{may_carry}
 use Rattle.rm_host.proofs.SequenceLemmas.{none-yet}
 use Rattle.rm_host.proofs.send.sequence_to.Goals as goal

@@ -1,0 +1,10 @@
+//! Tests of the commands of one node over a disk, a link and a clock in memory: connections that are cut, and those
+//! that do not come; and `serve11`. They stand apart, since a crate with tests is proved a second time with them.
+#![tactic(auto)]
+
+#[cfg(test)]
+mod eleven;
+#[cfg(test)]
+mod machine;
+#[cfg(test)]
+mod serving;

@@ -1,0 +1,78 @@
+use Rattle.std.proofs.Common.{◌≡◌, ◌∙◌, Err, ap, false, refl, sym, subst, true}
+use Rattle.std.specs.Prelude.{IfErr}
+use Rattle.std.proofs.lemmas.Result.{err_from_is_err_and}
+use Rattle.rm_disk.specs.Cause.{HasCause}
+use Rattle.rm_node.specs.Asked.{Tick}
+use Rattle.rm_node.specs.Ends.{is_handed, outs_end}
+use Rattle.rm_node.specs.declared.call.Call.TheVariants.{Tick as Ticks}
+use Rattle.rm_serve.specs.Steps.{place_of}
+use Rattle.rm_host.specs.Ends.{faults_of, is_of_call, is_outer}
+use Rattle.rm_host.specs.declared.end.End.{End}
+use Rattle.rm_host.specs.HostSteps.{CallsNode, own_step}
+use Rattle.rm_host.proofs.CompactionLemmas.{ends-so}
+use Rattle.rm_host.proofs.EndLemmas.{broke-by, call-ends, call-inner, call-of}
+use Rattle.rm_host.proofs.StepLemmas.{made}
+use Rattle.rm_host.proofs.calls.tick.Goals as goal
+
+pub returns-in_err-tick-clause-reason : goal.returns-in_err-tick-clause-reason
+returns-in_err-tick-clause-reason g c =
+    let p = err_from_is_err_and c.from_residual.result c.from_residual.ensures.1 in
+    let old = faults_of g.D.Disk.told g.L.Link.told c.args.host.now in
+    let new = record old { disk = (g.D.Disk.told c.tick.new.disk).faults } in
+    let e = c.in_err-tick.field-0.0 in
+    let leaves = c.a_node_stays_up.ensures g.D.Disk.tells (g.D.Disk.told c.args.host.now.disk)
+    (g.D.Disk.told c.tick.new.disk)
+    c.args.node.now c.tick.new.self c.args.now (Ticks c.args.now) _ (outs_end c.tick.result) refl c.requires.up
+    c.tick.ensures in
+    call-ends old new e c.from_residual.result (p.1 ∙ ap Err p.2)
+    (λ down. leaves.awake (ap outs_end (c.in_err-tick.was ∙ ap Err down)))
+    (subst (λ b. HasCause old.disk new.disk b) (broke-by e) c.in_err-tick.ensures.cause)
+
+pub returns-in_err-tick-clause-of_call : goal.returns-in_err-tick-clause-of_call
+returns-in_err-tick-clause-of_call g c =
+    let p = err_from_is_err_and c.from_residual.result c.from_residual.ensures.1 in
+    subst (λ r. IfErr r (λ (e : End). is_of_call e ≡ true)) (sym (p.1 ∙ ap Err p.2)) (call-of c.in_err-tick.field-0.0)
+
+pub returns-in_err-tick-clause-inner : goal.returns-in_err-tick-clause-inner
+returns-in_err-tick-clause-inner g c =
+    let p = err_from_is_err_and c.from_residual.result c.from_residual.ensures.1 in
+    subst (λ r. is_outer r ≡ false) (sym (p.1 ∙ ap Err p.2)) (call-inner c.in_err-tick.field-0.0)
+
+pub returns-in_err-tick-clause-calls : goal.returns-in_err-tick-clause-calls
+returns-in_err-tick-clause-calls g c =
+    let p = err_from_is_err_and c.from_residual.result c.from_residual.ensures.1 in
+    let told = g.D.Disk.told in
+    let net = g.L.Link.told c.args.host.now.link in
+    let x = place_of (told c.args.host.now.disk) c.args.node.now in
+    let z = place_of (told c.tick.new.disk) c.tick.new.self in
+    let e = c.in_err-tick.field-0.0 in
+    let leaves = c.a_node_stays_up.ensures g.D.Disk.tells x.told z.told x.node z.node c.args.now
+    (Ticks c.args.now) _
+    (outs_end c.tick.result) refl c.requires.up c.tick.ensures in
+    let awake = ends-so e (λ down. leaves.awake (ap outs_end (c.in_err-tick.was ∙ ap Err down))) in
+    subst (λ r. CallsNode g.D.Disk.tells x z net net (own_step c.args.now (Tick c.args.now) r))
+    (sym (p.1 ∙ ap Err p.2))
+    (record {
+      steps = made g.D.Disk.tells x z c.args.now (Ticks c.args.now) (Tick c.args.now) _ _
+          refl refl awake c.in_err-tick.ensures;
+      link = refl;
+    })
+
+pub returns-clause-up : goal.returns-clause-up
+returns-clause-up g c =
+    let leaves = c.a_node_stays_up.ensures g.D.Disk.tells (g.D.Disk.told c.args.host.now.disk)
+    (g.D.Disk.told c.tick.new.disk)
+    c.args.node.now c.tick.new.self c.args.now (Ticks c.args.now) _ (outs_end c.tick.result) refl c.requires.up
+    c.tick.ensures in
+    record { up = leaves.up (ap (λ r. is_handed (outs_end r)) c.in_ok-tick.was); ready = leaves.ready }
+
+pub returns-clause-calls : goal.returns-clause-calls
+returns-clause-calls g c =
+    let told = g.D.Disk.told in
+    let x = place_of (told c.args.host.now.disk) c.args.node.now in
+    let z = place_of (told c.tick.new.disk) c.tick.new.self in
+    record {
+      steps = made g.D.Disk.tells x z c.args.now (Ticks c.args.now) (Tick c.args.now) _ _ refl refl refl
+          c.in_ok-tick.ensures;
+      link = refl;
+    }
