@@ -1,6 +1,6 @@
 //! The traits through which a program reaches the outside: sources, sinks, connections and clocks.
 ghost use Rattle.std.specs.Prelude.{◌≡◌, ◌≢◌, ℕ, ◌≤◌, ◌<◌, Bool, true, false, length, OnErr, MatchResult, Option};
-ghost use Rattle.std.specs.Prelude.{Err, Ok, IfSome};
+ghost use Rattle.std.specs.Prelude.{Err, Ok, Some, IfSome};
 ghost use Rattle.std.specs.Io.{ReadsAtMost, WritesAtMost};
 ghost use Rattle.std.specs.Io.KnownBytes.{ReadConsumes, WriteAppends};
 ghost use Rattle.rm_base.specs.Count.{Rose, raised_by};
@@ -62,11 +62,12 @@ pub trait Connection: Source + Sink {
 
 /// What tells the time.
 pub trait Clock {
-    /// The moment that it answers next, where it tells that.
+    /// The moment that it answers next, and from then on, where it tells that.
     ghost next: { Self → Option ℕ };
 
     /// The moment, in milliseconds since 1970 UTC.
     fn now(&mut self) -> u64
         ensures within { result ≤ now_max }
-        ensures told { IfSome (next self.old) (λ moment. result ≡ moment) };
+        ensures told { IfSome (next self.old) (λ moment. result ≡ moment) }
+        ensures still { IfSome (next self.old) (λ moment. next self.new ≡ Some moment) };
 }
