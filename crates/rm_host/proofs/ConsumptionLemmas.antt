@@ -1,11 +1,12 @@
 -- What consume answers, by what became of the node.
 use Rattle.std.proofs.Common.{◌≡◌, ◌≢◌, ◌∙◌, ◌⊎◌, ℕ, Bool, true, false, List, length, Option, None, Some, refl, sym, ap}
-use Rattle.std.proofs.Common.{subst, inl, inr, [], ◌∷◌, ◌++◌, append-nil, cond, nat_lt}
+use Rattle.std.proofs.Common.{arith, subst, inl, inr, [], ◌∷◌, ◌++◌, append-nil, cond, nat_lt}
 use Rattle.std.specs.List.{flat_map}
 use Rattle.std.specs.Prelude.{Result, Ok, Err, IfSome, IsTrue}
 use Rattle.std.specs.Io.KnownBytes.{Appends}
 use Rattle.std.proofs.lemmas.Grind.{flat_map-append}
 use Rattle.std.proofs.lemmas.Option.{none-some}
+use Rattle.std.proofs.Math.Seq.{take-length}
 use Rattle.call_answers.specs.Answers.{cause_seen}
 use Rattle.call_answers.specs.declared.answer.Cause.{Cause}
 use Rattle.call_answers.specs.declared.answer.Cause.TheVariants as cause
@@ -276,18 +277,18 @@ cursor-told r q s upto n has is told =
 -- ---- what is answered
 
 -- no node was found
-pub unfound : {T : Type 0} (tells : Bool) (first now : Told) (shown printed : Stream) (s upto : ℕ) (e : End)
+pub unfound : {T : Type 0} (tells : Bool) (first now : Told) (shown : Stream) (s upto : ℕ) (e : End)
     → (e ≡ end.Memory) ⊎ ((e ≡ end.DiskFault) ⊎ (e ≡ end.NotAJournal))
     → (IsTrue tells → ◌≡◌ {A = Result T End} (Err e) (Err end.NotAJournal) → IsNoNode (seen_of first.past))
     → (IsTrue tells → OnlyLeaves first.past now.past (MayLeave first.past))
-    → Consumption tells first now shown printed s upto (Err e)
-unfound tells first now shown printed s upto e (inl wants) none moments =
-    subst (λ x. Consumption tells first now shown printed s upto (Err x)) (sym wants) (λ t. inl (moments t))
-unfound tells first now shown printed s upto e (inr (inl failed)) none moments =
-    subst (λ x. Consumption tells first now shown printed s upto (Err x)) (sym failed) (λ t. inl (moments t))
-unfound tells first now shown printed s upto e (inr (inr empty)) none moments =
-    subst (λ x. Consumption tells first now shown printed s upto (Err x)) (sym empty)
-    (λ t. record { none = none t (ap Err empty); moments = moments t })
+    → Consumption tells first now shown shown s upto (Err e)
+unfound tells first now shown s upto e (inl wants) none moments =
+    subst (λ x. Consumption tells first now shown shown s upto (Err x)) (sym wants) (inl refl, λ t. inl (moments t))
+unfound tells first now shown s upto e (inr (inl failed)) none moments =
+    subst (λ x. Consumption tells first now shown shown s upto (Err x)) (sym failed) (inl refl, λ t. inl (moments t))
+unfound tells first now shown s upto e (inr (inr empty)) none moments =
+    subst (λ x. Consumption tells first now shown shown s upto (Err x)) (sym empty)
+    (refl, λ t. record { none = none t (ap Err empty); moments = moments t })
 
 -- nothing is there to consume
 pub refused-first : (tells : Bool) (first now : Told) (old : Stored) (shown : Stream) (s upto : ℕ) (e : End)
@@ -297,7 +298,7 @@ pub refused-first : (tells : Bool) (first now : Told) (old : Stored) (shown : St
     → Consumption tells first now shown shown s upto (Err e)
 refused-first tells first now old shown s upto e found moments (inl wants) =
     let same : e ≡ end.Memory = cc in
-    subst (λ x. Consumption tells first now shown shown s upto (Err x)) (sym same) (λ t. inl (moments t))
+    subst (λ x. Consumption tells first now shown shown s upto (Err x)) (sym same) (inl refl, λ t. inl (moments t))
 refused-first tells first now old shown s upto e found moments (inr is) =
     by e (no-items old.records s upto e (sym is)) (sym is)
   where
@@ -314,10 +315,16 @@ pub unprinted : (tells : Bool) (first now : Told) (old : Stored) (shown printed 
     → AppendsFront shown.held printed.held lines → (e ≡ end.Memory) ⊎ (e ≡ end.WriteFault)
     → Consumption tells first now shown printed s upto (Err e)
 unprinted tells first now old shown printed s upto lines e found moments is wrote (inl wants) =
-    subst (λ x. Consumption tells first now shown printed s upto (Err x)) (sym wants) (λ t. inl (moments t))
+    subst (λ x. Consumption tells first now shown printed s upto (Err x)) (sym wants)
+    (inr (old, lines, is, wrote, λ t. (now.past, found t)), λ t. inl (moments t))
 unprinted tells first now old shown printed s upto lines e found moments is wrote (inr failed) =
     subst (λ x. Consumption tells first now shown printed s upto (Err x)) (sym failed)
     (record { old = old; lines = lines; items = is; wrote = wrote; found = found })
+
+-- all of them are some first bytes of them
+whole-is-front : (old new : Option (List ℕ)) (lines : List ℕ) → Appends old new lines → AppendsFront old new lines
+whole-is-front old new lines wrote =
+    (length lines, omega arith, subst (λ text. Appends old new text) (sym (take-length lines)) wrote)
 
 -- they were, and the node didn't record it
 pub unrecorded : IncomingIsAsRecorded → (tells : Bool) (first mid now : Told) (old new : Noded) (shown printed : Stream)
@@ -332,12 +339,18 @@ unrecorded law tells first mid now old new shown printed s upto lines (end.Refus
           (sym (untouched tells mid now old new s upto (cause_seen why) did t)) (found t);
       which = inr ((did.0, did.1, did.2.ends), (lines, is, wrote));
     }
-unrecorded law tells first mid now old new shown printed s upto lines end.Memory found is wrote did of_call = λ t.
-    let has = has-items law old.stored.records s upto lines is in
-    inr (old.stored, may-record law tells first mid now old new s upto Wanted has found did t, (lines, is, wrote))
-unrecorded law tells first mid now old new shown printed s upto lines end.DiskFault found is wrote did of_call = λ t.
-    let has = has-items law old.stored.records s upto lines is in
-    inr (old.stored, may-record law tells first mid now old new s upto Broke has found did t, (lines, is, wrote))
+unrecorded law tells first mid now old new shown printed s upto lines end.Memory found is wrote did of_call = (
+  inr (old.stored, lines, is, whole-is-front shown.held printed.held lines wrote, λ t. (mid.past, found t)),
+  λ t.
+      let has = has-items law old.stored.records s upto lines is in
+      inr (old.stored, may-record law tells first mid now old new s upto Wanted has found did t, (lines, is, wrote)),
+)
+unrecorded law tells first mid now old new shown printed s upto lines end.DiskFault found is wrote did of_call = (
+  inr (old.stored, lines, is, wrote, λ t. (mid.past, found t)),
+  λ t.
+      let has = has-items law old.stored.records s upto lines is in
+      inr (old.stored, may-record law tells first mid now old new s upto Broke has found did t, (lines, is, wrote)),
+)
 unrecorded law tells first mid now old new shown printed s upto lines e found is wrote did of_call = absurd cc
 
 -- there was no memory for the text of the cursor
@@ -346,13 +359,16 @@ pub untold : IncomingIsAsRecorded → (tells : Bool) (first mid now : Told) (old
     → passed_answer old.stored.records s upto ≡ Ok lines → Appends shown.held printed.held lines
     → ConsumesItems tells mid now old new s upto (Handed Done None [])
     → Consumption tells first now shown printed s upto (Err end.Memory)
-untold law tells first mid now old new shown printed s upto lines found is wrote did = λ t.
-    let has = has-items law old.stored.records s upto lines is in
-    inr (
-      old.stored,
-      may-record law tells first mid now old new s upto (Handed Done None []) has found did t,
-      (lines, is, wrote),
-    )
+untold law tells first mid now old new shown printed s upto lines found is wrote did = (
+  inr (old.stored, lines, is, whole-is-front shown.held printed.held lines wrote, λ t. (mid.past, found t)),
+  λ t.
+      let has = has-items law old.stored.records s upto lines is in
+      inr (
+        old.stored,
+        may-record law tells first mid now old new s upto (Handed Done None []) has found did t,
+        (lines, is, wrote),
+      ),
+)
 
 -- all went well
 pub consumed-so : IncomingIsAsRecorded → (tells : Bool) (first mid now : Told) (old new : Noded)

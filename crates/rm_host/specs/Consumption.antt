@@ -1,5 +1,5 @@
 -- What consume prints, and what it did to the node that it found.
-use Rattle.std.specs.Prelude.{◌≡◌, ◌⊎◌, ℕ, Bool, false, List, ◌++◌, Result, Ok, Err, IsTrue}
+use Rattle.std.specs.Prelude.{◌≡◌, ◌⊎◌, ℕ, Bool, false, List, ◌++◌, Option, Result, Ok, Err, IsTrue}
 use Rattle.std.specs.Io.KnownBytes.{Appends}
 use Rattle.call_answers.specs.Answers.{cause_seen}
 use Rattle.call_answers.specs.declared.answer.Cause.{Cause}
@@ -78,6 +78,13 @@ pub record WasRefused (tells : Bool) (first now : Told) (shown printed : Stream)
       ⊎ (IsRefusedBy old seq upto why × ((lines : List ℕ) × (passed_answer old.records seq upto ≡ Ok lines)
       × Appends shown.held printed.held lines))
 
+-- nothing was printed; or the items past the cursor of the node that was found were, so far as that says
+abbrev pub PrintsItems : (Wrote : Option (List ℕ) → Option (List ℕ) → List ℕ → Type 0) → (tells : Bool)
+    → (first : Told) → (shown printed : Stream) → (seq upto : ℕ) → Type 0
+PrintsItems Wrote tells first shown printed seq upto =
+    (printed ≡ shown) ⊎ ((old : Stored) × (lines : List ℕ) × (passed_answer old.records seq upto ≡ Ok lines)
+    × Wrote shown.held printed.held lines × (IsTrue tells → (mounted : List Call) × Finds first.past mounted old))
+
 -- Nothing but that record was written, if anything was: a crash leaves no more than one before; or the node that was
 -- found may have recorded it, and then the items were printed before.
 abbrev pub LeavesOrRecords : (tells : Bool) → (first now : Told) → (shown printed : Stream) → (seq upto : ℕ) → Type 0
@@ -91,7 +98,8 @@ pub record HasNoNode (first now : Told) : Type 0 where
   pub none : IsNoNode (seen_of first.past)
   pub moments : OnlyLeaves first.past now.past (MayLeave first.past)
 
--- what consume answers, and what it did before
+-- What consume answers, and what it did before. A fault of the disk comes before the items are printed, or after all
+-- of them were; memory may be wanting at any time.
 abbrev pub Consumption : Bool → (first now : Told) → (shown printed : Stream) → (seq upto : ℕ) → Result (List ℕ) End
     → Type 0
 Consumption tells first now shown printed seq upto (Ok text) = Consumed tells first now shown printed seq upto text
@@ -99,9 +107,12 @@ Consumption tells first now shown printed seq upto (Err end.WriteFault) =
     StoppedPrinting tells first now shown printed seq upto
 Consumption tells first now shown printed seq upto (Err (end.Refused why)) =
     WasRefused tells first now shown printed seq upto why
-Consumption tells first now shown printed seq upto (Err end.NotAJournal) = IsTrue tells → HasNoNode first now
+Consumption tells first now shown printed seq upto (Err end.NotAJournal) =
+    (printed ≡ shown) × (IsTrue tells → HasNoNode first now)
 Consumption tells first now shown printed seq upto (Err end.DiskFault) =
-    LeavesOrRecords tells first now shown printed seq upto
+    PrintsItems Appends tells first shown printed seq upto
+    × LeavesOrRecords tells first now shown printed seq upto
 Consumption tells first now shown printed seq upto (Err end.Memory) =
-    LeavesOrRecords tells first now shown printed seq upto
+    PrintsItems AppendsFront tells first shown printed seq upto
+    × LeavesOrRecords tells first now shown printed seq upto
 Consumption tells first now shown printed seq upto (Err e) = ⊥

@@ -25,7 +25,7 @@ returns-in_err-node-clause-consumes g c =
     let first = told c.args.host.now.disk in
     let now = told c.mount.new.host.disk in
     subst (λ r. Consumption g.D.Disk.tells first now shown shown c.args.seq c.args.upto r) (sym (p.1 ∙ ap Err p.2))
-    (unfound g.D.Disk.tells first now shown shown c.args.seq c.args.upto c.in_err-node.field-0.0
+    (unfound g.D.Disk.tells first now shown c.args.seq c.args.upto c.in_err-node.field-0.0
     c.in_err-node.ensures.which c.in_err-node.ensures.none c.in_err-node.ensures.moments)
 
 pub returns-in_err-items-clause-consumes : goal.returns-in_err-items-clause-consumes
