@@ -113,9 +113,9 @@ did-lose : (tells : Bool) (command : Command) (old new : World) (result : Result
 did-lose tells (Make number address) old new result did sound lost = absurd (made (subst EndsMaking lost did.ends))
 did-lose tells (Serve media service) old new result did sound lost =
     commands tells old.disk new.disk old.link new.link (behaviour_of service.grant)
-    (λ (x z : Place). Serves media service.port service.count old.link new.link) result
-    (λ x z steps acts over. (serves-left media service.port service.count old.link new.link steps result acts
-    sound).over over) did lost
+    (λ (x z : Place). Serves media old.shown service.port service.count old.link new.link) result
+    (λ x z steps acts over. (serves-left media old.shown service.port service.count old.link new.link steps result
+    acts sound).over over) did lost
 did-lose tells (Send to) old new result did sound lost =
     sent tells old.disk new.disk old.link new.link to old.shown old.input.left result did sound lost
 did-lose tells Push old new result did sound lost = called tells old new (λ moment. Tick moment) result did sound lost

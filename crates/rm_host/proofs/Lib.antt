@@ -1,3 +1,4 @@
+mod ClockLemmas
 mod CompactionLemmas
 mod ConsumptionLemmas
 mod DoingLemmas
@@ -5,6 +6,7 @@ mod EndLemmas
 mod ImportationLemmas
 mod MakeLemmas
 mod PostLemmas
+mod RecordLemmas
 mod RowLemmas
 mod RunLemmas
 mod SendLemmas

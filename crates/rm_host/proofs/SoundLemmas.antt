@@ -259,55 +259,58 @@ ticks media moment served old new _ _ (row_goes due steps posted did) sound =
     let r = posts-row media moment (served.outs ++ due) old new steps (Ok posted) did sound in
     record { lasts = r.lasts; over = λ lost. absurd cc }
 
-follows : (media : Media) (old new : Net) (came : Result Served NodeError) (steps : List Step)
-    (result : Result ConnEnd End) → Follows media old new came steps result → old.sound ≡ true
+follows : (media : Media) (shown : Option ℕ) (old new : Net) (came : Result Served NodeError) (steps : List Step)
+    (result : Result ConnEnd End) → Follows media shown old new came steps result → old.sound ≡ true
     → Left old new (result ≡ Err end.LinkFault)
-follows media old new (Ok served) steps result (moment, did) sound =
+follows media shown old new (Ok served) steps result (moment, at, did) sound =
     ticks media moment served old new steps result did sound
-follows media old new (Err e) steps result (same, none, is) sound = record {
+follows media shown old new (Err e) steps result (same, none, is) sound = record {
   lasts = stays old new same sound;
   over = λ lost. absurd (never e (of-error ConnEnd (node_end e) end.LinkFault (sym is ∙ lost)));
 }
 
-serves-one : (media : Media) (first : Stream) (old new : Net) (steps : List Step) (result : Result ConnEnd End)
-    → ServesOne media first old new steps result → old.sound ≡ true → Left old new (result ≡ Err end.LinkFault)
-serves-one media first old new _ _ (serves moment last steps more came result serving after) sound =
-    follows media old new came more result after sound
+serves-one : (media : Media) (shown : Option ℕ) (first : Stream) (old new : Net) (steps : List Step)
+    (result : Result ConnEnd End) → ServesOne media shown first old new steps result → old.sound ≡ true
+    → Left old new (result ≡ Err end.LinkFault)
+serves-one media shown first old new _ _ (serves moment last steps more came result at serving after) sound =
+    follows media shown old new came more result after sound
 
-turn : (media : Media) (old new : Net) (steps : List Step) (result : Result ConnEnd End)
-    → Turn media old new steps result → old.sound ≡ true → Left old new (result ≡ Err end.LinkFault)
-turn media old new _ _ (unconnected did) sound =
+turn : (media : Media) (shown : Option ℕ) (old new : Net) (steps : List Step) (result : Result ConnEnd End)
+    → Turn media shown old new steps result → old.sound ≡ true → Left old new (result ≡ Err end.LinkFault)
+turn media shown old new _ _ (unconnected did) sound =
     record { lasts = connects old new None did.connects sound; over = λ lost. in-vain old new did.connects sound }
-turn media old new _ _ (connected mid first steps result did one) sound =
+turn media shown old new _ _ (connected mid first steps result did one) sound =
     let before = connects old mid (Some (line_of first)) did.connects sound in
-    let r = serves-one media first mid new steps result one before.sound in
+    let r = serves-one media shown first mid new steps result one before.sound in
     record { lasts = onward old mid new before r.lasts; over = r.over }
 
-turns-left : (media : Media) (n : ℕ) (tally : Tally) (old new : Net) (steps : List Step) (result : Result Tally End)
-    → Turns media n tally old new steps result → old.sound ≡ true → Left old new (result ≡ Err end.LinkFault)
-turns-left media _ _ _ _ _ _ (served-all tally net) sound =
+turns-left : (media : Media) (shown : Option ℕ) (n : ℕ) (tally : Tally) (old new : Net) (steps : List Step)
+    (result : Result Tally End) → Turns media shown n tally old new steps result → old.sound ≡ true
+    → Left old new (result ≡ Err end.LinkFault)
+turns-left media shown _ _ _ _ _ _ (served-all tally net) sound =
     record { lasts = stays net net refl sound; over = λ lost. absurd cc }
-turns-left media _ _ _ _ _ _ (ends_with n tally old new steps e did) sound =
-    let r = turn media old new steps (Err e) did sound in
+turns-left media shown _ _ _ _ _ _ (ends_with n tally old new steps e did) sound =
+    let r = turn media shown old new steps (Err e) did sound in
     record {
       lasts = r.lasts;
       over = λ lost. r.over (ap Err (of-error Tally e end.LinkFault lost));
     }
-turns-left media _ _ _ _ _ _ (turns n tally old mid new steps more finish result did after) sound =
-    let before = turn media old mid steps (Ok finish) did sound in
-    let r = turns-left media n (counted tally finish) mid new more result after before.lasts.sound in
+turns-left media shown _ _ _ _ _ _ (turns n tally old mid new steps more finish result did after) sound =
+    let before = turn media shown old mid steps (Ok finish) did sound in
+    let r = turns-left media shown n (counted tally finish) mid new more result after before.lasts.sound in
     record { lasts = onward old mid new before.lasts r.lasts; over = r.over }
 
 -- a sound link hears each port
 hears-it : (old new : Net) (port : ℕ) → Listens old new port true → old.sound ≡ true → ⊥
 hears-it old new port did sound = let no : true ≡ false = (did.sound sound).1 in absurd cc
 
-pub serves-left : (media : Media) (port count : ℕ) (old new : Net) (steps : List Step) (result : Result (List ℕ) End)
-    → Serves media port count old new steps result → old.sound ≡ true → Left old new (result ≡ Err end.LinkFault)
-serves-left media port count old new _ _ (deaf did) sound = absurd (hears-it old new port did sound)
-serves-left media port count old new _ _ (hears mid steps tally result heard did told) sound =
+pub serves-left : (media : Media) (shown : Option ℕ) (port count : ℕ) (old new : Net) (steps : List Step)
+    (result : Result (List ℕ) End) → Serves media shown port count old new steps result → old.sound ≡ true
+    → Left old new (result ≡ Err end.LinkFault)
+serves-left media shown port count old new _ _ (deaf did) sound = absurd (hears-it old new port did sound)
+serves-left media shown port count old new _ _ (hears mid steps tally result heard did told) sound =
     let before = listens old mid port false heard sound in
-    let r = turns-left media count no_tally mid new steps tally did before.sound in
+    let r = turns-left media shown count no_tally mid new steps tally did before.sound in
     record {
       lasts = onward old mid new before r.lasts;
       over = λ lost. r.over (told-lost Tally tally (λ (t : Tally). served_line t.done t.dropped) result told lost);
@@ -352,10 +355,10 @@ reached r to shown old new steps result did sound = by did.posted did.calls did.
         )
 
 -- the payload is sent
-sends-on : (x z : Place) (seq : ℕ) (payload : List ℕ) (old new : Net) (steps : List Step)
-    (result : Result (List ℕ) End) → SendsOn x z seq payload old new steps result → old.sound ≡ true
+sends-on : (x z : Place) (seq : ℕ) (payload : List ℕ) (shown : Option ℕ) (old new : Net) (steps : List Step)
+    (result : Result (List ℕ) End) → SendsOn x z seq payload shown old new steps result → old.sound ≡ true
     → Left old new (result ≡ Err end.LinkFault)
-sends-on x z seq payload old new steps result did sound =
+sends-on x z seq payload shown old new steps result did sound =
     let r = calls-once 0 did.later _ old new steps did.posted did.calls sound in
     record {
       lasts = r.lasts;
@@ -363,15 +366,15 @@ sends-on x z seq payload old new steps result did sound =
     }
 
 -- after the first posts, where those that found no connection left none
-after : (x z : Place) (seq : ℕ) (payload : List ℕ) (old new : Net) (n : ℕ) (steps : List Step)
-    (result : Result (List ℕ) End) → SendsAfter x z seq payload old new n steps result → old.sound ≡ true
+after : (x z : Place) (seq : ℕ) (payload : List ℕ) (shown : Option ℕ) (old new : Net) (n : ℕ) (steps : List Step)
+    (result : Result (List ℕ) End) → SendsAfter x z seq payload shown old new n steps result → old.sound ≡ true
     → ((m : ℕ) → n ≡ suc m → Over old) → result ≡ Err end.LinkFault → Over new
-after x z seq payload old new _ _ _ (at_once steps result did) sound before over =
-    (sends-on x z seq payload old new steps result did sound).over over
-after x z seq payload old new _ _ _ (not-open n closed same) sound before over =
+after x z seq payload shown old new _ _ _ (at_once steps result did) sound before over =
+    (sends-on x z seq payload shown old new steps result did sound).over over
+after x z seq payload shown old new _ _ _ (not-open n closed same) sound before over =
     (stays old new same sound).over (before n refl)
-after x z seq payload old new _ _ _ (late n steps result opened did) sound before over =
-    (sends-on x z seq payload old new steps result did sound).lasts.over (before n refl)
+after x z seq payload shown old new _ _ _ (late n steps result opened did) sound before over =
+    (sends-on x z seq payload shown old new steps result did sound).lasts.over (before n refl)
 
 pub sends-to : (tells : Bool) (x z : Place) (to payload : List ℕ) (shown : Option ℕ) (old new : Net)
     (steps : List Step) (result : Result (List ℕ) End)
@@ -382,7 +385,7 @@ sends-to tells x z to payload shown old new _ _ (sends_not steps e did) sound ov
     (ap Err (of-error (List ℕ) e end.LinkFault over))
 sends-to tells x z to payload shown old new _ _ (sends y mid seq n steps more result made did then_sends) sound over =
     let r = reached x.node.stored.records to shown old mid steps (Ok (seq, n)) did sound in
-    after y z seq payload mid new n more result then_sends r.0.lasts.sound
+    after y z seq payload shown mid new n more result then_sends r.0.lasts.sound
     (λ m same. r.1 seq m (ap (pair seq) same)) over
 
 -- ---- commands
@@ -400,5 +403,5 @@ pub commands : (tells : Bool) (first now : Told) (old new : Net) (granted : Beha
     → Commands tells first now old new granted Acts result → result ≡ Err end.LinkFault → Over new
 commands tells first now old new granted Acts _ left (unfound e none same) over =
     absurd (never-mount e (of-error (List ℕ) (mount_end e) end.LinkFault over))
-commands tells first now old new granted Acts _ left (acted x z steps result found told made acts) over =
+commands tells first now old new granted Acts _ left (acted x z steps result found told made leaves acts) over =
     left x z steps acts over

@@ -57,7 +57,7 @@ Does tells (Make number address) old new result =
     Making tells old.disk new.disk old.link new.link number address result
 Does tells (Serve media service) old new result =
     Commands tells old.disk new.disk old.link new.link (behaviour_of service.grant)
-    (λ x z. Serves media service.port service.count old.link new.link) result
+    (λ x z. Serves media old.shown service.port service.count old.link new.link) result
 Does tells (Send to) old new result =
     SendsRead tells old.disk new.disk old.link new.link to old.shown old.input.left result
 Does tells Push old new result = Calls tells old new (λ moment. Tick moment) result

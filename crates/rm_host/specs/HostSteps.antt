@@ -1,7 +1,6 @@
 -- What commands do: the calls of the node that each makes, in order, over the connections that its link brings.
-use Rattle.std.specs.Prelude.{◌≡◌, ◌⊎◌, ℕ, ◌==◌, if◌then◌else◌, Bool, true, List, [], ◌∷◌, Option, None, Result, Ok}
-use Rattle.std.specs.Prelude.{Err}
-use Rattle.std.specs.Prelude.{IfSome}
+use Rattle.std.specs.Prelude.{◌≡◌, ◌⊎◌, ℕ, ◌==◌, if◌then◌else◌, Bool, true, List, [], ◌∷◌, Option, None, Some, Result}
+use Rattle.std.specs.Prelude.{Ok, Err, IfSome}
 use Rattle.http_endpoint.specs.declared.media.Media.{Media}
 use Rattle.http_endpoint.specs.declared.media.Media.TheVariants.{Soap12}
 use Rattle.node_store.specs.declared.error.MountError.{MountError}
@@ -21,6 +20,7 @@ use Rattle.rm_serve.specs.declared.posting.Posted.{Posted}
 use Rattle.rm_host.specs.Compaction.{failed_end}
 use Rattle.rm_host.specs.Ends.{is_of_call, mount_end, node_end}
 use Rattle.rm_host.specs.Finding.{Found, NotFound}
+use Rattle.rm_host.specs.Records.{LeavesAll}
 use Rattle.rm_host.specs.Texts.{posted_line}
 use Rattle.rm_host.specs.declared.end.End.{End}
 use Rattle.rm_host.specs.declared.end.End.TheVariants.{LinkFault, Memory}
@@ -81,6 +81,10 @@ all_dialled (Err e) = Err e
 abbrev pub IsShown : Option ℕ → ℕ → Type 0
 IsShown shown moment = IfSome shown (λ (m : ℕ). moment ≡ m)
 
+-- a clock shows what it showed, where it told that
+abbrev pub StandsAt : Option ℕ → Option ℕ → Type 0
+StandsAt shown now = IfSome shown (λ (m : ℕ). now ≡ Some m)
+
 -- ---- push, close and end
 
 -- The node is called at a moment, and what it hands out is posted in one row at another, to peers that speak SOAP 1.2.
@@ -105,11 +109,12 @@ pub record Pushes (shown : Option ℕ) (asked : ℕ → Asked) (old new : Net) (
 -- ---- a command with the node that it finds
 
 -- What a command did: no node was found, or its calls were made, one after the other, from the node that was found to
--- the end, and the disk tells what it tells after them.
+-- the end, and the disk tells what it tells after them. What they leave there is what was found, with their records.
 pub data Commands (tells : Bool) (first now : Told) (old new : Net) (granted : Behaviour)
     (Acts : Place → Place → List Step → Result (List ℕ) End → Type 0) : Result (List ℕ) End → Type 0 where
   unfound : (e : MountError) → NotFound tells first now e → new ≡ old
       → Commands tells first now old new granted Acts (Err (mount_end e))
   acted : (x z : Place) (steps : List Step) (result : Result (List ℕ) End)
-      → Found tells first granted x → z.told ≡ now → MakesAll tells x z steps → Acts x z steps result
+      → Found tells first granted x → z.told ≡ now → MakesAll tells x z steps → LeavesAll tells first x z steps
+      → Acts x z steps result
       → Commands tells first now old new granted Acts result

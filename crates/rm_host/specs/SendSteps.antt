@@ -30,11 +30,12 @@ abbrev pub reached_by : ℕ → Result Posted End → Result (ℕ × ℕ) End
 reached_by seq (Ok posted) = Ok (seq, posted.undialled)
 reached_by seq (Err e) = Err e
 
--- the sequence is reached, and what that gives is posted
+-- the sequence is reached, and what that gives is posted at the moment that the clock shows
 pub record Reached (r : List Fact) (to : List ℕ) (shown : Option ℕ) (old new : Net) (steps : List Step)
     (result : Result (ℕ × ℕ) End) : Type 0 where
   pub moment : ℕ
   pub later : ℕ
+  pub clock : IsShown shown later
   pub seq : ℕ
   pub asked : Asked
   pub reaches : Reaches r to shown moment seq asked
@@ -51,10 +52,11 @@ abbrev pub line_at : Place → Place → ℕ → Posted → List ℕ
 line_at x z seq posted =
     sent_line seq (next_number x seq) (is_acked (outgoing_in z.node.stored.records seq) (next_number x seq))
 
--- the payload is accepted, and posted
-pub record SendsOn (x z : Place) (seq : ℕ) (payload : List ℕ) (old new : Net) (steps : List Step)
+-- the payload is accepted, and posted at the moment that the clock shows
+pub record SendsOn (x z : Place) (seq : ℕ) (payload : List ℕ) (shown : Option ℕ) (old new : Net) (steps : List Step)
     (result : Result (List ℕ) End) : Type 0 where
   pub later : ℕ
+  pub clock : IsShown shown later
   pub posted : Result Posted End
   pub calls : CallsOnce 0 later (Send seq payload) old new steps posted
   pub told : IsTold (all_dialled posted) (line_at x z seq) result
@@ -66,15 +68,15 @@ late_end (Err e) = Err e
 
 -- what is done after the first posts: the payload is sent where each of them found a connection, or where the sequence
 -- is open; where one found none, that is the end
-pub data SendsAfter (x z : Place) (seq : ℕ) (payload : List ℕ) (old new : Net) :
+pub data SendsAfter (x z : Place) (seq : ℕ) (payload : List ℕ) (shown : Option ℕ) (old new : Net) :
     (undialled : ℕ) → List Step → Result (List ℕ) End → Type 0 where
-  at_once : (steps : List Step) (result : Result (List ℕ) End) → SendsOn x z seq payload old new steps result
-      → SendsAfter x z seq payload old new 0 steps result
+  at_once : (steps : List Step) (result : Result (List ℕ) End) → SendsOn x z seq payload shown old new steps result
+      → SendsAfter x z seq payload shown old new 0 steps result
   lost : (n : ℕ) → is_open (outgoing_in x.node.stored.records seq) ≡ false → new ≡ old
-      → SendsAfter x z seq payload old new (suc n) [] (Err LinkFault)
+      → SendsAfter x z seq payload shown old new (suc n) [] (Err LinkFault)
   late : (n : ℕ) (steps : List Step) (result : Result (List ℕ) End)
-      → is_open (outgoing_in x.node.stored.records seq) ≡ true → SendsOn x z seq payload old new steps result
-      → SendsAfter x z seq payload old new (suc n) steps (late_end result)
+      → is_open (outgoing_in x.node.stored.records seq) ≡ true → SendsOn x z seq payload shown old new steps result
+      → SendsAfter x z seq payload shown old new (suc n) steps (late_end result)
 
 -- what send does: it reaches the sequence, posts what that gives, and sends the payload
 pub data SendsTo (tells : Bool) (x z : Place) (to payload : List ℕ) (shown : Option ℕ) (old new : Net) :
@@ -83,7 +85,7 @@ pub data SendsTo (tells : Bool) (x z : Place) (to payload : List ℕ) (shown : O
       → SendsTo tells x z to payload shown old new steps (Err e)
   sends : (y : Place) (mid : Net) (seq undialled : ℕ) (steps more : List Step) (result : Result (List ℕ) End)
       → MakesAll tells x y steps → Reached x.node.stored.records to shown old mid steps (Ok (seq, undialled))
-      → SendsAfter y z seq payload mid new undialled more result
+      → SendsAfter y z seq payload shown mid new undialled more result
       → SendsTo tells x z to payload shown old new (steps ++ more) result
 
 -- why no payload was read
@@ -117,8 +119,8 @@ no_text (Ok text) = Ok tt
 no_text (Err e) = Err e
 
 -- where the sequence is open the payload is sent, and else nothing happens
-abbrev pub SendsIfOpen : Place → Place → ℕ → List ℕ → Net → Net → List Step → Result (Unit {0}) End → Type 0
-SendsIfOpen x z seq payload old new steps result =
+abbrev pub SendsIfOpen : Place → Place → ℕ → List ℕ → Option ℕ → Net → Net → List Step → Result (Unit {0}) End → Type 0
+SendsIfOpen x z seq payload shown old new steps result =
     MatchBool (is_open (outgoing_in x.node.stored.records seq))
-    ((text : Result (List ℕ) End) × SendsOn x z seq payload old new steps text × (result ≡ no_text text))
+    ((text : Result (List ℕ) End) × SendsOn x z seq payload shown old new steps text × (result ≡ no_text text))
     ((new ≡ old) × (steps ≡ []) × (result ≡ Ok tt))

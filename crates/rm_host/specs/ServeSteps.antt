@@ -17,7 +17,7 @@ use Rattle.rm_serve.specs.declared.serving.ConnEnd.{ConnEnd}
 use Rattle.rm_serve.specs.declared.serving.Served.{Served}
 use Rattle.rm_host.specs.Ends.{is_of_call, mount_end, node_end}
 use Rattle.rm_host.specs.Finding.{Found, NotFound}
-use Rattle.rm_host.specs.HostSteps.{IsTold, Posts, own_step}
+use Rattle.rm_host.specs.HostSteps.{IsShown, IsTold, Posts, own_step}
 use Rattle.rm_host.specs.Texts.{served_line, well_served}
 use Rattle.rm_host.specs.declared.end.End.{End}
 use Rattle.rm_host.specs.declared.end.End.TheVariants.{LinkFault, Memory}
@@ -37,17 +37,21 @@ pub data Ticks (media : Media) (moment : ℕ) (served : Served) (old new : Net)
       → Posts media moment (served.outs ++ due) old new steps (Ok posted)
       → Ticks media moment served old new (own_step moment (Tick moment) (Ok due) ∷ steps) (Ok served.finish)
 
--- what follows a connection that was served; or a call of the node failed while it was, and that is the end
-abbrev pub Follows : Media → Net → Net → Result Served NodeError → List Step → Result ConnEnd End → Type 0
-Follows media old new (Ok served) steps result = (moment : ℕ) × Ticks media moment served old new steps result
-Follows media old new (Err e) steps result = (new ≡ old) × (steps ≡ []) × (result ≡ Err (node_end e))
+-- what follows a connection that was served, at the moment that the clock shows; or a call of the node failed while it
+-- was, and that is the end
+abbrev pub Follows : Media → Option ℕ → Net → Net → Result Served NodeError → List Step → Result ConnEnd End → Type 0
+Follows media shown old new (Ok served) steps result =
+    (moment : ℕ) × IsShown shown moment × Ticks media moment served old new steps result
+Follows media shown old new (Err e) steps result = (new ≡ old) × (steps ≡ []) × (result ≡ Err (node_end e))
 
--- the request on a connection is answered, and after it comes a tick
-pub data ServesOne (media : Media) (first : Stream) (old new : Net) : List Step → Result ConnEnd End → Type 0 where
+-- the request on a connection is answered at the moment that the clock shows, and after it comes a tick
+pub data ServesOne (media : Media) (shown : Option ℕ) (first : Stream) (old new : Net)
+    : List Step → Result ConnEnd End → Type 0 where
   serves : (moment : ℕ) (last : Stream) (steps more : List Step) (came : Result Served NodeError)
       (result : Result ConnEnd End)
-      → ServingAs media moment first last steps came → Follows media old new came more result
-      → ServesOne media first old new (steps ++ more) result
+      → IsShown shown moment → ServingAs media moment first last steps came
+      → Follows media shown old new came more result
+      → ServesOne media shown first old new (steps ++ more) result
 
 -- a connection that comes is taken, where one does: the link is asked for nothing else
 pub record Accepts (old new : Net) (line : Option Line) : Type 0 where
@@ -55,11 +59,11 @@ pub record Accepts (old new : Net) (line : Option Line) : Type 0 where
   pub past : new.past ≡ old.past
 
 -- one connection is taken and served
-pub data Turn (media : Media) (old new : Net) : List Step → Result ConnEnd End → Type 0 where
-  unconnected : Accepts old new None → Turn media old new [] (Err LinkFault)
+pub data Turn (media : Media) (shown : Option ℕ) (old new : Net) : List Step → Result ConnEnd End → Type 0 where
+  unconnected : Accepts old new None → Turn media shown old new [] (Err LinkFault)
   connected : (mid : Net) (first : Stream) (steps : List Step) (result : Result ConnEnd End)
-      → Accepts old mid (Some (line_of first)) → ServesOne media first mid new steps result
-      → Turn media old new steps result
+      → Accepts old mid (Some (line_of first)) → ServesOne media shown first mid new steps result
+      → Turn media shown old new steps result
 
 -- no connection was served
 abbrev pub no_tally : Tally
@@ -71,22 +75,24 @@ counted tally finish =
     record { done = tally.done + well_served finish; dropped = tally.dropped + (1 - well_served finish) }
 
 -- so many connections are taken, one after the other, after some that were; fewer only where it ends before
-pub data Turns (media : Media) : ℕ → Tally → Net → Net → List Step → Result Tally End → Type 0 where
-  over : (tally : Tally) (net : Net) → Turns media 0 tally net net [] (Ok tally)
-  ends_with : (n : ℕ) (tally : Tally) (old new : Net) (steps : List Step) (e : End) → Turn media old new steps (Err e)
-      → Turns media (suc n) tally old new steps (Err e)
+pub data Turns (media : Media) (shown : Option ℕ)
+    : ℕ → Tally → Net → Net → List Step → Result Tally End → Type 0 where
+  over : (tally : Tally) (net : Net) → Turns media shown 0 tally net net [] (Ok tally)
+  ends_with : (n : ℕ) (tally : Tally) (old new : Net) (steps : List Step) (e : End)
+      → Turn media shown old new steps (Err e) → Turns media shown (suc n) tally old new steps (Err e)
   turns : (n : ℕ) (tally : Tally) (old mid new : Net) (steps more : List Step) (finish : ConnEnd)
       (result : Result Tally End)
-      → Turn media old mid steps (Ok finish) → Turns media n (counted tally finish) mid new more result
-      → Turns media (suc n) tally old new (steps ++ more) result
+      → Turn media shown old mid steps (Ok finish) → Turns media shown n (counted tally finish) mid new more result
+      → Turns media shown (suc n) tally old new (steps ++ more) result
 
--- what they do: the node listens, and takes so many connections
-pub data Serves (media : Media) (port count : ℕ) (old new : Net) : List Step → Result (List ℕ) End → Type 0 where
-  deaf : Listens old new port true → Serves media port count old new [] (Err LinkFault)
+-- what they do: the node listens, and takes so many connections, each at the moments that the clock shows
+pub data Serves (media : Media) (shown : Option ℕ) (port count : ℕ) (old new : Net)
+    : List Step → Result (List ℕ) End → Type 0 where
+  deaf : Listens old new port true → Serves media shown port count old new [] (Err LinkFault)
   hears : (mid : Net) (steps : List Step) (tally : Result Tally End) (result : Result (List ℕ) End)
-      → Listens old mid port false → Turns media count no_tally mid new steps tally
+      → Listens old mid port false → Turns media shown count no_tally mid new steps tally
       → IsTold tally (λ (t : Tally). served_line t.done t.dropped) result
-      → Serves media port count old new steps result
+      → Serves media shown port count old new steps result
 
 -- ---- inside
 

@@ -119,6 +119,7 @@ pub(crate) fn tick<D: Disk, L: Link, C>(
         (place_of (D.told host.new.disk) node.new) (L.told host.old.link)
         (L.told host.new.link) (own_step now (Tick now) result) }
     ensures of_call { IfErr result (λ e. is_of_call e ≡ true) }
+    ensures clock { host.new.clock ≡ host.old.clock }
     ensures reason { HasReason (faults_of D.told L.told host.old) (faults_of D.told L.told host.new) result }
     ensures inner { is_outer result ≡ false }
 {
@@ -139,6 +140,7 @@ pub(crate) fn close_node<D: Disk, L: Link, C>(
         (place_of (D.told host.new.disk) node.new) (L.told host.old.link)
         (L.told host.new.link) (own_step now (Close seq) result) }
     ensures of_call { IfErr result (λ e. is_of_call e ≡ true) }
+    ensures clock { host.new.clock ≡ host.old.clock }
     ensures reason { HasReason (faults_of D.told L.told host.old) (faults_of D.told L.told host.new) result }
     ensures inner { is_outer result ≡ false }
 {
@@ -158,6 +160,7 @@ pub(crate) fn end_node<D: Disk, L: Link, C>(
         (place_of (D.told host.new.disk) node.new) (L.told host.old.link)
         (L.told host.new.link) (own_step 0 (Finish seq) result) }
     ensures of_call { IfErr result (λ e. is_of_call e ≡ true) }
+    ensures clock { host.new.clock ≡ host.old.clock }
     ensures reason { HasReason (faults_of D.told L.told host.old) (faults_of D.told L.told host.new) result }
     ensures inner { is_outer result ≡ false }
 {
@@ -179,6 +182,7 @@ pub(crate) fn create<D: Disk, L: Link, C>(
         (L.told host.new.link)
         (own_step 0 (Create (back_wish to)) (outs_in (λ made. made.outs) result)) }
     ensures of_call { IfErr result (λ e. is_of_call e ≡ true) }
+    ensures clock { host.new.clock ≡ host.old.clock }
     ensures reason { HasReason (faults_of D.told L.told host.old) (faults_of D.told L.told host.new) result }
     ensures inner { is_outer result ≡ false }
 {
@@ -231,6 +235,7 @@ pub(crate) fn accept_payload<D: Disk, L: Link, C>(
         (L.told host.new.link)
         (own_step 0 (Send seq payload) (outs_in (λ sent. sent.outs) result)) }
     ensures of_call { IfErr result (λ e. is_of_call e ≡ true) }
+    ensures clock { host.new.clock ≡ host.old.clock }
     ensures reason { HasReason (faults_of D.told L.told host.old) (faults_of D.told L.told host.new) result }
     ensures inner { is_outer result ≡ false }
 {
@@ -275,6 +280,7 @@ pub(crate) fn post<D: Disk, L: Link, C>(
         × Posts media now outs (L.told host.old.link) (L.told host.new.link) steps result }
     ensures undialled { IfOk result (λ posted. 0 < posted.undialled
         → Rose (L.told host.old.link).faults (L.told host.new.link).faults) }
+    ensures clock { host.new.clock ≡ host.old.clock }
     ensures reason { HasReason (faults_of D.told L.told host.old) (faults_of D.told L.told host.new) result }
     ensures inner { is_outer result ≡ false }
 {
@@ -304,6 +310,7 @@ pub(crate) fn post_all<D: Disk, L: Link, C>(
         × Posts Media.Soap12 now outs (L.told host.old.link) (L.told host.new.link) steps posted
         × (result ≡ all_dialled posted) }
     ensures dialled { IfOk result (λ posted. posted.undialled ≡ 0) }
+    ensures clock { host.new.clock ≡ host.old.clock }
     ensures reason { HasReason (faults_of D.told L.told host.old) (faults_of D.told L.told host.new) result }
     ensures inner { is_outer result ≡ false }
 {
@@ -330,6 +337,7 @@ pub(crate) fn serve_conn<D: Disk, L: Link, C>(
         × (last : Stream) × (came : Result Served NodeError)
         × ServingAs media now (L.Conn.Source.told conn) last steps came × (result ≡ as_end came) }
     ensures link { L.told host.new.link ≡ L.told host.old.link }
+    ensures clock { host.new.clock ≡ host.old.clock }
     ensures reason { HasReason (faults_of D.told L.told host.old) (faults_of D.told L.told host.new) result }
     ensures inner { is_outer result ≡ false }
 {

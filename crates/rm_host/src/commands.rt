@@ -17,6 +17,7 @@ use crate::calls::{close_node, compact_node, end_node, make_node, mount, post_al
 use crate::end::End;
 use crate::host::Host;
 use crate::items::push_inbox;
+use crate::laws::a_command_leaves_its_records;
 use call_answers::Cause;
 use node_tables::Tables;
 use rm_base::{Blob, Clock, Memory, Uri, push_decimal};
@@ -75,6 +76,7 @@ pub fn push<D: Disk, L: Link, C: Clock>(
     ensures reason { HasReason (faults_of D.told L.told host.old) (faults_of D.told L.told host.new) result }
     ensures inner { is_outer result ≡ false }
 {
+    a_command_leaves_its_records();
     let mut node = mount(alloc, host)?;
     let now = host.clock.now();
     let outs = tick(host, &mut node, now)?;
@@ -94,6 +96,7 @@ pub fn close<D: Disk, L: Link, C: Clock>(
     ensures reason { HasReason (faults_of D.told L.told host.old) (faults_of D.told L.told host.new) result }
     ensures inner { is_outer result ≡ false }
 {
+    a_command_leaves_its_records();
     let mut node = mount(alloc, host)?;
     let now = host.clock.now();
     let outs = close_node(host, &mut node, seq, now)?;
@@ -113,6 +116,7 @@ pub fn end<D: Disk, L: Link, C: Clock>(
     ensures reason { HasReason (faults_of D.told L.told host.old) (faults_of D.told L.told host.new) result }
     ensures inner { is_outer result ≡ false }
 {
+    a_command_leaves_its_records();
     let mut node = mount(alloc, host)?;
     let now = host.clock.now();
     let outs = end_node(host, &mut node, seq)?;
@@ -164,6 +168,7 @@ pub fn inbox<D: Disk, L: Link, C: Clock>(
     ensures reason { HasReason (faults_of D.told L.told host.old) (faults_of D.told L.told host.new) result }
     ensures inner { is_outer result ≡ false }
 {
+    a_command_leaves_its_records();
     let node = mount(alloc, host)?;
     inbox_text(alloc, node.tables(), seq)
 }

@@ -5,7 +5,7 @@ ghost use Rattle.rm_base.specs.Limits.{payload_bytes};
 ghost use Rattle.rm_base.specs.declared.message.Behaviour.TheVariants.{FollowingFirstGap};
 ghost use Rattle.rm_serve.specs.Steps.{IsUp, MakesAll, Step, place_of};
 ghost use Rattle.rm_host.specs.Ends.{HasReason, Took, faults_of, is_of_call, is_outer};
-ghost use Rattle.rm_host.specs.HostSteps.{Commands};
+ghost use Rattle.rm_host.specs.HostSteps.{Commands, StandsAt};
 ghost use Rattle.rm_host.specs.SendSteps.{Begins, Reached, SendsIfOpen, SendsOn, SendsRead, SendsTo};
 ghost use Rattle.rm_host.specs.Sequences.{IsFirstTo, goes_to, is_acked, is_open, is_open_phase, is_usable};
 ghost use Rattle.rm_host.specs.Sequences.{is_usable_phase, may_carry};
@@ -16,6 +16,7 @@ ghost use Rattle.node_tables.specs.Reads.{outgoing_in};
 use crate::calls::{accept_payload, create, mount, post, post_all, tick};
 use crate::end::End;
 use crate::host::Host;
+use crate::laws::a_command_leaves_its_records;
 use http_endpoint::Media;
 use node_tables::{Peer, Tables};
 use rm_base::limits::PAYLOAD_BYTES;
@@ -61,6 +62,7 @@ fn send_payload<D: Disk, L: Link, C: Clock>(
     ensures reason { HasReason (faults_of D.told L.told host.old) (faults_of D.told L.told host.new) result }
     ensures inner { is_outer result ≡ false }
 {
+    a_command_leaves_its_records();
     let mut node = mount(alloc, host)?;
     let (seq, missed) = reach(alloc, host, &mut node, to)?;
     if missed == 0 {
@@ -82,7 +84,7 @@ fn send_if_open<D: Disk, L: Link, C: Clock>(
     ensures sends { (steps : List Step) × MakesAll D.tells (place_of (D.told host.old.disk) node.old)
         (place_of (D.told host.new.disk) node.new) steps
         × SendsIfOpen (place_of (D.told host.old.disk) node.old)
-        (place_of (D.told host.new.disk) node.new) seq payload (L.told host.old.link)
+        (place_of (D.told host.new.disk) node.new) seq payload (C.next host.old.clock) (L.told host.old.link)
         (L.told host.new.link) steps result }
     ensures reason { HasReason (faults_of D.told L.told host.old) (faults_of D.told L.told host.new) result }
     ensures inner { is_outer result ≡ false }
@@ -106,7 +108,7 @@ fn send_on<D: Disk, L: Link, C: Clock>(
     ensures sends { (steps : List Step) × MakesAll D.tells (place_of (D.told host.old.disk) node.old)
         (place_of (D.told host.new.disk) node.new) steps
         × SendsOn (place_of (D.told host.old.disk) node.old)
-        (place_of (D.told host.new.disk) node.new) seq payload (L.told host.old.link)
+        (place_of (D.told host.new.disk) node.new) seq payload (C.next host.old.clock) (L.told host.old.link)
         (L.told host.new.link) steps result }
     ensures reason { HasReason (faults_of D.told L.told host.old) (faults_of D.told L.told host.new) result }
     ensures inner { is_outer result ≡ false }
@@ -133,6 +135,7 @@ fn reach<D: Disk, L: Link, C: Clock>(
         (place_of (D.told host.new.disk) node.new) steps
         × Reached node.old.stored.records to (C.next host.old.clock) (L.told host.old.link)
         (L.told host.new.link) steps result }
+    ensures stands { StandsAt (C.next host.old.clock) (C.next host.new.clock) }
     ensures reason { HasReason (faults_of D.told L.told host.old) (faults_of D.told L.told host.new) result }
     ensures inner { is_outer result ≡ false }
 {
@@ -154,6 +157,7 @@ fn begin<D: Disk, L: Link, C: Clock>(
         (place_of (D.told host.new.disk) node.new) to (C.next host.old.clock) (L.told host.old.link)
         (L.told host.new.link) result }
     ensures of_call { IfErr result (λ e. is_of_call e ≡ true) }
+    ensures stands { StandsAt (C.next host.old.clock) (C.next host.new.clock) }
     ensures reason { HasReason (faults_of D.told L.told host.old) (faults_of D.told L.told host.new) result }
     ensures inner { is_outer result ≡ false }
 {

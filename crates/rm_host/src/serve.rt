@@ -4,7 +4,7 @@ ghost use Rattle.rm_link.specs.Lines.{Listens};
 ghost use Rattle.rm_serve.specs.Steps.{IsUp, MakesAll, Step, place_of};
 ghost use Rattle.rm_host.specs.Ends.{HasReason, faults_of, is_outer};
 ghost use Rattle.rm_host.specs.Finding.{Found};
-ghost use Rattle.rm_host.specs.HostSteps.{Commands};
+ghost use Rattle.rm_host.specs.HostSteps.{Commands, StandsAt};
 ghost use Rattle.rm_host.specs.ServeSteps.{Serves, ServesOne, StaysDeaf, Turn, counted};
 ghost use Rattle.rm_host.specs.Texts.{IsTally, served_line};
 ghost use Rattle.rm_host.specs.Words.{behaviour_of};
@@ -12,6 +12,7 @@ ghost use Rattle.rm_host.specs.Words.{behaviour_of};
 use crate::calls::{mount, post, serve_conn, tick};
 use crate::end::End;
 use crate::host::Host;
+use crate::laws::a_command_leaves_its_records;
 use crate::words::Service;
 use http_endpoint::Media;
 use rm_base::{Blob, Clock, Memory, push_decimal};
@@ -38,11 +39,13 @@ pub fn serve<D: Disk, L: Link, C: Clock>(
 ) -> Result<Blob, End>
     ensures does { Commands D.tells (D.told host.old.disk) (D.told host.new.disk) (L.told host.old.link)
         (L.told host.new.link) (behaviour_of service.grant)
-        (λ x z. Serves media service.port service.count (L.told host.old.link) (L.told host.new.link)) result }
+        (λ x z. Serves media (C.next host.old.clock) service.port service.count (L.told host.old.link)
+        (L.told host.new.link)) result }
     ensures tally { IfOk result (IsTally service.count) }
     ensures reason { HasReason (faults_of D.told L.told host.old) (faults_of D.told L.told host.new) result }
     ensures inner { is_outer result ≡ false }
 {
+    a_command_leaves_its_records();
     let mut node = open(alloc, host, service)?;
     let mut tally = Tally {
         done: 0,
@@ -89,6 +92,7 @@ fn open<D: Disk, L: Link, C>(
         (L.told host.old.link)
         (L.told host.new.link) service.port (behaviour_of service.grant)) }
     ensures up { IfOk result (λ node. IsUp D.tells (place_of (D.told host.new.disk) node)) }
+    ensures clock { host.new.clock ≡ host.old.clock }
     ensures reason { HasReason (faults_of D.told L.told host.old) (faults_of D.told L.told host.new) result }
     ensures inner { is_outer result ≡ false }
 {
@@ -110,7 +114,8 @@ fn turn<D: Disk, L: Link, C: Clock>(
     requires { IsUp D.tells (place_of (D.told host.old.disk) node.old) }
     ensures turn { (steps : List Step) × MakesAll D.tells (place_of (D.told host.old.disk) node.old)
         (place_of (D.told host.new.disk) node.new) steps
-        × Turn media (L.told host.old.link) (L.told host.new.link) steps result }
+        × Turn media (C.next host.old.clock) (L.told host.old.link) (L.told host.new.link) steps result }
+    ensures stands { StandsAt (C.next host.old.clock) (C.next host.new.clock) }
     ensures up { OnOk result (IsUp D.tells (place_of (D.told host.new.disk) node.new)) }
     ensures reason { HasReason (faults_of D.told L.told host.old) (faults_of D.told L.told host.new) result }
     ensures inner { is_outer result ≡ false }
@@ -132,7 +137,9 @@ fn take<D: Disk, L: Link, C: Clock>(
     requires { IsUp D.tells (place_of (D.told host.old.disk) node.old) }
     ensures serves { (steps : List Step) × MakesAll D.tells (place_of (D.told host.old.disk) node.old)
         (place_of (D.told host.new.disk) node.new) steps
-        × ServesOne media (L.Conn.Source.told conn) (L.told host.old.link) (L.told host.new.link) steps result }
+        × ServesOne media (C.next host.old.clock) (L.Conn.Source.told conn) (L.told host.old.link)
+        (L.told host.new.link) steps result }
+    ensures stands { StandsAt (C.next host.old.clock) (C.next host.new.clock) }
     ensures up { OnOk result (IsUp D.tells (place_of (D.told host.new.disk) node.new)) }
     ensures reason { HasReason (faults_of D.told L.told host.old) (faults_of D.told L.told host.new) result }
     ensures inner { is_outer result ≡ false }

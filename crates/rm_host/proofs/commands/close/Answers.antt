@@ -4,9 +4,10 @@ use Rattle.rm_base.specs.declared.message.Behaviour.TheVariants.{FollowingFirstG
 use Rattle.rm_link.specs.Lines.{Net}
 use Rattle.rm_node.specs.Asked.{Close}
 use Rattle.rm_serve.specs.Steps.{Place, place_of}
+use Rattle.rm_host.proofs.RecordLemmas.{acted-so}
 use Rattle.rm_host.proofs.RowLemmas.{then-all}
 use Rattle.rm_host.specs.Ends.{faults_of}
-use Rattle.rm_host.specs.HostSteps.{CallsOnce, Commands, IsShown, Pushes, acted, fails, own_step, posts, unfound}
+use Rattle.rm_host.specs.HostSteps.{CallsOnce, Commands, IsShown, Pushes, fails, own_step, posts, unfound}
 use Rattle.rm_host.proofs.EndLemmas.{hands, then}
 use Rattle.rm_host.proofs.commands.close.Goals as goal
 
@@ -46,7 +47,8 @@ returns-in_err-outs-clause-does g c =
     let p = err_from_is_err_and r.result r.ensures.1 in
     let calls = c.in_err-outs.ensures.calls in
     let e = c.in_err-outs.field-0.0 in
-    acted (place_of (told c.mount.new.host.disk) _) (place_of (told c.close_node.new.host.disk) _) _ r.result
+    acted-so c.a_command_leaves_its_records.ensures
+    (place_of (told c.mount.new.host.disk) _) (place_of (told c.close_node.new.host.disk) _) _ r.result
     c.in_ok-node.ensures.mounted refl calls.steps
     (record {
       moment = c.now-now.result;
@@ -64,7 +66,8 @@ returns-clause-does g c =
     let calls = c.in_ok-outs.ensures.calls in
     let did = c.told.ensures.posts in
     let outs = c.in_ok-outs.outs in
-    acted (place_of (told c.mount.new.host.disk) _) (place_of (told c.told.new.host.disk) _) _ c.told.result
+    acted-so c.a_command_leaves_its_records.ensures
+    (place_of (told c.mount.new.host.disk) _) (place_of (told c.told.new.host.disk) _) _ c.told.result
     c.in_ok-node.ensures.mounted refl
     (then-all g.D.Disk.tells _ _ _ _ did.0 calls.steps did.1)
     (record {

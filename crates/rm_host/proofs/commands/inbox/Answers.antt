@@ -2,9 +2,10 @@ use Rattle.std.proofs.Common.{◌≡◌, ◌∙◌, ◌⊎◌, Err, [], ap, refl
 use Rattle.std.proofs.lemmas.Result.{err_from_is_err_and}
 use Rattle.rm_base.specs.declared.message.Behaviour.TheVariants.{FollowingFirstGap}
 use Rattle.rm_serve.specs.Steps.{Place, place_of}
+use Rattle.rm_host.proofs.RecordLemmas.{acted-so}
 use Rattle.rm_host.proofs.RowLemmas.{no-step}
 use Rattle.rm_host.specs.Ends.{faults_of}
-use Rattle.rm_host.specs.HostSteps.{Commands, acted, unfound}
+use Rattle.rm_host.specs.HostSteps.{Commands, unfound}
 use Rattle.rm_host.specs.Makings.{TellsInbox}
 use Rattle.rm_host.specs.Sequences.{inbox_answer}
 use Rattle.rm_host.specs.declared.end.End.TheVariants.{Memory}
@@ -30,7 +31,7 @@ returns-in_err-node-clause-does g c =
 pub returns-clause-does : goal.returns-clause-does
 returns-clause-does g c =
     let x = place_of (g.D.Disk.told c.mount.new.host.disk) c.in_ok-node.node in
-    acted x x [] c.inbox_text.result c.in_ok-node.ensures.mounted refl
+    acted-so c.a_command_leaves_its_records.ensures x x [] c.inbox_text.result c.in_ok-node.ensures.mounted refl
     (no-step g.D.Disk.tells x x (record { node = refl; told = λ t. refl }))
     (record {
       none = refl;

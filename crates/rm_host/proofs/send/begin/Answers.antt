@@ -8,6 +8,7 @@ use Rattle.rm_host.specs.HostSteps.{back_wish}
 use Rattle.rm_host.specs.SendSteps.{Begins, begins, reuses}
 use Rattle.rm_host.specs.Sequences.{IsFirstTo}
 use Rattle.rm_host.specs.declared.end.End.{End}
+use Rattle.rm_host.proofs.ClockLemmas.{stands-alike, stands-still}
 use Rattle.rm_host.proofs.send.begin.Goals as goal
 
 pub returns-in_err-tick-in-Some-clause-begins : goal.returns-in_err-tick-in-Some-clause-begins
@@ -85,3 +86,16 @@ returns-in_err-made-in-None-clause-of_call g c =
     let p = err_from_is_err_and r.result r.ensures.1 in
     subst (λ x. IfErr x (λ (e : End). is_of_call e ≡ true)) (sym (p.1 ∙ ap Err p.2))
     c.in_err-made-in-None.ensures.of_call
+
+pub returns-in_ok-tick-in-Some-clause-stands : goal.returns-in_ok-tick-in-Some-clause-stands
+returns-in_ok-tick-in-Some-clause-stands g c =
+    let next = g.C.Clock.next in
+    stands-alike (next c.args.host.now.clock) (next c.now-now.new.self) (next c.tick.new.host.clock)
+    c.now-now.ensures.still (ap next c.in_ok-tick-in-Some.ensures.clock)
+
+pub returns-in_ok-made-in-None-clause-stands : goal.returns-in_ok-made-in-None-clause-stands
+returns-in_ok-made-in-None-clause-stands g c =
+    let next = g.C.Clock.next in
+    let shown = next c.args.host.now.clock in
+    stands-alike shown shown (next c.create.new.host.clock) (stands-still shown)
+    (ap next c.in_ok-made-in-None.ensures.clock)

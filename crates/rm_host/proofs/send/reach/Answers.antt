@@ -1,5 +1,6 @@
 use Rattle.std.proofs.Common.{◌∙◌, Err, Ok, ap, refl}
 use Rattle.std.proofs.lemmas.Result.{err_from_is_err_and}
+use Rattle.rm_host.proofs.ClockLemmas.{shown-then, some-shown, stands-alike, stands-on}
 use Rattle.rm_host.proofs.RowLemmas.{then-all}
 use Rattle.rm_host.specs.Ends.{faults_of}
 use Rattle.rm_host.specs.HostSteps.{fails}
@@ -35,12 +36,14 @@ returns-in_err-seq-clause-reached g c =
     let r = c.from_residual in
     let p = err_from_is_err_and r.result r.ensures.1 in
     let began = c.in_err-seq.ensures.begins in
+    let some = some-shown (g.C.Clock.next c.args.host.now.clock) in
     let e = c.in_err-seq.field-0.0 in (
       _,
       began.calls.steps,
       record {
         moment = began.moment;
-        later = 0;
+        later = some.0;
+        clock = some.1;
         seq = began.seq;
         asked = began.asked;
         reaches = began.reaches;
@@ -55,6 +58,7 @@ returns-in_err-posted-clause-reached g c =
     let r = c.from_residual-in_err-posted in
     let p = err_from_is_err_and r.result r.ensures.1 in
     let net = g.L.Link.told in
+    let next = g.C.Clock.next in
     let began = c.in_ok-seq.ensures.begins in
     let did = c.in_err-posted.ensures.posts in
     let e = c.in_err-posted.field-0.0 in (
@@ -63,6 +67,8 @@ returns-in_err-posted-clause-reached g c =
       record {
         moment = began.moment;
         later = c.now-now.result;
+        clock = shown-then (next c.args.host.now.clock) (next c.begin.new.host.clock) c.now-now.result
+            c.in_ok-seq.ensures.stands c.now-now.ensures.told;
         seq = began.seq;
         asked = began.asked;
         reaches = began.reaches;
@@ -76,6 +82,7 @@ returns-in_err-posted-clause-reached g c =
 pub returns-clause-reached : goal.returns-clause-reached
 returns-clause-reached g c =
     let net = g.L.Link.told in
+    let next = g.C.Clock.next in
     let began = c.in_ok-seq.ensures.begins in
     let did = c.in_ok-posted.ensures.posts in
     let posted = c.in_ok-posted.posted in (
@@ -84,6 +91,8 @@ returns-clause-reached g c =
       record {
         moment = began.moment;
         later = c.now-now.result;
+        clock = shown-then (next c.args.host.now.clock) (next c.begin.new.host.clock) c.now-now.result
+            c.in_ok-seq.ensures.stands c.now-now.ensures.told;
         seq = began.seq;
         asked = began.asked;
         reaches = began.reaches;
@@ -93,3 +102,12 @@ returns-clause-reached g c =
         is = ap (λ s. Ok (s, posted.undialled)) began.is;
       },
     )
+
+pub returns-clause-stands : goal.returns-clause-stands
+returns-clause-stands g c =
+    let next = g.C.Clock.next in
+    let shown = next c.args.host.now.clock in
+    let then_ = next c.now-now.new.self in
+    stands-alike shown then_ (next c.post.new.host.clock)
+    (stands-on shown (next c.begin.new.host.clock) then_ c.in_ok-seq.ensures.stands c.now-now.ensures.still)
+    (ap next c.in_ok-posted.ensures.clock)

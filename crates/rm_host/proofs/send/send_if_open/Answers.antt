@@ -13,7 +13,7 @@ returns-then-not-is_open-clause-sends g c =
     let x = place_of (told c.args.host.now.disk) c.args.node.now in (
       [],
       no-step g.D.Disk.tells x x (record { node = refl; told = λ t. refl }),
-      shut x x c.args.seq c.args.payload (g.L.Link.told c.args.host.now.link)
+      shut x x c.args.seq c.args.payload (g.C.Clock.next c.args.host.now.clock) (g.L.Link.told c.args.host.now.link)
           (subst (λ r. is_open (outgoing_in r c.args.seq) ≡ false) c.tables.ensures
           (sym c.is_open.ensures ∙ c.if-not-is_open.true)),
     )
@@ -28,7 +28,8 @@ returns-in_err-send_on-clause-sends g c =
     let on = c.in_err-send_on.ensures.sends in (
       on.0,
       on.1,
-      open-ended x z c.args.seq c.args.payload (net c.args.host.now.link) (net c.send_on.new.host.link) on.0
+      open-ended x z c.args.seq c.args.payload (g.C.Clock.next c.args.host.now.clock) (net c.args.host.now.link)
+          (net c.send_on.new.host.link) on.0
           (Err c.in_err-send_on.field-0.0) c.from_residual.result
           (subst (λ r. is_open (outgoing_in r c.args.seq) ≡ true) c.tables.ensures
           (sym c.is_open.ensures ∙ c.if-not-is_open.false))
@@ -44,7 +45,8 @@ returns-clause-sends g c =
     let on = c.in_ok-send_on.ensures.sends in (
       on.0,
       on.1,
-      open-ended x z c.args.seq c.args.payload (net c.args.host.now.link) (net c.send_on.new.host.link) on.0
+      open-ended x z c.args.seq c.args.payload (g.C.Clock.next c.args.host.now.clock) (net c.args.host.now.link)
+          (net c.send_on.new.host.link) on.0
           (Ok c.in_ok-send_on.field-0) (Ok tt)
           (subst (λ r. is_open (outgoing_in r c.args.seq) ≡ true) c.tables.ensures
           (sym c.is_open.ensures ∙ c.if-not-is_open.false))

@@ -2,6 +2,7 @@ use Rattle.std.proofs.Common.{◌∙◌, Err, Ok, ap, inl, inr, subst}
 use Rattle.std.proofs.lemmas.Result.{err_from_is_err_and}
 use Rattle.rm_node.specs.Asked.{Send}
 use Rattle.rm_serve.specs.Steps.{place_of}
+use Rattle.rm_host.proofs.ClockLemmas.{shown-then, some-shown, stands-alike, stands-still}
 use Rattle.rm_host.proofs.RowLemmas.{then-all}
 use Rattle.rm_host.specs.Ends.{faults_of}
 use Rattle.rm_host.specs.HostSteps.{IsTold, fails}
@@ -42,7 +43,17 @@ returns-in_err-sent-clause-sends g c =
     let calls = c.in_err-sent.ensures.calls in
     let e = c.in_err-sent.field-0.0 in
     let of_call = c.in_err-sent.ensures.of_call in
-    (_, calls.steps, record { later = 0; posted = Err e; calls = fails e of_call calls.link; told = p.1 ∙ ap Err p.2 })
+    let some = some-shown (g.C.Clock.next c.args.host.now.clock) in (
+      _,
+      calls.steps,
+      record {
+        later = some.0;
+        clock = some.1;
+        posted = Err e;
+        calls = fails e of_call calls.link;
+        told = p.1 ∙ ap Err p.2;
+      },
+    )
 
 pub returns-in_err-post_all-clause-sends : goal.returns-in_err-post_all-clause-sends
 returns-in_err-post_all-clause-sends g c =
@@ -52,12 +63,17 @@ returns-in_err-post_all-clause-sends g c =
     let net = g.L.Link.told in
     let x = place_of (told c.args.host.now.disk) c.args.node.now in
     let z = place_of (told c.post_all.new.host.disk) c.post_all.new.node in
+    let next = g.C.Clock.next in
+    let shown = next c.args.host.now.clock in
     let calls = c.in_ok-sent.ensures.calls in
     let did = c.in_err-post_all.ensures.posts in (
       _,
       then-all g.D.Disk.tells _ _ _ _ did.0 calls.steps did.1,
       record {
         later = c.now-now.result;
+        clock = shown-then shown (next c.accept_payload.new.host.clock) c.now-now.result
+            (stands-alike shown shown (next c.accept_payload.new.host.clock) (stands-still shown)
+            (ap next c.in_ok-sent.ensures.clock)) c.now-now.ensures.told;
         posted = did.2;
         calls = then-posts 0 c.now-now.result (Send c.args.seq c.args.payload) _ _ (net c.post_all.new.host.link)
             c.in_ok-sent.sent.outs did.0 did.2 calls.link did.3;
@@ -73,12 +89,17 @@ returns-in_err-sent_text-clause-sends g c =
     let net = g.L.Link.told in
     let x = place_of (told c.args.host.now.disk) c.args.node.now in
     let z = place_of (told c.post_all.new.host.disk) c.post_all.new.node in
+    let next = g.C.Clock.next in
+    let shown = next c.args.host.now.clock in
     let calls = c.in_ok-sent.ensures.calls in
     let did = c.in_ok-post_all.ensures.posts in (
       _,
       then-all g.D.Disk.tells _ _ _ _ did.0 calls.steps did.1,
       record {
         later = c.now-now.result;
+        clock = shown-then shown (next c.accept_payload.new.host.clock) c.now-now.result
+            (stands-alike shown shown (next c.accept_payload.new.host.clock) (stands-still shown)
+            (ap next c.in_ok-sent.ensures.clock)) c.now-now.ensures.told;
         posted = did.2;
         calls = then-posts 0 c.now-now.result (Send c.args.seq c.args.payload) _ _ (net c.post_all.new.host.link)
             c.in_ok-sent.sent.outs did.0 did.2 calls.link did.3;
@@ -92,12 +113,17 @@ returns-clause-sends g c =
     let net = g.L.Link.told in
     let x = place_of (told c.args.host.now.disk) c.args.node.now in
     let z = place_of (told c.post_all.new.host.disk) c.post_all.new.node in
+    let next = g.C.Clock.next in
+    let shown = next c.args.host.now.clock in
     let calls = c.in_ok-sent.ensures.calls in
     let did = c.in_ok-post_all.ensures.posts in (
       _,
       then-all g.D.Disk.tells _ _ _ _ did.0 calls.steps did.1,
       record {
         later = c.now-now.result;
+        clock = shown-then shown (next c.accept_payload.new.host.clock) c.now-now.result
+            (stands-alike shown shown (next c.accept_payload.new.host.clock) (stands-still shown)
+            (ap next c.in_ok-sent.ensures.clock)) c.now-now.ensures.told;
         posted = did.2;
         calls = then-posts 0 c.now-now.result (Send c.args.seq c.args.payload) _ _ (net c.post_all.new.host.link)
             c.in_ok-sent.sent.outs did.0 did.2 calls.link did.3;

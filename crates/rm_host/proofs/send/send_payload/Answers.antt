@@ -1,13 +1,14 @@
-use Rattle.std.proofs.Common.{◌≡◌, ◌∙◌, ℕ, Err, Ok, ap, arith, false, refl, subst, sym}
+use Rattle.std.proofs.Common.{◌≡◌, ◌∙◌, ℕ, Err, Ok, Option, ap, arith, false, refl, subst, sym}
 use Rattle.std.proofs.lemmas.Result.{err_from_is_err_and}
 use Rattle.rm_base.specs.declared.message.Behaviour.TheVariants.{FollowingFirstGap}
 use Rattle.rm_serve.specs.Steps.{Place, place_of}
 use Rattle.rm_host.proofs.RowLemmas.{then-all}
 use Rattle.rm_host.specs.Ends.{faults_of, is_outer}
-use Rattle.rm_host.specs.HostSteps.{Commands, acted, unfound}
+use Rattle.rm_host.specs.HostSteps.{Commands, StandsAt, unfound}
 use Rattle.rm_host.specs.SendSteps.{SendsAfter, SendsTo, at_once, sends, sends_not}
 use Rattle.rm_host.proofs.EndLemmas.{hands, lost, rose-after, rose-before, then}
-use Rattle.rm_host.proofs.SendLemmas.{failed-after, lost-after, reached-from}
+use Rattle.rm_host.proofs.RecordLemmas.{acted-so}
+use Rattle.rm_host.proofs.SendLemmas.{failed-after, if-open-from, lost-after, reached-from, sends-from}
 use Rattle.rm_host.proofs.send.send_payload.Goals as goal
 
 pub returns-in_err-send_if_open-clause-reason : goal.returns-in_err-send_if_open-clause-reason
@@ -87,7 +88,7 @@ returns-in_err-seq-clause-does g c =
     (λ (x z : Place). SendsTo g.D.Disk.tells x z c.args.to c.args.payload
     (g.C.Clock.next c.args.host.now.clock) old (net c.reach.new.host.link)) x)
     (sym (p.1 ∙ ap Err p.2))
-    (acted x z did.0 (Err e) c.in_ok-node.ensures.mounted refl did.1
+    (acted-so c.a_command_leaves_its_records.ensures x z did.0 (Err e) c.in_ok-node.ensures.mounted refl did.1
     (sends_not did.0 e (reached-from x.node.stored.records c.args.to _ _ old _ (net c.reach.new.host.link) did.0 (Err e)
     (ap g.C.Clock.next c.in_ok-node.ensures.clock) c.in_ok-node.ensures.link did.2)))
 
@@ -102,14 +103,21 @@ returns-then-missed-eq0-clause-does g c =
     let z = place_of (told c.send_on.new.host.disk) c.send_on.new.node in
     let did = c.in_ok-seq.ensures.reached in
     let on = c.send_on.ensures.sends in
+    let shown = g.C.Clock.next c.args.host.now.clock in
+    let shows = g.C.Clock.next c.reach.new.host.clock in
+    let stands : StandsAt shown shows = subst (λ (s : Option ℕ). StandsAt s shows)
+    (ap g.C.Clock.next c.in_ok-node.ensures.clock) c.in_ok-seq.ensures.stands in
     let seq = c.in_ok-seq.seq in
-    acted x z _ c.send_on.result c.in_ok-node.ensures.mounted refl
+    acted-so c.a_command_leaves_its_records.ensures x z _ c.send_on.result c.in_ok-node.ensures.mounted refl
     (then-all g.D.Disk.tells x y z did.0 on.0 did.1 on.1)
     (sends y mid seq c.in_ok-seq.missed did.0 on.0 c.send_on.result did.1
     (reached-from x.node.stored.records c.args.to _ _ old _ mid did.0 (Ok (seq, c.in_ok-seq.missed))
     (ap g.C.Clock.next c.in_ok-node.ensures.clock) c.in_ok-node.ensures.link did.2)
-    (subst (λ (u : ℕ). SendsAfter y z seq c.args.payload mid (net c.send_on.new.host.link) u on.0 c.send_on.result)
-    (sym c.if-missed-eq0.true) (at_once on.0 c.send_on.result on.2)))
+    (subst (λ (u : ℕ). SendsAfter y z seq c.args.payload shown mid (net c.send_on.new.host.link) u on.0
+    c.send_on.result) (sym c.if-missed-eq0.true)
+    (at_once on.0 c.send_on.result
+    (sends-from y z seq c.args.payload shown shows mid (net c.send_on.new.host.link) on.0 c.send_on.result stands
+    on.2))))
 
 pub returns-in_err-send_if_open-clause-does : goal.returns-in_err-send_if_open-clause-does
 returns-in_err-send_if_open-clause-does g c =
@@ -125,19 +133,24 @@ returns-in_err-send_if_open-clause-does g c =
     let z = place_of (told c.send_if_open.new.host.disk) c.send_if_open.new.node in
     let did = c.in_ok-seq.ensures.reached in
     let on = c.in_err-send_if_open.ensures.sends in
+    let shown = g.C.Clock.next c.args.host.now.clock in
+    let shows = g.C.Clock.next c.reach.new.host.clock in
+    let stands : StandsAt shown shows = subst (λ (s : Option ℕ). StandsAt s shows)
+    (ap g.C.Clock.next c.in_ok-node.ensures.clock) c.in_ok-seq.ensures.stands in
     let e = c.in_err-send_if_open.field-0.0 in
     let seq = c.in_ok-seq.seq in
     subst (λ x. Commands g.D.Disk.tells (told c.args.host.now.disk) (told c.send_if_open.new.host.disk) old new
     FollowingFirstGap (λ (x z : Place). SendsTo g.D.Disk.tells x z c.args.to c.args.payload
     (g.C.Clock.next c.args.host.now.clock) old new) x)
     (sym (p.1 ∙ ap Err p.2))
-    (acted x z _ (Err e) c.in_ok-node.ensures.mounted refl
+    (acted-so c.a_command_leaves_its_records.ensures x z _ (Err e) c.in_ok-node.ensures.mounted refl
     (then-all g.D.Disk.tells x y z did.0 on.0 did.1 on.1)
     (sends y mid seq c.in_ok-seq.missed did.0 on.0 (Err e) did.1
     (reached-from x.node.stored.records c.args.to _ _ old _ mid did.0 (Ok (seq, c.in_ok-seq.missed))
     (ap g.C.Clock.next c.in_ok-node.ensures.clock) c.in_ok-node.ensures.link did.2)
-    (failed-after y z seq c.in_ok-seq.missed c.args.payload mid new on.0 e
-    (omega (arith, c.if-missed-eq0.false)) on.2)))
+    (failed-after y z seq c.in_ok-seq.missed c.args.payload shown mid new on.0 e
+    (omega (arith, c.if-missed-eq0.false))
+    (if-open-from y z seq c.args.payload shown shows mid new on.0 (Err e) stands on.2))))
 
 pub returns-clause-does : goal.returns-clause-does
 returns-clause-does g c =
@@ -151,10 +164,15 @@ returns-clause-does g c =
     let z = place_of (told c.send_if_open.new.host.disk) c.send_if_open.new.node in
     let did = c.in_ok-seq.ensures.reached in
     let on = c.in_ok-send_if_open.ensures.sends in
+    let shown = g.C.Clock.next c.args.host.now.clock in
+    let shows = g.C.Clock.next c.reach.new.host.clock in
+    let stands : StandsAt shown shows = subst (λ (s : Option ℕ). StandsAt s shows)
+    (ap g.C.Clock.next c.in_ok-node.ensures.clock) c.in_ok-seq.ensures.stands in
     let seq = c.in_ok-seq.seq in
-    acted x z _ (Err _) c.in_ok-node.ensures.mounted refl
+    acted-so c.a_command_leaves_its_records.ensures x z _ (Err _) c.in_ok-node.ensures.mounted refl
     (then-all g.D.Disk.tells x y z did.0 on.0 did.1 on.1)
     (sends y mid seq c.in_ok-seq.missed did.0 on.0 (Err _) did.1
     (reached-from x.node.stored.records c.args.to _ _ old _ mid did.0 (Ok (seq, c.in_ok-seq.missed))
     (ap g.C.Clock.next c.in_ok-node.ensures.clock) c.in_ok-node.ensures.link did.2)
-    (lost-after y z seq c.in_ok-seq.missed c.args.payload mid new on.0 (omega (arith, c.if-missed-eq0.false)) on.2))
+    (lost-after y z seq c.in_ok-seq.missed c.args.payload shown mid new on.0 (omega (arith, c.if-missed-eq0.false))
+    (if-open-from y z seq c.args.payload shown shows mid new on.0 (Ok tt) stands on.2)))

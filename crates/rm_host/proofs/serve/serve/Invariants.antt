@@ -1,6 +1,7 @@
 use Rattle.std.proofs.Common.{◌≡◌, ◌+◌, false, true}
 use Rattle.rm_serve.specs.Steps.{IsUp, place_of}
 use Rattle.rm_host.specs.Ends.{Reason, faults_of}
+use Rattle.rm_host.specs.HostSteps.{StandsAt}
 use Rattle.rm_host.specs.Words.{behaviour_of}
 use Rattle.rm_host.proofs.ServeLemmas.{Since}
 use Rattle.rm_host.proofs.serve.serve.Given as goal
@@ -12,9 +13,10 @@ invariant-loop-left g l =
     let faults = faults_of told net in
     record {
       up : IsUp g.D.Disk.tells (place_of (told l.host.disk) l.node);
-      since : Since l.fn.media g.D.Disk.tells (told l.fn.host.disk) (behaviour_of l.fn.service.grant)
-          (place_of (told l.host.disk) l.node)
+      since : Since l.fn.media (g.C.Clock.next l.fn.host.clock) g.D.Disk.tells (told l.fn.host.disk)
+          (behaviour_of l.fn.service.grant) (place_of (told l.host.disk) l.node)
           l.fn.service.port l.fn.service.count l.left l.tally (net l.fn.host.link) (net l.host.link);
+      clock : StandsAt (g.C.Clock.next l.fn.host.clock) (g.C.Clock.next l.host.clock);
       reason : Reason (faults l.fn.host) (faults l.host) false false true;
       count : l.tally.done + l.tally.dropped + l.left ≡ l.fn.service.count;
     }
