@@ -2,7 +2,9 @@ pub mod BegunLemmas
 pub mod CalledLemmas
 pub mod ComesLemmas
 pub mod CompactLemmas
+pub mod CompleteLemmas
 pub mod FetchLemmas
+pub mod HeardLemmas
 pub mod PacketLemmas
 pub mod ReadLemmas
 pub mod ReplyLemmas

@@ -1,6 +1,6 @@
 -- A call of a node is a step of the protocol, whatever it asks.
 use Rattle.std.proofs.Common.{◌≡◌, ◌∙◌, ℕ, Bool, true, false, List, [], Option, Some, None, refl, sym, ap, subst}
-use Rattle.std.specs.Prelude.{MatchBool, Ok, Err}
+use Rattle.std.specs.Prelude.{◌≢◌, MatchBool, Ok, Err}
 use Rattle.rm_disk.specs.Cause.{HasCause}
 use Rattle.rm_disk.specs.Told.{Told}
 use Rattle.rm_message.specs.declared.message.Message.{Message}
@@ -10,9 +10,9 @@ use Rattle.rm_protocol.specs.Calls.{Answer, Done, Outcome}
 use Rattle.rm_protocol.specs.Terms.{Terms}
 use Rattle.node_laws.specs.OwnTerms.{AreOwn, ThereAreOwnTerms}
 use Rattle.rm_node.specs.Asked.{Asked, Asks, is_connected}
-use Rattle.rm_node.specs.Called.{Called, Does, EndsBy, Sleeps, StaysANode, Steps, Wrote, answer_of}
-use Rattle.rm_node.specs.Ends.{Ended, Handed, Wanted, WasDown, error_end, is_broken, is_disk, is_refused, reaction_end}
-use Rattle.rm_node.specs.Ends.{verdict_outcome}
+use Rattle.rm_node.specs.Called.{Called, Does, EndsBy, IsAsBefore, Sleeps, StaysANode, Steps, Wrote, answer_of}
+use Rattle.rm_node.specs.Ends.{Ended, Handed, Wanted, WasDown, error_end, is_answered, is_broken, is_disk, is_refused}
+use Rattle.rm_node.specs.Ends.{reaction_end, verdict_outcome}
 use Rattle.rm_node.specs.declared.error.NodeError.{NodeError}
 use Rattle.rm_node.specs.declared.error.NodeError.TheVariants as error
 use Rattle.rm_node.specs.Fetching.{whole}
@@ -42,17 +42,65 @@ broken_by T error.Disk = refl
 broken_by T error.Down = refl
 broken_by T (error.Refused cause) = refl
 
--- nothing was said
+-- ---- whatever was asked for
+
+-- it says that the node is down exactly where it is
+abbrev pub SaysDown : Bool → Ended → Type 0
+SaysDown down ended = MatchBool down (ended ≡ WasDown) (ended ≢ WasDown)
+
+awake : (old : Noded) (ended : Ended) → old.stored.journal.is_down ≡ false → (ended ≡ WasDown → ⊥)
+    → SaysDown old.stored.journal.is_down ended
+awake old ended up not = subst (λ (b : Bool). SaysDown b ended) (sym up) not
+
+still_there : (tells : Bool) (first : Told) (old : Noded) → IsAsBefore tells first first old old
+still_there tells first old = record { node = refl; disk = λ t. refl }
+
+same_node : (old new : Noded) → new.stored ≡ old.stored → new.kept ≡ old.kept → new ≡ old
+same_node old new stored kept =
+    ap (λ s. record new { stored = s }) stored ∙ ap (λ k. record old { kept = k }) kept
+
+unwritten : (tells : Bool) (first now : Told) (old new : Noded) (answer : Answer)
+    → Wrote tells first now old new answer false false → IsAsBefore tells first now old new
+unwritten tells first now old new answer wrote = record {
+  node = same_node old new wrote.stored wrote.kept;
+  disk = λ t. (wrote.changes t).untouched refl refl;
+}
+
+-- what failed but for the disk wrote nothing
+rests_by : (tells : Bool) (first now : Told) (old new : Noded) (answer : Answer) (e : NodeError)
+    → EndsBy false answer (error_end e) → Wrote tells first now old new answer false (is_disk {T = Unit {0}} (Err e))
+    → is_broken (error_end e) ≡ false → IsAsBefore tells first now old new
+rests_by tells first now old new answer error.Memory ends wrote whole = unwritten tells first now old new answer wrote
+rests_by tells first now old new answer error.Disk ends wrote whole = absurd cc
+rests_by tells first now old new answer error.Down ends wrote whole = absurd ends
+rests_by tells first now old new answer (error.Refused cause) ends wrote whole =
+    unwritten tells first now old new answer wrote
+
+-- nor did it say that the node is down
+not_asleep : (answer : Answer) (e : NodeError) → EndsBy false answer (error_end e) → error_end e ≡ WasDown → ⊥
+not_asleep answer error.Memory ends is = absurd cc
+not_asleep answer error.Disk ends is = absurd cc
+not_asleep answer error.Down ends is = ends
+not_asleep answer (error.Refused cause) ends is = absurd cc
+
+-- ---- nothing was said
+
 pub step_unsaid : (tells : Bool) (first : Told) (old : Noded) (moment : ℕ) (call : Call) (e : NodeError) (ended : Ended)
     → Runs old → IsUnsaid old e → ended ≡ error_end e → Steps tells first first old old moment call ended
 step_unsaid tells first old moment call error.Memory ended runs up e = record {
   does = λ terms own kept keeps asked is. wants tells (is_connected call) first old _ ended up e;
+  asked = λ a. let none : is_answered Wanted ≡ true = ap is_answered (sym e) ∙ a in absurd cc;
+  rests = λ h b. still_there tells first old;
+  down = awake old ended up (λ d. let not : Wanted ≡ WasDown = sym e ∙ d in absurd cc);
   runs = runs;
   cause = no_fault first ended Wanted e refl;
   crashes = λ t. refl;
 }
-step_unsaid tells first old moment call error.Down ended runs down e = record {
-  does = λ terms own kept keeps asked is. sleeps tells (is_connected call) first old _ ended down e;
+step_unsaid tells first old moment call error.Down ended runs asleep e = record {
+  does = λ terms own kept keeps asked is. sleeps tells (is_connected call) first old _ ended asleep e;
+  asked = λ a. let none : is_answered WasDown ≡ true = ap is_answered (sym e) ∙ a in absurd cc;
+  rests = λ h b. still_there tells first old;
+  down = subst (λ (b : Bool). SaysDown b ended) (sym asleep) e;
   runs = runs;
   cause = no_fault first ended WasDown e refl;
   crashes = λ t. refl;
@@ -71,6 +119,9 @@ step_well tells first now old new moment call said outcome runs says stays wrote
   does = λ terms own kept keeps asked is. goes-well tells (is_connected call) first now old new (whole said.answered) _
       outcome said.handed.reply said.handed.outs says.up (says.is terms own kept keeps asked is) stays wrote comes
       says.reply says.outs;
+  asked = λ a. says.asked;
+  rests = λ h b. absurd cc;
+  down = awake old (Handed outcome said.handed.reply said.handed.outs) says.up (λ d. absurd cc);
   runs = runs;
   cause = wrote.cause;
   crashes = λ t. (wrote.changes t).crashes;
@@ -86,6 +137,9 @@ pub step_fails : (tells : Bool) (first now : Told) (old new : Noded) (moment : �
 step_fails tells first now old new moment call said e ended runs says stays wrote ends is = record {
   does = λ terms own kept keeps asked asks. fails tells (is_connected call) first now old new (whole said.answered) _ e
       ended is says.up (says.is terms own kept keeps asked asks) stays wrote ends;
+  asked = λ a. says.asked;
+  rests = λ h b. rests_by tells first now old new (whole said.answered) e ends wrote (ap is_broken (sym is) ∙ b);
+  down = awake old ended says.up (λ d. not_asleep (whole said.answered) e ends (sym is ∙ d));
   runs = runs;
   cause = subst (λ (b : Bool). HasCause first.faults now.faults b) (broken_by (Unit {0}) e ∙ ap is_broken (sym is))
       wrote.cause;

@@ -11,8 +11,8 @@ use Rattle.node_store.specs.Stored.{stored_after, with_batch}
 use Rattle.node_laws.specs.OwnTerms.{AreOwn}
 use Rattle.rm_protocol.specs.Calls.{Answer, Refused as RefusedWith}
 use Rattle.rm_protocol.specs.Terms.{Terms}
-use Rattle.rm_node.specs.Asked.{Asked, Asks, answer_to, is_connected}
-use Rattle.rm_node.specs.Ends.{Ended, Handed, Refused, Wanted, Broke, WasDown, is_handed, is_broken}
+use Rattle.rm_node.specs.Asked.{Asked, Asks, IsAsked, answer_to, is_connected}
+use Rattle.rm_node.specs.Ends.{Ended, Handed, Refused, Wanted, Broke, WasDown, is_answered, is_handed, is_broken}
 use Rattle.rm_node.specs.Keeping.{IsKeptAfter, Keeping, Keeps}
 use Rattle.rm_node.specs.Noded.{Noded, Runs}
 use Rattle.rm_node.specs.Packets.{outs_of, reply_of}
@@ -74,14 +74,24 @@ HasBatches tells first old =
 abbrev pub answer_of : Terms → Noded → ℕ → Keeping → Asked → Answer
 answer_of terms n now kept asked = answer_to terms n.stored.records (end_of n.stored.journal) now kept asked
 
+-- the node is as it was, and its disk where that tells
+pub record IsAsBefore (tells : Bool) (first now : Told) (old new : Noded) : Type 0 where
+  pub node : new ≡ old
+  pub disk : IsTrue tells → now ≡ first
+
 -- A call at a moment is a step of the protocol: whatever its terms are, what the node keeps besides its records, and
--- what the call asks for, the node does what the protocol answers then. It was a node as each is. It fails by the disk
--- only through a fault of the disk, and crashes nothing.
+-- what the call asks for, the node does what the protocol answers then. Where there was an answer, it asked for
+-- something. Whatever it asked for, all is as before where it neither went well nor failed by the disk, and it says
+-- that the node is down exactly where it is. It was a node as each is. It fails by the disk only through a fault of the
+-- disk, and crashes nothing.
 pub record Steps (tells : Bool) (first now : Told) (old new : Noded) (moment : ℕ) (call : Call) (ended : Ended)
     : Type 0 where
   pub does : (terms : Terms) → AreOwn terms → (kept : Keeping) → Keeps old.kept kept → (asked : Asked)
       → Asks call asked
       → Does tells (is_connected call) first now old new (answer_of terms old moment kept asked) ended
+  pub asked : is_answered ended ≡ true → IsAsked call
+  pub rests : is_handed ended ≡ false → is_broken ended ≡ false → IsAsBefore tells first now old new
+  pub down : MatchBool old.stored.journal.is_down (ended ≡ WasDown) (ended ≢ WasDown)
   pub runs : Runs old
   pub cause : HasCause first.faults now.faults (is_broken ended)
   pub crashes : IsTrue tells → crashes_of now.past ≡ crashes_of first.past

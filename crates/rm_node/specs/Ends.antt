@@ -30,6 +30,12 @@ abbrev pub is_broken : Ended → Bool
 is_broken Broke = true
 is_broken _ = false
 
+-- there was an answer: memory was there to work it out, and the node was up
+abbrev pub is_answered : Ended → Bool
+is_answered Wanted = false
+is_answered WasDown = false
+is_answered _ = true
+
 -- by an error
 abbrev pub error_end : NodeError → Ended
 error_end error.Memory = Wanted

@@ -3,6 +3,7 @@ pub mod Came
 pub mod CameLemmas
 pub mod Called
 pub mod Compacted
+pub mod Complete
 pub mod Ends
 pub mod Failed
 pub mod Fetching

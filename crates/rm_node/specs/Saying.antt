@@ -3,7 +3,7 @@ use Rattle.std.specs.Prelude.{◌≡◌, ℕ, true, false}
 use Rattle.rm_journal.specs.JournalState.{end_of}
 use Rattle.rm_protocol.specs.Terms.{Terms}
 use Rattle.node_laws.specs.OwnTerms.{AreOwn}
-use Rattle.rm_node.specs.Asked.{Asked, Asks, is_connected}
+use Rattle.rm_node.specs.Asked.{Asked, Asks, IsAsked, is_connected}
 use Rattle.rm_node.specs.Called.{answer_of}
 use Rattle.rm_node.specs.Fetching.{whole}
 use Rattle.rm_node.specs.Keeping.{Keeping, Keeps}
@@ -15,10 +15,11 @@ use Rattle.rm_node.specs.declared.error.NodeError.{NodeError}
 use Rattle.rm_node.specs.declared.error.NodeError.TheVariants as error
 use Rattle.rm_node.specs.declared.say.Said.{Said}
 
--- the node is up; the answer is the protocol's, and may be written; what is to be handed out is the text of what it
--- says
+-- the node is up, and asked for something; the answer is the protocol's, and may be written; what is to be handed out
+-- is the text of what it says
 pub record Says (n : Noded) (moment : ℕ) (call : Call) (said : Said) : Type 0 where
   pub up : n.stored.journal.is_down ≡ false
+  pub asked : IsAsked call
   pub is : (terms : Terms) → AreOwn terms → (kept : Keeping) → Keeps n.kept kept → (asked : Asked) → Asks call asked
       → whole said.answered ≡ answer_of terms n moment kept asked
   pub may : MayBeWritten n.stored.records (end_of n.stored.journal) (whole said.answered) said.begun

@@ -1,5 +1,5 @@
 //! The calls of a node by their names.
-ghost use Rattle.std.specs.Prelude.{◌≡◌, ◌+◌, ◌≤◌, true, length, IfOk, IfSome};
+ghost use Rattle.std.specs.Prelude.{◌≡◌, ◌⊎◌, ◌+◌, ◌≤◌, true, length, IfErr, IfOk, IfSome};
 ghost use Rattle.rm_base.specs.Limits.{now_max};
 ghost use Rattle.rm_elements.specs.Writable.{IsLapseWritable};
 ghost use Rattle.sequence_table.specs.Fits.{is_in_order, is_outgoing_side};
@@ -19,6 +19,8 @@ ghost use Rattle.rm_node.specs.declared.call.Call.TheVariants.{
   Receive as Receives,
 };
 ghost use Rattle.rm_node.specs.Ends.{done_end, made_end, outs_end, reaction_end, sent_end};
+ghost use Rattle.rm_node.specs.declared.error.NodeError.TheVariants.{Memory as WantsMemory, Disk as DiskFails};
+ghost use Rattle.rm_node.specs.declared.error.NodeError.TheVariants.{Down as IsDown};
 
 use crate::call::Call;
 use crate::error::NodeError;
@@ -173,7 +175,8 @@ impl Node {
         Ok(reaction.outs)
     }
 
-    /// Takes bytes that came from a peer on a connection.
+    /// Takes bytes that came from a peer on a connection. No bytes are refused: those that are no message, or a message
+    /// that is not taken, are answered with a fault.
     pub fn receive<D: Disk>(
         &mut self,
         disk: &mut D,
@@ -181,9 +184,11 @@ impl Node {
         bytes: &[u8],
     ) -> Result<Reaction, NodeError>
         requires { HasBatches D.tells (D.told disk.old) self.old }
-        ensures { Steps D.tells (D.told disk.old) (D.told disk.new) self.old self.new now (Receives bytes.entry)
+        ensures steps { Steps D.tells (D.told disk.old) (D.told disk.new) self.old self.new now (Receives bytes.entry)
             (reaction_end result) }
+        ensures kinds { IfErr result (λ error. (error ≡ WantsMemory) ⊎ (error ≡ DiskFails) ⊎ (error ≡ IsDown)) }
     {
+        there_are_own_terms();
         self.step(disk, now, Call::Receive { bytes })
     }
 }

@@ -41,6 +41,7 @@ returns-clause-says c =
     ∙ ap (λ (p : ℕ). answer_to terms n.stored.records p now k x) same.place in
     record {
       up = c.in_ok-check_up.ensures.up;
+      asked = asked;
       is = is;
       may = may_be_written c.what_is_read_may_be_written.ensures c.a_refusal_may_be_answered.ensures.refusal
           c.each_call_keeps_the_records.ensures c.only_what_was_heard_is_recorded.ensures
