@@ -4,7 +4,7 @@ use Rattle.std.proofs.Common.{refl, sym, subst, append-nil, arith}
 use Rattle.std.specs.Prelude.{IfErr, Bool, true, false, ◌∷◌, if◌then◌else◌}
 use Rattle.std.specs.Io.KnownBytes.{Appends}
 use Rattle.rm_base.specs.Count.{Rose}
-use Rattle.rm_base.specs.Outside.{AppendsFront, Stream}
+use Rattle.rm_base.specs.Outside.{AppendsFront, Lasts, Stream}
 use Rattle.rm_base.specs.declared.failures.Memory.{Memory}
 use Rattle.http_endpoint.specs.Heads.{IsRefusal}
 use Rattle.http_endpoint.specs.Messages as asked
@@ -38,6 +38,10 @@ use Rattle.rm_serve.specs.declared.serving.Served.{Served}
 pub both-sides : (P : Stream → Stream → Type 0) (a b s t : Stream) → a ≡ s → b ≡ t → P a b → P s t
 both-sides P a b s t first later p = subst (λ (x : Stream). P s x) later (subst (λ (x : Stream). P x b) first p)
 
+-- no call was made on a connection
+pub lasts-still : (s : Stream) → Lasts s s
+lasts-still s = record { never_falls = omega arith; sound = λ h. (h, refl) }
+
 -- nothing of a text was written
 begun-not : (held : Option (List ℕ)) (text : List ℕ) → AppendsFront held held text
 begun-not None text = (0, omega arith, tt)
@@ -70,7 +74,7 @@ some-one left a b p q = cc
 asks-said : (media : Media) (old mid : Stream) (all : List ℕ) (request : Result (List ℕ) HttpError)
     → old.left ≡ Some all
     → (said : List ℕ) → Appends old.held mid.held said → IsRequestAs media request said all → HasReason old mid request
-    → old.faults ≤ mid.faults → ((P : Type 0) → P → IfTold request P) → Asks media old mid request
+    → Lasts old mid → ((P : Type 0) → P → IfTold request P) → Asks media old mid request
 asks-said media old mid all request is said held asked cause falls tells = record {
   said = said;
   begins = said-begins media request said all asked;
@@ -78,12 +82,12 @@ asks-said media old mid all request is said held asked cause falls tells = recor
   asked = λ a at. tells (IsRequestAs media request said a)
       (subst (IsRequestAs media request said) (some-one old.left all a is at) asked);
   cause = cause;
-  never_falls = falls;
+  lasts = falls;
 }
 
 asks-silent : (media : Media) (old mid : Stream) (request : Result (List ℕ) HttpError)
     → AppendsFront old.held mid.held continue_text
-    → HasReason old mid request → old.faults ≤ mid.faults → ((P : Type 0) → IfTold request P)
+    → HasReason old mid request → Lasts old mid → ((P : Type 0) → IfTold request P)
     → Asks media old mid request
 asks-silent media old mid request front cause falls silent = record {
   said = take front.0 continue_text;
@@ -91,12 +95,12 @@ asks-silent media old mid request front cause falls silent = record {
   held = front.2;
   asked = λ a at. silent (IsRequestAs media request (take front.0 continue_text) a);
   cause = cause;
-  never_falls = falls;
+  lasts = falls;
 }
 
 asks-at : (media : Media) (old mid : Stream) (all : List ℕ) (request : Result (List ℕ) HttpError) → old.left ≡ Some all
     → Tells media old.held mid.held request all → AppendsFront old.held mid.held continue_text
-    → HasReason old mid request → old.faults ≤ mid.faults → Asks media old mid request
+    → HasReason old mid request → Lasts old mid → Asks media old mid request
 asks-at media old mid all (Ok body) is t front why falls =
     asks-said media old mid all (Ok body) is t.0 t.1 t.2 why falls (λ P p. p)
 asks-at media old mid all (Err http.Memory) is t front why falls =
@@ -117,7 +121,7 @@ asks-at media old mid all (Err http.CutShort) is t front why falls =
 asks-by : (media : Media) (old mid : Stream) (left : Option (List ℕ)) (request : Result (List ℕ) HttpError)
     → old.left ≡ left
     → ((all : List ℕ) → old.left ≡ Some all → Tells media old.held mid.held request all)
-    → AppendsFront old.held mid.held continue_text → HasReason old mid request → old.faults ≤ mid.faults
+    → AppendsFront old.held mid.held continue_text → HasReason old mid request → Lasts old mid
     → Asks media old mid request
 asks-by media old mid None request is t front why falls = record {
   said = take front.0 continue_text;
@@ -125,7 +129,7 @@ asks-by media old mid None request is t front why falls = record {
   held = front.2;
   asked = λ a at. absurd cc;
   cause = why;
-  never_falls = falls;
+  lasts = falls;
 }
 asks-by media old mid (Some all) request is t front why falls = asks-at media old mid all request is
     (t all is) front why falls
@@ -146,7 +150,7 @@ reason-of old mid (Err http.CutShort) read write refusal = tt
 -- what a request gets before its body, as it is told
 pub asks : (media : Media) (old mid : Stream) (request : Result (List ℕ) HttpError)
     → ((all : List ℕ) → old.left ≡ Some all → Tells media old.held mid.held request all)
-    → AppendsFront old.held mid.held continue_text → HasReason old mid request → old.faults ≤ mid.faults
+    → AppendsFront old.held mid.held continue_text → HasReason old mid request → Lasts old mid
     → Asks media old mid request
 asks media old mid request t front why falls = asks-by media old mid old.left request refl t front why falls
 

@@ -1,11 +1,8 @@
 -- Bytes are given to a node.
 use Rattle.std.specs.Prelude.{ℕ, List, [], ◌∷◌, Option, Result, Ok, Err}
 use Rattle.rm_message.specs.declared.message.Message.{Message}
-use Rattle.rm_message.specs.declared.refusal.DecodeError.{DecodeError}
-use Rattle.rm_message.specs.declared.refusal.DecodeError.TheVariants as read
 use Rattle.rm_message.specs.declared.refusal.FaultKind.{FaultKind}
 use Rattle.rm_message.specs.declared.refusal.Refusal.{Refusal}
-use Rattle.rm_base.specs.declared.failures.Memory.{Memory}
 use Rattle.rm_node.specs.Asked.{Receive}
 use Rattle.rm_node.specs.Came.{IsReadAs}
 use Rattle.rm_node.specs.Ends.{Handed, Broke, verdict_outcome}
@@ -38,9 +35,3 @@ pub data Reacts (moment : ℕ) (bytes : List ℕ) : List Step → Result Reactio
       → Reacts moment bytes (broke moment content ∷ []) (Err error.Disk)
   slept : Reacts moment bytes [] (Err error.Down)
   starving : Reacts moment bytes [] (Err error.Memory)
-
--- there was memory to read a message, whatever was read
-abbrev pub told_by : Result Message DecodeError → Result (Unit {0}) Memory
-told_by (Ok message) = Ok tt
-told_by (Err read.Memory) = Err (record {})
-told_by (Err (read.Refused refusal)) = Ok tt

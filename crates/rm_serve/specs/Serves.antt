@@ -3,7 +3,7 @@ use Rattle.std.specs.Prelude.{◌≡◌, ℕ, ◌≤◌, ⊤, Bool, true, false,
 use Rattle.std.specs.Prelude.{Err}
 use Rattle.std.specs.Io.KnownBytes.{Appends}
 use Rattle.rm_base.specs.Count.{Rose}
-use Rattle.rm_base.specs.Outside.{AppendsFront, Stream}
+use Rattle.rm_base.specs.Outside.{AppendsFront, Lasts, Stream}
 use Rattle.rm_base.specs.declared.failures.Memory.{Memory}
 use Rattle.http_endpoint.specs.Heads.{IsRefusal}
 use Rattle.http_endpoint.specs.Messages.{IsRequestAs, continue_text}
@@ -53,14 +53,15 @@ HasReason old new _ = ⊤
 abbrev pub BeginsInvitation : List ℕ → Type 0
 BeginsInvitation said = (n : ℕ) × (said ≡ take n continue_text)
 
--- A request of this media type was read, and came to this. Nothing was written but what it gets before its body.
+-- A request of this media type was read, and came to this. Nothing was written but what it gets before its body, and
+-- the count of faults stays where the connection tells that it never fails.
 pub record Asks (media : Media) (old new : Stream) (request : Result (List ℕ) HttpError) : Type 0 where
   pub said : List ℕ
   pub begins : BeginsInvitation said
   pub held : Appends old.held new.held said
   pub asked : (all : List ℕ) → old.left ≡ Some all → IfTold request (IsRequestAs media request said all)
   pub cause : HasReason old new request
-  pub never_falls : old.faults ≤ new.faults
+  pub lasts : Lasts old new
 
 -- Bytes are given to the node in one call, and answered. Where the call failed, or memory was wanting for what the
 -- peer is told, nothing more is written.
@@ -122,13 +123,14 @@ pub data Refusing (media : Media) (old new : Stream) (e : HttpError) : Result Se
       → Refusing media old new e (Err error.Memory)
 
 -- A connection is served: its request is read, and then its body let in to the node, and answered; or it could not be
--- read, and the node is not called.
+-- read, and the node is not called. What comes behind the request takes back none of its faults.
 pub data ServingAs (media : Media) (moment : ℕ) (old new : Stream) : List Step → Result Served NodeError → Type 0 where
   taken : (mid : Stream) (body : List ℕ) (steps : List Step) (result : Result Served NodeError)
-      → Asks media old mid (Ok body) → Admitting media moment mid new body steps result
+      → Asks media old mid (Ok body) → Lasts mid new → Admitting media moment mid new body steps result
       → ServingAs media moment old new steps result
   untaken : (mid : Stream) (e : HttpError) (result : Result Served NodeError)
-      → Asks media old mid (Err e) → Refusing media mid new e result → ServingAs media moment old new [] result
+      → Asks media old mid (Err e) → Lasts mid new → Refusing media mid new e result
+      → ServingAs media moment old new [] result
 
 -- where peers speak SOAP 1.2
 abbrev pub Serving : ℕ → Stream → Stream → List Step → Result Served NodeError → Type 0

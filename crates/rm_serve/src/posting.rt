@@ -1,5 +1,6 @@
 //! Packets that leave a node: each is posted on a connection of its own, and what comes back is given to the node.
 ghost use Rattle.std.specs.Prelude.{◌≡◌, ◌≤◌, ◌<◌, ◌+◌, ◌++◌, List, Err, IfOk, OnErr, OnOk, true};
+ghost use Rattle.rm_base.specs.Count.{RoseBy};
 ghost use Rattle.rm_disk.specs.Cause.{HasCause};
 ghost use Rattle.rm_node.specs.Ends.{is_disk};
 ghost use Rattle.rm_serve.specs.Limits.{most_posts};
@@ -48,6 +49,10 @@ pub fn post_due<D: Disk, L: Link>(
     ensures up { OnOk result (node.new.stored.journal.is_down ≡ node.old.stored.journal.is_down) }
     ensures down { result ≡ Err NodeError.Down → node.old.stored.journal.is_down ≡ true }
     ensures cause { HasCause (D.told disk.old).faults (D.told disk.new).faults (is_disk result) }
+
+    // Where a packet found no connection, the link's count of faults rose.
+    ensures dialled { IfOk result (λ posted.
+        RoseBy (L.told link.old).faults (L.told link.new).faults posted.undialled) }
 {
     post_row(alloc, node, disk, link, now, outs, Media::Soap12)
 }
@@ -73,6 +78,10 @@ pub fn post_due11<D: Disk, L: Link>(
     ensures up { OnOk result (node.new.stored.journal.is_down ≡ node.old.stored.journal.is_down) }
     ensures down { result ≡ Err NodeError.Down → node.old.stored.journal.is_down ≡ true }
     ensures cause { HasCause (D.told disk.old).faults (D.told disk.new).faults (is_disk result) }
+
+    // Where a packet found no connection, the link's count of faults rose.
+    ensures dialled { IfOk result (λ posted.
+        RoseBy (L.told link.old).faults (L.told link.new).faults posted.undialled) }
 {
     post_row(alloc, node, disk, link, now, outs, Media::Soap11)
 }
@@ -258,14 +267,13 @@ fn admit<D: Disk>(
     ensures cause { HasCause (D.told disk.old).faults (D.told disk.new).faults (is_disk result) }
 {
     match enter(alloc, body, media)? {
-        Entry::Admitted(bytes) => take(alloc, node, disk, now, bytes.as_slice(), queue),
+        Entry::Admitted(bytes) => take(node, disk, now, bytes.as_slice(), queue),
         Entry::KeptOut(_) => Ok(()),
     }
 }
 
 // Gives bytes to the node, and queues what is handed out.
 fn take<D: Disk>(
-    alloc: Global,
     node: &mut Node,
     disk: &mut D,
     now: u64,
@@ -281,7 +289,7 @@ fn take<D: Disk>(
     ensures down { result ≡ Err NodeError.Down → node.old.stored.journal.is_down ≡ true }
     ensures cause { HasCause (D.told disk.old).faults (D.told disk.new).faults (is_disk result) }
 {
-    let Reaction { outs, .. } = taking::hear(alloc, node, disk, now, bytes)?;
+    let Reaction { outs, .. } = taking::hear(node, disk, now, bytes)?;
     push_all(queue, outs)?;
     Ok(())
 }

@@ -2,6 +2,7 @@
 ghost use Rattle.std.specs.Prelude.{◌≡◌, List, Err, OnOk, Some, true};
 ghost use Rattle.http_endpoint.specs.Heads.{IsRefusal};
 ghost use Rattle.http_endpoint.specs.Texts.{IsWritten};
+ghost use Rattle.rm_base.specs.Outside.{Lasts};
 ghost use Rattle.rm_answer.specs.Replies.{refusal_to as refusal_for};
 ghost use Rattle.rm_disk.specs.Cause.{HasCause};
 ghost use Rattle.rm_node.specs.Ends.{is_disk};
@@ -52,6 +53,9 @@ pub fn serve_one<D: Disk, C: Connection>(
     ensures up { OnOk result (node.new.stored.journal.is_down ≡ node.old.stored.journal.is_down) }
     ensures down { result ≡ Err NodeError.Down → node.old.stored.journal.is_down ≡ true }
     ensures cause { HasCause (D.told disk.old).faults (D.told disk.new).faults (is_disk result) }
+
+    // Where the connection tells that it never fails, its count of faults stays.
+    ensures lasts { Lasts (C.Source.told conn.old) (C.Source.told conn.new) }
 {
     serve_as(alloc, node, disk, conn, now, Media::Soap12)
 }
@@ -74,6 +78,9 @@ pub fn serve_one11<D: Disk, C: Connection>(
     ensures up { OnOk result (node.new.stored.journal.is_down ≡ node.old.stored.journal.is_down) }
     ensures down { result ≡ Err NodeError.Down → node.old.stored.journal.is_down ≡ true }
     ensures cause { HasCause (D.told disk.old).faults (D.told disk.new).faults (is_disk result) }
+
+    // Where the connection tells that it never fails, its count of faults stays.
+    ensures lasts { Lasts (C.Source.told conn.old) (C.Source.told conn.new) }
 {
     serve_as(alloc, node, disk, conn, now, Media::Soap11)
 }
@@ -96,6 +103,7 @@ fn serve_as<D: Disk, C: Connection>(
     ensures up { OnOk result (node.new.stored.journal.is_down ≡ node.old.stored.journal.is_down) }
     ensures down { result ≡ Err NodeError.Down → node.old.stored.journal.is_down ≡ true }
     ensures cause { HasCause (D.told disk.old).faults (D.told disk.new).faults (is_disk result) }
+    ensures lasts { Lasts (C.Source.told conn.old) (C.Source.told conn.new) }
 {
     match read_request_as(alloc, conn, media) {
         Ok(body) => admit(alloc, node, disk, conn, now, body, media),
@@ -122,6 +130,7 @@ fn admit<D: Disk, C: Connection>(
     ensures up { OnOk result (node.new.stored.journal.is_down ≡ node.old.stored.journal.is_down) }
     ensures down { result ≡ Err NodeError.Down → node.old.stored.journal.is_down ≡ true }
     ensures cause { HasCause (D.told disk.old).faults (D.told disk.new).faults (is_disk result) }
+    ensures lasts { Lasts (C.Source.told conn.old) (C.Source.told conn.new) }
 {
     match enter(alloc, body, media)? {
         Entry::Admitted(bytes) => answer(alloc, node, disk, conn, now, bytes, media),
@@ -148,12 +157,13 @@ fn answer<D: Disk, C: Connection>(
     ensures up { OnOk result (node.new.stored.journal.is_down ≡ node.old.stored.journal.is_down) }
     ensures down { result ≡ Err NodeError.Down → node.old.stored.journal.is_down ≡ true }
     ensures cause { HasCause (D.told disk.old).faults (D.told disk.new).faults (is_disk result) }
+    ensures lasts { Lasts (C.Source.told conn.old) (C.Source.told conn.new) }
 {
     let Reaction {
         verdict,
         reply,
         outs,
-    } = hear(alloc, node, disk, now, body.as_slice())?;
+    } = hear(node, disk, now, body.as_slice())?;
     let told = tell_reply(alloc, reply, media)?;
     let reply = reply_to(alloc, verdict, told, media);
     let finish = write_reply(alloc, conn, &reply, media)?;
@@ -171,7 +181,8 @@ fn keep_out<C: Connection>(
     refusal: &Refusal,
     media: Media,
 ) -> Result<Served, NodeError>
-    ensures { KeepsOut media (C.Source.told conn.old) (C.Source.told conn.new) refusal.now result }
+    ensures keeps { KeepsOut media (C.Source.told conn.old) (C.Source.told conn.new) refusal.now result }
+    ensures lasts { Lasts (C.Source.told conn.old) (C.Source.told conn.new) }
 {
     let reply = fault_reply(alloc, refusal, media)?;
     let finish = write_reply(alloc, conn, &reply, media)?;
@@ -190,7 +201,8 @@ fn write_reply<C: Connection>(
     media: Media,
 ) -> Result<ConnEnd, Memory>
     requires { IsWritten reply.now.status }
-    ensures { Puts (C.Source.told conn.old) (C.Source.told conn.new) (reply_text media (Some reply.now)) result }
+    ensures puts { Puts (C.Source.told conn.old) (C.Source.told conn.new) (reply_text media (Some reply.now)) result }
+    ensures lasts { Lasts (C.Source.told conn.old) (C.Source.told conn.new) }
 {
     match write_response_as(alloc, conn, reply.status, reply.body.as_slice(), media) {
         Ok(()) => Ok(ConnEnd::Done),
@@ -209,7 +221,8 @@ fn refuse<C: Connection>(
     media: Media,
 ) -> Result<Served, NodeError>
     requires { IsRefusal error }
-    ensures { Refusing media (C.Source.told conn.old) (C.Source.told conn.new) error result }
+    ensures refuses { Refusing media (C.Source.told conn.old) (C.Source.told conn.new) error result }
+    ensures lasts { Lasts (C.Source.told conn.old) (C.Source.told conn.new) }
 {
     if is_want(error) {
         return Err(NodeError::Memory);
@@ -245,8 +258,9 @@ fn say<C: Connection>(
     media: Media,
 ) -> Result<ConnEnd, Memory>
     requires { IsRefusal error }
-    ensures { Puts (C.Source.told conn.old) (C.Source.told conn.new)
+    ensures puts { Puts (C.Source.told conn.old) (C.Source.told conn.new)
         (reply_text media (refusal_for media error)) result }
+    ensures lasts { Lasts (C.Source.told conn.old) (C.Source.told conn.new) }
 {
     match refusal_to(alloc, error, media)? {
         Some(reply) => write_reply(alloc, conn, &reply, media),

@@ -38,17 +38,17 @@ returns-in-KeptOut-clause-admits g c =
       no-step g.D.Disk.tells x x (record { node = refl; told = λ t. refl }),
       kept_out c.in-KeptOut.refusal c.keep_out.result
           (subst (λ (e : Entry). Enters c.args.media c.args.body e) c.in-KeptOut.is c.in_ok-bytes.ensures)
-          c.keep_out.ensures,
+          c.keep_out.ensures.keeps,
     )
 
 pub returns-in-KeptOut-clause-down : goal.returns-in-KeptOut-clause-down
 returns-in-KeptOut-clause-down g c = λ e.
     let talk = g.C.Source.told in
     absurd (keep-awake c.args.media (talk c.args.conn.now) (talk c.keep_out.new.conn) c.in-KeptOut.refusal
-    c.keep_out.result c.keep_out.ensures e)
+    c.keep_out.result c.keep_out.ensures.keeps e)
 
 pub returns-in-KeptOut-clause-cause : goal.returns-in-KeptOut-clause-cause
 returns-in-KeptOut-clause-cause g c =
     let talk = g.C.Source.told in
     keep-cause c.args.media (talk c.args.conn.now) (talk c.keep_out.new.conn) c.in-KeptOut.refusal c.keep_out.result _
-    c.keep_out.ensures
+    c.keep_out.ensures.keeps

@@ -38,7 +38,7 @@ returns-in_err-finish-clause-answers g c =
       answer-lost c.args.media c.args.now _ c.args.body (talk c.args.conn.now) (talk c.write_reply.new.conn) h.0
           c.hear.result c.in_ok-verdict.field-0 c.in_ok-told.told c.reply_to-reply.result c.in_err-finish.field-0.0
           r.result h.2 c.as_slice.ensures c.in_ok-verdict.was c.in_ok-told.ensures c.reply_to-reply.ensures.is
-          c.in_err-finish.ensures (p.1 ∙ ap Err p.2),
+          c.in_err-finish.ensures.puts (p.1 ∙ ap Err p.2),
     )
 
 pub returns-clause-answers : goal.returns-clause-answers
@@ -50,5 +50,5 @@ returns-clause-answers g c =
       answer-done c.args.media c.args.now _ c.args.body (talk c.args.conn.now) (talk c.write_reply.new.conn) h.0
           c.hear.result c.in_ok-verdict.field-0 c.in_ok-told.told c.reply_to-reply.result c.in_ok-finish.finish h.2
           c.as_slice.ensures c.in_ok-verdict.was c.in_ok-told.ensures c.reply_to-reply.ensures.is
-          c.in_ok-finish.ensures,
+          c.in_ok-finish.ensures.puts,
     )

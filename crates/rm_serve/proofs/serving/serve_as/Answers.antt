@@ -1,6 +1,7 @@
 use Rattle.std.proofs.Common.{Ok, Err, [], refl, subst}
 use Rattle.http_endpoint.specs.declared.error.HttpError.{HttpError}
 use Rattle.std.specs.Prelude.{ℕ, List, Result}
+use Rattle.rm_base.specs.StreamLemmas.{Lasts-more}
 use Rattle.rm_serve.specs.Serves.{HasReason, taken, untaken}
 use Rattle.rm_serve.specs.Steps.{place_of}
 use Rattle.rm_serve.proofs.ServeLemmas.{asks, reason-of}
@@ -17,7 +18,8 @@ returns-in-Ok-clause-serves g c =
       a.1,
       taken mid c.in-Ok.body a.0 c.admit.result
           (asks c.args.media old mid (Ok c.in-Ok.body) c.in-Ok.ensures.answer c.read_request_as.ensures.front tt
-          c.read_request_as.ensures.lasts.never_falls)
+          c.read_request_as.ensures.lasts)
+          c.admit.ensures.lasts
           a.2,
     )
 
@@ -34,6 +36,13 @@ returns-in-Err-clause-serves g c =
       [],
       no-step g.D.Disk.tells x x (record { node = refl; told = λ t. refl }),
       untaken mid e c.refuse.result
-          (asks c.args.media old mid (Err e) c.in-Err.ensures.answer r.front why r.lasts.never_falls)
-          c.refuse.ensures,
+          (asks c.args.media old mid (Err e) c.in-Err.ensures.answer r.front why r.lasts)
+          c.refuse.ensures.lasts
+          c.refuse.ensures.refuses,
     )
+
+pub returns-in-Ok-clause-lasts : goal.returns-in-Ok-clause-lasts
+returns-in-Ok-clause-lasts g c = Lasts-more _ _ _ c.read_request_as.ensures.lasts c.admit.ensures.lasts
+
+pub returns-in-Err-clause-lasts : goal.returns-in-Err-clause-lasts
+returns-in-Err-clause-lasts g c = Lasts-more _ _ _ c.read_request_as.ensures.lasts c.refuse.ensures.lasts

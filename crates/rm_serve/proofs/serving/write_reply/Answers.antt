@@ -1,14 +1,14 @@
 use Rattle.std.proofs.Common.{◌≡◌, ℕ, List, Err, ap, ◌∙◌, refl, subst}
 use Rattle.std.specs.Io.KnownBytes.{Appends}
 use Rattle.rm_base.specs.Count.{Rose}
-use Rattle.rm_base.specs.Outside.{AppendsFront, Stream}
+use Rattle.rm_base.specs.Outside.{AppendsFront, Lasts, Stream}
 use Rattle.http_endpoint.specs.Texts.{response_text_as}
 use Rattle.http_endpoint.specs.declared.error.HttpError.TheVariants as http
 use Rattle.rm_serve.proofs.ServeLemmas.{both-sides}
 use Rattle.rm_serve.proofs.serving.write_reply.Goals as goal
 
-pub returns-in-Ok : goal.returns-in-Ok
-returns-in-Ok g c =
+pub returns-in-Ok-clause-puts : goal.returns-in-Ok-clause-puts
+returns-in-Ok-clause-puts g c =
     let old = c.args.conn.now in
     let new = c.write_response_as.new.out in
     let one = g.met.C.Connection.one in
@@ -17,8 +17,8 @@ returns-in-Ok g c =
     both-sides (λ (s t : Stream). Appends s.held t.held
     (response_text_as c.args.media c.args.reply.now.status c.args.reply.now.body)) _ _ _ _ (one old) (one new) whole
 
-pub returns-in-Err-WriteFault : goal.returns-in-Err-WriteFault
-returns-in-Err-WriteFault g c =
+pub returns-in-Err-WriteFault-clause-puts : goal.returns-in-Err-WriteFault-clause-puts
+returns-in-Err-WriteFault-clause-puts g c =
     let old = c.args.conn.now in
     let new = c.write_response_as.new.out in
     let one = g.met.C.Connection.one in
@@ -35,8 +35,8 @@ returns-in-Err-WriteFault g c =
           (one new) front,
     )
 
-pub returns-in-Err-Memory : goal.returns-in-Err-Memory
-returns-in-Err-Memory g c =
+pub returns-in-Err-Memory-clause-puts : goal.returns-in-Err-Memory-clause-puts
+returns-in-Err-Memory-clause-puts g c =
     let old = c.args.conn.now in
     let new = c.write_response_as.new.out in
     let one = g.met.C.Connection.one in
@@ -44,3 +44,21 @@ returns-in-Err-Memory g c =
     (response_text_as c.args.media c.args.reply.now.status b)) c.as_slice.ensures c.in-Err-Memory.ensures.err in
     both-sides (λ (s t : Stream). AppendsFront s.held t.held
     (response_text_as c.args.media c.args.reply.now.status c.args.reply.now.body)) _ _ _ _ (one old) (one new) front
+
+pub returns-in-Ok-clause-lasts : goal.returns-in-Ok-clause-lasts
+returns-in-Ok-clause-lasts g c =
+    let one = g.met.C.Connection.one in
+    both-sides Lasts _ _ _ _ (one c.args.conn.now) (one c.write_response_as.new.out)
+    c.write_response_as.ensures.keeps.lasts
+
+pub returns-in-Err-WriteFault-clause-lasts : goal.returns-in-Err-WriteFault-clause-lasts
+returns-in-Err-WriteFault-clause-lasts g c =
+    let one = g.met.C.Connection.one in
+    both-sides Lasts _ _ _ _ (one c.args.conn.now) (one c.write_response_as.new.out)
+    c.write_response_as.ensures.keeps.lasts
+
+pub returns-in-Err-Memory-clause-lasts : goal.returns-in-Err-Memory-clause-lasts
+returns-in-Err-Memory-clause-lasts g c =
+    let one = g.met.C.Connection.one in
+    both-sides Lasts _ _ _ _ (one c.args.conn.now) (one c.write_response_as.new.out)
+    c.write_response_as.ensures.keeps.lasts
