@@ -31,6 +31,8 @@ pub(crate) fn import<D: Disk>(
     ensures none { IsTrue D.tells → result ≡ Err IsNoJournal → IsNoNodeBefore bytes.now }
     ensures short { is_ok result ≡ true → (entries : List (List ℕ)) → StandsAsBefore entries bytes.now →
         25 + length (list_of entries) ≤ journal_bytes }
+    ensures none_short { result ≡ Err IsNoJournal → (entries : List (List ℕ)) → StandsAsBefore entries bytes.now →
+        25 + length (list_of entries) ≤ journal_bytes }
     ensures up { IfOk result (λ x. x.0.is_down ≡ false) }
     ensures serving { IfOk result (λ x. IsServing x.0 x.1.records) }
     ensures kept { IfOk result (λ x. IsKept x.1.records) }

@@ -132,9 +132,11 @@ impl Node {
             IfOk result (λ node. Imports bytes.now (D.told disk.new).past node.stored) }
         ensures none { IsTrue D.tells → result ≡ Err BytesAreNone → IsNoNodeBefore bytes.now }
 
-        // A journal that would be longer than one may be is refused.
+        // A journal that would be longer than one may be is refused, also where no node's batches are in it.
         ensures short { is_ok result ≡ true → (entries : List (List ℕ)) → StandsAsBefore entries bytes.now →
             25 + length (list_of entries) ≤ journal_bytes }
+        ensures none_short { result ≡ Err BytesAreNone → (entries : List (List ℕ)) →
+            StandsAsBefore entries bytes.now → 25 + length (list_of entries) ≤ journal_bytes }
         ensures refusals { IfErr result (λ error. (error ≡ LacksMemory) ⊎ (error ≡ DiskFailed) ⊎ (error ≡ BytesAreNone)
             ⊎ IsTooLong bytes.now error) }
 

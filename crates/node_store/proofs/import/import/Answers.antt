@@ -53,3 +53,13 @@ returns-clause-none g c tells e batches node stands =
     c.serve.ensures.none tells
     (c.in-Err-NotAJournal.is ∙ ap (λ (x : MountError). Err x) c.in-Err-NotAJournal.field-0-is) (entries_of batches)
     (c.in_ok-journal.ensures.fits tells (entries_of batches) stands) batches node refl
+
+pub returns-in_err-journal-clause-none_short : goal.returns-in_err-journal-clause-none_short
+returns-in_err-journal-clause-none_short g c e entries stands =
+    let p = err_from_is_err_and c.from_residual.result c.from_residual.ensures.1 in
+    let none = c.in_err-journal.was
+    ∙ ap (λ (x : ImportError). Err x) (sym p.2 ∙ err_is p.0 _ c.from_residual.result p.1 e) in
+    absurd (c.open_before.ensures.none none entries stands)
+
+pub returns-clause-none_short : goal.returns-clause-none_short
+returns-clause-none_short g c e entries stands = c.in_ok-journal.ensures.short refl entries stands
