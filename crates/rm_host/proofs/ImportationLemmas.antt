@@ -38,11 +38,13 @@ not-made tells bytes (import.Full end needed) (inr (inr (inr long))) none = long
 
 -- and as import does
 pub fails-so : (tells : Bool) (first now : Told) (bytes : List ℕ) (e : End) → IsNotMade tells bytes e
-    → FailsToImport tells first now bytes e
-fails-so tells first now bytes end.NotEmpty not = absurd not
-fails-so tells first now bytes end.ReadFault not = absurd not
-fails-so tells first now bytes end.TooLong not = absurd not
-fails-so tells first now bytes e not = not
+    → (IsTrue tells → seen_of first.past ≡ []) → FailsToImport tells first now bytes e
+fails-so tells first now bytes end.NotEmpty not empty = absurd not
+fails-so tells first now bytes end.ReadFault not empty = absurd not
+fails-so tells first now bytes end.TooLong not empty = absurd not
+fails-so tells first now bytes (end.Refused why) not empty = (not, empty)
+fails-so tells first now bytes end.NotAJournal not empty = λ t. (not t, empty t)
+fails-so tells first now bytes e not empty = not
 
 -- the disk is not empty, or it failed
 pub unempty : {T : Type 0} (tells : Bool) (first now : Told) (bytes : List ℕ) (e : End)

@@ -1,11 +1,12 @@
 -- The items of an inbox, one by one, and the first of sequences.
 use Rattle.std.proofs.Common.{◌≡◌, ℕ, ◌+◌, ◌-◌, ◌<◌, ◌≤◌, Bool, true, false, nat_le, List, [], ◌++◌, drop}
-use Rattle.std.proofs.Common.{refl, sym, ap, ◌∙◌, arith, get_or, length, take}
+use Rattle.std.proofs.Common.{refl, sym, ap, ◌∙◌, arith, get_or, inl, inr, length, suc, take, zero}
 use Rattle.std.specs.Prelude.{None, cond, slice_get}
 use Rattle.std.proofs.lemmas.Bool.{leb-false, leb-true, ne_eqb}
 use Rattle.std.proofs.lemmas.List.{at_drop_more, drop_all, get_or-take, length-take-le, take_all}
 use Rattle.std.proofs.lemmas.Option.{slice_get-get_or}
 use Rattle.rm_base.specs.Numbered.{numbered}
+use Rattle.rm_base.specs.NumberSetLemmas.{lt-or-le}
 use Rattle.rm_destination.specs.Messages.{Item, item_at, payload_in}
 use Rattle.rm_host.specs.Sequences.{item_lines, passed_lines, there_line}
 
@@ -42,6 +43,24 @@ pub passed_lines-none : (seq k upto : ℕ) (items : List Item) → upto ≤ k �
 passed_lines-none seq k upto items past within =
     let len : length (take upto items) ≡ upto = length-take-le upto items within in
     ap (item_lines seq k) (drop_all k (take upto items) (omega (arith, len, past)))
+
+-- what begins with gone items, behind these
+pub passed_lines-gone : (seq upto : ℕ) (items : List Item) (k : ℕ) → upto ≤ length items
+    → ((i : ℕ) → i ≤ k → item_at items i ≡ None) → passed_lines seq 0 upto items ≡ passed_lines seq k upto items
+passed_lines-gone seq upto items zero within gone = refl
+passed_lines-gone seq upto items (suc k) within gone =
+    passed_lines-gone seq upto items k within (λ i le. gone i (omega (arith, le)))
+    ∙ elim (lt-or-le k upto) [
+      | inl here ↦
+          let none : item_at items (k + 1) ≡ None = gone (k + 1) (omega arith) in
+          let same : k + 1 ≡ suc k = omega arith in
+          passed_lines-next seq k upto items here within
+          ∙ ap (λ item. there_line seq (k + 1) item ++ passed_lines seq (k + 1) upto items) none
+          ∙ ap (λ n. passed_lines seq n upto items) same
+      | inr past ↦
+          passed_lines-none seq k upto items past within
+          ∙ sym (passed_lines-none seq (suc k) upto items (omega (arith, past)) within)
+    ]
 
 -- none up to a number, and not the next one
 pub none-yet : (f : ℕ → Bool) (k : ℕ) → ((n : ℕ) → 0 < n → n ≤ k → f n ≡ false) → f (k + 1) ≡ false → (n : ℕ) → 0 < n

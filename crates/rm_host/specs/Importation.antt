@@ -47,11 +47,15 @@ IsNotMade tells bytes end.DiskFault = Unit {0}
 IsNotMade tells bytes end.Memory = Unit {0}
 IsNotMade tells bytes _ = ⊥
 
--- Why import fails: the disk had bytes; the input was not read, and the disk is as it was; or the bytes make no node.
+-- Why import fails: the disk had bytes; the input was not read, and the disk is as it was; or the bytes make no node,
+-- which is told of a disk that had nothing.
 abbrev pub FailsToImport : Bool → (first now : Told) → List ℕ → End → Type 0
 FailsToImport tells first now bytes end.NotEmpty = IsTrue tells → seen_of first.past ≢ []
 FailsToImport tells first now bytes end.ReadFault = now ≡ first
 FailsToImport tells first now bytes end.TooLong = now ≡ first
+FailsToImport tells first now bytes (end.Refused why) = IsOverlong bytes why × (IsTrue tells → seen_of first.past ≡ [])
+FailsToImport tells first now bytes end.NotAJournal =
+    IsTrue tells → IsNoNodeBefore bytes × (seen_of first.past ≡ [])
 FailsToImport tells first now bytes e = IsNotMade tells bytes e
 
 -- what import answers of these bytes

@@ -8,11 +8,11 @@ ghost use Rattle.rm_host.specs.Texts.{item_line};
 use rm_base::{Blob, Memory, Payload, push_decimal, push_hex};
 use rm_destination::Incoming;
 
-/// Appends the items of an inbox, but for those that are gone.
+/// Appends the items of an inbox, but for those that are gone, which it passes over.
 pub(crate) fn push_inbox(text: &mut Blob, seq: u32, incoming: &Incoming) -> Result<(), Memory>
     ensures { OnOk result (text.new ≡ text.old ++ item_lines seq 0 (inbox incoming.now.facts)) }
 {
-    push_items(text, seq, incoming, 0, incoming.inbox_len())
+    push_items(text, seq, incoming, incoming.gone(), incoming.inbox_len())
 }
 
 /// Appends the items of an inbox past one place, up to another, but for those that are gone.

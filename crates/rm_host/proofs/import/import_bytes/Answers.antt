@@ -28,7 +28,8 @@ returns-in_err-node-clause-imports g c =
     let first = told c.args.host.now.disk in
     let now = told c.import_node.new.host.disk in
     subst (λ x. ImportsBytes g.D.Disk.tells first now c.args.bytes.now x) (sym (p.1 ∙ ap Err p.2))
-    (fails-so g.D.Disk.tells first now c.args.bytes.now c.in_err-node.field-0.0 c.in_err-node.ensures.why)
+    (fails-so g.D.Disk.tells first now c.args.bytes.now c.in_err-node.field-0.0 c.in_err-node.ensures.why
+    c.in_ok-check_empty.ensures.empty)
 
 pub returns-in_err-node-clause-spared : goal.returns-in_err-node-clause-spared
 returns-in_err-node-clause-spared g c tells = inl (c.in_ok-check_empty.ensures.empty tells)
