@@ -1,10 +1,11 @@
 -- The state of the machine that a reader stands for.
-use Rattle.std.specs.Prelude.{◌≡◌, ℕ, ◌+◌, ◌<◌, ◌≤◌, List, [], ◌∷◌, Bool, true, not, drop, length, map, reverse}
+use Rattle.std.specs.Prelude.{◌≡◌, ℕ, ◌+◌, ◌<◌, ◌≤◌, List, [], ◌∷◌, Bool, true, not, ◌&&◌, drop, length, map, reverse}
 use Rattle.std.specs.Prelude.{vec_len}
 use Rattle.soap_document.specs.Machine.{Mode, beginning, declaring, outside, marking, commenting, chars, less}
 use Rattle.soap_document.specs.Machine.{tagging, naming, named, valuing, value_inner, slashed, ending, refused, Frame}
 use Rattle.soap_document.specs.Machine.{State, is_none, run}
 use Rattle.soap_lex.specs.Readers.{text_state, value_state}
+use Rattle.soap_lex.specs.Tests.{is_nil}
 use Rattle.soap_document.specs.declared.scan.Mode.{Mode as CodeMode}
 use Rattle.soap_document.specs.declared.scan.Mode.TheVariants.{Beginning, Declaring, Outside, Marking, Commenting}
 use Rattle.soap_document.specs.declared.scan.Mode.TheVariants.{Chars, Less, Tagging, Naming, Named, Valuing}
@@ -52,6 +53,10 @@ seen r top below = record {
 abbrev pub is_begun : Frame → List Frame → Bool
 is_begun top [] = not (is_none top.parts)
 is_begun top (frame ∷ frames) = true
+
+-- no element is open, and the document has a part: its root has ended
+abbrev pub is_ended : Frame → List Frame → Bool
+is_ended top below = is_nil below && is_begun top below
 
 -- these elements are open, and this stands for them
 pub record Holds {H : Type 0} (stands : H → Frame → List Frame → Type 0) (stack : OpenElements H) (top : Frame)

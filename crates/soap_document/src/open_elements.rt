@@ -3,7 +3,7 @@ ghost use Rattle.std.specs.Prelude.{◌≡◌, ◌≢◌, ◌==◌, ◌<◌, ◌
 ghost use Rattle.soap_document.specs.Machine.{Frame, with_parts, nothing_open, has_room};
 ghost use Rattle.soap_lex.specs.Tests.{is_nil};
 ghost use Rattle.soap_document.specs.Tree.{element, onto, none, child};
-ghost use Rattle.soap_document.specs.Seen.{Counts, Holds};
+ghost use Rattle.soap_document.specs.Seen.{Counts, Holds, is_ended};
 
 use crate::attribute::WrittenAttribute;
 use crate::handler::Handler;
@@ -59,6 +59,14 @@ impl<H: Handler> OpenElements<H> {
             → result ≡ is_nil below }
     {
         self.names.is_empty()
+    }
+
+    /// The root has ended: no element is open, and the document has a part.
+    pub(crate) fn is_ended(&self) -> bool
+        ensures { (top : Frame) (below : List Frame) → Holds H.stands self.now top below
+            → result ≡ is_ended top below }
+    {
+        self.is_outside() && self.begun
     }
 
     /// An element may begin.

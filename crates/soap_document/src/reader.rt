@@ -24,7 +24,7 @@ ghost use Rattle.soap_document.specs.Machine.{
   chars,
   value_inner,
 };
-ghost use Rattle.soap_document.specs.Seen.{mode_of, fed_len, IsTold, Sees, TakenBy};
+ghost use Rattle.soap_document.specs.Seen.{mode_of, fed_len, is_ended, IsTold, Sees, TakenBy};
 
 use crate::handler::Handler;
 use crate::open_elements::OpenElements;
@@ -77,6 +77,13 @@ impl<H: Handler> Reader<H> {
         ensures { (s : State) → Sees H.stands self.now s → result ≡ is_refused s.mode }
     {
         self.scan.mode == Mode::Refused
+    }
+
+    /// The root has ended, whatever stands behind it.
+    pub fn is_ended(&self) -> bool
+        ensures { (s : State) → Sees H.stands self.now s → result ≡ is_ended s.top s.below }
+    {
+        self.stack.is_ended()
     }
 
     /// The handler, where what was fed may be a document: it is one where the handler has one element and nothing else.
