@@ -1,6 +1,7 @@
 pub mod Answer
 pub mod Bare
 pub mod Document
+pub mod Fed
 pub mod Items
 pub mod Keys
 pub mod Namespaces

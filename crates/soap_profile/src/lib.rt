@@ -4,6 +4,7 @@
 #![tactic(auto)]
 
 mod copies;
+pub mod document;
 pub mod elements;
 pub mod error;
 mod keys;
@@ -24,6 +25,7 @@ mod stripped;
 mod tag;
 pub mod tree;
 
+pub use document::DocumentReader;
 pub use elements::Elements;
 pub use error::EnvelopeError;
 pub use name::Name;

@@ -5,14 +5,12 @@ ghost use Rattle.soap_profile.specs.Document.{Document, IsPlaced, IsReadable, Is
 ghost use Rattle.soap_profile.specs.Tree.{Element as Tree};
 ghost use Rattle.soap_profile.specs.View.{element_view};
 
+use crate::document::DocumentReader;
 use crate::error::EnvelopeError;
 use crate::place::Place;
-use crate::resolver::{Resolver, root_read};
 use crate::tree::Element;
 use rm_base::Memory;
 use rm_base::limits::ENVELOPE_BYTES;
-use soap_document::Reader;
-use soap_document::laws::{document_is_read, document_is_utf8};
 use soap_lex::utf8_prefix;
 use std::alloc::Global;
 
@@ -78,15 +76,7 @@ fn read_tree(alloc: Global, bytes: &[u8]) -> Result<Option<Placed>, Memory>
     ensures utf8 { IfOk result (λ found. IfSome found (λ _. IsUtf8 bytes.now)) }
     ensures none { IfOk result (λ found. IfNone found ((other : Tree) → ¬ (Document bytes.now other))) }
 {
-    document_is_read();
-    document_is_utf8();
-    let mut reader = Reader::new(alloc, Resolver::new(alloc)?);
+    let mut reader = DocumentReader::new(alloc)?;
     reader.feed(bytes)?;
-    let Some(root) = root_read(reader) else {
-        return Ok(None);
-    };
-    Ok(Some(Placed {
-        root: root.tree,
-        last: root.last,
-    }))
+    Ok(reader.finish())
 }
