@@ -10,4 +10,4 @@ pub mod read;
 mod scope;
 
 pub use envelope::Envelope;
-pub use read::{SOAP_SPACE, SOAP11_SPACE, is_soap11, read_envelope, read_envelope_in};
+pub use read::{SOAP_SPACE, SOAP11_SPACE, envelope_of, is_soap11, read_envelope, read_envelope_in};

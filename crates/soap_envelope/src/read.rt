@@ -71,6 +71,20 @@ pub fn read_envelope(alloc: Global, bytes: &[u8]) -> Result<Envelope, EnvelopeEr
     read_envelope_in(alloc, bytes, SOAP_SPACE)
 }
 
+/// The envelope of SOAP 1.2 that the document with this tree is, or why it is none: what `read_envelope` does behind
+/// the reading of the document. Of the bytes only the payload is looked at.
+pub fn envelope_of(
+    alloc: Global,
+    bytes: &[u8],
+    root: Element,
+    last: Option<Place>,
+) -> Result<Envelope, EnvelopeError>
+    requires { IsPlaced bytes.now (element_view root) last }
+    ensures { Answers soap_space bytes.now result }
+{
+    envelope_in(alloc, bytes, SOAP_SPACE, root, last)
+}
+
 // The envelope that a document is, or why it is none, where SOAP has this namespace.
 fn envelope_in(
     alloc: Global,
