@@ -25,11 +25,11 @@ use Rattle.soap_document.specs.Machine.{at_less, in_less, at_tagging, at_naming,
 use Rattle.soap_document.specs.Machine.{after_text, after_value, is_mark, is_none, has_room, is_end, is_name_end}
 use Rattle.soap_document.specs.Machine.{no_value, with_parts}
 use Rattle.soap_document.specs.Declaration.{is_declaration}
+use Rattle.soap_document.specs.Seen.{is_ended}
 use Rattle.soap_document.specs.Grammar.{IsDocument, document, IsQName, unprefixed, end as no_attributes, empty, white}
 use Rattle.soap_document.specs.Grammar.{unmarked, without}
 use Rattle.soap_document.specs.Tokens.{is_white, is_qname}
 use Rattle.soap_document.specs.Tree.{Element, element, Parts, none, text, child}
-use Rattle.soap_pieces.specs.Depth.{HasNoRoot}
 use Rattle.soap_pieces.specs.Behind.{IsAlike, IsBehind, is_behind, least}
 
 -- the machine on joined pieces
@@ -556,24 +556,20 @@ begins_alike read bytes root e =
 
 -- ---- within a root
 
-open_is_not_behind : (top : Frame) (below : List Frame) (root : Element) → HasNoRoot top below → below ≡ []
-    → only_child top.parts ≡ Some root → ⊥
-open_is_not_behind top [] root h e f = let wrong = sym (ap only_child h) ∙ f in cc
-open_is_not_behind top (frame ∷ frames) root h e f = cc
+behind_ended : (root : Element) (s : State) → IsBehind root s → is_ended s.top s.below ≡ true
+behind_ended root s h = rw h.below (ap not (not_none s.top.parts root h.ended))
 
 -- what no root has ended in begins with no document
 pub no_front : Joins → (front more : List ℕ) (root : Element) → root_of (run start front) ≡ Some root
-    → HasNoRoot (run start (front ++ more)).top (run start (front ++ more)).below → ⊥
+    → is_ended (run start (front ++ more)).top (run start (front ++ more)).below ≡ false → ⊥
 no_front joins front more root e h =
     let behind : IsBehind root (run start (front ++ more)) =
     subst (IsBehind root) (sym (joins start front more))
     (behind_run root (run start front) more (root_ends front root e)) in
-    open_is_not_behind (run start (front ++ more)).top (run start (front ++ more)).below root h behind.below
-    behind.ended
+    let wrong = sym (behind_ended root (run start (front ++ more)) behind) ∙ h in cc
 
 -- and is none
 pub no_whole : (bytes : List ℕ) (root : Element) → root_of (run start bytes) ≡ Some root
-    → HasNoRoot (run start bytes).top (run start bytes).below → ⊥
+    → is_ended (run start bytes).top (run start bytes).below ≡ false → ⊥
 no_whole bytes root e h =
-    let behind : IsBehind root (run start bytes) = root_ends bytes root e in
-    open_is_not_behind (run start bytes).top (run start bytes).below root h behind.below behind.ended
+    let wrong = sym (behind_ended root (run start bytes) (root_ends bytes root e)) ∙ h in cc

@@ -3,31 +3,8 @@ use Rattle.std.proofs.Common.{◌≡◌, ◌≢◌, ℕ, ◌+◌, ◌<◌, List,
 use Rattle.std.proofs.Common.{arith}
 use Rattle.soap_document.specs.Machine.{Frame, with_parts, join, nothing_open, only_child}
 use Rattle.soap_document.specs.Tree.{Element, Parts, none, child}
-use Rattle.soap_pieces.specs.Depth.{HasNoRoot, HasOneRoot, InRoot, IsDepth}
+use Rattle.soap_pieces.specs.Depth.{HasNoRoot, HasOneRoot, IsDepth}
 use Rattle.soap_pieces.specs.declared.depth.Depth.{Depth}
-use Rattle.soap_pieces.specs.declared.depth.RootDepth.{RootDepth}
-
--- ---- within the root
-
--- a part more of an element
-pub grown : (d : RootDepth) (top : Frame) (below : List Frame) (more : Parts) → 0 < d.open → InRoot d top below
-    → InRoot d (with_parts top more) below
-grown d top [] more some h = absurd (omega (arith, some, h.count))
-grown d top (frame ∷ frames) more some h = record { count = h.count; none_yet = h.none_yet }
-
--- an element more is open
-pub entered : (d next : RootDepth) (top inner : Frame) (below : List Frame) → next.open ≡ d.open + 1
-    → InRoot d top below → InRoot next inner (top ∷ below)
-entered d next top inner below e h = record { count = omega (arith, e, h.count); none_yet = h.none_yet }
-
--- an element within the root is over
-pub left : (d next : RootDepth) (top outer : Frame) (below : List Frame) (more : Parts) → next.open + 1 ≡ d.open
-    → 1 < d.open → InRoot d top (outer ∷ below) → InRoot next (with_parts outer more) below
-left d next top outer [] more e some h = absurd (omega (arith, some, h.count))
-left d next top outer (frame ∷ frames) more e some h =
-    record { count = omega (arith, e, h.count); none_yet = h.none_yet }
-
--- ---- behind it too
 
 pub nothing_counted : (d : Depth) → d.open ≡ 0 → d.ended ≡ false → IsDepth d nothing_open []
 nothing_counted d o e = record { count = o; before = λ f. refl; after = λ f. let wrong = sym e ∙ f in absurd (cc) }

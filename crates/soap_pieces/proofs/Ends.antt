@@ -14,6 +14,7 @@ use Rattle.soap_document.specs.Tree as written
 use Rattle.soap_envelope.specs.Envelope.{Envelope, IsEnvelope, bytes_within}
 use Rattle.soap_envelope.specs.Refusals.{WrongVersion, NotEnvelope}
 use Rattle.soap_envelope.specs.Soap.{soap_space}
+use Rattle.soap_envelope.specs.Steps.{Answers}
 use Rattle.soap_envelope.specs.View.{envelope_view}
 use Rattle.soap_envelope.specs.declared.envelope.Envelope.{Envelope as CodeEnvelope}
 use Rattle.soap_profile.specs.Document.{Document, IsReadable, IsTextUpTo, IsLongestText}
@@ -25,7 +26,7 @@ use Rattle.soap_pieces.specs.Behind.{IsAlike, least}
 use Rattle.soap_pieces.specs.Depth.{IsDepth}
 use Rattle.soap_pieces.specs.Front.{IsFront}
 use Rattle.soap_pieces.specs.Hopeless.{BeginsNone, BeginsOther, IsHopeless, too_long, refused, none, other}
-use Rattle.soap_pieces.specs.Stage.{HasEnded, HasRoot, said_root, told, read as asked, IsRefused, payload_len}
+use Rattle.soap_pieces.specs.Stage.{HasEnded, HasRoot, IsKnown, said_root, told, read as asked, IsRefused, payload_len}
 use Rattle.soap_pieces.specs.declared.ended.Ended.{Ended}
 use Rattle.soap_pieces.specs.declared.front.Front.{Front}
 use Rattle.soap_pieces.proofs.Behind.{Joins, IsRead, alike_run, alike_rooted, alike_missing, begins_alike, root_goes}
@@ -116,6 +117,31 @@ reads_on joins read stands text front more root last answer d e short fits h =
           );
     }
 
+-- ---- what an envelope or the lack of one answers
+
+ok_of : (bytes : List ℕ) (answer : Answer) → Answers soap_space bytes answer
+    → IfOk answer (λ e. IsEnvelope soap_space bytes (envelope_view e))
+ok_of bytes (Ok e) h = h
+ok_of bytes (Err e) h = tt
+
+pub reads_by : (bytes : List ℕ) (answer : Answer) → IsReadable bytes → Answers soap_space bytes answer
+    → Reads bytes answer
+reads_by bytes answer readable h = record {
+  ok = ok_of bytes answer h;
+  fits = fits_on bytes answer readable;
+  too_long = λ len. (
+    λ is. absurd (subst (Answers soap_space bytes) is h),
+    λ k. absurd (omega (arith, readable.0, k.0)),
+  );
+  not_utf8 = λ place. (
+    λ is. absurd (subst (Answers soap_space bytes) is h),
+    λ k. absurd (not_up_to bytes place readable.1 k),
+  );
+  not_profile = λ is. absurd (subst (Answers soap_space bytes) is h);
+  wrong_version = λ is. (readable, subst (Answers soap_space bytes) is h);
+  not_envelope = λ is. (readable, subst (Answers soap_space bytes) is h);
+}
+
 -- ---- where a document is refused, it is no envelope
 
 -- no bytes are an envelope and another document
@@ -173,20 +199,20 @@ ended_alive joins read stands e bytes h envelope is (other o) =
 
 -- ---- at the end of the root
 
-the_root : (o : Option written.Element) → o ≢ None → (root : written.Element) × (o ≡ Some root)
+pub the_root : (o : Option written.Element) → o ≢ None → (root : written.Element) × (o ≡ Some root)
 the_root None h = absurd (h refl)
 the_root (Some root) h = (root, refl)
 
--- an answer is known of a document
-pub record IsKnown (answer : Answer) (bytes : List ℕ) : Type 0 where
-  pub some : root_of (run start bytes) ≢ None
-  pub known : answer ≢ out
-
-found_some : IsRead → (bytes : List ℕ) (root : written.Element) → IsDocument bytes root
+pub found_some : IsRead → (bytes : List ℕ) (root : written.Element) → IsDocument bytes root
     → root_of (run start bytes) ≢ None
 found_some read bytes root d = λ missing.
     let found : root_of (run start bytes) ≡ Some root = (read bytes root).0 d in
     let wrong = sym missing ∙ found in cc
+
+-- a document is UTF-8
+pub known_utf8 : IsRead → IsText → (bytes : List ℕ) → root_of (run start bytes) ≢ None → IsUtf8 bytes
+known_utf8 read text bytes some =
+    let found = the_root (root_of (run start bytes)) some in text bytes found.0 ((read bytes found.0).1 found.1)
 
 pub known_by : IsRead → (bytes : List ℕ) (answer : Answer) → Reads bytes answer → HasRoot answer bytes
     → IsKnown answer bytes

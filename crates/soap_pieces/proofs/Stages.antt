@@ -1,46 +1,42 @@
 -- What is known of a reader, by how far it has come.
-use Rattle.std.proofs.Common.{◌≡◌, ◌↔◌, ℕ, ◌+◌, ◌<◌, ◌≤◌, List, ◌++◌, true, Result, Ok, Err, length, refl, sym, ap}
+use Rattle.std.proofs.Common.{◌≡◌, ◌↔◌, ℕ, ◌+◌, ◌<◌, ◌≤◌, List, [], ◌++◌, true, Result, Ok, Err, length, refl, sym, ap}
 use Rattle.std.proofs.Common.{subst, ◌∙◌, arith}
 use Rattle.std.specs.Prelude.{IfOk}
 use Rattle.rm_base.specs.Limits.{envelope_bytes}
 use Rattle.soap_document.specs.Machine.{State, start, run, is_refused, root_of}
-use Rattle.soap_document.specs.Seen.{Sees}
-use Rattle.soap_document.specs.declared.reader.Reader.{Reader}
 use Rattle.soap_envelope.specs.declared.envelope.Envelope.{Envelope}
 use Rattle.soap_profile.specs.Document.{Document}
 use Rattle.soap_profile.specs.Tree.{Element}
 use Rattle.soap_profile.specs.declared.error.EnvelopeError.{EnvelopeError}
-use Rattle.soap_pieces.specs.Depth.{InRoot}
 use Rattle.soap_pieces.specs.Front.{IsFront}
 use Rattle.soap_pieces.specs.Hopeless.{BeginsNone, BeginsOther, IsHopeless, too_long, refused, none, other}
 use Rattle.soap_pieces.specs.Stage.{HasCome, HasEnded, IsInRoot, IsRefused, IsSound, IsSoundBehind, is_idle, kept_count}
 use Rattle.soap_pieces.specs.Stage.{payload_len}
 use Rattle.soap_pieces.specs.declared.ended.Ended.{Ended}
 use Rattle.soap_pieces.specs.declared.front.Front.{Front}
-use Rattle.soap_pieces.specs.declared.depth.RootDepth.{RootDepth}
 use Rattle.soap_pieces.specs.declared.stage.Stage.{Stage}
-use Rattle.soap_pieces.specs.declared.stage.Stage.TheVariants.{Root, Behind, Refused, TooLong, Short}
+use Rattle.soap_pieces.specs.declared.stage.Stage.TheVariants.{Before, Root, Behind, Refused, TooLong, Short}
 use Rattle.soap_pieces.proofs.Behind.{Joins, IsRead, no_front, no_whole}
 use Rattle.soap_pieces.proofs.Ends.{ended_alive, not_none}
 use Rattle.soap_pieces.proofs.Envelopes.{Stands}
 
 -- ---- within a root
 
-no_other : Joins → IsRead → (reader : Reader RootDepth) (kept bytes : List ℕ) → IsInRoot reader kept bytes
-    → ¬ (BeginsOther bytes)
-no_other joins read reader kept bytes h o =
-    let k = subst (IsInRoot reader kept) o.is h in
-    no_front joins o.front o.more o.root ((read o.front o.root).0 o.document) k.sees.holds.stands_for.none_yet
+no_other : Joins → IsRead → (kept bytes : List ℕ) → IsInRoot kept bytes → ¬ (BeginsOther bytes)
+no_other joins read kept bytes h o =
+    let k = subst (IsInRoot kept) o.is h in
+    no_front joins o.front o.more o.root ((read o.front o.root).0 o.document) k.unended
 
-pub root_alive : Joins → IsRead → (reader : Reader RootDepth) (kept bytes : List ℕ) → IsInRoot reader kept bytes
-    → ¬ (IsHopeless bytes)
-root_alive joins read reader kept bytes h (none n) = not_none bytes h.fits h.going n
-root_alive joins read reader kept bytes h (other o) = no_other joins read reader kept bytes h o
+pub root_alive : Joins → IsRead → (kept bytes : List ℕ) → IsInRoot kept bytes → ¬ (IsHopeless bytes)
+root_alive joins read kept bytes h (none n) = not_none bytes h.fits h.going n
+root_alive joins read kept bytes h (other o) = no_other joins read kept bytes h o
 
-pub root_no_tree : IsRead → (reader : Reader RootDepth) (kept bytes : List ℕ) → IsInRoot reader kept bytes
-    → (tree : Element) → ¬ (Document bytes tree)
-root_no_tree read reader kept bytes h tree d =
-    no_whole bytes d.raw ((read bytes d.raw).0 d.is) h.sees.holds.stands_for.none_yet
+pub root_no_tree : IsRead → (kept bytes : List ℕ) → IsInRoot kept bytes → (tree : Element) → ¬ (Document bytes tree)
+root_no_tree read kept bytes h tree d = no_whole bytes d.raw ((read bytes d.raw).0 d.is) h.unended
+
+-- nothing has come
+pub nothing_in_root : IsInRoot [] []
+nothing_in_root = record { same = refl; unended = refl; going = refl; fits = omega arith }
 
 -- ---- a piece more
 
@@ -50,8 +46,9 @@ pub come_same : {E : Type 0} (r : Result Stage E) (all bytes : List ℕ) → all
 come_same r all bytes e h = subst (λ b. IfOk r (λ s. HasCome s b)) e h
 
 pub sound_more : (s : Stage) (n m : ℕ) → n ≤ m → IsSound s n → IsSound s m
+sound_more Before n m l h = tt
 sound_more (Root reader kept) n m l h =
-    record { told = h.told; place = omega (arith, l, h.place); len = omega (arith, l, h.len) }
+    record { ready = h.ready; fed = h.fed; place = omega (arith, l, h.place); len = omega (arith, l, h.len) }
 sound_more (Behind ended) n m l h = record {
   told = h.told;
   place = omega (arith, l, h.place);
@@ -71,6 +68,7 @@ sound_by (Err e) n m l h = tt
 -- ---- what is kept
 
 pub kept_most : (s : Stage) (n : ℕ) → IsSound s n → kept_count s ≤ n
+kept_most Before n h = omega arith
 kept_most (Root reader kept) n h = h.len
 kept_most (Behind ended) n h = omega (arith, h.payload, h.len)
 kept_most (Refused front) n h = omega (arith, h.0)
@@ -91,8 +89,9 @@ behind_little joins read stands e bytes n h sound dead (Err error) is = refl
 -- of what begins no envelope three bytes at most
 pub kept_little : Joins → IsRead → Stands → (s : Stage) (bytes : List ℕ) (n : ℕ) → HasCome s bytes
     → IsSound s n → IsHopeless bytes → kept_count s ≤ 3
+kept_little joins read stands Before bytes n h sound dead = omega arith
 kept_little joins read stands (Root reader kept) bytes n h sound dead =
-    absurd (root_alive joins read reader kept bytes h dead)
+    absurd (root_alive joins read kept bytes h dead)
 kept_little joins read stands (Behind ended) bytes n h sound dead =
     let zero : payload_len ended.answer ≡ 0 =
     behind_little joins read stands ended bytes n h sound dead ended.answer refl in
@@ -103,6 +102,7 @@ kept_little joins read stands Short bytes n h sound dead = omega arith
 
 -- and of what begins no document there is no reader
 pub rests : (s : Stage) (bytes : List ℕ) → HasCome s bytes → BeginsNone bytes → is_idle s ≡ true
+rests Before bytes h n = absurd (not_none [] (omega arith) refl (subst BeginsNone h n))
 rests (Root reader kept) bytes h n = absurd (not_none bytes h.fits h.going n)
 rests (Behind ended) bytes h n = absurd (not_none bytes h.fits h.going n)
 rests (Refused front) bytes h n = refl

@@ -3,15 +3,10 @@ use Rattle.std.specs.Prelude.{◌≡◌, ◌≢◌, ℕ, List, [], ◌∷◌, le
 use Rattle.soap_document.specs.Machine.{Frame, only_child}
 use Rattle.soap_document.specs.Tree.{none}
 use Rattle.soap_pieces.specs.declared.depth.Depth.{Depth}
-use Rattle.soap_pieces.specs.declared.depth.RootDepth.{RootDepth}
 
 -- how many it counts
 abbrev pub open_count : Depth → ℕ
 open_count d = d.open
-
--- how many it counts within the root
-abbrev pub root_count : RootDepth → ℕ
-root_count d = d.open
 
 -- the document, the last of these, has no part: no root has ended
 abbrev pub HasNoRoot : Frame → List Frame → Type 0
@@ -28,8 +23,3 @@ pub record IsDepth (d : Depth) (top : Frame) (below : List Frame) : Type 0 where
   pub count : d.open ≡ length below
   pub before : d.ended ≡ false → HasNoRoot top below
   pub after : d.ended ≡ true → HasOneRoot top below
-
--- as many elements are open as it counts, and no root has ended
-pub record InRoot (d : RootDepth) (top : Frame) (below : List Frame) : Type 0 where
-  pub count : d.open ≡ length below
-  pub none_yet : HasNoRoot top below

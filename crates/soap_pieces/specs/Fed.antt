@@ -13,7 +13,7 @@ abbrev pub is_short : EnvelopeReader → Bool
 is_short r = is_out r.stage
 
 -- how many of these it keeps, the payload of an envelope counted; beside what its reader of documents, where it has
--- one, holds of tags and text that go on, and the tree of an envelope whose root has ended
+-- one, holds of tags and text that go on, and the tree
 abbrev pub kept_bytes : EnvelopeReader → ℕ
 kept_bytes r = kept_count r.stage
 

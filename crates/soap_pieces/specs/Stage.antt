@@ -1,24 +1,24 @@
 -- How far a reader has come with what it was fed.
-use Rattle.std.specs.Prelude.{◌≡◌, ◌≢◌, ◌+◌, ◌++◌, ◌<◌, ◌≤◌, ℕ, List, length, Bool, true, false, Option, Some}
+use Rattle.std.specs.Prelude.{◌≡◌, ◌≢◌, ◌+◌, ◌++◌, ◌<◌, ◌≤◌, ℕ, List, [], length, Bool, true, false, Option, Some}
 use Rattle.std.specs.Prelude.{None, Result, Ok, Err, ⊤}
 use Rattle.rm_base.specs.Limits.{envelope_bytes}
 use Rattle.soap_document.specs.Grammar.{IsDocument}
 use Rattle.soap_document.specs.Machine.{State, start, run, is_refused, root_of}
-use Rattle.soap_document.specs.Seen.{Sees, IsTold, fed_len}
+use Rattle.soap_document.specs.Seen.{Sees, IsTold, fed_len, is_ended}
 use Rattle.soap_document.specs.Tree as written
-use Rattle.soap_document.specs.declared.reader.Reader.{Reader}
 use Rattle.soap_envelope.specs.declared.envelope.Envelope.{Envelope}
+use Rattle.soap_profile.specs.Fed.{IsReady, WasFed, total}
+use Rattle.soap_profile.specs.declared.document.DocumentReader.{DocumentReader}
 use Rattle.soap_profile.specs.declared.error.EnvelopeError.{EnvelopeError}
 use Rattle.soap_profile.specs.declared.error.EnvelopeError.TheVariants as Error
 use Rattle.soap_pieces.specs.Answer.{Reads}
 use Rattle.soap_pieces.specs.Behind.{IsAlike}
-use Rattle.soap_pieces.specs.Depth.{IsDepth, InRoot, open_count, root_count}
+use Rattle.soap_pieces.specs.Depth.{IsDepth, open_count}
 use Rattle.soap_pieces.specs.Front.{IsFront, front_len, tail_len}
-use Rattle.soap_pieces.specs.declared.depth.RootDepth.{RootDepth}
 use Rattle.soap_pieces.specs.declared.ended.Ended.{Ended}
 use Rattle.soap_pieces.specs.declared.front.Front.{Front}
 use Rattle.soap_pieces.specs.declared.stage.Stage.{Stage}
-use Rattle.soap_pieces.specs.declared.stage.Stage.TheVariants.{Root, Behind, Refused, TooLong, Short}
+use Rattle.soap_pieces.specs.declared.stage.Stage.TheVariants.{Before, Root, Behind, Refused, TooLong, Short}
 
 -- whether what is answered of bytes says that they are a document; None where it leaves that open
 abbrev pub said_root : Result Envelope EnvelopeError → Option Bool
@@ -35,10 +35,15 @@ pub data HasRoot (answer : Result Envelope EnvelopeError) (bytes : List ℕ) : T
   told : said_root answer ≡ Some true → HasRoot answer bytes
   read : said_root answer ≡ None → root_of (run start bytes) ≢ None → HasRoot answer bytes
 
+-- an answer is known of a document
+pub record IsKnown (answer : Result Envelope EnvelopeError) (bytes : List ℕ) : Type 0 where
+  pub some : root_of (run start bytes) ≢ None
+  pub known : answer ≢ Err Error.Memory
+
 -- no root has ended in the bytes, which may begin a document; they are kept
-pub record IsInRoot (reader : Reader RootDepth) (kept bytes : List ℕ) : Type 0 where
+pub record IsInRoot (kept bytes : List ℕ) : Type 0 where
   pub same : kept ≡ bytes
-  pub sees : Sees InRoot reader (run start bytes)
+  pub unended : is_ended (run start bytes).top (run start bytes).below ≡ false
   pub going : is_refused (run start bytes).mode ≡ false
   pub fits : length bytes ≤ envelope_bytes
 
@@ -67,7 +72,8 @@ pub record IsRefused (f : Front) (bytes : List ℕ) : Type 0 where
 
 -- how far it has come with these bytes
 abbrev pub HasCome : Stage → List ℕ → Type 0
-HasCome (Root reader kept) bytes = IsInRoot reader kept bytes
+HasCome Before bytes = bytes ≡ []
+HasCome (Root reader kept) bytes = IsInRoot kept bytes
 HasCome (Behind ended) bytes = HasEnded ended bytes
 HasCome (Refused front) bytes = IsRefused front bytes
 HasCome TooLong bytes = envelope_bytes < length bytes
@@ -75,6 +81,7 @@ HasCome Short bytes = ⊤
 
 -- memory was wanting
 abbrev pub is_out : Stage → Bool
+is_out Before = false
 is_out (Root reader kept) = false
 is_out (Behind ended) = false
 is_out (Refused front) = false
@@ -83,6 +90,7 @@ is_out Short = true
 
 -- it reads no document
 abbrev pub is_idle : Stage → Bool
+is_idle Before = false
 is_idle (Root reader kept) = false
 is_idle (Behind ended) = false
 is_idle (Refused front) = true
@@ -96,6 +104,7 @@ payload_len (Err error) = 0
 
 -- how many bytes are kept
 abbrev pub kept_count : Stage → ℕ
+kept_count Before = 0
 kept_count (Root reader kept) = length kept
 kept_count (Behind ended) = payload_len ended.answer + tail_len ended.front.tail
 kept_count (Refused front) = tail_len front.tail
@@ -103,9 +112,10 @@ kept_count TooLong = 0
 kept_count Short = 0
 
 -- what is known of it where it was fed so many bytes, whatever these are
-pub record IsSoundRoot (reader : Reader RootDepth) (kept : List ℕ) (n : ℕ) : Type 0 where
-  pub told : IsTold root_count reader
-  pub place : fed_len reader ≤ n
+pub record IsSoundRoot (reader : DocumentReader) (kept : List ℕ) (n : ℕ) : Type 0 where
+  pub ready : IsReady reader
+  pub fed : WasFed reader kept
+  pub place : total reader ≤ n
   pub len : length kept ≤ n
 
 -- the same behind a root; what follows is read behind four bytes of another
@@ -118,6 +128,7 @@ pub record IsSoundBehind (e : Ended) (n : ℕ) : Type 0 where
 
 -- of any
 abbrev pub IsSound : Stage → ℕ → Type 0
+IsSound Before n = ⊤
 IsSound (Root reader kept) n = IsSoundRoot reader kept n
 IsSound (Behind ended) n = IsSoundBehind ended n
 IsSound (Refused front) n = (front_len front ≤ n) × (tail_len front.tail ≤ 3)

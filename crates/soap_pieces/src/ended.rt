@@ -4,12 +4,14 @@ ghost use Rattle.std.specs.Prelude.{IfSome, None, Err, true, false};
 ghost use Rattle.rm_base.specs.Limits.{envelope_bytes};
 ghost use Rattle.soap_document.specs.Machine.{State, start, run, root_of, is_refused};
 ghost use Rattle.soap_document.specs.Seen.{Sees, IsTold, fed_len};
+ghost use Rattle.soap_profile.specs.Document.{IsPlaced};
+ghost use Rattle.soap_profile.specs.View.{element_view};
 ghost use Rattle.soap_pieces.specs.Answer.{Reads};
 ghost use Rattle.soap_pieces.specs.Behind.{least};
 ghost use Rattle.soap_pieces.specs.Depth.{IsDepth, open_count};
 ghost use Rattle.soap_pieces.specs.Front.{front_len, tail_len};
 ghost use Rattle.soap_pieces.specs.Hopeless.{IsHopeless};
-ghost use Rattle.soap_pieces.specs.Stage.{HasCome, HasEnded, HasRoot, IsSound, IsSoundBehind, is_out};
+ghost use Rattle.soap_pieces.specs.Stage.{HasCome, HasEnded, HasRoot, IsKnown, IsSound, IsSoundBehind, is_out};
 ghost use Rattle.soap_pieces.specs.Stage.{said_root};
 
 use crate::depth::Depth;
@@ -21,8 +23,8 @@ use soap_document::laws::{
     content_stands_between, document_is_read, document_is_utf8, pieces_are_joined, refused_stays,
 };
 use soap_envelope::laws::one_answer;
-use soap_envelope::{Envelope, read_envelope};
-use soap_profile::EnvelopeError;
+use soap_envelope::{Envelope, envelope_of, read_envelope};
+use soap_profile::{EnvelopeError, Placed};
 use std::alloc::Global;
 
 /// What is answered of bytes in which a root has ended, what reads on, and how much of all bytes is UTF-8.
@@ -35,6 +37,24 @@ pub(crate) struct Ended {
 }
 
 impl Ended {
+    /// The bytes are a document with this tree.
+    pub(crate) fn at(alloc: Global, bytes: &[u8], placed: Placed) -> Result<Self, Memory>
+        requires fits { length bytes.now ≤ envelope_bytes }
+        requires placed { IsPlaced bytes.now (element_view placed.root) placed.last }
+        ensures ended { IfOk result (λ ended. HasEnded ended bytes.now) }
+        ensures sound { IfOk result (λ ended. IsSoundBehind ended (length bytes.now)) }
+    {
+        document_is_read();
+        document_is_utf8();
+        let Placed { root, last } = placed;
+        let answer = envelope_of(alloc, bytes, root, last);
+        let is_short = is_out(&answer);
+        if is_short {
+            return Err(Memory);
+        }
+        answered(alloc, bytes, answer)
+    }
+
     /// None where the bytes are no document.
     pub(crate) fn of(alloc: Global, bytes: &[u8]) -> Result<Option<Self>, Memory>
         requires { length bytes.now ≤ envelope_bytes }
@@ -45,13 +65,7 @@ impl Ended {
         let answer = read_envelope(alloc, bytes);
         let is_whole = is_document(alloc, &answer, bytes)?;
         if is_whole {
-            let tail = behind_root(alloc)?;
-            let front = Front::of(alloc, bytes)?;
-            return Ok(Some(Ended {
-                answer,
-                tail,
-                front,
-            }));
+            return Ok(Some(answered(alloc, bytes, answer)?));
         }
         Ok(None)
     }
@@ -113,6 +127,39 @@ impl Ended {
             Some(_) => self.answer,
             None => Err(self.front.why_none(len)),
         }
+    }
+}
+
+// What is known where the bytes are a document and this is answered of them.
+fn answered(
+    alloc: Global,
+    bytes: &[u8],
+    answer: Result<Envelope, EnvelopeError>,
+) -> Result<Ended, Memory>
+    requires fits { length bytes.now ≤ envelope_bytes }
+    requires reads { Reads bytes.now answer }
+    requires known { IsKnown answer bytes.now }
+    ensures ended { IfOk result (λ ended. HasEnded ended bytes.now) }
+    ensures sound { IfOk result (λ ended. IsSoundBehind ended (length bytes.now)) }
+{
+    document_is_read();
+    document_is_utf8();
+    let tail = behind_root(alloc)?;
+    let front = Front::whole(alloc, bytes);
+    Ok(Ended {
+        answer,
+        tail,
+        front,
+    })
+}
+
+// Memory was wanting.
+fn is_out(answer: &Result<Envelope, EnvelopeError>) -> bool
+    ensures { result ≡ false → answer.now ≢ Err EnvelopeError.Memory }
+{
+    match answer {
+        Ok(_) => false,
+        Err(error) => matches!(error, EnvelopeError::Memory),
     }
 }
 

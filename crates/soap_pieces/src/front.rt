@@ -1,5 +1,6 @@
 //! How much of some bytes is UTF-8, told without keeping them.
 ghost use Rattle.std.specs.Prelude.{◌≡◌, ◌≢◌, ◌+◌, ◌++◌, ◌<◌, ◌≤◌, ◌^◌, ℕ, List, length, IfOk, OnOk, Err};
+ghost use Rattle.std.specs.Str.{IsUtf8};
 ghost use Rattle.rm_base.specs.Limits.{envelope_bytes};
 ghost use Rattle.soap_profile.specs.Document.{Document};
 ghost use Rattle.soap_profile.specs.Tree.{Element};
@@ -30,6 +31,19 @@ impl Front {
         let valid = utf8_prefix(bytes);
         let tail = tail_of(alloc, &bytes[valid..])?;
         Ok(Front { valid, tail })
+    }
+
+    /// That of bytes which are UTF-8.
+    pub(crate) fn whole(alloc: Global, bytes: &[u8]) -> Self
+        requires { IsUtf8 bytes.now }
+        ensures is { IsFront result bytes.now }
+        ensures len { front_len result ≤ length bytes.now }
+        ensures small { tail_len result.tail ≤ 3 }
+    {
+        Front {
+            valid: bytes.len(),
+            tail: Some(Blob::new(alloc)),
+        }
     }
 
     /// More bytes follow.

@@ -33,9 +33,10 @@ use soap_profile::EnvelopeError;
 use std::alloc::Global;
 use std::mem;
 
-/// A reader of an envelope, which is fed its bytes in pieces. It keeps them up to the end of their root, and then the
-/// envelope instead, where they are one; what follows that is only looked through. Where no envelope begins with them,
-/// it keeps at most three bytes between two pieces. Where memory was wanting once, all later calls say so.
+/// A reader of an envelope, which is fed its bytes in pieces. It keeps them up to the end of their root, with the tree
+/// that it makes of them meanwhile, and then the envelope instead, where they are one; what follows that is only looked
+/// through. Where no envelope begins with them, it keeps at most three bytes between two pieces. Where memory was
+/// wanting once, all later calls say so.
 #[derive(Drop)]
 pub struct EnvelopeReader {
     alloc: Global,
@@ -54,7 +55,7 @@ impl EnvelopeReader {
     {
         EnvelopeReader {
             alloc,
-            stage: Stage::new(alloc),
+            stage: Stage::Before,
             fed: 0,
         }
     }

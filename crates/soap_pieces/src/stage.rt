@@ -2,17 +2,15 @@
 ghost use Rattle.std.specs.Prelude.{◌≡◌, ◌≢◌, ◌↔◌, ◌+◌, ◌++◌, ◌<◌, ◌≤◌, ◌^◌, ℕ, List, [], length, IsTrue, IfOk, IsErr};
 ghost use Rattle.std.specs.Prelude.{Err, true, false};
 ghost use Rattle.rm_base.specs.Limits.{envelope_bytes};
-ghost use Rattle.soap_document.specs.Machine.{run, start};
-ghost use Rattle.soap_document.specs.Seen.{IsTold, Sees, fed_len};
+ghost use Rattle.soap_profile.specs.Fed.{IsReady, WasFed, total};
 ghost use Rattle.soap_profile.specs.Document.{Document};
 ghost use Rattle.soap_profile.specs.Tree.{Element};
 ghost use Rattle.soap_pieces.specs.Answer.{Reads};
-ghost use Rattle.soap_pieces.specs.Depth.{InRoot, root_count};
 ghost use Rattle.soap_pieces.specs.Hopeless.{IsHopeless};
 ghost use Rattle.soap_pieces.specs.Stage.{HasCome, IsInRoot, IsRefused, IsSound, IsSoundRoot, is_out, kept_count};
 ghost use Rattle.soap_pieces.specs.Front.{front_len, tail_len};
 
-use crate::depth::RootDepth;
+use crate::depth::Depth;
 use crate::ended::Ended;
 use crate::front::Front;
 use rm_base::limits::ENVELOPE_BYTES;
@@ -21,14 +19,16 @@ use soap_document::Reader;
 use soap_document::laws::{document_is_read, pieces_are_joined, refused_stays};
 use soap_envelope::Envelope;
 use soap_lex::{first_byte, utf8_prefix};
-use soap_profile::EnvelopeError;
+use soap_profile::{DocumentReader, EnvelopeError};
 use std::alloc::Global;
 
 /// How far it has come with what it was fed.
 #[derive(Drop)]
 pub(crate) enum Stage {
-    /// No root has ended: what reads it, and all bytes.
-    Root(Reader<RootDepth>, Blob),
+    /// Nothing was fed.
+    Before,
+    /// No root has ended: what makes its tree, and all bytes.
+    Root(DocumentReader, Blob),
     /// One has.
     Behind(Ended),
     /// No document begins so.
@@ -40,19 +40,6 @@ pub(crate) enum Stage {
 }
 
 impl Stage {
-    /// Before the first piece. It takes no memory.
-    pub(crate) fn new(alloc: Global) -> Self
-        ensures come { HasCome result [] }
-        ensures sound { IsSound result 0 }
-        ensures out { is_out result ≡ false }
-        ensures keeps { kept_count result ≡ 0 }
-    {
-        let depth = RootDepth::new();
-        let reader = Reader::new(alloc, depth);
-        let bytes = Blob::new(alloc);
-        Stage::Root(reader, bytes)
-    }
-
     /// A piece more, behind so many bytes.
     pub(crate) fn next(self, alloc: Global, before: usize, piece: &[u8]) -> Result<Self, Memory>
         requires sound { IsSound self before }
@@ -69,6 +56,7 @@ impl Stage {
             return self.overrun();
         }
         match self {
+            Stage::Before => first(alloc, piece),
             Stage::Root(reader, bytes) => in_root(alloc, reader, bytes, piece),
             Stage::Behind(ended) => ended.next(alloc, piece),
             Stage::Refused(front) => refused(alloc, front, piece),
@@ -85,9 +73,24 @@ impl Stage {
         ensures out { IfOk result (λ next. is_out next ≡ false) }
         ensures short { is_out self ≡ true → IsErr result }
     {
+        let is_short = self.is_short();
+        if is_short {
+            return Err(Memory);
+        }
+        Ok(Stage::TooLong)
+    }
+
+    // Memory was wanting.
+    fn is_short(&self) -> bool
+        ensures { result ≡ is_out self.now }
+    {
         match self {
-            Stage::Short => Err(Memory),
-            _ => Ok(Stage::TooLong),
+            Stage::Before => false,
+            Stage::Root(_, _) => false,
+            Stage::Behind(_) => false,
+            Stage::Refused(_) => false,
+            Stage::TooLong => false,
+            Stage::Short => true,
         }
     }
 
@@ -100,6 +103,7 @@ impl Stage {
         document_is_read();
         pieces_are_joined();
         match self {
+            Stage::Before => false,
             Stage::Root(_, _) => false,
             Stage::Behind(ended) => ended.is_other(),
             Stage::Refused(_) => true,
@@ -119,6 +123,7 @@ impl Stage {
         document_is_read();
         refused_stays();
         match self {
+            Stage::Before => Err(EnvelopeError::NotProfile),
             Stage::Root(_, bytes) => Err(why_unended(bytes.as_slice())),
             Stage::Behind(ended) => ended.finish(len),
             Stage::Refused(front) => Err(front.why_none(len)),
@@ -128,36 +133,44 @@ impl Stage {
     }
 }
 
+// The first piece.
+fn first(alloc: Global, piece: &[u8]) -> Result<Stage, Memory>
+    requires { length piece.now ≤ envelope_bytes }
+    ensures come { IfOk result (λ next. HasCome next piece.now) }
+    ensures sound { (n : ℕ) → IfOk result (λ next. IsSound next (n + length piece.now)) }
+    ensures out { IfOk result (λ next. is_out next ≡ false) }
+{
+    let reader = DocumentReader::new(alloc)?;
+    let bytes = Blob::new(alloc);
+    in_root(alloc, reader, bytes, piece)
+}
+
 // A piece more, where no root has ended before.
 fn in_root(
     alloc: Global,
-    mut reader: Reader<RootDepth>,
+    mut reader: DocumentReader,
     mut bytes: Blob,
     piece: &[u8],
 ) -> Result<Stage, Memory>
-    requires told { IsTold root_count reader }
-    requires place { fed_len reader + length piece.now < 2 ^ 64 }
+    requires ready { IsReady reader }
+    requires place { total reader + length piece.now < 2 ^ 64 }
     requires fits { length bytes + length piece.now ≤ envelope_bytes }
-    ensures come { (fed : List ℕ) → IsInRoot reader bytes fed
+    requires fed { WasFed reader bytes }
+    ensures come { (fed : List ℕ) → IsInRoot bytes fed
         → IfOk result (λ next. HasCome next (fed ++ piece.now)) }
     ensures sound { (n : ℕ) → IsSoundRoot reader bytes n → IfOk result (λ next. IsSound next (n + length piece.now)) }
     ensures out { IfOk result (λ next. is_out next ≡ false) }
 {
-    pieces_are_joined();
     bytes.push_all(piece)?;
-    match reader.feed(piece) {
-        Ok(()) => on(alloc, reader, bytes),
-        Err(Memory) => {
-            drop(reader);
-            at_end(alloc, bytes.as_slice())
-        }
-    }
+    reader.feed(piece)?;
+    on(alloc, reader, bytes)
 }
 
-// No root has ended among the bytes, which the reader was fed; it may refuse them.
-fn on(alloc: Global, reader: Reader<RootDepth>, bytes: Blob) -> Result<Stage, Memory>
-    ensures come { (fed : List ℕ) → bytes ≡ fed → Sees InRoot reader (run start fed) → length fed ≤ envelope_bytes
-        → IfOk result (λ next. HasCome next fed) }
+// The reader was fed the bytes; it may refuse them, or their root has ended.
+fn on(alloc: Global, reader: DocumentReader, bytes: Blob) -> Result<Stage, Memory>
+    requires fits { length bytes ≤ envelope_bytes }
+    requires fed { WasFed reader bytes }
+    ensures come { IfOk result (λ next. HasCome next bytes) }
     ensures sound { (n : ℕ) → IsSoundRoot reader bytes n → IfOk result (λ next. IsSound next n) }
     ensures out { IfOk result (λ next. is_out next ≡ false) }
 {
@@ -166,11 +179,33 @@ fn on(alloc: Global, reader: Reader<RootDepth>, bytes: Blob) -> Result<Stage, Me
         let front = Front::of(alloc, bytes.as_slice())?;
         return Ok(Stage::Refused(front));
     }
+    let is_ended = reader.is_ended();
+    if is_ended {
+        return at_end(alloc, reader, bytes.as_slice());
+    }
     Ok(Stage::Root(reader, bytes))
 }
 
-// A root has ended among the bytes, or memory was wanting.
-fn at_end(alloc: Global, bytes: &[u8]) -> Result<Stage, Memory>
+// The root of the bytes has ended, which the reader was fed. They may be no document yet, where a comment goes on
+// behind it.
+fn at_end(alloc: Global, reader: DocumentReader, bytes: &[u8]) -> Result<Stage, Memory>
+    requires fits { length bytes.now ≤ envelope_bytes }
+    requires fed { WasFed reader bytes.now }
+    ensures come { IfOk result (λ next. HasCome next bytes.now) }
+    ensures sound { IfOk result (λ next. IsSound next (length bytes.now)) }
+    ensures out { IfOk result (λ next. is_out next ≡ false) }
+{
+    match reader.finish() {
+        Some(placed) => {
+            let ended = Ended::at(alloc, bytes, placed)?;
+            Ok(Stage::Behind(ended))
+        }
+        None => again(alloc, bytes),
+    }
+}
+
+// The same, where the bytes are read again: no tree was made of them, or they are no document yet.
+fn again(alloc: Global, bytes: &[u8]) -> Result<Stage, Memory>
     requires { length bytes.now ≤ envelope_bytes }
     ensures come { IfOk result (λ next. HasCome next bytes.now) }
     ensures sound { IfOk result (λ next. IsSound next (length bytes.now)) }
@@ -190,7 +225,7 @@ fn within(alloc: Global, bytes: &[u8]) -> Result<Stage, Memory>
     ensures sound { IfOk result (λ next. IsSound next (length bytes.now)) }
     ensures out { IfOk result (λ next. is_out next ≡ false) }
 {
-    let end = root_end(alloc, bytes);
+    let end = root_end(alloc, bytes)?;
     let (front, more) = bytes.split_at(end);
     let begun = Ended::of(alloc, front)?;
     match begun {
@@ -200,19 +235,20 @@ fn within(alloc: Global, bytes: &[u8]) -> Result<Stage, Memory>
 }
 
 // Where among the bytes a root ends; a > ends it.
-fn root_end(alloc: Global, bytes: &[u8]) -> usize
-    ensures { result ≤ length bytes.now }
+fn root_end(alloc: Global, bytes: &[u8]) -> Result<usize, Memory>
+    ensures { IfOk result (λ end. end ≤ length bytes.now) }
 {
-    let mut reader = Reader::new(alloc, RootDepth::new());
+    let mut reader = Reader::new(alloc, Depth::new());
     let mut end = 0;
     while let Some(more) = first_byte(b'>', &bytes[end..]) {
         let next = end + more + 1;
-        if reader.feed(&bytes[end..next]).is_err() {
-            return next;
-        }
+        reader.feed(&bytes[end..next])?;
         end = next;
+        if reader.is_ended() {
+            return Ok(end);
+        }
     }
-    end
+    Ok(end)
 }
 
 // A piece more, where no document begins so.

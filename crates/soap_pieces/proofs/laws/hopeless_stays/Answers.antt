@@ -1,7 +1,4 @@
-use Rattle.soap_pieces.proofs.Depths.{grown}
-use Rattle.soap_pieces.proofs.Ends.{answer_whole}
 use Rattle.soap_pieces.proofs.Hopeless.{no_document, no_envelope, stays_hopeless}
-use Rattle.soap_pieces.proofs.Stages.{kept_little}
 use Rattle.soap_pieces.proofs.laws.hopeless_stays.Goals as goal
 
 pub returns : goal.returns

@@ -13,7 +13,7 @@ of-requires c =
     let front = c.split_at.result.0.now in
     let more = c.split_at.result.1.now in
     let whole =
-    both c.args.bytes.now front more c.root_end-end.result c.split_at.ensures.front c.split_at.ensures.back in
+    both c.args.bytes.now front more c.in_ok-end.end c.split_at.ensures.front c.split_at.ensures.back in
     omega (arith, ap length whole, length-append front more)
 
 pub next-requires : goal.next-requires
@@ -21,7 +21,7 @@ next-requires c =
     let front = c.split_at.result.0.now in
     let more = c.split_at.result.1.now in
     let whole =
-    both c.args.bytes.now front more c.root_end-end.result c.split_at.ensures.front c.split_at.ensures.back in
+    both c.args.bytes.now front more c.in_ok-end.end c.split_at.ensures.front c.split_at.ensures.back in
     let h = subst (λ o. IfSome o (λ ended. IsSoundBehind ended (length front))) c.in-Some.is
     c.in_ok-begun.ensures.sound in record {
       told = h.told;
@@ -34,7 +34,7 @@ returns-in-Some-clause-come c =
     let front = c.split_at.result.0.now in
     let more = c.split_at.result.1.now in
     let whole =
-    both c.args.bytes.now front more c.root_end-end.result c.split_at.ensures.front c.split_at.ensures.back in
+    both c.args.bytes.now front more c.in_ok-end.end c.split_at.ensures.front c.split_at.ensures.back in
     let h = subst (λ o. IfSome o (λ ended. HasEnded ended front)) c.in-Some.is c.in_ok-begun.ensures.ended in
     come_same _ (front ++ more) c.args.bytes.now whole
     (c.next.ensures.come front h (omega (arith, ap length whole)))
@@ -44,7 +44,7 @@ returns-in-Some-clause-sound c =
     let front = c.split_at.result.0.now in
     let more = c.split_at.result.1.now in
     let whole =
-    both c.args.bytes.now front more c.root_end-end.result c.split_at.ensures.front c.split_at.ensures.back in
+    both c.args.bytes.now front more c.in_ok-end.end c.split_at.ensures.front c.split_at.ensures.back in
     let h = subst (λ o. IfSome o (λ ended. IsSoundBehind ended (length front))) c.in-Some.is
     c.in_ok-begun.ensures.sound in
     sound_by _ (length front + length more) (length c.args.bytes.now)

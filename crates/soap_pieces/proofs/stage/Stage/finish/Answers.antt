@@ -1,14 +1,21 @@
-use Rattle.std.proofs.Common.{◌≡◌, ◌≤◌, Err, length, sym, subst, ◌∙◌}
+use Rattle.std.proofs.Common.{◌≡◌, ◌≤◌, [], Err, arith, length, sym, subst, ◌∙◌}
+use Rattle.std.proofs.lemmas.Str.{IsUtf8-nil}
 use Rattle.rm_base.specs.Limits.{envelope_bytes}
 use Rattle.soap_profile.specs.Document.{Document}
 use Rattle.soap_profile.specs.Tree.{Element}
 use Rattle.soap_profile.specs.declared.error.EnvelopeError.TheVariants as Error
 use Rattle.soap_pieces.specs.Answer.{Reads}
 use Rattle.soap_pieces.specs.Stage.{HasCome}
-use Rattle.soap_pieces.proofs.Answers.{long_is}
+use Rattle.soap_pieces.proofs.Answers.{long_is, none_is}
 use Rattle.soap_pieces.proofs.Hopeless.{refused_no_tree}
-use Rattle.soap_pieces.proofs.Stages.{root_no_tree}
+use Rattle.soap_pieces.proofs.Stages.{nothing_in_root, root_no_tree}
 use Rattle.soap_pieces.proofs.stage.Stage.finish.Goals as goal
+
+pub returns-in-Before-clause-reads : goal.returns-in-Before-clause-reads
+returns-in-Before-clause-reads c = λ bytes h size e.
+    let empty = subst (λ s. HasCome s bytes) c.in-Before.is h in
+    subst (λ b. Reads b (Err Error.NotProfile)) (sym empty)
+    (none_is [] (omega arith) IsUtf8-nil (root_no_tree c.document_is_read.ensures [] [] nothing_in_root))
 
 pub returns-in-Root-clause-reads : goal.returns-in-Root-clause-reads
 returns-in-Root-clause-reads c = λ bytes h size e.
@@ -16,7 +23,7 @@ returns-in-Root-clause-reads c = λ bytes h size e.
     let same = c.as_slice.ensures ∙ k.same in
     subst (λ b. Reads b (Err c.why_unended.result)) same
     (c.why_unended.ensures.reads (subst (λ b. length b ≤ envelope_bytes) (sym same) k.fits)
-    (subst (λ b. (tree : Element) → ¬ (Document b tree)) (sym same) (root_no_tree c.document_is_read.ensures _ _ bytes
+    (subst (λ b. (tree : Element) → ¬ (Document b tree)) (sym same) (root_no_tree c.document_is_read.ensures _ bytes
     k)))
 
 pub returns-in-Behind-clause-reads : goal.returns-in-Behind-clause-reads

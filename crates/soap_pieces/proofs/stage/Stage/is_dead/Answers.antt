@@ -1,13 +1,20 @@
-use Rattle.std.proofs.Common.{refl, subst}
-use Rattle.soap_pieces.specs.Hopeless.{none, refused, too_long}
+use Rattle.std.proofs.Common.{[], refl, subst}
+use Rattle.soap_pieces.specs.Hopeless.{IsHopeless, none, refused, too_long}
 use Rattle.soap_pieces.specs.Stage.{HasCome}
-use Rattle.soap_pieces.proofs.Stages.{root_alive}
+use Rattle.soap_pieces.proofs.Stages.{nothing_in_root, root_alive}
 use Rattle.soap_pieces.proofs.stage.Stage.is_dead.Goals as goal
+
+pub returns-in-Before-clause-dead : goal.returns-in-Before-clause-dead
+returns-in-Before-clause-dead c = λ bytes h e. (
+  λ t. absurd (cc),
+  λ d. absurd (root_alive c.pieces_are_joined.ensures c.document_is_read.ensures [] [] nothing_in_root
+      (subst IsHopeless (subst (λ s. HasCome s bytes) c.in-Before.is h) d)),
+)
 
 pub returns-in-Root-clause-dead : goal.returns-in-Root-clause-dead
 returns-in-Root-clause-dead c = λ bytes h e. (
   λ t. absurd (cc),
-  λ d. absurd (root_alive c.pieces_are_joined.ensures c.document_is_read.ensures _ _ bytes
+  λ d. absurd (root_alive c.pieces_are_joined.ensures c.document_is_read.ensures _ bytes
       (subst (λ s. HasCome s bytes) c.in-Root.is h) d),
 )
 

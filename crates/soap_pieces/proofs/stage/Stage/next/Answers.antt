@@ -1,15 +1,19 @@
-use Rattle.std.proofs.Common.{◌≡◌, ◌≤◌, ◌+◌, ◌++◌, length, subst, arith, length-append}
+use Rattle.std.proofs.Common.{◌≡◌, ◌≤◌, ◌+◌, ◌++◌, length, sym, ap, subst, arith, length-append}
 use Rattle.rm_base.specs.Limits.{envelope_bytes}
 use Rattle.soap_pieces.specs.Stage.{HasCome, IsSound}
-use Rattle.soap_pieces.proofs.Stages.{most_of}
+use Rattle.soap_pieces.proofs.Stages.{come_same, most_of}
 use Rattle.soap_pieces.proofs.stage.Stage.next.Goals as goal
+
+pub first-requires : goal.first-requires
+first-requires c = omega (arith, c.if-fed-gt-ENVELOPE_BYTES.false)
 
 pub in_root-requires : goal.in_root-requires
 in_root-requires c =
     let h = subst (λ s. IsSound s c.args.before) c.in-Root.is c.requires.sound in record {
-      told = h.told;
+      ready = h.ready;
       place = omega (arith, h.place);
       fits = omega (arith, h.len, c.if-fed-gt-ENVELOPE_BYTES.false);
+      fed = h.fed;
     }
 
 pub next-requires : goal.next-requires
@@ -35,6 +39,22 @@ returns-then-fed-gt-ENVELOPE_BYTES-clause-come c = λ bytes h size.
 
 pub returns-then-fed-gt-ENVELOPE_BYTES-clause-sound : goal.returns-then-fed-gt-ENVELOPE_BYTES-clause-sound
 returns-then-fed-gt-ENVELOPE_BYTES-clause-sound c = c.overrun.ensures.sound (c.args.before + length c.args.piece.now)
+
+pub returns-in-Before-clause-come : goal.returns-in-Before-clause-come
+returns-in-Before-clause-come c = λ bytes h size.
+    let piece = c.args.piece.now in
+    let empty = subst (λ s. HasCome s bytes) c.in-Before.is h in
+    come_same _ piece (bytes ++ piece) (sym (ap (λ b. b ++ piece) empty)) c.first.ensures.come
+
+pub returns-in-Before-clause-sound : goal.returns-in-Before-clause-sound
+returns-in-Before-clause-sound c = c.first.ensures.sound c.args.before
+
+pub returns-in-Before-clause-most : goal.returns-in-Before-clause-most
+returns-in-Before-clause-most c =
+    most_of _ (c.args.before + length c.args.piece.now) (c.first.ensures.sound c.args.before) (omega (
+      arith,
+      c.if-fed-gt-ENVELOPE_BYTES.false,
+    ))
 
 pub returns-in-Root-clause-come : goal.returns-in-Root-clause-come
 returns-in-Root-clause-come c = λ bytes h size.
