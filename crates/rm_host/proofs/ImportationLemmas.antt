@@ -14,7 +14,7 @@ use Rattle.rm_journal.specs.Entries.{first_bank}
 use Rattle.rm_journal.specs.EntryLemmas.{length-gates_from}
 use Rattle.rm_journal.specs.JournalState.{JournalState}
 use Rattle.rm_host.specs.Ends.{import_end}
-use Rattle.rm_host.specs.Importation.{Brings, FailsToImport, IsNotMade}
+use Rattle.rm_host.specs.Importation.{Brings, FailsToImport, IsNotMade, IsShort}
 use Rattle.rm_host.specs.declared.end.End.{End}
 use Rattle.rm_host.specs.declared.end.End.TheVariants as end
 
@@ -26,15 +26,16 @@ some-bytes (Some all) = (all, refl)
 -- why no node is made, as the command ends
 pub not-made : {T : Type 0} (tells : Bool) (bytes : List ℕ) (e : ImportError)
     → (e ≡ import.Memory) ⊎ ((e ≡ import.Disk) ⊎ ((e ≡ import.NotAJournal) ⊎ IsTooLong bytes e))
+    → (◌≡◌ {A = Result T ImportError} (Err e) (Err import.NotAJournal) → IsShort bytes)
     → (IsTrue tells → ◌≡◌ {A = Result T ImportError} (Err e) (Err import.NotAJournal) → IsNoNodeBefore bytes)
     → IsNotMade tells bytes (import_end e)
-not-made tells bytes import.Memory which none = tt
-not-made tells bytes import.Disk which none = tt
-not-made tells bytes import.NotAJournal which none = λ t. none t refl
-not-made tells bytes (import.Full end needed) (inl same) none = absurd cc
-not-made tells bytes (import.Full end needed) (inr (inl same)) none = absurd cc
-not-made tells bytes (import.Full end needed) (inr (inr (inl same))) none = absurd cc
-not-made tells bytes (import.Full end needed) (inr (inr (inr long))) none = long
+not-made tells bytes import.Memory which short none = tt
+not-made tells bytes import.Disk which short none = tt
+not-made tells bytes import.NotAJournal which short none = (short refl, λ t. none t refl)
+not-made tells bytes (import.Full end needed) (inl same) short none = absurd cc
+not-made tells bytes (import.Full end needed) (inr (inl same)) short none = absurd cc
+not-made tells bytes (import.Full end needed) (inr (inr (inl same))) short none = absurd cc
+not-made tells bytes (import.Full end needed) (inr (inr (inr long))) short none = long
 
 -- and as import does
 pub fails-so : (tells : Bool) (first now : Told) (bytes : List ℕ) (e : End) → IsNotMade tells bytes e
@@ -43,7 +44,7 @@ fails-so tells first now bytes end.NotEmpty not empty = absurd not
 fails-so tells first now bytes end.ReadFault not empty = absurd not
 fails-so tells first now bytes end.TooLong not empty = absurd not
 fails-so tells first now bytes (end.Refused why) not empty = (not, empty)
-fails-so tells first now bytes end.NotAJournal not empty = λ t. (not t, empty t)
+fails-so tells first now bytes end.NotAJournal not empty = (not.0, λ t. (not.1 t, empty t))
 fails-so tells first now bytes e not empty = not
 
 -- the disk is not empty, or it failed

@@ -42,7 +42,7 @@ pub record Imported (tells : Bool) (first now : Told) (bytes text : List ℕ) : 
 -- why no node was made of bytes, where it was no fault of the disk and no want of memory
 abbrev pub IsNotMade : Bool → List ℕ → End → Type 0
 IsNotMade tells bytes (end.Refused why) = IsOverlong bytes why
-IsNotMade tells bytes end.NotAJournal = IsTrue tells → IsNoNodeBefore bytes
+IsNotMade tells bytes end.NotAJournal = IsShort bytes × (IsTrue tells → IsNoNodeBefore bytes)
 IsNotMade tells bytes end.DiskFault = Unit {0}
 IsNotMade tells bytes end.Memory = Unit {0}
 IsNotMade tells bytes _ = ⊥
@@ -55,7 +55,7 @@ FailsToImport tells first now bytes end.ReadFault = now ≡ first
 FailsToImport tells first now bytes end.TooLong = now ≡ first
 FailsToImport tells first now bytes (end.Refused why) = IsOverlong bytes why × (IsTrue tells → seen_of first.past ≡ [])
 FailsToImport tells first now bytes end.NotAJournal =
-    IsTrue tells → IsNoNodeBefore bytes × (seen_of first.past ≡ [])
+    IsShort bytes × (IsTrue tells → IsNoNodeBefore bytes × (seen_of first.past ≡ []))
 FailsToImport tells first now bytes e = IsNotMade tells bytes e
 
 -- what import answers of these bytes

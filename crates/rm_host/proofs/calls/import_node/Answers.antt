@@ -11,7 +11,8 @@ returns-in_err-import-clause-why g c =
     let p = err_from_is_err_and c.from_residual.result c.from_residual.ensures.1 in
     let e = c.in_err-import.field-0.0 in
     rw p.1 (subst (IsNotMade g.D.Disk.tells c.args.bytes.now) (sym p.2)
-    (not-made g.D.Disk.tells c.args.bytes.now e c.in_err-import.ensures.refusals c.in_err-import.ensures.none))
+    (not-made g.D.Disk.tells c.args.bytes.now e c.in_err-import.ensures.refusals
+    c.in_err-import.ensures.none_short c.in_err-import.ensures.none))
 
 pub returns-in_err-import-clause-reason : goal.returns-in_err-import-clause-reason
 returns-in_err-import-clause-reason g c =
