@@ -57,6 +57,9 @@ pub fn run<S: Source, K: Sink, M: CrashDisk, W: Wire, D: Disk, L: Link, C: Clock
     // The stage is for the others.
     ensures stage { is_of_node words.now ≡ true → staged_of M.told W.packets stage.new
         ≡ staged_of M.told W.packets stage.old }
+
+    // And the host is for them alone.
+    ensures host { is_of_node words.now ≡ false → host.new ≡ host.old }
 {
     if is_of_node(words) {
         return rm_host::run(alloc, words, input, out, host);
