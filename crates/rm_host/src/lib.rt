@@ -16,5 +16,5 @@ pub mod words;
 
 pub use end::End;
 pub use host::Host;
-pub use program::{explain, explain_disk, run, start, texts_given, words_behind};
+pub use program::{explain, explain_disk, run, start};
 pub use words::is_of_node;

@@ -1,5 +1,5 @@
 //! The program at its edge: a file, the network, the clock, standard input and output.
-ghost use Rattle.std.specs.Prelude.{◌≡◌, Ok, drop};
+ghost use Rattle.std.specs.Prelude.{◌≡◌, Ok};
 ghost use Rattle.rm_host.specs.Doings.{Does, DoesAsked, IsObeyed, Spares, Tells, world_of};
 ghost use Rattle.rm_host.specs.Ends.{HasReason, Prints, faults_of};
 ghost use Rattle.rm_host.specs.Runs.{IsComplete, IsSpent, IsStatusOf, Obeys, PrintsAt, Uses, outside_of};
@@ -13,16 +13,15 @@ use crate::import::import;
 use crate::send::send;
 use crate::serve::serve;
 use crate::words::{Command, command_of};
+use program_words::{texts_given, words_behind};
 use rm_base::{
-    Blob, Clock, Items, Memory, Sink, SinkError, Source, StdClock, StdSink, StdSource, write_all,
+    Blob, Clock, Memory, Sink, SinkError, Source, StdClock, StdSink, StdSource, write_all,
 };
 use rm_disk::Disk;
 use rm_file::{Fault as DiskFault, FileDisk, NAME};
 use rm_link::{Fault as LinkFault, Link, TcpLink};
 use rm_report::exits;
 use std::alloc::Global;
-use std::env;
-use std::io::ErrorKind;
 use std::process::ExitCode;
 
 /// Does what the words say, and answers the exit status.
@@ -135,28 +134,6 @@ pub fn start(rt: HostRuntime) -> ExitCode {
     ExitCode::from(status)
 }
 
-/// The texts that the program was given, of which the first is its name. Where one of them isn't UTF-8 std hands out
-/// none.
-pub fn texts_given(rt: &HostRuntime) -> Result<Items<Blob>, Memory> {
-    match env::args(rt) {
-        Ok(args) => texts_of(rt.alloc(), args),
-        Err(error) => match error.kind() {
-            ErrorKind::InvalidData => Ok(Items::new(rt.alloc())),
-            _ => Err(Memory),
-        },
-    }
-}
-
-/// The words behind the first of the texts, which is the program's name.
-pub fn words_behind(given: &[Blob]) -> &[Blob]
-    ensures { result.now ≡ drop 1 given.now }
-{
-    match given.split_first() {
-        Some((_program, words)) => words,
-        None => &[],
-    }
-}
-
 /// Says on standard error what failed, where the status tells that the disk or the network did.
 pub fn explain<R: Eprint>(rt: &R, status: u8, disk: Option<&DiskFault>, link: Option<&LinkFault>) {
     if status == End::DiskFault.status() {
@@ -179,13 +156,4 @@ fn explain_link<R: Eprint>(rt: &R, fault: Option<&LinkFault>) {
     if let Some(fault) = fault {
         let _ = eprintln!(rt; "wsrm: {fault}");
     }
-}
-
-// The texts that were given, of which the first is the program's name.
-fn texts_of(alloc: Global, given: env::Args) -> Result<Items<Blob>, Memory> {
-    let mut texts = Items::new(alloc);
-    for text in given {
-        texts.push(Blob::from_slice(alloc, text.as_bytes())?)?;
-    }
-    Ok(texts)
 }

@@ -1,0 +1,31 @@
+//! The commands that need no node, without those of a node: `./wsrm` answers them by this program while wsrm is not
+//! proved and built, since it is read from its sources in half the time.
+#![tactic(auto)]
+
+use program_words::{texts_given, words_behind};
+use rm_base::{Blob, Memory, StdSink, StdSource};
+use rm_command::{End, run};
+use rm_disk::MemDisk;
+use rm_network::MemWire;
+use rm_replay::Stage;
+use std::process::ExitCode;
+
+fn main(rt: HostRuntime) -> ExitCode {
+    let status = match texts_given(&rt) {
+        Ok(given) => played(&rt, words_behind(given.as_slice())),
+        Err(Memory) => End::Memory.status(),
+    };
+    ExitCode::from(status)
+}
+
+// Runs the words over standard input and output, and disks and a wire in memory.
+fn played(rt: &HostRuntime, words: &[Blob]) -> u8 {
+    let mut input = StdSource::new(rt.stdin());
+    let mut out = StdSink::new(rt.stdout());
+    let mut stage = Stage {
+        one: MemDisk::new(rt.alloc()),
+        two: MemDisk::new(rt.alloc()),
+        wire: MemWire::new(rt.alloc()),
+    };
+    run(rt.alloc(), words, &mut input, &mut out, &mut stage)
+}
