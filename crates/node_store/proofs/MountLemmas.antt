@@ -1,16 +1,16 @@
 -- What a mount finds, and where it finds none.
-use Rattle.std.proofs.Common.{◌≡◌, ◌⊎◌, inl, inr, ℕ, ◌+◌, ◌<◌, ◌≤◌, ◌^◌, List, [], ◌∷◌, length}
-use Rattle.std.proofs.Common.{refl, sym, ap, subst, ◌∙◌, arith, length-append}
+use Rattle.std.proofs.Common.{◌≡◌, ℕ, ◌+◌, ◌<◌, ◌≤◌, ◌^◌, List, [], ◌∷◌, length}
+use Rattle.std.proofs.Common.{refl, sym, ap, subst, ◌∙◌, arith, length-append, drop, Result, Err}
 use Rattle.std.specs.List.{AllByRecursion, flat_map}
 use Rattle.record_batch.specs.Batch.{batch_text}
 use Rattle.record_batch.specs.Fact.{Fact}
 use Rattle.record_batch.specs.Writable.{IsBatch}
 use Rattle.rm_disk.specs.Call.{Call, seen_of}
 use Rattle.rm_journal.specs.Entries.{block, list_of, StandsAsBefore, StandsAt}
-use Rattle.rm_journal.specs.EntryLemmas.{end_is, length-block}
-use Rattle.rm_journal.specs.Journal.{Fits, IsTooLong as IsLongBefore}
+use Rattle.rm_journal.specs.EntryLemmas.{end_is, ends_one, length-block}
+use Rattle.rm_journal.specs.Journal.{AnswersImport, Fits, HasRoomFor, IsTooLong as IsLongBefore}
 use Rattle.rm_journal.specs.declared.error.JournalError.{JournalError}
-use Rattle.rm_journal.specs.declared.error.JournalError.TheVariants.{Memory, Disk, NotAJournal, Full}
+use Rattle.rm_journal.specs.declared.error.JournalError.TheVariants.{Full}
 use Rattle.rm_journal.specs.JournalState.{JournalState, end_of, journal_of}
 use Rattle.rm_protocol.specs.Node.{records_in}
 use Rattle.sequence_table.specs.Makers.{counter}
@@ -101,29 +101,32 @@ ends_before journal entries is fit =
     let start : journal.bank.start ≡ 25 = ap (λ (j : JournalState). j.bank.start) is in
     (omega (arith, end, length-append (flat_map block entries) (0 ∷ [])), omega (arith, end, start))
 
+-- what an import answered, where it is an error
+pub answers_at : (bytes : List ℕ) (answer : Result JournalState JournalError) (error given : JournalError)
+    → answer ≡ Err error → error ≡ given → AnswersImport bytes answer → AnswersImport bytes (Err given)
+answers_at bytes answer error given is same answers =
+    subst (AnswersImport bytes) (is ∙ ap (λ e. Err e) same) answers
+
 -- why such a journal is not made
-pub too_long : (bytes : List ℕ) (error : JournalError) (end needed : ℕ) → error ≡ Full end needed
-    → (error ≡ Memory) ⊎ (error ≡ Disk) ⊎ (error ≡ NotAJournal) ⊎ IsLongBefore bytes error
+pub too_long : (bytes : List ℕ) (end needed : ℕ) → IsLongBefore bytes (Full end needed)
     → IsTooLong bytes (FullBefore end needed)
-too_long bytes error end needed is why = elim why [
-  | inl e ↦ absurd cc
-  | inr other ↦ elim other [
-    | inl e ↦ absurd cc
-    | inr more ↦ elim more [
-      | inl e ↦ absurd cc
-      | inr long ↦ record {
-        entries = long.entries;
-        stands = long.stands;
-        long = long.long;
-        is = same long.entries long.is;
-      }
-    ]
-  ]
-]
+too_long bytes end needed long = record {
+  entries = long.entries;
+  stands = long.stands;
+  long = long.long;
+  is = same long.entries long.is;
+}
   where
-    same : (entries : List (List ℕ)) → error ≡ Full 25 (length (list_of entries))
+    same : (entries : List (List ℕ)) → Full end needed ≡ Full 25 (length (list_of entries))
         → FullBefore end needed ≡ FullBefore 25 (length (list_of entries))
     same entries e = cc
+
+-- where a journal has room for one list that bytes of the layout before stand for, it has for each
+pub has_room : (one other : List (List ℕ)) (bytes : List ℕ) → HasRoomFor one bytes → StandsAsBefore other bytes
+    → 25 + length (list_of other) ≤ 268435456
+has_room one other bytes room stands =
+    subst (λ l. 25 + length (list_of l) ≤ 268435456)
+    (ends_one one other (drop 8 bytes) room.stands.ends stands.ends) room.short
 
 -- ---- the batches of a node
 

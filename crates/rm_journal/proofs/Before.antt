@@ -1,5 +1,7 @@
 -- Bytes of the layout before this one.
-use Rattle.std.proofs.Common.{◌≡◌, ℕ, ◌+◌, ◌-◌, ◌<◌, ◌≤◌, false, List, [], ◌∷◌, ◌++◌, length, take, drop, get_or, refl}
+use Rattle.std.proofs.Common.{◌≡◌, ◌⊎◌, inl, inr, Result, Err, ℕ, ◌+◌, ◌-◌, ◌<◌, ◌≤◌, false}
+use Rattle.std.proofs.Common.{List, [], ◌∷◌, ◌++◌, length, take, drop}
+use Rattle.std.proofs.Common.{get_or, refl}
 use Rattle.std.proofs.Common.{sym, ◌∙◌, ap, subst, arith, length-append}
 use Rattle.std.specs.Prelude.{codes}
 use Rattle.std.specs.List.{flat_map}
@@ -11,7 +13,9 @@ use Rattle.rm_journal.specs.Entries.{block, bytes_of, list_of, first_bank, first
 use Rattle.rm_journal.specs.Entries.{StandsAt}
 use Rattle.rm_journal.specs.Entries.{gates_from}
 use Rattle.rm_journal.specs.EntryLemmas.{end_is, ends_one, stands_at-bytes_of}
-use Rattle.rm_journal.specs.Journal.{IsTooLong, limit}
+use Rattle.rm_journal.specs.JournalState.{JournalState}
+use Rattle.rm_journal.specs.Journal.{AnswersImport, HasRoomFor, IsTooLong, limit}
+use Rattle.rm_journal.specs.declared.error.JournalError.{JournalError}
 use Rattle.rm_journal.specs.declared.error.JournalError.TheVariants as Variant
 
 abbrev pub head_before : List ℕ
@@ -66,11 +70,28 @@ pub same_read : (bytes rest gates : List ℕ) (end : ℕ) (is : IsRead bytes res
 same_read bytes rest gates end is entries stands =
     ends_one entries is.entries rest (ends_before bytes rest is.head entries stands) is.ends
 
-pub short_enough : (bytes rest gates : List ℕ) (end : ℕ) → IsRead bytes rest gates end → end < limit
-    → (entries : List (List ℕ)) → StandsAsBefore entries bytes → 25 + length (list_of entries) ≤ limit
-short_enough bytes rest gates end is low entries stands =
-    let same = same_read bytes rest gates end is entries stands in
-    omega (arith, ap (λ (l : List (List ℕ)). length (list_of l)) same, size-list is.entries, is.end_, low)
+pub has_room : (bytes rest gates : List ℕ) (end : ℕ) (is : IsRead bytes rest gates end) → end < limit
+    → HasRoomFor is.entries bytes
+has_room bytes rest gates end is low = record {
+  stands = stands_before bytes rest is.head is.entries is.ends;
+  short = omega (arith, size-list is.entries, is.end_, low);
+}
+
+-- the disk failed under a list that has room
+pub answers_failed : (bytes rest gates : List ℕ) (end : ℕ) (is : IsRead bytes rest gates end) → end < limit
+    → (answer : Result JournalState JournalError) (error : JournalError) → answer ≡ Err error → error ≡ Variant.Disk
+    → AnswersImport bytes answer
+answers_failed bytes rest gates end is low answer error e f =
+    subst (AnswersImport bytes) (sym (e ∙ ap (λ x. Err x) f)) (is.entries, has_room bytes rest gates end is low)
+
+-- nothing was found behind the head
+pub answers_unread : (bytes rest : List ℕ) (error : JournalError) → bytes ≡ head_before ++ rest
+    → (error ≡ Variant.Memory) ⊎ (error ≡ Variant.NotAJournal)
+    → (error ≡ Variant.NotAJournal → (entries : List (List ℕ)) → EndsBlocks entries rest → ⊥)
+    → AnswersImport bytes (Err error)
+answers_unread bytes rest error head (inl e) none = subst (λ x. AnswersImport bytes (Err x)) (sym e) tt
+answers_unread bytes rest error head (inr e) none = subst (λ x. AnswersImport bytes (Err x)) (sym e)
+    (λ entries stands. none e entries (ends_before bytes rest head entries stands))
 
 pub within_rest : (bytes rest gates : List ℕ) (end : ℕ) → IsRead bytes rest gates end → end - 25 ≤ length rest
 within_rest bytes rest gates end is =

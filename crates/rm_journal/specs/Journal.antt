@@ -1,5 +1,5 @@
 -- How a journal fits a disk, and what its calls answer.
-use Rattle.std.specs.Prelude.{◌≡◌, ◌⊎◌, ℕ, ◌+◌, ◌-◌, ◌<◌, ◌^◌, min, Bool, true, false, not, nat_lt, nat_le}
+use Rattle.std.specs.Prelude.{◌≡◌, ◌⊎◌, ℕ, ◌+◌, ◌-◌, ◌<◌, ◌≤◌, ◌^◌, min, Bool, true, false, not, nat_lt, nat_le}
 use Rattle.std.specs.Prelude.{if◌then◌else◌, List, [], ◌∷◌, ◌++◌, length, Option, Some, None, Result, Ok, Err}
 use Rattle.std.specs.Int.{w64, to_be_bytes}
 use Rattle.rm_base.specs.Limits as limits
@@ -7,7 +7,7 @@ use Rattle.rm_disk.specs.Call.{Call, overwritten}
 use Rattle.rm_disk.specs.Image.{MayLeave}
 use Rattle.rm_journal.specs.Entries.{Bank, longest, block, list_of, slot_of, StandsAt, StandsAsBefore}
 use Rattle.rm_journal.specs.Entries.{gates_from}
-use Rattle.rm_journal.specs.JournalState.{JournalState, end_of, journal_at}
+use Rattle.rm_journal.specs.JournalState.{JournalState, end_of, journal_at, journal_of}
 use Rattle.rm_journal.specs.declared.error.JournalError.{JournalError}
 use Rattle.rm_journal.specs.declared.error.JournalError.TheVariants as Variant
 
@@ -113,3 +113,20 @@ pub record IsTooLong (bytes : List ℕ) (error : JournalError) : Type 0 where
   pub stands : StandsAsBefore entries bytes
   pub long : limit < 25 + length (list_of entries)
   pub is : error ≡ Variant.Full 25 (length (list_of entries))
+
+-- bytes of the layout before stand for this list, and a journal has room for it
+pub record HasRoomFor (entries : List (List ℕ)) (bytes : List ℕ) : Type 0 where
+  pub stands : StandsAsBefore entries bytes
+  pub short : 25 + length (list_of entries) ≤ limit
+
+-- When `import` answers what, by the bytes of the layout before: the journal of their list, or Disk, where a journal
+-- has room for one; NotAJournal where they stand for none; Full where their list is too long. Memory alone is free.
+abbrev pub AnswersImport : List ℕ → Result JournalState JournalError → Type 0
+AnswersImport bytes (Ok journal) =
+    (entries : List (List ℕ)) × HasRoomFor entries bytes × (journal ≡ journal_of entries)
+AnswersImport bytes (Err Variant.Memory) = Unit {0}
+AnswersImport bytes (Err Variant.Disk) = (entries : List (List ℕ)) × HasRoomFor entries bytes
+AnswersImport bytes (Err Variant.NotAJournal) = (entries : List (List ℕ)) → StandsAsBefore entries bytes → ⊥
+AnswersImport bytes (Err (Variant.EntryTooLong len)) = ⊥
+AnswersImport bytes (Err (Variant.Full end needed)) = IsTooLong bytes (Variant.Full end needed)
+AnswersImport bytes (Err Variant.Down) = ⊥

@@ -49,7 +49,7 @@ impl Model for Journal {
 
 impl Journal {
     ghost use Rattle.rm_journal.specs.JournalState.{JournalState, end_of, journal_of};
-    ghost use Rattle.rm_journal.specs.Journal.{Fits, FitsUnlessDown, IsTooLong, Answers, refusal_of, is_disk};
+    ghost use Rattle.rm_journal.specs.Journal.{Fits, FitsUnlessDown, Answers, AnswersImport, refusal_of, is_disk};
     ghost use Rattle.rm_journal.specs.Journal.{is_memory};
     ghost use Rattle.rm_journal.specs.Journal.{with_block, appended, after_reading, compacted, next_bank, with_list};
     ghost use Rattle.rm_journal.specs.Journal.{list_refusal as list_refusal_of, fits_before as fits_before_of};
@@ -143,17 +143,13 @@ impl Journal {
         disk: &mut D,
         bytes: &[u8],
     ) -> Result<Journal, JournalError>
-        ensures made { IfOk result (λ journal. (entries : List (List ℕ)) × StandsAsBefore entries bytes.now
-            × (journal ≡ journal_of entries)) }
+        ensures answers { AnswersImport bytes.now result }
+
+        // On a disk that tells, at Ok the list is there for good, with nothing behind it.
         ensures fits { IsTrue D.tells → (entries : List (List ℕ)) → StandsAsBefore entries bytes.now →
             IfOk result (Fits entries (D.told disk.new).past) }
         ensures bytes { IsTrue D.tells → (entries : List (List ℕ)) → StandsAsBefore entries bytes.now →
             OnOk result (state (D.told disk.new).past ≡ settled (bytes_of entries)) }
-        ensures refusals { IfErr result (λ error. (error ≡ WantsMemory) ⊎ (error ≡ DiskFails) ⊎ (error ≡ NotAJournal)
-            ⊎ IsTooLong bytes.now error) }
-        ensures none { result ≡ Err NotAJournal → (entries : List (List ℕ)) → StandsAsBefore entries bytes.now → ⊥ }
-        ensures short { (is_ok result ≡ true) ⊎ (is_disk result ≡ true) → (entries : List (List ℕ)) →
-            StandsAsBefore entries bytes.now → 25 + length (list_in entries) ≤ journal_bytes }
 
         // Each answer but Ok and Disk comes before any device call.
         ensures untouched { IsTrue D.tells → IfErr result (λ error. error ≢ DiskFails →

@@ -15,6 +15,12 @@ pub fn bytes_stand_for_one_list()
         → (x ≡ y) × (a ≡ b) }
 {}
 
+/// Bytes of the layout before stand for at most one list too. So `import` answers one thing of bytes, but for want of
+/// memory and a disk that fails.
+pub fn bytes_stood_for_one_list()
+    ensures { (a b : List (List ℕ)) (bytes : List ℕ) → StandsAsBefore a bytes → StandsAsBefore b bytes → a ≡ b }
+{}
+
 /// Each image of a disk gives the whole journal that fits it: its bank, its entries, and with them the places of their
 /// gates. One that was left inside of `append` gives the journal as it was or with the entry, and one inside of
 /// `compact` the journal as it was or the fresh one.
