@@ -297,7 +297,8 @@ const ASSERTION: &[u8] =
         xmlns:w=\"http://www.w3.org/ns/ws-policy\" w:Optional=\"true\"><w:Policy><p:DeliveryAssurance><w:Policy>\
         <p:ExactlyOnce/><p:InOrder/></w:Policy></p:DeliveryAssurance></w:Policy></p:RMAssertion>";
 
-const ASSERTION_TEXT: &[u8] = b"assurance exactly-once\nin-order yes\noptional yes\ngranted yes\n";
+const ASSERTION_TEXT: &[u8] =
+    b"assurance exactly-once\nin-order yes\noptional yes\ngranted yes\ngranted-loose no\n";
 
 const CHOICE: &[u8] = b"<w:Policy xmlns:w='http://www.w3.org/ns/ws-policy' xmlns:x='urn:x'>\
         <x:a/><w:ExactlyOne><x:b/><x:c w:Optional='true'/></w:ExactlyOne></w:Policy>";

@@ -447,3 +447,48 @@ fn payloads_that_are_consumed_are_given_up(rt: HostRuntime) -> Result<(), Fail> 
     assert!(rt; releases_behind_two(&inc, &[3, 4, 5]));
     Ok(())
 }
+
+// Whether the third and the first message are consumed and given up, and two others are still there.
+fn gives_up_the_earliest(inc: &mut Incoming) -> bool {
+    let is_consumed = inc.consume(2) == Ok(true);
+    inc.forget();
+    let are_gone = inc.inbox_item(1).is_none() & inc.inbox_item(2).is_none();
+    let are_there = is_byte(inc.inbox_item(3), 6) & is_byte(inc.inbox_item(4), 2);
+    is_consumed & are_gone & are_there & (inc.inbox_len() == 4) & (inc.gone() == 2)
+}
+
+// Whether the numbers 3 and 1 are those that were consumed, and none is new again.
+fn passed_three_and_one(alloc: Global, inc: &Incoming) -> Result<bool, Memory> {
+    let passed = inc.passed(alloc)?;
+    let are_passed = inc.is_passed(3) & inc.is_passed(1) & !inc.is_passed(2) & !inc.is_passed(6);
+    let is_set = (passed.count() == 2) & passed.has(1) & passed.has(3);
+    Ok(is_set & are_passed & (inc.probe(3, 0) == Ok(Took::Duplicate)))
+}
+
+#[test]
+fn a_loose_sequence_releases_what_comes(rt: HostRuntime) -> Result<(), Fail> {
+    let mut inc = with(rt.alloc(), Behaviour::NoDiscard, &[3, 1, 6, 2])?;
+    assert!(rt; releases(&inc, &[3, 1, 6, 2]));
+    assert!(rt; gives_up_the_earliest(&mut inc));
+    assert!(rt; passed_three_and_one(rt.alloc(), &inc)?);
+    take_all(rt.alloc(), &mut inc, &[5])?;
+    assert!(rt; is_byte(inc.inbox_item(5), 5));
+    assert!(rt; close(&mut inc, Cause::Peer, Some(7)) == Ok(()));
+    assert!(rt; has_so_many(&inc, 5, 0));
+    Ok(())
+}
+
+#[test]
+fn a_loose_sequence_begins_behind_any_numbers(rt: HostRuntime) -> Result<(), Fail> {
+    let mut numbers = RangeSet::new(rt.alloc());
+    numbers.insert_range(4, 5)?;
+    numbers.insert(9)?;
+    let mut inc = Incoming::new(rt.alloc(), Behaviour::NoDiscard, None);
+    inc.restore(&numbers)?;
+    take_all(rt.alloc(), &mut inc, &[1, 7])?;
+    assert!(rt; inc.inbox_len() == 5);
+    assert!(rt; is_byte(inc.inbox_item(4), 1) & is_byte(inc.inbox_item(5), 7));
+    assert!(rt; (inc.consumed() == 3) & (inc.consume(4) == Ok(true)));
+    assert!(rt; inc.is_passed(1) & inc.is_passed(9) & !inc.is_passed(7));
+    Ok(())
+}

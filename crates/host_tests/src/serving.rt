@@ -9,7 +9,7 @@ const SERVE: &[&[u8]] = &[b"serve", b"1", b"3", b"dfg"];
 
 const INBOX: &[&[u8]] = &[b"inbox", b"1"];
 
-const CREATE: &[u8] =
+pub(crate) const CREATE: &[u8] =
     b"POST / HTTP/1.1\r\nHost: localhost\r\nContent-Type: application/soap+xml\r\nContent-Length: 492\r\n\r\n\
         <s:Envelope xmlns:s=\"http://www.w3.org/2003/05/soap-envelope\" \
         xmlns:a=\"http://www.w3.org/2005/08/addressing\" xmlns:r=\"http://docs.oasis-open.org/ws-rx/wsrm/200702\">\

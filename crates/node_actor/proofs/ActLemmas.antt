@@ -90,7 +90,6 @@ unchanged x first now old new s kept stored same = record {
   fuse = ap (λ (t : Told). t.fuse) same ∙ s.fuse;
   granted = ap (λ (k : Kept). k.granted) kept ∙ s.granted;
   kept = λ up. subst (λ (k : Kept). Keeps k (kept_of x)) (sym kept) (s.kept up);
-  in_order = s.in_order;
   rules = s.rules;
   clock = s.clock;
 }
@@ -164,7 +163,6 @@ written_well x answer [] first now old new s up kept changes at same next rules 
       fuse = (changes.fuse (inl refl)).0 ∙ s.fuse;
       granted = kept.granted;
       kept = λ still. kept;
-      in_order = s.in_order;
       rules = rules;
       clock = s.clock;
     }
@@ -182,7 +180,6 @@ written_well x answer (f ∷ delta) first now old new s up kept changes at same 
       fuse = burns.1 ∙ ap (λ (fuse : Option ℕ). burned 4 fuse) s.fuse;
       granted = kept.granted;
       kept = λ still. kept;
-      in_order = s.in_order;
       rules = rules;
       clock = s.clock;
     })
@@ -215,7 +212,6 @@ fell x answer delta first now old new s up granted changes is next spent =
       fuse = spent;
       granted = granted;
       kept = λ (still : Writing delta ≡ Up). absurd cc;
-      in_order = s.in_order;
       rules = s.rules;
       clock = s.clock;
     }
@@ -281,7 +277,6 @@ refused_stands x outcome first now old new s up exact kept stored same =
       fuse = as_before.fuse;
       granted = as_before.granted;
       kept = λ still. moved;
-      in_order = as_before.in_order;
       rules = s.rules;
       clock = as_before.clock;
     }

@@ -152,7 +152,6 @@ crashed one x first now a choice past node s is found up keeps crashes fuse =
           time = keeps.time;
           polled = keeps.polled;
         };
-        in_order = s.in_order;
         rules = tt;
         clock = s.clock;
       };
@@ -175,7 +174,6 @@ made-stands number address now node is keeps has fuse =
       fuse = fuse;
       granted = kept.granted;
       kept = λ up. kept;
-      in_order = refl;
       rules = tt;
       clock = refl;
     }

@@ -89,7 +89,6 @@ went_well terms x first now old new s up like kept stored rewrites next burnt =
       fuse = burnt;
       granted = ap (λ (k : Kept). k.granted) kept ∙ s.granted;
       kept = λ still. subst (λ (k : Kept). Keeps k (kept_of x)) (sym kept) (s.kept up);
-      in_order = s.in_order;
       rules = s.rules;
       clock = s.clock;
     }
@@ -130,7 +129,6 @@ fell terms x first now old new s up like kept stored rewrites next spent =
       fuse = spent;
       granted = ap (λ (k : Kept). k.granted) kept ∙ s.granted;
       kept = λ (still : Compacting (fresh_start terms x) ≡ Up). absurd cc;
-      in_order = s.in_order;
       rules = s.rules;
       clock = s.clock;
     }

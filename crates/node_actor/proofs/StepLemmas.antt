@@ -127,7 +127,6 @@ clocked_stands this x now a s = record {
   fuse = s.fuse;
   granted = s.granted;
   kept = s.kept;
-  in_order = s.in_order;
   rules = s.rules;
   clock = clock_stands this x now a s;
 }
@@ -154,7 +153,7 @@ wait_asked by terms own this x asked now a s may is =
     let of = kept_by x.state x.entries now.past a.node.stored s.disk in
     by.polls.waits x.polled (answer_of terms x asked) s.rules
     (of_each by.reads by.refuses SaysByTheRules terms (records x) (node_end terms x) x.clock (kept_of x) this
-    asked (by.each terms (records x) (node_end terms x) own of) (by.polls.beside x.polled) s.in_order may is)
+    asked (by.each terms (records x) (node_end terms x) own of) (by.polls.beside x.polled) may is)
 
 -- ---- a call
 
@@ -196,7 +195,6 @@ still this x now new old clock s e =
       fuse = s.fuse;
       granted = s.granted;
       kept = s.kept;
-      in_order = s.in_order;
       rules = s.rules;
       clock = e;
     }

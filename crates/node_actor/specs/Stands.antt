@@ -5,7 +5,6 @@ use Rattle.rm_disk.specs.Call.{Call, crashes_of}
 use Rattle.rm_disk.specs.Image.{MayLeave}
 use Rattle.rm_base.specs.declared.failures.Memory.{Memory}
 use Rattle.rm_journal.specs.Entries.{Bank}
-use Rattle.sequence_table.specs.Fits.{is_in_order}
 use Rattle.rm_protocol.specs.Calls.{Answer}
 use Rattle.rm_protocol.specs.Node.{Node, State, Up, Writing, Compacting, after, call_outcome, fetched_after}
 use Rattle.rm_protocol.specs.Node.{fresh_entries, mounted, said_after}
@@ -59,16 +58,15 @@ StandsBy (Compacting start) entries past stored = Rewriting entries start past s
 abbrev pub kept_of : Node → Keeping
 kept_of x = record { granted = x.granted; waits = x.waits; time = x.time; polled = x.polled }
 
--- the code's node and its disk are this node of the protocol, which announces no NoDiscard. The journal's bank has the
--- list, which begins where the node's does, whether the node is up or down. The keys and the messages that wait, and
--- the time, are its own while it is up: a mount works them out anew. The messages keep the rules of what is written
+-- the code's node and its disk are this node of the protocol. The journal's bank has the list, which begins where the
+-- node's does, whether the node is up or down. The keys and the messages that wait, and the time, are its own while it
+-- is up: a mount works them out anew. The messages keep the rules of what is written
 pub record Stands (x : Node) (now : Told) (a : Actored) : Type 0 where
   pub disk : StandsBy x.state x.entries now.past a.node.stored
   pub start : a.node.stored.journal.bank.start ≡ x.start
   pub fuse : now.fuse ≡ x.fuse
   pub granted : a.node.kept.granted ≡ x.granted
   pub kept : x.state ≡ Up → Keeps a.node.kept (kept_of x)
-  pub in_order : is_in_order x.granted ≡ true
   pub rules : WaitByTheRules x.polled
   pub clock : a.clock ≡ x.clock
 

@@ -1,6 +1,5 @@
 //! A node of a script, and what comes of its calls.
-ghost use Rattle.std.specs.Prelude.{◌≡◌, true, if◌then◌else◌, length};
-ghost use Rattle.sequence_table.specs.Fits.{is_in_order};
+ghost use Rattle.std.specs.Prelude.{◌≡◌, if◌then◌else◌, length};
 ghost use Rattle.rm_node.specs.Noded.{granting};
 ghost use Rattle.node_actor.specs.Steps.{clock_after};
 
@@ -54,7 +53,6 @@ impl Actor {
 
     /// From now on the node announces this for the sequences that it grants, also after crashes.
     pub fn set_grant(&mut self, behaviour: Behaviour)
-        requires { is_in_order behaviour ≡ true }
         ensures { self.new ≡ record self.old { node = granting self.old.node behaviour } }
     {
         self.node.set_grant(behaviour);

@@ -63,8 +63,7 @@ new-drawn r (Creating ticket to via lapse (Some offer)) h =
     let parts = and_parts (ticket == counter r + 1) _ h in
     let t : ticket ≡ counter r + 1 = eqb-true ticket (counter r + 1) parts.0 in
     let offered = and_parts (offer_fits (counter r) (Some offer)) _ parts.1 in
-    let o : offer.counter ≡ counter r + 2 =
-    eqb-true offer.counter (counter r + 2) (and_parts (offer.counter == counter r + 2) _ offered.0).0 in
+    let o : offer.counter ≡ counter r + 2 = eqb-true offer.counter (counter r + 2) offered.0 in
     (omega (arith, t), (omega (arith, o), tt))
 new-drawn r (Granted drawn message_id acks_to behaviour deadline lapse None) h =
     let t : drawn ≡ counter r + 1 = eqb-true drawn (counter r + 1) (and_parts (drawn == counter r + 1) _ h).0 in

@@ -1,5 +1,5 @@
 //! The calls of a node that no message brings.
-ghost use Rattle.std.specs.Prelude.{◌≡◌, true, map, IfOk, IfSome};
+ghost use Rattle.std.specs.Prelude.{◌≡◌, map, IfOk};
 ghost use Rattle.record_batch.specs.Fact.{fact_of};
 ghost use Rattle.rm_protocol.specs.Calls.{
   ask_ack as ask_ack_of,
@@ -13,7 +13,6 @@ ghost use Rattle.rm_protocol.specs.Calls.{
 };
 ghost use Rattle.rm_protocol.specs.Polls.{poll as poll_of};
 ghost use Rattle.rm_protocol.specs.Terms.{Terms};
-ghost use Rattle.sequence_table.specs.Fits.{is_in_order};
 ghost use Rattle.node_laws.specs.OwnTerms.{AreOwn};
 ghost use Rattle.call_answers.specs.Answers.{MayBeStored, seen, wish_seen};
 ghost use Rattle.call_answers.specs.Serving.{Serves};
@@ -43,7 +42,6 @@ fn serving(tables: &Tables, place: u64)
 /// Asks for a sequence.
 pub fn create(alloc: Global, tables: &Tables, place: u64, wish: Wish) -> Result<Answer, Memory>
     requires serves { Serves tables.now.records place }
-    requires offer { IfSome wish.offer (λ behaviour. is_in_order behaviour ≡ true) }
     ensures is { (terms : Terms) → AreOwn terms
         → IfOk result (λ a. seen a ≡ create_of terms tables.now.records place (wish_seen wish)) }
     ensures stored { IfOk result (λ a. MayBeStored tables.now.records place (map fact_of a.batch.items)) }

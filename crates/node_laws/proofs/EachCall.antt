@@ -72,7 +72,7 @@ of-each : Below → EachMayComeNext → (terms : Terms) (r : List Fact) (place :
 of-each below next terms r place P own h step =
     let fit : AddsNext terms r place = next terms r place (own-later terms own) h.node.fit in
     record {
-      create_ = λ wish is. step (create terms r place wish) (fit.create_ wish is.offer)
+      create_ = λ wish is. step (create terms r place wish) (fit.create_ wish)
           (create-good terms r place wish is);
       send_ = λ s text. step (send terms r place s text) (fit.send_ s text) (send-good terms r place s text own);
       close_ = λ s now. step (close terms r place s now) (fit.close_ s now) (close-good terms r place s now);
@@ -85,8 +85,8 @@ of-each below next terms r place P own h step =
       consume_ = λ s upto. step (consume terms r place s upto) (fit.consume_ s upto)
           (consume-good terms r place s upto);
       poll_ = λ to is. step (poll r to) refl (poll-good r to is);
-      receive_ = λ now y content o is. step (receive terms r place now y content)
-          (fit.receive_ now y content o (readable content is))
+      receive_ = λ now y content is. step (receive terms r place now y content)
+          (fit.receive_ now y content (readable content is))
           (receive-good below terms r place now y content own h is);
     }
 

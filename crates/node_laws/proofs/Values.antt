@@ -16,6 +16,7 @@ use Rattle.soap_profile.specs.Payload.{IsClosedContent}
 use Rattle.wsa_headers.specs.Writable.{IsEprWritable}
 use Rattle.wsa_headers.specs.declared.endpoint.Epr.{Epr}
 use Rattle.record_batch.specs.Fact.{Fact, Made, Creating, Created, Granted, Accepted, Purged, Received}
+use Rattle.rm_destination.specs.Incoming.{is_loose}
 use Rattle.rm_destination.specs.ItemLemmas.{numbers_of-both}
 use Rattle.rm_destination.specs.Messages.{is_empty, numbers_in, numbers_of, ranges_onto, run_of}
 use Rattle.sequence_table.specs.Words.{Text, at_seq}
@@ -23,9 +24,9 @@ use Rattle.sequence_table.specs.Makers.{Maker, Outgoing, Offered, Incoming, Take
 use Rattle.sequence_table.specs.Makers.{address}
 use Rattle.sequence_table.specs.Makers.{created_of, created_from, created, ident_in}
 use Rattle.sequence_table.specs.Sources.{accepted, accepted_of, dropped, out_ident, payload_at}
-use Rattle.sequence_table.specs.Destinations.{held, is_over, purged, purged_of, received, received_of}
+use Rattle.sequence_table.specs.Destinations.{behaviour, held, is_over, purged, purged_of, received, received_of}
 use Rattle.sequence_table.specs.Find.{plain_endpoint, peer_of, peer, accept_of, accepted_by, acks_to_of, acks_to}
-use Rattle.sequence_table.specs.Fits.{fits, all_fit, is_first_run, is_incoming_side, is_up_to}
+use Rattle.sequence_table.specs.Fits.{fits, all_fit, is_incoming_side, is_up_to, may_be_gone}
 use Rattle.sequence_table.specs.GatherLemmas.{flat_map-more}
 use Rattle.rm_protocol.specs.FitInduction.{fit-induction}
 use Rattle.rm_protocol.specs.Messages.{kind_of, block_of}
@@ -177,7 +178,8 @@ purged-one : (r : List Fact) (f : Fact) (s : ℕ) → fits r f ≡ true → AllB
 purged-one r (Purged seq ranges) s fit =
     let one = and_parts (is_incoming_side (maker r seq)) _ fit in
     let two = and_parts (is_empty (held r seq)) _ one.1 in
-    let three = and_parts (list_all (is_up_to max_number) ranges) (is_first_run ranges) two.1 in
+    let three = and_parts (list_all (is_up_to max_number) ranges)
+    (may_be_gone (is_loose (behaviour r seq)) ranges) two.1 in
     elim (seq == s) as (λ b. AllByRecursion IsSpan (cond b ranges [])) [
       | true ↦ spans-of ranges three.0
       | false ↦ tt

@@ -1,5 +1,5 @@
 -- Each call of a node keeps what holds of its records, and all that it says may be written.
-use Rattle.std.specs.Prelude.{◌≡◌, ℕ, ◌≤◌, true, List, ◌++◌, length, Result}
+use Rattle.std.specs.Prelude.{ℕ, ◌≤◌, List, ◌++◌, length, Result}
 use Rattle.std.specs.List.{AllByRecursion}
 use Rattle.rm_base.specs.Limits as limits
 use Rattle.rm_base.specs.Text.{IsText}
@@ -13,7 +13,6 @@ use Rattle.message_reader.specs.Refusals.{Spells}
 use Rattle.message_writer.specs.Rules.{KeepsRules}
 use Rattle.message_writer.specs.Text.{message_text}
 use Rattle.record_batch.specs.Fact.{Fact}
-use Rattle.sequence_table.specs.Fits.{is_in_order}
 use Rattle.sequence_table.specs.Words.{Text}
 use Rattle.rm_protocol.specs.Calls.{Answer, Wish, create, send, close, end, tick, ask_ack, nack_missing, receive}
 use Rattle.rm_protocol.specs.Calls.{consume}
@@ -25,8 +24,7 @@ use Rattle.node_laws.specs.OwnTerms.{AreOwn}
 use Rattle.node_laws.specs.Read.{IsContentRead, MayBeWished}
 use Rattle.node_laws.specs.Records.{IsKept}
 
--- what may be said of the answers of all calls at the records r, where the entries end at a place and no NoDiscard is
--- announced
+-- what may be said of the answers of all calls at the records r, where the entries end at a place
 pub record OfEachCall (terms : Terms) (r : List Fact) (place : ℕ) (P : Answer → Type 0) : Type 0 where
   pub create_ : (wish : Wish) → MayBeWished wish → P (create terms r place wish)
   pub send_ : (s : ℕ) (payload : Text) → P (send terms r place s payload)
@@ -37,7 +35,7 @@ pub record OfEachCall (terms : Terms) (r : List Fact) (place : ℕ) (P : Answer 
   pub nack_missing_ : (s now : ℕ) → P (nack_missing r s now)
   pub consume_ : (s upto : ℕ) → P (consume terms r place s upto)
   pub poll_ : (to : Text) → IsText 2048 to → P (poll r to)
-  pub receive_ : (now : ℕ) (behaviour : Behaviour) (content : Result Message Refusal) → is_in_order behaviour ≡ true
+  pub receive_ : (now : ℕ) (behaviour : Behaviour) (content : Result Message Refusal)
       → IsContentRead content → P (receive terms r place now behaviour content)
 
 -- the records with those that an answer adds are those of a node

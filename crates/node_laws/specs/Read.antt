@@ -1,5 +1,5 @@
 -- What comes to a node: a message as it is read, as far as a node keeps it or repeats it, and a wish.
-use Rattle.std.specs.Prelude.{◌≡◌, true, None, IfSome, Result, Ok, Err}
+use Rattle.std.specs.Prelude.{None, IfSome, Result, Ok, Err}
 use Rattle.std.specs.List.{AllByRecursion}
 use Rattle.rm_base.specs.Text.{IsText}
 use Rattle.rm_elements.specs.Writable.{IsSequenceWritable, IsAckWritable, IsLapseWritable, IsLifecycleWritable}
@@ -9,7 +9,6 @@ use Rattle.rm_message.specs.declared.message.Message.{Message}
 use Rattle.rm_message.specs.declared.refusal.Refusal.{Refusal}
 use Rattle.wsa_headers.specs.Writable.{IsAddressingWritable}
 use Rattle.rm_wire.specs.Writable.{IsRefusalWritable}
-use Rattle.sequence_table.specs.Fits.{is_in_order}
 use Rattle.rm_protocol.specs.Calls.{Wish}
 
 -- a body element of the protocol may be written
@@ -30,8 +29,7 @@ abbrev pub IsContentRead : Result Message Refusal → Type 0
 IsContentRead (Ok m) = WasRead m
 IsContentRead (Err refusal) = IsRefusalWritable refusal None
 
--- what a node may be asked for: an address, a duration that keeps its limits, and no offer of NoDiscard
+-- what a node may be asked for: an address, and a duration that keeps its limits
 pub record MayBeWished (wish : Wish) : Type 0 where
   pub to : IsText 2048 wish.to
   pub expires : IsLapseWritable wish.expires
-  pub offer : IfSome wish.offer (λ behaviour. is_in_order behaviour ≡ true)

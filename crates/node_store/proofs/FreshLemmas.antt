@@ -3,18 +3,16 @@ use Rattle.std.proofs.Common.{◌≡◌, ℕ, Bool, List, [], ◌∷◌, ◌++�
 use Rattle.std.proofs.Common.{ap, ap₂, subst, ◌∙◌, arith, None, Some, ◌+◌, ◌-◌, ◌^◌, ◌&&◌, ◌||◌, cond, min}
 use Rattle.std.proofs.Common.{length-append, true, ◌==◌}
 use Rattle.std.specs.Prelude.{nat_le}
-use Rattle.std.specs.List.{AllByRecursion, flat_map, list_all}
-use Rattle.std.proofs.lemmas.Bool.{and_parts, eqb-true, leb-true}
-use Rattle.ack_ranges.specs.Ranges.{IsCanonical}
-use Rattle.ack_ranges.specs.declared.range.Range.{Range}
+use Rattle.std.specs.List.{AllByRecursion, flat_map}
+use Rattle.std.proofs.lemmas.Bool.{and_parts, leb-true}
 use Rattle.batch_size.specs.Typed.{AreKept, IsTyped}
 use Rattle.record_batch.specs.Batch.{batch_text}
 use Rattle.record_batch.specs.Fact.{Fact, Made, Creating, Created, Granted, Accepted, Acked, Received, Closing}
 use Rattle.record_batch.specs.Fact.{ClosedOut, Closed, Ending, EndedOut, Ended, Failed, Consumed, Dropped, Purged}
 use Rattle.record_batch.specs.Writable.{IsBatch, IsNumber32, IsWritable}
 use Rattle.record_snapshot.specs.EachLemmas.{each-acked, each-purged, keeps}
+use Rattle.record_snapshot.specs.GotLemmas.{purge-set}
 use Rattle.record_snapshot.specs.Snapshot.{left_acked, passed, snapshot}
-use Rattle.rm_destination.specs.Messages.{is_empty}
 use Rattle.rm_disk.specs.Call.{Call}
 use Rattle.rm_journal.specs.Entries.{AllFit, block}
 use Rattle.rm_journal.specs.EntryLemmas.{fit_rest}
@@ -25,9 +23,7 @@ use Rattle.rm_protocol.specs.Calls.{StoreFull}
 use Rattle.rm_protocol.specs.Compact.{fit_as_entries as fit_by, fits_before as before_by, list_size}
 use Rattle.rm_protocol.specs.Node.{Node, alone, end_of as end_of_batches, node_end, records_in}
 use Rattle.rm_protocol.specs.Terms.{Terms}
-use Rattle.sequence_table.specs.Destinations.{held}
-use Rattle.sequence_table.specs.Fits.{all_fit, fits, follows_at, is_first_run, is_incoming_side, is_up_to}
-use Rattle.sequence_table.specs.Makers.{maker}
+use Rattle.sequence_table.specs.Fits.{all_fit, fits, follows_at}
 use Rattle.sequence_table.specs.Sources.{accepted_count}
 use Rattle.node_laws.specs.OwnTerms.{AreOwn}
 use Rattle.node_laws.specs.Records.{AreValues, HasValues, IsKept}
@@ -81,22 +77,6 @@ typed_in (batch ∷ batches) are =
 
 -- ---- the values of a snapshot
 
--- the numbers from 1 to some n are canonical ranges
-first_run : (ranges : List Range) → list_all (is_up_to 9223372036854775807) ranges ≡ true
-    → is_first_run ranges ≡ true → IsCanonical ranges
-first_run [] within run = absurd cc
-first_run (x ∷ []) within run =
-    let ends = and_parts (x.lower == 1) (nat_le 1 x.upper) run in
-    let all = and_parts (is_up_to 9223372036854775807 x) true within in
-    let one = and_parts (nat_le 1 x.lower) (nat_le x.upper 9223372036854775807) all.0 in
-    let first : x.lower ≡ 1 = eqb-true x.lower 1 ends.0 in (
-      omega (arith, first),
-      omega (arith, first, leb-true 1 x.upper ends.1),
-      leb-true x.upper 9223372036854775807 one.1,
-      tt,
-    )
-first_run (x ∷ y ∷ more) within run = absurd cc
-
 -- the other values of a record are as they have to be where it may come after others
 typed_where : (r : List Fact) (f : Fact) → IsTypedBut f → HasValues f → fits r f ≡ true → IsTyped f
 typed_where r (Acked seq ranges) typed values fit = (typed, values)
@@ -106,13 +86,7 @@ typed_where r (Dropped seq upto) typed values fit =
     let more = and_parts (accepted_count r seq == 0) (nat_le 1 upto && nat_le upto 9223372036854775807) parts.1 in
     let ends = and_parts (nat_le 1 upto) (nat_le upto 9223372036854775807) more.1 in
     (typed, omega (arith, leb-true upto 9223372036854775807 ends.1))
-typed_where r (Purged seq ranges) typed values fit =
-    let parts = and_parts (is_incoming_side (maker r seq))
-    (is_empty (held r seq) && (list_all (is_up_to 9223372036854775807) ranges && is_first_run ranges)) fit in
-    let more = and_parts (is_empty (held r seq))
-    (list_all (is_up_to 9223372036854775807) ranges && is_first_run ranges) parts.1 in
-    let both = and_parts (list_all (is_up_to 9223372036854775807) ranges) (is_first_run ranges) more.1 in
-    (typed, first_run ranges both.0 both.1)
+typed_where r (Purged seq ranges) typed values fit = (typed, purge-set r seq ranges fit)
 typed_where r f typed values fit = typed
 
 each_typed : (r l : List Fact) → AllByRecursion IsTypedBut l → AreValues l → all_fit r l ≡ true

@@ -1,26 +1,26 @@
 -- The tables hold the snapshot of their records with its notes, and rows without the payloads that it leaves out.
 use Rattle.std.proofs.Common.{◌≡◌, ℕ, zero, suc, ◌+◌, ◌-◌, ◌<◌, ◌≤◌, ◌==◌, Bool, true, false, ◌&&◌, cond, max}
 use Rattle.std.proofs.Common.{List, [], ◌∷◌, ◌++◌, length, drop, get_or, refl, sym, ◌∙◌, ap, subst, inl, inr, arith}
-use Rattle.std.proofs.Common.{Option, Some, None}
-use Rattle.std.specs.Prelude.{nat_le, nat_lt, slice_get}
+use Rattle.std.proofs.Common.{Option, Some, None, ◌⊎◌}
+use Rattle.std.specs.Prelude.{not, slice_get}
 use Rattle.std.specs.Option.{option_map}
 use Rattle.std.specs.List.{flat_map}
-use Rattle.std.proofs.lemmas.Bool.{and_parts, cases_Bool, false≢true}
-use Rattle.std.proofs.lemmas.Bool.Decides.{nat_tests}
+use Rattle.std.proofs.lemmas.Bool.{cases_Bool, eqb-true, true≢false}
 use Rattle.std.proofs.lemmas.List.{get_or-map}
 use Rattle.std.proofs.lemmas.Option.{slice_get-map}
 use Rattle.ack_ranges.specs.Laws.{EndsAreRight, SameNumbersSameRanges, UnionHasBoth}
 use Rattle.ack_ranges.specs.Ranges.{front_of, in_ranges}
+use Rattle.ack_ranges.specs.declared.range.Range.{Range}
 use Rattle.rm_base.specs.NumberSet.{has_number}
 use Rattle.rm_base.specs.Numbered.{numbered}
 use Rattle.rm_base.specs.declared.message.Behaviour.{Behaviour}
 use Rattle.rm_base.specs.declared.message.Payload.{Payload}
 use Rattle.rm_source.specs.Outgoing.{settled as settled_by}
-use Rattle.rm_destination.specs.Incoming.{forgotten as forgotten_by, inbox as inbox_in, inbox_of}
-use Rattle.rm_destination.specs.ItemLemmas.{has_number-above}
-use Rattle.rm_destination.specs.Messages.{above, is_empty, numbers_of, run_to}
+use Rattle.rm_destination.specs.Incoming.{forgotten as forgotten_by, passed as passed_by_one, without_passed}
+use Rattle.rm_destination.specs.LooseLemmas.{has_number-without}
+use Rattle.rm_destination.specs.Messages.{is_empty, numbers_of, without}
 use Rattle.record_batch.specs.Fact.{Fact, Accepted, Received}
-use Rattle.sequence_table.specs.Destinations.{behaviour_of, cursor, held, inbox, messages, purged, received, told}
+use Rattle.sequence_table.specs.Destinations.{behaviour_of, held, purged, received}
 use Rattle.sequence_table.specs.Find.{accept_of}
 use Rattle.sequence_table.specs.Fits.{all_fit}
 use Rattle.sequence_table.specs.Makers.{Maker, Outgoing, Offered, Incoming, Taken, addresses_of, counter, created}
@@ -32,11 +32,10 @@ use Rattle.sequence_table.specs.ToldLemmas.{same_receiving, same_sending, same_t
 use Rattle.sequence_table.specs.Words.{at_seq}
 use Rattle.record_snapshot.specs.AckedLemmas.{dropped-now, more_}
 use Rattle.record_snapshot.specs.FrameLemmas.{same_frame}
-use Rattle.record_snapshot.specs.GoneLemmas.{numbers-received}
 use Rattle.record_snapshot.specs.GotLemmas.{purged-new, purged-same, received-kept}
 use Rattle.record_snapshot.specs.KeepLemmas.{snapshot-says}
-use Rattle.record_snapshot.specs.PassedLemmas.{inbox-held, without-no}
-use Rattle.record_snapshot.specs.Same.{AreNumbers, HaveProper, SaysTheSame, without}
+use Rattle.record_snapshot.specs.PassedLemmas.{held-passed, without-no}
+use Rattle.record_snapshot.specs.Same.{HaveProper, SaysTheSame}
 use Rattle.record_snapshot.specs.SameLemmas.{frame-decides, unacked-is-equal}
 use Rattle.record_snapshot.specs.Snapshot.{passed, settled, snapshot}
 use Rattle.record_snapshot.specs.WalkLemmas.{snapshot-fits}
@@ -49,6 +48,7 @@ use Rattle.node_tables.specs.Kept.{accepted_in, all_forgotten, dropped_in, fact_
 use Rattle.node_tables.specs.Kept.{records_in, records_of, row_at}
 use Rattle.node_tables.specs.Shorter.{IsRecorded}
 use Rattle.node_tables.proofs.ForgetLemmas.{left_of}
+use Rattle.node_tables.proofs.InsteadLemmas.{passed_at}
 use Rattle.node_tables.proofs.RowsLemmas.{told-at}
 
 -- what the shorter notes of tables are made from
@@ -65,37 +65,6 @@ same-items (x ∷ xs) [] each = absurd (let e = each 0 in cc)
 same-items {A} (x ∷ xs) (y ∷ ys) each =
     let first : x ≡ y = (let e = each 0 in cc) in
     ap (λ (z : A). z ∷ xs) first ∙ ap (λ (zs : List A). y ∷ zs) (same-items xs ys (λ i. each (suc i)))
-
--- messages with numbers in 1 to c are those not above it
-without-above : (c : ℕ) (ms : List (ℕ × Payload)) → AreNumbers ms
-    → without (record { lower = 1; upper = c } ∷ []) ms ≡ above c ms
-without-above c [] are = refl
-without-above c (m ∷ ms) are =
-    let rest : without (record { lower = 1; upper = c } ∷ []) ms ≡ above c ms = without-above c ms are.1 in
-    let from : 0 < m.0 = are.0 in
-    elim (cases_Bool (nat_lt c m.0)) [
-      | inl kept ↦
-          let out : in_ranges (record { lower = 1; upper = c } ∷ []) m.0 ≡ false = grind (arith, nat_tests, kept) in
-          ap (λ b. cond b (without (record { lower = 1; upper = c } ∷ []) ms)
-          (m ∷ without (record { lower = 1; upper = c } ∷ []) ms)) out
-          ∙ ap (λ xs. m ∷ xs) rest
-          ∙ sym (ap (λ b. cond b (m ∷ above c ms) (above c ms)) kept)
-      | inr gone ↦
-          let out : in_ranges (record { lower = 1; upper = c } ∷ []) m.0 ≡ true
-          = grind (arith, nat_tests, gone, from) in
-          ap (λ b. cond b (without (record { lower = 1; upper = c } ∷ []) ms)
-          (m ∷ without (record { lower = 1; upper = c } ∷ []) ms)) out
-          ∙ rest
-          ∙ sym (ap (λ b. cond b (m ∷ above c ms) (above c ms)) gone)
-    ]
-
-one-run : (c : ℕ) → 0 < c → run_to c ≡ record { lower = 1; upper = c } ∷ []
-one-run zero lt = absurd (omega (arith, lt))
-one-run (suc c) lt = refl
-
-some-held : (ns : List ℕ) → has_number ns 1 ≡ true → 0 < length ns
-some-held [] h = absurd (false≢true h)
-some-held (n ∷ ns) h = omega arith
 
 module _ (both : UnionHasBoth) (ends : EndsAreRight) (only : SameNumbersSameRanges) (r : List Fact)
     (fit : all_fit [] r ≡ true) (proper : HaveProper r) where
@@ -115,24 +84,14 @@ module _ (both : UnionHasBoth) (ends : EndsAreRight) (only : SameNumbersSameRang
       ((says.sent s).accepted_ ∙ ap (λ d. drop (d - dropped r s) (accepted r s)) now) (acks.united_ s)
 
   -- of one that receives, where some of the inbox was consumed, and where none was
-  gets-some : (s c : ℕ) (b : Behaviour) (d : Option ℕ) → 0 < c → c ≡ cursor r s → c ≤ length (inbox r s)
-      → passed r s ≡ record { lower = 1; upper = c } ∷ []
+  gets-some : (s : ℕ) (b : Behaviour) (d : Option ℕ) → is_empty (passed r s) ≡ false
       → receiving (snapshot r) s b d ≡ record (receiving r s b d) {
-        purged = run_to (cursor r s);
-        received = above (cursor r s) (received r s);
+        purged = passed r s;
+        received = without (passed r s) (received r s);
       }
-  gets-some s c b d some at le is =
-      let q = snapshot r in
-      let held_ : 0 < length (held r s) =
-      some-held (held r s) (inbox-held r s 1 (omega arith) (omega (arith, some, le))) in
-      let new = purged-new r s (ap (λ xs. is_empty xs) is) [] r fit refl held_ in
-      let gone : purged q s ≡ run_to (cursor r s) =
-      new.0 ∙ is ∙ sym (one-run c some) ∙ ap run_to at in
-      let there : received q s ≡ above (cursor r s) (received r s) =
-      received-kept r s [] r ∙ ap (λ ps. without ps (received r s)) is
-      ∙ without-above c (received r s) (numbers-received [] r s fit)
-      ∙ ap (λ n. above n (received r s)) at in
-      same_receiving b d _ _ _ _ _ _ _ _ _ _ gone there (says.got s).cursor_
+  gets-some s b d some =
+      let new = purged-new r s some [] r fit refl (held-passed r s some) in
+      same_receiving b d _ _ _ _ _ _ _ _ _ _ new.0 (received-kept r s [] r) (says.got s).cursor_
       (ap (λ cs. at_seq s cs) says.frame.closes_) (ap (λ ns. at_seq s ns) says.frame.told_)
 
   gets-none : (s : ℕ) (b : Behaviour) (d : Option ℕ) → passed r s ≡ []
@@ -146,33 +105,33 @@ module _ (both : UnionHasBoth) (ends : EndsAreRight) (only : SameNumbersSameRang
   gets-left : (s : ℕ) (b : Behaviour) (d : Option ℕ) → behaviour_of (maker r s) ≡ b
       → receiving (snapshot r) s b d ≡ forgotten_by (receiving r s b d)
   gets-left s b d is =
-      let len : length (inbox_of b (told r s) (messages r s)) ≡ length (inbox r s) =
-      ap (λ x. length (inbox_of x (told r s) (messages r s))) (sym is) in
-      by_test (nat_lt 0 (cursor r s) && nat_le (cursor r s) (length (inbox_of b (told r s) (messages r s)))) refl
-      (ap (λ n. nat_lt 0 (cursor r s) && nat_le (cursor r s) n) len)
+      let same : passed_by_one (receiving r s b d) ≡ passed r s = ap (λ y. passed_at r s y) (sym is) in
+      elim (cases_Bool (is_empty (passed r s))) [
+        | inl none ↦
+            gets-none s b d (nil_of (passed r s) none)
+            ∙ sym (ap (λ ps. cond (is_empty ps) (receiving r s b d) (record (receiving r s b d) {
+              purged = ps;
+              received = without ps (received r s);
+            })) same
+            ∙ ap (λ t. cond t (receiving r s b d) (record (receiving r s b d) {
+              purged = passed r s;
+              received = without (passed r s) (received r s);
+            })) none)
+        | inr some ↦
+            gets-some s b d some
+            ∙ sym (ap (λ ps. cond (is_empty ps) (receiving r s b d) (record (receiving r s b d) {
+              purged = ps;
+              received = without ps (received r s);
+            })) same
+            ∙ ap (λ t. cond t (receiving r s b d) (record (receiving r s b d) {
+              purged = passed r s;
+              received = without (passed r s) (received r s);
+            })) some)
+      ]
     where
-      by_test : (t : Bool)
-          → (nat_lt 0 (cursor r s) && nat_le (cursor r s) (length (inbox_of b (told r s) (messages r s)))) ≡ t
-          → (nat_lt 0 (cursor r s) && nat_le (cursor r s) (length (inbox_of b (told r s) (messages r s))))
-          ≡ (nat_lt 0 (cursor r s) && nat_le (cursor r s) (length (inbox r s)))
-          → receiving (snapshot r) s b d ≡ forgotten_by (receiving r s b d)
-      by_test true test same =
-          let here : (nat_lt 0 (cursor r s) && nat_le (cursor r s) (length (inbox r s))) ≡ true = sym same ∙ test in
-          let parts = and_parts (nat_lt 0 (cursor r s)) (nat_le (cursor r s) (length (inbox r s))) here in
-          let low = parts.0 in
-          let high = parts.1 in
-          gets-some s (cursor r s) b d (grind (arith, nat_tests, low)) refl (grind (arith, nat_tests, high))
-          (ap (λ t. cond t (record { lower = 1; upper = cursor r s } ∷ []) []) here)
-          ∙ sym (ap (λ t. cond t (record (receiving r s b d) {
-            purged = run_to (cursor r s);
-            received = above (cursor r s) (received r s);
-          }) (receiving r s b d)) test)
-      by_test false test same =
-          gets-none s b d (ap (λ t. cond t (record { lower = 1; upper = cursor r s } ∷ []) []) (sym same ∙ test))
-          ∙ sym (ap (λ t. cond t (record (receiving r s b d) {
-            purged = run_to (cursor r s);
-            received = above (cursor r s) (received r s);
-          }) (receiving r s b d)) test)
+      nil_of : (ps : List Range) → is_empty ps ≡ true → ps ≡ []
+      nil_of [] e = refl
+      nil_of (p ∷ ps) e = absurd (cc)
 
   side-left : (s : ℕ) (m : Maker) → maker r s ≡ Some m → side_of (snapshot r) s m ≡ forgotten (side_of r s m)
   side-left s (Outgoing ticket to via lapse) there = ap (λ t. Sends t) (sends-left s)
@@ -227,43 +186,43 @@ payload-same (Sends t) n above within past =
     ∙ ap (λ i. get_or t.accepted i []) place
 payload-same (Receives t) n above within past = absurd (omega (arith, above, within))
 
-payload-above : (n k : ℕ) (ms : List (ℕ × Payload)) → n < k → payload_of k (above n ms) ≡ payload_of k ms
-payload-above n k [] lt = refl
-payload-above n k (m ∷ ms) lt = elim (cases_Bool (nat_lt n m.0)) [
-  | inl kept ↦
-      ap (λ b. payload_of k (cond b (m ∷ above n ms) (above n ms))) kept
-      ∙ ap (λ p. cond (m.0 == k) m.1 p) (payload-above n k ms lt)
-  | inr left ↦
-      let other : (m.0 == k) ≡ false = grind (arith, nat_tests, left, lt) in
-      ap (λ b. payload_of k (cond b (m ∷ above n ms) (above n ms))) left
-      ∙ payload-above n k ms lt
+payload-without : (ps : List Range) (k : ℕ) (ms : List (ℕ × Payload)) → in_ranges ps k ≡ false
+    → payload_of k (without ps ms) ≡ payload_of k ms
+payload-without ps k [] out = refl
+payload-without ps k (m ∷ ms) out = elim (cases_Bool (in_ranges ps m.0)) [
+  | inl gone ↦
+      let other : (m.0 == k) ≡ false = differs (cases_Bool (m.0 == k)) gone in
+      ap (λ b. payload_of k (cond b (without ps ms) (m ∷ without ps ms))) gone
+      ∙ payload-without ps k ms out
       ∙ sym (ap (λ b. cond b m.1 (payload_of k ms)) other)
+  | inr there ↦
+      ap (λ b. payload_of k (cond b (without ps ms) (m ∷ without ps ms))) there
+      ∙ ap (λ p. cond (m.0 == k) m.1 p) (payload-without ps k ms out)
 ]
+  where
+    differs : ((m.0 == k) ≡ true) ⊎ ((m.0 == k) ≡ false) → in_ranges ps m.0 ≡ true → (m.0 == k) ≡ false
+    differs (inl same) gone =
+        absurd (true≢false (sym (ap (λ i. in_ranges ps i) (sym (eqb-true m.0 k same)) ∙ gone) ∙ out))
+    differs (inr other) gone = other
 
 message-same : (x : Side) (n : ℕ) → has_number (numbers_of (received_in (forgotten x))) n ≡ true
     → payload_of n (received_in (forgotten x)) ≡ payload_of n (received_in x)
 message-same (Sends t) n has = refl
-message-same (Receives t) n has = by_test _ refl
+message-same (Receives t) n has = elim (cases_Bool (is_empty (passed_by_one t))) [
+  | inl none ↦ ap (λ b. payload_of n (received_in (Receives (cond b t (without_passed t))))) none
+  | inr some ↦
+      let left : has_number (numbers_of (without (passed_by_one t) t.received)) n ≡ true =
+      sym (ap (λ b. has_number (numbers_of (received_in (Receives (cond b t (without_passed t))))) n) some) ∙ has in
+      let all = has_number-without (passed_by_one t) t.received n in
+      let out : in_ranges (passed_by_one t) n ≡ false =
+      not-in (in_ranges (passed_by_one t) n) (has_number (numbers_of t.received) n) (sym all ∙ left) in
+      ap (λ b. payload_of n (received_in (Receives (cond b t (without_passed t))))) some
+      ∙ payload-without (passed_by_one t) n t.received out
+]
   where
-    by_test : (b : Bool) → (nat_lt 0 t.cursor && nat_le t.cursor (length (inbox_in t))) ≡ b
-        → payload_of n (received_in (forgotten (Receives t))) ≡ payload_of n t.received
-    by_test true e =
-        let there : has_number (numbers_of (above t.cursor t.received)) n ≡ true =
-        sym (ap (λ b. has_number (numbers_of (received_in (Receives (cond b (record t {
-          purged = run_to t.cursor;
-          received = above t.cursor t.received;
-        }) t)))) n) e) ∙ has in
-        let all = has_number-above t.cursor n t.received in
-        ap (λ b. payload_of n (received_in (Receives (cond b (record t {
-          purged = run_to t.cursor;
-          received = above t.cursor t.received;
-        }) t)))) e
-        ∙ payload-above t.cursor n t.received (grind (arith, nat_tests, all, there))
-    by_test false e =
-        ap (λ b. payload_of n (received_in (Receives (cond b (record t {
-          purged = run_to t.cursor;
-          received = above t.cursor t.received;
-        }) t)))) e
+    not-in : (a b : Bool) → (not a && b) ≡ true → a ≡ false
+    not-in true b e = absurd (true≢false (sym e))
+    not-in false b e = refl
 
 note-left : (kept : List Fact) (rows : List Told) (n : Note) → IsHeld kept rows n → IsHeld kept (all_forgotten rows) n
     → fact_at kept (all_forgotten rows) n ≡ fact_at kept rows n

@@ -8,7 +8,7 @@ use Rattle.std.proofs.lemmas.List.{append-nil, append_assoc, length-append}
 use Rattle.record_batch.specs.Fact.{Fact, Creating, Granted, Closing, Ending}
 use Rattle.sequence_table.specs.Words.{last_or}
 use Rattle.sequence_table.specs.Makers.{makers, makers_of, counter, draws_of}
-use Rattle.sequence_table.specs.Fits.{fits, all_fit, has_places, is_in_order, is_no_moment, offer_fits}
+use Rattle.sequence_table.specs.Fits.{fits, all_fit, has_places, is_no_moment, offer_fits}
 use Rattle.sequence_table.specs.NodeLemmas.{one_more}
 use Rattle.sequence_row.specs.Row.{is_moment}
 use Rattle.node_tables.specs.Kept.{Table, Holds, is_timed_record, records_in}
@@ -25,9 +25,7 @@ fits-few r (Creating ticket to via lapse offer) h le =
     (and_parts (ticket == counter r + 1) _ h).1).1
 fits-few r (Granted drawn message_id acks_to behaviour deadline lapse offer) h le =
     places r (Granted drawn message_id acks_to behaviour deadline lapse offer)
-    (and_parts (is_in_order behaviour)
-    (has_places r (Granted drawn message_id acks_to behaviour deadline lapse offer))
-    (and_parts (not (is_no_moment deadline)) _ (and_parts (drawn == counter r + 1) _ h).1).1).1
+    (and_parts (not (is_no_moment deadline)) _ (and_parts (drawn == counter r + 1) _ h).1).1
 fits-few r _ h le = omega (arith, le)
 
 all-few : (r xs : List Fact) → all_fit r xs ≡ true → length (makers r) ≤ 4294967295
@@ -60,7 +58,7 @@ last-drawn r (Creating ticket to via lapse None) drawn e h =
 last-drawn r (Creating ticket to via lapse (Some offer)) drawn e h =
     let more = (and_parts (ticket == counter r + 1) _ h).1 in
     let next = (and_parts (offer_fits (counter r) (Some offer)) _ more).0 in
-    let is = eqb-true offer.counter (counter r + 2) (and_parts (offer.counter == counter r + 2) _ next).0 in
+    let is = eqb-true offer.counter (counter r + 2) next in
     omega (arith, is, e)
 last-drawn r (Granted number message_id acks_to behaviour deadline lapse offer) drawn e h =
     let is = eqb-true number (counter r + 1) (and_parts (number == counter r + 1) _ h).0 in omega (arith, is, e)

@@ -17,11 +17,12 @@ use Rattle.rm_base.specs.Message.{max_number}
 use Rattle.rm_base.specs.NumberSet.{has_number}
 use Rattle.rm_base.specs.Numbered.{numbered}
 use Rattle.rm_base.specs.declared.message.Payload.{Payload}
-use Rattle.rm_destination.specs.Incoming.{inbox as inbox_in, inbox_of}
-use Rattle.rm_destination.specs.ItemLemmas.{has_number-above}
-use Rattle.rm_destination.specs.Messages.{above, is_empty, numbers_of, run_to}
+use Rattle.rm_base.specs.declared.message.Behaviour.{Behaviour}
+use Rattle.rm_destination.specs.Incoming.{first_numbers, inbox_of, is_loose, passed as passed_of, without_passed}
+use Rattle.rm_destination.specs.LooseLemmas.{has_number-without}
+use Rattle.rm_destination.specs.Messages.{is_empty, numbers_of}
 use Rattle.record_batch.specs.Fact.{Fact, Accepted, Acked, Received, Consumed, Dropped, Purged}
-use Rattle.sequence_table.specs.Destinations.{behaviour_of, cursor, held, is_stopped, messages, told}
+use Rattle.sequence_table.specs.Destinations.{behaviour_of, cursor, held, is_stopped, items, told}
 use Rattle.sequence_table.specs.Fits.{fits, follows_at, is_incoming_side, is_outgoing_side}
 use Rattle.sequence_table.specs.Makers.{Maker, Outgoing, Offered, Incoming, Taken, maker, makers, makers_of}
 use Rattle.sequence_table.specs.Sources.{accepted_count, acked}
@@ -82,40 +83,24 @@ pub acked-known : (r : List Fact) (s : ℕ) → is_outgoing_side (maker r s) ≡
     → acked_in (told_in r s) ≡ united [] (acked r s)
 acked-known r s e = row_acked r s (maker r s) e
 
--- and how many items of one that receives were consumed
-runs_some : (z : Bool) (c : ℕ) (b : Bool) → z ≡ true
-    → run_to (cond b (suc c) 0) ≡ cond (z && b) (record { lower = 1; upper = suc c } ∷ []) []
-runs_some true c true e = refl
-runs_some true c false e = refl
-runs_some false c b e = absurd (true≢false (sym e))
-
-runs : (c n : ℕ) → run_to (cond (nat_le c n) c 0)
-    ≡ cond (nat_lt 0 c && nat_le c n) (record { lower = 1; upper = c } ∷ []) []
-runs zero n = elim (nat_le 0 n) as (λ b. run_to (cond b 0 0)
-    ≡ cond (false && b) (record { lower = 1; upper = 0 } ∷ []) []) [
-      | true ↦ refl
-      | false ↦ refl
-    ]
-runs (suc c) n = runs_some (nat_lt 0 (suc c)) c (nat_le (suc c) n) (grind (arith, nat_tests))
+-- the numbers of what was consumed of one that receives, by what was announced for it
+abbrev pub passed_at : List Fact → ℕ → Behaviour → List Range
+passed_at r s y =
+    cond (nat_lt 0 (cursor r s) && nat_le (cursor r s) (length (inbox_of y (told r s) (items r s))))
+    (first_numbers (is_loose y) (held r s) (cursor r s)) []
 
 row_passed : (r : List Fact) (s : ℕ) (o : Option Maker) → maker r s ≡ o → is_incoming_side o ≡ true
-    → run_to (passed_in (option_map (λ (m : Maker). told_by r s m) o)) ≡ passed r s
+    → passed_in (option_map (λ (m : Maker). told_by r s m) o) ≡ passed r s
 row_passed r s (Some (Incoming counter message_id acks_to behaviour deadline lapse)) there e =
-    runs (cursor r s) (length (inbox_of behaviour (told r s) (messages r s)))
-    ∙ ap (λ (p : Option Maker). cond (nat_lt 0 (cursor r s)
-    && nat_le (cursor r s) (length (inbox_of (behaviour_of p) (told r s) (messages r s))))
-    (record { lower = 1; upper = cursor r s } ∷ []) []) (sym there)
+    ap (λ (p : Option Maker). passed_at r s (behaviour_of p)) (sym there)
 row_passed r s (Some (Offered ticket counter to behaviour)) there e =
-    runs (cursor r s) (length (inbox_of behaviour (told r s) (messages r s)))
-    ∙ ap (λ (p : Option Maker). cond (nat_lt 0 (cursor r s)
-    && nat_le (cursor r s) (length (inbox_of (behaviour_of p) (told r s) (messages r s))))
-    (record { lower = 1; upper = cursor r s } ∷ []) []) (sym there)
+    ap (λ (p : Option Maker). passed_at r s (behaviour_of p)) (sym there)
 row_passed r s (Some (Outgoing ticket to via lapse)) there e = absurd (true≢false (sym e))
 row_passed r s (Some (Taken message_id ident endpoint)) there e = absurd (true≢false (sym e))
 row_passed r s None there e = absurd (true≢false (sym e))
 
 pub passed-known : (r : List Fact) (s : ℕ) → is_incoming_side (maker r s) ≡ true
-    → run_to (passed_in (told_in r s)) ≡ passed r s
+    → passed_in (told_in r s) ≡ passed r s
 passed-known r s e = row_passed r s (maker r s) refl e
 
 -- ---- a record and those around it
@@ -220,24 +205,11 @@ both_chosen true true x y = refl
 both_chosen true false x y = refl
 both_chosen false c x y = refl
 
-purged_some : (z : Bool) (p seq : ℕ) (ranges : List Range) → z ≡ false
-    → option_to_list (cond z (Some (Purged seq ranges)) (Some (Purged seq (run_to (suc p)))))
-    ≡ cond (is_empty (run_to (suc p))) (Purged seq ranges ∷ []) (purged_with seq (run_to (suc p)))
-purged_some false p seq ranges e = refl
-purged_some true p seq ranges e = absurd (true≢false e)
-
-not_none : (p : ℕ) → (suc p == 0) ≡ false
-not_none p = grind (arith, nat_tests)
-
-purged_chosen : (p : ℕ) (seq : ℕ) (ranges : List Range)
-    → option_to_list (cond (p == 0) (Some (Purged seq ranges)) (Some (Purged seq (run_to p))))
-    ≡ cond (is_empty (run_to p)) (Purged seq ranges ∷ []) (purged_with seq (run_to p))
-purged_chosen zero seq ranges = refl
-purged_chosen (suc p) seq ranges = purged_some (suc p == 0) p seq ranges (not_none p)
-
-pub none_run : (p : ℕ) → (p == 0) ≡ is_empty (run_to p)
-none_run zero = refl
-none_run (suc p) = not_none p
+purged_chosen : (ps : List Range) (seq : ℕ) (ranges : List Range)
+    → option_to_list (cond (is_empty ps) (Some (Purged seq ranges)) (Some (Purged seq ps)))
+    ≡ cond (is_empty ps) (Purged seq ranges ∷ []) (purged_with seq ps)
+purged_chosen [] seq ranges = refl
+purged_chosen (p ∷ ps) seq ranges = refl
 
 next_settled : (n d k : ℕ) → n ≡ k + 1 → (nat_le n d ≡ nat_lt k d) × ((n == 1) ≡ (k == 0))
 next_settled n d k e = (grind (arith, nat_tests, e), grind (arith, nat_tests, e))
@@ -283,8 +255,8 @@ same-instead kept rows seen r before behind (note.Dropped seq upto) known at has
 same-instead kept rows seen r before behind (note.Received row n first) known at has met whole =
     let s = row + 1 in
     let f = fact_at kept rows (note.Received row n first) in
-    let all : run_to (passed_in (numbered rows s)) ≡ passed r s =
-    ap (λ o. run_to (passed_in o)) (known s) ∙ passed-known r s (received-receives r before behind s n _ at) in
+    let all : passed_in (numbered rows s) ≡ passed r s =
+    ap passed_in (known s) ∙ passed-known r s (received-receives r before behind s n _ at) in
     ap (λ xs. option_to_list (cond first (some_ranges (Purged s) xs) None)
     ++ option_to_list (cond (in_ranges xs n) None (Some f))) all
     ∙ ap (λ xs. xs ++ option_to_list (cond (in_ranges (passed r s) n) None (Some f)))
@@ -293,15 +265,14 @@ same-instead kept rows seen r before behind (note.Received row n first) known at
     ∙ ap (λ xs. cond (is_empty (held before s)) (purged_with s (passed r s)) [] ++ xs)
     (left_out (in_ranges (passed r s) n) (Some f) (f ∷ []) refl)
 same-instead kept rows seen r before behind (note.Consumed seq upto) known at has met whole =
-    let all : run_to (passed_in (numbered rows seq)) ≡ passed r seq =
-    ap (λ o. run_to (passed_in o)) (known seq) ∙ passed-known r seq (consumed-receives r before behind seq upto at) in
-    chosen (passed_in (numbered rows seq) == 0) (Some (Consumed seq upto)) (Consumed seq upto ∷ []) refl
-    ∙ ap (λ b. cond b (Consumed seq upto ∷ []) [])
-    (none_run (passed_in (numbered rows seq)) ∙ ap (λ xs. is_empty xs) all)
+    let all : passed_in (numbered rows seq) ≡ passed r seq =
+    ap passed_in (known seq) ∙ passed-known r seq (consumed-receives r before behind seq upto at) in
+    chosen (is_empty (passed_in (numbered rows seq))) (Some (Consumed seq upto)) (Consumed seq upto ∷ []) refl
+    ∙ ap (λ xs. cond (is_empty xs) (Consumed seq upto ∷ []) []) all
 same-instead kept rows seen r before behind (note.Purged seq numbers) known at has met whole =
     let ranges = numbers.ranges in
-    let all : run_to (passed_in (numbered rows seq)) ≡ passed r seq =
-    ap (λ o. run_to (passed_in o)) (known seq)
+    let all : passed_in (numbered rows seq) ≡ passed r seq =
+    ap passed_in (known seq)
     ∙ passed-known r seq (purged-receives r before behind seq ranges at) in
     purged_chosen (passed_in (numbered rows seq)) seq ranges
     ∙ ap (λ xs. cond (is_empty xs) (Purged seq ranges ∷ []) (purged_with seq xs)) all
@@ -316,28 +287,16 @@ left-accepted (Sends t) n above within past = (
 )
 left-accepted (Receives t) n above within past = absurd (omega (arith, above, within))
 
-pub left-received : (x : Side) (n : ℕ) → has_number (numbers_of (received_in x)) n ≡ true → passed_by x < n
-    → has_number (numbers_of (received_in (forgotten x))) n ≡ true
-left-received (Sends t) n has past = has
-left-received (Receives t) n has past =
-    elim (cases_Bool (nat_lt 0 t.cursor && nat_le t.cursor (length (inbox_in t)))) [
-      | inl some ↦
-          let le : nat_le t.cursor (length (inbox_in t)) ≡ true = (and_parts (nat_lt 0 t.cursor) _ some).1 in
-          let all : cond (nat_le t.cursor (length (inbox_in t))) t.cursor 0 ≡ t.cursor
-          = ap (λ b. cond b t.cursor 0) le in
-          let lt : t.cursor < n = omega (arith, all, past) in
-          let there = has_number-above t.cursor n t.received in
-          ap (λ b. has_number (numbers_of (received_in (Receives (cond b (record t {
-            purged = run_to t.cursor;
-            received = above t.cursor t.received;
-          }) t)))) n) some
-          ∙ grind (arith, nat_tests, there, lt, has)
-      | inr none ↦
-          ap (λ b. has_number (numbers_of (received_in (Receives (cond b (record t {
-            purged = run_to t.cursor;
-            received = above t.cursor t.received;
-          }) t)))) n) none
-          ∙ has
+pub left-received : (x : Side) (n : ℕ) → has_number (numbers_of (received_in x)) n ≡ true
+    → in_ranges (passed_by x) n ≡ false → has_number (numbers_of (received_in (forgotten x))) n ≡ true
+left-received (Sends t) n has out = has
+left-received (Receives t) n has out =
+    let all = has_number-without (passed_of t) t.received n in
+    elim (cases_Bool (is_empty (passed_of t))) [
+      | inl none ↦ ap (λ b. has_number (numbers_of (received_in (Receives (cond b t (without_passed t))))) n) none ∙ has
+      | inr some ↦
+          ap (λ b. has_number (numbers_of (received_in (Receives (cond b t (without_passed t))))) n) some
+          ∙ all ∙ ap (λ b. not b && has_number (numbers_of t.received) n) out ∙ has
     ]
 
 -- a row by its number

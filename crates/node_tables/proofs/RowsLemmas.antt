@@ -11,15 +11,15 @@ use Rattle.rm_base.specs.Numbered.{numbered}
 use Rattle.rm_base.specs.NumberSet.{has_number}
 use Rattle.ack_ranges.specs.declared.range.Range.{Range}
 use Rattle.ack_ranges.specs.Ranges.{IsCanonical, in_ranges}
-use Rattle.rm_destination.specs.Incoming.{Receiving, held as held_by}
+use Rattle.rm_destination.specs.Incoming.{Receiving, held as held_by, is_loose}
 use Rattle.rm_destination.specs.Messages.{is_empty}
 use Rattle.record_batch.specs.Fact.{Fact, Created, Accepted, Acked, Received, Closing, ClosedOut, Closed}
 use Rattle.record_batch.specs.Fact.{Ending}
 use Rattle.record_batch.specs.Fact.{EndedOut, Ended, Failed, Consumed, Dropped, Purged}
 use Rattle.sequence_table.specs.Makers.{Maker, makers, maker, counter}
-use Rattle.sequence_table.specs.Fits.{fits, follows, is_first_run, is_outgoing_side, is_incoming_side, is_up_to}
+use Rattle.sequence_table.specs.Fits.{fits, follows, is_incoming_side, is_outgoing_side, is_up_to, may_be_gone}
 use Rattle.sequence_table.specs.Sources.{accepted_count, phase}
-use Rattle.sequence_table.specs.Destinations.{cursor, held, has_end, inbox, is_stopped}
+use Rattle.sequence_table.specs.Destinations.{behaviour, cursor, has_end, held, inbox, is_stopped}
 use Rattle.sequence_table.specs.Told.{Side, Sends, Receives, Told, names, told_all, told_by, told_from}
 use Rattle.sequence_row.specs.Row.{Seen, takes, draws_next, receiving_in}
 use Rattle.sequence_row.specs.TakesLemmas.{fits-takes}
@@ -135,7 +135,7 @@ nobody r (Dropped s upto) is e =
     && ((accepted_count r s == 0) && (nat_le 1 upto && nat_le upto 9223372036854775807))) e
 nobody r (Purged s ranges) is e =
     ap (λ o. is_incoming_side o && (is_empty (held r s)
-    && (list_all (is_up_to 9223372036854775807) ranges && is_first_run ranges))) e
+    && (list_all (is_up_to 9223372036854775807) ranges && may_be_gone (is_loose (behaviour r s)) ranges))) e
 nobody r _ is e = absurd (false≢true is)
 
 taken : (r : List Fact) (f : Fact) (o : Option Maker) → is_naming f ≡ true → maker r (names f) ≡ o

@@ -14,10 +14,10 @@ use Rattle.std.proofs.lemmas.List.{append-nil, drop_all, length-set, get_or-map,
 use Rattle.std.proofs.lemmas.List.{length-map, map-append, reverse-append, take-append-drop}
 use Rattle.ack_ranges.specs.Laws.{EndsAreRight, UnionHasBoth}
 use Rattle.ack_ranges.specs.Ranges.{front_of, in_ranges}
+use Rattle.ack_ranges.specs.declared.range.Range.{Range}
 use Rattle.rm_base.specs.NumberSet.{has_number}
 use Rattle.rm_base.specs.Numbered.{numbered}
-use Rattle.rm_destination.specs.ItemLemmas.{in_ranges-run_to}
-use Rattle.rm_destination.specs.Messages.{is_empty, numbers_in, numbers_of, run_to}
+use Rattle.rm_destination.specs.Messages.{is_empty, numbers_in, numbers_of, without}
 use Rattle.record_batch.specs.Fact.{Fact, Accepted, Dropped, Purged}
 use Rattle.sequence_table.specs.Destinations.{held, purged, received}
 use Rattle.sequence_table.specs.Fits.{all_fit, is_outgoing_side}
@@ -25,9 +25,9 @@ use Rattle.sequence_table.specs.Makers.{Maker, maker}
 use Rattle.sequence_table.specs.Sources.{accepted_count, dropped_of}
 use Rattle.sequence_table.specs.Told.{Told, told_by}
 use Rattle.record_snapshot.specs.FitLemmas.{SoFar, count_so_far, so-far-on}
-use Rattle.record_snapshot.specs.GotLemmas.{got_with, held-is, held-length, held-more, run, run-some, some-not}
-use Rattle.record_snapshot.specs.PassedLemmas.{without-no}
-use Rattle.record_snapshot.specs.Same.{HasProper, HaveProper, without}
+use Rattle.record_snapshot.specs.GotLemmas.{got_with, held-is, held-length, held-more, some-not}
+use Rattle.record_snapshot.specs.PassedLemmas.{passed-some, without-no}
+use Rattle.record_snapshot.specs.Same.{HasProper, HaveProper}
 use Rattle.record_snapshot.specs.Snapshot.{acks, instead, passed, settled, snapshot_from}
 use Rattle.record_snapshot.specs.WalkLemmas.{drops-settled, start}
 use Rattle.node_tables.specs.declared.note.Note.{Note}
@@ -187,10 +187,11 @@ some-none : (x : Fact) → Some x ≡ None → ⊥
 some-none x h = absurd cc
 
 -- and a message that stays is none that was consumed
-message-past : (p n : ℕ) (x y : Fact) → 0 < n → Some x ≡ cond (in_ranges (run_to p) n) None (Some y) → p < n
-message-past p n x y from e = elim (cases_Bool (in_ranges (run_to p) n)) [
+message-past : (ps : List Range) (n : ℕ) (x y : Fact) → Some x ≡ cond (in_ranges ps n) None (Some y)
+    → in_ranges ps n ≡ false
+message-past ps n x y e = elim (cases_Bool (in_ranges ps n)) [
   | inl gone ↦ absurd (some-none x (e ∙ ap (λ b. cond b None (Some y)) gone))
-  | inr outside ↦ (let all = in_ranges-run_to p n in grind (arith, nat_tests, all, outside, from))
+  | inr outside ↦ outside
 ]
 
 row-forgotten : (rows : List Told) (i : ℕ) → i < length rows
@@ -225,10 +226,10 @@ left-stays kept rows seen (note.Received row n first) h from e =
     let x = (row_at rows row).side in
     let passed_ : passed_in (numbered rows (row + 1)) ≡ passed_by x =
     ap passed_in (numbered-row rows row h.0) in
-    let past = message-past (passed_in (numbered rows (row + 1))) n _ _ (from row n first refl) e in (
+    let past = message-past (passed_in (numbered rows (row + 1))) n _ _ e in (
       omega (arith, h.0, length-map rows (λ (t : Told). record t { side = forgotten t.side })),
       ap (λ y. has_number (numbers_of (received_in y)) n) (row-forgotten rows row h.0)
-          ∙ left-received x n h.1 (omega (arith, past, passed_)),
+          ∙ left-received x n h.1 (ap (λ ps. in_ranges ps n) (sym passed_) ∙ past),
     )
 left-stays kept rows seen _ h from e = tt
 
@@ -252,17 +253,20 @@ count-same d k le = elim (cases_eq k 0) [
   | inr some ↦ (let same : max d k ≡ k = omega (arith, le) in grind (arith, nat_tests, some, same))
 ]
 
-and_so : (b : Bool) (p : ℕ) → p ≡ 0 → (b && (p == 0)) ≡ b
-and_so true p e = grind (arith, nat_tests, e)
-and_so false p e = refl
+and_so : (b : Bool) (ps : List Range) → is_empty ps ≡ true → (b && is_empty ps) ≡ b
+and_so true ps e = e
+and_so false ps e = refl
 
-and_not : (b : Bool) (p : ℕ) → 0 < p → (b && (p == 0)) ≡ false
-and_not true p lt = grind (arith, nat_tests, lt)
-and_not false p lt = refl
+and_not : (b : Bool) (ps : List Range) → is_empty ps ≡ false → (b && is_empty ps) ≡ false
+and_not true ps e = e
+and_not false ps e = refl
 
-run-numbers : (p : ℕ) → 0 < p → 0 < length (numbers_in (run_to p))
-run-numbers zero lt = absurd (omega (arith, lt))
-run-numbers (suc p) lt = run-some (run_to (suc p)) (run (suc p) (omega arith))
+nil_of : (ps : List Range) → is_empty ps ≡ true → ps ≡ []
+nil_of [] e = refl
+nil_of (p ∷ ps) e = absurd (cc)
+
+some_of : (fact : List Range → Fact) (ps : List Range) → is_empty ps ≡ false → some_ranges fact ps ≡ Some (fact ps)
+some_of fact ps e = ap (λ b. cond b None (Some (fact ps))) e
 
 -- the messages before it, where none were consumed
 module _ (r q before : List Fact) (so : SoFar r q before) (s : ℕ) where
@@ -275,31 +279,31 @@ module _ (r q before : List Fact) (so : SoFar r q before) (s : ℕ) where
       ∙ sym (held-is before s)
 
   -- and where some were, and the numbers of these stand before it
-  held-some : (p : ℕ) → 0 < p → passed r s ≡ run_to p
+  held-some : is_empty (passed r s) ≡ false
       → is_empty (held (q
-      ++ option_to_list (cond (is_empty (held before s)) (some_ranges (Purged s) (run_to p)) None)) s)
+      ++ option_to_list (cond (is_empty (held before s)) (some_ranges (Purged s) (passed r s)) None)) s)
       ≡ false
-  held-some zero lt is = absurd (omega (arith, lt))
-  held-some (suc p) lt is = elim (cases_Bool (is_empty (held before s))) [
+  held-some some = elim (cases_Bool (is_empty (held before s))) [
     | inl fresh ↦
-        ap (λ b. is_empty (held (q ++ option_to_list (cond b (Some (Purged s (run_to (suc p)))) None)) s)) fresh
-        ∙ some-not (held (q ++ Purged s (run_to (suc p)) ∷ []) s)
+        ap (λ b. is_empty (held (q ++ option_to_list (cond b (some_ranges (Purged s) (passed r s)) None)) s)) fresh
+        ∙ ap (λ o. is_empty (held (q ++ option_to_list o) s)) (some_of (Purged s) (passed r s) some)
+        ∙ some-not (held (q ++ Purged s (passed r s) ∷ []) s)
         (omega (
           arith,
-          held-more q (Purged s (run_to (suc p))) s,
-          ap (λ ps. length (numbers_in ps)) (got_with s (run_to (suc p))),
-          run-numbers (suc p) lt,
+          held-more q (Purged s (passed r s)) s,
+          ap (λ ps. length (numbers_in ps)) (got_with s (passed r s)),
+          passed-some r s some,
         ))
     | inr older ↦
-        ap (λ b. is_empty (held (q ++ option_to_list (cond b (Some (Purged s (run_to (suc p)))) None)) s)) older
+        ap (λ b. is_empty (held (q ++ option_to_list (cond b (some_ranges (Purged s) (passed r s)) None)) s)) older
         ∙ ap (λ q2. is_empty (held q2 s)) (append-nil q)
         ∙ some-not (held q s)
         (omega (
           arith,
           held-length q s,
-          ap (λ ps. length (numbers_in ps)) ((so.got_ s).purged_some (ap (λ ps. is_empty ps) is)
-              ∙ ap (λ b. cond b [] (passed r s)) older ∙ is),
-          run-numbers (suc p) lt,
+          ap (λ ps. length (numbers_in ps)) ((so.got_ s).purged_some some
+              ∙ ap (λ b. cond b [] (passed r s)) older),
+          passed-some r s some,
         ))
   ]
 
@@ -318,27 +322,28 @@ stays-placed kept rows seen r q before behind (note.Accepted row n) so known at 
     has ∙ ap (λ k. k + 1) (sym count) ∙ ap (λ q2. accepted_count q2 s + 1) (sym (append-nil q))
 stays-placed kept rows seen r q before behind (note.Received row n first) so known at has e =
     let s = row + 1 in
-    let p = passed_in (numbered rows s) in
-    let is : passed r s ≡ run_to p =
-    sym (ap (λ o. run_to (passed_in o)) (known s) ∙ passed-known r s (received-receives r before behind s n _ at)) in
-    elim (cases_eq p 0) [
+    let is : passed_in (numbered rows s) ≡ passed r s =
+    ap passed_in (known s) ∙ passed-known r s (received-receives r before behind s n _ at) in
+    ap (λ ps. first && is_empty ps) is
+    ∙ elim (cases_Bool (is_empty (passed r s))) [
       | inl none ↦
-          and_so first p none ∙ has
-          ∙ ap (λ ns. is_empty ns) (sym (held-same r q before so s (is ∙ ap run_to none)))
+          and_so first (passed r s) none ∙ has
+          ∙ ap (λ ns. is_empty ns) (sym (held-same r q before so s (nil_of (passed r s) none)))
           ∙ ap (λ q2. is_empty (held q2 s)) (sym (append-nil q))
-          ∙ ap (λ o. is_empty (held (q ++ option_to_list o) s)) (no-ahead first)
-          ∙ ap (λ k. is_empty (held (q ++ option_to_list (cond first (some_ranges (Purged s) (run_to k)) None)) s))
-          (sym none)
+          ∙ ap (λ o. is_empty (held (q ++ option_to_list o) s)) (no-ahead first (passed r s) none)
       | inr some ↦
-          let lt : 0 < p = omega (arith, some) in
-          and_not first p lt
-          ∙ sym (ap (λ b. is_empty (held (q ++ option_to_list (cond b (some_ranges (Purged s) (run_to p)) None)) s)) has
-          ∙ held-some r q before so s p lt is)
+          and_not first (passed r s) some
+          ∙ sym (ap (λ b. is_empty (held (q
+          ++ option_to_list (cond b (some_ranges (Purged s) (passed r s)) None)) s)) has
+          ∙ held-some r q before so s some)
     ]
+    ∙ ap (λ ps. is_empty (held (q ++ option_to_list (cond first (some_ranges (Purged s) ps) None)) s)) (sym is)
   where
-    no-ahead : (b : Bool) → None ≡ cond b (some_ranges (Purged (row + 1)) (run_to 0)) None
-    no-ahead true = refl
-    no-ahead false = refl
+    no-ahead : (b : Bool) (ps : List Range) → is_empty ps ≡ true
+        → None ≡ cond b (some_ranges (Purged (row + 1)) ps) None
+    no-ahead true [] e = refl
+    no-ahead true (p ∷ ps) e = absurd (cc)
+    no-ahead false ps e = refl
 stays-placed kept rows seen r q before behind _ so known at has e = tt
 
 own-placed : (kept : List Fact) (rows : List Told) (seen : List Bool) (r q before behind : List Fact) (n : Note)

@@ -8,7 +8,7 @@ use Rattle.rm_source.specs.Outgoing.{Sending}
 use Rattle.rm_destination.specs.Incoming.{Receiving, inbox_of, is_past, items, phase_of}
 use Rattle.rm_destination.specs.declared.outcome.InPhase.TheVariants.{Open as is_open, Closed as is_closed}
 use Rattle.rm_destination.specs.declared.outcome.InPhase.TheVariants.{Ended as is_ended}
-use Rattle.rm_destination.specs.Messages.{Item, any_true, by_number, contents_of, is_empty}
+use Rattle.rm_destination.specs.Messages.{Item, any_true, contents_of, is_empty}
 use Rattle.record_batch.specs.Fact.{Fact, Made}
 use Rattle.sequence_table.specs.Makers.{Maker, Outgoing, Offered, Incoming, Taken, address, maker}
 use Rattle.sequence_table.specs.Makers.{number}
@@ -66,9 +66,9 @@ recorded : (r : List Fact) (s : ℕ) (m : Maker) → maker r s ≡ Some m
     → IsAsRecorded r s (receiving r s (behaviour_of (Some m)) (deadline_of (Some m)))
 recorded r s m there =
     let f = receiving r s (behaviour_of (Some m)) (deadline_of (Some m)) in
-    let inbox_same : inbox_of f.behaviour f.told (by_number (items f))
-    ≡ inbox_of (behaviour_of (maker r s)) (told r s) (messages r s) =
-    ap (λ (o : Option Maker). inbox_of (behaviour_of o) (told r s) (messages r s)) (sym there) in
+    let inbox_same : inbox_of f.behaviour f.told (items f)
+    ≡ inbox_of (behaviour_of (maker r s)) (told r s) (items f) =
+    ap (λ (o : Option Maker). inbox_of (behaviour_of o) (told r s) (items f)) (sym there) in
     let late : (now : ℕ) → is_past f.deadline now ≡ is_past (deadline_of (maker r s)) now =
     λ now. ap (λ (o : Option Maker). is_past (deadline_of o) now) (sym there) in
     record {

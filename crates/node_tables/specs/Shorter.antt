@@ -1,13 +1,13 @@
 -- The notes of a snapshot: which records it takes, and that it takes what the rows have.
 use Rattle.std.specs.Prelude.{◌≡◌, ◌⊎◌, ℕ, ◌+◌, ◌-◌, ◌≤◌, ◌==◌, ◌&&◌, Bool, true, false, if◌then◌else◌, nat_le, List}
-use Rattle.std.specs.Prelude.{[], ◌<◌, ◌++◌, IfSome, length, Option, Some, None, slice_index_or, slice_set}
+use Rattle.std.specs.Prelude.{[], ◌<◌, ◌++◌, IfSome, Option, Some, None, slice_index_or, slice_set}
 use Rattle.std.specs.Option.{option_map, option_to_list}
 use Rattle.ack_ranges.specs.declared.range.Range.{Range}
 use Rattle.ack_ranges.specs.Ranges.{front_of, in_ranges}
 use Rattle.rm_base.specs.Message.{max_number}
 use Rattle.rm_base.specs.Numbered.{numbered}
-use Rattle.rm_destination.specs.Incoming.{inbox}
-use Rattle.rm_destination.specs.Messages.{is_empty, run_to}
+use Rattle.rm_destination.specs.Incoming.{passed}
+use Rattle.rm_destination.specs.Messages.{is_empty}
 use Rattle.record_batch.specs.Fact.{Fact, Acked, Consumed, Dropped, Purged}
 use Rattle.sequence_table.specs.Fits.{all_fit}
 use Rattle.sequence_table.specs.Told.{Side, Sends, Receives, Told, told_all}
@@ -31,15 +31,15 @@ abbrev pub acked_in : Option Told → List Range
 acked_in (Some t) = acked_by t.side
 acked_in None = []
 
--- how many items of the inbox of a side were consumed, where the inbox has so many
-abbrev pub passed_by : Side → ℕ
-passed_by (Sends t) = 0
-passed_by (Receives t) = if nat_le t.cursor (length (inbox t)) then t.cursor else 0
+-- the numbers of the items of the inbox of a side that were consumed, where the inbox has so many
+abbrev pub passed_by : Side → List Range
+passed_by (Sends t) = []
+passed_by (Receives t) = passed t
 
 -- the same of a row that may be there
-abbrev pub passed_in : Option Told → ℕ
+abbrev pub passed_in : Option Told → List Range
 passed_in (Some t) = passed_by t.side
-passed_in None = 0
+passed_in None = []
 
 -- from the last note to the first: the sequences of which an Acked record was met, after one more note
 abbrev pub marked : List Bool → Note → List Bool
@@ -53,7 +53,7 @@ some_ranges fact ranges = if is_empty ranges then None else Some (fact ranges)
 -- what is put before what stands for a note: the numbers of what was consumed, before the first message
 abbrev pub fact_ahead : List Told → Note → Option Fact
 fact_ahead rows (note.Received row n first) =
-    if first then some_ranges (Purged (row + 1)) (run_to (passed_in (numbered rows (row + 1)))) else None
+    if first then some_ranges (Purged (row + 1)) (passed_in (numbered rows (row + 1))) else None
 fact_ahead rows _ = None
 
 -- What stands for a note. An Acked one whose sequence was met is left out, else it has the numbers of the row behind
@@ -70,17 +70,18 @@ fact_instead kept rows seen (note.Accepted row n) =
     else Some (fact_at kept rows (note.Accepted row n))
 fact_instead kept rows seen (note.Dropped seq upto) = Some (Dropped seq (front_of (acked_in (numbered rows seq))))
 fact_instead kept rows seen (note.Received row n first) =
-    if in_ranges (run_to (passed_in (numbered rows (row + 1)))) n then None
+    if in_ranges (passed_in (numbered rows (row + 1))) n then None
     else Some (fact_at kept rows (note.Received row n first))
 fact_instead kept rows seen (note.Consumed seq upto) =
-    if passed_in (numbered rows seq) == 0 then Some (Consumed seq upto) else None
+    if is_empty (passed_in (numbered rows seq)) then Some (Consumed seq upto) else None
 fact_instead kept rows seen (note.Purged seq numbers) =
-    if passed_in (numbered rows seq) == 0 then Some (Purged seq numbers.ranges)
-    else Some (Purged seq (run_to (passed_in (numbered rows seq))))
+    if is_empty (passed_in (numbered rows seq)) then Some (Purged seq numbers.ranges)
+    else Some (Purged seq (passed_in (numbered rows seq)))
 
 -- the note itself, where it stays: a message is the first no more where others before it were consumed
 abbrev pub stays_as : List Told → Note → Note
-stays_as rows (note.Received row n first) = note.Received row n (first && (passed_in (numbered rows (row + 1)) == 0))
+stays_as rows (note.Received row n first) =
+    note.Received row n (first && is_empty (passed_in (numbered rows (row + 1))))
 stays_as rows n = n
 
 -- a note that names nothing

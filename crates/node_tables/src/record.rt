@@ -1,7 +1,7 @@
 //! What a record says of the node, and the traces that it leaves in the tables.
 ghost use Rattle.std.specs.Prelude.{◌≡◌, ◌+◌, ◌<◌, ◌≤◌, ◌++◌, length, vec_len, vec_capacity};
 ghost use Rattle.record_batch.specs.Fact.{fact_of};
-ghost use Rattle.sequence_table.specs.Fits.{is_in_order, offer_fits};
+ghost use Rattle.sequence_table.specs.Fits.{offer_fits};
 ghost use Rattle.sequence_table.specs.Makers.{draws_of, makers_of};
 ghost use Rattle.sequence_table.specs.OneMore.{number_after};
 ghost use Rattle.sequence_table.specs.Told.{names};
@@ -10,7 +10,6 @@ ghost use Rattle.node_tables.specs.Kept.{names_for, origins_for};
 
 use crate::note::{Named, Origin};
 use record_batch::{OwnOffer, Record};
-use rm_base::Behaviour;
 use sequence_table::made_by;
 
 /// The sequence that a record names, and 0 where it names none.
@@ -29,24 +28,12 @@ pub(crate) fn named_by(given: &Record) -> u32
     }
 }
 
-/// Whether a sequence releases its messages in order: each does whose behaviour is not NoDiscard.
-pub(crate) fn is_in_order(behaviour: Behaviour) -> bool
-    ensures { result ≡ is_in_order behaviour }
-{
-    match behaviour {
-        Behaviour::NoDiscard => false,
-        Behaviour::EntireSequence | Behaviour::FollowingFirstGap => true,
-    }
-}
-
 /// Whether an offer may come next, after the last number that was drawn.
 pub(crate) fn offer_fits(drawn: u64, offer: Option<OwnOffer>) -> bool
     ensures { result ≡ offer_fits drawn offer }
 {
     match offer {
-        Some(offer) => {
-            offer.counter > 1 && offer.counter - 2 == drawn && is_in_order(offer.behaviour)
-        }
+        Some(offer) => offer.counter > 1 && offer.counter - 2 == drawn,
         None => true,
     }
 }

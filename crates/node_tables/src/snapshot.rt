@@ -1,27 +1,24 @@
 //! The notes of a snapshot.
-ghost use Rattle.std.specs.Prelude.{◌≡◌, ◌-◌, ◌<◌, ◌≤◌, ◌++◌, ◌∷◌, [], ℕ, Bool, List, None, true, false, length, map};
+ghost use Rattle.std.specs.Prelude.{◌≡◌, ◌-◌, ◌<◌, ◌≤◌, ◌++◌, ◌∷◌, [], Bool, List, None, true, false, length, map, not};
 ghost use Rattle.std.specs.Prelude.{IfOk, IfSome};
 ghost use Rattle.std.specs.Prelude.{OnOk, if◌then◌else◌, slice_index_or, slice_set};
 ghost use Rattle.std.specs.List.{AllByRecursion};
 ghost use Rattle.std.specs.Option.{option_map, option_to_list};
-ghost use Rattle.rm_base.specs.Message.{max_number};
 ghost use Rattle.rm_base.specs.Numbered.{numbered};
-ghost use Rattle.record_batch.specs.Fact.{Acked, Fact, Purged as IsPurged, fact_of};
+ghost use Rattle.record_batch.specs.Fact.{Acked, Fact, fact_of};
 ghost use Rattle.ack_ranges.specs.Changes.{united};
-ghost use Rattle.ack_ranges.specs.Ranges.{front_of};
-ghost use Rattle.rm_destination.specs.Messages.{run_to};
+ghost use Rattle.ack_ranges.specs.Ranges.{front_of, in_ranges};
+ghost use Rattle.rm_destination.specs.Messages.{is_empty};
 ghost use Rattle.record_snapshot.specs.Snapshot.{past_front};
-ghost use Rattle.sequence_table.specs.Told.{Receives, Told};
 ghost use Rattle.node_tables.specs.declared.note.Note.TheVariants.{Accepted, Purged, Received};
 ghost use Rattle.node_tables.specs.Kept.{IsShort, fact_at, tolds};
 ghost use Rattle.node_tables.specs.Shorter.{HasRow, IsFree, IsOwn, IsProperNote, IsPut, IsRange, IsRecorded, acked_in};
-ghost use Rattle.node_tables.specs.Shorter.{fact_ahead, fact_instead, marked, passed_by, passed_in, some_ranges};
+ghost use Rattle.node_tables.specs.Shorter.{fact_ahead, fact_instead, marked, passed_in, some_ranges};
 
 use crate::note::Note;
 use ack_ranges::{Range, RangeSet, ends_are_right, union_has_both, union_with_nothing_is_the_same};
 use record_batch::Record;
 use rm_base::{Memory, numbered};
-use rm_destination::Incoming;
 use sequence_row::Row;
 use std::alloc::Global;
 
@@ -38,28 +35,42 @@ fn settled_of(rows: &[Row], seq: u64) -> u64
     }
 }
 
-/// How many items of the inbox of a sequence were consumed, where the inbox has so many, and else 0.
-fn passed_of(rows: &[Row], seq: u64) -> u64
-    ensures { result ≡ passed_in (numbered (tolds rows.now) seq) }
+/// The numbers of the items that were consumed of the inbox of a sequence, where it has so many.
+fn passed_of(alloc: Global, rows: &[Row], seq: u64) -> Result<RangeSet, Memory>
+    ensures { IfOk result (λ set. set.ranges ≡ passed_in (numbered (tolds rows.now) seq)) }
 {
     let Some(row) = numbered(rows, seq) else {
-        return 0;
+        return Ok(RangeSet::new(alloc));
     };
     match row.incoming() {
-        Some(incoming) => passed_by_one(incoming),
-        None => 0,
+        Some(incoming) => incoming.passed(alloc),
+        None => Ok(RangeSet::new(alloc)),
     }
 }
 
-/// The same of a sequence that receives.
-fn passed_by_one(incoming: &Incoming) -> u64
-    ensures { result ≡ passed_by (Receives incoming.now.facts) }
+/// Whether there are some.
+fn has_passed(rows: &[Row], seq: u64) -> bool
+    ensures { result ≡ not (is_empty (passed_in (numbered (tolds rows.now) seq))) }
 {
-    let cursor = incoming.consumed();
-    if cursor <= incoming.inbox_len() {
-        cursor
-    } else {
-        0
+    let Some(row) = numbered(rows, seq) else {
+        return false;
+    };
+    match row.incoming() {
+        Some(incoming) => incoming.has_passed(),
+        None => false,
+    }
+}
+
+/// Whether a number is among them.
+fn is_passed(rows: &[Row], seq: u64, number: u64) -> bool
+    ensures { result ≡ in_ranges (passed_in (numbered (tolds rows.now) seq)) number }
+{
+    let Some(row) = numbered(rows, seq) else {
+        return false;
+    };
+    match row.incoming() {
+        Some(incoming) => incoming.is_passed(number),
+        None => false,
     }
 }
 
@@ -115,24 +126,10 @@ fn left_of(alloc: Global, rows: &[Row], seq: u64) -> Result<RangeSet, Memory>
     }
 }
 
-/// A note that the messages 1 to some number were consumed and are gone.
-fn purged_note(alloc: Global, seq: u32, upto: u64) -> Result<Note, Memory>
-    requires from_one { 0 < upto }
-    requires within { upto ≤ max_number }
-    ensures fact { (kept : List Fact) (rows : List Told) →
-        IfOk result (λ note. fact_at kept rows note ≡ IsPurged seq (run_to upto)) }
-    ensures free { IfOk result IsFree }
-{
-    let mut numbers = RangeSet::new(alloc);
-    numbers.insert_range(1, upto)?;
-    Ok(Note::Purged { seq, numbers })
-}
-
 /// What comes before what stands for a note: the numbers of what was consumed, before the first message that was
 /// received.
 fn ahead_of(alloc: Global, rows: &[Row], note: &Note) -> Result<Option<Note>, Memory>
     requires few { length rows.now ≤ 4294967295 }
-    requires passed { (seq : ℕ) → passed_in (numbered (tolds rows.now) seq) ≤ max_number }
     requires there { HasRow (length rows.now) note.now }
     ensures fact { (kept : List Fact) → IfOk result (λ other.
         option_map (fact_at kept (tolds rows.now)) other ≡ fact_ahead (tolds rows.now) note.now) }
@@ -140,11 +137,12 @@ fn ahead_of(alloc: Global, rows: &[Row], note: &Note) -> Result<Option<Note>, Me
 {
     match note {
         Note::Received { row, is_first, .. } => {
-            let upto = passed_of(rows, *row as u64 + 1);
-            if !*is_first || upto == 0 {
+            if !*is_first || !has_passed(rows, *row as u64 + 1) {
                 return Ok(None);
             }
-            Ok(Some(purged_note(alloc, *row as u32 + 1, upto)?))
+            let numbers = passed_of(alloc, rows, *row as u64 + 1)?;
+            let seq = *row as u32 + 1;
+            Ok(Some(Note::Purged { seq, numbers }))
         }
         _ => Ok(None),
     }
@@ -179,14 +177,13 @@ fn received_instead(rows: &[Row], row: usize, number: u64, is_first: bool) -> Op
         ≡ fact_instead kept (tolds rows.now) seen (Received row number is_first) }
     ensures own { IfSome result (IsOwn (tolds rows.now) (Received row number is_first)) }
 {
-    let upto = passed_of(rows, row as u64 + 1);
-    if number > 0 && number <= upto {
+    if is_passed(rows, row as u64 + 1, number) {
         return None;
     }
     Some(Note::Received {
         row,
         number,
-        is_first: is_first && upto == 0,
+        is_first: is_first && !has_passed(rows, row as u64 + 1),
     })
 }
 
@@ -224,15 +221,14 @@ fn purged_instead(
     seq: u32,
     numbers: &RangeSet,
 ) -> Result<Option<Note>, Memory>
-    requires passed { (seq : ℕ) → passed_in (numbered (tolds rows.now) seq) ≤ max_number }
     ensures fact { (kept : List Fact) (seen : List Bool) → IfOk result (λ other.
         option_map (fact_at kept (tolds rows.now)) other
         ≡ fact_instead kept (tolds rows.now) seen (Purged seq numbers.now)) }
     ensures free { IfOk result (λ other. IfSome other IsFree) }
 {
-    let upto = passed_of(rows, seq as u64);
-    if upto > 0 {
-        return Ok(Some(purged_note(alloc, seq, upto)?));
+    if has_passed(rows, seq as u64) {
+        let numbers = passed_of(alloc, rows, seq as u64)?;
+        return Ok(Some(Note::Purged { seq, numbers }));
     }
     let numbers = numbers.copy()?;
     Ok(Some(Note::Purged { seq, numbers }))
@@ -246,7 +242,6 @@ fn instead(
     note: &Note,
 ) -> Result<Option<Note>, Memory>
     requires few { length rows.now ≤ 4294967295 }
-    requires passed { (seq : ℕ) → passed_in (numbered (tolds rows.now) seq) ≤ max_number }
     requires there { HasRow (length rows.now) note.now }
     requires len { length seen.old ≡ length rows.now }
     ensures marks { OnOk result (seen.new ≡ marked seen.old note.now) }
@@ -269,7 +264,7 @@ fn instead(
             acked_instead(alloc, rows, seen, *seq)
         }
         Note::Consumed { seq, upto } => {
-            if passed_of(rows, *seq as u64) > 0 {
+            if has_passed(rows, *seq as u64) {
                 return Ok(None);
             }
             Ok(Some(Note::Consumed {
@@ -304,7 +299,6 @@ fn put_instead(
     short: &mut Vec<Note>,
 ) -> Result<(), Memory>
     requires few { length rows.now ≤ 4294967295 }
-    requires passed { (seq : ℕ) → passed_in (numbered (tolds rows.now) seq) ≤ max_number }
     requires there { HasRow (length rows.now) note.now }
     requires len { length seen.old ≡ length rows.now }
     ensures marks { OnOk result (seen.new ≡ marked seen.old note.now) }

@@ -30,7 +30,7 @@ use crate::error::TableError;
 use crate::find::{find_accept, find_address, find_granted, find_ident, find_named};
 use crate::maker::{Maker, maker_at};
 use crate::note::{Coming, Named, Note, Origin, passed_note};
-use crate::record::{drawn_after, is_in_order, name, named_by, number_after, offer_fits, trace};
+use crate::record::{drawn_after, name, named_by, number_after, offer_fits, trace};
 use crate::rows::{accept_at, change, forget_all, learn_at, pass_at, receive_at, waiting_in};
 use crate::snapshot::shorter;
 use ack_ranges::{RangeSet, ends_are_right, same_numbers_same_ranges, union_has_both};
@@ -302,14 +302,12 @@ impl Tables {
             }
             Record::Granted {
                 counter,
-                behaviour,
                 deadline,
                 ..
             } => {
                 *counter > 0
                     && *counter - 1 == self.drawn
                     && *deadline != Some(0)
-                    && is_in_order(*behaviour)
                     && self.has_places(given)
             }
             Record::Created { .. } | Record::Accepted { .. } | Record::Acked { .. } => {

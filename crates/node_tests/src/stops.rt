@@ -304,11 +304,11 @@ fn announced(alloc: Global, byte: u8) -> Result<Option<MountError>, NodeError> {
     Ok(peer.mount().err())
 }
 
-// 0 is NoDiscard, which no node announces, 1 and 2 are the others, and 3 is none.
+// 0 to 2 are the three, and 3 is none.
 #[test]
-fn a_journal_that_announces_no_discard(rt: HostRuntime) -> Result<(), Fail> {
+fn a_journal_announces_one_of_three(rt: HostRuntime) -> Result<(), Fail> {
     let no_node = Some(MountError::NotAJournal);
-    for (byte, known) in [(0, no_node), (1, None), (2, None), (3, no_node)] {
+    for (byte, known) in [(0, None), (1, None), (2, None), (3, no_node)] {
         assert!(rt; announced(rt.alloc(), byte)? == known, "byte {byte}");
     }
     Ok(())

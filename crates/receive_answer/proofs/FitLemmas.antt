@@ -7,7 +7,7 @@ use Rattle.rm_message.specs.declared.refusal.Refusal.{Refusal}
 use Rattle.rm_base.specs.declared.failures.Memory.{Memory}
 use Rattle.record_batch.specs.declared.record.Record.{Record}
 use Rattle.record_batch.specs.Fact.{Fact, fact_of}
-use Rattle.sequence_table.specs.Fits.{all_fit, is_in_order}
+use Rattle.sequence_table.specs.Fits.{all_fit}
 use Rattle.rm_protocol.specs.Calls.{Answer}
 use Rattle.rm_protocol.specs.Next.{EachMayComeNext, HasNumbers}
 use Rattle.rm_protocol.specs.Terms.{Terms, EndsLater, ReadsBack}
@@ -38,15 +38,15 @@ chosen laws =
 
 -- the records that a message adds may come next, where they fit the store
 pub added-fit : (laws : OwnLaws) (r d : List Fact) (place now : ℕ) (b : Behaviour) (m : Message) (fits : Bool)
-    → all_fit [] r ≡ true → is_in_order b ≡ true → HasNumbers m → Tried r d place now b m fits → fits ≡ true
+    → all_fit [] r ≡ true → HasNumbers m → Tried r d place now b m fits → fits ≡ true
     → all_fit r d ≡ true
-added-fit laws r d place now b m fits sound in_order numbers tried is =
+added-fit laws r d place now b m fits sound numbers tried is =
     let t = chosen laws in
     subst (λ (ds : List Fact). all_fit r ds ≡ true)
     (ap (λ (a : Answer). a.delta)
     (sym (told-is t.terms r place now b m) ∙ answer-taken r d place now b m fits tried is t.terms t.own)
     ∙ done-delta r d now m)
-    ((laws.next t.terms r place t.later sound).receive_ now b (Ok m) in_order numbers)
+    ((laws.next t.terms r place t.later sound).receive_ now b (Ok m) numbers)
 
 -- an answer without records may be stored
 pub nothing-stored : (r : List Fact) (place : ℕ) (result : Result CodeAnswer Memory)

@@ -4,7 +4,7 @@ ghost use Rattle.std.specs.List.{AllByRecursion};
 ghost use Rattle.batch_size.specs.Room.{HasRoom};
 ghost use Rattle.batch_size.specs.Typed.{IsTyped};
 ghost use Rattle.record_batch.specs.Fact.{fact_of};
-ghost use Rattle.sequence_table.specs.Fits.{all_fit, is_in_order};
+ghost use Rattle.sequence_table.specs.Fits.{all_fit};
 ghost use Rattle.sequence_table.specs.Makers.{counter, number};
 ghost use Rattle.rm_protocol.specs.Calls.{receive as receive_of};
 ghost use Rattle.rm_protocol.specs.Next.{HasNumbers};
@@ -42,7 +42,6 @@ pub fn receive(
     mut message: Message,
 ) -> Result<Answer, Memory>
     requires serves { Serves tables.now.records place }
-    requires in_order { is_in_order granted ≡ true }
     requires numbers { HasNumbers message }
     ensures is { (terms : Terms) → AreOwn terms
         → IfOk result (λ a. seen a ≡ receive_of terms tables.now.records place now granted (Ok message)) }
@@ -62,7 +61,6 @@ fn answer(
     message: &mut Message,
 ) -> Result<Answer, Memory>
     requires serves { Serves ahead.records place }
-    requires in_order { is_in_order granted ≡ true }
     requires numbers { HasNumbers message.old }
     requires nothing { ahead.delta ≡ [] }
     ensures is { (terms : Terms) → AreOwn terms
@@ -127,7 +125,6 @@ fn taken(
     message: &mut Message,
 ) -> Result<Answer, Memory>
     requires serves { Serves ahead.records place }
-    requires in_order { is_in_order granted ≡ true }
     requires numbers { HasNumbers message.old }
     requires nothing { ahead.delta ≡ [] }
     requires early { early_kind ahead.records now message.old ≡ None }

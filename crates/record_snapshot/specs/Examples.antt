@@ -1,7 +1,7 @@
 -- Three messages, delivered and acknowledged; two of them consumed.
 use Rattle.std.specs.Prelude.{ℕ, ◌∷◌, [], List, None, codes}
 use Rattle.ack_ranges.specs.declared.range.Range.{Range}
-use Rattle.rm_base.specs.declared.message.Behaviour.TheVariants.{FollowingFirstGap}
+use Rattle.rm_base.specs.declared.message.Behaviour.TheVariants.{FollowingFirstGap, NoDiscard}
 use Rattle.record_batch.specs.declared.record.Via.TheVariants.{Direct}
 use Rattle.record_batch.specs.Fact.{Fact, Made, Creating, Created, Granted, Accepted, Acked, Received, Consumed}
 use Rattle.sequence_table.specs.Examples.{never, of_text}
@@ -36,3 +36,8 @@ a_destination =
     (plain_endpoint (codes "urn:a")) FollowingFirstGap None never None
     ∷ Received 1 1 (of_text (7 ∷ [])) ∷ Received 1 2 (of_text (8 ∷ [])) ∷ Received 1 3 (of_text (9 ∷ []))
     ∷ Consumed 1 2 ∷ []
+
+-- the two records by which a loose destination came to be
+abbrev pub loose_granted : List Fact
+loose_granted =
+    Made 2 (codes "urn:b") ∷ Granted 1 (codes "urn:m") (plain_endpoint (codes "urn:a")) NoDiscard None never None ∷ []

@@ -1,22 +1,26 @@
 -- What is known by a list that says the same but for items that are gone.
 use Rattle.std.proofs.Common.{◌≡◌, ℕ, zero, suc, ◌+◌, ◌-◌, ◌<◌, Bool, true, false, cond, List, [], ◌∷◌, length, map}
-use Rattle.std.proofs.Common.{refl, sym, ap, subst, ◌∙◌, arith, None}
+use Rattle.std.proofs.Common.{refl, sym, ap, subst, ◌∙◌, arith, Option, None, Some, inl, inr}
 use Rattle.std.specs.Prelude.{drop, not, slice_get}
-use Rattle.std.proofs.lemmas.Bool.{ne_eqb}
+use Rattle.std.proofs.lemmas.Bool.{cases_Bool, ne_eqb}
 use Rattle.std.proofs.lemmas.List.{length-drop}
 use Rattle.ack_ranges.specs.Ranges.{in_ranges}
 use Rattle.rm_base.specs.Numbered.{numbered}
 use Rattle.rm_base.specs.NumberSet.{has_number}
+use Rattle.rm_destination.specs.Messages.{without}
 use Rattle.rm_destination.specs.Messages.{is_empty, contents_of, without_gap, sorted_onto, Item}
-use Rattle.rm_destination.specs.Incoming.{inbox_of, is_whole_by}
+use Rattle.rm_destination.specs.Incoming.{inbox_of, is_loose, is_whole_by}
+use Rattle.rm_destination.specs.ItemLemmas.{length-items_of}
+use Rattle.rm_destination.specs.LooseLemmas.{inbox_of-loose}
 use Rattle.record_batch.specs.Fact.{Fact}
+use Rattle.sequence_table.specs.Makers.{Maker, maker}
 use Rattle.sequence_table.specs.Words.{at_seq}
 use Rattle.sequence_table.specs.Sources.{accepted, dropped, payload_at}
 use Rattle.sequence_table.specs.Destinations.{behaviour, behaviour_of, discarded, held, inbox, is_stopped, messages}
 use Rattle.sequence_table.specs.Destinations.{purged, received, told, items}
 use Rattle.record_snapshot.specs.ItemLemmas.{gap-marked, inbox-marked, joined, length-contents, length-marked}
 use Rattle.record_snapshot.specs.ItemLemmas.{sorted-marked, whole-marked}
-use Rattle.record_snapshot.specs.Same.{AreNumbers, FactsAreEqual, FactsOf, SaysTheSame, all_marked, without}
+use Rattle.record_snapshot.specs.Same.{AreNumbers, FactsAreEqual, FactsOf, SaysTheSame, all_marked, is_ordered}
 
 slice_get-drop : {A : Type 0} (k : ℕ) (xs : List A) (j : ℕ) → slice_get (drop k xs) j ≡ slice_get xs (k + j)
 slice_get-drop zero xs j = ap (λ n. slice_get xs n) (let e : j ≡ 0 + j = omega arith in e)
@@ -30,6 +34,11 @@ numbered-drop k xs j from =
     ∙ slice_get-drop k xs (j - 1)
     ∙ ap (λ n. slice_get xs n) (let e : k + (j - 1) ≡ k + j - 1 = omega (arith, from) in e)
     ∙ sym (ap (λ b. cond b None (slice_get xs (k + j - 1))) (ne_eqb (k + j) 0 (λ e. absurd (omega (arith, e, from)))))
+
+-- a loose sequence isn't ordered
+pub not-ordered : (o : Option Maker) → is_loose (behaviour_of o) ≡ true → is_ordered o ≡ false
+not-ordered None e = refl
+not-ordered (Some m) e = ap not e
 
 module _ (q r : List Fact) (same : SaysTheSame q r) (s : ℕ) (are : AreNumbers (received r s))
     (from : (n : ℕ) → in_ranges (purged q s) n ≡ true → 0 < n) where
@@ -55,10 +64,24 @@ module _ (q r : List Fact) (same : SaysTheSame q r) (s : ℕ) (are : AreNumbers 
 
   inbox_same : length (inbox q s) ≡ length (inbox r s)
   inbox_same =
-      ap (λ ms. length (inbox_of (behaviour q s) (told q s) ms)) messages_same
-      ∙ ap (λ y. length (inbox_of y (told q s) (all_marked (purged q s) (messages r s)))) behaviour_same
-      ∙ ap (λ ns. length (inbox_of (behaviour r s) ns (all_marked (purged q s) (messages r s)))) told_same
-      ∙ inbox-marked (behaviour r s) (purged q s) (told r s) (messages r s)
+      ap (λ y. length (inbox_of y (told q s) (items q s))) behaviour_same
+      ∙ ap (λ ns. length (inbox_of (behaviour r s) ns (items q s))) told_same
+      ∙ elim (cases_Bool (is_loose (behaviour r s))) [
+        | inl loose ↦
+            let first = (same.got s).earliest (not-ordered (maker r s) loose) in
+            ap length (inbox_of-loose (behaviour r s) (told r s) (items q s) loose)
+            ∙ length-contents (items q s)
+            ∙ omega (
+              arith,
+              length-items_of (purged q s) (received q s),
+              length-items_of (purged r s) (received r s),
+              first.count,
+            )
+            ∙ sym (length-contents (items r s))
+            ∙ sym (ap length (inbox_of-loose (behaviour r s) (told r s) (items r s) loose))
+        | inr ordered ↦
+            inbox-marked (behaviour r s) (purged q s) (told r s) (items q s) (items r s) ordered messages_same
+      ]
 
   discarded_same : length (discarded q s) ≡ length (discarded r s)
   discarded_same =

@@ -16,9 +16,10 @@ use Rattle.rm_base.specs.Numbered.{numbered}
 use Rattle.rm_base.specs.declared.message.Payload.{Payload}
 use Rattle.rm_source.specs.declared.phase.OutPhase.{OutPhase}
 use Rattle.rm_source.specs.declared.phase.OutPhase.TheVariants as out
-use Rattle.rm_destination.specs.Messages.{is_empty, numbers_of, sorted_onto, any_true, gone_items, numbers_in}
+use Rattle.rm_destination.specs.Messages.{without}
+use Rattle.rm_destination.specs.Messages.{is_empty, numbers_of, any_true, gone_items, numbers_in}
 use Rattle.rm_destination.specs.Messages.{there_items}
-use Rattle.rm_destination.specs.Incoming.{inbox_of}
+use Rattle.rm_destination.specs.Incoming.{inbox_of, is_loose}
 use Rattle.record_batch.specs.Fact.{Fact, Made, Creating, Created, Granted, Accepted, Acked, Received, Closing}
 use Rattle.record_batch.specs.Fact.{ClosedOut, Closed, Ending, EndedOut, Ended, Failed, Consumed, Dropped, Purged}
 use Rattle.sequence_table.specs.Words.{Text, at_seq, last_or}
@@ -26,10 +27,10 @@ use Rattle.sequence_table.specs.Makers.{counter, created, created_from, draws_of
 use Rattle.sequence_table.specs.Sources.{accepted, accepted_count, accepted_of, dropped, dropped_of, first_phase}
 use Rattle.sequence_table.specs.Sources.{mark_of, marks, out_ident, phase}
 use Rattle.sequence_table.specs.Destinations.{behaviour, behaviour_of, close_of, cursor, cursor_of, has_end, held}
-use Rattle.sequence_table.specs.Destinations.{inbox, is_stopped, items, messages, purged, purged_of, received}
+use Rattle.sequence_table.specs.Destinations.{inbox, is_stopped, items, purged, purged_of, received}
 use Rattle.sequence_table.specs.Destinations.{received_of, told, told_of}
-use Rattle.sequence_table.specs.Fits.{all_fit, fits, follows, follows_at, has_places, is_first_run, is_incoming_side}
-use Rattle.sequence_table.specs.Fits.{is_in_order, is_no_moment, is_outgoing_side, is_up_to, offer_fits}
+use Rattle.sequence_table.specs.Fits.{all_fit, fits, follows, follows_at, has_places, is_incoming_side}
+use Rattle.sequence_table.specs.Fits.{is_no_moment, is_outgoing_side, is_up_to, may_be_gone, offer_fits}
 use Rattle.sequence_table.specs.GatherLemmas.{flat_map-more, created_from-more, last_or-append}
 use Rattle.record_snapshot.specs.AckedLemmas.{in_ranges-join}
 use Rattle.record_snapshot.specs.FrameLemmas.{is_item, created_from-append, created_in_place, in_place, no_close}
@@ -37,10 +38,9 @@ use Rattle.record_snapshot.specs.FrameLemmas.{no_draws, no_makers, no_mark, no_t
 use Rattle.record_snapshot.specs.GoneLemmas.{held-has}
 use Rattle.record_snapshot.specs.GotLemmas.{a_consume, a_message, a_purge, besides as apart_, got_kind, got_with}
 use Rattle.record_snapshot.specs.GotLemmas.{held-length, held-more, message-fits, none-empty, empty-none, no-received}
-use Rattle.record_snapshot.specs.GotLemmas.{purge-fits, purged-has, received-with, run-some, some-not}
+use Rattle.record_snapshot.specs.GotLemmas.{purge-fits, purge-some, purged-has, received-with, some-not}
 use Rattle.record_snapshot.specs.KeepLemmas.{without-append}
 use Rattle.record_snapshot.specs.PassedLemmas.{has-without, without-no}
-use Rattle.record_snapshot.specs.Same.{without}
 use Rattle.record_snapshot.specs.SentLemmas.{a_drop, a_payload, besides, count-drop, count-more, drop-fits, drops_with}
 use Rattle.record_snapshot.specs.SentLemmas.{like, pays_with, quiet_in, sent_kind}
 use Rattle.record_snapshot.specs.Snapshot.{acked_with, acks, instead, left_acked, passed, purged_with, settled}
@@ -220,13 +220,13 @@ got-on r q before f behind s fit so = elim (got_kind s f) as (λ g k. fits befor
           }
       | a_purge ranges ↦ λ fit.
           let xs = instead r before (Purged s ranges) behind in
-          let f_ = purge-fits before s ranges fit in
-          let none_before : is_empty (held before s) ≡ true = none-empty (held before s) f_.0 in
+          let none_before : is_empty (held before s) ≡ true =
+          none-empty (held before s) (purge-fits before s ranges fit).0 in
           let after_some : is_empty (held (before ++ Purged s ranges ∷ []) s) ≡ false =
           some-not _ (omega (
             arith,
             held-more before (Purged s ranges) s,
-            run-some ranges f_.1,
+            purge-some before s ranges fit,
             ap (λ ys. length (numbers_in ys)) (got_with s ranges),
           )) in
           record {
@@ -394,9 +394,9 @@ module _ (q r : List Fact) (makers__ : makers q ≡ makers r) (draws__ : flat_ma
       ∙ fit
   fits_here (Created seq ident accept) plain fit = follows_same seq (Created seq ident accept) ∙ fit
   fits_here (Granted drawn message_id acks_to behaviour deadline lapse offer) plain fit =
-      ap (λ n. (drawn == n + 1) && (not (is_no_moment deadline) && (is_in_order behaviour
-      && has_places q (Granted drawn message_id acks_to behaviour deadline lapse offer)))) counter_same
-      ∙ ap (λ b. (drawn == counter r + 1) && (not (is_no_moment deadline) && (is_in_order behaviour && b)))
+      ap (λ n. (drawn == n + 1) && (not (is_no_moment deadline)
+      && has_places q (Granted drawn message_id acks_to behaviour deadline lapse offer))) counter_same
+      ∙ ap (λ b. (drawn == counter r + 1) && (not (is_no_moment deadline) && b))
       (places_same (Granted drawn message_id acks_to behaviour deadline lapse offer))
       ∙ fit
   fits_here (Closing seq ticket) plain fit =
@@ -443,20 +443,19 @@ incoming-of before s n p fit = (and_parts (is_incoming_side (maker before s)) _ 
 
 purge-in : (q before : List Fact) (s : ℕ) (ps : List Range) → makers q ≡ makers before
     → is_incoming_side (maker before s) ≡ true → is_empty (held q s) ≡ true
-    → list_all (is_up_to max_number) ps ≡ true → is_first_run ps ≡ true → fits q (Purged s ps) ≡ true
+    → list_all (is_up_to max_number) ps ≡ true → may_be_gone (is_loose (behaviour before s)) ps ≡ true
+    → fits q (Purged s ps) ≡ true
 purge-in q before s ps m side none cap first =
     and_from (is_incoming_side (maker q s)) _ (ap (λ o. is_incoming_side o) (maker_in q before s m) ∙ side)
-    (and_from (is_empty (held q s)) _ none (and_from (list_all (is_up_to max_number) ps) (is_first_run ps) cap first))
+    (and_from (is_empty (held q s)) _ none
+    (and_from (list_all (is_up_to max_number) ps) (may_be_gone (is_loose (behaviour q s)) ps) cap
+    (ap (λ o. may_be_gone (is_loose (behaviour_of o)) ps) (maker_in q before s m) ∙ first)))
 
 -- what a snapshot purges may be purged
 pub record MayGo (r : List Fact) (s : ℕ) : Type 0 where
-  pub run_ : (passed r s ≡ []) ⊎ (is_first_run (passed r s) ≡ true)
+  pub run_ : (passed r s ≡ []) ⊎ (may_be_gone (is_loose (behaviour r s)) (passed r s) ≡ true)
   pub cap : list_all (is_up_to max_number) (passed r s) ≡ true
   pub few : settled r s ≤ max_number
-
-not-first : (ps : List Range) → is_first_run ps ≡ true → is_empty ps ≡ false
-not-first [] e = absurd (false≢true e)
-not-first (p ∷ ps) e = refl
 
 pub purged_with-is : (s : ℕ) (ps : List Range) → is_empty ps ≡ false → purged_with s ps ≡ Purged s ps ∷ []
 purged_with-is s [] e = absurd (true≢false e)
@@ -513,9 +512,26 @@ held-not q before r s n so out new =
 one-fits : (q : List Fact) (f : Fact) → fits q f ≡ true → all_fit q (f ∷ []) ≡ true
 one-fits q f fit = and_from (fits q f) true fit refl
 
+-- what was announced for a sequence that receives is announced for it in all records
+abbrev pub SameBehaviour : List Fact → List Fact → Type 0
+SameBehaviour r before = (s : ℕ) → is_incoming_side (maker before s) ≡ true → behaviour before s ≡ behaviour r s
+
+-- what is passed may go
+may-pass : (r before : List Fact) (s : ℕ) → MayGo r s → SameBehaviour r before
+    → is_incoming_side (maker before s) ≡ true → is_empty (passed r s) ≡ false
+    → may_be_gone (is_loose (behaviour before s)) (passed r s) ≡ true
+may-pass r before s may stays side some =
+    ap (λ y. may_be_gone (is_loose y) (passed r s)) (stays s side) ∙ run_some may.run_
+  where
+    run_some : (passed r s ≡ []) ⊎ (may_be_gone (is_loose (behaviour r s)) (passed r s) ≡ true)
+        → may_be_gone (is_loose (behaviour r s)) (passed r s) ≡ true
+    run_some (inl none) = absurd (true≢false (sym (ap (λ ps. is_empty ps) none) ∙ some))
+    run_some (inr is) = is
+
 received-on : (r q before behind : List Fact) (s n : ℕ) (p : Payload) → SoFar r q before → MayGo r s
-    → fits before (Received s n p) ≡ true → all_fit q (instead r before (Received s n p) behind) ≡ true
-received-on r q before behind s n p so may fit =
+    → SameBehaviour r before → fits before (Received s n p) ≡ true
+    → all_fit q (instead r before (Received s n p) behind) ≡ true
+received-on r q before behind s n p so may stays fit =
     elim (cases_Bool (is_empty (passed r s))) [
       | inl none ↦
           let out : in_ranges (passed r s) n ≡ false = ap (λ ps. in_ranges ps n) (nil (passed r s) none) in
@@ -524,7 +540,8 @@ received-on r q before behind s n p so may fit =
       | inr some ↦ elim (cases_Bool (is_empty (held before s))) [
         | inl fresh ↦
             let ok = purge-in q before s (passed r s) so.makers_ (incoming-of before s n p fit)
-            (held-none q before r s (so.got_ s) some fresh) may.cap (run_some may.run_ some) in
+            (held-none q before r s (so.got_ s) some fresh) may.cap
+            (may-pass r before s may stays (incoming-of before s n p fit) some) in
             ap (λ b. all_fit q (cond b (purged_with s (passed r s)) [] ++ kept)) fresh
             ∙ ap (λ xs. all_fit q (xs ++ kept)) (purged_with-is s (passed r s) some)
             ∙ and_from (fits q (Purged s (passed r s))) (all_fit (q ++ Purged s (passed r s) ∷ []) kept) ok
@@ -549,11 +566,6 @@ received-on r q before behind s n p so may fit =
     first_none : is_empty (passed r s) ≡ true → (b : Bool) → cond b (purged_with s (passed r s)) [] ≡ []
     first_none none true = ap (λ ps. purged_with s ps) (nil (passed r s) none)
     first_none none false = refl
-
-    run_some : (passed r s ≡ []) ⊎ (is_first_run (passed r s) ≡ true) → is_empty (passed r s) ≡ false
-        → is_first_run (passed r s) ≡ true
-    run_some (inl none) some = absurd (true≢false (sym (ap (λ ps. is_empty ps) none) ∙ some))
-    run_some (inr is) some = is
 
     last_ : (q2 : List Fact) → makers q2 ≡ makers before → flat_map close_of q2 ≡ flat_map close_of before
         → (in_ranges (passed r s) n ≡ false → has_number (held q2 s) n ≡ false)
@@ -680,12 +692,13 @@ module _ (r q before : List Fact) (so : SoFar r q before) where
       ∙ ap (λ ms. gone_items (numbers_in (purged before s)) ++ there_items ms)
       ((so.got_ s).received_ ∙ ap (λ ps. without ps (received before s)) none ∙ without-no (received before s))
 
-  purged-on : (s : ℕ) (ranges : List Range) (behind : List Fact) → MayGo r s → fits before (Purged s ranges) ≡ true
-      → all_fit q (instead r before (Purged s ranges) behind) ≡ true
-  purged-on s ranges behind may fit =
+  purged-on : (s : ℕ) (ranges : List Range) (behind : List Fact) → MayGo r s → SameBehaviour r before
+      → fits before (Purged s ranges) ≡ true → all_fit q (instead r before (Purged s ranges) behind) ≡ true
+  purged-on s ranges behind may stays fit =
       let one = and_parts (is_incoming_side (maker before s)) _ fit in
       let two = and_parts (is_empty (held before s)) _ one.1 in
-      let three = and_parts (list_all (is_up_to max_number) ranges) (is_first_run ranges) two.1 in
+      let three = and_parts (list_all (is_up_to max_number) ranges)
+      (may_be_gone (is_loose (behaviour before s)) ranges) two.1 in
       elim (cases_Bool (is_empty (passed r s))) [
         | inl none ↦
             ap (λ b. all_fit q (cond b (Purged s ranges ∷ []) (purged_with s (passed r s)))) none
@@ -697,13 +710,8 @@ module _ (r q before : List Fact) (so : SoFar r q before) where
             ∙ ap (λ xs. all_fit q xs) (purged_with-is s (passed r s) some)
             ∙ one-fits q (Purged s (passed r s))
             (purge-in q before s (passed r s) so.makers_ one.0 (held-none q before r s (so.got_ s) some two.0) may.cap
-            (run_some may.run_ some))
+            (may-pass r before s may stays one.0 some))
       ]
-    where
-      run_some : (passed r s ≡ []) ⊎ (is_first_run (passed r s) ≡ true) → is_empty (passed r s) ≡ false
-          → is_first_run (passed r s) ≡ true
-      run_some (inl none) some = absurd (true≢false (sym (ap (λ ps. is_empty ps) none) ∙ some))
-      run_some (inr is) some = is
 
   consumed-on : (s upto : ℕ) (behind : List Fact) → fits before (Consumed s upto) ≡ true
       → all_fit q (instead r before (Consumed s upto) behind) ≡ true
@@ -712,9 +720,9 @@ module _ (r q before : List Fact) (so : SoFar r q before) where
         let e = nil_ (passed r s) none in
         let cursors : cursor q s ≡ cursor before s = ap greatest_of ((so.got_ s).cursors_none e) in
         let boxes : inbox q s ≡ inbox before s =
-        ap (λ xs. inbox_of (behaviour q s) (told q s) (sorted_onto [] xs)) (items-same s e)
-        ∙ ap (λ ms. inbox_of (behaviour_of (numbered ms s)) (told q s) (messages before s)) so.makers_
-        ∙ ap (λ ts. inbox_of (behaviour before s) (at_seq s ts) (messages before s)) so.told_ in
+        ap (λ xs. inbox_of (behaviour q s) (told q s) xs) (items-same s e)
+        ∙ ap (λ ms. inbox_of (behaviour_of (numbered ms s)) (told q s) (items before s)) so.makers_
+        ∙ ap (λ ts. inbox_of (behaviour before s) (at_seq s ts) (items before s)) so.told_ in
         ap (λ b. all_fit q (cond b (Consumed s upto ∷ []) [])) none
         ∙ one-fits q (Consumed s upto)
         (ap (λ o. is_incoming_side o && (nat_lt (cursor q s) upto && nat_le upto (length (inbox q s))))
@@ -733,17 +741,20 @@ LeftIsUpTo r q before (Acked s ranges) behind =
 LeftIsUpTo r q before _ behind = Unit {0}
 
 pub fit-on : (r q before : List Fact) (f : Fact) (behind : List Fact) → SoFar r q before → ((s : ℕ) → MayGo r s)
-    → fits before f ≡ true → ((s : ℕ) → AllByRecursion (λ (u : ℕ). u ≤ settled r s) (dropped_of s f))
+    → SameBehaviour r before → fits before f ≡ true
+    → ((s : ℕ) → AllByRecursion (λ (u : ℕ). u ≤ settled r s) (dropped_of s f))
     → LeftIsUpTo r q before f behind → all_fit q (instead r before f behind) ≡ true
-fit-on r q before (Accepted s p) behind so may fit big left = accepted-on r q before so s p behind (may s) fit
-fit-on r q before (Dropped s u) behind so may fit big left =
+fit-on r q before (Accepted s p) behind so may stays fit big left = accepted-on r q before so s p behind (may s) fit
+fit-on r q before (Dropped s u) behind so may stays fit big left =
     dropped-on r q before so s u behind (may s) fit
     (subst (λ us. AllByRecursion (λ (u : ℕ). u ≤ settled r s) us) (drops_with s u) (big s)).0
-fit-on r q before (Acked s ranges) behind so may fit big left = acked-on r q before so s ranges behind fit left
-fit-on r q before (Received s n p) behind so may fit big left = received-on r q before behind s n p so (may s) fit
-fit-on r q before (Purged s ranges) behind so may fit big left = purged-on r q before so s ranges behind (may s) fit
-fit-on r q before (Consumed s upto) behind so may fit big left = consumed-on r q before so s upto behind fit
-fit-on r q before f behind so may fit big left =
+fit-on r q before (Acked s ranges) behind so may stays fit big left = acked-on r q before so s ranges behind fit left
+fit-on r q before (Received s n p) behind so may stays fit big left =
+    received-on r q before behind s n p so (may s) stays fit
+fit-on r q before (Purged s ranges) behind so may stays fit big left =
+    purged-on r q before so s ranges behind (may s) stays fit
+fit-on r q before (Consumed s upto) behind so may stays fit big left = consumed-on r q before so s upto behind fit
+fit-on r q before f behind so may stays fit big left =
     one-fits q f (fits_here q before so.makers_ so.draws so.created_ so.marks_ so.closes_ so.empty f refl fit)
 
 pub fit-append : (q xs ys : List Fact) → all_fit q xs ≡ true → all_fit (q ++ xs) ys ≡ true → all_fit q (xs ++ ys) ≡ true

@@ -1,6 +1,6 @@
 -- What is gone is up to the cursor, and isn't received again.
 use Rattle.std.proofs.Common.{◌≡◌, ℕ, ◌<◌, ◌≤◌, ◌==◌, Bool, true, false, ◌||◌, max, List, [], ◌∷◌, ◌++◌, length, refl}
-use Rattle.std.proofs.Common.{sym, ◌∙◌, ap, subst, inl, inr, arith}
+use Rattle.std.proofs.Common.{sym, ◌∙◌, ap, append_assoc, subst, inl, inr, arith}
 use Rattle.std.specs.List.{flat_map}
 use Rattle.std.proofs.lemmas.Bool.{and_parts, cases_Bool, eqb-true, false≢true, true≢false}
 use Rattle.std.proofs.lemmas.Bool.Decides.{nat_tests}
@@ -8,15 +8,20 @@ use Rattle.std.proofs.lemmas.List.{append-nil}
 use Rattle.ack_ranges.specs.declared.range.Range.{Range}
 use Rattle.ack_ranges.specs.Ranges.{count_of, in_ranges}
 use Rattle.rm_base.specs.NumberSet.{greatest_of, has_number}
+use Rattle.rm_destination.specs.Incoming.{is_loose}
+use Rattle.rm_destination.specs.ItemLemmas.{has-more, numbers-in}
+use Rattle.rm_destination.specs.LooseLemmas.{within-from}
 use Rattle.rm_destination.specs.Messages.{numbers_of, numbers_in}
 use Rattle.record_batch.specs.Fact.{Fact, Received, Consumed, Purged}
-use Rattle.sequence_table.specs.Destinations.{cursor, cursor_of, held, purged, purged_of, received}
+use Rattle.sequence_table.specs.Destinations.{behaviour, cursor, cursor_of, held, purged, purged_of, received}
+use Rattle.sequence_table.specs.Destinations.{received_of}
 use Rattle.sequence_table.specs.Fits.{all_fit, fits}
 use Rattle.sequence_table.specs.GatherLemmas.{flat_map-more, greatest_of-append}
+use Rattle.sequence_table.specs.StayLemmas.{behaviour-stays}
 use Rattle.record_snapshot.specs.AckedLemmas.{in_ranges-join}
-use Rattle.record_snapshot.specs.GotLemmas.{got_kind, got_with, held-is, held-more, Run, run-some, purge-fits}
-use Rattle.record_snapshot.specs.GotLemmas.{message-fits, received-with, a_message, a_purge, a_consume, besides, run}
-use Rattle.record_snapshot.specs.ItemLemmas.{has-more, numbers-in}
+use Rattle.record_snapshot.specs.GotLemmas.{Gone, Run, first_run, got_kind, got_with, held-is, held-more, message-fits}
+use Rattle.record_snapshot.specs.GotLemmas.{purge-fits, purge-set, purge-side, purge-some, received-with, run}
+use Rattle.record_snapshot.specs.GotLemmas.{some_set, a_message, a_purge, a_consume, besides}
 use Rattle.record_snapshot.specs.Same.{AreNumbers, NumbersAreFromOne}
 
 -- ---- what is gone is up to the cursor, and isn't received again
@@ -28,42 +33,99 @@ held-has l s n =
     ∙ has-more (numbers_in (purged l s)) (numbers_of (received l s)) n
     ∙ ap (λ b. b || has_number (numbers_of (received l s)) n) (numbers-in (purged l s) n)
 
-run-count : (ranges : List Range) (n : ℕ) → Run ranges → in_ranges ranges n ≡ true → n ≤ count_of ranges
-run-count ranges n (run m le) e =
-    let here : n ≤ m = grind (arith, nat_tests, e) in
-    omega (arith, here)
+-- where something is held, nothing is purged later
+pub no-purge-later : (before l : List Fact) (s : ℕ) → all_fit before l ≡ true → 0 < length (held before s)
+    → purged l s ≡ []
+no-purge-later before [] s fit lt = refl
+no-purge-later before (f ∷ l) s fit lt =
+    let parts = and_parts (fits before f) (all_fit (before ++ f ∷ []) l) fit in
+    let ih = no-purge-later (before ++ f ∷ []) l s parts.1 (omega (arith, lt, held-more before f s)) in
+    elim (got_kind s f) as (λ h k. fits before h ≡ true → purged (h ∷ l) s ≡ []) [
+      | a_message k p ↦ λ fit. ih
+      | a_purge ranges ↦ λ fit. absurd (omega (arith, lt, (purge-fits before s ranges fit).0))
+      | a_consume upto ↦ λ fit. ih
+      | besides h gots purges cursors ↦ λ fit. ap (λ xs. xs ++ purged l s) (purges h (refl, refl)) ∙ ih
+    ] parts.0
 
-pub purged-below : (before l : List Fact) (s n : ℕ) → all_fit before l ≡ true → in_ranges (purged l s) n ≡ true
-    → n ≤ cursor l s
-purged-below before [] s n fit e = absurd (false≢true e)
-purged-below before (f ∷ l) s n fit e =
+-- what is gone is no more than was consumed
+pub purged-count : (before l : List Fact) (s : ℕ) → all_fit before l ≡ true → count_of (purged l s) ≤ cursor l s
+purged-count before [] s fit = omega arith
+purged-count before (f ∷ l) s fit =
+    let parts = and_parts (fits before f) (all_fit (before ++ f ∷ []) l) fit in
+    let ih = purged-count (before ++ f ∷ []) l s parts.1 in
+    let high : cursor (f ∷ l) s ≡ max (greatest_of (cursor_of s f)) (cursor l s) =
+    greatest_of-append (cursor_of s f) (flat_map (cursor_of s) l) in
+    elim (got_kind s f) as (λ h k. fits before h ≡ true → all_fit (before ++ h ∷ []) l ≡ true
+    → cursor (h ∷ l) s ≡ max (greatest_of (cursor_of s h)) (cursor l s) → count_of (purged (h ∷ l) s)
+    ≤ cursor (h ∷ l) s) [
+      | a_message k p ↦ λ fit rest high. omega (arith, ih, high)
+      | a_purge ranges ↦ λ fit rest high.
+          let none = no-purge-later (before ++ Purged s ranges ∷ []) l s rest
+          (omega (
+            arith,
+            held-more before (Purged s ranges) s,
+            purge-some before s ranges fit,
+            ap (λ xs. length (numbers_in xs)) (got_with s ranges),
+          )) in
+          let gone : purged (Purged s ranges ∷ l) s ≡ ranges =
+          ap (λ xs. purged_of s (Purged s ranges) ++ xs) none ∙ append-nil (purged_of s (Purged s ranges))
+          ∙ got_with s ranges in
+          let told : greatest_of (cursor_of s (Purged s ranges)) ≡ max (count_of ranges) 0 =
+          ap greatest_of (got_with s (count_of ranges ∷ [])) in
+          omega (arith, ap count_of gone, told, high)
+      | a_consume upto ↦ λ fit rest high. omega (arith, ih, high)
+      | besides h gots purges cursors ↦ λ fit rest high.
+          omega (arith, ih, high, ap (λ xs. count_of (xs ++ purged l s)) (purges h (refl, refl)))
+    ] parts.0 parts.1 high
+
+-- and of an ordered sequence its numbers are up to the cursor
+pub purged-below : (before l : List Fact) (s n : ℕ) → all_fit before l ≡ true
+    → is_loose (behaviour (before ++ l) s) ≡ false → in_ranges (purged l s) n ≡ true → n ≤ cursor l s
+purged-below before [] s n fit ordered e = absurd (false≢true e)
+purged-below before (f ∷ l) s n fit ordered e =
     let parts = and_parts (fits before f) (all_fit (before ++ f ∷ []) l) fit in
     let high : cursor (f ∷ l) s ≡ max (greatest_of (cursor_of s f)) (cursor l s) =
     greatest_of-append (cursor_of s f) (flat_map (cursor_of s) l) in
     let joined = in_ranges-join (purged_of s f) (purged l s) n in
     elim (cases_Bool (in_ranges (purged_of s f) n)) [
       | inl here ↦
-          let le : n ≤ greatest_of (cursor_of s f) = one f parts.0 here in
+          let le : n ≤ greatest_of (cursor_of s f) = one f parts.0 ordered here in
           omega (arith, le, high)
       | inr not_here ↦
           let le = purged-below (before ++ f ∷ []) l s n parts.1
+          (ap (λ r. is_loose (behaviour r s)) (append_assoc before (f ∷ []) l) ∙ ordered)
           (sym (ap (λ b. b || in_ranges (purged l s) n) not_here) ∙ sym joined ∙ e) in
           omega (arith, le, high)
     ]
   where
-    one : (g : Fact) → fits before g ≡ true → in_ranges (purged_of s g) n ≡ true → n ≤ greatest_of (cursor_of s g)
-    one g fit e = elim (got_kind s g) as (λ h k. fits before h ≡ true → in_ranges (purged_of s h) n ≡ true
+    run-count : (loose : Bool) (ranges : List Range) → loose ≡ false → Gone loose ranges → in_ranges ranges n ≡ true
+        → n ≤ count_of ranges
+    run-count loose ranges e (some_set x xs rise) is = absurd (true≢false e)
+    run-count loose ranges e (first_run _ run_) is = of_run ranges run_ is
+      where
+        of_run : (ranges : List Range) → Run ranges → in_ranges ranges n ≡ true → n ≤ count_of ranges
+        of_run ranges (run m le) is =
+            let here : n ≤ m = grind (arith, nat_tests, is) in
+            omega (arith, here)
+
+    one : (g : Fact) → fits before g ≡ true → is_loose (behaviour (before ++ g ∷ l) s) ≡ false
+        → in_ranges (purged_of s g) n ≡ true → n ≤ greatest_of (cursor_of s g)
+    one g fit ordered e = elim (got_kind s g) as (λ h k. fits before h ≡ true
+        → is_loose (behaviour (before ++ h ∷ l) s) ≡ false → in_ranges (purged_of s h) n ≡ true
         → n ≤ greatest_of (cursor_of s h)) [
-          | a_message k p ↦ λ fit e. absurd (false≢true e)
-          | a_purge ranges ↦ λ fit e.
+          | a_message k p ↦ λ fit ordered e. absurd (false≢true e)
+          | a_purge ranges ↦ λ fit ordered e.
+              let here : is_loose (behaviour before s) ≡ false =
+              sym (ap is_loose (behaviour-stays before (Purged s ranges ∷ l) s (purge-side before s ranges fit)))
+              ∙ ordered in
               let le : n ≤ count_of ranges =
-              run-count ranges n (purge-fits before s ranges fit).1
+              run-count (is_loose (behaviour before s)) ranges here (purge-fits before s ranges fit).1
               (ap (λ xs. in_ranges xs n) (sym (got_with s ranges)) ∙ e) in
               omega (arith, le, ap greatest_of (got_with s (count_of ranges ∷ [])))
-          | a_consume upto ↦ λ fit e. absurd (false≢true e)
-          | besides h gots purges cursors ↦ λ fit e.
+          | a_consume upto ↦ λ fit ordered e. absurd (false≢true e)
+          | besides h gots purges cursors ↦ λ fit ordered e.
               absurd (false≢true (ap (λ xs. in_ranges xs n) (sym (purges h (refl, refl))) ∙ e))
-        ] fit e
+        ] fit ordered e
 
 -- what is gone has numbers from 1 on
 pub purged-from : (before l : List Fact) (s n : ℕ) → all_fit before l ≡ true → in_ranges (purged l s) n ≡ true → 0 < n
@@ -77,30 +139,55 @@ purged-from before (f ∷ l) s n fit e =
           (sym (ap (λ b. b || in_ranges (purged l s) n) not_here) ∙ sym joined ∙ e)
     ]
   where
-    positive : (ranges : List Range) → Run ranges → in_ranges ranges n ≡ true → 0 < n
-    positive ranges (run m le) e = grind (arith, nat_tests, e)
-
     one : (g : Fact) → fits before g ≡ true → in_ranges (purged_of s g) n ≡ true → 0 < n
     one g fit e = elim (got_kind s g) as (λ h k. fits before h ≡ true → in_ranges (purged_of s h) n ≡ true → 0 < n) [
       | a_message k p ↦ λ fit e. absurd (false≢true e)
       | a_purge ranges ↦ λ fit e.
-          positive ranges (purge-fits before s ranges fit).1 (ap (λ xs. in_ranges xs n) (sym (got_with s ranges)) ∙ e)
+          omega (
+            arith,
+            (within-from 1 n ranges (purge-set before s ranges fit)
+                (ap (λ xs. in_ranges xs n) (sym (got_with s ranges)) ∙ e)).0,
+          )
       | a_consume upto ↦ λ fit e. absurd (false≢true e)
       | besides h gots purges cursors ↦ λ fit e.
           absurd (false≢true (ap (λ xs. in_ranges xs n) (sym (purges h (refl, refl))) ∙ e))
     ] fit e
 
--- what is gone before isn't received later
-gone-before : (before l : List Fact) (s n : ℕ) → all_fit before l ≡ true → in_ranges (purged before s) n ≡ true
+-- what is held stays held
+pub held-stays : (before : List Fact) (f : Fact) (s n : ℕ) → has_number (held before s) n ≡ true
+    → has_number (held (before ++ f ∷ []) s) n ≡ true
+held-stays before f s n e =
+    held-has (before ++ f ∷ []) s n
+    ∙ ap (λ xs. in_ranges xs n || has_number (numbers_of (received (before ++ f ∷ []) s)) n)
+    (flat_map-more (purged_of s) before f)
+    ∙ ap (λ b. b || has_number (numbers_of (received (before ++ f ∷ []) s)) n)
+    (in_ranges-join (purged before s) (purged_of s f) n)
+    ∙ ap (λ ms. (in_ranges (purged before s) n || in_ranges (purged_of s f) n) || has_number (numbers_of ms) n)
+    (flat_map-more (received_of s) before f)
+    ∙ ap (λ ns. (in_ranges (purged before s) n || in_ranges (purged_of s f) n) || has_number ns n)
+    (numbers-append (received before s) (received_of s f))
+    ∙ ap (λ b. (in_ranges (purged before s) n || in_ranges (purged_of s f) n) || b)
+    (has-more (numbers_of (received before s)) (numbers_of (received_of s f)) n)
+    ∙ four (in_ranges (purged before s) n) (in_ranges (purged_of s f) n)
+    (has_number (numbers_of (received before s)) n) (has_number (numbers_of (received_of s f)) n)
+    (sym (held-has before s n) ∙ e)
+  where
+    four : (a b c d : Bool) → (a || c) ≡ true → ((a || b) || (c || d)) ≡ true
+    four true b c d e = refl
+    four false true c d e = refl
+    four false false c d e = ap (λ x. x || d) e
+
+    numbers-append : {A : Type 0} (xs ys : List (ℕ × A)) → numbers_of (xs ++ ys) ≡ numbers_of xs ++ numbers_of ys
+    numbers-append [] ys = refl
+    numbers-append (x ∷ xs) ys = ap (λ ns. x.0 ∷ ns) (numbers-append xs ys)
+
+-- what is held before isn't received later
+pub held-before : (before l : List Fact) (s n : ℕ) → all_fit before l ≡ true → has_number (held before s) n ≡ true
     → has_number (numbers_of (received l s)) n ≡ false
-gone-before before [] s n fit e = refl
-gone-before before (f ∷ l) s n fit e =
+held-before before [] s n fit e = refl
+held-before before (f ∷ l) s n fit e =
     let parts = and_parts (fits before f) (all_fit (before ++ f ∷ []) l) fit in
-    let still : in_ranges (purged (before ++ f ∷ []) s) n ≡ true =
-    ap (λ xs. in_ranges xs n) (flat_map-more (purged_of s) before f)
-    ∙ in_ranges-join (purged before s) (purged_of s f) n
-    ∙ ap (λ b. b || in_ranges (purged_of s f) n) e in
-    let ih = gone-before (before ++ f ∷ []) l s n parts.1 still in
+    let ih = held-before (before ++ f ∷ []) l s n parts.1 (held-stays before f s n e) in
     elim (got_kind s f) as (λ h k. fits before h ≡ true → has_number (numbers_of (received (h ∷ l) s)) n ≡ false) [
       | a_message k p ↦ λ fit.
           let new = (message-fits before s k p fit).1 in
@@ -116,27 +203,9 @@ gone-before before (f ∷ l) s n fit e =
     differs : (k : ℕ) → has_number (held before s) k ≡ false → ((k == n) || false) ≡ false
     differs k new = elim (cases_Bool (k == n)) [
       | inl same ↦
-          let at = eqb-true k n same in
-          let is : has_number (held before s) k ≡ true =
-          held-has before s k
-          ∙ ap (λ i. in_ranges (purged before s) i || has_number (numbers_of (received before s)) k) at
-          ∙ ap (λ b. b || has_number (numbers_of (received before s)) k) e in
-          absurd (true≢false (sym is ∙ new))
+          absurd (true≢false (sym (ap (λ i. has_number (held before s) i) (eqb-true k n same) ∙ e) ∙ new))
       | inr other ↦ ap (λ b. b || false) other
     ]
-
--- where something is held, nothing is purged later
-no-purge-later : (before l : List Fact) (s : ℕ) → all_fit before l ≡ true → 0 < length (held before s) → purged l s ≡ []
-no-purge-later before [] s fit lt = refl
-no-purge-later before (f ∷ l) s fit lt =
-    let parts = and_parts (fits before f) (all_fit (before ++ f ∷ []) l) fit in
-    let ih = no-purge-later (before ++ f ∷ []) l s parts.1 (omega (arith, lt, held-more before f s)) in
-    elim (got_kind s f) as (λ h k. fits before h ≡ true → purged (h ∷ l) s ≡ []) [
-      | a_message k p ↦ λ fit. ih
-      | a_purge ranges ↦ λ fit. absurd (omega (arith, lt, (purge-fits before s ranges fit).0))
-      | a_consume upto ↦ λ fit. ih
-      | besides h gots purges cursors ↦ λ fit. ap (λ xs. xs ++ purged l s) (purges h (refl, refl)) ∙ ih
-    ] parts.0
 
 -- what is gone isn't there
 pub apart-of : (before l : List Fact) (s n : ℕ) → all_fit before l ≡ true → in_ranges (purged l s) n ≡ true
@@ -155,17 +224,20 @@ apart-of before (f ∷ l) s n fit e =
           (omega (
             arith,
             held-more before (Purged s ranges) s,
-            run-some ranges (purge-fits before s ranges fit).1,
+            purge-some before s ranges fit,
             ap (λ xs. length (numbers_in xs)) (got_with s ranges),
           )) in
           let here : in_ranges (purged_of s (Purged s ranges)) n ≡ true =
           sym (ap (λ xs. in_ranges (purged_of s (Purged s ranges) ++ xs) n) none
           ∙ ap (λ xs. in_ranges xs n) (append-nil (purged_of s (Purged s ranges)))) ∙ e in
-          gone-before (before ++ Purged s ranges ∷ []) l s n rest
-          (ap (λ xs. in_ranges xs n) (flat_map-more (purged_of s) before (Purged s ranges))
+          let now : in_ranges (purged (before ++ Purged s ranges ∷ []) s) n ≡ true =
+          ap (λ xs. in_ranges xs n) (flat_map-more (purged_of s) before (Purged s ranges))
           ∙ in_ranges-join (purged before s) (purged_of s (Purged s ranges)) n
           ∙ ap (λ b. in_ranges (purged before s) n || b) here
-          ∙ always (in_ranges (purged before s) n))
+          ∙ always (in_ranges (purged before s) n) in
+          held-before (before ++ Purged s ranges ∷ []) l s n rest
+          (held-has (before ++ Purged s ranges ∷ []) s n
+          ∙ ap (λ b. b || has_number (numbers_of (received (before ++ Purged s ranges ∷ []) s)) n) now)
       | a_consume upto ↦ λ fit rest e. apart-of (before ++ Consumed s upto ∷ []) l s n rest e
       | besides h gots purges cursors ↦ λ fit rest e.
           ap (λ xs. has_number (numbers_of (xs ++ received l s)) n) (gots h (refl, refl))

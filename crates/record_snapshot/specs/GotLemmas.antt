@@ -1,27 +1,32 @@
 -- What a snapshot says of what was received.
-use Rattle.std.proofs.Common.{◌≡◌, ◌≢◌, ℕ, zero, suc, ◌+◌, ◌-◌, ◌<◌, ◌≤◌, ◌==◌, Bool, true, false, cond, List, [], ◌∷◌}
+use Rattle.std.proofs.Common.{◌≡◌, ◌≢◌, ℕ, suc, ◌+◌, ◌-◌, ◌<◌, ◌≤◌, ◌==◌, Bool, true, false, cond, List, [], ◌∷◌}
 use Rattle.std.proofs.Common.{◌++◌, length, refl, sym, ◌∙◌, ap, subst, inl, inr, arith, append_assoc, length-append}
 use Rattle.std.proofs.Common.{not}
 use Rattle.std.specs.Prelude.{nat_le}
 use Rattle.std.specs.List.{flat_map, list_all}
+use Rattle.std.proofs.lemmas.List.Sums.{sum_by-cons}
 use Rattle.std.proofs.lemmas.Bool.{and_parts, cases_Bool, eqb-true, false≢true, leb-true}
 use Rattle.std.proofs.lemmas.Grind.{flat_map-append}
 use Rattle.std.proofs.lemmas.List.{append-nil}
 use Rattle.ack_ranges.specs.declared.range.Range.{Range}
-use Rattle.ack_ranges.specs.Ranges.{count_of, in_ranges, size_of}
+use Rattle.ack_ranges.specs.Ranges.{RisesFrom, count_of, in_ranges, size_of}
 use Rattle.rm_base.specs.Message.{max_number}
 use Rattle.rm_base.specs.NumberSet.{has_number}
 use Rattle.rm_base.specs.declared.message.Payload.{Payload}
-use Rattle.rm_destination.specs.ItemLemmas.{numbers_of-both}
+use Rattle.rm_destination.specs.Incoming.{is_loose}
+use Rattle.rm_destination.specs.ItemLemmas.{length-numbers_in, length-run, numbers_of-both}
+use Rattle.rm_destination.specs.Messages.{without}
 use Rattle.rm_destination.specs.Messages.{is_empty, numbers_of, gone_items, numbers_in, run_of, there_items}
 use Rattle.record_batch.specs.Fact.{Fact, Accepted, Acked, Received, Consumed, Dropped, Purged}
-use Rattle.sequence_table.specs.Destinations.{cursor_of, held, is_stopped, purged, purged_of, received, received_of}
+use Rattle.sequence_table.specs.Destinations.{behaviour, cursor_of, held, is_stopped, purged, purged_of, received}
+use Rattle.sequence_table.specs.Destinations.{received_of}
 use Rattle.sequence_table.specs.Fits.{all_fit, fits, is_first_run, is_incoming_side, is_up_to}
+use Rattle.sequence_table.specs.Fits.{may_be_gone}
 use Rattle.sequence_table.specs.GatherLemmas.{flat_map-more}
 use Rattle.sequence_table.specs.Makers.{maker}
 use Rattle.sequence_table.specs.NameLemmas.{elsewhere_cursor, elsewhere_purged, elsewhere_received}
+use Rattle.sequence_table.specs.SetLemmas.{set-of}
 use Rattle.sequence_table.specs.Told.{names}
-use Rattle.record_snapshot.specs.Same.{without}
 use Rattle.record_snapshot.specs.SentLemmas.{IsLike, class, differ, like, quiet_in, same-seq}
 use Rattle.record_snapshot.specs.Snapshot.{instead, passed, purged_with, snapshot_from}
 
@@ -147,24 +152,74 @@ run-of (x ∷ []) e =
     with_one : (n : ℕ) → 1 ≤ n → Run (record { lower = 1; upper = n } ∷ [])
     with_one n le = run n le
 
-run-length : (lower n : ℕ) → length (run_of lower n) ≡ n
-run-length lower zero = refl
-run-length lower (suc n) = ap (λ k. suc k) (run-length (lower + 1) n)
+-- what may be gone: of a loose sequence a set of numbers, of another one exactly 1 to some n
+pub data Gone : Bool → List Range → Type 0 where
+  some_set : (x : Range) (xs : List Range) → RisesFrom 1 (x ∷ xs) → Gone true (x ∷ xs)
+  first_run : (ranges : List Range) → Run ranges → Gone false ranges
+
+pub gone-of : (loose : Bool) (ranges : List Range) → may_be_gone loose ranges ≡ true → Gone loose ranges
+gone-of true [] e = absurd (false≢true e)
+gone-of true (x ∷ xs) e = some_set x xs (set-of 1 (x ∷ xs) e)
+gone-of false ranges e = first_run ranges (run-of ranges e)
 
 pub run-some : (ranges : List Range) → Run ranges → 0 < length (numbers_in ranges)
 run-some ranges (run n le) =
     let size : n + 1 - 1 ≡ n = omega arith in
-    omega (arith, le, length-append (run_of 1 (n + 1 - 1)) [], run-length 1 (n + 1 - 1), size)
+    omega (arith, le, length-append (run_of 1 (n + 1 - 1)) [], length-run 1 (n + 1 - 1), size)
+
+-- there is a number among them
+pub set-some : (x : Range) (xs : List Range) → RisesFrom 1 (x ∷ xs) → 0 < length (numbers_in (x ∷ xs))
+set-some x xs rise =
+    let all : count_of (x ∷ xs) ≡ x.upper + 1 - x.lower + count_of xs = sum_by-cons size_of x xs in
+    omega (arith, length-numbers_in (x ∷ xs), all, rise.1)
+
+pub gone-some : (loose : Bool) (ranges : List Range) → Gone loose ranges → 0 < length (numbers_in ranges)
+gone-some loose ranges (some_set x xs rise) = set-some x xs rise
+gone-some loose ranges (first_run _ run_) = run-some ranges run_
+
+-- they are a set of message numbers
+pub gone-set : (loose : Bool) (ranges : List Range) → list_all (is_up_to max_number) ranges ≡ true → Gone loose ranges
+    → RisesFrom 1 ranges
+gone-set loose ranges top (some_set x xs rise) = rise
+gone-set loose ranges top (first_run _ run_) = of_run ranges run_ top
+  where
+    of_run : (ranges : List Range) → Run ranges → list_all (is_up_to max_number) ranges ≡ true → RisesFrom 1 ranges
+    of_run ranges (run n le) top =
+        let one = (and_parts (is_up_to max_number (record { lower = 1; upper = n })) true top).0 in
+        (omega arith, le, leb-true n max_number (and_parts (nat_le 1 1) (nat_le n max_number) one).1, tt)
 
 -- ---- what the tests say
 
 pub purge-fits : (before : List Fact) (s : ℕ) (ranges : List Range) → fits before (Purged s ranges) ≡ true
-    → (length (held before s) ≡ 0) × Run ranges
+    → (length (held before s) ≡ 0) × Gone (is_loose (behaviour before s)) ranges
 purge-fits before s ranges fit =
     let one = and_parts (is_incoming_side (maker before s)) _ fit in
     let two = and_parts (is_empty (held before s)) _ one.1 in
-    let three = and_parts (list_all (is_up_to max_number) ranges) (is_first_run ranges) two.1 in
-    (empty-none (held before s) two.0, run-of ranges three.1)
+    let three = and_parts (list_all (is_up_to max_number) ranges) (may_be_gone (is_loose (behaviour before s)) ranges)
+    two.1 in
+    (empty-none (held before s) two.0, gone-of (is_loose (behaviour before s)) ranges three.1)
+
+pub purge-some : (before : List Fact) (s : ℕ) (ranges : List Range) → fits before (Purged s ranges) ≡ true
+    → 0 < length (numbers_in ranges)
+purge-some before s ranges fit =
+    gone-some (is_loose (behaviour before s)) ranges (purge-fits before s ranges fit).1
+
+pub purge-set : (before : List Fact) (s : ℕ) (ranges : List Range) → fits before (Purged s ranges) ≡ true
+    → RisesFrom 1 ranges
+purge-set before s ranges fit =
+    let one = and_parts (is_incoming_side (maker before s)) _ fit in
+    let two = and_parts (is_empty (held before s)) _ one.1 in
+    let cap = (and_parts (list_all (is_up_to max_number) ranges) _ two.1).0 in
+    gone-set (is_loose (behaviour before s)) ranges cap (purge-fits before s ranges fit).1
+
+-- a sequence that a message or what is gone is recorded of receives
+pub purge-side : (before : List Fact) (s : ℕ) (ranges : List Range) → fits before (Purged s ranges) ≡ true
+    → is_incoming_side (maker before s) ≡ true
+purge-side before s ranges fit = (and_parts (is_incoming_side (maker before s)) _ fit).0
+
+pub message-side : (before : List Fact) (s n : ℕ) (p : Payload) → fits before (Received s n p) ≡ true
+    → is_incoming_side (maker before s) ≡ true
+message-side before s n p fit = (and_parts (is_incoming_side (maker before s)) _ fit).0
 
 pub message-fits : (before : List Fact) (s n : ℕ) (p : Payload) → fits before (Received s n p) ≡ true
     → (1 ≤ n) × (has_number (held before s) n ≡ false)
@@ -409,7 +464,7 @@ purged-new r s some before (f ∷ l) fit none later =
           (omega (
             arith,
             held-more before (Purged s ranges) s,
-            run-some ranges (purge-fits before s ranges one).1,
+            purge-some before s ranges one,
             ap (λ xs. length (numbers_in xs)) (got_with s ranges),
           )) in
           let same : instead r before (Purged s ranges) l ≡ purged_with s (passed r s) =

@@ -5,18 +5,19 @@ use Rattle.std.specs.Option.{option_or}
 use Rattle.std.proofs.lemmas.Bool.{cases_Bool, eqb-true, true≢false, false≢true}
 use Rattle.std.proofs.lemmas.Bool.Decides.{nat_tests}
 use Rattle.ack_ranges.specs.declared.range.Range.{Range}
-use Rattle.ack_ranges.specs.Ranges.{in_range, in_ranges, size_of, is_between}
+use Rattle.ack_ranges.specs.Ranges.{in_ranges}
 use Rattle.rm_base.specs.NumberSet.{Rises, has_number, greatest_of}
 use Rattle.rm_base.specs.NumberSetLemmas.{Rises-with_number}
 use Rattle.rm_base.specs.declared.message.Payload.{Payload}
 use Rattle.rm_base.specs.declared.message.Behaviour.{Behaviour}
 use Rattle.rm_base.specs.declared.message.Behaviour.TheVariants.{EntireSequence, FollowingFirstGap, NoDiscard}
-use Rattle.rm_destination.specs.ItemLemmas.{has_number-run}
+use Rattle.rm_destination.specs.ItemLemmas.{numbers-in}
 use Rattle.rm_destination.specs.MessageLemmas.{numbers_of-with_message}
+use Rattle.rm_destination.specs.Messages.{without}
 use Rattle.rm_destination.specs.Messages.{with_message, sorted_onto, without_gap, numbers_of, contents_of, Item}
-use Rattle.rm_destination.specs.Messages.{gone_items, there_items, numbers_in, run_of}
-use Rattle.rm_destination.specs.Incoming.{is_whole_by, last_number, inbox_of}
-use Rattle.record_snapshot.specs.Same.{AreNumbers, without, all_marked}
+use Rattle.rm_destination.specs.Messages.{gone_items, there_items, numbers_in}
+use Rattle.rm_destination.specs.Incoming.{inbox_of, is_loose, is_whole_by, last_number}
+use Rattle.record_snapshot.specs.Same.{AreNumbers, all_marked}
 
 -- what stands with a number
 abbrev pub look : {A : Type 0} → List (ℕ × A) → ℕ → Option A
@@ -198,24 +199,6 @@ has-look (m ∷ ms) n = ap (λ b. (m.0 == n) || b) (has-look ms n) ∙ over (m.0
     over true = refl
     over false = refl
 
--- the numbers of lists that are joined
-pub has-more : (xs ys : List ℕ) (n : ℕ) → has_number (xs ++ ys) n ≡ (has_number xs n || has_number ys n)
-has-more [] ys n = refl
-has-more (x ∷ xs) ys n =
-    let rest : has_number (xs ++ ys) n ≡ (has_number xs n || has_number ys n) = has-more xs ys n in
-    grind (arith, nat_tests, rest)
-
-pub numbers-in : (ps : List Range) (n : ℕ) → has_number (numbers_in ps) n ≡ in_ranges ps n
-numbers-in [] n = refl
-numbers-in (x ∷ ps) n = has-more (run_of x.lower (size_of x)) (numbers_in ps) n
-    ∙ ap (λ b. b || has_number (numbers_in ps) n) (one x.lower x.upper)
-    ∙ ap (λ b. in_range x n || b) (numbers-in ps n)
-  where
-    one : (lower upper : ℕ) → has_number (run_of lower (upper + 1 - lower)) n ≡ is_between lower upper n
-    one lower upper =
-        let all = has_number-run lower (upper + 1 - lower) n in
-        grind (arith, nat_tests, all)
-
 are-append : {A : Type 0} (xs ys : List (ℕ × A)) → AreNumbers xs → AreNumbers ys → AreNumbers (xs ++ ys)
 are-append [] ys h g = g
 are-append (x ∷ xs) ys h g = (h.0, are-append xs ys h.1 g)
@@ -328,14 +311,21 @@ whole-marked ps (n ∷ ns) ms =
     ∙ ap (λ k. (k == last_number n ms) && (length (all_marked ps ms) == last_number n ms)) (gap-marked ps 0 ms)
     ∙ ap (λ k. (length (without_gap 0 ms) == last_number n ms) && (k == last_number n ms)) (length-marked ps ms)
 
-pub inbox-marked : (y : Behaviour) (ps : List Range) (ns : List ℕ) (ms : List (ℕ × Item))
-    → length (inbox_of y ns (all_marked ps ms)) ≡ length (inbox_of y ns ms)
-inbox-marked EntireSequence ps ns ms =
-    ap (λ b. length (cond b (contents_of (all_marked ps ms)) [])) (whole-marked ps ns ms)
+-- the inbox of an ordered sequence has as many items
+pub inbox-marked : (y : Behaviour) (ps : List Range) (ns : List ℕ) (xs ys : List (ℕ × Item)) → is_loose y ≡ false
+    → sorted_onto [] xs ≡ all_marked ps (sorted_onto [] ys) → length (inbox_of y ns xs) ≡ length (inbox_of y ns ys)
+inbox-marked EntireSequence ps ns xs ys ordered same =
+    let ms = sorted_onto [] ys in
+    ap (λ zs. length (cond (is_whole_by ns zs) (contents_of zs) [])) same
+    ∙ ap (λ b. length (cond b (contents_of (all_marked ps ms)) [])) (whole-marked ps ns ms)
     ∙ over (is_whole_by ns ms)
   where
-    over : (b : Bool) → length (cond b (contents_of (all_marked ps ms)) []) ≡ length (cond b (contents_of ms) [])
-    over true = length-contents (all_marked ps ms) ∙ length-marked ps ms ∙ sym (length-contents ms)
+    over : (b : Bool) → length (cond b (contents_of (all_marked ps (sorted_onto [] ys))) [])
+        ≡ length (cond b (contents_of (sorted_onto [] ys)) [])
+    over true =
+        let ms = sorted_onto [] ys in
+        length-contents (all_marked ps ms) ∙ length-marked ps ms ∙ sym (length-contents ms)
     over false = refl
-inbox-marked FollowingFirstGap ps ns ms = gap-marked ps 0 ms
-inbox-marked NoDiscard ps ns ms = gap-marked ps 0 ms
+inbox-marked FollowingFirstGap ps ns xs ys ordered same =
+    ap (λ zs. length (without_gap 0 zs)) same ∙ gap-marked ps 0 (sorted_onto [] ys)
+inbox-marked NoDiscard ps ns xs ys ordered same = absurd (true≢false ordered)

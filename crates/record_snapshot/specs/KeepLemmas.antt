@@ -1,31 +1,38 @@
 -- To say the same but for items that are gone: of two steps, and after one more record.
 use Rattle.std.proofs.Common.{◌≡◌, ℕ, zero, suc, ◌+◌, ◌-◌, ◌≤◌, Bool, true, false, ◌||◌, cond, max, List, [], ◌∷◌, ◌++◌}
-use Rattle.std.proofs.Common.{length, drop, refl, sym, ◌∙◌, ap, inl, inr, arith, length-append}
+use Rattle.std.proofs.Common.{length, drop, refl, sym, ◌∙◌, ap, subst, inl, inr, arith, length-append, Option, None}
+use Rattle.std.proofs.Common.{Some}
 use Rattle.std.specs.List.{flat_map}
 use Rattle.std.proofs.lemmas.Bool.{cases_Bool, true≢false}
 use Rattle.std.proofs.lemmas.List.{append-nil}
 use Rattle.ack_ranges.specs.Laws.{EndsAreRight, UnionHasBoth}
 use Rattle.ack_ranges.specs.declared.range.Range.{Range}
-use Rattle.ack_ranges.specs.Ranges.{in_ranges}
+use Rattle.ack_ranges.specs.Ranges.{count_of, in_ranges}
 use Rattle.rm_base.specs.NumberSet.{greatest_of, has_number}
+use Rattle.rm_base.specs.Numbered.{numbered}
+use Rattle.rm_destination.specs.Incoming.{is_loose}
+use Rattle.rm_destination.specs.ItemLemmas.{has-more}
+use Rattle.rm_destination.specs.MessageLemmas.{once-more}
+use Rattle.rm_destination.specs.Messages.{AreOnce, without}
 use Rattle.rm_destination.specs.Messages.{numbers_of}
 use Rattle.record_batch.specs.Fact.{Fact, Dropped, Purged}
 use Rattle.sequence_table.specs.Words.{last_or}
-use Rattle.sequence_table.specs.Makers.{addresses_of, created, created_of, draws_of, makers, makers_of, nodes_of}
+use Rattle.sequence_table.specs.Makers.{Maker, addresses_of, created, created_of, draws_of, maker, makers, makers_of}
+use Rattle.sequence_table.specs.Makers.{nodes_of}
 use Rattle.sequence_table.specs.Sources.{accepted, accepted_of, acked, acked_of, dropped, dropped_of, mark_of}
 use Rattle.sequence_table.specs.Sources.{ticket_of}
-use Rattle.sequence_table.specs.Destinations.{close_of, cursor, cursor_of, held, purged, purged_of, received}
-use Rattle.sequence_table.specs.Destinations.{received_of, told_of}
+use Rattle.sequence_table.specs.Destinations.{behaviour, behaviour_of, close_of, cursor, cursor_of, held, purged}
+use Rattle.sequence_table.specs.Destinations.{purged_of, received, received_of, told_of}
 use Rattle.sequence_table.specs.Find.{accept_of}
 use Rattle.sequence_table.specs.GatherLemmas.{created_from-more, flat_map-more, greatest_of-append}
+use Rattle.sequence_table.specs.StayLemmas.{maker-stays}
 use Rattle.record_snapshot.specs.AckedLemmas.{in_ranges-join, sent-stays}
 use Rattle.record_snapshot.specs.FrameLemmas.{same_frame}
 use Rattle.record_snapshot.specs.GoneLemmas.{held-has}
 use Rattle.record_snapshot.specs.GotLemmas.{a_consume, a_message, a_purge, besides, got_kind, received-with}
-use Rattle.record_snapshot.specs.ItemLemmas.{has-more}
 use Rattle.record_snapshot.specs.PassedLemmas.{got-stays}
 use Rattle.record_snapshot.specs.Same.{IsLive, IsNewIn, KeptByOneMore, SameFrame, SameReceived, SameSent, SaysTheSame}
-use Rattle.record_snapshot.specs.Same.{SnapshotKeepsAll, SnapshotSaysTheSame, without}
+use Rattle.record_snapshot.specs.Same.{SnapshotKeepsAll, SnapshotSaysTheSame, gone_count, is_ordered}
 use Rattle.record_snapshot.specs.Snapshot.{snapshot}
 
 -- ---- two steps
@@ -80,29 +87,46 @@ without-both ps rs (m ∷ ms) h = elim (cases_Bool (in_ranges rs m.0)) [
       ∙ ap (λ xs. cond (in_ranges ps m.0) xs (m ∷ xs)) (without-both ps rs ms h)
 ]
 
-got-both : (q r w : List Fact) (s : ℕ) → SameReceived q r s → SameReceived r w s → SameReceived q w s
-got-both q r w s a b = record {
+got-both : (q r w : List Fact) (s : ℕ) → makers r ≡ makers w → SameReceived q r s → SameReceived r w s
+    → SameReceived q w s
+got-both q r w s made a b = record {
   more = λ n e. a.more n (b.more n e);
   received_ =
       a.received_ ∙ ap (λ ms. without (purged q s) ms) b.received_
       ∙ without-both (purged q s) (purged r s) (received w s) a.more;
   held_ = λ n. a.held_ n ∙ b.held_ n;
   cursor_ = a.cursor_ ∙ b.cursor_;
-  below = a.below;
+  below = λ ordered. a.below (ap (λ ms. is_loose (behaviour_of (numbered ms s))) made ∙ ordered);
+  earliest = λ loose.
+      let first = b.earliest loose in
+      let more = a.earliest (ap (λ ms. is_ordered (numbered ms s)) made ∙ loose) in
+      record {
+        less = omega (arith, first.less, more.less);
+        reach = more.reach;
+        left =
+            more.left
+            ∙ ap (λ xs. drop (gone_count q s - gone_count r s) xs) first.left
+            ∙ drop-both (gone_count q s - gone_count r s) (gone_count r s - gone_count w s) (received w s)
+            ∙ ap (λ n. drop n (received w s)) (let e : gone_count r s - gone_count w s
+            + (gone_count q s - gone_count r s) ≡ gone_count q s - gone_count w s =
+            omega (arith, first.less, more.less) in e);
+        count = more.count ∙ first.count;
+      };
+  once = b.once;
 }
 
 pub says-both : (q r w : List Fact) → SaysTheSame q r → SaysTheSame r w → SaysTheSame q w
 says-both q r w a b = record {
   frame = frame-both q r w a.frame b.frame;
   sent = λ s. sent-both q r w s (a.sent s) (b.sent s);
-  got = λ s. got-both q r w s (a.got s) (b.got s);
+  got = λ s. got-both q r w s b.frame.makers_ (a.got s) (b.got s);
 }
 
 pub snapshot-says : UnionHasBoth → EndsAreRight → SnapshotSaysTheSame
 snapshot-says both ends r fit proper = record {
   frame = same_frame r;
   sent = sent-stays both ends r fit proper;
-  got = got-stays r fit;
+  got = got-stays both r fit;
 }
 
 pub snapshot-keeps : UnionHasBoth → EndsAreRight → SnapshotKeepsAll
@@ -239,6 +263,45 @@ held-more q f s n live =
     or_three true b c = refl
     or_three false b c = refl
 
+-- a sequence that was made stays as it was made, and one that wasn't made is none that is ordered
+was-ordered : (r : List Fact) (f : Fact) (s : ℕ) → is_loose (behaviour (r ++ f ∷ []) s) ≡ false
+    → is_loose (behaviour r s) ≡ false
+was-ordered r f s ordered = by (maker r s) refl
+  where
+    by : (o : Option Maker) → maker r s ≡ o → is_loose (behaviour r s) ≡ false
+    by None e = ap (λ o. is_loose (behaviour_of o)) e
+    by (Some m) e = ap (λ o. is_loose (behaviour_of o)) (e ∙ sym (maker-stays r (f ∷ []) s m e)) ∙ ordered
+
+was-loose : (r : List Fact) (f : Fact) (s : ℕ) → is_ordered (maker (r ++ f ∷ []) s) ≡ false
+    → is_ordered (maker r s) ≡ false
+was-loose r f s loose = by (maker r s) refl
+  where
+    by : (o : Option Maker) → maker r s ≡ o → is_ordered (maker r s) ≡ false
+    by None e = ap (λ o. is_ordered o) e
+    by (Some m) e = ap (λ o. is_ordered o) (e ∙ sym (maker-stays r (f ∷ []) s m e)) ∙ loose
+
+-- a message that is new is received once
+once-adds : (q r : List Fact) (f : Fact) (s : ℕ) → IsNewIn q f → SameReceived q r s → AreOnce (received (r ++ f ∷ []) s)
+once-adds q r f s new same = subst AreOnce (sym (flat_map-more (received_of s) r f))
+    (elim (got_kind s f) as (λ g k. IsNewIn q g → AreOnce (received r s ++ received_of s g)) [
+      | a_message n p ↦ λ new.
+          subst (λ xs. AreOnce (received r s ++ xs)) (sym (received-with s n p))
+          (once-more (received r s) n p same.once (new-number n (sym (same.held_ n) ∙ new)))
+      | a_purge ranges ↦ λ new. subst AreOnce (sym (append-nil (received r s))) same.once
+      | a_consume upto ↦ λ new. subst AreOnce (sym (append-nil (received r s))) same.once
+      | besides g gots purges cursors ↦ λ new.
+          subst (λ xs. AreOnce (received r s ++ xs)) (sym (gots g (refl, refl)))
+          (subst AreOnce (sym (append-nil (received r s))) same.once)
+    ] new)
+  where
+    new-number : (n : ℕ) → has_number (held r s) n ≡ false → has_number (numbers_of (received r s)) n ≡ false
+    new-number n none =
+        not-second (in_ranges (purged r s) n) (has_number (numbers_of (received r s)) n) (sym (held-has r s n) ∙ none)
+      where
+        not-second : (a b : Bool) → (a || b) ≡ false → b ≡ false
+        not-second true b e = absurd (true≢false e)
+        not-second false b e = e
+
 got-more : (q r : List Fact) (f : Fact) (s : ℕ) → IsLive f → IsNewIn q f → SameReceived q r s
     → SameReceived (q ++ f ∷ []) (r ++ f ∷ []) s
 got-more q r f s live new same =
@@ -262,8 +325,37 @@ got-more q r f s live new same =
           ∙ ap (λ b. b || has_number (numbers_of (received_of s f)) n) (same.held_ n)
           ∙ sym (held-more r f s n live);
       cursor_ = up q ∙ ap (λ n. max n (greatest_of (cursor_of s f))) same.cursor_ ∙ sym (up r);
-      below = λ n lt.
-          ap (λ xs. in_ranges xs n) pq ∙ same.below n (omega (arith, lt, up q));
+      below = λ ordered n lt.
+          ap (λ xs. in_ranges xs n) pq ∙ same.below (was-ordered r f s ordered) n (omega (arith, lt, up q));
+      earliest = λ loose.
+          let first = same.earliest (was-loose r f s loose) in
+          let gq : gone_count (q ++ f ∷ []) s ≡ gone_count q s = ap (λ xs. count_of xs) pq in
+          let gr : gone_count (r ++ f ∷ []) s ≡ gone_count r s = ap (λ xs. count_of xs) pr in
+          let mq = flat_map-more (received_of s) q f in
+          let mr = flat_map-more (received_of s) r f in
+          let within : gone_count q s - gone_count r s ≤ length (received r s) =
+          omega (arith, first.count, first.less) in
+          record {
+            less = omega (arith, first.less, gq, gr);
+            reach = omega (arith, first.reach, gq, up q);
+            left =
+                mq ∙ ap (λ xs. xs ++ received_of s f) first.left
+                ∙ sym (drop-append (gone_count q s - gone_count r s) (received r s) (received_of s f) within)
+                ∙ ap (λ xs. drop (gone_count q s - gone_count r s) xs) (sym mr)
+                ∙ ap (λ n. drop n (received (r ++ f ∷ []) s)) (let e : gone_count q s - gone_count r s
+                ≡ gone_count (q ++ f ∷ []) s - gone_count (r ++ f ∷ []) s = omega (arith, gq, gr) in e);
+            count = omega (
+              arith,
+              first.count,
+              gq,
+              gr,
+              ap length mq,
+              ap length mr,
+              length-append (received q s) (received_of s f),
+              length-append (received r s) (received_of s f),
+            );
+          };
+      once = once-adds q r f s new same;
     }
 
 pub kept-by-one-more : KeptByOneMore

@@ -1,4 +1,5 @@
 pub mod AckedLemmas
+pub mod CapLemmas
 pub mod EachLemmas
 pub mod Examples
 pub mod FactLemmas
@@ -8,6 +9,7 @@ pub mod GoneLemmas
 pub mod GotLemmas
 pub mod ItemLemmas
 pub mod KeepLemmas
+pub mod LooseLemmas
 pub mod NumberLemmas
 pub mod PassedLemmas
 pub mod PastLemmas

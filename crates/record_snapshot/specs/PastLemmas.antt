@@ -1,24 +1,29 @@
 -- Past the cursor nothing is gone: the inbox there is what all records that a node ever had release.
-use Rattle.std.proofs.Common.{◌≡◌, ℕ, zero, suc, ◌+◌, ◌<◌, ◌==◌, true, false, cond, List, [], ◌∷◌, ◌++◌, length, map}
+use Rattle.std.proofs.Common.{◌≡◌, ℕ, zero, suc, ◌+◌, ◌-◌, ◌<◌, ◌≤◌, ◌==◌, true, false, cond, List, [], ◌∷◌, ◌++◌}
+use Rattle.std.proofs.Common.{length, map}
 use Rattle.std.proofs.Common.{refl, sym, ap, subst, ◌∙◌, arith, inl, inr, Some, None}
 use Rattle.std.specs.Prelude.{drop, ◌&&◌, ◌||◌}
 use Rattle.std.proofs.lemmas.Bool.{and_parts, cases_Bool, eqb-true, true≢false}
 use Rattle.ack_ranges.specs.declared.range.Range.{Range}
-use Rattle.ack_ranges.specs.Ranges.{in_ranges}
+use Rattle.ack_ranges.specs.Ranges.{count_of, in_ranges}
 use Rattle.rm_base.specs.NumberSet.{greatest_of, has_number}
 use Rattle.rm_base.specs.declared.message.Behaviour.{Behaviour}
 use Rattle.rm_base.specs.declared.message.Behaviour.TheVariants.{EntireSequence, FollowingFirstGap, NoDiscard}
 use Rattle.rm_base.specs.declared.message.Payload.{Payload}
-use Rattle.rm_destination.specs.ItemLemmas.{numbers_of-both, numbers_of-there, there-sorted}
+use Rattle.rm_destination.specs.ItemLemmas.{has-more, length-numbers_in, numbers-in, numbers_of-both, numbers_of-there}
+use Rattle.rm_destination.specs.ItemLemmas.{there-sorted}
+use Rattle.rm_destination.specs.LooseLemmas.{inbox_of-loose}
 use Rattle.rm_destination.specs.Messages.{contents_of, numbers_of, without_gap, sorted_onto, Item, gone_items}
 use Rattle.rm_destination.specs.Messages.{numbers_in, there_items}
-use Rattle.rm_destination.specs.Incoming.{inbox_of, is_whole_by, last_number}
+use Rattle.rm_destination.specs.Incoming.{inbox_of, is_loose, is_whole_by, last_number}
 use Rattle.record_batch.specs.Fact.{Fact}
-use Rattle.sequence_table.specs.Destinations.{behaviour, cursor, held, inbox, messages, purged, received, released}
-use Rattle.sequence_table.specs.Destinations.{told}
-use Rattle.record_snapshot.specs.FactLemmas.{messages_same, told_same, behaviour_same}
-use Rattle.record_snapshot.specs.ItemLemmas.{has-more, numbers-in, whole-marked}
+use Rattle.sequence_table.specs.Destinations.{behaviour, cursor, held, inbox, items, messages, purged, received}
+use Rattle.sequence_table.specs.Destinations.{released, told}
+use Rattle.sequence_table.specs.Makers.{maker}
+use Rattle.record_snapshot.specs.FactLemmas.{messages_same, not-ordered, told_same, behaviour_same}
+use Rattle.record_snapshot.specs.ItemLemmas.{whole-marked}
 use Rattle.record_snapshot.specs.Same.{AreNumbers, InboxPastIsThere, NothingIsGone, SaysTheSame, all_marked}
+use Rattle.record_snapshot.specs.Same.{gone_count}
 
 -- ---- past the cursor nothing is gone
 
@@ -75,26 +80,17 @@ whole-gap (n ∷ ns) ms e =
     let parts = and_parts (length (without_gap 0 ms) == last_number n ms) (length ms == last_number n ms) e in
     sym (all_of_gap 0 ms (eqb-true _ _ parts.0 ∙ sym (eqb-true _ _ parts.1)))
 
-inbox-left : (y : Behaviour) (ps : List Range) (c : ℕ) (ns : List ℕ) (ms : List (ℕ × Payload))
+inbox-left : (y : Behaviour) (ps : List Range) (c : ℕ) (ns : List ℕ) (xs : List (ℕ × Item))
+    (ys : List (ℕ × Payload)) → is_loose y ≡ false
+    → sorted_onto [] xs ≡ all_marked ps (there_items (sorted_onto [] ys))
     → ((n : ℕ) → c < n → in_ranges ps n ≡ false)
-    → drop c (inbox_of y ns (all_marked ps (there_items ms))) ≡ map Some (drop c (inbox_of y ns ms))
-inbox-left FollowingFirstGap ps c ns ms none = gap-left ps c 0 ms (λ n lt. none n (omega (arith, lt)))
-inbox-left NoDiscard ps c ns ms none = gap-left ps c 0 ms (λ n lt. none n (omega (arith, lt)))
-inbox-left EntireSequence ps c ns ms none = elim (cases_Bool (is_whole_by ns ms)) [
-  | inl all ↦
-      let here : is_whole_by ns (all_marked ps (there_items ms)) ≡ true =
-      whole-marked ps ns (there_items ms) ∙ whole-there ns ms ∙ all in
-      ap (λ b. drop c (cond b (contents_of (all_marked ps (there_items ms))) [])) here
-      ∙ ap (λ xs. drop c xs) (whole-gap ns (all_marked ps (there_items ms)) here)
-      ∙ gap-left ps c 0 ms (λ n lt. none n (omega (arith, lt)))
-      ∙ ap (λ xs. map Some (drop c xs)) (sym (whole-gap ns ms all))
-      ∙ sym (ap (λ b. map Some (drop c (cond b (contents_of ms) []))) all)
-  | inr not_all ↦
-      ap (λ b. drop c (cond b (contents_of (all_marked ps (there_items ms))) []))
-      (whole-marked ps ns (there_items ms) ∙ whole-there ns ms ∙ not_all)
-      ∙ nothing c
-      ∙ sym (ap (λ b. map Some (drop c (cond b (contents_of ms) []))) not_all)
-]
+    → drop c (inbox_of y ns xs) ≡ map Some (drop c (inbox_of y ns ys))
+inbox-left FollowingFirstGap ps c ns xs ys ordered same none =
+    ap (λ zs. drop c (without_gap 0 zs)) same
+    ∙ gap-left ps c 0 (sorted_onto [] ys) (λ n lt. none n (omega (arith, lt)))
+inbox-left NoDiscard ps c ns xs ys ordered same none = absurd (true≢false ordered)
+inbox-left EntireSequence ps c ns xs ys ordered same none =
+    ap (λ zs. drop c (cond (is_whole_by ns zs) (contents_of zs) [])) same ∙ entire (sorted_onto [] ys)
   where
     nothing : (c : ℕ) → drop {A = Item} c [] ≡ map Some (drop {A = Payload} c [])
     nothing zero = refl
@@ -121,6 +117,57 @@ inbox-left EntireSequence ps c ns ms none = elim (cases_Bool (is_whole_by ns ms)
         ap (λ k. (length (without_gap 0 (there_items ms)) == k) && (length (there_items ms) == k)) last
         ∙ ap (λ k. (k == last_number n ms) && (length (there_items ms) == last_number n ms)) (gap-there 0 ms)
         ∙ ap (λ k. (length (without_gap 0 ms) == last_number n ms) && (k == last_number n ms)) (length-there ms)
+
+    entire : (ms : List (ℕ × Payload))
+        → drop c
+        (cond (is_whole_by ns (all_marked ps (there_items ms))) (contents_of (all_marked ps (there_items ms))) [])
+        ≡ map Some (drop c (cond (is_whole_by ns ms) (contents_of ms) []))
+    entire ms = elim (cases_Bool (is_whole_by ns ms)) [
+      | inl all ↦
+          let here : is_whole_by ns (all_marked ps (there_items ms)) ≡ true =
+          whole-marked ps ns (there_items ms) ∙ whole-there ns ms ∙ all in
+          ap (λ b. drop c (cond b (contents_of (all_marked ps (there_items ms))) [])) here
+          ∙ ap (λ xs. drop c xs) (whole-gap ns (all_marked ps (there_items ms)) here)
+          ∙ gap-left ps c 0 ms (λ n lt. none n (omega (arith, lt)))
+          ∙ ap (λ xs. map Some (drop c xs)) (sym (whole-gap ns ms all))
+          ∙ sym (ap (λ b. map Some (drop c (cond b (contents_of ms) []))) all)
+      | inr not_all ↦
+          ap (λ b. drop c (cond b (contents_of (all_marked ps (there_items ms))) []))
+          (whole-marked ps ns (there_items ms) ∙ whole-there ns ms ∙ not_all)
+          ∙ nothing c
+          ∙ sym (ap (λ b. map Some (drop c (cond b (contents_of ms) []))) not_all)
+    ]
+
+-- past what is gone a loose inbox has the payloads of the messages that are there
+contents-joined : (ns : List ℕ) (ms : List (ℕ × Payload)) (c : ℕ) → length ns ≤ c
+    → drop c (contents_of (gone_items ns ++ there_items ms)) ≡ map Some (drop (c - length ns) (contents_of ms))
+contents-joined [] ms c le =
+    of_there c ms ∙ ap (λ k. map Some (drop k (contents_of ms))) (let e : c ≡ c - 0 = omega arith in e)
+  where
+    of_there : (c : ℕ) (ms : List (ℕ × Payload))
+        → drop c (contents_of (there_items ms)) ≡ map Some (drop c (contents_of ms))
+    of_there zero [] = refl
+    of_there zero (m ∷ ms) = ap (λ xs. Some m.1 ∷ xs) (of_there zero ms)
+    of_there (suc c) [] = refl
+    of_there (suc c) (m ∷ ms) = of_there c ms
+contents-joined (n ∷ ns) ms zero le = absurd (omega (arith, le))
+contents-joined (n ∷ ns) ms (suc c) le =
+    let same : suc c - suc (length ns) ≡ c - length ns = omega arith in
+    rw same (contents-joined ns ms c (omega (arith, le)))
+
+drop-none : (n : ℕ) → drop n (contents_of {A = Payload} []) ≡ []
+drop-none zero = refl
+drop-none (suc n) = refl
+
+-- of what was dropped before, still more is dropped
+contents-dropped : (j k : ℕ) (ms : List (ℕ × Payload))
+    → drop j (contents_of (drop k ms)) ≡ drop (k + j) (contents_of ms)
+contents-dropped j zero ms = ap (λ n. drop n (contents_of ms)) (let e : j ≡ 0 + j = omega arith in e)
+contents-dropped zero (suc k) [] = sym (drop-none (suc k + 0))
+contents-dropped (suc j) (suc k) [] = sym (drop-none (suc k + suc j))
+contents-dropped j (suc k) (m ∷ ms) =
+    let same : suc k + j ≡ suc (k + j) = omega arith in
+    rw same (contents-dropped j k ms)
 
 -- ---- of a list that says the same as all records that a node ever had
 
@@ -153,17 +200,34 @@ module _ (r whole : List Fact) (same : SaysTheSame r whole) (none : NothingIsGon
 
   pub inbox-past : drop (cursor r t) (inbox r t) ≡ map Some (drop (cursor r t) (released whole t))
   inbox-past =
-      ap (λ ms. drop (cursor r t) (inbox_of (behaviour r t) (told r t) ms))
-      (messages_same r whole same t are from-one
-      ∙ ap (λ ms. all_marked (purged r t) ms) messages-whole)
-      ∙ ap (λ y. drop (cursor r t) (inbox_of y (told r t) (all_marked (purged r t) (there_items sorted))))
-      (behaviour_same r whole same t are from-one)
-      ∙ ap (λ ns. drop (cursor r t) (inbox_of (behaviour whole t) ns (all_marked (purged r t) (there_items sorted))))
+      ap (λ y. drop (cursor r t) (inbox_of y (told r t) (items r t))) (behaviour_same r whole same t are from-one)
+      ∙ ap (λ ns. drop (cursor r t) (inbox_of (behaviour whole t) ns (items r t)))
       (told_same r whole same t are from-one)
-      ∙ inbox-left (behaviour whole t) (purged r t) (cursor r t) (told whole t) sorted (same.got t).below
-    where
-      sorted : List (ℕ × Payload)
-      sorted = sorted_onto [] (received whole t)
+      ∙ elim (cases_Bool (is_loose (behaviour whole t))) [
+        | inl loose ↦
+            let first = (same.got t).earliest (not-ordered (maker whole t) loose) in
+            let gone : gone_count whole t ≡ 0 = ap (λ ps. count_of ps) (none t) in
+            let size : length (numbers_in (purged r t)) ≡ gone_count r t = length-numbers_in (purged r t) in
+            let g = length (numbers_in (purged r t)) in
+            let left : received r t ≡ drop g (received whole t) =
+            first.left ∙ ap (λ k. drop k (received whole t))
+            (let e : gone_count r t - gone_count whole t ≡ g = omega (arith, gone, size) in e) in
+            let reach : g ≤ cursor r t = omega (arith, first.reach, size) in
+            ap (λ xs. drop (cursor r t) xs)
+            (inbox_of-loose (behaviour whole t) (told whole t) (items r t) loose)
+            ∙ contents-joined (numbers_in (purged r t)) (received r t) (cursor r t) reach
+            ∙ ap (λ ms. map Some (drop (cursor r t - g) (contents_of ms))) left
+            ∙ ap (λ xs. map Some xs) (contents-dropped (cursor r t - g) g (received whole t))
+            ∙ ap (λ k. map Some (drop k (contents_of (received whole t))))
+            (let e : g + (cursor r t - g) ≡ cursor r t = omega (arith, reach) in e)
+            ∙ sym (ap (λ xs. map Some (drop (cursor r t) xs))
+            (inbox_of-loose (behaviour whole t) (told whole t) (received whole t) loose))
+        | inr ordered ↦
+            inbox-left (behaviour whole t) (purged r t) (cursor r t) (told whole t) (items r t) (received whole t)
+            ordered
+            (messages_same r whole same t are from-one ∙ ap (λ ms. all_marked (purged r t) ms) messages-whole)
+            ((same.got t).below ordered)
+      ]
 
 pub inbox-past-is-there : InboxPastIsThere
 inbox-past-is-there r whole same none s are = inbox-past r whole same none s are

@@ -1,20 +1,23 @@
 -- When a list of records says the same as another one, but that more items are gone.
-use Rattle.std.specs.Prelude.{◌≡◌, ℕ, ◌-◌, ◌<◌, ◌≤◌, true, false, cond, List, [], ◌∷◌, ◌++◌, drop}
-use Rattle.std.specs.Prelude.{length, map, None, Some}
+use Rattle.std.specs.Prelude.{◌≡◌, ℕ, ◌+◌, ◌-◌, ◌<◌, ◌≤◌, Bool, true, false, not, cond, List, [], ◌∷◌, ◌++◌, drop}
+use Rattle.std.specs.Prelude.{length, map, Option, None, Some}
 use Rattle.std.specs.List.{flat_map, AllByRecursion}
 use Rattle.ack_ranges.specs.Changes.{united}
-use Rattle.ack_ranges.specs.Ranges.{IsCanonical, in_ranges}
+use Rattle.ack_ranges.specs.Ranges.{IsCanonical, count_of, in_ranges}
 use Rattle.ack_ranges.specs.declared.range.Range.{Range}
 use Rattle.rm_base.specs.Message.{max_number}
 use Rattle.rm_base.specs.NumberSet.{has_number}
-use Rattle.rm_destination.specs.Messages.{Item}
+use Rattle.rm_destination.specs.Incoming.{is_loose}
+use Rattle.rm_destination.specs.Messages.{AreOnce, Item, without}
 use Rattle.record_batch.specs.Fact.{Fact, Acked, Dropped, Purged, Received}
 use Rattle.sequence_table.specs.Words.{Text}
-use Rattle.sequence_table.specs.Destinations.{close_of, cursor, discarded, front, held, inbox, is_complete, is_ended}
-use Rattle.sequence_table.specs.Destinations.{is_over, is_stopped, messages, purged, received, released, told_of}
+use Rattle.sequence_table.specs.Destinations.{behaviour, behaviour_of, close_of, cursor, discarded, front, held, inbox}
+use Rattle.sequence_table.specs.Destinations.{is_complete, is_ended, is_over, is_stopped, messages, purged, received}
+use Rattle.sequence_table.specs.Destinations.{released, told_of}
 use Rattle.sequence_table.specs.Find.{accept_of, acks_to, find_creating, find_grant, find_incoming, find_outgoing, peer}
 use Rattle.sequence_table.specs.Fits.{all_fit}
-use Rattle.sequence_table.specs.Makers.{address, addresses_of, counter, created, draws_of, makers, nodes_of, number}
+use Rattle.sequence_table.specs.Makers.{Maker, address, addresses_of, counter, created, draws_of, maker, makers}
+use Rattle.sequence_table.specs.Makers.{nodes_of, number}
 use Rattle.sequence_table.specs.Sources.{accepted, accepted_count, acked, all_unacked, dropped, mark_of, out_ident}
 use Rattle.sequence_table.specs.Sources.{payload_at, phase, ticket_of, unacked}
 use Rattle.record_snapshot.specs.Snapshot.{left_acked, passed, settled, snapshot}
@@ -32,11 +35,6 @@ pub record SameFrame (q r : List Fact) : Type 0 where
   pub told_ : flat_map told_of q ≡ flat_map told_of r
   pub accepts : flat_map accept_of q ≡ flat_map accept_of r
 
--- of messages, those whose number is in none of the ranges
-abbrev pub without : {A : Type 0} → List Range → List (ℕ × A) → List (ℕ × A)
-without ps [] = []
-without ps (m ∷ ms) = cond (in_ranges ps m.0) (without ps ms) (m ∷ without ps ms)
-
 -- the message, gone where its number is in one of the ranges
 abbrev pub marked : List Range → ℕ × Item → ℕ × Item
 marked ps m = (m.0, cond (in_ranges ps m.0) None m.1)
@@ -52,13 +50,31 @@ pub record SameSent (q r : List Fact) (s : ℕ) : Type 0 where
   pub count : accepted_count q s ≡ accepted_count r s
   pub acked_ : (n : ℕ) → in_ranges (acked q s) n ≡ in_ranges (acked r s) n
 
+-- the sequence was made, and releases in order
+abbrev pub is_ordered : Option Maker → Bool
+is_ordered None = false
+is_ordered (Some m) = not (is_loose (behaviour_of (Some m)))
+
+-- how many messages are gone
+abbrev pub gone_count : List Fact → ℕ → ℕ
+gone_count r s = count_of (purged r s)
+
+-- of a loose sequence it is the payloads of the messages that came first
+pub record SameEarliest (q r : List Fact) (s : ℕ) : Type 0 where
+  pub less : gone_count r s ≤ gone_count q s
+  pub reach : gone_count q s ≤ cursor q s
+  pub left : received q s ≡ drop (gone_count q s - gone_count r s) (received r s)
+  pub count : gone_count q s + length (received q s) ≡ gone_count r s + length (received r s)
+
 -- Of what sequence s receives, q says the same as r, but that more payloads up to the cursor are gone.
 pub record SameReceived (q r : List Fact) (s : ℕ) : Type 0 where
   pub more : (n : ℕ) → in_ranges (purged r s) n ≡ true → in_ranges (purged q s) n ≡ true
   pub received_ : received q s ≡ without (purged q s) (received r s)
   pub held_ : (n : ℕ) → has_number (held q s) n ≡ has_number (held r s) n
   pub cursor_ : cursor q s ≡ cursor r s
-  pub below : (n : ℕ) → cursor q s < n → in_ranges (purged q s) n ≡ false
+  pub below : is_loose (behaviour r s) ≡ false → (n : ℕ) → cursor q s < n → in_ranges (purged q s) n ≡ false
+  pub earliest : is_ordered (maker r s) ≡ false → SameEarliest q r s
+  pub once : AreOnce (received r s)
 
 -- q says the same as r, but for items that are gone
 pub record SaysTheSame (q r : List Fact) : Type 0 where

@@ -4,10 +4,11 @@ use Rattle.std.specs.List.{list_any}
 use Rattle.ack_ranges.specs.declared.range.Range.{Range}
 use Rattle.ack_ranges.specs.Changes.{united}
 use Rattle.ack_ranges.specs.Ranges.{front_of, in_ranges}
+use Rattle.rm_destination.specs.Incoming.{first_numbers, is_loose}
 use Rattle.rm_destination.specs.Messages.{is_empty}
 use Rattle.record_batch.specs.Fact.{Fact, Accepted, Acked, Received, Consumed, Dropped, Purged}
 use Rattle.sequence_table.specs.Sources.{accepted_count, acked}
-use Rattle.sequence_table.specs.Destinations.{cursor, held, inbox}
+use Rattle.sequence_table.specs.Destinations.{behaviour, cursor, held, inbox}
 
 -- the record tells numbers of sequence s that are acknowledged
 abbrev pub acks : ℕ → Fact → Bool
@@ -31,7 +32,7 @@ left_acked r s = past_front (united [] (acked r s))
 abbrev pub passed : List Fact → ℕ → List Range
 passed r s =
     if nat_lt 0 (cursor r s) && nat_le (cursor r s) (length (inbox r s))
-    then record { lower = 1; upper = cursor r s } ∷ [] else []
+    then first_numbers (is_loose (behaviour r s)) (held r s) (cursor r s) else []
 
 -- Acked, where there is a number
 abbrev pub acked_with : ℕ → List Range → List Fact

@@ -1,28 +1,34 @@
 -- A snapshot of a snapshot is the snapshot.
-use Rattle.std.proofs.Common.{◌≡◌, ◌⊎◌, ℕ, ◌<◌, ◌≤◌, ◌==◌, Bool, true, false, ◌&&◌, ◌||◌, cond, List, [], ◌∷◌, ◌++◌}
-use Rattle.std.proofs.Common.{length, refl, sym, ◌∙◌, ap, subst, inl, inr, arith, append_assoc}
+use Rattle.std.proofs.Common.{◌≡◌, ◌⊎◌, ℕ, ◌-◌, ◌<◌, ◌≤◌, ◌==◌, Bool, true, false, ◌&&◌, ◌||◌, cond, List, [], ◌∷◌}
+use Rattle.std.proofs.Common.{◌++◌}
+use Rattle.std.proofs.Common.{length, take, refl, sym, ◌∙◌, ap, subst, inl, inr, arith, append_assoc}
 use Rattle.std.specs.Prelude.{nat_lt, nat_le}
 use Rattle.std.specs.List.{flat_map, list_any, AllByRecursion}
-use Rattle.std.proofs.lemmas.Bool.{and_parts, cases_Bool, false≢true, true≢false}
+use Rattle.std.proofs.lemmas.Bool.{and_parts, cases_Bool, false≢true, leb-true, true≢false}
 use Rattle.std.proofs.lemmas.Bool.Decides.{nat_tests}
 use Rattle.std.proofs.lemmas.List.{append-nil}
 use Rattle.ack_ranges.specs.Changes.{united}
 use Rattle.ack_ranges.specs.Laws.{EndsAreRight, SameNumbersSameRanges, UnionHasBoth}
 use Rattle.ack_ranges.specs.declared.range.Range.{Range}
-use Rattle.ack_ranges.specs.Ranges.{front_of, in_ranges}
+use Rattle.ack_ranges.specs.Ranges.{count_of, front_of, in_ranges}
 use Rattle.rm_base.specs.declared.message.Payload.{Payload}
-use Rattle.rm_destination.specs.Messages.{is_empty, numbers_in}
+use Rattle.rm_base.specs.Numbered.{numbered}
+use Rattle.rm_destination.specs.Incoming.{first_numbers, is_loose}
+use Rattle.rm_destination.specs.ItemLemmas.{length-numbers_in}
+use Rattle.rm_destination.specs.LooseLemmas.{ranges_onto-numbers_in, take-past}
+use Rattle.rm_destination.specs.Messages.{is_empty, numbers_in, numbers_of, ranges_onto}
 use Rattle.record_batch.specs.Fact.{Fact, Accepted, Acked, Received, Consumed, Dropped, Purged}
 use Rattle.sequence_table.specs.Fits.{all_fit, fits}
 use Rattle.sequence_table.specs.Sources.{accepted_count, acked, dropped_of}
-use Rattle.sequence_table.specs.Destinations.{cursor, held, inbox}
+use Rattle.sequence_table.specs.Destinations.{behaviour, behaviour_of, cursor, held, inbox, purged, received}
 use Rattle.record_snapshot.specs.AckedLemmas.{union_}
 use Rattle.record_snapshot.specs.FactLemmas.{facts-equal}
 use Rattle.record_snapshot.specs.FitLemmas.{SoFar, count_so_far, purged_with-is, so-far-on}
 use Rattle.record_snapshot.specs.GoneLemmas.{numbers-received, purged-from}
-use Rattle.record_snapshot.specs.GotLemmas.{got_with, held-length, held-more, run, run-some, some-not}
+use Rattle.record_snapshot.specs.GotLemmas.{got_with, held-is, held-length, held-more, purged-new, some-not}
 use Rattle.record_snapshot.specs.KeepLemmas.{snapshot-says}
-use Rattle.record_snapshot.specs.PassedLemmas.{Passed, nothing_, passed-is, upto_}
+use Rattle.record_snapshot.specs.LooseLemmas.{range-is-added}
+use Rattle.record_snapshot.specs.PassedLemmas.{first-of, loose-held, passed-loose, passed-some}
 use Rattle.record_snapshot.specs.Same.{HaveProper, SaysTheSame}
 use Rattle.record_snapshot.specs.Snapshot.{acked_with, acks, instead, left_acked, passed, past_front, purged_with}
 use Rattle.record_snapshot.specs.Snapshot.{settled, snapshot, snapshot_from}
@@ -126,15 +132,67 @@ module _ (both : UnionHasBoth) (ends : EndsAreRight) (only : SameNumbersSameRang
   same-left : (s : ℕ) → left_acked (snapshot r) s ≡ left_acked r s
   same-left s = ap past_front (same-union s)
 
+  -- the first that are held in short are those that went
+  first-again : (s : ℕ) → is_loose (behaviour r s) ≡ true → 0 < cursor r s → cursor r s ≤ length (inbox r s)
+      → ranges_onto [] (take (cursor r s) (held (snapshot r) s)) ≡ ranges_onto [] (take (cursor r s) (held r s))
+  first-again s loose pos le =
+      let qs = ranges_onto [] (take (cursor r s) (held r s)) in
+      let it = first-of both r s fit loose le in
+      let is : passed r s ≡ qs = passed-loose r s loose pos le in
+      let some : is_empty (passed r s) ≡ false = ap (λ xs. is_empty xs) is ∙ filled qs (omega (arith, it.count, pos)) in
+      let gone : purged (snapshot r) s ≡ qs =
+      (purged-new r s some [] r fit refl (omega (arith, pos, le, loose-held r s loose))).0 ∙ is in
+      let size : length (numbers_in qs) ≡ cursor r s = length-numbers_in qs ∙ it.count in
+      let held_ : held (snapshot r) s ≡ numbers_in qs ++ numbers_of (received (snapshot r) s) =
+      held-is (snapshot r) s ∙ ap (λ ps. numbers_in ps ++ numbers_of (received (snapshot r) s)) gone in
+      let first : take (cursor r s) (held (snapshot r) s) ≡ numbers_in qs =
+      ap (λ ns. take (cursor r s) ns) held_
+      ∙ take-past (cursor r s) (numbers_in qs) (numbers_of (received (snapshot r) s)) (omega (arith, size))
+      ∙ ap (λ k. numbers_in qs ++ take k (numbers_of (received (snapshot r) s)))
+      (let e : cursor r s - length (numbers_in qs) ≡ 0 = omega (arith, size) in e)
+      ∙ append-nil (numbers_in qs) in
+      ap (λ ns. ranges_onto [] ns) first ∙ ranges_onto-numbers_in (range-is-added both) only qs it.canonical
+    where
+      filled : (ps : List Range) → 0 < count_of ps → is_empty ps ≡ false
+      filled [] lt = absurd (omega (arith, lt))
+      filled (p ∷ ps) lt = refl
+
   pub same-passed : (s : ℕ) → passed (snapshot r) s ≡ passed r s
   same-passed s =
       let len = (facts-equal (snapshot r) r twice_says s (numbers-received [] r s fit)
       (λ n e. purged-from [] (snapshot r) s n new-fit e)).inbox_len in
       let cur = (twice_says.got s).cursor_ in
+      let kind : behaviour (snapshot r) s ≡ behaviour r s =
+      ap (λ ms. behaviour_of (numbered ms s)) twice_says.frame.makers_ in
       ap (λ c. cond (nat_lt 0 c && nat_le c (length (inbox (snapshot r) s)))
-      (record { lower = 1; upper = c } ∷ []) []) cur
+      (first_numbers (is_loose (behaviour (snapshot r) s)) (held (snapshot r) s) c) []) cur
       ∙ ap (λ k. cond (nat_lt 0 (cursor r s) && nat_le (cursor r s) k)
-      (record { lower = 1; upper = cursor r s } ∷ []) []) len
+      (first_numbers (is_loose (behaviour (snapshot r) s)) (held (snapshot r) s) (cursor r s)) []) len
+      ∙ ap (λ y. cond (nat_lt 0 (cursor r s) && nat_le (cursor r s) (length (inbox r s)))
+      (first_numbers (is_loose y) (held (snapshot r) s) (cursor r s)) []) kind
+      ∙ elim (cases_Bool (nat_lt 0 (cursor r s) && nat_le (cursor r s) (length (inbox r s)))) [
+        | inl some ↦ elim (cases_Bool (is_loose (behaviour r s))) [
+          | inl loose ↦
+              let parts = and_parts (nat_lt 0 (cursor r s)) (nat_le (cursor r s) (length (inbox r s))) some in
+              let pos = parts.0 in
+              let from : 0 < cursor r s = grind (arith, nat_tests, pos) in
+              let le = leb-true (cursor r s) (length (inbox r s)) parts.1 in
+              ap (λ b. cond (nat_lt 0 (cursor r s) && nat_le (cursor r s) (length (inbox r s)))
+              (first_numbers b (held (snapshot r) s) (cursor r s)) []) loose
+              ∙ ap (λ ps. cond (nat_lt 0 (cursor r s) && nat_le (cursor r s) (length (inbox r s))) ps [])
+              (first-again s loose from le)
+              ∙ sym (ap (λ b. cond (nat_lt 0 (cursor r s) && nat_le (cursor r s) (length (inbox r s)))
+              (first_numbers b (held r s) (cursor r s)) []) loose)
+          | inr ordered ↦
+              ap (λ b. cond (nat_lt 0 (cursor r s) && nat_le (cursor r s) (length (inbox r s)))
+              (first_numbers b (held (snapshot r) s) (cursor r s)) []) ordered
+              ∙ sym (ap (λ b. cond (nat_lt 0 (cursor r s) && nat_le (cursor r s) (length (inbox r s)))
+              (first_numbers b (held r s) (cursor r s)) []) ordered)
+        ]
+        | inr none ↦
+            ap (λ b. cond b (first_numbers (is_loose (behaviour r s)) (held (snapshot r) s) (cursor r s)) []) none
+            ∙ sym (ap (λ b. cond b (first_numbers (is_loose (behaviour r s)) (held r s) (cursor r s)) []) none)
+      ]
 
   -- ---- each record stays
 
@@ -201,13 +259,6 @@ module _ (both : UnionHasBoth) (ends : EndsAreRight) (only : SameNumbersSameRang
       ∙ ap (λ b. cond b (Purged s (passed r s) ∷ []) (purged_with s (passed r s))) some
       ∙ purged_with-is s (passed r s) some
 
-  passed-some : (s : ℕ) → is_empty (passed r s) ≡ false → 0 < length (numbers_in (passed r s))
-  passed-some s some = by (passed r s) (passed-is r s) some
-    where
-      by : (ps : List Range) → Passed r s ps → is_empty ps ≡ false → 0 < length (numbers_in ps)
-      by ps nothing_ e = absurd (true≢false e)
-      by ps (upto_ c pos cur le) e = run-some (record { lower = 1; upper = c } ∷ []) (run c (omega (arith, pos)))
-
   st-on : (q before : List Fact) (f : Fact) (behind rest : List Fact) → SoFar r q before
       → ((s : ℕ) → list_any (acks s) behind ≡ false → list_any (acks s) rest ≡ false)
       → St q (instead r before f behind) rest
@@ -256,7 +307,7 @@ module _ (both : UnionHasBoth) (ends : EndsAreRight) (only : SameNumbersSameRang
           (inr (some-not _ (omega (
             arith,
             held-more q (Purged s (passed r s)) s,
-            passed-some s some,
+            passed-some r s some,
             ap (λ ys. length (numbers_in ys)) (got_with s (passed r s)),
           )))) (in_ranges (passed r s) n) refl))
       | inr old ↦ subst (λ xs. St q (xs ++ cond (in_ranges (passed r s) n) [] (Received s n p ∷ [])) rest)
@@ -265,7 +316,7 @@ module _ (both : UnionHasBoth) (ends : EndsAreRight) (only : SameNumbersSameRang
           (inr (some-not (held q s) (omega (
             arith,
             held-length q s,
-            passed-some s some,
+            passed-some r s some,
             ap (λ ys. length (numbers_in ys)) ((so.got_ s).purged_some some ∙ ap (λ b. cond b [] (passed r s)) old),
           ))))
           (in_ranges (passed r s) n) refl)

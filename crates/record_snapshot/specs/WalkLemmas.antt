@@ -1,33 +1,33 @@
 -- The walk over all records: a snapshot fits.
-use Rattle.std.proofs.Common.{◌≡◌, ◌⊎◌, ℕ, ◌+◌, ◌<◌, ◌≤◌, ◌==◌, Bool, true, false, ◌||◌, cond, List, [], ◌∷◌, ◌++◌}
-use Rattle.std.proofs.Common.{refl, sym, ◌∙◌, ap, inl, inr, arith, append_assoc}
-use Rattle.std.specs.Prelude.{nat_lt, nat_le}
+use Rattle.std.proofs.Common.{◌≡◌, ◌⊎◌, ℕ, ◌+◌, ◌<◌, ◌≤◌, Bool, true, false, ◌||◌, ◌&&◌, not, cond, List, [], ◌∷◌}
+use Rattle.std.proofs.Common.{◌++◌, length, take, refl, sym, ◌∙◌, ap, inl, inr, arith, append_assoc}
+use Rattle.std.specs.Prelude.{◌==◌, nat_lt, nat_le}
 use Rattle.std.specs.List.{flat_map, list_any, list_all, AllByRecursion}
-use Rattle.std.proofs.lemmas.Bool.{and_parts, and_from, cases_Bool, eqb-true, false≢true, leb-true, le-leb}
+use Rattle.std.proofs.lemmas.Bool.{and_parts, and_from, cases_Bool, false≢true, leb-true, le-leb}
 use Rattle.std.proofs.lemmas.Bool.Decides.{nat_tests}
 use Rattle.std.proofs.lemmas.Grind.{flat_map-append}
 use Rattle.std.proofs.lemmas.List.{append-nil}
 use Rattle.ack_ranges.specs.Changes.{united}
 use Rattle.ack_ranges.specs.Laws.{EndsAreRight, UnionHasBoth}
 use Rattle.ack_ranges.specs.declared.range.Range.{Range}
-use Rattle.ack_ranges.specs.Ranges.{RisesFrom, front_of, in_range, in_ranges, is_between}
+use Rattle.ack_ranges.specs.Ranges.{RisesFrom, count_of, front_of, in_range, in_ranges, is_between}
 use Rattle.rm_base.specs.Message.{max_number}
-use Rattle.rm_base.specs.NumberSet.{has_number}
-use Rattle.rm_destination.specs.Messages.{is_empty, numbers_of}
-use Rattle.record_batch.specs.Fact.{Fact, Acked, Received, Consumed, Purged}
+use Rattle.rm_destination.specs.Incoming.{is_loose}
+use Rattle.rm_destination.specs.Messages.{is_empty, ranges_onto}
+use Rattle.record_batch.specs.Fact.{Fact, Acked}
 use Rattle.sequence_table.specs.Words.{last_or}
 use Rattle.sequence_table.specs.Sources.{accepted_count, acked, acked_of, dropped_of}
-use Rattle.sequence_table.specs.Destinations.{held, purged, purged_of, received}
-use Rattle.sequence_table.specs.Fits.{all_fit, fits, is_first_run, is_incoming_side, is_up_to}
-use Rattle.sequence_table.specs.Makers.{maker}
+use Rattle.sequence_table.specs.Destinations.{behaviour, cursor, held, inbox}
+use Rattle.sequence_table.specs.Fits.{all_fit, fits, is_set_from, is_up_to, may_be_gone}
 use Rattle.sequence_table.specs.NodeLemmas.{one_more}
+use Rattle.sequence_table.specs.SetLemmas.{is-set, set-up_to}
+use Rattle.sequence_table.specs.StayLemmas.{behaviour-stays}
 use Rattle.record_snapshot.specs.AckedLemmas.{few-on, Drops, acked-within, drops-of, in_ranges-join, more_, no-acks}
-use Rattle.record_snapshot.specs.AckedLemmas.{none_, one_, split-front, union_, up_to-has, ups, within, drops_}
+use Rattle.record_snapshot.specs.AckedLemmas.{none_, one_, split-front, union_, ups, within, drops_}
 use Rattle.record_snapshot.specs.FitLemmas.{LeftIsUpTo, MayGo, SoFar, count_so_far, fit-append, fit-on, so-far-on}
-use Rattle.record_snapshot.specs.GoneLemmas.{held-has}
-use Rattle.record_snapshot.specs.GotLemmas.{a_consume, a_message, a_purge, besides as apart_, got_kind, got_with}
-use Rattle.record_snapshot.specs.GotLemmas.{received-with}
-use Rattle.record_snapshot.specs.PassedLemmas.{Passed, inbox-held, nothing_, passed-is, upto_}
+use Rattle.record_snapshot.specs.CapLemmas.{held-cap}
+use Rattle.record_snapshot.specs.PassedLemmas.{Passed, earliest_, first-of, inbox-held, nothing_, passed-is, upto_}
+use Rattle.record_snapshot.specs.LooseLemmas.{AreFirst}
 use Rattle.record_snapshot.specs.Same.{HaveProper}
 use Rattle.record_snapshot.specs.SentLemmas.{count-more, no-later}
 use Rattle.record_snapshot.specs.Snapshot.{acks, instead, left_acked, passed, past_front, settled, snapshot}
@@ -46,64 +46,6 @@ count-cap before (f ∷ l) s fit cap =
       count-cap (before ++ f ∷ []) l s parts.1 one,
       ap (λ rs. accepted_count rs s) (append_assoc before (f ∷ []) l),
     )
-
-received-cap : (before l : List Fact) (s n : ℕ) → all_fit before l ≡ true
-    → has_number (numbers_of (received l s)) n ≡ true → n ≤ max_number
-received-cap before [] s n fit e = absurd (false≢true e)
-received-cap before (f ∷ l) s n fit e =
-    let parts = and_parts (fits before f) (all_fit (before ++ f ∷ []) l) fit in
-    elim (got_kind s f) as (λ g k. fits before g ≡ true → all_fit (before ++ g ∷ []) l ≡ true
-    → has_number (numbers_of (received (g ∷ l) s)) n ≡ true → n ≤ max_number) [
-      | a_message k p ↦ λ fit rest e.
-          let here : ((k == n) || has_number (numbers_of (received l s)) n) ≡ true =
-          sym (ap (λ xs. has_number (numbers_of (xs ++ received l s)) n) (received-with s k p)) ∙ e in
-          elim (cases_Bool (k == n)) [
-            | inl same ↦
-                let one = and_parts (is_incoming_side (maker before s)) _ fit in
-                let two = and_parts (nat_le 1 k) _ one.1 in
-                let three = and_parts (nat_le k max_number) _ two.1 in
-                omega (arith, eqb-true k n same, leb-true k max_number three.0)
-            | inr other ↦ received-cap (before ++ Received s k p ∷ []) l s n rest
-                (sym (ap (λ b. b || has_number (numbers_of (received l s)) n) other) ∙ here)
-          ]
-      | a_purge ranges ↦ λ fit rest e. received-cap (before ++ Purged s ranges ∷ []) l s n rest e
-      | a_consume upto ↦ λ fit rest e. received-cap (before ++ Consumed s upto ∷ []) l s n rest e
-      | apart_ g gots purges cursors ↦ λ fit rest e. received-cap (before ++ g ∷ []) l s n rest
-          (sym (ap (λ xs. has_number (numbers_of (xs ++ received l s)) n) (gots g (refl, refl))) ∙ e)
-    ] parts.0 parts.1 e
-
-purged-cap : (before l : List Fact) (s n : ℕ) → all_fit before l ≡ true → in_ranges (purged l s) n ≡ true
-    → n ≤ max_number
-purged-cap before [] s n fit e = absurd (false≢true e)
-purged-cap before (f ∷ l) s n fit e =
-    let parts = and_parts (fits before f) (all_fit (before ++ f ∷ []) l) fit in
-    elim (cases_Bool (in_ranges (purged_of s f) n)) [
-      | inl here ↦ one f parts.0 here
-      | inr later ↦ purged-cap (before ++ f ∷ []) l s n parts.1
-          (sym (ap (λ b. b || in_ranges (purged l s) n) later) ∙ sym (in_ranges-join (purged_of s f) (purged l s) n)
-          ∙ e)
-    ]
-  where
-    one : (g : Fact) → fits before g ≡ true → in_ranges (purged_of s g) n ≡ true → n ≤ max_number
-    one g fit e = elim (got_kind s g) as (λ h k. fits before h ≡ true → in_ranges (purged_of s h) n ≡ true
-        → n ≤ max_number) [
-          | a_message k p ↦ λ fit e. absurd (false≢true e)
-          | a_purge ranges ↦ λ fit e.
-              let one = and_parts (is_incoming_side (maker before s)) _ fit in
-              let two = and_parts (is_empty (held before s)) _ one.1 in
-              let three = and_parts (list_all (is_up_to max_number) ranges) (is_first_run ranges) two.1 in
-              up_to-has max_number n ranges three.0 (ap (λ xs. in_ranges xs n) (sym (got_with s ranges)) ∙ e)
-          | a_consume upto ↦ λ fit e. absurd (false≢true e)
-          | apart_ h gots purges cursors ↦ λ fit e.
-              absurd (false≢true (ap (λ xs. in_ranges xs n) (sym (purges h (refl, refl))) ∙ e))
-        ] fit e
-
-pub held-cap : (r : List Fact) (s n : ℕ) → all_fit [] r ≡ true → has_number (held r s) n ≡ true → n ≤ max_number
-held-cap r s n fit e = elim (cases_Bool (in_ranges (purged r s) n)) [
-  | inl gone ↦ purged-cap [] r s n fit gone
-  | inr there ↦ received-cap [] r s n fit
-      (sym (ap (λ b. b || has_number (numbers_of (received r s)) n) there) ∙ sym (held-has r s n) ∙ e)
-]
 
 -- ---- what is left of acknowledged numbers
 
@@ -216,16 +158,32 @@ module _ (both : UnionHasBoth) (ends : EndsAreRight) (r : List Fact) (fit : all_
     few = omega (arith, within both ends r s fit proper, count-cap [] r s fit (omega arith));
   }
     where
-      run : (ps : List Range) → Passed r s ps → (ps ≡ []) ⊎ (is_first_run ps ≡ true)
+      first : is_loose (behaviour r s) ≡ true → cursor r s ≤ length (inbox r s)
+          → AreFirst r s (cursor r s) (ranges_onto [] (take (cursor r s) (held r s)))
+      first loose le = first-of both r s fit loose le
+
+      set-test : (qs : List Range) → 0 < count_of qs → RisesFrom 1 qs → (not (is_empty qs) && is_set_from 1 qs) ≡ true
+      set-test [] some rise = absurd (omega (arith, some))
+      set-test (x ∷ qs) some rise = is-set 1 (x ∷ qs) rise
+
+      run : (ps : List Range) → Passed r s ps
+          → (ps ≡ []) ⊎ (may_be_gone (is_loose (behaviour r s)) ps ≡ true)
       run ps nothing_ = inl refl
-      run ps (upto_ c pos cur le) = inr (grind (arith, nat_tests, pos))
+      run ps (upto_ c ordered pos cur le) =
+          inr (ap (λ b. may_be_gone b (record { lower = 1; upper = c } ∷ [])) ordered ∙ grind (arith, nat_tests, pos))
+      run ps (earliest_ loose pos le) =
+          let it = first loose le in
+          let qs = ranges_onto [] (take (cursor r s) (held r s)) in
+          inr (ap (λ b. may_be_gone b qs) loose ∙ set-test qs (omega (arith, it.count, pos)) it.canonical)
 
       caps : (ps : List Range) → Passed r s ps → list_all (is_up_to max_number) ps ≡ true
       caps ps nothing_ = refl
-      caps ps (upto_ c pos cur le) =
-          let top = held-cap r s c fit (inbox-held r s c pos le) in
+      caps ps (upto_ c ordered pos cur le) =
+          let top = held-cap r s c fit (inbox-held r s c ordered pos le) in
           and_from (is_up_to max_number (record { lower = 1; upper = c })) true
           (le-leb c max_number top) refl
+      caps ps (earliest_ loose pos le) =
+          set-up_to 1 (ranges_onto [] (take (cursor r s) (held r s))) (omega arith) (first loose le).canonical
 
   pub drops-settled : (s : ℕ) → AllByRecursion (λ (u : ℕ). u ≤ settled r s) (flat_map (dropped_of s) r)
   drops-settled s = by_drops (flat_map (dropped_of s) r) (drops_ both ends r s fit proper)
@@ -249,7 +207,9 @@ module _ (both : UnionHasBoth) (ends : EndsAreRight) (r : List Fact) (fit : all_
       let others : (s : ℕ) → AllByRecursion (λ (u : ℕ). u ≤ settled r s) (flat_map (dropped_of s) l) =
       (λ s. (front-all (settled r s) (dropped_of s f) (flat_map (dropped_of s) l) (big s)).1) in
       fit-append q (instead r before f l) (snapshot_from r (before ++ f ∷ []) l)
-      (fit-on r q before f l so may-go parts.0 mine (left_for f split after parts.1 others))
+      (fit-on r q before f l so may-go
+      (λ s side. sym (behaviour-stays before (f ∷ l) s side) ∙ sym (ap (λ k. behaviour k s) split))
+      parts.0 mine (left_for f split after parts.1 others))
       (walk (before ++ f ∷ []) l (q ++ instead r before f l)
       (split ∙ sym (append_assoc before (f ∷ []) l)) after parts.1
       (so-far-on r q before f l parts.0 mine so) others)

@@ -13,7 +13,7 @@ use Rattle.sequence_table.specs.Fits.{all_fit, is_up_to}
 use Rattle.sequence_table.specs.Sources.{acked}
 use Rattle.record_snapshot.specs.AckedLemmas.{union_}
 use Rattle.record_snapshot.specs.EachLemmas.{each-acked, each-purged, keeps}
-use Rattle.record_snapshot.specs.PassedLemmas.{Passed, nothing_, passed-is, upto_}
+use Rattle.record_snapshot.specs.PassedLemmas.{Passed, earliest_, first-of, nothing_, passed-is, upto_}
 use Rattle.record_snapshot.specs.Same.{AreProper, HasProper, HaveProper, SnapshotIsProper, SnapshotWritesSets}
 use Rattle.record_snapshot.specs.Snapshot.{left_acked, passed, snapshot}
 use Rattle.record_snapshot.specs.WalkLemmas.{past-rises, may-go}
@@ -47,10 +47,12 @@ left-set both ends r fit whole s =
     let p = past-rises (united [] (acked r s)) (union_ both ends r s fit whole).set in
     weaker 1 p.0 (left_acked r s) (omega (arith, p.1)) p.2
 
-passed-set : (r : List Fact) (s : ℕ) (ps : List Range) → Passed r s ps → list_all (is_up_to max_number) ps ≡ true
+passed-set : UnionHasBoth → (r : List Fact) (s : ℕ) → all_fit [] r ≡ true → (ps : List Range) → Passed r s ps
+    → list_all (is_up_to max_number) ps ≡ true
     → IsCanonical ps
-passed-set r s ps nothing_ cap = tt
-passed-set r s ps (upto_ c pos cur le) cap =
+passed-set both r s fit ps nothing_ cap = tt
+passed-set both r s fit ps (earliest_ loose pos le) cap = (first-of both r s fit loose le).canonical
+passed-set both r s fit ps (upto_ c ordered pos cur le) cap =
     let one = (and_parts (is_up_to max_number (record { lower = 1; upper = c })) true cap).0 in
     (omega arith, pos, leb-true c max_number (and_parts (nat_le 1 1) (nat_le c max_number) one).1, tt)
 
@@ -60,7 +62,7 @@ snapshot-writes-sets both ends r fit whole s =
     record {
       settled_ = may.few;
       left = left-set both ends r fit whole s;
-      passed_ = passed-set r s (passed r s) (passed-is r s) may.cap;
+      passed_ = passed-set both r s fit (passed r s) (passed-is r s) may.cap;
     }
 
 pub snapshot-is-proper : UnionHasBoth → EndsAreRight → SnapshotIsProper

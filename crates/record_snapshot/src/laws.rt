@@ -2,10 +2,10 @@
 ghost use Rattle.std.specs.Prelude.{◌≡◌, ◌++◌, ◌∷◌, [], true, false, None, Some};
 ghost use Rattle.record_batch.specs.Fact.{Consumed, Dropped, Purged, Received};
 ghost use Rattle.sequence_table.specs.Destinations.{cursor, inbox};
-ghost use Rattle.sequence_table.specs.Examples.{of_text};
+ghost use Rattle.sequence_table.specs.Examples.{a_loose_destination, a_short_loose_destination, of_text};
 ghost use Rattle.sequence_table.specs.Fits.{all_fit, fits};
 ghost use Rattle.sequence_table.specs.Sources.{accepted_count, payload_at, unacked};
-ghost use Rattle.record_snapshot.specs.Examples.{a_destination, a_source, granted, opened, span};
+ghost use Rattle.record_snapshot.specs.Examples.{a_destination, a_source, granted, loose_granted, opened, span};
 ghost use Rattle.record_snapshot.specs.Same.{FactsAreEqual, FrameDecides, InboxPastIsThere, KeptByOneMore};
 ghost use Rattle.record_snapshot.specs.Same.{NumbersAreFromOne, SetsUnite};
 ghost use Rattle.record_snapshot.specs.Same.{SnapshotFits, SnapshotIsProper, SnapshotKeepsAll, SnapshotKnowsAll};
@@ -131,4 +131,13 @@ pub fn a_destination_with_a_cursor()
     ensures cursor { cursor (snapshot a_destination) 1 ≡ 2 }
     ensures past { fits (snapshot a_destination) (Consumed 1 4) ≡ false }
     ensures next { fits (snapshot a_destination) (Consumed 1 3) ≡ true }
+{}
+
+/// Of a loose destination the message that came first was consumed, which isn't the first by number: its payload is
+/// left out, and the other one stays behind it.
+pub fn a_loose_destination_with_a_cursor()
+    ensures snapshot { snapshot (a_loose_destination ++ Consumed 1 1 ∷ []) ≡ a_short_loose_destination }
+    ensures inbox { inbox a_short_loose_destination 1 ≡ None ∷ Some (of_text (7 ∷ [])) ∷ [] }
+    ensures whole { snapshot (a_loose_destination ++ Consumed 1 2 ∷ [])
+        ≡ loose_granted ++ Purged 1 (span 1 1 ∷ span 3 3 ∷ []) ∷ [] }
 {}

@@ -1,5 +1,5 @@
 -- What follows from the words of a soak, and from how it ended.
-use Rattle.std.proofs.Common.{◌≡◌, ◌≢◌, ℕ, List, [], ◌∷◌, length, codes, decimal, Option, None, Some}
+use Rattle.std.proofs.Common.{◌≡◌, ◌≢◌, ℕ, List, [], ◌∷◌, codes, decimal, Option, None, Some}
 use Rattle.std.proofs.Common.{arith, refl, sym, subst, ◌∙◌, inl, inr, append-nil}
 use Rattle.std.proofs.lemmas.Fmt.{decimal_injective}
 use Rattle.std.specs.Io.KnownBytes.{Appends}
@@ -8,7 +8,8 @@ use Rattle.rm_command.specs.Edge.{Edge, KeepsOutput, Side, WasBegun}
 use Rattle.rm_command.specs.Filter.{EndsWriting}
 use Rattle.rm_command.specs.Replay.{EndsSoak, IsReportOf, IsSoakStatus}
 use Rattle.rm_command.specs.Run.{AsksSoakOf, Runs, RunsSoak}
-use Rattle.rm_command.specs.Stage.{KeepsHeadlineIn, KeepsWordAt, Staged}
+use Rattle.rm_replay.specs.Shows.{Scene}
+use Rattle.rm_command.specs.Stage.{KeepsAt, Staged}
 use Rattle.rm_command.specs.Status.{status_of}
 use Rattle.rm_command.specs.declared.end.End.{End}
 use Rattle.rm_command.specs.declared.end.End.TheVariants.{Done, Usage, BadLine, ReadFault, WriteFault, TooLong}
@@ -75,13 +76,13 @@ begun_not told text = (0, omega arith, kept told.held)
     kept None = tt
     kept (Some bytes) = sym (append-nil bytes)
 
--- the headline, where it holds of the stage and a text was written, or was not
-pub headline_at : {T : Type 0} (end : End) (text : List ℕ) (out out_after : Stream) (old new : Staged T)
-    → EndsWriting text end out out_after → KeepsHeadlineIn new.scene → KeepsWordAt (status_of end) old new
-headline_at end text out out_after old new ends word = record {
-  done = λ e. word;
-  unwritten = λ e. word;
-  short = λ e. inr (inr word);
+-- what is kept, where it holds of the stage and a text was written, or was not
+pub kept_at : {T : Type 0} (Keep : Scene → Type 0) (end : End) (text : List ℕ) (out out_after : Stream)
+    (old new : Staged T) → EndsWriting text end out out_after → Keep new.scene → KeepsAt Keep (status_of end) old new
+kept_at Keep end text out out_after old new ends kept = record {
+  done = λ e. kept;
+  unwritten = λ e. kept;
+  short = λ e. inr (inr kept);
   other = none_other end ends;
 }
   where

@@ -23,12 +23,12 @@ abbrev pub answer_word : Bool → List ℕ
 answer_word true = codes "yes"
 answer_word false = codes "no"
 
--- assurance WORD, and three lines of yes or no
+-- assurance WORD, and four lines of yes or no
 abbrev pub policy_text : Assertion → List ℕ
 policy_text a =
     codes "assurance " ++ assurance_word a.assurance ++ codes "\nin-order " ++ answer_word a.in_order
-    ++ codes "\noptional " ++ answer_word a.optional ++ codes "\ngranted " ++ answer_word (is_granted a.assurance)
-    ++ codes "\n"
+    ++ codes "\noptional " ++ answer_word a.optional ++ codes "\ngranted " ++ answer_word (is_granted a false)
+    ++ codes "\ngranted-loose " ++ answer_word (is_granted a true) ++ codes "\n"
 
 -- the bytes are an assertion, and this is what is printed of it
 pub record IsPolicyTextOf (bytes text : List ℕ) : Type 0 where

@@ -22,7 +22,7 @@ use Rattle.rm_command.specs.Stage.{Staged}
 
 -- the bytes are a script, all its lines were played by the protocol, this is the report, and what each source accepted
 -- is what it says was sent; and at each moment of the script a delivered message that is new is recorded by its line,
--- and released where it closes the gap
+-- and released where it closes the gap or the sequence is loose
 pub record IsReportOf (first now : Scene) (bytes text : List ℕ) : Type 0 where
   pub events : List Event
   pub script : IsScript (lines_of bytes) events

@@ -2,7 +2,7 @@
 ghost use Rattle.std.specs.Prelude.{◌≡◌, ◌⊎◌, ◌↔◌, ◌∷◌, [], codes, IsTrue};
 ghost use Rattle.rm_command.specs.Edge.{edge_of};
 ghost use Rattle.rm_command.specs.Run.{AsksReplay, AsksSoak, Asks, HasStatus, IsNamed, Runs};
-ghost use Rattle.rm_command.specs.Stage.{KeepsWordAt, staged_of};
+ghost use Rattle.rm_command.specs.Stage.{KeepsLooseAt, KeepsWordAt, staged_of};
 ghost use Rattle.rm_command.specs.Status.{status_of};
 ghost use Rattle.rm_command.specs.declared.end.End.{End as AnEnd};
 ghost use Rattle.rm_replay.specs.Shows.{IsFresh, scene_of};
@@ -39,6 +39,10 @@ pub fn run<S: Source, K: Sink, M: CrashDisk, W: Wire>(
     ensures word { AsksReplay words.now ⊎ AsksSoak words.now → KeepsWordAt result
         (staged_of M.told W.packets stage.old) (staged_of M.told W.packets stage.new) }
 
+    // Beside it, what is said of the sequences that are delivered as their messages come.
+    ensures loose { AsksReplay words.now ⊎ AsksSoak words.now → KeepsLooseAt result
+        (staged_of M.told W.packets stage.old) (staged_of M.told W.packets stage.new) }
+
     // What was done, by the words and the status.
     ensures runs { (end : AnEnd) × (result ≡ status_of end)
         × Runs words.now end (edge_of S.told K.told K.wants_memory input.old input.new out.old out.new)
@@ -65,6 +69,8 @@ fn obey<S: Source, K: Sink, M: CrashDisk, W: Wire>(
 ) -> End
     requires fresh { IsFresh (scene_of M.told W.packets stage.old) }
     ensures word { AsksReplay words.now ⊎ AsksSoak words.now → KeepsWordAt (status_of result)
+        (staged_of M.told W.packets stage.old) (staged_of M.told W.packets stage.new) }
+    ensures loose { AsksReplay words.now ⊎ AsksSoak words.now → KeepsLooseAt (status_of result)
         (staged_of M.told W.packets stage.old) (staged_of M.told W.packets stage.new) }
     ensures runs { Runs words.now result (edge_of S.told K.told K.wants_memory input.old input.new out.old out.new)
         (staged_of M.told W.packets stage.old) (staged_of M.told W.packets stage.new) }

@@ -44,7 +44,9 @@ fn text_of_assertion(alloc: Global, assertion: &Assertion) -> Result<Blob, Memor
     text.push_all(b"\noptional ")?;
     text.push_all(answer(assertion.optional))?;
     text.push_all(b"\ngranted ")?;
-    text.push_all(answer(grants(assertion)))?;
+    text.push_all(answer(grants(assertion, false)))?;
+    text.push_all(b"\ngranted-loose ")?;
+    text.push_all(answer(grants(assertion, true)))?;
     text.push_all(b"\n")?;
     Ok(text)
 }

@@ -2,7 +2,7 @@
 ghost use Rattle.std.specs.Prelude.{IfOk};
 ghost use Rattle.rm_command.specs.Edge.{side_of, KeepsOutput};
 ghost use Rattle.rm_command.specs.Replay.{EndsSoak};
-ghost use Rattle.rm_command.specs.Stage.{KeepsWordAt, staged_of};
+ghost use Rattle.rm_command.specs.Stage.{KeepsLooseAt, KeepsWordAt, staged_of};
 ghost use Rattle.rm_command.specs.Status.{status_of};
 ghost use Rattle.rm_replay.specs.Shows.{IsFresh, scene_of};
 ghost use Rattle.rm_script.specs.Script.{lines_of, IsScript};
@@ -30,6 +30,8 @@ pub fn soak<K: Sink, M: CrashDisk, W: Wire>(
 ) -> End
     requires fresh { IsFresh (scene_of M.told W.packets stage.old) }
     ensures word { KeepsWordAt (status_of result) (staged_of M.told W.packets stage.old)
+        (staged_of M.told W.packets stage.new) }
+    ensures loose { KeepsLooseAt (status_of result) (staged_of M.told W.packets stage.old)
         (staged_of M.told W.packets stage.new) }
     ensures ends { EndsSoak number result (side_of K.told out.old) (side_of K.told out.new)
         (staged_of M.told W.packets stage.old) (staged_of M.told W.packets stage.new) }

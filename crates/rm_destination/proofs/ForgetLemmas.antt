@@ -1,27 +1,32 @@
 -- What is kept after payloads were given up.
-use Rattle.std.proofs.Common.{◌≡◌, ℕ, zero, suc, ◌+◌, ◌<◌, ◌≤◌, Bool, true, false, ◌||◌, ◌==◌, cond, max, List, [], ◌∷◌}
+use Rattle.std.proofs.Common.{◌≡◌, ℕ, zero, suc, ◌+◌, ◌-◌, ◌<◌, ◌≤◌, Bool, true, false, ◌||◌, ◌==◌, cond, max, List}
+use Rattle.std.proofs.Common.{[], ◌∷◌}
 use Rattle.std.proofs.Common.{◌++◌, length, take, get_or, refl, sym, ap, subst, ◌∙◌, arith, inl, inr}
-use Rattle.std.specs.Prelude.{◌&&◌, filter, nat_le, nat_lt}
+use Rattle.std.specs.Prelude.{◌&&◌, filter, nat_le, nat_lt, not}
 use Rattle.std.specs.List.{insert}
 use Rattle.std.proofs.Math.Seq.{take-suc}
-use Rattle.std.proofs.lemmas.List.{length-take-le}
+use Rattle.std.proofs.lemmas.List.{length-map, length-take-le}
 use Rattle.std.proofs.lemmas.Bool.{cases_Bool, cases_eq}
 use Rattle.std.proofs.lemmas.Bool.Decides.{nat_tests}
 use Rattle.ack_ranges.specs.declared.range.Range.{Range}
 use Rattle.ack_ranges.specs.Changes.{with_range}
 use Rattle.ack_ranges.specs.Laws.{RangeIsAdded, SameNumbersSameRanges}
-use Rattle.ack_ranges.specs.Ranges.{Contents, IsCanonical, IsFront, RisesFrom, in_ranges}
-use Rattle.rm_base.specs.Message.{max_number}
+use Rattle.ack_ranges.specs.Ranges.{Contents, IsCanonical, IsFront, count_of, in_ranges}
 use Rattle.rm_base.specs.NumberSet.{IsRising, Rises, has_number}
 use Rattle.rm_base.specs.NumberSetLemmas.{has_number-below, lt-or-le}
 use Rattle.rm_base.specs.declared.message.Payload.{Payload}
-use Rattle.rm_destination.specs.ItemLemmas.{has_number-above, has_number-items}
-use Rattle.rm_destination.specs.Incoming.{Receiving, inbox, items}
+use Rattle.rm_destination.specs.ItemLemmas.{has_number-above, has_number-items, length-items_of}
+use Rattle.rm_destination.specs.Incoming.{Receiving, Sequence, first_numbers, held, inbox, is_loose, items}
+use Rattle.rm_destination.specs.Incoming.{passed}
 use Rattle.rm_destination.specs.declared.arrivals.Place.{Place}
-use Rattle.rm_destination.specs.Kept.{Came, GoesAt, IsKept, IsSorting, held_by, numbers_at}
-use Rattle.rm_destination.specs.MessageLemmas.{has_number-by_number}
-use Rattle.rm_destination.specs.Messages.{AreOnce, above, by_number, front_of, numbers_of, ranges_onto, sorted_onto}
-use Rattle.rm_destination.specs.Messages.{with_message}
+use Rattle.rm_destination.specs.Kept.{Came, GoesAt, IsBehind, IsLoose, IsSorting, held_by, numbers_at}
+use Rattle.rm_destination.specs.LooseLemmas.{AreMessageNumbers, earliest, has_number-parts, has_number-without}
+use Rattle.rm_destination.specs.LooseLemmas.{ranges-set, ranges_onto-some, within-from}
+use Rattle.rm_destination.specs.MessageLemmas.{has_number-by_number, numbers_of-push, ranges_onto-push}
+use Rattle.rm_destination.specs.Messages.{contents_of, is_empty, items_of, numbers_in}
+use Rattle.rm_destination.specs.Messages.{AreOnce, Item, above, by_number, front_of, numbers_of, ranges_onto, run_to}
+use Rattle.rm_destination.specs.Messages.{sorted_onto, with_message, without}
+use Rattle.rm_destination.proofs.InboxLemmas.{inbox-loose}
 use Rattle.rm_destination.proofs.KeptLemmas.{IsSorting-add}
 use Rattle.rm_destination.proofs.LawLemmas.{inbox-prefix}
 
@@ -38,6 +43,17 @@ once-above n (m ∷ ms) once = elim (nat_lt n m.0) as (λ b. AreOnce (cond b (m 
   | false ↦ once-above n ms once.1
 ]
 
+-- a message that stands at a place has its number there
+pub has-at : (ms : List (ℕ × Payload)) (i : ℕ) (m : ℕ × Payload) → i < length ms → m ≡ get_or ms i m
+    → has_number (numbers_of ms) m.0 ≡ true
+has-at [] i m lt is = absurd (omega (arith, lt))
+has-at (x ∷ ms) zero m lt is =
+    let e : x.0 ≡ m.0 = ap (λ (y : ℕ × Payload). y.0) (sym is) in
+    grind (arith, nat_tests, e)
+has-at (x ∷ ms) (suc i) m lt is =
+    let rest : has_number (numbers_of ms) m.0 ≡ true = has-at ms i m (omega (arith, lt)) is in
+    grind (arith, nat_tests, rest)
+
 -- the number of a message is not among those before it
 pub once-before : (ms : List (ℕ × Payload)) (i : ℕ) (m : ℕ × Payload) → AreOnce ms → i < length ms
     → m ≡ get_or ms i m → has_number (numbers_of (take i ms)) m.0 ≡ false
@@ -46,7 +62,7 @@ once-before (x ∷ ms) zero m once lt is = refl
 once-before (x ∷ ms) (suc i) m once lt is =
     let rest : has_number (numbers_of (take i ms)) m.0 ≡ false =
     once-before ms i m once.1 (omega (arith, lt)) is in
-    let there : has_number (numbers_of ms) m.0 ≡ true = among ms i m (omega (arith, lt)) is in
+    let there : has_number (numbers_of ms) m.0 ≡ true = has-at ms i m (omega (arith, lt)) is in
     let none : has_number (numbers_of ms) x.0 ≡ false = once.0 in
     elim (cases_Bool (x.0 == m.0)) [
       | inl same ↦
@@ -54,16 +70,6 @@ once-before (x ∷ ms) (suc i) m once lt is =
           absurd (cc)
       | inr other ↦ ap (λ b. b || has_number (numbers_of (take i ms)) m.0) other ∙ rest
     ]
-  where
-    among : (ms : List (ℕ × Payload)) (i : ℕ) (m : ℕ × Payload) → i < length ms → m ≡ get_or ms i m
-        → has_number (numbers_of ms) m.0 ≡ true
-    among [] i m lt is = absurd (omega (arith, lt))
-    among (x ∷ ms) zero m lt is =
-        let e : x.0 ≡ m.0 = ap (λ (y : ℕ × Payload). y.0) (sym is) in
-        grind (arith, nat_tests, e)
-    among (x ∷ ms) (suc i) m lt is =
-        let rest : has_number (numbers_of ms) m.0 ≡ true = among ms i m (omega (arith, lt)) is in
-        grind (arith, nat_tests, rest)
 
 -- a message has a number from 1 on where none has 0
 pub number-from : (ms : List (ℕ × Payload)) (i : ℕ) (m : ℕ × Payload) → has_number (numbers_of ms) 0 ≡ false
@@ -123,38 +129,6 @@ rising-above low n came le r =
     subst (λ ms. Rises n (numbers_of ms)) (above-sorted n [] came)
     (subst (λ k. Rises k (numbers_of (above n (by_number came)))) same (rises-above low n (by_number came) r))
 
--- the numbers of canonical ranges are message numbers
-few_from : (first n : ℕ) (rs : List Range) → RisesFrom first rs → in_ranges rs n ≡ true → n ≤ max_number
-few_from first n [] r h = absurd (cc)
-few_from first n (x ∷ rs) r h = elim (cases_Bool (nat_le x.lower n && nat_le n x.upper)) [
-  | inl here ↦ (let top = r.2 in grind (arith, nat_tests, here, top))
-  | inr later ↦ few_from (x.upper + 2) n rs r.3 (sym (ap (λ b. b || in_ranges rs n) later) ∙ h)
-]
-
-pub few-numbers : (rs : List Range) (n : ℕ) → IsCanonical rs → in_ranges rs n ≡ true → n ≤ max_number
-few-numbers rs n r h = few_from 1 n rs r h
-
--- message numbers, put into ranges
-pub record AreSet (xs : List Range) (ns : List ℕ) (new : List Range) : Type 0 where
-  pub canonical : IsCanonical new
-  pub numbers : (k : ℕ) → in_ranges new k ≡ (in_ranges xs k || has_number ns k)
-
-pub ranges-set : RangeIsAdded → (xs : List Range) (ns : List ℕ) → IsCanonical xs
-    → ((n : ℕ) → has_number ns n ≡ true → (0 < n) × (n ≤ max_number)) → AreSet xs ns (ranges_onto xs ns)
-ranges-set added xs [] canonical within = record { canonical = canonical; numbers = λ k. grind (arith, nat_tests) }
-ranges-set added xs (n ∷ ns) canonical within =
-    let here : has_number (n ∷ ns) n ≡ true = grind (arith, nat_tests) in
-    let one = added xs n n canonical (within n here).0 (omega arith) (within n here).1 in
-    let rest = ranges-set added (with_range xs n n) ns one.canonical
-    (λ k has. within k (grind (arith, nat_tests, has))) in
-    record {
-      canonical = rest.canonical;
-      numbers = λ k.
-          let all = rest.numbers k in
-          let some = one.numbers k in
-          grind (arith, nat_tests, all, some);
-    }
-
 -- the places of one message more
 pub placed-more : (came : List (ℕ × Payload)) (at : ℕ) (m : ℕ × Payload) (places more : List Place) (i : ℕ)
     → at < length came → m ≡ get_or came at m → has_number (numbers_of came) 0 ≡ false → AreOnce came
@@ -171,80 +145,234 @@ placed-more came at m places more i lt is none once sorting goes put =
     (IsSorting-add (take at came) places m.0 m.1 i sorting (number-from came at m none lt is)
     (once-before came at m once lt is) goes)))
 
--- the inbox has no more items than came without a gap
-pub inbox-few : (f : Receiving) → length (inbox f) ≤ front_of (items f)
-inbox-few f = elim (inbox-prefix f).prefix [
+-- an ordered inbox has no more items than came without a gap
+pub inbox-few : (f : Receiving) → is_loose f.behaviour ≡ false → length (inbox f) ≤ front_of (items f)
+inbox-few f ordered = elim (inbox-prefix f ordered).prefix [
   | inl same ↦ omega (arith, ap length same)
   | inr none ↦ omega (arith, ap length none)
 ]
 
--- what is kept, where messages 1 to more that were received are gone
-pub IsKept-forgot : RangeIsAdded → SameNumbersSameRanges → (gone more : ℕ) (came left : Came) (numbers : Contents)
-    (room front : ℕ) → IsKept gone more came numbers room → IsCanonical numbers.ranges → IsFront numbers.ranges front
-    → more ≤ front → left.messages ≡ above more came.messages → IsKept more more left numbers 0
-IsKept-forgot added same gone more came left numbers room front kept canonical fronts le is =
-    let old = came.messages in
-    let new = above more old in
-    let rising : Rises more (numbers_of (by_number new)) = rising-above gone more old kept.consumed kept.rising in
-    let at_zero : in_ranges numbers.ranges 0 ≡ has_number (held_by more new) 0 =
-    let was = kept.same 0 in
-    let before = has_number-items gone old 0 in
-    let after = has_number-items more new 0 in
-    let rest = has_number-above more 0 old in
-    let low : has_number (numbers_of old) 0 ≡ false =
-    sym (has_number-by_number old 0)
-    ∙ has_number-below gone 0 (numbers_of (by_number old)) kept.rising (omega arith) in
-    grind (arith, nat_tests, was, before, after, rest, low) in
-    let has : (n : ℕ) → in_ranges numbers.ranges n ≡ has_number (held_by more new) n = λ n.
-    let was = kept.same n in
-    let before = has_number-items gone old n in
-    let after = has_number-items more new n in
-    let rest = has_number-above more n old in
+-- a loose inbox has an item for each message
+pub inbox-all : (f : Receiving) → is_loose f.behaviour ≡ true → length (inbox f) ≡ count_of f.purged + length f.received
+inbox-all f loose =
+    ap length (inbox-loose f loose) ∙ length-map (items f) (λ (m : ℕ × Item). m.1)
+    ∙ length-items_of f.purged f.received
+
+-- the messages 1 to more, which were received, are gone: what is kept
+pub IsBehind-forgot : (gone more : ℕ) (came left : Came) (numbers : List Range) (front : ℕ) → IsBehind gone more came
+    → IsCanonical numbers → IsFront numbers front → more ≤ front → left.messages ≡ above more came.messages
+    → IsBehind more more left
+IsBehind-forgot gone more came left numbers front kept canonical fronts le is = record {
+  few = elim (lt-or-le 0 more) [
+    | inl some ↦ (within-from 1 more numbers canonical (fronts.inside more some le)).1
+    | inr none ↦ omega (arith, none)
+  ];
+  consumed = omega arith;
+  rising = rw is (rising-above gone more came.messages kept.consumed kept.rising);
+}
+
+-- and the same numbers are held
+pub held-first : (gone more : ℕ) (came : Came) (numbers : List Range) (front n : ℕ) → IsBehind gone more came
+    → ((k : ℕ) → in_ranges numbers k ≡ has_number (held_by (run_to gone) came.messages) k)
+    → IsFront numbers front → more ≤ front
+    → has_number (held_by (run_to more) (above more came.messages)) n
+    ≡ has_number (held_by (run_to gone) came.messages) n
+held-first gone more came numbers front n kept same fronts le =
+    let was = same n in
+    let before = has_number-items gone came.messages n in
+    let after = has_number-items more (above more came.messages) n in
+    let rest = has_number-above more n came.messages in
     let reached = kept.consumed in
     elim (cases_Bool (nat_le 1 n && nat_le n more)) [
       | inl inside ↦
           let from : 0 < n = grind (arith, nat_tests, inside) in
           let to : n ≤ front = grind (arith, nat_tests, inside, le) in
-          let there : in_ranges numbers.ranges n ≡ true = fronts.inside n from to in
-          grind (arith, nat_tests, there, after, inside)
+          let there : in_ranges numbers n ≡ true = fronts.inside n from to in
+          grind (arith, nat_tests, there, was, after, inside)
       | inr outside ↦ elim (cases_eq n 0) [
         | inl none ↦
-            subst (λ k. in_ranges numbers.ranges k ≡ has_number (held_by more new) k) (sym none) at_zero
+            let low : has_number (numbers_of came.messages) 0 ≡ false =
+            sym (has_number-by_number came.messages 0)
+            ∙ has_number-below gone 0 (numbers_of (by_number came.messages)) kept.rising (omega arith) in
+            subst (λ k. has_number (held_by (run_to more) (above more came.messages)) k
+            ≡ has_number (held_by (run_to gone) came.messages) k) (sym none)
+            (let before_ = has_number-items gone came.messages 0 in
+            let after_ = has_number-items more (above more came.messages) 0 in
+            let rest_ = has_number-above more 0 came.messages in
+            grind (arith, nat_tests, before_, after_, rest_, low))
         | inr some ↦
             let from : 0 < n = omega (arith, some) in
             grind (arith, nat_tests, was, before, after, rest, outside, reached, from)
       ]
-    ] in
-    let set = ranges-set added [] (held_by more new) tt (λ n there.
-    let inside : in_ranges numbers.ranges n ≡ true = has n ∙ there in
-    (from_one n inside, few-numbers numbers.ranges n canonical inside)) in
-    record {
-      few = few-front;
-      consumed = omega arith;
-      rising = rw is rising;
-      ranges = rw is (same numbers.ranges (ranges_onto [] (held_by more new)) canonical set.canonical
-          (λ n. has n ∙ sym (set.numbers n)));
-      same = λ n. rw is (has n);
-      messages_fit = omega arith;
-      numbers_fit = omega arith;
-    }
-  where
-    from_one : (n : ℕ) → in_ranges numbers.ranges n ≡ true → 0 < n
-    from_one zero h = absurd (true-not (lacks numbers.ranges 1 canonical (omega arith)) h)
-      where
-        lacks : (rs : List Range) (first : ℕ) → RisesFrom first rs → 0 < first → in_ranges rs 0 ≡ false
-        lacks [] first r low = refl
-        lacks (x ∷ rs) first r low =
-            let rest : in_ranges rs 0 ≡ false = lacks rs (x.upper + 2) r.3 (omega arith) in
-            let from = r.0 in
-            grind (arith, nat_tests, rest, from, low)
-
-        true-not : {b : Bool} → b ≡ false → b ≡ true → ⊥
-        true-not e h = cc
-    from_one (suc n) h = omega arith
-
-    few-front : more ≤ max_number
-    few-front = elim (lt-or-le 0 more) [
-      | inl some ↦ few-numbers numbers.ranges more canonical (fronts.inside more some le)
-      | inr none ↦ omega (arith, none)
     ]
+
+-- no two of those that are left have one number, and none has 0
+pub once-without : (ps : List Range) (ms : List (ℕ × Payload)) → AreOnce ms → AreOnce (without ps ms)
+once-without ps [] once = tt
+once-without ps (m ∷ ms) once = elim (in_ranges ps m.0) as (λ b. AreOnce (cond b (without ps ms) (m ∷ without ps ms))) [
+  | true ↦ once-without ps ms once.1
+  | false ↦ (
+    let all = has_number-without ps ms m.0 in
+        let none : has_number (numbers_of ms) m.0 ≡ false = once.0 in
+        grind (arith, nat_tests, all, none),
+    once-without ps ms once.1,
+  )
+]
+
+pub none-without : (ps : List Range) (k : ℕ) (ms : List (ℕ × Payload)) → has_number (numbers_of ms) k ≡ false
+    → has_number (numbers_of (without ps ms)) k ≡ false
+none-without ps k ms none = let all = has_number-without ps ms k in grind (arith, nat_tests, all, none)
+
+-- they are those that pass a test
+pub without-filter : (ps : List Range) (ms : List (ℕ × Payload))
+    → filter (λ (m : ℕ × Payload). not (in_ranges ps m.0)) ms ≡ without ps ms
+without-filter ps [] = refl
+without-filter ps (m ∷ ms) =
+    let rest = without-filter ps ms in
+    elim (in_ranges ps m.0) as (λ b. cond (not b) (m ∷ filter (λ (m : ℕ × Payload). not (in_ranges ps m.0)) ms)
+    (filter (λ (m : ℕ × Payload). not (in_ranges ps m.0)) ms) ≡ cond b (without ps ms) (m ∷ without ps ms)) [
+      | true ↦ rest
+      | false ↦ ap (λ xs. m ∷ xs) rest
+    ]
+
+-- so many messages that came first, and one more
+pub numbers-next : (came : List (ℕ × Payload)) (at : ℕ) (m : ℕ × Payload) (rs : List Range) → at < length came
+    → m ≡ get_or came at m → ranges_onto rs (numbers_of (take (at + 1) came))
+    ≡ with_range (ranges_onto rs (numbers_of (take at came))) m.0 m.0
+numbers-next came at m rs lt is =
+    let next : suc at ≡ at + 1 = omega arith in
+    let longer : take (at + 1) came ≡ take at came ++ m ∷ [] =
+    ap (λ k. take k came) (sym next) ∙ take-suc came at m lt ∙ ap (λ y. take at came ++ y ∷ []) (sym is) in
+    ap (λ ms. ranges_onto rs (numbers_of ms)) longer
+    ∙ ap (λ ns. ranges_onto rs ns) (numbers_of-push (take at came) m)
+    ∙ ranges_onto-push rs (numbers_of (take at came)) m.0
+
+-- no message has the number 0 where they rise
+pub no-zero-came : (came : List (ℕ × Payload)) → IsRising (numbers_of (by_number came))
+    → has_number (numbers_of came) 0 ≡ false
+no-zero-came came rising =
+    sym (has_number-by_number came 0) ∙ has_number-below 0 0 (numbers_of (by_number came)) rising (omega arith)
+
+reached : (f : Receiving) → 0 < f.cursor → f.cursor ≤ length (inbox f)
+    → (nat_lt 0 f.cursor && nat_le f.cursor (length (inbox f))) ≡ true
+reached f pos le = grind (arith, nat_tests, pos, le)
+
+-- where something is passed, the cursor is in the inbox
+pub passed-reach : (f : Receiving) → is_empty (passed f) ≡ false → (0 < f.cursor) × (f.cursor ≤ length (inbox f))
+passed-reach f some = elim (cases_Bool (nat_lt 0 f.cursor && nat_le f.cursor (length (inbox f)))) [
+  | inl reached ↦ (grind (arith, nat_tests, reached), grind (arith, nat_tests, reached))
+  | inr not_so ↦
+      let none : is_empty (passed f) ≡ true =
+      ap (λ b. is_empty (cond b (first_numbers (is_loose f.behaviour) (held f) f.cursor) [])) not_so in
+      absurd (cc)
+]
+
+-- what is passed of a loose sequence, and of another one
+pub passed-earliest : (f : Receiving) → is_loose f.behaviour ≡ true → is_empty (passed f) ≡ false
+    → passed f ≡ ranges_onto [] (take f.cursor (held f))
+passed-earliest f loose some =
+    let reach = passed-reach f some in
+    ap (λ b. cond b (first_numbers (is_loose f.behaviour) (held f) f.cursor) []) (reached f reach.0 reach.1)
+    ∙ ap (λ b. first_numbers b (held f) f.cursor) loose
+
+pub passed-first : (f : Receiving) → is_loose f.behaviour ≡ false → is_empty (passed f) ≡ false
+    → passed f ≡ record { lower = 1; upper = f.cursor } ∷ []
+passed-first f ordered some =
+    let reach = passed-reach f some in
+    ap (λ b. cond b (first_numbers (is_loose f.behaviour) (held f) f.cursor) []) (reached f reach.0 reach.1)
+    ∙ ap (λ b. first_numbers b (held f) f.cursor) ordered
+
+-- whether a number is that of one of the first items
+pub earliest-has : RangeIsAdded → SameNumbersSameRanges → (ps : List Range) (ms : List (ℕ × Payload)) (c n : ℕ)
+    → IsCanonical ps → count_of ps ≤ c → AreMessageNumbers (numbers_of ms)
+    → in_ranges (ranges_onto [] (take c (numbers_of (items_of ps ms)))) n
+    ≡ (in_ranges ps n || has_number (numbers_of (take (c - count_of ps) ms)) n)
+earliest-has added same ps ms c n canonical le are =
+    let k = c - count_of ps in
+    let set = ranges-set added ps (numbers_of (take k ms)) canonical (λ i has.
+    are i (let parts = has_number-parts k ms i in grind (arith, nat_tests, parts, has))) in
+    ap (λ rs. in_ranges rs n) (earliest added same ps ms c canonical le) ∙ set.numbers n
+
+filled : (rs : List Range) → 0 < length (numbers_in rs) → is_empty rs ≡ false
+filled [] lt = absurd (omega (arith, lt))
+filled (x ∷ rs) lt = refl
+
+-- something is passed where the cursor is in the inbox, and nothing where it isn't
+pub passed-some : (f : Receiving) → 0 < f.cursor → f.cursor ≤ length (inbox f) → is_empty (passed f) ≡ false
+passed-some f pos le =
+    ap (λ b. is_empty (cond b (first_numbers (is_loose f.behaviour) (held f) f.cursor) [])) (reached f pos le)
+    ∙ some (is_loose f.behaviour) refl
+  where
+    some : (b : Bool) → is_loose f.behaviour ≡ b → is_empty (first_numbers b (held f) f.cursor) ≡ false
+    some false e = refl
+    some true e =
+        let all : length (inbox f) ≡ length (contents_of (items f)) = ap length (inbox-loose f e) in
+        let contents : length (contents_of (items f)) ≡ length (items f) =
+        length-map (items f) (λ (m : ℕ × Item). m.1) in
+        let numbers : length (held f) ≡ length (items f) = length-map (items f) (λ (m : ℕ × Item). m.0) in
+        filled (ranges_onto [] (take f.cursor (held f)))
+        (ranges_onto-some f.cursor (held f) pos (omega (arith, pos, le, all, contents, numbers)))
+
+pub passed-none : (f : Receiving) → length (inbox f) < f.cursor → passed f ≡ []
+passed-none f past =
+    let no : (nat_lt 0 f.cursor && nat_le f.cursor (length (inbox f))) ≡ false = grind (arith, nat_tests, past) in
+    ap (λ b. cond b (first_numbers (is_loose f.behaviour) (held f) f.cursor) []) no
+
+-- without those that are first in ranges there are no more than the others
+pub length-without : (ps : List Range) (k : ℕ) (ms : List (ℕ × Payload))
+    → ((n : ℕ) → has_number (numbers_of (take k ms)) n ≡ true → in_ranges ps n ≡ true)
+    → length (without ps ms) ≤ length ms - k
+length-without ps k [] put = omega arith
+length-without ps zero (m ∷ ms) put =
+    let rest = length-without ps zero ms (λ n has. absurd (cc)) in
+    elim (in_ranges ps m.0) as (λ b. length (cond b (without ps ms) (m ∷ without ps ms)) ≤ suc (length ms) - 0) [
+      | true ↦ omega (arith, rest)
+      | false ↦ omega (arith, rest)
+    ]
+length-without ps (suc k) (m ∷ ms) put =
+    let rest = length-without ps k ms (λ n has. put n (grind (arith, nat_tests, has))) in
+    let first : in_ranges ps m.0 ≡ true = put m.0 (grind (arith, nat_tests)) in
+    let all : length (without ps (m ∷ ms)) ≡ length (without ps ms) =
+    ap (λ b. length (cond b (without ps ms) (m ∷ without ps ms))) first in
+    omega (arith, rest, all)
+
+-- the same sequence, where other messages are gone
+pub same-view : (s : Sequence) (ps ps2 : List Range) (ms ms2 : List (ℕ × Payload)) (room : ℕ) → ps ≡ ps2 → ms ≡ ms2
+    → room ≡ 0 → ◌≡◌ {A = Sequence} (record { facts = record s.facts { purged = ps; received = ms }; room = room })
+    (record { facts = record s.facts { purged = ps2; received = ms2 }; room = 0 })
+same-view s ps ps2 ms ms2 room p m none =
+    ap (λ x. with_these s x ms room) p ∙ ap (λ x. with_these s ps2 x room) m ∙ ap (λ x. with_these s ps2 ms2 x) none
+  where
+    with_these : Sequence → List Range → List (ℕ × Payload) → ℕ → Sequence
+    with_these s ps ms room = record { facts = record s.facts { purged = ps; received = ms }; room = room }
+
+-- a set of what is gone, with those of the first that are there
+pub IsLoose-forgot : RangeIsAdded → (purged more : Contents) (cursor room k : ℕ) (came left : Came)
+    → IsLoose purged cursor came room → IsCanonical purged.ranges → AreMessageNumbers (numbers_of came.messages)
+    → k ≡ cursor - count_of purged.ranges → k ≤ length came.messages
+    → more.ranges ≡ ranges_onto purged.ranges (numbers_of (take k came.messages))
+    → purged.spare ≤ more.spare + k → left.messages ≡ without more.ranges came.messages → room ≡ 0
+    → IsLoose more cursor left room
+IsLoose-forgot added purged more cursor room k came left kept canonical are at within put spare is none =
+    let set = ranges-set added purged.ranges (numbers_of (take k came.messages)) canonical (λ n has.
+    are n (let parts = has_number-parts k came.messages n in grind (arith, nat_tests, parts, has))) in
+    let count = ap count_of put in
+    let few = length-map (take k came.messages) (λ (m : ℕ × Payload). m.0) in
+    let size = length-take-le k came.messages within in
+    let in_it : (n : ℕ) → has_number (numbers_of (take k came.messages)) n ≡ true → in_ranges more.ranges n ≡ true =
+    λ n has. ap (λ rs. in_ranges rs n) put ∙ (let all = set.numbers n in grind (arith, nat_tests, all, has)) in
+    let short = length-without more.ranges k came.messages in_it in
+    record {
+      consumed = omega (arith, set.count, count, few, size, at, kept.consumed);
+      fits = omega (arith, kept.fits, spare, ap length is, short, none, within);
+    }
+
+pub one-run : (c : ℕ) → 0 < c → run_to c ≡ record { lower = 1; upper = c } ∷ []
+one-run zero lt = absurd (omega (arith, lt))
+one-run (suc c) lt = refl
+
+pub behind-zero : (gone cursor : ℕ) (came : Came) → IsBehind gone cursor came
+    → has_number (numbers_of came.messages) 0 ≡ false
+behind-zero gone cursor came kept =
+    sym (has_number-by_number came.messages 0)
+    ∙ has_number-below gone 0 (numbers_of (by_number came.messages)) kept.rising (omega arith)

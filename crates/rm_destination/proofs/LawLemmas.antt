@@ -12,17 +12,17 @@ use Rattle.rm_base.specs.NumberSet.{IsRising, has_number, front_after}
 use Rattle.rm_base.specs.NumberSetLemmas.{Rises-with_number}
 use Rattle.rm_base.specs.Numbered.{numbered}
 use Rattle.rm_destination.specs.FrontLemmas.{front_after-has, front_after-next}
-use Rattle.rm_destination.specs.Incoming.{Receiving, items, is_stopped, is_whole_by, is_whole, inbox_of, inbox}
-use Rattle.rm_destination.specs.Incoming.{discarded}
-use Rattle.rm_destination.specs.Laws.{IsFront, InboxIsAPrefix}
+use Rattle.rm_destination.specs.Incoming.{Receiving, items, is_loose, is_stopped, is_whole_by, is_whole, inbox_of}
+use Rattle.rm_destination.specs.Incoming.{inbox, discarded}
+use Rattle.rm_destination.specs.Laws.{IsFront, InboxIsAPrefix, LooseReleasesAll}
 use Rattle.rm_destination.specs.MessageLemmas.{numbers_of-with_message, has_number-by_number, length-without_gap}
 use Rattle.rm_destination.specs.MessageLemmas.{without_gap-take}
 use Rattle.rm_destination.specs.Messages.{Item, with_message, sorted_onto, by_number, without_gap, numbers_of}
 use Rattle.rm_destination.specs.Messages.{contents_of, front_of}
-use Rattle.rm_destination.proofs.InboxLemmas.{inbox-take}
+use Rattle.rm_destination.proofs.InboxLemmas.{discarded-loose, inbox-loose, inbox-take}
 
 -- messages with numbers from 1 on rise once they are sorted
-Rises-sorted : (sorted came : List (ℕ × Item)) → IsRising (numbers_of sorted)
+pub Rises-sorted : (sorted came : List (ℕ × Item)) → IsRising (numbers_of sorted)
     → has_number (numbers_of came) 0 ≡ false → IsRising (numbers_of (sorted_onto sorted came))
 Rises-sorted sorted [] r h = r
 Rises-sorted sorted (m ∷ came) r h =
@@ -143,41 +143,48 @@ without_gap-whole_by [] ms h = absurd (cc)
 without_gap-whole_by (n ∷ ns) ms h = without_gap-whole n ms h
 
 -- the inbox under each behaviour
-inbox_of-prefix : (b : Behaviour) (ns : List ℕ) (ms : List (ℕ × Item))
-    → (inbox_of b ns ms ≡ without_gap 0 ms) ⊎ (inbox_of b ns ms ≡ [])
-inbox_of-prefix NoDiscard ns ms = inl refl
-inbox_of-prefix FollowingFirstGap ns ms = inl refl
-inbox_of-prefix EntireSequence ns ms =
-    elim (is_whole_by ns ms) as (λ (t : Bool). is_whole_by ns ms ≡ t
-    → (cond t (contents_of ms) [] ≡ without_gap 0 ms) ⊎ (cond t (contents_of ms) [] ≡ [])) [
-      | true ↦ λ h. inl (without_gap-whole_by ns ms h)
+inbox_of-prefix : (b : Behaviour) (ns : List ℕ) (ms : List (ℕ × Item)) → is_loose b ≡ false
+    → (inbox_of b ns ms ≡ without_gap 0 (by_number ms)) ⊎ (inbox_of b ns ms ≡ [])
+inbox_of-prefix NoDiscard ns ms ordered = absurd (cc)
+inbox_of-prefix FollowingFirstGap ns ms ordered = inl refl
+inbox_of-prefix EntireSequence ns ms ordered =
+    elim (is_whole_by ns (by_number ms)) as (λ (t : Bool). is_whole_by ns (by_number ms) ≡ t
+    → (cond t (contents_of (by_number ms)) [] ≡ without_gap 0 (by_number ms))
+    ⊎ (cond t (contents_of (by_number ms)) [] ≡ [])) [
+      | true ↦ λ h. inl (without_gap-whole_by ns (by_number ms) h)
       | false ↦ λ _. inr refl
     ] refl
 
 -- under DiscardEntireSequence
 inbox_of-entire : (b : Behaviour) (ns : List ℕ) (ms : List (ℕ × Item)) → b ≡ EntireSequence
-    → (inbox_of b ns ms ≡ contents_of ms) ⊎ (inbox_of b ns ms ≡ [])
+    → (inbox_of b ns ms ≡ contents_of (by_number ms)) ⊎ (inbox_of b ns ms ≡ [])
 inbox_of-entire NoDiscard ns ms e = absurd (cc)
 inbox_of-entire FollowingFirstGap ns ms e = absurd (cc)
 inbox_of-entire EntireSequence ns ms e =
-    elim (is_whole_by ns ms) as (λ (t : Bool).
-    (cond t (contents_of ms) [] ≡ contents_of ms) ⊎ (cond t (contents_of ms) [] ≡ [])) [
+    elim (is_whole_by ns (by_number ms)) as (λ (t : Bool).
+    (cond t (contents_of (by_number ms)) [] ≡ contents_of (by_number ms))
+    ⊎ (cond t (contents_of (by_number ms)) [] ≡ [])) [
       | true ↦ inl refl
       | false ↦ inr refl
     ]
 
--- the inbox is what came up to the first gap, or nothing
-pub inbox-prefix : (f : Receiving) → InboxIsAPrefix f
-inbox-prefix f = record {
-  prefix = inbox_of-prefix f.behaviour f.told (by_number (items f));
-  entire = λ e. inbox_of-entire f.behaviour f.told (by_number (items f)) e;
+-- the inbox of an ordered sequence is what came up to the first gap, or nothing
+pub inbox-prefix : (f : Receiving) → is_loose f.behaviour ≡ false → InboxIsAPrefix f
+inbox-prefix f ordered = record {
+  prefix = inbox_of-prefix f.behaviour f.told (items f) ordered;
+  entire = λ e. inbox_of-entire f.behaviour f.told (items f) e;
 }
 
--- the inbox and what is discarded are all
-pub inbox-discarded : (f : Receiving) → is_stopped f.closes ≡ true
+-- its inbox and what is discarded are all
+pub inbox-discarded : (f : Receiving) → is_loose f.behaviour ≡ false → is_stopped f.closes ≡ true
     → inbox f ++ discarded f ≡ contents_of (by_number (items f))
-inbox-discarded f h =
+inbox-discarded f ordered h =
     let all = contents_of (by_number (items f)) in
     let k = length (inbox f) in
-    let part : inbox f ++ drop k all ≡ take k all ++ drop k all = ap (λ xs. xs ++ drop k all) (inbox-take f) in
+    let part : inbox f ++ drop k all ≡ take k all ++ drop k all =
+    ap (λ xs. xs ++ drop k all) (inbox-take f ordered) in
     rw h (part ∙ take-append-drop k all)
+
+-- a loose sequence releases all that came
+pub loose-releases : (f : Receiving) → is_loose f.behaviour ≡ true → LooseReleasesAll f
+loose-releases f loose = record { inbox_ = inbox-loose f loose; discarded_ = discarded-loose f loose }

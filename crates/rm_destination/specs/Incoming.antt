@@ -1,12 +1,13 @@
 -- The destination's side of one sequence: WS-ReliableMessaging 1.2, sections 2.4, 3.4 to 3.7 and 3.9.
 use Rattle.std.specs.Prelude.{◌≡◌, ℕ, ◌+◌, ◌-◌, max, ◌==◌, ◌&&◌, ◌||◌, not, nat_le, nat_lt, Bool, false, if◌then◌else◌}
-use Rattle.std.specs.Prelude.{List, [], ◌∷◌, ◌++◌, length, drop, Option, Some, None, unwrap_or, Result, Ok, Err}
+use Rattle.std.specs.Prelude.{true, List, [], ◌∷◌, ◌++◌, length, take, drop, Option, Some, None, unwrap_or, Result, Ok}
+use Rattle.std.specs.Prelude.{Err}
 use Rattle.ack_ranges.specs.declared.range.Range.{Range}
 use Rattle.ack_ranges.specs.Ranges.{count_of}
 use Rattle.rm_base.specs.Limits as limits
 use Rattle.rm_base.specs.NumberSet.{has_number, greatest_of}
 use Rattle.rm_base.specs.declared.message.Behaviour.{Behaviour}
-use Rattle.rm_base.specs.declared.message.Behaviour.TheVariants.{EntireSequence}
+use Rattle.rm_base.specs.declared.message.Behaviour.TheVariants.{EntireSequence, FollowingFirstGap, NoDiscard}
 use Rattle.rm_base.specs.declared.message.Cause.{Cause}
 use Rattle.rm_base.specs.declared.message.Cause.TheVariants.{Peer}
 use Rattle.rm_base.specs.declared.message.Payload.{Payload}
@@ -18,7 +19,7 @@ use Rattle.rm_destination.specs.declared.outcome.InPhase.TheVariants.{Open, Clos
 use Rattle.rm_destination.specs.declared.outcome.Took.{Took}
 use Rattle.rm_destination.specs.declared.outcome.Took.TheVariants.{New, Duplicate, PastWindow}
 use Rattle.rm_destination.specs.Messages.{Item, is_empty, any_true, by_number, without_gap, numbers_of, contents_of}
-use Rattle.rm_destination.specs.Messages.{above, front_of, items_of, run_to}
+use Rattle.rm_destination.specs.Messages.{front_of, items_of, ranges_onto, without}
 
 -- what is known: what was announced for incomplete sequences; the moment at which it expires, in milliseconds since
 -- 1970 UTC; the numbers of the messages that were received and are gone; the messages that were received and aren't, in
@@ -138,11 +139,18 @@ abbrev pub is_whole_by : {A : Type 0} → List ℕ → List (ℕ × A) → Bool
 is_whole_by [] ms = false
 is_whole_by (n ∷ ns) ms = is_whole n ms
 
--- IncompleteSequenceBehavior: section 3.4. DiscardEntireSequence: all messages of a complete sequence, else none.
--- Otherwise those up to the first gap
+-- a sequence of this behaviour is loose: it releases its messages as they come
+abbrev pub is_loose : Behaviour → Bool
+is_loose NoDiscard = true
+is_loose EntireSequence = false
+is_loose FollowingFirstGap = false
+
+-- IncompleteSequenceBehavior: section 3.4. DiscardFollowingFirstGap: of the messages that came, those up to the first
+-- gap. DiscardEntireSequence: all messages of a complete sequence, else none. NoDiscard: all, as they came
 abbrev pub inbox_of : {A : Type 0} → Behaviour → List ℕ → List (ℕ × A) → List A
-inbox_of EntireSequence ns ms = if is_whole_by ns ms then contents_of ms else []
-inbox_of _ ns ms = without_gap 0 ms
+inbox_of FollowingFirstGap ns ms = without_gap 0 (by_number ms)
+inbox_of EntireSequence ns ms = if is_whole_by ns (by_number ms) then contents_of (by_number ms) else []
+inbox_of NoDiscard ns ms = contents_of ms
 
 -- of the messages, what is not in the inbox, once the sequence was closed or ended, but by its deadline
 abbrev pub discarded_of : {A : Type 0} → List Bool → List A → List (ℕ × A) → List A
@@ -150,7 +158,7 @@ discarded_of closes inbox ms = if is_stopped closes then drop (length inbox) (co
 
 -- what is released to the application
 abbrev pub inbox : Receiving → List Item
-inbox f = inbox_of f.behaviour f.told (by_number (items f))
+inbox f = inbox_of f.behaviour f.told (items f)
 
 -- of what was received, what is never released
 abbrev pub discarded : Receiving → List Item
@@ -171,8 +179,21 @@ with_purged s ranges = record s {
   facts = record s.facts { purged = s.facts.purged ++ ranges; cursor = max s.facts.cursor (count_of ranges) };
 }
 
--- the payloads that the application consumed are gone too, where the inbox has as many items
-abbrev pub forgotten : Receiving → Receiving
-forgotten f =
+-- the numbers of the first c items of an inbox: of a loose one those that were held first, of another one 1 to c
+abbrev pub first_numbers : Bool → List ℕ → ℕ → List Range
+first_numbers true ns c = ranges_onto [] (take c ns)
+first_numbers false ns c = record { lower = 1; upper = c } ∷ []
+
+-- the numbers of the items that the application consumed, where the inbox has as many
+abbrev pub passed : Receiving → List Range
+passed f =
     if nat_lt 0 f.cursor && nat_le f.cursor (length (inbox f))
-    then record f { purged = run_to f.cursor; received = above f.cursor f.received } else f
+    then first_numbers (is_loose f.behaviour) (held f) f.cursor else []
+
+-- the payloads of these are gone
+abbrev pub without_passed : Receiving → Receiving
+without_passed f = record f { purged = passed f; received = without (passed f) f.received }
+
+-- the payloads that the application consumed are gone too, where there are some and the inbox has as many items
+abbrev pub forgotten : Receiving → Receiving
+forgotten f = if is_empty (passed f) then f else without_passed f

@@ -1,12 +1,14 @@
 -- All that was received, where the messages 1 to g are gone and the others came behind them.
 use Rattle.std.proofs.Common.{◌≡◌, ℕ, zero, suc, ◌+◌, ◌-◌, ◌<◌, ◌≤◌, false, ◌==◌, ◌||◌, List, [], ◌∷◌, ◌++◌}
 use Rattle.std.proofs.Common.{cond, length, min, max, refl, sym, ap, subst, ◌∙◌, arith, inl, inr, Some, None}
+use Rattle.std.proofs.lemmas.List.Sums.{sum_by-cons}
 use Rattle.std.proofs.lemmas.Bool.{cases_Bool}
 use Rattle.std.specs.Prelude.{◌&&◌, nat_le, nat_lt, slice_get}
 use Rattle.std.proofs.lemmas.Bool.Decides.{nat_tests}
-use Rattle.std.proofs.lemmas.List.{append-nil}
+use Rattle.std.proofs.lemmas.List.{append-nil, append_assoc, length-append}
 use Rattle.ack_ranges.specs.Changes.{with_range}
-use Rattle.ack_ranges.specs.Ranges.{in_ranges, count_of}
+use Rattle.ack_ranges.specs.declared.range.Range.{Range}
+use Rattle.ack_ranges.specs.Ranges.{in_range, in_ranges, is_between, count_of, size_of}
 use Rattle.rm_base.specs.NumberSet.{IsRising, Rises, has_number}
 use Rattle.rm_base.specs.NumberSetLemmas.{has_number-below, lt-or-le}
 use Rattle.rm_base.specs.declared.message.Payload.{Payload}
@@ -66,6 +68,45 @@ has_number-gone (x ∷ ns) ms n =
     let rest : has_number (numbers_of (gone_items ns ++ ms)) n ≡ (has_number ns n || has_number (numbers_of ms) n) =
     has_number-gone ns ms n in
     grind (arith, nat_tests, rest)
+
+-- the numbers of lists that are joined
+pub has-more : (xs ys : List ℕ) (n : ℕ) → has_number (xs ++ ys) n ≡ (has_number xs n || has_number ys n)
+has-more [] ys n = refl
+has-more (x ∷ xs) ys n =
+    let rest : has_number (xs ++ ys) n ≡ (has_number xs n || has_number ys n) = has-more xs ys n in
+    grind (arith, nat_tests, rest)
+
+-- the numbers of ranges, one by one
+pub numbers-in : (ps : List Range) (n : ℕ) → has_number (numbers_in ps) n ≡ in_ranges ps n
+numbers-in [] n = refl
+numbers-in (x ∷ ps) n = has-more (run_of x.lower (size_of x)) (numbers_in ps) n
+    ∙ ap (λ b. b || has_number (numbers_in ps) n) (one x.lower x.upper)
+    ∙ ap (λ b. in_range x n || b) (numbers-in ps n)
+  where
+    one : (lower upper : ℕ) → has_number (run_of lower (upper + 1 - lower)) n ≡ is_between lower upper n
+    one lower upper =
+        let all = has_number-run lower (upper + 1 - lower) n in
+        grind (arith, nat_tests, all)
+
+-- the numbers of all that was received
+pub has_number-held : (ps : List Range) (ms : List (ℕ × Payload)) (n : ℕ)
+    → has_number (numbers_of (items_of ps ms)) n ≡ (in_ranges ps n || has_number (numbers_of ms) n)
+has_number-held ps ms n =
+    has_number-gone (numbers_in ps) (there_items ms) n
+    ∙ ap (λ b. b || has_number (numbers_of (there_items ms)) n) (numbers-in ps n)
+    ∙ ap (λ ns. in_ranges ps n || has_number ns n) (numbers_of-there ms)
+
+-- one message more comes last
+pub there_items-push : (ms : List (ℕ × Payload)) (m : ℕ × Payload)
+    → there_items (ms ++ m ∷ []) ≡ there_items ms ++ (m.0, Some m.1) ∷ []
+there_items-push [] m = refl
+there_items-push (x ∷ ms) m = ap (λ xs. (x.0, Some x.1) ∷ xs) (there_items-push ms m)
+
+pub items_of-push : (ps : List Range) (ms : List (ℕ × Payload)) (m : ℕ × Payload)
+    → items_of ps (ms ++ m ∷ []) ≡ items_of ps ms ++ (m.0, Some m.1) ∷ []
+items_of-push ps ms m =
+    ap (λ xs. gone_items (numbers_in ps) ++ xs) (there_items-push ms m)
+    ∙ sym (append_assoc (gone_items (numbers_in ps)) (there_items ms) ((m.0, Some m.1) ∷ []))
 
 -- all that was received has the numbers of what is gone and of what is there
 pub numbers_of-items : (g : ℕ) (ms : List (ℕ × Payload))
@@ -139,35 +180,69 @@ Rises-items g came rising =
     (Rises-run 0 g (numbers_of (by_number came)) (subst (λ n. Rises n (numbers_of (by_number came))) (sym same) rising))
 
 -- how many they are
-pub length-both : (lower k : ℕ) (ms : List (ℕ × Payload))
-    → length (gone_items (run_of lower k) ++ there_items ms) ≡ k + length ms
-length-both lower zero [] = refl
-length-both lower zero (m ∷ ms) = let rest = length-both lower zero ms in omega (arith, rest)
-length-both lower (suc k) ms = let rest = length-both (lower + 1) k ms in omega (arith, rest)
+pub length-run : (lower k : ℕ) → length (run_of lower k) ≡ k
+length-run lower zero = refl
+length-run lower (suc k) = ap (λ n. suc n) (length-run (lower + 1) k)
+
+pub length-numbers_in : (ps : List Range) → length (numbers_in ps) ≡ count_of ps
+length-numbers_in [] = refl
+length-numbers_in (x ∷ ps) =
+    let size : length (run_of x.lower (size_of x)) ≡ size_of x = length-run x.lower (size_of x) in
+    let both = length-append (run_of x.lower (size_of x)) (numbers_in ps) in
+    let rest = length-numbers_in ps in
+    let all : count_of (x ∷ ps) ≡ size_of x + count_of ps = sum_by-cons size_of x ps in
+    omega (arith, size, both, rest, all)
+
+pub length-both : (ns : List ℕ) (ms : List (ℕ × Payload))
+    → length (gone_items ns ++ there_items ms) ≡ length ns + length ms
+length-both [] [] = refl
+length-both [] (m ∷ ms) = let rest = length-both [] ms in omega (arith, rest)
+length-both (n ∷ ns) ms = let rest = length-both ns ms in omega (arith, rest)
+
+pub length-items_of : (ps : List Range) (ms : List (ℕ × Payload)) → length (items_of ps ms) ≡ count_of ps + length ms
+length-items_of ps ms = omega (arith, length-both (numbers_in ps) ms, length-numbers_in ps)
 
 pub length-items : (g : ℕ) (came : List (ℕ × Payload)) → Rises g (numbers_of (by_number came))
     → length (by_number (items_of (run_to g) came)) ≡ g + length (by_number came)
-length-items g came rising = ap length (by_number-items g came rising) ∙ length-both 1 g (by_number came)
+length-items g came rising =
+    let all = ap length (by_number-items g came rising) in
+    omega (arith, all, length-both (run_of 1 g) (by_number came), length-run 1 g)
 
--- what stands at a place of a run is gone
-at-gone : (lower k : ℕ) (ms : List (ℕ × Payload)) (j : ℕ) → j < k
-    → payload_in (slice_get (contents_of (gone_items (run_of lower k) ++ there_items ms)) j) ≡ None
-at-gone lower zero ms j lt = absurd (omega arith)
-at-gone lower (suc k) ms zero lt = refl
-at-gone lower (suc k) ms (suc j) lt = at-gone (lower + 1) k ms j (omega arith)
+-- what stands at a place of the gone ones is gone
+at-gone : (ns : List ℕ) (ms : List (ℕ × Payload)) (j : ℕ) → j < length ns
+    → payload_in (slice_get (contents_of (gone_items ns ++ there_items ms)) j) ≡ None
+at-gone [] ms j lt = absurd (omega arith)
+at-gone (n ∷ ns) ms zero lt = refl
+at-gone (n ∷ ns) ms (suc j) lt = at-gone ns ms j (omega (arith, lt))
 
--- and behind it the others stand
-at-there : (lower k : ℕ) (ms : List (ℕ × Payload)) (j : ℕ)
-    → payload_in (slice_get (contents_of (gone_items (run_of lower k) ++ there_items ms)) (k + j))
+-- and behind them the others stand
+at-there : (ns : List ℕ) (ms : List (ℕ × Payload)) (j : ℕ)
+    → payload_in (slice_get (contents_of (gone_items ns ++ there_items ms)) (length ns + j))
     ≡ slice_get (contents_of ms) j
-at-there lower zero [] j = refl
-at-there lower zero (m ∷ ms) zero = refl
-at-there lower zero (m ∷ ms) (suc j) =
+at-there [] [] j = refl
+at-there [] (m ∷ ms) zero = refl
+at-there [] (m ∷ ms) (suc j) =
     let same : 0 + suc j ≡ suc (0 + j) = omega arith in
-    rw same (at-there lower zero ms j)
-at-there lower (suc k) ms j =
-    let same : suc k + j ≡ suc (k + j) = omega arith in
-    rw same (at-there (lower + 1) k ms j)
+    rw same (at-there [] ms j)
+at-there (n ∷ ns) ms j =
+    let same : suc (length ns) + j ≡ suc (length ns + j) = omega arith in
+    rw same (at-there ns ms j)
+
+-- the payload at a place of all that was received, as it came
+pub item_at-earliest : (ps : List Range) (ms : List (ℕ × Payload)) (i : ℕ) → i ≤ count_of ps
+    → item_at (contents_of (items_of ps ms)) i ≡ None
+item_at-earliest ps ms zero le = refl
+item_at-earliest ps ms (suc i) le =
+    let off : (suc i == 0) ≡ false = grind (arith, nat_tests) in
+    let place : suc i - 1 ≡ i = omega arith in
+    rw (off, place) (at-gone (numbers_in ps) ms i (omega (arith, le, length-numbers_in ps)))
+
+pub item_at-later : (ps : List Range) (ms : List (ℕ × Payload)) (i : ℕ) → count_of ps < i
+    → item_at (contents_of (items_of ps ms)) i ≡ slice_get (contents_of ms) (i - count_of ps - 1)
+item_at-later ps ms i lt =
+    let off : (i == 0) ≡ false = grind (arith, nat_tests) in
+    let place : i - 1 ≡ length (numbers_in ps) + (i - count_of ps - 1) = omega (arith, lt, length-numbers_in ps) in
+    rw (off, place) (at-there (numbers_in ps) ms (i - count_of ps - 1))
 
 -- the payload at a place of all that was received, by number
 pub item_at-gone : (g : ℕ) (came : List (ℕ × Payload)) (i : ℕ) → Rises g (numbers_of (by_number came)) → i ≤ g
@@ -177,16 +252,16 @@ item_at-gone g came (suc i) rising le =
     let off : (suc i == 0) ≡ false = grind (arith, nat_tests) in
     let place : suc i - 1 ≡ i = omega arith in
     ap (λ ms. item_at (contents_of ms) (suc i)) (by_number-items g came rising)
-    ∙ rw (off, place) (at-gone 1 g (by_number came) i (omega arith))
+    ∙ rw (off, place) (at-gone (run_of 1 g) (by_number came) i (omega (arith, le, length-run 1 g)))
 
 pub item_at-there : (g : ℕ) (came : List (ℕ × Payload)) (i : ℕ) → Rises g (numbers_of (by_number came)) → g < i
     → item_at (contents_of (by_number (items_of (run_to g) came))) i
     ≡ slice_get (contents_of (by_number came)) (i - g - 1)
 item_at-there g came i rising lt =
     let off : (i == 0) ≡ false = grind (arith, nat_tests) in
-    let place : i - 1 ≡ g + (i - g - 1) = omega arith in
+    let place : i - 1 ≡ length (run_of 1 g) + (i - g - 1) = omega (arith, lt, length-run 1 g) in
     ap (λ ms. item_at (contents_of ms) i) (by_number-items g came rising)
-    ∙ rw (off, place) (at-there 1 g (by_number came) (i - g - 1))
+    ∙ rw (off, place) (at-there (run_of 1 g) (by_number came) (i - g - 1))
 
 -- the ranges of a run, number by number
 ranges_onto-run : (g k : ℕ) → 0 < g → ranges_onto (record { lower = 1; upper = g } ∷ []) (run_of (g + 1) k)

@@ -1,10 +1,11 @@
 -- What an incoming sequence keeps, beside what it is seen as.
-use Rattle.std.specs.Prelude.{◌≡◌, ◌<◌, ◌≤◌, ℕ, Bool, true, false, List, [], ◌∷◌, ◌++◌, length, map, if◌then◌else◌}
+use Rattle.std.specs.Prelude.{◌≡◌, ◌+◌, ◌<◌, ◌≤◌, ℕ, Bool, true, false, List, [], ◌∷◌, ◌++◌, length, map, if◌then◌else◌}
 use Rattle.std.specs.Prelude.{slice_get, slice_index_or, Option, Some, None}
 use Rattle.rm_base.specs.declared.message.Payload.{Payload}
 use Rattle.rm_base.specs.Message.{max_number}
 use Rattle.rm_base.specs.NumberSet.{IsRising, Rises, has_number}
-use Rattle.ack_ranges.specs.Ranges.{Contents, in_ranges}
+use Rattle.ack_ranges.specs.declared.range.Range.{Range}
+use Rattle.ack_ranges.specs.Ranges.{Contents, count_of, in_ranges}
 use Rattle.rm_destination.specs.declared.arrivals.Place.{Place}
 use Rattle.rm_destination.specs.declared.incoming.Stop.{Stop}
 use Rattle.rm_destination.specs.Incoming.{told_by, is_whole_by}
@@ -37,20 +38,39 @@ pub record GoesAt (numbers : List ℕ) (n place : ℕ) : Type 0 where
   pub below : (k : ℕ) → k < place → slice_index_or numbers k 0 < n
   pub above : (k : ℕ) → place ≤ k → k < length numbers → n ≤ slice_index_or numbers k 0
 
--- the numbers of all that was received, where the messages 1 to gone are gone
-abbrev pub held_by : ℕ → List (ℕ × Payload) → List ℕ
-held_by gone came = numbers_of (items_of (run_to gone) came)
+-- the numbers of all that was received, of which some are gone
+abbrev pub held_by : List Range → List (ℕ × Payload) → List ℕ
+held_by purged came = numbers_of (items_of purged came)
 
--- the messages that are there come behind those that are gone, which were consumed; the set has the numbers of all; and
--- there is the room that was asked for and not used
-pub record IsKept (gone cursor : ℕ) (came : Came) (numbers : Contents) (room : ℕ) : Type 0 where
+-- the numbers of what is gone: of a loose sequence a set, of another one 1 to some number
+abbrev pub gone_by : Bool → ℕ → List Range → List Range
+gone_by loose gone purged = if loose then purged else run_to gone
+
+-- of an ordered sequence, the messages that are there come behind those that are gone, which were consumed
+pub record IsBehind (gone cursor : ℕ) (came : Came) : Type 0 where
   pub few : gone ≤ max_number
   pub consumed : gone ≤ cursor
   pub rising : Rises gone (numbers_of (by_number came.messages))
+
+-- of a loose sequence, what is gone was consumed, and its set has room for each message that is there or to come
+pub record IsLoose (purged : Contents) (cursor : ℕ) (came : Came) (room : ℕ) : Type 0 where
+  pub consumed : count_of purged.ranges ≤ cursor
+  pub fits : length came.messages + room ≤ purged.spare
+
+-- the set has the numbers of all that was received, and there is the room that was asked for and not used
+pub record IsAll (gone : List Range) (came : Came) (numbers : Contents) (room : ℕ) : Type 0 where
+  pub rising : IsRising (numbers_of (by_number (items_of gone came.messages)))
   pub ranges : numbers.ranges ≡ ranges_onto [] (held_by gone came.messages)
   pub same : (n : ℕ) → in_ranges numbers.ranges n ≡ has_number (held_by gone came.messages) n
   pub messages_fit : room ≤ came.spare
   pub numbers_fit : room ≤ numbers.spare
+
+-- what a sequence keeps
+pub record IsKept (loose : Bool) (gone : ℕ) (purged : Contents) (cursor : ℕ) (came : Came) (numbers : Contents)
+    (room : ℕ) : Type 0 where
+  pub behind : loose ≡ false → IsBehind gone cursor came
+  pub set : loose ≡ true → IsLoose purged cursor came room
+  pub all : IsAll (gone_by loose gone purged.ranges) came numbers room
 
 -- it was closed and it was ended, or not
 abbrev pub closes_of : Option Stop → Option Stop → List Bool

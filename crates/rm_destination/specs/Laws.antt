@@ -3,7 +3,7 @@ use Rattle.std.specs.Prelude.{◌≡◌, ℕ, ◌+◌, ◌<◌, ◌≤◌, ◌�
 use Rattle.rm_base.specs.NumberSet.{has_number}
 use Rattle.rm_base.specs.Numbered.{numbered}
 use Rattle.rm_base.specs.declared.message.Behaviour.TheVariants.{EntireSequence}
-use Rattle.rm_destination.specs.Incoming.{Receiving, items, is_stopped, inbox, discarded}
+use Rattle.rm_destination.specs.Incoming.{Receiving, items, is_loose, is_stopped, inbox, discarded}
 use Rattle.rm_destination.specs.Messages.{Item, by_number, without_gap, numbers_of, contents_of, front_of}
 
 -- each number from 1 to m is among the numbers, and the next one is not
@@ -22,13 +22,20 @@ PlaceIsNumber =
     (came : List (ℕ × Item)) (i : ℕ) (p : Item) → numbered (without_gap 0 (by_number came)) i ≡ Some p →
     Contains came (i, p)
 
--- the inbox is what came up to the first gap, or nothing; under DiscardEntireSequence it is all that came, or nothing
+-- the inbox of an ordered sequence is what came up to the first gap, or nothing; under DiscardEntireSequence it is all
+-- that came, or nothing
 pub record InboxIsAPrefix (f : Receiving) : Type 0 where
   pub prefix : (inbox f ≡ without_gap 0 (by_number (items f))) ⊎ (inbox f ≡ [])
   pub entire : f.behaviour ≡ EntireSequence →
       (inbox f ≡ contents_of (by_number (items f))) ⊎ (inbox f ≡ [])
 
--- once the sequence was closed or ended, all that came is in the inbox or discarded
+-- once an ordered sequence was closed or ended, all that came is in the inbox or discarded
 abbrev pub NothingIsLost : Type 0
 NothingIsLost =
-    (f : Receiving) → is_stopped f.closes ≡ true → inbox f ++ discarded f ≡ contents_of (by_number (items f))
+    (f : Receiving) → is_loose f.behaviour ≡ false → is_stopped f.closes ≡ true →
+    inbox f ++ discarded f ≡ contents_of (by_number (items f))
+
+-- a loose sequence releases all that came, in the order in which it came, and discards nothing
+pub record LooseReleasesAll (f : Receiving) : Type 0 where
+  pub inbox_ : inbox f ≡ contents_of (items f)
+  pub discarded_ : discarded f ≡ []

@@ -3,5 +3,6 @@ pub mod Incoming
 pub mod ItemLemmas
 pub mod Kept
 pub mod Laws
+pub mod LooseLemmas
 pub mod MessageLemmas
 pub mod Messages

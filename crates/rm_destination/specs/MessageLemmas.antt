@@ -8,7 +8,7 @@ use Rattle.ack_ranges.specs.Changes.{with_range}
 use Rattle.rm_base.specs.NumberSet.{has_number, with_number, front_after}
 use Rattle.rm_base.specs.NumberSetLemmas.{has_number-with}
 use Rattle.rm_destination.specs.Messages.{with_message, sorted_onto, by_number, without_gap, numbers_of, contents_of}
-use Rattle.rm_destination.specs.Messages.{ranges_onto}
+use Rattle.rm_destination.specs.Messages.{AreOnce, ranges_onto}
 
 -- the message that came last is put in last
 pub sorted_onto-push : {A : Type 0} → (sorted came : List (ℕ × A)) (m : ℕ × A)
@@ -92,3 +92,22 @@ without_gap-take n (m ∷ ms) =
       | true ↦ ap (λ xs. m.1 ∷ xs) rest
       | false ↦ refl
     ]
+
+-- a number more at the end
+pub has_number-push : (xs : List ℕ) (n k : ℕ) → has_number (xs ++ n ∷ []) k ≡ (has_number xs k || (k == n))
+has_number-push [] n k = grind (arith, nat_tests)
+has_number-push (x ∷ xs) n k =
+    let rest : has_number (xs ++ n ∷ []) k ≡ (has_number xs k || (k == n)) = has_number-push xs n k in
+    grind (arith, nat_tests, rest)
+
+-- one more with a new number
+pub once-more : {A : Type 0} → (ms : List (ℕ × A)) (n : ℕ) (p : A) → AreOnce ms → has_number (numbers_of ms) n ≡ false
+    → AreOnce (ms ++ (n, p) ∷ [])
+once-more [] n p once new = (refl, tt)
+once-more (m ∷ ms) n p once new =
+    let rest : has_number (numbers_of ms) n ≡ false = grind (arith, nat_tests, new) in
+    let pushed : numbers_of (ms ++ (n, p) ∷ []) ≡ numbers_of ms ++ n ∷ [] = numbers_of-push ms (n, p) in
+    let here : has_number (numbers_of ms) m.0 ≡ false = once.0 in
+    let more : has_number (numbers_of ms ++ n ∷ []) m.0 ≡ (has_number (numbers_of ms) m.0 || (m.0 == n)) =
+    has_number-push (numbers_of ms) n m.0 in
+    (rw pushed (grind (arith, nat_tests, new, here, more)), once-more ms n p once.1 rest)

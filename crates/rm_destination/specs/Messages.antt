@@ -1,10 +1,10 @@
 -- Messages with their numbers, in the order in which they came and by number.
 use Rattle.std.specs.Prelude.{◌≡◌, ℕ, zero, suc, ◌+◌, ◌==◌, nat_lt, Bool, true, false, ◌||◌, if◌then◌else◌, List, []}
-use Rattle.std.specs.Prelude.{◌∷◌, ◌++◌, filter, length, map, Option, Some, None}
+use Rattle.std.specs.Prelude.{◌∷◌, ◌++◌, cond, filter, length, map, Option, Some, None}
 use Rattle.rm_base.specs.NumberSet.{has_number}
 use Rattle.ack_ranges.specs.declared.range.Range.{Range}
 use Rattle.ack_ranges.specs.Changes.{with_range}
-use Rattle.ack_ranges.specs.Ranges.{size_of}
+use Rattle.ack_ranges.specs.Ranges.{in_ranges, size_of}
 use Rattle.rm_base.specs.Numbered.{numbered}
 use Rattle.rm_base.specs.declared.message.Payload.{Payload}
 
@@ -101,6 +101,11 @@ item_at items i = payload_in (numbered items i)
 -- of messages, those with a number above n
 abbrev pub above : {A : Type 0} → ℕ → List (ℕ × A) → List (ℕ × A)
 above {A} n ms = filter (λ (m : ℕ × A). nat_lt n m.0) ms
+
+-- of messages, those whose number is in none of the ranges
+abbrev pub without : {A : Type 0} → List Range → List (ℕ × A) → List (ℕ × A)
+without ps [] = []
+without ps (m ∷ ms) = cond (in_ranges ps m.0) (without ps ms) (m ∷ without ps ms)
 
 -- no two messages have one number
 abbrev pub AreOnce : {A : Type 0} → List (ℕ × A) → Type 0

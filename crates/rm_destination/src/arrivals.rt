@@ -1,12 +1,13 @@
 //! The messages of a sequence in the order in which they came, with their places by number.
-ghost use Rattle.std.specs.Prelude.{◌≡◌, ◌+◌, ◌<◌, ◌≤◌, [], ◌∷◌, ◌++◌, false, length, slice_get, vec_capacity, IsOk};
-ghost use Rattle.std.specs.Prelude.{OnOk, OnErr};
+ghost use Rattle.std.specs.Prelude.{◌≡◌, ◌+◌, ◌<◌, ◌≤◌, [], ◌∷◌, ◌++◌, false, length, take, slice_get};
+ghost use Rattle.std.specs.Prelude.{IsOk, OnOk, OnErr, vec_capacity};
 ghost use Rattle.std.specs.Option.{option_copied};
 ghost use Rattle.rm_base.specs.Message.{max_number};
 ghost use Rattle.rm_base.specs.NumberSet.{IsRising, has_number};
-ghost use Rattle.rm_destination.specs.Messages.{AreOnce, above, by_number, numbers_of, contents_of};
+ghost use Rattle.rm_destination.specs.Messages.{AreOnce, above, by_number, numbers_of, contents_of, without};
 ghost use Rattle.rm_destination.specs.Kept.{numbers_at, GoesAt, IsSorting};
 
+use ack_ranges::RangeSet;
 use rm_base::{Memory, Payload};
 use std::alloc::Global;
 use std::marker::Model;
@@ -75,6 +76,39 @@ impl Arrivals {
         Some(&self.came[self.places[i].at].1)
     }
 
+    /// How many messages there are. Memory holds fewer than there are message numbers.
+    pub fn count(&self) -> usize
+        ensures count { result ≡ length self.now.messages }
+        ensures few { result < max_number }
+    {
+        self.came.as_slice().len()
+    }
+
+    /// What the message at a place in the order in which they came carries, counted from 0.
+    pub fn came_at(&self, i: usize) -> Option<&Payload>
+        ensures { option_copied result ≡ slice_get (contents_of self.now.messages) i }
+    {
+        if i >= self.came.len() {
+            return None;
+        }
+        Some(&self.came[i].1)
+    }
+
+    /// Whether a number is that of one of so many messages that came first.
+    pub fn is_early(&self, number: u64, count: usize) -> bool
+        ensures { result ≡ has_number (numbers_of (take count self.now.messages)) number }
+    {
+        let here = place_of(&self.places, number);
+        if here >= self.places.len() {
+            return false;
+        }
+        let found = self.places[here];
+        if found.number != number {
+            return false;
+        }
+        found.at < count
+    }
+
     /// Adds a message with a new number. Where there is room for one, it takes no memory. It moves the places of
     /// greater numbers alone, of which a window has few.
     pub fn add(&mut self, number: u64, payload: Payload) -> Result<(), Memory>
@@ -103,6 +137,15 @@ impl Arrivals {
         ensures { self.new.messages ≡ above upto self.old.messages }
     {
         self.came.retain(|message| upto < message.0);
+        self.places.clear();
+        place_all(self.came.as_slice(), &mut self.places);
+    }
+
+    /// Gives up the messages with these numbers. It takes no memory.
+    pub fn forget_all(&mut self, gone: &RangeSet)
+        ensures { self.new.messages ≡ without gone.now.ranges self.old.messages }
+    {
+        self.came.retain(|message| !gone.has(message.0));
         self.places.clear();
         place_all(self.came.as_slice(), &mut self.places);
     }

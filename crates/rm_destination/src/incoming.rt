@@ -1,17 +1,21 @@
 //! The destination's side of one sequence.
-ghost use Rattle.std.specs.Prelude.{◌≡◌, ◌+◌, ◌^◌, ◌≤◌, ◌<◌, [], None, true, false, not, length, ℕ, Result, Ok, Err};
+ghost use Rattle.std.specs.Prelude.{◌≡◌, ◌+◌, ◌^◌, ◌≤◌, ◌<◌, [], None, true, false, not, length, take, ℕ, Result, Ok};
+ghost use Rattle.std.specs.Prelude.{Err};
 ghost use Rattle.std.specs.Prelude.{IfOk, IfErr, IsOk, OnOk, OnErr, MatchBool, slice_get};
 ghost use Rattle.std.specs.Option.{option_copied};
-ghost use Rattle.ack_ranges.specs.Ranges.{in_ranges, greatest_of};
+ghost use Rattle.ack_ranges.specs.Changes.{united};
+ghost use Rattle.ack_ranges.specs.Ranges.{in_ranges, greatest_of, count_of};
 ghost use Rattle.rm_base.specs.Message.{max_number};
 ghost use Rattle.rm_base.specs.NumberSet.{has_number};
 ghost use Rattle.rm_destination.specs.Messages.{is_empty, any_true, by_number, contents_of, front_of, ranges_onto};
-ghost use Rattle.rm_destination.specs.Messages.{run_to, item_at};
+ghost use Rattle.rm_destination.specs.Messages.{numbers_of, run_to, item_at};
+ghost use Rattle.rm_destination.specs.LooseLemmas.{AreMessageNumbers};
 ghost use Rattle.rm_destination.specs.Kept.{told_at, told_of, whole_len};
 ghost use Rattle.rm_destination.specs.Incoming.{fresh, items, held, phase_of, took_of, after_take, with_received};
 ghost use Rattle.rm_destination.specs.Incoming.{kind_of, IsTakeError, is_past, is_ended, is_stopped, is_whole};
 ghost use Rattle.rm_destination.specs.Incoming.{last_number, stopped_by, close_answer, inbox, discarded};
 ghost use Rattle.rm_destination.specs.Incoming.{consume_answer, forgotten, with_cursor, with_purged};
+ghost use Rattle.rm_destination.specs.Incoming.{first_numbers, is_loose, passed, without_passed};
 
 use crate::arrivals::Arrivals;
 use crate::outcome::{DestError, InPhase, Took};
@@ -35,7 +39,10 @@ pub(crate) struct Stop {
 pub struct Incoming {
     behaviour: Behaviour,
     deadline: Option<u64>,
+    // of an ordered sequence: the messages 1 to it are gone
     gone: u64,
+    // of a loose sequence: the numbers of the messages that are gone, with room for those that aren't
+    purged: RangeSet,
     cursor: u64,
     arrivals: Arrivals,
     numbers: RangeSet,
@@ -45,9 +52,8 @@ pub struct Incoming {
 }
 
 impl Model for Incoming {
-    ghost use Rattle.rm_destination.specs.Incoming.{Sequence};
-    ghost use Rattle.rm_destination.specs.Kept.{IsKept, closes_of, told_of};
-    ghost use Rattle.rm_destination.specs.Messages.{run_to};
+    ghost use Rattle.rm_destination.specs.Incoming.{Sequence, is_loose};
+    ghost use Rattle.rm_destination.specs.Kept.{IsKept, closes_of, gone_by, told_of};
 
     ghost Value = { Sequence };
 
@@ -55,7 +61,7 @@ impl Model for Incoming {
       facts = record {
         behaviour = i.behaviour;
         deadline = i.deadline;
-        purged = run_to i.gone;
+        purged = gone_by (is_loose i.behaviour) i.gone i.purged.ranges;
         received = i.arrivals.messages;
         cursor = i.cursor;
         closes = closes_of i.closed i.ended;
@@ -64,7 +70,8 @@ impl Model for Incoming {
       room = i.room;
     } };
 
-    ghost invariant = { λ i. IsKept i.gone i.cursor i.arrivals i.numbers i.room };
+    ghost invariant = { λ i.
+        IsKept (is_loose i.behaviour) i.gone i.purged i.cursor i.arrivals i.numbers i.room };
 }
 
 impl Incoming {
@@ -76,6 +83,7 @@ impl Incoming {
             behaviour,
             deadline,
             gone: 0,
+            purged: RangeSet::new(alloc),
             cursor: 0,
             arrivals: Arrivals::new(alloc),
             numbers: RangeSet::new(alloc),
@@ -98,7 +106,8 @@ impl Incoming {
         InPhase::Open
     }
 
-    /// What was announced for messages behind a gap, once the sequence is closed.
+    /// What was announced for messages behind a gap: that they are released as they come, or what becomes of them once
+    /// the sequence is closed.
     pub fn behaviour(&self) -> Behaviour
         ensures { result ≡ self.now.facts.behaviour }
     {
@@ -159,6 +168,7 @@ impl Incoming {
         ensures err { OnErr result (self.new ≡ self.old) }
     {
         self.arrivals.reserve(1)?;
+        reserve_gone(&mut self.purged, self.behaviour, self.arrivals.count() + 1)?;
         self.numbers.insert(number)?;
         match self.arrivals.add(number, payload) {
             Ok(()) => {}
@@ -202,17 +212,24 @@ impl Incoming {
         true
     }
 
-    /// Begins behind messages that were received and consumed, whose numbers are 1 to some number, and which are gone.
+    /// Begins behind messages that were received and consumed, and which are gone. On an ordered sequence their numbers
+    /// are 1 to some number.
     pub fn restore(&mut self, numbers: &RangeSet) -> Result<(), Memory>
         requires nothing { is_empty (held self.old.facts) ≡ true }
-        requires run { numbers.now.ranges ≡ run_to (greatest_of numbers.now.ranges) }
+        requires run { is_loose self.old.facts.behaviour ≡ false →
+            numbers.now.ranges ≡ run_to (greatest_of numbers.now.ranges) }
         ensures ok { OnOk result (self.new ≡ with_purged self.old numbers.now.ranges) }
         ensures err { OnErr result (self.new ≡ self.old) }
     {
         let room = self.room.checked_add(numbers.ranges().len()).ok_or(Memory)?;
         self.numbers.reserve(room)?;
+        reserve_gone(&mut self.purged, self.behaviour, room)?;
+        range_is_added();
+        same_numbers_same_ranges();
         union_with_nothing_is_the_same();
+        let _purged = self.purged.ranges();
         self.numbers.unite(numbers)?;
+        put_gone(&mut self.purged, self.behaviour, numbers);
         self.gone = numbers.greatest();
         self.cursor = self.cursor.max(numbers.count());
         Ok(())
@@ -240,22 +257,61 @@ impl Incoming {
         Ok(goes_on)
     }
 
+    /// The numbers of the items that the application consumed, where the inbox has as many.
+    pub fn passed(&self, alloc: Global) -> Result<RangeSet, Memory>
+        ensures { IfOk result (λ set. set.ranges ≡ passed self.now.facts) }
+    {
+        if self.cursor == 0 || self.cursor > self.inbox_len() {
+            return Ok(RangeSet::new(alloc));
+        }
+        match self.behaviour {
+            Behaviour::NoDiscard => self.earliest_passed(),
+            Behaviour::EntireSequence | Behaviour::FollowingFirstGap => self.first_passed(alloc),
+        }
+    }
+
+    /// Whether there are some of these.
+    pub fn has_passed(&self) -> bool
+        ensures { result ≡ not (is_empty (passed self.now.facts)) }
+    {
+        self.cursor > 0 && self.cursor <= self.inbox_len()
+    }
+
+    /// Whether a number is one of these.
+    pub fn is_passed(&self, number: u64) -> bool
+        ensures { result ≡ in_ranges (passed self.now.facts) number }
+    {
+        if self.cursor == 0 || self.cursor > self.inbox_len() {
+            return false;
+        }
+        match self.behaviour {
+            Behaviour::NoDiscard => self.is_among_earliest(number),
+            Behaviour::EntireSequence | Behaviour::FollowingFirstGap => {
+                0 < number && number <= self.cursor
+            }
+        }
+    }
+
     /// How many items the inbox has, with those that are gone.
     pub fn inbox_len(&self) -> u64
         ensures { result ≡ length (inbox self.now.facts) }
     {
         match self.behaviour {
+            Behaviour::NoDiscard => self.loose_len(),
             Behaviour::EntireSequence => self.whole_len(),
-            Behaviour::NoDiscard | Behaviour::FollowingFirstGap => self.front(),
+            Behaviour::FollowingFirstGap => self.front(),
         }
     }
 
     /// How many of the first items of the inbox are gone: none of them is to be asked for.
     pub fn gone(&self) -> u64
-        ensures are { run_to result ≡ self.now.facts.purged }
+        ensures count { result ≡ count_of self.now.facts.purged }
         ensures none { (i : ℕ) → i ≤ result → item_at (inbox self.now.facts) i ≡ None }
     {
-        self.gone
+        match self.behaviour {
+            Behaviour::NoDiscard => self.loose_gone(),
+            Behaviour::EntireSequence | Behaviour::FollowingFirstGap => self.ordered_gone(),
+        }
     }
 
     /// The inbox's payload at a place, counted from 1. There is none where it is gone.
@@ -265,16 +321,22 @@ impl Incoming {
         if i > self.inbox_len() {
             return None;
         }
-        self.item(i)
+        match self.behaviour {
+            Behaviour::NoDiscard => self.arrival(i),
+            Behaviour::EntireSequence | Behaviour::FollowingFirstGap => self.item(i),
+        }
     }
 
-    /// How many items are never released. There are none before the sequence is closed or ended. With the inbox's they
-    /// are fewer than there are numbers of 64 bits.
+    /// How many items are never released. There are none before the sequence is closed or ended, nor on a loose one.
+    /// With the inbox's they are fewer than there are numbers of 64 bits.
     pub fn discarded_len(&self) -> u64
         ensures count { result ≡ length (discarded self.now.facts) }
         ensures few { length (inbox self.now.facts) + result < 2 ^ 64 }
     {
         let released = self.inbox_len();
+        if is_loose(self.behaviour) {
+            return 0;
+        }
         if !self.is_stopped() {
             return 0;
         }
@@ -298,15 +360,13 @@ impl Incoming {
         ensures { self.new ≡ record { facts = forgotten self.old.facts; room = 0 } }
     {
         self.room = 0;
-        if self.cursor == 0 || self.cursor > self.inbox_len() {
+        if !self.has_passed() {
             return;
         }
-        range_is_added();
-        same_numbers_same_ranges();
-        let _numbers = self.numbers.ranges();
-        let _front = self.numbers.front();
-        self.arrivals.forget(self.cursor);
-        self.gone = self.cursor;
+        match self.behaviour {
+            Behaviour::NoDiscard => self.forget_earliest(),
+            Behaviour::EntireSequence | Behaviour::FollowingFirstGap => self.forget_first(),
+        }
     }
 
     /// Makes room for so many more messages, beside those for which there is room: so many more calls of `keep`, and of
@@ -317,8 +377,10 @@ impl Incoming {
         ensures err { OnErr result (self.new.room ≡ self.old.room) }
     {
         let room = self.room.checked_add(messages).ok_or(Memory)?;
+        let all = room.checked_add(self.arrivals.count()).ok_or(Memory)?;
         self.arrivals.reserve(room)?;
         self.numbers.reserve(room)?;
+        reserve_gone(&mut self.purged, self.behaviour, all)?;
         self.room = room;
         Ok(())
     }
@@ -337,15 +399,136 @@ impl Incoming {
         self.closed.is_some() || self.ended.is_some()
     }
 
-    /// How many messages were received, with those that are gone.
+    /// Gives up the payloads of the messages 1 to the cursor, of an ordered sequence without room.
+    fn forget_first(&mut self)
+        requires ordered { is_loose self.old.facts.behaviour ≡ false }
+        requires some { is_empty (passed self.old.facts) ≡ false }
+        requires room { self.old.room ≡ 0 }
+        ensures { self.new ≡ record { facts = without_passed self.old.facts; room = 0 } }
+    {
+        range_is_added();
+        same_numbers_same_ranges();
+        let _numbers = self.numbers.ranges();
+        let _front = self.numbers.front();
+        self.arrivals.forget(self.cursor);
+        self.gone = self.cursor;
+    }
+
+    /// Gives up the payloads of the messages that came first, up to the cursor, of a loose sequence without room.
+    fn forget_earliest(&mut self)
+        requires loose { is_loose self.old.facts.behaviour ≡ true }
+        requires some { is_empty (passed self.old.facts) ≡ false }
+        requires room { self.old.room ≡ 0 }
+        ensures { self.new ≡ record { facts = without_passed self.old.facts; room = 0 } }
+    {
+        range_is_added();
+        same_numbers_same_ranges();
+        let _numbers = self.numbers.ranges();
+        let _purged = self.purged.ranges();
+        let more = (self.cursor - self.purged.count()) as usize;
+        put_first(&mut self.purged, self.arrivals.as_slice(), more);
+        self.arrivals.forget_all(&self.purged);
+    }
+
+    /// Whether a number is that of an item up to the cursor of a loose inbox.
+    fn is_among_earliest(&self, number: u64) -> bool
+        requires loose { is_loose self.now.facts.behaviour ≡ true }
+        requires reached { self.now.facts.cursor ≤ length (inbox self.now.facts) }
+        ensures { result ≡ in_ranges (ranges_onto [] (take self.now.facts.cursor (held self.now.facts))) number }
+    {
+        range_is_added();
+        same_numbers_same_ranges();
+        let _numbers = self.numbers.ranges();
+        let _purged = self.purged.ranges();
+        let more = (self.cursor - self.purged.count()) as usize;
+        self.purged.has(number) || self.arrivals.is_early(number, more)
+    }
+
+    /// The numbers of the items that the application consumed of an ordered sequence, where there are some.
+    fn first_passed(&self, alloc: Global) -> Result<RangeSet, Memory>
+        requires ordered { is_loose self.now.facts.behaviour ≡ false }
+        requires some { 0 < self.now.facts.cursor }
+        requires reached { self.now.facts.cursor ≤ length (inbox self.now.facts) }
+        ensures { IfOk result (λ set. set.ranges
+            ≡ first_numbers (is_loose self.now.facts.behaviour) (held self.now.facts) self.now.facts.cursor) }
+    {
+        let _numbers = self.numbers.ranges();
+        let _front = self.numbers.front();
+        let mut numbers = RangeSet::new(alloc);
+        numbers.insert_range(1, self.cursor)?;
+        Ok(numbers)
+    }
+
+    /// The same of a loose one.
+    fn earliest_passed(&self) -> Result<RangeSet, Memory>
+        requires loose { is_loose self.now.facts.behaviour ≡ true }
+        requires some { 0 < self.now.facts.cursor }
+        requires reached { self.now.facts.cursor ≤ length (inbox self.now.facts) }
+        ensures { IfOk result (λ set. set.ranges
+            ≡ first_numbers (is_loose self.now.facts.behaviour) (held self.now.facts) self.now.facts.cursor) }
+    {
+        range_is_added();
+        same_numbers_same_ranges();
+        let _numbers = self.numbers.ranges();
+        let _purged = self.purged.ranges();
+        let more = (self.cursor - self.purged.count()) as usize;
+        let mut numbers = self.purged.copy()?;
+        numbers.reserve(more)?;
+        put_first(&mut numbers, self.arrivals.as_slice(), more);
+        Ok(numbers)
+    }
+
+    /// How many of the first messages of a loose sequence are gone.
+    fn loose_gone(&self) -> u64
+        requires loose { is_loose self.now.facts.behaviour ≡ true }
+        ensures count { result ≡ count_of self.now.facts.purged }
+        ensures none { (i : ℕ) → i ≤ result → item_at (inbox self.now.facts) i ≡ None }
+    {
+        self.purged.count()
+    }
+
+    /// The same of an ordered one.
+    fn ordered_gone(&self) -> u64
+        requires ordered { is_loose self.now.facts.behaviour ≡ false }
+        ensures count { result ≡ count_of self.now.facts.purged }
+        ensures none { (i : ℕ) → i ≤ result → item_at (inbox self.now.facts) i ≡ None }
+    {
+        self.gone
+    }
+
+    /// How many messages were received on a loose sequence, with those that are gone.
+    fn loose_len(&self) -> u64
+        requires loose { is_loose self.now.facts.behaviour ≡ true }
+        ensures { result ≡ length (inbox self.now.facts) }
+    {
+        let _purged = self.purged.ranges();
+        self.purged.count() + self.arrivals.count() as u64
+    }
+
+    /// The payload at a place of a loose inbox, counted from 1. There is none where it is gone.
+    fn arrival(&self, i: u64) -> Option<&Payload>
+        requires loose { is_loose self.now.facts.behaviour ≡ true }
+        ensures { option_copied result ≡ item_at (inbox self.now.facts) i }
+    {
+        let gone = self.purged.count();
+        if i <= gone {
+            return None;
+        }
+        self.arrivals.came_at((i - gone - 1) as usize)
+    }
+
+    /// How many messages were received on an ordered sequence, with those that are gone.
     fn len(&self) -> u64
+        requires { is_loose self.now.facts.behaviour ≡ false }
         ensures { result ≡ length (by_number (items self.now.facts)) }
     {
         self.gone + self.arrivals.len() as u64
     }
 
-    /// The payload at a place of all messages by rising number, counted from 1. There is none where it is gone.
+    /// The payload at a place of all messages of an ordered sequence by rising number, counted from 1. There is none
+    /// where it is gone.
     fn item(&self, i: u64) -> Option<&Payload>
+        requires { is_loose self.now.facts.behaviour ≡ false }
         ensures { option_copied result ≡ item_at (contents_of (by_number (items self.now.facts))) i }
     {
         if i <= self.gone {
@@ -356,6 +539,7 @@ impl Incoming {
 
     /// How many messages it has where it is complete, and else 0.
     fn whole_len(&self) -> u64
+        requires { is_loose self.now.facts.behaviour ≡ false }
         ensures { result ≡ whole_len self.now.facts.told (by_number (items self.now.facts)) }
     {
         match first_told(self.closed, self.ended) {
@@ -366,6 +550,7 @@ impl Incoming {
 
     /// Whether the messages are exactly those from 1 to the last number, where the peer told this one.
     fn is_whole(&self, told: u64) -> bool
+        requires { is_loose self.now.facts.behaviour ≡ false }
         ensures { result ≡ is_whole told (by_number (items self.now.facts)) }
     {
         let last = self.last_number(told);
@@ -414,6 +599,60 @@ pub fn is_past(deadline: Option<u64>, now: u64) -> bool
     match deadline {
         Some(deadline) => deadline <= now,
         None => false,
+    }
+}
+
+/// Whether a sequence of this behaviour releases its messages as they come.
+pub fn is_loose(behaviour: Behaviour) -> bool
+    ensures { result ≡ is_loose behaviour }
+{
+    match behaviour {
+        Behaviour::NoDiscard => true,
+        Behaviour::EntireSequence | Behaviour::FollowingFirstGap => false,
+    }
+}
+
+/// Makes room in the set of what is gone for so many numbers, where the sequence is loose.
+fn reserve_gone(purged: &mut RangeSet, behaviour: Behaviour, messages: usize) -> Result<(), Memory>
+    ensures kept { purged.new.ranges ≡ purged.old.ranges }
+    ensures enough { OnOk result (is_loose behaviour ≡ true → messages ≤ purged.new.spare) }
+    ensures spare { purged.old.spare ≤ purged.new.spare }
+    ensures ready { (is_loose behaviour ≡ true → messages ≤ purged.old.spare) → IsOk result }
+{
+    if is_loose(behaviour) {
+        return purged.reserve(messages);
+    }
+    Ok(())
+}
+
+/// Puts the numbers of messages that are gone into their set, where the sequence is loose and there is room for them.
+fn put_gone(purged: &mut RangeSet, behaviour: Behaviour, numbers: &RangeSet)
+    requires { is_loose behaviour ≡ true → length numbers.now.ranges ≤ purged.old.spare }
+    ensures put { is_loose behaviour ≡ true → purged.new.ranges ≡ united purged.old.ranges numbers.now.ranges }
+    ensures spare { is_loose behaviour ≡ true → purged.old.spare ≤ purged.new.spare + length numbers.now.ranges }
+{
+    if !is_loose(behaviour) {
+        return;
+    }
+    match purged.unite(numbers) {
+        Ok(_) => {}
+        Err(_) => unreachable!(),
+    }
+}
+
+/// Puts the numbers of so many messages that came first into a set that has room for them.
+fn put_first(purged: &mut RangeSet, came: &[(u64, Payload)], count: usize)
+    requires within { count ≤ length came.now }
+    requires room { count ≤ purged.old.spare }
+    requires numbers { AreMessageNumbers (numbers_of came.now) }
+    ensures put { purged.new.ranges ≡ ranges_onto purged.old.ranges (numbers_of (take count came.now)) }
+    ensures spare { purged.old.spare ≤ purged.new.spare + count }
+{
+    for at in 0..count {
+        match purged.insert(came[at].0) {
+            Ok(_) => {}
+            Err(_) => unreachable!(),
+        }
     }
 }
 

@@ -10,5 +10,5 @@ pub mod incoming;
 pub mod laws;
 pub mod outcome;
 
-pub use incoming::{Incoming, is_past};
+pub use incoming::{Incoming, is_loose, is_past};
 pub use outcome::{DestError, InPhase, Took};

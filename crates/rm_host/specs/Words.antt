@@ -9,7 +9,7 @@ use Rattle.rm_base.specs.Limits as limits
 use Rattle.rm_base.specs.Message.{max_number}
 use Rattle.rm_base.specs.Text.{IsText}
 use Rattle.rm_base.specs.declared.message.Behaviour.{Behaviour}
-use Rattle.rm_base.specs.declared.message.Behaviour.TheVariants.{EntireSequence, FollowingFirstGap}
+use Rattle.rm_base.specs.declared.message.Behaviour.TheVariants.{EntireSequence, FollowingFirstGap, NoDiscard}
 use Rattle.rm_script.specs.Script.{IsNumber}
 use Rattle.rm_host.specs.declared.end.End.{End}
 use Rattle.rm_host.specs.declared.end.End.TheVariants as end
@@ -17,7 +17,7 @@ use Rattle.rm_host.specs.declared.words.Command.{Command}
 use Rattle.rm_host.specs.declared.words.Command.TheVariants.{Make, Serve, Send, Push, Close, Finish, Inbox, Compact}
 use Rattle.rm_host.specs.declared.words.Command.TheVariants.{Consume, Import}
 use Rattle.rm_host.specs.declared.words.Grant.{Grant}
-use Rattle.rm_host.specs.declared.words.Grant.TheVariants.{DropsFollowing, DropsEntire}
+use Rattle.rm_host.specs.declared.words.Grant.TheVariants.{DropsFollowing, DropsEntire, Loose}
 use Rattle.rm_host.specs.declared.words.Service.{Service}
 
 -- the name of a command of a node
@@ -47,11 +47,13 @@ IsSequence words seq = (k : List ℕ) × IsNumber 1 limits.most_sequences k seq 
 abbrev pub grant_word : Grant → List ℕ
 grant_word DropsFollowing = codes "dfg"
 grant_word DropsEntire = codes "des"
+grant_word Loose = codes "loose"
 
 -- what is announced by it (WS-ReliableMessaging 1.2, section 3.4: IncompleteSequenceBehavior)
 abbrev pub behaviour_of : Grant → Behaviour
 behaviour_of DropsFollowing = FollowingFirstGap
 behaviour_of DropsEntire = EntireSequence
+behaviour_of Loose = NoDiscard
 
 -- three words, what is served
 abbrev pub IsService : List (List ℕ) → Service → Type 0

@@ -1,6 +1,6 @@
 //! What commands do with the node of a host. Each error is the end of a command.
 ghost use Rattle.std.specs.Prelude.{◌≡◌, ◌⊎◌, ◌<◌, ◌≤◌, ◌^◌, ◌+◌, List, Result, length, true, false, Err, None};
-ghost use Rattle.std.specs.Prelude.{IfErr, IfOk, IfSome, OnOk, IsTrue, is_ok};
+ghost use Rattle.std.specs.Prelude.{IfErr, IfOk, OnOk, IsTrue, is_ok};
 ghost use Rattle.node_store.specs.Changes.{WasNotMade};
 ghost use Rattle.node_store.specs.Imported.{Imports};
 ghost use Rattle.node_store.specs.Mounted.{Finds, IsNoNode};
@@ -11,7 +11,6 @@ ghost use Rattle.rm_base.specs.Outside.{Stream};
 ghost use Rattle.rm_base.specs.declared.message.Behaviour.TheVariants.{FollowingFirstGap};
 ghost use Rattle.rm_node.specs.Asked.{Close, Create, End as Finish, Send, Tick};
 ghost use Rattle.rm_node.specs.Compacted.{Compacts};
-ghost use Rattle.sequence_table.specs.Fits.{is_in_order};
 ghost use Rattle.sequence_table.specs.Makers.{makers};
 ghost use Rattle.sequence_table.specs.Sources.{accepted_count};
 ghost use Rattle.rm_disk.specs.Call.{seen_of};
@@ -210,7 +209,6 @@ fn wish(to: Uri) -> Wish
     ensures is { result ≡ record { to = to; via = Via.Back; expires = record { months = 0; ms = 0 }; offer = None } }
     ensures months { result.expires.months ≡ 0 }
     ensures ms { result.expires.ms ≡ 0 }
-    ensures offer { IfSome result.offer (λ behaviour. is_in_order behaviour ≡ true) }
 {
     Wish {
         to,

@@ -15,7 +15,6 @@ ghost use Rattle.std.specs.Prelude.{
   true,
   codes,
 };
-ghost use Rattle.sequence_table.specs.Fits.{is_in_order};
 ghost use Rattle.rm_script.specs.Script.{IsNumber};
 ghost use Rattle.rm_host.specs.Words.{
   IsAddress,
@@ -42,22 +41,24 @@ use rm_script::number_of;
 use std::alloc::Global;
 use std::str;
 
-/// What a node that serves announces: that a closed sequence drops what follows its first gap, or all of it.
+/// What a node that serves announces: that a closed sequence drops what follows its first gap, or all of it, or that it
+/// releases each message as it comes.
 #[derive(Clone, Copy, Debug)]
 pub enum Grant {
     DropsFollowing,
     DropsEntire,
+    Loose,
 }
 
 impl Grant {
-    /// What is announced for the sequences that are granted. It is never NoDiscard.
+    /// What is announced for the sequences that are granted. It is NoDiscard where messages are released as they come.
     pub fn behaviour(self) -> Behaviour
         ensures is { result ≡ behaviour_of self }
-        ensures in_order { is_in_order result ≡ true }
     {
         match self {
             Grant::DropsFollowing => Behaviour::FollowingFirstGap,
             Grant::DropsEntire => Behaviour::EntireSequence,
+            Grant::Loose => Behaviour::NoDiscard,
         }
     }
 }
@@ -316,6 +317,9 @@ fn grant_of(word: &Blob) -> Option<Grant>
     }
     if word.as_slice() == b"des".as_slice() {
         return Some(Grant::DropsEntire);
+    }
+    if word.as_slice() == b"loose".as_slice() {
+        return Some(Grant::Loose);
     }
     None
 }

@@ -31,7 +31,6 @@ kept_short : SnapshotIsKept → KeptHasProper → StaysExactInShort → (r : Lis
 kept_short short proper exact r k right =
     let t = right.timed in
     record {
-      in_order = right.in_order;
       timed = record {
         kept = short r t.kept;
         waits = t.waits;

@@ -1,10 +1,9 @@
 -- What a node says may be written, whatever it is asked for.
-use Rattle.std.proofs.Common.{◌≡◌, ◌≤◌, ℕ, true, false, List, Option, refl, sym, subst, arith}
+use Rattle.std.proofs.Common.{◌≡◌, ◌≤◌, ℕ, false, List, Option, refl, sym, subst, arith}
 use Rattle.std.specs.Prelude.{OnOk, Result, Ok, Err}
 use Rattle.rm_base.specs.Limits as limits
 use Rattle.rm_timers.specs.declared.timers.Key.{Key}
 use Rattle.record_batch.specs.Fact.{Fact}
-use Rattle.sequence_table.specs.Fits.{is_in_order}
 use Rattle.rm_protocol.specs.Calls.{Answer}
 use Rattle.rm_protocol.specs.Exact.{WhatBeginsWaits}
 use Rattle.rm_protocol.specs.Recorded.{OnlyHeardIsRecorded}
@@ -49,31 +48,31 @@ not_received (call.Poll to) h = refl
 
 -- the records of each answer leave a node
 leaves_each : ReadsRight → RefusesRight → (terms : Terms) (r : List Fact) (place now : ℕ) (kept : Keeping)
-    (call : Call) (asked : Asked) → is_in_order kept.granted ≡ true → MayBeAsked call → Asks call asked
+    (call : Call) (asked : Asked) → MayBeAsked call → Asks call asked
     → OfEachCall terms r place (LeavesANode r) → LeavesANode r (answer_to terms r place now kept asked)
-leaves_each reads refuses terms r place now kept (call.Create wish) asked in_order may is each =
+leaves_each reads refuses terms r place now kept (call.Create wish) asked may is each =
     subst (λ (x : Asked). LeavesANode r (answer_to terms r place now kept x)) (sym is)
     (each.create_ (wish_seen wish) may)
-leaves_each reads refuses terms r place now kept (call.Send seq payload) asked in_order may is each =
+leaves_each reads refuses terms r place now kept (call.Send seq payload) asked may is each =
     subst (λ (x : Asked). LeavesANode r (answer_to terms r place now kept x)) (sym is) (each.send_ seq payload)
-leaves_each reads refuses terms r place now kept (call.Close seq) asked in_order may is each =
+leaves_each reads refuses terms r place now kept (call.Close seq) asked may is each =
     subst (λ (x : Asked). LeavesANode r (answer_to terms r place now kept x)) (sym is) (each.close_ seq now)
-leaves_each reads refuses terms r place now kept (call.End seq) asked in_order may is each =
+leaves_each reads refuses terms r place now kept (call.End seq) asked may is each =
     subst (λ (x : Asked). LeavesANode r (answer_to terms r place now kept x)) (sym is) (each.end_ seq)
-leaves_each reads refuses terms r place now kept (call.AskAck seq) asked in_order may is each =
+leaves_each reads refuses terms r place now kept (call.AskAck seq) asked may is each =
     subst (λ (x : Asked). LeavesANode r (answer_to terms r place now kept x)) (sym is) (each.ask_ack_ seq)
-leaves_each reads refuses terms r place now kept (call.NackMissing seq) asked in_order may is each =
+leaves_each reads refuses terms r place now kept (call.NackMissing seq) asked may is each =
     subst (λ (x : Asked). LeavesANode r (answer_to terms r place now kept x)) (sym is) (each.nack_missing_ seq now)
-leaves_each reads refuses terms r place now kept (call.Consume seq upto) asked in_order may is each =
+leaves_each reads refuses terms r place now kept (call.Consume seq upto) asked may is each =
     subst (λ (x : Asked). LeavesANode r (answer_to terms r place now kept x)) (sym is) (each.consume_ seq upto)
-leaves_each reads refuses terms r place now kept (call.Tick moment) asked in_order may is each =
+leaves_each reads refuses terms r place now kept (call.Tick moment) asked may is each =
     subst (λ (x : Asked). LeavesANode r (answer_to terms r place now kept x)) (sym is)
     (each.tick_ moment kept.time kept.waits)
-leaves_each reads refuses terms r place now kept (call.Poll to) asked in_order may is each =
+leaves_each reads refuses terms r place now kept (call.Poll to) asked may is each =
     subst (λ (x : Asked). LeavesANode r (answer_to terms r place now kept x)) (sym is) (each.poll_ to may)
-leaves_each reads refuses terms r place now kept (call.Receive bytes) asked in_order may is each =
+leaves_each reads refuses terms r place now kept (call.Receive bytes) asked may is each =
     subst (λ (x : Asked). LeavesANode r (answer_to terms r place now kept x)) (sym is.is)
-    (each.receive_ now kept.granted is.content in_order (content_read reads refuses bytes.now is.content is.read))
+    (each.receive_ now kept.granted is.content (content_read reads refuses bytes.now is.content is.read))
 
 -- no moment is too late for the timers
 from_zero : 0 ≤ limits.now_max
@@ -97,17 +96,17 @@ in_time (call.Receive bytes) asked may is = early asked (Receive is.content) is.
 -- so the answer that the code worked out may be written
 pub may_be_written : ReadsRight → RefusesRight → EachCallKeeps → OnlyHeardIsRecorded → WhatBeginsWaits → (terms : Terms)
     → AreOwn terms → (r : List Fact) (place now : ℕ) (kept : Keeping) (call : Call) (asked : Asked) (a : Answer)
-    (begun : Option Key) → IsKept r → is_in_order kept.granted ≡ true → MayBeAsked call → Asks call asked
+    (begun : Option Key) → IsKept r → MayBeAsked call → Asks call asked
     → MayBeStored r place a.delta → a ≡ answer_to terms r place now kept asked → begun ≡ begun_with r asked
     → MayBeWritten r place a begun
-may_be_written reads refuses keeps heard waits terms own r place now kept call asked a begun of in_order may asks stored
+may_be_written reads refuses keeps heard waits terms own r place now kept call asked a begun of may asks stored
     same begins =
     let leading : Leads r asked a =
     subst (Leads r asked) (sym same) (leads heard waits terms r place now kept asked of.node.fit) in
     record {
       stored = stored;
       leaves = subst (LeavesANode r) (sym same)
-          (leaves_each reads refuses terms r place now kept call asked in_order may asks (keeps terms r place own of));
+          (leaves_each reads refuses terms r place now kept call asked may asks (keeps terms r place own of));
       begins = λ (taken : is_refused a.outcome ≡ false). subst (Begins r a.delta) (sym begins)
           (leading.begins stored.fit taken);
       time = subst (λ (n : ℕ). n ≤ limits.now_max) (sym leading.time) (in_time call asked may asks);

@@ -136,7 +136,6 @@ keeping-of n timed = (
 pub runs : (n : Noded) → IsKeptRight n.stored.records n.kept → Runs n
 runs n right = record {
   records = right.timed.kept;
-  in_order = right.in_order;
   keeping = keeping-of n right.timed;
   exact = λ kept keeps. exact-waits n.stored.records n.kept.timers kept.waits right.timed.exact keeps.waits;
 }

@@ -67,8 +67,7 @@ Asks (call.Receive bytes) asked = IsReceived bytes.now asked
 abbrev pub IsAsked : Call → Type 0
 IsAsked this = (asked : Asked) × Asks this asked
 
--- what a node may be asked for: it can be written, no sequence of NoDiscard is offered, a tick is no later than the
--- last moment, and an address is one
+-- what a node may be asked for: it can be written, a tick is no later than the last moment, and an address is one
 abbrev pub MayBeAsked : Call → Type 0
 MayBeAsked (call.Create wish) = MayBeWished (wish_seen wish)
 MayBeAsked (call.Tick now) = now ≤ limits.now_max

@@ -8,7 +8,6 @@ use Rattle.key_timers.specs.declared.cells.Cell.{Cell}
 use Rattle.key_timers.specs.Keyed.{Keyed, StandsFor, slot_at}
 use Rattle.key_timers.specs.Waits.{Wait}
 use Rattle.record_batch.specs.Fact.{Fact}
-use Rattle.sequence_table.specs.Fits.{is_in_order}
 use Rattle.sequence_table.specs.Makers.{Maker, Outgoing, Taken, maker, makers}
 use Rattle.sequence_table.specs.Sources.{accepted_count}
 use Rattle.rm_protocol.specs.Calls.{Answer}
@@ -34,9 +33,8 @@ pub record IsTimed (r : List Fact) (k : Keyed) : Type 0 where
   pub stands : StandsFor k waits
   pub exact : (key : Key) → has_cell k.cells key ≡ is_waiting r key
 
--- what a node with these records keeps: it announces no NoDiscard, and its timers are those of its records
+-- what a node with these records keeps: its timers are those of its records
 pub record IsKeptRight (r : List Fact) (k : Kept) : Type 0 where
-  pub in_order : is_in_order k.granted ≡ true
   pub timed : IsTimed r k.timers
 
 -- ---- the key that a call begins

@@ -1,8 +1,8 @@
 //! The calls of a node by their names.
-ghost use Rattle.std.specs.Prelude.{◌≡◌, ◌⊎◌, ◌+◌, ◌≤◌, true, length, IfErr, IfOk, IfSome};
+ghost use Rattle.std.specs.Prelude.{◌≡◌, ◌⊎◌, ◌+◌, ◌≤◌, true, length, IfErr, IfOk};
 ghost use Rattle.rm_base.specs.Limits.{now_max};
 ghost use Rattle.rm_elements.specs.Writable.{IsLapseWritable};
-ghost use Rattle.sequence_table.specs.Fits.{is_in_order, is_outgoing_side};
+ghost use Rattle.sequence_table.specs.Fits.{is_outgoing_side};
 ghost use Rattle.sequence_table.specs.Makers.{maker, makers};
 ghost use Rattle.sequence_table.specs.Sources.{accepted_count};
 ghost use Rattle.rm_node.specs.Called.{HasBatches, Steps};
@@ -53,7 +53,6 @@ impl Node {
     pub fn create<D: Disk>(&mut self, disk: &mut D, wish: Wish) -> Result<Made, NodeError>
         requires has { HasBatches D.tells (D.told disk.old) self.old }
         requires lapse { IsLapseWritable wish.expires }
-        requires offer { IfSome wish.offer (λ behaviour. is_in_order behaviour ≡ true) }
         ensures steps { Steps D.tells (D.told disk.old) (D.told disk.new) self.old self.new 0 (Creates wish)
             (made_end result) }
         ensures seq { IfOk result (λ made. made.seq ≡ length (makers self.old.stored.records) + 1) }

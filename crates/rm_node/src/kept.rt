@@ -1,9 +1,8 @@
 //! What a node keeps that is not on its disk.
-ghost use Rattle.std.specs.Prelude.{◌≡◌, [], true, IfOk};
+ghost use Rattle.std.specs.Prelude.{◌≡◌, [], IfOk};
 ghost use Rattle.rm_base.specs.declared.message.Behaviour.TheVariants.{FollowingFirstGap as FirstGap};
 ghost use Rattle.key_timers.specs.Keyed.{StandsFor};
 ghost use Rattle.make_connection.specs.Waiting.{nothing_waits};
-ghost use Rattle.sequence_table.specs.Fits.{is_in_order};
 
 use key_timers::KeyTimers;
 use make_connection::Pending;
@@ -14,7 +13,7 @@ use std::alloc::Global;
 /// What a node keeps besides its records. It is not on the disk: a mount works it out anew.
 #[derive(Drop)]
 pub struct Kept {
-    /// What the node announces for the sequences that it grants from now on: never NoDiscard.
+    /// What the node announces for the sequences that it grants from now on.
     pub granted: Behaviour,
     /// The keys that wait to be emitted, and the greatest moment of a tick.
     pub timers: KeyTimers,
@@ -26,7 +25,6 @@ impl Kept {
     /// What is kept where no key waits and no message, at time 0.
     pub(crate) fn first(alloc: Global) -> Result<Kept, Memory>
         ensures granted { IfOk result (λ kept. kept.granted ≡ FirstGap) }
-        ensures in_order { IfOk result (λ kept. is_in_order kept.granted ≡ true) }
         ensures waits { IfOk result (λ kept. StandsFor kept.timers []) }
         ensures cells { IfOk result (λ kept. kept.timers.cells ≡ []) }
         ensures time { IfOk result (λ kept. kept.timers.time ≡ 0) }

@@ -7,7 +7,6 @@ ghost use Rattle.rm_disk.specs.Call.{crashes_of, seen_of};
 ghost use Rattle.rm_disk.specs.Cause.{HasCause};
 ghost use Rattle.rm_disk.specs.Image.{MayLeave, OnlyLeaves};
 ghost use Rattle.rm_journal.specs.Entries.{list_of, StandsAsBefore};
-ghost use Rattle.sequence_table.specs.Fits.{is_in_order};
 ghost use Rattle.node_store.specs.Changes.{KeepsUnarmed, WasNotMade};
 ghost use Rattle.node_store.specs.Has.{Has};
 ghost use Rattle.node_store.specs.Imported.{Imports, import_failed, IsNoNodeBefore, IsTooLong};
@@ -161,15 +160,12 @@ impl Node {
     /// What the node announces for the sequences that it grants.
     pub fn granted(&self) -> Behaviour
         ensures kept { result ≡ self.now.kept.granted }
-        ensures in_order { is_in_order result ≡ true }
     {
         self.kept.granted
     }
 
-    /// From now on the node announces this for the sequences that it grants. It is not NoDiscard: there is no receiver
-    /// that releases messages as they come.
+    /// From now on the node announces this for the sequences that it grants.
     pub fn set_grant(&mut self, behaviour: Behaviour)
-        requires { is_in_order behaviour ≡ true }
         ensures { self.new ≡ granting self.old behaviour }
     {
         self.kept.granted = behaviour;

@@ -1,7 +1,6 @@
 //! What comes to a node.
-ghost use Rattle.std.specs.Prelude.{◌≡◌, true, map, IfOk, Ok, OnOk, Err, Result};
+ghost use Rattle.std.specs.Prelude.{◌≡◌, map, IfOk, Ok, OnOk, Err, Result};
 ghost use Rattle.record_batch.specs.Fact.{fact_of};
-ghost use Rattle.sequence_table.specs.Fits.{is_in_order};
 ghost use Rattle.rm_message.specs.declared.message.Message.{Message as Said};
 ghost use Rattle.rm_message.specs.declared.refusal.Refusal.{Refusal as Refused};
 ghost use Rattle.rm_protocol.specs.Calls.{receive as receive_of};
@@ -36,7 +35,6 @@ fn answer_to_message(
     message: Message,
 ) -> Result<Answered, Memory>
     requires serves { Serves tables.now.records place }
-    requires in_order { is_in_order kept.now.granted ≡ true }
     requires numbers { HasNumbers message }
     ensures is { (terms : Terms) → AreOwn terms → IfOk result (λ a. whole a ≡ polls_of kept.now.polled.waits
         (Ok message) (receive_of terms tables.now.records place now kept.now.granted (Ok message))) }
@@ -74,7 +72,6 @@ pub(crate) fn answer_to_bytes(
     bytes: &[u8],
 ) -> Result<Answered, Memory>
     requires serves { Serves tables.now.records place }
-    requires in_order { is_in_order kept.now.granted ≡ true }
     ensures is { (terms : Terms) → AreOwn terms → (content : Result Said Refused) → IsReadAs bytes.now content
         → IfOk result (λ a. whole a ≡ polls_of kept.now.polled.waits content
         (receive_of terms tables.now.records place now kept.now.granted content)) }

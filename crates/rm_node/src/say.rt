@@ -1,8 +1,7 @@
 //! What a node says to a call.
-ghost use Rattle.std.specs.Prelude.{◌≡◌, ◌≤◌, true, false, map, IfErr, IfOk, OnOk};
+ghost use Rattle.std.specs.Prelude.{◌≡◌, ◌≤◌, false, map, IfErr, IfOk, OnOk};
 ghost use Rattle.rm_base.specs.Limits.{now_max};
 ghost use Rattle.record_batch.specs.Fact.{fact_of};
-ghost use Rattle.sequence_table.specs.Fits.{is_in_order};
 ghost use Rattle.rm_protocol.specs.Calls.{tick as tick_of};
 ghost use Rattle.rm_protocol.specs.Terms.{Terms};
 ghost use Rattle.node_laws.specs.OwnTerms.{AreOwn};
@@ -101,7 +100,6 @@ fn answer_to(
     call: Call<'_>,
 ) -> Result<Answered, Memory>
     requires serves { Serves tables.now.records place }
-    requires in_order { is_in_order kept.now.granted ≡ true }
     requires may { MayBeAsked call }
     ensures is { (terms : Terms) → AreOwn terms → (besides : Keeping) → Keeps kept.now besides → (asked : Asked)
         → Asks call.entry asked

@@ -1,7 +1,7 @@
 -- RM assertions as values: WS-RM Policy 1.2, section 2. Elements of other namespaces, and attributes but for Optional,
 -- may stand anywhere and say nothing.
-use Rattle.std.specs.Prelude.{◌≡◌, ℕ, List, [], ◌∷◌, Bool, true, false, ◌||◌, if◌then◌else◌, Option, Some, None}
-use Rattle.std.specs.Prelude.{is_some, Result, Ok, Err, codes}
+use Rattle.std.specs.Prelude.{◌≡◌, ℕ, List, [], ◌∷◌, Bool, true, false, ◌||◌, ◌&&◌, not, if◌then◌else◌, Option, Some}
+use Rattle.std.specs.Prelude.{None, is_some, Result, Ok, Err, codes}
 use Rattle.std.specs.Str.{bytes_eq}
 use Rattle.soap_profile.specs.Tree.{Element, name_of, attrs_of, parts_of}
 use Rattle.soap_profile.specs.declared.tree.Attr.{Attr}
@@ -18,12 +18,17 @@ use Rattle.rm_policy.specs.declared.error.PolicyError.TheVariants.{Malformed, Se
 use Rattle.rm_policy.specs.declared.read.Delivery.{Delivery}
 use Rattle.rm_policy.specs.declared.word.Word.TheVariants as words
 
--- nodes that deliver each message exactly once, and in order, keep it
-abbrev pub is_granted : Assurance → Bool
-is_granted Unsaid = true
-is_granted ExactlyOnce = true
-is_granted AtLeastOnce = false
-is_granted AtMostOnce = false
+-- nodes that deliver each message exactly once keep the assurance
+abbrev pub is_once : Assurance → Bool
+is_once Unsaid = true
+is_once ExactlyOnce = true
+is_once AtLeastOnce = false
+is_once AtMostOnce = false
+
+-- nodes that deliver each message exactly once, and in order, keep the assertion; a loose sequence, on which messages
+-- are released as they come, keeps it where InOrder isn't asked
+abbrev pub is_granted : Assertion → Bool → Bool
+is_granted a loose = is_once a.assurance && not (loose && a.in_order)
 
 -- InOrder is said only beside an assurance
 abbrev pub IsOrdered : Assurance → Bool → Type 0

@@ -36,12 +36,13 @@ pub struct Assertion {
     pub optional: bool,
 }
 
-/// Whether our nodes keep the assertion: they deliver each message exactly once, and in order.
-pub fn grants(assertion: &Assertion) -> bool
-    ensures { result ≡ is_granted assertion.now.assurance }
+/// Whether our nodes keep the assertion on an ordered sequence, or on a loose one. They deliver each message exactly
+/// once, on an ordered sequence in the order of the numbers and on a loose one as the messages come.
+pub fn grants(assertion: &Assertion, loose: bool) -> bool
+    ensures { result ≡ is_granted assertion.now loose }
 {
     match assertion.assurance {
-        Assurance::Unsaid | Assurance::ExactlyOnce => true,
+        Assurance::Unsaid | Assurance::ExactlyOnce => !(loose && assertion.in_order),
         Assurance::AtLeastOnce | Assurance::AtMostOnce => false,
     }
 }

@@ -16,7 +16,7 @@ use Rattle.rm_base.specs.declared.message.Cause.TheVariants.{Peer}
 use Rattle.rm_base.specs.declared.message.Payload.{Payload}
 use Rattle.record_batch.specs.Fact.{Fact, Received, Closed, Ended}
 use Rattle.rm_destination.specs.Incoming.{inbox_of}
-use Rattle.rm_destination.specs.Messages.{is_empty, sorted_onto, with_message, without_gap}
+use Rattle.rm_destination.specs.Messages.{contents_of, is_empty, sorted_onto, with_message, without_gap}
 use Rattle.sequence_table.specs.Words.{at_seq}
 use Rattle.sequence_table.specs.Makers.{Maker, makers, makers_of, maker}
 use Rattle.sequence_table.specs.Destinations.{behaviour, behaviour_of, close_of, closes, cursor, cursor_of, held}
@@ -76,17 +76,23 @@ gap-prefix k n p (m ∷ ms) lt =
         )
 
 -- of a sequence of which nothing was told yet, a message more
-inbox-received : (y : Behaviour) (ms : List (ℕ × Payload)) (n : ℕ) (p : Payload) → 0 < n
-    → IsPrefixOf (inbox_of y [] ms) (inbox_of y [] (with_message ms n p))
-inbox-received FollowingFirstGap ms n p lt = gap-prefix 0 n p ms lt
-inbox-received NoDiscard ms n p lt = gap-prefix 0 n p ms lt
-inbox-received EntireSequence ms n p lt = ([], refl)
+inbox-received : (y : Behaviour) (came : List (ℕ × Payload)) (n : ℕ) (p : Payload) → 0 < n
+    → IsPrefixOf (inbox_of y [] came) (inbox_of y [] (came ++ (n, p) ∷ []))
+inbox-received FollowingFirstGap came n p lt =
+    subst (λ ms. IsPrefixOf (without_gap 0 (sorted_onto [] came)) (without_gap 0 ms)) (sym (sorted-push [] came n p))
+    (gap-prefix 0 n p (sorted_onto [] came) lt)
+inbox-received NoDiscard came n p lt = (p ∷ [], pushed came)
+  where
+    pushed : (ms : List (ℕ × Payload)) → contents_of (ms ++ (n, p) ∷ []) ≡ contents_of ms ++ p ∷ []
+    pushed [] = refl
+    pushed (m ∷ ms) = ap (λ xs. m.1 ∷ xs) (pushed ms)
+inbox-received EntireSequence came n p lt = ([], refl)
 
 -- more is told: the first counts
 inbox-told : (y : Behaviour) (ns more : List ℕ) (ms : List (ℕ × Payload))
     → IsPrefixOf (inbox_of y ns ms) (inbox_of y (ns ++ more) ms)
-inbox-told FollowingFirstGap ns more ms = prefix-self (without_gap 0 ms)
-inbox-told NoDiscard ns more ms = prefix-self (without_gap 0 ms)
+inbox-told FollowingFirstGap ns more ms = prefix-self (without_gap 0 (sorted_onto [] ms))
+inbox-told NoDiscard ns more ms = prefix-self (contents_of ms)
 inbox-told EntireSequence [] more ms = (inbox_of EntireSequence more ms, refl)
 inbox-told EntireSequence (n ∷ ns) more ms = prefix-self (inbox_of EntireSequence (n ∷ ns) ms)
 
@@ -154,17 +160,16 @@ received-fits r s n p fit =
 -- what was released begins what is released after one more record
 abbrev Releases : List Fact → ℕ → Fact → Type 0
 Releases a t f = IsPrefixOf (released a t)
-    (inbox_of (behaviour a t) (told (a ++ f ∷ []) t) (sorted_onto [] (received (a ++ f ∷ []) t)))
+    (inbox_of (behaviour a t) (told (a ++ f ∷ []) t) (received (a ++ f ∷ []) t))
 
 unmoved : (a : List Fact) (t : ℕ) (f : Fact) → received_of t f ≡ [] → Releases a t f
 unmoved a t f none =
     let came : received (a ++ f ∷ []) t ≡ received a t =
     flat_map-more (received_of t) a f ∙ ap (λ ms. received a t ++ ms) none ∙ append-nil (received a t) in
-    subst (λ ns. IsPrefixOf (released a t) (inbox_of (behaviour a t) ns
-    (sorted_onto [] (received (a ++ f ∷ []) t)))) (sym (at_seq-more t told_of a f))
-    (subst (λ ms. IsPrefixOf (released a t) (inbox_of (behaviour a t) (told a t ++ at_seq t (told_of f))
-    (sorted_onto [] ms))) (sym came)
-    (inbox-told (behaviour a t) (told a t) (at_seq t (told_of f)) (sorted_onto [] (received a t))))
+    subst (λ ns. IsPrefixOf (released a t) (inbox_of (behaviour a t) ns (received (a ++ f ∷ []) t)))
+    (sym (at_seq-more t told_of a f))
+    (subst (λ ms. IsPrefixOf (released a t) (inbox_of (behaviour a t) (told a t ++ at_seq t (told_of f)) ms)) (sym came)
+    (inbox-told (behaviour a t) (told a t) (at_seq t (told_of f)) (received a t)))
 
 moved : (r a : List Fact) (t n : ℕ) (p : Payload) → Keeps r a → fits r (Received t n p) ≡ true
     → Releases a t (Received t n p)
@@ -175,15 +180,12 @@ moved r a t n p k fit =
     let still : told (a ++ f ∷ []) t ≡ [] = at_seq-more t told_of a f ∙ ap (λ ns. ns ++ []) none in
     let came : received (a ++ f ∷ []) t ≡ received a t ++ (n, p) ∷ [] =
     flat_map-more (received_of t) a f ∙ ap (λ b. received a t ++ cond b ((n, p) ∷ []) []) (eq-eqb t t refl) in
-    let more : sorted_onto [] (received (a ++ f ∷ []) t) ≡ with_message (sorted_onto [] (received a t)) n p =
-    ap (sorted_onto []) came ∙ sorted-push [] (received a t) n p in
-    subst (λ ns. IsPrefixOf (inbox_of (behaviour a t) ns (sorted_onto [] (received a t)))
-    (inbox_of (behaviour a t) (told (a ++ f ∷ []) t) (sorted_onto [] (received (a ++ f ∷ []) t)))) (sym none)
-    (subst (λ ns. IsPrefixOf (inbox_of (behaviour a t) [] (sorted_onto [] (received a t)))
-    (inbox_of (behaviour a t) ns (sorted_onto [] (received (a ++ f ∷ []) t)))) (sym still)
-    (subst (λ ms. IsPrefixOf (inbox_of (behaviour a t) [] (sorted_onto [] (received a t)))
-    (inbox_of (behaviour a t) [] ms)) (sym more)
-    (inbox-received (behaviour a t) (sorted_onto [] (received a t)) n p open_.from)))
+    subst (λ ns. IsPrefixOf (inbox_of (behaviour a t) ns (received a t))
+    (inbox_of (behaviour a t) (told (a ++ f ∷ []) t) (received (a ++ f ∷ []) t))) (sym none)
+    (subst (λ ns. IsPrefixOf (inbox_of (behaviour a t) [] (received a t))
+    (inbox_of (behaviour a t) ns (received (a ++ f ∷ []) t))) (sym still)
+    (subst (λ ms. IsPrefixOf (inbox_of (behaviour a t) [] (received a t)) (inbox_of (behaviour a t) [] ms)) (sym came)
+    (inbox-received (behaviour a t) (received a t) n p open_.from)))
 
 by-kind : (r a : List Fact) (t : ℕ) (f : Fact) → Keeps r a → fits r f ≡ true → Releases a t f
 by-kind r a t (Received s n p) k fit = elim (s == t) as (λ b. (s == t) ≡ b → Releases a t (Received s n p)) [
@@ -199,14 +201,14 @@ released-add : (r a b : List Fact) (f : Fact) (t : ℕ) → Keeps r a → AllByR
 released-add r a b f t k just fit = elim (received-made a b a t just) [
   | inl none ↦
       let nothing : released a t ≡ [] =
-      ap (λ ms. inbox_of (behaviour a t) (told a t) (sorted_onto [] ms)) none ∙ nothing_in (behaviour a t) (told a t) in
+      ap (λ ms. inbox_of (behaviour a t) (told a t) ms) none ∙ nothing_in (behaviour a t) (told a t) in
       (released (a ++ f ∷ []) t, ap (λ xs. xs ++ released (a ++ f ∷ []) t) (sym nothing))
   | inr made ↦
       let more : maker (a ++ f ∷ []) t ≡ maker a t =
       ap (λ ms. numbered ms t) (flat_map-more makers_of a f)
       ∙ numbered-append (makers a) (makers_of f) t made.0 made.1 ∙ sym made.1 in
       subst (λ y. IsPrefixOf (released a t)
-      (inbox_of y (told (a ++ f ∷ []) t) (sorted_onto [] (received (a ++ f ∷ []) t)))) (sym (ap behaviour_of more))
+      (inbox_of y (told (a ++ f ∷ []) t) (received (a ++ f ∷ []) t))) (sym (ap behaviour_of more))
       (by-kind r a t f k fit)
 ]
 

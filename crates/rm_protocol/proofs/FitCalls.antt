@@ -45,7 +45,7 @@ use Rattle.sequence_table.specs.Sources.{is_sending, out_ident, phase, unacked}
 use Rattle.sequence_table.specs.Find.{find_incoming, find_outgoing, find_creating, find_grant, is_granted}
 use Rattle.sequence_table.specs.Find.{is_offered, find_from, peer}
 use Rattle.sequence_table.specs.Fits.{is_outgoing_side, is_incoming_side, follows, follows_at, is_up_to, fits}
-use Rattle.sequence_table.specs.Fits.{all_fit, is_in_order, is_no_moment, offer_fits, has_places}
+use Rattle.sequence_table.specs.Fits.{all_fit, is_no_moment, offer_fits, has_places}
 use Rattle.rm_destination.specs.Incoming.{is_past}
 use Rattle.rm_destination.specs.Messages.{any_true}
 use Rattle.sequence_table.specs.Destinations.{held, front, close_of, closes, is_stopped, has_end}
@@ -235,10 +235,10 @@ granted-places r drawn t k y deadline lapse (Some offer) h =
     le_test (length (makers r) + 2) 4294967295 (omega arith)
 
 create_row-fits : (r : List Fact) (terms : Terms) (now : ℕ) (y : Behaviour) (t : Option Text) (c : CreateSequence)
-    → EndsLater terms → is_in_order y ≡ true → refuses_create r t (body.Lifecycle (life.Create c)) ≡ false
+    → EndsLater terms → refuses_create r t (body.Lifecycle (life.Create c)) ≡ false
     → all_fit r (create_row terms now y t c r) ≡ true
-create_row-fits r terms now y None c l o h = refl
-create_row-fits r terms now y (Some t) c l o h = by_found (find_grant r t) h
+create_row-fits r terms now y None c l h = refl
+create_row-fits r terms now y (Some t) c l h = by_found (find_grant r t) h
   where
     by_found : (x : Option ℕ)
         → (is_none x && (is_nowhere c.acks_to.address || nat_le most_sequences (length (makers r)))) ≡ false
@@ -249,10 +249,9 @@ create_row-fits r terms now y (Some t) c l o h = by_found (find_grant r t) h
         let ends = terms.deadline now c.expires in
         let rec = Granted (counter r + 1) t c.acks_to y ends c.expires (taken_of r c.offer) in
         alone r rec (both (counter r + 1 == counter r + 1)
-        (not (is_no_moment ends) && (is_in_order y && has_places r rec)) (same_number (counter r + 1))
-        (both (not (is_no_moment ends)) (is_in_order y && has_places r rec) (a_moment now ends (l now c.expires))
-        (both (is_in_order y) (has_places r rec) o
-        (granted-places r (counter r + 1) t c.acks_to y ends c.expires (taken_of r c.offer) room))))
+        (not (is_no_moment ends) && has_places r rec) (same_number (counter r + 1))
+        (both (not (is_no_moment ends)) (has_places r rec) (a_moment now ends (l now c.expires))
+        (granted-places r (counter r + 1) t c.acks_to y ends c.expires (taken_of r c.offer) room)))
 
 -- an offer that wasn't taken, behind the record for its sequence
 offered-side : (x : Option Maker) → is_offered x ≡ true → is_incoming_side x ≡ true
@@ -409,22 +408,22 @@ fault_row-fits r t subcode detail h =
 
 -- a body
 body_row-fits : (r : List Fact) (terms : Terms) (now : ℕ) (y : Behaviour) (m : Message) (content : Body)
-    → EndsLater terms → is_in_order y ≡ true → all_fit [] r ≡ true → IfSome m.sequence IsMessageNumber
+    → EndsLater terms → all_fit [] r ≡ true → IfSome m.sequence IsMessageNumber
     → refuses_create r m.addressing.message_id content ≡ false → all_fit r (body_row terms now y m content r) ≡ true
-body_row-fits r terms now y m (body.Payload p) l o h n k = data_row-fits r now m.sequence p n
-body_row-fits r terms now y m (body.Lifecycle (life.Create x)) l o h n k =
-    create_row-fits r terms now y m.addressing.message_id x l o k
-body_row-fits r terms now y m (body.Lifecycle (life.CreateResponse x)) l o h n k =
+body_row-fits r terms now y m (body.Payload p) l h n k = data_row-fits r now m.sequence p n
+body_row-fits r terms now y m (body.Lifecycle (life.Create x)) l h n k =
+    create_row-fits r terms now y m.addressing.message_id x l k
+body_row-fits r terms now y m (body.Lifecycle (life.CreateResponse x)) l h n k =
     response_row-fits r m.addressing.relates x
-body_row-fits r terms now y m (body.Lifecycle (life.Close x)) l o h n k =
+body_row-fits r terms now y m (body.Lifecycle (life.Close x)) l h n k =
     close_at-fits r now x.ident (last_of x.last_number)
-body_row-fits r terms now y m (body.Lifecycle (life.Terminate x)) l o h n k =
+body_row-fits r terms now y m (body.Lifecycle (life.Terminate x)) l h n k =
     terminate_at-fits r now x.ident (last_of x.last_number)
-body_row-fits r terms now y m (body.Lifecycle (life.CloseResponse q)) l o h n k = closed_at-fits r q h
-body_row-fits r terms now y m (body.Lifecycle (life.TerminateResponse q)) l o h n k = ended_at-fits r q h
-body_row-fits r terms now y m (body.Fault x) l o h n k = fault_row-fits r m.addressing.relates x.subcode x.detail h
-body_row-fits r terms now y m (body.Lifecycle (life.Make x)) l o h n k = refl
-body_row-fits r terms now y m body.Empty l o h n k = refl
+body_row-fits r terms now y m (body.Lifecycle (life.CloseResponse q)) l h n k = closed_at-fits r q h
+body_row-fits r terms now y m (body.Lifecycle (life.TerminateResponse q)) l h n k = ended_at-fits r q h
+body_row-fits r terms now y m (body.Fault x) l h n k = fault_row-fits r m.addressing.relates x.subcode x.detail h
+body_row-fits r terms now y m (body.Lifecycle (life.Make x)) l h n k = refl
+body_row-fits r terms now y m body.Empty l h n k = refl
 
 refuses-kept : (r new : List Fact) (t : Option Text) (content : Body) → makers new ≡ makers r
     → refuses_create new t content ≡ refuses_create r t content
@@ -435,13 +434,13 @@ refuses-kept r new _ _ e = refl
 
 -- all rows
 rows-fit : (r : List Fact) (terms : Terms) (now : ℕ) (y : Behaviour) (m : Message) → EndsLater terms
-    → is_in_order y ≡ true → all_fit [] r ≡ true → HasNumbers m → AllByRecursion (IsValid r) m.acks
+    → all_fit [] r ≡ true → HasNumbers m → AllByRecursion (IsValid r) m.acks
     → refuses_create r m.addressing.message_id m.body ≡ false → all_fit r (rows terms now y m r) ≡ true
-rows-fit r terms now y m l o h n v k =
+rows-fit r terms now y m l h n v k =
     let acks : IsQuiet r (ack_rows m.acks r) = ack_rows-quiet r m.acks h v in
     let new = r ++ ack_rows m.acks r in
     all_fit-append r (ack_rows m.acks r) (body_row terms now y m m.body new) acks.fit
-    (body_row-fits new terms now y m m.body l o (all_fit-append [] r (ack_rows m.acks r) h acks.fit) n.sequence
+    (body_row-fits new terms now y m m.body l (all_fit-append [] r (ack_rows m.acks r) h acks.fit) n.sequence
     (refuses-kept r new m.addressing.message_id m.body acks.stays.makers_ ∙ k))
 
 -- receive
@@ -453,17 +452,17 @@ are-valid r (block ∷ blocks) h e =
     (record { valid = parts.0; ranges = h.0 }, are-valid r blocks h.1 parts.1)
 
 receive-fits : (terms : Terms) (r : List Fact) (place now : ℕ) (y : Behaviour) (content : Result Message Refusal)
-    → EndsLater terms → all_fit [] r ≡ true → is_in_order y ≡ true → IsReadable content
+    → EndsLater terms → all_fit [] r ≡ true → IsReadable content
     → all_fit r (receive terms r place now y content).delta ≡ true
-receive-fits terms r place now y (Err refused) l h o n = refl
-receive-fits terms r place now y (Ok m) l h o n = by_verdict (verdict terms r place now y m) refl
+receive-fits terms r place now y (Err refused) l h n = refl
+receive-fits terms r place now y (Ok m) l h n = by_verdict (verdict terms r place now y m) refl
   where
     by_verdict : (v : Option FaultKind) → verdict terms r place now y m ≡ v
         → all_fit r (judged terms r now y m v).delta ≡ true
     by_verdict (Some kind) e = refl
     by_verdict None e =
         let none = none-held (tests terms r place now y m) e in
-        rows-fit r terms now y m l o h n (are-valid r m.acks n.acks none.1.1.1.1.0) none.1.1.1.1.1.0
+        rows-fit r terms now y m l h n (are-valid r m.acks n.acks none.1.1.1.1.0) none.1.1.1.1.1.0
 
 -- the node's own calls
 refused-or-fits : (r : List Fact) (x : Bool) (cause : Cause) (answer : Answer)
@@ -490,27 +489,24 @@ on_outgoing-fits r (Some (Incoming c t k y d l)) answer h = refl
 
 -- create
 creating-fits : (r : List Fact) (to : Text) (via : Via) (lapse : Lapse) (offer : Option Behaviour)
-    → IfSome offer (λ behaviour. is_in_order behaviour ≡ true)
     → nat_lt most_sequences (length (makers r) + wanted offer) ≡ false
     → fits r (Creating (counter r + 1) to via lapse (offer_of (counter r) offer)) ≡ true
-creating-fits r to via lapse None o h =
+creating-fits r to via lapse None h =
     let few : length (makers r) + 1 ≤ most_sequences = not_lt most_sequences (length (makers r) + 1) h in
     let rec = Creating (counter r + 1) to via lapse None in
     both (counter r + 1 == counter r + 1) (has_places r rec) (same_number (counter r + 1))
     (le_test (length (makers r) + 1) 4294967295 (omega arith))
-creating-fits r to via lapse (Some y) o h =
+creating-fits r to via lapse (Some y) h =
     let few : length (makers r) + 2 ≤ most_sequences = not_lt most_sequences (length (makers r) + 2) h in
     let rec = Creating (counter r + 1) to via lapse (offer_of (counter r) (Some y)) in
     let next = offer_fits (counter r) (offer_of (counter r) (Some y)) in
     both (counter r + 1 == counter r + 1) (next && has_places r rec) (same_number (counter r + 1))
-    (both next (has_places r rec)
-    (both (counter r + 2 == counter r + 2) (is_in_order y) (same_number (counter r + 2)) o)
+    (both next (has_places r rec) (same_number (counter r + 2))
     (le_test (length (makers r) + 2) 4294967295 (omega arith)))
 
 create-fits : (terms : Terms) (r : List Fact) (place : ℕ) (wish : Wish)
-    → IfSome wish.offer (λ behaviour. is_in_order behaviour ≡ true)
     → all_fit r (create terms r place wish).delta ≡ true
-create-fits terms r place wish o =
+create-fits terms r place wish =
     refused-or-fits r (nat_lt most_sequences (length (makers r) + wanted wish.offer))
     (TooManySequences (length (makers r))) _
     (λ e. if_room-fits terms r place (adds r
@@ -520,7 +516,7 @@ create-fits terms r place wish o =
   where
     new : nat_lt most_sequences (length (makers r) + wanted wish.offer) ≡ false
         → fits r (Creating (counter r + 1) wish.to wish.via wish.expires (offer_of (counter r) wish.offer)) ≡ true
-    new e = creating-fits r wish.to wish.via wish.expires wish.offer o e
+    new e = creating-fits r wish.to wish.via wish.expires wish.offer e
 
 -- send
 open-follows : (p : OutPhase) (s : ℕ) (text : Text) → is_open p ≡ true → follows p (Accepted s text) ≡ true
@@ -709,7 +705,7 @@ consume-fits terms r place s upto =
 pub adds-next : (terms : Terms) (r : List Fact) (place : ℕ) → EndsLater terms → all_fit [] r ≡ true
     → AddsNext terms r place
 adds-next terms r place l h = record {
-  create_ = λ wish o. create-fits terms r place wish o;
+  create_ = λ wish. create-fits terms r place wish;
   send_ = λ s text. send-fits terms r place s text;
   close_ = λ s now. close-fits terms r place s now;
   end_ = λ s. end-fits terms r place s;
@@ -717,5 +713,5 @@ adds-next terms r place l h = record {
   ask_ack_ = λ s. ask_ack-fits r s;
   nack_missing_ = λ s now. nack_missing-fits r s now;
   consume_ = λ s upto. consume-fits terms r place s upto;
-  receive_ = λ now y content o n. receive-fits terms r place now y content l h o n;
+  receive_ = λ now y content n. receive-fits terms r place now y content l h n;
 }

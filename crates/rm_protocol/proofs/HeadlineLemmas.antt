@@ -20,7 +20,7 @@ use Rattle.sequence_table.specs.Idents.{issue}
 use Rattle.sequence_table.specs.Makers.{Maker, Outgoing, Offered, Incoming, Taken, makers, makers_of, maker, counter}
 use Rattle.sequence_table.specs.Makers.{number, created_from, ident_in}
 use Rattle.sequence_table.specs.Sources.{accepted, acked, marks}
-use Rattle.rm_destination.specs.Incoming.{inbox_of}
+use Rattle.rm_destination.specs.Incoming.{inbox_of, is_loose}
 use Rattle.sequence_table.specs.Destinations.{received, received_of, told, behaviour}
 use Rattle.rm_destination.specs.Incoming.{is_whole, is_whole_by, last_number as last_told}
 use Rattle.sequence_table.specs.Destinations.{texts}
@@ -31,7 +31,7 @@ use Rattle.std.proofs.Common.{◌^◌, drop}
 use Rattle.rm_base.specs.NumberSet.{greatest_of}
 use Rattle.rm_base.specs.declared.message.Behaviour.TheVariants.{NoDiscard, EntireSequence, FollowingFirstGap}
 use Rattle.sequence_table.specs.Idents.{IssuesOnce}
-use Rattle.rm_protocol.specs.Word.{IsPrefixOf, Matches, KeepsWholeWord}
+use Rattle.rm_protocol.specs.Word.{IsItemOf, IsPrefixOf, KeepsWholeWord, Matches}
 use Rattle.rm_protocol.proofs.ListLemmas.{All-append, All-numbered, numbered-next, numbered-map, numbered-within}
 use Rattle.rm_protocol.proofs.ListLemmas.{Rises-unique, Rises-below}
 use Rattle.rm_protocol.proofs.Kept.{in_ranges-join}
@@ -202,16 +202,13 @@ All-sorted : (P : (ℕ × Payload) → Type 0) (acc ms : List (ℕ × Payload)) 
 All-sorted P acc [] h k = h
 All-sorted P acc (m ∷ ms) h k = All-sorted P (with_message acc m.0 m.1) ms (All-with_message P acc m.0 m.1 h k.0) k.1
 
-abbrev IsItem : List Text → ℕ × Payload → Type 0
-IsItem texts m = numbered texts m.0 ≡ Some m.1.bytes
-
 drop-numbered : {A : Type 0} (xs : List A) (k : ℕ) (x : A) → slice_get xs k ≡ Some x → drop k xs ≡ x ∷ drop (k + 1) xs
 drop-numbered [] k x e = absurd (cc)
 drop-numbered (y ∷ ys) zero x e = let same : y ≡ x = cc in ap (λ z. z ∷ ys) same
 drop-numbered (y ∷ ys) (suc k) x e = let next : suc k + 1 ≡ suc (k + 1) = omega arith in
     rw next (drop-numbered ys k x e)
 
-without_gap-prefix : (n : ℕ) (given : List Text) (ms : List (ℕ × Payload)) → AllByRecursion (IsItem given) ms
+without_gap-prefix : (n : ℕ) (given : List Text) (ms : List (ℕ × Payload)) → AllByRecursion (IsItemOf given) ms
     → IsPrefixOf (texts (without_gap n ms)) (drop n given)
 without_gap-prefix n given [] h = (drop n given, refl)
 without_gap-prefix n given (m ∷ ms) h =
@@ -234,9 +231,9 @@ without_gap-prefix n given (m ∷ ms) h =
 -- each message received on a sequence is an item of its match
 pub received-items : (n m : ℕ) (a b : List Fact) (s t : ℕ) (q u : Text) → Agree n m a b → IsBetween b a t
     → IsOutgoing a s q → IsIncoming b t q u
-    → AllByRecursion (IsItem (accepted a s)) (received b t)
+    → AllByRecursion (IsItemOf (accepted a s)) (received b t)
 received-items n m a b s t q u h w o k =
-    received-all a b t (IsItem (accepted a s)) w (λ i p e.
+    received-all a b t (IsItemOf (accepted a s)) w (λ i p e.
     let name : e.ident ≡ q = same_ident b t e.ident q e.message_id u e.incoming k in
     let same : e.sent.seq ≡ s = h.owns.unique e.sent.seq s q (subst (IsOutgoing a e.sent.seq) name e.sent.outgoing) o in
     subst (λ z. numbered (accepted a z) i ≡ Some p.bytes) same e.sent.item) b h.others_justified
@@ -271,22 +268,21 @@ complete-all : (ns : List ℕ) (ms : List (ℕ × Payload)) → is_whole_by ns m
 complete-all [] ms e = absurd (cc)
 complete-all (n ∷ ns) ms e = whole-all n ms e
 
-entire-prefix : (ns : List ℕ) (ms : List (ℕ × Payload)) (given : List Text) → AllByRecursion (IsItem given) ms
-    → IsPrefixOf (texts (inbox_of EntireSequence ns ms)) given
+entire-prefix : (ns : List ℕ) (ms : List (ℕ × Payload)) (given : List Text) → AllByRecursion (IsItemOf given) ms
+    → IsPrefixOf (texts (cond (is_whole_by ns ms) (contents_of ms) [])) given
 entire-prefix ns ms given h =
     elim (is_whole_by ns ms) as (λ b. is_whole_by ns ms ≡ b → IsPrefixOf (texts (cond b (contents_of ms) [])) given) [
       | true ↦ λ e. subst (λ z. IsPrefixOf (texts z) given) (complete-all ns ms e) (without_gap-prefix 0 given ms h)
       | false ↦ λ e. (given, refl)
     ] refl
 
-inbox_of-prefix : (y : Behaviour) (ns : List ℕ) (ms : List (ℕ × Payload)) (given : List Text)
-    → AllByRecursion (IsItem given) ms
-    → IsPrefixOf (texts (inbox_of y ns ms)) given
-inbox_of-prefix FollowingFirstGap ns ms given h = without_gap-prefix 0 given ms h
-inbox_of-prefix NoDiscard ns ms given h = without_gap-prefix 0 given ms h
-inbox_of-prefix EntireSequence ns ms given h = entire-prefix ns ms given h
+inbox_of-prefix : (y : Behaviour) (ns : List ℕ) (came : List (ℕ × Payload)) (given : List Text) → is_loose y ≡ false
+    → AllByRecursion (IsItemOf given) (sorted_onto [] came) → IsPrefixOf (texts (inbox_of y ns came)) given
+inbox_of-prefix FollowingFirstGap ns came given ordered h = without_gap-prefix 0 given (sorted_onto [] came) h
+inbox_of-prefix NoDiscard ns came given ordered h = absurd (cc)
+inbox_of-prefix EntireSequence ns came given ordered h = entire-prefix ns (sorted_onto [] came) given h
 
-no_items : (given : List Text) (ms : List (ℕ × Payload)) → length given ≡ 0 → AllByRecursion (IsItem given) ms
+no_items : (given : List Text) (ms : List (ℕ × Payload)) → length given ≡ 0 → AllByRecursion (IsItemOf given) ms
     → contents_of ms ≡ []
 no_items given [] e h = refl
 no_items [] (m ∷ ms) e h = absurd (by_number m.0 h.0)
@@ -310,11 +306,15 @@ prefix-all xs ys (rest, e) l =
     by_rest [] z k = sym (k ∙ append-nil xs)
     by_rest (x ∷ r) z k = absurd (omega arith)
 
+-- what is released of messages by number under DiscardEntireSequence
+abbrev entire : List ℕ → List (ℕ × Payload) → List Payload
+entire ns ms = cond (is_whole_by ns ms) (contents_of ms) []
+
 -- of all that was told each number is the length of what was accepted, and then P
 inbox_of-whole : (ns : List ℕ) (ms : List (ℕ × Payload)) (given : List Text) (P : Type 0)
-    → AllByRecursion (IsItem given) ms
+    → AllByRecursion (IsItemOf given) ms
     → AllByRecursion (λ n. (length given ≡ n) × P) ns
-    → (inbox_of EntireSequence ns ms ≡ []) ⊎ ((texts (inbox_of EntireSequence ns ms) ≡ given) × P)
+    → (entire ns ms ≡ []) ⊎ ((texts (entire ns ms) ≡ given) × P)
 inbox_of-whole [] ms given P h f = inl refl
 inbox_of-whole (n ∷ ns) ms given P h f =
     elim (is_whole n ms) as (λ b. is_whole n ms ≡ b
@@ -345,8 +345,8 @@ nothing_in EntireSequence ns = elim (is_whole_by {A = Payload} ns []) as (λ b. 
 
 items : (n m : ℕ) (a b : List Fact) (s t : ℕ) (q u : Text) → Agree n m a b → IsBetween b a t → IsOutgoing a s q
     → IsIncoming b t q u
-    → AllByRecursion (IsItem (accepted a s)) (sorted_onto [] (received b t))
-items n m a b s t q u h w o k = All-sorted (IsItem (accepted a s)) [] (received b t) tt
+    → AllByRecursion (IsItemOf (accepted a s)) (sorted_onto [] (received b t))
+items n m a b s t q u h w o k = All-sorted (IsItemOf (accepted a s)) [] (received b t) tt
     (received-items n m a b s t q u h w o k)
 
 told-one : (a b : List Fact) (s t n : ℕ) (P : ℕ → Type 0) → IsBetween b a t → ((n : ℕ) → IsTold b a t n → P n)
@@ -418,10 +418,11 @@ received-numbered a b t w h few =
 
 pub paired-word : IssuesOnce → (n m : ℕ) (a b : List Fact) → ArePaired n m a b → KeepsWholeWord a b
 paired-word once n m a b p = record {
-  prefix = λ s t k. inbox_of-prefix (behaviour b t) (told b t) (sorted_onto [] (received b t)) (accepted a s)
+  prefix = λ s t k ordered. inbox_of-prefix (behaviour b t) (told b t) (received b t) (accepted a s) ordered
       (items n m a b s t k.ident k.message_id h (p.theirs t) k.outgoing k.incoming);
-  whole = λ s t k y. subst (λ z. (inbox_of z (told b t) (sorted_onto [] (received b t)) ≡ [])
-      ⊎ ((texts (inbox_of z (told b t) (sorted_onto [] (received b t))) ≡ accepted a s)
+  items_ = λ s t k. received-items n m a b s t k.ident k.message_id h (p.theirs t) k.outgoing k.incoming;
+  whole = λ s t k y. subst (λ z. (inbox_of z (told b t) (received b t) ≡ [])
+      ⊎ ((texts (inbox_of z (told b t) (received b t)) ≡ accepted a s)
       × (is_empty (marks a s) ≡ false))) (sym y)
       (inbox_of-whole (told b t) (sorted_onto [] (received b t)) (accepted a s) (is_empty (marks a s) ≡ false)
       (items n m a b s t k.ident k.message_id h (p.theirs t) k.outgoing k.incoming)
@@ -442,7 +443,7 @@ paired-word once n m a b p = record {
             e.incoming;
       }))
       b h.others_justified) in
-      ap (λ z. inbox_of (behaviour b t) (told b t) (sorted_onto [] z)) empty ∙ nothing_in (behaviour b t) (told b t);
+      ap (λ z. inbox_of (behaviour b t) (told b t) z) empty ∙ nothing_in (behaviour b t) (told b t);
   matched = λ s q o.
       let agreed = created-one a b a 0 s q (p.mine s) (λ i m x. let z : 0 + i ≡ i = omega arith in rw z x) h.justified
       o.is in

@@ -1,27 +1,32 @@
 -- At each pair of images of both disks a sound world keeps the headline.
-use Rattle.std.proofs.Common.{◌≡◌, ◌⊎◌, ℕ, ◌<◌, ◌≤◌, ◌^◌, List, [], ◌∷◌, ◌++◌, map, sym, ap, ◌∙◌}
-use Rattle.std.proofs.Common.{arith, subst, append-nil, inl, inr}
-use Rattle.std.specs.Prelude.{drop, take, Some, false}
+use Rattle.std.proofs.Common.{◌≡◌, ◌⊎◌, ℕ, zero, suc, ◌+◌, ◌-◌, ◌<◌, ◌≤◌, ◌^◌, List, [], ◌∷◌, ◌++◌, map, refl, sym}
+use Rattle.std.proofs.Common.{ap, ◌∙◌, arith, subst, append-nil, inl, inr}
+use Rattle.std.specs.Prelude.{drop, take, Some, true, false}
 use Rattle.std.specs.List.{AllByRecursion}
 use Rattle.std.proofs.lemmas.List.{take-append-drop}
 use Rattle.rm_base.specs.Limits.{journal_bytes}
 use Rattle.rm_base.specs.NumberSet.{has_number}
 use Rattle.rm_base.specs.declared.message.Payload.{Payload}
 use Rattle.record_batch.specs.Fact.{Fact}
-use Rattle.record_snapshot.specs.FactLemmas.{behaviour_same}
+use Rattle.record_snapshot.specs.FactLemmas.{behaviour_same, not-ordered}
 use Rattle.record_snapshot.specs.PastLemmas.{from-one, held-whole, inbox-past}
-use Rattle.record_snapshot.specs.Same.{AreNumbers}
-use Rattle.rm_destination.specs.Messages.{is_empty}
-use Rattle.sequence_table.specs.Words.{at_seq}
+use Rattle.record_snapshot.specs.Same.{AreNumbers, gone_count}
+use Rattle.rm_base.specs.Numbered.{numbered}
+use Rattle.rm_destination.specs.Incoming.{is_loose}
+use Rattle.rm_destination.specs.LooseLemmas.{inbox_of-loose}
+use Rattle.rm_destination.specs.Messages.{AreOnce, contents_of, is_empty, numbers_of}
+use Rattle.sequence_table.specs.Words.{Text, at_seq}
 use Rattle.sequence_table.specs.Idents.{IssuesOnce}
-use Rattle.sequence_table.specs.Makers.{counter}
+use Rattle.sequence_table.specs.Makers.{counter, maker}
 use Rattle.sequence_table.specs.Sources.{accepted}
-use Rattle.sequence_table.specs.Destinations.{cursor, inbox, purged, received, released, texts}
+use Rattle.sequence_table.specs.Destinations.{behaviour, behaviour_of, cursor, inbox, purged, received, released, texts}
+use Rattle.sequence_table.specs.Destinations.{told}
 use Rattle.rm_protocol.specs.Crashes.{IsLeftWith, IsLeft, KeepsAll}
 use Rattle.rm_protocol.specs.Node.{Node, State, Up, Writing, Compacting, records, node_end, with_batch}
 use Rattle.rm_protocol.specs.Sound.{Agree, Allows, AllowsState, AreWith, IsBounded, IsSound, Keeps, StandFor}
 use Rattle.rm_protocol.specs.Terms.{Terms, AreTerms}
-use Rattle.rm_protocol.specs.Word.{Has, InboxIsAll, IsThere, KeepsWholeWord, KeepsWord, Matches}
+use Rattle.rm_protocol.specs.Word.{AreApart, Has, InboxIsAll, IsItemOf, IsThere, KeepsLoose, KeepsWholeWord, KeepsWord}
+use Rattle.rm_protocol.specs.Word.{Matches, accepted_at, history}
 use Rattle.rm_protocol.specs.World.{World}
 use Rattle.rm_protocol.proofs.Growth.{Grows}
 use Rattle.rm_protocol.proofs.Adds.{Agree-swap, Agree-adds, Grows-adds}
@@ -111,7 +116,8 @@ word-past : (a aw b bw : List Fact) → Keeps a aw → Keeps b bw → ((t : ℕ)
     → KeepsWholeWord aw bw → KeepsWord a aw b bw
 word-past a aw b bw k l are word = record {
   has = λ t. (released bw t, has-all t);
-  prefix = λ s t m. word.prefix s t (kept-Matches a b aw bw s t k l m);
+  prefix = λ s t m ordered. word.prefix s t (kept-Matches a b aw bw s t k l m)
+      (ap is_loose (sym (behaviour_same b bw l.same t (are t) (from-one b bw l.same none t (are t)))) ∙ ordered);
   whole = λ s t m y.
       let marks_same = ap (λ ms. is_empty (at_seq s ms)) k.same.frame.marks_ in
       subst (λ e. (released bw t ≡ []) ⊎ ((texts (released bw t) ≡ accepted aw s) × (e ≡ false))) (sym marks_same)
@@ -138,6 +144,56 @@ word-past a aw b bw k l are word = record {
           ∙ ap (λ c. take c (released bw t) ++ drop (cursor b t) (released bw t)) (l.same.got t).cursor_;
     }
 
+-- ---- of loose sequences
+
+apart-once : (ms : List (ℕ × Payload)) → AreOnce ms → AreApart (numbers_of ms)
+apart-once [] once = tt
+apart-once (m ∷ ms) once = (once.0, apart-once ms once.1)
+
+as-items : (given : List Text) (ms : List (ℕ × Payload)) → AllByRecursion (IsItemOf given) ms
+    → map Some (texts (contents_of ms)) ≡ accepted_at given (numbers_of ms)
+as-items given [] h = refl
+as-items given (m ∷ ms) h =
+    ap (λ x. x ∷ map Some (texts (contents_of ms))) (sym h.0)
+    ∙ ap (λ xs. numbered given m.0 ∷ xs) (as-items given ms h.1)
+
+numbers-split : (k : ℕ) (ms : List (ℕ × Payload))
+    → numbers_of ms ≡ numbers_of (take k ms) ++ numbers_of (drop k ms)
+numbers-split zero ms = refl
+numbers-split (suc k) [] = refl
+numbers-split (suc k) (m ∷ ms) = ap (λ ns. m.0 ∷ ns) (numbers-split k ms)
+
+loose-past : (a aw b bw : List Fact) → Keeps a aw → Keeps b bw → ((t : ℕ) → AreNumbers (received bw t))
+    → KeepsWholeWord aw bw → KeepsLoose a aw b bw
+unfolding word-past
+loose-past a aw b bw k l are word =
+    let image = word-past a aw b bw k l are word in
+    record {
+      has = image.has;
+      held = λ s t m loose n e. image.held s t m n e;
+      comes = λ s t m loose.
+          let there = kept-Matches a b aw bw s t k l m in
+          let none : purged bw t ≡ [] = none-purged bw t l.live in
+          let whole_loose : is_loose (behaviour bw t) ≡ true =
+          ap is_loose (sym (ap (λ ms. behaviour_of (numbered ms t)) l.same.frame.makers_)) ∙ loose in
+          let first = (l.same.got t).earliest (not-ordered (maker bw t) whole_loose) in
+          let g = gone_count b t - gone_count bw t in
+          record {
+            numbers = numbers_of (received bw t);
+            once = apart-once (received bw t) (l.same.got t).once;
+            exactly = λ n.
+                ap (λ ns. has_number ns n) (sym (held-whole b bw l.same (λ u. none-purged bw u l.live) t (are t)))
+                ∙ sym ((l.same.got t).held_ n);
+            payloads =
+                ap (λ xs. map Some (texts xs))
+                (inbox_of-loose (behaviour bw t) (told bw t) (received bw t) whole_loose)
+                ∙ as-items (history aw s) (received bw t) (word.items_ s t there);
+            first = numbers_of (take g (received bw t));
+            last = numbers-split g (received bw t)
+                ∙ ap (λ ms. numbers_of (take g (received bw t)) ++ numbers_of ms) (sym first.left);
+          };
+    }
+
 -- where nothing was consumed, it speaks of the whole inbox
 pub inbox-is-all : InboxIsAll
 inbox-is-all a aw b bw word t none none_whole =
@@ -145,10 +201,12 @@ inbox-is-all a aw b bw word t none none_whole =
     ap (λ n. drop n (inbox b t)) (sym none) ∙ has.left
     ∙ ap (map Some) (sym (has.all_ ∙ ap (λ n. take n (released bw t) ++ has.rest) none_whole))
 
--- the headline in both directions
+-- what a pair of images keeps, in both directions
 record Both (a aw b bw : List Fact) : Type 0 where
   there : KeepsWord a aw b bw
   back : KeepsWord b bw a aw
+  loose_there : KeepsLoose a aw b bw
+  loose_back : KeepsLoose b bw a aw
 
 from-numbered : (ms : List (ℕ × Payload)) → AllByRecursion (λ (m : ℕ × Payload). IsNumbered m.0) ms → AreNumbers ms
 from-numbered [] h = tt
@@ -157,24 +215,10 @@ from-numbered (m ∷ ms) h = (h.0.from, from-numbered ms h.1)
 both-words : IssuesOnce → SnapshotLaws → (terms : Terms) (w : World) (a aw b bw : List Fact) → AreTerms terms
     → IsSound terms w → IsLeft w.one a aw → IsLeft w.two b bw → Both a aw b bw
 both-words once laws terms w a aw b bw t h x y = record {
-  there = word-past a aw b bw one.stands.kept two.stands.kept (λ t. from-numbered (received bw t)
-      (received-numbered aw bw t (between-all bw aw with_two t) both.justified (whole-few a aw one.stands)))
-      (paired-word once 1 2 aw bw (record {
-        agree = Agree-swap 2 1 bw aw both;
-        small = record { node = omega arith; counter = two.small };
-        mine = between-all aw bw with_one;
-        theirs = between-all bw aw with_two;
-        live = one.stands.kept.live;
-      }));
-  back = word-past b bw a aw two.stands.kept one.stands.kept (λ t. from-numbered (received aw t)
-      (received-numbered bw aw t (between-all aw bw with_one t) both.others_justified (whole-few b bw two.stands)))
-      (paired-word once 2 1 bw aw (record {
-        agree = both;
-        small = record { node = omega arith; counter = one.small };
-        mine = between-all bw aw with_two;
-        theirs = between-all aw bw with_one;
-        live = two.stands.kept.live;
-      }));
+  there = word-past a aw b bw one.stands.kept two.stands.kept numbers_two whole_there;
+  back = word-past b bw a aw two.stands.kept one.stands.kept numbers_one whole_back;
+  loose_there = loose-past a aw b bw one.stands.kept two.stands.kept numbers_two whole_there;
+  loose_back = loose-past b bw a aw two.stands.kept one.stands.kept numbers_one whole_back;
 }
   where
     one : Left w.one.whole w.two.whole a aw
@@ -206,11 +250,39 @@ both-words once laws terms w a aw b bw t h x y = record {
     with_two = subst (AreWith aw) (sym two.is) (AreWith-append aw w.two.whole two.delta
         (AreWith-grows w.one.whole aw w.two.whole grown h.two.with_) two.with_)
 
+    numbers_two : (t : ℕ) → AreNumbers (received bw t)
+    numbers_two t = from-numbered (received bw t)
+        (received-numbered aw bw t (between-all bw aw with_two t) both.justified (whole-few a aw one.stands))
+
+    numbers_one : (t : ℕ) → AreNumbers (received aw t)
+    numbers_one t = from-numbered (received aw t)
+        (received-numbered bw aw t (between-all aw bw with_one t) both.others_justified (whole-few b bw two.stands))
+
+    whole_there : KeepsWholeWord aw bw
+    whole_there = paired-word once 1 2 aw bw (record {
+      agree = Agree-swap 2 1 bw aw both;
+      small = record { node = omega arith; counter = two.small };
+      mine = between-all aw bw with_one;
+      theirs = between-all bw aw with_two;
+      live = one.stands.kept.live;
+    })
+
+    whole_back : KeepsWholeWord bw aw
+    whole_back = paired-word once 2 1 bw aw (record {
+      agree = both;
+      small = record { node = omega arith; counter = one.small };
+      mine = between-all bw aw with_two;
+      theirs = between-all aw bw with_one;
+      live = two.stands.kept.live;
+    })
+
 pub IsSound-KeepsAll : IssuesOnce → SnapshotLaws → (terms : Terms) (w : World) → AreTerms terms → IsSound terms w
     → KeepsAll w
 IsSound-KeepsAll once laws terms w t h = record {
   one = λ a aw b bw x y. (both-words once laws terms w a aw b bw t h x y).there;
   two = λ a aw b bw x y. (both-words once laws terms w b bw a aw t h y x).back;
+  loose_one = λ a aw b bw x y. (both-words once laws terms w a aw b bw t h x y).loose_there;
+  loose_two = λ a aw b bw x y. (both-words once laws terms w b bw a aw t h y x).loose_back;
   kept_one = λ image all x. (left_by laws terms w.one w.two.whole image all w.one.state t h.one.stands h.one.bounded
       h.one.failed x).stands.kept;
   kept_two = λ image all x. (left_by laws terms w.two w.one.whole image all w.two.state t h.two.stands h.two.bounded

@@ -89,7 +89,9 @@ Keeps-made n at = record {
       received_ = refl;
       held_ = λ n. refl;
       cursor_ = refl;
-      below = λ n lt. refl;
+      below = λ _ n lt. refl;
+      earliest = λ _. record { less = omega arith; reach = omega arith; left = refl; count = refl };
+      once = tt;
     };
   };
   live = (tt, tt);

@@ -35,11 +35,11 @@ run-append terms (event ∷ first) second w = run-append terms first second (hap
 
 -- what was released and consumed at one moment of a run begins what is at a later one
 pub stays-consumed : SnapshotLaws → ConsumedStays
-stays-consumed laws terms one two t made first second o o2 =
+stays-consumed laws terms one two t made first second =
     let w = run terms first (start one two) in
     subst (StaysConsumed w) (sym (run-append terms first second (start one two)))
-    (run-steps laws terms second w t o2
-    (run-IsSound laws terms first (start one two) t o (start-IsSound terms one two made))).stays
+    (run-steps laws terms second w t
+    (run-IsSound laws terms first (start one two) t (start-IsSound terms one two made))).stays
 
 pub lines-append : (terms : Terms) (first second : List Event) (w : World)
     → lines terms (first ++ second) w ≡ lines terms first w ++ lines terms second (run terms first w)

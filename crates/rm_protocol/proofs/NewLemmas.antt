@@ -17,14 +17,15 @@ use Rattle.rm_elements.specs.declared.header.AckBlock.{AckBlock}
 use Rattle.rm_message.specs.declared.message.Message.{Message}
 use Rattle.record_batch.specs.Fact.{Fact, Acked, Received, ClosedOut}
 use Rattle.record_snapshot.specs.Same.{AreNumbers}
-use Rattle.rm_destination.specs.Messages.{gone_items, is_empty, items_of, numbers_in, sorted_onto, there_items}
-use Rattle.rm_destination.specs.Messages.{with_message, without_gap}
+use Rattle.rm_destination.specs.Messages.{Item, contents_of, gone_items, is_empty, items_of, numbers_in, sorted_onto}
+use Rattle.rm_destination.specs.Messages.{there_items, with_message, without_gap}
 use Rattle.sequence_table.specs.Words.{Text, at_seq, first_or}
 use Rattle.rm_destination.specs.Messages.{numbers_of}
 use Rattle.sequence_table.specs.Makers.{makers, makers_of, maker, nodes_of, number}
 use Rattle.sequence_table.specs.Sources.{acked, is_sending, phase}
 use Rattle.sequence_table.specs.Destinations.{received, received_of, held, close_of, told, front, is_over, items}
-use Rattle.rm_destination.specs.Incoming.{inbox_of}
+use Rattle.rm_destination.specs.Incoming.{inbox_of, is_loose}
+use Rattle.rm_destination.specs.LooseLemmas.{inbox_of-loose}
 use Rattle.sequence_table.specs.Destinations.{is_stopped, messages, inbox, behaviour, behaviour_of, purged, purged_of}
 use Rattle.sequence_table.specs.Find.{find_from, find_incoming, find_outgoing, is_incoming}
 use Rattle.rm_base.specs.declared.message.Behaviour.TheVariants.{FollowingFirstGap}
@@ -257,6 +258,29 @@ pub received-new : (terms : Terms) (r : List Fact) (now : ℕ) (y : Behaviour) (
 received-new terms r now y m s i p h = ap (λ z. received z s) (rows-after terms r now y m s i p h)
     ∙ received-last r (ack_rows m.acks r) s i p (ack_rows-acks m.acks r)
 
+contents-push : (ms : List (ℕ × Item)) (m : ℕ × Item) → contents_of (ms ++ m ∷ []) ≡ contents_of ms ++ m.1 ∷ []
+contents-push [] m = refl
+contents-push (x ∷ ms) m = ap (λ xs. x.1 ∷ xs) (contents-push ms m)
+
+pub loose-released : (terms : Terms) (r : List Fact) (now : ℕ) (y : Behaviour) (m : Message) (s i : ℕ) (p : Payload)
+    → IsNew r now m s i p → is_loose (behaviour r s) ≡ true
+    → inbox (r ++ rows terms now y m r) s ≡ inbox r s ++ Some p ∷ []
+loose-released terms r now y m s i p h loose =
+    let acks = ack_rows m.acks r in
+    let calm = ack_rows-acks m.acks r in
+    let all = rows-after terms r now y m s i p h in
+    let after = (r ++ acks) ++ Received s i p ∷ [] in
+    let got = items-last r acks s i p calm in
+    let made : makers after ≡ makers r =
+    flat_map-append makers_of (r ++ acks) (Received s i p ∷ []) ∙ append-nil (makers (r ++ acks))
+    ∙ calm_after makers_of calm_makers r acks calm in
+    let still : behaviour after s ≡ behaviour r s = ap (λ z. behaviour_of (numbered z s)) made in
+    ap (λ z. inbox z s) all
+    ∙ inbox_of-loose (behaviour after s) (told after s) (items after s) (ap is_loose still ∙ loose)
+    ∙ ap contents_of got
+    ∙ contents-push (items r s) (i, Some p)
+    ∙ ap (λ xs. xs ++ Some p ∷ []) (sym (inbox_of-loose (behaviour r s) (told r s) (items r s) loose))
+
 pub gap-closed : (terms : Terms) (r : List Fact) (now : ℕ) (y : Behaviour) (m : Message) (s i : ℕ) (p : Payload)
     → IsNew r now m s i p
     → AreNumbers (items r s) → behaviour r s ≡ FollowingFirstGap → i ≡ front r s + 1
@@ -274,7 +298,7 @@ gap-closed terms r now y m s i p h numbers dfg e =
     ap (λ z. behaviour_of (numbered z s)) made ∙ dfg in
     let box : inbox ((r ++ acks) ++ Received s i p ∷ []) s ≡ without_gap 0 (with_message (messages r s) i (Some p)) =
     ap (λ z. inbox_of z (told ((r ++ acks) ++ Received s i p ∷ []) s)
-    (messages ((r ++ acks) ++ Received s i p ∷ []) s)) still
+    (items ((r ++ acks) ++ Received s i p ∷ []) s)) still
     ∙ ap (λ z. without_gap 0 (sorted_onto [] z)) got ∙ ap (without_gap 0) (sorted-push [] (items r s) i (Some p)) in
     let place : i ≡ suc (front r s) = omega arith in
     let item : slice_get (without_gap 0 (with_message (messages r s) i (Some p))) (front r s) ≡ Some (Some p) =

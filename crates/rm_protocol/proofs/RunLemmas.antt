@@ -19,10 +19,9 @@ use Rattle.std.specs.Prelude.{Result, Ok, Err}
 use Rattle.rm_message.specs.declared.refusal.Refusal.{Refusal}
 use Rattle.rm_protocol.specs.Calls.{Answer, create, send, close, end, tick, ask_ack, nack_missing, receive}
 use Rattle.rm_protocol.specs.Calls.{consume}
-use Rattle.rm_protocol.specs.InOrder.{AreInOrder, IsInOrder}
 use Rattle.rm_protocol.specs.Next.{AddsNext, IsReadable}
 use Rattle.key_timers.specs.Waits.{first_due}
-use Rattle.sequence_table.specs.Fits.{all_fit, is_in_order}
+use Rattle.sequence_table.specs.Fits.{all_fit}
 use Rattle.rm_protocol.specs.Compact.{compacted, compacted_by, fresh_start, may_compact, rewritten, stops_compacting}
 use Rattle.rm_protocol.specs.Compact.{with_list}
 use Rattle.rm_protocol.specs.Node.{Node, State, Up, Writing, Compacting, records, records_in, end_of, fresh_entries}
@@ -83,7 +82,6 @@ record Went (terms : Terms) (x y : Node) (b : List Fact) (outs : List Message) :
   fits : all_fit (records x) delta ≡ true
   failed : AllowsState terms y b y.state
   stands : StandFor (records y) y.whole
-  in_order : is_in_order y.granted ≡ true
   bounded : IsBounded terms y
   says : AllByRecursion (Says y.whole) outs
   said : AreSaid y.whole y.polled
@@ -137,7 +135,6 @@ went-sound terms at x y b outs g h t = record {
   with_ = subst (AreWith b) (sym t.is) (AreWith-append b x.whole t.delta h.with_ t.with_);
   at_ = g.address ∙ h.at_;
   stands = t.stands;
-  in_order = t.in_order;
   bounded = t.bounded;
   said = t.said;
 }
@@ -149,7 +146,6 @@ rested-sound terms at x b c g h = record {
   with_ = AreWith-grows b c x.whole g h.with_;
   at_ = h.at_;
   stands = h.stands;
-  in_order = h.in_order;
   bounded = h.bounded;
   said = h.said;
 }
@@ -227,9 +223,9 @@ goes-steps terms w side y outs h t = record {
 
 -- a node has the same records, and says nothing
 rests : (terms : Terms) (x y : Node) (b : List Fact) → y.whole ≡ x.whole → AllowsState terms y b y.state
-    → StandFor (records y) y.whole → is_in_order y.granted ≡ true → IsBounded terms y → AreSaid y.whole y.polled
+    → StandFor (records y) y.whole → IsBounded terms y → AreSaid y.whole y.polled
     → Went terms x y b []
-rests terms x y b e f k o i q = record {
+rests terms x y b e f k i q = record {
   delta = [];
   is = e ∙ sym (append-nil x.whole);
   allows = tt;
@@ -237,7 +233,6 @@ rests terms x y b e f k o i q = record {
   fits = refl;
   failed = f;
   stands = k;
-  in_order = o;
   bounded = i;
   says = tt;
   said = q;
@@ -306,14 +301,14 @@ leaving a connected fetched outs h k = All-append (Says a) fetched (sent_of conn
 -- a call
 went : (terms : Terms) (x : Node) (b delta : List Fact) (connected : Bool) (fetched outs : List Message)
     (w : Waiting Message) → AreTerms terms → x.state ≡ Up → StandFor (records x) x.whole
-    → is_in_order x.granted ≡ true → IsBounded terms x
+    → IsBounded terms x
     → Allows x.whole b delta → AreWith b delta → has_room terms (node_end terms x) delta ≡ true
     → all_fit (records x) delta ≡ true
     → AllByRecursion (Says (x.whole ++ delta)) fetched → AllByRecursion (Says (x.whole ++ delta)) outs
     → AreSaid x.whole x.polled → AreSaid (x.whole ++ delta) w
     → Went terms x (record (written x delta) { polled = polled_with x.fuse delta x.polled w }) b
     (said_with x.fuse delta fetched ++ sent_of connected (said_with x.fuse delta outs))
-went terms x b [] connected fetched outs w t up h o i k g room fit s s2 old new = record {
+went terms x b [] connected fetched outs w t up h i k g room fit s s2 old new = record {
   delta = [];
   is = sym (append-nil x.whole);
   allows = tt;
@@ -321,13 +316,12 @@ went terms x b [] connected fetched outs w t up h o i k g room fit s s2 old new 
   fits = refl;
   failed = subst (AllowsState terms x b) (sym up) tt;
   stands = h;
-  in_order = o;
   bounded = record { below = i.below; store = i.store };
   says = subst (λ z. AllByRecursion (Says z) (fetched ++ sent_of connected outs)) (append-nil x.whole)
       (leaving (x.whole ++ []) connected fetched outs s s2);
   said = subst (λ z. AreSaid z w) (append-nil x.whole) new;
 }
-went terms x b (rec ∷ delta) connected fetched outs w t up h o i k g room fit s s2 old new =
+went terms x b (rec ∷ delta) connected fetched outs w t up h i k g room fit s s2 old new =
     elim (is_short 4 x.fuse) as (λ z. Went terms x
     (record (cond z (goes_down x (rec ∷ delta)) (with_batch x (rec ∷ delta))) { polled = cond z x.polled w }) b
     (cond z [] fetched ++ sent_of connected (cond z [] outs))) [
@@ -339,7 +333,6 @@ went terms x b (rec ∷ delta) connected fetched outs w t up h o i k g room fit 
         fits = refl;
         failed = (k, g, room-bound terms (node_end terms x) rec delta room, fit);
         stands = h;
-        in_order = o;
         bounded = record { below = i.below; store = i.store };
         says = tt;
         said = old;
@@ -355,7 +348,6 @@ went terms x b (rec ∷ delta) connected fetched outs w t up h o i k g room fit 
             fits = fit;
             failed = subst (AllowsState terms (with_batch x (rec ∷ delta)) b) (sym up) tt;
             stands = stands-with x b (rec ∷ delta) h k fit;
-            in_order = o;
             bounded = record { below = more.0; store = more.1 };
             says = leaving (x.whole ++ (rec ∷ delta)) connected fetched outs s s2;
             said = new;
@@ -373,7 +365,6 @@ moved-went terms x y b answer outs t = record {
   fits = t.fits;
   failed = same y.state t.failed;
   stands = t.stands;
-  in_order = t.in_order;
   bounded = record { below = t.bounded.below; store = t.bounded.store };
   says = t.says;
   said = t.said;
@@ -385,11 +376,11 @@ moved-went terms x y b answer outs t = record {
     same (Compacting start) h = h
 
 after-went : (terms : Terms) (x : Node) (b : List Fact) (connected : Bool) (answer : Answer) → AreTerms terms
-    → StandFor (records x) x.whole → is_in_order x.granted ≡ true → IsBounded terms x
+    → StandFor (records x) x.whole → IsBounded terms x
     → IsRight terms (node_end terms x) x.whole b answer → all_fit (records x) answer.delta ≡ true
     → AllowsState terms x b x.state → AreSaid x.whole x.polled
     → Went terms x (after x answer) b (fetched_after x answer ++ sent_of connected (said_after x answer))
-after-went terms x b connected answer t h o i r fit f q = by_state x.state refl
+after-went terms x b connected answer t h i r fit f q = by_state x.state refl
   where
     by_state : (z : State) → x.state ≡ z
         → Went terms x (after_by x z answer) b (fetched_by x z answer ++ sent_of connected (said_by x z answer))
@@ -400,11 +391,11 @@ after-went terms x b connected answer t h o i r fit f q = by_state x.state refl
         moved-went terms x (with_polled x answer (written x answer.delta)) b answer
         (fetched_by x Up answer ++ sent_of connected (said_by x Up answer))
         (went terms x b answer.delta connected (fetched_message answer.fetched) answer.outs
-        (polled_after x.polled answer) t e h o i r.allowed.allows r.allowed.with_ r.room fit r.allowed.fetched
+        (polled_after x.polled answer) t e h i r.allowed.allows r.allowed.with_ r.room fit r.allowed.fetched
         r.allowed.says q
         (polled_after-said all x.polled answer later r.allowed.says))
-    by_state (Writing delta) e = rests terms x x b refl f h o i q
-    by_state (Compacting start) e = rests terms x x b refl f h o i q
+    by_state (Writing delta) e = rests terms x x b refl f h i q
+    by_state (Compacting start) e = rests terms x x b refl f h i q
 
 calls-steps : (terms : Terms) (w : World) (side : Side) (connected : Bool) (answer : Answer) → AreTerms terms
     → IsSound terms w
@@ -414,19 +405,19 @@ calls-steps : (terms : Terms) (w : World) (side : Side) (connected : Bool) (answ
 calls-steps terms w One connected answer t h r fit =
     goes-steps terms w One (after w.one answer)
     (fetched_after w.one answer ++ sent_of connected (said_after w.one answer)) h
-    (after-went terms w.one w.two.whole connected answer t h.one.stands h.one.in_order h.one.bounded r fit h.one.failed
+    (after-went terms w.one w.two.whole connected answer t h.one.stands h.one.bounded r fit h.one.failed
     h.one.said)
 calls-steps terms w Two connected answer t h r fit =
     goes-steps terms w Two (after w.two answer)
     (fetched_after w.two answer ++ sent_of connected (said_after w.two answer)) h
-    (after-went terms w.two w.one.whole connected answer t h.two.stands h.two.in_order h.two.bounded r fit h.two.failed
+    (after-went terms w.two w.one.whole connected answer t h.two.stands h.two.bounded r fit h.two.failed
     h.two.said)
 
 -- a crash keeps what the failed call wrote, or leaves it
 mounted-went : SnapshotLaws → (terms : Terms) (x : Node) (b : List Fact) (kept : Bool) → AreTerms terms
-    → StandFor (records x) x.whole → is_in_order x.granted ≡ true → IsBounded terms x
+    → StandFor (records x) x.whole → IsBounded terms x
     → AllowsState terms x b x.state → Went terms x (mounted x kept) b []
-mounted-went laws terms x b kept t h o i f = by_state x.state kept f
+mounted-went laws terms x b kept t h i f = by_state x.state kept f
   where
     by_state : (z : State) (kept : Bool) → AllowsState terms x b z
         → Went terms x (record x {
@@ -449,33 +440,32 @@ mounted-went laws terms x b kept t h o i f = by_state x.state kept f
           fits = f.3;
           failed = tt;
           stands = stands-with x b delta h f.0 f.3;
-          in_order = o;
           bounded = record { below = more.0; store = more.1 };
           says = tt;
           said = tt;
         }
     by_state (Compacting start) true f =
-        rests terms x _ b refl tt (fresh-stands laws x.entries x.whole h) o
+        rests terms x _ b refl tt (fresh-stands laws x.entries x.whole h)
         (record { below = fresh-below terms start x.entries x.whole t h.kept; store = f }) tt
-    by_state (Writing delta) false f = rests terms x _ b refl tt h o (record { below = i.below; store = i.store }) tt
-    by_state (Compacting start) false f = rests terms x _ b refl tt h o (record { below = i.below; store = i.store }) tt
-    by_state Up kept f = rests terms x _ b refl tt h o (record { below = i.below; store = i.store }) tt
+    by_state (Writing delta) false f = rests terms x _ b refl tt h (record { below = i.below; store = i.store }) tt
+    by_state (Compacting start) false f = rests terms x _ b refl tt h (record { below = i.below; store = i.store }) tt
+    by_state Up kept f = rests terms x _ b refl tt h (record { below = i.below; store = i.store }) tt
 
 -- a list that is written anew, or stays
 compacted-went : SnapshotLaws → (terms : Terms) (x : Node) (b : List Fact) → AreTerms terms
-    → StandFor (records x) x.whole → is_in_order x.granted ≡ true → IsBounded terms x
+    → StandFor (records x) x.whole → IsBounded terms x
     → AllowsState terms x b x.state → AreSaid x.whole x.polled → Went terms x (compacted terms x) b []
-compacted-went laws terms x b t h o i f q = by_state x.state refl
+compacted-went laws terms x b t h i f q = by_state x.state refl
   where
     rewritten-went : x.state ≡ Up → may_compact terms x ≡ true → Went terms x (rewritten terms x) b []
     rewritten-went up may =
         let place = fresh-HasPlace terms x may i.store in
         elim (is_short 5 x.fuse) as (λ z. Went terms x (cond z (stops_compacting terms x) (with_list terms x)) b []) [
-          | true ↦ rests terms x (stops_compacting terms x) b refl place h o
+          | true ↦ rests terms x (stops_compacting terms x) b refl place h
               (record { below = i.below; store = i.store }) q
           | false ↦ rests terms x (with_list terms x) b refl
               (subst (AllowsState terms (with_list terms x) b) (sym up) tt)
-              (fresh-stands laws x.entries x.whole h) o
+              (fresh-stands laws x.entries x.whole h)
               (record { below = fresh-below terms (fresh_start terms x) x.entries x.whole t h.kept; store = place }) q
         ]
 
@@ -483,10 +473,10 @@ compacted-went laws terms x b t h o i f q = by_state x.state refl
     by_state Up e = elim (may_compact terms x) as (λ z. may_compact terms x ≡ z
         → Went terms x (cond z (rewritten terms x) x) b []) [
           | true ↦ λ may. rewritten-went e may
-          | false ↦ λ may. rests terms x x b refl f h o i q
+          | false ↦ λ may. rests terms x x b refl f h i q
         ] refl
-    by_state (Writing delta) e = rests terms x x b refl f h o i q
-    by_state (Compacting start) e = rests terms x x b refl f h o i q
+    by_state (Writing delta) e = rests terms x x b refl f h i q
+    by_state (Compacting start) e = rests terms x x b refl f h i q
 
 -- a packet comes to the other node than the one that sent it, and its text is read there
 says_at : (terms : Terms) (w : World) (p : Packet) → AreTerms terms → SaysPacket w p
@@ -540,7 +530,7 @@ received-steps terms w side content t h s =
     (receive-right (number_of side) terms (node_end terms x) (records x) x.whole (node w (other side)).whole
     x.clock x.granted content t
     sound.stands.kept (agree_at terms w side h).owns s))
-    ((next-at terms w side t h).receive_ x.clock x.granted content sound.in_order
+    ((next-at terms w side t h).receive_ x.clock x.granted content
     (content-numbers terms w (other side) content h s))
 
 arrives-steps : (terms : Terms) (w : World) (p : Option Packet) → AreTerms terms → IsSound terms w
@@ -558,12 +548,12 @@ packet-says terms w k h = by_packet (numbered w.packets k) refl
 
 -- a node of which only what is beside its disk changes
 changed-went : (terms : Terms) (x y : Node) (b : List Fact) → y.whole ≡ x.whole → y.entries ≡ x.entries
-    → y.start ≡ x.start → y.state ≡ x.state → y.polled ≡ x.polled → is_in_order y.granted ≡ true
+    → y.start ≡ x.start → y.state ≡ x.state → y.polled ≡ x.polled
     → StandFor (records x) x.whole → IsBounded terms x → AllowsState terms x b x.state → AreSaid x.whole x.polled
     → Went terms x y b []
-changed-went terms x y b e f g s u o h i a q =
+changed-went terms x y b e f g s u h i a q =
     rests terms x y b e (moved y.state s)
-    (subst (λ z. StandFor (records_in z) y.whole) (sym f) (subst (StandFor (records x)) (sym e) h)) o
+    (subst (λ z. StandFor (records_in z) y.whole) (sym f) (subst (StandFor (records x)) (sym e) h))
     (record {
       below = subst (λ z. counter y.whole ≤ z) (sym place)
           (subst (λ z. counter z ≤ node_end terms x) (sym e) i.below);
@@ -590,17 +580,17 @@ changed-went terms x y b e f g s u o h i a q =
 changed-steps : (terms : Terms) (w : World) (side : Side) (y : Node) → IsSound terms w
     → y.whole ≡ (node w side).whole → y.entries ≡ (node w side).entries
     → y.start ≡ (node w side).start → y.state ≡ (node w side).state → y.polled ≡ (node w side).polled
-    → is_in_order y.granted ≡ true → Steps terms w (with_node w side y)
-changed-steps terms w side y h e f g s u o =
+    → Steps terms w (with_node w side y)
+changed-steps terms w side y h e f g s u =
     let x = sound_at terms w side h in
-    rests-steps terms w side y h (changed-went terms (node w side) y (node w (other side)).whole e f g s u o x.stands
+    rests-steps terms w side y h (changed-went terms (node w side) y (node w (other side)).whole e f g s u x.stands
     x.bounded x.failed x.said)
 
 tick-steps : (terms : Terms) (w : World) (side : Side) (now : ℕ) → AreTerms terms → IsSound terms w
     → Steps terms w (happens terms w (Tick side now))
 tick-steps terms w One now t h =
     let v = with_node w One (with_clock w.one now) in
-    let set = changed-steps terms w One (with_clock w.one now) h refl refl refl refl refl h.one.in_order in
+    let set = changed-steps terms w One (with_clock w.one now) h refl refl refl refl refl in
     steps-then terms w v (happens terms w (Tick One now)) set
     (calls-steps terms v One false
     (tick terms (records w.one) (node_end terms w.one) now w.one.time w.one.waits) t set.sound
@@ -609,7 +599,7 @@ tick-steps terms w One now t h =
     ((next-at terms w One t h).tick_ now (first_due (max w.one.time now) w.one.waits)))
 tick-steps terms w Two now t h =
     let v = with_node w Two (with_clock w.two now) in
-    let set = changed-steps terms w Two (with_clock w.two now) h refl refl refl refl refl h.two.in_order in
+    let set = changed-steps terms w Two (with_clock w.two now) h refl refl refl refl refl in
     steps-then terms w v (happens terms w (Tick Two now)) set
     (calls-steps terms v Two false
     (tick terms (records w.two) (node_end terms w.two) now w.two.time w.two.waits) t set.sound
@@ -617,87 +607,86 @@ tick-steps terms w Two now t h =
     h.two.stands.kept)
     ((next-at terms w Two t h).tick_ now (first_due (max w.two.time now) w.two.waits)))
 
-happens-steps : SnapshotLaws → (terms : Terms) (w : World) (event : Event) → AreTerms terms → IsInOrder event
+happens-steps : SnapshotLaws → (terms : Terms) (w : World) (event : Event) → AreTerms terms
     → IsSound terms w → Steps terms w (happens terms w event)
-happens-steps laws terms w (Create side via expires offer) t o h =
+happens-steps laws terms w (Create side via expires offer) t h =
     let x = node w side in
     calls-steps terms w side false (create terms (records x) (node_end terms x)
     (wish_of w side via expires offer)) t h
     (create-right terms (node_end terms x) (records x) x.whole (node w (other side)).whole
     (wish_of w side via expires offer)
     (sound_at terms w side h).stands.kept (sym (sound_at terms w (other side) h).at_))
-    ((next-at terms w side t h).create_ (wish_of w side via expires offer) o)
-happens-steps laws terms w (Grant side y) t o h =
-    changed-steps terms w side (record (node w side) { granted = y }) h refl refl refl refl refl o
-happens-steps laws terms w (Send side seq text) t o h =
+    ((next-at terms w side t h).create_ (wish_of w side via expires offer))
+happens-steps laws terms w (Grant side y) t h =
+    changed-steps terms w side (record (node w side) { granted = y }) h refl refl refl refl refl
+happens-steps laws terms w (Send side seq text) t h =
     let x = node w side in
     calls-steps terms w side false (send terms (records x) (node_end terms x) seq text) t h
     (send-right terms (node_end terms x) (records x) x.whole (node w (other side)).whole seq text
     (sound_at terms w side h).stands.kept)
     ((next-at terms w side t h).send_ seq text)
-happens-steps laws terms w (Tick side now) t o h = tick-steps terms w side now t h
-happens-steps laws terms w (Deliver k) t o h =
+happens-steps laws terms w (Tick side now) t h = tick-steps terms w side now t h
+happens-steps laws terms w (Deliver k) t h =
     arrives-steps terms w (numbered w.packets k) t h (packet-says terms w k h)
-happens-steps laws terms w (Close side seq) t o h =
+happens-steps laws terms w (Close side seq) t h =
     let x = node w side in
     calls-steps terms w side false (close terms (records x) (node_end terms x) seq x.clock) t h
     (close-right terms (node_end terms x) (records x) x.whole (node w (other side)).whole seq x.clock
     (sound_at terms w side h).stands.kept)
     ((next-at terms w side t h).close_ seq x.clock)
-happens-steps laws terms w (End side seq) t o h =
+happens-steps laws terms w (End side seq) t h =
     let x = node w side in
     calls-steps terms w side false (end terms (records x) (node_end terms x) seq) t h
     (end-right terms (node_end terms x) (records x) x.whole (node w (other side)).whole seq
     (sound_at terms w side h).stands.kept)
     ((next-at terms w side t h).end_ seq)
-happens-steps laws terms w (Ask side seq) t o h =
+happens-steps laws terms w (Ask side seq) t h =
     let x = node w side in
     calls-steps terms w side false (ask_ack (records x) seq) t h
     (ask_ack-right terms (node_end terms x) (records x) x.whole (node w (other side)).whole seq)
     ((next-at terms w side t h).ask_ack_ seq)
-happens-steps laws terms w (Nack side seq) t o h =
+happens-steps laws terms w (Nack side seq) t h =
     let x = node w side in
     calls-steps terms w side false (nack_missing (records x) seq x.clock) t h
     (nack_missing-right terms (node_end terms x) (records x) x.whole (node w (other side)).whole seq x.clock)
     ((next-at terms w side t h).nack_missing_ seq x.clock)
-happens-steps laws terms w (Arm side c) t o h =
+happens-steps laws terms w (Arm side c) t h =
     changed-steps terms w side (record (node w side) { fuse = armed c (node w side).fuse }) h refl refl refl refl refl
-    (sound_at terms w side h).in_order
-happens-steps laws terms w (Crash side kept) t o h =
+happens-steps laws terms w (Crash side kept) t h =
     let x = sound_at terms w side h in
     rests-steps terms w side (mounted (node w side) kept) h
-    (mounted-went laws terms (node w side) (node w (other side)).whole kept t x.stands x.in_order x.bounded x.failed)
-happens-steps laws terms w (Noise side refusal) t o h = received-steps terms w side (Err refusal) t h tt
-happens-steps laws terms w (Poll side) t o h =
+    (mounted-went laws terms (node w side) (node w (other side)).whole kept t x.stands x.bounded x.failed)
+happens-steps laws terms w (Noise side refusal) t h = received-steps terms w side (Err refusal) t h tt
+happens-steps laws terms w (Poll side) t h =
     let x = node w side in
     calls-steps terms w side false (poll (records x) (place w (other side))) t h
     (poll-right terms (node_end terms x) (records x) x.whole (node w (other side)).whole (place w (other side))) refl
-happens-steps laws terms w (Compact side) t o h =
+happens-steps laws terms w (Compact side) t h =
     let x = sound_at terms w side h in
     rests-steps terms w side (compacted terms (node w side)) h
-    (compacted-went laws terms (node w side) (node w (other side)).whole t x.stands x.in_order x.bounded x.failed
+    (compacted-went laws terms (node w side) (node w (other side)).whole t x.stands x.bounded x.failed
     x.said)
-happens-steps laws terms w (Consume side seq upto) t o h =
+happens-steps laws terms w (Consume side seq upto) t h =
     let x = node w side in
     calls-steps terms w side false (consume terms (records x) (node_end terms x) seq upto) t h
     (consume-right terms (node_end terms x) (records x) x.whole (node w (other side)).whole seq upto)
     ((next-at terms w side t h).consume_ seq upto)
 
-pub happens-IsSound : SnapshotLaws → (terms : Terms) (w : World) (event : Event) → AreTerms terms → IsInOrder event
+pub happens-IsSound : SnapshotLaws → (terms : Terms) (w : World) (event : Event) → AreTerms terms
     → IsSound terms w → IsSound terms (happens terms w event)
-happens-IsSound laws terms w event t o h = (happens-steps laws terms w event t o h).sound
+happens-IsSound laws terms w event t h = (happens-steps laws terms w event t h).sound
 
 pub run-steps : SnapshotLaws → (terms : Terms) (events : List Event) (w : World) → AreTerms terms
-    → AreInOrder events → IsSound terms w → Steps terms w (run terms events w)
-run-steps laws terms [] w t o h = steps-self terms w h
-run-steps laws terms (event ∷ events) w t o h =
+    → IsSound terms w → Steps terms w (run terms events w)
+run-steps laws terms [] w t h = steps-self terms w h
+run-steps laws terms (event ∷ events) w t h =
     let v = happens terms w event in
-    let one = happens-steps laws terms w event t o.0 h in
-    steps-then terms w v (run terms events v) one (run-steps laws terms events v t o.1 one.sound)
+    let one = happens-steps laws terms w event t h in
+    steps-then terms w v (run terms events v) one (run-steps laws terms events v t one.sound)
 
 pub run-IsSound : SnapshotLaws → (terms : Terms) (events : List Event) (w : World) → AreTerms terms
-    → AreInOrder events → IsSound terms w → IsSound terms (run terms events w)
-run-IsSound laws terms events w t o h = (run-steps laws terms events w t o h).sound
+    → IsSound terms w → IsSound terms (run terms events w)
+run-IsSound laws terms events w t h = (run-steps laws terms events w t h).sound
 
 owns-made : (n : ℕ) (a : Text) → Owns n (Made n a ∷ [])
 owns-made n a = record {
@@ -718,7 +707,6 @@ made-sound terms n at b fit e =
       with_ = tt;
       at_ = refl;
       stands = record { kept = Keeps-made n at; proper = (tt, tt); fit = fit };
-      in_order = refl;
       bounded = record { below = omega arith; store = omega arith };
       said = tt;
     }

@@ -40,7 +40,7 @@ use Rattle.rm_protocol.specs.Verdict.{is_shut_at, is_shut_for, is_invalid, refus
 use Rattle.rm_protocol.specs.Verdict.{selects_other, has_room, is_fault_body, first_held, verdict}
 use Rattle.rm_protocol.specs.World.{World, Side, One, Two, node, calls, received_by, arrives}
 use Rattle.rm_protocol.proofs.Kept.{kept-held}
-use Rattle.rm_protocol.proofs.NewLemmas.{received-new, gap-closed}
+use Rattle.rm_protocol.proofs.NewLemmas.{gap-closed, loose-released, received-new}
 use Rattle.rm_protocol.proofs.NumberLemmas.{number-of}
 use Rattle.rm_protocol.proofs.RunLemmas.{received-at, sound_at, records-with}
 
@@ -144,6 +144,7 @@ judged-taken terms x m s i p h numbers = by_state x.state refl
     takes = record {
       recorded = received-new terms (records x) x.clock x.granted m s i p h;
       released = gap-closed terms (records x) x.clock x.granted m s i p h numbers;
+      loose = loose-released terms (records x) x.clock x.granted m s i p h;
     }
 
     by_tests : (ack store : Bool) → list_any (is_invalid (records x)) m.acks ≡ ack

@@ -3,7 +3,6 @@ use Rattle.std.specs.Prelude.{ℕ, List, ◌++◌}
 use Rattle.record_batch.specs.Fact.{Fact}
 use Rattle.sequence_table.specs.Destinations.{released}
 use Rattle.sequence_table.specs.Words.{Text}
-use Rattle.rm_protocol.specs.InOrder.{AreInOrder}
 use Rattle.rm_protocol.specs.Terms.{Terms, AreTerms}
 use Rattle.rm_protocol.specs.Word.{IsPrefixOf, consumed}
 use Rattle.rm_protocol.specs.World.{World, Side, Event, AreMade, node, run, start}
@@ -22,5 +21,4 @@ StaysConsumed w v =
 abbrev pub ConsumedStays : Type 0
 ConsumedStays =
     (terms : Terms) (one two : Text) → AreTerms terms → AreMade terms one two → (first second : List Event)
-    → AreInOrder first → AreInOrder second
     → StaysConsumed (run terms first (start one two)) (run terms (first ++ second) (start one two))

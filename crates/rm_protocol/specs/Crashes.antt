@@ -5,7 +5,7 @@ use Rattle.record_snapshot.specs.Snapshot.{snapshot}
 use Rattle.rm_protocol.specs.Node.{Node, State, Up, Writing, Compacting, records}
 use Rattle.rm_protocol.specs.Sound.{Keeps}
 use Rattle.rm_protocol.specs.Terms.{Terms}
-use Rattle.rm_protocol.specs.Word.{KeepsWord}
+use Rattle.rm_protocol.specs.Word.{KeepsLoose, KeepsWord}
 use Rattle.rm_protocol.specs.World.{World, One, Two, Crash, run}
 
 -- the records for which an image of the node's disk may stand, and all that the node then ever had: after a call that
@@ -27,6 +27,10 @@ pub record KeepsAll (w : World) : Type 0 where
       → KeepsWord a a_whole b b_whole
   pub two : (a a_whole b b_whole : List Fact) → IsLeft w.two a a_whole → IsLeft w.one b b_whole
       → KeepsWord a a_whole b b_whole
+  pub loose_one : (a a_whole b b_whole : List Fact) → IsLeft w.one a a_whole → IsLeft w.two b b_whole
+      → KeepsLoose a a_whole b b_whole
+  pub loose_two : (a a_whole b b_whole : List Fact) → IsLeft w.two a a_whole → IsLeft w.one b b_whole
+      → KeepsLoose a a_whole b b_whole
   pub kept_one : (image all : List Fact) → IsLeft w.one image all → Keeps image all
   pub kept_two : (image all : List Fact) → IsLeft w.two image all → Keeps image all
 

@@ -1,5 +1,5 @@
--- A delivered message that is new is recorded by that call, and released where it closes the gap:
--- WS-ReliableMessaging 1.2, section 2.4.
+-- A delivered message that is new is recorded by that call, and released where it closes the gap, or, of a loose
+-- sequence, at once: WS-ReliableMessaging 1.2, section 2.4.
 use Rattle.std.specs.Prelude.{◌≡◌, ℕ, ◌+◌, true, false, List, [], ◌∷◌, ◌++◌, Some, Ok}
 use Rattle.std.specs.List.{list_any}
 use Rattle.rm_base.specs.Numbered.{numbered}
@@ -8,6 +8,7 @@ use Rattle.rm_base.specs.declared.message.Payload.{Payload}
 use Rattle.rm_message.specs.declared.message.Message.{Message}
 use Rattle.rm_message.specs.declared.refusal.FaultKind.TheVariants.{InvalidAcknowledgement, StoreFull}
 use Rattle.record_batch.specs.Fact.{Fact}
+use Rattle.rm_destination.specs.Incoming.{is_loose}
 use Rattle.sequence_table.specs.Destinations.{behaviour, front, inbox, received}
 use Rattle.rm_protocol.specs.Calls.{Done, Judged}
 use Rattle.rm_protocol.specs.Node.{Node, State, Up, records, node_end, is_short, Answered, DiskFault, IsDown}
@@ -26,11 +27,12 @@ pub record Brings (terms : Terms) (w : World) (k : ℕ) (side : Side) (m : Messa
   pub read : terms.read packet.message ≡ Ok m
 
 -- one message more was received on the sequence; under DiscardFollowingFirstGap it is released as item i of the inbox
--- where it closes the gap
+-- where it closes the gap, and on a loose sequence as the next item
 pub record Takes (before after : List Fact) (s i : ℕ) (p : Payload) : Type 0 where
   pub recorded : received after s ≡ received before s ++ (i, p) ∷ []
   pub released : behaviour before s ≡ FollowingFirstGap → i ≡ front before s + 1
       → numbered (inbox after s) i ≡ Some (Some p)
+  pub loose : is_loose (behaviour before s) ≡ true → inbox after s ≡ inbox before s ++ Some p ∷ []
 
 -- the call that failed was writing
 abbrev pub IsWriting : State → Type 0

@@ -10,7 +10,6 @@ pub mod Exact
 pub mod Examples
 pub mod FitInduction
 pub mod Heard
-pub mod InOrder
 pub mod Messages
 pub mod Next
 pub mod Node

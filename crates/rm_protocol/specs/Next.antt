@@ -9,7 +9,7 @@ use Rattle.rm_elements.specs.declared.header.SeqHeader.{SeqHeader}
 use Rattle.rm_message.specs.declared.message.Message.{Message}
 use Rattle.rm_message.specs.declared.refusal.Refusal.{Refusal}
 use Rattle.record_batch.specs.Fact.{Fact}
-use Rattle.sequence_table.specs.Fits.{all_fit, is_in_order}
+use Rattle.sequence_table.specs.Fits.{all_fit}
 use Rattle.sequence_table.specs.Words.{Text}
 use Rattle.rm_protocol.specs.Calls.{Wish, create, send, close, end, tick_with, ask_ack, nack_missing, receive, consume}
 use Rattle.rm_protocol.specs.Rows.{ranges_of}
@@ -40,10 +40,9 @@ abbrev pub IsReadable : Result Message Refusal → Type 0
 IsReadable (Ok m) = HasNumbers m
 IsReadable (Err refusal) = Unit {0}
 
--- the records that each call adds to r may come next, one after the other, where it announces no NoDiscard
+-- the records that each call adds to r may come next, one after the other
 pub record AddsNext (terms : Terms) (r : List Fact) (place : ℕ) : Type 0 where
-  pub create_ : (wish : Wish) → IfSome wish.offer (λ behaviour. is_in_order behaviour ≡ true)
-      → all_fit r (create terms r place wish).delta ≡ true
+  pub create_ : (wish : Wish) → all_fit r (create terms r place wish).delta ≡ true
   pub send_ : (s : ℕ) (payload : Text) → all_fit r (send terms r place s payload).delta ≡ true
   pub close_ : (s now : ℕ) → all_fit r (close terms r place s now).delta ≡ true
   pub end_ : (s : ℕ) → all_fit r (end terms r place s).delta ≡ true
@@ -51,7 +50,7 @@ pub record AddsNext (terms : Terms) (r : List Fact) (place : ℕ) : Type 0 where
   pub ask_ack_ : (s : ℕ) → all_fit r (ask_ack r s).delta ≡ true
   pub nack_missing_ : (s now : ℕ) → all_fit r (nack_missing r s now).delta ≡ true
   pub consume_ : (s upto : ℕ) → all_fit r (consume terms r place s upto).delta ≡ true
-  pub receive_ : (now : ℕ) (behaviour : Behaviour) (content : Result Message Refusal) → is_in_order behaviour ≡ true
+  pub receive_ : (now : ℕ) (behaviour : Behaviour) (content : Result Message Refusal)
       → IsReadable content → all_fit r (receive terms r place now behaviour content).delta ≡ true
 
 -- so it is for a list of records each of which could come next

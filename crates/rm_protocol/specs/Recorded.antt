@@ -1,4 +1,5 @@
--- A message that is new is recorded by the call that brings it, and released where it closes the gap:
+-- A message that is new is recorded by the call that brings it, and released where it closes the gap, or on a loose
+-- sequence:
 -- WS-ReliableMessaging 1.2, section 2.4.
 use Rattle.std.specs.Prelude.{◌≡◌, ℕ, ◌+◌, ◌≤◌, true, false, List, [], ◌∷◌, ◌++◌, Some}
 use Rattle.std.specs.List.{AllByRecursion}
@@ -14,6 +15,7 @@ use Rattle.rm_message.specs.declared.message.Body.TheVariants as body
 use Rattle.rm_message.specs.declared.message.Message.{Message}
 use Rattle.record_batch.specs.Fact.{Fact, Received}
 use Rattle.record_snapshot.specs.Same.{AreNumbers}
+use Rattle.rm_destination.specs.Incoming.{is_loose}
 use Rattle.sequence_table.specs.Words.{Text}
 use Rattle.sequence_table.specs.Destinations.{behaviour, front, held, inbox, is_over, items}
 use Rattle.sequence_table.specs.Sources.{is_sending, phase}
@@ -47,6 +49,13 @@ GapIsClosed =
     → IsNew r now m s i p
     → AreNumbers (items r s) → behaviour r s ≡ FollowingFirstGap → i ≡ front r s + 1
     → numbered (inbox (r ++ rows terms now y m r) s) i ≡ Some (Some p)
+
+-- on a loose sequence it is the next item of the inbox, at the records after its rows
+abbrev pub LooseIsReleased : Type 0
+LooseIsReleased =
+    (terms : Terms) (r : List Fact) (now : ℕ) (y : Behaviour) (m : Message) (s i : ℕ) (p : Payload)
+    → IsNew r now m s i p → is_loose (behaviour r s) ≡ true
+    → inbox (r ++ rows terms now y m r) s ≡ inbox r s ++ Some p ∷ []
 
 -- a message brings no other records than those of the receiving table
 abbrev pub OnlyHeardIsRecorded : Type 0

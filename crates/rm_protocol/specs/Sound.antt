@@ -27,7 +27,7 @@ use Rattle.sequence_table.specs.Makers.{Maker, Outgoing, Offered, Incoming, Take
 use Rattle.sequence_table.specs.Makers.{number, address, created, seq_in}
 use Rattle.sequence_table.specs.Sources.{accepted, marks, out_ident}
 use Rattle.sequence_table.specs.Destinations.{held, received}
-use Rattle.sequence_table.specs.Fits.{all_fit, is_in_order}
+use Rattle.sequence_table.specs.Fits.{all_fit}
 use Rattle.sequence_table.specs.Find.{IsOutgoing, IsIncoming}
 use Rattle.make_connection.specs.Waiting.{Waiting}
 use Rattle.rm_protocol.specs.PollLemmas.{AllWaiting}
@@ -285,7 +285,6 @@ pub record IsSoundNode (terms : Terms) (at : Text) (x : Node) (theirs : List Fac
   pub with_ : AreWith theirs x.whole
   pub at_ : address x.whole ≡ at
   pub stands : StandFor (records x) x.whole
-  pub in_order : is_in_order x.granted ≡ true
   pub bounded : IsBounded terms x
   pub said : AreSaid x.whole x.polled
 

@@ -14,10 +14,10 @@ ghost use Rattle.rm_protocol.specs.Examples.{with_ticks, with_a_nack, with_an_as
 ghost use Rattle.rm_protocol.specs.Examples.{pendings, with_a_crash_of_the_source, with_a_lost_message, with_polls};
 ghost use Rattle.rm_protocol.specs.Examples.{played, with_a_crash, with_a_fresh_list, with_a_gap, with_an_offer};
 ghost use Rattle.rm_protocol.specs.Examples.{item_texts, with_consumption, with_fresh_lists, with_gone_items};
-ghost use Rattle.rm_protocol.specs.InOrder.{AreInOrder, IsInOrder};
 ghost use Rattle.rm_protocol.specs.Next.{EachMayComeNext};
 ghost use Rattle.rm_protocol.specs.Node.{Answered, records};
-ghost use Rattle.rm_protocol.specs.Recorded.{FinalCloses, GapIsClosed, NewIsRecorded, OnlyHeardIsRecorded};
+ghost use Rattle.rm_protocol.specs.Recorded.{FinalCloses, GapIsClosed, LooseIsReleased, NewIsRecorded};
+ghost use Rattle.rm_protocol.specs.Recorded.{OnlyHeardIsRecorded};
 ghost use Rattle.rm_protocol.specs.Replied.{TheReplyHasTheBlocks};
 ghost use Rattle.rm_protocol.specs.Sent.{AcceptedIsSent, Called, line_of, lines, outcome_of};
 ghost use Rattle.rm_protocol.specs.Sound.{IsSound};
@@ -37,10 +37,10 @@ use record_snapshot::{
 use sequence_table::laws::one_number_one_identifier;
 
 /// Whatever is sent, lost, repeated, reordered and consumed, and whichever node crashes at whichever device call, every
-/// run in which NoDiscard is neither offered nor announced keeps the headline at each pair of images of both disks.
+/// run keeps the headline at each pair of images of both disks, and so it keeps what is said of loose sequences.
 pub fn every_run_keeps_the_word()
     ensures { (terms : Terms) (one two : Text) → AreTerms terms → AreMade terms one two → (events : List Event)
-        → AreInOrder events → KeepsAll (run terms events (start one two)) }
+        → KeepsAll (run terms events (start one two)) }
 {
     one_number_one_identifier();
     a_snapshot_keeps_all();
@@ -48,9 +48,9 @@ pub fn every_run_keeps_the_word()
     a_snapshot_is_proper();
 }
 
-/// Each line of such a script keeps what holds of both nodes and of all packets.
+/// Each line of a script keeps what holds of both nodes and of all packets.
 pub fn every_step_keeps_the_agreement()
-    ensures { (terms : Terms) (w : World) (event : Event) → AreTerms terms → IsInOrder event → IsSound terms w
+    ensures { (terms : Terms) (w : World) (event : Event) → AreTerms terms → IsSound terms w
         → IsSound terms (happens terms w event) }
 {
     a_snapshot_keeps_all();
@@ -83,12 +83,17 @@ pub fn what_closes_the_gap_is_released()
     ensures { GapIsClosed }
 {}
 
+/// On a loose sequence such a message is released by that call.
+pub fn what_comes_on_a_loose_sequence_is_released()
+    ensures { LooseIsReleased }
+{}
+
 /// At each moment of a run, a delivered message that is new, within the window and for an open sequence is recorded by
-/// that call, and released where it closes the gap, unless the node was down, its disk failed, an acknowledgement of
-/// the message was invalid or the store was full.
+/// that call, and released where it closes the gap or the sequence is loose, unless the node was down, its disk failed,
+/// an acknowledgement of the message was invalid or the store was full.
 pub fn a_delivered_message_is_taken()
     ensures { (terms : Terms) (one two : Text) → AreTerms terms → AreMade terms one two → (events : List Event)
-        → AreInOrder events → TakesNew terms (run terms events (start one two)) }
+        → TakesNew terms (run terms events (start one two)) }
 {
     a_snapshot_keeps_all();
     a_snapshot_fits();

@@ -4,7 +4,6 @@ mod PlayedLemmas
 mod SentLemmas
 mod PutLemmas
 mod FetchedLemmas
-mod OrderLemmas
 mod ReadLemmas
 mod TaleLemmas
 mod StepLemmas

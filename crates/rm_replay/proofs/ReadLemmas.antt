@@ -9,7 +9,6 @@ use Rattle.rm_message.specs.declared.message.Message.{Message}
 use Rattle.rm_message.specs.declared.refusal.FaultKind.TheVariants.{TooLong}
 use Rattle.record_batch.specs.Fact.{Fact}
 use Rattle.rm_disk.specs.Call.{Call as DeviceCall}
-use Rattle.sequence_table.specs.Fits.{is_in_order}
 use Rattle.rm_protocol.specs.Calls.{Answer, Fetched}
 use Rattle.rm_protocol.specs.Node.{Node, State, Up, Writing, Compacting, node_end, fetched_after, fetched_by}
 use Rattle.rm_protocol.specs.Node.{fetched_message}
@@ -105,12 +104,6 @@ pub kept_at : (w : World) (d : Drives) (nodes : Nodes) (side : Side) → StandFo
 kept_at w d nodes One stand = kept_by w.one.state w.one.entries d.one.disk.past nodes.one.node.stored stand.one.disk
 kept_at w d nodes Two stand = kept_by w.two.state w.two.entries d.two.disk.past nodes.two.node.stored stand.two.disk
 
--- so does what is announced
-pub in_order_at : (w : World) (d : Drives) (nodes : Nodes) (side : Side) → StandFor w d nodes
-    → is_in_order (node w side).granted ≡ true
-in_order_at w d nodes One stand = stand.one.in_order
-in_order_at w d nodes Two stand = stand.two.in_order
-
 -- and what waits keeps the rules
 pub rules_at : (w : World) (d : Drives) (nodes : Nodes) (side : Side) → StandFor w d nodes
     → WaitByTheRules (node w side).polled
@@ -156,30 +149,30 @@ each_leaves says terms r place own kept =
       nack_missing_ = λ s now. alone _ (each.nack_missing_ s now) (nack-alone r s now);
       consume_ = λ s upto. alone _ (each.consume_ s upto) (consume-alone terms r place s upto);
       poll_ = λ to text. alone _ (each.poll_ to text) (record { none = refl });
-      receive_ = λ now behaviour content in_order read.
-          alone _ (each.receive_ now behaviour content in_order read)
+      receive_ = λ now behaviour content read.
+          alone _ (each.receive_ now behaviour content read)
           (receive-alone terms r place now behaviour content);
     }
 
 answer_leaves : AreRead → (terms : Terms) → AreOwn terms → (x : Node) → IsKept (records x)
-    → is_in_order x.granted ≡ true → WaitByTheRules x.polled → (asked : Asked) (this : Call) → MayBeAsked this
+    → WaitByTheRules x.polled → (asked : Asked) (this : Call) → MayBeAsked this
     → Asks this asked → LeavesByTheRules (answer_of terms x asked)
-answer_leaves laws terms own x kept in_order rules asked this may by =
+answer_leaves laws terms own x kept rules asked this may by =
     of_each laws.reads laws.refuses LeavesByTheRules terms (records x) (node_end terms x) x.clock (kept_of x) this
     asked (each_leaves laws.says terms (records x) (node_end terms x) own kept)
     (λ content answer leaves. record {
       said = laws.polls.beside x.polled content answer leaves.said;
       fetched = laws.polls.fetched x.polled content answer rules leaves.said;
-    }) in_order may by
+    }) may by
 
 -- all that leaves a node in a call
 pub said_is_read : AreRead → (terms : Terms) → AreOwn terms → (x : Node) → IsKept (records x)
-    → is_in_order x.granted ≡ true → WaitByTheRules x.polled → (asked : Asked) (this : Call) → MayBeAsked this
+    → WaitByTheRules x.polled → (asked : Asked) (this : Call) → MayBeAsked this
     → Asks this asked → AllByRecursion IsReadMessage (step_of terms x asked this).said
-said_is_read laws terms own x kept in_order rules asked this within by =
+said_is_read laws terms own x kept rules asked this within by =
     let answer = answer_of terms x asked in
     let y = clocked this x in
-    let by_rules = answer_leaves laws terms own x kept in_order rules asked this within by in
+    let by_rules = answer_leaves laws terms own x kept rules asked this within by in
     let fetched = read_messages laws.written (fetched_message answer.fetched) by_rules.fetched in
     let said = read_messages laws.written answer.outs by_rules.said in
     all_append IsReadMessage (fetched_after y answer) (sent_of (is_connected this) (said_after y answer))

@@ -2,13 +2,12 @@
 use Rattle.std.proofs.Common.{◌≡◌, ◌∙◌, ℕ, false, List, ◌++◌, append_assoc, ap, subst, inl, inr, arith}
 use Rattle.std.specs.List.{AllByRecursion}
 use Rattle.rm_base.specs.Count.{RoseBy}
-use Rattle.rm_disk.specs.Call.{crashes_of}
+use Rattle.rm_disk.specs.Call.{Call, crashes_of}
 use Rattle.rm_protocol.specs.Terms.{Terms}
 use Rattle.rm_script.specs.Within.{IsWithin}
 use Rattle.rm_script.specs.declared.event.Event.{Event as Said}
 use Rattle.rm_script.specs.declared.event.Side.TheVariants as place
 use Rattle.rm_replay.specs.Asked.{WasAsked, WereSpared}
-use Rattle.rm_replay.specs.Headline.{KeepsHeadline}
 use Rattle.rm_replay.specs.Net.{AreOfNet}
 use Rattle.rm_replay.specs.Played.{Played, Ran, RanShort, Story, TellBoth, known_text}
 use Rattle.rm_replay.specs.Playing.{AllPlayed}
@@ -89,26 +88,26 @@ pub short_told : EachIsLeft → (terms : Terms) (script : List Said) (old mid no
 short_told each terms script old mid now nodes text made all =
     short_from terms script old mid now made (short_end each terms script mid now nodes text all)
 
--- ---- the headline
+-- ---- the headline, and what is said of loose sequences
 
--- what a played script made keeps it
-abbrev pub WholeKeeps : Type 0
-WholeKeeps =
+-- what a played script made keeps it, on the disks with these calls
+abbrev pub WholeKeeps : (List Call → List Call → Type 0) → Type 0
+WholeKeeps Keep =
     (terms : Terms) (script : List Said) (s : Story) → AreOfNet terms → AllByRecursion IsWithin script
     → Played terms script s → (scene : Scene) → Holds s.world scene
-    → KeepsHeadline scene.drives.one.disk.past scene.drives.two.disk.past
+    → Keep scene.drives.one.disk.past scene.drives.two.disk.past
 
--- and what stands where memory was wanting in a further line
-abbrev pub ShortKeeps : Type 0
-ShortKeeps =
+-- and so does what stands where memory was wanting in a further line
+abbrev pub ShortKeeps : (List Call → List Call → Type 0) → Type 0
+ShortKeeps Keep =
     (terms : Terms) (script : List Said) (s : Story) → AreOfNet terms → AllByRecursion IsWithin script
     → Played terms script s → (line : Said) → IsWithin line → (scene : Scene) → IsLeftOfLine terms s.world line scene
-    → KeepsHeadline scene.drives.one.disk.past scene.drives.two.disk.past
+    → Keep scene.drives.one.disk.past scene.drives.two.disk.past
 
-pub short_keeps : WholeKeeps → ShortKeeps → (terms : Terms) (script : List Said) (first now : Scene)
-    → AreOfNet terms → AllByRecursion IsWithin script → RanShort terms script first now
-    → KeepsHeadline now.drives.one.disk.past now.drives.two.disk.past
-short_keeps whole part terms script first now net within short =
+pub short_keeps : (Keep : List Call → List Call → Type 0) → WholeKeeps Keep → ShortKeeps Keep → (terms : Terms)
+    (script : List Said) (first now : Scene) → AreOfNet terms → AllByRecursion IsWithin script
+    → RanShort terms script first now → Keep now.drives.one.disk.past now.drives.two.disk.past
+short_keeps Keep whole part terms script first now net within short =
     let front = all_take IsWithin script short.count within in
     elim short.left [
       | inl still ↦ whole terms _ short.story net front short.played now still.0

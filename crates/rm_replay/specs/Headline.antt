@@ -7,7 +7,7 @@ use Rattle.rm_disk.specs.Call.{Call}
 use Rattle.rm_disk.specs.Image.{MayLeave}
 use Rattle.rm_protocol.specs.Node.{records_in}
 use Rattle.rm_protocol.specs.Sound.{Keeps}
-use Rattle.rm_protocol.specs.Word.{KeepsWord}
+use Rattle.rm_protocol.specs.Word.{KeepsLoose, KeepsWord}
 use Rattle.node_store.specs.Has.{StandsForBatches}
 
 -- Two images stand for the batches of two nodes, each of which is read back from its text, so that they stand for no
@@ -32,3 +32,16 @@ abbrev pub KeepsHeadline : List Call → List Call → Type 0
 KeepsHeadline past_one past_two =
     (image_one image_two : List ℕ) → MayLeave past_one image_one → MayLeave past_two image_two
     → KeepWord image_one image_two
+
+-- Beside the headline: the records for which two images stand keep the word, and with it both directions between them
+-- keep what is said of loose sequences
+pub record KeepLoose (image_one image_two : List ℕ) : Type 0 where
+  pub word : KeepWord image_one image_two
+  pub there : KeepsLoose (records_in word.one) word.whole_one (records_in word.two) word.whole_two
+  pub back : KeepsLoose (records_in word.two) word.whole_two (records_in word.one) word.whole_one
+
+-- so it is for each pair of images of both disks
+abbrev pub KeepsLooseWord : List Call → List Call → Type 0
+KeepsLooseWord past_one past_two =
+    (image_one image_two : List ℕ) → MayLeave past_one image_one → MayLeave past_two image_two
+    → KeepLoose image_one image_two

@@ -1,5 +1,5 @@
 //! What one line of a script does.
-ghost use Rattle.std.specs.Prelude.{◌≡◌, ◌≤◌, IfOk, IfSome, true, false};
+ghost use Rattle.std.specs.Prelude.{◌≡◌, ◌≤◌, IfOk, false};
 ghost use Rattle.rm_base.specs.Text.{IsText};
 ghost use Rattle.rm_elements.specs.Writable.{IsLapseWritable};
 ghost use Rattle.node_actor.specs.Outcomes.{ends_by_disk};
@@ -7,7 +7,6 @@ ghost use Rattle.node_laws.specs.OwnTerms.{AreOwn};
 ghost use Rattle.rm_protocol.specs.Terms.{Terms};
 ghost use Rattle.rm_protocol.specs.World.{Side as Place, World, node, other as other_of};
 ghost use Rattle.rm_script.specs.Within.{IsWithin};
-ghost use Rattle.sequence_table.specs.Fits.{is_in_order};
 ghost use Rattle.rm_node.specs.Asked.{Asked, Asks, MayBeAsked};
 ghost use Rattle.rm_replay.specs.Asked.{WereAsked, step_of};
 ghost use Rattle.rm_replay.specs.Happening.{Compacts, Crashes, Happens, Moves, WereAskedFor, armed, granted, told_of};
@@ -146,7 +145,6 @@ fn create<M: CrashDisk, W: Wire>(
 ) -> Result<Outcome, Memory>
     requires there { (w : World) × Shows w (scene_of M.told W.packets stage.old) nodes.old }
     requires lapse { IsLapseWritable expires }
-    requires offer { IfSome offer (λ behaviour. is_in_order behaviour ≡ true) }
     ensures { (terms : Terms) → AreOfNet terms → (w : World)
         → Shows w (scene_of M.told W.packets stage.old) nodes.old
         → Happens terms w (Event.Create side expires polled offer)
@@ -238,7 +236,6 @@ fn make_noise<M: CrashDisk, W: Wire>(
 
 /// A node announces another behaviour from now on.
 fn grant(nodes: &mut Nodes, side: Side, behaviour: Behaviour)
-    requires { is_in_order behaviour ≡ true }
     ensures { (w : World) (d : Drives) → StandFor w d nodes.old
         → StandFor (granted w (side_of side) behaviour) d nodes.new }
 {

@@ -5,7 +5,7 @@ ghost use Rattle.rm_protocol.specs.Terms.{Terms};
 ghost use Rattle.rm_protocol.specs.World.{Event as Happening, run};
 ghost use Rattle.rm_script.specs.Within.{IsWithin};
 ghost use Rattle.rm_script.specs.declared.event.Event.{Event as Said};
-ghost use Rattle.rm_replay.specs.Headline.{KeepsHeadline};
+ghost use Rattle.rm_replay.specs.Headline.{KeepsHeadline, KeepsLooseWord};
 ghost use Rattle.rm_replay.specs.Net.{AreOfNet};
 ghost use Rattle.rm_replay.specs.Played.{Played, Story, start_world};
 ghost use Rattle.rm_replay.specs.Sent.{AcceptedIsSent};
@@ -36,8 +36,8 @@ pub fn a_played_script_is_a_run()
     a_run_goes_on();
 }
 
-/// Two disks that hold what a played script made keep the headline; so do two disks where memory was wanting in a
-/// further line.
+/// Two disks that hold what a played script made keep the headline, and what is said of loose sequences; so do two
+/// disks where memory was wanting in a further line.
 pub fn a_played_script_keeps_the_headline()
     ensures whole { (terms : Terms) (script : List Said) (s : Story) → AreOfNet terms → AllByRecursion IsWithin script
         → Played terms script s → (scene : Scene) → Holds s.world scene
@@ -46,6 +46,14 @@ pub fn a_played_script_keeps_the_headline()
         → Played terms script s → (line : Said) → IsWithin line → (scene : Scene)
         → IsLeftOfLine terms s.world line scene
         → KeepsHeadline scene.drives.one.disk.past scene.drives.two.disk.past }
+    ensures loose { (terms : Terms) (script : List Said) (s : Story) → AreOfNet terms → AllByRecursion IsWithin script
+        → Played terms script s → (scene : Scene) → Holds s.world scene
+        → KeepsLooseWord scene.drives.one.disk.past scene.drives.two.disk.past }
+    ensures loose_short { (terms : Terms) (script : List Said) (s : Story) → AreOfNet terms
+        → AllByRecursion IsWithin script
+        → Played terms script s → (line : Said) → IsWithin line → (scene : Scene)
+        → IsLeftOfLine terms s.world line scene
+        → KeepsLooseWord scene.drives.one.disk.past scene.drives.two.disk.past }
 {
     a_run_goes_on();
     every_run_keeps_the_word();
@@ -65,8 +73,8 @@ pub fn what_was_accepted_was_sent()
 }
 
 /// At each moment of a script, a delivered message that is new, within the window and for an open sequence is recorded
-/// by that line, and released where it closes the gap, unless the node was down, its disk failed, an acknowledgement of
-/// the message was invalid or the store was full.
+/// by that line, and released where it closes the gap or the sequence is loose, unless the node was down, its disk
+/// failed, an acknowledgement of the message was invalid or the store was full.
 pub fn a_delivered_message_is_taken()
     ensures { (terms : Terms) (script : List Said) (count : ℕ) (s : Story) → AreOfNet terms
         → AllByRecursion IsWithin script → Played terms (take count script) s → TakesNew terms s.world }

@@ -6,7 +6,7 @@ ghost use Rattle.rm_disk.specs.Told.{Told};
 ghost use Rattle.rm_protocol.specs.Node.{Node as Value};
 ghost use Rattle.rm_protocol.specs.Terms.{Terms};
 ghost use Rattle.rm_script.specs.Within.{IsWithin};
-ghost use Rattle.rm_replay.specs.Headline.{KeepsHeadline};
+ghost use Rattle.rm_replay.specs.Headline.{KeepsHeadline, KeepsLooseWord};
 ghost use Rattle.rm_replay.specs.Net.{AreOfNet};
 ghost use Rattle.rm_replay.specs.Played.{IsUnmade, Ran, RanShort, known_text, start_world};
 ghost use Rattle.rm_replay.specs.Shows.{IsFresh, Shows, drives_of, scene_of};
@@ -77,6 +77,10 @@ pub fn run_script<M: CrashDisk, W: Wire>(
     ensures short { OnErr result
         (IsUnmade (scene_of M.told W.packets stage.old) (scene_of M.told W.packets stage.new)
         ⊎ KeepsHeadline (M.told stage.new.one).past (M.told stage.new.two).past) }
+    ensures loose { OnOk result (KeepsLooseWord (M.told stage.new.one).past (M.told stage.new.two).past) }
+    ensures loose_short { OnErr result
+        (IsUnmade (scene_of M.told W.packets stage.old) (scene_of M.told W.packets stage.new)
+        ⊎ KeepsLooseWord (M.told stage.new.one).past (M.told stage.new.two).past) }
 {
     there_are_nets();
     a_played_script_keeps_the_headline();

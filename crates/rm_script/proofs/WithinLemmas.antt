@@ -1,17 +1,14 @@
 -- What a script says is within its limits.
-use Rattle.std.proofs.Common.{◌≡◌, ◌≢◌, ℕ, ◌≤◌, Bool, true, false, ◌==◌, ◌&&◌, nat_le, List, [], ◌∷◌, refl, sym, arith}
+use Rattle.std.proofs.Common.{◌≡◌, ℕ, ◌≤◌, Bool, true, false, ◌==◌, ◌&&◌, nat_le, List, [], ◌∷◌, refl, sym, arith}
 use Rattle.std.proofs.Common.{Option, None, Some, if◌then◌else◌, subst, inl, inr}
 use Rattle.std.specs.List.{AllByRecursion}
-use Rattle.std.specs.Option.{IfSome}
 use Rattle.std.proofs.lemmas.Bool.{and_parts}
 use Rattle.std.proofs.lemmas.Bool.Decides.{nat_tests}
-use Rattle.rm_base.specs.declared.message.Behaviour.{Behaviour}
-use Rattle.rm_base.specs.declared.message.Behaviour.TheVariants.{NoDiscard, EntireSequence, FollowingFirstGap}
 use Rattle.rm_elements.specs.Duration.{duration_in, span_in, lapse_from, at_least_one}
 use Rattle.rm_elements.specs.Writable.{IsLapseWritable}
 use Rattle.rm_elements.specs.declared.duration.Span.{Span}
 use Rattle.rm_base.specs.declared.lapse.Lapse.{Lapse}
-use Rattle.rm_script.specs.Script.{IsBehaviour, IsExpiry, IsOffer, Says, IsScript}
+use Rattle.rm_script.specs.Script.{IsExpiry, Says, IsScript}
 use Rattle.rm_script.specs.Within.{IsWithin}
 use Rattle.rm_script.specs.declared.event.Event.{Event}
 use Rattle.rm_script.specs.declared.event.Event.TheVariants.{Nothing, Create, Grant, Send, Tick, Deliver, Close, End}
@@ -47,26 +44,16 @@ duration_in-within : (d : List ℕ) (lapse : Lapse) → duration_in d ≡ Some l
 unfolding duration_in
 duration_in-within d lapse h = lapse_from-within (span_in d) lapse h
 
-behaviour-within : (word : List ℕ) (behaviour : Behaviour) → IsBehaviour word behaviour → behaviour ≢ NoDiscard
-behaviour-within word NoDiscard h = absurd h
-behaviour-within word EntireSequence h = λ e. absurd (cc)
-behaviour-within word FollowingFirstGap h = λ e. absurd (cc)
-
 expiry-within : (words : List ℕ) (expires : Lapse) → IsExpiry words expires → IsLapseWritable expires
 expiry-within words expires (inl h) =
     subst (λ l. IsLapseWritable l) (sym h.1) (record { months = omega arith; ms = omega arith })
 expiry-within words expires (inr h) = duration_in-within h.0 expires h.2
 
-offer-within : (words : List ℕ) (offer : Option Behaviour) → IsOffer words offer
-    → IfSome offer (λ behaviour. behaviour ≢ NoDiscard)
-offer-within words None h = tt
-offer-within words (Some behaviour) h = behaviour-within h.0 behaviour h.1
-
 Says-IsWithin : (line : List ℕ) (event : Event) → Says line event → IsWithin event
 Says-IsWithin line Nothing h = tt
 Says-IsWithin line (Create side expires polled offer) h =
-    let w = h.1 in (expiry-within w.expiry expires w.expires_, offer-within w.offered offer w.offers_)
-Says-IsWithin line (Grant side behaviour) h = behaviour-within h.0 behaviour h.1
+    let w = h.1 in expiry-within w.expiry expires w.expires_
+Says-IsWithin line (Grant side behaviour) h = tt
 Says-IsWithin line (Send side seq text) h = ((h.1.0, h.1.1), h.2)
 Says-IsWithin line (Tick side now) h = h.1.1
 Says-IsWithin line (Deliver packet) h = (h.1.0, h.1.1)

@@ -170,24 +170,28 @@ decimal-IsWord n h =
 
 pub behaviour_in-word : (word : List ℕ) (behaviour : Behaviour) → IsBehaviour word behaviour
     → behaviour_in word ≡ Some behaviour
-behaviour_in-word word NoDiscard h = absurd h
+behaviour_in-word word NoDiscard h = rw h refl
 behaviour_in-word word EntireSequence h = rw h refl
 behaviour_in-word word FollowingFirstGap h = rw h refl
 
 pub behaviour_in-is : (word : List ℕ) (behaviour : Behaviour) → behaviour_in word ≡ Some behaviour
     → IsBehaviour word behaviour
-behaviour_in-is word behaviour h = by_tests (is_same word (codes "dfg")) (is_same word (codes "des")) refl refl
+behaviour_in-is word behaviour h =
+    by_tests (is_same word (codes "dfg")) (is_same word (codes "des")) (is_same word (codes "loose")) refl refl refl
   where
-    by_tests : (a b : Bool) → is_same word (codes "dfg") ≡ a → is_same word (codes "des") ≡ b
-        → IsBehaviour word behaviour
-    by_tests true b d e =
+    by_tests : (a b l : Bool) → is_same word (codes "dfg") ≡ a → is_same word (codes "des") ≡ b
+        → is_same word (codes "loose") ≡ l → IsBehaviour word behaviour
+    by_tests true b l d e f =
         let same : FollowingFirstGap ≡ behaviour =
         (let o : Some FollowingFirstGap ≡ Some behaviour = rw d at h in cc) in
         subst (λ x. IsBehaviour word x) same (is_same-is word (codes "dfg") d)
-    by_tests false true d e =
+    by_tests false true l d e f =
         let same : EntireSequence ≡ behaviour = (let o : Some EntireSequence ≡ Some behaviour = rw (d, e) at h in cc) in
         subst (λ x. IsBehaviour word x) same (is_same-is word (codes "des") e)
-    by_tests false false d e = let o : None ≡ Some behaviour = rw (d, e) at h in absurd (cc)
+    by_tests false false true d e f =
+        let same : NoDiscard ≡ behaviour = (let o : Some NoDiscard ≡ Some behaviour = rw (d, e, f) at h in cc) in
+        subst (λ x. IsBehaviour word x) same (is_same-is word (codes "loose") f)
+    by_tests false false false d e f = let o : None ≡ Some behaviour = rw (d, e, f) at h in absurd (cc)
 
 -- ---- the number of a node
 

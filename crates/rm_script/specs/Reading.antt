@@ -8,7 +8,7 @@ use Rattle.rm_base.specs.Message.{max_number}
 use Rattle.hex.specs.Hex.{decode_of}
 use Rattle.hex.specs.declared.error.FromHexError.{FromHexError}
 use Rattle.rm_base.specs.declared.message.Behaviour.{Behaviour}
-use Rattle.rm_base.specs.declared.message.Behaviour.TheVariants.{EntireSequence, FollowingFirstGap}
+use Rattle.rm_base.specs.declared.message.Behaviour.TheVariants.{EntireSequence, FollowingFirstGap, NoDiscard}
 use Rattle.rm_base.specs.declared.lapse.Lapse.{Lapse}
 use Rattle.rm_elements.specs.Duration.{duration_in}
 use Rattle.rm_script.specs.Bytes.{space_byte, number_sign, digit_one, digit_two}
@@ -52,7 +52,8 @@ number_in low high digits =
 abbrev pub behaviour_in : List ℕ → Option Behaviour
 behaviour_in word =
     if is_same word (codes "dfg") then Some FollowingFirstGap
-    else if is_same word (codes "des") then Some EntireSequence else None
+    else if is_same word (codes "des") then Some EntireSequence
+    else if is_same word (codes "loose") then Some NoDiscard else None
 
 -- a node's number at the front, and what stands behind it
 abbrev pub node_in : List ℕ → Option (Side × List ℕ)
@@ -74,7 +75,7 @@ numbered_in low high bytes =
 
 -- ---- the arguments of each verb
 
--- [ offer dfg|des]
+-- [ offer dfg|des|loose]
 abbrev pub offer_in : List ℕ → Option (Option Behaviour)
 offer_in [] = Some None
 offer_in (b ∷ bytes) = option_map Some (option_and_then behaviour_in (behind (codes " offer ") (b ∷ bytes)))
@@ -99,11 +100,11 @@ create_behind side words None = create_with side words (record { months = 0; ms 
 create_behind side words (Some rest) =
     option_and_then (λ expires. create_with side (behind_word rest) expires) (duration_in (word_of rest))
 
--- create N [expires D] [polled] [offer dfg|des]
+-- create N [expires D] [polled] [offer dfg|des|loose]
 abbrev pub create_in : List ℕ → Option Event
 create_in bytes = option_and_then (λ n. create_behind n.0 n.1 (behind (codes " expires ") n.1)) (node_in bytes)
 
--- grant N dfg|des
+-- grant N dfg|des|loose
 abbrev pub grant_in : List ℕ → Option Event
 grant_in bytes = option_and_then (λ n. option_map (λ b. Grant n.0 b) (behaviour_in n.1)) (call_in bytes)
 

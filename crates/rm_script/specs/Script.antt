@@ -38,7 +38,7 @@ IsWord word = AllByRecursion (λ byte. byte ≢ space_byte) word
 
 -- the word of a behaviour that a script may name
 abbrev pub IsBehaviour : List ℕ → Behaviour → Type 0
-IsBehaviour word NoDiscard = ⊥
+IsBehaviour word NoDiscard = word ≡ codes "loose"
 IsBehaviour word EntireSequence = word ≡ codes "des"
 IsBehaviour word FollowingFirstGap = word ≡ codes "dfg"
 
@@ -53,7 +53,7 @@ abbrev pub IsPolled : List ℕ → Bool → Type 0
 IsPolled words true = words ≡ codes " polled"
 IsPolled words false = words ≡ []
 
--- [ offer dfg|des]
+-- [ offer dfg|des|loose]
 abbrev pub IsOffer : List ℕ → Option Behaviour → Type 0
 IsOffer words None = words ≡ []
 IsOffer words (Some behaviour) = (word : List ℕ) × IsBehaviour word behaviour × (words ≡ codes " offer " ++ word)

@@ -1,9 +1,7 @@
 -- The limits of what scripts say.
 use Rattle.std.specs.Prelude.{◌≢◌, ℕ, ◌≤◌, [], ⊤}
-use Rattle.std.specs.Option.{IfSome}
 use Rattle.rm_base.specs.Limits as limits
 use Rattle.rm_base.specs.Message.{max_number}
-use Rattle.rm_base.specs.declared.message.Behaviour.TheVariants.{NoDiscard}
 use Rattle.rm_elements.specs.Writable.{IsLapseWritable}
 use Rattle.rm_script.specs.declared.event.Event.{Event}
 use Rattle.rm_script.specs.declared.event.Event.TheVariants.{Nothing, Create, Grant, Send, Tick, Deliver, Close, End}
@@ -17,9 +15,8 @@ IsFromTo low high number = (low ≤ number) × (number ≤ high)
 -- an event's values are within the limits of a script
 abbrev pub IsWithin : Event → Type 0
 IsWithin Nothing = ⊤
-IsWithin (Create side expires polled offer) =
-    IsLapseWritable expires × IfSome offer (λ behaviour. behaviour ≢ NoDiscard)
-IsWithin (Grant side behaviour) = behaviour ≢ NoDiscard
+IsWithin (Create side expires polled offer) = IsLapseWritable expires
+IsWithin (Grant side behaviour) = ⊤
 IsWithin (Send side seq text) = IsFromTo 1 limits.most_sequences seq × (text ≢ [])
 IsWithin (Tick side now) = now ≤ limits.now_max
 IsWithin (Deliver packet) = IsFromTo 1 limits.most_packets packet

@@ -37,7 +37,7 @@ pub fn no_bad_line()
         → ¬ (IsFirstBad lines line) }
 {}
 
-/// What a script says is within its limits: each number, each duration, and each behaviour.
+/// What a script says is within its limits: each number and each duration.
 pub fn values_are_within()
     ensures { (lines : List (List ℕ)) (events : List Said) → IsScript lines events
         → AllByRecursion IsWithin events }

@@ -65,6 +65,9 @@ pub(crate) fn behaviour(word: &[u8]) -> Option<Behaviour>
     if is_same(word, b"des") {
         return Some(Behaviour::EntireSequence);
     }
+    if is_same(word, b"loose") {
+        return Some(Behaviour::NoDiscard);
+    }
     None
 }
 

@@ -24,7 +24,7 @@ fn push_numbered(out: &mut Blob, verb: &[u8], node: Side, number: u64) -> Result
 
 fn behaviour_name(behaviour: Behaviour) -> &'static [u8] {
     match behaviour {
-        Behaviour::NoDiscard => b"?",
+        Behaviour::NoDiscard => b"loose",
         Behaviour::EntireSequence => b"des",
         Behaviour::FollowingFirstGap => b"dfg",
     }

@@ -12,14 +12,14 @@ use Rattle.rm_base.specs.NumberSet.{has_number}
 use Rattle.rm_source.specs.declared.phase.OutPhase.{OutPhase}
 use Rattle.rm_source.specs.declared.phase.OutPhase.TheVariants as out
 use Rattle.rm_source.specs.Outgoing.{Sending, accepted_count, first_run, settled}
-use Rattle.rm_destination.specs.Incoming.{Receiving, forgotten as forgotten_in, fresh, held, inbox}
+use Rattle.rm_destination.specs.Incoming.{Receiving, forgotten as forgotten_in, fresh, held, inbox, is_loose}
 use Rattle.rm_destination.specs.Messages.{is_empty, any_true}
 use Rattle.std.specs.List.{list_all}
 use Rattle.record_batch.specs.Fact.{Fact, Created, Accepted, Acked, Received, Closing, ClosedOut, Closed}
 use Rattle.record_batch.specs.Fact.{Ending}
 use Rattle.record_batch.specs.Fact.{EndedOut, Ended, Failed, Consumed, Dropped, Purged}
 use Rattle.sequence_table.specs.Makers.{Maker, maker, counter}
-use Rattle.sequence_table.specs.Fits.{fits, follows, is_up_to, is_first_run}
+use Rattle.sequence_table.specs.Fits.{fits, follows, is_up_to, may_be_gone}
 use Rattle.sequence_table.specs.Told.{Told, Side, Sends, Receives, names, side_of, after}
 use Rattle.sequence_row.specs.declared.row.Core.{Core}
 use Rattle.sequence_row.specs.declared.row.Core.TheVariants as core
@@ -144,7 +144,7 @@ takes_consumed (Receives t) n = nat_lt t.cursor n && nat_le n (length (inbox t))
 abbrev pub takes_purged : Side → List Range → Bool
 takes_purged (Sends t) ranges = false
 takes_purged (Receives t) ranges =
-    is_empty (held t) && (list_all (is_up_to max_number) ranges && is_first_run ranges)
+    is_empty (held t) && (list_all (is_up_to max_number) ranges && may_be_gone (is_loose t.behaviour) ranges)
 
 -- one more payload
 abbrev pub with_accepted : Side → List ℕ → Side

@@ -17,10 +17,10 @@ use Rattle.rm_destination.specs.Messages.{is_empty as no_items}
 use Rattle.sequence_table.specs.Makers.{Maker, Outgoing, maker, counter}
 use Rattle.sequence_table.specs.Sources.{accepted_count, phase}
 use Rattle.rm_destination.specs.Messages.{any_true as has_true}
-use Rattle.rm_destination.specs.Incoming.{inbox_of}
-use Rattle.sequence_table.specs.Destinations.{behaviour_of, closes, cursor, held, messages, told}
+use Rattle.rm_destination.specs.Incoming.{inbox_of, is_loose}
+use Rattle.sequence_table.specs.Destinations.{behaviour_of, closes, cursor, held, items, told}
 use Rattle.sequence_table.specs.Fits.{fits, follows, is_outgoing_side, is_incoming_side, is_up_to}
-use Rattle.sequence_table.specs.Fits.{is_first_run}
+use Rattle.sequence_table.specs.Fits.{may_be_gone}
 use Rattle.sequence_table.specs.Told.{names, side_of}
 use Rattle.sequence_row.specs.Row.{takes, draws_next, is_sender, is_receiver}
 
@@ -94,11 +94,11 @@ acking r s ranges (Outgoing number to via lapse) = refl
 acking r s ranges _ = refl
 
 -- the tests of a record Dropped, but for the side and the phase
-abbrev may_be_gone : List Fact → ℕ → ℕ → Bool
-may_be_gone r s upto = (accepted_count r s == 0) && (nat_le 1 upto && nat_le upto max_number)
+abbrev may_be_dropped : List Fact → ℕ → ℕ → Bool
+may_be_dropped r s upto = (accepted_count r s == 0) && (nat_le 1 upto && nat_le upto max_number)
 
 dropping : (r : List Fact) (s upto : ℕ) (m : Maker)
-    → ((is_sender (side_of r s m) && follows (phase r s) (Dropped s upto)) && may_be_gone r s upto)
+    → ((is_sender (side_of r s m) && follows (phase r s) (Dropped s upto)) && may_be_dropped r s upto)
     ≡ takes (side_of r s m) (Dropped s upto)
 dropping r s upto (Outgoing number to via lapse) = refl
 dropping r s upto _ = refl
@@ -126,16 +126,21 @@ ended r s cause last _ = refl
 -- the tests of a record Consumed, but for the side
 abbrev is_further : List Fact → ℕ → ℕ → Option Maker → Bool
 is_further r s upto o =
-    nat_lt (cursor r s) upto && nat_le upto (length (inbox_of (behaviour_of o) (told r s) (messages r s)))
+    nat_lt (cursor r s) upto && nat_le upto (length (inbox_of (behaviour_of o) (told r s) (items r s)))
 
 consuming : (r : List Fact) (s upto : ℕ) (m : Maker)
     → (is_receiver (side_of r s m) && is_further r s upto (Some m)) ≡ takes (side_of r s m) (Consumed s upto)
 consuming r s upto (Outgoing number to via lapse) = refl
 consuming r s upto _ = refl
 
+-- the tests of a record Purged, but for the side
+abbrev is_purging : List Fact → ℕ → List Range → Option Maker → Bool
+is_purging r s ranges o =
+    is_empty (held r s)
+    && (list_all (is_up_to max_number) ranges && may_be_gone (is_loose (behaviour_of o)) ranges)
+
 purging : (r : List Fact) (s : ℕ) (ranges : List Range) (m : Maker)
-    → (is_receiver (side_of r s m) && (is_empty (held r s)
-    && (list_all (is_up_to max_number) ranges && is_first_run ranges))) ≡ takes (side_of r s m) (Purged s ranges)
+    → (is_receiver (side_of r s m) && is_purging r s ranges (Some m)) ≡ takes (side_of r s m) (Purged s ranges)
 purging r s ranges (Outgoing number to via lapse) = refl
 purging r s ranges _ = refl
 
@@ -170,7 +175,8 @@ fits-takes r (Failed s fault) m e = sent r s m e _ _ (failed r s fault m)
 fits-takes r (Consumed s upto) m e =
     ap (λ o. is_incoming_side (maker r s) && is_further r s upto o) e ∙ came r s m e _ _ (consuming r s upto m)
 fits-takes r (Dropped s upto) m e =
-    ap (λ o. (is_outgoing_side o && follows (phase r s) (Dropped s upto)) && may_be_gone r s upto) e
-    ∙ ap (λ b. (b && follows (phase r s) (Dropped s upto)) && may_be_gone r s upto) (outgoing_sender r s m)
+    ap (λ o. (is_outgoing_side o && follows (phase r s) (Dropped s upto)) && may_be_dropped r s upto) e
+    ∙ ap (λ b. (b && follows (phase r s) (Dropped s upto)) && may_be_dropped r s upto) (outgoing_sender r s m)
     ∙ dropping r s upto m
-fits-takes r (Purged s ranges) m e = came r s m e _ _ (purging r s ranges m)
+fits-takes r (Purged s ranges) m e =
+    ap (λ o. is_incoming_side (maker r s) && is_purging r s ranges o) e ∙ came r s m e _ _ (purging r s ranges m)

@@ -8,7 +8,8 @@ ghost use Rattle.rm_source.specs.Outgoing.{Sequence as OutSequence};
 ghost use Rattle.rm_destination.specs.Incoming.{Sequence as InSequence, held};
 ghost use Rattle.rm_destination.specs.Messages.{is_empty, any_true};
 ghost use Rattle.record_batch.specs.Fact.{fact_of};
-ghost use Rattle.sequence_table.specs.Fits.{follows, is_up_to, is_first_run};
+ghost use Rattle.sequence_table.specs.Fits.{follows, is_up_to, may_be_gone};
+ghost use Rattle.rm_destination.specs.Incoming.{is_loose};
 ghost use Rattle.sequence_table.specs.Told.{Sends, Receives};
 ghost use Rattle.sequence_row.specs.Row.{
   is_moment,
@@ -44,7 +45,7 @@ ghost use Rattle.sequence_row.specs.Row.{
 use ack_ranges::RangeSet;
 use record_batch::Record;
 use rm_base::{Behaviour, Blob, Cause, MAX_NUMBER, Memory, Payload, is_message_number};
-use rm_destination::{InPhase, Incoming};
+use rm_destination::{InPhase, Incoming, is_loose};
 use rm_source::{OutPhase, Outgoing, SourceError};
 use std::alloc::Global;
 use std::marker::Model;
@@ -415,13 +416,32 @@ fn are_up_to(numbers: &RangeSet, n: u64) -> bool
 
 /// Whether the numbers are 1 to some number.
 fn are_first(numbers: &RangeSet) -> bool
-    ensures { result ≡ (list_all (is_up_to max_number) numbers.now.ranges && is_first_run numbers.now.ranges) }
+    ensures { result ≡ (list_all (is_up_to max_number) numbers.now.ranges && may_be_gone false numbers.now.ranges) }
 {
     let ranges = numbers.ranges();
     if ranges.len() != 1 {
         return false;
     }
     ranges[0].lower == 1
+}
+
+/// Whether there is a number.
+fn are_some(numbers: &RangeSet) -> bool
+    ensures { result ≡ (list_all (is_up_to max_number) numbers.now.ranges && may_be_gone true numbers.now.ranges) }
+{
+    let ranges = numbers.ranges();
+    !ranges.is_empty()
+}
+
+/// Whether the numbers may be those of messages that are gone.
+fn may_be_gone(incoming: &Incoming, numbers: &RangeSet) -> bool
+    ensures { result ≡ (list_all (is_up_to max_number) numbers.now.ranges
+        && may_be_gone (is_loose incoming.now.facts.behaviour) numbers.now.ranges) }
+{
+    if is_loose(incoming.behaviour()) {
+        return are_some(numbers);
+    }
+    are_first(numbers)
 }
 
 /// Whether a record may come next for a sequence that receives.
@@ -438,7 +458,7 @@ fn receiver_takes(incoming: &Incoming, given: &Record) -> bool
         Record::Consumed { upto, .. } => {
             incoming.consumed() < *upto && *upto <= incoming.inbox_len()
         }
-        Record::Purged { numbers, .. } => has_nothing(incoming) && are_first(numbers),
+        Record::Purged { numbers, .. } => has_nothing(incoming) && may_be_gone(incoming, numbers),
         _ => false,
     }
 }

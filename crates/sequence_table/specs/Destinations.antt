@@ -111,7 +111,7 @@ behaviour r s = behaviour_of (maker r s)
 
 -- what is released to the application
 abbrev pub inbox : List Fact → ℕ → List Item
-inbox r s = inbox_of (behaviour r s) (told r s) (messages r s)
+inbox r s = inbox_of (behaviour r s) (told r s) (items r s)
 
 -- of what was received, what is never released, once the sequence is closed or ended by a record
 abbrev pub discarded : List Fact → ℕ → List Item
@@ -133,4 +133,4 @@ cursor r s = greatest_of (flat_map (cursor_of s) r)
 
 -- what is released by records among which nothing is gone
 abbrev pub released : List Fact → ℕ → List Payload
-released r s = inbox_of (behaviour r s) (told r s) (sorted_onto [] (received r s))
+released r s = inbox_of (behaviour r s) (told r s) (received r s)

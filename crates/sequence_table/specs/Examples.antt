@@ -1,6 +1,6 @@
 -- Lists of records of a source and of a destination, of one sequence each: whole, and without the first payloads.
 use Rattle.std.specs.Prelude.{ℕ, ◌∷◌, [], List, None, Some, codes}
-use Rattle.rm_base.specs.declared.message.Behaviour.TheVariants.{EntireSequence, FollowingFirstGap}
+use Rattle.rm_base.specs.declared.message.Behaviour.TheVariants.{EntireSequence, FollowingFirstGap, NoDiscard}
 use Rattle.rm_base.specs.declared.message.Payload.{Payload}
 use Rattle.rm_base.specs.declared.lapse.Lapse.{Lapse}
 use Rattle.record_batch.specs.declared.record.Via.TheVariants.{Direct}
@@ -41,3 +41,15 @@ a_short_destination =
     Made 2 (codes "urn:b") ∷ Granted 1 (codes "urn:m") (plain_endpoint (codes "urn:a")) FollowingFirstGap None
     never None
     ∷ Purged 1 (record { lower = 1; upper = 2 } ∷ []) ∷ Received 1 3 (of_text (9 ∷ [])) ∷ []
+
+-- on a sequence that releases messages as they come, the third message came, and then the first
+abbrev pub a_loose_destination : List Fact
+a_loose_destination =
+    Made 2 (codes "urn:b") ∷ Granted 1 (codes "urn:m") (plain_endpoint (codes "urn:a")) NoDiscard None never None
+    ∷ Received 1 3 (of_text (9 ∷ [])) ∷ Received 1 1 (of_text (7 ∷ [])) ∷ []
+
+-- the payload of the third is gone
+abbrev pub a_short_loose_destination : List Fact
+a_short_loose_destination =
+    Made 2 (codes "urn:b") ∷ Granted 1 (codes "urn:m") (plain_endpoint (codes "urn:a")) NoDiscard None never None
+    ∷ Purged 1 (record { lower = 3; upper = 3 } ∷ []) ∷ Received 1 1 (of_text (7 ∷ [])) ∷ []

@@ -5,17 +5,16 @@ use Rattle.std.specs.List.{list_all}
 use Rattle.ack_ranges.specs.declared.range.Range.{Range}
 use Rattle.rm_base.specs.Message.{max_number}
 use Rattle.rm_base.specs.NumberSet.{has_number}
-use Rattle.rm_base.specs.declared.message.Behaviour.{Behaviour}
-use Rattle.rm_base.specs.declared.message.Behaviour.TheVariants.{NoDiscard}
 use Rattle.rm_source.specs.declared.phase.OutPhase.{OutPhase}
 use Rattle.rm_source.specs.declared.phase.OutPhase.TheVariants as out
 use Rattle.record_batch.specs.declared.record.OwnOffer.{OwnOffer}
 use Rattle.record_batch.specs.Fact.{Fact, Made, Creating, Created, Granted, Accepted, Acked, Received, Closing}
 use Rattle.record_batch.specs.Fact.{ClosedOut, Closed, Ending, EndedOut, Ended, Failed, Consumed, Dropped, Purged}
+use Rattle.rm_destination.specs.Incoming.{is_loose}
 use Rattle.rm_destination.specs.Messages.{is_empty}
 use Rattle.sequence_table.specs.Makers.{Maker, Outgoing, Offered, Incoming, Taken, makers, makers_of, maker, counter}
 use Rattle.sequence_table.specs.Sources.{accepted_count, phase}
-use Rattle.sequence_table.specs.Destinations.{cursor, held, inbox, is_stopped, has_end}
+use Rattle.sequence_table.specs.Destinations.{behaviour, cursor, held, inbox, is_stopped, has_end}
 
 -- a sequence that was made so is outgoing
 abbrev pub is_outgoing_side : Option Maker → Bool
@@ -51,16 +50,10 @@ follows _ _ = false
 abbrev pub follows_at : List Fact → ℕ → Fact → Bool
 follows_at r s rec = is_outgoing_side (maker r s) && follows (phase r s) rec
 
--- a sequence of this behaviour releases its messages in order: as long as there is no receiver for NoDiscard, which
--- releases them as they come, none is announced (WS-ReliableMessaging 1.2, section 3.4)
-abbrev pub is_in_order : Behaviour → Bool
-is_in_order NoDiscard = false
-is_in_order _ = true
-
--- the second number is the next one after that of the ticket, and the sequence releases in order
+-- the second number is the next one after that of the ticket
 abbrev pub offer_fits : ℕ → Option OwnOffer → Bool
 offer_fits drawn None = true
-offer_fits drawn (Some offer) = (offer.counter == drawn + 2) && is_in_order offer.behaviour
+offer_fits drawn (Some offer) = offer.counter == drawn + 2
 
 -- a deadline that is no moment: 0
 abbrev pub is_no_moment : Option ℕ → Bool
@@ -80,6 +73,18 @@ abbrev pub is_first_run : List Range → Bool
 is_first_run (x ∷ []) = (x.lower == 1) && nat_le 1 x.upper
 is_first_run _ = false
 
+-- the ranges begin at first or later, and are a set of message numbers: each has one, and between each two neighbours
+-- lies a number that is in none
+abbrev pub is_set_from : ℕ → List Range → Bool
+is_set_from first [] = true
+is_set_from first (x ∷ xs) =
+    nat_le first x.lower && (nat_le x.lower x.upper && (nat_le x.upper max_number && is_set_from (x.upper + 2) xs))
+
+-- what may be gone: of a loose sequence any numbers, of another one exactly 1 to some n
+abbrev pub may_be_gone : Bool → List Range → Bool
+may_be_gone true ranges = not (is_empty ranges) && is_set_from 1 ranges
+may_be_gone false ranges = is_first_run ranges
+
 -- the record may come after r. A message number is at most 9223372036854775807: WS-ReliableMessaging 1.2, section 3.7
 abbrev pub fits : List Fact → Fact → Bool
 fits r (Made node address) = is_empty r && (nat_le 1 node && nat_lt node (2 ^ 60))
@@ -87,8 +92,8 @@ fits r (Creating ticket to via lapse offer) =
     (ticket == counter r + 1) && (offer_fits (counter r) offer && has_places r (Creating ticket to via lapse offer))
 fits r (Created seq ident accept) = follows_at r seq (Created seq ident accept)
 fits r (Granted drawn message_id acks_to behaviour deadline lapse offer) =
-    (drawn == counter r + 1) && (not (is_no_moment deadline) && (is_in_order behaviour
-    && has_places r (Granted drawn message_id acks_to behaviour deadline lapse offer)))
+    (drawn == counter r + 1) && (not (is_no_moment deadline)
+    && has_places r (Granted drawn message_id acks_to behaviour deadline lapse offer))
 fits r (Accepted seq payload) =
     follows_at r seq (Accepted seq payload) && nat_lt (accepted_count r seq) max_number
 fits r (Acked seq ranges) = is_outgoing_side (maker r seq) && list_all (is_up_to (accepted_count r seq)) ranges
@@ -109,7 +114,8 @@ fits r (Dropped seq upto) =
     && ((accepted_count r seq == 0) && (nat_le 1 upto && nat_le upto max_number))
 fits r (Purged seq ranges) =
     is_incoming_side (maker r seq)
-    && (is_empty (held r seq) && (list_all (is_up_to max_number) ranges && is_first_run ranges))
+    && (is_empty (held r seq)
+    && (list_all (is_up_to max_number) ranges && may_be_gone (is_loose (behaviour r seq)) ranges))
 
 -- each of the records may come after those before it
 abbrev pub all_fit : List Fact → List Fact → Bool

@@ -11,7 +11,9 @@ pub mod NodeLemmas
 pub mod OneMore
 pub mod PhaseLemmas
 pub mod RowLemmas
+pub mod SetLemmas
 pub mod Sources
+pub mod StayLemmas
 pub mod Told
 pub mod ToldLemmas
 pub mod Words

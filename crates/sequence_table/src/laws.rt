@@ -5,7 +5,8 @@ ghost use Rattle.rm_source.specs.declared.phase.OutPhase.TheVariants.{Closing};
 ghost use Rattle.record_batch.specs.Batch.{batch_text};
 ghost use Rattle.record_batch.specs.Fact.{Accepted, Closed, Consumed, Dropped, Fact, Received};
 ghost use Rattle.sequence_table.specs.Destinations.{cursor, discarded, front, inbox, is_complete, is_ended};
-ghost use Rattle.sequence_table.specs.Examples.{a_destination, a_short_destination, a_short_source, a_source, of_text};
+ghost use Rattle.sequence_table.specs.Examples.{a_destination, a_loose_destination, a_short_destination};
+ghost use Rattle.sequence_table.specs.Examples.{a_short_loose_destination, a_short_source, a_source, of_text};
 ghost use Rattle.sequence_table.specs.Find.{find_incoming, find_outgoing};
 ghost use Rattle.sequence_table.specs.Fits.{all_fit, fits};
 ghost use Rattle.sequence_table.specs.Idents.{IssuesOnce, issue};
@@ -68,6 +69,25 @@ pub fn a_destination_without_its_first_payloads()
     ensures back { fits a_short_destination (Consumed 1 2) ≡ false }
     ensures on { fits a_short_destination (Consumed 1 3) ≡ true }
     ensures past { fits a_short_destination (Consumed 1 4) ≡ false }
+{}
+
+/// Of a loose destination: what came is released as it came, behind a gap too, and nothing is discarded.
+pub fn a_destination_that_releases_what_comes()
+    ensures fit { all_fit [] a_loose_destination ≡ true }
+    ensures front { front a_loose_destination 1 ≡ 1 }
+    ensures inbox { inbox a_loose_destination 1 ≡ Some (of_text (9 ∷ [])) ∷ Some (of_text (7 ∷ [])) ∷ [] }
+    ensures consumed { fits a_loose_destination (Consumed 1 2) ≡ true }
+    ensures past { fits a_loose_destination (Consumed 1 3) ≡ false }
+    ensures discarded { discarded (a_loose_destination ++ Closed 1 Peer 4 ∷ []) 1 ≡ [] }
+{}
+
+/// Of a loose destination without a payload that isn't the first by number: it is gone and not forgotten.
+pub fn a_loose_destination_without_a_payload()
+    ensures fit { all_fit [] a_short_loose_destination ≡ true }
+    ensures inbox { inbox a_short_loose_destination 1 ≡ None ∷ Some (of_text (7 ∷ [])) ∷ [] }
+    ensures again { fits a_short_loose_destination (Received 1 3 (of_text (9 ∷ []))) ≡ false }
+    ensures cursor { cursor a_short_loose_destination 1 ≡ 1 }
+    ensures on { fits a_short_loose_destination (Consumed 1 2) ≡ true }
 {}
 
 /// A batch takes at least a byte for each number that it draws.

@@ -300,18 +300,16 @@ fn a_number_is_received_once(rt: HostRuntime) -> Result<(), Fail> {
     Ok(())
 }
 
-// Node 7 asks for no sequence with an offer of NoDiscard, and grants none.
-fn refuses_no_discard(alloc: Global, tables: &mut Tables) -> Result<bool, Fail> {
+// Node 7 asks for a sequence with an offer of NoDiscard, and grants one.
+fn grants_no_discard(alloc: Global, tables: &mut Tables) -> Result<bool, Fail> {
     tables.apply(made(alloc)?)?;
-    let first = tables.apply(asked_with(alloc, Behaviour::NoDiscard)?);
-    tables.apply(asked(alloc)?)?;
-    let second = tables.apply(granted_with(alloc, Behaviour::NoDiscard)?);
-    tables.apply(granted(alloc)?)?;
-    Ok((first == Err(TableError::Misfit)) & (second == Err(TableError::Misfit)))
+    tables.apply(asked_with(alloc, Behaviour::NoDiscard)?)?;
+    tables.apply(granted_with(alloc, Behaviour::NoDiscard)?)?;
+    Ok(true)
 }
 
 #[test]
-fn a_sequence_releases_in_order(rt: HostRuntime) -> Result<(), Fail> {
-    assert!(rt; at_new(rt.alloc(), refuses_no_discard)?);
+fn a_sequence_may_be_loose(rt: HostRuntime) -> Result<(), Fail> {
+    assert!(rt; at_new(rt.alloc(), grants_no_discard)?);
     Ok(())
 }

@@ -6,5 +6,5 @@ pub returns-clause-stored : goal.returns-clause-stored
 returns-clause-stored c =
     let own = c.serving.ensures.next in
     stored c.args.tables.now.records c.args.place c.ask.result _
-    (own.next.create_ (wish_seen c.args.wish) c.requires.offer)
+    (own.next.create_ (wish_seen c.args.wish))
     (c.ask.ensures.is own.terms own.own) c.ask.ensures.room c.ask.ensures.typed

@@ -7,7 +7,6 @@ use Rattle.sequence_row.specs.Row.{Seen}
 use Rattle.node_tables.specs.declared.note.Note.{Note}
 use Rattle.node_tables.specs.Kept.{IsShort, tolds}
 use Rattle.node_tables.specs.Shorter.{HasRow, IsProperNote, IsPut, IsRecorded, marked}
-use Rattle.node_tables.proofs.PastLemmas.{passed-few}
 use Rattle.node_tables.proofs.ShorterLemmas.{IsShortened, has_row, shortened_all, shortened_more}
 use Rattle.node_tables.proofs.snapshot.shorter.Goals as goal
 
@@ -38,7 +37,6 @@ put_instead-requires c =
     let rows = tolds c.args.rows.now in
     record {
       few = c.requires.few;
-      passed = passed-few (map fact_of c.args._kept.now) rows c.args.notes.now c.requires.recorded;
       there = subst (λ n. HasRow n c.index-notes-k.result) (length-map c.args.rows.now (λ (r : Seen). r.told))
           (has_row _ rows c.args.notes.now (loop.k - 1) c.index-notes-k.result
           (omega (arith, loop.invariant.within, c.loop-k-test.true)) c.index-notes-k.is c.requires.recorded);

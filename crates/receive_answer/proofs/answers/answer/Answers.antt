@@ -15,9 +15,6 @@ judged-requires c =
 pub taken-requires-clause-serves : goal.taken-requires-clause-serves
 taken-requires-clause-serves c = c.requires.serves
 
-pub taken-requires-clause-in_order : goal.taken-requires-clause-in_order
-taken-requires-clause-in_order c = c.requires.in_order
-
 pub taken-requires-clause-numbers : goal.taken-requires-clause-numbers
 taken-requires-clause-numbers c = c.requires.numbers
 

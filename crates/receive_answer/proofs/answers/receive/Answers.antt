@@ -13,9 +13,6 @@ pub answer-requires-clause-serves : goal.answer-requires-clause-serves
 answer-requires-clause-serves c =
     subst (λ (k : KnownRecords). Serves k.records c.args.place) (sym c.seeking-ahead.ensures) c.requires.serves
 
-pub answer-requires-clause-in_order : goal.answer-requires-clause-in_order
-answer-requires-clause-in_order c = c.requires.in_order
-
 pub answer-requires-clause-numbers : goal.answer-requires-clause-numbers
 answer-requires-clause-numbers c = c.requires.numbers
 

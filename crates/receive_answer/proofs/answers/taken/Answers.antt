@@ -47,7 +47,7 @@ done-requires-clause-fit c =
     } in
     subst (λ (r : List Fact). all_fit r d ≡ true) (sym c.in_ok-put_ahead.ensures.records)
     (added-fit laws c.args.ahead.records d c.args.place c.args.now c.args.granted c.args.message.now
-    c.in_ok-put_ahead.field-0 c.len-sequences.ensures.sound c.requires.in_order c.requires.numbers
+    c.in_ok-put_ahead.field-0 c.len-sequences.ensures.sound c.requires.numbers
     c.in_ok-put_ahead.ensures.tried
     c.if-branch.true)
 
@@ -77,7 +77,7 @@ returns-then-branch-clause-stored c =
     } in
     let stored : MayBeStored r c.args.place d = record {
       fit = added-fit laws r d c.args.place c.args.now c.args.granted c.args.message.now c.in_ok-put_ahead.field-0
-          c.len-sequences.ensures.sound c.requires.in_order c.requires.numbers c.in_ok-put_ahead.ensures.tried
+          c.len-sequences.ensures.sound c.requires.numbers c.in_ok-put_ahead.ensures.tried
           c.if-branch.true;
       room = c.in_ok-put_ahead.ensures.room c.if-branch.true;
       typed = c.in_ok-put_ahead.ensures.typed;

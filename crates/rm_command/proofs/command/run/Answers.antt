@@ -24,3 +24,6 @@ returns-clause-status g c = record {
 
 pub returns-clause-word : goal.returns-clause-word
 returns-clause-word g c = rw c.status.ensures c.obey.ensures.word
+
+pub returns-clause-loose : goal.returns-clause-loose
+returns-clause-loose g c = rw c.status.ensures c.obey.ensures.loose

@@ -2,15 +2,12 @@ use Rattle.std.proofs.Common.{◌≡◌, refl, sym, subst}
 use Rattle.std.specs.Prelude.{IfOk}
 use Rattle.call_answers.specs.Answers.{seen, wish_seen}
 use Rattle.call_answers.specs.declared.answer.Answer.{Answer}
-use Rattle.rm_node.specs.Asked.{Asked, Asks, IsAsked, MayBeAsked, answer_to}
+use Rattle.rm_node.specs.Asked.{Asked, Asks, IsAsked, answer_to}
 use Rattle.rm_node.specs.Asked.{Create, Send, Close, End, AskAck, NackMissing, Consume, Tick, Poll}
 use Rattle.rm_node.specs.declared.call.Call.{Call}
 use Rattle.rm_node.specs.declared.call.Call.TheVariants as call
 use Rattle.rm_node.proofs.SayLemmas.{given}
 use Rattle.rm_node.proofs.say.own_answer.Goals as goal
-
-pub create-requires-clause-offer : goal.create-requires-clause-offer
-create-requires-clause-offer c = (subst MayBeAsked c.in-Create.is c.requires.may).offer
 
 pub returns-in-Create-clause-asked : goal.returns-in-Create-clause-asked
 returns-in-Create-clause-asked c =

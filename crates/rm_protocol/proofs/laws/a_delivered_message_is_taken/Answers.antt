@@ -5,11 +5,11 @@ use Rattle.rm_protocol.proofs.TakenLemmas.{takes-new}
 use Rattle.rm_protocol.proofs.laws.a_delivered_message_is_taken.Goals as goal
 
 pub returns : goal.returns
-returns c terms one two t made events in_order =
+returns c terms one two t made events =
     let laws : SnapshotLaws = record {
       keeps = c.a_snapshot_keeps_all.ensures;
       fits = c.a_snapshot_fits.ensures;
       proper = c.a_snapshot_is_proper.ensures;
     } in
     takes-new terms (run terms events (start one two))
-    (run-IsSound laws terms events (start one two) t in_order (start-IsSound terms one two made))
+    (run-IsSound laws terms events (start one two) t (start-IsSound terms one two made))

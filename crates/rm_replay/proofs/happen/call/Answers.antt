@@ -5,7 +5,7 @@ use Rattle.rm_replay.specs.Asked.{step_of}
 use Rattle.rm_replay.specs.Meaning.{side_of}
 use Rattle.rm_replay.specs.Net.{number_of}
 use Rattle.rm_replay.specs.Shows.{drives_of, scene_of}
-use Rattle.rm_replay.proofs.ReadLemmas.{in_order_at, kept_at, rules_at, said_is_read}
+use Rattle.rm_replay.proofs.ReadLemmas.{kept_at, rules_at, said_is_read}
 use Rattle.rm_replay.proofs.StepLemmas.{asked_for, call_moves, scene_by, shows_still}
 use Rattle.rm_replay.proofs.happen.call.Goals as goal
 
@@ -43,7 +43,7 @@ returns-clause-moves g c terms net asked by w shows =
       polls = c.what_waits_keeps_the_rules.ensures;
       written = c.what_is_written_is_read.ensures.twelve;
     }) terms net.own (node w side)
-    (kept_at w d c.args.nodes.now side shows.stand) (in_order_at w d c.args.nodes.now side shows.stand)
+    (kept_at w d c.args.nodes.now side shows.stand)
     (rules_at w d c.args.nodes.now side shows.stand) asked
     c.args.call c.requires.may by)
 

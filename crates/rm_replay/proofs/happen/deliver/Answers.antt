@@ -11,7 +11,7 @@ use Rattle.rm_node.specs.Asked.{IsReceived}
 use Rattle.rm_node.specs.declared.call.Call.TheVariants as call
 use Rattle.rm_replay.proofs.CallLemmas.{deliver_at, happens_lost, lost, packet_read, there_of}
 use Rattle.rm_replay.proofs.EventLemmas.{happens_call}
-use Rattle.rm_replay.proofs.ReadLemmas.{in_order_at, kept_at, rules_at, said_is_read}
+use Rattle.rm_replay.proofs.ReadLemmas.{kept_at, rules_at, said_is_read}
 use Rattle.rm_replay.proofs.StepLemmas.{asked_for, call_moves, scene_by, shows_still}
 use Rattle.rm_replay.proofs.happen.deliver.Goals as goal
 
@@ -78,7 +78,6 @@ returns g c terms net w shows =
       written = c.what_is_written_is_read.ensures.twelve;
     }) terms net.own (node w side)
     (kept_at w old.drives c.args.nodes.now side shows.stand)
-    (in_order_at w old.drives c.args.nodes.now side shows.stand)
     (rules_at w old.drives c.args.nodes.now side shows.stand) asked (call.Receive packet.bytes) tt by))
     (asked_for side c.in_ok-came.came c.put_came.result old.drives new.drives c.in_ok-came.ensures.asked
     c.put_came.ensures.outcome)

@@ -14,16 +14,8 @@ use Rattle.rm_replay.proofs.CallLemmas.{ask_call, close_call, consume_call, end_
 use Rattle.rm_replay.proofs.CallLemmas.{tick_call}
 use Rattle.rm_replay.proofs.CompactLemmas.{happens_compact}
 use Rattle.rm_replay.proofs.EventLemmas.{happens_arm, happens_call, happens_crash, happens_grant, happens_line}
-use Rattle.rm_replay.proofs.OrderLemmas.{in_order-all, in_order-offer}
 use Rattle.rm_replay.proofs.StepLemmas.{scene_by}
 use Rattle.rm_replay.proofs.happen.happen.Goals as goal
-
-pub create-requires-clause-offer : goal.create-requires-clause-offer
-create-requires-clause-offer g c =
-    in_order-offer c.in-Create.offer (subst IsWithin c.in-Create.is c.requires.within).1
-
-pub grant-requires : goal.grant-requires
-grant-requires g c = in_order-all c.in-Grant.behaviour (subst IsWithin c.in-Grant.is c.requires.within)
 
 pub call-requires-in-Tick-clause-may : goal.call-requires-in-Tick-clause-may
 call-requires-in-Tick-clause-may g c = subst IsWithin c.in-Tick.is c.requires.within

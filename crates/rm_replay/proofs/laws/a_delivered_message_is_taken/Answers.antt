@@ -1,10 +1,8 @@
 use Rattle.std.proofs.Common.{sym, subst, take}
 use Rattle.rm_protocol.specs.Delivered.{TakesNew}
-use Rattle.rm_script.specs.Within.{IsWithin}
 use Rattle.rm_replay.specs.Shows.{address_one, address_two}
 use Rattle.rm_replay.proofs.NetLemmas.{are_made, are_terms}
-use Rattle.rm_replay.proofs.PlayedLemmas.{played_ordered, run_of}
-use Rattle.rm_replay.proofs.PutLemmas.{all_take}
+use Rattle.rm_replay.proofs.PlayedLemmas.{run_of}
 use Rattle.rm_replay.proofs.laws.a_delivered_message_is_taken.Goals as goal
 
 pub returns : goal.returns
@@ -15,4 +13,4 @@ returns c terms script count s net within played =
     subst (TakesNew terms) (sym of.1)
     (c.a_delivered_message_is_taken.ensures terms address_one address_two
     (are_terms c.own_terms_are_terms.ensures terms net)
-    (are_made terms net) of.0 (played_ordered goes terms front s played (all_take IsWithin script count within)))
+    (are_made terms net) of.0)

@@ -1,5 +1,6 @@
 use Rattle.std.proofs.Common.{inr}
 use Rattle.std.proofs.lemmas.Result.{err_from_is_err_and}
+use Rattle.rm_replay.specs.Headline.{KeepsHeadline, KeepsLooseWord}
 use Rattle.rm_replay.specs.Shows.{scene_of}
 use Rattle.rm_replay.proofs.EventLemmas.{holds_of}
 use Rattle.rm_replay.proofs.RunLemmas.{ran_of, short_from, short_keeps, short_told}
@@ -27,6 +28,17 @@ returns-in_err-push_known-clause-short g c =
     c.requires.within all.played now
     (holds_of c.each_image_is_left.ensures all.story.world now c.play.new.nodes all.shows)))
 
+pub returns-in_err-push_known-clause-loose_short : goal.returns-in_err-push_known-clause-loose_short
+returns-in_err-push_known-clause-loose_short g c =
+    let r = c.from_residual-in_err-push_known in
+    let p = err_from_is_err_and r.result r.ensures.1 in
+    let n = c.there_are_nets.ensures in
+    let all = c.in_ok-play.ensures n.0 n.1 in
+    let now = scene_of g.M.Disk.told g.W.Wire.packets c.play.new.stage in
+    rw p.1 (inr (c.a_played_script_keeps_the_headline.ensures.loose n.0 c.args.script.items all.story n.1
+    c.requires.within all.played now
+    (holds_of c.each_image_is_left.ensures all.story.world now c.play.new.nodes all.shows)))
+
 pub returns-in_err-push_known-2-clause-err : goal.returns-in_err-push_known-2-clause-err
 returns-in_err-push_known-2-clause-err g c terms net =
     let r = c.from_residual-in_err-push_known-2 in
@@ -49,6 +61,17 @@ returns-in_err-push_known-2-clause-short g c =
     c.requires.within all.played now
     (holds_of c.each_image_is_left.ensures all.story.world now c.play.new.nodes all.shows)))
 
+pub returns-in_err-push_known-2-clause-loose_short : goal.returns-in_err-push_known-2-clause-loose_short
+returns-in_err-push_known-2-clause-loose_short g c =
+    let r = c.from_residual-in_err-push_known-2 in
+    let p = err_from_is_err_and r.result r.ensures.1 in
+    let n = c.there_are_nets.ensures in
+    let all = c.in_ok-play.ensures n.0 n.1 in
+    let now = scene_of g.M.Disk.told g.W.Wire.packets c.play.new.stage in
+    rw p.1 (inr (c.a_played_script_keeps_the_headline.ensures.loose n.0 c.args.script.items all.story n.1
+    c.requires.within all.played now
+    (holds_of c.each_image_is_left.ensures all.story.world now c.play.new.nodes all.shows)))
+
 pub returns-in_err-play-clause-err : goal.returns-in_err-play-clause-err
 returns-in_err-play-clause-err g c terms net =
     let r = c.from_residual-in_err-play in
@@ -65,7 +88,18 @@ returns-in_err-play-clause-short g c =
     let p = err_from_is_err_and r.result r.ensures.1 in
     let n = c.there_are_nets.ensures in
     let keeps = c.a_played_script_keeps_the_headline.ensures in
-    rw p.1 (inr (short_keeps keeps.whole keeps.short n.0 c.args.script.items
+    rw p.1 (inr (short_keeps KeepsHeadline keeps.whole keeps.short n.0 c.args.script.items
+    (scene_of g.M.Disk.told g.W.Wire.packets c.make.new.stage)
+    (scene_of g.M.Disk.told g.W.Wire.packets c.play.new.stage) n.1 c.requires.within
+    (c.in_err-play.ensures n.0 n.1)))
+
+pub returns-in_err-play-clause-loose_short : goal.returns-in_err-play-clause-loose_short
+returns-in_err-play-clause-loose_short g c =
+    let r = c.from_residual-in_err-play in
+    let p = err_from_is_err_and r.result r.ensures.1 in
+    let n = c.there_are_nets.ensures in
+    let keeps = c.a_played_script_keeps_the_headline.ensures in
+    rw p.1 (inr (short_keeps KeepsLooseWord keeps.loose keeps.loose_short n.0 c.args.script.items
     (scene_of g.M.Disk.told g.W.Wire.packets c.make.new.stage)
     (scene_of g.M.Disk.told g.W.Wire.packets c.play.new.stage) n.1 c.requires.within
     (c.in_err-play.ensures n.0 n.1)))
@@ -89,5 +123,14 @@ returns-clause-word g c =
     let all = c.in_ok-play.ensures n.0 n.1 in
     let now = scene_of g.M.Disk.told g.W.Wire.packets c.play.new.stage in
     c.a_played_script_keeps_the_headline.ensures.whole n.0 c.args.script.items all.story n.1 c.requires.within
+    all.played now
+    (holds_of c.each_image_is_left.ensures all.story.world now c.play.new.nodes all.shows)
+
+pub returns-clause-loose : goal.returns-clause-loose
+returns-clause-loose g c =
+    let n = c.there_are_nets.ensures in
+    let all = c.in_ok-play.ensures n.0 n.1 in
+    let now = scene_of g.M.Disk.told g.W.Wire.packets c.play.new.stage in
+    c.a_played_script_keeps_the_headline.ensures.loose n.0 c.args.script.items all.story n.1 c.requires.within
     all.played now
     (holds_of c.each_image_is_left.ensures all.story.world now c.play.new.nodes all.shows)

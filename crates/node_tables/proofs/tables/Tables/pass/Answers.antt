@@ -1,14 +1,15 @@
 use Rattle.std.proofs.Common.{◌≡◌, ◌∙◌, ◌-◌, true, List, [], ◌∷◌, ◌++◌, sym, ap}
-use Rattle.std.proofs.Common.{subst, arith}
+use Rattle.std.proofs.Common.{ap₂, map, subst, arith}
 use Rattle.std.specs.List.{flat_map}
 use Rattle.std.proofs.lemmas.Bool.{false≢true}
 use Rattle.std.proofs.lemmas.List.{length-map}
+use Rattle.std.proofs.lemmas.Result.{err_from_is_err_and}
 use Rattle.record_batch.specs.Fact.{fact_of}
 use Rattle.sequence_table.specs.Fits.{fits}
-use Rattle.sequence_table.specs.Told.{names}
+use Rattle.sequence_table.specs.Told.{Told, names}
 use Rattle.sequence_row.specs.Row.{Seen, takes}
 use Rattle.node_tables.specs.declared.note.Note.{Note}
-use Rattle.node_tables.specs.Kept.{Tabled, row_at, tolds}
+use Rattle.node_tables.specs.Kept.{Tabled, records_of, row_at, tolds}
 use Rattle.node_tables.specs.Room.{NodeRoom, spares_ahead, starts_of}
 use Rattle.node_tables.proofs.RoomLemmas.{has-room, ready-whole}
 use Rattle.node_tables.proofs.RowsLemmas.{row-taken}
@@ -76,6 +77,12 @@ invariant_of-self-in_err-pass_at c =
       begun_ = c.self.invariant.begun_;
       mark_ = tt;
     }
+
+pub returns-in_err-pass_at-clause-err : goal.returns-in_err-pass_at-clause-err
+returns-in_err-pass_at-clause-err c =
+    let p = err_from_is_err_and c.from_residual-in_err-pass_at.result c.from_residual-in_err-pass_at.ensures.1 in
+    rw p.1 (ap₂ (λ (rows : List Told) (notes : List Note). records_of (map fact_of c.self.inside.kept.items) rows notes)
+    c.in_err-pass_at.ensures.err c.reserve.ensures.items ∙ ap (λ (t : Tabled). t.records) c.self.view_is)
 
 pub returns-in_err-pass_at-clause-ready : goal.returns-in_err-pass_at-clause-ready
 returns-in_err-pass_at-clause-ready c more h =

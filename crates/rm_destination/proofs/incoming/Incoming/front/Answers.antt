@@ -1,15 +1,15 @@
 use Rattle.std.proofs.Common.{ap, ◌∙◌}
-use Rattle.rm_destination.specs.Incoming.{Sequence, items}
-use Rattle.rm_destination.specs.ItemLemmas.{Rises-items}
-use Rattle.rm_destination.specs.Messages.{front_of, items_of, run_to}
+use Rattle.rm_destination.specs.Incoming.{Sequence, is_loose, items}
+use Rattle.rm_destination.specs.Kept.{gone_by}
+use Rattle.rm_destination.specs.Messages.{front_of, items_of}
 use Rattle.rm_destination.proofs.KeptLemmas.{front-same}
 use Rattle.rm_destination.proofs.incoming.Incoming.front.Goals as goal
 
 pub returns : goal.returns
 returns c =
-    let kept = c.self.invariant in
-    let came = c.self.inside.arrivals.messages in
-    let gone = c.self.inside.gone in
-    front-same (items_of (run_to gone) came) c.self.inside.numbers.ranges c.front.result
-    (Rises-items gone came kept.rising) kept.same c.front.ensures.front
+    let inside = c.self.inside in
+    let kept = c.self.invariant.all in
+    let gone = gone_by (is_loose inside.behaviour) inside.gone inside.purged.ranges in
+    front-same (items_of gone inside.arrivals.messages) inside.numbers.ranges c.front.result kept.rising kept.same
+    c.front.ensures.front
     ∙ ap (λ (s : Sequence). front_of (items s.facts)) c.self.view_is

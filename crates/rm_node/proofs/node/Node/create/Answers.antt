@@ -12,7 +12,7 @@ use Rattle.rm_node.proofs.node.Node.create.Goals as goal
 
 pub step-requires-clause-may : goal.step-requires-clause-may
 step-requires-clause-may g c =
-    record { to = c.as_slice-to.ensures.is_text; expires = c.requires.lapse; offer = c.requires.offer }
+    record { to = c.as_slice-to.ensures.is_text; expires = c.requires.lapse }
 
 pub returns-in_err-reaction-clause-steps : goal.returns-in_err-reaction-clause-steps
 returns-in_err-reaction-clause-steps g c =

@@ -4,7 +4,6 @@ use Rattle.rm_node.proofs.node.Node.make.Goals as goal
 
 pub invariant_of-result : goal.invariant_of-result
 invariant_of-result g c = record {
-  in_order = c.in_ok-kept.ensures.in_order;
   timed = timed-first c.what_waits_stays_exact.ensures.mounted c.in-Ok.store.records c.in_ok-kept.kept.timers
       c.in-Ok.ensures.kept (stands-made c.in-Ok.store c.args.number c.args.address c.in_ok-kept.kept.timers
       c.in-Ok.ensures.made c.in_ok-kept.ensures.waits);

@@ -7,7 +7,6 @@ use Rattle.rm_node.proofs.node.Node.mount.Goals as goal
 
 pub invariant_of-result : goal.invariant_of-result
 invariant_of-result g c = record {
-  in_order = c.in-Ok.ensures.in_order;
   timed = timed-first c.what_waits_stays_exact.ensures.mounted c.in_ok-store.store.records c.fill.new.timers
       c.in_ok-store.ensures.kept
       (subst (λ (r : List Fact). StandsFor c.fill.new.timers (mounted_waits r)) c.tables.ensures

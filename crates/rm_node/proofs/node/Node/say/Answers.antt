@@ -1,7 +1,6 @@
 use Rattle.std.proofs.Common.{◌≡◌, ◌∙◌, ℕ, Bool, List, map, ap, sym, subst}
 use Rattle.rm_journal.specs.JournalState.{end_of}
 use Rattle.record_batch.specs.Fact.{Fact, fact_of}
-use Rattle.sequence_table.specs.Fits.{is_in_order}
 use Rattle.rm_protocol.specs.Terms.{Terms}
 use Rattle.node_laws.specs.OwnTerms.{AreOwn}
 use Rattle.node_laws.specs.Records.{IsKept}
@@ -47,7 +46,7 @@ returns-clause-says c =
           c.each_call_keeps_the_records.ensures c.only_what_was_heard_is_recorded.ensures
           c.what_begins_waits.ensures own.0 own.1 n.stored.records (end_of n.stored.journal) now kept.0 c.args.call
           asked.0 (whole a) c.begun_with_call-begun.result same.runs.records
-          (ap is_in_order (sym kept.1.granted) ∙ same.runs.in_order) c.requires asked.1 stored
+          c.requires asked.1 stored
           (is own.0 own.1 kept.0 kept.1 asked.0 asked.1)
           (c.begun_with_call-begun.ensures asked.0 asked.1
           ∙ ap (λ (r : List Fact). begun_with r asked.0) same.records);

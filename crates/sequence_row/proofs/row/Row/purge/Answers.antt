@@ -5,9 +5,9 @@ use Rattle.sequence_row.proofs.GoneLemmas.{purged-run}
 use Rattle.sequence_row.proofs.row.Row.purge.Goals as goal
 
 pub restore-requires-clause-run : goal.restore-requires-clause-run
-restore-requires-clause-run c =
+restore-requires-clause-run c = λ ordered.
     let given = c.args.numbers.now.ranges in
     let so : takes_purged (side_in c.self.inside.core) given ≡ true
     = ap (λ (s : Seen). takes_purged s.told.side given) c.self.view_is ∙ c.requires in
     purged-run c.in-Receives.incoming.facts given
-    (ap (λ (x : Core). takes_purged (side_in x) given) (sym c.in-Receives.is) ∙ so)
+    (ap (λ (x : Core). takes_purged (side_in x) given) (sym c.in-Receives.is) ∙ so) ordered
