@@ -16,7 +16,7 @@ use Rattle.rm_command.specs.Edge.{Edge}
 use Rattle.rm_command.specs.Run.{RunsReplay, RunsCheck}
 use Rattle.rm_command.specs.Stage.{Staged}
 use Rattle.rm_command.specs.Status.{status_of}
-use Rattle.rm_command.proofs.RunLemmas.{filter_status}
+use Rattle.rm_command.specs.RunLemmas.{filter_status}
 use Rattle.rm_command.specs.declared.end.End.{End}
 use Rattle.rm_command.specs.declared.end.End.TheVariants.{Done, Usage, BadLine, ReadFault, WriteFault, TooLong}
 use Rattle.rm_command.specs.declared.end.End.TheVariants.{Refused, Memory}

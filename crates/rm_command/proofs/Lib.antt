@@ -2,7 +2,6 @@ pub mod AlternativesLemmas
 pub mod CheckLemmas
 pub mod PolicyLemmas
 pub mod ReadingLemmas
-pub mod RunLemmas
 pub mod SoakLemmas
 pub mod StatusLemmas
 pub mod WordLemmas

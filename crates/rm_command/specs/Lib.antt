@@ -8,3 +8,4 @@ pub mod Run
 pub mod Stage
 pub mod Status
 pub mod Texts
+pub mod RunLemmas

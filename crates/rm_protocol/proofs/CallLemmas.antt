@@ -1,7 +1,8 @@
 -- What each call of a node comes to may be added, fits the store, and what is said then is so.
 use Rattle.std.proofs.Common.{◌≡◌, ℕ, zero, suc, max, ◌+◌, ◌==◌, ◌&&◌, not, nat_lt, nat_le, cond, Bool, true, false}
 use Rattle.std.proofs.Common.{List, [], ◌∷◌}
-use Rattle.std.proofs.Common.{◌++◌, length, refl, sym, ap, ◌∙◌, subst, append-nil}
+use Rattle.std.proofs.Common.{◌++◌, ◌^◌, ◌<◌, ◌≤◌, arith, map, length, refl, sym, ap, ◌∙◌, subst, append-nil}
+use Rattle.rm_base.specs.Numbered.{numbered}
 use Rattle.std.specs.Prelude.{Option, Some, None, IfSome}
 use Rattle.std.specs.List.{AllByRecursion, flat_map}
 use Rattle.rm_base.specs.Limits.{most_sequences, most_unacked, payload_bytes, window}
@@ -26,7 +27,8 @@ use Rattle.sequence_table.specs.Makers.{number, address}
 use Rattle.sequence_table.specs.Sources.{accepted_count, mark_of, marks, out_ident, phase}
 use Rattle.sequence_table.specs.Destinations.{cursor, has_end, inbox, is_over}
 use Rattle.sequence_table.specs.Find.{acks_to, peer}
-use Rattle.rm_protocol.specs.Sound.{SaysCreate, Says, IsWith, Owns, Allows, Keeps, AreWith}
+use Rattle.rm_protocol.specs.Sound.{SaysCreate, Says, IsAsked, IsIssuedBy, IsWith, Owns, Allows, Keeps, AreWith}
+use Rattle.rm_protocol.specs.Sound.{asked_with, drawn, highest}
 use Rattle.std.specs.Prelude.{Result, Ok, Err}
 use Rattle.std.specs.Option.{option_to_list}
 use Rattle.rm_message.specs.declared.refusal.FaultKind.{FaultKind}
@@ -55,7 +57,7 @@ use Rattle.rm_protocol.specs.Rows.{rows}
 use Rattle.rm_protocol.specs.Terms.{Terms, AreTerms}
 use Rattle.rm_protocol.specs.Verdict.{tests, verdict, has_room}
 use Rattle.rm_protocol.specs.VerdictLemmas.{none-held}
-use Rattle.rm_protocol.proofs.ListLemmas.{All-append}
+use Rattle.rm_protocol.proofs.ListLemmas.{All-append, Rises-below, numbered-map}
 use Rattle.rm_protocol.proofs.Kept.{Keeps-adds, kept-counter}
 use Rattle.rm_protocol.proofs.HeardLemmas.{rows-heard}
 use Rattle.rm_protocol.proofs.RowLemmas.{rows-right}
@@ -96,7 +98,7 @@ refused-or terms place a b true cause answer h = refusal-right terms place a b c
 refused-or terms place a b false cause answer h = h
 
 -- create
-offer_of-fresh : (r a : List Fact) (offer : Option Behaviour) → counter r ≡ counter a
+pub offer_of-fresh : (r a : List Fact) (offer : Option Behaviour) → counter r ≡ counter a
     → IfSome (offer_of (counter r) offer) (λ (own : OwnOffer). own.counter ≡ counter a + 2)
 offer_of-fresh r a None e = tt
 offer_of-fresh r a (Some y) e = ap (λ z. z + 2) e
@@ -337,7 +339,8 @@ ask_to-says : (r : List Fact) (to : Option Epr) (q : Option Text) → AllByRecur
 ask_to-says r None None = tt
 ask_to-says r None (Some q) = tt
 ask_to-says r (Some to) None = tt
-ask_to-says r (Some to) (Some q) = (record { data_ = tt; acks = tt; create = tt; response = tt; final = tt }, tt)
+ask_to-says r (Some to) (Some q) =
+    (record { data_ = tt; acks = tt; create = tt; place = tt; name = tt; response = tt; final = tt }, tt)
 
 pub ask_ack-right : (terms : Terms) (place : ℕ) (r a b : List Fact) (s : ℕ) → IsRight terms place a b (ask_ack r s)
 ask_ack-right terms place r a b s = on_outgoing-right terms place a b (maker r s) (ask_out r s)
@@ -367,8 +370,18 @@ nack-says r (Some to) q (n ∷ ns) = chosen (is_anonymous to.address)
 
     chosen : (x : Bool) → AllByRecursion (Says r) (cond x [] (ack_message to (block ∷ []) ∷ []))
     chosen true = tt
-    chosen false =
-        (record { data_ = tt; acks = ((λ i h. absurd (cc), tt), tt); create = tt; response = tt; final = tt }, tt)
+    chosen false = (
+      record {
+        data_ = tt;
+        acks = ((λ i h. absurd (cc), tt), tt);
+        create = tt;
+        place = tt;
+        name = tt;
+        response = tt;
+        final = tt;
+      },
+      tt,
+    )
 
 nack_by-says : (a r : List Fact) (s : ℕ) (made : Option (ℕ × Text)) → AllByRecursion (Says a) (nack_by r s made)
 nack_by-says a r s None = tt
@@ -409,47 +422,71 @@ consume-right terms place r a b s upto =
     chosen true = record { allows = (tt, tt, tt); with_ = tt; says = tt; fetched = tt }
     chosen false = record { allows = tt; with_ = tt; says = tt; fetched = tt }
 
+-- the tickets of a node are numbers of 62 bits
+pub record IsFew (m : ℕ) (b : List Fact) : Type 0 where
+  pub owns : Owns m b
+  pub few : counter b < 2 ^ 62
+
+-- the ticket of a sequence that was asked for was drawn
+pub asked-drawn : (maker_ : Maker) (ticket : ℕ) → asked_with maker_ ≡ Some ticket → drawn maker_ ≡ Some ticket
+asked-drawn (Outgoing t to v l) ticket e = e
+asked-drawn (Offered t c to y) ticket e = absurd (cc)
+asked-drawn (Incoming c t k y d l) ticket e = absurd (cc)
+asked-drawn (Taken t q k) ticket e = absurd (cc)
+
+-- the message with which a sequence was asked for was issued
+pub asked-issued : (m : ℕ) (b : List Fact) (s : ℕ) (t : Text) → IsFew m b → IsAsked b s t → IsIssuedBy (number b) t
+asked-issued m b s t f h =
+    let there : numbered (map drawn (makers b)) s ≡ Some (Some h.ticket) =
+    numbered-map drawn (makers b) s h.maker_ h.there ∙ ap Some (asked-drawn h.maker_ h.ticket h.asked) in
+    let below : h.ticket ≤ highest 0 (map drawn (makers b)) =
+    Rises-below (map drawn (makers b)) s h.ticket f.owns.rising there in
+    let counted : highest 0 (map drawn (makers b)) ≤ counter b = f.owns.below in
+    let few : counter b < 2 ^ 62 = f.few in
+    record { drawn = h.ticket; bits = omega arith; is = h.is }
+
 -- receive: the sequences that a message makes are between the node and the one that says it
-heard_one-with : (b : List Fact) (m : Message) → Says b m → (rec : Fact) → Heard m rec
+heard_one-with : (n : ℕ) (b : List Fact) (m : Message) → IsFew n b → Says b m → (rec : Fact) → Heard m rec
     → AllByRecursion (IsWith b) (makers_of rec)
-heard_one-with b m h (Granted c t acks_to y deadline lapse offer) e = by_offer offer
+heard_one-with n b m f h (Granted c t acks_to y deadline lapse offer) e = by_offer offer
   where
     says : SaysCreate b (Some t) (body.Lifecycle (life.Create e.1.0))
     says = subst (λ z. SaysCreate b z (body.Lifecycle (life.Create e.1.0))) e.0
         (subst (SaysCreate b m.addressing.message_id) e.1.1 h.create)
 
-    is : (k : ℕ) × (t ≡ issue (number b) k)
-    is = (says.0.asked.ticket, says.0.asked.is)
+    is : IsIssuedBy (number b) t
+    is = asked-issued n b says.0.seq t f says.0.asked
 
     by_offer : (offer : Option PeerOffer)
         → AllByRecursion (IsWith b) (makers_of (Granted c t acks_to y deadline lapse offer))
     by_offer None = (is, tt)
     by_offer (Some q) = (is, (is, tt))
-heard_one-with b m h (Creating ticket to via lapse offer) e = absurd e
-heard_one-with b m h _ e = tt
+heard_one-with n b m f h (Creating ticket to via lapse offer) e = absurd e
+heard_one-with n b m f h _ e = tt
 
-heard-with : (b : List Fact) (m : Message) → Says b m → (d : List Fact) → AllByRecursion (Heard m) d → AreWith b d
-heard-with b m h [] e = tt
-heard-with b m h (rec ∷ d) e = All-append (IsWith b) (makers_of rec) (makers d) (heard_one-with b m h rec e.0)
-    (heard-with b m h d e.1)
+heard-with : (n : ℕ) (b : List Fact) (m : Message) → IsFew n b → Says b m → (d : List Fact)
+    → AllByRecursion (Heard m) d → AreWith b d
+heard-with n b m f h [] e = tt
+heard-with n b m f h (rec ∷ d) e =
+    All-append (IsWith b) (makers_of rec) (makers d) (heard_one-with n b m f h rec e.0) (heard-with n b m f h d e.1)
 
 -- a message without a verdict fits the store
 pub not-false : (x : Bool) → not x ≡ false → x ≡ true
 not-false true e = refl
 not-false false e = absurd (cc)
 
-verdict-room : (terms : Terms) (r : List Fact) (place now : ℕ) (y : Behaviour) (m : Message)
+pub verdict-room : (terms : Terms) (r : List Fact) (place now : ℕ) (y : Behaviour) (m : Message)
     → verdict terms r place now y m ≡ None
     → has_room terms place (rows terms now y m r) ≡ true
 verdict-room terms r place now y m e =
     let none = none-held (tests terms r place now y m) e in
     not-false (has_room terms place (rows terms now y m r)) none.1.1.1.1.1.1.1.1.0
 
-judged-right : (n : ℕ) (terms : Terms) (place : ℕ) (r a b : List Fact) (now : ℕ) (y : Behaviour) (m : Message)
+judged-right : (n k : ℕ) (terms : Terms) (place : ℕ) (r a b : List Fact) (now : ℕ) (y : Behaviour) (m : Message)
     (v : Option FaultKind) → AreTerms terms
-    → Keeps r a → Owns n a → Says b m → verdict terms r place now y m ≡ v
+    → Keeps r a → Owns n a → IsFew k b → Says b m → verdict terms r place now y m ≡ v
     → IsRight terms place a b (judged terms r now y m v)
-judged-right n terms place r a b now y m (Some kind) t w o h e = record {
+judged-right n k terms place r a b now y m (Some kind) t w o f h e = record {
   allowed = record {
     allows = tt;
     with_ = tt;
@@ -462,10 +499,10 @@ judged-right n terms place r a b now y m (Some kind) t w o h e = record {
   };
   room = refl;
 }
-judged-right n terms place r a b now y m None t w o h e = record {
+judged-right n k terms place r a b now y m None t w o f h e = record {
   allowed = record {
     allows = rows-right b terms now y m h n r a w o;
-    with_ = heard-with b m h (rows terms now y m r) (rows-heard terms now y m r);
+    with_ = heard-with k b m f h (rows terms now y m r) (rows-heard terms now y m r);
     fetched = tt;
     says = said-says (r ++ rows terms now y m r) (a ++ rows terms now y m r) now m
         (Keeps-adds r a b (rows terms now y m r) (rows-right b terms now y m h n r a w o) w);
@@ -478,12 +515,13 @@ abbrev pub SaysContent : List Fact → Result Message Refusal → Type 0
 SaysContent b (Ok m) = Says b m
 SaysContent b (Err refusal) = Unit {0}
 
-pub receive-right : (n : ℕ) (terms : Terms) (place : ℕ) (r a b : List Fact) (now : ℕ) (y : Behaviour)
+pub receive-right : (n k : ℕ) (terms : Terms) (place : ℕ) (r a b : List Fact) (now : ℕ) (y : Behaviour)
     (content : Result Message Refusal) → AreTerms terms
-    → Keeps r a → Owns n a → SaysContent b content → IsRight terms place a b (receive terms r place now y content)
-receive-right n terms place r a b now y (Ok m) t w o h =
-    judged-right n terms place r a b now y m (verdict terms r place now y m) t w o h refl
-receive-right n terms place r a b now y (Err refusal) t w o h = record {
+    → Keeps r a → Owns n a → IsFew k b → SaysContent b content
+    → IsRight terms place a b (receive terms r place now y content)
+receive-right n k terms place r a b now y (Ok m) t w o f h =
+    judged-right n k terms place r a b now y m (verdict terms r place now y m) t w o f h refl
+receive-right n k terms place r a b now y (Err refusal) t w o f h = record {
   allowed = record {
     allows = tt;
     with_ = tt;

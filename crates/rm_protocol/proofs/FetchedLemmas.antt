@@ -34,11 +34,13 @@ pending-says a m more h = record {
   data_ = h.data_;
   acks = h.acks;
   create = h.create;
+  place = h.place;
+  name = h.name;
   response = h.response;
   final = h.final;
 }
 
-of-replies : (a : List Fact) → IsOfReplies (Says a)
+pub of-replies : (a : List Fact) → IsOfReplies (Says a)
 of-replies a = record {
   pending = pending-says a;
   blocks = λ m outs h k. with_blocks-says a m (blocks_back outs) h
@@ -69,7 +71,7 @@ poll-right terms place r a b to = record {
   allowed = record {
     allows = tt;
     with_ = tt;
-    says = (record { data_ = tt; acks = tt; create = tt; response = tt; final = tt }, tt);
+    says = (record { data_ = tt; acks = tt; create = tt; place = tt; name = tt; response = tt; final = tt }, tt);
     fetched = tt;
   };
   room = refl;

@@ -1,6 +1,6 @@
 -- Facts stay when records are added, and so does what is built of them.
 use Rattle.std.proofs.Common.{◌≡◌, ℕ, ◌+◌, ◌==◌, cond, true, false, List, [], ◌∷◌, ◌++◌, length, refl, sym, ap, ◌∙◌}
-use Rattle.std.proofs.Common.{arith, subst, map, append-nil, append_assoc, length-append}
+use Rattle.std.proofs.Common.{arith, subst, map, append-nil, append_assoc, length-append, inl, inr}
 use Rattle.std.specs.Prelude.{Option, Some, None}
 use Rattle.std.specs.List.{flat_map}
 use Rattle.std.proofs.lemmas.Bool.{eqb-true}
@@ -25,13 +25,16 @@ use Rattle.sequence_table.specs.Words.{Text, at_seq, first_or}
 use Rattle.sequence_table.specs.Idents.{issue}
 use Rattle.sequence_table.specs.Makers.{Maker, Outgoing, Offered, Incoming, Taken, makers, makers_of, maker, counter}
 use Rattle.sequence_table.specs.Makers.{nodes_of, number, addresses_of, address, created, created_of, created_from}
+use Rattle.sequence_table.specs.Makers.{draws_of}
 use Rattle.sequence_table.specs.Makers.{ident_in}
 use Rattle.sequence_table.specs.Sources.{accepted, accepted_of, mark_of, marks}
 use Rattle.sequence_table.specs.Destinations.{received, received_of, behaviour}
 use Rattle.sequence_table.specs.Find.{IsOutgoing, IsIncoming, incoming_of, acks_to}
 use Rattle.rm_protocol.specs.Sound.{IsAsked, IsAccepted, IsHeld, IsGranted, HasAsked, AreHeld, IsFinal, SaysData}
-use Rattle.rm_protocol.specs.Sound.{SaysBlock, SaysCreate, SaysResponse, SaysFinal, Says, IsAgreed, IsSourced}
-use Rattle.rm_protocol.specs.Sound.{AreKept, IsTold, IsWith, IfWith, Justified, Fresh, Allows}
+use Rattle.rm_protocol.specs.Sound.{SaysBlock, SaysCreate, SaysName, SaysPlace, SaysResponse, SaysFinal, Says}
+use Rattle.rm_protocol.specs.Sound.{IsAgreed, IsRequest}
+use Rattle.rm_protocol.specs.Sound.{IsSourced}
+use Rattle.rm_protocol.specs.Sound.{AreKept, IsIssuedBy, IsTold, IsWith, IfWith, Justified, Fresh, Allows}
 use Rattle.rm_protocol.specs.Rows.{ranges_of, last_of}
 use Rattle.rm_protocol.proofs.ListLemmas.{IfSome-weaker, All-weaker, numbered-append, has_number-append}
 use Rattle.rm_protocol.proofs.ListLemmas.{ident_in-append, at_seq-append, is_empty-append}
@@ -65,6 +68,7 @@ pub record Grows (old new : List Fact) : Type 0 where
   pub accepted : (s i : ℕ) (p : Text) → numbered (accepted old s) i ≡ Some p → numbered (accepted new s) i ≡ Some p
   pub held : (s i : ℕ) → has_number (numbers_of (received old s)) i ≡ true
       → has_number (numbers_of (received new s)) i ≡ true
+  pub draws : (k : ℕ) → has_number (flat_map draws_of old) k ≡ true → has_number (flat_map draws_of new) k ≡ true
 
 pub Grows-same : (r : List Fact) → Grows r r
 Grows-same r = record {
@@ -76,6 +80,7 @@ Grows-same r = record {
       λ s i p h. h;
   held = λ s i h. h;
   final = λ s h. (h, refl);
+  draws = λ k h. h;
 }
 
 pub Grows-then : (a b c : List Fact) → Grows a b → Grows b c → Grows a c
@@ -87,6 +92,7 @@ Grows-then a b c g h = record {
   accepted = λ s i p e. h.accepted s i p (g.accepted s i p e);
   held = λ s i e. h.held s i (g.held s i e);
   final = λ s e. let first = g.final s e in let next = h.final s first.0 in (next.0, next.1 ∙ first.1);
+  draws = λ k e. h.draws k (g.draws k e);
 }
 
 -- only Made names the node
@@ -137,6 +143,8 @@ Grows-add r rec f = record {
         flat_map-append (accepted_of s) r (rec ∷ []) ∙ ap (λ z. accepted r s ++ (z ++ [])) none
             ∙ append-nil (accepted r s),
       );
+  draws = λ k e. rw (flat_map-append draws_of r (rec ∷ []))
+      (has_number-append (flat_map draws_of r) (flat_map draws_of (rec ∷ [])) k e);
 }
 
 pub IsOutgoing-grows : (a b : List Fact) (s : ℕ) (q : Text) → Grows a b → IsOutgoing a s q → IsOutgoing b s q
@@ -230,6 +238,34 @@ IsTold-grows a b c d s n g k h = record {
   final = IsFinal-grows b d h.ident n k h.final;
 }
 
+SaysPlace-grows : (a b : List Fact) (to : Text) (content : Body) → Grows a b → SaysPlace a to content
+    → SaysPlace b to content
+SaysPlace-grows a b to (body.Lifecycle (life.Create c)) g h = record {
+  seq = h.seq;
+  ticket = h.ticket;
+  via = h.via;
+  lapse = h.lapse;
+  there = g.makers h.seq (Outgoing h.ticket to h.via h.lapse) h.there;
+}
+SaysPlace-grows a b to _ g h = h
+
+IsRequest-grows : (a b : List Fact) (t : Text) → Grows a b → IsRequest a t → IsRequest b t
+IsRequest-grows a b t g h = record {
+  ticket = h.ticket;
+  drawn = elim h.drawn [ inl none ↦ inl none | inr there ↦ inr (g.draws h.ticket there) ];
+  is = h.is ∙ ap (λ n. issue n h.ticket) (sym g.number);
+}
+
+SaysName-grows : (a b : List Fact) (content : Body) (t : Option Text) → Grows a b → SaysName a content t
+    → SaysName b content t
+SaysName-grows a b (body.Payload p) t g h =
+    IfSome-weaker (IsRequest a) (IsRequest b) (λ u k. IsRequest-grows a b u g k) t h
+SaysName-grows a b (body.Lifecycle (life.Close f)) t g h =
+    IfSome-weaker (IsRequest a) (IsRequest b) (λ u k. IsRequest-grows a b u g k) t h
+SaysName-grows a b (body.Lifecycle (life.Terminate f)) t g h =
+    IfSome-weaker (IsRequest a) (IsRequest b) (λ u k. IsRequest-grows a b u g k) t h
+SaysName-grows a b _ t g h = h
+
 pub SaysBlock-grows : (a b : List Fact) (block : AckBlock) → Grows a b → SaysBlock a block → SaysBlock b block
 SaysBlock-grows a b block g h = (AreHeld-grows a b block.ident (ranges_of block.kind) g h.0, h.1)
 
@@ -238,22 +274,24 @@ Says-grows a b m g h = record {
   data_ = SaysData-grows a b m.sequence m.body g h.data_;
   acks = All-weaker (SaysBlock a) (SaysBlock b) (λ k e. SaysBlock-grows a b k g e) m.acks h.acks;
   create = SaysCreate-grows a b m.addressing.message_id m.body g h.create;
+  place = SaysPlace-grows a b m.addressing.to m.body g h.place;
   response = SaysResponse-grows a b m.addressing.relates m.body g h.response;
   final = SaysFinal-grows a b m.body g h.final;
+  name = SaysName-grows a b m.body m.addressing.message_id g h.name;
 }
 
 pub IsWith-grows : (b d : List Fact) → Grows b d → (m : Maker) → IsWith b m → IsWith d m
 IsWith-grows b d g (Outgoing ticket to via lapse) h = h ∙ sym g.address
 IsWith-grows b d g (Offered ticket counter to behaviour) h = h ∙ sym g.address
 IsWith-grows b d g (Incoming counter t acks_to behaviour deadline lapse) h =
-    (h.0, h.1 ∙ ap (λ n. issue n h.0) (sym g.number))
-IsWith-grows b d g (Taken t q endpoint) h = (h.0, h.1 ∙ ap (λ n. issue n h.0) (sym g.number))
+    subst (λ n. IsIssuedBy n t) (sym g.number) h
+IsWith-grows b d g (Taken t q endpoint) h = subst (λ n. IsIssuedBy n t) (sym g.number) h
 
 pub IsWith-back : (b d : List Fact) → Grows b d → (m : Maker) → IsWith d m → IsWith b m
 IsWith-back b d g (Outgoing ticket to via lapse) h = h ∙ g.address
 IsWith-back b d g (Offered ticket counter to behaviour) h = h ∙ g.address
-IsWith-back b d g (Incoming counter t acks_to behaviour deadline lapse) h = (h.0, h.1 ∙ ap (λ n. issue n h.0) g.number)
-IsWith-back b d g (Taken t q endpoint) h = (h.0, h.1 ∙ ap (λ n. issue n h.0) g.number)
+IsWith-back b d g (Incoming counter t acks_to behaviour deadline lapse) h = subst (λ n. IsIssuedBy n t) g.number h
+IsWith-back b d g (Taken t q endpoint) h = subst (λ n. IsIssuedBy n t) g.number h
 
 IfWith-grows : (a b c d : List Fact) (s : ℕ) (P Q : Type 0) → Grows a c → Grows b d → (P → Q) → IfWith a b s P
     → IfWith c d s Q
@@ -294,8 +332,8 @@ pub Justified-grows : (a b c d : List Fact) → Grows a c → Grows b d → (rec
 Justified-grows a b c d g k (Created s q accept) h = IfWith-grows a b c d s _ _ g k (IsAgreed-grows a b c d s q g k) h
 Justified-grows a b c d g k (Closed s Peer n) h = IfWith-grows a b c d s _ _ g k (IsTold-grows a b c d s n g k) h
 Justified-grows a b c d g k (Ended s Peer n) h = IfWith-grows a b c d s _ _ g k (IsTold-grows a b c d s n g k) h
-Justified-grows a b c d g k (Granted n t acks_to y deadline lapse offer) h = λ i e.
-    let old = h i (e ∙ ap (λ n. issue n i) k.number) in (
+Justified-grows a b c d g k (Granted n t acks_to y deadline lapse offer) h = λ i.
+    let old = h (subst (λ n. IsIssuedBy n t) k.number i) in (
       HasAsked-grows b d t k old.0,
       IfSome-weaker (λ (o : PeerOffer). IsGranted b t o.ident)
           (λ (o : PeerOffer). IsGranted d t o.ident) (λ o e. IsGranted-grows b d t o.ident k e) offer old.1,

@@ -66,12 +66,12 @@ pub record IsSmall (n : ℕ) (r : List Fact) : Type 0 where
   pub node : n < 2 ^ 60
   pub counter : counter r < 2 ^ 62
 
-drawn-at : (r : List Fact) (s : ℕ) (q u : Text) (h : IsIncoming r s q u)
+pub drawn-at : (r : List Fact) (s : ℕ) (q u : Text) (h : IsIncoming r s q u)
     → numbered (map drawn (makers r)) s ≡ Some (Some h.counter)
 drawn-at r s q u h = numbered-map drawn (makers r) s h.maker_ h.there
     ∙ ap Some (drawn-made (number r) h.maker_ h.counter u h.made)
 
-drawn-small : (n : ℕ) (r : List Fact) (s : ℕ) (q u : Text) (h : IsIncoming r s q u) → Owns n r → IsSmall n r
+pub drawn-small : (n : ℕ) (r : List Fact) (s : ℕ) (q u : Text) (h : IsIncoming r s q u) → Owns n r → IsSmall n r
     → h.counter < 2 ^ 62
 drawn-small n r s q u h o small =
     let below : h.counter ≤ highest 0 (map drawn (makers r)) =
@@ -171,7 +171,7 @@ created-one a b (Granted c u acks y l j (Some taken) ∷ r) k s q w at h e =
           subst (λ z. numbered (makers a) z ≡ Some (Taken u taken.ident taken.endpoint)) place
           (at 2 (Taken u taken.ident taken.endpoint) refl) in
           let there = w.is (Taken u taken.ident taken.endpoint) maker in
-          (u, subst (IsGranted b u) same (h.0 there.0 there.1).1)
+          (u, subst (IsGranted b u) same (h.0 there).1)
       | false ↦ λ c0 d. created-one a b r (k + 2) s q w (λ i m x. let z : k + 2 + i ≡ k + (2 + i) = omega arith in
           rw z (at (2 + i) m (numbered-skip (Incoming c u acks y l j ∷ Taken u taken.ident taken.endpoint ∷ [])
           (makers r) i m x))) h.1 d
@@ -276,7 +276,7 @@ entire-prefix ns ms given h =
       | false ↦ λ e. (given, refl)
     ] refl
 
-inbox_of-prefix : (y : Behaviour) (ns : List ℕ) (came : List (ℕ × Payload)) (given : List Text) → is_loose y ≡ false
+pub inbox_of-prefix : (y : Behaviour) (ns : List ℕ) (came : List (ℕ × Payload)) (given : List Text) → is_loose y ≡ false
     → AllByRecursion (IsItemOf given) (sorted_onto [] came) → IsPrefixOf (texts (inbox_of y ns came)) given
 inbox_of-prefix FollowingFirstGap ns came given ordered h = without_gap-prefix 0 given (sorted_onto [] came) h
 inbox_of-prefix NoDiscard ns came given ordered h = absurd (cc)
@@ -343,7 +343,7 @@ nothing_in NoDiscard ns = refl
 nothing_in EntireSequence ns = elim (is_whole_by {A = Payload} ns []) as (λ b. cond {A = List Payload} b [] [] ≡ [])
     [ true ↦ refl | false ↦ refl ]
 
-items : (n m : ℕ) (a b : List Fact) (s t : ℕ) (q u : Text) → Agree n m a b → IsBetween b a t → IsOutgoing a s q
+pub items : (n m : ℕ) (a b : List Fact) (s t : ℕ) (q u : Text) → Agree n m a b → IsBetween b a t → IsOutgoing a s q
     → IsIncoming b t q u
     → AllByRecursion (IsItemOf (accepted a s)) (sorted_onto [] (received b t))
 items n m a b s t q u h w o k = All-sorted (IsItemOf (accepted a s)) [] (received b t) tt

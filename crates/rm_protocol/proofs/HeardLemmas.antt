@@ -1,9 +1,9 @@
 -- What the rows of the receiving table add for a message, record by record.
 use Rattle.std.proofs.Common.{◌≡◌, ℕ, suc, ◌+◌, ◌&&◌, not, nat_lt, cond, Bool, true, false, List, [], ◌∷◌, ◌++◌}
-use Rattle.std.proofs.Common.{refl, inl, inr}
-use Rattle.std.specs.Prelude.{Option, Some, None, slice_get}
+use Rattle.std.proofs.Common.{length, refl, inl, inr, ◌-◌}
+use Rattle.std.specs.Prelude.{Option, Some, None, IfSome, is_none, slice_get}
 use Rattle.std.specs.List.{AllByRecursion}
-use Rattle.rm_base.specs.Limits.{window}
+use Rattle.rm_base.specs.Limits.{most_sequences, window}
 use Rattle.rm_base.specs.NumberSet.{has_number}
 use Rattle.rm_base.specs.declared.message.Behaviour.{Behaviour}
 use Rattle.rm_base.specs.declared.message.Cause.TheVariants.{Peer, NotTaken}
@@ -13,15 +13,17 @@ use Rattle.rm_elements.specs.declared.header.SeqHeader.{SeqHeader}
 use Rattle.rm_elements.specs.declared.lifecycle.CreateResponse.{CreateResponse}
 use Rattle.rm_elements.specs.declared.lifecycle.CreateSequence.{CreateSequence}
 use Rattle.rm_elements.specs.declared.lifecycle.Lifecycle.TheVariants as life
+use Rattle.rm_elements.specs.declared.lifecycle.Offer.{Offer}
 use Rattle.rm_source.specs.declared.phase.OutPhase.{OutPhase}
 use Rattle.rm_source.specs.declared.phase.OutPhase.TheVariants as out
 use Rattle.rm_message.specs.declared.message.Body.{Body}
 use Rattle.rm_message.specs.declared.message.Body.TheVariants as body
 use Rattle.rm_message.specs.declared.message.Message.{Message}
 use Rattle.wsa_headers.specs.declared.endpoint.Epr.{Epr}
+use Rattle.record_batch.specs.declared.record.PeerOffer.{PeerOffer}
 use Rattle.record_batch.specs.Fact.{Fact, Acked, Received, ClosedOut, Closed, Ended}
 use Rattle.sequence_table.specs.Words.{Text}
-use Rattle.sequence_table.specs.Makers.{maker}
+use Rattle.sequence_table.specs.Makers.{maker, makers}
 use Rattle.sequence_table.specs.Sources.{acked, is_sending, phase}
 use Rattle.sequence_table.specs.Destinations.{held, front, has_end, is_ended, is_over}
 use Rattle.sequence_table.specs.Find.{find_incoming, find_outgoing, find_grant, find_creating, is_offered}
@@ -29,12 +31,13 @@ use Rattle.ack_ranges.specs.Changes.{covers_all, united}
 use Rattle.soap_profile.specs.Tree.{Element}
 use Rattle.soap_profile.specs.declared.name.Expanded.{Expanded}
 use Rattle.rm_protocol.specs.Detail.{named_in}
-use Rattle.rm_protocol.specs.Heard.{Heard}
+use Rattle.rm_protocol.specs.Addresses.{is_anonymous, is_nowhere}
+use Rattle.rm_protocol.specs.Heard.{Heard, IsOffered}
 use Rattle.rm_protocol.specs.Rows.{then_row, ranges_of, last_of, ack_at, ack_row, final_at, final_row, ack_rows}
 use Rattle.rm_protocol.specs.Rows.{data_row_at, data_row, create_at, create_row, drop_at, drop_unless, response_at}
 use Rattle.rm_protocol.specs.Rows.{response_row, close_at, terminate_at, closed_in, ended_in, closed_at, ended_at}
 use Rattle.rm_protocol.specs.Rows.{refused_at, refused_row, failed_in, failed_at, shut_at, is_fault, fault_row}
-use Rattle.rm_protocol.specs.Rows.{body_row, rows}
+use Rattle.rm_protocol.specs.Rows.{body_row, rows, taken_of}
 use Rattle.rm_protocol.specs.Terms.{Terms}
 use Rattle.rm_protocol.proofs.ListLemmas.{All-append}
 
@@ -102,8 +105,21 @@ create_row-heard : (m : Message) (terms : Terms) (now : ℕ) (y : Behaviour) (t 
 create_row-heard m terms now y None c r e f = tt
 create_row-heard m terms now y (Some t) c r e f = by_found (find_grant r t)
   where
+    taken : Offer → PeerOffer
+    taken o = record { ident = o.ident; endpoint = o.endpoint }
+
+    chosen : (o : Offer) (b : Bool) → IfSome (cond b (Some (taken o)) None) (IsOffered (Some o))
+    chosen o true = (o, refl, refl)
+    chosen o false = tt
+
+    by_offer : (o : Option Offer) → IfSome (taken_of r o) (IsOffered o)
+    by_offer None = tt
+    by_offer (Some o) = chosen o (is_none (find_outgoing r o.ident)
+        && (not (is_anonymous o.endpoint.address) &&
+        (not (is_nowhere o.endpoint.address) && nat_lt (length (makers r)) (most_sequences - 1))))
+
     by_found : (x : Option ℕ) → AreHeard m (create_at terms now y x t c r)
-    by_found None = ((e, (c, f)), tt)
+    by_found None = ((e, (c, f, by_offer c.offer)), tt)
     by_found (Some s) = tt
 
 drop_at-heard : (m : Message) (s : ℕ) (r : List Fact) → AreHeard m (drop_at s r)
@@ -115,12 +131,12 @@ drop_unless-heard m None s r = drop_at-heard m s r
 drop_unless-heard m (Some endpoint) s r = tt
 
 response_row-heard : (m : Message) (t : Option Text) (c : CreateResponse) (r : List Fact)
-    → AreHeard m (response_row t c r)
-response_row-heard m None c r = tt
-response_row-heard m (Some t) c r = by_found (find_creating r t) (find_outgoing r c.ident)
+    → m.addressing.relates ≡ t → m.body ≡ body.Lifecycle (life.CreateResponse c) → AreHeard m (response_row t c r)
+response_row-heard m None c r e f = tt
+response_row-heard m (Some t) c r e f = by_found (find_creating r t) (find_outgoing r c.ident)
   where
     by_found : (x y : Option ℕ) → AreHeard m (response_at x y c r)
-    by_found (Some s) None = (tt, drop_unless-heard m c.accept s r)
+    by_found (Some s) None = (((t, e), (c, f, refl)), drop_unless-heard m c.accept s r)
     by_found (Some s) (Some z) = tt
     by_found None y = tt
 
@@ -194,7 +210,7 @@ body_row-heard terms now y m (body.Payload p) r e = data_row-heard m now m.seque
 body_row-heard terms now y m (body.Lifecycle (life.Create x)) r e =
     create_row-heard m terms now y m.addressing.message_id x r refl e
 body_row-heard terms now y m (body.Lifecycle (life.CreateResponse x)) r e =
-    response_row-heard m m.addressing.relates x r
+    response_row-heard m m.addressing.relates x r refl e
 body_row-heard terms now y m (body.Lifecycle (life.Close x)) r e =
     close_at-heard m now (find_incoming r x.ident) (last_of x.last_number) r
 body_row-heard terms now y m (body.Lifecycle (life.Terminate x)) r e =

@@ -1,10 +1,9 @@
 -- At each pair of images of both disks a sound world keeps the headline.
-use Rattle.std.proofs.Common.{◌≡◌, ◌⊎◌, ℕ, zero, suc, ◌+◌, ◌-◌, ◌<◌, ◌≤◌, ◌^◌, List, [], ◌∷◌, ◌++◌, map, refl, sym}
+use Rattle.std.proofs.Common.{◌≡◌, ◌⊎◌, ℕ, zero, suc, ◌-◌, ◌<◌, ◌^◌, List, [], ◌∷◌, ◌++◌, map, refl, sym}
 use Rattle.std.proofs.Common.{ap, ◌∙◌, arith, subst, append-nil, inl, inr}
 use Rattle.std.specs.Prelude.{drop, take, Some, true, false}
 use Rattle.std.specs.List.{AllByRecursion}
 use Rattle.std.proofs.lemmas.List.{take-append-drop}
-use Rattle.rm_base.specs.Limits.{journal_bytes}
 use Rattle.rm_base.specs.NumberSet.{has_number}
 use Rattle.rm_base.specs.declared.message.Payload.{Payload}
 use Rattle.record_batch.specs.Fact.{Fact}
@@ -34,7 +33,8 @@ use Rattle.rm_protocol.proofs.Kept.{back-ident, back-Incoming, kept-ident, kept-
 use Rattle.rm_protocol.proofs.FreshLemmas.{SnapshotLaws, snapshot-stands}
 use Rattle.rm_protocol.proofs.HeadlineLemmas.{IsNumbered, between-all, paired-word, received-numbered}
 use Rattle.rm_protocol.proofs.NumberLemmas.{whole-few}
-use Rattle.rm_protocol.proofs.RunLemmas.{AreWith-append, AreWith-grows, AllowsState-grows, bounded-with, stands-adds}
+use Rattle.rm_protocol.proofs.RunLemmas.{AreWith-append, AreWith-grows, AllowsState-grows, bounded-with}
+use Rattle.rm_protocol.proofs.RunLemmas.{small-counter, stands-adds}
 
 -- an image stands for all that the node then ever had, and that is what it has and what may be added to it
 record Left (a b image all : List Fact) : Type 0 where
@@ -44,9 +44,6 @@ record Left (a b image all : List Fact) : Type 0 where
   stands : StandFor image all
   with_ : AreWith b delta
   small : counter all < 2 ^ 62
-
-small-counter : (c place : ℕ) → c ≤ place → place ≤ journal_bytes → c < 2 ^ 62
-small-counter c place h k = omega arith
 
 left_kept : (terms : Terms) (x : Node) (b image all : List Fact) → StandFor image x.whole → IsBounded terms x
     → all ≡ x.whole → Left x.whole b image all

@@ -16,6 +16,12 @@ mod FetchedLemmas
 mod ReplyLemmas
 mod NewLemmas
 mod ConsumedLemmas
+mod StrangerLemmas
+mod GainLemmas
+mod AnnounceLemmas
+mod PairLemmas
+mod TellLemmas
+mod SettledLemmas
 mod RunLemmas
 mod ImageLemmas
 mod SentLemmas

@@ -39,12 +39,12 @@ use Rattle.rm_destination.specs.Incoming.{is_past}
 use Rattle.sequence_table.specs.Destinations.{deadline_of}
 
 -- what acknowledgements bring says nothing of incoming sequences
-abbrev IsAck : Fact → Type 0
+abbrev pub IsAck : Fact → Type 0
 IsAck (Acked s ns) = Unit {0}
 IsAck (ClosedOut s) = Unit {0}
 IsAck _ = ⊥
 
-abbrev AreAcks : List Fact → Type 0
+abbrev pub AreAcks : List Fact → Type 0
 AreAcks d = AllByRecursion IsAck d
 
 if_ack : (b : Bool) (rec : Fact) → IsAck rec → AreAcks (cond b (rec ∷ []) [])
@@ -55,7 +55,7 @@ unless_ack : (b : Bool) (rec : Fact) → IsAck rec → AreAcks (cond b [] (rec �
 unless_ack true rec h = tt
 unless_ack false rec h = (h, tt)
 
-one_row-acks : (k : AckBlock) (r : List Fact) → AreAcks (then_row (ack_row k) (final_row k) r)
+pub one_row-acks : (k : AckBlock) (r : List Fact) → AreAcks (then_row (ack_row k) (final_row k) r)
 one_row-acks k r =
     All-append IsAck (ack_row k r) (final_row k (r ++ ack_row k r)) (by_found (find_outgoing r k.ident))
     (by_final (r ++ ack_row k r) (find_outgoing (r ++ ack_row k r) k.ident) k.last)
@@ -69,7 +69,7 @@ one_row-acks k r =
     by_final z (Some s) true = if_ack (is_sending (phase z s)) (ClosedOut s) tt
     by_final z _ _ = tt
 
-ack_rows-acks : (ks : List AckBlock) (r : List Fact) → AreAcks (ack_rows ks r)
+pub ack_rows-acks : (ks : List AckBlock) (r : List Fact) → AreAcks (ack_rows ks r)
 ack_rows-acks [] r = tt
 ack_rows-acks (k ∷ ks) r =
     let one = then_row (ack_row k) (final_row k) r in
@@ -80,17 +80,17 @@ calm_all : {A : Type 0} (g : Fact → List A) → ((rec : Fact) → IsAck rec �
 calm_all g calm [] h = refl
 calm_all g calm (rec ∷ d) h = ap (λ z. z ++ flat_map g d) (calm rec h.0) ∙ calm_all g calm d h.1
 
-calm_after : {A : Type 0} (g : Fact → List A) → ((rec : Fact) → IsAck rec → g rec ≡ []) → (r d : List Fact) → AreAcks d
-    → flat_map g (r ++ d) ≡ flat_map g r
+pub calm_after : {A : Type 0} (g : Fact → List A) → ((rec : Fact) → IsAck rec → g rec ≡ []) → (r d : List Fact)
+    → AreAcks d → flat_map g (r ++ d) ≡ flat_map g r
 calm_after g calm r d h = flat_map-append g r d ∙ ap (λ z. flat_map g r ++ z) (calm_all g calm d h)
     ∙ append-nil (flat_map g r)
 
-calm_makers : (rec : Fact) → IsAck rec → makers_of rec ≡ []
+pub calm_makers : (rec : Fact) → IsAck rec → makers_of rec ≡ []
 calm_makers (Acked s ns) h = refl
 calm_makers (ClosedOut s) h = refl
 calm_makers _ h = absurd h
 
-calm_nodes : (rec : Fact) → IsAck rec → nodes_of rec ≡ []
+pub calm_nodes : (rec : Fact) → IsAck rec → nodes_of rec ≡ []
 calm_nodes (Acked s ns) h = refl
 calm_nodes (ClosedOut s) h = refl
 calm_nodes _ h = absurd h

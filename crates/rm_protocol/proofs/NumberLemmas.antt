@@ -58,7 +58,7 @@ first-true : (a b : Bool) → a ≡ true → (a || b) ≡ true
 first-true true b e = refl
 first-true false b e = absurd (cc)
 
-in-lower : (l u : ℕ) → l ≤ u → in_range (record { lower = l; upper = u }) l ≡ true
+pub in-lower : (l u : ℕ) → l ≤ u → in_range (record { lower = l; upper = u }) l ≡ true
 in-lower l u le = grind (arith, nat_tests)
 
 in-upper : (l u : ℕ) → l ≤ u → in_range (record { lower = l; upper = u }) u ≡ true

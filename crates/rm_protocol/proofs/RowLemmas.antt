@@ -191,7 +191,7 @@ create_at-right r a b terms now y None t c w h =
         IfSome-weaker (IsNewOffer r b t) (λ (q : PeerOffer). seq_in (created a) q.ident ≡ None)
             (λ q e. kept-found r a q.ident None w e.1) (taken_of r c.offer) taken,
       ),
-      (λ k e. (
+      (λ k. (
         h.0,
         IfSome-weaker (IsNewOffer r b t) (λ (q : PeerOffer). IsGranted b t q.ident) (λ q e. e.0)
             (taken_of r c.offer) taken,
@@ -296,7 +296,7 @@ terminate_at-right r a b now None q n w e h = tt
 terminate_at-right r a b now (Some s) q n w e h =
     one-allowed a b (is_ended r s now) (Ended s Peer n) tt (told-at r a b s n q w e h)
 
-closed_at-right : (r a b : List Fact) (x : Option ℕ) → Allows a b (closed_at x r)
+pub closed_at-right : (r a b : List Fact) (x : Option ℕ) → Allows a b (closed_at x r)
 closed_at-right r a b None = tt
 closed_at-right r a b (Some s) = by_phase (phase r s)
   where
@@ -304,7 +304,7 @@ closed_at-right r a b (Some s) = by_phase (phase r s)
     by_phase out.Closing = (tt, tt, tt)
     by_phase _ = tt
 
-ended_at-right : (r a b : List Fact) (x : Option ℕ) → Allows a b (ended_at x r)
+pub ended_at-right : (r a b : List Fact) (x : Option ℕ) → Allows a b (ended_at x r)
 ended_at-right r a b None = tt
 ended_at-right r a b (Some s) = by_phase (phase r s)
   where
@@ -335,7 +335,7 @@ shut_at-right : (r a b : List Fact) (x : Option ℕ) → Allows a b (shut_at x r
 shut_at-right r a b None = tt
 shut_at-right r a b (Some s) = if-allowed a b (is_sending (phase r s)) (ClosedOut s) tt tt
 
-fault_row-right : (r a b : List Fact) (t : Option Text) (subcode : Option Expanded) (detail : List Element)
+pub fault_row-right : (r a b : List Fact) (t : Option Text) (subcode : Option Expanded) (detail : List Element)
     → Allows a b (fault_row t subcode detail r)
 fault_row-right r a b t subcode detail =
     chosen (is_fault _ subcode) (is_fault _ subcode) (is_fault _ subcode) (is_fault _ subcode) (is_fault _ subcode)

@@ -1,5 +1,6 @@
 -- Each line of a script keeps the world sound.
-use Rattle.std.proofs.Common.{◌≡◌, ℕ, ◌+◌, ◌≤◌, cond, Bool, true, false, List, [], ◌∷◌, ◌++◌, length, refl, sym, ap}
+use Rattle.std.proofs.Common.{◌≡◌, ℕ, ◌+◌, ◌^◌, ◌<◌, ◌≤◌, cond, Bool, true, false, List, [], ◌∷◌, ◌++◌, length}
+use Rattle.std.proofs.Common.{refl, sym, ap}
 use Rattle.std.proofs.Common.{max, ◌∙◌, ◌⊎◌, inl, inr, arith, subst, append-nil, length-append}
 use Rattle.std.specs.Prelude.{Option, Some, None, IfSome}
 use Rattle.std.specs.List.{AllByRecursion, flat_map}
@@ -50,7 +51,7 @@ use Rattle.rm_protocol.proofs.Kept.{Keeps-adds, Keeps-made}
 use Rattle.rm_protocol.proofs.FreshLemmas.{SnapshotLaws, allows-proper, fresh-below, fresh-HasPlace, fresh-stands}
 use Rattle.rm_protocol.specs.Consumed.{GoesOn, StaysConsumed}
 use Rattle.rm_protocol.proofs.ConsumedLemmas.{goes-on-adds, goes-on-self, goes-on-then}
-use Rattle.rm_protocol.proofs.CallLemmas.{IsRight, SaysContent, create-right, send-right, close-right, end-right}
+use Rattle.rm_protocol.proofs.CallLemmas.{IsFew, IsRight, SaysContent, create-right, send-right, close-right, end-right}
 use Rattle.rm_protocol.proofs.CallLemmas.{tick-right, receive-right, ask_ack-right, nack_missing-right, consume-right}
 use Rattle.rm_protocol.proofs.FitCalls.{adds-next}
 use Rattle.rm_protocol.proofs.FitLemmas.{all_fit-append}
@@ -262,7 +263,8 @@ counter-append : (r d : List Fact) → counter (r ++ d) ≡ counter r + counter 
 counter-append r d = ap length (flat_map-append draws_of r d)
     ∙ length-append (flat_map draws_of r) (flat_map draws_of d)
 
-room-bound : (terms : Terms) (place : ℕ) (rec : Fact) (delta : List Fact) → has_room terms place (rec ∷ delta) ≡ true
+pub room-bound : (terms : Terms) (place : ℕ) (rec : Fact) (delta : List Fact)
+    → has_room terms place (rec ∷ delta) ≡ true
     → place + 6 + terms.size (rec ∷ delta) ≤ journal_bytes
 room-bound terms place rec delta e = grind (arith, nat_tests)
 
@@ -287,13 +289,13 @@ stands-adds r a b delta h k fit = record {
   fit = all_fit-append [] r delta h.fit fit;
 }
 
-stands-with : (x : Node) (b delta : List Fact) → StandFor (records x) x.whole → Allows x.whole b delta
+pub stands-with : (x : Node) (b delta : List Fact) → StandFor (records x) x.whole → Allows x.whole b delta
     → all_fit (records x) delta ≡ true → StandFor (records_in (x.entries ++ delta ∷ [])) (x.whole ++ delta)
 stands-with x b delta h k fit = subst (λ z. StandFor z (x.whole ++ delta)) (sym (records-with x.entries delta))
     (stands-adds (records x) x.whole b delta h k fit)
 
 -- what leaves the node: what was fetched, and a part of what is said
-leaving : (a : List Fact) (connected : Bool) (fetched outs : List Message) → AllByRecursion (Says a) fetched
+pub leaving : (a : List Fact) (connected : Bool) (fetched outs : List Message) → AllByRecursion (Says a) fetched
     → AllByRecursion (Says a) outs → AllByRecursion (Says a) (fetched ++ sent_of connected outs)
 leaving a connected fetched outs h k = All-append (Says a) fetched (sent_of connected outs) h
     (All-filter (Says a) (λ (m : Message). leaves connected (place_of m.addressing.to)) outs k)
@@ -500,6 +502,18 @@ next-at : (terms : Terms) (w : World) (side : Side) → AreTerms terms → IsSou
 next-at terms w side t h = adds-next terms (records (node w side)) (node_end terms (node w side)) t.deadline
     (sound_at terms w side h).stands.fit
 
+-- each number that a node drew takes room on its disk, so they are few
+pub small-counter : (c place : ℕ) → c ≤ place → place ≤ journal_bytes → c < 2 ^ 62
+small-counter c place h k = omega arith
+
+-- the numbers that a node in a sound world drew are few
+few-at : (terms : Terms) (w : World) (side : Side) → IsSound terms w → IsFew (number_of side) (node w side).whole
+few-at terms w side h =
+    let i = (sound_at terms w side h).bounded in record {
+      owns = (agree_at terms w side h).owns;
+      few = small-counter (counter (node w side).whole) (node_end terms (node w side)) i.below i.store;
+    }
+
 -- what a node in a sound world received has message numbers
 pub received-at : (terms : Terms) (w : World) (side : Side) (t : ℕ) → IsSound terms w
     → AllByRecursion (λ (m : ℕ × Payload). IsNumbered m.0) (received (node w side).whole t)
@@ -527,9 +541,9 @@ received-steps terms w side content t h s =
     calls-steps terms w side true (received_by terms x content) t h
     (polls-right terms (node_end terms x) x.whole (node w (other side)).whole x.polled content
     (receive terms (records x) (node_end terms x) x.clock x.granted content) sound.said
-    (receive-right (number_of side) terms (node_end terms x) (records x) x.whole (node w (other side)).whole
-    x.clock x.granted content t
-    sound.stands.kept (agree_at terms w side h).owns s))
+    (receive-right (number_of side) (number_of (other side)) terms (node_end terms x) (records x) x.whole
+    (node w (other side)).whole x.clock x.granted content t
+    sound.stands.kept (agree_at terms w side h).owns (few-at terms w (other side) h) s))
     ((next-at terms w side t h).receive_ x.clock x.granted content
     (content-numbers terms w (other side) content h s))
 
@@ -688,7 +702,7 @@ pub run-IsSound : SnapshotLaws → (terms : Terms) (events : List Event) (w : Wo
     → IsSound terms w → IsSound terms (run terms events w)
 run-IsSound laws terms events w t h = (run-steps laws terms events w t h).sound
 
-owns-made : (n : ℕ) (a : Text) → Owns n (Made n a ∷ [])
+pub owns-made : (n : ℕ) (a : Text) → Owns n (Made n a ∷ [])
 owns-made n a = record {
   number = refl;
   rising = tt;

@@ -1,9 +1,10 @@
 -- What a node says is so by its records.
 use Rattle.std.proofs.Common.{◌≡◌, ℕ, ◌+◌, ◌==◌, cond, Bool, true, false, List, [], ◌∷◌, ◌++◌, refl, sym, ap}
-use Rattle.std.proofs.Common.{◌∙◌, subst}
-use Rattle.std.specs.Prelude.{Option, Some, None, IfSome}
-use Rattle.std.specs.List.{AllByRecursion}
+use Rattle.std.proofs.Common.{◌∙◌, subst, arith, inl, inr}
+use Rattle.std.specs.Prelude.{◌⊎◌, Option, Some, None, IfSome}
+use Rattle.std.specs.List.{AllByRecursion, flat_map}
 use Rattle.std.proofs.lemmas.Bool.{eqb-true}
+use Rattle.std.proofs.lemmas.Bool.Decides.{nat_tests}
 use Rattle.ack_ranges.specs.declared.range.Range.{Range}
 use Rattle.ack_ranges.specs.Ranges.{in_ranges}
 use Rattle.rm_base.specs.NumberSet.{has_number}
@@ -18,17 +19,17 @@ use Rattle.rm_message.specs.declared.message.Body.TheVariants as body
 use Rattle.rm_message.specs.declared.message.Message.{Message}
 use Rattle.wsa_headers.specs.declared.endpoint.Epr.{Epr}
 use Rattle.record_batch.specs.declared.record.Via.{Via}
-use Rattle.record_batch.specs.Fact.{Fact}
+use Rattle.record_batch.specs.Fact.{Fact, Closing, Ending}
 use Rattle.record_snapshot.specs.Same.{AreProper}
 use Rattle.rm_destination.specs.Messages.{is_empty, ranges_onto}
 use Rattle.sequence_table.specs.Words.{Text, at_seq, last_or}
 use Rattle.sequence_table.specs.Idents.{issue}
-use Rattle.sequence_table.specs.Makers.{Maker, Outgoing, Offered, Incoming, Taken, makers, maker, number}
-use Rattle.sequence_table.specs.Sources.{accepted_count, marks, out_ident, payload_at, phase}
+use Rattle.sequence_table.specs.Makers.{Maker, Outgoing, Offered, Incoming, Taken, draws_of, makers, maker, number}
+use Rattle.sequence_table.specs.Sources.{accepted_count, marks, out_ident, payload_at, phase, ticket_of, tickets}
 use Rattle.sequence_table.specs.Destinations.{held}
 use Rattle.sequence_table.specs.Find.{IsIncoming, incoming_of, find_incoming, find_grant, is_granted, peer, acks_to}
 use Rattle.rm_protocol.specs.Sound.{IsGranted, IsFinal, SaysData, SaysBlock, SaysCreate, SaysResponse, SaysFinal}
-use Rattle.rm_protocol.specs.Sound.{AreHeld, Says, Keeps}
+use Rattle.rm_protocol.specs.Sound.{AreHeld, IsRequest, Says, SaysName, SaysPlace, Keeps}
 use Rattle.std.specs.Option.{option_to_list}
 use Rattle.std.proofs.lemmas.Slice.Eq.{bytes_eq-Decides}
 use Rattle.wsa_headers.specs.declared.addressing.Addressing.{Addressing}
@@ -48,8 +49,9 @@ use Rattle.rm_protocol.specs.Said.{ack_to, ack_of, data_ident, found_in, data_ac
 use Rattle.rm_protocol.specs.Said.{acks_said, back_blocks, back_message, own_messages, with_blocks, answered, said}
 use Rattle.rm_protocol.specs.Rows.{ranges_of}
 use Rattle.rm_protocol.specs.Terms.{Terms, AreTerms, IsFault, header_blocks}
-use Rattle.rm_protocol.proofs.ListLemmas.{All-append, find-is}
-use Rattle.rm_protocol.proofs.Kept.{kept-Asked, kept-count, kept-held, kept-ident, kept-Incoming, kept-payload}
+use Rattle.rm_protocol.proofs.ListLemmas.{All-append, All-weaker, at_seq-append, find-is}
+use Rattle.rm_protocol.proofs.Kept.{kept-Asked, kept-count, kept-held, kept-ident, kept-Incoming, kept-maker}
+use Rattle.rm_protocol.proofs.Kept.{kept-number, kept-payload}
 use Rattle.rm_protocol.proofs.RangeLemmas.{ranges-has, ranges-proper, ranges_of-kind_of}
 use Rattle.rm_protocol.proofs.RowLemmas.{find_incoming-is}
 
@@ -119,7 +121,8 @@ acks_said-says r a now m w =
 
 ack_message-says : (a : List Fact) (to : Epr) (blocks : List AckBlock) → AllByRecursion (SaysBlock a) blocks
     → Says a (ack_message to blocks)
-ack_message-says a to blocks h = record { data_ = tt; acks = h; create = tt; response = tt; final = tt }
+ack_message-says a to blocks h =
+    record { data_ = tt; acks = h; create = tt; place = tt; name = tt; response = tt; final = tt }
 
 back_blocks-says : (a : List Fact) (acks : List Ack) → SayAcks a acks → AllByRecursion (SaysBlock a) (back_blocks acks)
 back_blocks-says a [] h = tt
@@ -154,6 +157,8 @@ with_blocks-says a m blocks h k = record {
   data_ = h.data_;
   acks = All-append (SaysBlock a) m.acks blocks h.acks k;
   create = h.create;
+  place = h.place;
+  name = h.name;
   response = h.response;
   final = h.final;
 }
@@ -185,6 +190,8 @@ grant_response-says r a to t s (Incoming c u acks_to y deadline lapse) w e h =
         data_ = tt;
         acks = tt;
         create = tt;
+        place = tt;
+        name = tt;
         response = record {
           seq = s;
           incoming = kept-Incoming r a s (issue (number r) c) t w (record {
@@ -230,6 +237,8 @@ close_response-says r a now d q name (Some s) w e = (
     data_ = tt;
     acks = (found-says r a s now q w e, tt);
     create = tt;
+    place = tt;
+    name = tt;
     response =
         no_response a d.message_id q;
     final = tt;
@@ -246,6 +255,8 @@ terminate_response-says r a now d q name (Some s) w e = (
     data_ = tt;
     acks = (found-says r a s now q w e, tt);
     create = tt;
+    place = tt;
+    name = tt;
     response =
         no_response_2 a d.message_id q;
     final = tt;
@@ -282,6 +293,8 @@ data_at-says r a s i w = by_parts (peer r s) (out_ident r s) (payload_at r s i) 
         };
         acks = tt;
         create = tt;
+        place = tt;
+        name = tt;
         response = tt;
         final = tt;
       },
@@ -330,6 +343,14 @@ create_request-says r a s (Some (Outgoing ticket to via lapse)) w e = (
       },
       offered r a via ticket (s + 1) (maker r (s + 1)) w refl,
     );
+    place = record {
+      seq = s;
+      ticket = ticket;
+      via = via;
+      lapse = lapse;
+      there = kept-maker r a s (Some (Outgoing ticket to via lapse)) w e;
+    };
+    name = tt;
     response = tt;
     final = tt;
   },
@@ -367,19 +388,86 @@ final-at r a s q p w e h i = record {
   count = sym (kept-count r a s w) ∙ sym (number_back (accepted_count r s));
 }
 
+-- the tickets of requests are numbers that were drawn
+drawn-here : (k : ℕ) (xs : List ℕ) → has_number (k ∷ xs) k ≡ true
+drawn-here k xs = grind (arith, nat_tests)
+
+drawn-behind : (xs ys : List ℕ) (k : ℕ) → has_number ys k ≡ true → has_number (xs ++ ys) k ≡ true
+drawn-behind [] ys k h = h
+drawn-behind (x ∷ xs) ys k h =
+    let rest : has_number (xs ++ ys) k ≡ true = drawn-behind xs ys k h in grind (arith, nat_tests)
+
+abbrev IsDrawnIn : List Fact → ℕ → Type 0
+IsDrawnIn r k = has_number (flat_map draws_of r) k ≡ true
+
+tickets-of-one : (s : ℕ) (rec : Fact) (r : List Fact) → AllByRecursion (IsDrawnIn (rec ∷ r)) (at_seq s (ticket_of rec))
+tickets-of-one s (Closing t k) r = if_at (t == s)
+  where
+    if_at : (b : Bool) → AllByRecursion (IsDrawnIn (Closing t k ∷ r)) (cond b (k ∷ []) [])
+    if_at true = (drawn-here k (flat_map draws_of r), tt)
+    if_at false = tt
+tickets-of-one s (Ending t k) r = if_at (t == s)
+  where
+    if_at : (b : Bool) → AllByRecursion (IsDrawnIn (Ending t k ∷ r)) (cond b (k ∷ []) [])
+    if_at true = (drawn-here k (flat_map draws_of r), tt)
+    if_at false = tt
+tickets-of-one s _ r = tt
+
+tickets-drawn : (s : ℕ) (r : List Fact) → AllByRecursion (IsDrawnIn r) (tickets r s)
+tickets-drawn s [] = tt
+tickets-drawn s (rec ∷ r) =
+    subst (AllByRecursion (IsDrawnIn (rec ∷ r))) (sym (at_seq-append s (ticket_of rec) (flat_map ticket_of r)))
+    (All-append (IsDrawnIn (rec ∷ r)) (at_seq s (ticket_of rec)) (tickets r s) (tickets-of-one s rec r)
+    (All-weaker (IsDrawnIn r) (IsDrawnIn (rec ∷ r))
+    (λ k h. drawn-behind (draws_of rec) (flat_map draws_of r) k h) (tickets r s) (tickets-drawn s r)))
+
+last-among : (P : ℕ → Type 0) (d : ℕ) (xs : List ℕ) → P d → AllByRecursion P xs → P (last_or d xs)
+last-among P d [] h all = h
+last-among P d (x ∷ xs) h all = last-among P x xs all.0 all.1
+
+-- the MessageID of a request is one that the node issued
+request-drawn : (r a : List Fact) (s : ℕ) → Keeps r a → IsRequest a (issue (number r) (last_or 0 (tickets r s)))
+request-drawn r a s w = record {
+  ticket = last_or 0 (tickets r s);
+  drawn = last-among (λ k. (k ≡ 0) ⊎ IsDrawnIn a k) 0 (tickets r s) (inl refl)
+      (All-weaker (IsDrawnIn r) (λ k. (k ≡ 0) ⊎ IsDrawnIn a k)
+      (λ k h. inr (subst (λ ds. has_number ds k ≡ true) w.same.frame.draws h)) (tickets r s) (tickets-drawn s r));
+  is = ap (λ n. issue n (last_or 0 (tickets r s))) (kept-number r a w);
+}
+
 close_request-says : (r a : List Fact) (s : ℕ) (x : Option Epr) (y : Option Text) (name : Text) → Keeps r a
     → phase r s ≡ out.Closing
     → out_ident r s ≡ y → AllByRecursion (Says a) (option_to_list (finish_request r s x y name life.Close))
-close_request-says r a s (Some to) (Some q) name w e i =
-    (record { data_ = tt; acks = tt; create = tt; response = tt; final = final-at r a s q out.Closing w e tt i }, tt)
+close_request-says r a s (Some to) (Some q) name w e i = (
+  record {
+    data_ = tt;
+    acks = tt;
+    create = tt;
+    place = tt;
+    name = request-drawn r a s w;
+    response = tt;
+    final = final-at r a s q out.Closing w e tt i;
+  },
+  tt,
+)
 close_request-says r a s (Some to) None name w e i = tt
 close_request-says r a s None y name w e i = tt
 
 terminate_request-says : (r a : List Fact) (s : ℕ) (x : Option Epr) (y : Option Text) (name : Text) → Keeps r a
     → phase r s ≡ out.Ending
     → out_ident r s ≡ y → AllByRecursion (Says a) (option_to_list (finish_request r s x y name life.Terminate))
-terminate_request-says r a s (Some to) (Some q) name w e i =
-    (record { data_ = tt; acks = tt; create = tt; response = tt; final = final-at r a s q out.Ending w e tt i }, tt)
+terminate_request-says r a s (Some to) (Some q) name w e i = (
+  record {
+    data_ = tt;
+    acks = tt;
+    create = tt;
+    place = tt;
+    name = request-drawn r a s w;
+    response = tt;
+    final = final-at r a s q out.Ending w e tt i;
+  },
+  tt,
+)
 terminate_request-says r a s (Some to) None name w e i = tt
 terminate_request-says r a s None y name w e i = tt
 
@@ -427,6 +515,8 @@ fault-says a blocks m h k = record {
   create = subst (SaysCreate a m.addressing.message_id) (sym h.body) (no_create a m.addressing.message_id h.content);
   response = subst (SaysResponse a m.addressing.relates) (sym h.body) (no_accept a m.addressing.relates h.content);
   final = subst (SaysFinal a) (sym h.body) tt;
+  place = subst (SaysPlace a m.addressing.to) (sym h.body) tt;
+  name = subst (λ content. SaysName a content m.addressing.message_id) (sym h.body) tt;
 }
 
 no_blocks : (a : List Fact) (kind : FaultKind) → AllByRecursion (SaysBlock a) (header_blocks kind None)

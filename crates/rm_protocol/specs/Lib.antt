@@ -1,5 +1,6 @@
 pub mod Addresses
 pub mod AloneLemmas
+pub mod Announced
 pub mod Calls
 pub mod Compact
 pub mod Consumed
@@ -13,6 +14,7 @@ pub mod Heard
 pub mod Messages
 pub mod Next
 pub mod Node
+pub mod Pair
 pub mod PollLemmas
 pub mod Polls
 pub mod Recorded
@@ -20,6 +22,7 @@ pub mod Replied
 pub mod Rows
 pub mod Said
 pub mod Sent
+pub mod Settled
 pub mod Sound
 pub mod Terms
 pub mod Unarmed

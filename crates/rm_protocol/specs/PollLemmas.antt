@@ -67,7 +67,7 @@ put-all P w u m h s = chosen (may_wait w.queues u)
     chosen true = with-queued P w.queues u m h s
     chosen false = h
 
-puts-all : (P : Message → Type 0) (w : Waiting Message) (ms : List Message) → AllWaiting P w → AllByRecursion P ms
+pub puts-all : (P : Message → Type 0) (w : Waiting Message) (ms : List Message) → AllWaiting P w → AllByRecursion P ms
     → AllWaiting P (puts_all w ms)
 puts-all P w [] h k = h
 puts-all P w (m ∷ ms) h k = puts-all P (put w m.addressing.to m) ms (put-all P w m.addressing.to m h k.0) k.1
@@ -91,7 +91,7 @@ without-queued P (q ∷ qs) u h = chosen (bytes_eq q.address u) (without-queued 
     chosen true k = rest-queued P q.address (drop 1 q.packets) qs (behind-all P q.packets h.0) h.1
     chosen false k = (h.0, k)
 
-without-all : (P : Message → Type 0) (w : Waiting Message) (t : Option Fetched) → AllWaiting P w
+pub without-all : (P : Message → Type 0) (w : Waiting Message) (t : Option Fetched) → AllWaiting P w
     → AllWaiting P (without_fetched w t)
 without-all P w None h = h
 without-all P w (Some t) h = without-queued P w.queues t.address h
@@ -103,7 +103,7 @@ polled_after-all P w answer h k =
     puts-all P (without_fetched w answer.fetched) (waiting_of answer.outs) (without-all P w answer.fetched h)
     (kept P (λ (m : Message). waits_there (place_of m.addressing.to)) answer.outs k)
 
-for-all : (P : Message → Type 0) (qs : List (Queue Message)) (u : Text) → AllQueued P qs
+pub for-all : (P : Message → Type 0) (qs : List (Queue Message)) (u : Text) → AllQueued P qs
     → AllByRecursion P (packets_for qs u)
 for-all P [] u h = tt
 for-all P (q ∷ qs) u h = chosen (bytes_eq q.address u) (for-all P qs u h.1)
@@ -121,7 +121,7 @@ first-all : (P : Message → Type 0) → IsOfReplies P → (u : Text) (ps : List
 first-all P r u [] h = tt
 first-all P r u (p ∷ ps) h = (r.pending p _ h.0, tt)
 
-awaited-all : (P : Message → Type 0) → IsOfReplies P → (w : Waiting Message) (u : Option Text) → AllWaiting P w
+pub awaited-all : (P : Message → Type 0) → IsOfReplies P → (w : Waiting Message) (u : Option Text) → AllWaiting P w
     → AllByRecursion P (fetched_message (awaited w u))
 awaited-all P r w None h = tt
 awaited-all P r w (Some u) h = first-all P r u (packets_for w.queues u) (for-all P w.queues u h)

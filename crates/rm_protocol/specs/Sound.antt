@@ -1,7 +1,7 @@
 -- What holds of two lists of records and of all packets, in every world that a run can reach.
-use Rattle.std.specs.Prelude.{◌≡◌, ℕ, ◌+◌, ◌<◌, ◌≤◌, true, false, length, List, [], ◌∷◌, ◌++◌, map, Option, Some}
-use Rattle.std.specs.Prelude.{None, IfSome}
-use Rattle.std.specs.List.{AllByRecursion}
+use Rattle.std.specs.Prelude.{◌≡◌, ◌⊎◌, ℕ, ◌+◌, ◌^◌, ◌<◌, ◌≤◌, true, false, length, List, [], ◌∷◌, ◌++◌, map}
+use Rattle.std.specs.Prelude.{Option, Some, None, IfSome}
+use Rattle.std.specs.List.{AllByRecursion, flat_map}
 use Rattle.rm_base.specs.Limits as limits
 use Rattle.ack_ranges.specs.declared.range.Range.{Range}
 use Rattle.ack_ranges.specs.Ranges.{in_ranges}
@@ -15,7 +15,9 @@ use Rattle.rm_elements.specs.declared.lifecycle.Offer.{Offer}
 use Rattle.rm_message.specs.declared.message.Body.{Body}
 use Rattle.rm_message.specs.declared.message.Body.TheVariants as body
 use Rattle.rm_message.specs.declared.message.Message.{Message}
+use Rattle.rm_base.specs.declared.lapse.Lapse.{Lapse}
 use Rattle.record_batch.specs.declared.record.OwnOffer.{OwnOffer}
+use Rattle.record_batch.specs.declared.record.Via.{Via}
 use Rattle.record_batch.specs.declared.record.PeerOffer.{PeerOffer}
 use Rattle.record_batch.specs.Fact.{Fact, Made, Creating, Created, Granted, Accepted, Acked, Received, Closed}
 use Rattle.record_batch.specs.Fact.{Ended, Dropped, Purged}
@@ -24,7 +26,7 @@ use Rattle.rm_destination.specs.Messages.{is_empty, numbers_of}
 use Rattle.sequence_table.specs.Words.{Text}
 use Rattle.sequence_table.specs.Idents.{issue}
 use Rattle.sequence_table.specs.Makers.{Maker, Outgoing, Offered, Incoming, Taken, makers, maker, counter}
-use Rattle.sequence_table.specs.Makers.{number, address, created, seq_in}
+use Rattle.sequence_table.specs.Makers.{number, address, created, draws_of, seq_in}
 use Rattle.sequence_table.specs.Sources.{accepted, marks, out_ident}
 use Rattle.sequence_table.specs.Destinations.{held, received}
 use Rattle.sequence_table.specs.Fits.{all_fit}
@@ -112,11 +114,39 @@ SaysFinal r (body.Lifecycle (life.Close f)) = IsFinal r f.ident (last_of f.last_
 SaysFinal r (body.Lifecycle (life.Terminate f)) = IsFinal r f.ident (last_of f.last_number)
 SaysFinal r _ = Unit {0}
 
+-- the node asked the one at this address for an outgoing sequence
+pub record IsAskedAt (r : List Fact) (to : Text) : Type 0 where
+  pub seq : ℕ
+  pub ticket : ℕ
+  pub via : Via
+  pub lapse : Lapse
+  pub there : maker r seq ≡ Some (Outgoing ticket to via lapse)
+
+-- a CreateSequence goes to the node that was asked for a sequence
+abbrev pub SaysPlace : List Fact → Text → Body → Type 0
+SaysPlace r to (body.Lifecycle (life.Create c)) = IsAskedAt r to
+SaysPlace r to _ = Unit {0}
+
+-- the text is the MessageID of a request that the node drew a number for; 0 stands where it drew none
+pub record IsRequest (r : List Fact) (t : Text) : Type 0 where
+  pub ticket : ℕ
+  pub drawn : (ticket ≡ 0) ⊎ (has_number (flat_map draws_of r) ticket ≡ true)
+  pub is : t ≡ issue (number r) ticket
+
+-- a MessageID of data, of a CloseSequence or of a TerminateSequence is one that its sender issued
+abbrev pub SaysName : List Fact → Body → Option Text → Type 0
+SaysName r (body.Payload p) t = IfSome t (IsRequest r)
+SaysName r (body.Lifecycle (life.Close f)) t = IfSome t (IsRequest r)
+SaysName r (body.Lifecycle (life.Terminate f)) t = IfSome t (IsRequest r)
+SaysName r _ t = Unit {0}
+
 -- all that a message says is so by the records of its sender
 pub record Says (r : List Fact) (m : Message) : Type 0 where
   pub data_ : SaysData r m.sequence m.body
   pub acks : AllByRecursion (SaysBlock r) m.acks
   pub create : SaysCreate r m.addressing.message_id m.body
+  pub place : SaysPlace r m.addressing.to m.body
+  pub name : SaysName r m.body m.addressing.message_id
   pub response : SaysResponse r m.addressing.relates m.body
   pub final : SaysFinal r m.body
 
@@ -148,13 +178,18 @@ pub record IsTold (mine theirs : List Fact) (s n : ℕ) : Type 0 where
   pub incoming : IsIncoming mine s ident message_id
   pub final : IsFinal theirs ident n
 
+-- the node with this number issues the text for a number that it draws, of 62 bits: RFC 9562, section 5.8
+pub record IsIssuedBy (node : ℕ) (t : Text) : Type 0 where
+  pub drawn : ℕ
+  pub bits : drawn < 2 ^ 62
+  pub is : t ≡ issue node drawn
+
 -- the sequence is one between the two nodes: asked for there, or for a message of theirs
 abbrev pub IsWith : List Fact → Maker → Type 0
 IsWith theirs (Outgoing ticket to via lapse) = to ≡ address theirs
 IsWith theirs (Offered ticket counter to behaviour) = to ≡ address theirs
-IsWith theirs (Incoming counter message_id acks_to behaviour deadline lapse) =
-    (k : ℕ) × (message_id ≡ issue (number theirs) k)
-IsWith theirs (Taken message_id ident endpoint) = (k : ℕ) × (message_id ≡ issue (number theirs) k)
+IsWith theirs (Incoming counter message_id acks_to behaviour deadline lapse) = IsIssuedBy (number theirs) message_id
+IsWith theirs (Taken message_id ident endpoint) = IsIssuedBy (number theirs) message_id
 
 -- where it is, P
 pub record IfWith (mine theirs : List Fact) (s : ℕ) (P : Type 0) : Type 0 where
@@ -168,7 +203,7 @@ Justified mine theirs (Created s q accept) = IfWith mine theirs s (IsAgreed mine
 Justified mine theirs (Closed s Peer n) = IfWith mine theirs s (IsTold mine theirs s n)
 Justified mine theirs (Ended s Peer n) = IfWith mine theirs s (IsTold mine theirs s n)
 Justified mine theirs (Granted c t acks_to behaviour deadline lapse offer) =
-    (k : ℕ) → t ≡ issue (number theirs) k
+    IsIssuedBy (number theirs) t
     → HasAsked theirs t × IfSome offer (λ (taken : PeerOffer). IsGranted theirs t taken.ident)
 Justified mine theirs (Acked s ranges) = IfWith mine theirs s (AreKept mine theirs s ranges)
 Justified mine theirs (Received s i p) = IfWith mine theirs s (IsSourced mine theirs s i p.bytes)

@@ -4,6 +4,7 @@ ghost use Rattle.std.specs.Prelude.{slice_get, take, true, false};
 ghost use Rattle.rm_base.specs.Numbered.{numbered};
 ghost use Rattle.rm_message.specs.declared.refusal.Refusal.{Refusal};
 ghost use Rattle.record_batch.specs.Fact.{Fact};
+ghost use Rattle.rm_protocol.specs.Announced.{AnnouncesStill};
 ghost use Rattle.rm_protocol.specs.Calls.{Done, PastInbox, Refused};
 ghost use Rattle.rm_protocol.specs.Consumed.{ConsumedStays};
 ghost use Rattle.rm_protocol.specs.Delivered.{TakesNew};
@@ -16,10 +17,12 @@ ghost use Rattle.rm_protocol.specs.Examples.{played, with_a_crash, with_a_fresh_
 ghost use Rattle.rm_protocol.specs.Examples.{item_texts, with_consumption, with_fresh_lists, with_gone_items};
 ghost use Rattle.rm_protocol.specs.Next.{EachMayComeNext};
 ghost use Rattle.rm_protocol.specs.Node.{Answered, records};
+ghost use Rattle.rm_protocol.specs.Pair.{APairTells, IssuedByOne, MadeAreAPair, PairsTurn, StaysAPair};
 ghost use Rattle.rm_protocol.specs.Recorded.{FinalCloses, GapIsClosed, LooseIsReleased, NewIsRecorded};
 ghost use Rattle.rm_protocol.specs.Recorded.{OnlyHeardIsRecorded};
 ghost use Rattle.rm_protocol.specs.Replied.{TheReplyHasTheBlocks};
 ghost use Rattle.rm_protocol.specs.Sent.{AcceptedIsSent, Called, line_of, lines, outcome_of};
+ghost use Rattle.rm_protocol.specs.Settled.{MadeAreSettled, StaysSettled};
 ghost use Rattle.rm_protocol.specs.Sound.{IsSound};
 ghost use Rattle.rm_protocol.specs.Terms.{AreTerms, Terms};
 ghost use Rattle.rm_protocol.specs.Unarmed.{AreFaultless, AreUnarmed, IsFaultless};
@@ -362,3 +365,51 @@ pub fn a_crash_loses_what_waits()
     ensures two { length (played with_a_lost_message).two.entries ≡ 2 }
     ensures packets { pendings (played with_a_lost_message) ≡ None ∷ None ∷ Some false ∷ [] }
 {}
+
+/// What holds of two nodes of different numbers, and of all that each of them said, is kept by whatever befalls one of
+/// them: each of its calls, a crash inside one too, and each message that comes, be it the other's or a stranger's.
+pub fn two_nodes_stay_a_pair()
+    ensures { StaysAPair }
+{
+    a_snapshot_keeps_all();
+    a_snapshot_fits();
+    a_snapshot_is_proper();
+}
+
+/// A node announces the same for all sequences that it grants, as long as nothing else is to be announced.
+pub fn what_is_announced_stays()
+    ensures { AnnouncesStill }
+{}
+
+/// A pair is one the other way round.
+pub fn a_pair_turns()
+    ensures { PairsTurn }
+{}
+
+/// What the one released on a sequence between the two is a prefix of what the other accepted on its match, and the one
+/// issued the identifiers of what the other sends on to it.
+pub fn a_pair_tells()
+    ensures { APairTells }
+{}
+
+/// No text is issued by two nodes.
+pub fn an_identifier_tells_its_node()
+    ensures { IssuedByOne }
+{}
+
+/// Two nodes that were just made are a pair.
+pub fn two_made_nodes_are_a_pair()
+    ensures { MadeAreAPair }
+{}
+
+/// No record of a pair, and no message with data, CloseSequence or TerminateSequence that one of the two sent or keeps
+/// for a node that polls, has an identifier or a message id that one of the two has yet to issue. What comes from a
+/// stranger keeps it so where its CreateSequence or CreateSequenceResponse names none such either.
+pub fn a_pair_names_nothing_to_come()
+    ensures stays { StaysSettled }
+    ensures made { MadeAreSettled }
+{
+    two_nodes_stay_a_pair();
+    an_identifier_tells_its_node();
+    one_number_one_identifier();
+}

@@ -1,5 +1,5 @@
 -- Which step of a node a line is.
-use Rattle.std.proofs.Common.{◌≡◌, ◌∙◌, ◌-◌, ◌==◌, ℕ, zero, suc, cond, Bool, true, false, List, ◌∷◌, Option, Some, None}
+use Rattle.std.proofs.Common.{◌≡◌, ◌∙◌, ◌-◌, ◌==◌, ℕ, cond, Bool, true, false, List, Option, Some, None}
 use Rattle.std.proofs.Common.{[]}
 use Rattle.std.proofs.Common.{refl, sym, ap, subst, slice_get}
 use Rattle.std.specs.Prelude.{Result, Err}
@@ -26,6 +26,7 @@ use Rattle.rm_protocol.specs.World.{Noise, Poll, Send, Tick, arrives, happens, n
 use Rattle.rm_script.specs.declared.event.Event.TheVariants as said
 use Rattle.rm_script.specs.declared.event.Side.{Side as Place}
 use Rattle.sequence_table.specs.Words.{Text}
+use Rattle.rm_replay.specs.AllLemmas.{all_get, some_same}
 use Rattle.rm_replay.specs.Asked.{step_of}
 use Rattle.rm_replay.specs.Happening.{Happened, moved}
 use Rattle.rm_replay.specs.Meaning.{outcome_told, side_of, via_of}
@@ -37,7 +38,7 @@ use Rattle.rm_node.specs.declared.call.Call.TheVariants as call
 use Rattle.call_answers.specs.declared.answer.Wish.{Wish}
 use Rattle.rm_replay.specs.declared.stage.Nodes.{Nodes}
 use Rattle.rm_replay.proofs.EventLemmas.{IsCall}
-use Rattle.rm_replay.proofs.TaleLemmas.{tells_none}
+use Rattle.rm_replay.specs.TaleLemmas.{tells_none}
 
 -- ---- what a line asks for
 
@@ -236,16 +237,6 @@ pub record IsThere (w : World) (k : ℕ) (to : ℕ) (bytes : List ℕ) : Type 0 
   pub to_ : to ≡ number_of (other packet.from)
   pub text : bytes ≡ text_of packet.message
   pub read : IsReadRight packet
-
-some_same : {A : Type 0} (y x : A) → Some y ≡ Some x → y ≡ x
-some_same y x e = cc
-
--- one of them
-pub all_get : {A : Type 0} (P : A → Type 0) (xs : List A) (k : ℕ) (x : A) → AllByRecursion P xs
-    → slice_get xs k ≡ Some x → P x
-all_get P [] k x all is = absurd cc
-all_get P (y ∷ xs) zero x all is = let e : Some y ≡ Some x = is in subst P (some_same y x e) all.0
-all_get P (y ∷ xs) (suc k) x all is = all_get P xs k x all.1 is
 
 numbered_get : (packets : List Packet) (k : ℕ) (b : Bool) (p : Packet) → AllByRecursion IsReadRight packets
     → cond b None (slice_get packets (k - 1)) ≡ Some p → IsReadRight p

@@ -23,7 +23,7 @@ use Rattle.rm_replay.specs.declared.stage.Nodes.{Nodes}
 use Rattle.rm_replay.proofs.AskLemmas.{drive}
 use Rattle.rm_replay.proofs.EventLemmas.{EachIsLeft, holds_of, shows_node, tells_of}
 use Rattle.rm_replay.proofs.StepLemmas.{shows_still}
-use Rattle.rm_replay.proofs.TaleLemmas.{grew_asked, tells_asked}
+use Rattle.rm_replay.specs.TaleLemmas.{grew_asked, tells_asked}
 
 -- ---- at a side
 

@@ -17,7 +17,7 @@ use Rattle.rm_replay.specs.Shows.{Drives}
 use Rattle.rm_replay.specs.Tales.{Drive, Grew, Tells}
 use Rattle.rm_replay.specs.declared.stage.Nodes.{Nodes}
 use Rattle.rm_replay.proofs.HeadlineLemmas.{stands_for}
-use Rattle.rm_replay.proofs.TaleLemmas.{grew_none, tells_none}
+use Rattle.rm_replay.specs.TaleLemmas.{grew_none, tells_none}
 
 -- what a crash tells of its node
 tells_crash : (x : Node) (choice : ℕ) (old new : Drive) (a : Actored) (crashed : Crashed x choice old.disk new.disk a)

@@ -27,7 +27,7 @@ use Rattle.rm_replay.specs.Shows.{Drives, Holds, IsCut, IsCutIn, IsLeftOfLine, S
 use Rattle.rm_replay.specs.Tales.{Drive, Tale, Tells, crash_in, crash_of, fault_at, node_of}
 use Rattle.rm_replay.specs.declared.stage.Nodes.{Nodes}
 use Rattle.rm_replay.proofs.PutLemmas.{puts_behind, puts_in_part}
-use Rattle.rm_replay.proofs.TaleLemmas.{asked_still, grew_asked, grew_none, tells_asked}
+use Rattle.rm_replay.specs.TaleLemmas.{asked_still, grew_asked, grew_none, tells_asked}
 
 -- each image of a node's disk is left by it
 abbrev pub EachIsLeft : Type 0

@@ -1,11 +1,7 @@
-mod NetLemmas
 mod HeadlineLemmas
 mod PlayedLemmas
 mod SentLemmas
 mod PutLemmas
-mod FetchedLemmas
-mod ReadLemmas
-mod TaleLemmas
 mod StepLemmas
 mod EventLemmas
 mod CallLemmas

@@ -15,7 +15,7 @@ use Rattle.rm_replay.specs.Net.{AreOfNet}
 use Rattle.rm_replay.specs.Played.{Played, Story, none, more, start_world}
 use Rattle.rm_replay.specs.Shows.{Holds, IsCutIn, IsLeftOfLine, Scene, address_one, address_two}
 use Rattle.rm_replay.proofs.HeadlineLemmas.{headline_of, keeps_by_nodes, loose_of}
-use Rattle.rm_replay.proofs.NetLemmas.{are_made, are_terms}
+use Rattle.rm_replay.specs.NetLemmas.{are_made, are_terms}
 
 -- the run of two scripts, one behind the other
 abbrev pub RunGoesOn : Type 0

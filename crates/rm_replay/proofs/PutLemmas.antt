@@ -1,5 +1,5 @@
 -- Packets that are put on a wire, and those of the protocol's network.
-use Rattle.std.proofs.Common.{◌≡◌, ◌∙◌, ◌+◌, ℕ, zero, suc, cond, Bool, true, false, List, ◌∷◌, ◌++◌, append_assoc, []}
+use Rattle.std.proofs.Common.{◌≡◌, ◌∙◌, ◌+◌, ℕ, zero, suc, cond, Bool, true, false, List, ◌∷◌, ◌++◌, []}
 use Rattle.std.proofs.Common.{append-nil, length}
 use Rattle.std.proofs.Common.{map, take, refl, sym, ap}
 use Rattle.std.proofs.Math.Seq.{take-append-add}
@@ -12,6 +12,7 @@ use Rattle.rm_protocol.specs.Word.{IsPrefixOf}
 use Rattle.rm_protocol.specs.World.{Packet, Side, messages_in, other, puts, sent}
 use Rattle.rm_network.specs.Wire.{has_room, texts_in, with_packet}
 use Rattle.node_actor.specs.Outcomes.{back_packet}
+use Rattle.rm_replay.specs.AllLemmas.{all_push, prefix_then}
 use Rattle.rm_replay.specs.Asked.{bytes_of}
 use Rattle.rm_replay.specs.Happening.{IsPutInPart, with_all}
 use Rattle.rm_replay.specs.Net.{AreOfNet, number_of, text_of, wire_packet, wire_packets}
@@ -106,11 +107,6 @@ puts_are terms net side (m ∷ ms) packets =
 
 -- ---- what holds of each packet
 
-all_push : {A : Type 0} (P : A → Type 0) (xs : List A) (x : A) → AllByRecursion P xs → P x
-    → AllByRecursion P (xs ++ x ∷ [])
-all_push P [] x all h = (h, tt)
-all_push P (y ∷ xs) x all h = (all.0, all_push P xs x all.1 h)
-
 all_put : (packets : List Packet) (p : Packet) (b : Bool) → AllByRecursion IsReadRight packets → IsReadRight p
     → AllByRecursion IsReadRight (cond b (packets ++ p ∷ []) packets)
 all_put packets p true all h = all_push IsReadRight packets p all h
@@ -126,30 +122,7 @@ all_puts terms side (m ∷ ms) packets all new =
     (cond (terms.takes (messages_in packets) m) (packets ++ from_side side m ∷ []) packets)
     (all_put packets (from_side side m) (terms.takes (messages_in packets) m) all new.0) new.1
 
-pub all_append : {A : Type 0} (P : A → Type 0) (xs ys : List A) → AllByRecursion P xs → AllByRecursion P ys
-    → AllByRecursion P (xs ++ ys)
-all_append P [] ys one two = two
-all_append P (x ∷ xs) ys one two = (one.0, all_append P xs ys one.1 two)
-
-pub all_parts : {A : Type 0} (P : A → Type 0) (xs ys : List A) → AllByRecursion P (xs ++ ys)
-    → AllByRecursion P xs × AllByRecursion P ys
-all_parts P [] ys all = (tt, all)
-all_parts P (x ∷ xs) ys all = let rest = all_parts P xs ys all.1 in ((all.0, rest.0), rest.1)
-
-pub all_take : {A : Type 0} (P : A → Type 0) (xs : List A) (count : ℕ) → AllByRecursion P xs
-    → AllByRecursion P (take count xs)
-all_take P [] zero all = tt
-all_take P [] (suc count) all = tt
-all_take P (x ∷ xs) zero all = tt
-all_take P (x ∷ xs) (suc count) all = (all.0, all_take P xs count all.1)
-
 -- ---- what was there stays
-
-prefix_then : {A : Type 0} (xs ys zs : List A) → IsPrefixOf xs ys → IsPrefixOf ys zs → IsPrefixOf xs zs
-prefix_then xs ys zs one two = (
-  one.0 ++ two.0,
-  two.1 ∙ ap (λ front. front ++ two.0) one.1 ∙ append_assoc xs one.0 two.0,
-)
 
 prefix_put : (packets : List Packet) (p : Packet) (b : Bool) → IsPrefixOf packets (cond b (packets ++ p ∷ []) packets)
 prefix_put packets p true = (p ∷ [], refl)

@@ -1,39 +1,24 @@
 -- A script from two new nodes on.
-use Rattle.std.proofs.Common.{◌≡◌, ◌∙◌, ℕ, false, List, ◌++◌, append_assoc, ap, subst, inl, inr, arith}
+use Rattle.std.proofs.Common.{◌≡◌, ◌∙◌, ℕ, List, ◌++◌, append_assoc, ap, inl, inr}
 use Rattle.std.specs.List.{AllByRecursion}
-use Rattle.rm_base.specs.Count.{RoseBy}
-use Rattle.rm_disk.specs.Call.{Call, crashes_of}
+use Rattle.rm_disk.specs.Call.{Call}
 use Rattle.rm_protocol.specs.Terms.{Terms}
 use Rattle.rm_script.specs.Within.{IsWithin}
 use Rattle.rm_script.specs.declared.event.Event.{Event as Said}
 use Rattle.rm_script.specs.declared.event.Side.TheVariants as place
-use Rattle.rm_replay.specs.Asked.{WasAsked, WereSpared}
+use Rattle.rm_replay.specs.AllLemmas.{all_get, all_take}
+use Rattle.rm_replay.specs.Asked.{WereSpared}
 use Rattle.rm_replay.specs.Net.{AreOfNet}
 use Rattle.rm_replay.specs.Played.{Played, Ran, RanShort, Story, TellBoth, known_text}
 use Rattle.rm_replay.specs.Playing.{AllPlayed}
 use Rattle.rm_replay.specs.Sent.{AcceptedIsSent}
 use Rattle.rm_replay.specs.Shows.{Holds, IsLeftOfLine, Scene}
-use Rattle.rm_replay.specs.Tales.{Drive, Tale, Tells}
+use Rattle.rm_replay.specs.TaleLemmas.{tells_from}
 use Rattle.rm_replay.specs.declared.stage.Nodes.{Nodes}
 use Rattle.rm_replay.proofs.EventLemmas.{EachIsLeft, holds_of}
-use Rattle.rm_replay.proofs.CallLemmas.{all_get}
-use Rattle.rm_replay.proofs.PutLemmas.{all_take}
 use Rattle.rm_replay.proofs.StoryLemmas.{short_end}
 
 -- ---- the nodes were made, and nothing befell the disks
-
-pub spared_by : (old new : Drive) → crashes_of new.disk.past ≡ crashes_of old.disk.past → new.failed ≡ old.failed
-    → WasAsked false old new
-spared_by old new crashes same =
-    record { crashes = crashes; cause = record { later = omega (arith, same); cause = same } }
-
-tells_from : (tale : Tale) (old mid now : Drive) → WasAsked false old mid → Tells tale mid now → Tells tale old now
-tells_from tale old mid now asked tells = record {
-  pairs = tells.pairs;
-  crashes = tells.crashes ∙ ap (λ (front : List (ℕ × List ℕ)). front ++ tells.pairs) asked.crashes;
-  left = tells.left;
-  faults = subst (λ (n : ℕ). RoseBy n now.failed tale.faults) asked.cause.cause tells.faults;
-}
 
 tell_from : (s : Story) (old mid now : Scene) → WereSpared old.drives mid.drives → TellBoth s mid now
     → TellBoth s old now

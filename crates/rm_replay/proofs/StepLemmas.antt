@@ -13,6 +13,7 @@ use Rattle.rm_report.specs.declared.line.Outcome.{Outcome}
 use Rattle.node_actor.specs.Outcomes.{is_disk_outcome, packets_in}
 use Rattle.node_actor.specs.Stands.{Stands}
 use Rattle.node_actor.specs.declared.actor.Came.{Came}
+use Rattle.rm_replay.specs.AllLemmas.{all_take}
 use Rattle.rm_replay.specs.Asked.{Step, SteppedAt, Steps, StepsAt, WasAsked, WereAsked, bytes_of}
 use Rattle.rm_replay.specs.Meaning.{side_of}
 use Rattle.rm_replay.specs.Tales.{Drive}
@@ -22,9 +23,9 @@ use Rattle.rm_replay.specs.Happening.{IsPutInPart, Moves, WereAskedFor, moved, m
 use Rattle.rm_replay.specs.Net.{AreOfNet, number_of, text_of, wire_packets}
 use Rattle.rm_replay.specs.Shows.{Drives, IsReadRight, Scene, Shows, StandFor, address_one, address_two}
 use Rattle.rm_replay.specs.declared.stage.Nodes.{Nodes}
-use Rattle.rm_replay.proofs.PutLemmas.{all_puts, all_take, bytes_said, put_same, puts_are}
-use Rattle.rm_replay.proofs.ReadLemmas.{IsReadMessage}
-use Rattle.rm_replay.proofs.TaleLemmas.{asked_none}
+use Rattle.rm_replay.proofs.PutLemmas.{all_puts, bytes_said, put_same, puts_are}
+use Rattle.rm_replay.specs.ReadLemmas.{IsReadMessage}
+use Rattle.rm_replay.specs.TaleLemmas.{asked_none}
 
 -- ---- at a side
 

@@ -5,7 +5,7 @@ use Rattle.std.specs.Prelude.{OnOk, Result, Ok, Err}
 use Rattle.std.proofs.lemmas.List.{length-map}
 use Rattle.std.proofs.Math.Seq.{take-append_seam, take-length}
 use Rattle.rm_protocol.specs.Compact.{compacted}
-use Rattle.rm_protocol.specs.Node.{Node, State, Up, Writing, Compacting, armed, fetched_after, mounted, node_end}
+use Rattle.rm_protocol.specs.Node.{Node, armed, fetched_after, mounted, node_end}
 use Rattle.rm_protocol.specs.Node.{records}
 use Rattle.rm_protocol.specs.Node.{said_after}
 use Rattle.rm_protocol.specs.Polls.{poll}
@@ -19,20 +19,12 @@ use Rattle.rm_protocol.specs.World.{with_node}
 use Rattle.rm_protocol.specs.Calls.{Answer, consume, create, send, close, end, tick, ask_ack, nack_missing}
 use Rattle.rm_protocol.specs.Word.{IsPrefixOf}
 use Rattle.rm_base.specs.Numbered.{numbered}
-use Rattle.rm_disk.specs.Call.{Call}
-use Rattle.record_batch.specs.Batch.{batch_text}
-use Rattle.record_batch.specs.Fact.{Fact}
 use Rattle.rm_base.specs.declared.failures.Memory.{Memory}
-use Rattle.rm_journal.specs.EntryLemmas.{length-gates_from}
-use Rattle.node_store.specs.Has.{entries_of}
 use Rattle.rm_report.specs.Report.{line_text, lines_text}
 use Rattle.rm_report.specs.declared.line.Line.{Line}
 use Rattle.rm_report.specs.declared.line.Outcome.{Outcome}
 use Rattle.rm_script.specs.declared.event.Event.{Event as Said}
-use Rattle.node_actor.specs.Actored.{Actored}
-use Rattle.node_actor.specs.Stands.{Stands, StandsBy}
-use Rattle.rm_disk.specs.Told.{Told}
-use Rattle.node_store.specs.Stored.{Stored}
+use Rattle.rm_replay.specs.EntryLemmas.{entries_is}
 use Rattle.rm_replay.specs.Meaning.{Means, comes_out, report_of, stepped}
 use Rattle.rm_replay.specs.Played.{Played, RanShort, beginning, more, none}
 use Rattle.rm_replay.specs.Played.{told_on}
@@ -44,7 +36,7 @@ use Rattle.rm_replay.specs.Tales.{Tells, tale_of}
 use Rattle.rm_replay.specs.declared.stage.Nodes.{Nodes}
 use Rattle.rm_replay.proofs.EventLemmas.{EachIsLeft, holds_of}
 use Rattle.rm_replay.proofs.PutLemmas.{puts_behind}
-use Rattle.rm_replay.proofs.TaleLemmas.{grew_line, tells_none, tells_then}
+use Rattle.rm_replay.specs.TaleLemmas.{grew_line, tells_none, tells_then}
 
 -- ---- the report
 
@@ -213,20 +205,6 @@ cut_played each terms w line event old new nodes means shows one two = record {
   two = grew_line Two line (node (stepped terms w event) Two).entries (tale_of terms w Two line event) old.drives.two
       new.drives.two refl two;
 }
-
--- ---- how many entries there are
-
-entries_by : (st : State) (entries : List (List Fact)) (past : List Call) (stored : Stored)
-    → StandsBy st entries past stored → length stored.journal.gates ≡ length entries
-entries_by Up entries past stored awake =
-    ap (λ (gates : List ℕ). length gates) awake.has.holds.journal.gates
-    ∙ length-gates_from stored.journal.bank.start (entries_of entries) ∙ length-map entries batch_text
-entries_by (Writing delta) entries past stored asleep = asleep.count
-entries_by (Compacting start) entries past stored asleep = asleep.count
-
-entries_is : (x : Node) (now : Told) (a : Actored) → Stands x now a
-    → length a.node.stored.journal.gates ≡ length x.entries
-entries_is x now a s = entries_by x.state x.entries now.past a.node.stored s.disk
 
 -- ---- a line and its report
 

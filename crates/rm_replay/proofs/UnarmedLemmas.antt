@@ -13,12 +13,12 @@ use Rattle.rm_script.specs.declared.event.Event.{Event as Said}
 use Rattle.rm_script.specs.declared.event.Event.TheVariants as said
 use Rattle.sequence_table.specs.Words.{Text}
 use Rattle.node_actor.specs.Outcomes.{refusal_told}
+use Rattle.rm_replay.specs.AllLemmas.{all_append}
 use Rattle.rm_replay.specs.Meaning.{Means, comes_out, outcome_told, report_of, silent, stepped}
 use Rattle.rm_replay.specs.Played.{Played, Story, more, none, start_world}
 use Rattle.rm_replay.specs.Shows.{address_one, address_two}
 use Rattle.rm_replay.specs.Unarmed.{ArmsNone, IsCalm, TellsCalm}
 use Rattle.rm_replay.proofs.PlayedLemmas.{RunGoesOn}
-use Rattle.rm_replay.proofs.PutLemmas.{all_append}
 
 -- no event of a run without an arm has a fault
 abbrev pub RunsAreFaultless : Type 0

@@ -1,11 +1,17 @@
+pub mod AllLemmas
 pub mod Asked
+pub mod EntryLemmas
+pub mod FetchedLemmas
 pub mod Happening
 pub mod Headline
 pub mod Meaning
 pub mod Net
+pub mod NetLemmas
 pub mod Played
 pub mod Playing
+pub mod ReadLemmas
 pub mod Sent
 pub mod Shows
+pub mod TaleLemmas
 pub mod Tales
 pub mod Unarmed

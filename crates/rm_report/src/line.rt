@@ -84,8 +84,8 @@ fn push_count(out: &mut Blob, count: u64) -> Result<(), Memory>
     push_decimal(out, count)
 }
 
-// Appends how a line came out.
-fn push_outcome(out: &mut Blob, outcome: Outcome) -> Result<(), Memory>
+/// Appends how a line came out.
+pub fn push_outcome(out: &mut Blob, outcome: Outcome) -> Result<(), Memory>
     ensures { OnOk result (out.new ≡ out.old ++ outcome_text outcome) }
 {
     match outcome {

@@ -2,4 +2,3 @@ pub mod LineLemmas
 pub mod ReadingLemmas
 pub mod ScriptLemmas
 pub mod WithinLemmas
-pub mod WordLemmas

@@ -6,6 +6,7 @@ use Rattle.std.specs.List.{count_by, position_or_len, position, flat_map, AllByR
 use Rattle.std.proofs.lemmas.List.{append-nil, take_at, take_all, drop_all}
 use Rattle.std.proofs.lemmas.Bool.Decides.{nat_tests}
 use Rattle.std.proofs.lemmas.List.Recursion.{is_count_by}
+use Rattle.rm_script.specs.PlaceLemmas.{slice_get-at}
 use Rattle.rm_script.specs.Script.{lines_of, onto_first, Says, IsScript, IsFirstBad}
 use Rattle.rm_script.specs.Lines.{ended, HasNoLf}
 use Rattle.rm_script.specs.declared.event.Event.{Event}
@@ -151,11 +152,6 @@ read_more lines rest events line event r e = record {
 
 pub read_all : (lines : List (List ℕ)) (events : List Event) → ReadSoFar lines [] events → IsScript lines events
 read_all lines events r = rw (r.parts, append-nil) r.script
-
-pub slice_get-at : {A : Type 0} (before : List A) (x : A) (rest : List A)
-    → slice_get (before ++ x ∷ rest) (length before) ≡ Some x
-slice_get-at [] x rest = refl
-slice_get-at (y ∷ before) x rest = slice_get-at before x rest
 
 -- the line at which reading stops is the first bad one
 pub read_bad : (lines rest : List (List ℕ)) (events : List Event) (line : List ℕ) → ReadSoFar lines (line ∷ rest) events

@@ -23,10 +23,10 @@ use Rattle.rm_script.specs.declared.event.Event.{Event}
 use Rattle.rm_script.specs.declared.event.Event.TheVariants.{Nothing, Create, Grant, Send, Tick, Deliver, Close, End}
 use Rattle.rm_script.specs.declared.event.Event.TheVariants.{Ask, Nack, Poll, Compact, Consume}
 use Rattle.rm_script.specs.declared.event.Event.TheVariants.{Arm, Crash, Noise}
-use Rattle.rm_script.proofs.WordLemmas.{some_then, some_mapped, behind-is, word_of-onto, behind_word-onto}
-use Rattle.rm_script.proofs.WordLemmas.{word_of-behind, word_of-IsWord, number_in-decimal, number_in-is, decimal-IsWord}
-use Rattle.rm_script.proofs.WordLemmas.{behaviour_in-word, behaviour_in-is, node_in-text, node_in-is, call_in-text}
-use Rattle.rm_script.proofs.WordLemmas.{call_in-is, numbered_in-text, numbered_in-is}
+use Rattle.rm_script.specs.WordLemmas.{some_then, some_mapped, behind-is, word_of-onto, behind_word-onto}
+use Rattle.rm_script.specs.WordLemmas.{word_of-behind, word_of-IsWord, number_in-decimal, number_in-is, decimal-IsWord}
+use Rattle.rm_script.specs.WordLemmas.{behaviour_in-word, behaviour_in-is, node_in-text, node_in-is, call_in-text}
+use Rattle.rm_script.specs.WordLemmas.{call_in-is, numbered_in-text, numbered_in-is}
 
 -- ---- what the grammar says is read
 

@@ -3,3 +3,5 @@ pub mod Lines
 pub mod Reading
 pub mod Script
 pub mod Within
+pub mod PlaceLemmas
+pub mod WordLemmas

@@ -7,7 +7,7 @@ pub mod event;
 pub mod laws;
 mod line;
 pub mod script;
-mod word;
+pub mod word;
 
 pub use decimal::number_of;
 pub use event::{Event, Side};

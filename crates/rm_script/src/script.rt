@@ -61,8 +61,8 @@ pub fn read_script(alloc: Global, bytes: &[u8]) -> Result<Vec<Event>, ScriptErro
     Ok(events)
 }
 
-// How many lines there are: each LF but a last one stands before another line.
-fn count_of_lines(bytes: &[u8]) -> usize
+/// How many lines there are: each LF but a last one stands before another line.
+pub fn count_of_lines(bytes: &[u8]) -> usize
     ensures { result ≡ length (lines_of bytes.now) }
 {
     match bytes.split_last() {
@@ -77,8 +77,8 @@ fn count_of_ends(bytes: &[u8]) -> usize
     bytes.iter().filter(|byte| **byte == b'\n').count()
 }
 
-// The first line, without its LF, and the bytes behind it.
-fn first_line(bytes: &[u8]) -> (&[u8], &[u8])
+/// The first line, without its LF, and the bytes behind it.
+pub fn first_line(bytes: &[u8]) -> (&[u8], &[u8])
     requires { 0 < length bytes.now }
     ensures lines { lines_of bytes.now ≡ result.0.now ∷ lines_of result.1.now }
     ensures shorter { length result.1.now < length bytes.now }

@@ -24,14 +24,14 @@ pub(crate) struct Arguments<'a> {
 }
 
 /// What stands behind a word at the front of bytes.
-pub(crate) fn behind<'a>(bytes: &'a [u8], word: &[u8]) -> Option<&'a [u8]>
+pub fn behind<'a>(bytes: &'a [u8], word: &[u8]) -> Option<&'a [u8]>
     ensures { option_map (λ rest. rest.now) result ≡ behind_of word.now bytes.now }
 {
     bytes.strip_prefix(word)
 }
 
 /// The bytes up to the first space, and those from it on.
-pub(crate) fn cut_word(bytes: &[u8]) -> (&[u8], &[u8])
+pub fn cut_word(bytes: &[u8]) -> (&[u8], &[u8])
     ensures word { result.0.now ≡ word_of bytes.now }
     ensures rest { result.1.now ≡ behind_word bytes.now }
 {
@@ -44,7 +44,7 @@ pub(crate) fn cut_word(bytes: &[u8]) -> (&[u8], &[u8])
 }
 
 /// The number from `low` to `high` whose digits these are.
-pub(crate) fn number(digits: &[u8], low: u64, high: u64) -> Option<u64>
+pub fn number(digits: &[u8], low: u64, high: u64) -> Option<u64>
     ensures number { result ≡ number_in low high digits.now }
     ensures within { IfSome result (λ number. number ≤ high) }
 {

@@ -1,6 +1,6 @@
 use Rattle.std.proofs.Common.{Err, ap, refl}
 use Rattle.wsp_alternatives.specs.Texts.{normal_text}
-use Rattle.rm_command.proofs.RunLemmas.{writing_ends}
+use Rattle.rm_command.specs.RunLemmas.{writing_ends}
 use Rattle.rm_command.proofs.alternatives.intersect.Goals as goal
 
 pub returns-in-Ok-common_of-clause-ends : goal.returns-in-Ok-common_of-clause-ends

@@ -2,7 +2,7 @@ use Rattle.std.proofs.Common.{Err, ap}
 use Rattle.rm_command.specs.Check.{IsTextOf, RefusesMessage}
 use Rattle.rm_command.specs.Edge.{edge_of}
 use Rattle.rm_command.proofs.ReadingLemmas.{reading_of, read_all}
-use Rattle.rm_command.proofs.RunLemmas.{writing_ends}
+use Rattle.rm_command.specs.RunLemmas.{writing_ends}
 use Rattle.rm_command.proofs.check.check.Goals as goal
 
 pub text_of-requires : goal.text_of-requires

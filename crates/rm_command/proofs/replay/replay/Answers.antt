@@ -1,5 +1,5 @@
 use Rattle.std.proofs.Common.{inr, refl}
-use Rattle.rm_command.proofs.RunLemmas.{writing_ends}
+use Rattle.rm_command.specs.RunLemmas.{writing_ends}
 use Rattle.rm_command.proofs.replay.replay.Goals as goal
 
 pub returns-in-Ok-run_script-clause-ends : goal.returns-in-Ok-run_script-clause-ends

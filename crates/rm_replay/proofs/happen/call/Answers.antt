@@ -5,7 +5,7 @@ use Rattle.rm_replay.specs.Asked.{step_of}
 use Rattle.rm_replay.specs.Meaning.{side_of}
 use Rattle.rm_replay.specs.Net.{number_of}
 use Rattle.rm_replay.specs.Shows.{drives_of, scene_of}
-use Rattle.rm_replay.proofs.ReadLemmas.{kept_at, rules_at, said_is_read}
+use Rattle.rm_replay.specs.ReadLemmas.{kept_at, rules_at, said_is_read}
 use Rattle.rm_replay.proofs.StepLemmas.{asked_for, call_moves, scene_by, shows_still}
 use Rattle.rm_replay.proofs.happen.call.Goals as goal
 

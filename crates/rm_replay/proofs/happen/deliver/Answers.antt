@@ -11,7 +11,7 @@ use Rattle.rm_node.specs.Asked.{IsReceived}
 use Rattle.rm_node.specs.declared.call.Call.TheVariants as call
 use Rattle.rm_replay.proofs.CallLemmas.{deliver_at, happens_lost, lost, packet_read, there_of}
 use Rattle.rm_replay.proofs.EventLemmas.{happens_call}
-use Rattle.rm_replay.proofs.ReadLemmas.{kept_at, rules_at, said_is_read}
+use Rattle.rm_replay.specs.ReadLemmas.{kept_at, rules_at, said_is_read}
 use Rattle.rm_replay.proofs.StepLemmas.{asked_for, call_moves, scene_by, shows_still}
 use Rattle.rm_replay.proofs.happen.deliver.Goals as goal
 

@@ -1,7 +1,7 @@
 use Rattle.std.proofs.Common.{sym, subst, take}
 use Rattle.rm_protocol.specs.Delivered.{TakesNew}
 use Rattle.rm_replay.specs.Shows.{address_one, address_two}
-use Rattle.rm_replay.proofs.NetLemmas.{are_made, are_terms}
+use Rattle.rm_replay.specs.NetLemmas.{are_made, are_terms}
 use Rattle.rm_replay.proofs.PlayedLemmas.{run_of}
 use Rattle.rm_replay.proofs.laws.a_delivered_message_is_taken.Goals as goal
 

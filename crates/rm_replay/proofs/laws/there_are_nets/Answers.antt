@@ -1,4 +1,4 @@
-use Rattle.rm_replay.proofs.NetLemmas.{nets}
+use Rattle.rm_replay.specs.NetLemmas.{nets}
 use Rattle.rm_replay.proofs.laws.there_are_nets.Goals as goal
 
 pub returns : goal.returns

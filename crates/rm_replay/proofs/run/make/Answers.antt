@@ -1,7 +1,7 @@
 use Rattle.std.proofs.Common.{inr}
 use Rattle.std.proofs.lemmas.Result.{err_from_is_err_and}
+use Rattle.rm_replay.specs.TaleLemmas.{spared_by}
 use Rattle.rm_replay.specs.Played.{start_world}
-use Rattle.rm_replay.proofs.RunLemmas.{spared_by}
 use Rattle.rm_replay.proofs.run.make.Goals as goal
 
 pub returns-in_err-two-clause-unmade : goal.returns-in_err-two-clause-unmade

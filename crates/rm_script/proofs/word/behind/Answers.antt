@@ -1,6 +1,6 @@
 use Rattle.std.proofs.lemmas.Bool.Decides.{Decides-eqb}
 use Rattle.std.proofs.lemmas.Slice.Eq.{strip_prefix_is}
-use Rattle.rm_script.proofs.WordLemmas.{behind-stripped}
+use Rattle.rm_script.specs.WordLemmas.{behind-stripped}
 use Rattle.rm_script.proofs.word.behind.Goals as goal
 
 pub returns : goal.returns

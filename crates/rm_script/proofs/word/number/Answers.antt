@@ -1,6 +1,6 @@
 use Rattle.std.proofs.Common.{◌≡◌, None, Some, sym, ap, ◌∙◌}
 use Rattle.rm_script.specs.Reading.{number_in}
-use Rattle.rm_script.proofs.WordLemmas.{number_in-none, number_in-outside, number_in-decimal}
+use Rattle.rm_script.specs.WordLemmas.{number_in-none, number_in-outside, number_in-decimal}
 use Rattle.rm_script.proofs.word.number.Goals as goal
 
 pub returns-in_err-number-clause-number : goal.returns-in_err-number-clause-number

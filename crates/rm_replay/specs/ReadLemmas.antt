@@ -26,6 +26,7 @@ use Rattle.rm_node.specs.Came.{IsReadAs}
 use Rattle.rm_node.specs.CameLemmas.{ReadsRight, RefusesRight}
 use Rattle.node_actor.specs.Stands.{StandsBy, kept_of}
 use Rattle.rm_protocol.specs.World.{Side, One, Two, World, node}
+use Rattle.rm_replay.specs.AllLemmas.{all_append}
 use Rattle.rm_replay.specs.Shows.{Drives, StandFor}
 use Rattle.rm_replay.specs.declared.stage.Nodes.{Nodes}
 use Rattle.rm_node.specs.Asked.{Asked, Asks, MayBeAsked, is_connected}
@@ -35,9 +36,8 @@ use Rattle.rm_replay.specs.Net.{read_as, text_of}
 use Rattle.rm_node.specs.declared.call.Call.{Call}
 use Rattle.node_actor.specs.AnswerLemmas.{of_each}
 use Rattle.soap_envelope.specs.Soap.{soap_space}
-use Rattle.rm_replay.proofs.FetchedLemmas.{IsAlone, ask-alone, close-alone, consume-alone, create-alone, end-alone}
-use Rattle.rm_replay.proofs.FetchedLemmas.{nack-alone, receive-alone, send-alone, tick-alone}
-use Rattle.rm_replay.proofs.PutLemmas.{all_append}
+use Rattle.rm_replay.specs.FetchedLemmas.{IsAlone, ask-alone, close-alone, consume-alone, create-alone, end-alone}
+use Rattle.rm_replay.specs.FetchedLemmas.{nack-alone, receive-alone, send-alone, tick-alone}
 
 -- ---- what is said
 
@@ -92,7 +92,7 @@ all_fetched P x (Compacting start) answer all = tt
 
 -- ---- at a node
 
-kept_by : (st : State) (entries : List (List Fact)) (past : List DeviceCall) (stored : Stored)
+pub kept_by : (st : State) (entries : List (List Fact)) (past : List DeviceCall) (stored : Stored)
     → StandsBy st entries past stored → IsKept (records_in entries)
 kept_by Up entries past stored awake = awake.has.are.kept
 kept_by (Writing delta) entries past stored asleep = asleep.are.kept

@@ -17,7 +17,7 @@ use Rattle.rm_replay.specs.Tales.{AreLeftBy, Drive, Grew, HasCrashed, Tale, Tell
 
 -- ---- the same disk
 
-rose_by_none : (n : ℕ) → RoseBy n n 0
+pub rose_by_none : (n : ℕ) → RoseBy n n 0
 rose_by_none n = inl (omega arith)
 
 -- no crash and no fault
@@ -53,7 +53,7 @@ tells_asked old new failed asked = record {
   faults = faults_by old.failed new.failed failed asked.cause;
 }
 
-risen : (old new : ℕ) → old ≤ new → RoseBy old new 0
+pub risen : (old new : ℕ) → old ≤ new → RoseBy old new 0
 risen old new later = inl (omega (arith, later))
 
 pub grew_asked : (side : Side) (line : Said) (old new : Drive) (failed : Bool) → WasAsked failed old new
@@ -87,12 +87,12 @@ tells_then one two first mid now a b = record {
 
 -- ---- a tale of one line
 
-rose_some : (old new n : ℕ) → RoseBy old new n → RoseBy old new 0
+pub rose_some : (old new n : ℕ) → RoseBy old new n → RoseBy old new 0
 rose_some old new n (inl rose) = inl (omega (arith, rose))
 rose_some old new n (inr most) = inr most
 
 -- no crash was told
-none_more : (old all pairs : List (ℕ × List ℕ)) → all ≡ old ++ pairs → AreLeftBy [] pairs → all ≡ old
+pub none_more : (old all pairs : List (ℕ × List ℕ)) → all ≡ old ++ pairs → AreLeftBy [] pairs → all ≡ old
 none_more old all [] is left = is ∙ append-nil old
 none_more old all (pair ∷ pairs) is left = absurd left
 
@@ -101,7 +101,7 @@ abbrev OneMore : Side → Side → ℕ → List (ℕ × List ℕ) → List (ℕ 
 OneMore side at choice old all =
     (all ≡ old) ⊎ ((at ≡ side) × ((bytes : List ℕ) × (all ≡ old ++ (choice, bytes) ∷ [])))
 
-one_more : (choice : ℕ) (entries : List (List Fact)) (old all pairs : List (ℕ × List ℕ)) → all ≡ old ++ pairs
+pub one_more : (choice : ℕ) (entries : List (List Fact)) (old all pairs : List (ℕ × List ℕ)) → all ≡ old ++ pairs
     → AreLeftBy ((choice, entries) ∷ []) pairs → (bytes : List ℕ) × (all ≡ old ++ (choice, bytes) ∷ [])
 one_more choice entries old all [] is left = absurd left
 one_more choice entries old all ((same, bytes) ∷ []) is left =
@@ -145,4 +145,19 @@ grew_line side line entries tale old new of tells = record {
   crashes = crashes_told side line entries old new tells.pairs tells.crashes
       (subst (λ (c : List (ℕ × List (List Fact))). AreLeftBy c tells.pairs) of tells.left);
   faults = rose_some old.failed new.failed tale.faults tells.faults;
+}
+
+-- ---- nothing befell a disk while its node was made
+
+pub spared_by : (old new : Drive) → crashes_of new.disk.past ≡ crashes_of old.disk.past → new.failed ≡ old.failed
+    → WasAsked false old new
+spared_by old new crashes same =
+    record { crashes = crashes; cause = record { later = omega (arith, same); cause = same } }
+
+pub tells_from : (tale : Tale) (old mid now : Drive) → WasAsked false old mid → Tells tale mid now → Tells tale old now
+tells_from tale old mid now asked tells = record {
+  pairs = tells.pairs;
+  crashes = tells.crashes ∙ ap (λ (front : List (ℕ × List ℕ)). front ++ tells.pairs) asked.crashes;
+  left = tells.left;
+  faults = subst (λ (n : ℕ). RoseBy n now.failed tale.faults) asked.cause.cause tells.faults;
 }

@@ -1,0 +1,7 @@
+//! The tests of a relay of three nodes. They stand apart, since a crate with tests is proved a second time with them.
+#![tactic(auto)]
+
+#[cfg(test)]
+mod rows;
+#[cfg(test)]
+mod stage;

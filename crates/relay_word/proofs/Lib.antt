@@ -1,0 +1,11 @@
+mod FirstLemmas
+mod ForwardLemmas
+mod KnownLemmas
+mod OrderLemmas
+mod PromiseLemmas
+mod ReleasedLemmas
+mod RoleLemmas
+mod SoundLemmas
+mod StepLemmas
+mod StrangeLemmas
+mod WorldLemmas

@@ -1,0 +1,201 @@
+-- A relay keeps its word at each three images.
+use Rattle.std.proofs.Common.{◌≡◌, ℕ, Bool, true, false, List, [], ◌∷◌, ◌++◌, sym, ap, ◌∙◌, subst}
+use Rattle.std.proofs.Common.{append-nil}
+use Rattle.std.proofs.Common.{inl, inr}
+use Rattle.std.specs.Prelude.{Option, Some}
+use Rattle.std.proofs.lemmas.List.Concat.{flat_map-append}
+use Rattle.record_batch.specs.Fact.{Fact}
+use Rattle.record_snapshot.specs.Snapshot.{snapshot}
+use Rattle.sequence_table.specs.Destinations.{released, texts}
+use Rattle.sequence_table.specs.Find.{IsIncoming, find_from, incoming_of}
+use Rattle.sequence_table.specs.Fits.{is_incoming_side}
+use Rattle.sequence_table.specs.Makers.{Maker, Outgoing, Offered, Incoming, Taken, maker, makers, number}
+use Rattle.sequence_table.specs.Sources.{accepted}
+use Rattle.sequence_table.specs.Words.{Text}
+use Rattle.rm_protocol.specs.AloneLemmas.{records-alone}
+use Rattle.rm_protocol.specs.Crashes.{IsLeft, IsLeftWith}
+use Rattle.rm_protocol.specs.Node.{Node, State, Up, Writing, Compacting, entries_left, mounted, records, records_in}
+use Rattle.rm_protocol.specs.Node.{whole_left}
+use Rattle.rm_protocol.specs.Pair.{IsBetweenThem, MadeAreAPair}
+use Rattle.rm_protocol.specs.Sound.{IsIssuedBy, Keeps}
+use Rattle.rm_protocol.specs.Terms.{AreTerms, Terms}
+use Rattle.rm_protocol.specs.Word.{IsPrefixOf, Matches}
+use Rattle.relay_word.specs.Ends.{AreEnds, first_incoming}
+use Rattle.relay_word.specs.Roles.{IsOfRole}
+use Rattle.relay_word.specs.Word.{EachRelayKeepsItsWord, KeepsAll, KeepsRelay, KeepsWord}
+use Rattle.relay_word.specs.World.{World, Crash, happens, number_of, run, start}
+use Rattle.relay_word.specs.declared.station.Station.TheVariants.{One, Two, Three}
+use Rattle.relay_word.proofs.FirstLemmas.{tested}
+use Rattle.relay_word.proofs.ForwardLemmas.{prefix-then}
+use Rattle.relay_word.proofs.OrderLemmas.{ordered}
+use Rattle.relay_word.proofs.ReleasedLemmas.{has-released}
+use Rattle.relay_word.proofs.SoundLemmas.{Saids}
+use Rattle.relay_word.proofs.StepLemmas.{happens-sound, run-sound, start-sound}
+use Rattle.relay_word.proofs.StrangeLemmas.{role-of}
+use Rattle.relay_word.proofs.WorldLemmas.{Laws, Sound, fronts, rears}
+
+same-seq : (o : Option ℕ) (x y : ℕ) → o ≡ Some x → o ≡ Some y → x ≡ y
+same-seq o x y e f = cc
+
+module _ (laws : Laws) (terms : Terms) (w : World) (said : Saids) (h : Sound terms w said) where
+  keeps-two : Keeps (records w.two) w.two.whole
+  keeps-two = h.front.two.stands.kept
+
+  -- what node 2 receives on was granted to node 1
+  second-between : (t : ℕ) (q u : Text) → IsIncoming w.two.whole t q u
+      → IsBetweenThem w.two.whole w.one.whole t
+  second-between t q u i =
+      by_role i.maker_ i.there i.made (role-of Two w.two.whole t i.maker_ h.two.now i.there)
+    where
+      by_role : (m : Maker) → maker w.two.whole t ≡ Some m
+          → incoming_of (number w.two.whole) m ≡ Some (i.counter, u) → IsOfRole Two m
+          → IsBetweenThem w.two.whole w.one.whole t
+      by_role (Incoming c v k y l z) e made role =
+          let same : One ≡ role.0 = cc (role.1) in
+          record {
+            maker_ = Incoming c v k y l z;
+            there = e;
+            with_ = subst (λ n. IsIssuedBy n v) (sym h.front.agree.owns.number)
+                (subst (λ at. IsIssuedBy (number_of at) v) (sym same) role.2);
+          }
+      by_role (Outgoing ticket to via lapse) e made role = absurd (cc (made))
+      by_role (Offered ticket c to y) e made role = absurd role
+      by_role (Taken v p k) e made role = absurd role
+
+  -- what node 3 receives on was granted to node 2
+  third-between : (t : ℕ) (q u : Text) → IsIncoming w.three.whole t q u
+      → IsBetweenThem w.three.whole w.two.whole t
+  third-between t q u i =
+      by_role i.maker_ i.there i.made (role-of Three w.three.whole t i.maker_ h.three.now i.there)
+    where
+      by_role : (m : Maker) → maker w.three.whole t ≡ Some m
+          → incoming_of (number w.three.whole) m ≡ Some (i.counter, u) → IsOfRole Three m
+          → IsBetweenThem w.three.whole w.two.whole t
+      by_role (Incoming c v k y l z) e made role =
+          let same : Two ≡ role.0 = cc (role.1) in
+          record {
+            maker_ = Incoming c v k y l z;
+            there = e;
+            with_ = subst (λ n. IsIssuedBy n v) (sym h.rear.agree.owns.number)
+                (subst (λ at. IsIssuedBy (number_of at) v) (sym same) role.2);
+          }
+      by_role (Outgoing ticket to via lapse) e made role = absurd (cc (made))
+      by_role (Offered ticket c to y) e made role = absurd role
+      by_role (Taken v p k) e made role = absurd role
+
+  same-first : (test : Option Maker → Bool) (s : ℕ) → find_from (tested test) 0 (makers (records w.two)) ≡ Some s
+      → find_from (tested test) 0 (makers w.two.whole) ≡ Some s
+  same-first test s e = sym (ap (find_from (tested test) 0) keeps-two.same.frame.makers_) ∙ e
+
+  forwarded : (into out : ℕ) → AreEnds (records w.two) into out
+      → IsPrefixOf (accepted w.two.whole out) (texts (released w.two.whole into))
+  forwarded into out ends = elim (h.relayed out) [
+    | inl none ↦ (texts (released w.two.whole into), ap (λ l. l ++ texts (released w.two.whole into)) (sym none))
+    | inr r ↦ subst (λ t. IsPrefixOf (accepted w.two.whole out) (texts (released w.two.whole t)))
+        (same-seq (first_incoming w.two.whole) r.from into r.incoming
+        (same-first is_incoming_side into ends.incoming)) r.prefix
+  ]
+
+  relayed : (s into out t : ℕ) → AreEnds (records w.two) into out → Matches w.one.whole w.two.whole s into
+      → Matches w.two.whole w.three.whole out t
+      → IsPrefixOf (texts (released w.three.whole t)) (accepted w.one.whole s)
+  relayed s into out t ends first second =
+      let front = (fronts laws terms w said h).0.prefix s into first
+      (second-between into first.ident first.message_id first.incoming)
+      (ordered Two w.two.whole into h.two.now h.two_so.records_) in
+      let rear = (rears laws terms w said h).0.prefix out t second
+      (third-between t second.ident second.message_id second.incoming)
+      (ordered Three w.three.whole t h.three.now h.three_so.records_) in
+      prefix-then (texts (released w.three.whole t)) (accepted w.two.whole out) (accepted w.one.whole s) rear
+      (prefix-then (accepted w.two.whole out) (texts (released w.two.whole into)) (accepted w.one.whole s)
+      (forwarded into out ends) front)
+
+  pub keeps-relay : KeepsRelay w.one.whole (records w.two) w.two.whole (records w.three) w.three.whole
+  keeps-relay = record {
+    second = λ t. (
+      released w.two.whole t,
+      has-released (records w.two) w.two.whole t keeps-two h.front.two.numbered,
+    );
+    third = λ t. (
+      released w.three.whole t,
+      has-released (records w.three) w.three.whole t h.rear.two.stands.kept h.rear.two.numbered,
+    );
+    forwarded = forwarded;
+    relayed = relayed;
+  }
+
+-- ---- at images
+
+records-with : (entries : List (List Fact)) (delta : List Fact)
+    → records_in (entries ++ delta ∷ []) ≡ records_in entries ++ delta
+records-with entries delta =
+    flat_map-append (λ (batch : List Fact). batch) entries (delta ∷ [])
+    ∙ ap (λ z. records_in entries ++ z) (append-nil delta)
+
+-- a crash leaves them
+record Left (x : Node) (image all : List Fact) : Type 0 where
+  kept : Bool
+  records_ : records (mounted x kept) ≡ image
+  whole_ : (mounted x kept).whole ≡ all
+
+left : (x : Node) (image all : List Fact) → IsLeft x image all → Left x image all
+left x image all h = let parts = by_parts x.state h in
+    record { kept = parts.0; records_ = parts.1; whole_ = parts.2 }
+  where
+    by_parts : (z : State) → IsLeftWith (records x) x.whole z image all
+        → (kept : Bool) × (records_in (entries_left z kept x.entries) ≡ image) × (whole_left z kept x.whole ≡ all)
+    by_parts Up e = (false, sym e.0, sym e.1)
+    by_parts (Writing delta) (inl e) = (false, sym e.0, sym e.1)
+    by_parts (Writing delta) (inr e) = (true, records-with x.entries delta ∙ sym e.0, sym e.1)
+    by_parts (Compacting place) (inl e, f) = (false, sym e, sym f)
+    by_parts (Compacting place) (inr e, f) = (true, records-alone (snapshot (records x)) ∙ sym e, sym f)
+
+-- by what they are
+renamed : (a b v c w k l m n o : List Fact) → a ≡ k → b ≡ l → v ≡ m → c ≡ n → w ≡ o → KeepsRelay a b v c w
+    → KeepsRelay k l m n o
+renamed a b v c w k l m n o e f g i j h =
+    subst (λ z. KeepsRelay k l m n z) j (subst (λ z. KeepsRelay k l m z w) i
+    (subst (λ z. KeepsRelay k l z c w) g (subst (λ z. KeepsRelay k z v c w) f
+    (subst (λ z. KeepsRelay z b v c w) e h))))
+
+keeps-word : Laws → (terms : Terms) (w : World) (said : Saids) → AreTerms terms → Sound terms w said → KeepsWord w
+keeps-word laws terms w said t h a aw b bw c cw one two three =
+    let first = left w.one a aw one in
+    let second = left w.two b bw two in
+    let third = left w.three c cw three in
+    let u = happens terms w (Crash One first.kept) in
+    let v = happens terms u (Crash Two second.kept) in
+    let z = happens terms v (Crash Three third.kept) in
+    let su = happens-sound laws terms w said t h (Crash One first.kept) in
+    let sv = happens-sound laws terms u su.0 t su.1 (Crash Two second.kept) in
+    let sz = happens-sound laws terms v sv.0 t sv.1 (Crash Three third.kept) in
+    renamed z.one.whole (records z.two) z.two.whole (records z.three) z.three.whole aw b bw c cw first.whole_
+    second.records_ second.whole_ third.records_ third.whole_ (keeps-relay laws terms z sz.0 sz.1)
+
+kept-at : (x : Node) (image all : List Fact) (l : Left x image all)
+    → Keeps (records (mounted x l.kept)) (mounted x l.kept).whole → Keeps image all
+kept-at x image all l k =
+    subst (λ z. Keeps z all) l.records_ (subst (λ z. Keeps (records (mounted x l.kept)) z) l.whole_ k)
+
+keeps-all : Laws → (terms : Terms) (w : World) (said : Saids) → AreTerms terms → Sound terms w said → KeepsAll w
+keeps-all laws terms w said t h = record {
+  word = keeps-word laws terms w said t h;
+  one = λ image all e.
+      let l = left w.one image all e in
+      let s = happens-sound laws terms w said t h (Crash One l.kept) in
+      kept-at w.one image all l s.1.front.one.stands.kept;
+  two = λ image all e.
+      let l = left w.two image all e in
+      let s = happens-sound laws terms w said t h (Crash Two l.kept) in
+      kept-at w.two image all l s.1.front.two.stands.kept;
+  three = λ image all e.
+      let l = left w.three image all e in
+      let s = happens-sound laws terms w said t h (Crash Three l.kept) in
+      kept-at w.three image all l s.1.rear.two.stands.kept;
+}
+
+pub each-relay : Laws → MadeAreAPair → EachRelayKeepsItsWord
+each-relay laws made terms t three events =
+    let sound = run-sound laws terms events start (record { one = []; two = []; three = [] }) t
+    (start-sound made terms three) in
+    keeps-all laws terms (run terms events start) sound.0 t sound.1

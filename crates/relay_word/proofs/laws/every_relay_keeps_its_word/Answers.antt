@@ -1,0 +1,11 @@
+use Rattle.relay_word.proofs.PromiseLemmas.{each-relay}
+use Rattle.relay_word.proofs.laws.every_relay_keeps_its_word.Goals as goal
+
+pub returns : goal.returns
+returns c = each-relay (record {
+  stays = c.two_nodes_stay_a_pair.ensures;
+  turns = c.a_pair_turns.ensures;
+  tells = c.a_pair_tells.ensures;
+  apart = c.an_identifier_tells_its_node.ensures;
+  announces = c.what_is_announced_stays.ensures;
+}) c.two_made_nodes_are_a_pair.ensures

@@ -1,0 +1,4 @@
+pub mod Ends
+pub mod Roles
+pub mod Word
+pub mod World

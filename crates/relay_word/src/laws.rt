@@ -1,0 +1,28 @@
+//! Laws of a relay.
+ghost use Rattle.relay_word.specs.Roles.{IsStrangeToTheOthers};
+ghost use Rattle.relay_word.specs.Word.{EachRelayKeepsItsWord};
+
+use rm_protocol::laws::{
+    a_pair_tells, a_pair_turns, an_identifier_tells_its_node, two_made_nodes_are_a_pair,
+    two_nodes_stay_a_pair, what_is_announced_stays,
+};
+
+/// What one node of a relay says is a stranger's message to each other node beside a neighbour that didn't say it.
+pub fn what_one_says_is_strange_to_the_others()
+    ensures { IsStrangeToTheOthers }
+{
+    an_identifier_tells_its_node();
+}
+
+/// Whatever is sent, forwarded, trimmed, lost, repeated and reordered, and whichever node crashes at whichever device
+/// call: what node 2 forwarded is a prefix of what it received, and what node 3 has is one of what node 1 accepted.
+pub fn every_relay_keeps_its_word()
+    ensures { EachRelayKeepsItsWord }
+{
+    two_nodes_stay_a_pair();
+    a_pair_turns();
+    a_pair_tells();
+    an_identifier_tells_its_node();
+    two_made_nodes_are_a_pair();
+    what_is_announced_stays();
+}

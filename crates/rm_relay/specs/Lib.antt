@@ -1,0 +1,13 @@
+pub mod Forwards
+pub mod Happening
+pub mod Headline
+pub mod Meaning
+pub mod Played
+pub mod Playing
+pub mod Putting
+pub mod Reading
+pub mod Relay
+pub mod Report
+pub mod Script
+pub mod Shows
+pub mod Within

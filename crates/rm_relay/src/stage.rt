@@ -1,0 +1,22 @@
+//! What a relay is played over.
+
+use node_actor::Actor;
+use rm_disk::CrashDisk;
+use rm_network::Wire;
+
+/// The disks of three nodes, and the wire between them.
+#[derive(Debug, Drop)]
+pub struct Stage3<M: CrashDisk, W: Wire> {
+    pub one: M,
+    pub two: M,
+    pub three: M,
+    pub wire: W,
+}
+
+/// The three nodes.
+#[derive(Drop)]
+pub struct Nodes3 {
+    pub one: Actor,
+    pub two: Actor,
+    pub three: Actor,
+}
