@@ -1,5 +1,5 @@
 -- One of three nodes is asked for something, writes its journal anew, or crashes.
-use Rattle.std.proofs.Common.{◌≡◌, ℕ, Bool, false, List, [], ◌∷◌, ◌++◌, refl, sym, subst, arith, append-nil, inl, inr}
+use Rattle.std.proofs.Common.{◌≡◌, ℕ, Bool, false, List, [], ◌∷◌, ◌++◌, refl, sym, subst, inl, inr}
 use Rattle.std.specs.Prelude.{◌⊎◌, OnErr, OnOk, Result, Ok, Err}
 use Rattle.rm_base.specs.Count.{RoseBy}
 use Rattle.rm_base.specs.declared.failures.Memory.{Memory}
@@ -17,13 +17,14 @@ use Rattle.node_actor.specs.Stands.{Crashed, Leaves, Stands}
 use Rattle.node_actor.specs.Steps.{Plays, Steps as CallSteps}
 use Rattle.node_actor.specs.declared.actor.Came.{Came}
 use Rattle.rm_replay.specs.Asked.{WasAsked}
+use Rattle.rm_replay.specs.TaleLemmas.{asked_none, rose_by_none, tells_none}
 use Rattle.rm_replay.specs.Tales.{Drive, Tells}
 use Rattle.relay_word.specs.World.{World, node}
 use Rattle.relay_word.specs.declared.station.Station.{Station}
 use Rattle.relay_word.specs.declared.station.Station.TheVariants.{One, Two, Three}
-use Rattle.rm_relay.specs.Happening.{CompactsAt, CrashesAt, Step, StepsAt, WereAsked, WereAskedBy, step_of}
+use Rattle.rm_relay.specs.Happening.{CompactsAt, CrashesAt, StepsAt, WereAsked, WereAskedBy, step_of}
 use Rattle.rm_relay.specs.Played.{Grew}
-use Rattle.rm_relay.specs.Shows.{Drives, StandFor}
+use Rattle.rm_relay.specs.Shows.{Drives}
 use Rattle.rm_relay.specs.declared.event.Event.TheVariants as said
 use Rattle.rm_relay.specs.declared.stage.Nodes3.{Nodes3}
 
@@ -32,22 +33,8 @@ use Rattle.rm_relay.specs.declared.stage.Nodes3.{Nodes3}
 abbrev pub drive : Told → Drive
 drive d = record { disk = d; failed = d.faults }
 
-pub asked_none : (d : Drive) → WasAsked false d d
-asked_none d = record { crashes = refl; cause = record { later = omega arith; cause = refl } }
-
 asked_same : (old new : Drive) → new ≡ old → WasAsked false old new
 asked_same old new same = subst (λ (d : Drive). WasAsked false old d) (sym same) (asked_none old)
-
-rose_none : (n : ℕ) → RoseBy n n 0
-rose_none n = inl (omega arith)
-
-tells_none : (d : Drive) → Tells (record { crashes = []; faults = 0 }) d d
-tells_none d = record {
-  pairs = [];
-  crashes = sym (append-nil (crashes_of d.disk.past));
-  left = tt;
-  faults = rose_none d.failed;
-}
 
 -- nothing crashed
 pub was_asked : (first now : Told) (old new : Actored) (this : Call) (result : Result Came Memory)
@@ -199,7 +186,7 @@ grew_at at choice old new (inr (bytes, one)) failed = record {
 grew_same : (of at : Station) (choice : ℕ) (old new : Drive) → new ≡ old → Grew of (said.Crash at choice) old new
 grew_same of at choice old new same =
     subst (λ (d : Drive). Grew of (said.Crash at choice) old d) (sym same)
-    (record { crashes = inl refl; faults = rose_none old.failed })
+    (record { crashes = inl refl; faults = rose_by_none old.failed })
 
 pub crash_one : (w : World) (choice : ℕ) (old new : Drives) (nodes : Nodes3) (result : Result Unit Memory)
     → OnOk result (Crashed w.one choice old.one.disk new.one.disk nodes.one)

@@ -23,6 +23,7 @@ use Rattle.rm_script.specs.Within.{IsWithin}
 use Rattle.rm_script.specs.declared.event.Event.{Event as Said}
 use Rattle.rm_script.specs.declared.event.Event.TheVariants as said
 use Rattle.rm_script.specs.declared.event.Side.{Side as Place}
+use Rattle.node_actor.specs.LeftLemmas.{records_push}
 use Rattle.node_actor.specs.Outcomes.{call_told, refusal_told}
 use Rattle.node_laws.specs.OwnTerms.{OwnAreTerms}
 use Rattle.rm_replay.specs.Meaning.{Means, comes_out, report_of, stepped}
@@ -31,7 +32,6 @@ use Rattle.rm_replay.specs.Played.{Played, Story, more, none, start_world, told_
 use Rattle.rm_replay.specs.Sent.{AcceptedIsSent, Pair, counts, entries_at, is_crash, next_entries, paired}
 use Rattle.rm_replay.specs.Sent.{sent_by, sent_in}
 use Rattle.rm_replay.specs.Shows.{Holds, Scene, address_one, address_two}
-use Rattle.rm_replay.proofs.HeadlineLemmas.{records_push}
 use Rattle.rm_replay.proofs.PlayedLemmas.{RunGoesOn, RunsKeep, headline_whole}
 
 -- ---- a line of the script and its line of the report, and a line of the protocol
