@@ -1,9 +1,9 @@
 -- What a node forwarded is a prefix of what it received, as its records go on.
-use Rattle.std.proofs.Common.{◌≡◌, ◌⊎◌, ℕ, zero, suc, ◌+◌, ◌-◌, ◌==◌, Bool, true, false, cond, List, [], ◌∷◌, ◌++◌}
-use Rattle.std.proofs.Common.{length, refl, sym, ap, ◌∙◌, subst, arith, append-nil, append_assoc, inl, inr}
-use Rattle.std.specs.Prelude.{Option, Some, None, slice_get}
+use Rattle.std.proofs.Common.{◌≡◌, ◌⊎◌, ℕ, zero, suc, ◌+◌, ◌==◌, Bool, true, false, cond, List, [], ◌∷◌, ◌++◌}
+use Rattle.std.proofs.Common.{length, refl, sym, ap, ◌∙◌, subst, append-nil, append_assoc, inl, inr}
+use Rattle.std.specs.Prelude.{Option, Some, slice_get}
 use Rattle.std.specs.List.{AllByRecursion}
-use Rattle.std.proofs.lemmas.Bool.{eq-eqb, eqb-true, ne_eqb}
+use Rattle.std.proofs.lemmas.Bool.{eq-eqb, eqb-true}
 use Rattle.std.proofs.lemmas.List.{map-append}
 use Rattle.std.proofs.lemmas.List.Concat.{flat_map-append}
 use Rattle.rm_base.specs.Numbered.{numbered}
@@ -18,7 +18,7 @@ use Rattle.sequence_table.specs.Sources.{accepted, accepted_of}
 use Rattle.rm_protocol.specs.Consumed.{GoesOn}
 use Rattle.rm_protocol.specs.Word.{IsPrefixOf}
 use Rattle.relay_word.specs.Ends.{first_incoming, first_outgoing}
-use Rattle.relay_word.proofs.FirstLemmas.{tested}
+use Rattle.relay_word.specs.FirstLemmas.{numbered-at, tested}
 
 -- ---- prefixes
 
@@ -31,10 +31,6 @@ prefix-texts xs ys p = (texts p.0, ap texts p.1 ∙ map-append (λ (x : Payload)
 at-end : {A : Type 0} (xs rest : List A) → slice_get (xs ++ rest) (length xs) ≡ slice_get rest 0
 at-end [] rest = refl
 at-end (x ∷ xs) rest = at-end xs rest
-
-numbered-at : {A : Type 0} (xs : List A) (k : ℕ) → numbered xs (k + 1) ≡ slice_get xs k
-numbered-at xs k = ap (λ b. cond b None (slice_get xs (k + 1 - 1))) (ne_eqb (k + 1) 0 (λ e. absurd (omega (arith, e))))
-    ∙ ap (λ i. slice_get xs i) (let e : k + 1 - 1 ≡ k = omega arith in e)
 
 -- a prefix and the item behind it
 pub prefix-next : {A : Type 0} (xs ys : List A) (y : A) → IsPrefixOf xs ys → numbered ys (length xs + 1) ≡ Some y

@@ -1,4 +1,3 @@
-mod FirstLemmas
 mod ForwardLemmas
 mod KnownLemmas
 mod OrderLemmas

@@ -25,7 +25,7 @@ use Rattle.relay_word.specs.Roles.{IsOfRole}
 use Rattle.relay_word.specs.Word.{EachRelayKeepsItsWord, KeepsAll, KeepsRelay, KeepsWord}
 use Rattle.relay_word.specs.World.{World, Crash, happens, number_of, run, start}
 use Rattle.relay_word.specs.declared.station.Station.TheVariants.{One, Two, Three}
-use Rattle.relay_word.proofs.FirstLemmas.{tested}
+use Rattle.relay_word.specs.FirstLemmas.{tested}
 use Rattle.relay_word.proofs.ForwardLemmas.{prefix-then}
 use Rattle.relay_word.proofs.OrderLemmas.{ordered}
 use Rattle.relay_word.proofs.ReleasedLemmas.{has-released}

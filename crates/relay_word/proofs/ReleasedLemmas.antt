@@ -3,7 +3,7 @@ use Rattle.std.proofs.Common.{◌≡◌, ◌∙◌, ◌+◌, ◌-◌, ◌<◌, �
 use Rattle.std.proofs.Common.{length, take, drop, refl, sym, ap, arith, Some, None, inl, inr, ◌⊎◌}
 use Rattle.std.specs.Prelude.{Option, ◌&&◌, slice_get}
 use Rattle.std.specs.List.{AllByRecursion}
-use Rattle.std.proofs.lemmas.Bool.{cases_Bool, ne_eqb, true≢false}
+use Rattle.std.proofs.lemmas.Bool.{cases_Bool, true≢false}
 use Rattle.std.proofs.lemmas.List.{take-append-drop}
 use Rattle.ack_ranges.specs.declared.range.Range.{Range}
 use Rattle.ack_ranges.specs.Ranges.{count_of, in_ranges}
@@ -28,6 +28,7 @@ use Rattle.record_snapshot.specs.Same.{AreNumbers, all_marked, gone_count}
 use Rattle.rm_protocol.specs.Pair.{HasNumber}
 use Rattle.rm_protocol.specs.Sound.{Keeps, NothingIsGone}
 use Rattle.rm_protocol.specs.Word.{Has}
+use Rattle.relay_word.specs.FirstLemmas.{numbered-at}
 
 -- ---- what is known of all that a node ever had
 
@@ -164,10 +165,6 @@ contents-at (suc k) j (m ∷ ms) =
 payload-there : (o : Option Item) (p : Payload) → payload_in o ≡ Some p → o ≡ Some (Some p)
 payload-there None p e = absurd (cc)
 payload-there (Some item) p e = ap (λ x. Some x) e
-
-numbered-at : {A : Type 0} (xs : List A) (k : ℕ) → numbered xs (k + 1) ≡ slice_get xs k
-numbered-at xs k = ap (λ b. cond b None (slice_get xs (k + 1 - 1))) (ne_eqb (k + 1) 0 (λ e. absurd (omega (arith, e))))
-    ∙ ap (λ i. slice_get xs i) (let e : k + 1 - 1 ≡ k = omega arith in e)
 
 messages-whole : (whole : List Fact) (t : ℕ) → NothingIsGone whole
     → messages whole t ≡ there_items (sorted_onto [] (received whole t))

@@ -1,10 +1,8 @@
 -- What holds in every world that a relay can reach.
 use Rattle.std.proofs.Common.{◌≡◌, ℕ, zero, suc, ◌+◌, ◌-◌, ◌==◌, Bool, true, false, cond, List, [], ◌∷◌, ◌++◌}
-use Rattle.std.proofs.Common.{length, refl, sym, ap, ◌∙◌, subst, arith, append_assoc}
+use Rattle.std.proofs.Common.{length, refl, sym, ap, ◌∙◌, subst, append_assoc}
 use Rattle.std.specs.Prelude.{Option, Some, None, slice_get}
 use Rattle.std.specs.List.{AllByRecursion, flat_map}
-use Rattle.std.proofs.lemmas.Bool.{ne_eqb}
-use Rattle.rm_base.specs.Numbered.{numbered}
 use Rattle.rm_elements.specs.declared.lifecycle.Lifecycle.TheVariants as life
 use Rattle.rm_message.specs.declared.message.Body.{Body}
 use Rattle.rm_message.specs.declared.message.Body.TheVariants as body
@@ -18,6 +16,7 @@ use Rattle.rm_protocol.specs.Pair.{Acted, IsAmong, IsParked, left}
 use Rattle.rm_protocol.specs.Polls.{waits_there}
 use Rattle.rm_protocol.specs.Sound.{IsAskedAt, Says, SaysPlace}
 use Rattle.rm_protocol.specs.Terms.{Terms}
+use Rattle.relay_word.specs.FirstLemmas.{numbered-at}
 use Rattle.relay_word.specs.Roles.{HasRole}
 use Rattle.relay_word.specs.World.{Packet, address_of, goes_to, messages_in, packet_to, packets_of, puts}
 use Rattle.relay_word.specs.World.{station_at}
@@ -27,10 +26,6 @@ use Rattle.relay_word.proofs.RoleLemmas.{IsBehind, IsRouted, all-append, all-beh
 use Rattle.relay_word.proofs.StrangeLemmas.{role-of}
 
 -- ---- members of lists
-
-numbered-at : {A : Type 0} (xs : List A) (k : ℕ) → numbered xs (k + 1) ≡ slice_get xs k
-numbered-at xs k = ap (λ b. cond b None (slice_get xs (k + 1 - 1))) (ne_eqb (k + 1) 0 (λ e. absurd (omega (arith, e))))
-    ∙ ap (λ i. slice_get xs i) (let e : k + 1 - 1 ≡ k = omega arith in e)
 
 at-front : {A : Type 0} (xs ys : List A) (y : A) → slice_get (xs ++ y ∷ ys) (length xs) ≡ Some y
 at-front [] ys y = refl

@@ -37,7 +37,7 @@ use Rattle.relay_word.specs.World.{run, sends_on, start, trims, wish_of}
 use Rattle.relay_word.specs.World.{Create, Send, Forward, Trim, Tick, Deliver, Close, End, Compact, Arm, Crash}
 use Rattle.relay_word.specs.declared.station.Station.{Station}
 use Rattle.relay_word.specs.declared.station.Station.TheVariants.{One, Two, Three}
-use Rattle.relay_word.proofs.FirstLemmas.{tested}
+use Rattle.relay_word.specs.FirstLemmas.{tested}
 use Rattle.relay_word.proofs.ForwardLemmas.{IsNoAccept, MayRelay}
 use Rattle.relay_word.proofs.ReleasedLemmas.{item-there}
 use Rattle.relay_word.proofs.RoleLemmas.{RoleAct, all-weaker}

@@ -2,3 +2,4 @@ pub mod Ends
 pub mod Roles
 pub mod Word
 pub mod World
+pub mod FirstLemmas

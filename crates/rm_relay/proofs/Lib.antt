@@ -1,7 +1,6 @@
 mod AddressLemmas
 mod AskLemmas
 mod CallLemmas
-mod EndLemmas
 mod EventLemmas
 mod HeadlineLemmas
 mod ItemLemmas

@@ -1,6 +1,6 @@
 -- The first sequence of a node that passes a test.
-use Rattle.std.proofs.Common.{◌≡◌, ℕ, zero, suc, ◌+◌, ◌-◌, ◌<◌, ◌==◌, Bool, true, false, cond, List, [], ◌∷◌, length}
-use Rattle.std.proofs.Common.{drop, get_or, refl, sym, ap, subst, ◌∙◌, arith, Some, None, Option}
+use Rattle.std.proofs.Common.{◌≡◌, ℕ, suc, ◌+◌, ◌-◌, ◌<◌, Bool, true, false, cond, List, [], ◌∷◌, length, drop, get_or}
+use Rattle.std.proofs.Common.{refl, sym, ap, subst, ◌∙◌, arith, Some, None, Option}
 use Rattle.std.specs.Prelude.{slice_get}
 use Rattle.std.proofs.lemmas.Bool.{ne_eqb}
 use Rattle.std.proofs.lemmas.List.{at_drop_more}
@@ -9,28 +9,31 @@ use Rattle.rm_base.specs.Numbered.{numbered}
 use Rattle.record_batch.specs.Fact.{Fact}
 use Rattle.sequence_table.specs.Find.{find_from}
 use Rattle.sequence_table.specs.Makers.{Maker, maker, makers}
-use Rattle.node_tables.specs.Kept.{no_maker}
 
+-- whether a sequence passes the test
 abbrev pub tested : (Option Maker → Bool) → ℕ → Maker → Bool
 tested test s m = test (Some m)
 
+-- the element with number k + 1 stands at place k
+pub numbered-at : {A : Type 0} (xs : List A) (k : ℕ) → numbered xs (k + 1) ≡ slice_get xs k
+numbered-at xs k = ap (λ b. cond b None (slice_get xs (k + 1 - 1))) (ne_eqb (k + 1) 0 (λ e. absurd (omega (arith, e))))
+    ∙ ap (λ i. slice_get xs i) (let e : k + 1 - 1 ≡ k = omega arith in e)
+
 next : (k : ℕ) → suc k ≡ k + 1
 next k = omega arith
-
-at-place : (ms : List Maker) (k : ℕ) → numbered ms (k + 1) ≡ slice_get ms k
-at-place ms k = ap (λ b. cond b None (slice_get ms (k + 1 - 1))) (ne_eqb (k + 1) 0 (λ e. absurd (omega (arith, e))))
-    ∙ ap (λ i. slice_get ms i) (let e : k + 1 - 1 ≡ k = omega arith in e)
 
 -- one more sequence is tried
 pub find-step : (test : Option Maker → Bool) (ms : List Maker) (k : ℕ) → k < length ms
     → find_from (tested test) k (drop k ms)
     ≡ cond (test (numbered ms (k + 1))) (Some (k + 1)) (find_from (tested test) (k + 1) (drop (k + 1) ms))
-find-step test ms k lt =
-    let d = get_or ms k no_maker in
-    let there : numbered ms (k + 1) ≡ Some d = at-place ms k ∙ slice_get-get_or ms k no_maker lt in
-    at_drop_more (λ xs. find_from (tested test) k xs) ms k no_maker lt
-    ∙ ap (λ n. cond (test (Some d)) (Some n) (find_from (tested test) n (drop (k + 1) ms))) (next k)
-    ∙ ap (λ o. cond (test o) (Some (k + 1)) (find_from (tested test) (k + 1) (drop (k + 1) ms))) (sym there)
+find-step test [] k lt = absurd (omega (arith, lt))
+find-step test (m ∷ ms) k lt =
+    let all = m ∷ ms in
+    let d = get_or all k m in
+    let there : numbered all (k + 1) ≡ Some d = numbered-at all k ∙ slice_get-get_or all k m lt in
+    at_drop_more (λ xs. find_from (tested test) k xs) all k m lt
+    ∙ ap (λ n. cond (test (Some d)) (Some n) (find_from (tested test) n (drop (k + 1) all))) (next k)
+    ∙ ap (λ o. cond (test o) (Some (k + 1)) (find_from (tested test) (k + 1) (drop (k + 1) all))) (sym there)
 
 found-from : (test : Option Maker → Bool) (k : ℕ) (ms : List Maker) (s : ℕ) → find_from (tested test) k ms ≡ Some s
     → (j : ℕ) × (s ≡ k + j + 1) × (test (slice_get ms j) ≡ true)
@@ -55,4 +58,4 @@ found-side test r s e =
     let found = found-from test 0 (makers r) s e in
     let place : s ≡ found.0 + 1 = omega (arith, found.1) in
     subst (λ n. test (numbered (makers r) n) ≡ true) (sym place)
-    (ap test (at-place (makers r) found.0) ∙ found.2)
+    (ap test (numbered-at (makers r) found.0) ∙ found.2)
